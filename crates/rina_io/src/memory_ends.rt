@@ -1,0 +1,92 @@
+//! A source and a sink in memory, which fail at the calls that they are told.
+ghost use Rattle.std.specs.Prelude.{Some};
+
+use crate::sink::Sink;
+use crate::source::{Failed, Source};
+use std::io::{Cursor, Read};
+
+/// A source over bytes in memory.
+#[derive(Drop)]
+pub struct MemSource {
+    inner: Cursor<Vec<u8>>,
+    fails: Vec<bool>,
+    calls: usize,
+    faults: u64,
+}
+
+impl MemSource {
+    /// A source of these bytes. Call number n, counted from 0, fails where `fails` has true there.
+    pub fn new(bytes: Vec<u8>, fails: Vec<bool>) -> Self {
+        MemSource {
+            inner: Cursor::new(bytes),
+            fails,
+            calls: 0,
+            faults: 0,
+        }
+    }
+}
+
+impl Source for MemSource {
+    ghost left = { λ s. ⟦<Cursor<Vec<u8>> as Read>⟧.remaining s.inner };
+
+    ghost faults = { λ s. s.faults };
+
+    fn read(&mut self, buf: &mut [u8]) -> Result<usize, Failed> {
+        let fails = self.fails.get(self.calls).copied().unwrap_or(false);
+        self.calls = self.calls.saturating_add(1);
+        if fails {
+            self.faults = self.faults.saturating_add(1);
+            return Err(Failed);
+        }
+        match self.inner.read(buf) {
+            Ok(count) => Ok(count),
+            Err(_) => {
+                self.faults = self.faults.saturating_add(1);
+                Err(Failed)
+            }
+        }
+    }
+}
+
+/// A sink into memory.
+#[derive(Drop)]
+pub struct MemSink {
+    bytes: Vec<u8>,
+    fails: Vec<bool>,
+    calls: usize,
+    faults: u64,
+}
+
+impl MemSink {
+    /// A sink that holds these bytes already. Call number n, counted from 0, fails where `fails` has
+    /// true there.
+    pub fn new(bytes: Vec<u8>, fails: Vec<bool>) -> Self {
+        MemSink {
+            bytes,
+            fails,
+            calls: 0,
+            faults: 0,
+        }
+    }
+
+    /// All bytes that it holds.
+    pub fn bytes(&self) -> &[u8] {
+        self.bytes.as_slice()
+    }
+}
+
+impl Sink for MemSink {
+    ghost took = { λ s. Some s.bytes.items };
+
+    ghost faults = { λ s. s.faults };
+
+    fn write(&mut self, piece: &[u8]) -> Result<usize, Failed> {
+        let fails = self.fails.get(self.calls).copied().unwrap_or(false);
+        self.calls = self.calls.saturating_add(1);
+        if fails || self.bytes.extend_from_slice(piece).is_err() {
+            self.faults = self.faults.saturating_add(1);
+            return Err(Failed);
+        }
+        Ok(piece.len())
+    }
+}

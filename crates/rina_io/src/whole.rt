@@ -1,0 +1,95 @@
+//! Reading all of a source, and writing all of a piece.
+ghost use Rattle.std.specs.Prelude.{◌≡◌, ◌<◌, ◌≤◌, ℕ, length, take, OnOk, OnErr};
+ghost use Rattle.std.specs.Io.KnownBytes.{Appends, Consumes, IsAtEnd};
+ghost use Rattle.rina_io.specs.Causes.{Rose, HasCause};
+
+use crate::sink::Sink;
+use crate::source::{Failed, Source};
+use std::alloc::Global;
+
+/// How many bytes of input are used at most.
+pub const LIMIT: usize = 16_777_216;
+
+/// Why reading a source ended.
+#[derive(Clone, Copy, Debug, PartialEq, Eq)]
+pub enum Ending {
+    /// The input was read to its end.
+    Whole,
+    /// More than `LIMIT` bytes were read.
+    TooLarge,
+    /// A read failed.
+    Fault,
+    /// Memory was not found.
+    Memory,
+}
+
+/// What was read of a source, and why reading ended.
+#[derive(Drop)]
+pub struct Taken {
+    pub bytes: Vec<u8>,
+    pub ending: Ending,
+}
+
+/// Writes all of a piece, in as many writes as the sink wants. Where it fails, a front of the piece
+/// was taken.
+pub fn write_all<K: Sink>(out: &mut K, piece: &[u8]) -> Result<(), Failed>
+    ensures ok { OnOk result (Appends (K.took out.old) (K.took out.new) piece.now) }
+    ensures err { OnErr result ((k : ℕ) × Appends (K.took out.old) (K.took out.new) (take k piece.now)) }
+    ensures cause { HasCause (K.faults out.old) (K.faults out.new) result }
+{
+    let mut done = 0usize;
+    'pieces: while done < piece.len() {
+        let count = out.write(&piece[done..])?;
+        if count == 0 {
+            return Err(Failed);
+        }
+        done += count;
+    }
+    Ok(())
+}
+
+/// Reads a source to its end, or until more than `LIMIT` bytes were read, or a read fails. Each read
+/// takes a byte or ends the reading.
+pub fn take_all<S: Source>(alloc: Global, source: &mut S) -> Taken
+    ensures bytes { ¬ (result.ending ≡ Ending.Memory) → Consumes (S.left source.old) (S.left source.new) result.bytes.items }
+    ensures whole { result.ending ≡ Ending.Whole → IsAtEnd (S.left source.new) × (length result.bytes.items ≤ LIMIT) }
+    ensures large { result.ending ≡ Ending.TooLarge → LIMIT < length result.bytes.items }
+    ensures fault { result.ending ≡ Ending.Fault → Rose (S.faults source.old) (S.faults source.new) × (length result.bytes.items ≤ LIMIT) }
+    ensures later { S.faults source.old ≤ S.faults source.new }
+{
+    let mut bytes = Vec::new(alloc);
+    let mut buffer = [0u8; 16384];
+    'turns: for _ in 0..LIMIT + 1 {
+        let count = match source.read(&mut buffer) {
+            Ok(count) => count,
+            Err(Failed) => {
+                return Taken {
+                    bytes,
+                    ending: Ending::Fault,
+                };
+            }
+        };
+        if count == 0 {
+            return Taken {
+                bytes,
+                ending: Ending::Whole,
+            };
+        }
+        if bytes.extend_from_slice(&buffer[..count]).is_err() {
+            return Taken {
+                bytes,
+                ending: Ending::Memory,
+            };
+        }
+        if bytes.len() > LIMIT {
+            return Taken {
+                bytes,
+                ending: Ending::TooLarge,
+            };
+        }
+    }
+    Taken {
+        bytes,
+        ending: Ending::TooLarge,
+    }
+}

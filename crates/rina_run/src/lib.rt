@@ -1,0 +1,7 @@
+//! The top call: a stack and a schedule are read, run, and printed.
+#![tactic(auto)]
+
+mod input;
+mod words;
+
+pub use input::Parts;
