@@ -1,0 +1,40 @@
+-- The three spellings of bytes: 'text, x and pairs of hexadecimal digits, z and how many zeros.
+use Rattle.std.specs.Prelude.{ℕ, ◌+◌, ◌-◌, ◌*◌, ◌==◌, ◌&&◌, Bool, not, nat_le, List, [], ◌∷◌, length, replicate, Option, Some, None, if◌then◌else◌}
+use Rattle.std.specs.List.{list_all}
+use Rattle.std.specs.Option.{option_and_then, option_map}
+use Rattle.rina_schedule.specs.Numbers.{number_of}
+
+-- '!' to '~'
+unfoldable pub is_plain : ℕ → Bool
+is_plain b = nat_le 33 b && nat_le b 126
+
+-- whether bytes can be written as they are
+unfoldable pub are_plain : List ℕ → Bool
+are_plain bytes = not (length bytes == 0) && list_all is_plain bytes
+
+-- the value of a hexadecimal digit, of either case
+unfoldable pub hex_digit : ℕ → Option ℕ
+hex_digit b = if nat_le 48 b && nat_le b 57 then Some (b - 48) else (if nat_le 97 b && nat_le b 102 then Some (b - 87) else (if nat_le 65 b && nat_le b 70 then Some (b - 55) else None))
+
+-- the byte that two digits write
+unfoldable pub hex_pair_of : ℕ → ℕ → Option ℕ
+hex_pair_of high low = option_and_then (λ x. option_map (λ y. x * 16 + y) (hex_digit low)) (hex_digit high)
+
+-- the bytes that pairs of digits write
+unfoldable pub hex_of : List ℕ → Option (List ℕ)
+hex_of [] = Some []
+hex_of (_ ∷ []) = None
+hex_of (high ∷ low ∷ rest) = option_and_then (λ x. option_map (λ bytes. x ∷ bytes) (hex_of rest)) (hex_pair_of high low)
+
+-- one or more bytes as they are
+unfoldable pub plain_of : List ℕ → Option (List ℕ)
+plain_of text = if are_plain text then Some text else None
+
+-- so many zero bytes, up to 65,535
+unfoldable pub zeros_of : List ℕ → Option (List ℕ)
+zeros_of text = option_and_then (λ n. if nat_le n 65535 then Some (replicate n 0) else None) (number_of text)
+
+-- the bytes that a text writes
+unfoldable pub bytes_of : List ℕ → Option (List ℕ)
+bytes_of [] = None
+bytes_of (b ∷ text) = if b == 39 then plain_of text else (if b == 120 then hex_of text else (if b == 122 then zeros_of text else None))

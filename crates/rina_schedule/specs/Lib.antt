@@ -1,0 +1,9 @@
+pub mod Bytes
+pub mod DifWords
+pub mod Fields
+pub mod FlowWords
+pub mod Gives
+pub mod Line
+pub mod Numbers
+pub mod Objects
+pub mod WireWords

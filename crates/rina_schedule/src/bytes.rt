@@ -1,0 +1,121 @@
+//! Bytes in a line: as they are, in hexadecimal, or so many zeros.
+ghost use Rattle.std.specs.Prelude.{◌≡◌, ◌<◌, IfSome, Ok, replicate};
+ghost use Rattle.std.specs.List.{list_all};
+ghost use Rattle.rina_schedule.specs.Bytes.{is_plain, are_plain, hex_digit, hex_pair_of, hex_of, plain_of, zeros_of, bytes_of};
+ghost use Rattle.rina_schedule.specs.Gives.{Gives, or_bad};
+
+use crate::error::LineError;
+use crate::number::read_number;
+use rina_base::{Bytes, Seq};
+use std::alloc::Global;
+
+/// The greatest number of zeros that the form with `z` may have.
+const ZEROS: u32 = 65_535;
+
+#[tactic(auto, unfolding(crate::specs::Bytes::is_plain))]
+fn is_plain_byte(b: u8) -> bool
+    ensures { result ≡ is_plain b }
+{
+    b.is_ascii_graphic()
+}
+
+fn all_plain(bytes: &[u8]) -> bool
+    ensures { result ≡ list_all is_plain bytes.now }
+{
+    bytes.iter().all(|b| is_plain_byte(*b))
+}
+
+#[tactic(auto, unfolding(crate::specs::Bytes::are_plain))]
+fn is_plain_text(bytes: &[u8]) -> bool
+    ensures { result ≡ are_plain bytes.now }
+{
+    !bytes.is_empty() && all_plain(bytes)
+}
+
+#[tactic(auto, unfolding(crate::specs::Bytes::hex_digit))]
+fn digit_value(b: u8) -> Option<u8>
+    ensures value { result ≡ hex_digit b }
+    ensures small { IfSome result (λ x. x < 16) }
+{
+    match b {
+        b'0'..=b'9' => Some(b - b'0'),
+        b'a'..=b'f' => Some(b - b'a' + 10),
+        b'A'..=b'F' => Some(b - b'A' + 10),
+        _ => None,
+    }
+}
+
+#[tactic(auto, unfolding(crate::specs::Bytes::hex_pair_of))]
+fn pair_value(high: u8, low: u8) -> Option<u8>
+    ensures { result ≡ hex_pair_of high low }
+{
+    let x = digit_value(high)?;
+    let y = digit_value(low)?;
+    Some(x * 16 + y)
+}
+
+#[tactic(auto, unfolding(crate::specs::Bytes::plain_of))]
+fn read_plain(alloc: Global, n: u32, text: &[u8]) -> Result<Bytes, LineError>
+    ensures { Gives (λ b. b) result (or_bad (LineError.BadBytes n) (plain_of text.now)) }
+{
+    if !is_plain_text(text) {
+        return Err(LineError::BadBytes { n });
+    }
+    let bytes = Seq::copy_of(alloc, text)?;
+    Ok(bytes)
+}
+
+#[tactic(auto, unfolding(crate::specs::Bytes::hex_of))]
+fn read_hex(alloc: Global, n: u32, text: &[u8]) -> Result<Bytes, LineError>
+    ensures { Gives (λ b. b) result (or_bad (LineError.BadBytes n) (hex_of text.now)) }
+{
+    let mut bytes = Seq::new(alloc);
+    let mut at = 0usize;
+    'pairs: while at < text.len() {
+        if at + 1 == text.len() {
+            return Err(LineError::BadBytes { n });
+        }
+        let Some(x) = pair_value(text[at], text[at + 1]) else {
+            return Err(LineError::BadBytes { n });
+        };
+        bytes.push(x)?;
+        at += 2;
+    }
+    Ok(bytes)
+}
+
+fn zeros(alloc: Global, count: u32) -> Result<Bytes, LineError>
+    ensures { Gives (λ b. b) result (Ok (replicate count 0)) }
+{
+    let bytes = vec![in alloc; 0u8; count as usize]?;
+    Ok(Seq::from_vec(bytes))
+}
+
+#[tactic(auto, unfolding(crate::specs::Bytes::zeros_of))]
+fn read_zeros(alloc: Global, n: u32, text: &[u8]) -> Result<Bytes, LineError>
+    ensures { Gives (λ b. b) result (or_bad (LineError.BadBytes n) (zeros_of text.now)) }
+{
+    match read_number(text) {
+        Some(count) => {
+            if count > ZEROS {
+                return Err(LineError::BadBytes { n });
+            }
+            zeros(alloc, count)
+        }
+        None => Err(LineError::BadBytes { n }),
+    }
+}
+
+/// The bytes that a text spells: one or more from `!` to `~` behind `'`, pairs of hexadecimal digits
+/// behind `x`, or up to 65,535 zeros, whose number stands behind `z`. Field `n` is blamed.
+#[tactic(auto, unfolding(crate::specs::Bytes::bytes_of))]
+pub fn read_bytes(alloc: Global, n: u32, text: &[u8]) -> Result<Bytes, LineError>
+    ensures { Gives (λ b. b) result (or_bad (LineError.BadBytes n) (bytes_of text.now)) }
+{
+    match text {
+        [b'\'', rest @ ..] => read_plain(alloc, n, rest),
+        [b'x', rest @ ..] => read_hex(alloc, n, rest),
+        [b'z', rest @ ..] => read_zeros(alloc, n, rest),
+        _ => Err(LineError::BadBytes { n }),
+    }
+}

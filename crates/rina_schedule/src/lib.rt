@@ -1,0 +1,18 @@
+//! Lines of a schedule: what each asks for, and the first fault of a text that is none.
+#![tactic(auto)]
+
+mod bytes;
+mod error;
+mod event;
+mod field;
+mod line;
+mod number;
+mod object_name;
+mod words;
+
+pub use bytes::read_bytes;
+pub use error::LineError;
+pub use event::Event;
+pub use line::read_line;
+pub use number::read_number;
+pub use object_name::ObjectName;

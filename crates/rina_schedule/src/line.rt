@@ -1,0 +1,121 @@
+//! The lines of a schedule.
+ghost use Rattle.std.specs.Prelude.{◌≡◌};
+ghost use Rattle.std.specs.Str.{bytes_eq};
+ghost use Rattle.rina_schedule.specs.Gives.{Gives};
+ghost use Rattle.rina_schedule.specs.Line.{step_word_at, dif_word_at, wire_word_at, word_at, line_at};
+
+use crate::error::LineError;
+use crate::event::Event;
+use crate::field::next_field;
+use crate::words::{dif, flow, step, wire};
+use std::alloc::Global;
+
+fn is(word: &[u8], other: &[u8]) -> bool
+    ensures { result ≡ bytes_eq word.now other.now }
+{
+    word == other
+}
+
+#[tactic(auto, unfolding(crate::specs::Line::step_word_at))]
+fn read_step_word(alloc: Global, word: &[u8], text: &[u8]) -> Result<Event, LineError>
+    ensures { Gives (λ x. x) result (step_word_at word.now text.now) }
+{
+    if is(word, b"tick") {
+        step::tick(text)
+    } else if is(word, b"round") {
+        step::round(text)
+    } else if is(word, b"retire") {
+        step::retire(alloc, text)
+    } else if is(word, b"journal") {
+        step::journal(alloc, text)
+    } else {
+        Err(LineError::UnknownWord)
+    }
+}
+
+#[tactic(auto, unfolding(crate::specs::Line::dif_word_at))]
+fn read_dif_word(alloc: Global, word: &[u8], text: &[u8]) -> Result<Event, LineError>
+    ensures { Gives (λ x. x) result (dif_word_at word.now text.now) }
+{
+    if is(word, b"publish") {
+        dif::publish(alloc, text)
+    } else if is(word, b"enrol") {
+        dif::enrol(alloc, text)
+    } else if is(word, b"member") {
+        dif::member(alloc, text)
+    } else if is(word, b"in") {
+        dif::in_step(alloc, text)
+    } else if is(word, b"out") {
+        dif::out_step(alloc, text)
+    } else if is(word, b"clock") {
+        dif::clock(alloc, text)
+    } else if is(word, b"cdap") {
+        dif::cdap(alloc, text)
+    } else if is(word, b"rib") {
+        dif::rib(alloc, text)
+    } else if is(word, b"ledger") {
+        dif::ledger(alloc, text)
+    } else {
+        read_step_word(alloc, word, text)
+    }
+}
+
+#[tactic(auto, unfolding(crate::specs::Line::wire_word_at))]
+fn read_wire_word(alloc: Global, word: &[u8], text: &[u8]) -> Result<Event, LineError>
+    ensures { Gives (λ x. x) result (wire_word_at word.now text.now) }
+{
+    if is(word, b"lose") {
+        wire::lose(alloc, text)
+    } else if is(word, b"repeat") {
+        wire::repeat(alloc, text)
+    } else if is(word, b"hold") {
+        wire::hold(alloc, text)
+    } else if is(word, b"cut") {
+        wire::cut(alloc, text)
+    } else if is(word, b"mend") {
+        wire::mend(alloc, text)
+    } else {
+        read_dif_word(alloc, word, text)
+    }
+}
+
+#[tactic(auto, unfolding(crate::specs::Line::word_at))]
+fn read_word(alloc: Global, word: &[u8], text: &[u8]) -> Result<Event, LineError>
+    ensures { Gives (λ x. x) result (word_at word.now text.now) }
+{
+    if is(word, b"register") {
+        flow::register(alloc, text)
+    } else if is(word, b"unregister") {
+        flow::unregister(alloc, text)
+    } else if is(word, b"alloc") {
+        flow::allocate(alloc, text)
+    } else if is(word, b"accept") {
+        flow::accept(alloc, text)
+    } else if is(word, b"send") {
+        flow::send(alloc, text)
+    } else if is(word, b"read") {
+        flow::read(alloc, text)
+    } else if is(word, b"state") {
+        flow::state(alloc, text)
+    } else if is(word, b"free") {
+        flow::free(alloc, text)
+    } else {
+        read_wire_word(alloc, word, text)
+    }
+}
+
+/// What a line asks for; None where it is blank, or its first field begins with `#`. The fields stand
+/// between spaces, and the first fault from the left is told.
+#[tactic(auto, unfolding(crate::specs::Line::line_at))]
+pub fn read_line(alloc: Global, text: &[u8]) -> Result<Option<Event>, LineError>
+    ensures { Gives (λ x. x) result (line_at text.now) }
+{
+    let Some((word, rest)) = next_field(text) else {
+        return Ok(None);
+    };
+    if word.first() == Some(&b'#') {
+        return Ok(None);
+    }
+    let event = read_word(alloc, word, rest)?;
+    Ok(Some(event))
+}
