@@ -1,0 +1,155 @@
+//! The ends of flows, and a facility's journal of them.
+ghost use Rattle.std.specs.Prelude.{◌≡◌, ◌≤◌, ◌<◌, ◌++◌, ◌∷◌, [], length, slice_get, slice_set, OnOk, OnErr, IfSome, MatchOption};
+ghost use Rattle.rina_iface.specs.Ends.{place_in, end_in, with_sent, with_got, with_passed};
+
+use crate::state::{PortState, Role};
+use rina_base::{AppName, FlowName, Port};
+use rina_law::{Entries, Entry};
+use std::alloc::{AllocError, Global};
+use std::marker::Model;
+
+/// One end of a flow.
+#[derive(Drop)]
+pub struct End {
+    pub flow: FlowName,
+    pub role: Role,
+    pub port: Port,
+    /// The application at this end.
+    pub app: AppName,
+    /// The application at the other end.
+    pub peer: AppName,
+    /// The QoS-id of the flow's cube, 0 on a wire.
+    pub cube: u8,
+    /// What this end's `send` accepted.
+    pub sent: Entries,
+    /// What was delivered to this end.
+    pub got: Entries,
+    /// How many entries of `got` were passed to the application.
+    pub taken: u64,
+    pub state: PortState,
+}
+
+/// Ends in the order in which they were made. A contract sees the list of them.
+#[derive(Drop)]
+pub struct Ends {
+    items: Vec<End>,
+}
+
+/// What a facility tells of all its flows.
+#[derive(Drop)]
+pub struct Journal {
+    pub ends: Ends,
+}
+
+impl Model for Ends {
+    ghost use Rattle.std.specs.Prelude.{List};
+    ghost use Rattle.rina_iface.specs.declared.ends.End.{End};
+
+    ghost Value = { List End };
+
+    ghost view = { λ e. e.items.items };
+}
+
+impl Ends {
+    /// No ends yet.
+    pub fn new(alloc: Global) -> Ends
+        ensures { result ≡ [] }
+    {
+        Ends {
+            items: Vec::new(alloc),
+        }
+    }
+
+    /// How many ends there are.
+    pub fn len(&self) -> usize
+        ensures { result ≡ length self.now }
+    {
+        self.items.len()
+    }
+
+    /// All ends, in the order in which they were made.
+    pub fn as_slice(&self) -> &[End]
+        ensures { result.now ≡ self.now }
+    {
+        self.items.as_slice()
+    }
+
+    /// The end at a place, counted from 0. None where the place is out of range.
+    pub fn get(&self, at: usize) -> Option<&End>
+        ensures { MatchOption result (length self.now ≤ at) (λ e. slice_get self.now at ≡ Some e.now) }
+    {
+        self.items.get(at)
+    }
+
+    /// The place of a port's end.
+    pub fn place(&self, port: Port) -> Option<usize>
+        ensures at { result ≡ place_in port self.now }
+        ensures within { IfSome result (λ i. i < length self.now) }
+    {
+        self.items.iter().position(|end| end.port == port)
+    }
+
+    /// The end of a port.
+    pub fn find(&self, port: Port) -> Option<&End>
+        ensures { MatchOption result (end_in port self.now ≡ None) (λ e. end_in port self.now ≡ Some e.now) }
+    {
+        let at = self.place(port)?;
+        self.items.get(at)
+    }
+
+    /// Adds an end.
+    pub fn push(&mut self, end: End) -> Result<(), AllocError>
+        ensures ok { OnOk result (self.new ≡ self.old ++ end ∷ []) }
+        ensures err { OnErr result (self.new ≡ self.old) }
+    {
+        self.items.push(end)?;
+        Ok(())
+    }
+
+    /// Adds both ends of a flow.
+    pub fn push_both(&mut self, asker: End, far: End) -> Result<(), AllocError>
+        ensures ok { OnOk result (self.new ≡ self.old ++ asker ∷ far ∷ []) }
+        ensures err { OnErr result (self.new ≡ self.old) }
+    {
+        self.items.push(asker)?;
+        if self.items.push(far).is_err() {
+            let _ = self.items.pop();
+            return Err(AllocError);
+        }
+        Ok(())
+    }
+
+    /// Notes what the end at this place sent.
+    pub fn note_sent(&mut self, at: usize, entry: Entry) -> Result<(), AllocError>
+        requires { at < length self.old }
+        ensures ok { OnOk result ((e : End) → slice_get self.old at ≡ Some e → self.new ≡ slice_set self.old at (with_sent e entry)) }
+        ensures err { OnErr result (self.new ≡ self.old) }
+    {
+        let end = &mut self.items[at];
+        end.sent.push(entry)?;
+        Ok(())
+    }
+
+    /// Notes what was delivered to the end at this place.
+    pub fn note_got(&mut self, at: usize, entry: Entry) -> Result<(), AllocError>
+        requires { at < length self.old }
+        ensures ok { OnOk result ((e : End) → slice_get self.old at ≡ Some e → self.new ≡ slice_set self.old at (with_got e entry)) }
+        ensures err { OnErr result (self.new ≡ self.old) }
+    {
+        let end = &mut self.items[at];
+        end.got.push(entry)?;
+        Ok(())
+    }
+
+    /// Marks the oldest entry of the end at this place as passed.
+    pub fn pass(&mut self, at: usize)
+        requires within { at < length self.old }
+        requires waits { (e : End) → slice_get self.old at ≡ Some e → e.taken < length e.got }
+        ensures { (e : End) → slice_get self.old at ≡ Some e → self.new ≡ slice_set self.old at (with_passed e) }
+    {
+        let end = &mut self.items[at];
+        if end.taken < end.got.len() as u64 {
+            end.taken += 1;
+        }
+    }
+}

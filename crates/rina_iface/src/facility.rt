@@ -1,0 +1,118 @@
+//! The trait that every layer stands on.
+ghost use Rattle.std.specs.Prelude.{◌≡◌, ◌≤◌, ℕ, Option, Some, None, IsSome, MatchOption, List, length, slice_get, option_map};
+ghost use Rattle.rina_base.specs.declared.number.Port.{Port};
+ghost use Rattle.rina_iface.specs.declared.ask.Ask.{Ask};
+ghost use Rattle.rina_iface.specs.declared.error.RegisterError.{RegisterError};
+ghost use Rattle.rina_iface.specs.declared.error.AllocateError.{AllocateError};
+ghost use Rattle.rina_iface.specs.declared.error.SendError.{SendError};
+ghost use Rattle.rina_iface.specs.Seen.{Fac, Seen, state_of, promise_at, largest_at, unpassed};
+ghost use Rattle.rina_iface.specs.Register.{Registers, refused as register_refused};
+ghost use Rattle.rina_iface.specs.Allocate.{Allocates, refused as allocate_refused};
+ghost use Rattle.rina_iface.specs.Claim.{Claims};
+ghost use Rattle.rina_iface.specs.Send.{Sends, refused as send_refused};
+ghost use Rattle.rina_iface.specs.Pass.{IsLent, IsPassed};
+
+use crate::ask::{Ask, Lent};
+use crate::ends::Journal;
+use crate::error::{AllocateError, RegisterError, SendError};
+use crate::state::PortState;
+use rina_base::{AppName, Node, Num, Port, Tick};
+use std::alloc::Global;
+
+/// The facilities of one rank: wires, or DIFs. A facility number counts them from 0.
+/// A refused call changes nothing, nor does one that found no memory.
+pub trait Facility {
+    /// What a contract sees.
+    ghost seen: { Self → Seen };
+
+    /// What holds of every one that can come to be.
+    ghost valid: { Self → Type 0 };
+
+    /// What no call changes: the ranks below.
+    ghost same_below: { Self → Self → Type 0 };
+
+    /// What `register` must refuse by what the facility alone knows.
+    ghost refuses_register: { Self → ℕ → ℕ → List ℕ → Option RegisterError };
+
+    /// What `allocate` must refuse by what the facility alone knows.
+    ghost refuses_allocate: { Self → Ask → Option AllocateError };
+
+    /// What `send` must refuse by what the facility alone knows.
+    ghost refuses_send: { Self → Port → ℕ → Option SendError };
+
+    /// The clock, at most 10,000,000.
+    fn now(&self) -> Tick
+        ensures { result ≡ (seen self.now).now };
+
+    /// All ends of a facility. None exactly where the number is out of range.
+    fn journal(&self, fac: u16) -> Option<&Journal>
+        ensures { MatchOption result (length (seen self.now).facs ≤ fac) (λ j. option_map (λ (f : Fac). f.ends) (slice_get (seen self.now).facs fac) ≡ Some j.now.ends) };
+
+    /// The state of a port. None exactly where the port was never drawn.
+    fn state(&self, port: Port) -> Option<PortState>
+        ensures { result ≡ state_of (seen self.now) port };
+
+    /// How many ticks pass at most from acceptance to delivery. None exactly where the port was never drawn.
+    fn promise(&self, port: Port) -> Option<u32>
+        requires { valid self.now }
+        ensures { result ≡ promise_at (seen self.now) port };
+
+    /// How many bytes an SDU has at most. None exactly where the port was never drawn.
+    fn largest(&self, port: Port) -> Option<u32>
+        requires { valid self.now }
+        ensures { result ≡ largest_at (seen self.now) port };
+
+    /// Registers an application at a node.
+    fn register(
+        &mut self,
+        alloc: Global,
+        fac: u16,
+        node: Node,
+        app: &AppName,
+    ) -> Result<(), RegisterError>
+        requires { valid self.old }
+        ensures valid { valid self.new }
+        ensures below { same_below self.old self.new }
+        ensures does { Registers (register_refused (seen self.old) fac node app.now (refuses_register self.old fac node app.now)) (seen self.old) fac node app.now result (seen self.new) };
+
+    /// Asks for a flow, and answers the port of its end.
+    fn allocate(&mut self, alloc: Global, ask: &Ask) -> Result<Port, AllocateError>
+        requires { valid self.old }
+        ensures valid { valid self.new }
+        ensures below { same_below self.old self.new }
+        ensures does { Allocates (allocate_refused (seen self.old) ask.now (refuses_allocate self.old ask.now)) (seen self.old) ask.now result (seen self.new) };
+
+    /// Claims the oldest far end of an application at a node that nobody claimed yet.
+    fn incoming(&mut self, fac: u16, node: Node, app: &AppName) -> Option<Port>
+        requires { valid self.old }
+        ensures valid { valid self.new }
+        ensures below { same_below self.old self.new }
+        ensures does { Claims (seen self.old) fac node app.now result (seen self.new) };
+
+    /// Sends an SDU, and answers its number.
+    fn send(&mut self, alloc: Global, port: Port, sdu: &[u8]) -> Result<Num, SendError>
+        requires { valid self.old }
+        ensures valid { valid self.new }
+        ensures below { same_below self.old self.new }
+        ensures does { Sends (send_refused (seen self.old) port (length sdu.now) (refuses_send self.old port (length sdu.now))) (seen self.old) port sdu.now result (seen self.new) };
+
+    /// Lends the oldest SDU that was not passed yet. None exactly where there is none.
+    fn peek(&self, port: Port) -> Option<Lent<'_>>
+        ensures { MatchOption result (unpassed (seen self.now) port ≡ None) (λ l. IsLent (seen self.now) port l.at l.bytes.now) };
+
+    /// Marks that SDU as passed.
+    fn pass(&mut self, port: Port)
+        requires valid { valid self.old }
+        requires waits { IsSome (unpassed (seen self.old) port) }
+        ensures valid { valid self.new }
+        ensures below { same_below self.old self.new }
+        ensures does { IsPassed (seen self.old) port (seen self.new) };
+
+    /// Nothing changes the ranks below by doing nothing.
+    ghost same_refl: { (x : Self) → same_below x x };
+
+    ghost same_trans: { (x y z : Self) → same_below x y → same_below y z → same_below x z };
+
+    /// The clock has an end.
+    ghost clock_ends: { (x : Self) → valid x → (seen x).now ≤ 10_000_000 };
+}

@@ -1,0 +1,15 @@
+//! What a facility shows, and the trait that every layer stands on.
+#![tactic(auto)]
+
+mod ask;
+mod ends;
+mod error;
+mod facility;
+mod state;
+
+pub use ask::{Ask, Fixed, Lent, Registered};
+pub use ends::{End, Ends, Journal};
+pub use error::{AllocateError, FreeError, RegisterError, SendError, UnregisterError};
+pub use facility::Facility;
+pub use rina_law::{Entries, Entry};
+pub use state::{Fail, PortState, Role, Why};

@@ -1,0 +1,60 @@
+-- `send` and `pass` on wires.
+use Rattle.std.specs.Prelude.{◌≡◌, ℕ, ◌+◌, ◌-◌, ◌%◌, ◌^◌, ◌==◌, nat_le, List, [], ◌∷◌, ◌++◌, length, slice_set, Option, Some, None, Result, Ok, Err, option_and_then, option_map, if◌then◌else◌}
+use Rattle.std.specs.Option.{option_map_or}
+use Rattle.rina_base.specs.declared.number.Num.{Num}
+use Rattle.rina_base.specs.declared.number.Port.{Port}
+use Rattle.rina_law.specs.declared.entry.Entry.{Entry}
+use Rattle.rina_iface.specs.declared.ends.End.{End}
+use Rattle.rina_iface.specs.declared.error.SendError.{SendError}
+use Rattle.rina_iface.specs.declared.error.SendError.TheVariants.{Memory, NumbersSpent}
+use Rattle.rina_iface.specs.Ends.{with_passed, with_sent}
+use Rattle.rina_iface.specs.Send.{by_length, by_state}
+use Rattle.rina_wire.specs.declared.flight.Flight.{Flight}
+use Rattle.rina_wire.specs.Air.{Air, Line, Goes, end_at, failed_air, on_end, wire_at}
+
+-- what a wire refuses beside what every facility does: its numbers are spent
+abbrev pub frame_refusal : Line → Option SendError
+frame_refusal l = if nat_le (2 ^ 63) l.frames then Some (NumbersSpent 4294967295) else None
+
+-- what must be refused to an SDU of so many bytes, in the order of every facility
+abbrev pub send_refusal : Air → Port → ℕ → Option SendError
+send_refusal a port len = by_state (option_map (λ (e : End). e.state) (end_at a port)) (by_length len (option_map (λ (l : Line). l.largest) (wire_at a port.fac)) (option_and_then frame_refusal (wire_at a port.fac)))
+
+-- the number of the next frame
+abbrev pub frame_number : ℕ → Num
+frame_number frames = record { cep = 0; seq = frames }
+
+-- the place of the other end of the flow; both ends were made together
+abbrev pub mate : ℕ → ℕ
+mate place = if place % 2 == 0 then place + 1 else place - 1
+
+-- the copy of the next frame, from the end at this place
+abbrev pub flight_of : ℕ → List ℕ → Line → ℕ → Flight
+flight_of now bytes l place = record { to = mate place; frame = l.frames; sent = now; due = now + l.delay; bytes = bytes }
+
+-- the wire after the end at this place sent a frame
+abbrev pub sent_from : ℕ → List ℕ → Line → ℕ → End → Line
+sent_from now bytes l place e = record l {
+  ends = slice_set l.ends place (with_sent e (record { tick = now; num = frame_number l.frames; bytes = bytes }));
+  frames = l.frames + 1;
+  flights = l.flights ++ flight_of now bytes l place ∷ [];
+}
+
+-- the wires after the SDU was sent
+abbrev pub frame_sent : Air → Port → List ℕ → Air
+frame_sent a port bytes = on_end a port (sent_from a.now bytes)
+
+-- the frame was sent, and its number answered
+pub record IsFrameSent (a : Air) (port : Port) (refusal : Option SendError) (bytes : List ℕ) (num : Num) (a' : Air) : Type 0 where
+  pub goes : Goes a refusal None (frame_sent a port bytes) a'
+  pub answers : num ≡ frame_number (option_map_or (λ (l : Line). l.frames) (wire_at a port.fac) 0)
+
+-- what `send` does
+abbrev pub SendsOn : Air → Port → List ℕ → Result Num SendError → Air → Type 0
+SendsOn a port bytes (Ok num) a' = IsFrameSent a port (send_refusal a port (length bytes)) bytes num a'
+SendsOn a port bytes (Err Memory) a' = a' ≡ failed_air a
+SendsOn a port bytes (Err e) a' = Goes a (send_refusal a port (length bytes)) (Some e) a a'
+
+-- the wires after the oldest entry of the port's end was passed
+abbrev pub passed : Air → Port → Air
+passed a port = on_end a port (λ (l : Line) place e. record l { ends = slice_set l.ends place (with_passed e) })

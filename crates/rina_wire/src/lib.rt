@@ -1,0 +1,11 @@
+//! Wires: the facilities of rank 0, which carry copies of frames.
+#![tactic(auto)]
+
+mod facility;
+mod flight;
+mod tick;
+mod wire;
+mod wires;
+
+pub use tick::TickError;
+pub use wires::Wires;

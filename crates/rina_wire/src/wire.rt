@@ -1,0 +1,185 @@
+//! One wire.
+ghost use Rattle.std.specs.Prelude.{◌≡◌, ◌+◌, ◌<◌, ◌≤◌, ◌^◌, ◌∷◌, [], length, slice_get, find, option_map, remove, OnOk, OnErr, IfOk, IfSome, MatchOption};
+ghost use Rattle.rina_iface.specs.declared.ends.End.{End};
+ghost use Rattle.rina_iface.specs.declared.state.PortState.TheVariants.{Allocated};
+ghost use Rattle.rina_iface.specs.Ends.{end_in, place_in};
+ghost use Rattle.rina_iface.specs.Seen.{is_member, is_of, is_registered, meets, oldest_in};
+ghost use Rattle.rina_wire.specs.Air.{offer_of};
+ghost use Rattle.rina_wire.specs.Allocate.{flow_made, flow_on, is_allocated, is_busy, other_node, port_on};
+ghost use Rattle.rina_wire.specs.Claim.{claim_in, without};
+ghost use Rattle.rina_wire.specs.Plan.{line_of};
+ghost use Rattle.rina_wire.specs.Register.{named};
+
+use crate::flight::Flight;
+use rina_base::{AppName, FlowName, Memory, Node, Port, Tick};
+use rina_cube::Want;
+use rina_iface::{Ask, End, Ends, Entries, Journal, PortState, Registered, Role};
+use rina_stack::WirePlan;
+use std::alloc::{AllocError, Global};
+use std::marker::Model;
+
+/// A wire between two systems.
+#[derive(Drop)]
+pub struct Wire {
+    a: Node,
+    b: Node,
+    delay: u32,
+    life: u32,
+    largest: u32,
+    journal: Journal,
+    waiting: Vec<usize>,
+    names: Vec<Registered>,
+    flows: u32,
+    frames: u64,
+    flights: Vec<Flight>,
+}
+
+impl Model for Wire {
+    ghost use Rattle.rina_wire.specs.Air.{Line};
+
+    ghost Value = { Line };
+
+    ghost view = { λ w. record { a = w.a; b = w.b; delay = w.delay; life = w.life; largest = w.largest; ends = w.journal.ends; waiting = w.waiting.items; names = w.names.items; flows = w.flows; frames = w.frames; flights = w.flights.items } };
+}
+
+/// Whether an application is registered at a node.
+fn is_registered(names: &[Registered], node: Node, app: &AppName) -> bool
+    ensures { result ≡ is_registered names.now node app.now }
+{
+    names.iter().any(|one| one.node == node && one.app.is(app))
+}
+
+/// Whether the end at this place is one of an application at a node.
+fn is_of(ends: &Ends, place: usize, node: Node, app: &AppName) -> bool
+    ensures { result ≡ is_of node app.now (slice_get ends.now place) }
+{
+    match ends.get(place) {
+        None => false,
+        Some(end) => end.port.node == node && end.app.is(app),
+    }
+}
+
+/// Where the oldest far end of an application at a node stands among those that wait.
+fn oldest(ends: &Ends, waiting: &[usize], node: Node, app: &AppName) -> Option<usize>
+    ensures at { result ≡ oldest_in ends.now waiting.now node app.now }
+    ensures within { IfSome result (λ i. i < length waiting.now) }
+{
+    waiting
+        .iter()
+        .position(|place| is_of(ends, *place, node, app))
+}
+
+/// The port of the flow that the wire carries now, at a node.
+fn busy(ends: &[End], node: Node) -> Option<Port>
+    ensures { result ≡ option_map (λ (e : End). e.port) (find (is_busy node) ends.now) }
+{
+    let end = ends.iter().find(|end| is_busy(end, node))?;
+    Some(end.port)
+}
+
+fn is_busy(end: &End, node: Node) -> bool
+    ensures { result ≡ is_busy node end.now }
+{
+    end.port.node == node && matches!(end.state, PortState::Allocated)
+}
+
+impl Wire {
+    /// A wire that was not used yet.
+    pub fn new(alloc: Global, plan: &WirePlan) -> Wire
+        ensures { result ≡ line_of plan.now }
+    {
+        Wire {
+            a: plan.a,
+            b: plan.b,
+            delay: plan.delay,
+            life: plan.life,
+            largest: plan.largest,
+            journal: Journal {
+                ends: Ends::new(alloc),
+            },
+            waiting: Vec::new(alloc),
+            names: Vec::new(alloc),
+            flows: 0,
+            frames: 0,
+            flights: Vec::new(alloc),
+        }
+    }
+
+    pub fn journal(&self) -> &Journal
+        ensures { result.now.ends ≡ self.now.ends }
+    {
+        &self.journal
+    }
+
+    pub fn life(&self) -> u32
+        ensures { result ≡ self.now.life }
+    {
+        self.life
+    }
+
+    pub fn largest(&self) -> u32
+        ensures { result ≡ self.now.largest }
+    {
+        self.largest
+    }
+
+    pub fn flows(&self) -> u32
+        ensures { result ≡ self.now.flows }
+    {
+        self.flows
+    }
+
+    pub fn frames(&self) -> u64
+        ensures { result ≡ self.now.frames }
+    {
+        self.frames
+    }
+
+    /// Whether a node is one of its ends.
+    pub fn is_at(&self, node: Node) -> bool
+        ensures { result ≡ is_member (self.now.a ∷ self.now.b ∷ []) node }
+    {
+        self.a == node || self.b == node
+    }
+
+    /// The node at the other end.
+    pub fn other_node(&self, node: Node) -> Node
+        ensures { result ≡ other_node self.now node }
+    {
+        if node == self.a { self.b } else { self.a }
+    }
+
+    /// Whether an application is registered at a node.
+    pub fn has_name(&self, node: Node, app: &AppName) -> bool
+        ensures { result ≡ is_registered self.now.names node app.now }
+    {
+        is_registered(self.names.as_slice(), node, app)
+    }
+
+    /// Registers an application at a node.
+    pub fn add_name(&mut self, alloc: Global, node: Node, app: &AppName) -> Result<(), Memory>
+        ensures ok { OnOk result (self.new ≡ named node app.now self.old) }
+        ensures err { OnErr result (self.new ≡ self.old) }
+    {
+        let app = app.copy(alloc)?;
+        if self.names.push(Registered { node, app }).is_err() {
+            return Err(Memory);
+        }
+        Ok(())
+    }
+
+    /// Whether its one cube meets a wish.
+    #[tactic(auto, unfolding(rina_iface::specs::Seen::meets))]
+    pub fn meets(&self, want: &Want) -> bool
+        ensures { result ≡ meets want.now (offer_of self.now) }
+    {
+        !want.ordered && !want.reliable && self.life <= want.within && want.size <= self.largest
+    }
+
+    /// The port of the flow that it carries now, at a node.
+    pub fn busy(&self, node: Node) -> Option<Port>
+        ensures { result ≡ option_map (λ (e : End). e.port) (find (is_busy node) self.now.ends) }
+    {
+        busy(self.journal.ends.as_slice(), node)
+    }
+}
