@@ -6,4 +6,5 @@ pub mod Gives
 pub mod Line
 pub mod Numbers
 pub mod Objects
+pub mod Spelling
 pub mod WireWords

@@ -26,7 +26,7 @@ fn all_plain(bytes: &[u8]) -> bool
 }
 
 #[tactic(auto, unfolding(crate::specs::Bytes::are_plain))]
-fn is_plain_text(bytes: &[u8]) -> bool
+pub(crate) fn is_plain_text(bytes: &[u8]) -> bool
     ensures { result ≡ are_plain bytes.now }
 {
     !bytes.is_empty() && all_plain(bytes)

@@ -8,6 +8,7 @@ mod field;
 mod line;
 mod number;
 mod object_name;
+mod text;
 mod words;
 
 pub use bytes::read_bytes;
@@ -16,3 +17,4 @@ pub use event::Event;
 pub use line::read_line;
 pub use number::read_number;
 pub use object_name::ObjectName;
+pub use text::Text;

@@ -1,0 +1,4 @@
+use Rattle.rina_schedule.proofs.text.Text.+number.Given as goal
+
+abbrev pub decreases-number : goal.decreases-number
+decreases-number l = l.n
