@@ -8,6 +8,8 @@ mod field;
 mod line;
 mod number;
 mod object_name;
+#[cfg(test)]
+mod tests;
 mod text;
 mod words;
 

@@ -1,0 +1,20 @@
+//! Notes: what a run tells, each of them one line of text.
+#![tactic(auto)]
+
+mod cause;
+mod note;
+mod print;
+mod refusal;
+mod said;
+mod state;
+mod step;
+#[cfg(test)]
+mod tests;
+
+pub use cause::CauseNote;
+pub use note::{Fault, Note, Notes};
+pub use print::{add_line, print_note};
+pub use refusal::Refusal;
+pub use said::{ClassNote, FlowNote, Said};
+pub use state::{FailNote, MemberNote, PortNote, StateNote};
+pub use step::{ClockNote, TookNote};

@@ -1,0 +1,138 @@
+//! Whole notes.
+ghost use Rattle.std.specs.Prelude.{◌≡◌, ◌∷◌, [], IfOk, codes};
+ghost use Rattle.std.specs.Fmt.{decimal};
+ghost use Rattle.rina_schedule.specs.Spelling.{Adds, spaced};
+ghost use Rattle.rina_report.specs.Notes.{fault_word, fault_values, told_fields, note_text, line_of};
+
+use crate::note::{Fault, Note};
+use crate::print::said::said;
+use crate::print::value;
+use rina_base::Memory;
+use rina_schedule::Text;
+use std::alloc::Global;
+
+#[tactic(auto, unfolding(crate::specs::Notes::fault_word))]
+fn fault_name(fault: Fault) -> &'static [u8]
+    ensures { result.now ≡ fault_word fault }
+{
+    match fault {
+        Fault::Usage { .. } => b"Usage",
+        Fault::TooLarge => b"TooLarge",
+        Fault::NotToml => b"NotToml",
+        Fault::StackRule { .. } => b"StackRule",
+        Fault::Schedule { .. } => b"Schedule",
+        Fault::ReadFault => b"ReadFault",
+    }
+}
+
+#[tactic(auto, unfolding(crate::specs::Notes::fault_values))]
+fn fault(text: &mut Text, fault: Fault) -> Result<(), Memory>
+    ensures { Adds result text.old text.new (spaced (fault_values fault)) }
+{
+    match fault {
+        Fault::Usage { word } => text.number_field(u64::from(word)),
+        Fault::StackRule { n, item } => value::two(text, u64::from(n), u64::from(item)),
+        Fault::Schedule { line, n, field } => {
+            text.number_field(u64::from(line))?;
+            value::two(text, u64::from(n), u64::from(field))
+        }
+        Fault::TooLarge | Fault::NotToml | Fault::ReadFault => Ok(()),
+    }
+}
+
+/// A space and a word, then a space and a number.
+fn named(text: &mut Text, word: &[u8], n: u32) -> Result<(), Memory>
+    ensures { Adds result text.old text.new (spaced (word.now ∷ decimal n ∷ [])) }
+{
+    text.field(word)?;
+    text.number_field(u64::from(n))
+}
+
+/// What a generated run told.
+#[tactic(auto, unfolding(crate::specs::Notes::told_fields))]
+fn told(
+    text: &mut Text,
+    sent: u32,
+    got: u32,
+    refused: u32,
+    off: u32,
+    failed: u32,
+) -> Result<(), Memory>
+    ensures { Adds result text.old text.new (spaced (told_fields sent got refused off failed)) }
+{
+    named(text, b"sent", sent)?;
+    named(text, b"got", got)?;
+    named(text, b"refused", refused)?;
+    named(text, b"off", off)?;
+    named(text, b"failed", failed)
+}
+
+/// Adds a note, without the end of its line.
+#[tactic(auto, unfolding(crate::specs::Notes::note_text))]
+fn note(text: &mut Text, note: &Note) -> Result<(), Memory>
+    ensures { Adds result text.old text.new (note_text note.now) }
+{
+    match note {
+        Note::Line {
+            line,
+            tick,
+            said: told,
+        } => {
+            text.number(u64::from(*line))?;
+            text.number_field(u64::from(*tick))?;
+            said(text, told)
+        }
+        Note::End { tick } => {
+            text.add(b"end")?;
+            text.number_field(u64::from(*tick))
+        }
+        Note::Fault(why) => {
+            text.add(b"fault")?;
+            text.field(fault_name(*why))?;
+            fault(text, *why)
+        }
+        Note::Checked {
+            nodes,
+            wires,
+            difs,
+            lines,
+        } => {
+            text.add(b"checked")?;
+            value::two(text, u64::from(*nodes), u64::from(*wires))?;
+            value::two(text, u64::from(*difs), u64::from(*lines))
+        }
+        Note::Gen {
+            n,
+            lines,
+            tick,
+            sent,
+            got,
+            refused,
+            off,
+            failed,
+        } => {
+            text.add(b"gen")?;
+            text.number_field(u64::from(*n))?;
+            named(text, b"lines", *lines)?;
+            named(text, b"tick", *tick)?;
+            told(text, *sent, *got, *refused, *off, *failed)
+        }
+    }
+}
+
+/// The text of a note, without the end of its line.
+pub fn print_note(alloc: Global, n: &Note) -> Result<Vec<u8>, Memory>
+    ensures { IfOk result (λ text. text.items ≡ note_text n.now) }
+{
+    let mut text = Text::new(alloc);
+    note(&mut text, n)?;
+    Ok(text.into_vec())
+}
+
+/// Adds a note as a line of its own.
+pub fn add_line(text: &mut Text, n: &Note) -> Result<(), Memory>
+    ensures { Adds result text.old text.new (line_of n.now) }
+{
+    note(text, n)?;
+    text.push(b'\n')
+}

@@ -1,0 +1,93 @@
+//! The states of ports and members.
+ghost use Rattle.std.specs.Prelude.{◌≡◌};
+ghost use Rattle.rina_schedule.specs.Spelling.{Adds, spaced};
+ghost use Rattle.rina_report.specs.States.{why_fields, fail_fields, state_fields, member_fields};
+
+use crate::print::value;
+use crate::state::{FailNote, MemberNote, StateNote};
+use rina_base::Memory;
+use rina_iface::Why;
+use rina_schedule::Text;
+
+#[tactic(auto, unfolding(crate::specs::States::why_fields))]
+fn why(text: &mut Text, why: Why) -> Result<(), Memory>
+    ensures { Adds result text.old text.new (spaced (why_fields why)) }
+{
+    match why {
+        Why::Denied { rule } => {
+            text.field(b"Denied")?;
+            text.number_field(u64::from(rule))
+        }
+        Why::NotHere => text.field(b"NotHere"),
+        Why::NoIds { used } => {
+            text.field(b"NoIds")?;
+            text.number_field(u64::from(used))
+        }
+        Why::Timeout { asked, now } => {
+            text.field(b"Timeout")?;
+            value::two(text, u64::from(asked), u64::from(now))
+        }
+        Why::Withdrawn => text.field(b"Withdrawn"),
+    }
+}
+
+/// A space and the name of a failure, then its fields.
+#[tactic(auto, unfolding(crate::specs::States::fail_fields))]
+pub(crate) fn fail(text: &mut Text, fail: &FailNote) -> Result<(), Memory>
+    ensures { Adds result text.old text.new (spaced (fail_fields fail.now)) }
+{
+    match fail {
+        FailNote::GaveUp { num, first, now } => {
+            text.field(b"GaveUp")?;
+            value::num(text, *num)?;
+            value::two(text, u64::from(*first), u64::from(*now))
+        }
+        FailNote::Below { port } => {
+            text.field(b"Below")?;
+            value::port(text, port)
+        }
+        FailNote::Cut { at } => {
+            text.field(b"Cut")?;
+            text.number_field(u64::from(*at))
+        }
+    }
+}
+
+/// A space and a state, then its fields.
+#[tactic(auto, unfolding(crate::specs::States::state_fields))]
+pub(crate) fn state(text: &mut Text, state: &StateNote) -> Result<(), Memory>
+    ensures { Adds result text.old text.new (spaced (state_fields state.now)) }
+{
+    match state {
+        StateNote::Pending => text.field(b"pending"),
+        StateNote::Allocated => text.field(b"allocated"),
+        StateNote::Closed => text.field(b"closed"),
+        StateNote::Refused(reason) => {
+            text.field(b"refused")?;
+            why(text, *reason)
+        }
+        StateNote::Failed(failure) => {
+            text.field(b"failed")?;
+            fail(text, failure)
+        }
+    }
+}
+
+/// A space and the state of a member, then its fields.
+#[tactic(auto, unfolding(crate::specs::States::member_fields))]
+pub(crate) fn member(text: &mut Text, state: MemberNote) -> Result<(), Memory>
+    ensures { Adds result text.old text.new (spaced (member_fields state)) }
+{
+    match state {
+        MemberNote::Outside => text.field(b"outside"),
+        MemberNote::Joining { link } => {
+            text.field(b"joining")?;
+            text.number_field(u64::from(link))
+        }
+        MemberNote::Enrolled => text.field(b"enrolled"),
+        MemberNote::Denied { rule } => {
+            text.field(b"denied")?;
+            text.number_field(u64::from(rule))
+        }
+    }
+}
