@@ -1,4 +1,10 @@
 //! What a stack consists of, with names resolved to numbers.
+ghost use Rattle.std.specs.Prelude.{◌≡◌, ◌<◌, length, position, IfSome};
+ghost use Rattle.std.specs.Str.{bytes_eq};
+ghost use Rattle.rina_stack.specs.declared.plan.WirePlan.{WirePlan};
+ghost use Rattle.rina_stack.specs.Rules.{place_in};
+ghost use Rattle.rina_stack.specs.Plan.{names_of, IsPlan};
+
 use rina_base::{Name, Node, Seq};
 
 /// A stack: its systems and the wires between them.
@@ -24,4 +30,45 @@ pub struct WirePlan {
     pub life: u32,
     /// The largest SDU, in bytes: 1 to 65,535.
     pub largest: u32,
+}
+
+fn place_of(names: &[Name], name: &[u8]) -> Option<usize>
+    ensures place { result ≡ place_in names.now name.now }
+    ensures within { IfSome result (λ i. i < length names.now) }
+{
+    names.iter().position(|other| other.as_bytes() == name)
+}
+
+fn first_wire(wires: &[WirePlan], name: &[u8]) -> Option<usize>
+    ensures place { result ≡ position (λ (w : WirePlan). bytes_eq w.name name.now) wires.now }
+    ensures within { IfSome result (λ i. i < length wires.now) }
+{
+    wires.iter().position(|wire| wire.name.as_bytes() == name)
+}
+
+fn place_of_wire(wires: &[WirePlan], name: &[u8]) -> Option<usize>
+    ensures place { result ≡ place_in (names_of wires.now) name.now }
+    ensures within { IfSome result (λ i. i < length wires.now) }
+{
+    first_wire(wires, name)
+}
+
+impl Plan {
+    /// The system with a name; None where there is none.
+    pub fn node(&self, name: &Name) -> Option<Node>
+        requires { IsPlan self.now }
+        ensures { result ≡ place_in self.now.nodes name.now }
+    {
+        let at = place_of(self.nodes.as_slice(), name.as_bytes())?;
+        Some(at as u16)
+    }
+
+    /// The wire with a name, by its place among the wires; None where there is none.
+    pub fn wire(&self, name: &Name) -> Option<u16>
+        requires { IsPlan self.now }
+        ensures { result ≡ place_in (names_of self.now.wires) name.now }
+    {
+        let at = place_of_wire(self.wires.as_slice(), name.as_bytes())?;
+        Some(at as u16)
+    }
 }

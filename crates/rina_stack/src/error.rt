@@ -1,0 +1,60 @@
+//! Why a text describes no stack.
+ghost use Rattle.std.specs.Prelude.{◌≡◌};
+ghost use Rattle.rina_stack.specs.Faults.{Gives, breaks, unless};
+
+use rina_base::Memory;
+use std::alloc::AllocError;
+
+/// Why a text describes no stack.
+#[derive(Clone, Copy, Debug, PartialEq, Eq)]
+pub enum StackError {
+    /// Memory was not found.
+    Memory,
+    /// The text is no TOML.
+    NotToml,
+    /// Rule `n` is broken, and no rule before it. `item` is the first item that breaks it: 0 for the
+    /// top, then 1 for the first wire and so on; places past 4,294,967,295 are given as that.
+    StackRule { n: u32, item: u32 },
+}
+
+impl From<AllocError> for StackError {
+    ghost use Rattle.std.specs.Prelude.{◌≡◌};
+    ghost use Rattle.rina_stack.specs.declared.error.StackError.TheVariants.{Memory};
+
+    ghost from_gives = { λ _ e. e ≡ Memory };
+
+    fn from(_error: AllocError) -> StackError {
+        StackError::Memory
+    }
+}
+
+impl From<Memory> for StackError {
+    ghost use Rattle.std.specs.Prelude.{◌≡◌};
+    ghost use Rattle.rina_stack.specs.declared.error.StackError.TheVariants.{Memory};
+
+    ghost from_gives = { λ _ e. e ≡ Memory };
+
+    fn from(_error: Memory) -> StackError {
+        StackError::Memory
+    }
+}
+
+/// The error for a rule that is broken at an item.
+pub(crate) fn broken(n: u32, item: usize) -> StackError
+    ensures { result ≡ breaks n item }
+{
+    StackError::StackRule {
+        n,
+        item: item.min(4_294_967_295) as u32,
+    }
+}
+
+/// The error for a rule, where it has a first item that breaks it.
+pub(crate) fn check(n: u32, fault: Option<usize>) -> Result<(), StackError>
+    ensures { Gives (λ t. t) result (unless n fault) }
+{
+    match fault {
+        None => Ok(()),
+        Some(item) => Err(broken(n, item)),
+    }
+}
