@@ -18,7 +18,7 @@ use Rattle.rina_stack.specs.Faults.{Gives, unless}
 use Rattle.rina_stack.specs.Keys.{keys_fault}
 use Rattle.rina_stack.specs.Draft.{draft_at}
 use Rattle.rina_stack.specs.Rules.{place_in, wire_names, rules_at}
-use Rattle.rina_stack.specs.Plan.{node_of, wire_of, plan_of, stack_at, names_of, IsTable, Reads, IsSound, MeetsRules, IsWirePlan, IsPlan}
+use Rattle.rina_stack.specs.Plan.{node_of, wire_of, plan_of, stack_at, names_of, IsTable, Reads, IsSoundDraft, MeetsRules, IsSoundWire, IsPlan}
 use Rattle.rina_stack.proofs.Sound.{meets}
 
 -- a node that is there has the name, and its number is below that of all
@@ -40,7 +40,7 @@ at_most (pos m) (pos n) one h = omega (arith, ints)
 at_most (pos m) (negsuc n) one h = absurd (omega (arith, ints))
 at_most (negsuc m) z one h = absurd (omega (arith, ints))
 
-wire_planned : (nodes : List (List ℕ)) (w : WireDraft) → IsSound nodes w → IsWirePlan (length nodes) (wire_of nodes w)
+wire_planned : (nodes : List (List ℕ)) (w : WireDraft) → IsSoundDraft nodes w → IsSoundWire (length nodes) (wire_of nodes w)
 unfolding wire_of
 wire_planned nodes w s =
     let a = node_found nodes w.from w.from s.from in
@@ -48,7 +48,7 @@ wire_planned nodes w s =
     record {
       a = a.0;
       b = b.0;
-      differ = λ same. s.differ (sym a.1 ∙ ap (λ i. get_or nodes i w.from) same ∙ b.1);
+      apart = λ same. s.apart (sym a.1 ∙ ap (λ i. get_or nodes i w.from) same ∙ b.1);
       least_delay = at_least w.delay s.least_delay;
       delay = at_most w.delay w.life s.least_delay s.delay;
       life = at_most w.life (pos 100000) (omega (arith, ints)) s.life;
@@ -68,7 +68,7 @@ planned d m = record {
   few_wires = omega (arith, m.few_wires, length-map d.wires (wire_of d.nodes));
   nodes_differ = m.nodes_differ;
   wires_differ = rw (same_names d.nodes d.wires) m.wires_differ;
-  wires = All-map (IsWirePlan (length d.nodes)) (wire_of d.nodes) d.wires (λ k e within. wire_planned d.nodes (get_or d.wires k e) (m.wires k e within));
+  wires = All-map (IsSoundWire (length d.nodes)) (wire_of d.nodes) d.wires (λ k e within. wire_planned d.nodes (get_or d.wires k e) (m.wires k e within));
 }
 
 bind_ok : {A B : Type 0} (a : Result A StackError) (f : A → Result B StackError) (y : B) → (a >>= f) ≡ Ok y → (x : A) × (a ≡ Ok x) × (f x ≡ Ok y)

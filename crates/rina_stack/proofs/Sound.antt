@@ -17,7 +17,7 @@ use Rattle.rina_stack.specs.declared.draft.Draft.{Draft}
 use Rattle.rina_stack.specs.declared.error.StackError.{StackError}
 use Rattle.rina_stack.specs.Faults.{unless}
 use Rattle.rina_stack.specs.Rules.{top_or, first_wire, has_text, place_in, twin_after, twin_in, is_name, is_unnamed, name_fault, twin_fault, wire_names, is_between, is_out_of_range, has_stranger, is_crossed, count_fault, rules_at}
-use Rattle.rina_stack.specs.Plan.{AreDistinct, IsSound, MeetsRules}
+use Rattle.rina_stack.specs.Plan.{AreDistinct, IsSoundDraft, MeetsRules}
 
 -- ---- a rule that is not broken
 
@@ -113,7 +113,7 @@ bounds a b z h =
     let (low, high) = and_parts (int_le a z) (int_le z b) h in
     (ordered a z low, ordered z b high)
 
-sound : (nodes : List (List ℕ)) (w : WireDraft) → is_unnamed w ≡ false → is_out_of_range w ≡ false → has_stranger nodes w ≡ false → is_crossed w ≡ false → IsSound nodes w
+sound : (nodes : List (List ℕ)) (w : WireDraft) → is_unnamed w ≡ false → is_out_of_range w ≡ false → has_stranger nodes w ≡ false → is_crossed w ≡ false → IsSoundDraft nodes w
 unfolding is_unnamed is_out_of_range has_stranger is_crossed
 sound nodes w named ranged known straight =
     let (name, _, _) = all_three (is_name w.name) (is_name w.from) (is_name w.to) named in
@@ -124,7 +124,7 @@ sound nodes w named ranged known straight =
       named = name;
       from = from;
       to = to;
-      differ = λ same. false≢true (sym other ∙ (bytes_eq-Decides w.from w.to).1 same);
+      apart = λ same. false≢true (sym other ∙ (bytes_eq-Decides w.from w.to).1 same);
       least_delay = (bounds (pos 1) (pos 100000) w.delay delay).0;
       delay = ordered w.delay w.life short;
       life = (bounds (pos 1) (pos 100000) w.life life).1;

@@ -21,11 +21,11 @@ use Rattle.rina_stack.specs.Rules.{is_name, place_in, wire_names, rules_at}
 abbrev pub AreDistinct : List (List ℕ) → Type 0
 AreDistinct ts = AllPairs (λ t u. t ≢ u) ts
 
-pub record IsSound (nodes : List (List ℕ)) (w : WireDraft) : Type 0 where
+pub record IsSoundDraft (nodes : List (List ℕ)) (w : WireDraft) : Type 0 where
   pub named : IsTrue (is_name w.name)
   pub from : IsSome (place_in nodes w.from)
   pub to : IsSome (place_in nodes w.to)
-  pub differ : w.from ≢ w.to
+  pub apart : w.from ≢ w.to
   pub least_delay : pos 1 ≤ℤ w.delay
   pub delay : w.delay ≤ℤ w.life
   pub life : w.life ≤ℤ pos 100000
@@ -38,7 +38,7 @@ pub record MeetsRules (d : Draft) : Type 0 where
   pub named : All (λ t. IsTrue (is_name t)) d.nodes
   pub nodes_differ : AreDistinct d.nodes
   pub wires_differ : AreDistinct (wire_names d.wires)
-  pub wires : All (IsSound d.nodes) d.wires
+  pub wires : All (IsSoundDraft d.nodes) d.wires
 
 -- ---- from what is written to the plan
 
@@ -81,10 +81,10 @@ Reads (Err (StackRule n k)) text = (ms : Members) × IsTable text ms × (stack_a
 -- ---- what holds of each plan
 
 -- a wire among so many nodes: it joins two of them, and its numbers are in range
-pub record IsWirePlan (nodes : ℕ) (w : WirePlan) : Type 0 where
+pub record IsSoundWire (nodes : ℕ) (w : WirePlan) : Type 0 where
   pub a : w.a < nodes
   pub b : w.b < nodes
-  pub differ : w.a ≢ w.b
+  pub apart : w.a ≢ w.b
   pub least_delay : 1 ≤ w.delay
   pub delay : w.delay ≤ w.life
   pub life : w.life ≤ 100000
@@ -99,4 +99,4 @@ pub record IsPlan (p : Plan) : Type 0 where
   pub few_wires : length p.wires ≤ 128
   pub nodes_differ : AreDistinct p.nodes
   pub wires_differ : AreDistinct (names_of p.wires)
-  pub wires : All (IsWirePlan (length p.nodes)) p.wires
+  pub wires : All (IsSoundWire (length p.nodes)) p.wires

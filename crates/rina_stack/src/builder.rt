@@ -1,7 +1,7 @@
 //! The plan of a stack that breaks no rule.
 ghost use Rattle.std.specs.Prelude.{◌≡◌, ◌≤◌, Ok, IfOk, IsSome, IsTrue, All, length, map, pos, ◌≤ℤ◌, unsigned_abs};
 ghost use Rattle.rina_stack.specs.Rules.{is_name, place_in};
-ghost use Rattle.rina_stack.specs.Plan.{node_of, wire_of, plan_of, IsSound, MeetsRules};
+ghost use Rattle.rina_stack.specs.Plan.{node_of, wire_of, plan_of, IsSoundDraft, MeetsRules};
 
 use crate::draft::{Draft, WireDraft};
 use crate::plan::{Plan, WirePlan};
@@ -43,7 +43,7 @@ fn number(number: i64) -> u32
 #[tactic(auto, unfolding(crate::specs::Plan::wire_of))]
 fn wire_plan(alloc: Global, nodes: &[Bytes], wire: &WireDraft) -> Result<WirePlan, Memory>
     requires few { length nodes.now ≤ 64 }
-    requires sound { IsSound nodes.now wire.now }
+    requires sound { IsSoundDraft nodes.now wire.now }
     ensures { IfOk result (λ w. w ≡ wire_of nodes.now wire.now) }
 {
     Ok(WirePlan {
@@ -69,7 +69,7 @@ fn names(alloc: Global, texts: &[Bytes]) -> Result<Seq<Name>, Memory>
 
 fn wire_plans(alloc: Global, nodes: &[Bytes], wires: &[WireDraft]) -> Result<Seq<WirePlan>, Memory>
     requires few { length nodes.now ≤ 64 }
-    requires sound { All (IsSound nodes.now) wires.now }
+    requires sound { All (IsSoundDraft nodes.now) wires.now }
     ensures { IfOk result (λ ws. ws ≡ map (wire_of nodes.now) wires.now) }
 {
     let mut plans = Seq::new(alloc);

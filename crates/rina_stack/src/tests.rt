@@ -14,36 +14,38 @@ fn told(read: Result<Plan, StackError>) -> (u32, usize) {
     }
 }
 
+/// A text, the rule that it breaks (0: none) and the item.
+static TOPS: [(&str, u32, usize); 22] = [
+    ("nodes = [", 1, 0),
+    ("", 3, 0),
+    ("nodes = []", 0, 0),
+    ("nodes = []\nrounds = 'auto'\ndif = []\nwire = []", 0, 0),
+    ("nodes = []\nnode = 1", 2, 0),
+    ("nodes = []\ndif = [1]", 2, 0),
+    ("nodes = []\n[[dif]]\nname = 'd'", 2, 0),
+    ("nodes = []\ndif = 1", 3, 0),
+    ("nodes = []\nwire = 1", 3, 0),
+    ("nodes = []\nwire = [1]", 3, 0),
+    ("nodes = []\nwire = [{}, 1]", 3, 0),
+    ("nodes = []\nwire = [{}]", 3, 1),
+    ("nodes = []\nwire = [1, { x = 1 }]", 2, 2),
+    ("rounds = 'auto'\nwire = [{ x = 1 }]", 2, 1),
+    ("nodes = []\nrounds = 'manual'", 3, 0),
+    ("nodes = []\nrounds = 1", 3, 0),
+    ("nodes = 'a'", 3, 0),
+    ("nodes = ['a', 1]", 3, 0),
+    ("nodes = ['a', '']", 4, 0),
+    ("nodes = ['a', 'A']", 4, 0),
+    ("nodes = ['a', 'b', 'a']", 5, 0),
+    ("nodes = ['a', 'A', 'a']", 4, 0),
+];
+
 #[test]
 fn the_top_is_read(rt: HostRuntime) -> Result<(), Fail> {
-    let cases = [
-        ("nodes = [", 1, 0),
-        ("", 3, 0),
-        ("nodes = []", 0, 0),
-        ("nodes = []\nrounds = 'auto'\ndif = []\nwire = []", 0, 0),
-        ("nodes = []\nnode = 1", 2, 0),
-        ("nodes = []\ndif = [1]", 2, 0),
-        ("nodes = []\n[[dif]]\nname = 'd'", 2, 0),
-        ("nodes = []\ndif = 1", 3, 0),
-        ("nodes = []\nwire = 1", 3, 0),
-        ("nodes = []\nwire = [1]", 3, 0),
-        ("nodes = []\nwire = [{}, 1]", 3, 0),
-        ("nodes = []\nwire = [{}]", 3, 1),
-        ("nodes = []\nwire = [1, { x = 1 }]", 2, 2),
-        ("rounds = 'auto'\nwire = [{ x = 1 }]", 2, 1),
-        ("nodes = []\nrounds = 'manual'", 3, 0),
-        ("nodes = []\nrounds = 1", 3, 0),
-        ("nodes = 'a'", 3, 0),
-        ("nodes = ['a', 1]", 3, 0),
-        ("nodes = ['a', '']", 4, 0),
-        ("nodes = ['a', 'A']", 4, 0),
-        ("nodes = ['a', 'b', 'a']", 5, 0),
-        ("nodes = ['a', 'A', 'a']", 4, 0),
-    ];
-    for (text, n, item) in cases {
+    for (text, n, item) in &TOPS {
         assert_eq!(rt;
             told(read_stack(rt.alloc(), text.as_bytes())),
-            (n, item),
+            (*n, *item),
             "{text}"
         );
     }
@@ -51,147 +53,80 @@ fn the_top_is_read(rt: HostRuntime) -> Result<(), Fail> {
     Ok(())
 }
 
+/// The values of a second wire, and the rule that it breaks (0: none).
+static WIRES: [(&str, &str, &str, &str, &str, u32); 31] = [
+    ("'w'", "['b', 'a']", "1", "1", "1", 0),
+    ("'w'", "['b', 'a']", "100000", "100000", "65535", 0),
+    ("1", "['b', 'a']", "1", "1", "1", 3),
+    ("'w'", "'ba'", "1", "1", "1", 3),
+    ("'w'", "['b']", "1", "1", "1", 3),
+    ("'w'", "['b', 'a', 'b']", "1", "1", "1", 3),
+    ("'w'", "['b', 1]", "1", "1", "1", 3),
+    ("'w'", "['b', 'a']", "'1'", "1", "1", 3),
+    ("'w'", "['b', 'a']", "1", "1.0", "1", 3),
+    ("'w'", "['b', 'a']", "1", "1", "true", 3),
+    ("'W'", "['b', 'a']", "1", "1", "1", 4),
+    ("'w'", "['B', 'a']", "1", "1", "1", 4),
+    ("'w'", "['b', '']", "1", "1", "1", 4),
+    ("'v'", "['b', 'a']", "1", "1", "1", 5),
+    ("'w'", "['b', 'a']", "0", "1", "1", 6),
+    ("'w'", "['b', 'a']", "-1", "1", "1", 6),
+    ("'w'", "['b', 'a']", "100001", "100001", "1", 6),
+    ("'w'", "['b', 'a']", "1", "0", "1", 6),
+    ("'w'", "['b', 'a']", "1", "100001", "1", 6),
+    ("'w'", "['b', 'a']", "1", "1", "0", 6),
+    ("'w'", "['b', 'a']", "1", "1", "65536", 6),
+    ("'w'", "['c', 'a']", "1", "1", "1", 7),
+    ("'w'", "['b', 'c']", "1", "1", "1", 7),
+    ("'w'", "['b', 'b']", "1", "1", "1", 8),
+    ("'w'", "['b', 'a']", "2", "1", "1", 8),
+    // Two rules at once.
+    ("'W'", "['b', 'a']", "1", "1", "''", 3),
+    ("'v'", "['B', 'a']", "1", "1", "1", 4),
+    ("'v'", "['b', 'a']", "0", "1", "1", 5),
+    ("'w'", "['b', 'c']", "0", "1", "1", 6),
+    ("'w'", "['c', 'c']", "2", "1", "1", 7),
+    ("'w'", "['b', 'b']", "1", "100001", "1", 6),
+];
+
+/// A good wire `v` between `a` and `b`.
+static FIRST: &str = "{ name = 'v', ends = ['a', 'b'], delay = 1, life = 1, largest = 1 }";
+
 #[test]
 fn a_second_wire_is_read(rt: HostRuntime) -> Result<(), Fail> {
-    let cases = [
-        (
-            "name = 'w', ends = ['b', 'a'], delay = 100000, life = 100000, largest = 65535",
-            0,
-        ),
-        (
-            "name = 'w', ends = ['b', 'a'], delay = 1, life = 1, largest = 1",
-            0,
-        ),
-        (
-            "name = 'w', ends = ['b', 'a'], delay = 1, life = 1, largest = 1, storm = {}",
-            2,
-        ),
-        ("colour = 1", 2),
-        ("ends = ['b', 'a'], delay = 1, life = 1, largest = 1", 3),
-        ("name = 'w', delay = 1, life = 1, largest = 1", 3),
-        ("name = 'w', ends = ['b', 'a'], life = 1, largest = 1", 3),
-        ("name = 'w', ends = ['b', 'a'], delay = 1, largest = 1", 3),
-        ("name = 'w', ends = ['b', 'a'], delay = 1, life = 1", 3),
-        (
-            "name = 1, ends = ['b', 'a'], delay = 1, life = 1, largest = 1",
-            3,
-        ),
-        (
-            "name = 'w', ends = 'ba', delay = 1, life = 1, largest = 1",
-            3,
-        ),
-        (
-            "name = 'w', ends = ['b'], delay = 1, life = 1, largest = 1",
-            3,
-        ),
-        (
-            "name = 'w', ends = ['b', 'a', 'b'], delay = 1, life = 1, largest = 1",
-            3,
-        ),
-        (
-            "name = 'w', ends = ['b', 1], delay = 1, life = 1, largest = 1",
-            3,
-        ),
-        (
-            "name = 'w', ends = ['b', 'a'], delay = '1', life = 1, largest = 1",
-            3,
-        ),
-        (
-            "name = 'w', ends = ['b', 'a'], delay = 1, life = 1.0, largest = 1",
-            3,
-        ),
-        (
-            "name = 'w', ends = ['b', 'a'], delay = 1, life = 1, largest = true",
-            3,
-        ),
-        (
-            "name = 'W', ends = ['b', 'a'], delay = 1, life = 1, largest = 1",
-            4,
-        ),
-        (
-            "name = 'w', ends = ['B', 'a'], delay = 1, life = 1, largest = 1",
-            4,
-        ),
-        (
-            "name = 'w', ends = ['b', ''], delay = 1, life = 1, largest = 1",
-            4,
-        ),
-        (
-            "name = 'v', ends = ['b', 'a'], delay = 1, life = 1, largest = 1",
-            5,
-        ),
-        (
-            "name = 'w', ends = ['b', 'a'], delay = 0, life = 1, largest = 1",
-            6,
-        ),
-        (
-            "name = 'w', ends = ['b', 'a'], delay = -1, life = 1, largest = 1",
-            6,
-        ),
-        (
-            "name = 'w', ends = ['b', 'a'], delay = 100001, life = 100001, largest = 1",
-            6,
-        ),
-        (
-            "name = 'w', ends = ['b', 'a'], delay = 1, life = 0, largest = 1",
-            6,
-        ),
-        (
-            "name = 'w', ends = ['b', 'a'], delay = 1, life = 100001, largest = 1",
-            6,
-        ),
-        (
-            "name = 'w', ends = ['b', 'a'], delay = 1, life = 1, largest = 0",
-            6,
-        ),
-        (
-            "name = 'w', ends = ['b', 'a'], delay = 1, life = 1, largest = 65536",
-            6,
-        ),
-        (
-            "name = 'w', ends = ['c', 'a'], delay = 1, life = 1, largest = 1",
-            7,
-        ),
-        (
-            "name = 'w', ends = ['b', 'c'], delay = 1, life = 1, largest = 1",
-            7,
-        ),
-        (
-            "name = 'w', ends = ['b', 'b'], delay = 1, life = 1, largest = 1",
-            8,
-        ),
-        (
-            "name = 'w', ends = ['b', 'a'], delay = 2, life = 1, largest = 1",
-            8,
-        ),
-        // Two rules at once.
-        ("name = 'W', colour = 1", 2),
-        ("name = 'W', ends = ['b', 'a'], delay = 1, life = 1", 3),
-        (
-            "name = 'v', ends = ['B', 'a'], delay = 1, life = 1, largest = 1",
-            4,
-        ),
-        (
-            "name = 'v', ends = ['b', 'a'], delay = 0, life = 1, largest = 1",
-            5,
-        ),
-        (
-            "name = 'w', ends = ['b', 'c'], delay = 0, life = 1, largest = 1",
-            6,
-        ),
-        (
-            "name = 'w', ends = ['c', 'c'], delay = 2, life = 1, largest = 1",
-            7,
-        ),
-    ];
-    for (wire, n) in cases {
-        let text = format!(in rt.alloc();
-            "nodes = ['a', 'b']\nwire = [{{ name = 'v', ends = ['a', 'b'], delay = 1, life = 1, largest = 1 }}, {{ {wire} }}]"
+    for (name, ends, delay, life, largest, n) in &WIRES {
+        let second = format!(in rt.alloc();
+            "name = {name}, ends = {ends}, delay = {delay}, life = {life}, largest = {largest}"
         )?;
+        let text = format!(in rt.alloc(); "nodes = ['a', 'b']\nwire = [{FIRST}, {{ {second} }}]")?;
         assert_eq!(rt;
             told(read_stack(rt.alloc(), text.as_bytes())),
-            (n, 2),
-            "{wire}"
+            (*n, 2),
+            "{second}"
+        );
+    }
+    Ok(())
+}
+
+/// The keys of a second wire, and the rule that it breaks.
+static KEYS: [(&str, u32); 7] = [
+    ("ends = ['b', 'a'], delay = 1, life = 1, largest = 1", 3),
+    ("name = 'W', delay = 1, life = 1, largest = 1", 3),
+    ("name = 'w', ends = ['b', 'a'], life = 1, largest = 1", 3),
+    ("name = 'w', ends = ['b', 'a'], delay = 1, largest = 1", 3),
+    ("name = 'w', ends = ['b', 'a'], delay = 1, life = 1", 3),
+    ("name = 'w', colour = 1", 2),
+    ("name = 'w', storm = {}", 2),
+];
+
+#[test]
+fn a_wire_has_its_keys(rt: HostRuntime) -> Result<(), Fail> {
+    for (second, n) in &KEYS {
+        let text = format!(in rt.alloc(); "nodes = ['a', 'b']\nwire = [{FIRST}, {{ {second} }}]")?;
+        assert_eq!(rt;
+            told(read_stack(rt.alloc(), text.as_bytes())),
+            (*n, 2),
+            "{second}"
         );
     }
     Ok(())
