@@ -1,8 +1,16 @@
+pub mod Agreeing
 pub mod Arrived
 pub mod Arriving
+pub mod Coming
 pub mod Due
+pub mod Joining
 pub mod Lists
+pub mod Offering
 pub mod Quiet
+pub mod Runs
+pub mod Sdus
 pub mod Sending
 pub mod Standing
+pub mod Taking
 pub mod Telling
+pub mod Walking

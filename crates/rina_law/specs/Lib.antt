@@ -1,4 +1,6 @@
 pub mod Constants
+pub mod Direction
+pub mod DirectionHolds
 pub mod Journal
 pub mod Line
 pub mod LineHolds

@@ -66,14 +66,14 @@ pub data Refusal : Type 0 where
   NumbersSpent : (until : ℕ) → Refusal
 
 -- how many numbers may still be sent first, on a reliable flow
-abbrev pub room : Sender → ℕ
-room tx = tx.right + 1 - length tx.run
+abbrev pub room_of : Sender → ℕ
+room_of tx = tx.right + 1 - length tx.run
 
 -- the first refusal that applies to the parts of an SDU, by a sender that has begun
 abbrev pub refusal : Constants → Sender → List Part → Option Refusal
 refusal c tx parts =
     if nat_lt c.cube.largest (length (join parts)) then Some (TooLong (length (join parts)) c.cube.largest)
-    else (if is_reliable c.cube.kind && nat_lt (room tx) (length parts) then Some (WindowShut (length parts) (room tx))
+    else (if is_reliable c.cube.kind && nat_lt (room_of tx) (length parts) then Some (WindowShut (length parts) (room_of tx))
     else (if nat_lt (c.max + 1) (length tx.run + length parts) then Some (NumbersSpent (tx.last_out + 3 * delta c)) else None))
 
 -- the data run flag says that no earlier number of the run is unacknowledged; without acknowledgements number 0 alone has it
