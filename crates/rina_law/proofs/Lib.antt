@@ -2,8 +2,11 @@ pub mod Agreeing
 pub mod Arrived
 pub mod Arriving
 pub mod Coming
+pub mod Cuts
 pub mod Due
 pub mod Joining
+pub mod Keeping
+pub mod Lawfulness
 pub mod Lists
 pub mod Offering
 pub mod Quiet
@@ -11,6 +14,7 @@ pub mod Runs
 pub mod Sdus
 pub mod Sending
 pub mod Standing
+pub mod Suffices
 pub mod Taking
 pub mod Telling
 pub mod Walking

@@ -66,7 +66,7 @@ idle_done c line h e absent =
           omega arith)
     ]
 
-all_reached : (c : Constants) (d : Direction) → DirectionHolds c d → (n : ℕ) → n ≡ length d.line.sender.run → reached d.line.sender.run d.base n ≡ length d.sent
+pub all_reached : (c : Constants) (d : Direction) → DirectionHolds c d → (n : ℕ) → n ≡ length d.line.sender.run → reached d.line.sender.run d.base n ≡ length d.sent
 all_reached c d h zero is = sym (h.core.sent.none (sym is))
 all_reached c d h (suc n) is = (let s = h.core.sent.size n is in let e = h.closed n is in rw e (sym s))
 

@@ -2,6 +2,8 @@ pub mod Constants
 pub mod Direction
 pub mod DirectionHolds
 pub mod Journal
+pub mod Lawful
+pub mod Laws
 pub mod Line
 pub mod LineHolds
 pub mod Lists
