@@ -185,7 +185,7 @@ due_ack c d cube h due =
     let reliable = reliable_is c.cube.kind p.0 in
     let le = open_le c d h reliable r.0 in
     let w = cube.least_window in
-    record { reliable = reliable; present = r.0; young = leb-true d.line.clock (d.line.receiver.last_in + delta c) r.1; edge = omega arith }
+    record { reliable = reliable; present = r.0; young = leb-true d.line.clock (d.line.receiver.last_in + delta c) r.1; edge = omega arith; fits = omega arith }
 
 pub direction_ack : (c : Constants) (d : Direction) (b : Bool) → is_ack_due c d ≡ b → IsCube c.cube → DirectionHolds c d → DirectionHolds c (after_ack b c d)
 direction_ack c d false due cube h = h

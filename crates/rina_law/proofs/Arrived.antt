@@ -131,7 +131,7 @@ arrive_as c line p room v b cube h is alive v_is present =
           let v' : v ≡ verdict Reliable b line.receiver p.pdu room = v_is ∙ ap (λ k. verdict k b line.receiver p.pdu room) e in
           let Q : Kind → Type 0 = λ k. IsNew k p.pdu.number line.done in
           subst P (sym e) (gapless_arrive c line.clock line.sender line.receiver line.done p.pdu room v b h.receiver.past is.within (omega arith) v' present (λ a. subst Q e (new a)) (h.gapless e)));
-      acks = λ k i live. (let x = h.acks k i live in record { reliable = x.reliable; ack = omega (arith, x.ack); edge = omega (arith, x.edge); out = x.out });
+      acks = λ k i live. (let x = h.acks k i live in record { reliable = x.reliable; ack = omega (arith, x.ack); edge = omega (arith, x.edge); fits = x.fits; out = x.out });
     }
 
 pub arrive_holds : (c : Constants) (line : Line) (p : InFlight Piece) (room : Bool) → IsCube c.cube → LineHolds c line → In p line.pieces → line.clock ≤ p.death → LineHolds c (arrive c p.pdu room line)

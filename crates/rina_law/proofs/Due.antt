@@ -66,13 +66,13 @@ late_at c now acked n k (m ∷ ms) e = go (leb acked n && leb (m.first + c.cube.
         (suc j, record { is = omega arith; within = omega arith; unacked = x.unacked; late = x.late }))
 
 -- what is known of a number that is given up
-pub record IsGivenUp (c : Constants) (now : ℕ) (tx : Sender) (n : ℕ) : Type 0 where
+pub record IsLate (c : Constants) (now : ℕ) (tx : Sender) (n : ℕ) : Type 0 where
   pub reliable : c.cube.kind ≡ Reliable
   pub within : n < length tx.run
   pub unacked : tx.acked ≤ n
   pub late : (member tx.run n).first + c.cube.r + c.cube.a + 2 * c.cube.mpl ≤ now
 
-pub late_given_up : (c : Constants) (now : ℕ) (tx : Sender) (n : ℕ) → given_up c now tx ≡ Some n → IsGivenUp c now tx n
+pub late_given_up : (c : Constants) (now : ℕ) (tx : Sender) (n : ℕ) → given_up c now tx ≡ Some n → IsLate c now tx n
 late_given_up c now tx n e =
     let k = on_kind c.cube.kind (late_from c now tx.acked 0 tx.run) n e in
     let (j, x) = late_at c now tx.acked 0 n tx.run k.1 in

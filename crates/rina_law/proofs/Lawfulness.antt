@@ -20,7 +20,7 @@ use Rattle.rina_law.proofs.Coming.{arrival_room}
 use Rattle.rina_law.proofs.Cuts.{place_within, sent_piece}
 use Rattle.rina_law.proofs.Due.{late_given_up}
 use Rattle.rina_law.proofs.Lists.{below-in, in-below}
-use Rattle.rina_law.proofs.Offering.{all_reached}
+use Rattle.rina_law.proofs.Beginning.{all_reached}
 use Rattle.rina_law.proofs.Quiet.{quiet_from}
 use Rattle.rina_law.proofs.Runs.{place_lt, reached_ends, start_le}
 use Rattle.rina_law.proofs.Standing.{present_made, present_before_end}
@@ -57,6 +57,8 @@ lawful_from c d cube h =
         reliable = x.reliable;
         accepted = λ n le. done_in c d.line k.line x.reliable n (let lt = x.ack in omega arith);
         edge = x.edge;
+        ack_fits = (let lt = x.ack in let le = done_le c d.line k.line x.reliable in let numbers = k.run.numbers in omega arith);
+        right_fits = x.fits;
         in_time = x.out;
       });
       told = λ e. (let g = k.line.gapless e in record {
@@ -88,9 +90,9 @@ welcome_from c d p cube h alive =
 
 -- acknowledgements
 
-reached_le : (c : Constants) (run : List Member) (base n m : ℕ) → RunHolds c run → n < m → m ≤ length run → (part_at run n).ends ≡ true → place_of run base n < reached run base m
-reached_le c run base n zero h lt le e = absurd (omega arith)
-reached_le c run base n (suc m) h lt le e = elim (cases_lt n m) [
+reached_lt : (c : Constants) (run : List Member) (base n m : ℕ) → RunHolds c run → n < m → m ≤ length run → (part_at run n).ends ≡ true → place_of run base n < reached run base m
+reached_lt c run base n zero h lt le e = absurd (omega arith)
+reached_lt c run base n (suc m) h lt le e = elim (cases_lt n m) [
   | inl less ↦ (let p = place_lt c run base n m h less le e in go (part_at run m).ends (omega arith))
   | inr ge ↦ (let is : n ≡ m = omega arith in let P : ℕ → Type 0 = λ i. place_of run base n < reached run base (suc i) in subst P is (let r = reached_ends run base n e in omega arith))
 ]
@@ -110,7 +112,7 @@ acknowledged_from c d h e =
     record {
       each = λ n lt. record {
         accepted = done_in c d.line k.line e n (omega arith);
-        got = λ ends. (let r = reached_le c d.line.sender.run d.base n (length d.line.done) k.run (omega arith) le ends in omega arith);
+        got = λ ends. (let r = reached_lt c d.line.sender.run d.base n (length d.line.done) k.run (omega arith) le ends in omega arith);
       };
       all = λ idle.
           (let P : Kind → Type 0 = λ z. is_idle z d.line.sender ≡ true in

@@ -1,6 +1,7 @@
 pub mod Agreeing
 pub mod Arrived
 pub mod Arriving
+pub mod Beginning
 pub mod Coming
 pub mod Cuts
 pub mod Due
@@ -8,9 +9,11 @@ pub mod Joining
 pub mod Keeping
 pub mod Lawfulness
 pub mod Lists
+pub mod Making
 pub mod Offering
 pub mod Quiet
 pub mod Runs
+pub mod Sample
 pub mod Sdus
 pub mod Sending
 pub mod Standing

@@ -1,25 +1,23 @@
 -- An SDU that is offered keeps what holds of a direction.
-use Rattle.std.proofs.Common.{◌≡◌, ℕ, zero, suc, ◌+◌, ◌*◌, ◌<◌, ◌≤◌, List, [], ◌∷◌, ◌++◌, length, Bool, true, false, cond, ◌&&◌, ltb, leb, refl, sym, ◌∙◌, ap, subst, arith, inl, inr, Option, Some, None, length-append}
-use Rattle.std.proofs.lemmas.Bool.{or_cases, and_parts, false≢true, leb-true, ltb-false, cases_lt}
+use Rattle.std.proofs.Common.{◌≡◌, ℕ, suc, ◌+◌, ◌<◌, ◌≤◌, List, [], ◌∷◌, ◌++◌, length, Bool, true, false, cond, ◌&&◌, ltb, refl, sym, ◌∙◌, ap, subst, arith, inl, inr, Option, Some, None, length-append}
+use Rattle.std.proofs.lemmas.Bool.{false≢true, leb-true, ltb-false, cases_lt}
 use Rattle.rina_cube.specs.declared.Kind.{Kind}
 use Rattle.rina_cube.specs.declared.Kind.TheVariants.{Datagram, Loose, Reliable}
 use Rattle.rina_cube.specs.Cubes.{IsCube, is_reliable}
 use Rattle.rina_law.specs.declared.entry.Entry.{Entry}
-use Rattle.rina_law.specs.Constants.{Constants, delta}
+use Rattle.rina_law.specs.Constants.{Constants}
 use Rattle.rina_law.specs.Direction.{no_entry, entry, Inbox, Direction, offer_refusal, sent_entry, after_offer}
-use Rattle.rina_law.specs.DirectionHolds.{part_at, bytes_of, reached, RunHolds, IsClosed, SentHolds, nth, GotHolds, CoreHolds, DirectionHolds}
+use Rattle.rina_law.specs.DirectionHolds.{part_at, bytes_of, RunHolds, IsClosed, SentHolds, nth, GotHolds, CoreHolds, DirectionHolds}
 use Rattle.rina_law.specs.Line.{Line, put, put_all, begun, HasRoom}
-use Rattle.rina_law.specs.LineHolds.{LineHolds}
 use Rattle.rina_law.specs.Lists.{In}
 use Rattle.rina_law.specs.Pieces.{Part, IsCut, join}
-use Rattle.rina_law.specs.Sender.{Member, Sender, no_member, member, is_empty, is_idle, is_absent, started, Refusal, room_of, refusal, drf_for, member_for}
+use Rattle.rina_law.specs.Sender.{Member, Sender, no_member, member, is_absent, started, Refusal, room_of, refusal, drf_for, member_for}
+use Rattle.rina_law.proofs.Beginning.{direction_begun}
 use Rattle.rina_law.proofs.Agreeing.{join_agree, got_agree, reach_agree, done_le, held_within}
 use Rattle.rina_law.proofs.Lists.{length-push, old_at, new_at}
-use Rattle.rina_law.proofs.Quiet.{empty_length, quiet_from, fresh_holds}
 use Rattle.rina_law.proofs.Runs.{agree_later, reached_agree, pushed}
 use Rattle.rina_law.proofs.Sdus.{IsNext, run_first, Owes, sent_first, owes_first, bytes_pushed, bytes_gone_on, run_next, sent_next, owes_next}
 use Rattle.rina_law.proofs.Sending.{put_later, put_holds, room_after, room_one}
-use Rattle.rina_law.proofs.Standing.{absent_after}
 
 -- What an SDU that is not refused is
 
@@ -51,73 +49,6 @@ admitted c tx parts some e =
 cut_some : (size : ℕ) (b : Bool) (parts : List Part) → IsCut size b parts → 0 < length parts
 cut_some size b [] cut = absurd cut
 cut_some size b (p ∷ ps) cut = omega arith
-
--- A new run
-
-idle_done : (c : Constants) (line : Line) → LineHolds c line → c.cube.kind ≡ Reliable → is_absent c line.clock line.sender ≡ true → length line.done ≡ length line.sender.run
-idle_done c line h e absent =
-    let le = done_le c line h e in
-    let acked = (h.gapless e).acked in
-    elim (or_cases (is_empty line.sender.run) (is_idle c.cube.kind line.sender && leb (line.sender.last_out + 3 * delta c) line.clock) absent) [
-      | inl none ↦ (let z = empty_length line.sender.run none in omega arith)
-      | inr idle ↦
-          (let P : Kind → Type 0 = λ k. is_idle k line.sender ≡ true in
-          let i = leb-true (length line.sender.run) line.sender.acked (subst P e ((and_parts (is_idle c.cube.kind line.sender) (leb (line.sender.last_out + 3 * delta c) line.clock) idle).0)) in
-          omega arith)
-    ]
-
-pub all_reached : (c : Constants) (d : Direction) → DirectionHolds c d → (n : ℕ) → n ≡ length d.line.sender.run → reached d.line.sender.run d.base n ≡ length d.sent
-all_reached c d h zero is = sym (h.core.sent.none (sym is))
-all_reached c d h (suc n) is = (let s = h.core.sent.size n is in let e = h.closed n is in rw e (sym s))
-
-direction_fresh : (c : Constants) (d : Direction) → IsCube c.cube → DirectionHolds c d → is_absent c d.line.clock d.line.sender ≡ true → DirectionHolds c (record d { line = begun true c d.line; base = length d.sent; since = d.line.clock })
-direction_fresh c d cube h absent =
-    let k = h.core in
-    let q = quiet_from c d.line cube k.line absent in
-    let size = k.got.size in
-    record {
-      core = record {
-        line = fresh_holds c d.line cube k.line q;
-        run = record {
-          begins = λ lt. absurd (omega arith);
-          goes_on = λ n lt. absurd (omega arith);
-          first = λ n lt. absurd (omega arith);
-          drf = λ e n lt. absurd (omega arith);
-          sized = λ n lt. absurd (omega arith);
-          fits = λ n lt. absurd (omega arith);
-          numbers = omega arith;
-        };
-        sent = record {
-          none = λ e. refl;
-          size = λ n e. absurd (omega arith);
-          num = λ n lt. absurd (omega arith);
-          tick = λ n lt. absurd (omega arith);
-          bytes = λ n lt. absurd (omega arith);
-          cep = k.sent.cep;
-          below = λ j b lt. absurd (omega arith);
-          rising = λ j x b lt lt'. absurd (omega arith);
-        };
-        base = omega arith;
-        since = omega arith;
-        join = λ b. absurd (false≢true (sym q.absent ∙ b));
-        got = record {
-          size = k.got.size;
-          is = k.got.is;
-          age = λ i lt. (let t = k.ticks i lt in let a = absent_after c d.line.clock d.line.receiver q.absent t.0 in let lives = cube.least_mpl in inr (omega (arith, t.1)));
-          known = λ i lt. inl ((k.got.is i lt).stands);
-          shape = k.got.shape;
-        };
-        ticks = k.ticks;
-        count = λ e. k.count e ∙ all_reached c d h (length d.line.done) (idle_done c d.line k.line e absent);
-        reach = λ e b. absurd (false≢true (sym q.absent ∙ b));
-      };
-      closed = λ n e. absurd (omega arith);
-    }
-
-direction_begun : (c : Constants) (d : Direction) (b : Bool) → IsCube c.cube → DirectionHolds c d → is_absent c d.line.clock d.line.sender ≡ b →
-    DirectionHolds c (record d { line = begun b c d.line; base = cond b (length d.sent) d.base; since = cond b d.line.clock d.since })
-direction_begun c d true cube h e = direction_fresh c d cube h e
-direction_begun c d false cube h e = h
 
 -- One piece
 

@@ -66,7 +66,7 @@ cloud_holds c line pieces acks h covers covers_acks = record {
       let ack : k.pdu.ack ≡ q.pdu.ack = ap (λ (z : Ack). z.ack) same in
       let right : k.pdu.right ≡ q.pdu.right = ap (λ (z : Ack). z.right) same in
       let x = h.acks q j (omega arith) in
-      record { reliable = x.reliable; ack = omega (arith, x.ack); edge = omega (arith, x.edge); out = omega (arith, x.out) });
+      record { reliable = x.reliable; ack = omega (arith, x.ack); edge = omega (arith, x.edge); fits = omega (arith, x.fits); out = omega (arith, x.out) });
 }
 
 -- A piece that is made for the first time

@@ -79,4 +79,4 @@ pub acks_later : (c : Constants) (now : ℕ) (tx new : Sender) (done : List ℕ)
 acks_later c now tx new done acks later h k i alive =
     let x = h k i alive in
     let out = later.out in
-    record { reliable = x.reliable; ack = x.ack; edge = x.edge; out = omega (arith, x.out) }
+    record { reliable = x.reliable; ack = x.ack; edge = x.edge; fits = x.fits; out = omega (arith, x.out) }

@@ -47,6 +47,7 @@ acknowledge_holds c line right h may = record {
           reliable = may.reliable;
           ack = omega arith;
           edge = omega arith;
+          fits = may.fits;
           out = omega arith;
         })
     | inr j ↦ h.acks k j alive

@@ -47,14 +47,17 @@ IsLastInTime c d = is_present c d.line.clock d.line.receiver ≡ true → d.line
 
 -- Acknowledgements
 
--- one in flight names accepted numbers alone, opens no more than the window above them, and dies before an idle sender begins again
+-- one in flight names accepted numbers alone, opens no more than the window above them, and dies before an idle sender begins again;
+-- both its numbers fit
 pub record IsMadeAck (c : Constants) (d : Direction) (k : InFlight Ack) : Type 0 where
   pub reliable : c.cube.kind ≡ Reliable
   pub accepted : (n : ℕ) → n ≤ k.pdu.ack → In n d.line.done
   pub edge : k.pdu.right + 1 ≤ accepted_count d + c.cube.window
+  pub ack_fits : k.pdu.ack ≤ c.max
+  pub right_fits : k.pdu.right ≤ c.max
   pub in_time : k.death ≤ d.line.sender.last_out + 2 * c.cube.mpl + delta c
 
--- and so does what the sender was told
+-- and what the sender was told names accepted numbers alone, and opens no more than that window
 pub record IsToldRight (c : Constants) (d : Direction) : Type 0 where
   pub accepted : (n : ℕ) → n < d.line.sender.acked → In n d.line.done
   pub edge : d.line.sender.right + 1 ≤ accepted_count d + c.cube.window
@@ -127,7 +130,7 @@ pub record IsAbsentByClock (c : Constants) (d : Direction) : Type 0 where
 
 -- What giving up means
 
--- the number is one of a piece of an entry that was sent so long ago that no acknowledgement of it can come
+-- the number is one of a piece of an entry that was sent `r + a + 2 * mpl` ticks ago or more, and it is unacknowledged
 pub record IsGivenUp (c : Constants) (d : Direction) (n : ℕ) : Type 0 where
   pub reliable : c.cube.kind ≡ Reliable
   pub unacked : d.line.sender.acked ≤ n

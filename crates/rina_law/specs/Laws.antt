@@ -1,15 +1,16 @@
 -- The laws of one direction of a connection: delta-t suffices.
-use Rattle.std.specs.Prelude.{◌≡◌, ℕ, ◌≤◌, List, Some}
+use Rattle.std.specs.Prelude.{◌≡◌, ℕ, ◌+◌, ◌*◌, ◌≤◌, false, List, length, Some}
 use Rattle.rina_cube.specs.declared.Kind.TheVariants.{Reliable}
 use Rattle.rina_cube.specs.Cubes.{IsCube, promise_of}
-use Rattle.rina_law.specs.Constants.{Constants}
-use Rattle.rina_law.specs.Direction.{Direction, start, Row, happens, May, IsRun, after}
+use Rattle.rina_law.specs.Constants.{Constants, delta}
+use Rattle.rina_law.specs.Direction.{Direction, start, offer_refusal, Row, happens, May, IsRun, after}
 use Rattle.rina_law.specs.DirectionHolds.{DirectionHolds}
 use Rattle.rina_law.specs.Journal.{Keeps}
 use Rattle.rina_law.specs.Lawful.{IsAlive, IsLawful, IsWelcome, IsAcknowledged, IsAbsentByClock, IsGivenUp}
 use Rattle.rina_law.specs.Line.{InFlight, IsCovered}
+use Rattle.rina_law.specs.Pieces.{Part}
 use Rattle.rina_law.specs.Receiver.{Piece}
-use Rattle.rina_law.specs.Sender.{Ack, given_up}
+use Rattle.rina_law.specs.Sender.{Ack, NumbersSpent, is_absent, given_up}
 
 -- a direction of a cube that rows, whatever they are and in whatever order, made of one that starts
 pub record IsReached (c : Constants) (d : Direction) : Type 0 where
@@ -34,6 +35,11 @@ AcksMeanDelivery = (c : Constants) (d : Direction) → IsReached c d → c.cube.
 
 abbrev pub StateEndsByClock : Type 0
 StateEndsByClock = (c : Constants) (d : Direction) → IsReached c d → IsAbsentByClock c d
+
+-- an SDU of no more pieces than there are numbers is refused for want of numbers only while the sender has state, and until that ends
+abbrev pub SpentNeedsState : Type 0
+SpentNeedsState = (c : Constants) (d : Direction) (parts : List Part) (until : ℕ) → length parts ≤ c.max + 1 → offer_refusal c d parts ≡ Some (NumbersSpent until) →
+    (is_absent c d.line.clock d.line.sender ≡ false) × (until ≡ d.line.sender.last_out + 3 * delta c)
 
 abbrev pub GivenUpIsLate : Type 0
 GivenUpIsLate = (c : Constants) (d : Direction) (n : ℕ) → IsReached c d → given_up c d.line.clock d.line.sender ≡ Some n → IsGivenUp c d n

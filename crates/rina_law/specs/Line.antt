@@ -111,3 +111,4 @@ pub record MayAcknowledge (c : Constants) (line : Line) (right : ℕ) : Type 0 w
   pub present : is_present c line.clock line.receiver ≡ true
   pub young : line.clock ≤ line.receiver.last_in + delta c
   pub edge : right + 1 ≤ next_of line.receiver + c.cube.window
+  pub fits : right ≤ c.max

@@ -84,6 +84,7 @@ pub record IsAckOf (c : Constants) (tx : Sender) (done : List ℕ) (k : InFlight
   pub reliable : c.cube.kind ≡ Reliable
   pub ack : k.pdu.ack < length done
   pub edge : k.pdu.right + 1 ≤ length done + c.cube.window
+  pub fits : k.pdu.right ≤ c.max
   pub out : k.death ≤ tx.last_out + 2 * c.cube.mpl + delta c
 
 abbrev pub AcksHold : Constants → ℕ → Sender → List ℕ → List (InFlight Ack) → Type 0

@@ -109,7 +109,8 @@ due_from c now acked n [] = None
 due_from c now acked n (m ∷ ms) =
     if nat_le acked n && (nat_le (m.last + c.cube.retry) now && nat_le now (m.first + c.cube.r)) then Some n else due_from c now acked (n + 1) ms
 
--- from the number n on, the least one that is unacknowledged and was first made so long ago that no acknowledgement of it can come
+-- from the number n on, the least one that is unacknowledged and was first made `r + a + 2 * mpl` ticks ago or more: an acknowledgement
+-- that was made as soon as it was due has come by then, or is lost
 abbrev pub late_from : Constants → ℕ → ℕ → ℕ → List Member → Option ℕ
 late_from c now acked n [] = None
 late_from c now acked n (m ∷ ms) =

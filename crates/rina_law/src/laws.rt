@@ -1,6 +1,6 @@
 //! The laws of one direction of a connection, each as the contract of a function that does nothing.
 //! Together they say that delta-t suffices: whatever is sent, lost, repeated, delayed and forgotten.
-ghost use Rattle.rina_law.specs.Laws.{JournalsAreKept, LineIsLawful, ArrivalsAreWelcome, AcksMeanDelivery, StateEndsByClock, GivenUpIsLate, StartHolds, RowsHold, CloudHolds};
+ghost use Rattle.rina_law.specs.Laws.{JournalsAreKept, LineIsLawful, ArrivalsAreWelcome, AcksMeanDelivery, StateEndsByClock, SpentNeedsState, GivenUpIsLate, StartHolds, RowsHold, CloudHolds};
 
 /// What was got was sent, within the promise of the cube: once on a datagram cube, in order on a loose
 /// one, as a prefix on a reliable one.
@@ -27,10 +27,11 @@ pub fn acks_mean_delivery()
 /// State is there and gone at exactly the ticks that Watson's delta-t gives, and where the sender has none,
 /// nothing is left of its run.
 pub fn state_ends_by_clock()
-    ensures { StateEndsByClock }
+    ensures absent { StateEndsByClock }
+    ensures spent { SpentNeedsState }
 {}
 
-/// A number is given up only when no acknowledgement of it can come any more.
+/// A number that is given up is unacknowledged, and of an SDU that was sent `r + a + 2 * mpl` ticks ago or more.
 pub fn given_up_is_late()
     ensures { GivenUpIsLate }
 {}
