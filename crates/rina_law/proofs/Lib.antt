@@ -1,6 +1,7 @@
 pub mod Agreeing
 pub mod Arrived
 pub mod Arriving
+pub mod Backing
 pub mod Beginning
 pub mod Coming
 pub mod Cuts

@@ -16,6 +16,10 @@ clock_put_all : (c : Constants) (parts : List Part) (line : Line) → (put_all c
 clock_put_all c [] line = refl
 clock_put_all c (part ∷ parts) line = clock_put_all c parts _
 
+acks_put_all : (c : Constants) (parts : List Part) (line : Line) → (put_all c parts line).acks ≡ line.acks
+acks_put_all c [] line = refl
+acks_put_all c (part ∷ parts) line = acks_put_all c parts _
+
 still_in_flight : (c : Constants) (parts : List Part) (line : Line) (p : InFlight Piece) → In p line.pieces → In p (put_all c parts line).pieces
 still_in_flight c [] line p i = i
 still_in_flight c (part ∷ parts) line p i = still_in_flight c parts _ p (inr i)
@@ -39,6 +43,20 @@ offered_from false c parts line = sender_put_all c parts _
 
 pub offered_sender : (c : Constants) (parts : List Part) (line : Line) → (offer c parts line).sender ≡ sender_with_all c line.clock parts (started (is_absent c line.clock line.sender) c line.sender)
 offered_sender c parts line = offered_from (is_absent c line.clock line.sender) c parts line
+
+clock_from : (b : Bool) (c : Constants) (parts : List Part) (line : Line) → (put_all c parts (begun b c line)).clock ≡ line.clock
+clock_from true c parts line = clock_put_all c parts _
+clock_from false c parts line = clock_put_all c parts _
+
+pub offered_clock : (c : Constants) (parts : List Part) (line : Line) → (offer c parts line).clock ≡ line.clock
+offered_clock c parts line = clock_from (is_absent c line.clock line.sender) c parts line
+
+acks_from : (b : Bool) (c : Constants) (parts : List Part) (line : Line) → (put_all c parts (begun b c line)).acks ≡ line.acks
+acks_from true c parts line = acks_put_all c parts _
+acks_from false c parts line = acks_put_all c parts _
+
+pub offered_acks : (c : Constants) (parts : List Part) (line : Line) → (offer c parts line).acks ≡ line.acks
+offered_acks c parts line = acks_from (is_absent c line.clock line.sender) c parts line
 
 flying_from : (b : Bool) (c : Constants) (parts : List Part) (line : Line) (p : InFlight Piece) → In p line.pieces → In p (put_all c parts (begun b c line)).pieces
 flying_from true c parts line p i = still_in_flight c parts _ p i

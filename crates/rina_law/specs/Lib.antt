@@ -1,3 +1,4 @@
+pub mod Backed
 pub mod Constants
 pub mod Direction
 pub mod DirectionHolds
@@ -7,6 +8,7 @@ pub mod Laws
 pub mod Line
 pub mod LineHolds
 pub mod Lists
+pub mod Pdus
 pub mod Pieces
 pub mod Receiver
 pub mod Sender
