@@ -1,4 +1,5 @@
--- What stands of a run stands of one that goes on with the same pieces; the rows that leave journals and receiver alone.
+-- What stands of a run stands of one that goes on with the same pieces; the rows that leave journals and receiver
+-- alone.
 use Rattle.std.proofs.Common.{◌≡◌, ℕ, zero, suc, ◌+◌, ◌<◌, ◌≤◌, List, length, max, Bool, true, false, ◌&&◌, ltb, leb, refl, sym, ◌∙◌, ap, subst, arith, inl, inr, Option, Some, None}
 use Rattle.std.proofs.lemmas.Bool.{and_parts, leb-true, le-ltb, lt-ltb, cases_lt}
 use Rattle.rina_cube.specs.declared.Kind.{Kind}

@@ -1,5 +1,5 @@
--- A run of a reliable direction: an SDU of three pieces, two of them sent again, the last one held, and an acknowledgement.
--- It shows that the laws' premises can be met.
+-- A run of a reliable direction: an SDU of three pieces, two of them sent again, the last one held, and an
+-- acknowledgement. It shows that the laws' premises can be met.
 use Rattle.std.proofs.Common.{◌≡◌, Bool, true, false, [], ◌∷◌, List, ℕ, refl, arith, inl, inr, Some, None}
 use Rattle.rina_cube.specs.declared.Cube.{Cube}
 use Rattle.rina_cube.specs.declared.Kind.TheVariants.{Reliable}

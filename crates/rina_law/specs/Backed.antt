@@ -12,8 +12,8 @@ use Rattle.rina_law.specs.Sender.{Ack}
 abbrev pub IsIn : {P : Type 0} → List (InFlight P) → ℕ → P → Type 0
 IsIn list death p = (q : InFlight _) × In q list × (q.pdu ≡ p) × (death ≤ q.death)
 
--- a cloud says with which deaths a PDU is in flight. Each pair that is not dead has its like in the direction's lists, which
--- may hold more
+-- a cloud says with which deaths a PDU is in flight. Each pair that is not dead has its like in the direction's
+-- lists, which may hold more
 pub record IsBacked (c : Constants) (now : ℕ) (pieces : ℕ → Piece → Type 0) (acks : ℕ → Ack → Type 0) (d : Direction) : Type 0 where
   pub holds : DirectionHolds c d
   pub clock : d.line.clock ≡ now

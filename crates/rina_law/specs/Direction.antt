@@ -1,4 +1,5 @@
--- One direction of a connection: a line with its SDUs, as they are cut, joined and delivered, and with its two journals.
+-- One direction of a connection: a line with its SDUs, as they are cut, joined and delivered, and with its two
+-- journals.
 use Rattle.std.specs.Prelude.{◌≡◌, ℕ, zero, suc, ◌+◌, ◌-◌, ◌<◌, ◌≤◌, max, min, Bool, true, false, ◌&&◌, nat_lt, nat_le, if◌then◌else◌, List, [], ◌∷◌, ◌++◌, length, map, get_or, Option, Some, None}
 use Rattle.rina_cube.specs.Cubes.{is_reliable}
 use Rattle.rina_law.specs.declared.entry.Entry.{Entry}
@@ -9,7 +10,8 @@ use Rattle.rina_law.specs.Pieces.{Part, IsCut, join, Joiner, empty_joiner, Sdu, 
 use Rattle.rina_law.specs.Receiver.{Piece, is_present, next_of, Verdict, Accepted, joined_after, mark_after, mark_passed}
 use Rattle.rina_law.specs.Sender.{Member, Ack, member, is_absent, started, Refusal, refusal, again_due}
 
--- Of a run: the number with which the SDU of a number begins, and the place of that SDU in `sent`, where the run's first has the place `base`
+-- Of a run: the number with which the SDU of a number begins, and the place of that SDU in `sent`, where the run's
+-- first has the place `base`
 
 abbrev pub start_of : List Member → ℕ → ℕ
 start_of run zero = 0
@@ -27,8 +29,8 @@ no_entry = record { tick = 0; num = record { cep = 0; seq = 0 }; bytes = [] }
 abbrev pub entry : List Entry → ℕ → Entry
 entry es i = get_or es i no_entry
 
--- What was received: the joiner, and the journal of what was delivered. `places` has for each entry the place in `sent` from which
--- it came; no row reads it
+-- What was received: the joiner, and the journal of what was delivered. `places` has for each entry the place in
+-- `sent` from which it came; no row reads it
 
 pub record Inbox : Type 0 where
   pub joiner : Joiner
@@ -144,8 +146,8 @@ after_arrival v present c p d = record d {
 
 -- An acknowledgement that is due
 
--- the first number that the application has still to take: of the first entry of this state that was not passed, else of what
--- the joiner holds, else the next one
+-- the first number that the application has still to take: of the first entry of this state that was not passed,
+-- else of what the joiner holds, else the next one
 abbrev pub first_open : Direction → ℕ
 first_open d =
     if nat_lt (max d.passed d.state_from) (length d.inbox.got) then (entry d.inbox.got (max d.passed d.state_from)).num.seq

@@ -26,8 +26,8 @@ abbrev pub reached : List Member → ℕ → ℕ → ℕ
 reached run base zero = base
 reached run base (suc n) = if (part_at run n).ends then suc (place_of run base n) else place_of run base n
 
--- SDU follows SDU: a piece begins one exactly where the one before it ends one, and all pieces of an SDU are first made at one tick.
--- On a reliable flow the data run flag stands only on the first of them
+-- SDU follows SDU: a piece begins one exactly where the one before it ends one, and all pieces of an SDU are first
+-- made at one tick. On a reliable flow the data run flag stands only on the first of them
 pub record RunHolds (c : Constants) (run : List Member) : Type 0 where
   pub begins : 0 < length run → (part_at run 0).begins ≡ true
   pub goes_on : (n : ℕ) → suc n < length run → (part_at run (suc n)).begins ≡ (part_at run n).ends
@@ -41,7 +41,8 @@ pub record RunHolds (c : Constants) (run : List Member) : Type 0 where
 abbrev pub IsClosed : List Member → Type 0
 IsClosed run = (n : ℕ) → suc n ≡ length run → (part_at run n).ends ≡ true
 
--- the run is what was sent from the place `base` on: each of its SDUs is an entry, with its first number, tick and bytes
+-- the run is what was sent from the place `base` on: each of its SDUs is an entry, with its first number, tick and
+-- bytes
 pub record SentHolds (c : Constants) (run : List Member) (base : ℕ) (sent : List Entry) : Type 0 where
   pub none : length run ≡ 0 → length sent ≡ base
   pub size : (n : ℕ) → suc n ≡ length run → length sent ≡ suc (place_of run base n)
@@ -82,8 +83,9 @@ ArePlaces Datagram qs = (i k : ℕ) → i < k → k < length qs → nth qs i ≢
 ArePlaces Loose qs = (i k : ℕ) → i < k → k < length qs → nth qs i < nth qs k
 ArePlaces Reliable qs = (i : ℕ) → i < length qs → nth qs i ≡ i
 
--- each entry got has its place. It is of an earlier run, or of an SDU of this run whose last number was accepted; and its number
--- is one of this run, or its tick is of an earlier one, so that no entry that is sent later takes its place
+-- each entry got has its place. It is of an earlier run, or of an SDU of this run whose last number was accepted;
+-- and its number is one of this run, or its tick is of an earlier one, so that no entry that is sent later takes its
+-- place
 pub record GotHolds (c : Constants) (run : List Member) (base since : ℕ) (sent : List Entry) (done : List ℕ) (inbox : Inbox) : Type 0 where
   pub size : length inbox.places ≡ length inbox.got
   pub is : (i : ℕ) → i < length inbox.got → IsGot c sent (entry inbox.got i) (nth inbox.places i)
@@ -91,8 +93,9 @@ pub record GotHolds (c : Constants) (run : List Member) (base since : ℕ) (sent
   pub known : (i : ℕ) → i < length inbox.got → (nth inbox.places i < base) ⊎ ((n : ℕ) × In n done × ((part_at run n).ends ≡ true) × (place_of run base n ≡ nth inbox.places i))
   pub shape : ArePlaces c.cube.kind inbox.places
 
--- of the receiver's side of a reliable flow while its state stands, with m numbers accepted: what is held is of the run, entries of this state have accepted
--- numbers, and the joiner has exactly the accepted pieces of an SDU that is not whole
+-- of the receiver's side of a reliable flow while its state stands, with m numbers accepted: what is held is of the
+-- run, entries of this state have accepted numbers, and the joiner has exactly the accepted pieces of an SDU that is
+-- not whole
 pub record ReachHolds (run : List Member) (held : List Piece) (m state_from : ℕ) (inbox : Inbox) : Type 0 where
   pub held_is : (q : Piece) → In q held → q.part ≡ part_at run q.number
   pub mine : (i : ℕ) → state_from ≤ i → i < length inbox.got → (entry inbox.got i).num.seq < m

@@ -47,8 +47,8 @@ IsLastInTime c d = is_present c d.line.clock d.line.receiver ≡ true → d.line
 
 -- Acknowledgements
 
--- one in flight names accepted numbers alone, opens no more than the window above them, and dies before an idle sender begins again;
--- both its numbers fit
+-- one in flight names accepted numbers alone, opens no more than the window above them, and dies before an idle
+-- sender begins again; both its numbers fit
 pub record IsMadeAck (c : Constants) (d : Direction) (k : InFlight Ack) : Type 0 where
   pub reliable : c.cube.kind ≡ Reliable
   pub accepted : (n : ℕ) → n ≤ k.pdu.ack → In n d.line.done
@@ -67,8 +67,9 @@ pub record IsToldRight (c : Constants) (d : Direction) : Type 0 where
 abbrev pub DiesBeforeState : Constants → Direction → InFlight Piece → Type 0
 DiesBeforeState c d p = p.death < d.line.receiver.last_in + 2 * delta c
 
--- a copy that could be taken for a new number dies before the state that tells it from one. On a reliable flow a piece with the data
--- run flag has all numbers below its own accepted, so that new state that it makes misses nothing
+-- a copy that could be taken for a new number dies before the state that tells it from one. On a reliable flow a
+-- piece with the data run flag has all numbers below its own accepted, so that new state that it makes misses
+-- nothing
 abbrev pub OldDies : Kind → Constants → Direction → InFlight Piece → Type 0
 OldDies Datagram c d p = In p.pdu.number d.line.done → DiesBeforeState c d p
 OldDies Loose c d p = (k : ℕ) → In k d.line.done → p.pdu.number ≤ k → DiesBeforeState c d p
@@ -76,8 +77,8 @@ OldDies Reliable c d p = p.pdu.drf ≡ true → ((k : ℕ) → k < p.pdu.number 
 
 -- Without gaps
 
--- on a reliable flow: the accepted numbers of the run are those below their count, which is the state's next number, and what was
--- got is made of the whole SDUs among them, after those of earlier runs
+-- on a reliable flow: the accepted numbers of the run are those below their count, which is the state's next number,
+-- and what was got is made of the whole SDUs among them, after those of earlier runs
 pub record IsWithoutGap (c : Constants) (d : Direction) : Type 0 where
   pub below : (n : ℕ) → In n d.line.done ↔ n < accepted_count d
   pub next : is_present c d.line.clock d.line.receiver ≡ true → next_of d.line.receiver ≡ accepted_count d
@@ -95,8 +96,9 @@ pub record IsLawful (c : Constants) (d : Direction) : Type 0 where
 
 -- What a receiver may rely on when a piece arrives
 
--- it is no longer than a piece may be and its number fits; on a reliable flow it lies within the window above the accepted numbers,
--- so that what is held needs no more room than a window; and whatever the arrival gives to the joiner fits there
+-- it is no longer than a piece may be and its number fits; on a reliable flow it lies within the window above the
+-- accepted numbers, so that what is held needs no more room than a window; and whatever the arrival gives to the
+-- joiner fits there
 pub record IsWelcome (c : Constants) (d : Direction) (p : Piece) : Type 0 where
   pub body : length p.part.body ≤ c.piece
   pub number : p.number ≤ c.max
@@ -118,9 +120,9 @@ pub record IsAcknowledged (c : Constants) (d : Direction) : Type 0 where
 
 -- When there is no state
 
--- the receiver has state exactly from the piece that made it until `2 * delta` after the last one that counted; the sender has none
--- exactly where nothing was sent, or nothing is unacknowledged and `3 * delta` have gone by since it last made a piece; and then
--- the receiver has none either, and nothing of the run is alive
+-- the receiver has state exactly from the piece that made it until `2 * delta` after the last one that counted; the
+-- sender has none exactly where nothing was sent, or nothing is unacknowledged and `3 * delta` have gone by since it
+-- last made a piece; and then the receiver has none either, and nothing of the run is alive
 pub record IsAbsentByClock (c : Constants) (d : Direction) : Type 0 where
   pub receiver : is_present c d.line.clock d.line.receiver ≡ true ↔ (d.line.receiver.made ≡ true) × (d.line.clock < d.line.receiver.last_in + 2 * delta c)
   pub sender : is_absent c d.line.clock d.line.sender ≡ true ↔ (d.line.sender.run ≡ []) ⊎ ((is_idle c.cube.kind d.line.sender ≡ true) × (d.line.sender.last_out + 3 * delta c ≤ d.line.clock))

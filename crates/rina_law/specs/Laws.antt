@@ -36,7 +36,8 @@ AcksMeanDelivery = (c : Constants) (d : Direction) → IsReached c d → c.cube.
 abbrev pub StateEndsByClock : Type 0
 StateEndsByClock = (c : Constants) (d : Direction) → IsReached c d → IsAbsentByClock c d
 
--- an SDU of no more pieces than there are numbers is refused for want of numbers only while the sender has state, and until that ends
+-- an SDU of no more pieces than there are numbers is refused for want of numbers only while the sender has state,
+-- and until that ends
 abbrev pub SpentNeedsState : Type 0
 SpentNeedsState = (c : Constants) (d : Direction) (parts : List Part) (until : ℕ) → length parts ≤ c.max + 1 → offer_refusal c d parts ≡ Some (NumbersSpent until) →
     (is_absent c d.line.clock d.line.sender ≡ false) × (until ≡ d.line.sender.last_out + 3 * delta c)
@@ -52,8 +53,8 @@ StartHolds = (c : Constants) → IsCube c.cube → DirectionHolds c (start c)
 abbrev pub RowsHold : Type 0
 RowsHold = (c : Constants) (d : Direction) (row : Row) → IsCube c.cube → DirectionHolds c d → May c d row → DirectionHolds c (happens c d row)
 
--- The cloud: it holds where each PDU that is in flight now was in flight before with a death at least as great, the clock stays or
--- rises, and nothing else changes
+-- The cloud: it holds where each PDU that is in flight now was in flight before with a death at least as great, the
+-- clock stays or rises, and nothing else changes
 abbrev pub CloudHolds : Type 0
 CloudHolds = (c : Constants) (d : Direction) (clock : ℕ) (pieces : List (InFlight Piece)) (acks : List (InFlight Ack)) → DirectionHolds c d → d.line.clock ≤ clock → IsCovered d.line.pieces pieces → IsCovered d.line.acks acks →
     DirectionHolds c (record d { line = record d.line { clock = clock; pieces = pieces; acks = acks } })

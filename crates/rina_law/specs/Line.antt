@@ -13,7 +13,8 @@ pub record InFlight (P : Type 0) : Type 0 where
   pub pdu : P
   pub death : ℕ
 
--- `done` has the numbers that were accepted in the sender's present run, by whatever receiver state, the newest first; no row reads it
+-- `done` has the numbers that were accepted in the sender's present run, by whatever receiver state, the newest
+-- first; no row reads it
 pub record Line : Type 0 where
   pub clock : ℕ
   pub sender : Sender
@@ -32,7 +33,8 @@ opening c = record {
   acks = [];
 }
 
--- each PDU in flight now was in flight before, with a death at least as great: what losses, repeats, hops and relaying do
+-- each PDU in flight now was in flight before, with a death at least as great: what losses, repeats, hops and
+-- relaying do
 abbrev pub IsCovered : {P : Type 0} → List (InFlight P) → List (InFlight P) → Type 0
 IsCovered before after = (p : InFlight _) → In p after → (q : InFlight _) × In q before × (p.pdu ≡ q.pdu) × (p.death ≤ q.death)
 

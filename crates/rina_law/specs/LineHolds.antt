@@ -14,8 +14,8 @@ pub record SenderHolds (now : ℕ) (tx : Sender) : Type 0 where
   pub firsts : (n : ℕ) → n < length tx.run → (member tx.run n).first ≤ tx.last_out
   pub rising : (i k : ℕ) → i ≤ k → k < length tx.run → (member tx.run i).first ≤ (member tx.run k).first
 
--- a piece in flight is that of a member of the run. It dies at most `r + mpl` after it was first made, since none is made
--- later than `r` after that, and at most `mpl` after the sender last made any
+-- a piece in flight is that of a member of the run. It dies at most `r + mpl` after it was first made, since none is
+-- made later than `r` after that, and at most `mpl` after the sender last made any
 pub record IsOfRun (c : Constants) (tx : Sender) (p : InFlight Piece) : Type 0 where
   pub within : p.pdu.number < length tx.run
   pub drf : p.pdu.drf ≡ (member tx.run p.pdu.number).drf
@@ -33,7 +33,8 @@ pub record ReceiverHolds (c : Constants) (now : ℕ) (tx : Sender) (rx : Receive
   pub out : rx.made ≡ true → rx.last_in ≤ tx.last_out + c.cube.mpl
   pub empty : length tx.run ≡ 0 → is_present c now rx ≡ false
 
--- the state tells that the number is old, so that a copy of it is not accepted. On a reliable flow the next number alone tells
+-- the state tells that the number is old, so that a copy of it is not accepted. On a reliable flow the next number
+-- alone tells
 abbrev pub Knows : Kind → Receiver → ℕ → Type 0
 Knows Datagram rx n = In n rx.accepted
 Knows Loose rx n = n ≤ highest rx.accepted
@@ -68,8 +69,9 @@ IsShaped Datagram done = HasNoRepeat done
 IsShaped Loose done = IsFalling done
 IsShaped Reliable done = done ≡ below (length done)
 
--- on a reliable flow: the state's next number is how many were accepted; what it holds is of the run; a piece with the data
--- run flag has all numbers below it accepted, and so has whatever is acknowledged; the window is never passed
+-- on a reliable flow: the state's next number is how many were accepted; what it holds is of the run; a piece with
+-- the data run flag has all numbers below it accepted, and so has whatever is acknowledged; the window is never
+-- passed
 pub record IsGapless (c : Constants) (now : ℕ) (tx : Sender) (rx : Receiver) (done : List ℕ) : Type 0 where
   pub next : is_present c now rx ≡ true → next_of rx ≡ length done
   pub some : is_present c now rx ≡ true → 1 ≤ next_of rx
@@ -79,7 +81,8 @@ pub record IsGapless (c : Constants) (now : ℕ) (tx : Sender) (rx : Receiver) (
   pub right : tx.right + 1 ≤ length done + c.cube.window
   pub window : length tx.run ≤ tx.right + 1
 
--- an acknowledgement in flight is of a reliable flow, names accepted numbers alone, and dies before an idle sender begins again
+-- an acknowledgement in flight is of a reliable flow, names accepted numbers alone, and dies before an idle sender
+-- begins again
 pub record IsAckOf (c : Constants) (tx : Sender) (done : List ℕ) (k : InFlight Ack) : Type 0 where
   pub reliable : c.cube.kind ≡ Reliable
   pub ack : k.pdu.ack < length done

@@ -38,7 +38,8 @@ empty_joiner = record { from = 0; count = 0; bytes = [] }
 abbrev pub goes_on : ℕ → Joiner → Bool
 goes_on n j = nat_lt 0 j.count && (j.from + j.count == n)
 
--- the joiner with one more piece: a piece that begins drops what waits; one that neither begins nor goes on is dropped with it
+-- the joiner with one more piece: a piece that begins drops what waits; one that neither begins nor goes on is
+-- dropped with it
 abbrev pub with_part : ℕ → Part → Joiner → Joiner
 with_part n part j =
     if part.begins then record { from = n; count = 1; bytes = part.body }

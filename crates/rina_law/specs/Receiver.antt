@@ -24,7 +24,8 @@ pub record Receiver : Type 0 where
 abbrev pub no_state : Receiver
 no_state = record { made = false; base = 0; accepted = []; held = []; last_in = 0 }
 
--- state stands for `2 * delta` ticks after the last piece that counted; it is absent from then on, and before any was made
+-- state stands for `2 * delta` ticks after the last piece that counted; it is absent from then on, and before any
+-- was made
 abbrev pub is_present : Constants → ℕ → Receiver → Bool
 is_present c now rx = rx.made && nat_lt now (rx.last_in + 2 * delta c)
 
@@ -118,7 +119,8 @@ abbrev pub joined_on : Kind → ℕ → List Piece → Joined → Joined
 joined_on Reliable n held j = joined_held (highest (numbers held)) (n + 1) held j
 joined_on _ n held j = j
 
--- a piece that is accepted goes to the joiner, on a reliable flow with the held ones that follow; new state begins with an empty one
+-- a piece that is accepted goes to the joiner, on a reliable flow with the held ones that follow; new state begins
+-- with an empty one
 abbrev pub joined_after : Verdict → Kind → Bool → Piece → List Piece → Joiner → Joined
 joined_after Accepted kind true p held j = joined_on kind p.number held (joined_with p.number p.part (record { joiner = j; whole = [] }))
 joined_after Accepted kind false p held j = joined_with p.number p.part (record { joiner = empty_joiner; whole = [] })

@@ -46,7 +46,8 @@ abbrev pub is_idle : Kind → Sender → Bool
 is_idle Reliable tx = nat_le (length tx.run) tx.acked
 is_idle _ tx = true
 
--- a sender has no state where nothing was sent, or where it is idle and `3 * delta` have gone by since it last made a piece
+-- a sender has no state where nothing was sent, or where it is idle and `3 * delta` have gone by since it last made
+-- a piece
 abbrev pub is_absent : Constants → ℕ → Sender → Bool
 is_absent c now tx = is_empty tx.run || (is_idle c.cube.kind tx && nat_le (tx.last_out + 3 * delta c) now)
 
@@ -76,7 +77,8 @@ refusal c tx parts =
     else (if is_reliable c.cube.kind && nat_lt (room_of tx) (length parts) then Some (WindowShut (length parts) (room_of tx))
     else (if nat_lt (c.max + 1) (length tx.run + length parts) then Some (NumbersSpent (tx.last_out + 3 * delta c)) else None))
 
--- the data run flag says that no earlier number of the run is unacknowledged; without acknowledgements number 0 alone has it
+-- the data run flag says that no earlier number of the run is unacknowledged; without acknowledgements number 0
+-- alone has it
 abbrev pub drf_for : Kind → Sender → Bool
 drf_for Reliable tx = nat_le (length tx.run) tx.acked
 drf_for _ tx = length tx.run == 0
@@ -103,14 +105,15 @@ pieces_for c now (part ∷ parts) tx = piece_for c part tx ∷ pieces_for c now 
 
 -- A number that is sent again, or given up
 
--- from the number n on, the least one that is unacknowledged, was made `retry` ticks ago or more, and was first made at most `r` ticks ago
+-- from the number n on, the least one that is unacknowledged, was made `retry` ticks ago or more, and was first made
+-- at most `r` ticks ago
 abbrev pub due_from : Constants → ℕ → ℕ → ℕ → List Member → Option ℕ
 due_from c now acked n [] = None
 due_from c now acked n (m ∷ ms) =
     if nat_le acked n && (nat_le (m.last + c.cube.retry) now && nat_le now (m.first + c.cube.r)) then Some n else due_from c now acked (n + 1) ms
 
--- from the number n on, the least one that is unacknowledged and was first made `r + a + 2 * mpl` ticks ago or more: an acknowledgement
--- that was made as soon as it was due has come by then, or is lost
+-- from the number n on, the least one that is unacknowledged and was first made `r + a + 2 * mpl` ticks ago or more:
+-- an acknowledgement that was made as soon as it was due has come by then, or is lost
 abbrev pub late_from : Constants → ℕ → ℕ → ℕ → List Member → Option ℕ
 late_from c now acked n [] = None
 late_from c now acked n (m ∷ ms) =
