@@ -1,1 +1,14 @@
+pub mod Backed
+pub mod Constants
+pub mod Direction
+pub mod DirectionHolds
 pub mod Journal
+pub mod Lawful
+pub mod Laws
+pub mod Line
+pub mod LineHolds
+pub mod Lists
+pub mod Pdus
+pub mod Pieces
+pub mod Receiver
+pub mod Sender
