@@ -22,6 +22,14 @@ arrived_at now f ends (Some e) = if is_allocated e.state then slice_set ends f.t
 abbrev pub looked_at : ℕ → List End → Flight → List End
 looked_at now ends f = if nat_le f.due now then arrived_at now f ends (slice_get ends f.to) else ends
 
+-- the wire after a copy arrived
+abbrev pub arrived : ℕ → Line → Flight → Line
+arrived now l f = record l { ends = arrived_at now f l.ends (slice_get l.ends f.to) }
+
+-- the wire after a copy was looked at: it arrives where it is due, and else stays in flight
+abbrev pub looked : ℕ → Line → Flight → Line
+looked now l f = if nat_le f.due now then arrived now l f else record l { flights = l.flights ++ f ∷ [] }
+
 -- the wire after the copies that are due by now have arrived, in the order in which they were made
 abbrev pub line_ticked : ℕ → Line → Line
 line_ticked now l = record l { ends = fold (looked_at now) l.ends l.flights; flights = filter (λ (f : Flight). nat_lt now f.due) l.flights }

@@ -1,7 +1,6 @@
 //! Wires: the facilities of rank 0, which carry copies of frames.
 #![tactic(auto)]
 
-mod facility;
 mod flight;
 mod tick;
 mod wire;
