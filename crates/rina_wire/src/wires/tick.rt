@@ -39,4 +39,15 @@ impl Wires {
         }
         Ok(())
     }
+
+    /// One tick: the clock goes on, and the copies that are due arrive, wire by wire, each wire's in
+    /// the order in which they were made.
+    #[tactic(auto, using(crate::proofs::Sound::sound_ticks))]
+    pub fn tick(&mut self, alloc: Global) -> Result<(), TickError>
+        requires { IsSound self.old }
+        ensures valid { IsSound self.new }
+        ensures exact { TicksOn self.old result self.new }
+    {
+        self.go_on(alloc)
+    }
 }
