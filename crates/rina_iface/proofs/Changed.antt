@@ -1,5 +1,5 @@
 -- What stands in a list after one element was changed, and at a port.
-use Rattle.std.proofs.Common.{◌≡◌, ◌≢◌, ℕ, zero, suc, ◌<◌, ◌≤◌, List, [], ◌∷◌, slice_get, slice_set, get_or, Some, None, Option, option_and_then, refl, sym, ap, subst, All}
+use Rattle.std.proofs.Common.{◌≡◌, ◌≢◌, ℕ, zero, suc, List, [], ◌∷◌, slice_get, slice_set, Some, None, Option, option_and_then, refl, ap, subst, All}
 use Rattle.std.proofs.lemmas.Option.{get_or_from_slice_get, slice_get_within}
 use Rattle.std.proofs.lemmas.List.Elements.{All-get_or}
 use Rattle.rina_base.specs.declared.number.Port.{Port}

@@ -1,5 +1,5 @@
 -- What the exact clause of `allocate` says of the facilities that the wires are.
-use Rattle.std.proofs.Common.{◌≡◌, ℕ, ◌+◌, ◌<◌, ◌≤◌, ◌==◌, ◌||◌, eqb, cond, Bool, true, false, List, [], ◌∷◌, ◌++◌, length, map, Some, None, Option, option_and_then, option_map, Result, Ok, Err, refl, sym, ap, ◌∙◌, arith, rules, subst, inl, inr, ◌⊎◌}
+use Rattle.std.proofs.Common.{◌≡◌, ℕ, ◌+◌, ◌==◌, cond, true, false, [], ◌∷◌, Some, None, Option, option_and_then, option_map, Result, Ok, Err, refl, sym, ap, ◌∙◌, subst, inl, inr}
 use Rattle.std.specs.Option.{option_map_or}
 use Rattle.std.proofs.lemmas.Bool.Decides.{eqb_tells}
 use Rattle.std.proofs.lemmas.Option.{none-some}
@@ -9,10 +9,10 @@ use Rattle.rina_iface.specs.declared.error.AllocateError.{AllocateError}
 use Rattle.rina_iface.specs.declared.error.AllocateError.TheVariants.{Memory, NoMember, NoCube, NoSuchApp, SameSystem, NoIds, NoRoute, Busy, CountSpent}
 use Rattle.rina_iface.specs.declared.state.PortState.TheVariants.{Allocated}
 use Rattle.rina_iface.specs.Ends.{drawn_at}
-use Rattle.rina_iface.specs.Seen.{Fac, Offer, is_member, meets, offered}
+use Rattle.rina_iface.specs.Seen.{is_member, meets, offered}
 use Rattle.rina_iface.specs.Allocate.{Allocates, IsAsked, Makes, next_port, refused, refused_in, unless_offered}
-use Rattle.rina_wire.specs.Air.{Air, Goes, Line, fac_of, offer_of, seen_of, wire_at}
-use Rattle.rina_wire.specs.Allocate.{AllocatesOn, allocate_refusal, allocated, flow_made, flow_on, flow_refusal, other_node, port_drawn, port_on}
+use Rattle.rina_wire.specs.Air.{Air, Line, fac_of, offer_of, seen_of, wire_at}
+use Rattle.rina_wire.specs.Allocate.{AllocatesOn, allocate_refusal, allocated, flow_made, flow_on, flow_refusal, other_node, port_on}
 use Rattle.rina_wire.specs.Sound.{IsSound, IsSoundLine}
 use Rattle.rina_iface.proofs.Changed.{all_at}
 use Rattle.rina_wire.proofs.Seen.{fac_at, seen_on_wire}

@@ -1,21 +1,20 @@
 -- What the exact clauses of `send` and `pass` say of the facilities that the wires are.
-use Rattle.std.proofs.Common.{◌≡◌, ℕ, ◌+◌, ◌<◌, ◌≤◌, ◌^◌, ◌==◌, nat_le, Bool, true, false, List, [], ◌∷◌, ◌++◌, length, slice_get, slice_set, Some, None, Option, option_and_then, option_map, Result, Ok, Err, IsSome, All, refl, sym, ap, ◌∙◌, arith, rules, subst}
+use Rattle.std.proofs.Common.{◌≡◌, ℕ, List, length, slice_get, Some, None, Option, option_and_then, option_map, Result, Ok, Err, IsSome, refl, sym, ap, ◌∙◌, rules}
 use Rattle.std.specs.Option.{option_map_or}
 use Rattle.std.proofs.lemmas.Option.{none-some}
 use Rattle.rina_base.specs.declared.number.Num.{Num}
 use Rattle.rina_base.specs.declared.number.Port.{Port}
-use Rattle.rina_law.specs.declared.entry.Entry.{Entry}
 use Rattle.rina_iface.specs.declared.ends.End.{End}
 use Rattle.rina_iface.specs.declared.error.SendError.{SendError}
 use Rattle.rina_iface.specs.declared.error.SendError.TheVariants.{Memory, NotAllocated, TooLong, WindowShut, NoRoute, QueueFull, NumbersSpent, Failed as HasFailed}
 use Rattle.rina_iface.specs.declared.state.PortState.{PortState}
 use Rattle.rina_iface.specs.declared.state.PortState.TheVariants.{Pending, Allocated, Refused, Failed, Closed}
-use Rattle.rina_iface.specs.Ends.{end_in, place_in, with_passed, with_sent}
-use Rattle.rina_iface.specs.Seen.{Fac, Seen, Stands, cube_at, cube_in, end_of, largest_at, state_of, unpassed, with_end, with_fac}
+use Rattle.rina_iface.specs.Ends.{end_in, place_in}
+use Rattle.rina_iface.specs.Seen.{Fac, Stands, end_of, largest_at, unpassed, with_fac}
 use Rattle.rina_iface.specs.Send.{IsSent, Sends, by_length, by_state, refused}
 use Rattle.rina_iface.specs.Pass.{IsPassed}
-use Rattle.rina_wire.specs.Air.{Air, Goes, Line, end_at, fac_of, offer_of, on_end, put_end, seen_of, wire_at}
-use Rattle.rina_wire.specs.Send.{IsFrameSent, SendsOn, flight_of, frame_number, frame_refusal, frame_sent, passed, passed_at, send_refusal, sent_from}
+use Rattle.rina_wire.specs.Air.{Air, Line, end_at, fac_of, on_end, put_end, seen_of, wire_at}
+use Rattle.rina_wire.specs.Send.{SendsOn, frame_number, frame_refusal, frame_sent, passed, passed_at, send_refusal, sent_from}
 use Rattle.rina_wire.specs.Sound.{IsSound, IsSoundLine}
 use Rattle.rina_iface.proofs.Changed.{IsAt, all_at, end_has_place}
 use Rattle.rina_wire.proofs.Seen.{fac_at, seen_on_wire}
@@ -44,10 +43,10 @@ has_line a port e h = on_line a port e (wire_at a port.fac) refl h
 -- where the end is known, so is its place
 stands : (a : Air) (port : Port) (e : End) (on : IsOn a port e) → Stands (seen_of a) port (fac_of on.line) on.at.place e
 stands a port e on = record {
-    facility = fac_at a port.fac ∙ ap (option_map fac_of) on.wire;
-    place = on.at.found;
-    is = on.at.is;
-  }
+  facility = fac_at a port.fac ∙ ap (option_map fac_of) on.wire;
+  place = on.at.found;
+  is = on.at.is;
+}
 
 -- a change of the end of a port, seen
 seen_on_end : (a : Air) (port : Port) (change : Line → ℕ → End → Line) (e : End) (on : IsOn a port e) → seen_of (on_end a port change) ≡ with_fac (seen_of a) port.fac (fac_of (change on.line on.at.place e))

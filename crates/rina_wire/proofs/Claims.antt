@@ -1,13 +1,13 @@
 -- What the exact clause of `incoming` says of the facilities that the wires are.
-use Rattle.std.proofs.Common.{◌≡◌, ℕ, ◌<◌, ◌≤◌, Bool, true, false, List, [], ◌∷◌, get_or, slice_get, Some, None, Option, option_and_then, option_map, remove, refl, sym, ap, ◌∙◌, arith, rules, subst}
-use Rattle.std.proofs.lemmas.Option.{none-some, slice_get-get_or}
+use Rattle.std.proofs.Common.{◌≡◌, ℕ, true, List, get_or, slice_get, Some, None, Option, option_and_then, option_map, refl, sym, ap, ◌∙◌, subst}
+use Rattle.std.proofs.lemmas.Option.{slice_get-get_or}
 use Rattle.std.proofs.lemmas.List.Quantifiers.{position-Some}
 use Rattle.rina_base.specs.declared.number.Port.{Port}
 use Rattle.rina_iface.specs.declared.ends.End.{End}
-use Rattle.rina_iface.specs.Seen.{Fac, Seen, is_of, oldest_in}
-use Rattle.rina_iface.specs.Claim.{Claims, IsClaimed, NoneWaits}
-use Rattle.rina_wire.specs.Air.{Air, Line, fac_of, on_wire, seen_of, wire_at}
-use Rattle.rina_wire.specs.Claim.{ClaimsOn, claim_at, claim_in, claimed, waiting_end, without}
+use Rattle.rina_iface.specs.Seen.{is_of, oldest_in}
+use Rattle.rina_iface.specs.Claim.{Claims, IsClaimed}
+use Rattle.rina_wire.specs.Air.{Air, Line, fac_of, seen_of, wire_at}
+use Rattle.rina_wire.specs.Claim.{ClaimsOn, claim_in, claimed, waiting_end, without}
 use Rattle.rina_iface.proofs.Changed.{slice_set-same}
 use Rattle.rina_wire.proofs.Seen.{fac_at, seen_on_wire}
 
@@ -34,17 +34,17 @@ claims_none a fac node app l h o = (rw (fac_at a fac, h) o, refl)
 
 claims_some : (a : Air) (fac node : ℕ) (app : List ℕ) (l : Line) (at : ℕ) (w : Waits l at) → wire_at a fac ≡ Some l → oldest_in l.ends l.waiting node app ≡ Some at → IsClaimed (seen_of a) fac node app w.end.port (seen_of (claimed a fac node app))
 claims_some a fac node app l at w h o = record {
-    facility = fac_of l;
-    stands = fac_at a fac ∙ ap (option_map fac_of) h;
-    at = at;
-    oldest = o;
-    place = w.place;
-    waits = w.stands;
-    end = w.end;
-    is = w.is;
-    its_port = refl;
-    new_is = seen_on_wire a fac (λ (k : Line). without k (oldest_in k.ends k.waiting node app)) l h ∙ rw o refl;
-  }
+  facility = fac_of l;
+  stands = fac_at a fac ∙ ap (option_map fac_of) h;
+  at = at;
+  oldest = o;
+  place = w.place;
+  waits = w.stands;
+  end = w.end;
+  is = w.is;
+  its_port = refl;
+  new_is = seen_on_wire a fac (λ (k : Line). without k (oldest_in k.ends k.waiting node app)) l h ∙ rw o refl;
+}
 
 claims_end : (a : Air) (fac node : ℕ) (app : List ℕ) (r : Option Port) (l : Line) (k : Option ℕ) → wire_at a fac ≡ Some l → oldest_in l.ends l.waiting node app ≡ k → r ≡ option_map (λ (e : End). e.port) (option_and_then (λ at. waiting_end l at) k) → Claims (seen_of a) fac node app r (seen_of (claimed a fac node app))
 claims_end a fac node app r l None h o is =

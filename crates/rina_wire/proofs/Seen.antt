@@ -1,15 +1,12 @@
 -- What the exact clause of a call says of the facilities that the wires are.
-use Rattle.std.proofs.Common.{◌≡◌, ℕ, ◌+◌, ◌<◌, ◌≤◌, Bool, true, false, List, [], ◌∷◌, ◌++◌, length, map, slice_get, slice_set, Some, None, Option, option_and_then, option_map, Result, Ok, Err, All, refl, sym, ap, ◌∙◌, arith, rules, subst}
+use Rattle.std.proofs.Common.{◌≡◌, ℕ, List, slice_get, Some, None, Option, option_map, Result, Ok, Err, refl, sym, ap, ◌∙◌}
 use Rattle.std.proofs.lemmas.Option.{none-some, slice_get-map}
 use Rattle.std.proofs.lemmas.List.{map-set}
-use Rattle.rina_base.specs.declared.number.Num.{Num}
-use Rattle.rina_base.specs.declared.number.Port.{Port}
-use Rattle.rina_iface.specs.declared.ends.End.{End}
 use Rattle.rina_iface.specs.declared.error.RegisterError.{RegisterError}
 use Rattle.rina_iface.specs.declared.error.RegisterError.TheVariants.{Memory, Already, NoMember, CountSpent}
-use Rattle.rina_iface.specs.Seen.{Seen, Fac, with_fac}
+use Rattle.rina_iface.specs.Seen.{with_fac}
 use Rattle.rina_iface.specs.Register.{IsRegistered, Registers, refused, refused_in}
-use Rattle.rina_wire.specs.Air.{Air, Goes, Line, fac_of, failed_air, on_wire, put, seen_of, wire_at}
+use Rattle.rina_wire.specs.Air.{Air, Line, fac_of, on_wire, seen_of, wire_at}
 use Rattle.rina_wire.specs.Register.{RegistersOn, named, register_refusal, registered}
 
 -- a facility that is seen is the wire of its number
@@ -23,10 +20,10 @@ seen_on_wire a fac change l h = rw h (ap (λ fs. record { now = a.now; facs = fs
 registers_at : (a : Air) (fac node : ℕ) (app : List ℕ) (o : Option Line) → wire_at a fac ≡ o → refused_in (option_map fac_of o) node app None ≡ None → IsRegistered (seen_of a) fac node app (seen_of (registered a fac node app))
 registers_at a fac node app None h free = absurd (none-some NoMember (sym free))
 registers_at a fac node app (Some l) h free = record {
-    facility = fac_of l;
-    stands = fac_at a fac ∙ ap (option_map fac_of) h;
-    new_is = seen_on_wire a fac (named node app) l h;
-  }
+  facility = fac_of l;
+  stands = fac_at a fac ∙ ap (option_map fac_of) h;
+  new_is = seen_on_wire a fac (named node app) l h;
+}
 
 refused_register : (a : Air) (fac node : ℕ) (app : List ℕ) → refused (seen_of a) fac node app None ≡ register_refusal a fac node app
 refused_register a fac node app = ap (λ o. refused_in o node app None) (fac_at a fac)

@@ -1,10 +1,9 @@
 -- Wires that nobody has used yet.
-use Rattle.std.proofs.Common.{◌≡◌, ◌≢◌, ℕ, ◌≤◌, List, [], ◌∷◌, All, map, length, arith}
+use Rattle.std.proofs.Common.{◌≡◌, ℕ, List, All, map, length, arith}
 use Rattle.std.proofs.lemmas.List.Elements.{All-map, All-nil, All-weaker}
 use Rattle.rina_iface.specs.declared.ends.End.{End}
 use Rattle.rina_stack.specs.declared.plan.Plan.{Plan}
 use Rattle.rina_stack.specs.declared.plan.WirePlan.{WirePlan}
-use Rattle.rina_wire.specs.Air.{Line}
 use Rattle.rina_wire.specs.Plan.{IsSoundPlan, IsSoundWire, air_of, line_of}
 use Rattle.rina_wire.specs.Sound.{IsSound, IsSoundLine}
 

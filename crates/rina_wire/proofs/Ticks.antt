@@ -1,12 +1,12 @@
 -- One tick of a wire, copy by copy.
-use Rattle.std.proofs.Common.{add-one, suc, zero, length, map, take, drop, get_or, slice_set, ◌≡◌, ℕ, ◌+◌, ◌<◌, ◌≤◌, Bool, true, false, List, [], ◌∷◌, ◌++◌, nat_le, nat_lt, refl, sym, ap, ◌∙◌, arith, rules, inl, inr}
+use Rattle.std.proofs.Common.{add-one, suc, zero, length, map, take, drop, get_or, slice_set, ◌≡◌, ℕ, ◌+◌, ◌<◌, List, [], ◌∷◌, ◌++◌, nat_lt, refl, sym, ap, arith}
 use Rattle.std.proofs.lemmas.Grind.{common_steps}
 use Rattle.std.proofs.lemmas.List.{take_all}
 use Rattle.std.proofs.lemmas.List.Sums.{fold-append}
 use Rattle.std.proofs.lemmas.List.Elements.{filter-append}
 use Rattle.rina_wire.specs.declared.flight.Flight.{Flight}
 use Rattle.rina_wire.specs.Air.{Line}
-use Rattle.rina_wire.specs.Tick.{AllPart, IsPart, arrived, line_ticked, looked, looked_at}
+use Rattle.rina_wire.specs.Tick.{AllPart, IsPart, line_ticked, looked, looked_at}
 
 -- one more copy was looked at
 pub looked_more : (now : ℕ) (l : Line) (fs : List Flight) (f : Flight) → line_ticked now (record l { flights = fs ++ f ∷ [] }) ≡ looked now (line_ticked now (record l { flights = fs })) f

@@ -1,5 +1,5 @@
 -- `allocate` on wires.
-use Rattle.std.specs.Prelude.{◌≡◌, ℕ, ◌+◌, ◌==◌, ◌&&◌, nat_le, Bool, true, false, List, [], ◌∷◌, ◌++◌, length, find, Option, Some, None, Result, Ok, Err, option_and_then, option_map, if◌then◌else◌}
+use Rattle.std.specs.Prelude.{◌≡◌, ℕ, ◌+◌, ◌==◌, ◌&&◌, nat_le, Bool, true, false, [], ◌∷◌, ◌++◌, length, find, Option, Some, None, Result, Ok, Err, option_and_then, option_map, if◌then◌else◌}
 use Rattle.std.specs.Option.{option_map_or}
 use Rattle.rina_base.specs.declared.number.FlowName.{FlowName}
 use Rattle.rina_base.specs.declared.number.Port.{Port}
@@ -8,7 +8,7 @@ use Rattle.rina_iface.specs.declared.ends.End.{End}
 use Rattle.rina_iface.specs.declared.error.AllocateError.{AllocateError}
 use Rattle.rina_iface.specs.declared.error.AllocateError.TheVariants.{Memory, NoSuchApp, SameSystem, NoIds, Busy}
 use Rattle.rina_iface.specs.declared.state.PortState.{PortState}
-use Rattle.rina_iface.specs.declared.state.PortState.TheVariants.{Pending, Allocated, Refused, Failed, Closed}
+use Rattle.rina_iface.specs.declared.state.PortState.TheVariants.{Allocated}
 use Rattle.rina_iface.specs.Allocate.{asker_end, far_end, refused_in}
 use Rattle.rina_iface.specs.Seen.{is_registered}
 use Rattle.rina_wire.specs.Air.{Air, Line, Goes, fac_of, failed_air, on_wire, wire_at}

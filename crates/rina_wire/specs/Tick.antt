@@ -6,7 +6,7 @@ use Rattle.rina_iface.specs.Ends.{with_got}
 use Rattle.rina_wire.specs.declared.flight.Flight.{Flight}
 use Rattle.rina_wire.specs.declared.tick.TickError.{TickError}
 use Rattle.rina_wire.specs.declared.tick.TickError.TheVariants.{Memory, ClockSpent}
-use Rattle.rina_wire.specs.Air.{Air, Line, Goes, failed_air}
+use Rattle.rina_wire.specs.Air.{Air, Line, Goes}
 use Rattle.rina_wire.specs.Allocate.{is_allocated}
 use Rattle.rina_wire.specs.Send.{frame_number}
 
@@ -55,6 +55,7 @@ AllPart now ls ls' = ⊥
 -- memory ran out within the tick; which copies are in flight then is not said, since none will arrive
 pub record IsTorn (a a' : Air) : Type 0 where
   pub alive : a.failed ≡ false
+  pub refused : tick_refusal a ≡ None
   pub clock : a'.now ≡ a.now + 1
   pub failed : a'.failed ≡ true
   pub wires : AllPart (a.now + 1) a.wires a'.wires

@@ -57,7 +57,7 @@ impl Facility for Wires {
         Some(wire.largest())
     }
 
-    #[tactic(auto, using(crate::proofs::Seen::seen_registers), using(crate::proofs::Sound::sound_registers))]
+    #[tactic(auto, using(crate::proofs::Seen::seen_registers, crate::proofs::SoundRegister::sound_registers))]
     fn register(
         &mut self,
         alloc: Global,
@@ -74,7 +74,7 @@ impl Facility for Wires {
         self.enter_name(alloc, fac, node, app)
     }
 
-    #[tactic(auto, using(crate::proofs::Asked::seen_allocates), using(crate::proofs::Sound::sound_allocates))]
+    #[tactic(auto, using(crate::proofs::Asked::seen_allocates, crate::proofs::SoundAllocate::sound_allocates))]
     fn allocate(&mut self, alloc: Global, ask: &Ask) -> Result<Port, AllocateError>
         requires { IsSound self.old }
         ensures valid { IsSound self.new }
@@ -85,7 +85,7 @@ impl Facility for Wires {
         self.open_flow(alloc, ask)
     }
 
-    #[tactic(auto, using(crate::proofs::Claims::seen_claims), using(crate::proofs::Sound::sound_claims))]
+    #[tactic(auto, using(crate::proofs::Claims::seen_claims))]
     fn incoming(&mut self, fac: u16, node: Node, app: &AppName) -> Option<Port>
         requires { IsSound self.old }
         ensures valid { IsSound self.new }
@@ -96,7 +96,7 @@ impl Facility for Wires {
         self.claim(fac, node, app)
     }
 
-    #[tactic(auto, using(crate::proofs::Carried::seen_sends), using(crate::proofs::Sound::sound_sends))]
+    #[tactic(auto, using(crate::proofs::Carried::seen_sends, crate::proofs::SoundSend::sound_sends))]
     fn send(&mut self, alloc: Global, port: Port, sdu: &[u8]) -> Result<Num, SendError>
         requires { IsSound self.old }
         ensures valid { IsSound self.new }
@@ -116,7 +116,7 @@ impl Facility for Wires {
         })
     }
 
-    #[tactic(auto, using(crate::proofs::Carried::seen_passes), using(crate::proofs::Sound::sound_passed))]
+    #[tactic(auto, using(crate::proofs::Carried::seen_passes))]
     fn pass(&mut self, port: Port)
         requires valid { IsSound self.old }
         requires waits { IsSome (unpassed (seen_of self.old) port) }

@@ -42,7 +42,7 @@ impl Wires {
 
     /// One tick: the clock goes on, and the copies that are due arrive, wire by wire, each wire's in
     /// the order in which they were made.
-    #[tactic(auto, using(crate::proofs::Sound::sound_ticks))]
+    #[tactic(auto, using(crate::proofs::SoundTick::sound_ticks))]
     pub fn tick(&mut self, alloc: Global) -> Result<(), TickError>
         requires { IsSound self.old }
         ensures valid { IsSound self.new }
