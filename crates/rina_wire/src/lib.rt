@@ -2,6 +2,8 @@
 #![tactic(auto)]
 
 mod flight;
+#[cfg(test)]
+mod tests;
 mod tick;
 mod wire;
 mod wires;
