@@ -8,6 +8,7 @@ use Rattle.rina_iface.specs.declared.error.AllocateError.{AllocateError}
 use Rattle.rina_iface.specs.declared.error.AllocateError.TheVariants.{Memory, NoMember, NoCube}
 use Rattle.rina_iface.specs.declared.state.PortState.{PortState}
 use Rattle.rina_iface.specs.declared.state.PortState.TheVariants.{Pending, Allocated}
+use Rattle.rina_iface.specs.declared.state.Role.{Role}
 use Rattle.rina_iface.specs.declared.state.Role.TheVariants.{Asker, Far}
 use Rattle.rina_iface.specs.Ends.{drawn_at}
 use Rattle.rina_iface.specs.Seen.{Fac, Offer, Seen, is_member, offered, with_fac}
@@ -28,13 +29,17 @@ refused s ask own = refused_in (slice_get s.facs ask.fac) ask own
 abbrev pub next_port : Fac → ℕ → ℕ → Port
 next_port f fac node = record { fac = fac; node = node; n = drawn_at node f.ends + 1 }
 
+-- an end of a new flow
+abbrev pub new_end : FlowName → Role → Port → List ℕ → List ℕ → ℕ → PortState → End
+new_end flow role port app peer cube state = record { flow = flow; role = role; port = port; app = app; peer = peer; cube = cube; sent = []; got = []; taken = 0; state = state }
+
 -- the asker's end of a new flow
 abbrev pub asker_end : FlowName → Port → Ask → ℕ → PortState → End
-asker_end flow port ask cube state = record { flow = flow; role = Asker; port = port; app = ask.app; peer = ask.to; cube = cube; sent = []; got = []; taken = 0; state = state }
+asker_end flow port ask cube state = new_end flow Asker port ask.app ask.to cube state
 
 -- the far end of a new flow
 abbrev pub far_end : FlowName → Port → Ask → ℕ → End
-far_end flow port ask cube = record { flow = flow; role = Far; port = port; app = ask.to; peer = ask.app; cube = cube; sent = []; got = []; taken = 0; state = Allocated }
+far_end flow port ask cube = new_end flow Far port ask.to ask.app cube Allocated
 
 -- the asker's end was made; the far end is not there yet, or was made with it and waits to be claimed
 abbrev pub Makes : PortState → Fac → FlowName → Port → Ask → ℕ → Fac → Type 0

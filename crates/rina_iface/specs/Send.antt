@@ -6,7 +6,7 @@ use Rattle.rina_iface.specs.declared.ends.End.{End}
 use Rattle.rina_iface.specs.declared.error.SendError.{SendError}
 use Rattle.rina_iface.specs.declared.error.SendError.TheVariants.{Memory, NotAllocated, TooLong, Failed as HasFailed}
 use Rattle.rina_iface.specs.declared.state.PortState.{PortState}
-use Rattle.rina_iface.specs.declared.state.PortState.TheVariants.{Pending, Allocated, Refused, Failed, Closed}
+use Rattle.rina_iface.specs.declared.state.PortState.TheVariants.{Allocated, Failed}
 use Rattle.rina_iface.specs.Ends.{with_sent}
 use Rattle.rina_iface.specs.Seen.{Fac, Seen, Stands, largest_at, state_of, with_end, with_fac}
 

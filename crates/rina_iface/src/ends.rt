@@ -1,5 +1,5 @@
 //! The ends of flows, and a facility's journal of them.
-ghost use Rattle.std.specs.Prelude.{◌≡◌, ◌≤◌, ◌<◌, ◌++◌, ◌∷◌, [], length, slice_get, slice_set, OnOk, OnErr, IfSome, MatchOption};
+ghost use Rattle.std.specs.Prelude.{◌≡◌, ◌≤◌, ◌<◌, ◌^◌, ◌++◌, ◌∷◌, [], length, slice_get, slice_set, OnOk, OnErr, IfSome, MatchOption};
 ghost use Rattle.rina_iface.specs.Ends.{place_in, end_in, with_sent, with_got, with_passed};
 
 use crate::state::{PortState, Role};
@@ -62,7 +62,8 @@ impl Ends {
 
     /// How many ends there are.
     pub fn len(&self) -> usize
-        ensures { result ≡ length self.now }
+        ensures value { result ≡ length self.now }
+        ensures bound { result < 2 ^ 63 }
     {
         self.items.len()
     }
@@ -85,6 +86,7 @@ impl Ends {
     pub fn place(&self, port: Port) -> Option<usize>
         ensures at { result ≡ place_in port self.now }
         ensures within { IfSome result (λ i. i < length self.now) }
+        ensures bound { IfSome result (λ i. i < 2 ^ 63) }
     {
         self.items.iter().position(|end| end.port == port)
     }

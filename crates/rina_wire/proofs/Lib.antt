@@ -1,0 +1,11 @@
+pub mod Asked
+pub mod Carried
+pub mod Claims
+pub mod Seen
+pub mod Sound
+pub mod SoundAllocate
+pub mod SoundRegister
+pub mod SoundSend
+pub mod SoundTick
+pub mod Start
+pub mod Ticks

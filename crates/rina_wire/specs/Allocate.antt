@@ -1,5 +1,5 @@
 -- `allocate` on wires.
-use Rattle.std.specs.Prelude.{◌≡◌, ℕ, ◌+◌, ◌==◌, ◌&&◌, nat_le, Bool, true, false, List, [], ◌∷◌, ◌++◌, length, find, Option, Some, None, Result, Ok, Err, option_and_then, option_map, if◌then◌else◌}
+use Rattle.std.specs.Prelude.{◌≡◌, ℕ, ◌+◌, ◌==◌, ◌&&◌, nat_le, Bool, true, false, [], ◌∷◌, ◌++◌, length, find, Option, Some, None, Result, Ok, Err, option_and_then, option_map, if◌then◌else◌}
 use Rattle.std.specs.Option.{option_map_or}
 use Rattle.rina_base.specs.declared.number.FlowName.{FlowName}
 use Rattle.rina_base.specs.declared.number.Port.{Port}
@@ -8,7 +8,7 @@ use Rattle.rina_iface.specs.declared.ends.End.{End}
 use Rattle.rina_iface.specs.declared.error.AllocateError.{AllocateError}
 use Rattle.rina_iface.specs.declared.error.AllocateError.TheVariants.{Memory, NoSuchApp, SameSystem, NoIds, Busy}
 use Rattle.rina_iface.specs.declared.state.PortState.{PortState}
-use Rattle.rina_iface.specs.declared.state.PortState.TheVariants.{Pending, Allocated, Refused, Failed, Closed}
+use Rattle.rina_iface.specs.declared.state.PortState.TheVariants.{Allocated}
 use Rattle.rina_iface.specs.Allocate.{asker_end, far_end, refused_in}
 use Rattle.rina_iface.specs.Seen.{is_registered}
 use Rattle.rina_wire.specs.Air.{Air, Line, Goes, fac_of, failed_air, on_wire, wire_at}
@@ -44,13 +44,15 @@ port_on l fac node = record { fac = fac; node = node; n = l.flows + 1 }
 abbrev pub flow_on : Line → ℕ → ℕ → FlowName
 flow_on l now node = record { src = node + 1; tick = now; count = l.flows }
 
--- the wire with one more flow, both ends of which are allocated; the far end waits to be claimed
+-- the wire with both ends of one more flow; the far end waits to be claimed
+abbrev pub with_ends : Line → End → End → Line
+with_ends l asker far = record l { ends = l.ends ++ asker ∷ far ∷ []; waiting = l.waiting ++ (length l.ends + 1) ∷ []; flows = l.flows + 1 }
+
+-- the wire with one more flow, both ends of which are allocated
 abbrev pub flow_made : ℕ → Ask → Line → Line
-flow_made now ask l = record l {
-  ends = l.ends ++ asker_end (flow_on l now ask.node) (port_on l ask.fac ask.node) ask 0 Allocated ∷ far_end (flow_on l now ask.node) (port_on l ask.fac (other_node l ask.node)) ask 0 ∷ [];
-  waiting = l.waiting ++ (length l.ends + 1) ∷ [];
-  flows = l.flows + 1;
-}
+flow_made now ask l =
+    let flow = flow_on l now ask.node in
+    with_ends l (asker_end flow (port_on l ask.fac ask.node) ask 0 Allocated) (far_end flow (port_on l ask.fac (other_node l ask.node)) ask 0)
 
 -- the wires after the flow was asked for
 abbrev pub allocated : Air → Ask → Air

@@ -1,5 +1,5 @@
 -- `send` and `pass` on wires.
-use Rattle.std.specs.Prelude.{◌≡◌, ℕ, ◌+◌, ◌-◌, ◌%◌, ◌^◌, ◌==◌, nat_le, List, [], ◌∷◌, ◌++◌, length, slice_set, Option, Some, None, Result, Ok, Err, option_and_then, option_map, if◌then◌else◌}
+use Rattle.std.specs.Prelude.{◌≡◌, ℕ, ◌+◌, ◌-◌, ◌%◌, ◌^◌, ◌==◌, nat_le, List, [], ◌∷◌, ◌++◌, length, slice_get, slice_set, Option, Some, None, Result, Ok, Err, option_and_then, option_map, if◌then◌else◌}
 use Rattle.std.specs.Option.{option_map_or}
 use Rattle.rina_base.specs.declared.number.Num.{Num}
 use Rattle.rina_base.specs.declared.number.Port.{Port}
@@ -32,13 +32,13 @@ mate place = if place % 2 == 0 then place + 1 else place - 1
 abbrev pub flight_of : ℕ → List ℕ → Line → ℕ → Flight
 flight_of now bytes l place = record { to = mate place; frame = l.frames; sent = now; due = now + l.delay; bytes = bytes }
 
+-- the wire with this copy in flight, and this entry noted by the end that sent it
+abbrev pub launched : Line → ℕ → End → Flight → Entry → Line
+launched l place e flight x = record l { ends = slice_set l.ends place (with_sent e x); frames = l.frames + 1; flights = l.flights ++ flight ∷ [] }
+
 -- the wire after the end at this place sent a frame
 abbrev pub sent_from : ℕ → List ℕ → Line → ℕ → End → Line
-sent_from now bytes l place e = record l {
-  ends = slice_set l.ends place (with_sent e (record { tick = now; num = frame_number l.frames; bytes = bytes }));
-  frames = l.frames + 1;
-  flights = l.flights ++ flight_of now bytes l place ∷ [];
-}
+sent_from now bytes l place e = launched l place e (flight_of now bytes l place) (record { tick = now; num = frame_number l.frames; bytes = bytes })
 
 -- the wires after the SDU was sent
 abbrev pub frame_sent : Air → Port → List ℕ → Air
@@ -55,6 +55,14 @@ SendsOn a port bytes (Ok num) a' = IsFrameSent a port (send_refusal a port (leng
 SendsOn a port bytes (Err Memory) a' = a' ≡ failed_air a
 SendsOn a port bytes (Err e) a' = Goes a (send_refusal a port (length bytes)) (Some e) a a'
 
+-- the oldest entry of the port's end that was not passed yet
+abbrev pub unpassed_at : Air → Port → Option Entry
+unpassed_at a port = option_and_then (λ (e : End). slice_get e.got e.taken) (end_at a port)
+
+-- the wire after the oldest entry of the end at this place was passed
+abbrev pub passed_at : Line → ℕ → End → Line
+passed_at l place e = record l { ends = slice_set l.ends place (with_passed e) }
+
 -- the wires after the oldest entry of the port's end was passed
 abbrev pub passed : Air → Port → Air
-passed a port = on_end a port (λ (l : Line) place e. record l { ends = slice_set l.ends place (with_passed e) })
+passed a port = on_end a port passed_at

@@ -6,7 +6,7 @@ use Rattle.rina_iface.specs.Ends.{with_got}
 use Rattle.rina_wire.specs.declared.flight.Flight.{Flight}
 use Rattle.rina_wire.specs.declared.tick.TickError.{TickError}
 use Rattle.rina_wire.specs.declared.tick.TickError.TheVariants.{Memory, ClockSpent}
-use Rattle.rina_wire.specs.Air.{Air, Line, Goes, failed_air}
+use Rattle.rina_wire.specs.Air.{Air, Line, Goes}
 use Rattle.rina_wire.specs.Allocate.{is_allocated}
 use Rattle.rina_wire.specs.Send.{frame_number}
 
@@ -21,6 +21,14 @@ arrived_at now f ends (Some e) = if is_allocated e.state then slice_set ends f.t
 -- the ends after a copy was looked at: where it is due it arrives, at an end that is allocated
 abbrev pub looked_at : ℕ → List End → Flight → List End
 looked_at now ends f = if nat_le f.due now then arrived_at now f ends (slice_get ends f.to) else ends
+
+-- the wire after a copy arrived
+abbrev pub arrived : ℕ → Line → Flight → Line
+arrived now l f = record l { ends = arrived_at now f l.ends (slice_get l.ends f.to) }
+
+-- the wire after a copy was looked at: it arrives where it is due, and else stays in flight
+abbrev pub looked : ℕ → Line → Flight → Line
+looked now l f = if nat_le f.due now then arrived now l f else record l { flights = l.flights ++ f ∷ [] }
 
 -- the wire after the copies that are due by now have arrived, in the order in which they were made
 abbrev pub line_ticked : ℕ → Line → Line
@@ -47,6 +55,7 @@ AllPart now ls ls' = ⊥
 -- memory ran out within the tick; which copies are in flight then is not said, since none will arrive
 pub record IsTorn (a a' : Air) : Type 0 where
   pub alive : a.failed ≡ false
+  pub refused : tick_refusal a ≡ None
   pub clock : a'.now ≡ a.now + 1
   pub failed : a'.failed ≡ true
   pub wires : AllPart (a.now + 1) a.wires a'.wires

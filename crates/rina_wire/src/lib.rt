@@ -1,8 +1,9 @@
 //! Wires: the facilities of rank 0, which carry copies of frames.
 #![tactic(auto)]
 
-mod facility;
 mod flight;
+#[cfg(test)]
+mod tests;
 mod tick;
 mod wire;
 mod wires;

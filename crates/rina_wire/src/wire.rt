@@ -1,5 +1,5 @@
 //! One wire.
-ghost use Rattle.std.specs.Prelude.{◌≡◌, ◌+◌, ◌<◌, ◌≤◌, ◌^◌, ◌∷◌, [], length, slice_get, find, option_map, remove, OnOk, OnErr, IfOk, IfSome, MatchOption};
+ghost use Rattle.std.specs.Prelude.{◌≡◌, ◌+◌, ◌<◌, ◌≤◌, ◌∷◌, [], length, slice_get, find, option_map, remove, OnOk, OnErr, IfOk, IfSome, IsTrue, ◌↔◌, MatchOption, Some, None, ◌^◌};
 ghost use Rattle.rina_iface.specs.declared.ends.End.{End};
 ghost use Rattle.rina_iface.specs.declared.state.PortState.TheVariants.{Allocated};
 ghost use Rattle.rina_iface.specs.Ends.{end_in, place_in};
@@ -9,8 +9,14 @@ ghost use Rattle.rina_wire.specs.Allocate.{flow_made, flow_on, is_allocated, is_
 ghost use Rattle.rina_wire.specs.Claim.{claim_in, without};
 ghost use Rattle.rina_wire.specs.Plan.{line_of};
 ghost use Rattle.rina_wire.specs.Register.{named};
+ghost use Rattle.rina_wire.specs.Send.{flight_of, mate, passed_at, sent_from};
+
+mod flow;
+mod frame;
+mod tick;
 
 use crate::flight::Flight;
+pub use frame::frame_number;
 use rina_base::{AppName, FlowName, Memory, Node, Port, Tick};
 use rina_cube::Want;
 use rina_iface::{Ask, End, Ends, Entries, Journal, PortState, Registered, Role};
@@ -181,5 +187,46 @@ impl Wire {
         ensures { result ≡ option_map (λ (e : End). e.port) (find (is_busy node) self.now.ends) }
     {
         busy(self.journal.ends.as_slice(), node)
+    }
+
+    /// Whether a frame more can have a number.
+    pub fn is_spent(&self) -> bool
+        ensures { IsTrue result ↔ (2 ^ 63 ≤ self.now.frames) }
+    {
+        self.frames >= 1 << 63
+    }
+
+    /// The place of a port's end.
+    pub fn place(&self, port: Port) -> Option<usize>
+        ensures at { result ≡ place_in port self.now.ends }
+        ensures within { IfSome result (λ i. i < length self.now.ends) }
+        ensures bound { IfSome result (λ i. i < 2 ^ 63) }
+    {
+        self.journal.ends.place(port)
+    }
+
+    /// The end at a place.
+    pub fn end(&self, place: usize) -> Option<&End>
+        ensures { MatchOption result (length self.now.ends ≤ place) (λ e. slice_get self.now.ends place ≡ Some e.now) }
+    {
+        self.journal.ends.get(place)
+    }
+
+    /// The end of a port.
+    pub fn find(&self, port: Port) -> Option<&End>
+        ensures { MatchOption result (end_in port self.now.ends ≡ None) (λ e. end_in port self.now.ends ≡ Some e.now) }
+    {
+        self.journal.ends.find(port)
+    }
+
+    /// Claims the oldest far end of an application at a node that nobody claimed yet.
+    pub fn claim(&mut self, node: Node, app: &AppName) -> Option<Port>
+        ensures answers { result ≡ option_map (λ (e : End). e.port) (claim_in self.old node app.now) }
+        ensures line { self.new ≡ without self.old (oldest_in self.old.ends self.old.waiting node app.now) }
+    {
+        let at = oldest(&self.journal.ends, self.waiting.as_slice(), node, app)?;
+        let place = self.waiting.remove(at);
+        let end = self.journal.ends.get(place)?;
+        Some(end.port)
     }
 }

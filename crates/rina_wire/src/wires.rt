@@ -1,15 +1,21 @@
 //! All wires.
-ghost use Rattle.std.specs.Prelude.{◌≡◌, ◌+◌, ◌<◌, ◌≤◌, length, slice_get, OnOk, IfOk, MatchOption};
-ghost use Rattle.rina_iface.specs.declared.ends.End.{End};
+ghost use Rattle.std.specs.Prelude.{◌≡◌, ◌+◌, ◌<◌, ◌≤◌, length, slice_get, map, IfOk, MatchOption};
 ghost use Rattle.rina_wire.specs.Air.{end_at};
+ghost use Rattle.rina_wire.specs.Plan.{IsSoundPlan, air_of, line_of};
+ghost use Rattle.rina_wire.specs.Sound.{IsSound};
+
+mod calls;
+mod facility;
+mod tick;
 
 use crate::wire::Wire;
-use rina_base::{AppName, Node, Port, Tick};
-use rina_iface::{End, RegisterError};
-use std::alloc::Global;
+use rina_base::{Memory, Port, Tick};
+use rina_iface::End;
+use rina_stack::{Plan, WirePlan};
+use std::alloc::{AllocError, Global};
 use std::marker::Model;
 
-/// The wires of a stack, and the clock. A contract sees an `Air`.
+/// The wires of a stack, and the clock.
 #[derive(Drop)]
 pub struct Wires {
     clock: Tick,
@@ -23,4 +29,38 @@ impl Model for Wires {
     ghost Value = { Air };
 
     ghost view = { λ w. record { now = w.clock; wires = w.wires.items; failed = w.failed } };
+}
+
+/// A wire for each that is planned.
+fn lay(alloc: Global, plans: &[WirePlan]) -> Result<Vec<Wire>, AllocError>
+    ensures { IfOk result (λ wires. wires.items ≡ map line_of plans.now) }
+{
+    let mut wires = Vec::new(alloc);
+    for plan in plans {
+        wires.push(Wire::new(alloc, plan))?;
+    }
+    Ok(wires)
+}
+
+impl Wires {
+    /// The wires of a plan at tick 0. Nobody has used them yet.
+    #[tactic(auto, using(crate::proofs::Start::sound_start))]
+    pub fn new(alloc: Global, plan: &Plan) -> Result<Wires, Memory>
+        requires { IsSoundPlan plan.now }
+        ensures valid { IfOk result (λ w. IsSound w) }
+        ensures exact { IfOk result (λ w. w ≡ air_of plan.now) }
+    {
+        Ok(Wires {
+            clock: 0,
+            wires: lay(alloc, plan.wires.as_slice())?,
+            failed: false,
+        })
+    }
+
+    /// The end of a port.
+    fn end(&self, port: Port) -> Option<&End>
+        ensures { MatchOption result (end_at self.now port ≡ None) (λ e. end_at self.now port ≡ Some e.now) }
+    {
+        self.wires.get(port.fac as usize)?.find(port)
+    }
 }

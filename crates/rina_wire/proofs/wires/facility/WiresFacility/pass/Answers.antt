@@ -1,0 +1,7 @@
+use Rattle.std.proofs.Common.{sym, subst}
+use Rattle.rina_wire.specs.Sound.{IsSound}
+use Rattle.rina_wire.proofs.Sound.{sound_passed}
+use Rattle.rina_wire.proofs.wires.facility.WiresFacility.pass.Goals as goal
+
+pub returns-clause-valid : goal.returns-clause-valid
+returns-clause-valid c = subst IsSound (sym c.pass_oldest.ensures) (sound_passed _ _ c.requires.valid)

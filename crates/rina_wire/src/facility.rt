@@ -1,1 +1,0 @@
-//! Wires as facilities.

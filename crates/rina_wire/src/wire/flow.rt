@@ -1,0 +1,92 @@
+//! A new flow on a wire.
+ghost use Rattle.std.specs.Prelude.{◌≡◌, ◌<◌, OnOk, OnErr, IfOk};
+ghost use Rattle.rina_iface.specs.declared.state.PortState.TheVariants.{Allocated};
+ghost use Rattle.rina_iface.specs.Allocate.{new_end};
+ghost use Rattle.rina_wire.specs.Allocate.{flow_made, flow_on, port_on, with_ends};
+
+use super::Wire;
+use rina_base::{AppName, FlowName, Memory, Node, Port, Tick};
+use rina_iface::{Ask, End, Entries, PortState, Role};
+use std::alloc::Global;
+
+/// An end of a new flow, which is allocated at once.
+fn new_end(
+    alloc: Global,
+    flow: FlowName,
+    role: Role,
+    port: Port,
+    app: &AppName,
+    peer: &AppName,
+) -> Result<End, Memory>
+    ensures { IfOk result (λ e. e ≡ new_end flow role port app.now peer.now 0 Allocated) }
+{
+    Ok(End {
+        flow,
+        role,
+        port,
+        app: app.copy(alloc)?,
+        peer: peer.copy(alloc)?,
+        cube: 0,
+        sent: Entries::new(alloc),
+        got: Entries::new(alloc),
+        taken: 0,
+        state: PortState::Allocated,
+    })
+}
+
+impl Wire {
+    /// The port of either end of the next flow.
+    pub fn port_on(&self, fac: u16, node: Node) -> Port
+        requires { self.now.flows < 4294967295 }
+        ensures { result ≡ port_on self.now fac node }
+    {
+        Port {
+            fac,
+            node,
+            n: self.flows + 1,
+        }
+    }
+
+    /// The name of the next flow.
+    fn flow_on(&self, clock: Tick, node: Node) -> FlowName
+        ensures { result ≡ flow_on self.now clock node }
+    {
+        FlowName {
+            src: u32::from(node) + 1,
+            tick: clock,
+            count: self.flows,
+        }
+    }
+
+    /// Adds both ends of a flow.
+    fn add_ends(&mut self, asker: End, far: End) -> Result<(), Memory>
+        requires { self.old.flows < 4294967295 }
+        ensures ok { OnOk result (self.new ≡ with_ends self.old asker far) }
+        ensures err { OnErr result (self.new ≡ self.old) }
+    {
+        let place = self.journal.ends.len() + 1;
+        if self.waiting.push(place).is_err() {
+            return Err(Memory);
+        }
+        if self.journal.ends.push_both(asker, far).is_err() {
+            let _ = self.waiting.pop();
+            return Err(Memory);
+        }
+        self.flows += 1;
+        Ok(())
+    }
+
+    /// Makes a flow, both ends of which are allocated; the far end waits to be claimed.
+    pub fn make_flow(&mut self, alloc: Global, clock: Tick, ask: &Ask) -> Result<(), Memory>
+        requires { self.old.flows < 4294967295 }
+        ensures ok { OnOk result (self.new ≡ flow_made clock ask.now self.old) }
+        ensures err { OnErr result (self.new ≡ self.old) }
+    {
+        let flow = self.flow_on(clock, ask.node);
+        let near = self.port_on(ask.fac, ask.node);
+        let other = self.port_on(ask.fac, self.other_node(ask.node));
+        let asker = new_end(alloc, flow, Role::Asker, near, &ask.app, &ask.to)?;
+        let far = new_end(alloc, flow, Role::Far, other, &ask.to, &ask.app)?;
+        self.add_ends(asker, far)
+    }
+}

@@ -1,0 +1,158 @@
+//! What each call does, exactly.
+ghost use Rattle.std.specs.Prelude.{◌≡◌, ◌<◌, ◌≤◌, ◌+◌, ◌^◌, All, IsSome, Some, length, slice_get, option_and_then};
+ghost use Rattle.rina_iface.specs.declared.ends.End.{End};
+ghost use Rattle.rina_wire.specs.Air.{Line, end_at};
+ghost use Rattle.rina_wire.specs.Allocate.{AllocatesOn};
+ghost use Rattle.rina_wire.specs.Claim.{ClaimsOn};
+ghost use Rattle.rina_wire.specs.Register.{RegistersOn};
+ghost use Rattle.rina_wire.specs.Send.{SendsOn, passed, unpassed_at};
+ghost use Rattle.rina_wire.specs.Sound.{IsSoundLine};
+
+use super::Wires;
+use crate::wire::frame_number;
+use rina_base::{AppName, Node, Num, Port};
+use rina_iface::{AllocateError, Ask, PortState, RegisterError, SendError};
+use std::alloc::Global;
+
+impl Wires {
+    /// Registers an application at a node.
+    pub(super) fn enter_name(
+        &mut self,
+        alloc: Global,
+        fac: u16,
+        node: Node,
+        app: &AppName,
+    ) -> Result<(), RegisterError>
+        ensures { RegistersOn self.old fac node app.now result self.new }
+    {
+        if self.failed {
+            return Err(RegisterError::Memory);
+        }
+        let Some(wire) = self.wires.get(fac as usize) else {
+            return Err(RegisterError::NoMember);
+        };
+        if wire.has_name(node, app) {
+            return Err(RegisterError::Already);
+        }
+        if !wire.is_at(node) {
+            return Err(RegisterError::NoMember);
+        }
+        if self.wires[fac as usize].add_name(alloc, node, app).is_err() {
+            self.failed = true;
+            return Err(RegisterError::Memory);
+        }
+        Ok(())
+    }
+
+    /// Asks for a flow.
+    pub(super) fn open_flow(&mut self, alloc: Global, ask: &Ask) -> Result<Port, AllocateError>
+        ensures { AllocatesOn self.old ask.now result self.new }
+    {
+        if self.failed {
+            return Err(AllocateError::Memory);
+        }
+        let Some(wire) = self.wires.get(ask.fac as usize) else {
+            return Err(AllocateError::NoMember);
+        };
+        if !wire.is_at(ask.node) {
+            return Err(AllocateError::NoMember);
+        }
+        if !wire.meets(&ask.want) {
+            return Err(AllocateError::NoCube);
+        }
+        if !wire.has_name(wire.other_node(ask.node), &ask.to) {
+            if wire.has_name(ask.node, &ask.to) {
+                return Err(AllocateError::SameSystem);
+            }
+            return Err(AllocateError::NoSuchApp);
+        }
+        if wire.flows() == u32::MAX {
+            return Err(AllocateError::NoIds { used: u32::MAX });
+        }
+        if let Some(port) = wire.busy(ask.node) {
+            return Err(AllocateError::Busy { port });
+        }
+        let port = wire.port_on(ask.fac, ask.node);
+        if self.wires[ask.fac as usize]
+            .make_flow(alloc, self.clock, ask)
+            .is_err()
+        {
+            self.failed = true;
+            return Err(AllocateError::Memory);
+        }
+        Ok(port)
+    }
+
+    /// Claims the oldest far end of an application at a node that nobody claimed yet.
+    pub(super) fn claim(&mut self, fac: u16, node: Node, app: &AppName) -> Option<Port>
+        ensures { ClaimsOn self.old fac node app.now result self.new }
+    {
+        self.wires.get(fac as usize)?;
+        self.wires[fac as usize].claim(node, app)
+    }
+
+    /// Sends a frame.
+    pub(super) fn send_frame(
+        &mut self,
+        alloc: Global,
+        port: Port,
+        sdu: &[u8],
+    ) -> Result<Num, SendError>
+        requires clock { self.old.now ≤ 10_000_000 }
+        requires lines { All IsSoundLine self.old.wires }
+        ensures { SendsOn self.old port sdu.now result self.new }
+    {
+        if self.failed {
+            return Err(SendError::Memory);
+        }
+        let Some(wire) = self.wires.get(port.fac as usize) else {
+            return Err(SendError::NotAllocated { state: None });
+        };
+        let Some(place) = wire.place(port) else {
+            return Err(SendError::NotAllocated { state: None });
+        };
+        let Some(end) = wire.end(place) else {
+            return Err(SendError::NotAllocated { state: None });
+        };
+        match end.state {
+            PortState::Allocated => {}
+            PortState::Failed(fail) => return Err(SendError::Failed { fail }),
+            state => return Err(SendError::NotAllocated { state: Some(state) }),
+        }
+        if sdu.len() > wire.largest() as usize {
+            return Err(SendError::TooLong {
+                len: sdu.len(),
+                max: wire.largest(),
+            });
+        }
+        if wire.is_spent() {
+            return Err(SendError::NumbersSpent { until: u32::MAX });
+        }
+        let num = frame_number(wire.frames());
+        if self.wires[port.fac as usize]
+            .send(alloc, self.clock, place, sdu)
+            .is_err()
+        {
+            self.failed = true;
+            return Err(SendError::Memory);
+        }
+        Ok(num)
+    }
+
+    /// Marks the oldest entry of a port's end as passed.
+    pub(super) fn pass_oldest(&mut self, port: Port)
+        requires { IsSome (unpassed_at self.old port) }
+        ensures { self.new ≡ passed self.old port }
+    {
+        let Some(wire) = self.wires.get(port.fac as usize) else {
+            unreachable!()
+        };
+        let Some(place) = wire.place(port) else {
+            unreachable!()
+        };
+        let Some(_end) = wire.end(place) else {
+            unreachable!()
+        };
+        self.wires[port.fac as usize].pass(place);
+    }
+}

@@ -1,0 +1,136 @@
+//! Wires as facilities.
+ghost use Rattle.std.specs.Prelude.{◌≡◌, ◌≤◌, ℕ, Option, Some, None, IsSome, MatchOption, List, length, slice_get, option_map, option_and_then};
+ghost use Rattle.rina_iface.specs.Seen.{Fac, unpassed};
+ghost use Rattle.rina_iface.specs.Register.{Registers, refused as register_refused};
+ghost use Rattle.rina_iface.specs.Allocate.{Allocates, refused as allocate_refused};
+ghost use Rattle.rina_iface.specs.Claim.{Claims};
+ghost use Rattle.rina_iface.specs.Send.{Sends, refused as send_refused};
+ghost use Rattle.rina_iface.specs.Pass.{IsPassed};
+ghost use Rattle.rina_wire.specs.Air.{seen_of, wire_at};
+ghost use Rattle.rina_wire.specs.Allocate.{AllocatesOn, flow_refusal};
+ghost use Rattle.rina_wire.specs.Claim.{ClaimsOn};
+ghost use Rattle.rina_wire.specs.Register.{RegistersOn};
+ghost use Rattle.rina_wire.specs.Send.{SendsOn, frame_refusal, passed};
+ghost use Rattle.rina_wire.specs.Sound.{IsSound};
+
+use super::Wires;
+use rina_base::{AppName, Node, Num, Port, Tick};
+use rina_iface::{
+    AllocateError, Ask, Facility, Journal, Lent, PortState, RegisterError, SendError,
+};
+use std::alloc::Global;
+
+impl Facility for Wires {
+    ghost seen = { seen_of };
+
+    ghost valid = { IsSound };
+
+    ghost same_below = { λ _ _. Unit {0} };
+
+    ghost refuses_register = { λ a fac node app. None };
+
+    ghost refuses_allocate = { λ a ask. option_and_then (λ l. flow_refusal l ask) (wire_at a ask.fac) };
+
+    ghost refuses_send = { λ a port len. option_and_then frame_refusal (wire_at a port.fac) };
+
+    fn now(&self) -> Tick {
+        self.clock
+    }
+
+    fn journal(&self, fac: u16) -> Option<&Journal> {
+        Some(self.wires.get(fac as usize)?.journal())
+    }
+
+    fn state(&self, port: Port) -> Option<PortState> {
+        Some(self.end(port)?.state)
+    }
+
+    fn promise(&self, port: Port) -> Option<u32> {
+        let wire = self.wires.get(port.fac as usize)?;
+        wire.find(port)?;
+        Some(wire.life())
+    }
+
+    fn largest(&self, port: Port) -> Option<u32> {
+        let wire = self.wires.get(port.fac as usize)?;
+        wire.find(port)?;
+        Some(wire.largest())
+    }
+
+    #[tactic(auto, using(crate::proofs::Seen::seen_registers, crate::proofs::SoundRegister::sound_registers))]
+    fn register(
+        &mut self,
+        alloc: Global,
+        fac: u16,
+        node: Node,
+        app: &AppName,
+    ) -> Result<(), RegisterError>
+        requires { IsSound self.old }
+        ensures valid { IsSound self.new }
+        ensures below { Unit {0} }
+        ensures does { Registers (register_refused (seen_of self.old) fac node app.now None) (seen_of self.old) fac node app.now result (seen_of self.new) }
+        ensures exact { RegistersOn self.old fac node app.now result self.new }
+    {
+        self.enter_name(alloc, fac, node, app)
+    }
+
+    #[tactic(auto, using(crate::proofs::Asked::seen_allocates, crate::proofs::SoundAllocate::sound_allocates))]
+    fn allocate(&mut self, alloc: Global, ask: &Ask) -> Result<Port, AllocateError>
+        requires { IsSound self.old }
+        ensures valid { IsSound self.new }
+        ensures below { Unit {0} }
+        ensures does { Allocates (allocate_refused (seen_of self.old) ask.now (option_and_then (λ l. flow_refusal l ask.now) (wire_at self.old ask.now.fac))) (seen_of self.old) ask.now result (seen_of self.new) }
+        ensures exact { AllocatesOn self.old ask.now result self.new }
+    {
+        self.open_flow(alloc, ask)
+    }
+
+    #[tactic(auto, using(crate::proofs::Claims::seen_claims))]
+    fn incoming(&mut self, fac: u16, node: Node, app: &AppName) -> Option<Port>
+        requires { IsSound self.old }
+        ensures valid { IsSound self.new }
+        ensures below { Unit {0} }
+        ensures does { Claims (seen_of self.old) fac node app.now result (seen_of self.new) }
+        ensures exact { ClaimsOn self.old fac node app.now result self.new }
+    {
+        self.claim(fac, node, app)
+    }
+
+    #[tactic(auto, using(crate::proofs::Carried::seen_sends, crate::proofs::SoundSend::sound_sends))]
+    fn send(&mut self, alloc: Global, port: Port, sdu: &[u8]) -> Result<Num, SendError>
+        requires { IsSound self.old }
+        ensures valid { IsSound self.new }
+        ensures below { Unit {0} }
+        ensures does { Sends (send_refused (seen_of self.old) port (length sdu.now) (option_and_then frame_refusal (wire_at self.old port.fac))) (seen_of self.old) port sdu.now result (seen_of self.new) }
+        ensures exact { SendsOn self.old port sdu.now result self.new }
+    {
+        self.send_frame(alloc, port, sdu)
+    }
+
+    fn peek(&self, port: Port) -> Option<Lent<'_>> {
+        let end = self.end(port)?;
+        let entry = end.got.get(end.taken as usize)?;
+        Some(Lent {
+            at: entry.tick,
+            bytes: entry.bytes.as_slice(),
+        })
+    }
+
+    #[tactic(auto, using(crate::proofs::Carried::seen_passes))]
+    fn pass(&mut self, port: Port)
+        requires valid { IsSound self.old }
+        requires waits { IsSome (unpassed (seen_of self.old) port) }
+        ensures valid { IsSound self.new }
+        ensures below { Unit {0} }
+        ensures does { IsPassed (seen_of self.old) port (seen_of self.new) }
+        ensures exact { self.new ≡ passed self.old port }
+    {
+        self.pass_oldest(port);
+    }
+
+    ghost same_refl = { λ a. tt };
+
+    ghost same_trans = { λ a b d h g. tt };
+
+    ghost clock_ends = { λ a s. s.clock };
+}
