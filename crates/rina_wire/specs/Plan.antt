@@ -1,19 +1,9 @@
 -- The wires of a plan.
-use Rattle.std.specs.Prelude.{◌≢◌, ℕ, ◌<◌, ◌≤◌, All, false, [], length, map}
+use Rattle.std.specs.Prelude.{All, false, [], length, map}
 use Rattle.rina_stack.specs.declared.plan.Plan.{Plan}
 use Rattle.rina_stack.specs.declared.plan.WirePlan.{WirePlan}
+use Rattle.rina_stack.specs.Plan.{IsSoundWire}
 use Rattle.rina_wire.specs.Air.{Air, Line}
-
--- a wire lies between two systems of the stack, and its numbers are within their limits
-pub record IsSoundWire (nodes : ℕ) (w : WirePlan) : Type 0 where
-  pub a : w.a < nodes
-  pub b : w.b < nodes
-  pub apart : w.a ≢ w.b
-  pub least_delay : 1 ≤ w.delay
-  pub delay : w.delay ≤ w.life
-  pub life : w.life ≤ 100000
-  pub least_largest : 1 ≤ w.largest
-  pub largest : w.largest ≤ 65535
 
 -- all wires of the plan are sound
 abbrev pub IsSoundPlan : Plan → Type 0
