@@ -17,11 +17,12 @@ abbrev pub unless_offered : Option Offer → Option AllocateError → Option All
 unless_offered None own = Some NoCube
 unless_offered (Some cube) own = own
 
--- what a facility refuses, where there is one; `own` is what it refuses after that by what it alone knows
+-- what a facility refuses, where there is one: first what every facility does, and then `own`
 abbrev pub refused_in : Option Fac → Ask → Option AllocateError → Option AllocateError
 refused_in None ask own = Some NoMember
 refused_in (Some f) ask own = if is_member f.members ask.node then unless_offered (offered f.cubes ask.want) own else Some NoMember
 
+-- what must be refused
 abbrev pub refused : Seen → Ask → Option AllocateError → Option AllocateError
 refused s ask own = refused_in (slice_get s.facs ask.fac) ask own
 
@@ -61,8 +62,8 @@ pub record IsAsked (old : Seen) (ask : Ask) (port : Port) (new : Seen) : Type 0 
   pub makes : Makes state facility flow port ask cube.id facility'
   pub new_is : new ≡ with_fac old ask.fac facility'
 
--- what `allocate` does, where `refusal` is what it must refuse
+-- what `allocate` does, where `own` is what the facility refuses by what it alone knows
 abbrev pub Allocates : Option AllocateError → Seen → Ask → Result Port AllocateError → Seen → Type 0
-Allocates refusal old ask (Ok port) new = (refusal ≡ None) × IsAsked old ask port new
-Allocates refusal old ask (Err Memory) new = new ≡ old
-Allocates refusal old ask (Err e) new = (refusal ≡ Some e) × (new ≡ old)
+Allocates own old ask (Ok port) new = (refused old ask own ≡ None) × IsAsked old ask port new
+Allocates own old ask (Err Memory) new = new ≡ old
+Allocates own old ask (Err e) new = (refused old ask own ≡ Some e) × (new ≡ old)

@@ -1,5 +1,5 @@
 -- What `send` refuses, and what it does.
-use Rattle.std.specs.Prelude.{◌≡◌, ℕ, nat_le, List, Option, Some, None, Result, Ok, Err, if◌then◌else◌}
+use Rattle.std.specs.Prelude.{◌≡◌, ℕ, nat_le, length, List, Option, Some, None, Result, Ok, Err, if◌then◌else◌}
 use Rattle.rina_base.specs.declared.number.Num.{Num}
 use Rattle.rina_base.specs.declared.number.Port.{Port}
 use Rattle.rina_iface.specs.declared.ends.End.{End}
@@ -21,7 +21,7 @@ by_state (Some Allocated) rest = rest
 by_state (Some (Failed fail)) rest = Some (HasFailed fail)
 by_state state rest = Some (NotAllocated state)
 
--- what every facility refuses; `own` is what it refuses after that by what it alone knows
+-- what must be refused to an SDU of so many bytes: first what every facility refuses, and then `own`
 abbrev pub refused : Seen → Port → ℕ → Option SendError → Option SendError
 refused s port len own = by_state (state_of s port) (by_length len (largest_at s port) own)
 
@@ -34,8 +34,8 @@ pub record IsSent (old : Seen) (port : Port) (bytes : List ℕ) (num : Num) (new
   pub allocated : end.state ≡ Allocated
   pub new_is : new ≡ with_fac old port.fac (with_end facility place (with_sent end (record { tick = old.now; num = num; bytes = bytes })))
 
--- what `send` does, where `refusal` is what it must refuse
+-- what `send` does, where `own` is what the facility refuses by what it alone knows
 abbrev pub Sends : Option SendError → Seen → Port → List ℕ → Result Num SendError → Seen → Type 0
-Sends refusal old port bytes (Ok num) new = (refusal ≡ None) × IsSent old port bytes num new
-Sends refusal old port bytes (Err Memory) new = new ≡ old
-Sends refusal old port bytes (Err e) new = (refusal ≡ Some e) × (new ≡ old)
+Sends own old port bytes (Ok num) new = (refused old port (length bytes) own ≡ None) × IsSent old port bytes num new
+Sends own old port bytes (Err Memory) new = new ≡ old
+Sends own old port bytes (Err e) new = (refused old port (length bytes) own ≡ Some e) × (new ≡ old)

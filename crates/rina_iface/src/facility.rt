@@ -6,10 +6,10 @@ ghost use Rattle.rina_iface.specs.declared.error.RegisterError.{RegisterError};
 ghost use Rattle.rina_iface.specs.declared.error.AllocateError.{AllocateError};
 ghost use Rattle.rina_iface.specs.declared.error.SendError.{SendError};
 ghost use Rattle.rina_iface.specs.Seen.{Fac, Seen, state_of, promise_at, largest_at, unpassed};
-ghost use Rattle.rina_iface.specs.Register.{Registers, refused as register_refused};
-ghost use Rattle.rina_iface.specs.Allocate.{Allocates, refused as allocate_refused};
+ghost use Rattle.rina_iface.specs.Register.{Registers};
+ghost use Rattle.rina_iface.specs.Allocate.{Allocates};
 ghost use Rattle.rina_iface.specs.Claim.{Claims};
-ghost use Rattle.rina_iface.specs.Send.{Sends, refused as send_refused};
+ghost use Rattle.rina_iface.specs.Send.{Sends};
 ghost use Rattle.rina_iface.specs.Pass.{IsLent, IsPassed};
 
 use crate::ask::{Ask, Lent};
@@ -46,7 +46,8 @@ pub trait Facility {
 
     /// All ends of a facility. None exactly where the number is out of range.
     fn journal(&self, fac: u16) -> Option<&Journal>
-        ensures { MatchOption result (length (seen self.now).facs ≤ fac) (λ j. option_map (λ (f : Fac). f.ends) (slice_get (seen self.now).facs fac) ≡ Some j.now.ends) };
+        ensures { MatchOption result (length (seen self.now).facs ≤ fac)
+            (λ j. option_map (λ (f : Fac). f.ends) (slice_get (seen self.now).facs fac) ≡ Some j.now.ends) };
 
     /// The state of a port. None exactly where the port was never drawn.
     fn state(&self, port: Port) -> Option<PortState>
@@ -73,14 +74,16 @@ pub trait Facility {
         requires { valid self.old }
         ensures valid { valid self.new }
         ensures below { same_below self.old self.new }
-        ensures does { Registers (register_refused (seen self.old) fac node app.now (refuses_register self.old fac node app.now)) (seen self.old) fac node app.now result (seen self.new) };
+        ensures does { Registers (refuses_register self.old fac node app.now)
+            (seen self.old) fac node app.now result (seen self.new) };
 
     /// Asks for a flow, and answers the port of its end.
     fn allocate(&mut self, alloc: Global, ask: &Ask) -> Result<Port, AllocateError>
         requires { valid self.old }
         ensures valid { valid self.new }
         ensures below { same_below self.old self.new }
-        ensures does { Allocates (allocate_refused (seen self.old) ask.now (refuses_allocate self.old ask.now)) (seen self.old) ask.now result (seen self.new) };
+        ensures does { Allocates (refuses_allocate self.old ask.now)
+            (seen self.old) ask.now result (seen self.new) };
 
     /// Claims the oldest far end of an application at a node that nobody claimed yet.
     fn incoming(&mut self, fac: u16, node: Node, app: &AppName) -> Option<Port>
@@ -94,11 +97,13 @@ pub trait Facility {
         requires { valid self.old }
         ensures valid { valid self.new }
         ensures below { same_below self.old self.new }
-        ensures does { Sends (send_refused (seen self.old) port (length sdu.now) (refuses_send self.old port (length sdu.now))) (seen self.old) port sdu.now result (seen self.new) };
+        ensures does { Sends (refuses_send self.old port (length sdu.now))
+            (seen self.old) port sdu.now result (seen self.new) };
 
     /// Lends the oldest SDU that was not passed yet. None exactly where there is none.
     fn peek(&self, port: Port) -> Option<Lent<'_>>
-        ensures { MatchOption result (unpassed (seen self.now) port ≡ None) (λ l. IsLent (seen self.now) port l.at l.bytes.now) };
+        ensures { MatchOption result (unpassed (seen self.now) port ≡ None)
+            (λ l. IsLent (seen self.now) port l.at l.bytes.now) };
 
     /// Marks that SDU as passed.
     fn pass(&mut self, port: Port)

@@ -1,5 +1,5 @@
 -- What the exact clause of `allocate` says of the facilities that the wires are.
-use Rattle.std.proofs.Common.{◌≡◌, ℕ, ◌+◌, ◌==◌, cond, true, false, [], ◌∷◌, Some, None, Option, option_and_then, option_map, Result, Ok, Err, refl, sym, ap, ◌∙◌, subst, inl, inr}
+use Rattle.std.proofs.Common.{◌≡◌, ℕ, ◌+◌, ◌==◌, cond, true, false, [], ◌∷◌, Some, None, Option, option_map, Result, Ok, Err, refl, sym, ap, ◌∙◌, subst, inl, inr}
 use Rattle.std.specs.Option.{option_map_or}
 use Rattle.std.proofs.lemmas.Bool.Decides.{eqb_tells}
 use Rattle.std.proofs.lemmas.Option.{none-some}
@@ -12,7 +12,7 @@ use Rattle.rina_iface.specs.Ends.{drawn_at}
 use Rattle.rina_iface.specs.Seen.{is_member, meets, offered}
 use Rattle.rina_iface.specs.Allocate.{Allocates, IsAsked, Makes, next_port, refused, refused_in, unless_offered}
 use Rattle.rina_wire.specs.Air.{Air, Line, fac_of, offer_of, seen_of, wire_at}
-use Rattle.rina_wire.specs.Allocate.{AllocatesOn, allocate_refusal, allocated, flow_made, flow_on, flow_refusal, other_node, port_on}
+use Rattle.rina_wire.specs.Allocate.{AllocatesOn, allocate_refusal, allocated, own_allocate_refusal, flow_made, flow_on, other_node, port_on}
 use Rattle.rina_wire.specs.Sound.{IsSound, IsSoundLine}
 use Rattle.rina_iface.proofs.Changed.{all_at}
 use Rattle.rina_wire.proofs.Seen.{fac_at, seen_on_wire}
@@ -74,15 +74,11 @@ asked_at a ask port own (Some l) h s free p =
       new_is = seen_on_wire a ask.fac (flow_made a.now ask) l h;
     }
 
--- what a wire refuses by what it alone knows
-abbrev own_of : Air → Ask → Option AllocateError
-own_of a ask = option_and_then (λ l. flow_refusal l ask) (wire_at a ask.fac)
+refused_is : (a : Air) (ask : Ask) → refused (seen_of a) ask (own_allocate_refusal a ask) ≡ allocate_refusal a ask
+refused_is a ask = ap (λ o. refused_in o ask (own_allocate_refusal a ask)) (fac_at a ask.fac)
 
-refused_is : (a : Air) (ask : Ask) → refused (seen_of a) ask (own_of a ask) ≡ allocate_refusal a ask
-refused_is a ask = ap (λ o. refused_in o ask (own_of a ask)) (fac_at a ask.fac)
-
-pub seen_allocates : (a : Air) (ask : Ask) (r : Result Port AllocateError) (a' : Air) → IsSound a → AllocatesOn a ask r a' → Allocates (refused (seen_of a) ask (own_of a ask)) (seen_of a) ask r (seen_of a')
-seen_allocates a ask (Ok port) a' s g = (refused_is a ask ∙ g.goes.refused, rw g.goes.air (asked_at a ask port (own_of a ask) (wire_at a ask.fac) refl s g.goes.refused g.answers))
+pub seen_allocates : (a : Air) (ask : Ask) (r : Result Port AllocateError) (a' : Air) → IsSound a → AllocatesOn a ask r a' → Allocates (own_allocate_refusal a ask) (seen_of a) ask r (seen_of a')
+seen_allocates a ask (Ok port) a' s g = (refused_is a ask ∙ g.goes.refused, rw g.goes.air (asked_at a ask port (own_allocate_refusal a ask) (wire_at a ask.fac) refl s g.goes.refused g.answers))
 seen_allocates a ask (Err Memory) a' s g = ap seen_of g
 seen_allocates a ask (Err NoMember) a' s g = (refused_is a ask ∙ g.refused, ap seen_of g.air)
 seen_allocates a ask (Err NoCube) a' s g = (refused_is a ask ∙ g.refused, ap seen_of g.air)

@@ -14,7 +14,7 @@ use Rattle.rina_iface.specs.Seen.{Fac, Stands, end_of, largest_at, unpassed, wit
 use Rattle.rina_iface.specs.Send.{IsSent, Sends, by_length, by_state, refused}
 use Rattle.rina_iface.specs.Pass.{IsPassed}
 use Rattle.rina_wire.specs.Air.{Air, Line, end_at, fac_of, on_end, put_end, seen_of, wire_at}
-use Rattle.rina_wire.specs.Send.{SendsOn, frame_number, frame_refusal, frame_sent, passed, passed_at, send_refusal, sent_from}
+use Rattle.rina_wire.specs.Send.{SendsOn, frame_number, frame_sent, own_send_refusal, passed, passed_at, send_refusal, sent_from}
 use Rattle.rina_wire.specs.Sound.{IsSound, IsSoundLine}
 use Rattle.rina_iface.proofs.Changed.{IsAt, all_at, end_has_place}
 use Rattle.rina_wire.proofs.Seen.{fac_at, seen_on_wire}
@@ -69,20 +69,16 @@ largest_is a port e on s =
     let cube : e.cube ≡ 0 = all_at (λ (x : End). x.cube ≡ 0) on.line.ends on.at.place e line.cubes on.at.is in
     rw (fac_at a port.fac, on.wire, on.at.found, on.at.is, cube) refl
 
--- what a wire refuses by what it alone knows
-abbrev own_of : Air → Port → Option SendError
-own_of a port = option_and_then frame_refusal (wire_at a port.fac)
-
-refused_end : (a : Air) (port : Port) (len : ℕ) (o : Option End) → end_at a port ≡ o → IsSound a → refused (seen_of a) port len (own_of a port) ≡ send_refusal a port len
+refused_end : (a : Air) (port : Port) (len : ℕ) (o : Option End) → end_at a port ≡ o → IsSound a → refused (seen_of a) port len (own_send_refusal a port) ≡ send_refusal a port len
 refused_end a port len None h s = rw (end_is a port, h) refl
 refused_end a port len (Some e) h s =
     let on = has_line a port e h in
     rw (end_is a port, h, largest_is a port e on s, on.wire) refl
 
-refused_is : (a : Air) (port : Port) (len : ℕ) → IsSound a → refused (seen_of a) port len (own_of a port) ≡ send_refusal a port len
+refused_is : (a : Air) (port : Port) (len : ℕ) → IsSound a → refused (seen_of a) port len (own_send_refusal a port) ≡ send_refusal a port len
 refused_is a port len s = refused_end a port len (end_at a port) refl s
 
-sends_end : (a : Air) (port : Port) (bytes : List ℕ) (num : Num) (o : Option End) → end_at a port ≡ o → by_state (option_map (λ (e : End). e.state) o) (by_length (length bytes) (option_map (λ (l : Line). l.largest) (wire_at a port.fac)) (own_of a port)) ≡ None → num ≡ frame_number (option_map_or (λ (l : Line). l.frames) (wire_at a port.fac) 0) → IsSent (seen_of a) port bytes num (seen_of (frame_sent a port bytes))
+sends_end : (a : Air) (port : Port) (bytes : List ℕ) (num : Num) (o : Option End) → end_at a port ≡ o → by_state (option_map (λ (e : End). e.state) o) (by_length (length bytes) (option_map (λ (l : Line). l.largest) (wire_at a port.fac)) (own_send_refusal a port)) ≡ None → num ≡ frame_number (option_map_or (λ (l : Line). l.frames) (wire_at a port.fac) 0) → IsSent (seen_of a) port bytes num (seen_of (frame_sent a port bytes))
 sends_end a port bytes num None h free n = absurd (none-some (NotAllocated None) (sym free))
 sends_end a port bytes num (Some e) h free n =
     let on = has_line a port e h in
@@ -96,7 +92,7 @@ sends_end a port bytes num (Some e) h free n =
       new_is = rw number (seen_on_end a port (sent_from a.now bytes) e on);
     }
 
-pub seen_sends : (a : Air) (port : Port) (bytes : List ℕ) (r : Result Num SendError) (a' : Air) → IsSound a → SendsOn a port bytes r a' → Sends (refused (seen_of a) port (length bytes) (own_of a port)) (seen_of a) port bytes r (seen_of a')
+pub seen_sends : (a : Air) (port : Port) (bytes : List ℕ) (r : Result Num SendError) (a' : Air) → IsSound a → SendsOn a port bytes r a' → Sends (own_send_refusal a port) (seen_of a) port bytes r (seen_of a')
 seen_sends a port bytes (Ok num) a' s g = (refused_is a port (length bytes) s ∙ g.goes.refused, rw g.goes.air (sends_end a port bytes num (end_at a port) refl g.goes.refused g.answers))
 seen_sends a port bytes (Err Memory) a' s g = ap seen_of g
 seen_sends a port bytes (Err (NotAllocated state)) a' s g = (refused_is a port (length bytes) s ∙ g.refused, ap seen_of g.air)

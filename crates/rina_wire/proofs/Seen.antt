@@ -28,7 +28,7 @@ registers_at a fac node app (Some l) h free = record {
 refused_register : (a : Air) (fac node : ℕ) (app : List ℕ) → refused (seen_of a) fac node app None ≡ register_refusal a fac node app
 refused_register a fac node app = ap (λ o. refused_in o node app None) (fac_at a fac)
 
-pub seen_registers : (a : Air) (fac node : ℕ) (app : List ℕ) (r : Result (Unit {0}) RegisterError) (a' : Air) → RegistersOn a fac node app r a' → Registers (refused (seen_of a) fac node app None) (seen_of a) fac node app r (seen_of a')
+pub seen_registers : (a : Air) (fac node : ℕ) (app : List ℕ) (r : Result (Unit {0}) RegisterError) (a' : Air) → RegistersOn a fac node app r a' → Registers None (seen_of a) fac node app r (seen_of a')
 seen_registers a fac node app (Ok done) a' g = (refused_register a fac node app ∙ g.refused, rw g.air (registers_at a fac node app (wire_at a fac) refl g.refused))
 seen_registers a fac node app (Err Memory) a' g = ap seen_of g
 seen_registers a fac node app (Err Already) a' g = (refused_register a fac node app ∙ g.refused, ap seen_of g.air)

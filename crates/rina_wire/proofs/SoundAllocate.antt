@@ -1,5 +1,5 @@
 -- Wires stay sound where a flow is asked for.
-use Rattle.std.proofs.Common.{◌≡◌, ℕ, ◌+◌, ◌==◌, cond, true, List, [], ◌∷◌, ◌++◌, Some, None, Option, option_and_then, option_map, Result, Ok, Err, refl, sym, ap, ◌∙◌, arith, subst}
+use Rattle.std.proofs.Common.{◌≡◌, ℕ, ◌+◌, ◌==◌, cond, true, List, [], ◌∷◌, ◌++◌, Some, None, Option, option_map, Result, Ok, Err, refl, sym, ap, ◌∙◌, arith, subst}
 use Rattle.std.proofs.lemmas.List.Elements.{All-append, All-cons, All-nil}
 use Rattle.rina_base.specs.declared.number.Port.{Port}
 use Rattle.rina_iface.specs.declared.ask.Ask.{Ask}
@@ -18,7 +18,7 @@ use Rattle.rina_iface.specs.declared.error.AllocateError.TheVariants.{Memory, No
 use Rattle.rina_iface.specs.Seen.{is_member}
 use Rattle.rina_iface.specs.Allocate.{refused_in}
 use Rattle.rina_wire.specs.Air.{fac_of}
-use Rattle.rina_wire.specs.Allocate.{flow_refusal, other_node}
+use Rattle.rina_wire.specs.Allocate.{other_node, own_allocate_refusal}
 use Rattle.rina_wire.proofs.Asked.{IsFree, free_of}
 use Rattle.std.proofs.Common.{◌≢◌, inl, inr}
 use Rattle.std.proofs.lemmas.Bool.Decides.{eqb_tells}
@@ -54,7 +54,7 @@ flow_at : (ask : Ask) (own : Option AllocateError) (l : Line) (o : Option Line) 
 flow_at ask own l o h free = free_of l ask own (rw h at free)
 
 pub sound_allocates : (a : Air) (ask : Ask) (r : Result Port AllocateError) (a' : Air) → IsSound a → AllocatesOn a ask r a' → IsSound a'
-sound_allocates a ask (Ok port) a' s g = subst IsSound (sym g.goes.air) (sound_on_wire a ask.fac (flow_made a.now ask) s (λ l h k. flow_stays l a.now ask k (flow_at ask (option_and_then (λ l. flow_refusal l ask) (wire_at a ask.fac)) l (wire_at a ask.fac) h g.goes.refused).member))
+sound_allocates a ask (Ok port) a' s g = subst IsSound (sym g.goes.air) (sound_on_wire a ask.fac (flow_made a.now ask) s (λ l h k. flow_stays l a.now ask k (flow_at ask (own_allocate_refusal a ask) l (wire_at a ask.fac) h g.goes.refused).member))
 sound_allocates a ask (Err Memory) a' s g = subst IsSound (sym g) (sound_failed a s)
 sound_allocates a ask (Err NoMember) a' s g = subst IsSound (sym g.air) s
 sound_allocates a ask (Err NoCube) a' s g = subst IsSound (sym g.air) s

@@ -4,7 +4,8 @@ use Rattle.std.proofs.lemmas.List.Elements.{All-map, All-nil, All-weaker}
 use Rattle.rina_iface.specs.declared.ends.End.{End}
 use Rattle.rina_stack.specs.declared.plan.Plan.{Plan}
 use Rattle.rina_stack.specs.declared.plan.WirePlan.{WirePlan}
-use Rattle.rina_wire.specs.Plan.{IsSoundPlan, IsSoundWire, air_of, line_of}
+use Rattle.rina_stack.specs.Plan.{IsSoundWire}
+use Rattle.rina_wire.specs.Plan.{IsSoundPlan, air_of, line_of}
 use Rattle.rina_wire.specs.Sound.{IsSound, IsSoundLine}
 
 sound_line : (nodes : ℕ) (w : WirePlan) → IsSoundWire nodes w → IsSoundLine (line_of w)

@@ -32,9 +32,12 @@ flow_refusal l ask =
     then (if nat_le 4294967295 l.flows then Some (NoIds 4294967295) else option_map (λ (e : End). Busy e.port) (find (is_busy ask.node) l.ends))
     else (if is_registered l.names ask.node ask.to then Some SameSystem else Some NoSuchApp)
 
--- what must be refused
+abbrev pub own_allocate_refusal : Air → Ask → Option AllocateError
+own_allocate_refusal a ask = option_and_then (λ l. flow_refusal l ask) (wire_at a ask.fac)
+
+-- what must be refused, in the order of every facility
 abbrev pub allocate_refusal : Air → Ask → Option AllocateError
-allocate_refusal a ask = refused_in (option_map fac_of (wire_at a ask.fac)) ask (option_and_then (λ l. flow_refusal l ask) (wire_at a ask.fac))
+allocate_refusal a ask = refused_in (option_map fac_of (wire_at a ask.fac)) ask (own_allocate_refusal a ask)
 
 -- the port of either end of the next flow
 abbrev pub port_on : Line → ℕ → ℕ → Port

@@ -16,9 +16,13 @@ use Rattle.rina_wire.specs.Air.{Air, Line, Goes, end_at, failed_air, on_end, wir
 abbrev pub frame_refusal : Line → Option SendError
 frame_refusal l = if nat_le (2 ^ 63) l.frames then Some (NumbersSpent 4294967295) else None
 
+abbrev pub own_send_refusal : Air → Port → Option SendError
+own_send_refusal a port = option_and_then frame_refusal (wire_at a port.fac)
+
 -- what must be refused to an SDU of so many bytes, in the order of every facility
 abbrev pub send_refusal : Air → Port → ℕ → Option SendError
-send_refusal a port len = by_state (option_map (λ (e : End). e.state) (end_at a port)) (by_length len (option_map (λ (l : Line). l.largest) (wire_at a port.fac)) (option_and_then frame_refusal (wire_at a port.fac)))
+send_refusal a port len =
+    by_state (option_map (λ (e : End). e.state) (end_at a port)) (by_length len (option_map (λ (l : Line). l.largest) (wire_at a port.fac)) (own_send_refusal a port))
 
 -- the number of the next frame
 abbrev pub frame_number : ℕ → Num

@@ -1,16 +1,16 @@
 //! Wires as facilities.
 ghost use Rattle.std.specs.Prelude.{◌≡◌, ◌≤◌, ℕ, Option, Some, None, IsSome, MatchOption, List, length, slice_get, option_map, option_and_then};
 ghost use Rattle.rina_iface.specs.Seen.{Fac, unpassed};
-ghost use Rattle.rina_iface.specs.Register.{Registers, refused as register_refused};
-ghost use Rattle.rina_iface.specs.Allocate.{Allocates, refused as allocate_refused};
+ghost use Rattle.rina_iface.specs.Register.{Registers};
+ghost use Rattle.rina_iface.specs.Allocate.{Allocates};
 ghost use Rattle.rina_iface.specs.Claim.{Claims};
-ghost use Rattle.rina_iface.specs.Send.{Sends, refused as send_refused};
+ghost use Rattle.rina_iface.specs.Send.{Sends};
 ghost use Rattle.rina_iface.specs.Pass.{IsPassed};
-ghost use Rattle.rina_wire.specs.Air.{seen_of, wire_at};
-ghost use Rattle.rina_wire.specs.Allocate.{AllocatesOn, flow_refusal};
+ghost use Rattle.rina_wire.specs.Air.{seen_of};
+ghost use Rattle.rina_wire.specs.Allocate.{AllocatesOn, own_allocate_refusal};
 ghost use Rattle.rina_wire.specs.Claim.{ClaimsOn};
 ghost use Rattle.rina_wire.specs.Register.{RegistersOn};
-ghost use Rattle.rina_wire.specs.Send.{SendsOn, frame_refusal, passed};
+ghost use Rattle.rina_wire.specs.Send.{SendsOn, own_send_refusal, passed};
 ghost use Rattle.rina_wire.specs.Sound.{IsSound};
 
 use super::Wires;
@@ -29,9 +29,9 @@ impl Facility for Wires {
 
     ghost refuses_register = { λ a fac node app. None };
 
-    ghost refuses_allocate = { λ a ask. option_and_then (λ l. flow_refusal l ask) (wire_at a ask.fac) };
+    ghost refuses_allocate = { own_allocate_refusal };
 
-    ghost refuses_send = { λ a port len. option_and_then frame_refusal (wire_at a port.fac) };
+    ghost refuses_send = { λ a port len. own_send_refusal a port };
 
     fn now(&self) -> Tick {
         self.clock
@@ -67,8 +67,7 @@ impl Facility for Wires {
     ) -> Result<(), RegisterError>
         requires { IsSound self.old }
         ensures valid { IsSound self.new }
-        ensures below { Unit {0} }
-        ensures does { Registers (register_refused (seen_of self.old) fac node app.now None) (seen_of self.old) fac node app.now result (seen_of self.new) }
+        ensures does { Registers None (seen_of self.old) fac node app.now result (seen_of self.new) }
         ensures exact { RegistersOn self.old fac node app.now result self.new }
     {
         self.enter_name(alloc, fac, node, app)
@@ -78,8 +77,8 @@ impl Facility for Wires {
     fn allocate(&mut self, alloc: Global, ask: &Ask) -> Result<Port, AllocateError>
         requires { IsSound self.old }
         ensures valid { IsSound self.new }
-        ensures below { Unit {0} }
-        ensures does { Allocates (allocate_refused (seen_of self.old) ask.now (option_and_then (λ l. flow_refusal l ask.now) (wire_at self.old ask.now.fac))) (seen_of self.old) ask.now result (seen_of self.new) }
+        ensures does { Allocates (own_allocate_refusal self.old ask.now)
+            (seen_of self.old) ask.now result (seen_of self.new) }
         ensures exact { AllocatesOn self.old ask.now result self.new }
     {
         self.open_flow(alloc, ask)
@@ -89,7 +88,6 @@ impl Facility for Wires {
     fn incoming(&mut self, fac: u16, node: Node, app: &AppName) -> Option<Port>
         requires { IsSound self.old }
         ensures valid { IsSound self.new }
-        ensures below { Unit {0} }
         ensures does { Claims (seen_of self.old) fac node app.now result (seen_of self.new) }
         ensures exact { ClaimsOn self.old fac node app.now result self.new }
     {
@@ -100,8 +98,8 @@ impl Facility for Wires {
     fn send(&mut self, alloc: Global, port: Port, sdu: &[u8]) -> Result<Num, SendError>
         requires { IsSound self.old }
         ensures valid { IsSound self.new }
-        ensures below { Unit {0} }
-        ensures does { Sends (send_refused (seen_of self.old) port (length sdu.now) (option_and_then frame_refusal (wire_at self.old port.fac))) (seen_of self.old) port sdu.now result (seen_of self.new) }
+        ensures does { Sends (own_send_refusal self.old port)
+            (seen_of self.old) port sdu.now result (seen_of self.new) }
         ensures exact { SendsOn self.old port sdu.now result self.new }
     {
         self.send_frame(alloc, port, sdu)
@@ -121,7 +119,6 @@ impl Facility for Wires {
         requires valid { IsSound self.old }
         requires waits { IsSome (unpassed (seen_of self.old) port) }
         ensures valid { IsSound self.new }
-        ensures below { Unit {0} }
         ensures does { IsPassed (seen_of self.old) port (seen_of self.new) }
         ensures exact { self.new ≡ passed self.old port }
     {
