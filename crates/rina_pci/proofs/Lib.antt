@@ -1,0 +1,4 @@
+pub mod Fields
+pub mod Lifetimes
+pub mod Pdus
+pub mod Written

@@ -3,7 +3,7 @@ use Rattle.std.specs.Prelude.{ℕ, nat_lt, List, ◌++◌, length, take, drop, O
 use Rattle.std.specs.Int.{w32, to_be_bytes, from_be_bytes}
 
 -- four bytes of lifetime, big-endian, and then the bytes of the PDU
-abbrev pub protected : ℕ → List ℕ → List ℕ
+unfoldable pub protected : ℕ → List ℕ → List ℕ
 protected life pdu = to_be_bytes w32 life ++ pdu
 
 -- the lifetime and the PDU that the bytes are

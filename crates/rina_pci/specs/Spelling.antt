@@ -1,5 +1,5 @@
 -- The bytes of a PDU: each field of the width that its DIF has for it, big-endian.
-use Rattle.std.specs.Prelude.{◌≡◌, ℕ, ◌+◌, ◌*◌, ◌^◌, ◌<◌, ◌==◌, ◌⊎◌, Bool, List, [], ◌∷◌, ◌++◌, length, if◌then◌else◌}
+use Rattle.std.specs.Prelude.{◌≡◌, ℕ, ◌+◌, ◌*◌, ◌^◌, ◌<◌, ◌==◌, ◌⊎◌, Bool, List, [], ◌∷◌, ◌++◌, length, slice_index, if◌then◌else◌}
 use Rattle.std.specs.Int.{w16, w32, to_be_bytes}
 use Rattle.rina_base.specs.declared.pdu.PduKind.{PduKind}
 use Rattle.rina_base.specs.declared.pdu.PduKind.TheVariants.{Piece, Ack}
@@ -57,7 +57,6 @@ spelling w p = head p ++ addresses w p ++ be w.len (pdu_size w p) ++ numbers_and
 -- what has a spelling: each field fits its width
 pub record Fits (w : Widths) (p : Pdu) : Type 0 where
   pub proper : IsProper p
-  pub qos : p.qos < 2 ^ 8
   pub dst : p.dst < 2 ^ (8 * w.addr)
   pub src : p.src < 2 ^ (8 * w.addr)
   pub dcep : p.dcep < 2 ^ (8 * w.cep)
@@ -66,3 +65,6 @@ pub record Fits (w : Widths) (p : Pdu) : Type 0 where
   pub seq : p.seq < 2 ^ (8 * w.seq)
   pub ack : p.ack < 2 ^ (8 * w.seq)
   pub right : p.right < 2 ^ (8 * w.seq)
+
+abbrev pub IsBytes : List ℕ → Type 0
+IsBytes bytes = (i : ℕ) → slice_index bytes i < 256

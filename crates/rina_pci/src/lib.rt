@@ -2,12 +2,14 @@
 #![tactic(auto)]
 
 mod error;
+mod laws;
 mod life;
 mod reading;
 mod widths;
 mod writing;
 
 pub use error::PciError;
+pub use laws::{what_is_read_is_spelled_so, what_is_written_is_read};
 pub use life::{read_life, write_life};
 pub use reading::read_pdu;
 pub use widths::{Widths, pci_len};

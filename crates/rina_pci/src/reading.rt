@@ -1,7 +1,8 @@
 //! Reading PDUs.
-ghost use Rattle.std.specs.Prelude.{◌≡◌, option_map};
+ghost use Rattle.std.specs.Prelude.{◌≡◌, IfSome, Some, option_map};
+ghost use Rattle.rina_base.specs.declared.pdu.Pdu.{Pdu};
 ghost use Rattle.rina_base.specs.Pdus.{pdu_of};
-ghost use Rattle.rina_pci.specs.Spelling.{IsWidth, AreWidths};
+ghost use Rattle.rina_pci.specs.Spelling.{IsWidth, AreWidths, Fits, spelling};
 ghost use Rattle.rina_pci.specs.Reading.{number_at, head_of, head_at, addresses_at, numbers_at, pdu_at};
 
 use crate::widths::Widths;
@@ -144,9 +145,8 @@ fn read_numbers(w: Widths, kind: PduKind, bytes: &[u8]) -> Option<(Numbers, &[u8
     }
 }
 
-/// The PDU that the bytes are, with its body lent; takes no memory. None exactly where they are no PDU.
 #[tactic(auto, unfolding(crate::specs::Reading::pdu_at))]
-pub fn read_pdu(bytes: &[u8], w: Widths) -> Option<PduView<'_>>
+fn read_whole(bytes: &[u8], w: Widths) -> Option<PduView<'_>>
     requires { AreWidths w }
     ensures { option_map pdu_of result ≡ pdu_at w bytes.now }
 {
@@ -172,4 +172,16 @@ pub fn read_pdu(bytes: &[u8], w: Widths) -> Option<PduView<'_>>
         right: numbers.right,
         body,
     })
+}
+
+/// The PDU that the bytes are, with its body lent; takes no memory. None exactly where they are no PDU.
+pub fn read_pdu(bytes: &[u8], w: Widths) -> Option<PduView<'_>>
+    requires { AreWidths w }
+    // What is read is spelled so.
+    ensures found { IfSome result (λ v. Fits w (pdu_of v) × (bytes.now ≡ spelling w (pdu_of v))) }
+    // What is spelled so is read.
+    ensures only { (p : Pdu) → Fits w p → bytes.now ≡ spelling w p → option_map pdu_of result ≡ Some p }
+    ensures exact { option_map pdu_of result ≡ pdu_at w bytes.now }
+{
+    read_whole(bytes, w)
 }

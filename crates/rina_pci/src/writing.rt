@@ -1,7 +1,7 @@
 //! Writing PDUs.
-ghost use Rattle.std.specs.Prelude.{◌≡◌, ◌++◌, ◌<◌, ◌^◌, true, OnOk, Ok};
+ghost use Rattle.std.specs.Prelude.{◌≡◌, ◌++◌, ◌<◌, ◌^◌, true, OnOk, IfOk, Ok};
 ghost use Rattle.rina_base.specs.Pdus.{IsProper};
-ghost use Rattle.rina_pci.specs.Spelling.{IsWidth, AreWidths, be, head};
+ghost use Rattle.rina_pci.specs.Spelling.{IsWidth, AreWidths, Fits, be, head, spelling};
 ghost use Rattle.rina_pci.specs.Writing.{fits, field, Adds, Gives, addresses_written, numbers_written, written};
 
 use crate::error::PciError;
@@ -94,11 +94,9 @@ fn put_numbers(out: &mut Vec<u8>, pdu: &Pdu, w: Widths) -> Result<(), PciError>
     Ok(())
 }
 
-/// The bytes of a PDU, or its first field that does not fit.
 #[tactic(auto, unfolding(crate::specs::Writing::written))]
-pub fn write_pdu(alloc: Global, pdu: &Pdu, w: Widths) -> Result<Vec<u8>, PciError>
-    requires widths { AreWidths w }
-    requires proper { IsProper pdu.now }
+fn write_whole(alloc: Global, pdu: &Pdu, w: Widths) -> Result<Vec<u8>, PciError>
+    requires { AreWidths w }
     ensures { Gives result (written w pdu.now) }
 {
     let mut out = Vec::new(alloc);
@@ -108,4 +106,18 @@ pub fn write_pdu(alloc: Global, pdu: &Pdu, w: Widths) -> Result<Vec<u8>, PciErro
     put_field(&mut out, 9, w.len, size)?;
     put_numbers(&mut out, pdu, w)?;
     Ok(out)
+}
+
+/// The bytes of a PDU, or its first field that does not fit its width.
+pub fn write_pdu(alloc: Global, pdu: &Pdu, w: Widths) -> Result<Vec<u8>, PciError>
+    requires widths { AreWidths w }
+    requires proper { IsProper pdu.now }
+    // What is written fits, and is spelled so.
+    ensures spelled { IfOk result (λ v. Fits w pdu.now × (v.items ≡ spelling w pdu.now)) }
+    // What fits is written, unless memory runs out.
+    ensures only { Fits w pdu.now → Gives result (Ok (spelling w pdu.now)) }
+    // Which field is the first that does not fit.
+    ensures exact { Gives result (written w pdu.now) }
+{
+    write_whole(alloc, pdu, w)
 }

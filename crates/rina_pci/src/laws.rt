@@ -1,0 +1,23 @@
+//! The laws of the spelling of PDUs. These functions do nothing: their contracts are laws.
+ghost use Rattle.std.specs.Prelude.{◌≡◌, ◌<◌, ◌^◌, ◌↔◌, ℕ, List, Some, Ok};
+ghost use Rattle.rina_base.specs.declared.pdu.Pdu.{Pdu};
+ghost use Rattle.rina_base.specs.Pdus.{IsProper};
+ghost use Rattle.rina_pci.specs.declared.widths.Widths.{Widths};
+ghost use Rattle.rina_pci.specs.Spelling.{AreWidths, IsBytes, Fits, spelling};
+ghost use Rattle.rina_pci.specs.Reading.{pdu_at};
+ghost use Rattle.rina_pci.specs.Writing.{written};
+ghost use Rattle.rina_pci.specs.Life.{protected, life_at};
+
+/// What is written is read back as it was, and is written exactly where it fits.
+pub fn what_is_written_is_read()
+    ensures written { (w : Widths) (p : Pdu) (bytes : List ℕ) → AreWidths w → IsProper p → (written w p ≡ Ok bytes) ↔ (Fits w p × (bytes ≡ spelling w p)) }
+    ensures read { (w : Widths) (p : Pdu) → AreWidths w → Fits w p → pdu_at w (spelling w p) ≡ Some p }
+    ensures life { (life : ℕ) (pdu : List ℕ) → life < 2 ^ 32 → life_at (protected life pdu) ≡ Some (life, pdu) }
+{}
+
+/// What is read is spelled so, and so one PDU has one spelling.
+pub fn what_is_read_is_spelled_so()
+    ensures spelled { (w : Widths) (p : Pdu) (bytes : List ℕ) → AreWidths w → IsBytes bytes → pdu_at w bytes ≡ Some p → Fits w p × (bytes ≡ spelling w p) }
+    ensures one { (w : Widths) (p : Pdu) (bytes others : List ℕ) → AreWidths w → IsBytes bytes → IsBytes others → pdu_at w bytes ≡ Some p → pdu_at w others ≡ Some p → bytes ≡ others }
+    ensures life { (life : ℕ) (bytes pdu : List ℕ) → IsBytes bytes → life_at bytes ≡ Some (life, pdu) → (life < 2 ^ 32) × (bytes ≡ protected life pdu) }
+{}
