@@ -1,5 +1,6 @@
 -- PDUs, kept or lent.
-use Rattle.std.specs.Prelude.{◌≡◌, false, []}
+use Rattle.std.specs.Prelude.{◌≡◌, ℕ, false, []}
+use Rattle.rina_base.specs.declared.number.Key.{Key}
 use Rattle.rina_base.specs.declared.pdu.PduKind.{PduKind}
 use Rattle.rina_base.specs.declared.pdu.PduKind.TheVariants.{Piece, Ack}
 use Rattle.rina_base.specs.declared.pdu.Pdu.{Pdu}
@@ -20,7 +21,7 @@ pdu_of v = record {
   seq = v.seq;
   ack = v.ack;
   right = v.right;
-  body = v.body.now
+  body = v.body.now;
 }
 
 abbrev pub LeavesOut : PduKind → Pdu → Type 0
@@ -30,3 +31,11 @@ LeavesOut Ack p = (p.drf ≡ false) × (p.first ≡ false) × (p.last ≡ false)
 -- what a PDU's kind has no field for is 0, false or empty
 abbrev pub IsProper : Pdu → Type 0
 IsProper p = LeavesOut p.kind p
+
+-- the number that names a PDU: that of a piece, or the one that an acknowledgement acknowledges
+abbrev pub number_by : PduKind → ℕ → ℕ → ℕ
+number_by Piece seq ack = seq
+number_by Ack seq ack = ack
+
+abbrev pub key_of : Pdu → Key
+key_of p = record { kind = p.kind; src = p.src; scep = p.scep; seq = number_by p.kind p.seq p.ack }

@@ -16,3 +16,6 @@ pub use name::{Name, NameError};
 pub use number::{Addr, Cep, FlowName, Key, Node, Num, Port, Tick};
 pub use pdu::{Pdu, PduKind, PduView};
 pub use seq::{Bytes, Seq};
+
+#[cfg(test)]
+mod tests;

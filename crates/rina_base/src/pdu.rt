@@ -1,12 +1,29 @@
 //! Protocol data units of the data transfer protocol (DTP) and its control (DTCP).
-use crate::number::{Addr, Cep};
+ghost use Rattle.std.specs.Prelude.{◌≡◌, IfOk};
+ghost use Rattle.rina_base.specs.Pdus.{key_of, number_by, pdu_of};
+
+use crate::memory::Memory;
+use crate::number::{Addr, Cep, Key};
 use crate::seq::Bytes;
+use std::alloc::Global;
 
 /// What a PDU carries: a piece of an SDU, or an acknowledgement.
 #[derive(Clone, Copy, Debug, PartialEq, Eq)]
 pub enum PduKind {
     Piece,
     Ack,
+}
+
+impl PduKind {
+    /// The number that names a PDU of this kind.
+    fn number(self, seq: u32, ack: u32) -> u32
+        ensures { result ≡ number_by self seq ack }
+    {
+        match self {
+            PduKind::Piece => seq,
+            PduKind::Ack => ack,
+        }
+    }
 }
 
 /// A PDU with its protocol control information (PCI) and its body.
@@ -55,4 +72,53 @@ pub struct PduView<'a> {
     pub ack: u32,
     pub right: u32,
     pub body: &'a [u8],
+}
+
+impl Pdu {
+    /// Which PDU it is.
+    pub fn key(&self) -> Key
+        ensures { result ≡ key_of self.now }
+    {
+        Key {
+            kind: self.kind,
+            src: self.src,
+            scep: self.scep,
+            seq: self.kind.number(self.seq, self.ack),
+        }
+    }
+}
+
+impl PduView<'_> {
+    /// Which PDU it is.
+    pub fn key(&self) -> Key
+        ensures { result ≡ key_of (pdu_of self.now) }
+    {
+        Key {
+            kind: self.kind,
+            src: self.src,
+            scep: self.scep,
+            seq: self.kind.number(self.seq, self.ack),
+        }
+    }
+
+    /// The PDU with a body of its own.
+    pub fn keep(&self, alloc: Global) -> Result<Pdu, Memory>
+        ensures { IfOk result (λ p. p ≡ pdu_of self.now) }
+    {
+        Ok(Pdu {
+            kind: self.kind,
+            dst: self.dst,
+            src: self.src,
+            qos: self.qos,
+            dcep: self.dcep,
+            scep: self.scep,
+            drf: self.drf,
+            first: self.first,
+            last: self.last,
+            seq: self.seq,
+            ack: self.ack,
+            right: self.right,
+            body: Bytes::copy_of(alloc, self.body)?,
+        })
+    }
 }

@@ -1,9 +1,9 @@
 -- What a cube promises, and which wish it meets.
-use Rattle.std.specs.Prelude.{◌≡◌, ℕ, ◌+◌, ◌≤◌, Bool, true, false, not, ◌&&◌, ◌||◌, nat_le, List, All, Option, position, option_and_then, option_map, slice_get}
+use Rattle.std.specs.Prelude.{◌≡◌, ℕ, ◌+◌, ◌≤◌, Bool, true, false, not, ◌&&◌, ◌||◌, nat_le, List, Option, position, option_and_then, option_map, slice_get}
 use Rattle.rina_cube.specs.declared.Cube.{Cube}
 use Rattle.rina_cube.specs.declared.Want.{Want}
 use Rattle.rina_cube.specs.declared.Kind.{Kind}
-use Rattle.rina_cube.specs.declared.Kind.TheVariants.{Datagram, Loose, Reliable}
+use Rattle.rina_cube.specs.declared.Kind.TheVariants.{Datagram, Reliable}
 
 -- only a reliable cube sends again, and it does so in time
 abbrev pub IsTimed : Kind → Cube → Type 0
