@@ -1,5 +1,5 @@
 -- A lifetime that is read is spelled so, and what is spelled is read again.
-use Rattle.std.proofs.Common.{◌≡◌, ℕ, ◌^◌, ◌<◌, ◌≤◌, ltb, false, List, ◌++◌, Bor, length, take, drop, Option, Some, None, refl, sym, ap, ◌∙◌, arith}
+use Rattle.std.proofs.Common.{◌≡◌, ℕ, ◌+◌, ◌^◌, ◌<◌, ◌≤◌, ltb, false, List, ◌++◌, Bor, length, take, drop, Option, Some, None, refl, sym, ap, ◌∙◌, arith}
 use Rattle.std.specs.Int.{w32, from_be_bytes, to_be_bytes}
 use Rattle.std.proofs.lemmas.Bool.{ltb-false, le-ltb}
 use Rattle.std.proofs.lemmas.List.{take-append-drop, length-append, length-take}
@@ -36,3 +36,7 @@ lent x = (x.0, x.1.now)
 pub is_found : (bytes : List ℕ) (r : Option (ℕ × Bor (List ℕ))) → IsBytes bytes → option_map lent r ≡ life_at bytes → IfSome r (λ x. bytes ≡ protected x.0 x.1.now)
 is_found bytes (Some x) fits e = (life_takes bytes x.0 x.1.now fits (sym e)).0
 is_found bytes None fits e = tt
+
+pub length-protected : (life : ℕ) (pdu : List ℕ) → length (protected life pdu) ≡ 4 + length pdu
+unfolding protected
+length-protected life pdu = omega (arith, length-append (to_be_bytes w32 life) pdu)

@@ -205,13 +205,17 @@ length-addresses w p widths =
     omega (arith, a, b, c, addr.len p.dst, addr.len p.src, cep.len p.dcep, cep.len p.scep)
 
 -- the length of the bytes, whatever they say that it is
-length-spelling : (w : Widths) (p : Pdu) (m : ℕ) → AreWidths w → IsProper p → length (head p ++ addresses w p ++ be w.len m ++ numbers_and_body w p.kind p) ≡ pdu_size w p
+pub length-spelling : (w : Widths) (p : Pdu) (m : ℕ) → AreWidths w → IsProper p → length (head p ++ addresses w p ++ be w.len m ++ numbers_and_body w p.kind p) ≡ pdu_size w p
 unfolding head
 length-spelling w p m widths proper =
     let a = length-append (head p) (addresses w p) in
     let b = length-append (head p ++ addresses w p) (be w.len m) in
     let c = length-append (head p ++ addresses w p ++ be w.len m) (numbers_and_body w p.kind p) in
     omega (arith, a, b, c, length-addresses w p widths, (wide w.len widths.len).len m, length-numbers w p.kind p widths proper)
+
+pub length-spelled : (w : Widths) (p : Pdu) → AreWidths w → IsProper p → length (spelling w p) ≡ pdu_size w p
+unfolding spelling
+length-spelled w p widths proper = length-spelling w p (pdu_size w p) widths proper
 
 abbrev sized : List ℕ → Head → Addresses → ℕ → Numbers × List ℕ → Option Pdu
 sized bytes h a len n = cond (eqb len (length bytes)) (Some (pdu_with h a n.0 n.1)) None

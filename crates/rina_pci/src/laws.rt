@@ -1,9 +1,9 @@
 //! The laws of the spelling of PDUs. These functions do nothing: their contracts are laws.
-ghost use Rattle.std.specs.Prelude.{◌≡◌, ◌<◌, ◌^◌, ◌↔◌, ℕ, List, Some, Ok};
+ghost use Rattle.std.specs.Prelude.{◌≡◌, ◌<◌, ◌^◌, ◌+◌, ◌↔◌, ℕ, List, length, Some, Ok};
 ghost use Rattle.rina_base.specs.declared.pdu.Pdu.{Pdu};
 ghost use Rattle.rina_base.specs.Pdus.{IsProper};
 ghost use Rattle.rina_pci.specs.declared.widths.Widths.{Widths};
-ghost use Rattle.rina_pci.specs.Spelling.{AreWidths, IsBytes, Fits, spelling};
+ghost use Rattle.rina_pci.specs.Spelling.{AreWidths, IsBytes, Fits, pdu_size, spelling};
 ghost use Rattle.rina_pci.specs.Reading.{pdu_at};
 ghost use Rattle.rina_pci.specs.Writing.{written};
 ghost use Rattle.rina_pci.specs.Life.{protected, life_at};
@@ -20,4 +20,10 @@ pub fn what_is_read_is_spelled_so()
     ensures spelled { (w : Widths) (p : Pdu) (bytes : List ℕ) → AreWidths w → IsBytes bytes → pdu_at w bytes ≡ Some p → Fits w p × (bytes ≡ spelling w p) }
     ensures one { (w : Widths) (p : Pdu) (bytes others : List ℕ) → AreWidths w → IsBytes bytes → IsBytes others → pdu_at w bytes ≡ Some p → pdu_at w others ≡ Some p → bytes ≡ others }
     ensures life { (life : ℕ) (bytes pdu : List ℕ) → IsBytes bytes → life_at bytes ≡ Some (life, pdu) → (life < 2 ^ 32) × (bytes ≡ protected life pdu) }
+{}
+
+/// How many bytes a PDU has, and how many with its lifetime.
+pub fn how_long_it_is()
+    ensures pdu { (w : Widths) (p : Pdu) → AreWidths w → IsProper p → length (spelling w p) ≡ pdu_size w p }
+    ensures life { (life : ℕ) (pdu : List ℕ) → length (protected life pdu) ≡ 4 + length pdu }
 {}
