@@ -1,5 +1,5 @@
 -- A PDU is written exactly where it fits, as it is spelled.
-use Rattle.std.proofs.Common.{◌≡◌, ℕ, ◌*◌, ◌^◌, ◌<◌, Bool, true, false, cond, ltb, List, ◌++◌, Result, Ok, Err, refl, sym, ◌∙◌}
+use Rattle.std.proofs.Common.{◌≡◌, ℕ, ◌*◌, ◌^◌, ◌<◌, Bool, true, false, cond, ltb, List, ◌++◌, Option, Some, None, ◌⊎◌, ◌↔◌, inl, inr, Result, Ok, Err, refl, sym, ◌∙◌}
 use Rattle.std.proofs.lemmas.Bool.{ltb-true, lt-ltb}
 use Rattle.rina_base.specs.declared.pdu.PduKind.{PduKind}
 use Rattle.rina_base.specs.declared.pdu.PduKind.TheVariants.{Piece, Ack}
@@ -10,7 +10,7 @@ use Rattle.rina_pci.specs.declared.widths.Widths.{Widths}
 use Rattle.rina_pci.specs.declared.error.PciError.{PciError}
 use Rattle.rina_pci.specs.declared.error.PciError.TheVariants.{Memory, TooWide}
 use Rattle.rina_pci.specs.Spelling.{AreWidths, be, head, addresses, pdu_size, numbers_and_body, spelling, Fits}
-use Rattle.rina_pci.specs.Writing.{fits, field, addresses_written, numbers_written, written, Gives}
+use Rattle.rina_pci.specs.Writing.{fits, field, fields, number_fields, first_wide, addresses_written, numbers_written, written, Gives}
 use Rattle.rina_pci.proofs.Fields.{IsWide, wide}
 use Rattle.std.specs.Global.{Vec}
 use Rattle.std.specs.Prelude.{IfOk}
@@ -121,3 +121,59 @@ pub is_written : (w : Widths) (p : Pdu) (r : Result (Vec ℕ) PciError) → Fits
 is_written w p (Ok v) fit given = sym (fits_written w p fit) ∙ given
 is_written w p (Err Memory) fit given = tt
 is_written w p (Err (TooWide n)) fit given = sym (fits_written w p fit) ∙ given
+
+-- a test has one of two answers
+either : (b : Bool) → (b ≡ true) ⊎ (b ≡ false)
+either true = inl refl
+either false = inr refl
+
+-- what is written, and the first field that does not fit
+abbrev pub Agree : Bytes → Option ℕ → Type 0
+Agree (Ok bytes) None = Unit {0}
+Agree (Err (TooWide n)) (Some m) = n ≡ m
+Agree _ _ = ⊥
+
+numbers_agree : (w : Widths) (k : PduKind) (p : Pdu) (front : List ℕ) → Agree (numbers_written w k p >>= λ n. done (front ++ n)) (first_wide (number_fields w k p))
+unfolding numbers_written
+numbers_agree w Piece p front = elim (either (fits w.seq p.seq)) [ inr e ↦ rw e refl | inl a ↦ rw a tt ]
+numbers_agree w Ack p front =
+    elim (either (fits w.seq p.ack)) [
+      | inr e ↦ rw e refl
+      | inl a ↦ elim (either (fits w.seq p.right)) [ inr e ↦ rw (a, e) refl | inl b ↦ rw (a, b) tt ]
+    ]
+
+agree : (w : Widths) (p : Pdu) → Agree (written w p) (first_wide (fields w p))
+unfolding written addresses_written
+agree w p =
+    elim (either (fits w.addr p.dst)) [
+      | inr e ↦ rw e refl
+      | inl a ↦ elim (either (fits w.addr p.src)) [
+        | inr e ↦ rw (a, e) refl
+        | inl b ↦ elim (either (fits w.cep p.dcep)) [
+          | inr e ↦ rw (a, b, e) refl
+          | inl c ↦ elim (either (fits w.cep p.scep)) [
+            | inr e ↦ rw (a, b, c, e) refl
+            | inl d ↦ elim (either (fits w.len (pdu_size w p))) [
+              | inr e ↦ rw (a, b, c, d, e) refl
+              | inl f ↦ rw (a, b, c, d, f) (numbers_agree w p.kind p (head p ++ addresses w p ++ be w.len (pdu_size w p)))
+            ]
+          ]
+        ]
+      ]
+    ]
+
+wide_from : (r : Bytes) (o : Option ℕ) (n : ℕ) → Agree r o → r ≡ Err (TooWide n) → o ≡ Some n
+wide_from (Ok bytes) o n h e = absurd cc
+wide_from (Err Memory) o n h e = absurd cc
+wide_from (Err (TooWide m)) (Some k) n h e = cc
+wide_from (Err (TooWide m)) None n h e = absurd h
+
+wide_to : (r : Bytes) (o : Option ℕ) (n : ℕ) → Agree r o → o ≡ Some n → r ≡ Err (TooWide n)
+wide_to (Ok bytes) None n h e = absurd cc
+wide_to (Ok bytes) (Some k) n h e = absurd h
+wide_to (Err Memory) o n h e = absurd h
+wide_to (Err (TooWide m)) (Some k) n h e = cc
+wide_to (Err (TooWide m)) None n h e = absurd h
+
+pub wide_exactly : (w : Widths) (p : Pdu) (n : ℕ) → (written w p ≡ Err (TooWide n)) ↔ (first_wide (fields w p) ≡ Some n)
+wide_exactly w p n = (wide_from (written w p) (first_wide (fields w p)) n (agree w p), wide_to (written w p) (first_wide (fields w p)) n (agree w p))

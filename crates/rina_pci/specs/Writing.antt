@@ -1,5 +1,5 @@
 -- Writing a PDU from left to right, up to the first field that does not fit.
-use Rattle.std.specs.Prelude.{◌≡◌, ℕ, ◌*◌, ◌^◌, Bool, nat_lt, List, ◌++◌, Result, Ok, Err, if◌then◌else◌}
+use Rattle.std.specs.Prelude.{◌≡◌, ℕ, ◌*◌, ◌^◌, Bool, nat_lt, List, [], ◌∷◌, ◌++◌, Option, Some, None, Result, Ok, Err, if◌then◌else◌}
 use Rattle.std.specs.Global.{Vec}
 use Rattle.rina_base.specs.declared.pdu.PduKind.{PduKind}
 use Rattle.rina_base.specs.declared.pdu.PduKind.TheVariants.{Piece, Ack}
@@ -42,6 +42,28 @@ written w p = do
   len ← field 9 w.len (pdu_size w p)
   numbers ← numbers_written w p.kind p
   Ok (head p ++ addresses ++ len ++ numbers)
+
+-- a field: its place in a PDU, its width, and its number
+pub record Field : Type 0 where
+  pub place : ℕ
+  pub width : ℕ
+  pub number : ℕ
+
+abbrev pub entry : ℕ → ℕ → ℕ → Field
+entry place width number = record { place = place; width = width; number = number }
+
+abbrev pub number_fields : Widths → PduKind → Pdu → List Field
+number_fields w Piece p = entry 10 w.seq p.seq ∷ []
+number_fields w Ack p = entry 10 w.seq p.ack ∷ entry 11 w.seq p.right ∷ []
+
+-- the fields whose width the DIF has, in their order
+abbrev pub fields : Widths → Pdu → List Field
+fields w p = entry 5 w.addr p.dst ∷ entry 6 w.addr p.src ∷ entry 7 w.cep p.dcep ∷ entry 8 w.cep p.scep ∷ entry 9 w.len (pdu_size w p) ∷ number_fields w p.kind p
+
+-- the place of the first field that does not fit
+abbrev pub first_wide : List Field → Option ℕ
+first_wide [] = None
+first_wide (f ∷ others) = if fits f.width f.number then first_wide others else Some f.place
 
 -- a call added to a row of bytes what a definition gives, unless memory ran out
 abbrev pub Adds : Result (Unit {0}) PciError → List ℕ → List ℕ → Result (List ℕ) PciError → Type 0
