@@ -4,7 +4,7 @@ use Rattle.rina_report.specs.declared.note.Note.{Note}
 use Rattle.rina_schedule.specs.declared.error.LineError.{LineError}
 use Rattle.rina_schedule.specs.declared.event.Event.{Event}
 use Rattle.rina_stack.specs.declared.plan.Plan.{Plan}
-use Rattle.rina_wire.specs.Plan.{built}
+use Rattle.rina_wire.specs.Plan.{air_of}
 use Rattle.rina_run.specs.declared.world.World.{World}
 use Rattle.rina_run.specs.Built.{event_at}
 use Rattle.rina_run.specs.Step.{Steps}
@@ -22,4 +22,4 @@ Runs plan number w (l ∷ ls) ns w' = (mid : World) × (first : List Note) × (r
 
 -- the world before the first line: the tower of the plan as it is built, and no labels
 abbrev pub opening : Plan → World
-opening plan = record { tower = built plan; labels = [] }
+opening plan = record { tower = air_of plan; labels = [] }

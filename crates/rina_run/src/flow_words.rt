@@ -1,7 +1,8 @@
 //! The words on flows: each calls the tower, and says what it answered.
-ghost use Rattle.std.specs.Prelude.{◌≡◌, IfOk, IsSome};
-ghost use Rattle.rina_run.specs.Step.{Registering, Allocating, Accepting, Sending, CallsRegister, CallsAllocate, CallsIncoming, CallsSend, port_said};
-ghost use Rattle.rina_wire.specs.Air.{Air};
+ghost use Rattle.std.specs.Prelude.{◌≡◌, ◌∷◌, ◌++◌, [], option_map, IfOk, OnOk};
+ghost use Rattle.rina_run.specs.Step.{Registering, Allocating, Accepting, Sending, CallsRegister, CallsAllocate, CallsIncoming, CallsSend, port_said, label_of};
+ghost use Rattle.rina_stack.specs.Plan.{IsPlan};
+ghost use Rattle.rina_wire.specs.Sound.{IsSound};
 
 use crate::labels::Label;
 use crate::site::{Site, find_site};
@@ -41,7 +42,8 @@ pub fn register(
     node: &Name,
     app: &AppName,
 ) -> Result<Option<Said>, Memory>
-    requires { IsSound world.old.tower }
+    requires plan { IsPlan plan.now }
+    requires sound { IsSound world.old.tower }
     ensures does { IfOk result (λ says. Registering plan.now fac.now node.now app.now world.old says world.new) }
     ensures sound { IsSound world.new.tower }
 {
@@ -81,7 +83,8 @@ pub fn allocate(
     to: &AppName,
     want: Want,
 ) -> Result<Option<Said>, Memory>
-    requires { IsSound world.old.tower }
+    requires plan { IsPlan plan.now }
+    requires sound { IsSound world.old.tower }
     ensures does { IfOk result (λ says. Allocating plan.now label.now fac.now node.now app.now to.now want world.old says world.new) }
     ensures sound { IsSound world.new.tower }
 {
@@ -150,7 +153,8 @@ pub fn accept(
     node: &Name,
     app: &AppName,
 ) -> Result<Option<Said>, Memory>
-    requires { IsSound world.old.tower }
+    requires plan { IsPlan plan.now }
+    requires sound { IsSound world.old.tower }
     ensures does { IfOk result (λ says. Accepting plan.now label.now fac.now node.now app.now world.old says world.new) }
     ensures sound { IsSound world.new.tower }
 {

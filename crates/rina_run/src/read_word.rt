@@ -3,6 +3,7 @@ ghost use Rattle.std.specs.Prelude.{◌≡◌, ◌++◌, List, OnOk, OnErr};
 ghost use Rattle.rina_report.specs.declared.note.Note.{Note};
 ghost use Rattle.rina_run.specs.Sites.{port_in};
 ghost use Rattle.rina_run.specs.Step.{Reading, IsRead};
+ghost use Rattle.rina_wire.specs.Sound.{IsSound};
 
 use crate::note::tell;
 use crate::world::World;

@@ -1,5 +1,6 @@
 //! What the names in a line stand for.
 ghost use Rattle.std.specs.Prelude.{◌≡◌, ◌<◌};
+ghost use Rattle.rina_stack.specs.Plan.{IsPlan};
 ghost use Rattle.rina_run.specs.Sites.{site_at};
 
 use rina_base::{Name, Node};
@@ -16,7 +17,8 @@ pub struct Site {
 /// first of them that names nothing.
 #[tactic(auto, unfolding(crate::specs::Sites::site_at))]
 pub fn find_site(plan: &Plan, field: u32, fac: &Name, node: &Name) -> Result<Site, u32>
-    requires { field < 4 }
+    requires plan { IsPlan plan.now }
+    requires small { field < 4 }
     ensures { result ≡ site_at plan.now field fac.now node.now }
 {
     let Some(fac) = plan.wire(fac) else {

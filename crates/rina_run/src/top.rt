@@ -7,6 +7,7 @@ use crate::play::{BadLine, play};
 use crate::words::fault_in;
 use crate::world::World;
 use rina_base::Seq;
+use rina_iface::Facility;
 use rina_io::{Ending, LIMIT, Sink, Source, take_all};
 use rina_report::{Fault, Note, Notes};
 use rina_schedule::LineError;
