@@ -7,3 +7,4 @@ pub mod Look
 pub mod Step
 pub mod Run
 pub mod Written
+pub mod Top

@@ -1,9 +1,8 @@
 -- The states of labelled ports: which changed since they were told last.
-use Rattle.std.specs.Prelude.{ℕ, ◌==◌, ◌&&◌, Bool, true, false, List, [], ◌∷◌, map, Option, Some, None, option_map, if◌then◌else◌}
+use Rattle.std.specs.Prelude.{◌≡◌, ℕ, ◌++◌, ◌==◌, ◌&&◌, Bool, true, false, List, [], ◌∷◌, map, Option, Some, None, option_map, if◌then◌else◌}
 use Rattle.std.specs.List.{flat_map}
 use Rattle.rina_base.specs.declared.number.Port.{Port}
 use Rattle.rina_base.specs.declared.number.Num.{Num}
-use Rattle.rina_iface.specs.declared.ends.End.{End}
 use Rattle.rina_iface.specs.declared.state.PortState.{PortState}
 use Rattle.rina_iface.specs.declared.state.PortState.TheVariants as states
 use Rattle.rina_iface.specs.declared.state.Why.{Why}
@@ -15,7 +14,8 @@ use Rattle.rina_report.specs.declared.note.Note.TheVariants as notes
 use Rattle.rina_report.specs.declared.said.Said.{Said}
 use Rattle.rina_report.specs.declared.said.Said.TheVariants as said
 use Rattle.rina_stack.specs.declared.plan.Plan.{Plan}
-use Rattle.rina_wire.specs.Air.{Air, end_at}
+use Rattle.rina_iface.specs.Seen.{state_of}
+use Rattle.rina_wire.specs.Air.{Air, seen_of}
 use Rattle.rina_run.specs.declared.labels.Label.{Label}
 use Rattle.rina_run.specs.Told.{drawn_told}
 
@@ -54,7 +54,7 @@ same_drawn a b = false
 
 -- the state of a port
 abbrev pub state_at : Air → Port → Option PortState
-state_at a port = option_map (λ (e : End). e.state) (end_at a port)
+state_at a port = state_of (seen_of a) port
 
 -- the note of what is said by a line at a tick, if anything is
 abbrev pub noted : ℕ → ℕ → Option Said → List Note
@@ -75,3 +75,14 @@ shown_now a l = record l { shown = state_at a l.port }
 -- the labels after they have told their states
 abbrev pub looked : Air → List Label → List Label
 looked a labels = map (shown_now a) labels
+
+-- the trace went on with notes of which this holds
+pub record Leads (P : List Note → Type 0) (old new : List Note) : Type 0 where
+  pub notes : List Note
+  pub trace : new ≡ old ++ notes
+  pub holds : P notes
+
+-- the trace went on
+pub record Extends (old new : List Note) : Type 0 where
+  pub notes : List Note
+  pub trace : new ≡ old ++ notes

@@ -1,6 +1,5 @@
 -- What the names in a line stand for.
-use Rattle.std.specs.Prelude.{◌≡◌, ℕ, ◌+◌, List, find, is_some, Bool, Option, Some, None, Result, Ok, Err, option_map}
-use Rattle.std.specs.List.{list_any}
+use Rattle.std.specs.Prelude.{ℕ, ◌+◌, List, find, Option, Some, None, Result, Ok, Err, option_map}
 use Rattle.std.specs.Str.{bytes_eq}
 use Rattle.rina_base.specs.declared.number.Port.{Port}
 use Rattle.rina_base.specs.Traverse.{◌>>=◌}
@@ -9,7 +8,6 @@ use Rattle.rina_stack.specs.Rules.{place_in}
 use Rattle.rina_stack.specs.Plan.{names_of}
 use Rattle.rina_run.specs.declared.labels.Label.{Label}
 use Rattle.rina_run.specs.declared.site.Site.{Site}
-
 
 -- what stands in a field; the field is unknown where there is nothing of that name
 abbrev pub known : {A : Type 0} → ℕ → Option A → Result A ℕ

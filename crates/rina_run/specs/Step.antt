@@ -143,6 +143,14 @@ pub record IsRead (line : ℕ) (w : World) (port : Port) (ns : List Note) (w' : 
   pub labels : w'.labels ≡ w.labels
   pub notes : ns ≡ read_notes line w.tower.now entries
 
+-- all that waited at the port was read, each entry with a note
+pub record ReadsAll (line : ℕ) (port : Port) (w : World) (trace : List Note) (w' : World) (trace' : List Note) : Type 0 where
+  pub entries : List Entry
+  pub passes : Passes port w.tower entries w'.tower
+  pub none_left : unpassed (seen_of w'.tower) port ≡ None
+  pub labels : w'.labels ≡ w.labels
+  pub notes : trace' ≡ trace ++ map (got_note line w.tower.now) entries
+
 abbrev pub Reading : ℕ → Option Port → World → List Note → World → Type 0
 Reading line None w ns w' = (ns ≡ noted line w.tower.now (Some (said.Refused (refusals.Unknown 1)))) × (w' ≡ w)
 Reading line (Some port) w ns w' = IsRead line w port ns w'

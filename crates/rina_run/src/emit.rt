@@ -1,5 +1,5 @@
 //! Writing the text of notes.
-ghost use Rattle.std.specs.Prelude.{◌≡◌, ◌≤◌, ℕ, List, Option, length, take, IfOk, OnOk, OnErr, IsErrOf};
+ghost use Rattle.std.specs.Prelude.{◌≡◌, ◌≤◌, ℕ, List, Option, length, take, IfOk, OnOk, IsErrOf};
 ghost use Rattle.std.specs.Io.KnownBytes.{Appends};
 ghost use Rattle.rina_io.specs.Causes.{Rose};
 ghost use Rattle.rina_report.specs.Notes.{text_of};
@@ -33,11 +33,11 @@ fn print_all(alloc: Global, notes: &[Note]) -> Result<Vec<u8>, Memory>
 
 /// Writes the text of the notes from a place on, in one piece. A base is what the sink had taken
 /// before the first note.
-#[tactic(auto, using(crate::proofs::Texts::wrote_more, crate::proofs::Texts::wrote_part, crate::proofs::Texts::wrote_none))]
+#[tactic(auto, using(crate::proofs::Texts::wrote_more, crate::proofs::Texts::wrote_part, crate::proofs::Texts::wrote_none, crate::proofs::Texts::wrote_all))]
 pub fn emit<K: Sink>(alloc: Global, out: &mut K, trace: &Notes, from: usize) -> Result<(), Stop>
     requires { from ≤ length trace.now }
     ensures ok { OnOk result ((base : Option (List ℕ)) → Appends base (K.took out.old) (text_of (take from trace.now)) → Appends base (K.took out.new) (text_of trace.now)) }
-    ensures err { OnErr result ((base : Option (List ℕ)) → Appends base (K.took out.old) (text_of (take from trace.now)) → IsFront base (K.took out.new) (text_of trace.now)) }
+    ensures front { (base : Option (List ℕ)) → Appends base (K.took out.old) (text_of (take from trace.now)) → IsFront base (K.took out.new) (text_of trace.now) }
     ensures fault { IsErrOf result Stop.WriteFault → Rose (K.faults out.old) (K.faults out.new) }
     ensures later { K.faults out.old ≤ K.faults out.new }
 {

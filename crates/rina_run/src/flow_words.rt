@@ -1,6 +1,6 @@
 //! The words on flows: each calls the tower, and says what it answered.
 ghost use Rattle.std.specs.Prelude.{◌≡◌, ◌∷◌, ◌++◌, [], option_map, IfOk, OnOk};
-ghost use Rattle.rina_run.specs.Step.{Registering, Allocating, Accepting, Sending, CallsRegister, CallsAllocate, CallsIncoming, CallsSend, port_said, label_of};
+ghost use Rattle.rina_run.specs.Step.{Registering, Allocating, Accepting, Sending, CallsRegister, CallsAllocate, CallsIncoming, CallsSend, port_said, label_of, asked};
 ghost use Rattle.rina_stack.specs.Plan.{IsPlan};
 ghost use Rattle.rina_wire.specs.Sound.{IsSound};
 
@@ -92,17 +92,29 @@ pub fn allocate(
         Ok(site) => site,
         Err(field) => return Ok(refused(Some(Refusal::Unknown { field }))),
     };
-    if world.labels.find(label).is_some() {
+    if world.labels.has(label) {
         return Ok(refused(Some(Refusal::LabelUsed)));
     }
-    let ask = Ask {
+    let ask = make_ask(alloc, site, app, to, want)?;
+    call_allocate(alloc, plan, world, label, fac, node, &ask)
+}
+
+fn make_ask(
+    alloc: Global,
+    site: Site,
+    app: &AppName,
+    to: &AppName,
+    want: Want,
+) -> Result<Ask, Memory>
+    ensures { IfOk result (λ ask. ask ≡ asked site app.now to.now want) }
+{
+    Ok(Ask {
         fac: site.fac,
         node: site.node,
         app: app.copy(alloc)?,
         to: to.copy(alloc)?,
         want,
-    };
-    call_allocate(alloc, plan, world, label, fac, node, &ask)
+    })
 }
 
 fn call_allocate(
@@ -162,7 +174,7 @@ pub fn accept(
         Ok(site) => site,
         Err(field) => return Ok(refused(Some(Refusal::Unknown { field }))),
     };
-    if world.labels.find(label).is_some() {
+    if world.labels.has(label) {
         return Ok(refused(Some(Refusal::LabelUsed)));
     }
     call_incoming(alloc, plan, world, label, site, app)

@@ -1,5 +1,5 @@
 //! The labels that a schedule gave to ports.
-ghost use Rattle.std.specs.Prelude.{◌≡◌, ◌<◌, [], ◌∷◌, ◌++◌, length, slice_get, slice_set, option_map, OnOk, OnErr};
+ghost use Rattle.std.specs.Prelude.{◌≡◌, ◌<◌, [], ◌∷◌, ◌++◌, length, slice_get, slice_set, option_map, is_some, OnOk, OnErr};
 ghost use Rattle.rina_run.specs.Sites.{label_in, port_in};
 
 use rina_base::{Name, Port};
@@ -82,6 +82,13 @@ impl Labels {
         ensures { option_map (λ l. l.now) result ≡ label_in self.now name.now }
     {
         self.items.iter().find(|label| label.name.is(name))
+    }
+
+    /// Whether there is a label of that name.
+    pub fn has(&self, name: &Name) -> bool
+        ensures { result ≡ is_some (label_in self.now name.now) }
+    {
+        self.find(name).is_some()
     }
 
     /// The port of the label of that name.

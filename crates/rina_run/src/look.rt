@@ -1,13 +1,13 @@
 //! The states of labelled ports: which changed since they were told last.
-ghost use Rattle.std.specs.Prelude.{◌≡◌, ◌++◌, option_map, IfOk, OnOk, OnErr, List};
-ghost use Rattle.rina_report.specs.declared.note.Note.{Note};
+ghost use Rattle.std.specs.Prelude.{◌≡◌, ◌<◌, ◌++◌, length, option_map, slice_get, slice_set, IfOk, OnOk, OnErr};
+ghost use Rattle.rina_run.specs.declared.labels.Label.{Label};
 ghost use Rattle.rina_report.specs.declared.said.Said.TheVariants as said;
 ghost use Rattle.rina_run.specs.Told.{drawn_told};
-ghost use Rattle.rina_run.specs.Look.{same_num, same_port, same_why, same_fail, same_state, same_drawn, label_notes, state_notes, shown_now, looked};
+ghost use Rattle.rina_run.specs.Look.{same_num, same_port, same_why, same_fail, same_state, same_drawn, label_notes, state_notes, shown_now, looked, Extends};
 
+use crate::labels::{Label, Labels};
 use crate::note::tell;
 use crate::told::tell_drawn;
-use crate::labels::{Label, Labels};
 use rina_base::Memory;
 use rina_iface::{Facility, Fail, PortState, Why};
 use rina_report::{Notes, Said};
@@ -88,7 +88,7 @@ fn say_label(
 }
 
 /// Tells the state of a label's port, where that is not the one that was told last.
-#[tactic(auto, unfolding(crate::specs::Look::label_notes))]
+#[tactic(auto, using(crate::proofs::Looking::told_before, crate::proofs::Looking::told_now))]
 fn look_at(
     alloc: Global,
     plan: &Plan,
@@ -108,6 +108,28 @@ fn look_at(
     tell(trace, line, tower.now(), says)
 }
 
+/// Looks at the label at this place.
+fn look_one(
+    alloc: Global,
+    plan: &Plan,
+    tower: &Wires,
+    labels: &mut Labels,
+    at: usize,
+    line: u32,
+    trace: &mut Notes,
+) -> Result<(), Memory>
+    requires { at < length labels.old }
+    ensures notes { OnOk result ((l : Label) → slice_get labels.old at ≡ Some l → trace.new ≡ trace.old ++ label_notes plan.now line tower.now l) }
+    ensures labels { OnOk result ((l : Label) → slice_get labels.old at ≡ Some l → labels.new ≡ slice_set labels.old at (shown_now tower.now l)) }
+    ensures err { OnErr result (trace.new ≡ trace.old) }
+{
+    let label = &labels.as_slice()[at];
+    look_at(alloc, plan, tower, label, line, trace)?;
+    let state = tower.state(label.port);
+    labels.show(at, state);
+    Ok(())
+}
+
 /// Tells the states of all labelled ports that changed since they were told last.
 pub fn look(
     alloc: Global,
@@ -119,17 +141,10 @@ pub fn look(
 ) -> Result<(), Memory>
     ensures notes { OnOk result (trace.new ≡ trace.old ++ state_notes plan.now line tower.now labels.old) }
     ensures labels { OnOk result (labels.new ≡ looked tower.now labels.old) }
-    ensures more { OnErr result ((ns : List Note) × (trace.new ≡ trace.old ++ ns)) }
+    ensures more { OnErr result (Extends trace.old trace.new) }
 {
     'labels: for at in 0..labels.len() {
-        let state = match labels.as_slice().get(at) {
-            Some(label) => {
-                look_at(alloc, plan, tower, label, line, trace)?;
-                tower.state(label.port)
-            }
-            None => None,
-        };
-        labels.show(at, state);
+        look_one(alloc, plan, tower, labels, at, line, trace)?;
     }
     Ok(())
 }

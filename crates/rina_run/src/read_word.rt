@@ -1,8 +1,8 @@
 //! The word `read`.
-ghost use Rattle.std.specs.Prelude.{◌≡◌, ◌++◌, List, OnOk, OnErr};
-ghost use Rattle.rina_report.specs.declared.note.Note.{Note};
+ghost use Rattle.std.specs.Prelude.{OnOk, OnErr};
+ghost use Rattle.rina_run.specs.Look.{Leads, Extends};
 ghost use Rattle.rina_run.specs.Sites.{port_in};
-ghost use Rattle.rina_run.specs.Step.{Reading, IsRead};
+ghost use Rattle.rina_run.specs.Step.{Reading, ReadsAll};
 ghost use Rattle.rina_wire.specs.Sound.{IsSound};
 
 use crate::note::tell;
@@ -21,8 +21,8 @@ pub fn read(
     trace: &mut Notes,
 ) -> Result<(), Memory>
     requires { IsSound world.old.tower }
-    ensures does { OnOk result ((ns : List Note) × (trace.new ≡ trace.old ++ ns) × Reading line (port_in world.old.labels label.now) world.old ns world.new) }
-    ensures more { OnErr result ((ns : List Note) × (trace.new ≡ trace.old ++ ns)) }
+    ensures does { OnOk result (Leads (λ ns. Reading line (port_in world.old.labels label.now) world.old ns world.new) trace.old trace.new) }
+    ensures more { OnErr result (Extends trace.old trace.new) }
     ensures sound { IsSound world.new.tower }
 {
     let Some(port) = world.labels.port(label) else {
@@ -35,6 +35,7 @@ pub fn read(
     read_all(alloc, world, line, port, trace)
 }
 
+/// Reads all SDUs that wait at a port, each with a note.
 fn read_all(
     alloc: Global,
     world: &mut World,
@@ -42,12 +43,20 @@ fn read_all(
     port: Port,
     trace: &mut Notes,
 ) -> Result<(), Memory>
+    requires { IsSound world.old.tower }
+    ensures does { OnOk result (ReadsAll line port world.old trace.old world.new trace.new) }
+    ensures more { OnErr result (Extends trace.old trace.new) }
+    ensures sound { IsSound world.new.tower }
 {
-    'entries: while let Some(lent) = world.tower.peek(port) {
+    'entries: for _ in 0..u64::MAX {
+        let Some(lent) = world.tower.peek(port) else {
+            return Ok(());
+        };
         let bytes = Seq::copy_of(alloc, lent.bytes)?;
         let got = Said::Got { at: lent.at, bytes };
         tell(trace, line, world.tower.now(), Some(got))?;
         world.tower.pass(port);
     }
-    Ok(())
+    // So many notes fit into no memory.
+    Err(Memory)
 }

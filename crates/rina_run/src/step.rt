@@ -1,8 +1,10 @@
 //! One line of a schedule.
-ghost use Rattle.std.specs.Prelude.{◌≡◌, ◌++◌, ◌+◌, nat_lt, true, OnOk, OnErr, List};
-ghost use Rattle.rina_report.specs.declared.note.Note.{Note};
+ghost use Rattle.std.specs.Prelude.{◌≡◌, ◌+◌, nat_lt, true, OnOk, OnErr};
+ghost use Rattle.rina_stack.specs.Plan.{IsPlan};
+ghost use Rattle.rina_wire.specs.Sound.{IsSound};
 ghost use Rattle.rina_run.specs.Built.{is_built};
-ghost use Rattle.rina_run.specs.Step.{Acts, Steps, Ticking, AllTicks, TicksOnce};
+ghost use Rattle.rina_run.specs.Look.{Leads, Extends};
+ghost use Rattle.rina_run.specs.Step.{Acts, Steps, Ticking, Ticks, TicksOnce};
 
 use crate::flow_words::{accept, allocate, register, send};
 use crate::look::look;
@@ -14,7 +16,6 @@ use rina_iface::Facility;
 use rina_report::{Notes, Refusal, Said};
 use rina_schedule::Event;
 use rina_stack::Plan;
-use rina_wire::TickError;
 use std::alloc::Global;
 
 /// One tick, after which the labels tell their states.
@@ -25,6 +26,10 @@ fn tick_once(
     line: u32,
     trace: &mut Notes,
 ) -> Result<(), Memory>
+    requires { IsSound world.old.tower }
+    ensures does { OnOk result (Leads (λ ns. TicksOnce plan.now line world.old ns world.new) trace.old trace.new) }
+    ensures more { OnErr result (Extends trace.old trace.new) }
+    ensures sound { IsSound world.new.tower }
 {
     match world.tower.tick(alloc) {
         Ok(()) => look(alloc, plan, &world.tower, &mut world.labels, line, trace),
@@ -41,15 +46,37 @@ fn tick(
     count: u32,
     trace: &mut Notes,
 ) -> Result<(), Memory>
+    requires { IsSound world.old.tower }
+    ensures does { OnOk result (Leads (λ ns. Ticking (nat_lt 10000000 (world.old.tower.now + count)) plan.now line count world.old ns world.new) trace.old trace.new) }
+    ensures more { OnErr result (Extends trace.old trace.new) }
+    ensures sound { IsSound world.new.tower }
 {
     if u64::from(world.tower.now()) + u64::from(count) > 10_000_000 {
         let why = Refusal::ClockSpent;
         return tell(trace, line, world.tower.now(), Some(Said::Refused { why }));
     }
+    tick_all(alloc, plan, world, line, count, trace)?;
+    tell(trace, line, world.tower.now(), Some(Said::Done))
+}
+
+/// So many ticks.
+fn tick_all(
+    alloc: Global,
+    plan: &Plan,
+    world: &mut World,
+    line: u32,
+    count: u32,
+    trace: &mut Notes,
+) -> Result<(), Memory>
+    requires { IsSound world.old.tower }
+    ensures does { OnOk result (Leads (λ ns. Ticks plan.now line count world.old ns world.new) trace.old trace.new) }
+    ensures more { OnErr result (Extends trace.old trace.new) }
+    ensures sound { IsSound world.new.tower }
+{
     'ticks: for _ in 0..count {
         tick_once(alloc, plan, world, line, trace)?;
     }
-    tell(trace, line, world.tower.now(), Some(Said::Done))
+    Ok(())
 }
 
 /// Does what a line asks for, and adds the notes of its answer.
@@ -61,10 +88,18 @@ fn act(
     event: &Event,
     trace: &mut Notes,
 ) -> Result<(), Memory>
+    requires plan { IsPlan plan.now }
     requires built { is_built event.now ≡ true }
+    requires sound { IsSound world.old.tower }
+    ensures does { OnOk result (Leads (λ ns. Acts plan.now line event.now world.old ns world.new) trace.old trace.new) }
+    ensures more { OnErr result (Extends trace.old trace.new) }
+    ensures sound { IsSound world.new.tower }
 {
-    let says = match event {
-        Event::Register { fac, node, app } => register(alloc, plan, world, fac, node, app)?,
+    match event {
+        Event::Register { fac, node, app } => {
+            let says = register(alloc, plan, world, fac, node, app)?;
+            tell(trace, line, world.tower.now(), says)
+        }
         Event::Alloc {
             label,
             fac,
@@ -72,19 +107,27 @@ fn act(
             app,
             to,
             want,
-        } => allocate(alloc, plan, world, label, fac, node, app, to, *want)?,
+        } => {
+            let says = allocate(alloc, plan, world, label, fac, node, app, to, *want)?;
+            tell(trace, line, world.tower.now(), says)
+        }
         Event::Accept {
             label,
             fac,
             node,
             app,
-        } => accept(alloc, plan, world, label, fac, node, app)?,
-        Event::Send { label, bytes } => send(alloc, plan, world, label, bytes)?,
-        Event::Read { label } => return read(alloc, world, line, label, trace),
-        Event::Tick { count } => return tick(alloc, plan, world, line, *count, trace),
+        } => {
+            let says = accept(alloc, plan, world, label, fac, node, app)?;
+            tell(trace, line, world.tower.now(), says)
+        }
+        Event::Send { label, bytes } => {
+            let says = send(alloc, plan, world, label, bytes)?;
+            tell(trace, line, world.tower.now(), says)
+        }
+        Event::Read { label } => read(alloc, world, line, label, trace),
+        Event::Tick { count } => tick(alloc, plan, world, line, *count, trace),
         _ => unreachable!(),
-    };
-    tell(trace, line, world.tower.now(), says)
+    }
 }
 
 /// Runs a line: its word, and then the states of the labels that changed.
@@ -96,7 +139,12 @@ pub fn step(
     event: &Event,
     trace: &mut Notes,
 ) -> Result<(), Memory>
+    requires plan { IsPlan plan.now }
     requires built { is_built event.now ≡ true }
+    requires sound { IsSound world.old.tower }
+    ensures does { OnOk result (Leads (λ ns. Steps plan.now line event.now world.old ns world.new) trace.old trace.new) }
+    ensures more { OnErr result (Extends trace.old trace.new) }
+    ensures sound { IsSound world.new.tower }
 {
     act(alloc, plan, world, line, event, trace)?;
     look(alloc, plan, &world.tower, &mut world.labels, line, trace)

@@ -20,7 +20,11 @@ fn tell_port(alloc: Global, plan: &Plan, port: Port) -> Result<Option<PortNote>,
     };
     let fac = wire.name.copy(alloc)?;
     let node = node.copy(alloc)?;
-    Ok(Some(PortNote { fac, node, n: port.n }))
+    Ok(Some(PortNote {
+        fac,
+        node,
+        n: port.n,
+    }))
 }
 
 fn tell_fail(alloc: Global, plan: &Plan, fail: Fail) -> Result<Option<FailNote>, Memory>
@@ -124,7 +128,10 @@ pub fn tell_send(alloc: Global, plan: &Plan, error: SendError) -> Result<Option<
             Some(fail) => Ok(Some(Refusal::Failed { fail })),
             None => Ok(None),
         },
-        SendError::TooLong { len, max } => Ok(Some(Refusal::TooLong { len: len as u64, max })),
+        SendError::TooLong { len, max } => Ok(Some(Refusal::TooLong {
+            len: len as u64,
+            max,
+        })),
         SendError::WindowShut { need, room } => Ok(Some(Refusal::WindowShut { need, room })),
         SendError::NoRoute { dst } => Ok(Some(Refusal::NoRoute { dst })),
         SendError::QueueFull { need, room } => Ok(Some(Refusal::QueueFull { need, room })),
