@@ -1,5 +1,5 @@
 -- Lines that are lent, and the list of their bytes.
-use Rattle.std.proofs.Common.{◌≡◌, ℕ, zero, suc, ◌+◌, ◌-◌, ◌<◌, ◌≤◌, List, [], ◌∷◌, ◌++◌, length, map, drop, take, get_or, slice_get, option_map, Bool, true, false, not, cond, Option, Some, None, Bor, refl, sym, ap, ◌∙◌, arith, append_assoc}
+use Rattle.std.proofs.Common.{◌≡◌, ℕ, ◌+◌, ◌-◌, ◌<◌, ◌≤◌, List, [], ◌∷◌, ◌++◌, length, map, drop, take, get_or, slice_get, option_map, Bool, true, false, not, cond, Some, None, Bor, refl, sym, ap, ◌∙◌, arith, append_assoc}
 use Rattle.std.specs.List.{prefix_len, position, flat_map}
 use Rattle.std.proofs.lemmas.List.{drop_more, drop_all, length-map, get_or-map, take-map, drop-drop}
 use Rattle.std.specs.List.{drop-map}

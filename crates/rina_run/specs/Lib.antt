@@ -1,2 +1,10 @@
 pub mod Words
 pub mod Script
+pub mod Built
+pub mod Sites
+pub mod Told
+pub mod Look
+pub mod Step
+pub mod Run
+pub mod Written
+pub mod Top

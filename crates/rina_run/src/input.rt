@@ -1,5 +1,5 @@
 //! The parts of an input: the text of the stack, and the lines of the schedule behind a mark.
-ghost use Rattle.std.specs.Prelude.{◌≡◌, ◌<◌, ◌-◌, length, map, position, slice_get, take, drop, IfOk, IfSome, option_map};
+ghost use Rattle.std.specs.Prelude.{◌≡◌, ◌<◌, ◌≤◌, ◌-◌, length, map, position, slice_get, take, drop, IfOk, IfSome, option_map};
 ghost use Rattle.std.specs.List.{flat_map};
 ghost use Rattle.bstr.specs.Text.{lines_of, without_terminator};
 ghost use Rattle.rina_run.specs.Script.{has_end, is_open, ended_lines, counted_lines, is_mark, script, script_of};
@@ -44,7 +44,8 @@ fn is_mark_line(line: &[u8]) -> bool
 
 /// The lines of an input, each with its end if it has one.
 pub fn all_lines(alloc: Global, bytes: &[u8]) -> Result<Vec<&[u8]>, AllocError>
-    ensures { IfOk result (λ v. map (λ s. s.now) v.items ≡ lines_of bytes.now) }
+    ensures value { IfOk result (λ v. map (λ s. s.now) v.items ≡ lines_of bytes.now) }
+    ensures few { IfOk result (λ v. length v.items ≤ length bytes.now) }
 {
     bytes.lines_with_terminator().collect(alloc)
 }
@@ -66,7 +67,8 @@ fn last_is_open(lines: &[&[u8]]) -> bool
 }
 
 fn all_but_last<'a, 'b>(lines: &'b [&'a [u8]]) -> &'b [&'a [u8]]
-    ensures { result.now ≡ take (length lines.now - 1) lines.now }
+    ensures few { length result.now ≤ length lines.now }
+    ensures value { result.now ≡ take (length lines.now - 1) lines.now }
 {
     lines.split_at(lines.len().saturating_sub(1)).0
 }
@@ -74,7 +76,8 @@ fn all_but_last<'a, 'b>(lines: &'b [&'a [u8]]) -> &'b [&'a [u8]]
 /// The lines that have their end.
 #[tactic(auto, unfolding(crate::specs::Script::ended_lines))]
 fn ended<'a, 'b>(lines: &'b [&'a [u8]]) -> &'b [&'a [u8]]
-    ensures { map (λ l. l.now) result.now ≡ ended_lines (map (λ l. l.now) lines.now) }
+    ensures few { length result.now ≤ length lines.now }
+    ensures value { map (λ l. l.now) result.now ≡ ended_lines (map (λ l. l.now) lines.now) }
 {
     if last_is_open(lines) {
         all_but_last(lines)
@@ -85,7 +88,8 @@ fn ended<'a, 'b>(lines: &'b [&'a [u8]]) -> &'b [&'a [u8]]
 
 /// The lines that count: where the input did not end there, a last line without its end does not.
 fn counted<'a, 'b>(whole: bool, lines: &'b [&'a [u8]]) -> &'b [&'a [u8]]
-    ensures { map (λ l. l.now) result.now ≡ counted_lines whole (map (λ l. l.now) lines.now) }
+    ensures few { length result.now ≤ length lines.now }
+    ensures value { map (λ l. l.now) result.now ≡ counted_lines whole (map (λ l. l.now) lines.now) }
 {
     if whole { lines } else { ended(lines) }
 }
@@ -110,7 +114,8 @@ fn joined(alloc: Global, lines: &[&[u8]]) -> Result<Vec<u8>, AllocError>
 }
 
 fn behind_first<'a, 'b>(lines: &'b [&'a [u8]]) -> &'b [&'a [u8]]
-    ensures { result.now ≡ drop 1 lines.now }
+    ensures value { result.now ≡ drop 1 lines.now }
+    ensures few { length result.now ≤ length lines.now }
 {
     lines.split_at(lines.len().min(1)).1
 }
@@ -123,7 +128,8 @@ pub fn split_input<'a, 'b>(
     whole: bool,
     lines: &'b [&'a [u8]],
 ) -> Result<Option<Parts<'a, 'b>>, AllocError>
-    ensures { IfOk result (λ o. option_map (λ p. script p.stack.items (map (λ l. without_terminator l.now) p.lines.now)) o ≡ script_of whole (counted_lines whole (map (λ l. l.now) lines.now))) }
+    ensures value { IfOk result (λ o. option_map (λ p. script p.stack.items (map (λ l. without_terminator l.now) p.lines.now)) o ≡ script_of whole (counted_lines whole (map (λ l. l.now) lines.now))) }
+    ensures few { IfOk result (λ o. IfSome o (λ p. length p.lines.now ≤ length lines.now)) }
 {
     let lines = counted(whole, lines);
     match mark_in(lines) {

@@ -38,7 +38,7 @@ fn skip_blanks(text: &[u8]) -> &[u8]
 
 /// The first field of a text, and what stands behind it.
 #[tactic(auto, unfolding(crate::specs::Fields::next_of))]
-pub(crate) fn next_field(text: &[u8]) -> Option<(&[u8], &[u8])>
+pub fn next_field(text: &[u8]) -> Option<(&[u8], &[u8])>
     ensures { option_map (λ x. (x.0.now, x.1.now)) result ≡ next_of text.now }
 {
     let text = skip_blanks(text);

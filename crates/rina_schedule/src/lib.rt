@@ -16,6 +16,7 @@ mod words;
 pub use bytes::read_bytes;
 pub use error::LineError;
 pub use event::Event;
+pub use field::next_field;
 pub use line::read_line;
 pub use number::read_number;
 pub use object_name::ObjectName;

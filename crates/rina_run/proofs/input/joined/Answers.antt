@@ -1,4 +1,3 @@
-use Rattle.std.proofs.Common.{◌+◌, ◌++◌, drop}
 use Rattle.rina_run.proofs.Lines.{joined_more}
 use Rattle.rina_run.proofs.input.joined.Goals as goal
 

@@ -1,0 +1,9 @@
+use Rattle.std.proofs.Common.{◌∙◌}
+use Rattle.rina_run.proofs.Reading.{partly_more}
+use Rattle.rina_run.proofs.read_word.read_all.Goals as goal
+
+pub entries-preserved : goal.entries-preserved
+entries-preserved c = record {
+  sound = c.pass.ensures.valid;
+  read = partly_more _ _ _ c.entries.world _ _ _ c.in-Some.ensures.entry c.now.result _ _ _ c.entries.invariant.read c.in-Some.ensures.oldest c.in-Some.ensures.its_tick (c.in_ok-bytes.ensures ∙ c.in-Some.ensures.its_bytes) c.now.ensures c.in_ok-tell.ensures.ok c.pass.ensures.exact;
+}

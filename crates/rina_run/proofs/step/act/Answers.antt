@@ -1,0 +1,15 @@
+use Rattle.rina_run.specs.Step.{Registering, Allocating, Accepting, Sending}
+use Rattle.rina_run.proofs.Leading.{told_leads}
+use Rattle.rina_run.proofs.step.act.Goals as goal
+
+pub returns-in_ok-says-in-Register-clause-does : goal.returns-in_ok-says-in-Register-clause-does
+returns-in_ok-says-in-Register-clause-does c = rw c.in-Register.is (told_leads (Registering c.args.plan.now c.in-Register.fac c.in-Register.node c.in-Register.app c.args.world.now) _ _ _ _ _ _ _ c.in_ok-says-in-Register.ensures.does c.now.ensures c.tell.ensures.ok)
+
+pub returns-in_ok-says-in-Alloc-clause-does : goal.returns-in_ok-says-in-Alloc-clause-does
+returns-in_ok-says-in-Alloc-clause-does c = rw c.in-Alloc.is (told_leads (Allocating c.args.plan.now c.in-Alloc.label c.in-Alloc.fac c.in-Alloc.node c.in-Alloc.app c.in-Alloc.to c.in-Alloc.want c.args.world.now) _ _ _ _ _ _ _ c.in_ok-says-in-Alloc.ensures.does c.now-in-Alloc.ensures c.tell-in-Alloc.ensures.ok)
+
+pub returns-in_ok-says-in-Accept-clause-does : goal.returns-in_ok-says-in-Accept-clause-does
+returns-in_ok-says-in-Accept-clause-does c = rw c.in-Accept.is (told_leads (Accepting c.args.plan.now c.in-Accept.label c.in-Accept.fac c.in-Accept.node c.in-Accept.app c.args.world.now) _ _ _ _ _ _ _ c.in_ok-says-in-Accept.ensures.does c.now-in-Accept.ensures c.tell-in-Accept.ensures.ok)
+
+pub returns-in_ok-says-in-Send-clause-does : goal.returns-in_ok-says-in-Send-clause-does
+returns-in_ok-says-in-Send-clause-does c = rw c.in-Send.is (told_leads (Sending c.args.plan.now c.in-Send.label c.in-Send.bytes c.args.world.now) _ _ _ _ _ _ _ c.in_ok-says-in-Send.ensures.does c.now-in-Send.ensures c.tell-in-Send.ensures.ok)

@@ -1,0 +1,35 @@
+-- Which words of a schedule are built; the others are words outside the grammar until they are.
+use Rattle.std.specs.Prelude.{ℕ, ◌==◌, ◌||◌, Bool, true, false, List, slice_index, codes, Option, Some, None, Result, Ok, Err, if◌then◌else◌}
+use Rattle.std.specs.Str.{bytes_eq}
+use Rattle.rina_base.specs.Traverse.{◌>>=◌}
+use Rattle.rina_schedule.specs.declared.error.LineError.{LineError}
+use Rattle.rina_schedule.specs.declared.error.LineError.TheVariants as errors
+use Rattle.rina_schedule.specs.declared.event.Event.{Event}
+use Rattle.rina_schedule.specs.declared.event.Event.TheVariants as events
+use Rattle.rina_schedule.specs.Fields.{next_of}
+use Rattle.rina_schedule.specs.Line.{line_at}
+
+unfoldable pub is_built_word : List ℕ → Bool
+is_built_word word = bytes_eq word (codes "register") || bytes_eq word (codes "alloc") || bytes_eq word (codes "accept") || bytes_eq word (codes "send") || bytes_eq word (codes "read") || bytes_eq word (codes "tick")
+
+abbrev pub is_built : Event → Bool
+is_built (events.Register fac node app) = true
+is_built (events.Alloc label fac node app to want) = true
+is_built (events.Accept label fac node app) = true
+is_built (events.Send label bytes) = true
+is_built (events.Read label) = true
+is_built (events.Tick count) = true
+is_built _ = false
+
+-- the line is blank or a comment, or begins with a word that is built
+abbrev pub begins_built : Option (List ℕ × List ℕ) → Bool
+begins_built None = true
+begins_built (Some f) = (slice_index f.0 0 == 35) || is_built_word f.0
+
+abbrev pub if_built : Option Event → Result (Option Event) LineError
+if_built None = Ok None
+if_built (Some event) = if is_built event then Ok (Some event) else Err errors.UnknownWord
+
+-- what a line asks for, where its word is built
+unfoldable pub event_at : List ℕ → Result (Option Event) LineError
+event_at text = if begins_built (next_of text) then (line_at text >>= if_built) else Err errors.UnknownWord

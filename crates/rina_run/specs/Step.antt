@@ -1,0 +1,205 @@
+-- What each line of a schedule does to the tower and the labels, and which notes it gives.
+use Rattle.std.specs.Prelude.{◌≡◌, ℕ, ◌+◌, zero, suc, nat_lt, Bool, true, false, List, [], ◌∷◌, ◌++◌, map, Option, Some, None, Result, Ok, Err, option_map}
+use Rattle.rina_base.specs.declared.number.Num.{Num}
+use Rattle.rina_base.specs.declared.number.Port.{Port}
+use Rattle.rina_cube.specs.declared.Want.{Want}
+use Rattle.rina_law.specs.declared.entry.Entry.{Entry}
+use Rattle.rina_iface.specs.declared.ask.Ask.{Ask}
+use Rattle.rina_iface.specs.declared.error.RegisterError.{RegisterError}
+use Rattle.rina_iface.specs.declared.error.AllocateError.{AllocateError}
+use Rattle.rina_iface.specs.declared.error.SendError.{SendError}
+use Rattle.rina_iface.specs.Seen.{unpassed}
+use Rattle.rina_report.specs.declared.note.Note.{Note}
+use Rattle.rina_report.specs.declared.note.Note.TheVariants as notes
+use Rattle.rina_report.specs.declared.refusal.Refusal.{Refusal}
+use Rattle.rina_report.specs.declared.refusal.Refusal.TheVariants as refusals
+use Rattle.rina_report.specs.declared.said.Said.{Said}
+use Rattle.rina_report.specs.declared.said.Said.TheVariants as said
+use Rattle.rina_schedule.specs.declared.event.Event.{Event}
+use Rattle.rina_schedule.specs.declared.event.Event.TheVariants as events
+use Rattle.rina_stack.specs.declared.plan.Plan.{Plan}
+use Rattle.rina_wire.specs.Air.{Air, seen_of}
+use Rattle.rina_wire.specs.Register.{RegistersOn}
+use Rattle.rina_wire.specs.Allocate.{AllocatesOn}
+use Rattle.rina_wire.specs.Claim.{ClaimsOn}
+use Rattle.rina_wire.specs.Send.{SendsOn, passed}
+use Rattle.rina_wire.specs.Tick.{TicksOn}
+use Rattle.rina_run.specs.declared.world.World.{World}
+use Rattle.rina_run.specs.declared.labels.Label.{Label}
+use Rattle.rina_run.specs.declared.site.Site.{Site}
+use Rattle.rina_run.specs.Sites.{site_at, label_in, port_in}
+use Rattle.rina_run.specs.Told.{answer_told, register_told, allocate_told, send_told, drawn_told}
+use Rattle.rina_run.specs.Look.{state_at, noted, state_notes, looked}
+
+-- the line was refused before any call, and nothing changed
+pub record IsRefused (why : Refusal) (w : World) (says : Option Said) (w' : World) : Type 0 where
+  pub said : says ≡ Some (said.Refused why)
+  pub world : w' ≡ w
+
+-- a call at the facility and the node that the line names; where it names none, it is refused
+abbrev pub AtSite : Result Site ℕ → (Site → Option Said → World → Type 0) → World → Option Said → World → Type 0
+AtSite (Err field) Call w says w' = IsRefused (refusals.Unknown field) w says w'
+AtSite (Ok site) Call w says w' = Call site says w'
+
+-- a call that gives a label; where the label is given already, it is refused
+abbrev pub Unlabelled : Option Label → (Option Said → World → Type 0) → World → Option Said → World → Type 0
+Unlabelled (Some label) Call w says w' = IsRefused refusals.LabelUsed w says w'
+Unlabelled None Call w says w' = Call says w'
+
+-- a call on the port of a label; where there is no such label, it is refused
+abbrev pub AtPort : Option Port → (Port → Option Said → World → Type 0) → World → Option Said → World → Type 0
+AtPort None Call w says w' = IsRefused (refusals.Unknown 1) w says w'
+AtPort (Some port) Call w says w' = Call port says w'
+
+-- ---- register FAC NODE APP
+
+pub record CallsRegister (app : List ℕ) (w : World) (site : Site) (says : Option Said) (w' : World) : Type 0 where
+  pub result : Result (Unit {0}) RegisterError
+  pub does : RegistersOn w.tower site.fac site.node app result w'.tower
+  pub labels : w'.labels ≡ w.labels
+  pub told : says ≡ answer_told (λ done. Some said.Done) register_told result
+
+abbrev pub Registering : Plan → List ℕ → List ℕ → List ℕ → World → Option Said → World → Type 0
+Registering plan fac node app w says w' = AtSite (site_at plan 1 fac node) (CallsRegister app w) w says w'
+
+-- ---- alloc LABEL FAC NODE APP TO
+
+-- the state of a port, as it is said
+abbrev pub port_said : Plan → Air → Port → Option Said
+port_said plan a port = option_map said.Port (drawn_told plan (state_at a port))
+
+-- a label of a port, whose state has been told
+abbrev pub label_of : List ℕ → Air → Port → Label
+label_of name a port = record { name = name; rank = 0; port = port; shown = state_at a port }
+
+abbrev pub asked : Site → List ℕ → List ℕ → Want → Ask
+asked site app to want = record { fac = site.fac; node = site.node; app = app; to = to; want = want }
+
+-- the labels after a call that may have given one
+abbrev pub labelled : {E : Type 0} → List ℕ → Air → Result Port E → List Label → List Label
+labelled name a (Ok port) labels = labels ++ label_of name a port ∷ []
+labelled name a (Err e) labels = labels
+
+pub record CallsAllocate (plan : Plan) (label fac node : List ℕ) (w : World) (ask : Ask) (says : Option Said) (w' : World) : Type 0 where
+  pub result : Result Port AllocateError
+  pub does : AllocatesOn w.tower ask result w'.tower
+  pub labels : w'.labels ≡ labelled label w'.tower result w.labels
+  pub told : says ≡ answer_told (port_said plan w'.tower) (allocate_told fac node) result
+
+abbrev pub Allocating : Plan → List ℕ → List ℕ → List ℕ → List ℕ → List ℕ → Want → World → Option Said → World → Type 0
+Allocating plan label fac node app to want w says w' =
+    AtSite (site_at plan 2 fac node) (λ site. Unlabelled (label_in w.labels label) (CallsAllocate plan label fac node w (asked site app to want)) w) w says w'
+
+-- ---- accept LABEL FAC NODE APP
+
+abbrev pub claim_said : Plan → Air → Option Port → Option Said
+claim_said plan a None = Some said.Nothing
+claim_said plan a (Some port) = port_said plan a port
+
+abbrev pub claim_labelled : List ℕ → Air → Option Port → List Label → List Label
+claim_labelled name a None labels = labels
+claim_labelled name a (Some port) labels = labels ++ label_of name a port ∷ []
+
+pub record CallsIncoming (plan : Plan) (label app : List ℕ) (w : World) (site : Site) (says : Option Said) (w' : World) : Type 0 where
+  pub result : Option Port
+  pub does : ClaimsOn w.tower site.fac site.node app result w'.tower
+  pub labels : w'.labels ≡ claim_labelled label w'.tower result w.labels
+  pub told : says ≡ claim_said plan w'.tower result
+
+abbrev pub Accepting : Plan → List ℕ → List ℕ → List ℕ → List ℕ → World → Option Said → World → Type 0
+Accepting plan label fac node app w says w' =
+    AtSite (site_at plan 2 fac node) (λ site. Unlabelled (label_in w.labels label) (CallsIncoming plan label app w site) w) w says w'
+
+-- ---- send LABEL BYTES
+
+pub record CallsSend (plan : Plan) (bytes : List ℕ) (w : World) (port : Port) (says : Option Said) (w' : World) : Type 0 where
+  pub result : Result Num SendError
+  pub does : SendsOn w.tower port bytes result w'.tower
+  pub labels : w'.labels ≡ w.labels
+  pub told : says ≡ answer_told (λ num. Some (said.Sent num)) (send_told plan) result
+
+abbrev pub Sending : Plan → List ℕ → List ℕ → World → Option Said → World → Type 0
+Sending plan label bytes w says w' = AtPort (port_in w.labels label) (CallsSend plan bytes w) w says w'
+
+-- ---- read LABEL
+
+-- these entries waited at the port, and were passed one after the other, the oldest first
+abbrev pub Passes : Port → Air → List Entry → Air → Type 0
+Passes port a [] a' = a' ≡ a
+Passes port a (x ∷ xs) a' = (unpassed (seen_of a) port ≡ Some x) × Passes port (passed a port) xs a'
+
+abbrev pub got_note : ℕ → ℕ → Entry → Note
+got_note line tick x = notes.Line line tick (said.Got x.tick x.bytes)
+
+abbrev pub read_notes : ℕ → ℕ → List Entry → List Note
+read_notes line tick [] = noted line tick (Some said.Nothing)
+read_notes line tick (x ∷ xs) = got_note line tick x ∷ map (got_note line tick) xs
+
+-- all that waited at the port was read, and nothing is left
+pub record IsRead (line : ℕ) (w : World) (port : Port) (ns : List Note) (w' : World) : Type 0 where
+  pub entries : List Entry
+  pub passes : Passes port w.tower entries w'.tower
+  pub none_left : unpassed (seen_of w'.tower) port ≡ None
+  pub labels : w'.labels ≡ w.labels
+  pub notes : ns ≡ read_notes line w.tower.now entries
+
+-- all that waited at the port was read, each entry with a note
+pub record ReadsAll (line : ℕ) (port : Port) (w : World) (trace : List Note) (w' : World) (trace' : List Note) : Type 0 where
+  pub entries : List Entry
+  pub passes : Passes port w.tower entries w'.tower
+  pub none_left : unpassed (seen_of w'.tower) port ≡ None
+  pub labels : w'.labels ≡ w.labels
+  pub notes : trace' ≡ trace ++ map (got_note line w.tower.now) entries
+
+abbrev pub Reading : ℕ → Option Port → World → List Note → World → Type 0
+Reading line None w ns w' = (ns ≡ noted line w.tower.now (Some (said.Refused (refusals.Unknown 1)))) × (w' ≡ w)
+Reading line (Some port) w ns w' = IsRead line w port ns w'
+
+-- ---- tick N
+
+-- one tick, after which the labels told their states
+pub record TicksOnce (plan : Plan) (line : ℕ) (w : World) (ns : List Note) (w' : World) : Type 0 where
+  pub tower : TicksOn w.tower (Ok tt) w'.tower
+  pub labels : w'.labels ≡ looked w'.tower w.labels
+  pub notes : ns ≡ state_notes plan line w'.tower w.labels
+
+-- so many ticks
+abbrev pub Ticks : Plan → ℕ → ℕ → World → List Note → World → Type 0
+Ticks plan line zero w ns w' = (ns ≡ []) × (w' ≡ w)
+Ticks plan line (suc count) w ns w' = (mid : World) × (first : List Note) × (rest : List Note) × TicksOnce plan line w first mid × Ticks plan line count mid rest w' × (ns ≡ first ++ rest)
+
+pub record AllTicks (plan : Plan) (line count : ℕ) (w : World) (ns : List Note) (w' : World) : Type 0 where
+  pub told : List Note
+  pub ticks : Ticks plan line count w told w'
+  pub notes : ns ≡ told ++ noted line w'.tower.now (Some said.Done)
+
+-- all the ticks, or none where the clock would pass its end
+abbrev pub Ticking : Bool → Plan → ℕ → ℕ → World → List Note → World → Type 0
+Ticking true plan line count w ns w' = (ns ≡ noted line w.tower.now (Some (said.Refused refusals.ClockSpent))) × (w' ≡ w)
+Ticking false plan line count w ns w' = AllTicks plan line count w ns w'
+
+-- ---- all words
+
+-- a word that says one thing
+pub record Says (line : ℕ) (Does : Option Said → World → Type 0) (ns : List Note) (w' : World) : Type 0 where
+  pub says : Option Said
+  pub does : Does says w'
+  pub notes : ns ≡ noted line w'.tower.now says
+
+-- what a word does and answers; words that are not built do nothing lawful
+abbrev pub Acts : Plan → ℕ → Event → World → List Note → World → Type 0
+Acts plan line (events.Register fac node app) w ns w' = Says line (Registering plan fac node app w) ns w'
+Acts plan line (events.Alloc label fac node app to want) w ns w' = Says line (Allocating plan label fac node app to want w) ns w'
+Acts plan line (events.Accept label fac node app) w ns w' = Says line (Accepting plan label fac node app w) ns w'
+Acts plan line (events.Send label bytes) w ns w' = Says line (Sending plan label bytes w) ns w'
+Acts plan line (events.Read label) w ns w' = Reading line (port_in w.labels label) w ns w'
+Acts plan line (events.Tick count) w ns w' = Ticking (nat_lt 10000000 (w.tower.now + count)) plan line count w ns w'
+Acts plan line event w ns w' = ⊥
+
+-- a line: what its word does and answers, and then the states of the labels that changed
+pub record Steps (plan : Plan) (line : ℕ) (event : Event) (w : World) (ns : List Note) (w' : World) : Type 0 where
+  pub mid : World
+  pub answer : List Note
+  pub acts : Acts plan line event w answer mid
+  pub world : w' ≡ record { tower = mid.tower; labels = looked mid.tower mid.labels }
+  pub notes : ns ≡ answer ++ state_notes plan line mid.tower mid.labels

@@ -1,0 +1,83 @@
+-- How a run tells ports, states and refusals: with the names of the stack in place of numbers.
+use Rattle.std.specs.Prelude.{ℕ, List, slice_get, Option, Some, None, Result, Ok, Err, option_and_then, option_map}
+use Rattle.rina_base.specs.declared.number.Port.{Port}
+use Rattle.rina_iface.specs.declared.state.PortState.{PortState}
+use Rattle.rina_iface.specs.declared.state.PortState.TheVariants as states
+use Rattle.rina_iface.specs.declared.state.Fail.{Fail}
+use Rattle.rina_iface.specs.declared.state.Fail.TheVariants as fails
+use Rattle.rina_iface.specs.declared.error.RegisterError.{RegisterError}
+use Rattle.rina_iface.specs.declared.error.RegisterError.TheVariants as register
+use Rattle.rina_iface.specs.declared.error.AllocateError.{AllocateError}
+use Rattle.rina_iface.specs.declared.error.AllocateError.TheVariants as allocate
+use Rattle.rina_iface.specs.declared.error.SendError.{SendError}
+use Rattle.rina_iface.specs.declared.error.SendError.TheVariants as send
+use Rattle.rina_report.specs.declared.refusal.Refusal.{Refusal}
+use Rattle.rina_report.specs.declared.refusal.Refusal.TheVariants as refusals
+use Rattle.rina_report.specs.declared.said.Said.{Said}
+use Rattle.rina_report.specs.declared.said.Said.TheVariants as said
+use Rattle.rina_report.specs.declared.state.PortNote.{PortNote}
+use Rattle.rina_report.specs.declared.state.FailNote.{FailNote}
+use Rattle.rina_report.specs.declared.state.FailNote.TheVariants as fail_notes
+use Rattle.rina_report.specs.declared.state.StateNote.{StateNote}
+use Rattle.rina_report.specs.declared.state.StateNote.TheVariants as notes
+use Rattle.rina_stack.specs.declared.plan.Plan.{Plan}
+use Rattle.rina_stack.specs.Plan.{names_of}
+
+abbrev pub port_note : ℕ → List ℕ → List ℕ → PortNote
+port_note n fac node = record { fac = fac; node = node; n = n }
+
+-- a port with the names of its facility and its node; nothing where the stack names none such
+abbrev pub port_told : Plan → Port → Option PortNote
+port_told plan port = option_and_then (λ fac. option_map (port_note port.n fac) (slice_get plan.nodes port.node)) (slice_get (names_of plan.wires) port.fac)
+
+abbrev pub fail_told : Plan → Fail → Option FailNote
+fail_told plan (fails.GaveUp num first at) = Some (fail_notes.GaveUp num first at)
+fail_told plan (fails.Below port) = option_map fail_notes.Below (port_told plan port)
+fail_told plan (fails.Cut at) = Some (fail_notes.Cut at)
+
+-- the state of a port
+abbrev pub state_told : Plan → PortState → Option StateNote
+state_told plan states.Pending = Some notes.Pending
+state_told plan states.Allocated = Some notes.Allocated
+state_told plan (states.Refused why) = Some (notes.Refused why)
+state_told plan (states.Failed fail) = option_map notes.Failed (fail_told plan fail)
+state_told plan states.Closed = Some notes.Closed
+
+-- the state of a port that was drawn
+abbrev pub drawn_told : Plan → Option PortState → Option StateNote
+drawn_told plan state = option_and_then (state_told plan) state
+
+-- what `register` refused; want of memory is not told
+abbrev pub register_told : RegisterError → Option Refusal
+register_told register.Memory = None
+register_told register.Already = Some refusals.Already
+register_told register.NoMember = Some refusals.NoMember
+register_told (register.CountSpent need left) = Some (refusals.CountSpent need left)
+
+-- what `allocate` refused at a facility and a node of these names
+abbrev pub allocate_told : List ℕ → List ℕ → AllocateError → Option Refusal
+allocate_told fac node allocate.Memory = None
+allocate_told fac node allocate.NoMember = Some refusals.NoMember
+allocate_told fac node allocate.NoCube = Some refusals.NoCube
+allocate_told fac node allocate.NoSuchApp = Some refusals.NoSuchApp
+allocate_told fac node allocate.SameSystem = Some refusals.SameSystem
+allocate_told fac node (allocate.NoIds used) = Some (refusals.NoIds used)
+allocate_told fac node (allocate.NoRoute dst) = Some (refusals.NoRoute dst)
+allocate_told fac node (allocate.Busy port) = Some (refusals.Busy (port_note port.n fac node))
+allocate_told fac node (allocate.CountSpent need left) = Some (refusals.CountSpent need left)
+
+-- what `send` refused
+abbrev pub send_told : Plan → SendError → Option Refusal
+send_told plan send.Memory = None
+send_told plan (send.NotAllocated state) = Some (refusals.NotAllocated (drawn_told plan state))
+send_told plan (send.Failed fail) = option_map refusals.Failed (fail_told plan fail)
+send_told plan (send.TooLong len max) = Some (refusals.TooLong len max)
+send_told plan (send.WindowShut need room) = Some (refusals.WindowShut need room)
+send_told plan (send.NoRoute dst) = Some (refusals.NoRoute dst)
+send_told plan (send.QueueFull need room) = Some (refusals.QueueFull need room)
+send_told plan (send.NumbersSpent until) = Some (refusals.NumbersSpent until)
+
+-- what a call answered: what is said where it was done, or what it refused
+abbrev pub answer_told : {A E : Type 0} → (A → Option Said) → (E → Option Refusal) → Result A E → Option Said
+answer_told done refused (Ok x) = done x
+answer_told done refused (Err e) = option_map said.Refused (refused e)

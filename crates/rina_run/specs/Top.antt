@@ -1,0 +1,145 @@
+-- What a run came to: the status, the notes and the tower, by what was read.
+use Rattle.std.specs.Prelude.{◌≡◌, ℕ, ◌<◌, ◌≤◌, Bool, true, false, List, [], ◌∷◌, ◌++◌, length, take, Option, Some, None, Ok, Err, ◌⊎◌}
+use Rattle.std.specs.Io.KnownBytes.{Consumes, IsAtEnd}
+use Rattle.rina_report.specs.declared.note.Note.{Note}
+use Rattle.rina_report.specs.declared.note.Note.TheVariants as notes
+use Rattle.rina_report.specs.declared.note.Fault.{Fault}
+use Rattle.rina_report.specs.declared.note.Fault.TheVariants as faults
+use Rattle.rina_schedule.specs.declared.error.LineError.{LineError}
+use Rattle.rina_schedule.specs.declared.error.LineError.TheVariants as errors
+use Rattle.rina_stack.specs.declared.plan.Plan.{Plan}
+use Rattle.rina_stack.specs.declared.error.StackError.TheVariants as stack
+use Rattle.rina_stack.specs.Plan.{Reads}
+use Rattle.rina_wire.specs.Air.{Air}
+use Rattle.rina_run.specs.declared.world.World.{World}
+use Rattle.rina_run.specs.declared.play.BadLine.{BadLine}
+use Rattle.rina_run.specs.declared.emit.Stop.{Stop}
+use Rattle.rina_run.specs.declared.emit.Stop.TheVariants as stops
+use Rattle.rina_run.specs.declared.outcome.Status.{Status}
+use Rattle.rina_run.specs.declared.outcome.Status.TheVariants as statuses
+use Rattle.rina_run.specs.Look.{Extends}
+use Rattle.rina_run.specs.Run.{Runs, StopsAt, RanFirst, RanPart, opening}
+use Rattle.rina_run.specs.Script.{Script, script_in}
+
+-- the status that a fault is told beside
+abbrev pub status_of : Fault → Status
+status_of (faults.Usage word) = statuses.Usage word
+status_of faults.TooLarge = statuses.TooLarge
+status_of faults.NotToml = statuses.NotToml
+status_of (faults.StackRule n item) = statuses.StackRule n item
+status_of (faults.Schedule line n field) = statuses.Schedule line n field
+status_of faults.ReadFault = statuses.ReadFault
+
+-- the fault of a line: the number of its error, and the field
+abbrev pub fault_at : ℕ → LineError → Fault
+fault_at line errors.Memory = faults.Schedule line 1 0
+fault_at line errors.UnknownWord = faults.Schedule line 1 0
+fault_at line (errors.MissingField n) = faults.Schedule line 2 n
+fault_at line (errors.BadNumber n) = faults.Schedule line 3 n
+fault_at line (errors.BadName n) = faults.Schedule line 4 n
+fault_at line (errors.Extra n) = faults.Schedule line 5 n
+fault_at line (errors.BadBytes n) = faults.Schedule line 6 n
+
+abbrev pub fault_of : BadLine → Fault
+fault_of bad = fault_at bad.number bad.error
+
+abbrev pub told_once : Fault → List Note
+told_once fault = notes.Fault fault ∷ []
+
+-- the lines led to this world, and a closing note was added
+pub record PlayedTo (Ran : List Note → World → Type 0) (closing : World → Note) (trace : List Note) (tower : Option Air) : Type 0 where
+  pub told : List Note
+  pub world : World
+  pub ran : Ran told world
+  pub notes : trace ≡ told ++ closing world ∷ []
+  pub left : tower ≡ Some world.tower
+
+-- the first lines led to this world, and a closing note may have been added
+pub record PlayedPart (plan : Plan) (lines : List (List ℕ)) (trace : List Note) (tower : Option Air) : Type 0 where
+  pub told : List Note
+  pub world : World
+  pub first : RanFirst plan (opening plan) lines told world
+  pub closing : Extends told trace
+  pub left : tower ≡ Some world.tower
+
+-- what a run of lines came to, where `ending` is the fault that reading ended with, if any
+abbrev pub PlayOutcomes : Plan → Option Fault → List (List ℕ) → Status → List Note → Option Air → Type 0
+PlayOutcomes plan ending lines statuses.Done trace tower = (ending ≡ None) × PlayedTo (Runs plan 1 (opening plan) lines) (λ w. notes.End w.tower.now) trace tower
+PlayOutcomes plan ending lines (statuses.Schedule line n field) trace tower = (bad : BadLine) × (fault_of bad ≡ faults.Schedule line n field) × PlayedTo (StopsAt plan (opening plan) lines bad) (λ w. notes.Fault (fault_of bad)) trace tower
+PlayOutcomes plan ending lines statuses.ReadFault trace tower = (ending ≡ Some faults.ReadFault) × PlayedTo (Runs plan 1 (opening plan) lines) (λ w. notes.Fault faults.ReadFault) trace tower
+PlayOutcomes plan ending lines statuses.TooLarge trace tower = (ending ≡ Some faults.TooLarge) × PlayedTo (Runs plan 1 (opening plan) lines) (λ w. notes.Fault faults.TooLarge) trace tower
+PlayOutcomes plan ending lines statuses.WriteFault trace tower = PlayedPart plan lines trace tower
+PlayOutcomes plan ending lines statuses.Memory trace tower = RanPart plan (opening plan) lines trace
+PlayOutcomes plan ending lines status trace tower = ⊥
+
+-- the run was refused before its first line: the fault is told, and nothing else
+abbrev pub RefusedBy : Fault → Status → List Note → Type 0
+RefusedBy fault statuses.WriteFault trace = trace ≡ told_once fault
+RefusedBy fault statuses.Memory trace = (trace ≡ []) ⊎ (trace ≡ told_once fault)
+RefusedBy fault status trace = (status ≡ status_of fault) × (trace ≡ told_once fault)
+
+-- what a stack that was not accepted came to
+abbrev pub StackOutcomes : List ℕ → Status → List Note → Type 0
+StackOutcomes text statuses.NotToml trace = Reads (Err stack.NotToml) text × (trace ≡ told_once faults.NotToml)
+StackOutcomes text (statuses.StackRule n item) trace = Reads (Err (stack.StackRule n item)) text × (trace ≡ told_once (faults.StackRule n item))
+StackOutcomes text statuses.WriteFault trace = (fault : Fault) × (trace ≡ told_once fault)
+StackOutcomes text statuses.Memory trace = (trace ≡ []) ⊎ ((fault : Fault) × (trace ≡ told_once fault))
+StackOutcomes text status trace = ⊥
+
+-- what a script came to: its lines were run where its stack was accepted
+abbrev pub ScriptOutcomes : Option Fault → Script → Status → List Note → Option Air → Type 0
+ScriptOutcomes ending s status trace (Some a) = (plan : Plan) × Reads (Ok plan) s.stack × PlayOutcomes plan ending s.lines status trace (Some a)
+ScriptOutcomes ending s status trace None = StackOutcomes s.stack status trace
+
+-- what an input came to: where no mark was among what was read, the fault is told
+abbrev pub InputOutcomes : Option Fault → Option Script → Status → List Note → Option Air → Type 0
+InputOutcomes ending (Some s) status trace tower = ScriptOutcomes ending s status trace tower
+InputOutcomes (Some fault) None status trace tower = (tower ≡ None) × RefusedBy fault status trace
+InputOutcomes None None status trace tower = ⊥
+
+-- why reading ended: at the end of the input, past its limit, or by a fault
+abbrev pub EndedBy : Option Fault → Option (List ℕ) → List ℕ → Type 0
+EndedBy None left bytes = IsAtEnd left × (length bytes ≤ 16777216)
+EndedBy (Some faults.TooLarge) left bytes = 16777216 < length bytes
+EndedBy (Some faults.ReadFault) left bytes = length bytes ≤ 16777216
+EndedBy (Some fault) left bytes = ⊥
+
+abbrev pub is_whole : Option Fault → Bool
+is_whole None = true
+is_whole (Some fault) = false
+
+-- the bytes that were read, and what they came to
+pub record InputRan (left left' : Option (List ℕ)) (status : Status) (trace : List Note) (tower : Option Air) : Type 0 where
+  pub bytes : List ℕ
+  pub ending : Option Fault
+  pub read : Consumes left left' bytes
+  pub ended : EndedBy ending left' bytes
+  pub outcome : InputOutcomes ending (script_in (is_whole ending) (take 16777216 bytes)) status trace tower
+
+-- nothing was done, since memory was not found
+pub record IsNothing (status : Status) (trace : List Note) (tower : Option Air) : Type 0 where
+  pub memory : status ≡ statuses.Memory
+  pub notes : trace ≡ []
+  pub left : tower ≡ None
+
+-- what a run came to, by the words of the command line and by what was read
+abbrev pub RunOutcomes : Option ℕ → Option (List ℕ) → Option (List ℕ) → Status → List Note → Option Air → Type 0
+RunOutcomes (Some word) left left' status trace tower = (tower ≡ None) × RefusedBy (faults.Usage word) status trace
+RunOutcomes None left left' status trace tower = IsNothing status trace tower ⊎ InputRan left left' status trace tower
+
+-- a closing note was added, unless memory was not found; the run ends with this status, unless it was stopped
+abbrev pub ClosedBy : Status → Note → List Note → Status → List Note → Type 0
+ClosedBy wanted note old statuses.WriteFault new = new ≡ old ++ note ∷ []
+ClosedBy wanted note old statuses.Memory new = (new ≡ old) ⊎ (new ≡ old ++ note ∷ [])
+ClosedBy wanted note old status new = (status ≡ wanted) × (new ≡ old ++ note ∷ [])
+
+-- reading ended by one of the faults that it may end by, if by any
+abbrev pub IsEnding : Option Fault → Type 0
+IsEnding None = Unit {0}
+IsEnding (Some faults.TooLarge) = Unit {0}
+IsEnding (Some faults.ReadFault) = Unit {0}
+IsEnding (Some fault) = ⊥
+
+abbrev pub status_stopped : Stop → Status
+status_stopped stops.Memory = statuses.Memory
+status_stopped stops.WriteFault = statuses.WriteFault

@@ -1,0 +1,18 @@
+//! Notes of the lines that were run.
+ghost use Rattle.std.specs.Prelude.{◌≡◌, ◌++◌, OnOk, OnErr};
+ghost use Rattle.rina_run.specs.Look.{noted};
+
+use rina_base::{Memory, Tick};
+use rina_report::{Note, Notes, Said};
+
+/// Adds the note of what a line says at a tick, if it says anything.
+pub fn tell(trace: &mut Notes, line: u32, tick: Tick, says: Option<Said>) -> Result<(), Memory>
+    ensures ok { OnOk result (trace.new ≡ trace.old ++ noted line tick says) }
+    ensures err { OnErr result (trace.new ≡ trace.old) }
+{
+    let Some(said) = says else {
+        return Ok(());
+    };
+    trace.push(Note::Line { line, tick, said })?;
+    Ok(())
+}

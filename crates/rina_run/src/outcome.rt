@@ -1,0 +1,36 @@
+//! What a run came to.
+use rina_report::Notes;
+use rina_wire::Wires;
+
+/// How a run ended.
+#[derive(Clone, Copy, Debug, PartialEq, Eq)]
+pub enum Status {
+    /// All lines were run.
+    Done,
+    /// The word of the command line at this place, counted from 0, cannot stand there, or is missing.
+    Usage { word: u32 },
+    /// More than 16,777,216 bytes were read.
+    TooLarge,
+    /// The stack is no TOML.
+    NotToml,
+    /// The stack breaks rule `n`, first at item `item`.
+    StackRule { n: u32, item: u32 },
+    /// This line, counted from 1 behind the mark, is the first outside the grammar: it has error `n`
+    /// at field `field`, the word being field 0.
+    Schedule { line: u32, n: u32, field: u32 },
+    /// A read failed.
+    ReadFault,
+    /// A write failed.
+    WriteFault,
+    /// Memory was not found.
+    Memory,
+}
+
+/// What a run came to: its status, the notes in order, and the tower as the run left it, where a
+/// stack was accepted.
+#[derive(Drop)]
+pub struct Outcome {
+    pub status: Status,
+    pub trace: Notes,
+    pub tower: Option<Wires>,
+}

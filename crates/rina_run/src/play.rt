@@ -1,0 +1,124 @@
+//! The lines of a schedule, one after the other.
+ghost use Rattle.std.specs.Prelude.{◌≡◌, ◌≤◌, ◌<◌, ◌^◌, ℕ, List, [], length, map, true, Option, OnOk, OnErr, IsErrOf};
+ghost use Rattle.std.specs.Io.KnownBytes.{Appends};
+ghost use Rattle.bstr.specs.Text.{without_terminator};
+ghost use Rattle.rina_io.specs.Causes.{Rose};
+ghost use Rattle.rina_report.specs.Notes.{text_of};
+ghost use Rattle.rina_stack.specs.Plan.{IsPlan};
+ghost use Rattle.rina_wire.specs.Sound.{IsSound};
+ghost use Rattle.rina_run.specs.Built.{is_built};
+ghost use Rattle.rina_run.specs.Written.{IsFront};
+ghost use Rattle.rina_run.specs.Step.{Steps};
+ghost use Rattle.rina_run.specs.Run.{Ran, LineRan, LinesRan};
+
+use crate::built::read_event;
+use crate::emit::{Stop, emit};
+use crate::input::without_end;
+use crate::step::step;
+use crate::world::World;
+use rina_base::Memory;
+use rina_io::Sink;
+use rina_report::Notes;
+use rina_schedule::{Event, LineError};
+use rina_stack::Plan;
+use std::alloc::Global;
+
+/// Runs what a line asks for, and writes its notes.
+#[tactic(auto, using(crate::proofs::Playing::front_is))]
+fn run_event<K: Sink>(
+    alloc: Global,
+    plan: &Plan,
+    world: &mut World,
+    number: u32,
+    event: &Event,
+    out: &mut K,
+    trace: &mut Notes,
+) -> Result<(), Stop>
+    requires plan { IsPlan plan.now }
+    requires built { is_built event.now ≡ true }
+    requires sound { IsSound world.old.tower }
+    ensures does { Ran (λ ns. Steps plan.now number event.now world.old ns world.new) trace.old trace.new result }
+    ensures ok { OnOk result ((base : Option (List ℕ)) → Appends base (K.took out.old) (text_of trace.old) → Appends base (K.took out.new) (text_of trace.new)) }
+    ensures err { OnErr result ((base : Option (List ℕ)) → Appends base (K.took out.old) (text_of trace.old) → IsFront base (K.took out.new) (text_of trace.new)) }
+    ensures fault { IsErrOf result Stop.WriteFault → Rose (K.faults out.old) (K.faults out.new) }
+    ensures later { K.faults out.old ≤ K.faults out.new }
+    ensures sound { IsSound world.new.tower }
+{
+    let from = trace.len();
+    let stepped = step(alloc, plan, world, number, event, trace);
+    let written = emit(alloc, out, trace, from);
+    match stepped {
+        Ok(()) => written,
+        Err(Memory) => Err(Stop::Memory),
+    }
+}
+
+/// Runs a line and writes its notes. The fault of a line outside the grammar is answered, and then
+/// nothing was run.
+#[tactic(auto, using(crate::proofs::Texts::wrote_all))]
+fn run_line<K: Sink>(
+    alloc: Global,
+    plan: &Plan,
+    world: &mut World,
+    number: u32,
+    line: &[u8],
+    out: &mut K,
+    trace: &mut Notes,
+) -> Result<Option<LineError>, Stop>
+    requires plan { IsPlan plan.now }
+    requires sound { IsSound world.old.tower }
+    ensures does { LineRan plan.now number line.now world.old trace.old world.new trace.new result }
+    ensures ok { OnOk result ((base : Option (List ℕ)) → Appends base (K.took out.old) (text_of trace.old) → Appends base (K.took out.new) (text_of trace.new)) }
+    ensures err { OnErr result ((base : Option (List ℕ)) → Appends base (K.took out.old) (text_of trace.old) → IsFront base (K.took out.new) (text_of trace.new)) }
+    ensures fault { IsErrOf result Stop.WriteFault → Rose (K.faults out.old) (K.faults out.new) }
+    ensures later { K.faults out.old ≤ K.faults out.new }
+    ensures sound { IsSound world.new.tower }
+{
+    match read_event(alloc, line) {
+        Ok(Some(event)) => {
+            run_event(alloc, plan, world, number, &event, out, trace)?;
+            Ok(None)
+        }
+        Ok(None) => Ok(None),
+        Err(LineError::Memory) => Err(Stop::Memory),
+        Err(error) => Ok(Some(error)),
+    }
+}
+
+/// A line outside the grammar.
+#[derive(Clone, Copy, Debug)]
+pub struct BadLine {
+    pub number: u32,
+    pub error: LineError,
+}
+
+/// Runs lines in their order, and answers the first that is outside the grammar.
+pub fn play<K: Sink>(
+    alloc: Global,
+    plan: &Plan,
+    world: &mut World,
+    lines: &[&[u8]],
+    out: &mut K,
+    trace: &mut Notes,
+) -> Result<Option<BadLine>, Stop>
+    requires plan { IsPlan plan.now }
+    requires sound { IsSound world.old.tower }
+    requires few { length lines.now < 2 ^ 32 }
+    requires none { trace.old ≡ [] }
+    ensures does { LinesRan plan.now world.old (map (λ l. without_terminator l.now) lines.now) trace.new world.new result }
+    ensures ok { OnOk result (Appends (K.took out.old) (K.took out.new) (text_of trace.new)) }
+    ensures err { OnErr result (IsFront (K.took out.old) (K.took out.new) (text_of trace.new)) }
+    ensures fault { IsErrOf result Stop.WriteFault → Rose (K.faults out.old) (K.faults out.new) }
+    ensures later { K.faults out.old ≤ K.faults out.new }
+    ensures sound { IsSound world.new.tower }
+{
+    let mut number = 0u32;
+    'lines: for line in lines {
+        number += 1;
+        let line = without_end(line);
+        if let Some(error) = run_line(alloc, plan, world, number, line, out, trace)? {
+            return Ok(Some(BadLine { number, error }));
+        }
+    }
+    Ok(None)
+}

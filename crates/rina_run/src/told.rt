@@ -1,0 +1,140 @@
+//! How a run tells ports, states and refusals: with the names of the stack in place of numbers.
+ghost use Rattle.std.specs.Prelude.{◌≡◌, IfOk};
+ghost use Rattle.rina_run.specs.Told.{port_told, fail_told, state_told, drawn_told, register_told, allocate_told, send_told};
+
+use rina_base::{Memory, Name, Port};
+use rina_iface::{AllocateError, Fail, PortState, RegisterError, SendError};
+use rina_report::{FailNote, PortNote, Refusal, StateNote};
+use rina_stack::Plan;
+use std::alloc::Global;
+
+/// A port with the names of its facility and its node.
+fn tell_port(alloc: Global, plan: &Plan, port: Port) -> Result<Option<PortNote>, Memory>
+    ensures { IfOk result (λ o. o ≡ port_told plan.now port) }
+{
+    let Some(wire) = plan.wires.get(port.fac as usize) else {
+        return Ok(None);
+    };
+    let Some(node) = plan.nodes.get(port.node as usize) else {
+        return Ok(None);
+    };
+    let fac = wire.name.copy(alloc)?;
+    let node = node.copy(alloc)?;
+    Ok(Some(PortNote {
+        fac,
+        node,
+        n: port.n,
+    }))
+}
+
+fn tell_fail(alloc: Global, plan: &Plan, fail: Fail) -> Result<Option<FailNote>, Memory>
+    ensures { IfOk result (λ o. o ≡ fail_told plan.now fail) }
+{
+    match fail {
+        Fail::GaveUp { num, first, now } => Ok(Some(FailNote::GaveUp { num, first, now })),
+        Fail::Below { port } => match tell_port(alloc, plan, port)? {
+            Some(port) => Ok(Some(FailNote::Below { port })),
+            None => Ok(None),
+        },
+        Fail::Cut { at } => Ok(Some(FailNote::Cut { at })),
+    }
+}
+
+fn tell_state(alloc: Global, plan: &Plan, state: PortState) -> Result<Option<StateNote>, Memory>
+    ensures { IfOk result (λ o. o ≡ state_told plan.now state) }
+{
+    match state {
+        PortState::Pending => Ok(Some(StateNote::Pending)),
+        PortState::Allocated => Ok(Some(StateNote::Allocated)),
+        PortState::Refused(why) => Ok(Some(StateNote::Refused(why))),
+        PortState::Failed(fail) => match tell_fail(alloc, plan, fail)? {
+            Some(fail) => Ok(Some(StateNote::Failed(fail))),
+            None => Ok(None),
+        },
+        PortState::Closed => Ok(Some(StateNote::Closed)),
+    }
+}
+
+/// The state of a port that was drawn.
+pub fn tell_drawn(
+    alloc: Global,
+    plan: &Plan,
+    state: Option<PortState>,
+) -> Result<Option<StateNote>, Memory>
+    ensures { IfOk result (λ o. o ≡ drawn_told plan.now state) }
+{
+    match state {
+        Some(state) => tell_state(alloc, plan, state),
+        None => Ok(None),
+    }
+}
+
+/// What `register` refused.
+pub fn tell_register(error: RegisterError) -> Option<Refusal>
+    ensures { result ≡ register_told error }
+{
+    match error {
+        RegisterError::Memory => None,
+        RegisterError::Already => Some(Refusal::Already),
+        RegisterError::NoMember => Some(Refusal::NoMember),
+        RegisterError::CountSpent { need, left } => Some(Refusal::CountSpent { need, left }),
+    }
+}
+
+fn tell_busy(alloc: Global, fac: &Name, node: &Name, n: u32) -> Result<PortNote, Memory>
+    ensures { IfOk result (λ p. p ≡ record { fac = fac.now; node = node.now; n = n }) }
+{
+    let fac = fac.copy(alloc)?;
+    let node = node.copy(alloc)?;
+    Ok(PortNote { fac, node, n })
+}
+
+/// What `allocate` refused at a facility and a node of these names.
+pub fn tell_allocate(
+    alloc: Global,
+    fac: &Name,
+    node: &Name,
+    error: AllocateError,
+) -> Result<Option<Refusal>, Memory>
+    ensures { IfOk result (λ o. o ≡ allocate_told fac.now node.now error) }
+{
+    match error {
+        AllocateError::Memory => Ok(None),
+        AllocateError::NoMember => Ok(Some(Refusal::NoMember)),
+        AllocateError::NoCube => Ok(Some(Refusal::NoCube)),
+        AllocateError::NoSuchApp => Ok(Some(Refusal::NoSuchApp)),
+        AllocateError::SameSystem => Ok(Some(Refusal::SameSystem)),
+        AllocateError::NoIds { used } => Ok(Some(Refusal::NoIds { used })),
+        AllocateError::NoRoute { dst } => Ok(Some(Refusal::NoRoute { dst })),
+        AllocateError::Busy { port } => {
+            let port = tell_busy(alloc, fac, node, port.n)?;
+            Ok(Some(Refusal::Busy { port }))
+        }
+        AllocateError::CountSpent { need, left } => Ok(Some(Refusal::CountSpent { need, left })),
+    }
+}
+
+/// What `send` refused.
+pub fn tell_send(alloc: Global, plan: &Plan, error: SendError) -> Result<Option<Refusal>, Memory>
+    ensures { IfOk result (λ o. o ≡ send_told plan.now error) }
+{
+    match error {
+        SendError::Memory => Ok(None),
+        SendError::NotAllocated { state } => {
+            let state = tell_drawn(alloc, plan, state)?;
+            Ok(Some(Refusal::NotAllocated { state }))
+        }
+        SendError::Failed { fail } => match tell_fail(alloc, plan, fail)? {
+            Some(fail) => Ok(Some(Refusal::Failed { fail })),
+            None => Ok(None),
+        },
+        SendError::TooLong { len, max } => Ok(Some(Refusal::TooLong {
+            len: len as u64,
+            max,
+        })),
+        SendError::WindowShut { need, room } => Ok(Some(Refusal::WindowShut { need, room })),
+        SendError::NoRoute { dst } => Ok(Some(Refusal::NoRoute { dst })),
+        SendError::QueueFull { need, room } => Ok(Some(Refusal::QueueFull { need, room })),
+        SendError::NumbersSpent { until } => Ok(Some(Refusal::NumbersSpent { until })),
+    }
+}

@@ -1,0 +1,305 @@
+//! The top call.
+ghost use Rattle.std.specs.Prelude.{◌≡◌, ◌<◌, ◌≤◌, ◌^◌, ◌++◌, ◌∷◌, [], ℕ, List, length, map, take, Option, Some, None, OnOk, IsErrOf, IsSome, string_bytes, ◌⊎◌};
+ghost use Rattle.std.specs.Io.KnownBytes.{Appends};
+ghost use Rattle.bstr.specs.Text.{without_terminator};
+ghost use Rattle.rina_io.specs.Causes.{Rose};
+ghost use Rattle.rina_report.specs.Notes.{text_of};
+ghost use Rattle.rina_stack.specs.Plan.{IsPlan};
+ghost use Rattle.rina_wire.specs.Sound.{IsSound};
+ghost use Rattle.rina_run.specs.Run.{opening};
+ghost use Rattle.rina_run.specs.Script.{script, script_in};
+ghost use Rattle.rina_run.specs.Words.{word_fault};
+ghost use Rattle.rina_run.specs.Written.{IsFront, Written};
+ghost use Rattle.rina_run.specs.Top.{status_of, status_stopped, fault_of, is_whole, ClosedBy, RefusedBy, PlayOutcomes, ScriptOutcomes, InputOutcomes, RunOutcomes, IsEnding, IsNothing};
+
+use crate::emit::{Stop, emit};
+use crate::input::{Parts, all_lines, split_input};
+use crate::labels::Labels;
+use crate::outcome::{Outcome, Status};
+use crate::play::{BadLine, play};
+use crate::words::fault_in;
+use crate::world::World;
+use rina_base::Seq;
+use rina_iface::Facility;
+use rina_io::{Ending, LIMIT, Sink, Source, take_all};
+use rina_report::{Fault, Note, Notes};
+use rina_schedule::LineError;
+use rina_stack::{Plan, StackError, read_stack};
+use rina_wire::Wires;
+use std::alloc::Global;
+
+/// Ends a run in which nothing was done, where memory was not found.
+fn nothing(alloc: Global) -> Outcome
+    ensures { IsNothing result.status result.trace result.tower }
+{
+    Outcome {
+        status: Status::Memory,
+        trace: Seq::new(alloc),
+        tower: None,
+    }
+}
+
+/// Adds a closing note and writes it.
+#[tactic(auto, using(crate::proofs::Playing::front_push, crate::proofs::Ending::front_same))]
+fn close<K: Sink>(alloc: Global, out: &mut K, trace: &mut Notes, note: Note) -> Result<(), Stop>
+    ensures memory { IsErrOf result Stop.Memory → (trace.new ≡ trace.old) ⊎ (trace.new ≡ trace.old ++ note ∷ []) }
+    ensures noted { OnOk result (trace.new ≡ trace.old ++ note ∷ []) }
+    ensures stopped { IsErrOf result Stop.WriteFault → trace.new ≡ trace.old ++ note ∷ [] }
+    ensures ok { OnOk result ((base : Option (List ℕ)) → Appends base (K.took out.old) (text_of trace.old) → Appends base (K.took out.new) (text_of trace.new)) }
+    ensures front { (base : Option (List ℕ)) → Appends base (K.took out.old) (text_of trace.old) → IsFront base (K.took out.new) (text_of trace.new) }
+    ensures fault { IsErrOf result Stop.WriteFault → Rose (K.faults out.old) (K.faults out.new) }
+    ensures later { K.faults out.old ≤ K.faults out.new }
+{
+    let from = trace.len();
+    if trace.push(note).is_err() {
+        return Err(Stop::Memory);
+    }
+    emit(alloc, out, trace, from)
+}
+
+/// The status of a run that stopped.
+fn stopped(stop: Stop) -> Status
+    ensures { result ≡ status_stopped stop }
+{
+    match stop {
+        Stop::Memory => Status::Memory,
+        Stop::WriteFault => Status::WriteFault,
+    }
+}
+
+/// The status that a fault is told beside.
+fn fault_status(fault: Fault) -> Status
+    ensures { result ≡ status_of fault }
+{
+    match fault {
+        Fault::Usage { word } => Status::Usage { word },
+        Fault::TooLarge => Status::TooLarge,
+        Fault::NotToml => Status::NotToml,
+        Fault::StackRule { n, item } => Status::StackRule { n, item },
+        Fault::Schedule { line, n, field } => Status::Schedule { line, n, field },
+        Fault::ReadFault => Status::ReadFault,
+    }
+}
+
+/// The fault of a line outside the grammar: the number of its error, and the field.
+fn line_fault(bad: BadLine) -> Fault
+    ensures { result ≡ fault_of bad }
+{
+    let (n, field) = match bad.error {
+        LineError::Memory | LineError::UnknownWord => (1, 0),
+        LineError::MissingField { n } => (2, n),
+        LineError::BadNumber { n } => (3, n),
+        LineError::BadName { n } => (4, n),
+        LineError::Extra { n } => (5, n),
+        LineError::BadBytes { n } => (6, n),
+    };
+    Fault::Schedule {
+        line: bad.number,
+        n,
+        field,
+    }
+}
+
+/// Ends a run with a closing note. The status is this one, unless the run is stopped.
+#[tactic(auto, using(crate::proofs::Ending::written_any, crate::proofs::Ending::written_stop, crate::proofs::Ending::closed_ok))]
+fn seal<K: Sink>(
+    alloc: Global,
+    status: Status,
+    note: Note,
+    tower: Option<Wires>,
+    out: &mut K,
+    trace: Notes,
+) -> Outcome
+    ensures closed { ClosedBy status note trace result.status result.trace }
+    ensures tower { result.tower ≡ tower }
+    ensures written { (base : Option (List ℕ)) → Appends base (K.took out.old) (text_of trace) → Written base (K.took out.new) (text_of result.trace) result.status }
+    ensures fault { result.status ≡ Status.WriteFault → ¬ (status ≡ Status.WriteFault) → Rose (K.faults out.old) (K.faults out.new) }
+    ensures later { K.faults out.old ≤ K.faults out.new }
+{
+    let mut trace = trace;
+    match close(alloc, out, &mut trace, note) {
+        Ok(()) => Outcome {
+            status,
+            trace,
+            tower,
+        },
+        Err(stop) => Outcome {
+            status: stopped(stop),
+            trace,
+            tower,
+        },
+    }
+}
+
+/// Ends a run before its first line.
+#[tactic(auto, using(crate::proofs::Ending::refused_from, crate::proofs::Ending::wrote_nothing, crate::proofs::Ending::is_told))]
+fn refuse<K: Sink>(alloc: Global, out: &mut K, fault: Fault) -> Outcome
+    ensures refused { RefusedBy fault result.status result.trace }
+    ensures tower { result.tower ≡ None }
+    ensures written { Written (K.took out.old) (K.took out.new) (text_of result.trace) result.status }
+    ensures fault { result.status ≡ Status.WriteFault → Rose (K.faults out.old) (K.faults out.new) }
+    ensures later { K.faults out.old ≤ K.faults out.new }
+{
+    seal(
+        alloc,
+        fault_status(fault),
+        Note::Fault(fault),
+        None,
+        out,
+        Seq::new(alloc),
+    )
+}
+
+/// Runs the lines of a script whose stack was accepted. `ending` is the fault that reading the
+/// input ended with, if it was not read to its end.
+#[tactic(auto, using(crate::proofs::Ending::done_from, crate::proofs::Ending::ended_from, crate::proofs::Ending::bad_from, crate::proofs::Ending::stop_from, crate::proofs::Ending::written_stop, crate::proofs::Ending::is_told))]
+fn run_lines<K: Sink>(
+    alloc: Global,
+    ending: Option<Fault>,
+    plan: &Plan,
+    mut world: World,
+    lines: &[&[u8]],
+    out: &mut K,
+) -> Outcome
+    requires plan { IsPlan plan.now }
+    requires ending { IsEnding ending }
+    requires start { world ≡ opening plan.now }
+    requires sound { IsSound world.tower }
+    requires few { length lines.now < 2 ^ 32 }
+    ensures outcome { PlayOutcomes plan.now ending (map (λ l. without_terminator l.now) lines.now) result.status result.trace result.tower }
+    ensures tower { IsSome result.tower }
+    ensures written { Written (K.took out.old) (K.took out.new) (text_of result.trace) result.status }
+    ensures fault { result.status ≡ Status.WriteFault → Rose (K.faults out.old) (K.faults out.new) }
+    ensures later { K.faults out.old ≤ K.faults out.new }
+{
+    let mut trace = Seq::new(alloc);
+    match play(alloc, plan, &mut world, lines, out, &mut trace) {
+        Ok(None) => match ending {
+            None => {
+                let tick = world.tower.now();
+                seal(
+                    alloc,
+                    Status::Done,
+                    Note::End { tick },
+                    Some(world.tower),
+                    out,
+                    trace,
+                )
+            }
+            Some(fault) => {
+                let status = fault_status(fault);
+                seal(
+                    alloc,
+                    status,
+                    Note::Fault(fault),
+                    Some(world.tower),
+                    out,
+                    trace,
+                )
+            }
+        },
+        Ok(Some(bad)) => {
+            let fault = line_fault(bad);
+            let status = fault_status(fault);
+            seal(
+                alloc,
+                status,
+                Note::Fault(fault),
+                Some(world.tower),
+                out,
+                trace,
+            )
+        }
+        Err(stop) => Outcome {
+            status: stopped(stop),
+            trace,
+            tower: Some(world.tower),
+        },
+    }
+}
+
+/// Runs a script.
+#[tactic(auto, using(crate::proofs::Ending::not_toml_from, crate::proofs::Ending::rule_from, crate::proofs::Ending::script_from, crate::proofs::Ending::wrote_nothing))]
+fn run_script<K: Sink>(
+    alloc: Global,
+    ending: Option<Fault>,
+    parts: &Parts<'_, '_>,
+    out: &mut K,
+) -> Outcome
+    requires ending { IsEnding ending }
+    requires few { length parts.now.lines.now < 2 ^ 32 }
+    ensures outcome { ScriptOutcomes ending (script parts.now.stack.items (map (λ l. without_terminator l.now) parts.now.lines.now)) result.status result.trace result.tower }
+    ensures written { Written (K.took out.old) (K.took out.new) (text_of result.trace) result.status }
+    ensures fault { result.status ≡ Status.WriteFault → Rose (K.faults out.old) (K.faults out.new) }
+    ensures later { K.faults out.old ≤ K.faults out.new }
+{
+    let plan = match read_stack(alloc, parts.stack.as_slice()) {
+        Ok(plan) => plan,
+        Err(StackError::Memory) => return nothing(alloc),
+        Err(StackError::NotToml) => return refuse(alloc, out, Fault::NotToml),
+        Err(StackError::StackRule { n, item }) => {
+            return refuse(alloc, out, Fault::StackRule { n, item });
+        }
+    };
+    let Ok(tower) = Wires::new(alloc, &plan) else {
+        return nothing(alloc);
+    };
+    let world = World {
+        tower,
+        labels: Labels::new(alloc),
+    };
+    run_lines(alloc, ending, &plan, world, parts.lines, out)
+}
+
+/// Runs an input, as far as it was read.
+#[tactic(auto, using(crate::proofs::Ending::wrote_nothing))]
+fn run_input<K: Sink>(alloc: Global, ending: Option<Fault>, bytes: &[u8], out: &mut K) -> Outcome
+    requires ending { IsEnding ending }
+    requires few { length bytes.now ≤ 16777216 }
+    ensures outcome { IsNothing result.status result.trace result.tower ⊎ InputOutcomes ending (script_in (is_whole ending) bytes.now) result.status result.trace result.tower }
+    ensures written { Written (K.took out.old) (K.took out.new) (text_of result.trace) result.status }
+    ensures fault { result.status ≡ Status.WriteFault → Rose (K.faults out.old) (K.faults out.new) }
+    ensures later { K.faults out.old ≤ K.faults out.new }
+{
+    let Ok(lines) = all_lines(alloc, bytes) else {
+        return nothing(alloc);
+    };
+    match split_input(alloc, ending.is_none(), lines.as_slice()) {
+        Ok(Some(parts)) => run_script(alloc, ending, &parts, out),
+        Ok(None) => match ending {
+            Some(fault) => refuse(alloc, out, fault),
+            None => nothing(alloc),
+        },
+        Err(_) => nothing(alloc),
+    }
+}
+
+/// The top call: the words of the command line without the program's name, the input, and where the
+/// notes are written. Each line's notes are written before the next line runs.
+pub fn run<S: Source, K: Sink>(
+    alloc: Global,
+    words: &[String],
+    input: &mut S,
+    out: &mut K,
+) -> Outcome
+    // What was written is the text of the trace, and a front of it after a write fault or want of memory.
+    ensures written { Written (K.took out.old) (K.took out.new) (text_of result.trace) result.status }
+    // The status, the trace and the tower are what the words and the input make.
+    ensures outcome { RunOutcomes (word_fault (map (λ w. string_bytes w) words.now)) (S.left input.old) (S.left input.new) result.status result.trace result.tower }
+    ensures read { result.status ≡ Status.ReadFault → Rose (S.faults input.old) (S.faults input.new) }
+    ensures write { result.status ≡ Status.WriteFault → Rose (K.faults out.old) (K.faults out.new) }
+{
+    if let Some(word) = fault_in(words) {
+        return refuse(alloc, out, Fault::Usage { word });
+    }
+    let taken = take_all(alloc, input);
+    match taken.ending {
+        Ending::Whole => run_input(alloc, None, taken.bytes.as_slice(), out),
+        Ending::TooLarge => {
+            let (used, _) = taken.bytes.as_slice().split_at(LIMIT);
+            run_input(alloc, Some(Fault::TooLarge), used, out)
+        }
+        Ending::Fault => run_input(alloc, Some(Fault::ReadFault), taken.bytes.as_slice(), out),
+        Ending::Memory => nothing(alloc),
+    }
+}
