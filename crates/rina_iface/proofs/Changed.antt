@@ -1,6 +1,7 @@
 -- What stands in a list after one element was changed, and at a port.
-use Rattle.std.proofs.Common.{◌≡◌, ◌≢◌, ℕ, zero, suc, List, [], ◌∷◌, slice_get, slice_set, Some, None, Option, option_and_then, refl, ap, subst, All}
-use Rattle.std.proofs.lemmas.Option.{get_or_from_slice_get, slice_get_within}
+use Rattle.std.proofs.Common.{◌≡◌, ◌≢◌, ℕ, zero, suc, List, [], ◌∷◌, slice_get, slice_set, Some, None, Option, option_and_then, refl, sym, ◌∙◌, ap, subst, inl, inr, ◌⊎◌, All}
+use Rattle.std.proofs.lemmas.Option.{get_or_from_slice_get, same_Some, slice_get_within}
+use Rattle.std.proofs.lemmas.Bool.Decides.{eqb_tells}
 use Rattle.std.proofs.lemmas.List.Elements.{All-get_or}
 use Rattle.rina_base.specs.declared.number.Port.{Port}
 use Rattle.rina_iface.specs.declared.ends.End.{End}
@@ -18,6 +19,16 @@ slice_get-set_other (z ∷ xs) zero zero y ne = absurd (ne refl)
 slice_get-set_other (z ∷ xs) zero (suc k) y ne = refl
 slice_get-set_other (z ∷ xs) (suc i) zero y ne = refl
 slice_get-set_other (z ∷ xs) (suc i) (suc k) y ne = slice_get-set_other xs i k y (λ e. ne (ap suc e))
+
+-- what stands after a write at a place that is there
+pub set_at : {X : Type 0} (xs : List X) (i k : ℕ) (x y z : X) → slice_get xs i ≡ Some x → slice_get (slice_set xs i y) k ≡ Some z → ((k ≡ i) × (z ≡ y)) ⊎ ((k ≢ i) × (slice_get xs k ≡ Some z))
+set_at xs i k x y z is h = elim (eqb_tells k i) [
+  | inl t ↦
+      let h' : slice_get (slice_set xs i y) i ≡ Some z = rw t.1 at h in
+      let same : Some z ≡ Some y = sym h' ∙ slice_get-set_same xs i x y is in
+      inl (t.1, same_Some z y same)
+  | inr f ↦ inr (f.1, sym (slice_get-set_other xs i k y f.1) ∙ h)
+]
 
 -- what holds of all holds of the one at a place
 pub all_at : {X : Type 0} (P : X → Type 0) (xs : List X) (i : ℕ) (x : X) → All P xs → slice_get xs i ≡ Some x → P x

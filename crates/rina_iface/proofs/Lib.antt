@@ -1,1 +1,5 @@
 pub mod Changed
+pub mod Fresh
+pub mod Grown
+pub mod Later
+pub mod LaterCalls

@@ -1,6 +1,8 @@
 pub mod Allocate
 pub mod Claim
 pub mod Ends
+pub mod Journal
+pub mod Later
 pub mod Pass
 pub mod Register
 pub mod Seen

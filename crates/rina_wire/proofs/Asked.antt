@@ -21,7 +21,7 @@ use Rattle.rina_wire.proofs.Seen.{fac_at, seen_on_wire}
 drawn_other : (l : Line) (node : ℕ) → IsSoundLine l → drawn_at (other_node l node) l.ends ≡ l.flows
 drawn_other l node s = elim (node == l.a) as (λ b. drawn_at (cond b l.b l.a) l.ends ≡ l.flows) [ true ↦ s.drawn_b | false ↦ s.drawn_a ]
 
-drawn_here : (l : Line) (node : ℕ) → IsSoundLine l → is_member (l.a ∷ l.b ∷ []) node ≡ true → drawn_at node l.ends ≡ l.flows
+pub drawn_here : (l : Line) (node : ℕ) → IsSoundLine l → is_member (l.a ∷ l.b ∷ []) node ≡ true → drawn_at node l.ends ≡ l.flows
 drawn_here l node s m = elim (eqb_tells l.a node) [
   | inl t ↦ subst (λ (n : ℕ). drawn_at n l.ends ≡ l.flows) t.1 s.drawn_a
   | inr f ↦ elim (eqb_tells l.b node) [

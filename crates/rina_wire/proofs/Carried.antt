@@ -14,7 +14,7 @@ use Rattle.rina_iface.specs.Seen.{Fac, Stands, end_of, largest_at, unpassed, wit
 use Rattle.rina_iface.specs.Send.{IsSent, Sends, by_length, by_state, refused}
 use Rattle.rina_iface.specs.Pass.{IsPassed}
 use Rattle.rina_wire.specs.Air.{Air, Line, end_at, fac_of, on_end, put_end, seen_of, wire_at}
-use Rattle.rina_wire.specs.Send.{SendsOn, frame_number, frame_sent, own_send_refusal, passed, passed_at, send_refusal, sent_from}
+use Rattle.rina_wire.specs.Send.{SendsOn, frame_number, frame_sent, own_send_refusal, passed, passed_at, send_refusal, sent_from, unpassed_at}
 use Rattle.rina_wire.specs.Sound.{IsSound, IsSoundLine}
 use Rattle.rina_iface.proofs.Changed.{IsAt, all_at, end_has_place}
 use Rattle.rina_wire.proofs.Seen.{fac_at, seen_on_wire}
@@ -115,5 +115,9 @@ passes_end a port (Some e) h w =
       new_is = seen_on_end a port passed_at e on;
     }
 
+-- what is seen to wait waits on its wire
+pub waits_on : (a : Air) (port : Port) → IsSome (unpassed (seen_of a) port) → IsSome (unpassed_at a port)
+waits_on a port w = rw (end_is a port) at w
+
 pub seen_passes : (a : Air) (port : Port) → IsSome (unpassed (seen_of a) port) → IsPassed (seen_of a) port (seen_of (passed a port))
-seen_passes a port w = passes_end a port (end_at a port) refl (rw (end_is a port) at w)
+seen_passes a port w = passes_end a port (end_at a port) refl (waits_on a port w)

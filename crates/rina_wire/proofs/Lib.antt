@@ -1,6 +1,13 @@
+pub mod Arrivals
 pub mod Asked
 pub mod Carried
+pub mod Changes
 pub mod Claims
+pub mod Copies
+pub mod FlowMade
+pub mod Keeps
+pub mod Kept
+pub mod Mates
 pub mod Seen
 pub mod Sound
 pub mod SoundAllocate
