@@ -1,5 +1,5 @@
 -- What an ordered list of rules decides.
-use Rattle.std.specs.Prelude.{ℕ, ◌+◌, Bool, true, false, ◌&&◌, List, Option, Some, None, position, slice_get, option_and_then}
+use Rattle.std.specs.Prelude.{ℕ, ◌+◌, Bool, true, false, ◌&&◌, List, Option, Some, None, position, slice_get}
 use Rattle.std.specs.Str.{bytes_eq}
 use Rattle.rina_access.specs.declared.rules.Act.{Act}
 use Rattle.rina_access.specs.declared.rules.Act.TheVariants.{Allocate, Enrol}

@@ -164,6 +164,7 @@ mod tests {
         let app = AppName::read(alloc, b"app")?;
         let ipc = AppName::read(alloc, b"dif/node")?;
         let list = three_rules(alloc, &app, &ipc)?;
+        assert_eq!(rt; list.len(), 3);
         let rules = Rules::new(alloc, list.as_slice(), false)?;
         let no = |rule| Decision { allow: false, rule };
         let yes = |rule| Decision { allow: true, rule };
