@@ -1,0 +1,81 @@
+//! Write-offs.
+ghost use Rattle.std.specs.Prelude.{◌≡◌, [], ◌∷◌, ◌++◌, OnOk, OnErr};
+
+use rina_base::{Cause, Key, Memory, Seq};
+use std::alloc::Global;
+use std::marker::Model;
+
+/// A PDU that was written off, and why.
+#[derive(Clone, Copy, Debug, PartialEq, Eq)]
+pub struct Off {
+    pub key: Key,
+    pub cause: Cause,
+}
+
+/// The write-offs of one IPC process. A contract sees the list of its lines, in order.
+#[derive(Drop)]
+pub struct Ledger {
+    lines: Seq<Off>,
+}
+
+impl Model for Ledger {
+    ghost use Rattle.std.specs.Prelude.{List};
+    ghost use Rattle.rina_account.specs.declared.ledger.Off.{Off};
+
+    ghost Value = { List Off };
+
+    ghost view = { λ l. l.lines };
+}
+
+impl Ledger {
+    /// No lines yet.
+    pub fn new(alloc: Global) -> Ledger
+        ensures { result ≡ [] }
+    {
+        Ledger {
+            lines: Seq::new(alloc),
+        }
+    }
+
+    /// Writes a line for a PDU that is written off. Without memory nothing changes.
+    pub fn note(&mut self, _alloc: Global, key: Key, cause: Cause) -> Result<(), Memory>
+        ensures ok { OnOk result (self.new ≡ self.old ++ record { key = key; cause = cause } ∷ []) }
+        ensures err { OnErr result (self.new ≡ self.old) }
+    {
+        self.lines.push(Off { key, cause })?;
+        Ok(())
+    }
+
+    /// The lines, in order. Takes no memory.
+    pub fn lines(&self) -> &[Off]
+        ensures { result.now ≡ self.now }
+    {
+        self.lines.as_slice()
+    }
+}
+
+#[cfg(test)]
+mod tests {
+    use super::*;
+    use rina_base::PduKind;
+    use std::test::Fail;
+
+    #[test]
+    fn a_line_for_each_in_order(rt: HostRuntime) -> Result<(), Fail> {
+        let alloc = rt.alloc();
+        let mut ledger = Ledger::new(alloc);
+        let key = Key {
+            kind: PduKind::Piece,
+            src: 1,
+            scep: 2,
+            seq: 7,
+        };
+        let late = Cause::Expired { left: 3, charge: 5 };
+        let full = Cause::QueueFull { cap: 4 };
+        ledger.note(alloc, key, late)?;
+        ledger.note(alloc, key, full)?;
+        let lines = [Off { key, cause: late }, Off { key, cause: full }];
+        assert_eq!(rt; ledger.lines(), lines.as_slice());
+        Ok(())
+    }
+}

@@ -1,0 +1,4 @@
+mod Edges
+mod Follow
+mod Reached
+mod Settle

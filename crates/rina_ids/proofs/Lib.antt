@@ -1,0 +1,2 @@
+mod InUse
+mod Places

@@ -1,0 +1,8 @@
+//! Ids of connection endpoints: the least that is free is drawn, and one that is given back rests.
+#![tactic(auto)]
+
+mod ids;
+mod slot;
+
+pub use ids::{Ids, NoIds};
+pub use slot::Slot;

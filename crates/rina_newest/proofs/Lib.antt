@@ -1,0 +1,4 @@
+mod Index
+mod Places
+mod Put
+mod Takes

@@ -1,0 +1,212 @@
+//! The newest items.
+ghost use Rattle.std.specs.Prelude.{◌≡◌, ◌+◌, [], ◌∷◌, ◌++◌, IfOk, OnOk, OnErr, option_copied, drop};
+ghost use Rattle.std.specs.BTreeMap.{get_by, values};
+ghost use Rattle.std.specs.Ordering.{nat_cmp};
+ghost use Rattle.std.specs.Cmp.Lexicographic.{slice_cmp};
+ghost use Rattle.rina_newest.specs.Newest.{IsIndexed, kept_at, value_at, is_newer, without, taken, item_of};
+
+use crate::item::{Item, Version};
+use rina_base::{Memory, Seq};
+use std::alloc::Global;
+use std::collections::BTreeMap;
+use std::marker::Model;
+
+/// The item of greatest version for each key, whatever the order in which the items came. A deletion
+/// is kept as an item without a value. A contract sees the list of the kept items, in the order of
+/// their last changes.
+#[derive(Drop)]
+pub struct Newest {
+    /// The number of each key's last change.
+    places: BTreeMap<Vec<u8>, u64>,
+    /// The item of each last change, by its number.
+    items: BTreeMap<u64, Item>,
+    /// The number of the next change.
+    next: u64,
+}
+
+impl Model for Newest {
+    ghost use Rattle.std.specs.Prelude.{List};
+    ghost use Rattle.std.specs.BTreeMap.{get_by, values};
+    ghost use Rattle.std.specs.Ordering.{nat_cmp};
+    ghost use Rattle.std.specs.Cmp.Lexicographic.{slice_cmp};
+    ghost use Rattle.rina_newest.specs.declared.item.Item.{Item};
+    ghost use Rattle.rina_newest.specs.Newest.{IsIndexed};
+
+    ghost Value = { List Item };
+
+    ghost view = { λ n. values n.items };
+
+    ghost invariant = { λ n. IsIndexed (λ key. get_by (λ k. slice_cmp nat_cmp key k.items) n.places) n.items.entries n.next };
+}
+
+/// Puts an item in the place of the one that has its key, as change `at`.
+fn replace(
+    places: &mut BTreeMap<Vec<u8>, u64>,
+    items: &mut BTreeMap<u64, Item>,
+    at: u64,
+    key: Vec<u8>,
+    item: Item,
+) -> Result<(), Memory>
+    requires indexed { IsIndexed (λ q. get_by (λ k. slice_cmp nat_cmp q k.items) places.old) items.old.entries at }
+    requires same { item.key ≡ key.items }
+    ensures index { OnOk result (IsIndexed (λ q. get_by (λ k. slice_cmp nat_cmp q k.items) places.new) items.new.entries (at + 1)) }
+    ensures ok { OnOk result (values items.new ≡ without item.key (values items.old) ++ item ∷ []) }
+    ensures stays { OnErr result (IsIndexed (λ q. get_by (λ k. slice_cmp nat_cmp q k.items) places.new) items.new.entries at) }
+    ensures err { OnErr result (items.new.entries ≡ items.old.entries) }
+{
+    let Ok(_) = items.insert(at, item) else {
+        return Err(Memory);
+    };
+    let Ok(replaced) = places.insert(key, at) else {
+        let _ = items.remove(&at);
+        return Err(Memory);
+    };
+    let Some(before) = replaced else {
+        return Ok(());
+    };
+    let _ = items.remove(&before);
+    Ok(())
+}
+
+impl Newest {
+    /// Nothing is kept yet.
+    pub fn new(alloc: Global) -> Newest
+        ensures { result ≡ [] }
+    {
+        Newest {
+            places: BTreeMap::new(alloc),
+            items: BTreeMap::new(alloc),
+            next: 0,
+        }
+    }
+
+    /// The item that is kept under a key.
+    fn kept(&self, key: &[u8]) -> Option<&Item>
+        ensures { option_copied result ≡ kept_at self.now key.now }
+    {
+        let at = self.places.get(key)?;
+        self.items.get(at)
+    }
+
+    /// The value that is kept under a key. None where nothing is, or a deletion. Takes no memory.
+    pub fn get(&self, key: &[u8]) -> Option<&[u8]>
+        ensures { option_copied result ≡ value_at self.now key.now }
+    {
+        self.kept(key)?.live()
+    }
+
+    /// Whether a version is newer than that of the item that is kept under a key.
+    fn is_news(&self, key: &[u8], version: Version) -> bool
+        ensures { result ≡ is_newer version (kept_at self.now key.now) }
+    {
+        match self.kept(key) {
+            Some(item) => item.version.is_below(version),
+            None => true,
+        }
+    }
+
+    /// Puts an item in the place of the one that is kept under its key, as the last change.
+    fn put(&mut self, key: Vec<u8>, item: Item) -> Result<(), Memory>
+        requires { item.key ≡ key.items }
+        ensures ok { OnOk result (self.new ≡ without item.key self.old ++ item ∷ []) }
+        ensures err { OnErr result (self.new ≡ self.old) }
+    {
+        let Some(following) = self.next.checked_add(1) else {
+            return Err(Memory);
+        };
+        replace(&mut self.places, &mut self.items, self.next, key, item)?;
+        self.next = following;
+        Ok(())
+    }
+
+    /// Takes an item: true exactly where its version is greater than the kept one, or nothing is kept
+    /// under its key; it is then the kept one. No value is a deletion. Without memory nothing changes.
+    #[tactic(auto, unfolding(crate::specs::Newest::taken))]
+    pub fn take(
+        &mut self,
+        alloc: Global,
+        key: &[u8],
+        version: Version,
+        value: Option<&[u8]>,
+    ) -> Result<bool, Memory>
+        ensures news { IfOk result (λ news. news ≡ is_newer version (kept_at self.old key.now)) }
+        ensures ok { OnOk result (self.new ≡ taken self.old (item_of key.now version (option_copied value.entry))) }
+        ensures err { OnErr result (self.new ≡ self.old) }
+    {
+        if !self.is_news(key, version) {
+            return Ok(false);
+        }
+        let item = Item::new(alloc, key, version, value)?;
+        self.put(Vec::from_slice(alloc, key)?, item)?;
+        Ok(true)
+    }
+
+    /// Copies of the kept items in the order of their last changes, from place `place` on, counted
+    /// from 0.
+    pub fn since(&self, alloc: Global, place: u32) -> Result<Seq<Item>, Memory>
+        ensures { IfOk result (λ items. items ≡ drop place self.now) }
+    {
+        let mut items = Seq::new(alloc);
+        let mut before = place;
+        for item in self.items.values() {
+            if before > 0 {
+                before -= 1;
+            } else {
+                items.push(item.copy(alloc)?)?;
+            }
+        }
+        Ok(items)
+    }
+}
+
+#[cfg(test)]
+mod tests {
+    use super::*;
+    use std::test::Fail;
+
+    const fn version(tick: u32, count: u32, origin: u32) -> Version {
+        Version {
+            tick,
+            count,
+            origin,
+        }
+    }
+
+    #[test]
+    fn the_greatest_version_is_kept(rt: HostRuntime) -> Result<(), Fail> {
+        let alloc = rt.alloc();
+        let mut newest = Newest::new(alloc);
+        assert!(rt; newest.take(alloc, b"/dir/a", version(3, 1, 2), Some(b"7"))?);
+        assert!(rt; newest.take(alloc, b"/dir/b", version(3, 1, 2), Some(b"8"))?);
+        assert!(rt; !newest.take(alloc, b"/dir/a", version(2, 9, 9), Some(b"6"))?);
+        assert!(rt; !newest.take(alloc, b"/dir/a", version(3, 1, 2), Some(b"7"))?);
+        assert!(rt; newest.get(b"/dir/a") == Some(b"7".as_slice()));
+        assert!(rt; newest.take(alloc, b"/dir/a", version(3, 1, 4), None)?);
+        assert!(rt; newest.get(b"/dir/a").is_none());
+        assert!(rt; !newest.take(alloc, b"/dir/a", version(3, 1, 3), Some(b"9"))?);
+        assert!(rt; newest.take(alloc, b"/dir/a", version(3, 2, 1), Some(b"9"))?);
+        assert!(rt; newest.get(b"/dir/a") == Some(b"9".as_slice()));
+        assert!(rt; newest.get(b"/dir").is_none());
+        Ok(())
+    }
+
+    #[test]
+    fn items_stand_in_the_order_of_their_last_changes(rt: HostRuntime) -> Result<(), Fail> {
+        let alloc = rt.alloc();
+        let mut newest = Newest::new(alloc);
+        for key in [b"/a", b"/b", b"/c"] {
+            let _ = newest.take(alloc, key, version(0, 0, 1), Some(b"x"))?;
+        }
+        let _ = newest.take(alloc, b"/a", version(0, 1, 1), None)?;
+        let all = newest.since(alloc, 0)?;
+        assert_eq!(rt; all.len(), 3);
+        assert_eq!(rt; all.as_slice()[0].key.as_slice(), b"/b".as_slice());
+        assert_eq!(rt; all.as_slice()[2].key.as_slice(), b"/a".as_slice());
+        assert!(rt; all.as_slice()[2].value.is_none());
+        let last = newest.since(alloc, 2)?;
+        assert_eq!(rt; last.len(), 1);
+        assert_eq!(rt; newest.since(alloc, 3)?.len(), 0);
+        crate::newest_of_all_takes();
+        Ok(())
+    }
+}
