@@ -12,10 +12,8 @@ fn exit_code(status: Status) -> u8 {
     match status {
         Status::Done => 0,
         Status::Usage { .. } => 1,
-        Status::TooLarge
-        | Status::NotToml
-        | Status::StackRule { .. }
-        | Status::Schedule { .. } => 2,
+        Status::TooLarge | Status::NotToml | Status::StackRule { .. } | Status::Schedule { .. } =>
+            2,
         Status::ReadFault => 3,
         Status::WriteFault => 4,
         Status::Memory => 5,
