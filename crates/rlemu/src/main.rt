@@ -2,6 +2,9 @@
 //! standard output. Nothing else is printed.
 #![tactic(auto)]
 
+#[cfg(test)]
+mod tests;
+
 use rina_io::{StdSink, StdSource};
 use rina_run::{Status, run};
 use std::process::ExitCode;

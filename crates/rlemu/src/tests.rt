@@ -1,15 +1,40 @@
-//! Worked rows: inputs, and the whole output that each has.
+//! Worked rows: inputs, each with the whole output that it has, and ends that fail.
 use rina_io::{MemSink, MemSource};
 use rina_run::{Outcome, Status, run};
 use std::alloc::Global;
-use std::process::Abort;
 use std::test::Fail;
 
-/// Runs an input with these words, and answers what was written.
-fn written(
+/// Two systems and one wire; nothing is written behind the mark.
+const HELLO: &str = "nodes = [\"a\", \"b\"]
+[[wire]]
+name = \"w\"
+ends = [\"a\", \"b\"]
+delay = 2
+life = 10
+largest = 1500
+%%
+register w b echo
+alloc p w a ping echo
+accept q w b echo
+send p 'hello
+tick 2
+read q
+";
+
+const HELLO_NOTES: &str = "1 0 ok
+2 0 ok allocated
+3 0 ok allocated
+4 0 sent 0.0
+5 2 ok
+6 2 got 2 'hello
+end 2
+";
+
+/// Runs an input with these words; reads and writes fail at the calls that are told.
+fn outcome_of(
     alloc: Global,
     words: &[&str],
-    input: &[u8],
+    input: &str,
     reads: &[bool],
     writes: &[bool],
 ) -> Result<(Outcome, MemSink), Fail> {
@@ -17,8 +42,92 @@ fn written(
     for word in words {
         owned.push(String::from_str(alloc, word)?)?;
     }
-    let mut source = MemSource::new(input.to_vec(alloc)?, reads.to_vec(alloc)?);
+    let mut source = MemSource::new(input.as_bytes().to_vec(alloc)?, reads.to_vec(alloc)?);
     let mut sink = MemSink::new(Vec::new(alloc), writes.to_vec(alloc)?);
     let outcome = run(alloc, owned.as_slice(), &mut source, &mut sink);
     Ok((outcome, sink))
+}
+
+#[test]
+fn hello_arrives_after_two_ticks(rt: HostRuntime) -> Result<(), Fail> {
+    let (outcome, sink) = outcome_of(rt.alloc(), &["run"], HELLO, &[], &[])?;
+    assert_eq!(rt; outcome.status, Status::Done);
+    assert_eq!(rt; sink.bytes(), HELLO_NOTES.as_bytes());
+    assert!(rt; outcome.tower.is_some());
+    Ok(())
+}
+
+/// Inputs of a stack and lines, and what is written.
+const ROWS: [(&str, &str); 9] = [
+    (
+        "nodes = [\"a\", \"b\"]\n[[wire]]\nname = \"w\"\nends = [\"a\", \"b\"]\ndelay = 2\nlife = 10\nlargest = 1500\n%%\n",
+        "end 0\n",
+    ),
+    (
+        "nodes = [\"a\", \"b\"]\n[[wire]]\nname = \"w\"\nends = [\"a\", \"b\"]\ndelay = 2\nlife = 10\nlargest = 1500\n",
+        "end 0\n",
+    ),
+    ("nodes = [", "fault NotToml\n"),
+    (
+        "nodes = [\"a\", \"b\"]\n[[wire]]\nname = \"w\"\nends = [\"a\", \"a\"]\ndelay = 2\nlife = 10\nlargest = 1500\n",
+        "fault StackRule 8 1\n",
+    ),
+    (
+        "nodes = [\"a\", \"b\"]\n[[wire]]\nname = \"w\"\nends = [\"a\", \"b\"]\ndelay = 0\nlife = 10\nlargest = 1500\n",
+        "fault StackRule 6 1\n",
+    ),
+    (
+        "nodes = [\"a\"]\n%%\ntick 1\ntick x\n",
+        "1 1 ok\nfault Schedule 2 3 1\n",
+    ),
+    (
+        "nodes = [\"a\"]\n%%\ntick 1\n\n# nothing\nlose w 0\n",
+        "1 1 ok\nfault Schedule 4 1 0\n",
+    ),
+    (
+        "nodes = [\"a\", \"b\"]\n[[wire]]\nname = \"w\"\nends = [\"a\", \"b\"]\ndelay = 2\nlife = 10\nlargest = 3\n%%\nregister w b echo\nregister w b echo\nalloc p w a ping echo\nalloc r w a ping echo\nalloc r w a ping echo ordered\nsend p 'long\nsend p x\naccept q w b echo\ntick 2\nread q\nread q\nread r\n",
+        "1 0 ok\n2 0 no Already\n3 0 ok allocated\n4 0 no Busy w/a/1\n5 0 no NoCube\n6 0 no TooLong 4 3\n7 0 sent 0.0\n8 0 ok allocated\n9 2 ok\n10 2 got 2 x\n11 2 none\n12 2 no Unknown 1\nend 2\n",
+    ),
+    (
+        "nodes = [\"a\", \"b\"]\n[[wire]]\nname = \"w\"\nends = [\"a\", \"b\"]\ndelay = 2\nlife = 10\nlargest = 1500\n%%\nalloc p w a ping echo\nregister w a echo\nalloc p w a ping echo\nregister v a echo\nregister w c echo\naccept q w b echo\n",
+        "1 0 no NoSuchApp\n2 0 ok\n3 0 no SameSystem\n4 0 no Unknown 1\n5 0 no Unknown 2\n6 0 none\nend 0\n",
+    ),
+];
+
+#[test]
+fn each_row_has_its_output(rt: HostRuntime) -> Result<(), Fail> {
+    for (input, notes) in ROWS {
+        let (_, sink) = outcome_of(rt.alloc(), &["run"], input, &[], &[])?;
+        assert_eq!(rt; sink.bytes(), notes.as_bytes(), "at {input}");
+    }
+    Ok(())
+}
+
+#[test]
+fn words_that_are_no_command_are_told(rt: HostRuntime) -> Result<(), Fail> {
+    let (outcome, sink) = outcome_of(rt.alloc(), &[], "", &[], &[])?;
+    assert_eq!(rt; outcome.status, Status::Usage { word: 0 });
+    assert_eq!(rt; sink.bytes(), b"fault Usage 0\n".as_slice());
+    let (outcome, _) = outcome_of(rt.alloc(), &["go"], "", &[], &[])?;
+    assert_eq!(rt; outcome.status, Status::Usage { word: 0 });
+    let (outcome, _) = outcome_of(rt.alloc(), &["run", "x"], "", &[], &[])?;
+    assert_eq!(rt; outcome.status, Status::Usage { word: 1 });
+    Ok(())
+}
+
+#[test]
+fn ends_that_fail_are_told_by_the_status(rt: HostRuntime) -> Result<(), Fail> {
+    let (outcome, sink) = outcome_of(rt.alloc(), &["run"], HELLO, &[true], &[])?;
+    assert_eq!(rt; outcome.status, Status::ReadFault);
+    assert_eq!(rt; sink.bytes(), b"fault ReadFault\n".as_slice());
+    let (outcome, sink) = outcome_of(rt.alloc(), &["run"], HELLO, &[false, true], &[])?;
+    assert_eq!(rt; outcome.status, Status::ReadFault);
+    assert_eq!(rt; sink.bytes().len(), HELLO_NOTES.len() + 10);
+    let (outcome, sink) = outcome_of(rt.alloc(), &["run"], HELLO, &[], &[true])?;
+    assert_eq!(rt; outcome.status, Status::WriteFault);
+    assert_eq!(rt; sink.bytes().len(), 0);
+    let (outcome, sink) = outcome_of(rt.alloc(), &["run"], HELLO, &[], &[false, true])?;
+    assert_eq!(rt; outcome.status, Status::WriteFault);
+    assert_eq!(rt; sink.bytes(), b"1 0 ok\n".as_slice());
+    Ok(())
 }
