@@ -3,3 +3,4 @@ pub mod Fresh
 pub mod Grown
 pub mod Later
 pub mod LaterCalls
+pub mod LaterOn

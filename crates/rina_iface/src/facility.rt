@@ -6,6 +6,8 @@ ghost use Rattle.rina_iface.specs.declared.error.RegisterError.{RegisterError};
 ghost use Rattle.rina_iface.specs.declared.error.AllocateError.{AllocateError};
 ghost use Rattle.rina_iface.specs.declared.error.SendError.{SendError};
 ghost use Rattle.rina_iface.specs.Seen.{Fac, Seen, state_of, promise_at, largest_at, unpassed};
+ghost use Rattle.rina_iface.specs.Journal.{AreKept};
+ghost use Rattle.rina_iface.specs.Later.{IsLater};
 ghost use Rattle.rina_iface.specs.Register.{Registers};
 ghost use Rattle.rina_iface.specs.Allocate.{Allocates};
 ghost use Rattle.rina_iface.specs.Claim.{Claims};
@@ -74,6 +76,7 @@ pub trait Facility {
         requires { valid self.old }
         ensures valid { valid self.new }
         ensures below { same_below self.old self.new }
+        ensures later { IsLater (seen self.old) (seen self.new) }
         ensures does { Registers (refuses_register self.old fac node app.now)
             (seen self.old) fac node app.now result (seen self.new) };
 
@@ -82,6 +85,7 @@ pub trait Facility {
         requires { valid self.old }
         ensures valid { valid self.new }
         ensures below { same_below self.old self.new }
+        ensures later { IsLater (seen self.old) (seen self.new) }
         ensures does { Allocates (refuses_allocate self.old ask.now)
             (seen self.old) ask.now result (seen self.new) };
 
@@ -90,6 +94,7 @@ pub trait Facility {
         requires { valid self.old }
         ensures valid { valid self.new }
         ensures below { same_below self.old self.new }
+        ensures later { IsLater (seen self.old) (seen self.new) }
         ensures does { Claims (seen self.old) fac node app.now result (seen self.new) };
 
     /// Sends an SDU, and answers its number.
@@ -97,6 +102,7 @@ pub trait Facility {
         requires { valid self.old }
         ensures valid { valid self.new }
         ensures below { same_below self.old self.new }
+        ensures later { IsLater (seen self.old) (seen self.new) }
         ensures does { Sends (refuses_send self.old port (length sdu.now))
             (seen self.old) port sdu.now result (seen self.new) };
 
@@ -111,12 +117,17 @@ pub trait Facility {
         requires waits { IsSome (unpassed (seen self.old) port) }
         ensures valid { valid self.new }
         ensures below { same_below self.old self.new }
+        ensures later { IsLater (seen self.old) (seen self.new) }
         ensures does { IsPassed (seen self.old) port (seen self.new) };
 
     /// Nothing changes the ranks below by doing nothing.
     ghost same_refl: { (x : Self) → same_below x x };
 
     ghost same_trans: { (x y z : Self) → same_below x y → same_below y z → same_below x z };
+
+    /// What flows keep, that partners are named after each other, that no port is drawn twice, and that
+    /// no promise is over 2,000,000 ticks.
+    ghost kept: { (x : Self) → valid x → AreKept (seen x) };
 
     /// The clock has an end.
     ghost clock_ends: { (x : Self) → valid x → (seen x).now ≤ 10_000_000 };

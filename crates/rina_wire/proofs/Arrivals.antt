@@ -3,6 +3,8 @@ use Rattle.std.proofs.Common.{◌≡◌, ℕ, ◌+◌, ◌≤◌, cond, Bool, tr
 use Rattle.std.proofs.lemmas.Bool.{leb-true}
 use Rattle.std.proofs.lemmas.List.Elements.{All-head, All-tail, All-take}
 use Rattle.rina_iface.specs.declared.ends.End.{End}
+use Rattle.rina_iface.specs.declared.state.PortState.{PortState}
+use Rattle.rina_iface.specs.declared.state.PortState.TheVariants.{Pending, Allocated, Refused, Failed, Closed}
 use Rattle.rina_iface.specs.Ends.{with_got}
 use Rattle.rina_iface.specs.Journal.{At}
 use Rattle.rina_wire.specs.declared.flight.Flight.{Flight}
@@ -19,17 +21,25 @@ pub record IsArrival (now : ℕ) (es : List End) (f : Flight) (es' : List End) :
   pub end : End
   pub stands : At es f.to end
   pub due : f.due ≤ now
+  pub allocated : end.state ≡ Allocated
   pub is : es' ≡ slice_set es f.to (with_got end (arrival now f))
+
+allocated_by : (s : PortState) → is_allocated s ≡ true → s ≡ Allocated
+allocated_by Pending h = cc
+allocated_by Allocated h = refl
+allocated_by (Refused why) h = cc
+allocated_by (Failed fail) h = cc
+allocated_by Closed h = cc
 
 arrives : (now : ℕ) (es : List End) (f : Flight) (o : Option End) → slice_get es f.to ≡ o → f.due ≤ now → (arrived_at now f es o ≡ es) ⊎ IsArrival now es f (arrived_at now f es o)
 arrives now es f None h due = inl refl
-arrives now es f (Some e) h due = elim (is_allocated e.state) as (λ b. (cond b (slice_set es f.to (with_got e (arrival now f))) es ≡ es) ⊎ IsArrival now es f (cond b (slice_set es f.to (with_got e (arrival now f))) es)) [
-  | true ↦ inr (record { end = e; stands = h; due = due; is = refl })
-  | false ↦ inl refl
-]
+arrives now es f (Some e) h due = elim (is_allocated e.state) as (λ b. is_allocated e.state ≡ b → (cond b (slice_set es f.to (with_got e (arrival now f))) es ≡ es) ⊎ IsArrival now es f (cond b (slice_set es f.to (with_got e (arrival now f))) es)) [
+  | true ↦ λ is. inr (record { end = e; stands = h; due = due; allocated = allocated_by e.state is; is = refl })
+  | false ↦ λ is. inl refl
+] refl
 
 -- a copy that is looked at arrives, or nothing changes
-looks : (now : ℕ) (es : List End) (f : Flight) → (looked_at now es f ≡ es) ⊎ IsArrival now es f (looked_at now es f)
+pub looks : (now : ℕ) (es : List End) (f : Flight) → (looked_at now es f ≡ es) ⊎ IsArrival now es f (looked_at now es f)
 looks now es f = elim (nat_le f.due now) as (λ b. nat_le f.due now ≡ b → (cond b (arrived_at now f es (slice_get es f.to)) es ≡ es) ⊎ IsArrival now es f (cond b (arrived_at now f es (slice_get es f.to)) es)) [
   | true ↦ λ is. arrives now es f (slice_get es f.to) refl (leb-true f.due now is)
   | false ↦ λ is. inl refl

@@ -7,6 +7,8 @@ pub mod Copies
 pub mod FlowMade
 pub mod Keeps
 pub mod Kept
+pub mod Later
+pub mod LaterTick
 pub mod Mates
 pub mod Seen
 pub mod Sound

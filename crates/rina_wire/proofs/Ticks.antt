@@ -23,7 +23,7 @@ ticks_more now zero (x ∷ ws) w lt e = ap (λ y. line_ticked now y ∷ ws) (sym
 ticks_more now (suc i) (x ∷ ws) w lt e = ap (λ ys. line_ticked now x ∷ ys) (ticks_more now i ws w (omega (arith, lt)) e)
 
 -- a wire that ticked was looked at whole
-whole : (now : ℕ) (l : Line) → IsPart now l (line_ticked now l)
+pub whole : (now : ℕ) (l : Line) → IsPart now l (line_ticked now l)
 whole now l = record { count = length l.flights; is = rw (take_all (length l.flights) l.flights (omega arith)) refl }
 
 -- a wire that nobody looked at

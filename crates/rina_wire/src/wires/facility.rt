@@ -1,6 +1,7 @@
 //! Wires as facilities.
 ghost use Rattle.std.specs.Prelude.{◌≡◌, ◌≤◌, ℕ, Option, Some, None, IsSome, MatchOption, List, length, slice_get, option_map, option_and_then};
 ghost use Rattle.rina_iface.specs.Seen.{Fac, unpassed};
+ghost use Rattle.rina_iface.specs.Later.{IsLater};
 ghost use Rattle.rina_iface.specs.Register.{Registers};
 ghost use Rattle.rina_iface.specs.Allocate.{Allocates};
 ghost use Rattle.rina_iface.specs.Claim.{Claims};
@@ -57,7 +58,7 @@ impl Facility for Wires {
         Some(wire.largest())
     }
 
-    #[tactic(auto, using(crate::proofs::Seen::seen_registers, crate::proofs::SoundRegister::sound_registers))]
+    #[tactic(auto, using(crate::proofs::Seen::seen_registers, crate::proofs::SoundRegister::sound_registers, crate::proofs::Later::registers_later))]
     fn register(
         &mut self,
         alloc: Global,
@@ -67,16 +68,18 @@ impl Facility for Wires {
     ) -> Result<(), RegisterError>
         requires { IsSound self.old }
         ensures valid { IsSound self.new }
+        ensures later { IsLater (seen_of self.old) (seen_of self.new) }
         ensures does { Registers None (seen_of self.old) fac node app.now result (seen_of self.new) }
         ensures exact { RegistersOn self.old fac node app.now result self.new }
     {
         self.enter_name(alloc, fac, node, app)
     }
 
-    #[tactic(auto, using(crate::proofs::Asked::seen_allocates, crate::proofs::SoundAllocate::sound_allocates))]
+    #[tactic(auto, using(crate::proofs::Asked::seen_allocates, crate::proofs::SoundAllocate::sound_allocates, crate::proofs::Later::allocates_later))]
     fn allocate(&mut self, alloc: Global, ask: &Ask) -> Result<Port, AllocateError>
         requires { IsSound self.old }
         ensures valid { IsSound self.new }
+        ensures later { IsLater (seen_of self.old) (seen_of self.new) }
         ensures does { Allocates (own_allocate_refusal self.old ask.now)
             (seen_of self.old) ask.now result (seen_of self.new) }
         ensures exact { AllocatesOn self.old ask.now result self.new }
@@ -88,16 +91,18 @@ impl Facility for Wires {
     fn incoming(&mut self, fac: u16, node: Node, app: &AppName) -> Option<Port>
         requires { IsSound self.old }
         ensures valid { IsSound self.new }
+        ensures later { IsLater (seen_of self.old) (seen_of self.new) }
         ensures does { Claims (seen_of self.old) fac node app.now result (seen_of self.new) }
         ensures exact { ClaimsOn self.old fac node app.now result self.new }
     {
         self.claim(fac, node, app)
     }
 
-    #[tactic(auto, using(crate::proofs::Carried::seen_sends, crate::proofs::SoundSend::sound_sends))]
+    #[tactic(auto, using(crate::proofs::Carried::seen_sends, crate::proofs::SoundSend::sound_sends, crate::proofs::Later::sends_later))]
     fn send(&mut self, alloc: Global, port: Port, sdu: &[u8]) -> Result<Num, SendError>
         requires { IsSound self.old }
         ensures valid { IsSound self.new }
+        ensures later { IsLater (seen_of self.old) (seen_of self.new) }
         ensures does { Sends (own_send_refusal self.old port)
             (seen_of self.old) port sdu.now result (seen_of self.new) }
         ensures exact { SendsOn self.old port sdu.now result self.new }
@@ -119,6 +124,7 @@ impl Facility for Wires {
         requires valid { IsSound self.old }
         requires waits { IsSome (unpassed (seen_of self.old) port) }
         ensures valid { IsSound self.new }
+        ensures later { IsLater (seen_of self.old) (seen_of self.new) }
         ensures does { IsPassed (seen_of self.old) port (seen_of self.new) }
         ensures exact { self.new ≡ passed self.old port }
     {
@@ -128,6 +134,8 @@ impl Facility for Wires {
     ghost same_refl = { λ a. tt };
 
     ghost same_trans = { λ a b d h g. tt };
+
+    ghost kept = { λ a s. s.kept };
 
     ghost clock_ends = { λ a s. s.clock };
 }

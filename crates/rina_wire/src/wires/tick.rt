@@ -1,5 +1,7 @@
 //! One tick of all wires.
 ghost use Rattle.std.specs.Prelude.{◌≡◌, map, OnOk, OnErr};
+ghost use Rattle.rina_iface.specs.Later.{IsLater};
+ghost use Rattle.rina_wire.specs.Air.{seen_of};
 ghost use Rattle.rina_wire.specs.Sound.{IsSound};
 ghost use Rattle.rina_wire.specs.Tick.{AllPart, TicksOn, line_ticked};
 
@@ -42,10 +44,11 @@ impl Wires {
 
     /// One tick: the clock goes on, and the copies that are due arrive, wire by wire, each wire's in
     /// the order in which they were made.
-    #[tactic(auto, using(crate::proofs::SoundTick::sound_ticks))]
+    #[tactic(auto, using(crate::proofs::SoundTick::sound_ticks, crate::proofs::LaterTick::ticks_later))]
     pub fn tick(&mut self, alloc: Global) -> Result<(), TickError>
         requires { IsSound self.old }
         ensures valid { IsSound self.new }
+        ensures later { IsLater (seen_of self.old) (seen_of self.new) }
         ensures exact { TicksOn self.old result self.new }
     {
         self.go_on(alloc)
