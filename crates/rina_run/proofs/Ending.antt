@@ -1,5 +1,5 @@
 -- How a run ends.
-use Rattle.std.proofs.Common.{◌≡◌, ℕ, List, [], ◌∷◌, ◌++◌, Option, Some, None, Ok, Err, ◌⊎◌, inl, inr, refl, sym, ◌∙◌, IsSome, length, take, true, false, ◌<◌, ◌≤◌, arith, subst}
+use Rattle.std.proofs.Common.{◌≡◌, ℕ, List, [], ◌∷◌, ◌++◌, Option, Some, None, Ok, Err, ◌⊎◌, inl, inr, refl, sym, ◌∙◌, IsSome, IfSome, length, take, true, false, ◌<◌, ◌≤◌, arith, subst}
 use Rattle.std.proofs.lemmas.List.{append-nil, take_all}
 use Rattle.std.proofs.KnownBytes.{Appends-nil}
 use Rattle.std.specs.Io.KnownBytes.{Appends, Consumes, IsAtEnd}
@@ -14,7 +14,9 @@ use Rattle.rina_stack.specs.declared.plan.Plan.{Plan}
 use Rattle.rina_stack.specs.declared.error.StackError.{StackError}
 use Rattle.rina_stack.specs.declared.error.StackError.TheVariants as stack
 use Rattle.rina_stack.specs.Plan.{Reads}
-use Rattle.rina_wire.specs.Air.{Air}
+use Rattle.rina_iface.specs.Journal.{AreKept}
+use Rattle.rina_wire.specs.Air.{Air, seen_of}
+use Rattle.rina_wire.specs.Sound.{IsSound}
 use Rattle.rina_run.specs.declared.world.World.{World}
 use Rattle.rina_run.specs.declared.emit.Stop.{Stop}
 use Rattle.rina_run.specs.declared.emit.Stop.TheVariants as stops
@@ -173,3 +175,8 @@ no_read_fault (Some s) t (Some a) (plan, reads, played) = cc
 pub not_read : (script : Option Script) (s : Status) (t : List Note) (tower : Option Air) → (IsNothing s t tower ⊎ InputOutcomes (Some faults.TooLarge) script s t tower) → s ≡ statuses.ReadFault → ⊥
 not_read script s t tower (inl n) is = let e : statuses.Memory ≡ statuses.ReadFault = sym n.memory ∙ is in cc
 not_read script s t tower (inr o) is = no_read_fault script t tower (subst (λ (u : Status). InputOutcomes (Some faults.TooLarge) script u t tower) is o)
+
+-- sound wires keep their flows
+pub kept_if : (tower : Option Air) → IfSome tower IsSound → IfSome tower (λ a. AreKept (seen_of a))
+kept_if None s = s
+kept_if (Some a) s = s.kept

@@ -1,10 +1,12 @@
 //! The top call.
-ghost use Rattle.std.specs.Prelude.{◌≡◌, ◌<◌, ◌≤◌, ◌^◌, ◌++◌, ◌∷◌, [], ℕ, List, length, map, take, Option, Some, None, OnOk, IsErrOf, IsSome, string_bytes, ◌⊎◌};
+ghost use Rattle.std.specs.Prelude.{◌≡◌, ◌<◌, ◌≤◌, ◌^◌, ◌++◌, ◌∷◌, [], ℕ, List, length, map, take, Option, Some, None, OnOk, IsErrOf, IsSome, IfSome, string_bytes, ◌⊎◌};
 ghost use Rattle.std.specs.Io.KnownBytes.{Appends};
 ghost use Rattle.bstr.specs.Text.{without_terminator};
 ghost use Rattle.rina_io.specs.Causes.{Rose};
 ghost use Rattle.rina_report.specs.Notes.{text_of};
 ghost use Rattle.rina_stack.specs.Plan.{IsPlan};
+ghost use Rattle.rina_iface.specs.Journal.{AreKept};
+ghost use Rattle.rina_wire.specs.Air.{seen_of};
 ghost use Rattle.rina_wire.specs.Sound.{IsSound};
 ghost use Rattle.rina_run.specs.Run.{opening};
 ghost use Rattle.rina_run.specs.Script.{script, script_in};
@@ -168,6 +170,7 @@ fn run_lines<K: Sink>(
     requires few { length lines.now < 2 ^ 32 }
     ensures outcome { PlayOutcomes plan.now ending (map (λ l. without_terminator l.now) lines.now) result.status result.trace result.tower }
     ensures tower { IsSome result.tower }
+    ensures sound { IfSome result.tower IsSound }
     ensures written { Written (K.took out.old) (K.took out.new) (text_of result.trace) result.status }
     ensures fault { result.status ≡ Status.WriteFault → Rose (K.faults out.old) (K.faults out.new) }
     ensures later { K.faults out.old ≤ K.faults out.new }
@@ -229,6 +232,7 @@ fn run_script<K: Sink>(
     requires ending { IsEnding ending }
     requires few { length parts.now.lines.now < 2 ^ 32 }
     ensures outcome { ScriptOutcomes ending (script parts.now.stack.items (map (λ l. without_terminator l.now) parts.now.lines.now)) result.status result.trace result.tower }
+    ensures sound { IfSome result.tower IsSound }
     ensures written { Written (K.took out.old) (K.took out.new) (text_of result.trace) result.status }
     ensures fault { result.status ≡ Status.WriteFault → Rose (K.faults out.old) (K.faults out.new) }
     ensures later { K.faults out.old ≤ K.faults out.new }
@@ -257,6 +261,7 @@ fn run_input<K: Sink>(alloc: Global, ending: Option<Fault>, bytes: &[u8], out: &
     requires ending { IsEnding ending }
     requires few { length bytes.now ≤ 16777216 }
     ensures outcome { IsNothing result.status result.trace result.tower ⊎ InputOutcomes ending (script_in (is_whole ending) bytes.now) result.status result.trace result.tower }
+    ensures sound { IfSome result.tower IsSound }
     ensures written { Written (K.took out.old) (K.took out.new) (text_of result.trace) result.status }
     ensures fault { result.status ≡ Status.WriteFault → Rose (K.faults out.old) (K.faults out.new) }
     ensures later { K.faults out.old ≤ K.faults out.new }
@@ -276,6 +281,7 @@ fn run_input<K: Sink>(alloc: Global, ending: Option<Fault>, bytes: &[u8], out: &
 
 /// The top call: the words of the command line without the program's name, the input, and where the
 /// notes are written. Each line's notes are written before the next line runs.
+#[tactic(auto, using(crate::proofs::Ending::kept_if))]
 pub fn run<S: Source, K: Sink>(
     alloc: Global,
     words: &[String],
@@ -286,6 +292,8 @@ pub fn run<S: Source, K: Sink>(
     ensures written { Written (K.took out.old) (K.took out.new) (text_of result.trace) result.status }
     // The status, the trace and the tower are what the words and the input make.
     ensures outcome { RunOutcomes (word_fault (map (λ w. string_bytes w) words.now)) (S.left input.old) (S.left input.new) result.status result.trace result.tower }
+    // Every facility of the tower keeps what its flows promise, and names its partners.
+    ensures kept { IfSome result.tower (λ a. AreKept (seen_of a)) }
     ensures read { result.status ≡ Status.ReadFault → Rose (S.faults input.old) (S.faults input.new) }
     ensures write { result.status ≡ Status.WriteFault → Rose (K.faults out.old) (K.faults out.new) }
 {
