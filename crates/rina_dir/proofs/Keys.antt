@@ -24,7 +24,7 @@ folder key le =
     t5 ∙ ap (λ (xs : List ℕ). xs ++ 47 ∷ []) (t4 ∙ ap (λ (xs : List ℕ). xs ++ 114 ∷ []) (t3 ∙ ap (λ (xs : List ℕ). xs ++ 105 ∷ []) (t2 ∙ ap (λ (xs : List ℕ). xs ++ 100 ∷ []) t1)))
 
 -- ---- a key that is too long for any entry
-split : {G : Type 0} (b : Bool) → (b ≡ true → G) → (b ≡ false → G) → G
+pub split : {G : Type 0} (b : Bool) → (b ≡ true → G) → (b ≡ false → G) → G
 split true pass fail = pass refl
 split false pass fail = fail refl
 
@@ -40,7 +40,7 @@ found_among (x ∷ items) key item h =
 by_value : (items : List Item) (key : List ℕ) (item : Item) (value : Option (List ℕ)) → item.value ≡ value → Contains items item × (key ≡ item.key) → AreEntries items → take 5 key ≡ codes "/dir/" → 134 < length key → value ≡ None
 by_value items key item None is h form folder long = refl
 by_value items key item (Some v) is h form folder long =
-    let short : length item.key ≤ 134 = (form item v h.0 is (subst (λ (k : List ℕ). take 5 k ≡ codes "/dir/") h.1 folder)).0 in
+    let short : length item.key ≤ 134 = (form item h.0 v is (subst (λ (k : List ℕ). take 5 k ≡ codes "/dir/") h.1 folder)).0 in
     absurd (omega (arith, long, ap (λ (k : List ℕ). length k) h.1, short))
 
 no_value : (items : List Item) (key : List ℕ) (kept : Option Item) → kept_at items key ≡ kept → AreEntries items → take 5 key ≡ codes "/dir/" → 134 < length key → option_and_then (λ (item : Item). item.value) kept ≡ None

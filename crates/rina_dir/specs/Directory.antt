@@ -36,6 +36,10 @@ address_at (b ∷ bs) = number_from 0 (b ∷ bs)
 unfoldable pub found : List Item → List ℕ → Option ℕ
 found items app = option_and_then address_at (value_at items (key_of app))
 
--- the live entries have the form of the directory: a key of at most 134 bytes, which is "/dir/" and a name, and an address in decimal
+-- an item that is a live entry has the form of the directory: a key of at most 134 bytes, which is "/dir/" and a name, and an address in decimal
+abbrev pub IsEntry : Item → Type 0
+IsEntry item = (value : List ℕ) → item.value ≡ Some value → take 5 item.key ≡ codes "/dir/" → (length item.key ≤ 134) × IsSome (address_at value)
+
+-- all live entries have the form of the directory
 abbrev pub AreEntries : List Item → Type 0
-AreEntries items = (item : Item) (value : List ℕ) → Contains items item → item.value ≡ Some value → take 5 item.key ≡ codes "/dir/" → (length item.key ≤ 134) × IsSome (address_at value)
+AreEntries items = (item : Item) → Contains items item → IsEntry item

@@ -3,6 +3,8 @@
 
 mod address;
 mod key;
+mod law;
 mod lookup;
 
+pub use law::entries_stay;
 pub use lookup::find;

@@ -33,6 +33,7 @@ mod tests {
         let alloc = rt.alloc();
         let states = Newest::new(alloc);
         let app = AppName::read(alloc, b"app")?;
+        crate::entries_stay();
         assert_eq!(rt; find(&states, &app), None);
         Ok(())
     }
