@@ -1,0 +1,10 @@
+//! The directory: at which address an application is registered.
+#![tactic(auto)]
+
+mod address;
+mod key;
+mod law;
+mod lookup;
+
+pub use law::entries_stay;
+pub use lookup::find;
