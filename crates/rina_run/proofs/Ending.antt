@@ -1,5 +1,5 @@
 -- How a run ends.
-use Rattle.std.proofs.Common.{◌≡◌, ℕ, List, [], ◌∷◌, ◌++◌, Option, Some, None, Ok, Err, ◌⊎◌, inl, inr, refl, sym, ◌∙◌, IsSome, IfSome, length, take, true, false, ◌<◌, ◌≤◌, arith, subst}
+use Rattle.std.proofs.Common.{◌≡◌, ℕ, List, [], ◌∷◌, ◌++◌, Option, Some, None, Ok, Err, ◌⊎◌, inl, inr, refl, sym, ◌∙◌, IsSome, IfSome, slice_get, length, take, true, false, ◌<◌, ◌≤◌, arith, subst}
 use Rattle.std.proofs.lemmas.List.{append-nil, take_all}
 use Rattle.std.proofs.KnownBytes.{Appends-nil}
 use Rattle.std.specs.Io.KnownBytes.{Appends, Consumes, IsAtEnd}
@@ -14,8 +14,12 @@ use Rattle.rina_stack.specs.declared.plan.Plan.{Plan}
 use Rattle.rina_stack.specs.declared.error.StackError.{StackError}
 use Rattle.rina_stack.specs.declared.error.StackError.TheVariants as stack
 use Rattle.rina_stack.specs.Plan.{Reads}
+use Rattle.rina_iface.specs.declared.state.PortState.TheVariants.{Allocated, Failed}
+use Rattle.rina_iface.specs.Seen.{Fac}
 use Rattle.rina_iface.specs.Journal.{AreKept}
-use Rattle.rina_wire.specs.Air.{Air, seen_of}
+use Rattle.rina_wire.proofs.Kept.{is_mapped}
+use Rattle.std.proofs.lemmas.Option.{slice_get-map}
+use Rattle.rina_wire.specs.Air.{Air, fac_of, seen_of, wire_at}
 use Rattle.rina_wire.specs.Sound.{IsSound}
 use Rattle.rina_run.specs.declared.world.World.{World}
 use Rattle.rina_run.specs.declared.emit.Stop.{Stop}
@@ -27,7 +31,7 @@ use Rattle.rina_run.specs.Look.{Extends}
 use Rattle.rina_run.specs.Run.{Runs, StopsAt, RanFirst, RanPart, LinesRan, opening}
 use Rattle.rina_run.specs.Script.{Script, script_in}
 use Rattle.rina_run.specs.Written.{IsFront, Written}
-use Rattle.rina_run.specs.Top.{status_of, fault_at, fault_of, PlayOutcomes, RefusedBy, StackOutcomes, ScriptOutcomes, InputOutcomes, IsNothing, ClosedBy, IsEnding, EndedBy, RunOutcomes, is_whole, status_stopped}
+use Rattle.rina_run.specs.Top.{status_of, fault_at, fault_of, PlayOutcomes, RefusedBy, StackOutcomes, ScriptOutcomes, InputOutcomes, IsNothing, ClosedBy, IsEnding, EndedBy, RunOutcomes, is_whole, status_stopped, NoneFailed}
 use Rattle.rina_run.proofs.Texts.{wrote_all}
 
 pub wrote_nothing : (base : Option (List ℕ)) (ns : List Note) → ns ≡ [] → Appends base base (text_of ns)
@@ -180,3 +184,16 @@ not_read script s t tower (inr o) is = no_read_fault script t tower (subst (λ (
 pub kept_if : (tower : Option Air) → IfSome tower IsSound → IfSome tower (λ a. AreKept (seen_of a))
 kept_if None s = s
 kept_if (Some a) s = s.kept
+
+-- the ends of sound wires are all allocated
+allocated_all : (a : Air) → IsSound a → NoneFailed (seen_of a)
+allocated_all a s n f h i e at fail failed =
+    let w = is_mapped fac_of (wire_at a n) f (sym (slice_get-map fac_of a.wires n) ∙ h) in
+    let at' : slice_get w.0.ends i ≡ Some e = subst (λ (g : Fac). slice_get g.ends i ≡ Some e) (sym w.2) at in
+    let is : e.state ≡ Allocated = ((s.flows n w.0 w.1).sound.each i e at').state in
+    let same : Allocated ≡ Failed fail = sym is ∙ failed in
+    cc
+
+pub none_failed : (tower : Option Air) → IfSome tower IsSound → IfSome tower (λ a. NoneFailed (seen_of a))
+none_failed None s = s
+none_failed (Some a) s = allocated_all a s

@@ -1,6 +1,10 @@
 -- What a run came to: the status, the notes and the tower, by what was read.
-use Rattle.std.specs.Prelude.{◌≡◌, ℕ, ◌<◌, ◌≤◌, Bool, true, false, List, [], ◌∷◌, ◌++◌, length, take, Option, Some, None, Ok, Err, ◌⊎◌}
+use Rattle.std.specs.Prelude.{◌≡◌, ◌≢◌, slice_get, ℕ, ◌<◌, ◌≤◌, Bool, true, false, List, [], ◌∷◌, ◌++◌, length, take, Option, Some, None, Ok, Err, ◌⊎◌}
 use Rattle.std.specs.Io.KnownBytes.{Consumes, IsAtEnd}
+use Rattle.rina_iface.specs.declared.ends.End.{End}
+use Rattle.rina_iface.specs.declared.state.Fail.{Fail}
+use Rattle.rina_iface.specs.declared.state.PortState.TheVariants.{Failed}
+use Rattle.rina_iface.specs.Seen.{Fac, Seen}
 use Rattle.rina_report.specs.declared.note.Note.{Note}
 use Rattle.rina_report.specs.declared.note.Note.TheVariants as notes
 use Rattle.rina_report.specs.declared.note.Fault.{Fault}
@@ -143,3 +147,7 @@ IsEnding (Some fault) = ⊥
 abbrev pub status_stopped : Stop → Status
 status_stopped stops.Memory = statuses.Memory
 status_stopped stops.WriteFault = statuses.WriteFault
+
+-- no end of any facility has failed; no word that is built can make one fail
+abbrev pub NoneFailed : Seen → Type 0
+NoneFailed s = (n : ℕ) (f : Fac) → slice_get s.facs n ≡ Some f → (i : ℕ) (e : End) → slice_get f.ends i ≡ Some e → (fail : Fail) → e.state ≢ Failed fail

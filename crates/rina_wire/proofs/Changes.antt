@@ -36,6 +36,7 @@ end_passed s now frames i e x lt = record {
   facility = x.facility;
   number = x.number;
   node = x.node;
+  state = x.state;
   whole = record { sent = x.whole.sent; got = x.whole.got; taken = omega (arith, lt) };
   sent = x.sent;
   got = x.got;
@@ -62,6 +63,7 @@ end_got s now frames i e x k at lt = record {
   facility = k.facility;
   number = k.number;
   node = k.node;
+  state = k.state;
   whole = record { sent = k.whole.sent; got = dated_push now e.got x k.whole.got at; taken = let le = k.whole.taken in omega (arith, le, length-append e.got (x ∷ [])) };
   sent = k.sent;
   got = below_push frames e.got x k.got lt;
@@ -99,6 +101,7 @@ end_sent s now frames i e x k at lt = record {
   facility = k.facility;
   number = k.number;
   node = k.node;
+  state = k.state;
   whole = record { sent = dated_push now e.sent x k.whole.sent at; got = k.whole.got; taken = k.whole.taken };
   sent = below_push frames e.sent x k.sent lt;
   got = k.got;

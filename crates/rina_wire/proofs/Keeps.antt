@@ -92,6 +92,7 @@ end_later s before now few frames i e le more x = record {
   facility = x.facility;
   number = x.number;
   node = x.node;
+  state = x.state;
   whole = whole_later before now e le x.whole;
   sent = λ j y h. let lt = x.sent j y h in omega (arith, lt, more);
   got = λ j y h. let lt = x.got j y h in omega (arith, lt, more);

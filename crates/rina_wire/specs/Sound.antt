@@ -3,6 +3,7 @@ use Rattle.std.specs.Prelude.{◌≡◌, ◌≢◌, ℕ, ◌+◌, ◌*◌, ◌/�
 use Rattle.rina_law.specs.declared.entry.Entry.{Entry}
 use Rattle.rina_law.specs.Journal.{Born}
 use Rattle.rina_iface.specs.declared.ends.End.{End}
+use Rattle.rina_iface.specs.declared.state.PortState.TheVariants.{Allocated}
 use Rattle.rina_iface.specs.declared.state.Role.{Role}
 use Rattle.rina_iface.specs.declared.state.Role.TheVariants.{Asker, Far}
 use Rattle.rina_iface.specs.Ends.{drawn_at}
@@ -48,6 +49,7 @@ pub record IsSoundEnd (s : Site) (now frames i : ℕ) (e : End) : Type 0 where
   pub facility : e.port.fac ≡ s.fac
   pub number : e.port.n ≡ i / 2 + 1
   pub node : is_member (s.a ∷ s.b ∷ []) e.port.node ≡ true
+  pub state : e.state ≡ Allocated
   pub whole : IsWhole now e
   pub sent : AreBelow frames e.sent
   pub got : AreBelow frames e.got
