@@ -1,5 +1,5 @@
 //! One line of a schedule.
-ghost use Rattle.std.specs.Prelude.{◌≡◌, ◌+◌, nat_lt, true, OnOk, OnErr};
+ghost use Rattle.std.specs.Prelude.{◌≡◌, ◌+◌, ◌<◌, ◌≤◌, nat_lt, true, OnOk, OnErr};
 ghost use Rattle.rina_stack.specs.Plan.{IsPlan};
 ghost use Rattle.rina_wire.specs.Sound.{IsSound};
 ghost use Rattle.rina_run.specs.Built.{is_built};
@@ -16,6 +16,7 @@ use rina_iface::Facility;
 use rina_report::{Notes, Refusal, Said};
 use rina_schedule::Event;
 use rina_stack::Plan;
+use rina_wire::TickError;
 use std::alloc::Global;
 
 /// One tick, after which the labels tell their states.
@@ -26,14 +27,17 @@ fn tick_once(
     line: u32,
     trace: &mut Notes,
 ) -> Result<(), Memory>
-    requires { IsSound world.old.tower }
+    requires sound { IsSound world.old.tower }
+    requires clock { world.old.tower.now < 10_000_000 }
     ensures does { OnOk result (Leads (λ ns. TicksOnce plan.now line world.old ns world.new) trace.old trace.new) }
     ensures more { OnErr result (Extends trace.old trace.new) }
+    ensures clock { OnOk result (world.new.tower.now ≡ world.old.tower.now + 1) }
     ensures sound { IsSound world.new.tower }
 {
     match world.tower.tick(alloc) {
         Ok(()) => look(alloc, plan, &world.tower, &mut world.labels, line, trace),
-        Err(_) => Err(Memory),
+        Err(TickError::Memory) => Err(Memory),
+        Err(TickError::ClockSpent) => unreachable!(),
     }
 }
 
@@ -68,7 +72,8 @@ fn tick_all(
     count: u32,
     trace: &mut Notes,
 ) -> Result<(), Memory>
-    requires { IsSound world.old.tower }
+    requires sound { IsSound world.old.tower }
+    requires clock { world.old.tower.now + count ≤ 10_000_000 }
     ensures does { OnOk result (Leads (λ ns. Ticks plan.now line count world.old ns world.new) trace.old trace.new) }
     ensures more { OnErr result (Extends trace.old trace.new) }
     ensures sound { IsSound world.new.tower }
