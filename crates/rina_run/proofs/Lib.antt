@@ -6,3 +6,8 @@ pub mod Asking
 pub mod Leading
 pub mod Playing
 pub mod Ending
+pub mod FramesGrown
+pub mod FramesKept
+pub mod FramesTick
+pub mod FramesCalls
+pub mod FramesRun

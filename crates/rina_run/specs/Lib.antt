@@ -8,3 +8,4 @@ pub mod Step
 pub mod Run
 pub mod Written
 pub mod Top
+pub mod Frames

@@ -4,6 +4,7 @@
 mod built;
 mod emit;
 mod flow_words;
+mod frame_law;
 mod input;
 mod labels;
 mod look;
@@ -18,5 +19,6 @@ mod top;
 mod words;
 mod world;
 
+pub use frame_law::a_frame_arrives_once;
 pub use outcome::{Outcome, Status};
 pub use top::run;
