@@ -11,3 +11,14 @@ pub mod FramesKept
 pub mod FramesTick
 pub mod FramesCalls
 pub mod FramesRun
+pub mod LabelEnds
+pub mod LabelMoves
+pub mod LabelTicks
+pub mod LabelTells
+pub mod LabelGiven
+pub mod LabelClaimed
+pub mod LabelMade
+pub mod LabelCalls
+pub mod LabelWords
+pub mod LabelLines
+pub mod LabelLaws

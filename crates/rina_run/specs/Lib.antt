@@ -9,3 +9,4 @@ pub mod Run
 pub mod Written
 pub mod Top
 pub mod Frames
+pub mod Labels

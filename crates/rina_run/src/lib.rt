@@ -7,6 +7,7 @@ mod flow_words;
 mod frame_law;
 mod input;
 mod labels;
+mod laws;
 mod look;
 mod note;
 mod outcome;
@@ -20,5 +21,6 @@ mod words;
 mod world;
 
 pub use frame_law::a_frame_arrives_once;
+pub use laws::labels_tell_their_ends;
 pub use outcome::{Outcome, Status};
 pub use top::run;
