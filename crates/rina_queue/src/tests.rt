@@ -1,0 +1,2 @@
+//! Queues.
+use super::*;
