@@ -1,5 +1,5 @@
 //! The queues of all cubes and links.
-ghost use Rattle.std.specs.Prelude.{◌≡◌, ◌≢◌, ◌+◌, ◌-◌, ◌<◌, ◌≤◌, ◌↔◌, ◌==◌, [], ◌∷◌, ◌++◌, ℕ, length, drop, filter, None, position, slice_get, slice_set, true, false, Some, IsSome, IfSome, IsOk, OnOk, OnErr, IfOk, IfErr, option_copied};
+ghost use Rattle.std.specs.Prelude.{◌≡◌, ◌≢◌, ◌+◌, ◌-◌, ◌<◌, ◌≤◌, ◌↔◌, ◌==◌, [], ◌∷◌, ◌++◌, ℕ, length, drop, filter, None, IsNone, position, slice_get, slice_set, true, false, Some, IsSome, IfSome, IsOk, OnOk, OnErr, IfOk, IfErr, option_copied};
 ghost use Rattle.rina_policy.specs.Slots.{asked, count_of};
 ghost use Rattle.rina_queue.specs.Queues.{added, has_link, is_queue, queue_place, waiting, waits, head_of, head_at, first_in, with_items, no_queues, Changes};
 ghost use Rattle.rina_queue.specs.declared.queue.Queue.{Queue};
@@ -59,7 +59,9 @@ fn count_waiting(queues: &[Queue], link: u16) -> usize
 
 /// One of the queues in which a PDU waits for a link, counted from 0.
 fn nth_waiting(queues: &[Queue], link: u16, nth: usize) -> Option<&Queue>
-    ensures { option_copied result ≡ slice_get (filter (waits link) queues.now) nth }
+    ensures nth { option_copied result ≡ slice_get (filter (waits link) queues.now) nth }
+    ensures there { IsSome result ↔ (nth < length (filter (waits link) queues.now)) }
+    ensures waits { IfSome result (λ q. waits link q.now ≡ true) }
 {
     match queues {
         [] => None,
@@ -76,8 +78,11 @@ fn nth_waiting(queues: &[Queue], link: u16, nth: usize) -> Option<&Queue>
 }
 
 /// The first PDU of a queue.
-fn lend(queue: Option<&Queue>) -> Option<&Queued>
-    ensures { option_copied result ≡ first_in (option_copied queue.entry) }
+#[tactic(auto, unfolding(crate::specs::Queues::waits))]
+fn lend(queue: Option<&Queue>, _link: u16) -> Option<&Queued>
+    requires { IfSome queue (λ q. waits _link q.now ≡ true) }
+    ensures first { option_copied result ≡ first_in (option_copied queue.entry) }
+    ensures some { IsSome result ↔ IsSome queue.entry }
 {
     match queue {
         Some(queue) => queue.ring.front(),
@@ -179,6 +184,7 @@ impl Queues {
     /// once; None exactly where no queue of that link holds a PDU. Nothing is removed, and no memory
     /// is taken.
     pub fn serve<S: Picks>(&self, shelf: &mut S, name: &Name, who: u32, link: u16) -> Option<&Queued>
+        ensures none { IsNone result ↔ (filter (waits link) self.now.queues.items ≡ []) }
         ensures idle { filter (waits link) self.now.queues.items ≡ [] → (option_copied result ≡ None) × (S.slots shelf.new ≡ S.slots shelf.old) }
         ensures served { filter (waits link) self.now.queues.items ≢ [] → (place : ℕ) × (place < length (filter (waits link) self.now.queues.items)) × (S.slots shelf.new ≡ asked name.now place (S.slots shelf.old)) × (count_of name.now (S.slots shelf.old) ≡ None → place ≡ 0) × (option_copied result ≡ head_at place (filter (waits link) self.now.queues.items)) }
     {
@@ -195,6 +201,6 @@ impl Queues {
         }; 256];
         show(queues, link, count, &mut heads);
         let place = shelf.ask(name, who, &heads[..count]);
-        lend(nth_waiting(queues, link, place as usize))
+        lend(nth_waiting(queues, link, place as usize), link)
     }
 }
