@@ -70,3 +70,7 @@ head_at place queues = first_in (slice_get queues place)
 abbrev pub Changes : ℕ → ℕ → (Queue → Queue) → List Queue → List Queue → Type 0
 Changes qos link change old new =
     (k : ℕ) × (q : Queue) × (Some k ≡ queue_place qos link old) × (slice_get old k ≡ Some q) × (new ≡ slice_set old k (change q))
+
+-- each of these queues has room for so many PDUs
+abbrev pub HaveRoom : ℕ → List Queue → Type 0
+HaveRoom cap queues = (k : ℕ) (q : Queue) → slice_get queues k ≡ Some q → q.ring.capacity ≡ cap

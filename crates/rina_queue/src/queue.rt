@@ -1,5 +1,5 @@
 //! One queue, and what it holds.
-ghost use Rattle.std.specs.Prelude.{◌≡◌, ◌-◌, ◌<◌, ◌↔◌, [], ◌∷◌, ◌++◌, length, drop, slice_get, IsOk, OnOk, OnErr, IfErr, IfOk, option_copied};
+ghost use Rattle.std.specs.Prelude.{◌≡◌, ◌-◌, ◌<◌, ◌↔◌, [], ◌∷◌, ◌++◌, length, drop, slice_get, true, IsOk, OnOk, OnErr, IfErr, IfOk, option_copied};
 ghost use Rattle.circular_buffer.specs.Buffer.{buffer};
 ghost use Rattle.rina_queue.specs.Queues.{waits, with_items, head_of};
 ghost use Rattle.rina_queue.specs.declared.queue.QueueFull.{QueueFull};
@@ -50,6 +50,7 @@ impl Queue {
     pub fn push(&mut self, cap: u32, item: Queued) -> Result<(), QueueFull>
         ensures ok { OnOk result (self.new ≡ with_items (self.old.ring.items ++ item ∷ []) self.old) }
         ensures full { IsOk result ↔ (length self.old.ring.items < self.old.ring.capacity) }
+        ensures capacity { self.new.ring.capacity ≡ self.old.ring.capacity }
         ensures cap { IfErr result (λ e. e.cap ≡ cap) }
         ensures err { OnErr result (self.new ≡ self.old) }
     {
@@ -70,7 +71,8 @@ impl Queue {
     /// Whether a PDU waits here for a link.
     #[tactic(auto, unfolding(crate::specs::Queues::waits))]
     pub fn waits(&self, link: u16) -> bool
-        ensures { result ≡ waits link self.now }
+        ensures waits { result ≡ waits link self.now }
+        ensures holds { result ≡ true → 0 < length self.now.ring.items }
     {
         self.link == link && !self.ring.is_empty()
     }

@@ -1,7 +1,7 @@
 //! The queues of all cubes and links.
 ghost use Rattle.std.specs.Prelude.{◌≡◌, ◌≢◌, ◌+◌, ◌-◌, ◌<◌, ◌≤◌, ◌↔◌, ◌==◌, [], ◌∷◌, ◌++◌, ℕ, length, drop, filter, None, IsNone, position, slice_get, slice_set, true, false, Some, IsSome, IfSome, IsOk, OnOk, OnErr, IfOk, IfErr, option_copied};
 ghost use Rattle.rina_policy.specs.Slots.{asked, count_of};
-ghost use Rattle.rina_queue.specs.Queues.{added, has_link, is_queue, queue_place, waiting, waits, head_of, head_at, first_in, with_items, no_queues, Changes};
+ghost use Rattle.rina_queue.specs.Queues.{added, HaveRoom, has_link, is_queue, queue_place, waiting, waits, head_of, head_at, first_in, with_items, no_queues, Changes};
 ghost use Rattle.rina_queue.specs.declared.queue.Queue.{Queue};
 
 use crate::queue::{Queue, QueueFull, Queued};
@@ -19,6 +19,7 @@ pub struct Queues {
     /// The queues, link by link in the order in which these were added, and of each link in the order
     /// of `cubes`.
     pub queues: Vec<Queue>,
+    pub ghost caps: { HaveRoom cap queues.items },
 }
 
 #[tactic(auto, unfolding(crate::specs::Queues::is_queue))]
@@ -61,7 +62,7 @@ fn count_waiting(queues: &[Queue], link: u16) -> usize
 fn nth_waiting(queues: &[Queue], link: u16, nth: usize) -> Option<&Queue>
     ensures nth { option_copied result ≡ slice_get (filter (waits link) queues.now) nth }
     ensures there { IsSome result ↔ (nth < length (filter (waits link) queues.now)) }
-    ensures waits { IfSome result (λ q. waits link q.now ≡ true) }
+    ensures holds { IfSome result (λ q. 0 < length q.now.ring.items) }
 {
     match queues {
         [] => None,
@@ -78,9 +79,8 @@ fn nth_waiting(queues: &[Queue], link: u16, nth: usize) -> Option<&Queue>
 }
 
 /// The first PDU of a queue.
-#[tactic(auto, unfolding(crate::specs::Queues::waits))]
-fn lend(queue: Option<&Queue>, _link: u16) -> Option<&Queued>
-    requires { IfSome queue (λ q. waits _link q.now ≡ true) }
+fn lend(queue: Option<&Queue>) -> Option<&Queued>
+    requires { IfSome queue (λ q. 0 < length q.now.ring.items) }
     ensures first { option_copied result ≡ first_in (option_copied queue.entry) }
     ensures some { IsSome result ↔ IsSome queue.entry }
 {
@@ -143,7 +143,7 @@ impl Queues {
     pub fn push(&mut self, qos: u8, link: u16, item: Queued) -> Result<(), QueueFull>
         requires { IsSome (queue_place qos link self.old.queues.items) }
         ensures ok { OnOk result (Changes qos link (λ q. with_items (q.ring.items ++ item ∷ []) q) self.old.queues.items self.new.queues.items) }
-        ensures full { (q : Queue) (k : ℕ) → Some k ≡ queue_place qos link self.old.queues.items → slice_get self.old.queues.items k ≡ Some q → IsOk result ↔ (length q.ring.items < q.ring.capacity) }
+        ensures full { IsOk result ↔ (length (waiting qos link self.old.queues.items) < self.old.cap) }
         ensures cap { IfErr result (λ e. e.cap ≡ self.old.cap) }
         ensures err { OnErr result (self.new.queues.items ≡ self.old.queues.items) }
         ensures same { (self.new.cap ≡ self.old.cap) × (self.new.cubes ≡ self.old.cubes) }
@@ -201,6 +201,6 @@ impl Queues {
         }; 256];
         show(queues, link, count, &mut heads);
         let place = shelf.ask(name, who, &heads[..count]);
-        lend(nth_waiting(queues, link, place as usize), link)
+        lend(nth_waiting(queues, link, place as usize))
     }
 }
