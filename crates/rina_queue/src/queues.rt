@@ -139,6 +139,14 @@ impl Queues {
         Ok(())
     }
 
+    /// Whether a cube and link have a queue. Takes no memory.
+    pub fn has(&self, qos: u8, link: u16) -> bool
+        ensures there { result ≡ true → IsSome (queue_place qos link self.now.queues.items) }
+        ensures lacks { result ≡ false → queue_place qos link self.now.queues.items ≡ None }
+    {
+        place(self.queues.as_slice(), qos, link).is_some()
+    }
+
     /// Puts a PDU last in the queue of a cube and link, which has one. Takes no memory.
     pub fn push(&mut self, qos: u8, link: u16, item: Queued) -> Result<(), QueueFull>
         requires { IsSome (queue_place qos link self.old.queues.items) }
@@ -183,7 +191,13 @@ impl Queues {
     /// The PDU that the policy of a name picks, of the heads of the queues of a link, which it is asked
     /// once; None exactly where no queue of that link holds a PDU. Nothing is removed, and no memory
     /// is taken.
-    pub fn serve<S: Picks>(&self, shelf: &mut S, name: &Name, who: u32, link: u16) -> Option<&Queued>
+    pub fn serve<S: Picks>(
+        &self,
+        shelf: &mut S,
+        name: &Name,
+        who: u32,
+        link: u16,
+    ) -> Option<&Queued>
         ensures none { IsNone result ↔ (filter (waits link) self.now.queues.items ≡ []) }
         ensures idle { filter (waits link) self.now.queues.items ≡ [] → (option_copied result ≡ None) × (S.slots shelf.new ≡ S.slots shelf.old) }
         ensures served { filter (waits link) self.now.queues.items ≢ [] → (place : ℕ) × (place < length (filter (waits link) self.now.queues.items)) × (S.slots shelf.new ≡ asked name.now place (S.slots shelf.old)) × (count_of name.now (S.slots shelf.old) ≡ None → place ≡ 0) × (option_copied result ≡ head_at place (filter (waits link) self.now.queues.items)) }

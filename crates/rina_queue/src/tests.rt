@@ -1,4 +1,4 @@
-//! Two links and two cubes, served by a policy of a shelf.
+//! A link with two cubes, served by a policy of a shelf.
 use super::*;
 use rina_base::{Name, Pdu, PduKind, Seq};
 use rina_policy::{Last, Shelf};
@@ -40,6 +40,17 @@ fn the_policy_picks_and_the_first_is_lent(rt: HostRuntime) -> Result<(), Fail> {
     queues.add_link(alloc, 0)?;
     assert_eq!(rt; queues.queues.len(), 2);
     assert!(rt; queues.serve(&mut shelf, &last, 0, 0).is_none());
+    assert!(rt; queues.has(0, 0));
+    assert_eq!(rt; queues.push(0, 0, queued(alloc, 0, 5)?), Ok(()));
+    let lent = queues.serve(&mut shelf, &last, 0, 0);
+    assert_eq!(rt; lent.map(|q| q.since), Some(5));
+    assert!(rt; queues.has(1, 0));
+    assert_eq!(rt; queues.push(1, 0, queued(alloc, 1, 6)?), Ok(()));
+    let lent = queues.serve(&mut shelf, &last, 0, 0);
+    assert_eq!(rt; lent.map(|q| q.since), Some(6));
+    assert!(rt; queues.has(1, 0));
+    assert_eq!(rt; queues.room(1, 0), 1);
+    assert_eq!(rt; queues.take(1, 0).map(|q| q.since), Some(6));
     Ok(())
 }
 
