@@ -1,5 +1,5 @@
 -- Queues, one for each link and cube: each is its link, the id of its cube, and its PDUs, the first that came first.
-use Rattle.std.specs.Prelude.{◌≡◌, ℕ, ◌-◌, ◌^◌, min, ◌+◌, Bool, ◌&&◌, ◌==◌, not, List, [], ◌∷◌, ◌++◌, Option, Some, None, length, map, filter, position, slice_get, slice_set, if◌then◌else◌}
+use Rattle.std.specs.Prelude.{◌≡◌, ℕ, ◌-◌, ◌^◌, min, Bool, ◌&&◌, ◌==◌, not, List, [], ◌++◌, Option, Some, None, length, map, position, slice_get, slice_set, if◌then◌else◌}
 use Rattle.std.specs.List.{list_any}
 use Rattle.circular_buffer.specs.Buffer.{buffer}
 use Rattle.rina_policy.specs.declared.policy.Head.{Head}

@@ -189,7 +189,7 @@ impl Queues {
     }
 
     /// The PDU that the policy of a name picks, of the heads of the queues of a link, which it is asked
-    /// once; None exactly where no queue of that link holds a PDU. Nothing is removed, and no memory
+    /// once and shown the first 256; None exactly where no queue of that link holds a PDU. Nothing is removed, and no memory
     /// is taken.
     pub fn serve<S: Picks>(
         &self,
