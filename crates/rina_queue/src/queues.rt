@@ -189,8 +189,8 @@ impl Queues {
     }
 
     /// The PDU that the policy of a name picks, of the heads of the queues of a link, which it is asked
-    /// once and shown the first 256; None exactly where no queue of that link holds a PDU. Nothing is removed, and no memory
-    /// is taken.
+    /// once and shown the first 256. None exactly where no queue of that link holds a PDU. Nothing is
+    /// removed, and no memory is taken.
     pub fn serve<S: Picks>(
         &self,
         shelf: &mut S,
