@@ -1,0 +1,220 @@
+//! The queues of all cubes and links.
+ghost use Rattle.std.specs.Prelude.{◌≡◌, ◌≢◌, ◌+◌, ◌-◌, ◌<◌, ◌≤◌, ◌↔◌, ◌==◌, [], ◌∷◌, ◌++◌, ℕ, length, drop, filter, None, IsNone, position, slice_get, slice_set, true, false, Some, IsSome, IfSome, IsOk, OnOk, OnErr, IfOk, IfErr, option_copied};
+ghost use Rattle.rina_policy.specs.Slots.{asked, count_of};
+ghost use Rattle.rina_queue.specs.Queues.{added, HaveRoom, has_link, is_queue, queue_place, waiting, waits, head_of, head_at, first_in, with_items, no_queues, Changes};
+ghost use Rattle.rina_queue.specs.declared.queue.Queue.{Queue};
+
+use crate::queue::{Queue, QueueFull, Queued};
+use rina_base::{Memory, Name, Seq};
+use rina_policy::{Head, Picks};
+use std::alloc::{AllocError, Global};
+
+/// One queue for each cube and link that was added.
+#[derive(Drop)]
+pub struct Queues {
+    /// How many PDUs each queue can hold.
+    pub cap: u32,
+    /// The ids of the cubes that have a queue, in the order in which their heads are shown.
+    pub cubes: Seq<u8>,
+    /// The queues, link by link in the order in which these were added, and of each link in the order
+    /// of `cubes`.
+    pub queues: Vec<Queue>,
+    pub ghost caps: { HaveRoom cap queues.items },
+}
+
+#[tactic(auto, unfolding(crate::specs::Queues::is_queue))]
+fn is_queue(queue: &Queue, qos: u8, link: u16) -> bool
+    ensures { result ≡ is_queue qos link queue.now }
+{
+    queue.link == link && queue.qos == qos
+}
+
+/// Where the queue of a cube and link stands.
+fn place(queues: &[Queue], qos: u8, link: u16) -> Option<usize>
+    ensures place { result ≡ queue_place qos link queues.now }
+    ensures within { IfSome result (λ k. k < length queues.now) }
+{
+    queues.iter().position(|queue| is_queue(queue, qos, link))
+}
+
+/// Empty queues for a link, one for each cube.
+fn make(alloc: Global, cubes: &[u8], link: u16, cap: u32) -> Result<Vec<Queue>, Memory>
+    ensures { IfOk result (λ v. v.items ≡ no_queues cap link cubes.now) }
+{
+    let mut queues = Vec::new(alloc);
+    for &qos in cubes {
+        let queue = Queue::new(alloc, link, qos, cap)?;
+        if queues.push(queue).is_err() {
+            return Err(Memory);
+        }
+    }
+    Ok(queues)
+}
+
+/// How many queues there are in which a PDU waits for a link.
+fn count_waiting(queues: &[Queue], link: u16) -> usize
+    ensures { result ≡ length (filter (waits link) queues.now) }
+{
+    queues.iter().filter(|queue| queue.waits(link)).count()
+}
+
+/// One of the queues in which a PDU waits for a link, counted from 0.
+fn nth_waiting(queues: &[Queue], link: u16, nth: usize) -> Option<&Queue>
+    ensures nth { option_copied result ≡ slice_get (filter (waits link) queues.now) nth }
+    ensures there { IsSome result ↔ (nth < length (filter (waits link) queues.now)) }
+    ensures holds { IfSome result (λ q. 0 < length q.now.ring.items) }
+{
+    match queues {
+        [] => None,
+        [first, others @ ..] => {
+            if !first.waits(link) {
+                return nth_waiting(others, link, nth);
+            }
+            if nth == 0 {
+                return Some(first);
+            }
+            nth_waiting(others, link, nth - 1)
+        }
+    }
+}
+
+/// The first PDU of a queue.
+fn lend(queue: Option<&Queue>) -> Option<&Queued>
+    requires { IfSome queue (λ q. 0 < length q.now.ring.items) }
+    ensures first { option_copied result ≡ first_in (option_copied queue.entry) }
+    ensures some { IsSome result ↔ IsSome queue.entry }
+{
+    match queue {
+        Some(queue) => queue.ring.front(),
+        None => None,
+    }
+}
+
+/// Whether the queues of a link are there.
+#[tactic(auto, unfolding(crate::specs::Queues::has_link))]
+fn has_link(queues: &[Queue], link: u16) -> bool
+    ensures { result ≡ has_link link queues.now }
+{
+    queues.iter().any(|queue| queue.link == link)
+}
+
+/// Shows the heads of the queues in which a PDU waits for a link.
+fn show(queues: &[Queue], link: u16, count: usize, heads: &mut [Head])
+    requires { count ≤ length heads.old }
+    ensures { (k : ℕ) (q : Queue) → k < count → slice_get (filter (waits link) queues.now) k ≡ Some q → slice_get heads.new k ≡ Some (head_of q) }
+{
+    for nth in 0..count {
+        if let Some(queue) = nth_waiting(queues, link, nth) {
+            heads[nth] = queue.head();
+        }
+    }
+}
+
+impl Queues {
+    /// No link yet.
+    pub fn new(alloc: Global, cap: u32, cubes: &[u8]) -> Result<Queues, Memory>
+        ensures cap { IfOk result (λ q. q.cap ≡ cap) }
+        ensures cubes { IfOk result (λ q. q.cubes ≡ cubes.now) }
+        ensures empty { IfOk result (λ q. q.queues.items ≡ []) }
+    {
+        Ok(Queues {
+            cap,
+            cubes: Seq::copy_of(alloc, cubes)?,
+            queues: Vec::new(alloc),
+        })
+    }
+
+    /// Makes the queues of a link; nothing changes where they are there.
+    #[tactic(auto, unfolding(crate::specs::Queues::added))]
+    pub fn add_link(&mut self, alloc: Global, link: u16) -> Result<(), Memory>
+        ensures ok { OnOk result (self.new.queues.items ≡ added self.old.cap link self.old.cubes self.old.queues.items) }
+        ensures err { OnErr result (self.new.queues.items ≡ self.old.queues.items) }
+        ensures same { (self.new.cap ≡ self.old.cap) × (self.new.cubes ≡ self.old.cubes) }
+    {
+        if has_link(self.queues.as_slice(), link) {
+            return Ok(());
+        }
+        let mut made = make(alloc, self.cubes.as_slice(), link, self.cap)?;
+        self.queues.append(&mut made)?;
+        Ok(())
+    }
+
+    /// Whether a cube and link have a queue. Takes no memory.
+    pub fn has(&self, qos: u8, link: u16) -> bool
+        ensures there { result ≡ true → IsSome (queue_place qos link self.now.queues.items) }
+        ensures lacks { result ≡ false → queue_place qos link self.now.queues.items ≡ None }
+    {
+        place(self.queues.as_slice(), qos, link).is_some()
+    }
+
+    /// Puts a PDU last in the queue of a cube and link, which has one. Takes no memory.
+    pub fn push(&mut self, qos: u8, link: u16, item: Queued) -> Result<(), QueueFull>
+        requires { IsSome (queue_place qos link self.old.queues.items) }
+        ensures ok { OnOk result (Changes qos link (λ q. with_items (q.ring.items ++ item ∷ []) q) self.old.queues.items self.new.queues.items) }
+        ensures full { IsOk result ↔ (length (waiting qos link self.old.queues.items) < self.old.cap) }
+        ensures cap { IfErr result (λ e. e.cap ≡ self.old.cap) }
+        ensures err { OnErr result (self.new.queues.items ≡ self.old.queues.items) }
+        ensures same { (self.new.cap ≡ self.old.cap) × (self.new.cubes ≡ self.old.cubes) }
+    {
+        let cap = self.cap;
+        match place(self.queues.as_slice(), qos, link) {
+            Some(at) => self.queues[at].push(cap, item),
+            None => unreachable!(),
+        }
+    }
+
+    /// Takes the first PDU of the queue of a cube and link, which has one; None exactly where that is
+    /// empty. Takes no memory.
+    pub fn take(&mut self, qos: u8, link: u16) -> Option<Queued>
+        requires { IsSome (queue_place qos link self.old.queues.items) }
+        ensures first { result ≡ slice_get (waiting qos link self.old.queues.items) 0 }
+        ensures rest { Changes qos link (λ q. with_items (drop 1 q.ring.items) q) self.old.queues.items self.new.queues.items }
+        ensures same { (self.new.cap ≡ self.old.cap) × (self.new.cubes ≡ self.old.cubes) }
+    {
+        match place(self.queues.as_slice(), qos, link) {
+            Some(at) => self.queues[at].take(),
+            None => unreachable!(),
+        }
+    }
+
+    /// How many more PDUs the queue of a cube and link can take, which has one. Takes no memory.
+    pub fn room(&self, qos: u8, link: u16) -> u32
+        requires { IsSome (queue_place qos link self.now.queues.items) }
+        ensures { result ≡ self.now.cap - length (waiting qos link self.now.queues.items) }
+    {
+        match place(self.queues.as_slice(), qos, link) {
+            Some(at) => (self.cap as usize).saturating_sub(self.queues[at].ring.len()) as u32,
+            None => unreachable!(),
+        }
+    }
+
+    /// The PDU that the policy of a name picks, of the heads of the queues of a link, which it is asked
+    /// once and shown the first 256. None exactly where no queue of that link holds a PDU. Nothing is
+    /// removed, and no memory is taken.
+    pub fn serve<S: Picks>(
+        &self,
+        shelf: &mut S,
+        name: &Name,
+        who: u32,
+        link: u16,
+    ) -> Option<&Queued>
+        ensures none { IsNone result ↔ (filter (waits link) self.now.queues.items ≡ []) }
+        ensures idle { filter (waits link) self.now.queues.items ≡ [] → (option_copied result ≡ None) × (S.slots shelf.new ≡ S.slots shelf.old) }
+        ensures served { filter (waits link) self.now.queues.items ≢ [] → (place : ℕ) × (place < length (filter (waits link) self.now.queues.items)) × (S.slots shelf.new ≡ asked name.now place (S.slots shelf.old)) × (count_of name.now (S.slots shelf.old) ≡ None → place ≡ 0) × (option_copied result ≡ head_at place (filter (waits link) self.now.queues.items)) }
+    {
+        let queues = self.queues.as_slice();
+        let count = count_waiting(queues, link).min(256);
+        if count == 0 {
+            return None;
+        }
+        let mut heads = [Head {
+            qos: 0,
+            waiting: 0,
+            len: 0,
+            since: 0,
+        }; 256];
+        show(queues, link, count, &mut heads);
+        let place = shelf.ask(name, who, &heads[..count]);
+        lend(nth_waiting(queues, link, place as usize))
+    }
+}
