@@ -1,0 +1,24 @@
+//! Numbers that are drawn, one after the other.
+ghost use Rattle.std.specs.Prelude.{◌≡◌, ◌<◌};
+ghost use Rattle.rina_gen.specs.Draws.{drawn, seeded};
+
+use rand_core::SeedableRng;
+use rand_core::utils::NextWord;
+use rand_pcg::Lcg64Xsh32;
+
+/// The generator that a number seeds.
+pub fn seeded(seed: u64) -> Lcg64Xsh32
+    ensures { result ≡ seeded seed }
+{
+    Lcg64Xsh32::seed_from_u64(seed)
+}
+
+/// A number below `limit`: the generator's next word modulo `limit`.
+pub fn draw(generator: &mut Lcg64Xsh32, limit: u32) -> u32
+    requires { 0 < limit }
+    ensures number { result ≡ (drawn limit generator.old).0 }
+    ensures after { generator.new ≡ (drawn limit generator.old).1 }
+    ensures below { result < limit }
+{
+    generator.next_word() % limit
+}
