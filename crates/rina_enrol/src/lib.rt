@@ -1,0 +1,15 @@
+//! Enrolment: the two machines of one enrolment, at the joiner and at the member that it joins.
+#![tactic(auto)]
+
+mod event;
+mod joiner;
+mod laws;
+mod member;
+
+pub use event::{EnrolDo, EnrolEvent};
+pub use joiner::Joiner;
+pub use laws::{a_joiner_is_enrolled_by_stop, a_member_tells_its_items_to_whom_it_allowed};
+pub use member::Member;
+
+#[cfg(test)]
+mod tests;
