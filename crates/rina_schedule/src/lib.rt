@@ -8,6 +8,7 @@ mod field;
 mod line;
 mod number;
 mod object_name;
+mod print;
 #[cfg(test)]
 mod tests;
 mod text;
@@ -20,4 +21,5 @@ pub use field::next_field;
 pub use line::read_line;
 pub use number::read_number;
 pub use object_name::ObjectName;
+pub use print::print_line;
 pub use text::Text;
