@@ -2,7 +2,7 @@
 use Rattle.std.proofs.Common.{◌≡◌, ℕ, ◌+◌, ◌-◌, ◌*◌, ◌/◌, ◌%◌, ◌^◌, ◌<◌, ◌≤◌, Bool, true, false, not, cond, eqb, ltb, leb, ◌&&◌, ◌||◌, List, [], ◌∷◌, ◌++◌, length, take, drop, position, Option, Some, None, Result, Ok, Err, inl, inr, refl, sym, ap, subst, ◌∙◌, append_assoc, arith}
 use Rattle.std.specs.List.{list_all, prefix_len, flat_map}
 use Rattle.std.specs.Fmt.{decimal}
-use Rattle.std.proofs.lemmas.Bool.{and_parts, and_from, not_from_false, lt-ltb, le-ltb, eqb-true, cases_Bool}
+use Rattle.std.proofs.lemmas.Bool.{and_parts, and_from, not_from_false, lt-ltb, le-ltb, ne_eqb, eqb-true, cases_Bool}
 use Rattle.std.proofs.lemmas.List.{append-nil, length-append, take_at, drop_at}
 use Rattle.rina_schedule.specs.Spelling.{spaced}
 use Rattle.rina_schedule.specs.Fields.{from_place, without_blanks, cut_at, next_of}
@@ -58,7 +58,7 @@ unfolding next_of
 next_word [] fs h = absurd (omega (arith, h.some))
 next_word (b ∷ f) fs h =
     let p = and_parts (not (eqb b 32)) (is_clear f) h.clear in
-    rw (no_blanks b (f ++ spaced fs) p.0) (ap Some (cut_next (b ∷ f) fs h.clear))
+    rw (no_blanks b (f ++ spaced fs) p.0, ne_eqb (length (b ∷ (f ++ spaced fs))) 0 (λ e. omega arith)) (ap Some (cut_next (b ∷ f) fs h.clear))
 
 -- the next field behind a space
 pub next_spaced : (f : List ℕ) (fs : List (List ℕ)) → IsField f → next_of (spaced (f ∷ fs)) ≡ Some (f, spaced fs)
@@ -66,4 +66,8 @@ unfolding next_of
 next_spaced [] fs h = absurd (omega (arith, h.some))
 next_spaced (b ∷ f) fs h =
     let p = and_parts (not (eqb b 32)) (is_clear f) h.clear in
-    rw (a_blank b (f ++ spaced fs) p.0) (ap Some (cut_next (b ∷ f) fs h.clear))
+    rw (a_blank b (f ++ spaced fs) p.0, ne_eqb (length (b ∷ (f ++ spaced fs))) 0 (λ e. omega arith)) (ap Some (cut_next (b ∷ f) fs h.clear))
+
+pub next_none : next_of [] ≡ None
+unfolding next_of without_blanks
+next_none = refl
