@@ -14,7 +14,7 @@ use Rattle.rina_base.specs.Traverse.{◌>>=◌}
 use Rattle.rina_base.specs.declared.name.NameError.{NameError}
 use Rattle.rina_base.specs.declared.name.NameError.TheVariants.{BadLength}
 use Rattle.rina_schedule.specs.Numbers.{is_digit, number_from, number_of}
-use Rattle.rina_schedule.specs.Bytes.{is_plain, are_plain, hex_digit, hex_pair_of, hex_of, plain_of, zeros_of, bytes_of}
+use Rattle.rina_schedule.specs.Bytes.{is_plain, are_plain, hex_digit, hex_pair_of, hex_of, plain_of, zeros_of, bytes_of, is_lower, lower_hex_of, printed_of}
 use Rattle.rina_schedule.specs.Objects.{is_object_byte, are_parts, is_object_name}
 use Rattle.rina_schedule.specs.Spelling.{hex_glyph, hex_pair, spelling}
 use Rattle.rina_schedule.specs.Ranges.{IsName, IsApp, IsNumber, IsBytes}
@@ -363,3 +363,115 @@ bytes_fit (b ∷ text) bytes e = first (eqb b 39) e
     first : (c : Bool) → cond c (plain_of text) (cond (eqb b 120) (hex_of text) (cond (eqb b 122) (zeros_of text) None)) ≡ Some bytes → IsBytes bytes
     first true e = (let p = cond_some (are_plain text) text bytes e in subst IsBytes p.1 (plain p.0))
     first false e = second (eqb b 120) e
+
+-- ---- bytes in the spelling in which they are printed
+
+glyph_lower : (d : ℕ) → d < 16 → is_lower (hex_glyph d) ≡ true
+unfolding is_lower hex_glyph
+glyph_lower d lt = by_size (leb d 9) refl
+  where
+    by_size : (c : Bool) → leb d 9 ≡ c → not (leb 65 (cond c (48 + d) (87 + d)) && leb (cond c (48 + d) (87 + d)) 70) ≡ true
+    by_size true e = (let small = leb-true d 9 e in rw (lt-leb 65 (48 + d) (omega arith)) refl)
+    by_size false e = (let large = leb-false d 9 e in rw (le-leb 65 (87 + d) (omega arith), lt-leb (87 + d) 70 (omega arith)) refl)
+
+hex_lower : (bytes : List ℕ) → IsBytes bytes → list_all is_lower (flat_map hex_pair bytes) ≡ true
+unfolding hex_pair
+hex_lower [] h = refl
+hex_lower (x ∷ xs) h =
+    let lt : x < 256 = h 0 in
+    rw (glyph_lower (x / 16) (omega arith), glyph_lower (x % 16) (omega arith)) (hex_lower xs (λ i. h (suc i)))
+
+pub printed_back : (bytes : List ℕ) → IsBytes bytes → printed_of (spelling bytes) ≡ Some bytes
+unfolding spelling printed_of plain_of lower_hex_of
+printed_back bytes h = by_plain (are_plain bytes) refl
+  where
+    by_plain : (c : Bool) → are_plain bytes ≡ c → printed_of (cond c (39 ∷ bytes) (120 ∷ flat_map hex_pair bytes)) ≡ Some bytes
+    by_plain true e = rw e refl
+    by_plain false e = rw (hex_lower bytes h, hex_back bytes h, e) refl
+
+-- a digit that is no capital is the one that is printed
+digit_is : (b x : ℕ) → is_lower b ≡ true → hex_digit b ≡ Some x → b ≡ hex_glyph x
+unfolding is_lower hex_digit hex_glyph
+digit_is b x lower e = first (leb 48 b && leb b 57) refl e
+  where
+    third : (c : Bool) → (leb 65 b && leb b 70) ≡ c → cond c (Some (b - 55)) None ≡ Some x → b ≡ cond (leb x 9) (48 + x) (87 + x)
+    third true t e = absurd (false≢true (ap not (sym t) ∙ lower))
+    third false t e = absurd cc
+    second : (c : Bool) → (leb 97 b && leb b 102) ≡ c → cond c (Some (b - 87)) (cond (leb 65 b && leb b 70) (Some (b - 55)) None) ≡ Some x → b ≡ cond (leb x 9) (48 + x) (87 + x)
+    second true t e =
+        let p = and_parts (leb 97 b) (leb b 102) t in
+        let low = leb-true 97 b p.0 in
+        let is : b - 87 ≡ x = same_Some (b - 87) x e in
+        rw (lt-leb x 9 (omega arith)) (omega arith)
+    second false t e = third (leb 65 b && leb b 70) refl e
+    first : (c : Bool) → (leb 48 b && leb b 57) ≡ c → cond c (Some (b - 48)) (cond (leb 97 b && leb b 102) (Some (b - 87)) (cond (leb 65 b && leb b 70) (Some (b - 55)) None)) ≡ Some x → b ≡ cond (leb x 9) (48 + x) (87 + x)
+    first true t e =
+        let p = and_parts (leb 48 b) (leb b 57) t in
+        let low = leb-true 48 b p.0 in
+        let high = leb-true b 57 p.1 in
+        let is : b - 48 ≡ x = same_Some (b - 48) x e in
+        rw (le-leb x 9 (omega arith)) (omega arith)
+    first false t e = second (leb 97 b && leb b 102) refl e
+
+pair_is : (a b x : ℕ) → is_lower a ≡ true → is_lower b ≡ true → hex_pair_of a b ≡ Some x → a ∷ b ∷ [] ≡ hex_pair x
+unfolding hex_pair_of hex_pair
+pair_is a b x la lb e = by_digits (hex_digit a) (hex_digit b) refl refl e
+  where
+    by_digits : (o p : Option ℕ) → hex_digit a ≡ o → hex_digit b ≡ p → option_and_then (λ x. option_map (λ y. x * 16 + y) p) o ≡ Some x → a ∷ b ∷ [] ≡ hex_glyph (x / 16) ∷ hex_glyph (x % 16) ∷ []
+    by_digits (Some y) (Some z) ea eb e =
+        let low = digit_fits b z eb in
+        let is : y * 16 + z ≡ x = same_Some (y * 16 + z) x e in
+        let high-is : x / 16 ≡ y = omega arith in
+        let low-is : x % 16 ≡ z = omega arith in
+        rw (high-is, low-is, digit_is a y la ea, digit_is b z lb eb) refl
+    by_digits (Some y) None ea eb e = absurd cc
+    by_digits None p ea eb e = absurd cc
+
+hex_is : (text bytes : List ℕ) → list_all is_lower text ≡ true → hex_of text ≡ Some bytes → text ≡ flat_map hex_pair bytes
+unfolding hex_of
+hex_is [] bytes lower e = subst (λ (x : List ℕ). [] ≡ flat_map hex_pair x) (same_Some [] bytes e) refl
+hex_is (a ∷ []) bytes lower e = absurd cc
+hex_is (a ∷ b ∷ text) bytes lower e = by_parts (λ more l h. hex_is text more l h) (hex_pair_of a b) (hex_of text) refl refl e
+  where
+    by_parts : ((more : List ℕ) → list_all is_lower text ≡ true → hex_of text ≡ Some more → text ≡ flat_map hex_pair more) → (o : Option ℕ) (p : Option (List ℕ)) → hex_pair_of a b ≡ o → hex_of text ≡ p
+        → option_and_then (λ x. option_map (λ bytes. x ∷ bytes) p) o ≡ Some bytes → a ∷ b ∷ text ≡ flat_map hex_pair bytes
+    by_parts again (Some x) (Some more) ea eb e =
+        let l = and_parts (is_lower a) (is_lower b && list_all is_lower text) lower in
+        let m = and_parts (is_lower b) (list_all is_lower text) l.1 in
+        let front : a ∷ b ∷ [] ≡ hex_pair x = pair_is a b x l.0 m.0 ea in
+        let rest : text ≡ flat_map hex_pair more = again more m.1 eb in
+        subst (λ (ys : List ℕ). a ∷ b ∷ text ≡ flat_map hex_pair ys) (same_Some (x ∷ more) bytes e)
+            (ap (λ (t : List ℕ). a ∷ b ∷ t) rest ∙ ap (λ (t : List ℕ). t ++ flat_map hex_pair more) front)
+    by_parts again (Some x) None ea eb e = absurd cc
+    by_parts again None p ea eb e = absurd cc
+
+-- what is read in this spelling is spelled so
+pub printed_is : (text bytes : List ℕ) → printed_of text ≡ Some bytes → (text ≡ spelling bytes) × IsBytes bytes
+unfolding printed_of plain_of lower_hex_of spelling are_plain
+printed_is [] bytes e = absurd cc
+printed_is (b ∷ text) bytes e = first (eqb b 39) refl e
+  where
+    hex : list_all is_lower text ≡ true → (o : Option (List ℕ)) → hex_of text ≡ o → option_and_then (λ bytes. cond (are_plain bytes) None (Some bytes)) o ≡ Some bytes → (text ≡ flat_map hex_pair bytes) × IsBytes bytes × (are_plain bytes ≡ false)
+    hex lower None er e = absurd cc
+    hex lower (Some ys) er e = by_plain (are_plain ys) refl e
+      where
+        by_plain : (c : Bool) → are_plain ys ≡ c → cond c None (Some ys) ≡ Some bytes → (text ≡ flat_map hex_pair bytes) × IsBytes bytes × (are_plain bytes ≡ false)
+        by_plain true t e = absurd cc
+        by_plain false t e =
+            let same : ys ≡ bytes = same_Some ys bytes e in
+            let er2 : hex_of text ≡ Some bytes = er ∙ e in
+            (hex_is text bytes lower er2, hex_fits text bytes er2, ap are_plain (sym same) ∙ t)
+    second : (c : Bool) → eqb b 120 ≡ c → cond c (cond (list_all is_lower text) (option_and_then (λ bytes. cond (are_plain bytes) None (Some bytes)) (hex_of text)) None) None ≡ Some bytes → (b ∷ text ≡ cond (are_plain bytes) (39 ∷ bytes) (120 ∷ flat_map hex_pair bytes)) × IsBytes bytes
+    second true t e = by_lower (list_all is_lower text) refl e
+      where
+        by_lower : (c : Bool) → list_all is_lower text ≡ c → cond c (option_and_then (λ bytes. cond (are_plain bytes) None (Some bytes)) (hex_of text)) None ≡ Some bytes → (b ∷ text ≡ cond (are_plain bytes) (39 ∷ bytes) (120 ∷ flat_map hex_pair bytes)) × IsBytes bytes
+        by_lower true l e =
+            let h = hex l (hex_of text) refl e in
+            (rw (h.2, eqb-true b 120 t) (ap (λ (x : List ℕ). 120 ∷ x) h.0), h.1)
+        by_lower false l e = absurd cc
+    second false t e = absurd cc
+    first : (c : Bool) → eqb b 39 ≡ c → cond c (cond (are_plain text) (Some text) None) (cond (eqb b 120) (cond (list_all is_lower text) (option_and_then (λ bytes. cond (are_plain bytes) None (Some bytes)) (hex_of text)) None) None) ≡ Some bytes → (b ∷ text ≡ cond (are_plain bytes) (39 ∷ bytes) (120 ∷ flat_map hex_pair bytes)) × IsBytes bytes
+    first true t e =
+        let p = cond_some (are_plain text) text bytes e in
+        (rw (← p.1, p.0, eqb-true b 39 t) refl, subst IsBytes p.1 (plain_fits text (and_parts (not (eqb (length text) 0)) (list_all is_plain text) p.0).1))
+    first false t e = second (eqb b 120) refl e

@@ -15,7 +15,7 @@ mod tests;
 mod text;
 mod words;
 
-pub use bytes::read_bytes;
+pub use bytes::{read_bytes, read_printed};
 pub use error::LineError;
 pub use event::Event;
 pub use field::next_field;
