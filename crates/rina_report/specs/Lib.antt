@@ -1,5 +1,11 @@
 pub mod Causes
+pub mod Fields
 pub mod Notes
+pub mod ReadCauses
+pub mod ReadNotes
+pub mod ReadRefusals
+pub mod ReadSaids
+pub mod ReadStates
 pub mod Refusals
 pub mod Saids
 pub mod States

@@ -4,6 +4,7 @@
 mod cause;
 mod note;
 mod print;
+mod read;
 mod refusal;
 mod said;
 mod state;
@@ -14,6 +15,7 @@ mod tests;
 pub use cause::CauseNote;
 pub use note::{Fault, Note, Notes};
 pub use print::{add_line, print_note};
+pub use read::read_note;
 pub use refusal::Refusal;
 pub use said::{ClassNote, FlowNote, Said};
 pub use state::{FailNote, MemberNote, PortNote, StateNote};

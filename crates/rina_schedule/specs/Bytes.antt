@@ -38,3 +38,16 @@ zeros_of text = option_and_then (λ n. if nat_le n 65535 then Some (replicate n 
 unfoldable pub bytes_of : List ℕ → Option (List ℕ)
 bytes_of [] = None
 bytes_of (b ∷ text) = if b == 39 then plain_of text else (if b == 120 then hex_of text else (if b == 122 then zeros_of text else None))
+
+-- no capital among the hexadecimal digits
+unfoldable pub is_lower : ℕ → Bool
+is_lower b = not (nat_le 65 b && nat_le b 70)
+
+-- pairs of digits without capitals, of bytes that cannot be written as they are
+unfoldable pub lower_hex_of : List ℕ → Option (List ℕ)
+lower_hex_of text = if list_all is_lower text then option_and_then (λ bytes. if are_plain bytes then None else Some bytes) (hex_of text) else None
+
+-- the bytes that a text writes, where it is the spelling in which they are printed
+unfoldable pub printed_of : List ℕ → Option (List ℕ)
+printed_of [] = None
+printed_of (b ∷ text) = if b == 39 then plain_of text else (if b == 120 then lower_hex_of text else None)

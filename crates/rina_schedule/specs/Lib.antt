@@ -6,5 +6,7 @@ pub mod Gives
 pub mod Line
 pub mod Numbers
 pub mod Objects
+pub mod Printed
+pub mod Ranges
 pub mod Spelling
 pub mod WireWords

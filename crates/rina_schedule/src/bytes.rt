@@ -1,7 +1,7 @@
 //! Bytes in a line: as they are, in hexadecimal, or so many zeros.
 ghost use Rattle.std.specs.Prelude.{◌≡◌, ◌<◌, IfSome, Ok, replicate};
 ghost use Rattle.std.specs.List.{list_all};
-ghost use Rattle.rina_schedule.specs.Bytes.{is_plain, are_plain, hex_digit, hex_pair_of, hex_of, plain_of, zeros_of, bytes_of};
+ghost use Rattle.rina_schedule.specs.Bytes.{is_plain, are_plain, hex_digit, hex_pair_of, hex_of, plain_of, zeros_of, bytes_of, is_lower, lower_hex_of, printed_of};
 ghost use Rattle.rina_schedule.specs.Gives.{Gives, or_bad};
 
 use crate::error::LineError;
@@ -116,6 +116,46 @@ pub fn read_bytes(alloc: Global, n: u32, text: &[u8]) -> Result<Bytes, LineError
         [b'\'', rest @ ..] => read_plain(alloc, n, rest),
         [b'x', rest @ ..] => read_hex(alloc, n, rest),
         [b'z', rest @ ..] => read_zeros(alloc, n, rest),
+        _ => Err(LineError::BadBytes { n }),
+    }
+}
+
+#[tactic(auto, unfolding(crate::specs::Bytes::is_lower))]
+fn is_lower(b: u8) -> bool
+    ensures { result ≡ is_lower b }
+{
+    !matches!(b, b'A'..=b'F')
+}
+
+fn all_lower(text: &[u8]) -> bool
+    ensures { result ≡ list_all is_lower text.now }
+{
+    text.iter().all(|b| is_lower(*b))
+}
+
+#[tactic(auto, unfolding(crate::specs::Bytes::lower_hex_of))]
+fn read_lower_hex(alloc: Global, n: u32, text: &[u8]) -> Result<Bytes, LineError>
+    ensures { Gives (λ b. b) result (or_bad (LineError.BadBytes n) (lower_hex_of text.now)) }
+{
+    if !all_lower(text) {
+        return Err(LineError::BadBytes { n });
+    }
+    let bytes = read_hex(alloc, n, text)?;
+    if is_plain_text(bytes.as_slice()) {
+        return Err(LineError::BadBytes { n });
+    }
+    Ok(bytes)
+}
+
+/// The bytes of which a text is the spelling that is printed: one or more from `!` to `~` behind `'`,
+/// or else pairs of hexadecimal digits without capitals behind `x`. Field `n` is blamed.
+#[tactic(auto, unfolding(crate::specs::Bytes::printed_of))]
+pub fn read_printed(alloc: Global, n: u32, text: &[u8]) -> Result<Bytes, LineError>
+    ensures { Gives (λ b. b) result (or_bad (LineError.BadBytes n) (printed_of text.now)) }
+{
+    match text {
+        [b'\'', rest @ ..] => read_plain(alloc, n, rest),
+        [b'x', rest @ ..] => read_lower_hex(alloc, n, rest),
         _ => Err(LineError::BadBytes { n }),
     }
 }

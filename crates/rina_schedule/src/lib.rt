@@ -5,19 +5,23 @@ mod bytes;
 mod error;
 mod event;
 mod field;
+mod laws;
 mod line;
 mod number;
 mod object_name;
+mod print;
 #[cfg(test)]
 mod tests;
 mod text;
 mod words;
 
-pub use bytes::read_bytes;
+pub use bytes::{read_bytes, read_printed};
 pub use error::LineError;
 pub use event::Event;
 pub use field::next_field;
+pub use laws::{what_is_printed_is_read, what_is_read_is_printed};
 pub use line::read_line;
 pub use number::read_number;
 pub use object_name::ObjectName;
+pub use print::print_line;
 pub use text::Text;

@@ -1,0 +1,149 @@
+//! The causes of write-offs and single steps, from field `n` on to the end of the note.
+ghost use Rattle.std.specs.Prelude.{◌<◌, ◌+◌};
+ghost use Rattle.rina_schedule.specs.Gives.{Gives};
+ghost use Rattle.rina_report.specs.Fields.{behind};
+ghost use Rattle.rina_report.specs.ReadCauses.{pdu_cause_of, cause_of, cause_at, took_of, took_at, clock_of, clock_at};
+
+use crate::cause::CauseNote;
+use crate::read::field::{end, field, is};
+use crate::read::last::{last_num, last_number, last_port, last_truth, last_two};
+use crate::step::{ClockNote, TookNote};
+use rina_schedule::LineError;
+use std::alloc::Global;
+
+/// A cause that a PDU itself shows.
+#[tactic(auto, unfolding(crate::specs::ReadCauses::pdu_cause_of))]
+fn pdu_cause(word: &[u8], n: u32, rest: &[u8]) -> Result<CauseNote, LineError>
+    requires { n < 800 }
+    ensures { Gives (λ x. x) result (pdu_cause_of word.now n (behind rest.now)) }
+{
+    if is(word, b"Duplicate") {
+        let num = last_num(n + 1, rest)?;
+        Ok(CauseNote::Duplicate { num })
+    } else if is(word, b"Behind") {
+        let highest = last_number(n + 1, rest)?;
+        Ok(CauseNote::Behind { highest })
+    } else if is(word, b"NoState") {
+        let drf = last_truth(n + 1, rest)?;
+        Ok(CauseNote::NoState { drf })
+    } else if is(word, b"StateGone") {
+        let last_in = last_number(n + 1, rest)?;
+        Ok(CauseNote::StateGone { last_in })
+    } else if is(word, b"Broken") {
+        let missing = last_number(n + 1, rest)?;
+        Ok(CauseNote::Broken { missing })
+    } else {
+        Err(LineError::BadName { n })
+    }
+}
+
+#[tactic(auto, unfolding(crate::specs::ReadCauses::cause_of))]
+fn cause_of(alloc: Global, word: &[u8], n: u32, rest: &[u8]) -> Result<CauseNote, LineError>
+    requires { n < 800 }
+    ensures { Gives (λ x. x) result (cause_of word.now n (behind rest.now)) }
+{
+    if is(word, b"Expired") {
+        let (left, charge) = last_two(n + 1, rest)?;
+        Ok(CauseNote::Expired { left, charge })
+    } else if is(word, b"NoRoute") {
+        let dst = last_number(n + 1, rest)?;
+        Ok(CauseNote::NoRoute { dst })
+    } else if is(word, b"QueueFull") {
+        let cap = last_number(n + 1, rest)?;
+        Ok(CauseNote::QueueFull { cap })
+    } else if is(word, b"NoConnection") {
+        let cep = last_number(n + 1, rest)?;
+        Ok(CauseNote::NoConnection { cep })
+    } else if is(word, b"NoRoom") {
+        let cap = last_number(n + 1, rest)?;
+        Ok(CauseNote::NoRoom { cap })
+    } else if is(word, b"LinkDown") {
+        let port = last_port(alloc, n + 1, rest)?;
+        Ok(CauseNote::LinkDown { port })
+    } else {
+        pdu_cause(word, n, rest)
+    }
+}
+
+/// A cause.
+#[tactic(auto, unfolding(crate::specs::ReadCauses::cause_at))]
+pub(crate) fn cause(alloc: Global, n: u32, rest: &[u8]) -> Result<CauseNote, LineError>
+    requires { n < 800 }
+    ensures { Gives (λ x. x) result (cause_at n (behind rest.now)) }
+{
+    let (word, rest) = field(n, rest)?;
+    cause_of(alloc, word, n, rest)
+}
+
+#[tactic(auto, unfolding(crate::specs::ReadCauses::took_of))]
+fn took_of(alloc: Global, word: &[u8], n: u32, rest: &[u8]) -> Result<TookNote, LineError>
+    requires { n < 700 }
+    ensures { Gives (λ x. x) result (took_of word.now n (behind rest.now)) }
+{
+    if is(word, b"accepted") {
+        end(n + 1, rest)?;
+        Ok(TookNote::Accepted)
+    } else if is(word, b"relayed") {
+        end(n + 1, rest)?;
+        Ok(TookNote::Relayed)
+    } else if is(word, b"off") {
+        let why = cause(alloc, n + 1, rest)?;
+        Ok(TookNote::Off(why))
+    } else {
+        Err(LineError::BadName { n })
+    }
+}
+
+/// What became of a PDU.
+#[tactic(auto, unfolding(crate::specs::ReadCauses::took_at))]
+pub(crate) fn took(alloc: Global, n: u32, rest: &[u8]) -> Result<TookNote, LineError>
+    requires { n < 700 }
+    ensures { Gives (λ x. x) result (took_at n (behind rest.now)) }
+{
+    let (word, rest) = field(n, rest)?;
+    took_of(alloc, word, n, rest)
+}
+
+#[tactic(auto, unfolding(crate::specs::ReadCauses::clock_of))]
+fn clock_of(alloc: Global, word: &[u8], n: u32, rest: &[u8]) -> Result<ClockNote, LineError>
+    requires { n < 800 }
+    ensures { Gives (λ x. x) result (clock_of word.now n (behind rest.now)) }
+{
+    if is(word, b"link-lost") {
+        let link = last_number(n + 1, rest)?;
+        Ok(ClockNote::LinkLost { link })
+    } else if is(word, b"link-new") {
+        let link = last_number(n + 1, rest)?;
+        Ok(ClockNote::LinkNew { link })
+    } else if is(word, b"gone") {
+        let cep = last_number(n + 1, rest)?;
+        Ok(ClockNote::Gone { cep })
+    } else if is(word, b"gave-up") {
+        let num = last_num(n + 1, rest)?;
+        Ok(ClockNote::GaveUp { num })
+    } else if is(word, b"timeout") {
+        let port = last_port(alloc, n + 1, rest)?;
+        Ok(ClockNote::Timeout { port })
+    } else if is(word, b"ack") {
+        let cep = last_number(n + 1, rest)?;
+        Ok(ClockNote::Ack { cep })
+    } else if is(word, b"again") {
+        let num = last_num(n + 1, rest)?;
+        Ok(ClockNote::Again { num })
+    } else if is(word, b"message") {
+        let link = last_number(n + 1, rest)?;
+        Ok(ClockNote::Message { link })
+    } else {
+        Err(LineError::BadName { n })
+    }
+}
+
+/// What a step of the clock did.
+#[tactic(auto, unfolding(crate::specs::ReadCauses::clock_at))]
+pub(crate) fn clock(alloc: Global, n: u32, rest: &[u8]) -> Result<ClockNote, LineError>
+    requires { n < 800 }
+    ensures { Gives (λ x. x) result (clock_at n (behind rest.now)) }
+{
+    let (word, rest) = field(n, rest)?;
+    clock_of(alloc, word, n, rest)
+}

@@ -1,0 +1,99 @@
+//! The last fields of a note.
+ghost use Rattle.std.specs.Prelude.{◌<◌, ◌+◌};
+ghost use Rattle.rina_schedule.specs.Gives.{Gives};
+ghost use Rattle.rina_report.specs.Fields.{behind, max32, max64, last_number_at, last_two_at, last_num_at, last_port_at, last_truth_at, last_bytes_at};
+
+use crate::read::field::{end, long, number};
+use crate::read::value::{bytes, num, port, truth};
+use crate::state::PortNote;
+use rina_base::{Bytes, Num};
+use rina_schedule::LineError;
+use std::alloc::Global;
+
+/// A number of 32 bits in field `n`, and the end of the note.
+#[tactic(auto, unfolding(crate::specs::Fields::last_number_at))]
+pub(crate) fn last_number(n: u32, rest: &[u8]) -> Result<u32, LineError>
+    requires { n < 1000 }
+    ensures { Gives (λ x. x) result (last_number_at max32 n (behind rest.now)) }
+{
+    let (value, rest) = number(n, rest)?;
+    end(n + 1, rest)?;
+    Ok(value)
+}
+
+/// A number of 64 bits in field `n`, and the end of the note.
+#[tactic(auto, unfolding(crate::specs::Fields::last_number_at))]
+pub(crate) fn last_long(n: u32, rest: &[u8]) -> Result<u64, LineError>
+    requires { n < 1000 }
+    ensures { Gives (λ x. x) result (last_number_at max64 n (behind rest.now)) }
+{
+    let (value, rest) = long(n, rest)?;
+    end(n + 1, rest)?;
+    Ok(value)
+}
+
+/// Two numbers of 32 bits from field `n` on, and the end of the note.
+#[tactic(auto, unfolding(crate::specs::Fields::last_two_at))]
+pub(crate) fn last_two(n: u32, rest: &[u8]) -> Result<(u32, u32), LineError>
+    requires { n < 900 }
+    ensures { Gives (λ x. (x.0, x.1)) result (last_two_at max32 n (behind rest.now)) }
+{
+    let (first, rest) = number(n, rest)?;
+    let second = last_number(n + 1, rest)?;
+    Ok((first, second))
+}
+
+/// A number of 64 bits in field `n`, one of 32 bits behind it, and the end of the note.
+#[tactic(auto, unfolding(crate::specs::Fields::last_two_at))]
+pub(crate) fn last_long_and_number(n: u32, rest: &[u8]) -> Result<(u64, u32), LineError>
+    requires { n < 900 }
+    ensures { Gives (λ x. (x.0, x.1)) result (last_two_at max64 n (behind rest.now)) }
+{
+    let (first, rest) = long(n, rest)?;
+    let second = last_number(n + 1, rest)?;
+    Ok((first, second))
+}
+
+/// CEP.SEQ in field `n`, and the end of the note.
+#[tactic(auto, unfolding(crate::specs::Fields::last_num_at))]
+pub(crate) fn last_num(n: u32, rest: &[u8]) -> Result<Num, LineError>
+    requires { n < 1000 }
+    ensures { Gives (λ x. x) result (last_num_at n (behind rest.now)) }
+{
+    let (value, rest) = num(n, rest)?;
+    end(n + 1, rest)?;
+    Ok(value)
+}
+
+/// FAC/NODE/N in field `n`, and the end of the note.
+#[tactic(auto, unfolding(crate::specs::Fields::last_port_at))]
+pub(crate) fn last_port(alloc: Global, n: u32, rest: &[u8]) -> Result<PortNote, LineError>
+    requires { n < 1000 }
+    ensures { Gives (λ x. x) result (last_port_at n (behind rest.now)) }
+{
+    let (value, rest) = port(alloc, n, rest)?;
+    end(n + 1, rest)?;
+    Ok(value)
+}
+
+/// 0 or 1 in field `n`, and the end of the note.
+#[tactic(auto, unfolding(crate::specs::Fields::last_truth_at))]
+pub(crate) fn last_truth(n: u32, rest: &[u8]) -> Result<bool, LineError>
+    requires { n < 1000 }
+    ensures { Gives (λ x. x) result (last_truth_at n (behind rest.now)) }
+{
+    let (value, rest) = truth(n, rest)?;
+    end(n + 1, rest)?;
+    Ok(value)
+}
+
+/// Bytes in field `n`, and the end of the note.
+#[tactic(auto, unfolding(crate::specs::Fields::last_bytes_at))]
+pub(crate) fn last_bytes(alloc: Global, n: u32, rest: &[u8]) -> Result<Bytes, LineError>
+    requires { n < 1000 }
+    ensures { Gives (λ x. x) result (last_bytes_at n (behind rest.now)) }
+{
+    let (value, rest) = bytes(alloc, n, rest)?;
+    end(n + 1, rest)?;
+    Ok(value)
+}

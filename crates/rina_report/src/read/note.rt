@@ -1,0 +1,194 @@
+//! Whole notes.
+ghost use Rattle.std.specs.Prelude.{◌<◌, ◌+◌, ◌∷◌};
+ghost use Rattle.rina_schedule.specs.Gives.{Gives, or_bad};
+ghost use Rattle.rina_report.specs.Fields.{fields_of, behind, max32, numeral_of};
+ghost use Rattle.rina_report.specs.ReadNotes.{schedule_at, fault_of, fault_at, checked_at, named_at, gen_at, counter_at, told_at, line_note_at, whole_at, note_at};
+
+use crate::note::{Fault, Note};
+use crate::read::field::{end, field, first_field, is, next_field, number, read_numeral, word};
+use crate::read::last::{last_number, last_two};
+use crate::read::said::said;
+use rina_base::Tick;
+use rina_schedule::LineError;
+use std::alloc::Global;
+
+/// A line of the schedule that is outside the grammar.
+#[tactic(auto, unfolding(crate::specs::ReadNotes::schedule_at))]
+fn schedule(n: u32, rest: &[u8]) -> Result<Fault, LineError>
+    requires { n < 100 }
+    ensures { Gives (λ x. x) result (schedule_at n (behind rest.now)) }
+{
+    let (line, rest) = number(n, rest)?;
+    let (error, field) = last_two(n + 1, rest)?;
+    Ok(Fault::Schedule {
+        line,
+        n: error,
+        field,
+    })
+}
+
+#[tactic(auto, unfolding(crate::specs::ReadNotes::fault_of))]
+fn fault_of(word: &[u8], n: u32, rest: &[u8]) -> Result<Fault, LineError>
+    requires { n < 90 }
+    ensures { Gives (λ x. x) result (fault_of word.now n (behind rest.now)) }
+{
+    if is(word, b"Usage") {
+        let word = last_number(n + 1, rest)?;
+        Ok(Fault::Usage { word })
+    } else if is(word, b"TooLarge") {
+        end(n + 1, rest)?;
+        Ok(Fault::TooLarge)
+    } else if is(word, b"NotToml") {
+        end(n + 1, rest)?;
+        Ok(Fault::NotToml)
+    } else if is(word, b"StackRule") {
+        let (rule, item) = last_two(n + 1, rest)?;
+        Ok(Fault::StackRule { n: rule, item })
+    } else if is(word, b"Schedule") {
+        schedule(n + 1, rest)
+    } else if is(word, b"ReadFault") {
+        end(n + 1, rest)?;
+        Ok(Fault::ReadFault)
+    } else {
+        Err(LineError::BadName { n })
+    }
+}
+
+/// Why a run ended before its last line.
+#[tactic(auto, unfolding(crate::specs::ReadNotes::fault_at))]
+fn fault(n: u32, rest: &[u8]) -> Result<Fault, LineError>
+    requires { n < 90 }
+    ensures { Gives (λ x. x) result (fault_at n (behind rest.now)) }
+{
+    let (word, rest) = field(n, rest)?;
+    fault_of(word, n, rest)
+}
+
+/// The counts of an input that was checked.
+#[tactic(auto, unfolding(crate::specs::ReadNotes::checked_at))]
+fn checked(n: u32, rest: &[u8]) -> Result<Note, LineError>
+    requires { n < 90 }
+    ensures { Gives (λ x. x) result (checked_at n (behind rest.now)) }
+{
+    let (nodes, rest) = number(n, rest)?;
+    let (wires, rest) = number(n + 1, rest)?;
+    let (difs, lines) = last_two(n + 2, rest)?;
+    Ok(Note::Checked {
+        nodes,
+        wires,
+        difs,
+        lines,
+    })
+}
+
+/// A word in field `n`, and the number behind it.
+#[tactic(auto, unfolding(crate::specs::ReadNotes::named_at))]
+fn named<'a>(expected: &[u8], n: u32, rest: &'a [u8]) -> Result<(u32, &'a [u8]), LineError>
+    requires { n < 100 }
+    ensures { Gives (λ x. (x.0, behind x.1.now)) result (named_at expected.now n (behind rest.now)) }
+{
+    let ((), rest) = word(expected, n, rest)?;
+    number(n + 1, rest)
+}
+
+/// The summary of a generated run.
+#[tactic(auto, unfolding(crate::specs::ReadNotes::gen_at))]
+fn summary(at: u32, rest: &[u8]) -> Result<Note, LineError>
+    requires { at < 80 }
+    ensures { Gives (λ x. x) result (gen_at at (behind rest.now)) }
+{
+    let (n, rest) = number(at, rest)?;
+    let (lines, rest) = named(b"lines", at + 1, rest)?;
+    let (tick, rest) = named(b"tick", at + 3, rest)?;
+    let (sent, rest) = named(b"sent", at + 5, rest)?;
+    let (got, rest) = named(b"got", at + 7, rest)?;
+    let (refused, rest) = named(b"refused", at + 9, rest)?;
+    let (off, rest) = named(b"off", at + 11, rest)?;
+    let (failed, rest) = named(b"failed", at + 13, rest)?;
+    end(at + 15, rest)?;
+    Ok(Note::Gen {
+        n,
+        lines,
+        tick,
+        sent,
+        got,
+        refused,
+        off,
+        failed,
+    })
+}
+
+/// A number without which the note has no word.
+fn counter_of(text: &[u8]) -> Result<u32, LineError>
+    ensures { Gives (λ x. x) result (or_bad LineError.UnknownWord (numeral_of max32 text.now)) }
+{
+    match read_numeral(u64::from(u32::MAX), text) {
+        Some(value) => Ok(value as u32),
+        None => Err(LineError::UnknownWord),
+    }
+}
+
+/// What a line told, behind its number and the tick.
+fn told(alloc: Global, line: u32, tick: Tick, rest: &[u8]) -> Result<Note, LineError>
+    ensures { Gives (λ x. x) result (told_at line tick (behind rest.now)) }
+{
+    let Some((word, rest)) = next_field(rest) else {
+        return Err(LineError::UnknownWord);
+    };
+    let said = said(alloc, word, rest)?;
+    Ok(Note::Line { line, tick, said })
+}
+
+/// The tick of a line, and what it told.
+#[tactic(auto, unfolding(crate::specs::ReadNotes::counter_at))]
+fn tick(rest: &[u8]) -> Result<(Tick, &[u8]), LineError>
+    ensures { Gives (λ x. (x.0, behind x.1.now)) result (counter_at (behind rest.now)) }
+{
+    let Some((text, rest)) = next_field(rest) else {
+        return Err(LineError::UnknownWord);
+    };
+    let tick = counter_of(text)?;
+    Ok((tick, rest))
+}
+
+/// A note with two numbers.
+#[tactic(auto, unfolding(crate::specs::ReadNotes::line_note_at, crate::specs::ReadNotes::counter_at))]
+fn line_note(alloc: Global, first: &[u8], rest: &[u8]) -> Result<Note, LineError>
+    ensures { Gives (λ x. x) result (line_note_at (first.now ∷ behind rest.now)) }
+{
+    let line = counter_of(first)?;
+    let (tick, rest) = tick(rest)?;
+    told(alloc, line, tick, rest)
+}
+
+#[tactic(auto, unfolding(crate::specs::ReadNotes::whole_at))]
+fn whole(alloc: Global, word: &[u8], rest: &[u8]) -> Result<Note, LineError>
+    ensures { Gives (λ x. x) result (whole_at word.now (behind rest.now)) }
+{
+    if is(word, b"end") {
+        let tick = last_number(1, rest)?;
+        Ok(Note::End { tick })
+    } else if is(word, b"fault") {
+        let fault = fault(1, rest)?;
+        Ok(Note::Fault(fault))
+    } else if is(word, b"checked") {
+        checked(1, rest)
+    } else if is(word, b"gen") {
+        summary(1, rest)
+    } else {
+        line_note(alloc, word, rest)
+    }
+}
+
+/// The note that a text is, without the end of its line; takes no memory but for what it gives. A note
+/// is read in the one spelling in which it is printed: single spaces, numbers without a sign or a
+/// needless zero, one form of bytes. Else the first fault from the left is told with the number of its
+/// field, counted from the word as 0; where the note has no word, or one of the two numbers before it is
+/// missing or no number, that is UnknownWord.
+#[tactic(auto, unfolding(crate::specs::ReadNotes::note_at))]
+pub fn read_note(alloc: Global, text: &[u8]) -> Result<Note, LineError>
+    ensures { Gives (λ x. x) result (note_at text.now) }
+{
+    let (word, rest) = first_field(text);
+    whole(alloc, word, rest)
+}

@@ -1,0 +1,128 @@
+//! The states of ports, from field `n` on to the end of the note.
+ghost use Rattle.std.specs.Prelude.{◌<◌, ◌+◌};
+ghost use Rattle.rina_schedule.specs.Gives.{Gives};
+ghost use Rattle.rina_report.specs.Fields.{behind};
+ghost use Rattle.rina_report.specs.ReadStates.{why_of, why_at, gave_up_at, fail_of, fail_at, state_of, state_at};
+
+use crate::read::field::{end, field, is};
+use crate::read::last::{last_number, last_port, last_two};
+use crate::read::value::num;
+use crate::state::{FailNote, StateNote};
+use rina_iface::Why;
+use rina_schedule::LineError;
+use std::alloc::Global;
+
+#[tactic(auto, unfolding(crate::specs::ReadStates::why_of))]
+fn why_of(word: &[u8], n: u32, rest: &[u8]) -> Result<Why, LineError>
+    requires { n < 800 }
+    ensures { Gives (λ x. x) result (why_of word.now n (behind rest.now)) }
+{
+    if is(word, b"Denied") {
+        let rule = last_number(n + 1, rest)?;
+        Ok(Why::Denied { rule })
+    } else if is(word, b"NotHere") {
+        end(n + 1, rest)?;
+        Ok(Why::NotHere)
+    } else if is(word, b"NoIds") {
+        let used = last_number(n + 1, rest)?;
+        Ok(Why::NoIds { used })
+    } else if is(word, b"Timeout") {
+        let (asked, now) = last_two(n + 1, rest)?;
+        Ok(Why::Timeout { asked, now })
+    } else if is(word, b"Withdrawn") {
+        end(n + 1, rest)?;
+        Ok(Why::Withdrawn)
+    } else {
+        Err(LineError::BadName { n })
+    }
+}
+
+/// Why a flow was refused.
+#[tactic(auto, unfolding(crate::specs::ReadStates::why_at))]
+fn why(n: u32, rest: &[u8]) -> Result<Why, LineError>
+    requires { n < 800 }
+    ensures { Gives (λ x. x) result (why_at n (behind rest.now)) }
+{
+    let (word, rest) = field(n, rest)?;
+    why_of(word, n, rest)
+}
+
+/// A piece that was given up, and when.
+#[tactic(auto, unfolding(crate::specs::ReadStates::gave_up_at))]
+fn gave_up(n: u32, rest: &[u8]) -> Result<FailNote, LineError>
+    requires { n < 800 }
+    ensures { Gives (λ x. x) result (gave_up_at n (behind rest.now)) }
+{
+    let (num, rest) = num(n, rest)?;
+    let (first, now) = last_two(n + 1, rest)?;
+    Ok(FailNote::GaveUp { num, first, now })
+}
+
+#[tactic(auto, unfolding(crate::specs::ReadStates::fail_of))]
+fn fail_of(alloc: Global, word: &[u8], n: u32, rest: &[u8]) -> Result<FailNote, LineError>
+    requires { n < 700 }
+    ensures { Gives (λ x. x) result (fail_of word.now n (behind rest.now)) }
+{
+    if is(word, b"GaveUp") {
+        gave_up(n + 1, rest)
+    } else if is(word, b"Below") {
+        let port = last_port(alloc, n + 1, rest)?;
+        Ok(FailNote::Below { port })
+    } else if is(word, b"Cut") {
+        let at = last_number(n + 1, rest)?;
+        Ok(FailNote::Cut { at })
+    } else {
+        Err(LineError::BadName { n })
+    }
+}
+
+/// Why a flow failed.
+#[tactic(auto, unfolding(crate::specs::ReadStates::fail_at))]
+pub(crate) fn fail(alloc: Global, n: u32, rest: &[u8]) -> Result<FailNote, LineError>
+    requires { n < 700 }
+    ensures { Gives (λ x. x) result (fail_at n (behind rest.now)) }
+{
+    let (word, rest) = field(n, rest)?;
+    fail_of(alloc, word, n, rest)
+}
+
+/// The state of a port, whose word in field `n` was read.
+#[tactic(auto, unfolding(crate::specs::ReadStates::state_of))]
+pub(crate) fn state_of(
+    alloc: Global,
+    word: &[u8],
+    n: u32,
+    rest: &[u8],
+) -> Result<StateNote, LineError>
+    requires { n < 600 }
+    ensures { Gives (λ x. x) result (state_of word.now n (behind rest.now)) }
+{
+    if is(word, b"pending") {
+        end(n + 1, rest)?;
+        Ok(StateNote::Pending)
+    } else if is(word, b"allocated") {
+        end(n + 1, rest)?;
+        Ok(StateNote::Allocated)
+    } else if is(word, b"closed") {
+        end(n + 1, rest)?;
+        Ok(StateNote::Closed)
+    } else if is(word, b"refused") {
+        let reason = why(n + 1, rest)?;
+        Ok(StateNote::Refused(reason))
+    } else if is(word, b"failed") {
+        let failure = fail(alloc, n + 1, rest)?;
+        Ok(StateNote::Failed(failure))
+    } else {
+        Err(LineError::BadName { n })
+    }
+}
+
+/// The state of a port.
+#[tactic(auto, unfolding(crate::specs::ReadStates::state_at))]
+pub(crate) fn state(alloc: Global, n: u32, rest: &[u8]) -> Result<StateNote, LineError>
+    requires { n < 600 }
+    ensures { Gives (λ x. x) result (state_at n (behind rest.now)) }
+{
+    let (word, rest) = field(n, rest)?;
+    state_of(alloc, word, n, rest)
+}
