@@ -1,5 +1,5 @@
 -- The place of a name among the places of a shelf, and a shelf with another place there.
-use Rattle.std.proofs.Common.{◌≡◌, ◌∙◌, ℕ, ◌<◌, List, [], ◌∷◌, Bool, true, false, length, map, option_map, get_or, position, Option, Some, None, IfSome, suc, IfNone, slice_get, slice_set, arith, refl, ap, sym}
+use Rattle.std.proofs.Common.{◌≡◌, ◌∙◌, ℕ, ◌<◌, List, [], ◌∷◌, Bool, true, false, length, map, option_map, option_and_then, get_or, find, position, Option, Some, None, IfSome, suc, IfNone, slice_get, slice_set, arith, refl, ap, sym, zero}
 use Rattle.std.specs.List.{position_or_len}
 use Rattle.std.specs.Option.{is_some}
 use Rattle.std.specs.Str.{bytes_eq}
@@ -8,7 +8,7 @@ use Rattle.std.proofs.lemmas.List.Sums.{position_or_len_is}
 use Rattle.std.proofs.lemmas.Option.{slice_get_within, slice_get-get_or, get_or_from_slice_get, slice_get-map}
 use Rattle.std.proofs.lemmas.Grind.{common_steps}
 use Rattle.rina_policy.specs.declared.count.Count.{Count}
-use Rattle.rina_policy.specs.Slots.{slot, slots_of, place_of, count_of, put_at, asked, retired}
+use Rattle.rina_policy.specs.Slots.{slot, slots_of, place_of, count_of, put_at, asked, retired, policy_of}
 use Rattle.rina_policy.specs.Count.{counted}
 
 -- what stands at a place of a list seen through view
@@ -113,3 +113,41 @@ pub live_is : {P B : Type 0} (name : P → List ℕ) (policy : P → Option B) (
     → count_of n (slots_of name policy count places) ≡ None → false ≡ true
 live_is name policy count places n k x at here read live none =
     some_is_not_none (policy x) (dead_is name policy count places n k x at here read none) live
+
+-- the first element that passes a test
+find_first : {P : Type 0} (test : P → Bool) (xs : List P) (k : ℕ) (p : P) → slice_get xs k ≡ Some p → test p ≡ true → ((j : ℕ) (q : P) → j < k → slice_get xs j ≡ Some q → test q ≡ false) → find test xs ≡ Some p
+find_first test [] k p at passes held = cc
+find_first test (x ∷ xs) zero p at passes held =
+    let same : x ≡ p = cc in
+    rw (same, passes) refl
+find_first test (x ∷ xs) (suc k) p at passes held =
+    let first : test x ≡ false = held 0 x (omega arith) refl in
+    let rest : find test xs ≡ Some p = find_first test xs k p at passes (λ j q lt e. held (suc j) q (omega arith) e) in
+    rw first rest
+
+find_none : {P : Type 0} (test : P → Bool) (xs : List P) → ((j : ℕ) (q : P) → slice_get xs j ≡ Some q → test q ≡ false) → find test xs ≡ None
+find_none test [] held = refl
+find_none test (x ∷ xs) held =
+    let first : test x ≡ false = held 0 x refl in
+    rw first (find_none test xs (λ j q e. held (suc j) q e))
+
+-- the live policy of a name is the one at the place where the name stands first
+pub policy_is : {P B : Type 0} (name : P → List ℕ) (policy : P → Option B) (places seen : List P) (n : List ℕ) (r : Option ℕ)
+    → seen ≡ places
+    → IfSome r (λ k. (p : P) × (slice_get seen k ≡ Some p) × (bytes_eq (name p) n ≡ true))
+    → IfSome r (λ k. (j : ℕ) (p : P) → j < k → slice_get seen j ≡ Some p → bytes_eq (name p) n ≡ false)
+    → IfSome r (λ k. (p : P) × (slice_get places k ≡ Some p) × (policy_of name policy n places ≡ policy p))
+policy_is name policy places seen n (Some k) same found first =
+    let at : slice_get places k ≡ Some found.0 = ap (λ ps. slice_get ps k) (sym same) ∙ found.1 in
+    let one : find (λ p. bytes_eq (name p) n) places ≡ Some found.0 =
+    find_first (λ p. bytes_eq (name p) n) places k found.0 at found.2 (λ j q lt e. first j q lt (ap (λ ps. slice_get ps j) same ∙ e)) in
+    (found.0, at, ap (option_and_then policy) one)
+policy_is name policy places seen n None same found first = tt
+
+pub no_policy_is : {P B : Type 0} (name : P → List ℕ) (policy : P → Option B) (places seen : List P) (n : List ℕ) (r : Option ℕ)
+    → seen ≡ places
+    → IfNone r ((j : ℕ) (p : P) → slice_get seen j ≡ Some p → bytes_eq (name p) n ≡ false)
+    → IfNone r (policy_of name policy n places ≡ None)
+no_policy_is name policy places seen n None same none =
+    ap (option_and_then policy) (find_none (λ p. bytes_eq (name p) n) places (λ j q e. none j q (ap (λ ps. slice_get ps j) same ∙ e)))
+no_policy_is name policy places seen n (Some k) same none = tt

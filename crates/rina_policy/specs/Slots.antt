@@ -1,5 +1,5 @@
 -- What a contract sees of a shelf: its names in the order in which they were added, each with the count of its policy where that is live.
-use Rattle.std.specs.Prelude.{ℕ, Bool, List, Option, Some, None, map, option_map, position, slice_get, slice_set}
+use Rattle.std.specs.Prelude.{ℕ, Bool, List, Option, Some, None, map, option_map, find, position, slice_get, slice_set, option_and_then}
 use Rattle.std.specs.Option.{is_some}
 use Rattle.std.specs.Str.{bytes_eq}
 use Rattle.rina_policy.specs.declared.count.Count.{Count}
@@ -48,3 +48,7 @@ asked name place slots = put_at (place_of name slots) name (option_map (λ c. co
 -- the shelf after the policy of a name was retired
 abbrev pub retired : List ℕ → List Slot → List Slot
 retired name slots = put_at (place_of name slots) name None slots
+
+-- the live policy of a name, among places that have a name, and a policy where they are not retired
+abbrev pub policy_of : {P B : Type 0} → (P → List ℕ) → (P → Option B) → List ℕ → List P → Option B
+policy_of name policy n places = option_and_then policy (find (λ p. bytes_eq (name p) n) places)

@@ -65,6 +65,8 @@ impl Strict {
 impl Policy for Strict {
     ghost count = { λ s. s.count };
 
+    ghost may_pick = { λ _ _ _ place. place ≡ 0 };
+
     fn pick(&mut self, _who: u32, heads: &[Head]) -> u32
         requires some { 0 < length heads.now }
         ensures place { result ≡ 0 }
@@ -97,6 +99,8 @@ impl Last {
 
 impl Policy for Last {
     ghost count = { λ s. s.count };
+
+    ghost may_pick = { λ _ _ heads place. place ≡ length heads - 1 };
 
     fn pick(&mut self, _who: u32, heads: &[Head]) -> u32
         requires some { 0 < length heads.now }
@@ -133,6 +137,8 @@ impl First {
 impl Policy for First {
     ghost count = { λ s. s.count };
 
+    ghost may_pick = { λ _ _ heads place. IsEarliest heads place };
+
     fn pick(&mut self, _who: u32, heads: &[Head]) -> u32
         requires some { 0 < length heads.now }
         requires few { length heads.now ≤ 256 }
@@ -168,6 +174,8 @@ impl Round {
 impl Policy for Round {
     ghost count = { λ s. s.count };
 
+    ghost may_pick = { λ s _ heads place. place ≡ s.count.picks % length heads };
+
     fn pick(&mut self, _who: u32, heads: &[Head]) -> u32
         requires some { 0 < length heads.now }
         requires few { length heads.now ≤ 256 }
@@ -202,6 +210,8 @@ impl Weighted {
 
 impl Policy for Weighted {
     ghost count = { λ s. s.count };
+
+    ghost may_pick = { λ s _ heads place. place ≡ weighted_place s.count.picks (length heads) };
 
     fn pick(&mut self, _who: u32, heads: &[Head]) -> u32
         requires some { 0 < length heads.now }

@@ -1,7 +1,8 @@
 //! A policy: which of several queues is served next.
-ghost use Rattle.std.specs.Prelude.{◌≡◌, ◌<◌, ◌≤◌, length};
+ghost use Rattle.std.specs.Prelude.{◌≡◌, ◌<◌, ◌≤◌, ℕ, List, length};
 ghost use Rattle.rina_policy.specs.Count.{counted};
 ghost use Rattle.rina_policy.specs.declared.count.Count.{Count};
+ghost use Rattle.rina_policy.specs.declared.policy.Head.{Head};
 
 use rina_base::Tick;
 
@@ -22,11 +23,15 @@ pub struct Head {
 pub trait Policy: Drop {
     ghost count: { Self → Count };
 
+    // The places that it may answer to the IPC process of a number that shows it these heads.
+    ghost may_pick: { Self → ℕ → List Head → ℕ → Type 0 };
+
     /// The place of one of the heads, which stand in the order of cube ids. `who` is the number of the
     /// IPC process that asks, counted from 0 over all DIFs of the stack. Takes no memory.
     fn pick(&mut self, who: u32, heads: &[Head]) -> u32
         requires some { 0 < length heads.now }
         requires few { length heads.now ≤ 256 }
+        ensures answer { may_pick self.old who heads.now result }
         ensures within { result < length heads.now }
         ensures counted { count self.new ≡ counted (count self.old) result };
 

@@ -1,8 +1,8 @@
 //! The shelf: policies by name.
-ghost use Rattle.std.specs.Prelude.{◌≡◌, ◌+◌, ◌<◌, ◌≤◌, ◌↔◌, [], ◌∷◌, ◌++◌, ℕ, length, map, option_map, slice_get, slice_set, true, false, Some, None, IsSome, IsNone, IfSome, IfNone, IfOk, OnOk, OnErr, IsErr};
+ghost use Rattle.std.specs.Prelude.{◌≡◌, ◌+◌, ◌<◌, ◌≤◌, ◌↔◌, [], ◌∷◌, ◌++◌, ℕ, length, map, option_map, slice_get, slice_set, true, false, Some, None, IsSome, IsNone, IfSome, IfNone, IfOk, MatchOption, OnOk, OnErr, IsErr};
 ghost use Rattle.std.specs.Str.{bytes_eq};
 ghost use Rattle.rina_policy.specs.Count.{counted};
-ghost use Rattle.rina_policy.specs.Slots.{slot, slots_of, place_of, has_name, count_of, asked, retired};
+ghost use Rattle.rina_policy.specs.Slots.{slot, slots_of, place_of, has_name, count_of, asked, retired, policy_of};
 
 use crate::policy::{Head, Policy};
 use rina_base::{Memory, Name};
@@ -49,6 +49,7 @@ pub struct Shelf {
 fn ask_policy(policy: &mut Box<dyn Policy>, who: u32, heads: &[Head]) -> u32
     requires some { 0 < length heads.now }
     requires few { length heads.now ≤ 256 }
+    ensures answer { may_pick policy.old who heads.now result }
     ensures within { result < length heads.now }
     ensures counted { count policy.new ≡ counted (count policy.old) result }
 {
@@ -61,6 +62,7 @@ fn ask_place(place: &mut Place, who: u32, heads: &[Head]) -> u32
     requires few { length heads.now ≤ 256 }
     ensures name { place.new.name ≡ place.old.name }
     ensures asked { option_map (λ b. count b) place.new.policy ≡ option_map (λ c. counted c result) (option_map (λ b. count b) place.old.policy) }
+    ensures answer { MatchOption place.old.policy (result ≡ 0) (λ b. may_pick b who heads.now result) }
     ensures within { result < length heads.now }
     ensures dead { place.old.policy ≡ None → result ≡ 0 }
 {
@@ -112,6 +114,8 @@ impl Shelf {
     fn find(&self, name: &Name) -> Option<usize>
         ensures place { result ≡ place_of name.now (slots_of (λ p. p.name) (λ p. p.policy) (λ b. count b) self.now.places.items) }
         ensures found { IfSome result (λ k. (p : _) × (slice_get self.now.places.items k ≡ Some p) × (p.name ≡ name.now)) }
+        ensures policy { IfSome result (λ k. (p : _) × (slice_get self.now.places.items k ≡ Some p) × (policy_of (λ q. q.name) (λ q. q.policy) name.now self.now.places.items ≡ p.policy)) }
+        ensures none { IfNone result (policy_of (λ q. q.name) (λ q. q.policy) name.now self.now.places.items ≡ None) }
         ensures within { IfSome result (λ k. k < length self.now.places.items) }
     {
         first_of(self.places.as_slice(), name)
@@ -165,6 +169,7 @@ impl Shelf {
     pub fn pick(&mut self, name: &Name, who: u32, heads: &[Head]) -> u32
         requires some { 0 < length heads.now }
         requires few { length heads.now ≤ 256 }
+        ensures answer { MatchOption (policy_of (λ p. p.name) (λ p. p.policy) name.now self.old.places.items) (result ≡ 0) (λ b. may_pick b who heads.now result) }
         ensures within { result < length heads.now }
         ensures dead { count_of name.now (slots_of (λ p. p.name) (λ p. p.policy) (λ b. count b) self.old.places.items) ≡ None → result ≡ 0 }
         ensures asked { slots_of (λ p. p.name) (λ p. p.policy) (λ b. count b) self.new.places.items ≡ asked name.now result (slots_of (λ p. p.name) (λ p. p.policy) (λ b. count b) self.old.places.items) }

@@ -1,4 +1,6 @@
 //! The built-in policies on tables of heads, and a shelf with policies of its own.
+ghost use Rattle.std.specs.Prelude.{◌≡◌, ◌-◌, length};
+
 use super::*;
 use rina_base::Name;
 use std::test::Fail;
@@ -11,6 +13,8 @@ struct Back {
 
 impl Policy for Back {
     ghost count = { λ s. s.count };
+
+    ghost may_pick = { λ _ _ heads place. place ≡ length heads - 1 };
 
     fn pick(&mut self, _who: u32, heads: &[Head]) -> u32 {
         let place = heads.len() as u32 - 1;

@@ -1,1 +1,3 @@
+mod Rises
 mod Rooms
+pub mod Shown

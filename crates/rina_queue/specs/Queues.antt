@@ -1,6 +1,7 @@
 -- Queues, one for each link and cube: each is its link, the id of its cube, and its PDUs, the first that came first.
-use Rattle.std.specs.Prelude.{◌≡◌, ℕ, ◌-◌, ◌^◌, min, Bool, ◌&&◌, ◌==◌, not, List, [], ◌++◌, Option, Some, None, length, map, position, slice_get, slice_set, if◌then◌else◌}
+use Rattle.std.specs.Prelude.{◌≡◌, ℕ, ◌-◌, ◌^◌, min, Bool, ◌&&◌, ◌==◌, not, List, [], ◌++◌, Option, Some, None, length, map, position, filter, take, slice_get, slice_set, Contains, ◌<◌, if◌then◌else◌}
 use Rattle.std.specs.List.{list_any}
+use Rattle.std.specs.List.Sorted.{IsStrictlyIncreasing}
 use Rattle.circular_buffer.specs.Buffer.{buffer}
 use Rattle.rina_policy.specs.declared.policy.Head.{Head}
 use Rattle.rina_queue.specs.declared.queue.Queue.{Queue}
@@ -13,6 +14,12 @@ with_items items q = record { link = q.link; qos = q.qos; ring = buffer items q.
 -- an empty queue
 abbrev pub no_items : ℕ → ℕ → ℕ → Queue
 no_items cap link qos = record { link = link; qos = qos; ring = buffer [] cap }
+
+-- the ids of cubes that are given, each once and in rising order
+pub record AreIds (given ids : List ℕ) : Type 0 where
+  pub rise : IsStrictlyIncreasing ids
+  pub all : (id : ℕ) → Contains given id → Contains ids id
+  pub only : (id : ℕ) → Contains ids id → Contains given id
 
 -- the empty queues of a link, one for each cube
 abbrev pub no_queues : ℕ → ℕ → List ℕ → List Queue
@@ -58,6 +65,10 @@ head_by q None = record { qos = q.qos; waiting = 0; len = 0; since = 0 }
 unfoldable pub head_of : Queue → Head
 head_of q = head_by q (slice_get q.ring.items 0)
 
+-- what is shown for a link: in the order of the queues, the heads of those in which a PDU waits for it; 256 at most, as many as there are ids
+abbrev pub heads_of : ℕ → List Queue → List Head
+heads_of link queues = take 256 (map head_of (filter (waits link) queues))
+
 abbrev pub first_in : Option Queue → Option Queued
 first_in (Some q) = slice_get q.ring.items 0
 first_in None = None
@@ -74,3 +85,7 @@ Changes qos link change old new =
 -- each of these queues has room for so many PDUs
 abbrev pub HaveRoom : ℕ → List Queue → Type 0
 HaveRoom cap queues = (k : ℕ) (q : Queue) → slice_get queues k ≡ Some q → q.ring.capacity ≡ cap
+
+-- of two queues of one link, the earlier has the lower id
+abbrev pub IdsRise : List Queue → Type 0
+IdsRise queues = (j k : ℕ) (p q : Queue) → j < k → slice_get queues j ≡ Some p → slice_get queues k ≡ Some q → p.link ≡ q.link → p.qos < q.qos

@@ -51,6 +51,8 @@ impl Queue {
         ensures ok { OnOk result (self.new ≡ with_items (self.old.ring.items ++ item ∷ []) self.old) }
         ensures full { IsOk result ↔ (length self.old.ring.items < self.old.ring.capacity) }
         ensures capacity { self.new.ring.capacity ≡ self.old.ring.capacity }
+        ensures link { self.new.link ≡ self.old.link }
+        ensures qos { self.new.qos ≡ self.old.qos }
         ensures cap { IfErr result (λ e. e.cap ≡ cap) }
         ensures err { OnErr result (self.new ≡ self.old) }
     {

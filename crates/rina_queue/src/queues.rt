@@ -1,8 +1,9 @@
 //! The queues of all cubes and links.
-ghost use Rattle.std.specs.Prelude.{◌≡◌, ◌≢◌, ◌+◌, ◌-◌, ◌<◌, ◌≤◌, ◌↔◌, ◌==◌, [], ◌∷◌, ◌++◌, ℕ, length, drop, filter, None, IsNone, position, slice_get, slice_set, true, false, Some, IsSome, IfSome, IsOk, OnOk, OnErr, IfOk, IfErr, option_copied};
+ghost use Rattle.std.specs.Prelude.{◌≡◌, ◌≢◌, ◌+◌, ◌-◌, ◌<◌, ◌≤◌, ◌↔◌, ◌==◌, [], ◌∷◌, ◌++◌, ℕ, length, min, take, drop, filter, None, IsNone, position, slice_get, slice_set, true, false, Some, IsSome, IfSome, IsOk, OnOk, OnErr, IfOk, IfErr, option_copied};
 ghost use Rattle.rina_policy.specs.Slots.{asked, count_of};
-ghost use Rattle.rina_queue.specs.Queues.{added, HaveRoom, has_link, is_queue, queue_place, waiting, waits, head_of, head_at, first_in, with_items, no_queues, Changes};
+ghost use Rattle.rina_queue.specs.Queues.{added, HaveRoom, has_link, is_queue, queue_place, waiting, waits, head_of, heads_of, head_at, first_in, with_items, no_queues, AreIds, IdsRise, Changes};
 ghost use Rattle.rina_queue.specs.declared.queue.Queue.{Queue};
+ghost use Rattle.std.specs.List.Sorted.{IsStrictlyIncreasing};
 
 use crate::queue::{Queue, QueueFull, Queued};
 use rina_base::{Memory, Name, Seq};
@@ -14,12 +15,14 @@ use std::alloc::{AllocError, Global};
 pub struct Queues {
     /// How many PDUs each queue can hold.
     pub cap: u32,
-    /// The ids of the cubes that have a queue, in the order in which their heads are shown.
+    /// The ids of the cubes that have a queue, in rising order, which is that of the heads shown.
     pub cubes: Seq<u8>,
     /// The queues, link by link in the order in which these were added, and of each link in the order
     /// of `cubes`.
     pub queues: Vec<Queue>,
     pub ghost caps: { HaveRoom cap queues.items },
+    pub ghost ids: { IsStrictlyIncreasing cubes },
+    pub ghost rising: { IdsRise queues.items },
 }
 
 #[tactic(auto, unfolding(crate::specs::Queues::is_queue))]
@@ -37,6 +40,16 @@ fn place(queues: &[Queue], qos: u8, link: u16) -> Option<usize>
     queues.iter().position(|queue| is_queue(queue, qos, link))
 }
 
+/// The ids that are given, each once and in rising order.
+fn rising(alloc: Global, given: &[u8]) -> Result<Vec<u8>, AllocError>
+    ensures { IfOk result (λ ids. AreIds given.now ids.items) }
+{
+    let mut ids = Vec::from_slice(alloc, given)?;
+    ids.sort_unstable();
+    ids.dedup();
+    Ok(ids)
+}
+
 /// Empty queues for a link, one for each cube.
 fn make(alloc: Global, cubes: &[u8], link: u16, cap: u32) -> Result<Vec<Queue>, Memory>
     ensures { IfOk result (λ v. v.items ≡ no_queues cap link cubes.now) }
@@ -49,13 +62,6 @@ fn make(alloc: Global, cubes: &[u8], link: u16, cap: u32) -> Result<Vec<Queue>, 
         }
     }
     Ok(queues)
-}
-
-/// How many queues there are in which a PDU waits for a link.
-fn count_waiting(queues: &[Queue], link: u16) -> usize
-    ensures { result ≡ length (filter (waits link) queues.now) }
-{
-    queues.iter().filter(|queue| queue.waits(link)).count()
 }
 
 /// One of the queues in which a PDU waits for a link, counted from 0.
@@ -98,28 +104,33 @@ fn has_link(queues: &[Queue], link: u16) -> bool
     queues.iter().any(|queue| queue.link == link)
 }
 
-/// Shows the heads of the queues in which a PDU waits for a link.
-fn show(queues: &[Queue], link: u16, count: usize, heads: &mut [Head])
-    requires { count ≤ length heads.old }
-    ensures { (k : ℕ) (q : Queue) → k < count → slice_get (filter (waits link) queues.now) k ≡ Some q → slice_get heads.new k ≡ Some (head_of q) }
+/// Shows the heads of the queues in which a PDU waits for a link, and gives how many these are.
+fn show(queues: &[Queue], link: u16, heads: &mut [Head]) -> usize
+    requires { length heads.old ≡ 256 }
+    ensures count { result ≡ min (length (filter (waits link) queues.now)) 256 }
+    ensures heads { take result heads.new ≡ heads_of link queues.now }
 {
-    for nth in 0..count {
-        if let Some(queue) = nth_waiting(queues, link, nth) {
-            heads[nth] = queue.head();
+    let mut count = 0;
+    for queue in queues {
+        if count < 256 && queue.waits(link) {
+            heads[count] = queue.head();
+            count += 1;
         }
     }
+    count
 }
 
 impl Queues {
-    /// No link yet.
+    /// No link yet. Each cube id gets one queue, also where it is given twice, and the queues stand in
+    /// the order of the ids, whatever the order in which these are given.
     pub fn new(alloc: Global, cap: u32, cubes: &[u8]) -> Result<Queues, Memory>
         ensures cap { IfOk result (λ q. q.cap ≡ cap) }
-        ensures cubes { IfOk result (λ q. q.cubes ≡ cubes.now) }
+        ensures cubes { IfOk result (λ q. AreIds cubes.now q.cubes) }
         ensures empty { IfOk result (λ q. q.queues.items ≡ []) }
     {
         Ok(Queues {
             cap,
-            cubes: Seq::copy_of(alloc, cubes)?,
+            cubes: Seq::from_vec(rising(alloc, cubes)?),
             queues: Vec::new(alloc),
         })
     }
@@ -200,20 +211,19 @@ impl Queues {
     ) -> Option<&Queued>
         ensures none { IsNone result ↔ (filter (waits link) self.now.queues.items ≡ []) }
         ensures idle { filter (waits link) self.now.queues.items ≡ [] → (option_copied result ≡ None) × (S.slots shelf.new ≡ S.slots shelf.old) }
-        ensures served { filter (waits link) self.now.queues.items ≢ [] → (place : ℕ) × (place < length (filter (waits link) self.now.queues.items)) × (S.slots shelf.new ≡ asked name.now place (S.slots shelf.old)) × (count_of name.now (S.slots shelf.old) ≡ None → place ≡ 0) × (option_copied result ≡ head_at place (filter (waits link) self.now.queues.items)) }
+        ensures served { filter (waits link) self.now.queues.items ≢ [] → (place : ℕ) × (place < length (filter (waits link) self.now.queues.items)) × (S.may_answer shelf.old name.now who (heads_of link self.now.queues.items) place) × (S.slots shelf.new ≡ asked name.now place (S.slots shelf.old)) × (count_of name.now (S.slots shelf.old) ≡ None → place ≡ 0) × (option_copied result ≡ head_at place (filter (waits link) self.now.queues.items)) }
     {
         let queues = self.queues.as_slice();
-        let count = count_waiting(queues, link).min(256);
-        if count == 0 {
-            return None;
-        }
         let mut heads = [Head {
             qos: 0,
             waiting: 0,
             len: 0,
             since: 0,
         }; 256];
-        show(queues, link, count, &mut heads);
+        let count = show(queues, link, &mut heads);
+        if count == 0 {
+            return None;
+        }
         let place = shelf.ask(name, who, &heads[..count]);
         lend(nth_waiting(queues, link, place as usize))
     }

@@ -35,7 +35,8 @@ fn the_policy_picks_and_the_first_is_lent(rt: HostRuntime) -> Result<(), Fail> {
     let last = Name::read(alloc, b"last")?;
     let mut shelf = Shelf::new(alloc)?;
     shelf.add(alloc, last.copy(alloc)?, Box::new(alloc, Last::new())?)?;
-    let mut queues = Queues::new(alloc, 2, &[0, 1])?;
+    let mut queues = Queues::new(alloc, 2, &[1, 0, 1])?;
+    assert_eq!(rt; queues.cubes.as_slice(), [0, 1].as_slice());
     queues.add_link(alloc, 0)?;
     queues.add_link(alloc, 0)?;
     assert_eq!(rt; queues.queues.len(), 2);
@@ -48,6 +49,9 @@ fn the_policy_picks_and_the_first_is_lent(rt: HostRuntime) -> Result<(), Fail> {
     assert_eq!(rt; queues.push(1, 0, queued(alloc, 1, 6)?), Ok(()));
     let lent = queues.serve(&mut shelf, &last, 0, 0);
     assert_eq!(rt; lent.map(|q| q.since), Some(6));
+    assert_eq!(rt; shelf.retire(&last), Ok(()));
+    let lent = queues.serve(&mut shelf, &last, 0, 0);
+    assert_eq!(rt; lent.map(|q| q.since), Some(5));
     assert!(rt; queues.has(1, 0));
     assert_eq!(rt; queues.room(1, 0), 1);
     assert_eq!(rt; queues.take(1, 0).map(|q| q.since), Some(6));

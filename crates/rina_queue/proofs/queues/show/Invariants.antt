@@ -1,8 +1,7 @@
--- The heads so far are shown.
-use Rattle.std.proofs.Common.{◌≡◌, ℕ, ◌<◌, Some, filter, slice_get}
-use Rattle.rina_queue.specs.declared.queue.Queue.{Queue}
+-- The heads of the queues so far are shown.
 use Rattle.rina_queue.specs.Queues.{waits, head_of}
+use Rattle.rina_queue.proofs.Shown.{IsShown}
 use Rattle.rina_queue.proofs.queues.show.Given as goal
 
-abbrev pub invariant-loop-nth : goal.invariant-loop-nth
-invariant-loop-nth l = (k : ℕ) (q : Queue) → k < l.nth → slice_get (filter (waits l.link) l.queues) k ≡ Some q → slice_get l.heads k ≡ Some (head_of q)
+abbrev pub invariant-loop-queue : goal.invariant-loop-queue
+invariant-loop-queue l = IsShown (waits l.link) head_of l.queues l.heads l.count l.queue-index
