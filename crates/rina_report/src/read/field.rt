@@ -1,5 +1,5 @@
 //! The fields of a note, and numbers in them.
-ghost use Rattle.std.specs.Prelude.{◌≡◌, ◌∷◌, [], ◌<◌, ◌≤◌, ◌-◌, ◌^◌, not, length, position, IfSome, IfOk, MatchOption};
+ghost use Rattle.std.specs.Prelude.{◌≡◌, ◌∷◌, [], ◌<◌, ◌≤◌, ◌==◌, length, position, IfSome, IfOk, MatchOption};
 ghost use Rattle.std.specs.Str.{bytes_eq};
 ghost use Rattle.rina_schedule.specs.Gives.{Gives};
 ghost use Rattle.rina_report.specs.Fields.{fields_of, behind, is_numeral, numeral_of, max8, max32, max64, field_at, end_at, number_at, word_at};
@@ -21,6 +21,7 @@ pub(crate) fn place_of(byte: u8, text: &[u8]) -> Option<usize>
 }
 
 /// The first field of a text, and what stands behind it.
+#[tactic(auto, unfolding(crate::specs::Fields::behind), using(crate::proofs::Split::cut_some, crate::proofs::Split::cut_none))]
 pub(crate) fn first_field(text: &[u8]) -> (&[u8], &[u8])
     ensures { fields_of text.now ≡ result.0.now ∷ behind result.1.now }
 {
