@@ -87,6 +87,7 @@ setting_back word default n x fs field same fits others = by_default (eqb x defa
     left_out : (fs : List (List ℕ)) → Others word fs → setting_at word default n (spaced fs) ≡ Ok (default, n, spaced fs)
     left_out [] others = rw next_none refl
     left_out (f ∷ fs) others = rw (next_spaced f fs others.0, others.2) refl
+
     by_default : (c : Bool) → eqb x default ≡ c → setting_at word default n (spaced (cond c [] ((word ++ decimal x) ∷ []) ++ fs)) ≡ Ok (x, cond c n (n + 1), spaced fs)
     by_default true e = rw (eqb-true x default e) (left_out fs others)
     by_default false e = rw (next_spaced (word ++ decimal x) fs (setting_field word x field fits), take_at word (decimal x) (length word) refl, same, drop_at word (decimal x) (length word) refl, number_again x fits) refl
@@ -144,8 +145,14 @@ alloc_back : (label fac node app to : List ℕ) (want : Want) → IsName label �
     → alloc_at (spaced (label ∷ fac ∷ node ∷ app ∷ to ∷ want_fields want)) ≡ Ok (events.Alloc label fac node app to want)
 unfolding alloc_at
 alloc_back label fac node app to want h =
-    rw (name_back 1 label (fac ∷ node ∷ app ∷ to ∷ want_fields want) h.0, name_back 2 fac (node ∷ app ∷ to ∷ want_fields want) h.1, name_back 3 node (app ∷ to ∷ want_fields want) h.2,
-        app_back 4 app (to ∷ want_fields want) h.3, app_back 5 to (want_fields want) h.4, want_back want h.5) refl
+    rw (
+      name_back 1 label (fac ∷ node ∷ app ∷ to ∷ want_fields want) h.0,
+      name_back 2 fac (node ∷ app ∷ to ∷ want_fields want) h.1,
+      name_back 3 node (app ∷ to ∷ want_fields want) h.2,
+      app_back 4 app (to ∷ want_fields want) h.3,
+      app_back 5 to (want_fields want) h.4,
+      want_back want h.5,
+    ) refl
 
 register_back : (fac : List ℕ) (node : List ℕ) (app : List ℕ) → IsEvent (events.Register fac node app) → register_at (spaced (fac ∷ node ∷ app ∷ [])) ≡ Ok (events.Register fac node app)
 unfolding register_at
