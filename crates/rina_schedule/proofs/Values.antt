@@ -95,6 +95,14 @@ name_reads text x e =
     same : (a b : List ℕ) → ◌≡◌ {A = Result (List ℕ) NameError} (Ok a) (Ok b) → a ≡ b
     same a b e = cc
 
+-- the bytes of a name
+pub name_bytes : (text x : List ℕ) → name_at text ≡ Ok x → list_all is_name_byte text ≡ true
+unfolding name_at
+name_bytes text x e =
+    let a = step_ok (length_at text) (λ _. bytes_at 0 text >>= λ _. Ok text) x e in
+    let b = step_ok (bytes_at 0 text) (λ _. Ok text) x a.2 in
+    bytes_part 0 text b.0 b.1
+
 pub IsField-name : (x : List ℕ) → IsName x → IsField x
 IsField-name x h = (name_reads x x h).1
 

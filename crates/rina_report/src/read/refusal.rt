@@ -174,7 +174,7 @@ fn counted(alloc: Global, word: &[u8], n: u32, rest: &[u8]) -> Result<Refusal, L
 
 #[tactic(auto, unfolding(crate::specs::ReadRefusals::refusal_of))]
 fn refusal_of(alloc: Global, word: &[u8], n: u32, rest: &[u8]) -> Result<Refusal, LineError>
-    requires { n < 500 }
+    requires { n < 400 }
     ensures { Gives (λ x. x) result (refusal_of word.now n (behind rest.now)) }
 {
     match bare(word) {

@@ -17,11 +17,7 @@ fn parts(byte: u8, text: &[u8]) -> (&[u8], &[u8])
     ensures { (result.0.now, result.1.now) ≡ parts_of byte text.now }
 {
     match place_of(byte, text) {
-        Some(at) => {
-            let (first, rest) = text.split_at(at);
-            let (_separator, second) = rest.split_at(1);
-            (first, second)
-        }
+        Some(at) => (&text[..at], &text[at + 1..]),
         None => (text, &[]),
     }
 }
