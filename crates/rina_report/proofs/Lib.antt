@@ -1,3 +1,4 @@
+pub mod Branches
 pub mod Clear
 pub mod Numerals
 pub mod Parts
@@ -5,4 +6,5 @@ pub mod Printed
 pub mod Readers
 pub mod Spelled
 pub mod Split
+pub mod Told
 pub mod Whole

@@ -37,6 +37,7 @@ decimal_value max n lt = decimal_by_steps (λ n ds. n ≤ max → (rest : List �
   where
     one : (n : ℕ) → n < 10 → n ≤ max → (rest : List ℕ) → value_from max 0 (((48 + n) ∷ []) ++ rest) ≡ value_from max n rest
     one n small fits rest = one_digit max 0 n rest small (omega arith) ∙ ap (λ (k : ℕ). value_from max k rest) (omega arith)
+
     more : (n : ℕ) (ds : List ℕ) → 10 ≤ n → (n / 10 ≤ max → (rest : List ℕ) → value_from max 0 (ds ++ rest) ≡ value_from max (n / 10) rest) → n ≤ max → (rest : List ℕ) → value_from max 0 ((ds ++ ((48 + n % 10) ∷ [])) ++ rest) ≡ value_from max n rest
     more n ds le h fits rest =
         let whole : n / 10 * 10 + n % 10 ≡ n = omega arith in

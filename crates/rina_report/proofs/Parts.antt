@@ -114,6 +114,6 @@ triple_is text x e = by_parts (numeral_of max32 (parts_of 46 text).0) (pair_of m
         let some : 0 < length (parts_of 46 text).1 = rw nb.text-is (omega (arith, length-append (decimal b.0) (46 ∷ decimal b.1))) in
         let whole = parts_are 46 text some in
         subst (IsTriple text) (same_Some _ x e)
-            (record { text-is = whole ∙ rw (na.0, nb.text-is) (sym (append_assoc (decimal a) (46 ∷ decimal b.0) (46 ∷ decimal b.1))); first = na.1; second = nb.first; third = nb.second })
+        (record { text-is = whole ∙ rw (na.0, nb.text-is) (sym (append_assoc (decimal a) (46 ∷ decimal b.0) (46 ∷ decimal b.1))); first = na.1; second = nb.first; third = nb.second })
     by_parts (Some a) None ea eb e = absurd cc
     by_parts None p ea eb e = absurd cc

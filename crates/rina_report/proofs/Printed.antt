@@ -196,8 +196,16 @@ unfolding flow_note_at end_fields
 flow_note_back e h =
     let d = decimal e.taken ∷ state_fields e.state in
     let c = decimal e.cube ∷ d in
-    rw (flow_back 1 e.flow (role_word e.role ∷ port_text e.port ∷ e.app ∷ e.peer ∷ c) h.0, role_back e.role, port_back 3 e.port (e.app ∷ e.peer ∷ c) h.1, app_back 4 e.app (e.peer ∷ c) h.2, app_back 5 e.peer c h.3,
-        number_back max8 6 e.cube d (omega arith) h.4, number_back max64 7 e.taken (state_fields e.state) (omega arith) h.5, state_back 8 e.state h.6) refl
+    rw (
+      flow_back 1 e.flow (role_word e.role ∷ port_text e.port ∷ e.app ∷ e.peer ∷ c) h.0,
+      role_back e.role,
+      port_back 3 e.port (e.app ∷ e.peer ∷ c) h.1,
+      app_back 4 e.app (e.peer ∷ c) h.2,
+      app_back 5 e.peer c h.3,
+      number_back max8 6 e.cube d (omega arith) h.4,
+      number_back max64 7 e.taken (state_fields e.state) (omega arith) h.5,
+      state_back 8 e.state h.6,
+    ) refl
 
 entry_back : (at : ℕ) (num : Num) (bytes : List ℕ) → (at ≤ max32) × IsNum num × IsBytes bytes → entry_at 1 (decimal at ∷ num_text num ∷ spelling bytes ∷ []) ≡ Ok (at, num, bytes)
 unfolding entry_at
@@ -272,8 +280,14 @@ pub note_back : (x : Note) → IsNote x → fields_note (note_fields x) ≡ Ok x
 unfolding whole_at line_note_at checked_at gen_at told_fields is_digit
 note_back (notes.Line line tick said) h =
     let digits = (decimal_digits line (omega (arith, h.0))).0 in
-    rw (no_word (decimal line) 101 (codes "nd") digits refl, no_word (decimal line) 102 (codes "ault") digits refl, no_word (decimal line) 99 (codes "hecked") digits refl, no_word (decimal line) 103 (codes "en") digits refl,
-        counter_back line (decimal tick ∷ said_fields said) h.0, counter_back tick (said_fields said) h.1) (told_back line tick (said_fields said) said (said_back said h.2))
+    rw (
+      no_word (decimal line) 101 (codes "nd") digits refl,
+      no_word (decimal line) 102 (codes "ault") digits refl,
+      no_word (decimal line) 99 (codes "hecked") digits refl,
+      no_word (decimal line) 103 (codes "en") digits refl,
+      counter_back line (decimal tick ∷ said_fields said) h.0,
+      counter_back tick (said_fields said) h.1,
+    ) (told_back line tick (said_fields said) said (said_back said h.2))
 note_back (notes.End tick) h = rw (last_number_back max32 1 tick (omega arith) h) refl
 note_back (notes.Fault fault) h = rw (fault_back 1 fault h) refl
 note_back (notes.Checked nodes wires difs lines) h =
@@ -285,5 +299,13 @@ note_back (notes.Gen n lines tick sent got refused off failed) h =
     let f4 = codes "got" ∷ decimal got ∷ f5 in
     let f3 = codes "sent" ∷ decimal sent ∷ f4 in
     let f2 = codes "tick" ∷ decimal tick ∷ f3 in
-    rw (number_back max32 1 n (codes "lines" ∷ decimal lines ∷ f2) (omega arith) h.0, named_back (codes "lines") 2 lines f2 refl h.1, named_back (codes "tick") 4 tick f3 refl h.2, named_back (codes "sent") 6 sent f4 refl h.3,
-        named_back (codes "got") 8 got f5 refl h.4, named_back (codes "refused") 10 refused f6 refl h.5, named_back (codes "off") 12 off f7 refl h.6, named_back (codes "failed") 14 failed [] refl h.7) refl
+    rw (
+      number_back max32 1 n (codes "lines" ∷ decimal lines ∷ f2) (omega arith) h.0,
+      named_back (codes "lines") 2 lines f2 refl h.1,
+      named_back (codes "tick") 4 tick f3 refl h.2,
+      named_back (codes "sent") 6 sent f4 refl h.3,
+      named_back (codes "got") 8 got f5 refl h.4,
+      named_back (codes "refused") 10 refused f6 refl h.5,
+      named_back (codes "off") 12 off f7 refl h.6,
+      named_back (codes "failed") 14 failed [] refl h.7,
+    ) refl

@@ -167,6 +167,7 @@ kind_is word kind e = by_data (bytes_eq word (codes "data")) refl e
     by_ack : (c : Bool) → bytes_eq word (codes "ack") ≡ c → cond c (Some Ack) None ≡ Some kind → word ≡ kind_word kind
     by_ack true t e = subst (λ k. word ≡ kind_word k) (same_Some Ack kind e) (word_is word (codes "ack") t)
     by_ack false t e = absurd cc
+
     by_data : (c : Bool) → bytes_eq word (codes "data") ≡ c → cond c (Some Piece) (cond (bytes_eq word (codes "ack")) (Some Ack) None) ≡ Some kind → word ≡ kind_word kind
     by_data true t e = subst (λ k. word ≡ kind_word k) (same_Some Piece kind e) (word_is word (codes "data") t)
     by_data false t e = by_ack (bytes_eq word (codes "ack")) refl e
@@ -206,10 +207,12 @@ port_text_is n text =
     let some3 : 0 < length third = rw pc.0 (decimal_nonempty x (omega (arith, pc.1))) in
     let rest-is : rest ≡ second ++ 47 ∷ third = parts_are 47 rest some3 in
     let some2 : 0 < length rest = rw rest-is (omega (arith, length-append second (47 ∷ third))) in
-    let text-is : text ≡ first ++ 47 ∷ rest = parts_are 47 text some2 in
-    (text-is ∙ ap (λ (t : List ℕ). first ++ 47 ∷ t) rest-is ∙ ap (λ (t : List ℕ). t ++ 47 ∷ (second ++ 47 ∷ third)) pa.0
-        ∙ ap (λ (t : List ℕ). fac ++ 47 ∷ (t ++ 47 ∷ third)) pb.0 ∙ ap (λ (t : List ℕ). fac ++ 47 ∷ (node ++ 47 ∷ t)) pc.0
-        ∙ sym (append_assoc fac (47 ∷ node) (47 ∷ decimal x)), (pa.1, pb.1, pc.1)))))
+    let text-is : text ≡ first ++ 47 ∷ rest = parts_are 47 text some2 in (
+      text-is ∙ ap (λ (t : List ℕ). first ++ 47 ∷ t) rest-is ∙ ap (λ (t : List ℕ). t ++ 47 ∷ (second ++ 47 ∷ third)) pa.0
+          ∙ ap (λ (t : List ℕ). fac ++ 47 ∷ (t ++ 47 ∷ third)) pb.0 ∙ ap (λ (t : List ℕ). fac ++ 47 ∷ (node ++ 47 ∷ t)) pc.0
+          ∙ sym (append_assoc fac (47 ∷ node) (47 ∷ decimal x)),
+      (pa.1, pb.1, pc.1),
+    ))))
 
 pub port_is : (n : ℕ) (fs : List (List ℕ)) → IfOk (port_at n fs) (Reads port_text IsPort fs)
 unfolding port_at
@@ -230,6 +233,7 @@ truth_is n (f ∷ fs) = by_no (bytes_eq f (codes "0")) refl
     by_yes : (c : Bool) → bytes_eq f (codes "1") ≡ c → IfOk (or_bad (errors.BadNumber n) (cond c (Some true) None) >>= λ x. with_truth fs x) (Reads truth_text Any (f ∷ fs))
     by_yes true t = (ap (λ (t : List ℕ). t ∷ fs) (word_is f (codes "1") t), tt)
     by_yes false t = tt
+
     by_no : (c : Bool) → bytes_eq f (codes "0") ≡ c → IfOk (or_bad (errors.BadNumber n) (cond c (Some false) (cond (bytes_eq f (codes "1")) (Some true) None)) >>= λ x. with_truth fs x) (Reads truth_text Any (f ∷ fs))
     by_no true t = (ap (λ (t : List ℕ). t ∷ fs) (word_is f (codes "0") t), tt)
     by_no false t = by_yes (bytes_eq f (codes "1")) refl

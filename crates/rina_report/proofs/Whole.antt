@@ -10,7 +10,7 @@ use Rattle.rina_report.specs.Ranges.{IsNote}
 use Rattle.rina_report.proofs.Split.{fields_back, fields_are}
 use Rattle.rina_report.proofs.Printed.{note_fields, note_back}
 use Rattle.rina_report.proofs.Clear.{note_clear}
-use Rattle.rina_report.proofs.Spelled.{fields_is}
+use Rattle.rina_report.proofs.Told.{fields_is}
 
 -- the fields of a note's text
 text_fields : (x : Note) → IsNote x → fields_of (note_text x) ≡ note_fields x

@@ -44,7 +44,13 @@ fn the_first_run_reads_so(rt: HostRuntime) {
     assert!(rt; prints(alloc, &line(2, 0, allocated), b"2 0 ok allocated"));
     assert!(rt; prints(alloc, &line(4, 0, sent), b"4 0 sent 0.0"));
     if let Ok(bytes) = Seq::copy_of(alloc, b"hello") {
-        assert!(rt; prints(alloc, &line(6, 2, Said::Got { at: 2, bytes }), b"6 2 got 2 'hello"));
+        assert!(rt;
+            prints(
+                alloc,
+                &line(6, 2, Said::Got { at: 2, bytes }),
+                b"6 2 got 2 'hello"
+            )
+        );
     }
     assert!(rt; prints(alloc, &Note::End { tick: 2 }, b"end 2"));
 }
@@ -140,7 +146,10 @@ fn the_first_fault_of_a_text_is_told(rt: HostRuntime) {
         (b"1 0 no Busy W/a/1", LineError::BadName { n: 2 }),
         (b"1 0 no Busy w/a", LineError::BadNumber { n: 2 }),
         (b"1 0 no CountSpent 4", LineError::MissingField { n: 3 }),
-        (b"1 0 in data 1.2.3 off NoState 2", LineError::BadNumber { n: 5 }),
+        (
+            b"1 0 in data 1.2.3 off NoState 2",
+            LineError::BadNumber { n: 5 },
+        ),
         (b"end", LineError::MissingField { n: 1 }),
         (b"checked 2 1 0 6 0", LineError::Extra { n: 5 }),
     ];

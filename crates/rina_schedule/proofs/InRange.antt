@@ -1,10 +1,8 @@
 -- What is read has its fields in their ranges.
-use Rattle.std.proofs.Common.{◌≡◌, ℕ, ◌+◌, ◌-◌, ◌^◌, ◌<◌, ◌≤◌, Bool, true, false, cond, eqb, leb, ◌&&◌, List, codes, slice_index, Option, Some, None, Result, Ok, Err, refl, sym, ap, subst, ◌∙◌, arith}
+use Rattle.std.proofs.Common.{◌≡◌, ℕ, ◌+◌, Bool, true, false, cond, eqb, leb, ◌&&◌, List, slice_index, Option, Some, None, Result, Ok, Err, refl, subst, arith}
 use Rattle.std.specs.Prelude.{IfOk, IfSome}
-use Rattle.std.specs.Str.{bytes_eq}
 use Rattle.std.proofs.lemmas.Bool.{and_parts, leb-true}
 use Rattle.std.proofs.lemmas.Result.{IfOk-at_ok}
-use Rattle.std.proofs.lemmas.Option.{same_Some}
 use Rattle.rina_base.specs.declared.name.NameError.{NameError}
 use Rattle.rina_base.specs.Names.{name_at, app_at}
 use Rattle.rina_base.specs.Traverse.{◌>>=◌}
@@ -16,7 +14,7 @@ use Rattle.rina_schedule.specs.Gives.{or_bad, guard}
 use Rattle.rina_schedule.specs.Numbers.{number_of}
 use Rattle.rina_schedule.specs.Bytes.{bytes_of}
 use Rattle.rina_schedule.specs.Objects.{is_object_name, object_name_of}
-use Rattle.rina_schedule.specs.Fields.{next_of, field_at, number_at, name_or_bad, name_field_at, app_field_at, bytes_at, path_or_none, path_at, end_at, flag_at, behind, value_or_default, setting_or_none, setting_at}
+use Rattle.rina_schedule.specs.Fields.{next_of, field_at, number_at, name_or_bad, name_field_at, app_field_at, bytes_at, path_or_none, path_at, end_at, behind, value_or_default, setting_or_none, setting_at}
 use Rattle.rina_schedule.specs.FlowWords.{register_at, unregister_at, want_at, alloc_at, accept_at, send_at, read_at, state_at, free_at}
 use Rattle.rina_schedule.specs.WireWords.{lose_at, repeat_at, hold_at, cut_at, mend_at, tick_at, round_at, retire_at, journal_at}
 use Rattle.rina_schedule.specs.DifWords.{publish_at, enrol_at, member_at, in_at, out_at, clock_at, cdap_at, rib_at, ledger_at}
@@ -201,6 +199,7 @@ path_in n text = by_field (next_of text)
     by_name : (c : Bool) (path rest : List ℕ) → is_object_name path ≡ c → IfOk (or_bad (errors.BadName n) (cond c (Some path) None) >>= λ path. path_and path rest) (λ x. IsPath x.0)
     by_name true path rest e = e
     by_name false path rest e = tt
+
     by_field : (o : Option (List ℕ × List ℕ)) → IfOk (path_or_none n o) (λ x. IsPath x.0)
     by_field None = tt
     by_field (Some f) = by_name (is_object_name f.0) f.0 f.1 refl
@@ -222,12 +221,15 @@ setting_in word default n text fits = by_field (next_of text)
     by_number : (o : Option ℕ) (rest : List ℕ) → IfSome o IsNumber → IfOk (or_bad (errors.BadNumber n) o >>= λ x. set_to x n rest) (λ x. IsNumber x.0)
     by_number None rest h = tt
     by_number (Some x) rest h = h
+
     reads : (digits : List ℕ) (o : Option ℕ) → number_of digits ≡ o → IfSome o IsNumber
     reads digits None e = tt
     reads digits (Some x) e = number_fits digits x e
+
     by_word : (o : Option (List ℕ)) (rest : List ℕ) → IfOk (value_or_default default n text rest o) (λ x. IsNumber x.0)
     by_word None rest = fits
     by_word (Some digits) rest = by_number (number_of digits) rest (reads digits (number_of digits) refl)
+
     by_field : (o : Option (List ℕ × List ℕ)) → IfOk (setting_or_none word default n text o) (λ x. IsNumber x.0)
     by_field None = fits
     by_field (Some f) = by_word (behind word f.0) f.1
@@ -285,9 +287,11 @@ line_in text e read = weaken (event_or_none (next_of text)) (λ o. IfSome o IsEv
     made : (r : Result Event LineError) → IfOk r IsEvent → IfOk (r >>= λ event. Ok (Some event)) (λ o. IfSome o IsEvent)
     made (Ok event) h = h
     made (Err d) h = tt
+
     by_remark : (c : Bool) (f : List ℕ × List ℕ) → IfOk (cond c (Ok None) (word_at f.0 f.1 >>= λ event. Ok (Some event))) (λ o. IfSome o IsEvent)
     by_remark true f = tt
     by_remark false f = made (word_at f.0 f.1) (word_in f.0 f.1).is
+
     by_word : (o : Option (List ℕ × List ℕ)) → IfOk (event_or_none o) (λ o. IfSome o IsEvent)
     by_word None = tt
     by_word (Some f) = by_remark (eqb (slice_index f.0 0) 35) f

@@ -1,10 +1,10 @@
 -- Names, numbers and bytes are fields, and each is read as it was printed.
-use Rattle.std.proofs.Common.{◌≡◌, ℕ, ◌+◌, ◌-◌, ◌*◌, ◌/◌, ◌%◌, ◌^◌, ◌<◌, ◌≤◌, Bool, true, false, not, cond, eqb, ltb, leb, ◌&&◌, ◌||◌, List, [], ◌∷◌, ◌++◌, length, take, drop, position, get_or, zero, suc, replicate, Option, Some, None, Result, Ok, Err, inl, inr, refl, sym, ap, subst, ◌∙◌, append_assoc, arith}
+use Rattle.std.proofs.Common.{◌≡◌, ℕ, ◌+◌, ◌-◌, ◌*◌, ◌/◌, ◌%◌, ◌^◌, ◌<◌, ◌≤◌, Bool, true, false, not, cond, eqb, ltb, leb, ◌&&◌, ◌||◌, List, [], ◌∷◌, ◌++◌, length, take, drop, position, get_or, zero, suc, replicate, Option, Some, None, Result, Ok, Err, refl, sym, ap, subst, ◌∙◌, append_assoc, arith}
 use Rattle.std.specs.List.{list_all, prefix_len, flat_map}
 use Rattle.std.specs.Option.{option_and_then, option_map}
 use Rattle.std.specs.Fmt.{decimal}
-use Rattle.std.proofs.lemmas.Bool.{ltb-true, ltb-false, ne_eqb, and_parts, and_from, not_from_false, lt-ltb, le-ltb, le-leb, lt-leb, leb-true, leb-false, eqb-true, cases_Bool, false≢true}
-use Rattle.std.proofs.lemmas.List.{drop_more, append-nil, length-append, take_at, drop_at, take-append-drop}
+use Rattle.std.proofs.lemmas.Bool.{ltb-true, ltb-false, ne_eqb, and_parts, and_from, lt-ltb, le-leb, lt-leb, leb-true, leb-false, eqb-true, false≢true}
+use Rattle.std.proofs.lemmas.List.{drop_more, append-nil, length-append, take-append-drop}
 use Rattle.std.proofs.lemmas.List.Folds.{list_all-append}
 use Rattle.std.proofs.lemmas.Fmt.{decimal_by_steps}
 use Rattle.std.proofs.lemmas.List.Quantifiers.{position-Some}
@@ -121,6 +121,7 @@ app_reads text x e = by_slash (position (λ b. eqb b 47) text) refl e
   where
     same : (a b : List ℕ) → ◌≡◌ {A = Result (List ℕ) NameError} (Ok a) (Ok b) → a ≡ b
     same a b e = cc
+
     by_slash : (o : Option ℕ) → position (λ b. eqb b 47) text ≡ o → app_cut o text ≡ Ok x → (text ≡ x) × IsField text
     by_slash None at e = name_reads text x e
     by_slash (Some k) at e =
@@ -177,10 +178,12 @@ decimal_digits n lt = decimal_by_steps AreDigits one more n lt
   where
     one : (n : ℕ) → n < 10 → AreDigits n ((48 + n) ∷ [])
     one n lt = (and_from (is_digit (48 + n)) true (a_digit n lt) refl, omega arith)
+
     more : (n : ℕ) (ds : List ℕ) → 10 ≤ n → AreDigits (n / 10) ds → AreDigits n (ds ++ ((48 + n % 10) ∷ []))
-    more n ds le h =
-        (list_all-append is_digit ds ((48 + n % 10) ∷ []) ∙ and_from (list_all is_digit ds) (is_digit (48 + n % 10) && true) h.0 (and_from (is_digit (48 + n % 10)) true (a_digit (n % 10) (omega arith)) refl),
-         omega (arith, length-append ds ((48 + n % 10) ∷ []), h.1))
+    more n ds le h = (
+      list_all-append is_digit ds ((48 + n % 10) ∷ []) ∙ and_from (list_all is_digit ds) (is_digit (48 + n % 10) && true) h.0 (and_from (is_digit (48 + n % 10)) true (a_digit (n % 10) (omega arith)) refl),
+      omega (arith, length-append ds ((48 + n % 10) ∷ []), h.1),
+    )
 
 pub IsField-decimal : (n : ℕ) → n < 2 ^ 64 → IsField (decimal n)
 unfolding is_digit
@@ -202,6 +205,7 @@ decimal_reads n lt = decimal_by_steps Reads one more n lt
   where
     one : (n : ℕ) → n < 10 → Reads n ((48 + n) ∷ [])
     one n small fits rest = one_digit 0 n rest small (omega arith) ∙ ap (λ (k : ℕ). number_from k rest) (omega arith)
+
     more : (n : ℕ) (ds : List ℕ) → 10 ≤ n → Reads (n / 10) ds → Reads n (ds ++ ((48 + n % 10) ∷ []))
     more n ds le h fits rest =
         let whole : n / 10 * 10 + n % 10 ≡ n = omega arith in
@@ -311,12 +315,14 @@ digit_fits b x e = first (leb 48 b && leb b 57) refl e
         let is : b - 55 ≡ x = same_Some (b - 55) x e in
         omega arith
     third false t e = absurd cc
+
     second : (c : Bool) → (leb 97 b && leb b 102) ≡ c → cond c (Some (b - 87)) (cond (leb 65 b && leb b 70) (Some (b - 55)) None) ≡ Some x → x < 16
     second true t e =
         let high = leb-true b 102 (and_parts (leb 97 b) (leb b 102) t).1 in
         let is : b - 87 ≡ x = same_Some (b - 87) x e in
         omega arith
     second false t e = third (leb 65 b && leb b 70) refl e
+
     first : (c : Bool) → (leb 48 b && leb b 57) ≡ c → cond c (Some (b - 48)) (cond (leb 97 b && leb b 102) (Some (b - 87)) (cond (leb 65 b && leb b 70) (Some (b - 55)) None)) ≡ Some x → x < 16
     first true t e =
         let high = leb-true b 57 (and_parts (leb 48 b) (leb b 57) t).1 in
@@ -360,14 +366,18 @@ bytes_fit (b ∷ text) bytes e = first (eqb b 39) e
     zeros : (o : Option ℕ) → option_and_then (λ n. cond (leb n 65535) (Some (replicate n 0)) None) o ≡ Some bytes → IsBytes bytes
     zeros None e = absurd cc
     zeros (Some n) e = subst IsBytes (cond_some (leb n 65535) (replicate n 0) bytes e).1 (zeros_fit n)
+
     third : (c : Bool) → cond c (zeros_of text) None ≡ Some bytes → IsBytes bytes
     third true e = zeros (number_of text) e
     third false e = absurd cc
+
     second : (c : Bool) → cond c (hex_of text) (cond (eqb b 122) (zeros_of text) None) ≡ Some bytes → IsBytes bytes
     second true e = hex_fits text bytes e
     second false e = third (eqb b 122) e
+
     plain : are_plain text ≡ true → IsBytes text
     plain e = plain_fits text (and_parts (not (eqb (length text) 0)) (list_all is_plain text) e).1
+
     first : (c : Bool) → cond c (plain_of text) (cond (eqb b 120) (hex_of text) (cond (eqb b 122) (zeros_of text) None)) ≡ Some bytes → IsBytes bytes
     first true e = (let p = cond_some (are_plain text) text bytes e in subst IsBytes p.1 (plain p.0))
     first false e = second (eqb b 120) e
@@ -405,6 +415,7 @@ digit_is b x lower e = first (leb 48 b && leb b 57) refl e
     third : (c : Bool) → (leb 65 b && leb b 70) ≡ c → cond c (Some (b - 55)) None ≡ Some x → b ≡ cond (leb x 9) (48 + x) (87 + x)
     third true t e = absurd (false≢true (ap not (sym t) ∙ lower))
     third false t e = absurd cc
+
     second : (c : Bool) → (leb 97 b && leb b 102) ≡ c → cond c (Some (b - 87)) (cond (leb 65 b && leb b 70) (Some (b - 55)) None) ≡ Some x → b ≡ cond (leb x 9) (48 + x) (87 + x)
     second true t e =
         let p = and_parts (leb 97 b) (leb b 102) t in
@@ -412,6 +423,7 @@ digit_is b x lower e = first (leb 48 b && leb b 57) refl e
         let is : b - 87 ≡ x = same_Some (b - 87) x e in
         rw (lt-leb x 9 (omega arith)) (omega arith)
     second false t e = third (leb 65 b && leb b 70) refl e
+
     first : (c : Bool) → (leb 48 b && leb b 57) ≡ c → cond c (Some (b - 48)) (cond (leb 97 b && leb b 102) (Some (b - 87)) (cond (leb 65 b && leb b 70) (Some (b - 55)) None)) ≡ Some x → b ≡ cond (leb x 9) (48 + x) (87 + x)
     first true t e =
         let p = and_parts (leb 48 b) (leb b 57) t in
@@ -449,7 +461,7 @@ hex_is (a ∷ b ∷ text) bytes lower e = by_parts (λ more l h. hex_is text mor
         let front : a ∷ b ∷ [] ≡ hex_pair x = pair_is a b x l.0 m.0 ea in
         let rest : text ≡ flat_map hex_pair more = again more m.1 eb in
         subst (λ (ys : List ℕ). a ∷ b ∷ text ≡ flat_map hex_pair ys) (same_Some (x ∷ more) bytes e)
-            (ap (λ (t : List ℕ). a ∷ b ∷ t) rest ∙ ap (λ (t : List ℕ). t ++ flat_map hex_pair more) front)
+        (ap (λ (t : List ℕ). a ∷ b ∷ t) rest ∙ ap (λ (t : List ℕ). t ++ flat_map hex_pair more) front)
     by_parts again (Some x) None ea eb e = absurd cc
     by_parts again None p ea eb e = absurd cc
 
@@ -469,6 +481,7 @@ printed_is (b ∷ text) bytes e = first (eqb b 39) refl e
             let same : ys ≡ bytes = same_Some ys bytes e in
             let er2 : hex_of text ≡ Some bytes = er ∙ e in
             (hex_is text bytes lower er2, hex_fits text bytes er2, ap are_plain (sym same) ∙ t)
+
     second : (c : Bool) → eqb b 120 ≡ c → cond c (cond (list_all is_lower text) (option_and_then (λ bytes. cond (are_plain bytes) None (Some bytes)) (hex_of text)) None) None ≡ Some bytes → (b ∷ text ≡ cond (are_plain bytes) (39 ∷ bytes) (120 ∷ flat_map hex_pair bytes)) × IsBytes bytes
     second true t e = by_lower (list_all is_lower text) refl e
       where
@@ -478,6 +491,7 @@ printed_is (b ∷ text) bytes e = first (eqb b 39) refl e
             (rw (h.2, eqb-true b 120 t) (ap (λ (x : List ℕ). 120 ∷ x) h.0), h.1)
         by_lower false l e = absurd cc
     second false t e = absurd cc
+
     first : (c : Bool) → eqb b 39 ≡ c → cond c (cond (are_plain text) (Some text) None) (cond (eqb b 120) (cond (list_all is_lower text) (option_and_then (λ bytes. cond (are_plain bytes) None (Some bytes)) (hex_of text)) None) None) ≡ Some bytes → (b ∷ text ≡ cond (are_plain bytes) (39 ∷ bytes) (120 ∷ flat_map hex_pair bytes)) × IsBytes bytes
     first true t e =
         let p = cond_some (are_plain text) text bytes e in

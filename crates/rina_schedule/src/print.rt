@@ -57,11 +57,7 @@ fn frame_at(text: &mut Text, wire: &[u8], frame: u32, at: u32) -> Result<(), Mem
 fn flag(text: &mut Text, word: &[u8], given: bool) -> Result<(), Memory>
     ensures { Adds result text.old text.new (spaced (flag_fields word.now given)) }
 {
-    if given {
-        text.field(word)
-    } else {
-        Ok(())
-    }
+    if given { text.field(word) } else { Ok(()) }
 }
 
 /// A word with a number behind it, left out where that is the default.
@@ -179,7 +175,9 @@ fn fields(text: &mut Text, event: &Event) -> Result<(), Memory>
             text.field(label.as_bytes())?;
             text.bytes_field(bytes.as_slice())
         }
-        Event::Read { label } | Event::State { label } | Event::Free { label } => text.field(label.as_bytes()),
+        Event::Read { label } | Event::State { label } | Event::Free { label } => text.field(
+            label.as_bytes(),
+        ),
         Event::Tick { count } => text.number_field(u64::from(*count)),
         Event::Lose { wire, frame } => {
             text.field(wire.as_bytes())?;
@@ -216,11 +214,8 @@ fn fields(text: &mut Text, event: &Event) -> Result<(), Memory>
             node.as_bytes(),
             *link,
         ),
-        Event::Member { dif, node } | Event::Clock { dif, node } | Event::Ledger { dif, node } => two(
-            text,
-            dif.as_bytes(),
-            node.as_bytes(),
-        ),
+        Event::Member { dif, node } | Event::Clock { dif, node } | Event::Ledger { dif, node } =>
+            two(text, dif.as_bytes(), node.as_bytes()),
         Event::Round => Ok(()),
         Event::Retire { policy } => text.field(policy.as_bytes()),
         Event::Cdap { dif, node, bytes } => {

@@ -70,7 +70,10 @@ fn other_spellings_are_printed_in_one(rt: HostRuntime) {
         (b"send p x68656c6C6f", b"send p 'hello"),
         (b"send p z3", b"send p x000000"),
         (b"send p z0", b"send p x"),
-        (b"alloc p d a x y within=4294967295 size=0", b"alloc p d a x y"),
+        (
+            b"alloc p d a x y within=4294967295 size=0",
+            b"alloc p d a x y",
+        ),
         (b"rib d a", b"rib d a"),
         (b"rib d a /", b"rib d a /"),
         (b"rib d a /dif/flow/1!2", b"rib d a /dif/flow/1!2"),
@@ -88,11 +91,26 @@ fn the_first_fault_from_the_left_is_told(rt: HostRuntime) {
         (b"register w b", LineError::MissingField { n: 3 }),
         (b"register W b", LineError::BadName { n: 1 }),
         (b"register w b echo x", LineError::Extra { n: 4 }),
-        (b"alloc p w a ping echo reliable ordered", LineError::Extra { n: 7 }),
-        (b"alloc p w a ping echo ordered ordered", LineError::Extra { n: 7 }),
-        (b"alloc p w a ping echo within=", LineError::BadNumber { n: 6 }),
-        (b"alloc p w a ping echo size=1 within=2", LineError::Extra { n: 7 }),
-        (b"alloc p w a ping echo ordered size=+1", LineError::BadNumber { n: 7 }),
+        (
+            b"alloc p w a ping echo reliable ordered",
+            LineError::Extra { n: 7 },
+        ),
+        (
+            b"alloc p w a ping echo ordered ordered",
+            LineError::Extra { n: 7 },
+        ),
+        (
+            b"alloc p w a ping echo within=",
+            LineError::BadNumber { n: 6 },
+        ),
+        (
+            b"alloc p w a ping echo size=1 within=2",
+            LineError::Extra { n: 7 },
+        ),
+        (
+            b"alloc p w a ping echo ordered size=+1",
+            LineError::BadNumber { n: 7 },
+        ),
         (b"send p '", LineError::BadBytes { n: 2 }),
         (b"send p x0", LineError::BadBytes { n: 2 }),
         (b"send p z65536", LineError::BadBytes { n: 2 }),
