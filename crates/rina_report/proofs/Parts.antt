@@ -1,23 +1,17 @@
 -- Values of several parts: what is printed of them is read, and what is read is printed so.
-use Rattle.std.proofs.Common.{◌≡◌, ℕ, ◌+◌, ◌-◌, ◌^◌, ◌<◌, ◌≤◌, Bool, true, false, not, cond, eqb, ltb, leb, ◌&&◌, List, [], ◌∷◌, ◌++◌, length, take, drop, get_or, position, Option, Some, None, Result, Ok, Err, refl, sym, ap, subst, ◌∙◌, append_assoc, arith}
+use Rattle.std.proofs.Common.{◌≡◌, ℕ, ◌+◌, ◌^◌, ◌<◌, ◌≤◌, Bool, true, false, not, eqb, List, [], ◌∷◌, ◌++◌, length, take, drop, get_or, position, Option, Some, None, refl, sym, ap, subst, ◌∙◌, append_assoc, arith}
 use Rattle.std.specs.List.{list_all, prefix_len}
 use Rattle.std.specs.Fmt.{decimal}
 use Rattle.std.specs.Option.{option_and_then, option_map}
-use Rattle.std.specs.Prelude.{IfOk, IfSome}
-use Rattle.std.proofs.lemmas.Bool.{and_parts, and_from, lt-ltb, le-ltb, eqb-true, eq-eqb, false≢true}
+use Rattle.std.proofs.lemmas.Bool.{and_parts, and_from, lt-ltb, eqb-true, eq-eqb, false≢true}
 use Rattle.std.proofs.lemmas.Option.{same_Some}
 use Rattle.std.proofs.lemmas.Fmt.{decimal_nonempty}
-use Rattle.std.proofs.lemmas.List.{append-nil, length-append, take_at, drop_at, take-append-drop, drop_more}
+use Rattle.std.proofs.lemmas.List.{length-append, take_at, take-append-drop, drop_more}
 use Rattle.std.proofs.Math.Seq.{drop-append-add}
 use Rattle.std.proofs.lemmas.List.Quantifiers.{position-Some}
-use Rattle.rina_base.specs.Names.{is_name_byte}
-use Rattle.rina_base.specs.declared.number.Num.{Num}
-use Rattle.rina_base.specs.declared.number.FlowName.{FlowName}
-use Rattle.rina_base.specs.declared.number.Key.{Key}
 use Rattle.rina_schedule.specs.Numbers.{is_digit}
 use Rattle.rina_schedule.proofs.Values.{decimal_digits}
-use Rattle.rina_report.specs.Fields.{numeral_of, parts_at, parts_of, max32, max64, pair_of, triple_of}
-use Rattle.rina_report.specs.Values.{num_text, flow_text, key_text}
+use Rattle.rina_report.specs.Fields.{numeral_of, parts_at, parts_of, max32, pair_of, triple_of}
 use Rattle.rina_report.proofs.Numerals.{numeral_back, numeral_is}
 
 abbrev pub is_without : ℕ → List ℕ → Bool

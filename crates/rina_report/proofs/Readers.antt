@@ -1,7 +1,6 @@
 -- Fields that are printed are read, and those that are read are printed so.
-use Rattle.std.proofs.Common.{◌≡◌, ℕ, ◌+◌, ◌^◌, ◌<◌, ◌≤◌, Bool, true, false, cond, ◌&&◌, List, [], ◌∷◌, ◌++◌, codes, length, Option, Some, None, Result, Ok, Err, refl, sym, ap, subst, ◌∙◌, append_assoc, arith}
+use Rattle.std.proofs.Common.{◌≡◌, ℕ, ◌+◌, ◌<◌, ◌≤◌, Bool, true, false, cond, List, [], ◌∷◌, ◌++◌, codes, length, Option, Some, None, Result, Ok, Err, refl, sym, ap, subst, ◌∙◌, append_assoc, arith}
 use Rattle.std.specs.Fmt.{decimal}
-use Rattle.std.specs.List.{list_all}
 use Rattle.std.specs.Str.{bytes_eq}
 use Rattle.std.specs.Prelude.{IfOk}
 use Rattle.std.proofs.lemmas.Fmt.{decimal_nonempty}
@@ -19,7 +18,7 @@ use Rattle.rina_base.specs.declared.pdu.PduKind.{PduKind}
 use Rattle.rina_base.specs.declared.pdu.PduKind.TheVariants.{Piece, Ack}
 use Rattle.rina_schedule.specs.declared.error.LineError.{LineError}
 use Rattle.rina_schedule.specs.declared.error.LineError.TheVariants as errors
-use Rattle.rina_schedule.specs.Gives.{or_bad, guard}
+use Rattle.rina_schedule.specs.Gives.{or_bad}
 use Rattle.rina_schedule.specs.Fields.{name_or_bad}
 use Rattle.rina_schedule.specs.Bytes.{printed_of}
 use Rattle.rina_schedule.specs.Objects.{is_object_name, object_name_of}
@@ -27,8 +26,8 @@ use Rattle.rina_schedule.specs.Spelling.{spelling}
 use Rattle.rina_schedule.specs.Ranges.{IsName, IsApp, IsBytes}
 use Rattle.rina_schedule.proofs.Values.{name_reads, app_reads, name_bytes, printed_back, printed_is}
 use Rattle.rina_report.specs.declared.state.PortNote.{PortNote}
-use Rattle.rina_report.specs.Fields.{numeral_of, parts_of, max32, max64, pair_of, triple_of, port_of, kind_of, truth_of, field_at, end_at, number_at, num_at, flow_at, key_at, port_at, truth_at, name_field_at, app_field_at, object_at, bytes_at, word_at, last_number_at, last_two_at, last_num_at, last_port_at, last_truth_at, last_bytes_at}
-use Rattle.rina_report.specs.Values.{num_text, flow_text, port_text, kind_word, key_text, key_fields, truth_text}
+use Rattle.rina_report.specs.Fields.{numeral_of, parts_of, max32, max64, pair_of, triple_of, port_of, kind_of, truth_of, end_at, number_at, num_at, flow_at, key_at, port_at, truth_at, name_field_at, app_field_at, object_at, bytes_at, last_number_at, last_two_at, last_num_at, last_port_at, last_truth_at, last_bytes_at}
+use Rattle.rina_report.specs.Values.{num_text, flow_text, port_text, kind_word, key_text, truth_text}
 use Rattle.rina_report.specs.Ranges.{IsNum, IsFlowName, IsKey, IsPort}
 use Rattle.rina_report.proofs.Numerals.{numeral_back, numeral_is}
 use Rattle.rina_report.proofs.Parts.{is_without, without, parts_back, parts_are, pair_back, pair_is, triple_back, triple_is}

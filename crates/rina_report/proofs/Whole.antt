@@ -1,5 +1,5 @@
 -- A text is read as a note exactly where it is the text of that note.
-use Rattle.std.proofs.Common.{◌≡◌, List, ℕ, ◌∷◌, Result, Ok, sym, ap, ◌∙◌}
+use Rattle.std.proofs.Common.{◌≡◌, List, ℕ, Result, Ok, sym, ap, ◌∙◌}
 use Rattle.rina_schedule.specs.declared.error.LineError.{LineError}
 use Rattle.rina_report.specs.declared.note.Note.{Note}
 use Rattle.rina_report.specs.declared.note.Note.TheVariants as notes

@@ -1,5 +1,5 @@
 -- The ranges of the values of a note: each number fits its type, and each name is one.
-use Rattle.std.specs.Prelude.{ℕ, ◌≡◌, ◌≤◌, List, Option, Some, None, true}
+use Rattle.std.specs.Prelude.{◌≡◌, ◌≤◌, Option, Some, None, true}
 use Rattle.rina_base.specs.declared.number.Num.{Num}
 use Rattle.rina_base.specs.declared.number.FlowName.{FlowName}
 use Rattle.rina_base.specs.declared.number.Key.{Key}
