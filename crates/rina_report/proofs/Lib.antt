@@ -1,1 +1,10 @@
+pub mod Branches
+pub mod Clear
+pub mod Numerals
+pub mod Parts
+pub mod Printed
+pub mod Readers
+pub mod Spelled
 pub mod Split
+pub mod Told
+pub mod Whole

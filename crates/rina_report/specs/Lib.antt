@@ -1,6 +1,7 @@
 pub mod Causes
 pub mod Fields
 pub mod Notes
+pub mod Ranges
 pub mod ReadCauses
 pub mod ReadNotes
 pub mod ReadRefusals

@@ -2,6 +2,7 @@
 #![tactic(auto)]
 
 mod cause;
+mod laws;
 mod note;
 mod print;
 mod read;
@@ -13,6 +14,7 @@ mod step;
 mod tests;
 
 pub use cause::CauseNote;
+pub use laws::{what_is_printed_is_read, what_is_read_is_printed};
 pub use note::{Fault, Note, Notes};
 pub use print::{add_line, print_note};
 pub use read::read_note;

@@ -1,11 +1,10 @@
 -- A field that is printed behind a space is the next field of a line.
-use Rattle.std.proofs.Common.{◌≡◌, ℕ, ◌+◌, ◌-◌, ◌*◌, ◌/◌, ◌%◌, ◌^◌, ◌<◌, ◌≤◌, Bool, true, false, not, cond, eqb, ltb, leb, ◌&&◌, ◌||◌, List, [], ◌∷◌, ◌++◌, length, take, drop, position, Option, Some, None, Result, Ok, Err, inl, inr, refl, sym, ap, subst, ◌∙◌, append_assoc, arith}
-use Rattle.std.specs.List.{list_all, prefix_len, flat_map}
-use Rattle.std.specs.Fmt.{decimal}
-use Rattle.std.proofs.lemmas.Bool.{and_parts, and_from, not_from_false, lt-ltb, le-ltb, ne_eqb, eqb-true, cases_Bool}
+use Rattle.std.proofs.Common.{◌≡◌, ℕ, ◌<◌, Bool, true, not, eqb, List, [], ◌∷◌, ◌++◌, length, position, Some, None, refl, ap, arith}
+use Rattle.std.specs.List.{list_all, prefix_len}
+use Rattle.std.proofs.lemmas.Bool.{and_parts, lt-ltb, le-ltb, ne_eqb}
 use Rattle.std.proofs.lemmas.List.{append-nil, length-append, take_at, drop_at}
 use Rattle.rina_schedule.specs.Spelling.{spaced}
-use Rattle.rina_schedule.specs.Fields.{from_place, without_blanks, cut_at, next_of}
+use Rattle.rina_schedule.specs.Fields.{without_blanks, cut_at, next_of}
 
 -- no space stands among these bytes
 abbrev pub is_clear : List ℕ → Bool

@@ -1,10 +1,8 @@
 -- What is read has its fields in their ranges.
-use Rattle.std.proofs.Common.{◌≡◌, ℕ, ◌+◌, ◌-◌, ◌^◌, ◌<◌, ◌≤◌, Bool, true, false, cond, eqb, leb, ◌&&◌, List, codes, slice_index, Option, Some, None, Result, Ok, Err, refl, sym, ap, subst, ◌∙◌, arith}
+use Rattle.std.proofs.Common.{◌≡◌, ℕ, ◌+◌, Bool, true, false, cond, eqb, leb, ◌&&◌, List, slice_index, Option, Some, None, Result, Ok, Err, refl, subst, arith}
 use Rattle.std.specs.Prelude.{IfOk, IfSome}
-use Rattle.std.specs.Str.{bytes_eq}
 use Rattle.std.proofs.lemmas.Bool.{and_parts, leb-true}
 use Rattle.std.proofs.lemmas.Result.{IfOk-at_ok}
-use Rattle.std.proofs.lemmas.Option.{same_Some}
 use Rattle.rina_base.specs.declared.name.NameError.{NameError}
 use Rattle.rina_base.specs.Names.{name_at, app_at}
 use Rattle.rina_base.specs.Traverse.{◌>>=◌}
@@ -16,7 +14,7 @@ use Rattle.rina_schedule.specs.Gives.{or_bad, guard}
 use Rattle.rina_schedule.specs.Numbers.{number_of}
 use Rattle.rina_schedule.specs.Bytes.{bytes_of}
 use Rattle.rina_schedule.specs.Objects.{is_object_name, object_name_of}
-use Rattle.rina_schedule.specs.Fields.{next_of, field_at, number_at, name_or_bad, name_field_at, app_field_at, bytes_at, path_or_none, path_at, end_at, flag_at, behind, value_or_default, setting_or_none, setting_at}
+use Rattle.rina_schedule.specs.Fields.{next_of, field_at, number_at, name_or_bad, name_field_at, app_field_at, bytes_at, path_or_none, path_at, end_at, behind, value_or_default, setting_or_none, setting_at}
 use Rattle.rina_schedule.specs.FlowWords.{register_at, unregister_at, want_at, alloc_at, accept_at, send_at, read_at, state_at, free_at}
 use Rattle.rina_schedule.specs.WireWords.{lose_at, repeat_at, hold_at, cut_at, mend_at, tick_at, round_at, retire_at, journal_at}
 use Rattle.rina_schedule.specs.DifWords.{publish_at, enrol_at, member_at, in_at, out_at, clock_at, cdap_at, rib_at, ledger_at}

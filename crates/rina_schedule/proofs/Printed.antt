@@ -1,23 +1,21 @@
 -- What is printed of an event is read back as it was.
-use Rattle.std.proofs.Common.{◌≡◌, ℕ, ◌+◌, ◌-◌, ◌^◌, ◌<◌, ◌≤◌, Bool, true, false, not, cond, eqb, ltb, leb, ◌&&◌, List, [], ◌∷◌, ◌++◌, codes, length, take, drop, slice_index, Option, Some, None, Result, Ok, Err, refl, sym, ap, ◌∙◌, append_assoc, arith}
+use Rattle.std.proofs.Common.{◌≡◌, ℕ, ◌+◌, ◌-◌, ◌^◌, ◌≤◌, Bool, true, false, not, cond, eqb, ltb, ◌&&◌, List, [], ◌∷◌, ◌++◌, codes, length, take, slice_index, Option, Some, None, Result, Ok, refl, sym, ap, ◌∙◌, arith}
 use Rattle.std.specs.Fmt.{decimal}
 use Rattle.std.specs.Str.{bytes_eq}
-use Rattle.std.specs.List.{list_all}
 use Rattle.std.proofs.lemmas.Bool.{and_parts, and_from, eqb-true, le-leb, ltb-true}
 use Rattle.std.proofs.lemmas.List.{append-nil, take_at, drop_at, length-append}
 use Rattle.std.proofs.lemmas.List.Folds.{list_all-append}
-use Rattle.rina_base.specs.Traverse.{◌>>=◌}
 use Rattle.rina_cube.specs.declared.Want.{Want}
 use Rattle.rina_schedule.specs.declared.error.LineError.{LineError}
 use Rattle.rina_schedule.specs.declared.event.Event.{Event}
 use Rattle.rina_schedule.specs.declared.event.Event.TheVariants as events
 use Rattle.rina_schedule.specs.Spelling.{spelling, spaced}
-use Rattle.rina_schedule.specs.Fields.{next_of, field_at, number_at, name_field_at, app_field_at, bytes_at, path_at, end_at, flag_at, behind, setting_at}
+use Rattle.rina_schedule.specs.Fields.{field_at, number_at, name_field_at, app_field_at, bytes_at, path_at, end_at, flag_at, behind, setting_at}
 use Rattle.rina_schedule.specs.FlowWords.{register_at, unregister_at, want_at, alloc_at, accept_at, send_at, read_at, state_at, free_at}
 use Rattle.rina_schedule.specs.WireWords.{lose_at, repeat_at, hold_at, cut_at, mend_at, tick_at, round_at, retire_at, journal_at}
 use Rattle.rina_schedule.specs.DifWords.{publish_at, enrol_at, member_at, in_at, out_at, clock_at, cdap_at, rib_at, ledger_at}
 use Rattle.rina_schedule.specs.Line.{step_word_at, dif_word_at, wire_word_at, word_at, line_at}
-use Rattle.rina_schedule.specs.Objects.{is_object_name, object_name_of}
+use Rattle.rina_schedule.specs.Objects.{object_name_of}
 use Rattle.rina_schedule.specs.Printed.{flag_fields, setting_fields, want_fields, path_fields, event_word, event_fields, line_text}
 use Rattle.rina_schedule.specs.Ranges.{IsName, IsApp, IsNumber, IsBytes, IsPath, IsWant, IsEvent}
 use Rattle.rina_schedule.proofs.Fields.{is_clear, IsField, next_word, next_spaced, next_none}

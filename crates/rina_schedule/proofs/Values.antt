@@ -1,10 +1,10 @@
 -- Names, numbers and bytes are fields, and each is read as it was printed.
-use Rattle.std.proofs.Common.{◌≡◌, ℕ, ◌+◌, ◌-◌, ◌*◌, ◌/◌, ◌%◌, ◌^◌, ◌<◌, ◌≤◌, Bool, true, false, not, cond, eqb, ltb, leb, ◌&&◌, ◌||◌, List, [], ◌∷◌, ◌++◌, length, take, drop, position, get_or, zero, suc, replicate, Option, Some, None, Result, Ok, Err, inl, inr, refl, sym, ap, subst, ◌∙◌, append_assoc, arith}
+use Rattle.std.proofs.Common.{◌≡◌, ℕ, ◌+◌, ◌-◌, ◌*◌, ◌/◌, ◌%◌, ◌^◌, ◌<◌, ◌≤◌, Bool, true, false, not, cond, eqb, ltb, leb, ◌&&◌, ◌||◌, List, [], ◌∷◌, ◌++◌, length, take, drop, position, get_or, zero, suc, replicate, Option, Some, None, Result, Ok, Err, refl, sym, ap, subst, ◌∙◌, append_assoc, arith}
 use Rattle.std.specs.List.{list_all, prefix_len, flat_map}
 use Rattle.std.specs.Option.{option_and_then, option_map}
 use Rattle.std.specs.Fmt.{decimal}
-use Rattle.std.proofs.lemmas.Bool.{ltb-true, ltb-false, ne_eqb, and_parts, and_from, not_from_false, lt-ltb, le-ltb, le-leb, lt-leb, leb-true, leb-false, eqb-true, cases_Bool, false≢true}
-use Rattle.std.proofs.lemmas.List.{drop_more, append-nil, length-append, take_at, drop_at, take-append-drop}
+use Rattle.std.proofs.lemmas.Bool.{ltb-true, ltb-false, ne_eqb, and_parts, and_from, lt-ltb, le-leb, lt-leb, leb-true, leb-false, eqb-true, false≢true}
+use Rattle.std.proofs.lemmas.List.{drop_more, append-nil, length-append, take-append-drop}
 use Rattle.std.proofs.lemmas.List.Folds.{list_all-append}
 use Rattle.std.proofs.lemmas.Fmt.{decimal_by_steps}
 use Rattle.std.proofs.lemmas.List.Quantifiers.{position-Some}
@@ -94,6 +94,14 @@ name_reads text x e =
   where
     same : (a b : List ℕ) → ◌≡◌ {A = Result (List ℕ) NameError} (Ok a) (Ok b) → a ≡ b
     same a b e = cc
+
+-- the bytes of a name
+pub name_bytes : (text x : List ℕ) → name_at text ≡ Ok x → list_all is_name_byte text ≡ true
+unfolding name_at
+name_bytes text x e =
+    let a = step_ok (length_at text) (λ _. bytes_at 0 text >>= λ _. Ok text) x e in
+    let b = step_ok (bytes_at 0 text) (λ _. Ok text) x a.2 in
+    bytes_part 0 text b.0 b.1
 
 pub IsField-name : (x : List ℕ) → IsName x → IsField x
 IsField-name x h = (name_reads x x h).1

@@ -53,7 +53,12 @@ fn bare(word: &[u8]) -> Option<Refusal>
 }
 
 #[tactic(auto, unfolding(crate::specs::ReadRefusals::state_or_none_of))]
-fn state_or_none_of(alloc: Global, word: &[u8], n: u32, rest: &[u8]) -> Result<Option<StateNote>, LineError>
+fn state_or_none_of(
+    alloc: Global,
+    word: &[u8],
+    n: u32,
+    rest: &[u8],
+) -> Result<Option<StateNote>, LineError>
     requires { n < 500 }
     ensures { Gives (λ x. x) result (state_or_none_of word.now n (behind rest.now)) }
 {
@@ -174,7 +179,7 @@ fn counted(alloc: Global, word: &[u8], n: u32, rest: &[u8]) -> Result<Refusal, L
 
 #[tactic(auto, unfolding(crate::specs::ReadRefusals::refusal_of))]
 fn refusal_of(alloc: Global, word: &[u8], n: u32, rest: &[u8]) -> Result<Refusal, LineError>
-    requires { n < 500 }
+    requires { n < 400 }
     ensures { Gives (λ x. x) result (refusal_of word.now n (behind rest.now)) }
 {
     match bare(word) {

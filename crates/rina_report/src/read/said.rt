@@ -57,16 +57,24 @@ fn ok_state(alloc: Global, word: &[u8], n: u32, rest: &[u8]) -> Result<Said, Lin
 {
     if is(word, b"outside") {
         end(n + 1, rest)?;
-        Ok(Said::Member { state: MemberNote::Outside })
+        Ok(Said::Member {
+            state: MemberNote::Outside,
+        })
     } else if is(word, b"joining") {
         let link = last_number(n + 1, rest)?;
-        Ok(Said::Member { state: MemberNote::Joining { link } })
+        Ok(Said::Member {
+            state: MemberNote::Joining { link },
+        })
     } else if is(word, b"enrolled") {
         end(n + 1, rest)?;
-        Ok(Said::Member { state: MemberNote::Enrolled })
+        Ok(Said::Member {
+            state: MemberNote::Enrolled,
+        })
     } else if is(word, b"denied") {
         let rule = last_number(n + 1, rest)?;
-        Ok(Said::Member { state: MemberNote::Denied { rule } })
+        Ok(Said::Member {
+            state: MemberNote::Denied { rule },
+        })
     } else {
         let state = state_of(alloc, word, n, rest)?;
         Ok(Said::Port { state })

@@ -17,11 +17,7 @@ fn parts(byte: u8, text: &[u8]) -> (&[u8], &[u8])
     ensures { (result.0.now, result.1.now) ≡ parts_of byte text.now }
 {
     match place_of(byte, text) {
-        Some(at) => {
-            let (first, rest) = text.split_at(at);
-            let (_separator, second) = rest.split_at(1);
-            (first, second)
-        }
+        Some(at) => (&text[..at], &text[at + 1..]),
         None => (text, &[]),
     }
 }
@@ -146,7 +142,11 @@ fn port_of(alloc: Global, n: u32, text: &[u8]) -> Result<PortNote, LineError>
 
 /// Field `n`, which is FAC/NODE/N.
 #[tactic(auto, unfolding(crate::specs::Fields::port_at))]
-pub(crate) fn port<'a>(alloc: Global, n: u32, rest: &'a [u8]) -> Result<(PortNote, &'a [u8]), LineError>
+pub(crate) fn port<'a>(
+    alloc: Global,
+    n: u32,
+    rest: &'a [u8],
+) -> Result<(PortNote, &'a [u8]), LineError>
     ensures { Gives (λ x. (x.0, behind x.1.now)) result (port_at n (behind rest.now)) }
 {
     let (text, rest) = field(n, rest)?;
@@ -191,7 +191,11 @@ pub(crate) fn name<'a>(alloc: Global, n: u32, rest: &'a [u8]) -> Result<(Name, &
 
 /// Field `n`, which is the name of an application.
 #[tactic(auto, unfolding(crate::specs::Fields::app_field_at))]
-pub(crate) fn app<'a>(alloc: Global, n: u32, rest: &'a [u8]) -> Result<(AppName, &'a [u8]), LineError>
+pub(crate) fn app<'a>(
+    alloc: Global,
+    n: u32,
+    rest: &'a [u8],
+) -> Result<(AppName, &'a [u8]), LineError>
     ensures { Gives (λ x. (x.0, behind x.1.now)) result (app_field_at n (behind rest.now)) }
 {
     let (text, rest) = field(n, rest)?;
@@ -204,7 +208,11 @@ pub(crate) fn app<'a>(alloc: Global, n: u32, rest: &'a [u8]) -> Result<(AppName,
 
 /// Field `n`, which is the name of an object.
 #[tactic(auto, unfolding(crate::specs::Fields::object_at))]
-pub(crate) fn object<'a>(alloc: Global, n: u32, rest: &'a [u8]) -> Result<(ObjectName, &'a [u8]), LineError>
+pub(crate) fn object<'a>(
+    alloc: Global,
+    n: u32,
+    rest: &'a [u8],
+) -> Result<(ObjectName, &'a [u8]), LineError>
     ensures { Gives (λ x. (x.0, behind x.1.now)) result (object_at n (behind rest.now)) }
 {
     let (text, rest) = field(n, rest)?;
@@ -217,7 +225,11 @@ pub(crate) fn object<'a>(alloc: Global, n: u32, rest: &'a [u8]) -> Result<(Objec
 
 /// Field `n`, which spells bytes as they are printed.
 #[tactic(auto, unfolding(crate::specs::Fields::bytes_at))]
-pub(crate) fn bytes<'a>(alloc: Global, n: u32, rest: &'a [u8]) -> Result<(Bytes, &'a [u8]), LineError>
+pub(crate) fn bytes<'a>(
+    alloc: Global,
+    n: u32,
+    rest: &'a [u8],
+) -> Result<(Bytes, &'a [u8]), LineError>
     ensures { Gives (λ x. (x.0, behind x.1.now)) result (bytes_at n (behind rest.now)) }
 {
     let (text, rest) = field(n, rest)?;
