@@ -1,7 +1,6 @@
 //! The directory: at which address an application is registered.
 #![tactic(auto)]
 
-mod address;
 mod key;
 mod law;
 mod lookup;

@@ -2,10 +2,9 @@
 ghost use Rattle.std.specs.Prelude.{◌≡◌};
 ghost use Rattle.rina_dir.specs.Directory.{found, AreEntries};
 
-use crate::address::address_of;
 use crate::key::{LONGEST, write_key};
 use rina_base::{Addr, AppName};
-use rina_newest::Newest;
+use rina_newest::{Newest, address_of};
 
 /// The address in the newest entry of an application, where that is live; None exactly where there
 /// is none. Takes no memory.
@@ -44,16 +43,6 @@ mod tests {
         let len = write_key(b"dif/node", &mut key);
         assert_eq!(rt; len, 13);
         assert_eq!(rt; &key[..13], b"/dir/dif!node".as_slice());
-        Ok(())
-    }
-
-    #[test]
-    fn addresses_are_decimal(rt: HostRuntime) -> Result<(), Fail> {
-        assert_eq!(rt; address_of(b"7"), Some(7));
-        assert_eq!(rt; address_of(b"4294967295"), Some(4_294_967_295));
-        assert_eq!(rt; address_of(b"4294967296"), None);
-        assert_eq!(rt; address_of(b""), None);
-        assert_eq!(rt; address_of(b"1a"), None);
         Ok(())
     }
 }

@@ -135,8 +135,8 @@ module _ (edges : List Edge) (start nodes at : ℕ) (r : Reach) (reached : Nodes
     small = small_after;
   }
 
-  pub is_small : r.weight ≤ 64 * 65535 ⊎ (64 < nodes)
-  is_small = ⊎_elim (λ lt. inr lt) (λ le. inl (omega (arith, s.small at r open_at.1, le))) (cases_lt 64 nodes)
+  pub is_small : r.weight ≤ 65536 * 65535 ⊎ (65536 < nodes)
+  is_small = ⊎_elim (λ lt. inr lt) (λ le. inl (omega (arith, s.small at r open_at.1, le))) (cases_lt 65536 nodes)
 
 same_reach : (r : Reach) (w : ℕ) (f : Option ℕ) → r.weight ≡ w → r.first ≡ f → r ≡ record { weight = w; first = f }
 same_reach r w f hw hf = λ i. record { weight = hw i; first = hf i }

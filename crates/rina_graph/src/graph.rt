@@ -15,7 +15,7 @@ pub struct Edge {
     pub weight: u16,
 }
 
-/// At most 64 nodes, numbered from 0, and edges between them. A contract sees the number of nodes
+/// At most 65,536 nodes, numbered from 0, and edges between them. A contract sees the number of nodes
 /// and the list of edges.
 #[derive(Drop)]
 pub struct Graph {
@@ -32,13 +32,13 @@ impl Model for Graph {
 
     ghost view = { λ g. (g.nodes, g.edges) };
 
-    ghost invariant = { λ g. (g.nodes ≤ 64) × AreEdges g.nodes g.edges };
+    ghost invariant = { λ g. (g.nodes ≤ 65536) × AreEdges g.nodes g.edges };
 }
 
 impl Graph {
     /// A graph without edges.
     pub fn new(alloc: Global, nodes: u32) -> Result<Graph, Memory>
-        requires { nodes ≤ 64 }
+        requires { nodes ≤ 65536 }
         ensures { IfOk result (λ g. g ≡ (nodes, [])) }
     {
         Ok(Graph {
@@ -66,7 +66,7 @@ impl Graph {
     /// How many nodes there are.
     pub fn nodes(&self) -> u32
         ensures nodes { result ≡ self.now.0 }
-        ensures few { result ≤ 64 }
+        ensures few { result ≤ 65536 }
     {
         self.nodes
     }

@@ -21,7 +21,7 @@ fn is_better(one: Reach, other: Reach) -> bool
 
 /// How an edge reaches its end.
 fn over(reach: Reach, edge: Edge) -> Reach
-    requires { reach.weight ≤ 64 * 65535 }
+    requires { reach.weight ≤ 65536 * 65535 }
     ensures { result ≡ over reach edge }
 {
     Reach {
@@ -33,7 +33,7 @@ fn over(reach: Reach, edge: Edge) -> Reach
 /// Follows an edge from a node that is reached so.
 fn follow(reached: &mut [Option<Reach>], reach: Reach, edge: Edge)
     requires inside { edge.to < length reached.old }
-    requires small { reach.weight ≤ 64 * 65535 }
+    requires small { reach.weight ≤ 65536 * 65535 }
     ensures { reached.new ≡ followed reached.old reach edge }
 {
     let at = edge.to as usize;
@@ -48,7 +48,7 @@ fn follow(reached: &mut [Option<Reach>], reach: Reach, edge: Edge)
 /// Follows all edges from one node.
 fn follow_all(edges: &[Edge], node: u32, reach: Reach, reached: &mut [Option<Reach>])
     requires inside { AreEdges (length reached.old) edges.now }
-    requires small { reach.weight ≤ 64 * 65535 }
+    requires small { reach.weight ≤ 65536 * 65535 }
     ensures { reached.new ≡ followed_all node reach edges.now reached.old }
 {
     for edge in edges {
@@ -80,7 +80,7 @@ fn nearest(reached: &[Option<Reach>], settled: &[bool]) -> Option<(usize, Reach)
 /// Settles the nearest node, until none is left that is reached and not settled.
 fn settle_all(edges: &[Edge], start: u32, reached: &mut [Option<Reach>], settled: &mut [bool])
     requires sound { AreEdges (length reached.old) edges.now }
-    requires few { length reached.old ≤ 64 }
+    requires few { length reached.old ≤ 65536 }
     requires inside { start < length reached.old }
     requires marked { length settled.old ≡ length reached.old }
     requires none { (node : ℕ) → reach_at reached.old node ≡ None }

@@ -1,3 +1,4 @@
+mod Digits
 mod Index
 mod Places
 mod Put

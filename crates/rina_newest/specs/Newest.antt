@@ -1,7 +1,7 @@
 -- The newest item of each key, in the order of their last changes.
-use Rattle.std.specs.Prelude.{◌≡◌, ℕ, ◌<◌, Bool, true, false, not, ◌&&◌, ◌||◌, ◌==◌, nat_lt, List, [], ◌∷◌, ◌++◌, Option, Some, None, option_and_then, filter, find, Contains, MatchOption, if◌then◌else◌}
+use Rattle.std.specs.Prelude.{◌≡◌, ℕ, ◌<◌, Bool, true, false, nat_eq, not, ◌&&◌, ◌||◌, ◌==◌, nat_lt, List, [], ◌∷◌, ◌++◌, Option, Some, None, option_and_then, filter, find, Contains, MatchOption, if◌then◌else◌}
 use Rattle.std.specs.Str.{bytes_eq}
-use Rattle.std.specs.List.{AllByRecursion}
+use Rattle.std.specs.List.{AllByRecursion, starts_with}
 use Rattle.std.specs.Map.{lookup}
 use Rattle.std.specs.Ordering.{nat_cmp}
 use Rattle.std.specs.BTreeMap.{is_at}
@@ -26,6 +26,10 @@ kept_at items key = find (has_key key) items
 -- the value that is kept under a key; none where nothing is kept or the item is a deletion
 abbrev pub value_at : List Item → List ℕ → Option (List ℕ)
 value_at items key = option_and_then (λ (item : Item). item.value) (kept_at items key)
+
+-- the items whose keys begin with a text
+abbrev pub items_under : List ℕ → List Item → List Item
+items_under text items = filter (λ item. starts_with nat_eq item.key text) items
 
 -- a version is newer than that of an item, if there is one
 abbrev pub is_newer : Version → Option Item → Bool

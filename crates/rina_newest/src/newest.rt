@@ -1,9 +1,9 @@
 //! The newest items.
-ghost use Rattle.std.specs.Prelude.{◌≡◌, ◌+◌, [], ◌∷◌, ◌++◌, IfOk, OnOk, OnErr, option_copied, drop};
+ghost use Rattle.std.specs.Prelude.{◌≡◌, ◌+◌, [], ◌∷◌, ◌++◌, IfOk, OnOk, OnErr, option_copied, drop, map};
 ghost use Rattle.std.specs.BTreeMap.{get_by, values};
 ghost use Rattle.std.specs.Ordering.{nat_cmp};
 ghost use Rattle.std.specs.Cmp.Lexicographic.{slice_cmp};
-ghost use Rattle.rina_newest.specs.Newest.{IsIndexed, kept_at, value_at, is_newer, without, taken, item_of};
+ghost use Rattle.rina_newest.specs.Newest.{IsIndexed, kept_at, value_at, is_newer, without, taken, item_of, items_under};
 
 use crate::item::{Item, Version};
 use rina_base::{Memory, Seq};
@@ -157,6 +157,21 @@ impl Newest {
         }
         Ok(items)
     }
+
+    /// The kept items whose keys begin with a text, in the order of their last changes.
+    pub fn under(&self, alloc: Global, text: &[u8]) -> Result<Vec<&Item>, Memory>
+        ensures { IfOk result (λ found. map (λ item. item.now) found.items ≡ items_under text.now self.now) }
+    {
+        let mut found = Vec::new(alloc);
+        for item in self.items.values() {
+            if item.key.as_slice().starts_with(text) {
+                if found.push(item).is_err() {
+                    return Err(Memory);
+                }
+            }
+        }
+        Ok(found)
+    }
 }
 
 #[cfg(test)]
@@ -206,6 +221,7 @@ mod tests {
         let last = newest.since(alloc, 2)?;
         assert_eq!(rt; last.len(), 1);
         assert_eq!(rt; newest.since(alloc, 3)?.len(), 0);
+        assert_eq!(rt; newest.under(alloc, b"/a")?.len(), 1);
         crate::newest_of_all_takes();
         Ok(())
     }

@@ -2,7 +2,7 @@
 use Rattle.std.proofs.Common.{◌≡◌, ℕ, ◌+◌, ◌*◌, ◌<◌, ◌≤◌, List, [], ◌∷◌, length, drop, get_or, Option, Some, None, option_and_then, refl, sym, ◌∙◌, arith}
 use Rattle.std.proofs.lemmas.List.{drop_more, drop_all}
 use Rattle.std.proofs.lemmas.Grind.{common_steps}
-use Rattle.rina_dir.specs.Directory.{digit_at, in_range, with_digit, number_from, address_at}
+use Rattle.rina_newest.specs.Decimal.{digit_at, in_range, with_digit, number_from, address_at}
 
 -- a text that is not empty is a number from 0
 pub is_number : (text : List ℕ) → (length text ≡ 0 → ⊥) → address_at text ≡ number_from 0 text

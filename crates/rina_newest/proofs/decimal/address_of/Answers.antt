@@ -1,9 +1,9 @@
 -- One digit more, or none.
 use Rattle.std.proofs.Common.{◌≡◌, length, sym, ◌∙◌, arith}
 use Rattle.std.proofs.lemmas.Grind.{common_steps}
-use Rattle.rina_dir.specs.Directory.{number_from}
-use Rattle.rina_dir.proofs.Digits.{is_number, digit_more, digit_none, all_digits, with_small}
-use Rattle.rina_dir.proofs.address.address_of.Goals as goal
+use Rattle.rina_newest.specs.Decimal.{number_from}
+use Rattle.rina_newest.proofs.Digits.{is_number, digit_more, digit_none, all_digits, with_small}
+use Rattle.rina_newest.proofs.decimal.address_of.Goals as goal
 
 pub returns-in_err-number : goal.returns-in_err-number
 returns-in_err-number c =

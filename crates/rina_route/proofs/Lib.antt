@@ -1,0 +1,7 @@
+mod Hops
+mod Least
+mod Lists
+mod Numbers
+mod Rows
+mod Texts
+mod Walks

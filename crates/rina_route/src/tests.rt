@@ -1,0 +1,75 @@
+//! A few topologies, with their next hops worked out by hand.
+use super::*;
+use rina_newest::{Newest, Version};
+use std::alloc::Global;
+use std::test::Fail;
+
+fn link(number: u16, peer: u32, weight: u16) -> Link {
+    Link {
+        number,
+        peer,
+        weight,
+    }
+}
+
+/// Link states of the members 1, 2, and so on.
+fn states(alloc: Global, texts: &[(&[u8], &[u8])]) -> Result<Newest, Fail> {
+    let mut newest = Newest::new(alloc);
+    for (key, text) in texts {
+        let version = Version {
+            tick: 0,
+            count: 0,
+            origin: 0,
+        };
+        let _ = newest.take(alloc, key, version, Some(text))?;
+    }
+    Ok(newest)
+}
+
+#[test]
+fn a_ring_of_four_with_parallel_links(rt: HostRuntime) -> Result<(), Fail> {
+    let alloc = rt.alloc();
+    let ring = states(
+        alloc,
+        &[
+            (b"/link/1", b"2:1,2:1,4:1"),
+            (b"/link/2", b"1:1,1:1,3:1"),
+            (b"/link/3", b"2:1,4:1"),
+            (b"/link/4", b"1:1,3:1"),
+        ],
+    )?;
+    let links = [link(0, 4, 1), link(1, 2, 1), link(2, 2, 1)];
+    let mut routes = Routes::new(alloc);
+    assert_eq!(rt; routes.next_hop(2), None);
+    routes.rebuild(alloc, 1, &links, &ring)?;
+    assert_eq!(rt; routes.next_hop(1), None);
+    assert_eq!(rt; routes.next_hop(2), Some(1));
+    assert_eq!(rt; routes.next_hop(3), Some(1));
+    assert_eq!(rt; routes.next_hop(4), Some(0));
+    assert_eq!(rt; routes.next_hop(5), None);
+    Ok(())
+}
+
+#[test]
+fn a_line_of_four_and_one_apart(rt: HostRuntime) -> Result<(), Fail> {
+    let alloc = rt.alloc();
+    let line = states(
+        alloc,
+        &[
+            (b"/link/7", b"9:5"),
+            (b"/link/9", b"7:5,8:1"),
+            (b"/link/8", b"9:1,70:2"),
+            (b"/link/70", b"8:2"),
+            (b"/link/6", b""),
+        ],
+    )?;
+    let mut routes = Routes::new(alloc);
+    routes.rebuild(alloc, 9, &[link(3, 7, 5), link(4, 8, 1)], &line)?;
+    assert_eq!(rt; routes.next_hop(7), Some(3));
+    assert_eq!(rt; routes.next_hop(70), Some(4));
+    assert_eq!(rt; routes.next_hop(6), None);
+    routes.rebuild(alloc, 9, &[link(3, 7, 5)], &line)?;
+    assert_eq!(rt; routes.next_hop(7), Some(3));
+    assert_eq!(rt; routes.next_hop(70), None);
+    Ok(())
+}
