@@ -1,0 +1,4 @@
+pub mod Messages
+pub mod ObjectNames
+pub mod Reading
+pub mod Writing
