@@ -1,4 +1,9 @@
 //! Messages.
+ghost use Rattle.std.specs.Prelude.{◌≡◌};
+ghost use Rattle.rina_cdap.specs.Messages.{is_response};
+ghost use Rattle.rina_cdap.specs.Plain.{plain};
+
+use crate::form::is_answer;
 use rina_base::{Addr, AppName, Bytes, Name};
 
 /// The numbers of the requests. The number of each request plus one is that of its response.
@@ -45,4 +50,33 @@ pub struct Message {
     pub destination_name: Option<AppName>,
     pub destination_address: Option<Addr>,
     pub source_address: Option<Addr>,
+}
+
+impl Message {
+    /// A message without any other field.
+    pub fn new(operation: u8, invoke: u32) -> Message
+        ensures { result ≡ plain operation invoke }
+    {
+        Message {
+            operation,
+            invoke,
+            class: None,
+            name: None,
+            instance: None,
+            value: None,
+            result: None,
+            reason: None,
+            source_name: None,
+            destination_name: None,
+            destination_address: None,
+            source_address: None,
+        }
+    }
+
+    /// Whether it is a response.
+    pub fn is_response(&self) -> bool
+        ensures { result ≡ is_response self.now.operation }
+    {
+        is_answer(self.operation)
+    }
 }

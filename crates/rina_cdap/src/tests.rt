@@ -15,23 +15,6 @@ const RESPONSE: [u8; 46] = [
     0x75, 0x73, 0x65, 0x72, 5, 0, 8, 0, 0, 0, 0, 0, 0, 0, 6, 6, 0, 0, 7, 0, 1, 0,
 ];
 
-fn plain(operation: u8) -> Message {
-    Message {
-        operation,
-        invoke: 1,
-        class: None,
-        name: None,
-        instance: None,
-        value: None,
-        result: None,
-        reason: None,
-        source_name: None,
-        destination_name: None,
-        destination_address: None,
-        source_address: None,
-    }
-}
-
 #[test]
 fn a_request_is_read(rt: HostRuntime) -> Result<(), Fail> {
     let m = read(rt.alloc(), &REQUEST)?;
@@ -44,7 +27,7 @@ fn a_request_is_read(rt: HostRuntime) -> Result<(), Fail> {
 
 #[test]
 fn a_response_is_written(rt: HostRuntime) -> Result<(), Fail> {
-    let mut m = plain(operation::READ + 1);
+    let mut m = Message::new(operation::READ + 1, 1);
     m.class = Some(Name::read(rt.alloc(), b"folder")?);
     m.name = Some(Bytes::copy_of(rt.alloc(), b"/user")?);
     m.instance = Some(6);
@@ -121,7 +104,7 @@ fn unwritten(rt: &impl Abort, alloc: Global, m: &Message) -> CdapError {
 
 #[test]
 fn what_is_not_written(rt: HostRuntime) -> Result<(), Fail> {
-    let mut m = plain(19);
+    let mut m = Message::new(19, 1);
     m.name = Some(Bytes::copy_of(rt.alloc(), b"user")?);
     assert_eq!(rt; unwritten(&rt, rt.alloc(), &m), CdapError::BadOp { n: 19 });
     m.operation = 17;
