@@ -5,7 +5,8 @@ use Rattle.std.specs.Global.{Vec}
 use Rattle.std.specs.declared.cmp.Ordering.{Ordering}
 use Rattle.std.specs.Ordering.{nat_cmp}
 use Rattle.std.specs.Cmp.Lexicographic.{slice_cmp}
-use Rattle.std.specs.Map.{lookup, remove_entry, set_value}
+use Rattle.std.specs.Map.{lookup, remove_entry, set_value, keys_of}
+use Rattle.std.specs.List.Sorted.{IsStrictlySortedBy}
 use Rattle.std.specs.BTreeMap.{is_at, insert_entry}
 use Rattle.rina_rib.specs.declared.class.Class.{Class}
 use Rattle.rina_rib.specs.declared.class.Class.TheVariants.{Folder}
@@ -24,6 +25,10 @@ name_cmp = slice_cmp nat_cmp
 -- what a map shows: names and objects, in the order of names
 abbrev pub seen : List (Vec ℕ × Thing) → List Named
 seen entries = map (λ e. (e.0.items, e.1)) entries
+
+-- the names ascend, byte by byte
+abbrev pub AreInOrder : List Named → Type 0
+AreInOrder objects = IsStrictlySortedBy name_cmp (keys_of objects)
 
 -- the object of a name
 abbrev pub object_at : List Named → List ℕ → Option Thing

@@ -70,7 +70,7 @@ fn put_object(
 
 impl Rib {
     ghost use Rattle.rina_rib.specs.Things.{thing_of};
-    ghost use Rattle.rina_rib.specs.Objects.{object_at};
+    ghost use Rattle.rina_rib.specs.Objects.{object_at, AreInOrder};
     ghost use Rattle.rina_rib.specs.Walks.{within, left_of};
     ghost use Rattle.rina_rib.specs.Rows.{first_tree, created, deleted, written, turned, Does};
 
@@ -222,7 +222,8 @@ impl Rib {
     /// The object of a name, and all objects under it, in the byte order of names. Takes no memory.
     pub fn walk<'a>(&'a self, under: &'a [u8]) -> Walk<'a>
         requires { IsObjectName under.now }
-        ensures { left_of result ≡ within under.now self.now.objects }
+        ensures passes { left_of result ≡ within under.now self.now.objects }
+        ensures ordered { AreInOrder (left_of result) }
     {
         Walk::new(self.objects.iter(), under)
     }

@@ -127,7 +127,7 @@ fn has_no_request(waiting: &IndexSet<u32>, m: &Message) -> bool
 }
 
 impl Session {
-    ghost use Rattle.std.specs.Prelude.{IfErr};
+    ghost use Rattle.std.specs.Prelude.{ℕ, IfErr};
     ghost use Rattle.rina_session.specs.declared.session.SessionError.TheVariants.{Memory, UnknownInvoke};
     ghost use Rattle.rina_session.specs.Sessions.{sent, got, Steps};
 
@@ -145,7 +145,8 @@ impl Session {
     /// it was got, and anything else within a connection; a release ends it at once. Never `UnknownInvoke`.
     #[tactic(auto, unfolding(crate::specs::Sessions::sent))]
     pub fn on_sent(&mut self, alloc: Global, m: &Message) -> Result<(), SessionError>
-        ensures { Steps result self.old self.new (sent self.old m.now) }
+        ensures exact { Steps result self.old self.new (sent self.old m.now) }
+        ensures known { IfErr result (λ e. (id : ℕ) → e ≡ UnknownInvoke id → ⊥) }
     {
         let _ = alloc;
         if !is_sendable(self.state, m.operation) {
