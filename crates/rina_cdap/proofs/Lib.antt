@@ -1,0 +1,6 @@
+mod Forms
+mod Fields
+mod Rows
+mod Drafts
+mod Spelled
+mod Written

@@ -1,0 +1,5 @@
+pub mod Messages
+pub mod ObjectNames
+pub mod Plain
+pub mod Reading
+pub mod Writing

@@ -1,0 +1,6 @@
+pub mod Classes
+pub mod Names
+pub mod Objects
+pub mod Rows
+pub mod Things
+pub mod Walks

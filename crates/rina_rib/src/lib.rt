@@ -1,0 +1,21 @@
+//! The objects of one IPC process, by name: its RIB (resource information base).
+#![tactic(auto)]
+
+mod caller;
+mod class;
+mod error;
+mod names;
+mod object;
+mod objects;
+mod rib;
+mod walk;
+
+pub use caller::Caller;
+pub use class::Class;
+pub use error::RibError;
+pub use object::Object;
+pub use rib::Rib;
+pub use walk::Walk;
+
+#[cfg(test)]
+mod tests;
