@@ -1,2 +1,4 @@
+pub mod Joins
 pub mod Numbers
 pub mod Ring
+pub mod Slots

@@ -1,8 +1,14 @@
 //! The data transfer protocol (DTP): the numbers of a sender, and the receiver of a connection.
 #![tactic(auto)]
 
+mod gap;
+mod join;
 mod numbers;
 mod ring;
+mod slot;
 
+pub use gap::Gap;
+pub use join::Join;
 pub use numbers::{Numbers, NumbersSpent};
 pub use ring::Ring;
+pub use slot::Slot;
