@@ -4,11 +4,15 @@
 mod gap;
 mod join;
 mod numbers;
+mod place;
 mod ring;
+mod shelf;
 mod slot;
 
 pub use gap::Gap;
 pub use join::Join;
 pub use numbers::{Numbers, NumbersSpent};
+pub use place::Place;
 pub use ring::Ring;
+pub use shelf::Shelf;
 pub use slot::Slot;
