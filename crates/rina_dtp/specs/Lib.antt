@@ -1,4 +1,6 @@
+pub mod Accepted
 pub mod Joins
+pub mod Lost
 pub mod Numbers
 pub mod Ring
 pub mod Shelf

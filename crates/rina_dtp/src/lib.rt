@@ -1,6 +1,7 @@
 //! The data transfer protocol (DTP): the numbers of a sender, and the receiver of a connection.
 #![tactic(auto)]
 
+mod accepted;
 mod gap;
 mod join;
 mod numbers;
@@ -8,7 +9,9 @@ mod place;
 mod ring;
 mod shelf;
 mod slot;
+mod verdict;
 
+pub use accepted::Accepted;
 pub use gap::Gap;
 pub use join::Join;
 pub use numbers::{Numbers, NumbersSpent};
@@ -16,3 +19,4 @@ pub use place::Place;
 pub use ring::Ring;
 pub use shelf::Shelf;
 pub use slot::Slot;
+pub use verdict::{Judged, Verdict};

@@ -1,5 +1,5 @@
 //! A place for one piece that is held.
-ghost use Rattle.std.specs.Prelude.{◌≡◌, ◌≤◌, ◌==◌, ◌&&◌, true, false, length, IfOk};
+ghost use Rattle.std.specs.Prelude.{◌≡◌, ◌≤◌, ◌<◌, ◌^◌, ◌==◌, ◌&&◌, true, false, length, IfOk};
 
 use rina_base::Memory;
 use std::alloc::Global;
@@ -69,7 +69,8 @@ impl Place {
 
     /// Whether it holds the piece of a number.
     pub fn holds(&self, number: u64) -> bool
-        ensures { result ≡ (self.now.used && (self.now.number == number)) }
+        ensures holds { result ≡ (self.now.used && (self.now.number == number)) }
+        ensures small { result ≡ true → number < 2 ^ 32 }
     {
         self.used && u64::from(self.number) == number
     }

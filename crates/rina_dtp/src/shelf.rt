@@ -86,7 +86,7 @@ impl Shelf {
     }
 
     /// The place of a number.
-    fn place(&self, number: u64) -> &Place
+    pub fn place(&self, number: u64) -> &Place
         ensures { result.now ≡ place_at self.now.places number }
     {
         &self.places[(number % self.places.len() as u64) as usize]
@@ -94,7 +94,8 @@ impl Shelf {
 
     /// Whether the piece of a number is held.
     pub fn holds(&self, number: u64) -> bool
-        ensures { result ≡ holds self.now.places number }
+        ensures holds { result ≡ holds self.now.places number }
+        ensures small { result ≡ true → number < 2 ^ 32 }
     {
         self.place(number).holds(number)
     }
