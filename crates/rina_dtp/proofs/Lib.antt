@@ -1,2 +1,4 @@
 pub mod Growing
+pub mod Placed
+pub mod Recalling
 pub mod Senders

@@ -1,5 +1,5 @@
 //! The numbers that a receiver accepted, by its kind.
-ghost use Rattle.std.specs.Prelude.{◌≡◌, ◌≤◌, ◌<◌, ◌+◌, ◌-◌, ◌*◌, ◌^◌, [], length, true, false};
+ghost use Rattle.std.specs.Prelude.{◌≡◌, ◌≤◌, ◌<◌, ◌+◌, ◌-◌, ◌*◌, ◌^◌, ℕ, [], length, true, false};
 ghost use Rattle.rina_law.specs.Receiver.{absent_verdict};
 ghost use Rattle.rina_dtp.specs.Accepted.{kind_of, known_verdict, number_verdict, judged_as, top_of, MayCount, IsCounted, IsGiven, FollowsOne, FollowsAll, Follows, HasSlotsFor};
 ghost use Rattle.rina_dtp.specs.Joins.{Grows};
@@ -99,7 +99,9 @@ fn follow_all(shelf: &mut Shelf, join: &mut Join)
     requires gaps { length join.old.gaps ≤ 1 }
     requires least { 1 ≤ length shelf.old.places }
     requires slots { length shelf.old.places ≤ join.old.slots }
-    ensures { FollowsAll shelf.old join.old shelf.new join.new }
+    ensures follows { FollowsAll shelf.old join.old shelf.new join.new }
+    ensures places { length shelf.new.places ≡ length shelf.old.places }
+    ensures slots { join.new.slots ≡ join.old.slots }
 {
     let others = shelf.window() - 1;
     for step in 0..others {
@@ -144,7 +146,6 @@ impl Accepted {
 
     /// The greatest number that was accepted.
     pub fn top(&self) -> u32
-        requires { top_of self.now < 2 ^ 32 }
         ensures { result ≡ top_of self.now }
     {
         match self {
@@ -157,7 +158,8 @@ impl Accepted {
     /// Counts a number as accepted; where no state stood, as the only one.
     pub fn count(&mut self, present: bool, number: u32)
         requires { present ≡ true → MayCount self.old number }
-        ensures { IsCounted present number self.old self.new }
+        ensures counted { IsCounted present number self.old self.new }
+        ensures sound { (slots : ℕ) → HasSlotsFor self.old slots → HasSlotsFor self.new slots }
     {
         match self {
             Accepted::Datagram(ring) if present => ring.add(number),
@@ -173,7 +175,9 @@ impl Accepted {
         requires filled { join.old.filled ≤ 1 }
         requires gaps { length join.old.gaps ≤ 1 }
         requires slots { HasSlotsFor self.old join.old.slots }
-        ensures { Follows self.old join.old self.new join.new }
+        ensures follows { Follows self.old join.old self.new join.new }
+        ensures slots { join.new.slots ≡ join.old.slots }
+        ensures sound { HasSlotsFor self.new join.new.slots }
     {
         match self {
             Accepted::Reliable(shelf) => follow_all(shelf, join),

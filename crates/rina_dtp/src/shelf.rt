@@ -1,5 +1,5 @@
 //! The pieces that a reliable receiver holds until the gap before them is filled.
-ghost use Rattle.std.specs.Prelude.{◌≡◌, ◌≤◌, ◌<◌, ◌+◌, ◌-◌, ◌%◌, ◌^◌, ℕ, length, All, IfOk, true, false, slice_index_or};
+ghost use Rattle.std.specs.Prelude.{◌≡◌, ◌≤◌, ◌<◌, ◌+◌, ◌-◌, ◌%◌, ◌^◌, ℕ, length, All, IfOk, IsTrue, ◌↔◌, true, false, slice_index_or};
 ghost use Rattle.rina_dtp.specs.Shelf.{no_place, place_at, holds, with_piece, without, HasRoomOf, IsUnused};
 
 use crate::place::Place;
@@ -18,14 +18,14 @@ pub struct Shelf {
 }
 
 impl Model for Shelf {
-    ghost use Rattle.std.specs.Prelude.{◌≤◌, ◌<◌, length, All};
+    ghost use Rattle.std.specs.Prelude.{◌≤◌, ◌<◌, ◌^◌, length, All};
     ghost use Rattle.rina_dtp.specs.Shelf.{Shelved, HasRoomOf};
 
     ghost Value = { Shelved };
 
     ghost view = { λ s. record { next = s.next; piece = s.piece; places = s.places.items } };
 
-    ghost invariant = { λ s. (1 ≤ length s.places.items) × All (HasRoomOf s.piece) s.places.items };
+    ghost invariant = { λ s. (1 ≤ length s.places.items) × (s.next ≤ 2 ^ 32) × (length s.places.items ≤ 256) × All (HasRoomOf s.piece) s.places.items };
 }
 
 /// Unused places for pieces of at most `piece` bytes.
@@ -56,9 +56,10 @@ fn free_all(places: &mut Vec<Place>, piece: u32)
 }
 
 impl Shelf {
-    /// Nothing is held. Takes all the memory that is ever needed for `window` pieces, at least 1, of at most `piece` bytes.
+    /// Nothing is held. Takes all the memory that is ever needed for `window` pieces, 1 to 256, of at most `piece` bytes.
     pub fn new(alloc: Global, window: u32, piece: u32) -> Result<Shelf, Memory>
-        requires { 1 ≤ window }
+        requires least { 1 ≤ window }
+        requires most { window ≤ 256 }
         ensures count { IfOk result (λ s. length s.places ≡ window) }
         ensures piece { IfOk result (λ s. s.piece ≡ piece) }
         ensures next { IfOk result (λ s. s.next ≡ 0) }
@@ -73,7 +74,8 @@ impl Shelf {
 
     /// The number after all that were accepted.
     pub fn next(&self) -> u64
-        ensures { result ≡ self.now.next }
+        ensures next { result ≡ self.now.next }
+        ensures within { result ≤ 2 ^ 32 }
     {
         self.next
     }
@@ -98,6 +100,13 @@ impl Shelf {
         ensures small { result ≡ true → number < 2 ^ 32 }
     {
         self.place(number).holds(number)
+    }
+
+    /// Whether a piece of a number has a place: it lies in the window, and is not too long.
+    pub fn has_place(&self, number: u32, len: usize) -> bool
+        ensures { IsTrue result ↔ (number < self.now.next + length self.now.places) × (len ≤ self.now.piece) }
+    {
+        u64::from(number) < self.next + self.window() && len <= self.piece as usize
     }
 
     /// Holds a piece.

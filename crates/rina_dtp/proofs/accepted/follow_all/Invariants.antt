@@ -7,5 +7,6 @@ invariant-loop-step l = record {
   many : FollowsMany l.step l.fn.shelf l.fn.join l.shelf l.join;
   slots : l.join.slots ≡ l.fn.join.slots;
   filled : l.join.filled ≤ 1 + l.step;
+  places : length l.shelf.places ≡ length l.fn.shelf.places;
   gaps : length l.join.gaps ≤ 1 + 2 * l.step;
 }
