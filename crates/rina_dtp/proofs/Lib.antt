@@ -1,4 +1,5 @@
 pub mod Growing
+pub mod JoinedAs
 pub mod Placed
 pub mod Recalling
 pub mod Senders

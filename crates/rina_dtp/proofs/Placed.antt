@@ -13,9 +13,9 @@ same_place w a b ab ba e =
     let xa = div-add-mod' a w in
     let xb = div-add-mod' b w in
     elim (cases_lt (a / w) (b / w)) [
-      | inl less ↦ (let m : w * (a / w + 1) ≤ w * (b / w) = mul-le-mul_left w less in omega arith)
+      | inl less ↦ (let h : a / w + 1 ≤ b / w = omega arith in let m : w * (a / w + 1) ≤ w * (b / w) = mul-le-mul_left w h in omega arith)
       | inr ge ↦ elim (cases_lt (b / w) (a / w)) [
-        | inl more ↦ (let m : w * (b / w + 1) ≤ w * (a / w) = mul-le-mul_left w more in omega arith)
+        | inl more ↦ (let h : b / w + 1 ≤ a / w = omega arith in let m : w * (b / w + 1) ≤ w * (a / w) = mul-le-mul_left w h in omega arith)
         | inr le ↦ (let same : a / w ≡ b / w = omega arith in let q : a / w * w ≡ b / w * w = ap (λ x. x * w) same in omega arith)
       ]
     ]
