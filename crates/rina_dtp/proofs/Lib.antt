@@ -1,3 +1,4 @@
+pub mod Followed
 pub mod Growing
 pub mod JoinedAs
 pub mod Placed

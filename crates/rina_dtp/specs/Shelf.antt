@@ -1,5 +1,5 @@
 -- The pieces that a reliable receiver holds until the gap before them is filled.
-use Rattle.std.specs.Prelude.{◌≡◌, ℕ, zero, suc, ◌+◌, ◌%◌, ◌<◌, ◌≤◌, Bool, true, false, ◌==◌, ◌&&◌, List, [], ◌∷◌, length, slice_index_or, slice_set, Option, Some, None, if◌then◌else◌}
+use Rattle.std.specs.Prelude.{◌≡◌, ℕ, zero, suc, ◌+◌, ◌%◌, ◌^◌, ◌<◌, ◌≤◌, Bool, true, false, ◌==◌, ◌&&◌, List, [], ◌∷◌, length, slice_index_or, slice_set, Option, Some, None, if◌then◌else◌}
 use Rattle.rina_law.specs.Lists.{has}
 use Rattle.rina_law.specs.Pieces.{Part}
 use Rattle.rina_law.specs.Receiver.{Piece, numbers, part_in}
@@ -52,4 +52,4 @@ IsUnused p = p.used ≡ false
 pub record Holds (held : List Piece) (s : Shelved) : Type 0 where
   pub same : (k : ℕ) → has k (numbers held) ≡ holds s.places k
   pub parts : (k : ℕ) → holds s.places k ≡ true → part_in k held ≡ part_at s.places k
-  pub within : (k : ℕ) → holds s.places k ≡ true → (s.next < k) × (k < s.next + length s.places)
+  pub within : (k : ℕ) → holds s.places k ≡ true → (s.next < k) × (k < s.next + length s.places) × (k < 2 ^ 32)
