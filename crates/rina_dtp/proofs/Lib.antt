@@ -4,3 +4,4 @@ pub mod JoinedAs
 pub mod Placed
 pub mod Recalling
 pub mod Senders
+pub mod Shelved

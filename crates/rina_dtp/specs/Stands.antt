@@ -78,24 +78,27 @@ pub record IsFetched (now : ℕ) (r : Receiving) : Type 0 where
 
 -- a piece of a sender that keeps to the cube: it is no longer than a piece may be; on a reliable flow it lies in the
 -- window; and all that is given to the joiner finds room there
-pub record IsWelcome (c : Constants) (now : ℕ) (m : Receiver) (j : Joiner) (v : law.Verdict) (p : Piece) : Type 0 where
+pub record IsWelcome (c : Constants) (present : Bool) (m : Receiver) (j : Joiner) (v : law.Verdict) (p : Piece) : Type 0 where
   pub body : length p.part.body ≤ c.piece
-  pub window : c.cube.kind ≡ kinds.Reliable → is_present c now m ≡ true → p.number < next_of m + c.cube.window
-  pub room : AllHaveRoom c.cube.largest v c.cube.kind (is_present c now m) p m.held j
+  pub window : c.cube.kind ≡ kinds.Reliable → present ≡ true → p.number < next_of m + c.cube.window
+  pub room : AllHaveRoom c.cube.largest v c.cube.kind present p m.held j
 
 -- the machine's verdict
 abbrev pub verdict_of : Constants → ℕ → ℕ → Receiver → Piece → law.Verdict
 verdict_of c now unpassed m p = law.verdict c.cube.kind (is_present c now m) m p (nat_lt unpassed c.cube.window)
 
--- what the machine's row makes of it: the answer, the receiver and the joiner after it, the SDUs that are whole, and the
--- pieces that are given up
-pub record Came (c : Constants) (now : ℕ) (m : Receiver) (j : Joiner) (v : law.Verdict) (pdu : Pdu) (result : Verdict) (new : Receiving) : Type 0 where
-  pub told_is : result ≡ told v c.cube.window pdu m (joiner_for (is_present c now m) j) (joined_after v c.cube.kind (is_present c now m) (piece_in pdu) m.held j).whole
-  pub stands : Stands c now (receiver_after v c.cube.kind (is_present c now m) now (piece_in pdu) m) (joined_after v c.cube.kind (is_present c now m) (piece_in pdu) m.held j).joiner new
-  pub whole : new.join.whole ≡ (joined_after v c.cube.kind (is_present c now m) (piece_in pdu) m.held j).whole
-  pub dropped : drops now new ≡ broken_with (source_of pdu) (lost_after v c.cube.kind (is_present c now m) (piece_in pdu) m.held j)
+-- what the machine's row makes of a piece: the joiner after it, with the SDUs that became whole
+abbrev pub joined_by : Constants → Bool → Receiver → Joiner → law.Verdict → Piece → Joined
+joined_by c present m j v p = joined_after v c.cube.kind present p m.held j
+
+-- the answer, the receiver and the joiner after it, the SDUs that wait to be fetched, and the pieces that are given up
+pub record Came (c : Constants) (now : ℕ) (present : Bool) (m : Receiver) (j : Joiner) (v : law.Verdict) (pdu : Pdu) (result : Verdict) (new : Receiving) : Type 0 where
+  pub told_is : result ≡ told v c.cube.window pdu m (joiner_for present j) (joined_by c present m j v (piece_in pdu)).whole
+  pub stands : Stands c now (receiver_after v c.cube.kind present now (piece_in pdu) m) (joined_by c present m j v (piece_in pdu)).joiner new
+  pub whole : new.join.whole ≡ (joined_by c present m j v (piece_in pdu)).whole
+  pub dropped : drops now new ≡ broken_with (source_of pdu) (lost_after v c.cube.kind present (piece_in pdu) m.held j)
 
 -- the row, at every receiver and joiner of the machine for which this one stands
 abbrev pub IsRow : ℕ → Pdu → ℕ → Receiving → Verdict → Receiving → Type 0
-IsRow now pdu unpassed old result new = (c : Constants) (m : Receiver) (j : Joiner) → Stands c now m j old → IsFetched now old → IsWelcome c now m j (verdict_of c now unpassed m (piece_in pdu)) (piece_in pdu) →
-    Came c now m j (verdict_of c now unpassed m (piece_in pdu)) pdu result new
+IsRow now pdu unpassed old result new = (c : Constants) (m : Receiver) (j : Joiner) → Stands c now m j old → IsFetched now old → IsWelcome c (is_present c now m) m j (verdict_of c now unpassed m (piece_in pdu)) (piece_in pdu) →
+    Came c now (is_present c now m) m j (verdict_of c now unpassed m (piece_in pdu)) pdu result new
