@@ -5,6 +5,7 @@ ghost use Rattle.rina_cube.specs.Cubes.{IsCube};
 ghost use Rattle.rina_law.specs.Receiver as law;
 ghost use Rattle.rina_dtp.specs.Accepted.{known_verdict, number_verdict, judged_as};
 ghost use Rattle.rina_dtp.specs.Receiving.{present_at, cleared, IsAccepted, IsHeldIn, IsStep, Steps};
+ghost use Rattle.rina_dtp.specs.Stands.{IsRow};
 
 use crate::accepted::Accepted;
 use crate::join::Join;
@@ -75,10 +76,10 @@ impl Rx {
     }
 
     /// What the numbers say of a piece.
-    fn judge(&self, present: bool, room: bool, pdu: &PduView<'_>) -> Judged
-        ensures { result ≡ judged_as (law.with_room room (number_verdict present self.now.accepted pdu.now.seq pdu.now.drf)) }
+    fn judge(&self, present: bool, room: bool, number: u32, drf: bool) -> Judged
+        ensures { result ≡ judged_as (law.with_room room (number_verdict present self.now.accepted number drf)) }
     {
-        with_room(room, self.accepted.verdict(present, pdu.seq, pdu.drf))
+        with_room(room, self.accepted.verdict(present, number, drf))
     }
 
     /// Accepts a piece, and the held ones that follow.
@@ -132,13 +133,15 @@ impl Rx {
         Verdict::Off(cause)
     }
 
+    /// Acts by what the numbers say of a piece.
     fn step(&mut self, now: Tick, present: bool, room: bool, pdu: &PduView<'_>) -> Verdict
         requires now { now ≤ 10000000 }
         requires filled { self.old.join.filled ≡ 0 }
         requires gaps { self.old.join.gaps ≡ [] }
-        ensures { IsStep (law.with_room room (number_verdict present self.old.accepted pdu.now.seq pdu.now.drf)) present now (pdu_of pdu.now) self.old result self.new }
+        ensures step { IsStep (law.with_room room (number_verdict present self.old.accepted pdu.now.seq pdu.now.drf)) present now (pdu_of pdu.now) self.old result self.new }
+        ensures small { pdu.now.seq < 2 ^ 32 }
     {
-        match self.judge(present, room, pdu) {
+        match self.judge(present, room, pdu.seq, pdu.drf) {
             Judged::Accepted => self.accept(now, present, pdu),
             Judged::Held => self.hold(now, pdu),
             Judged::Duplicate => self.know(now, Cause::Duplicate {
@@ -156,14 +159,26 @@ impl Rx {
         }
     }
 
-    /// Steps, by what is kept.
+    /// Receives a piece, once what was not fetched is forgotten.
     fn receive(&mut self, now: Tick, pdu: &PduView<'_>, unpassed: u32) -> Verdict
         requires { now ≤ 10000000 }
-        ensures { Steps now (pdu_of pdu.now) unpassed self.old result self.new }
+        ensures steps { Steps now (pdu_of pdu.now) unpassed self.old result self.new }
+        ensures small { pdu.now.seq < 2 ^ 32 }
     {
         let present = self.present(now);
         let room = unpassed < self.window;
         self.clear();
         self.step(now, present, room, pdu)
+    }
+
+    /// A piece came, at a tick of at most 10,000,000, while `unpassed` SDUs wait to be passed: the row of the
+    /// connection machine, for every state of the machine for which this one stands. Takes no memory. All that
+    /// came of earlier pieces is to be fetched before: what was not is forgotten. Of a piece that the sender of
+    /// a cube does not make, because it is too long, or does not lie in the window, nothing is told.
+    pub fn on_data(&mut self, now: Tick, pdu: &PduView<'_>, unpassed: u32) -> Verdict
+        requires { now ≤ 10000000 }
+        ensures { IsRow now (pdu_of pdu.now) unpassed self.old result self.new }
+    {
+        self.receive(now, pdu, unpassed)
     }
 }
