@@ -163,7 +163,7 @@ ended_none : (source : Source) (why : Cause) (ns : List ℕ) → ended_with sour
 ended_none source why [] e = refl
 ended_none source why (n ∷ ns) e = absurd cc
 
-none_ended : (source : Source) (why : Option Cause) → ended_with source why [] ≡ []
+pub none_ended : (source : Source) (why : Option Cause) → ended_with source why [] ≡ []
 none_ended source None = refl
 none_ended source (Some why) = refl
 

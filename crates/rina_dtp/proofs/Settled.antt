@@ -157,7 +157,7 @@ settle_present c now m j p s r t missing i u some places known is counted room f
       gaps = d.gaps ∙ ap (λ (ls : List Lost). ls ++ lost_held (highest (numbers m.held)) (n + 1) m.held o) f.gaps;
     }
 
-unused_not_held : (places : List Place) (k : ℕ) → 1 ≤ length places → All IsUnused places → holds places k ≡ false
+pub unused_not_held : (places : List Place) (k : ℕ) → 1 ≤ length places → All IsUnused places → holds places k ≡ false
 unused_not_held places k some h = ap (λ b. b && eqb (place_at places k).number k) (h (k % length places) no_place (mod_below k (length places) some))
 
 settle_absent : (c : Constants) (now : ℕ) (m : Receiver) (j : Joiner) (p : Piece) (s r t : Shelved) (missing : Option ℕ) (i u : Joins) → 1 ≤ c.cube.window → HasPlacesFor c (Reliable s) → IsCounted false p.number (Reliable s) (Reliable r)

@@ -4,7 +4,8 @@ ghost use Rattle.rina_base.specs.Pdus.{pdu_of};
 ghost use Rattle.rina_cube.specs.Cubes.{IsCube};
 ghost use Rattle.rina_law.specs.Receiver as law;
 ghost use Rattle.rina_dtp.specs.Accepted.{known_verdict, number_verdict, judged_as};
-ghost use Rattle.rina_dtp.specs.Receiving.{present_at, cleared, IsAccepted, IsHeldIn, IsStep, Steps};
+ghost use Rattle.rina_dtp.specs.Receiving.{present_at, cleared, IsAccepted, IsHeldIn, IsStep, Steps, slots_of, StartsFresh};
+ghost use Rattle.rina_dtp.specs.Observed.{IsNew, TellsPresence, TellsNext, TellsJoining, TellsLastIn, from_kept};
 ghost use Rattle.rina_dtp.specs.Stands.{IsRow};
 
 use crate::accepted::Accepted;
@@ -59,10 +60,54 @@ fn with_room(room: bool, judged: Judged) -> Judged
     }
 }
 
+/// How many SDUs one piece can make whole at most.
+fn slots(cube: &Cube) -> u32
+    requires { IsCube cube.now }
+    ensures { result ≡ slots_of cube.now.kind cube.now.window }
+{
+    match cube.kind {
+        Kind::Reliable => cube.window,
+        _ => 1,
+    }
+}
+
 impl Rx {
+    /// A receiver of a cube that has no state, for pieces of at most `piece` bytes. Takes all the memory that the other
+    /// calls need, but for `ahead`.
+    pub fn new(alloc: Global, cube: &Cube, piece: u32) -> Result<Rx, Memory>
+        requires { IsCube cube.now }
+        ensures { IfOk result (IsNew cube.now piece) }
+    {
+        Rx::fresh(alloc, cube, piece)
+    }
+
+    fn fresh(alloc: Global, cube: &Cube, piece: u32) -> Result<Rx, Memory>
+        requires { IsCube cube.now }
+        ensures { IfOk result (StartsFresh cube.now piece) }
+    {
+        let accepted = Accepted::new(alloc, cube, piece)?;
+        let join = Join::new(alloc, slots(cube), cube.largest)?;
+        Ok(Rx {
+            window: cube.window,
+            rest: 2 * cube.delta(),
+            made: false,
+            last_in: 0,
+            closed: false,
+            source: Source {
+                src: 0,
+                scep: 0,
+                dcep: 0,
+            },
+            accepted,
+            going: None,
+            join,
+        })
+    }
+
     /// Whether state stands.
     pub fn present(&self, now: Tick) -> bool
-        ensures { result ≡ present_at now self.now }
+        ensures kept { result ≡ present_at now self.now }
+        ensures machine { TellsPresence now self.now result }
     {
         self.made && now < self.last_in + self.rest
     }
@@ -180,5 +225,36 @@ impl Rx {
         ensures { IsRow now (pdu_of pdu.now) unpassed self.old result self.new }
     {
         self.receive(now, pdu, unpassed)
+    }
+
+    /// The number after the greatest one that was accepted, on a reliable flow after all that were; None exactly where no state
+    /// stands.
+    pub fn next(&self, now: Tick) -> Option<u64>
+        ensures { TellsNext now self.now result }
+    {
+        if self.present(now) {
+            Some(self.accepted.next())
+        } else {
+            None
+        }
+    }
+
+    /// The first number that the joiner holds; None exactly where it holds nothing.
+    pub fn joining(&self) -> Option<u32>
+        ensures kept { result ≡ from_kept self.now.join.joining.held }
+        ensures machine { TellsJoining self.now result }
+    {
+        match self.join.held() {
+            Some(run) => Some(run.from),
+            None => None,
+        }
+    }
+
+    /// The tick of the last piece that was accepted, held, or written off as `Duplicate` or `Behind`; None exactly where no state
+    /// was ever made.
+    pub fn last_in(&self) -> Option<Tick>
+        ensures { TellsLastIn self.now result }
+    {
+        if self.made { Some(self.last_in) } else { None }
     }
 }
