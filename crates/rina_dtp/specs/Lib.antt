@@ -1,4 +1,5 @@
 pub mod Accepted
+pub mod Fetching
 pub mod Joins
 pub mod Lost
 pub mod Numbers

@@ -19,7 +19,8 @@ use Rattle.rina_dtp.specs.declared.verdict.Verdict.TheVariants.{Accept, Hold, Of
 use Rattle.rina_dtp.specs.Accepted.{number_verdict, top_of, IsCounted, Follows, HasSlotsFor, IsFresh}
 use Rattle.rina_dtp.specs.Joins as joins
 use Rattle.rina_dtp.specs.Joins.{Joins, IsJoined}
-use Rattle.rina_dtp.specs.Lost.{Lost, numbers_from, lost_with, told_accepted}
+use Rattle.rina_dtp.specs.declared.gap.Lost.{Lost}
+use Rattle.rina_dtp.specs.Lost.{numbers_from, lost_with, told_accepted}
 use Rattle.rina_dtp.specs.Shelf.{holds, with_piece}
 use Rattle.rina_dtp.specs.Source.{source_of, key_at}
 use Rattle.rina_law.specs.Receiver as law

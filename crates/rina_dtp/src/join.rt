@@ -5,6 +5,7 @@ ghost use Rattle.rina_delim.specs.Joining.{piece, empty, answer, joined, HasRoom
 ghost use Rattle.rina_dtp.specs.Joins.{gap_if, start_of, taken, missing_in, IsJoined, HasPlaces, Grows, HasRoomOf, cleared};
 
 use crate::gap::Gap;
+use crate::sdu::Sdu;
 use crate::slot::Slot;
 use rina_base::Memory;
 use rina_delim::{Joined, Joiner, Run};
@@ -82,6 +83,9 @@ fn start(first: bool, held: Option<Run>, number: u32) -> u32
 }
 
 impl Join {
+    ghost use Rattle.std.specs.Borrow.{sem};
+    ghost use Rattle.rina_dtp.specs.Fetching.{IsFirst, LendsOfJoin};
+
     /// Nothing yet, with slots for `slots` SDUs of at most `largest` bytes. Takes all the memory that is ever needed.
     pub fn new(alloc: Global, slots: u32, largest: u32) -> Result<Join, Memory>
         requires { slots ≤ 256 }
@@ -220,5 +224,23 @@ impl Join {
         ensures { result ≡ slice_get self.now.gaps 0 }
     {
         self.gaps.first().copied()
+    }
+
+    /// The next SDU that waits to be fetched; None exactly where none does.
+    pub fn next_whole(&mut self) -> Option<Sdu<'_>>
+        ensures* rest { sem 𝓛 (LendsOfJoin self.entry) }
+        ensures first { IsFirst result self.old.whole }
+    {
+        if self.fetched >= self.filled {
+            return None;
+        }
+        let at = self.fetched;
+        self.fetched += 1;
+        let slot = &self.slots[at];
+        Some(Sdu {
+            first: slot.first(),
+            pieces: slot.pieces(),
+            bytes: slot.bytes(),
+        })
     }
 }

@@ -11,6 +11,7 @@ ghost use Rattle.rina_dtp.specs.Stands.{IsRow};
 use crate::accepted::Accepted;
 use crate::join::Join;
 use crate::ring::Ring;
+use crate::sdu::Sdu;
 use crate::shelf::Shelf;
 use crate::source::Source;
 use crate::verdict::{Judged, Verdict};
@@ -72,6 +73,9 @@ fn slots(cube: &Cube) -> u32
 }
 
 impl Rx {
+    ghost use Rattle.std.specs.Borrow.{sem};
+    ghost use Rattle.rina_dtp.specs.Fetching.{IsFirst, LendsWhole};
+
     /// A receiver of a cube that has no state, for pieces of at most `piece` bytes. Takes all the memory that the other
     /// calls need, but for `ahead`.
     pub fn new(alloc: Global, cube: &Cube, piece: u32) -> Result<Rx, Memory>
@@ -256,5 +260,13 @@ impl Rx {
         ensures { TellsLastIn self.now result }
     {
         if self.made { Some(self.last_in) } else { None }
+    }
+
+    /// The SDUs that the last piece made whole, one by one in order; None exactly where none is left.
+    pub fn next_whole(&mut self) -> Option<Sdu<'_>>
+        ensures* rest { sem 𝓛 (LendsWhole self.entry) }
+        ensures first { IsFirst result self.old.join.whole }
+    {
+        self.join.next_whole()
     }
 }
