@@ -26,3 +26,6 @@ pub use shelf::Shelf;
 pub use slot::Slot;
 pub use source::Source;
 pub use verdict::{Judged, Verdict};
+
+#[cfg(test)]
+mod tests;
