@@ -1,0 +1,13 @@
+pub mod Accepted
+pub mod Fetching
+pub mod Joins
+pub mod Lending
+pub mod Lost
+pub mod Numbers
+pub mod Observed
+pub mod Receiving
+pub mod Ring
+pub mod Shelf
+pub mod Slots
+pub mod Source
+pub mod Stands

@@ -1,0 +1,400 @@
+//! The receiver of a connection.
+ghost use Rattle.std.specs.Prelude.{◌≡◌, ◌≤◌, ◌<◌, ◌+◌, ◌-◌, ◌*◌, ◌^◌, min, nat_lt, true, false, [], length, None, IfOk};
+ghost use Rattle.rina_base.specs.Pdus.{pdu_of};
+ghost use Rattle.rina_cube.specs.Cubes.{IsCube};
+ghost use Rattle.rina_law.specs.Receiver as law;
+ghost use Rattle.rina_dtp.specs.Accepted.{known_verdict, number_verdict, judged_as};
+ghost use Rattle.rina_dtp.specs.Receiving.{present_at, cleared, IsAccepted, IsHeldIn, IsStep, Steps, slots_of, StartsFresh, run_numbers, kept_numbers, end_cause, ended_with, broken_with, lost_in, drops};
+ghost use Rattle.rina_dtp.specs.Fetching.{TakesFirst, after_first, gathered, GoesOn, ChangesKept, StandsAsBefore};
+ghost use Rattle.rina_dtp.specs.Observed.{IsNew, TellsPresence, TellsNext, TellsJoining, TellsLastIn, from_kept};
+ghost use Rattle.rina_dtp.specs.Stands.{IsRow};
+
+use crate::accepted::Accepted;
+use crate::join::Join;
+use crate::ring::Ring;
+use crate::sdu::Sdu;
+use crate::shelf::Shelf;
+use crate::source::Source;
+use crate::verdict::{Judged, Verdict};
+use rina_base::{Cause, Key, Memory, Num, PduView, Tick};
+use rina_cube::{Cube, Kind};
+use rina_delim::Run;
+use std::alloc::Global;
+use std::marker::Model;
+
+/// The receiver of a connection. Its state ends by the clock, `2 * delta` ticks after the last piece that counted.
+#[derive(Drop)]
+pub struct Rx {
+    /// How many SDUs may wait to be passed.
+    window: u32,
+    /// How long state stands, in ticks: `2 * delta`.
+    rest: u32,
+    /// Whether state was ever made, and the tick of the last piece that counted.
+    made: bool,
+    last_in: Tick,
+    /// The connection is closed.
+    closed: bool,
+    /// Where the last piece came from that was accepted or held.
+    source: Source,
+    accepted: Accepted,
+    /// Pieces that waited in the joiner when the state or the connection ended.
+    going: Option<Run>,
+    join: Join,
+}
+
+impl Model for Rx {
+    ghost use Rattle.rina_dtp.specs.Receiving.{Receiving, IsSound};
+
+    ghost Value = { Receiving };
+
+    ghost view = { λ r. record { window = r.window; rest = r.rest; made = r.made; last_in = r.last_in; closed = r.closed; source = r.source; accepted = r.accepted; going = r.going; join = r.join } };
+
+    ghost invariant = { λ r. IsSound (record { window = r.window; rest = r.rest; made = r.made; last_in = r.last_in; closed = r.closed; source = r.source; accepted = r.accepted; going = r.going; join = r.join }) };
+}
+
+/// While too many SDUs wait to be passed, nothing is accepted or held.
+fn with_room(room: bool, judged: Judged) -> Judged
+    ensures { (v : law.Verdict) → judged ≡ judged_as v → result ≡ judged_as (law.with_room room v) }
+{
+    match judged {
+        Judged::Accepted | Judged::Held if !room => Judged::NoRoom,
+        _ => judged,
+    }
+}
+
+/// A run of pieces without the first.
+fn after_first(run: Run) -> Option<Run>
+    ensures { result ≡ after_first run }
+{
+    if run.from < run.last {
+        Some(Run {
+            from: run.from + 1,
+            last: run.last,
+        })
+    } else {
+        None
+    }
+}
+
+/// How many pieces a run has.
+#[tactic(auto, using(crate::proofs::Fetched::run_length))]
+fn run_count(run: Option<Run>) -> u64
+    ensures count { result ≡ length (run_numbers run) }
+    ensures most { result ≤ 2 ^ 32 }
+{
+    match run {
+        Some(run) => u64::from(run.last.saturating_sub(run.from)) + 1,
+        None => 0,
+    }
+}
+
+/// How many SDUs one piece can make whole at most.
+fn slots(cube: &Cube) -> u32
+    requires { IsCube cube.now }
+    ensures { result ≡ slots_of cube.now.kind cube.now.window }
+{
+    match cube.kind {
+        Kind::Reliable => cube.window,
+        _ => 1,
+    }
+}
+
+impl Rx {
+    ghost use Rattle.std.specs.Borrow.{sem};
+    ghost use Rattle.rina_dtp.specs.Lending.{IsFirst, LendsWhole};
+
+    /// A receiver of a cube that has no state, for pieces of at most `piece` bytes. Takes all the memory that the other
+    /// calls need, but for `ahead`.
+    pub fn new(alloc: Global, cube: &Cube, piece: u32) -> Result<Rx, Memory>
+        requires { IsCube cube.now }
+        ensures { IfOk result (IsNew cube.now piece) }
+    {
+        Rx::fresh(alloc, cube, piece)
+    }
+
+    fn fresh(alloc: Global, cube: &Cube, piece: u32) -> Result<Rx, Memory>
+        requires { IsCube cube.now }
+        ensures { IfOk result (StartsFresh cube.now piece) }
+    {
+        let accepted = Accepted::new(alloc, cube, piece)?;
+        let join = Join::new(alloc, slots(cube), cube.largest)?;
+        Ok(Rx {
+            window: cube.window,
+            rest: 2 * cube.delta(),
+            made: false,
+            last_in: 0,
+            closed: false,
+            source: Source {
+                src: 0,
+                scep: 0,
+                dcep: 0,
+            },
+            accepted,
+            going: None,
+            join,
+        })
+    }
+
+    /// Whether state stands.
+    pub fn present(&self, now: Tick) -> bool
+        ensures kept { result ≡ present_at now self.now }
+        ensures machine { TellsPresence now self.now result }
+    {
+        self.made && now < self.last_in + self.rest
+    }
+
+    /// Forgets what was not fetched.
+    fn clear(&mut self)
+        ensures { self.new ≡ cleared self.old }
+    {
+        self.going = None;
+        self.join.clear();
+    }
+
+    /// What the numbers say of a piece.
+    fn judge(&self, present: bool, room: bool, number: u32, drf: bool) -> Judged
+        ensures { result ≡ judged_as (law.with_room room (number_verdict present self.now.accepted number drf)) }
+    {
+        with_room(room, self.accepted.verdict(present, number, drf))
+    }
+
+    /// Accepts a piece, and the held ones that follow.
+    fn accept(&mut self, now: Tick, present: bool, pdu: &PduView<'_>) -> Verdict
+        requires now { now ≤ 10000000 }
+        requires may { present ≡ true → known_verdict self.old.accepted pdu.now.seq ≡ law.Accepted }
+        requires filled { self.old.join.filled ≡ 0 }
+        requires gaps { self.old.join.gaps ≡ [] }
+        ensures { IsAccepted present now (pdu_of pdu.now) self.old result self.new }
+    {
+        if !present {
+            self.join.reset();
+        }
+        self.accepted.count(present, pdu.seq);
+        let missing = self.join.take(pdu.seq, pdu.first, pdu.last, pdu.body);
+        self.accepted.follow(&mut self.join);
+        self.made = true;
+        self.last_in = now;
+        self.source = Source::of(pdu);
+        match missing {
+            None => Verdict::Accept {
+                whole: self.join.count(),
+            },
+            Some(missing) => Verdict::Off(Cause::Broken { missing }),
+        }
+    }
+
+    /// Holds a piece. One that has no place is refused for want of room: no lawful piece comes here.
+    fn hold(&mut self, now: Tick, pdu: &PduView<'_>) -> Verdict
+        requires { now ≤ 10000000 }
+        ensures { IsHeldIn self.old.accepted now (pdu_of pdu.now) self.old result self.new }
+    {
+        match &mut self.accepted {
+            Accepted::Reliable(shelf) if shelf.has_place(pdu.seq, pdu.body.len()) => {
+                shelf.put(pdu.seq, pdu.first, pdu.last, pdu.body);
+            }
+            _ => return Verdict::Off(Cause::NoRoom { cap: self.window }),
+        }
+        self.last_in = now;
+        self.source = Source::of(pdu);
+        Verdict::Hold
+    }
+
+    /// Writes off a piece that was there before. It counts for how long state stands.
+    fn know(&mut self, now: Tick, cause: Cause) -> Verdict
+        requires { now ≤ 10000000 }
+        ensures told { result ≡ Verdict.Off cause }
+        ensures last_in { self.new ≡ record self.old { last_in = now } }
+    {
+        self.last_in = now;
+        Verdict::Off(cause)
+    }
+
+    /// Acts by what the numbers say of a piece.
+    fn step(&mut self, now: Tick, present: bool, room: bool, pdu: &PduView<'_>) -> Verdict
+        requires now { now ≤ 10000000 }
+        requires filled { self.old.join.filled ≡ 0 }
+        requires gaps { self.old.join.gaps ≡ [] }
+        ensures step { IsStep (law.with_room room (number_verdict present self.old.accepted pdu.now.seq pdu.now.drf)) present now (pdu_of pdu.now) self.old result self.new }
+        ensures small { pdu.now.seq < 2 ^ 32 }
+    {
+        match self.judge(present, room, pdu.seq, pdu.drf) {
+            Judged::Accepted => self.accept(now, present, pdu),
+            Judged::Held => self.hold(now, pdu),
+            Judged::Duplicate => self.know(now, Cause::Duplicate {
+                num: Num {
+                    cep: pdu.scep,
+                    seq: u64::from(pdu.seq),
+                },
+            }),
+            Judged::Behind => {
+                let highest = self.accepted.top();
+                self.know(now, Cause::Behind { highest })
+            }
+            Judged::NoState => Verdict::Off(Cause::NoState { drf: pdu.drf }),
+            Judged::NoRoom => Verdict::Off(Cause::NoRoom { cap: self.window }),
+        }
+    }
+
+    /// Receives a piece, once what was not fetched is forgotten.
+    fn receive(&mut self, now: Tick, pdu: &PduView<'_>, unpassed: u32) -> Verdict
+        requires { now ≤ 10000000 }
+        ensures steps { Steps now (pdu_of pdu.now) unpassed self.old result self.new }
+        ensures small { pdu.now.seq < 2 ^ 32 }
+    {
+        let present = self.present(now);
+        let room = unpassed < self.window;
+        self.clear();
+        self.step(now, present, room, pdu)
+    }
+
+    /// A piece came, at a tick of at most 10,000,000, while `unpassed` SDUs wait to be passed: the row of the
+    /// connection machine, for every state of the machine for which this one stands. Takes no memory. All that
+    /// came of earlier pieces is to be fetched before: what was not is forgotten. Of a piece that the sender of
+    /// a cube does not make, because it is too long, or does not lie in the window, nothing is told.
+    pub fn on_data(&mut self, now: Tick, pdu: &PduView<'_>, unpassed: u32) -> Verdict
+        requires { now ≤ 10000000 }
+        ensures { IsRow now (pdu_of pdu.now) unpassed self.old result self.new }
+    {
+        self.receive(now, pdu, unpassed)
+    }
+
+    /// The number after the greatest one that was accepted, on a reliable flow after all that were; None exactly where no state
+    /// stands.
+    pub fn next(&self, now: Tick) -> Option<u64>
+        ensures { TellsNext now self.now result }
+    {
+        if self.present(now) {
+            Some(self.accepted.next())
+        } else {
+            None
+        }
+    }
+
+    /// The first number that the joiner holds; None exactly where it holds nothing.
+    pub fn joining(&self) -> Option<u32>
+        ensures kept { result ≡ from_kept self.now.join.joining.held }
+        ensures machine { TellsJoining self.now result }
+    {
+        match self.join.held() {
+            Some(run) => Some(run.from),
+            None => None,
+        }
+    }
+
+    /// The tick of the last piece that was accepted, held, or written off as `Duplicate` or `Behind`; None exactly where no state
+    /// was ever made.
+    pub fn last_in(&self) -> Option<Tick>
+        ensures { TellsLastIn self.now result }
+    {
+        if self.made { Some(self.last_in) } else { None }
+    }
+
+    /// The SDUs that the last piece made whole, one by one in order; None exactly where none is left.
+    pub fn next_whole(&mut self) -> Option<Sdu<'_>>
+        ensures* rest { sem 𝓛 (LendsWhole self.entry) }
+        ensures first { IsFirst result self.old.join.whole }
+    {
+        self.join.next_whole()
+    }
+
+    /// Why what is kept is given up, where it is.
+    fn end_cause(&self, now: Tick) -> Option<Cause>
+        ensures { result ≡ end_cause now self.now }
+    {
+        if self.closed {
+            return Some(Cause::NoConnection {
+                cep: self.source.dcep,
+            });
+        }
+        if self.present(now) {
+            return None;
+        }
+        Some(Cause::StateGone {
+            last_in: self.last_in,
+        })
+    }
+
+    /// Takes the pieces out of the joiner, once those that were taken before are given up.
+    fn gather(&mut self)
+        ensures { self.new ≡ gathered self.old }
+    {
+        if self.going.is_none() {
+            self.going = self.join.held();
+            self.join.reset();
+        }
+    }
+
+    /// Takes the first piece of those that were in the joiner, or else of those that are held.
+    fn next_going(&mut self) -> Option<u32>
+        ensures { GoesOn self.old.going self.old result self.new }
+    {
+        match self.going {
+            Some(run) => {
+                self.going = after_first(run);
+                Some(run.from)
+            }
+            None => self.accepted.next_held(),
+        }
+    }
+
+    /// Takes the first piece of all that are kept.
+    fn next_kept(&mut self) -> Option<u32>
+        ensures taken { TakesFirst result (kept_numbers self.old) (kept_numbers self.new) }
+        ensures rest { ChangesKept self.old self.new }
+    {
+        self.gather();
+        self.next_going()
+    }
+
+    /// The next piece that is given up because state or connection ended.
+    fn next_ended(&mut self, now: Tick) -> Option<(Key, Cause)>
+        ensures taken { TakesFirst result (ended_with self.old.source (end_cause now self.old) (kept_numbers self.old)) (ended_with self.new.source (end_cause now self.new) (kept_numbers self.new)) }
+        ensures rest { ChangesKept self.old self.new }
+        ensures standing { end_cause now self.old ≡ None → self.new ≡ self.old }
+    {
+        let cause = self.end_cause(now)?;
+        let number = self.next_kept()?;
+        Some((self.source.key(number), cause))
+    }
+
+    /// The next piece that is given up because its SDU is broken.
+    #[tactic(auto, using(crate::proofs::Fetched::broken_first))]
+    fn next_broken(&mut self) -> Option<(Key, Cause)>
+        ensures taken { TakesFirst result (broken_with self.old.source (lost_in self.old.join.gaps)) (broken_with self.old.source (lost_in self.new.join.gaps)) }
+        ensures rest { self.new ≡ record self.old { join = record self.old.join { gaps = self.new.join.gaps } } }
+    {
+        match self.join.next_lost() {
+            None => None,
+            Some(lost) => {
+                let missing = lost.missing;
+                Some((self.source.key(lost.number), Cause::Broken { missing }))
+            }
+        }
+    }
+
+    /// The next piece that this receiver held and gave up, with the cause: `Broken` where the last piece broke its SDU,
+    /// `StateGone` where no state stands any more, `NoConnection` where the connection was closed. None exactly where
+    /// there is no such piece. Pieces of one SDU come before those that are held, and numbers rise. All keys are of
+    /// the source of the last piece that was accepted or held.
+    pub fn dropped(&mut self, now: Tick) -> Option<(Key, Cause)>
+        ensures taken { TakesFirst result (drops now self.old) (drops now self.new) }
+        ensures stands { StandsAsBefore now self.old self.new }
+        ensures whole { self.new.join.whole ≡ self.old.join.whole }
+    {
+        match self.next_broken() {
+            Some(broken) => Some(broken),
+            None => self.next_ended(now),
+        }
+    }
+
+    /// Closes the connection, and answers how many pieces are held, 2^32 counted as one less. After that `dropped`
+    /// gives each of them with `NoConnection`.
+    pub fn close(&mut self) -> u32
+        ensures count { result ≡ min (length (kept_numbers self.old)) (2 ^ 32 - 1) }
+        ensures closed { self.new ≡ record self.old { closed = true } }
+    {
+        let count = run_count(self.going) + run_count(self.join.held()) + self.accepted.held_count();
+        self.closed = true;
+        count.min(u64::from(u32::MAX)) as u32
+    }
+}
