@@ -1,0 +1,10 @@
+pub mod Accepted
+pub mod Joins
+pub mod Lost
+pub mod Numbers
+pub mod Receiving
+pub mod Ring
+pub mod Shelf
+pub mod Slots
+pub mod Source
+pub mod Stands

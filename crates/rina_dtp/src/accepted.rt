@@ -1,0 +1,187 @@
+//! The numbers that a receiver accepted, by its kind.
+ghost use Rattle.std.specs.Prelude.{◌≡◌, ◌≤◌, ◌<◌, ◌+◌, ◌-◌, ◌*◌, ◌^◌, ℕ, [], length, true, false};
+ghost use Rattle.rina_law.specs.Receiver.{absent_verdict};
+ghost use Rattle.rina_dtp.specs.Accepted.{kind_of, known_verdict, number_verdict, judged_as, top_of, MayCount, IsCounted, IsGiven, FollowsOne, FollowsAll, Follows, HasSlotsFor};
+ghost use Rattle.rina_dtp.specs.Joins.{Grows};
+ghost use Rattle.rina_dtp.specs.Shelf.{holds};
+
+use crate::join::Join;
+use crate::place::Place;
+use crate::ring::Ring;
+use crate::shelf::Shelf;
+use crate::verdict::Judged;
+
+/// What is kept of the numbers.
+#[derive(Drop)]
+pub enum Accepted {
+    /// The last 4,096 numbers, in any order.
+    Datagram(Ring),
+    /// The greatest number.
+    Loose(u32),
+    /// The next number, and the pieces that wait for a gap to be filled.
+    Reliable(Shelf),
+}
+
+/// What a datagram receiver says of a number, where state stands.
+fn judge_datagram(ring: &Ring, number: u32) -> Judged
+    ensures { result ≡ judged_as (known_verdict (Accepted.Datagram ring.now) number) }
+{
+    if ring.is_behind(number) {
+        Judged::Behind
+    } else if ring.has(number) {
+        Judged::Duplicate
+    } else {
+        Judged::Accepted
+    }
+}
+
+/// What a loose receiver says of a number, where state stands.
+fn judge_loose(highest: u32, number: u32) -> Judged
+    ensures { result ≡ judged_as (known_verdict (Accepted.Loose highest) number) }
+{
+    if number > highest {
+        Judged::Accepted
+    } else {
+        Judged::Behind
+    }
+}
+
+/// What a reliable receiver says of a number, where state stands.
+fn judge_reliable(shelf: &Shelf, number: u32) -> Judged
+    ensures { result ≡ judged_as (known_verdict (Accepted.Reliable shelf.now) number) }
+{
+    let number = u64::from(number);
+    if number < shelf.next() || shelf.holds(number) {
+        Judged::Duplicate
+    } else if number == shelf.next() {
+        Judged::Accepted
+    } else {
+        Judged::Held
+    }
+}
+
+/// Joins a held piece. One that can't be joined is given up.
+fn join_held(place: &Place, join: &mut Join)
+    requires slot { join.old.filled < join.old.slots }
+    requires gap { length join.old.gaps + 1 < 2 * join.old.slots }
+    ensures given { IsGiven place.now join.old join.new }
+    ensures grows { Grows 2 join.old join.new }
+{
+    let number = place.number();
+    let missing = join.take(number, place.is_first(), place.is_last(), place.body());
+    if let Some(missing) = missing {
+        join.give_up_one(number, missing);
+    }
+}
+
+/// Joins the held piece of the next number, where there is one, and answers whether there was.
+fn follow_one(shelf: &mut Shelf, join: &mut Join) -> bool
+    requires slot { join.old.filled < join.old.slots }
+    requires gap { length join.old.gaps + 1 < 2 * join.old.slots }
+    ensures there { result ≡ holds shelf.old.places shelf.old.next }
+    ensures follows { result ≡ true → FollowsOne shelf.old join.old shelf.new join.new }
+    ensures none { result ≡ false → (shelf.new ≡ shelf.old) × (join.new ≡ join.old) }
+    ensures grows { Grows 2 join.old join.new }
+{
+    let next = shelf.next();
+    if !shelf.holds(next) {
+        return false;
+    }
+    join_held(shelf.place(next), join);
+    shelf.free(next);
+    shelf.advance();
+    true
+}
+
+/// Joins the held pieces that follow, one after the other.
+fn follow_all(shelf: &mut Shelf, join: &mut Join)
+    requires filled { join.old.filled ≤ 1 }
+    requires gaps { length join.old.gaps ≤ 1 }
+    requires least { 1 ≤ length shelf.old.places }
+    requires slots { length shelf.old.places ≤ join.old.slots }
+    ensures follows { FollowsAll shelf.old join.old shelf.new join.new }
+    ensures places { length shelf.new.places ≡ length shelf.old.places }
+    ensures slots { join.new.slots ≡ join.old.slots }
+{
+    let others = shelf.window() - 1;
+    for step in 0..others {
+        if !follow_one(shelf, join) {
+            return;
+        }
+    }
+}
+
+impl Accepted {
+    /// What the numbers say of a piece, where state stands.
+    fn known_verdict(&self, number: u32) -> Judged
+        ensures { result ≡ judged_as (known_verdict self.now number) }
+    {
+        match self {
+            Accepted::Datagram(ring) => judge_datagram(ring, number),
+            Accepted::Loose(highest) => judge_loose(*highest, number),
+            Accepted::Reliable(shelf) => judge_reliable(shelf, number),
+        }
+    }
+
+    /// What is said of a piece where no state stands: a reliable flow begins with a piece that has the data run flag.
+    fn absent_verdict(&self, drf: bool) -> Judged
+        ensures { result ≡ judged_as (absent_verdict (kind_of self.now) drf) }
+    {
+        match self {
+            Accepted::Reliable(_) if !drf => Judged::NoState,
+            _ => Judged::Accepted,
+        }
+    }
+
+    /// What the numbers say of a piece.
+    pub fn verdict(&self, present: bool, number: u32, drf: bool) -> Judged
+        ensures { result ≡ judged_as (number_verdict present self.now number drf) }
+    {
+        if present {
+            self.known_verdict(number)
+        } else {
+            self.absent_verdict(drf)
+        }
+    }
+
+    /// The greatest number that was accepted.
+    pub fn top(&self) -> u32
+        ensures { result ≡ top_of self.now }
+    {
+        match self {
+            Accepted::Datagram(ring) => ring.top(),
+            Accepted::Loose(highest) => *highest,
+            Accepted::Reliable(shelf) => shelf.next().saturating_sub(1) as u32,
+        }
+    }
+
+    /// Counts a number as accepted; where no state stood, as the only one.
+    pub fn count(&mut self, present: bool, number: u32)
+        requires { present ≡ true → MayCount self.old number }
+        ensures counted { IsCounted present number self.old self.new }
+        ensures sound { (slots : ℕ) → HasSlotsFor self.old slots → HasSlotsFor self.new slots }
+    {
+        match self {
+            Accepted::Datagram(ring) if present => ring.add(number),
+            Accepted::Datagram(ring) => ring.restart(number),
+            Accepted::Loose(highest) => *highest = number,
+            Accepted::Reliable(shelf) if present => shelf.advance(),
+            Accepted::Reliable(shelf) => shelf.restart(number),
+        }
+    }
+
+    /// Joins the held pieces that follow.
+    pub fn follow(&mut self, join: &mut Join)
+        requires filled { join.old.filled ≤ 1 }
+        requires gaps { length join.old.gaps ≤ 1 }
+        requires slots { HasSlotsFor self.old join.old.slots }
+        ensures follows { Follows self.old join.old self.new join.new }
+        ensures slots { join.new.slots ≡ join.old.slots }
+        ensures sound { HasSlotsFor self.new join.new.slots }
+    {
+        match self {
+            Accepted::Reliable(shelf) => follow_all(shelf, join),
+            _ => {}
+        }
+    }
+}

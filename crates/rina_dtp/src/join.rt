@@ -1,0 +1,224 @@
+//! Joining the pieces that were accepted, and the SDUs that wait to be fetched.
+ghost use Rattle.std.specs.Prelude.{◌≡◌, ◌≤◌, ◌<◌, ◌+◌, ◌-◌, ◌*◌, ◌++◌, [], ◌∷◌, ℕ, length, IfOk, Some, None, slice_set, slice_get, drop, Option, IfSome, All, true, false, IsTrue, ◌↔◌};
+ghost use Rattle.std.specs.Vec.{vec_capacity};
+ghost use Rattle.rina_delim.specs.Joining.{piece, empty, answer, joined, HasRoom};
+ghost use Rattle.rina_dtp.specs.Joins.{gap_if, start_of, taken, missing_in, IsJoined, HasPlaces, Grows, HasRoomOf, cleared};
+
+use crate::gap::Gap;
+use crate::slot::Slot;
+use rina_base::Memory;
+use rina_delim::{Joined, Joiner, Run};
+use std::alloc::Global;
+use std::marker::Model;
+
+/// The pieces of the SDU that is being joined, and what came of others: whole SDUs, in slots that are
+/// filled one after the other, and gaps.
+#[derive(Drop)]
+pub struct Join {
+    joiner: Joiner,
+    slots: Vec<Slot>,
+    /// How many slots are filled, and how many of these were fetched.
+    filled: usize,
+    fetched: usize,
+    gaps: Vec<Gap>,
+}
+
+impl Model for Join {
+    ghost use Rattle.std.specs.Prelude.{◌≤◌, ◌*◌, length, All};
+    ghost use Rattle.std.specs.Vec.{vec_capacity};
+    ghost use Rattle.rina_dtp.specs.Joins.{Joins, sdus_in, HasRoomOf};
+
+    ghost Value = { Joins };
+
+    ghost view = { λ j. record { joining = j.joiner; whole = sdus_in j.fetched j.filled j.slots.items; gaps = j.gaps.items; filled = j.filled; slots = length j.slots.items } };
+
+    ghost invariant = { λ j. (j.filled ≤ length j.slots.items) × (j.fetched ≤ j.filled) × (2 * length j.slots.items ≤ vec_capacity j.gaps) × All (HasRoomOf j.joiner.largest) j.slots.items };
+}
+
+/// Empty slots for SDUs of at most `largest` bytes.
+fn make_slots(alloc: Global, count: u32, largest: u32) -> Result<Vec<Slot>, Memory>
+    ensures count { IfOk result (λ v. length v.items ≡ count) }
+    ensures room { IfOk result (λ v. All (HasRoomOf largest) v.items) }
+{
+    let mut slots = Vec::with_capacity(alloc, count as usize)?;
+    for made in 0..count {
+        if slots.push(Slot::new(alloc, largest)?).is_err() {
+            return Err(Memory);
+        }
+    }
+    Ok(slots)
+}
+
+/// Gives up the pieces that wait, where they are cut off. Takes no memory.
+fn give_up(gaps: &mut Vec<Gap>, held: Option<Run>, cut_off: bool)
+    requires { length gaps.old.items < vec_capacity gaps.old }
+    ensures items { gaps.new.items ≡ gaps.old.items ++ gap_if cut_off held }
+    ensures capacity { vec_capacity gaps.old ≤ vec_capacity gaps.new }
+{
+    if !cut_off {
+        return;
+    }
+    if let Some(run) = held {
+        let gap = Gap {
+            from: run.from,
+            last: run.last,
+            missing: run.last.wrapping_add(1),
+        };
+        match gaps.push(gap) {
+            Ok(()) => {}
+            Err(_) => unreachable!(),
+        }
+    }
+}
+
+/// The number of the first piece of an SDU.
+fn start(first: bool, held: Option<Run>, number: u32) -> u32
+    ensures { result ≡ start_of first held number }
+{
+    match held {
+        Some(run) if !first => run.from,
+        _ => number,
+    }
+}
+
+impl Join {
+    /// Nothing yet, with slots for `slots` SDUs of at most `largest` bytes. Takes all the memory that is ever needed.
+    pub fn new(alloc: Global, slots: u32, largest: u32) -> Result<Join, Memory>
+        requires { slots ≤ 256 }
+        ensures { IfOk result (λ j. j ≡ record { joining = empty largest; whole = []; gaps = []; filled = 0; slots = slots }) }
+    {
+        let joiner = match Joiner::new(alloc, largest) {
+            Ok(joiner) => joiner,
+            Err(_) => return Err(Memory),
+        };
+        let gaps = Vec::with_capacity(alloc, 2 * slots as usize)?;
+        Ok(Join {
+            joiner,
+            slots: make_slots(alloc, slots, largest)?,
+            filled: 0,
+            fetched: 0,
+            gaps,
+        })
+    }
+
+    /// Forgets what was not fetched.
+    pub fn clear(&mut self)
+        ensures { self.new ≡ cleared self.old }
+    {
+        self.filled = 0;
+        self.fetched = 0;
+        self.gaps.clear();
+    }
+
+    /// Drops the pieces that wait.
+    pub fn reset(&mut self)
+        ensures { self.new ≡ record self.old { joining = empty self.old.joining.largest } }
+    {
+        self.joiner.reset();
+    }
+
+    /// Keeps the SDU that was made whole, in the next slot.
+    fn keep(&mut self, from: u32, last: u32)
+        requires { self.old.filled < self.old.slots }
+        ensures { self.new ≡ record self.old { whole = self.old.whole ++ record { first = from; pieces = last - from + 1; bytes = self.old.joining.bytes } ∷ []; filled = self.old.filled + 1 } }
+    {
+        self.slots[self.filled].fill(from, last, self.joiner.whole());
+        self.filled += 1;
+    }
+
+    /// Whether there is room for the bytes of a piece.
+    fn has_room(&self, number: u32, first: bool, len: usize) -> bool
+        ensures { IsTrue result ↔ HasRoom self.now.joining number first len }
+    {
+        self.joiner.has_room(number, first, len)
+    }
+
+    /// Gives up the pieces that wait, for want of room: no lawful piece comes here.
+    fn overflow(&mut self)
+        requires { length self.old.gaps < 2 * self.old.slots }
+        ensures { Grows 1 self.old self.new }
+    {
+        give_up(&mut self.gaps, self.joiner.held(), true);
+        self.joiner.reset();
+    }
+
+    /// Joins a piece for which there is room.
+    fn add(&mut self, number: u32, first: bool, last: bool, body: &[u8]) -> Option<u32>
+        requires room { HasRoom self.old.joining number first (length body.now) }
+        requires slot { self.old.filled < self.old.slots }
+        requires gap { length self.old.gaps < 2 * self.old.slots }
+        ensures missing { result ≡ missing_in (answer self.old.joining (piece number first last body.now)) }
+        ensures taken { self.new ≡ taken (piece number first last body.now) self.old }
+    {
+        let held = self.joiner.held();
+        match self.joiner.push(number, first, last, body) {
+            Joined::More => {
+                give_up(&mut self.gaps, held, first);
+                None
+            }
+            Joined::Whole => {
+                give_up(&mut self.gaps, held, first);
+                self.keep(start(first, held, number), number);
+                None
+            }
+            Joined::Broken { missing } => {
+                give_up(&mut self.gaps, held, true);
+                Some(missing)
+            }
+        }
+    }
+
+    /// Joins an accepted piece to those that wait, and answers the number that is missing where its SDU
+    /// can't be joined. Takes no memory. A piece for which there is no room breaks its SDU.
+    pub fn take(&mut self, number: u32, first: bool, last: bool, body: &[u8]) -> Option<u32>
+        requires slot { self.old.filled < self.old.slots }
+        requires gap { length self.old.gaps < 2 * self.old.slots }
+        ensures joined { IsJoined (piece number first last body.now) self.old result self.new }
+        ensures grows { Grows 1 self.old self.new }
+    {
+        if self.has_room(number, first, body.len()) {
+            self.add(number, first, last, body)
+        } else {
+            self.overflow();
+            Some(number)
+        }
+    }
+
+    /// Gives up a piece that was held and can't be joined.
+    pub fn give_up_one(&mut self, number: u32, missing: u32)
+        requires { length self.old.gaps < 2 * self.old.slots }
+        ensures { self.new ≡ record self.old { gaps = self.old.gaps ++ record { from = number; last = number; missing = missing } ∷ [] } }
+    {
+        let gap = Gap {
+            from: number,
+            last: number,
+            missing,
+        };
+        match self.gaps.push(gap) {
+            Ok(()) => {}
+            Err(_) => unreachable!(),
+        }
+    }
+
+    /// How many SDUs wait to be fetched.
+    pub fn count(&self) -> u32
+        requires { self.now.slots ≤ 256 }
+        ensures { result ≡ length self.now.whole }
+    {
+        (self.filled - self.fetched) as u32
+    }
+
+    /// The pieces that wait for the rest of their SDU.
+    pub fn held(&self) -> Option<Run>
+        ensures { result ≡ self.now.joining.held }
+    {
+        self.joiner.held()
+    }
+
+    /// The first gap.
+    pub fn gap(&self) -> Option<Gap>
+        ensures { result ≡ slice_get self.now.gaps 0 }
+    {
+        self.gaps.first().copied()
+    }
+}

@@ -1,0 +1,26 @@
+//! The data transfer protocol (DTP): the numbers of a sender, and the receiver of a connection.
+#![tactic(auto)]
+
+mod accepted;
+mod gap;
+mod join;
+mod numbers;
+mod place;
+mod ring;
+mod rx;
+mod shelf;
+mod slot;
+mod source;
+mod verdict;
+
+pub use accepted::Accepted;
+pub use gap::Gap;
+pub use join::Join;
+pub use numbers::{Numbers, NumbersSpent};
+pub use place::Place;
+pub use ring::Ring;
+pub use rx::Rx;
+pub use shelf::Shelf;
+pub use slot::Slot;
+pub use source::Source;
+pub use verdict::{Judged, Verdict};

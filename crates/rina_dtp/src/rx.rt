@@ -1,0 +1,169 @@
+//! The receiver of a connection.
+ghost use Rattle.std.specs.Prelude.{◌≡◌, ◌≤◌, ◌<◌, ◌+◌, ◌*◌, ◌^◌, nat_lt, true, false, [], length, None, IfOk};
+ghost use Rattle.rina_base.specs.Pdus.{pdu_of};
+ghost use Rattle.rina_cube.specs.Cubes.{IsCube};
+ghost use Rattle.rina_law.specs.Receiver as law;
+ghost use Rattle.rina_dtp.specs.Accepted.{known_verdict, number_verdict, judged_as};
+ghost use Rattle.rina_dtp.specs.Receiving.{present_at, cleared, IsAccepted, IsHeldIn, IsStep, Steps};
+
+use crate::accepted::Accepted;
+use crate::join::Join;
+use crate::ring::Ring;
+use crate::shelf::Shelf;
+use crate::source::Source;
+use crate::verdict::{Judged, Verdict};
+use rina_base::{Cause, Memory, Num, PduView, Tick};
+use rina_cube::{Cube, Kind};
+use rina_delim::Run;
+use std::alloc::Global;
+use std::marker::Model;
+
+/// The receiver of a connection. Its state ends by the clock, `2 * delta` ticks after the last piece that counted.
+#[derive(Drop)]
+pub struct Rx {
+    /// How many SDUs may wait to be passed.
+    window: u32,
+    /// How long state stands, in ticks: `2 * delta`.
+    rest: u32,
+    /// Whether state was ever made, and the tick of the last piece that counted.
+    made: bool,
+    last_in: Tick,
+    /// The connection is closed.
+    closed: bool,
+    /// Where the last piece came from that was accepted or held.
+    source: Source,
+    accepted: Accepted,
+    /// Pieces that waited in the joiner when the state or the connection ended.
+    going: Option<Run>,
+    join: Join,
+}
+
+impl Model for Rx {
+    ghost use Rattle.rina_dtp.specs.Receiving.{Receiving, IsSound};
+
+    ghost Value = { Receiving };
+
+    ghost view = { λ r. record { window = r.window; rest = r.rest; made = r.made; last_in = r.last_in; closed = r.closed; source = r.source; accepted = r.accepted; going = r.going; join = r.join } };
+
+    ghost invariant = { λ r. IsSound (record { window = r.window; rest = r.rest; made = r.made; last_in = r.last_in; closed = r.closed; source = r.source; accepted = r.accepted; going = r.going; join = r.join }) };
+}
+
+/// While too many SDUs wait to be passed, nothing is accepted or held.
+fn with_room(room: bool, judged: Judged) -> Judged
+    ensures { (v : law.Verdict) → judged ≡ judged_as v → result ≡ judged_as (law.with_room room v) }
+{
+    match judged {
+        Judged::Accepted | Judged::Held if !room => Judged::NoRoom,
+        _ => judged,
+    }
+}
+
+impl Rx {
+    /// Whether state stands.
+    pub fn present(&self, now: Tick) -> bool
+        ensures { result ≡ present_at now self.now }
+    {
+        self.made && now < self.last_in + self.rest
+    }
+
+    /// Forgets what was not fetched.
+    fn clear(&mut self)
+        ensures { self.new ≡ cleared self.old }
+    {
+        self.going = None;
+        self.join.clear();
+    }
+
+    /// What the numbers say of a piece.
+    fn judge(&self, present: bool, room: bool, pdu: &PduView<'_>) -> Judged
+        ensures { result ≡ judged_as (law.with_room room (number_verdict present self.now.accepted pdu.now.seq pdu.now.drf)) }
+    {
+        with_room(room, self.accepted.verdict(present, pdu.seq, pdu.drf))
+    }
+
+    /// Accepts a piece, and the held ones that follow.
+    fn accept(&mut self, now: Tick, present: bool, pdu: &PduView<'_>) -> Verdict
+        requires now { now ≤ 10000000 }
+        requires may { present ≡ true → known_verdict self.old.accepted pdu.now.seq ≡ law.Accepted }
+        requires filled { self.old.join.filled ≡ 0 }
+        requires gaps { self.old.join.gaps ≡ [] }
+        ensures { IsAccepted present now (pdu_of pdu.now) self.old result self.new }
+    {
+        if !present {
+            self.join.reset();
+        }
+        self.accepted.count(present, pdu.seq);
+        let missing = self.join.take(pdu.seq, pdu.first, pdu.last, pdu.body);
+        self.accepted.follow(&mut self.join);
+        self.made = true;
+        self.last_in = now;
+        self.source = Source::of(pdu);
+        match missing {
+            None => Verdict::Accept {
+                whole: self.join.count(),
+            },
+            Some(missing) => Verdict::Off(Cause::Broken { missing }),
+        }
+    }
+
+    /// Holds a piece. One that has no place is refused for want of room: no lawful piece comes here.
+    fn hold(&mut self, now: Tick, pdu: &PduView<'_>) -> Verdict
+        requires { now ≤ 10000000 }
+        ensures { IsHeldIn self.old.accepted now (pdu_of pdu.now) self.old result self.new }
+    {
+        match &mut self.accepted {
+            Accepted::Reliable(shelf) if shelf.has_place(pdu.seq, pdu.body.len()) => {
+                shelf.put(pdu.seq, pdu.first, pdu.last, pdu.body);
+            }
+            _ => return Verdict::Off(Cause::NoRoom { cap: self.window }),
+        }
+        self.last_in = now;
+        self.source = Source::of(pdu);
+        Verdict::Hold
+    }
+
+    /// Writes off a piece that was there before. It counts for how long state stands.
+    fn know(&mut self, now: Tick, cause: Cause) -> Verdict
+        requires { now ≤ 10000000 }
+        ensures told { result ≡ Verdict.Off cause }
+        ensures last_in { self.new ≡ record self.old { last_in = now } }
+    {
+        self.last_in = now;
+        Verdict::Off(cause)
+    }
+
+    fn step(&mut self, now: Tick, present: bool, room: bool, pdu: &PduView<'_>) -> Verdict
+        requires now { now ≤ 10000000 }
+        requires filled { self.old.join.filled ≡ 0 }
+        requires gaps { self.old.join.gaps ≡ [] }
+        ensures { IsStep (law.with_room room (number_verdict present self.old.accepted pdu.now.seq pdu.now.drf)) present now (pdu_of pdu.now) self.old result self.new }
+    {
+        match self.judge(present, room, pdu) {
+            Judged::Accepted => self.accept(now, present, pdu),
+            Judged::Held => self.hold(now, pdu),
+            Judged::Duplicate => self.know(now, Cause::Duplicate {
+                num: Num {
+                    cep: pdu.scep,
+                    seq: u64::from(pdu.seq),
+                },
+            }),
+            Judged::Behind => {
+                let highest = self.accepted.top();
+                self.know(now, Cause::Behind { highest })
+            }
+            Judged::NoState => Verdict::Off(Cause::NoState { drf: pdu.drf }),
+            Judged::NoRoom => Verdict::Off(Cause::NoRoom { cap: self.window }),
+        }
+    }
+
+    /// Steps, by what is kept.
+    fn receive(&mut self, now: Tick, pdu: &PduView<'_>, unpassed: u32) -> Verdict
+        requires { now ≤ 10000000 }
+        ensures { Steps now (pdu_of pdu.now) unpassed self.old result self.new }
+    {
+        let present = self.present(now);
+        let room = unpassed < self.window;
+        self.clear();
+        self.step(now, present, room, pdu)
+    }
+}

@@ -1,0 +1,147 @@
+//! The pieces that a reliable receiver holds until the gap before them is filled.
+ghost use Rattle.std.specs.Prelude.{◌≡◌, ◌≤◌, ◌<◌, ◌+◌, ◌-◌, ◌%◌, ◌^◌, ℕ, length, All, IfOk, IsTrue, ◌↔◌, true, false, slice_index_or};
+ghost use Rattle.rina_dtp.specs.Shelf.{no_place, place_at, holds, with_piece, without, HasRoomOf, IsUnused};
+
+use crate::place::Place;
+use rina_base::Memory;
+use std::alloc::Global;
+use std::marker::Model;
+
+/// The next number, and as many places as the window has numbers. A number has its own place, modulo how many
+/// there are.
+#[derive(Drop)]
+pub struct Shelf {
+    /// The number after all that were accepted, up to 2^32.
+    next: u64,
+    piece: u32,
+    places: Vec<Place>,
+}
+
+impl Model for Shelf {
+    ghost use Rattle.std.specs.Prelude.{◌≤◌, ◌<◌, ◌^◌, length, All};
+    ghost use Rattle.rina_dtp.specs.Shelf.{Shelved, HasRoomOf};
+
+    ghost Value = { Shelved };
+
+    ghost view = { λ s. record { next = s.next; piece = s.piece; places = s.places.items } };
+
+    ghost invariant = { λ s. (1 ≤ length s.places.items) × (s.next ≤ 2 ^ 32) × (length s.places.items ≤ 256) × All (HasRoomOf s.piece) s.places.items };
+}
+
+/// Unused places for pieces of at most `piece` bytes.
+fn make_places(alloc: Global, count: u32, piece: u32) -> Result<Vec<Place>, Memory>
+    ensures count { IfOk result (λ v. length v.items ≡ count) }
+    ensures room { IfOk result (λ v. All (HasRoomOf piece) v.items) }
+    ensures unused { IfOk result (λ v. All IsUnused v.items) }
+{
+    let mut places = Vec::with_capacity(alloc, count as usize)?;
+    for made in 0..count {
+        if places.push(Place::new(alloc, piece)?).is_err() {
+            return Err(Memory);
+        }
+    }
+    Ok(places)
+}
+
+/// Lets go of all pieces.
+fn free_all(places: &mut Vec<Place>, piece: u32)
+    requires { All (HasRoomOf piece) places.old.items }
+    ensures count { length places.new.items ≡ length places.old.items }
+    ensures room { All (HasRoomOf piece) places.new.items }
+    ensures unused { All IsUnused places.new.items }
+{
+    for place in places.iter_mut() {
+        place.free();
+    }
+}
+
+impl Shelf {
+    /// Nothing is held. Takes all the memory that is ever needed for `window` pieces, 1 to 256, of at most `piece` bytes.
+    pub fn new(alloc: Global, window: u32, piece: u32) -> Result<Shelf, Memory>
+        requires least { 1 ≤ window }
+        requires most { window ≤ 256 }
+        ensures count { IfOk result (λ s. length s.places ≡ window) }
+        ensures piece { IfOk result (λ s. s.piece ≡ piece) }
+        ensures next { IfOk result (λ s. s.next ≡ 0) }
+        ensures unused { IfOk result (λ s. All IsUnused s.places) }
+    {
+        Ok(Shelf {
+            next: 0,
+            piece,
+            places: make_places(alloc, window, piece)?,
+        })
+    }
+
+    /// The number after all that were accepted.
+    pub fn next(&self) -> u64
+        ensures next { result ≡ self.now.next }
+        ensures within { result ≤ 2 ^ 32 }
+    {
+        self.next
+    }
+
+    /// How many places there are.
+    pub fn window(&self) -> u64
+        ensures { result ≡ length self.now.places }
+    {
+        self.places.len() as u64
+    }
+
+    /// The place of a number.
+    pub fn place(&self, number: u64) -> &Place
+        ensures { result.now ≡ place_at self.now.places number }
+    {
+        &self.places[(number % self.places.len() as u64) as usize]
+    }
+
+    /// Whether the piece of a number is held.
+    pub fn holds(&self, number: u64) -> bool
+        ensures holds { result ≡ holds self.now.places number }
+        ensures small { result ≡ true → number < 2 ^ 32 }
+    {
+        self.place(number).holds(number)
+    }
+
+    /// Whether a piece of a number has a place: it lies in the window, and is not too long.
+    pub fn has_place(&self, number: u32, len: usize) -> bool
+        ensures { IsTrue result ↔ (number < self.now.next + length self.now.places) × (len ≤ self.now.piece) }
+    {
+        u64::from(number) < self.next + self.window() && len <= self.piece as usize
+    }
+
+    /// Holds a piece.
+    pub fn put(&mut self, number: u32, first: bool, last: bool, body: &[u8])
+        requires { length body.now ≤ self.old.piece }
+        ensures { self.new ≡ record self.old { places = with_piece number first last body.now self.old.places } }
+    {
+        let at = u64::from(number) % self.places.len() as u64;
+        self.places[at as usize].put(number, first, last, body);
+    }
+
+    /// Lets go of the piece of a number.
+    pub fn free(&mut self, number: u64)
+        ensures { self.new ≡ record self.old { places = without number self.old.places } }
+    {
+        let at = number % self.places.len() as u64;
+        self.places[at as usize].free();
+    }
+
+    /// Counts the next number as accepted.
+    pub fn advance(&mut self)
+        requires { self.old.next < 2 ^ 32 }
+        ensures { self.new ≡ record self.old { next = self.old.next + 1 } }
+    {
+        self.next += 1;
+    }
+
+    /// Begins anew, with one number accepted and nothing held.
+    pub fn restart(&mut self, number: u32)
+        ensures next { self.new.next ≡ number + 1 }
+        ensures piece { self.new.piece ≡ self.old.piece }
+        ensures count { length self.new.places ≡ length self.old.places }
+        ensures unused { All IsUnused self.new.places }
+    {
+        self.next = u64::from(number) + 1;
+        free_all(&mut self.places, self.piece);
+    }
+}
