@@ -1,5 +1,5 @@
 -- What is kept follows the machine's sender.
-use Rattle.std.proofs.Common.{◌≡◌, ℕ, zero, suc, ◌+◌, ◌-◌, ◌*◌, ◌<◌, ◌≤◌, max, min, Bool, true, false, cond, ◌&&◌, ◌||◌, ◌==◌, eqb, leb, nat_le, List, [], ◌∷◌, ◌++◌, length, drop, Option, Some, None, refl, sym, ◌∙◌, ap, subst, arith, inl, inr, get_or, slice_get, position, option_map, ltb, IfSome, OnOk, Result, Ok, Err, if◌then◌else◌}
+use Rattle.std.proofs.Common.{◌≡◌, ℕ, zero, suc, ◌+◌, ◌-◌, ◌*◌, ◌<◌, ◌≤◌, max, min, Bool, true, false, cond, ◌&&◌, ◌||◌, ◌==◌, eqb, leb, nat_le, List, [], ◌∷◌, ◌++◌, length, drop, map, append_assoc, append-nil, Option, Some, None, refl, sym, ◌∙◌, ap, subst, arith, inl, inr, get_or, slice_get, position, option_map, ltb, IfSome, OnOk, Result, Ok, Err, if◌then◌else◌}
 use Rattle.std.specs.List.{position_or_len}
 use Rattle.std.proofs.lemmas.Bool.{cases_lt, le-leb, lt-leb, leb-true, ltb-true, ne_eqb, and_parts}
 use Rattle.std.proofs.lemmas.List.{drop-drop, drop-append-le, drop_all, get_or-drop, length-drop, length-append}
@@ -10,12 +10,12 @@ use Rattle.rina_cube.specs.Cubes.{delta_of, is_reliable}
 use Rattle.rina_law.specs.Constants.{Constants, delta}
 use Rattle.rina_law.specs.Pieces.{Part}
 use Rattle.rina_law.specs.Receiver.{Piece}
-use Rattle.rina_law.specs.Sender.{Member, Sender, no_member, member, is_empty, is_idle, is_absent, started, fresh, room_of, piece_for, member_for, sender_with, due_from, late_from, if_reliable, again_due, given_up, sender_again, piece_again, sender_told, resent}
+use Rattle.rina_law.specs.Sender.{Member, Sender, no_member, member, is_empty, is_idle, is_absent, started, fresh, room_of, piece_for, member_for, sender_with, pieces_for, sender_with_all, due_from, late_from, if_reliable, again_due, given_up, sender_again, piece_again, sender_told, resent}
 use Rattle.rina_dtcp.specs.declared.sent.Sent.{Sent}
 use Rattle.rina_dtcp.specs.declared.sent.GaveUp.{GaveUp}
 use Rattle.rina_dtcp.specs.Sents.{is_due, is_late, touched}
-use Rattle.rina_dtcp.specs.Senders.{Kept, is_gone, left_in, keeps, with_sent, counted, noted, settled, raised, resent_at, IsPduAt, num_in, sent_at, late_of, late_in}
-use Rattle.rina_dtcp.specs.Rows.{waiting, sent_of, sent_from, Stands, ready, TellsRoom, TellsIdle, IsNext, Notes, IsTold, after_again, Resends, gave_up_of, TellsGivenUp}
+use Rattle.rina_dtcp.specs.Senders.{Kept, is_gone, left_in, keeps, with_sent, counted, noted, least_from, sents_from, with_all, counted_all, settled, raised, resent_at, IsPduAt, num_in, sent_at, late_of, late_in}
+use Rattle.rina_dtcp.specs.Rows.{waiting, sent_of, sent_from, Stands, ready, TellsRoom, TellsIdle, IsNext, Notes, NotesAll, IsTold, after_again, Resends, gave_up_of, TellsGivenUp}
 use Rattle.rina_law.proofs.Lists.{resent-length}
 use Rattle.rina_dtcp.proofs.Scanning.{due_place, late_place}
 use Rattle.rina_dtcp.proofs.Touching.{touched_pdu, sent_pdu, touched_resent}
@@ -137,6 +137,75 @@ note_row now seq pdu old new e c carry m part st next =
     let gone = gone_is c carry now m old st in
     let none : is_absent c now m ≡ true → waiting c.cube.kind m ≡ [] = (λ h. none_when_absent c.cube.kind m.run m.acked m.right m.last_out (leb (m.last_out + 3 * delta c) now) h) in
     rw (e, gone) (note_by (is_absent c now m) c carry now seq part m pdu old st next.0 next.1 none)
+
+-- Pieces that are made one after the other
+
+-- what is kept after so many, with these that wait
+abbrev kept_as : Kept → Bool → ℕ → ℕ → List Sent → Kept
+kept_as k b now count sents = record { cube = k.cube; count = count; acked = cond b 0 k.acked; right = cond b (k.cube.window - 1) k.right; last_out = now; unacked = sents }
+
+all_is : (rel b : Bool) (now seq : ℕ) (more : List Sent) (k : Kept) → counted b now seq (cond rel (record k { unacked = k.unacked ++ more }) k) ≡ kept_as k b now (seq + 1) (cond rel (k.unacked ++ more) k.unacked)
+all_is true b now seq more k = refl
+all_is false b now seq more k = refl
+
+abbrev after_one : Bool → Bool → ℕ → ℕ → Pdu → Kept → List Sent
+after_one rel b now seq x k = cond (rel && (b || leb k.acked seq)) (k.unacked ++ new_sent now x ∷ []) k.unacked
+
+more_sents : (rel b : Bool) (now seq : ℕ) (x : Pdu) (xs : List Pdu) (k : Kept) → cond rel (k.unacked ++ sents_from (cond b 0 k.acked) now seq (x ∷ xs)) k.unacked ≡ cond rel (after_one rel b now seq x k ++ sents_from (cond b 0 k.acked) now (seq + 1) xs) (after_one rel b now seq x k)
+more_sents false b now seq x xs k = refl
+more_sents true true now seq x xs k = (let low : leb 0 seq ≡ true = le-leb 0 seq (omega arith) in rw low (sym (append_assoc k.unacked (new_sent now x ∷ []) (sents_from 0 now (seq + 1) xs))))
+more_sents true false now seq x xs k = go (leb k.acked seq)
+  where
+    go : (v : Bool) → k.unacked ++ cond v (new_sent now x ∷ sents_from k.acked now (seq + 1) xs) (sents_from k.acked now (seq + 1) xs) ≡ cond v (k.unacked ++ new_sent now x ∷ []) k.unacked ++ sents_from k.acked now (seq + 1) xs
+    go true = sym (append_assoc k.unacked (new_sent now x ∷ []) (sents_from k.acked now (seq + 1) xs))
+    go false = refl
+
+-- with one piece
+abbrev after_step : Bool → ℕ → ℕ → Pdu → Kept → Kept
+after_step b now seq x k = counted b now seq (cond (keeps b seq k) (with_sent now x k) k)
+
+one_is : (b : Bool) (now seq : ℕ) (x : Pdu) (k : Kept) → counted_all b now seq (x ∷ []) k ≡ after_step b now seq x k
+one_is b now seq x k =
+    let list = more_sents (is_reliable k.cube.kind) b now seq x [] k in
+    let tail : cond (is_reliable k.cube.kind) (after_one (is_reliable k.cube.kind) b now seq x k ++ []) (after_one (is_reliable k.cube.kind) b now seq x k) ≡ after_one (is_reliable k.cube.kind) b now seq x k = no_more (is_reliable k.cube.kind) (after_one (is_reliable k.cube.kind) b now seq x k) in
+    let number : seq + (length (x ∷ []) - 1) ≡ seq = omega arith in
+    ap (λ n. counted b now n (with_all b now seq (x ∷ []) k)) number ∙ all_is (is_reliable k.cube.kind) b now seq (sents_from (least_from b k) now seq (x ∷ [])) k ∙ ap (kept_as k b now (seq + 1)) (list ∙ tail) ∙ sym (counted_is b (keeps b seq k) now seq x k)
+  where
+    no_more : (rel : Bool) (xs : List Sent) → cond rel (xs ++ []) xs ≡ xs
+    no_more true xs = append-nil xs
+    no_more false xs = refl
+
+-- and then others
+more_is : (b : Bool) (now seq : ℕ) (x y : Pdu) (ys : List Pdu) (k : Kept) → counted_all b now seq (x ∷ y ∷ ys) k ≡ counted_all false now (seq + 1) (y ∷ ys) (after_step b now seq x k)
+more_is b now seq x y ys k =
+    let rel = is_reliable k.cube.kind in
+    let list = more_sents rel b now seq x (y ∷ ys) k in
+    let number : seq + (length (x ∷ y ∷ ys) - 1) ≡ seq + 1 + (length (y ∷ ys) - 1) = omega arith in
+    let first = all_is rel b now (seq + (length (x ∷ y ∷ ys) - 1)) (sents_from (least_from b k) now seq (x ∷ y ∷ ys)) k in
+    let step = counted_is b (keeps b seq k) now seq x k in
+    let then' = all_is rel false now (seq + 1 + (length (y ∷ ys) - 1)) (sents_from (cond b 0 k.acked) now (seq + 1) (y ∷ ys)) (kept_as k b now (seq + 1) (after_one rel b now seq x k)) in
+    first ∙ ap (λ n. kept_as k b now (n + 1) (cond rel (k.unacked ++ sents_from (cond b 0 k.acked) now seq (x ∷ y ∷ ys)) k.unacked)) number ∙ ap (kept_as k b now (seq + 1 + (length (y ∷ ys) - 1) + 1)) list ∙ sym then' ∙ ap (λ j. counted_all false now (seq + 1) (y ∷ ys) j) (sym step)
+
+all_by : (parts : List Part) (b : Bool) (c : Constants) (carry : Piece → Pdu) (now seq : ℕ) (m : Sender) (pdus : List Pdu) (k : Kept) → Stands c carry m k → seq ≡ length (started b c m).run → pdus ≡ map carry (pieces_for c now parts (started b c m)) → (b ≡ true → waiting c.cube.kind m ≡ []) → 1 ≤ length pdus → Stands c carry (sender_with_all c now parts (started b c m)) (counted_all b now seq pdus k)
+all_by [] b c carry now seq m pdus k st n e none some = absurd (omega (arith, ap length e))
+all_by (p ∷ []) b c carry now seq m pdus k st n e none some =
+    let x = carry (piece_for c p (started b c m)) in
+    rw (e, one_is b now seq x k) (note_by b c carry now seq p m x k st n refl none)
+all_by (p ∷ q ∷ ps) b c carry now seq m pdus k st n e none some =
+    let tx = sender_with c now p (started b c m) in
+    let x = carry (piece_for c p (started b c m)) in
+    let y = carry (piece_for c q tx) in
+    let ys = map carry (pieces_for c now ps (sender_with c now q tx)) in
+    let long = length-append (started b c m).run (member_for c now p (started b c m) ∷ []) in
+    let never : false ≡ true → waiting c.cube.kind tx ≡ [] = (λ h. cc) in
+    let rest = all_by (q ∷ ps) false c carry now (seq + 1) tx (y ∷ ys) (after_step b now seq x k) (note_by b c carry now seq p m x k st n refl none) (omega arith) refl never (omega arith) in
+    rw (e, more_is b now seq x y ys k) rest
+
+pub all_row : (now seq : ℕ) (pdus : List Pdu) (old new : Kept) → 1 ≤ length pdus → new ≡ counted_all (is_gone now old) now seq pdus old → NotesAll now seq pdus old new
+all_row now seq pdus old new some e c carry m parts st n is =
+    let gone = gone_is c carry now m old st in
+    let none : is_absent c now m ≡ true → waiting c.cube.kind m ≡ [] = (λ h. none_when_absent c.cube.kind m.run m.acked m.right m.last_out (leb (m.last_out + 3 * delta c) now) h) in
+    rw (e, gone) (all_by parts (is_absent c now m) c carry now seq m pdus old st n is none some)
 
 -- An acknowledgement
 

@@ -1,5 +1,5 @@
 -- What each call of a sender does, whatever sender of the machine it stands for.
-use Rattle.std.specs.Prelude.{◌≡◌, ℕ, ◌+◌, Bool, List, [], ◌∷◌, drop, length, Option, Some, None, option_map}
+use Rattle.std.specs.Prelude.{◌≡◌, ℕ, ◌+◌, Bool, List, [], ◌∷◌, drop, length, map, Option, Some, None, option_map}
 use Rattle.rina_base.specs.declared.pdu.Pdu.{Pdu}
 use Rattle.rina_cube.specs.declared.Cube.{Cube}
 use Rattle.rina_cube.specs.declared.Kind.{Kind}
@@ -8,7 +8,7 @@ use Rattle.rina_law.specs.Constants.{Constants}
 use Rattle.rina_law.specs.Line.{opening}
 use Rattle.rina_law.specs.Pieces.{Part}
 use Rattle.rina_law.specs.Receiver.{Piece}
-use Rattle.rina_law.specs.Sender.{Member, Sender, Ack, member, is_idle, is_absent, started, room_of, piece_for, sender_with, again_due, given_up, sender_again, piece_again, sender_told}
+use Rattle.rina_law.specs.Sender.{Member, Sender, Ack, member, is_idle, is_absent, started, room_of, piece_for, sender_with, pieces_for, sender_with_all, again_due, given_up, sender_again, piece_again, sender_told}
 use Rattle.rina_dtcp.specs.declared.sent.Sent.{Sent}
 use Rattle.rina_dtcp.specs.declared.sent.GaveUp.{GaveUp}
 use Rattle.rina_dtcp.specs.Senders.{Kept, num_in}
@@ -55,6 +55,11 @@ IsNext c carry now m part seq pdu = (seq ≡ length (ready c now m).run) × (pdu
 abbrev pub Notes : ℕ → ℕ → Pdu → Kept → Kept → Type 0
 Notes now seq pdu old new =
     (c : Constants) (carry : Piece → Pdu) (m : Sender) (part : Part) → Stands c carry m old → IsNext c carry now m part seq pdu → Stands c carry (sender_with c now part (ready c now m)) new
+
+-- and so for the pieces of all parts of an SDU, one after the other
+abbrev pub NotesAll : ℕ → ℕ → List Pdu → Kept → Kept → Type 0
+NotesAll now seq pdus old new =
+    (c : Constants) (carry : Piece → Pdu) (m : Sender) (parts : List Part) → Stands c carry m old → seq ≡ length (ready c now m).run → pdus ≡ map carry (pieces_for c now parts (ready c now m)) → Stands c carry (sender_with_all c now parts (ready c now m)) new
 
 abbrev pub IsTold : ℕ → ℕ → Kept → Kept → Type 0
 IsTold ack right old new = (c : Constants) (carry : Piece → Pdu) (m : Sender) → Stands c carry m old → Stands c carry (sender_told (record { ack = ack; right = right }) m) new

@@ -49,6 +49,22 @@ counted begins now seq k = record {
 abbrev pub noted : ℕ → ℕ → Pdu → Kept → Kept
 noted now seq pdu k = counted (is_gone now k) now seq (if keeps (is_gone now k) seq k then with_sent now pdu k else k)
 
+-- the first number that is to be acknowledged
+abbrev pub least_from : Bool → Kept → ℕ
+least_from begins k = if begins then 0 else k.acked
+
+-- PDUs that are sent now, one after the other from a number on: those of which the number is to be acknowledged
+abbrev pub sents_from : ℕ → ℕ → ℕ → List Pdu → List Sent
+sents_from least now seq [] = []
+sents_from least now seq (pdu ∷ pdus) =
+    if nat_le least seq then record { first = now; last = now; pdu = pdu } ∷ sents_from least now (seq + 1) pdus else sents_from least now (seq + 1) pdus
+
+abbrev pub with_all : Bool → ℕ → ℕ → List Pdu → Kept → Kept
+with_all begins now seq pdus k = if is_reliable k.cube.kind then record k { unacked = k.unacked ++ sents_from (least_from begins k) now seq pdus } else k
+
+abbrev pub counted_all : Bool → ℕ → ℕ → List Pdu → Kept → Kept
+counted_all begins now seq pdus k = counted begins now (seq + (length pdus - 1)) (with_all begins now seq pdus k)
+
 -- after an acknowledgement of all numbers up to `ack`, and after its right edge
 abbrev pub settled : ℕ → Kept → Kept
 settled ack k = record k { acked = max k.acked (ack + 1); unacked = drop (ack + 1 - k.acked) k.unacked }

@@ -1,11 +1,11 @@
 //! The sender of a connection.
-ghost use Rattle.std.specs.Prelude.{◌≡◌, ℕ, ◌+◌, ◌-◌, ◌==◌, ◌<◌, ◌^◌, Bool, max, drop, length, position, slice_get, option_map, option_copied, IfSome, IfOk, OnOk, OnErr, [], ◌++◌, ◌∷◌};
+ghost use Rattle.std.specs.Prelude.{◌≡◌, ℕ, ◌+◌, ◌-◌, ◌==◌, ◌<◌, ◌≤◌, ◌^◌, Bool, max, drop, length, position, slice_get, option_map, option_copied, IfSome, IfOk, OnOk, OnErr, [], ◌++◌, ◌∷◌};
 ghost use Rattle.rina_cube.specs.Cubes.{is_reliable};
 ghost use Rattle.rina_dtcp.specs.Sents.{is_due, is_late, touched};
-ghost use Rattle.rina_dtcp.specs.Senders.{Kept, is_gone, left_in, keeps, with_sent, counted, noted, settled, raised, resent_at, IsPduAt, late_of, late_in};
+ghost use Rattle.rina_dtcp.specs.Senders.{Kept, is_gone, left_in, keeps, with_sent, least_from, sents_from, with_all, counted, counted_all, noted, settled, raised, resent_at, IsPduAt, late_of, late_in};
 ghost use Rattle.std.specs.Borrow.{sem};
 ghost use Rattle.rina_dtcp.specs.Lending.{LendsDue};
-ghost use Rattle.rina_dtcp.specs.Rows.{IsNew, TellsRoom, TellsIdle, Notes, IsTold, Resends, TellsGivenUp};
+ghost use Rattle.rina_dtcp.specs.Rows.{IsNew, TellsRoom, TellsIdle, Notes, NotesAll, IsTold, Resends, TellsGivenUp};
 
 use crate::sent::{GaveUp, Sent, copy_of};
 use rina_base::{Memory, Num, Pdu, Tick};
@@ -62,6 +62,33 @@ fn append(unacked: &mut VecDeque<Sent>, sent: Sent) -> Result<(), AllocError>
 {
     unacked.push_back(sent)?;
     Ok(())
+}
+
+/// Copies of the PDUs whose number is `least` or greater, as sent now; `seq` is the number of the first.
+fn copies(
+    alloc: Global,
+    least: u64,
+    now: Tick,
+    seq: u64,
+    pdus: &[Pdu],
+) -> Result<VecDeque<Sent>, Memory>
+    requires { seq + length pdus.now < 2 ^ 64 }
+    ensures { IfOk result (λ sents. sents.items ≡ sents_from least now seq pdus.now) }
+{
+    let mut sents = VecDeque::new(alloc);
+    for (i, pdu) in pdus.iter().enumerate() {
+        if least <= seq + i as u64 {
+            append(
+                &mut sents,
+                Sent {
+                    first: now,
+                    last: now,
+                    pdu: copy_of(alloc, pdu)?,
+                },
+            )?;
+        }
+    }
+    Ok(sents)
 }
 
 /// Marks a piece as made now.
@@ -211,6 +238,62 @@ impl Tx {
         ensures err { OnErr result (self.new ≡ self.old) }
     {
         self.note(alloc, now, seq, pdu)
+    }
+
+    /// The first number of a run that begins, or of the present one, that is to be acknowledged.
+    fn first_kept(&self, begins: bool) -> u64
+        ensures { result ≡ least_from begins self.now }
+    {
+        if begins { 0 } else { self.acked }
+    }
+
+    /// Keeps copies of those PDUs of pieces that are to be acknowledged; `seq` is the number of the first.
+    fn keep_all(
+        &mut self,
+        alloc: Global,
+        begins: bool,
+        now: Tick,
+        seq: u32,
+        pdus: &[Pdu],
+    ) -> Result<(), Memory>
+        ensures ok { OnOk result (self.new ≡ with_all begins now seq pdus.now self.old) }
+        ensures err { OnErr result (self.new ≡ self.old) }
+    {
+        if !matches!(self.cube.kind, Kind::Reliable) {
+            return Ok(());
+        }
+        let mut sents = copies(alloc, self.first_kept(begins), now, u64::from(seq), pdus)?;
+        self.unacked.append(&mut sents)?;
+        Ok(())
+    }
+
+    fn note_each(&mut self, alloc: Global, now: Tick, seq: u32, pdus: &[Pdu]) -> Result<(), Memory>
+        requires some { 1 ≤ length pdus.now }
+        requires fits { seq + length pdus.now ≤ 2 ^ 32 }
+        ensures ok { OnOk result (self.new ≡ counted_all (is_gone now self.old) now seq pdus.now self.old) }
+        ensures err { OnErr result (self.new ≡ self.old) }
+    {
+        let begins = self.is_absent(now);
+        self.keep_all(alloc, begins, now, seq, pdus)?;
+        self.count(begins, now, seq + (pdus.len() - 1) as u32);
+        Ok(())
+    }
+
+    /// Notes that the sender's next numbers, from `seq` on, are sent now, one after the other by these PDUs.
+    /// Room for what may be sent again is taken here; after want of memory all is as before.
+    pub fn note_all(
+        &mut self,
+        alloc: Global,
+        now: Tick,
+        seq: u32,
+        pdus: &[Pdu],
+    ) -> Result<(), Memory>
+        requires some { 1 ≤ length pdus.now }
+        requires fits { seq + length pdus.now ≤ 2 ^ 32 }
+        ensures ok { OnOk result (NotesAll now seq pdus.now self.old self.new) }
+        ensures err { OnErr result (self.new ≡ self.old) }
+    {
+        self.note_each(alloc, now, seq, pdus)
     }
 
     fn settle(&mut self, ack: u32)
