@@ -10,11 +10,11 @@ use Rattle.rina_cube.specs.Cubes.{delta_of, is_reliable}
 use Rattle.rina_law.specs.Constants.{Constants, delta}
 use Rattle.rina_law.specs.Pieces.{Part}
 use Rattle.rina_law.specs.Receiver.{Piece}
-use Rattle.rina_law.specs.Sender.{Member, Sender, no_member, member, is_empty, is_idle, is_absent, started, fresh, room_of, piece_for, member_for, sender_with, pieces_for, sender_with_all, due_from, late_from, if_reliable, again_due, given_up, sender_again, piece_again, sender_told, resent}
+use Rattle.rina_law.specs.Sender.{Member, Sender, no_member, member, is_empty, is_idle, is_absent, started, fresh, room_of, drf_for, piece_for, member_for, sender_with, pieces_for, sender_with_all, due_from, late_from, if_reliable, again_due, given_up, sender_again, piece_again, sender_told, resent}
 use Rattle.rina_dtcp.specs.declared.sent.Sent.{Sent}
 use Rattle.rina_dtcp.specs.declared.sent.GaveUp.{GaveUp}
 use Rattle.rina_dtcp.specs.Sents.{is_due, is_late, touched}
-use Rattle.rina_dtcp.specs.Senders.{Kept, is_gone, left_in, keeps, with_sent, counted, noted, least_from, sents_from, with_all, counted_all, settled, raised, resent_at, IsPduAt, num_in, sent_at, late_of, late_in}
+use Rattle.rina_dtcp.specs.Senders.{Kept, is_gone, left_in, keeps, with_sent, counted, noted, least_from, flag_of, sents_from, with_all, counted_all, settled, raised, resent_at, IsPduAt, num_in, sent_at, late_of, late_in}
 use Rattle.rina_dtcp.specs.Rows.{waiting, sent_of, sent_from, Stands, ready, TellsRoom, TellsIdle, IsNext, Notes, NotesAll, IsTold, after_again, Resends, gave_up_of, TellsGivenUp}
 use Rattle.rina_law.proofs.Lists.{resent-length}
 use Rattle.rina_dtcp.proofs.Scanning.{due_place, late_place}
@@ -206,6 +206,19 @@ all_row now seq pdus old new some e c carry m parts st n is =
     let gone = gone_is c carry now m old st in
     let none : is_absent c now m ≡ true → waiting c.cube.kind m ≡ [] = (λ h. none_when_absent c.cube.kind m.run m.acked m.right m.last_out (leb (m.last_out + 3 * delta c) now) h) in
     rw (e, gone) (all_by parts (is_absent c now m) c carry now seq m pdus old st n is none some)
+
+-- The data run flag
+
+flag_by : (kind : Kind) (tx : Sender) (acked : ℕ) → tx.acked ≡ acked → cond (is_reliable kind) (leb (length tx.run) acked) (length tx.run == 0) ≡ drf_for kind tx
+flag_by Datagram tx acked e = refl
+flag_by Loose tx acked e = refl
+flag_by Reliable tx acked e = rw e refl
+
+pub flag_is : (c : Constants) (carry : Piece → Pdu) (now : ℕ) (m tx : Sender) (k : Kept) → Stands c carry m k → tx.acked ≡ (ready c now m).acked → flag_of now (length tx.run) k ≡ drf_for c.cube.kind tx
+flag_is c carry now m tx k st e =
+    let gone = gone_is c carry now m k st in
+    let least : least_from (is_gone now k) k ≡ (ready c now m).acked = rw gone (acked_is (is_absent c now m) c carry m k st) in
+    rw (least, st.cube) (flag_by c.cube.kind tx (ready c now m).acked e)
 
 -- An acknowledgement
 

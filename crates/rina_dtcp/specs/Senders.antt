@@ -53,6 +53,10 @@ noted now seq pdu k = counted (is_gone now k) now seq (if keeps (is_gone now k) 
 abbrev pub least_from : Bool → Kept → ℕ
 least_from begins k = if begins then 0 else k.acked
 
+-- the data run flag of the next piece, where it has this number
+abbrev pub flag_of : ℕ → ℕ → Kept → Bool
+flag_of now seq k = if is_reliable k.cube.kind then nat_le seq (least_from (is_gone now k) k) else seq == 0
+
 -- PDUs that are sent now, one after the other from a number on: those of which the number is to be acknowledged
 abbrev pub sents_from : ℕ → ℕ → ℕ → List Pdu → List Sent
 sents_from least now seq [] = []

@@ -2,7 +2,7 @@
 ghost use Rattle.std.specs.Prelude.{◌≡◌, ℕ, ◌+◌, ◌-◌, ◌==◌, ◌<◌, ◌≤◌, ◌^◌, Bool, max, drop, length, position, slice_get, option_map, option_copied, IfSome, IfOk, OnOk, OnErr, [], ◌++◌, ◌∷◌};
 ghost use Rattle.rina_cube.specs.Cubes.{is_reliable};
 ghost use Rattle.rina_dtcp.specs.Sents.{is_due, is_late, touched};
-ghost use Rattle.rina_dtcp.specs.Senders.{Kept, is_gone, left_in, keeps, with_sent, least_from, sents_from, with_all, counted, counted_all, noted, settled, raised, resent_at, IsPduAt, late_of, late_in};
+ghost use Rattle.rina_dtcp.specs.Senders.{Kept, is_gone, left_in, keeps, with_sent, least_from, sents_from, with_all, counted, counted_all, noted, flag_of, settled, raised, resent_at, IsPduAt, late_of, late_in};
 ghost use Rattle.std.specs.Borrow.{sem};
 ghost use Rattle.rina_dtcp.specs.Lending.{LendsDue};
 ghost use Rattle.rina_dtcp.specs.Rows.{IsNew, TellsRoom, TellsIdle, Notes, NotesAll, IsTold, Resends, TellsGivenUp};
@@ -171,6 +171,18 @@ impl Tx {
             return self.cube.window.max(1);
         }
         (u64::from(self.right) + 1).saturating_sub(self.count) as u32
+    }
+
+    /// Whether a piece of the number `seq` would have the data run flag, where it is the next that is sent: on a
+    /// reliable cube where no earlier number of the run is unacknowledged, on the others where it is 0. Takes
+    /// no memory.
+    pub fn has_flag(&self, now: Tick, seq: u32) -> bool
+        ensures { result ≡ flag_of now seq self.now }
+    {
+        if !matches!(self.cube.kind, Kind::Reliable) {
+            return seq == 0;
+        }
+        u64::from(seq) <= self.first_kept(self.is_absent(now))
     }
 
     /// Whether nothing is unacknowledged; always so on a cube that is not reliable. Takes no memory.
