@@ -1,7 +1,10 @@
+pub mod Came
 pub mod Followed
 pub mod Growing
 pub mod JoinedAs
+pub mod Observing
 pub mod Placed
 pub mod Recalling
 pub mod Senders
+pub mod Settled
 pub mod Shelved

@@ -1,5 +1,6 @@
 -- What each kind of receiver keeps of the numbers, and what it says of a piece.
 use Rattle.std.specs.Prelude.{◌≡◌, ℕ, zero, suc, ◌+◌, ◌-◌, ◌<◌, ◌≤◌, ◌⊎◌, Bool, true, false, ◌&&◌, ◌||◌, nat_lt, nat_le, ◌==◌, List, [], ◌∷◌, ◌++◌, length, All, Option, Some, None, if◌then◌else◌}
+use Rattle.rina_cube.specs.declared.Cube.{Cube}
 use Rattle.rina_cube.specs.declared.Kind.{Kind}
 use Rattle.rina_cube.specs.declared.Kind.TheVariants as kinds
 use Rattle.rina_delim.specs.Joining.{piece}
@@ -94,6 +95,12 @@ Follows (Datagram r) j (Datagram s) k = (s ≡ r) × (k ≡ j)
 Follows (Loose r) j (Loose s) k = (s ≡ r) × (k ≡ j)
 Follows (Reliable s) j (Reliable t) k = FollowsAll s j t k
 Follows _ _ _ _ = ⊥
+
+-- no number was accepted yet, by a receiver of a cube for pieces of so many bytes
+abbrev pub IsFresh : Cube → ℕ → Accepted → Type 0
+IsFresh cube size (Datagram r) = cube.kind ≡ kinds.Datagram
+IsFresh cube size (Loose h) = cube.kind ≡ kinds.Loose
+IsFresh cube size (Reliable s) = (cube.kind ≡ kinds.Reliable) × (length s.places ≡ cube.window) × (s.piece ≡ size) × All IsUnused s.places
 
 -- as many slots for SDUs as there are places, and one at least
 abbrev pub HasSlotsFor : Accepted → ℕ → Type 0

@@ -2,6 +2,7 @@ pub mod Accepted
 pub mod Joins
 pub mod Lost
 pub mod Numbers
+pub mod Observed
 pub mod Receiving
 pub mod Ring
 pub mod Shelf

@@ -4,6 +4,10 @@ use Rattle.rina_base.specs.declared.cause.Cause.{Cause}
 use Rattle.rina_base.specs.declared.cause.Cause.TheVariants as cause
 use Rattle.rina_base.specs.declared.number.Key.{Key}
 use Rattle.rina_base.specs.declared.pdu.Pdu.{Pdu}
+use Rattle.rina_cube.specs.Cubes.{IsCube, delta_of}
+use Rattle.rina_cube.specs.declared.Cube.{Cube}
+use Rattle.rina_cube.specs.declared.Kind.{Kind}
+use Rattle.rina_cube.specs.declared.Kind.TheVariants as kinds
 use Rattle.rina_delim.specs.declared.joiner.Run.{Run}
 use Rattle.rina_delim.specs.Joining.{piece, empty}
 use Rattle.rina_dtp.specs.declared.accepted.Accepted.{Accepted}
@@ -12,7 +16,7 @@ use Rattle.rina_dtp.specs.declared.gap.Gap.{Gap}
 use Rattle.rina_dtp.specs.declared.source.Source.{Source}
 use Rattle.rina_dtp.specs.declared.verdict.Verdict.{Verdict}
 use Rattle.rina_dtp.specs.declared.verdict.Verdict.TheVariants.{Accept, Hold, Off}
-use Rattle.rina_dtp.specs.Accepted.{number_verdict, top_of, IsCounted, Follows, HasSlotsFor}
+use Rattle.rina_dtp.specs.Accepted.{number_verdict, top_of, IsCounted, Follows, HasSlotsFor, IsFresh}
 use Rattle.rina_dtp.specs.Joins as joins
 use Rattle.rina_dtp.specs.Joins.{Joins, IsJoined}
 use Rattle.rina_dtp.specs.Lost.{Lost, numbers_from, lost_with, told_accepted}
@@ -37,6 +41,23 @@ pub record IsSound (r : Receiving) : Type 0 where
   pub most : r.join.slots ≤ 256
   pub last_in : r.last_in ≤ 10000000
   pub rest : r.rest ≤ 6000000
+
+-- how many SDUs one piece can make whole at most
+abbrev pub slots_of : Kind → ℕ → ℕ
+slots_of kinds.Reliable window = window
+slots_of _ window = 1
+
+-- a receiver of a cube to which nothing came yet
+pub record StartsFresh (cube : Cube) (size : ℕ) (r : Receiving) : Type 0 where
+  pub cube_is : IsCube cube
+  pub window : r.window ≡ cube.window
+  pub rest : r.rest ≡ 2 * delta_of cube
+  pub made : r.made ≡ false
+  pub last_in : r.last_in ≡ 0
+  pub closed : r.closed ≡ false
+  pub accepted : IsFresh cube size r.accepted
+  pub going : r.going ≡ None
+  pub join : r.join ≡ record { joining = empty cube.largest; whole = []; gaps = []; filled = 0; slots = slots_of cube.kind cube.window }
 
 -- state stands
 abbrev pub present_at : ℕ → Receiving → Bool

@@ -1,8 +1,10 @@
 //! The numbers that a receiver accepted, by its kind.
-ghost use Rattle.std.specs.Prelude.{◌≡◌, ◌≤◌, ◌<◌, ◌+◌, ◌-◌, ◌*◌, ◌^◌, ℕ, [], length, true, false};
+ghost use Rattle.std.specs.Prelude.{◌≡◌, ◌≤◌, ◌<◌, ◌+◌, ◌-◌, ◌*◌, ◌^◌, ℕ, [], length, true, false, IfOk};
 ghost use Rattle.rina_law.specs.Receiver.{absent_verdict};
-ghost use Rattle.rina_dtp.specs.Accepted.{kind_of, known_verdict, number_verdict, judged_as, top_of, MayCount, IsCounted, IsGiven, FollowsOne, FollowsAll, Follows, HasSlotsFor};
+ghost use Rattle.rina_dtp.specs.Accepted.{kind_of, known_verdict, number_verdict, judged_as, top_of, MayCount, IsCounted, IsGiven, FollowsOne, FollowsAll, Follows, HasSlotsFor, IsFresh};
+ghost use Rattle.rina_cube.specs.Cubes.{IsCube};
 ghost use Rattle.rina_dtp.specs.Joins.{Grows};
+ghost use Rattle.rina_dtp.specs.Observed.{next_kept};
 ghost use Rattle.rina_dtp.specs.Shelf.{holds};
 
 use crate::join::Join;
@@ -10,6 +12,9 @@ use crate::place::Place;
 use crate::ring::Ring;
 use crate::shelf::Shelf;
 use crate::verdict::Judged;
+use rina_base::Memory;
+use rina_cube::{Cube, Kind};
+use std::alloc::Global;
 
 /// What is kept of the numbers.
 #[derive(Drop)]
@@ -112,6 +117,29 @@ fn follow_all(shelf: &mut Shelf, join: &mut Join)
 }
 
 impl Accepted {
+    /// No number yet. Takes all the memory that is ever needed by a receiver of a cube, for pieces of at most `piece` bytes.
+    pub fn new(alloc: Global, cube: &Cube, piece: u32) -> Result<Accepted, Memory>
+        requires { IsCube cube.now }
+        ensures { IfOk result (IsFresh cube.now piece) }
+    {
+        match cube.kind {
+            Kind::Datagram => Ok(Accepted::Datagram(Ring::new(alloc)?)),
+            Kind::Loose => Ok(Accepted::Loose(0)),
+            Kind::Reliable => Ok(Accepted::Reliable(Shelf::new(alloc, cube.window, piece)?)),
+        }
+    }
+
+    /// The number after the greatest one that was accepted, up to 2^32.
+    pub fn next(&self) -> u64
+        ensures { result ≡ next_kept self.now }
+    {
+        match self {
+            Accepted::Datagram(ring) => u64::from(ring.top()) + 1,
+            Accepted::Loose(highest) => u64::from(*highest) + 1,
+            Accepted::Reliable(shelf) => shelf.next(),
+        }
+    }
+
     /// What the numbers say of a piece, where state stands.
     fn known_verdict(&self, number: u32) -> Judged
         ensures { result ≡ judged_as (known_verdict self.now number) }

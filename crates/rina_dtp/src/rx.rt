@@ -4,7 +4,9 @@ ghost use Rattle.rina_base.specs.Pdus.{pdu_of};
 ghost use Rattle.rina_cube.specs.Cubes.{IsCube};
 ghost use Rattle.rina_law.specs.Receiver as law;
 ghost use Rattle.rina_dtp.specs.Accepted.{known_verdict, number_verdict, judged_as};
-ghost use Rattle.rina_dtp.specs.Receiving.{present_at, cleared, IsAccepted, IsHeldIn, IsStep, Steps};
+ghost use Rattle.rina_dtp.specs.Receiving.{present_at, cleared, IsAccepted, IsHeldIn, IsStep, Steps, slots_of, StartsFresh};
+ghost use Rattle.rina_dtp.specs.Observed.{IsNew, TellsPresence, TellsNext, TellsJoining, TellsLastIn, from_kept};
+ghost use Rattle.rina_dtp.specs.Stands.{IsRow};
 
 use crate::accepted::Accepted;
 use crate::join::Join;
@@ -58,10 +60,54 @@ fn with_room(room: bool, judged: Judged) -> Judged
     }
 }
 
+/// How many SDUs one piece can make whole at most.
+fn slots(cube: &Cube) -> u32
+    requires { IsCube cube.now }
+    ensures { result ≡ slots_of cube.now.kind cube.now.window }
+{
+    match cube.kind {
+        Kind::Reliable => cube.window,
+        _ => 1,
+    }
+}
+
 impl Rx {
+    /// A receiver of a cube that has no state, for pieces of at most `piece` bytes. Takes all the memory that the other
+    /// calls need, but for `ahead`.
+    pub fn new(alloc: Global, cube: &Cube, piece: u32) -> Result<Rx, Memory>
+        requires { IsCube cube.now }
+        ensures { IfOk result (IsNew cube.now piece) }
+    {
+        Rx::fresh(alloc, cube, piece)
+    }
+
+    fn fresh(alloc: Global, cube: &Cube, piece: u32) -> Result<Rx, Memory>
+        requires { IsCube cube.now }
+        ensures { IfOk result (StartsFresh cube.now piece) }
+    {
+        let accepted = Accepted::new(alloc, cube, piece)?;
+        let join = Join::new(alloc, slots(cube), cube.largest)?;
+        Ok(Rx {
+            window: cube.window,
+            rest: 2 * cube.delta(),
+            made: false,
+            last_in: 0,
+            closed: false,
+            source: Source {
+                src: 0,
+                scep: 0,
+                dcep: 0,
+            },
+            accepted,
+            going: None,
+            join,
+        })
+    }
+
     /// Whether state stands.
     pub fn present(&self, now: Tick) -> bool
-        ensures { result ≡ present_at now self.now }
+        ensures kept { result ≡ present_at now self.now }
+        ensures machine { TellsPresence now self.now result }
     {
         self.made && now < self.last_in + self.rest
     }
@@ -75,10 +121,10 @@ impl Rx {
     }
 
     /// What the numbers say of a piece.
-    fn judge(&self, present: bool, room: bool, pdu: &PduView<'_>) -> Judged
-        ensures { result ≡ judged_as (law.with_room room (number_verdict present self.now.accepted pdu.now.seq pdu.now.drf)) }
+    fn judge(&self, present: bool, room: bool, number: u32, drf: bool) -> Judged
+        ensures { result ≡ judged_as (law.with_room room (number_verdict present self.now.accepted number drf)) }
     {
-        with_room(room, self.accepted.verdict(present, pdu.seq, pdu.drf))
+        with_room(room, self.accepted.verdict(present, number, drf))
     }
 
     /// Accepts a piece, and the held ones that follow.
@@ -132,13 +178,15 @@ impl Rx {
         Verdict::Off(cause)
     }
 
+    /// Acts by what the numbers say of a piece.
     fn step(&mut self, now: Tick, present: bool, room: bool, pdu: &PduView<'_>) -> Verdict
         requires now { now ≤ 10000000 }
         requires filled { self.old.join.filled ≡ 0 }
         requires gaps { self.old.join.gaps ≡ [] }
-        ensures { IsStep (law.with_room room (number_verdict present self.old.accepted pdu.now.seq pdu.now.drf)) present now (pdu_of pdu.now) self.old result self.new }
+        ensures step { IsStep (law.with_room room (number_verdict present self.old.accepted pdu.now.seq pdu.now.drf)) present now (pdu_of pdu.now) self.old result self.new }
+        ensures small { pdu.now.seq < 2 ^ 32 }
     {
-        match self.judge(present, room, pdu) {
+        match self.judge(present, room, pdu.seq, pdu.drf) {
             Judged::Accepted => self.accept(now, present, pdu),
             Judged::Held => self.hold(now, pdu),
             Judged::Duplicate => self.know(now, Cause::Duplicate {
@@ -156,14 +204,57 @@ impl Rx {
         }
     }
 
-    /// Steps, by what is kept.
+    /// Receives a piece, once what was not fetched is forgotten.
     fn receive(&mut self, now: Tick, pdu: &PduView<'_>, unpassed: u32) -> Verdict
         requires { now ≤ 10000000 }
-        ensures { Steps now (pdu_of pdu.now) unpassed self.old result self.new }
+        ensures steps { Steps now (pdu_of pdu.now) unpassed self.old result self.new }
+        ensures small { pdu.now.seq < 2 ^ 32 }
     {
         let present = self.present(now);
         let room = unpassed < self.window;
         self.clear();
         self.step(now, present, room, pdu)
+    }
+
+    /// A piece came, at a tick of at most 10,000,000, while `unpassed` SDUs wait to be passed: the row of the
+    /// connection machine, for every state of the machine for which this one stands. Takes no memory. All that
+    /// came of earlier pieces is to be fetched before: what was not is forgotten. Of a piece that the sender of
+    /// a cube does not make, because it is too long, or does not lie in the window, nothing is told.
+    pub fn on_data(&mut self, now: Tick, pdu: &PduView<'_>, unpassed: u32) -> Verdict
+        requires { now ≤ 10000000 }
+        ensures { IsRow now (pdu_of pdu.now) unpassed self.old result self.new }
+    {
+        self.receive(now, pdu, unpassed)
+    }
+
+    /// The number after the greatest one that was accepted, on a reliable flow after all that were; None exactly where no state
+    /// stands.
+    pub fn next(&self, now: Tick) -> Option<u64>
+        ensures { TellsNext now self.now result }
+    {
+        if self.present(now) {
+            Some(self.accepted.next())
+        } else {
+            None
+        }
+    }
+
+    /// The first number that the joiner holds; None exactly where it holds nothing.
+    pub fn joining(&self) -> Option<u32>
+        ensures kept { result ≡ from_kept self.now.join.joining.held }
+        ensures machine { TellsJoining self.now result }
+    {
+        match self.join.held() {
+            Some(run) => Some(run.from),
+            None => None,
+        }
+    }
+
+    /// The tick of the last piece that was accepted, held, or written off as `Duplicate` or `Behind`; None exactly where no state
+    /// was ever made.
+    pub fn last_in(&self) -> Option<Tick>
+        ensures { TellsLastIn self.now result }
+    {
+        if self.made { Some(self.last_in) } else { None }
     }
 }
