@@ -17,7 +17,8 @@ use Rattle.rina_dtp.specs.declared.verdict.Verdict.TheVariants.{Accept, Hold, Of
 use Rattle.rina_dtp.specs.Accepted.{kind_of, known_verdict, number_verdict, top_of, IsCounted, Follows}
 use Rattle.rina_dtp.specs.Joins as joins
 use Rattle.rina_dtp.specs.Joins.{Joins, IsJoined}
-use Rattle.rina_dtp.specs.Lost.{Lost, missing_before, is_broken, lost_after, joiner_for, told, told_accepted}
+use Rattle.rina_dtp.specs.declared.gap.Lost.{Lost}
+use Rattle.rina_dtp.specs.Lost.{missing_before, is_broken, lost_after, joiner_for, told, told_accepted}
 use Rattle.rina_dtp.specs.Receiving.{Receiving, present_at, lost_in, run_numbers, held_numbers, kept_numbers, end_cause, ended_with, broken_with, drops, cleared, start_join, verdict_for, IsAccepted, IsHeldIn, IsStep, Steps}
 use Rattle.rina_dtp.specs.Ring.{has_number}
 use Rattle.rina_dtp.specs.Shelf.{Shelved, holds, with_piece, Holds}

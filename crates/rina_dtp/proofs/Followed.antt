@@ -6,7 +6,8 @@ use Rattle.rina_delim.specs.Joining.{Joining, piece, answer, joined, HasRoom}
 use Rattle.rina_dtp.specs.declared.gap.Gap.{Gap}
 use Rattle.rina_dtp.specs.Accepted.{gap_given, IsGiven, FollowsOne, FollowsMany}
 use Rattle.rina_dtp.specs.Joins.{Joins, gap_if, missing_in, is_cut_off, taken}
-use Rattle.rina_dtp.specs.Lost.{Lost, numbers_from, missing_before, is_broken, lost_with, given_up, itself, lost_held}
+use Rattle.rina_dtp.specs.declared.gap.Lost.{Lost}
+use Rattle.rina_dtp.specs.Lost.{numbers_from, missing_before, is_broken, lost_with, given_up, itself, lost_held}
 use Rattle.rina_dtp.specs.Receiving.{numbers_to, lost_in}
 use Rattle.rina_dtp.specs.Shelf.{Place, Shelved, place_at, holds, part_at, without}
 use Rattle.rina_dtp.specs.Stands.{IsJoiner}

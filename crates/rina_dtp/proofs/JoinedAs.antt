@@ -12,7 +12,8 @@ use Rattle.rina_delim.specs.Joining as delim
 use Rattle.rina_delim.specs.Joining.{Joining, piece, after, before, missing_after, answer_for, held_after, joined_for, answer, joined}
 use Rattle.rina_dtp.specs.declared.gap.Gap.{Gap}
 use Rattle.rina_dtp.specs.Joins.{sdu_in, gap_if, missing_in, is_cut_off, start_of, whole_by, made_by}
-use Rattle.rina_dtp.specs.Lost.{Lost, numbers_from, missing_before, is_broken, lost_with, given_up}
+use Rattle.rina_dtp.specs.declared.gap.Lost.{Lost}
+use Rattle.rina_dtp.specs.Lost.{numbers_from, missing_before, is_broken, lost_with, given_up}
 use Rattle.rina_dtp.specs.Receiving.{numbers_to, lost_in}
 use Rattle.rina_dtp.specs.Stands.{IsRun, IsJoiner}
 use Rattle.rina_law.specs.Pieces as law

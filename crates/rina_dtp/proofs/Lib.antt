@@ -1,4 +1,5 @@
 pub mod Came
+pub mod Fetched
 pub mod Followed
 pub mod Growing
 pub mod JoinedAs

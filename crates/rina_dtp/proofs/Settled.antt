@@ -11,7 +11,8 @@ use Rattle.rina_dtp.specs.declared.accepted.Accepted.TheVariants.{Datagram, Loos
 use Rattle.rina_dtp.specs.declared.gap.Gap.{Gap}
 use Rattle.rina_dtp.specs.Accepted.{kind_of, IsCounted, FollowsOne, FollowsMany, FollowsAll, Follows}
 use Rattle.rina_dtp.specs.Joins.{Joins, gap_if, missing_in, is_cut_off, taken, IsJoined}
-use Rattle.rina_dtp.specs.Lost.{Lost, missing_before, is_broken, given_up, lost_after, joiner_for, lost_held}
+use Rattle.rina_dtp.specs.declared.gap.Lost.{Lost}
+use Rattle.rina_dtp.specs.Lost.{missing_before, is_broken, given_up, lost_after, joiner_for, lost_held}
 use Rattle.rina_dtp.specs.Receiving.{lost_in}
 use Rattle.rina_dtp.specs.Ring.{Recent, Recalls}
 use Rattle.rina_dtp.specs.Shelf.{Place, Shelved, no_place, place_at, holds, part_at, IsUnused, Holds}

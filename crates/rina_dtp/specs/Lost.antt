@@ -4,6 +4,7 @@ use Rattle.rina_base.specs.declared.cause.Cause.TheVariants as cause
 use Rattle.rina_base.specs.declared.pdu.Pdu.{Pdu}
 use Rattle.rina_cube.specs.declared.Kind.{Kind}
 use Rattle.rina_cube.specs.declared.Kind.TheVariants.{Reliable}
+use Rattle.rina_dtp.specs.declared.gap.Lost.{Lost}
 use Rattle.rina_dtp.specs.declared.verdict.Verdict.{Verdict}
 use Rattle.rina_dtp.specs.declared.verdict.Verdict.TheVariants.{Accept, Hold, Off}
 use Rattle.rina_law.specs.Lists.{has, highest}
@@ -11,11 +12,6 @@ use Rattle.rina_law.specs.Pdus.{piece_in}
 use Rattle.rina_law.specs.Pieces.{Part, Joiner, empty_joiner, goes_on, Sdu, Joined, joined_with}
 use Rattle.rina_law.specs.Receiver as law
 use Rattle.rina_law.specs.Receiver.{Piece, Receiver, numbers, part_in, joined_after}
-
--- a piece that is given up, by its number, and the number that is missing before it or behind it
-pub record Lost : Type 0 where
-  pub number : ℕ
-  pub missing : ℕ
 
 -- so many numbers from n on
 abbrev pub numbers_from : ℕ → ℕ → List ℕ

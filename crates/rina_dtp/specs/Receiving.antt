@@ -19,8 +19,9 @@ use Rattle.rina_dtp.specs.declared.verdict.Verdict.TheVariants.{Accept, Hold, Of
 use Rattle.rina_dtp.specs.Accepted.{number_verdict, top_of, IsCounted, Follows, HasSlotsFor, IsFresh}
 use Rattle.rina_dtp.specs.Joins as joins
 use Rattle.rina_dtp.specs.Joins.{Joins, IsJoined}
-use Rattle.rina_dtp.specs.Lost.{Lost, numbers_from, lost_with, told_accepted}
-use Rattle.rina_dtp.specs.Shelf.{holds, with_piece}
+use Rattle.rina_dtp.specs.declared.gap.Lost.{Lost}
+use Rattle.rina_dtp.specs.Lost.{numbers_from, lost_with, told_accepted}
+use Rattle.rina_dtp.specs.Shelf.{Shelved, holds, with_piece}
 use Rattle.rina_dtp.specs.Source.{source_of, key_at}
 use Rattle.rina_law.specs.Receiver as law
 
@@ -78,8 +79,11 @@ run_numbers None = []
 run_numbers (Some run) = numbers_to run.from run.last
 
 -- the numbers of held pieces, rising
+abbrev pub held_in : Shelved → List ℕ
+held_in s = filter (holds s.places) (numbers_from s.next (length s.places))
+
 abbrev pub held_numbers : Accepted → List ℕ
-held_numbers (Reliable s) = filter (holds s.places) (numbers_from s.next (length s.places))
+held_numbers (Reliable s) = held_in s
 held_numbers _ = []
 
 -- the pieces that were accepted and wait for the rest of their SDU, and then those that are held

@@ -3,7 +3,9 @@ ghost use Rattle.std.specs.Prelude.{◌≡◌, ◌≤◌, ◌<◌, ◌+◌, ◌-
 ghost use Rattle.rina_law.specs.Receiver.{absent_verdict};
 ghost use Rattle.rina_dtp.specs.Accepted.{kind_of, known_verdict, number_verdict, judged_as, top_of, MayCount, IsCounted, IsGiven, FollowsOne, FollowsAll, Follows, HasSlotsFor, IsFresh};
 ghost use Rattle.rina_cube.specs.Cubes.{IsCube};
+ghost use Rattle.rina_dtp.specs.Fetching.{TakesFirst, SameShape};
 ghost use Rattle.rina_dtp.specs.Joins.{Grows};
+ghost use Rattle.rina_dtp.specs.Receiving.{held_numbers};
 ghost use Rattle.rina_dtp.specs.Observed.{next_kept};
 ghost use Rattle.rina_dtp.specs.Shelf.{holds};
 
@@ -210,6 +212,28 @@ impl Accepted {
         match self {
             Accepted::Reliable(shelf) => follow_all(shelf, join),
             _ => {}
+        }
+    }
+
+    /// Lets go of the first piece that is held, and tells its number; None exactly where none is held.
+    pub fn next_held(&mut self) -> Option<u32>
+        ensures taken { TakesFirst result (held_numbers self.old) (held_numbers self.new) }
+        ensures shape { SameShape self.old self.new }
+    {
+        match self {
+            Accepted::Reliable(shelf) => shelf.next_held(),
+            _ => None,
+        }
+    }
+
+    /// How many pieces are held.
+    pub fn held_count(&self) -> u64
+        ensures count { result ≡ length (held_numbers self.now) }
+        ensures most { result ≤ 256 }
+    {
+        match self {
+            Accepted::Reliable(shelf) => shelf.count(),
+            _ => 0,
         }
     }
 }

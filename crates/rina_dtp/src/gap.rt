@@ -7,3 +7,10 @@ pub struct Gap {
     pub last: u32,
     pub missing: u32,
 }
+
+/// A piece that was given up, and the number that is missing before it or behind it.
+#[derive(Clone, Copy, Debug, PartialEq, Eq)]
+pub struct Lost {
+    pub number: u32,
+    pub missing: u32,
+}

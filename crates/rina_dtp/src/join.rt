@@ -2,9 +2,11 @@
 ghost use Rattle.std.specs.Prelude.{◌≡◌, ◌≤◌, ◌<◌, ◌+◌, ◌-◌, ◌*◌, ◌++◌, [], ◌∷◌, ℕ, length, IfOk, Some, None, slice_set, slice_get, drop, Option, IfSome, All, true, false, IsTrue, ◌↔◌};
 ghost use Rattle.std.specs.Vec.{vec_capacity};
 ghost use Rattle.rina_delim.specs.Joining.{piece, empty, answer, joined, HasRoom};
+ghost use Rattle.rina_dtp.specs.Fetching.{first_lost, after_lost};
 ghost use Rattle.rina_dtp.specs.Joins.{gap_if, start_of, taken, missing_in, IsJoined, HasPlaces, Grows, HasRoomOf, cleared};
 
-use crate::gap::Gap;
+use crate::gap::{Gap, Lost};
+use crate::sdu::Sdu;
 use crate::slot::Slot;
 use rina_base::Memory;
 use rina_delim::{Joined, Joiner, Run};
@@ -71,6 +73,24 @@ fn give_up(gaps: &mut Vec<Gap>, held: Option<Run>, cut_off: bool)
     }
 }
 
+/// Takes the first piece that was given up.
+fn take_lost(gaps: &mut Vec<Gap>) -> Option<Lost>
+    ensures lost { result ≡ first_lost gaps.old.items }
+    ensures rest { gaps.new.items ≡ after_lost gaps.old.items }
+    ensures capacity { vec_capacity gaps.new ≡ vec_capacity gaps.old }
+{
+    let gap = gaps.first().copied()?;
+    if gap.from < gap.last {
+        gaps[0].from = gap.from + 1;
+    } else {
+        gaps.remove(0);
+    }
+    Some(Lost {
+        number: gap.from,
+        missing: gap.missing,
+    })
+}
+
 /// The number of the first piece of an SDU.
 fn start(first: bool, held: Option<Run>, number: u32) -> u32
     ensures { result ≡ start_of first held number }
@@ -82,6 +102,9 @@ fn start(first: bool, held: Option<Run>, number: u32) -> u32
 }
 
 impl Join {
+    ghost use Rattle.std.specs.Borrow.{sem};
+    ghost use Rattle.rina_dtp.specs.Lending.{IsFirst, LendsOfJoin};
+
     /// Nothing yet, with slots for `slots` SDUs of at most `largest` bytes. Takes all the memory that is ever needed.
     pub fn new(alloc: Global, slots: u32, largest: u32) -> Result<Join, Memory>
         requires { slots ≤ 256 }
@@ -215,10 +238,29 @@ impl Join {
         self.joiner.held()
     }
 
-    /// The first gap.
-    pub fn gap(&self) -> Option<Gap>
-        ensures { result ≡ slice_get self.now.gaps 0 }
+    /// The next piece that was given up; None exactly where there is none.
+    pub fn next_lost(&mut self) -> Option<Lost>
+        ensures lost { result ≡ first_lost self.old.gaps }
+        ensures rest { self.new ≡ record self.old { gaps = after_lost self.old.gaps } }
     {
-        self.gaps.first().copied()
+        take_lost(&mut self.gaps)
+    }
+
+    /// The next SDU that waits to be fetched; None exactly where none does.
+    pub fn next_whole(&mut self) -> Option<Sdu<'_>>
+        ensures* rest { sem 𝓛 (LendsOfJoin self.entry) }
+        ensures first { IsFirst result self.old.whole }
+    {
+        if self.fetched >= self.filled {
+            return None;
+        }
+        let at = self.fetched;
+        self.fetched += 1;
+        let slot = &self.slots[at];
+        Some(Sdu {
+            first: slot.first(),
+            pieces: slot.pieces(),
+            bytes: slot.bytes(),
+        })
     }
 }

@@ -8,19 +8,24 @@ mod numbers;
 mod place;
 mod ring;
 mod rx;
+mod sdu;
 mod shelf;
 mod slot;
 mod source;
 mod verdict;
 
 pub use accepted::Accepted;
-pub use gap::Gap;
+pub use gap::{Gap, Lost};
 pub use join::Join;
 pub use numbers::{Numbers, NumbersSpent};
 pub use place::Place;
 pub use ring::Ring;
 pub use rx::Rx;
+pub use sdu::Sdu;
 pub use shelf::Shelf;
 pub use slot::Slot;
 pub use source::Source;
 pub use verdict::{Judged, Verdict};
+
+#[cfg(test)]
+mod tests;

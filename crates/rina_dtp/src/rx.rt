@@ -1,20 +1,22 @@
 //! The receiver of a connection.
-ghost use Rattle.std.specs.Prelude.{◌≡◌, ◌≤◌, ◌<◌, ◌+◌, ◌*◌, ◌^◌, nat_lt, true, false, [], length, None, IfOk};
+ghost use Rattle.std.specs.Prelude.{◌≡◌, ◌≤◌, ◌<◌, ◌+◌, ◌-◌, ◌*◌, ◌^◌, min, nat_lt, true, false, [], length, None, IfOk};
 ghost use Rattle.rina_base.specs.Pdus.{pdu_of};
 ghost use Rattle.rina_cube.specs.Cubes.{IsCube};
 ghost use Rattle.rina_law.specs.Receiver as law;
 ghost use Rattle.rina_dtp.specs.Accepted.{known_verdict, number_verdict, judged_as};
-ghost use Rattle.rina_dtp.specs.Receiving.{present_at, cleared, IsAccepted, IsHeldIn, IsStep, Steps, slots_of, StartsFresh};
+ghost use Rattle.rina_dtp.specs.Receiving.{present_at, cleared, IsAccepted, IsHeldIn, IsStep, Steps, slots_of, StartsFresh, run_numbers, kept_numbers, end_cause, ended_with, broken_with, lost_in, drops};
+ghost use Rattle.rina_dtp.specs.Fetching.{TakesFirst, after_first, gathered, GoesOn, ChangesKept, StandsAsBefore};
 ghost use Rattle.rina_dtp.specs.Observed.{IsNew, TellsPresence, TellsNext, TellsJoining, TellsLastIn, from_kept};
 ghost use Rattle.rina_dtp.specs.Stands.{IsRow};
 
 use crate::accepted::Accepted;
 use crate::join::Join;
 use crate::ring::Ring;
+use crate::sdu::Sdu;
 use crate::shelf::Shelf;
 use crate::source::Source;
 use crate::verdict::{Judged, Verdict};
-use rina_base::{Cause, Memory, Num, PduView, Tick};
+use rina_base::{Cause, Key, Memory, Num, PduView, Tick};
 use rina_cube::{Cube, Kind};
 use rina_delim::Run;
 use std::alloc::Global;
@@ -60,6 +62,32 @@ fn with_room(room: bool, judged: Judged) -> Judged
     }
 }
 
+/// A run of pieces without the first.
+fn after_first(run: Run) -> Option<Run>
+    ensures { result ≡ after_first run }
+{
+    if run.from < run.last {
+        Some(Run {
+            from: run.from + 1,
+            last: run.last,
+        })
+    } else {
+        None
+    }
+}
+
+/// How many pieces a run has.
+#[tactic(auto, using(crate::proofs::Fetched::run_length))]
+fn run_count(run: Option<Run>) -> u64
+    ensures count { result ≡ length (run_numbers run) }
+    ensures most { result ≤ 2 ^ 32 }
+{
+    match run {
+        Some(run) => u64::from(run.last.saturating_sub(run.from)) + 1,
+        None => 0,
+    }
+}
+
 /// How many SDUs one piece can make whole at most.
 fn slots(cube: &Cube) -> u32
     requires { IsCube cube.now }
@@ -72,6 +100,9 @@ fn slots(cube: &Cube) -> u32
 }
 
 impl Rx {
+    ghost use Rattle.std.specs.Borrow.{sem};
+    ghost use Rattle.rina_dtp.specs.Lending.{IsFirst, LendsWhole};
+
     /// A receiver of a cube that has no state, for pieces of at most `piece` bytes. Takes all the memory that the other
     /// calls need, but for `ahead`.
     pub fn new(alloc: Global, cube: &Cube, piece: u32) -> Result<Rx, Memory>
@@ -256,5 +287,114 @@ impl Rx {
         ensures { TellsLastIn self.now result }
     {
         if self.made { Some(self.last_in) } else { None }
+    }
+
+    /// The SDUs that the last piece made whole, one by one in order; None exactly where none is left.
+    pub fn next_whole(&mut self) -> Option<Sdu<'_>>
+        ensures* rest { sem 𝓛 (LendsWhole self.entry) }
+        ensures first { IsFirst result self.old.join.whole }
+    {
+        self.join.next_whole()
+    }
+
+    /// Why what is kept is given up, where it is.
+    fn end_cause(&self, now: Tick) -> Option<Cause>
+        ensures { result ≡ end_cause now self.now }
+    {
+        if self.closed {
+            return Some(Cause::NoConnection {
+                cep: self.source.dcep,
+            });
+        }
+        if self.present(now) {
+            return None;
+        }
+        Some(Cause::StateGone {
+            last_in: self.last_in,
+        })
+    }
+
+    /// Takes the pieces out of the joiner, once those that were taken before are given up.
+    fn gather(&mut self)
+        ensures { self.new ≡ gathered self.old }
+    {
+        if self.going.is_none() {
+            self.going = self.join.held();
+            self.join.reset();
+        }
+    }
+
+    /// Takes the first piece of those that were in the joiner, or else of those that are held.
+    fn next_going(&mut self) -> Option<u32>
+        ensures { GoesOn self.old.going self.old result self.new }
+    {
+        match self.going {
+            Some(run) => {
+                self.going = after_first(run);
+                Some(run.from)
+            }
+            None => self.accepted.next_held(),
+        }
+    }
+
+    /// Takes the first piece of all that are kept.
+    fn next_kept(&mut self) -> Option<u32>
+        ensures taken { TakesFirst result (kept_numbers self.old) (kept_numbers self.new) }
+        ensures rest { ChangesKept self.old self.new }
+    {
+        self.gather();
+        self.next_going()
+    }
+
+    /// The next piece that is given up because state or connection ended.
+    fn next_ended(&mut self, now: Tick) -> Option<(Key, Cause)>
+        ensures taken { TakesFirst result (ended_with self.old.source (end_cause now self.old) (kept_numbers self.old)) (ended_with self.new.source (end_cause now self.new) (kept_numbers self.new)) }
+        ensures rest { ChangesKept self.old self.new }
+        ensures standing { end_cause now self.old ≡ None → self.new ≡ self.old }
+    {
+        let cause = self.end_cause(now)?;
+        let number = self.next_kept()?;
+        Some((self.source.key(number), cause))
+    }
+
+    /// The next piece that is given up because its SDU is broken.
+    #[tactic(auto, using(crate::proofs::Fetched::broken_first))]
+    fn next_broken(&mut self) -> Option<(Key, Cause)>
+        ensures taken { TakesFirst result (broken_with self.old.source (lost_in self.old.join.gaps)) (broken_with self.old.source (lost_in self.new.join.gaps)) }
+        ensures rest { self.new ≡ record self.old { join = record self.old.join { gaps = self.new.join.gaps } } }
+    {
+        match self.join.next_lost() {
+            None => None,
+            Some(lost) => {
+                let missing = lost.missing;
+                Some((self.source.key(lost.number), Cause::Broken { missing }))
+            }
+        }
+    }
+
+    /// The next piece that this receiver held and gave up, with the cause: `Broken` where the last piece broke its SDU,
+    /// `StateGone` where no state stands any more, `NoConnection` where the connection was closed. None exactly where
+    /// there is no such piece. Pieces of one SDU come before those that are held, and numbers rise. All keys are of
+    /// the source of the last piece that was accepted or held.
+    pub fn dropped(&mut self, now: Tick) -> Option<(Key, Cause)>
+        ensures taken { TakesFirst result (drops now self.old) (drops now self.new) }
+        ensures stands { StandsAsBefore now self.old self.new }
+        ensures whole { self.new.join.whole ≡ self.old.join.whole }
+    {
+        match self.next_broken() {
+            Some(broken) => Some(broken),
+            None => self.next_ended(now),
+        }
+    }
+
+    /// Closes the connection, and answers how many pieces are held, 2^32 counted as one less. After that `dropped`
+    /// gives each of them with `NoConnection`.
+    pub fn close(&mut self) -> u32
+        ensures count { result ≡ min (length (kept_numbers self.old)) (2 ^ 32 - 1) }
+        ensures closed { self.new ≡ record self.old { closed = true } }
+    {
+        let count = run_count(self.going) + run_count(self.join.held()) + self.accepted.held_count();
+        self.closed = true;
+        count.min(u64::from(u32::MAX)) as u32
     }
 }

@@ -1,5 +1,7 @@
 //! The pieces that a reliable receiver holds until the gap before them is filled.
-ghost use Rattle.std.specs.Prelude.{◌≡◌, ◌≤◌, ◌<◌, ◌+◌, ◌-◌, ◌%◌, ◌^◌, ℕ, length, All, IfOk, IsTrue, ◌↔◌, true, false, slice_index_or};
+ghost use Rattle.std.specs.Prelude.{◌≡◌, ◌≤◌, ◌<◌, ◌+◌, ◌-◌, ◌%◌, ◌^◌, ℕ, length, All, IfOk, IfSome, IsTrue, ◌↔◌, true, false, slice_index_or};
+ghost use Rattle.rina_dtp.specs.Fetching.{TakesFirst, FindsHeld};
+ghost use Rattle.rina_dtp.specs.Receiving.{held_in};
 ghost use Rattle.rina_dtp.specs.Shelf.{no_place, place_at, holds, with_piece, without, HasRoomOf, IsUnused};
 
 use crate::place::Place;
@@ -82,7 +84,8 @@ impl Shelf {
 
     /// How many places there are.
     pub fn window(&self) -> u64
-        ensures { result ≡ length self.now.places }
+        ensures window { result ≡ length self.now.places }
+        ensures most { result ≤ 256 }
     {
         self.places.len() as u64
     }
@@ -143,5 +146,51 @@ impl Shelf {
     {
         self.next = u64::from(number) + 1;
         free_all(&mut self.places, self.piece);
+    }
+
+    /// The first number that is held.
+    fn first_held(&self) -> Option<u64>
+        ensures held { FindsHeld result self.now }
+        ensures small { IfSome result (λ k. k < 2 ^ 32) }
+        ensures some { 1 ≤ length self.now.places }
+    {
+        for number in self.next..self.next + self.window() {
+            if self.holds(number) {
+                return Some(number);
+            }
+        }
+        None
+    }
+
+    /// Lets go of the first piece that is held, and tells its number; None exactly where none is held.
+    pub fn next_held(&mut self) -> Option<u32>
+        ensures taken { TakesFirst result (held_in self.old) (held_in self.new) }
+        ensures next { self.new.next ≡ self.old.next }
+        ensures piece { self.new.piece ≡ self.old.piece }
+        ensures count { length self.new.places ≡ length self.old.places }
+    {
+        match self.first_held() {
+            None => None,
+            Some(number) => {
+                self.free(number);
+                Some(number as u32)
+            }
+        }
+    }
+
+    /// How many pieces are held.
+    pub fn count(&self) -> u64
+        ensures count { result ≡ length (held_in self.now) }
+        ensures most { result ≤ 256 }
+    {
+        let next = self.next();
+        let end = next + self.window();
+        let mut count = 0;
+        for number in next..end {
+            if self.holds(number) {
+                count += 1;
+            }
+        }
+        count
     }
 }

@@ -1,0 +1,10 @@
+//! A whole SDU that is lent.
+
+/// A whole SDU: the number of its first piece, how many pieces it had, and its bytes.
+#[derive(Clone, Copy)]
+pub struct Sdu<'a> {
+    pub first: u32,
+    /// At most 2^32 - 1; an SDU of more pieces, which no cube allows, is told to have as many.
+    pub pieces: u32,
+    pub bytes: &'a [u8],
+}
