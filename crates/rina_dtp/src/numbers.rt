@@ -1,5 +1,5 @@
 //! The sequence numbers of a sender. They begin again at 0 once nothing of the last run can be left (Watson's delta-t).
-ghost use Rattle.std.specs.Prelude.{◌≡◌, ◌+◌, ◌*◌, ◌^◌, ◌<◌, ◌≤◌, None, Some, if◌then◌else◌};
+ghost use Rattle.std.specs.Prelude.{◌≡◌, ◌+◌, ◌*◌, ◌^◌, ◌<◌, ◌≤◌, None, Some, IfOk, if◌then◌else◌};
 
 use rina_base::Tick;
 
@@ -61,7 +61,8 @@ impl Numbers {
         requires now { now ≤ 10000000 }
         requires first { first ≤ self.old.max + 1 }
         requires count { 1 ≤ count }
-        ensures { IsTaken now count until first self.old result self.new }
+        ensures taken { IsTaken now count until first self.old result self.new }
+        ensures fits { IfOk result (λ n. n + count ≤ 2 ^ 32) }
     {
         let next = first + u64::from(count);
         if next > u64::from(self.max) + 1 {
@@ -79,7 +80,8 @@ impl Numbers {
         requires now { now ≤ 10000000 }
         requires count { 1 ≤ count }
         requires delta { delta ≤ 3000000 }
-        ensures { TakesNumbers now count idle delta self.old result self.new }
+        ensures taken { TakesNumbers now count idle delta self.old result self.new }
+        ensures fits { IfOk result (λ n. n + count ≤ 2 ^ 32) }
     {
         let absent = self.is_absent(now, idle, delta);
         let first = self.next_from(absent);

@@ -1,0 +1,10 @@
+//! A connection of a DIF: it only passes on, to the numbers, the sender and the receiver of its two halves.
+#![tactic(auto)]
+
+mod form;
+mod made;
+mod sending;
+
+pub use form::{Form, Peer};
+pub use made::{Made, OfferError, Pdus};
+pub use sending::Sending;

@@ -1,0 +1,5 @@
+pub mod Sents
+pub mod Senders
+pub mod Rows
+pub mod Lending
+pub mod Plans
