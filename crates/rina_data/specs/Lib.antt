@@ -1,0 +1,5 @@
+pub mod Cloud
+pub mod Dif
+pub mod Ids
+pub mod Partners
+pub mod Standing
