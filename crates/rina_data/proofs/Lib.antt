@@ -1,0 +1,4 @@
+pub mod After
+pub mod Clouds
+pub mod Ends
+pub mod Partnered

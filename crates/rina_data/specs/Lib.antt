@@ -1,5 +1,6 @@
 pub mod Cloud
 pub mod Dif
 pub mod Ids
+pub mod Lifting
 pub mod Partners
 pub mod Standing
