@@ -1,4 +1,6 @@
 pub mod After
 pub mod Clouds
 pub mod Ends
+pub mod Flows
+pub mod Journals
 pub mod Partnered
