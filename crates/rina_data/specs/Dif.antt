@@ -1,5 +1,5 @@
 -- What a contract sees of a DIF.
-use Rattle.std.specs.Prelude.{◌≡◌, ℕ, ◌+◌, ◌-◌, ◌*◌, ◌^◌, ◌==◌, ◌&&◌, Bool, List, find, map, slice_get, slice_set, Option, Some, None, option_map}
+use Rattle.std.specs.Prelude.{◌≡◌, ℕ, ◌+◌, ◌-◌, ◌*◌, ◌^◌, ◌==◌, ◌&&◌, Bool, List, ◌++◌, drop, find, map, position, slice_get, slice_set, Option, Some, None, option_map}
 use Rattle.rina_account.specs.declared.ledger.Off.{Off}
 use Rattle.rina_base.specs.declared.number.Port.{Port}
 use Rattle.rina_base.specs.declared.pdu.PduKind.TheVariants.{Piece}
@@ -104,9 +104,34 @@ link_by number links = find (λ (l : Link). l.live && (l.number == number)) link
 abbrev pub next_hop : ℕ → List Route → Option ℕ
 next_hop dst routes = option_map (λ (r : Route). r.link) (find (λ (r : Route). r.dst == dst) routes)
 
+-- the IPC process of place i
+pub record IsProcess (d : DifSeen) (i : ℕ) (member : Member) (process : Process) : Type 0 where
+  pub is_member : slice_get d.config.members i ≡ Some member
+  pub is_process : slice_get d.processes i ≡ Some process
+
+-- where the queue of a cube and link stands
+abbrev pub queue_place : ℕ → ℕ → List Queue → Option ℕ
+queue_place qos link queues = position (λ (q : Queue). (q.link == link) && (q.qos == qos)) queues
+
+pub record IsQueue (process : Process) (qos link place : ℕ) (queue : Queue) : Type 0 where
+  pub found : queue_place qos link process.queues ≡ Some place
+  pub is_queue : slice_get process.queues place ≡ Some queue
+
 -- the process with this queue in the place of another
 abbrev pub with_queue : Process → ℕ → Queue → Process
 with_queue p k q = record p { queues = slice_set p.queues k q }
+
+-- with more PDUs at the end of a queue
+abbrev pub with_put : Process → ℕ → Queue → List Queued → Process
+with_put p k q items = with_queue p k (record q { items = q.items ++ items })
+
+-- without the first PDU of a queue
+abbrev pub with_taken : Process → ℕ → Queue → Process
+with_taken p k q = with_queue p k (record q { items = drop 1 q.items })
+
+-- with more lines in its ledger
+abbrev pub with_offs : Process → List Off → Process
+with_offs p offs = record p { ledger = p.ledger ++ offs }
 
 -- the DIF with this process in the place of another
 abbrev pub with_process : DifSeen → ℕ → Process → DifSeen

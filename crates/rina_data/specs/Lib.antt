@@ -1,6 +1,10 @@
 pub mod Cloud
 pub mod Dif
 pub mod Ids
+pub mod Incoming
 pub mod Lifting
+pub mod Outgoing
 pub mod Partners
+pub mod Passing
+pub mod Sending
 pub mod Standing
