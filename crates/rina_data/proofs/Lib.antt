@@ -2,6 +2,9 @@ pub mod After
 pub mod Clouds
 pub mod Ends
 pub mod Flows
+pub mod Frame
 pub mod Journals
 pub mod Own
 pub mod Partnered
+pub mod Queues
+pub mod Spelled
