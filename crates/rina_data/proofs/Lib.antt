@@ -1,8 +1,11 @@
 pub mod After
+pub mod Arrivals
 pub mod Clouds
 pub mod Ends
+pub mod Finding
 pub mod Flows
 pub mod Frame
+pub mod Going
 pub mod Journals
 pub mod Own
 pub mod Partnered
