@@ -1,6 +1,7 @@
 pub mod After
 pub mod Arrivals
 pub mod Clouds
+pub mod Coming
 pub mod Ends
 pub mod Finding
 pub mod Flows
