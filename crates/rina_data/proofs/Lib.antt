@@ -6,9 +6,11 @@ pub mod Ends
 pub mod Finding
 pub mod Flows
 pub mod Frame
+pub mod Giving
 pub mod Going
 pub mod Journals
 pub mod Own
 pub mod Partnered
 pub mod Queues
 pub mod Spelled
+pub mod Taking
