@@ -1,5 +1,5 @@
 -- A step that takes keeps standing.
-use Rattle.std.proofs.Common.{◌≡◌, ◌≢◌, ℕ, zero, suc, ◌+◌, ◌-◌, ◌^◌, ◌<◌, ◌≤◌, List, [], ◌∷◌, ◌++◌, length, length-append, append-nil, append_assoc, map, slice_get, slice_set, Some, None, Ok, Err, Option, Result, true, refl, sym, ◌∙◌, ap, subst, arith, inl, inr, ◌⊎◌}
+use Rattle.std.proofs.Common.{◌≡◌, ◌≢◌, ℕ, zero, suc, ◌+◌, ◌-◌, ◌^◌, ◌<◌, ◌≤◌, List, [], ◌∷◌, ◌++◌, length, length-set, length-append, append-nil, append_assoc, map, slice_get, slice_set, Some, None, Ok, Err, Option, Result, true, refl, sym, ◌∙◌, ap, subst, arith, inl, inr, ◌⊎◌}
 use Rattle.rina_base.specs.declared.cause.Cause.{Cause}
 use Rattle.rina_base.specs.declared.cause.Cause.TheVariants as causes
 use Rattle.rina_base.specs.declared.number.Key.{Key}
@@ -107,7 +107,7 @@ module _ (d : DifSeen) (lines : List Direction) (below below' : Seen) (st : IsSt
       let own = own_received d.config d.clock (Cloud Everywhere d.config d.processes below) (Cloud Everywhere d.config processes' below') d.ends d.conns lines st.own s.place s.end end' at const st.journal s.from partner s.inbound.is_partner s.inbound.partners s.line line' s.inbound.is_line refl covers
           (λ x f x_conn f_conn h. main_arrived partner s.end x s.ids f s.line s.cube processes' s.is_cube s.piece s.taker.names (ids_same (slice_get d.conns s.place) f s.ids f_conn.ids_are s.taker.is_conn.ids_are) covers h) in
       subst (λ (z : DifSeen). IsStanding z lines' below') (sym s.new_is) (subst (λ (ls : List Direction). IsStanding (record d { ends = slice_set d.ends s.place end'; processes = processes' }) ls below') (sym s.lines_are)
-        (stands_with d lines (slice_set lines s.from line') NoMore NoItem below below' d.clock processes' (slice_set d.ends s.place end') st after (st.clock ∙ sym clock) (omega arith) moved (same_links d.processes i process process' is_process refl)
+        (stands_with d lines (slice_set lines s.from line') NoMore NoItem below below' d.clock processes' (slice_set d.ends s.place end') st after (st.clock ∙ sym clock) (omega arith) (length-set d.processes i process') moved (same_links d.processes i process process' is_process refl)
           (λ port y none. absurd none) (λ j m item none. absurd none)
           (journal_set d.ends s.place s.end end' at const d.clock st.journal whole (λ state. has_partner) (λ j x h. has_partner))
           (ports_set d.ends s.place s.end end' at const d.config.fac (fac_of d) (fac_of (record d { ends = slice_set d.ends s.place end'; processes = processes' })) refl refl st.ports)
@@ -127,7 +127,7 @@ module _ (d : DifSeen) (lines : List Direction) (below below' : Seen) (st : IsSt
               flow_told d.config d.clock cloud cloud' a b c f s.line h.cube h.is_cube (cube_limits d.config c.qos h.cube st.config h.is_cube) older (ack_in pdu) ack alive covers h)
           (λ j a c ne x k b f y p mirror. covered d.clock cloud cloud' c covers) in
       subst (λ (z : DifSeen). IsStanding z lines' below') (sym s.new_is) (subst (λ (ls : List Direction). IsStanding d ls below') (sym s.lines_are)
-        (stands_with d lines (slice_set lines s.place line') NoMore NoItem below below' d.clock d.processes d.ends st after (st.clock ∙ sym clock) (omega arith) (requeued_none d.processes) (λ j l h. h)
+        (stands_with d lines (slice_set lines s.place line') NoMore NoItem below below' d.clock d.processes d.ends st after (st.clock ∙ sym clock) (omega arith) refl (requeued_none d.processes) (λ j l h. h)
           (λ port y none. absurd none) (λ j m item none. absurd none) st.journal st.ports own))
 
   -- a PDU of the cloud waits for its next hop
@@ -151,7 +151,7 @@ module _ (d : DifSeen) (lines : List Direction) (below below' : Seen) (st : IsSt
       ] in
       let fits : IsItem d.config d.clock item = record { fit = fit.fit; past = past; left = fit.left } in
       subst (λ (z : DifSeen). IsStanding z lines below') (sym s.new_is)
-        (stands_with d lines lines NoMore (JustItems i s.queue.link (item ∷ [])) below below' d.clock processes' d.ends st after (st.clock ∙ sym clock) (omega arith) moved (same_links d.processes i process process' is_process refl)
+        (stands_with d lines lines NoMore (JustItems i s.queue.link (item ∷ [])) below below' d.clock processes' d.ends st after (st.clock ∙ sym clock) (omega arith) (length-set d.processes i process') moved (same_links d.processes i process process' is_process refl)
           (λ port y none. absurd none)
           (λ j m x new. elim (new.2) [ inl is ↦ subst (IsItem d.config d.clock) (sym is) fits | inr none ↦ absurd none ])
           st.journal st.ports

@@ -1,5 +1,5 @@
 -- What of standing a call keeps whatever it does, and what is left to show.
-use Rattle.std.proofs.Common.{◌≡◌, ◌≢◌, ℕ, zero, suc, ◌+◌, ◌≤◌, List, [], ◌∷◌, slice_get, Some, None, Option, refl, sym, ◌∙◌, ap, subst, arith, inl, inr, ◌⊎◌}
+use Rattle.std.proofs.Common.{◌≡◌, ◌≢◌, ℕ, zero, suc, ◌+◌, ◌≤◌, List, [], ◌∷◌, length, slice_get, Some, None, Option, refl, sym, ◌∙◌, ap, subst, arith, inl, inr, ◌⊎◌}
 use Rattle.rina_base.specs.declared.number.Port.{Port}
 use Rattle.rina_iface.specs.declared.ends.End.{End}
 use Rattle.rina_iface.specs.Journal.{HasPorts}
@@ -50,13 +50,14 @@ item_later g now later item le h = (let past = h.past in record { fit = h.fit; p
 
 -- a DIF stands after a call, where its clock, its IPC processes and its journal changed
 pub stands_with : (d : DifSeen) (lines lines' : List Direction) (more : Port → Entry → Type 0) (items : ℕ → ℕ → Queued → Type 0) (below below' : Seen) (clock : ℕ) (processes : List Process) (ends : List End) → IsStanding d lines below → IsAfter d.config more below below'
-  → clock ≡ below'.now → d.clock ≤ clock → Requeued items d.processes processes → ((i : ℕ) (l : Link) → HasLink processes i l → HasLink d.processes i l)
+  → clock ≡ below'.now → d.clock ≤ clock → length processes ≡ length d.processes → Requeued items d.processes processes → ((i : ℕ) (l : Link) → HasLink processes i l → HasLink d.processes i l)
   → ((port : Port) (x : Entry) → more port x → IsSpelled d.config x.bytes) → ((i n : ℕ) (item : Queued) → items i n item → IsItem d.config clock item)
   → IsJournal clock ends → HasPorts d.config.fac (fac_of (record d { clock = clock; processes = processes; ends = ends })) → IsOwn d.config clock (Cloud Everywhere d.config processes below') ends d.conns lines'
   → IsStanding (record d { clock = clock; processes = processes; ends = ends }) lines' below'
-stands_with d lines lines' more items below below' clock processes ends st after is le moved links spelled fit journal ports own = record {
+stands_with d lines lines' more items below below' clock processes ends st after is le alike moved links spelled fit journal ports own = record {
   config = st.config;
   clock = is;
+  aligned = alike ∙ st.aligned;
   linked = λ i member link m h. linked_kept d lines more below below' st after member.name link.port (st.linked i member link m (links i link h));
   inside = inside_kept d lines more below below' st after;
   spelled = spelled_kept d lines more below below' st after spelled;

@@ -1,5 +1,5 @@
 -- A send keeps standing.
-use Rattle.std.proofs.Common.{◌≡◌, ◌≢◌, ℕ, zero, suc, ◌+◌, ◌-◌, ◌*◌, ◌^◌, ◌<◌, ◌≤◌, List, [], ◌∷◌, ◌++◌, length, slice_get, slice_set, Some, None, Ok, Err, Option, Result, true, refl, sym, ◌∙◌, ap, subst, arith, inl, inr, ◌⊎◌}
+use Rattle.std.proofs.Common.{◌≡◌, ◌≢◌, ℕ, zero, suc, ◌+◌, ◌-◌, ◌*◌, ◌^◌, ◌<◌, ◌≤◌, List, [], ◌∷◌, ◌++◌, length, length-set, slice_get, slice_set, Some, None, Ok, Err, Option, Result, true, refl, sym, ◌∙◌, ap, subst, arith, inl, inr, ◌⊎◌}
 use Rattle.rina_base.specs.declared.number.Num.{Num}
 use Rattle.rina_base.specs.declared.pdu.Pdu.{Pdu}
 use Rattle.rina_base.specs.declared.pdu.PduKind.TheVariants.{Piece as APiece, Ack as AnAck}
@@ -162,7 +162,7 @@ offered_stands d lines below at parts num d' lines' st cut s =
         (λ j b c f x y p h. main_offered g d.clock cloud cloud' s.end b c s.ids f s.line s.cube parts s.is_cube limits (ids_same (slice_get d.conns at) s.ids c s.is_conn.ids_are x.ids_are) cut s.free covers h)
         (λ i a c ne x j b f y p mirror. others_covered d.clock (d.clock + s.cube.mpl) cloud cloud' s.ids pieces c covers (λ own scep. ne (st.own.apart i at c s.ids x.ids_are s.is_conn.ids_are own scep))) in
     subst (λ (z : DifSeen). IsStanding z lines' below) (sym s.new_is) (subst (λ (ls : List Direction). IsStanding (record d { ends = slice_set d.ends at end'; processes = processes' }) ls below) (sym s.lines_are)
-      (stands_with d lines (slice_set lines at line') NoMore (JustItems s.i s.queue.link items) below below d.clock processes' (slice_set d.ends at end') st (after_none g below) st.clock (omega arith)
+      (stands_with d lines (slice_set lines at line') NoMore (JustItems s.i s.queue.link items) below below d.clock processes' (slice_set d.ends at end') st (after_none g below) st.clock (omega arith) (length-set d.processes s.i process')
         (requeued_put d.processes s.i s.place s.process s.queue items s.is_process s.is_queue.is_queue) (same_links d.processes s.i s.process process' s.is_process refl)
         (λ port y none. absurd none)
         (λ j m item new. made_fits g d.clock s.end s.ids s.line s.cube parts item st.config are s.is_cube limits holds cut s.free new.2)

@@ -1,5 +1,5 @@
 -- A step that sends or writes off keeps standing.
-use Rattle.std.proofs.Common.{◌≡◌, ◌≢◌, ℕ, zero, suc, ◌+◌, ◌-◌, ◌^◌, ◌<◌, ◌≤◌, List, [], ◌∷◌, ◌++◌, length, slice_get, slice_set, Some, None, Ok, Err, Option, Result, refl, sym, ◌∙◌, ap, subst, arith, inl, inr, ◌⊎◌}
+use Rattle.std.proofs.Common.{◌≡◌, ◌≢◌, ℕ, zero, suc, ◌+◌, ◌-◌, ◌^◌, ◌<◌, ◌≤◌, List, [], ◌∷◌, ◌++◌, length, length-set, slice_get, slice_set, Some, None, Ok, Err, Option, Result, refl, sym, ◌∙◌, ap, subst, arith, inl, inr, ◌⊎◌}
 use Rattle.rina_base.specs.declared.cause.Cause.{Cause}
 use Rattle.rina_base.specs.declared.cause.Cause.TheVariants as causes
 use Rattle.rina_base.specs.declared.number.Key.{Key}
@@ -93,7 +93,7 @@ forwarded_stands refuses d lines below i n key d' below' kept kept' st s =
     let fit = st.items i n s.item (head_waits d i n s.process s.link s.place s.queue s.item s.head) in
     let covers = forwarded_covers Everywhere d below below' i n s.process process' s.link s.place s.queue s.item s.promise s.num st.config (sym st.clock) fit s.head refl (λ w. tt) s.promised s.in_time after in
     subst (λ (z : DifSeen). IsStanding z lines below') (sym s.new_is) (stands_with d lines lines (Just s.link.port x) NoItem below below' d.clock (slice_set d.processes i process') d.ends st after
-      (st.clock ∙ sym (now_sent below s.link.port bytes s.num below' s.sent.1)) (omega arith)
+      (st.clock ∙ sym (now_sent below s.link.port bytes s.num below' s.sent.1)) (omega arith) (length-set d.processes i process')
       (requeued_taken d.processes i s.place s.process process' s.queue s.head.is_process s.head.is_queue refl)
       (same_links d.processes i s.process process' s.head.is_process refl)
       (λ port y is. subst (IsSpelled d.config) (ap (λ (e : Entry). e.bytes) (sym is.1)) (item_spelled d.config d.clock (charge_of d.clock s.item s.promise) s.item fit))
@@ -104,7 +104,7 @@ forwarded_stands refuses d lines below i n key d' below' kept kept' st s =
 -- an IPC process whose links stay, and whose queues at most lose PDUs, while nothing happens below but passes
 pub lost_stands : (d : DifSeen) (lines : List Direction) (below below' : Seen) (i : ℕ) (process process' : Process) → IsStanding d lines below → IsAfter d.config NoMore below below' → below'.now ≡ below.now → slice_get d.processes i ≡ Some process → process'.links ≡ process.links → Requeued NoItem d.processes (slice_set d.processes i process') → IsStanding (with_process d i process') lines below'
 lost_stands d lines below below' i process process' st after clock is links moved =
-    stands_with d lines lines NoMore NoItem below below' d.clock (slice_set d.processes i process') d.ends st after (st.clock ∙ sym clock) (omega arith) moved (same_links d.processes i process process' is links)
+    stands_with d lines lines NoMore NoItem below below' d.clock (slice_set d.processes i process') d.ends st after (st.clock ∙ sym clock) (omega arith) (length-set d.processes i process') moved (same_links d.processes i process process' is links)
       (λ port y none. absurd none) (λ j m item none. absurd none) st.journal st.ports
       (own_covered d.config d.clock (Cloud Everywhere d.config d.processes below) (Cloud Everywhere d.config (slice_set d.processes i process') below') d.ends d.conns lines st.own (covers_less Everywhere d.config d.clock d.processes (slice_set d.processes i process') below below' moved after))
 

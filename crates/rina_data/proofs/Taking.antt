@@ -62,7 +62,7 @@ passed_stands d lines below at d' lines' st s =
     let own = own_received d.config d.clock cloud cloud d.ends d.conns lines st.own at s.end end' is_end const st.journal s.from partner s.inbound.is_partner s.inbound.partners s.line line' s.inbound.is_line refl (same_cloud d.clock cloud)
         (λ c f x y h. main_passed d.config d.clock cloud partner s.end c s.ids f s.line s.cube s.is_cube limits (ids_same (slice_get d.conns at) f s.ids y.ids_are s.is_conn.ids_are) waits h) in
     subst (λ (z : DifSeen). IsStanding z lines' below) (sym s.new_is) (subst (λ (ls : List Direction). IsStanding (record d { ends = slice_set d.ends at end' }) ls below) (sym s.lines_are)
-      (stands_with d lines (slice_set lines s.from line') NoMore NoItem below below d.clock d.processes (slice_set d.ends at end') st (after_none d.config below) st.clock (omega arith)
+      (stands_with d lines (slice_set lines s.from line') NoMore NoItem below below d.clock d.processes (slice_set d.ends at end') st (after_none d.config below) st.clock (omega arith) refl
         (requeued_none d.processes) (λ j l h. h) (λ port y none. absurd none) (λ j m item none. absurd none)
         (journal_set d.ends at s.end end' is_end const d.clock st.journal whole (λ state. has_partner) (λ j x h. has_partner))
         (ports_set d.ends at s.end end' is_end const d.config.fac (fac_of d) (fac_of (record d { ends = slice_set d.ends at end' })) refl refl st.ports)
@@ -75,7 +75,7 @@ lifted_stands d lines below below' d' lines' kept st lifted s =
     let covers = covers_less Everywhere d.config below'.now d.processes d.processes below below' (requeued_none d.processes) after in
     let own = own_ticked d.config d.clock below'.now (Cloud Everywhere d.config d.processes below) (Cloud Everywhere d.config d.processes below') d.ends d.conns lines s.later covers st.own in
     subst (λ (z : DifSeen). IsStanding z lines' below') (sym s.new_is) (subst (λ (ls : List Direction). IsStanding (record d { clock = below'.now }) ls below') (sym s.lines_are)
-      (stands_with d lines (map (ticked (below'.now - d.clock)) lines) NoMore NoItem below below' below'.now d.processes d.ends st after refl s.later
+      (stands_with d lines (map (ticked (below'.now - d.clock)) lines) NoMore NoItem below below' below'.now d.processes d.ends st after refl s.later refl
         (requeued_none d.processes) (λ j l h. h) (λ port y none. absurd none) (λ j m item none. absurd none)
         (journal_later d.clock below'.now d.ends s.later st.journal) st.ports own))
 
@@ -92,4 +92,4 @@ cloud_law d lines below below' kept st after death pdu x alive =
 pub still_stands : (d : DifSeen) (lines : List Direction) (below below' : Seen) → IsStanding d lines below → IsAfter d.config NoMore below below' → below'.now ≡ below.now → IsStanding d lines below'
 still_stands d lines below below' st after clock =
     let own = own_covered d.config d.clock (Cloud Everywhere d.config d.processes below) (Cloud Everywhere d.config d.processes below') d.ends d.conns lines st.own (covers_less Everywhere d.config d.clock d.processes d.processes below below' (requeued_none d.processes) after) in
-    stands_with d lines lines NoMore NoItem below below' d.clock d.processes d.ends st after (st.clock ∙ sym clock) (omega arith) (requeued_none d.processes) (λ j l h. h) (λ port y none. absurd none) (λ j m item none. absurd none) st.journal st.ports own
+    stands_with d lines lines NoMore NoItem below below' d.clock d.processes d.ends st after (st.clock ∙ sym clock) (omega arith) refl (requeued_none d.processes) (λ j l h. h) (λ port y none. absurd none) (λ j m item none. absurd none) st.journal st.ports own

@@ -131,6 +131,7 @@ pub record IsOwn (g : Config) (now : ℕ) (cloud : ℕ → Pdu → Type 0) (ends
 pub record IsStanding (d : DifSeen) (lines : List Direction) (below : Seen) : Type 0 where
   pub config : IsConfig d.config
   pub clock : d.clock ≡ below.now
+  pub aligned : length d.processes ≡ length d.config.members
   pub linked : (i : ℕ) (member : Member) (link : Link) → slice_get d.config.members i ≡ Some member → HasLink d.processes i link → IsLinked below member.name link.port
   pub inside : (port : Port) (end : End) → end_of below port ≡ Some end → IsMine d.config.members end.app ⊎ IsMine d.config.members end.peer → IsInside d.config below port end
   pub spelled : (port : Port) (end : End) (j : ℕ) (x : Entry) → end_of below port ≡ Some end → IsMine d.config.members end.app → slice_get end.sent j ≡ Some x → IsSpelled d.config x.bytes
