@@ -9,8 +9,11 @@ pub mod Frame
 pub mod Giving
 pub mod Going
 pub mod Journals
+pub mod Keepers
+pub mod Others
 pub mod Own
 pub mod Partnered
 pub mod Queues
 pub mod Spelled
+pub mod Starting
 pub mod Taking

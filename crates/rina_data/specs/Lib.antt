@@ -3,8 +3,11 @@ pub mod Dif
 pub mod Ids
 pub mod Incoming
 pub mod Lifting
+pub mod Others
 pub mod Outgoing
 pub mod Partners
 pub mod Passing
 pub mod Sending
 pub mod Standing
+pub mod Start
+pub mod Upward
