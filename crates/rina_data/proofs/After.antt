@@ -1,11 +1,11 @@
 -- What a call does to the ends below, as far as a DIF looks at them.
-use Rattle.std.proofs.Common.{◌≡◌, ◌≢◌, ℕ, ◌≤◌, List, [], ◌∷◌, ◌++◌, slice_get, Some, None, Option, refl, sym, ◌∙◌, ap, subst, arith, inl, inr, ◌⊎◌}
+use Rattle.std.proofs.Common.{◌≡◌, ℕ, ◌≤◌, List, [], slice_get, Some, None, Option, refl, sym, subst, arith, inl, inr, ◌⊎◌}
 use Rattle.rina_base.specs.declared.number.Num.{Num}
 use Rattle.rina_base.specs.declared.number.Port.{Port}
 use Rattle.rina_iface.specs.declared.ends.End.{End}
 use Rattle.rina_iface.specs.Ends.{with_passed, with_sent}
 use Rattle.rina_iface.specs.Journal.{AreKept}
-use Rattle.rina_iface.specs.Later.{Grows, IsLater}
+use Rattle.rina_iface.specs.Later.{IsLater}
 use Rattle.rina_iface.specs.Pass.{IsPassed}
 use Rattle.rina_iface.specs.Seen.{Fac, Seen, Stands, end_of, largest_at, promise_at, with_end, with_fac}
 use Rattle.rina_iface.specs.Send.{IsSent}
@@ -67,15 +67,18 @@ after_none g s = record {
 kin_later : (old new : Seen) (port : Port) (e : End) → IsLater old new → AreKept new → end_of old port ≡ Some e → (e' : End) × (end_of new port ≡ Some e') × IsKin old new port e e'
 kin_later old new port e later kept h =
     let f = found old port e h in
-    let l = stands_later old new port f.facility f.place e later kept f.stands in
-    (l.end, end_of_stands new port l.facility f.place l.end l.stands, record {
-      app = l.later.app;
-      peer = l.later.peer;
-      promise = promise_stays old new port e later kept h;
-      largest = largest_stays old new port e later kept h;
-      got = λ k x at. subst (λ (xs : List Entry). slice_get xs k ≡ Some x) (sym l.later.got.is) (still_at e.got l.later.got.more k x at);
-      taken = l.later.taken;
-    })
+    let l = stands_later old new port f.facility f.place e later kept f.stands in (
+      l.end,
+      end_of_stands new port l.facility f.place l.end l.stands,
+      record {
+        app = l.later.app;
+        peer = l.later.peer;
+        promise = promise_stays old new port e later kept h;
+        largest = largest_stays old new port e later kept h;
+        got = λ k x at. subst (λ (xs : List Entry). slice_get xs k ≡ Some x) (sym l.later.got.is) (still_at e.got l.later.got.more k x at);
+        taken = l.later.taken;
+      },
+    )
 
 -- one end changed, and sent at most what `more` says
 changed : (g : Config) (more : Port → Entry → Type 0) (s : Seen) (port : Port) (f : Fac) (i : ℕ) (e e' : End) (s' : Seen) → AreKept s → AreKept s' → IsLater s s' → Stands s port f i e → e'.port ≡ e.port → s' ≡ with_fac s port.fac (with_end f i e') → ((j : ℕ) (x : Entry) → slice_get e'.sent j ≡ Some x → (slice_get e.sent j ≡ Some x) ⊎ more port x) → IsAfter g more s s'

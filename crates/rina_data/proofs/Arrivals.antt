@@ -1,5 +1,5 @@
 -- What is known of the PDU that waits at a link.
-use Rattle.std.proofs.Common.{◌≡◌, ℕ, ◌+◌, ◌-◌, ◌<◌, ◌≤◌, List, slice_get, Some, Option, refl, sym, ◌∙◌, ap, subst, arith, inl, inr, ◌⊎◌}
+use Rattle.std.proofs.Common.{◌≡◌, ℕ, ◌+◌, ◌≤◌, List, slice_get, Some, refl, sym, subst, arith, inl}
 use Rattle.rina_base.specs.declared.number.Port.{Port}
 use Rattle.rina_iface.specs.declared.ends.End.{End}
 use Rattle.rina_iface.specs.Journal.{AreKept, IsWhole}
@@ -8,7 +8,7 @@ use Rattle.rina_iface.proofs.Found.{found}
 use Rattle.rina_law.specs.declared.entry.Entry.{Entry}
 use Rattle.rina_law.specs.Direction.{Direction}
 use Rattle.rina_data.specs.Cloud.{Everywhere, Hop, IsCome, IsMine, IsOnWay, opened}
-use Rattle.rina_data.specs.Dif.{Config, DifSeen, Link, Member, Process, IsProcess, link_by}
+use Rattle.rina_data.specs.Dif.{DifSeen, Link, Member, Process, IsProcess, link_by}
 use Rattle.rina_data.specs.Standing.{IsStanding}
 use Rattle.rina_data.proofs.Clouds.{come_covered}
 use Rattle.rina_data.proofs.Finding.{live_link, oldest_at}

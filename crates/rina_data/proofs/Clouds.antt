@@ -1,5 +1,5 @@
 -- What a call does to the cloud.
-use Rattle.std.proofs.Common.{◌≡◌, ◌≢◌, ℕ, zero, suc, ◌+◌, ◌<◌, ◌≤◌, List, [], ◌∷◌, ◌++◌, slice_get, Some, None, Option, refl, sym, ◌∙◌, ap, subst, arith, inl, inr, ◌⊎◌}
+use Rattle.std.proofs.Common.{◌≡◌, ℕ, ◌+◌, ◌≤◌, List, [], ◌∷◌, slice_get, Some, refl, sym, ◌∙◌, subst, arith, inl, inr, ◌⊎◌}
 use Rattle.rina_base.specs.declared.number.Port.{Port}
 use Rattle.rina_base.specs.declared.pdu.Pdu.{Pdu}
 use Rattle.rina_iface.specs.declared.ends.End.{End}
@@ -11,7 +11,6 @@ use Rattle.rina_queue.specs.declared.queue.Queued.{Queued}
 use Rattle.rina_data.specs.Cloud.{Cloud, Everywhere, Hop, IsCome, IsMine, IsOnWay, IsPortIn, IsQueueIn, IsQueued, Scope, Waits, WholeCloud, opened}
 use Rattle.rina_data.specs.Dif.{Config, Process}
 use Rattle.rina_data.proofs.After.{IsAfter, NoMore, back}
-use Rattle.rina_data.proofs.Ends.{same_some}
 use Rattle.rina_data.proofs.Partnered.{met}
 
 -- what waits after a call waited before for the same link, or is one of `more`

@@ -1,16 +1,13 @@
 -- A step that takes keeps standing.
-use Rattle.std.proofs.Common.{◌≡◌, ◌≢◌, ℕ, zero, suc, ◌+◌, ◌-◌, ◌^◌, ◌<◌, ◌≤◌, List, [], ◌∷◌, ◌++◌, length, length-set, length-append, append-nil, append_assoc, map, slice_get, slice_set, Some, None, Ok, Err, Option, Result, true, refl, sym, ◌∙◌, ap, subst, arith, inl, inr, ◌⊎◌}
+use Rattle.std.proofs.Common.{◌≡◌, ℕ, ◌+◌, ◌-◌, ◌≤◌, List, [], ◌∷◌, ◌++◌, length-set, length-append, append-nil, append_assoc, map, slice_get, slice_set, Some, None, Ok, Err, Option, Result, refl, sym, ◌∙◌, ap, subst, arith, inl, inr}
 use Rattle.rina_base.specs.declared.cause.Cause.{Cause}
 use Rattle.rina_base.specs.declared.cause.Cause.TheVariants as causes
-use Rattle.rina_base.specs.declared.number.Key.{Key}
 use Rattle.rina_base.specs.declared.number.Port.{Port}
 use Rattle.rina_base.specs.declared.pdu.Pdu.{Pdu}
-use Rattle.rina_base.specs.declared.pdu.PduKind.TheVariants.{Piece as APiece, Ack as AnAck}
+use Rattle.rina_base.specs.declared.pdu.PduKind.TheVariants.{Piece as APiece}
 use Rattle.rina_cube.specs.declared.Cube.{Cube}
-use Rattle.rina_cube.specs.Cubes.{IsCube}
 use Rattle.rina_iface.specs.declared.ends.End.{End}
-use Rattle.rina_iface.specs.Journal.{AreKept, At, HasPartner, IsDated, IsPartner, IsWhole}
-use Rattle.rina_iface.specs.Later.{IsLater}
+use Rattle.rina_iface.specs.Journal.{AreKept, HasPartner, IsDated, IsWhole}
 use Rattle.rina_iface.specs.Pass.{IsPassed}
 use Rattle.rina_iface.specs.Seen.{Seen}
 use Rattle.rina_iface.proofs.Grown.{dated_push}
@@ -31,9 +28,9 @@ use Rattle.rina_data.specs.declared.step.StepError.TheVariants.{Memory, NoIpc, N
 use Rattle.rina_data.specs.declared.step.Took.{Took}
 use Rattle.rina_data.specs.declared.step.Took.TheVariants as took
 use Rattle.rina_data.specs.Cloud.{Cloud, Everywhere, Hop}
-use Rattle.rina_data.specs.Dif.{Config, DifSeen, Member, Process, fac_of, constants, cube_by, with_offs, with_process, with_put}
+use Rattle.rina_data.specs.Dif.{DifSeen, Member, Process, fac_of, constants, cube_by, with_offs, with_process, with_put}
 use Rattle.rina_data.specs.Ids.{AcksOf, Ids, IsFrom, PiecesOf, flipped}
-use Rattle.rina_data.specs.Incoming.{Ins, IsArrived, IsInTime, IsRelayed, IsTaken, IsTold, Settles, SettlesOff, arrived, line_for, lines_for, written_off}
+use Rattle.rina_data.specs.Incoming.{Ins, IsArrived, IsInTime, IsRelayed, IsTold, Settles, SettlesOff, arrived, line_for, lines_for, written_off}
 use Rattle.rina_data.specs.Standing.{IsConn, IsFlow, IsItem, IsStanding}
 use Rattle.rina_data.proofs.After.{IsAfter, NoMore, after_passed}
 use Rattle.rina_data.proofs.Arrivals.{IsArrival, arrival}
@@ -60,7 +57,7 @@ more_whole c now end whole w = record {
 }
 
 -- what an arrival delivers
-abbrev delivers : Constants → Piece → Direction → List Sdu
+abbrev pub delivers : Constants → Piece → Direction → List Sdu
 delivers k p line = (joined_after (arrival_verdict k line.line p (has_room k line)) k.cube.kind (is_present k line.line.clock line.line.receiver) p line.line.receiver.held line.inbox.joiner).whole
 
 arrived_whole : (k : Constants) (now : ℕ) (p : Piece) (line : Direction) (end : End) → line.line.clock ≡ now → line.inbox.got ≡ end.got → IsWhole now end → IsWhole now (record end { got = (arrived k p line).inbox.got })
@@ -75,8 +72,8 @@ ids_same o a b h g = cc
 module _ (d : DifSeen) (lines : List Direction) (below below' : Seen) (st : IsStanding d lines below) (after : IsAfter d.config NoMore below below') (clock : below'.now ≡ below.now) (older : ℕ) (pdu : Pdu) (has : Cloud Everywhere d.config d.processes below older pdu) (alive : d.clock ≤ older) where
   -- what a piece of the cloud makes of its direction
   main_arrived : (partner end : End) (c ids f : Ids) (line : Direction) (cube : Cube) (processes' : List Process) → cube_by ids.qos d.config.cubes ≡ Some cube → pdu.kind ≡ APiece → IsFrom (flipped ids) pdu → f ≡ ids → Covers d.clock (Cloud Everywhere d.config d.processes below) (Cloud Everywhere d.config processes' below')
-    → IsFlow d.config d.clock (Cloud Everywhere d.config d.processes below) partner end c f line
-    → IsFlow d.config d.clock (Cloud Everywhere d.config processes' below') partner (record end { got = (arrived (constants d.config cube (flipped ids)) (piece_in pdu) line).inbox.got }) c f (arrived (constants d.config cube (flipped ids)) (piece_in pdu) line)
+      → IsFlow d.config d.clock (Cloud Everywhere d.config d.processes below) partner end c f line
+      → IsFlow d.config d.clock (Cloud Everywhere d.config processes' below') partner (record end { got = (arrived (constants d.config cube (flipped ids)) (piece_in pdu) line).inbox.got }) c f (arrived (constants d.config cube (flipped ids)) (piece_in pdu) line)
   main_arrived partner end c ids f line cube processes' is_cube kind names f_is covers h =
       let k : Constants = constants d.config cube (flipped ids) in
       let cloud : ℕ → Pdu → Type 0 = Cloud Everywhere d.config d.processes below in
@@ -105,13 +102,13 @@ module _ (d : DifSeen) (lines : List Direction) (below below' : Seen) (st : IsSt
       let const : IsConst s.end end' = record { flow = refl; role = refl; port = refl; app = refl; peer = refl; cube = refl } in
       let whole = arrived_whole k d.clock (piece_in pdu) s.line s.end flow.backed.clock flow.got (st.journal.whole s.place s.end at) in
       let own = own_received d.config d.clock (Cloud Everywhere d.config d.processes below) (Cloud Everywhere d.config processes' below') d.ends d.conns lines st.own s.place s.end end' at const st.journal s.from partner s.inbound.is_partner s.inbound.partners s.line line' s.inbound.is_line refl covers
-          (λ x f x_conn f_conn h. main_arrived partner s.end x s.ids f s.line s.cube processes' s.is_cube s.piece s.taker.names (ids_same (slice_get d.conns s.place) f s.ids f_conn.ids_are s.taker.is_conn.ids_are) covers h) in
+      (λ x f x_conn f_conn h. main_arrived partner s.end x s.ids f s.line s.cube processes' s.is_cube s.piece s.taker.names (ids_same (slice_get d.conns s.place) f s.ids f_conn.ids_are s.taker.is_conn.ids_are) covers h) in
       subst (λ (z : DifSeen). IsStanding z lines' below') (sym s.new_is) (subst (λ (ls : List Direction). IsStanding (record d { ends = slice_set d.ends s.place end'; processes = processes' }) ls below') (sym s.lines_are)
-        (stands_with d lines (slice_set lines s.from line') NoMore NoItem below below' d.clock processes' (slice_set d.ends s.place end') st after (st.clock ∙ sym clock) (omega arith) (length-set d.processes i process') moved (same_links d.processes i process process' is_process refl)
-          (λ port y none. absurd none) (λ j m item none. absurd none)
-          (journal_set d.ends s.place s.end end' at const d.clock st.journal whole (λ state. has_partner) (λ j x h. has_partner))
-          (ports_set d.ends s.place s.end end' at const d.config.fac (fac_of d) (fac_of (record d { ends = slice_set d.ends s.place end'; processes = processes' })) refl refl st.ports)
-          own))
+      (stands_with d lines (slice_set lines s.from line') NoMore NoItem below below' d.clock processes' (slice_set d.ends s.place end') st after (st.clock ∙ sym clock) (omega arith) (length-set d.processes i process') moved (same_links d.processes i process process' is_process refl)
+      (λ port y none. absurd none) (λ j m item none. absurd none)
+      (journal_set d.ends s.place s.end end' at const d.clock st.journal whole (λ state. has_partner) (λ j x h. has_partner))
+      (ports_set d.ends s.place s.end end' at const d.config.fac (fac_of d) (fac_of (record d { ends = slice_set d.ends s.place end'; processes = processes' })) refl refl st.ports)
+      own))
 
   -- what an acknowledgement of the cloud makes of its direction
   told_stands : (d' : DifSeen) (lines' : List Direction) → IsTold d lines pdu d' lines' → IsStanding d' lines' below'
@@ -121,14 +118,14 @@ module _ (d : DifSeen) (lines : List Direction) (below below' : Seen) (st : IsSt
       let line' : Direction = record s.line { line = told (ack_in pdu) s.line.line } in
       let covers = covers_less Everywhere d.config d.clock d.processes d.processes below below' (requeued_none d.processes) after in
       let own = own_line d.config d.clock cloud cloud' d.ends d.conns lines st.own s.place s.line line' s.is_line
-          (λ k a b c f x y p h.
-              let c_is : s.ids ≡ c = ids_same (slice_get d.conns s.place) s.ids c s.taker.is_conn.ids_are x.ids_are in
-              let ack : AcksOf cloud c older (ack_in pdu) = record { pdu = pdu; in_cloud = has; kind = s.ack; from = subst (λ (z : Ids). IsFrom (flipped z) pdu) c_is s.taker.names; is = refl } in
-              flow_told d.config d.clock cloud cloud' a b c f s.line h.cube h.is_cube (cube_limits d.config c.qos h.cube st.config h.is_cube) older (ack_in pdu) ack alive covers h)
-          (λ j a c ne x k b f y p mirror. covered d.clock cloud cloud' c covers) in
+      (λ k a b c f x y p h.
+      let c_is : s.ids ≡ c = ids_same (slice_get d.conns s.place) s.ids c s.taker.is_conn.ids_are x.ids_are in
+      let ack : AcksOf cloud c older (ack_in pdu) = record { pdu = pdu; in_cloud = has; kind = s.ack; from = subst (λ (z : Ids). IsFrom (flipped z) pdu) c_is s.taker.names; is = refl } in
+      flow_told d.config d.clock cloud cloud' a b c f s.line h.cube h.is_cube (cube_limits d.config c.qos h.cube st.config h.is_cube) older (ack_in pdu) ack alive covers h)
+      (λ j a c ne x k b f y p mirror. covered d.clock cloud cloud' c covers) in
       subst (λ (z : DifSeen). IsStanding z lines' below') (sym s.new_is) (subst (λ (ls : List Direction). IsStanding d ls below') (sym s.lines_are)
-        (stands_with d lines (slice_set lines s.place line') NoMore NoItem below below' d.clock d.processes d.ends st after (st.clock ∙ sym clock) (omega arith) refl (requeued_none d.processes) (λ j l h. h)
-          (λ port y none. absurd none) (λ j m item none. absurd none) st.journal st.ports own))
+      (stands_with d lines (slice_set lines s.place line') NoMore NoItem below below' d.clock d.processes d.ends st after (st.clock ∙ sym clock) (omega arith) refl (requeued_none d.processes) (λ j l h. h)
+      (λ port y none. absurd none) (λ j m item none. absurd none) st.journal st.ports own))
 
   -- a PDU of the cloud waits for its next hop
   relayed_stands : (i at : ℕ) (process : Process) (hop : Hop) (d' : DifSeen) → slice_get d.processes i ≡ Some process → hop.pdu ≡ pdu → at + hop.left ≤ older → at ≤ d.clock → IsHopOf d.config hop → IsRelayed d i process at hop d' → IsStanding d' lines below'
@@ -151,11 +148,11 @@ module _ (d : DifSeen) (lines : List Direction) (below below' : Seen) (st : IsSt
       ] in
       let fits : IsItem d.config d.clock item = record { fit = fit.fit; past = past; left = fit.left } in
       subst (λ (z : DifSeen). IsStanding z lines below') (sym s.new_is)
-        (stands_with d lines lines NoMore (JustItems i s.queue.link (item ∷ [])) below below' d.clock processes' d.ends st after (st.clock ∙ sym clock) (omega arith) (length-set d.processes i process') moved (same_links d.processes i process process' is_process refl)
-          (λ port y none. absurd none)
-          (λ j m x new. elim (new.2) [ inl is ↦ subst (IsItem d.config d.clock) (sym is) fits | inr none ↦ absurd none ])
-          st.journal st.ports
-          (own_covered d.config d.clock (Cloud Everywhere d.config d.processes below) (Cloud Everywhere d.config processes' below') d.ends d.conns lines st.own covers))
+      (stands_with d lines lines NoMore (JustItems i s.queue.link (item ∷ [])) below below' d.clock processes' d.ends st after (st.clock ∙ sym clock) (omega arith) (length-set d.processes i process') moved (same_links d.processes i process process' is_process refl)
+      (λ port y none. absurd none)
+      (λ j m x new. elim (new.2) [ inl is ↦ subst (IsItem d.config d.clock) (sym is) fits | inr none ↦ absurd none ])
+      st.journal st.ports
+      (own_covered d.config d.clock (Cloud Everywhere d.config d.processes below) (Cloud Everywhere d.config processes' below') d.ends d.conns lines st.own covers))
 
 -- the PDU of an arrival that is in time is in the cloud still
 alive_arrival : (d : DifSeen) (at left older : ℕ) → d.clock - at ≤ left → at ≤ d.clock → at + left ≤ older → d.clock ≤ older

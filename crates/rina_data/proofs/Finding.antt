@@ -1,5 +1,5 @@
 -- What is found in lists, and what stands beside it.
-use Rattle.std.proofs.Common.{◌≡◌, ℕ, zero, suc, ◌<◌, List, [], ◌∷◌, length, slice_get, Some, None, Option, Bool, option_and_then, option_map, refl, sym, ◌∙◌, ap, subst, arith}
+use Rattle.std.proofs.Common.{◌≡◌, ℕ, zero, suc, ◌<◌, List, [], ◌∷◌, length, slice_get, Some, Bool, option_and_then, refl, sym, ◌∙◌, ap, arith}
 use Rattle.std.specs.Prelude.{find}
 use Rattle.std.specs.List.{position_or_len}
 use Rattle.std.proofs.lemmas.List.Folds.{find_at}

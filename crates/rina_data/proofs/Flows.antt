@@ -1,13 +1,12 @@
 -- What the rows of a connection, and changes of the cloud, do to one direction of a flow.
-use Rattle.std.proofs.Common.{◌≡◌, ◌≢◌, ℕ, ◌+◌, ◌-◌, ◌<◌, ◌≤◌, List, [], ◌∷◌, ◌++◌, Some, None, Option, true, false, refl, sym, ◌∙◌, ap, subst, arith, inl, inr, ◌⊎◌}
+use Rattle.std.proofs.Common.{◌≡◌, ℕ, ◌+◌, ◌-◌, ◌≤◌, List, Some, None, true, refl, sym, ◌∙◌, ap, subst, inl, inr}
 use Rattle.rina_base.specs.declared.pdu.Pdu.{Pdu}
 use Rattle.rina_base.specs.declared.pdu.PduKind.TheVariants.{Piece as APiece, Ack as AnAck}
 use Rattle.rina_cube.specs.declared.Cube.{Cube}
 use Rattle.rina_cube.specs.Cubes.{IsCube}
 use Rattle.rina_iface.specs.declared.ends.End.{End}
 use Rattle.rina_law.specs.Backed.{Covers, CoversBut, IsBacked}
-use Rattle.rina_law.specs.Constants.{Constants}
-use Rattle.rina_law.specs.Direction.{Direction, Time, Pass, Forget, accepted_offer, after_ack, after_arrival, happens, has_room, is_ack_due, offer_refusal, right_of, May}
+use Rattle.rina_law.specs.Direction.{Direction, Pass, Forget, accepted_offer, after_ack, after_arrival, happens, has_room, is_ack_due, offer_refusal, right_of, May}
 use Rattle.rina_law.specs.Line.{again, arrival_verdict, told}
 use Rattle.rina_law.specs.Lists.{In}
 use Rattle.rina_law.specs.Pdus.{piece_in, ack_in}
@@ -16,7 +15,7 @@ use Rattle.rina_law.specs.Receiver.{Piece, is_present, next_of}
 use Rattle.rina_law.specs.Sender.{Ack, again_due, is_absent, piece_again, pieces_for, started}
 use Rattle.rina_law.proofs.Backing.{ack_backed, again_backed, arrive_backed, forget_backed, offer_backed, pass_backed, row_backed, time_backed, told_backed}
 use Rattle.rina_data.specs.Dif.{Config, constants, cube_by, piece_size}
-use Rattle.rina_data.specs.Ids.{AcksOf, Ids, IsFrom, PiecesOf, flipped, pdu_of_ack, pdu_of_piece}
+use Rattle.rina_data.specs.Ids.{AcksOf, Ids, IsFrom, PiecesOf, flipped}
 use Rattle.rina_data.specs.Standing.{IsFlow}
 
 module _ (now : ℕ) (cloud cloud' : ℕ → Pdu → Type 0) (ids : Ids) where
@@ -91,9 +90,9 @@ module _ (g : Config) (now : ℕ) (cloud cloud' : ℕ → Pdu → Type 0) (a b :
 
   -- an SDU is offered, and its pieces are made
   pub flow_offered : (a' : End) (parts : List Part) (made : Pdu → Type 0) → IsCut (piece_size g) true parts → offer_refusal (constants g cube c) line parts ≡ None
-    → CoversBut now cloud made (now + cube.mpl) cloud' → ((pdu : Pdu) → made pdu → (pdu.kind ≡ APiece) × In (piece_in pdu) (pieces_for (constants g cube c) line.line.clock parts (started (is_absent (constants g cube c) line.line.clock line.line.sender) (constants g cube c) line.line.sender)))
-    → a'.sent ≡ (accepted_offer (constants g cube c) (is_absent (constants g cube c) line.line.clock line.line.sender) parts line).sent
-    → IsFlow g now cloud a b c f line → IsFlow g now cloud' a' b c f (accepted_offer (constants g cube c) (is_absent (constants g cube c) line.line.clock line.line.sender) parts line)
+      → CoversBut now cloud made (now + cube.mpl) cloud' → ((pdu : Pdu) → made pdu → (pdu.kind ≡ APiece) × In (piece_in pdu) (pieces_for (constants g cube c) line.line.clock parts (started (is_absent (constants g cube c) line.line.clock line.line.sender) (constants g cube c) line.line.sender)))
+      → a'.sent ≡ (accepted_offer (constants g cube c) (is_absent (constants g cube c) line.line.clock line.line.sender) parts line).sent
+      → IsFlow g now cloud a b c f line → IsFlow g now cloud' a' b c f (accepted_offer (constants g cube c) (is_absent (constants g cube c) line.line.clock line.line.sender) parts line)
   flow_offered a' parts made cut free covers means sent h = record {
     mirror = h.mirror;
     cube = cube;
@@ -109,8 +108,8 @@ module _ (g : Config) (now : ℕ) (cloud cloud' : ℕ → Pdu → Type 0) (a b :
 
   -- a piece of the cloud arrives
   pub flow_arrived : (b' : End) (death : ℕ) (p : Piece) → PiecesOf cloud c death p → now ≤ death → Covers now cloud cloud'
-    → b'.got ≡ (after_arrival (arrival_verdict (constants g cube c) line.line p (has_room (constants g cube c) line)) (is_present (constants g cube c) line.line.clock line.line.receiver) (constants g cube c) p line).inbox.got → b'.taken ≡ b.taken
-    → IsFlow g now cloud a b c f line → IsFlow g now cloud' a b' c f (after_arrival (arrival_verdict (constants g cube c) line.line p (has_room (constants g cube c) line)) (is_present (constants g cube c) line.line.clock line.line.receiver) (constants g cube c) p line)
+      → b'.got ≡ (after_arrival (arrival_verdict (constants g cube c) line.line p (has_room (constants g cube c) line)) (is_present (constants g cube c) line.line.clock line.line.receiver) (constants g cube c) p line).inbox.got → b'.taken ≡ b.taken
+      → IsFlow g now cloud a b c f line → IsFlow g now cloud' a b' c f (after_arrival (arrival_verdict (constants g cube c) line.line p (has_room (constants g cube c) line)) (is_present (constants g cube c) line.line.clock line.line.receiver) (constants g cube c) p line)
   flow_arrived b' death p x alive covers got taken h = record {
     mirror = h.mirror;
     cube = cube;
@@ -135,7 +134,7 @@ module _ (g : Config) (now : ℕ) (cloud cloud' : ℕ → Pdu → Type 0) (a b :
 
   -- a number that is due is sent again
   pub flow_again : (n : ℕ) (made : Pdu → Type 0) → again_due (constants g cube c) line.line.clock line.line.sender ≡ Some n → CoversBut now cloud made (now + cube.mpl) cloud' → ((pdu : Pdu) → made pdu → (pdu.kind ≡ APiece) × (piece_in pdu ≡ piece_again n line.line.sender))
-    → IsFlow g now cloud a b c f line → IsFlow g now cloud' a b c f (record line { line = again (constants g cube c) n line.line })
+      → IsFlow g now cloud a b c f line → IsFlow g now cloud' a b c f (record line { line = again (constants g cube c) n line.line })
   flow_again n made due covers means h = record {
     mirror = h.mirror;
     cube = cube;
@@ -151,7 +150,7 @@ module _ (g : Config) (now : ℕ) (cloud cloud' : ℕ → Pdu → Type 0) (a b :
 
   -- an acknowledgement that is due is made
   pub flow_acknowledged : (made : Pdu → Type 0) → is_ack_due (constants g cube c) line ≡ true → CoversBut now cloud made (now + cube.mpl) cloud' → ((pdu : Pdu) → made pdu → (pdu.kind ≡ AnAck) × (ack_in pdu ≡ record { ack = next_of line.line.receiver - 1; right = right_of (constants g cube c) line }))
-    → IsFlow g now cloud a b c f line → IsFlow g now cloud' a b c f (after_ack true (constants g cube c) line)
+      → IsFlow g now cloud a b c f line → IsFlow g now cloud' a b c f (after_ack true (constants g cube c) line)
   flow_acknowledged made due covers means h = record {
     mirror = h.mirror;
     cube = cube;

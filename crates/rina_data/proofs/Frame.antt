@@ -1,15 +1,14 @@
 -- What of standing a call keeps whatever it does, and what is left to show.
-use Rattle.std.proofs.Common.{◌≡◌, ◌≢◌, ℕ, zero, suc, ◌+◌, ◌≤◌, List, [], ◌∷◌, length, slice_get, Some, None, Option, refl, sym, ◌∙◌, ap, subst, arith, inl, inr, ◌⊎◌}
+use Rattle.std.proofs.Common.{◌≡◌, ℕ, ◌≤◌, List, [], ◌∷◌, length, slice_get, Some, sym, ◌∙◌, subst, arith, inl, inr, ◌⊎◌}
 use Rattle.rina_base.specs.declared.number.Port.{Port}
 use Rattle.rina_iface.specs.declared.ends.End.{End}
 use Rattle.rina_iface.specs.Journal.{HasPorts}
-use Rattle.rina_iface.specs.Seen.{Seen, end_of, largest_at}
+use Rattle.rina_iface.specs.Seen.{Seen, end_of}
 use Rattle.rina_law.specs.declared.entry.Entry.{Entry}
 use Rattle.rina_law.specs.Direction.{Direction}
 use Rattle.rina_queue.specs.declared.queue.Queued.{Queued}
-use Rattle.rina_data.specs.Cloud.{Cloud, Everywhere, IsMine, Waits}
-use Rattle.rina_data.specs.Dif.{Config, DifSeen, Link, Member, Process, fac_of}
-use Rattle.rina_data.specs.Ids.{Ids}
+use Rattle.rina_data.specs.Cloud.{Cloud, Everywhere, IsMine}
+use Rattle.rina_data.specs.Dif.{Config, DifSeen, Link, Process, fac_of}
 use Rattle.rina_data.specs.Standing.{HasLink, IsInside, IsItem, IsJournal, IsLinked, IsOwn, IsSpelled, IsStanding}
 use Rattle.rina_data.proofs.After.{IsAfter, back}
 use Rattle.rina_data.proofs.Clouds.{Requeued}
@@ -24,7 +23,7 @@ module _ (d : DifSeen) (lines : List Direction) (more : Port → Entry → Type 
       let f = after.forth port l.end l.here in
       record { end = f.0; here = f.1; app = f.2.app ∙ l.app }
 
-  inside_kept : (port : Port) (e : End) → end_of below' port ≡ Some e → IsMine d.config.members e.app ⊎ IsMine d.config.members e.peer → IsInside d.config below' port e
+  pub inside_kept : (port : Port) (e : End) → end_of below' port ≡ Some e → IsMine d.config.members e.app ⊎ IsMine d.config.members e.peer → IsInside d.config below' port e
   inside_kept port e h mine = elim (back d.config more below below' after port e h) [
     | inl b ↦
         let mine' : IsMine d.config.members b.0.app ⊎ IsMine d.config.members b.0.peer = elim mine [
@@ -50,10 +49,10 @@ item_later g now later item le h = (let past = h.past in record { fit = h.fit; p
 
 -- a DIF stands after a call, where its clock, its IPC processes and its journal changed
 pub stands_with : (d : DifSeen) (lines lines' : List Direction) (more : Port → Entry → Type 0) (items : ℕ → ℕ → Queued → Type 0) (below below' : Seen) (clock : ℕ) (processes : List Process) (ends : List End) → IsStanding d lines below → IsAfter d.config more below below'
-  → clock ≡ below'.now → d.clock ≤ clock → length processes ≡ length d.processes → Requeued items d.processes processes → ((i : ℕ) (l : Link) → HasLink processes i l → HasLink d.processes i l)
-  → ((port : Port) (x : Entry) → more port x → IsSpelled d.config x.bytes) → ((i n : ℕ) (item : Queued) → items i n item → IsItem d.config clock item)
-  → IsJournal clock ends → HasPorts d.config.fac (fac_of (record d { clock = clock; processes = processes; ends = ends })) → IsOwn d.config clock (Cloud Everywhere d.config processes below') ends d.conns lines'
-  → IsStanding (record d { clock = clock; processes = processes; ends = ends }) lines' below'
+    → clock ≡ below'.now → d.clock ≤ clock → length processes ≡ length d.processes → Requeued items d.processes processes → ((i : ℕ) (l : Link) → HasLink processes i l → HasLink d.processes i l)
+    → ((port : Port) (x : Entry) → more port x → IsSpelled d.config x.bytes) → ((i n : ℕ) (item : Queued) → items i n item → IsItem d.config clock item)
+    → IsJournal clock ends → HasPorts d.config.fac (fac_of (record d { clock = clock; processes = processes; ends = ends })) → IsOwn d.config clock (Cloud Everywhere d.config processes below') ends d.conns lines'
+    → IsStanding (record d { clock = clock; processes = processes; ends = ends }) lines' below'
 stands_with d lines lines' more items below below' clock processes ends st after is le alike moved links spelled fit journal ports own = record {
   config = st.config;
   clock = is;

@@ -1,5 +1,5 @@
 -- A send keeps standing.
-use Rattle.std.proofs.Common.{◌≡◌, ◌≢◌, ℕ, zero, suc, ◌+◌, ◌-◌, ◌*◌, ◌^◌, ◌<◌, ◌≤◌, List, [], ◌∷◌, ◌++◌, length, length-set, slice_get, slice_set, Some, None, Ok, Err, Option, Result, true, refl, sym, ◌∙◌, ap, subst, arith, inl, inr, ◌⊎◌}
+use Rattle.std.proofs.Common.{◌≡◌, ℕ, zero, suc, ◌+◌, ◌-◌, ◌*◌, ◌^◌, ◌≤◌, List, [], ◌∷◌, ◌++◌, length, length-set, slice_get, slice_set, Some, None, Ok, Err, Option, Result, true, refl, sym, ◌∙◌, ap, subst, arith, inl, inr}
 use Rattle.rina_base.specs.declared.number.Num.{Num}
 use Rattle.rina_base.specs.declared.pdu.Pdu.{Pdu}
 use Rattle.rina_base.specs.declared.pdu.PduKind.TheVariants.{Piece as APiece, Ack as AnAck}
@@ -17,8 +17,6 @@ use Rattle.rina_law.specs.Backed.{CoversBut}
 use Rattle.rina_law.specs.Constants.{Constants}
 use Rattle.rina_law.specs.Direction.{Direction, offer_refusal}
 use Rattle.rina_law.specs.DirectionHolds.{DirectionHolds}
-use Rattle.rina_law.specs.Lawful.{IsWelcome}
-use Rattle.rina_law.specs.Line.{InFlight}
 use Rattle.rina_law.specs.Lists.{In}
 use Rattle.rina_law.specs.Pdus.{piece_in}
 use Rattle.rina_law.specs.Pieces.{Part, IsCut}
@@ -29,10 +27,10 @@ use Rattle.rina_law.proofs.Offering.{direction_offer}
 use Rattle.rina_pci.specs.Spelling.{pci_size}
 use Rattle.rina_queue.specs.declared.queue.Queued.{Queued}
 use Rattle.rina_data.specs.Cloud.{Cloud, Everywhere}
-use Rattle.rina_data.specs.Dif.{Config, DifSeen, Process, Queue, fac_of, constants, cube_by, greatest, piece_size, with_put}
-use Rattle.rina_data.specs.Ids.{Ids, IsFrom, flipped, pdu_of_piece}
+use Rattle.rina_data.specs.Dif.{Config, DifSeen, Process, Queue, fac_of, constants, cube_by, piece_size, with_put}
+use Rattle.rina_data.specs.Ids.{Ids, pdu_of_piece}
 use Rattle.rina_data.specs.Sending.{IsOffered, Offers, made_items, offered, offered_entry, offered_pieces}
-use Rattle.rina_data.specs.Standing.{AreIds, IsConfig, IsConn, IsFit, IsFlow, IsItem, IsStanding}
+use Rattle.rina_data.specs.Standing.{AreIds, IsConfig, IsFit, IsFlow, IsItem, IsStanding}
 use Rattle.rina_data.proofs.After.{NoMore, after_none}
 use Rattle.rina_data.proofs.Clouds.{cloud_after}
 use Rattle.rina_data.proofs.Finding.{beside, cube_limits}
@@ -96,20 +94,20 @@ others_covered now life cloud cloud' ids pieces c covers apart = record {
 
 -- the direction of the end that made them
 main_offered : (g : Config) (now : ℕ) (cloud cloud' : ℕ → Pdu → Type 0) (end b : End) (c ids f : Ids) (line : Direction) (cube : Cube) (parts : List Part) → cube_by ids.qos g.cubes ≡ Some cube → IsCube cube → ids ≡ c → IsCut (piece_size g) true parts → offer_refusal (constants g cube ids) line parts ≡ None
-  → CoversBut now cloud (MadeOf ids (offered_pieces (constants g cube ids) parts line)) (now + cube.mpl) cloud'
-  → IsFlow g now cloud end b c f line → IsFlow g now cloud' (with_sent end (offered_entry (constants g cube ids) parts line)) b c f (offered (constants g cube ids) parts line)
+    → CoversBut now cloud (MadeOf ids (offered_pieces (constants g cube ids) parts line)) (now + cube.mpl) cloud'
+    → IsFlow g now cloud end b c f line → IsFlow g now cloud' (with_sent end (offered_entry (constants g cube ids) parts line)) b c f (offered (constants g cube ids) parts line)
 main_offered g now cloud cloud' end b c ids f line cube parts is_cube limits is cut free covers h =
     let k : Constants = constants g cube ids in
     let pieces : List Piece = offered_pieces k parts line in
     let end' : End = with_sent end (offered_entry k parts line) in
     let P : Ids → Type 0 = λ x. IsFlow g now cloud end b x f line → IsFlow g now cloud' end' b x f (offered k parts line) in
     subst P is (λ flow. flow_offered g now cloud cloud' end b ids f line cube is_cube limits end' parts (MadeOf ids pieces) cut free covers
-      (λ pdu m. (ap (λ (z : Pdu). z.kind) m.2, subst (λ (z : Pdu). In (piece_in z) pieces) (sym m.2) m.1))
-      (ap (λ (xs : List Entry). xs ++ offered_entry k parts line ∷ []) (sym flow.sent)) flow) h
+    (λ pdu m. (ap (λ (z : Pdu). z.kind) m.2, subst (λ (z : Pdu). In (piece_in z) pieces) (sym m.2) m.1))
+    (ap (λ (xs : List Entry). xs ++ offered_entry k parts line ∷ []) (sym flow.sent)) flow) h
 
 -- what was made waits, and dies `mpl` later
 made_covers : (d : DifSeen) (below : Seen) (i : ℕ) (process : Process) (place : ℕ) (queue : Queue) (ids : Ids) (mpl : ℕ) (pieces : List Piece) → slice_get d.processes i ≡ Some process → slice_get process.queues place ≡ Some queue
-  → CoversBut d.clock (Cloud Everywhere d.config d.processes below) (MadeOf ids pieces) (d.clock + mpl) (Cloud Everywhere d.config (slice_set d.processes i (with_put process place queue (made_items ids mpl d.clock pieces))) below)
+    → CoversBut d.clock (Cloud Everywhere d.config d.processes below) (MadeOf ids pieces) (d.clock + mpl) (Cloud Everywhere d.config (slice_set d.processes i (with_put process place queue (made_items ids mpl d.clock pieces))) below)
 made_covers d below i process place queue ids mpl pieces is_process is_queue death pdu x alive =
     let items : List Queued = made_items ids mpl d.clock pieces in
     elim (cloud_after Everywhere d.config (JustItems i queue.link items) NoMore d.processes (slice_set d.processes i (with_put process place queue items)) below below death pdu (requeued_put d.processes i place process queue items is_process is_queue) (after_none d.config below) x) [
@@ -125,7 +123,7 @@ made_covers d below i process place queue ids mpl pieces is_process is_queue dea
 
 -- what was made may be sent on
 made_fits : (g : Config) (now : ℕ) (end : End) (ids : Ids) (line : Direction) (cube : Cube) (parts : List Part) (item : Queued) → IsConfig g → AreIds g end ids → cube_by ids.qos g.cubes ≡ Some cube → IsCube cube → DirectionHolds (constants g cube ids) line → IsCut (piece_size g) true parts → offer_refusal (constants g cube ids) line parts ≡ None
-  → In item (made_items ids cube.mpl now (offered_pieces (constants g cube ids) parts line)) → IsItem g now item
+    → In item (made_items ids cube.mpl now (offered_pieces (constants g cube ids) parts line)) → IsItem g now item
 made_fits g now end ids line cube parts item config are is_cube limits holds cut free one =
     let k : Constants = constants g cube ids in
     let m = made_item ids cube.mpl now (offered_pieces k parts line) item one in
@@ -159,16 +157,16 @@ offered_stands d lines below at parts num d' lines' st cut s =
     let was = st.journal.whole at s.end is_end in
     let whole : IsWhole d.clock end' = record { sent = dated_push d.clock s.end.sent entry was.sent flow.backed.clock; got = was.got; taken = was.taken } in
     let own = own_sent g d.clock cloud cloud' d.ends d.conns lines st.own at s.end end' is_end const s.line line' s.is_line refl refl
-        (λ j b c f x y p h. main_offered g d.clock cloud cloud' s.end b c s.ids f s.line s.cube parts s.is_cube limits (ids_same (slice_get d.conns at) s.ids c s.is_conn.ids_are x.ids_are) cut s.free covers h)
-        (λ i a c ne x j b f y p mirror. others_covered d.clock (d.clock + s.cube.mpl) cloud cloud' s.ids pieces c covers (λ own scep. ne (st.own.apart i at c s.ids x.ids_are s.is_conn.ids_are own scep))) in
+    (λ j b c f x y p h. main_offered g d.clock cloud cloud' s.end b c s.ids f s.line s.cube parts s.is_cube limits (ids_same (slice_get d.conns at) s.ids c s.is_conn.ids_are x.ids_are) cut s.free covers h)
+    (λ i a c ne x j b f y p mirror. others_covered d.clock (d.clock + s.cube.mpl) cloud cloud' s.ids pieces c covers (λ own scep. ne (st.own.apart i at c s.ids x.ids_are s.is_conn.ids_are own scep))) in
     subst (λ (z : DifSeen). IsStanding z lines' below) (sym s.new_is) (subst (λ (ls : List Direction). IsStanding (record d { ends = slice_set d.ends at end'; processes = processes' }) ls below) (sym s.lines_are)
-      (stands_with d lines (slice_set lines at line') NoMore (JustItems s.i s.queue.link items) below below d.clock processes' (slice_set d.ends at end') st (after_none g below) st.clock (omega arith) (length-set d.processes s.i process')
-        (requeued_put d.processes s.i s.place s.process s.queue items s.is_process s.is_queue.is_queue) (same_links d.processes s.i s.process process' s.is_process refl)
-        (λ port y none. absurd none)
-        (λ j m item new. made_fits g d.clock s.end s.ids s.line s.cube parts item st.config are s.is_cube limits holds cut s.free new.2)
-        (journal_set d.ends at s.end end' is_end const d.clock st.journal whole (λ state. partner) (λ j x h. st.journal.met at j s.end x is_end h))
-        (ports_set d.ends at s.end end' is_end const g.fac (fac_of d) (fac_of (record d { ends = slice_set d.ends at end'; processes = processes' })) refl refl st.ports)
-        own))
+    (stands_with d lines (slice_set lines at line') NoMore (JustItems s.i s.queue.link items) below below d.clock processes' (slice_set d.ends at end') st (after_none g below) st.clock (omega arith) (length-set d.processes s.i process')
+    (requeued_put d.processes s.i s.place s.process s.queue items s.is_process s.is_queue.is_queue) (same_links d.processes s.i s.process process' s.is_process refl)
+    (λ port y none. absurd none)
+    (λ j m item new. made_fits g d.clock s.end s.ids s.line s.cube parts item st.config are s.is_cube limits holds cut s.free new.2)
+    (journal_set d.ends at s.end end' is_end const d.clock st.journal whole (λ state. partner) (λ j x h. st.journal.met at j s.end x is_end h))
+    (ports_set d.ends at s.end end' is_end const g.fac (fac_of d) (fac_of (record d { ends = slice_set d.ends at end'; processes = processes' })) refl refl st.ports)
+    own))
 
 -- `send`, whatever it answers
 pub offers_stand : (d : DifSeen) (lines : List Direction) (below : Seen) (at : ℕ) (parts : List Part) (r : Result Num SendError) (d' : DifSeen) (lines' : List Direction) → IsStanding d lines below → Offers d lines at parts r d' lines' → IsStanding d' lines' below

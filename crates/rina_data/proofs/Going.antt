@@ -1,15 +1,13 @@
 -- A step that sends or writes off keeps standing.
-use Rattle.std.proofs.Common.{◌≡◌, ◌≢◌, ℕ, zero, suc, ◌+◌, ◌-◌, ◌^◌, ◌<◌, ◌≤◌, List, [], ◌∷◌, ◌++◌, length, length-set, slice_get, slice_set, Some, None, Ok, Err, Option, Result, refl, sym, ◌∙◌, ap, subst, arith, inl, inr, ◌⊎◌}
+use Rattle.std.proofs.Common.{◌≡◌, ℕ, ◌+◌, ◌-◌, ◌^◌, ◌<◌, ◌≤◌, List, [], ◌∷◌, length, length-set, slice_get, slice_set, Some, Ok, Err, Option, Result, refl, sym, ◌∙◌, ap, subst, arith, inl, inr}
 use Rattle.rina_base.specs.declared.cause.Cause.{Cause}
 use Rattle.rina_base.specs.declared.cause.Cause.TheVariants as causes
 use Rattle.rina_base.specs.declared.number.Key.{Key}
 use Rattle.rina_base.specs.declared.number.Num.{Num}
 use Rattle.rina_base.specs.declared.number.Port.{Port}
 use Rattle.rina_base.specs.declared.pdu.Pdu.{Pdu}
-use Rattle.rina_iface.specs.declared.ends.End.{End}
 use Rattle.rina_iface.specs.declared.error.SendError.{SendError}
 use Rattle.rina_iface.specs.Journal.{AreKept}
-use Rattle.rina_iface.specs.Later.{IsLater}
 use Rattle.rina_iface.specs.Seen.{Seen, promise_at}
 use Rattle.rina_iface.specs.Send.{IsSent}
 use Rattle.rina_iface.proofs.LaterCalls.{later_sends}
@@ -24,7 +22,7 @@ use Rattle.rina_data.specs.declared.step.OutStep.TheVariants as out
 use Rattle.rina_data.specs.declared.step.StepError.{StepError}
 use Rattle.rina_data.specs.declared.step.StepError.TheVariants.{Memory, NoIpc, NoLink}
 use Rattle.rina_data.specs.Cloud.{Cloud, Everywhere, Hop, IsPortIn, IsQueueIn, Scope, Waits, opened}
-use Rattle.rina_data.specs.Dif.{Config, DifSeen, Link, Process, Queue, fac_of, with_offs, with_process, with_taken}
+use Rattle.rina_data.specs.Dif.{Config, DifSeen, Link, Process, Queue, with_offs, with_process, with_taken}
 use Rattle.rina_data.specs.Outgoing.{IsForwarded, IsHead, IsWrittenOff, Outs, charge_of, sent_bytes}
 use Rattle.rina_data.specs.Standing.{IsConfig, IsItem, IsSpelled, IsStanding}
 use Rattle.rina_data.proofs.After.{IsAfter, Just, NoMore, after_none, after_sent}
@@ -50,7 +48,7 @@ promise_same o a b h g = cc
 
 -- a PDU that was sent on dies when it would have died in its queue
 given_dies : (g : Config) (now : ℕ) (below : Seen) (port : Port) (item : Queued) (promise death : ℕ) (pdu : Pdu) (num : Num) (scope : Scope) → IsConfig g → below.now ≡ now → IsItem g now item → promise_at below port ≡ Some promise → charge_of now item promise ≤ item.left
-  → IsGiven scope g below (Just port (record { tick = below.now; num = num; bytes = protected (item.left - charge_of now item promise) (spelling g.widths item.pdu) })) death pdu → (death ≡ item.since + item.left) × (item.pdu ≡ pdu)
+    → IsGiven scope g below (Just port (record { tick = below.now; num = num; bytes = protected (item.left - charge_of now item promise) (spelling g.widths item.pdu) })) death pdu → (death ≡ item.since + item.left) × (item.pdu ≡ pdu)
 given_dies g now below port item promise death pdu num scope config clock fit promised in_time n =
     let left : ℕ = item.left - charge_of now item promise in
     let bound : item.left < 2 ^ 32 = fit.left in
@@ -70,7 +68,7 @@ given_dies g now below port item promise death pdu num scope config clock fit pr
 
 -- the first PDU of a queue goes on
 pub forwarded_covers : (scope : Scope) (d : DifSeen) (below below' : Seen) (i n : ℕ) (process process' : Process) (link : Link) (place : ℕ) (queue : Queue) (item : Queued) (promise : ℕ) (num : Num) → IsConfig d.config → below.now ≡ d.clock → IsItem d.config d.clock item → IsHead d i n process link place queue item → process'.queues ≡ (with_taken process place queue).queues → (IsPortIn scope link.port → IsQueueIn scope i n) → promise_at below link.port ≡ Some promise → charge_of d.clock item promise ≤ item.left
-  → IsAfter d.config (Just link.port (record { tick = below.now; num = num; bytes = sent_bytes d item promise })) below below' → Covers d.clock (Cloud scope d.config d.processes below) (Cloud scope d.config (slice_set d.processes i process') below')
+    → IsAfter d.config (Just link.port (record { tick = below.now; num = num; bytes = sent_bytes d item promise })) below below' → Covers d.clock (Cloud scope d.config d.processes below) (Cloud scope d.config (slice_set d.processes i process') below')
 forwarded_covers scope d below below' i n process process' link place queue item promise num config clock fit head queues within promised in_time after death pdu has alive =
     elim (cloud_after scope d.config NoItem (Just link.port (record { tick = below.now; num = num; bytes = sent_bytes d item promise })) d.processes (slice_set d.processes i process') below below' death pdu (requeued_taken d.processes i place process process' queue head.is_process head.is_queue queues) after has) [
       | inl o ↦ (death, omega arith, o)
@@ -93,20 +91,20 @@ forwarded_stands refuses d lines below i n key d' below' kept kept' st s =
     let fit = st.items i n s.item (head_waits d i n s.process s.link s.place s.queue s.item s.head) in
     let covers = forwarded_covers Everywhere d below below' i n s.process process' s.link s.place s.queue s.item s.promise s.num st.config (sym st.clock) fit s.head refl (λ w. tt) s.promised s.in_time after in
     subst (λ (z : DifSeen). IsStanding z lines below') (sym s.new_is) (stands_with d lines lines (Just s.link.port x) NoItem below below' d.clock (slice_set d.processes i process') d.ends st after
-      (st.clock ∙ sym (now_sent below s.link.port bytes s.num below' s.sent.1)) (omega arith) (length-set d.processes i process')
-      (requeued_taken d.processes i s.place s.process process' s.queue s.head.is_process s.head.is_queue refl)
-      (same_links d.processes i s.process process' s.head.is_process refl)
-      (λ port y is. subst (IsSpelled d.config) (ap (λ (e : Entry). e.bytes) (sym is.1)) (item_spelled d.config d.clock (charge_of d.clock s.item s.promise) s.item fit))
-      (λ j m item none. absurd none)
-      st.journal st.ports
-      (own_covered d.config d.clock (Cloud Everywhere d.config d.processes below) (Cloud Everywhere d.config (slice_set d.processes i process') below') d.ends d.conns lines st.own covers))
+    (st.clock ∙ sym (now_sent below s.link.port bytes s.num below' s.sent.1)) (omega arith) (length-set d.processes i process')
+    (requeued_taken d.processes i s.place s.process process' s.queue s.head.is_process s.head.is_queue refl)
+    (same_links d.processes i s.process process' s.head.is_process refl)
+    (λ port y is. subst (IsSpelled d.config) (ap (λ (e : Entry). e.bytes) (sym is.1)) (item_spelled d.config d.clock (charge_of d.clock s.item s.promise) s.item fit))
+    (λ j m item none. absurd none)
+    st.journal st.ports
+    (own_covered d.config d.clock (Cloud Everywhere d.config d.processes below) (Cloud Everywhere d.config (slice_set d.processes i process') below') d.ends d.conns lines st.own covers))
 
 -- an IPC process whose links stay, and whose queues at most lose PDUs, while nothing happens below but passes
 pub lost_stands : (d : DifSeen) (lines : List Direction) (below below' : Seen) (i : ℕ) (process process' : Process) → IsStanding d lines below → IsAfter d.config NoMore below below' → below'.now ≡ below.now → slice_get d.processes i ≡ Some process → process'.links ≡ process.links → Requeued NoItem d.processes (slice_set d.processes i process') → IsStanding (with_process d i process') lines below'
 lost_stands d lines below below' i process process' st after clock is links moved =
     stands_with d lines lines NoMore NoItem below below' d.clock (slice_set d.processes i process') d.ends st after (st.clock ∙ sym clock) (omega arith) (length-set d.processes i process') moved (same_links d.processes i process process' is links)
-      (λ port y none. absurd none) (λ j m item none. absurd none) st.journal st.ports
-      (own_covered d.config d.clock (Cloud Everywhere d.config d.processes below) (Cloud Everywhere d.config (slice_set d.processes i process') below') d.ends d.conns lines st.own (covers_less Everywhere d.config d.clock d.processes (slice_set d.processes i process') below below' moved after))
+    (λ port y none. absurd none) (λ j m item none. absurd none) st.journal st.ports
+    (own_covered d.config d.clock (Cloud Everywhere d.config d.processes below) (Cloud Everywhere d.config (slice_set d.processes i process') below') d.ends d.conns lines st.own (covers_less Everywhere d.config d.clock d.processes (slice_set d.processes i process') below below' moved after))
 
 pub written_off_stands : (holds : Link → Queued → ℕ → Type 0) (cause : Cause) (d : DifSeen) (lines : List Direction) (below : Seen) (i n : ℕ) (key : Key) (d' : DifSeen) (below' : Seen) → IsStanding d lines below → IsWrittenOff holds cause d below i n key d' below' → IsStanding d' lines below'
 written_off_stands holds cause d lines below i n key d' below' st s =

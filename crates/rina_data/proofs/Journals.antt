@@ -1,12 +1,11 @@
 -- The own journal after one end changed.
-use Rattle.std.proofs.Common.{◌≡◌, ◌≢◌, ℕ, zero, suc, ◌+◌, ◌<◌, ◌≤◌, List, [], ◌∷◌, ◌++◌, length, get_or, slice_get, slice_set, Some, None, Option, cond, eqb, Bool, true, false, refl, sym, ◌∙◌, ap, subst, arith, inl, inr, ◌⊎◌}
+use Rattle.std.proofs.Common.{◌≡◌, ℕ, ◌≤◌, List, get_or, slice_get, slice_set, Some, cond, eqb, refl, sym, ◌∙◌, ap, subst, arith, inl, inr}
 use Rattle.std.proofs.lemmas.List.Sums.{sum_by-set}
 use Rattle.std.proofs.lemmas.Option.{get_or_from_slice_get, slice_get_within}
 use Rattle.std.proofs.lemmas.Bool.Decides.{eqb_tells}
 use Rattle.rina_base.specs.declared.number.Port.{Port}
 use Rattle.rina_iface.specs.declared.ends.End.{End}
 use Rattle.rina_iface.specs.declared.state.PortState.TheVariants.{Allocated}
-use Rattle.rina_iface.specs.declared.state.Role.TheVariants.{Far}
 use Rattle.rina_iface.specs.Ends.{drawn_at}
 use Rattle.rina_iface.specs.Journal.{At, HasPartner, HasPorts, IsNamed, IsPartner, IsWhole}
 use Rattle.rina_iface.specs.Seen.{Fac}
@@ -69,8 +68,8 @@ module _ (ends : List End) (at : ℕ) (e e' : End) (is : At ends at e) (const : 
   pub ports_set : (n : ℕ) (f f' : Fac) → f.ends ≡ ends → f'.ends ≡ slice_set ends at e' → HasPorts n f → HasPorts n f'
   ports_set n f f' ends_are ends_are' h =
       let old : (i : ℕ) (a : End) → At f'.ends i a → (o : End) × At f.ends i o × IsConst o a = λ i a x.
-          (let w = was_end i a (subst (λ (l : List End). At l i a) ends_are' x) in
-          (w.0, subst (λ (l : List End). At l i w.0) (sym ends_are) w.1, w.2)) in
+      (let w = was_end i a (subst (λ (l : List End). At l i a) ends_are' x) in
+      (w.0, subst (λ (l : List End). At l i w.0) (sym ends_are) w.1, w.2)) in
       record {
         own = λ i a x. let o = old i a x in ap (λ (p : Port). p.fac) o.2.port ∙ h.own i o.0 o.1;
         apart = λ i k a b x y same.

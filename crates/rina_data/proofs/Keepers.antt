@@ -1,6 +1,5 @@
 -- A DIF that stands is a facility: it keeps what its cubes promise.
-use Rattle.std.proofs.Common.{◌≡◌, ◌≢◌, ℕ, zero, suc, ◌+◌, ◌<◌, ◌≤◌, List, [], ◌∷◌, length, map, get_or, slice_get, Some, None, Option, option_map, Bool, true, false, cond, eqb, All, refl, sym, ◌∙◌, ap, subst, arith, inl, inr, ◌⊎◌}
-use Rattle.std.specs.Prelude.{find}
+use Rattle.std.proofs.Common.{◌≡◌, ℕ, ◌≤◌, List, [], ◌∷◌, map, get_or, slice_get, Some, option_map, Bool, true, false, cond, eqb, All, refl, sym, ◌∙◌, ap, subst, arith}
 use Rattle.std.proofs.lemmas.List.Elements.{All-map}
 use Rattle.std.proofs.lemmas.Option.{slice_get-get_or}
 use Rattle.rina_cube.specs.declared.Cube.{Cube}
@@ -8,7 +7,7 @@ use Rattle.rina_cube.specs.declared.Kind.{Kind}
 use Rattle.rina_cube.specs.declared.Kind.TheVariants.{Datagram, Loose, Reliable}
 use Rattle.rina_cube.specs.Cubes.{IsCube, promise_by, promise_of}
 use Rattle.rina_iface.specs.declared.ends.End.{End}
-use Rattle.rina_iface.specs.Journal.{At, HasPartner, IsKept, IsPartner, KeepsCube, Promises}
+use Rattle.rina_iface.specs.Journal.{At, HasPartner, IsPartner, KeepsCube}
 use Rattle.rina_iface.specs.Seen.{Offer, Seen, cube_in}
 use Rattle.rina_law.specs.declared.entry.Entry.{Entry}
 use Rattle.rina_law.specs.Direction.{Direction}
@@ -18,7 +17,7 @@ use Rattle.rina_base.specs.declared.pdu.Pdu.{Pdu}
 use Rattle.rina_data.specs.Cloud.{Cloud, Everywhere}
 use Rattle.rina_data.specs.Dif.{Config, DifSeen, cube_by, constants, fac_of, offer_of}
 use Rattle.rina_data.specs.Ids.{Ids}
-use Rattle.rina_data.specs.Standing.{IsConfig, IsConn, IsFlow, IsJournal, IsStanding}
+use Rattle.rina_data.specs.Standing.{IsConfig, IsConn, IsFlow, IsStanding}
 use Rattle.rina_data.specs.Upward.{IsFacility}
 use Rattle.rina_data.proofs.Finding.{beside, cube_limits}
 use Rattle.rina_data.proofs.Own.{partner_back}

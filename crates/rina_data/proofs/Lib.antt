@@ -17,3 +17,4 @@ pub mod Queues
 pub mod Spelled
 pub mod Starting
 pub mod Taking
+pub mod Upper

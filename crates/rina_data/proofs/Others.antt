@@ -1,5 +1,5 @@
 -- A step of another DIF of the rank, or whatever else happens below without a DIF, keeps its standing.
-use Rattle.std.proofs.Common.{◌≡◌, ℕ, List, Some, None, Ok, Err, Option, Result, refl, sym, ◌∙◌, ap, subst, inl, inr, ◌⊎◌}
+use Rattle.std.proofs.Common.{◌≡◌, ℕ, List, Some, Ok, Err, Option, Result, refl, sym, ◌∙◌, ap, subst}
 use Rattle.rina_base.specs.declared.cause.Cause.{Cause}
 use Rattle.rina_base.specs.declared.cause.Cause.TheVariants as causes
 use Rattle.rina_base.specs.declared.number.Key.{Key}
@@ -12,7 +12,6 @@ use Rattle.rina_iface.specs.Seen.{Seen, end_of}
 use Rattle.rina_iface.specs.Send.{IsSent}
 use Rattle.rina_iface.specs.Later.{IsLater}
 use Rattle.rina_iface.proofs.LaterCalls.{later_passes, later_sends}
-use Rattle.rina_law.specs.declared.entry.Entry.{Entry}
 use Rattle.rina_law.specs.Direction.{Direction}
 use Rattle.rina_data.specs.declared.step.InStep.{InStep}
 use Rattle.rina_data.specs.declared.step.InStep.TheVariants as in_
@@ -21,7 +20,7 @@ use Rattle.rina_data.specs.declared.step.OutStep.TheVariants as out
 use Rattle.rina_data.specs.declared.step.StepError.{StepError}
 use Rattle.rina_data.specs.declared.step.StepError.TheVariants.{Memory, NoIpc, NoLink}
 use Rattle.rina_data.specs.Cloud.{IsMine}
-use Rattle.rina_data.specs.Dif.{Config, DifSeen, Member}
+use Rattle.rina_data.specs.Dif.{DifSeen}
 use Rattle.rina_data.specs.Incoming.{Ins}
 use Rattle.rina_data.specs.Lifting.{IsLifted}
 use Rattle.rina_data.specs.Others.{AreApart}
@@ -48,8 +47,8 @@ forwarded_other refuses d o lines olines below i n key o' below' kept kept' st s
     let member = beside o.processes o.config.members i s.process (sym so.aligned) s.head.is_process in
     let link = so.linked i member.0 s.link member.1 (live_link o.processes i n s.process s.link s.head.is_process s.head.is_link) in
     let others : (e : End) → end_of below s.link.port ≡ Some e → IsMine d.config.members e.app → ⊥ = λ e h mine.
-        (let is = same_some (end_of below s.link.port) e link.end h link.here in
-        apart member.0.name (record { addr = member.0.addr; member = record { place = i; member = member.0; stands = member.1; addr_is = refl; name_is = refl } }) (subst (IsMine d.config.members) (ap (λ (x : End). x.app) is ∙ link.app) mine)) in
+    (let is = same_some (end_of below s.link.port) e link.end h link.here in
+    apart member.0.name (record { addr = member.0.addr; member = record { place = i; member = member.0; stands = member.1; addr_is = refl; name_is = refl } }) (subst (IsMine d.config.members) (ap (λ (x : End). x.app) is ∙ link.app) mine)) in
     send_of_others d lines below s.link.port bytes s.num below' kept kept' later st others s.sent.1
 
 offs_other : (refuses : Port → ℕ → Option SendError) (d o : DifSeen) (lines : List Direction) (below : Seen) (i n : ℕ) (key : Key) (cause : Cause) (o' : DifSeen) (below' : Seen) → IsStanding d lines below → Outs refuses o below i n (Ok (out.Off key cause)) o' below' → IsStanding d lines below'

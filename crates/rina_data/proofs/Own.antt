@@ -1,6 +1,6 @@
 -- What a call does to the own flows: an end and the direction in which it sends change, an end and the direction in
 -- which it receives, a direction alone, or none.
-use Rattle.std.proofs.Common.{◌≡◌, ◌≢◌, ℕ, ◌+◌, ◌-◌, ◌≤◌, List, length, map, slice_get, slice_set, Some, None, Option, option_map, length-set, refl, sym, ◌∙◌, ap, subst, arith, inl, inr, ◌⊎◌}
+use Rattle.std.proofs.Common.{◌≡◌, ◌≢◌, ℕ, ◌-◌, ◌≤◌, List, length, map, slice_get, slice_set, Some, None, Option, option_map, length-set, refl, sym, ◌∙◌, ap, subst, inl, inr, ◌⊎◌}
 use Rattle.std.proofs.lemmas.List.{length-map}
 use Rattle.std.proofs.lemmas.Option.{slice_get-map}
 use Rattle.rina_base.specs.declared.pdu.Pdu.{Pdu}
@@ -14,9 +14,9 @@ use Rattle.rina_law.specs.Direction.{Direction}
 use Rattle.rina_data.specs.Dif.{Config}
 use Rattle.rina_data.specs.Ids.{AcksOf, Ids, PiecesOf, flipped}
 use Rattle.rina_data.specs.Lifting.{ticked}
-use Rattle.rina_data.specs.Standing.{AreIds, IsConn, IsFlow, IsJournal, IsOwn}
+use Rattle.rina_data.specs.Standing.{IsConn, IsFlow, IsJournal, IsOwn}
 use Rattle.rina_data.proofs.Flows.{acks_covered, flow_kept, flow_ticked, pieces_covered}
-use Rattle.rina_data.proofs.Journals.{IsConst, const_refl, partner_was, was_end}
+use Rattle.rina_data.proofs.Journals.{IsConst, const_refl, partner_was}
 
 -- the part of a direction in the cloud is covered
 pub record IsCovered (now : ℕ) (cloud cloud' : ℕ → Pdu → Type 0) (c : Ids) : Type 0 where
@@ -83,9 +83,9 @@ module _ (g : Config) (now : ℕ) (cloud cloud' : ℕ → Pdu → Type 0) (ends 
 
     -- the end and the direction in which it sends
     pub own_sent : (line line' : Direction) → slice_get lines at ≡ Some line → e'.got ≡ e.got → e'.taken ≡ e.taken
-      → ((k : ℕ) (b : End) (c f : Ids) → IsConn ends conns at e c → IsConn ends conns k b f → IsPartner e b → IsFlow g now cloud e b c f line → IsFlow g now cloud' e' b c f line')
-      → ((i : ℕ) (a : End) (c : Ids) → i ≢ at → IsConn ends conns i a c → (k : ℕ) (b : End) (f : Ids) → IsConn ends conns k b f → IsPartner a b → f ≡ flipped c → IsCovered now cloud cloud' c)
-      → IsOwn g now cloud' (slice_set ends at e') conns (slice_set lines at line')
+        → ((k : ℕ) (b : End) (c f : Ids) → IsConn ends conns at e c → IsConn ends conns k b f → IsPartner e b → IsFlow g now cloud e b c f line → IsFlow g now cloud' e' b c f line')
+        → ((i : ℕ) (a : End) (c : Ids) → i ≢ at → IsConn ends conns i a c → (k : ℕ) (b : End) (f : Ids) → IsConn ends conns k b f → IsPartner a b → f ≡ flipped c → IsCovered now cloud cloud' c)
+        → IsOwn g now cloud' (slice_set ends at e') conns (slice_set lines at line')
     own_sent line line' is_line got taken main other = own_with (slice_set lines at line') (length-set lines at line') (λ i k a b c f m x y z p. elim (conn_cases i a c x) [
       | inl s ↦
           let m_is : m ≡ line' = (let z' = subst (λ (n : ℕ). slice_get (slice_set lines at line') n ≡ Some m) s.0 z in let there = slice_get-set_same lines at line line' is_line in cc) in
@@ -115,8 +115,8 @@ module _ (g : Config) (now : ℕ) (cloud cloud' : ℕ → Pdu → Type 0) (ends 
 
     -- the end and the direction in which it receives, which is that of its partner
     pub own_received : IsJournal now ends → (from : ℕ) (partner : End) → At ends from partner → IsPartner partner e → (line line' : Direction) → slice_get lines from ≡ Some line → e'.sent ≡ e.sent → Covers now cloud cloud'
-      → ((c f : Ids) → IsConn ends conns from partner c → IsConn ends conns at e f → IsFlow g now cloud partner e c f line → IsFlow g now cloud' partner e' c f line')
-      → IsOwn g now cloud' (slice_set ends at e') conns (slice_set lines from line')
+        → ((c f : Ids) → IsConn ends conns from partner c → IsConn ends conns at e f → IsFlow g now cloud partner e c f line → IsFlow g now cloud' partner e' c f line')
+        → IsOwn g now cloud' (slice_set ends at e') conns (slice_set lines from line')
     own_received journal from partner is_partner partners line line' is_line sent covers main = own_with (slice_set lines from line') (length-set lines from line') (λ i k a b c f m x y z p. elim (set_at lines from i line line' m is_line z) [
       | inl u ↦ elim (conn_cases i a c x) [
         | inl s ↦
@@ -158,9 +158,9 @@ module _ (g : Config) (now : ℕ) (cloud cloud' : ℕ → Pdu → Type 0) (ends 
 
   -- a direction alone
   pub own_line : (from : ℕ) (line line' : Direction) → slice_get lines from ≡ Some line
-    → ((k : ℕ) (a b : End) (c f : Ids) → IsConn ends conns from a c → IsConn ends conns k b f → IsPartner a b → IsFlow g now cloud a b c f line → IsFlow g now cloud' a b c f line')
-    → ((i : ℕ) (a : End) (c : Ids) → i ≢ from → IsConn ends conns i a c → (k : ℕ) (b : End) (f : Ids) → IsConn ends conns k b f → IsPartner a b → f ≡ flipped c → IsCovered now cloud cloud' c)
-    → IsOwn g now cloud' ends conns (slice_set lines from line')
+      → ((k : ℕ) (a b : End) (c f : Ids) → IsConn ends conns from a c → IsConn ends conns k b f → IsPartner a b → IsFlow g now cloud a b c f line → IsFlow g now cloud' a b c f line')
+      → ((i : ℕ) (a : End) (c : Ids) → i ≢ from → IsConn ends conns i a c → (k : ℕ) (b : End) (f : Ids) → IsConn ends conns k b f → IsPartner a b → f ≡ flipped c → IsCovered now cloud cloud' c)
+      → IsOwn g now cloud' ends conns (slice_set lines from line')
   own_line from line line' is_line main other = record {
     alike = own.alike;
     lines_alike = length-set lines from line' ∙ own.lines_alike;

@@ -1,5 +1,5 @@
 -- Whatever an end got has a sender: a partner of an end can be looked for.
-use Rattle.std.proofs.Common.{◌≡◌, ◌≢◌, ℕ, zero, suc, List, [], ◌∷◌, slice_get, Some, None, Option, option_map, refl, sym, ◌∙◌, ap, inl, inr, ◌⊎◌}
+use Rattle.std.proofs.Common.{◌≡◌, ℕ, zero, suc, List, [], ◌∷◌, slice_get, Some, None, Option, option_map, refl, ◌∙◌, ap, inl, inr, ◌⊎◌}
 use Rattle.std.proofs.lemmas.Bool.Decides.{eqb_tells}
 use Rattle.rina_base.specs.declared.number.FlowName.{FlowName}
 use Rattle.rina_base.specs.declared.number.Port.{Port}
@@ -7,12 +7,12 @@ use Rattle.rina_cube.specs.declared.Kind.{Kind}
 use Rattle.rina_iface.specs.declared.ends.End.{End}
 use Rattle.rina_iface.specs.declared.state.Role.{Role}
 use Rattle.rina_iface.specs.declared.state.Role.TheVariants.{Asker, Far}
-use Rattle.rina_iface.specs.Journal.{AreKept, At, HasPartner, IsNamed, IsPartner, KeepsBy, KeepsCube}
-use Rattle.rina_iface.specs.Seen.{Fac, Offer, Seen, Stands, cube_at, cube_in, end_of, promise_at}
+use Rattle.rina_iface.specs.Journal.{At, HasPartner, IsPartner, KeepsBy}
+use Rattle.rina_iface.specs.Seen.{Fac, Offer, Seen, Stands, cube_at, cube_in, promise_at}
 use Rattle.rina_iface.proofs.Found.{end_of_stands, found, stands_there}
 use Rattle.rina_law.specs.declared.entry.Entry.{Entry}
 use Rattle.rina_law.specs.Journal.{Born}
-use Rattle.rina_data.specs.Partners.{EachIsMet, IsMet}
+use Rattle.rina_data.specs.Partners.{EachIsMet}
 
 abbrev Decided : Type 0 → Type 0
 Decided X = X ⊎ (X → ⊥)

@@ -1,11 +1,10 @@
 -- What a change of an IPC process does to what waits there, and to its links.
-use Rattle.std.proofs.Common.{◌≡◌, ◌≢◌, ℕ, zero, suc, List, [], ◌∷◌, ◌++◌, drop, map, slice_get, slice_set, Some, None, Option, refl, sym, ◌∙◌, ap, subst, inl, inr, ◌⊎◌}
+use Rattle.std.proofs.Common.{◌≡◌, ℕ, zero, suc, List, [], ◌∷◌, ◌++◌, drop, slice_get, slice_set, Some, refl, sym, ◌∙◌, ap, subst, inl, inr, ◌⊎◌}
 use Rattle.rina_iface.proofs.Changed.{set_at}
 use Rattle.rina_law.specs.Lists.{In}
 use Rattle.rina_law.specs.Receiver.{Piece}
 use Rattle.rina_queue.specs.declared.queue.Queued.{Queued}
-use Rattle.rina_data.specs.Cloud.{Waits}
-use Rattle.rina_data.specs.Dif.{Link, Process, Queue, with_put, with_queue, with_taken}
+use Rattle.rina_data.specs.Dif.{Link, Process, Queue, with_put}
 use Rattle.rina_data.specs.Ids.{Ids, pdu_of_piece}
 use Rattle.rina_data.specs.Sending.{made_items}
 use Rattle.rina_data.specs.Standing.{HasLink}

@@ -1,5 +1,5 @@
 -- Protected SDUs are read as they were written.
-use Rattle.std.proofs.Common.{◌≡◌, ℕ, ◌+◌, ◌-◌, ◌*◌, ◌^◌, ◌<◌, ◌≤◌, List, Some, Option, refl, sym, ◌∙◌, ap, subst, arith}
+use Rattle.std.proofs.Common.{◌≡◌, ℕ, ◌-◌, ◌^◌, ◌<◌, List, Some, Option, refl, sym, ◌∙◌, ap, subst, arith}
 use Rattle.rina_base.specs.declared.pdu.Pdu.{Pdu}
 use Rattle.rina_pci.specs.declared.widths.Widths.{Widths}
 use Rattle.rina_pci.specs.Life.{protected}

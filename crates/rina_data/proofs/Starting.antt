@@ -1,16 +1,13 @@
 -- A DIF before anything was sent stands.
-use Rattle.std.proofs.Common.{◌≡◌, ℕ, ◌≤◌, List, [], ◌∷◌, slice_get, Some, Option, refl, sym, ◌∙◌, ap, subst, arith, inl, inr, ◌⊎◌}
+use Rattle.std.proofs.Common.{◌≡◌, ℕ, List, [], ◌∷◌, slice_get, Some, sym, subst, inl, inr}
 use Rattle.rina_base.specs.declared.pdu.Pdu.{Pdu}
 use Rattle.rina_iface.specs.declared.ends.End.{End}
-use Rattle.rina_iface.specs.Journal.{At}
 use Rattle.rina_iface.specs.Seen.{Seen}
-use Rattle.rina_law.specs.declared.entry.Entry.{Entry}
 use Rattle.rina_law.specs.Direction.{Direction}
 use Rattle.rina_law.proofs.Backing.{start_backed}
 use Rattle.rina_data.specs.Cloud.{Cloud, Everywhere}
 use Rattle.rina_data.specs.Dif.{DifSeen, constants}
 use Rattle.rina_data.specs.Ids.{AcksOf, Ids, PiecesOf, flipped}
-use Rattle.rina_data.specs.Lifting.{ticked}
 use Rattle.rina_data.specs.Standing.{IsFlow, IsStanding}
 use Rattle.rina_data.specs.Start.{IsFresh, IsStart}
 use Rattle.rina_data.proofs.Finding.{cube_limits}

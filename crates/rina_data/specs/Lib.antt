@@ -2,6 +2,7 @@ pub mod Cloud
 pub mod Dif
 pub mod Ids
 pub mod Incoming
+pub mod Laws
 pub mod Lifting
 pub mod Others
 pub mod Outgoing

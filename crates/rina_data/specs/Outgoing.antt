@@ -1,15 +1,13 @@
 -- What an IPC process does with the PDUs that wait for a link.
 use Rattle.std.specs.Prelude.{◌≡◌, ℕ, ◌+◌, ◌-◌, ◌<◌, ◌≤◌, List, [], ◌∷◌, length, slice_get, Option, Some, None, Result, Ok, Err}
-use Rattle.rina_account.specs.declared.ledger.Off.{Off}
 use Rattle.rina_base.specs.declared.cause.Cause.{Cause}
 use Rattle.rina_base.specs.declared.cause.Cause.TheVariants.{Expired, LinkDown}
 use Rattle.rina_base.specs.declared.number.Key.{Key}
 use Rattle.rina_base.specs.declared.number.Num.{Num}
 use Rattle.rina_base.specs.declared.number.Port.{Port}
-use Rattle.rina_base.specs.declared.pdu.Pdu.{Pdu}
 use Rattle.rina_base.specs.Pdus.{key_of}
 use Rattle.rina_iface.specs.declared.error.SendError.{SendError}
-use Rattle.rina_iface.specs.declared.error.SendError.TheVariants.{Memory as OutOfMemory, NotAllocated, Failed, TooLong, WindowShut, NoRoute, QueueFull, NumbersSpent}
+use Rattle.rina_iface.specs.declared.error.SendError.TheVariants.{NotAllocated, Failed}
 use Rattle.rina_iface.specs.Seen.{Seen, promise_at}
 use Rattle.rina_iface.specs.Send.{Sends, refused}
 use Rattle.rina_pci.specs.Life.{protected}

@@ -1,9 +1,8 @@
 -- What it means to take an SDU from an end of a DIF, and what time does to it.
-use Rattle.std.specs.Prelude.{◌≡◌, ℕ, ◌-◌, ◌<◌, ◌≤◌, List, length, map, slice_get, slice_set, Some}
+use Rattle.std.specs.Prelude.{◌≡◌, ℕ, ◌-◌, ◌<◌, ◌≤◌, List, length, map, slice_set, Some}
 use Rattle.rina_cube.specs.declared.Cube.{Cube}
 use Rattle.rina_iface.specs.declared.ends.End.{End}
 use Rattle.rina_iface.specs.Ends.{with_passed}
-use Rattle.rina_iface.specs.Seen.{Seen}
 use Rattle.rina_law.specs.Direction.{Direction, Pass, happens}
 use Rattle.rina_data.specs.Dif.{DifSeen, constants, cube_by}
 use Rattle.rina_data.specs.Ids.{Ids, flipped}

@@ -1,5 +1,5 @@
 -- What it means to send an SDU on a flow of a DIF.
-use Rattle.std.specs.Prelude.{◌≡◌, ℕ, ◌+◌, ◌-◌, ◌≤◌, ◌==◌, Bool, true, nat_lt, List, [], ◌∷◌, ◌++◌, length, map, position, slice_get, slice_set, Option, Some, None, Result, Ok, Err, if◌then◌else◌}
+use Rattle.std.specs.Prelude.{◌≡◌, ℕ, ◌+◌, ◌-◌, ◌≤◌, ◌==◌, Bool, true, nat_lt, List, [], ◌∷◌, length, position, slice_get, slice_set, Option, Some, None, Result, Ok, Err, if◌then◌else◌}
 use Rattle.rina_base.specs.declared.number.Num.{Num}
 use Rattle.rina_cube.specs.declared.Cube.{Cube}
 use Rattle.rina_iface.specs.declared.ends.End.{End}

@@ -1,5 +1,5 @@
 -- When a DIF stands on the rank below.
-use Rattle.std.specs.Prelude.{◌≡◌, ◌≢◌, ℕ, ◌+◌, ◌-◌, ◌*◌, ◌^◌, ◌<◌, ◌≤◌, ◌⊎◌, List, length, slice_get, Some}
+use Rattle.std.specs.Prelude.{◌≡◌, ℕ, ◌+◌, ◌*◌, ◌^◌, ◌<◌, ◌≤◌, ◌⊎◌, List, length, slice_get, Some}
 use Rattle.rina_base.specs.declared.number.Port.{Port}
 use Rattle.rina_base.specs.declared.pdu.Pdu.{Pdu}
 use Rattle.rina_base.specs.declared.pdu.PduKind.TheVariants.{Piece, Ack}
@@ -13,7 +13,6 @@ use Rattle.rina_iface.specs.Seen.{Seen, end_of, largest_at}
 use Rattle.rina_law.specs.declared.entry.Entry.{Entry}
 use Rattle.rina_law.specs.Backed.{IsBacked}
 use Rattle.rina_law.specs.Direction.{Direction}
-use Rattle.rina_pci.specs.declared.widths.Widths.{Widths}
 use Rattle.rina_pci.specs.Life.{protected}
 use Rattle.rina_pci.specs.Spelling.{AreWidths, Fits, pci_size, pdu_size, spelling}
 use Rattle.rina_queue.specs.declared.queue.Queued.{Queued}

@@ -1,5 +1,5 @@
 -- What the rank above sees of a DIF.
-use Rattle.std.specs.Prelude.{◌≡◌, ℕ, List, length, Some, None}
+use Rattle.std.specs.Prelude.{◌≡◌, ℕ, length}
 use Rattle.rina_iface.specs.declared.ends.End.{End}
 use Rattle.rina_iface.specs.Journal.{At, HasPorts, IsKept, Promises}
 use Rattle.rina_iface.specs.Later.{IsLaterFac}

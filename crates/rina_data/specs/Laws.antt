@@ -1,0 +1,103 @@
+-- The laws of one DIF over any facility. Each speaks of plain records: the DIF before and after a call, the directions
+-- that stand behind its flows, and the rank below.
+use Rattle.std.specs.Prelude.{◌≡◌, ℕ, List, Some, Option, Result}
+use Rattle.rina_base.specs.declared.number.Num.{Num}
+use Rattle.rina_base.specs.declared.number.Port.{Port}
+use Rattle.rina_iface.specs.declared.ends.End.{End}
+use Rattle.rina_iface.specs.declared.error.SendError.{SendError}
+use Rattle.rina_iface.specs.Journal.{AreKept}
+use Rattle.rina_iface.specs.Later.{IsLater, IsLaterFac}
+use Rattle.rina_iface.specs.Seen.{Seen, end_of}
+use Rattle.rina_iface.specs.Send.{IsSent}
+use Rattle.rina_law.specs.Backed.{Covers}
+use Rattle.rina_law.specs.Direction.{Direction}
+use Rattle.rina_law.specs.Pieces.{Part}
+use Rattle.rina_data.specs.declared.step.InStep.{InStep}
+use Rattle.rina_data.specs.declared.step.OutStep.{OutStep}
+use Rattle.rina_data.specs.declared.step.StepError.{StepError}
+use Rattle.rina_data.specs.Cloud.{Cloud, Everywhere, IsMine, WholeCloud}
+use Rattle.rina_data.specs.Dif.{DifSeen, fac_of}
+use Rattle.rina_data.specs.Incoming.{Ins}
+use Rattle.rina_data.specs.Lifting.{IsLifted}
+use Rattle.rina_data.specs.Others.{AreApart}
+use Rattle.rina_data.specs.Outgoing.{Outs}
+use Rattle.rina_data.specs.Passing.{IsPassed, IsTicked}
+use Rattle.rina_data.specs.Sending.{Offers}
+use Rattle.rina_data.specs.Standing.{IsStanding}
+use Rattle.rina_data.specs.Start.{IsStart}
+use Rattle.rina_data.specs.Upward.{IsFacility, IsSilent}
+
+-- Standing: it holds before anything was sent, and after each call
+
+abbrev pub StartStands : Type 0
+StartStands = (d : DifSeen) (lines : List Direction) (below : Seen) → IsStart d lines below → IsStanding d lines below
+
+abbrev pub SendsStand : Type 0
+SendsStand = (d : DifSeen) (lines : List Direction) (below : Seen) (at : ℕ) (parts : List Part) (result : Result Num SendError) (d' : DifSeen) (lines' : List Direction) →
+    IsStanding d lines below → Offers d lines at parts result d' lines' → IsStanding d' lines' below
+
+abbrev pub PassesStand : Type 0
+PassesStand = (d : DifSeen) (lines : List Direction) (below : Seen) (at : ℕ) (d' : DifSeen) (lines' : List Direction) →
+    IsStanding d lines below → IsPassed d lines at d' lines' → IsStanding d' lines' below
+
+abbrev pub OutStepsStand : Type 0
+OutStepsStand = (refuses : Port → ℕ → Option SendError) (d : DifSeen) (lines : List Direction) (below : Seen) (i n : ℕ) (result : Result OutStep StepError) (d' : DifSeen) (below' : Seen) →
+    AreKept below → AreKept below' → IsStanding d lines below → Outs refuses d below i n result d' below' → IsStanding d' lines below'
+
+abbrev pub InStepsStand : Type 0
+InStepsStand = (d : DifSeen) (lines : List Direction) (below : Seen) (i n : ℕ) (result : Result InStep StepError) (d' : DifSeen) (lines' : List Direction) (below' : Seen) →
+    AreKept below → AreKept below' → IsStanding d lines below → Ins d lines below i n result d' lines' below' → IsStanding d' lines' below'
+
+-- The rank below goes on: with the clock, or while this DIF does nothing
+
+abbrev pub TimeStands : Type 0
+TimeStands = (d : DifSeen) (lines : List Direction) (below below' : Seen) (d' : DifSeen) (lines' : List Direction) →
+    AreKept below' → IsStanding d lines below → IsLifted d.config below below' → IsTicked d lines below'.now d' lines' → IsStanding d' lines' below'
+
+abbrev pub BesideStands : Type 0
+BesideStands = (d : DifSeen) (lines : List Direction) (below below' : Seen) →
+    AreKept below' → IsStanding d lines below → IsLifted d.config below below' → below'.now ≡ below.now → IsStanding d lines below'
+
+-- an application that is no IPC process of the DIF sends below
+abbrev pub SendsOfOthersStand : Type 0
+SendsOfOthersStand = (d : DifSeen) (lines : List Direction) (below : Seen) (port : Port) (bytes : List ℕ) (num : Num) (below' : Seen) →
+    AreKept below → AreKept below' → IsLater below below' → IsStanding d lines below → ((e : End) → end_of below port ≡ Some e → IsMine d.config.members e.app → ⊥) → IsSent below port bytes num below' → IsStanding d lines below'
+
+-- another DIF of the rank takes a step
+abbrev pub OutStepsOfOthersStand : Type 0
+OutStepsOfOthersStand = (refuses : Port → ℕ → Option SendError) (d o : DifSeen) (lines olines : List Direction) (below : Seen) (i n : ℕ) (result : Result OutStep StepError) (o' : DifSeen) (below' : Seen) →
+    AreKept below → AreKept below' → IsStanding d lines below → IsStanding o olines below → AreApart o d → Outs refuses o below i n result o' below' → IsStanding d lines below'
+
+abbrev pub InStepsOfOthersStand : Type 0
+InStepsOfOthersStand = (d o : DifSeen) (lines olines : List Direction) (below : Seen) (i n : ℕ) (result : Result InStep StepError) (o' : DifSeen) (olines' : List Direction) (below' : Seen) →
+    AreKept below → AreKept below' → IsStanding d lines below → Ins o olines below i n result o' olines' below' → IsStanding d lines below'
+
+-- The cloud: what came is covered by what was sent, and whatever goes on below without the DIF adds nothing to it
+
+abbrev pub CloudIsCovered : Type 0
+CloudIsCovered = (d : DifSeen) (lines : List Direction) (below : Seen) → AreKept below → IsStanding d lines below → Covers d.clock (Cloud Everywhere d.config d.processes below) (WholeCloud d.config d.processes below)
+
+abbrev pub CloudLaw : Type 0
+CloudLaw = (d : DifSeen) (lines : List Direction) (below below' : Seen) →
+    AreKept below' → IsStanding d lines below → IsLifted d.config below below' → Covers below'.now (WholeCloud d.config d.processes below) (WholeCloud d.config d.processes below')
+
+-- The rank above: the DIF is a facility, whose journal goes on
+
+abbrev pub StandingKeeps : Type 0
+StandingKeeps = (d : DifSeen) (lines : List Direction) (below : Seen) → IsStanding d lines below → IsFacility d
+
+abbrev pub SendsAreLater : Type 0
+SendsAreLater = (d : DifSeen) (lines : List Direction) (below : Seen) (at : ℕ) (parts : List Part) (result : Result Num SendError) (d' : DifSeen) (lines' : List Direction) →
+    IsStanding d lines below → Offers d lines at parts result d' lines' → IsLaterFac d.clock d'.clock (fac_of d) (fac_of d')
+
+abbrev pub PassesAreLater : Type 0
+PassesAreLater = (d : DifSeen) (lines : List Direction) (at : ℕ) (d' : DifSeen) (lines' : List Direction) → IsPassed d lines at d' lines' → IsLaterFac d.clock d'.clock (fac_of d) (fac_of d')
+
+abbrev pub OutStepsAreSilent : Type 0
+OutStepsAreSilent = (refuses : Port → ℕ → Option SendError) (d : DifSeen) (below : Seen) (i n : ℕ) (result : Result OutStep StepError) (d' : DifSeen) (below' : Seen) → Outs refuses d below i n result d' below' → IsSilent d d'
+
+abbrev pub InStepsAreSilent : Type 0
+InStepsAreSilent = (d : DifSeen) (lines : List Direction) (below : Seen) (i n : ℕ) (result : Result InStep StepError) (d' : DifSeen) (lines' : List Direction) (below' : Seen) → IsStanding d lines below → Ins d lines below i n result d' lines' below' → IsSilent d d'
+
+abbrev pub TimeIsSilent : Type 0
+TimeIsSilent = (d : DifSeen) (lines : List Direction) (now : ℕ) (d' : DifSeen) (lines' : List Direction) → IsTicked d lines now d' lines' → IsSilent d d'
