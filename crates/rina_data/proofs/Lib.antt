@@ -8,6 +8,7 @@ pub mod Flows
 pub mod Frame
 pub mod Giving
 pub mod Going
+pub mod Joined
 pub mod Journals
 pub mod Keepers
 pub mod Others

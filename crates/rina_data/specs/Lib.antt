@@ -1,3 +1,4 @@
+pub mod Carried
 pub mod Cloud
 pub mod Dif
 pub mod Ids
