@@ -155,7 +155,7 @@ module _ (d : DifSeen) (lines : List Direction) (below below' : Seen) (st : IsSt
       (own_covered d.config d.clock (Cloud Everywhere d.config d.processes below) (Cloud Everywhere d.config processes' below') d.ends d.conns lines st.own covers))
 
 -- the PDU of an arrival that is in time is in the cloud still
-alive_arrival : (d : DifSeen) (at left older : ℕ) → d.clock - at ≤ left → at ≤ d.clock → at + left ≤ older → d.clock ≤ older
+pub alive_arrival : (d : DifSeen) (at left older : ℕ) → d.clock - at ≤ left → at ≤ d.clock → at + left ≤ older → d.clock ≤ older
 alive_arrival d at left older in_time past later = omega arith
 
 now_passed : (below : Seen) (port : Port) (below' : Seen) → IsPassed below port below' → below'.now ≡ below.now

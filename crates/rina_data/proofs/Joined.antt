@@ -1,5 +1,5 @@
 -- What is known of each piece that a joiner is given is known of each SDU that it makes whole.
-use Rattle.std.proofs.Common.{◌≡◌, ◌≢◌, ℕ, zero, suc, ◌+◌, ◌<◌, ◌≤◌, List, [], ◌∷◌, ◌++◌, length, Bool, true, false, ltb, eqb, cond, ◌&&◌, ◌||◌, Some, slice_get, append_assoc, length-append, refl, sym, ◌∙◌, ap, subst, arith, inl, inr, ◌⊎◌}
+use Rattle.std.proofs.Common.{◌≡◌, ℕ, zero, suc, ◌+◌, ◌<◌, List, [], ◌∷◌, ◌++◌, length, Bool, true, false, ltb, eqb, cond, ◌&&◌, ◌||◌, Some, slice_get, append_assoc, length-append, refl, sym, ◌∙◌, ap, subst, arith, inl, inr, ◌⊎◌}
 use Rattle.std.proofs.lemmas.Bool.{and_parts, ltb-true, lt-ltb, eqb-true, false≢true}
 use Rattle.std.proofs.lemmas.List.{append-nil}
 use Rattle.rina_cube.specs.declared.Kind.{Kind}

@@ -1,5 +1,7 @@
 pub mod After
 pub mod Arrivals
+pub mod Carries
+pub mod Carrying
 pub mod Clouds
 pub mod Coming
 pub mod Ends

@@ -7,6 +7,7 @@ use Rattle.rina_iface.specs.declared.ends.End.{End}
 use Rattle.rina_iface.specs.declared.error.SendError.{SendError}
 use Rattle.rina_iface.specs.Journal.{AreKept}
 use Rattle.rina_iface.specs.Later.{IsLater, IsLaterFac}
+use Rattle.rina_iface.specs.Pass.{IsPassed as PassesBelow}
 use Rattle.rina_iface.specs.Seen.{Seen, end_of}
 use Rattle.rina_iface.specs.Send.{IsSent}
 use Rattle.rina_law.specs.Backed.{Covers}
@@ -15,6 +16,7 @@ use Rattle.rina_law.specs.Pieces.{Part}
 use Rattle.rina_data.specs.declared.step.InStep.{InStep}
 use Rattle.rina_data.specs.declared.step.OutStep.{OutStep}
 use Rattle.rina_data.specs.declared.step.StepError.{StepError}
+use Rattle.rina_data.specs.Carried.{IsCarrying}
 use Rattle.rina_data.specs.Cloud.{Cloud, Everywhere, IsMine, WholeCloud}
 use Rattle.rina_data.specs.Dif.{DifSeen, fac_of}
 use Rattle.rina_data.specs.Incoming.{Ins}
@@ -47,6 +49,44 @@ OutStepsStand = (refuses : Port → ℕ → Option SendError) (d : DifSeen) (lin
 abbrev pub InStepsStand : Type 0
 InStepsStand = (d : DifSeen) (lines : List Direction) (below : Seen) (i n : ℕ) (result : Result InStep StepError) (d' : DifSeen) (lines' : List Direction) (below' : Seen) →
     AreKept below → AreKept below' → IsStanding d lines below → Ins d lines below i n result d' lines' below' → IsStanding d' lines' below'
+
+-- What the ends got has come, piece by piece: at the start, and after each call
+
+abbrev pub StartCarries : Type 0
+StartCarries = (d : DifSeen) (lines : List Direction) (below : Seen) → IsStart d lines below → IsCarrying d lines below
+
+abbrev pub SendsCarry : Type 0
+SendsCarry = (d : DifSeen) (lines : List Direction) (below : Seen) (at : ℕ) (parts : List Part) (result : Result Num SendError) (d' : DifSeen) (lines' : List Direction) →
+    IsCarrying d lines below → Offers d lines at parts result d' lines' → IsCarrying d' lines' below
+
+abbrev pub PassesCarry : Type 0
+PassesCarry = (d : DifSeen) (lines : List Direction) (below : Seen) (at : ℕ) (d' : DifSeen) (lines' : List Direction) →
+    IsCarrying d lines below → IsPassed d lines at d' lines' → IsCarrying d' lines' below
+
+abbrev pub OutStepsCarry : Type 0
+OutStepsCarry = (refuses : Port → ℕ → Option SendError) (d : DifSeen) (lines : List Direction) (below : Seen) (i n : ℕ) (result : Result OutStep StepError) (d' : DifSeen) (below' : Seen) →
+    AreKept below → AreKept below' → IsCarrying d lines below → Outs refuses d below i n result d' below' → IsCarrying d' lines below'
+
+abbrev pub InStepsCarry : Type 0
+InStepsCarry = (d : DifSeen) (lines : List Direction) (below : Seen) (i n : ℕ) (result : Result InStep StepError) (d' : DifSeen) (lines' : List Direction) (below' : Seen) →
+    AreKept below → AreKept below' → IsStanding d lines below → IsCarrying d lines below → Ins d lines below i n result d' lines' below' → IsCarrying d' lines' below'
+
+-- and as the rank below goes on, whoever sends or takes there
+abbrev pub TimeCarries : Type 0
+TimeCarries = (d : DifSeen) (lines : List Direction) (below below' : Seen) (d' : DifSeen) (lines' : List Direction) →
+    AreKept below' → IsCarrying d lines below → IsLifted d.config below below' → IsTicked d lines below'.now d' lines' → IsCarrying d' lines' below'
+
+abbrev pub BesideCarries : Type 0
+BesideCarries = (d : DifSeen) (lines : List Direction) (below below' : Seen) →
+    AreKept below' → IsCarrying d lines below → IsLifted d.config below below' → IsCarrying d lines below'
+
+abbrev pub SendsOfOthersCarry : Type 0
+SendsOfOthersCarry = (d : DifSeen) (lines : List Direction) (below : Seen) (port : Port) (bytes : List ℕ) (num : Num) (below' : Seen) →
+    AreKept below → AreKept below' → IsLater below below' → IsCarrying d lines below → IsSent below port bytes num below' → IsCarrying d lines below'
+
+abbrev pub PassesOfOthersCarry : Type 0
+PassesOfOthersCarry = (d : DifSeen) (lines : List Direction) (below : Seen) (port : Port) (below' : Seen) →
+    AreKept below → AreKept below' → IsLater below below' → IsCarrying d lines below → PassesBelow below port below' → IsCarrying d lines below'
 
 -- The rank below goes on: with the clock, or while this DIF does nothing
 

@@ -3,7 +3,7 @@
 //! lost, repeated or delayed. Of the rank below they use the laws of a facility, and of its cubes that each SDU that
 //! came was sent, and came in time.
 ghost use Rattle.rina_data.specs.Partners.{EachIsMet};
-ghost use Rattle.rina_data.specs.Laws.{StartStands, SendsStand, PassesStand, OutStepsStand, InStepsStand, TimeStands, BesideStands, SendsOfOthersStand, OutStepsOfOthersStand, InStepsOfOthersStand, CloudIsCovered, CloudLaw, StandingKeeps, SendsAreLater, PassesAreLater, OutStepsAreSilent, InStepsAreSilent, TimeIsSilent};
+ghost use Rattle.rina_data.specs.Laws.{StartStands, SendsStand, PassesStand, OutStepsStand, InStepsStand, StartCarries, SendsCarry, PassesCarry, OutStepsCarry, InStepsCarry, TimeCarries, BesideCarries, SendsOfOthersCarry, PassesOfOthersCarry, TimeStands, BesideStands, SendsOfOthersStand, OutStepsOfOthersStand, InStepsOfOthersStand, CloudIsCovered, CloudLaw, StandingKeeps, SendsAreLater, PassesAreLater, OutStepsAreSilent, InStepsAreSilent, TimeIsSilent};
 
 /// Whatever an end of a kept facility got has a sender: its partner, of whose entries it is born.
 pub fn each_entry_has_a_sender()
@@ -17,6 +17,20 @@ pub fn calls_keep_standing()
     ensures pass { PassesStand }
     ensures out { OutStepsStand }
     ensures in_ { InStepsStand }
+{}
+
+/// Whatever an end got has come to its IPC process from the rank below, piece by piece, by the tick at which it was
+/// delivered.
+pub fn what_was_got_has_come()
+    ensures start { StartCarries }
+    ensures send { SendsCarry }
+    ensures pass { PassesCarry }
+    ensures out { OutStepsCarry }
+    ensures in_ { InStepsCarry }
+    ensures time { TimeCarries }
+    ensures beside { BesideCarries }
+    ensures others_send { SendsOfOthersCarry }
+    ensures others_pass { PassesOfOthersCarry }
 {}
 
 /// A DIF goes on to stand as time goes on with the rank below, and as others use that rank: applications, and other
