@@ -3,7 +3,6 @@ use Rattle.std.proofs.Common.{◌≡◌, ℕ, ◌-◌, List, [], ◌∷◌, leng
 use Rattle.rina_base.specs.declared.cause.Cause.{Cause}
 use Rattle.rina_base.specs.declared.cause.Cause.TheVariants as causes
 use Rattle.rina_base.specs.declared.number.Num.{Num}
-use Rattle.rina_base.specs.declared.number.Key.{Key}
 use Rattle.rina_base.specs.declared.number.Port.{Port}
 use Rattle.rina_iface.specs.declared.ends.End.{End}
 use Rattle.rina_iface.specs.declared.error.SendError.{SendError}
@@ -38,7 +37,7 @@ use Rattle.rina_data.specs.Dif.{DifSeen, Member, Process, constants, piece_size,
 use Rattle.rina_data.specs.Ids.{flipped}
 use Rattle.rina_data.specs.Incoming.{Ins, IsArrived, IsInTime, IsTold, Settles, SettlesOff}
 use Rattle.rina_data.specs.Lifting.{IsLifted, ticked}
-use Rattle.rina_data.specs.Outgoing.{Outs, sent_bytes}
+use Rattle.rina_data.specs.Outgoing.{Goes, IsStep, Outs, sent_bytes}
 use Rattle.rina_data.specs.Passing.{IsPassed, IsTicked}
 use Rattle.rina_data.specs.Sending.{IsOffered, Offers, made_items, offered, offered_entry, offered_pieces}
 use Rattle.rina_data.specs.Standing.{IsStanding}
@@ -134,33 +133,42 @@ after_carries d lines more below below' c after = still_carries d d lines lines 
 
 -- ---- out_step
 
-offs_carry : (refuses : Port → ℕ → Option SendError) (d : DifSeen) (lines : List Direction) (below : Seen) (i n : ℕ) (key : Key) (cause : Cause) (d' : DifSeen) (below' : Seen) → IsCarrying d lines below → Outs refuses d below i n (Ok (out.Off key cause)) d' below' → IsCarrying d' lines below'
-offs_carry refuses d lines below i n key (causes.Expired left charge) d' below' c s = subst (IsCarrying d' lines) (sym s.below_is) (still_carries d d' lines lines NoMore below below _ s.new_is refl (after_none d.config below) c)
-offs_carry refuses d lines below i n key (causes.LinkDown port) d' below' c s = subst (IsCarrying d' lines) (sym s.below_is) (still_carries d d' lines lines NoMore below below _ s.new_is refl (after_none d.config below) c)
-offs_carry refuses d lines below i n key (causes.NoRoute dst) d' below' c s = absurd s
-offs_carry refuses d lines below i n key (causes.QueueFull cap) d' below' c s = absurd s
-offs_carry refuses d lines below i n key (causes.NoConnection cep) d' below' c s = absurd s
-offs_carry refuses d lines below i n key (causes.Duplicate num) d' below' c s = absurd s
-offs_carry refuses d lines below i n key (causes.Behind highest) d' below' c s = absurd s
-offs_carry refuses d lines below i n key (causes.NoState drf) d' below' c s = absurd s
-offs_carry refuses d lines below i n key (causes.NoRoom cap) d' below' c s = absurd s
-offs_carry refuses d lines below i n key (causes.StateGone last_in) d' below' c s = absurd s
-offs_carry refuses d lines below i n key (causes.Broken missing) d' below' c s = absurd s
-
 same_carries : (d : DifSeen) (lines : List Direction) (below : Seen) (d' : DifSeen) (lines' : List Direction) (below' : Seen) → d' ≡ d → lines' ≡ lines → below' ≡ below → IsCarrying d lines below → IsCarrying d' lines' below'
 same_carries d lines below d' lines' below' p q r c = subst (λ (z : DifSeen). IsCarrying z lines' below') (sym p) (subst (λ (ls : List Direction). IsCarrying d ls below') (sym q) (subst (IsCarrying d lines) (sym r) c))
 
-pub outs_carry : (refuses : Port → ℕ → Option SendError) (d : DifSeen) (lines : List Direction) (below : Seen) (i n : ℕ) (r : Result OutStep StepError) (d' : DifSeen) (below' : Seen) → AreKept below → AreKept below' → IsCarrying d lines below → Outs refuses d below i n r d' below' → IsCarrying d' lines below'
-outs_carry refuses d lines below i n (Ok out.Idle) d' below' kept kept' c s = same_carries d lines below d' lines below' s.2 refl s.3 c
-outs_carry refuses d lines below i n (Ok (out.Sent key)) d' below' kept kept' c s =
-    let bytes = sent_bytes d s.item s.promise in
+-- what a step does below, as far as what came is concerned
+goes_carry : (refuses : Port → ℕ → Option SendError) (d : DifSeen) (lines : List Direction) (below : Seen) (n : ℕ) (process : Process) (r : Result OutStep StepError) (process' : Process) (below' : Seen) → AreKept below → AreKept below' → IsCarrying d lines below → Goes refuses d.config d.clock process below n r process' below' → IsCarrying d lines below'
+goes_carry refuses d lines below n process (Ok out.Idle) process' below' kept kept' c s = subst (IsCarrying d lines) (sym s.3) c
+goes_carry refuses d lines below n process (Ok (out.Sent key)) process' below' kept kept' c s =
+    let bytes = sent_bytes d.config d.clock s.item s.promise in
     let later = later_sends (refuses s.link.port (length bytes)) below s.link.port bytes (Ok s.num) below' s.sent in
-    still_carries d d' lines lines (Just s.link.port (record { tick = below.now; num = s.num; bytes = bytes })) below below' _ s.new_is refl (after_sent d.config below s.link.port bytes s.num below' kept kept' later s.sent.1) c
-outs_carry refuses d lines below i n (Ok (out.Off key cause)) d' below' kept kept' c s = offs_carry refuses d lines below i n key cause d' below' c s
-outs_carry refuses d lines below i n (Ok (out.Held why)) d' below' kept kept' c s = same_carries d lines below d' lines below' s.1 refl s.2 c
-outs_carry refuses d lines below i n (Err Memory) d' below' kept kept' c s = same_carries d lines below d' lines below' s.0 refl s.1 c
+    after_carries d lines (Just s.link.port (record { tick = below.now; num = s.num; bytes = bytes })) below below' c (after_sent d.config below s.link.port bytes s.num below' kept kept' later s.sent.1)
+goes_carry refuses d lines below n process (Ok (out.Off key (causes.Expired left charge))) process' below' kept kept' c s = subst (IsCarrying d lines) (sym s.below_is) c
+goes_carry refuses d lines below n process (Ok (out.Off key (causes.LinkDown port))) process' below' kept kept' c s = subst (IsCarrying d lines) (sym s.below_is) c
+goes_carry refuses d lines below n process (Ok (out.Off key (causes.NoRoute dst))) process' below' kept kept' c s = absurd s
+goes_carry refuses d lines below n process (Ok (out.Off key (causes.QueueFull cap))) process' below' kept kept' c s = absurd s
+goes_carry refuses d lines below n process (Ok (out.Off key (causes.NoConnection cep))) process' below' kept kept' c s = absurd s
+goes_carry refuses d lines below n process (Ok (out.Off key (causes.Duplicate num))) process' below' kept kept' c s = absurd s
+goes_carry refuses d lines below n process (Ok (out.Off key (causes.Behind highest))) process' below' kept kept' c s = absurd s
+goes_carry refuses d lines below n process (Ok (out.Off key (causes.NoState drf))) process' below' kept kept' c s = absurd s
+goes_carry refuses d lines below n process (Ok (out.Off key (causes.NoRoom cap))) process' below' kept kept' c s = absurd s
+goes_carry refuses d lines below n process (Ok (out.Off key (causes.StateGone last_in))) process' below' kept kept' c s = absurd s
+goes_carry refuses d lines below n process (Ok (out.Off key (causes.Broken missing))) process' below' kept kept' c s = absurd s
+goes_carry refuses d lines below n process (Ok (out.Held why)) process' below' kept kept' c s = subst (IsCarrying d lines) (sym s.2) c
+goes_carry refuses d lines below n process (Err Memory) process' below' kept kept' c s = subst (IsCarrying d lines) (sym s.1) c
+goes_carry refuses d lines below n process (Err NoIpc) process' below' kept kept' c s = absurd s
+goes_carry refuses d lines below n process (Err NoLink) process' below' kept kept' c s = subst (IsCarrying d lines) (sym s.2) c
+
+step_carries : (refuses : Port → ℕ → Option SendError) (d : DifSeen) (lines : List Direction) (below : Seen) (i n : ℕ) (r : Result OutStep StepError) (d' : DifSeen) (below' : Seen) → AreKept below → AreKept below' → IsCarrying d lines below → IsStep (λ p p'. Goes refuses d.config d.clock p below n r p' below') d i d' → IsCarrying d' lines below'
+step_carries refuses d lines below i n r d' below' kept kept' c s =
+    let c' = goes_carry refuses d lines below n s.process r s.process' below' kept kept' c s.done in
+    still_carries d d' lines lines NoMore below' below' (slice_set d.processes i s.process') s.new_is refl (after_none d.config below') c'
+
+pub outs_carry : (refuses : Port → ℕ → Option SendError) (d : DifSeen) (lines : List Direction) (below : Seen) (i n : ℕ) (r : Result OutStep StepError) (d' : DifSeen) (below' : Seen) → AreKept below → AreKept below' → IsCarrying d lines below → Outs refuses d below i n r d' below' → IsCarrying d' lines below'
+outs_carry refuses d lines below i n (Ok x) d' below' kept kept' c s = step_carries refuses d lines below i n (Ok x) d' below' kept kept' c s
+outs_carry refuses d lines below i n (Err Memory) d' below' kept kept' c s = step_carries refuses d lines below i n (Err Memory) d' below' kept kept' c s
 outs_carry refuses d lines below i n (Err NoIpc) d' below' kept kept' c s = same_carries d lines below d' lines below' s.1 refl s.2 c
-outs_carry refuses d lines below i n (Err NoLink) d' below' kept kept' c s = same_carries d lines below d' lines below' s.1 refl s.2 c
+outs_carry refuses d lines below i n (Err NoLink) d' below' kept kept' c s = step_carries refuses d lines below i n (Err NoLink) d' below' kept kept' c s
 
 -- ---- in_step
 

@@ -2,7 +2,6 @@
 use Rattle.std.proofs.Common.{◌≡◌, ℕ, zero, suc, ◌≤◌, List, [], ◌∷◌, ◌++◌, length, length-set, map, slice_get, slice_set, Some, None, Ok, Err, Option, Result, refl, sym, ◌∙◌, ap, subst, arith, inl, inr}
 use Rattle.rina_base.specs.declared.cause.Cause.{Cause}
 use Rattle.rina_base.specs.declared.cause.Cause.TheVariants as causes
-use Rattle.rina_base.specs.declared.number.Key.{Key}
 use Rattle.rina_base.specs.declared.number.Num.{Num}
 use Rattle.rina_base.specs.declared.number.Port.{Port}
 use Rattle.rina_base.specs.declared.pdu.Pdu.{Pdu}
@@ -26,7 +25,6 @@ use Rattle.rina_law.specs.Receiver.{Piece}
 use Rattle.rina_data.specs.declared.step.InStep.{InStep}
 use Rattle.rina_data.specs.declared.step.InStep.TheVariants as in_
 use Rattle.rina_data.specs.declared.step.OutStep.{OutStep}
-use Rattle.rina_data.specs.declared.step.OutStep.TheVariants as out
 use Rattle.rina_data.specs.declared.step.StepError.{StepError}
 use Rattle.rina_data.specs.declared.step.StepError.TheVariants.{Memory, NoIpc, NoLink}
 use Rattle.rina_data.specs.declared.step.Took.{Took}
@@ -129,27 +127,12 @@ ins_silent d lines below i n (Err Memory) d' lines' below' st s = noted_silent d
 ins_silent d lines below i n (Err NoIpc) d' lines' below' st s = noted_silent d d' d.processes s.1
 ins_silent d lines below i n (Err NoLink) d' lines' below' st s = noted_silent d d' d.processes s.1
 
-offs_silent : (refuses : Port → ℕ → Option SendError) (d : DifSeen) (below : Seen) (i n : ℕ) (key : Key) (cause : Cause) (d' : DifSeen) (below' : Seen) → Outs refuses d below i n (Ok (out.Off key cause)) d' below' → IsSilent d d'
-offs_silent refuses d below i n key (causes.Expired left charge) d' below' s = noted_silent d d' _ s.new_is
-offs_silent refuses d below i n key (causes.LinkDown port) d' below' s = noted_silent d d' _ s.new_is
-offs_silent refuses d below i n key (causes.NoRoute dst) d' below' s = absurd s
-offs_silent refuses d below i n key (causes.QueueFull cap) d' below' s = absurd s
-offs_silent refuses d below i n key (causes.NoConnection cep) d' below' s = absurd s
-offs_silent refuses d below i n key (causes.Duplicate num) d' below' s = absurd s
-offs_silent refuses d below i n key (causes.Behind highest) d' below' s = absurd s
-offs_silent refuses d below i n key (causes.NoState drf) d' below' s = absurd s
-offs_silent refuses d below i n key (causes.NoRoom cap) d' below' s = absurd s
-offs_silent refuses d below i n key (causes.StateGone last_in) d' below' s = absurd s
-offs_silent refuses d below i n key (causes.Broken missing) d' below' s = absurd s
-
+-- a step of one IPC process alone
 pub outs_silent : (refuses : Port → ℕ → Option SendError) (d : DifSeen) (below : Seen) (i n : ℕ) (r : Result OutStep StepError) (d' : DifSeen) (below' : Seen) → Outs refuses d below i n r d' below' → IsSilent d d'
-outs_silent refuses d below i n (Ok out.Idle) d' below' s = noted_silent d d' d.processes s.2
-outs_silent refuses d below i n (Ok (out.Sent key)) d' below' s = noted_silent d d' _ s.new_is
-outs_silent refuses d below i n (Ok (out.Off key cause)) d' below' s = offs_silent refuses d below i n key cause d' below' s
-outs_silent refuses d below i n (Ok (out.Held why)) d' below' s = noted_silent d d' d.processes s.1
-outs_silent refuses d below i n (Err Memory) d' below' s = noted_silent d d' d.processes s.0
+outs_silent refuses d below i n (Ok x) d' below' s = noted_silent d d' (slice_set d.processes i s.process') s.new_is
+outs_silent refuses d below i n (Err Memory) d' below' s = noted_silent d d' (slice_set d.processes i s.process') s.new_is
 outs_silent refuses d below i n (Err NoIpc) d' below' s = noted_silent d d' d.processes s.1
-outs_silent refuses d below i n (Err NoLink) d' below' s = noted_silent d d' d.processes s.1
+outs_silent refuses d below i n (Err NoLink) d' below' s = noted_silent d d' (slice_set d.processes i s.process') s.new_is
 
 -- ---- later
 

@@ -30,7 +30,6 @@ use Rattle.rina_data.specs.declared.step.Took.TheVariants as took
 use Rattle.rina_data.specs.Cloud.{Hop, opened}
 use Rattle.rina_data.specs.Dif.{Member, Link, Queue, Process, DifSeen, IsProcess, IsQueue, constants, cube_by, link_by, next_hop, with_offs, with_process, with_put}
 use Rattle.rina_data.specs.Ids.{Ids, IsFrom, flipped}
-use Rattle.rina_data.specs.Outgoing.{IsLive}
 use Rattle.rina_data.specs.Standing.{IsConn}
 
 -- A PDU that came behind this lifetime, at tick `at`
@@ -208,10 +207,16 @@ pub record IsEmpty (d : DifSeen) (below : Seen) (i n : ℕ) : Type 0 where
   pub is_link : link_by n process.links ≡ Some link
   pub none : unpassed below link.port ≡ None
 
+-- the IPC process of place i has no live link n
+pub record HasNoLink (d : DifSeen) (i n : ℕ) : Type 0 where
+  pub process : Process
+  pub is_process : slice_get d.processes i ≡ Some process
+  pub none : link_by n process.links ≡ None
+
 -- what `in_step` does at link n of the IPC process of place i
 abbrev pub Ins : DifSeen → List Direction → Seen → ℕ → ℕ → Result InStep StepError → DifSeen → List Direction → Seen → Type 0
 Ins d lines below i n (Ok in_.Idle) d' lines' below' = IsEmpty d below i n × (d' ≡ d) × (lines' ≡ lines) × (below' ≡ below)
 Ins d lines below i n (Ok (in_.Took key end)) d' lines' below' = IsTaken d lines below i n key end d' lines' below'
 Ins d lines below i n (Err Memory) d' lines' below' = (d' ≡ d) × (lines' ≡ lines) × (below' ≡ below)
 Ins d lines below i n (Err NoIpc) d' lines' below' = (slice_get d.processes i ≡ None) × (d' ≡ d) × (lines' ≡ lines) × (below' ≡ below)
-Ins d lines below i n (Err NoLink) d' lines' below' = (IsLive d i n → ⊥) × (d' ≡ d) × (lines' ≡ lines) × (below' ≡ below)
+Ins d lines below i n (Err NoLink) d' lines' below' = HasNoLink d i n × (d' ≡ d) × (lines' ≡ lines) × (below' ≡ below)
