@@ -46,9 +46,9 @@ abbrev MadeOf : Ids → List Piece → Pdu → Type 0
 MadeOf ids pieces pdu = (p : Piece) × In p pieces × (pdu ≡ pdu_of_piece ids p)
 
 -- the numbers of a piece that was just made
-record IsSmall (k : Constants) (p : Piece) : Type 0 where
-  body : length p.part.body ≤ k.piece
-  number : p.number ≤ k.max
+pub record IsSmall (k : Constants) (p : Piece) : Type 0 where
+  pub body : length p.part.body ≤ k.piece
+  pub number : p.number ≤ k.max
 
 small_piece : (k : Constants) (line : Direction) (parts : List Part) (p : Piece) → IsCube k.cube → DirectionHolds k line → IsCut k.piece true parts → offer_refusal k line parts ≡ None → In p (offered_pieces k parts line) → IsSmall k p
 small_piece k line parts p limits holds cut free one =
@@ -58,12 +58,12 @@ small_piece k line parts p limits holds cut free one =
     let w = welcome_from k (offered k parts line) (record { pdu = p; death = line.line.clock + k.cube.mpl }) limits after (made, omega arith) in
     record { body = w.body; number = w.number }
 
-power_positive : (n : ℕ) → 1 ≤ 2 ^ n
+pub power_positive : (n : ℕ) → 1 ≤ 2 ^ n
 power_positive zero = omega arith
 power_positive (suc n) = (let h : 1 ≤ 2 ^ n = power_positive n in omega (arith, h))
 
 -- a piece that was just made may be sent
-piece_fit : (g : Config) (end : End) (ids : Ids) (cube : Cube) (p : Piece) → IsConfig g → AreIds g end ids → cube_by ids.qos g.cubes ≡ Some cube → IsSmall (constants g cube ids) p → IsFit g (pdu_of_piece ids p)
+pub piece_fit : (g : Config) (end : End) (ids : Ids) (cube : Cube) (p : Piece) → IsConfig g → AreIds g end ids → cube_by ids.qos g.cubes ≡ Some cube → IsSmall (constants g cube ids) p → IsFit g (pdu_of_piece ids p)
 piece_fit g end ids cube p config are is_cube small =
     let body : length p.part.body ≤ g.pdu - 4 - pci_size APiece g.widths = small.body in
     let number : p.number ≤ 2 ^ (8 * g.widths.seq) - 1 = small.number in

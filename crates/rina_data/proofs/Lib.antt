@@ -17,6 +17,7 @@ pub mod Others
 pub mod Own
 pub mod Partnered
 pub mod Queues
+pub mod Rows
 pub mod Spelled
 pub mod Starting
 pub mod Taking

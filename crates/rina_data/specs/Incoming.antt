@@ -28,7 +28,7 @@ use Rattle.rina_data.specs.declared.step.StepError.TheVariants.{Memory, NoIpc, N
 use Rattle.rina_data.specs.declared.step.Took.{Took}
 use Rattle.rina_data.specs.declared.step.Took.TheVariants as took
 use Rattle.rina_data.specs.Cloud.{Hop, opened}
-use Rattle.rina_data.specs.Dif.{Member, Link, Queue, Process, DifSeen, IsProcess, IsQueue, constants, cube_by, link_by, next_hop, with_offs, with_process, with_put}
+use Rattle.rina_data.specs.Dif.{Config, Member, Link, Queue, Process, DifSeen, IsProcess, IsQueue, constants, cube_by, link_by, next_hop, with_offs, with_process, with_put}
 use Rattle.rina_data.specs.Ids.{Ids, IsFrom, flipped}
 use Rattle.rina_data.specs.Standing.{IsConn}
 
@@ -57,13 +57,13 @@ pub record IsRelayed (d : DifSeen) (i : ℕ) (process : Process) (at : ℕ) (hop
   pub new_is : d' ≡ with_process d i (with_put process place queue (record { pdu = hop.pdu; left = hop.left; since = at } ∷ []))
 
 -- the queue of the next hop is full
-pub record IsFull (d : DifSeen) (process : Process) (pdu : Pdu) : Type 0 where
+pub record IsFull (g : Config) (process : Process) (pdu : Pdu) : Type 0 where
   pub link : ℕ
   pub next : next_hop pdu.dst process.routes ≡ Some link
   pub place : ℕ
   pub queue : Queue
   pub is_queue : IsQueue process pdu.qos link place queue
-  pub full : d.config.cap ≤ length queue.items
+  pub full : g.cap ≤ length queue.items
 
 -- An own connection
 
@@ -172,7 +172,7 @@ SettlesOff d lines i member process at hop (causes.Expired left charge) d' lines
 SettlesOff d lines i member process at hop (causes.NoRoute dst) d' lines' =
     IsInTime d at hop × (hop.pdu.dst ≢ member.addr) × (dst ≡ hop.pdu.dst) × (next_hop dst process.routes ≡ None) × (d' ≡ written_off d i process hop.pdu (causes.NoRoute dst)) × (lines' ≡ lines)
 SettlesOff d lines i member process at hop (causes.QueueFull cap) d' lines' =
-    IsInTime d at hop × (hop.pdu.dst ≢ member.addr) × (cap ≡ d.config.cap) × IsFull d process hop.pdu × (d' ≡ written_off d i process hop.pdu (causes.QueueFull cap)) × (lines' ≡ lines)
+    IsInTime d at hop × (hop.pdu.dst ≢ member.addr) × (cap ≡ d.config.cap) × IsFull d.config process hop.pdu × (d' ≡ written_off d i process hop.pdu (causes.QueueFull cap)) × (lines' ≡ lines)
 SettlesOff d lines i member process at hop (causes.NoConnection cep) d' lines' =
     IsInTime d at hop × (hop.pdu.dst ≡ member.addr) × (cep ≡ hop.pdu.dcep) × ((k : ℕ) (end : End) (ids : Ids) → IsTaker d hop.pdu k end ids → ⊥) × (d' ≡ written_off d i process hop.pdu (causes.NoConnection cep)) × (lines' ≡ lines)
 SettlesOff d lines i member process at hop (causes.LinkDown port) d' lines' = ⊥

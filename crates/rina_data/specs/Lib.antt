@@ -12,4 +12,5 @@ pub mod Passing
 pub mod Sending
 pub mod Standing
 pub mod Start
+pub mod Timely
 pub mod Upward
