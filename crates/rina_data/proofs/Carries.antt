@@ -1,5 +1,5 @@
 -- Each call keeps that what the ends got has come.
-use Rattle.std.proofs.Common.{◌≡◌, ℕ, ◌-◌, List, [], ◌∷◌, length, map, slice_get, slice_set, Some, None, Ok, Err, Option, Result, Bool, true, false, refl, sym, ◌∙◌, ap, subst, arith, inl, inr}
+use Rattle.std.proofs.Common.{◌⊎◌, ◌≡◌, ℕ, ◌-◌, List, [], ◌∷◌, length, map, slice_get, slice_set, Some, None, Ok, Err, Option, Result, Bool, true, false, refl, sym, ◌∙◌, ap, subst, arith, inl, inr}
 use Rattle.rina_base.specs.declared.cause.Cause.{Cause}
 use Rattle.rina_base.specs.declared.cause.Cause.TheVariants as causes
 use Rattle.rina_base.specs.declared.number.Num.{Num}
@@ -17,11 +17,12 @@ use Rattle.rina_iface.proofs.Found.{end_of_stands}
 use Rattle.rina_iface.proofs.LaterCalls.{later_passes, later_sends}
 use Rattle.rina_law.specs.declared.entry.Entry.{Entry}
 use Rattle.rina_law.specs.Constants.{Constants}
-use Rattle.rina_law.specs.Direction.{Direction, Pass, happens}
-use Rattle.rina_law.specs.Line.{Line, begun, offer, put, put_all, told}
+use Rattle.rina_law.specs.Direction.{Direction, Forget, Pass, after_ack, happens}
+use Rattle.rina_law.specs.Line.{again, Line, begun, offer, put, put_all, told}
 use Rattle.rina_law.specs.Pdus.{ack_in, piece_in}
-use Rattle.rina_law.specs.Pieces.{Part}
-use Rattle.rina_law.specs.Receiver.{Receiver}
+use Rattle.rina_law.specs.Pieces.{empty_joiner, Part}
+use Rattle.rina_law.specs.Lists.{In}
+use Rattle.rina_law.specs.Receiver.{Piece, Receiver}
 use Rattle.rina_law.specs.Sender.{is_absent}
 use Rattle.rina_data.specs.declared.step.InStep.{InStep}
 use Rattle.rina_data.specs.declared.step.InStep.TheVariants as in_
@@ -33,7 +34,7 @@ use Rattle.rina_data.specs.declared.step.Took.{Took}
 use Rattle.rina_data.specs.declared.step.Took.TheVariants as took
 use Rattle.rina_data.specs.Carried.{HasCome, HoldsCome, IsCarrying}
 use Rattle.rina_data.specs.Cloud.{Hop, opened}
-use Rattle.rina_data.specs.Dif.{DifSeen, Member, Process, constants, piece_size, with_put}
+use Rattle.rina_data.specs.Dif.{DifSeen, Member, Process, constants, piece_size, with_put, with_offs}
 use Rattle.rina_data.specs.Ids.{flipped}
 use Rattle.rina_data.specs.Incoming.{Ins, IsArrived, IsInTime, IsTold, Settles, SettlesOff}
 use Rattle.rina_data.specs.Lifting.{IsLifted, ticked}
@@ -41,6 +42,7 @@ use Rattle.rina_data.specs.Outgoing.{Goes, IsStep, Outs, sent_bytes}
 use Rattle.rina_data.specs.Passing.{IsPassed, IsTicked}
 use Rattle.rina_data.specs.Sending.{IsOffered, Offers, made_items, offered, offered_entry, offered_pieces}
 use Rattle.rina_data.specs.Standing.{IsStanding}
+use Rattle.rina_data.specs.Timely.{IsAcknowledged, IsForgotten, IsResent}
 use Rattle.rina_data.specs.Start.{IsStart}
 use Rattle.rina_data.proofs.After.{IsAfter, Just, NoMore, after_lifted, after_none, after_passed, after_sent}
 use Rattle.rina_data.proofs.Arrivals.{IsArrival, arrival}
@@ -99,7 +101,7 @@ offered_carries d lines below at parts num d' lines' c s =
     subst (λ (z : DifSeen). IsCarrying z lines' below) (sym s.new_is) (subst (λ (ls : List Direction). IsCarrying (record d { ends = ends'; processes = processes' }) ls below) (sym s.lines_are)
     (carrying_same d (record d { ends = ends'; processes = processes' }) lines (slice_set lines at line') NoMore below below c (after_none d.config below) refl refl (omega arith)
     (end_set d.ends at s.end end' s.is_conn.end (record { flow = refl; role = refl; port = refl; app = refl; peer = refl; cube = refl }) refl)
-    (line_set lines at s.line line' s.is_line refl (offered_held k parts s.line.line))))
+    (line_set lines at s.line line' s.is_line (inl refl) (λ q x. subst (λ (ps : List Piece). In q ps) (offered_held k parts s.line.line) x))))
 
 pub offers_carry : (d : DifSeen) (lines : List Direction) (below : Seen) (at : ℕ) (parts : List Part) (r : Result Num SendError) (d' : DifSeen) (lines' : List Direction) → IsCarrying d lines below → Offers d lines at parts r d' lines' → IsCarrying d' lines' below
 offers_carry d lines below at parts (Ok num) d' lines' c s = offered_carries d lines below at parts num d' lines' c s.2
@@ -113,7 +115,7 @@ passed_carries d lines below at d' lines' c s =
     subst (λ (z : DifSeen). IsCarrying z lines' below) (sym s.new_is) (subst (λ (ls : List Direction). IsCarrying (record d { ends = ends' }) ls below) (sym s.lines_are)
     (carrying_same d (record d { ends = ends' }) lines (slice_set lines s.from line') NoMore below below c (after_none d.config below) refl refl (omega arith)
     (end_set d.ends at s.end (with_passed s.end) s.is_conn.end (record { flow = refl; role = refl; port = refl; app = refl; peer = refl; cube = refl }) refl)
-    (line_set lines s.from s.line line' s.inbound.is_line refl refl)))
+    (line_set lines s.from s.line line' s.inbound.is_line (inl refl) (λ q x. x))))
 
 -- ---- the rank below
 
@@ -122,7 +124,7 @@ time_carries d lines below below' d' lines' kept c lifted s =
     let ticks : ℕ = below'.now - d.clock in
     subst (λ (z : DifSeen). IsCarrying z lines' below') (sym s.new_is) (subst (λ (ls : List Direction). IsCarrying (record d { clock = below'.now }) ls below') (sym s.lines_are)
     (carrying_same d (record d { clock = below'.now }) lines (map (ticked ticks) lines) NoMore below below' c (after_lifted d.config below below' kept lifted) refl refl s.later (end_was d.ends)
-    (λ i l h. let m = map_at (ticked ticks) lines i l h in subst (WasLine lines i) (sym m.2) (record { line = m.0; stood = m.1; joiner = refl; held = refl }))))
+    (λ i l h. let m = map_at (ticked ticks) lines i l h in subst (WasLine lines i) (sym m.2) (record { line = m.0; stood = m.1; joiner = inl refl; held = λ q x. x }))))
 
 pub beside_carries : (d : DifSeen) (lines : List Direction) (below below' : Seen) → AreKept below' → IsCarrying d lines below → IsLifted d.config below below' → IsCarrying d lines below'
 beside_carries d lines below below' kept c lifted = still_carries d d lines lines NoMore below below' d.processes refl refl (after_lifted d.config below below' kept lifted) c
@@ -212,7 +214,7 @@ module _ (d : DifSeen) (lines : List Direction) (below below' : Seen) (st : IsSt
   told_carries d' lines' s =
       let line' : Direction = record s.line { line = told (ack_in hop.pdu) s.line.line } in
       subst (λ (z : DifSeen). IsCarrying z lines' below') (sym s.new_is) (subst (λ (ls : List Direction). IsCarrying d ls below') (sym s.lines_are)
-      (carrying_same d d lines (slice_set lines s.place line') NoMore below below' c after refl refl (omega arith) (end_was d.ends) (line_set lines s.place s.line line' s.is_line refl refl)))
+      (carrying_same d d lines (slice_set lines s.place line') NoMore below below' c after refl refl (omega arith) (end_was d.ends) (line_set lines s.place s.line line' s.is_line (inl refl) (λ q x. x))))
 
   settles_off_carries : (cause : Cause) (d' : DifSeen) (lines' : List Direction) → SettlesOff d lines i member process entry.tick hop cause d' lines' → IsCarrying d' lines' below'
   settles_off_carries (causes.Expired left charge) d' lines' s = noted_carries d' lines' _ s.3 s.4
@@ -252,3 +254,19 @@ sends_of_others_carry d lines below port bytes num below' kept kept' later c s =
 
 pub passes_of_others_carry : (d : DifSeen) (lines : List Direction) (below : Seen) (port : Port) (below' : Seen) → AreKept below → AreKept below' → IsLater below below' → IsCarrying d lines below → PassesBelow below port below' → IsCarrying d lines below'
 passes_of_others_carry d lines below port below' kept kept' later c s = after_carries d lines NoMore below below' c (after_passed d.config below port below' kept kept' later s)
+
+-- ---- the rows that come with time
+
+row_carries : (d d' : DifSeen) (lines lines' : List Direction) (below : Seen) (processes : List Process) (from : ℕ) (line line' : Direction) → IsCarrying d lines below → slice_get lines from ≡ Some line → d' ≡ record d { processes = processes } → lines' ≡ slice_set lines from line' → (line'.inbox.joiner ≡ line.inbox.joiner) ⊎ (line'.inbox.joiner ≡ empty_joiner) → ((q : Piece) → In q line'.line.receiver.held → In q line.line.receiver.held) → IsCarrying d' lines' below
+row_carries d d' lines lines' below processes from line line' c is d_is lines_are joiner held =
+    subst (λ (z : DifSeen). IsCarrying z lines' below) (sym d_is) (subst (λ (ls : List Direction). IsCarrying (record d { processes = processes }) ls below) (sym lines_are)
+    (carrying_same d (record d { processes = processes }) lines (slice_set lines from line') NoMore below below c (after_none d.config below) refl refl (omega arith) (end_was d.ends) (line_set lines from line line' is joiner held)))
+
+pub acknowledged_carries : (d : DifSeen) (lines : List Direction) (below : Seen) (at : ℕ) (cause : Option Cause) (d' : DifSeen) (lines' : List Direction) → IsCarrying d lines below → IsAcknowledged d lines at cause d' lines' → IsCarrying d' lines' below
+acknowledged_carries d lines below at cause d' lines' c s = row_carries d d' lines lines' below (slice_set d.processes s.i s.process') s.from s.line (after_ack true (constants d.config s.cube (flipped s.ids)) s.line) c s.inbound.is_line s.new_is s.lines_are (inl refl) (λ q x. x)
+
+pub resent_carries : (d : DifSeen) (lines : List Direction) (below : Seen) (at : ℕ) (cause : Option Cause) (d' : DifSeen) (lines' : List Direction) → IsCarrying d lines below → IsResent d lines at cause d' lines' → IsCarrying d' lines' below
+resent_carries d lines below at cause d' lines' c s = row_carries d d' lines lines' below (slice_set d.processes s.i s.process') at s.line (record s.line { line = again (constants d.config s.cube s.ids) s.number s.line.line }) c s.is_line s.new_is s.lines_are (inl refl) (λ q x. x)
+
+pub forgotten_carries : (d : DifSeen) (lines : List Direction) (below : Seen) (at : ℕ) (d' : DifSeen) (lines' : List Direction) → IsCarrying d lines below → IsForgotten d lines at d' lines' → IsCarrying d' lines' below
+forgotten_carries d lines below at d' lines' c s = row_carries d d' lines lines' below (slice_set d.processes s.i (with_offs s.process s.dropped)) s.from s.line (happens (constants d.config s.cube (flipped s.ids)) s.line Forget) c s.inbound.is_line s.new_is s.lines_are (inr refl) (λ q x. absurd x)

@@ -17,7 +17,7 @@ use Rattle.rina_law.specs.Direction.{Direction, entry_for, has_room}
 use Rattle.rina_law.specs.Line.{arrival_verdict}
 use Rattle.rina_law.specs.Lists.{In}
 use Rattle.rina_law.specs.Pdus.{piece_in}
-use Rattle.rina_law.specs.Pieces.{Joiner, Part, Sdu, IsSized}
+use Rattle.rina_law.specs.Pieces.{Joiner, Part, Sdu, IsSized, empty_joiner}
 use Rattle.rina_law.specs.Receiver.{Piece, Receiver, Verdict, Accepted, Held, Duplicate, Behind, NoState, NoRoom, is_present, receiver_after}
 use Rattle.rina_law.proofs.Lists.{from_on-in}
 use Rattle.rina_data.specs.Carried.{AreJoined, HasCome, HoldsCome, IsCarried, IsCarrying}
@@ -30,7 +30,7 @@ use Rattle.rina_data.proofs.After.{IsAfter}
 use Rattle.rina_data.proofs.Coming.{delivers}
 use Rattle.rina_data.proofs.Ends.{IsEndAt, at_end}
 use Rattle.rina_data.proofs.Finding.{beside}
-use Rattle.rina_data.proofs.Joined.{IsWholeOf, after_known}
+use Rattle.rina_data.proofs.Joined.{IsWholeOf, after_known, none_joined}
 use Rattle.rina_data.proofs.Journals.{IsConst, const_refl, partner_was, was_end}
 use Rattle.rina_data.proofs.Own.{map_at, one_partner, partner_back}
 
@@ -55,14 +55,16 @@ carried_later g more below below' ids x after c = record {
 joined_later : (size : ℕ) (known known' : ℕ → Part → Type 0) (j : Joiner) → ((n : ℕ) (part : Part) → known n part → known' n part) → AreJoined size known j → AreJoined size known' j
 joined_later size known known' j more h = record { parts = h.parts; is_open = h.is_open; count = h.count; bytes = h.bytes; each = λ k part x. more (j.from + k) part (h.each k part x) }
 
-holding_later : (g : Config) (more : Port → Entry → Type 0) (below below' : Seen) (ids : Ids) (now later : ℕ) (line line' : Direction) → IsAfter g more below below' → now ≤ later → line'.inbox.joiner ≡ line.inbox.joiner → line'.line.receiver.held ≡ line.line.receiver.held → HoldsCome g now below ids line → HoldsCome g later below' ids line'
+holding_later : (g : Config) (more : Port → Entry → Type 0) (below below' : Seen) (ids : Ids) (now later : ℕ) (line line' : Direction) → IsAfter g more below below' → now ≤ later → (line'.inbox.joiner ≡ line.inbox.joiner) ⊎ (line'.inbox.joiner ≡ empty_joiner) → ((q : Piece) → In q line'.line.receiver.held → In q line.line.receiver.held) → HoldsCome g now below ids line → HoldsCome g later below' ids line'
 holding_later g more below below' ids now later line line' after le joiner held h =
     let known : ℕ → Part → Type 0 = HasCome g below' ids later in
-    let still = λ (p : Piece) (i : In p line'.line.receiver.held). subst (λ (ps : List Piece). In p ps) held i in
     record {
-      joined = subst (AreJoined (piece_size g) known) (sym joiner) (joined_later (piece_size g) (HasCome g below ids now) known line.inbox.joiner (λ n part c. come_later g more below below' ids now later n part after le c) h.joined);
-      held = λ p i. come_later g more below below' ids now later p.number p.part after le (h.held p (still p i));
-      sized = λ p i. h.sized p (still p i);
+      joined = elim joiner [
+        | inl is ↦ subst (AreJoined (piece_size g) known) (sym is) (joined_later (piece_size g) (HasCome g below ids now) known line.inbox.joiner (λ n part c. come_later g more below below' ids now later n part after le c) h.joined)
+        | inr is ↦ subst (AreJoined (piece_size g) known) (sym is) (none_joined (piece_size g) known)
+      ];
+      held = λ p i. come_later g more below below' ids now later p.number p.part after le (h.held p (held p i));
+      sized = λ p i. h.sized p (held p i);
     }
 
 -- an end and a direction as they were, as far as what came is concerned
@@ -75,8 +77,8 @@ pub record WasEnd (ends : List End) (i : ℕ) (e' : End) : Type 0 where
 pub record WasLine (lines : List Direction) (i : ℕ) (line' : Direction) : Type 0 where
   pub line : Direction
   pub stood : slice_get lines i ≡ Some line
-  pub joiner : line'.inbox.joiner ≡ line.inbox.joiner
-  pub held : line'.line.receiver.held ≡ line.line.receiver.held
+  pub joiner : (line'.inbox.joiner ≡ line.inbox.joiner) ⊎ (line'.inbox.joiner ≡ empty_joiner)
+  pub held : (q : Piece) → In q line'.line.receiver.held → In q line.line.receiver.held
 
 inbound_was : (d d' : DifSeen) (lines lines' : List Direction) (e e' : End) (from : ℕ) (line line' : Direction) → ((i : ℕ) (a : End) → At d'.ends i a → WasEnd d.ends i a) → IsConst e e' → slice_get lines from ≡ Some line → IsInbound d' lines' e' from line' → IsInbound d lines e from line
 inbound_was d d' lines lines' e e' from line line' ends const is_line h =
@@ -101,7 +103,7 @@ pub end_was : (ends : List End) (i : ℕ) (e : End) → At ends i e → WasEnd e
 end_was ends i e h = record { end = e; stood = h; const = const_refl e; got = refl }
 
 pub line_was : (lines : List Direction) (i : ℕ) (line : Direction) → slice_get lines i ≡ Some line → WasLine lines i line
-line_was lines i line h = record { line = line; stood = h; joiner = refl; held = refl }
+line_was lines i line h = record { line = line; stood = h; joiner = inl refl; held = λ q x. x }
 
 pub end_set : (ends : List End) (at : ℕ) (e e' : End) → At ends at e → IsConst e e' → e'.got ≡ e.got → (i : ℕ) (a : End) → At (slice_set ends at e') i a → WasEnd ends i a
 end_set ends at e e' is const got i a h = elim (set_at ends at i e e' a is h) [
@@ -109,7 +111,7 @@ end_set ends at e e' is const got i a h = elim (set_at ends at i e e' a is h) [
   | inr f ↦ end_was ends i a f.1
 ]
 
-pub line_set : (lines : List Direction) (at : ℕ) (line line' : Direction) → slice_get lines at ≡ Some line → line'.inbox.joiner ≡ line.inbox.joiner → line'.line.receiver.held ≡ line.line.receiver.held → (i : ℕ) (l : Direction) → slice_get (slice_set lines at line') i ≡ Some l → WasLine lines i l
+pub line_set : (lines : List Direction) (at : ℕ) (line line' : Direction) → slice_get lines at ≡ Some line → (line'.inbox.joiner ≡ line.inbox.joiner) ⊎ (line'.inbox.joiner ≡ empty_joiner) → ((q : Piece) → In q line'.line.receiver.held → In q line.line.receiver.held) → (i : ℕ) (l : Direction) → slice_get (slice_set lines at line') i ≡ Some l → WasLine lines i l
 line_set lines at line line' is joiner held i l h = elim (set_at lines at i line line' l is h) [
   | inl t ↦ subst (WasLine lines i) (sym t.1) (record { line = line; stood = ap (slice_get lines) t.0 ∙ is; joiner = joiner; held = held })
   | inr f ↦ line_was lines i l f.1
@@ -161,7 +163,7 @@ delivered_to g more below below' ids k now p line got after clock got_is come si
     let v : Verdict = arrival_verdict k line.line p (has_room k line) in
     let present : Bool = is_present k line.line.clock line.line.receiver in
     let known : ℕ → Part → Type 0 = HasCome g below' ids now in
-    let later = holding_later g more below below' ids now now line line after (omega arith) refl refl h in
+    let later = holding_later g more below below' ids now now line line after (omega arith) (inl refl) (λ q x. x) h in
     let all = after_known (piece_size g) known v k.cube.kind present p line.line.receiver.held line.inbox.joiner sized come (λ q i. (later.held q i, later.sized q i)) later.joined in
     record {
       holds = record {
@@ -224,7 +226,7 @@ carrying_set d lines more below below' at from e e' ids partner line line' proce
               | inr f ↦
                   let o_is : o.0 ≡ a = end_same (slice_get d.ends i) o.0 a o.1 f.1 in
                   let old = c.holding i from' a ids' l (record { end = f.1; ids_are = a_conn.ids_are }) (record { partner = p.0; is_partner = p.1; partners = subst (IsPartner p.0) o_is partner'; is_line = u.1 }) in
-                  holding_later d.config more below below' ids' d.clock d.clock l l after (omega arith) refl refl old
+                  holding_later d.config more below below' ids' d.clock d.clock l l after (omega arith) (inl refl) (λ q x. x) old
             ]
           ];
     }

@@ -1,5 +1,5 @@
 -- The rows that come with time keep standing.
-use Rattle.std.proofs.Common.{◌≡◌, ◌≢◌, ℕ, zero, suc, ◌+◌, ◌-◌, ◌*◌, ◌^◌, ◌<◌, ◌≤◌, List, [], ◌∷◌, ◌++◌, length, length-set, slice_get, slice_set, Some, None, Option, true, false, refl, sym, ◌∙◌, ap, subst, arith, inl, inr, ◌⊎◌}
+use Rattle.std.proofs.Common.{◌≡◌, ℕ, ◌+◌, ◌-◌, ◌*◌, ◌^◌, ◌<◌, ◌≤◌, List, [], ◌∷◌, length-set, slice_get, slice_set, Some, None, Option, true, refl, sym, ◌∙◌, ap, subst, arith, inl, inr}
 use Rattle.rina_base.specs.declared.cause.Cause.{Cause}
 use Rattle.rina_base.specs.declared.cause.Cause.TheVariants as causes
 use Rattle.rina_base.specs.declared.pdu.Pdu.{Pdu}
@@ -13,22 +13,20 @@ use Rattle.rina_law.specs.Backed.{Covers, CoversBut}
 use Rattle.rina_law.specs.Constants.{Constants}
 use Rattle.rina_law.specs.Direction.{Direction, Forget, May, after_ack, happens, is_ack_due, right_of}
 use Rattle.rina_law.specs.DirectionHolds.{DirectionHolds}
-use Rattle.rina_law.specs.Line.{InFlight, again}
-use Rattle.rina_law.specs.Lists.{In}
+use Rattle.rina_law.specs.Line.{again}
 use Rattle.rina_law.specs.Pdus.{ack_in, piece_in}
 use Rattle.rina_law.specs.Receiver.{Piece, next_of}
 use Rattle.rina_law.specs.Sender.{Ack, again_due, piece_again}
 use Rattle.rina_law.proofs.Agreeing.{direction_ack, direction_again}
 use Rattle.rina_law.proofs.Lawfulness.{lawful_from, welcome_from}
-use Rattle.rina_pci.specs.Spelling.{pci_size}
 use Rattle.rina_queue.specs.declared.queue.Queued.{Queued}
 use Rattle.rina_data.specs.Cloud.{Cloud, Everywhere}
-use Rattle.rina_data.specs.Dif.{Config, DifSeen, Process, constants, cube_by, fac_of, with_offs, with_process, with_put}
-use Rattle.rina_data.specs.Ids.{Ids, IsFrom, flipped, pdu_of_ack, pdu_of_piece}
+use Rattle.rina_data.specs.Dif.{Config, DifSeen, Process, constants, cube_by, with_offs, with_process, with_put}
+use Rattle.rina_data.specs.Ids.{Ids, flipped, pdu_of_ack, pdu_of_piece}
 use Rattle.rina_data.specs.Incoming.{line_for}
-use Rattle.rina_data.specs.Standing.{AreIds, HasLink, IsConfig, IsConn, IsFit, IsFlow, IsItem, IsOwn, IsStanding}
+use Rattle.rina_data.specs.Standing.{AreIds, HasLink, IsConfig, IsFit, IsFlow, IsItem, IsOwn, IsStanding}
 use Rattle.rina_data.specs.Dif.{Link}
-use Rattle.rina_data.specs.Timely.{IsAcknowledged, IsForgotten, IsPosted, IsResent, Posts}
+use Rattle.rina_data.specs.Timely.{IsAcknowledged, IsForgotten, IsResent, Posts}
 use Rattle.rina_data.proofs.After.{NoMore, after_none}
 use Rattle.rina_data.proofs.Clouds.{NoItem, Requeued, cloud_after, covers_less}
 use Rattle.rina_data.proofs.Finding.{beside, cube_limits}
@@ -151,10 +149,10 @@ resent_stands d lines below at cause d' lines' st s =
     let fit = piece_fit d.config s.end s.ids s.cube (piece_again s.number s.line.line.sender) st.config (st.own.ids at s.end s.ids conn) s.is_home.is_cube (small_again k s.line s.number limits holds s.due) in
     let mpl = limits.mpl in
     let own = own_line d.config d.clock cloud cloud' d.ends d.conns lines st.own at s.line line' s.is_line
-        (λ j a b c f x y q h. main_again d.config d.clock cloud cloud' a b c s.ids f s.line s.cube s.number s.is_home.is_cube limits (ids_same (slice_get d.conns at) s.ids c conn.ids_are x.ids_are) s.due p.covers h)
-        (λ i a c ne x j b f y q mirror. again_others d.clock (d.clock + s.cube.mpl) cloud cloud' s.ids (piece_again s.number s.line.line.sender) c p.covers (λ own scep. ne (st.own.apart i at c s.ids x.ids_are conn.ids_are own scep))) in
+    (λ j a b c f x y q h. main_again d.config d.clock cloud cloud' a b c s.ids f s.line s.cube s.number s.is_home.is_cube limits (ids_same (slice_get d.conns at) s.ids c conn.ids_are x.ids_are) s.due p.covers h)
+    (λ i a c ne x j b f y q mirror. again_others d.clock (d.clock + s.cube.mpl) cloud cloud' s.ids (piece_again s.number s.line.line.sender) c p.covers (λ own scep. ne (st.own.apart i at c s.ids x.ids_are conn.ids_are own scep))) in
     subst (λ (z : DifSeen). IsStanding z lines' below) (sym s.new_is) (subst (λ (ls : List Direction). IsStanding (with_process d s.i s.process') ls below) (sym s.lines_are)
-      (posted_stands d lines (slice_set lines at line') below s.i s.cube.mpl pdu s.process' st p fit (omega arith) own))
+    (posted_stands d lines (slice_set lines at line') below s.i s.cube.mpl pdu s.process' st p fit (omega arith) own))
 
 -- ---- an acknowledgement
 
@@ -216,17 +214,17 @@ acknowledged_stands d lines below at cause d' lines' st s =
     let fit = ack_fit d.config s.end s.ids s.cube k ack refl st.config (st.own.ids at s.end s.ids conn) s.is_home.is_cube (small_ack k s.line limits holds s.due) in
     let mpl = limits.mpl in
     let own = own_line d.config d.clock cloud cloud' d.ends d.conns lines st.own s.from s.line line' s.inbound.is_line
-        (λ j a b c f x y q h.
-            let a_is : a ≡ partner = ends_same (slice_get d.ends s.from) a partner x.end s.inbound.is_partner in
-            let j_is : j ≡ at = one_partner d.clock d.ends j at b s.end partner st.journal y.end conn.end (partner_back partner b (subst (λ (z : End). IsPartner z b) a_is q)) (partner_back partner s.end s.inbound.partners) in
-            let f_is : f ≡ s.ids = ids_same (slice_get d.conns at) f s.ids (subst (λ (n : ℕ). slice_get d.conns n ≡ Some f) j_is y.ids_are) conn.ids_are in
-            main_acknowledged d.config d.clock cloud cloud' a b c s.ids f s.line s.cube s.is_home.is_cube limits f_is s.due p.covers h)
-        (λ i a c ne x j b f y q mirror. ack_others d.clock (d.clock + s.cube.mpl) cloud cloud' s.ids ack c f mirror p.covers (λ own scep.
-            let j_is : j ≡ at = st.own.apart j at f s.ids y.ids_are conn.ids_are own scep in
-            let b_is : b ≡ s.end = ends_same (slice_get d.ends at) b s.end (subst (λ (n : ℕ). slice_get d.ends n ≡ Some b) j_is y.end) conn.end in
-            ne (one_partner d.clock d.ends i s.from a partner s.end st.journal x.end s.inbound.is_partner (subst (IsPartner a) b_is q) s.inbound.partners))) in
+    (λ j a b c f x y q h.
+    let a_is : a ≡ partner = ends_same (slice_get d.ends s.from) a partner x.end s.inbound.is_partner in
+    let j_is : j ≡ at = one_partner d.clock d.ends j at b s.end partner st.journal y.end conn.end (partner_back partner b (subst (λ (z : End). IsPartner z b) a_is q)) (partner_back partner s.end s.inbound.partners) in
+    let f_is : f ≡ s.ids = ids_same (slice_get d.conns at) f s.ids (subst (λ (n : ℕ). slice_get d.conns n ≡ Some f) j_is y.ids_are) conn.ids_are in
+    main_acknowledged d.config d.clock cloud cloud' a b c s.ids f s.line s.cube s.is_home.is_cube limits f_is s.due p.covers h)
+    (λ i a c ne x j b f y q mirror. ack_others d.clock (d.clock + s.cube.mpl) cloud cloud' s.ids ack c f mirror p.covers (λ own scep.
+    let j_is : j ≡ at = st.own.apart j at f s.ids y.ids_are conn.ids_are own scep in
+    let b_is : b ≡ s.end = ends_same (slice_get d.ends at) b s.end (subst (λ (n : ℕ). slice_get d.ends n ≡ Some b) j_is y.end) conn.end in
+    ne (one_partner d.clock d.ends i s.from a partner s.end st.journal x.end s.inbound.is_partner (subst (IsPartner a) b_is q) s.inbound.partners))) in
     subst (λ (z : DifSeen). IsStanding z lines' below) (sym s.new_is) (subst (λ (ls : List Direction). IsStanding (with_process d s.i s.process') ls below) (sym s.lines_are)
-      (posted_stands d lines (slice_set lines s.from line') below s.i s.cube.mpl pdu s.process' st p fit (omega arith) own))
+    (posted_stands d lines (slice_set lines s.from line') below s.i s.cube.mpl pdu s.process' st p fit (omega arith) own))
 
 -- ---- what is given up with a state
 
@@ -251,12 +249,12 @@ forgotten_stands d lines below at d' lines' st s =
     let conn = s.is_home.is_conn in
     let partner = s.inbound.partner in
     let own = own_line d.config d.clock cloud cloud' d.ends d.conns lines st.own s.from s.line line' s.inbound.is_line
-        (λ j a b c f x y q h.
-            let a_is : a ≡ partner = ends_same (slice_get d.ends s.from) a partner x.end s.inbound.is_partner in
-            let j_is : j ≡ at = one_partner d.clock d.ends j at b s.end partner st.journal y.end conn.end (partner_back partner b (subst (λ (z : End). IsPartner z b) a_is q)) (partner_back partner s.end s.inbound.partners) in
-            let f_is : f ≡ s.ids = ids_same (slice_get d.conns at) f s.ids (subst (λ (n : ℕ). slice_get d.conns n ≡ Some f) j_is y.ids_are) conn.ids_are in
-            main_forgot d.config d.clock cloud cloud' a b c s.ids f s.line s.cube s.is_home.is_cube limits f_is s.gone covers h)
-        (λ i a c ne x j b f y q mirror. covered d.clock cloud cloud' c covers) in
+    (λ j a b c f x y q h.
+    let a_is : a ≡ partner = ends_same (slice_get d.ends s.from) a partner x.end s.inbound.is_partner in
+    let j_is : j ≡ at = one_partner d.clock d.ends j at b s.end partner st.journal y.end conn.end (partner_back partner b (subst (λ (z : End). IsPartner z b) a_is q)) (partner_back partner s.end s.inbound.partners) in
+    let f_is : f ≡ s.ids = ids_same (slice_get d.conns at) f s.ids (subst (λ (n : ℕ). slice_get d.conns n ≡ Some f) j_is y.ids_are) conn.ids_are in
+    main_forgot d.config d.clock cloud cloud' a b c s.ids f s.line s.cube s.is_home.is_cube limits f_is s.gone covers h)
+    (λ i a c ne x j b f y q mirror. covered d.clock cloud cloud' c covers) in
     subst (λ (z : DifSeen). IsStanding z lines' below) (sym s.new_is) (subst (λ (ls : List Direction). IsStanding (with_process d s.i process') ls below) (sym s.lines_are)
-      (stands_with d lines (slice_set lines s.from line') NoMore NoItem below below d.clock processes' d.ends st (after_none d.config below) st.clock (omega arith) (length-set d.processes s.i process') moved (same_links d.processes s.i s.process process' s.is_home.is_process refl)
-        (λ port x none. absurd none) (λ j n item none. absurd none) st.journal st.ports own))
+    (stands_with d lines (slice_set lines s.from line') NoMore NoItem below below d.clock processes' d.ends st (after_none d.config below) st.clock (omega arith) (length-set d.processes s.i process') moved (same_links d.processes s.i s.process process' s.is_home.is_process refl)
+    (λ port x none. absurd none) (λ j n item none. absurd none) st.journal st.ports own))

@@ -30,13 +30,14 @@ use Rattle.rina_data.specs.declared.step.StepError.TheVariants.{Memory, NoIpc, N
 use Rattle.rina_data.specs.declared.step.Took.{Took}
 use Rattle.rina_data.specs.declared.step.Took.TheVariants as took
 use Rattle.rina_data.specs.Cloud.{Hop}
-use Rattle.rina_data.specs.Dif.{DifSeen, Member, Process, constants, fac_of}
+use Rattle.rina_data.specs.Dif.{DifSeen, Member, Process, constants, fac_of, with_offs}
 use Rattle.rina_data.specs.Ids.{flipped}
 use Rattle.rina_data.specs.Incoming.{Ins, IsArrived, Settles, SettlesOff, arrived}
 use Rattle.rina_data.specs.Outgoing.{Outs}
 use Rattle.rina_data.specs.Passing.{IsPassed, IsTicked}
 use Rattle.rina_data.specs.Sending.{IsOffered, Offers, offered_entry}
 use Rattle.rina_data.specs.Standing.{IsStanding}
+use Rattle.rina_data.specs.Timely.{IsAcknowledged, IsForgotten, IsResent}
 use Rattle.rina_data.specs.Upward.{IsSilent}
 use Rattle.rina_data.proofs.Coming.{delivers}
 use Rattle.rina_data.proofs.Finding.{beside}
@@ -166,3 +167,12 @@ ticked_silent d lines now d' lines' s = subst (IsSilent d) (sym s.new_is) (recor
   where
     same_end : (i : ℕ) (e e' : End) → At d.ends i e' → At d.ends i e → (e'.sent ≡ e.sent) × (e'.taken ≡ e.taken)
     same_end i e e' y x = (let is : e' ≡ e = cc in (ap (λ (z : End). z.sent) is, ap (λ (z : End). z.taken) is))
+
+pub acknowledged_silent : (d : DifSeen) (lines : List Direction) (at : ℕ) (cause : Option Cause) (d' : DifSeen) (lines' : List Direction) → IsAcknowledged d lines at cause d' lines' → IsSilent d d'
+acknowledged_silent d lines at cause d' lines' s = noted_silent d d' (slice_set d.processes s.i s.process') s.new_is
+
+pub resent_silent : (d : DifSeen) (lines : List Direction) (at : ℕ) (cause : Option Cause) (d' : DifSeen) (lines' : List Direction) → IsResent d lines at cause d' lines' → IsSilent d d'
+resent_silent d lines at cause d' lines' s = noted_silent d d' (slice_set d.processes s.i s.process') s.new_is
+
+pub forgotten_silent : (d : DifSeen) (lines : List Direction) (at : ℕ) (d' : DifSeen) (lines' : List Direction) → IsForgotten d lines at d' lines' → IsSilent d d'
+forgotten_silent d lines at d' lines' s = noted_silent d d' (slice_set d.processes s.i (with_offs s.process s.dropped)) s.new_is

@@ -1,6 +1,7 @@
 -- The laws of one DIF over any facility. Each speaks of plain records: the DIF before and after a call, the directions
 -- that stand behind its flows, and the rank below.
 use Rattle.std.specs.Prelude.{◌≡◌, ℕ, List, Some, Option, Result}
+use Rattle.rina_base.specs.declared.cause.Cause.{Cause}
 use Rattle.rina_base.specs.declared.number.Num.{Num}
 use Rattle.rina_base.specs.declared.number.Port.{Port}
 use Rattle.rina_iface.specs.declared.ends.End.{End}
@@ -27,6 +28,7 @@ use Rattle.rina_data.specs.Passing.{IsPassed, IsTicked}
 use Rattle.rina_data.specs.Sending.{Offers}
 use Rattle.rina_data.specs.Standing.{IsStanding}
 use Rattle.rina_data.specs.Start.{IsStart}
+use Rattle.rina_data.specs.Timely.{IsAcknowledged, IsForgotten, IsResent}
 use Rattle.rina_data.specs.Upward.{IsFacility, IsSilent}
 
 -- Standing: it holds before anything was sent, and after each call
@@ -50,6 +52,19 @@ abbrev pub InStepsStand : Type 0
 InStepsStand = (d : DifSeen) (lines : List Direction) (below : Seen) (i n : ℕ) (result : Result InStep StepError) (d' : DifSeen) (lines' : List Direction) (below' : Seen) →
     AreKept below → AreKept below' → IsStanding d lines below → Ins d lines below i n result d' lines' below' → IsStanding d' lines' below'
 
+-- and after each row that comes with time
+abbrev pub AcknowledgingStands : Type 0
+AcknowledgingStands = (d : DifSeen) (lines : List Direction) (below : Seen) (at : ℕ) (cause : Option Cause) (d' : DifSeen) (lines' : List Direction) →
+    IsStanding d lines below → IsAcknowledged d lines at cause d' lines' → IsStanding d' lines' below
+
+abbrev pub ResendingStands : Type 0
+ResendingStands = (d : DifSeen) (lines : List Direction) (below : Seen) (at : ℕ) (cause : Option Cause) (d' : DifSeen) (lines' : List Direction) →
+    IsStanding d lines below → IsResent d lines at cause d' lines' → IsStanding d' lines' below
+
+abbrev pub ForgettingStands : Type 0
+ForgettingStands = (d : DifSeen) (lines : List Direction) (below : Seen) (at : ℕ) (d' : DifSeen) (lines' : List Direction) →
+    IsStanding d lines below → IsForgotten d lines at d' lines' → IsStanding d' lines' below
+
 -- What the ends got has come, piece by piece: at the start, and after each call
 
 abbrev pub StartCarries : Type 0
@@ -70,6 +85,18 @@ OutStepsCarry = (refuses : Port → ℕ → Option SendError) (d : DifSeen) (lin
 abbrev pub InStepsCarry : Type 0
 InStepsCarry = (d : DifSeen) (lines : List Direction) (below : Seen) (i n : ℕ) (result : Result InStep StepError) (d' : DifSeen) (lines' : List Direction) (below' : Seen) →
     AreKept below → AreKept below' → IsStanding d lines below → IsCarrying d lines below → Ins d lines below i n result d' lines' below' → IsCarrying d' lines' below'
+
+abbrev pub AcknowledgingCarries : Type 0
+AcknowledgingCarries = (d : DifSeen) (lines : List Direction) (below : Seen) (at : ℕ) (cause : Option Cause) (d' : DifSeen) (lines' : List Direction) →
+    IsCarrying d lines below → IsAcknowledged d lines at cause d' lines' → IsCarrying d' lines' below
+
+abbrev pub ResendingCarries : Type 0
+ResendingCarries = (d : DifSeen) (lines : List Direction) (below : Seen) (at : ℕ) (cause : Option Cause) (d' : DifSeen) (lines' : List Direction) →
+    IsCarrying d lines below → IsResent d lines at cause d' lines' → IsCarrying d' lines' below
+
+abbrev pub ForgettingCarries : Type 0
+ForgettingCarries = (d : DifSeen) (lines : List Direction) (below : Seen) (at : ℕ) (d' : DifSeen) (lines' : List Direction) →
+    IsCarrying d lines below → IsForgotten d lines at d' lines' → IsCarrying d' lines' below
 
 -- and as the rank below goes on, whoever sends or takes there
 abbrev pub TimeCarries : Type 0
@@ -141,3 +168,12 @@ InStepsAreSilent = (d : DifSeen) (lines : List Direction) (below : Seen) (i n : 
 
 abbrev pub TimeIsSilent : Type 0
 TimeIsSilent = (d : DifSeen) (lines : List Direction) (now : ℕ) (d' : DifSeen) (lines' : List Direction) → IsTicked d lines now d' lines' → IsSilent d d'
+
+abbrev pub AcknowledgingIsSilent : Type 0
+AcknowledgingIsSilent = (d : DifSeen) (lines : List Direction) (at : ℕ) (cause : Option Cause) (d' : DifSeen) (lines' : List Direction) → IsAcknowledged d lines at cause d' lines' → IsSilent d d'
+
+abbrev pub ResendingIsSilent : Type 0
+ResendingIsSilent = (d : DifSeen) (lines : List Direction) (at : ℕ) (cause : Option Cause) (d' : DifSeen) (lines' : List Direction) → IsResent d lines at cause d' lines' → IsSilent d d'
+
+abbrev pub ForgettingIsSilent : Type 0
+ForgettingIsSilent = (d : DifSeen) (lines : List Direction) (at : ℕ) (d' : DifSeen) (lines' : List Direction) → IsForgotten d lines at d' lines' → IsSilent d d'

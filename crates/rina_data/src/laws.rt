@@ -3,7 +3,7 @@
 //! lost, repeated or delayed. Of the rank below they use the laws of a facility, and of its cubes that each SDU that
 //! came was sent, and came in time.
 ghost use Rattle.rina_data.specs.Partners.{EachIsMet};
-ghost use Rattle.rina_data.specs.Laws.{StartStands, SendsStand, PassesStand, OutStepsStand, InStepsStand, StartCarries, SendsCarry, PassesCarry, OutStepsCarry, InStepsCarry, TimeCarries, BesideCarries, SendsOfOthersCarry, PassesOfOthersCarry, TimeStands, BesideStands, SendsOfOthersStand, OutStepsOfOthersStand, InStepsOfOthersStand, CloudIsCovered, CloudLaw, StandingKeeps, SendsAreLater, PassesAreLater, OutStepsAreSilent, InStepsAreSilent, TimeIsSilent};
+ghost use Rattle.rina_data.specs.Laws.{StartStands, SendsStand, PassesStand, OutStepsStand, InStepsStand, AcknowledgingStands, ResendingStands, ForgettingStands, StartCarries, SendsCarry, PassesCarry, OutStepsCarry, InStepsCarry, AcknowledgingCarries, ResendingCarries, ForgettingCarries, TimeCarries, BesideCarries, SendsOfOthersCarry, PassesOfOthersCarry, TimeStands, BesideStands, SendsOfOthersStand, OutStepsOfOthersStand, InStepsOfOthersStand, CloudIsCovered, CloudLaw, StandingKeeps, SendsAreLater, PassesAreLater, OutStepsAreSilent, InStepsAreSilent, AcknowledgingIsSilent, ResendingIsSilent, ForgettingIsSilent, TimeIsSilent};
 
 /// Whatever an end of a kept facility got has a sender: its partner, of whose entries it is born.
 pub fn each_entry_has_a_sender()
@@ -17,6 +17,9 @@ pub fn calls_keep_standing()
     ensures pass { PassesStand }
     ensures out { OutStepsStand }
     ensures in_ { InStepsStand }
+    ensures acknowledge { AcknowledgingStands }
+    ensures resend { ResendingStands }
+    ensures forget { ForgettingStands }
 {}
 
 /// Whatever an end got has come to its IPC process from the rank below, piece by piece, by the tick at which it was
@@ -27,6 +30,9 @@ pub fn what_was_got_has_come()
     ensures pass { PassesCarry }
     ensures out { OutStepsCarry }
     ensures in_ { InStepsCarry }
+    ensures acknowledge { AcknowledgingCarries }
+    ensures resend { ResendingCarries }
+    ensures forget { ForgettingCarries }
     ensures time { TimeCarries }
     ensures beside { BesideCarries }
     ensures others_send { SendsOfOthersCarry }
@@ -61,5 +67,8 @@ pub fn calls_are_later()
     ensures pass { PassesAreLater }
     ensures out { OutStepsAreSilent }
     ensures in_ { InStepsAreSilent }
+    ensures acknowledge { AcknowledgingIsSilent }
+    ensures resend { ResendingIsSilent }
+    ensures forget { ForgettingIsSilent }
     ensures time { TimeIsSilent }
 {}

@@ -1,4 +1,4 @@
-use Rattle.rina_data.proofs.Upper.{ins_silent, offers_later, outs_silent, passed_later, ticked_silent}
+use Rattle.rina_data.proofs.Upper.{acknowledged_silent, forgotten_silent, ins_silent, resent_silent, offers_later, outs_silent, passed_later, ticked_silent}
 use Rattle.rina_data.proofs.laws.calls_are_later.Goals as goal
 
 pub returns-clause-send : goal.returns-clause-send
@@ -15,3 +15,12 @@ returns-clause-in_ c = ins_silent
 
 pub returns-clause-time : goal.returns-clause-time
 returns-clause-time c = ticked_silent
+
+pub returns-clause-acknowledge : goal.returns-clause-acknowledge
+returns-clause-acknowledge c = acknowledged_silent
+
+pub returns-clause-resend : goal.returns-clause-resend
+returns-clause-resend c = resent_silent
+
+pub returns-clause-forget : goal.returns-clause-forget
+returns-clause-forget c = forgotten_silent

@@ -1,3 +1,4 @@
+use Rattle.rina_data.proofs.Rows.{acknowledged_stands, forgotten_stands, resent_stands}
 use Rattle.rina_data.proofs.Coming.{ins_stand}
 use Rattle.rina_data.proofs.Giving.{offers_stand}
 use Rattle.rina_data.proofs.Going.{outs_stand}
@@ -19,3 +20,12 @@ returns-clause-out c = outs_stand
 
 pub returns-clause-in_ : goal.returns-clause-in_
 returns-clause-in_ c = ins_stand
+
+pub returns-clause-acknowledge : goal.returns-clause-acknowledge
+returns-clause-acknowledge c = acknowledged_stands
+
+pub returns-clause-resend : goal.returns-clause-resend
+returns-clause-resend c = resent_stands
+
+pub returns-clause-forget : goal.returns-clause-forget
+returns-clause-forget c = forgotten_stands

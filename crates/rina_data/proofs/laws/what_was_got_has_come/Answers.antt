@@ -1,4 +1,4 @@
-use Rattle.rina_data.proofs.Carries.{beside_carries, ins_carry, offers_carry, outs_carry, passed_carries, passes_of_others_carry, sends_of_others_carry, start_carries, time_carries}
+use Rattle.rina_data.proofs.Carries.{acknowledged_carries, beside_carries, forgotten_carries, resent_carries, ins_carry, offers_carry, outs_carry, passed_carries, passes_of_others_carry, sends_of_others_carry, start_carries, time_carries}
 use Rattle.rina_data.proofs.laws.what_was_got_has_come.Goals as goal
 
 pub returns-clause-start : goal.returns-clause-start
@@ -27,3 +27,12 @@ returns-clause-others_send c = sends_of_others_carry
 
 pub returns-clause-others_pass : goal.returns-clause-others_pass
 returns-clause-others_pass c = passes_of_others_carry
+
+pub returns-clause-acknowledge : goal.returns-clause-acknowledge
+returns-clause-acknowledge c = acknowledged_carries
+
+pub returns-clause-resend : goal.returns-clause-resend
+returns-clause-resend c = resent_carries
+
+pub returns-clause-forget : goal.returns-clause-forget
+returns-clause-forget c = forgotten_carries
