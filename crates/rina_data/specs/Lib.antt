@@ -1,6 +1,7 @@
 pub mod Carried
 pub mod Cloud
 pub mod Dif
+pub mod Hops
 pub mod Ids
 pub mod Incoming
 pub mod Laws
