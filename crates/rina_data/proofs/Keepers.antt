@@ -29,7 +29,7 @@ flow_keeps g now cloud a b c f line config h =
     subst (λ (xs : List Entry). Keeps h.cube.kind (promise_of h.cube) xs b.got) h.sent (subst (λ (xs : List Entry). Keeps h.cube.kind (promise_of h.cube) line.sent xs) h.got k)
 
 -- the offer of an id is that of its cube
-offered_by : (id : ℕ) (cubes : List Cube) → cube_in (map offer_of cubes) id ≡ option_map offer_of (cube_by id cubes)
+pub offered_by : (id : ℕ) (cubes : List Cube) → cube_in (map offer_of cubes) id ≡ option_map offer_of (cube_by id cubes)
 offered_by id [] = refl
 offered_by id (c ∷ cs) = go (eqb c.id id) (offered_by id cs)
   where

@@ -5,7 +5,9 @@ pub mod Carrying
 pub mod Clouds
 pub mod Coming
 pub mod Ends
+pub mod Facades
 pub mod Finding
+pub mod Finishing
 pub mod Flows
 pub mod Frame
 pub mod Giving

@@ -81,6 +81,27 @@ module _ (g : Config) (now : ℕ) (cloud cloud' : ℕ → Pdu → Type 0) (ends 
       flows = flows;
     }
 
+    -- the end alone, in what no direction knows of
+    pub own_restated : e'.sent ≡ e.sent → e'.got ≡ e.got → e'.taken ≡ e.taken → Covers now cloud cloud' → IsOwn g now cloud' (slice_set ends at e') conns lines
+    own_restated sent got taken covers = own_with lines refl (λ i k a b c f m x y z p.
+        let all = covered now cloud cloud' c covers in
+        elim (conn_cases i a c x) [
+          | inl s ↦
+              let z' : slice_get lines at ≡ Some m = subst (λ (n : ℕ). slice_get lines n ≡ Some m) s.0 z in
+              elim (conn_cases k b f y) [
+                | inl t ↦ absurd (p.other_role (ap (λ (v : End). v.role) (t.1 ∙ sym s.1)))
+                | inr t ↦
+                    let p' : IsPartner e b = partner_was e b e' b const (const_refl b) (subst (λ (v : End). IsPartner v b) s.1 p) in
+                    flow_kept g now cloud cloud' e b a b c f m all.pieces all.acks (ap (λ (v : End). v.sent) s.1 ∙ sent) refl refl (own.flows at k e b c f m s.2 t.1 z' p')
+              ]
+          | inr s ↦ elim (conn_cases k b f y) [
+            | inl t ↦
+                let p' : IsPartner a e = partner_was a e a e' (const_refl a) const (subst (λ (v : End). IsPartner a v) t.1 p) in
+                flow_kept g now cloud cloud' a e a b c f m all.pieces all.acks refl (ap (λ (v : End). v.got) t.1 ∙ got) (ap (λ (v : End). v.taken) t.1 ∙ taken) (own.flows i at a e c f m s.1 t.2 z p')
+            | inr t ↦ flow_kept g now cloud cloud' a b a b c f m all.pieces all.acks refl refl refl (own.flows i k a b c f m s.1 t.1 z p)
+          ]
+        ])
+
     -- the end and the direction in which it sends
     pub own_sent : (line line' : Direction) → slice_get lines at ≡ Some line → e'.got ≡ e.got → e'.taken ≡ e.taken
         → ((k : ℕ) (b : End) (c f : Ids) → IsConn ends conns at e c → IsConn ends conns k b f → IsPartner e b → IsFlow g now cloud e b c f line → IsFlow g now cloud' e' b c f line')

@@ -6,20 +6,23 @@ use Rattle.rina_base.specs.declared.number.Num.{Num}
 use Rattle.rina_base.specs.declared.number.Port.{Port}
 use Rattle.rina_iface.specs.declared.ends.End.{End}
 use Rattle.rina_iface.specs.declared.error.SendError.{SendError}
+use Rattle.rina_iface.specs.declared.state.PortState.{PortState}
 use Rattle.rina_iface.specs.Journal.{AreKept}
 use Rattle.rina_iface.specs.Later.{IsLater, IsLaterFac}
 use Rattle.rina_iface.specs.Pass.{IsPassed as PassesBelow}
 use Rattle.rina_iface.specs.Seen.{Seen, end_of}
-use Rattle.rina_iface.specs.Send.{IsSent}
+use Rattle.rina_iface.specs.Send.{IsSent, Sends}
 use Rattle.rina_law.specs.Backed.{Covers}
 use Rattle.rina_law.specs.Direction.{Direction}
-use Rattle.rina_law.specs.Pieces.{Part}
+use Rattle.rina_law.specs.Pieces.{Part, join}
 use Rattle.rina_data.specs.declared.step.InStep.{InStep}
 use Rattle.rina_data.specs.declared.step.OutStep.{OutStep}
 use Rattle.rina_data.specs.declared.step.StepError.{StepError}
 use Rattle.rina_data.specs.Carried.{IsCarrying}
 use Rattle.rina_data.specs.Cloud.{Cloud, Everywhere, IsMine, WholeCloud}
 use Rattle.rina_data.specs.Dif.{DifSeen, fac_of}
+use Rattle.rina_data.specs.Ending.{IsEnded}
+use Rattle.rina_data.specs.Facade.{IsShown, own_refusal, shown}
 use Rattle.rina_data.specs.Incoming.{Ins}
 use Rattle.rina_data.specs.Lifting.{IsLifted}
 use Rattle.rina_data.specs.Others.{AreApart}
@@ -65,6 +68,11 @@ abbrev pub ForgettingStands : Type 0
 ForgettingStands = (d : DifSeen) (lines : List Direction) (below : Seen) (at : ℕ) (d' : DifSeen) (lines' : List Direction) →
     IsStanding d lines below → IsForgotten d lines at d' lines' → IsStanding d' lines' below
 
+-- and after a flow ended at one of its ends
+abbrev pub EndingStands : Type 0
+EndingStands = (d : DifSeen) (lines : List Direction) (below : Seen) (at : ℕ) (state : PortState) (d' : DifSeen) →
+    IsStanding d lines below → IsEnded d lines at state d' → IsStanding d' lines below
+
 -- What the ends got has come, piece by piece: at the start, and after each call
 
 abbrev pub StartCarries : Type 0
@@ -97,6 +105,10 @@ ResendingCarries = (d : DifSeen) (lines : List Direction) (below : Seen) (at : �
 abbrev pub ForgettingCarries : Type 0
 ForgettingCarries = (d : DifSeen) (lines : List Direction) (below : Seen) (at : ℕ) (d' : DifSeen) (lines' : List Direction) →
     IsCarrying d lines below → IsForgotten d lines at d' lines' → IsCarrying d' lines' below
+
+abbrev pub EndingCarries : Type 0
+EndingCarries = (d : DifSeen) (lines : List Direction) (below : Seen) (at : ℕ) (state : PortState) (d' : DifSeen) →
+    IsCarrying d lines below → IsEnded d lines at state d' → IsCarrying d' lines below
 
 -- and as the rank below goes on, whoever sends or takes there
 abbrev pub TimeCarries : Type 0
@@ -177,3 +189,16 @@ ResendingIsSilent = (d : DifSeen) (lines : List Direction) (at : ℕ) (cause : O
 
 abbrev pub ForgettingIsSilent : Type 0
 ForgettingIsSilent = (d : DifSeen) (lines : List Direction) (at : ℕ) (d' : DifSeen) (lines' : List Direction) → IsForgotten d lines at d' lines' → IsSilent d d'
+
+abbrev pub EndingIsSilent : Type 0
+EndingIsSilent = (d : DifSeen) (lines : List Direction) (at : ℕ) (state : PortState) (d' : DifSeen) → IsEnded d lines at state d' → IsSilent d d'
+
+-- a send and a pass are those of every facility, at the rank that shows the DIF
+
+abbrev pub SendsAreSends : Type 0
+SendsAreSends = (s : Seen) (d : DifSeen) (lines : List Direction) (below : Seen) (port : Port) (at : ℕ) (end : End) (parts : List Part) (result : Result Num SendError) (d' : DifSeen) (lines' : List Direction) →
+    IsStanding d lines below → IsShown s d port at end → Offers d lines at parts result d' lines' → Sends (own_refusal d lines at end parts) s port (join parts) result (shown s port d')
+
+abbrev pub PassesArePasses : Type 0
+PassesArePasses = (s : Seen) (d : DifSeen) (lines : List Direction) (port : Port) (at : ℕ) (end : End) (d' : DifSeen) (lines' : List Direction) →
+    IsShown s d port at end → IsPassed d lines at d' lines' → PassesBelow s port (shown s port d')

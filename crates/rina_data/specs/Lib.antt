@@ -1,6 +1,8 @@
 pub mod Carried
 pub mod Cloud
 pub mod Dif
+pub mod Ending
+pub mod Facade
 pub mod Hops
 pub mod Ids
 pub mod Incoming

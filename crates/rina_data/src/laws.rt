@@ -3,7 +3,7 @@
 //! lost, repeated or delayed. Of the rank below they use the laws of a facility, and of its cubes that each SDU that
 //! came was sent, and came in time.
 ghost use Rattle.rina_data.specs.Partners.{EachIsMet};
-ghost use Rattle.rina_data.specs.Laws.{StartStands, SendsStand, PassesStand, OutStepsStand, InStepsStand, AcknowledgingStands, ResendingStands, ForgettingStands, StartCarries, SendsCarry, PassesCarry, OutStepsCarry, InStepsCarry, AcknowledgingCarries, ResendingCarries, ForgettingCarries, TimeCarries, BesideCarries, SendsOfOthersCarry, PassesOfOthersCarry, TimeStands, BesideStands, SendsOfOthersStand, OutStepsOfOthersStand, InStepsOfOthersStand, CloudIsCovered, CloudLaw, StandingKeeps, SendsAreLater, PassesAreLater, OutStepsAreSilent, InStepsAreSilent, AcknowledgingIsSilent, ResendingIsSilent, ForgettingIsSilent, TimeIsSilent};
+ghost use Rattle.rina_data.specs.Laws.{StartStands, SendsStand, PassesStand, OutStepsStand, InStepsStand, AcknowledgingStands, ResendingStands, ForgettingStands, EndingStands, StartCarries, SendsCarry, PassesCarry, OutStepsCarry, InStepsCarry, AcknowledgingCarries, ResendingCarries, ForgettingCarries, EndingCarries, TimeCarries, BesideCarries, SendsOfOthersCarry, PassesOfOthersCarry, TimeStands, BesideStands, SendsOfOthersStand, OutStepsOfOthersStand, InStepsOfOthersStand, CloudIsCovered, CloudLaw, StandingKeeps, SendsAreLater, PassesAreLater, OutStepsAreSilent, InStepsAreSilent, AcknowledgingIsSilent, ResendingIsSilent, ForgettingIsSilent, EndingIsSilent, TimeIsSilent, SendsAreSends, PassesArePasses};
 
 /// Whatever an end of a kept facility got has a sender: its partner, of whose entries it is born.
 pub fn each_entry_has_a_sender()
@@ -20,6 +20,7 @@ pub fn calls_keep_standing()
     ensures acknowledge { AcknowledgingStands }
     ensures resend { ResendingStands }
     ensures forget { ForgettingStands }
+    ensures end { EndingStands }
 {}
 
 /// Whatever an end got has come to its IPC process from the rank below, piece by piece, by the tick at which it was
@@ -33,6 +34,7 @@ pub fn what_was_got_has_come()
     ensures acknowledge { AcknowledgingCarries }
     ensures resend { ResendingCarries }
     ensures forget { ForgettingCarries }
+    ensures end { EndingCarries }
     ensures time { TimeCarries }
     ensures beside { BesideCarries }
     ensures others_send { SendsOfOthersCarry }
@@ -70,5 +72,13 @@ pub fn calls_are_later()
     ensures acknowledge { AcknowledgingIsSilent }
     ensures resend { ResendingIsSilent }
     ensures forget { ForgettingIsSilent }
+    ensures end { EndingIsSilent }
     ensures time { TimeIsSilent }
+{}
+
+/// At a rank that shows the DIF as one of its facilities, a send and a pass are what they are on every facility: with
+/// the same refusals, in the same order.
+pub fn calls_are_those_of_a_facility()
+    ensures send { SendsAreSends }
+    ensures pass { PassesArePasses }
 {}

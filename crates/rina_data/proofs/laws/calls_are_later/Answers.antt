@@ -1,3 +1,4 @@
+use Rattle.rina_data.proofs.Finishing.{ended_silent}
 use Rattle.rina_data.proofs.Upper.{acknowledged_silent, forgotten_silent, ins_silent, resent_silent, offers_later, outs_silent, passed_later, ticked_silent}
 use Rattle.rina_data.proofs.laws.calls_are_later.Goals as goal
 
@@ -24,3 +25,6 @@ returns-clause-resend c = resent_silent
 
 pub returns-clause-forget : goal.returns-clause-forget
 returns-clause-forget c = forgotten_silent
+
+pub returns-clause-end : goal.returns-clause-end
+returns-clause-end c = ended_silent

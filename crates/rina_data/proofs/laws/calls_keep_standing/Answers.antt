@@ -1,3 +1,4 @@
+use Rattle.rina_data.proofs.Finishing.{ended_stands}
 use Rattle.rina_data.proofs.Rows.{acknowledged_stands, forgotten_stands, resent_stands}
 use Rattle.rina_data.proofs.Coming.{ins_stand}
 use Rattle.rina_data.proofs.Giving.{offers_stand}
@@ -29,3 +30,6 @@ returns-clause-resend c = resent_stands
 
 pub returns-clause-forget : goal.returns-clause-forget
 returns-clause-forget c = forgotten_stands
+
+pub returns-clause-end : goal.returns-clause-end
+returns-clause-end c = ended_stands

@@ -1,3 +1,4 @@
+use Rattle.rina_data.proofs.Finishing.{ended_carries}
 use Rattle.rina_data.proofs.Carries.{acknowledged_carries, beside_carries, forgotten_carries, resent_carries, ins_carry, offers_carry, outs_carry, passed_carries, passes_of_others_carry, sends_of_others_carry, start_carries, time_carries}
 use Rattle.rina_data.proofs.laws.what_was_got_has_come.Goals as goal
 
@@ -36,3 +37,6 @@ returns-clause-resend c = resent_carries
 
 pub returns-clause-forget : goal.returns-clause-forget
 returns-clause-forget c = forgotten_carries
+
+pub returns-clause-end : goal.returns-clause-end
+returns-clause-end c = ended_carries
