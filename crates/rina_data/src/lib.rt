@@ -1,0 +1,15 @@
+//! The data transfer of a distributed IPC facility (DIF): what its IPC processes queue, send, relay and take, over
+//! any facility below.
+#![tactic(auto)]
+
+mod hop;
+mod laws;
+mod step;
+
+pub use hop::{HopView, charge, left_after, open, protect};
+pub use laws::{
+    calls_are_later, calls_are_those_of_a_facility, calls_keep_standing, each_entry_has_a_sender,
+    the_cloud_only_shrinks, the_rank_below_keeps_standing, what_stands_is_a_facility,
+    what_was_got_has_come,
+};
+pub use step::{InStep, OutStep, StepError, Took};

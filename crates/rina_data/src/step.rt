@@ -1,0 +1,47 @@
+//! What the steps of an IPC process answer.
+use rina_base::{Cause, Key};
+use rina_iface::SendError;
+
+/// What became of a PDU that an IPC process took from a link.
+#[derive(Clone, Copy, Debug, PartialEq, Eq)]
+pub enum Took {
+    /// It was for this IPC process.
+    Accepted,
+    /// It waits in the queue of the next hop.
+    Relayed,
+    /// It was written off.
+    Off(Cause),
+}
+
+/// What an IPC process did with the oldest SDU of a link.
+#[derive(Clone, Copy, Debug, PartialEq, Eq)]
+pub enum InStep {
+    /// No SDU waits there.
+    Idle,
+    /// The PDU in it was taken.
+    Took { key: Key, end: Took },
+}
+
+/// What an IPC process did with the PDUs that wait for a link.
+#[derive(Clone, Copy, Debug, PartialEq, Eq)]
+pub enum OutStep {
+    /// No PDU waits there.
+    Idle,
+    /// The PDU was sent on the flow below.
+    Sent { key: Key },
+    /// The PDU was written off.
+    Off { key: Key, cause: Cause },
+    /// The flow below refused the PDU for now, so it stays first.
+    Held { why: SendError },
+}
+
+/// Why a step was not taken.
+#[derive(Clone, Copy, Debug, PartialEq, Eq)]
+pub enum StepError {
+    /// Memory was not found.
+    Memory,
+    /// The facility has no IPC process at that node.
+    NoIpc,
+    /// The IPC process has no live link of that number.
+    NoLink,
+}
