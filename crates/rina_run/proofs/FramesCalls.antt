@@ -1,6 +1,5 @@
--- Each call of wires keeps what holds of their frames.
-use Rattle.std.proofs.Common.{◌≡◌, ℕ, ◌+◌, List, [], ◌∷◌, map, slice_get, Some, None, Option, option_map, IsSome, Result, Ok, Err, refl, sym, ◌∙◌, subst, inl, inr, arith}
-use Rattle.std.proofs.lemmas.List.Elements.{All-cons, All-nil}
+-- Each call of wires keeps a frame carried, unless it touches it.
+use Rattle.std.proofs.Common.{◌≡◌, ◌≢◌, ℕ, ◌+◌, ◌==◌, Bool, false, List, [], ◌∷◌, map, slice_get, Some, None, Option, option_and_then, option_map, IsSome, Result, Ok, Err, refl, sym, ◌∙◌, subst, inl, inr}
 use Rattle.std.proofs.lemmas.Option.{slice_get-map}
 use Rattle.rina_base.specs.declared.number.Num.{Num}
 use Rattle.rina_base.specs.declared.number.Port.{Port}
@@ -14,160 +13,226 @@ use Rattle.rina_iface.specs.declared.error.SendError.{SendError}
 use Rattle.rina_iface.specs.declared.error.SendError.TheVariants as sends
 use Rattle.rina_iface.specs.declared.state.PortState.TheVariants.{Allocated}
 use Rattle.rina_iface.specs.Allocate.{asker_end, far_end}
-use Rattle.rina_iface.specs.Ends.{place_in}
+use Rattle.rina_iface.specs.Ends.{place_in, with_passed}
+use Rattle.rina_iface.specs.Journal.{At}
 use Rattle.rina_iface.specs.Seen.{oldest_in, unpassed}
 use Rattle.rina_iface.proofs.Changed.{all_at, set_at}
+use Rattle.rina_iface.proofs.Grown.{still_at}
 use Rattle.rina_stack.specs.declared.plan.Plan.{Plan}
+use Rattle.rina_wire.specs.declared.event.WireError.{WireError}
+use Rattle.rina_wire.specs.declared.event.WireError.TheVariants as wires
+use Rattle.rina_wire.specs.declared.flight.Flight.{Flight}
 use Rattle.rina_wire.specs.Air.{Air, Line, on_end, on_wire, put, put_at, put_end, seen_of, wire_at}
 use Rattle.rina_wire.specs.Allocate.{AllocatesOn, flow_made, flow_on, other_node, port_on}
 use Rattle.rina_wire.specs.Claim.{ClaimsOn, without}
+use Rattle.rina_wire.specs.Disturb.{HoldsOn, LosesOn, RepeatsOn, copy_place, due_at, held, lost, moved, repeated, with_copy, without_copy}
 use Rattle.rina_wire.specs.Plan.{IsSoundPlan, air_of, line_of}
 use Rattle.rina_wire.specs.Register.{RegistersOn, named}
 use Rattle.rina_wire.specs.Send.{SendsOn, passed, passed_at, sent_from}
-use Rattle.rina_wire.specs.Sound.{IsSound, IsSoundLine, KeepsFlows, site_of}
+use Rattle.rina_wire.specs.Sound.{IsSound, IsSoundLine, KeepsFlows}
 use Rattle.rina_wire.specs.Tick.{TicksOn, line_ticked}
 use Rattle.rina_wire.proofs.Carried.{waits_on}
+use Rattle.rina_wire.proofs.FlowMade.{sent_before}
 use Rattle.rina_wire.proofs.Kept.{is_mapped}
 use Rattle.rina_wire.proofs.Sound.{sound_claims, sound_passed}
 use Rattle.rina_wire.proofs.SoundAllocate.{sound_allocates}
+use Rattle.rina_wire.proofs.SoundDisturb.{sound_holds, sound_loses, sound_repeats}
 use Rattle.rina_wire.proofs.SoundRegister.{sound_registers}
 use Rattle.rina_wire.proofs.SoundSend.{sound_sends}
 use Rattle.rina_wire.proofs.SoundTick.{sound_ticks}
 use Rattle.rina_wire.proofs.Start.{sound_start}
-use Rattle.rina_run.proofs.FramesKept.{AreCarried, IsDue, IsNew, carried_more, carried_passed, carried_sent}
-use Rattle.rina_run.proofs.FramesTick.{carried_ticked}
+use Rattle.rina_run.specs.Frames.{copies_of}
+use Rattle.rina_run.proofs.FramesKept.{Carries, alike_ends, carry_on, carry_sent, set_back, set_on}
+use Rattle.rina_run.proofs.FramesLists.{differ, first_at, push_no, remove_no, set_no}
+use Rattle.rina_run.proofs.FramesTick.{GoesOpen, carry_ticked}
 
--- what holds of the frames of a wire
-abbrev pub Carries : ℕ → Line → Type 0
-Carries now l = AreCarried now l.delay l.ends l.flights
+-- frame k of wire `fac` is carried
+abbrev pub Frame : ℕ → ℕ → Air → Type 0
+Frame fac k a = (l : Line) → wire_at a fac ≡ Some l → Carries k a.now l
 
--- what holds of the frames of all wires
-abbrev pub AllCarry : Air → Type 0
-AllCarry a = (n : ℕ) (l : Line) → wire_at a n ≡ Some l → Carries a.now l
-
--- the wires are sound, and carry their frames
-pub record IsCarrying (a : Air) : Type 0 where
+-- the wires are sound, and the frame is carried
+pub record IsCarrying (fac k : ℕ) (a : Air) : Type 0 where
   pub sound : IsSound a
-  pub frames : AllCarry a
+  pub frame : Frame fac k a
 
 -- ---- a change of one wire, and of one end
 
-carry_put : (a : Air) (fac : ℕ) (change : Line → Line) (o : Option Line) → wire_at a fac ≡ o → AllCarry a → ((l : Line) → wire_at a fac ≡ Some l → Carries a.now l → Carries a.now (change l)) → (n : ℕ) (l : Line) → slice_get (put a.wires fac (option_map change o)) n ≡ Some l → Carries a.now l
-carry_put a fac change None h all keep n l is = all n l is
-carry_put a fac change (Some k) h all keep n l is = elim (set_at a.wires fac n k (change k) l h is) [
-  | inl t ↦ rw t.1 (keep k h (all fac k h))
-  | inr f ↦ all n l f.1
+carry_put : (fac k : ℕ) (a : Air) (wire : ℕ) (change : Line → Line) (o : Option Line) → wire_at a wire ≡ o → Frame fac k a → ((l : Line) → wire ≡ fac → wire_at a wire ≡ Some l → Carries k a.now l → Carries k a.now (change l)) → (l : Line) → slice_get (put a.wires wire (option_map change o)) fac ≡ Some l → Carries k a.now l
+carry_put fac k a wire change None h c keep l is = c l is
+carry_put fac k a wire change (Some m) h c keep l is = elim (set_at a.wires wire fac m (change m) l h is) [
+  | inl t ↦ rw t.1 (keep m (sym t.0) h (c m (rw t.0 h)))
+  | inr f ↦ c l f.1
 ]
 
-carry_wire : (a : Air) (fac : ℕ) (change : Line → Line) → AllCarry a → ((l : Line) → wire_at a fac ≡ Some l → Carries a.now l → Carries a.now (change l)) → AllCarry (on_wire a fac change)
-carry_wire a fac change all keep = carry_put a fac change (wire_at a fac) refl all keep
+carry_wire : (fac k : ℕ) (a : Air) (wire : ℕ) (change : Line → Line) → Frame fac k a → ((l : Line) → wire ≡ fac → wire_at a wire ≡ Some l → Carries k a.now l → Carries k a.now (change l)) → Frame fac k (on_wire a wire change)
+carry_wire fac k a wire change c keep = carry_put fac k a wire change (wire_at a wire) refl c keep
 
-carry_place : (now : ℕ) (l : Line) (change : Line → ℕ → End → Line) (o : Option ℕ) → ((i : ℕ) (e : End) → slice_get l.ends i ≡ Some e → Carries now (change l i e)) → Carries now l → Carries now (put_end change l o)
-carry_place now l change None keep c = c
-carry_place now l change (Some i) keep c = elim (slice_get l.ends i) as (λ o. slice_get l.ends i ≡ o → Carries now (put_at change l i o)) [ None ↦ λ h. c | Some e ↦ λ h. keep i e h ] refl
+carry_place : (k now : ℕ) (l : Line) (change : Line → ℕ → End → Line) (o : Option ℕ) → ((i : ℕ) (e : End) → slice_get l.ends i ≡ Some e → Carries k now (change l i e)) → Carries k now l → Carries k now (put_end change l o)
+carry_place k now l change None keep c = c
+carry_place k now l change (Some i) keep c = elim (slice_get l.ends i) as (λ o. slice_get l.ends i ≡ o → Carries k now (put_at change l i o)) [ None ↦ λ h. c | Some e ↦ λ h. keep i e h ] refl
 
-carry_end : (a : Air) (port : Port) (change : Line → ℕ → End → Line) → AllCarry a → ((l : Line) (i : ℕ) (e : End) → wire_at a port.fac ≡ Some l → slice_get l.ends i ≡ Some e → Carries a.now l → Carries a.now (change l i e)) → AllCarry (on_end a port change)
-carry_end a port change all keep = carry_wire a port.fac (λ (l : Line). put_end change l (place_in port l.ends)) all (λ l h c. carry_place a.now l change (place_in port l.ends) (λ i e at. keep l i e h at c) c)
+carry_end : (fac k : ℕ) (a : Air) (port : Port) (change : Line → ℕ → End → Line) → Frame fac k a → ((l : Line) (i : ℕ) (e : End) → wire_at a port.fac ≡ Some l → slice_get l.ends i ≡ Some e → Carries k a.now l → Carries k a.now (change l i e)) → Frame fac k (on_end a port change)
+carry_end fac k a port change c keep = carry_wire fac k a port.fac (λ (l : Line). put_end change l (place_in port l.ends)) c (λ l same h d. carry_place k a.now l change (place_in port l.ends) (λ i e at. keep l i e h at d) d)
 
--- ---- the calls
+-- ---- register
 
-carry_registers : (a : Air) (fac node : ℕ) (app : List ℕ) (r : Result (Unit {0}) RegisterError) (a' : Air) → AllCarry a → RegistersOn a fac node app r a' → AllCarry a'
-carry_registers a fac node app (Ok done) a' c g = subst AllCarry (sym g.air) (carry_wire a fac (named node app) c (λ l h k. k))
-carry_registers a fac node app (Err names.Memory) a' c g = subst AllCarry (sym g) c
-carry_registers a fac node app (Err names.Already) a' c g = subst AllCarry (sym g.air) c
-carry_registers a fac node app (Err names.NoMember) a' c g = subst AllCarry (sym g.air) c
-carry_registers a fac node app (Err (names.CountSpent n k)) a' c g = subst AllCarry (sym g.air) c
+carry_registers : (fac k : ℕ) (a : Air) (wire node : ℕ) (app : List ℕ) (r : Result (Unit {0}) RegisterError) (a' : Air) → Frame fac k a → RegistersOn a wire node app r a' → Frame fac k a'
+carry_registers fac k a wire node app (Ok done) a' c g = subst (Frame fac k) (sym g.air) (carry_wire fac k a wire (named node app) c (λ l same h d. carry_on k a.now l (named node app l) (alike_ends k l (named node app l) refl refl refl) d))
+carry_registers fac k a wire node app (Err names.Memory) a' c g = subst (Frame fac k) (sym g) c
+carry_registers fac k a wire node app (Err names.Already) a' c g = subst (Frame fac k) (sym g.air) c
+carry_registers fac k a wire node app (Err names.NoMember) a' c g = subst (Frame fac k) (sym g.air) c
+carry_registers fac k a wire node app (Err (names.CountSpent n m)) a' c g = subst (Frame fac k) (sym g.air) c
 
-pub keeps_registers : (a : Air) (fac node : ℕ) (app : List ℕ) (r : Result (Unit {0}) RegisterError) (a' : Air) → IsCarrying a → RegistersOn a fac node app r a' → IsCarrying a'
-keeps_registers a fac node app r a' c g = record { sound = sound_registers a fac node app r a' c.sound g; frames = carry_registers a fac node app r a' c.frames g }
+pub keeps_registers : (fac k : ℕ) (a : Air) (wire node : ℕ) (app : List ℕ) (r : Result (Unit {0}) RegisterError) (a' : Air) → IsCarrying fac k a → RegistersOn a wire node app r a' → IsCarrying fac k a'
+keeps_registers fac k a wire node app r a' c g = record { sound = sound_registers a wire node app r a' c.sound g; frame = carry_registers fac k a wire node app r a' c.frame g }
 
-carry_flow : (now : ℕ) (ask : Ask) (l : Line) → Carries now l → Carries now (flow_made now ask l)
-carry_flow now ask l c =
+-- ---- allocate
+
+carry_flow : (k now : ℕ) (ask : Ask) (l : Line) → Carries k now l → Carries k now (flow_made now ask l)
+carry_flow k now ask l c =
     let flow = flow_on l now ask.node in
     let x = asker_end flow (port_on l ask.fac ask.node) ask 0 Allocated in
     let y = far_end flow (port_on l ask.fac (other_node l ask.node)) ask 0 in
-    let new_x : IsNew x = record { state = refl; sent = refl; got = refl } in
-    let new_y : IsNew y = record { state = refl; sent = refl; got = refl } in
-    carried_more now l.delay l.ends (x ∷ y ∷ []) l.flights (All-cons IsNew x (y ∷ []) new_x (All-cons IsNew y [] new_y (All-nil IsNew))) c
+    carry_on k now l (flow_made now ask l) (record {
+      delay = refl;
+      back = λ i j e z h is n. let old = sent_before l.ends x y i j e z refl refl h is in record { end = e; stands = old; place = j; is = is };
+      on = λ i e h. record { end = e; stands = still_at l.ends (x ∷ y ∷ []) i e h; its = refl };
+      copies = refl;
+    }) c
 
-carry_allocates : (a : Air) (ask : Ask) (r : Result Port AllocateError) (a' : Air) → AllCarry a → AllocatesOn a ask r a' → AllCarry a'
-carry_allocates a ask (Ok port) a' c g = subst AllCarry (sym g.goes.air) (carry_wire a ask.fac (flow_made a.now ask) c (λ l h k. carry_flow a.now ask l k))
-carry_allocates a ask (Err asks.Memory) a' c g = subst AllCarry (sym g) c
-carry_allocates a ask (Err asks.NoMember) a' c g = subst AllCarry (sym g.air) c
-carry_allocates a ask (Err asks.NoCube) a' c g = subst AllCarry (sym g.air) c
-carry_allocates a ask (Err asks.NoSuchApp) a' c g = subst AllCarry (sym g.air) c
-carry_allocates a ask (Err asks.SameSystem) a' c g = subst AllCarry (sym g.air) c
-carry_allocates a ask (Err (asks.NoIds used)) a' c g = subst AllCarry (sym g.air) c
-carry_allocates a ask (Err (asks.NoRoute dst)) a' c g = subst AllCarry (sym g.air) c
-carry_allocates a ask (Err (asks.Busy port)) a' c g = subst AllCarry (sym g.air) c
-carry_allocates a ask (Err (asks.CountSpent n k)) a' c g = subst AllCarry (sym g.air) c
+carry_allocates : (fac k : ℕ) (a : Air) (ask : Ask) (r : Result Port AllocateError) (a' : Air) → Frame fac k a → AllocatesOn a ask r a' → Frame fac k a'
+carry_allocates fac k a ask (Ok port) a' c g = subst (Frame fac k) (sym g.goes.air) (carry_wire fac k a ask.fac (flow_made a.now ask) c (λ l same h d. carry_flow k a.now ask l d))
+carry_allocates fac k a ask (Err asks.Memory) a' c g = subst (Frame fac k) (sym g) c
+carry_allocates fac k a ask (Err asks.NoMember) a' c g = subst (Frame fac k) (sym g.air) c
+carry_allocates fac k a ask (Err asks.NoCube) a' c g = subst (Frame fac k) (sym g.air) c
+carry_allocates fac k a ask (Err asks.NoSuchApp) a' c g = subst (Frame fac k) (sym g.air) c
+carry_allocates fac k a ask (Err asks.SameSystem) a' c g = subst (Frame fac k) (sym g.air) c
+carry_allocates fac k a ask (Err (asks.NoIds used)) a' c g = subst (Frame fac k) (sym g.air) c
+carry_allocates fac k a ask (Err (asks.NoRoute dst)) a' c g = subst (Frame fac k) (sym g.air) c
+carry_allocates fac k a ask (Err (asks.Busy port)) a' c g = subst (Frame fac k) (sym g.air) c
+carry_allocates fac k a ask (Err (asks.CountSpent n m)) a' c g = subst (Frame fac k) (sym g.air) c
 
-pub keeps_allocates : (a : Air) (ask : Ask) (r : Result Port AllocateError) (a' : Air) → IsCarrying a → AllocatesOn a ask r a' → IsCarrying a'
-keeps_allocates a ask r a' c g = record { sound = sound_allocates a ask r a' c.sound g; frames = carry_allocates a ask r a' c.frames g }
+pub keeps_allocates : (fac k : ℕ) (a : Air) (ask : Ask) (r : Result Port AllocateError) (a' : Air) → IsCarrying fac k a → AllocatesOn a ask r a' → IsCarrying fac k a'
+keeps_allocates fac k a ask r a' c g = record { sound = sound_allocates a ask r a' c.sound g; frame = carry_allocates fac k a ask r a' c.frame g }
 
-carry_without : (now : ℕ) (l : Line) (o : Option ℕ) → Carries now l → Carries now (without l o)
-carry_without now l None c = c
-carry_without now l (Some at) c = c
+-- ---- incoming
 
-pub keeps_claims : (a : Air) (fac node : ℕ) (app : List ℕ) (r : Option Port) (a' : Air) → IsCarrying a → ClaimsOn a fac node app r a' → IsCarrying a'
-keeps_claims a fac node app r a' c g =
-    let frames = carry_wire a fac (λ (l : Line). without l (oldest_in l.ends l.waiting node app)) c.frames (λ l h k. carry_without a.now l (oldest_in l.ends l.waiting node app) k) in
-    record { sound = sound_claims a fac node app r a' c.sound g; frames = subst AllCarry (sym g.air) frames }
+carry_without : (k now : ℕ) (l : Line) (o : Option ℕ) → Carries k now l → Carries k now (without l o)
+carry_without k now l None c = c
+carry_without k now l (Some at) c = carry_on k now l (without l (Some at)) (alike_ends k l (without l (Some at)) refl refl refl) c
 
-carry_sent : (a : Air) (fac : ℕ) (bytes : List ℕ) (l : Line) (i : ℕ) (e : End) → IsSound a → wire_at a fac ≡ Some l → slice_get l.ends i ≡ Some e → Carries a.now l → Carries a.now (sent_from a.now bytes l i e)
-carry_sent a fac bytes l i e s h at c =
-    let line : IsSoundLine l = all_at IsSoundLine a.wires fac l s.lines h in
-    let flows : KeepsFlows a.now a.failed fac l = s.flows fac l h in
-    carried_sent a.now bytes l i e (omega (arith, line.least_delay)) (λ k x hx. (flows.sound.each k x hx).sent) at c
+pub keeps_claims : (fac k : ℕ) (a : Air) (wire node : ℕ) (app : List ℕ) (r : Option Port) (a' : Air) → IsCarrying fac k a → ClaimsOn a wire node app r a' → IsCarrying fac k a'
+keeps_claims fac k a wire node app r a' c g =
+    let frame = carry_wire fac k a wire (λ (l : Line). without l (oldest_in l.ends l.waiting node app)) c.frame (λ l same h d. carry_without k a.now l (oldest_in l.ends l.waiting node app) d) in
+    record { sound = sound_claims a wire node app r a' c.sound g; frame = subst (Frame fac k) (sym g.air) frame }
 
-carry_sends : (a : Air) (port : Port) (bytes : List ℕ) (r : Result Num SendError) (a' : Air) → IsSound a → AllCarry a → SendsOn a port bytes r a' → AllCarry a'
-carry_sends a port bytes (Ok num) a' s c g = subst AllCarry (sym g.goes.air) (carry_end a port (sent_from a.now bytes) c (λ l i e h at k. carry_sent a port.fac bytes l i e s h at k))
-carry_sends a port bytes (Err sends.Memory) a' s c g = subst AllCarry (sym g) c
-carry_sends a port bytes (Err (sends.NotAllocated state)) a' s c g = subst AllCarry (sym g.air) c
-carry_sends a port bytes (Err (sends.Failed fail)) a' s c g = subst AllCarry (sym g.air) c
-carry_sends a port bytes (Err (sends.TooLong len max)) a' s c g = subst AllCarry (sym g.air) c
-carry_sends a port bytes (Err (sends.WindowShut n k)) a' s c g = subst AllCarry (sym g.air) c
-carry_sends a port bytes (Err (sends.NoRoute dst)) a' s c g = subst AllCarry (sym g.air) c
-carry_sends a port bytes (Err (sends.QueueFull n k)) a' s c g = subst AllCarry (sym g.air) c
-carry_sends a port bytes (Err (sends.NumbersSpent until)) a' s c g = subst AllCarry (sym g.air) c
+-- ---- send
 
-pub keeps_sends : (a : Air) (port : Port) (bytes : List ℕ) (r : Result Num SendError) (a' : Air) → IsCarrying a → SendsOn a port bytes r a' → IsCarrying a'
-keeps_sends a port bytes r a' c g = record { sound = sound_sends a port bytes r a' c.sound g; frames = carry_sends a port bytes r a' c.sound c.frames g }
+carry_frame : (k : ℕ) (a : Air) (wire : ℕ) (bytes : List ℕ) (l : Line) (i : ℕ) (e : End) → IsSound a → a.failed ≡ false → wire_at a wire ≡ Some l → slice_get l.ends i ≡ Some e → Carries k a.now l → Carries k a.now (sent_from a.now bytes l i e)
+carry_frame k a wire bytes l i e s alive h at c = carry_sent k a.now a.failed wire bytes l i e (all_at IsSoundLine a.wires wire l s.lines h) (s.flows wire l h) alive at c
 
-pub keeps_passed : (a : Air) (port : Port) → IsSome (unpassed (seen_of a) port) → IsCarrying a → IsCarrying (passed a port)
-keeps_passed a port w c = record {
+carry_sends : (fac k : ℕ) (a : Air) (port : Port) (bytes : List ℕ) (r : Result Num SendError) (a' : Air) → IsSound a → Frame fac k a → SendsOn a port bytes r a' → Frame fac k a'
+carry_sends fac k a port bytes (Ok num) a' s c g = subst (Frame fac k) (sym g.goes.air) (carry_end fac k a port (sent_from a.now bytes) c (λ l i e h at d. carry_frame k a port.fac bytes l i e s g.goes.alive h at d))
+carry_sends fac k a port bytes (Err sends.Memory) a' s c g = subst (Frame fac k) (sym g) c
+carry_sends fac k a port bytes (Err (sends.NotAllocated state)) a' s c g = subst (Frame fac k) (sym g.air) c
+carry_sends fac k a port bytes (Err (sends.Failed fail)) a' s c g = subst (Frame fac k) (sym g.air) c
+carry_sends fac k a port bytes (Err (sends.TooLong len max)) a' s c g = subst (Frame fac k) (sym g.air) c
+carry_sends fac k a port bytes (Err (sends.WindowShut n m)) a' s c g = subst (Frame fac k) (sym g.air) c
+carry_sends fac k a port bytes (Err (sends.NoRoute dst)) a' s c g = subst (Frame fac k) (sym g.air) c
+carry_sends fac k a port bytes (Err (sends.QueueFull n m)) a' s c g = subst (Frame fac k) (sym g.air) c
+carry_sends fac k a port bytes (Err (sends.NumbersSpent until)) a' s c g = subst (Frame fac k) (sym g.air) c
+
+pub keeps_sends : (fac k : ℕ) (a : Air) (port : Port) (bytes : List ℕ) (r : Result Num SendError) (a' : Air) → IsCarrying fac k a → SendsOn a port bytes r a' → IsCarrying fac k a'
+keeps_sends fac k a port bytes r a' c g = record { sound = sound_sends a port bytes r a' c.sound g; frame = carry_sends fac k a port bytes r a' c.sound c.frame g }
+
+-- ---- pass
+
+carry_pass : (k now : ℕ) (l : Line) (i : ℕ) (e : End) → At l.ends i e → Carries k now l → Carries k now (passed_at l i e)
+carry_pass k now l i e there c = carry_on k now l (passed_at l i e) (record {
+  delay = refl;
+  back = λ p j d x h is n. set_back l.ends i e (with_passed e) k p j d x there refl h is;
+  on = λ p d h. set_on l.ends i e (with_passed e) p d there refl h;
+  copies = refl;
+}) c
+
+pub keeps_passed : (fac k : ℕ) (a : Air) (port : Port) → IsSome (unpassed (seen_of a) port) → IsCarrying fac k a → IsCarrying fac k (passed a port)
+keeps_passed fac k a port w c = record {
   sound = sound_passed a port c.sound (waits_on a port w);
-  frames = carry_end a port passed_at c.frames (λ l i e h at k. carried_passed a.now l.delay l.ends l.flights i e at k);
+  frame = carry_end fac k a port passed_at c.frame (λ l i e h at d. carry_pass k a.now l i e at d);
 }
 
-carry_ticked : (a : Air) (n : ℕ) (l : Line) → IsCarrying a → slice_get (map (line_ticked (a.now + 1)) a.wires) n ≡ Some l → Carries (a.now + 1) l
-carry_ticked a n l c h =
-    let w = is_mapped (line_ticked (a.now + 1)) (wire_at a n) l (sym (slice_get-map (line_ticked (a.now + 1)) a.wires n) ∙ h) in
-    let flows : KeepsFlows a.now a.failed n w.0 = c.sound.flows n w.0 w.1 in
-    subst (Carries (a.now + 1)) w.2 (carried_ticked (site_of n w.0) a.now (a.now + 1) w.0.delay w.0.frames w.0.flows w.0.ends w.0.flights refl flows.pairs flows.sound (c.frames n w.0 w.1))
+-- ---- tick
 
-pub keeps_tick : (a a' : Air) → IsCarrying a → TicksOn a (Ok tt) a' → IsCarrying a'
-keeps_tick a a' c g = record {
+opens : (k now : ℕ) (failed : Bool) (fac : ℕ) (l : Line) → KeepsFlows now failed fac l → GoesOpen k l
+opens k now failed fac l flows c other one stands = (flows.sound.each c.to other stands).state
+
+carry_tick : (fac k : ℕ) (a : Air) (l : Line) → IsCarrying fac k a → slice_get (map (line_ticked (a.now + 1)) a.wires) fac ≡ Some l → Carries k (a.now + 1) l
+carry_tick fac k a l c h =
+    let w = is_mapped (line_ticked (a.now + 1)) (wire_at a fac) l (sym (slice_get-map (line_ticked (a.now + 1)) a.wires fac) ∙ h) in
+    subst (Carries k (a.now + 1)) w.2 (carry_ticked k a.now (a.now + 1) w.0 refl (opens k a.now a.failed fac w.0 (c.sound.flows fac w.0 w.1)) (c.frame w.0 w.1))
+
+pub keeps_tick : (fac k : ℕ) (a a' : Air) → IsCarrying fac k a → TicksOn a (Ok tt) a' → IsCarrying fac k a'
+keeps_tick fac k a a' c g = record {
   sound = sound_ticks a (Ok tt) a' c.sound g;
-  frames = subst AllCarry (sym g.air) (λ n l h. carry_ticked a n l c h);
+  frame = subst (Frame fac k) (sym g.air) (λ l h. carry_tick fac k a l c h);
 }
+
+-- ---- events of wires
+
+-- other copies of the frame than before, of which none is another's
+copies_alike : (k now : ℕ) (l : Line) (fs : List Flight) → copies_of k fs ≡ copies_of k l.flights → Carries k now l → Carries k now (record l { flights = fs })
+copies_alike k now l fs same c = carry_on k now l (record l { flights = fs }) (alike_ends k l (record l { flights = fs }) refl refl same) c
+
+carry_lost : (k now frame : ℕ) (l : Line) (o : Option ℕ) → frame ≢ k → copy_place frame l.flights ≡ o → Carries k now l → Carries k now (without_copy l o)
+carry_lost k now frame l None ne h c = c
+carry_lost k now frame l (Some place) ne h c =
+    let first = first_at frame l.flights place h in
+    copies_alike k now l _ (remove_no (λ (f : Flight). f.frame == k) l.flights place first.copy first.stands (differ first.copy.frame k (λ same. ne (sym first.its ∙ same)))) c
+
+carry_loses : (fac k : ℕ) (a : Air) (wire frame : ℕ) (r : Result (Unit {0}) WireError) (a' : Air) → (wire ≡ fac → frame ≢ k) → Frame fac k a → LosesOn a wire frame r a' → Frame fac k a'
+carry_loses fac k a wire frame (Ok done) a' ne c g = subst (Frame fac k) (sym g.air) (carry_wire fac k a wire (lost frame) c (λ l same h d. carry_lost k a.now frame l (copy_place frame l.flights) (ne same) refl d))
+carry_loses fac k a wire frame (Err e) a' ne c g = subst (Frame fac k) (sym g.air) c
+
+pub keeps_loses : (fac k : ℕ) (a : Air) (wire frame : ℕ) (r : Result (Unit {0}) WireError) (a' : Air) → (wire ≡ fac → frame ≢ k) → IsCarrying fac k a → LosesOn a wire frame r a' → IsCarrying fac k a'
+keeps_loses fac k a wire frame r a' ne c g = record { sound = sound_loses a wire frame r a' c.sound g; frame = carry_loses fac k a wire frame r a' ne c.frame g }
+
+carry_held : (k now frame at : ℕ) (l : Line) (o : Option ℕ) → frame ≢ k → copy_place frame l.flights ≡ o → Carries k now l → Carries k now (moved at l o)
+carry_held k now frame at l None ne h c = c
+carry_held k now frame at l (Some place) ne h c =
+    let first = first_at frame l.flights place h in
+    let other : (first.copy.frame == k) ≡ false = differ first.copy.frame k (λ same. ne (sym first.its ∙ same)) in
+    rw first.stands (copies_alike k now l _ (set_no (λ (f : Flight). f.frame == k) l.flights place first.copy (due_at at first.copy) first.stands other other) c)
+
+carry_holds : (fac k : ℕ) (a : Air) (wire frame at : ℕ) (r : Result (Unit {0}) WireError) (a' : Air) → (wire ≡ fac → frame ≢ k) → Frame fac k a → HoldsOn a wire frame at r a' → Frame fac k a'
+carry_holds fac k a wire frame at (Ok done) a' ne c g = subst (Frame fac k) (sym g.air) (carry_wire fac k a wire (held frame at) c (λ l same h d. carry_held k a.now frame at l (copy_place frame l.flights) (ne same) refl d))
+carry_holds fac k a wire frame at (Err e) a' ne c g = subst (Frame fac k) (sym g.air) c
+
+pub keeps_holds : (fac k : ℕ) (a : Air) (wire frame at : ℕ) (r : Result (Unit {0}) WireError) (a' : Air) → (wire ≡ fac → frame ≢ k) → IsCarrying fac k a → HoldsOn a wire frame at r a' → IsCarrying fac k a'
+keeps_holds fac k a wire frame at r a' ne c g = record { sound = sound_holds a wire frame at r a' c.sound g; frame = carry_holds fac k a wire frame at r a' ne c.frame g }
+
+carry_repeated : (k now frame at : ℕ) (l : Line) (o : Option ℕ) → frame ≢ k → copy_place frame l.flights ≡ o → Carries k now l → Carries k now (with_copy at l (option_and_then (λ i. slice_get l.flights i) o))
+carry_repeated k now frame at l None ne h c = c
+carry_repeated k now frame at l (Some place) ne h c =
+    let first = first_at frame l.flights place h in
+    rw first.stands (copies_alike k now l _ (push_no (λ (f : Flight). f.frame == k) l.flights (due_at at first.copy) (differ first.copy.frame k (λ same. ne (sym first.its ∙ same)))) c)
+
+carry_repeats : (fac k : ℕ) (a : Air) (wire frame at : ℕ) (r : Result (Unit {0}) WireError) (a' : Air) → (wire ≡ fac → frame ≢ k) → Frame fac k a → RepeatsOn a wire frame at r a' → Frame fac k a'
+carry_repeats fac k a wire frame at (Ok done) a' ne c g = subst (Frame fac k) (sym g.air) (carry_wire fac k a wire (repeated frame at) c (λ l same h d. carry_repeated k a.now frame at l (copy_place frame l.flights) (ne same) refl d))
+carry_repeats fac k a wire frame at (Err wires.Memory) a' ne c g = subst (Frame fac k) (sym g) c
+carry_repeats fac k a wire frame at (Err wires.NoWire) a' ne c g = subst (Frame fac k) (sym g.air) c
+carry_repeats fac k a wire frame at (Err (wires.NoFrame n)) a' ne c g = subst (Frame fac k) (sym g.air) c
+carry_repeats fac k a wire frame at (Err (wires.EarlyHold now)) a' ne c g = subst (Frame fac k) (sym g.air) c
+carry_repeats fac k a wire frame at (Err (wires.LateHold last)) a' ne c g = subst (Frame fac k) (sym g.air) c
+
+pub keeps_repeats : (fac k : ℕ) (a : Air) (wire frame at : ℕ) (r : Result (Unit {0}) WireError) (a' : Air) → (wire ≡ fac → frame ≢ k) → IsCarrying fac k a → RepeatsOn a wire frame at r a' → IsCarrying fac k a'
+keeps_repeats fac k a wire frame at r a' ne c g = record { sound = sound_repeats a wire frame at r a' c.sound g; frame = carry_repeats fac k a wire frame at r a' ne c.frame g }
 
 -- ---- at the start
 
-carry_none : (now : ℕ) (l : Line) → l.ends ≡ [] → l.flights ≡ [] → Carries now l
-carry_none now l e f = rw (e, f) (record {
-  states = λ i x h. cc;
-  got = λ i j x y h hy. cc;
-  once = λ i x h. cc;
-  copies = All-nil (IsDue now l.delay []);
-  apart = tt;
-  sent = λ i j x y h hy. cc;
-})
-
-pub carrying_start : (plan : Plan) → IsSoundPlan plan → IsCarrying (air_of plan)
-carrying_start plan s = record {
+pub carrying_start : (fac k : ℕ) (plan : Plan) → IsSoundPlan plan → IsCarrying fac k (air_of plan)
+carrying_start fac k plan s = record {
   sound = sound_start plan s;
-  frames = λ n l h.
-      let w = is_mapped line_of (slice_get plan.wires n) l (sym (slice_get-map line_of plan.wires n) ∙ h) in
-      subst (Carries 0) w.2 (carry_none 0 (line_of w.0) refl refl);
+  frame = λ l h.
+      let w = is_mapped line_of (slice_get plan.wires fac) l (sym (slice_get-map line_of plan.wires fac) ∙ h) in
+      subst (Carries k 0) w.2 (λ i j e x none is n. cc);
 }

@@ -1,170 +1,124 @@
 -- The frames of whole runs.
-use Rattle.std.proofs.Common.{◌≡◌, ◌≢◌, ℕ, zero, suc, ◌+◌, ◌<◌, ◌≤◌, nat_lt, Bool, true, false, List, [], ◌∷◌, length, get_or, slice_get, Some, None, Option, Result, Ok, Err, refl, sym, ◌∙◌, ap, subst, inl, inr, arith}
-use Rattle.std.proofs.lemmas.Option.{same_Some, slice_get-get_or, slice_get_within}
-use Rattle.rina_base.specs.declared.number.Num.{Num}
+use Rattle.std.proofs.Common.{◌≡◌, ℕ, zero, suc, ◌+◌, nat_lt, Bool, true, false, List, [], ◌∷◌, ◌++◌, append_assoc, length, length-append, slice_get, take, Some, None, Option, Result, Ok, Err, refl, sym, ◌∙◌, ap, subst, arith}
+use Rattle.std.proofs.lemmas.List.{append-nil}
 use Rattle.rina_base.specs.declared.number.Port.{Port}
 use Rattle.rina_law.specs.declared.entry.Entry.{Entry}
-use Rattle.rina_iface.specs.declared.ends.End.{End}
-use Rattle.rina_iface.specs.Journal.{At}
-use Rattle.rina_iface.proofs.Changed.{all_at}
 use Rattle.rina_report.specs.declared.note.Note.{Note}
 use Rattle.rina_report.specs.declared.said.Said.{Said}
 use Rattle.rina_schedule.specs.declared.error.LineError.{LineError}
 use Rattle.rina_schedule.specs.declared.event.Event.{Event}
 use Rattle.rina_schedule.specs.declared.event.Event.TheVariants as events
 use Rattle.rina_stack.specs.declared.plan.Plan.{Plan}
-use Rattle.rina_wire.specs.declared.flight.Flight.{Flight}
-use Rattle.rina_wire.specs.Air.{Air, Line}
-use Rattle.rina_wire.specs.Send.{frame_number, mate, passed}
-use Rattle.rina_wire.specs.Sound.{KeepsFlows}
-use Rattle.rina_wire.specs.Tick.{arrival}
-use Rattle.rina_wire.proofs.Mates.{mate_within}
+use Rattle.rina_wire.specs.declared.event.WireError.{WireError}
+use Rattle.rina_wire.specs.Air.{Air}
+use Rattle.rina_wire.specs.Disturb.{HoldsOn, LosesOn, RepeatsOn}
+use Rattle.rina_wire.specs.Send.{passed}
 use Rattle.rina_run.specs.declared.world.World.{World}
 use Rattle.rina_run.specs.declared.labels.Label.{Label}
 use Rattle.rina_run.specs.declared.site.Site.{Site}
 use Rattle.rina_run.specs.Built.{event_at}
-use Rattle.rina_run.specs.Frames.{CameOnce, FliesOnce, FramesArriveOnce, IsCarried, NotCome, NotFlies}
+use Rattle.rina_run.specs.Frames.{FramesArriveOnce, IsSpared, Touches}
 use Rattle.rina_run.specs.Run.{LineDoes, Runs, opening}
 use Rattle.rina_run.specs.Sites.{label_in, port_in, site_at}
-use Rattle.rina_run.specs.Step.{Acts, AtPort, AtSite, CallsAllocate, CallsIncoming, CallsRegister, CallsSend, Passes, Reading, Ticking, Ticks, Unlabelled, asked}
-use Rattle.rina_run.proofs.FramesCalls.{Carries, IsCarrying, carrying_start, keeps_allocates, keeps_claims, keeps_passed, keeps_registers, keeps_sends, keeps_tick}
-use Rattle.rina_run.proofs.FramesGrown.{HasGot, came_of}
-use Rattle.rina_run.proofs.FramesKept.{AreApart, Flies, IsDue}
+use Rattle.rina_run.specs.Step.{Acts, AtPort, AtSite, AtWire, CallsAllocate, CallsIncoming, CallsRegister, CallsSend, CallsWire, Passes, Reading, Ticking, Ticks, Unlabelled, asked, wire_of}
+use Rattle.rina_run.proofs.FramesCalls.{IsCarrying, carrying_start, keeps_allocates, keeps_claims, keeps_holds, keeps_loses, keeps_passed, keeps_registers, keeps_repeats, keeps_sends, keeps_tick}
 
 -- ---- words
 
 -- what holds of a world
-abbrev pub Holds : World → Type 0
-Holds w = IsCarrying w.tower
+abbrev pub Holds : ℕ → ℕ → World → Type 0
+Holds fac k w = IsCarrying fac k w.tower
 
-at_site : (r : Result Site ℕ) (Call : Site → Option Said → World → Type 0) (w : World) (says : Option Said) (w' : World) → Holds w → AtSite r Call w says w' → ((site : Site) → Call site says w' → Holds w') → Holds w'
-at_site (Err field) Call w says w' h d k = subst Holds (sym d.world) h
-at_site (Ok site) Call w says w' h d k = k site d
+at_site : (fac k : ℕ) (r : Result Site ℕ) (Call : Site → Option Said → World → Type 0) (w : World) (says : Option Said) (w' : World) → Holds fac k w → AtSite r Call w says w' → ((site : Site) → Call site says w' → Holds fac k w') → Holds fac k w'
+at_site fac k (Err field) Call w says w' h d next = subst (Holds fac k) (sym d.world) h
+at_site fac k (Ok site) Call w says w' h d next = next site d
 
-unlabelled : (o : Option Label) (Call : Option Said → World → Type 0) (w : World) (says : Option Said) (w' : World) → Holds w → Unlabelled o Call w says w' → (Call says w' → Holds w') → Holds w'
-unlabelled (Some label) Call w says w' h d k = subst Holds (sym d.world) h
-unlabelled None Call w says w' h d k = k d
+unlabelled : (fac k : ℕ) (o : Option Label) (Call : Option Said → World → Type 0) (w : World) (says : Option Said) (w' : World) → Holds fac k w → Unlabelled o Call w says w' → (Call says w' → Holds fac k w') → Holds fac k w'
+unlabelled fac k (Some label) Call w says w' h d next = subst (Holds fac k) (sym d.world) h
+unlabelled fac k None Call w says w' h d next = next d
 
-at_port : (o : Option Port) (Call : Port → Option Said → World → Type 0) (w : World) (says : Option Said) (w' : World) → Holds w → AtPort o Call w says w' → ((port : Port) → Call port says w' → Holds w') → Holds w'
-at_port None Call w says w' h d k = subst Holds (sym d.world) h
-at_port (Some port) Call w says w' h d k = k port d
+at_port : (fac k : ℕ) (o : Option Port) (Call : Port → Option Said → World → Type 0) (w : World) (says : Option Said) (w' : World) → Holds fac k w → AtPort o Call w says w' → ((port : Port) → Call port says w' → Holds fac k w') → Holds fac k w'
+at_port fac k None Call w says w' h d next = subst (Holds fac k) (sym d.world) h
+at_port fac k (Some port) Call w says w' h d next = next port d
 
-passes : (port : Port) (a : Air) (xs : List Entry) (a' : Air) → IsCarrying a → Passes port a xs a' → IsCarrying a'
-passes port a [] a' c p = subst IsCarrying (sym p) c
-passes port a (x ∷ xs) a' c p = passes port (passed a port) xs a' (keeps_passed a port (rw p.0 refl) c) p.1
+-- an event of the wire that is named
+at_wire : (fac k : ℕ) (o : Option ℕ) (Does : ℕ → Air → Result (Unit {0}) WireError → Air → Type 0) (w : World) (says : Option Said) (w' : World) → Holds fac k w → AtWire o (λ n. CallsWire (Does n) w) w says w' → ((n : ℕ) (r : Result (Unit {0}) WireError) → o ≡ Some n → Does n w.tower r w'.tower → Holds fac k w') → Holds fac k w'
+at_wire fac k None Does w says w' h d next = subst (Holds fac k) (sym d.world) h
+at_wire fac k (Some n) Does w says w' h d next = next n d.result refl d.does
 
-reading : (line : ℕ) (o : Option Port) (w : World) (ns : List Note) (w' : World) → Holds w → Reading line o w ns w' → Holds w'
-reading line None w ns w' h d = subst Holds (sym d.1) h
-reading line (Some port) w ns w' h d = passes port w.tower d.entries w'.tower h d.passes
+passes : (fac k : ℕ) (port : Port) (a : Air) (xs : List Entry) (a' : Air) → IsCarrying fac k a → Passes port a xs a' → IsCarrying fac k a'
+passes fac k port a [] a' c p = subst (IsCarrying fac k) (sym p) c
+passes fac k port a (x ∷ xs) a' c p = passes fac k port (passed a port) xs a' (keeps_passed fac k a port (rw p.0 refl) c) p.1
 
-ticks : (plan : Plan) (line count : ℕ) (w : World) (ns : List Note) (w' : World) → Holds w → Ticks plan line count w ns w' → Holds w'
-ticks plan line zero w ns w' h d = subst Holds (sym d.1) h
-ticks plan line (suc count) w ns w' h (mid, first, rest, once, others, is) = ticks plan line count mid rest w' (keeps_tick w.tower mid.tower h once.tower) others
+reading : (fac k : ℕ) (line : ℕ) (o : Option Port) (w : World) (ns : List Note) (w' : World) → Holds fac k w → Reading line o w ns w' → Holds fac k w'
+reading fac k line None w ns w' h d = subst (Holds fac k) (sym d.1) h
+reading fac k line (Some port) w ns w' h d = passes fac k port w.tower d.entries w'.tower h d.passes
 
-ticking : (over : Bool) (plan : Plan) (line count : ℕ) (w : World) (ns : List Note) (w' : World) → Holds w → Ticking over plan line count w ns w' → Holds w'
-ticking true plan line count w ns w' h d = subst Holds (sym d.1) h
-ticking false plan line count w ns w' h d = ticks plan line count w d.told w' h d.ticks
+ticks : (fac k : ℕ) (plan : Plan) (line count : ℕ) (w : World) (ns : List Note) (w' : World) → Holds fac k w → Ticks plan line count w ns w' → Holds fac k w'
+ticks fac k plan line zero w ns w' h d = subst (Holds fac k) (sym d.1) h
+ticks fac k plan line (suc count) w ns w' h (mid, first, rest, once, others, is) = ticks fac k plan line count mid rest w' (keeps_tick fac k w.tower mid.tower h once.tower) others
 
-acts : (plan : Plan) (line : ℕ) (event : Event) (w : World) (ns : List Note) (w' : World) → Holds w → Acts plan line event w ns w' → Holds w'
-acts plan line (events.Register fac node app) w ns w' h d = at_site (site_at plan 1 fac node) (CallsRegister app w) w d.says w' h d.does (λ site c. keeps_registers w.tower site.fac site.node app c.result w'.tower h c.does)
-acts plan line (events.Alloc label fac node app to want) w ns w' h d =
-    at_site (site_at plan 2 fac node) (λ site. Unlabelled (label_in w.labels label) (CallsAllocate plan label fac node w (asked site app to want)) w) w d.says w' h d.does (λ site u.
-    unlabelled (label_in w.labels label) (CallsAllocate plan label fac node w (asked site app to want)) w d.says w' h u (λ c. keeps_allocates w.tower (asked site app to want) c.result w'.tower h c.does))
-acts plan line (events.Accept label fac node app) w ns w' h d =
-    at_site (site_at plan 2 fac node) (λ site. Unlabelled (label_in w.labels label) (CallsIncoming plan label app w site) w) w d.says w' h d.does (λ site u.
-    unlabelled (label_in w.labels label) (CallsIncoming plan label app w site) w d.says w' h u (λ c. keeps_claims w.tower site.fac site.node app c.result w'.tower h c.does))
-acts plan line (events.Send label bytes) w ns w' h d = at_port (port_in w.labels label) (CallsSend plan bytes w) w d.says w' h d.does (λ port c. keeps_sends w.tower port bytes c.result w'.tower h c.does)
-acts plan line (events.Read label) w ns w' h d = reading line (port_in w.labels label) w ns w' h d
-acts plan line (events.Tick count) w ns w' h d = ticking (nat_lt 10000000 (w.tower.now + count)) plan line count w ns w' h d
-acts plan line event w ns w' h d = absurd d
+ticking : (fac k : ℕ) (over : Bool) (plan : Plan) (line count : ℕ) (w : World) (ns : List Note) (w' : World) → Holds fac k w → Ticking over plan line count w ns w' → Holds fac k w'
+ticking fac k true plan line count w ns w' h d = subst (Holds fac k) (sym d.1) h
+ticking fac k false plan line count w ns w' h d = ticks fac k plan line count w d.told w' h d.ticks
+
+acts : (fac k : ℕ) (plan : Plan) (line : ℕ) (event : Event) (w : World) (ns : List Note) (w' : World) → (Touches plan fac k w event → ⊥) → Holds fac k w → Acts plan line event w ns w' → Holds fac k w'
+acts fac k plan line (events.Register name node app) w ns w' spared h d = at_site fac k (site_at plan 1 name node) (CallsRegister app w) w d.says w' h d.does (λ site c. keeps_registers fac k w.tower site.fac site.node app c.result w'.tower h c.does)
+acts fac k plan line (events.Alloc label name node app to want) w ns w' spared h d =
+    at_site fac k (site_at plan 2 name node) (λ site. Unlabelled (label_in w.labels label) (CallsAllocate plan label name node w (asked site app to want)) w) w d.says w' h d.does (λ site u.
+    unlabelled fac k (label_in w.labels label) (CallsAllocate plan label name node w (asked site app to want)) w d.says w' h u (λ c. keeps_allocates fac k w.tower (asked site app to want) c.result w'.tower h c.does))
+acts fac k plan line (events.Accept label name node app) w ns w' spared h d =
+    at_site fac k (site_at plan 2 name node) (λ site. Unlabelled (label_in w.labels label) (CallsIncoming plan label app w site) w) w d.says w' h d.does (λ site u.
+    unlabelled fac k (label_in w.labels label) (CallsIncoming plan label app w site) w d.says w' h u (λ c. keeps_claims fac k w.tower site.fac site.node app c.result w'.tower h c.does))
+acts fac k plan line (events.Send label bytes) w ns w' spared h d = at_port fac k (port_in w.labels label) (CallsSend plan bytes w) w d.says w' h d.does (λ port c. keeps_sends fac k w.tower port bytes c.result w'.tower h c.does)
+acts fac k plan line (events.Read label) w ns w' spared h d = reading fac k line (port_in w.labels label) w ns w' h d
+acts fac k plan line (events.Tick count) w ns w' spared h d = ticking fac k (nat_lt 10000000 (w.tower.now + count)) plan line count w ns w' h d
+acts fac k plan line (events.Lose wire frame) w ns w' spared h d = at_wire fac k (wire_of plan wire) (λ n a r b. LosesOn a n frame r b) w d.says w' h d.does (λ n r is c. keeps_loses fac k w.tower n frame r w'.tower (λ same frame_is. spared (is ∙ ap (λ (m : ℕ). Some m) same, frame_is)) h c)
+acts fac k plan line (events.Repeat wire frame at) w ns w' spared h d = at_wire fac k (wire_of plan wire) (λ n a r b. RepeatsOn a n frame at r b) w d.says w' h d.does (λ n r is c. keeps_repeats fac k w.tower n frame at r w'.tower (λ same frame_is. spared (is ∙ ap (λ (m : ℕ). Some m) same, frame_is)) h c)
+acts fac k plan line (events.Hold wire frame at) w ns w' spared h d = at_wire fac k (wire_of plan wire) (λ n a r b. HoldsOn a n frame at r b) w d.says w' h d.does (λ n r is c. keeps_holds fac k w.tower n frame at r w'.tower (λ same frame_is. spared (is ∙ ap (λ (m : ℕ). Some m) same, frame_is)) h c)
+acts fac k plan line event w ns w' spared h d = absurd d
 
 -- ---- lines
 
-line_does : (plan : Plan) (number : ℕ) (r : Result (Option Event) LineError) (w : World) (ns : List Note) (w' : World) → Holds w → LineDoes plan number r w ns w' → Holds w'
-line_does plan number (Ok None) w ns w' h d = subst Holds (sym d.1) h
-line_does plan number (Ok (Some event)) w ns w' h d = subst Holds (sym d.world) (acts plan number event w d.answer d.mid h d.acts)
-line_does plan number (Err e) w ns w' h d = absurd d
+line_does : (fac k : ℕ) (plan : Plan) (number : ℕ) (r : Result (Option Event) LineError) (w : World) (ns : List Note) (w' : World) → ((event : Event) → r ≡ Ok (Some event) → Touches plan fac k w event → ⊥) → Holds fac k w → LineDoes plan number r w ns w' → Holds fac k w'
+line_does fac k plan number (Ok None) w ns w' spared h d = subst (Holds fac k) (sym d.1) h
+line_does fac k plan number (Ok (Some event)) w ns w' spared h d = subst (Holds fac k) (sym d.world) (acts fac k plan number event w d.answer d.mid (spared event refl) h d.acts)
+line_does fac k plan number (Err e) w ns w' spared h d = absurd d
 
-runs : (plan : Plan) (number : ℕ) (w : World) (ls : List (List ℕ)) (ns : List Note) (w' : World) → Holds w → Runs plan number w ls ns w' → Holds w'
-runs plan number w [] ns w' h d = subst Holds (sym d.1) h
-runs plan number w (l ∷ ls) ns w' h (mid, first, rest, does, others, is) = runs plan (number + 1) mid ls rest w' (line_does plan number (event_at l) w first mid h does) others
+-- one line more
+runs_more : (plan : Plan) (number : ℕ) (w : World) (ls : List (List ℕ)) (ns : List Note) (mid : World) (l : List ℕ) (more : List Note) (w' : World) → Runs plan number w ls ns mid → LineDoes plan (number + length ls) (event_at l) mid more w' → Runs plan number w (ls ++ l ∷ []) (ns ++ more) w'
+runs_more plan number w [] ns mid l more w' r d =
+    let same : number + 0 ≡ number = omega arith in
+    let d' : LineDoes plan number (event_at l) w more w' = subst (λ (v : World). LineDoes plan number (event_at l) v more w') r.1 (subst (λ (n : ℕ). LineDoes plan n (event_at l) mid more w') same d) in
+    let notes : ns ++ more ≡ more ++ [] = rw r.0 (sym (append-nil more)) in
+    (w', more, [], d', (refl, refl), notes)
+runs_more plan number w (k ∷ ls) ns mid l more w' (next, first, rest, does, others, is) d =
+    let same : number + suc (length ls) ≡ (number + 1) + length ls = omega arith in
+    let others' = runs_more plan (number + 1) next ls rest mid l more w' others (subst (λ (n : ℕ). LineDoes plan n (event_at l) mid more w') same d) in
+    (next, first, rest ++ more, does, others', ap (λ (xs : List Note). xs ++ more) is ∙ append_assoc first rest more)
 
--- ---- what that says of a frame
+-- what stands behind some lines, and those before it
+at_middle : (xs ys : List (List ℕ)) (y : List ℕ) → slice_get (xs ++ y ∷ ys) (length xs) ≡ Some y
+at_middle [] ys y = refl
+at_middle (x ∷ xs) ys y = at_middle xs ys y
 
--- copies of one frame stand at one place
-apart_at : (fs : List Flight) (p q : ℕ) (f g : Flight) → AreApart fs → slice_get fs p ≡ Some f → slice_get fs q ≡ Some g → f.frame ≡ g.frame → p ≡ q
-apart_at [] p q f g a hf hg n = cc
-apart_at (h ∷ fs) zero zero f g a hf hg n = refl
-apart_at (h ∷ fs) zero (suc q) f g a hf hg n = absurd (all_at (λ (k : Flight). k.frame ≢ h.frame) fs q g a.0 hg (sym n ∙ ap (λ (k : Flight). k.frame) (sym (same_Some h f hf))))
-apart_at (h ∷ fs) (suc p) zero f g a hf hg n = absurd (all_at (λ (k : Flight). k.frame ≢ h.frame) fs p f a.0 hf (n ∙ ap (λ (k : Flight). k.frame) (sym (same_Some h g hg))))
-apart_at (h ∷ fs) (suc p) (suc q) f g a hf hg n = ap suc (apart_at fs p q f g a.1 hf hg n)
+before_middle : (xs ys : List (List ℕ)) → take (length xs) (xs ++ ys) ≡ xs
+before_middle [] ys = refl
+before_middle (x ∷ xs) ys = ap (λ (zs : List (List ℕ)). x ∷ zs) (before_middle xs ys)
 
-module _ (now : ℕ) (failed : Bool) (fac : ℕ) (l : Line) (flows : KeepsFlows now failed fac l) (c : Carries now l) (i j : ℕ) (e other : End) (frame : Entry) (at : At l.ends i e) (is : slice_get e.sent j ≡ Some frame) (there : At l.ends (mate i) other) where
-  -- what was got of its number is of the frame
-  got_of : (k : ℕ) (x : Entry) → slice_get other.got k ≡ Some x → x.num ≡ frame.num → (x.tick ≡ frame.tick + l.delay) × (x.bytes ≡ frame.bytes)
-  got_of k x h n = came_of l.delay l.ends (mate i) x i j e frame flows.sound.numbers at is n (c.got (mate i) k other x there h)
-
-  -- a copy of its number is of the frame
-  due_of : (k : ℕ) (f : Flight) → slice_get l.flights k ≡ Some f → frame_number f.frame ≡ frame.num → (now < f.due) × (f.due ≡ frame.tick + l.delay) × (f.bytes ≡ frame.bytes)
-  due_of k f h n =
-      let due : IsDue now l.delay l.ends f = all_at (IsDue now l.delay l.ends) l.flights k f c.copies h in
-      let of = came_of l.delay l.ends f.to (arrival f.due f) i j e frame flows.sound.numbers at is n due.came in
-      (due.waits, of.0, of.1)
-
-  no_copy : frame.tick + l.delay ≤ now → NotFlies frame l.flights
-  no_copy le k f h n = let of = due_of k f h n in omega (arith, le, of.0, of.1)
-
-  not_come : now < frame.tick + l.delay → NotCome frame other.got
-  not_come lt k x h n =
-      let of = got_of k x h n in
-      let past : x.tick ≤ now = (flows.sound.each (mate i) other there).whole.got.past k x h in
-      omega (arith, lt, of.0, past)
-
-  came_once : HasGot l.ends (mate i) frame.num → CameOnce l.delay frame other.got
-  came_once g =
-      let same : g.end ≡ other = same_Some g.end other (sym g.stands ∙ there) in
-      let stands : slice_get other.got g.place ≡ Some g.entry = rw (← same) g.is in
-      let of = got_of g.place g.entry stands g.number in
-      record {
-        place = g.place;
-        entry = g.entry;
-        stands = stands;
-        number = g.number;
-        tick = of.0;
-        bytes = of.1;
-        alone = λ k x h n. c.once (mate i) other there k g.place x g.entry h stands (n ∙ sym g.number);
-      }
-
-  flies_once : Flies l.flights i frame → FliesOnce l.delay (mate i) frame l.flights
-  flies_once f =
-      let of = due_of f.place f.copy f.is f.number in
-      record {
-        place = f.place;
-        copy = f.copy;
-        stands = f.is;
-        goes = f.to;
-        number = f.number;
-        due = of.1;
-        bytes = of.2;
-        alone = λ k g h n. apart_at l.flights k f.place g f.copy c.apart h f.is (ap (λ (m : Num). m.seq) (n ∙ sym f.number));
-      }
-
-  got_by_now : frame.tick + l.delay ≤ now → CameOnce l.delay frame other.got
-  got_by_now le = elim (c.sent i j e frame at is) [ inl f ↦ absurd (no_copy le f.place f.copy f.is f.number) | inr g ↦ came_once g ]
-
-  still_flies : now < frame.tick + l.delay → FliesOnce l.delay (mate i) frame l.flights
-  still_flies lt = elim (c.sent i j e frame at is) [
-    | inl f ↦ flies_once f
-    | inr g ↦ let o = came_once g in absurd (not_come lt o.place o.entry o.stands o.number)
-  ]
-
-  pub carried : IsCarried now l i frame
-  carried = record { other = other; stands = there; came = got_by_now; landed = no_copy; flies = still_flies; not_come = not_come }
+-- the lines that were run, and those that are left
+runs : (fac k : ℕ) (plan : Plan) (number : ℕ) (done : List (List ℕ)) (before : List Note) (w : World) (ls : List (List ℕ)) (ns : List Note) (w' : World) → number ≡ 1 + length done → Runs plan 1 (opening plan) done before w → IsSpared plan fac k (done ++ ls) → Holds fac k w → Runs plan number w ls ns w' → Holds fac k w'
+runs fac k plan number done before w [] ns w' at ran spared h d = subst (Holds fac k) (sym d.1) h
+runs fac k plan number done before w (l ∷ ls) ns w' at ran spared h (mid, first, rest, does, others, is) =
+    let here : (event : Event) → event_at l ≡ Ok (Some event) → Touches plan fac k w event → ⊥ = λ event read touches.
+    spared (length done) l event before w (at_middle done ls l) read (subst (λ (xs : List (List ℕ)). Runs plan 1 (opening plan) xs before w) (sym (before_middle done (l ∷ ls))) ran) touches in
+    let next = line_does fac k plan number (event_at l) w first mid here h does in
+    let ran' = runs_more plan 1 (opening plan) done before w l first mid ran (subst (λ (n : ℕ). LineDoes plan n (event_at l) w first mid) at does) in
+    let at' : number + 1 ≡ 1 + length (done ++ l ∷ []) = omega (arith, at, length-append done (l ∷ [])) in
+    let spared' : IsSpared plan fac k ((done ++ l ∷ []) ++ ls) = subst (IsSpared plan fac k) (sym (append_assoc done (l ∷ []) ls)) spared in
+    runs fac k plan (number + 1) (done ++ l ∷ []) (before ++ first) mid ls rest w' at' ran' spared' next others
 
 pub frames_arrive_once : FramesArriveOnce
-frames_arrive_once plan lines ns w p d fac l wire i j e frame at is =
-    let h = runs plan 1 (opening plan) lines ns w (carrying_start plan p.wires) d in
-    let flows : KeepsFlows w.tower.now w.tower.failed fac l = h.sound.flows fac l wire in
-    let within = mate_within i (length l.ends) l.flows flows.pairs (slice_get_within l.ends i e at) in
-    let there : At l.ends (mate i) (get_or l.ends (mate i) e) = slice_get-get_or l.ends (mate i) e within in
-    carried w.tower.now w.tower.failed fac l flows (h.frames fac l wire) i j e (get_or l.ends (mate i) e) frame at is there
+frames_arrive_once plan lines ns w p d fac l wire i j e frame at is spared =
+    let h = runs fac frame.num.seq plan 1 [] [] (opening plan) lines ns w refl (refl, refl) spared (carrying_start fac frame.num.seq plan p.wires) d in
+    (h.frame l wire i j e frame at is refl).carried

@@ -1,43 +1,28 @@
--- One tick keeps what holds of the frames of a wire: the copies that are due arrive, each once.
-use Rattle.std.proofs.Common.{◌≡◌, ◌≢◌, ℕ, zero, suc, ◌+◌, ◌*◌, ◌≤◌, cond, Bool, true, false, List, [], ◌∷◌, ◌++◌, length, filter, fold, get_or, nat_lt, slice_get, slice_set, Some, All, refl, sym, ◌∙◌, ap, subst, inl, inr, ◌⊎◌, arith}
-use Rattle.std.proofs.lemmas.Bool.{le-leb, ltb-true}
-use Rattle.std.proofs.lemmas.Bool.Decides.{leb_tells}
-use Rattle.std.proofs.lemmas.List.Elements.{All-cons, All-head, All-nil, All-tail, All-weaker}
-use Rattle.std.proofs.lemmas.Option.{same_Some, slice_get-get_or, slice_get_within}
-use Rattle.rina_base.specs.declared.number.Num.{Num}
+-- One tick keeps a frame carried: its copy arrives where it is due, and nothing else changes for it.
+use Rattle.std.proofs.Common.{◌≡◌, ℕ, suc, ◌+◌, ◌<◌, ◌≤◌, ◌==◌, true, false, List, [], ◌∷◌, ◌++◌, filter, fold, nat_lt, slice_set, refl, sym, ◌∙◌, ap, subst, inl, inr, arith}
+use Rattle.std.proofs.lemmas.Bool.{le-leb}
+use Rattle.std.proofs.lemmas.Bool.Decides.{eqb_tells, leb_tells}
+use Rattle.std.proofs.lemmas.Option.{same_Some}
 use Rattle.rina_law.specs.declared.entry.Entry.{Entry}
 use Rattle.rina_iface.specs.declared.ends.End.{End}
+use Rattle.rina_iface.specs.declared.state.PortState.{PortState}
 use Rattle.rina_iface.specs.declared.state.PortState.TheVariants.{Allocated}
 use Rattle.rina_iface.specs.Ends.{with_got}
 use Rattle.rina_iface.specs.Journal.{At}
-use Rattle.rina_iface.proofs.Changed.{set_at, slice_get-set_same}
-use Rattle.rina_iface.proofs.Grown.{Distinct, last_at, pushed_at, still_at}
+use Rattle.rina_iface.proofs.Changed.{slice_get-set_other, slice_get-set_same}
 use Rattle.rina_wire.specs.declared.flight.Flight.{Flight}
+use Rattle.rina_wire.specs.Air.{Line}
 use Rattle.rina_wire.specs.Send.{frame_number, mate}
-use Rattle.rina_wire.specs.Sound.{AreSound, Site}
-use Rattle.rina_wire.specs.Tick.{arrival, looked_at}
+use Rattle.rina_wire.specs.Tick.{arrival, line_ticked, looked_at}
 use Rattle.rina_wire.proofs.Arrivals.{looks}
 use Rattle.rina_wire.proofs.Keeps.{was_sent}
-use Rattle.rina_wire.proofs.Mates.{mate_within}
-use Rattle.rina_run.proofs.FramesGrown.{AreGrown, Came, HasGot, IsGrown, came_grown, came_of, got_grown, grown_none, grown_set, grown_twice}
-use Rattle.rina_run.proofs.FramesKept.{AreApart, AreCarried, Flies, IsDue, apart_filter, due_grown}
+use Rattle.rina_run.specs.Frames.{IsCarried, copies_of, of_number}
+use Rattle.rina_run.specs.Look.{same_num}
+use Rattle.rina_run.proofs.FramesKept.{Carries, IsOn}
+use Rattle.rina_run.proofs.FramesLists.{bool_tells, filter_swap, no, push_no, push_yes, yes}
 
--- ---- what stays true of the ends
+-- what the ends sent stays
 
-got_more : (e : End) (x : Entry) → IsGrown e (with_got e x)
-got_more e x = record { sent = λ j y h. h; got = λ j y h. still_at e.got (x ∷ []) j y h; state = refl }
-
-grown_looked : (now : ℕ) (es : List End) (f : Flight) → AreGrown es (looked_at now es f)
-grown_looked now es f = elim (looks now es f) [
-  | inl same ↦ subst (AreGrown es) (sym same) (grown_none es)
-  | inr a ↦ subst (AreGrown es) (sym a.is) (grown_set es f.to a.end (with_got a.end (arrival now f)) a.stands (got_more a.end (arrival now f)))
-]
-
-grown_fold : (now : ℕ) (es : List End) (fs : List Flight) → AreGrown es (fold (looked_at now) es fs)
-grown_fold now es [] = grown_none es
-grown_fold now es (f ∷ fs) = grown_twice es (looked_at now es f) (fold (looked_at now) (looked_at now es f) fs) (grown_looked now es f) (grown_fold now (looked_at now es f) fs)
-
--- the end that stood there sent the same
 sent_looked : (now : ℕ) (es : List End) (f : Flight) (k : ℕ) (x : End) → At (looked_at now es f) k x → (was : End) × At es k was × (was.sent ≡ x.sent)
 sent_looked now es f k x h = elim (looks now es f) [
   | inl same ↦ (x, subst (λ (ds : List End). At ds k x) same h, refl)
@@ -51,184 +36,191 @@ sent_fold now es (f ∷ fs) k x h =
     let v = sent_looked now es f k u.0 u.1 in
     (v.0, v.1, v.2 ∙ u.2)
 
--- ---- a copy that is due arrives
+-- the end at this place has this state, and these are the entries of frame k that it got
+record IsThere (k p : ℕ) (es : List End) (state : PortState) (entries : List Entry) : Type 0 where
+  end : End
+  stands : At es p end
+  state_is : end.state ≡ state
+  got : of_number (frame_number k) end.got ≡ entries
+
+-- a copy of another frame changes nothing for frame k
+other_frame : (now k p : ℕ) (es : List End) (f : Flight) (state : PortState) (entries : List Entry) → (f.frame == k) ≡ false → IsThere k p es state entries → IsThere k p (looked_at now es f) state entries
+other_frame now k p es f state entries other t = elim (looks now es f) [
+  | inl same ↦ subst (λ (ds : List End). IsThere k p ds state entries) (sym same) t
+  | inr a ↦ subst (λ (ds : List End). IsThere k p ds state entries) (sym a.is) (elim (eqb_tells p f.to) [
+    | inl y ↦
+        let here : At es f.to t.end = rw y.1 at t.stands in
+        let same : a.end ≡ t.end = same_Some a.end t.end (sym a.stands ∙ here) in
+        record {
+          end = with_got a.end (arrival now f);
+          stands = rw y.1 (slice_get-set_same es f.to a.end (with_got a.end (arrival now f)) a.stands);
+          state_is = ap (λ (z : End). z.state) same ∙ t.state_is;
+          got = push_no (λ (x : Entry). same_num x.num (frame_number k)) a.end.got (arrival now f) other ∙ ap (λ (z : End). of_number (frame_number k) z.got) same ∙ t.got;
+        }
+    | inr n ↦ record { end = t.end; stands = slice_get-set_other es f.to p (with_got a.end (arrival now f)) n.1 ∙ t.stands; state_is = t.state_is; got = t.got }
+  ])
+]
+
+-- no copy of frame k is in flight
+none_flies : (now k p : ℕ) (es : List End) (fs : List Flight) (state : PortState) (entries : List Entry) → copies_of k fs ≡ [] → IsThere k p es state entries → IsThere k p (fold (looked_at now) es fs) state entries
+none_flies now k p es [] state entries none t = t
+none_flies now k p es (f ∷ fs) state entries none t = elim (bool_tells (f.frame == k)) [
+  | inl y ↦ let clash : f ∷ copies_of k fs ≡ [] = sym (yes (λ (g : Flight). g.frame == k) f fs y) ∙ none in cc
+  | inr n ↦ none_flies now k p (looked_at now es f) fs state entries (sym (no (λ (g : Flight). g.frame == k) f fs n) ∙ none) (other_frame now k p es f state entries n t)
+]
+
+-- the first of what passes, and the others
+one_first : (f c : Flight) (fs : List Flight) → f ∷ fs ≡ c ∷ [] → (f ≡ c) × (fs ≡ [])
+one_first f c fs h = (cc, cc)
+
+stays_unless : (now : ℕ) (es : List End) (f : Flight) → now < f.due → looked_at now es f ≡ es
+stays_unless now es f lt = elim (leb_tells f.due now) [ inl t ↦ absurd (omega (arith, t.1, lt)) | inr n ↦ rw n.0 refl ]
 
 arrives_now : (now : ℕ) (es : List End) (f : Flight) (e : End) → f.due ≤ now → At es f.to e → e.state ≡ Allocated → looked_at now es f ≡ slice_set es f.to (with_got e (arrival now f))
 arrives_now now es f e due at state = rw (le-leb f.due now due, at, state) refl
 
--- the end that it goes to has it
-has_fold : (now : ℕ) (es : List End) (fs : List Flight) (p : ℕ) (f : Flight) (e : End) → slice_get fs p ≡ Some f → f.due ≤ now → At es f.to e → e.state ≡ Allocated → HasGot (fold (looked_at now) es fs) f.to (frame_number f.frame)
-has_fold now es [] p f e is due at state = cc
-has_fold now es (g ∷ fs) zero f e is due at state =
-    let same : g ≡ f = same_Some g f is in
-    let x = arrival now f in
-    let es' = slice_set es f.to (with_got e x) in
-    let here : looked_at now es g ≡ es' = rw same (arrives_now now es f e due at state) in
-    let has : HasGot es' f.to (frame_number f.frame) = record { end = with_got e x; stands = slice_get-set_same es f.to e (with_got e x) at; place = length e.got; entry = x; is = last_at e.got x; number = refl } in
-    rw here (got_grown es' (fold (looked_at now) es' fs) f.to (frame_number f.frame) (grown_fold now es' fs) has)
-has_fold now es (g ∷ fs) (suc p) f e is due at state =
-    let s = grown_looked now es g f.to e at in
-    has_fold now (looked_at now es g) fs p f s.end is due s.stands (s.grown.state ∙ state)
-
--- ---- what was got came, and came once
-
--- the end that the copy goes to has no entry of its number
-abbrev IsFresh : List End → Flight → Type 0
-IsFresh es f = (e : End) (j : ℕ) (x : Entry) → At es f.to e → slice_get e.got j ≡ Some x → x.num ≢ frame_number f.frame
-
--- in the midst of a tick, with these copies still to be looked at
-record IsMidst (before delay : ℕ) (es : List End) (fs : List Flight) : Type 0 where
-  states : (i : ℕ) (e : End) → At es i e → e.state ≡ Allocated
-  got : (i j : ℕ) (e : End) (x : Entry) → At es i e → slice_get e.got j ≡ Some x → Came delay es i x
-  once : (i : ℕ) (e : End) → At es i e → Distinct e.got
-  copies : All (IsDue before delay es) fs
-  fresh : All (IsFresh es) fs
-  apart : AreApart fs
-
--- a copy of another frame is as fresh as before
-fresh_after : (now : ℕ) (es : List End) (f g : Flight) (e : End) → At es f.to e → g.frame ≢ f.frame → IsFresh es g → IsFresh (slice_set es f.to (with_got e (arrival now f))) g
-fresh_after now es f g e at apart fresh d j x hd hx = elim (set_at es f.to g.to e (with_got e (arrival now f)) d at hd) [
-  | inl t ↦
-      let hx' : slice_get (e.got ++ arrival now f ∷ []) j ≡ Some x = rw t.1 at hx in
-      elim (pushed_at e.got (arrival now f) j x hx') [
-        | inl o ↦ fresh e j x (rw t.0 at) o
-        | inr n ↦ λ same. apart (ap (λ (k : Num). k.seq) (sym same ∙ ap (λ (y : Entry). y.num) n.1))
-      ]
-  | inr o ↦ fresh d j x o.1 hx
+-- the one copy of frame k is not due yet
+one_waits : (now k p : ℕ) (es : List End) (fs : List Flight) (c : Flight) (state : PortState) (entries : List Entry) → copies_of k fs ≡ c ∷ [] → now < c.due → IsThere k p es state entries → IsThere k p (fold (looked_at now) es fs) state entries
+one_waits now k p es [] c state entries one lt t = t
+one_waits now k p es (f ∷ fs) c state entries one lt t = elim (bool_tells (f.frame == k)) [
+  | inl y ↦
+      let first = one_first f c (copies_of k fs) (sym (yes (λ (g : Flight). g.frame == k) f fs y) ∙ one) in
+      let stays : looked_at now es f ≡ es = stays_unless now es f (rw first.0 lt) in
+      none_flies now k p (looked_at now es f) fs state entries first.1 (subst (λ (ds : List End). IsThere k p ds state entries) (sym stays) t)
+  | inr n ↦ one_waits now k p (looked_at now es f) fs c state entries (sym (no (λ (g : Flight). g.frame == k) f fs n) ∙ one) lt (other_frame now k p es f state entries n t)
 ]
 
-fresh_all : (now : ℕ) (es : List End) (f : Flight) (fs : List Flight) (e : End) → At es f.to e → All (λ (g : Flight). g.frame ≢ f.frame) fs → All (IsFresh es) fs → All (IsFresh (slice_set es f.to (with_got e (arrival now f)))) fs
-fresh_all now es f [] e at apart fresh = All-nil (IsFresh (slice_set es f.to (with_got e (arrival now f))))
-fresh_all now es f (g ∷ fs) e at apart fresh =
-    let Apart : Flight → Type 0 = λ (h : Flight). h.frame ≢ f.frame in
-    let rest = fresh_all now es f fs e at (All-tail Apart g fs apart) (All-tail (IsFresh es) g fs fresh) in
-    All-cons (IsFresh (slice_set es f.to (with_got e (arrival now f)))) g fs (fresh_after now es f g e at (All-head Apart g fs apart) (All-head (IsFresh es) g fs fresh)) rest
+-- a copy of frame k arrives at the end
+own_frame : (now k : ℕ) (es : List End) (f : Flight) (entries : List Entry) → (f.frame == k) ≡ true → f.due ≤ now → IsThere k f.to es Allocated entries → IsThere k f.to (looked_at now es f) Allocated (entries ++ arrival now f ∷ [])
+own_frame now k es f entries own due t = subst (λ (ds : List End). IsThere k f.to ds Allocated (entries ++ arrival now f ∷ [])) (sym (arrives_now now es f t.end due t.stands t.state_is)) (record {
+  end = with_got t.end (arrival now f);
+  stands = slice_get-set_same es f.to t.end (with_got t.end (arrival now f)) t.stands;
+  state_is = t.state_is;
+  got = push_yes (λ (x : Entry). same_num x.num (frame_number k)) t.end.got (arrival now f) own ∙ ap (λ (xs : List Entry). xs ++ arrival now f ∷ []) t.got;
+})
 
--- one more entry of a new number
-once_push : (got : List Entry) (x : Entry) → Distinct got → ((j : ℕ) (y : Entry) → slice_get got j ≡ Some y → y.num ≢ x.num) → Distinct (got ++ x ∷ [])
-once_push got x d fresh j m a b ha hb n = elim (pushed_at got x j a ha) [
-  | inl o ↦ elim (pushed_at got x m b hb) [ inl p ↦ d j m a b o p n | inr p ↦ absurd (fresh j a o (n ∙ ap (λ (y : Entry). y.num) p.1)) ]
-  | inr o ↦ elim (pushed_at got x m b hb) [ inl p ↦ absurd (fresh m b p (sym n ∙ ap (λ (y : Entry). y.num) o.1)) | inr p ↦ o.0 ∙ sym p.0 ]
+-- the one copy of frame k is due
+one_comes : (now k p : ℕ) (es : List End) (fs : List Flight) (c : Flight) (entries : List Entry) → copies_of k fs ≡ c ∷ [] → c.due ≤ now → c.to ≡ p → IsThere k p es Allocated entries → IsThere k p (fold (looked_at now) es fs) Allocated (entries ++ arrival now c ∷ [])
+one_comes now k p es [] c entries one due to t = cc
+one_comes now k p es (f ∷ fs) c entries one due to t = elim (bool_tells (f.frame == k)) [
+  | inl y ↦
+      let first = one_first f c (copies_of k fs) (sym (yes (λ (g : Flight). g.frame == k) f fs y) ∙ one) in
+      let place : f.to ≡ p = ap (λ (g : Flight). g.to) first.0 ∙ to in
+      let here : IsThere k f.to es Allocated entries = subst (λ (q : ℕ). IsThere k q es Allocated entries) (sym place) t in
+      let arrived : IsThere k f.to (looked_at now es f) Allocated (entries ++ arrival now f ∷ []) = own_frame now k es f entries y (rw first.0 due) here in
+      let moved : IsThere k p (looked_at now es f) Allocated (entries ++ arrival now f ∷ []) = subst (λ (q : ℕ). IsThere k q (looked_at now es f) Allocated (entries ++ arrival now f ∷ [])) place arrived in
+      let all = none_flies now k p (looked_at now es f) fs Allocated (entries ++ arrival now f ∷ []) first.1 moved in
+      subst (λ (g : Flight). IsThere k p (fold (looked_at now) (looked_at now es f) fs) Allocated (entries ++ arrival now g ∷ [])) first.0 all
+  | inr n ↦ one_comes now k p (looked_at now es f) fs c entries (sym (no (λ (g : Flight). g.frame == k) f fs n) ∙ one) due to (other_frame now k p es f Allocated entries n t)
 ]
-
-midst_arrived : (before now delay : ℕ) (es : List End) (f : Flight) (fs : List Flight) (e : End) → now ≡ before + 1 → f.due ≤ now → At es f.to e → IsMidst before delay es (f ∷ fs) → IsMidst before delay (slice_set es f.to (with_got e (arrival now f))) fs
-midst_arrived before now delay es f fs e next due at m =
-    let x = arrival now f in
-    let es' = slice_set es f.to (with_got e x) in
-    let all : AreGrown es es' = grown_set es f.to e (with_got e x) at (got_more e x) in
-    let copy : IsDue before delay es f = All-head (IsDue before delay es) f fs m.copies in
-    let fresh : IsFresh es f = All-head (IsFresh es) f fs m.fresh in
-    let at_due : f.due ≡ now = omega (arith, copy.waits, next, due) in
-    let came : Came delay es' f.to x = came_grown delay es es' f.to x all (rw at_due at copy.came) in
-    record {
-      states = λ k d h. elim (set_at es f.to k e (with_got e x) d at h) [ inl t ↦ rw t.1 (m.states f.to e at) | inr o ↦ m.states k d o.1 ];
-      got = λ k j d y h hy. elim (set_at es f.to k e (with_got e x) d at h) [
-        | inl t ↦
-            let hy' : slice_get (e.got ++ x ∷ []) j ≡ Some y = rw t.1 at hy in
-            elim (pushed_at e.got x j y hy') [ inl o ↦ came_grown delay es es' k y all (rw t.0 (m.got f.to j e y at o)) | inr n ↦ rw (t.0, n.1) came ]
-        | inr o ↦ came_grown delay es es' k y all (m.got k j d y o.1 hy)
-      ];
-      once = λ k d h. elim (set_at es f.to k e (with_got e x) d at h) [
-        | inl t ↦ rw t.1 (once_push e.got x (m.once f.to e at) (λ j y hy. fresh e j y at hy))
-        | inr o ↦ m.once k d o.1
-      ];
-      copies = All-weaker (IsDue before delay es) (IsDue before delay es') (λ g d. due_grown before delay es es' g all d) fs (All-tail (IsDue before delay es) f fs m.copies);
-      fresh = fresh_all now es f fs e at m.apart.0 (All-tail (IsFresh es) f fs m.fresh);
-      apart = m.apart.1;
-    }
-
-midst_looked : (before now delay : ℕ) (es : List End) (f : Flight) (fs : List Flight) → now ≡ before + 1 → IsMidst before delay es (f ∷ fs) → IsMidst before delay (looked_at now es f) fs
-midst_looked before now delay es f fs next m = elim (looks now es f) [
-  | inl same ↦
-      let rest : IsMidst before delay es fs = record {
-        states = m.states;
-        got = m.got;
-        once = m.once;
-        copies = All-tail (IsDue before delay es) f fs m.copies;
-        fresh = All-tail (IsFresh es) f fs m.fresh;
-        apart = m.apart.1;
-      } in
-      subst (λ (ds : List End). IsMidst before delay ds fs) (sym same) rest
-  | inr a ↦ subst (λ (ds : List End). IsMidst before delay ds fs) (sym a.is) (midst_arrived before now delay es f fs a.end next a.due a.stands m)
-]
-
-midst_fold : (before now delay : ℕ) (es : List End) (fs : List Flight) → now ≡ before + 1 → IsMidst before delay es fs → IsMidst before delay (fold (looked_at now) es fs) []
-midst_fold before now delay es [] next m = m
-midst_fold before now delay es (f ∷ fs) next m = midst_fold before now delay (looked_at now es f) fs next (midst_looked before now delay es f fs next m)
-
--- before the tick: what has the number of a copy in flight would have come when that arrives
-fresh_start : (s : Site) (before delay frames : ℕ) (ends : List End) (flights : List Flight) → AreSound s before frames ends → AreCarried before delay ends flights → (f : Flight) → IsDue before delay ends f → IsFresh ends f
-fresh_start s before delay frames ends flights sound c f d e j x at hx n =
-    let came = came_of delay ends f.to x (mate f.to) d.came.place d.came.sender d.came.source sound.numbers d.came.stands d.came.is (n ∙ d.came.number) (c.got f.to j e x at hx) in
-    let past : x.tick ≤ before = (sound.each f.to e at).whole.got.past j x hx in
-    omega (arith, came.0, past, d.waits, d.came.tick)
-
-midst_start : (s : Site) (before delay frames : ℕ) (ends : List End) (flights : List Flight) → AreSound s before frames ends → AreCarried before delay ends flights → IsMidst before delay ends flights
-midst_start s before delay frames ends flights sound c = record {
-  states = c.states;
-  got = c.got;
-  once = c.once;
-  copies = c.copies;
-  fresh = All-weaker (IsDue before delay ends) (IsFresh ends) (fresh_start s before delay frames ends flights sound c) flights c.copies;
-  apart = c.apart;
-}
 
 -- ---- what stays in flight
 
-left_due : (before now delay : ℕ) (ends ends' : List End) (fs : List Flight) → AreGrown ends ends' → All (IsDue before delay ends) fs → All (IsDue now delay ends') (filter (λ (f : Flight). nat_lt now f.due) fs)
-left_due before now delay ends ends' [] g ds = All-nil (IsDue now delay ends')
-left_due before now delay ends ends' (f ∷ fs) g ds =
-    let left = left_due before now delay ends ends' fs g (All-tail (IsDue before delay ends) f fs ds) in
-    let due : IsDue before delay ends f = All-head (IsDue before delay ends) f fs ds in
-    elim (nat_lt now f.due) as (λ b. nat_lt now f.due ≡ b → All (IsDue now delay ends') (cond b (f ∷ filter (λ (h : Flight). nat_lt now h.due) fs) (filter (λ (h : Flight). nat_lt now h.due) fs))) [
-      | true ↦ λ is. All-cons (IsDue now delay ends') f _ (record { waits = ltb-true now f.due is; came = came_grown delay ends ends' f.to (arrival f.due f) g due.came }) left
-      | false ↦ λ is. left
-    ] refl
+left_of : (now k : ℕ) (fs gs : List Flight) → copies_of k fs ≡ gs → copies_of k (filter (λ (f : Flight). nat_lt now f.due) fs) ≡ filter (λ (f : Flight). nat_lt now f.due) gs
+left_of now k fs gs is = filter_swap (λ (f : Flight). f.frame == k) (λ (f : Flight). nat_lt now f.due) fs ∙ ap (filter (λ (f : Flight). nat_lt now f.due)) is
 
-filter_at : {X : Type 0} (test : X → Bool) (xs : List X) (p : ℕ) (x : X) → slice_get xs p ≡ Some x → test x ≡ true → (q : ℕ) × (slice_get (filter test xs) q ≡ Some x)
-filter_at test [] p x is ok = cc
-filter_at test (y ∷ xs) zero x is ok =
-    let same : y ≡ x = same_Some y x is in
-    let here : test y ≡ true = rw same ok in
-    rw here (zero, is)
-filter_at {X} test (y ∷ xs) (suc p) x is ok =
-    let r = filter_at test xs p x is ok in
-    elim (test y) as (λ b. (q : ℕ) × (slice_get (cond b (y ∷ filter test xs) (filter test xs)) q ≡ Some x)) [ true ↦ (suc r.0, r.1) | false ↦ (r.0, r.1) ]
+left_one : (now : ℕ) (c : Flight) → now < c.due → filter (λ (f : Flight). nat_lt now f.due) (c ∷ []) ≡ c ∷ []
+left_one now c lt = elim (leb_tells (suc now) c.due) [ inl t ↦ yes (λ (f : Flight). nat_lt now f.due) c [] t.0 | inr n ↦ absurd (omega (arith, n.1, lt)) ]
 
-got_as : (ends : List End) (i k : ℕ) (a b : Num) → i ≡ k → a ≡ b → HasGot ends i a → HasGot ends k b
-got_as ends i k a b p q h = record { end = h.end; stands = rw p at h.stands; place = h.place; entry = h.entry; is = h.is; number = h.number ∙ q }
-
--- a frame whose copy was in flight: the copy still is, or it was got
-flies_on : (now delay : ℕ) (ends : List End) (flights : List Flight) (i : ℕ) (x : Entry) (other : End) → At ends (mate i) other → other.state ≡ Allocated → Flies flights i x → Flies (filter (λ (f : Flight). nat_lt now f.due) flights) i x ⊎ HasGot (fold (looked_at now) ends flights) (mate i) x.num
-flies_on now delay ends flights i x other at state f = elim (leb_tells (suc now) f.copy.due) [
-  | inl t ↦
-      let left = filter_at (λ (g : Flight). nat_lt now g.due) flights f.place f.copy f.is t.0 in
-      inl (record { place = left.0; copy = f.copy; is = left.1; to = f.to; number = f.number })
-  | inr o ↦
-      let here : At ends f.copy.to other = rw f.to at in
-      inr (got_as (fold (looked_at now) ends flights) f.copy.to (mate i) (frame_number f.copy.frame) x.num f.to f.number (has_fold now ends flights f.place f.copy other f.is (omega (arith, o.1)) here state))
-]
+left_none : (now : ℕ) (c : Flight) → c.due ≤ now → filter (λ (f : Flight). nat_lt now f.due) (c ∷ []) ≡ []
+left_none now c le = elim (leb_tells (suc now) c.due) [ inl t ↦ absurd (omega (arith, t.1, le)) | inr n ↦ no (λ (f : Flight). nat_lt now f.due) c [] n.0 ]
 
 -- ---- the whole tick
 
-pub carried_ticked : (s : Site) (before now delay frames flows : ℕ) (ends : List End) (flights : List Flight) → now ≡ before + 1 → length ends ≡ 2 * flows → AreSound s before frames ends → AreCarried before delay ends flights
-    → AreCarried now delay (fold (looked_at now) ends flights) (filter (λ (f : Flight). nat_lt now f.due) flights)
-carried_ticked s before now delay frames flows ends flights next pairs sound c =
-    let ends' = fold (looked_at now) ends flights in
-    let all : AreGrown ends ends' = grown_fold now ends flights in
-    let m = midst_fold before now delay ends flights next (midst_start s before delay frames ends flights sound c) in
+-- one tick before, and the frame with its number
+record IsNext (k before now : ℕ) (l : Line) (i : ℕ) (x : Entry) : Type 0 where
+  next : now ≡ before + 1
+  seq : x.num.seq ≡ k
+  on : IsOn k before l i x
+  -- the end to which the one copy in flight goes is allocated
+  reaches : (c : Flight) (other : End) → copies_of k l.flights ≡ c ∷ [] → At l.ends (mate i) other → c.to ≡ mate i → other.state ≡ Allocated
+
+-- the copy of the frame
+abbrev copy_of : ℕ → ℕ → Entry → Flight
+copy_of delay to x = record { to = to; frame = x.num.seq; sent = x.tick; due = x.tick + delay; bytes = x.bytes }
+
+-- what the other end got of it
+there_now : (k before now : ℕ) (l : Line) (i : ℕ) (x : Entry) (n : IsNext k before now l i x) (entries : List Entry) → of_number x.num n.on.carried.other.got ≡ entries → IsThere k (mate i) l.ends n.on.carried.other.state entries
+there_now k before now l i x n entries h = record { end = n.on.carried.other; stands = n.on.carried.stands; state_is = refl; got = ap (λ m. of_number m n.on.carried.other.got) (sym n.on.number) ∙ h }
+
+got_then : (k p : ℕ) (es : List End) (state : PortState) (entries : List Entry) (x : Entry) (t : IsThere k p es state entries) → x.num ≡ frame_number k → of_number x.num t.end.got ≡ entries
+got_then k p es state entries x t number = ap (λ m. of_number m t.end.got) number ∙ t.got
+
+-- it had come before
+ticked_landed : (k before now : ℕ) (l : Line) (i : ℕ) (x : Entry) → IsNext k before now l i x → x.tick + l.delay ≤ before → IsCarried now (line_ticked now l) i x
+ticked_landed k before now l i x n le =
+    let c = n.on.carried in
+    let next = n.next in
+    let none : copies_of k l.flights ≡ [] = rw (← n.seq) (c.landed le) in
+    let entries : List Entry = record { tick = x.tick + l.delay; num = x.num; bytes = x.bytes } ∷ [] in
+    let t = none_flies now k (mate i) l.ends l.flights c.other.state entries none (there_now k before now l i x n entries (c.came le)) in
     record {
-      states = m.states;
-      got = m.got;
-      once = m.once;
-      copies = left_due before now delay ends ends' flights all c.copies;
-      apart = apart_filter (λ (f : Flight). nat_lt now f.due) flights c.apart;
-      sent = λ i j e x h hx.
-          let u = sent_fold now ends flights i e h in
-          let within = mate_within i (length ends) flows pairs (slice_get_within ends i u.0 u.1) in
-          let at : At ends (mate i) (get_or ends (mate i) u.0) = slice_get-get_or ends (mate i) u.0 within in
-          elim (c.sent i j u.0 x u.1 (rw u.2 hx)) [
-            | inl f ↦ flies_on now delay ends flights i x (get_or ends (mate i) u.0) at (c.states (mate i) (get_or ends (mate i) u.0) at) f
-            | inr g ↦ inr (got_grown ends ends' (mate i) x.num all g)
-          ];
+      other = t.end;
+      stands = t.stands;
+      came = λ h. got_then k (mate i) _ c.other.state entries x t n.on.number;
+      landed = λ h. rw n.seq (left_of now k l.flights [] none);
+      flies = λ lt. absurd (omega (arith, le, lt, next));
+      not_come = λ lt. absurd (omega (arith, le, lt, next));
+    }
+
+-- it comes now
+ticked_comes : (k before now : ℕ) (l : Line) (i : ℕ) (x : Entry) → IsNext k before now l i x → before < x.tick + l.delay → x.tick + l.delay ≤ now → IsCarried now (line_ticked now l) i x
+ticked_comes k before now l i x n lt le =
+    let c = n.on.carried in
+    let next = n.next in
+    let f : Flight = copy_of l.delay (mate i) x in
+    let one : copies_of k l.flights ≡ f ∷ [] = subst (λ (m : ℕ). copies_of m l.flights ≡ f ∷ []) n.seq (c.flies lt) in
+    let there : IsThere k (mate i) l.ends c.other.state [] = there_now k before now l i x n [] (c.not_come lt) in
+    let there_open : IsThere k (mate i) l.ends Allocated [] = subst (λ (s : PortState). IsThere k (mate i) l.ends s []) (n.reaches f c.other one c.stands refl) there in
+    let t = one_comes now k (mate i) l.ends l.flights f [] one le refl there_open in
+    let at_due : now ≡ x.tick + l.delay = omega (arith, next, lt, le) in
+    let number : frame_number x.num.seq ≡ x.num = ap frame_number n.seq ∙ sym n.on.number in
+    let is : arrival now f ≡ record { tick = x.tick + l.delay; num = x.num; bytes = x.bytes } = ap (λ (m : ℕ). record { tick = m; num = frame_number x.num.seq; bytes = x.bytes }) at_due ∙ ap (λ m. record { tick = x.tick + l.delay; num = m; bytes = x.bytes }) number in
+    record {
+      other = t.end;
+      stands = t.stands;
+      came = λ h. got_then k (mate i) _ Allocated (arrival now f ∷ []) x t n.on.number ∙ ap (λ (y : Entry). y ∷ []) is;
+      landed = λ h. rw n.seq (left_of now k l.flights (f ∷ []) one ∙ left_none now f le);
+      flies = λ h. absurd (omega (arith, le, h));
+      not_come = λ h. absurd (omega (arith, le, h));
+    }
+
+-- it is in flight still
+ticked_flies : (k before now : ℕ) (l : Line) (i : ℕ) (x : Entry) → IsNext k before now l i x → now < x.tick + l.delay → IsCarried now (line_ticked now l) i x
+ticked_flies k before now l i x n lt =
+    let c = n.on.carried in
+    let next = n.next in
+    let earlier : before < x.tick + l.delay = omega (arith, next, lt) in
+    let f : Flight = copy_of l.delay (mate i) x in
+    let one : copies_of k l.flights ≡ f ∷ [] = subst (λ (m : ℕ). copies_of m l.flights ≡ f ∷ []) n.seq (c.flies earlier) in
+    let t = one_waits now k (mate i) l.ends l.flights f c.other.state [] one lt (there_now k before now l i x n [] (c.not_come earlier)) in
+    record {
+      other = t.end;
+      stands = t.stands;
+      came = λ h. absurd (omega (arith, lt, h));
+      landed = λ h. absurd (omega (arith, lt, h));
+      flies = λ h. subst (λ (m : ℕ). copies_of m (line_ticked now l).flights ≡ f ∷ []) (sym n.seq) (left_of now k l.flights (f ∷ []) one ∙ left_one now f lt);
+      not_come = λ h. got_then k (mate i) _ c.other.state [] x t n.on.number;
+    }
+
+carried_ticked : (k before now : ℕ) (l : Line) (i : ℕ) (x : Entry) → IsNext k before now l i x → IsCarried now (line_ticked now l) i x
+carried_ticked k before now l i x n = elim (leb_tells (x.tick + l.delay) before) [
+  | inl t ↦ ticked_landed k before now l i x n t.1
+  | inr u ↦ elim (leb_tells (x.tick + l.delay) now) [
+    | inl t ↦ ticked_comes k before now l i x n (omega (arith, u.1)) t.1
+    | inr v ↦ ticked_flies k before now l i x n (omega (arith, v.1))
+  ]
+]
+
+-- a copy of a frame goes to an end that is allocated
+abbrev pub GoesOpen : ℕ → Line → Type 0
+GoesOpen k l = (c : Flight) (other : End) → copies_of k l.flights ≡ c ∷ [] → At l.ends c.to other → other.state ≡ Allocated
+
+pub carry_ticked : (k before now : ℕ) (l : Line) → now ≡ before + 1 → GoesOpen k l → Carries k before l → Carries k now (line_ticked now l)
+carry_ticked k before now l next goes c i j e x h is n =
+    let u = sent_fold now l.ends l.flights i e h in
+    let on = c i j u.0 x u.1 (rw u.2 is) n in
+    record {
+      number = on.number;
+      carried = carried_ticked k before now l i x (record { next = next; seq = n; on = on; reaches = λ f other one stands to. goes f other one (rw to stands) });
     }

@@ -10,6 +10,7 @@ use Rattle.rina_iface.specs.Seen.{Fac}
 use Rattle.rina_report.specs.declared.note.Note.TheVariants as notes
 use Rattle.rina_report.specs.declared.said.Said.{Said}
 use Rattle.rina_report.specs.declared.said.Said.TheVariants as said
+use Rattle.rina_schedule.specs.declared.event.Event.{Event}
 use Rattle.rina_schedule.specs.declared.event.Event.TheVariants as events
 use Rattle.rina_stack.specs.declared.plan.Plan.{Plan}
 use Rattle.rina_stack.proofs.Planned.{read_plan}
@@ -21,7 +22,7 @@ use Rattle.rina_wire.proofs.Start.{sound_start}
 use Rattle.rina_run.specs.Labels.{GotIsTold, PlansAreSound, SentIsTold, event_by, entry_of, got_by, reads_at, sdu_of, sends_at, sent_by}
 use Rattle.rina_run.specs.Run.{opening}
 use Rattle.rina_run.proofs.LabelEnds.{Holds, end_stands}
-use Rattle.rina_run.proofs.LabelLines.{IsTelling, runs_keep}
+use Rattle.rina_run.proofs.LabelLines.{IsOther, IsTelling, runs_keep}
 use Rattle.rina_run.proofs.LabelMoves.{Waits}
 use Rattle.rina_run.proofs.LabelWords.{Keeps}
 
@@ -74,6 +75,10 @@ sent_dumb : (lines : List (List ℕ)) (number : ℕ) (name : List ℕ) (tick : �
 sent_dumb lines number name tick (said.Sent num) none = ap (entry_of tick num) none
 sent_dumb lines number name tick what none = refl
 
+sends_none : (name : List ℕ) (event : Event) → IsOther event → sends_at name (Some event) ≡ None
+sends_none name (events.Send label bytes) other = absurd other
+sends_none name event other = refl
+
 sends_same : (label : List ℕ) (bytes : List ℕ) → sends_at label (Some (events.Send label bytes)) ≡ Some bytes
 sends_same label bytes = rw ((bytes_eq-Decides label label).1 refl) refl
 
@@ -90,10 +95,7 @@ sent_telling lines = record {
   state = λ name number tick label s. refl;
   refused = λ name number tick why. refl;
   nothing = λ name number tick. refl;
-  register = λ number fac node app is name tick what. sent_dumb lines number name tick what (rw is refl);
-  alloc = λ number label fac node app to want is name tick what. sent_dumb lines number name tick what (rw is refl);
-  accept = λ number label fac node app is name tick what. sent_dumb lines number name tick what (rw is refl);
-  tick = λ number count is name tick what. sent_dumb lines number name tick what (rw is refl);
+  others = λ number event is other name tick what. sent_dumb lines number name tick what (rw is (sends_none name event other));
   sent_view = λ e x. refl;
   sent_same = λ number label bytes is tick num. ap (entry_of tick num) (ap (sends_at label) is ∙ sends_same label bytes);
   sent_other = λ number label bytes is other ne tick num. ap (entry_of tick num) (ap (sends_at other) is ∙ sends_other label bytes other ne);
@@ -116,6 +118,10 @@ got_view e = map sdu_of (take e.taken e.got)
 got_dumb : (lines : List (List ℕ)) (number : ℕ) (name : List ℕ) (tick : ℕ) (what : Said) → ((at : ℕ) (bytes : List ℕ) → reads_at name at bytes (event_by lines number) ≡ []) → got_by lines name (notes.Line number tick what) ≡ []
 got_dumb lines number name tick (said.Got at bytes) none = none at bytes
 got_dumb lines number name tick what none = refl
+
+reads_none : (name : List ℕ) (at : ℕ) (bytes : List ℕ) (event : Event) → IsOther event → reads_at name at bytes (Some event) ≡ []
+reads_none name at bytes (events.Read label) other = absurd other
+reads_none name at bytes event other = refl
 
 reads_same : (label : List ℕ) (at : ℕ) (bytes : List ℕ) → reads_at label at bytes (Some (events.Read label)) ≡ (at, bytes) ∷ []
 reads_same label at bytes = rw ((bytes_eq-Decides label label).1 refl) refl
@@ -143,10 +149,7 @@ got_telling lines = record {
   state = λ name number tick label s. refl;
   refused = λ name number tick why. refl;
   nothing = λ name number tick. refl;
-  register = λ number fac node app is name tick what. got_dumb lines number name tick what (λ at bytes. rw is refl);
-  alloc = λ number label fac node app to want is name tick what. got_dumb lines number name tick what (λ at bytes. rw is refl);
-  accept = λ number label fac node app is name tick what. got_dumb lines number name tick what (λ at bytes. rw is refl);
-  tick = λ number count is name tick what. got_dumb lines number name tick what (λ at bytes. rw is refl);
+  others = λ number event is other name tick what. got_dumb lines number name tick what (λ at bytes. rw is (reads_none name at bytes event other));
   sent_view = λ e x. sym (append-nil (map sdu_of (take e.taken e.got)));
   sent_same = λ number label bytes is tick num. refl;
   sent_other = λ number label bytes is other ne tick num. refl;

@@ -5,7 +5,6 @@ use Rattle.std.proofs.lemmas.List.{append-nil}
 use Rattle.std.proofs.lemmas.List.Concat.{flat_map-append}
 use Rattle.rina_base.specs.declared.number.Num.{Num}
 use Rattle.rina_base.specs.declared.number.Port.{Port}
-use Rattle.rina_cube.specs.declared.Want.{Want}
 use Rattle.rina_law.specs.declared.entry.Entry.{Entry}
 use Rattle.rina_iface.specs.declared.ends.End.{End}
 use Rattle.rina_iface.specs.declared.error.SendError.{SendError}
@@ -35,14 +34,20 @@ use Rattle.rina_run.specs.Labels.{event_by}
 use Rattle.rina_run.specs.Look.{label_notes, noted, same_drawn, state_at, state_notes}
 use Rattle.rina_run.specs.Run.{LineDoes, Runs}
 use Rattle.rina_run.specs.Sites.{port_in, site_at}
-use Rattle.rina_run.specs.Step.{Acts, AtPort, CallsSend, Passes, Reading, Steps, Ticking, Ticks, got_note, read_notes}
+use Rattle.rina_run.specs.Step.{Acts, AtPort, CallsSend, Passes, Reading, Steps, Ticking, Ticks, got_note, read_notes, wire_of}
 use Rattle.rina_run.proofs.LabelCalls.{moves_pass, moves_send, refused_send}
 use Rattle.rina_run.proofs.LabelMoves.{moves_same}
-use Rattle.rina_run.proofs.LabelWords.{IsView, Keeps, keeps_accept, keeps_allocate, keeps_at, keeps_looked, keeps_none, keeps_register, keeps_same, keeps_tick}
+use Rattle.rina_run.proofs.LabelWords.{IsView, Keeps, keeps_accept, keeps_allocate, keeps_at, keeps_hold, keeps_looked, keeps_lose, keeps_none, keeps_register, keeps_repeat, keeps_same, keeps_tick}
 
 -- nothing is told by a line of this number
 abbrev pub IsDumb : {X : Type 0} → (List ℕ → Note → List X) → ℕ → Type 0
 IsDumb by number = (name : List ℕ) (tick : ℕ) (what : Said) → by name (notes.Line number tick what) ≡ []
+
+-- a word that sends nothing and reads nothing
+abbrev pub IsOther : Event → Type 0
+IsOther (events.Send label bytes) = ⊥
+IsOther (events.Read label) = ⊥
+IsOther event = Unit {0}
 
 -- the notes tell of an end what its view shows: of an SDU that was sent these, of one that was passed those
 pub record IsTelling {X : Type 0} (lines : List (List ℕ)) (V : End → List X) (by : List ℕ → Note → List X) (sent got : Entry → List X) : Type 0 where
@@ -50,10 +55,7 @@ pub record IsTelling {X : Type 0} (lines : List (List ℕ)) (V : End → List X)
   pub state : (name : List ℕ) (number tick : ℕ) (label : List ℕ) (s : StateNote) → by name (notes.Line number tick (said.Label label s)) ≡ []
   pub refused : (name : List ℕ) (number tick : ℕ) (why : Refusal) → by name (notes.Line number tick (said.Refused why)) ≡ []
   pub nothing : (name : List ℕ) (number tick : ℕ) → by name (notes.Line number tick said.Nothing) ≡ []
-  pub register : (number : ℕ) (fac node app : List ℕ) → event_by lines number ≡ Some (events.Register fac node app) → IsDumb by number
-  pub alloc : (number : ℕ) (label fac node app to : List ℕ) (want : Want) → event_by lines number ≡ Some (events.Alloc label fac node app to want) → IsDumb by number
-  pub accept : (number : ℕ) (label fac node app : List ℕ) → event_by lines number ≡ Some (events.Accept label fac node app) → IsDumb by number
-  pub tick : (number count : ℕ) → event_by lines number ≡ Some (events.Tick count) → IsDumb by number
+  pub others : (number : ℕ) (event : Event) → event_by lines number ≡ Some event → IsOther event → IsDumb by number
   pub sent_view : (e : End) (x : Entry) → V (with_sent e x) ≡ V e ++ sent x
   pub sent_same : (number : ℕ) (label bytes : List ℕ) → event_by lines number ≡ Some (events.Send label bytes) → (tick : ℕ) (num : Num) → by label (notes.Line number tick (said.Sent num)) ≡ sent (record { tick = tick; num = num; bytes = bytes })
   pub sent_other : (number : ℕ) (label bytes : List ℕ) → event_by lines number ≡ Some (events.Send label bytes) → (other : List ℕ) → label ≢ other → (tick : ℕ) (num : Num) → by other (notes.Line number tick (said.Sent num)) ≡ []
@@ -189,12 +191,15 @@ quiet_says V by told number says ns w dumb is k = after_quiet V by told ns w (λ
 
 acts_keep : {X : Type 0} (lines : List (List ℕ)) (V : End → List X) (by : List ℕ → Note → List X) (sent got : Entry → List X) (told : List ℕ → List X) (plan : Plan) (number : ℕ) (event : Event) (w : World) (ns : List Note) (w' : World)
     → IsTelling lines V by sent got → event_by lines number ≡ Some event → Acts plan number event w ns w' → Keeps V told w → Keeps V (after by told ns) w'
-acts_keep lines V by sent got told plan number (events.Register fac node app) w ns w' t is a k = quiet_says V by told number a.says ns w' (t.register number fac node app is) a.notes (keeps_register V told app w (site_at plan 1 fac node) a.says w' a.does k)
-acts_keep lines V by sent got told plan number (events.Alloc label fac node app to want) w ns w' t is a k = quiet_says V by told number a.says ns w' (t.alloc number label fac node app to want is) a.notes (keeps_allocate V told plan label fac node app to want w (site_at plan 2 fac node) a.says w' t.view a.does k)
-acts_keep lines V by sent got told plan number (events.Accept label fac node app) w ns w' t is a k = quiet_says V by told number a.says ns w' (t.accept number label fac node app is) a.notes (keeps_accept V told plan label app w (site_at plan 2 fac node) a.says w' a.does k)
+acts_keep lines V by sent got told plan number (events.Register fac node app) w ns w' t is a k = quiet_says V by told number a.says ns w' (t.others number (events.Register fac node app) is tt) a.notes (keeps_register V told app w (site_at plan 1 fac node) a.says w' a.does k)
+acts_keep lines V by sent got told plan number (events.Alloc label fac node app to want) w ns w' t is a k = quiet_says V by told number a.says ns w' (t.others number (events.Alloc label fac node app to want) is tt) a.notes (keeps_allocate V told plan label fac node app to want w (site_at plan 2 fac node) a.says w' t.view a.does k)
+acts_keep lines V by sent got told plan number (events.Accept label fac node app) w ns w' t is a k = quiet_says V by told number a.says ns w' (t.others number (events.Accept label fac node app) is tt) a.notes (keeps_accept V told plan label app w (site_at plan 2 fac node) a.says w' a.does k)
 acts_keep lines V by sent got told plan number (events.Send label bytes) w ns w' t is a k = rw a.notes (send_at lines V by sent got told plan number label bytes w (port_in w.labels label) a.says w' t is refl a.does k)
 acts_keep lines V by sent got told plan number (events.Read label) w ns w' t is a k = read_at lines V by sent got told number label w (port_in w.labels label) ns w' t is refl a k
-acts_keep lines V by sent got told plan number (events.Tick count) w ns w' t is a k = ticking_keep lines V by sent got told plan number count w (nat_lt 10000000 (w.tower.now + count)) ns w' t (t.tick number count is) a k
+acts_keep lines V by sent got told plan number (events.Tick count) w ns w' t is a k = ticking_keep lines V by sent got told plan number count w (nat_lt 10000000 (w.tower.now + count)) ns w' t (t.others number (events.Tick count) is tt) a k
+acts_keep lines V by sent got told plan number (events.Lose wire frame) w ns w' t is a k = quiet_says V by told number a.says ns w' (t.others number (events.Lose wire frame) is tt) a.notes (keeps_lose V told frame w (wire_of plan wire) a.says w' a.does k)
+acts_keep lines V by sent got told plan number (events.Repeat wire frame at) w ns w' t is a k = quiet_says V by told number a.says ns w' (t.others number (events.Repeat wire frame at) is tt) a.notes (keeps_repeat V told frame at w (wire_of plan wire) a.says w' a.does k)
+acts_keep lines V by sent got told plan number (events.Hold wire frame at) w ns w' t is a k = quiet_says V by told number a.says ns w' (t.others number (events.Hold wire frame at) is tt) a.notes (keeps_hold V told frame at w (wire_of plan wire) a.says w' a.does k)
 acts_keep lines V by sent got told plan number event w ns w' t is a k = absurd a
 
 -- ---- lines

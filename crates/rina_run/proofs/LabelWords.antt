@@ -14,11 +14,14 @@ use Rattle.rina_report.specs.declared.said.Said.{Said}
 use Rattle.rina_stack.specs.declared.plan.Plan.{Plan}
 use Rattle.rina_wire.specs.Air.{Air, seen_of}
 use Rattle.rina_wire.specs.Allocate.{AllocatesOn}
+use Rattle.rina_wire.specs.declared.event.WireError.{WireError}
+use Rattle.rina_wire.specs.Disturb.{HoldsOn, LosesOn, RepeatsOn}
 use Rattle.rina_wire.specs.Sound.{IsSound}
 use Rattle.rina_wire.proofs.Claims.{seen_claims}
 use Rattle.rina_wire.proofs.Kept.{is_mapped}
 use Rattle.rina_wire.proofs.Sound.{sound_claims}
 use Rattle.rina_wire.proofs.SoundAllocate.{sound_allocates}
+use Rattle.rina_wire.proofs.SoundDisturb.{holds_unseen, loses_unseen, repeats_unseen, sound_holds, sound_loses, sound_repeats}
 use Rattle.rina_wire.proofs.SoundRegister.{sound_registers}
 use Rattle.rina_wire.proofs.SoundTick.{sound_ticks}
 use Rattle.rina_run.specs.declared.labels.Label.{Label}
@@ -26,7 +29,7 @@ use Rattle.rina_run.specs.declared.site.Site.{Site}
 use Rattle.rina_run.specs.declared.world.World.{World}
 use Rattle.rina_run.specs.Look.{looked}
 use Rattle.rina_run.specs.Sites.{label_in, port_in}
-use Rattle.rina_run.specs.Step.{AtSite, CallsAllocate, CallsIncoming, CallsRegister, TicksOnce, Unlabelled, asked, label_of}
+use Rattle.rina_run.specs.Step.{AtSite, AtWire, CallsAllocate, CallsIncoming, CallsRegister, CallsWire, TicksOnce, Unlabelled, asked, label_of}
 use Rattle.rina_run.proofs.LabelCalls.{flow_of, moves_register, refused_allocate}
 use Rattle.rina_run.proofs.LabelClaimed.{named_claimed, tells_claimed}
 use Rattle.rina_run.proofs.LabelGiven.{found_of, unknown_of}
@@ -141,6 +144,24 @@ keeps_tick V told plan line w ns w' view t k =
     let sound = sound_ticks w.tower (Ok tt) w'.tower k.sound t.tower in
     let mv = subst (λ (a : Air). Moves V none (seen_of w.tower) (seen_of a)) (sym t.tower.air) (moves_tick V w.tower view.ignores k.sound.kept) in
     subst (Keeps V told) (sym (world_is w' (looked w'.tower w.labels) t.labels)) (keeps_looked V told (record { tower = w'.tower; labels = w.labels }) (keeps_none V told w w'.tower sound mv k))
+
+-- ---- events of wires
+
+-- an event that shows nothing
+keeps_wire : {X : Type 0} (V : End → List X) (told : List ℕ → List X) (Does : ℕ → Air → Result (Unit {0}) WireError → Air → Type 0) (w : World) (found : Option ℕ) (says : Option Said) (w' : World) → ((n : ℕ) (r : Result (Unit {0}) WireError) → Does n w.tower r w'.tower → IsSound w'.tower × Moves V none (seen_of w.tower) (seen_of w'.tower)) → AtWire found (λ n. CallsWire (Does n) w) w says w' → Keeps V told w → Keeps V told w'
+keeps_wire V told Does w None says w' safe c k = subst (Keeps V told) (sym c.world) k
+keeps_wire V told Does w (Some n) says w' safe c k =
+    let s = safe n c.result c.does in
+    subst (Keeps V told) (sym (world_is w' w.labels c.labels)) (keeps_none V told w w'.tower s.0 s.1 k)
+
+pub keeps_lose : {X : Type 0} (V : End → List X) (told : List ℕ → List X) (frame : ℕ) (w : World) (found : Option ℕ) (says : Option Said) (w' : World) → AtWire found (λ n. CallsWire (λ a r a'. LosesOn a n frame r a') w) w says w' → Keeps V told w → Keeps V told w'
+keeps_lose V told frame w found says w' c k = keeps_wire V told (λ n a r a'. LosesOn a n frame r a') w found says w' (λ n r does. (sound_loses w.tower n frame r w'.tower k.sound does, moves_same V (seen_of w.tower) (seen_of w'.tower) (loses_unseen w.tower n frame r w'.tower does))) c k
+
+pub keeps_repeat : {X : Type 0} (V : End → List X) (told : List ℕ → List X) (frame at : ℕ) (w : World) (found : Option ℕ) (says : Option Said) (w' : World) → AtWire found (λ n. CallsWire (λ a r a'. RepeatsOn a n frame at r a') w) w says w' → Keeps V told w → Keeps V told w'
+keeps_repeat V told frame at w found says w' c k = keeps_wire V told (λ n a r a'. RepeatsOn a n frame at r a') w found says w' (λ n r does. (sound_repeats w.tower n frame at r w'.tower k.sound does, moves_same V (seen_of w.tower) (seen_of w'.tower) (repeats_unseen w.tower n frame at r w'.tower does))) c k
+
+pub keeps_hold : {X : Type 0} (V : End → List X) (told : List ℕ → List X) (frame at : ℕ) (w : World) (found : Option ℕ) (says : Option Said) (w' : World) → AtWire found (λ n. CallsWire (λ a r a'. HoldsOn a n frame at r a') w) w says w' → Keeps V told w → Keeps V told w'
+keeps_hold V told frame at w found says w' c k = keeps_wire V told (λ n a r a'. HoldsOn a n frame at r a') w found says w' (λ n r does. (sound_holds w.tower n frame at r w'.tower k.sound does, moves_same V (seen_of w.tower) (seen_of w'.tower) (holds_unseen w.tower n frame at r w'.tower does))) c k
 
 -- ---- at one label
 

@@ -6,7 +6,7 @@ pub mod Asking
 pub mod Leading
 pub mod Playing
 pub mod Ending
-pub mod FramesGrown
+pub mod FramesLists
 pub mod FramesKept
 pub mod FramesTick
 pub mod FramesCalls

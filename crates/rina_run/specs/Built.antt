@@ -10,7 +10,7 @@ use Rattle.rina_schedule.specs.Fields.{next_of}
 use Rattle.rina_schedule.specs.Line.{line_at}
 
 unfoldable pub is_built_word : List ℕ → Bool
-is_built_word word = bytes_eq word (codes "register") || bytes_eq word (codes "alloc") || bytes_eq word (codes "accept") || bytes_eq word (codes "send") || bytes_eq word (codes "read") || bytes_eq word (codes "tick")
+is_built_word word = bytes_eq word (codes "register") || bytes_eq word (codes "alloc") || bytes_eq word (codes "accept") || bytes_eq word (codes "send") || bytes_eq word (codes "read") || bytes_eq word (codes "tick") || bytes_eq word (codes "lose") || bytes_eq word (codes "repeat") || bytes_eq word (codes "hold")
 
 abbrev pub is_built : Event → Bool
 is_built (events.Register fac node app) = true
@@ -19,6 +19,9 @@ is_built (events.Accept label fac node app) = true
 is_built (events.Send label bytes) = true
 is_built (events.Read label) = true
 is_built (events.Tick count) = true
+is_built (events.Lose wire frame) = true
+is_built (events.Repeat wire frame at) = true
+is_built (events.Hold wire frame at) = true
 is_built _ = false
 
 -- the line is blank or a comment, or begins with a word that is built

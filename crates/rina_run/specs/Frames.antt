@@ -1,58 +1,64 @@
--- What becomes of the frames of a run: each arrives once, when the delay of its wire has gone by.
-use Rattle.std.specs.Prelude.{◌≡◌, ◌≢◌, ℕ, ◌+◌, ◌<◌, ◌≤◌, List, slice_get, Some}
+-- What becomes of the frames of a run: each that no event touched arrives once, when the delay of its wire has gone by.
+use Rattle.std.specs.Prelude.{◌≡◌, ℕ, ◌+◌, ◌<◌, ◌≤◌, ◌==◌, List, [], ◌∷◌, filter, take, slice_get, Some, Ok}
+use Rattle.rina_base.specs.declared.number.Num.{Num}
 use Rattle.rina_law.specs.declared.entry.Entry.{Entry}
 use Rattle.rina_iface.specs.declared.ends.End.{End}
 use Rattle.rina_iface.specs.Journal.{At}
 use Rattle.rina_report.specs.declared.note.Note.{Note}
+use Rattle.rina_schedule.specs.declared.event.Event.{Event}
+use Rattle.rina_schedule.specs.declared.event.Event.TheVariants as events
 use Rattle.rina_stack.specs.declared.plan.Plan.{Plan}
 use Rattle.rina_stack.specs.Plan.{IsPlan}
 use Rattle.rina_wire.specs.Air.{Line, wire_at}
-use Rattle.rina_wire.specs.Send.{frame_number, mate}
+use Rattle.rina_wire.specs.Send.{mate}
 use Rattle.rina_wire.specs.declared.flight.Flight.{Flight}
 use Rattle.rina_run.specs.declared.world.World.{World}
+use Rattle.rina_run.specs.Built.{event_at}
+use Rattle.rina_run.specs.Look.{same_num}
 use Rattle.rina_run.specs.Run.{Runs, opening}
+use Rattle.rina_run.specs.Step.{wire_of}
 
--- exactly one of these entries has the number of the frame, and it came so many ticks after the frame was sent, with its bytes
-pub record CameOnce (delay : ℕ) (frame : Entry) (got : List Entry) : Type 0 where
-  pub place : ℕ
-  pub entry : Entry
-  pub stands : slice_get got place ≡ Some entry
-  pub number : entry.num ≡ frame.num
-  pub tick : entry.tick ≡ frame.tick + delay
-  pub bytes : entry.bytes ≡ frame.bytes
-  pub alone : (j : ℕ) (x : Entry) → slice_get got j ≡ Some x → x.num ≡ frame.num → j ≡ place
+-- the entries of this number, in their order
+abbrev pub of_number : Num → List Entry → List Entry
+of_number num entries = filter (λ (x : Entry). same_num x.num num) entries
 
--- none of these entries has the number of the frame
-abbrev pub NotCome : Entry → List Entry → Type 0
-NotCome frame got = (j : ℕ) (x : Entry) → slice_get got j ≡ Some x → x.num ≢ frame.num
+-- the copies of this frame, in their order
+abbrev pub copies_of : ℕ → List Flight → List Flight
+copies_of frame flights = filter (λ (f : Flight). f.frame == frame) flights
+
+-- exactly one of these entries has the number of the frame: it came so many ticks after the frame was sent, with its bytes
+abbrev pub CameOnce : ℕ → Entry → List Entry → Type 0
+CameOnce delay frame got = of_number frame.num got ≡ record { tick = frame.tick + delay; num = frame.num; bytes = frame.bytes } ∷ []
 
 -- exactly one copy of the frame is in flight: it goes to the end at this place, arrives so many ticks after the frame was sent, and has its bytes
-pub record FliesOnce (delay to : ℕ) (frame : Entry) (flights : List Flight) : Type 0 where
-  pub place : ℕ
-  pub copy : Flight
-  pub stands : slice_get flights place ≡ Some copy
-  pub goes : copy.to ≡ to
-  pub number : frame_number copy.frame ≡ frame.num
-  pub due : copy.due ≡ frame.tick + delay
-  pub bytes : copy.bytes ≡ frame.bytes
-  pub alone : (j : ℕ) (f : Flight) → slice_get flights j ≡ Some f → frame_number f.frame ≡ frame.num → j ≡ place
-
--- no copy of the frame is in flight
-abbrev pub NotFlies : Entry → List Flight → Type 0
-NotFlies frame flights = (j : ℕ) (f : Flight) → slice_get flights j ≡ Some f → frame_number f.frame ≢ frame.num
+abbrev pub FliesOnce : ℕ → ℕ → Entry → List Flight → Type 0
+FliesOnce delay to frame flights = copies_of frame.num.seq flights ≡ record { to = to; frame = frame.num.seq; sent = frame.tick; due = frame.tick + delay; bytes = frame.bytes } ∷ []
 
 -- a frame that the end at place i sent: where the clock has reached its tick the other end got it once, and else it is in flight and did not come yet
 pub record IsCarried (now : ℕ) (l : Line) (i : ℕ) (frame : Entry) : Type 0 where
   pub other : End
   pub stands : At l.ends (mate i) other
   pub came : frame.tick + l.delay ≤ now → CameOnce l.delay frame other.got
-  pub landed : frame.tick + l.delay ≤ now → NotFlies frame l.flights
+  pub landed : frame.tick + l.delay ≤ now → copies_of frame.num.seq l.flights ≡ []
   pub flies : now < frame.tick + l.delay → FliesOnce l.delay (mate i) frame l.flights
-  pub not_come : now < frame.tick + l.delay → NotCome frame other.got
+  pub not_come : now < frame.tick + l.delay → of_number frame.num other.got ≡ []
 
--- in every run, every frame that any end of any wire sent is carried
+-- what is done in this world touches frame `frame` of wire `fac`: an event of that wire names the frame
+abbrev pub Touches : Plan → ℕ → ℕ → World → Event → Type 0
+Touches plan fac frame w (events.Lose wire k) = (wire_of plan wire ≡ Some fac) × (k ≡ frame)
+Touches plan fac frame w (events.Repeat wire k at) = (wire_of plan wire ≡ Some fac) × (k ≡ frame)
+Touches plan fac frame w (events.Hold wire k at) = (wire_of plan wire ≡ Some fac) × (k ≡ frame)
+Touches plan fac frame w event = ⊥
+
+-- no line touches the frame in the world to which the lines before it led
+abbrev pub IsSpared : Plan → ℕ → ℕ → List (List ℕ) → Type 0
+IsSpared plan fac frame lines =
+    (before : ℕ) (line : List ℕ) (event : Event) (ns : List Note) (w : World) → slice_get lines before ≡ Some line → event_at line ≡ Ok (Some event)
+    → Runs plan 1 (opening plan) (take before lines) ns w → Touches plan fac frame w event → ⊥
+
+-- in every run, every frame that any end of any wire sent is carried, unless a line touched it
 abbrev pub FramesArriveOnce : Type 0
 FramesArriveOnce =
     (plan : Plan) (lines : List (List ℕ)) (ns : List Note) (w : World) → IsPlan plan → Runs plan 1 (opening plan) lines ns w
     → (fac : ℕ) (l : Line) → wire_at w.tower fac ≡ Some l → (i j : ℕ) (e : End) (frame : Entry) → At l.ends i e → slice_get e.sent j ≡ Some frame
-    → IsCarried w.tower.now l i frame
+    → IsSpared plan fac frame.num.seq lines → IsCarried w.tower.now l i frame

@@ -18,17 +18,21 @@ use Rattle.rina_report.specs.declared.said.Said.TheVariants as said
 use Rattle.rina_schedule.specs.declared.event.Event.{Event}
 use Rattle.rina_schedule.specs.declared.event.Event.TheVariants as events
 use Rattle.rina_stack.specs.declared.plan.Plan.{Plan}
+use Rattle.rina_stack.specs.Plan.{names_of}
+use Rattle.rina_stack.specs.Rules.{place_in}
+use Rattle.rina_wire.specs.declared.event.WireError.{WireError}
 use Rattle.rina_wire.specs.Air.{Air, seen_of}
 use Rattle.rina_wire.specs.Register.{RegistersOn}
 use Rattle.rina_wire.specs.Allocate.{AllocatesOn}
 use Rattle.rina_wire.specs.Claim.{ClaimsOn}
+use Rattle.rina_wire.specs.Disturb.{HoldsOn, LosesOn, RepeatsOn}
 use Rattle.rina_wire.specs.Send.{SendsOn, passed}
 use Rattle.rina_wire.specs.Tick.{TicksOn}
 use Rattle.rina_run.specs.declared.world.World.{World}
 use Rattle.rina_run.specs.declared.labels.Label.{Label}
 use Rattle.rina_run.specs.declared.site.Site.{Site}
 use Rattle.rina_run.specs.Sites.{site_at, label_in, port_in}
-use Rattle.rina_run.specs.Told.{answer_told, register_told, allocate_told, send_told, drawn_told}
+use Rattle.rina_run.specs.Told.{answer_told, register_told, allocate_told, send_told, wire_told, drawn_told}
 use Rattle.rina_run.specs.Look.{state_at, noted, state_notes, looked}
 
 -- the line was refused before any call, and nothing changed
@@ -50,6 +54,11 @@ Unlabelled None Call w says w' = Call says w'
 abbrev pub AtPort : Option Port → (Port → Option Said → World → Type 0) → World → Option Said → World → Type 0
 AtPort None Call w says w' = IsRefused (refusals.Unknown 1) w says w'
 AtPort (Some port) Call w says w' = Call port says w'
+
+-- an event at the wire that the line names; where the stack has none of that name, it is refused
+abbrev pub AtWire : Option ℕ → (ℕ → Option Said → World → Type 0) → World → Option Said → World → Type 0
+AtWire None Call w says w' = IsRefused refusals.NoWire w says w'
+AtWire (Some wire) Call w says w' = Call wire says w'
 
 -- ---- register FAC NODE APP
 
@@ -178,6 +187,28 @@ abbrev pub Ticking : Bool → Plan → ℕ → ℕ → World → List Note → W
 Ticking true plan line count w ns w' = (ns ≡ noted line w.tower.now (Some (said.Refused refusals.ClockSpent))) × (w' ≡ w)
 Ticking false plan line count w ns w' = AllTicks plan line count w ns w'
 
+-- ---- lose WIRE K, repeat WIRE K TICK, hold WIRE K TICK
+
+-- the number of the wire of that name
+abbrev pub wire_of : Plan → List ℕ → Option ℕ
+wire_of plan name = place_in (names_of plan.wires) name
+
+-- an event of a wire, by what it does to the tower
+pub record CallsWire (Does : Air → Result (Unit {0}) WireError → Air → Type 0) (w : World) (says : Option Said) (w' : World) : Type 0 where
+  pub result : Result (Unit {0}) WireError
+  pub does : Does w.tower result w'.tower
+  pub labels : w'.labels ≡ w.labels
+  pub told : says ≡ answer_told (λ done. Some said.Done) wire_told result
+
+abbrev pub Losing : Plan → List ℕ → ℕ → World → Option Said → World → Type 0
+Losing plan wire frame w says w' = AtWire (wire_of plan wire) (λ n. CallsWire (λ a r a'. LosesOn a n frame r a') w) w says w'
+
+abbrev pub Repeating : Plan → List ℕ → ℕ → ℕ → World → Option Said → World → Type 0
+Repeating plan wire frame at w says w' = AtWire (wire_of plan wire) (λ n. CallsWire (λ a r a'. RepeatsOn a n frame at r a') w) w says w'
+
+abbrev pub Holding : Plan → List ℕ → ℕ → ℕ → World → Option Said → World → Type 0
+Holding plan wire frame at w says w' = AtWire (wire_of plan wire) (λ n. CallsWire (λ a r a'. HoldsOn a n frame at r a') w) w says w'
+
 -- ---- all words
 
 -- a word that says one thing
@@ -194,6 +225,9 @@ Acts plan line (events.Accept label fac node app) w ns w' = Says line (Accepting
 Acts plan line (events.Send label bytes) w ns w' = Says line (Sending plan label bytes w) ns w'
 Acts plan line (events.Read label) w ns w' = Reading line (port_in w.labels label) w ns w'
 Acts plan line (events.Tick count) w ns w' = Ticking (nat_lt 10000000 (w.tower.now + count)) plan line count w ns w'
+Acts plan line (events.Lose wire frame) w ns w' = Says line (Losing plan wire frame w) ns w'
+Acts plan line (events.Repeat wire frame at) w ns w' = Says line (Repeating plan wire frame at w) ns w'
+Acts plan line (events.Hold wire frame at) w ns w' = Says line (Holding plan wire frame at w) ns w'
 Acts plan line event w ns w' = ⊥
 
 -- a line: what its word does and answers, and then the states of the labels that changed

@@ -11,6 +11,8 @@ use Rattle.rina_iface.specs.declared.error.AllocateError.{AllocateError}
 use Rattle.rina_iface.specs.declared.error.AllocateError.TheVariants as allocate
 use Rattle.rina_iface.specs.declared.error.SendError.{SendError}
 use Rattle.rina_iface.specs.declared.error.SendError.TheVariants as send
+use Rattle.rina_wire.specs.declared.event.WireError.{WireError}
+use Rattle.rina_wire.specs.declared.event.WireError.TheVariants as wires
 use Rattle.rina_report.specs.declared.refusal.Refusal.{Refusal}
 use Rattle.rina_report.specs.declared.refusal.Refusal.TheVariants as refusals
 use Rattle.rina_report.specs.declared.said.Said.{Said}
@@ -76,6 +78,14 @@ send_told plan (send.WindowShut need room) = Some (refusals.WindowShut need room
 send_told plan (send.NoRoute dst) = Some (refusals.NoRoute dst)
 send_told plan (send.QueueFull need room) = Some (refusals.QueueFull need room)
 send_told plan (send.NumbersSpent until) = Some (refusals.NumbersSpent until)
+
+-- what an event of a wire refused
+abbrev pub wire_told : WireError → Option Refusal
+wire_told wires.Memory = None
+wire_told wires.NoWire = Some refusals.NoWire
+wire_told (wires.NoFrame frame) = Some (refusals.NoFrame frame)
+wire_told (wires.EarlyHold now) = Some (refusals.EarlyHold now)
+wire_told (wires.LateHold last) = Some (refusals.LateHold last)
 
 -- what a call answered: what is said where it was done, or what it refused
 abbrev pub answer_told : {A E : Type 0} → (A → Option Said) → (E → Option Refusal) → Result A E → Option Said

@@ -17,6 +17,9 @@ fn word_is_built(word: &[u8]) -> bool
         || word == b"send".as_slice()
         || word == b"read".as_slice()
         || word == b"tick".as_slice()
+        || word == b"lose".as_slice()
+        || word == b"repeat".as_slice()
+        || word == b"hold".as_slice()
 }
 
 fn event_is_built(event: &Event) -> bool
@@ -30,6 +33,9 @@ fn event_is_built(event: &Event) -> bool
             | Event::Send { .. }
             | Event::Read { .. }
             | Event::Tick { .. }
+            | Event::Lose { .. }
+            | Event::Repeat { .. }
+            | Event::Hold { .. }
     )
 }
 

@@ -17,7 +17,7 @@ use rina_wire::Wires;
 use std::alloc::Global;
 
 /// A refusal, as it is said.
-fn refused(why: Option<Refusal>) -> Option<Said>
+pub fn refused(why: Option<Refusal>) -> Option<Said>
     ensures { result ≡ option_map Said.Refused why }
 {
     Some(Said::Refused { why: why? })

@@ -17,6 +17,7 @@ mod site;
 mod step;
 mod told;
 mod top;
+mod wire_words;
 mod words;
 mod world;
 

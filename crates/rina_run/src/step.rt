@@ -10,6 +10,7 @@ use crate::flow_words::{accept, allocate, register, send};
 use crate::look::look;
 use crate::note::tell;
 use crate::read_word::read;
+use crate::wire_words::{hold, lose, repeat};
 use crate::world::World;
 use rina_base::Memory;
 use rina_iface::Facility;
@@ -131,6 +132,18 @@ fn act(
         }
         Event::Read { label } => read(alloc, world, line, label, trace),
         Event::Tick { count } => tick(alloc, plan, world, line, *count, trace),
+        Event::Lose { wire, frame } => {
+            let says = lose(plan, world, wire, *frame)?;
+            tell(trace, line, world.tower.now(), says)
+        }
+        Event::Repeat { wire, frame, at } => {
+            let says = repeat(alloc, plan, world, wire, *frame, *at)?;
+            tell(trace, line, world.tower.now(), says)
+        }
+        Event::Hold { wire, frame, at } => {
+            let says = hold(plan, world, wire, *frame, *at)?;
+            tell(trace, line, world.tower.now(), says)
+        }
         _ => unreachable!(),
     }
 }

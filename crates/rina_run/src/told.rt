@@ -1,11 +1,12 @@
 //! How a run tells ports, states and refusals: with the names of the stack in place of numbers.
 ghost use Rattle.std.specs.Prelude.{◌≡◌, IfOk};
-ghost use Rattle.rina_run.specs.Told.{port_told, fail_told, state_told, drawn_told, register_told, allocate_told, send_told};
+ghost use Rattle.rina_run.specs.Told.{port_told, fail_told, state_told, drawn_told, register_told, allocate_told, send_told, wire_told};
 
 use rina_base::{Memory, Name, Port};
 use rina_iface::{AllocateError, Fail, PortState, RegisterError, SendError};
 use rina_report::{FailNote, PortNote, Refusal, StateNote};
 use rina_stack::Plan;
+use rina_wire::WireError;
 use std::alloc::Global;
 
 /// A port with the names of its facility and its node.
@@ -136,5 +137,18 @@ pub fn tell_send(alloc: Global, plan: &Plan, error: SendError) -> Result<Option<
         SendError::NoRoute { dst } => Ok(Some(Refusal::NoRoute { dst })),
         SendError::QueueFull { need, room } => Ok(Some(Refusal::QueueFull { need, room })),
         SendError::NumbersSpent { until } => Ok(Some(Refusal::NumbersSpent { until })),
+    }
+}
+
+/// What an event of a wire refused.
+pub fn tell_wire(error: WireError) -> Option<Refusal>
+    ensures { result ≡ wire_told error }
+{
+    match error {
+        WireError::Memory => None,
+        WireError::NoWire => Some(Refusal::NoWire),
+        WireError::NoFrame { k } => Some(Refusal::NoFrame { frame: k }),
+        WireError::EarlyHold { now } => Some(Refusal::EarlyHold { now }),
+        WireError::LateHold { last } => Some(Refusal::LateHold { last }),
     }
 }

@@ -37,7 +37,7 @@ pub record ArePair (s : Site) (now frames n : ℕ) (x y : End) : Type 0 where
   pub far_sent : y.sent ≡ []
 
 -- what an end sent stands among the old ones
-sent_before : (ends : List End) (x y : End) (i j : ℕ) (a : End) (e : Entry) → x.sent ≡ [] → y.sent ≡ [] → At (ends ++ x ∷ y ∷ []) i a → slice_get a.sent j ≡ Some e → At ends i a
+pub sent_before : (ends : List End) (x y : End) (i j : ℕ) (a : End) (e : Entry) → x.sent ≡ [] → y.sent ≡ [] → At (ends ++ x ∷ y ∷ []) i a → slice_get a.sent j ≡ Some e → At ends i a
 sent_before ends x y i j a e xs ys ha he = elim (two_at ends x y i a ha) [
   | inl o ↦ o
   | inr n ↦ elim n [

@@ -13,6 +13,7 @@ pub mod Mates
 pub mod Seen
 pub mod Sound
 pub mod SoundAllocate
+pub mod SoundDisturb
 pub mod SoundRegister
 pub mod SoundSend
 pub mod SoundTick

@@ -116,7 +116,7 @@ without_stays : (l : Line) (o : Option ℕ) → IsSoundLine l → IsSoundLine (w
 without_stays l None s = s
 without_stays l (Some at) s = keeps l l.ends (remove l.waiting at) l.names l.frames l.flights s (like_refl l.ends)
 
-all_remove : {X : Type 0} (P : X → Type 0) (xs : List X) (i : ℕ) → All P xs → All P (remove xs i)
+pub all_remove : {X : Type 0} (P : X → Type 0) (xs : List X) (i : ℕ) → All P xs → All P (remove xs i)
 all_remove P xs i all = All-append P (take i xs) (drop (suc i) xs) (All-take P i xs all) (All-drop P (suc i) xs all)
 
 without_flows : (now : ℕ) (failed : Bool) (fac : ℕ) (l : Line) (o : Option ℕ) → KeepsFlows now failed fac l → KeepsFlows now failed fac (without l o)

@@ -1,6 +1,7 @@
 pub mod Air
 pub mod Allocate
 pub mod Claim
+pub mod Disturb
 pub mod Plan
 pub mod Register
 pub mod Send

@@ -81,6 +81,7 @@ pub record IsCopy (life now : ℕ) (ends : List End) (f : Flight) : Type 0 where
   pub is : slice_get sender.sent place ≡ Some source
   pub number : source.num ≡ frame_number f.frame
   pub bytes : f.bytes ≡ source.bytes
+  pub since : f.sent ≡ source.tick
   pub sent : source.tick ≤ now
   pub waits : now < f.due
   pub in_time : f.due ≤ source.tick + life

@@ -1,6 +1,7 @@
 //! Wires: the facilities of rank 0, which carry copies of frames.
 #![tactic(auto)]
 
+mod event;
 mod flight;
 #[cfg(test)]
 mod tests;
@@ -8,5 +9,6 @@ mod tick;
 mod wire;
 mod wires;
 
+pub use event::WireError;
 pub use tick::TickError;
 pub use wires::Wires;

@@ -11,6 +11,7 @@ ghost use Rattle.rina_wire.specs.Plan.{line_of};
 ghost use Rattle.rina_wire.specs.Register.{named};
 ghost use Rattle.rina_wire.specs.Send.{flight_of, mate, passed_at, sent_from};
 
+mod disturb;
 mod flow;
 mod frame;
 mod tick;

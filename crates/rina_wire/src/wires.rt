@@ -5,6 +5,7 @@ ghost use Rattle.rina_wire.specs.Plan.{IsSoundPlan, air_of, line_of};
 ghost use Rattle.rina_wire.specs.Sound.{IsSound};
 
 mod calls;
+mod events;
 mod facility;
 mod tick;
 

@@ -58,7 +58,7 @@ fn hello_arrives_after_two_ticks(rt: HostRuntime) -> Result<(), Fail> {
 }
 
 /// Inputs of a stack and lines, and what is written.
-const ROWS: [(&str, &str); 9] = [
+const ROWS: [(&str, &str); 13] = [
     (
         "nodes = [\"a\", \"b\"]\n[[wire]]\nname = \"w\"\nends = [\"a\", \"b\"]\ndelay = 2\nlife = 10\nlargest = 1500\n%%\n",
         "end 0\n",
@@ -81,7 +81,7 @@ const ROWS: [(&str, &str); 9] = [
         "1 1 ok\nfault Schedule 2 3 1\n",
     ),
     (
-        "nodes = [\"a\"]\n%%\ntick 1\n\n# nothing\nlose w 0\n",
+        "nodes = [\"a\"]\n%%\ntick 1\n\n# nothing\nround\n",
         "1 1 ok\nfault Schedule 4 1 0\n",
     ),
     (
@@ -91,6 +91,22 @@ const ROWS: [(&str, &str); 9] = [
     (
         "nodes = [\"a\", \"b\"]\n[[wire]]\nname = \"w\"\nends = [\"a\", \"b\"]\ndelay = 2\nlife = 10\nlargest = 1500\n%%\nalloc p w a ping echo\nregister w a echo\nalloc p w a ping echo\nregister v a echo\nregister w c echo\naccept q w b echo\n",
         "1 0 no NoSuchApp\n2 0 ok\n3 0 no SameSystem\n4 0 no Unknown 1\n5 0 no Unknown 2\n6 0 none\nend 0\n",
+    ),
+    (
+        "nodes = [\"a\", \"b\"]\n[[wire]]\nname = \"w\"\nends = [\"a\", \"b\"]\ndelay = 2\nlife = 10\nlargest = 1500\n%%\nregister w b echo\nalloc p w a ping echo\naccept q w b echo\nsend p 'hello\nrepeat w 0 2\nrepeat w 0 3\nrepeat w 0 4\ntick 4\nread q\n",
+        "1 0 ok\n2 0 ok allocated\n3 0 ok allocated\n4 0 sent 0.0\n5 0 ok\n6 0 ok\n7 0 ok\n8 4 ok\n9 4 got 2 'hello\n9 4 got 2 'hello\n9 4 got 3 'hello\n9 4 got 4 'hello\nend 4\n",
+    ),
+    (
+        "nodes = [\"a\", \"b\"]\n[[wire]]\nname = \"w\"\nends = [\"a\", \"b\"]\ndelay = 2\nlife = 10\nlargest = 1500\n%%\nregister w b echo\nalloc p w a ping echo\naccept q w b echo\nsend p 'hello\nhold w 0 10\nhold w 0 11\ntick 9\nread q\ntick 1\nread q\n",
+        "1 0 ok\n2 0 ok allocated\n3 0 ok allocated\n4 0 sent 0.0\n5 0 ok\n6 0 no LateHold 10\n7 9 ok\n8 9 none\n9 10 ok\n10 10 got 10 'hello\nend 10\n",
+    ),
+    (
+        "nodes = [\"a\", \"b\"]\n[[wire]]\nname = \"w\"\nends = [\"a\", \"b\"]\ndelay = 2\nlife = 10\nlargest = 1500\n%%\nregister w b echo\nalloc p w a ping echo\naccept q w b echo\nsend p 'hello\nhold w 0 0\nlose w 7\n",
+        "1 0 ok\n2 0 ok allocated\n3 0 ok allocated\n4 0 sent 0.0\n5 0 no EarlyHold 0\n6 0 no NoFrame 7\nend 0\n",
+    ),
+    (
+        "nodes = [\"a\", \"b\"]\n[[wire]]\nname = \"w\"\nends = [\"a\", \"b\"]\ndelay = 2\nlife = 10\nlargest = 1500\n%%\nlose v 0\nhold w 0 1\n",
+        "1 0 no NoWire\n2 0 no NoFrame 0\nend 0\n",
     ),
 ];
 

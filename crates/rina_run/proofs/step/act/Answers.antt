@@ -1,4 +1,4 @@
-use Rattle.rina_run.specs.Step.{Registering, Allocating, Accepting, Sending}
+use Rattle.rina_run.specs.Step.{Registering, Allocating, Accepting, Sending, Losing, Repeating, Holding}
 use Rattle.rina_run.proofs.Leading.{told_leads}
 use Rattle.rina_run.proofs.step.act.Goals as goal
 
@@ -13,3 +13,12 @@ returns-in_ok-says-in-Accept-clause-does c = rw c.in-Accept.is (told_leads (Acce
 
 pub returns-in_ok-says-in-Send-clause-does : goal.returns-in_ok-says-in-Send-clause-does
 returns-in_ok-says-in-Send-clause-does c = rw c.in-Send.is (told_leads (Sending c.args.plan.now c.in-Send.label c.in-Send.bytes c.args.world.now) _ _ _ _ _ _ _ c.in_ok-says-in-Send.ensures.does c.now-in-Send.ensures c.tell-in-Send.ensures.ok)
+
+pub returns-in_ok-says-in-Lose-clause-does : goal.returns-in_ok-says-in-Lose-clause-does
+returns-in_ok-says-in-Lose-clause-does c = rw c.in-Lose.is (told_leads (Losing c.args.plan.now c.in-Lose.wire c.in-Lose.frame c.args.world.now) _ _ _ _ _ _ _ c.in_ok-says-in-Lose.ensures.does c.now-in-Lose.ensures c.tell-in-Lose.ensures.ok)
+
+pub returns-in_ok-says-in-Repeat-clause-does : goal.returns-in_ok-says-in-Repeat-clause-does
+returns-in_ok-says-in-Repeat-clause-does c = rw c.in-Repeat.is (told_leads (Repeating c.args.plan.now c.in-Repeat.wire c.in-Repeat.frame c.in-Repeat.at c.args.world.now) _ _ _ _ _ _ _ c.in_ok-says-in-Repeat.ensures.does c.now-in-Repeat.ensures c.tell-in-Repeat.ensures.ok)
+
+pub returns-in_ok-says-in-Hold-clause-does : goal.returns-in_ok-says-in-Hold-clause-does
+returns-in_ok-says-in-Hold-clause-does c = rw c.in-Hold.is (told_leads (Holding c.args.plan.now c.in-Hold.wire c.in-Hold.frame c.in-Hold.at c.args.world.now) _ _ _ _ _ _ _ c.in_ok-says-in-Hold.ensures.does c.now-in-Hold.ensures c.tell-in-Hold.ensures.ok)

@@ -1,0 +1,109 @@
+//! The words on wires: each calls the tower, and says what it answered.
+ghost use Rattle.std.specs.Prelude.{◌≡◌, IfOk};
+ghost use Rattle.rina_stack.specs.Plan.{IsPlan};
+ghost use Rattle.rina_wire.specs.Disturb.{HoldsOn, LosesOn, RepeatsOn};
+ghost use Rattle.rina_wire.specs.Sound.{IsSound};
+ghost use Rattle.rina_run.specs.Step.{CallsWire, Holding, Losing, Repeating};
+
+use crate::flow_words::refused;
+use crate::told::tell_wire;
+use crate::world::World;
+use rina_base::{Memory, Name, Tick};
+use rina_report::{Refusal, Said};
+use rina_stack::Plan;
+use rina_wire::WireError;
+use std::alloc::Global;
+
+/// The word `lose`.
+pub fn lose(plan: &Plan, world: &mut World, wire: &Name, frame: u32) -> Result<Option<Said>, Memory>
+    requires plan { IsPlan plan.now }
+    requires sound { IsSound world.old.tower }
+    ensures does { IfOk result (λ says. Losing plan.now wire.now frame world.old says world.new) }
+    ensures sound { IsSound world.new.tower }
+{
+    let Some(wire) = plan.wire(wire) else {
+        return Ok(refused(Some(Refusal::NoWire)));
+    };
+    call_lose(world, wire, frame)
+}
+
+fn call_lose(world: &mut World, wire: u16, frame: u32) -> Result<Option<Said>, Memory>
+    requires { IsSound world.old.tower }
+    ensures does { IfOk result (λ says. CallsWire (λ a r b. LosesOn a wire frame r b) world.old says world.new) }
+    ensures sound { IsSound world.new.tower }
+{
+    match world.tower.lose(wire, u64::from(frame)) {
+        Ok(()) => Ok(Some(Said::Done)),
+        Err(WireError::Memory) => Err(Memory),
+        Err(error) => Ok(refused(tell_wire(error))),
+    }
+}
+
+/// The word `repeat`.
+pub fn repeat(
+    alloc: Global,
+    plan: &Plan,
+    world: &mut World,
+    wire: &Name,
+    frame: u32,
+    at: Tick,
+) -> Result<Option<Said>, Memory>
+    requires plan { IsPlan plan.now }
+    requires sound { IsSound world.old.tower }
+    ensures does { IfOk result (λ says. Repeating plan.now wire.now frame at world.old says world.new) }
+    ensures sound { IsSound world.new.tower }
+{
+    let Some(wire) = plan.wire(wire) else {
+        return Ok(refused(Some(Refusal::NoWire)));
+    };
+    call_repeat(alloc, world, wire, frame, at)
+}
+
+fn call_repeat(
+    alloc: Global,
+    world: &mut World,
+    wire: u16,
+    frame: u32,
+    at: Tick,
+) -> Result<Option<Said>, Memory>
+    requires { IsSound world.old.tower }
+    ensures does { IfOk result (λ says. CallsWire (λ a r b. RepeatsOn a wire frame at r b) world.old says world.new) }
+    ensures sound { IsSound world.new.tower }
+{
+    match world.tower.repeat(alloc, wire, u64::from(frame), at) {
+        Ok(()) => Ok(Some(Said::Done)),
+        Err(WireError::Memory) => Err(Memory),
+        Err(error) => Ok(refused(tell_wire(error))),
+    }
+}
+
+/// The word `hold`.
+pub fn hold(
+    plan: &Plan,
+    world: &mut World,
+    wire: &Name,
+    frame: u32,
+    at: Tick,
+) -> Result<Option<Said>, Memory>
+    requires plan { IsPlan plan.now }
+    requires sound { IsSound world.old.tower }
+    ensures does { IfOk result (λ says. Holding plan.now wire.now frame at world.old says world.new) }
+    ensures sound { IsSound world.new.tower }
+{
+    let Some(wire) = plan.wire(wire) else {
+        return Ok(refused(Some(Refusal::NoWire)));
+    };
+    call_hold(world, wire, frame, at)
+}
+
+fn call_hold(world: &mut World, wire: u16, frame: u32, at: Tick) -> Result<Option<Said>, Memory>
+    requires { IsSound world.old.tower }
+    ensures does { IfOk result (λ says. CallsWire (λ a r b. HoldsOn a wire frame at r b) world.old says world.new) }
+    ensures sound { IsSound world.new.tower }
+{
+    match world.tower.hold(wire, u64::from(frame), at) {
+        Ok(()) => Ok(Some(Said::Done)),
+        Err(WireError::Memory) => Err(Memory),
+        Err(error) => Ok(refused(tell_wire(error))),
+    }
+}
