@@ -1,5 +1,4 @@
-use crate::{Note, Said, StateNote, print_note, read_note};
-use rina_base::{Num, Seq};
+use crate::{Note, Said, print_note, read_note};
 use rina_schedule::LineError;
 use std::alloc::Global;
 
@@ -27,98 +26,128 @@ fn refuses(alloc: Global, text: &[u8], fault: LineError) -> bool {
     }
 }
 
-fn line(line: u32, tick: u32, said: Said) -> Note {
-    Note::Line { line, tick, said }
+#[test]
+fn the_first_run_begins_and_ends_so(rt: HostRuntime) {
+    let begins = Note::Line {
+        line: 1,
+        tick: 0,
+        said: Said::Done,
+    };
+    assert!(rt; prints(rt.alloc(), &begins, b"1 0 ok"));
+    assert!(rt; prints(rt.alloc(), &Note::End { tick: 2 }, b"end 2"));
 }
 
-#[test]
-fn the_first_run_reads_so(rt: HostRuntime) {
-    let alloc = rt.alloc();
-    let allocated = Said::Port {
-        state: StateNote::Allocated,
-    };
-    let sent = Said::Sent {
-        num: Num { cep: 0, seq: 0 },
-    };
-    assert!(rt; prints(alloc, &line(1, 0, Said::Done), b"1 0 ok"));
-    assert!(rt; prints(alloc, &line(2, 0, allocated), b"2 0 ok allocated"));
-    assert!(rt; prints(alloc, &line(4, 0, sent), b"4 0 sent 0.0"));
-    if let Ok(bytes) = Seq::copy_of(alloc, b"hello") {
-        assert!(rt;
-            prints(
-                alloc,
-                &line(6, 2, Said::Got { at: 2, bytes }),
-                b"6 2 got 2 'hello"
-            )
-        );
-    }
-    assert!(rt; prints(alloc, &Note::End { tick: 2 }, b"end 2"));
-}
+/// A text of each kind, one a line.
+const TEXTS: &str = "\
+1 0 ok
+2 0 ok pending
+2 0 ok allocated
+2 0 ok closed
+2 0 ok refused Denied 2
+2 0 ok refused NotHere
+2 0 ok refused NoIds 255
+2 0 ok refused Timeout 3 503
+2 0 ok refused Withdrawn
+2 0 ok failed GaveUp 7.18446744073709551615 4 64
+2 0 ok failed Below w/a/1
+2 0 ok failed Cut 9
+3 0 ok outside
+3 0 ok joining 1
+3 0 ok enrolled
+3 0 ok denied 2
+4 1 none
+4 1 sent 1.0
+4 1 got 3 'hello
+4 1 got 3 x
+4 1 got 3 x00ff
+5 1 in data 1.2.3 accepted
+5 1 in ack 1.2.3 relayed
+5 1 in data 1.2.3 off Duplicate 2.3
+5 1 in data 1.2.3 off NoState 0
+6 1 out data 1.2.3
+6 1 out data 1.2.3 off NoRoute 9
+6 1 held WindowShut 2 1
+6 1 held NotAllocated none
+6 1 held NotAllocated failed Cut 3
+6 1 idle
+7 1 clock link-lost 1
+7 1 clock link-new 1
+7 1 clock gone 3
+7 1 clock gave-up 3.0
+7 1 clock timeout d/a/2
+7 1 clock ack 3
+7 1 clock again 3.1
+7 1 clock message 0
+8 1 cdap x0800
+9 1 obj / folder x
+9 1 obj /dif/flow/1!2 flow '2
+9 1 obj /dif/name value '2
+9 1 obj /dif/cube/1 cube '2
+9 1 obj /dif service x
+10 1 off data 1.2.3 Expired 0 1
+10 1 off data 1.2.3 QueueFull 64
+10 1 off data 1.2.3 NoConnection 3
+10 1 off data 1.2.3 Behind 9
+10 1 off data 1.2.3 NoRoom 64
+10 1 off data 1.2.3 StateGone 7
+10 1 off data 1.2.3 Broken 1
+10 1 off ack 1.2.3 LinkDown w/a/1
+11 1 flow 1.0.0 asker w/a/1 ping echo 0 1 allocated
+11 1 flow 1.0.0 far d/b/2 echo d/a 255 0 closed
+11 1 s 0 0.0 'hello
+11 1 g 2 0.0 'hello
+12 1 no Unknown 2
+12 1 no NoWire
+12 1 no NoPolicy
+12 1 no LabelUsed
+12 1 no ClockSpent
+12 1 no NoIpc
+12 1 no Already
+12 1 no NoMember
+12 1 no CountSpent 3 2
+12 1 no NotThere
+12 1 no NoCube
+12 1 no NoSuchApp
+12 1 no SameSystem
+12 1 no NoIds 255
+12 1 no NoRoute 0
+12 1 no NotAllocated refused NotHere
+12 1 no TooLong 1501 1500
+12 1 no WindowShut 2 1
+12 1 no QueueFull 2 1
+12 1 no NumbersSpent 1200
+12 1 no NoPort
+12 1 no NoFrame 18446744073709551615
+12 1 no EarlyHold 9
+12 1 no LateHold 12
+12 1 no NoLink
+12 1 no Enrolling 1
+12 1 no LinksFull 256
+12 1 no Short 4
+12 1 no BadTag 0
+12 1 no BadOp 9
+12 1 no Twice 1
+12 1 no Missing 1
+12 1 no BadValue 3
+12 1 no NoRank
+12 1 no NotYours
+12 1 no Busy w/a/1
+12 1 no Failed Cut 3
+13 1 state p closed
+end 2
+fault Usage 1
+fault TooLarge
+fault NotToml
+fault StackRule 4 1
+fault Schedule 2 3 1
+fault ReadFault
+checked 2 1 0 6
+gen 1 lines 307 tick 5 sent 4 got 3 refused 2 off 1 failed 0";
 
 #[test]
 fn each_text_is_read_and_printed(rt: HostRuntime) {
-    let texts: [&[u8]; 58] = [
-        b"1 0 ok",
-        b"2 0 ok pending",
-        b"2 0 ok allocated",
-        b"2 0 ok closed",
-        b"2 0 ok refused Denied 2",
-        b"2 0 ok refused NotHere",
-        b"2 0 ok refused NoIds 255",
-        b"2 0 ok refused Timeout 3 503",
-        b"2 0 ok refused Withdrawn",
-        b"2 0 ok failed GaveUp 7.18446744073709551615 4 64",
-        b"2 0 ok failed Below w/a/1",
-        b"2 0 ok failed Cut 9",
-        b"3 0 ok outside",
-        b"3 0 ok joining 1",
-        b"3 0 ok enrolled",
-        b"3 0 ok denied 2",
-        b"4 1 none",
-        b"4 1 sent 1.0",
-        b"4 1 got 3 'hello",
-        b"4 1 got 3 x",
-        b"4 1 got 3 x00ff",
-        b"5 1 in data 1.2.3 accepted",
-        b"5 1 in ack 1.2.3 relayed",
-        b"5 1 in data 1.2.3 off Duplicate 2.3",
-        b"5 1 in data 1.2.3 off NoState 0",
-        b"6 1 out data 1.2.3",
-        b"6 1 out data 1.2.3 off NoRoute 9",
-        b"6 1 held WindowShut 2 1",
-        b"6 1 held NotAllocated none",
-        b"6 1 held NotAllocated failed Cut 3",
-        b"6 1 idle",
-        b"7 1 clock link-lost 1",
-        b"7 1 clock link-new 1",
-        b"7 1 clock gone 3",
-        b"7 1 clock gave-up 3.0",
-        b"7 1 clock timeout d/a/2",
-        b"7 1 clock ack 3",
-        b"7 1 clock again 3.1",
-        b"7 1 clock message 0",
-        b"8 1 cdap x0800",
-        b"9 1 obj / folder x",
-        b"9 1 obj /dif/flow/1!2 flow '2",
-        b"10 1 off data 1.2.3 Expired 0 1",
-        b"10 1 off ack 1.2.3 LinkDown w/a/1",
-        b"11 1 flow 1.0.0 asker w/a/1 ping echo 0 1 allocated",
-        b"11 1 s 0 0.0 'hello",
-        b"11 1 g 2 0.0 'hello",
-        b"12 1 no Unknown 2",
-        b"12 1 no NoWire",
-        b"12 1 no TooLong 1501 1500",
-        b"12 1 no Busy w/a/1",
-        b"12 1 no Failed Cut 3",
-        b"13 1 state p closed",
-        b"end 2",
-        b"fault Schedule 2 3 1",
-        b"fault ReadFault",
-        b"checked 2 1 0 6",
-        b"gen 1 lines 307 tick 5 sent 4 got 3 refused 2 off 1 failed 0",
-    ];
-    for text in texts {
-        assert!(rt; returns(rt.alloc(), text));
+    for text in TEXTS.lines() {
+        assert!(rt; returns(rt.alloc(), text.as_bytes()), "{text}");
     }
 }
 
