@@ -1,8 +1,7 @@
 -- The link of the first step of a least walk.
-use Rattle.std.proofs.Common.{◌≡◌, ◌∙◌, ℕ, ◌<◌, ◌≤◌, ◌==◌, ◌&&◌, Bool, true, false, List, [], ◌∷◌, Option, Some, None, Contains, length, map, get_or, refl, sym, ap, subst, arith}
+use Rattle.std.proofs.Common.{◌≡◌, ◌∙◌, ℕ, ◌<◌, ◌≤◌, true, List, ◌∷◌, Option, Some, None, Contains, length, map, get_or, sym, ap, subst, arith}
 use Rattle.std.specs.List.Sorted.{IsStrictlyIncreasing}
 use Rattle.std.proofs.lemmas.Bool.Decides.{nat_tests}
-use Rattle.std.proofs.lemmas.Grind.{common_steps}
 use Rattle.rina_graph.specs.declared.graph.Edge.{Edge}
 use Rattle.rina_graph.specs.declared.tree.Reach.{Reach}
 use Rattle.rina_graph.specs.Walks.{AreEdges, IsFirstStep, IsTree, first_at, label_at}

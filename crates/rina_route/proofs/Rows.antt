@@ -1,5 +1,5 @@
 -- The rows of the addresses of a table.
-use Rattle.std.proofs.Common.{◌≡◌, ◌∙◌, ℕ, ◌+◌, ◌<◌, ◌≤◌, ◌⊎◌, inl, inr, ⊎_elim, Bool, true, false, List, [], ◌∷◌, Option, Some, None, Contains, length, map, get_or, refl, sym, ap, subst, arith}
+use Rattle.std.proofs.Common.{◌≡◌, ◌∙◌, ℕ, ◌+◌, ◌<◌, ◌≤◌, ◌⊎◌, inl, inr, ⊎_elim, false, List, [], ◌∷◌, Option, Some, None, Contains, length, get_or, sym, ap, subst, arith}
 use Rattle.std.specs.List.Sorted.{IsStrictlyIncreasing}
 use Rattle.std.specs.Ordering.{nat_cmp}
 use Rattle.std.specs.BTreeMap.{is_at}
@@ -10,7 +10,7 @@ use Rattle.rina_graph.specs.declared.graph.Edge.{Edge}
 use Rattle.rina_graph.specs.Walks.{IsWalk}
 use Rattle.rina_route.specs.declared.link.Link.{Link}
 use Rattle.rina_route.specs.Nodes.{AreNodes}
-use Rattle.rina_route.specs.Routes.{IsHop, hop_at, HaveLinks}
+use Rattle.rina_route.specs.Routes.{IsHop, hop_at}
 use Rattle.rina_route.proofs.Numbers.{injective, number, is_there, there_or}
 
 -- the first addresses have their rows, and no other has one

@@ -1,8 +1,8 @@
 -- What link states claim.
-use Rattle.std.proofs.Common.{◌≡◌, ◌∙◌, ℕ, ◌+◌, ◌<◌, ◌≤◌, ◌==◌, ◌&&◌, nat_lt, nat_le, nat_eq, Bool, true, false, not, cond, List, [], ◌∷◌, ◌++◌, Option, Some, None, option_map, option_and_then, position, Contains, length, map, filter, take, drop, get_or, codes, refl, sym, ap, subst, arith}
-use Rattle.std.specs.List.{position_or_len, before_first, after_first, slice_split, filter_map, flat_map, starts_with}
+use Rattle.std.proofs.Common.{◌≡◌, ◌∙◌, ℕ, ◌+◌, ◌<◌, ◌≤◌, ◌==◌, nat_lt, nat_eq, Bool, true, false, cond, List, [], ◌∷◌, ◌++◌, Option, Some, None, option_map, option_and_then, position, Contains, length, map, take, drop, get_or, codes, refl, sym, ap, arith}
+use Rattle.std.specs.List.{position_or_len, before_first, after_first, slice_split, flat_map, starts_with}
 use Rattle.std.proofs.lemmas.List.{take_more, take_all, drop_all, get_or-map, length-map}
-use Rattle.std.proofs.lemmas.List.Concat.{flat_map-append, flat_map-cons, flat_map_single}
+use Rattle.std.proofs.lemmas.List.Concat.{flat_map-append, flat_map-cons}
 use Rattle.std.proofs.lemmas.Bool.Decides.{nat_tests}
 use Rattle.std.proofs.lemmas.Grind.{common_steps}
 use Rattle.rina_graph.specs.declared.graph.Edge.{Edge}
@@ -11,7 +11,7 @@ use Rattle.rina_newest.specs.Decimal.{address_at}
 use Rattle.rina_newest.specs.Newest.{items_under}
 use Rattle.rina_route.specs.declared.link.Link.{Link}
 use Rattle.rina_route.specs.Nodes.{HaveWeights}
-use Rattle.rina_route.specs.Routes.{edge, in_weights, weight_at, edge_at, claim_at, claims_in, claims_by, claims_of, has_link, counts, edges_of, HaveLinks}
+use Rattle.rina_route.specs.Routes.{edge, in_weights, weight_at, edge_at, claim_at, claims_by, claims_of, has_link, counts, edges_of, HaveLinks}
 use Rattle.rina_route.proofs.Lists.{in_none, contains_filter, contains_filter_map, contains_flat_map}
 
 -- ---- the parts of a text

@@ -1,5 +1,5 @@
 -- Routes: which edges the link states of a facility claim, and over which link a least walk leaves.
-use Rattle.std.specs.Prelude.{◌≡◌, ◌≢◌, ℕ, ◌≤◌, Bool, true, false, not, ◌&&◌, ◌||◌, ◌==◌, nat_eq, nat_le, List, [], ◌∷◌, Option, Some, None, option_map, option_and_then, filter, drop, Contains, codes, if◌then◌else◌}
+use Rattle.std.specs.Prelude.{◌≡◌, ◌≢◌, ℕ, ◌≤◌, Bool, true, ◌&&◌, ◌==◌, nat_eq, nat_le, List, [], ◌∷◌, Option, Some, None, option_map, option_and_then, filter, drop, Contains, codes, if◌then◌else◌}
 use Rattle.std.specs.List.{list_any, filter_map, flat_map, slice_split, starts_with, before_first, after_first}
 use Rattle.std.specs.Map.{lookup}
 use Rattle.std.specs.Ordering.{nat_cmp}

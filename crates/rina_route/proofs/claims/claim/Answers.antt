@@ -1,5 +1,5 @@
 -- Before and behind the first colon.
-use Rattle.std.proofs.Common.{◌∙◌, sym, arith}
+use Rattle.std.proofs.Common.{sym, arith}
 use Rattle.std.proofs.lemmas.Grind.{common_steps}
 use Rattle.rina_route.proofs.Texts.{at_colon, no_colon}
 use Rattle.rina_route.proofs.claims.claim.Goals as goal

@@ -1,5 +1,4 @@
 -- The ends of one more edge are there; then all are sorted, and of each one stays.
-use Rattle.std.proofs.Common.{Contains}
 use Rattle.std.proofs.lemmas.List.Filters.{dedup_is}
 use Rattle.std.proofs.lemmas.List.Kept.{Contains-dedup_nat}
 use Rattle.std.proofs.lemmas.List.Sorted.{Contains-permutation}
