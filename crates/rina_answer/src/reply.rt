@@ -1,5 +1,5 @@
 //! Answers.
-ghost use Rattle.std.specs.Prelude.{◌≡◌, IfOk, option_copied};
+ghost use Rattle.std.specs.Prelude.{◌≡◌, IfOk};
 ghost use Rattle.std.specs.Result.{result_ok};
 ghost use Rattle.rina_rib.specs.Classes.{class_text};
 ghost use Rattle.rina_rib.specs.Things.{thing};

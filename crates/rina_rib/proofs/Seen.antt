@@ -9,7 +9,7 @@ use Rattle.std.specs.Cmp.Lexicographic.{slice_cmp}
 use Rattle.std.specs.Map.{lookup, remove_entry, set_value, keys_of}
 use Rattle.std.specs.BTreeMap.{is_at, insert_entry}
 use Rattle.rina_rib.specs.Things.{Thing}
-use Rattle.rina_rib.specs.Objects.{Named, name_cmp, seen, object_at, with_object, without_object, changed_object, has_child}
+use Rattle.rina_rib.specs.Objects.{Named, seen, object_at, with_object, without_object, changed_object, has_child}
 use Rattle.rina_rib.specs.Names.{is_child}
 
 abbrev pub Entries : Type 0

@@ -1,5 +1,5 @@
 -- Objects by name, and what each operation does.
-use Rattle.std.specs.Prelude.{◌≡◌, ℕ, ◌+◌, ◌-◌, ◌^◌, Bool, true, false, not, ◌||◌, ◌&&◌, min, List, [], ◌∷◌, map, filter, Option, Some, None, is_some, Result, Ok, Err, codes, if◌then◌else◌}
+use Rattle.std.specs.Prelude.{ℕ, ◌-◌, Bool, false, List, map, Option, Some, None}
 use Rattle.std.specs.List.{list_any}
 use Rattle.std.specs.Global.{Vec}
 use Rattle.std.specs.declared.cmp.Ordering.{Ordering}
@@ -8,11 +8,9 @@ use Rattle.std.specs.Cmp.Lexicographic.{slice_cmp}
 use Rattle.std.specs.Map.{lookup, remove_entry, set_value, keys_of}
 use Rattle.std.specs.List.Sorted.{IsStrictlySortedBy}
 use Rattle.std.specs.BTreeMap.{is_at, insert_entry}
-use Rattle.rina_rib.specs.declared.class.Class.{Class}
-use Rattle.rina_rib.specs.declared.class.Class.TheVariants.{Folder}
 use Rattle.rina_rib.specs.Classes.{is_folder}
 use Rattle.rina_rib.specs.Names.{parent_of, is_child}
-use Rattle.rina_rib.specs.Things.{Thing, thing, switched, with_value}
+use Rattle.rina_rib.specs.Things.{Thing, switched, with_value}
 
 -- a name and its object
 abbrev pub Named : Type 0

@@ -1,7 +1,6 @@
 -- Objects.
 use Rattle.std.specs.Prelude.{ℕ, Bool, true, false, List, codes, if◌then◌else◌}
 use Rattle.rina_rib.specs.declared.class.Class.{Class}
-use Rattle.rina_rib.specs.declared.class.Class.TheVariants.{Folder, Value, Cube, Flow, Service}
 use Rattle.rina_rib.specs.declared.object.Object.{Object}
 use Rattle.rina_rib.specs.Classes.{is_service}
 

@@ -1,10 +1,9 @@
 -- Walks over objects.
 use Rattle.std.specs.Prelude.{ℕ, List, filter}
-use Rattle.std.specs.Global.{Vec}
 use Rattle.rina_rib.specs.declared.object.Object.{Object}
 use Rattle.rina_rib.specs.declared.walk.Walk.{Walk}
 use Rattle.rina_rib.specs.Names.{is_within}
-use Rattle.rina_rib.specs.Things.{Thing, thing_of}
+use Rattle.rina_rib.specs.Things.{thing_of}
 use Rattle.rina_rib.specs.Objects.{Named, seen}
 use denote.Bor.{Bor}
 

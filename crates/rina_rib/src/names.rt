@@ -1,6 +1,5 @@
 //! Names above and below each other.
-ghost use Rattle.std.specs.Prelude.{◌≡◌, ◌≤◌, true, length, option_copied};
-ghost use Rattle.rina_cdap.specs.ObjectNames.{IsObjectName};
+ghost use Rattle.std.specs.Prelude.{◌≡◌, ◌≤◌, length, option_copied};
 ghost use Rattle.rina_rib.specs.Names.{last_slash, parent_of, is_child, is_below, is_within};
 
 /// The place of the last slash, 0 where there is none.

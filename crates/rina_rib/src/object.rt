@@ -34,8 +34,6 @@ impl Model for Kept {
 }
 
 impl Kept {
-    ghost use Rattle.std.specs.Prelude.{IsTrue};
-    ghost use Rattle.rina_rib.specs.Classes.{is_service};
     ghost use Rattle.rina_rib.specs.Things.{made_value, with_value};
 
     /// An object that was just made; a service does not run.

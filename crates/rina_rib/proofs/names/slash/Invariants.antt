@@ -1,5 +1,5 @@
 -- What is left decides, behind the last slash so far.
-use Rattle.std.proofs.Common.{◌≡◌, ◌≤◌, drop, length}
+use Rattle.std.proofs.Common.{◌≡◌, ◌≤◌, drop}
 use Rattle.rina_rib.specs.Names.{last_slash}
 use Rattle.rina_rib.proofs.names.slash.Given as goal
 

@@ -1,4 +1,4 @@
-use Rattle.std.proofs.Common.{ℕ, Option, ap, sym, refl, ◌∙◌}
+use Rattle.std.proofs.Common.{ℕ, Option, ap, sym, refl}
 use Rattle.std.specs.Global.{Vec}
 use Rattle.std.specs.BTreeMap.{BTreeMap}
 use Rattle.rina_rib.specs.Things.{Thing}
