@@ -1,3 +1,4 @@
 pub mod Cutting
 pub mod Making
 pub mod Offering
+pub mod Marking

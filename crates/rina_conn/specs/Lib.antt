@@ -1,2 +1,4 @@
 pub mod Carrying
 pub mod Sending
+pub mod Conns
+pub mod Lending

@@ -1,10 +1,11 @@
 -- What the sending half of a connection does, in the terms of the machine's sender for which it stands.
-use Rattle.std.specs.Prelude.{◌≡◌, ℕ, ◌+◌, ◌-◌, ◌*◌, ◌^◌, ◌<◌, ◌≤◌, Bool, true, List, length, map, Option, Some, None, Result, Ok, Err, if◌then◌else◌}
+use Rattle.std.specs.Prelude.{◌≡◌, ℕ, ◌+◌, ◌-◌, ◌*◌, ◌^◌, ◌<◌, ◌≤◌, Bool, true, List, length, map, Option, Some, None, option_map, Result, Ok, Err, if◌then◌else◌}
 use Rattle.rina_base.specs.declared.pdu.Pdu.{Pdu}
 use Rattle.rina_cube.specs.Cubes.{is_reliable, delta_of}
 use Rattle.rina_cube.specs.declared.Cube.{Cube}
 use Rattle.rina_delim.specs.declared.part.Part as delim
 use Rattle.rina_delim.specs.Parts.{parts_of}
+use Rattle.rina_dtcp.specs.declared.sent.GaveUp.{GaveUp}
 use Rattle.rina_dtcp.specs.Rows as dtcp
 use Rattle.rina_dtcp.specs.Rows.{Stands, ready}
 use Rattle.rina_dtp.specs.declared.numbers.Numbers.{Numbers}
@@ -14,7 +15,7 @@ use Rattle.rina_law.specs.Constants.{Constants}
 use Rattle.rina_law.specs.Line.{opening}
 use Rattle.rina_law.specs.Pieces.{Part, IsCut, join}
 use Rattle.rina_law.specs.Sender as law
-use Rattle.rina_law.specs.Sender.{Sender, Refusal, refusal, pieces_for, sender_with_all, sender_told, room_of, is_absent}
+use Rattle.rina_law.specs.Sender.{Sender, Refusal, refusal, pieces_for, sender_with_all, sender_told, room_of, is_absent, given_up}
 use Rattle.rina_conn.specs.declared.form.Form.{Form}
 use Rattle.rina_conn.specs.declared.made.Made.{Made}
 use Rattle.rina_conn.specs.declared.made.OfferError.{OfferError}
@@ -116,3 +117,7 @@ TellsRoom now s room = (c : Constants) (m : Sender) → IsSender c m s → room 
 -- the next number, where the sender has state
 abbrev pub TellsNext : ℕ → Sending → Option ℕ → Type 0
 TellsNext now s next = (c : Constants) (m : Sender) → IsSender c m s → next ≡ (if is_absent c now m then None else Some (length m.run))
+
+-- the number that is given up
+abbrev pub TellsGivenUp : ℕ → Sending → Option GaveUp → Type 0
+TellsGivenUp now s told = (c : Constants) (m : Sender) → IsSender c m s → told ≡ option_map (dtcp.gave_up_of (carry s.form.peer s.form.cube.id) now m) (given_up c now m)

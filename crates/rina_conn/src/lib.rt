@@ -1,10 +1,12 @@
 //! A connection of a DIF: it only passes on, to the numbers, the sender and the receiver of its two halves.
 #![tactic(auto)]
 
+mod conn;
 mod form;
 mod made;
 mod sending;
 
+pub use conn::{Conn, ConnDue};
 pub use form::{Form, Peer};
 pub use made::{Made, OfferError, Pdus};
-pub use sending::Sending;
+pub use sending::{Admitted, Sending};

@@ -6,14 +6,14 @@ ghost use Rattle.rina_law.specs.Constants.{Constants};
 ghost use Rattle.rina_law.specs.Sender as law;
 ghost use Rattle.rina_dtcp.specs.Senders.{flag_of};
 ghost use Rattle.rina_conn.specs.Carrying.{carry, part_in, parts_in, made_from, LieWithin};
-ghost use Rattle.rina_conn.specs.Sending.{IsNewSender, Offers, ChecksLength, ChecksWindow, IsPartsOf, Numbered, Admits, IsToldBy, TellsRoom, TellsNext};
+ghost use Rattle.rina_conn.specs.Sending.{IsNewSender, Offers, ChecksLength, ChecksWindow, IsPartsOf, Numbered, Admits, IsToldBy, TellsRoom, TellsNext, TellsGivenUp};
 
 use crate::form::Form;
 use crate::made::{Made, OfferError, Pdus};
 use rina_base::{Bytes, Memory, Num, Pdu, PduKind, PduView, Seq, Tick};
 use rina_cube::{Cube, Kind};
 use rina_delim::{Part, cut};
-use rina_dtcp::Tx;
+use rina_dtcp::{GaveUp, Tx};
 use rina_dtp::Numbers;
 use std::alloc::Global;
 
@@ -229,5 +229,12 @@ impl Sending {
         ensures { TellsNext now self.now result }
     {
         self.numbers.next(now, self.tx.idle(), self.form.delta())
+    }
+
+    /// The least number that is given up now; None exactly where there is none. Takes no memory.
+    pub fn gave_up(&self, now: Tick) -> Option<GaveUp>
+        ensures { TellsGivenUp now self.now result }
+    {
+        self.tx.gave_up(now)
     }
 }

@@ -1,0 +1,84 @@
+-- A connection: a sender and a receiver of the machine, the mark of the next acknowledgement, and pieces that are given up.
+use Rattle.std.specs.Prelude.{◌≡◌, ◌≢◌, ℕ, ◌↔◌, Bool, true, false, List, [], ◌∷◌, ◌++◌, Option, Some, None}
+use Rattle.rina_base.specs.declared.cause.Cause.{Cause}
+use Rattle.rina_base.specs.declared.cause.Cause.TheVariants as cause
+use Rattle.rina_base.specs.declared.number.Key.{Key}
+use Rattle.rina_base.specs.declared.pdu.Pdu.{Pdu}
+use Rattle.rina_cube.specs.declared.Cube.{Cube}
+use Rattle.rina_cube.specs.Cubes.{delta_of}
+use Rattle.rina_dtcp.specs.Plans.{Plan, IsPlanOf, IsLastIn, TellsNote}
+use Rattle.rina_dtp.specs.declared.verdict.Verdict.{Verdict}
+use Rattle.rina_dtp.specs.declared.verdict.Verdict.TheVariants.{Accept, Hold, Off}
+use Rattle.rina_dtp.specs.Fetching.{StandsAsBefore}
+use Rattle.rina_dtp.specs.Observed.{IsNew}
+use Rattle.rina_dtp.specs.Receiving.{present_at, drops}
+use Rattle.rina_dtp.specs.Stands.{Stands, IsFetched, IsWelcome, verdict_of}
+use Rattle.rina_law.specs.Constants.{Constants}
+use Rattle.rina_law.specs.Pdus.{piece_in}
+use Rattle.rina_law.specs.Pieces.{Joiner}
+use Rattle.rina_law.specs.Receiver.{Receiver, is_present, mark_after, mark_passed}
+use Rattle.rina_conn.specs.declared.conn.Conn.{Conn}
+use Rattle.rina_conn.specs.declared.conn.ConnDue.{ConnDue}
+use Rattle.rina_conn.specs.declared.conn.ConnDue.TheVariants.{Idle, Gone}
+use Rattle.rina_conn.specs.declared.form.Peer.{Peer}
+use Rattle.rina_conn.specs.Sending.{IsNewSender}
+
+-- nothing was sent or received, and no acknowledgement is planned
+pub record IsNewConn (cube : Cube) (piece max : ℕ) (peer : Peer) (k : Conn) : Type 0 where
+  pub cube_is : k.sending.form.cube ≡ cube
+  pub piece_is : k.sending.form.piece ≡ piece
+  pub peer_is : k.sending.form.peer ≡ peer
+  pub sends : IsNewSender k.sending.form max k.sending
+  pub receives : IsNew cube piece k.rx
+  pub plan_is : k.plan ≡ record { a = cube.a; delta = delta_of cube; mark = None }
+  pub none_given_up : k.given_up ≡ None
+
+-- a piece that was accepted, also where its SDU is broken, held, or a duplicate wants an acknowledgement
+abbrev pub marks : Verdict → Bool
+marks (Accept whole) = true
+marks Hold = true
+marks (Off (cause.Duplicate num)) = true
+marks (Off (cause.Broken missing)) = true
+marks (Off _) = false
+
+abbrev pub PassesOn : ℕ → Option ℕ → Bool → Plan → Plan → Type 0
+PassesOn now last_in true old new = TellsNote now last_in old new
+PassesOn now last_in false old new = new ≡ old
+
+-- a receiver that never had state had no last piece
+abbrev pub HasNoLast : Receiver → Type 0
+HasNoLast m = m.made ≡ false → m.last_in ≡ 0
+
+-- the mark after a piece is the machine's
+abbrev pub Marks : ℕ → Pdu → ℕ → Conn → Verdict → Conn → Type 0
+Marks now pdu unpassed old result new =
+    (c : Constants) (m : Receiver) (j : Joiner) (mark : Option ℕ) → Stands c now m j old.rx → IsFetched now old.rx → IsWelcome c (is_present c now m) m j (verdict_of c now unpassed m (piece_in pdu)) (piece_in pdu) → HasNoLast m → IsPlanOf c mark old.plan →
+    IsPlanOf c (mark_after (verdict_of c now unpassed m (piece_in pdu)) c now m mark) new.plan
+
+-- and so is the mark after an SDU was passed
+abbrev pub Passes : ℕ → Conn → Conn → Type 0
+Passes now old new = (c : Constants) (m : Receiver) (j : Joiner) (mark : Option ℕ) → Stands c now m j old.rx → HasNoLast m → IsPlanOf c mark old.plan → IsPlanOf c (mark_passed c now m mark) new.plan
+
+-- The pieces that are given up
+
+abbrev pub with_first : Option (Key × Cause) → List (Key × Cause) → List (Key × Cause)
+with_first None pieces = pieces
+with_first (Some piece) pieces = piece ∷ pieces
+
+abbrev pub drops_of : ℕ → Conn → List (Key × Cause)
+drops_of now k = with_first k.given_up (drops now k.rx)
+
+-- no state stands, and pieces of one are left
+abbrev pub IsGone : ℕ → Conn → Bool → Type 0
+IsGone now k true = (present_at now k.rx ≡ false) × (drops_of now k ≢ [])
+IsGone now k false = (present_at now k.rx ≡ false) → drops_of now k ≡ []
+
+abbrev pub IsClockDue : ℕ → Conn → ConnDue → Type 0
+IsClockDue now k Gone = IsGone now k true
+IsClockDue now k Idle = IsGone now k false
+
+-- all but what is given up is as before
+pub record StandsStill (now : ℕ) (old new : Conn) : Type 0 where
+  pub sending : new.sending ≡ old.sending
+  pub plan : new.plan ≡ old.plan
+  pub receiver : StandsAsBefore now old.rx new.rx
