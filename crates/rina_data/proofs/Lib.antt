@@ -18,6 +18,7 @@ pub mod Keepers
 pub mod Others
 pub mod Own
 pub mod Partnered
+pub mod Plain
 pub mod Queues
 pub mod Rows
 pub mod Spelled

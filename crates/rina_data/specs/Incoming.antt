@@ -28,7 +28,8 @@ use Rattle.rina_data.specs.declared.step.StepError.TheVariants.{Memory, NoIpc, N
 use Rattle.rina_data.specs.declared.step.Took.{Took}
 use Rattle.rina_data.specs.declared.step.Took.TheVariants as took
 use Rattle.rina_data.specs.Cloud.{Hop, opened}
-use Rattle.rina_data.specs.Dif.{Config, Member, Link, Queue, Process, DifSeen, IsProcess, IsQueue, constants, cube_by, link_by, next_hop, with_offs, with_process, with_put}
+use Rattle.rina_data.specs.declared.link.Link.{Link}
+use Rattle.rina_data.specs.Dif.{Config, Member, Queue, Process, DifSeen, IsProcess, IsQueue, constants, cube_by, link_by, next_hop, with_offs, with_process, with_put}
 use Rattle.rina_data.specs.Ids.{Ids, IsFrom, flipped}
 use Rattle.rina_data.specs.Standing.{IsConn}
 

@@ -1,5 +1,6 @@
 pub mod Carried
 pub mod Cloud
+pub mod Deciding
 pub mod Dif
 pub mod Ending
 pub mod Facade
