@@ -4,6 +4,7 @@ pub mod Carries
 pub mod Carrying
 pub mod Clouds
 pub mod Coming
+pub mod Decided
 pub mod Ends
 pub mod Facades
 pub mod Finding

@@ -10,7 +10,8 @@ use Rattle.rina_queue.specs.declared.queue.Queued.{Queued}
 use Rattle.rina_queue.specs.Queues.{Changes, is_queue, items_at, items_in, queue_place as place_there, waiting, with_items}
 use Rattle.rina_data.specs.declared.process.IpcProcess.{IpcProcess}
 use Rattle.rina_data.specs.Cloud.{Hop}
-use Rattle.rina_data.specs.Deciding.{IsFullAt, IsPassedOn, plain, process_of}
+use Rattle.rina_data.specs.Deciding.{plain, process_of}
+use Rattle.rina_data.specs.Queueing.{IsFull, IsPassedOn}
 use Rattle.rina_base.specs.declared.pdu.Pdu.{Pdu}
 use Rattle.rina_data.specs.Dif.{IsQueue, Process, Queue, next_hop, queue_place, with_put}
 use Rattle.rina_data.proofs.Finding.{there}
@@ -49,7 +50,7 @@ is_plain : (p : IpcProcess) (qos link k : ℕ) (q : Waiting) → place_there qos
 is_plain p qos link k q found is = record { found = same_place qos link p.queues.queues.items ∙ found; is_queue = slice_get-map plain p.queues.queues.items k ∙ ap (option_map plain) is }
 
 -- a queue without room is full
-pub full_at : (p : IpcProcess) (hop : Hop) (link room : ℕ) → next_hop hop.pdu.dst p.routes ≡ Some link → IsSome (place_there hop.pdu.qos link p.queues.queues.items) → room ≡ p.queues.cap - length (waiting hop.pdu.qos link p.queues.queues.items) → room ≡ 0 → IsFullAt p.queues.cap (process_of p) hop
+pub full_at : (p : IpcProcess) (hop : Hop) (link room : ℕ) → next_hop hop.pdu.dst p.routes ≡ Some link → IsSome (place_there hop.pdu.qos link p.queues.queues.items) → room ≡ p.queues.cap - length (waiting hop.pdu.qos link p.queues.queues.items) → room ≡ 0 → IsFull p.queues.cap (process_of p) hop.pdu
 full_at p hop link room next some is none =
     let k = some_there (place_there hop.pdu.qos link p.queues.queues.items) some in
     let q = there p.queues.queues.items k.0 (within _ _ k.0 k.1) in

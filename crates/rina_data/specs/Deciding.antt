@@ -9,8 +9,8 @@ use Rattle.rina_data.specs.declared.process.IpcProcess.{IpcProcess}
 use Rattle.rina_data.specs.declared.step.Settled.{Settled}
 use Rattle.rina_data.specs.declared.step.Settled.TheVariants as settled
 use Rattle.rina_data.specs.Cloud.{Hop}
-use Rattle.rina_data.specs.Dif.{Queue, Process, IsQueue, next_hop, with_offs, with_put}
-use Rattle.rina_data.specs.Incoming.{line_for}
+use Rattle.rina_data.specs.Dif.{Queue, Process, next_hop}
+use Rattle.rina_data.specs.Queueing.{IsFull, IsPassedOn, Notes}
 
 -- a queue as a DIF sees it, without the room that it takes
 abbrev pub plain : Waiting → Queue
@@ -24,39 +24,17 @@ process_of p = record { links = p.links; routes = p.routes; queues = map plain p
 abbrev pub IsRouted : IpcProcess → Hop → Type 0
 IsRouted p hop = (link : ℕ) → next_hop hop.pdu.dst p.routes ≡ Some link → IsSome (place_there hop.pdu.qos link p.queues.queues.items)
 
--- the PDU stands last in the queue of the next hop, with the lifetime that it came with, from the tick at which it came
-pub record IsPassedOn (cap : ℕ) (process : Process) (at : ℕ) (hop : Hop) (process' : Process) : Type 0 where
-  pub link : ℕ
-  pub next : next_hop hop.pdu.dst process.routes ≡ Some link
-  pub place : ℕ
-  pub queue : Queue
-  pub is_queue : IsQueue process hop.pdu.qos link place queue
-  pub room : length queue.items < cap
-  pub new_is : process' ≡ with_put process place queue (record { pdu = hop.pdu; left = hop.left; since = at } ∷ [])
-
--- the queue of the next hop is full
-pub record IsFullAt (cap : ℕ) (process : Process) (hop : Hop) : Type 0 where
-  pub link : ℕ
-  pub next : next_hop hop.pdu.dst process.routes ≡ Some link
-  pub place : ℕ
-  pub queue : Queue
-  pub is_queue : IsQueue process hop.pdu.qos link place queue
-  pub full : cap ≤ length queue.items
-
-abbrev pub Notes : Process → Hop → Cause → Process → Type 0
-Notes process hop cause process' = process' ≡ with_offs process (line_for hop.pdu cause ∷ [])
-
 -- a PDU that was not expired, for another address
 abbrev pub Forwards : ℕ → Process → ℕ → Hop → Result Settled Memory → Process → Type 0
 Forwards cap process at hop (Ok settled.Relayed) process' = IsPassedOn cap process at hop process'
-Forwards cap process at hop (Ok (settled.Off (causes.NoRoute dst))) process' = (dst ≡ hop.pdu.dst) × (next_hop dst process.routes ≡ None) × Notes process hop (causes.NoRoute dst) process'
-Forwards cap process at hop (Ok (settled.Off (causes.QueueFull n))) process' = (n ≡ cap) × IsFullAt cap process hop × Notes process hop (causes.QueueFull n) process'
+Forwards cap process at hop (Ok (settled.Off (causes.NoRoute dst))) process' = (dst ≡ hop.pdu.dst) × (next_hop dst process.routes ≡ None) × Notes process hop.pdu (causes.NoRoute dst) process'
+Forwards cap process at hop (Ok (settled.Off (causes.QueueFull n))) process' = (n ≡ cap) × IsFull cap process hop.pdu × Notes process hop.pdu (causes.QueueFull n) process'
 Forwards cap process at hop (Err e) process' = process' ≡ process
 Forwards cap process at hop other process' = ⊥
 
 -- a PDU that came at tick `at` to the IPC process of this address
 abbrev pub Decides : ℕ → ℕ → ℕ → Process → ℕ → Hop → Result Settled Memory → Process → Type 0
 Decides cap now addr process at hop (Ok settled.Own) process' = (now - at ≤ hop.left) × (hop.pdu.dst ≡ addr) × (process' ≡ process)
-Decides cap now addr process at hop (Ok (settled.Off (causes.Expired left charge))) process' = (left ≡ hop.left) × (charge ≡ now - at) × (left < charge) × Notes process hop (causes.Expired left charge) process'
+Decides cap now addr process at hop (Ok (settled.Off (causes.Expired left charge))) process' = (left ≡ hop.left) × (charge ≡ now - at) × (left < charge) × Notes process hop.pdu (causes.Expired left charge) process'
 Decides cap now addr process at hop (Err e) process' = process' ≡ process
 Decides cap now addr process at hop result process' = (now - at ≤ hop.left) × (hop.pdu.dst ≢ addr) × Forwards cap process at hop result process'

@@ -13,6 +13,7 @@ pub mod Others
 pub mod Outgoing
 pub mod Partners
 pub mod Passing
+pub mod Queueing
 pub mod Sending
 pub mod Standing
 pub mod Start

@@ -1,9 +1,10 @@
 //! One IPC process: its links, next hops, queues and ledger.
 ghost use Rattle.std.specs.Prelude.{◌≡◌, ◌≢◌, ◌-◌, ◌<◌, ◌≤◌, OnOk, OnErr, Some, IsSome};
 ghost use Rattle.rina_queue.specs.Queues.{queue_place};
-ghost use Rattle.rina_data.specs.Deciding.{process_of, IsRouted, Notes, Forwards, Decides};
+ghost use Rattle.rina_data.specs.Deciding.{process_of, IsRouted, Forwards, Decides};
 ghost use Rattle.rina_data.specs.Dif.{next_hop};
 ghost use Rattle.rina_data.specs.Hops.{hop_of};
+ghost use Rattle.rina_data.specs.Queueing.{Notes};
 
 use crate::hop::{HopView, charge, left_after};
 use crate::link::{Link, Route, next_link};
@@ -26,7 +27,7 @@ pub struct IpcProcess {
 impl IpcProcess {
     /// Writes a PDU off.
     fn write_off(&mut self, alloc: Global, hop: &HopView<'_>, cause: Cause) -> Result<(), Memory>
-        ensures ok { OnOk result (Notes (process_of self.old) (hop_of hop.now) cause (process_of self.new)) }
+        ensures ok { OnOk result (Notes (process_of self.old) (hop_of hop.now).pdu cause (process_of self.new)) }
         ensures err { OnErr result (process_of self.new ≡ process_of self.old) }
     {
         self.ledger.note(alloc, hop.pdu.key(), cause)
