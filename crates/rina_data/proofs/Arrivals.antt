@@ -8,7 +8,8 @@ use Rattle.rina_iface.proofs.Found.{found}
 use Rattle.rina_law.specs.declared.entry.Entry.{Entry}
 use Rattle.rina_law.specs.Direction.{Direction}
 use Rattle.rina_data.specs.Cloud.{Everywhere, Hop, IsCome, IsMine, IsOnWay, opened}
-use Rattle.rina_data.specs.Dif.{DifSeen, Link, Member, Process, IsProcess, link_by}
+use Rattle.rina_data.specs.declared.link.Link.{Link}
+use Rattle.rina_data.specs.Dif.{DifSeen, Member, Process, IsProcess, link_by}
 use Rattle.rina_data.specs.Standing.{IsStanding}
 use Rattle.rina_data.proofs.Clouds.{come_covered}
 use Rattle.rina_data.proofs.Finding.{live_link, oldest_at}

@@ -30,7 +30,8 @@ use Rattle.rina_data.specs.declared.step.Took.TheVariants as took
 use Rattle.rina_data.specs.Cloud.{Cloud, Everywhere, Hop}
 use Rattle.rina_data.specs.Dif.{DifSeen, Member, Process, fac_of, constants, cube_by, with_offs, with_process, with_put}
 use Rattle.rina_data.specs.Ids.{AcksOf, Ids, IsFrom, PiecesOf, flipped}
-use Rattle.rina_data.specs.Incoming.{Ins, IsArrived, IsInTime, IsRelayed, IsTold, Settles, SettlesOff, arrived, line_for, lines_for, written_off}
+use Rattle.rina_data.specs.Incoming.{Ins, IsArrived, IsInTime, IsRelayed, IsTold, Settles, SettlesOff, arrived, lines_for, written_off}
+use Rattle.rina_data.specs.Queueing.{line_for}
 use Rattle.rina_data.specs.Standing.{IsConn, IsFlow, IsItem, IsStanding}
 use Rattle.rina_data.proofs.After.{IsAfter, NoMore, after_passed}
 use Rattle.rina_data.proofs.Arrivals.{IsArrival, arrival}
@@ -130,11 +131,12 @@ module _ (d : DifSeen) (lines : List Direction) (below below' : Seen) (st : IsSt
   -- a PDU of the cloud waits for its next hop
   relayed_stands : (i at : ℕ) (process : Process) (hop : Hop) (d' : DifSeen) → slice_get d.processes i ≡ Some process → hop.pdu ≡ pdu → at + hop.left ≤ older → at ≤ d.clock → IsHopOf d.config hop → IsRelayed d i process at hop d' → IsStanding d' lines below'
   relayed_stands i at process hop d' is_process same later past fit s =
+      let p = s.passed in
       let item : Queued = record { pdu = hop.pdu; left = hop.left; since = at } in
-      let process' : Process = with_put process s.place s.queue (item ∷ []) in
+      let process' : Process = with_put process p.place p.queue (item ∷ []) in
       let processes' : List Process = slice_set d.processes i process' in
-      let moved = requeued_put d.processes i s.place process s.queue (item ∷ []) is_process s.is_queue.is_queue in
-      let covers : Covers d.clock (Cloud Everywhere d.config d.processes below) (Cloud Everywhere d.config processes' below') = λ death p x lives. elim (cloud_after Everywhere d.config (JustItems i s.queue.link (item ∷ [])) NoMore d.processes processes' below below' death p moved after x) [
+      let moved = requeued_put d.processes i p.place process p.queue (item ∷ []) is_process p.is_queue.is_queue in
+      let covers : Covers d.clock (Cloud Everywhere d.config d.processes below) (Cloud Everywhere d.config processes' below') = λ death pdu' x lives. elim (cloud_after Everywhere d.config (JustItems i p.queue.link (item ∷ [])) NoMore d.processes processes' below below' death pdu' moved after x) [
         | inl o ↦ (death, omega arith, o)
         | inr (inl put) ↦ elim (put.new.2) [
           | inl is ↦
@@ -147,12 +149,12 @@ module _ (d : DifSeen) (lines : List Direction) (below below' : Seen) (st : IsSt
         | inr (inr given) ↦ absurd given.new
       ] in
       let fits : IsItem d.config d.clock item = record { fit = fit.fit; past = past; left = fit.left } in
-      subst (λ (z : DifSeen). IsStanding z lines below') (sym s.new_is)
-      (stands_with d lines lines NoMore (JustItems i s.queue.link (item ∷ [])) below below' d.clock processes' d.ends st after (st.clock ∙ sym clock) (omega arith) (length-set d.processes i process') moved (same_links d.processes i process process' is_process refl)
-      (λ port y none. absurd none)
-      (λ j m x new. elim (new.2) [ inl is ↦ subst (IsItem d.config d.clock) (sym is) fits | inr none ↦ absurd none ])
-      st.journal st.ports
-      (own_covered d.config d.clock (Cloud Everywhere d.config d.processes below) (Cloud Everywhere d.config processes' below') d.ends d.conns lines st.own covers))
+      subst (λ (z : DifSeen). IsStanding z lines below') (sym s.new_is) (subst (λ (z : Process). IsStanding (with_process d i z) lines below') (sym p.new_is)
+        (stands_with d lines lines NoMore (JustItems i p.queue.link (item ∷ [])) below below' d.clock processes' d.ends st after (st.clock ∙ sym clock) (omega arith) (length-set d.processes i process') moved (same_links d.processes i process process' is_process refl)
+          (λ port y none. absurd none)
+          (λ j m x new. elim (new.2) [ inl is ↦ subst (IsItem d.config d.clock) (sym is) fits | inr none ↦ absurd none ])
+          st.journal st.ports
+          (own_covered d.config d.clock (Cloud Everywhere d.config d.processes below) (Cloud Everywhere d.config processes' below') d.ends d.conns lines st.own covers)))
 
 -- the PDU of an arrival that is in time is in the cloud still
 pub alive_arrival : (d : DifSeen) (at left older : ℕ) → d.clock - at ≤ left → at ≤ d.clock → at + left ≤ older → d.clock ≤ older

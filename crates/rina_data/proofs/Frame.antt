@@ -8,7 +8,8 @@ use Rattle.rina_law.specs.declared.entry.Entry.{Entry}
 use Rattle.rina_law.specs.Direction.{Direction}
 use Rattle.rina_queue.specs.declared.queue.Queued.{Queued}
 use Rattle.rina_data.specs.Cloud.{Cloud, Everywhere, IsMine}
-use Rattle.rina_data.specs.Dif.{Config, DifSeen, Link, Process, fac_of}
+use Rattle.rina_data.specs.declared.link.Link.{Link}
+use Rattle.rina_data.specs.Dif.{Config, DifSeen, Process, fac_of}
 use Rattle.rina_data.specs.Standing.{HasLink, IsInside, IsItem, IsJournal, IsLinked, IsOwn, IsSpelled, IsStanding}
 use Rattle.rina_data.proofs.After.{IsAfter, back}
 use Rattle.rina_data.proofs.Clouds.{Requeued}

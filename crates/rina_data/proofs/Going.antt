@@ -23,7 +23,8 @@ use Rattle.rina_data.specs.declared.step.OutStep.TheVariants as out
 use Rattle.rina_data.specs.declared.step.StepError.{StepError}
 use Rattle.rina_data.specs.declared.step.StepError.TheVariants.{Memory, NoIpc, NoLink}
 use Rattle.rina_data.specs.Cloud.{Cloud, Everywhere, Hop, IsPortIn, IsQueueIn, Scope, Waits, opened}
-use Rattle.rina_data.specs.Dif.{Config, DifSeen, Link, Process, Queue, with_offs, with_process, with_taken}
+use Rattle.rina_data.specs.declared.link.Link.{Link}
+use Rattle.rina_data.specs.Dif.{Config, DifSeen, Process, Queue, with_offs, with_process, with_taken}
 use Rattle.rina_data.specs.Outgoing.{Goes, IsForwarded, IsHead, IsStep, IsWrittenOff, Offs, Outs, charge_of, sent_bytes}
 use Rattle.rina_data.specs.Standing.{IsConfig, IsItem, IsSpelled, IsStanding}
 use Rattle.rina_data.proofs.After.{IsAfter, Just, NoMore, after_none, after_sent}

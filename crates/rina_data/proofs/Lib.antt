@@ -4,6 +4,7 @@ pub mod Carries
 pub mod Carrying
 pub mod Clouds
 pub mod Coming
+pub mod Decided
 pub mod Ends
 pub mod Facades
 pub mod Finding
@@ -18,6 +19,7 @@ pub mod Keepers
 pub mod Others
 pub mod Own
 pub mod Partnered
+pub mod Plain
 pub mod Queues
 pub mod Rows
 pub mod Spelled

@@ -4,7 +4,8 @@ use Rattle.rina_iface.proofs.Changed.{set_at}
 use Rattle.rina_law.specs.Lists.{In}
 use Rattle.rina_law.specs.Receiver.{Piece}
 use Rattle.rina_queue.specs.declared.queue.Queued.{Queued}
-use Rattle.rina_data.specs.Dif.{Link, Process, Queue, with_put}
+use Rattle.rina_data.specs.declared.link.Link.{Link}
+use Rattle.rina_data.specs.Dif.{Process, Queue, with_put}
 use Rattle.rina_data.specs.Ids.{Ids, pdu_of_piece}
 use Rattle.rina_data.specs.Sending.{made_items}
 use Rattle.rina_data.specs.Standing.{HasLink}

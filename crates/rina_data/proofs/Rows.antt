@@ -21,11 +21,11 @@ use Rattle.rina_law.proofs.Agreeing.{direction_ack, direction_again}
 use Rattle.rina_law.proofs.Lawfulness.{lawful_from, welcome_from}
 use Rattle.rina_queue.specs.declared.queue.Queued.{Queued}
 use Rattle.rina_data.specs.Cloud.{Cloud, Everywhere}
+use Rattle.rina_data.specs.declared.link.Link.{Link}
 use Rattle.rina_data.specs.Dif.{Config, DifSeen, Process, constants, cube_by, with_offs, with_process, with_put}
 use Rattle.rina_data.specs.Ids.{Ids, flipped, pdu_of_ack, pdu_of_piece}
-use Rattle.rina_data.specs.Incoming.{line_for}
+use Rattle.rina_data.specs.Queueing.{line_for}
 use Rattle.rina_data.specs.Standing.{AreIds, HasLink, IsConfig, IsFit, IsFlow, IsItem, IsOwn, IsStanding}
-use Rattle.rina_data.specs.Dif.{Link}
 use Rattle.rina_data.specs.Timely.{IsAcknowledged, IsForgotten, IsResent, Posts}
 use Rattle.rina_data.proofs.After.{NoMore, after_none}
 use Rattle.rina_data.proofs.Clouds.{NoItem, Requeued, cloud_after, covers_less}

@@ -1,5 +1,5 @@
 -- What a contract sees of a DIF.
-use Rattle.std.specs.Prelude.{◌≡◌, ℕ, ◌-◌, ◌*◌, ◌^◌, ◌==◌, ◌&&◌, Bool, List, ◌++◌, drop, find, map, position, slice_get, slice_set, Option, Some, option_map}
+use Rattle.std.specs.Prelude.{◌≡◌, ℕ, ◌-◌, ◌*◌, ◌^◌, ◌==◌, ◌&&◌, Bool, List, ◌++◌, drop, find, map, position, slice_get, slice_set, Option, Some, option_and_then, option_map}
 use Rattle.rina_account.specs.declared.ledger.Off.{Off}
 use Rattle.rina_base.specs.declared.number.Port.{Port}
 use Rattle.rina_base.specs.declared.pdu.PduKind.TheVariants.{Piece}
@@ -12,6 +12,8 @@ use Rattle.rina_law.specs.Constants.{Constants}
 use Rattle.rina_pci.specs.declared.widths.Widths.{Widths}
 use Rattle.rina_pci.specs.Spelling.{pci_size}
 use Rattle.rina_queue.specs.declared.queue.Queued.{Queued}
+use Rattle.rina_data.specs.declared.link.Link.{Link}
+use Rattle.rina_data.specs.declared.link.Route.{Route}
 use Rattle.rina_data.specs.Ids.{Ids}
 
 -- an IPC process of the DIF: its address, its name, and its node
@@ -29,18 +31,6 @@ pub record Config : Type 0 where
   pub pdu : ℕ  -- bytes of a protected SDU, at most
   pub cap : ℕ  -- how many PDUs a queue holds
   pub admits : ℕ  -- how many fixed flows a node may have
-
--- a flow of the rank below between two IPC processes, by one of them: its port there, and its number here. A link
--- that was lost is live no more
-pub record Link : Type 0 where
-  pub port : Port
-  pub number : ℕ
-  pub live : Bool
-
--- the next hop to an address is this link
-pub record Route : Type 0 where
-  pub dst : ℕ
-  pub link : ℕ
 
 -- the PDUs of a cube that wait for a link, the first that came first
 pub record Queue : Type 0 where
@@ -96,9 +86,13 @@ greatest g = 2 ^ (8 * g.widths.seq) - 1
 abbrev pub constants : Config → Cube → Ids → Constants
 constants g cube ids = record { cube = cube; piece = piece_size g; max = greatest g; cep = ids.scep }
 
+-- a live link has this number
+unfoldable pub is_link : ℕ → Link → Bool
+is_link number l = l.live && (l.number == number)
+
 -- the live link of a number
 abbrev pub link_by : ℕ → List Link → Option Link
-link_by number links = find (λ (l : Link). l.live && (l.number == number)) links
+link_by number links = option_and_then (λ i. slice_get links i) (position (is_link number) links)
 
 -- the link that is the next hop to an address
 abbrev pub next_hop : ℕ → List Route → Option ℕ

@@ -28,8 +28,10 @@ use Rattle.rina_data.specs.declared.step.StepError.TheVariants.{Memory, NoIpc, N
 use Rattle.rina_data.specs.declared.step.Took.{Took}
 use Rattle.rina_data.specs.declared.step.Took.TheVariants as took
 use Rattle.rina_data.specs.Cloud.{Hop, opened}
-use Rattle.rina_data.specs.Dif.{Config, Member, Link, Queue, Process, DifSeen, IsProcess, IsQueue, constants, cube_by, link_by, next_hop, with_offs, with_process, with_put}
+use Rattle.rina_data.specs.declared.link.Link.{Link}
+use Rattle.rina_data.specs.Dif.{Config, Member, Queue, Process, DifSeen, IsProcess, IsQueue, constants, cube_by, link_by, next_hop, with_offs, with_process, with_put}
 use Rattle.rina_data.specs.Ids.{Ids, IsFrom, flipped}
+use Rattle.rina_data.specs.Queueing.{IsFull, IsPassedOn, line_for}
 use Rattle.rina_data.specs.Standing.{IsConn}
 
 -- A PDU that came behind this lifetime, at tick `at`
@@ -38,9 +40,6 @@ use Rattle.rina_data.specs.Standing.{IsConn}
 abbrev pub IsInTime : DifSeen → ℕ → Hop → Type 0
 IsInTime d at hop = d.clock - at ≤ hop.left
 
-abbrev pub line_for : Pdu → Cause → Off
-line_for pdu cause = record { key = key_of pdu; cause = cause }
-
 -- it is written off, and nothing else changes
 abbrev pub written_off : DifSeen → ℕ → Process → Pdu → Cause → DifSeen
 written_off d i process pdu cause = with_process d i (with_offs process (line_for pdu cause ∷ []))
@@ -48,22 +47,9 @@ written_off d i process pdu cause = with_process d i (with_offs process (line_fo
 -- The next hop
 
 pub record IsRelayed (d : DifSeen) (i : ℕ) (process : Process) (at : ℕ) (hop : Hop) (d' : DifSeen) : Type 0 where
-  pub link : ℕ
-  pub next : next_hop hop.pdu.dst process.routes ≡ Some link
-  pub place : ℕ
-  pub queue : Queue
-  pub is_queue : IsQueue process hop.pdu.qos link place queue
-  pub room : length queue.items < d.config.cap
-  pub new_is : d' ≡ with_process d i (with_put process place queue (record { pdu = hop.pdu; left = hop.left; since = at } ∷ []))
-
--- the queue of the next hop is full
-pub record IsFull (g : Config) (process : Process) (pdu : Pdu) : Type 0 where
-  pub link : ℕ
-  pub next : next_hop pdu.dst process.routes ≡ Some link
-  pub place : ℕ
-  pub queue : Queue
-  pub is_queue : IsQueue process pdu.qos link place queue
-  pub full : g.cap ≤ length queue.items
+  pub process' : Process
+  pub passed : IsPassedOn d.config.cap process at hop process'
+  pub new_is : d' ≡ with_process d i process'
 
 -- An own connection
 
@@ -172,7 +158,7 @@ SettlesOff d lines i member process at hop (causes.Expired left charge) d' lines
 SettlesOff d lines i member process at hop (causes.NoRoute dst) d' lines' =
     IsInTime d at hop × (hop.pdu.dst ≢ member.addr) × (dst ≡ hop.pdu.dst) × (next_hop dst process.routes ≡ None) × (d' ≡ written_off d i process hop.pdu (causes.NoRoute dst)) × (lines' ≡ lines)
 SettlesOff d lines i member process at hop (causes.QueueFull cap) d' lines' =
-    IsInTime d at hop × (hop.pdu.dst ≢ member.addr) × (cap ≡ d.config.cap) × IsFull d.config process hop.pdu × (d' ≡ written_off d i process hop.pdu (causes.QueueFull cap)) × (lines' ≡ lines)
+    IsInTime d at hop × (hop.pdu.dst ≢ member.addr) × (cap ≡ d.config.cap) × IsFull d.config.cap process hop.pdu × (d' ≡ written_off d i process hop.pdu (causes.QueueFull cap)) × (lines' ≡ lines)
 SettlesOff d lines i member process at hop (causes.NoConnection cep) d' lines' =
     IsInTime d at hop × (hop.pdu.dst ≡ member.addr) × (cep ≡ hop.pdu.dcep) × ((k : ℕ) (end : End) (ids : Ids) → IsTaker d hop.pdu k end ids → ⊥) × (d' ≡ written_off d i process hop.pdu (causes.NoConnection cep)) × (lines' ≡ lines)
 SettlesOff d lines i member process at hop (causes.LinkDown port) d' lines' = ⊥

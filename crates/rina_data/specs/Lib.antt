@@ -1,5 +1,6 @@
 pub mod Carried
 pub mod Cloud
+pub mod Deciding
 pub mod Dif
 pub mod Ending
 pub mod Facade
@@ -12,6 +13,7 @@ pub mod Others
 pub mod Outgoing
 pub mod Partners
 pub mod Passing
+pub mod Queueing
 pub mod Sending
 pub mod Standing
 pub mod Start

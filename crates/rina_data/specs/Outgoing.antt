@@ -17,7 +17,8 @@ use Rattle.rina_data.specs.declared.step.OutStep.{OutStep}
 use Rattle.rina_data.specs.declared.step.OutStep.TheVariants as out
 use Rattle.rina_data.specs.declared.step.StepError.{StepError}
 use Rattle.rina_data.specs.declared.step.StepError.TheVariants.{Memory, NoIpc, NoLink}
-use Rattle.rina_data.specs.Dif.{Config, Link, Queue, Process, DifSeen, link_by, with_offs, with_process, with_taken}
+use Rattle.rina_data.specs.declared.link.Link.{Link}
+use Rattle.rina_data.specs.Dif.{Config, Queue, Process, DifSeen, link_by, with_offs, with_process, with_taken}
 
 -- the lifetime that this hop takes from a PDU: the ticks since it came into this system, and what the flow below may
 -- take

@@ -17,7 +17,8 @@ use Rattle.rina_pci.specs.Life.{protected}
 use Rattle.rina_pci.specs.Spelling.{AreWidths, Fits, pci_size, pdu_size, spelling}
 use Rattle.rina_queue.specs.declared.queue.Queued.{Queued}
 use Rattle.rina_data.specs.Cloud.{Cloud, Everywhere, IsMine, Waits}
-use Rattle.rina_data.specs.Dif.{Config, Member, Link, Process, DifSeen, fac_of, cube_by, constants}
+use Rattle.rina_data.specs.declared.link.Link.{Link}
+use Rattle.rina_data.specs.Dif.{Config, Member, Process, DifSeen, fac_of, cube_by, constants}
 use Rattle.rina_data.specs.Ids.{Ids, flipped, PiecesOf, AcksOf}
 
 -- What never changes

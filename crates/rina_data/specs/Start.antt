@@ -8,7 +8,8 @@ use Rattle.rina_iface.specs.Seen.{Seen, end_of}
 use Rattle.rina_law.specs.Direction.{Direction, start}
 use Rattle.rina_queue.specs.declared.queue.Queued.{Queued}
 use Rattle.rina_data.specs.Cloud.{IsMine, Waits}
-use Rattle.rina_data.specs.Dif.{Link, Member, DifSeen, fac_of, constants, cube_by}
+use Rattle.rina_data.specs.declared.link.Link.{Link}
+use Rattle.rina_data.specs.Dif.{Member, DifSeen, fac_of, constants, cube_by}
 use Rattle.rina_data.specs.Ids.{Ids, flipped}
 use Rattle.rina_data.specs.Lifting.{ticked}
 use Rattle.rina_data.specs.Standing.{AreIds, HasLink, IsConfig, IsConn, IsInside, IsJournal, IsLinked}

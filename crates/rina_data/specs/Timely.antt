@@ -16,27 +16,18 @@ use Rattle.rina_law.specs.Receiver.{is_present, next_of}
 use Rattle.rina_law.specs.Sender.{again_due, piece_again}
 use Rattle.rina_data.specs.Dif.{Config, Queue, Process, DifSeen, IsQueue, constants, cube_by, next_hop, with_offs, with_process, with_put}
 use Rattle.rina_data.specs.Ids.{Ids, flipped, pdu_of_ack, pdu_of_piece}
-use Rattle.rina_data.specs.Incoming.{IsFull, IsInbound, IsKeptNumber, line_for}
+use Rattle.rina_data.specs.Incoming.{IsInbound, IsKeptNumber}
+use Rattle.rina_data.specs.Queueing.{IsFull, IsPassedOn, Notes}
 use Rattle.rina_data.specs.Sending.{home}
 use Rattle.rina_data.specs.Standing.{IsConn}
 
 -- A PDU that is made beside a send: it waits for the next hop, or is written off
 
--- it stands at the end of a queue, with the whole lifetime
-pub record IsPosted (g : Config) (now mpl : ℕ) (process : Process) (pdu : Pdu) (process' : Process) : Type 0 where
-  pub link : ℕ
-  pub next : next_hop pdu.dst process.routes ≡ Some link
-  pub place : ℕ
-  pub queue : Queue
-  pub is_queue : IsQueue process pdu.qos link place queue
-  pub room : length queue.items < g.cap
-  pub new_is : process' ≡ with_put process place queue (record { pdu = pdu; left = mpl; since = now } ∷ [])
-
 -- by the cause for which it is written off, if it is
 abbrev pub Posts : Config → ℕ → ℕ → Process → Pdu → Option Cause → Process → Type 0
-Posts g now mpl process pdu None process' = IsPosted g now mpl process pdu process'
-Posts g now mpl process pdu (Some (causes.NoRoute dst)) process' = (dst ≡ pdu.dst) × (next_hop pdu.dst process.routes ≡ None) × (process' ≡ with_offs process (line_for pdu (causes.NoRoute dst) ∷ []))
-Posts g now mpl process pdu (Some (causes.QueueFull cap)) process' = (cap ≡ g.cap) × IsFull g process pdu × (process' ≡ with_offs process (line_for pdu (causes.QueueFull cap) ∷ []))
+Posts g now mpl process pdu None process' = IsPassedOn g.cap process now (record { left = mpl; pdu = pdu }) process'
+Posts g now mpl process pdu (Some (causes.NoRoute dst)) process' = (dst ≡ pdu.dst) × (next_hop pdu.dst process.routes ≡ None) × Notes process pdu (causes.NoRoute dst) process'
+Posts g now mpl process pdu (Some (causes.QueueFull cap)) process' = (cap ≡ g.cap) × IsFull g.cap process pdu × Notes process pdu (causes.QueueFull cap) process'
 Posts g now mpl process pdu (Some cause) process' = ⊥
 
 -- an allocated end at its IPC process

@@ -4,6 +4,8 @@
 
 mod hop;
 mod laws;
+mod link;
+mod process;
 mod step;
 
 pub use hop::{HopView, charge, left_after, open, protect};
@@ -12,4 +14,6 @@ pub use laws::{
     the_cloud_only_shrinks, the_rank_below_keeps_standing, what_stands_is_a_facility,
     what_was_got_has_come,
 };
-pub use step::{InStep, OutStep, StepError, Took};
+pub use link::{Link, Route};
+pub use process::IpcProcess;
+pub use step::{InStep, OutStep, Settled, StepError, Took};

@@ -13,6 +13,17 @@ pub enum Took {
     Off(Cause),
 }
 
+/// What an IPC process decided on a PDU by what it knows itself.
+#[derive(Clone, Copy, Debug, PartialEq, Eq)]
+pub enum Settled {
+    /// It is for a connection of this IPC process.
+    Own,
+    /// It waits in the queue of the next hop.
+    Relayed,
+    /// It was written off.
+    Off(Cause),
+}
+
 /// What an IPC process did with the oldest SDU of a link.
 #[derive(Clone, Copy, Debug, PartialEq, Eq)]
 pub enum InStep {
