@@ -1,29 +1,26 @@
 -- What a receiver does with a piece is the machine's row.
-use Rattle.std.proofs.Common.{◌≡◌, ◌≢◌, ℕ, zero, suc, ◌+◌, ◌-◌, ◌*◌, ◌^◌, ◌<◌, ◌≤◌, List, [], ◌∷◌, ◌++◌, length, map, Bool, true, false, cond, not, ◌&&◌, ◌||◌, eqb, leb, ltb, Option, Some, None, refl, sym, ◌∙◌, ap, subst, arith, inl, inr, ◌⊎◌}
-use Rattle.std.proofs.lemmas.Bool.{ltb-true, ltb-false, lt-ltb, leb-false, eqb-true, eqb-false, cases_lt, cases_Bool, and_parts, or_parts, false≢true}
+use Rattle.std.proofs.Common.{◌≡◌, ◌≢◌, ℕ, ◌+◌, ◌*◌, ◌^◌, ◌<◌, ◌≤◌, List, [], ◌∷◌, ◌++◌, length, Bool, true, false, cond, ◌||◌, eqb, leb, ltb, Option, Some, None, refl, sym, ◌∙◌, ap, subst, arith, inl, inr, ◌⊎◌}
+use Rattle.std.proofs.lemmas.Bool.{ltb-true, ltb-false, lt-ltb, leb-false, eqb-true, eqb-false, cases_Bool, and_parts, false≢true}
 use Rattle.std.proofs.lemmas.List.{append-nil}
 use Rattle.rina_base.specs.declared.cause.Cause.{Cause}
 use Rattle.rina_base.specs.declared.cause.Cause.TheVariants as cause
-use Rattle.rina_base.specs.declared.number.Key.{Key}
 use Rattle.rina_base.specs.declared.pdu.Pdu.{Pdu}
 use Rattle.rina_cube.specs.declared.Kind.{Kind}
 use Rattle.rina_cube.specs.declared.Kind.TheVariants as kinds
-use Rattle.rina_delim.specs.Joining.{Joining, piece, empty}
 use Rattle.rina_dtp.specs.declared.accepted.Accepted.{Accepted}
 use Rattle.rina_dtp.specs.declared.accepted.Accepted.TheVariants.{Datagram, Loose, Reliable}
 use Rattle.rina_dtp.specs.declared.source.Source.{Source}
 use Rattle.rina_dtp.specs.declared.verdict.Verdict.{Verdict}
-use Rattle.rina_dtp.specs.declared.verdict.Verdict.TheVariants.{Accept, Hold, Off}
-use Rattle.rina_dtp.specs.Accepted.{kind_of, known_verdict, number_verdict, top_of, IsCounted, Follows}
+use Rattle.rina_dtp.specs.declared.verdict.Verdict.TheVariants.{Off}
+use Rattle.rina_dtp.specs.Accepted.{kind_of, known_verdict, number_verdict, top_of}
 use Rattle.rina_dtp.specs.Joins as joins
 use Rattle.rina_dtp.specs.Joins.{Joins, IsJoined}
-use Rattle.rina_dtp.specs.declared.gap.Lost.{Lost}
-use Rattle.rina_dtp.specs.Lost.{missing_before, is_broken, lost_after, joiner_for, told, told_accepted}
+use Rattle.rina_dtp.specs.Lost.{missing_before, is_broken, joiner_for, told_accepted}
 use Rattle.rina_dtp.specs.Receiving.{Receiving, present_at, lost_in, run_numbers, held_numbers, kept_numbers, end_cause, ended_with, broken_with, drops, cleared, start_join, verdict_for, IsAccepted, IsHeldIn, IsStep, Steps}
 use Rattle.rina_dtp.specs.Ring.{has_number}
-use Rattle.rina_dtp.specs.Shelf.{Shelved, holds, with_piece, Holds}
+use Rattle.rina_dtp.specs.Shelf.{Shelved, holds, with_piece}
 use Rattle.rina_dtp.specs.Source.{source_of}
-use Rattle.rina_dtp.specs.Stands.{HasPlacesFor, reach_of, IsOf, IsJoiner, Knows, Stands, IsFetched, IsWelcome, verdict_of, joined_by, Came, IsRow}
+use Rattle.rina_dtp.specs.Stands.{HasPlacesFor, reach_of, IsOf, IsJoiner, Knows, Stands, IsFetched, IsWelcome, verdict_of, Came, IsRow}
 use Rattle.rina_dtp.proofs.Placed.{length-with_piece}
 use Rattle.rina_dtp.proofs.Recalling.{recalls_number}
 use Rattle.rina_dtp.proofs.Settled.{First, first, Settled, IsNext, settle}
@@ -31,7 +28,7 @@ use Rattle.rina_dtp.proofs.Shelved.{holds_one_more}
 use Rattle.rina_law.specs.Constants.{Constants, delta}
 use Rattle.rina_law.specs.Lists.{has, highest}
 use Rattle.rina_law.specs.Pdus.{piece_in}
-use Rattle.rina_law.specs.Pieces.{Part, Joiner, empty_joiner, Sdu, Joined, HasRoomFor}
+use Rattle.rina_law.specs.Pieces.{Joiner, Sdu, HasRoomFor}
 use Rattle.rina_law.specs.Receiver as law
 use Rattle.rina_law.specs.Receiver.{Piece, Receiver, is_present, next_of, numbers, present_verdict, absent_verdict, verdict_by_state, with_room, receiver_after, joined_after, AllHaveRoom}
 

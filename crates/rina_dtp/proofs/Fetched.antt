@@ -1,10 +1,9 @@
 -- Pieces that were given up are fetched one by one.
-use Rattle.std.proofs.Common.{◌≡◌, ◌≢◌, ℕ, zero, suc, ◌+◌, ◌-◌, ◌<◌, ◌≤◌, List, [], ◌∷◌, ◌++◌, length, map, filter, Bool, true, false, cond, not, ◌&&◌, eqb, ltb, Option, Some, None, refl, sym, ◌∙◌, ap, subst, arith, inl, inr, length-append}
-use Rattle.std.proofs.lemmas.Bool.{ltb-true, ltb-false, ne_eqb, eq-eqb, cases_lt, cases_Bool, cases_eq, false≢true}
+use Rattle.std.proofs.Common.{◌≡◌, ◌≢◌, ℕ, zero, suc, ◌+◌, ◌-◌, ◌<◌, ◌≤◌, List, [], ◌∷◌, ◌++◌, length, filter, Bool, true, false, cond, eqb, ltb, Option, Some, None, refl, sym, ◌∙◌, ap, subst, arith, inl, inr}
+use Rattle.std.proofs.lemmas.Bool.{ltb-true, ltb-false, ne_eqb, eq-eqb, cases_eq, false≢true}
 use Rattle.rina_delim.specs.declared.joiner.Run.{Run}
 use Rattle.rina_dtp.specs.declared.gap.Gap.{Gap}
 use Rattle.rina_dtp.specs.declared.gap.Lost.{Lost}
-use Rattle.rina_base.specs.declared.cause.Cause.{Cause}
 use Rattle.rina_base.specs.declared.cause.Cause.TheVariants as cause
 use Rattle.rina_dtp.specs.declared.accepted.Accepted.{Accepted}
 use Rattle.rina_dtp.specs.declared.source.Source.{Source}

@@ -1,13 +1,13 @@
 -- The held pieces that follow are joined as the machine joins them.
-use Rattle.std.proofs.Common.{◌≡◌, ◌≢◌, ℕ, zero, suc, ◌+◌, ◌-◌, ◌^◌, ◌<◌, ◌≤◌, List, [], ◌∷◌, ◌++◌, length, map, Bool, true, false, cond, not, ◌&&◌, ◌||◌, eqb, leb, Option, Some, None, refl, sym, ◌∙◌, ap, subst, arith, inl, inr, append_assoc, length-append}
-use Rattle.std.proofs.lemmas.Bool.{eqb-true, eqb-false, ne_eqb, le-leb, lt-leb, cases_lt, and_parts, false≢true, false_from_ne_true}
+use Rattle.std.proofs.Common.{◌≡◌, ◌≢◌, ℕ, zero, suc, ◌+◌, ◌-◌, ◌^◌, ◌<◌, ◌≤◌, List, [], ◌∷◌, ◌++◌, length, Bool, true, false, cond, not, ◌&&◌, eqb, Option, Some, None, refl, sym, ◌∙◌, ap, subst, arith, append_assoc}
+use Rattle.std.proofs.lemmas.Bool.{eqb-false, ne_eqb, and_parts, false≢true}
 use Rattle.std.proofs.lemmas.List.{append-nil}
 use Rattle.rina_delim.specs.Joining.{Joining, piece, answer, joined, HasRoom}
 use Rattle.rina_dtp.specs.declared.gap.Gap.{Gap}
-use Rattle.rina_dtp.specs.Accepted.{gap_given, IsGiven, FollowsOne, FollowsMany}
+use Rattle.rina_dtp.specs.Accepted.{gap_given, FollowsOne, FollowsMany}
 use Rattle.rina_dtp.specs.Joins.{Joins, gap_if, missing_in, is_cut_off, taken}
 use Rattle.rina_dtp.specs.declared.gap.Lost.{Lost}
-use Rattle.rina_dtp.specs.Lost.{numbers_from, missing_before, is_broken, lost_with, given_up, itself, lost_held}
+use Rattle.rina_dtp.specs.Lost.{missing_before, is_broken, lost_with, given_up, itself, lost_held}
 use Rattle.rina_dtp.specs.Receiving.{numbers_to, lost_in}
 use Rattle.rina_dtp.specs.Shelf.{Place, Shelved, place_at, holds, part_at, without}
 use Rattle.rina_dtp.specs.Stands.{IsJoiner}
@@ -15,7 +15,7 @@ use Rattle.rina_dtp.proofs.Growing.{joined-largest}
 use Rattle.rina_dtp.proofs.JoinedAs.{JoinsAs, joins_as, room_as}
 use Rattle.rina_dtp.proofs.Placed.{held_number, holds_without, part_without, length-without}
 use Rattle.rina_law.specs.Lists.{has, highest}
-use Rattle.rina_law.specs.Pieces.{Part, Joiner, Sdu, Joined, joined_with, HasRoomFor}
+use Rattle.rina_law.specs.Pieces.{Part, Joined, joined_with, HasRoomFor}
 use Rattle.rina_law.proofs.Lists.{highest-in, has-in}
 use Rattle.rina_law.specs.Receiver.{Piece, numbers, part_in, with_held, joined_held, HeldHaveRoom}
 

@@ -1,5 +1,5 @@
 -- How much a piece adds to what waits to be fetched.
-use Rattle.std.proofs.Common.{◌≡◌, ℕ, ◌+◌, ◌≤◌, List, [], ◌∷◌, ◌++◌, length, Bool, true, false, Option, Some, None, refl, arith, length-append}
+use Rattle.std.proofs.Common.{◌≡◌, ℕ, ◌≤◌, length, Bool, true, false, Option, Some, None, refl, arith, length-append}
 use Rattle.rina_delim.specs.declared.joiner.Run.{Run}
 use Rattle.rina_delim.specs.declared.joiner.Joined.{Joined}
 use Rattle.rina_delim.specs.declared.joiner.Joined.TheVariants.{More, Whole, Broken}

@@ -1,18 +1,14 @@
 -- The joiner does with a piece what the machine's does.
-use Rattle.std.proofs.Common.{◌≡◌, ◌≢◌, ℕ, zero, suc, ◌+◌, ◌-◌, ◌^◌, ◌%◌, ◌<◌, ◌≤◌, List, [], ◌∷◌, ◌++◌, length, map, Bool, true, false, cond, not, ◌&&◌, ◌||◌, eqb, ltb, Option, Some, None, refl, sym, ◌∙◌, ap, subst, arith, inl, inr, length-append}
-use Rattle.std.proofs.lemmas.Bool.{eqb-true, eqb-false, eq-eqb, ne_eqb, lt-ltb, le-ltb, ltb-true, and_parts, cases_lt}
+use Rattle.std.proofs.Common.{◌≡◌, ℕ, suc, ◌+◌, ◌-◌, ◌^◌, ◌%◌, ◌<◌, ◌≤◌, List, [], ◌∷◌, ◌++◌, length, map, Bool, true, false, cond, ◌&&◌, eqb, ltb, Option, Some, None, refl, sym, ◌∙◌, ap, arith, inl, inr, length-append}
+use Rattle.std.proofs.lemmas.Bool.{eq-eqb, ne_eqb, lt-ltb, le-ltb, ltb-true, and_parts, cases_lt}
 use Rattle.std.proofs.lemmas.Option.{none-some}
 use Rattle.std.proofs.lemmas.Bool.Decides.{eqb_tells}
 use Rattle.std.proofs.lemmas.List.{append-nil}
 use Rattle.std.proofs.Math.Nat.{mod-eq_of_lt}
 use Rattle.rina_delim.specs.declared.joiner.Run.{Run}
-use Rattle.rina_delim.specs.declared.joiner.Joined.{Joined}
-use Rattle.rina_delim.specs.declared.joiner.Joined.TheVariants.{More, Whole, Broken}
 use Rattle.rina_delim.specs.Joining as delim
 use Rattle.rina_delim.specs.Joining.{Joining, piece, after, before, missing_after, answer_for, held_after, joined_for, answer, joined}
-use Rattle.rina_dtp.specs.declared.gap.Gap.{Gap}
-use Rattle.rina_dtp.specs.Joins.{sdu_in, gap_if, missing_in, is_cut_off, start_of, whole_by, made_by}
-use Rattle.rina_dtp.specs.declared.gap.Lost.{Lost}
+use Rattle.rina_dtp.specs.Joins.{sdu_in, gap_if, missing_in, is_cut_off, whole_by, made_by}
 use Rattle.rina_dtp.specs.Lost.{numbers_from, missing_before, is_broken, lost_with, given_up}
 use Rattle.rina_dtp.specs.Receiving.{numbers_to, lost_in}
 use Rattle.rina_dtp.specs.Stands.{IsRun, IsJoiner}

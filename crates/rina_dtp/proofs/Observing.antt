@@ -1,28 +1,23 @@
 -- What a receiver shows is what the machine says.
-use Rattle.std.proofs.Common.{◌≡◌, ℕ, zero, suc, ◌+◌, ◌*◌, ◌<◌, ◌≤◌, List, [], ◌∷◌, ◌++◌, length, filter, All, Bool, true, false, cond, ltb, Option, Some, None, refl, sym, ◌∙◌, ap, subst, arith}
-use Rattle.std.proofs.lemmas.Bool.{lt-ltb, le-ltb, ltb-true, ltb-false, and_parts, false≢true}
-use Rattle.rina_base.specs.declared.cause.Cause.{Cause}
+use Rattle.std.proofs.Common.{◌≡◌, ℕ, zero, suc, ◌+◌, ◌≤◌, List, [], ◌++◌, length, filter, All, Bool, true, false, cond, ltb, Option, Some, None, refl, sym, ◌∙◌, ap, subst, arith}
+use Rattle.std.proofs.lemmas.Bool.{lt-ltb, le-ltb, false≢true}
 use Rattle.rina_cube.specs.declared.Cube.{Cube}
 use Rattle.rina_cube.specs.declared.Kind.{Kind}
-use Rattle.rina_cube.specs.declared.Kind.TheVariants as kinds
-use Rattle.rina_cube.specs.Cubes.{delta_of}
 use Rattle.rina_delim.specs.declared.joiner.Run.{Run}
-use Rattle.rina_delim.specs.Joining.{empty}
 use Rattle.rina_dtp.specs.declared.accepted.Accepted.{Accepted}
 use Rattle.rina_dtp.specs.declared.accepted.Accepted.TheVariants.{Datagram, Loose, Reliable}
 use Rattle.rina_dtp.specs.Accepted.{kind_of, IsFresh}
 use Rattle.rina_dtp.specs.Joins.{Joins}
 use Rattle.rina_dtp.specs.Lost.{numbers_from}
 use Rattle.rina_dtp.specs.Observed.{IsNew, TellsPresence, number_after, TellsNext, TellsJoining, TellsLastIn, next_kept, from_kept}
-use Rattle.rina_dtp.specs.Receiving.{Receiving, present_at, lost_in, run_numbers, held_numbers, kept_numbers, end_cause, ended_with, drops, slots_of, StartsFresh}
+use Rattle.rina_dtp.specs.Receiving.{Receiving, present_at, lost_in, run_numbers, held_numbers, kept_numbers, end_cause, ended_with, StartsFresh}
 use Rattle.rina_dtp.specs.Shelf.{Place, holds, IsUnused}
-use Rattle.rina_dtp.specs.Stands.{HasPlacesFor, IsJoiner, IsRun, Knows, Stands, IsFetched}
+use Rattle.rina_dtp.specs.Stands.{HasPlacesFor, IsRun, Knows, Stands}
 use Rattle.rina_dtp.proofs.Came.{present_same, none_ended}
 use Rattle.rina_dtp.proofs.Settled.{unused_not_held}
-use Rattle.rina_law.specs.Constants.{Constants, delta}
-use Rattle.rina_law.specs.Lists.{highest}
+use Rattle.rina_law.specs.Constants.{Constants}
 use Rattle.rina_law.specs.Pieces.{Joiner, empty_joiner}
-use Rattle.rina_law.specs.Receiver.{Receiver, no_state, is_present, next_of}
+use Rattle.rina_law.specs.Receiver.{Receiver, no_state, is_present}
 
 -- A new receiver
 

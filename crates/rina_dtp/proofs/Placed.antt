@@ -1,6 +1,6 @@
 -- The places of a shelf, when a piece is put there or taken away.
-use Rattle.std.proofs.Common.{◌≡◌, ◌≢◌, ℕ, ◌+◌, ◌*◌, ◌/◌, ◌%◌, ◌<◌, ◌≤◌, List, [], ◌∷◌, length, get_or, set, Bool, true, false, not, ◌||◌, ◌&&◌, eqb, refl, sym, ◌∙◌, ap, subst, arith, inl, inr, ⊎_elim, get_or-set_other, get_or-set_same}
-use Rattle.std.proofs.lemmas.Bool.{and_parts, eqb-true, eqb-false, eq-eqb, ne_eqb, cases_lt, cases_Bool, false≢true, false_from_ne_true}
+use Rattle.std.proofs.Common.{◌≡◌, ◌≢◌, ℕ, ◌+◌, ◌*◌, ◌/◌, ◌%◌, ◌<◌, ◌≤◌, List, length, get_or, set, Bool, true, false, not, ◌||◌, ◌&&◌, eqb, refl, sym, ◌∙◌, ap, arith, inl, inr, get_or-set_other, get_or-set_same}
+use Rattle.std.proofs.lemmas.Bool.{and_parts, eqb-true, eq-eqb, ne_eqb, cases_lt, false_from_ne_true}
 use Rattle.std.proofs.lemmas.Bool.Decides.{eqb_tells}
 use Rattle.std.proofs.lemmas.List.{length-set}
 use Rattle.std.proofs.lemmas.Nat.{div-add-mod', mod_below}

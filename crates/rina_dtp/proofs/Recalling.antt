@@ -1,5 +1,5 @@
 -- The ring tells the numbers that the machine accepted lately.
-use Rattle.std.proofs.Common.{◌≡◌, ℕ, ◌+◌, ◌<◌, ◌≤◌, List, [], ◌∷◌, Bool, true, false, cond, ◌||◌, ◌&&◌, eqb, leb, refl, sym, ◌∙◌, ap, arith, inl, inr}
+use Rattle.std.proofs.Common.{◌≡◌, ℕ, ◌+◌, ◌<◌, List, [], ◌∷◌, Bool, true, false, cond, ◌||◌, eqb, leb, refl, sym, ◌∙◌, ap, arith, inl, inr}
 use Rattle.std.proofs.lemmas.Bool.{lt-leb, le-leb, ne_eqb, cases_lt}
 use Rattle.rina_dtp.specs.Ring.{Recent, bit, has_number, Recalls, IsAdded, IsAlone}
 use Rattle.rina_law.specs.Lists.{has, highest}

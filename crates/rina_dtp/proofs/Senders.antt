@@ -1,12 +1,12 @@
 -- What is kept of a sender's numbers is what the machine says.
-use Rattle.std.proofs.Common.{◌≡◌, ℕ, zero, suc, ◌+◌, ◌*◌, ◌<◌, ◌≤◌, List, [], ◌∷◌, ◌++◌, length, Bool, true, false, cond, eqb, leb, ltb, ◌&&◌, ◌||◌, Option, Some, None, Result, Ok, Err, refl, sym, ◌∙◌, ap, subst, arith, length-append}
+use Rattle.std.proofs.Common.{◌≡◌, ℕ, ◌+◌, ◌*◌, ◌≤◌, List, [], ◌∷◌, length, Bool, true, false, cond, eqb, ltb, ◌&&◌, Option, Some, None, Result, Ok, Err, refl, sym, ◌∙◌, ap, subst, arith}
 use Rattle.std.proofs.lemmas.Bool.{le-ltb, lt-ltb, ne_eqb}
 use Rattle.rina_cube.specs.declared.Kind.{Kind}
 use Rattle.rina_cube.specs.declared.Kind.TheVariants.{Datagram, Loose, Reliable}
 use Rattle.rina_cube.specs.Cubes.{is_reliable}
 use Rattle.rina_dtp.specs.declared.numbers.Numbers.{Numbers}
 use Rattle.rina_dtp.specs.declared.numbers.NumbersSpent.{NumbersSpent}
-use Rattle.rina_dtp.specs.Numbers.{Counts, is_absent, next_from, IsTaken, refusal_of, Continues, IsOffer, TakesNumbers, NotesAgain, IsNextNumber}
+use Rattle.rina_dtp.specs.Numbers.{Counts, is_absent, next_from, IsTaken, IsOffer, TakesNumbers, NotesAgain, IsNextNumber}
 use Rattle.rina_law.specs.Constants.{Constants, delta}
 use Rattle.rina_law.specs.Line.{HasRoom}
 use Rattle.rina_law.specs.Pieces.{Part, join}

@@ -1,30 +1,29 @@
 -- What an accepted piece leaves is what the machine's row leaves, by kind.
-use Rattle.std.proofs.Common.{◌≡◌, ◌≢◌, ℕ, zero, suc, ◌+◌, ◌-◌, ◌^◌, ◌%◌, ◌<◌, ◌≤◌, List, [], ◌∷◌, ◌++◌, length, All, map, Bool, true, false, cond, not, ◌&&◌, ◌||◌, eqb, leb, ltb, Option, Some, None, refl, sym, ◌∙◌, ap, subst, arith, inl, inr, ◌⊎◌, get_or}
-use Rattle.std.proofs.lemmas.Bool.{le-ltb, ltb-true, cases_lt, false≢true, false_from_ne_true}
+use Rattle.std.proofs.Common.{◌≡◌, ℕ, zero, suc, ◌+◌, ◌^◌, ◌%◌, ◌<◌, ◌≤◌, List, [], ◌∷◌, ◌++◌, length, All, Bool, true, false, cond, ◌&&◌, ◌||◌, eqb, Option, Some, None, refl, sym, ◌∙◌, ap, subst, arith, inl, inr, ◌⊎◌}
+use Rattle.std.proofs.lemmas.Bool.{false≢true, false_from_ne_true}
 use Rattle.std.proofs.lemmas.Nat.{mod_below}
 use Rattle.std.proofs.lemmas.List.{append-nil}
 use Rattle.rina_cube.specs.declared.Kind.{Kind}
 use Rattle.rina_cube.specs.declared.Kind.TheVariants as kinds
-use Rattle.rina_delim.specs.Joining.{Joining, piece, answer, joined, empty}
+use Rattle.rina_delim.specs.Joining.{Joining, piece, joined}
 use Rattle.rina_dtp.specs.declared.accepted.Accepted.{Accepted}
 use Rattle.rina_dtp.specs.declared.accepted.Accepted.TheVariants.{Datagram, Loose, Reliable}
-use Rattle.rina_dtp.specs.declared.gap.Gap.{Gap}
-use Rattle.rina_dtp.specs.Accepted.{kind_of, IsCounted, FollowsOne, FollowsMany, FollowsAll, Follows}
-use Rattle.rina_dtp.specs.Joins.{Joins, gap_if, missing_in, is_cut_off, taken, IsJoined}
+use Rattle.rina_dtp.specs.Accepted.{kind_of, IsCounted, FollowsMany, FollowsAll, Follows}
+use Rattle.rina_dtp.specs.Joins.{Joins, IsJoined}
 use Rattle.rina_dtp.specs.declared.gap.Lost.{Lost}
 use Rattle.rina_dtp.specs.Lost.{missing_before, is_broken, given_up, lost_after, joiner_for, lost_held}
 use Rattle.rina_dtp.specs.Receiving.{lost_in}
-use Rattle.rina_dtp.specs.Ring.{Recent, Recalls}
-use Rattle.rina_dtp.specs.Shelf.{Place, Shelved, no_place, place_at, holds, part_at, IsUnused, Holds}
+use Rattle.rina_dtp.specs.Ring.{Recent}
+use Rattle.rina_dtp.specs.Shelf.{Place, Shelved, no_place, place_at, holds, IsUnused, Holds}
 use Rattle.rina_dtp.specs.Stands.{HasPlacesFor, IsJoiner, Knows, reach_of}
-use Rattle.rina_dtp.proofs.Followed.{lost_in-append, Between, Arrived, arrive, Done, done}
+use Rattle.rina_dtp.proofs.Followed.{Between, arrive, Done, done}
 use Rattle.rina_dtp.proofs.Growing.{joined-largest}
 use Rattle.rina_dtp.proofs.JoinedAs.{JoinsAs, joins_as, room_as}
 use Rattle.rina_dtp.proofs.Recalling.{recalls_added, recalls_alone}
 use Rattle.rina_dtp.proofs.Shelved.{begin_between, end_holds}
 use Rattle.rina_law.specs.Constants.{Constants}
-use Rattle.rina_law.specs.Lists.{has, highest}
-use Rattle.rina_law.specs.Pieces.{Part, Joiner, empty_joiner, Sdu, Joined, joined_with, HasRoomFor}
+use Rattle.rina_law.specs.Lists.{highest}
+use Rattle.rina_law.specs.Pieces.{Part, Joiner, empty_joiner, Joined, joined_with, HasRoomFor}
 use Rattle.rina_law.specs.Receiver as law
 use Rattle.rina_law.specs.Receiver.{Piece, Receiver, next_of, numbers, part_in, from_on, with_held, receiver_after, joined_held, joined_after, AllHaveRoom, HeldHaveRoom}
 

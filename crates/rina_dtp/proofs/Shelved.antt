@@ -1,15 +1,15 @@
 -- The places of a shelf are the machine's held pieces, before and after a row.
-use Rattle.std.proofs.Common.{◌≡◌, ◌≢◌, ℕ, suc, ◌+◌, ◌%◌, ◌^◌, ◌<◌, ◌≤◌, List, [], ◌∷◌, length, Bool, true, false, cond, not, ◌&&◌, ◌||◌, eqb, leb, refl, sym, ◌∙◌, ap, subst, arith, inl, inr, ⊎_elim}
-use Rattle.std.proofs.lemmas.Bool.{eqb-true, eqb-false, eq-eqb, ne_eqb, le-leb, lt-leb, leb-true, leb-false, cases_lt, and_parts, or_cases, cases_Bool, false≢true, true≢false, false_from_ne_true}
+use Rattle.std.proofs.Common.{◌≡◌, ◌≢◌, ℕ, ◌+◌, ◌%◌, ◌^◌, ◌<◌, ◌≤◌, List, [], ◌∷◌, length, Bool, true, false, cond, ◌&&◌, ◌||◌, eqb, leb, refl, sym, ◌∙◌, ap, subst, arith, inl, inr}
+use Rattle.std.proofs.lemmas.Bool.{eqb-true, ne_eqb, le-leb, lt-leb, leb-false, cases_lt, or_cases, true≢false, false_from_ne_true}
 use Rattle.std.proofs.lemmas.Bool.Decides.{eqb_tells}
 use Rattle.rina_dtp.specs.Joins.{Joins}
-use Rattle.rina_dtp.specs.Shelf.{Place, Shelved, place_at, holds, part_at, with_piece, Holds}
+use Rattle.rina_dtp.specs.Shelf.{Place, Shelved, holds, part_at, with_piece, Holds}
 use Rattle.rina_dtp.specs.Stands.{IsJoiner}
 use Rattle.rina_dtp.proofs.Placed.{same_place, holds_put, part_put_same, part_put_other, length-with_piece}
-use Rattle.rina_dtp.proofs.Followed.{Between, Done}
-use Rattle.rina_law.specs.Lists.{has, highest}
-use Rattle.rina_law.specs.Pieces.{Part, Joined}
-use Rattle.rina_law.specs.Receiver.{Piece, numbers, part_in, from_on, joined_held}
+use Rattle.rina_dtp.proofs.Followed.{Between}
+use Rattle.rina_law.specs.Lists.{has}
+use Rattle.rina_law.specs.Pieces.{Joined}
+use Rattle.rina_law.specs.Receiver.{Piece, numbers, part_in, from_on}
 
 -- Held pieces from a number on
 

@@ -1,14 +1,11 @@
 -- Pieces that were given up, and how they are fetched.
-use Rattle.std.specs.Prelude.{◌≡◌, ℕ, ◌+◌, ◌-◌, ◌^◌, ◌<◌, ◌≤◌, min, Bool, true, false, nat_lt, List, [], ◌∷◌, ◌++◌, length, drop, Option, Some, None, if◌then◌else◌}
-use Rattle.rina_base.specs.declared.cause.Cause.{Cause}
-use Rattle.rina_base.specs.declared.number.Key.{Key}
+use Rattle.std.specs.Prelude.{◌≡◌, ℕ, ◌+◌, ◌<◌, ◌≤◌, true, false, nat_lt, List, [], ◌∷◌, length, Option, Some, None, if◌then◌else◌}
 use Rattle.rina_delim.specs.declared.joiner.Run.{Run}
 use Rattle.rina_delim.specs.Joining.{empty}
 use Rattle.rina_dtp.specs.declared.accepted.Accepted.{Accepted}
 use Rattle.rina_dtp.specs.declared.gap.Gap.{Gap}
 use Rattle.rina_dtp.specs.declared.gap.Lost.{Lost}
 use Rattle.rina_dtp.specs.Accepted.{kind_of, HasSlotsFor}
-use Rattle.rina_dtp.specs.Joins.{Joins}
 use Rattle.rina_dtp.specs.Receiving.{Receiving, held_numbers}
 use Rattle.rina_dtp.specs.Shelf.{Shelved, holds}
 use Rattle.rina_dtp.specs.Stands.{HasPlacesFor, Stands}

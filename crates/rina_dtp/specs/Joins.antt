@@ -1,11 +1,10 @@
 -- What is kept of the SDUs that are being joined: the pieces that wait, the SDUs that are whole, and the pieces that were
 -- given up.
-use Rattle.std.specs.Prelude.{◌≡◌, ℕ, ◌+◌, ◌-◌, ◌*◌, ◌<◌, ◌≤◌, Bool, true, false, ◌||◌, List, [], ◌∷◌, ◌++◌, length, map, take, drop, All, Option, Some, None, if◌then◌else◌}
-use Rattle.std.specs.Vec.{vec_capacity}
+use Rattle.std.specs.Prelude.{◌≡◌, ℕ, ◌+◌, ◌-◌, ◌*◌, ◌<◌, ◌≤◌, Bool, true, List, [], ◌∷◌, ◌++◌, length, map, take, drop, Option, Some, None, if◌then◌else◌}
 use Rattle.rina_delim.specs.declared.joiner.Run.{Run}
 use Rattle.rina_delim.specs.declared.joiner.Joined.{Joined}
-use Rattle.rina_delim.specs.declared.joiner.Joined.TheVariants.{More, Whole, Broken}
-use Rattle.rina_delim.specs.Joining.{Piece, Joining, after, empty, from_of, answer, joined, IsRoomFor}
+use Rattle.rina_delim.specs.declared.joiner.Joined.TheVariants.{Whole, Broken}
+use Rattle.rina_delim.specs.Joining.{Piece, Joining, after, from_of, answer, joined, IsRoomFor}
 use Rattle.rina_dtp.specs.declared.gap.Gap.{Gap}
 use Rattle.rina_dtp.specs.Slots.{Waiting}
 use Rattle.rina_law.specs.Pieces.{Sdu}

@@ -1,5 +1,5 @@
 -- The numbers of a sender, and the sender of the connection machine that they stand for.
-use Rattle.std.specs.Prelude.{◌≡◌, ℕ, ◌+◌, ◌*◌, ◌<◌, ◌≤◌, Bool, true, ◌&&◌, ◌||◌, nat_le, ◌==◌, if◌then◌else◌, List, length, Option, Some, None, Result, Ok, Err}
+use Rattle.std.specs.Prelude.{◌≡◌, ℕ, ◌+◌, ◌*◌, ◌<◌, ◌≤◌, Bool, ◌&&◌, ◌||◌, nat_le, ◌==◌, if◌then◌else◌, List, length, Option, Some, None, Result, Ok, Err}
 use Rattle.rina_dtp.specs.declared.numbers.Numbers.{Numbers}
 use Rattle.rina_dtp.specs.declared.numbers.NumbersSpent.{NumbersSpent}
 use Rattle.rina_law.specs.Constants.{Constants, delta}

@@ -1,5 +1,5 @@
 -- What a receiver keeps, and what it does with a piece in the terms of that.
-use Rattle.std.specs.Prelude.{◌≡◌, ℕ, ◌+◌, ◌-◌, ◌*◌, ◌^◌, ◌<◌, ◌≤◌, Bool, true, false, ◌&&◌, nat_lt, List, [], ◌∷◌, ◌++◌, length, map, filter, slice_get, drop, Option, Some, None, if◌then◌else◌}
+use Rattle.std.specs.Prelude.{◌≡◌, ℕ, ◌+◌, ◌-◌, ◌*◌, ◌<◌, ◌≤◌, Bool, true, false, ◌&&◌, nat_lt, List, [], ◌∷◌, ◌++◌, length, map, filter, Option, Some, None, if◌then◌else◌}
 use Rattle.rina_base.specs.declared.cause.Cause.{Cause}
 use Rattle.rina_base.specs.declared.cause.Cause.TheVariants as cause
 use Rattle.rina_base.specs.declared.number.Key.{Key}
@@ -11,7 +11,7 @@ use Rattle.rina_cube.specs.declared.Kind.TheVariants as kinds
 use Rattle.rina_delim.specs.declared.joiner.Run.{Run}
 use Rattle.rina_delim.specs.Joining.{piece, empty}
 use Rattle.rina_dtp.specs.declared.accepted.Accepted.{Accepted}
-use Rattle.rina_dtp.specs.declared.accepted.Accepted.TheVariants.{Datagram, Loose, Reliable}
+use Rattle.rina_dtp.specs.declared.accepted.Accepted.TheVariants.{Reliable}
 use Rattle.rina_dtp.specs.declared.gap.Gap.{Gap}
 use Rattle.rina_dtp.specs.declared.source.Source.{Source}
 use Rattle.rina_dtp.specs.declared.verdict.Verdict.{Verdict}
@@ -20,7 +20,7 @@ use Rattle.rina_dtp.specs.Accepted.{number_verdict, top_of, IsCounted, Follows, 
 use Rattle.rina_dtp.specs.Joins as joins
 use Rattle.rina_dtp.specs.Joins.{Joins, IsJoined}
 use Rattle.rina_dtp.specs.declared.gap.Lost.{Lost}
-use Rattle.rina_dtp.specs.Lost.{numbers_from, lost_with, told_accepted}
+use Rattle.rina_dtp.specs.Lost.{numbers_from, lost_with}
 use Rattle.rina_dtp.specs.Shelf.{Shelved, holds, with_piece}
 use Rattle.rina_dtp.specs.Source.{source_of, key_at}
 use Rattle.rina_law.specs.Receiver as law

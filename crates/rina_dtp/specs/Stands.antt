@@ -1,7 +1,5 @@
 -- The receiver of the connection machine that a receiver stands for, and the machine's row for a piece that comes.
-use Rattle.std.specs.Prelude.{◌≡◌, ℕ, ◌+◌, ◌*◌, ◌^◌, ◌<◌, ◌≤◌, Bool, true, false, nat_lt, List, [], length, Option, Some, None}
-use Rattle.rina_base.specs.declared.number.Key.{Key}
-use Rattle.rina_base.specs.declared.cause.Cause.{Cause}
+use Rattle.std.specs.Prelude.{◌≡◌, ℕ, ◌+◌, ◌*◌, ◌^◌, ◌<◌, ◌≤◌, Bool, true, false, nat_lt, [], length, Option, Some, None}
 use Rattle.rina_base.specs.declared.pdu.Pdu.{Pdu}
 use Rattle.rina_cube.specs.Cubes.{IsCube}
 use Rattle.rina_cube.specs.declared.Kind.TheVariants as kinds

@@ -1,4 +1,4 @@
-use Rattle.std.proofs.Common.{◌≡◌, ℕ, ◌<◌, length, All, get_or}
+use Rattle.std.proofs.Common.{ℕ, ◌<◌, All, get_or}
 use Rattle.rina_dtp.specs.Shelf.{HasRoomOf, IsUnused, no_place}
 use Rattle.rina_dtp.proofs.shelf.free_all.Given as goal
 

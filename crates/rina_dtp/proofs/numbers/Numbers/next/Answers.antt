@@ -1,4 +1,4 @@
-use Rattle.std.proofs.Common.{sym, ap, ◌∙◌, refl, Bool, cond, Option, ℕ, None, Some}
+use Rattle.std.proofs.Common.{sym, ◌∙◌, refl, None, Some}
 use Rattle.rina_dtp.proofs.Senders.{is_next}
 use Rattle.rina_dtp.proofs.numbers.Numbers.next.Goals as goal
 
