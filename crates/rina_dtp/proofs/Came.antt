@@ -227,21 +227,21 @@ stands_now now r made last rest = (let lt : ltb now (now + r.rest) ≡ true = lt
 was_made : (c : Constants) (now : ℕ) (m : Receiver) (j : Joiner) (r : Receiving) → Stands c now m j r → is_present c now m ≡ true → r.made ≡ true
 was_made c now m j r st e = sym st.made ∙ (and_parts m.made (ltb now (m.last_in + 2 * delta c)) e).0
 
-came_touched : (c : Constants) (now : ℕ) (m : Receiver) (j : Joiner) (r new : Receiving) → Stands c now m j r → is_present c now m ≡ true → new ≡ record (cleared r) { last_in = now } → Stands c now (record m { last_in = now }) j new × (new.join.whole ≡ []) × (drops now new ≡ [])
+came_touched : (c : Constants) (now : ℕ) (m : Receiver) (j : Joiner) (r new : Receiving) → Stands c now m j r → is_present c now m ≡ true → new ≡ record (cleared r) { last_in = now } → Stands c now (record m { last_in = now }) j new × (new.join.whole ≡ []) × (drops now new ≡ []) × (new.source ≡ r.source) × (new.going ≡ None)
 came_touched c now m j r new st e is =
-    let S : Receiving → Type 0 = λ x. Stands c now (record m { last_in = now }) j x × (x.join.whole ≡ []) × (drops now x ≡ []) in
+    let S : Receiving → Type 0 = λ x. Stands c now (record m { last_in = now }) j x × (x.join.whole ≡ []) × (drops now x ≡ []) × (x.source ≡ r.source) × (x.going ≡ None) in
     let x : Receiving = record (cleared r) { last_in = now } in
-    subst S (sym is) (stands_touched c now m j r st e, refl, drops_standing now x st.not_closed (stands_now now x (was_made c now m j r st e) refl (least_rest c r st.of)))
+    subst S (sym is) (stands_touched c now m j r st e, refl, drops_standing now x st.not_closed (stands_now now x (was_made c now m j r st e) refl (least_rest c r st.of)), refl, refl)
 
-came_refused : (c : Constants) (now : ℕ) (m : Receiver) (j : Joiner) (r new : Receiving) → Stands c now m j r → IsFetched now r → new ≡ cleared r → Stands c now m j new × (new.join.whole ≡ []) × (drops now new ≡ [])
+came_refused : (c : Constants) (now : ℕ) (m : Receiver) (j : Joiner) (r new : Receiving) → Stands c now m j r → IsFetched now r → new ≡ cleared r → Stands c now m j new × (new.join.whole ≡ []) × (drops now new ≡ []) × (new.source ≡ r.source) × (new.going ≡ None)
 came_refused c now m j r new st f is =
-    let S : Receiving → Type 0 = λ x. Stands c now m j x × (x.join.whole ≡ []) × (drops now x ≡ []) in
-    subst S (sym is) (stands_cleared c now m j r st, refl, drops_cleared now r st.not_closed f.dropped (present_at now r) refl)
+    let S : Receiving → Type 0 = λ x. Stands c now m j x × (x.join.whole ≡ []) × (drops now x ≡ []) × (x.source ≡ r.source) × (x.going ≡ None) in
+    subst S (sym is) (stands_cleared c now m j r st, refl, drops_cleared now r st.not_closed f.dropped (present_at now r) refl, refl, refl)
 
 -- A piece that is held
 
 came_held : (c : Constants) (now : ℕ) (m : Receiver) (j : Joiner) (pdu : Pdu) (r : Receiving) (result : Verdict) (new : Receiving) (a : Accepted) → r.accepted ≡ a → pdu.seq < 2 ^ 32 → Stands c now m j r → is_present c now m ≡ true → IsAbove a pdu.seq → IsWelcome c true m j law.Held (piece_in pdu) → IsHeldIn a now pdu (cleared r) result new →
-    Came c now true m j law.Held pdu result new
+    Came c now true m j law.Held pdu r result new
 came_held c now m j pdu r result new (Datagram s) is small st e above w held = absurd above
 came_held c now m j pdu r result new (Loose h) is small st e above w held = absurd above
 came_held c now m j pdu r result new (Reliable s) is small st e above w held =
@@ -258,7 +258,7 @@ came_held c now m j pdu r result new (Reliable s) is small st e above w held =
     let t : Shelved = record s { places = with_piece pdu.seq pdu.first pdu.last pdu.body s.places } in
     let some : 1 ≤ length s.places = (let l = st.of.cube.least_window in omega arith) in
     let x : Receiving = record (cleared r) { last_in = now; source = source_of pdu; accepted = Reliable t } in
-    let C : Receiving → Type 0 = λ y. Came c now true m j law.Held pdu result y in
+    let C : Receiving → Type 0 = λ y. Came c now true m j law.Held pdu r result y in
     subst C (sym told.1) (record {
       told_is = told.0;
       stands = record {
@@ -271,6 +271,8 @@ came_held c now m j pdu r result new (Reliable s) is small st e above w held =
         reach = λ _ has_some. (let R : Accepted → Type 0 = λ y. j.from + j.count ≤ reach_of y in subst R is (st.reach e has_some));
       };
       whole = refl;
+      source = refl;
+      going = refl;
       dropped = drops_standing now x st.not_closed (stands_now now x (was_made c now m j r st e) refl (least_rest c r st.of));
     })
 
@@ -315,7 +317,7 @@ after_made true kind now p m = (refl, refl)
 after_made false kind now p m = (refl, refl)
 
 came_accepted : (c : Constants) (now : ℕ) (b : Bool) (m : Receiver) (j : Joiner) (pdu : Pdu) (r : Receiving) (result : Verdict) (new : Receiving) → pdu.seq < 2 ^ 32 → Stands c now m j r → is_present c now m ≡ b → (b ≡ true → IsNext r.accepted pdu.seq) → IsWelcome c b m j law.Accepted (piece_in pdu) → IsAccepted b now pdu (cleared r) result new →
-    Came c now b m j law.Accepted pdu result new
+    Came c now b m j law.Accepted pdu r result new
 came_accepted c now b m j pdu r result new small st e next w x =
     let p = piece_in pdu in
     let i = start_join b (joins.cleared r.join) in
@@ -343,21 +345,23 @@ came_accepted c now b m j pdu r result new small st e next w x =
         reach = λ _. s.reach;
       };
       whole = s.whole;
+      source = source;
+      going = ap (λ (y : Receiving). y.going) x.new_is;
       dropped = drops_standing now new shut (stands_now now new made last (let one = least_rest c r st.of in omega arith)) ∙ (rw (source, s.gaps) refl);
     }
 
 -- Any piece
 
 came : (c : Constants) (now : ℕ) (v : law.Verdict) (b : Bool) (room : Bool) (m : Receiver) (j : Joiner) (pdu : Pdu) (r : Receiving) (result : Verdict) (new : Receiving) → pdu.seq < 2 ^ 32 → Stands c now m j r → IsFetched now r → is_present c now m ≡ b → with_room room (number_verdict b r.accepted pdu.seq pdu.drf) ≡ v → IsWelcome c b m j v (piece_in pdu) → IsStep v b now pdu (cleared r) result new →
-    Came c now b m j v pdu result new
+    Came c now b m j v pdu r result new
 came c now law.Accepted true room m j pdu r result new small st fetched e is w x = came_accepted c now true m j pdu r result new small st e (λ _. accepted_next r.accepted pdu.seq room is) w x
 came c now law.Accepted false room m j pdu r result new small st fetched e is w x = came_accepted c now false m j pdu r result new small st e (λ t. absurd (false≢true t)) w x
 came c now law.Held true room m j pdu r result new small st fetched e is w x = came_held c now m j pdu r result new r.accepted refl small st e (held_above r.accepted pdu.seq room is) w x
-came c now law.Duplicate true room m j pdu r result new small st fetched e is w x = (let t = came_touched c now m j r new st e x.1 in record { told_is = x.0; stands = t.0; whole = t.1; dropped = t.2 })
+came c now law.Duplicate true room m j pdu r result new small st fetched e is w x = (let t = came_touched c now m j r new st e x.1 in record { told_is = x.0; stands = t.0; whole = t.1; source = t.3; going = t.4; dropped = t.2 })
 came c now law.Behind true room m j pdu r result new small st fetched e is w x =
-    (let t = came_touched c now m j r new st e x.1 in record { told_is = x.0 ∙ ap (λ n. Off (cause.Behind n)) (behind_top r.accepted m pdu.seq room (st.known e) is); stands = t.0; whole = t.1; dropped = t.2 })
-came c now law.NoState b room m j pdu r result new small st fetched e is w x = (let t = came_refused c now m j r new st fetched x.1 in record { told_is = x.0; stands = t.0; whole = t.1; dropped = t.2 })
-came c now law.NoRoom b room m j pdu r result new small st fetched e is w x = (let t = came_refused c now m j r new st fetched x.1 in record { told_is = x.0 ∙ ap (λ n. Off (cause.NoRoom n)) st.of.window; stands = t.0; whole = t.1; dropped = t.2 })
+    (let t = came_touched c now m j r new st e x.1 in record { told_is = x.0 ∙ ap (λ n. Off (cause.Behind n)) (behind_top r.accepted m pdu.seq room (st.known e) is); stands = t.0; whole = t.1; source = t.3; going = t.4; dropped = t.2 })
+came c now law.NoState b room m j pdu r result new small st fetched e is w x = (let t = came_refused c now m j r new st fetched x.1 in record { told_is = x.0; stands = t.0; whole = t.1; source = t.3; going = t.4; dropped = t.2 })
+came c now law.NoRoom b room m j pdu r result new small st fetched e is w x = (let t = came_refused c now m j r new st fetched x.1 in record { told_is = x.0 ∙ ap (λ n. Off (cause.NoRoom n)) st.of.window; stands = t.0; whole = t.1; source = t.3; going = t.4; dropped = t.2 })
 came c now law.Held false room m j pdu r result new small st fetched e is w x = elim (absent_only (kind_of r.accepted) pdu.drf room law.Held is) [ inl f ↦ absurd cc | inr (inl f) ↦ absurd cc | inr (inr f) ↦ absurd cc ]
 came c now law.Duplicate false room m j pdu r result new small st fetched e is w x = elim (absent_only (kind_of r.accepted) pdu.drf room law.Duplicate is) [ inl f ↦ absurd cc | inr (inl f) ↦ absurd cc | inr (inr f) ↦ absurd cc ]
 came c now law.Behind false room m j pdu r result new small st fetched e is w x = elim (absent_only (kind_of r.accepted) pdu.drf room law.Behind is) [ inl f ↦ absurd cc | inr (inl f) ↦ absurd cc | inr (inr f) ↦ absurd cc ]

@@ -3,6 +3,7 @@ pub mod Fetched
 pub mod Followed
 pub mod Growing
 pub mod JoinedAs
+pub mod Lasting
 pub mod Observing
 pub mod Placed
 pub mod Recalling

@@ -64,10 +64,14 @@ taken_so c now count until first parts tx old (Ok n) new max size some begin out
     let spent : ltb (c.max + 1) (length tx.run + length parts) ≡ false = le-ltb (c.max + 1) (length tx.run + length parts) (let fits = t.1 in omega arith) in
     record {
       refused = λ fits room. only_numbers c tx parts fits room ∙ ap (λ b. cond b (Some (law.NumbersSpent (tx.last_out + 3 * delta c))) None) spent;
-      after = (t.0 ∙ sym begin, t.2.max_is, record {
-        next = (let e = all_length c now parts tx in let is = t.2.next_is in omega arith);
-        last_out = some_out c now parts tx (omega arith) ∙ sym t.2.last_out_is;
-      });
+      after = (
+        t.0 ∙ sym begin,
+        t.2.max_is,
+        record {
+          next = (let e = all_length c now parts tx in let is = t.2.next_is in omega arith);
+          last_out = some_out c now parts tx (omega arith) ∙ sym t.2.last_out_is;
+        },
+      );
     }
 taken_so c now count until first parts tx old (Err e) new max size some begin out t =
     let spent : ltb (c.max + 1) (length tx.run + length parts) ≡ true = lt-ltb (c.max + 1) (length tx.run + length parts) (let over = t.1 in omega arith) in

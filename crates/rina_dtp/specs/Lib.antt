@@ -1,6 +1,7 @@
 pub mod Accepted
 pub mod Fetching
 pub mod Joins
+pub mod Laws
 pub mod Lending
 pub mod Lost
 pub mod Numbers

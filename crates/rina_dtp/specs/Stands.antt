@@ -9,6 +9,7 @@ use Rattle.rina_delim.specs.declared.joiner.Run.{Run}
 use Rattle.rina_delim.specs.Joining.{Joining}
 use Rattle.rina_dtp.specs.declared.accepted.Accepted.{Accepted}
 use Rattle.rina_dtp.specs.declared.accepted.Accepted.TheVariants.{Datagram, Loose, Reliable}
+use Rattle.rina_dtp.specs.declared.source.Source.{Source}
 use Rattle.rina_dtp.specs.declared.verdict.Verdict.{Verdict}
 use Rattle.rina_dtp.specs.Accepted.{kind_of}
 use Rattle.rina_dtp.specs.Lost.{joiner_for, lost_after, told}
@@ -91,14 +92,23 @@ verdict_of c now unpassed m p = law.verdict c.cube.kind (is_present c now m) m p
 abbrev pub joined_by : Constants → Bool → Receiver → Joiner → law.Verdict → Piece → Joined
 joined_by c present m j v p = joined_after v c.cube.kind present p m.held j
 
--- the answer, the receiver and the joiner after it, the SDUs that wait to be fetched, and the pieces that are given up
-pub record Came (c : Constants) (now : ℕ) (present : Bool) (m : Receiver) (j : Joiner) (v : law.Verdict) (pdu : Pdu) (result : Verdict) (new : Receiving) : Type 0 where
+-- the source of what is kept is that of the last piece that was accepted or held
+abbrev pub source_after : law.Verdict → Source → Source → Source
+source_after law.Accepted source earlier = source
+source_after law.Held source earlier = source
+source_after v source earlier = earlier
+
+-- the answer, the receiver and the joiner after it, the SDUs that wait to be fetched, and the pieces that are given up;
+-- none is left of those that were given up before
+pub record Came (c : Constants) (now : ℕ) (present : Bool) (m : Receiver) (j : Joiner) (v : law.Verdict) (pdu : Pdu) (old : Receiving) (result : Verdict) (new : Receiving) : Type 0 where
   pub told_is : result ≡ told v c.cube.window pdu m (joiner_for present j) (joined_by c present m j v (piece_in pdu)).whole
   pub stands : Stands c now (receiver_after v c.cube.kind present now (piece_in pdu) m) (joined_by c present m j v (piece_in pdu)).joiner new
   pub whole : new.join.whole ≡ (joined_by c present m j v (piece_in pdu)).whole
+  pub source : new.source ≡ source_after v (source_of pdu) old.source
+  pub going : new.going ≡ None
   pub dropped : drops now new ≡ broken_with (source_of pdu) (lost_after v c.cube.kind present (piece_in pdu) m.held j)
 
 -- the row, at every receiver and joiner of the machine for which this one stands
 abbrev pub IsRow : ℕ → Pdu → ℕ → Receiving → Verdict → Receiving → Type 0
 IsRow now pdu unpassed old result new = (c : Constants) (m : Receiver) (j : Joiner) → Stands c now m j old → IsFetched now old → IsWelcome c (is_present c now m) m j (verdict_of c now unpassed m (piece_in pdu)) (piece_in pdu) →
-    Came c now (is_present c now m) m j (verdict_of c now unpassed m (piece_in pdu)) pdu result new
+    Came c now (is_present c now m) m j (verdict_of c now unpassed m (piece_in pdu)) pdu old result new

@@ -4,6 +4,7 @@
 mod accepted;
 mod gap;
 mod join;
+mod laws;
 mod numbers;
 mod place;
 mod ring;
@@ -17,6 +18,7 @@ mod verdict;
 pub use accepted::Accepted;
 pub use gap::{Gap, Lost};
 pub use join::Join;
+pub use laws::receiver_stands_on;
 pub use numbers::{Numbers, NumbersSpent};
 pub use place::Place;
 pub use ring::Ring;

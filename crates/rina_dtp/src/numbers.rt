@@ -57,7 +57,13 @@ impl Numbers {
     }
 
     /// Takes numbers, of which the first is told.
-    fn take_from(&mut self, now: Tick, count: u32, until: Tick, first: u64) -> Result<u32, NumbersSpent>
+    fn take_from(
+        &mut self,
+        now: Tick,
+        count: u32,
+        until: Tick,
+        first: u64,
+    ) -> Result<u32, NumbersSpent>
         requires now { now ≤ 10000000 }
         requires first { first ≤ self.old.max + 1 }
         requires count { 1 ≤ count }
@@ -76,7 +82,13 @@ impl Numbers {
     /// Takes `count` numbers, 1 to 256, that follow each other, and answers the first. `idle` says that nothing is
     /// unacknowledged, and `delta` is that of the cube, in ticks: where the sender has no state, the numbers begin
     /// again at 0.
-    pub fn take(&mut self, now: Tick, count: u32, idle: bool, delta: u32) -> Result<u32, NumbersSpent>
+    pub fn take(
+        &mut self,
+        now: Tick,
+        count: u32,
+        idle: bool,
+        delta: u32,
+    ) -> Result<u32, NumbersSpent>
         requires now { now ≤ 10000000 }
         requires count { 1 ≤ count }
         requires delta { delta ≤ 3000000 }

@@ -220,12 +220,13 @@ impl Rx {
         match self.judge(present, room, pdu.seq, pdu.drf) {
             Judged::Accepted => self.accept(now, present, pdu),
             Judged::Held => self.hold(now, pdu),
-            Judged::Duplicate => self.know(now, Cause::Duplicate {
-                num: Num {
+            Judged::Duplicate => {
+                let num = Num {
                     cep: pdu.scep,
                     seq: u64::from(pdu.seq),
-                },
-            }),
+                };
+                self.know(now, Cause::Duplicate { num })
+            }
             Judged::Behind => {
                 let highest = self.accepted.top();
                 self.know(now, Cause::Behind { highest })
@@ -393,7 +394,9 @@ impl Rx {
         ensures count { result ≡ min (length (kept_numbers self.old)) (2 ^ 32 - 1) }
         ensures closed { self.new ≡ record self.old { closed = true } }
     {
-        let count = run_count(self.going) + run_count(self.join.held()) + self.accepted.held_count();
+        let count = run_count(self.going)
+            + run_count(self.join.held())
+            + self.accepted.held_count();
         self.closed = true;
         count.min(u64::from(u32::MAX)) as u32
     }

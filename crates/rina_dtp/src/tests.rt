@@ -5,20 +5,41 @@ use std::alloc::{AllocError, Global};
 use std::process::Abort;
 use std::test::*;
 
-/// A cube of delta 40, and of delta 72 where it is reliable.
-fn cube(kind: Kind) -> Cube {
-    let reliable = matches!(kind, Kind::Reliable);
-    Cube {
-        id: 1,
-        kind,
-        mpl: if reliable { 30 } else { 40 },
-        r: if reliable { 40 } else { 0 },
-        a: if reliable { 2 } else { 0 },
-        retry: if reliable { 10 } else { 0 },
-        window: 4,
-        largest: 200,
-    }
-}
+/// Delta is 40.
+const DATAGRAM: Cube = Cube {
+    id: 1,
+    kind: Kind::Datagram,
+    mpl: 40,
+    r: 0,
+    a: 0,
+    retry: 0,
+    window: 4,
+    largest: 200,
+};
+
+/// Delta is 40.
+const LOOSE: Cube = Cube {
+    id: 2,
+    kind: Kind::Loose,
+    mpl: 40,
+    r: 0,
+    a: 0,
+    retry: 0,
+    window: 4,
+    largest: 200,
+};
+
+/// Delta is 72.
+const RELIABLE: Cube = Cube {
+    id: 3,
+    kind: Kind::Reliable,
+    mpl: 30,
+    r: 40,
+    a: 2,
+    retry: 10,
+    window: 4,
+    largest: 200,
+};
 
 /// A piece of CEP-id 3 at address 1.
 const fn piece(seq: u32, drf: bool, first: bool, last: bool, body: &[u8]) -> PduView<'_> {
@@ -79,6 +100,7 @@ fn fetched(rt: &impl Abort, rx: &mut Rx, first: u32, pieces: u32, bytes: &[u8]) 
 }
 
 const ONE: Verdict = Verdict::Accept { whole: 1 };
+
 const NONE: Verdict = Verdict::Accept { whole: 0 };
 
 #[test]
@@ -86,9 +108,15 @@ fn numbers_begin_again_after_three_delta(rt: HostRuntime) {
     let mut numbers = Numbers::new(255);
     assert_eq!(rt; numbers.next(0, true, 40), None);
     assert_eq!(rt; numbers.take(0, 256, true, 40), Ok(0));
-    assert_eq!(rt; numbers.take(0, 1, true, 40), Err(NumbersSpent { until: 120 }));
+    assert_eq!(rt;
+        numbers.take(0, 1, true, 40),
+        Err(NumbersSpent { until: 120 })
+    );
     assert_eq!(rt; numbers.next(119, true, 40), Some(256));
-    assert_eq!(rt; numbers.take(120, 1, false, 40), Err(NumbersSpent { until: 120 }));
+    assert_eq!(rt;
+        numbers.take(120, 1, false, 40),
+        Err(NumbersSpent { until: 120 })
+    );
     assert_eq!(rt; numbers.take(120, 1, true, 40), Ok(0));
     numbers.again(130);
     assert_eq!(rt; numbers.next(249, true, 40), Some(1));
@@ -97,7 +125,7 @@ fn numbers_begin_again_after_three_delta(rt: HostRuntime) {
 
 #[test]
 fn a_datagram_comes_once_in_any_order(rt: HostRuntime) -> Result<(), Fail> {
-    let mut rx = Rx::new(rt.alloc(), &cube(Kind::Datagram), 80)?;
+    let mut rx = Rx::new(rt.alloc(), &DATAGRAM, 80)?;
     came(&rt, &mut rx, 2, &whole(2, false, b"c"), ONE);
     fetched(&rt, &mut rx, 2, 1, b"c");
     came(&rt, &mut rx, 3, &whole(0, true, b"a"), ONE);
@@ -119,7 +147,7 @@ fn a_datagram_comes_once_in_any_order(rt: HostRuntime) -> Result<(), Fail> {
 
 #[test]
 fn a_lost_piece_breaks_its_sdu(rt: HostRuntime) -> Result<(), Fail> {
-    let mut rx = Rx::new(rt.alloc(), &cube(Kind::Loose), 80)?;
+    let mut rx = Rx::new(rt.alloc(), &LOOSE, 80)?;
     came(&rt, &mut rx, 2, &piece(0, true, true, false, b"zz"), NONE);
     assert_eq!(rt; rx.joining(), Some(0));
     came(
@@ -145,7 +173,7 @@ fn a_lost_piece_breaks_its_sdu(rt: HostRuntime) -> Result<(), Fail> {
 
 #[test]
 fn a_reliable_flow_begins_with_the_flag_and_has_no_gap(rt: HostRuntime) -> Result<(), Fail> {
-    let mut rx = Rx::new(rt.alloc(), &cube(Kind::Reliable), 80)?;
+    let mut rx = Rx::new(rt.alloc(), &RELIABLE, 80)?;
     assert_eq!(rt; rx.last_in(), None);
     came(
         &rt,
@@ -156,7 +184,13 @@ fn a_reliable_flow_begins_with_the_flag_and_has_no_gap(rt: HostRuntime) -> Resul
     );
     came(&rt, &mut rx, 3, &whole(0, true, b"a"), ONE);
     fetched(&rt, &mut rx, 0, 1, b"a");
-    came(&rt, &mut rx, 4, &piece(2, false, false, true, b"d"), Verdict::Hold);
+    came(
+        &rt,
+        &mut rx,
+        4,
+        &piece(2, false, false, true, b"d"),
+        Verdict::Hold,
+    );
     came(&rt, &mut rx, 4, &whole(3, false, b"e"), Verdict::Hold);
     came(&rt, &mut rx, 5, &whole(3, false, b"e"), duplicate(3));
     assert_eq!(rt; rx.next(5), Some(1));
@@ -177,17 +211,23 @@ fn a_reliable_flow_begins_with_the_flag_and_has_no_gap(rt: HostRuntime) -> Resul
 
 #[test]
 fn what_is_held_is_given_up_with_its_state(rt: HostRuntime) -> Result<(), Fail> {
-    let mut rx = Rx::new(rt.alloc(), &cube(Kind::Reliable), 80)?;
+    let mut rx = Rx::new(rt.alloc(), &RELIABLE, 80)?;
     came(&rt, &mut rx, 2, &piece(0, true, true, false, b"a"), NONE);
     came(&rt, &mut rx, 2, &whole(3, false, b"d"), Verdict::Hold);
     came(&rt, &mut rx, 2, &whole(2, false, b"c"), Verdict::Hold);
-    assert_eq!(rt; rx.on_data(2, &whole(1, false, b"b"), 4), Verdict::Off(Cause::NoRoom { cap: 4 }));
+    assert_eq!(rt;
+        rx.on_data(2, &whole(1, false, b"b"), 4),
+        Verdict::Off(Cause::NoRoom { cap: 4 })
+    );
     assert_eq!(rt; rx.dropped(145), None);
     let gone = Cause::StateGone { last_in: 2 };
     assert_eq!(rt; rx.dropped(146), Some((key(0), gone)));
     assert_eq!(rt; rx.dropped(146), Some((key(2), gone)));
     assert_eq!(rt; rx.close(), 1);
-    assert_eq!(rt; rx.dropped(146), Some((key(3), Cause::NoConnection { cep: 5 })));
+    assert_eq!(rt;
+        rx.dropped(146),
+        Some((key(3), Cause::NoConnection { cep: 5 }))
+    );
     assert_eq!(rt; rx.dropped(146), None);
     Ok(())
 }
@@ -241,7 +281,7 @@ fn judged(told: Verdict) -> Judged {
 #[test]
 fn the_ring_tells_what_the_list_tells(rt: HostRuntime) -> Result<(), Fail> {
     let alloc = rt.alloc();
-    let mut rx = Rx::new(alloc, &cube(Kind::Datagram), 80)?;
+    let mut rx = Rx::new(alloc, &DATAGRAM, 80)?;
     let mut listed = Listed {
         made: false,
         last_in: 0,
