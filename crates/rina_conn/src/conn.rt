@@ -141,7 +141,10 @@ impl Conn {
         ensures drops { drops_of now self.new ≡ drops_of now self.old }
         ensures stands { StandsStill now self.old self.new }
     {
-        if item == 3 && self.is_gone(now) {
+        if item != 3 {
+            return ConnDue::Idle;
+        }
+        if self.is_gone(now) {
             ConnDue::Gone
         } else {
             ConnDue::Idle
