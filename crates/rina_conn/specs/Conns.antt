@@ -73,9 +73,10 @@ abbrev pub IsGone : ℕ → Conn → Bool → Type 0
 IsGone now k true = (present_at now k.rx ≡ false) × (drops_of now k ≢ [])
 IsGone now k false = (present_at now k.rx ≡ false) → drops_of now k ≡ []
 
-abbrev pub IsClockDue : ℕ → Conn → ConnDue → Type 0
-IsClockDue now k Gone = IsGone now k true
-IsClockDue now k Idle = IsGone now k false
+-- item 3 is due exactly then, and no other item is
+abbrev pub IsClockDue : ℕ → ℕ → Conn → ConnDue → Type 0
+IsClockDue now item k Gone = (item ≡ 3) × IsGone now k true
+IsClockDue now item k Idle = item ≡ 3 → IsGone now k false
 
 -- all but what is given up is as before
 pub record StandsStill (now : ℕ) (old new : Conn) : Type 0 where

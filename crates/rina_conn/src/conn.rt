@@ -133,13 +133,17 @@ impl Conn {
         self.plan.note_passed(now, last_in);
     }
 
-    /// What a clock step asks first of a connection: whether pieces are held of a receiver's state that has
-    /// ended. Then `dropped` gives them, and else nothing changes. Takes no memory.
-    pub fn on_clock(&mut self, now: Tick) -> ConnDue
-        ensures due { IsClockDue now self.old result }
+    /// Does one item of a clock step. In item 3, pieces are given up that were held by a receiver's state that
+    /// has ended: `dropped` then gives them. No other item is ever due on a cube that is not reliable. Where
+    /// none is due, the answer is Idle, and nothing changes. Takes no memory.
+    pub fn on_clock(&mut self, now: Tick, item: u8) -> ConnDue
+        ensures due { IsClockDue now item self.old result }
         ensures drops { drops_of now self.new ≡ drops_of now self.old }
         ensures stands { StandsStill now self.old self.new }
     {
+        if item != 3 {
+            return ConnDue::Idle;
+        }
         if self.is_gone(now) {
             ConnDue::Gone
         } else {

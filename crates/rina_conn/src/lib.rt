@@ -10,3 +10,6 @@ pub use conn::{Conn, ConnDue};
 pub use form::{Form, Peer};
 pub use made::{Made, OfferError, Pdus};
 pub use sending::{Admitted, Sending};
+
+#[cfg(test)]
+mod tests;
