@@ -150,11 +150,11 @@ module _ (d : DifSeen) (lines : List Direction) (below below' : Seen) (st : IsSt
       ] in
       let fits : IsItem d.config d.clock item = record { fit = fit.fit; past = past; left = fit.left } in
       subst (λ (z : DifSeen). IsStanding z lines below') (sym s.new_is) (subst (λ (z : Process). IsStanding (with_process d i z) lines below') (sym p.new_is)
-        (stands_with d lines lines NoMore (JustItems i p.queue.link (item ∷ [])) below below' d.clock processes' d.ends st after (st.clock ∙ sym clock) (omega arith) (length-set d.processes i process') moved (same_links d.processes i process process' is_process refl)
-          (λ port y none. absurd none)
-          (λ j m x new. elim (new.2) [ inl is ↦ subst (IsItem d.config d.clock) (sym is) fits | inr none ↦ absurd none ])
-          st.journal st.ports
-          (own_covered d.config d.clock (Cloud Everywhere d.config d.processes below) (Cloud Everywhere d.config processes' below') d.ends d.conns lines st.own covers)))
+      (stands_with d lines lines NoMore (JustItems i p.queue.link (item ∷ [])) below below' d.clock processes' d.ends st after (st.clock ∙ sym clock) (omega arith) (length-set d.processes i process') moved (same_links d.processes i process process' is_process refl)
+      (λ port y none. absurd none)
+      (λ j m x new. elim (new.2) [ inl is ↦ subst (IsItem d.config d.clock) (sym is) fits | inr none ↦ absurd none ])
+      st.journal st.ports
+      (own_covered d.config d.clock (Cloud Everywhere d.config d.processes below) (Cloud Everywhere d.config processes' below') d.ends d.conns lines st.own covers)))
 
 -- the PDU of an arrival that is in time is in the cloud still
 pub alive_arrival : (d : DifSeen) (at left older : ℕ) → d.clock - at ≤ left → at ≤ d.clock → at + left ≤ older → d.clock ≤ older

@@ -1,9 +1,8 @@
 -- What an IPC process decides by itself is what becomes of the PDU in its DIF.
-use Rattle.std.proofs.Common.{◌≡◌, ◌≢◌, ℕ, List, slice_get, Some, Ok, Err, Option, Result, ap, refl}
+use Rattle.std.proofs.Common.{ℕ, List, Ok, ap, refl}
 use Rattle.rina_base.specs.declared.cause.Cause.{Cause}
 use Rattle.rina_base.specs.declared.cause.Cause.TheVariants as causes
 use Rattle.rina_law.specs.Direction.{Direction}
-use Rattle.rina_data.specs.declared.step.Settled.{Settled}
 use Rattle.rina_data.specs.declared.step.Settled.TheVariants as settled
 use Rattle.rina_data.specs.declared.step.Took.TheVariants as took
 use Rattle.rina_data.specs.Cloud.{Hop}

@@ -1,5 +1,5 @@
 -- Queues as a DIF sees them.
-use Rattle.std.proofs.Common.{◌≡◌, ℕ, suc, ◌+◌, ◌-◌, ◌<◌, ◌≤◌, List, [], ◌∷◌, ◌++◌, length, map, slice_get, slice_set, Some, None, Option, Bool, true, false, cond, ltb, get_or, option_map, refl, sym, ◌∙◌, ap, subst, arith}
+use Rattle.std.proofs.Common.{◌≡◌, ℕ, ◌+◌, ◌-◌, ◌<◌, List, [], ◌∷◌, ◌++◌, length, map, slice_get, slice_set, Some, None, Option, Bool, true, false, cond, ltb, option_map, refl, sym, ◌∙◌, ap, subst, arith}
 use Rattle.std.specs.Prelude.{IsSome, position, not}
 use Rattle.std.proofs.lemmas.Bool.{false≢true, ltb-true}
 use Rattle.std.specs.List.{position_or_len}
@@ -13,7 +13,7 @@ use Rattle.rina_data.specs.Cloud.{Hop}
 use Rattle.rina_data.specs.Deciding.{plain, process_of}
 use Rattle.rina_data.specs.Queueing.{IsFull, IsPassedOn}
 use Rattle.rina_base.specs.declared.pdu.Pdu.{Pdu}
-use Rattle.rina_data.specs.Dif.{IsQueue, Process, Queue, next_hop, queue_place, with_put}
+use Rattle.rina_data.specs.Dif.{IsQueue, Queue, next_hop, queue_place, with_put}
 use Rattle.rina_data.proofs.Finding.{there}
 
 place_map : {X Y : Type 0} → (h : X → Y) (p : Y → Bool) (xs : List X) → position_or_len p (map h xs) ≡ position_or_len (λ x. p (h x)) xs
@@ -60,8 +60,8 @@ full_at p hop link room next some is none =
 
 -- what was put is passed on
 pub passed_on : (p : IpcProcess) (hop : Hop) (link room at : ℕ) (pdu : Pdu) (items : List Waiting) → next_hop hop.pdu.dst p.routes ≡ Some link → room ≡ p.queues.cap - length (waiting hop.pdu.qos link p.queues.queues.items) → 0 < room → pdu ≡ hop.pdu
-  → Changes hop.pdu.qos link (λ q. with_items (q.ring.items ++ record { pdu = pdu; left = hop.left; since = at } ∷ []) q) p.queues.queues.items items
-  → IsPassedOn p.queues.cap (process_of p) at hop (record { links = p.links; routes = p.routes; queues = map plain items; ledger = p.ledger })
+    → Changes hop.pdu.qos link (λ q. with_items (q.ring.items ++ record { pdu = pdu; left = hop.left; since = at } ∷ []) q) p.queues.queues.items items
+    → IsPassedOn p.queues.cap (process_of p) at hop (record { links = p.links; routes = p.routes; queues = map plain items; ledger = p.ledger })
 passed_on p hop link room at pdu items next is some same c =
     let k = c.0 in
     let q = c.1 in

@@ -1,7 +1,6 @@
 -- What a contract sees of a DIF.
 use Rattle.std.specs.Prelude.{◌≡◌, ℕ, ◌-◌, ◌*◌, ◌^◌, ◌==◌, ◌&&◌, Bool, List, ◌++◌, drop, find, map, position, slice_get, slice_set, Option, Some, option_and_then, option_map}
 use Rattle.rina_account.specs.declared.ledger.Off.{Off}
-use Rattle.rina_base.specs.declared.number.Port.{Port}
 use Rattle.rina_base.specs.declared.pdu.PduKind.TheVariants.{Piece}
 use Rattle.rina_cube.specs.declared.Cube.{Cube}
 use Rattle.rina_cube.specs.Cubes.{promise_of}

@@ -1,5 +1,5 @@
 -- What an IPC process does with the oldest SDU of a link.
-use Rattle.std.specs.Prelude.{◌≡◌, ◌≢◌, ℕ, ◌+◌, ◌-◌, ◌^◌, ◌%◌, ◌<◌, ◌≤◌, ◌⊎◌, Bool, true, false, nat_lt, List, [], ◌∷◌, ◌++◌, length, slice_get, slice_set, Option, Some, None, Result, Ok, Err, if◌then◌else◌}
+use Rattle.std.specs.Prelude.{◌≡◌, ◌≢◌, ℕ, ◌+◌, ◌-◌, ◌^◌, ◌%◌, ◌<◌, ◌≤◌, ◌⊎◌, Bool, true, false, nat_lt, List, [], ◌∷◌, ◌++◌, slice_get, slice_set, Option, Some, None, Result, Ok, Err, if◌then◌else◌}
 use Rattle.rina_account.specs.declared.ledger.Off.{Off}
 use Rattle.rina_base.specs.declared.cause.Cause.{Cause}
 use Rattle.rina_base.specs.declared.cause.Cause.TheVariants as causes
@@ -29,7 +29,7 @@ use Rattle.rina_data.specs.declared.step.Took.{Took}
 use Rattle.rina_data.specs.declared.step.Took.TheVariants as took
 use Rattle.rina_data.specs.Cloud.{Hop, opened}
 use Rattle.rina_data.specs.declared.link.Link.{Link}
-use Rattle.rina_data.specs.Dif.{Config, Member, Queue, Process, DifSeen, IsProcess, IsQueue, constants, cube_by, link_by, next_hop, with_offs, with_process, with_put}
+use Rattle.rina_data.specs.Dif.{Member, Process, DifSeen, IsProcess, constants, cube_by, link_by, next_hop, with_offs, with_process}
 use Rattle.rina_data.specs.Ids.{Ids, IsFrom, flipped}
 use Rattle.rina_data.specs.Queueing.{IsFull, IsPassedOn, line_for}
 use Rattle.rina_data.specs.Standing.{IsConn}

@@ -1,6 +1,6 @@
 -- The laws of one DIF over any facility. Each speaks of plain records: the DIF before and after a call, the directions
 -- that stand behind its flows, and the rank below.
-use Rattle.std.specs.Prelude.{◌≡◌, ℕ, List, Some, Option, Result}
+use Rattle.std.specs.Prelude.{◌≡◌, ℕ, List, Some, Option, Result, Ok}
 use Rattle.rina_base.specs.declared.cause.Cause.{Cause}
 use Rattle.rina_base.specs.declared.number.Num.{Num}
 use Rattle.rina_base.specs.declared.number.Port.{Port}
@@ -17,13 +17,16 @@ use Rattle.rina_law.specs.Direction.{Direction}
 use Rattle.rina_law.specs.Pieces.{Part, join}
 use Rattle.rina_data.specs.declared.step.InStep.{InStep}
 use Rattle.rina_data.specs.declared.step.OutStep.{OutStep}
+use Rattle.rina_data.specs.declared.step.Settled.TheVariants as settled
 use Rattle.rina_data.specs.declared.step.StepError.{StepError}
+use Rattle.rina_data.specs.declared.step.Took.TheVariants as took
+use Rattle.rina_data.specs.Deciding.{Decides}
 use Rattle.rina_data.specs.Carried.{IsCarrying}
-use Rattle.rina_data.specs.Cloud.{Cloud, Everywhere, IsMine, WholeCloud}
-use Rattle.rina_data.specs.Dif.{DifSeen, fac_of}
+use Rattle.rina_data.specs.Cloud.{Cloud, Everywhere, Hop, IsMine, WholeCloud}
+use Rattle.rina_data.specs.Dif.{DifSeen, Member, Process, fac_of, with_process}
 use Rattle.rina_data.specs.Ending.{IsEnded}
 use Rattle.rina_data.specs.Facade.{IsShown, own_refusal, shown}
-use Rattle.rina_data.specs.Incoming.{Ins}
+use Rattle.rina_data.specs.Incoming.{Ins, Settles}
 use Rattle.rina_data.specs.Lifting.{IsLifted}
 use Rattle.rina_data.specs.Others.{AreApart}
 use Rattle.rina_data.specs.Outgoing.{Outs}
@@ -202,3 +205,13 @@ SendsAreSends = (s : Seen) (d : DifSeen) (lines : List Direction) (below : Seen)
 abbrev pub PassesArePasses : Type 0
 PassesArePasses = (s : Seen) (d : DifSeen) (lines : List Direction) (port : Port) (at : ℕ) (end : End) (d' : DifSeen) (lines' : List Direction) →
     IsShown s d port at end → IsPassed d lines at d' lines' → PassesBelow s port (shown s port d')
+
+-- What an IPC process decides by itself
+
+abbrev pub RelayingSettles : Type 0
+RelayingSettles = (d : DifSeen) (lines : List Direction) (i : ℕ) (member : Member) (process process' : Process) (at : ℕ) (hop : Hop) →
+    Decides d.config.cap d.clock member.addr process at hop (Ok settled.Relayed) process' → Settles d lines i member process at hop took.Relayed (with_process d i process') lines
+
+abbrev pub WritingOffSettles : Type 0
+WritingOffSettles = (d : DifSeen) (lines : List Direction) (i : ℕ) (member : Member) (process process' : Process) (at : ℕ) (hop : Hop) (cause : Cause) →
+    Decides d.config.cap d.clock member.addr process at hop (Ok (settled.Off cause)) process' → Settles d lines i member process at hop (took.Off cause) (with_process d i process') lines

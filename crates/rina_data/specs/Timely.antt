@@ -1,6 +1,6 @@
 -- What a connection does when its time has come: an acknowledgement, a piece once more, and what is given up with a
 -- state that is gone.
-use Rattle.std.specs.Prelude.{◌≡◌, ℕ, ◌-◌, ◌<◌, true, false, List, [], ◌∷◌, length, slice_get, slice_set, Option, Some, None}
+use Rattle.std.specs.Prelude.{◌≡◌, ℕ, ◌-◌, true, false, List, slice_get, slice_set, Option, Some, None}
 use Rattle.rina_account.specs.declared.ledger.Off.{Off}
 use Rattle.rina_base.specs.declared.cause.Cause.{Cause}
 use Rattle.rina_base.specs.declared.cause.Cause.TheVariants as causes
@@ -14,7 +14,7 @@ use Rattle.rina_law.specs.Line.{again}
 use Rattle.rina_law.specs.Lists.{In}
 use Rattle.rina_law.specs.Receiver.{is_present, next_of}
 use Rattle.rina_law.specs.Sender.{again_due, piece_again}
-use Rattle.rina_data.specs.Dif.{Config, Queue, Process, DifSeen, IsQueue, constants, cube_by, next_hop, with_offs, with_process, with_put}
+use Rattle.rina_data.specs.Dif.{Config, Process, DifSeen, constants, cube_by, next_hop, with_offs, with_process}
 use Rattle.rina_data.specs.Ids.{Ids, flipped, pdu_of_ack, pdu_of_piece}
 use Rattle.rina_data.specs.Incoming.{IsInbound, IsKeptNumber}
 use Rattle.rina_data.specs.Queueing.{IsFull, IsPassedOn, Notes}

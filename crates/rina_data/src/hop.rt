@@ -1,5 +1,6 @@
 //! PDUs as they cross a hop: behind the lifetime that they have left, which the hop charges.
-ghost use Rattle.std.specs.Prelude.{◌≡◌, ◌+◌, ◌-◌, ◌<◌, ◌≤◌, IfOk, MatchOption, option_map};
+ghost use Rattle.std.specs.Prelude.{◌≡◌, ◌+◌, ◌-◌, ◌<◌, ◌≤◌, IfOk, IfSome, MatchOption, option_map};
+ghost use Rattle.rina_base.specs.Pdus.{pdu_of};
 ghost use Rattle.rina_pci.specs.Life.{protected};
 ghost use Rattle.rina_pci.specs.Spelling.{AreWidths, Fits, spelling};
 ghost use Rattle.rina_data.specs.Cloud.{opened};
@@ -19,7 +20,9 @@ pub struct HopView<'a> {
 /// The protected SDU that the bytes are; takes no memory. None exactly where they are none.
 pub fn open(bytes: &[u8], widths: Widths) -> Option<HopView<'_>>
     requires { AreWidths widths }
-    ensures { option_map hop_of result ≡ opened widths bytes.now }
+    ensures exact { option_map hop_of result ≡ opened widths bytes.now }
+    // Each of its fields fits.
+    ensures fits { IfSome result (λ hop. Fits widths (pdu_of hop.pdu)) }
 {
     let (left, rest) = read_life(bytes)?;
     let pdu = read_pdu(rest, widths)?;

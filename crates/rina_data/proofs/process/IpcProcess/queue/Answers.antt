@@ -1,4 +1,4 @@
-use Rattle.std.proofs.Common.{◌≡◌, refl, sym, arith}
+use Rattle.std.proofs.Common.{refl, arith}
 use Rattle.rina_data.specs.Hops.{hop_of}
 use Rattle.rina_data.proofs.Plain.{full_at, passed_on}
 use Rattle.rina_data.proofs.process.IpcProcess.queue.Goals as goal

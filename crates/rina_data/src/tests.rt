@@ -1,0 +1,67 @@
+//! A PDU on its way: opened, decided on, and sent on.
+ghost use Rattle.std.specs.Prelude.{◌≡◌, [], IfOk};
+
+use super::*;
+use rina_account::Ledger;
+use rina_base::{Cause, Seq};
+use rina_pci::Widths;
+use rina_queue::Queues;
+use std::alloc::Global;
+use std::process::Abort;
+use std::test::*;
+
+const WIDTHS: Widths = Widths {
+    addr: 1,
+    cep: 1,
+    len: 2,
+    seq: 2,
+};
+
+/// A piece from address 1 to 2 on cube 1, with 30 ticks left.
+const PROTECTED: [u8; 17] = [0, 0, 0, 30, 1, 7, 1, 1, 2, 1, 1, 1, 0, 13, 0, 0, 0x61];
+
+/// An IPC process without next hops.
+fn alone(alloc: Global) -> Result<IpcProcess, Fail>
+    ensures { IfOk result (λ p. p.routes ≡ []) }
+{
+    Ok(IpcProcess {
+        links: Seq::new(alloc),
+        routes: Seq::new(alloc),
+        queues: Queues::new(alloc, 4, &[0, 1])?,
+        ledger: Ledger::new(alloc),
+    })
+}
+
+#[test]
+fn a_pdu_is_sent_on_with_what_is_left(rt: HostRuntime) -> Result<(), Fail> {
+    let alloc = rt.alloc();
+    let Some(hop) = open(PROTECTED.as_slice(), WIDTHS) else {
+        return Err("it is no protected SDU".into());
+    };
+    assert_eq!(rt; hop.left, 30);
+    let pdu = hop.pdu.keep(alloc)?;
+    let left = left_after(hop.left, charge(107, 100, 3));
+    assert_eq!(rt; left, Some(20));
+    let bytes = protect(alloc, 20, &pdu, WIDTHS)?;
+    assert_eq!(rt;
+        bytes.as_slice(),
+        [0, 0, 0, 20, 1, 7, 1, 1, 2, 1, 1, 1, 0, 13, 0, 0, 0x61].as_slice()
+    );
+    Ok(())
+}
+
+#[test]
+fn what_is_too_old_or_has_no_way_is_written_off(rt: HostRuntime) -> Result<(), Fail> {
+    let alloc = rt.alloc();
+    let Some(hop) = open(PROTECTED.as_slice(), WIDTHS) else {
+        return Err("it is no protected SDU".into());
+    };
+    let mut process = alone(alloc)?;
+    let late = process.settle(alloc, 131, 2, 100, &hop)?;
+    let expired = Cause::Expired {
+        left: 30,
+        charge: 31,
+    };
+    assert_eq!(rt; late, Settled::Off(expired));
+    Ok(())
+}
