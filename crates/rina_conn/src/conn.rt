@@ -1,13 +1,12 @@
 //! A connection.
-ghost use Rattle.std.specs.Prelude.{◌≡◌, ◌≢◌, ℕ, ◌≤◌, ◌<◌, ◌↔◌, ◌^◌, ◌-◌, min, length, false, true, List, [], Option, None, Some, IfOk};
+ghost use Rattle.std.specs.Prelude.{◌≡◌, ◌≤◌, ◌^◌, ◌-◌, min, length, false, true, [], None, IfOk};
 ghost use Rattle.std.specs.Borrow.{sem};
 ghost use Rattle.rina_base.specs.Pdus.{pdu_of};
 ghost use Rattle.rina_cube.specs.Cubes.{IsCube, is_reliable};
-ghost use Rattle.rina_dtcp.specs.Plans.{TellsPass};
 ghost use Rattle.rina_dtp.specs.Fetching.{TakesFirst};
 ghost use Rattle.rina_dtp.specs.Lending.{IsFirst};
 ghost use Rattle.rina_conn.specs.Lending.{LendsWhole};
-ghost use Rattle.rina_dtp.specs.Observed.{IsNew, TellsNext};
+ghost use Rattle.rina_dtp.specs.Observed.{TellsNext};
 ghost use Rattle.rina_dtp.specs.Receiving.{kept_numbers};
 ghost use Rattle.rina_dtp.specs.Stands.{IsRow};
 ghost use Rattle.rina_conn.specs.Sending as send;

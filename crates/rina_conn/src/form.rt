@@ -1,5 +1,5 @@
 //! What never changes in a connection.
-ghost use Rattle.std.specs.Prelude.{◌≡◌, ◌+◌, ◌≤◌, IfOk};
+ghost use Rattle.std.specs.Prelude.{◌≡◌, ◌+◌, ◌≤◌};
 ghost use Rattle.rina_cube.specs.Cubes.{IsCube, delta_of};
 
 use rina_base::{Addr, Cep};

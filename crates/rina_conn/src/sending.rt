@@ -1,11 +1,7 @@
 //! The half of a connection that sends.
-ghost use Rattle.std.specs.Prelude.{◌≡◌, ℕ, ◌+◌, ◌*◌, ◌^◌, ◌<◌, ◌≤◌, List, [], length, map, take, drop, slice_get, slice_range, Some, None, Option, Ok, Err, IfOk, IfErr, OnOk, OnErr, MatchResult};
-ghost use Rattle.rina_cube.specs.Cubes.{IsCube, is_reliable};
-ghost use Rattle.rina_delim.specs.Parts.{parts_of};
-ghost use Rattle.rina_law.specs.Constants.{Constants};
-ghost use Rattle.rina_law.specs.Sender as law;
+ghost use Rattle.std.specs.Prelude.{◌≡◌, ◌+◌, ◌^◌, ◌<◌, ◌≤◌, length, map, slice_get, Some, IfOk, IfErr};
 ghost use Rattle.rina_dtcp.specs.Senders.{flag_of};
-ghost use Rattle.rina_conn.specs.Carrying.{carry, part_in, parts_in, made_from, LieWithin};
+ghost use Rattle.rina_conn.specs.Carrying.{carry, part_in, made_from, LieWithin};
 ghost use Rattle.rina_conn.specs.Sending.{IsNewSender, Offers, ChecksLength, ChecksWindow, IsPartsOf, Numbered, Admits, IsToldBy, TellsRoom, TellsNext, TellsGivenUp};
 
 use crate::form::Form;

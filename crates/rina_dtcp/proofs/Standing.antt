@@ -1,5 +1,5 @@
 -- What is kept follows the machine's sender.
-use Rattle.std.proofs.Common.{◌≡◌, ℕ, zero, suc, ◌+◌, ◌-◌, ◌*◌, ◌<◌, ◌≤◌, max, min, Bool, true, false, cond, ◌&&◌, ◌||◌, ◌==◌, eqb, leb, nat_le, List, [], ◌∷◌, ◌++◌, length, drop, map, append_assoc, append-nil, Option, Some, None, refl, sym, ◌∙◌, ap, subst, arith, inl, inr, get_or, slice_get, position, option_map, ltb, IfSome, OnOk, Result, Ok, Err, if◌then◌else◌}
+use Rattle.std.proofs.Common.{◌≡◌, ℕ, zero, suc, ◌+◌, ◌-◌, ◌*◌, ◌<◌, ◌≤◌, max, Bool, true, false, cond, ◌&&◌, ◌||◌, ◌==◌, leb, nat_le, List, [], ◌∷◌, ◌++◌, length, drop, map, append_assoc, append-nil, Option, Some, None, refl, sym, ◌∙◌, ap, arith, inl, inr, get_or, slice_get, position, option_map, ltb, IfSome, OnOk, Result, Ok, Err}
 use Rattle.std.specs.List.{position_or_len}
 use Rattle.std.proofs.lemmas.Bool.{cases_lt, le-leb, lt-leb, leb-true, ltb-true, ne_eqb, and_parts}
 use Rattle.std.proofs.lemmas.List.{drop-drop, drop-append-le, drop_all, get_or-drop, length-drop, length-append}
@@ -10,15 +10,15 @@ use Rattle.rina_cube.specs.Cubes.{delta_of, is_reliable}
 use Rattle.rina_law.specs.Constants.{Constants, delta}
 use Rattle.rina_law.specs.Pieces.{Part}
 use Rattle.rina_law.specs.Receiver.{Piece}
-use Rattle.rina_law.specs.Sender.{Member, Sender, no_member, member, is_empty, is_idle, is_absent, started, fresh, room_of, drf_for, piece_for, member_for, sender_with, pieces_for, sender_with_all, due_from, late_from, if_reliable, again_due, given_up, sender_again, piece_again, sender_told, resent}
+use Rattle.rina_law.specs.Sender.{Member, Sender, no_member, is_empty, is_idle, is_absent, started, room_of, drf_for, piece_for, member_for, sender_with, pieces_for, sender_with_all, due_from, late_from, if_reliable, again_due, sender_again, piece_again, sender_told}
 use Rattle.rina_dtcp.specs.declared.sent.Sent.{Sent}
 use Rattle.rina_dtcp.specs.declared.sent.GaveUp.{GaveUp}
 use Rattle.rina_dtcp.specs.Sents.{is_due, is_late, touched}
 use Rattle.rina_dtcp.specs.Senders.{Kept, is_gone, left_in, keeps, with_sent, counted, noted, least_from, flag_of, sents_from, with_all, counted_all, settled, raised, resent_at, IsPduAt, num_in, sent_at, late_of, late_in}
-use Rattle.rina_dtcp.specs.Rows.{waiting, sent_of, sent_from, Stands, ready, TellsRoom, TellsIdle, IsNext, Notes, NotesAll, IsTold, after_again, Resends, gave_up_of, TellsGivenUp}
+use Rattle.rina_dtcp.specs.Rows.{waiting, sent_of, sent_from, Stands, ready, TellsRoom, TellsIdle, Notes, NotesAll, IsTold, Resends, gave_up_of, TellsGivenUp}
 use Rattle.rina_law.proofs.Lists.{resent-length}
 use Rattle.rina_dtcp.proofs.Scanning.{due_place, late_place}
-use Rattle.rina_dtcp.proofs.Touching.{touched_pdu, sent_pdu, touched_resent}
+use Rattle.rina_dtcp.proofs.Touching.{touched_pdu, touched_resent}
 
 length-sent_from : (carry : Piece → Pdu) (n : ℕ) (ms : List Member) → length (sent_from carry n ms) ≡ length ms
 length-sent_from carry n [] = refl

@@ -1,5 +1,5 @@
 -- A piece that is marked as made again.
-use Rattle.std.proofs.Common.{◌≡◌, ℕ, zero, suc, ◌+◌, ◌<◌, List, [], ◌∷◌, length, drop, Some, refl, ap, arith, slice_set, slice_index_or, slice_get, get_or, add-zero}
+use Rattle.std.proofs.Common.{◌≡◌, ℕ, zero, suc, ◌+◌, ◌<◌, List, [], ◌∷◌, length, drop, Some, refl, ap, arith, slice_set, slice_index_or, slice_get, get_or}
 use Rattle.rina_base.specs.declared.pdu.Pdu.{Pdu}
 use Rattle.rina_law.specs.Receiver.{Piece}
 use Rattle.rina_law.specs.Sender.{Member, no_member, resent}

@@ -8,7 +8,7 @@ use Rattle.rina_law.specs.Constants.{Constants}
 use Rattle.rina_law.specs.Line.{opening}
 use Rattle.rina_law.specs.Pieces.{Part}
 use Rattle.rina_law.specs.Receiver.{Piece}
-use Rattle.rina_law.specs.Sender.{Member, Sender, Ack, member, is_idle, is_absent, started, room_of, piece_for, sender_with, pieces_for, sender_with_all, again_due, given_up, sender_again, piece_again, sender_told}
+use Rattle.rina_law.specs.Sender.{Member, Sender, member, is_idle, is_absent, started, room_of, piece_for, sender_with, pieces_for, sender_with_all, again_due, given_up, sender_again, piece_again, sender_told}
 use Rattle.rina_dtcp.specs.declared.sent.Sent.{Sent}
 use Rattle.rina_dtcp.specs.declared.sent.GaveUp.{GaveUp}
 use Rattle.rina_dtcp.specs.Senders.{Kept, num_in}

@@ -1,11 +1,10 @@
 //! The sender of a connection.
-ghost use Rattle.std.specs.Prelude.{◌≡◌, ℕ, ◌+◌, ◌-◌, ◌==◌, ◌<◌, ◌≤◌, ◌^◌, Bool, max, drop, length, position, slice_get, option_map, option_copied, IfSome, IfOk, OnOk, OnErr, [], ◌++◌, ◌∷◌};
-ghost use Rattle.rina_cube.specs.Cubes.{is_reliable};
+ghost use Rattle.std.specs.Prelude.{◌≡◌, ◌+◌, ◌-◌, ◌==◌, ◌<◌, ◌≤◌, ◌^◌, drop, length, position, IfSome, IfOk, OnOk, OnErr, [], ◌++◌, ◌∷◌};
 ghost use Rattle.rina_dtcp.specs.Sents.{is_due, is_late, touched};
 ghost use Rattle.rina_dtcp.specs.Senders.{Kept, is_gone, left_in, keeps, with_sent, least_from, sents_from, with_all, counted, counted_all, noted, flag_of, settled, raised, resent_at, IsPduAt, late_of, late_in};
 ghost use Rattle.std.specs.Borrow.{sem};
 ghost use Rattle.rina_dtcp.specs.Lending.{LendsDue};
-ghost use Rattle.rina_dtcp.specs.Rows.{IsNew, TellsRoom, TellsIdle, Notes, NotesAll, IsTold, Resends, TellsGivenUp};
+ghost use Rattle.rina_dtcp.specs.Rows.{IsNew, TellsRoom, TellsIdle, Notes, NotesAll, IsTold, TellsGivenUp};
 
 use crate::sent::{GaveUp, Sent, copy_of};
 use rina_base::{Memory, Num, Pdu, Tick};

@@ -1,9 +1,8 @@
 -- A tree of which a leaf was changed, and how its nodes are made anew.
-use Rattle.std.proofs.Common.{◌≡◌, ◌≢◌, ℕ, ◌+◌, ◌*◌, ◌/◌, ◌<◌, ◌≤◌, List, Option, None, length, slice_set, slice_index_or, refl, sym, arith, inl, inr, get_or-set_same, get_or-set_other}
-use Rattle.std.proofs.lemmas.Bool.Decides.{eqb_tells}
+use Rattle.std.proofs.Common.{◌≡◌, ℕ, ◌/◌, ◌<◌, List, Option, None, length, slice_index_or, refl, sym}
 use Rattle.std.proofs.lemmas.Option.{get_or_from_slice_get, slice_get_read}
 use Rattle.rina_timers.specs.declared.tree.Timer.{Timer}
-use Rattle.rina_timers.specs.Trees.{earlier, node, IsTree, IsTreeBut, SameLeaves}
+use Rattle.rina_timers.specs.Trees.{node, IsTreeBut, SameLeaves}
 
 -- while the nodes above a changed one are made anew: all is well but above `at`
 pub record Mends (old new : List (Option Timer)) (at : ℕ) : Type 0 where

@@ -1,7 +1,6 @@
 //! Timers by id.
-ghost use Rattle.std.specs.Prelude.{◌≡◌, ℕ, ◌+◌, ◌*◌, ◌^◌, ◌<◌, ◌≤◌, List, [], length, replicate, slice_get, slice_set, slice_index_or, None, Some, Option, IfOk};
+ghost use Rattle.std.specs.Prelude.{◌≡◌, ℕ, ◌<◌, List, length, replicate, slice_set, None, Some, Option, IfOk};
 ghost use Rattle.rina_timers.specs.Times.{TellsFirst, IsDue, after_due};
-ghost use Rattle.rina_timers.specs.Trees.{timer_of, node};
 
 use crate::tree::{Timer, mend, set_timer};
 use rina_base::{Memory, Tick};

@@ -1,5 +1,5 @@
 //! A tree of timers: each node has the earlier one of the two below it.
-ghost use Rattle.std.specs.Prelude.{◌≡◌, ℕ, ◌+◌, ◌-◌, ◌*◌, ◌/◌, ◌^◌, ◌<◌, ◌≤◌, ◌≢◌, length, slice_set, slice_index_or, None, Some, Option};
+ghost use Rattle.std.specs.Prelude.{◌≡◌, ◌+◌, ◌*◌, ◌/◌, ◌^◌, ◌<◌, length};
 ghost use Rattle.rina_timers.specs.Trees.{earlier, node, timer_of, IsTree, IsTreeBut, SameLeaves};
 
 use rina_base::Tick;

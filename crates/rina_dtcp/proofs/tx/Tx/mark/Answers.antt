@@ -1,4 +1,4 @@
-use Rattle.std.proofs.Common.{arith, length}
+use Rattle.std.proofs.Common.{arith}
 use Rattle.rina_dtcp.proofs.Touching.{length-touched}
 use Rattle.rina_dtcp.proofs.tx.Tx.mark.Goals as goal
 
