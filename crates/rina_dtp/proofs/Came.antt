@@ -149,11 +149,11 @@ drops_standing now r shut stands =
     let none : end_cause now r ≡ None = (let P : end_cause now r ≡ cond false (Some (cause.NoConnection r.source.dcep)) (cond true None (Some (cause.StateGone r.last_in))) = rw (shut, stands) refl in P) in
     ap (λ (x : Option Cause). broken_with r.source (lost_in r.join.gaps) ++ ended_with r.source x (kept_numbers r)) none ∙ append-nil (broken_with r.source (lost_in r.join.gaps))
 
-append_right : {X : Type 0} → (xs ys : List X) → xs ++ ys ≡ [] → ys ≡ []
+pub append_right : {X : Type 0} → (xs ys : List X) → xs ++ ys ≡ [] → ys ≡ []
 append_right [] ys e = e
 append_right (x ∷ xs) ys e = absurd cc
 
-append_left : {X : Type 0} → (xs ys : List X) → xs ++ ys ≡ [] → xs ≡ []
+pub append_left : {X : Type 0} → (xs ys : List X) → xs ++ ys ≡ [] → xs ≡ []
 append_left [] ys e = refl
 append_left (x ∷ xs) ys e = absurd cc
 
@@ -166,7 +166,7 @@ none_ended source None = refl
 none_ended source (Some why) = refl
 
 -- where no state stands and all was fetched, nothing is kept
-kept_none : (now : ℕ) (r : Receiving) → r.closed ≡ false → present_at now r ≡ false → drops now r ≡ [] → kept_numbers r ≡ []
+pub kept_none : (now : ℕ) (r : Receiving) → r.closed ≡ false → present_at now r ≡ false → drops now r ≡ [] → kept_numbers r ≡ []
 kept_none now r shut gone e =
     let why : end_cause now r ≡ Some (cause.StateGone r.last_in) = (let P : end_cause now r ≡ cond false (Some (cause.NoConnection r.source.dcep)) (cond false None (Some (cause.StateGone r.last_in))) = rw (shut, gone) refl in P) in
     let rest : ended_with r.source (end_cause now r) (kept_numbers r) ≡ [] = append_right (broken_with r.source (lost_in r.join.gaps)) (ended_with r.source (end_cause now r) (kept_numbers r)) e in
@@ -182,13 +182,13 @@ cleared_none r e =
     let mid : h ≡ [] = append_right g h front in
     (let P : [] ++ h ++ k ≡ [] = rw (mid, back) refl in P)
 
-drops_cleared : (now : ℕ) (r : Receiving) → r.closed ≡ false → drops now r ≡ [] → (b : Bool) → present_at now r ≡ b → drops now (cleared r) ≡ []
+pub drops_cleared : (now : ℕ) (r : Receiving) → r.closed ≡ false → drops now r ≡ [] → (b : Bool) → present_at now r ≡ b → drops now (cleared r) ≡ []
 drops_cleared now r shut e true stands = drops_standing now (cleared r) shut stands
 drops_cleared now r shut e false gone = ap (ended_with r.source (end_cause now (cleared r))) (cleared_none r (kept_none now r shut gone e)) ∙ none_ended r.source (end_cause now (cleared r))
 
 -- The rows that leave the receiver or move its tick alone
 
-stands_cleared : (c : Constants) (now : ℕ) (m : Receiver) (j : Joiner) (r : Receiving) → Stands c now m j r → Stands c now m j (cleared r)
+pub stands_cleared : (c : Constants) (now : ℕ) (m : Receiver) (j : Joiner) (r : Receiving) → Stands c now m j r → Stands c now m j (cleared r)
 stands_cleared c now m j r st = record {
   of = record { cube = st.of.cube; kind = st.of.kind; window = st.of.window; rest = st.of.rest; largest = st.of.largest; places = st.of.places };
   not_closed = st.not_closed;

@@ -1,4 +1,6 @@
+pub mod Ahead
 pub mod Came
+pub mod Copied
 pub mod Fetched
 pub mod Followed
 pub mod Growing

@@ -88,3 +88,12 @@ pub record Grows (gaps : ℕ) (old new : Joins) : Type 0 where
 -- nothing waits to be fetched
 abbrev pub cleared : Joins → Joins
 cleared s = record s { whole = []; gaps = []; filled = 0 }
+
+-- a run of rising numbers
+abbrev pub IsForward : Option Run → Type 0
+IsForward None = Unit {0}
+IsForward (Some run) = run.from ≤ run.last
+
+-- the bytes of SDUs
+abbrev pub bytes_of : List Sdu → List (List ℕ)
+bytes_of ws = map (λ (w : Sdu). w.bytes) ws

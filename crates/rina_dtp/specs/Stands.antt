@@ -1,5 +1,5 @@
 -- The receiver of the connection machine that a receiver stands for, and the machine's row for a piece that comes.
-use Rattle.std.specs.Prelude.{◌≡◌, ℕ, ◌+◌, ◌*◌, ◌^◌, ◌<◌, ◌≤◌, Bool, true, false, nat_lt, [], length, Option, Some, None}
+use Rattle.std.specs.Prelude.{◌≡◌, ℕ, ◌+◌, ◌*◌, ◌^◌, ◌<◌, ◌≤◌, Bool, true, List, false, nat_lt, [], length, Option, Some, None}
 use Rattle.rina_base.specs.declared.pdu.Pdu.{Pdu}
 use Rattle.rina_cube.specs.Cubes.{IsCube}
 use Rattle.rina_cube.specs.declared.Kind.TheVariants as kinds
@@ -10,6 +10,7 @@ use Rattle.rina_dtp.specs.declared.accepted.Accepted.TheVariants.{Datagram, Loos
 use Rattle.rina_dtp.specs.declared.source.Source.{Source}
 use Rattle.rina_dtp.specs.declared.verdict.Verdict.{Verdict}
 use Rattle.rina_dtp.specs.Accepted.{kind_of}
+use Rattle.rina_dtp.specs.Joins.{bytes_of}
 use Rattle.rina_dtp.specs.Lost.{joiner_for, lost_after, told}
 use Rattle.rina_dtp.specs.Receiving.{Receiving, drops, broken_with}
 use Rattle.rina_dtp.specs.Ring.{Recalls}
@@ -110,3 +111,8 @@ pub record Came (c : Constants) (now : ℕ) (present : Bool) (m : Receiver) (j :
 abbrev pub IsRow : ℕ → Pdu → ℕ → Receiving → Verdict → Receiving → Type 0
 IsRow now pdu unpassed old result new = (c : Constants) (m : Receiver) (j : Joiner) → Stands c now m j old → IsFetched now old → IsWelcome c (is_present c now m) m j (verdict_of c now unpassed m (piece_in pdu)) (piece_in pdu) →
     Came c now (is_present c now m) m j (verdict_of c now unpassed m (piece_in pdu)) pdu old result new
+
+-- the bytes of the SDUs that a piece would make whole
+abbrev pub IsAhead : ℕ → Pdu → ℕ → Receiving → List (List ℕ) → Type 0
+IsAhead now pdu unpassed r bodies = (c : Constants) (m : Receiver) (j : Joiner) → Stands c now m j r → IsFetched now r → IsWelcome c (is_present c now m) m j (verdict_of c now unpassed m (piece_in pdu)) (piece_in pdu) →
+    bodies ≡ bytes_of (joined_by c (is_present c now m) m j (verdict_of c now unpassed m (piece_in pdu)) (piece_in pdu)).whole

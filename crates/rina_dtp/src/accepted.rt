@@ -131,6 +131,17 @@ impl Accepted {
         }
     }
 
+    /// A copy of its own.
+    pub fn copy(&self, alloc: Global) -> Result<Accepted, Memory>
+        ensures { IfOk result (λ a. a ≡ self.now) }
+    {
+        match self {
+            Accepted::Datagram(ring) => Ok(Accepted::Datagram(ring.copy(alloc)?)),
+            Accepted::Loose(highest) => Ok(Accepted::Loose(*highest)),
+            Accepted::Reliable(shelf) => Ok(Accepted::Reliable(shelf.copy(alloc)?)),
+        }
+    }
+
     /// The number after the greatest one that was accepted, up to 2^32.
     pub fn next(&self) -> u64
         ensures { result ≡ next_kept self.now }

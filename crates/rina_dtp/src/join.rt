@@ -1,14 +1,15 @@
 //! Joining the pieces that were accepted, and the SDUs that wait to be fetched.
-ghost use Rattle.std.specs.Prelude.{◌≡◌, ◌≤◌, ◌<◌, ◌+◌, ◌-◌, ◌*◌, ◌++◌, [], ◌∷◌, ℕ, length, IfOk, Some, None, slice_set, slice_get, drop, Option, IfSome, All, true, false, IsTrue, ◌↔◌};
+ghost use Rattle.std.specs.Prelude.{◌≡◌, ◌≤◌, ◌<◌, ◌+◌, ◌-◌, ◌*◌, ◌^◌, ◌++◌, [], ◌∷◌, ℕ, length, map, IfOk, Some, None, slice_set, slice_get, drop, Option, IfSome, All, true, false, IsTrue, ◌↔◌};
 ghost use Rattle.std.specs.Vec.{vec_capacity};
-ghost use Rattle.rina_delim.specs.Joining.{piece, empty, answer, joined, HasRoom};
+ghost use Rattle.rina_delim.specs.Joining.{piece, empty, answer, joined, held_after, HasRoom};
+ghost use Rattle.rina_dtp.specs.Slots.{Waiting};
 ghost use Rattle.rina_dtp.specs.Fetching.{first_lost, after_lost};
-ghost use Rattle.rina_dtp.specs.Joins.{gap_if, start_of, taken, missing_in, IsJoined, HasPlaces, Grows, HasRoomOf, cleared};
+ghost use Rattle.rina_dtp.specs.Joins.{gap_if, start_of, taken, missing_in, IsJoined, HasPlaces, Grows, HasRoomOf, IsForward, cleared, bytes_of};
 
 use crate::gap::{Gap, Lost};
-use crate::sdu::Sdu;
+use crate::sdu::{Bodies, Sdu};
 use crate::slot::Slot;
-use rina_base::Memory;
+use rina_base::{Bytes, Memory, Seq};
 use rina_delim::{Joined, Joiner, Run};
 use std::alloc::Global;
 use std::marker::Model;
@@ -17,6 +18,8 @@ use std::marker::Model;
 /// filled one after the other, and gaps.
 #[derive(Drop)]
 pub struct Join {
+    /// The largest SDU, in bytes.
+    largest: u32,
     joiner: Joiner,
     slots: Vec<Slot>,
     /// How many slots are filled, and how many of these were fetched.
@@ -26,7 +29,7 @@ pub struct Join {
 }
 
 impl Model for Join {
-    ghost use Rattle.std.specs.Prelude.{◌≤◌, ◌*◌, length, All};
+    ghost use Rattle.std.specs.Prelude.{◌≡◌, ◌≤◌, ◌*◌, length, All};
     ghost use Rattle.std.specs.Vec.{vec_capacity};
     ghost use Rattle.rina_dtp.specs.Joins.{Joins, sdus_in, HasRoomOf};
 
@@ -34,7 +37,7 @@ impl Model for Join {
 
     ghost view = { λ j. record { joining = j.joiner; whole = sdus_in j.fetched j.filled j.slots.items; gaps = j.gaps.items; filled = j.filled; slots = length j.slots.items } };
 
-    ghost invariant = { λ j. (j.filled ≤ length j.slots.items) × (j.fetched ≤ j.filled) × (2 * length j.slots.items ≤ vec_capacity j.gaps) × All (HasRoomOf j.joiner.largest) j.slots.items };
+    ghost invariant = { λ j. (j.largest ≡ j.joiner.largest) × (j.filled ≤ length j.slots.items) × (j.fetched ≤ j.filled) × (2 * length j.slots.items ≤ vec_capacity j.gaps) × All (HasRoomOf j.joiner.largest) j.slots.items };
 }
 
 /// Empty slots for SDUs of at most `largest` bytes.
@@ -101,6 +104,78 @@ fn start(first: bool, held: Option<Run>, number: u32) -> u32
     }
 }
 
+/// Copies of the SDUs in slots.
+fn bodies_of(alloc: Global, slots: &[Slot]) -> Result<Bodies, Memory>
+    ensures { IfOk result (λ b. b ≡ map (λ (w : Waiting). w.bytes) slots.now) }
+{
+    let mut bodies = Seq::new(alloc);
+    for slot in slots {
+        bodies.push(Bytes::copy_of(alloc, slot.bytes())?)?;
+    }
+    Ok(bodies)
+}
+
+/// Goes on with an empty piece.
+#[tactic(auto, using(crate::proofs::Copied::goes_on_empty, crate::proofs::Copied::has_room_empty))]
+fn go_on(joiner: &mut Joiner, run: Run)
+    requires next { run.last + 1 < 2 ^ 32 }
+    requires held { joiner.old.held ≡ Some run }
+    requires within { length joiner.old.bytes ≤ joiner.old.largest }
+    ensures { joiner.new ≡ record joiner.old { held = Some (record { from = run.from; last = run.last + 1 }) } }
+{
+    joiner.push(run.last + 1, false, false, &[]);
+}
+
+/// Goes on with empty pieces up to the last one of a run.
+fn go_to(joiner: &mut Joiner, run: Run)
+    requires held { joiner.old.held ≡ Some (record { from = run.from; last = run.from }) }
+    requires within { length joiner.old.bytes ≤ joiner.old.largest }
+    ensures held { run.from ≤ run.last → joiner.new ≡ record joiner.old { held = Some run } }
+    ensures largest { joiner.new.largest ≡ joiner.old.largest }
+{
+    for number in run.from..run.last {
+        go_on(
+            joiner,
+            Run {
+                from: run.from,
+                last: number,
+            },
+        );
+    }
+}
+
+/// Joins one piece that begins an SDU to nothing.
+#[tactic(auto, using(crate::proofs::Copied::begun_alone))]
+fn begin(joiner: &mut Joiner, number: u32, last: bool, bytes: &[u8])
+    requires empty { joiner.old ≡ empty joiner.old.largest }
+    requires within { length bytes.now ≤ joiner.old.largest }
+    ensures { joiner.new ≡ record { largest = joiner.old.largest; held = held_after number number last; bytes = bytes.now } }
+{
+    joiner.push(number, true, last, bytes);
+}
+
+/// A joiner that holds the same.
+fn copy_joiner(alloc: Global, joiner: &Joiner, largest: u32) -> Result<Joiner, Memory>
+    requires { largest ≡ joiner.now.largest }
+    ensures same { IfOk result (λ copy. IsForward joiner.now.held → copy ≡ joiner.now) }
+    ensures largest { IfOk result (λ copy. copy.largest ≡ largest) }
+{
+    let mut copy = match Joiner::new(alloc, largest) {
+        Ok(copy) => copy,
+        Err(_) => return Err(Memory),
+    };
+    match joiner.held() {
+        None => {
+            begin(&mut copy, 0, true, joiner.whole());
+        }
+        Some(run) => {
+            begin(&mut copy, run.from, false, joiner.whole());
+            go_to(&mut copy, run);
+        }
+    }
+    Ok(copy)
+}
+
 impl Join {
     ghost use Rattle.std.specs.Borrow.{sem};
     ghost use Rattle.rina_dtp.specs.Lending.{IsFirst, LendsOfJoin};
@@ -116,8 +191,28 @@ impl Join {
         };
         let gaps = Vec::with_capacity(alloc, 2 * slots as usize)?;
         Ok(Join {
+            largest,
             joiner,
             slots: make_slots(alloc, slots, largest)?,
+            filled: 0,
+            fetched: 0,
+            gaps,
+        })
+    }
+
+    /// A copy of its own, but for what was not fetched.
+    pub fn copy(&self, alloc: Global) -> Result<Join, Memory>
+        requires { self.now.slots ≤ 256 }
+        ensures same { IfOk result (λ j. IsForward self.now.joining.held → j ≡ cleared self.now) }
+        ensures slots { IfOk result (λ j. j.slots ≡ self.now.slots) }
+    {
+        let joiner = copy_joiner(alloc, &self.joiner, self.largest)?;
+        let count = self.slots.len() as u32;
+        let gaps = Vec::with_capacity(alloc, 2 * count as usize)?;
+        Ok(Join {
+            largest: self.largest,
+            joiner,
+            slots: make_slots(alloc, count, self.largest)?,
             filled: 0,
             fetched: 0,
             gaps,
@@ -236,6 +331,14 @@ impl Join {
         ensures { result ≡ self.now.joining.held }
     {
         self.joiner.held()
+    }
+
+    /// Copies of the SDUs that wait to be fetched.
+    #[tactic(auto, using(crate::proofs::Ahead::bytes_in))]
+    pub fn bodies(&self, alloc: Global) -> Result<Bodies, Memory>
+        ensures { IfOk result (λ b. b ≡ bytes_of self.now.whole) }
+    {
+        bodies_of(alloc, &self.slots[self.fetched..self.filled])
     }
 
     /// The next piece that was given up; None exactly where there is none.

@@ -23,7 +23,7 @@ pub use numbers::{Numbers, NumbersSpent};
 pub use place::Place;
 pub use ring::Ring;
 pub use rx::Rx;
-pub use sdu::Sdu;
+pub use sdu::{Bodies, Sdu};
 pub use shelf::Shelf;
 pub use slot::Slot;
 pub use source::Source;

@@ -44,6 +44,22 @@ impl Place {
         })
     }
 
+    /// A copy of its own.
+    pub fn copy(&self, alloc: Global) -> Result<Place, Memory>
+        ensures { IfOk result (λ p. p ≡ self.now) }
+    {
+        let mut body = Vec::with_capacity(alloc, self.room as usize)?;
+        body.extend_from_slice(self.body.as_slice())?;
+        Ok(Place {
+            room: self.room,
+            used: self.used,
+            number: self.number,
+            first: self.first,
+            last: self.last,
+            body,
+        })
+    }
+
     /// Holds a piece. Takes no memory.
     pub fn put(&mut self, number: u32, first: bool, last: bool, body: &[u8])
         requires { length body.now ≤ self.old.room }

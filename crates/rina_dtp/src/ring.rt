@@ -91,6 +91,16 @@ impl Ring {
         })
     }
 
+    /// A copy of its own.
+    pub fn copy(&self, alloc: Global) -> Result<Ring, Memory>
+        ensures { IfOk result (λ r. r ≡ self.now) }
+    {
+        Ok(Ring {
+            top: self.top,
+            bits: Vec::from_slice(alloc, self.bits.as_slice())?,
+        })
+    }
+
     /// The greatest number.
     pub fn top(&self) -> u32
         ensures { result ≡ self.now.top }

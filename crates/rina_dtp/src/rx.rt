@@ -7,12 +7,13 @@ ghost use Rattle.rina_dtp.specs.Accepted.{known_verdict, number_verdict, judged_
 ghost use Rattle.rina_dtp.specs.Receiving.{present_at, cleared, IsAccepted, IsHeldIn, IsStep, Steps, slots_of, StartsFresh, run_numbers, kept_numbers, end_cause, ended_with, broken_with, lost_in, drops};
 ghost use Rattle.rina_dtp.specs.Fetching.{TakesFirst, after_first, gathered, GoesOn, ChangesKept, StandsAsBefore};
 ghost use Rattle.rina_dtp.specs.Observed.{IsNew, TellsPresence, TellsNext, TellsJoining, TellsLastIn, from_kept};
-ghost use Rattle.rina_dtp.specs.Stands.{IsRow};
+ghost use Rattle.rina_dtp.specs.Joins.{IsForward};
+ghost use Rattle.rina_dtp.specs.Stands.{IsRow, IsAhead};
 
 use crate::accepted::Accepted;
 use crate::join::Join;
 use crate::ring::Ring;
-use crate::sdu::Sdu;
+use crate::sdu::{Bodies, Sdu};
 use crate::shelf::Shelf;
 use crate::source::Source;
 use crate::verdict::{Judged, Verdict};
@@ -399,5 +400,38 @@ impl Rx {
             + self.accepted.held_count();
         self.closed = true;
         count.min(u64::from(u32::MAX)) as u32
+    }
+
+    /// A copy of its own, but for what was not fetched.
+    fn copy(&self, alloc: Global) -> Result<Rx, Memory>
+        ensures { IfOk result (λ r. IsForward self.now.join.joining.held → r ≡ cleared self.now) }
+    {
+        Ok(Rx {
+            window: self.window,
+            rest: self.rest,
+            made: self.made,
+            last_in: self.last_in,
+            closed: self.closed,
+            source: self.source,
+            accepted: self.accepted.copy(alloc)?,
+            going: None,
+            join: self.join.copy(alloc)?,
+        })
+    }
+
+    /// The bytes of the SDUs that `on_data` would make whole, in order, under its conditions. Nothing changes.
+    pub fn ahead(
+        &self,
+        alloc: Global,
+        now: Tick,
+        pdu: &PduView<'_>,
+        unpassed: u32,
+    ) -> Result<Bodies, Memory>
+        requires { now ≤ 10000000 }
+        ensures { IfOk result (IsAhead now (pdu_of pdu.now) unpassed self.now) }
+    {
+        let mut copy = self.copy(alloc)?;
+        let _verdict = copy.receive(now, pdu, unpassed);
+        copy.join.bodies(alloc)
     }
 }

@@ -1,4 +1,8 @@
-//! A whole SDU that is lent.
+//! Whole SDUs that are lent or copied.
+use rina_base::{Bytes, Seq};
+
+/// The bytes of SDUs, in order.
+pub type Bodies = Seq<Bytes>;
 
 /// A whole SDU: the number of its first piece, how many pieces it had, and its bytes.
 #[derive(Clone, Copy)]

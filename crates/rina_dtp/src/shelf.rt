@@ -45,6 +45,19 @@ fn make_places(alloc: Global, count: u32, piece: u32) -> Result<Vec<Place>, Memo
     Ok(places)
 }
 
+/// Copies of places.
+fn copy_places(alloc: Global, places: &[Place]) -> Result<Vec<Place>, Memory>
+    ensures { IfOk result (λ v. v.items ≡ places.now) }
+{
+    let mut copies = Vec::new(alloc);
+    for place in places {
+        if copies.push(place.copy(alloc)?).is_err() {
+            return Err(Memory);
+        }
+    }
+    Ok(copies)
+}
+
 /// Lets go of all pieces.
 fn free_all(places: &mut Vec<Place>, piece: u32)
     requires { All (HasRoomOf piece) places.old.items }
@@ -71,6 +84,17 @@ impl Shelf {
             next: 0,
             piece,
             places: make_places(alloc, window, piece)?,
+        })
+    }
+
+    /// A copy of its own.
+    pub fn copy(&self, alloc: Global) -> Result<Shelf, Memory>
+        ensures { IfOk result (λ s. s ≡ self.now) }
+    {
+        Ok(Shelf {
+            next: self.next,
+            piece: self.piece,
+            places: copy_places(alloc, self.places.as_slice())?,
         })
     }
 

@@ -194,6 +194,9 @@ fn a_reliable_flow_begins_with_the_flag_and_has_no_gap(rt: HostRuntime) -> Resul
     came(&rt, &mut rx, 4, &whole(3, false, b"e"), Verdict::Hold);
     came(&rt, &mut rx, 5, &whole(3, false, b"e"), duplicate(3));
     assert_eq!(rt; rx.next(5), Some(1));
+    let last = piece(1, false, true, false, b"bc");
+    let ahead = rx.ahead(rt.alloc(), 6, &last, 0)?;
+    assert_eq!(rt; ahead.len(), 2);
     came(
         &rt,
         &mut rx,
