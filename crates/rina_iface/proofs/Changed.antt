@@ -1,6 +1,6 @@
 -- What stands in a list after one element was changed, and at a port.
-use Rattle.std.proofs.Common.{◌≡◌, ◌≢◌, ℕ, zero, suc, List, [], ◌∷◌, slice_get, slice_set, Some, None, Option, option_and_then, refl, sym, ◌∙◌, ap, subst, inl, inr, ◌⊎◌, All}
-use Rattle.std.proofs.lemmas.Option.{get_or_from_slice_get, same_Some, slice_get_within}
+use Rattle.std.proofs.Common.{◌≡◌, ◌≢◌, ℕ, zero, suc, ◌+◌, ◌<◌, add-one, arith, drop, get_or, length, map, take, ◌++◌, List, [], ◌∷◌, slice_get, slice_set, Some, None, Option, option_and_then, refl, sym, ◌∙◌, ap, subst, inl, inr, ◌⊎◌, All}
+use Rattle.std.proofs.lemmas.Option.{get_or_from_slice_get, same_Some, slice_get-get_or, slice_get_within}
 use Rattle.std.proofs.lemmas.Bool.Decides.{eqb_tells}
 use Rattle.std.proofs.lemmas.List.Elements.{All-get_or}
 use Rattle.rina_base.specs.declared.number.Port.{Port}
@@ -53,3 +53,25 @@ pub slice_set-same : {X : Type 0} (xs : List X) (i : ℕ) (x : X) → slice_get 
 slice_set-same [] i x h = refl
 slice_set-same (z ∷ xs) zero x h = let same : z ≡ x = cc in rw same refl
 slice_set-same (z ∷ xs) (suc i) x h = ap (λ ys. z ∷ ys) (slice_set-same xs i x h)
+
+-- ---- a list of which the first elements were changed
+
+seen_after : {X : Type 0} (f : X → X) (xs : List X) (i : ℕ) → slice_get (map f (take i xs) ++ drop i xs) i ≡ slice_get xs i
+seen_after f [] zero = refl
+seen_after f [] (suc i) = refl
+seen_after f (x ∷ xs) zero = refl
+seen_after f (x ∷ xs) (suc i) = seen_after f xs i
+
+set_after : {X : Type 0} (f : X → X) (xs : List X) (i : ℕ) (x : X) → slice_get xs i ≡ Some x → slice_set (map f (take i xs) ++ drop i xs) i (f x) ≡ map f (take (suc i) xs) ++ drop (suc i) xs
+set_after f [] i x h = cc
+set_after f (y ∷ xs) zero x h = let same : y ≡ x = same_Some y x h in rw same refl
+set_after f (y ∷ xs) (suc i) x h = ap (λ zs. f y ∷ zs) (set_after f xs i x h)
+
+-- one more was changed
+pub changed_more : {X : Type 0} (f : X → X) (xs now after : List X) (i : ℕ) → i < length xs → now ≡ map f (take i xs) ++ drop i xs → ((x : X) → slice_get now i ≡ Some x → after ≡ slice_set now i (f x)) → after ≡ map f (take (i + 1) xs) ++ drop (i + 1) xs
+changed_more f [] now after i lt is step = absurd (omega (arith, lt))
+changed_more f (z ∷ zs) now after i lt is step =
+    let xs = z ∷ zs in
+    let at = slice_get-get_or xs i z lt in
+    let seen : slice_get now i ≡ Some (get_or xs i z) = ap (λ ys. slice_get ys i) is ∙ seen_after f xs i ∙ at in
+    rw (add-one i) (step (get_or xs i z) seen ∙ ap (λ ys. slice_set ys i (f (get_or xs i z))) is ∙ set_after f xs i (get_or xs i z) at)

@@ -10,6 +10,7 @@ use Rattle.rina_iface.specs.Ends.{with_passed, with_sent}
 use Rattle.rina_iface.specs.Journal.{At}
 use Rattle.rina_iface.specs.Later.{AreLater, Grows, IsLater, IsLaterEnd, IsLaterFac, Moves}
 use Rattle.rina_iface.specs.Seen.{Fac, Seen, with_fac}
+use Rattle.rina_iface.specs.State.{cut_state, freed_state, with_state}
 use Rattle.rina_iface.proofs.Changed.{slice_get-set_other, slice_get-set_same}
 use Rattle.rina_iface.proofs.Grown.{still_at}
 
@@ -19,6 +20,20 @@ moves_refl Allocated = tt
 moves_refl (Refused why) = refl
 moves_refl (Failed fail) = refl
 moves_refl Closed = refl
+
+pub moves_freed : (s : PortState) → Moves s (freed_state s)
+moves_freed Pending = tt
+moves_freed Allocated = tt
+moves_freed (Refused why) = refl
+moves_freed (Failed fail) = refl
+moves_freed Closed = refl
+
+pub moves_cut : (at : ℕ) (s : PortState) → Moves s (cut_state at s)
+moves_cut at Pending = tt
+moves_cut at Allocated = tt
+moves_cut at (Refused why) = refl
+moves_cut at (Failed fail) = refl
+moves_cut at Closed = refl
 
 pub grows_refl : (before now : ℕ) (xs : List Entry) → Grows before now xs xs
 grows_refl before now xs = record { more = []; is = sym (append-nil xs); dated = λ i e h. cc }
@@ -39,6 +54,10 @@ end_sent now e x at = record { flow = refl; role = refl; port = refl; app = refl
 
 pub end_passed : (now : ℕ) (e : End) → IsLaterEnd now now e (with_passed e)
 end_passed now e = record { flow = refl; role = refl; port = refl; app = refl; peer = refl; cube = refl; sent = grows_refl now now e.sent; got = grows_refl now now e.got; taken = omega arith; state = moves_refl e.state; only_allocated = λ n. refl }
+
+-- the state moved, and nothing else
+pub end_restated : (before now : ℕ) (e : End) (state : PortState) → Moves e.state state → IsLaterEnd before now e (with_state e state)
+end_restated before now e state moves = record { flow = refl; role = refl; port = refl; app = refl; peer = refl; cube = refl; sent = grows_refl before now e.sent; got = grows_refl before now e.got; taken = omega arith; state = moves; only_allocated = λ n. refl }
 
 pub ends_refl : (before now : ℕ) (es : List End) → AreLater before now es es
 ends_refl before now es i e h = (e, h, end_refl before now e)

@@ -1,25 +1,39 @@
 -- After each call journals are later.
-use Rattle.std.proofs.Common.{◌≡◌, ℕ, List, Option, Some, None, Result, Ok, Err, refl}
+use Rattle.std.proofs.Common.{◌≡◌, ◌≢◌, ℕ, Bool, true, false, List, slice_set, Option, Some, None, Result, Ok, Err, refl, sym, ◌∙◌, ap}
+use Rattle.std.proofs.lemmas.Option.{same_Some}
 use Rattle.rina_base.specs.declared.number.FlowName.{FlowName}
 use Rattle.rina_base.specs.declared.number.Num.{Num}
 use Rattle.rina_base.specs.declared.number.Port.{Port}
 use Rattle.rina_iface.specs.declared.ask.Ask.{Ask}
+use Rattle.rina_iface.specs.declared.ask.Fixed.{Fixed}
+use Rattle.rina_iface.specs.declared.ends.End.{End}
 use Rattle.rina_iface.specs.declared.error.AllocateError.{AllocateError}
 use Rattle.rina_iface.specs.declared.error.AllocateError.TheVariants.{Memory as NoMemory, NoMember as NoPlace, NoCube, NoSuchApp, SameSystem, NoIds, NoRoute as NoWay, Busy, CountSpent as IdsSpent}
 use Rattle.rina_iface.specs.declared.error.RegisterError.{RegisterError}
 use Rattle.rina_iface.specs.declared.error.RegisterError.TheVariants.{Memory, Already, NoMember, CountSpent}
 use Rattle.rina_iface.specs.declared.error.SendError.{SendError}
 use Rattle.rina_iface.specs.declared.error.SendError.TheVariants.{NotAllocated, TooLong, WindowShut, NoRoute, QueueFull, NumbersSpent, Memory as OutOfMemory, Failed as HasFailed}
+use Rattle.rina_iface.specs.declared.error.FreeError.{FreeError}
+use Rattle.rina_iface.specs.declared.error.FreeError.TheVariants as free
+use Rattle.rina_iface.specs.declared.error.UnregisterError.{UnregisterError}
+use Rattle.rina_iface.specs.declared.error.UnregisterError.TheVariants as unregister
 use Rattle.rina_iface.specs.declared.state.PortState.{PortState}
 use Rattle.rina_iface.specs.declared.state.PortState.TheVariants.{Pending, Allocated, Refused, Failed, Closed}
 use Rattle.rina_iface.specs.Allocate.{Allocates, Makes}
+use Rattle.rina_iface.specs.Bind.{Binds, bound}
 use Rattle.rina_iface.specs.Claim.{Claims}
-use Rattle.rina_iface.specs.Later.{IsLater, IsLaterFac}
+use Rattle.rina_iface.specs.Free.{Frees, FreesEnds}
+use Rattle.rina_iface.specs.Journal.{At, IsPartner}
+use Rattle.rina_iface.specs.Later.{AreLater, IsLater, IsLaterFac}
 use Rattle.rina_iface.specs.Pass.{IsPassed}
 use Rattle.rina_iface.specs.Register.{Registers}
 use Rattle.rina_iface.specs.Seen.{Fac, Seen}
 use Rattle.rina_iface.specs.Send.{Sends}
-use Rattle.rina_iface.proofs.Later.{end_passed, end_sent, ends_more, ends_refl, ends_set, later_fac, later_refl}
+use Rattle.rina_iface.specs.State.{freed, freed_state}
+use Rattle.rina_iface.specs.Unregister.{Unregisters}
+use Rattle.rina_iface.proofs.Changed.{slice_get-set_other}
+use Rattle.rina_iface.proofs.LaterOn.{ends_on}
+use Rattle.rina_iface.proofs.Later.{end_passed, end_restated, end_sent, ends_more, ends_refl, ends_set, later_fac, later_refl, moves_freed}
 
 -- nothing changed
 same : (s s' : Seen) → s' ≡ s → IsLater s s'
@@ -52,6 +66,45 @@ later_allocates own s ask (Err (NoIds used)) s' w = same s s' w.1
 later_allocates own s ask (Err (NoWay dst)) s' w = same s s' w.1
 later_allocates own s ask (Err (Busy port)) s' w = same s s' w.1
 later_allocates own s ask (Err (IdsSpent n k)) s' w = same s s' w.1
+
+pub later_unregisters : (own : Option UnregisterError) (s : Seen) (fac node : ℕ) (app : List ℕ) (r : Result (Unit {0}) UnregisterError) (s' : Seen) → Unregisters own s fac node app r s' → IsLater s s'
+later_unregisters own s fac node app (Ok done) s' w = rw w.1.new_is (later_fac s fac w.1.facility _ w.1.stands (record { ends = ends_refl s.now s.now w.1.facility.ends; cubes = refl }))
+later_unregisters own s fac node app (Err unregister.Memory) s' w = same s s' w
+later_unregisters own s fac node app (Err unregister.NotThere) s' w = same s s' w.1
+later_unregisters own s fac node app (Err (unregister.CountSpent n k)) s' w = same s s' w.1
+
+pub later_binds : (s : Seen) (fixed : Fixed) (r : Result (Port × Port) AllocateError) (s' : Seen) → Binds s fixed r s' → IsLater s s'
+later_binds s fixed (Ok ports) s' w = rw w.new_is (later_fac s fixed.fac w.facility (bound w.facility fixed w.flow) w.stands (record { ends = ends_more s.now s.now w.facility.ends _; cubes = refl }))
+later_binds s fixed (Err NoMemory) s' w = same s s' w
+later_binds s fixed (Err NoPlace) s' w = absurd w
+later_binds s fixed (Err NoCube) s' w = absurd w
+later_binds s fixed (Err NoSuchApp) s' w = absurd w
+later_binds s fixed (Err SameSystem) s' w = absurd w
+later_binds s fixed (Err (NoIds used)) s' w = absurd w
+later_binds s fixed (Err (NoWay dst)) s' w = absurd w
+later_binds s fixed (Err (Busy port)) s' w = absurd w
+later_binds s fixed (Err (IdsSpent n k)) s' w = absurd w
+
+-- two partners stand at two places
+pub partners_apart : (ends : List End) (i k : ℕ) (e other : End) → At ends i e → At ends k other → IsPartner e other → k ≢ i
+partners_apart ends i k e other he ho p same =
+    let there : At ends i other = rw same at ho in
+    let one : other ≡ e = same_Some other e (sym there ∙ he) in
+    p.other_role (ap (λ (z : End). z.role) one)
+
+later_freed : (now : ℕ) (both : Bool) (ends : List End) (place : ℕ) (e : End) (ends' : List End) → At ends place e → FreesEnds both ends place e ends' → AreLater now now ends ends'
+later_freed now false ends place e ends' at w = rw w (ends_set now now ends place e (freed e) at (end_restated now now e (freed_state e.state) (moves_freed e.state)))
+later_freed now true ends place e ends' at (k, other, stands, partner, is) =
+    let mid : List End = slice_set ends place (freed e) in
+    let still : At mid k other = slice_get-set_other ends place k (freed e) (partners_apart ends place k e other at stands partner) ∙ stands in
+    let first : AreLater now now ends mid = ends_set now now ends place e (freed e) at (end_restated now now e (freed_state e.state) (moves_freed e.state)) in
+    let second : AreLater now now mid (slice_set mid k (freed other)) = ends_set now now mid k other (freed other) still (end_restated now now other (freed_state other.state) (moves_freed other.state)) in
+    rw is (ends_on now now ends mid (slice_set mid k (freed other)) first second)
+
+pub later_frees : (both : Bool) (s : Seen) (port : Port) (r : Result (Unit {0}) FreeError) (s' : Seen) → Frees both s port r s' → IsLater s s'
+later_frees both s port (Ok done) s' w = rw w.new_is (later_fac s port.fac w.facility _ w.stands.facility (record { ends = later_freed s.now both w.facility.ends w.place w.end w.ends w.stands.is w.frees; cubes = refl }))
+later_frees both s port (Err free.Memory) s' w = same s s' w
+later_frees both s port (Err free.NoPort) s' w = same s s' w.1
 
 pub later_claims : (s : Seen) (fac node : ℕ) (app : List ℕ) (r : Option Port) (s' : Seen) → Claims s fac node app r s' → IsLater s s'
 later_claims s fac node app None s' w = same s s' w.1

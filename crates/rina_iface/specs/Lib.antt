@@ -1,9 +1,13 @@
 pub mod Allocate
+pub mod Bind
 pub mod Claim
 pub mod Ends
+pub mod Free
 pub mod Journal
 pub mod Later
 pub mod Pass
 pub mod Register
 pub mod Seen
 pub mod Send
+pub mod State
+pub mod Unregister

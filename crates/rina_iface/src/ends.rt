@@ -1,9 +1,10 @@
 //! The ends of flows, and a facility's journal of them.
-ghost use Rattle.std.specs.Prelude.{◌≡◌, ◌≤◌, ◌<◌, ◌^◌, ◌++◌, ◌∷◌, [], length, slice_get, slice_set, OnOk, OnErr, IfSome, MatchOption};
+ghost use Rattle.std.specs.Prelude.{◌≡◌, ◌≤◌, ◌<◌, ◌^◌, ◌++◌, ◌∷◌, [], length, slice_get, slice_set, map, OnOk, OnErr, IfSome, MatchOption};
 ghost use Rattle.rina_iface.specs.Ends.{place_in, end_in, with_sent, with_got, with_passed};
+ghost use Rattle.rina_iface.specs.State.{with_state, cut_state, cut_off};
 
-use crate::state::{PortState, Role};
-use rina_base::{AppName, FlowName, Port};
+use crate::state::{Fail, PortState, Role};
+use rina_base::{AppName, FlowName, Port, Tick};
 use rina_law::{Entries, Entry};
 use std::alloc::{AllocError, Global};
 use std::marker::Model;
@@ -153,5 +154,49 @@ impl Ends {
         if end.taken < end.got.len() as u64 {
             end.taken += 1;
         }
+    }
+
+    /// Sets the state of the end at this place.
+    pub fn set_state(&mut self, at: usize, state: PortState)
+        requires { at < length self.old }
+        ensures { (e : End) → slice_get self.old at ≡ Some e → self.new ≡ slice_set self.old at (with_state e state) }
+    {
+        set_state(&mut self.items, at, state);
+    }
+
+    /// Lets each end that is allocated fail by a cut at this tick.
+    pub fn cut(&mut self, at: Tick)
+        ensures { self.new ≡ map (cut_off at) self.old }
+    {
+        cut_all(&mut self.items, at);
+    }
+}
+
+/// Lets each end that is allocated fail by a cut.
+fn cut_all(ends: &mut Vec<End>, tick: Tick)
+    ensures { ends.new.items ≡ map (cut_off tick) ends.old.items }
+{
+    for at in 0..ends.len() {
+        let state = cut_state(ends[at].state, tick);
+        set_state(ends, at, state);
+    }
+}
+
+/// Sets the state of the end at a place.
+fn set_state(ends: &mut Vec<End>, at: usize, state: PortState)
+    requires { at < length ends.old.items }
+    ensures { (e : End) → slice_get ends.old.items at ≡ Some e → ends.new.items ≡ slice_set ends.old.items at (with_state e state) }
+{
+    let end = &mut ends[at];
+    end.state = state;
+}
+
+/// The state of a port whose wire is cut at a tick.
+fn cut_state(state: PortState, at: Tick) -> PortState
+    ensures { result ≡ cut_state at state }
+{
+    match state {
+        PortState::Allocated => PortState::Failed(Fail::Cut { at }),
+        state => state,
     }
 }

@@ -1,22 +1,26 @@
 //! The trait that every layer stands on.
-ghost use Rattle.std.specs.Prelude.{◌≡◌, ◌≤◌, ℕ, Option, Some, None, IsSome, MatchOption, List, length, slice_get, option_map};
+ghost use Rattle.std.specs.Prelude.{◌≡◌, ◌≤◌, ℕ, Bool, Option, Some, None, IsSome, MatchOption, List, length, slice_get, option_map};
 ghost use Rattle.rina_base.specs.declared.number.Port.{Port};
 ghost use Rattle.rina_iface.specs.declared.ask.Ask.{Ask};
 ghost use Rattle.rina_iface.specs.declared.error.RegisterError.{RegisterError};
 ghost use Rattle.rina_iface.specs.declared.error.AllocateError.{AllocateError};
 ghost use Rattle.rina_iface.specs.declared.error.SendError.{SendError};
+ghost use Rattle.rina_iface.specs.declared.error.UnregisterError.{UnregisterError};
 ghost use Rattle.rina_iface.specs.Seen.{Fac, Seen, state_of, promise_at, largest_at, unpassed};
 ghost use Rattle.rina_iface.specs.Journal.{AreKept};
 ghost use Rattle.rina_iface.specs.Later.{IsLater};
 ghost use Rattle.rina_iface.specs.Register.{Registers};
 ghost use Rattle.rina_iface.specs.Allocate.{Allocates};
+ghost use Rattle.rina_iface.specs.Unregister.{Unregisters};
+ghost use Rattle.rina_iface.specs.Bind.{Binds, CanBind};
 ghost use Rattle.rina_iface.specs.Claim.{Claims};
+ghost use Rattle.rina_iface.specs.Free.{Frees};
 ghost use Rattle.rina_iface.specs.Send.{Sends};
 ghost use Rattle.rina_iface.specs.Pass.{IsLent, IsPassed};
 
-use crate::ask::{Ask, Lent};
+use crate::ask::{Ask, Fixed, Lent};
 use crate::ends::Journal;
-use crate::error::{AllocateError, RegisterError, SendError};
+use crate::error::{AllocateError, FreeError, RegisterError, SendError, UnregisterError};
 use crate::state::PortState;
 use rina_base::{AppName, Node, Num, Port, Tick};
 use std::alloc::Global;
@@ -36,11 +40,17 @@ pub trait Facility {
     /// What `register` must refuse by what the facility alone knows.
     ghost refuses_register: { Self → ℕ → ℕ → List ℕ → Option RegisterError };
 
+    /// What `unregister` must refuse by what the facility alone knows.
+    ghost refuses_unregister: { Self → ℕ → ℕ → List ℕ → Option UnregisterError };
+
     /// What `allocate` must refuse by what the facility alone knows.
     ghost refuses_allocate: { Self → Ask → Option AllocateError };
 
     /// What `send` must refuse by what the facility alone knows.
     ghost refuses_send: { Self → Port → ℕ → Option SendError };
+
+    /// Whether `free` frees the other end of the flow at once.
+    ghost frees_both: { Self → Bool };
 
     /// The clock, at most 10,000,000.
     fn now(&self) -> Tick
@@ -53,6 +63,7 @@ pub trait Facility {
 
     /// The state of a port. None exactly where the port was never drawn.
     fn state(&self, port: Port) -> Option<PortState>
+        requires { valid self.now }
         ensures { result ≡ state_of (seen self.now) port };
 
     /// How many ticks pass at most from acceptance to delivery. None exactly where the port was never drawn.
@@ -80,6 +91,21 @@ pub trait Facility {
         ensures does { Registers (refuses_register self.old fac node app.now)
             (seen self.old) fac node app.now result (seen self.new) };
 
+    /// Ends the registration of an application at a node.
+    fn unregister(
+        &mut self,
+        alloc: Global,
+        fac: u16,
+        node: Node,
+        app: &AppName,
+    ) -> Result<(), UnregisterError>
+        requires { valid self.old }
+        ensures valid { valid self.new }
+        ensures below { same_below self.old self.new }
+        ensures later { IsLater (seen self.old) (seen self.new) }
+        ensures does { Unregisters (refuses_unregister self.old fac node app.now)
+            (seen self.old) fac node app.now result (seen self.new) };
+
     /// Asks for a flow, and answers the port of its end.
     fn allocate(&mut self, alloc: Global, ask: &Ask) -> Result<Port, AllocateError>
         requires { valid self.old }
@@ -88,6 +114,16 @@ pub trait Facility {
         ensures later { IsLater (seen self.old) (seen self.new) }
         ensures does { Allocates (refuses_allocate self.old ask.now)
             (seen self.old) ask.now result (seen self.new) };
+
+    /// Makes a flow that the stack fixes, both ends of which are allocated and claimed, and registers the
+    /// application of the far end. It answers the ports of both ends.
+    fn bind(&mut self, alloc: Global, fixed: &Fixed) -> Result<(Port, Port), AllocateError>
+        requires valid { valid self.old }
+        requires room { CanBind (seen self.old) fixed.now }
+        ensures valid { valid self.new }
+        ensures below { same_below self.old self.new }
+        ensures later { IsLater (seen self.old) (seen self.new) }
+        ensures does { Binds (seen self.old) fixed.now result (seen self.new) };
 
     /// Claims the oldest far end of an application at a node that nobody claimed yet.
     fn incoming(&mut self, fac: u16, node: Node, app: &AppName) -> Option<Port>
@@ -108,6 +144,7 @@ pub trait Facility {
 
     /// Lends the oldest SDU that was not passed yet. None exactly where there is none.
     fn peek(&self, port: Port) -> Option<Lent<'_>>
+        requires { valid self.now }
         ensures { MatchOption result (unpassed (seen self.now) port ≡ None)
             (λ l. IsLent (seen self.now) port l.at l.bytes.now) };
 
@@ -119,6 +156,14 @@ pub trait Facility {
         ensures below { same_below self.old self.new }
         ensures later { IsLater (seen self.old) (seen self.new) }
         ensures does { IsPassed (seen self.old) port (seen self.new) };
+
+    /// Gives up a port: a flow that is allocated is closed, and one that was asked for is withdrawn.
+    fn free(&mut self, alloc: Global, port: Port) -> Result<(), FreeError>
+        requires { valid self.old }
+        ensures valid { valid self.new }
+        ensures below { same_below self.old self.new }
+        ensures later { IsLater (seen self.old) (seen self.new) }
+        ensures does { Frees (frees_both self.old) (seen self.old) port result (seen self.new) };
 
     /// Nothing changes the ranks below by doing nothing.
     ghost same_refl: { (x : Self) → same_below x x };

@@ -14,13 +14,15 @@ use Rattle.rina_stack.specs.declared.plan.Plan.{Plan}
 use Rattle.rina_stack.specs.declared.error.StackError.{StackError}
 use Rattle.rina_stack.specs.declared.error.StackError.TheVariants as stack
 use Rattle.rina_stack.specs.Plan.{Reads}
-use Rattle.rina_iface.specs.declared.state.PortState.TheVariants.{Allocated, Failed}
+use Rattle.rina_iface.specs.declared.state.Fail.{Fail}
+use Rattle.rina_iface.specs.declared.state.Fail.TheVariants.{GaveUp, Below, Cut}
+use Rattle.rina_iface.specs.declared.state.PortState.TheVariants.{Failed}
 use Rattle.rina_iface.specs.Seen.{Fac}
 use Rattle.rina_iface.specs.Journal.{AreKept}
 use Rattle.rina_wire.proofs.Kept.{is_mapped}
 use Rattle.std.proofs.lemmas.Option.{slice_get-map}
 use Rattle.rina_wire.specs.Air.{Air, fac_of, seen_of, wire_at}
-use Rattle.rina_wire.specs.Sound.{IsSound}
+use Rattle.rina_wire.specs.Sound.{IsSound, IsWireState}
 use Rattle.rina_run.specs.declared.world.World.{World}
 use Rattle.rina_run.specs.declared.emit.Stop.{Stop}
 use Rattle.rina_run.specs.declared.emit.Stop.TheVariants as stops
@@ -31,7 +33,7 @@ use Rattle.rina_run.specs.Look.{Extends}
 use Rattle.rina_run.specs.Run.{Runs, StopsAt, RanFirst, RanPart, LinesRan, opening}
 use Rattle.rina_run.specs.Script.{Script, script_in}
 use Rattle.rina_run.specs.Written.{IsFront, Written}
-use Rattle.rina_run.specs.Top.{status_of, fault_at, fault_of, PlayOutcomes, RefusedBy, StackOutcomes, ScriptOutcomes, InputOutcomes, IsNothing, ClosedBy, IsEnding, EndedBy, RunOutcomes, is_whole, status_stopped, NoneFailed}
+use Rattle.rina_run.specs.Top.{status_of, fault_at, fault_of, PlayOutcomes, RefusedBy, StackOutcomes, ScriptOutcomes, InputOutcomes, IsNothing, ClosedBy, IsEnding, EndedBy, RunOutcomes, is_whole, status_stopped, FailedByCut, IsCutBy}
 use Rattle.rina_run.proofs.Texts.{wrote_all}
 
 pub wrote_nothing : (base : Option (List ℕ)) (ns : List Note) → ns ≡ [] → Appends base base (text_of ns)
@@ -185,15 +187,19 @@ pub kept_if : (tower : Option Air) → IfSome tower IsSound → IfSome tower (λ
 kept_if None s = s
 kept_if (Some a) s = s.kept
 
--- the ends of sound wires are all allocated
-allocated_all : (a : Air) → IsSound a → NoneFailed (seen_of a)
-allocated_all a s n f h i e at fail failed =
+-- a state of wires that has failed
+cut_by : (now : ℕ) (fail : Fail) → IsWireState now (Failed fail) → IsCutBy now fail
+cut_by now (GaveUp num first at) w = w
+cut_by now (Below port) w = w
+cut_by now (Cut at) w = w
+
+-- the ends of sound wires fail by cuts
+failed_all : (a : Air) → IsSound a → FailedByCut (seen_of a)
+failed_all a s n f h i e at fail failed =
     let w = is_mapped fac_of (wire_at a n) f (sym (slice_get-map fac_of a.wires n) ∙ h) in
     let at' : slice_get w.0.ends i ≡ Some e = subst (λ (g : Fac). slice_get g.ends i ≡ Some e) (sym w.2) at in
-    let is : e.state ≡ Allocated = ((s.flows n w.0 w.1).sound.each i e at').state in
-    let same : Allocated ≡ Failed fail = sym is ∙ failed in
-    cc
+    cut_by a.now fail (subst (IsWireState a.now) failed ((s.flows n w.0 w.1).sound.each i e at').state)
 
-pub none_failed : (tower : Option Air) → IfSome tower IsSound → IfSome tower (λ a. NoneFailed (seen_of a))
-none_failed None s = s
-none_failed (Some a) s = allocated_all a s
+pub failed_by_cut : (tower : Option Air) → IfSome tower IsSound → IfSome tower (λ a. FailedByCut (seen_of a))
+failed_by_cut None s = s
+failed_by_cut (Some a) s = failed_all a s

@@ -1,5 +1,5 @@
 -- The frames of whole runs.
-use Rattle.std.proofs.Common.{◌≡◌, ℕ, zero, suc, ◌+◌, nat_lt, Bool, true, false, List, [], ◌∷◌, ◌++◌, append_assoc, length, length-append, slice_get, take, Some, None, Option, Result, Ok, Err, refl, sym, ◌∙◌, ap, subst, arith}
+use Rattle.std.proofs.Common.{◌≡◌, ◌≢◌, ℕ, zero, suc, ◌+◌, nat_lt, Bool, true, false, List, [], ◌∷◌, ◌++◌, append_assoc, length, length-append, slice_get, take, Some, None, Option, Result, Ok, Err, refl, sym, ◌∙◌, ap, subst, arith}
 use Rattle.std.proofs.lemmas.List.{append-nil}
 use Rattle.rina_base.specs.declared.number.Port.{Port}
 use Rattle.rina_law.specs.declared.entry.Entry.{Entry}
@@ -11,17 +11,19 @@ use Rattle.rina_schedule.specs.declared.event.Event.TheVariants as events
 use Rattle.rina_stack.specs.declared.plan.Plan.{Plan}
 use Rattle.rina_wire.specs.declared.event.WireError.{WireError}
 use Rattle.rina_wire.specs.Air.{Air}
+use Rattle.rina_wire.specs.declared.flight.Flight.{Flight}
+use Rattle.rina_wire.specs.Cut.{CutsOn, MendsOn}
 use Rattle.rina_wire.specs.Disturb.{HoldsOn, LosesOn, RepeatsOn}
 use Rattle.rina_wire.specs.Send.{passed}
 use Rattle.rina_run.specs.declared.world.World.{World}
 use Rattle.rina_run.specs.declared.labels.Label.{Label}
 use Rattle.rina_run.specs.declared.site.Site.{Site}
 use Rattle.rina_run.specs.Built.{event_at}
-use Rattle.rina_run.specs.Frames.{FramesArriveOnce, IsSpared, Touches}
+use Rattle.rina_run.specs.Frames.{FramesArriveOnce, IsInFlight, IsOpenPort, IsSpared, Touches, copies_of}
 use Rattle.rina_run.specs.Run.{LineDoes, Runs, opening}
 use Rattle.rina_run.specs.Sites.{label_in, port_in, site_at}
-use Rattle.rina_run.specs.Step.{Acts, AtPort, AtSite, AtWire, CallsAllocate, CallsIncoming, CallsRegister, CallsSend, CallsWire, Passes, Reading, Ticking, Ticks, Unlabelled, asked, wire_of}
-use Rattle.rina_run.proofs.FramesCalls.{IsCarrying, carrying_start, keeps_allocates, keeps_claims, keeps_holds, keeps_loses, keeps_passed, keeps_registers, keeps_repeats, keeps_sends, keeps_tick}
+use Rattle.rina_run.specs.Step.{Acts, AtPort, AtSite, AtWire, CallsAllocate, CallsFree, CallsIncoming, CallsRegister, CallsSend, CallsUnregister, CallsWire, Passes, Reading, Showing, TellsState, Ticking, Ticks, Unlabelled, asked, wire_of}
+use Rattle.rina_run.proofs.FramesCalls.{IsCarrying, carrying_start, keeps_allocates, keeps_claims, keeps_cuts, keeps_frees, keeps_holds, keeps_loses, keeps_mends, keeps_passed, keeps_registers, keeps_repeats, keeps_sends, keeps_tick, keeps_unregisters}
 
 -- ---- words
 
@@ -62,6 +64,19 @@ ticking : (fac k : ℕ) (over : Bool) (plan : Plan) (line count : ℕ) (w : Worl
 ticking fac k true plan line count w ns w' h d = subst (Holds fac k) (sym d.1) h
 ticking fac k false plan line count w ns w' h d = ticks fac k plan line count w d.told w' h d.ticks
 
+-- a list that is not other than empty is empty
+is_empty : (fs : List Flight) → (fs ≢ [] → ⊥) → fs ≡ []
+is_empty [] h = refl
+is_empty (f ∷ fs) h = absurd (h (λ same. cc))
+
+freeing : (fac k : ℕ) (o : Option Port) (w : World) (says : Option Said) (w' : World) → (IsOpenPort o fac w × IsInFlight w fac k → ⊥) → Holds fac k w → AtPort o (CallsFree w) w says w' → Holds fac k w'
+freeing fac k None w says w' spared h d = subst (Holds fac k) (sym d.world) h
+freeing fac k (Some port) w says w' spared h d = keeps_frees fac k w.tower port d.result w'.tower (λ l same state at. is_empty (copies_of k l.flights) (λ flies. spared ((same, state), record { line = l; wire = at; flies = flies }))) h d.does
+
+showing : (fac k : ℕ) (plan : Plan) (line : ℕ) (o : Option ℕ) (w : World) (ns : List Note) (w' : World) → Holds fac k w → Showing plan line o w ns w' → Holds fac k w'
+showing fac k plan line None w ns w' h d = subst (Holds fac k) (sym d.1) h
+showing fac k plan line (Some n) w ns w' h d = subst (Holds fac k) (sym d.world) h
+
 acts : (fac k : ℕ) (plan : Plan) (line : ℕ) (event : Event) (w : World) (ns : List Note) (w' : World) → (Touches plan fac k w event → ⊥) → Holds fac k w → Acts plan line event w ns w' → Holds fac k w'
 acts fac k plan line (events.Register name node app) w ns w' spared h d = at_site fac k (site_at plan 1 name node) (CallsRegister app w) w d.says w' h d.does (λ site c. keeps_registers fac k w.tower site.fac site.node app c.result w'.tower h c.does)
 acts fac k plan line (events.Alloc label name node app to want) w ns w' spared h d =
@@ -76,6 +91,12 @@ acts fac k plan line (events.Tick count) w ns w' spared h d = ticking fac k (nat
 acts fac k plan line (events.Lose wire frame) w ns w' spared h d = at_wire fac k (wire_of plan wire) (λ n a r b. LosesOn a n frame r b) w d.says w' h d.does (λ n r is c. keeps_loses fac k w.tower n frame r w'.tower (λ same frame_is. spared (is ∙ ap (λ (m : ℕ). Some m) same, frame_is)) h c)
 acts fac k plan line (events.Repeat wire frame at) w ns w' spared h d = at_wire fac k (wire_of plan wire) (λ n a r b. RepeatsOn a n frame at r b) w d.says w' h d.does (λ n r is c. keeps_repeats fac k w.tower n frame at r w'.tower (λ same frame_is. spared (is ∙ ap (λ (m : ℕ). Some m) same, frame_is)) h c)
 acts fac k plan line (events.Hold wire frame at) w ns w' spared h d = at_wire fac k (wire_of plan wire) (λ n a r b. HoldsOn a n frame at r b) w d.says w' h d.does (λ n r is c. keeps_holds fac k w.tower n frame at r w'.tower (λ same frame_is. spared (is ∙ ap (λ (m : ℕ). Some m) same, frame_is)) h c)
+acts fac k plan line (events.Cut wire) w ns w' spared h d = at_wire fac k (wire_of plan wire) (λ n a r b. CutsOn a n r b) w d.says w' h d.does (λ n r is c. keeps_cuts fac k w.tower n r w'.tower (λ l same at. is_empty (copies_of k l.flights) (λ flies. spared (is ∙ ap (λ (m : ℕ). Some m) same, record { line = l; wire = at; flies = flies }))) h c)
+acts fac k plan line (events.Mend wire) w ns w' spared h d = at_wire fac k (wire_of plan wire) (λ n a r b. MendsOn a n r b) w d.says w' h d.does (λ n r is c. keeps_mends fac k w.tower n r w'.tower h c)
+acts fac k plan line (events.Unregister name node app) w ns w' spared h d = at_site fac k (site_at plan 1 name node) (CallsUnregister app w) w d.says w' h d.does (λ site c. keeps_unregisters fac k w.tower site.fac site.node app c.result w'.tower h c.does)
+acts fac k plan line (events.Free label) w ns w' spared h d = freeing fac k (port_in w.labels label) w d.says w' spared h d.does
+acts fac k plan line (events.State label) w ns w' spared h d = at_port fac k (port_in w.labels label) (TellsState plan w) w d.says w' h d.does (λ port c. subst (Holds fac k) (sym c.world) h)
+acts fac k plan line (events.Journal name) w ns w' spared h d = showing fac k plan line (wire_of plan name) w ns w' h d
 acts fac k plan line event w ns w' spared h d = absurd d
 
 -- ---- lines

@@ -13,20 +13,33 @@ use Rattle.rina_iface.specs.declared.error.AllocateError.{AllocateError}
 use Rattle.rina_iface.specs.declared.error.AllocateError.TheVariants as allocate
 use Rattle.rina_iface.specs.declared.error.SendError.{SendError}
 use Rattle.rina_iface.specs.declared.error.SendError.TheVariants as send
+use Rattle.rina_iface.specs.declared.error.FreeError.{FreeError}
+use Rattle.rina_iface.specs.declared.error.FreeError.TheVariants as frees
+use Rattle.rina_iface.specs.declared.error.UnregisterError.{UnregisterError}
+use Rattle.rina_iface.specs.declared.error.UnregisterError.TheVariants as unregister
 use Rattle.rina_iface.specs.declared.state.PortState.TheVariants.{Allocated}
 use Rattle.rina_iface.specs.Allocate.{asker_end, far_end, refused_in}
 use Rattle.rina_iface.specs.Ends.{with_passed, with_sent}
+use Rattle.rina_iface.specs.Free.{refused_end}
 use Rattle.rina_iface.specs.Register.{Registers}
+use Rattle.rina_iface.specs.Unregister.{Unregisters}
 use Rattle.rina_iface.specs.Seen.{Seen, unpassed}
 use Rattle.rina_iface.proofs.Changed.{all_at}
-use Rattle.rina_wire.specs.Air.{Air, Line, fac_of, seen_of, wire_at}
+use Rattle.rina_wire.specs.declared.event.WireError.{WireError}
+use Rattle.rina_wire.specs.Air.{Air, Line, end_at, fac_of, on_end, on_wire, seen_of, wire_at}
+use Rattle.rina_wire.specs.Cut.{CutsOn, cut_line}
+use Rattle.rina_wire.specs.Free.{FreesOn, freed_at}
+use Rattle.rina_wire.specs.Unregister.{UnregistersOn}
 use Rattle.rina_wire.specs.Allocate.{AllocatesOn, allocated, flow_made, flow_on, other_node, own_allocate_refusal, port_on}
 use Rattle.rina_wire.specs.Register.{RegistersOn}
 use Rattle.rina_wire.specs.Send.{SendsOn, passed}
 use Rattle.rina_wire.specs.Sound.{IsFarPlace, IsSound}
-use Rattle.rina_wire.proofs.Carried.{seen_passes, seen_sends}
+use Rattle.rina_wire.proofs.Carried.{has_line, seen_on_end, seen_passes, seen_sends}
+use Rattle.rina_wire.proofs.Left.{seen_unregisters}
+use Rattle.rina_wire.proofs.SoundCut.{cut_states}
+use Rattle.rina_wire.proofs.SoundFree.{freed_states}
 use Rattle.rina_wire.proofs.Seen.{fac_at, seen_on_wire, seen_registers}
-use Rattle.rina_run.proofs.LabelMoves.{Moves, at_port, moves_end, moves_ends, moves_same, none}
+use Rattle.rina_run.proofs.LabelMoves.{IsBlind, Moves, at_port, moves_end, moves_ends, moves_same, moves_states, none}
 use Rattle.rina_run.proofs.LabelMade.{IsGrown}
 
 -- ---- register
@@ -40,6 +53,43 @@ registers V s fac node app (Err (register.CountSpent n k)) s' g = moves_same V s
 
 pub moves_register : {X : Type 0} (V : End → List X) (a : Air) (fac node : ℕ) (app : List ℕ) (r : Result (Unit {0}) RegisterError) (a' : Air) → RegistersOn a fac node app r a' → Moves V none (seen_of a) (seen_of a')
 moves_register V a fac node app r a' g = registers V (seen_of a) fac node app r (seen_of a') (seen_registers a fac node app r a' g)
+
+-- ---- unregister
+
+unregisters : {X : Type 0} (V : End → List X) (s : Seen) (fac node : ℕ) (app : List ℕ) (r : Result (Unit {0}) UnregisterError) (s' : Seen) → Unregisters None s fac node app r s' → Moves V none s s'
+unregisters V s fac node app (Ok done) s' g = subst (Moves V none s) (sym g.1.new_is) (moves_ends V s fac g.1.facility _ g.1.stands refl refl)
+unregisters V s fac node app (Err unregister.Memory) s' g = moves_same V s s' g
+unregisters V s fac node app (Err unregister.NotThere) s' g = moves_same V s s' g.1
+unregisters V s fac node app (Err (unregister.CountSpent n k)) s' g = moves_same V s s' g.1
+
+pub moves_unregister : {X : Type 0} (V : End → List X) (a : Air) (fac node : ℕ) (app : List ℕ) (r : Result (Unit {0}) UnregisterError) (a' : Air) → UnregistersOn a fac node app r a' → Moves V none (seen_of a) (seen_of a')
+moves_unregister V a fac node app r a' g = unregisters V (seen_of a) fac node app r (seen_of a') (seen_unregisters a fac node app r a' g)
+
+-- ---- cut
+
+cut_moves : {X : Type 0} (V : End → List X) (a : Air) (wire : ℕ) (o : Option Line) → IsBlind V → wire_at a wire ≡ o → Moves V none (seen_of a) (seen_of (on_wire a wire (cut_line a.now)))
+cut_moves V a wire None blind h = rw h (moves_same V (seen_of a) (seen_of a) refl)
+cut_moves V a wire (Some l) blind h =
+    let states = cut_states a.now l in
+    subst (Moves V none (seen_of a)) (sym (seen_on_wire a wire (cut_line a.now) l h)) (moves_states V (seen_of a) wire (fac_of l) (fac_of (cut_line a.now l)) blind (fac_at a wire ∙ ap (option_map fac_of) h) states.was states.size states.waiting)
+
+pub moves_cut : {X : Type 0} (V : End → List X) (a : Air) (wire : ℕ) (r : Result (Unit {0}) WireError) (a' : Air) → IsBlind V → CutsOn a wire r a' → Moves V none (seen_of a) (seen_of a')
+moves_cut V a wire (Ok done) a' blind g = subst (λ (x : Air). Moves V none (seen_of a) (seen_of x)) (sym g.air) (cut_moves V a wire (wire_at a wire) blind refl)
+moves_cut V a wire (Err e) a' blind g = moves_same V (seen_of a) (seen_of a') (ap seen_of g.air)
+
+-- ---- free
+
+free_moves : {X : Type 0} (V : End → List X) (a : Air) (port : Port) (o : Option End) → IsBlind V → IsSound a → end_at a port ≡ o → refused_end o ≡ None → Moves V none (seen_of a) (seen_of (on_end a port freed_at))
+free_moves V a port None blind s h free = absurd (none-some frees.NoPort (sym free))
+free_moves V a port (Some e) blind s h free =
+    let on = has_line a port e h in
+    let states = freed_states a.now a.failed port.fac on.line on.at.place e (s.flows port.fac on.line on.wire) on.at.is in
+    subst (Moves V none (seen_of a)) (sym (seen_on_end a port freed_at e on)) (moves_states V (seen_of a) port.fac (fac_of on.line) (fac_of (freed_at on.line on.at.place e)) blind (fac_at a port.fac ∙ ap (option_map fac_of) on.wire) states.was states.size states.waiting)
+
+pub moves_free : {X : Type 0} (V : End → List X) (a : Air) (port : Port) (r : Result (Unit {0}) FreeError) (a' : Air) → IsBlind V → IsSound a → FreesOn a port r a' → Moves V none (seen_of a) (seen_of a')
+moves_free V a port (Ok done) a' blind s g = subst (λ (x : Air). Moves V none (seen_of a) (seen_of x)) (sym g.air) (free_moves V a port (end_at a port) blind s refl g.refused)
+moves_free V a port (Err frees.Memory) a' blind s g = moves_same V (seen_of a) (seen_of a') (ap seen_of g)
+moves_free V a port (Err frees.NoPort) a' blind s g = moves_same V (seen_of a) (seen_of a') (ap seen_of g.air)
 
 -- ---- send
 

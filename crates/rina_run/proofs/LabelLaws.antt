@@ -91,7 +91,7 @@ sends_other label bytes other ne = rw (differs label other (bytes_eq label other
 
 sent_telling : (lines : List (List ℕ)) → IsTelling lines sent_view (sent_by lines) (λ x. x ∷ []) (λ x. [])
 sent_telling lines = record {
-  view = record { ignores = λ e x fits. refl; fresh = λ e sent got. sent };
+  view = record { ignores = λ e x fits. refl; fresh = λ e sent got. sent; blind = λ e state. refl };
   state = λ name number tick label s. refl;
   refused = λ name number tick why. refl;
   nothing = λ name number tick. refl;
@@ -145,7 +145,7 @@ got_fresh e none = ap (map sdu_of) (take_none e.taken e.got none)
 
 got_telling : (lines : List (List ℕ)) → IsTelling lines got_view (got_by lines) (λ x. []) (λ x. sdu_of x ∷ [])
 got_telling lines = record {
-  view = record { ignores = λ e x fits. ap (map sdu_of) (take-append-le e.taken e.got (x ∷ []) fits); fresh = λ e sent got. got_fresh e got };
+  view = record { ignores = λ e x fits. ap (map sdu_of) (take-append-le e.taken e.got (x ∷ []) fits); fresh = λ e sent got. got_fresh e got; blind = λ e state. refl };
   state = λ name number tick label s. refl;
   refused = λ name number tick why. refl;
   nothing = λ name number tick. refl;

@@ -34,10 +34,10 @@ use Rattle.rina_run.specs.Labels.{event_by}
 use Rattle.rina_run.specs.Look.{label_notes, noted, same_drawn, state_at, state_notes}
 use Rattle.rina_run.specs.Run.{LineDoes, Runs}
 use Rattle.rina_run.specs.Sites.{port_in, site_at}
-use Rattle.rina_run.specs.Step.{Acts, AtPort, CallsSend, Passes, Reading, Steps, Ticking, Ticks, got_note, read_notes, wire_of}
+use Rattle.rina_run.specs.Step.{Acts, AtPort, CallsSend, Passes, Reading, Steps, Showing, Ticking, Ticks, end_notes, ends_in, entry_note, flow_note, got_note, journal_notes, read_notes, sent_note, wire_of}
 use Rattle.rina_run.proofs.LabelCalls.{moves_pass, moves_send, refused_send}
 use Rattle.rina_run.proofs.LabelMoves.{moves_same}
-use Rattle.rina_run.proofs.LabelWords.{IsView, Keeps, keeps_accept, keeps_allocate, keeps_at, keeps_hold, keeps_looked, keeps_lose, keeps_none, keeps_register, keeps_repeat, keeps_same, keeps_tick}
+use Rattle.rina_run.proofs.LabelWords.{IsView, Keeps, keeps_accept, keeps_allocate, keeps_at, keeps_cut, keeps_free, keeps_hold, keeps_looked, keeps_lose, keeps_mend, keeps_none, keeps_register, keeps_repeat, keeps_same, keeps_state, keeps_tick, keeps_unregister}
 
 -- nothing is told by a line of this number
 abbrev pub IsDumb : {X : Type 0} → (List ℕ → Note → List X) → ℕ → Type 0
@@ -189,6 +189,28 @@ ticking_keep lines V by sent got told plan number count w false ns w' t dumb p k
 quiet_says : {X : Type 0} (V : End → List X) (by : List ℕ → Note → List X) (told : List ℕ → List X) (number : ℕ) (says : Option Said) (ns : List Note) (w : World) → IsDumb by number → ns ≡ noted number w.tower.now says → Keeps V told w → Keeps V (after by told ns) w
 quiet_says V by told number says ns w dumb is k = after_quiet V by told ns w (λ name. ap (flat_map (by name)) is ∙ quiet_dumb by number w.tower.now says dumb name) k
 
+-- a journal tells nothing for a label
+quiet_map : {X : Type 0} (by : List ℕ → Note → List X) (number : ℕ) (note : Entry → Note) (xs : List Entry) → ((name : List ℕ) (x : Entry) → by name (note x) ≡ []) → IsQuiet by (map note xs)
+quiet_map by number note [] dumb name = refl
+quiet_map by number note (x ∷ xs) dumb name = quiet_append by (note x ∷ []) (map note xs) (λ n. ap (λ ys. ys ++ []) (dumb n x)) (quiet_map by number note xs dumb) name
+
+quiet_end : {X : Type 0} (by : List ℕ → Note → List X) (plan : Plan) (number tick : ℕ) (e : End) → IsDumb by number → IsQuiet by (end_notes plan number tick e)
+quiet_end by plan number tick e dumb =
+    quiet_append by (noted number tick (option_map said.Flow (flow_note plan e))) (map (sent_note number tick) e.sent ++ map (entry_note number tick) e.got) (quiet_dumb by number tick (option_map said.Flow (flow_note plan e)) dumb)
+    (quiet_append by (map (sent_note number tick) e.sent) (map (entry_note number tick) e.got) (quiet_map by number (sent_note number tick) e.sent (λ n x. dumb n tick (said.SentEntry x.tick x.num x.bytes))) (quiet_map by number (entry_note number tick) e.got (λ n x. dumb n tick (said.GotEntry x.tick x.num x.bytes))))
+
+quiet_ends : {X : Type 0} (by : List ℕ → Note → List X) (plan : Plan) (number tick : ℕ) (es : List End) → IsDumb by number → IsQuiet by (flat_map (end_notes plan number tick) es)
+quiet_ends by plan number tick [] dumb name = refl
+quiet_ends by plan number tick (e ∷ es) dumb name = quiet_append by (end_notes plan number tick e) (flat_map (end_notes plan number tick) es) (quiet_end by plan number tick e dumb) (quiet_ends by plan number tick es dumb) name
+
+quiet_journal : {X : Type 0} (by : List ℕ → Note → List X) (plan : Plan) (number tick : ℕ) (es : List End) → IsDumb by number → IsQuiet by (journal_notes plan number tick es)
+quiet_journal by plan number tick [] dumb = quiet_dumb by number tick (Some said.Nothing) dumb
+quiet_journal by plan number tick (e ∷ es) dumb = quiet_ends by plan number tick (e ∷ es) dumb
+
+showing_keep : {X : Type 0} (V : End → List X) (by : List ℕ → Note → List X) (told : List ℕ → List X) (plan : Plan) (number : ℕ) (found : Option ℕ) (w : World) (ns : List Note) (w' : World) → IsDumb by number → Showing plan number found w ns w' → Keeps V told w → Keeps V (after by told ns) w'
+showing_keep V by told plan number None w ns w' dumb d k = after_quiet V by told ns w' (λ name. ap (flat_map (by name)) d.0 ∙ quiet_dumb by number w.tower.now (Some (said.Refused (refusals.Unknown 1))) dumb name) (subst (Keeps V told) (sym d.1) k)
+showing_keep V by told plan number (Some n) w ns w' dumb d k = after_quiet V by told ns w' (λ name. ap (flat_map (by name)) d.notes ∙ quiet_journal by plan number w.tower.now (ends_in (seen_of w.tower) n) dumb name) (subst (Keeps V told) (sym d.world) k)
+
 acts_keep : {X : Type 0} (lines : List (List ℕ)) (V : End → List X) (by : List ℕ → Note → List X) (sent got : Entry → List X) (told : List ℕ → List X) (plan : Plan) (number : ℕ) (event : Event) (w : World) (ns : List Note) (w' : World)
     → IsTelling lines V by sent got → event_by lines number ≡ Some event → Acts plan number event w ns w' → Keeps V told w → Keeps V (after by told ns) w'
 acts_keep lines V by sent got told plan number (events.Register fac node app) w ns w' t is a k = quiet_says V by told number a.says ns w' (t.others number (events.Register fac node app) is tt) a.notes (keeps_register V told app w (site_at plan 1 fac node) a.says w' a.does k)
@@ -200,6 +222,12 @@ acts_keep lines V by sent got told plan number (events.Tick count) w ns w' t is 
 acts_keep lines V by sent got told plan number (events.Lose wire frame) w ns w' t is a k = quiet_says V by told number a.says ns w' (t.others number (events.Lose wire frame) is tt) a.notes (keeps_lose V told frame w (wire_of plan wire) a.says w' a.does k)
 acts_keep lines V by sent got told plan number (events.Repeat wire frame at) w ns w' t is a k = quiet_says V by told number a.says ns w' (t.others number (events.Repeat wire frame at) is tt) a.notes (keeps_repeat V told frame at w (wire_of plan wire) a.says w' a.does k)
 acts_keep lines V by sent got told plan number (events.Hold wire frame at) w ns w' t is a k = quiet_says V by told number a.says ns w' (t.others number (events.Hold wire frame at) is tt) a.notes (keeps_hold V told frame at w (wire_of plan wire) a.says w' a.does k)
+acts_keep lines V by sent got told plan number (events.Cut wire) w ns w' t is a k = quiet_says V by told number a.says ns w' (t.others number (events.Cut wire) is tt) a.notes (keeps_cut V told w (wire_of plan wire) a.says w' t.view a.does k)
+acts_keep lines V by sent got told plan number (events.Mend wire) w ns w' t is a k = quiet_says V by told number a.says ns w' (t.others number (events.Mend wire) is tt) a.notes (keeps_mend V told w (wire_of plan wire) a.says w' a.does k)
+acts_keep lines V by sent got told plan number (events.Unregister fac node app) w ns w' t is a k = quiet_says V by told number a.says ns w' (t.others number (events.Unregister fac node app) is tt) a.notes (keeps_unregister V told app w (site_at plan 1 fac node) a.says w' a.does k)
+acts_keep lines V by sent got told plan number (events.Free label) w ns w' t is a k = quiet_says V by told number a.says ns w' (t.others number (events.Free label) is tt) a.notes (keeps_free V told w (port_in w.labels label) a.says w' t.view a.does k)
+acts_keep lines V by sent got told plan number (events.State label) w ns w' t is a k = quiet_says V by told number a.says ns w' (t.others number (events.State label) is tt) a.notes (keeps_state V told plan w (port_in w.labels label) a.says w' a.does k)
+acts_keep lines V by sent got told plan number (events.Journal fac) w ns w' t is a k = showing_keep V by told plan number (wire_of plan fac) w ns w' (t.others number (events.Journal fac) is tt) a k
 acts_keep lines V by sent got told plan number event w ns w' t is a k = absurd a
 
 -- ---- lines

@@ -1,10 +1,12 @@
 -- What the calls do to the ends of all facilities, by a view of their journals.
-use Rattle.std.proofs.Common.{◌≡◌, ◌≢◌, ℕ, cond, List, [], ◌++◌, slice_get, slice_set, Some, refl, sym, ◌∙◌, ap, inl, inr}
+use Rattle.std.proofs.Common.{◌≡◌, ◌≢◌, ℕ, cond, List, [], ◌++◌, get_or, length, slice_get, slice_set, subst, arith, Some, refl, sym, ◌∙◌, ap, inl, inr}
 use Rattle.std.proofs.lemmas.List.{append-nil}
-use Rattle.std.proofs.lemmas.Option.{same_Some}
+use Rattle.std.proofs.lemmas.Option.{same_Some, slice_get-get_or, slice_get_within}
 use Rattle.rina_base.specs.declared.number.Port.{Port}
 use Rattle.rina_iface.specs.declared.ends.End.{End}
+use Rattle.rina_iface.specs.declared.state.PortState.{PortState}
 use Rattle.rina_iface.specs.Journal.{AreKept}
+use Rattle.rina_iface.specs.State.{with_state}
 use Rattle.rina_iface.specs.Seen.{Fac, Seen, Stands, with_fac, with_end}
 use Rattle.rina_iface.proofs.Changed.{set_at, slice_get-set_same, slice_get-set_other}
 use Rattle.rina_run.specs.Look.{same_port}
@@ -115,3 +117,38 @@ moves_end V s port f i e e' xs kept st same view =
         | inr o ↦ record { facility = x.facility; stands = o.1; is = x.is }
       ];
     }
+
+-- ---- only states changed
+
+-- a view that does not show the state
+abbrev pub IsBlind : {X : Type 0} → (End → List X) → Type 0
+IsBlind V = (e : End) (state : PortState) → V (with_state e state) ≡ V e
+
+restated_on : {X : Type 0} (V : End → List X) (e e' : End) → IsBlind V → e' ≡ with_state e e'.state → IsOn V none e e'
+restated_on V e e' blind is = record { port = ap (λ (z : End). z.port) is; view = ap V is ∙ blind e e'.state ∙ sym (append-nil (V e)) }
+
+-- the ends of one facility changed their states, and nobody waits more or less
+pub moves_states : {X : Type 0} (V : End → List X) (s : Seen) (n : ℕ) (f f' : Fac) → IsBlind V → slice_get s.facs n ≡ Some f → ((i : ℕ) (e' : End) → slice_get f'.ends i ≡ Some e' → (e : End) × (slice_get f.ends i ≡ Some e) × (e' ≡ with_state e e'.state)) → length f'.ends ≡ length f.ends → f'.waiting ≡ f.waiting → Moves V none s (with_fac s n f')
+moves_states V s n f f' blind h was size waiting = record {
+  on = λ m i e x. elim (number_tells m n) [
+    | inl t ↦
+        let there : slice_get f.ends i ≡ Some e = rw (same_Some x.facility f (sym x.stands ∙ rw t h)) at x.is in
+        let now : slice_get f'.ends i ≡ Some (get_or f'.ends i e) = slice_get-get_or f'.ends i e (omega (arith, size, slice_get_within f.ends i e there)) in
+        let w = was i (get_or f'.ends i e) now in
+        let same : w.0 ≡ e = same_Some w.0 e (sym w.1 ∙ there) in
+        let is : get_or f'.ends i e ≡ with_state e (get_or f'.ends i e).state = subst (λ (z : End). get_or f'.ends i e ≡ with_state z (get_or f'.ends i e).state) same w.2 in
+        (get_or f'.ends i e, record { facility = f'; stands = rw t (slice_get-set_same s.facs n f f' h); is = now }, restated_on V e (get_or f'.ends i e) blind is)
+    | inr o ↦ (e, record { facility = x.facility; stands = slice_get-set_other s.facs n m f' o ∙ x.stands; is = x.is }, stays V e)
+  ];
+  from = λ m i e' x. elim (set_at s.facs n m f f' x.facility h x.stands) [
+    | inl t ↦
+        let now : slice_get f'.ends i ≡ Some e' = rw t.1 at x.is in
+        let w = was i e' now in
+        (w.0, record { facility = f; stands = rw t.0 h; is = w.1 }, restated_on V w.0 e' blind w.2)
+    | inr o ↦ (e', record { facility = x.facility; stands = o.1; is = x.is }, stays V e')
+  ];
+  waits = λ m at place x. elim (set_at s.facs n m f f' x.facility h x.stands) [
+    | inl t ↦ record { facility = f; stands = rw t.0 h; is = rw (sym waiting) (rw t.1 at x.is) }
+    | inr o ↦ record { facility = x.facility; stands = o.1; is = x.is }
+  ];
+}

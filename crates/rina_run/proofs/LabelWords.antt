@@ -15,6 +15,7 @@ use Rattle.rina_stack.specs.declared.plan.Plan.{Plan}
 use Rattle.rina_wire.specs.Air.{Air, seen_of}
 use Rattle.rina_wire.specs.Allocate.{AllocatesOn}
 use Rattle.rina_wire.specs.declared.event.WireError.{WireError}
+use Rattle.rina_wire.specs.Cut.{CutsOn, MendsOn}
 use Rattle.rina_wire.specs.Disturb.{HoldsOn, LosesOn, RepeatsOn}
 use Rattle.rina_wire.specs.Sound.{IsSound}
 use Rattle.rina_wire.proofs.Claims.{seen_claims}
@@ -22,19 +23,21 @@ use Rattle.rina_wire.proofs.Kept.{is_mapped}
 use Rattle.rina_wire.proofs.Sound.{sound_claims}
 use Rattle.rina_wire.proofs.SoundAllocate.{sound_allocates}
 use Rattle.rina_wire.proofs.SoundDisturb.{holds_unseen, loses_unseen, repeats_unseen, sound_holds, sound_loses, sound_repeats}
-use Rattle.rina_wire.proofs.SoundRegister.{sound_registers}
+use Rattle.rina_wire.proofs.SoundCut.{mends_unseen, sound_cuts, sound_mends}
+use Rattle.rina_wire.proofs.SoundFree.{sound_frees}
+use Rattle.rina_wire.proofs.SoundRegister.{sound_registers, sound_unregisters}
 use Rattle.rina_wire.proofs.SoundTick.{sound_ticks}
 use Rattle.rina_run.specs.declared.labels.Label.{Label}
 use Rattle.rina_run.specs.declared.site.Site.{Site}
 use Rattle.rina_run.specs.declared.world.World.{World}
 use Rattle.rina_run.specs.Look.{looked}
 use Rattle.rina_run.specs.Sites.{label_in, port_in}
-use Rattle.rina_run.specs.Step.{AtSite, AtWire, CallsAllocate, CallsIncoming, CallsRegister, CallsWire, TicksOnce, Unlabelled, asked, label_of}
-use Rattle.rina_run.proofs.LabelCalls.{flow_of, moves_register, refused_allocate}
+use Rattle.rina_run.specs.Step.{AtPort, AtSite, AtWire, CallsAllocate, CallsFree, CallsIncoming, CallsRegister, CallsUnregister, CallsWire, TellsState, TicksOnce, Unlabelled, asked, label_of}
+use Rattle.rina_run.proofs.LabelCalls.{flow_of, moves_cut, moves_free, moves_register, moves_unregister, refused_allocate}
 use Rattle.rina_run.proofs.LabelClaimed.{named_claimed, tells_claimed}
 use Rattle.rina_run.proofs.LabelGiven.{found_of, unknown_of}
 use Rattle.rina_run.proofs.LabelMade.{named_grown, tells_grown}
-use Rattle.rina_run.proofs.LabelMoves.{Moves, at_other, at_port, at_same, moves_same, none}
+use Rattle.rina_run.proofs.LabelMoves.{IsBlind, Moves, at_other, at_port, at_same, moves_same, none}
 use Rattle.rina_run.proofs.LabelTells.{AreNamed, IsUnknown, Tells, named_looked, named_moves, tells_looked, tells_moves, tells_same}
 use Rattle.rina_run.proofs.LabelTicks.{Ignores, moves_tick}
 
@@ -48,6 +51,7 @@ pub record Keeps {X : Type 0} (V : End → List X) (told : List ℕ → List X) 
 pub record IsView {X : Type 0} (V : End → List X) : Type 0 where
   pub ignores : Ignores V
   pub fresh : (e : End) → e.sent ≡ [] → e.got ≡ [] → V e ≡ []
+  pub blind : IsBlind V
 
 pub keeps_same : {X : Type 0} (V : End → List X) (told told' : List ℕ → List X) (w : World) → ((name : List ℕ) → told' name ≡ told name) → Keeps V told w → Keeps V told' w
 keeps_same V told told' w same k = record { sound = k.sound; named = k.named; tells = tells_same V told told' (seen_of w.tower) w.labels same k.tells }
@@ -162,6 +166,26 @@ keeps_repeat V told frame at w found says w' c k = keeps_wire V told (λ n a r a
 
 pub keeps_hold : {X : Type 0} (V : End → List X) (told : List ℕ → List X) (frame at : ℕ) (w : World) (found : Option ℕ) (says : Option Said) (w' : World) → AtWire found (λ n. CallsWire (λ a r a'. HoldsOn a n frame at r a') w) w says w' → Keeps V told w → Keeps V told w'
 keeps_hold V told frame at w found says w' c k = keeps_wire V told (λ n a r a'. HoldsOn a n frame at r a') w found says w' (λ n r does. (sound_holds w.tower n frame at r w'.tower k.sound does, moves_same V (seen_of w.tower) (seen_of w'.tower) (holds_unseen w.tower n frame at r w'.tower does))) c k
+
+pub keeps_cut : {X : Type 0} (V : End → List X) (told : List ℕ → List X) (w : World) (found : Option ℕ) (says : Option Said) (w' : World) → IsView V → AtWire found (λ n. CallsWire (λ a r a'. CutsOn a n r a') w) w says w' → Keeps V told w → Keeps V told w'
+keeps_cut V told w found says w' view c k = keeps_wire V told (λ n a r a'. CutsOn a n r a') w found says w' (λ n r does. (sound_cuts w.tower n r w'.tower k.sound does, moves_cut V w.tower n r w'.tower view.blind does)) c k
+
+pub keeps_mend : {X : Type 0} (V : End → List X) (told : List ℕ → List X) (w : World) (found : Option ℕ) (says : Option Said) (w' : World) → AtWire found (λ n. CallsWire (λ a r a'. MendsOn a n r a') w) w says w' → Keeps V told w → Keeps V told w'
+keeps_mend V told w found says w' c k = keeps_wire V told (λ n a r a'. MendsOn a n r a') w found says w' (λ n r does. (sound_mends w.tower n r w'.tower k.sound does, moves_same V (seen_of w.tower) (seen_of w'.tower) (mends_unseen w.tower n r w'.tower does))) c k
+
+-- ---- unregister, free and state
+
+pub keeps_unregister : {X : Type 0} (V : End → List X) (told : List ℕ → List X) (app : List ℕ) (w : World) (found : Result Site ℕ) (says : Option Said) (w' : World) → AtSite found (CallsUnregister app w) w says w' → Keeps V told w → Keeps V told w'
+keeps_unregister V told app w (Err field) says w' c k = subst (Keeps V told) (sym c.world) k
+keeps_unregister V told app w (Ok site) says w' c k = subst (Keeps V told) (sym (world_is w' w.labels c.labels)) (keeps_none V told w w'.tower (sound_unregisters w.tower site.fac site.node app c.result w'.tower k.sound c.does) (moves_unregister V w.tower site.fac site.node app c.result w'.tower c.does) k)
+
+pub keeps_free : {X : Type 0} (V : End → List X) (told : List ℕ → List X) (w : World) (found : Option Port) (says : Option Said) (w' : World) → IsView V → AtPort found (CallsFree w) w says w' → Keeps V told w → Keeps V told w'
+keeps_free V told w None says w' view c k = subst (Keeps V told) (sym c.world) k
+keeps_free V told w (Some port) says w' view c k = subst (Keeps V told) (sym (world_is w' w.labels c.labels)) (keeps_none V told w w'.tower (sound_frees w.tower port c.result w'.tower k.sound c.does) (moves_free V w.tower port c.result w'.tower view.blind k.sound c.does) k)
+
+pub keeps_state : {X : Type 0} (V : End → List X) (told : List ℕ → List X) (plan : Plan) (w : World) (found : Option Port) (says : Option Said) (w' : World) → AtPort found (TellsState plan w) w says w' → Keeps V told w → Keeps V told w'
+keeps_state V told plan w None says w' c k = subst (Keeps V told) (sym c.world) k
+keeps_state V told plan w (Some port) says w' c k = subst (Keeps V told) (sym c.world) k
 
 -- ---- at one label
 

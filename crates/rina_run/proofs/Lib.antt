@@ -22,3 +22,4 @@ pub mod LabelCalls
 pub mod LabelWords
 pub mod LabelLines
 pub mod LabelLaws
+pub mod Telling

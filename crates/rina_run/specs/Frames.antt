@@ -1,6 +1,8 @@
 -- What becomes of the frames of a run: each that no event touched arrives once, when the delay of its wire has gone by.
-use Rattle.std.specs.Prelude.{◌≡◌, ℕ, ◌+◌, ◌<◌, ◌≤◌, ◌==◌, List, [], ◌∷◌, filter, take, slice_get, Some, Ok}
+use Rattle.std.specs.Prelude.{◌≡◌, ◌≢◌, ℕ, ◌+◌, ◌<◌, ◌≤◌, ◌==◌, List, [], ◌∷◌, filter, take, slice_get, Option, Some, None, Ok}
 use Rattle.rina_base.specs.declared.number.Num.{Num}
+use Rattle.rina_base.specs.declared.number.Port.{Port}
+use Rattle.rina_iface.specs.declared.state.PortState.TheVariants.{Allocated}
 use Rattle.rina_law.specs.declared.entry.Entry.{Entry}
 use Rattle.rina_iface.specs.declared.ends.End.{End}
 use Rattle.rina_iface.specs.Journal.{At}
@@ -14,8 +16,9 @@ use Rattle.rina_wire.specs.Send.{mate}
 use Rattle.rina_wire.specs.declared.flight.Flight.{Flight}
 use Rattle.rina_run.specs.declared.world.World.{World}
 use Rattle.rina_run.specs.Built.{event_at}
-use Rattle.rina_run.specs.Look.{same_num}
+use Rattle.rina_run.specs.Look.{same_num, state_at}
 use Rattle.rina_run.specs.Run.{Runs, opening}
+use Rattle.rina_run.specs.Sites.{port_in}
 use Rattle.rina_run.specs.Step.{wire_of}
 
 -- the entries of this number, in their order
@@ -43,11 +46,24 @@ pub record IsCarried (now : ℕ) (l : Line) (i : ℕ) (frame : Entry) : Type 0 w
   pub flies : now < frame.tick + l.delay → FliesOnce l.delay (mate i) frame l.flights
   pub not_come : now < frame.tick + l.delay → of_number frame.num other.got ≡ []
 
--- what is done in this world touches frame `frame` of wire `fac`: an event of that wire names the frame
+-- a copy of the frame is in flight
+pub record IsInFlight (w : World) (fac frame : ℕ) : Type 0 where
+  pub line : Line
+  pub wire : wire_at w.tower fac ≡ Some line
+  pub flies : copies_of frame line.flights ≢ []
+
+-- the port is one of this wire, and allocated
+abbrev pub IsOpenPort : Option Port → ℕ → World → Type 0
+IsOpenPort None fac w = ⊥
+IsOpenPort (Some port) fac w = (port.fac ≡ fac) × (state_at w.tower port ≡ Some Allocated)
+
+-- what is done in this world touches frame `frame` of wire `fac`: an event of that wire names the frame, or while it is in flight the wire is cut, or the flow that it carries is freed
 abbrev pub Touches : Plan → ℕ → ℕ → World → Event → Type 0
 Touches plan fac frame w (events.Lose wire k) = (wire_of plan wire ≡ Some fac) × (k ≡ frame)
 Touches plan fac frame w (events.Repeat wire k at) = (wire_of plan wire ≡ Some fac) × (k ≡ frame)
 Touches plan fac frame w (events.Hold wire k at) = (wire_of plan wire ≡ Some fac) × (k ≡ frame)
+Touches plan fac frame w (events.Cut wire) = (wire_of plan wire ≡ Some fac) × IsInFlight w fac frame
+Touches plan fac frame w (events.Free label) = IsOpenPort (port_in w.labels label) fac w × IsInFlight w fac frame
 Touches plan fac frame w event = ⊥
 
 -- no line touches the frame in the world to which the lines before it led

@@ -1,18 +1,23 @@
 -- What each line of a schedule does to the tower and the labels, and which notes it gives.
-use Rattle.std.specs.Prelude.{◌≡◌, ℕ, ◌+◌, zero, suc, nat_lt, Bool, true, false, List, [], ◌∷◌, ◌++◌, map, Option, Some, None, Result, Ok, Err, option_map}
+use Rattle.std.specs.Prelude.{◌≡◌, ℕ, ◌+◌, zero, suc, nat_lt, Bool, true, false, List, [], ◌∷◌, ◌++◌, map, slice_get, Option, Some, None, Result, Ok, Err, option_and_then, option_map}
+use Rattle.std.specs.List.{flat_map}
 use Rattle.rina_base.specs.declared.number.Num.{Num}
 use Rattle.rina_base.specs.declared.number.Port.{Port}
 use Rattle.rina_cube.specs.declared.Want.{Want}
 use Rattle.rina_law.specs.declared.entry.Entry.{Entry}
 use Rattle.rina_iface.specs.declared.ask.Ask.{Ask}
 use Rattle.rina_iface.specs.declared.error.RegisterError.{RegisterError}
+use Rattle.rina_iface.specs.declared.error.UnregisterError.{UnregisterError}
+use Rattle.rina_iface.specs.declared.error.FreeError.{FreeError}
 use Rattle.rina_iface.specs.declared.error.AllocateError.{AllocateError}
 use Rattle.rina_iface.specs.declared.error.SendError.{SendError}
-use Rattle.rina_iface.specs.Seen.{unpassed}
+use Rattle.rina_iface.specs.declared.ends.End.{End}
+use Rattle.rina_iface.specs.Seen.{Fac, Seen, unpassed}
 use Rattle.rina_report.specs.declared.note.Note.{Note}
 use Rattle.rina_report.specs.declared.note.Note.TheVariants as notes
 use Rattle.rina_report.specs.declared.refusal.Refusal.{Refusal}
 use Rattle.rina_report.specs.declared.refusal.Refusal.TheVariants as refusals
+use Rattle.rina_report.specs.declared.said.FlowNote.{FlowNote}
 use Rattle.rina_report.specs.declared.said.Said.{Said}
 use Rattle.rina_report.specs.declared.said.Said.TheVariants as said
 use Rattle.rina_schedule.specs.declared.event.Event.{Event}
@@ -22,17 +27,20 @@ use Rattle.rina_stack.specs.Plan.{names_of}
 use Rattle.rina_stack.specs.Rules.{place_in}
 use Rattle.rina_wire.specs.declared.event.WireError.{WireError}
 use Rattle.rina_wire.specs.Air.{Air, seen_of}
+use Rattle.rina_wire.specs.Free.{FreesOn}
 use Rattle.rina_wire.specs.Register.{RegistersOn}
 use Rattle.rina_wire.specs.Allocate.{AllocatesOn}
 use Rattle.rina_wire.specs.Claim.{ClaimsOn}
+use Rattle.rina_wire.specs.Cut.{CutsOn, MendsOn}
 use Rattle.rina_wire.specs.Disturb.{HoldsOn, LosesOn, RepeatsOn}
 use Rattle.rina_wire.specs.Send.{SendsOn, passed}
 use Rattle.rina_wire.specs.Tick.{TicksOn}
+use Rattle.rina_wire.specs.Unregister.{UnregistersOn}
 use Rattle.rina_run.specs.declared.world.World.{World}
 use Rattle.rina_run.specs.declared.labels.Label.{Label}
 use Rattle.rina_run.specs.declared.site.Site.{Site}
 use Rattle.rina_run.specs.Sites.{site_at, label_in, port_in}
-use Rattle.rina_run.specs.Told.{answer_told, register_told, allocate_told, send_told, wire_told, drawn_told}
+use Rattle.rina_run.specs.Told.{answer_told, register_told, unregister_told, free_told, allocate_told, send_told, wire_told, drawn_told, port_told, state_told}
 use Rattle.rina_run.specs.Look.{state_at, noted, state_notes, looked}
 
 -- the line was refused before any call, and nothing changed
@@ -70,6 +78,17 @@ pub record CallsRegister (app : List ℕ) (w : World) (site : Site) (says : Opti
 
 abbrev pub Registering : Plan → List ℕ → List ℕ → List ℕ → World → Option Said → World → Type 0
 Registering plan fac node app w says w' = AtSite (site_at plan 1 fac node) (CallsRegister app w) w says w'
+
+-- ---- unregister FAC NODE APP
+
+pub record CallsUnregister (app : List ℕ) (w : World) (site : Site) (says : Option Said) (w' : World) : Type 0 where
+  pub result : Result (Unit {0}) UnregisterError
+  pub does : UnregistersOn w.tower site.fac site.node app result w'.tower
+  pub labels : w'.labels ≡ w.labels
+  pub told : says ≡ answer_told (λ done. Some said.Done) unregister_told result
+
+abbrev pub Unregistering : Plan → List ℕ → List ℕ → List ℕ → World → Option Said → World → Type 0
+Unregistering plan fac node app w says w' = AtSite (site_at plan 1 fac node) (CallsUnregister app w) w says w'
 
 -- ---- alloc LABEL FAC NODE APP TO
 
@@ -187,7 +206,28 @@ abbrev pub Ticking : Bool → Plan → ℕ → ℕ → World → List Note → W
 Ticking true plan line count w ns w' = (ns ≡ noted line w.tower.now (Some (said.Refused refusals.ClockSpent))) × (w' ≡ w)
 Ticking false plan line count w ns w' = AllTicks plan line count w ns w'
 
--- ---- lose WIRE K, repeat WIRE K TICK, hold WIRE K TICK
+-- ---- free LABEL
+
+pub record CallsFree (w : World) (port : Port) (says : Option Said) (w' : World) : Type 0 where
+  pub result : Result (Unit {0}) FreeError
+  pub does : FreesOn w.tower port result w'.tower
+  pub labels : w'.labels ≡ w.labels
+  pub told : says ≡ answer_told (λ done. Some said.Done) free_told result
+
+abbrev pub Freeing : List ℕ → World → Option Said → World → Type 0
+Freeing label w says w' = AtPort (port_in w.labels label) (CallsFree w) w says w'
+
+-- ---- state LABEL
+
+-- the state of the port was told; it was told before too, by the line that changed it
+pub record TellsState (plan : Plan) (w : World) (port : Port) (says : Option Said) (w' : World) : Type 0 where
+  pub told : says ≡ port_said plan w.tower port
+  pub world : w' ≡ w
+
+abbrev pub Stating : Plan → List ℕ → World → Option Said → World → Type 0
+Stating plan label w says w' = AtPort (port_in w.labels label) (TellsState plan w) w says w'
+
+-- ---- lose WIRE K, repeat WIRE K TICK, hold WIRE K TICK, cut WIRE, mend WIRE
 
 -- the number of the wire of that name
 abbrev pub wire_of : Plan → List ℕ → Option ℕ
@@ -209,6 +249,50 @@ Repeating plan wire frame at w says w' = AtWire (wire_of plan wire) (λ n. Calls
 abbrev pub Holding : Plan → List ℕ → ℕ → ℕ → World → Option Said → World → Type 0
 Holding plan wire frame at w says w' = AtWire (wire_of plan wire) (λ n. CallsWire (λ a r a'. HoldsOn a n frame at r a') w) w says w'
 
+abbrev pub Cutting : Plan → List ℕ → World → Option Said → World → Type 0
+Cutting plan wire w says w' = AtWire (wire_of plan wire) (λ n. CallsWire (λ a r a'. CutsOn a n r a') w) w says w'
+
+abbrev pub Mending : Plan → List ℕ → World → Option Said → World → Type 0
+Mending plan wire w says w' = AtWire (wire_of plan wire) (λ n. CallsWire (λ a r a'. MendsOn a n r a') w) w says w'
+
+-- ---- journal FAC
+
+-- one end, as it is shown; nothing where the stack does not name its port
+abbrev pub flow_note : Plan → End → Option FlowNote
+flow_note plan e = option_and_then (λ port. option_map (λ state. record { flow = e.flow; role = e.role; port = port; app = e.app; peer = e.peer; cube = e.cube; taken = e.taken; state = state }) (state_told plan e.state)) (port_told plan e.port)
+
+abbrev pub sent_note : ℕ → ℕ → Entry → Note
+sent_note line tick x = notes.Line line tick (said.SentEntry x.tick x.num x.bytes)
+
+abbrev pub entry_note : ℕ → ℕ → Entry → Note
+entry_note line tick x = notes.Line line tick (said.GotEntry x.tick x.num x.bytes)
+
+-- an end, then what it sent, and then what it got
+abbrev pub end_notes : Plan → ℕ → ℕ → End → List Note
+end_notes plan line tick e = noted line tick (option_map said.Flow (flow_note plan e)) ++ (map (sent_note line tick) e.sent ++ map (entry_note line tick) e.got)
+
+-- all ends of a facility, in the order in which they were made
+abbrev pub journal_notes : Plan → ℕ → ℕ → List End → List Note
+journal_notes plan line tick [] = noted line tick (Some said.Nothing)
+journal_notes plan line tick (e ∷ es) = flat_map (end_notes plan line tick) (e ∷ es)
+
+abbrev pub or_none : Option (List End) → List End
+or_none None = []
+or_none (Some ends) = ends
+
+-- the ends of the facility of this number
+abbrev pub ends_in : Seen → ℕ → List End
+ends_in s n = or_none (option_map (λ (f : Fac). f.ends) (slice_get s.facs n))
+
+-- the journal was shown, and nothing changed
+pub record ShowsJournal (plan : Plan) (line : ℕ) (w : World) (n : ℕ) (ns : List Note) (w' : World) : Type 0 where
+  pub world : w' ≡ w
+  pub notes : ns ≡ journal_notes plan line w.tower.now (ends_in (seen_of w.tower) n)
+
+abbrev pub Showing : Plan → ℕ → Option ℕ → World → List Note → World → Type 0
+Showing plan line None w ns w' = (ns ≡ noted line w.tower.now (Some (said.Refused (refusals.Unknown 1)))) × (w' ≡ w)
+Showing plan line (Some n) w ns w' = ShowsJournal plan line w n ns w'
+
 -- ---- all words
 
 -- a word that says one thing
@@ -228,6 +312,12 @@ Acts plan line (events.Tick count) w ns w' = Ticking (nat_lt 10000000 (w.tower.n
 Acts plan line (events.Lose wire frame) w ns w' = Says line (Losing plan wire frame w) ns w'
 Acts plan line (events.Repeat wire frame at) w ns w' = Says line (Repeating plan wire frame at w) ns w'
 Acts plan line (events.Hold wire frame at) w ns w' = Says line (Holding plan wire frame at w) ns w'
+Acts plan line (events.Cut wire) w ns w' = Says line (Cutting plan wire w) ns w'
+Acts plan line (events.Mend wire) w ns w' = Says line (Mending plan wire w) ns w'
+Acts plan line (events.Unregister fac node app) w ns w' = Says line (Unregistering plan fac node app w) ns w'
+Acts plan line (events.Free label) w ns w' = Says line (Freeing label w) ns w'
+Acts plan line (events.State label) w ns w' = Says line (Stating plan label w) ns w'
+Acts plan line (events.Journal fac) w ns w' = Showing plan line (wire_of plan fac) w ns w'
 Acts plan line event w ns w' = ⊥
 
 -- a line: what its word does and answers, and then the states of the labels that changed

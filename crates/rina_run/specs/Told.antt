@@ -7,6 +7,10 @@ use Rattle.rina_iface.specs.declared.state.Fail.{Fail}
 use Rattle.rina_iface.specs.declared.state.Fail.TheVariants as fails
 use Rattle.rina_iface.specs.declared.error.RegisterError.{RegisterError}
 use Rattle.rina_iface.specs.declared.error.RegisterError.TheVariants as register
+use Rattle.rina_iface.specs.declared.error.UnregisterError.{UnregisterError}
+use Rattle.rina_iface.specs.declared.error.UnregisterError.TheVariants as unregister
+use Rattle.rina_iface.specs.declared.error.FreeError.{FreeError}
+use Rattle.rina_iface.specs.declared.error.FreeError.TheVariants as free
 use Rattle.rina_iface.specs.declared.error.AllocateError.{AllocateError}
 use Rattle.rina_iface.specs.declared.error.AllocateError.TheVariants as allocate
 use Rattle.rina_iface.specs.declared.error.SendError.{SendError}
@@ -55,6 +59,17 @@ register_told register.Memory = None
 register_told register.Already = Some refusals.Already
 register_told register.NoMember = Some refusals.NoMember
 register_told (register.CountSpent need left) = Some (refusals.CountSpent need left)
+
+-- what `unregister` refused
+abbrev pub unregister_told : UnregisterError → Option Refusal
+unregister_told unregister.Memory = None
+unregister_told unregister.NotThere = Some refusals.NotThere
+unregister_told (unregister.CountSpent need left) = Some (refusals.CountSpent need left)
+
+-- what `free` refused
+abbrev pub free_told : FreeError → Option Refusal
+free_told free.Memory = None
+free_told free.NoPort = Some refusals.NoPort
 
 -- what `allocate` refused at a facility and a node of these names
 abbrev pub allocate_told : List ℕ → List ℕ → AllocateError → Option Refusal

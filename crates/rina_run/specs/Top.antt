@@ -1,8 +1,9 @@
 -- What a run came to: the status, the notes and the tower, by what was read.
-use Rattle.std.specs.Prelude.{◌≡◌, ◌≢◌, slice_get, ℕ, ◌<◌, ◌≤◌, Bool, true, false, List, [], ◌∷◌, ◌++◌, length, take, Option, Some, None, Ok, Err, ◌⊎◌}
+use Rattle.std.specs.Prelude.{◌≡◌, slice_get, ℕ, ◌<◌, ◌≤◌, Bool, true, false, List, [], ◌∷◌, ◌++◌, length, take, Option, Some, None, Ok, Err, ◌⊎◌}
 use Rattle.std.specs.Io.KnownBytes.{Consumes, IsAtEnd}
 use Rattle.rina_iface.specs.declared.ends.End.{End}
 use Rattle.rina_iface.specs.declared.state.Fail.{Fail}
+use Rattle.rina_iface.specs.declared.state.Fail.TheVariants.{Cut}
 use Rattle.rina_iface.specs.declared.state.PortState.TheVariants.{Failed}
 use Rattle.rina_iface.specs.Seen.{Fac, Seen}
 use Rattle.rina_report.specs.declared.note.Note.{Note}
@@ -148,6 +149,11 @@ abbrev pub status_stopped : Stop → Status
 status_stopped stops.Memory = statuses.Memory
 status_stopped stops.WriteFault = statuses.WriteFault
 
--- no end of any facility has failed; no word that is built can make one fail
-abbrev pub NoneFailed : Seen → Type 0
-NoneFailed s = (n : ℕ) (f : Fac) → slice_get s.facs n ≡ Some f → (i : ℕ) (e : End) → slice_get f.ends i ≡ Some e → (fail : Fail) → e.state ≢ Failed fail
+-- a wire was cut at a tick that has come
+abbrev pub IsCutBy : ℕ → Fail → Type 0
+IsCutBy now (Cut at) = at ≤ now
+IsCutBy now fail = ⊥
+
+-- each end that has failed did so by a cut of its wire
+abbrev pub FailedByCut : Seen → Type 0
+FailedByCut s = (n : ℕ) (f : Fac) → slice_get s.facs n ≡ Some f → (i : ℕ) (e : End) → slice_get f.ends i ≡ Some e → (fail : Fail) → e.state ≡ Failed fail → IsCutBy s.now fail

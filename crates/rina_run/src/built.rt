@@ -20,6 +20,12 @@ fn word_is_built(word: &[u8]) -> bool
         || word == b"lose".as_slice()
         || word == b"repeat".as_slice()
         || word == b"hold".as_slice()
+        || word == b"cut".as_slice()
+        || word == b"mend".as_slice()
+        || word == b"unregister".as_slice()
+        || word == b"free".as_slice()
+        || word == b"state".as_slice()
+        || word == b"journal".as_slice()
 }
 
 fn event_is_built(event: &Event) -> bool
@@ -36,6 +42,12 @@ fn event_is_built(event: &Event) -> bool
             | Event::Lose { .. }
             | Event::Repeat { .. }
             | Event::Hold { .. }
+            | Event::Cut { .. }
+            | Event::Mend { .. }
+            | Event::Unregister { .. }
+            | Event::Free { .. }
+            | Event::State { .. }
+            | Event::Journal { .. }
     )
 }
 

@@ -24,7 +24,13 @@ pub fn refused(why: Option<Refusal>) -> Option<Said>
 }
 
 /// The state of a port, as it is said.
-fn say_port(alloc: Global, plan: &Plan, tower: &Wires, port: Port) -> Result<Option<Said>, Memory>
+pub fn say_port(
+    alloc: Global,
+    plan: &Plan,
+    tower: &Wires,
+    port: Port,
+) -> Result<Option<Said>, Memory>
+    requires { IsSound tower.now }
     ensures { IfOk result (λ o. o ≡ port_said plan.now tower.now port) }
 {
     match tell_drawn(alloc, plan, tower.state(port))? {
@@ -142,6 +148,7 @@ fn call_allocate(
 
 /// Gives a label to a port, whose state is told now.
 fn give_label(alloc: Global, world: &mut World, name: &Name, port: Port) -> Result<(), Memory>
+    requires { IsSound world.old.tower }
     ensures tower { world.new.tower ≡ world.old.tower }
     ensures labels { OnOk result (world.new.labels ≡ world.old.labels ++ label_of name.now world.old.tower port ∷ []) }
 {

@@ -3,7 +3,8 @@ ghost use Rattle.rina_run.specs.Frames.{FramesArriveOnce};
 
 /// A frame that no event touched is delivered exactly once, at the tick at which its wire's delay has gone
 /// by since it was sent, with its bytes; before that tick it is in flight. What touches a frame is `Touches`:
-/// a line `lose`, `repeat` or `hold` of its wire that names it.
+/// a line `lose`, `repeat` or `hold` of its wire that names it, a `cut` of its wire while it is in flight, and a
+/// `free` of a port of the flow that the wire carries while it is in flight.
 pub fn a_frame_arrives_once()
     ensures { FramesArriveOnce }
 {}

@@ -1,5 +1,6 @@
 //! The states of labelled ports: which changed since they were told last.
 ghost use Rattle.std.specs.Prelude.{◌≡◌, ◌<◌, ◌++◌, length, option_map, slice_get, slice_set, IfOk, OnOk, OnErr};
+ghost use Rattle.rina_wire.specs.Sound.{IsSound};
 ghost use Rattle.rina_run.specs.declared.labels.Label.{Label};
 ghost use Rattle.rina_report.specs.declared.said.Said.TheVariants as said;
 ghost use Rattle.rina_run.specs.Told.{drawn_told};
@@ -97,6 +98,7 @@ fn look_at(
     line: u32,
     trace: &mut Notes,
 ) -> Result<(), Memory>
+    requires { IsSound tower.now }
     ensures ok { OnOk result (trace.new ≡ trace.old ++ label_notes plan.now line tower.now label.now) }
     ensures err { OnErr result (trace.new ≡ trace.old) }
 {
@@ -118,7 +120,8 @@ fn look_one(
     line: u32,
     trace: &mut Notes,
 ) -> Result<(), Memory>
-    requires { at < length labels.old }
+    requires place { at < length labels.old }
+    requires sound { IsSound tower.now }
     ensures notes { OnOk result ((l : Label) → slice_get labels.old at ≡ Some l → trace.new ≡ trace.old ++ label_notes plan.now line tower.now l) }
     ensures labels { OnOk result ((l : Label) → slice_get labels.old at ≡ Some l → labels.new ≡ slice_set labels.old at (shown_now tower.now l)) }
     ensures err { OnErr result (trace.new ≡ trace.old) }
@@ -139,6 +142,7 @@ pub fn look(
     line: u32,
     trace: &mut Notes,
 ) -> Result<(), Memory>
+    requires { IsSound tower.now }
     ensures notes { OnOk result (trace.new ≡ trace.old ++ state_notes plan.now line tower.now labels.old) }
     ensures labels { OnOk result (labels.new ≡ looked tower.now labels.old) }
     ensures more { OnErr result (Extends trace.old trace.new) }

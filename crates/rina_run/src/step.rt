@@ -7,10 +7,12 @@ ghost use Rattle.rina_run.specs.Look.{Leads, Extends};
 ghost use Rattle.rina_run.specs.Step.{Acts, Steps, Ticking, Ticks, TicksOnce};
 
 use crate::flow_words::{accept, allocate, register, send};
+use crate::journal_word::journal;
+use crate::leave_words::{free, tell_label, unregister};
 use crate::look::look;
 use crate::note::tell;
 use crate::read_word::read;
-use crate::wire_words::{hold, lose, repeat};
+use crate::wire_words::{cut, hold, lose, mend, repeat};
 use crate::world::World;
 use rina_base::Memory;
 use rina_iface::Facility;
@@ -144,6 +146,27 @@ fn act(
             let says = hold(plan, world, wire, *frame, *at)?;
             tell(trace, line, world.tower.now(), says)
         }
+        Event::Cut { wire } => {
+            let says = cut(plan, world, wire)?;
+            tell(trace, line, world.tower.now(), says)
+        }
+        Event::Mend { wire } => {
+            let says = mend(plan, world, wire)?;
+            tell(trace, line, world.tower.now(), says)
+        }
+        Event::Unregister { fac, node, app } => {
+            let says = unregister(alloc, plan, world, fac, node, app)?;
+            tell(trace, line, world.tower.now(), says)
+        }
+        Event::Free { label } => {
+            let says = free(alloc, world, label)?;
+            tell(trace, line, world.tower.now(), says)
+        }
+        Event::State { label } => {
+            let says = tell_label(alloc, plan, world, label)?;
+            tell(trace, line, world.tower.now(), says)
+        }
+        Event::Journal { fac } => journal(alloc, plan, world, line, fac, trace),
         _ => unreachable!(),
     }
 }

@@ -1,16 +1,18 @@
 //! How a run tells ports, states and refusals: with the names of the stack in place of numbers.
 ghost use Rattle.std.specs.Prelude.{◌≡◌, IfOk};
-ghost use Rattle.rina_run.specs.Told.{port_told, fail_told, state_told, drawn_told, register_told, allocate_told, send_told, wire_told};
+ghost use Rattle.rina_run.specs.Told.{port_told, fail_told, state_told, drawn_told, register_told, unregister_told, free_told, allocate_told, send_told, wire_told};
 
 use rina_base::{Memory, Name, Port};
-use rina_iface::{AllocateError, Fail, PortState, RegisterError, SendError};
+use rina_iface::{
+    AllocateError, Fail, FreeError, PortState, RegisterError, SendError, UnregisterError,
+};
 use rina_report::{FailNote, PortNote, Refusal, StateNote};
 use rina_stack::Plan;
 use rina_wire::WireError;
 use std::alloc::Global;
 
 /// A port with the names of its facility and its node.
-fn tell_port(alloc: Global, plan: &Plan, port: Port) -> Result<Option<PortNote>, Memory>
+pub fn tell_port(alloc: Global, plan: &Plan, port: Port) -> Result<Option<PortNote>, Memory>
     ensures { IfOk result (λ o. o ≡ port_told plan.now port) }
 {
     let Some(wire) = plan.wires.get(port.fac as usize) else {
@@ -41,7 +43,7 @@ fn tell_fail(alloc: Global, plan: &Plan, fail: Fail) -> Result<Option<FailNote>,
     }
 }
 
-fn tell_state(alloc: Global, plan: &Plan, state: PortState) -> Result<Option<StateNote>, Memory>
+pub fn tell_state(alloc: Global, plan: &Plan, state: PortState) -> Result<Option<StateNote>, Memory>
     ensures { IfOk result (λ o. o ≡ state_told plan.now state) }
 {
     match state {
@@ -79,6 +81,27 @@ pub fn tell_register(error: RegisterError) -> Option<Refusal>
         RegisterError::Already => Some(Refusal::Already),
         RegisterError::NoMember => Some(Refusal::NoMember),
         RegisterError::CountSpent { need, left } => Some(Refusal::CountSpent { need, left }),
+    }
+}
+
+/// What `unregister` refused.
+pub fn tell_unregister(error: UnregisterError) -> Option<Refusal>
+    ensures { result ≡ unregister_told error }
+{
+    match error {
+        UnregisterError::Memory => None,
+        UnregisterError::NotThere => Some(Refusal::NotThere),
+        UnregisterError::CountSpent { need, left } => Some(Refusal::CountSpent { need, left }),
+    }
+}
+
+/// What `free` refused.
+pub fn tell_free(error: FreeError) -> Option<Refusal>
+    ensures { result ≡ free_told error }
+{
+    match error {
+        FreeError::Memory => None,
+        FreeError::NoPort => Some(Refusal::NoPort),
     }
 }
 

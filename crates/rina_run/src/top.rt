@@ -12,7 +12,7 @@ ghost use Rattle.rina_run.specs.Run.{opening};
 ghost use Rattle.rina_run.specs.Script.{script, script_in};
 ghost use Rattle.rina_run.specs.Words.{word_fault};
 ghost use Rattle.rina_run.specs.Written.{IsFront, Written};
-ghost use Rattle.rina_run.specs.Top.{status_of, status_stopped, fault_of, is_whole, ClosedBy, RefusedBy, PlayOutcomes, ScriptOutcomes, InputOutcomes, RunOutcomes, IsEnding, IsNothing, NoneFailed};
+ghost use Rattle.rina_run.specs.Top.{status_of, status_stopped, fault_of, is_whole, ClosedBy, RefusedBy, PlayOutcomes, ScriptOutcomes, InputOutcomes, RunOutcomes, IsEnding, IsNothing, FailedByCut};
 
 use crate::emit::{Stop, emit};
 use crate::input::{Parts, all_lines, split_input};
@@ -281,7 +281,7 @@ fn run_input<K: Sink>(alloc: Global, ending: Option<Fault>, bytes: &[u8], out: &
 
 /// The top call: the words of the command line without the program's name, the input, and where the
 /// notes are written. Each line's notes are written before the next line runs.
-#[tactic(auto, using(crate::proofs::Ending::kept_if, crate::proofs::Ending::none_failed))]
+#[tactic(auto, using(crate::proofs::Ending::kept_if, crate::proofs::Ending::failed_by_cut))]
 pub fn run<S: Source, K: Sink>(
     alloc: Global,
     words: &[String],
@@ -294,8 +294,8 @@ pub fn run<S: Source, K: Sink>(
     ensures outcome { RunOutcomes (word_fault (map (λ w. string_bytes w) words.now)) (S.left input.old) (S.left input.new) result.status result.trace result.tower }
     // Every facility of the tower keeps what its flows promise, and names its partners.
     ensures kept { IfSome result.tower (λ a. AreKept (seen_of a)) }
-    // No flow has failed: nothing that is built can make one fail.
-    ensures failed { IfSome result.tower (λ a. NoneFailed (seen_of a)) }
+    // A flow has failed only by a cut of its wire.
+    ensures failed { IfSome result.tower (λ a. FailedByCut (seen_of a)) }
     ensures read { result.status ≡ Status.ReadFault → Rose (S.faults input.old) (S.faults input.new) }
     ensures write { result.status ≡ Status.WriteFault → Rose (K.faults out.old) (K.faults out.new) }
 {

@@ -1,9 +1,10 @@
 //! The words on wires: each calls the tower, and says what it answered.
 ghost use Rattle.std.specs.Prelude.{◌≡◌, IfOk};
 ghost use Rattle.rina_stack.specs.Plan.{IsPlan};
+ghost use Rattle.rina_wire.specs.Cut.{CutsOn, MendsOn};
 ghost use Rattle.rina_wire.specs.Disturb.{HoldsOn, LosesOn, RepeatsOn};
 ghost use Rattle.rina_wire.specs.Sound.{IsSound};
-ghost use Rattle.rina_run.specs.Step.{CallsWire, Holding, Losing, Repeating};
+ghost use Rattle.rina_run.specs.Step.{CallsWire, Cutting, Holding, Losing, Mending, Repeating};
 
 use crate::flow_words::refused;
 use crate::told::tell_wire;
@@ -102,6 +103,56 @@ fn call_hold(world: &mut World, wire: u16, frame: u32, at: Tick) -> Result<Optio
     ensures sound { IsSound world.new.tower }
 {
     match world.tower.hold(wire, u64::from(frame), at) {
+        Ok(()) => Ok(Some(Said::Done)),
+        Err(WireError::Memory) => Err(Memory),
+        Err(error) => Ok(refused(tell_wire(error))),
+    }
+}
+
+/// The word `cut`.
+pub fn cut(plan: &Plan, world: &mut World, wire: &Name) -> Result<Option<Said>, Memory>
+    requires plan { IsPlan plan.now }
+    requires sound { IsSound world.old.tower }
+    ensures does { IfOk result (λ says. Cutting plan.now wire.now world.old says world.new) }
+    ensures sound { IsSound world.new.tower }
+{
+    let Some(wire) = plan.wire(wire) else {
+        return Ok(refused(Some(Refusal::NoWire)));
+    };
+    call_cut(world, wire)
+}
+
+fn call_cut(world: &mut World, wire: u16) -> Result<Option<Said>, Memory>
+    requires { IsSound world.old.tower }
+    ensures does { IfOk result (λ says. CallsWire (λ a r b. CutsOn a wire r b) world.old says world.new) }
+    ensures sound { IsSound world.new.tower }
+{
+    match world.tower.cut(wire) {
+        Ok(()) => Ok(Some(Said::Done)),
+        Err(WireError::Memory) => Err(Memory),
+        Err(error) => Ok(refused(tell_wire(error))),
+    }
+}
+
+/// The word `mend`.
+pub fn mend(plan: &Plan, world: &mut World, wire: &Name) -> Result<Option<Said>, Memory>
+    requires plan { IsPlan plan.now }
+    requires sound { IsSound world.old.tower }
+    ensures does { IfOk result (λ says. Mending plan.now wire.now world.old says world.new) }
+    ensures sound { IsSound world.new.tower }
+{
+    let Some(wire) = plan.wire(wire) else {
+        return Ok(refused(Some(Refusal::NoWire)));
+    };
+    call_mend(world, wire)
+}
+
+fn call_mend(world: &mut World, wire: u16) -> Result<Option<Said>, Memory>
+    requires { IsSound world.old.tower }
+    ensures does { IfOk result (λ says. CallsWire (λ a r b. MendsOn a wire r b) world.old says world.new) }
+    ensures sound { IsSound world.new.tower }
+{
+    match world.tower.mend(wire) {
         Ok(()) => Ok(Some(Said::Done)),
         Err(WireError::Memory) => Err(Memory),
         Err(error) => Ok(refused(tell_wire(error))),

@@ -54,7 +54,7 @@ looked_sound s before now frames es f next sound c = elim (looks now es f) [
 looked_copies : (life before now : ℕ) (es : List End) (f : Flight) (gs : List Flight) → All (IsCopy life before es) gs → All (IsCopy life before (looked_at now es f)) gs
 looked_copies life before now es f gs cs = elim (looks now es f) [
   | inl same ↦ subst (λ (x : List End). All (IsCopy life before x) gs) (sym same) cs
-  | inr a ↦ subst (λ (x : List End). All (IsCopy life before x) gs) (sym a.is) (copies_set life before es f.to a.end (with_got a.end (arrival now f)) gs a.stands (λ j x h. h) cs)
+  | inr a ↦ subst (λ (x : List End). All (IsCopy life before x) gs) (sym a.is) (copies_set life before es f.to a.end (with_got a.end (arrival now f)) gs a.stands refl (λ j x h. h) cs)
 ]
 
 -- all copies that are looked at, one after another

@@ -24,7 +24,7 @@ over f None = refl
 over f (Some l) = refl
 
 -- the end of a port is that on its wire
-end_is : (a : Air) (port : Port) → end_of (seen_of a) port ≡ end_at a port
+pub end_is : (a : Air) (port : Port) → end_of (seen_of a) port ≡ end_at a port
 end_is a port = ap (λ o. option_and_then (λ (f : Fac). end_in port f.ends) o) (fac_at a port.fac) ∙ over (λ (f : Fac). end_in port f.ends) (wire_at a port.fac)
 
 -- an end of a wire and its place
@@ -41,7 +41,7 @@ pub has_line : (a : Air) (port : Port) (e : End) → end_at a port ≡ Some e �
 has_line a port e h = on_line a port e (wire_at a port.fac) refl h
 
 -- where the end is known, so is its place
-stands : (a : Air) (port : Port) (e : End) (on : IsOn a port e) → Stands (seen_of a) port (fac_of on.line) on.at.place e
+pub stands : (a : Air) (port : Port) (e : End) (on : IsOn a port e) → Stands (seen_of a) port (fac_of on.line) on.at.place e
 stands a port e on = record {
   facility = fac_at a port.fac ∙ ap (option_map fac_of) on.wire;
   place = on.at.found;
@@ -49,7 +49,7 @@ stands a port e on = record {
 }
 
 -- a change of the end of a port, seen
-seen_on_end : (a : Air) (port : Port) (change : Line → ℕ → End → Line) (e : End) (on : IsOn a port e) → seen_of (on_end a port change) ≡ with_fac (seen_of a) port.fac (fac_of (change on.line on.at.place e))
+pub seen_on_end : (a : Air) (port : Port) (change : Line → ℕ → End → Line) (e : End) (on : IsOn a port e) → seen_of (on_end a port change) ≡ with_fac (seen_of a) port.fac (fac_of (change on.line on.at.place e))
 seen_on_end a port change e on =
     let changed : put_end change on.line (place_in port on.line.ends) ≡ change on.line on.at.place e = rw (on.at.found, on.at.is) refl in
     seen_on_wire a port.fac (λ (l : Line). put_end change l (place_in port l.ends)) on.line on.wire ∙ ap (λ (l : Line). with_fac (seen_of a) port.fac (fac_of l)) changed
@@ -61,6 +61,10 @@ allocated_by Allocated rest h = refl
 allocated_by (Refused why) rest h = absurd (none-some (NotAllocated (Some (Refused why))) (sym h))
 allocated_by (Failed fail) rest h = absurd (none-some (HasFailed fail) (sym h))
 allocated_by Closed rest h = absurd (none-some (NotAllocated (Some Closed)) (sym h))
+
+-- what was not refused is allocated
+pub open_at : (a : Air) (port : Port) (len : ℕ) (e : End) → end_at a port ≡ Some e → send_refusal a port len ≡ None → e.state ≡ Allocated
+open_at a port len e h free = allocated_by e.state _ (rw h at free)
 
 -- the largest SDU is that of the wire
 largest_is : (a : Air) (port : Port) (e : End) (on : IsOn a port e) → IsSound a → largest_at (seen_of a) port ≡ Some on.line.largest

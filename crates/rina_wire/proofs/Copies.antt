@@ -1,11 +1,12 @@
 -- Copies in flight stay copies of frames that were sent.
-use Rattle.std.proofs.Common.{◌≡◌, ℕ, ◌<◌, ◌≤◌, cond, true, false, List, [], ◌∷◌, ◌++◌, length, slice_get, slice_set, filter, nat_lt, Some, All, refl, sym, ◌∙◌, inl, inr, arith}
+use Rattle.std.proofs.Common.{◌≡◌, ℕ, ◌<◌, ◌≤◌, cond, true, false, List, [], ◌∷◌, ◌++◌, length, slice_get, slice_set, filter, nat_lt, Some, All, refl, sym, ◌∙◌, ap, inl, inr, arith}
 use Rattle.std.proofs.lemmas.Bool.{ltb-true}
 use Rattle.std.proofs.lemmas.Bool.Decides.{eqb_tells}
 use Rattle.std.proofs.lemmas.List.Elements.{All-cons, All-head, All-nil, All-tail, All-weaker}
 use Rattle.std.proofs.lemmas.Option.{same_Some}
 use Rattle.rina_law.specs.declared.entry.Entry.{Entry}
 use Rattle.rina_iface.specs.declared.ends.End.{End}
+use Rattle.rina_iface.specs.declared.state.PortState.TheVariants.{Allocated}
 use Rattle.rina_iface.specs.Ends.{with_sent}
 use Rattle.rina_iface.specs.Journal.{At}
 use Rattle.rina_iface.proofs.Changed.{slice_get-set_other, slice_get-set_same}
@@ -20,12 +21,14 @@ use Rattle.rina_wire.proofs.Mates.{mate_mate}
 record StillSent (ends : List End) (k : ℕ) (sent : List Entry) : Type 0 where
   sender : End
   stands : At ends k sender
+  allocated : sender.state ≡ Allocated
   still : (j : ℕ) (x : Entry) → slice_get sent j ≡ Some x → slice_get sender.sent j ≡ Some x
 
 copy_by : (life now : ℕ) (ends ends' : List End) (f : Flight) (c : IsCopy life now ends f) → StillSent ends' (mate f.to) c.sender.sent → IsCopy life now ends' f
 copy_by life now ends ends' f c s = record {
   sender = s.sender;
   stands = s.stands;
+  allocated = s.allocated;
   place = c.place;
   source = c.source;
   is = s.still c.place c.source c.is;
@@ -38,29 +41,30 @@ copy_by life now ends ends' f c s = record {
 }
 
 -- an end changed, but sent what it had sent
-pub copy_set : (life now : ℕ) (ends : List End) (i : ℕ) (e e' : End) (f : Flight) → At ends i e → ((j : ℕ) (x : Entry) → slice_get e.sent j ≡ Some x → slice_get e'.sent j ≡ Some x) → IsCopy life now ends f → IsCopy life now (slice_set ends i e') f
-copy_set life now ends i e e' f at still c = copy_by life now ends (slice_set ends i e') f c (elim (eqb_tells (mate f.to) i) [
+pub copy_set : (life now : ℕ) (ends : List End) (i : ℕ) (e e' : End) (f : Flight) → At ends i e → e'.state ≡ e.state → ((j : ℕ) (x : Entry) → slice_get e.sent j ≡ Some x → slice_get e'.sent j ≡ Some x) → IsCopy life now ends f → IsCopy life now (slice_set ends i e') f
+copy_set life now ends i e e' f at state still c = copy_by life now ends (slice_set ends i e') f c (elim (eqb_tells (mate f.to) i) [
   | inl t ↦
       let there : At ends i c.sender = rw t.1 at c.stands in
       let same : c.sender ≡ e = same_Some c.sender e (sym there ∙ at) in
-      record { sender = e'; stands = rw t.1 (slice_get-set_same ends i e e' at); still = rw same still }
-  | inr o ↦ record { sender = c.sender; stands = slice_get-set_other ends i (mate f.to) e' o.1 ∙ c.stands; still = λ j x h. h }
+      record { sender = e'; stands = rw t.1 (slice_get-set_same ends i e e' at); allocated = state ∙ ap (λ (z : End). z.state) (sym same) ∙ c.allocated; still = rw same still }
+  | inr o ↦ record { sender = c.sender; stands = slice_get-set_other ends i (mate f.to) e' o.1 ∙ c.stands; allocated = c.allocated; still = λ j x h. h }
 ])
 
-pub copies_set : (life now : ℕ) (ends : List End) (i : ℕ) (e e' : End) (fs : List Flight) → At ends i e → ((j : ℕ) (x : Entry) → slice_get e.sent j ≡ Some x → slice_get e'.sent j ≡ Some x) → All (IsCopy life now ends) fs → All (IsCopy life now (slice_set ends i e')) fs
-copies_set life now ends i e e' fs at still cs = All-weaker (IsCopy life now ends) (IsCopy life now (slice_set ends i e')) (λ f c. copy_set life now ends i e e' f at still c) fs cs
+pub copies_set : (life now : ℕ) (ends : List End) (i : ℕ) (e e' : End) (fs : List Flight) → At ends i e → e'.state ≡ e.state → ((j : ℕ) (x : Entry) → slice_get e.sent j ≡ Some x → slice_get e'.sent j ≡ Some x) → All (IsCopy life now ends) fs → All (IsCopy life now (slice_set ends i e')) fs
+copies_set life now ends i e e' fs at state still cs = All-weaker (IsCopy life now ends) (IsCopy life now (slice_set ends i e')) (λ f c. copy_set life now ends i e e' f at state still c) fs cs
 
 -- new ends stand behind
 pub copies_more : (life now : ℕ) (ends more : List End) (fs : List Flight) → All (IsCopy life now ends) fs → All (IsCopy life now (ends ++ more)) fs
-copies_more life now ends more fs cs = All-weaker (IsCopy life now ends) (IsCopy life now (ends ++ more)) (λ f c. copy_by life now ends (ends ++ more) f c (record { sender = c.sender; stands = still_at ends more (mate f.to) c.sender c.stands; still = λ j x h. h })) fs cs
+copies_more life now ends more fs cs = All-weaker (IsCopy life now ends) (IsCopy life now (ends ++ more)) (λ f c. copy_by life now ends (ends ++ more) f c (record { sender = c.sender; stands = still_at ends more (mate f.to) c.sender c.stands; allocated = c.allocated; still = λ j x h. h })) fs cs
 
 -- the copy of a frame that is sent now
-pub copy_new : (now : ℕ) (bytes : List ℕ) (l : Line) (i : ℕ) (e : End) → IsSoundLine l → At l.ends i e → IsCopy l.life now (slice_set l.ends i (with_sent e (record { tick = now; num = frame_number l.frames; bytes = bytes }))) (flight_of now bytes l i)
-copy_new now bytes l i e line at =
+pub copy_new : (now : ℕ) (bytes : List ℕ) (l : Line) (i : ℕ) (e : End) → IsSoundLine l → e.state ≡ Allocated → At l.ends i e → IsCopy l.life now (slice_set l.ends i (with_sent e (record { tick = now; num = frame_number l.frames; bytes = bytes }))) (flight_of now bytes l i)
+copy_new now bytes l i e line allocated at =
     let x : Entry = record { tick = now; num = frame_number l.frames; bytes = bytes } in
     record {
       sender = with_sent e x;
       stands = rw (mate_mate i) (slice_get-set_same l.ends i e (with_sent e x) at);
+      allocated = allocated;
       place = length e.sent;
       source = x;
       is = last_at e.sent x;
@@ -76,6 +80,7 @@ copy_waits : (life before now : ℕ) (ends : List End) (f : Flight) → before �
 copy_waits life before now ends f le lt c = record {
   sender = c.sender;
   stands = c.stands;
+  allocated = c.allocated;
   place = c.place;
   source = c.source;
   is = c.is;

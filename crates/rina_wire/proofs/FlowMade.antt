@@ -95,7 +95,7 @@ pair_made s now frames fac l ask site_is fac_is apart pairs member = rw site_is 
     facility = fac_is;
     number = omega (arith, pairs);
     node = member;
-    state = refl;
+    state = tt;
     whole = record { sent = dated_none now; got = dated_none now; taken = omega arith };
     sent = λ j x h. cc;
     got = λ j x h. cc;
@@ -106,7 +106,7 @@ pair_made s now frames fac l ask site_is fac_is apart pairs member = rw site_is 
     facility = fac_is;
     number = omega (arith, pairs);
     node = other_member l ask.node;
-    state = refl;
+    state = tt;
     whole = record { sent = dated_none now; got = dated_none now; taken = omega arith };
     sent = λ j x h. cc;
     got = λ j x h. cc;

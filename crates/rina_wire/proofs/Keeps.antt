@@ -3,11 +3,14 @@ use Rattle.std.proofs.Common.{◌≡◌, ℕ, ◌≤◌, List, slice_set, refl, 
 use Rattle.rina_base.specs.declared.number.Port.{Port}
 use Rattle.rina_law.specs.Journal.{Born}
 use Rattle.rina_iface.specs.declared.ends.End.{End}
+use Rattle.rina_iface.specs.declared.state.Fail.TheVariants.{GaveUp, Below, Cut}
+use Rattle.rina_iface.specs.declared.state.PortState.{PortState}
+use Rattle.rina_iface.specs.declared.state.PortState.TheVariants.{Pending, Allocated, Refused, Failed, Closed}
 use Rattle.rina_iface.specs.Journal.{At, IsWhole}
 use Rattle.rina_iface.proofs.Changed.{set_at}
 use Rattle.rina_iface.proofs.Grown.{dated_later}
 use Rattle.rina_wire.specs.Send.{mate}
-use Rattle.rina_wire.specs.Sound.{AreMates, AreSound, HaveNumbers, IsSoundEnd, Site}
+use Rattle.rina_wire.specs.Sound.{AreMates, AreSound, HaveNumbers, IsSoundEnd, IsWireState, Site}
 use Rattle.rina_wire.proofs.Mates.{mate_apart, mate_mate}
 
 -- the end that stood there, which sent the same
@@ -84,6 +87,15 @@ sound_set s now frames ends i e e' sound is c numbers = record {
 whole_later : (before now : ℕ) (e : End) → before ≤ now → IsWhole before e → IsWhole now e
 whole_later before now e le w = record { sent = dated_later before now e.sent le w.sent; got = dated_later before now e.got le w.got; taken = w.taken }
 
+state_later : (before now : ℕ) (state : PortState) → before ≤ now → IsWireState before state → IsWireState now state
+state_later before now Pending le w = w
+state_later before now Allocated le w = w
+state_later before now (Refused why) le w = w
+state_later before now (Failed (GaveUp num first at)) le w = w
+state_later before now (Failed (Below port)) le w = w
+state_later before now (Failed (Cut at)) le w = omega (arith, w, le)
+state_later before now Closed le w = w
+
 -- time goes by, and frames are sent
 pub end_later : (s : Site) (before now few frames i : ℕ) (e : End) → before ≤ now → few ≤ frames → IsSoundEnd s before few i e → IsSoundEnd s now frames i e
 end_later s before now few frames i e le more x = record {
@@ -92,7 +104,7 @@ end_later s before now few frames i e le more x = record {
   facility = x.facility;
   number = x.number;
   node = x.node;
-  state = x.state;
+  state = state_later before now e.state le x.state;
   whole = whole_later before now e le x.whole;
   sent = λ j y h. let lt = x.sent j y h in omega (arith, lt, more);
   got = λ j y h. let lt = x.got j y h in omega (arith, lt, more);

@@ -28,7 +28,7 @@ mate_of s now frames ends i k e other sound he ho p =
     ]
 
 -- mates are partners
-partners : (s : Site) (now frames : ℕ) (ends : List End) (i : ℕ) (e other : End) → AreSound s now frames ends → At ends i e → At ends (mate i) other → IsPartner e other
+pub partners : (s : Site) (now frames : ℕ) (ends : List End) (i : ℕ) (e other : End) → AreSound s now frames ends → At ends i e → At ends (mate i) other → IsPartner e other
 partners s now frames ends i e other sound he ho = record {
   same_flow = (sound.mates i e other he ho).flow;
   other_role = λ h. role_apart i (sym (sound.each (mate i) other ho).role ∙ h ∙ (sound.each i e he).role);

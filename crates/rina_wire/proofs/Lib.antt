@@ -1,5 +1,6 @@
 pub mod Arrivals
 pub mod Asked
+pub mod Bound
 pub mod Carried
 pub mod Changes
 pub mod Claims
@@ -9,11 +10,16 @@ pub mod Keeps
 pub mod Kept
 pub mod Later
 pub mod LaterTick
+pub mod Left
 pub mod Mates
+pub mod Restated
 pub mod Seen
 pub mod Sound
 pub mod SoundAllocate
+pub mod SoundBind
+pub mod SoundCut
 pub mod SoundDisturb
+pub mod SoundFree
 pub mod SoundRegister
 pub mod SoundSend
 pub mod SoundTick

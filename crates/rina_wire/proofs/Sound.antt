@@ -12,6 +12,7 @@ use Rattle.rina_wire.proofs.Kept.{sound_of}
 use Rattle.rina_base.specs.declared.number.Port.{Port}
 use Rattle.rina_law.specs.declared.entry.Entry.{Entry}
 use Rattle.rina_iface.specs.declared.ends.End.{End}
+use Rattle.rina_iface.specs.declared.state.PortState.TheVariants.{Allocated}
 use Rattle.rina_iface.specs.Ends.{drawn_at, place_in, with_passed, with_sent}
 use Rattle.rina_iface.specs.Seen.{oldest_in}
 use Rattle.rina_wire.specs.declared.flight.Flight.{Flight}
@@ -103,7 +104,7 @@ pub sound_failed : (a : Air) → IsSound a → IsSound (failed_air a)
 sound_failed a s = sound_of (failed_air a) s.clock s.lines (λ fac l h. flows_failed a.now a.failed fac l (s.flows fac l h))
 
 -- other names and other places that wait
-flows_of : (now : ℕ) (failed : Bool) (fac : ℕ) (l : Line) (ws : List ℕ) (ns : List Registered) → KeepsFlows now failed fac l → All (IsFarPlace (length l.ends)) ws → KeepsFlows now failed fac (record l { waiting = ws; names = ns })
+pub flows_of : (now : ℕ) (failed : Bool) (fac : ℕ) (l : Line) (ws : List ℕ) (ns : List Registered) → KeepsFlows now failed fac l → All (IsFarPlace (length l.ends)) ws → KeepsFlows now failed fac (record l { waiting = ws; names = ns })
 flows_of now failed fac l ws ns k far = record { pairs = k.pairs; sound = k.sound; waiting = far; copies = k.copies }
 
 pub named_flows : (now : ℕ) (failed : Bool) (fac node : ℕ) (app : List ℕ) (l : Line) → KeepsFlows now failed fac l → KeepsFlows now failed fac (named node app l)
@@ -148,7 +149,7 @@ passed_flows now failed fac l i e k at lt =
       pairs = size ∙ k.pairs;
       sound = ends_passed (site_of fac l) now l.frames l.ends i e k.sound at lt;
       waiting = subst (λ (n : ℕ). All (IsFarPlace n) l.waiting) (sym size) k.waiting;
-      copies = λ alive. copies_set l.life now l.ends i e (with_passed e) l.flights at (λ j x h. h) (k.copies alive);
+      copies = λ alive. copies_set l.life now l.ends i e (with_passed e) l.flights at refl (λ j x h. h) (k.copies alive);
     }
 
 -- the end that waits is that of the port
@@ -163,8 +164,8 @@ sent_stays now bytes l i e s h =
     let x : Entry = record { tick = now; num = frame_number l.frames; bytes = bytes } in
     keeps l (slice_set l.ends i (with_sent e x)) l.waiting l.names (l.frames + 1) (l.flights ++ flight_of now bytes l i ∷ []) s (like_set l.ends i e (with_sent e x) h refl refl)
 
-pub sent_flows : (now : ℕ) (failed : Bool) (fac : ℕ) (bytes : List ℕ) (l : Line) (i : ℕ) (e : End) → IsSoundLine l → KeepsFlows now failed fac l → slice_get l.ends i ≡ Some e → KeepsFlows now failed fac (sent_from now bytes l i e)
-sent_flows now failed fac bytes l i e line k at =
+pub sent_flows : (now : ℕ) (failed : Bool) (fac : ℕ) (bytes : List ℕ) (l : Line) (i : ℕ) (e : End) → IsSoundLine l → KeepsFlows now failed fac l → e.state ≡ Allocated → slice_get l.ends i ≡ Some e → KeepsFlows now failed fac (sent_from now bytes l i e)
+sent_flows now failed fac bytes l i e line k allocated at =
     let x : Entry = record { tick = now; num = frame_number l.frames; bytes = bytes } in
     let size = length-set l.ends i (with_sent e x) in
     let P : Flight → Type 0 = IsCopy l.life now (slice_set l.ends i (with_sent e x)) in
@@ -172,5 +173,5 @@ sent_flows now failed fac bytes l i e line k at =
       pairs = size ∙ k.pairs;
       sound = ends_sent (site_of fac l) now l.frames l.ends i e x k.sound at refl refl;
       waiting = subst (λ (n : ℕ). All (IsFarPlace n) l.waiting) (sym size) k.waiting;
-      copies = λ alive. All-append P l.flights (flight_of now bytes l i ∷ []) (copies_set l.life now l.ends i e (with_sent e x) l.flights at (λ j y h. still_at e.sent (x ∷ []) j y h) (k.copies alive)) (All-cons P (flight_of now bytes l i) [] (copy_new now bytes l i e line at) (All-nil P));
+      copies = λ alive. All-append P l.flights (flight_of now bytes l i ∷ []) (copies_set l.life now l.ends i e (with_sent e x) l.flights at refl (λ j y h. still_at e.sent (x ∷ []) j y h) (k.copies alive)) (All-cons P (flight_of now bytes l i) [] (copy_new now bytes l i e line allocated at) (All-nil P));
     }

@@ -36,7 +36,7 @@ one_each node a b x y ne m xn yn = rw (xn, yn) (elim (eqb_tells node a) [
   | inr f ↦ rw f.0 (grind (arith, ne, m, f.1))
 ])
 
-flow_stays : (l : Line) (now : ℕ) (ask : Ask) → IsSoundLine l → is_member (l.a ∷ l.b ∷ []) ask.node ≡ true → IsSoundLine (flow_made now ask l)
+pub flow_stays : (l : Line) (now : ℕ) (ask : Ask) → IsSoundLine l → is_member (l.a ∷ l.b ∷ []) ask.node ≡ true → IsSoundLine (flow_made now ask l)
 flow_stays l now ask s m =
     let flow = flow_on l now ask.node in
     let x = asker_end flow (port_on l ask.fac ask.node) ask 0 Allocated in
@@ -54,7 +54,7 @@ flow_stays l now ask s m =
     }
 
 -- the wire keeps its flows, and one more
-flow_kept : (now : ℕ) (failed : Bool) (l : Line) (ask : Ask) → IsSoundLine l → is_member (l.a ∷ l.b ∷ []) ask.node ≡ true → KeepsFlows now failed ask.fac l → KeepsFlows now failed ask.fac (flow_made now ask l)
+pub flow_kept : (now : ℕ) (failed : Bool) (l : Line) (ask : Ask) → IsSoundLine l → is_member (l.a ∷ l.b ∷ []) ask.node ≡ true → KeepsFlows now failed ask.fac l → KeepsFlows now failed ask.fac (flow_made now ask l)
 flow_kept now failed l ask line member k =
     let flow = flow_on l now ask.node in
     let x = asker_end flow (port_on l ask.fac ask.node) ask 0 Allocated in

@@ -77,6 +77,7 @@ copy_due : (life now at : ℕ) (ends : List End) (f : Flight) → InTime now lif
 copy_due life now at ends f t c = record {
   sender = c.sender;
   stands = c.stands;
+  allocated = c.allocated;
   place = c.place;
   source = c.source;
   is = c.is;
@@ -89,10 +90,10 @@ copy_due life now at ends f t c = record {
 }
 
 -- other copies
-copies_flows : (now : ℕ) (failed : Bool) (fac : ℕ) (l : Line) (fs : List Flight) → KeepsFlows now failed fac l → (failed ≡ false → All (IsCopy l.life now l.ends) fs) → KeepsFlows now failed fac (record l { flights = fs })
+pub copies_flows : (now : ℕ) (failed : Bool) (fac : ℕ) (l : Line) (fs : List Flight) → KeepsFlows now failed fac l → (failed ≡ false → All (IsCopy l.life now l.ends) fs) → KeepsFlows now failed fac (record l { flights = fs })
 copies_flows now failed fac l fs k copies = record { pairs = k.pairs; sound = k.sound; waiting = k.waiting; copies = copies }
 
-copies_stay : (l : Line) (fs : List Flight) → IsSoundLine l → IsSoundLine (record l { flights = fs })
+pub copies_stay : (l : Line) (fs : List Flight) → IsSoundLine l → IsSoundLine (record l { flights = fs })
 copies_stay l fs s = keeps l l.ends l.waiting l.names l.frames fs s (like_refl l.ends)
 
 -- ---- lose

@@ -20,6 +20,7 @@ pub record Line : Type 0 where
   pub flows : ℕ  -- how many flows were asked for
   pub frames : ℕ  -- how many frames were sent, over both directions
   pub flights : List Flight  -- the copies of frames in flight, in the order in which they were made
+  pub cut : Bool  -- it is cut, and may not be asked for
 
 -- all wires, and the clock
 pub record Air : Type 0 where

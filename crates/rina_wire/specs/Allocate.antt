@@ -6,7 +6,7 @@ use Rattle.rina_base.specs.declared.number.Port.{Port}
 use Rattle.rina_iface.specs.declared.ask.Ask.{Ask}
 use Rattle.rina_iface.specs.declared.ends.End.{End}
 use Rattle.rina_iface.specs.declared.error.AllocateError.{AllocateError}
-use Rattle.rina_iface.specs.declared.error.AllocateError.TheVariants.{Memory, NoSuchApp, SameSystem, NoIds, Busy}
+use Rattle.rina_iface.specs.declared.error.AllocateError.TheVariants.{Memory, NoSuchApp, SameSystem, NoIds, NoRoute, Busy}
 use Rattle.rina_iface.specs.declared.state.PortState.{PortState}
 use Rattle.rina_iface.specs.declared.state.PortState.TheVariants.{Allocated}
 use Rattle.rina_iface.specs.Allocate.{asker_end, far_end, refused_in}
@@ -29,7 +29,7 @@ is_busy node e = (e.port.node == node) && is_allocated e.state
 abbrev pub flow_refusal : Line → Ask → Option AllocateError
 flow_refusal l ask =
     if is_registered l.names (other_node l ask.node) ask.to
-    then (if nat_le 4294967295 l.flows then Some (NoIds 4294967295) else option_map (λ (e : End). Busy e.port) (find (is_busy ask.node) l.ends))
+    then (if nat_le 4294967295 l.flows then Some (NoIds 4294967295) else (if l.cut then Some (NoRoute 0) else option_map (λ (e : End). Busy e.port) (find (is_busy ask.node) l.ends)))
     else (if is_registered l.names ask.node ask.to then Some SameSystem else Some NoSuchApp)
 
 abbrev pub own_allocate_refusal : Air → Ask → Option AllocateError

@@ -1,9 +1,13 @@
 pub mod Air
 pub mod Allocate
+pub mod Bind
 pub mod Claim
+pub mod Cut
 pub mod Disturb
+pub mod Free
 pub mod Plan
 pub mod Register
 pub mod Send
 pub mod Sound
 pub mod Tick
+pub mod Unregister

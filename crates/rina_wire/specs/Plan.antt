@@ -11,7 +11,7 @@ IsSoundPlan plan = All (IsSoundWire (length plan.nodes)) plan.wires
 
 -- a wire that was not used yet
 abbrev pub line_of : WirePlan → Line
-line_of w = record { a = w.a; b = w.b; delay = w.delay; life = w.life; largest = w.largest; ends = []; waiting = []; names = []; flows = 0; frames = 0; flights = [] }
+line_of w = record { a = w.a; b = w.b; delay = w.delay; life = w.life; largest = w.largest; ends = []; waiting = []; names = []; flows = 0; frames = 0; flights = []; cut = false }
 
 -- the wires of a plan at the start
 abbrev pub air_of : Plan → Air

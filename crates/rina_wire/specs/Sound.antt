@@ -3,7 +3,9 @@ use Rattle.std.specs.Prelude.{◌≡◌, ◌≢◌, ℕ, ◌+◌, ◌*◌, ◌/�
 use Rattle.rina_law.specs.declared.entry.Entry.{Entry}
 use Rattle.rina_law.specs.Journal.{Born}
 use Rattle.rina_iface.specs.declared.ends.End.{End}
-use Rattle.rina_iface.specs.declared.state.PortState.TheVariants.{Allocated}
+use Rattle.rina_iface.specs.declared.state.Fail.TheVariants.{Cut}
+use Rattle.rina_iface.specs.declared.state.PortState.{PortState}
+use Rattle.rina_iface.specs.declared.state.PortState.TheVariants.{Allocated, Closed, Failed}
 use Rattle.rina_iface.specs.declared.state.Role.{Role}
 use Rattle.rina_iface.specs.declared.state.Role.TheVariants.{Asker, Far}
 use Rattle.rina_iface.specs.Ends.{drawn_at}
@@ -42,6 +44,13 @@ role_at i = if i % 2 == 0 then Asker else Far
 abbrev pub AreBelow : ℕ → List Entry → Type 0
 AreBelow frames entries = (j : ℕ) (x : Entry) → slice_get entries j ≡ Some x → x.num.seq < frames
 
+-- an end of a wire is allocated from the start, until it is freed, or its wire is cut
+abbrev pub IsWireState : ℕ → PortState → Type 0
+IsWireState now Allocated = Unit {0}
+IsWireState now Closed = Unit {0}
+IsWireState now (Failed (Cut at)) = at ≤ now
+IsWireState now state = ⊥
+
 -- the end at place i, after so many frames
 pub record IsSoundEnd (s : Site) (now frames i : ℕ) (e : End) : Type 0 where
   pub role : e.role ≡ role_at i
@@ -49,7 +58,7 @@ pub record IsSoundEnd (s : Site) (now frames i : ℕ) (e : End) : Type 0 where
   pub facility : e.port.fac ≡ s.fac
   pub number : e.port.n ≡ i / 2 + 1
   pub node : is_member (s.a ∷ s.b ∷ []) e.port.node ≡ true
-  pub state : e.state ≡ Allocated
+  pub state : IsWireState now e.state
   pub whole : IsWhole now e
   pub sent : AreBelow frames e.sent
   pub got : AreBelow frames e.got
@@ -72,10 +81,11 @@ pub record AreSound (s : Site) (now frames : ℕ) (ends : List End) : Type 0 whe
   pub mates : (i : ℕ) (e other : End) → At ends i e → At ends (mate i) other → AreMates s e other
   pub numbers : HaveNumbers ends
 
--- a copy in flight is of a frame that the other end of its flow sent; it will arrive, and in time
+-- a copy in flight is of a frame that the other end of its flow sent, which is allocated still; it will arrive, and in time
 pub record IsCopy (life now : ℕ) (ends : List End) (f : Flight) : Type 0 where
   pub sender : End
   pub stands : At ends (mate f.to) sender
+  pub allocated : sender.state ≡ Allocated
   pub place : ℕ
   pub source : Entry
   pub is : slice_get sender.sent place ≡ Some source

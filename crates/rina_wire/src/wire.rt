@@ -9,8 +9,11 @@ ghost use Rattle.rina_wire.specs.Allocate.{flow_made, flow_on, is_allocated, is_
 ghost use Rattle.rina_wire.specs.Claim.{claim_in, without};
 ghost use Rattle.rina_wire.specs.Plan.{line_of};
 ghost use Rattle.rina_wire.specs.Register.{named};
+ghost use Rattle.rina_iface.specs.Unregister.{name_place};
+ghost use Rattle.rina_wire.specs.Unregister.{unnamed};
 ghost use Rattle.rina_wire.specs.Send.{flight_of, mate, passed_at, sent_from};
 
+mod cut;
 mod disturb;
 mod flow;
 mod frame;
@@ -39,6 +42,7 @@ pub struct Wire {
     flows: u32,
     frames: u64,
     flights: Vec<Flight>,
+    cut: bool,
 }
 
 impl Model for Wire {
@@ -46,7 +50,7 @@ impl Model for Wire {
 
     ghost Value = { Line };
 
-    ghost view = { λ w. record { a = w.a; b = w.b; delay = w.delay; life = w.life; largest = w.largest; ends = w.journal.ends; waiting = w.waiting.items; names = w.names.items; flows = w.flows; frames = w.frames; flights = w.flights.items } };
+    ghost view = { λ w. record { a = w.a; b = w.b; delay = w.delay; life = w.life; largest = w.largest; ends = w.journal.ends; waiting = w.waiting.items; names = w.names.items; flows = w.flows; frames = w.frames; flights = w.flights.items; cut = w.cut } };
 }
 
 /// Whether an application is registered at a node.
@@ -54,6 +58,16 @@ fn is_registered(names: &[Registered], node: Node, app: &AppName) -> bool
     ensures { result ≡ is_registered names.now node app.now }
 {
     names.iter().any(|one| one.node == node && one.app.is(app))
+}
+
+/// Where an application stands among the names of a node.
+fn name_place(names: &[Registered], node: Node, app: &AppName) -> Option<usize>
+    ensures at { result ≡ name_place names.now node app.now }
+    ensures within { IfSome result (λ i. i < length names.now) }
+{
+    names
+        .iter()
+        .position(|one| one.node == node && one.app.is(app))
 }
 
 /// Whether the end at this place is one of an application at a node.
@@ -109,6 +123,7 @@ impl Wire {
             flows: 0,
             frames: 0,
             flights: Vec::new(alloc),
+            cut: false,
         }
     }
 
@@ -134,6 +149,13 @@ impl Wire {
         ensures { result ≡ self.now.flows }
     {
         self.flows
+    }
+
+    /// Whether it is cut.
+    pub fn is_cut(&self) -> bool
+        ensures { result ≡ self.now.cut }
+    {
+        self.cut
     }
 
     pub fn frames(&self) -> u64
@@ -173,6 +195,15 @@ impl Wire {
             return Err(Memory);
         }
         Ok(())
+    }
+
+    /// Ends the registration of an application at a node.
+    pub fn drop_name(&mut self, node: Node, app: &AppName)
+        ensures { self.new ≡ unnamed node app.now self.old }
+    {
+        if let Some(place) = name_place(self.names.as_slice(), node, app) {
+            let _ = self.names.remove(place);
+        }
     }
 
     /// Whether its one cube meets a wish.

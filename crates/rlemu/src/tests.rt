@@ -58,7 +58,7 @@ fn hello_arrives_after_two_ticks(rt: HostRuntime) -> Result<(), Fail> {
 }
 
 /// Inputs of a stack and lines, and what is written.
-const ROWS: [(&str, &str); 13] = [
+const ROWS: [(&str, &str); 17] = [
     (
         "nodes = [\"a\", \"b\"]\n[[wire]]\nname = \"w\"\nends = [\"a\", \"b\"]\ndelay = 2\nlife = 10\nlargest = 1500\n%%\n",
         "end 0\n",
@@ -107,6 +107,22 @@ const ROWS: [(&str, &str); 13] = [
     (
         "nodes = [\"a\", \"b\"]\n[[wire]]\nname = \"w\"\nends = [\"a\", \"b\"]\ndelay = 2\nlife = 10\nlargest = 1500\n%%\nlose v 0\nhold w 0 1\n",
         "1 0 no NoWire\n2 0 no NoFrame 0\nend 0\n",
+    ),
+    (
+        "nodes = [\"a\", \"b\"]\n[[wire]]\nname = \"w\"\nends = [\"a\", \"b\"]\ndelay = 2\nlife = 10\nlargest = 1500\n%%\nregister w b echo\nalloc p w a ping echo\naccept q w b echo\nsend p x\ntick 2\nread q\n",
+        "1 0 ok\n2 0 ok allocated\n3 0 ok allocated\n4 0 sent 0.0\n5 2 ok\n6 2 got 2 x\nend 2\n",
+    ),
+    (
+        "nodes = [\"a\", \"b\"]\n[[wire]]\nname = \"w\"\nends = [\"a\", \"b\"]\ndelay = 2\nlife = 10\nlargest = 1500\n%%\nregister w b echo\nalloc p w a ping echo\naccept q w b echo\nsend p 'hello\ntick 2\nread q\njournal w\n",
+        "1 0 ok\n2 0 ok allocated\n3 0 ok allocated\n4 0 sent 0.0\n5 2 ok\n6 2 got 2 'hello\n7 2 flow 1.0.0 asker w/a/1 ping echo 0 0 allocated\n7 2 s 0 0.0 'hello\n7 2 flow 1.0.0 far w/b/1 echo ping 0 1 allocated\n7 2 g 2 0.0 'hello\nend 2\n",
+    ),
+    (
+        "nodes = [\"a\", \"b\"]\n[[wire]]\nname = \"w\"\nends = [\"a\", \"b\"]\ndelay = 2\nlife = 10\nlargest = 1500\n%%\nregister w b echo\nregister w b echo\nalloc p w a ping echo\nalloc r w a ping echo\nalloc r w a ping echo ordered\nunregister w a echo\nfree p\nsend p 'x\n",
+        "1 0 ok\n2 0 no Already\n3 0 ok allocated\n4 0 no Busy w/a/1\n5 0 no NoCube\n6 0 no NotThere\n7 0 ok\n7 0 state p closed\n8 0 no NotAllocated closed\nend 0\n",
+    ),
+    (
+        "nodes = [\"a\", \"b\"]\n[[wire]]\nname = \"w\"\nends = [\"a\", \"b\"]\ndelay = 2\nlife = 10\nlargest = 1500\n%%\njournal w\nregister w b echo\nalloc p w a ping echo\naccept q w b echo\nsend p 'x\ncut w\nsend p 'y\nalloc r w a ping echo\ntick 2\nread q\ncut w\nmend w\nalloc r w a ping echo\nstate p\nfree q\nfree r\nstate r\njournal w\njournal v\ncut v\nunregister w b echo\nalloc s w a ping echo\n",
+        "1 0 none\n2 0 ok\n3 0 ok allocated\n4 0 ok allocated\n5 0 sent 0.0\n6 0 ok\n6 0 state p failed Cut 0\n6 0 state q failed Cut 0\n7 0 no Failed Cut 0\n8 0 no NoRoute 0\n9 2 ok\n10 2 none\n11 2 ok\n12 2 ok\n13 2 ok allocated\n14 2 ok failed Cut 0\n15 2 ok\n16 2 ok\n16 2 state r closed\n17 2 ok closed\n18 2 flow 1.0.0 asker w/a/1 ping echo 0 0 failed Cut 0\n18 2 s 0 0.0 'x\n18 2 flow 1.0.0 far w/b/1 echo ping 0 0 failed Cut 0\n18 2 flow 1.2.1 asker w/a/2 ping echo 0 0 closed\n18 2 flow 1.2.1 far w/b/2 echo ping 0 0 closed\n19 2 no Unknown 1\n20 2 no NoWire\n21 2 ok\n22 2 no NoSuchApp\nend 2\n",
     ),
 ];
 

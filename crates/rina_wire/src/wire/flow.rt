@@ -3,10 +3,12 @@ ghost use Rattle.std.specs.Prelude.{◌≡◌, ◌<◌, OnOk, OnErr, IfOk};
 ghost use Rattle.rina_iface.specs.declared.state.PortState.TheVariants.{Allocated};
 ghost use Rattle.rina_iface.specs.Allocate.{new_end};
 ghost use Rattle.rina_wire.specs.Allocate.{flow_made, flow_on, port_on, with_ends};
+ghost use Rattle.rina_iface.specs.Bind.{with_name_once};
+ghost use Rattle.rina_wire.specs.Bind.{bound_on, with_fixed};
 
 use super::Wire;
 use rina_base::{AppName, FlowName, Memory, Node, Port, Tick};
-use rina_iface::{Ask, End, Entries, PortState, Role};
+use rina_iface::{Ask, End, Entries, Fixed, PortState, Registered, Role};
 use std::alloc::Global;
 
 /// An end of a new flow, which is allocated at once.
@@ -88,5 +90,59 @@ impl Wire {
         let asker = new_end(alloc, flow, Role::Asker, near, &ask.app, &ask.to)?;
         let far = new_end(alloc, flow, Role::Far, other, &ask.to, &ask.app)?;
         self.add_ends(asker, far)
+    }
+
+    /// Adds both ends of a fixed flow.
+    fn add_fixed(&mut self, asker: End, far: End) -> Result<(), Memory>
+        requires { self.old.flows < 4294967295 }
+        ensures ok { OnOk result (self.new ≡ with_fixed self.old asker far) }
+        ensures err { OnErr result (self.new ≡ self.old) }
+    {
+        if self.journal.ends.push_both(asker, far).is_err() {
+            return Err(Memory);
+        }
+        self.flows += 1;
+        Ok(())
+    }
+
+    /// Adds both ends of a fixed flow, and the name of its far application.
+    fn add_bound(
+        &mut self,
+        alloc: Global,
+        asker: End,
+        far: End,
+        node: Node,
+        app: &AppName,
+    ) -> Result<(), Memory>
+        requires { self.old.flows < 4294967295 }
+        ensures ok { OnOk result (self.new ≡ record (with_fixed self.old asker far) { names = with_name_once self.old.names node app.now }) }
+        ensures err { OnErr result (self.new ≡ self.old) }
+    {
+        if self.has_name(node, app) {
+            return self.add_fixed(asker, far);
+        }
+        let app = app.copy(alloc)?;
+        if self.names.push(Registered { node, app }).is_err() {
+            return Err(Memory);
+        }
+        if self.add_fixed(asker, far).is_err() {
+            let _ = self.names.pop();
+            return Err(Memory);
+        }
+        Ok(())
+    }
+
+    /// Makes a fixed flow, both ends of which are allocated and claimed.
+    pub fn bind_flow(&mut self, alloc: Global, clock: Tick, fixed: &Fixed) -> Result<(), Memory>
+        requires { self.old.flows < 4294967295 }
+        ensures ok { OnOk result (self.new ≡ bound_on clock fixed.now self.old) }
+        ensures err { OnErr result (self.new ≡ self.old) }
+    {
+        let flow = self.flow_on(clock, fixed.a);
+        let near = self.port_on(fixed.fac, fixed.a);
+        let other = self.port_on(fixed.fac, fixed.b);
+        let asker = new_end(alloc, flow, Role::Asker, near, &fixed.a_app, &fixed.b_app)?;
+        let far = new_end(alloc, flow, Role::Far, other, &fixed.b_app, &fixed.a_app)?;
+        self.add_bound(alloc, asker, far, fixed.b, &fixed.b_app)
     }
 }

@@ -10,7 +10,7 @@ use rina_iface::Entry;
 use std::alloc::Global;
 
 /// The place of the other end of a flow.
-fn mate(place: usize) -> usize
+pub fn mate(place: usize) -> usize
     requires { place < 2 ^ 63 }
     ensures { result ≡ mate place }
 {

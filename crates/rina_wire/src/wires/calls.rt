@@ -1,17 +1,22 @@
 //! What each call does, exactly.
-ghost use Rattle.std.specs.Prelude.{◌≡◌, ◌<◌, ◌≤◌, ◌+◌, ◌^◌, All, IsSome, Some, length, slice_get, option_and_then};
+ghost use Rattle.std.specs.Prelude.{◌≡◌, ◌<◌, ◌≤◌, ◌+◌, ◌^◌, All, IsSome, IfSome, Some, length, slice_get, option_and_then};
 ghost use Rattle.rina_iface.specs.declared.ends.End.{End};
-ghost use Rattle.rina_wire.specs.Air.{Line, end_at};
+ghost use Rattle.rina_wire.specs.Air.{Line, end_at, wire_at};
 ghost use Rattle.rina_wire.specs.Allocate.{AllocatesOn};
+ghost use Rattle.rina_wire.specs.Bind.{BindsOn};
 ghost use Rattle.rina_wire.specs.Claim.{ClaimsOn};
+ghost use Rattle.rina_wire.specs.Free.{FreesOn};
 ghost use Rattle.rina_wire.specs.Register.{RegistersOn};
 ghost use Rattle.rina_wire.specs.Send.{SendsOn, passed, unpassed_at};
 ghost use Rattle.rina_wire.specs.Sound.{IsSoundLine};
+ghost use Rattle.rina_wire.specs.Unregister.{UnregistersOn};
 
 use super::Wires;
 use crate::wire::frame_number;
 use rina_base::{AppName, Node, Num, Port};
-use rina_iface::{AllocateError, Ask, PortState, RegisterError, SendError};
+use rina_iface::{
+    AllocateError, Ask, Fixed, FreeError, PortState, RegisterError, SendError, UnregisterError,
+};
 use std::alloc::Global;
 
 impl Wires {
@@ -44,6 +49,28 @@ impl Wires {
         Ok(())
     }
 
+    /// Ends the registration of an application at a node.
+    pub(super) fn drop_name(
+        &mut self,
+        fac: u16,
+        node: Node,
+        app: &AppName,
+    ) -> Result<(), UnregisterError>
+        ensures { UnregistersOn self.old fac node app.now result self.new }
+    {
+        if self.failed {
+            return Err(UnregisterError::Memory);
+        }
+        let Some(wire) = self.wires.get(fac as usize) else {
+            return Err(UnregisterError::NotThere);
+        };
+        if !wire.has_name(node, app) {
+            return Err(UnregisterError::NotThere);
+        }
+        self.wires[fac as usize].drop_name(node, app);
+        Ok(())
+    }
+
     /// Asks for a flow.
     pub(super) fn open_flow(&mut self, alloc: Global, ask: &Ask) -> Result<Port, AllocateError>
         ensures { AllocatesOn self.old ask.now result self.new }
@@ -69,6 +96,9 @@ impl Wires {
         if wire.flows() == u32::MAX {
             return Err(AllocateError::NoIds { used: u32::MAX });
         }
+        if wire.is_cut() {
+            return Err(AllocateError::NoRoute { dst: 0 });
+        }
         if let Some(port) = wire.busy(ask.node) {
             return Err(AllocateError::Busy { port });
         }
@@ -81,6 +111,36 @@ impl Wires {
             return Err(AllocateError::Memory);
         }
         Ok(port)
+    }
+
+    /// Makes a fixed flow.
+    pub(super) fn bind_flow(
+        &mut self,
+        alloc: Global,
+        fixed: &Fixed,
+    ) -> Result<(Port, Port), AllocateError>
+        requires room { IfSome (wire_at self.old fixed.now.fac) (λ (l : Line). l.flows < 4294967295) }
+        requires there { IsSome (wire_at self.old fixed.now.fac) }
+        ensures { BindsOn self.old fixed.now result self.new }
+    {
+        if self.failed {
+            return Err(AllocateError::Memory);
+        }
+        let Some(wire) = self.wires.get(fixed.fac as usize) else {
+            unreachable!()
+        };
+        let ports = (
+            wire.port_on(fixed.fac, fixed.a),
+            wire.port_on(fixed.fac, fixed.b),
+        );
+        if self.wires[fixed.fac as usize]
+            .bind_flow(alloc, self.clock, fixed)
+            .is_err()
+        {
+            self.failed = true;
+            return Err(AllocateError::Memory);
+        }
+        Ok(ports)
     }
 
     /// Claims the oldest far end of an application at a node that nobody claimed yet.
@@ -154,5 +214,25 @@ impl Wires {
             unreachable!()
         };
         self.wires[port.fac as usize].pass(place);
+    }
+
+    /// Closes the flow of a port.
+    pub(super) fn free_port(&mut self, port: Port) -> Result<(), FreeError>
+        ensures { FreesOn self.old port result self.new }
+    {
+        if self.failed {
+            return Err(FreeError::Memory);
+        }
+        let Some(wire) = self.wires.get(port.fac as usize) else {
+            return Err(FreeError::NoPort);
+        };
+        let Some(place) = wire.place(port) else {
+            return Err(FreeError::NoPort);
+        };
+        if wire.end(place).is_none() {
+            return Err(FreeError::NoPort);
+        }
+        self.wires[port.fac as usize].free(place);
+        Ok(())
     }
 }

@@ -1,6 +1,8 @@
 //! Events of a wire.
 ghost use Rattle.std.specs.Prelude.{◌≡◌};
+ghost use Rattle.rina_iface.specs.Later.{IsLater};
 ghost use Rattle.rina_wire.specs.Air.{seen_of};
+ghost use Rattle.rina_wire.specs.Cut.{CutsOn, MendsOn};
 ghost use Rattle.rina_wire.specs.Disturb.{HoldsOn, LosesOn, RepeatsOn};
 ghost use Rattle.rina_wire.specs.Sound.{IsSound};
 
@@ -105,5 +107,48 @@ impl Wires {
         ensures exact { HoldsOn self.old wire k at result self.new }
     {
         self.move_copy(wire, k, at)
+    }
+
+    fn cut_wire(&mut self, wire: u16) -> Result<(), WireError>
+        ensures { CutsOn self.old wire result self.new }
+    {
+        if self.wires.get(wire as usize).is_none() {
+            return Err(WireError::NoWire);
+        }
+        self.wires[wire as usize].cut(self.clock);
+        Ok(())
+    }
+
+    fn mend_wire(&mut self, wire: u16) -> Result<(), WireError>
+        ensures { MendsOn self.old wire result self.new }
+    {
+        if self.wires.get(wire as usize).is_none() {
+            return Err(WireError::NoWire);
+        }
+        self.wires[wire as usize].mend();
+        Ok(())
+    }
+
+    /// Cuts a wire: the copies in flight are dropped, and a flow that is allocated fails at both ends.
+    /// A wire that is cut already stays as it is.
+    #[tactic(auto, using(crate::proofs::SoundCut::sound_cuts, crate::proofs::SoundCut::cuts_later))]
+    pub fn cut(&mut self, wire: u16) -> Result<(), WireError>
+        requires { IsSound self.old }
+        ensures valid { IsSound self.new }
+        ensures later { IsLater (seen_of self.old) (seen_of self.new) }
+        ensures exact { CutsOn self.old wire result self.new }
+    {
+        self.cut_wire(wire)
+    }
+
+    /// Mends a wire: it may be asked for again.
+    #[tactic(auto, using(crate::proofs::SoundCut::sound_mends, crate::proofs::SoundCut::mends_unseen))]
+    pub fn mend(&mut self, wire: u16) -> Result<(), WireError>
+        requires { IsSound self.old }
+        ensures valid { IsSound self.new }
+        ensures journals { seen_of self.new ≡ seen_of self.old }
+        ensures exact { MendsOn self.old wire result self.new }
+    {
+        self.mend_wire(wire)
     }
 }

@@ -1,15 +1,21 @@
 //! Wires as facilities.
-ghost use Rattle.std.specs.Prelude.{◌≡◌, ◌≤◌, ℕ, Option, Some, None, IsSome, MatchOption, List, length, slice_get, option_map, option_and_then};
+ghost use Rattle.std.specs.Prelude.{◌≡◌, ◌≤◌, ℕ, true, Option, Some, None, IsSome, MatchOption, List, length, slice_get, option_map, option_and_then};
 ghost use Rattle.rina_iface.specs.Seen.{Fac, unpassed};
 ghost use Rattle.rina_iface.specs.Later.{IsLater};
 ghost use Rattle.rina_iface.specs.Register.{Registers};
 ghost use Rattle.rina_iface.specs.Allocate.{Allocates};
+ghost use Rattle.rina_iface.specs.Bind.{Binds, CanBind};
 ghost use Rattle.rina_iface.specs.Claim.{Claims};
+ghost use Rattle.rina_iface.specs.Free.{Frees};
+ghost use Rattle.rina_iface.specs.Unregister.{Unregisters};
 ghost use Rattle.rina_iface.specs.Send.{Sends};
 ghost use Rattle.rina_iface.specs.Pass.{IsPassed};
 ghost use Rattle.rina_wire.specs.Air.{seen_of};
 ghost use Rattle.rina_wire.specs.Allocate.{AllocatesOn, own_allocate_refusal};
+ghost use Rattle.rina_wire.specs.Bind.{BindsOn};
 ghost use Rattle.rina_wire.specs.Claim.{ClaimsOn};
+ghost use Rattle.rina_wire.specs.Free.{FreesOn};
+ghost use Rattle.rina_wire.specs.Unregister.{UnregistersOn};
 ghost use Rattle.rina_wire.specs.Register.{RegistersOn};
 ghost use Rattle.rina_wire.specs.Send.{SendsOn, own_send_refusal, passed};
 ghost use Rattle.rina_wire.specs.Sound.{IsSound};
@@ -17,7 +23,8 @@ ghost use Rattle.rina_wire.specs.Sound.{IsSound};
 use super::Wires;
 use rina_base::{AppName, Node, Num, Port, Tick};
 use rina_iface::{
-    AllocateError, Ask, Facility, Journal, Lent, PortState, RegisterError, SendError,
+    AllocateError, Ask, Facility, Fixed, FreeError, Journal, Lent, PortState, RegisterError,
+    SendError, UnregisterError,
 };
 use std::alloc::Global;
 
@@ -30,9 +37,13 @@ impl Facility for Wires {
 
     ghost refuses_register = { λ a fac node app. None };
 
+    ghost refuses_unregister = { λ a fac node app. None };
+
     ghost refuses_allocate = { own_allocate_refusal };
 
     ghost refuses_send = { λ a port len. own_send_refusal a port };
+
+    ghost frees_both = { λ a. true };
 
     fn now(&self) -> Tick {
         self.clock
@@ -75,6 +86,23 @@ impl Facility for Wires {
         self.enter_name(alloc, fac, node, app)
     }
 
+    #[tactic(auto, using(crate::proofs::Left::seen_unregisters, crate::proofs::SoundRegister::sound_unregisters, crate::proofs::Later::unregisters_later))]
+    fn unregister(
+        &mut self,
+        _alloc: Global,
+        fac: u16,
+        node: Node,
+        app: &AppName,
+    ) -> Result<(), UnregisterError>
+        requires { IsSound self.old }
+        ensures valid { IsSound self.new }
+        ensures later { IsLater (seen_of self.old) (seen_of self.new) }
+        ensures does { Unregisters None (seen_of self.old) fac node app.now result (seen_of self.new) }
+        ensures exact { UnregistersOn self.old fac node app.now result self.new }
+    {
+        self.drop_name(fac, node, app)
+    }
+
     #[tactic(auto, using(crate::proofs::Asked::seen_allocates, crate::proofs::SoundAllocate::sound_allocates, crate::proofs::Later::allocates_later))]
     fn allocate(&mut self, alloc: Global, ask: &Ask) -> Result<Port, AllocateError>
         requires { IsSound self.old }
@@ -85,6 +113,17 @@ impl Facility for Wires {
         ensures exact { AllocatesOn self.old ask.now result self.new }
     {
         self.open_flow(alloc, ask)
+    }
+
+    fn bind(&mut self, alloc: Global, fixed: &Fixed) -> Result<(Port, Port), AllocateError>
+        requires valid { IsSound self.old }
+        requires room { CanBind (seen_of self.old) fixed.now }
+        ensures valid { IsSound self.new }
+        ensures later { IsLater (seen_of self.old) (seen_of self.new) }
+        ensures does { Binds (seen_of self.old) fixed.now result (seen_of self.new) }
+        ensures exact { BindsOn self.old fixed.now result self.new }
+    {
+        self.bind_flow(alloc, fixed)
     }
 
     #[tactic(auto, using(crate::proofs::Claims::seen_claims))]
@@ -129,6 +168,17 @@ impl Facility for Wires {
         ensures exact { self.new ≡ passed self.old port }
     {
         self.pass_oldest(port);
+    }
+
+    #[tactic(auto, using(crate::proofs::Left::seen_frees, crate::proofs::SoundFree::sound_frees, crate::proofs::Later::frees_later))]
+    fn free(&mut self, _alloc: Global, port: Port) -> Result<(), FreeError>
+        requires { IsSound self.old }
+        ensures valid { IsSound self.new }
+        ensures later { IsLater (seen_of self.old) (seen_of self.new) }
+        ensures does { Frees true (seen_of self.old) port result (seen_of self.new) }
+        ensures exact { FreesOn self.old port result self.new }
+    {
+        self.free_port(port)
     }
 
     ghost same_refl = { λ a. tt };

@@ -1,4 +1,4 @@
-use Rattle.rina_run.specs.Step.{Registering, Allocating, Accepting, Sending, Losing, Repeating, Holding}
+use Rattle.rina_run.specs.Step.{Registering, Allocating, Accepting, Sending, Losing, Repeating, Holding, Cutting, Mending, Unregistering, Freeing, Stating}
 use Rattle.rina_run.proofs.Leading.{told_leads}
 use Rattle.rina_run.proofs.step.act.Goals as goal
 
@@ -22,3 +22,18 @@ returns-in_ok-says-in-Repeat-clause-does c = rw c.in-Repeat.is (told_leads (Repe
 
 pub returns-in_ok-says-in-Hold-clause-does : goal.returns-in_ok-says-in-Hold-clause-does
 returns-in_ok-says-in-Hold-clause-does c = rw c.in-Hold.is (told_leads (Holding c.args.plan.now c.in-Hold.wire c.in-Hold.frame c.in-Hold.at c.args.world.now) _ _ _ _ _ _ _ c.in_ok-says-in-Hold.ensures.does c.now-in-Hold.ensures c.tell-in-Hold.ensures.ok)
+
+pub returns-in_ok-says-in-Cut-clause-does : goal.returns-in_ok-says-in-Cut-clause-does
+returns-in_ok-says-in-Cut-clause-does c = rw c.in-Cut.is (told_leads (Cutting c.args.plan.now c.in-Cut.wire c.args.world.now) _ _ _ _ _ _ _ c.in_ok-says-in-Cut.ensures.does c.now-in-Cut.ensures c.tell-in-Cut.ensures.ok)
+
+pub returns-in_ok-says-in-Mend-clause-does : goal.returns-in_ok-says-in-Mend-clause-does
+returns-in_ok-says-in-Mend-clause-does c = rw c.in-Mend.is (told_leads (Mending c.args.plan.now c.in-Mend.wire c.args.world.now) _ _ _ _ _ _ _ c.in_ok-says-in-Mend.ensures.does c.now-in-Mend.ensures c.tell-in-Mend.ensures.ok)
+
+pub returns-in_ok-says-in-Unregister-clause-does : goal.returns-in_ok-says-in-Unregister-clause-does
+returns-in_ok-says-in-Unregister-clause-does c = rw c.in-Unregister.is (told_leads (Unregistering c.args.plan.now c.in-Unregister.fac c.in-Unregister.node c.in-Unregister.app c.args.world.now) _ _ _ _ _ _ _ c.in_ok-says-in-Unregister.ensures.does c.now-in-Unregister.ensures c.tell-in-Unregister.ensures.ok)
+
+pub returns-in_ok-says-in-Free-clause-does : goal.returns-in_ok-says-in-Free-clause-does
+returns-in_ok-says-in-Free-clause-does c = rw c.in-Free.is (told_leads (Freeing c.in-Free.label c.args.world.now) _ _ _ _ _ _ _ c.in_ok-says-in-Free.ensures.does c.now-in-Free.ensures c.tell-in-Free.ensures.ok)
+
+pub returns-in_ok-says-in-State-clause-does : goal.returns-in_ok-says-in-State-clause-does
+returns-in_ok-says-in-State-clause-does c = rw c.in-State.is (told_leads (Stating c.args.plan.now c.in-State.label c.args.world.now) _ _ _ _ _ _ _ c.in_ok-says-in-State.ensures c.now-in-State.ensures c.tell-in-State.ensures.ok)

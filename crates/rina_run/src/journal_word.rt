@@ -1,0 +1,209 @@
+//! The word `journal`.
+ghost use Rattle.std.specs.Prelude.{◌≡◌, ◌++◌, ◌∷◌, [], map, option_map, IfOk, OnOk, OnErr};
+ghost use Rattle.std.specs.List.{flat_map};
+ghost use Rattle.rina_report.specs.declared.said.Said.TheVariants as said;
+ghost use Rattle.rina_stack.specs.Plan.{IsPlan};
+ghost use Rattle.rina_wire.specs.Air.{seen_of};
+ghost use Rattle.rina_run.specs.Look.{Leads, Extends};
+ghost use Rattle.rina_run.specs.Step.{Showing, end_notes, ends_in, entry_note, flow_note, journal_notes, sent_note, wire_of};
+
+use crate::note::tell;
+use crate::told::{tell_port, tell_state};
+use crate::world::World;
+use rina_base::{Memory, Name, Seq, Tick};
+use rina_iface::{End, Entry, Facility};
+use rina_report::{FlowNote, Notes, Refusal, Said};
+use rina_stack::Plan;
+use rina_wire::Wires;
+use std::alloc::Global;
+
+/// One end, as it is shown.
+fn say_end(alloc: Global, plan: &Plan, end: &End) -> Result<Option<Said>, Memory>
+    ensures { IfOk result (λ o. o ≡ option_map said.Flow (flow_note plan.now end.now)) }
+{
+    let Some(port) = tell_port(alloc, plan, end.port)? else {
+        return Ok(None);
+    };
+    let Some(state) = tell_state(alloc, plan, end.state)? else {
+        return Ok(None);
+    };
+    Ok(Some(Said::Flow(FlowNote {
+        flow: end.flow,
+        role: end.role,
+        port,
+        app: end.app.copy(alloc)?,
+        peer: end.peer.copy(alloc)?,
+        cube: end.cube,
+        taken: end.taken,
+        state,
+    })))
+}
+
+/// An entry of what an end sent.
+fn tell_sent(
+    alloc: Global,
+    entry: &Entry,
+    line: u32,
+    tick: Tick,
+    trace: &mut Notes,
+) -> Result<(), Memory>
+    ensures ok { OnOk result (trace.new ≡ trace.old ++ map (sent_note line tick) (entry.now ∷ [])) }
+    ensures err { OnErr result (trace.new ≡ trace.old) }
+{
+    let bytes = Seq::copy_of(alloc, entry.bytes.as_slice())?;
+    let what = Said::SentEntry {
+        at: entry.tick,
+        num: entry.num,
+        bytes,
+    };
+    tell(trace, line, tick, Some(what))
+}
+
+/// An entry of what an end got.
+fn tell_got(
+    alloc: Global,
+    entry: &Entry,
+    line: u32,
+    tick: Tick,
+    trace: &mut Notes,
+) -> Result<(), Memory>
+    ensures ok { OnOk result (trace.new ≡ trace.old ++ map (entry_note line tick) (entry.now ∷ [])) }
+    ensures err { OnErr result (trace.new ≡ trace.old) }
+{
+    let bytes = Seq::copy_of(alloc, entry.bytes.as_slice())?;
+    let what = Said::GotEntry {
+        at: entry.tick,
+        num: entry.num,
+        bytes,
+    };
+    tell(trace, line, tick, Some(what))
+}
+
+/// All that an end sent.
+fn tell_all_sent(
+    alloc: Global,
+    entries: &[Entry],
+    line: u32,
+    tick: Tick,
+    trace: &mut Notes,
+) -> Result<(), Memory>
+    ensures ok { OnOk result (trace.new ≡ trace.old ++ map (sent_note line tick) entries.now) }
+    ensures err { OnErr result (Extends trace.old trace.new) }
+{
+    'entries: for entry in entries {
+        tell_sent(alloc, entry, line, tick, trace)?;
+    }
+    Ok(())
+}
+
+/// All that an end got.
+fn tell_all_got(
+    alloc: Global,
+    entries: &[Entry],
+    line: u32,
+    tick: Tick,
+    trace: &mut Notes,
+) -> Result<(), Memory>
+    ensures ok { OnOk result (trace.new ≡ trace.old ++ map (entry_note line tick) entries.now) }
+    ensures err { OnErr result (Extends trace.old trace.new) }
+{
+    'entries: for entry in entries {
+        tell_got(alloc, entry, line, tick, trace)?;
+    }
+    Ok(())
+}
+
+/// One end with its journal.
+fn tell_end(
+    alloc: Global,
+    plan: &Plan,
+    end: &End,
+    line: u32,
+    tick: Tick,
+    trace: &mut Notes,
+) -> Result<(), Memory>
+    ensures ok { OnOk result (trace.new ≡ trace.old ++ end_notes plan.now line tick end.now) }
+    ensures err { OnErr result (Extends trace.old trace.new) }
+{
+    let says = say_end(alloc, plan, end)?;
+    tell(trace, line, tick, says)?;
+    tell_all_sent(alloc, end.sent.as_slice(), line, tick, trace)?;
+    tell_all_got(alloc, end.got.as_slice(), line, tick, trace)
+}
+
+/// All ends, each with its journal.
+fn tell_ends(
+    alloc: Global,
+    plan: &Plan,
+    ends: &[End],
+    line: u32,
+    tick: Tick,
+    trace: &mut Notes,
+) -> Result<(), Memory>
+    ensures ok { OnOk result (trace.new ≡ trace.old ++ flat_map (end_notes plan.now line tick) ends.now) }
+    ensures err { OnErr result (Extends trace.old trace.new) }
+{
+    'ends: for end in ends {
+        tell_end(alloc, plan, end, line, tick, trace)?;
+    }
+    Ok(())
+}
+
+/// Shows all ends of a facility, or that there is none.
+fn tell_journal(
+    alloc: Global,
+    plan: &Plan,
+    ends: &[End],
+    line: u32,
+    tick: Tick,
+    trace: &mut Notes,
+) -> Result<(), Memory>
+    ensures ok { OnOk result (trace.new ≡ trace.old ++ journal_notes plan.now line tick ends.now) }
+    ensures err { OnErr result (Extends trace.old trace.new) }
+{
+    if ends.is_empty() {
+        return tell(trace, line, tick, Some(Said::Nothing));
+    }
+    tell_ends(alloc, plan, ends, line, tick, trace)
+}
+
+/// Shows the journal of the facility of a number.
+#[tactic(auto, using(crate::proofs::Telling::ends_are, crate::proofs::Telling::ends_none))]
+fn tell_fac(
+    alloc: Global,
+    plan: &Plan,
+    tower: &Wires,
+    fac: u16,
+    line: u32,
+    trace: &mut Notes,
+) -> Result<(), Memory>
+    ensures ok { OnOk result (trace.new ≡ trace.old ++ journal_notes plan.now line tower.now.now (ends_in (seen_of tower.now) fac)) }
+    ensures err { OnErr result (Extends trace.old trace.new) }
+{
+    let tick = tower.now();
+    match tower.journal(fac) {
+        Some(journal) => tell_journal(alloc, plan, journal.ends.as_slice(), line, tick, trace),
+        None => tell(trace, line, tick, Some(Said::Nothing)),
+    }
+}
+
+/// The word `journal`.
+pub fn journal(
+    alloc: Global,
+    plan: &Plan,
+    world: &World,
+    line: u32,
+    fac: &Name,
+    trace: &mut Notes,
+) -> Result<(), Memory>
+    requires { IsPlan plan.now }
+    ensures does { OnOk result (Leads (λ ns. Showing plan.now line (wire_of plan.now fac.now) world.now ns world.now) trace.old trace.new) }
+    ensures more { OnErr result (Extends trace.old trace.new) }
+{
+    let tick = world.tower.now();
+    let Some(fac) = plan.wire(fac) else {
+        let why = Refusal::Unknown { field: 1 };
+        return tell(trace, line, tick, Some(Said::Refused { why }));
+    };
+    tell_fac(alloc, plan, &world.tower, fac, line, trace)
+}
