@@ -5,7 +5,7 @@ use Rattle.std.proofs.lemmas.Bool.{eq-eqb, ne_eqb, eqb-false}
 use Rattle.std.proofs.lemmas.List.{append-nil, drop-drop, drop_all, length-drop, length-take, take_min, take-append-drop}
 use Rattle.rina_delim.specs.declared.part.Part as delim
 use Rattle.rina_delim.specs.Parts.{part_count, part_at, first_parts, parts_of}
-use Rattle.rina_law.specs.Pieces.{Part, IsSized, IsCut, join}
+use Rattle.rina_law.specs.Pieces.{IsSized, IsCut, join}
 use Rattle.rina_conn.specs.Carrying.{part_in, parts_in, LieWithin}
 
 -- so many parts from one on

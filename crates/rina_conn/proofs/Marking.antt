@@ -1,13 +1,12 @@
 -- The mark of the next acknowledgement follows the machine's.
-use Rattle.std.proofs.Common.{◌≡◌, ℕ, ◌+◌, Bool, true, false, cond, List, Option, Some, None, refl, sym, ◌∙◌, ap, subst, unwrap_or}
+use Rattle.std.proofs.Common.{◌≡◌, ℕ, Bool, true, false, cond, List, Option, Some, None, refl, sym, ◌∙◌, ap, subst, unwrap_or}
 use Rattle.rina_base.specs.declared.pdu.Pdu.{Pdu}
 use Rattle.rina_dtcp.specs.Plans.{Plan, IsPlanOf, IsLastIn, TellsPass}
 use Rattle.rina_dtp.specs.declared.verdict.Verdict.{Verdict}
-use Rattle.rina_dtp.specs.Lost.{joiner_for, told, told_accepted}
+use Rattle.rina_dtp.specs.Lost.{told, told_accepted}
 use Rattle.rina_dtp.specs.Observed.{TellsLastIn}
-use Rattle.rina_dtp.specs.Stands.{Stands, IsRow}
+use Rattle.rina_dtp.specs.Stands.{IsRow}
 use Rattle.rina_law.specs.Constants.{Constants}
-use Rattle.rina_law.specs.Pdus.{piece_in}
 use Rattle.rina_law.specs.Pieces.{Joiner, Sdu}
 use Rattle.rina_law.specs.Receiver as law
 use Rattle.rina_law.specs.Receiver.{Receiver, is_present, mark_after}

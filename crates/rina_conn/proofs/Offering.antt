@@ -1,5 +1,5 @@
 -- The refusals of an SDU are those of the machine.
-use Rattle.std.proofs.Common.{◌≡◌, ℕ, suc, ◌+◌, ◌-◌, ◌<◌, ◌≤◌, Bool, true, false, cond, ◌&&◌, ltb, List, [], ◌∷◌, length, map, Option, Some, None, Result, Ok, Err, refl, sym, ◌∙◌, ap, subst, arith, inl, inr}
+use Rattle.std.proofs.Common.{◌≡◌, ℕ, suc, ◌+◌, ◌<◌, ◌≤◌, Bool, true, false, ltb, List, [], ◌∷◌, length, map, Some, Ok, Err, refl, sym, ◌∙◌, ap, subst, arith}
 use Rattle.std.proofs.lemmas.Bool.{lt-ltb, le-ltb}
 use Rattle.std.proofs.lemmas.List.{length-map}
 use Rattle.rina_cube.specs.Cubes.{is_reliable, delta_of}
@@ -7,12 +7,9 @@ use Rattle.rina_cube.specs.declared.Kind.{Kind}
 use Rattle.rina_cube.specs.declared.Kind.TheVariants.{Datagram, Loose, Reliable}
 use Rattle.rina_delim.specs.declared.part.Part as delim
 use Rattle.rina_delim.specs.Parts.{part_count, parts_of}
-use Rattle.rina_dtcp.specs.Rows as dtcp
-use Rattle.rina_dtcp.specs.Rows.{Stands, ready, NotesAll, IsTold}
+use Rattle.rina_dtcp.specs.Rows.{ready, NotesAll, IsTold}
 use Rattle.rina_dtcp.specs.Senders.{Kept, flag_of}
-use Rattle.rina_dtp.specs.declared.numbers.Numbers.{Numbers}
-use Rattle.rina_dtp.specs.Numbers.{Counts, TakesNumbers, refusal_of}
-use Rattle.rina_law.specs.Constants.{Constants, delta}
+use Rattle.rina_law.specs.Constants.{Constants}
 use Rattle.rina_law.specs.Line.{HasRoom}
 use Rattle.rina_law.specs.Pieces.{Part, IsCut, join}
 use Rattle.rina_law.specs.Receiver.{Piece}
@@ -21,11 +18,11 @@ use Rattle.rina_law.specs.Sender.{Sender, Refusal, refusal, room_of, pieces_for,
 use Rattle.rina_base.specs.declared.pdu.Pdu.{Pdu}
 use Rattle.rina_conn.specs.declared.made.Made.{Made}
 use Rattle.rina_conn.specs.declared.made.OfferError.{OfferError}
-use Rattle.rina_conn.specs.declared.made.OfferError.TheVariants.{Memory, TooLong, WindowShut, NumbersSpent}
+use Rattle.rina_conn.specs.declared.made.OfferError.TheVariants.{Memory}
 use Rattle.rina_conn.specs.declared.sending.Admitted.{Admitted}
 use Rattle.rina_conn.specs.declared.sending.Sending.{Sending}
 use Rattle.rina_conn.specs.Carrying.{carry, part_in, parts_in, made_from}
-use Rattle.rina_conn.specs.Sending.{IsSender, Refuses, ChecksLength, ChecksWindow, IsPartsOf, Numbered, IsAdmitted, Admits, IsMade, IsCutOf, Offers}
+use Rattle.rina_conn.specs.Sending.{IsSender, ChecksLength, ChecksWindow, IsPartsOf, Numbered, Admits, IsCutOf, Offers}
 use Rattle.rina_conn.proofs.Making.{made_is}
 use Rattle.rina_conn.proofs.Cutting.{parts_cut, parts_few, parts_lie_within}
 

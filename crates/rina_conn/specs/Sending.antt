@@ -1,8 +1,6 @@
 -- What the sending half of a connection does, in the terms of the machine's sender for which it stands.
-use Rattle.std.specs.Prelude.{◌≡◌, ℕ, ◌+◌, ◌-◌, ◌*◌, ◌^◌, ◌<◌, ◌≤◌, Bool, true, List, length, map, Option, Some, None, option_map, Result, Ok, Err, if◌then◌else◌}
-use Rattle.rina_base.specs.declared.pdu.Pdu.{Pdu}
+use Rattle.std.specs.Prelude.{◌≡◌, ℕ, ◌-◌, ◌^◌, ◌<◌, ◌≤◌, Bool, true, List, length, map, Option, Some, None, option_map, Result, Ok, Err, if◌then◌else◌}
 use Rattle.rina_cube.specs.Cubes.{is_reliable, delta_of}
-use Rattle.rina_cube.specs.declared.Cube.{Cube}
 use Rattle.rina_delim.specs.declared.part.Part as delim
 use Rattle.rina_delim.specs.Parts.{parts_of}
 use Rattle.rina_dtcp.specs.declared.sent.GaveUp.{GaveUp}

@@ -13,7 +13,7 @@ use Rattle.rina_schedule.specs.declared.error.LineError.TheVariants as errors
 use Rattle.rina_stack.specs.declared.plan.Plan.{Plan}
 use Rattle.rina_stack.specs.declared.error.StackError.{StackError}
 use Rattle.rina_stack.specs.declared.error.StackError.TheVariants as stack
-use Rattle.rina_stack.specs.Plan.{Reads}
+use Rattle.rina_stack.specs.Built.{ReadsBuilt}
 use Rattle.rina_iface.specs.declared.state.Fail.{Fail}
 use Rattle.rina_iface.specs.declared.state.Fail.TheVariants.{GaveUp, Below, Cut}
 use Rattle.rina_iface.specs.declared.state.PortState.TheVariants.{Failed}
@@ -123,24 +123,24 @@ stop_from plan ending lines t u tower stops.Memory ran left = ran
 stop_from plan ending lines t u tower stops.WriteFault ran left = record { told = t; world = u; first = ran; closing = record { notes = []; trace = sym (append-nil t) }; left = left }
 
 -- a stack that is no TOML, or breaks a rule
-pub not_toml_from : (text : List ℕ) (s : Status) (t : List Note) → Reads (Err stack.NotToml) text → RefusedBy faults.NotToml s t → StackOutcomes text s t
+pub not_toml_from : (text : List ℕ) (s : Status) (t : List Note) → ReadsBuilt (Err stack.NotToml) text → RefusedBy faults.NotToml s t → StackOutcomes text s t
 not_toml_from text statuses.NotToml t reads r = (reads, r.1)
 not_toml_from text statuses.WriteFault t reads r = (faults.NotToml, r)
 not_toml_from text statuses.Memory t reads (inl p) = inl p
 not_toml_from text statuses.Memory t reads (inr p) = inr (faults.NotToml, p)
 not_toml_from text s t reads r = cc
 
-pub rule_from : (text : List ℕ) (s : Status) (t : List Note) (n item : ℕ) → Reads (Err (stack.StackRule n item)) text → RefusedBy (faults.StackRule n item) s t → StackOutcomes text s t
+pub rule_from : (text : List ℕ) (s : Status) (t : List Note) (n item : ℕ) → ReadsBuilt (Err (stack.StackRule n item)) text → RefusedBy (faults.StackRule n item) s t → StackOutcomes text s t
 rule_from text (statuses.StackRule m k) t n item reads r =
     let same : stack.StackRule n item ≡ stack.StackRule m k = cc in
-    (subst (λ (e : StackError). Reads (Err e) text) same reads, r.1 ∙ cc)
+    (subst (λ (e : StackError). ReadsBuilt (Err e) text) same reads, r.1 ∙ cc)
 rule_from text statuses.WriteFault t n item reads r = (faults.StackRule n item, r)
 rule_from text statuses.Memory t n item reads (inl p) = inl p
 rule_from text statuses.Memory t n item reads (inr p) = inr (faults.StackRule n item, p)
 rule_from text s t n item reads r = cc
 
 -- a stack that was accepted
-pub script_from : (ending : Option Fault) (s : Script) (status : Status) (t : List Note) (tower : Option Air) (plan : Plan) → Reads (Ok plan) s.stack → IsSome tower → PlayOutcomes plan ending s.lines status t tower → ScriptOutcomes ending s status t tower
+pub script_from : (ending : Option Fault) (s : Script) (status : Status) (t : List Note) (tower : Option Air) (plan : Plan) → ReadsBuilt (Ok plan) s.stack → IsSome tower → PlayOutcomes plan ending s.lines status t tower → ScriptOutcomes ending s status t tower
 script_from ending s status t (Some a) plan reads is played = (plan, reads, played)
 script_from ending s status t None plan reads is played = cc
 

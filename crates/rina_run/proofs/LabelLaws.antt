@@ -13,7 +13,7 @@ use Rattle.rina_report.specs.declared.said.Said.TheVariants as said
 use Rattle.rina_schedule.specs.declared.event.Event.{Event}
 use Rattle.rina_schedule.specs.declared.event.Event.TheVariants as events
 use Rattle.rina_stack.specs.declared.plan.Plan.{Plan}
-use Rattle.rina_stack.proofs.Planned.{read_plan}
+use Rattle.rina_stack.proofs.Sound.{built_plan}
 use Rattle.rina_wire.specs.Air.{fac_of, seen_of, wire_at}
 use Rattle.rina_wire.specs.Plan.{IsSoundPlan, air_of, line_of}
 use Rattle.rina_wire.proofs.Kept.{is_mapped}
@@ -27,7 +27,7 @@ use Rattle.rina_run.proofs.LabelMoves.{Waits}
 use Rattle.rina_run.proofs.LabelWords.{Keeps}
 
 pub plans_are_sound : PlansAreSound
-plans_are_sound text plan (ms, is, read) = (read_plan (Ok plan) _ read).wires
+plans_are_sound text plan (ms, is, read) = (built_plan (Ok plan) _ read).wires
 
 -- ---- before the first line
 

@@ -14,7 +14,7 @@ use Rattle.rina_schedule.specs.declared.error.LineError.{LineError}
 use Rattle.rina_schedule.specs.declared.event.Event.{Event}
 use Rattle.rina_schedule.specs.declared.event.Event.TheVariants as events
 use Rattle.rina_stack.specs.declared.plan.Plan.{Plan}
-use Rattle.rina_stack.specs.Plan.{Reads}
+use Rattle.rina_stack.specs.Built.{ReadsBuilt}
 use Rattle.rina_wire.specs.Air.{seen_of}
 use Rattle.rina_wire.specs.Plan.{IsSoundPlan}
 use Rattle.rina_run.specs.declared.labels.Label.{Label}
@@ -24,7 +24,7 @@ use Rattle.rina_run.specs.Run.{Runs, opening}
 
 -- the wires of each stack that is read are sound; of a wire from a node to itself both ends of a flow would have one port
 abbrev pub PlansAreSound : Type 0
-PlansAreSound = (text : List ℕ) (plan : Plan) → Reads (Ok plan) text → IsSoundPlan plan
+PlansAreSound = (text : List ℕ) (plan : Plan) → ReadsBuilt (Ok plan) text → IsSoundPlan plan
 
 -- what was read, where it is an event
 abbrev pub event_in : Result (Option Event) LineError → Option Event

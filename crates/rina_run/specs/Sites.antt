@@ -4,7 +4,7 @@ use Rattle.std.specs.Str.{bytes_eq}
 use Rattle.rina_base.specs.declared.number.Port.{Port}
 use Rattle.rina_base.specs.Traverse.{◌>>=◌}
 use Rattle.rina_stack.specs.declared.plan.Plan.{Plan}
-use Rattle.rina_stack.specs.Rules.{place_in}
+use Rattle.rina_stack.specs.Names.{place_in}
 use Rattle.rina_stack.specs.Plan.{names_of}
 use Rattle.rina_run.specs.declared.labels.Label.{Label}
 use Rattle.rina_run.specs.declared.site.Site.{Site}

@@ -14,7 +14,7 @@ use Rattle.rina_schedule.specs.declared.error.LineError.{LineError}
 use Rattle.rina_schedule.specs.declared.error.LineError.TheVariants as errors
 use Rattle.rina_stack.specs.declared.plan.Plan.{Plan}
 use Rattle.rina_stack.specs.declared.error.StackError.TheVariants as stack
-use Rattle.rina_stack.specs.Plan.{Reads}
+use Rattle.rina_stack.specs.Built.{ReadsBuilt}
 use Rattle.rina_wire.specs.Air.{Air}
 use Rattle.rina_run.specs.declared.world.World.{World}
 use Rattle.rina_run.specs.declared.play.BadLine.{BadLine}
@@ -85,15 +85,15 @@ RefusedBy fault status trace = (status ≡ status_of fault) × (trace ≡ told_o
 
 -- what a stack that was not accepted came to
 abbrev pub StackOutcomes : List ℕ → Status → List Note → Type 0
-StackOutcomes text statuses.NotToml trace = Reads (Err stack.NotToml) text × (trace ≡ told_once faults.NotToml)
-StackOutcomes text (statuses.StackRule n item) trace = Reads (Err (stack.StackRule n item)) text × (trace ≡ told_once (faults.StackRule n item))
+StackOutcomes text statuses.NotToml trace = ReadsBuilt (Err stack.NotToml) text × (trace ≡ told_once faults.NotToml)
+StackOutcomes text (statuses.StackRule n item) trace = ReadsBuilt (Err (stack.StackRule n item)) text × (trace ≡ told_once (faults.StackRule n item))
 StackOutcomes text statuses.WriteFault trace = (fault : Fault) × (trace ≡ told_once fault)
 StackOutcomes text statuses.Memory trace = (trace ≡ []) ⊎ ((fault : Fault) × (trace ≡ told_once fault))
 StackOutcomes text status trace = ⊥
 
 -- what a script came to: its lines were run where its stack was accepted
 abbrev pub ScriptOutcomes : Option Fault → Script → Status → List Note → Option Air → Type 0
-ScriptOutcomes ending s status trace (Some a) = (plan : Plan) × Reads (Ok plan) s.stack × PlayOutcomes plan ending s.lines status trace (Some a)
+ScriptOutcomes ending s status trace (Some a) = (plan : Plan) × ReadsBuilt (Ok plan) s.stack × PlayOutcomes plan ending s.lines status trace (Some a)
 ScriptOutcomes ending s status trace None = StackOutcomes s.stack status trace
 
 -- what an input came to: where no mark was among what was read, the fault is told

@@ -26,7 +26,7 @@ use rina_iface::Facility;
 use rina_io::{Ending, LIMIT, Sink, Source, take_all};
 use rina_report::{Fault, Note, Notes};
 use rina_schedule::LineError;
-use rina_stack::{Plan, StackError, read_stack};
+use rina_stack::{Plan, StackError, read_built};
 use rina_wire::Wires;
 use std::alloc::Global;
 
@@ -237,7 +237,7 @@ fn run_script<K: Sink>(
     ensures fault { result.status ≡ Status.WriteFault → Rose (K.faults out.old) (K.faults out.new) }
     ensures later { K.faults out.old ≤ K.faults out.new }
 {
-    let plan = match read_stack(alloc, parts.stack.as_slice()) {
+    let plan = match read_built(alloc, parts.stack.as_slice()) {
         Ok(plan) => plan,
         Err(StackError::Memory) => return nothing(alloc),
         Err(StackError::NotToml) => return refuse(alloc, out, Fault::NotToml),

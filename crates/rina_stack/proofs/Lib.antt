@@ -1,5 +1,6 @@
 pub mod Tables
 pub mod Named
-pub mod Twins
+pub mod TwinSteps
+pub mod Labels
+pub mod Inversion
 pub mod Sound
-pub mod Planned

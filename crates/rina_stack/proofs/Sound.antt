@@ -1,41 +1,39 @@
--- What follows where no rule is broken.
-use Rattle.std.proofs.Common.{◌≡◌, ◌≢◌, ℕ, ◌+◌, ◌<◌, ◌≤◌, nat_lt, Bool, true, false, cond, not, ◌&&◌, ◌||◌, ℤ, pos, ◌≤ℤ◌, List, [], ◌∷◌, ◌++◌, length, get_or, Option, Some, None, Result, Ok, refl, sym, ◌∙◌, arith, append_assoc, subst}
-use Rattle.std.specs.Prelude.{All, option_map, is_some, int_le}
-use Rattle.std.proofs.lemmas.Bool.{false_from_ne_true, false≢true, and_parts}
+-- What holds of the plan of a stack that breaks no rule.
+use Rattle.std.proofs.Common.{◌≡◌, ◌≢◌, ℕ, ◌+◌, ◌^◌, ◌<◌, ◌≤◌, nat_lt, Bool, true, false, cond, ◌||◌, ◌==◌, not, List, [], ◌∷◌, ◌++◌, length, map, get_or, Option, Some, None, Result, Ok, Err, IfOk, refl, sym, ap, ◌∙◌, arith, subst, append_assoc, length-append}
+use Rattle.std.specs.Prelude.{All, option_map, is_some, codes}
+use Rattle.std.proofs.lemmas.Bool.{false_from_ne_true, false≢true}
 use Rattle.std.proofs.lemmas.Bool.Decides.{nat_tests}
-use Rattle.std.proofs.lemmas.Int.{ints}
-use Rattle.std.proofs.lemmas.List.{append-nil}
+use Rattle.std.proofs.lemmas.List.{append-nil, length-map, get_or_append_left}
+use Rattle.std.proofs.lemmas.List.Elements.{All-map}
 use Rattle.std.proofs.lemmas.List.Folds.{list_any_at}
 use Rattle.std.proofs.lemmas.List.Sums.{prefix_len_passes}
 use Rattle.std.proofs.lemmas.List.Quantifiers.{all_pairs_push}
 use Rattle.std.proofs.lemmas.Slice.Eq.{bytes_eq-Decides}
 use Rattle.std.specs.List.{list_any, position}
 use Rattle.std.specs.Str.{bytes_eq}
-use Rattle.rina_base.specs.Traverse.{◌>>=◌}
-use Rattle.rina_stack.specs.declared.draft.WireDraft.{WireDraft}
-use Rattle.rina_stack.specs.declared.draft.Draft.{Draft}
+use Rattle.toml.specs.Data.{Data, table, Members, get}
+use Rattle.rina_base.specs.Traverse.{◌>>=◌, traverse}
+use Rattle.rina_plan.specs.declared.dif.DifPlan.{DifPlan}
+use Rattle.rina_plan.specs.declared.dif.WireEnds.{WireEnds}
+use Rattle.rina_plan.specs.Difs.{lacks_lower, lacks_cubes, has_mistimed, is_misplaced, is_misfit, has_oversized}
+use Rattle.rina_plan.specs.Links.{is_misused, has_crossed_link, is_uncarried}
+use Rattle.rina_stack.specs.declared.plan.Plan.{Plan}
+use Rattle.rina_stack.specs.declared.scope.Scope.{Scope}
+use Rattle.rina_stack.specs.declared.sketch.WireSketch.{WireSketch}
+use Rattle.rina_stack.specs.declared.sketch.Sketch.{Sketch}
 use Rattle.rina_stack.specs.declared.error.StackError.{StackError}
-use Rattle.rina_stack.specs.Faults.{unless}
-use Rattle.rina_stack.specs.Rules.{top_or, first_wire, has_text, place_in, twin_after, twin_in, is_name, is_unnamed, name_fault, twin_fault, wire_names, is_between, is_out_of_range, has_stranger, is_crossed, count_fault, rules_at}
-use Rattle.rina_stack.specs.Plan.{AreDistinct, IsSoundDraft, MeetsRules}
-
--- ---- a rule that is not broken
-
-none_broken : (n : ℕ) (o : Option ℕ) (rest : Result (Unit {0}) StackError) → (unless n o >>= λ _. rest) ≡ Ok tt → (o ≡ None) × (rest ≡ Ok tt)
-none_broken n None rest h = (refl, h)
-none_broken n (Some i) rest h = cc
-
-last_unbroken : (n : ℕ) (o : Option ℕ) → unless n o ≡ Ok tt → o ≡ None
-last_unbroken n None h = refl
-last_unbroken n (Some i) h = cc
-
-top_holds : (b : Bool) (rest : Option ℕ) → top_or b rest ≡ None → (b ≡ false) × (rest ≡ None)
-top_holds false rest h = (refl, h)
-top_holds true rest h = cc
-
-no_more : (o : Option ℕ) → option_map (λ i. i + 1) o ≡ None → o ≡ None
-no_more None h = refl
-no_more (Some i) h = cc
+use Rattle.rina_stack.specs.declared.error.StackError.TheVariants.{Memory, NotToml, StackRule}
+use Rattle.rina_stack.specs.Faults.{Gives, there, unless}
+use Rattle.rina_stack.specs.Keys.{keys_fault, items_in}
+use Rattle.rina_stack.specs.Values.{element, has_third, named, name_in, text_in, number_in, node_named, rows, rows_in, tables_in}
+use Rattle.rina_stack.specs.Rows.{storm_or, wire_end, wire_at}
+use Rattle.rina_stack.specs.Items.{node_row, rounds_or, dif_at, sketch_at}
+use Rattle.rina_stack.specs.Rules.{has_text, twin_after, twin_in, twin_fault, earlier, facility_twin, label_twin, wire_names, dif_names, first_wire, is_crossed, spread_of, top_fault}
+use Rattle.rina_stack.specs.Stack.{plain, full, narrow, plan_of, unknown_item, resolved_at, ends_of, difs_at, rules_at, stack_at, IsTable, Reads}
+use Rattle.rina_stack.specs.Policies.{is_built_in}
+use Rattle.rina_stack.specs.Built.{unbuilt_key, unbuilt_word, built_at}
+use Rattle.rina_stack.specs.Plan.{AreDistinct, names_of, wire_ends, NoDif, IsSoundWire, IsPlan}
+use Rattle.rina_stack.proofs.Inversion.{bind_ok, ok_is, unbroken, all_read, same_rows, number_7, node_7, same_name}
 
 -- ---- a test that no element passes
 
@@ -54,11 +52,11 @@ nowhere p xs h = λ k d within.
     let far = beyond _ (length xs) h in
     fails_not (p (get_or xs k d)) (prefix_len_passes (λ x. not (p x)) xs k d (omega arith))
 
-no_wire : (p : WireDraft → Bool) (ws : List WireDraft) → first_wire p ws ≡ None → All (λ w. p w ≡ false) ws
-unfolding first_wire
-no_wire p ws h = nowhere p ws (no_more (position p ws) h)
+no_more : (f : ℕ → ℕ) (o : Option ℕ) → option_map f o ≡ None → o ≡ None
+no_more f None h = refl
+no_more f (Some i) h = cc
 
--- ---- rule 5
+-- ---- names that stand once
 
 not_twin : (b : Bool) (n : ℕ) (rest : Option ℕ) → cond b (Some n) rest ≡ None → (b ≡ false) × (rest ≡ None)
 not_twin false n rest h = (refl, h)
@@ -86,78 +84,320 @@ no_pairs = λ i j d lt within. absurd (omega arith)
 distinct : (ts : List (List ℕ)) → twin_in ts ≡ None → AreDistinct ts
 distinct ts h = apart [] ts no_pairs h
 
--- ---- a wire that breaks no rule
+neither : (a b : Option ℕ) → earlier a b ≡ None → (a ≡ None) × (b ≡ None)
+neither None b h = (refl, h)
+neither (Some i) None h = cc
+neither (Some i) (Some j) h = cc
 
-all_three : (a b c : Bool) → not (a && b && c) ≡ false → (a ≡ true) × (b ≡ true) × (c ≡ true)
-all_three true true true h = (refl, refl, refl)
-all_three false b c h = cc
-all_three true false c h = cc
-all_three true true false h = cc
+-- ---- a wire
 
-both : (a b : Bool) → not (a && b) ≡ false → (a ≡ true) × (b ≡ true)
-both true true h = (refl, refl)
-both false b h = cc
-both true false h = cc
+pub record IsSoundSketch (nodes : ℕ) (w : WireSketch) : Type 0 where
+  pub a : w.a < nodes
+  pub b : w.b < nodes
+  pub least_delay : 1 ≤ w.delay
+  pub life : w.life ≤ 100000
+  pub least_largest : 1 ≤ w.largest
+  pub largest : w.largest ≤ 65535
 
-neither : (a b : Bool) → (a || not b) ≡ false → (a ≡ false) × (b ≡ true)
-neither false true h = (refl, refl)
-neither false false h = cc
-neither true b h = cc
+end_7 : (known : Sketch) (u : Option ℕ) (n : ℕ) (d : Data) (i at : ℕ) → wire_end (full known u) n d i ≡ Ok at → at < length known.nodes
+unfolding wire_end
+end_7 known u n d i at h =
+    let (t, _, found) = bind_ok (there n (element i (codes "ends") d)) _ at h in
+    node_7 known u n t at found
 
-ordered : (y z : ℤ) → int_le y z ≡ true → y ≤ℤ z
-ordered y z h = grind (arith, ints)
+wire_7 : (known : Sketch) (u : Option ℕ) (n : ℕ) (d : Data) (w : WireSketch) → wire_at (full known u) n d ≡ Ok w → IsSoundSketch (length known.nodes) w
+unfolding wire_at
+wire_7 known u n d w h =
+    let s = full known u in
+    let (name, _, h1) = bind_ok (name_in s n (codes "name") d) _ w h in
+    let (a, end_a, h2) = bind_ok (wire_end s n d 0) _ w h1 in
+    let (b, end_b, h3) = bind_ok (wire_end s n d 1) _ w h2 in
+    let (_, _, h4) = bind_ok (unless 3 (cond (has_third (codes "ends") d) (Some n) None)) _ w h3 in
+    let (delay, is_delay, h5) = bind_ok (number_in s n (codes "delay") d 1 100000) _ w h4 in
+    let (life, is_life, h6) = bind_ok (number_in s n (codes "life") d 1 100000) _ w h5 in
+    let (largest, is_largest, h7) = bind_ok (number_in s n (codes "largest") d 1 65535) _ w h6 in
+    let (storm, _, h8) = bind_ok (storm_or s n (get (codes "storm") d)) _ w h7 in
+    let whole : record { name = name; a = a; b = b; delay = delay; life = life; largest = largest; storm = storm } ≡ w = cc in
+    subst (IsSoundSketch (length known.nodes)) whole
+    (record {
+      a = end_7 known u n d 0 a end_a;
+      b = end_7 known u n d 1 b end_b;
+      least_delay = (number_7 known u n (codes "delay") d 1 100000 delay is_delay).0;
+      life = (number_7 known u n (codes "life") d 1 100000 life is_life).1;
+      least_largest = (number_7 known u n (codes "largest") d 1 65535 largest is_largest).0;
+      largest = (number_7 known u n (codes "largest") d 1 65535 largest is_largest).1;
+    })
 
-bounds : (a b z : ℤ) → is_between a b z ≡ true → (a ≤ℤ z) × (z ≤ℤ b)
-unfolding is_between
-bounds a b z h =
-    let (low, high) = and_parts (int_le a z) (int_le z b) h in
-    (ordered a z low, ordered z b high)
+same_name_in : (known : Sketch) (u : Option ℕ) (n : ℕ) (k : List ℕ) (d : Data) → name_in (plain 4) n k d ≡ name_in (full known u) n k d
+unfolding name_in named
+same_name_in known u n k d = refl
 
-sound : (nodes : List (List ℕ)) (w : WireDraft) → is_unnamed w ≡ false → is_out_of_range w ≡ false → has_stranger nodes w ≡ false → is_crossed w ≡ false → IsSoundDraft nodes w
-unfolding is_unnamed is_out_of_range has_stranger is_crossed
-sound nodes w named ranged known straight =
-    let (name, _, _) = all_three (is_name w.name) (is_name w.from) (is_name w.to) named in
-    let (delay, life, largest) = all_three (is_between (pos 1) (pos 100000) w.delay) (is_between (pos 1) (pos 100000) w.life) (is_between (pos 1) (pos 65535) w.largest) ranged in
-    let (from, to) = both (is_some (place_in nodes w.from)) (is_some (place_in nodes w.to)) known in
-    let (other, short) = neither (bytes_eq w.from w.to) (int_le w.delay w.life) straight in
+-- ---- what was read of the whole stack
+
+record WasRead (s : Scope) (d : Data) (k : Sketch) : Type 0 where
+  wire_tables : List Data
+  dif_tables : List Data
+  nodes : rows_in (node_row s 0) 0 (codes "nodes") d ≡ Ok k.nodes
+  are_wires : tables_in 0 (codes "wire") d ≡ Ok wire_tables
+  are_difs : tables_in 0 (codes "dif") d ≡ Ok dif_tables
+  wires : traverse (wire_at s) 1 wire_tables ≡ Ok k.wires
+  difs : traverse (dif_at s) (1 + length wire_tables) dif_tables ≡ Ok k.difs
+
+parts : (s : Scope) (d : Data) (k : Sketch) → sketch_at s d ≡ Ok k → WasRead s d k
+unfolding sketch_at
+parts s d k h =
+    let (nodes, is_nodes, h1) = bind_ok (rows_in (node_row s 0) 0 (codes "nodes") d) _ k h in
+    let (rounds, _, h2) = bind_ok (rounds_or (get (codes "rounds") d)) _ k h1 in
+    let (wts, is_wts, h3) = bind_ok (tables_in 0 (codes "wire") d) _ k h2 in
+    let (dts, is_dts, h4) = bind_ok (tables_in 0 (codes "dif") d) _ k h3 in
+    let (wires, is_wires, h5) = bind_ok (traverse (wire_at s) 1 wts) _ k h4 in
+    let (difs, is_difs, h6) = bind_ok (traverse (dif_at s) (1 + length wts) dts) _ k h5 in
+    let whole : record { nodes = nodes; rounds = rounds; wires = wires; difs = difs } ≡ k = cc in
+    subst (WasRead s d) whole (record { wire_tables = wts; dif_tables = dts; nodes = is_nodes; are_wires = is_wts; are_difs = is_dts; wires = is_wires; difs = is_difs })
+
+same_node_row : (known : Sketch) (u : Option ℕ) (n : ℕ) (d : Data) → node_row (plain 4) n d ≡ node_row (full known u) n d
+unfolding node_row named
+same_node_row known u n d = refl
+
+same_after : {A B : Type 0} (a : Result A StackError) (f g : A → Result B StackError) → ((x : A) → f x ≡ g x) → (a >>= f) ≡ (a >>= g)
+same_after (Ok x) f g h = h x
+same_after (Err e) f g h = refl
+
+same_node_rows : (known : Sketch) (u : Option ℕ) (n : ℕ) (k : List ℕ) (d : Data) → rows_in (node_row (plain 4) 0) n k d ≡ rows_in (node_row (full known u) 0) n k d
+unfolding rows_in
+same_node_rows known u n k d = same_after (there n (items_in k d)) (rows (node_row (plain 4) 0)) (rows (node_row (full known u) 0)) (λ ds. same_rows (λ _. node_row (plain 4) 0) (λ _. node_row (full known u) 0) 0 ds (λ _ x. same_node_row known u 0 x))
+
+wire_name : (s : Scope) (n : ℕ) (d : Data) (w : WireSketch) → wire_at s n d ≡ Ok w → name_in s n (codes "name") d ≡ Ok w.name
+unfolding wire_at
+wire_name s n d w h =
+    let (name, is_name, h1) = bind_ok (name_in s n (codes "name") d) _ w h in
+    let (a, _, h2) = bind_ok (wire_end s n d 0) _ w h1 in
+    let (b, _, h3) = bind_ok (wire_end s n d 1) _ w h2 in
+    let (_, _, h4) = bind_ok (unless 3 (cond (has_third (codes "ends") d) (Some n) None)) _ w h3 in
+    let (delay, _, h5) = bind_ok (number_in s n (codes "delay") d 1 100000) _ w h4 in
+    let (life, _, h6) = bind_ok (number_in s n (codes "life") d 1 100000) _ w h5 in
+    let (largest, _, h7) = bind_ok (number_in s n (codes "largest") d 1 65535) _ w h6 in
+    let (storm, _, h8) = bind_ok (storm_or s n (get (codes "storm") d)) _ w h7 in
+    let whole : record { name = name; a = a; b = b; delay = delay; life = life; largest = largest; storm = storm } ≡ w = ok_is _ _ h8 in
+    subst (λ (x : WireSketch). name_in s n (codes "name") d ≡ Ok x.name) whole is_name
+
+same_wire_names : (known : Sketch) (u : Option ℕ) (k : ℕ) (ts : List Data) (vs ws : List WireSketch) → traverse (wire_at (plain 4)) k ts ≡ Ok vs → traverse (wire_at (full known u)) k ts ≡ Ok ws → wire_names vs ≡ wire_names ws
+unfolding traverse
+same_wire_names known u k [] vs ws hv hw =
+    let one : vs ≡ [] = cc in
+    let two : ws ≡ [] = cc in
+    rw (one, two) refl
+same_wire_names known u k (t ∷ ts) vs ws hv hw =
+    let (v, is_v, more_v) = bind_ok (wire_at (plain 4) k t) _ vs hv in
+    let (vs', are_v, whole_v) = bind_ok (traverse (wire_at (plain 4)) (k + 1) ts) _ vs more_v in
+    let (w, is_w, more_w) = bind_ok (wire_at (full known u) k t) _ ws hw in
+    let (ws', are_w, whole_w) = bind_ok (traverse (wire_at (full known u)) (k + 1) ts) _ ws more_w in
+    let names = sym (wire_name (plain 4) k t v is_v) ∙ same_name_in known u k (codes "name") t ∙ wire_name (full known u) k t w is_w in
+    let name : v.name ≡ w.name = cc names in
+    let rest = same_wire_names known u (k + 1) ts vs' ws' are_v are_w in
+    let one : v ∷ vs' ≡ vs = cc in
+    let two : w ∷ ws' ≡ ws = cc in
+    rw (← one, ← two, name, rest) refl
+
+same_tables : (a b : List Data) (d : Data) → tables_in 0 (codes "wire") d ≡ Ok a → tables_in 0 (codes "wire") d ≡ Ok b → a ≡ b
+same_tables a b d one two = cc (sym one ∙ two)
+
+-- ---- the plan
+
+few_of : (a b c : ℕ) → cond {A = Option ℕ} (nat_lt 64 a || nat_lt 128 b || nat_lt 16 c) (Some 0) None ≡ None → (a ≤ 64) × (b ≤ 128) × (c ≤ 16)
+few_of a b c h = (grind (arith, nat_tests), grind (arith, nat_tests), grind (arith, nat_tests))
+
+few : (s : Sketch) → top_fault s ≡ None → (length s.nodes ≤ 64) × (length s.wires ≤ 128) × (length s.difs ≤ 16)
+unfolding top_fault
+few s h = few_of (length s.nodes) (length s.wires) (length s.difs) h
+
+straight_of : (a b life reach : ℕ) → ((a == b) || nat_lt life reach) ≡ false → (a ≢ b) × (reach ≤ life)
+straight_of a b life reach h = (grind (arith, nat_tests), grind (arith, nat_tests))
+
+straight : (w : WireSketch) → is_crossed w ≡ false → (w.a ≢ w.b) × (w.delay + spread_of w.storm ≤ w.life)
+unfolding is_crossed
+straight w h = straight_of w.a w.b w.life (w.delay + spread_of w.storm) h
+
+-- no DIF breaks a rule
+pub record NoneBrokenBy (wires : List WireEnds) (difs : List DifPlan) : Type 0 where
+  ranks : NoDif (lacks_lower difs) difs
+  cubes : NoDif lacks_cubes difs
+  times : NoDif has_mistimed difs
+  members : NoDif is_misplaced difs
+  pdus : NoDif is_misfit difs
+  sdus : NoDif has_oversized difs
+  uses : NoDif (is_misused difs) difs
+  links : NoDif (has_crossed_link wires difs) difs
+  carried : NoDif (is_uncarried wires difs) difs
+
+no_dif : (n first : ℕ) (p : DifPlan → Bool) (difs : List DifPlan) (t : Unit {0}) → unless n (option_map (λ i. first + i) (position p difs)) ≡ Ok t → NoDif p difs
+no_dif n first p difs t h = nowhere p difs (no_more (λ i. first + i) (position p difs) (unbroken n (option_map (λ i. first + i) (position p difs)) t h))
+
+none_by : (first : ℕ) (wires : List WireEnds) (difs : List DifPlan) (t : Unit {0}) → difs_at first wires difs ≡ Ok t → NoneBrokenBy wires difs
+unfolding difs_at
+none_by first wires difs t h =
+    let (_, r9, h10) = bind_ok (unless 9 (option_map (λ i. first + i) (position (lacks_lower difs) difs))) _ t h in
+    let (_, r10, h11) = bind_ok (unless 10 (option_map (λ i. first + i) (position lacks_cubes difs))) _ t h10 in
+    let (_, r11, h12) = bind_ok (unless 11 (option_map (λ i. first + i) (position has_mistimed difs))) _ t h11 in
+    let (_, r12, h13) = bind_ok (unless 12 (option_map (λ i. first + i) (position is_misplaced difs))) _ t h12 in
+    let (_, r13, h14) = bind_ok (unless 13 (option_map (λ i. first + i) (position is_misfit difs))) _ t h13 in
+    let (_, r14, h15) = bind_ok (unless 14 (option_map (λ i. first + i) (position has_oversized difs))) _ t h14 in
+    let (_, r15, h16) = bind_ok (unless 15 (option_map (λ i. first + i) (position (is_misused difs) difs))) _ t h15 in
+    let (_, r16, h17) = bind_ok (unless 16 (option_map (λ i. first + i) (position (has_crossed_link wires difs) difs))) _ t h16 in
     record {
-      named = name;
-      from = from;
-      to = to;
-      apart = λ same. false≢true (sym other ∙ (bytes_eq-Decides w.from w.to).1 same);
-      least_delay = (bounds (pos 1) (pos 100000) w.delay delay).0;
-      delay = ordered w.delay w.life short;
-      life = (bounds (pos 1) (pos 100000) w.life life).1;
-      least_largest = (bounds (pos 1) (pos 65535) w.largest largest).0;
-      largest = (bounds (pos 1) (pos 65535) w.largest largest).1;
+      ranks = no_dif 9 first (lacks_lower difs) difs _ r9;
+      cubes = no_dif 10 first lacks_cubes difs _ r10;
+      times = no_dif 11 first has_mistimed difs _ r11;
+      members = no_dif 12 first is_misplaced difs _ r12;
+      pdus = no_dif 13 first is_misfit difs _ r13;
+      sdus = no_dif 14 first has_oversized difs _ r14;
+      uses = no_dif 15 first (is_misused difs) difs _ r15;
+      links = no_dif 16 first (has_crossed_link wires difs) difs _ r16;
+      carried = no_dif 17 first (is_uncarried wires difs) difs t h17;
     }
 
-named_text : (b : Bool) → not b ≡ false → b ≡ true
-named_text true h = refl
-named_text false h = cc
+pub record NoneBroken (s : Sketch) : Type 0 where
+  few_nodes : length s.nodes ≤ 64
+  few_wires : length s.wires ≤ 128
+  few_difs : length s.difs ≤ 16
+  wires : All (λ w. is_crossed w ≡ false) s.wires
+  difs : NoneBrokenBy (map ends_of s.wires) s.difs
 
-few : (a b : ℕ) → (nat_lt 64 a || nat_lt 128 b) ≡ false → (a ≤ 64) × (b ≤ 128)
-few a b h = (grind (arith, nat_tests), grind (arith, nat_tests))
-
-pub meets : (d : Draft) → rules_at d ≡ Ok tt → MeetsRules d
-unfolding rules_at name_fault twin_fault count_fault
-meets d h =
-    let (r4, h5) = none_broken 4 (name_fault d) _ h in
-    let (r5, h6) = none_broken 5 (twin_fault d) _ h5 in
-    let (r6, h7) = none_broken 6 (first_wire is_out_of_range d.wires) _ h6 in
-    let (r7, h8) = none_broken 7 (first_wire (has_stranger d.nodes) d.wires) _ h7 in
-    let (r8, h19) = none_broken 8 (first_wire is_crossed d.wires) _ h8 in
-    let r19 = last_unbroken 19 (count_fault d) h19 in
-    let (nodes_named, wires_named) = top_holds (list_any (λ t. not (is_name t)) d.nodes) (first_wire is_unnamed d.wires) r4 in
-    let (node_twins, wire_twins) = top_holds (is_some (twin_in d.nodes)) (option_map (λ i. i + 1) (twin_in (wire_names d.wires))) r5 in
-    let (counts, _) = top_holds (nat_lt 64 (length d.nodes) || nat_lt 128 (length d.wires)) None r19 in
-    let enough = few (length d.nodes) (length d.wires) counts in
+unbroken_all : (s : Sketch) (t : Unit {0}) → rules_at s ≡ Ok t → NoneBroken s
+unfolding rules_at
+unbroken_all s t h =
+    let (_, r8, h9) = bind_ok (unless 8 (first_wire is_crossed s.wires)) _ t h in
+    let (tried, r9, h19) = bind_ok (difs_at (1 + length s.wires) (map ends_of s.wires) s.difs) _ t h9 in
+    let r19 = unbroken 19 (top_fault s) t h19 in
+    let counts = few s r19 in
     record {
-      few_nodes = enough.0;
-      few_wires = enough.1;
-      named = λ k e within. named_text (is_name (get_or d.nodes k e)) (none_pass (λ t. not (is_name t)) d.nodes nodes_named k e within);
-      nodes_differ = distinct d.nodes (none_first (twin_in d.nodes) node_twins);
-      wires_differ = distinct (wire_names d.wires) (no_more (twin_in (wire_names d.wires)) wire_twins);
-      wires = λ k e within. sound d.nodes (get_or d.wires k e) (no_wire is_unnamed d.wires wires_named k e within) (no_wire is_out_of_range d.wires r6 k e within)
-          (no_wire (has_stranger d.nodes) d.wires r7 k e within) (no_wire is_crossed d.wires r8 k e within);
+      few_nodes = counts.0;
+      few_wires = counts.1;
+      few_difs = counts.2;
+      wires = nowhere is_crossed s.wires (no_more (λ i. 1 + i) (position is_crossed s.wires) (unbroken 8 (first_wire is_crossed s.wires) _ r8));
+      difs = none_by (1 + length s.wires) (map ends_of s.wires) s.difs tried r9;
     }
+
+-- a fault that was found is that which is defined
+pub same_fault : (n : ℕ) (fault found : Option ℕ) (t : Unit {0}) → ◌≡◌ {A = Result (Option ℕ) StackError} (Ok fault) (Ok found) → unless n found ≡ Ok t → unless n fault ≡ Ok t
+same_fault n fault found t is h =
+    let same : found ≡ fault = cc in
+    subst (λ o. unless n o ≡ Ok t) same h
+
+record StandOnce (s : Sketch) : Type 0 where
+  nodes : twin_in s.nodes ≡ None
+  facilities : twin_in (wire_names s.wires ++ dif_names s.difs) ≡ None
+
+top_holds : (b : Bool) (rest : Option ℕ) → cond b (Some 0) rest ≡ None → (b ≡ false) × (rest ≡ None)
+top_holds false rest h = (refl, h)
+top_holds true rest h = cc
+
+once : (s : Sketch) → twin_fault s ≡ None → StandOnce s
+unfolding twin_fault
+once s h =
+    let (nodes, rest) = top_holds (is_some (twin_in s.nodes)) _ h in
+    let (facilities, _) = neither (facility_twin s) (option_map (λ i. 1 + length s.wires + i) (label_twin s.difs)) rest in
+    record { nodes = none_first (twin_in s.nodes) nodes; facilities = no_more (λ i. 1 + i) (twin_in (wire_names s.wires ++ dif_names s.difs)) facilities }
+
+front_differs : (xs ys : List (List ℕ)) → AreDistinct (xs ++ ys) → AreDistinct xs
+front_differs xs ys h = λ i j d lt within.
+    let first : i < length xs = omega arith in
+    let room : j < length (xs ++ ys) = omega (arith, length-append xs ys) in
+    rw (← get_or_append_left xs ys d i first, ← get_or_append_left xs ys d j within) (h i j d lt room)
+
+same_narrow_names : (ws : List WireSketch) → names_of (map narrow ws) ≡ wire_names ws
+same_narrow_names [] = refl
+same_narrow_names (w ∷ ws) = ap (λ ts. w.name ∷ ts) (same_narrow_names ws)
+
+-- what a stack that was read, resolved and tried has
+pub record Resolved (known : List ℕ → Bool) (d : Data) (s : Sketch) : Type 0 where
+  unbroken_rules : NoneBroken s
+  nodes_differ : AreDistinct s.nodes
+  wires_differ : AreDistinct (wire_names s.wires)
+  wires : All (IsSoundSketch (length s.nodes)) s.wires
+
+pub resolved : (known : List ℕ → Bool) (d : Data) (named s : Sketch) (t t' : Unit {0}) → sketch_at (plain 4) d ≡ Ok named → unless 5 (twin_fault named) ≡ Ok t → resolved_at known named d ≡ Ok s → rules_at s ≡ Ok t' → Resolved known d s
+unfolding resolved_at
+resolved known d named s t t' is_named five is_s rest =
+    let u = unknown_item known named in
+    let before = parts (plain 4) d named is_named in
+    let after = parts (full named u) d s is_s in
+    let single = once named (unbroken 5 (twin_fault named) t five) in
+    let nodes_both = sym before.nodes ∙ same_node_rows named u 0 (codes "nodes") d ∙ after.nodes in
+    let nodes : named.nodes ≡ s.nodes = cc nodes_both in
+    let tables : before.wire_tables ≡ after.wire_tables = same_tables before.wire_tables after.wire_tables d before.are_wires after.are_wires in
+    let earlier_wires : traverse (wire_at (plain 4)) 1 after.wire_tables ≡ Ok named.wires = subst (λ ts. traverse (wire_at (plain 4)) 1 ts ≡ Ok named.wires) tables before.wires in
+    let names = same_wire_names named u 1 after.wire_tables named.wires s.wires earlier_wires after.wires in
+    record {
+      unbroken_rules = unbroken_all s t' rest;
+      nodes_differ = subst AreDistinct nodes (distinct named.nodes single.nodes);
+      wires_differ = subst AreDistinct names (front_differs (wire_names named.wires) (dif_names named.difs) (distinct (wire_names named.wires ++ dif_names named.difs) single.facilities));
+      wires = subst (λ (ns : List (List ℕ)). All (IsSoundSketch (length ns)) s.wires) nodes (all_read (IsSoundSketch (length named.nodes)) (wire_at (full named u)) 1 after.wire_tables s.wires (λ n x y. wire_7 named u n x y) after.wires);
+    }
+
+pub narrows : (known : List ℕ → Bool) (d : Data) (s : Sketch) → Resolved known d s → All (λ (w : WireSketch). (w.a < 2 ^ 16) × (w.b < 2 ^ 16)) s.wires
+narrows known d s r = λ k e within.
+    let w = r.wires k e within in
+    (omega (arith, w.a, r.unbroken_rules.few_nodes), omega (arith, w.b, r.unbroken_rules.few_nodes))
+
+wire_planned : (nodes : ℕ) (w : WireSketch) → IsSoundSketch nodes w → (w.a ≢ w.b) × (w.delay + spread_of w.storm ≤ w.life) → IsSoundWire nodes (narrow w)
+wire_planned nodes w s h = record {
+  a = s.a;
+  b = s.b;
+  apart = h.0;
+  least_delay = s.least_delay;
+  delay = omega (arith, h.1);
+  life = s.life;
+  least_largest = s.least_largest;
+  largest = s.largest;
+}
+
+same_ends : (ws : List WireSketch) → map ends_of ws ≡ map wire_ends (map narrow ws)
+same_ends [] = refl
+same_ends (w ∷ ws) = ap (λ es. ends_of w ∷ es) (same_ends ws)
+
+planned : (known : List ℕ → Bool) (d : Data) (s : Sketch) → Resolved known d s → IsPlan (plan_of s)
+planned known d s r =
+    let by : NoneBrokenBy (map wire_ends (map narrow s.wires)) s.difs = subst (λ es. NoneBrokenBy es s.difs) (same_ends s.wires) r.unbroken_rules.difs in
+    record {
+      few_nodes = r.unbroken_rules.few_nodes;
+      few_wires = omega (arith, r.unbroken_rules.few_wires, length-map s.wires narrow);
+      nodes_differ = r.nodes_differ;
+      wires_differ = rw (same_narrow_names s.wires) r.wires_differ;
+      wires = All-map (IsSoundWire (length s.nodes)) narrow s.wires (λ k e within. wire_planned (length s.nodes) (get_or s.wires k e) (r.wires k e within) (straight (get_or s.wires k e) (r.unbroken_rules.wires k e within)));
+      few_difs = r.unbroken_rules.few_difs;
+      ranks = by.ranks;
+      cubes = by.cubes;
+      times = by.times;
+      members = by.members;
+      pdus = by.pdus;
+      sdus = by.sdus;
+      uses = by.uses;
+      links = by.links;
+      carried = by.carried;
+    }
+
+is_plan : (known : List ℕ → Bool) (t : Data) (p : Plan) → stack_at known t ≡ Ok p → IsPlan p
+unfolding stack_at
+is_plan known t p h =
+    let (_, _, h1) = bind_ok (unless 2 (keys_fault t)) _ p h in
+    let (_, _, h2) = bind_ok (sketch_at (plain 3) t) _ p h1 in
+    let (named, is_named, h3) = bind_ok (sketch_at (plain 4) t) _ p h2 in
+    let (five, is_five, h4) = bind_ok (unless 5 (twin_fault named)) _ p h3 in
+    let (_, _, h5) = bind_ok (sketch_at (plain 6) t) _ p h4 in
+    let (s, is_s, h6) = bind_ok (resolved_at known named t) _ p h5 in
+    let (tried, is_tried, h7) = bind_ok (rules_at s) _ p h6 in
+    let same : plan_of s ≡ p = cc in
+    subst IsPlan same (planned known t s (resolved known t named s five tried is_named is_five is_s is_tried))
+
+pub read_plan : (known : List ℕ → Bool) (r : Result Plan StackError) (t : Data) → Gives (λ p. p) r (stack_at known t) → IfOk r IsPlan
+read_plan known (Ok p) t h = is_plan known t p h
+read_plan known (Err e) t h = tt
+
+pub built_plan : (r : Result Plan StackError) (t : Data) → Gives (λ p. p) r (built_at t) → IfOk r IsPlan
+unfolding built_at
+built_plan (Ok p) t h =
+    let (_, _, h1) = bind_ok (unless 2 (unbuilt_key t)) _ p h in
+    let (_, _, h2) = bind_ok (unless 3 (unbuilt_word (get (codes "rounds") t))) _ p h1 in
+    is_plan is_built_in t p h2
+built_plan (Err e) t h = tt

@@ -1,15 +1,16 @@
 -- What a loop or a chain over a table says of its members.
-use Rattle.std.proofs.Common.{◌≡◌, ℕ, zero, suc, ◌+◌, Bool, not, cond, ◌&&◌, ◌||◌, ◌==◌, length, Some, List, [], ◌∷◌, get_or, map, String, Global, string_bytes, Result, Err, refl, sym, ap, arith}
+use Rattle.std.proofs.Common.{◌≡◌, ℕ, zero, suc, ◌+◌, Bool, not, cond, ◌&&◌, ◌||◌, ◌==◌, length, Some, List, [], ◌∷◌, get_or, map, String, Global, string_bytes, Result, Ok, Err, refl, sym, ap, arith}
 use Rattle.std.specs.Map.{keys_of}
 use Rattle.std.specs.List.{list_all, list_any, prefix_len, position}
 use Rattle.std.proofs.lemmas.Bool.Decides.{nat_tests}
 use Rattle.std.proofs.lemmas.List.{length-map}
+use Rattle.rina_base.specs.Traverse.{◌>>=◌, traverse}
 use Rattle.toml.specs.declared.value.Value.{Value}
 use Rattle.toml.specs.View.{view, members_view, items_view}
 use Rattle.rina_stack.specs.declared.error.StackError.{StackError}
 use Rattle.rina_stack.specs.declared.error.StackError.TheVariants.{Memory, NotToml, StackRule}
 use Rattle.rina_stack.specs.Faults.{Gives}
-use Rattle.rina_stack.specs.Keys.{all_keys, list_of, has_items}
+use Rattle.rina_stack.specs.Keys.{all_keys, list_of}
 
 pub keys_all : (p : List ℕ → Bool) (es : List (String Global × Value)) → list_all (λ k. p (string_bytes k)) (keys_of es) ≡ all_keys p (members_view es)
 keys_all p [] = refl
@@ -31,6 +32,12 @@ err_passes f g Memory part whole h given = tt
 err_passes f g NotToml part whole h given = absurd given
 err_passes f g (StackRule n k) part whole h given = h (StackRule n k) given
 
+-- a step that does not ask for its number
+pub number_unused : {A B E : Type 0} (f : A → Result B E) (k m : ℕ) (xs : List A) → traverse (λ _. f) k xs ≡ traverse (λ _. f) m xs
+unfolding traverse
+number_unused f k m [] = refl
+number_unused f k m (x ∷ xs) = ap (λ r. f x >>= λ y. r >>= λ ys. Ok (y ∷ ys)) (number_unused f (k + 1) (m + 1) xs)
+
 prefix_len_map : {A B : Type 0} (p : B → Bool) (f : A → B) (xs : List A) → prefix_len p (map f xs) ≡ prefix_len (λ x. p (f x)) xs
 prefix_len_map p f [] = refl
 prefix_len_map p f (x ∷ xs) = ap (λ n. cond (p (f x)) (1 + n) 0) (prefix_len_map p f xs)
@@ -41,7 +48,3 @@ position_map p f xs = rw (prefix_len_map (λ y. not (p y)) f xs, length-map xs f
 pub list_any_map : {A B : Type 0} (p : B → Bool) (f : A → B) (xs : List A) → list_any p (map f xs) ≡ list_any (λ x. p (f x)) xs
 list_any_map p f [] = refl
 list_any_map p f (x ∷ xs) = ap (λ b. p (f x) || b) (list_any_map p f xs)
-
-pub has_items_view : (vs : List Value) → not (length vs == 0) ≡ has_items (Some (list_of (items_view vs)))
-has_items_view [] = refl
-has_items_view (v ∷ vs) = grind (arith, nat_tests)

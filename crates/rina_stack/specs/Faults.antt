@@ -1,5 +1,5 @@
 -- The error for a rule that is broken, and what a call may answer beside it.
-use Rattle.std.specs.Prelude.{◌≡◌, ℕ, min, Option, Some, None, Result, Ok, Err}
+use Rattle.std.specs.Prelude.{◌≡◌, ℕ, min, nat_lt, Option, Some, None, Result, Ok, Err, if◌then◌else◌}
 use Rattle.rina_stack.specs.declared.error.StackError.{StackError}
 use Rattle.rina_stack.specs.declared.error.StackError.TheVariants.{Memory, NotToml, StackRule}
 
@@ -16,6 +16,11 @@ unless n (Some place) = Err (breaks n place)
 abbrev pub there : {A : Type 0} → ℕ → Option A → Result A StackError
 there place (Some x) = Ok x
 there place None = Err (breaks 3 place)
+
+-- what an item has to have by rule n; where only rules below n are tried something else stands for it
+abbrev pub needed : {A : Type 0} → ℕ → ℕ → ℕ → A → Option A → Result A StackError
+needed upto n place instead (Some x) = Ok x
+needed upto n place instead None = if nat_lt upto n then Ok instead else Err (breaks n place)
 
 -- what a call returned, seen by view, is what the definition gives, unless memory ran out
 abbrev pub Gives : {X Y : Type 0} → (X → Y) → Result X StackError → Result Y StackError → Type 0

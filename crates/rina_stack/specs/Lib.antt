@@ -1,5 +1,11 @@
 pub mod Faults
 pub mod Keys
-pub mod Draft
+pub mod Names
+pub mod Values
+pub mod Rows
+pub mod Items
 pub mod Rules
+pub mod Policies
+pub mod Stack
+pub mod Built
 pub mod Plan

@@ -1,84 +1,16 @@
--- The plan of a stack that breaks no rule, and what holds of each plan.
-use Rattle.std.specs.Prelude.{◌≡◌, ℕ, ◌≢◌, pos, unsigned_abs, ◌≤ℤ◌, IsTrue, IsSome, ◌<◌, ◌≤◌, List, All, length, map, Some, Result, Ok, Err, IsUtf8, unwrap_or}
+-- What holds of each plan.
+use Rattle.std.specs.Prelude.{Bool, false, ◌≡◌, ℕ, ◌≢◌, ◌<◌, ◌≤◌, List, All, length, map}
 use Rattle.std.specs.List.{AllPairs}
-use Rattle.toml.specs.Data.{Data, table, Members}
-use Rattle.toml.specs.Parse.{parse_document}
-use Rattle.rina_base.specs.Traverse.{◌>>=◌}
-use Rattle.rina_stack.specs.declared.draft.WireDraft.{WireDraft}
-use Rattle.rina_stack.specs.declared.draft.Draft.{Draft}
+use Rattle.rina_plan.specs.declared.dif.DifPlan.{DifPlan}
+use Rattle.rina_plan.specs.declared.dif.WireEnds.{WireEnds}
+use Rattle.rina_plan.specs.Difs.{lacks_lower, lacks_cubes, has_mistimed, is_misplaced, is_misfit, has_oversized}
+use Rattle.rina_plan.specs.Links.{is_misused, has_crossed_link, is_uncarried}
 use Rattle.rina_stack.specs.declared.plan.WirePlan.{WirePlan}
 use Rattle.rina_stack.specs.declared.plan.Plan.{Plan}
-use Rattle.rina_stack.specs.declared.error.StackError.{StackError}
-use Rattle.rina_stack.specs.declared.error.StackError.TheVariants.{Memory, NotToml, StackRule}
-use Rattle.rina_stack.specs.Faults.{unless}
-use Rattle.rina_stack.specs.Keys.{keys_fault}
-use Rattle.rina_stack.specs.Draft.{draft_at}
-use Rattle.rina_stack.specs.Rules.{is_name, place_in, wire_names, rules_at}
-
--- ---- what holds of a stack that breaks no rule
 
 -- no text stands there twice
 abbrev pub AreDistinct : List (List ℕ) → Type 0
 AreDistinct ts = AllPairs (λ t u. t ≢ u) ts
-
-pub record IsSoundDraft (nodes : List (List ℕ)) (w : WireDraft) : Type 0 where
-  pub named : IsTrue (is_name w.name)
-  pub from : IsSome (place_in nodes w.from)
-  pub to : IsSome (place_in nodes w.to)
-  pub apart : w.from ≢ w.to
-  pub least_delay : pos 1 ≤ℤ w.delay
-  pub delay : w.delay ≤ℤ w.life
-  pub life : w.life ≤ℤ pos 100000
-  pub least_largest : pos 1 ≤ℤ w.largest
-  pub largest : w.largest ≤ℤ pos 65535
-
-pub record MeetsRules (d : Draft) : Type 0 where
-  pub few_nodes : length d.nodes ≤ 64
-  pub few_wires : length d.wires ≤ 128
-  pub named : All (λ t. IsTrue (is_name t)) d.nodes
-  pub nodes_differ : AreDistinct d.nodes
-  pub wires_differ : AreDistinct (wire_names d.wires)
-  pub wires : All (IsSoundDraft d.nodes) d.wires
-
--- ---- from what is written to the plan
-
--- the number of a node that is there
-abbrev pub node_of : List (List ℕ) → List ℕ → ℕ
-node_of nodes name = unwrap_or (place_in nodes name) 0
-
-unfoldable pub wire_of : List (List ℕ) → WireDraft → WirePlan
-wire_of nodes w = record {
-  name = w.name;
-  a = node_of nodes w.from;
-  b = node_of nodes w.to;
-  delay = unsigned_abs w.delay;
-  life = unsigned_abs w.life;
-  largest = unsigned_abs w.largest;
-}
-
-unfoldable pub plan_of : Draft → Plan
-plan_of d = record { nodes = d.nodes; wires = map (wire_of d.nodes) d.wires }
-
--- the plan of a table, or the first rule that it breaks, in the order of the rules
-unfoldable pub stack_at : Data → Result Plan StackError
-stack_at d = do
-  _ ← unless 2 (keys_fault d)
-  draft ← draft_at d
-  _ ← rules_at draft
-  Ok (plan_of draft)
-
--- the text is TOML, and this is its table
-abbrev pub IsTable : List ℕ → Members → Type 0
-IsTable text ms = IsUtf8 text × (parse_document text ≡ Some ms)
-
--- What reading a text gives. NotToml is exact: what has a table has a plan or breaks a rule.
-abbrev pub Reads : Result Plan StackError → List ℕ → Type 0
-Reads (Ok plan) text = (ms : Members) × IsTable text ms × (stack_at (table ms) ≡ Ok plan)
-Reads (Err Memory) text = Unit {0}
-Reads (Err NotToml) text = (ms : Members) → IsTable text ms → ⊥
-Reads (Err (StackRule n k)) text = (ms : Members) × IsTable text ms × (stack_at (table ms) ≡ Err (StackRule n k))
-
--- ---- what holds of each plan
 
 -- a wire among so many nodes: it joins two of them, and its numbers are in range
 pub record IsSoundWire (nodes : ℕ) (w : WirePlan) : Type 0 where
@@ -94,9 +26,33 @@ pub record IsSoundWire (nodes : ℕ) (w : WirePlan) : Type 0 where
 abbrev pub names_of : List WirePlan → List (List ℕ)
 names_of wires = map (λ (w : WirePlan). w.name) wires
 
+-- what the rules on DIFs ask of a wire
+abbrev pub wire_ends : WirePlan → WireEnds
+wire_ends w = record { a = w.a; b = w.b; largest = w.largest }
+
+-- no DIF passes
+abbrev pub NoDif : (DifPlan → Bool) → List DifPlan → Type 0
+NoDif p difs = All (λ d. p d ≡ false) difs
+
+-- What holds of each plan that was read. There are at most 64 nodes, 128 wires and 16 DIFs, and the names of nodes and of wires differ; each wire is
+-- sound; and no DIF breaks a rule: each of rank above 1 has one of the rank below (ranks); its cubes have different ids (cubes) and their times fit their
+-- kinds (times); its members stand on different nodes and have different addresses that fit (members); its PDUs fit their length field, and have room for
+-- a piece and for an acknowledgement (pdus); its SDUs fit a piece, or a window and a queue (sdus); a DIF that is not static has no links and flows, and
+-- no link of a static one is on it (uses); a link is on the rank just below, between two members here and there (links), and on a cube that takes the
+-- PDUs (carried).
 pub record IsPlan (p : Plan) : Type 0 where
   pub few_nodes : length p.nodes ≤ 64
   pub few_wires : length p.wires ≤ 128
   pub nodes_differ : AreDistinct p.nodes
   pub wires_differ : AreDistinct (names_of p.wires)
   pub wires : All (IsSoundWire (length p.nodes)) p.wires
+  pub few_difs : length p.difs ≤ 16
+  pub ranks : NoDif (lacks_lower p.difs) p.difs
+  pub cubes : NoDif lacks_cubes p.difs
+  pub times : NoDif has_mistimed p.difs
+  pub members : NoDif is_misplaced p.difs
+  pub pdus : NoDif is_misfit p.difs
+  pub sdus : NoDif has_oversized p.difs
+  pub uses : NoDif (is_misused p.difs) p.difs
+  pub links : NoDif (has_crossed_link (map wire_ends p.wires) p.difs) p.difs
+  pub carried : NoDif (is_uncarried (map wire_ends p.wires) p.difs) p.difs

@@ -1,36 +1,18 @@
--- The rules over a stack as it is written, each with the first item that breaks it.
-use Rattle.std.specs.Prelude.{ℕ, ◌+◌, ◌++◌, ◌&&◌, ◌||◌, not, Bool, ℤ, pos, int_le, nat_lt, List, [], ◌∷◌, length, map, Option, Some, None, Result, is_ok, is_some, if◌then◌else◌, option_map, position}
+-- The rules over a stack as it is read, each with the first item that breaks it.
+use Rattle.std.specs.Prelude.{ℕ, ◌+◌, ◌-◌, ◌*◌, ◌/◌, ◌++◌, ◌==◌, ◌||◌, min, not, Bool, nat_lt, List, [], ◌∷◌, length, map, Option, Some, None, is_some, if◌then◌else◌, option_map, option_and_then, position}
 use Rattle.std.specs.List.{list_any}
 use Rattle.std.specs.Str.{bytes_eq}
-use Rattle.rina_base.specs.Names.{name_at}
-use Rattle.rina_base.specs.Traverse.{◌>>=◌}
-use Rattle.rina_stack.specs.declared.draft.WireDraft.{WireDraft}
-use Rattle.rina_stack.specs.declared.draft.Draft.{Draft}
-use Rattle.rina_stack.specs.declared.error.StackError.{StackError}
-use Rattle.rina_stack.specs.Faults.{unless}
+use Rattle.rina_plan.specs.declared.dif.FlowPlan.{FlowPlan}
+use Rattle.rina_plan.specs.declared.dif.DifPlan.{DifPlan}
+use Rattle.rina_stack.specs.declared.plan.Storm.{Storm}
+use Rattle.rina_stack.specs.declared.sketch.WireSketch.{WireSketch}
+use Rattle.rina_stack.specs.declared.sketch.Sketch.{Sketch}
 
--- the place of a text
-abbrev pub place_in : List (List ℕ) → List ℕ → Option ℕ
-place_in ts t = position (λ u. bytes_eq u t) ts
-
--- the first wire that passes; the first of all wires is item 1
-unfoldable pub first_wire : (WireDraft → Bool) → List WireDraft → Option ℕ
-first_wire p wires = option_map (λ i. i + 1) (position p wires)
-
--- where an item of the top breaks a rule, and else the first wire
-abbrev pub top_or : Bool → Option ℕ → Option ℕ
-top_or bad rest = if bad then Some 0 else rest
-
--- ---- rule 4: names
-
-abbrev pub is_name : List ℕ → Bool
-is_name text = is_ok (name_at text)
-
-unfoldable pub is_unnamed : WireDraft → Bool
-is_unnamed w = not (is_name w.name && is_name w.from && is_name w.to)
-
-unfoldable pub name_fault : Draft → Option ℕ
-name_fault d = top_or (list_any (λ t. not (is_name t)) d.nodes) (first_wire is_unnamed d.wires)
+-- the earlier of two items
+abbrev pub earlier : Option ℕ → Option ℕ → Option ℕ
+earlier (Some m) (Some n) = Some (min m n)
+earlier (Some m) None = Some m
+earlier None other = other
 
 -- ---- rule 5: no name twice
 
@@ -45,41 +27,53 @@ twin_after before (t ∷ ts) = if has_text before t then Some (length before) el
 abbrev pub twin_in : List (List ℕ) → Option ℕ
 twin_in ts = twin_after [] ts
 
-abbrev pub wire_names : List WireDraft → List (List ℕ)
-wire_names wires = map (λ (w : WireDraft). w.name) wires
+abbrev pub wire_names : List WireSketch → List (List ℕ)
+wire_names wires = map (λ (w : WireSketch). w.name) wires
 
-unfoldable pub twin_fault : Draft → Option ℕ
-twin_fault d = top_or (is_some (twin_in d.nodes)) (option_map (λ i. i + 1) (twin_in (wire_names d.wires)))
+abbrev pub dif_names : List DifPlan → List (List ℕ)
+dif_names difs = map (λ (d : DifPlan). d.name) difs
 
--- ---- rule 6: numbers
+-- the labels of flows, two for each
+abbrev pub flow_labels : List FlowPlan → List (List ℕ)
+flow_labels [] = []
+flow_labels (f ∷ fs) = f.from.label ∷ f.to.label ∷ flow_labels fs
 
-unfoldable pub is_between : ℤ → ℤ → ℤ → Bool
-is_between least most z = int_le least z && int_le z most
+-- the labels of all flows
+abbrev pub labels : List DifPlan → List (List ℕ)
+labels [] = []
+labels (d ∷ ds) = flow_labels d.flows ++ labels ds
 
-unfoldable pub is_out_of_range : WireDraft → Bool
-is_out_of_range w = not (is_between (pos 1) (pos 100000) w.delay && is_between (pos 1) (pos 100000) w.life && is_between (pos 1) (pos 65535) w.largest)
+-- the place of the DIF that has the label at a place
+unfoldable pub owner_of : ℕ → List DifPlan → Option ℕ
+owner_of k [] = None
+owner_of k (d ∷ ds) = if nat_lt (k / 2) (length d.flows) then Some 0 else option_map (λ i. i + 1) (owner_of (k - length d.flows * 2) ds)
 
--- ---- rule 7: what is named is there
+-- a wire or DIF whose name stands before it
+abbrev pub facility_twin : Sketch → Option ℕ
+facility_twin s = option_map (λ i. 1 + i) (twin_in (wire_names s.wires ++ dif_names s.difs))
 
-unfoldable pub has_stranger : List (List ℕ) → WireDraft → Bool
-has_stranger nodes w = not (is_some (place_in nodes w.from) && is_some (place_in nodes w.to))
+-- the DIF with a label that stands before
+abbrev pub label_twin : List DifPlan → Option ℕ
+label_twin difs = option_and_then (λ k. owner_of k difs) (twin_in (labels difs))
+
+-- nodes belong to the top; wires and DIFs have their names in common
+unfoldable pub twin_fault : Sketch → Option ℕ
+twin_fault s = if is_some (twin_in s.nodes) then Some 0 else earlier (facility_twin s) (option_map (λ i. 1 + length s.wires + i) (label_twin s.difs))
 
 -- ---- rule 8: the ends of a wire differ, and a frame arrives in its lifetime
 
-unfoldable pub is_crossed : WireDraft → Bool
-is_crossed w = bytes_eq w.from w.to || not (int_le w.delay w.life)
+abbrev pub spread_of : Option Storm → ℕ
+spread_of None = 0
+spread_of (Some storm) = storm.spread
+
+unfoldable pub is_crossed : WireSketch → Bool
+is_crossed w = (w.a == w.b) || nat_lt w.life (w.delay + spread_of w.storm)
+
+-- the first wire that passes; the first of all wires is item 1
+abbrev pub first_wire : (WireSketch → Bool) → List WireSketch → Option ℕ
+first_wire p wires = option_map (λ i. 1 + i) (position p wires)
 
 -- ---- rule 19: how many there may be
 
-unfoldable pub count_fault : Draft → Option ℕ
-count_fault d = top_or (nat_lt 64 (length d.nodes) || nat_lt 128 (length d.wires)) None
-
--- the rules in their order, each over the whole stack
-unfoldable pub rules_at : Draft → Result (Unit {0}) StackError
-rules_at d = do
-  _ ← unless 4 (name_fault d)
-  _ ← unless 5 (twin_fault d)
-  _ ← unless 6 (first_wire is_out_of_range d.wires)
-  _ ← unless 7 (first_wire (has_stranger d.nodes) d.wires)
-  _ ← unless 8 (first_wire is_crossed d.wires)
-  unless 19 (count_fault d)
+unfoldable pub top_fault : Sketch → Option ℕ
+top_fault s = if nat_lt 64 (length s.nodes) || nat_lt 128 (length s.wires) || nat_lt 16 (length s.difs) then Some 0 else None

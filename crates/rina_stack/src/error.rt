@@ -1,5 +1,5 @@
 //! Why a text describes no stack.
-ghost use Rattle.std.specs.Prelude.{◌≡◌};
+ghost use Rattle.std.specs.Prelude.{◌≡◌, ◌+◌, ◌<◌, ◌^◌, Ok, IfOk, option_map};
 ghost use Rattle.rina_stack.specs.Faults.{Gives, breaks, unless};
 
 use rina_base::Memory;
@@ -56,5 +56,29 @@ pub(crate) fn check(n: u32, fault: Option<usize>) -> Result<(), StackError>
     match fault {
         None => Ok(()),
         Some(item) => Err(broken(n, item)),
+    }
+}
+
+/// The number of the first DIF behind so many wires. More items than are counted find no memory.
+pub(crate) fn first_behind(wires: usize, difs: usize) -> Result<usize, StackError>
+    ensures place { Gives (λ n. n) result (Ok (1 + wires)) }
+    ensures wires { IfOk result (λ _. 1 + wires < 2 ^ 64) }
+    ensures room { IfOk result (λ n. n + difs < 2 ^ 64) }
+{
+    if wires < usize::MAX / 2 && difs < usize::MAX / 2 {
+        Ok(1 + wires)
+    } else {
+        Err(StackError::Memory)
+    }
+}
+
+/// The error for a rule, where it has a first DIF that breaks it. `first` is the number of the first
+/// DIF.
+pub(crate) fn check_difs(n: u32, first: usize, fault: Option<usize>) -> Result<(), StackError>
+    ensures { Gives (λ t. t) result (unless n (option_map (λ i. first + i) fault)) }
+{
+    match fault {
+        None => Ok(()),
+        Some(at) => Err(broken(n, first.saturating_add(at))),
     }
 }

@@ -1,7 +1,9 @@
 //! For each rule the least stack that breaks it and the nearest that doesn't.
-use crate::{Plan, StackError, read_stack};
+use crate::stacks::STACKS;
+use crate::{BuiltIn, Plan, Rounds, StackError, Storm, read_built, read_stack};
 use rina_base::Name;
-use std::alloc::{AllocError, Global};
+use rina_plan::Lower;
+use std::alloc::Global;
 use std::test::Fail;
 
 /// The broken rule and its item; without one, 0 and the number of wires.
@@ -20,18 +22,18 @@ static TOPS: [(&str, u32, usize); 22] = [
     ("", 3, 0),
     ("nodes = []", 0, 0),
     ("nodes = []\nrounds = 'auto'\ndif = []\nwire = []", 0, 0),
+    ("nodes = []\nrounds = 'manual'", 0, 0),
+    ("nodes = []\nrounds = 'never'", 3, 0),
+    ("nodes = []\nrounds = 1", 3, 0),
     ("nodes = []\nnode = 1", 2, 0),
-    ("nodes = []\ndif = [1]", 2, 0),
-    ("nodes = []\n[[dif]]\nname = 'd'", 2, 0),
+    ("nodes = []\ndif = [1]", 3, 0),
+    ("nodes = []\n[[dif]]\nname = 'd'", 3, 1),
     ("nodes = []\ndif = 1", 3, 0),
     ("nodes = []\nwire = 1", 3, 0),
-    ("nodes = []\nwire = [1]", 3, 0),
     ("nodes = []\nwire = [{}, 1]", 3, 0),
     ("nodes = []\nwire = [{}]", 3, 1),
     ("nodes = []\nwire = [1, { x = 1 }]", 2, 2),
     ("rounds = 'auto'\nwire = [{ x = 1 }]", 2, 1),
-    ("nodes = []\nrounds = 'manual'", 3, 0),
-    ("nodes = []\nrounds = 1", 3, 0),
     ("nodes = 'a'", 3, 0),
     ("nodes = ['a', 1]", 3, 0),
     ("nodes = ['a', '']", 4, 0),
@@ -42,128 +44,241 @@ static TOPS: [(&str, u32, usize); 22] = [
 
 #[test]
 fn the_top_is_read(rt: HostRuntime) -> Result<(), Fail> {
+    let alloc = rt.alloc();
     for (text, n, item) in &TOPS {
         assert_eq!(rt;
-            told(read_stack(rt.alloc(), text.as_bytes())),
+            told(read_stack(alloc, text.as_bytes(), &BuiltIn)),
             (*n, *item),
             "{text}"
         );
     }
-    assert_eq!(rt; told(read_stack(rt.alloc(), b"nodes = ['\xff']")), (1, 0));
+    assert_eq!(rt;
+        told(read_stack(alloc, b"nodes = ['\xff']", &BuiltIn)),
+        (1, 0)
+    );
     Ok(())
 }
 
-/// The values of a second wire, and the rule that it breaks (0: none).
-static WIRES: [(&str, &str, &str, &str, &str, u32); 31] = [
-    ("'w'", "['b', 'a']", "1", "1", "1", 0),
-    ("'w'", "['b', 'a']", "100000", "100000", "65535", 0),
-    ("1", "['b', 'a']", "1", "1", "1", 3),
-    ("'w'", "'ba'", "1", "1", "1", 3),
-    ("'w'", "['b']", "1", "1", "1", 3),
-    ("'w'", "['b', 'a', 'b']", "1", "1", "1", 3),
-    ("'w'", "['b', 1]", "1", "1", "1", 3),
-    ("'w'", "['b', 'a']", "'1'", "1", "1", 3),
-    ("'w'", "['b', 'a']", "1", "1.0", "1", 3),
-    ("'w'", "['b', 'a']", "1", "1", "true", 3),
-    ("'W'", "['b', 'a']", "1", "1", "1", 4),
-    ("'w'", "['B', 'a']", "1", "1", "1", 4),
-    ("'w'", "['b', '']", "1", "1", "1", 4),
-    ("'v'", "['b', 'a']", "1", "1", "1", 5),
-    ("'w'", "['b', 'a']", "0", "1", "1", 6),
-    ("'w'", "['b', 'a']", "-1", "1", "1", 6),
-    ("'w'", "['b', 'a']", "100001", "100001", "1", 6),
-    ("'w'", "['b', 'a']", "1", "0", "1", 6),
-    ("'w'", "['b', 'a']", "1", "100001", "1", 6),
-    ("'w'", "['b', 'a']", "1", "1", "0", 6),
-    ("'w'", "['b', 'a']", "1", "1", "65536", 6),
-    ("'w'", "['c', 'a']", "1", "1", "1", 7),
-    ("'w'", "['b', 'c']", "1", "1", "1", 7),
-    ("'w'", "['b', 'b']", "1", "1", "1", 8),
-    ("'w'", "['b', 'a']", "2", "1", "1", 8),
+/// What the program refuses for now: a text, the rule and the item.
+static UNBUILT: [(&str, u32, usize); 7] = [
+    ("nodes = []", 0, 0),
+    ("nodes = []\ndif = [1]", 2, 0),
+    ("nodes = []\n[[dif]]\nname = 'd'", 2, 0),
+    ("nodes = []\ndif = 1", 3, 0),
+    ("nodes = []\nrounds = 'manual'", 3, 0),
+    ("nodes = []\nwire = [{}, { storm = {} }]", 2, 2),
+    ("nodes = []\nwire = [{ x = 1 }, { storm = {} }]", 2, 1),
+];
+
+#[test]
+fn what_is_not_built_is_refused(rt: HostRuntime) -> Result<(), Fail> {
+    for (text, n, item) in &UNBUILT {
+        assert_eq!(rt;
+            told(read_built(rt.alloc(), text.as_bytes())),
+            (*n, *item),
+            "{text}"
+        );
+    }
+    Ok(())
+}
+
+/// Three nodes, two wires and two DIFs; the DIFs are the items 3 and 4.
+static WHOLE: &str = "nodes = ['a', 'b', 'c']
+wire = [
+  { name = 'w', ends = ['a', 'b'], delay = 2, life = 10, largest = 1500 },
+  { name = 'v', ends = ['b', 'c'], delay = 2, life = 10, largest = 96, storm = { seed = 1, lose = 2, repeat = 3, spread = 8 } },
+]
+[[dif]]
+name = 'd'
+rank = 1
+static = true
+pdu = 96
+widths = { addr = 1, cep = 1, len = 2, seq = 2 }
+queue = 5
+policy = 'strict'
+wait = 500
+manage = { mpl = 40, r = 30, a = 2, retry = 10, window = 5 }
+cube = [{ id = 1, kind = 'datagram', mpl = 40, window = 16, largest = 80 }]
+member = [{ node = 'a', addr = 1 }, { node = 'b', addr = 2 }, { node = 'c', addr = 255 }]
+rule = [{ subject = 'x/a', act = 'enrol', allow = true }]
+link = [{ on = 'w', a = 'a', b = 'b' }, { on = 'v', a = 'c', b = 'b' }]
+flow = [{ cube = 1, from = { node = 'a', app = 's', label = 'p' }, to = { node = 'b', app = 't', label = 'q' } }]
+[[dif]]
+name = 'e'
+rank = 2
+static = true
+pdu = 80
+widths = { addr = 2, cep = 2, len = 1, seq = 2 }
+queue = 64
+policy = 'weighted'
+wait = 501
+manage = { mpl = 40, r = 31, a = 3, retry = 31, window = 16 }
+cube = [{ id = 2, kind = 'loose', mpl = 40, window = 4, largest = 244 }, { id = 3, kind = 'reliable', mpl = 40, r = 32, a = 4, retry = 11, window = 7, largest = 240 }]
+member = [{ node = 'c', addr = 300 }, { node = 'a', addr = 4 }]
+link = [{ on = 'd', a = 'a', b = 'c', cube = 1, weight = 9 }]
+";
+
+/// What stands there instead of a part of the stack, the rule that breaks (0: none) and the item.
+static CHANGES: [(&str, &str, u32, usize); 77] = [
+    ("'w', ends", "'w', ends", 0, 2),
+    // Rule 2.
+    ("repeat = 3", "repeat = 3, x = 1", 2, 2),
+    ("wait = 500", "wait = 500\nx = 1", 2, 3),
+    ("seq = 2", "seq = 2, x = 1", 2, 3),
+    ("window = 16 }\ncube", "window = 16, x = 1 }\ncube", 2, 4),
+    ("id = 3,", "id = 3, x = 1,", 2, 4),
+    ("addr = 300", "addr = 300, x = 1", 2, 4),
+    ("allow = true", "allow = true, x = 1", 2, 3),
+    ("weight = 9", "weight = 9, x = 1", 2, 4),
+    ("flow = [{ cube = 1", "flow = [{ x = 1, cube = 1", 2, 3),
+    ("label = 'q'", "label = 'q', x = 1", 2, 3),
+    // Rule 3.
+    ("seed = 1, ", "", 3, 2),
+    ("rank = 2", "rank = '2'", 3, 4),
+    ("static = true\npdu = 80", "static = 1\npdu = 80", 3, 4),
+    ("kind = 'loose'", "kind = 'tight'", 3, 4),
+    ("act = 'enrol'", "act = 'leave'", 3, 3),
+    ("retry = 10, ", "", 3, 3),
+    ("addr = 4 }]", "addr = 4 }, 1]", 3, 4),
+    ("flow = [{ cube = 1,", "flow = [{", 3, 3),
+    // Rule 4.
+    ("name = 'e'", "name = 'E'", 4, 4),
+    ("policy = 'weighted'", "policy = ''", 4, 4),
+    ("node = 'c', addr = 300", "node = 'C', addr = 300", 4, 4),
+    ("subject = 'x/a'", "subject = 'x/'", 4, 3),
+    ("subject = 'x/a'", "subject = '*'", 0, 2),
+    ("app = 's'", "app = 'x/a'", 4, 3),
+    ("on = 'd'", "on = '*'", 4, 4),
+    // Rule 5.
+    ("name = 'e'", "name = 'w'", 5, 4),
+    ("label = 'q'", "label = 'p'", 5, 3),
+    // Rule 6.
+    ("seed = 1", "seed = 9007199254740992", 6, 2),
+    ("lose = 2", "lose = 1001", 6, 2),
+    ("spread = 8", "spread = 100001", 6, 2),
+    ("rank = 2", "rank = 9", 6, 4),
+    ("pdu = 80", "pdu = 4097", 6, 4),
+    ("len = 1", "len = 3", 6, 4),
+    ("queue = 64", "queue = 0", 6, 4),
+    ("wait = 501", "wait = 1000001", 6, 4),
+    ("r = 31", "r = 1000001", 6, 4),
+    ("id = 3", "id = 0", 6, 4),
+    ("addr = 300", "addr = 4294967296", 6, 4),
+    ("weight = 9", "weight = 0", 6, 4),
+    ("cube = 1, weight", "cube = 256, weight", 6, 4),
+    // Rule 7.
+    ("node = 'c', addr = 300", "node = 'x', addr = 300", 7, 4),
+    ("on = 'd'", "on = 'x'", 7, 4),
+    ("policy = 'weighted'", "policy = 'none'", 7, 4),
+    // Rule 8.
+    ("spread = 8", "spread = 9", 8, 2),
+    // Rule 9.
+    ("rank = 2", "rank = 3", 9, 4),
+    // Rule 10.
+    ("id = 3", "id = 2", 10, 4),
+    (
+        "cube = [{ id = 1, kind = 'datagram', mpl = 40, window = 16, largest = 80 }]",
+        "cube = []",
+        10,
+        3,
+    ),
+    // Rule 11.
+    ("kind = 'loose',", "kind = 'loose', a = 1,", 11, 4),
+    ("retry = 11", "retry = 33", 11, 4),
+    ("retry = 10", "retry = 0", 11, 3),
+    (
+        "r = 31, a = 3, retry = 31",
+        "r = 31, a = 3, retry = 32",
+        11,
+        4,
+    ),
+    // Rule 12.
+    ("addr = 255", "addr = 256", 12, 3),
+    ("addr = 255", "addr = 0", 12, 3),
+    ("addr = 255", "addr = 2", 12, 3),
+    (
+        "{ node = 'c', addr = 300 }, ",
+        "{ node = 'a', addr = 300 }, ",
+        12,
+        4,
+    ),
+    (
+        "[{ node = 'c', addr = 300 }, { node = 'a', addr = 4 }]",
+        "[]",
+        12,
+        4,
+    ),
+    // Rule 13.
+    ("pdu = 80", "pdu = 256", 13, 4),
+    ("pdu = 80", "pdu = 20", 13, 4),
+    // Rule 14.
+    ("largest = 80 }", "largest = 81 }", 14, 3),
+    ("queue = 5", "queue = 4", 14, 3),
+    ("window = 5", "window = 4", 14, 3),
+    (
+        "window = 4, largest = 244",
+        "window = 4, largest = 245",
+        14,
+        4,
+    ),
+    // Rule 15.
+    ("static = true\npdu = 80", "static = false\npdu = 80", 15, 4),
+    // Rule 16.
+    ("on = 'd'", "on = 'w'", 16, 4),
+    ("a = 'a', b = 'c', cube", "a = 'a', b = 'a', cube", 16, 4),
+    ("a = 'a', b = 'c', cube", "a = 'a', b = 'b', cube", 16, 4),
+    ("a = 'c', b = 'b'", "a = 'a', b = 'b'", 16, 3),
+    // Rule 17.
+    ("cube = 1, weight", "cube = 2, weight", 17, 4),
+    ("largest = 96, ", "largest = 95, ", 17, 3),
+    ("b = 'b' }, {", "b = 'b', cube = 1 }, {", 17, 3),
     // Two rules at once.
-    ("'W'", "['b', 'a']", "1", "1", "''", 3),
-    ("'v'", "['B', 'a']", "1", "1", "1", 4),
-    ("'v'", "['b', 'a']", "0", "1", "1", 5),
-    ("'w'", "['b', 'c']", "0", "1", "1", 6),
-    ("'w'", "['c', 'c']", "2", "1", "1", 7),
-    ("'w'", "['b', 'b']", "1", "100001", "1", 6),
+    ("rank = 2\n", "rank = '2'\nx = 1\n", 2, 4),
+    ("name = 'e'\nrank = 2", "name = 'E'\nrank = '2'", 3, 4),
+    ("name = 'e'\nrank = 2", "name = 'd'\nrank = 9", 5, 4),
+    (
+        "rank = 2\nstatic = true\npdu = 80",
+        "rank = 3\nstatic = true\npdu = 20",
+        9,
+        4,
+    ),
+    ("on = 'd'", "on = 'x', y = 1", 2, 4),
+    ("spread = 8", "spread = 9, lose = 3", 1, 0),
 ];
 
-/// A good wire `v` between `a` and `b`.
-static FIRST: &str = "{ name = 'v', ends = ['a', 'b'], delay = 1, life = 1, largest = 1 }";
+/// The whole stack with another text instead of a part.
+fn changed(alloc: Global, part: &str, instead: &str) -> Result<String, Fail> {
+    match WHOLE.split_once(part) {
+        Some((before, after)) => Ok(format!(in alloc; "{before}{instead}{after}")?),
+        None => Err("no such part".into()),
+    }
+}
 
 #[test]
-fn a_second_wire_is_read(rt: HostRuntime) -> Result<(), Fail> {
-    for (name, ends, delay, life, largest, n) in &WIRES {
-        let second = format!(in rt.alloc();
-            "name = {name}, ends = {ends}, delay = {delay}, life = {life}, largest = {largest}"
-        )?;
-        let text = format!(in rt.alloc(); "nodes = ['a', 'b']\nwire = [{FIRST}, {{ {second} }}]")?;
+fn a_change_breaks_a_rule(rt: HostRuntime) -> Result<(), Fail> {
+    let alloc = rt.alloc();
+    for (part, instead, n, item) in &CHANGES {
+        let text = changed(alloc, *part, *instead)?;
         assert_eq!(rt;
-            told(read_stack(rt.alloc(), text.as_bytes())),
-            (*n, 2),
-            "{second}"
+            told(read_stack(alloc, text.as_bytes(), &BuiltIn)),
+            (*n, *item),
+            "{part}: {instead}"
         );
     }
     Ok(())
 }
 
-/// The keys of a second wire, and the rule that it breaks.
-static KEYS: [(&str, u32); 7] = [
-    ("ends = ['b', 'a'], delay = 1, life = 1, largest = 1", 3),
-    ("name = 'W', delay = 1, life = 1, largest = 1", 3),
-    ("name = 'w', ends = ['b', 'a'], life = 1, largest = 1", 3),
-    ("name = 'w', ends = ['b', 'a'], delay = 1, largest = 1", 3),
-    ("name = 'w', ends = ['b', 'a'], delay = 1, life = 1", 3),
-    ("name = 'w', colour = 1", 2),
-    ("name = 'w', storm = {}", 2),
-];
-
 #[test]
-fn a_wire_has_its_keys(rt: HostRuntime) -> Result<(), Fail> {
-    for (second, n) in &KEYS {
-        let text = format!(in rt.alloc(); "nodes = ['a', 'b']\nwire = [{FIRST}, {{ {second} }}]")?;
+fn the_examples_are_read(rt: HostRuntime) -> Result<(), Fail> {
+    for (text, wires, difs) in &STACKS {
+        let plan = match read_stack(rt.alloc(), text.as_bytes(), &BuiltIn) {
+            Ok(plan) => plan,
+            Err(_) => return Err("no plan".into()),
+        };
         assert_eq!(rt;
-            told(read_stack(rt.alloc(), text.as_bytes())),
-            (*n, 2),
-            "{second}"
-        );
-    }
-    Ok(())
-}
-
-/// A stack with so many nodes and wires, the last of which has this delay.
-fn many(alloc: Global, nodes: usize, wires: usize, delay: usize) -> Result<String, AllocError> {
-    let mut text = String::from_str(alloc, "nodes = ['a', 'b'")?;
-    for n in 2..nodes {
-        text.push_str(format!(in alloc; ", 'n{n}'")?.as_str())?;
-    }
-    text.push_str("]\nwire = [")?;
-    for n in 1..wires {
-        text.push_str(format!(in alloc;
-            "{{ name = 'w{n}', ends = ['a', 'b'], delay = 1, life = 1, largest = 1 }},"
-        )?.as_str())?;
-    }
-    text.push_str(format!(in alloc;
-        "{{ name = 'w', ends = ['a', 'b'], delay = {delay}, life = 1, largest = 1 }}]"
-    )?.as_str())?;
-    Ok(text)
-}
-
-#[test]
-fn counts_have_limits(rt: HostRuntime) -> Result<(), Fail> {
-    let cases = [
-        (64, 128, 1, 0, 128),
-        (65, 1, 1, 19, 0),
-        (2, 129, 1, 19, 0),
-        (65, 129, 2, 8, 129),
-    ];
-    for (nodes, wires, delay, n, item) in cases {
-        let text = many(rt.alloc(), nodes, wires, delay)?;
-        assert_eq!(rt;
-            told(read_stack(rt.alloc(), text.as_bytes())),
-            (n, item),
-            "{nodes} {wires}"
+            (plan.wires.len(), plan.difs.len()),
+            (*wires, *difs),
+            "{text}"
         );
     }
     Ok(())
@@ -171,21 +286,34 @@ fn counts_have_limits(rt: HostRuntime) -> Result<(), Fail> {
 
 #[test]
 fn a_plan_has_what_is_written(rt: HostRuntime) -> Result<(), Fail> {
-    let text =
-        "nodes = ['a', 'b']\n[[wire]]\nname = 'w'\nends = ['b', 'a']\ndelay = 2\nlife = 10\nlargest = 1500\n";
-    let plan = match read_stack(rt.alloc(), text.as_bytes()) {
+    let alloc = rt.alloc();
+    let plan = match read_stack(alloc, WHOLE.as_bytes(), &BuiltIn) {
         Ok(plan) => plan,
         Err(_) => return Err("no plan".into()),
     };
-    let name = match Name::read(rt.alloc(), b"w") {
-        Ok(name) => name,
-        Err(_) => return Err("no name".into()),
-    };
+    let name = Name::read(alloc, b"w")?;
     assert_eq!(rt; plan.wire(&name), Some(0));
     assert_eq!(rt; plan.node(&name), None);
-    let wire = plan.wires.get(0).ok_or("no wire")?;
-    assert_eq!(rt; (wire.a, wire.b), (1, 0));
-    assert_eq!(rt; (wire.delay, wire.life, wire.largest), (2, 10, 1500));
-    assert_eq!(rt; plan.node(plan.nodes.get(1).ok_or("no node")?), Some(1));
+    assert_eq!(rt; plan.rounds, Rounds::Auto);
+    let wire = plan.wires.get(1).ok_or("no wire")?;
+    assert_eq!(rt; (wire.a, wire.b), (1, 2));
+    assert_eq!(rt; (wire.delay, wire.life, wire.largest), (2, 10, 96));
+    assert_eq!(rt;
+        wire.storm,
+        Some(Storm {
+            seed: 1,
+            lose: 2,
+            repeat: 3,
+            spread: 8
+        })
+    );
+    let dif = plan.difs.get(1).ok_or("no DIF")?;
+    assert_eq!(rt;
+        (dif.rank, dif.is_static, dif.pdu, dif.queue, dif.wait),
+        (2, true, 80, 64, 501)
+    );
+    let link = dif.links.get(0).ok_or("no link")?;
+    assert_eq!(rt; (link.a, link.b, link.weight, link.cube), (0, 2, 9, 1));
+    assert_eq!(rt; link.on, Lower::Dif(0));
     Ok(())
 }

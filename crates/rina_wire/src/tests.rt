@@ -6,7 +6,7 @@ use crate::Wires;
 use rina_base::{AppName, Name, Port, Seq};
 use rina_cube::Want;
 use rina_iface::{Ask, Facility};
-use rina_stack::{Plan, WirePlan};
+use rina_stack::{Plan, Rounds, WirePlan};
 use std::alloc::Global;
 use std::test::Fail;
 
@@ -33,11 +33,18 @@ fn wire(alloc: Global) -> Result<Wires, Fail>
         delay: 2,
         life: 10,
         largest: 1500,
+        storm: None,
     })?;
     let mut nodes = Seq::new(alloc);
     nodes.push(Name::read(alloc, b"a")?)?;
     nodes.push(Name::read(alloc, b"b")?)?;
-    Ok(Wires::new(alloc, &Plan { nodes, wires })?)
+    let plan = Plan {
+        nodes,
+        rounds: Rounds::Auto,
+        wires,
+        difs: Seq::new(alloc),
+    };
+    Ok(Wires::new(alloc, &plan)?)
 }
 
 fn ask(alloc: Global) -> Result<Ask, Fail> {

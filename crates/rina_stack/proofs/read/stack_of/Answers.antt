@@ -1,5 +1,6 @@
-use Rattle.rina_stack.proofs.Sound.{meets}
+use Rattle.rina_stack.proofs.Sound.{resolved, narrows, same_fault}
 use Rattle.rina_stack.proofs.read.stack_of.Goals as goal
 
-pub build-requires : goal.build-requires
-build-requires c = meets c.in_ok-draft.draft c.in_ok-check_rules.ensures
+pub plan-requires : goal.plan-requires
+plan-requires g c =
+    narrows _ _ _ (resolved _ _ c.in_ok-named.named c.in_ok-sketch.sketch _ _ c.in_ok-named.ensures (same_fault 5 _ _ _ c.in_ok-twin.ensures c.in_ok-check-2.ensures) c.in_ok-sketch.ensures c.in_ok-check_rules.ensures)

@@ -1,4 +1,4 @@
-use Rattle.std.proofs.Common.{◌≡◌, ◌≤◌, rules, arith, length}
+use Rattle.std.proofs.Common.{◌≡◌, rules, arith, length}
 use Rattle.std.proofs.lemmas.Result.{err_from_is_err_and}
 use Rattle.rina_conn.proofs.Offering.{long_refused, shut_refused, spent_refused, admitted}
 use Rattle.rina_conn.proofs.sending.Sending.admit.Goals as goal

@@ -1,4 +1,4 @@
-use Rattle.std.proofs.Common.{ℕ, refl, ap}
+use Rattle.std.proofs.Common.{refl, ap}
 use Rattle.std.proofs.lemmas.Result.{err_from_is_err_and}
 use Rattle.rina_dtcp.specs.Senders.{Kept, flag_of}
 use Rattle.rina_conn.specs.Carrying.{carry, part_in}

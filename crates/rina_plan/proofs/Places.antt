@@ -1,0 +1,43 @@
+-- Places in lists.
+use Rattle.std.proofs.Common.{◌≡◌, ◌==◌, ◌||◌, ℕ, ◌+◌, ◌<◌, ◌≤◌, Bool, true, false, not, cond, List, [], ◌∷◌, length, map, drop, get_or, Option, Some, None, refl, sym, ap, ◌∙◌, arith}
+use Rattle.std.proofs.lemmas.List.{length-map, drop_more, drop_all}
+use Rattle.std.specs.List.{position, prefix_len, list_any}
+use Rattle.rina_plan.specs.declared.dif.MemberPlan.{MemberPlan}
+use Rattle.rina_plan.specs.declared.dif.DifPlan.{DifPlan}
+use Rattle.rina_plan.specs.Difs.{has_twice, is_misaddressed, is_misplaced}
+
+prefix_len_map : {A B : Type 0} (p : B → Bool) (f : A → B) (xs : List A) → prefix_len p (map f xs) ≡ prefix_len (λ x. p (f x)) xs
+prefix_len_map p f [] = refl
+prefix_len_map p f (x ∷ xs) = ap (λ n. cond (p (f x)) (1 + n) 0) (prefix_len_map p f xs)
+
+pub position_map : {A B : Type 0} (p : B → Bool) (f : A → B) (xs : List A) → position p (map f xs) ≡ position (λ x. p (f x)) xs
+position_map p f xs = rw (prefix_len_map (λ y. not (p y)) f xs, length-map xs f) refl
+
+-- the first flag is that of the first element that passes
+pub flag_place : {A : Type 0} (p : A → Bool) (xs : List A) → position (λ b. b) (map p xs) ≡ position p xs
+flag_place p xs = position_map (λ b. b) p xs
+
+pub twice_here : (xs : List ℕ) (i x : ℕ) (b : Bool) → i < length xs → x ≡ get_or xs i 0 → b ≡ list_any (λ y. y == x) (drop (i + 1) xs) → b ≡ true → has_twice (drop i xs) ≡ has_twice xs → true ≡ has_twice xs
+unfolding has_twice
+twice_here xs i x b within is test here so_far =
+    let seen : list_any (λ y. y == get_or xs i 0) (drop (i + 1) xs) ≡ true = ap (λ z. list_any (λ y. y == z) (drop (i + 1) xs)) (sym is) ∙ sym test ∙ here in
+    sym (rw (drop_more xs i 0 within, seen) refl) ∙ so_far
+
+pub twice_later : (xs : List ℕ) (i x : ℕ) (b : Bool) → i < length xs → x ≡ get_or xs i 0 → b ≡ list_any (λ y. y == x) (drop (i + 1) xs) → b ≡ false → has_twice (drop i xs) ≡ has_twice xs → has_twice (drop (i + 1) xs) ≡ has_twice xs
+unfolding has_twice
+twice_later xs i x b within is test other so_far =
+    let seen : list_any (λ y. y == get_or xs i 0) (drop (i + 1) xs) ≡ false = ap (λ z. list_any (λ y. y == z) (drop (i + 1) xs)) (sym is) ∙ sym test ∙ other in
+    let one : has_twice (drop i xs) ≡ has_twice (drop (i + 1) xs) = rw (drop_more xs i 0 within, seen) refl in
+    sym one ∙ so_far
+
+pub not_twice : (xs : List ℕ) (i : ℕ) → length xs ≤ i → has_twice (drop i xs) ≡ has_twice xs → false ≡ has_twice xs
+unfolding has_twice
+not_twice xs i past so_far =
+    let last : has_twice (drop i xs) ≡ false = rw (drop_all i xs past) refl in
+    sym last ∙ so_far
+
+-- the four tests of the members of a DIF
+pub misplaced_is : (d : DifPlan) (ms : List MemberPlan) (n : ℕ) (node address odd : Bool) → ms ≡ d.members → n ≡ length d.members → node ≡ has_twice (map (λ (m : MemberPlan). m.node) ms) → address ≡ has_twice (map (λ (m : MemberPlan). m.addr) ms)
+    → odd ≡ list_any (is_misaddressed d.widths.addr) ms → ((n == 0) || node || address || odd) ≡ is_misplaced d
+unfolding is_misplaced
+misplaced_is d ms n node address odd same size a b c = rw (size, a, b, c, same) refl

@@ -1,0 +1,2 @@
+pub mod Difs
+pub mod Links

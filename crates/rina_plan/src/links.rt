@@ -1,0 +1,164 @@
+//! The rules on links, which ask of the facilities below. Each function gives the place of the first
+//! DIF that breaks its rule.
+ghost use Rattle.std.specs.Prelude.{◌≡◌, ◌<◌, ◌==◌, ◌&&◌, not, nat_le, length, position, IfSome};
+ghost use Rattle.std.specs.List.{list_any};
+ghost use Rattle.rina_cube.specs.declared.Cube.{Cube};
+ghost use Rattle.rina_plan.specs.declared.dif.MemberPlan.{MemberPlan};
+ghost use Rattle.rina_plan.specs.declared.dif.LinkPlan.{LinkPlan};
+ghost use Rattle.rina_plan.specs.Links.{is_dynamic, rank_of, is_member, is_there, carries, is_misused, is_crossed_link, has_crossed_link, is_uncarried};
+
+use crate::dif::{DifPlan, LinkPlan, Lower, MemberPlan, WireEnds};
+use rina_cube::Cube;
+
+fn is_dynamic(difs: &[DifPlan], on: Lower) -> bool
+    ensures { result ≡ is_dynamic difs.now on }
+{
+    match on {
+        Lower::Wire(_) => false,
+        Lower::Dif(at) => match difs.get(at) {
+            Some(dif) => !dif.is_static,
+            None => false,
+        },
+    }
+}
+
+fn any_on_dynamic(difs: &[DifPlan], links: &[LinkPlan]) -> bool
+    ensures { result ≡ list_any (λ (l : LinkPlan). is_dynamic difs.now l.on) links.now }
+{
+    links.iter().any(|link| is_dynamic(difs, link.on))
+}
+
+#[tactic(auto, unfolding(crate::specs::Links::is_misused))]
+fn is_misused(difs: &[DifPlan], dif: &DifPlan) -> bool
+    ensures { result ≡ is_misused difs.now dif.now }
+{
+    (!dif.is_static && (dif.links.len() > 0 || dif.flows.len() > 0))
+        || (dif.is_static && dif.rank > 1 && any_on_dynamic(difs, dif.links.as_slice()))
+}
+
+/// A DIF that is not static has links or flows, or a static one above rank 1 has a link on one that is
+/// not.
+pub fn first_misused(difs: &[DifPlan]) -> Option<usize>
+    ensures place { result ≡ position (is_misused difs.now) difs.now }
+    ensures within { IfSome result (λ i. i < length difs.now) }
+{
+    difs.iter().position(|dif| is_misused(difs, dif))
+}
+
+fn rank_of(difs: &[DifPlan], on: Lower) -> u8
+    ensures { result ≡ rank_of difs.now on }
+{
+    match on {
+        Lower::Wire(_) => 0,
+        Lower::Dif(at) => match difs.get(at) {
+            Some(dif) => dif.rank,
+            None => 0,
+        },
+    }
+}
+
+fn has_node(members: &[MemberPlan], node: usize) -> bool
+    ensures { result ≡ list_any (λ (m : MemberPlan). m.node == node) members.now }
+{
+    members.iter().any(|member| member.node == node)
+}
+
+pub(crate) fn is_member(node: usize, dif: &DifPlan) -> bool
+    ensures { result ≡ is_member node dif.now }
+{
+    has_node(dif.members.as_slice(), node)
+}
+
+fn is_there(wires: &[WireEnds], difs: &[DifPlan], node: usize, on: Lower) -> bool
+    ensures { result ≡ is_there wires.now difs.now node on }
+{
+    match on {
+        Lower::Wire(at) => match wires.get(at) {
+            Some(wire) => wire.a == node || wire.b == node,
+            None => false,
+        },
+        Lower::Dif(at) => match difs.get(at) {
+            Some(dif) => is_member(node, dif),
+            None => false,
+        },
+    }
+}
+
+#[tactic(auto, unfolding(crate::specs::Links::is_crossed_link))]
+fn is_crossed(wires: &[WireEnds], difs: &[DifPlan], dif: &DifPlan, link: &LinkPlan) -> bool
+    ensures { result ≡ is_crossed_link wires.now difs.now dif.now link.now }
+{
+    u32::from(rank_of(difs, link.on)) + 1 != u32::from(dif.rank)
+        || link.a == link.b
+        || !(is_member(link.a, dif)
+            && is_member(link.b, dif)
+            && is_there(wires, difs, link.a, link.on)
+            && is_there(wires, difs, link.b, link.on))
+}
+
+fn any_crossed(wires: &[WireEnds], difs: &[DifPlan], dif: &DifPlan, links: &[LinkPlan]) -> bool
+    ensures { result ≡ list_any (is_crossed_link wires.now difs.now dif.now) links.now }
+{
+    links.iter().any(|link| is_crossed(wires, difs, dif, link))
+}
+
+#[tactic(auto, unfolding(crate::specs::Links::has_crossed_link))]
+fn has_crossed(wires: &[WireEnds], difs: &[DifPlan], dif: &DifPlan) -> bool
+    ensures { result ≡ has_crossed_link wires.now difs.now dif.now }
+{
+    any_crossed(wires, difs, dif, dif.links.as_slice())
+}
+
+/// A link that is not on the rank just below, or whose ends are equal or no members here and there.
+pub fn first_crossed(wires: &[WireEnds], difs: &[DifPlan]) -> Option<usize>
+    ensures place { result ≡ position (has_crossed_link wires.now difs.now) difs.now }
+    ensures within { IfSome result (λ i. i < length difs.now) }
+{
+    difs.iter().position(|dif| has_crossed(wires, difs, dif))
+}
+
+fn any_carries(cubes: &[Cube], pdu: u32, id: u8) -> bool
+    ensures { result ≡ list_any (λ (c : Cube). (c.id == id) && nat_le pdu c.largest) cubes.now }
+{
+    cubes
+        .iter()
+        .any(|cube| cube.id == id && pdu <= cube.largest)
+}
+
+fn carries(wires: &[WireEnds], difs: &[DifPlan], pdu: u32, cube: u8, on: Lower) -> bool
+    ensures { result ≡ carries wires.now difs.now pdu cube on }
+{
+    match on {
+        Lower::Wire(at) => match wires.get(at) {
+            Some(wire) => cube == 0 && pdu <= wire.largest,
+            None => false,
+        },
+        Lower::Dif(at) => match difs.get(at) {
+            Some(dif) => any_carries(dif.cubes.as_slice(), pdu, cube),
+            None => false,
+        },
+    }
+}
+
+fn any_uncarried(wires: &[WireEnds], difs: &[DifPlan], pdu: u32, links: &[LinkPlan]) -> bool
+    ensures { result ≡ list_any (λ (l : LinkPlan). not (carries wires.now difs.now pdu l.cube l.on)) links.now }
+{
+    links
+        .iter()
+        .any(|link| !carries(wires, difs, pdu, link.cube, link.on))
+}
+
+#[tactic(auto, unfolding(crate::specs::Links::is_uncarried))]
+fn is_uncarried(wires: &[WireEnds], difs: &[DifPlan], dif: &DifPlan) -> bool
+    ensures { result ≡ is_uncarried wires.now difs.now dif.now }
+{
+    any_uncarried(wires, difs, dif.pdu, dif.links.as_slice())
+}
+
+/// A link whose cube is not in the facility below, or takes less than a PDU.
+pub fn first_uncarried(wires: &[WireEnds], difs: &[DifPlan]) -> Option<usize>
+    ensures place { result ≡ position (is_uncarried wires.now difs.now) difs.now }
+    ensures within { IfSome result (λ i. i < length difs.now) }
+{
+    difs.iter().position(|dif| is_uncarried(wires, difs, dif))
+}

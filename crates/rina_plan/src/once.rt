@@ -1,0 +1,140 @@
+//! Numbers that stand twice: ids of cubes, and nodes and addresses of members. Each function gives the
+//! place of the first DIF that breaks its rule.
+ghost use Rattle.std.specs.Prelude.{◌≡◌, ◌<◌, ◌==◌, ◌||◌, length, map, position, IfOk, IfSome};
+ghost use Rattle.std.specs.List.{list_any};
+ghost use Rattle.rina_cube.specs.declared.Cube.{Cube};
+ghost use Rattle.rina_plan.specs.declared.dif.MemberPlan.{MemberPlan};
+ghost use Rattle.rina_plan.specs.declared.dif.DifPlan.{DifPlan};
+ghost use Rattle.rina_plan.specs.Difs.{has_twice, lacks_cubes, is_misplaced};
+
+use crate::dif::{DifPlan, MemberPlan};
+use crate::difs::any_misaddressed;
+use rina_cube::Cube;
+use std::alloc::{AllocError, Global};
+
+fn is_among(numbers: &[usize], number: usize) -> bool
+    ensures { result ≡ list_any (λ y. y == number) numbers.now }
+{
+    numbers.iter().any(|other| *other == number)
+}
+
+/// Whether a number stands there twice.
+pub(crate) fn has_twice(numbers: &[usize]) -> bool
+    ensures { result ≡ has_twice numbers.now }
+{
+    let mut at = 0usize;
+    'numbers: for number in numbers {
+        at += 1;
+        let (_, later) = numbers.split_at(at);
+        if is_among(later, *number) {
+            return true;
+        }
+    }
+    false
+}
+
+fn ids_of(alloc: Global, cubes: &[Cube]) -> Result<Vec<usize>, AllocError>
+    ensures { IfOk result (λ v. v.items ≡ map (λ (c : Cube). c.id) cubes.now) }
+{
+    cubes.iter().map(|cube| usize::from(cube.id)).collect(alloc)
+}
+
+fn nodes_of(alloc: Global, members: &[MemberPlan]) -> Result<Vec<usize>, AllocError>
+    ensures { IfOk result (λ v. v.items ≡ map (λ (m : MemberPlan). m.node) members.now) }
+{
+    members.iter().map(|member| member.node).collect(alloc)
+}
+
+fn addresses_of(alloc: Global, members: &[MemberPlan]) -> Result<Vec<usize>, AllocError>
+    ensures { IfOk result (λ v. v.items ≡ map (λ (m : MemberPlan). m.addr) members.now) }
+{
+    members
+        .iter()
+        .map(|member| member.addr as usize)
+        .collect(alloc)
+}
+
+#[tactic(auto, unfolding(crate::specs::Difs::lacks_cubes))]
+fn lacks_cubes(alloc: Global, dif: &DifPlan) -> Result<bool, AllocError>
+    ensures { IfOk result (λ b. b ≡ lacks_cubes dif.now) }
+{
+    let ids = ids_of(alloc, dif.cubes.as_slice())?;
+    Ok(dif.cubes.len() == 0 || has_twice(ids.as_slice()))
+}
+
+fn shares_node(alloc: Global, members: &[MemberPlan]) -> Result<bool, AllocError>
+    ensures { IfOk result (λ b. b ≡ has_twice (map (λ (m : MemberPlan). m.node) members.now)) }
+{
+    let nodes = nodes_of(alloc, members)?;
+    Ok(has_twice(nodes.as_slice()))
+}
+
+fn shares_address(alloc: Global, members: &[MemberPlan]) -> Result<bool, AllocError>
+    ensures { IfOk result (λ b. b ≡ has_twice (map (λ (m : MemberPlan). m.addr) members.now)) }
+{
+    let addresses = addresses_of(alloc, members)?;
+    Ok(has_twice(addresses.as_slice()))
+}
+
+fn any_of(empty: bool, node: bool, address: bool, odd: bool) -> bool
+    ensures { result ≡ (empty || node || address || odd) }
+{
+    empty || node || address || odd
+}
+
+#[tactic(auto, unfolding(crate::specs::Difs::is_misplaced))]
+fn is_misplaced(alloc: Global, dif: &DifPlan) -> Result<bool, AllocError>
+    ensures { IfOk result (λ b. b ≡ is_misplaced dif.now) }
+{
+    let members = dif.members.as_slice();
+    let node = shares_node(alloc, members)?;
+    let address = shares_address(alloc, members)?;
+    let odd = any_misaddressed(dif.widths.addr, members);
+    Ok(any_of(dif.members.len() == 0, node, address, odd))
+}
+
+fn each_lacking(alloc: Global, difs: &[DifPlan]) -> Result<Vec<bool>, AllocError>
+    ensures { IfOk result (λ v. v.items ≡ map lacks_cubes difs.now) }
+{
+    let mut flags = Vec::new(alloc);
+    'difs: for dif in difs {
+        flags.push(lacks_cubes(alloc, dif)?)?;
+    }
+    Ok(flags)
+}
+
+fn each_misplaced(alloc: Global, difs: &[DifPlan]) -> Result<Vec<bool>, AllocError>
+    ensures { IfOk result (λ v. v.items ≡ map is_misplaced difs.now) }
+{
+    let mut flags = Vec::new(alloc);
+    'difs: for dif in difs {
+        flags.push(is_misplaced(alloc, dif)?)?;
+    }
+    Ok(flags)
+}
+
+pub(crate) fn first_flag(flags: &[bool]) -> Option<usize>
+    ensures place { result ≡ position (λ b. b) flags.now }
+    ensures within { IfSome result (λ i. i < length flags.now) }
+{
+    flags.iter().position(|flag| *flag)
+}
+
+/// A DIF without a cube, or with two of one id.
+#[tactic(auto, using(crate::proofs::Places::flag_place))]
+pub fn first_without_cubes(alloc: Global, difs: &[DifPlan]) -> Result<Option<usize>, AllocError>
+    ensures { IfOk result (λ f. f ≡ position lacks_cubes difs.now) }
+{
+    let flags = each_lacking(alloc, difs)?;
+    Ok(first_flag(flags.as_slice()))
+}
+
+/// A DIF without a member, with two on one node or of one address, or with an address that no member
+/// can have.
+#[tactic(auto, using(crate::proofs::Places::flag_place))]
+pub fn first_misplaced(alloc: Global, difs: &[DifPlan]) -> Result<Option<usize>, AllocError>
+    ensures { IfOk result (λ f. f ≡ position is_misplaced difs.now) }
+{
+    let flags = each_misplaced(alloc, difs)?;
+    Ok(first_flag(flags.as_slice()))
+}

@@ -1,0 +1,95 @@
+-- What was read where reading succeeded.
+use Rattle.std.proofs.Common.{◌≡◌, ℕ, ◌+◌, ◌<◌, ◌≤◌, Bool, true, false, cond, ℤ, pos, negsuc, ◌≤ℤ◌, List, [], ◌∷◌, length, get_or, Option, Some, None, Result, Ok, Err, refl, sym, ap, ◌∙◌, arith}
+use Rattle.std.specs.Prelude.{All, int_le, ◌&&◌, unsigned_abs}
+use Rattle.std.proofs.lemmas.Bool.{and_parts}
+use Rattle.std.proofs.lemmas.Int.{ints}
+use Rattle.std.proofs.lemmas.List.Elements.{All-cons}
+use Rattle.std.proofs.lemmas.List.Quantifiers.{position-Some}
+use Rattle.toml.specs.Data.{Data}
+use Rattle.rina_base.specs.Traverse.{◌>>=◌, traverse}
+use Rattle.rina_stack.specs.declared.error.StackError.{StackError}
+use Rattle.rina_stack.specs.declared.scope.Scope.{Scope}
+use Rattle.rina_stack.specs.declared.sketch.Sketch.{Sketch}
+use Rattle.rina_stack.specs.Faults.{there, needed, unless}
+use Rattle.rina_stack.specs.Keys.{items_in}
+use Rattle.rina_stack.specs.Names.{place_in, as_name}
+use Rattle.rina_stack.specs.Values.{is_between, as_number, ranged, integer_in, number_in, number_or, integer_or, named, node_named, node_in, text_in, rows, rows_in, rows_or}
+use Rattle.rina_stack.specs.Stack.{plain, full}
+
+pub bind_ok : {A B : Type 0} (a : Result A StackError) (f : A → Result B StackError) (y : B) → (a >>= f) ≡ Ok y → (x : A) × (a ≡ Ok x) × (f x ≡ Ok y)
+bind_ok (Ok x) f y h = (x, refl, h)
+bind_ok (Err e) f y h = cc
+
+pub ok_is : {A : Type 0} (x y : A) → ◌≡◌ {A = Result A StackError} (Ok x) (Ok y) → x ≡ y
+ok_is x y h = cc
+
+pub unbroken : (n : ℕ) (o : Option ℕ) (t : Unit {0}) → unless n o ≡ Ok t → o ≡ None
+unbroken n None t h = refl
+unbroken n (Some i) t h = cc
+
+-- what each row is, all are
+pub all_read : {A B : Type 0} (P : B → Type 0) (f : ℕ → A → Result B StackError) (k : ℕ) (xs : List A) (ys : List B) → ((n : ℕ) (x : A) (y : B) → f n x ≡ Ok y → P y) → traverse f k xs ≡ Ok ys → All P ys
+unfolding traverse
+all_read P f k [] ys each h =
+    let same : ys ≡ [] = cc in
+    λ i d within. absurd (omega (arith, ap length same))
+all_read P f k (x ∷ xs) ys each h =
+    let (y, one, more) = bind_ok (f k x) _ ys h in
+    let (zs, others, whole) = bind_ok (traverse f (k + 1) xs) _ ys more in
+    let same : y ∷ zs ≡ ys = cc in
+    rw (← same) (All-cons P y zs (each k x y one) (all_read P f (k + 1) xs zs each others))
+
+-- a step that gives the same gives the same rows
+pub same_rows : {A B : Type 0} (f g : ℕ → A → Result B StackError) (k : ℕ) (xs : List A) → ((n : ℕ) (x : A) → f n x ≡ g n x) → traverse f k xs ≡ traverse g k xs
+unfolding traverse
+same_rows f g k [] each = refl
+same_rows f g k (x ∷ xs) each = rw (each k x, same_rows f g (k + 1) xs each) refl
+
+found_7 : {A : Type 0} (n : ℕ) (instead : A) (o : Option A) (x : A) → needed 7 7 n instead o ≡ Ok x → o ≡ Some x
+found_7 n instead None x h = cc
+found_7 n instead (Some y) x h = cc
+
+found_6 : {A : Type 0} (n : ℕ) (instead : A) (o : Option A) (x : A) → needed 7 6 n instead o ≡ Ok x → o ≡ Some x
+found_6 n instead None x h = cc
+found_6 n instead (Some y) x h = cc
+
+if_some : {A : Type 0} (b : Bool) (x y : A) → cond b (Some x) None ≡ Some y → (b ≡ true) × (x ≡ y)
+if_some true x y h = (refl, cc)
+if_some false x y h = cc
+
+ordered : (y z : ℤ) → int_le y z ≡ true → y ≤ℤ z
+ordered y z h = grind (arith, ints)
+
+size_between : (least most : ℕ) (z : ℤ) → pos least ≤ℤ z → z ≤ℤ pos most → (least ≤ unsigned_abs z) × (unsigned_abs z ≤ most)
+size_between least most (pos n) low high = (omega (arith, ints), omega (arith, ints))
+size_between least most (negsuc n) low high = absurd (omega (arith, ints))
+
+between : (least most : ℕ) (z : ℤ) (m : ℕ) → as_number least most z ≡ Some m → (least ≤ m) × (m ≤ most)
+unfolding as_number
+between least most z m h =
+    let (test, same) = if_some (is_between (pos least) (pos most) z) (unsigned_abs z) m h in
+    let (low, high) = and_parts (int_le (pos least) z) (int_le z (pos most)) test in
+    let (a, b) = size_between least most z (ordered (pos least) z low) (ordered z (pos most) high) in
+    (omega (arith, a, same), omega (arith, b, same))
+
+ranged_7 : (named : Sketch) (u : Option ℕ) (n least most : ℕ) (z : ℤ) (m : ℕ) → ranged (full named u) n least most z ≡ Ok m → (least ≤ m) × (m ≤ most)
+unfolding ranged
+ranged_7 named u n least most z m h = between least most z m (found_6 n least (as_number least most z) m h)
+
+pub number_7 : (named : Sketch) (u : Option ℕ) (n : ℕ) (k : List ℕ) (d : Data) (least most m : ℕ) → number_in (full named u) n k d least most ≡ Ok m → (least ≤ m) × (m ≤ most)
+unfolding number_in
+number_7 named u n k d least most m h =
+    let (z, _, range) = bind_ok (integer_in n k d) _ m h in
+    ranged_7 named u n least most z m range
+
+pub node_7 : (known : Sketch) (u : Option ℕ) (n : ℕ) (t : List ℕ) (i : ℕ) → node_named (full known u) n t ≡ Ok i → i < length known.nodes
+unfolding node_named
+node_7 known u n t i h =
+    let (name, _, there) = bind_ok (named (full known u) n t) _ i h in
+    let found = found_7 n 0 (place_in known.nodes name) i there in
+    (position-Some _ known.nodes i [] found).0
+
+-- a name is read alike whether references are resolved or not
+pub same_name : (known : Sketch) (u : Option ℕ) (n : ℕ) (t : List ℕ) → named (plain 4) n t ≡ named (full known u) n t
+unfolding named
+same_name known u n t = refl

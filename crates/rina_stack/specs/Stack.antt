@@ -1,0 +1,95 @@
+-- The plan of a table, or the first rule that it breaks.
+use Rattle.std.specs.Prelude.{◌≡◌, ℕ, ◌+◌, Bool, List, [], length, map, Option, Some, None, Result, Ok, Err, option_map, IsUtf8, position}
+use Rattle.toml.specs.Data.{Data, table, Members}
+use Rattle.toml.specs.Parse.{parse_document}
+use Rattle.rina_base.specs.Traverse.{◌>>=◌}
+use Rattle.rina_plan.specs.declared.dif.DifPlan.{DifPlan}
+use Rattle.rina_plan.specs.declared.dif.WireEnds.{WireEnds}
+use Rattle.rina_plan.specs.Difs.{lacks_lower, lacks_cubes, has_mistimed, is_misplaced, is_misfit, has_oversized}
+use Rattle.rina_plan.specs.Links.{is_misused, has_crossed_link, is_uncarried}
+use Rattle.rina_stack.specs.declared.plan.WirePlan.{WirePlan}
+use Rattle.rina_stack.specs.declared.plan.Plan.{Plan}
+use Rattle.rina_stack.specs.declared.error.StackError.{StackError}
+use Rattle.rina_stack.specs.declared.error.StackError.TheVariants.{Memory, NotToml, StackRule}
+use Rattle.rina_stack.specs.declared.scope.Scope.{Scope}
+use Rattle.rina_stack.specs.declared.sketch.WireSketch.{WireSketch}
+use Rattle.rina_stack.specs.declared.sketch.Sketch.{Sketch}
+use Rattle.rina_stack.specs.Faults.{unless}
+use Rattle.rina_stack.specs.Keys.{keys_fault}
+use Rattle.rina_stack.specs.Items.{sketch_at}
+use Rattle.rina_stack.specs.Policies.{unknown_policy}
+use Rattle.rina_stack.specs.Rules.{wire_names, dif_names, twin_fault, first_wire, is_crossed, top_fault}
+
+-- rules up to `upto` are tried, of those that speak of one value, and no name is looked up
+abbrev pub plain : ℕ → Scope
+plain upto = record { upto = upto; nodes = []; wires = []; difs = []; unknown = None }
+
+-- all such rules are tried, and names are looked up among those of the stack
+abbrev pub full : Sketch → Option ℕ → Scope
+full named unknown = record { upto = 7; nodes = named.nodes; wires = wire_names named.wires; difs = dif_names named.difs; unknown = unknown }
+
+-- the item of the first DIF whose policy is not known
+abbrev pub unknown_item : (List ℕ → Bool) → Sketch → Option ℕ
+unknown_item known named = option_map (λ i. 1 + length named.wires + i) (unknown_policy known named.difs)
+
+-- the stack with its references, by the names that it has
+unfoldable pub resolved_at : (List ℕ → Bool) → Sketch → Data → Result Sketch StackError
+resolved_at known named d = sketch_at (full named (unknown_item known named)) d
+
+-- what the rules on DIFs ask of a wire
+abbrev pub ends_of : WireSketch → WireEnds
+ends_of w = record { a = w.a; b = w.b; largest = w.largest }
+
+-- the rules from 9 on, each over all DIFs, where `first` is the number of the first DIF
+unfoldable pub difs_at : ℕ → List WireEnds → List DifPlan → Result (Unit {0}) StackError
+difs_at first wires difs = do
+  _ ← unless 9 (option_map (λ i. first + i) (position (lacks_lower difs) difs))
+  _ ← unless 10 (option_map (λ i. first + i) (position lacks_cubes difs))
+  _ ← unless 11 (option_map (λ i. first + i) (position has_mistimed difs))
+  _ ← unless 12 (option_map (λ i. first + i) (position is_misplaced difs))
+  _ ← unless 13 (option_map (λ i. first + i) (position is_misfit difs))
+  _ ← unless 14 (option_map (λ i. first + i) (position has_oversized difs))
+  _ ← unless 15 (option_map (λ i. first + i) (position (is_misused difs) difs))
+  _ ← unless 16 (option_map (λ i. first + i) (position (has_crossed_link wires difs) difs))
+  unless 17 (option_map (λ i. first + i) (position (is_uncarried wires difs) difs))
+
+-- the rules from 8 on, each over the whole stack
+unfoldable pub rules_at : Sketch → Result (Unit {0}) StackError
+rules_at s = do
+  _ ← unless 8 (first_wire is_crossed s.wires)
+  _ ← difs_at (1 + length s.wires) (map ends_of s.wires) s.difs
+  unless 19 (top_fault s)
+
+abbrev pub narrow : WireSketch → WirePlan
+narrow w = record { name = w.name; a = w.a; b = w.b; delay = w.delay; life = w.life; largest = w.largest; storm = w.storm }
+
+abbrev pub plan_of : Sketch → Plan
+plan_of s = record { nodes = s.nodes; rounds = s.rounds; wires = map narrow s.wires; difs = s.difs }
+
+-- The plan of a table, or the first rule that it breaks. Rule by rule over the whole stack: the keys (2), the types (3), the names (4), names that stand
+-- twice (5), the numbers (6), what names refer to (7), and the rules on the stack as a whole. `known` are the policies.
+unfoldable pub stack_at : (List ℕ → Bool) → Data → Result Plan StackError
+stack_at known d = do
+  _ ← unless 2 (keys_fault d)
+  _ ← sketch_at (plain 3) d
+  named ← sketch_at (plain 4) d
+  _ ← unless 5 (twin_fault named)
+  _ ← sketch_at (plain 6) d
+  s ← resolved_at known named d
+  _ ← rules_at s
+  Ok (plan_of s)
+
+-- the text is TOML, and this is its table
+abbrev pub IsTable : List ℕ → Members → Type 0
+IsTable text ms = IsUtf8 text × (parse_document text ≡ Some ms)
+
+-- What reading a text gives, where `f` is what a table gives. NotToml is exact: what has a table has a plan or breaks a rule.
+abbrev pub ReadsBy : (Data → Result Plan StackError) → Result Plan StackError → List ℕ → Type 0
+ReadsBy f (Ok plan) text = (ms : Members) × IsTable text ms × (f (table ms) ≡ Ok plan)
+ReadsBy f (Err Memory) text = Unit {0}
+ReadsBy f (Err NotToml) text = (ms : Members) → IsTable text ms → ⊥
+ReadsBy f (Err (StackRule n k)) text = (ms : Members) × IsTable text ms × (f (table ms) ≡ Err (StackRule n k))
+
+-- what reading a text gives, where these policies are known
+abbrev pub Reads : (List ℕ → Bool) → Result Plan StackError → List ℕ → Type 0
+Reads known = ReadsBy (stack_at known)

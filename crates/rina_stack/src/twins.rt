@@ -1,0 +1,185 @@
+//! Rule 5: no name stands twice.
+ghost use Rattle.std.specs.Prelude.{◌≡◌, ◌+◌, ◌*◌, ◌<◌, ◌≤◌, ◌++◌, length, map, IfOk, IfSome, OnOk, Ok, is_some};
+ghost use Rattle.std.specs.List.{list_any};
+ghost use Rattle.std.specs.Str.{bytes_eq};
+ghost use Rattle.rina_stack.specs.Faults.{Gives};
+ghost use Rattle.rina_stack.specs.Rules.{has_text, twin_in, wire_names, dif_names, flow_labels, labels, owner_of, earlier, facility_twin, label_twin, twin_fault};
+
+use crate::error::{StackError, first_behind};
+use crate::sketch::{Sketch, WireSketch};
+use rina_base::Name;
+use rina_plan::{DifPlan, FlowPlan};
+use std::alloc::{AllocError, Global};
+
+fn is_here(texts: &[&[u8]], text: &[u8]) -> bool
+    ensures { result ≡ list_any (λ t. bytes_eq t.now text.now) texts.now }
+{
+    texts.iter().any(|other| *other == text)
+}
+
+fn is_among(texts: &[&[u8]], text: &[u8]) -> bool
+    ensures { result ≡ has_text (map (λ t. t.now) texts.now) text.now }
+{
+    is_here(texts, text)
+}
+
+/// The place of the first text that stands among those before it.
+fn first_twin(texts: &[&[u8]]) -> Option<usize>
+    ensures place { result ≡ twin_in (map (λ t. t.now) texts.now) }
+    ensures within { IfSome result (λ i. i < length texts.now) }
+{
+    let mut at = 0usize;
+    'texts: for text in texts {
+        let (before, _) = texts.split_at(at);
+        if is_among(before, *text) {
+            return Some(at);
+        }
+        at += 1;
+    }
+    None
+}
+
+/// The texts of names.
+pub(crate) fn texts_of<'a>(alloc: Global, names: &'a [Name]) -> Result<Vec<&'a [u8]>, AllocError>
+    ensures { IfOk result (λ v. map (λ t. t.now) v.items ≡ names.now) }
+{
+    let mut texts = Vec::new(alloc);
+    'names: for name in names {
+        texts.push(name.as_bytes())?;
+    }
+    Ok(texts)
+}
+
+/// The names of wires.
+pub(crate) fn names_of_wires<'a>(
+    alloc: Global,
+    wires: &'a [WireSketch],
+) -> Result<Vec<&'a [u8]>, AllocError>
+    ensures { IfOk result (λ v. map (λ t. t.now) v.items ≡ wire_names wires.now) }
+{
+    let mut names = Vec::new(alloc);
+    'wires: for wire in wires {
+        names.push(wire.name.as_bytes())?;
+    }
+    Ok(names)
+}
+
+/// Adds the names of DIFs.
+fn add_names_of_difs<'a>(names: &mut Vec<&'a [u8]>, difs: &'a [DifPlan]) -> Result<(), AllocError>
+    ensures { OnOk result (map (λ t. t.now) names.new.items ≡ map (λ t. t.now) names.old.items ++ dif_names difs.now) }
+{
+    'difs: for dif in difs {
+        names.push(dif.name.as_bytes())?;
+    }
+    Ok(())
+}
+
+/// The names of DIFs.
+pub(crate) fn names_of_difs<'a>(
+    alloc: Global,
+    difs: &'a [DifPlan],
+) -> Result<Vec<&'a [u8]>, AllocError>
+    ensures { IfOk result (λ v. map (λ t. t.now) v.items ≡ dif_names difs.now) }
+{
+    let mut names = Vec::new(alloc);
+    add_names_of_difs(&mut names, difs)?;
+    Ok(names)
+}
+
+/// Adds the labels of flows.
+fn add_labels<'a>(texts: &mut Vec<&'a [u8]>, flows: &'a [FlowPlan]) -> Result<(), AllocError>
+    ensures { OnOk result (map (λ t. t.now) texts.new.items ≡ map (λ t. t.now) texts.old.items ++ flow_labels flows.now) }
+{
+    'flows: for flow in flows {
+        texts.push(flow.from.label.as_bytes())?;
+        texts.push(flow.to.label.as_bytes())?;
+    }
+    Ok(())
+}
+
+/// The labels of all flows.
+fn labels_of<'a>(alloc: Global, difs: &'a [DifPlan]) -> Result<Vec<&'a [u8]>, AllocError>
+    ensures { IfOk result (λ v. map (λ t. t.now) v.items ≡ labels difs.now) }
+{
+    let mut texts = Vec::new(alloc);
+    'difs: for dif in difs {
+        add_labels(&mut texts, dif.flows.as_slice())?;
+    }
+    Ok(texts)
+}
+
+/// The number of the DIF that has the label at a place.
+fn owner(difs: &[DifPlan], at: usize) -> Option<usize>
+    ensures place { result ≡ owner_of at difs.now }
+    ensures within { IfSome result (λ i. i < length difs.now) }
+{
+    let mut left = at;
+    let mut number = 0usize;
+    'difs: for dif in difs {
+        let flows = dif.flows.len();
+        if left / 2 < flows {
+            return Some(number);
+        }
+        left -= flows * 2;
+        number += 1;
+    }
+    None
+}
+
+/// The place of a wire or DIF whose name stands before it.
+fn facility_named_twice(alloc: Global, sketch: &Sketch) -> Result<Option<usize>, AllocError>
+    ensures { IfOk result (λ f. f ≡ facility_twin sketch.now) }
+{
+    let mut names = names_of_wires(alloc, sketch.wires.as_slice())?;
+    add_names_of_difs(&mut names, sketch.difs.as_slice())?;
+    match first_twin(names.as_slice()) {
+        Some(at) => Ok(Some(1 + at)),
+        None => Ok(None),
+    }
+}
+
+fn dif_with_twin(alloc: Global, difs: &[DifPlan]) -> Result<Option<usize>, AllocError>
+    ensures place { IfOk result (λ f. f ≡ label_twin difs.now) }
+    ensures within { IfOk result (λ f. IfSome f (λ i. i < length difs.now)) }
+{
+    let labels = labels_of(alloc, difs)?;
+    match first_twin(labels.as_slice()) {
+        Some(at) => Ok(owner(difs, at)),
+        None => Ok(None),
+    }
+}
+
+/// The earlier of two items.
+pub(crate) fn earlier(one: Option<usize>, other: Option<usize>) -> Option<usize>
+    ensures { result ≡ earlier one other }
+{
+    match (one, other) {
+        (Some(one), Some(other)) => Some(one.min(other)),
+        (Some(one), None) => Some(one),
+        (None, other) => other,
+    }
+}
+
+fn node_named_twice(alloc: Global, nodes: &[Name]) -> Result<bool, AllocError>
+    ensures { IfOk result (λ b. b ≡ is_some (twin_in nodes.now)) }
+{
+    let texts = texts_of(alloc, nodes)?;
+    Ok(first_twin(texts.as_slice()).is_some())
+}
+
+/// The first item with a name that stands twice.
+#[tactic(auto, unfolding(crate::specs::Rules::twin_fault))]
+pub(crate) fn named_twice(alloc: Global, sketch: &Sketch) -> Result<Option<usize>, StackError>
+    ensures { Gives (λ f. f) result (Ok (twin_fault sketch.now)) }
+{
+    if node_named_twice(alloc, sketch.nodes.as_slice())? {
+        return Ok(Some(0));
+    }
+    let facility = facility_named_twice(alloc, sketch)?;
+    let difs = sketch.difs.as_slice();
+    let first = first_behind(sketch.wires.len(), difs.len())?;
+    match dif_with_twin(alloc, difs)? {
+        Some(at) => Ok(earlier(facility, Some(first + at))),
+        None => Ok(facility),
+    }
+}
