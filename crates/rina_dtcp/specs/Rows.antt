@@ -1,5 +1,5 @@
 -- What each call of a sender does, whatever sender of the machine it stands for.
-use Rattle.std.specs.Prelude.{◌≡◌, ℕ, ◌+◌, Bool, List, [], ◌∷◌, drop, length, map, Option, Some, None, option_map}
+use Rattle.std.specs.Prelude.{◌≡◌, ℕ, ◌+◌, Bool, List, [], ◌∷◌, drop, length, map, Option, Some, None, option_map, is_some}
 use Rattle.rina_base.specs.declared.pdu.Pdu.{Pdu}
 use Rattle.rina_cube.specs.declared.Cube.{Cube}
 use Rattle.rina_cube.specs.declared.Kind.{Kind}
@@ -73,6 +73,15 @@ abbrev pub Resends : ℕ → Kept → Option Pdu → Kept → Type 0
 Resends now old lent new =
     (c : Constants) (carry : Piece → Pdu) (m : Sender) → Stands c carry m old →
     (lent ≡ option_map (λ n. carry (piece_again n m)) (again_due c now m)) × Stands c carry (after_again (again_due c now m) now m) new
+
+-- and where none is sent again, nothing changes
+pub record LendsAgain (now : ℕ) (old : Kept) (lent : Option Pdu) (new : Kept) : Type 0 where
+  pub resends : Resends now old lent new
+  pub idle : lent ≡ None → new ≡ old
+
+-- whether any number is sent again now
+abbrev pub TellsDue : ℕ → Kept → Bool → Type 0
+TellsDue now k told = (c : Constants) (carry : Piece → Pdu) (m : Sender) → Stands c carry m k → told ≡ is_some (again_due c now m)
 
 -- a number that is given up, as the PDU that carries its piece has it
 abbrev pub gave_up_of : (Piece → Pdu) → ℕ → Sender → ℕ → GaveUp
