@@ -1,6 +1,8 @@
 //! The half of a connection that sends.
 ghost use Rattle.std.specs.Prelude.{◌≡◌, ◌+◌, ◌^◌, ◌<◌, ◌≤◌, length, map, slice_get, Some, IfOk, IfErr};
+ghost use Rattle.std.specs.Borrow.{sem};
 ghost use Rattle.rina_dtcp.specs.Senders.{flag_of};
+ghost use Rattle.rina_conn.specs.Lending.{LendsAgain};
 ghost use Rattle.rina_conn.specs.Carrying.{carry, part_in, made_from, LieWithin};
 ghost use Rattle.rina_conn.specs.Sending.{IsNewSender, Offers, ChecksLength, ChecksWindow, IsPartsOf, Numbered, Admits, IsToldBy, TellsRoom, TellsNext, TellsGivenUp};
 
@@ -225,6 +227,18 @@ impl Sending {
         ensures { TellsNext now self.now result }
     {
         self.numbers.next(now, self.tx.idle(), self.form.delta())
+    }
+
+    /// The PDU of the least number that is sent again now, with which that number is marked as made now; None
+    /// exactly where there is none, and then nothing changes. Takes no memory.
+    pub fn again(&mut self, now: Tick) -> Option<&Pdu>
+        requires { now ≤ 10000000 }
+        ensures* { sem 𝓛 (LendsAgain now self.entry result) }
+    {
+        if self.tx.has_due(now) {
+            self.numbers.again(now);
+        }
+        self.tx.due(now)
     }
 
     /// The least number that is given up now; None exactly where there is none. Takes no memory.

@@ -290,10 +290,10 @@ resend_none now old new place e c carry m st =
     rw (due, e) (refl, st)
 
 pub lends_some : (now at : ℕ) (old new : Kept) (pdu : Pdu) → Some at ≡ position (is_due old.cube now) old.unacked → new ≡ resent_at (Some at) now old → IsPduAt new.unacked at pdu → LendsAgain now old (Some pdu) new
-lends_some now at old new pdu place e is = record { resends = resend_some now at old new pdu place e is; idle = λ none. cc }
+lends_some now at old new pdu place e is = record { resends = resend_some now at old new pdu place e is; there = ap is_some place; idle = λ none. cc }
 
 pub lends_none : (now : ℕ) (old new : Kept) → None ≡ position (is_due old.cube now) old.unacked → new ≡ old → LendsAgain now old None new
-lends_none now old new place e = record { resends = resend_none now old new place e; idle = λ none. e }
+lends_none now old new place e = record { resends = resend_none now old new place e; there = ap is_some place; idle = λ none. e }
 
 some_mapped : (f : ℕ → ℕ) (o : Option ℕ) → is_some (option_map f o) ≡ is_some o
 some_mapped f (Some x) = refl

@@ -346,17 +346,12 @@ impl Tx {
         place
     }
 
-    fn finds_due(&self, now: Tick) -> bool
-        ensures { result ≡ is_some (position (is_due self.now.cube now) self.now.unacked) }
-    {
-        first_due(&self.unacked, &self.cube, now).is_some()
-    }
-
     /// Whether `due` would give a PDU now. Takes no memory.
     pub fn has_due(&self, now: Tick) -> bool
-        ensures { TellsDue now self.now result }
+        ensures kept { result ≡ is_some (position (is_due self.now.cube now) self.now.unacked) }
+        ensures machine { TellsDue now self.now result }
     {
-        self.finds_due(now)
+        first_due(&self.unacked, &self.cube, now).is_some()
     }
 
     fn pdu(&self, at: usize) -> &Pdu

@@ -1,5 +1,5 @@
 //! The receiver of a connection.
-ghost use Rattle.std.specs.Prelude.{◌≡◌, ◌≤◌, ◌<◌, ◌+◌, ◌-◌, ◌*◌, ◌^◌, min, nat_lt, true, false, [], length, None, IfOk, IfSome};
+ghost use Rattle.std.specs.Prelude.{◌≡◌, ◌≤◌, ◌<◌, ◌+◌, ◌-◌, ◌*◌, ◌^◌, min, nat_lt, true, false, [], length, Some, None, IfOk, IfSome, if◌then◌else◌};
 ghost use Rattle.rina_base.specs.Pdus.{pdu_of};
 ghost use Rattle.rina_cube.specs.Cubes.{IsCube};
 ghost use Rattle.rina_law.specs.Receiver as law;
@@ -287,7 +287,8 @@ impl Rx {
     /// The tick of the last piece that was accepted, held, or written off as `Duplicate` or `Behind`; None exactly where no state
     /// was ever made.
     pub fn last_in(&self) -> Option<Tick>
-        ensures { TellsLastIn self.now result }
+        ensures kept { result ≡ (if self.now.made then Some self.now.last_in else None) }
+        ensures machine { TellsLastIn self.now result }
     {
         if self.made { Some(self.last_in) } else { None }
     }
