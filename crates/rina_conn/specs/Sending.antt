@@ -1,5 +1,5 @@
 -- What the sending half of a connection does, in the terms of the machine's sender for which it stands.
-use Rattle.std.specs.Prelude.{◌≡◌, ℕ, ◌-◌, ◌^◌, ◌<◌, ◌≤◌, Bool, true, List, length, map, Option, Some, None, option_map, Result, Ok, Err, if◌then◌else◌}
+use Rattle.std.specs.Prelude.{◌≡◌, ℕ, ◌-◌, ◌^◌, ◌<◌, ◌≤◌, Bool, true, false, List, length, map, Option, Some, None, option_map, Result, Ok, Err, if◌then◌else◌}
 use Rattle.rina_base.specs.declared.pdu.Pdu.{Pdu}
 use Rattle.rina_cube.specs.Cubes.{is_reliable, delta_of}
 use Rattle.rina_delim.specs.declared.part.Part as delim
@@ -9,7 +9,7 @@ use Rattle.rina_dtcp.specs.Rows as dtcp
 use Rattle.rina_dtcp.specs.Rows.{Stands, ready}
 use Rattle.rina_dtp.specs.declared.numbers.Numbers.{Numbers}
 use Rattle.rina_dtp.specs.declared.numbers.NumbersSpent as numbers
-use Rattle.rina_dtp.specs.Numbers.{Counts, TakesNumbers}
+use Rattle.rina_dtp.specs.Numbers.{Counts, TakesNumbers, NotesAgain}
 use Rattle.rina_law.specs.Constants.{Constants}
 use Rattle.rina_law.specs.Line.{opening}
 use Rattle.rina_law.specs.Pieces.{Part, IsCut, join}
@@ -126,6 +126,11 @@ TellsGivenUp now s told = (c : Constants) (m : Sender) → IsSender c m s → to
 -- the PDU of it
 abbrev pub TellsAgain : ℕ → Sending → Option Pdu → Type 0
 TellsAgain now s told = (c : Constants) (m : Sender) → IsSender c m s → told ≡ option_map (λ n. carry s.form.peer s.form.cube.id (piece_again n m)) (again_due c now m)
+
+-- the numbers are noted as made again, or as before
+abbrev pub NotesIf : Bool → ℕ → Numbers → Numbers → Type 0
+NotesIf true now old new = NotesAgain now old new
+NotesIf false now old new = new ≡ old
 
 pub record SendsAgain (now : ℕ) (old new : Sending) : Type 0 where
   pub form : new.form ≡ old.form

@@ -234,12 +234,15 @@ impl Conn {
         ensures due { AnswersAck now self.old result }
         ensures after { IsAfter now self.old result self.new }
     {
-        match self.rx.next(now) {
-            Some(next) if self.is_ack_due(now) => ConnDue::Ack {
-                ack: next.saturating_sub(1) as u32,
-                right: self.right(next),
-            },
-            _ => ConnDue::Idle,
+        let Some(next) = self.rx.next(now) else {
+            return ConnDue::Idle;
+        };
+        if !self.is_ack_due(now) {
+            return ConnDue::Idle;
+        }
+        ConnDue::Ack {
+            ack: next.saturating_sub(1) as u32,
+            right: self.right(next),
         }
     }
 
