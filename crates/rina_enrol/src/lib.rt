@@ -5,11 +5,17 @@ mod event;
 mod joiner;
 mod laws;
 mod member;
+mod message;
+mod reading;
+mod writing;
 
 pub use event::{EnrolDo, EnrolEvent};
 pub use joiner::Joiner;
 pub use laws::{a_joiner_is_enrolled_by_stop, a_member_tells_its_items_to_whom_it_allowed};
 pub use member::Member;
+pub use message::LinkMessage;
+pub use reading::read;
+pub use writing::write;
 
 #[cfg(test)]
 mod tests;
