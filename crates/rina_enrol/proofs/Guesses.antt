@@ -6,11 +6,12 @@ use Rattle.rina_base.specs.declared.memory.Memory.{Memory}
 use Rattle.rina_cdap.specs.Reading.{Gives}
 use Rattle.rina_cdap.specs.Numbers.{number_at}
 use Rattle.rina_cdap.proofs.Numbers.{number_again, number_alone}
+use Rattle.rina_cdap.proofs.Spelled as cdap
 use Rattle.rina_newest.specs.declared.item.Version.{Version}
 use Rattle.rina_newest.specs.declared.item.Item.{Item}
 use Rattle.rina_enrol.specs.declared.message.LinkMessage.{LinkMessage}
 use Rattle.rina_enrol.specs.declared.message.LinkMessage.TheVariants as messages
-use Rattle.rina_enrol.specs.Messages.{live_text, item_text, message_of, IsVersion, IsInRange}
+use Rattle.rina_enrol.specs.Messages.{live_text, item_text, message_of, IsSpelled, IsVersion, IsInRange}
 use Rattle.rina_enrol.specs.Reading.{version, version_in, live_in, number_in, item_in, connect_in, start_in, enrolment_in, guessed}
 
 version_again : (v : Version) (rest : List ℕ) → IsVersion v → version_in (be4 v.tick ++ (be4 v.count ++ (be4 v.origin ++ rest))) ≡ Some (v, rest)
@@ -62,3 +63,10 @@ same_message n k e = cc
 pub guess_is : (r : Result (Option LinkMessage) Memory) (n : Message) (m : LinkMessage) → IfOk r (λ o. o ≡ guessed n) → Gives {X = Message} (Ok n) (Ok (message_of m)) → IsInRange m → IfOk r (λ o. o ≡ Some m)
 guess_is (Ok o) n m h same range = h ∙ ap guessed (same_message n (message_of m) same) ∙ guess_again m range
 guess_is (Err e) n m h same range = tt
+
+some_same : (m n : LinkMessage) → Some m ≡ Some n → m ≡ n
+some_same m n e = cc
+
+pub one_message : (m n : LinkMessage) (bytes : List ℕ) → IsInRange m → IsInRange n → IsSpelled m bytes → IsSpelled n bytes → m ≡ n
+one_message m n bytes hm hn p q =
+    some_same m n (sym (guess_again m hm) ∙ ap guessed (cdap.one_message (message_of m) (message_of n) bytes (message_ranged m hm) (message_ranged n hn) p q) ∙ guess_again n hn)

@@ -75,10 +75,15 @@ spells m rises whole = (text (fields (message_of m)), record { rises = rises; wh
 item_short : (item : Item) → length (live_text item.value) ≤ 65523 → length (item_text item) ≤ 65535
 unfolding item_text
 item_short item short =
-    omega (arith, length-number item.version.tick, length-number item.version.count, length-number item.version.origin,
-    length-append (be4 item.version.tick) (be4 item.version.count ++ (be4 item.version.origin ++ live_text item.value)),
-    length-append (be4 item.version.count) (be4 item.version.origin ++ live_text item.value),
-    length-append (be4 item.version.origin) (live_text item.value))
+    omega (
+      arith,
+      length-number item.version.tick,
+      length-number item.version.count,
+      length-number item.version.origin,
+      length-append (be4 item.version.tick) (be4 item.version.count ++ (be4 item.version.origin ++ live_text item.value)),
+      length-append (be4 item.version.count) (be4 item.version.origin ++ live_text item.value),
+      length-append (be4 item.version.origin) (live_text item.value),
+    )
 
 operation_form : (n : ℕ) → leb n 17 ≡ true → has_form 1 (byte n) ≡ true
 unfolding has_form
@@ -92,15 +97,19 @@ front : (op invoke : ℕ) (rest : List Field) → leb op 17 ≡ true → IsRow 2
 front op invoke rest e h = (lawful 0 1 (byte op) (omega arith) (omega arith) (operation_form op e), (lawful 1 2 (be4 invoke) (omega arith) (omega arith) (number_form invoke), h))
 
 item_row : (item : Item) → IsProperItem item → IsRow 2 (field 3 (codes "value") ∷ field 4 item.key ∷ field 6 (item_text item) ∷ [])
-item_row item h =
-    (lawful 2 3 (codes "value") (omega arith) (omega arith) value_form,
-    (lawful 3 4 item.key (omega arith) (omega arith) (key_form item.key h.0 h.1),
-    (lawful 4 6 (item_text item) (omega arith) (omega arith) (text_form (item_text item) (item_short item h.2)), tt)))
+item_row item h = (
+  lawful 2 3 (codes "value") (omega arith) (omega arith) value_form,
+  (
+    lawful 3 4 item.key (omega arith) (omega arith) (key_form item.key h.0 h.1),
+    (lawful 4 6 (item_text item) (omega arith) (omega arith) (text_form (item_text item) (item_short item h.2)), tt),
+  ),
+)
 
 members_row : (rest : List Field) → IsRow 4 rest → IsRow 2 (field 3 (codes "enrol") ∷ field 4 (codes "/member") ∷ rest)
-members_row rest h =
-    (lawful 2 3 (codes "enrol") (omega arith) (omega arith) enrol_form,
-    (lawful 3 4 (codes "/member") (omega arith) (omega arith) members_form, h))
+members_row rest h = (
+  lawful 2 3 (codes "enrol") (omega arith) (omega arith) enrol_form,
+  (lawful 3 4 (codes "/member") (omega arith) (omega arith) members_form, h),
+)
 
 number_row : (last n : ℕ) (rest : List Field) → last < 6 → IsRow 6 rest → IsRow last (field 6 (be4 n) ∷ rest)
 number_row last n rest lt h = (lawful last 6 (be4 n) lt (omega arith) (text_form (be4 n) (omega (arith, length-number n))), h)

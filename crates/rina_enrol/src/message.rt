@@ -35,17 +35,30 @@ pub enum LinkMessage {
         denied: Option<u32>,
     },
     /// START: the joiner tells its address.
-    Start { invoke: u32, address: Addr },
+    Start {
+        invoke: u32,
+        address: Addr,
+    },
     /// START_R: the items follow.
-    StartR { invoke: u32 },
+    StartR {
+        invoke: u32,
+    },
     /// An item that the sender keeps, within an enrolment.
-    Item { item: Item },
+    Item {
+        item: Item,
+    },
     /// STOP: all items were sent.
-    Stop { invoke: u32 },
+    Stop {
+        invoke: u32,
+    },
     /// STOP_R: the joiner is enrolled, and its items follow.
-    StopR { invoke: u32 },
+    StopR {
+        invoke: u32,
+    },
     /// An item that the sender made, or took as news.
-    Flood { item: Item },
+    Flood {
+        item: Item,
+    },
 }
 
 /// The bytes of a value of a live item behind a byte 1, or a byte 0 for a deletion, at the end.
@@ -156,7 +169,8 @@ impl LinkMessage {
     {
         match self {
             LinkMessage::ConnectR {
-                denied: Some(rule), ..
+                denied: Some(rule),
+                ..
             } => Ok(Some(number_text(alloc, *rule)?)),
             LinkMessage::Start { address, .. } => Ok(Some(number_text(alloc, *address)?)),
             LinkMessage::Item { item } | LinkMessage::Flood { item } => {
@@ -171,7 +185,8 @@ impl LinkMessage {
     {
         match self {
             LinkMessage::ConnectR {
-                denied: Some(_), ..
+                denied: Some(_),
+                ..
             } => Some(1),
             LinkMessage::ConnectR { denied: None, .. }
             | LinkMessage::StartR { .. }
