@@ -7,7 +7,7 @@ ghost use Rattle.rina_policy.specs.Slots.{asked, count_of};
 ghost use Rattle.rina_queue.specs.Queues.{heads_of, queue_place};
 ghost use Rattle.rina_data.specs.Configs.{config_of};
 ghost use Rattle.rina_data.specs.Deciding.{process_of};
-ghost use Rattle.rina_data.specs.Leaving.{AsksOnce, CanGo, Drops, IsRoomy, IsTaken, Tries};
+ghost use Rattle.rina_data.specs.Leaving.{Asks, CanGo, Drops, IsAsked, IsRoomy, IsTaken, Tries};
 ghost use Rattle.rina_data.specs.Outgoing.{Goes};
 
 use crate::hop::{charge, left_after, protect};
@@ -42,7 +42,12 @@ impl IpcProcess {
     }
 
     /// Writes the first PDU of a queue off.
-    fn drop_first(&mut self, alloc: Global, first: First, cause: Cause) -> Result<OutStep, StepError>
+    fn drop_first(
+        &mut self,
+        alloc: Global,
+        first: First,
+        cause: Cause,
+    ) -> Result<OutStep, StepError>
         requires { IsSome (queue_place first.qos first.link self.old.queues.queues.items) }
         ensures { Drops (process_of self.old) first cause result (process_of self.new) }
     {
@@ -63,12 +68,12 @@ impl IpcProcess {
         bytes: &[u8],
     ) -> Result<OutStep, StepError>
         requires there { IsSome (queue_place first.qos first.link self.old.queues.queues.items) }
-        requires valid { valid below.old }
-        requires roomy { IsRoomy (seen below.old) first.port (length bytes.now) }
-        ensures valid { valid below.new }
-        ensures below { same_below below.old below.new }
-        ensures later { IsLater (seen below.old) (seen below.new) }
-        ensures does { Tries (refuses_send below.old first.port (length bytes.now)) (process_of self.old) (seen below.old) first bytes.now result (process_of self.new) (seen below.new) }
+        requires valid { F.valid below.old }
+        requires roomy { IsRoomy (F.seen below.old) first.port (length bytes.now) }
+        ensures valid { F.valid below.new }
+        ensures below { F.same_below below.old below.new }
+        ensures later { IsLater (F.seen below.old) (F.seen below.new) }
+        ensures does { Tries (F.refuses_send below.old first.port (length bytes.now)) (process_of self.old) (F.seen below.old) first bytes.now result (process_of self.new) (F.seen below.new) }
     {
         match below.send(alloc, first.port, bytes) {
             Ok(_num) => {
@@ -83,5 +88,51 @@ impl IpcProcess {
             Err(SendError::TooLong { len: _, max: _ }) => unreachable!(),
             Err(why) => Ok(OutStep::Held { why }),
         }
+    }
+
+    /// Takes one step at a link, for the IPC process of number `who` of the stack: the PDU that the policy picks is sent
+    /// below with what is left of its lifetime, or written off, or stays. `now` is the clock of the rank below.
+    pub fn out_step<F: Facility, S: Picks>(
+        &mut self,
+        alloc: Global,
+        below: &mut F,
+        shelf: &mut S,
+        settings: &Settings,
+        who: u32,
+        now: Tick,
+        link: u16,
+    ) -> Result<OutStep, StepError>
+        requires valid { F.valid below.old }
+        requires can { CanGo (config_of settings.now) now (process_of self.old) (F.seen below.old) link }
+        ensures valid { F.valid below.new }
+        ensures below { F.same_below below.old below.new }
+        ensures later { IsLater (F.seen below.old) (F.seen below.new) }
+        ensures does { Goes (F.refuses_send below.old) (config_of settings.now) now (process_of self.old) (F.seen below.old) link result (process_of self.new) (F.seen below.new) }
+        ensures shelf { Asks (S.slots shelf.new ≡ S.slots shelf.old)
+            (IsAsked (S.may_answer shelf.old settings.now.policy who) settings.now.policy self.old.queues.queues.items link (S.slots shelf.old) (S.slots shelf.new)
+            (process_of self.old) result (process_of self.new)) result }
+    {
+        let Some(live) = live_link(self.links.as_slice(), link) else {
+            return Err(StepError::NoLink);
+        };
+        let Some(item) = self.queues.serve(shelf, &settings.policy, who, link) else {
+            return Ok(OutStep::Idle);
+        };
+        let Some(promise) = below.promise(live.port) else {
+            unreachable!()
+        };
+        let first = First {
+            key: item.pdu.key(),
+            qos: item.pdu.qos,
+            link,
+            port: live.port,
+        };
+        let left = item.left;
+        let charge = charge(now, item.since, promise);
+        let Some(rest) = left_after(left, charge) else {
+            return self.drop_first(alloc, first, Cause::Expired { left, charge });
+        };
+        let bytes = protect(alloc, rest, &item.pdu, settings.widths)?;
+        self.send_first(alloc, below, first, bytes.as_slice())
     }
 }
