@@ -1,0 +1,3 @@
+pub mod Tied
+pub mod Rows
+pub mod Calls
