@@ -36,7 +36,8 @@ impl IpcProcess {
     /// Takes the first PDU of a queue away.
     fn take_first(&mut self, first: First)
         requires { IsSome (queue_place first.qos first.link self.old.queues.queues.items) }
-        ensures { IsTaken (process_of self.old) first.qos first.link (process_of self.new) }
+        ensures taken { IsTaken (process_of self.old) first.qos first.link (process_of self.new) }
+        ensures cap { self.new.queues.cap ≡ self.old.queues.cap }
     {
         self.queues.take(first.qos, first.link);
     }
@@ -49,7 +50,8 @@ impl IpcProcess {
         cause: Cause,
     ) -> Result<OutStep, StepError>
         requires { IsSome (queue_place first.qos first.link self.old.queues.queues.items) }
-        ensures { Drops (process_of self.old) first cause result (process_of self.new) }
+        ensures does { Drops (process_of self.old) first cause result (process_of self.new) }
+        ensures cap { self.new.queues.cap ≡ self.old.queues.cap }
     {
         self.ledger.note(alloc, first.key, cause)?;
         self.take_first(first);
@@ -74,6 +76,7 @@ impl IpcProcess {
         ensures below { F.same_below below.old below.new }
         ensures later { IsLater (F.seen below.old) (F.seen below.new) }
         ensures does { Tries (F.refuses_send below.old first.port (length bytes.now)) (process_of self.old) (F.seen below.old) first bytes.now result (process_of self.new) (F.seen below.new) }
+        ensures cap { self.new.queues.cap ≡ self.old.queues.cap }
     {
         match below.send(alloc, first.port, bytes) {
             Ok(_num) => {
@@ -111,6 +114,7 @@ impl IpcProcess {
         ensures shelf { Asks (S.slots shelf.new ≡ S.slots shelf.old)
             (IsAsked (S.may_answer shelf.old settings.now.policy who) settings.now.policy self.old.queues.queues.items link (S.slots shelf.old) (S.slots shelf.new)
             (process_of self.old) result (process_of self.new)) result }
+        ensures cap { self.new.queues.cap ≡ self.old.queues.cap }
     {
         let Some(live) = live_link(self.links.as_slice(), link) else {
             return Err(StepError::NoLink);

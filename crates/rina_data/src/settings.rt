@@ -11,6 +11,8 @@ pub struct Member {
     pub name: AppName,
     /// The node that it stands on.
     pub node: Node,
+    /// Its number among the IPC processes of the stack, counted from 0 over all DIFs.
+    pub number: u32,
 }
 
 /// What never changes in a DIF.

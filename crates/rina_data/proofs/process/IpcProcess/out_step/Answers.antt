@@ -62,7 +62,7 @@ returns-in_default-left_after-clause-does g c =
     let is_link = found_link p.links c.as_slice.result.now n c.live_link.result live c.as_slice.ensures c.live_link.ensures c.in-Some.is in
     let s = c.serve.ensures.served (some_waits c.serve.result item c.serve.ensures.none c.in-Some-serve.is) in
     let hand = at_hand p below n live promise s.0 c.serve.result item is_link s.5 c.in-Some-serve.is (sym c.promise.ensures ∙ c.in-Some-promise.is) in
-    goes_late (g.F.Facility.refuses_send c.args.below.now) (config_of c.args.settings.now) c.args.now p below n live item.now promise key item.now.left c.charge-charge.result c.drop_first.result (process_of c.drop_first.new.self) hand c.key.ensures refl c.charge-charge.ensures c.in_default-left_after.ensures c.drop_first.ensures
+    goes_late (g.F.Facility.refuses_send c.args.below.now) (config_of c.args.settings.now) c.args.now p below n live item.now promise key item.now.left c.charge-charge.result c.drop_first.result (process_of c.drop_first.new.self) hand c.key.ensures refl c.charge-charge.ensures c.in_default-left_after.ensures c.drop_first.ensures.does
 
 pub returns-in_default-left_after-clause-shelf : goal.returns-in_default-left_after-clause-shelf
 returns-in_default-left_after-clause-shelf g c =
@@ -76,7 +76,7 @@ returns-in_default-left_after-clause-shelf g c =
     let is_link = found_link p.links c.as_slice.result.now n c.live_link.result live c.as_slice.ensures c.live_link.ensures c.in-Some.is in
     let s = c.serve.ensures.served (some_waits c.serve.result item c.serve.ensures.none c.in-Some-serve.is) in
     let hand = at_hand p below n live promise s.0 c.serve.result item is_link s.5 c.in-Some-serve.is (sym c.promise.ensures ∙ c.in-Some-promise.is) in
-    let dealt = dealt_late (process_of p) n live item.now key (Expired item.now.left c.charge-charge.result) c.drop_first.result (process_of c.drop_first.new.self) c.key.ensures c.drop_first.ensures in
+    let dealt = dealt_late (process_of p) n live item.now key (Expired item.now.left c.charge-charge.result) c.drop_first.result (process_of c.drop_first.new.self) c.key.ensures c.drop_first.ensures.does in
     asks_for _ _ c.drop_first.result dealt.answer (record { pick = s.0; lawful = s.2; once = s.3; dead = s.4; item = item.now; served = hand.served; dealt = dealt.deals })
 
 pub returns-in_err-bytes-clause-shelf : goal.returns-in_err-bytes-clause-shelf
