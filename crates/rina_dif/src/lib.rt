@@ -1,0 +1,9 @@
+//! A DIF over any facility: its IPC processes, and its flows.
+#![tactic(auto)]
+
+mod dif;
+mod leaving;
+mod processes;
+
+pub use dif::Dif;
+pub use processes::Processes;
