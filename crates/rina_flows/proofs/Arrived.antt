@@ -1,23 +1,21 @@
 -- What a connection makes of a piece that comes is what the machine makes of it.
-use Rattle.std.proofs.Common.{◌≡◌, ℕ, ◌+◌, ◌-◌, ◌%◌, ◌^◌, ◌<◌, ◌≤◌, List, [], ◌∷◌, ◌++◌, length, map, Bool, true, false, not, cond, ◌&&◌, ltb, Option, Some, None, append-nil, length-append, refl, sym, ◌∙◌, ap, subst, arith, inl, inr}
-use Rattle.std.proofs.lemmas.Bool.{false≢true}
+use Rattle.std.proofs.Common.{◌≡◌, ℕ, ◌+◌, ◌-◌, ◌%◌, ◌^◌, ◌≤◌, List, [], ◌++◌, length, map, Bool, true, false, not, cond, ◌&&◌, ltb, Option, Some, None, append-nil, refl, sym, ◌∙◌, ap, subst, arith, inl}
 use Rattle.rina_account.specs.declared.ledger.Off.{Off}
 use Rattle.rina_base.specs.declared.cause.Cause.{Cause}
 use Rattle.rina_base.specs.declared.cause.Cause.TheVariants as causes
 use Rattle.rina_base.specs.declared.number.Key.{Key}
 use Rattle.rina_base.specs.declared.pdu.Pdu.{Pdu}
-use Rattle.rina_conn.specs.Conns.{HasNoLast}
 use Rattle.rina_cube.specs.declared.Kind.{Kind}
 use Rattle.rina_cube.specs.declared.Kind.TheVariants as kinds
 use Rattle.rina_data.specs.Ids.{Ids, IsFrom, flipped}
-use Rattle.rina_data.specs.Incoming.{GivesUp, IsDropped, IsKeptNumber, arrived, by_joiner, cause_by, cause_for, joiner_found, missing_for}
+use Rattle.rina_data.specs.Incoming.{GivesUp, IsDropped, arrived, by_joiner, cause_by, cause_for, missing_for}
 use Rattle.rina_dtp.specs.declared.gap.Lost.{Lost}
 use Rattle.rina_dtp.specs.declared.verdict.Verdict.{Verdict}
-use Rattle.rina_dtp.specs.Lost.{given_up, is_broken, joiner_for, lost_after, missing_before, told, told_accepted}
+use Rattle.rina_dtp.specs.Lost.{given_up, joiner_for, lost_after, missing_before, told, told_accepted}
 use Rattle.rina_dtp.specs.Receiving.{Receiving, broken_with, drops, end_cause, ended_with, kept_numbers, lost_in, present_at}
 use Rattle.rina_dtp.specs.Source.{key_at, source_of}
-use Rattle.rina_dtp.specs.Stands.{Came, IsFetched, IsRow, Stands, verdict_of}
-use Rattle.rina_dtp.proofs.Came.{append_left, drops_standing, kept_none, present_same}
+use Rattle.rina_dtp.specs.Stands.{Came, IsFetched, IsRow, Stands}
+use Rattle.rina_dtp.proofs.Came.{drops_standing, present_same}
 use Rattle.rina_law.specs.Constants.{Constants}
 use Rattle.rina_law.specs.Direction.{Direction, entry_for, has_room}
 use Rattle.rina_law.specs.Line.{arrival_verdict}
@@ -26,12 +24,10 @@ use Rattle.rina_law.specs.Pdus.{piece_in}
 use Rattle.rina_law.specs.Pieces.{Joiner, Sdu, empty_joiner, goes_on}
 use Rattle.rina_law.specs.Receiver as law
 use Rattle.rina_law.specs.Receiver.{Piece, Receiver, is_present, receiver_after, verdict}
-use Rattle.rina_law.proofs.Arrived.{absent_cases, never}
-use Rattle.rina_law.proofs.Standing.{present_made}
-use Rattle.rina_flows.specs.Arriving.{IsComing, IsDrained, cause_of, delivered, offs_of}
-use Rattle.rina_flows.specs.Tied.{IsKeptBy, source_from}
-use Rattle.rina_flows.proofs.Given.{broken_in, ended_in, given_up_in}
-use Rattle.rina_flows.proofs.Kept.{drops_ended, given_up_within, kept_before, kept_number}
+use Rattle.rina_flows.specs.Arriving.{IsComing, cause_of, offs_of}
+use Rattle.rina_flows.specs.Tied.{IsKeptBy}
+use Rattle.rina_flows.proofs.Given.{broken_in, broken_with-length, ended_in, given_up_in}
+use Rattle.rina_flows.proofs.Kept.{drops_count, drops_ended, given_up_within}
 use Rattle.rina_flows.proofs.Unbroken.{none_lost}
 use Rattle.rina_flows.proofs.Welcome.{verdict_is, welcome}
 
@@ -131,3 +127,54 @@ lost_joined c ids line pdu law.Duplicate kind b l coming k p v i = absurd i
 lost_joined c ids line pdu law.Behind kind b l coming k p v i = absurd i
 lost_joined c ids line pdu law.NoState kind b l coming k p v i = absurd i
 lost_joined c ids line pdu law.NoRoom kind b l coming k p v i = absurd i
+
+pub came_dropped : (c : Constants) (ids : Ids) (line : Direction) (pdu : Pdu) (old : Receiving) (result : Verdict) (new : Receiving) → IsComing c ids line pdu →
+    Came c line.line.clock (is_present c line.line.clock line.line.receiver) line.line.receiver line.inbox.joiner (arrival_verdict c line.line (piece_in pdu) (has_room c line)) pdu old result new → (off : Off) → In off (offs_of (drops line.line.clock new)) → IsDropped c (piece_in pdu) line ids off
+came_dropped c ids line pdu old result new coming came off i =
+    let v = arrival_verdict c line.line (piece_in pdu) (has_room c line) in
+    let b = is_present c line.line.clock line.line.receiver in
+    let f = broken_in (source_of pdu) (lost_after v c.cube.kind b (piece_in pdu) line.line.receiver.held line.inbox.joiner) off (subst (λ (ds : List (Key × Cause)). In off (offs_of ds)) came.dropped i) in
+    let x = lost_joined c ids line pdu v c.cube.kind b f.0 coming refl refl refl f.1 in
+    lost_is c ids line pdu off f.0 coming.names x.0 x.1 f.2
+
+-- how many they are at most
+lost_count : (c : Constants) (ids : Ids) (line : Direction) (pdu : Pdu) (v : law.Verdict) (kind : Kind) (b : Bool) (r : Receiving) → IsComing c ids line pdu → c.cube.kind ≡ kind → is_present c line.line.clock line.line.receiver ≡ b → arrival_verdict c line.line (piece_in pdu) (has_room c line) ≡ v → Stands c line.line.clock line.line.receiver line.inbox.joiner r → length (lost_after v kind b (piece_in pdu) line.line.receiver.held line.inbox.joiner) ≤ cond b (length (kept_numbers r)) 0
+lost_count c ids line pdu law.Accepted kinds.Datagram true r coming k b v st =
+    let le = given_up_within c line.line.clock line.line.receiver line.inbox.joiner r pdu.seq (piece_in pdu).part st b in
+    let same = ap (λ (ls : List Lost). length ls) (append-nil (given_up pdu.seq (piece_in pdu).part line.inbox.joiner)) in
+    omega arith
+lost_count c ids line pdu law.Accepted kinds.Loose true r coming k b v st =
+    let le = given_up_within c line.line.clock line.line.receiver line.inbox.joiner r pdu.seq (piece_in pdu).part st b in
+    let same = ap (λ (ls : List Lost). length ls) (append-nil (given_up pdu.seq (piece_in pdu).part line.inbox.joiner)) in
+    omega arith
+lost_count c ids line pdu law.Accepted kinds.Reliable true r coming k b v st =
+    let V : Piece → Type 0 = λ p. arrival_verdict c line.line p (has_room c line) ≡ law.Accepted in
+    let L : Piece → Type 0 = λ p. lost_after law.Accepted kinds.Reliable true p line.line.receiver.held line.inbox.joiner ≡ [] in
+    let none = subst L coming.copy_is (none_lost c line coming.copy coming.limits coming.holds coming.flies coming.alive k b (subst V (sym coming.copy_is) v)) in
+    let same = ap (λ (ls : List Lost). length ls) none in
+    omega arith
+lost_count c ids line pdu law.Accepted kind false r coming k b v st = omega arith
+lost_count c ids line pdu law.Held kind b r coming k p v st = omega arith
+lost_count c ids line pdu law.Duplicate kind b r coming k p v st = omega arith
+lost_count c ids line pdu law.Behind kind b r coming k p v st = omega arith
+lost_count c ids line pdu law.NoState kind b r coming k p v st = omega arith
+lost_count c ids line pdu law.NoRoom kind b r coming k p v st = omega arith
+
+-- those of the state and those of the piece are no more than what was kept, since the one come where state is gone,
+-- and the other where it stands
+pub drops_within : (c : Constants) (ids : Ids) (line : Direction) (pdu : Pdu) (r old : Receiving) (result : Verdict) (new : Receiving) → IsComing c ids line pdu → Stands c line.line.clock line.line.receiver line.inbox.joiner r → lost_in r.join.gaps ≡ [] →
+    Came c line.line.clock (is_present c line.line.clock line.line.receiver) line.line.receiver line.inbox.joiner (arrival_verdict c line.line (piece_in pdu) (has_room c line)) pdu old result new → length (drops line.line.clock r) + length (drops line.line.clock new) ≤ length (kept_numbers r)
+drops_within c ids line pdu r old result new coming st broken came =
+    let v = arrival_verdict c line.line (piece_in pdu) (has_room c line) in
+    let lost = lost_after v c.cube.kind (is_present c line.line.clock line.line.receiver) (piece_in pdu) line.line.receiver.held line.inbox.joiner in
+    let le = lost_count c ids line pdu v c.cube.kind (is_present c line.line.clock line.line.receiver) r coming refl refl refl st in
+    let same : length (drops line.line.clock new) ≡ length lost = ap (λ (ds : List (Key × Cause)). length ds) came.dropped ∙ broken_with-length (source_of pdu) lost in
+    go (is_present c line.line.clock line.line.receiver) refl (let x : length (drops line.line.clock new) ≤ cond (is_present c line.line.clock line.line.receiver) (length (kept_numbers r)) 0 = omega arith in x)
+  where
+    go : (b : Bool) → is_present c line.line.clock line.line.receiver ≡ b → length (drops line.line.clock new) ≤ cond b (length (kept_numbers r)) 0 → length (drops line.line.clock r) + length (drops line.line.clock new) ≤ length (kept_numbers r)
+    go true present le =
+        let standing = drops_standing line.line.clock r st.not_closed (sym (present_same c line.line.clock line.line.receiver line.inbox.joiner r st) ∙ present) in
+        let none : drops line.line.clock r ≡ [] = standing ∙ ap (broken_with r.source) broken in
+        let zero = ap (λ (ds : List (Key × Cause)). length ds) none in
+        omega arith
+    go false gone le = (let most = drops_count line.line.clock r broken in omega arith)

@@ -1,5 +1,5 @@
 -- The pieces that are given up, one by one.
-use Rattle.std.proofs.Common.{◌≡◌, ℕ, zero, suc, ◌+◌, ◌-◌, ◌<◌, ◌≤◌, List, [], ◌∷◌, ◌++◌, length, filter, map, Bool, true, false, not, cond, ◌&&◌, ◌||◌, Option, Some, None, append_assoc, length-append, refl, sym, ◌∙◌, ap, subst, arith, inl, inr, ◌⊎◌}
+use Rattle.std.proofs.Common.{◌≡◌, ℕ, zero, suc, ◌+◌, ◌<◌, ◌≤◌, List, [], ◌∷◌, ◌++◌, length, filter, Bool, true, false, not, cond, ◌||◌, Option, Some, None, append_assoc, refl, sym, ◌∙◌, ap, arith, inl, inr, ◌⊎◌}
 use Rattle.std.proofs.lemmas.Bool.{cases_eq, false≢true}
 use Rattle.std.proofs.lemmas.List.{append-nil}
 use Rattle.rina_account.specs.declared.ledger.Off.{Off}
@@ -124,12 +124,15 @@ drained_more now old taken between d new h t stands whole kept = record {
 
 -- the last look finds none
 pub drained_last : (now : ℕ) (old : Receiving) (taken : List (Key × Cause)) (between new : Receiving) → IsDrained now old taken between → TakesFirst None (drops now between) (drops now new) → StandsAsBefore now between new → new.join.whole ≡ between.join.whole → KeepsNoMore between new → IsDrained now old taken new × (drops now new ≡ [])
-drained_last now old taken between new h t stands whole kept = (record {
-  taken_is = h.taken_is ∙ ap (λ (ds : List (Key × Cause)). taken ++ ds) (t.0 ∙ sym t.1);
-  stands = λ c m j st. stands c m j (h.stands c m j st);
-  kept = record { source = kept.source ∙ h.kept.source; kept = λ n i. h.kept.kept n (kept.kept n i) };
-  whole = whole ∙ h.whole;
-}, t.1)
+drained_last now old taken between new h t stands whole kept = (
+  record {
+    taken_is = h.taken_is ∙ ap (λ (ds : List (Key × Cause)). taken ++ ds) (t.0 ∙ sym t.1);
+    stands = λ c m j st. stands c m j (h.stands c m j st);
+    kept = record { source = kept.source ∙ h.kept.source; kept = λ n i. h.kept.kept n (kept.kept n i) };
+    whole = whole ∙ h.whole;
+  },
+  t.1,
+)
 
 pub drained_all : (now : ℕ) (old : Receiving) (taken : List (Key × Cause)) (new : Receiving) → IsDrained now old taken new → drops now new ≡ [] → drops now old ≡ taken
 drained_all now old taken new h none = h.taken_is ∙ ap (λ (ds : List (Key × Cause)). taken ++ ds) none ∙ append-nil taken

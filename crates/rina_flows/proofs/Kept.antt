@@ -1,7 +1,6 @@
 -- What a receiver keeps are pieces that the machine's receiver and joiner hold, and how many it gives up at most.
-use Rattle.std.proofs.Common.{◌≡◌, ℕ, ◌+◌, ◌-◌, ◌<◌, ◌≤◌, List, [], ◌∷◌, ◌++◌, length, Bool, true, false, not, cond, ◌||◌, Option, Some, None, length-append, refl, sym, ◌∙◌, ap, subst, arith, inl, inr}
+use Rattle.std.proofs.Common.{◌≡◌, ℕ, ◌+◌, ◌-◌, ◌<◌, ◌≤◌, [], ◌++◌, length, Bool, true, false, not, cond, ◌||◌, Option, Some, None, length-append, sym, ◌∙◌, ap, subst, arith, inl, inr}
 use Rattle.std.proofs.lemmas.Bool.{cases_eq}
-use Rattle.rina_cube.specs.declared.Kind.{Kind}
 use Rattle.rina_cube.specs.declared.Kind.TheVariants as kinds
 use Rattle.rina_delim.specs.declared.joiner.Run.{Run}
 use Rattle.rina_data.specs.Incoming.{IsKeptNumber}

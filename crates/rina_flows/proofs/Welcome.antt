@@ -1,13 +1,12 @@
 -- A piece that comes is one that a receiver may rely on.
-use Rattle.std.proofs.Common.{◌≡◌, ℕ, ◌-◌, ◌≤◌, ◌<◌, ◌^◌, List, length, min, Bool, true, false, ltb, refl, sym, ◌∙◌, ap, subst, arith, inl, inr}
+use Rattle.std.proofs.Common.{◌≡◌, ℕ, ◌≤◌, min, ltb, sym, ◌∙◌, ap, subst, arith, inl, inr}
 use Rattle.std.proofs.lemmas.Bool.{cases_lt, le-ltb, lt-ltb}
 use Rattle.rina_base.specs.declared.pdu.Pdu.{Pdu}
-use Rattle.rina_cube.specs.Cubes.{IsCube}
 use Rattle.rina_data.specs.Ids.{Ids}
 use Rattle.rina_dtp.specs.Stands.{IsWelcome, verdict_of}
 use Rattle.rina_law.specs.Constants.{Constants}
 use Rattle.rina_law.specs.Direction.{Direction, has_room}
-use Rattle.rina_law.specs.Line.{InFlight, arrival_verdict}
+use Rattle.rina_law.specs.Line.{arrival_verdict}
 use Rattle.rina_law.specs.Pdus.{piece_in}
 use Rattle.rina_law.specs.Receiver.{AllHaveRoom, Piece, Verdict, is_present, verdict}
 use Rattle.rina_law.proofs.Lawfulness.{welcome_from}

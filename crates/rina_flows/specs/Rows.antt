@@ -2,21 +2,19 @@
 use Rattle.std.specs.Prelude.{◌≡◌, ℕ, ◌<◌, List, length, map, slice_get, slice_set, Option, Some, None}
 use Rattle.rina_account.specs.declared.ledger.Off.{Off}
 use Rattle.rina_base.specs.declared.cause.Cause.{Cause}
-use Rattle.rina_base.specs.declared.cause.Cause.TheVariants as causes
 use Rattle.rina_base.specs.declared.number.Num.{Num}
 use Rattle.rina_base.specs.declared.pdu.Pdu.{Pdu}
-use Rattle.rina_base.specs.declared.pdu.PduKind.TheVariants.{Piece as APiece}
 use Rattle.rina_cube.specs.declared.Cube.{Cube}
 use Rattle.rina_data.specs.Dif.{Config, constants, cube_by}
 use Rattle.rina_data.specs.Ids.{Ids, IsFrom, flipped, pdu_of_piece}
-use Rattle.rina_data.specs.Incoming.{IsDropped, IsKeptNumber, arrived, cause_for}
+use Rattle.rina_data.specs.Incoming.{IsDropped, arrived, cause_for}
 use Rattle.rina_data.specs.Sending.{offered, offered_entry, offered_pieces}
 use Rattle.rina_data.specs.Standing.{IsConn}
 use Rattle.rina_iface.specs.declared.ends.End.{End}
 use Rattle.rina_iface.specs.declared.state.PortState.TheVariants.{Allocated}
 use Rattle.rina_iface.specs.Ends.{with_passed, with_sent}
 use Rattle.rina_law.specs.Constants.{Constants}
-use Rattle.rina_law.specs.Direction.{Direction, Forget, Pass, happens, offer_refusal}
+use Rattle.rina_law.specs.Direction.{Direction, Pass, happens, offer_refusal}
 use Rattle.rina_law.specs.Line.{told}
 use Rattle.rina_law.specs.Lists.{In}
 use Rattle.rina_law.specs.Pdus.{ack_in, piece_in}
