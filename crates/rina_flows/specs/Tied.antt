@@ -9,6 +9,7 @@ use Rattle.rina_data.specs.Ids.{Ids, flipped}
 use Rattle.rina_data.specs.Incoming.{IsKeptNumber}
 use Rattle.rina_dtcp.specs.Plans.{IsPlanOf}
 use Rattle.rina_dtp.specs.declared.source.Source.{Source}
+use Rattle.rina_dtp.specs.Joins.{IsForward}
 use Rattle.rina_dtp.specs.Receiving.{Receiving, kept_numbers, lost_in}
 use Rattle.rina_dtp.specs.Stands.{Stands}
 use Rattle.rina_iface.specs.declared.ends.End.{End}
@@ -69,13 +70,15 @@ pub record IsKeptBy (ids : Ids) (line : Direction) (r : Receiving) (n : ℕ) : T
   pub source : r.source ≡ source_from ids
   pub number : IsKeptNumber line n
 
--- the connection stands for the receiver and the joiner of a direction with these constants. All that came is fetched
+-- the connection stands for the receiver and the joiner of a direction with these constants. All that came is fetched,
+-- but for what is held of a state that has ended
 pub record IsReceiving (c : Constants) (now : ℕ) (ids : Ids) (conn : Conn) (line : Direction) : Type 0 where
   pub stands : Stands c now line.line.receiver line.inbox.joiner conn.rx
   pub plan : IsPlanOf c line.mark conn.plan
   pub last : HasNoLast line.line.receiver
   pub whole : conn.rx.join.whole ≡ []
   pub broken : lost_in conn.rx.join.gaps ≡ []
+  pub forward : IsForward conn.rx.join.joining.held
   pub none_given_up : conn.given_up ≡ None
   pub kept : (n : ℕ) → In n (kept_numbers conn.rx) → IsKeptBy ids line conn.rx n
 

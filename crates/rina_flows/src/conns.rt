@@ -1,7 +1,9 @@
 //! Connections, each at the place of its end.
-ghost use Rattle.std.specs.Prelude.{◌≡◌, ◌≤◌, ◌<◌, ◌^◌, ◌++◌, ◌∷◌, [], length, slice_get, slice_set, MatchOption};
+ghost use Rattle.std.specs.Prelude.{◌≡◌, ◌≤◌, ◌<◌, [], length, slice_get, Some, MatchOption};
+ghost use Rattle.rina_flows.specs.Calls.{Becomes, IsOffer};
 
-use rina_conn::Conn;
+use rina_base::Tick;
+use rina_conn::{Conn, Made, OfferError};
 use std::alloc::Global;
 use std::marker::Model;
 
@@ -35,5 +37,21 @@ impl Conns {
         ensures { MatchOption result (length self.now ≤ at) (λ k. slice_get self.now at ≡ Some k.now) }
     {
         self.items.get(at)
+    }
+
+    /// Offers an SDU to the connection at this place.
+    pub fn offer(
+        &mut self,
+        alloc: Global,
+        now: Tick,
+        at: usize,
+        sdu: &[u8],
+    ) -> Result<Made, OfferError>
+        requires now { now ≤ 10000000 }
+        requires at { at < length self.old }
+        ensures { Becomes (IsOffer now sdu.now result) at self.old self.new }
+    {
+        let conn = &mut self.items[at];
+        conn.offer(alloc, now, sdu)
     }
 }

@@ -1,0 +1,68 @@
+-- What each call of the flows does, for the directions to which they are tied.
+use Rattle.std.specs.Prelude.{◌≡◌, ℕ, ◌⊎◌, true, List, [], ◌∷◌, ◌++◌, slice_get, slice_set, Some, Result, Ok, Err}
+use Rattle.rina_conn.specs.declared.conn.Conn.{Conn}
+use Rattle.rina_conn.specs.declared.made.Made.{Made}
+use Rattle.rina_conn.specs.declared.made.OfferError.{OfferError}
+use Rattle.rina_conn.specs.declared.made.OfferError.TheVariants.{Memory}
+use Rattle.rina_conn.specs.Sending as send
+use Rattle.rina_data.specs.Dif.{Config, piece_size}
+use Rattle.rina_law.specs.declared.entry.Entry.{Entry}
+use Rattle.rina_law.specs.Direction.{Direction, offer_refusal}
+use Rattle.rina_law.specs.Pieces.{Part, IsCut, join}
+use Rattle.rina_flows.specs.declared.flows.Flows.{Flows}
+use Rattle.rina_flows.specs.Rows.{OffersAt}
+use Rattle.rina_flows.specs.Tied.{IsTied, conns_of, outward}
+
+-- the connection at a place changes so, and no other does
+abbrev pub Becomes : (Conn → Conn → Type 0) → ℕ → List Conn → List Conn → Type 0
+Becomes R at old new = (k : Conn) → slice_get old at ≡ Some k → (k' : Conn) × R k k' × (new ≡ slice_set old at k')
+
+-- flows that are tied to directions
+abbrev pub AreTied : Config → ℕ → Flows → List Direction → Type 0
+AreTied g now flows lines = IsTied g now flows.journal.ends flows.conns lines
+
+-- the call changes nothing of the names of the connections
+abbrev pub SameIds : Flows → Flows → Type 0
+SameIds old new = conns_of new.conns ≡ conns_of old.conns
+
+-- Sending
+
+-- an SDU is offered to a connection
+pub record IsOffer (now : ℕ) (sdu : List ℕ) (result : Result Made OfferError) (old new : Conn) : Type 0 where
+  pub offers : send.Offers now sdu old.sending result new.sending
+  pub rx : new.rx ≡ old.rx
+  pub plan : new.plan ≡ old.plan
+  pub given_up : new.given_up ≡ old.given_up
+
+-- by one connection, which notes it behind what its end sent, or by none where memory was wanted before
+abbrev pub Offered : ℕ → ℕ → List ℕ → List Conn → List Entry → Result Made OfferError → List Conn → List Entry → Type 0
+Offered now at sdu old sent (Ok made) new sent' = Becomes (IsOffer now sdu (Ok made)) at old new × (sent' ≡ sent ++ record { tick = now; num = made.num; bytes = sdu } ∷ [])
+Offered now at sdu old sent (Err Memory) new sent' = (sent' ≡ sent) × ((new ≡ old) ⊎ Becomes (IsOffer now sdu (Err Memory)) at old new)
+Offered now at sdu old sent (Err why) new sent' = (sent' ≡ sent) × Becomes (IsOffer now sdu (Err why)) at old new
+
+-- an SDU is cut into these parts
+abbrev pub AreParts : Config → List ℕ → List Part → Type 0
+AreParts g sdu parts = IsCut (piece_size g) true parts × (join parts ≡ sdu)
+
+-- it is accepted, and the flows stay tied
+pub record Accepts (g : Config) (now at : ℕ) (sdu : List ℕ) (old : Flows) (lines : List Direction) (made : Made) (new : Flows) : Type 0 where
+  pub parts : List Part
+  pub cut : AreParts g sdu parts
+  pub lines' : List Direction
+  pub offers : OffersAt g old.journal.ends (conns_of old.conns) lines at parts made.num made.pdus new.journal.ends lines'
+  pub tied : AreTied g now new lines'
+  pub ids : SameIds old new
+
+-- it is refused by the sender; want of memory may come at any time
+pub record IsRefused (g : Config) (sdu : List ℕ) (conn : Conn) (line : Direction) (why : OfferError) : Type 0 where
+  pub parts : List Part
+  pub cut : AreParts g sdu parts
+  pub refuses : send.Refuses why (offer_refusal (outward g conn) line parts)
+
+abbrev pub Refuses : Config → ℕ → List ℕ → List Conn → List Direction → OfferError → Type 0
+Refuses g at sdu conns lines Memory = Unit {0}
+Refuses g at sdu conns lines why = (conn : Conn) (line : Direction) → slice_get conns at ≡ Some conn → slice_get lines at ≡ Some line → IsRefused g sdu conn line why
+
+abbrev pub Offers : ℕ → ℕ → List ℕ → Flows → Result Made OfferError → Flows → Type 0
+Offers now at sdu old (Ok made) new = (g : Config) (lines : List Direction) → AreTied g now old lines → Accepts g now at sdu old lines made new
+Offers now at sdu old (Err why) new = (g : Config) (lines : List Direction) → AreTied g now old lines → Refuses g at sdu old.conns lines why × (new ≡ old)
