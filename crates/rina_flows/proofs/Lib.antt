@@ -1,6 +1,9 @@
 pub mod Arrived
+pub mod ArrivesAt
+pub mod Coming
 pub mod Given
 pub mod Kept
 pub mod Receives
+pub mod Retied
 pub mod Unbroken
 pub mod Welcome

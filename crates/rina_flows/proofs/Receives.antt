@@ -15,6 +15,7 @@ use Rattle.rina_dtp.specs.declared.verdict.Verdict.{Verdict}
 use Rattle.rina_dtp.specs.Receiving.{Receiving, broken_with, drops, end_cause, ended_with, kept_numbers, lost_in, present_at}
 use Rattle.rina_dtp.specs.Source.{source_of}
 use Rattle.rina_dtp.specs.Stands.{Came, IsFetched, IsRow, Stands}
+use Rattle.rina_dtp.proofs.Ahead.{fetched_forward}
 use Rattle.rina_dtp.proofs.Came.{append_left, kept_none, present_same}
 use Rattle.rina_law.specs.Constants.{Constants}
 use Rattle.rina_law.specs.Direction.{Direction, entry_for, has_room}
@@ -156,6 +157,7 @@ module _ (c : Constants) (ids : Ids) (line : Direction) (pdu : Pdu) (unpassed : 
               last = last_after c line.line.clock line.line.receiver (piece_in pdu) (arrival_verdict c line.line (piece_in pdu) (has_room c line)) (is_present c line.line.clock line.line.receiver) (has_room c line) refl refl receives.last;
               whole = given.whole;
               broken = none_broken line.line.clock last.rx end;
+              forward = fetched_forward c line.line.clock (arrived c (piece_in pdu) line).line.receiver (arrived c (piece_in pdu) line).inbox.joiner last.rx stands_last end;
               none_given_up = none_given;
               kept = kept_last;
             };
