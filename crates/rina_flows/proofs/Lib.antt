@@ -7,3 +7,6 @@ pub mod Receives
 pub mod Retied
 pub mod Unbroken
 pub mod Welcome
+pub mod Framed
+pub mod Offered
+pub mod Restated

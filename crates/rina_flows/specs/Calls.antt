@@ -1,5 +1,5 @@
 -- What each call of the flows does, for the directions to which they are tied.
-use Rattle.std.specs.Prelude.{◌≡◌, ℕ, ◌⊎◌, true, List, [], ◌∷◌, ◌++◌, slice_get, slice_set, Some, Result, Ok, Err}
+use Rattle.std.specs.Prelude.{◌≡◌, ◌≢◌, ℕ, ◌⊎◌, true, List, [], ◌∷◌, ◌++◌, slice_get, slice_set, Some, Result, Ok, Err}
 use Rattle.rina_conn.specs.declared.conn.Conn.{Conn}
 use Rattle.rina_conn.specs.declared.made.Made.{Made}
 use Rattle.rina_conn.specs.declared.made.OfferError.{OfferError}
@@ -37,8 +37,7 @@ pub record IsOffer (now : ℕ) (sdu : List ℕ) (result : Result Made OfferError
 -- by one connection, which notes it behind what its end sent, or by none where memory was wanted before
 abbrev pub Offered : ℕ → ℕ → List ℕ → List Conn → List Entry → Result Made OfferError → List Conn → List Entry → Type 0
 Offered now at sdu old sent (Ok made) new sent' = Becomes (IsOffer now sdu (Ok made)) at old new × (sent' ≡ sent ++ record { tick = now; num = made.num; bytes = sdu } ∷ [])
-Offered now at sdu old sent (Err Memory) new sent' = (sent' ≡ sent) × ((new ≡ old) ⊎ Becomes (IsOffer now sdu (Err Memory)) at old new)
-Offered now at sdu old sent (Err why) new sent' = (sent' ≡ sent) × Becomes (IsOffer now sdu (Err why)) at old new
+Offered now at sdu old sent (Err why) new sent' = (((why ≡ Memory) × (new ≡ old)) ⊎ Becomes (IsOffer now sdu (Err why)) at old new) × (sent' ≡ sent)
 
 -- an SDU is cut into these parts
 abbrev pub AreParts : Config → List ℕ → List Part → Type 0
@@ -53,15 +52,15 @@ pub record Accepts (g : Config) (now at : ℕ) (sdu : List ℕ) (old : Flows) (l
   pub tied : AreTied g now new lines'
   pub ids : SameIds old new
 
--- it is refused by the sender; want of memory may come at any time
+-- it is refused by the sender
 pub record IsRefused (g : Config) (sdu : List ℕ) (conn : Conn) (line : Direction) (why : OfferError) : Type 0 where
   pub parts : List Part
   pub cut : AreParts g sdu parts
   pub refuses : send.Refuses why (offer_refusal (outward g conn) line parts)
 
+-- want of memory may come at any time
 abbrev pub Refuses : Config → ℕ → List ℕ → List Conn → List Direction → OfferError → Type 0
-Refuses g at sdu conns lines Memory = Unit {0}
-Refuses g at sdu conns lines why = (conn : Conn) (line : Direction) → slice_get conns at ≡ Some conn → slice_get lines at ≡ Some line → IsRefused g sdu conn line why
+Refuses g at sdu conns lines why = why ≢ Memory → (conn : Conn) (line : Direction) → slice_get conns at ≡ Some conn → slice_get lines at ≡ Some line → IsRefused g sdu conn line why
 
 abbrev pub Offers : ℕ → ℕ → List ℕ → Flows → Result Made OfferError → Flows → Type 0
 Offers now at sdu old (Ok made) new = (g : Config) (lines : List Direction) → AreTied g now old lines → Accepts g now at sdu old lines made new
