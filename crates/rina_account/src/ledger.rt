@@ -46,6 +46,21 @@ impl Ledger {
         Ok(())
     }
 
+    /// Takes all lines out, until `put` puts them back. Takes no memory.
+    pub fn take(&mut self, alloc: Global) -> Vec<Off>
+        ensures lines { result.items ≡ self.old }
+        ensures rest { self.new ≡ [] }
+    {
+        std::mem::replace(&mut self.lines, Seq::new(alloc)).into_vec()
+    }
+
+    /// Lets these be the lines.
+    pub fn put(&mut self, lines: Vec<Off>)
+        ensures { self.new ≡ lines.items }
+    {
+        self.lines = Seq::from_vec(lines);
+    }
+
     /// The lines, in order. Takes no memory.
     pub fn lines(&self) -> &[Off]
         ensures { result.now ≡ self.now }

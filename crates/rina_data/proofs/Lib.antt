@@ -16,6 +16,7 @@ pub mod Going
 pub mod Joined
 pub mod Journals
 pub mod Keepers
+pub mod Leaves
 pub mod Others
 pub mod Own
 pub mod Partnered
@@ -24,5 +25,6 @@ pub mod Queues
 pub mod Rows
 pub mod Spelled
 pub mod Starting
+pub mod Stepping
 pub mod Taking
 pub mod Upper

@@ -23,7 +23,7 @@ place_map h p (x ∷ xs) = ap (λ (n : ℕ). cond (not (p (h x))) (1 + n) 0) (pl
 position_map : {X Y : Type 0} → (h : X → Y) (p : Y → Bool) (xs : List X) → position p (map h xs) ≡ position (λ x. p (h x)) xs
 position_map h p xs = rw (place_map h p xs, length-map xs h) refl
 
-same_place : (qos link : ℕ) (qs : List Waiting) → queue_place qos link (map plain qs) ≡ place_there qos link qs
+pub same_place : (qos link : ℕ) (qs : List Waiting) → queue_place qos link (map plain qs) ≡ place_there qos link qs
 unfolding is_queue
 same_place qos link qs = position_map plain _ qs
 

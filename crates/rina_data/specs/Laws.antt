@@ -1,6 +1,6 @@
 -- The laws of one DIF over any facility. Each speaks of plain records: the DIF before and after a call, the directions
 -- that stand behind its flows, and the rank below.
-use Rattle.std.specs.Prelude.{◌≡◌, ℕ, List, Some, Option, Result, Ok}
+use Rattle.std.specs.Prelude.{◌≡◌, ℕ, List, Some, Option, Result, Ok, slice_get}
 use Rattle.rina_base.specs.declared.cause.Cause.{Cause}
 use Rattle.rina_base.specs.declared.number.Num.{Num}
 use Rattle.rina_base.specs.declared.number.Port.{Port}
@@ -27,6 +27,7 @@ use Rattle.rina_data.specs.Dif.{DifSeen, Member, Process, fac_of, with_process}
 use Rattle.rina_data.specs.Ending.{IsEnded}
 use Rattle.rina_data.specs.Facade.{IsShown, own_refusal, shown}
 use Rattle.rina_data.specs.Incoming.{Ins, Settles}
+use Rattle.rina_data.specs.Leaving.{CanGo}
 use Rattle.rina_data.specs.Lifting.{IsLifted}
 use Rattle.rina_data.specs.Others.{AreApart}
 use Rattle.rina_data.specs.Outgoing.{Outs}
@@ -215,3 +216,8 @@ RelayingSettles = (d : DifSeen) (lines : List Direction) (i : ℕ) (member : Mem
 abbrev pub WritingOffSettles : Type 0
 WritingOffSettles = (d : DifSeen) (lines : List Direction) (i : ℕ) (member : Member) (process process' : Process) (at : ℕ) (hop : Hop) (cause : Cause) →
     Decides d.config.cap d.clock member.addr process at hop (Ok (settled.Off cause)) process' → Settles d lines i member process at hop (took.Off cause) (with_process d i process') lines
+
+-- What stands is ready for a step at each of its links: the flow below takes whatever waits
+
+abbrev pub StandingCanGo : Type 0
+StandingCanGo = (d : DifSeen) (lines : List Direction) (below : Seen) (i n : ℕ) (process : Process) → IsStanding d lines below → slice_get d.processes i ≡ Some process → CanGo d.config d.clock process below n

@@ -1,5 +1,6 @@
 pub mod Carried
 pub mod Cloud
+pub mod Configs
 pub mod Deciding
 pub mod Dif
 pub mod Ending
@@ -8,6 +9,7 @@ pub mod Hops
 pub mod Ids
 pub mod Incoming
 pub mod Laws
+pub mod Leaving
 pub mod Lifting
 pub mod Others
 pub mod Outgoing

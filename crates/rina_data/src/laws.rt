@@ -3,7 +3,7 @@
 //! lost, repeated or delayed. Of the rank below they use the laws of a facility, and of its cubes that each SDU that
 //! came was sent, and came in time.
 ghost use Rattle.rina_data.specs.Partners.{EachIsMet};
-ghost use Rattle.rina_data.specs.Laws.{StartStands, SendsStand, PassesStand, OutStepsStand, InStepsStand, AcknowledgingStands, ResendingStands, ForgettingStands, EndingStands, StartCarries, SendsCarry, PassesCarry, OutStepsCarry, InStepsCarry, AcknowledgingCarries, ResendingCarries, ForgettingCarries, EndingCarries, TimeCarries, BesideCarries, SendsOfOthersCarry, PassesOfOthersCarry, TimeStands, BesideStands, SendsOfOthersStand, OutStepsOfOthersStand, InStepsOfOthersStand, CloudIsCovered, CloudLaw, StandingKeeps, SendsAreLater, PassesAreLater, OutStepsAreSilent, InStepsAreSilent, AcknowledgingIsSilent, ResendingIsSilent, ForgettingIsSilent, EndingIsSilent, TimeIsSilent, SendsAreSends, PassesArePasses, RelayingSettles, WritingOffSettles};
+ghost use Rattle.rina_data.specs.Laws.{StartStands, SendsStand, PassesStand, OutStepsStand, InStepsStand, AcknowledgingStands, ResendingStands, ForgettingStands, EndingStands, StartCarries, SendsCarry, PassesCarry, OutStepsCarry, InStepsCarry, AcknowledgingCarries, ResendingCarries, ForgettingCarries, EndingCarries, TimeCarries, BesideCarries, SendsOfOthersCarry, PassesOfOthersCarry, TimeStands, BesideStands, SendsOfOthersStand, OutStepsOfOthersStand, InStepsOfOthersStand, CloudIsCovered, CloudLaw, StandingKeeps, SendsAreLater, PassesAreLater, OutStepsAreSilent, InStepsAreSilent, AcknowledgingIsSilent, ResendingIsSilent, ForgettingIsSilent, EndingIsSilent, TimeIsSilent, SendsAreSends, PassesArePasses, RelayingSettles, WritingOffSettles, StandingCanGo};
 
 /// Whatever an end of a kept facility got has a sender: its partner, of whose entries it is born.
 pub fn each_entry_has_a_sender()
@@ -87,4 +87,10 @@ pub fn calls_are_those_of_a_facility()
 pub fn decisions_are_what_becomes()
     ensures relayed { RelayingSettles }
     ensures off { WritingOffSettles }
+{}
+
+/// An IPC process of a DIF that stands can take a step at each of its links: the flow below promises something, and
+/// takes whatever waits.
+pub fn what_stands_can_step()
+    ensures { StandingCanGo }
 {}

@@ -5,17 +5,21 @@
 mod hop;
 mod laws;
 mod link;
+mod outgoing;
 mod process;
+mod settings;
 mod step;
 
 pub use hop::{HopView, charge, left_after, open, protect};
 pub use laws::{
     calls_are_later, calls_are_those_of_a_facility, calls_keep_standing,
     decisions_are_what_becomes, each_entry_has_a_sender, the_cloud_only_shrinks,
-    the_rank_below_keeps_standing, what_stands_is_a_facility, what_was_got_has_come,
+    the_rank_below_keeps_standing, what_stands_can_step, what_stands_is_a_facility,
+    what_was_got_has_come,
 };
 pub use link::{Link, Route};
 pub use process::IpcProcess;
+pub use settings::{Member, Settings};
 pub use step::{InStep, OutStep, Settled, StepError, Took};
 
 #[cfg(test)]

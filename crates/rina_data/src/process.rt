@@ -26,9 +26,10 @@ pub struct IpcProcess {
 
 impl IpcProcess {
     /// Writes a PDU off.
-    fn write_off(&mut self, alloc: Global, hop: &HopView<'_>, cause: Cause) -> Result<(), Memory>
+    pub fn write_off(&mut self, alloc: Global, hop: &HopView<'_>, cause: Cause) -> Result<(), Memory>
         ensures ok { OnOk result (Notes (process_of self.old) (hop_of hop.now).pdu cause (process_of self.new)) }
         ensures err { OnErr result (process_of self.new ≡ process_of self.old) }
+        ensures cap { self.new.queues.cap ≡ self.old.queues.cap }
     {
         self.ledger.note(alloc, hop.pdu.key(), cause)
     }
@@ -43,7 +44,8 @@ impl IpcProcess {
     ) -> Result<Settled, Memory>
         requires next { next_hop (hop_of hop.now).pdu.dst self.old.routes ≡ Some link }
         requires there { IsSome (queue_place (hop_of hop.now).pdu.qos link self.old.queues.queues.items) }
-        ensures { Forwards self.old.queues.cap (process_of self.old) at (hop_of hop.now) result (process_of self.new) }
+        ensures does { Forwards self.old.queues.cap (process_of self.old) at (hop_of hop.now) result (process_of self.new) }
+        ensures cap { self.new.queues.cap ≡ self.old.queues.cap }
     {
         let cap = self.queues.cap;
         if self.queues.room(hop.pdu.qos, link) == 0 {
@@ -66,7 +68,8 @@ impl IpcProcess {
     /// Puts a PDU, which came at tick `at`, into the queue of its next hop.
     fn forward(&mut self, alloc: Global, at: Tick, hop: &HopView<'_>) -> Result<Settled, Memory>
         requires { IsRouted self.old (hop_of hop.now) }
-        ensures { Forwards self.old.queues.cap (process_of self.old) at (hop_of hop.now) result (process_of self.new) }
+        ensures does { Forwards self.old.queues.cap (process_of self.old) at (hop_of hop.now) result (process_of self.new) }
+        ensures cap { self.new.queues.cap ≡ self.old.queues.cap }
     {
         let dst = hop.pdu.dst;
         let Some(link) = next_link(self.routes.as_slice(), dst) else {
@@ -88,7 +91,8 @@ impl IpcProcess {
     ) -> Result<Settled, Memory>
         requires now { now ≤ 10_000_000 }
         requires routed { IsRouted self.old (hop_of hop.now) }
-        ensures { Decides self.old.queues.cap now addr (process_of self.old) at (hop_of hop.now) result (process_of self.new) }
+        ensures does { Decides self.old.queues.cap now addr (process_of self.old) at (hop_of hop.now) result (process_of self.new) }
+        ensures cap { self.new.queues.cap ≡ self.old.queues.cap }
     {
         let left = hop.left;
         let charge = charge(now, at, 0);

@@ -1,5 +1,5 @@
 //! What the steps of an IPC process answer.
-use rina_base::{Cause, Key};
+use rina_base::{Cause, Key, Memory};
 use rina_iface::SendError;
 
 /// What became of a PDU that an IPC process took from a link.
@@ -55,4 +55,15 @@ pub enum StepError {
     NoIpc,
     /// The IPC process has no live link of that number.
     NoLink,
+}
+
+impl From<Memory> for StepError {
+    ghost use Rattle.std.specs.Prelude.{◌≡◌};
+    ghost use Rattle.rina_data.specs.declared.step.StepError.TheVariants.{Memory};
+
+    ghost from_gives = { λ _ e. e ≡ Memory };
+
+    fn from(_error: Memory) -> StepError {
+        StepError::Memory
+    }
 }

@@ -20,7 +20,7 @@ use Rattle.rina_dtp.specs.Receiving.{Receiving, present_at, lost_in, run_numbers
 use Rattle.rina_dtp.specs.Ring.{has_number}
 use Rattle.rina_dtp.specs.Shelf.{Shelved, holds, with_piece}
 use Rattle.rina_dtp.specs.Source.{source_of}
-use Rattle.rina_dtp.specs.Stands.{HasPlacesFor, reach_of, IsOf, IsJoiner, Knows, Stands, IsFetched, IsWelcome, verdict_of, Came, IsRow}
+use Rattle.rina_dtp.specs.Stands.{HasPlacesFor, reach_of, IsOf, IsJoiner, Knows, Stands, IsFetched, IsWelcome, verdict_of, joined_by, Came, IsRow}
 use Rattle.rina_dtp.proofs.Placed.{length-with_piece}
 use Rattle.rina_dtp.proofs.Recalling.{recalls_number}
 use Rattle.rina_dtp.proofs.Settled.{First, first, Settled, IsNext, settle}
@@ -362,6 +362,32 @@ came c now law.NoRoom b room m j pdu r result new small st fetched e is w x = (l
 came c now law.Held false room m j pdu r result new small st fetched e is w x = elim (absent_only (kind_of r.accepted) pdu.drf room law.Held is) [ inl f ↦ absurd cc | inr (inl f) ↦ absurd cc | inr (inr f) ↦ absurd cc ]
 came c now law.Duplicate false room m j pdu r result new small st fetched e is w x = elim (absent_only (kind_of r.accepted) pdu.drf room law.Duplicate is) [ inl f ↦ absurd cc | inr (inl f) ↦ absurd cc | inr (inr f) ↦ absurd cc ]
 came c now law.Behind false room m j pdu r result new small st fetched e is w x = elim (absent_only (kind_of r.accepted) pdu.drf room law.Behind is) [ inl f ↦ absurd cc | inr (inl f) ↦ absurd cc | inr (inr f) ↦ absurd cc ]
+
+-- what becomes whole does not hang on what was fetched
+whole_by : (c : Constants) (now : ℕ) (v : law.Verdict) (b : Bool) (room : Bool) (m : Receiver) (j : Joiner) (pdu : Pdu) (r : Receiving) (result : Verdict) (new : Receiving) → pdu.seq < 2 ^ 32 → Stands c now m j r → is_present c now m ≡ b → with_room room (number_verdict b r.accepted pdu.seq pdu.drf) ≡ v → IsWelcome c b m j v (piece_in pdu) → IsStep v b now pdu (cleared r) result new →
+    new.join.whole ≡ (joined_by c b m j v (piece_in pdu)).whole
+whole_by c now law.Accepted true room m j pdu r result new small st e is w x = (came_accepted c now true m j pdu r result new small st e (λ _. accepted_next r.accepted pdu.seq room is) w x).whole
+whole_by c now law.Accepted false room m j pdu r result new small st e is w x = (came_accepted c now false m j pdu r result new small st e (λ t. absurd (false≢true t)) w x).whole
+whole_by c now law.Held true room m j pdu r result new small st e is w x = (came_held c now m j pdu r result new r.accepted refl small st e (held_above r.accepted pdu.seq room is) w x).whole
+whole_by c now law.Duplicate true room m j pdu r result new small st e is w x = ap (λ (y : Receiving). y.join.whole) x.1
+whole_by c now law.Behind true room m j pdu r result new small st e is w x = ap (λ (y : Receiving). y.join.whole) x.1
+whole_by c now law.NoState b room m j pdu r result new small st e is w x = ap (λ (y : Receiving). y.join.whole) x.1
+whole_by c now law.NoRoom b room m j pdu r result new small st e is w x = ap (λ (y : Receiving). y.join.whole) x.1
+whole_by c now law.Held false room m j pdu r result new small st e is w x = elim (absent_only (kind_of r.accepted) pdu.drf room law.Held is) [ inl f ↦ absurd cc | inr (inl f) ↦ absurd cc | inr (inr f) ↦ absurd cc ]
+whole_by c now law.Duplicate false room m j pdu r result new small st e is w x = elim (absent_only (kind_of r.accepted) pdu.drf room law.Duplicate is) [ inl f ↦ absurd cc | inr (inl f) ↦ absurd cc | inr (inr f) ↦ absurd cc ]
+whole_by c now law.Behind false room m j pdu r result new small st e is w x = elim (absent_only (kind_of r.accepted) pdu.drf room law.Behind is) [ inl f ↦ absurd cc | inr (inl f) ↦ absurd cc | inr (inr f) ↦ absurd cc ]
+
+pub whole_from : (now : ℕ) (pdu : Pdu) (unpassed : ℕ) (old : Receiving) (result : Verdict) (new : Receiving) → pdu.seq < 2 ^ 32 → Steps now pdu unpassed old result new → (c : Constants) (m : Receiver) (j : Joiner) → Stands c now m j old → IsWelcome c (is_present c now m) m j (verdict_of c now unpassed m (piece_in pdu)) (piece_in pdu) →
+    new.join.whole ≡ (joined_by c (is_present c now m) m j (verdict_of c now unpassed m (piece_in pdu)) (piece_in pdu)).whole
+whole_from now pdu unpassed old result new small x c m j st w =
+    let p = piece_in pdu in
+    let b = is_present c now m in
+    let room = ltb unpassed old.window in
+    let same : b ≡ present_at now old = present_same c now m j old st in
+    let v : verdict_of c now unpassed m p ≡ with_room room (number_verdict b old.accepted pdu.seq pdu.drf) = verdict_same c now unpassed m j old p st in
+    let B : Bool → Type 0 = λ y. IsStep (with_room room (number_verdict y old.accepted pdu.seq pdu.drf)) y now pdu (cleared old) result new in
+    let V : law.Verdict → Type 0 = λ y. IsStep y b now pdu (cleared old) result new in
+    whole_by c now (verdict_of c now unpassed m p) b room m j pdu old result new small st refl (sym v) w (subst V (sym v) (subst B (sym same) x))
 
 pub row_from : (now : ℕ) (pdu : Pdu) (unpassed : ℕ) (old : Receiving) (result : Verdict) (new : Receiving) → pdu.seq < 2 ^ 32 → Steps now pdu unpassed old result new → IsRow now pdu unpassed old result new
 row_from now pdu unpassed old result new small x c m j st fetched w =

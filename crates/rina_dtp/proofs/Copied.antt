@@ -1,10 +1,10 @@
 -- How a joiner comes to hold what another holds.
-use Rattle.std.proofs.Common.{◌≡◌, ℕ, ◌+◌, ◌^◌, ◌%◌, ◌<◌, ◌≤◌, List, [], ◌∷◌, ◌++◌, length, Bool, true, false, cond, eqb, Option, Some, None, refl, sym, ◌∙◌, ap, arith}
-use Rattle.std.proofs.lemmas.Bool.{eq-eqb, false≢true, true≢false}
+use Rattle.std.proofs.Common.{◌≡◌, ℕ, ◌+◌, ◌^◌, ◌<◌, ◌≤◌, List, [], length, Bool, true, false, eqb, Some, refl, sym, ap, arith}
+use Rattle.std.proofs.lemmas.Bool.{eq-eqb, false≢true}
 use Rattle.std.proofs.lemmas.List.{append-nil}
 use Rattle.std.proofs.Math.Nat.{mod-eq_of_lt}
 use Rattle.rina_delim.specs.declared.joiner.Run.{Run}
-use Rattle.rina_delim.specs.Joining.{Joining, piece, empty, after, missing_after, joined, joined_for, held_after, HasRoom}
+use Rattle.rina_delim.specs.Joining.{Joining, piece, after, missing_after, joined, held_after, HasRoom}
 
 pub begun_alone : (j : Joining) (n : ℕ) (last : Bool) (bytes : List ℕ) → joined j (piece n true last bytes) ≡ record { largest = j.largest; held = held_after n n last; bytes = bytes }
 unfolding joined

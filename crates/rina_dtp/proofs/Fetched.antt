@@ -7,7 +7,7 @@ use Rattle.rina_dtp.specs.declared.gap.Lost.{Lost}
 use Rattle.rina_base.specs.declared.cause.Cause.TheVariants as cause
 use Rattle.rina_dtp.specs.declared.accepted.Accepted.{Accepted}
 use Rattle.rina_dtp.specs.declared.source.Source.{Source}
-use Rattle.rina_dtp.specs.Fetching.{TakesFirst, first_lost, after_lost, after_first, gathered_by, gathered, FindsHeld, SameShape, GoesOn, ChangesKept, StandsAsBefore}
+use Rattle.rina_dtp.specs.Fetching.{TakesFirst, first_lost, after_lost, after_first, gathered_by, gathered, FindsHeld, SameShape, GoesOn, ChangesKept, KeepsNoMore, StandsAsBefore}
 use Rattle.rina_dtp.specs.Lost.{numbers_from, lost_with}
 use Rattle.rina_dtp.specs.Receiving.{Receiving, present_at, numbers_to, lost_in, run_numbers, held_in, held_numbers, kept_numbers, end_cause, broken_with}
 use Rattle.rina_dtp.specs.Shelf.{Place, Shelved, holds, without}
@@ -15,6 +15,7 @@ use Rattle.rina_dtp.specs.Source.{key_at}
 use Rattle.rina_dtp.specs.Stands.{Stands}
 use Rattle.rina_dtp.proofs.Came.{present_same}
 use Rattle.rina_law.specs.Constants.{Constants}
+use Rattle.rina_law.specs.Lists.{In}
 use Rattle.rina_law.specs.Pieces.{Joiner}
 use Rattle.rina_law.specs.Receiver.{Receiver, is_present}
 use Rattle.std.proofs.lemmas.List.{append-nil}
@@ -210,6 +211,14 @@ takes_kept r result new on = (goes r (gathered r) (gathered r).going result new 
 
 pub changes_kept : (r : Receiving) (result : Option ℕ) (new : Receiving) → GoesOn (gathered r).going (gathered r) result new → ChangesKept r new
 changes_kept r result new on = (goes r (gathered r) (gathered r).going result new refl (gathers r r.going refl) on).changes
+
+-- No more is kept than before
+
+pub keeps_broken : (r between new : Receiving) → between ≡ record r { join = record r.join { gaps = between.join.gaps } } → KeepsNoMore between new → KeepsNoMore r new
+keeps_broken r between new is h = record {
+  source = h.source ∙ ap (λ (y : Receiving). y.source) is;
+  kept = λ n i. subst (λ (y : Receiving). In n (kept_numbers y)) is (h.kept n i);
+}
 
 -- What a receiver stands for
 

@@ -6,10 +6,11 @@ use Rattle.rina_dtp.specs.declared.accepted.Accepted.{Accepted}
 use Rattle.rina_dtp.specs.declared.gap.Gap.{Gap}
 use Rattle.rina_dtp.specs.declared.gap.Lost.{Lost}
 use Rattle.rina_dtp.specs.Accepted.{kind_of, HasSlotsFor}
-use Rattle.rina_dtp.specs.Receiving.{Receiving, held_numbers}
+use Rattle.rina_dtp.specs.Receiving.{Receiving, held_numbers, kept_numbers}
 use Rattle.rina_dtp.specs.Shelf.{Shelved, holds}
 use Rattle.rina_dtp.specs.Stands.{HasPlacesFor, Stands}
 use Rattle.rina_law.specs.Constants.{Constants}
+use Rattle.rina_law.specs.Lists.{In}
 use Rattle.rina_law.specs.Pieces.{Joiner}
 use Rattle.rina_law.specs.Receiver.{Receiver}
 
@@ -60,6 +61,11 @@ pub record ChangesKept (old new : Receiving) : Type 0 where
   pub new_is : new ≡ record old { accepted = new.accepted; going = new.going; join = record old.join { joining = new.join.joining } }
   pub shape : SameShape old.accepted new.accepted
   pub largest : new.join.joining.largest ≡ old.join.joining.largest
+
+-- no more is kept than before, and it comes from the same source
+pub record KeepsNoMore (old new : Receiving) : Type 0 where
+  pub source : new.source ≡ old.source
+  pub kept : (n : ℕ) → In n (kept_numbers new) → In n (kept_numbers old)
 
 -- it stands for the same receiver and joiner of the machine
 abbrev pub StandsAsBefore : ℕ → Receiving → Receiving → Type 0

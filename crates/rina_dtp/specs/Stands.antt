@@ -10,7 +10,7 @@ use Rattle.rina_dtp.specs.declared.accepted.Accepted.TheVariants.{Datagram, Loos
 use Rattle.rina_dtp.specs.declared.source.Source.{Source}
 use Rattle.rina_dtp.specs.declared.verdict.Verdict.{Verdict}
 use Rattle.rina_dtp.specs.Accepted.{kind_of}
-use Rattle.rina_dtp.specs.Joins.{bytes_of}
+use Rattle.rina_dtp.specs.Joins.{IsForward, bytes_of}
 use Rattle.rina_dtp.specs.Lost.{joiner_for, lost_after, told}
 use Rattle.rina_dtp.specs.Receiving.{Receiving, drops, broken_with}
 use Rattle.rina_dtp.specs.Ring.{Recalls}
@@ -112,7 +112,7 @@ abbrev pub IsRow : ℕ → Pdu → ℕ → Receiving → Verdict → Receiving �
 IsRow now pdu unpassed old result new = (c : Constants) (m : Receiver) (j : Joiner) → Stands c now m j old → IsFetched now old → IsWelcome c (is_present c now m) m j (verdict_of c now unpassed m (piece_in pdu)) (piece_in pdu) →
     Came c now (is_present c now m) m j (verdict_of c now unpassed m (piece_in pdu)) pdu old result new
 
--- the bytes of the SDUs that a piece would make whole
+-- the bytes of the SDUs that a piece would make whole, also while a state that has ended still holds pieces
 abbrev pub IsAhead : ℕ → Pdu → ℕ → Receiving → List (List ℕ) → Type 0
-IsAhead now pdu unpassed r bodies = (c : Constants) (m : Receiver) (j : Joiner) → Stands c now m j r → IsFetched now r → IsWelcome c (is_present c now m) m j (verdict_of c now unpassed m (piece_in pdu)) (piece_in pdu) →
+IsAhead now pdu unpassed r bodies = (c : Constants) (m : Receiver) (j : Joiner) → Stands c now m j r → IsForward r.join.joining.held → IsWelcome c (is_present c now m) m j (verdict_of c now unpassed m (piece_in pdu)) (piece_in pdu) →
     bodies ≡ bytes_of (joined_by c (is_present c now m) m j (verdict_of c now unpassed m (piece_in pdu)) (piece_in pdu)).whole

@@ -5,7 +5,7 @@ ghost use Rattle.rina_cube.specs.Cubes.{IsCube};
 ghost use Rattle.rina_law.specs.Receiver as law;
 ghost use Rattle.rina_dtp.specs.Accepted.{known_verdict, number_verdict, judged_as};
 ghost use Rattle.rina_dtp.specs.Receiving.{present_at, cleared, IsAccepted, IsHeldIn, IsStep, Steps, slots_of, StartsFresh, run_numbers, kept_numbers, end_cause, ended_with, broken_with, lost_in, drops};
-ghost use Rattle.rina_dtp.specs.Fetching.{TakesFirst, after_first, gathered, GoesOn, ChangesKept, StandsAsBefore};
+ghost use Rattle.rina_dtp.specs.Fetching.{TakesFirst, after_first, gathered, GoesOn, ChangesKept, KeepsNoMore, StandsAsBefore};
 ghost use Rattle.rina_dtp.specs.Observed.{IsNew, TellsPresence, TellsNext, TellsJoining, TellsLastIn, from_kept};
 ghost use Rattle.rina_dtp.specs.Joins.{IsForward, first_number};
 ghost use Rattle.rina_dtp.specs.Stands.{IsRow, IsAhead};
@@ -362,6 +362,7 @@ impl Rx {
         ensures taken { TakesFirst result (ended_with self.old.source (end_cause now self.old) (kept_numbers self.old)) (ended_with self.new.source (end_cause now self.new) (kept_numbers self.new)) }
         ensures rest { ChangesKept self.old self.new }
         ensures standing { end_cause now self.old ≡ None → self.new ≡ self.old }
+        ensures kept { KeepsNoMore self.old self.new }
     {
         let cause = self.end_cause(now)?;
         let number = self.next_kept()?;
@@ -391,11 +392,21 @@ impl Rx {
         ensures taken { TakesFirst result (drops now self.old) (drops now self.new) }
         ensures stands { StandsAsBefore now self.old self.new }
         ensures whole { self.new.join.whole ≡ self.old.join.whole }
+        ensures kept { KeepsNoMore self.old self.new }
     {
         match self.next_broken() {
             Some(broken) => Some(broken),
             None => self.next_ended(now),
         }
+    }
+
+    /// How many pieces are kept: those that wait for the rest of their SDU, and those that are held. No piece that comes
+    /// makes `dropped` give more than these.
+    pub fn kept(&self) -> u64
+        ensures count { result ≡ length (kept_numbers self.now) }
+        ensures most { result ≤ 2 ^ 34 }
+    {
+        run_count(self.going) + run_count(self.join.held()) + self.accepted.held_count()
     }
 
     /// Closes the connection, and answers how many pieces are held, 2^32 counted as one less. After that `dropped`
@@ -404,9 +415,7 @@ impl Rx {
         ensures count { result ≡ min (length (kept_numbers self.old)) (2 ^ 32 - 1) }
         ensures closed { self.new ≡ record self.old { closed = true } }
     {
-        let count = run_count(self.going)
-            + run_count(self.join.held())
-            + self.accepted.held_count();
+        let count = self.kept();
         self.closed = true;
         count.min(u64::from(u32::MAX)) as u32
     }

@@ -222,6 +222,7 @@ fn what_is_held_is_given_up_with_its_state(rt: HostRuntime) -> Result<(), Fail> 
         rx.on_data(2, &whole(1, false, b"b"), 4),
         Verdict::Off(Cause::NoRoom { cap: 4 })
     );
+    assert_eq!(rt; rx.kept(), 3);
     assert_eq!(rt; rx.dropped(145), None);
     let gone = Cause::StateGone { last_in: 2 };
     assert_eq!(rt; rx.dropped(146), Some((key(0), gone)));

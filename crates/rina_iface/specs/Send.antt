@@ -4,7 +4,7 @@ use Rattle.rina_base.specs.declared.number.Num.{Num}
 use Rattle.rina_base.specs.declared.number.Port.{Port}
 use Rattle.rina_iface.specs.declared.ends.End.{End}
 use Rattle.rina_iface.specs.declared.error.SendError.{SendError}
-use Rattle.rina_iface.specs.declared.error.SendError.TheVariants.{Memory, NotAllocated, TooLong, Failed as HasFailed}
+use Rattle.rina_iface.specs.declared.error.SendError.TheVariants.{Memory, NoRoute, NotAllocated, NumbersSpent, QueueFull, TooLong, WindowShut, Failed as HasFailed}
 use Rattle.rina_iface.specs.declared.state.PortState.{PortState}
 use Rattle.rina_iface.specs.declared.state.PortState.TheVariants.{Allocated, Failed}
 use Rattle.rina_iface.specs.Ends.{with_sent}
@@ -24,6 +24,14 @@ by_state state rest = Some (NotAllocated state)
 -- what must be refused to an SDU of so many bytes: first what every facility refuses, and then `own`
 abbrev pub refused : Seen → Port → ℕ → Option SendError → Option SendError
 refused s port len own = by_state (state_of s port) (by_length len (largest_at s port) own)
+
+-- what a facility may refuse by what it alone knows: what comes after the refusals of every facility
+abbrev pub IsOwnRefusal : SendError → Type 0
+IsOwnRefusal (WindowShut need room) = Unit {0}
+IsOwnRefusal (NoRoute dst) = Unit {0}
+IsOwnRefusal (QueueFull need room) = Unit {0}
+IsOwnRefusal (NumbersSpent until) = Unit {0}
+IsOwnRefusal other = ⊥
 
 -- the SDU was added to what this end sent, and nothing else changed
 pub record IsSent (old : Seen) (port : Port) (bytes : List ℕ) (num : Num) (new : Seen) : Type 0 where

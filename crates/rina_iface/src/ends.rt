@@ -144,6 +144,44 @@ impl Ends {
         Ok(())
     }
 
+    /// Takes out what the end at this place sent, until `put_sent` puts it back. Takes no memory.
+    pub fn take_sent(&mut self, alloc: Global, at: usize) -> Vec<Entry>
+        requires { at < length self.old }
+        ensures sent { (e : End) → slice_get self.old at ≡ Some e → result.items ≡ e.sent }
+        ensures rest { (e : End) → slice_get self.old at ≡ Some e → self.new ≡ slice_set self.old at (record e { sent = [] }) }
+    {
+        let end = &mut self.items[at];
+        std::mem::replace(&mut end.sent, Entries::new(alloc)).into_vec()
+    }
+
+    /// Lets these be what the end at this place sent.
+    pub fn put_sent(&mut self, at: usize, sent: Vec<Entry>)
+        requires { at < length self.old }
+        ensures { (e : End) → slice_get self.old at ≡ Some e → self.new ≡ slice_set self.old at (record e { sent = sent.items }) }
+    {
+        let end = &mut self.items[at];
+        end.sent = Entries::from_vec(sent);
+    }
+
+    /// Takes out what was delivered to the end at this place, until `put_got` puts it back. Takes no memory.
+    pub fn take_got(&mut self, alloc: Global, at: usize) -> Vec<Entry>
+        requires { at < length self.old }
+        ensures got { (e : End) → slice_get self.old at ≡ Some e → result.items ≡ e.got }
+        ensures rest { (e : End) → slice_get self.old at ≡ Some e → self.new ≡ slice_set self.old at (record e { got = [] }) }
+    {
+        let end = &mut self.items[at];
+        std::mem::replace(&mut end.got, Entries::new(alloc)).into_vec()
+    }
+
+    /// Lets these be what was delivered to the end at this place.
+    pub fn put_got(&mut self, at: usize, got: Vec<Entry>)
+        requires { at < length self.old }
+        ensures { (e : End) → slice_get self.old at ≡ Some e → self.new ≡ slice_set self.old at (record e { got = got.items }) }
+    {
+        let end = &mut self.items[at];
+        end.got = Entries::from_vec(got);
+    }
+
     /// Marks the oldest entry of the end at this place as passed.
     pub fn pass(&mut self, at: usize)
         requires within { at < length self.old }

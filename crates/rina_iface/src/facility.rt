@@ -1,5 +1,5 @@
 //! The trait that every layer stands on.
-ghost use Rattle.std.specs.Prelude.{◌≡◌, ◌≤◌, ℕ, Bool, Option, Some, None, IsSome, MatchOption, List, length, slice_get, option_map};
+ghost use Rattle.std.specs.Prelude.{◌≡◌, ◌≤◌, ℕ, Bool, Option, Some, None, IfSome, IsSome, MatchOption, List, length, slice_get, option_map};
 ghost use Rattle.rina_base.specs.declared.number.Port.{Port};
 ghost use Rattle.rina_iface.specs.declared.ask.Ask.{Ask};
 ghost use Rattle.rina_iface.specs.declared.error.RegisterError.{RegisterError};
@@ -15,7 +15,7 @@ ghost use Rattle.rina_iface.specs.Unregister.{Unregisters};
 ghost use Rattle.rina_iface.specs.Bind.{Binds, CanBind};
 ghost use Rattle.rina_iface.specs.Claim.{Claims};
 ghost use Rattle.rina_iface.specs.Free.{Frees};
-ghost use Rattle.rina_iface.specs.Send.{Sends};
+ghost use Rattle.rina_iface.specs.Send.{IsOwnRefusal, Sends};
 ghost use Rattle.rina_iface.specs.Pass.{IsLent, IsPassed};
 
 use crate::ask::{Ask, Fixed, Lent};
@@ -173,6 +173,9 @@ pub trait Facility {
     /// What flows keep, that partners are named after each other, that no port is drawn twice, and that
     /// no promise is over 2,000,000 ticks.
     ghost kept: { (x : Self) → valid x → AreKept (seen x) };
+
+    /// What a facility refuses to a send by what it alone knows is none of what every facility refuses.
+    ghost refusals: { (x : Self) → valid x → (port : Port) (len : ℕ) → IfSome (refuses_send x port len) IsOwnRefusal };
 
     /// The clock has an end.
     ghost clock_ends: { (x : Self) → valid x → (seen x).now ≤ 10_000_000 };

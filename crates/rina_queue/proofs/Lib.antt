@@ -1,3 +1,6 @@
+mod Cubes
+pub mod Places
 mod Rises
 mod Rooms
+pub mod Served
 pub mod Shown

@@ -89,3 +89,22 @@ HaveRoom cap queues = (k : ℕ) (q : Queue) → slice_get queues k ≡ Some q �
 -- of two queues of one link, the earlier has the lower id
 abbrev pub IdsRise : List Queue → Type 0
 IdsRise queues = (j k : ℕ) (p q : Queue) → j < k → slice_get queues j ≡ Some p → slice_get queues k ≡ Some q → p.link ≡ q.link → p.qos < q.qos
+
+-- the PDUs of a queue are all of its cube
+abbrev pub AreOfCube : Queue → Type 0
+AreOfCube q = (k : ℕ) (item : Queued) → slice_get q.ring.items k ≡ Some item → item.pdu.qos ≡ q.qos
+
+-- and so in each of these queues
+abbrev pub AllOfCubes : List Queue → Type 0
+AllOfCubes queues = (k : ℕ) (q : Queue) → slice_get queues k ≡ Some q → AreOfCube q
+
+-- of the queues in which a PDU waits for a link, the one at this place among them has this PDU first, and is the one that
+-- its cube and the link name
+pub record IsServed (queues : List Queue) (link pick : ℕ) (item : Queued) : Type 0 where
+  pub place : ℕ
+  pub queue : Queue
+  pub picked : slice_get (filter (waits link) queues) pick ≡ Some queue
+  pub found : queue_place item.pdu.qos link queues ≡ Some place
+  pub is_queue : slice_get queues place ≡ Some queue
+  pub of_link : queue.link ≡ link
+  pub first : slice_get queue.ring.items 0 ≡ Some item

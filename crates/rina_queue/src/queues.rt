@@ -1,8 +1,9 @@
 //! The queues of all cubes and links.
 ghost use Rattle.std.specs.Prelude.{◌≡◌, ◌≢◌, ◌+◌, ◌-◌, ◌<◌, ◌≤◌, ◌↔◌, ◌==◌, [], ◌∷◌, ◌++◌, ℕ, length, min, take, drop, filter, None, IsNone, position, slice_get, slice_set, true, false, Some, IsSome, IfSome, IsOk, OnOk, OnErr, IfOk, IfErr, option_copied};
 ghost use Rattle.rina_policy.specs.Slots.{asked, count_of};
-ghost use Rattle.rina_queue.specs.Queues.{added, HaveRoom, has_link, is_queue, queue_place, waiting, waits, head_of, heads_of, head_at, first_in, with_items, no_queues, AreIds, IdsRise, Changes};
+ghost use Rattle.rina_queue.specs.Queues.{added, AllOfCubes, HaveRoom, has_link, is_queue, queue_place, waiting, waits, head_of, heads_of, head_at, first_in, with_items, no_queues, AreIds, IdsRise, Changes};
 ghost use Rattle.rina_queue.specs.declared.queue.Queue.{Queue};
+ghost use Rattle.rina_queue.specs.declared.queue.Queued.{Queued};
 ghost use Rattle.std.specs.List.Sorted.{IsStrictlyIncreasing};
 
 use crate::queue::{Queue, QueueFull, Queued};
@@ -23,6 +24,7 @@ pub struct Queues {
     pub ghost caps: { HaveRoom cap queues.items },
     pub ghost ids: { IsStrictlyIncreasing cubes },
     pub ghost rising: { IdsRise queues.items },
+    pub ghost own: { AllOfCubes queues.items },
 }
 
 #[tactic(auto, unfolding(crate::specs::Queues::is_queue))]
@@ -158,9 +160,10 @@ impl Queues {
         place(self.queues.as_slice(), qos, link).is_some()
     }
 
-    /// Puts a PDU last in the queue of a cube and link, which has one. Takes no memory.
+    /// Puts a PDU of a cube last in its queue for a link, which has one. Takes no memory.
     pub fn push(&mut self, qos: u8, link: u16, item: Queued) -> Result<(), QueueFull>
-        requires { IsSome (queue_place qos link self.old.queues.items) }
+        requires there { IsSome (queue_place qos link self.old.queues.items) }
+        requires cube { item.pdu.qos ≡ qos }
         ensures ok { OnOk result (Changes qos link (λ q. with_items (q.ring.items ++ item ∷ []) q) self.old.queues.items self.new.queues.items) }
         ensures full { IsOk result ↔ (length (waiting qos link self.old.queues.items) < self.old.cap) }
         ensures cap { IfErr result (λ e. e.cap ≡ self.old.cap) }
@@ -201,7 +204,7 @@ impl Queues {
 
     /// The PDU that the policy of a name picks, of the heads of the queues of a link, which it is asked
     /// once and shown the first 256. None exactly where no queue of that link holds a PDU. Nothing is
-    /// removed, and no memory is taken.
+    /// removed, and no memory is taken; `take` with the PDU's cube takes it.
     pub fn serve<S: Picks>(
         &self,
         shelf: &mut S,
@@ -212,6 +215,7 @@ impl Queues {
         ensures none { IsNone result ↔ (filter (waits link) self.now.queues.items ≡ []) }
         ensures idle { filter (waits link) self.now.queues.items ≡ [] → (option_copied result ≡ None) × (S.slots shelf.new ≡ S.slots shelf.old) }
         ensures served { filter (waits link) self.now.queues.items ≢ [] → (place : ℕ) × (place < length (filter (waits link) self.now.queues.items)) × (S.may_answer shelf.old name.now who (heads_of link self.now.queues.items) place) × (S.slots shelf.new ≡ asked name.now place (S.slots shelf.old)) × (count_of name.now (S.slots shelf.old) ≡ None → place ≡ 0) × (option_copied result ≡ head_at place (filter (waits link) self.now.queues.items)) }
+        ensures first { (item : Queued) → option_copied result ≡ Some item → slice_get (waiting item.pdu.qos link self.now.queues.items) 0 ≡ Some item }
     {
         let queues = self.queues.as_slice();
         let mut heads = [Head {

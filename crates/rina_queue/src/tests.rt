@@ -1,4 +1,6 @@
 //! A link with two cubes, served by a policy of a shelf.
+ghost use Rattle.std.specs.Prelude.{◌≡◌, IfOk};
+
 use super::*;
 use rina_base::{Name, Pdu, PduKind, Seq};
 use rina_policy::{Last, Shelf};
@@ -6,7 +8,9 @@ use std::alloc::Global;
 use std::test::Fail;
 
 /// A piece of some bytes, queued at a tick.
-fn queued(alloc: Global, qos: u8, since: u32) -> Result<Queued, Fail> {
+fn queued(alloc: Global, qos: u8, since: u32) -> Result<Queued, Fail>
+    ensures { IfOk result (λ q. q.pdu.qos ≡ qos) }
+{
     let pdu = Pdu {
         kind: PduKind::Piece,
         dst: 2,

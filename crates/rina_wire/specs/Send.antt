@@ -1,5 +1,5 @@
 -- `send` and `pass` on wires.
-use Rattle.std.specs.Prelude.{◌≡◌, ℕ, ◌+◌, ◌-◌, ◌%◌, ◌^◌, ◌==◌, nat_le, List, [], ◌∷◌, ◌++◌, length, slice_get, slice_set, Option, Some, None, Result, Ok, Err, option_and_then, option_map, if◌then◌else◌}
+use Rattle.std.specs.Prelude.{◌≡◌, ℕ, ◌+◌, ◌-◌, ◌%◌, ◌^◌, ◌==◌, nat_le, List, [], ◌∷◌, ◌++◌, length, slice_get, slice_set, Option, Some, None, IfSome, Result, Ok, Err, true, false, option_and_then, option_map, if◌then◌else◌}
 use Rattle.std.specs.Option.{option_map_or}
 use Rattle.rina_base.specs.declared.number.Num.{Num}
 use Rattle.rina_base.specs.declared.number.Port.{Port}
@@ -8,7 +8,7 @@ use Rattle.rina_iface.specs.declared.ends.End.{End}
 use Rattle.rina_iface.specs.declared.error.SendError.{SendError}
 use Rattle.rina_iface.specs.declared.error.SendError.TheVariants.{Memory, NumbersSpent}
 use Rattle.rina_iface.specs.Ends.{with_passed, with_sent}
-use Rattle.rina_iface.specs.Send.{by_length, by_state}
+use Rattle.rina_iface.specs.Send.{IsOwnRefusal, by_length, by_state}
 use Rattle.rina_wire.specs.declared.flight.Flight.{Flight}
 use Rattle.rina_wire.specs.Air.{Air, Line, Goes, end_at, failed_air, on_end, wire_at}
 
@@ -18,6 +18,14 @@ frame_refusal l = if nat_le (2 ^ 63) l.frames then Some (NumbersSpent 4294967295
 
 abbrev pub own_send_refusal : Air → Port → Option SendError
 own_send_refusal a port = option_and_then frame_refusal (wire_at a port.fac)
+
+frame_own : (l : Line) → IfSome (frame_refusal l) IsOwnRefusal
+frame_own l = elim (nat_le (2 ^ 63) l.frames) as (λ b. IfSome (if b then Some (NumbersSpent 4294967295) else None) IsOwnRefusal) [ true ↦ tt | false ↦ tt ]
+
+-- which no facility refuses in the same way
+pub refuses_own : (wire : Option Line) → IfSome (option_and_then frame_refusal wire) IsOwnRefusal
+refuses_own None = tt
+refuses_own (Some l) = frame_own l
 
 -- what must be refused to an SDU of so many bytes, in the order of every facility
 abbrev pub send_refusal : Air → Port → ℕ → Option SendError

@@ -10,14 +10,14 @@ ghost use Rattle.rina_iface.specs.Free.{Frees};
 ghost use Rattle.rina_iface.specs.Unregister.{Unregisters};
 ghost use Rattle.rina_iface.specs.Send.{Sends};
 ghost use Rattle.rina_iface.specs.Pass.{IsPassed};
-ghost use Rattle.rina_wire.specs.Air.{seen_of};
+ghost use Rattle.rina_wire.specs.Air.{seen_of, wire_at};
 ghost use Rattle.rina_wire.specs.Allocate.{AllocatesOn, own_allocate_refusal};
 ghost use Rattle.rina_wire.specs.Bind.{BindsOn};
 ghost use Rattle.rina_wire.specs.Claim.{ClaimsOn};
 ghost use Rattle.rina_wire.specs.Free.{FreesOn};
 ghost use Rattle.rina_wire.specs.Unregister.{UnregistersOn};
 ghost use Rattle.rina_wire.specs.Register.{RegistersOn};
-ghost use Rattle.rina_wire.specs.Send.{SendsOn, own_send_refusal, passed};
+ghost use Rattle.rina_wire.specs.Send.{SendsOn, own_send_refusal, passed, refuses_own};
 ghost use Rattle.rina_wire.specs.Sound.{IsSound};
 
 use super::Wires;
@@ -186,6 +186,8 @@ impl Facility for Wires {
     ghost same_trans = { λ a b d h g. tt };
 
     ghost kept = { λ a s. s.kept };
+
+    ghost refusals = { λ a s port len. refuses_own (wire_at a port.fac) };
 
     ghost clock_ends = { λ a s. s.clock };
 }

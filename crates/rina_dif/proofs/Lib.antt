@@ -1,0 +1,4 @@
+pub mod Keeping
+pub mod Leaves
+pub mod Moves
+pub mod Passed

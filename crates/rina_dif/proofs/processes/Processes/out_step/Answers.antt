@@ -1,0 +1,12 @@
+use Rattle.rina_dif.proofs.Leaves.{asks_one, leaves_one}
+use Rattle.rina_dif.proofs.processes.Processes.out_step.Goals as goal
+
+pub returns-clause-does : goal.returns-clause-does
+returns-clause-does g c =
+    let x = c.index_mut-process.result.now in
+    rw (← c.self.view_is) (leaves_one _ _ _ _ _ _ _ c.args.at c.self.inside.items.items x c.out_step.new.self (rw (← c.self.view_is) at c.requires.at) c.index_mut-process.ensures.value c.out_step.ensures.does c.out_step.ensures.cap)
+
+pub returns-clause-shelf : goal.returns-clause-shelf
+returns-clause-shelf g c =
+    let x = c.index_mut-process.result.now in
+    rw (← c.self.view_is) (asks_one (g.S.Picks.may_answer c.args.shelf.now c.args.settings.now.policy) c.args.settings.now c.args.link c.args.at _ _ c.self.inside.items.items c.out_step.result x c.out_step.new.self c.in-Some.member.now (rw (← c.self.view_is) at c.requires.at) c.index_mut-process.ensures.value c.in-Some.ensures c.out_step.ensures.shelf)

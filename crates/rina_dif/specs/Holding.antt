@@ -1,0 +1,44 @@
+-- What holds of a DIF at every moment.
+use Rattle.std.specs.Prelude.{◌≡◌, ℕ, List, slice_get, Some, IsSome}
+use Rattle.rina_iface.specs.Seen.{Seen}
+use Rattle.rina_law.specs.Direction.{Direction}
+use Rattle.rina_data.specs.declared.process.IpcProcess.{IpcProcess}
+use Rattle.rina_data.specs.Carried.{IsCarrying}
+use Rattle.rina_data.specs.Configs.{config_of}
+use Rattle.rina_data.specs.Deciding.{process_of}
+use Rattle.rina_data.specs.Dif.{Config, Process, next_hop, queue_place}
+use Rattle.rina_data.specs.Passing.{IsPassed}
+use Rattle.rina_data.specs.Standing.{IsQos, IsStanding}
+use Rattle.rina_flows.specs.Calls.{AreTied}
+use Rattle.rina_dif.specs.declared.dif.Dif.{Dif}
+use Rattle.rina_dif.specs.Shown.{seen_of}
+
+-- the link of each next hop has a queue for each cube
+abbrev pub HasQueues : Config → Process → Type 0
+HasQueues g process = (dst link qos : ℕ) → next_hop dst process.routes ≡ Some link → IsQos g qos → IsSome (queue_place qos link process.queues)
+
+-- the queues of an IPC process are those that its DIF says
+pub record IsHoused (g : Config) (p : IpcProcess) : Type 0 where
+  pub cap : p.queues.cap ≡ g.cap
+  pub queues : HasQueues g (process_of p)
+
+-- and so for each
+abbrev pub AreHoused : Config → List IpcProcess → Type 0
+AreHoused g processes = (i : ℕ) (p : IpcProcess) → slice_get processes i ≡ Some p → IsHoused g p
+
+-- the DIF stands on the rank below, where these directions stand behind its flows, and whatever an end got has come
+pub record Holds (d : Dif) (lines : List Direction) (below : Seen) : Type 0 where
+  pub tied : AreTied (config_of d.settings) d.clock d.flows lines
+  pub standing : IsStanding (seen_of d) lines below
+  pub carrying : IsCarrying (seen_of d) lines below
+  pub housed : AreHoused (config_of d.settings) d.processes
+
+-- some directions stand behind its flows
+abbrev pub Stands : Dif → Seen → Type 0
+Stands d below = (lines : List Direction) × Holds d lines below
+
+-- the oldest SDU of the end at a place was passed
+pub record Passes (d : Dif) (lines : List Direction) (at : ℕ) (d' : Dif) (below : Seen) : Type 0 where
+  pub lines' : List Direction
+  pub passed : IsPassed (seen_of d) lines at (seen_of d') lines'
+  pub holds : Holds d' lines' below

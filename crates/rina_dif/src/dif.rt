@@ -1,0 +1,59 @@
+//! A DIF.
+ghost use Rattle.std.specs.Prelude.{◌≡◌, ◌<◌, length, IfSome, true, false, ◌==◌, ◌↔◌, Err, position};
+ghost use Rattle.rina_data.specs.Configs.{config_of};
+ghost use Rattle.rina_data.specs.Sending.{home};
+ghost use Rattle.rina_data.specs.declared.settings.Member.{Member};
+ghost use Rattle.rina_data.specs.declared.step.StepError.TheVariants.{Memory};
+
+use crate::processes::Processes;
+use rina_base::{Node, Seq, Tick};
+use rina_data::{Member, Settings, StepError};
+use rina_flows::Flows;
+use rina_iface::Registered;
+
+/// A DIF: IPC processes at its nodes, and the flows between the applications above them.
+#[derive(Drop)]
+pub struct Dif {
+    pub(crate) settings: Settings,
+    pub(crate) clock: Tick,
+    pub(crate) processes: Processes,
+    pub(crate) flows: Flows,
+    /// The places of the far ends that nobody has claimed yet, the oldest first.
+    pub(crate) waiting: Seq<usize>,
+    pub(crate) names: Seq<Registered>,
+    /// Memory was wanted and not found: no call that takes memory does anything any more.
+    pub(crate) failed: bool,
+}
+
+/// The place of the member at a node.
+fn place(members: &[Member], node: Node) -> Option<usize>
+    ensures place { result ≡ position (λ (m : Member). m.node == node) members.now }
+    ensures within { IfSome result (λ i. i < length members.now) }
+{
+    members.iter().position(|member| member.node == node)
+}
+
+impl Dif {
+    /// The place of the IPC process at a node. None exactly where the DIF has none there.
+    pub(crate) fn home(&self, node: Node) -> Option<usize>
+        ensures place { result ≡ home node (config_of self.now.settings).members }
+        ensures within { IfSome result (λ i. i < length self.now.settings.members) }
+    {
+        place(self.settings.members.as_slice(), node)
+    }
+
+    /// Notes whether a step wanted memory.
+    pub(crate) fn note<T>(failed: &mut bool, step: Result<T, StepError>) -> Result<T, StepError>
+        requires { failed.old ≡ false }
+        ensures same { result ≡ step }
+        ensures noted { failed.new ≡ true ↔ (step ≡ Err Memory) }
+    {
+        match step {
+            Err(StepError::Memory) => {
+                *failed = true;
+                Err(StepError::Memory)
+            }
+            other => other,
+        }
+    }
+}

@@ -1,0 +1,11 @@
+//! A DIF over any facility: its IPC processes, and its flows.
+#![tactic(auto)]
+
+mod clock;
+mod dif;
+mod leaving;
+mod passing;
+mod processes;
+
+pub use dif::Dif;
+pub use processes::Processes;

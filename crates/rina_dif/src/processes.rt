@@ -1,0 +1,83 @@
+//! The IPC processes of a DIF.
+ghost use Rattle.std.specs.Prelude.{◌≡◌, ◌<◌, ◌≤◌, [], ◌∷◌, ◌++◌, length, slice_get, Some, MatchOption, OnOk, OnErr};
+ghost use Rattle.rina_iface.specs.Later.{IsLater};
+ghost use Rattle.rina_data.specs.Configs.{config_of};
+ghost use Rattle.rina_dif.specs.Steps.{AsksAt, Leaves, WillGo};
+
+use rina_base::Tick;
+use rina_data::{IpcProcess, OutStep, Settings, StepError};
+use rina_iface::Facility;
+use rina_policy::Picks;
+use std::alloc::{AllocError, Global};
+use std::marker::Model;
+
+/// The IPC processes of a DIF, each at the place of its member. A contract sees the list of them.
+#[derive(Drop)]
+pub struct Processes {
+    items: Vec<IpcProcess>,
+}
+
+impl Model for Processes {
+    ghost use Rattle.std.specs.Prelude.{List};
+    ghost use Rattle.rina_data.specs.declared.process.IpcProcess.{IpcProcess};
+
+    ghost Value = { List IpcProcess };
+
+    ghost view = { λ p. p.items.items };
+}
+
+impl Processes {
+    /// No IPC processes yet.
+    pub fn new(alloc: Global) -> Processes
+        ensures { result ≡ [] }
+    {
+        Processes {
+            items: Vec::new(alloc),
+        }
+    }
+
+    /// Adds an IPC process.
+    pub fn push(&mut self, process: IpcProcess) -> Result<(), AllocError>
+        ensures ok { OnOk result (self.new ≡ self.old ++ process ∷ []) }
+        ensures err { OnErr result (self.new ≡ self.old) }
+    {
+        self.items.push(process)?;
+        Ok(())
+    }
+
+    /// The IPC process at a place, counted from 0. None where the place is out of range.
+    pub fn get(&self, at: usize) -> Option<&IpcProcess>
+        ensures { MatchOption result (length self.now ≤ at) (λ p. slice_get self.now at ≡ Some p.now) }
+    {
+        self.items.get(at)
+    }
+
+    /// Takes one step of the IPC process at a place at a link: a PDU that waits is sent below, or written off, or stays.
+    pub fn out_step<F: Facility, S: Picks>(
+        &mut self,
+        alloc: Global,
+        below: &mut F,
+        shelf: &mut S,
+        settings: &Settings,
+        at: usize,
+        now: Tick,
+        link: u16,
+    ) -> Result<OutStep, StepError>
+        requires valid { F.valid below.old }
+        requires at { at < length self.old }
+        requires member { at < length settings.now.members }
+        requires can { WillGo (config_of settings.now) now (F.seen below.old) link at self.old }
+        ensures valid { F.valid below.new }
+        ensures below { F.same_below below.old below.new }
+        ensures later { IsLater (F.seen below.old) (F.seen below.new) }
+        ensures does { Leaves (F.refuses_send below.old) (config_of settings.now) now (F.seen below.old) link result (F.seen below.new) at self.old self.new }
+        ensures shelf { AsksAt (S.may_answer shelf.old settings.now.policy) settings.now link at (S.slots shelf.old) (S.slots shelf.new) self.old result self.new }
+    {
+        let Some(member) = settings.members.get(at) else {
+            unreachable!()
+        };
+        let who = member.number;
+        let process = &mut self.items[at];
+        process.out_step(alloc, below, shelf, settings, who, now, link)
+    }
+}

@@ -1,0 +1,16 @@
+pub mod Arrived
+pub mod ArrivesAt
+pub mod Coming
+pub mod Counted
+pub mod Framed
+pub mod Given
+pub mod Kept
+pub mod Offered
+pub mod Passed
+pub mod Receives
+pub mod Restated
+pub mod Retied
+pub mod Taking
+pub mod Told
+pub mod Unbroken
+pub mod Welcome

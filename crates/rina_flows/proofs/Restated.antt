@@ -1,0 +1,94 @@
+-- What stays of the tie where a direction, or a connection, stays in what the tie speaks of.
+use Rattle.std.proofs.Common.{◌≡◌, ℕ, ◌+◌, ◌<◌, ◌≤◌, ◌⊎◌, List, slice_get, Option, Some, refl, sym, ◌∙◌, ap, subst}
+use Rattle.rina_conn.specs.declared.conn.Conn.{Conn}
+use Rattle.rina_conn.specs.declared.form.Form.{Form}
+use Rattle.rina_conn.specs.declared.sending.Sending.{Sending}
+use Rattle.rina_conn.specs.Conns.{HasNoLast}
+use Rattle.rina_conn.specs.Sending.{IsSender}
+use Rattle.rina_data.specs.Dif.{Config, constants, cube_by}
+use Rattle.rina_data.specs.Ids.{Ids, flipped}
+use Rattle.rina_dtcp.specs.Plans.{Plan, IsPlanOf}
+use Rattle.rina_dtp.specs.Joins.{IsForward}
+use Rattle.rina_dtp.specs.Receiving.{Receiving, kept_numbers, lost_in}
+use Rattle.rina_dtp.specs.Stands.{Stands}
+use Rattle.rina_law.specs.Constants.{Constants}
+use Rattle.rina_law.specs.Direction.{Direction}
+use Rattle.rina_law.specs.Lists.{In}
+use Rattle.rina_law.specs.Pieces.{Joiner}
+use Rattle.rina_law.specs.Receiver.{Receiver, numbers}
+use Rattle.rina_flows.specs.Tied.{IsKeptBy, IsReceiving, IsSending, ids_by, ids_of, inward, outward}
+
+KeptAs : Receiver → Joiner → ℕ → Type 0
+KeptAs m j n = ((j.from ≤ n) × (n < j.from + j.count)) ⊎ In n (numbers m.held)
+
+-- the direction stays in what its receiver sees
+pub receiving_same : (c : Constants) (now : ℕ) (ids : Ids) (k : Conn) (line line' : Direction) → line'.line.receiver ≡ line.line.receiver → line'.inbox.joiner ≡ line.inbox.joiner → line'.mark ≡ line.mark → IsReceiving c now ids k line → IsReceiving c now ids k line'
+unfolding KeptAs
+receiving_same c now ids k line line' er ej em h =
+    let S : Receiver → Type 0 = λ m. Stands c now m line.inbox.joiner k.rx in
+    let T : Joiner → Type 0 = λ j. Stands c now line'.line.receiver j k.rx in
+    let K = λ (n : ℕ) (m : Receiver). KeptAs m line.inbox.joiner n in
+    let L = λ (n : ℕ) (j : Joiner). KeptAs line'.line.receiver j n in
+    let M : Option ℕ → Type 0 = λ mark. IsPlanOf c mark k.plan in
+    record {
+      stands = subst T (sym ej) (subst S (sym er) h.stands);
+      plan = subst M (sym em) h.plan;
+      last = subst HasNoLast (sym er) h.last;
+      whole = h.whole;
+      broken = h.broken;
+      forward = h.forward;
+      none_given_up = h.none_given_up;
+      kept = λ n i. (let q = h.kept n i in record {
+        made = ap (λ (m : Receiver). m.made) er ∙ q.made;
+        source = q.source;
+        number = subst (L n) (sym ej) (subst (K n) (sym er) q.number);
+      });
+    }
+
+-- the connection stays in what it receives
+pub receiving_conn : (g : Config) (now : ℕ) (k k' : Conn) (line : Direction) → k'.sending.form ≡ k.sending.form → k'.rx ≡ k.rx → k'.plan ≡ k.plan → k'.given_up ≡ k.given_up → IsReceiving (inward g k) now (ids_of k) k line → IsReceiving (inward g k') now (ids_of k') k' line
+receiving_conn g now k k' line form rx plan given_up h =
+    let c : Form → Constants = λ f. constants g f.cube (flipped (ids_by f.peer f.cube.id)) in
+    let ids : Form → Ids = λ f. ids_by f.peer f.cube.id in
+    let stands = subst (λ (f : Form). Stands (c f) now line.line.receiver line.inbox.joiner k.rx) (sym form) h.stands in
+    let planned = subst (λ (f : Form). IsPlanOf (c f) line.mark k.plan) (sym form) h.plan in
+    let kept = λ (n : ℕ) (i : In n (kept_numbers k.rx)). subst (λ (f : Form). IsKeptBy (ids f) line k.rx n) (sym form) (h.kept n i) in
+    record {
+      stands = subst (λ (r : Receiving). Stands (c k'.sending.form) now line.line.receiver line.inbox.joiner r) (sym rx) stands;
+      plan = subst (λ (p : Plan). IsPlanOf (c k'.sending.form) line.mark p) (sym plan) planned;
+      last = h.last;
+      whole = ap (λ (r : Receiving). r.join.whole) rx ∙ h.whole;
+      broken = ap (λ (r : Receiving). lost_in r.join.gaps) rx ∙ h.broken;
+      forward = subst (λ (r : Receiving). IsForward r.join.joining.held) (sym rx) h.forward;
+      none_given_up = given_up ∙ h.none_given_up;
+      kept = subst (λ (r : Receiving). (n : ℕ) → In n (kept_numbers r) → IsKeptBy (ids_of k') line r n) (sym rx) kept;
+    }
+
+-- the direction stays in what its sender sees
+pub sending_same : (g : Config) (now : ℕ) (k : Conn) (line line' : Direction) → line'.line.clock ≡ line.line.clock → line'.line.sender ≡ line.line.sender → IsSending g now k line → IsSending g now k line'
+sending_same g now k line line' clock sender h = record {
+  cube = h.cube;
+  clock = clock ∙ h.clock;
+  sender = subst (λ m. IsSender (outward g k) m k.sending) (sym sender) h.sender;
+}
+
+-- the connection stays in what it sends
+pub sending_conn : (g : Config) (now : ℕ) (k k' : Conn) (line : Direction) → k'.sending ≡ k.sending → IsSending g now k line → IsSending g now k' line
+sending_conn g now k k' line e h = record {
+  cube = subst (λ (s : Sending). cube_by s.form.cube.id g.cubes ≡ Some s.form.cube) (sym e) h.cube;
+  clock = h.clock;
+  sender = subst (λ (s : Sending). IsSender (constants g s.form.cube (ids_by s.form.peer s.form.cube.id)) line.line.sender s) (sym e) h.sender;
+}
+
+-- the plan alone changes
+pub receiving_plan : (c : Constants) (now : ℕ) (ids : Ids) (k : Conn) (line : Direction) (plan : Plan) (passed : ℕ) (mark : Option ℕ) → IsPlanOf c mark plan → IsReceiving c now ids k line → IsReceiving c now ids (record k { plan = plan }) (record line { passed = passed; mark = mark })
+receiving_plan c now ids k line plan passed mark is h = record {
+  stands = h.stands;
+  plan = is;
+  last = h.last;
+  whole = h.whole;
+  broken = h.broken;
+  forward = h.forward;
+  none_given_up = h.none_given_up;
+  kept = λ n i. (let q = h.kept n i in record { made = q.made; source = q.source; number = q.number });
+}

@@ -1,0 +1,4 @@
+pub mod Tied
+pub mod Rows
+pub mod Calls
+pub mod Arriving

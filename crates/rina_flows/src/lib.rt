@@ -1,0 +1,8 @@
+//! The flows of a DIF: the journal of their ends, and the connection of each end.
+#![tactic(auto)]
+
+mod conns;
+mod flows;
+
+pub use conns::Conns;
+pub use flows::Flows;
