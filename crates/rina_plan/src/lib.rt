@@ -8,6 +8,8 @@ mod joined;
 mod links;
 mod nets;
 mod once;
+#[cfg(test)]
+mod tests;
 
 pub use counts::{first_full, first_loaded};
 pub use dif::{DifPlan, EndPlan, FlowPlan, LinkPlan, Lower, MemberPlan, WireEnds};

@@ -24,7 +24,7 @@ use Rattle.rina_schedule.specs.declared.event.Event.{Event}
 use Rattle.rina_schedule.specs.declared.event.Event.TheVariants as events
 use Rattle.rina_stack.specs.declared.plan.Plan.{Plan}
 use Rattle.rina_stack.specs.Plan.{names_of}
-use Rattle.rina_stack.specs.Rules.{place_in}
+use Rattle.rina_stack.specs.Names.{place_in}
 use Rattle.rina_wire.specs.declared.event.WireError.{WireError}
 use Rattle.rina_wire.specs.Air.{Air, seen_of}
 use Rattle.rina_wire.specs.Free.{FreesOn}

@@ -5,7 +5,7 @@ use Rattle.std.proofs.lemmas.Bool.{and_parts}
 use Rattle.std.proofs.lemmas.Int.{ints}
 use Rattle.std.proofs.lemmas.List.Elements.{All-cons}
 use Rattle.std.proofs.lemmas.List.Quantifiers.{position-Some}
-use Rattle.toml.specs.Data.{Data}
+use Rattle.toml.specs.Data.{Data, get}
 use Rattle.rina_base.specs.Traverse.{◌>>=◌, traverse}
 use Rattle.rina_stack.specs.declared.error.StackError.{StackError}
 use Rattle.rina_stack.specs.declared.scope.Scope.{Scope}
@@ -45,15 +45,15 @@ unfolding traverse
 same_rows f g k [] each = refl
 same_rows f g k (x ∷ xs) each = rw (each k x, same_rows f g (k + 1) xs each) refl
 
-found_7 : {A : Type 0} (n : ℕ) (instead : A) (o : Option A) (x : A) → needed 7 7 n instead o ≡ Ok x → o ≡ Some x
+pub found_7 : {A : Type 0} (n : ℕ) (instead : A) (o : Option A) (x : A) → needed 7 7 n instead o ≡ Ok x → o ≡ Some x
 found_7 n instead None x h = cc
 found_7 n instead (Some y) x h = cc
 
-found_6 : {A : Type 0} (n : ℕ) (instead : A) (o : Option A) (x : A) → needed 7 6 n instead o ≡ Ok x → o ≡ Some x
+pub found_6 : {A : Type 0} (n : ℕ) (instead : A) (o : Option A) (x : A) → needed 7 6 n instead o ≡ Ok x → o ≡ Some x
 found_6 n instead None x h = cc
 found_6 n instead (Some y) x h = cc
 
-if_some : {A : Type 0} (b : Bool) (x y : A) → cond b (Some x) None ≡ Some y → (b ≡ true) × (x ≡ y)
+pub if_some : {A : Type 0} (b : Bool) (x y : A) → cond b (Some x) None ≡ Some y → (b ≡ true) × (x ≡ y)
 if_some true x y h = (refl, cc)
 if_some false x y h = cc
 
@@ -82,12 +82,24 @@ number_7 named u n k d least most m h =
     let (z, _, range) = bind_ok (integer_in n k d) _ m h in
     ranged_7 named u n least most z m range
 
+pub number_or_7 : (named : Sketch) (u : Option ℕ) (n : ℕ) (k : List ℕ) (d : Data) (least most m : ℕ) → number_or (full named u) n k d least most ≡ Ok m → (least ≤ m) × (m ≤ most)
+unfolding number_or
+number_or_7 named u n k d least most m h =
+    let (z, _, range) = bind_ok (integer_or n (pos least) (get k d)) _ m h in
+    ranged_7 named u n least most z m range
+
 pub node_7 : (known : Sketch) (u : Option ℕ) (n : ℕ) (t : List ℕ) (i : ℕ) → node_named (full known u) n t ≡ Ok i → i < length known.nodes
 unfolding node_named
 node_7 known u n t i h =
     let (name, _, there) = bind_ok (named (full known u) n t) _ i h in
     let found = found_7 n 0 (place_in known.nodes name) i there in
     (position-Some _ known.nodes i [] found).0
+
+pub node_in_7 : (known : Sketch) (u : Option ℕ) (n : ℕ) (k : List ℕ) (d : Data) (i : ℕ) → node_in (full known u) n k d ≡ Ok i → i < length known.nodes
+unfolding node_in
+node_in_7 known u n k d i h =
+    let (t, _, found) = bind_ok (text_in n k d) _ i h in
+    node_7 known u n t i found
 
 -- a name is read alike whether references are resolved or not
 pub same_name : (known : Sketch) (u : Option ℕ) (n : ℕ) (t : List ℕ) → named (plain 4) n t ≡ named (full known u) n t

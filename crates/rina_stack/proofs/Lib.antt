@@ -3,4 +3,5 @@ pub mod Named
 pub mod TwinSteps
 pub mod Labels
 pub mod Inversion
+pub mod SoundDif
 pub mod Sound

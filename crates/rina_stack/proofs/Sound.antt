@@ -1,7 +1,7 @@
 -- What holds of the plan of a stack that breaks no rule.
 use Rattle.std.proofs.Common.{◌≡◌, ◌≢◌, ℕ, ◌+◌, ◌^◌, ◌<◌, ◌≤◌, nat_lt, Bool, true, false, cond, ◌||◌, ◌==◌, not, List, [], ◌∷◌, ◌++◌, length, map, get_or, Option, Some, None, Result, Ok, Err, IfOk, refl, sym, ap, ◌∙◌, arith, subst, append_assoc, length-append}
 use Rattle.std.specs.Prelude.{All, option_map, is_some, codes}
-use Rattle.std.proofs.lemmas.Bool.{false_from_ne_true, false≢true}
+use Rattle.std.proofs.lemmas.Bool.{false_from_ne_true, false≢true, or_parts}
 use Rattle.std.proofs.lemmas.Bool.Decides.{nat_tests}
 use Rattle.std.proofs.lemmas.List.{append-nil, length-map, get_or_append_left}
 use Rattle.std.proofs.lemmas.List.Elements.{All-map}
@@ -15,7 +15,8 @@ use Rattle.toml.specs.Data.{Data, table, Members, get}
 use Rattle.rina_base.specs.Traverse.{◌>>=◌, traverse}
 use Rattle.rina_plan.specs.declared.dif.DifPlan.{DifPlan}
 use Rattle.rina_plan.specs.declared.dif.WireEnds.{WireEnds}
-use Rattle.rina_plan.specs.Difs.{lacks_lower, lacks_cubes, has_mistimed, is_misplaced, is_misfit, has_oversized}
+use Rattle.rina_cube.specs.Cubes.{IsCube}
+use Rattle.rina_plan.specs.Difs.{lacks_lower, lacks_cubes, is_mistimed, has_mistimed, is_misplaced, is_misfit, has_oversized}
 use Rattle.rina_plan.specs.Links.{is_misused, has_crossed_link, is_uncarried}
 use Rattle.rina_plan.specs.Walks.{is_unjoined, IsCarriedFlow, IsCarriedLink}
 use Rattle.rina_plan.specs.Counts.{links_of, load_of, first_loaded, first_full, IsRoomy}
@@ -36,7 +37,8 @@ use Rattle.rina_stack.specs.Rules.{has_text, twin_after, twin_in, twin_fault, ea
 use Rattle.rina_stack.specs.Stack.{plain, full, narrow, plan_of, unknown_item, resolved_at, ends_of, difs_at, rules_at, stack_at, IsTable, Reads}
 use Rattle.rina_stack.specs.Policies.{is_built_in}
 use Rattle.rina_stack.specs.Built.{unbuilt_key, unbuilt_word, built_at}
-use Rattle.rina_stack.specs.Plan.{AreDistinct, names_of, wire_ends, NoDif, IsSoundWire, IsPlan}
+use Rattle.rina_stack.specs.Plan.{AreDistinct, names_of, wire_ends, IsRangedCube, IsRangedDif, NoDif, IsSoundWire, IsPlan}
+use Rattle.rina_stack.proofs.SoundDif.{dif_7, whole_cube}
 use Rattle.rina_stack.proofs.Inversion.{bind_ok, ok_is, unbroken, all_read, same_rows, number_7, node_7, same_name}
 
 -- ---- a test that no element passes
@@ -194,6 +196,9 @@ same_wire_names known u k (t ∷ ts) vs ws hv hw =
 same_tables : (a b : List Data) (d : Data) → tables_in 0 (codes "wire") d ≡ Ok a → tables_in 0 (codes "wire") d ≡ Ok b → a ≡ b
 same_tables a b d one two = cc (sym one ∙ two)
 
+same_dif_tables : (a b : List Data) (d : Data) → tables_in 0 (codes "dif") d ≡ Ok a → tables_in 0 (codes "dif") d ≡ Ok b → a ≡ b
+same_dif_tables a b d one two = cc (sym one ∙ two)
+
 -- ---- the plan
 
 few_of : (a b c : ℕ) → cond {A = Option ℕ} (nat_lt 64 a || nat_lt 128 b || nat_lt 16 c) (Some 0) None ≡ None → (a ≤ 64) × (b ≤ 128) × (c ≤ 16)
@@ -310,12 +315,29 @@ same_narrow_names : (ws : List WireSketch) → names_of (map narrow ws) ≡ wire
 same_narrow_names [] = refl
 same_narrow_names (w ∷ ws) = ap (λ ts. w.name ∷ ts) (same_narrow_names ws)
 
+same_count : {A B C : Type 0} (f : ℕ → A → Result B StackError) (g : ℕ → A → Result C StackError) (k m : ℕ) (xs : List A) (ys : List B) (zs : List C) → traverse f k xs ≡ Ok ys → traverse g m xs ≡ Ok zs → length ys ≡ length zs
+unfolding traverse
+same_count f g k m [] ys zs hy hz =
+    let one : ys ≡ [] = cc in
+    let two : zs ≡ [] = cc in
+    rw (one, two) refl
+same_count f g k m (x ∷ xs) ys zs hy hz =
+    let (y, _, more_y) = bind_ok (f k x) _ ys hy in
+    let (ys', are_y, _) = bind_ok (traverse f (k + 1) xs) _ ys more_y in
+    let (z, _, more_z) = bind_ok (g m x) _ zs hz in
+    let (zs', are_z, _) = bind_ok (traverse g (m + 1) xs) _ zs more_z in
+    let one : y ∷ ys' ≡ ys = cc in
+    let two : z ∷ zs' ≡ zs = cc in
+    let rest = same_count f g (k + 1) (m + 1) xs ys' zs' are_y are_z in
+    rw (← one, ← two) (grind (arith, rest))
+
 -- what a stack that was read, resolved and tried has
 pub record Resolved (known : List ℕ → Bool) (d : Data) (s : Sketch) : Type 0 where
   unbroken_rules : NoneBroken s
   nodes_differ : AreDistinct s.nodes
   wires_differ : AreDistinct (wire_names s.wires)
   wires : All (IsSoundSketch (length s.nodes)) s.wires
+  difs : All (IsRangedDif (length s.nodes) (length s.wires) (length s.difs)) s.difs
 
 pub resolved : (known : List ℕ → Bool) (d : Data) (named s : Sketch) (t t' : Unit {0}) → sketch_at (plain 4) d ≡ Ok named → unless 5 (twin_fault named) ≡ Ok t → resolved_at known named d ≡ Ok s → rules_at s ≡ Ok t' → Resolved known d s
 unfolding resolved_at
@@ -328,12 +350,20 @@ resolved known d named s t t' is_named five is_s rest =
     let nodes : named.nodes ≡ s.nodes = cc nodes_both in
     let tables : before.wire_tables ≡ after.wire_tables = same_tables before.wire_tables after.wire_tables d before.are_wires after.are_wires in
     let earlier_wires : traverse (wire_at (plain 4)) 1 after.wire_tables ≡ Ok named.wires = subst (λ ts. traverse (wire_at (plain 4)) 1 ts ≡ Ok named.wires) tables before.wires in
+    let dif_tables : before.dif_tables ≡ after.dif_tables = same_dif_tables before.dif_tables after.dif_tables d before.are_difs after.are_difs in
+    let earlier_difs : traverse (dif_at (plain 4)) (1 + length before.wire_tables) after.dif_tables ≡ Ok named.difs = subst (λ ts. traverse (dif_at (plain 4)) (1 + length before.wire_tables) ts ≡ Ok named.difs) dif_tables before.difs in
+    let wire_count = same_count (wire_at (plain 4)) (wire_at (full named u)) 1 1 after.wire_tables named.wires s.wires earlier_wires after.wires in
+    let dif_count = same_count (dif_at (plain 4)) (dif_at (full named u)) (1 + length before.wire_tables) (1 + length after.wire_tables) after.dif_tables named.difs s.difs earlier_difs after.difs in
     let names = same_wire_names named u 1 after.wire_tables named.wires s.wires earlier_wires after.wires in
     record {
       unbroken_rules = unbroken_all s t' rest;
       nodes_differ = subst AreDistinct nodes (distinct named.nodes single.nodes);
       wires_differ = subst AreDistinct names (front_differs (wire_names named.wires) (dif_names named.difs) (distinct (wire_names named.wires ++ dif_names named.difs) single.facilities));
       wires = subst (λ (ns : List (List ℕ)). All (IsSoundSketch (length ns)) s.wires) nodes (all_read (IsSoundSketch (length named.nodes)) (wire_at (full named u)) 1 after.wire_tables s.wires (λ n x y. wire_7 named u n x y) after.wires);
+      difs = subst (λ (m : ℕ). All (IsRangedDif m (length s.wires) (length s.difs)) s.difs) (ap length nodes)
+          (subst (λ (m : ℕ). All (IsRangedDif (length named.nodes) m (length s.difs)) s.difs) wire_count
+          (subst (λ (m : ℕ). All (IsRangedDif (length named.nodes) (length named.wires) m) s.difs) dif_count
+          (all_read (IsRangedDif (length named.nodes) (length named.wires) (length named.difs)) (dif_at (full named u)) (1 + length after.wire_tables) after.dif_tables s.difs (λ n x y. dif_7 named u n x y) after.difs)));
     }
 
 pub narrows : (known : List ℕ → Bool) (d : Data) (s : Sketch) → Resolved known d s → All (λ (w : WireSketch). (w.a < 2 ^ 16) × (w.b < 2 ^ 16)) s.wires
@@ -357,6 +387,13 @@ same_ends : (ws : List WireSketch) → map ends_of ws ≡ map wire_ends (map nar
 same_ends [] = refl
 same_ends (w ∷ ws) = ap (λ es. ends_of w ∷ es) (same_ends ws)
 
+-- the cubes of a DIF, with the times of their kinds
+whole_cubes : (d : DifPlan) → IsRangedCube d.manage → All IsRangedCube d.cubes → has_mistimed d ≡ false → IsCube d.manage × All IsCube d.cubes
+unfolding has_mistimed
+whole_cubes d manage cubes h =
+    let (one, others) = or_parts (is_mistimed d.manage) (list_any is_mistimed d.cubes) h in
+    (whole_cube d.manage manage one, λ k e within. whole_cube (get_or d.cubes k e) (cubes k e within) (none_pass is_mistimed d.cubes others k e within))
+
 planned : (known : List ℕ → Bool) (d : Data) (s : Sketch) → Resolved known d s → IsPlan (plan_of s)
 planned known d s r =
     let by : NoneBrokenBy (map wire_ends (map narrow s.wires)) s.difs = subst (λ es. NoneBrokenBy es s.difs) (same_ends s.wires) r.unbroken_rules.difs in
@@ -367,9 +404,10 @@ planned known d s r =
       wires_differ = rw (same_narrow_names s.wires) r.wires_differ;
       wires = All-map (IsSoundWire (length s.nodes)) narrow s.wires (λ k e within. wire_planned (length s.nodes) (get_or s.wires k e) (r.wires k e within) (straight (get_or s.wires k e) (r.unbroken_rules.wires k e within)));
       few_difs = r.unbroken_rules.few_difs;
+      difs = subst (λ (m : ℕ). All (IsRangedDif (length s.nodes) m (length s.difs)) s.difs) (sym (length-map s.wires narrow)) r.difs;
       ranks = by.ranks;
       cubes = by.cubes;
-      times = by.times;
+      times = λ k e within. let d = get_or s.difs k e in let ranged = r.difs k e within in whole_cubes d ranged.manage ranged.cubes (by.times k e within);
       members = by.members;
       pdus = by.pdus;
       sdus = by.sdus;

@@ -1,6 +1,14 @@
 -- What holds of each plan.
 use Rattle.std.specs.Prelude.{Bool, false, ◌≡◌, ℕ, ◌≢◌, ◌<◌, ◌≤◌, List, All, length, map, slice_index_or}
 use Rattle.std.specs.List.{AllPairs}
+use Rattle.rina_cube.specs.declared.Cube.{Cube}
+use Rattle.rina_cube.specs.Cubes.{IsCube}
+use Rattle.rina_pci.specs.Spelling.{AreWidths}
+use Rattle.rina_plan.specs.declared.dif.MemberPlan.{MemberPlan}
+use Rattle.rina_plan.specs.declared.dif.Lower.{Lower}
+use Rattle.rina_plan.specs.declared.dif.Lower.TheVariants.{Wire, Dif}
+use Rattle.rina_plan.specs.declared.dif.LinkPlan.{LinkPlan}
+use Rattle.rina_plan.specs.declared.dif.FlowPlan.{FlowPlan}
 use Rattle.rina_plan.specs.declared.dif.DifPlan.{DifPlan}
 use Rattle.rina_plan.specs.declared.dif.WireEnds.{WireEnds}
 use Rattle.rina_plan.specs.Difs.{lacks_lower, lacks_cubes, has_mistimed, is_misplaced, is_misfit, has_oversized}
@@ -32,18 +40,61 @@ names_of wires = map (λ (w : WirePlan). w.name) wires
 abbrev pub wire_ends : WirePlan → WireEnds
 wire_ends w = record { a = w.a; b = w.b; largest = w.largest }
 
+-- a link is on a wire or DIF that is there
+abbrev pub IsLower : ℕ → ℕ → Lower → Type 0
+IsLower wires difs (Wire i) = i < wires
+IsLower wires difs (Dif i) = i < difs
+
+-- a link among so many nodes, wires and DIFs
+pub record IsSoundLink (nodes wires difs : ℕ) (l : LinkPlan) : Type 0 where
+  pub on : IsLower wires difs l.on
+  pub a : l.a < nodes
+  pub b : l.b < nodes
+  pub least_weight : 1 ≤ l.weight
+  pub weight : l.weight ≤ 65535
+
+-- the numbers of a cube are in range; whether its times fit its kind is another question
+pub record IsRangedCube (c : Cube) : Type 0 where
+  pub least_mpl : 1 ≤ c.mpl
+  pub mpl : c.mpl ≤ 1000000
+  pub r : c.r ≤ 1000000
+  pub a : c.a ≤ 1000000
+  pub retry : c.retry ≤ 1000000
+  pub least_window : 1 ≤ c.window
+  pub window : c.window ≤ 256
+  pub least_largest : 1 ≤ c.largest
+  pub largest : c.largest ≤ 65535
+
+-- a DIF among so many nodes, wires and DIFs: its numbers are in range, and what it refers to is there
+pub record IsRangedDif (nodes wires difs : ℕ) (d : DifPlan) : Type 0 where
+  pub least_rank : 1 ≤ d.rank
+  pub rank : d.rank ≤ 8
+  pub least_pdu : 18 ≤ d.pdu
+  pub pdu : d.pdu ≤ 4096
+  pub widths : AreWidths d.widths
+  pub least_queue : 1 ≤ d.queue
+  pub queue : d.queue ≤ 256
+  pub least_wait : 1 ≤ d.wait
+  pub wait : d.wait ≤ 1000000
+  pub manage : IsRangedCube d.manage
+  pub cubes : All IsRangedCube d.cubes
+  pub members : All (λ (m : MemberPlan). m.node < nodes) d.members
+  pub links : All (IsSoundLink nodes wires difs) d.links
+  pub flows : All (λ (f : FlowPlan). (f.from.node < nodes) × (f.to.node < nodes)) d.flows
+
 -- no DIF passes
 abbrev pub NoDif : (DifPlan → Bool) → List DifPlan → Type 0
 NoDif p difs = All (λ d. p d ≡ false) difs
 
 -- What holds of each plan that was read. There are at most 64 nodes, 128 wires and 16 DIFs, and the names of nodes and of wires differ; each wire is
--- sound; and no DIF breaks a rule: each of rank above 1 has one of the rank below (ranks); its cubes have different ids (cubes) and their times fit their
--- kinds (times); its members stand on different nodes and have different addresses that fit (members); its PDUs fit their length field, and have room for
--- a piece and for an acknowledgement (pdus); its SDUs fit a piece, or a window and a queue (sdus); a DIF that is not static has no links and flows, and
--- no link of a static one is on it (uses); a link is on the rank just below, between two members here and there (links), and on a cube that takes the
--- PDUs (carried); no wire has two links (single); each flow has its cube, and a walk of links joins its two members (flows); the ends of each link on a
--- DIF are joined by a walk of that DIF's links (joined); and no DIF has too many members, cubes or rules, nor one of its members too many links, or more
--- flows and links on it than CEP-ids (counts).
+-- sound; and of each DIF:
+-- its numbers are in range, and what it refers to is there (difs); of rank above 1, there is one of the rank below (ranks); its cubes have different ids
+-- (cubes), are in range, and their times fit their kinds (times); its members stand on different nodes and have different addresses that fit (members);
+-- its PDUs fit their length field, and have room for a piece and for an acknowledgement (pdus); its SDUs fit a piece, or a window and a queue (sdus);
+-- where it is not static it has no links and flows, and no link of a static one is on it (uses); its links are on the rank just below, between two
+-- members here and there (links), and on a cube that takes its PDUs (carried); no wire has two links (single); each flow has its cube, and a walk of
+-- links joins its two members (flows); where a link is on a DIF, a walk of that DIF's links joins its ends (joined); there are not too many members,
+-- cubes or rules, and no member has too many links, or more flows and links on it than CEP-ids (counts).
 pub record IsPlan (p : Plan) : Type 0 where
   pub few_nodes : length p.nodes ≤ 64
   pub few_wires : length p.wires ≤ 128
@@ -51,9 +102,10 @@ pub record IsPlan (p : Plan) : Type 0 where
   pub wires_differ : AreDistinct (names_of p.wires)
   pub wires : All (IsSoundWire (length p.nodes)) p.wires
   pub few_difs : length p.difs ≤ 16
+  pub difs : All (IsRangedDif (length p.nodes) (length p.wires) (length p.difs)) p.difs
   pub ranks : NoDif (lacks_lower p.difs) p.difs
   pub cubes : NoDif lacks_cubes p.difs
-  pub times : NoDif has_mistimed p.difs
+  pub times : All (λ (d : DifPlan). IsCube d.manage × All IsCube d.cubes) p.difs
   pub members : NoDif is_misplaced p.difs
   pub pdus : NoDif is_misfit p.difs
   pub sdus : NoDif has_oversized p.difs

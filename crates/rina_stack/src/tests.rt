@@ -119,7 +119,7 @@ link = [{ on = 'd', a = 'a', b = 'c', cube = 1, weight = 9 }]
 ";
 
 /// What stands there instead of a part of the stack, the rule that breaks (0: none) and the item.
-static CHANGES: [(&str, &str, u32, usize); 77] = [
+static CHANGES: [(&str, &str, u32, usize); 101] = [
     ("'w', ends", "'w', ends", 0, 2),
     // Rule 2.
     ("repeat = 3", "repeat = 3, x = 1", 2, 2),
@@ -134,6 +134,8 @@ static CHANGES: [(&str, &str, u32, usize); 77] = [
     ("label = 'q'", "label = 'q', x = 1", 2, 3),
     // Rule 3.
     ("seed = 1, ", "", 3, 2),
+    ("life = 10, largest = 1500", "largest = 1500", 3, 1),
+    ("ends = ['a', 'b']", "ends = ['a', 'b', 'c']", 3, 1),
     ("rank = 2", "rank = '2'", 3, 4),
     ("static = true\npdu = 80", "static = 1\npdu = 80", 3, 4),
     ("kind = 'loose'", "kind = 'tight'", 3, 4),
@@ -142,6 +144,8 @@ static CHANGES: [(&str, &str, u32, usize); 77] = [
     ("addr = 4 }]", "addr = 4 }, 1]", 3, 4),
     ("flow = [{ cube = 1,", "flow = [{", 3, 3),
     // Rule 4.
+    ("'w', ends", "'W', ends", 4, 1),
+    ("ends = ['b', 'c']", "ends = ['b', 'C']", 4, 2),
     ("name = 'e'", "name = 'E'", 4, 4),
     ("policy = 'weighted'", "policy = ''", 4, 4),
     ("node = 'c', addr = 300", "node = 'C', addr = 300", 4, 4),
@@ -150,9 +154,23 @@ static CHANGES: [(&str, &str, u32, usize); 77] = [
     ("app = 's'", "app = 'x/a'", 4, 3),
     ("on = 'd'", "on = '*'", 4, 4),
     // Rule 5.
+    (
+        "nodes = ['a', 'b', 'c']",
+        "nodes = ['a', 'b', 'c', 'b']",
+        5,
+        0,
+    ),
+    ("name = 'v'", "name = 'w'", 5, 2),
     ("name = 'e'", "name = 'w'", 5, 4),
     ("label = 'q'", "label = 'p'", 5, 3),
     // Rule 6.
+    (
+        "life = 10, largest = 1500",
+        "life = 0, largest = 1500",
+        6,
+        1,
+    ),
+    ("repeat = 3", "repeat = 1001", 6, 2),
     ("seed = 1", "seed = 9007199254740992", 6, 2),
     ("lose = 2", "lose = 1001", 6, 2),
     ("spread = 8", "spread = 100001", 6, 2),
@@ -167,10 +185,12 @@ static CHANGES: [(&str, &str, u32, usize); 77] = [
     ("weight = 9", "weight = 0", 6, 4),
     ("cube = 1, weight", "cube = 256, weight", 6, 4),
     // Rule 7.
+    ("ends = ['a', 'b']", "ends = ['a', 'x']", 7, 1),
     ("node = 'c', addr = 300", "node = 'x', addr = 300", 7, 4),
     ("on = 'd'", "on = 'x'", 7, 4),
     ("policy = 'weighted'", "policy = 'none'", 7, 4),
     // Rule 8.
+    ("ends = ['a', 'b']", "ends = ['a', 'a']", 8, 1),
     ("spread = 8", "spread = 9", 8, 2),
     // Rule 9.
     ("rank = 2", "rank = 3", 9, 4),
@@ -224,15 +244,60 @@ static CHANGES: [(&str, &str, u32, usize); 77] = [
     // Rule 15.
     ("static = true\npdu = 80", "static = false\npdu = 80", 15, 4),
     // Rule 16.
-    ("on = 'd'", "on = 'w'", 16, 4),
+    ("on = 'd'", "on = 'w'", 16, 1),
+    (
+        "on = 'v', a = 'c', b = 'b'",
+        "on = 'e', a = 'c', b = 'a'",
+        16,
+        3,
+    ),
     ("a = 'a', b = 'c', cube", "a = 'a', b = 'a', cube", 16, 4),
     ("a = 'a', b = 'c', cube", "a = 'a', b = 'b', cube", 16, 4),
     ("a = 'c', b = 'b'", "a = 'a', b = 'b'", 16, 3),
+    (
+        "b = 'b' }, {",
+        "b = 'b' }, { on = 'w', a = 'b', b = 'a' }, {",
+        16,
+        1,
+    ),
+    (
+        "b = 'b' }, {",
+        "b = 'b' }, { on = 'v', a = 'b', b = 'c' }, {",
+        16,
+        2,
+    ),
     // Rule 17.
     ("cube = 1, weight", "cube = 2, weight", 17, 4),
     ("largest = 96, ", "largest = 95, ", 17, 3),
     ("b = 'b' }, {", "b = 'b', cube = 1 }, {", 17, 3),
+    // Rule 18.
+    ("flow = [{ cube = 1", "flow = [{ cube = 2", 18, 3),
+    ("flow = [{ cube = 1", "flow = [{ cube = 0", 18, 3),
+    ("to = { node = 'b'", "to = { node = 'a'", 18, 3),
+    ("to = { node = 'b'", "to = { node = 'c'", 0, 2),
+    ("{ on = 'w', a = 'a', b = 'b' }, ", "", 18, 3),
+    (", { on = 'v', a = 'c', b = 'b' }", "", 18, 4),
+    (
+        "weight = 9 }]",
+        "weight = 9 }]\nflow = [{ cube = 2, from = { node = 'a', app = 's', label = 'x' }, to = { node = 'c', app = 't', label = 'y' } }]",
+        0,
+        2,
+    ),
+    (
+        "weight = 9 }]",
+        "weight = 9 }]\nflow = [{ cube = 2, from = { node = 'a', app = 's', label = 'x' }, to = { node = 'b', app = 't', label = 'y' } }]",
+        18,
+        4,
+    ),
     // Two rules at once.
+    ("static = true\npdu = 96", "static = false\npdu = 96", 15, 3),
+    ("a = 'c', b = 'b' }", "a = 'c', b = 'c' }", 16, 3),
+    (
+        "b = 'b' }, { on = 'v', a = 'c', b = 'b' }]\nflow = [{ cube = 1",
+        "b = 'b' }, { on = 'w', a = 'c', b = 'b' }]\nflow = [{ cube = 2",
+        16,
+        1,
+    ),
     ("rank = 2\n", "rank = '2'\nx = 1\n", 2, 4),
     ("name = 'e'\nrank = 2", "name = 'E'\nrank = '2'", 3, 4),
     ("name = 'e'\nrank = 2", "name = 'd'\nrank = 9", 5, 4),
@@ -315,5 +380,153 @@ fn a_plan_has_what_is_written(rt: HostRuntime) -> Result<(), Fail> {
     let link = dif.links.get(0).ok_or("no link")?;
     assert_eq!(rt; (link.a, link.b, link.weight, link.cube), (0, 2, 9, 1));
     assert_eq!(rt; link.on, Lower::Dif(0));
+    Ok(())
+}
+
+/// A text, so many times.
+fn times(alloc: Global, text: &str, count: usize) -> Result<String, Fail> {
+    let mut texts = String::new(alloc);
+    for _ in 0..count {
+        texts.push_str(text)?;
+    }
+    Ok(texts)
+}
+
+/// Two nodes, a wire, and a DIF on it with so many more cubes and so many flows; above it one with so
+/// many rules, and so many links on it. They are the items 2 and 3.
+fn counted(
+    alloc: Global,
+    cubes: usize,
+    flows: usize,
+    rules: usize,
+    links: usize,
+) -> Result<String, Fail> {
+    let mut text = String::from_str(alloc, COUNTED)?;
+    text.push_str("name = 'd'\nrank = 1\npdu = 96\nlink = [{ on = 'w', a = 'a', b = 'b' }]\n")?;
+    text.push_str("cube = [{ id = 1, kind = 'datagram', mpl = 40, window = 16, largest = 80 }, ")?;
+    for cube in 0..cubes {
+        let id = cube + 2;
+        let one = format!(in alloc;
+            "{{ id = {id}, kind = 'datagram', mpl = 40, window = 16, largest = 80 }}, "
+        )?;
+        text.push_str(one.as_str())?;
+    }
+    text.push_str("]\nflow = [")?;
+    for flow in 0..flows {
+        let one = format!(in alloc;
+            "{{ cube = 1, from = {{ node = 'a', app = 's', label = 'p{flow}' }}, to = {{ node = 'b', app = 't', label = 'q{flow}' }} }}, "
+        )?;
+        text.push_str(one.as_str())?;
+    }
+    text.push_str("]\n")?;
+    text.push_str(SHARED)?;
+    text.push_str("[[dif]]\nname = 'e'\nrank = 2\npdu = 80\nrule = [")?;
+    let rule = "{ subject = '*', act = 'enrol', allow = true }, ";
+    text.push_str(times(alloc, rule, rules)?.as_str())?;
+    text.push_str("]\nlink = [")?;
+    let link = "{ on = 'd', a = 'a', b = 'b', cube = 1 }, ";
+    text.push_str(times(alloc, link, links)?.as_str())?;
+    text.push_str(
+        "]\ncube = [{ id = 1, kind = 'datagram', mpl = 40, window = 16, largest = 64 }]\n",
+    )?;
+    text.push_str(SHARED)?;
+    Ok(text)
+}
+
+static COUNTED: &str = "nodes = ['a', 'b']
+wire = [{ name = 'w', ends = ['a', 'b'], delay = 2, life = 10, largest = 1500 }]
+[[dif]]
+";
+
+/// What the two DIFs have in common.
+static SHARED: &str = "static = true
+widths = { addr = 1, cep = 1, len = 2, seq = 2 }
+queue = 64
+policy = 'strict'
+wait = 500
+manage = { mpl = 40, r = 30, a = 2, retry = 10, window = 8 }
+member = [{ node = 'a', addr = 1 }, { node = 'b', addr = 2 }]
+";
+
+/// More cubes, flows, rules and links; the rule and the item.
+static COUNTS: [(usize, usize, usize, usize, u32, usize); 11] = [
+    (0, 0, 0, 0, 0, 1),
+    (7, 0, 0, 0, 0, 1),
+    (8, 0, 0, 0, 19, 2),
+    (0, 0, 256, 0, 0, 1),
+    (0, 0, 257, 0, 19, 3),
+    (0, 0, 0, 16, 0, 1),
+    (0, 0, 0, 17, 19, 3),
+    (0, 255, 0, 0, 0, 1),
+    (0, 256, 0, 0, 19, 2),
+    (0, 239, 0, 16, 0, 1),
+    (0, 240, 0, 16, 19, 2),
+];
+
+#[test]
+fn what_there_is_of_a_dif_is_counted(rt: HostRuntime) -> Result<(), Fail> {
+    let alloc = rt.alloc();
+    for (cubes, flows, rules, links, n, item) in &COUNTS {
+        let text = counted(alloc, *cubes, *flows, *rules, *links)?;
+        assert_eq!(rt;
+            told(read_stack(alloc, text.as_bytes(), &BuiltIn)),
+            (*n, *item),
+            "{cubes} {flows} {rules} {links}"
+        );
+    }
+    Ok(())
+}
+
+/// So many nodes, wires and DIFs, each DIF with as many members as there are nodes.
+fn wide(alloc: Global, nodes: usize, wires: usize, difs: usize) -> Result<String, Fail> {
+    let mut text = String::new(alloc);
+    let mut members = String::new(alloc);
+    text.push_str("nodes = [")?;
+    for node in 0..nodes {
+        text.push_str(format!(in alloc; "'n{node}', ")?.as_str())?;
+        let addr = node + 1;
+        members.push_str(format!(in alloc; "{{ node = 'n{node}', addr = {addr} }}, ")?.as_str())?;
+    }
+    text.push_str("]\nwire = [")?;
+    for wire in 0..wires {
+        text.push_str(format!(in alloc;
+            "{{ name = 'w{wire}', ends = ['n0', 'n1'], delay = 2, life = 10, largest = 1500 }}, "
+        )?.as_str())?;
+    }
+    text.push_str("]\n")?;
+    for dif in 0..difs {
+        text.push_str(format!(in alloc; "[[dif]]\nname = 'd{dif}'\n")?.as_str())?;
+        text.push_str(BARE)?;
+        text.push_str(format!(in alloc; "member = [{members}]\n")?.as_str())?;
+    }
+    Ok(text)
+}
+
+static BARE: &str = "rank = 1
+pdu = 96
+widths = { addr = 1, cep = 1, len = 2, seq = 2 }
+queue = 64
+policy = 'strict'
+wait = 500
+manage = { mpl = 40, r = 30, a = 2, retry = 10, window = 8 }
+cube = [{ id = 1, kind = 'datagram', mpl = 40, window = 16, largest = 80 }]
+";
+
+#[test]
+fn nodes_wires_and_difs_are_counted(rt: HostRuntime) -> Result<(), Fail> {
+    let alloc = rt.alloc();
+    for (nodes, wires, difs, n, item) in &[
+        (64, 128, 16, 0, 128),
+        (65, 128, 16, 19, 0),
+        (2, 129, 16, 19, 0),
+        (2, 0, 17, 19, 0),
+    ] {
+        let text = wide(alloc, *nodes, *wires, *difs)?;
+        assert_eq!(rt;
+            told(read_stack(alloc, text.as_bytes(), &BuiltIn)),
+            (*n, *item),
+            "{nodes} {wires} {difs}"
+        );
+    }
     Ok(())
 }
