@@ -14,4 +14,8 @@ pub use sending::{Admitted, Sending};
 pub use waiting::Waiting;
 
 #[cfg(test)]
+mod exchange;
+#[cfg(test)]
+mod exchanges;
+#[cfg(test)]
 mod tests;
