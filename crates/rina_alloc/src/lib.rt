@@ -7,6 +7,8 @@ mod asking;
 mod event;
 mod laws;
 mod message;
+mod reading;
+mod writing;
 
 pub use answer::FlowAnswer;
 pub use asked::Asked;
@@ -16,6 +18,8 @@ pub use laws::{
     an_ask_is_bound_only_by_yes, an_ask_that_is_over_is_never_bound, an_end_is_given_up_once,
 };
 pub use message::{FlowAsk, FlowMessage, FlowWord};
+pub use reading::read;
+pub use writing::write;
 
 #[cfg(test)]
 mod tests;
