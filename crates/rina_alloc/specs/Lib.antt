@@ -2,3 +2,4 @@ pub mod Laws
 pub mod Machines
 pub mod Messages
 pub mod Words
+pub mod Reading

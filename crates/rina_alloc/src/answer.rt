@@ -15,11 +15,15 @@ pub enum FlowAnswer {
         scep: Cep,
     },
     /// A rule denies the asker.
-    Denied { rule: u32 },
+    Denied {
+        rule: u32,
+    },
     /// The application is not registered there, or the ask came too late.
     NotHere,
     /// No CEP-id is free; so many are used.
-    NoIds { used: u32 },
+    NoIds {
+        used: u32,
+    },
 }
 
 impl FlowAnswer {

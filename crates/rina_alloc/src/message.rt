@@ -32,9 +32,15 @@ pub struct FlowAsk {
 #[derive(Drop)]
 pub enum FlowWord {
     /// A flow is asked for; `invoke` names the ask in its answer.
-    Ask { invoke: u32, ask: FlowAsk },
+    Ask {
+        invoke: u32,
+        ask: FlowAsk,
+    },
     /// The answer to an ask.
-    Answer { invoke: u32, answer: FlowAnswer },
+    Answer {
+        invoke: u32,
+        answer: FlowAnswer,
+    },
     /// A flow is given up.
     Delete {
         /// The CEP-id of the member that it is for.

@@ -1,4 +1,7 @@
 use super::*;
+use rina_base::{AppName, FlowName, NameError};
+use std::alloc::Global;
+use std::process::Abort;
 use std::test::*;
 
 const YES: AskEvent = AskEvent::Answer {
@@ -72,5 +75,134 @@ fn an_ask_is_answered_by_the_first_that_applies(rt: HostRuntime) -> Result<(), F
         );
         assert_eq!(rt; asked.bound.is_some(), result == 0);
     }
+    Ok(())
+}
+
+/// A message is read as it was written, which is as these bytes.
+fn comes_again(rt: &impl Abort, alloc: Global, word: FlowWord, bytes: &[u8]) -> Result<(), Fail> {
+    let m = FlowMessage {
+        to: 2,
+        from: 1,
+        word,
+    };
+    let written = write(alloc, &m)?;
+    assert_eq!(rt; written.as_slice(), bytes);
+    match read(alloc, bytes)? {
+        Some(again) => {
+            assert_eq!(rt; (again.to, again.from), (2, 1));
+            let twice = write(alloc, &again)?;
+            assert_eq!(rt; twice.as_slice(), bytes);
+        }
+        None => panic!(rt; "it is a message about a flow"),
+    }
+    Ok(())
+}
+
+fn ask(alloc: Global, destination: &[u8], source: &[u8]) -> Result<FlowAsk, NameError> {
+    Ok(FlowAsk {
+        flow: FlowName {
+            src: 1,
+            tick: 2,
+            count: 0,
+        },
+        cube: 1,
+        scep: 3,
+        destination: AppName::read(alloc, destination)?,
+        source: AppName::read(alloc, source)?,
+    })
+}
+
+#[test]
+fn messages_about_flows_have_these_bytes(rt: HostRuntime) -> Result<(), Fail> {
+    let alloc = rt.alloc();
+    let ask = ask(alloc, b"echo", b"ping")?;
+    comes_again(
+        &rt,
+        alloc,
+        FlowWord::Ask { invoke: 1, ask },
+        b"\x01\0\x01\x04\x02\0\x04\0\0\0\x01\x03\0\x04flow\x04\0\x05/flow\x06\0\x1d\0\0\0\x01\0\0\0\x02\0\0\0\0\x01\0\0\0\x03\0\x04echo\0\x04ping\x0b\0\x04\0\0\0\x02\x0c\0\x04\0\0\0\x01",
+    )?;
+    comes_again(
+        &rt,
+        alloc,
+        FlowWord::Answer {
+            invoke: 1,
+            answer: FlowAnswer::Yes { dcep: 5, scep: 3 },
+        },
+        b"\x01\0\x01\x05\x02\0\x04\0\0\0\x01\x04\0\x05/flow\x06\0\x08\0\0\0\x05\0\0\0\x03\x07\0\x01\0\x0b\0\x04\0\0\0\x02\x0c\0\x04\0\0\0\x01",
+    )?;
+    comes_again(
+        &rt,
+        alloc,
+        FlowWord::Answer {
+            invoke: 1,
+            answer: FlowAnswer::Denied { rule: 2 },
+        },
+        b"\x01\0\x01\x05\x02\0\x04\0\0\0\x01\x04\0\x05/flow\x06\0\x08\0\0\0\0\0\0\0\x02\x07\0\x01\x01\x0b\0\x04\0\0\0\x02\x0c\0\x04\0\0\0\x01",
+    )?;
+    comes_again(
+        &rt,
+        alloc,
+        FlowWord::Answer {
+            invoke: 1,
+            answer: FlowAnswer::NotHere,
+        },
+        b"\x01\0\x01\x05\x02\0\x04\0\0\0\x01\x04\0\x05/flow\x06\0\x08\0\0\0\0\0\0\0\0\x07\0\x01\x02\x0b\0\x04\0\0\0\x02\x0c\0\x04\0\0\0\x01",
+    )?;
+    comes_again(
+        &rt,
+        alloc,
+        FlowWord::Answer {
+            invoke: 1,
+            answer: FlowAnswer::NoIds { used: 255 },
+        },
+        b"\x01\0\x01\x05\x02\0\x04\0\0\0\x01\x04\0\x05/flow\x06\0\x08\0\0\0\0\0\0\0\xff\x07\0\x01\x03\x0b\0\x04\0\0\0\x02\x0c\0\x04\0\0\0\x01",
+    )?;
+    comes_again(
+        &rt,
+        alloc,
+        FlowWord::Delete { dcep: 5, scep: 3 },
+        b"\x01\0\x01\x06\x02\0\x04\0\0\0\0\x04\0\x05/flow\x06\0\x08\0\0\0\x05\0\0\0\x03\x0b\0\x04\0\0\0\x02\x0c\0\x04\0\0\0\x01",
+    )
+}
+
+#[test]
+fn what_is_no_message_about_a_flow(rt: HostRuntime) -> Result<(), Fail> {
+    let alloc = rt.alloc();
+    let others: [&[u8]; 5] = [
+        b"\x01\0\x01\x06",
+        // a denial with a CEP-id, and an answer of result 4
+        b"\x01\0\x01\x05\x02\0\x04\0\0\0\x01\x04\0\x05/flow\x06\0\x08\0\0\0\x01\0\0\0\x02\x07\0\x01\x01\x0b\0\x04\0\0\0\x02\x0c\0\x04\0\0\0\x01",
+        b"\x01\0\x01\x05\x02\0\x04\0\0\0\x01\x04\0\x05/flow\x06\0\x08\0\0\0\0\0\0\0\x02\x07\0\x01\x04\x0b\0\x04\0\0\0\x02\x0c\0\x04\0\0\0\x01",
+        // a deletion that wants a response, and one from nobody
+        b"\x01\0\x01\x06\x02\0\x04\0\0\0\x01\x04\0\x05/flow\x06\0\x08\0\0\0\x05\0\0\0\x03\x0b\0\x04\0\0\0\x02\x0c\0\x04\0\0\0\x01",
+        b"\x01\0\x01\x06\x02\0\x04\0\0\0\0\x04\0\x05/flow\x06\0\x08\0\0\0\x05\0\0\0\x03\x0b\0\x04\0\0\0\x02",
+    ];
+    for bytes in others {
+        assert!(rt; read(alloc, bytes)?.is_none());
+    }
+    Ok(())
+}
+
+#[test]
+fn the_longest_ask_has_322_bytes(rt: HostRuntime) -> Result<(), Fail> {
+    let alloc = rt.alloc();
+    let mut name = [b'a'; 129];
+    name[64] = b'/';
+    let ask = ask(alloc, &name, &name)?;
+    let word = FlowWord::Ask { invoke: 1, ask };
+    let bytes = write(
+        alloc,
+        &FlowMessage {
+            to: 1,
+            from: 2,
+            word,
+        },
+    )?;
+    assert_eq!(rt; bytes.len(), 322);
+    assert!(rt; read(alloc, &bytes)?.is_some());
+    a_message_has_one_spelling();
+    a_message_is_short();
+    an_answer_can_be_told();
     Ok(())
 }

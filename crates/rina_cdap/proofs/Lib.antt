@@ -6,3 +6,4 @@ pub mod Spelled
 pub mod Written
 pub mod Numbers
 pub mod Faults
+pub mod Contents

@@ -7,7 +7,9 @@ use Rattle.std.proofs.lemmas.List.{length-append, length-map}
 use Rattle.rina_base.specs.Names.{name_at, app_at}
 use Rattle.rina_base.proofs.Lengths.{name_short, app_short}
 use Rattle.rina_cdap.specs.Messages.{Field, field, be2, be4, byte, field_text, text, contents, fields, Spells}
+use Rattle.rina_cdap.proofs.Contents.{size, length-text}
 use Rattle.rina_cdap.proofs.Numbers.{length-number}
+use Rattle.rina_enrol.proofs.Proper.{length-item}
 use Rattle.rina_newest.specs.declared.item.Item.{Item}
 use Rattle.rina_enrol.specs.declared.message.LinkMessage.{LinkMessage}
 use Rattle.rina_enrol.specs.declared.message.LinkMessage.TheVariants as messages
@@ -48,45 +50,19 @@ item_short item (inr (inl member)) =
 item_short item (inr (inr entry)) =
     omega (arith, key_is item.key (codes "/dir/") (map shown entry.app) entry.key, length-map entry.app shown, app_short entry.app entry.app entry.name, live_short item.value (decimal entry.address) entry.value, address_short entry.address entry.small)
 
-text_short : (item : Item) → length (item_text item) ≡ 12 + length (live_text item.value)
-unfolding item_text
-text_short item =
-    omega (
-      arith,
-      length-number item.version.tick,
-      length-number item.version.count,
-      length-number item.version.origin,
-      length-append (be4 item.version.tick) (be4 item.version.count ++ (be4 item.version.origin ++ live_text item.value)),
-      length-append (be4 item.version.count) (be4 item.version.origin ++ live_text item.value),
-      length-append (be4 item.version.origin) (live_text item.value),
-    )
-
 -- ---- the fields of a message
 
-length-field : (f : Field) → length (field_text f) ≡ 3 + length f.content
-unfolding field_text be2
-length-field f = omega (arith, length-append (f.tag ∷ be2 (length f.content)) f.content)
-
-size : List Field → ℕ
-size [] = 0
-size (f ∷ fs) = 3 + length f.content + size fs
-
-length-text : (fs : List Field) → length (text fs) ≡ size fs
-unfolding size
-length-text [] = refl
-length-text (f ∷ fs) = omega (arith, length-field f, length-append (field_text f) (text fs), length-text fs)
-
 small : (m : LinkMessage) → IsProper m → CarriesReplicated m → size (fields (message_of m)) ≤ 325
-unfolding size message_of contents
+unfolding message_of contents
 small (messages.Connect invoke joiner member) h r = omega (arith, length-number invoke, app_short joiner joiner h.0, app_short member member h.1)
 small (messages.ConnectR invoke None) h r = omega (arith, length-number invoke)
 small (messages.ConnectR invoke (Some rule)) h r = omega (arith, length-number invoke, length-number rule)
 small (messages.Start invoke address) h r = omega (arith, length-number invoke, length-number address)
 small (messages.StartR invoke) h r = omega (arith, length-number invoke)
-small (messages.Item item) h r = omega (arith, length-number 0, item_short item r, text_short item)
+small (messages.Item item) h r = omega (arith, length-number 0, item_short item r, length-item item)
 small (messages.Stop invoke) h r = omega (arith, length-number invoke)
 small (messages.StopR invoke) h r = omega (arith, length-number invoke)
-small (messages.Flood item) h r = omega (arith, length-number 0, item_short item r, text_short item)
+small (messages.Flood item) h r = omega (arith, length-number 0, item_short item r, length-item item)
 
 pub messages_short : (m : LinkMessage) (bytes : List ℕ) → IsProper m → CarriesReplicated m → IsSpelled m bytes → length bytes ≤ 325
 messages_short m bytes h r spelled = omega (arith, ap (λ (xs : List ℕ). length xs) spelled.spelled, length-text (fields (message_of m)), small m h r)

@@ -1,5 +1,5 @@
 -- What link states claim.
-use Rattle.std.proofs.Common.{◌≡◌, ◌∙◌, ℕ, ◌+◌, ◌<◌, ◌≤◌, ◌==◌, nat_lt, nat_eq, Bool, true, false, cond, List, [], ◌∷◌, ◌++◌, Option, Some, None, option_map, option_and_then, position, Contains, length, map, take, drop, get_or, codes, refl, sym, ap, arith}
+use Rattle.std.proofs.Common.{◌&&◌, ◌≡◌, ◌∙◌, ℕ, ◌+◌, ◌<◌, ◌≤◌, ◌==◌, nat_lt, nat_eq, Bool, true, false, cond, List, [], ◌∷◌, ◌++◌, Option, Some, None, option_map, option_and_then, position, Contains, length, map, take, drop, get_or, codes, refl, sym, ap, arith}
 use Rattle.std.specs.List.{position_or_len, before_first, after_first, slice_split, flat_map, starts_with}
 use Rattle.std.proofs.lemmas.List.{take_more, take_all, drop_all, get_or-map, length-map}
 use Rattle.std.proofs.lemmas.List.Concat.{flat_map-append, flat_map-cons}
@@ -11,7 +11,7 @@ use Rattle.rina_newest.specs.Decimal.{address_at}
 use Rattle.rina_newest.specs.Newest.{items_under}
 use Rattle.rina_route.specs.declared.link.Link.{Link}
 use Rattle.rina_route.specs.Nodes.{HaveWeights}
-use Rattle.rina_route.specs.Routes.{edge, in_weights, weight_at, edge_at, claim_at, claims_by, claims_of, has_link, counts, edges_of, HaveLinks}
+use Rattle.rina_route.specs.Routes.{edge, in_weights, weight_at, edge_at, claim_at, claims_by, claims_of, has_link, is_up, turned, is_claimed, counts, edges_of, HaveLinks}
 use Rattle.rina_route.proofs.Lists.{in_none, contains_filter, contains_filter_map, contains_flat_map}
 
 -- ---- the parts of a text
@@ -110,14 +110,24 @@ item_weight item e h = item_weight_by (starts_with nat_eq item.key (codes "/link
 
 pub have_weights : (own : ℕ) (links : List Link) (items : List Item) → HaveWeights (edges_of own links items)
 have_weights own links items e among =
-    let r = contains_flat_map claims_of items e (contains_filter (counts own links) (flat_map claims_of items) e among).0 in
+    let r = contains_flat_map claims_of items e (contains_filter (counts own links (flat_map claims_of items)) (flat_map claims_of items) e among).0 in
     item_weight r.0 e r.1
 
-own_counts : (own : ℕ) (links : List Link) (e : Edge) → counts own links e ≡ true → e.from ≡ own → has_link links e.to e.weight ≡ true
-unfolding counts
-own_counts own links e h from =
+own_up : (own : ℕ) (links : List Link) (e : Edge) → is_up own links e ≡ true → e.from ≡ own → has_link links e.to e.weight ≡ true
+unfolding is_up
+own_up own links e h from =
     let same : (e.from == own) ≡ true = grind (arith, nat_tests, from) in
     rw same at h
 
+second : (a b : Bool) → (a && b) ≡ true → b ≡ true
+second true b e = e
+second false b e = absurd cc
+
+own_counts : (own : ℕ) (links : List Link) (claimed : List Edge) (e : Edge) → counts own links claimed e ≡ true → e.from ≡ own → has_link links e.to e.weight ≡ true
+unfolding counts
+own_counts own links claimed e h from = own_up own links e (second (is_claimed claimed (turned e)) (is_up own links e) h) from
+
 pub have_links : (own : ℕ) (links : List Link) (items : List Item) → HaveLinks own links (edges_of own links items)
-have_links own links items e among from = own_counts own links e (contains_filter (counts own links) (flat_map claims_of items) e among).1 from
+have_links own links items e among from =
+    let claimed = flat_map claims_of items in
+    own_counts own links claimed e (contains_filter (counts own links claimed) claimed e among).1 from

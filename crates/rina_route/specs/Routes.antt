@@ -48,13 +48,32 @@ leads_to peer weight link = (link.peer == peer) && (link.weight == weight)
 abbrev pub has_link : List Link → ℕ → ℕ → Bool
 has_link links peer weight = list_any (leads_to peer weight) links
 
--- an edge counts: at the own address only those do that are over a link of that neighbour and weight
-unfoldable pub counts : ℕ → List Link → Edge → Bool
-counts own links e = if e.from == own then has_link links e.to e.weight else (if e.to == own then has_link links e.from e.weight else true)
+-- at the own address only those edges are up that are over a link of that neighbour and weight
+unfoldable pub is_up : ℕ → List Link → Edge → Bool
+is_up own links e = if e.from == own then has_link links e.to e.weight else (if e.to == own then has_link links e.from e.weight else true)
+
+-- an edge as the link state at its other end names it
+abbrev pub turned : Edge → Edge
+turned e = edge e.to e.from e.weight
+
+abbrev pub same_edge : Edge → Edge → Bool
+same_edge e other = (other.from == e.from) && (other.to == e.to) && (other.weight == e.weight)
+
+-- an edge is among those that are claimed
+abbrev pub is_claimed : List Edge → Edge → Bool
+is_claimed claimed e = list_any (same_edge e) claimed
+
+-- an edge that one end claims counts: the other end claims it too, with that weight, and it is up
+unfoldable pub counts : ℕ → List Link → List Edge → Edge → Bool
+counts own links claimed e = is_claimed claimed (turned e) && is_up own links e
+
+-- the edges that are claimed and count
+abbrev pub counted : ℕ → List Link → List Edge → List Edge
+counted own links claimed = filter (counts own links claimed) claimed
 
 -- the edges that the items claim and that count
 abbrev pub edges_of : ℕ → List Link → List Item → List Edge
-edges_of own links items = filter (counts own links) (flat_map claims_of items)
+edges_of own links items = counted own links (flat_map claims_of items)
 
 -- the edges at the own address are over links
 abbrev pub HaveLinks : ℕ → List Link → List Edge → Type 0

@@ -2,7 +2,7 @@
 //! names the neighbours there as `ADDRESS:WEIGHT`, joined by commas.
 ghost use Rattle.std.specs.Prelude.{◌≡◌, ◌++◌, ◌==◌, ◌<◌, filter, length, position, IfOk, IfSome};
 ghost use Rattle.std.specs.List.{flat_map};
-ghost use Rattle.rina_route.specs.Routes.{weight_at, edge_at, claim_at, claims_in, claims_of, has_link, counts, edges_of};
+ghost use Rattle.rina_route.specs.Routes.{weight_at, edge_at, claim_at, claims_in, claims_of, has_link, is_up, same_edge, is_claimed, counts, counted, edges_of};
 
 use crate::link::Link;
 use rina_base::{Addr, Memory};
@@ -93,10 +93,10 @@ fn has_link(links: &[Link], peer: Addr, weight: u16) -> bool
     links.iter().any(|link| link.leads_to(peer, weight))
 }
 
-/// Whether an edge counts: at the own address only those do that are over an own link.
-#[tactic(auto, unfolding(crate::specs::Routes::counts))]
-fn counts(own: Addr, links: &[Link], edge: Edge) -> bool
-    ensures { result ≡ counts own links.now edge }
+/// Whether an edge is up: at the own address only those are that are over an own link.
+#[tactic(auto, unfolding(crate::specs::Routes::is_up))]
+fn is_up(own: Addr, links: &[Link], edge: Edge) -> bool
+    ensures { result ≡ is_up own links.now edge }
 {
     if edge.from == own {
         has_link(links, edge.to, edge.weight)
@@ -107,7 +107,50 @@ fn counts(own: Addr, links: &[Link], edge: Edge) -> bool
     }
 }
 
+/// Whether two edges are the same.
+fn same_edge(edge: Edge, other: Edge) -> bool
+    ensures { result ≡ same_edge edge other }
+{
+    other.from == edge.from && other.to == edge.to && other.weight == edge.weight
+}
+
+/// Whether an edge is among those that are claimed.
+fn is_claimed(claimed: &[Edge], edge: Edge) -> bool
+    ensures { result ≡ is_claimed claimed.now edge }
+{
+    claimed.iter().any(|other| same_edge(edge, *other))
+}
+
+/// Whether an edge that one end claims counts: the other end claims it too, and it is up.
+#[tactic(auto, unfolding(crate::specs::Routes::counts))]
+fn counts(own: Addr, links: &[Link], claimed: &[Edge], edge: Edge) -> bool
+    ensures { result ≡ counts own links.now claimed.now edge }
+{
+    let turned = Edge {
+        from: edge.to,
+        to: edge.from,
+        weight: edge.weight,
+    };
+    is_claimed(claimed, turned) && is_up(own, links, edge)
+}
+
 /// The edges that are claimed and count.
+fn counted(
+    alloc: Global,
+    own: Addr,
+    links: &[Link],
+    claimed: &[Edge],
+) -> Result<Vec<Edge>, AllocError>
+    ensures { IfOk result (λ v. v.items ≡ counted own links.now claimed.now) }
+{
+    claimed
+        .iter()
+        .copied()
+        .filter(|edge| counts(own, links, claimed, *edge))
+        .collect(alloc)
+}
+
+/// The edges that the link states claim and that count.
 pub(crate) fn edges_of(
     alloc: Global,
     own: Addr,
@@ -117,10 +160,6 @@ pub(crate) fn edges_of(
     ensures { IfOk result (λ v. v.items ≡ edges_of own links.now states.now) }
 {
     let claimed = claimed(alloc, states)?;
-    let edges = claimed
-        .iter()
-        .copied()
-        .filter(|edge| counts(own, links, *edge))
-        .collect(alloc)?;
+    let edges = counted(alloc, own, links, &claimed)?;
     Ok(edges)
 }

@@ -103,7 +103,7 @@ impl Routes {
     }
 
     /// The number of the link by which a PDU leaves for an address. None exactly where no walk over the
-    /// claimed edges leads from the own address to another one of that name. Takes no memory.
+    /// links that count leads from the own address to another one of that name. Takes no memory.
     pub fn next_hop(&self, dst: Addr) -> Option<u16>
         ensures { result ≡ hop_at self.now dst }
     {

@@ -73,3 +73,47 @@ fn a_line_of_four_and_one_apart(rt: HostRuntime) -> Result<(), Fail> {
     assert_eq!(rt; routes.next_hop(70), None);
     Ok(())
 }
+
+#[test]
+fn a_link_that_one_end_claims_does_not_count(rt: HostRuntime) -> Result<(), Fail> {
+    let alloc = rt.alloc();
+    let mut routes = Routes::new(alloc);
+    // 3 names 2 no more, and 4 names 2 at another weight
+    let line = states(
+        alloc,
+        &[
+            (b"/link/1", b"2:1"),
+            (b"/link/2", b"1:1,3:1,4:1"),
+            (b"/link/3", b"5:1"),
+            (b"/link/4", b"2:2"),
+            (b"/link/5", b"3:1"),
+        ],
+    )?;
+    routes.rebuild(alloc, 1, &[link(0, 2, 1)], &line)?;
+    assert_eq!(rt; routes.next_hop(2), Some(0));
+    assert_eq!(rt; routes.next_hop(3), None);
+    assert_eq!(rt; routes.next_hop(4), None);
+    assert_eq!(rt; routes.next_hop(5), None);
+    // nor does the own claim alone, nor that of the neighbour alone
+    let first = states(alloc, &[(b"/link/1", b"2:1"), (b"/link/2", b"")])?;
+    routes.rebuild(alloc, 1, &[link(0, 2, 1)], &first)?;
+    assert_eq!(rt; routes.next_hop(2), None);
+    let second = states(alloc, &[(b"/link/1", b""), (b"/link/2", b"1:1")])?;
+    routes.rebuild(alloc, 1, &[link(0, 2, 1)], &second)?;
+    assert_eq!(rt; routes.next_hop(2), None);
+    Ok(())
+}
+
+#[test]
+fn an_own_link_counts_where_it_is_up(rt: HostRuntime) -> Result<(), Fail> {
+    let alloc = rt.alloc();
+    let both = states(alloc, &[(b"/link/1", b"2:3"), (b"/link/2", b"1:3")])?;
+    let mut routes = Routes::new(alloc);
+    routes.rebuild(alloc, 1, &[], &both)?;
+    assert_eq!(rt; routes.next_hop(2), None);
+    routes.rebuild(alloc, 1, &[link(0, 2, 1)], &both)?;
+    assert_eq!(rt; routes.next_hop(2), None);
+    routes.rebuild(alloc, 1, &[link(0, 2, 1), link(7, 2, 3)], &both)?;
+    assert_eq!(rt; routes.next_hop(2), Some(7));
+    Ok(())
+}

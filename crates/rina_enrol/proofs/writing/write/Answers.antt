@@ -1,6 +1,7 @@
 use Rattle.rina_cdap.proofs.Written.{spelled, only}
 use Rattle.rina_enrol.specs.Messages.{message_of}
-use Rattle.rina_enrol.proofs.Proper.{only_memory, can_be_written}
+use Rattle.rina_cdap.proofs.Contents.{only_memory}
+use Rattle.rina_enrol.proofs.Proper.{can_be_written}
 use Rattle.rina_enrol.proofs.writing.write.Goals as goal
 
 pub returns-clause-spelled : goal.returns-clause-spelled
