@@ -1,3 +1,4 @@
 pub mod Holding
 pub mod Shown
 pub mod Steps
+pub mod Taking

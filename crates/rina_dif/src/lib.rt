@@ -6,6 +6,7 @@ mod dif;
 mod leaving;
 mod passing;
 mod processes;
+mod taking;
 
 pub use dif::Dif;
 pub use processes::Processes;
