@@ -17,3 +17,4 @@ pub mod Unbroken
 pub mod Welcome
 pub mod Writing
 pub mod Received
+pub mod Landed

@@ -1,5 +1,6 @@
 -- A connection that receives a piece: its steps, and what they come to.
 use Rattle.std.proofs.Common.{◌≡◌, ℕ, ◌+◌, ◌≤◌, List, [], ◌∷◌, ◌++◌, length, length-append, append_assoc, map, None, refl, sym, ◌∙◌, ap, subst, arith}
+use Rattle.std.proofs.lemmas.List.{length-map}
 use Rattle.rina_account.specs.declared.ledger.Off.{Off}
 use Rattle.rina_base.specs.declared.cause.Cause.{Cause}
 use Rattle.rina_base.specs.declared.number.Key.{Key}
@@ -21,14 +22,15 @@ pub wide_enough : (now : ℕ) (old : Receiving) (lines : List Off) (room wider :
 wide_enough now old lines room wider new lines' le w = record { taken = w.taken; drained = w.drained; none = w.none; noted = λ fits. w.noted (omega arith) }
 
 -- once the bytes are those of the SDUs that became whole, it is an arrival, and all is noted where there was room
-pub record HasReceived (now : ℕ) (pdu : Pdu) (unpassed : ℕ) (old : Conn) (got : List Entry) (got_room : ℕ) (lines : List Off) (lines_room : ℕ) (result : Verdict) (new : Conn) (got' : List Entry) (lines' : List Off) : Type 0 where
+pub record HasReceived (now : ℕ) (pdu : Pdu) (unpassed : ℕ) (old : Conn) (bodies : List (List ℕ)) (got : List Entry) (got_room : ℕ) (lines : List Off) (lines_room : ℕ) (result : Verdict) (new : Conn) (got' : List Entry) (lines' : List Off) : Type 0 where
   pub offs : List Off
   pub whole : List Sdu
+  pub count : length bodies ≡ length whole
   pub arrival : IsArrival now pdu unpassed old result offs whole new
   pub got_is : length got + length whole ≤ got_room → got' ≡ got ++ map (entry_from (ids_of old) now) whole
   pub lines_are : length lines + length offs ≤ lines_room → lines' ≡ lines ++ offs
 
-pub received : (now : ℕ) (pdu : Pdu) (unpassed : ℕ) (old : Conn) (bodies : List (List ℕ)) (got : List Entry) (got_room : ℕ) (lines : List Off) (lines_room : ℕ) (result : Verdict) (new : Conn) (got' : List Entry) (lines' : List Off) → (r : Receives now pdu unpassed old bodies got got_room lines lines_room result new got' lines') → old.given_up ≡ None → bodies ≡ bytes_of r.heard.rx.join.whole → HasReceived now pdu unpassed old got got_room lines lines_room result new got' lines'
+pub received : (now : ℕ) (pdu : Pdu) (unpassed : ℕ) (old : Conn) (bodies : List (List ℕ)) (got : List Entry) (got_room : ℕ) (lines : List Off) (lines_room : ℕ) (result : Verdict) (new : Conn) (got' : List Entry) (lines' : List Off) → (r : Receives now pdu unpassed old bodies got got_room lines lines_room result new got' lines') → old.given_up ≡ None → bodies ≡ bytes_of r.heard.rx.join.whole → HasReceived now pdu unpassed old bodies got got_room lines lines_room result new got' lines'
 received now pdu unpassed old bodies got got_room lines lines_room result new got' lines' r none bodies_are =
     let d = r.delivers bodies_are in
     let on : r.passed_on.rx ≡ delivered r.heard.rx = ap (λ (k : Conn). k.rx) d.conn in
@@ -38,6 +40,7 @@ received now pdu unpassed old bodies got got_room lines lines_room result new go
     record {
       offs = offs_of (r.before.taken ++ r.after.taken);
       whole = r.heard.rx.join.whole;
+      count = ap (λ (xs : List (List ℕ)). length xs) bodies_are ∙ length-map r.heard.rx.join.whole (λ (w : Sdu). w.bytes);
       arrival = record {
         ready = record old { rx = r.ready };
         before = r.before.taken;
