@@ -1,3 +1,4 @@
+pub mod Building
 pub mod Holding
 pub mod Shown
 pub mod Steps

@@ -1,6 +1,7 @@
 //! A DIF over any facility: its IPC processes, and its flows.
 #![tactic(auto)]
 
+mod building;
 mod clock;
 mod dif;
 mod leaving;
