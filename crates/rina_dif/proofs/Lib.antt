@@ -1,4 +1,8 @@
+pub mod Bare
 pub mod Keeping
 pub mod Leaves
 pub mod Moves
+pub mod Owning
 pub mod Passed
+pub mod Settling
+pub mod Taken

@@ -1,3 +1,5 @@
+pub mod Building
 pub mod Holding
 pub mod Shown
 pub mod Steps
+pub mod Taking
