@@ -2,6 +2,7 @@
 use Rattle.std.proofs.Common.{◌≡◌, ℕ, ◌+◌, ◌<◌, ◌≤◌, ◌⊎◌, List, slice_get, Option, Some, refl, sym, ◌∙◌, ap, subst}
 use Rattle.rina_conn.specs.declared.conn.Conn.{Conn}
 use Rattle.rina_conn.specs.declared.form.Form.{Form}
+use Rattle.rina_conn.specs.declared.sending.Sending.{Sending}
 use Rattle.rina_conn.specs.Conns.{HasNoLast}
 use Rattle.rina_conn.specs.Sending.{IsSender}
 use Rattle.rina_data.specs.Dif.{Config, constants, cube_by}
@@ -69,4 +70,25 @@ sending_same g now k line line' clock sender h = record {
   cube = h.cube;
   clock = clock ∙ h.clock;
   sender = subst (λ m. IsSender (outward g k) m k.sending) (sym sender) h.sender;
+}
+
+-- the connection stays in what it sends
+pub sending_conn : (g : Config) (now : ℕ) (k k' : Conn) (line : Direction) → k'.sending ≡ k.sending → IsSending g now k line → IsSending g now k' line
+sending_conn g now k k' line e h = record {
+  cube = subst (λ (s : Sending). cube_by s.form.cube.id g.cubes ≡ Some s.form.cube) (sym e) h.cube;
+  clock = h.clock;
+  sender = subst (λ (s : Sending). IsSender (constants g s.form.cube (ids_by s.form.peer s.form.cube.id)) line.line.sender s) (sym e) h.sender;
+}
+
+-- the plan alone changes
+pub receiving_plan : (c : Constants) (now : ℕ) (ids : Ids) (k : Conn) (line : Direction) (plan : Plan) (passed : ℕ) (mark : Option ℕ) → IsPlanOf c mark plan → IsReceiving c now ids k line → IsReceiving c now ids (record k { plan = plan }) (record line { passed = passed; mark = mark })
+receiving_plan c now ids k line plan passed mark is h = record {
+  stands = h.stands;
+  plan = is;
+  last = h.last;
+  whole = h.whole;
+  broken = h.broken;
+  forward = h.forward;
+  none_given_up = h.none_given_up;
+  kept = λ n i. (let q = h.kept n i in record { made = q.made; source = q.source; number = q.number });
 }

@@ -1,17 +1,23 @@
 -- What each call of the flows does, for the directions to which they are tied.
-use Rattle.std.specs.Prelude.{◌≡◌, ◌≢◌, ℕ, ◌⊎◌, true, List, [], ◌∷◌, ◌++◌, slice_get, slice_set, Some, Result, Ok, Err}
+use Rattle.std.specs.Prelude.{◌≡◌, ◌≢◌, ℕ, ◌<◌, ◌⊎◌, true, List, [], ◌∷◌, ◌++◌, length, slice_get, slice_set, Option, None, Some, Result, Ok, Err}
 use Rattle.rina_conn.specs.declared.conn.Conn.{Conn}
 use Rattle.rina_conn.specs.declared.made.Made.{Made}
 use Rattle.rina_conn.specs.declared.made.OfferError.{OfferError}
 use Rattle.rina_conn.specs.declared.made.OfferError.TheVariants.{Memory}
+use Rattle.rina_base.specs.declared.pdu.Pdu.{Pdu}
+use Rattle.rina_conn.specs.Conns.{Passes}
 use Rattle.rina_conn.specs.Sending as send
 use Rattle.rina_data.specs.Dif.{Config, piece_size}
+use Rattle.rina_data.specs.Ids.{Ids, IsFrom, flipped}
+use Rattle.rina_data.specs.Standing.{IsJournal}
+use Rattle.rina_iface.specs.declared.ends.End.{End}
+use Rattle.rina_iface.specs.declared.state.PortState.TheVariants.{Allocated}
 use Rattle.rina_law.specs.declared.entry.Entry.{Entry}
 use Rattle.rina_law.specs.Direction.{Direction, offer_refusal}
 use Rattle.rina_law.specs.Pieces.{Part, IsCut, join}
 use Rattle.rina_flows.specs.declared.flows.Flows.{Flows}
-use Rattle.rina_flows.specs.Rows.{OffersAt}
-use Rattle.rina_flows.specs.Tied.{IsTied, conns_of, outward}
+use Rattle.rina_flows.specs.Rows.{OffersAt, PassedAt, TakesAt, ToldAt}
+use Rattle.rina_flows.specs.Tied.{IsAt, IsTied, conns_of, ids_of, outward}
 
 -- the connection at a place changes so, and no other does
 abbrev pub Becomes : (Conn → Conn → Type 0) → ℕ → List Conn → List Conn → Type 0
@@ -65,3 +71,70 @@ Refuses g at sdu conns lines why = why ≢ Memory → (conn : Conn) (line : Dire
 abbrev pub Offers : ℕ → ℕ → List ℕ → Flows → Result Made OfferError → Flows → Type 0
 Offers now at sdu old (Ok made) new = (g : Config) (lines : List Direction) → AreTied g now old lines → Accepts g now at sdu old lines made new
 Offers now at sdu old (Err why) new = (g : Config) (lines : List Direction) → AreTied g now old lines → Refuses g at sdu old.conns lines why × (new ≡ old)
+
+-- so many pieces has an SDU of that length that is cut at this size
+abbrev pub TellsNeed : ℕ → ℕ → ℕ → Type 0
+TellsNeed len size need = (parts : List Part) → IsCut size true parts → length (join parts) ≡ len → length parts ≡ need
+
+-- what is told of the connection at a place
+abbrev pub Tells : (Conn → Type 0) → ℕ → List Conn → Type 0
+Tells P at conns = (k : Conn) → slice_get conns at ≡ Some k → P k
+
+-- Passing
+
+pub record IsPass (now : ℕ) (old new : Conn) : Type 0 where
+  pub marks : Passes now old new
+  pub sending : new.sending ≡ old.sending
+  pub rx : new.rx ≡ old.rx
+  pub given_up : new.given_up ≡ old.given_up
+
+-- the oldest SDU of the end at a place is passed, and the flows stay tied
+pub record IsPassed (g : Config) (now at : ℕ) (old : Flows) (lines : List Direction) (new : Flows) : Type 0 where
+  pub lines' : List Direction
+  pub passed : PassedAt g old.journal.ends (conns_of old.conns) lines at new.journal.ends lines'
+  pub tied : AreTied g now new lines'
+  pub ids : SameIds old new
+
+abbrev pub PassesOne : ℕ → ℕ → Flows → Flows → Type 0
+PassesOne now at old new = (g : Config) (lines : List Direction) → IsJournal now old.journal.ends → AreTied g now old lines → IsPassed g now at old lines new
+
+-- An acknowledgement
+
+pub record IsTold (pdu : Pdu) (old new : Conn) : Type 0 where
+  pub told : send.IsToldBy pdu.ack pdu.right old.sending new.sending
+  pub form : new.sending.form ≡ old.sending.form
+  pub rx : new.rx ≡ old.rx
+  pub plan : new.plan ≡ old.plan
+  pub given_up : new.given_up ≡ old.given_up
+
+-- it comes to the connection at a place, and the flows stay tied
+pub record IsToldAt (g : Config) (now at : ℕ) (pdu : Pdu) (old : Flows) (lines : List Direction) (new : Flows) : Type 0 where
+  pub lines' : List Direction
+  pub told : ToldAt lines at pdu lines'
+  pub tied : AreTied g now new lines'
+  pub ids : SameIds old new
+
+abbrev pub TellsOne : ℕ → Pdu → Flows → Flows → Type 0
+TellsOne at pdu old new = (g : Config) (now : ℕ) (lines : List Direction) → AreTied g now old lines → IsToldAt g now at pdu old lines new
+
+-- Who takes a PDU
+
+-- the end and the connection at a place take the PDU: the end is allocated, and the far end sent it
+pub record Takes (end : End) (conn : Conn) (pdu : Pdu) : Type 0 where
+  pub allocated : end.state ≡ Allocated
+  pub names : IsFrom (flipped (ids_of conn)) pdu
+
+-- those at a place
+pub record TakesHere (ends : List End) (conns : List Conn) (at : ℕ) (pdu : Pdu) : Type 0 where
+  pub end : End
+  pub conn : Conn
+  pub is_at : IsAt ends conns at end conn
+  pub takes : Takes end conn pdu
+
+abbrev pub TakenBy : List End → List Ids → Pdu → Option ℕ → Type 0
+TakenBy ends ids pdu None = (at : ℕ) (end : End) (its_ids : Ids) → TakesAt ends ids pdu at end its_ids → ⊥
+TakenBy ends ids pdu (Some at) = (end : End) × (its_ids : Ids) × TakesAt ends ids pdu at end its_ids
+
+-- none at a place before n takes it
+abbrev pub NoneBefore : ℕ → List End → List Conn → Pdu → Type 0
+NoneBefore n ends conns pdu = (at : ℕ) → at < n → TakesHere ends conns at pdu → ⊥

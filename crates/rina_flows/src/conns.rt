@@ -1,8 +1,9 @@
 //! Connections, each at the place of its end.
 ghost use Rattle.std.specs.Prelude.{◌≡◌, ◌≤◌, ◌<◌, [], length, slice_get, Some, MatchOption};
-ghost use Rattle.rina_flows.specs.Calls.{Becomes, IsOffer};
+ghost use Rattle.rina_base.specs.Pdus.{pdu_of};
+ghost use Rattle.rina_flows.specs.Calls.{Becomes, IsOffer, IsPass, IsTold};
 
-use rina_base::Tick;
+use rina_base::{PduView, Tick};
 use rina_conn::{Conn, Made, OfferError};
 use std::alloc::Global;
 use std::marker::Model;
@@ -53,5 +54,38 @@ impl Conns {
     {
         let conn = &mut self.items[at];
         conn.offer(alloc, now, sdu)
+    }
+
+    /// How many connections there are.
+    pub fn len(&self) -> usize
+        ensures { result ≡ length self.now }
+    {
+        self.items.len()
+    }
+
+    /// The connection at a place that is there.
+    pub fn at(&self, at: usize) -> &Conn
+        requires { at < length self.now }
+        ensures { slice_get self.now at ≡ Some result.now }
+    {
+        &self.items[at]
+    }
+
+    /// Notes that the next SDU of the connection at this place was passed. Takes no memory.
+    pub fn pass(&mut self, now: Tick, at: usize)
+        requires { at < length self.old }
+        ensures { Becomes (IsPass now) at self.old self.new }
+    {
+        let conn = &mut self.items[at];
+        conn.passed(now, 0, 0);
+    }
+
+    /// Lets the connection at this place take an acknowledgement. Takes no memory.
+    pub fn told(&mut self, at: usize, pdu: &PduView<'_>)
+        requires { at < length self.old }
+        ensures { Becomes (IsTold (pdu_of pdu.now)) at self.old self.new }
+    {
+        let conn = &mut self.items[at];
+        conn.on_control(pdu);
     }
 }

@@ -1,11 +1,15 @@
 //! The flows of a DIF.
-ghost use Rattle.std.specs.Prelude.{◌≡◌, ◌≤◌, ◌<◌, [], length};
-ghost use Rattle.rina_flows.specs.Calls.{Offered, Offers};
+ghost use Rattle.std.specs.Prelude.{◌≡◌, ◌≤◌, ◌<◌, [], length, slice_get, Some, IsTrue, ◌↔◌};
+ghost use Rattle.rina_base.specs.Pdus.{pdu_of};
+ghost use Rattle.rina_conn.specs.Sending.{TellsRoom};
+ghost use Rattle.rina_data.specs.Ids.{IsFrom, flipped};
+ghost use Rattle.rina_flows.specs.Calls.{Offered, Offers, PassesOne, TakenBy, Takes, TakesHere, Tells, TellsNeed, TellsOne};
+ghost use Rattle.rina_flows.specs.Tied.{conns_of, ids_of};
 
 use crate::conns::Conns;
-use rina_base::{Bytes, Tick};
-use rina_conn::{Made, OfferError};
-use rina_iface::{Ends, Entry, Journal};
+use rina_base::{Bytes, PduView, Tick};
+use rina_conn::{Conn, Form, Made, OfferError};
+use rina_iface::{End, Ends, Entry, Journal, PortState};
 use std::alloc::Global;
 
 /// The flows of a DIF: the journal of their ends, and the connection of each end, at the place of the end.
@@ -37,6 +41,32 @@ fn offer_noted(
         bytes,
     });
     Ok(made)
+}
+
+/// How many pieces an SDU of `len` bytes has.
+fn pieces(form: &Form, len: u32) -> u32
+    ensures { TellsNeed len form.now.piece result }
+{
+    len.saturating_sub(1) / form.piece + 1
+}
+
+/// Whether a PDU bears the names of the far end of a connection.
+fn is_from_far(conn: &Conn, pdu: &PduView<'_>) -> bool
+    ensures { IsTrue result ↔ IsFrom (flipped (ids_of conn.now)) (pdu_of pdu.now) }
+{
+    let peer = conn.sending.form.peer;
+    pdu.src == peer.far
+        && pdu.dst == peer.own
+        && pdu.scep == peer.dcep
+        && pdu.dcep == peer.scep
+        && pdu.qos == conn.sending.form.cube.id
+}
+
+/// Whether an end and its connection take the PDU.
+fn takes(end: &End, conn: &Conn, pdu: &PduView<'_>) -> bool
+    ensures { IsTrue result ↔ Takes end.now conn.now (pdu_of pdu.now) }
+{
+    matches!(end.state, PortState::Allocated) && is_from_far(conn, pdu)
 }
 
 impl Flows {
@@ -71,5 +101,64 @@ impl Flows {
         let result = offer_noted(&mut self.conns, alloc, now, at, sdu, &mut sent);
         self.journal.ends.put_sent(at, sent);
         result
+    }
+
+    /// How many pieces an SDU of `len` bytes has on the connection at a place that is there.
+    pub fn need(&self, at: usize, len: u32) -> u32
+        requires { at < length self.now.conns }
+        ensures { Tells (λ k. TellsNeed len k.sending.form.piece result) at self.now.conns }
+    {
+        pieces(&self.conns.at(at).sending.form, len)
+    }
+
+    /// How many pieces the window of the connection at a place admits; the greatest u32 on a cube that is not
+    /// reliable. Takes no memory.
+    pub fn room(&self, now: Tick, at: usize) -> u32
+        requires { at < length self.now.conns }
+        ensures { Tells (λ k. TellsRoom now k.sending result) at self.now.conns }
+    {
+        self.conns.at(at).room(now)
+    }
+
+    /// Passes the oldest SDU of the end at a place, where one waits. Takes no memory.
+    pub fn pass(&mut self, now: Tick, at: usize)
+        requires end { at < length self.old.journal.ends }
+        requires conn { at < length self.old.conns }
+        requires waits { (e : End) → slice_get self.old.journal.ends at ≡ Some e → e.taken < length e.got }
+        ensures { PassesOne now at self.old self.new }
+    {
+        self.conns.pass(now, at);
+        self.journal.ends.pass(at);
+    }
+
+    /// Lets the connection at a place take an acknowledgement. Takes no memory.
+    pub fn told(&mut self, at: usize, pdu: &PduView<'_>)
+        requires { at < length self.old.conns }
+        ensures { TellsOne at (pdu_of pdu.now) self.old self.new }
+    {
+        self.conns.told(at, pdu);
+    }
+
+    /// Whether the end at a place, and its connection, take the PDU.
+    fn takes(&self, at: usize, pdu: &PduView<'_>) -> bool
+        ensures { IsTrue result ↔ TakesHere self.now.journal.ends self.now.conns at (pdu_of pdu.now) }
+    {
+        match (self.journal.ends.get(at), self.conns.get(at)) {
+            (Some(end), Some(conn)) => takes(end, conn, pdu),
+            _ => false,
+        }
+    }
+
+    /// The place of the allocated end whose connection has the two addresses, the two CEP-ids and the QoS-id of
+    /// a PDU; None exactly where there is none. Takes no memory.
+    pub fn taker(&self, pdu: &PduView<'_>) -> Option<usize>
+        ensures { TakenBy self.now.journal.ends (conns_of self.now.conns) (pdu_of pdu.now) result }
+    {
+        for at in 0..self.conns.len() {
+            if self.takes(at, pdu) {
+                return Some(at);
+            }
+        }
+        None
     }
 }
