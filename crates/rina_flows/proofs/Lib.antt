@@ -4,7 +4,9 @@ pub mod Coming
 pub mod Counted
 pub mod Framed
 pub mod Given
+pub mod Gone
 pub mod Kept
+pub mod Lasting
 pub mod Offered
 pub mod Passed
 pub mod Receives
