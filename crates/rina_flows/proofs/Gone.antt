@@ -1,5 +1,5 @@
 -- What a connection still holds is given up, with a state that is gone or with its end, and the flows stay tied.
-use Rattle.std.proofs.Common.{◌≡◌, ◌≢◌, ℕ, ◌++◌, List, [], Bool, true, false, cond, slice_get, slice_set, Option, Some, None, refl, sym, ◌∙◌, ap, subst}
+use Rattle.std.proofs.Common.{◌≡◌, ◌≢◌, ℕ, List, [], true, false, cond, slice_get, slice_set, Option, Some, None, refl, sym, ◌∙◌, ap, subst}
 use Rattle.rina_account.specs.declared.ledger.Off.{Off}
 use Rattle.rina_base.specs.declared.cause.Cause.{Cause}
 use Rattle.rina_base.specs.declared.cause.Cause.TheVariants as causes
@@ -12,11 +12,8 @@ use Rattle.rina_data.specs.Ids.{Ids, flipped}
 use Rattle.rina_data.specs.Sending.{home}
 use Rattle.rina_data.specs.Standing.{IsJournal}
 use Rattle.rina_data.specs.Timely.{IsForgotten}
-use Rattle.rina_data.proofs.Journals.{IsConst}
-use Rattle.rina_dtp.specs.Joins.{IsForward}
 use Rattle.rina_dtp.specs.Receiving.{Receiving, drops, end_cause, ended_with, kept_numbers, lost_in, present_at}
 use Rattle.rina_dtp.specs.Source.{key_at}
-use Rattle.rina_dtp.specs.Stands.{Stands}
 use Rattle.rina_dtp.proofs.Ahead.{fetched_forward}
 use Rattle.rina_dtp.proofs.Came.{kept_none, present_same}
 use Rattle.rina_dtp.proofs.Lasting.{stands_forgotten}

@@ -1,15 +1,13 @@
 -- Flows stay tied as time goes on, and new connections are tied to directions that start.
-use Rattle.std.proofs.Common.{◌≡◌, ℕ, ◌+◌, ◌-◌, ◌*◌, ◌≤◌, List, [], length, map, Bool, true, false, ltb, ◌&&◌, slice_get, Some, None, refl, sym, ◌∙◌, ap, subst, arith}
+use Rattle.std.proofs.Common.{◌≡◌, ℕ, ◌+◌, ◌-◌, ◌≤◌, List, [], map, false, Some, None, refl, sym, ◌∙◌, ap, subst, arith}
 use Rattle.std.proofs.lemmas.List.{length-map}
 use Rattle.rina_conn.specs.declared.conn.Conn.{Conn}
-use Rattle.rina_conn.specs.declared.form.Form.{Form}
 use Rattle.rina_conn.specs.declared.form.Peer.{Peer}
 use Rattle.rina_conn.specs.Conns.{IsNewConn}
-use Rattle.rina_conn.specs.Sending.{IsSender}
 use Rattle.rina_cube.specs.declared.Cube.{Cube}
 use Rattle.rina_cube.specs.Cubes.{delta_of}
-use Rattle.rina_data.specs.Dif.{Config, constants, cube_by, greatest, piece_size}
-use Rattle.rina_data.specs.Ids.{Ids, flipped}
+use Rattle.rina_data.specs.Dif.{Config, cube_by, greatest, piece_size}
+use Rattle.rina_data.specs.Ids.{Ids}
 use Rattle.rina_data.specs.Lifting.{ticked}
 use Rattle.rina_data.proofs.Own.{map_at}
 use Rattle.rina_dtp.specs.Receiving.{Receiving, kept_numbers, present_at}
@@ -22,8 +20,8 @@ use Rattle.rina_law.specs.Constants.{Constants}
 use Rattle.rina_law.specs.Direction.{Direction, start}
 use Rattle.rina_law.specs.Lists.{In}
 use Rattle.rina_law.specs.Pieces.{empty_joiner}
-use Rattle.rina_law.specs.Receiver.{is_present, no_state}
-use Rattle.rina_flows.specs.Tied.{IsInboundAt, IsReceiving, IsSending, IsTied, ids_by, ids_of, inward, outward}
+use Rattle.rina_law.specs.Receiver.{no_state}
+use Rattle.rina_flows.specs.Tied.{IsInboundAt, IsReceiving, IsSending, IsTied, ids_of, inward, outward}
 use Rattle.rina_flows.proofs.Receives.{none_broken}
 
 -- Time
