@@ -1,3 +1,4 @@
+pub mod Added
 pub mod Arrived
 pub mod ArrivesAt
 pub mod Coming
