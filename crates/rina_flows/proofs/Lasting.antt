@@ -1,5 +1,5 @@
 -- Flows stay tied as time goes on, and new connections are tied to directions that start.
-use Rattle.std.proofs.Common.{◌≡◌, ℕ, ◌+◌, ◌-◌, ◌≤◌, List, [], map, false, Some, None, refl, sym, ◌∙◌, ap, subst, arith}
+use Rattle.std.proofs.Common.{◌≡◌, ◌≢◌, ℕ, ◌+◌, ◌-◌, ◌≤◌, List, [], map, false, Some, None, refl, sym, ◌∙◌, ap, subst, arith}
 use Rattle.std.proofs.lemmas.List.{length-map}
 use Rattle.rina_conn.specs.declared.conn.Conn.{Conn}
 use Rattle.rina_conn.specs.declared.form.Peer.{Peer}
@@ -16,12 +16,14 @@ use Rattle.rina_dtp.proofs.Ahead.{fetched_forward}
 use Rattle.rina_dtp.proofs.Came.{kept_none, present_same}
 use Rattle.rina_dtp.proofs.Lasting.{stands_later}
 use Rattle.rina_iface.specs.declared.ends.End.{End}
+use Rattle.rina_iface.specs.Journal.{At}
 use Rattle.rina_law.specs.Constants.{Constants}
 use Rattle.rina_law.specs.Direction.{Direction, start}
 use Rattle.rina_law.specs.Lists.{In}
 use Rattle.rina_law.specs.Pieces.{empty_joiner}
 use Rattle.rina_law.specs.Receiver.{no_state}
 use Rattle.rina_flows.specs.Tied.{IsInboundAt, IsReceiving, IsSending, IsTied, ids_of, inward, outward}
+use Rattle.rina_flows.proofs.Added.{AreNewEnds}
 use Rattle.rina_flows.proofs.Receives.{none_broken}
 
 -- Time
@@ -60,8 +62,8 @@ tied_later g now later ends conns lines le tied = record {
 new_kept : (c : Constants) (now : ℕ) (r : Receiving) (n : ℕ) → Stands c now no_state empty_joiner r → kept_numbers r ≡ [] → In n (kept_numbers r) → ⊥
 new_kept c now r n st none i = subst (In n) none i
 
-pub receiving_new : (g : Config) (now : ℕ) (cube : Cube) (peer : Peer) (max : ℕ) (conn : Conn) → IsNewConn cube (piece_size g) max peer conn → conn.sending.form.peer ≡ peer → IsReceiving (inward g conn) now (ids_of conn) conn (ticked now (start (inward g conn)))
-receiving_new g now cube peer max conn new peer_is =
+pub receiving_new : (g : Config) (now : ℕ) (cube : Cube) (peer : Peer) (max : ℕ) (conn : Conn) → IsNewConn cube (piece_size g) max peer conn → IsReceiving (inward g conn) now (ids_of conn) conn (ticked now (start (inward g conn)))
+receiving_new g now cube peer max conn new =
     let c : Constants = inward g conn in
     let st = new.receives.stands c now new.cube_is refl in
     let fetched = new.receives.fetched now in
@@ -84,3 +86,24 @@ sending_new g now cube peer conn new is_cube = record {
   clock = (let e : 0 + now ≡ now = omega arith in e);
   sender = new.sends.stands (outward g conn) (record { cube = refl; piece = new.piece_is; cep = refl; max_is = refl });
 }
+
+-- by the other end
+abbrev pub far_peer : Peer → Peer
+far_peer peer = record { own = peer.far; far = peer.own; scep = peer.dcep; dcep = peer.scep }
+
+-- the connections of a new flow, one at each end
+pub new_flow : (g : Config) (now : ℕ) (ends : List End) (asker far : End) (cube : Cube) (peer : Peer) (conn its : Conn) → IsNewConn cube (piece_size g) (greatest g) peer conn → IsNewConn cube (piece_size g) (greatest g) (far_peer peer) its → cube_by cube.id g.cubes ≡ Some cube → ((i : ℕ) (e : End) → At ends i e → e.flow ≢ asker.flow) → far.flow ≡ asker.flow →
+    AreNewEnds g now ends asker far conn its (ticked now (start (outward g conn))) (ticked now (start (outward g its)))
+new_flow g now ends asker far cube peer conn its new there is_cube fresh same_flow =
+    let by : Cube → ℕ → Constants = λ x cep. record { cube = x; piece = piece_size g; max = greatest g; cep = cep } in
+    let cubes : conn.sending.form.cube ≡ its.sending.form.cube = new.cube_is ∙ sym there.cube_is in
+    let here : inward g conn ≡ outward g its = ap (λ x. by x conn.sending.form.peer.dcep) cubes ∙ ap (by its.sending.form.cube) (ap (λ (p : Peer). p.dcep) new.peer_is ∙ sym (ap (λ (p : Peer). p.scep) there.peer_is)) in
+    let yonder : inward g its ≡ outward g conn = ap (λ x. by x its.sending.form.peer.dcep) (sym cubes) ∙ ap (by conn.sending.form.cube) (ap (λ (p : Peer). p.dcep) there.peer_is ∙ sym (ap (λ (p : Peer). p.scep) new.peer_is)) in
+    record {
+      fresh = fresh;
+      same_flow = same_flow;
+      sends = sending_new g now cube peer conn new is_cube;
+      sends_back = sending_new g now cube (far_peer peer) its there is_cube;
+      receives = subst (λ (c : Constants). IsReceiving (inward g conn) now (ids_of conn) conn (ticked now (start c))) here (receiving_new g now cube peer (greatest g) conn new);
+      receives_there = subst (λ (c : Constants). IsReceiving (inward g its) now (ids_of its) its (ticked now (start c))) yonder (receiving_new g now cube (far_peer peer) (greatest g) its there);
+    }
