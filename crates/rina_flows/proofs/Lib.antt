@@ -12,6 +12,7 @@ pub mod Landed
 pub mod Lasting
 pub mod Offered
 pub mod Passed
+pub mod Plain
 pub mod Received
 pub mod Receives
 pub mod Restated

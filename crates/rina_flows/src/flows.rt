@@ -4,7 +4,7 @@ ghost use Rattle.rina_base.specs.Pdus.{pdu_of};
 ghost use Rattle.rina_conn.specs.Sending.{TellsRoom};
 ghost use Rattle.rina_data.specs.Ids.{IsFrom, flipped};
 ghost use Rattle.rina_flows.specs.Calls.{Offered, Offers, PassesOne, TakenBy, Takes, TakesHere, Tells, TellsNeed, TellsOne};
-ghost use Rattle.rina_flows.specs.Delivering.{ArrivesIn};
+ghost use Rattle.rina_flows.specs.Delivering.{ArrivesIn, ForgetsIn, StopsIn};
 ghost use Rattle.rina_flows.specs.Tied.{conns_of, ids_of};
 
 use crate::conns::Conns;
@@ -206,5 +206,58 @@ impl Flows {
         self.journal.ends.put_got(at, notes.got);
         ledger.put(notes.lines);
         result
+    }
+
+    /// Writes off the pieces that the connection at a place holds of a state that has ended, and answers whether
+    /// there were any. Without memory nothing changes.
+    pub fn forget(
+        &mut self,
+        alloc: Global,
+        now: Tick,
+        at: usize,
+        ledger: &mut Ledger,
+    ) -> Result<bool, Memory>
+        requires { at < length self.old.conns }
+        ensures { ForgetsIn now at self.old ledger.old result self.new ledger.new }
+    {
+        let rx = &self.conns.at(at).rx;
+        let kept = rx.kept();
+        if rx.present(now) || kept == 0 {
+            return Ok(false);
+        }
+        let mut lines = ledger.take(alloc);
+        if lines.reserve(kept as usize).is_err() {
+            ledger.put(lines);
+            return Err(Memory);
+        }
+        self.conns.forget(now, at, &mut lines);
+        ledger.put(lines);
+        Ok(true)
+    }
+
+    /// Lets the end at a place be in a state in which it is allocated no more, and writes off what its connection
+    /// holds. Without memory nothing changes.
+    pub fn stop(
+        &mut self,
+        alloc: Global,
+        now: Tick,
+        at: usize,
+        state: PortState,
+        ledger: &mut Ledger,
+    ) -> Result<(), Memory>
+        requires end { at < length self.old.journal.ends }
+        requires conn { at < length self.old.conns }
+        ensures { StopsIn now at state self.old ledger.old result self.new ledger.new }
+    {
+        let kept = self.conns.at(at).rx.kept();
+        let mut lines = ledger.take(alloc);
+        if lines.reserve(kept as usize).is_err() {
+            ledger.put(lines);
+            return Err(Memory);
+        }
+        self.conns.close(now, at, &mut lines);
+        ledger.put(lines);
+        self.journal.ends.set_state(at, state);
+        Ok(())
     }
 }
