@@ -1,4 +1,5 @@
 pub mod Added
+pub mod Adding
 pub mod Arrived
 pub mod ArrivesAt
 pub mod Coming
@@ -17,6 +18,7 @@ pub mod Received
 pub mod Receives
 pub mod Restated
 pub mod Retied
+pub mod Stopped
 pub mod Taking
 pub mod Told
 pub mod Unbroken

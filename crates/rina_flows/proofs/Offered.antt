@@ -107,7 +107,7 @@ entry_is : (c : Constants) (now : ℕ) (sdu : List ℕ) (line : Direction) (part
 entry_is c now sdu line parts num clock is joins =
     ap (λ (n : Num). record { tick = now; num = n; bytes = sdu }) is ∙ ap (λ (bytes : List ℕ). record { tick = now; num = record { cep = c.cep; seq = length (ready c now line.line.sender).run }; bytes = bytes }) (sym joins) ∙ ap (λ (n : ℕ). record { tick = n; num = record { cep = c.cep; seq = length (ready c n line.line.sender).run }; bytes = join parts }) (sym clock)
 
-conn_same : (k k' : Conn) → k'.sending ≡ k.sending → k'.rx ≡ k.rx → k'.plan ≡ k.plan → k'.given_up ≡ k.given_up → k' ≡ k
+pub conn_same : (k k' : Conn) → k'.sending ≡ k.sending → k'.rx ≡ k.rx → k'.plan ≡ k.plan → k'.given_up ≡ k.given_up → k' ≡ k
 conn_same k k' a b c d =
     ap (λ s. record { sending = s; rx = k'.rx; plan = k'.plan; given_up = k'.given_up }) a ∙ ap (λ r. record { sending = k.sending; rx = r; plan = k'.plan; given_up = k'.given_up }) b ∙ ap (λ p. record { sending = k.sending; rx = k.rx; plan = p; given_up = k'.given_up }) c ∙ ap (λ d. record { sending = k.sending; rx = k.rx; plan = k.plan; given_up = d }) d
 

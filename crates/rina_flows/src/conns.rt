@@ -1,6 +1,7 @@
 //! Connections, each at the place of its end.
-ghost use Rattle.std.specs.Prelude.{◌≡◌, ◌≤◌, ◌<◌, [], ◌∷◌, ◌++◌, length, slice_get, Some, MatchOption, OnOk, OnErr};
+ghost use Rattle.std.specs.Prelude.{◌≡◌, ◌≤◌, ◌<◌, [], ◌∷◌, ◌++◌, length, slice_get, Some, List, MatchOption, OnOk, OnErr};
 ghost use Rattle.std.specs.Vec.{vec_capacity};
+ghost use Rattle.rina_conn.specs.declared.conn.Conn.{Conn};
 ghost use Rattle.rina_base.specs.Pdus.{pdu_of};
 ghost use Rattle.rina_flows.specs.Delivering.{GivesUpAll, IsLanding, Receives, closed};
 ghost use Rattle.rina_flows.specs.Calls.{Becomes, IsOffer, IsPass, IsTold};
@@ -165,5 +166,13 @@ impl Conns {
         self.items.push_reserved(first);
         self.items.push_reserved(second);
         Ok(())
+    }
+
+    /// Takes the last two connections away.
+    pub fn pop_both(&mut self)
+        ensures { (was : List Conn) (first second : Conn) → self.old ≡ was ++ first ∷ second ∷ [] → self.new ≡ was }
+    {
+        let _ = self.items.pop();
+        let _ = self.items.pop();
     }
 }
