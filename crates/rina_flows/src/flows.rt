@@ -9,8 +9,8 @@ ghost use Rattle.rina_flows.specs.Calls.{Offered, Offers, PassesOne, TakenBy, Ta
 ghost use Rattle.rina_flows.specs.Delivering.{ArrivesIn, ForgetsIn, StopsIn};
 ghost use Rattle.rina_flows.specs.Tied.{conns_of, ids_of};
 
-use crate::conns::Conns;
 use crate::arriving::Notes;
+use crate::conns::Conns;
 use rina_account::Ledger;
 use rina_base::{Bytes, Cause, Memory, PduView, Tick};
 use rina_conn::{Conn, Form, Made, OfferError, Peer};
