@@ -36,8 +36,10 @@ delivering_more now old got room y b rest' k k' got1 got2 cap len num r bodies d
   where
     ids_same : ids_of k ≡ ids_of old
     ids_same = ap ids_of d.conn
+
     whole_is : k.rx.join.whole ≡ d.rest
     whole_is = ap (λ (x : Conn). x.rx.join.whole) d.conn
+
     go : (rest : List Sdu) → d.rest ≡ rest → IsDelivering now old got room (y ++ b ∷ []) k' got2
     go [] e = (let none : Some num ≡ None = is ∙ ap (next_num (ids_of k)) (whole_is ∙ e) in absurd cc)
     go (w ∷ ws) e =
@@ -60,7 +62,7 @@ delivering_more now old got room y b rest' k k' got1 got2 cap len num r bodies d
               let total : length old.rx.join.whole ≡ length d.done + (1 + length ws) = ap (λ (xs : List Sdu). length xs) all ∙ length-append d.done (w ∷ ws) ∙ ap (λ n. length d.done + n) (omega arith) in
               let done : got2 ≡ got1 ++ record { tick = now; num = num; bytes = b } ∷ [] = pushed got1 got2 (record { tick = now; num = num; bytes = b }) cap len r same put full (omega arith) in
               done ∙ ap (λ (xs : List Entry). xs ++ record { tick = now; num = num; bytes = b } ∷ []) so_far ∙ append_assoc got (map (entry_from (ids_of old) now) d.done) (record { tick = now; num = num; bytes = b } ∷ [])
-                ∙ ap (λ (x : Entry). got ++ (map (entry_from (ids_of old) now) d.done ++ x ∷ [])) (entry_same (ids_of old) now num b w num_is b_is) ∙ ap (λ (xs : List Entry). got ++ xs) (sym (map_append (entry_from (ids_of old) now) d.done (w ∷ [])));
+              ∙ ap (λ (x : Entry). got ++ (map (entry_from (ids_of old) now) d.done ++ x ∷ [])) (entry_same (ids_of old) now num b w num_is b_is) ∙ ap (λ (xs : List Entry). got ++ xs) (sym (map_append (entry_from (ids_of old) now) d.done (w ∷ [])));
         }
 
 nothing : (ws : List Sdu) → bytes_of ws ≡ [] → ws ≡ []
