@@ -26,7 +26,12 @@ pub struct IpcProcess {
 
 impl IpcProcess {
     /// Writes a PDU off.
-    pub fn write_off(&mut self, alloc: Global, hop: &HopView<'_>, cause: Cause) -> Result<(), Memory>
+    pub fn write_off(
+        &mut self,
+        alloc: Global,
+        hop: &HopView<'_>,
+        cause: Cause,
+    ) -> Result<(), Memory>
         ensures ok { OnOk result (Notes (process_of self.old) (hop_of hop.now).pdu cause (process_of self.new)) }
         ensures err { OnErr result (process_of self.new ≡ process_of self.old) }
         ensures cap { self.new.queues.cap ≡ self.old.queues.cap }
