@@ -108,7 +108,11 @@ fn walks_join_what_links_lead_to(rt: HostRuntime) -> Result<(), Fail> {
         (4, 0, false),
         (1, 9, false),
     ] {
-        assert_eq!(rt; are_joined(alloc, &halves, *one, *other)?, *joined, "{one} {other}");
+        assert_eq!(rt;
+            are_joined(alloc, &halves, *one, *other)?,
+            *joined,
+            "{one} {other}"
+        );
     }
     Ok(())
 }
