@@ -1,5 +1,6 @@
 pub mod Tables
 pub mod Named
+pub mod Indexing
 pub mod TwinSteps
 pub mod Labels
 pub mod Inversion

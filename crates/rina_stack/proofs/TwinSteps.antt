@@ -1,8 +1,10 @@
 -- The first text that stands among those before it, found step by step.
 use Rattle.std.proofs.Common.{◌≡◌, ℕ, ◌+◌, ◌<◌, ◌≤◌, Bool, true, false, List, length, map, take, drop, get_or, Bor, Option, Some, None, refl, sym, ap, ◌∙◌, arith}
 use Rattle.std.proofs.lemmas.Grind.{common_steps}
-use Rattle.std.proofs.lemmas.List.{drop_more, drop_all, length-map, take-map}
+use Rattle.std.proofs.lemmas.List.{drop_more, drop_all, length-map, get_or-map}
+use Rattle.std.specs.Prelude.{is_some}
 use Rattle.rina_stack.specs.Rules.{has_text, twin_after}
+use Rattle.rina_stack.proofs.Indexing.{seen}
 
 -- the text at a place stands among those before it
 found : (ts : List (List ℕ)) (i : ℕ) (d : List ℕ) → i < length ts → has_text (take i ts) (get_or ts i d) ≡ true → twin_after (take i ts) (drop i ts) ≡ Some i
@@ -19,30 +21,25 @@ none : (ts : List (List ℕ)) (i : ℕ) → length ts ≤ i → twin_after (take
 unfolding twin_after
 none ts i past = rw (drop_all i ts past) refl
 
-abbrev pub seen : List (Bor (List ℕ)) → List (List ℕ)
-seen xs = map (λ x. x.now) xs
-
 abbrev pub rest_after : List (Bor (List ℕ)) → ℕ → Option ℕ
 rest_after xs i = twin_after (take i (seen xs)) (drop i (seen xs))
 
-same_test : (xs before : List (Bor (List ℕ))) (i at : ℕ) (d : Bor (List ℕ)) (b : Bool) → at ≡ i → i < length xs → before ≡ take at xs → b ≡ has_text (seen before) (get_or xs i d).now
-    → b ≡ has_text (take i (seen xs)) (get_or (seen xs) i d.now)
-same_test xs before i at d b same within is test =
-    let front : seen before ≡ take i (seen xs) = rw (is, same) (sym (take-map (λ (x : Bor (List ℕ)). x.now) i xs)) in
-    let here : (get_or xs i d).now ≡ get_or (seen xs) i d.now = grind (arith, common_steps) in
-    test ∙ rw (front, here) refl
+same_text : (xs : List (Bor (List ℕ))) (i : ℕ) (d : Bor (List ℕ)) → i < length xs → get_or (seen xs) i d.now ≡ (get_or xs i d).now
+same_text xs i d within = get_or-map (λ (x : Bor (List ℕ)). x.now) xs i d d.now within
 
-pub twin_found : (xs before : List (Bor (List ℕ))) (i at : ℕ) (d : Bor (List ℕ)) (b : Bool) (total : Option ℕ) → at ≡ i → i < length xs → before ≡ take at xs → b ≡ has_text (seen before) (get_or xs i d).now
-    → b ≡ true → rest_after xs i ≡ total → Some at ≡ total
-twin_found xs before i at d b total same within is test passes so_far =
+pub twin_found : (xs : List (Bor (List ℕ))) (i at : ℕ) (d : Bor (List ℕ)) (old : Option ℕ) (total : Option ℕ) → at ≡ i → i < length xs → is_some old ≡ has_text (take i (seen xs)) (get_or xs i d).now
+    → is_some old ≡ true → rest_after xs i ≡ total → Some at ≡ total
+twin_found xs i at d old total same within test passes so_far =
     let room : i < length (seen xs) = omega (arith, length-map xs (λ (x : Bor (List ℕ)). x.now)) in
-    ap Some same ∙ sym (found (seen xs) i d.now room (sym (same_test xs before i at d b same within is test) ∙ passes)) ∙ so_far
+    let here : has_text (take i (seen xs)) (get_or (seen xs) i d.now) ≡ true = ap (has_text (take i (seen xs))) (same_text xs i d within) ∙ sym test ∙ passes in
+    ap Some same ∙ sym (found (seen xs) i d.now room here) ∙ so_far
 
-pub twin_goes_on : (xs before : List (Bor (List ℕ))) (i at : ℕ) (d : Bor (List ℕ)) (b : Bool) (total : Option ℕ) → at ≡ i → i < length xs → before ≡ take at xs → b ≡ has_text (seen before) (get_or xs i d).now
-    → b ≡ false → rest_after xs i ≡ total → rest_after xs (i + 1) ≡ total
-twin_goes_on xs before i at d b total same within is test fails so_far =
+pub twin_goes_on : (xs : List (Bor (List ℕ))) (i at : ℕ) (d : Bor (List ℕ)) (old : Option ℕ) (total : Option ℕ) → at ≡ i → i < length xs → is_some old ≡ has_text (take i (seen xs)) (get_or xs i d).now
+    → is_some old ≡ false → rest_after xs i ≡ total → rest_after xs (i + 1) ≡ total
+twin_goes_on xs i at d old total same within test fails so_far =
     let room : i < length (seen xs) = omega (arith, length-map xs (λ (x : Bor (List ℕ)). x.now)) in
-    sym (goes_on (seen xs) i d.now room (sym (same_test xs before i at d b same within is test) ∙ fails)) ∙ so_far
+    let other : has_text (take i (seen xs)) (get_or (seen xs) i d.now) ≡ false = ap (has_text (take i (seen xs))) (same_text xs i d within) ∙ sym test ∙ fails in
+    sym (goes_on (seen xs) i d.now room other) ∙ so_far
 
 pub no_twin : (xs : List (Bor (List ℕ))) (i : ℕ) (total : Option ℕ) → length xs ≤ i → rest_after xs i ≡ total → None ≡ total
 no_twin xs i total past so_far =

@@ -32,9 +32,9 @@ fn plain(alloc: Global, upto: u32, stack: &Value) -> Result<Sketch, StackError>
 {
     let scope = Scope {
         upto,
-        nodes: Places::of(Vec::new(alloc)),
-        wires: Places::of(Vec::new(alloc)),
-        difs: Places::of(Vec::new(alloc)),
+        nodes: Places::of(alloc, Vec::new(alloc))?,
+        wires: Places::of(alloc, Vec::new(alloc))?,
+        difs: Places::of(alloc, Vec::new(alloc))?,
         unknown: None,
     };
     sketch(alloc, &scope, stack)
@@ -68,9 +68,9 @@ fn resolved<P: Policies>(
     let difs = names_of_difs(alloc, named.difs.as_slice())?;
     let scope = Scope {
         upto: 7,
-        nodes: Places::of(nodes),
-        wires: Places::of(wires),
-        difs: Places::of(difs),
+        nodes: Places::of(alloc, nodes)?,
+        wires: Places::of(alloc, wires)?,
+        difs: Places::of(alloc, difs)?,
         unknown,
     };
     sketch(alloc, &scope, stack)

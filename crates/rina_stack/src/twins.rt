@@ -1,42 +1,29 @@
 //! Rule 5: no name stands twice.
 ghost use Rattle.std.specs.Prelude.{◌≡◌, ◌+◌, ◌*◌, ◌<◌, ◌≤◌, ◌++◌, length, map, IfOk, IfSome, OnOk, Ok, is_some};
-ghost use Rattle.std.specs.List.{list_any};
-ghost use Rattle.std.specs.Str.{bytes_eq};
 ghost use Rattle.rina_stack.specs.Faults.{Gives};
-ghost use Rattle.rina_stack.specs.Rules.{has_text, twin_in, wire_names, dif_names, flow_labels, labels, owner_of, earlier, facility_twin, label_twin, twin_fault};
+ghost use Rattle.rina_stack.specs.Rules.{twin_in, wire_names, dif_names, flow_labels, labels, owner_of, earlier, facility_twin, label_twin, twin_fault};
 
 use crate::error::{StackError, first_behind};
 use crate::sketch::{Sketch, WireSketch};
 use rina_base::Name;
 use rina_plan::{DifPlan, FlowPlan};
 use std::alloc::{AllocError, Global};
-
-fn is_here(texts: &[&[u8]], text: &[u8]) -> bool
-    ensures { result ≡ list_any (λ t. bytes_eq t.now text.now) texts.now }
-{
-    texts.iter().any(|other| *other == text)
-}
-
-fn is_among(texts: &[&[u8]], text: &[u8]) -> bool
-    ensures { result ≡ has_text (map (λ t. t.now) texts.now) text.now }
-{
-    is_here(texts, text)
-}
+use std::collections::BTreeMap;
 
 /// The place of the first text that stands among those before it.
-fn first_twin(texts: &[&[u8]]) -> Option<usize>
-    ensures place { result ≡ twin_in (map (λ t. t.now) texts.now) }
-    ensures within { IfSome result (λ i. i < length texts.now) }
+fn first_twin(alloc: Global, texts: &[&[u8]]) -> Result<Option<usize>, AllocError>
+    ensures place { IfOk result (λ f. f ≡ twin_in (map (λ t. t.now) texts.now)) }
+    ensures within { IfOk result (λ f. IfSome f (λ i. i < length texts.now)) }
 {
+    let mut seen = BTreeMap::new(alloc);
     let mut at = 0usize;
     'texts: for text in texts {
-        let (before, _) = texts.split_at(at);
-        if is_among(before, *text) {
-            return Some(at);
+        if seen.insert(*text, at)?.is_some() {
+            return Ok(Some(at));
         }
         at += 1;
     }
-    None
+    Ok(None)
 }
 
 /// The texts of names.
@@ -132,7 +119,7 @@ fn facility_named_twice(alloc: Global, sketch: &Sketch) -> Result<Option<usize>,
 {
     let mut names = names_of_wires(alloc, sketch.wires.as_slice())?;
     add_names_of_difs(&mut names, sketch.difs.as_slice())?;
-    match first_twin(names.as_slice()) {
+    match first_twin(alloc, names.as_slice())? {
         Some(at) => Ok(Some(1 + at)),
         None => Ok(None),
     }
@@ -143,7 +130,7 @@ fn dif_with_twin(alloc: Global, difs: &[DifPlan]) -> Result<Option<usize>, Alloc
     ensures within { IfOk result (λ f. IfSome f (λ i. i < length difs.now)) }
 {
     let labels = labels_of(alloc, difs)?;
-    match first_twin(labels.as_slice()) {
+    match first_twin(alloc, labels.as_slice())? {
         Some(at) => Ok(owner(difs, at)),
         None => Ok(None),
     }
@@ -164,7 +151,7 @@ fn node_named_twice(alloc: Global, nodes: &[Name]) -> Result<bool, AllocError>
     ensures { IfOk result (λ b. b ≡ is_some (twin_in nodes.now)) }
 {
     let texts = texts_of(alloc, nodes)?;
-    Ok(first_twin(texts.as_slice()).is_some())
+    Ok(first_twin(alloc, texts.as_slice())?.is_some())
 }
 
 /// The first item with a name that stands twice.

@@ -1,11 +1,9 @@
-use Rattle.std.proofs.Common.{List, ℕ, Bor, map, ap, sym, ◌∙◌}
-use Rattle.std.specs.Str.{bytes_eq}
+use Rattle.std.proofs.Common.{ℕ, List, sym, ap, ◌∙◌}
 use Rattle.rina_stack.specs.Names.{place_in}
-use Rattle.rina_stack.proofs.Tables.{position_map}
+use Rattle.rina_stack.proofs.Indexing.{place_within}
 use Rattle.rina_stack.proofs.scope.Places.find.Goals as goal
 
-pub returns-clause-place : goal.returns-clause-place
-returns-clause-place c =
-    let seen = λ (ts : List (Bor (List ℕ))). map (λ (t : Bor (List ℕ)). t.now) ts in
-    c.first_that_is.ensures.place ∙ sym (position_map (λ u. bytes_eq u c.args.text.now) (λ (t : Bor (List ℕ)). t.now) c.as_slice.result.now)
-    ∙ ap (λ (ts : List (Bor (List ℕ))). place_in (seen ts) c.args.text.now) c.as_slice.ensures.value ∙ ap (λ (ts : List (List ℕ)). place_in ts c.args.text.now) c.self.view_is
+pub returns-clause-within : goal.returns-clause-within
+returns-clause-within c =
+    place_within c.args.self.now c.args.text.now c.in_ok-at.at.now
+    (sym (c.in_ok-at.ensures.value ∙ c.self.invariant c.args.text.now ∙ ap (λ (ts : List (List ℕ)). place_in ts c.args.text.now) c.self.view_is))
