@@ -142,10 +142,7 @@ fn a_number_is_taken_as_it_was_put(rt: HostRuntime) -> Result<(), Fail> {
     put_number(&mut out, 0x01020304)?;
     out.push(9)?;
     assert_eq!(rt; out.as_slice(), [1, 2, 3, 4, 9].as_slice());
-    assert_eq!(rt;
-        take_number(&out),
-        Some((0x01020304, [9].as_slice()))
-    );
+    assert_eq!(rt; take_number(&out), Some((0x01020304, [9].as_slice())));
     assert!(rt; take_number(&[1, 2, 3]).is_none());
     Ok(())
 }
