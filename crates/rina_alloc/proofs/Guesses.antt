@@ -1,6 +1,5 @@
 -- What the fields of a message tell is the message itself.
-use Rattle.std.proofs.Common.{◌≡◌, ℕ, ◌+◌, ◌^◌, ◌<◌, ◌≤◌, ltb, false, List, [], ◌∷◌, ◌++◌, append-nil, length, Option, Some, Result, Ok, Err, IfOk, refl, sym, ap, ◌∙◌, arith}
-use Rattle.std.specs.Result.{result_ok}
+use Rattle.std.proofs.Common.{◌≡◌, ℕ, ◌^◌, ◌<◌, ltb, false, List, [], ◌∷◌, ◌++◌, append-nil, length, Option, Some, Result, Ok, Err, IfOk, refl, sym, ap, ◌∙◌, arith}
 use Rattle.std.proofs.lemmas.Bool.{le-ltb}
 use Rattle.std.proofs.lemmas.List.{take_at, drop_at, length-append}
 use Rattle.std.proofs.lemmas.Nat.{from_be_bytes-to_be_bytes_2}
@@ -20,8 +19,8 @@ use Rattle.rina_alloc.specs.declared.message.FlowWord.{FlowWord}
 use Rattle.rina_alloc.specs.declared.message.FlowWord.TheVariants as words
 use Rattle.rina_alloc.specs.declared.message.FlowMessage.{FlowMessage}
 use Rattle.rina_alloc.specs.Words.{code_of, dcep_of, number_of, answer_at}
-use Rattle.rina_alloc.specs.Messages.{operation_of, invoke_of, value_of, result_of, app_text, ask_text, message_of, IsSpelled, IsProper, IsAskInRange, IsWordInRange, IsInRange}
-use Rattle.rina_alloc.specs.Reading.{flow_in, cube_in, text_in, fixed, fixed_in, ask_in, answer_in, delete_in, word_in, message_to, guessed}
+use Rattle.rina_alloc.specs.Messages.{operation_of, invoke_of, result_of, app_text, ask_text, message_of, IsSpelled, IsProper, IsAskInRange, IsWordInRange, IsInRange}
+use Rattle.rina_alloc.specs.Reading.{flow_in, text_in, fixed, fixed_in, ask_in, answer_in, delete_in, word_in, message_to, guessed}
 
 flow_again : (f : FlowName) (rest : List ℕ) → f.src < 2 ^ 32 → f.tick < 2 ^ 32 → f.count < 2 ^ 32 → flow_in (be4 f.src ++ (be4 f.tick ++ (be4 f.count ++ rest))) ≡ Some (f, rest)
 unfolding flow_in

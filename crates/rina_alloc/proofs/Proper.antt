@@ -1,22 +1,20 @@
 -- Which messages can be written, and how long they are.
-use Rattle.std.proofs.Common.{◌≡◌, ℕ, ◌+◌, ◌<◌, ◌≤◌, true, List, [], ◌∷◌, ◌++◌, length, Some, None, is_some, Ok, refl, ap, ◌∙◌, arith}
+use Rattle.std.proofs.Common.{◌≡◌, ℕ, ◌+◌, ◌<◌, ◌≤◌, true, List, [], ◌∷◌, ◌++◌, length, Some, None, is_some, refl, ap, ◌∙◌, arith}
 use Rattle.std.specs.Prelude.{codes}
 use Rattle.std.proofs.lemmas.List.{length-append}
-use Rattle.rina_base.specs.Names.{is_name_byte, length_at, bad_at, bytes_at, name_at, app_at}
+use Rattle.rina_base.specs.Names.{is_name_byte, length_at, bad_at, bytes_at, name_at}
 use Rattle.rina_base.proofs.Lengths.{app_short}
 use Rattle.rina_cdap.specs.Messages.{Field, field, be2, be4, byte, has_form, IsRow, contents, fields, is_response, whole_fault}
 use Rattle.rina_cdap.specs.ObjectNames.{is_part_byte, parts_from, is_object_name_of}
 use Rattle.rina_cdap.proofs.Contents.{spells, lawful, front_row, value_row, result_row, addresses_row, size, length-text}
 use Rattle.rina_cdap.proofs.Numbers.{length-number}
 use Rattle.rina_cdap.proofs.Written.{row_fault-message}
-use Rattle.rina_alloc.specs.declared.answer.FlowAnswer.{FlowAnswer}
-use Rattle.rina_alloc.specs.declared.answer.FlowAnswer.TheVariants as answers
 use Rattle.rina_alloc.specs.declared.message.FlowAsk.{FlowAsk}
 use Rattle.rina_alloc.specs.declared.message.FlowWord.{FlowWord}
 use Rattle.rina_alloc.specs.declared.message.FlowWord.TheVariants as words
 use Rattle.rina_alloc.specs.declared.message.FlowMessage.{FlowMessage}
 use Rattle.rina_alloc.specs.Words.{code_of, dcep_of, number_of}
-use Rattle.rina_alloc.specs.Messages.{operation_of, value_of, result_of, app_text, ask_text, message_of, IsSpelled, IsProper}
+use Rattle.rina_alloc.specs.Messages.{value_of, app_text, ask_text, message_of, IsSpelled, IsProper}
 use Rattle.rina_alloc.specs.Reading.{message_to}
 
 flow_class : has_form 3 (codes "flow") ≡ true

@@ -1,8 +1,6 @@
 -- Each answer of a far end has the numbers of an answer.
-use Rattle.std.proofs.Common.{◌≡◌, ℕ, Bool, true, false, Option, Some, None, IsSome, refl, ap, subst, arith}
-use Rattle.std.specs.Prelude.{if◌then◌else◌, not, ◌||◌}
+use Rattle.std.proofs.Common.{◌≡◌, ℕ, Bool, true, false, Option, Some, None, IsSome, refl, subst}
 use Rattle.rina_alloc.specs.declared.asked.Asked.{Asked}
-use Rattle.rina_alloc.specs.declared.answer.FlowAnswer.{FlowAnswer}
 use Rattle.rina_alloc.specs.declared.event.Pair.{Pair}
 use Rattle.rina_alloc.specs.declared.event.AskEvent.{AskEvent}
 use Rattle.rina_alloc.specs.declared.event.AskEvent.TheVariants as events

@@ -1,10 +1,8 @@
 -- The messages about flows as CDAP messages, field by field.
-use Rattle.std.specs.Prelude.{◌≡◌, ℕ, ◌<◌, ◌≤◌, ◌^◌, List, [], ◌∷◌, ◌++◌, length, Option, Some, None, Ok, codes}
+use Rattle.std.specs.Prelude.{◌≡◌, ℕ, ◌<◌, ◌^◌, List, ◌∷◌, ◌++◌, length, Option, Some, None, Ok, codes}
 use Rattle.rina_base.specs.Names.{app_at}
-use Rattle.rina_base.specs.declared.number.FlowName.{FlowName}
 use Rattle.rina_cdap.specs.Messages.{be2, be4, Spells}
 use Rattle.rina_cdap.specs.declared.message.Message.{Message}
-use Rattle.rina_alloc.specs.declared.answer.FlowAnswer.{FlowAnswer}
 use Rattle.rina_alloc.specs.declared.message.FlowAsk.{FlowAsk}
 use Rattle.rina_alloc.specs.declared.message.FlowWord.{FlowWord}
 use Rattle.rina_alloc.specs.declared.message.FlowWord.TheVariants as words

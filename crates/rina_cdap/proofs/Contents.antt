@@ -1,5 +1,5 @@
 -- Contents that have the form of their tag, and rows of them.
-use Rattle.std.proofs.Common.{◌≡◌, ℕ, ◌+◌, ◌<◌, ◌≤◌, Bool, true, ◌&&◌, leb, List, [], ◌∷◌, ◌++◌, length, None, Result, Ok, Err, IfErr, is_ok, refl, ap, arith}
+use Rattle.std.proofs.Common.{◌≡◌, ℕ, ◌+◌, ◌<◌, ◌≤◌, Bool, true, ◌&&◌, leb, List, [], ◌∷◌, length, None, Result, Ok, Err, IfErr, is_ok, refl, ap, arith}
 use Rattle.std.specs.Global.{Vec}
 use Rattle.std.proofs.lemmas.Bool.{le-leb}
 use Rattle.std.proofs.lemmas.List.{length-append}
@@ -11,7 +11,6 @@ use Rattle.rina_cdap.specs.declared.message.Message.{Message}
 use Rattle.rina_cdap.specs.Messages.{Field, field, be2, be4, byte, has_form, IsLawful, IsRow, field_text, text, fields, row_fault, Spells}
 use Rattle.rina_cdap.specs.ObjectNames.{is_object_name_of}
 use Rattle.rina_cdap.specs.Writing.{Makes}
-use Rattle.rina_cdap.proofs.Numbers.{length-number}
 
 -- only want of memory stops what can be written
 pub only_memory : (r : Result (Vec ℕ) CdapError) (bytes : List ℕ) → Makes r (Ok bytes) → IfErr r (λ e. e ≡ Memory)

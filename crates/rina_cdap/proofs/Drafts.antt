@@ -1,13 +1,13 @@
 -- What is kept while fields are read, and the faults that end it.
-use Rattle.std.proofs.Common.{◌≡◌, ℕ, zero, suc, ◌+◌, ◌-◌, ◌<◌, ◌≤◌, ◌⊎◌, inl, inr, List, [], ◌∷◌, ◌++◌, length, get_or, Option, Some, None, is_some, option_map, Result, Ok, Err, refl, sym, ap, subst, ◌∙◌, append_assoc, append-nil, arith}
+use Rattle.std.proofs.Common.{◌≡◌, ℕ, ◌-◌, ◌<◌, ◌≤◌, ◌⊎◌, inl, inr, List, [], ◌∷◌, ◌++◌, length, get_or, Option, Some, None, is_some, option_map, Result, Ok, Err, refl, sym, ap, subst, ◌∙◌, append_assoc, append-nil, arith}
 use Rattle.std.proofs.Math.ListN.{set}
 use Rattle.std.proofs.lemmas.List.{length-append}
 use Rattle.rina_cdap.specs.declared.error.CdapError.{CdapError}
 use Rattle.rina_cdap.specs.declared.error.CdapError.TheVariants.{Memory, Short, BadTag, BadOp, Twice, Missing, BadValue}
 use Rattle.rina_cdap.specs.declared.message.Message.{Message}
 use Rattle.rina_cdap.specs.declared.reading.Draft.{Draft}
-use Rattle.rina_cdap.specs.Messages.{Field, field, byte, be4, IsLawful, IsRow, last_tag, field_text, text, whole_fault, content_of, row_fault, row, contents, fields, Spells}
-use Rattle.rina_cdap.specs.Reading.{field_at, fault_of, fault_behind, IsFault, IsNext, Faulty, Reads, drafted, drafted_fields, Drafts, draft_fault, Finishes}
+use Rattle.rina_cdap.specs.Messages.{Field, field, byte, be4, IsLawful, IsRow, last_tag, field_text, text, row_fault, row, fields}
+use Rattle.rina_cdap.specs.Reading.{field_at, fault_of, fault_behind, IsFault, IsNext, Faulty, Reads, drafted, drafted_fields, draft_fault, Finishes}
 use Rattle.rina_cdap.proofs.Rows.{text-append, last_tag-push, row-push, below_row, row_set, content_row}
 
 -- the fields that were read are a row, and the bytes are theirs and those that are left

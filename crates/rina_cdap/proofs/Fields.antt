@@ -1,14 +1,13 @@
 -- The field that stands in front of bytes: it is there exactly where they begin with its text.
-use Rattle.std.proofs.Common.{◌≡◌, ℕ, zero, suc, ◌+◌, ◌^◌, ◌<◌, ◌≤◌, Bool, true, false, cond, ltb, not, ◌||◌, ◌&&◌, eqb, leb, is_ok, ◌⊎◌, inl, inr, List, [], ◌∷◌, ◌++◌, length, get_or, take, drop, Option, Some, None, refl, sym, ap, subst, ◌∙◌, append_assoc, arith}
-use Rattle.std.specs.Int.{w16, from_be_bytes, to_be_bytes}
-use Rattle.std.proofs.lemmas.Bool.{ltb-false, ltb-true, le-ltb, eqb-true, eqb-false, leb-true, ne_eqb, and_left, and_right, and_cases, or_parts, or_from}
+use Rattle.std.proofs.Common.{◌≡◌, ℕ, zero, suc, ◌^◌, ◌<◌, ◌≤◌, Bool, true, false, cond, ltb, ◌||◌, ◌&&◌, eqb, leb, is_ok, ◌⊎◌, inl, inr, List, [], ◌∷◌, ◌++◌, length, get_or, take, drop, Option, Some, None, refl, sym, ap, subst, arith}
+use Rattle.std.specs.Int.{w16, from_be_bytes}
+use Rattle.std.proofs.lemmas.Bool.{ltb-false, le-ltb, eqb-true, eqb-false, leb-true, ne_eqb, and_left, and_right, and_cases, or_parts, or_from}
 use Rattle.std.proofs.lemmas.List.{take_at, drop_at, take-append-drop, length-append, length-take}
 use Rattle.std.proofs.lemmas.Nat.{be_bytes_2, from_be_bytes-to_be_bytes_2}
-use Rattle.std.proofs.lemmas.Grind.{common_steps}
 use Rattle.rina_base.specs.Names.{name_at, app_at}
 use Rattle.rina_cdap.specs.ObjectNames.{is_object_name_of}
 use Rattle.rina_cdap.specs.declared.error.CdapError.{CdapError}
-use Rattle.rina_cdap.specs.declared.error.CdapError.TheVariants.{Short, BadTag, BadOp, Twice, BadValue}
+use Rattle.rina_cdap.specs.declared.error.CdapError.TheVariants.{BadTag, BadOp, Twice, BadValue}
 use Rattle.rina_cdap.specs.Messages.{Field, field, be2, has_form, IsLawful, field_text}
 use Rattle.rina_cdap.specs.Reading.{field_at, field_fault}
 

@@ -1,5 +1,5 @@
 -- What a name that was read is, and when a text is an application name.
-use Rattle.std.proofs.Common.{◌≡◌, ℕ, ◌+◌, Bool, true, false, ◌&&◌, List, take, drop, drop-drop, Option, Some, None, Result, Ok, Err, is_ok, refl, sym, ap, ◌∙◌}
+use Rattle.std.proofs.Common.{◌≡◌, ℕ, ◌+◌, ◌&&◌, List, take, drop, drop-drop, Option, Some, None, Result, Ok, Err, is_ok, refl, ap, ◌∙◌}
 use Rattle.rina_base.specs.declared.name.NameError.{NameError}
 use Rattle.rina_base.specs.Traverse.{◌>>=◌}
 use Rattle.rina_base.specs.Names.{length_at, bad_at, unless_bad, bytes_at, name_at, ipc_at, slash_in, app_cut, app_at}

@@ -1,5 +1,5 @@
 -- A number that stands in front of bytes is taken, and it has four bytes.
-use Rattle.std.proofs.Common.{◌≡◌, ℕ, ◌^◌, ◌<◌, List, [], ◌∷◌, ◌++◌, length, Option, Some, refl, ap}
+use Rattle.std.proofs.Common.{◌≡◌, ℕ, ◌^◌, ◌<◌, List, [], ◌++◌, length, Option, Some, refl, ap}
 use Rattle.std.proofs.lemmas.Nat.{from_be_bytes-to_be_bytes_4}
 use Rattle.rina_cdap.specs.Messages.{be4}
 use Rattle.rina_cdap.specs.Numbers.{number_at}

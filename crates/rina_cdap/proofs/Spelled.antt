@@ -1,12 +1,12 @@
 -- Bytes begin with one row of fields only: so they spell one message, or have one first fault.
-use Rattle.std.proofs.Common.{◌≡◌, ℕ, zero, suc, ◌+◌, ◌^◌, ◌<◌, ◌≤◌, List, [], ◌∷◌, ◌++◌, length, Option, Some, None, option_map, Result, Ok, Err, IfOk, refl, sym, ap, subst, ◌∙◌, append_assoc, append-nil, arith}
+use Rattle.std.proofs.Common.{◌≡◌, ℕ, ◌+◌, ◌^◌, ◌<◌, ◌≤◌, List, [], ◌∷◌, ◌++◌, length, Option, Some, None, option_map, Result, Ok, Err, IfOk, refl, sym, ap, subst, ◌∙◌, append_assoc, append-nil, arith}
 use Rattle.std.specs.Int.{w32, w64, from_be_bytes}
 use Rattle.std.proofs.lemmas.Nat.{from_be_bytes-to_be_bytes_4, from_be_bytes-to_be_bytes_8}
 use Rattle.rina_cdap.specs.declared.error.CdapError.{CdapError}
 use Rattle.rina_cdap.specs.declared.error.CdapError.TheVariants.{Memory, Short, BadTag, BadOp, Twice, Missing, BadValue}
 use Rattle.rina_cdap.specs.declared.message.Message.{Message}
-use Rattle.rina_cdap.specs.Messages.{Field, field, byte, be4, be8, has_form, IsLawful, IsRow, last_tag, field_text, text, row_fault, row, contents, fields, Spells, IfThere, InRange}
-use Rattle.rina_cdap.specs.Reading.{field_at, field_fault, fault_of, fault_behind, IsFault, Faulty, Reads, Gives}
+use Rattle.rina_cdap.specs.Messages.{Field, field, byte, be4, be8, IsLawful, IsRow, last_tag, field_text, text, row_fault, row, contents, fields, Spells, IfThere, InRange}
+use Rattle.rina_cdap.specs.Reading.{field_at, fault_of, fault_behind, IsFault, Reads, Gives}
 use Rattle.rina_cdap.proofs.Fields.{form_short, field_again, lawful_fine}
 
 -- no field that may stand behind one of tag `last` is in front

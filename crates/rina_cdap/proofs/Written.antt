@@ -1,12 +1,12 @@
 -- What is written is what a message is spelled by.
-use Rattle.std.proofs.Common.{◌≡◌, ℕ, zero, suc, ◌+◌, ◌<◌, ◌≤◌, Bool, true, false, cond, not, ◌&&◌, ◌||◌, eqb, ltb, List, [], ◌∷◌, ◌++◌, length, get_or, Option, Some, None, is_some, option_map, Result, Ok, Err, IfOk, refl, sym, ap, subst, ◌∙◌, append_assoc, append-nil, arith}
-use Rattle.std.proofs.lemmas.Bool.{ltb-false, le-ltb, eqb-true, eqb-false, ne_eqb, eq-eqb}
+use Rattle.std.proofs.Common.{◌≡◌, ℕ, ◌+◌, ◌<◌, ◌≤◌, Bool, true, false, cond, not, ◌&&◌, ◌||◌, eqb, ltb, List, [], ◌∷◌, ◌++◌, length, Option, Some, None, is_some, option_map, Result, Ok, Err, IfOk, refl, sym, ap, subst, ◌∙◌, append_assoc, append-nil, arith}
+use Rattle.std.proofs.lemmas.Bool.{le-ltb}
 use Rattle.std.specs.Global.{Vec}
 use Rattle.rina_base.specs.Traverse.{◌>>=◌}
 use Rattle.rina_cdap.specs.declared.error.CdapError.{CdapError}
 use Rattle.rina_cdap.specs.declared.error.CdapError.TheVariants.{BadOp, Missing, BadValue}
 use Rattle.rina_cdap.specs.declared.message.Message.{Message}
-use Rattle.rina_cdap.specs.Messages.{Field, field, byte, be4, has_form, IsLawful, IsRow, field_text, text, is_response, whole_fault, content_of, row_fault, row, contents, fields, Spells}
+use Rattle.rina_cdap.specs.Messages.{Field, field, byte, has_form, IsLawful, IsRow, field_text, text, is_response, whole_fault, content_of, row_fault, row, contents, fields, Spells}
 use Rattle.rina_cdap.specs.Writing.{cell_written, cells_written, written, Makes}
 use Rattle.rina_cdap.proofs.Fields.{form_operation}
 use Rattle.rina_cdap.proofs.Rows.{content_row}

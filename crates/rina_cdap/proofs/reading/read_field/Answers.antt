@@ -1,5 +1,5 @@
 -- A field without a fault is lawful.
-use Rattle.std.proofs.Common.{arith, ◌∙◌}
+use Rattle.std.proofs.Common.{arith}
 use Rattle.rina_cdap.specs.Messages.{field}
 use Rattle.rina_cdap.proofs.Fields.{fine_lawful, field_takes}
 use Rattle.rina_cdap.proofs.reading.read_field.Goals as goal

@@ -2,7 +2,7 @@ use Rattle.std.proofs.Common.{arith, refl, sym, ◌∙◌}
 use Rattle.std.proofs.lemmas.Bool.{eqb-false}
 use Rattle.std.proofs.lemmas.Result.{err_from_is_err_and}
 use Rattle.rina_cdap.specs.Reading.{drafted}
-use Rattle.rina_cdap.proofs.Drafts.{kept_on, shorter, fault_here, all_read}
+use Rattle.rina_cdap.proofs.Drafts.{kept_on, shorter, fault_here}
 use Rattle.rina_cdap.proofs.reading.read_fields.Goals as goal
 
 pub fields-init : goal.fields-init
