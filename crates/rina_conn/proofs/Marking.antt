@@ -59,5 +59,5 @@ marks_row now unpassed pdu last_in old result new last row passes c m j mark st 
     let P : Bool → Type 0 = λ b. PassesOn now last_in b old.plan new.plan in
     mark_is _ now last_in old.plan new.plan (subst P same passes) c m mark plan last'
 
-pub passes_row : (now : ℕ) (last_in : Option ℕ) (old new : Conn) → TellsLastIn old.rx last_in → TellsPass now last_in old.plan new.plan → Passes now old new
-passes_row now last_in old new last passes c m j mark st none plan = passes c m mark plan (last_is m last_in (last c now m j st) none)
+pub marks_passed : (now : ℕ) (last_in : Option ℕ) (old new : Conn) → TellsLastIn old.rx last_in → TellsPass now last_in old.plan new.plan → Passes now old new
+marks_passed now last_in old new last passes c m j mark st none plan = passes c m mark plan (last_is m last_in (last c now m j st) none)

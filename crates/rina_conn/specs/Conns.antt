@@ -1,5 +1,5 @@
 -- A connection: a sender and a receiver of the machine, the mark of the next acknowledgement, and pieces that are given up.
-use Rattle.std.specs.Prelude.{◌≡◌, ◌≢◌, ℕ, Bool, true, false, List, [], ◌∷◌, Option, Some, None}
+use Rattle.std.specs.Prelude.{◌≡◌, ◌≢◌, ℕ, ◌*◌, Bool, true, false, not, ◌&&◌, if◌then◌else◌, List, [], ◌∷◌, Option, Some, None}
 use Rattle.rina_base.specs.declared.cause.Cause.{Cause}
 use Rattle.rina_base.specs.declared.cause.Cause.TheVariants as cause
 use Rattle.rina_base.specs.declared.number.Key.{Key}
@@ -10,6 +10,7 @@ use Rattle.rina_dtcp.specs.Plans.{Plan, IsPlanOf, TellsNote}
 use Rattle.rina_dtp.specs.declared.verdict.Verdict.{Verdict}
 use Rattle.rina_dtp.specs.declared.verdict.Verdict.TheVariants.{Accept, Hold, Off}
 use Rattle.rina_dtp.specs.Fetching.{StandsAsBefore}
+use Rattle.rina_dtp.specs.Joins.{first_number}
 use Rattle.rina_dtp.specs.Observed.{IsNew}
 use Rattle.rina_dtp.specs.Receiving.{present_at, drops}
 use Rattle.rina_dtp.specs.Stands.{Stands, IsFetched, IsWelcome, verdict_of}
@@ -18,10 +19,9 @@ use Rattle.rina_law.specs.Pdus.{piece_in}
 use Rattle.rina_law.specs.Pieces.{Joiner}
 use Rattle.rina_law.specs.Receiver.{Receiver, is_present, mark_after, mark_passed}
 use Rattle.rina_conn.specs.declared.conn.Conn.{Conn}
-use Rattle.rina_conn.specs.declared.conn.ConnDue.{ConnDue}
-use Rattle.rina_conn.specs.declared.conn.ConnDue.TheVariants.{Idle, Gone}
 use Rattle.rina_conn.specs.declared.form.Peer.{Peer}
 use Rattle.rina_conn.specs.Sending.{IsNewSender}
+use Rattle.rina_conn.specs.Waiting.{Waits, with_whole, begun}
 
 -- nothing was sent or received, and no acknowledgement is planned
 pub record IsNewConn (cube : Cube) (piece max : ℕ) (peer : Peer) (k : Conn) : Type 0 where
@@ -32,6 +32,7 @@ pub record IsNewConn (cube : Cube) (piece max : ℕ) (peer : Peer) (k : Conn) : 
   pub receives : IsNew cube piece k.rx
   pub plan_is : k.plan ≡ record { a = cube.a; delta = delta_of cube; mark = None }
   pub none_given_up : k.given_up ≡ None
+  pub none_waits : k.waiting ≡ record { room = 2 * cube.window; earlier = 0; firsts = [] }
 
 -- a piece that was accepted, also where its SDU is broken, held, or a duplicate wants an acknowledgement
 abbrev pub marks : Verdict → Bool
@@ -73,13 +74,25 @@ abbrev pub IsGone : ℕ → Conn → Bool → Type 0
 IsGone now k true = (present_at now k.rx ≡ false) × (drops_of now k ≢ [])
 IsGone now k false = (present_at now k.rx ≡ false) → drops_of now k ≡ []
 
--- item 3 is due exactly then, and no other item is
-abbrev pub IsClockDue : ℕ → ℕ → Conn → ConnDue → Type 0
-IsClockDue now item k Gone = (item ≡ 3) × IsGone now k true
-IsClockDue now item k Idle = item ≡ 3 → IsGone now k false
-
 -- all but what is given up is as before
 pub record StandsStill (now : ℕ) (old new : Conn) : Type 0 where
   pub sending : new.sending ≡ old.sending
   pub plan : new.plan ≡ old.plan
   pub receiver : StandsAsBefore now old.rx new.rx
+  pub waiting : new.waiting ≡ old.waiting
+  pub whole : new.rx.join.whole ≡ old.rx.join.whole
+
+-- The SDUs that wait to be passed
+
+-- the first of those that are to be fetched is noted
+abbrev pub notes_next : Conn → Conn
+notes_next k = record k { waiting = with_whole (first_number k.rx.join.whole) k.waiting }
+
+-- a piece that was accepted where no state stood begins one
+abbrev pub is_accepted : Verdict → Bool
+is_accepted (Accept whole) = true
+is_accepted (Off (cause.Broken missing)) = true
+is_accepted _ = false
+
+abbrev pub waits_after : Bool → Verdict → ℕ → Waits → Waits
+waits_after present told unpassed w = if not present && is_accepted told then begun unpassed w else w

@@ -1,5 +1,6 @@
 -- What the sending half of a connection does, in the terms of the machine's sender for which it stands.
-use Rattle.std.specs.Prelude.{◌≡◌, ℕ, ◌-◌, ◌^◌, ◌<◌, ◌≤◌, Bool, true, List, length, map, Option, Some, None, option_map, Result, Ok, Err, if◌then◌else◌}
+use Rattle.std.specs.Prelude.{◌≡◌, ℕ, ◌-◌, ◌^◌, ◌<◌, ◌≤◌, Bool, true, false, List, length, map, Option, Some, None, option_map, Result, Ok, Err, if◌then◌else◌}
+use Rattle.rina_base.specs.declared.pdu.Pdu.{Pdu}
 use Rattle.rina_cube.specs.Cubes.{is_reliable, delta_of}
 use Rattle.rina_delim.specs.declared.part.Part as delim
 use Rattle.rina_delim.specs.Parts.{parts_of}
@@ -8,12 +9,12 @@ use Rattle.rina_dtcp.specs.Rows as dtcp
 use Rattle.rina_dtcp.specs.Rows.{Stands, ready}
 use Rattle.rina_dtp.specs.declared.numbers.Numbers.{Numbers}
 use Rattle.rina_dtp.specs.declared.numbers.NumbersSpent as numbers
-use Rattle.rina_dtp.specs.Numbers.{Counts, TakesNumbers}
+use Rattle.rina_dtp.specs.Numbers.{Counts, TakesNumbers, NotesAgain}
 use Rattle.rina_law.specs.Constants.{Constants}
 use Rattle.rina_law.specs.Line.{opening}
 use Rattle.rina_law.specs.Pieces.{Part, IsCut, join}
 use Rattle.rina_law.specs.Sender as law
-use Rattle.rina_law.specs.Sender.{Sender, Refusal, refusal, pieces_for, sender_with_all, sender_told, room_of, is_absent, given_up}
+use Rattle.rina_law.specs.Sender.{Sender, Refusal, refusal, pieces_for, sender_with_all, sender_told, room_of, is_absent, given_up, again_due, piece_again}
 use Rattle.rina_conn.specs.declared.form.Form.{Form}
 use Rattle.rina_conn.specs.declared.made.Made.{Made}
 use Rattle.rina_conn.specs.declared.made.OfferError.{OfferError}
@@ -119,3 +120,24 @@ TellsNext now s next = (c : Constants) (m : Sender) → IsSender c m s → next 
 -- the number that is given up
 abbrev pub TellsGivenUp : ℕ → Sending → Option GaveUp → Type 0
 TellsGivenUp now s told = (c : Constants) (m : Sender) → IsSender c m s → told ≡ option_map (dtcp.gave_up_of (carry s.form.peer s.form.cube.id) now m) (given_up c now m)
+
+-- A number that is sent again
+
+-- the PDU of it
+abbrev pub TellsAgain : ℕ → Sending → Option Pdu → Type 0
+TellsAgain now s told = (c : Constants) (m : Sender) → IsSender c m s → told ≡ option_map (λ n. carry s.form.peer s.form.cube.id (piece_again n m)) (again_due c now m)
+
+-- the numbers are noted as made again, or as before
+abbrev pub NotesIf : Bool → ℕ → Numbers → Numbers → Type 0
+NotesIf true now old new = NotesAgain now old new
+NotesIf false now old new = new ≡ old
+
+pub record SendsAgain (now : ℕ) (old new : Sending) : Type 0 where
+  pub form : new.form ≡ old.form
+  pub max : new.numbers.max ≡ old.numbers.max
+  pub stands : (c : Constants) (m : Sender) → IsSender c m old → IsSender c (dtcp.after_again (again_due c now m) now m) new
+
+pub record IsResent (now : ℕ) (old : Sending) (lent : Option Pdu) (new : Sending) : Type 0 where
+  pub told : TellsAgain now old lent
+  pub sends : SendsAgain now old new
+  pub idle : lent ≡ None → new ≡ old

@@ -1,44 +1,55 @@
 //! A connection.
-ghost use Rattle.std.specs.Prelude.{◌≡◌, ◌≤◌, ◌^◌, ◌-◌, min, length, false, true, [], None, IfOk};
+ghost use Rattle.std.specs.Prelude.{◌≡◌, ◌≤◌, ◌+◌, ◌-◌, ◌^◌, min, length, true, [], None, IfOk, if◌then◌else◌};
 ghost use Rattle.std.specs.Borrow.{sem};
 ghost use Rattle.rina_base.specs.Pdus.{pdu_of};
-ghost use Rattle.rina_cube.specs.Cubes.{IsCube, is_reliable};
+ghost use Rattle.rina_cube.specs.Cubes.{IsCube};
+ghost use Rattle.rina_dtcp.specs.Plans.{without};
 ghost use Rattle.rina_dtp.specs.Fetching.{TakesFirst};
 ghost use Rattle.rina_dtp.specs.Lending.{IsFirst};
-ghost use Rattle.rina_conn.specs.Lending.{LendsWhole};
 ghost use Rattle.rina_dtp.specs.Observed.{TellsNext};
 ghost use Rattle.rina_dtp.specs.Receiving.{kept_numbers};
-ghost use Rattle.rina_dtp.specs.Stands.{IsRow};
+ghost use Rattle.rina_dtp.specs.Stands.{IsRow, IsAhead};
+ghost use Rattle.rina_conn.specs.Clock.{IsClockDue, AnswersGone, AnswersGaveUp, AnswersAck, AnswersAgain, IsAfter, LendsDue, plan_is_due, first_open};
+ghost use Rattle.rina_conn.specs.Conns.{Marks, Passes, marks, IsNewConn, drops_of, IsGone, StandsStill, PassesOn, notes_next, is_accepted, waits_after};
+ghost use Rattle.rina_conn.specs.Lending.{LendsWhole};
 ghost use Rattle.rina_conn.specs.Sending as send;
-ghost use Rattle.rina_conn.specs.Conns.{Marks, Passes, marks, IsNewConn, drops_of, IsGone, IsClockDue, StandsStill, PassesOn};
+ghost use Rattle.rina_conn.specs.Standing.{Arrives, PassesFirst};
 
 use crate::form::{Form, Peer};
 use crate::made::{Made, OfferError};
 use crate::sending::Sending;
-use rina_base::{Cause, Key, Memory, PduView, Tick};
-use rina_cube::Cube;
-use rina_dtcp::AckPlan;
-use rina_dtp::{Rx, Sdu, Verdict};
+use crate::waiting::Waiting;
+use rina_base::{Cause, Key, Memory, Pdu, PduView, Tick};
+use rina_cube::{Cube, Kind};
+use rina_dtcp::{AckPlan, Credit, GaveUp};
+use rina_dtp::{Bodies, Rx, Sdu, Verdict};
 use std::alloc::Global;
 
-/// One end of a connection of a datagram or loose cube: what it sends, what it receives, and when an
-/// acknowledgement would be due.
+/// One end of a connection: what it sends, what it receives, when an acknowledgement is due, and the SDUs that
+/// wait to be passed.
 #[derive(Drop)]
 pub struct Conn {
     pub sending: Sending,
     pub rx: Rx,
     pub plan: AckPlan,
+    pub waiting: Waiting,
     /// The first of the pieces that were given up because the receiver's state ended, where it was taken out.
     pub given_up: Option<(Key, Cause)>,
 }
 
 /// What a clock step does for a connection.
-#[derive(Clone, Copy, Debug, PartialEq, Eq)]
-pub enum ConnDue {
+#[derive(Clone, Copy)]
+pub enum ConnDue<'a> {
     /// Nothing is due.
     Idle,
     /// Pieces are given up that were held by a state that has ended.
     Gone,
+    /// A number is given up.
+    GaveUp(GaveUp),
+    /// An acknowledgement is made: all numbers up to `ack` were accepted, and numbers up to `right` may be sent.
+    Ack { ack: u32, right: u32 },
+    /// A piece is sent again.
+    Again(&'a Pdu),
 }
 
 /// Whether a piece of this verdict wants an acknowledgement: it was accepted, held, or a duplicate.
@@ -53,12 +64,21 @@ fn wants_ack(verdict: Verdict) -> bool
     )
 }
 
+/// Whether a piece of this verdict was accepted.
+fn is_accepted(verdict: Verdict) -> bool
+    ensures { result ≡ is_accepted verdict }
+{
+    matches!(
+        verdict,
+        Verdict::Accept { .. } | Verdict::Off(Cause::Broken { .. })
+    )
+}
+
 impl Conn {
     /// A connection on which nothing was sent or received, with numbers up to `max` and pieces of at most
     /// `piece` bytes. Takes the memory that all calls but `offer` and `ahead` need.
     pub fn new(alloc: Global, cube: &Cube, piece: u32, max: u32, peer: Peer) -> Result<Conn, Memory>
         requires cube { IsCube cube.now }
-        requires kind { is_reliable cube.now.kind ≡ false }
         requires piece { 1 ≤ piece }
         ensures { IfOk result (IsNewConn cube.now piece max peer) }
     {
@@ -68,6 +88,7 @@ impl Conn {
             sending: Sending::new(alloc, form, max)?,
             rx: Rx::new(alloc, cube, piece)?,
             plan: AckPlan::new(cube.a, delta),
+            waiting: Waiting::new(alloc, cube.window)?,
             given_up: None,
         })
     }
@@ -77,7 +98,7 @@ impl Conn {
     pub fn offer(&mut self, alloc: Global, now: Tick, sdu: &[u8]) -> Result<Made, OfferError>
         requires { now ≤ 10000000 }
         ensures offers { send.Offers now sdu.now self.old.sending result self.new.sending }
-        ensures same { (self.new.rx ≡ self.old.rx) × (self.new.plan ≡ self.old.plan) × (self.new.given_up ≡ self.old.given_up) }
+        ensures same { (self.new.rx ≡ self.old.rx) × (self.new.plan ≡ self.old.plan) × (self.new.given_up ≡ self.old.given_up) × (self.new.waiting ≡ self.old.waiting) }
     {
         self.sending.offer(alloc, now, sdu)
     }
@@ -89,19 +110,54 @@ impl Conn {
         ensures arrives { IsRow now (pdu_of pdu.now) unpassed self.old.rx result self.new.rx }
         ensures marks { Marks now (pdu_of pdu.now) unpassed self.old result self.new }
         ensures same { (self.new.sending ≡ self.old.sending) × (self.new.given_up ≡ self.old.given_up) }
+        ensures receives { Arrives now (pdu_of pdu.now) unpassed self.old self.new }
     {
+        let present = self.rx.present(now);
         let last_in = self.rx.last_in();
         let verdict = self.rx.on_data(now, pdu, unpassed);
         self.mark(now, last_in, verdict);
+        self.begin(present, verdict, unpassed);
         verdict
     }
 
     fn mark(&mut self, now: Tick, last_in: Option<Tick>, verdict: Verdict)
         ensures marks { PassesOn now last_in (marks verdict) self.old.plan self.new.plan }
-        ensures same { (self.new.rx ≡ self.old.rx) × (self.new.sending ≡ self.old.sending) × (self.new.given_up ≡ self.old.given_up) }
+        ensures same { (self.new.rx ≡ self.old.rx) × (self.new.sending ≡ self.old.sending) × (self.new.given_up ≡ self.old.given_up) × (self.new.waiting ≡ self.old.waiting) }
     {
         if wants_ack(verdict) {
             self.plan.note(now, last_in);
+        }
+    }
+
+    /// Notes that a state began, where the piece that came began one.
+    fn begin(&mut self, present: bool, verdict: Verdict, unpassed: u32)
+        ensures { self.new ≡ record self.old { waiting = waits_after present verdict unpassed self.old.waiting } }
+    {
+        if !present && is_accepted(verdict) {
+            self.waiting.begin(unpassed);
+        }
+    }
+
+    /// The bytes of the SDUs that `on_data` would make whole, in order, under its conditions. Nothing changes.
+    pub fn ahead(
+        &self,
+        alloc: Global,
+        now: Tick,
+        pdu: &PduView<'_>,
+        unpassed: u32,
+    ) -> Result<Bodies, Memory>
+        requires { now ≤ 10000000 }
+        ensures { IfOk result (IsAhead now (pdu_of pdu.now) unpassed self.now.rx) }
+    {
+        self.rx.ahead(alloc, now, pdu, unpassed)
+    }
+
+    /// Notes that the SDU that is fetched next waits to be passed.
+    fn note_next(&mut self)
+        ensures { self.new ≡ notes_next self.old }
+    {
+        if let Some(first) = self.rx.next_first() {
+            self.waiting.note(first);
         }
     }
 
@@ -111,6 +167,7 @@ impl Conn {
         ensures* rest { sem 𝓛 (LendsWhole self.entry) }
         ensures first { IsFirst result self.old.rx.join.whole }
     {
+        self.note_next();
         self.rx.next_whole()
     }
 
@@ -118,35 +175,116 @@ impl Conn {
     pub fn on_control(&mut self, pdu: &PduView<'_>)
         ensures told { send.IsToldBy pdu.now.ack pdu.now.right self.old.sending self.new.sending }
         ensures form { self.new.sending.form ≡ self.old.sending.form }
-        ensures same { (self.new.rx ≡ self.old.rx) × (self.new.plan ≡ self.old.plan) × (self.new.given_up ≡ self.old.given_up) }
+        ensures same { (self.new.rx ≡ self.old.rx) × (self.new.plan ≡ self.old.plan) × (self.new.given_up ≡ self.old.given_up) × (self.new.waiting ≡ self.old.waiting) }
     {
         self.sending.on_control(pdu.ack, pdu.right);
     }
 
-    /// Notes that the next SDU was passed to the application. Takes no memory.
+    /// Notes that the next SDU was passed to the application, once what came of earlier pieces is fetched. Its
+    /// number and its pieces are known from when it became whole. Takes no memory.
     pub fn passed(&mut self, now: Tick, _first: u32, _pieces: u32)
         ensures marks { Passes now self.old self.new }
         ensures same { (self.new.rx ≡ self.old.rx) × (self.new.sending ≡ self.old.sending) × (self.new.given_up ≡ self.old.given_up) }
+        ensures receives { PassesFirst now self.old self.new }
     {
         let last_in = self.rx.last_in();
         self.plan.note_passed(now, last_in);
+        self.waiting.pass();
     }
 
-    /// Does one item of a clock step. In item 3, pieces are given up that were held by a receiver's state that
-    /// has ended: `dropped` then gives them. No other item is ever due on a cube that is not reliable. Where
-    /// none is due, the answer is Idle, and nothing changes. Takes no memory.
-    pub fn on_clock(&mut self, now: Tick, item: u8) -> ConnDue
+    /// Does one item of a clock step, and answers Idle exactly where it is not due; then nothing changes. In item
+    /// 3, pieces are given up that were held by a receiver's state that has ended: `dropped` then gives them. In
+    /// item 4, a number is given up; in item 6, an acknowledgement is made; in item 7, a number is sent again. No
+    /// other item is ever due. Takes no memory.
+    pub fn on_clock(&mut self, now: Tick, item: u8) -> ConnDue<'_>
+        requires { now ≤ 10000000 }
+        ensures* rest { sem 𝓛 (LendsDue now self.entry result) }
         ensures due { IsClockDue now item self.old result }
-        ensures drops { drops_of now self.new ≡ drops_of now self.old }
-        ensures stands { StandsStill now self.old self.new }
     {
-        if item != 3 {
-            return ConnDue::Idle;
+        match item {
+            3 => self.end_state(now),
+            4 => self.give_up(now),
+            6 => self.acknowledge(now),
+            7 => self.send_again(now),
+            _ => ConnDue::Idle,
         }
+    }
+
+    fn end_state(&mut self, now: Tick) -> ConnDue<'static>
+        ensures due { AnswersGone now self.old result }
+        ensures after { IsAfter now self.old result self.new }
+    {
         if self.is_gone(now) {
             ConnDue::Gone
         } else {
             ConnDue::Idle
+        }
+    }
+
+    fn give_up(&self, now: Tick) -> ConnDue<'static>
+        ensures { AnswersGaveUp now self.now result }
+    {
+        match self.sending.gave_up(now) {
+            Some(told) => ConnDue::GaveUp(told),
+            None => ConnDue::Idle,
+        }
+    }
+
+    fn acknowledge(&mut self, now: Tick) -> ConnDue<'static>
+        ensures due { AnswersAck now self.old result }
+        ensures after { IsAfter now self.old result self.new }
+    {
+        let Some(next) = self.rx.next(now) else {
+            return ConnDue::Idle;
+        };
+        if !self.is_ack_due(now) {
+            return ConnDue::Idle;
+        }
+        ConnDue::Ack {
+            ack: next.saturating_sub(1) as u32,
+            right: self.right(next),
+        }
+    }
+
+    /// Whether an acknowledgement is made now, where the receiver has state; then none is planned any more.
+    fn is_ack_due(&mut self, now: Tick) -> bool
+        ensures due { result ≡ plan_is_due now self.old }
+        ensures after { self.new ≡ record self.old { plan = if result then without self.old.plan else self.old.plan } }
+    {
+        match (self.sending.form.cube.kind, self.rx.last_in()) {
+            (Kind::Reliable, Some(last_in)) => self.plan.due(now, last_in),
+            _ => false,
+        }
+    }
+
+    /// The first number that the application has still to take, where `next` is the one after all that were
+    /// accepted.
+    fn first_open(&self, next: u64) -> u64
+        ensures { result ≡ first_open next self.now }
+    {
+        match (self.waiting.first(), self.rx.joining()) {
+            (Some(first), _) => u64::from(first),
+            (None, Some(from)) => u64::from(from),
+            (None, None) => next,
+        }
+    }
+
+    /// The greatest number that may be sent.
+    fn right(&self, next: u64) -> u32
+        ensures { result ≡ min (first_open next self.now + self.now.sending.form.cube.window - 1) self.now.sending.numbers.max }
+    {
+        let credit = Credit::new(self.sending.form.cube.window);
+        credit.right(self.first_open(next), self.sending.numbers.max)
+    }
+
+    fn send_again(&mut self, now: Tick) -> ConnDue<'_>
+        requires { now ≤ 10000000 }
+        ensures* rest { sem 𝓛 (LendsDue now self.entry result) }
+        ensures due { AnswersAgain now self.old result }
+    {
+        match self.sending.again(now) {
+            Some(pdu) => ConnDue::Again(pdu),
+            None => ConnDue::Idle,
         }
     }
 
@@ -192,7 +330,7 @@ impl Conn {
     pub fn close(&mut self) -> u32
         ensures count { result ≡ min (length (kept_numbers self.old.rx)) (2 ^ 32 - 1) }
         ensures closed { self.new.rx ≡ record self.old.rx { closed = true } }
-        ensures same { (self.new.sending ≡ self.old.sending) × (self.new.plan ≡ self.old.plan) × (self.new.given_up ≡ self.old.given_up) }
+        ensures same { (self.new.sending ≡ self.old.sending) × (self.new.plan ≡ self.old.plan) × (self.new.given_up ≡ self.old.given_up) × (self.new.waiting ≡ self.old.waiting) }
     {
         self.rx.close()
     }

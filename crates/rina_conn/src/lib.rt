@@ -5,11 +5,13 @@ mod conn;
 mod form;
 mod made;
 mod sending;
+mod waiting;
 
 pub use conn::{Conn, ConnDue};
 pub use form::{Form, Peer};
 pub use made::{Made, OfferError, Pdus};
 pub use sending::{Admitted, Sending};
+pub use waiting::Waiting;
 
 #[cfg(test)]
 mod tests;

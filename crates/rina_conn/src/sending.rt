@@ -1,8 +1,11 @@
 //! The half of a connection that sends.
-ghost use Rattle.std.specs.Prelude.{◌≡◌, ◌+◌, ◌^◌, ◌<◌, ◌≤◌, length, map, slice_get, Some, IfOk, IfErr};
+ghost use Rattle.std.specs.Prelude.{◌≡◌, ◌+◌, ◌^◌, ◌<◌, ◌≤◌, length, map, slice_get, is_some, position, Some, IfOk, IfErr};
+ghost use Rattle.std.specs.Borrow.{sem};
 ghost use Rattle.rina_dtcp.specs.Senders.{flag_of};
+ghost use Rattle.rina_dtcp.specs.Sents.{is_due};
+ghost use Rattle.rina_conn.specs.Lending.{LendsAgain};
 ghost use Rattle.rina_conn.specs.Carrying.{carry, part_in, made_from, LieWithin};
-ghost use Rattle.rina_conn.specs.Sending.{IsNewSender, Offers, ChecksLength, ChecksWindow, IsPartsOf, Numbered, Admits, IsToldBy, TellsRoom, TellsNext, TellsGivenUp};
+ghost use Rattle.rina_conn.specs.Sending.{IsNewSender, Offers, ChecksLength, ChecksWindow, IsPartsOf, Numbered, Admits, IsToldBy, TellsRoom, TellsNext, TellsGivenUp, NotesIf};
 
 use crate::form::Form;
 use crate::made::{Made, OfferError, Pdus};
@@ -225,6 +228,27 @@ impl Sending {
         ensures { TellsNext now self.now result }
     {
         self.numbers.next(now, self.tx.idle(), self.form.delta())
+    }
+
+    /// Notes that a number is made again, where one is.
+    fn note_again(&mut self, now: Tick)
+        requires { now ≤ 10000000 }
+        ensures numbers { NotesIf (is_some (position (is_due self.old.tx.cube now) self.old.tx.unacked)) now self.old.numbers self.new.numbers }
+        ensures same { self.new ≡ record self.old { numbers = self.new.numbers } }
+    {
+        if self.tx.has_due(now) {
+            self.numbers.again(now);
+        }
+    }
+
+    /// The PDU of the least number that is sent again now, with which that number is marked as made now; None
+    /// exactly where there is none, and then nothing changes. Takes no memory.
+    pub fn again(&mut self, now: Tick) -> Option<&Pdu>
+        requires { now ≤ 10000000 }
+        ensures* { sem 𝓛 (LendsAgain now self.entry result) }
+    {
+        self.note_again(now);
+        self.tx.due(now)
     }
 
     /// The least number that is given up now; None exactly where there is none. Takes no memory.

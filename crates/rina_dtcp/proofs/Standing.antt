@@ -1,5 +1,5 @@
 -- What is kept follows the machine's sender.
-use Rattle.std.proofs.Common.{◌≡◌, ℕ, zero, suc, ◌+◌, ◌-◌, ◌*◌, ◌<◌, ◌≤◌, max, Bool, true, false, cond, ◌&&◌, ◌||◌, ◌==◌, leb, nat_le, List, [], ◌∷◌, ◌++◌, length, drop, map, append_assoc, append-nil, Option, Some, None, refl, sym, ◌∙◌, ap, arith, inl, inr, get_or, slice_get, position, option_map, ltb, IfSome, OnOk, Result, Ok, Err}
+use Rattle.std.proofs.Common.{◌≡◌, ℕ, zero, suc, ◌+◌, ◌-◌, ◌*◌, ◌<◌, ◌≤◌, max, Bool, true, false, cond, ◌&&◌, ◌||◌, ◌==◌, leb, nat_le, List, [], ◌∷◌, ◌++◌, length, drop, map, append_assoc, append-nil, Option, Some, None, refl, sym, ◌∙◌, ap, arith, inl, inr, get_or, slice_get, position, option_map, is_some, ltb, IfSome, OnOk, Result, Ok, Err}
 use Rattle.std.specs.List.{position_or_len}
 use Rattle.std.proofs.lemmas.Bool.{cases_lt, le-leb, lt-leb, leb-true, ltb-true, ne_eqb, and_parts}
 use Rattle.std.proofs.lemmas.List.{drop-drop, drop-append-le, drop_all, get_or-drop, length-drop, length-append}
@@ -15,7 +15,7 @@ use Rattle.rina_dtcp.specs.declared.sent.Sent.{Sent}
 use Rattle.rina_dtcp.specs.declared.sent.GaveUp.{GaveUp}
 use Rattle.rina_dtcp.specs.Sents.{is_due, is_late, touched}
 use Rattle.rina_dtcp.specs.Senders.{Kept, is_gone, left_in, keeps, with_sent, counted, noted, least_from, flag_of, sents_from, with_all, counted_all, settled, raised, resent_at, IsPduAt, num_in, sent_at, late_of, late_in}
-use Rattle.rina_dtcp.specs.Rows.{waiting, sent_of, sent_from, Stands, ready, TellsRoom, TellsIdle, Notes, NotesAll, IsTold, Resends, gave_up_of, TellsGivenUp}
+use Rattle.rina_dtcp.specs.Rows.{waiting, sent_of, sent_from, Stands, ready, TellsRoom, TellsIdle, Notes, NotesAll, IsTold, Resends, LendsAgain, TellsDue, gave_up_of, TellsGivenUp}
 use Rattle.rina_law.proofs.Lists.{resent-length}
 use Rattle.rina_dtcp.proofs.Scanning.{due_place, late_place}
 use Rattle.rina_dtcp.proofs.Touching.{touched_pdu, touched_resent}
@@ -267,7 +267,7 @@ again_pdu Reliable carry at now m s e =
     let there = get_or-drop m.acked m.run at no_member in
     rw there at (touched_pdu carry at now m.acked (m.acked + at) (drop m.acked m.run) s refl e)
 
-pub resend_some : (now at : ℕ) (old new : Kept) (pdu : Pdu) → Some at ≡ position (is_due old.cube now) old.unacked → new ≡ resent_at (Some at) now old → IsPduAt new.unacked at pdu → Resends now old (Some pdu) new
+resend_some : (now at : ℕ) (old new : Kept) (pdu : Pdu) → Some at ≡ position (is_due old.cube now) old.unacked → new ≡ resent_at (Some at) now old → IsPduAt new.unacked at pdu → Resends now old (Some pdu) new
 resend_some now at old new pdu place e (s, stands, is) c carry m st =
     let due : again_due c now m ≡ Some (m.acked + at) = due_is c carry now m old st ∙ ap (option_map (λ i. m.acked + i)) (sym place) in
     let list : new.unacked ≡ touched at now (sent_from carry m.acked (waiting c.cube.kind m)) = ap (λ (k : Kept). k.unacked) e ∙ ap (λ ss. touched at now ss) st.unacked in
@@ -284,10 +284,23 @@ resend_some now at old new pdu place e (s, stands, is) c carry m st =
       }),
     )
 
-pub resend_none : (now : ℕ) (old new : Kept) → None ≡ position (is_due old.cube now) old.unacked → new ≡ old → Resends now old None new
+resend_none : (now : ℕ) (old new : Kept) → None ≡ position (is_due old.cube now) old.unacked → new ≡ old → Resends now old None new
 resend_none now old new place e c carry m st =
     let due : again_due c now m ≡ None = due_is c carry now m old st ∙ ap (option_map (λ i. m.acked + i)) (sym place) in
     rw (due, e) (refl, st)
+
+pub lends_some : (now at : ℕ) (old new : Kept) (pdu : Pdu) → Some at ≡ position (is_due old.cube now) old.unacked → new ≡ resent_at (Some at) now old → IsPduAt new.unacked at pdu → LendsAgain now old (Some pdu) new
+lends_some now at old new pdu place e is = record { resends = resend_some now at old new pdu place e is; there = ap is_some place; idle = λ none. cc }
+
+pub lends_none : (now : ℕ) (old new : Kept) → None ≡ position (is_due old.cube now) old.unacked → new ≡ old → LendsAgain now old None new
+lends_none now old new place e = record { resends = resend_none now old new place e; there = ap is_some place; idle = λ none. e }
+
+some_mapped : (f : ℕ → ℕ) (o : Option ℕ) → is_some (option_map f o) ≡ is_some o
+some_mapped f (Some x) = refl
+some_mapped f None = refl
+
+pub has_due_row : (now : ℕ) (k : Kept) (told : Bool) → told ≡ is_some (position (is_due k.cube now) k.unacked) → TellsDue now k told
+has_due_row now k told e c carry m st = e ∙ sym (ap is_some (due_is c carry now m k st) ∙ some_mapped (λ i. m.acked + i) (position (is_due k.cube now) k.unacked))
 
 -- A piece that is given up
 

@@ -1,5 +1,5 @@
 -- What each call of a sender does, whatever sender of the machine it stands for.
-use Rattle.std.specs.Prelude.{◌≡◌, ℕ, ◌+◌, Bool, List, [], ◌∷◌, drop, length, map, Option, Some, None, option_map}
+use Rattle.std.specs.Prelude.{◌≡◌, ℕ, ◌+◌, Bool, List, [], ◌∷◌, drop, length, map, position, Option, Some, None, option_map, is_some}
 use Rattle.rina_base.specs.declared.pdu.Pdu.{Pdu}
 use Rattle.rina_cube.specs.declared.Cube.{Cube}
 use Rattle.rina_cube.specs.declared.Kind.{Kind}
@@ -12,6 +12,7 @@ use Rattle.rina_law.specs.Sender.{Member, Sender, member, is_idle, is_absent, st
 use Rattle.rina_dtcp.specs.declared.sent.Sent.{Sent}
 use Rattle.rina_dtcp.specs.declared.sent.GaveUp.{GaveUp}
 use Rattle.rina_dtcp.specs.Senders.{Kept, num_in}
+use Rattle.rina_dtcp.specs.Sents.{is_due}
 
 -- the members that wait for an acknowledgement: on a reliable flow those from the number `acked` on
 abbrev pub waiting : Kind → Sender → List Member
@@ -73,6 +74,16 @@ abbrev pub Resends : ℕ → Kept → Option Pdu → Kept → Type 0
 Resends now old lent new =
     (c : Constants) (carry : Piece → Pdu) (m : Sender) → Stands c carry m old →
     (lent ≡ option_map (λ n. carry (piece_again n m)) (again_due c now m)) × Stands c carry (after_again (again_due c now m) now m) new
+
+-- and where none is sent again, nothing changes
+pub record LendsAgain (now : ℕ) (old : Kept) (lent : Option Pdu) (new : Kept) : Type 0 where
+  pub resends : Resends now old lent new
+  pub there : is_some lent ≡ is_some (position (is_due old.cube now) old.unacked)
+  pub idle : lent ≡ None → new ≡ old
+
+-- whether any number is sent again now
+abbrev pub TellsDue : ℕ → Kept → Bool → Type 0
+TellsDue now k told = (c : Constants) (carry : Piece → Pdu) (m : Sender) → Stands c carry m k → told ≡ is_some (again_due c now m)
 
 -- a number that is given up, as the PDU that carries its piece has it
 abbrev pub gave_up_of : (Piece → Pdu) → ℕ → Sender → ℕ → GaveUp

@@ -1,10 +1,10 @@
 //! The sender of a connection.
-ghost use Rattle.std.specs.Prelude.{◌≡◌, ◌+◌, ◌-◌, ◌==◌, ◌<◌, ◌≤◌, ◌^◌, drop, length, position, IfSome, IfOk, OnOk, OnErr, [], ◌++◌, ◌∷◌};
+ghost use Rattle.std.specs.Prelude.{◌≡◌, ◌+◌, ◌-◌, ◌==◌, ◌<◌, ◌≤◌, ◌^◌, drop, length, position, is_some, IfSome, IfOk, OnOk, OnErr, [], ◌++◌, ◌∷◌};
 ghost use Rattle.rina_dtcp.specs.Sents.{is_due, is_late, touched};
 ghost use Rattle.rina_dtcp.specs.Senders.{Kept, is_gone, left_in, keeps, with_sent, least_from, sents_from, with_all, counted, counted_all, noted, flag_of, settled, raised, resent_at, IsPduAt, late_of, late_in};
 ghost use Rattle.std.specs.Borrow.{sem};
 ghost use Rattle.rina_dtcp.specs.Lending.{LendsDue};
-ghost use Rattle.rina_dtcp.specs.Rows.{IsNew, TellsRoom, TellsIdle, Notes, NotesAll, IsTold, TellsGivenUp};
+ghost use Rattle.rina_dtcp.specs.Rows.{IsNew, TellsRoom, TellsIdle, Notes, NotesAll, IsTold, TellsDue, TellsGivenUp};
 
 use crate::sent::{GaveUp, Sent, copy_of};
 use rina_base::{Memory, Num, Pdu, Tick};
@@ -344,6 +344,14 @@ impl Tx {
             self.last_out = now;
         }
         place
+    }
+
+    /// Whether `due` would give a PDU now. Takes no memory.
+    pub fn has_due(&self, now: Tick) -> bool
+        ensures kept { result ≡ is_some (position (is_due self.now.cube now) self.now.unacked) }
+        ensures machine { TellsDue now self.now result }
+    {
+        first_due(&self.unacked, &self.cube, now).is_some()
     }
 
     fn pdu(&self, at: usize) -> &Pdu

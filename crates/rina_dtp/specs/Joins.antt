@@ -97,3 +97,8 @@ IsForward (Some run) = run.from ≤ run.last
 -- the bytes of SDUs
 abbrev pub bytes_of : List Sdu → List (List ℕ)
 bytes_of ws = map (λ (w : Sdu). w.bytes) ws
+
+-- the number with which the first of SDUs begins, where there is any
+abbrev pub first_number : List Sdu → Option ℕ
+first_number [] = None
+first_number (w ∷ ws) = Some w.first

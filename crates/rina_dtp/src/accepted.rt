@@ -144,7 +144,8 @@ impl Accepted {
 
     /// The number after the greatest one that was accepted, up to 2^32.
     pub fn next(&self) -> u64
-        ensures { result ≡ next_kept self.now }
+        ensures next { result ≡ next_kept self.now }
+        ensures within { result ≤ 2 ^ 32 }
     {
         match self {
             Accepted::Datagram(ring) => u64::from(ring.top()) + 1,

@@ -4,7 +4,7 @@ ghost use Rattle.std.specs.Vec.{vec_capacity};
 ghost use Rattle.rina_delim.specs.Joining.{piece, empty, answer, joined, held_after, HasRoom};
 ghost use Rattle.rina_dtp.specs.Slots.{Waiting};
 ghost use Rattle.rina_dtp.specs.Fetching.{first_lost, after_lost};
-ghost use Rattle.rina_dtp.specs.Joins.{gap_if, start_of, taken, missing_in, IsJoined, HasPlaces, Grows, HasRoomOf, IsForward, cleared, bytes_of};
+ghost use Rattle.rina_dtp.specs.Joins.{gap_if, start_of, taken, missing_in, IsJoined, HasPlaces, Grows, HasRoomOf, IsForward, cleared, bytes_of, first_number};
 
 use crate::gap::{Gap, Lost};
 use crate::sdu::{Bodies, Sdu};
@@ -347,6 +347,16 @@ impl Join {
         ensures rest { self.new ≡ record self.old { gaps = after_lost self.old.gaps } }
     {
         take_lost(&mut self.gaps)
+    }
+
+    /// The number of the first piece of the next SDU that waits to be fetched; None exactly where none does.
+    pub fn next_first(&self) -> Option<u32>
+        ensures { result ≡ first_number self.now.whole }
+    {
+        if self.fetched >= self.filled {
+            return None;
+        }
+        Some(self.slots[self.fetched].first())
     }
 
     /// The next SDU that waits to be fetched; None exactly where none does.

@@ -1,5 +1,5 @@
 //! The receiver of a connection.
-ghost use Rattle.std.specs.Prelude.{◌≡◌, ◌≤◌, ◌<◌, ◌+◌, ◌-◌, ◌*◌, ◌^◌, min, nat_lt, true, false, [], length, None, IfOk};
+ghost use Rattle.std.specs.Prelude.{◌≡◌, ◌≤◌, ◌<◌, ◌+◌, ◌-◌, ◌*◌, ◌^◌, min, nat_lt, true, false, [], length, Some, None, IfOk, IfSome, if◌then◌else◌};
 ghost use Rattle.rina_base.specs.Pdus.{pdu_of};
 ghost use Rattle.rina_cube.specs.Cubes.{IsCube};
 ghost use Rattle.rina_law.specs.Receiver as law;
@@ -7,7 +7,7 @@ ghost use Rattle.rina_dtp.specs.Accepted.{known_verdict, number_verdict, judged_
 ghost use Rattle.rina_dtp.specs.Receiving.{present_at, cleared, IsAccepted, IsHeldIn, IsStep, Steps, slots_of, StartsFresh, run_numbers, kept_numbers, end_cause, ended_with, broken_with, lost_in, drops};
 ghost use Rattle.rina_dtp.specs.Fetching.{TakesFirst, after_first, gathered, GoesOn, ChangesKept, KeepsNoMore, StandsAsBefore};
 ghost use Rattle.rina_dtp.specs.Observed.{IsNew, TellsPresence, TellsNext, TellsJoining, TellsLastIn, from_kept};
-ghost use Rattle.rina_dtp.specs.Joins.{IsForward};
+ghost use Rattle.rina_dtp.specs.Joins.{IsForward, first_number};
 ghost use Rattle.rina_dtp.specs.Stands.{IsRow, IsAhead};
 
 use crate::accepted::Accepted;
@@ -263,7 +263,8 @@ impl Rx {
     /// The number after the greatest one that was accepted, on a reliable flow after all that were; None exactly where no state
     /// stands.
     pub fn next(&self, now: Tick) -> Option<u64>
-        ensures { TellsNext now self.now result }
+        ensures machine { TellsNext now self.now result }
+        ensures within { IfSome result (λ n. n ≤ 2 ^ 32) }
     {
         if self.present(now) {
             Some(self.accepted.next())
@@ -286,9 +287,17 @@ impl Rx {
     /// The tick of the last piece that was accepted, held, or written off as `Duplicate` or `Behind`; None exactly where no state
     /// was ever made.
     pub fn last_in(&self) -> Option<Tick>
-        ensures { TellsLastIn self.now result }
+        ensures kept { result ≡ (if self.now.made then Some self.now.last_in else None) }
+        ensures machine { TellsLastIn self.now result }
     {
         if self.made { Some(self.last_in) } else { None }
+    }
+
+    /// The number of the first piece of the SDU that `next_whole` would give; None exactly where none is left.
+    pub fn next_first(&self) -> Option<u32>
+        ensures { result ≡ first_number self.now.join.whole }
+    {
+        self.join.next_first()
     }
 
     /// The SDUs that the last piece made whole, one by one in order; None exactly where none is left.
