@@ -1,2 +1,4 @@
 pub mod Laws
 pub mod Machines
+pub mod Messages
+pub mod Words

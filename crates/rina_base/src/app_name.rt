@@ -1,5 +1,5 @@
 //! Names of applications.
-ghost use Rattle.std.specs.Prelude.{◌≡◌, ◌<◌, length, IfOk, IfSome, is_some};
+ghost use Rattle.std.specs.Prelude.{◌≡◌, ◌<◌, ◌≤◌, Ok, length, IfOk, IfSome, is_some};
 ghost use Rattle.std.specs.Str.{bytes_eq};
 ghost use Rattle.rina_base.specs.Names.{Gives, app_at, ipc_at, slash_in};
 
@@ -91,6 +91,15 @@ impl AppName {
         ensures { result.now ≡ self.now }
     {
         self.bytes.as_slice()
+    }
+
+    /// How many bytes it has: at most two names of 64 and a slash.
+    pub fn len(&self) -> usize
+        ensures len { result ≡ length self.now }
+        ensures most { result ≤ 129 }
+        ensures form { app_at self.now ≡ Ok self.now }
+    {
+        self.bytes.len()
     }
 
     /// Whether two names are the same.

@@ -1,6 +1,8 @@
-mod Forms
+pub mod Forms
 mod Fields
 mod Rows
 mod Drafts
-mod Spelled
-mod Written
+pub mod Spelled
+pub mod Written
+pub mod Numbers
+pub mod Faults

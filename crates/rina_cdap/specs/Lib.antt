@@ -1,5 +1,7 @@
+pub mod Faults
 pub mod Messages
 pub mod ObjectNames
 pub mod Plain
 pub mod Reading
 pub mod Writing
+pub mod Numbers

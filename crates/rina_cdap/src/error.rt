@@ -31,3 +31,15 @@ impl From<AllocError> for CdapError {
         CdapError::Memory
     }
 }
+
+impl CdapError {
+    ghost use Rattle.std.specs.Prelude.{◌≡◌};
+    ghost use Rattle.rina_cdap.specs.Faults.{is_memory};
+
+    /// Whether it is want of memory, and so tells nothing of the bytes or the message.
+    pub fn is_memory(self) -> bool
+        ensures { result ≡ is_memory self }
+    {
+        matches!(self, CdapError::Memory)
+    }
+}

@@ -135,3 +135,17 @@ fn an_object_name_is_a_slash_or_parts(rt: HostRuntime) {
         assert!(rt; !is_object_name(name));
     }
 }
+
+#[test]
+fn a_number_is_taken_as_it_was_put(rt: HostRuntime) -> Result<(), Fail> {
+    let mut out = Vec::new(rt.alloc());
+    put_number(&mut out, 0x01020304)?;
+    out.push(9)?;
+    assert_eq!(rt; out.as_slice(), [1, 2, 3, 4, 9].as_slice());
+    assert_eq!(rt;
+        take_number(&out),
+        Some((0x01020304, [9].as_slice()))
+    );
+    assert!(rt; take_number(&[1, 2, 3]).is_none());
+    Ok(())
+}

@@ -1,2 +1,5 @@
 pub mod Laws
 pub mod Machines
+pub mod Messages
+pub mod Reading
+pub mod Items

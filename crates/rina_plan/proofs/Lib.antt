@@ -1,1 +1,5 @@
 pub mod Places
+pub mod Merging
+pub mod Walking
+pub mod Counting
+pub mod Carried

@@ -1,5 +1,10 @@
 -- Places in lists.
-use Rattle.std.proofs.Common.{◌≡◌, ◌==◌, ◌||◌, ℕ, ◌+◌, ◌<◌, ◌≤◌, Bool, true, false, not, cond, List, [], ◌∷◌, length, map, drop, get_or, Option, Some, None, refl, sym, ap, ◌∙◌, arith}
+use Rattle.std.proofs.Common.{◌≡◌, ◌==◌, ◌||◌, ℕ, ◌+◌, ◌<◌, ◌≤◌, nat_lt, Bool, true, false, not, cond, List, [], ◌∷◌, length, map, drop, get_or, Some, None, refl, sym, ap, ◌∙◌, arith}
+use Rattle.std.specs.Prelude.{All}
+use Rattle.std.proofs.lemmas.Bool.{false_from_ne_true, false≢true}
+use Rattle.std.proofs.lemmas.Bool.Decides.{nat_tests}
+use Rattle.std.proofs.lemmas.List.Folds.{list_any_at}
+use Rattle.std.proofs.lemmas.List.Sums.{prefix_len_passes}
 use Rattle.std.proofs.lemmas.List.{length-map, drop_more, drop_all}
 use Rattle.std.specs.List.{position, prefix_len, list_any}
 use Rattle.rina_plan.specs.declared.dif.MemberPlan.{MemberPlan}
@@ -16,6 +21,25 @@ position_map p f xs = rw (prefix_len_map (λ y. not (p y)) f xs, length-map xs f
 -- the first flag is that of the first element that passes
 pub flag_place : {A : Type 0} (p : A → Bool) (xs : List A) → position (λ b. b) (map p xs) ≡ position p xs
 flag_place p xs = position_map (λ b. b) p xs
+
+-- ---- where no element passes
+
+pub none_pass : {X : Type 0} (p : X → Bool) (xs : List X) → list_any p xs ≡ false → All (λ x. p x ≡ false) xs
+none_pass p xs h = λ k d within. false_from_ne_true (p (get_or xs k d)) (λ passes. false≢true (sym h ∙ list_any_at p xs k d within passes))
+
+beyond : (a b : ℕ) → cond (nat_lt a b) (Some a) None ≡ None → b ≤ a
+beyond a b h = grind (arith, nat_tests)
+
+fails_not : (b : Bool) → not b ≡ true → b ≡ false
+fails_not true h = cc
+fails_not false h = refl
+
+pub nowhere : {X : Type 0} (p : X → Bool) (xs : List X) → position p xs ≡ None → All (λ x. p x ≡ false) xs
+nowhere p xs h = λ k d within.
+    let far = beyond _ (length xs) h in
+    fails_not (p (get_or xs k d)) (prefix_len_passes (λ x. not (p x)) xs k d (omega arith))
+
+-- ---- numbers that stand twice
 
 pub twice_here : (xs : List ℕ) (i x : ℕ) (b : Bool) → i < length xs → x ≡ get_or xs i 0 → b ≡ list_any (λ y. y == x) (drop (i + 1) xs) → b ≡ true → has_twice (drop i xs) ≡ has_twice xs → true ≡ has_twice xs
 unfolding has_twice

@@ -1,2 +1,6 @@
 pub mod Difs
 pub mod Links
+pub mod Walks
+pub mod Parts
+pub mod Nets
+pub mod Counts

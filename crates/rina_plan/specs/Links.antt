@@ -1,12 +1,11 @@
 -- The rules on links and flows, which ask of the facilities below.
-use Rattle.std.specs.Prelude.{ℕ, ◌+◌, ◌++◌, ◌==◌, ◌&&◌, ◌||◌, not, Bool, true, false, nat_lt, nat_le, List, [], ◌∷◌, length, map, count_by, slice_get, slice_index, Option, Some, None, option_map, position, if◌then◌else◌}
+use Rattle.std.specs.Prelude.{ℕ, ◌+◌, ◌==◌, ◌&&◌, ◌||◌, not, Bool, false, nat_lt, nat_le, List, length, slice_get, Option, Some, None}
 use Rattle.std.specs.List.{list_any}
 use Rattle.rina_cube.specs.declared.Cube.{Cube}
 use Rattle.rina_plan.specs.declared.dif.MemberPlan.{MemberPlan}
 use Rattle.rina_plan.specs.declared.dif.Lower.{Lower}
 use Rattle.rina_plan.specs.declared.dif.Lower.TheVariants.{Wire, Dif}
 use Rattle.rina_plan.specs.declared.dif.LinkPlan.{LinkPlan}
-use Rattle.rina_plan.specs.declared.dif.FlowPlan.{FlowPlan}
 use Rattle.rina_plan.specs.declared.dif.DifPlan.{DifPlan}
 use Rattle.rina_plan.specs.declared.dif.WireEnds.{WireEnds}
 

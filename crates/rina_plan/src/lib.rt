@@ -1,12 +1,18 @@
 //! The plan of the DIFs of a stack, and the rules that such a plan meets.
 #![tactic(auto)]
 
+mod counts;
 mod dif;
 mod difs;
+mod joined;
 mod links;
+mod nets;
 mod once;
 
+pub use counts::{first_full, first_loaded};
 pub use dif::{DifPlan, EndPlan, FlowPlan, LinkPlan, Lower, MemberPlan, WireEnds};
 pub use difs::{first_misfit, first_mistimed, first_oversized, first_without_lower};
+pub use joined::first_unjoined;
 pub use links::{first_crossed, first_misused, first_uncarried};
+pub use nets::are_joined;
 pub use once::{first_misplaced, first_without_cubes};

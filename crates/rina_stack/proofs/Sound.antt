@@ -17,6 +17,10 @@ use Rattle.rina_plan.specs.declared.dif.DifPlan.{DifPlan}
 use Rattle.rina_plan.specs.declared.dif.WireEnds.{WireEnds}
 use Rattle.rina_plan.specs.Difs.{lacks_lower, lacks_cubes, has_mistimed, is_misplaced, is_misfit, has_oversized}
 use Rattle.rina_plan.specs.Links.{is_misused, has_crossed_link, is_uncarried}
+use Rattle.rina_plan.specs.Walks.{is_unjoined, IsCarriedFlow, IsCarriedLink}
+use Rattle.rina_plan.specs.Counts.{links_of, load_of, first_loaded, first_full, IsRoomy}
+use Rattle.rina_plan.proofs.Places.{nowhere}
+use Rattle.rina_plan.proofs.Carried.{carried, each_roomy, single}
 use Rattle.rina_stack.specs.declared.plan.Plan.{Plan}
 use Rattle.rina_stack.specs.declared.scope.Scope.{Scope}
 use Rattle.rina_stack.specs.declared.sketch.WireSketch.{WireSketch}
@@ -39,18 +43,6 @@ use Rattle.rina_stack.proofs.Inversion.{bind_ok, ok_is, unbroken, all_read, same
 
 none_pass : {X : Type 0} (p : X → Bool) (xs : List X) → list_any p xs ≡ false → All (λ x. p x ≡ false) xs
 none_pass p xs h = λ k d within. false_from_ne_true (p (get_or xs k d)) (λ passes. false≢true (sym h ∙ list_any_at p xs k d within passes))
-
-beyond : (a b : ℕ) → cond (nat_lt a b) (Some a) None ≡ None → b ≤ a
-beyond a b h = grind (arith, nat_tests)
-
-fails_not : (b : Bool) → not b ≡ true → b ≡ false
-fails_not true h = cc
-fails_not false h = refl
-
-nowhere : {X : Type 0} (p : X → Bool) (xs : List X) → position p xs ≡ None → All (λ x. p x ≡ false) xs
-nowhere p xs h = λ k d within.
-    let far = beyond _ (length xs) h in
-    fails_not (p (get_or xs k d)) (prefix_len_passes (λ x. not (p x)) xs k d (omega arith))
 
 no_more : (f : ℕ → ℕ) (o : Option ℕ) → option_map f o ≡ None → o ≡ None
 no_more f None h = refl
@@ -229,6 +221,8 @@ pub record NoneBrokenBy (wires : List WireEnds) (difs : List DifPlan) : Type 0 w
   uses : NoDif (is_misused difs) difs
   links : NoDif (has_crossed_link wires difs) difs
   carried : NoDif (is_uncarried wires difs) difs
+  single : (i : ℕ) → i < length wires → load_of (links_of difs) i ≤ 1
+  joined : NoDif (is_unjoined difs) difs
 
 no_dif : (n first : ℕ) (p : DifPlan → Bool) (difs : List DifPlan) (t : Unit {0}) → unless n (option_map (λ i. first + i) (position p difs)) ≡ Ok t → NoDif p difs
 no_dif n first p difs t h = nowhere p difs (no_more (λ i. first + i) (position p difs) (unbroken n (option_map (λ i. first + i) (position p difs)) t h))
@@ -243,7 +237,9 @@ none_by first wires difs t h =
     let (_, r13, h14) = bind_ok (unless 13 (option_map (λ i. first + i) (position is_misfit difs))) _ t h13 in
     let (_, r14, h15) = bind_ok (unless 14 (option_map (λ i. first + i) (position has_oversized difs))) _ t h14 in
     let (_, r15, h16) = bind_ok (unless 15 (option_map (λ i. first + i) (position (is_misused difs) difs))) _ t h15 in
-    let (_, r16, h17) = bind_ok (unless 16 (option_map (λ i. first + i) (position (has_crossed_link wires difs) difs))) _ t h16 in
+    let (_, r16a, h16b) = bind_ok (unless 16 (option_map (λ i. 1 + i) (first_loaded (length wires) difs))) _ t h16 in
+    let (_, r16, h17) = bind_ok (unless 16 (option_map (λ i. first + i) (position (has_crossed_link wires difs) difs))) _ t h16b in
+    let (_, r17, h18) = bind_ok (unless 17 (option_map (λ i. first + i) (position (is_uncarried wires difs) difs))) _ t h17 in
     record {
       ranks = no_dif 9 first (lacks_lower difs) difs _ r9;
       cubes = no_dif 10 first lacks_cubes difs _ r10;
@@ -253,7 +249,9 @@ none_by first wires difs t h =
       sdus = no_dif 14 first has_oversized difs _ r14;
       uses = no_dif 15 first (is_misused difs) difs _ r15;
       links = no_dif 16 first (has_crossed_link wires difs) difs _ r16;
-      carried = no_dif 17 first (is_uncarried wires difs) difs t h17;
+      carried = no_dif 17 first (is_uncarried wires difs) difs _ r17;
+      single = single (length wires) difs (no_more (λ i. 1 + i) (first_loaded (length wires) difs) (unbroken 16 (option_map (λ i. 1 + i) (first_loaded (length wires) difs)) _ r16a));
+      joined = no_dif 18 first (is_unjoined difs) difs t h18;
     }
 
 pub record NoneBroken (s : Sketch) : Type 0 where
@@ -262,20 +260,23 @@ pub record NoneBroken (s : Sketch) : Type 0 where
   few_difs : length s.difs ≤ 16
   wires : All (λ w. is_crossed w ≡ false) s.wires
   difs : NoneBrokenBy (map ends_of s.wires) s.difs
+  counts : (i : ℕ) (e : DifPlan) → i < length s.difs → IsRoomy (links_of s.difs) i (get_or s.difs i e)
 
 unbroken_all : (s : Sketch) (t : Unit {0}) → rules_at s ≡ Ok t → NoneBroken s
 unfolding rules_at
 unbroken_all s t h =
     let (_, r8, h9) = bind_ok (unless 8 (first_wire is_crossed s.wires)) _ t h in
     let (tried, r9, h19) = bind_ok (difs_at (1 + length s.wires) (map ends_of s.wires) s.difs) _ t h9 in
-    let r19 = unbroken 19 (top_fault s) t h19 in
-    let counts = few s r19 in
+    let (top, r19, h19b) = bind_ok (unless 19 (top_fault s)) _ t h19 in
+    let counts = few s (unbroken 19 (top_fault s) top r19) in
+    let none_full = no_more (λ i. 1 + length s.wires + i) (first_full s.difs) (unbroken 19 (option_map (λ i. 1 + length s.wires + i) (first_full s.difs)) t h19b) in
     record {
       few_nodes = counts.0;
       few_wires = counts.1;
       few_difs = counts.2;
       wires = nowhere is_crossed s.wires (no_more (λ i. 1 + i) (position is_crossed s.wires) (unbroken 8 (first_wire is_crossed s.wires) _ r8));
       difs = none_by (1 + length s.wires) (map ends_of s.wires) s.difs tried r9;
+      counts = each_roomy s.difs none_full;
     }
 
 -- a fault that was found is that which is defined
@@ -375,6 +376,10 @@ planned known d s r =
       uses = by.uses;
       links = by.links;
       carried = by.carried;
+      single = λ i within. by.single i (omega (arith, length-map s.wires narrow, length-map (map narrow s.wires) wire_ends));
+      flows = λ k e within. (carried s.difs (get_or s.difs k e) (by.joined k e within)).0;
+      joined = λ k e within. (carried s.difs (get_or s.difs k e) (by.joined k e within)).1;
+      counts = r.unbroken_rules.counts;
     }
 
 is_plan : (known : List ℕ → Bool) (t : Data) (p : Plan) → stack_at known t ≡ Ok p → IsPlan p

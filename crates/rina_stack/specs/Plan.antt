@@ -1,10 +1,12 @@
 -- What holds of each plan.
-use Rattle.std.specs.Prelude.{Bool, false, ◌≡◌, ℕ, ◌≢◌, ◌<◌, ◌≤◌, List, All, length, map}
+use Rattle.std.specs.Prelude.{Bool, false, ◌≡◌, ℕ, ◌≢◌, ◌<◌, ◌≤◌, List, All, length, map, slice_index_or}
 use Rattle.std.specs.List.{AllPairs}
 use Rattle.rina_plan.specs.declared.dif.DifPlan.{DifPlan}
 use Rattle.rina_plan.specs.declared.dif.WireEnds.{WireEnds}
 use Rattle.rina_plan.specs.Difs.{lacks_lower, lacks_cubes, has_mistimed, is_misplaced, is_misfit, has_oversized}
 use Rattle.rina_plan.specs.Links.{is_misused, has_crossed_link, is_uncarried}
+use Rattle.rina_plan.specs.Walks.{IsCarriedFlow, IsCarriedLink}
+use Rattle.rina_plan.specs.Counts.{links_of, load_of, IsRoomy}
 use Rattle.rina_stack.specs.declared.plan.WirePlan.{WirePlan}
 use Rattle.rina_stack.specs.declared.plan.Plan.{Plan}
 
@@ -39,7 +41,9 @@ NoDif p difs = All (λ d. p d ≡ false) difs
 -- kinds (times); its members stand on different nodes and have different addresses that fit (members); its PDUs fit their length field, and have room for
 -- a piece and for an acknowledgement (pdus); its SDUs fit a piece, or a window and a queue (sdus); a DIF that is not static has no links and flows, and
 -- no link of a static one is on it (uses); a link is on the rank just below, between two members here and there (links), and on a cube that takes the
--- PDUs (carried).
+-- PDUs (carried); no wire has two links (single); each flow has its cube, and a walk of links joins its two members (flows); the ends of each link on a
+-- DIF are joined by a walk of that DIF's links (joined); and no DIF has too many members, cubes or rules, nor one of its members too many links, or more
+-- flows and links on it than CEP-ids (counts).
 pub record IsPlan (p : Plan) : Type 0 where
   pub few_nodes : length p.nodes ≤ 64
   pub few_wires : length p.wires ≤ 128
@@ -56,3 +60,7 @@ pub record IsPlan (p : Plan) : Type 0 where
   pub uses : NoDif (is_misused p.difs) p.difs
   pub links : NoDif (has_crossed_link (map wire_ends p.wires) p.difs) p.difs
   pub carried : NoDif (is_uncarried (map wire_ends p.wires) p.difs) p.difs
+  pub single : (i : ℕ) → i < length p.wires → load_of (links_of p.difs) i ≤ 1
+  pub flows : All (λ (d : DifPlan). All (IsCarriedFlow d) d.flows) p.difs
+  pub joined : All (λ (d : DifPlan). All (IsCarriedLink p.difs) d.links) p.difs
+  pub counts : (i : ℕ) (e : DifPlan) → i < length p.difs → IsRoomy (links_of p.difs) i (slice_index_or p.difs i e)

@@ -7,6 +7,8 @@ use Rattle.rina_plan.specs.declared.dif.DifPlan.{DifPlan}
 use Rattle.rina_plan.specs.declared.dif.WireEnds.{WireEnds}
 use Rattle.rina_plan.specs.Difs.{lacks_lower, lacks_cubes, has_mistimed, is_misplaced, is_misfit, has_oversized}
 use Rattle.rina_plan.specs.Links.{is_misused, has_crossed_link, is_uncarried}
+use Rattle.rina_plan.specs.Walks.{is_unjoined}
+use Rattle.rina_plan.specs.Counts.{first_loaded, first_full}
 use Rattle.rina_stack.specs.declared.plan.WirePlan.{WirePlan}
 use Rattle.rina_stack.specs.declared.plan.Plan.{Plan}
 use Rattle.rina_stack.specs.declared.error.StackError.{StackError}
@@ -40,7 +42,7 @@ resolved_at known named d = sketch_at (full named (unknown_item known named)) d
 abbrev pub ends_of : WireSketch → WireEnds
 ends_of w = record { a = w.a; b = w.b; largest = w.largest }
 
--- the rules from 9 on, each over all DIFs, where `first` is the number of the first DIF
+-- the rules from 9 to 18, each over all DIFs, where `first` is the number of the first DIF; a wire with two links is the item of rule 16, before any DIF
 unfoldable pub difs_at : ℕ → List WireEnds → List DifPlan → Result (Unit {0}) StackError
 difs_at first wires difs = do
   _ ← unless 9 (option_map (λ i. first + i) (position (lacks_lower difs) difs))
@@ -50,15 +52,18 @@ difs_at first wires difs = do
   _ ← unless 13 (option_map (λ i. first + i) (position is_misfit difs))
   _ ← unless 14 (option_map (λ i. first + i) (position has_oversized difs))
   _ ← unless 15 (option_map (λ i. first + i) (position (is_misused difs) difs))
+  _ ← unless 16 (option_map (λ i. 1 + i) (first_loaded (length wires) difs))
   _ ← unless 16 (option_map (λ i. first + i) (position (has_crossed_link wires difs) difs))
-  unless 17 (option_map (λ i. first + i) (position (is_uncarried wires difs) difs))
+  _ ← unless 17 (option_map (λ i. first + i) (position (is_uncarried wires difs) difs))
+  unless 18 (option_map (λ i. first + i) (position (is_unjoined difs) difs))
 
 -- the rules from 8 on, each over the whole stack
 unfoldable pub rules_at : Sketch → Result (Unit {0}) StackError
 rules_at s = do
   _ ← unless 8 (first_wire is_crossed s.wires)
   _ ← difs_at (1 + length s.wires) (map ends_of s.wires) s.difs
-  unless 19 (top_fault s)
+  _ ← unless 19 (top_fault s)
+  unless 19 (option_map (λ i. 1 + length s.wires + i) (first_full s.difs))
 
 abbrev pub narrow : WireSketch → WirePlan
 narrow w = record { name = w.name; a = w.a; b = w.b; delay = w.delay; life = w.life; largest = w.largest; storm = w.storm }

@@ -72,6 +72,13 @@ pub(crate) fn first_behind(wires: usize, difs: usize) -> Result<usize, StackErro
     }
 }
 
+/// The error for a rule, where it has a first wire that breaks it.
+pub(crate) fn check_wires(n: u32, fault: Option<usize>) -> Result<(), StackError>
+    ensures { Gives (λ t. t) result (unless n (option_map (λ i. 1 + i) fault)) }
+{
+    check_difs(n, 1, fault)
+}
+
 /// The error for a rule, where it has a first DIF that breaks it. `first` is the number of the first
 /// DIF.
 pub(crate) fn check_difs(n: u32, first: usize, fault: Option<usize>) -> Result<(), StackError>

@@ -1,13 +1,14 @@
 //! The stack that a text describes.
-ghost use Rattle.std.specs.Prelude.{◌≡◌, ◌+◌, ◌<◌, ◌^◌, All, Ok, IfOk, length, map};
+ghost use Rattle.std.specs.Prelude.{◌≡◌, ◌+◌, ◌<◌, ◌^◌, All, Ok, IfOk, length, map, option_map};
 ghost use Rattle.toml.specs.View.{view};
 ghost use Rattle.rina_stack.specs.declared.sketch.WireSketch.{WireSketch};
-ghost use Rattle.rina_stack.specs.Faults.{Gives};
+ghost use Rattle.rina_plan.specs.Counts.{first_full};
+ghost use Rattle.rina_stack.specs.Faults.{Gives, unless};
 ghost use Rattle.rina_stack.specs.Items.{sketch_at};
 ghost use Rattle.rina_stack.specs.Stack.{plain, full, narrow, plan_of, unknown_item, resolved_at, ends_of, difs_at, rules_at, stack_at, Reads};
 ghost use Rattle.rina_stack.specs.Plan.{IsPlan};
 
-use crate::error::{StackError, check, check_difs, first_behind};
+use crate::error::{StackError, check, check_difs, check_wires, first_behind};
 use crate::keys::key_fault;
 use crate::plan::{Plan, WirePlan};
 use crate::policies::{Policies, first_unknown};
@@ -18,8 +19,9 @@ use crate::top::sketch;
 use crate::twins::{named_twice, names_of_difs, names_of_wires, texts_of};
 use rina_base::{Memory, Seq};
 use rina_plan::{
-    DifPlan, WireEnds, first_crossed, first_misfit, first_misplaced, first_mistimed, first_misused,
-    first_oversized, first_uncarried, first_without_cubes, first_without_lower,
+    DifPlan, WireEnds, first_crossed, first_full, first_loaded, first_misfit, first_misplaced,
+    first_mistimed, first_misused, first_oversized, first_uncarried, first_unjoined,
+    first_without_cubes, first_without_lower,
 };
 use std::alloc::{AllocError, Global};
 use toml::Value;
@@ -130,7 +132,7 @@ fn ends(alloc: Global, wires: &[WireSketch]) -> Result<Vec<WireEnds>, AllocError
     Ok(ends)
 }
 
-/// The rules from 9 on. `first` is the number of the first DIF.
+/// The rules from 9 to 18. `first` is the number of the first DIF.
 #[tactic(auto, unfolding(crate::specs::Stack::difs_at))]
 fn check_rules_of_difs(
     alloc: Global,
@@ -149,8 +151,12 @@ fn check_rules_of_difs(
     check_difs(13, first, first_misfit(difs))?;
     check_difs(14, first, first_oversized(difs))?;
     check_difs(15, first, first_misused(difs))?;
+    let loaded = first_loaded(alloc, wires.len(), difs)?;
+    check_wires(16, loaded)?;
     check_difs(16, first, first_crossed(wires, difs))?;
-    check_difs(17, first, first_uncarried(wires, difs))
+    check_difs(17, first, first_uncarried(wires, difs))?;
+    let unjoined = first_unjoined(alloc, difs)?;
+    check_difs(18, first, unjoined)
 }
 
 fn check_all_difs(alloc: Global, sketch: &Sketch) -> Result<(), StackError>
@@ -162,6 +168,16 @@ fn check_all_difs(alloc: Global, sketch: &Sketch) -> Result<(), StackError>
     check_rules_of_difs(alloc, first, wires.as_slice(), difs)
 }
 
+/// Rule 19 over the DIFs.
+fn check_counts(alloc: Global, sketch: &Sketch) -> Result<(), StackError>
+    ensures { Gives (λ t. t) result (unless 19 (option_map (λ i. 1 + length sketch.now.wires + i) (first_full sketch.now.difs))) }
+{
+    let difs = sketch.difs.as_slice();
+    let first = first_behind(sketch.wires.len(), difs.len())?;
+    let full = first_full(alloc, difs)?;
+    check_difs(19, first, full)
+}
+
 /// The rules from 8 on.
 #[tactic(auto, unfolding(crate::specs::Stack::rules_at))]
 fn check_rules(alloc: Global, sketch: &Sketch) -> Result<(), StackError>
@@ -169,7 +185,8 @@ fn check_rules(alloc: Global, sketch: &Sketch) -> Result<(), StackError>
 {
     check(8, crossed(sketch.wires.as_slice()))?;
     check_all_difs(alloc, sketch)?;
-    check(19, too_many(sketch))
+    check(19, too_many(sketch))?;
+    check_counts(alloc, sketch)
 }
 
 /// The stack of a table.

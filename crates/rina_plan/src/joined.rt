@@ -1,0 +1,103 @@
+//! The rules on what walks of links join.
+ghost use Rattle.std.specs.Prelude.{◌≡◌, ◌<◌, ◌==◌, length, map, position, IfOk, IfSome};
+ghost use Rattle.std.specs.List.{list_any};
+ghost use Rattle.rina_cube.specs.declared.Cube.{Cube};
+ghost use Rattle.rina_plan.specs.declared.dif.DifPlan.{DifPlan};
+ghost use Rattle.rina_plan.specs.declared.nets.Net.{Net};
+ghost use Rattle.rina_plan.specs.Nets.{difs_of};
+ghost use Rattle.rina_plan.specs.Walks.{has_cube, is_stray, joins_on, is_torn, is_unjoined};
+
+use crate::dif::{DifPlan, FlowPlan, LinkPlan, Lower};
+use crate::links::is_member;
+use crate::nets::Net;
+use rina_cube::Cube;
+use std::alloc::{AllocError, Global};
+
+fn any_of_id(cubes: &[Cube], id: u8) -> bool
+    ensures { result ≡ list_any (λ (c : Cube). c.id == id) cubes.now }
+{
+    cubes.iter().any(|cube| cube.id == id)
+}
+
+fn has_cube(id: u8, dif: &DifPlan) -> bool
+    ensures { result ≡ has_cube id dif.now }
+{
+    any_of_id(dif.cubes.as_slice(), id)
+}
+
+#[tactic(auto, unfolding(crate::specs::Walks::is_stray))]
+fn is_stray(net: &Net<'_>, flow: &FlowPlan) -> bool
+    ensures { result ≡ is_stray net.now.dif.now flow.now }
+{
+    let dif = net.dif();
+    let from = flow.from.node;
+    let to = flow.to.node;
+    !has_cube(flow.cube, dif)
+        || from == to
+        || !(is_member(from, dif) && is_member(to, dif))
+        || !net.joins(from, to)
+}
+
+fn any_stray(net: &Net<'_>, flows: &[FlowPlan]) -> bool
+    ensures { result ≡ list_any (is_stray net.now.dif.now) flows.now }
+{
+    flows.iter().any(|flow| is_stray(net, flow))
+}
+
+fn joins_on(nets: &[Net<'_>], one: usize, other: usize, on: Lower) -> bool
+    ensures { result ≡ joins_on (difs_of nets.now) one other on }
+{
+    match on {
+        Lower::Wire(_) => true,
+        Lower::Dif(at) => match nets.get(at) {
+            Some(net) => net.joins(one, other),
+            None => false,
+        },
+    }
+}
+
+fn is_torn(nets: &[Net<'_>], link: &LinkPlan) -> bool
+    ensures { result ≡ is_torn (difs_of nets.now) link.now }
+{
+    !joins_on(nets, link.a, link.b, link.on)
+}
+
+fn any_torn(nets: &[Net<'_>], links: &[LinkPlan]) -> bool
+    ensures { result ≡ list_any (is_torn (difs_of nets.now)) links.now }
+{
+    links.iter().any(|link| is_torn(nets, link))
+}
+
+#[tactic(auto, unfolding(crate::specs::Walks::is_unjoined))]
+fn is_unjoined(nets: &[Net<'_>], net: &Net<'_>) -> bool
+    ensures { result ≡ is_unjoined (difs_of nets.now) net.now.dif.now }
+{
+    let dif = net.dif();
+    any_stray(net, dif.flows.as_slice()) || any_torn(nets, dif.links.as_slice())
+}
+
+fn first_of(nets: &[Net<'_>]) -> Option<usize>
+    ensures place { result ≡ position (λ (n : Net). is_unjoined (difs_of nets.now) n.dif.now) nets.now }
+    ensures within { IfSome result (λ i. i < length nets.now) }
+{
+    nets.iter().position(|net| is_unjoined(nets, net))
+}
+
+fn nets_of<'a>(alloc: Global, difs: &'a [DifPlan]) -> Result<Vec<Net<'a>>, AllocError>
+    ensures { IfOk result (λ v. difs_of v.items ≡ difs.now) }
+{
+    let mut nets = Vec::new(alloc);
+    'difs: for dif in difs {
+        nets.push(Net::of(alloc, dif)?)?;
+    }
+    Ok(nets)
+}
+
+/// The first DIF with a flow whose cube is missing, whose nodes are equal or no members, or that no walk
+/// of links carries, or with a link on a DIF in which no walk of links carries it.
+pub fn first_unjoined(alloc: Global, difs: &[DifPlan]) -> Result<Option<usize>, AllocError>
+    ensures { IfOk result (λ f. f ≡ position (is_unjoined difs.now) difs.now) }
+{
+    let nets = nets_of(alloc, difs)?;
+    Ok(first_of(nets.as_slice()))
+}
