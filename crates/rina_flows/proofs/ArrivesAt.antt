@@ -1,19 +1,18 @@
 -- A connection that receives a piece does what the law says of the direction from its partner, and the flows stay tied.
-use Rattle.std.proofs.Common.{◌≡◌, ℕ, ◌+◌, ◌-◌, ◌^◌, ◌≤◌, List, ◌++◌, length, map, min, ltb, slice_get, slice_set, Some, Option, option_map, length-append, refl, sym, ◌∙◌, ap, subst, arith}
+use Rattle.std.proofs.Common.{◌≡◌, ℕ, ◌-◌, ◌≤◌, List, ◌++◌, length, map, min, ltb, slice_set, Option, option_map, length-append, refl, sym, ◌∙◌, ap, subst, arith}
 use Rattle.std.proofs.lemmas.Option.{slice_get-map}
 use Rattle.rina_account.specs.declared.ledger.Off.{Off}
 use Rattle.rina_base.specs.declared.cause.Cause.{Cause}
-use Rattle.rina_base.specs.declared.number.Key.{Key}
 use Rattle.rina_base.specs.declared.pdu.Pdu.{Pdu}
 use Rattle.rina_base.specs.declared.pdu.PduKind.TheVariants.{Piece as APiece}
 use Rattle.rina_conn.specs.declared.conn.Conn.{Conn}
 use Rattle.rina_conn.specs.declared.sending.Sending.{Sending}
 use Rattle.rina_cube.specs.declared.Cube.{Cube}
 use Rattle.rina_cube.specs.Cubes.{IsCube}
-use Rattle.rina_data.specs.Dif.{Config, DifSeen, Process, constants, cube_by, with_offs}
+use Rattle.rina_data.specs.Dif.{Config, DifSeen, Process, constants, with_offs}
 use Rattle.rina_data.specs.Ids.{Ids, IsFrom, flipped}
-use Rattle.rina_data.specs.Incoming.{IsArrived, IsDropped, arrived, lines_for}
-use Rattle.rina_data.specs.Standing.{IsConfig, IsConn, IsJournal, IsOwn}
+use Rattle.rina_data.specs.Incoming.{IsArrived, arrived, lines_for}
+use Rattle.rina_data.specs.Standing.{IsConfig, IsJournal, IsOwn}
 use Rattle.rina_data.proofs.Finding.{beside}
 use Rattle.rina_dtp.specs.declared.verdict.Verdict.{Verdict}
 use Rattle.rina_dtp.specs.Receiving.{kept_numbers}
@@ -25,12 +24,12 @@ use Rattle.rina_law.specs.Direction.{Direction, entry_for}
 use Rattle.rina_law.specs.Lists.{In}
 use Rattle.rina_law.specs.Pdus.{piece_in}
 use Rattle.rina_law.specs.Pieces.{Sdu}
-use Rattle.rina_flows.specs.Arriving.{IsArrival, IsComing, cause_of, offs_of, with_delivered}
+use Rattle.rina_flows.specs.Arriving.{IsArrival, IsComing, cause_of, with_delivered}
 use Rattle.rina_flows.specs.Rows.{ArrivesAt, IsPlace, TakesAt}
 use Rattle.rina_flows.specs.Tied.{IsAt, IsInboundAt, IsReceiving, IsTied, conns_of, ids_by, ids_of, inward}
 use Rattle.rina_flows.proofs.Coming.{IsInFlow, coming_of, inbound_of, inflow, room_is}
 use Rattle.rina_flows.proofs.Given.{offs_of-length}
-use Rattle.rina_flows.proofs.Receives.{Arrives, arrives}
+use Rattle.rina_flows.proofs.Receives.{arrives}
 use Rattle.rina_flows.proofs.Retied.{tied_after}
 use Rattle.rina_flows.proofs.Welcome.{room_of_least}
 

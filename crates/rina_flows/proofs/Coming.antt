@@ -1,18 +1,17 @@
 -- A piece of the cloud that comes to an allocated end is one of the direction from its partner.
-use Rattle.std.proofs.Common.{◌≡◌, ℕ, ◌-◌, ◌≤◌, List, length, ltb, slice_get, Some, refl, sym, ◌∙◌, ap, subst, arith}
+use Rattle.std.proofs.Common.{◌≡◌, ℕ, ◌-◌, ◌≤◌, List, length, ltb, Some, refl, sym, ◌∙◌, ap, subst, arith}
 use Rattle.rina_base.specs.declared.pdu.Pdu.{Pdu}
 use Rattle.rina_base.specs.declared.pdu.PduKind.TheVariants.{Piece as APiece}
 use Rattle.rina_cube.specs.declared.Cube.{Cube}
 use Rattle.rina_data.specs.Dif.{Config, constants, cube_by}
 use Rattle.rina_data.specs.Ids.{AcksOf, Ids, PiecesOf, flipped}
-use Rattle.rina_data.specs.Standing.{IsConfig, IsConn, IsFlow, IsJournal, IsOwn}
+use Rattle.rina_data.specs.Standing.{IsConfig, IsConn, IsJournal, IsOwn}
 use Rattle.rina_data.proofs.Finding.{beside, cube_limits}
 use Rattle.rina_data.proofs.Own.{partner_back}
 use Rattle.rina_iface.specs.declared.ends.End.{End}
 use Rattle.rina_iface.specs.declared.state.PortState.TheVariants.{Allocated}
 use Rattle.rina_iface.specs.Journal.{At}
 use Rattle.rina_law.specs.Backed.{IsBacked}
-use Rattle.rina_law.specs.Constants.{Constants}
 use Rattle.rina_law.specs.Direction.{Direction, has_room}
 use Rattle.rina_law.specs.Pdus.{piece_in}
 use Rattle.rina_flows.specs.Arriving.{IsComing}

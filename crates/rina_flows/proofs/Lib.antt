@@ -1,3 +1,4 @@
+pub mod Added
 pub mod Arrived
 pub mod ArrivesAt
 pub mod Coming
@@ -5,9 +6,13 @@ pub mod Counted
 pub mod Delivered
 pub mod Framed
 pub mod Given
+pub mod Gone
 pub mod Kept
+pub mod Landed
+pub mod Lasting
 pub mod Offered
 pub mod Passed
+pub mod Received
 pub mod Receives
 pub mod Restated
 pub mod Retied
@@ -16,5 +21,3 @@ pub mod Told
 pub mod Unbroken
 pub mod Welcome
 pub mod Writing
-pub mod Received
-pub mod Landed

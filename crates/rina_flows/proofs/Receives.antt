@@ -12,6 +12,7 @@ use Rattle.rina_data.specs.Incoming.{IsDropped, arrived, cause_for}
 use Rattle.rina_dtcp.specs.Plans.{IsPlanOf}
 use Rattle.rina_dtp.specs.declared.source.Source.{Source}
 use Rattle.rina_dtp.specs.declared.verdict.Verdict.{Verdict}
+use Rattle.rina_dtp.specs.Lost.{lost_after}
 use Rattle.rina_dtp.specs.Receiving.{Receiving, broken_with, drops, end_cause, ended_with, kept_numbers, lost_in, present_at}
 use Rattle.rina_dtp.specs.Source.{source_of}
 use Rattle.rina_dtp.specs.Stands.{Came, IsFetched, IsRow, Stands}
@@ -96,12 +97,14 @@ last_after c now m p law.NoRoom b room v_is present last = last
 
 -- The whole of an arrival
 
--- the state that is gone is fetched (`before`), the piece is received, the SDUs that are whole are delivered, and the
--- pieces of broken SDUs are fetched (`after`)
+-- what is left of a state that is gone is fetched (`before`), the piece is received, the SDUs that are whole are delivered,
+-- and the pieces of broken SDUs are fetched (`after`), in order
 pub record Arrives (c : Constants) (ids : Ids) (now : ℕ) (line : Direction) (pdu : Pdu) (result : Verdict) (first : Conn) (came : Receiving) (before after : List (Key × Cause)) (last : Conn) : Type 0 where
   pub cause : cause_of result ≡ cause_for c (piece_in pdu) line
   pub got : (arrived c (piece_in pdu) line).inbox.got ≡ line.inbox.got ++ map (entry_for c now) came.join.whole
   pub dropped : (off : Off) → In off (offs_of (before ++ after)) → IsDropped c (piece_in pdu) line ids off
+  pub gone : before ≡ drops now first.rx
+  pub lost : after ≡ broken_with (source_from ids) (lost_after (arrival_verdict c line.line (piece_in pdu) (has_room c line)) c.cube.kind (is_present c line.line.clock line.line.receiver) (piece_in pdu) line.line.receiver.held line.inbox.joiner)
   pub count : length before + length after ≤ length (kept_numbers first.rx)
   pub receives : IsReceiving c now ids last (arrived c (piece_in pdu) line)
 
@@ -150,6 +153,8 @@ module _ (c : Constants) (ids : Ids) (line : Direction) (pdu : Pdu) (unpassed : 
               | inl gone ↦ gone_dropped c ids line (piece_in pdu) first.rx receives.stands receives.broken receives.kept off (subst (λ (ds : List (Key × Cause)). In off (offs_of ds)) (sym befores) gone)
               | inr lost ↦ came_dropped c ids line pdu ready.rx result heard.rx coming came_heard off (subst (λ (ds : List (Key × Cause)). In off (offs_of ds)) (sym afters) lost)
             ];
+            gone = sym befores;
+            lost = sym afters ∙ came_heard.dropped ∙ ap (λ (x : Source). broken_with x (lost_after (arrival_verdict c line.line (piece_in pdu) (has_room c line)) c.cube.kind (is_present c line.line.clock line.line.receiver) (piece_in pdu) line.line.receiver.held line.inbox.joiner)) (far_source ids pdu coming.names);
             count = (let most = drops_within c ids line pdu first.rx ready.rx result heard.rx coming receives.stands receives.broken came_heard in let x = ap (λ (ds : List (Key × Cause)). length ds) befores in let y = ap (λ (ds : List (Key × Cause)). length ds) afters in omega arith);
             receives = record {
               stands = stands_last;

@@ -1,10 +1,9 @@
 -- Flows stay tied to their directions where one connection changes in what it receives.
-use Rattle.std.proofs.Common.{◌≡◌, ◌≢◌, ℕ, ◌-◌, ◌≤◌, List, length, map, slice_get, slice_set, Some, None, Option, option_map, length-set, refl, sym, ◌∙◌, ap, subst, inl, inr, ◌⊎◌}
+use Rattle.std.proofs.Common.{◌≡◌, ◌≢◌, ℕ, List, slice_get, slice_set, Some, length-set, refl, sym, ◌∙◌, ap, subst, inl, inr}
 use Rattle.rina_conn.specs.declared.conn.Conn.{Conn}
 use Rattle.rina_conn.specs.declared.sending.Sending.{Sending}
 use Rattle.rina_conn.specs.Sending.{IsSender}
 use Rattle.rina_data.specs.Dif.{Config, constants, cube_by}
-use Rattle.rina_data.specs.Ids.{Ids}
 use Rattle.rina_data.specs.Standing.{IsJournal}
 use Rattle.rina_data.proofs.Journals.{IsConst, const_refl, partner_was, was_end}
 use Rattle.rina_data.proofs.Own.{one_partner, partner_back}
@@ -14,7 +13,7 @@ use Rattle.rina_iface.specs.Journal.{At, IsPartner}
 use Rattle.rina_iface.proofs.Changed.{set_at, slice_get-set_other, slice_get-set_same}
 use Rattle.rina_law.specs.Direction.{Direction}
 use Rattle.rina_law.specs.Sender.{Sender}
-use Rattle.rina_flows.specs.Tied.{IsAt, IsInboundAt, IsReceiving, IsSending, IsTied, ids_by, ids_of, inward, outward}
+use Rattle.rina_flows.specs.Tied.{IsAt, IsInboundAt, IsReceiving, IsSending, IsTied, ids_by, ids_of, inward}
 
 -- what it sends stays
 sends_same : (g : Config) (now : ℕ) (conn conn' : Conn) (line line' : Direction) → conn'.sending ≡ conn.sending → line'.line.sender ≡ line.line.sender → line'.line.clock ≡ line.line.clock → IsSending g now conn line → IsSending g now conn' line'

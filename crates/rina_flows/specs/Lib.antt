@@ -1,5 +1,7 @@
-pub mod Tied
-pub mod Rows
-pub mod Calls
 pub mod Arriving
+pub mod Calls
 pub mod Delivering
+pub mod Ending
+pub mod Laws
+pub mod Rows
+pub mod Tied

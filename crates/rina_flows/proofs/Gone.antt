@@ -1,0 +1,182 @@
+-- What a connection still holds is given up, with a state that is gone or with its end, and the flows stay tied.
+use Rattle.std.proofs.Common.{◌≡◌, ◌≢◌, ℕ, List, [], true, false, cond, slice_get, slice_set, Option, Some, None, refl, sym, ◌∙◌, ap, subst}
+use Rattle.rina_account.specs.declared.ledger.Off.{Off}
+use Rattle.rina_base.specs.declared.cause.Cause.{Cause}
+use Rattle.rina_base.specs.declared.cause.Cause.TheVariants as causes
+use Rattle.rina_base.specs.declared.number.Key.{Key}
+use Rattle.rina_conn.specs.declared.conn.Conn.{Conn}
+use Rattle.rina_conn.specs.declared.sending.Sending.{Sending}
+use Rattle.rina_data.specs.Dif.{Config, DifSeen, Process, constants, with_offs, with_process}
+use Rattle.rina_data.specs.Ending.{IsEnded}
+use Rattle.rina_data.specs.Ids.{Ids, flipped}
+use Rattle.rina_data.specs.Sending.{home}
+use Rattle.rina_data.specs.Standing.{IsJournal}
+use Rattle.rina_data.specs.Timely.{IsForgotten}
+use Rattle.rina_dtp.specs.Receiving.{Receiving, drops, end_cause, ended_with, kept_numbers, lost_in, present_at}
+use Rattle.rina_dtp.specs.Source.{key_at}
+use Rattle.rina_dtp.proofs.Ahead.{fetched_forward}
+use Rattle.rina_dtp.proofs.Came.{kept_none, present_same}
+use Rattle.rina_dtp.proofs.Lasting.{stands_forgotten}
+use Rattle.rina_iface.specs.declared.ends.End.{End}
+use Rattle.rina_iface.specs.declared.state.PortState.{PortState}
+use Rattle.rina_iface.specs.declared.state.PortState.TheVariants.{Allocated}
+use Rattle.rina_iface.specs.Later.{Moves}
+use Rattle.rina_iface.proofs.Changed.{slice_set-same}
+use Rattle.rina_law.specs.Constants.{Constants}
+use Rattle.rina_law.specs.Direction.{Direction, Forget, happens}
+use Rattle.rina_law.specs.Lists.{In}
+use Rattle.rina_law.specs.Receiver.{is_present}
+use Rattle.rina_flows.specs.Arriving.{IsDrained, offs_of}
+use Rattle.rina_flows.specs.Ending.{EndsAt, ForgetsAt, IsHeldOff}
+use Rattle.rina_flows.specs.Tied.{IsAt, IsInboundAt, IsKeptBy, IsReceiving, IsTied, conns_of, ids_by, ids_of, inward}
+use Rattle.rina_flows.proofs.ArrivesAt.{place_of}
+use Rattle.rina_flows.proofs.Given.{drained_all, ended_in}
+use Rattle.rina_flows.proofs.Kept.{drops_ended}
+use Rattle.rina_flows.proofs.Receives.{none_broken}
+use Rattle.rina_flows.proofs.Retied.{tied_after}
+
+-- The lines
+
+held_off : (ids : Ids) (line : Direction) (r : Receiving) (why : Cause) (off : Off) → ((n : ℕ) → In n (kept_numbers r) → IsKeptBy ids line r n) → In off (offs_of (ended_with r.source (Some why) (kept_numbers r))) → IsHeldOff ids line why off
+held_off ids line r why off kept i =
+    let f = ended_in r.source why (kept_numbers r) off i in
+    let k = kept f.0 f.1 in
+    let is : IsHeldOff ids line why (record { key = key_at r.source f.0; cause = why }) = (refl, ap (λ s. s.src) k.source, ap (λ s. s.scep) k.source, k.number, refl) in
+    subst (IsHeldOff ids line why) (sym f.2) is
+
+-- of a state that is gone
+pub gone_off : (c : Constants) (now : ℕ) (ids : Ids) (conn : Conn) (line : Direction) → IsReceiving c now ids conn line → is_present c now line.line.receiver ≡ false → (off : Off) → In off (offs_of (drops now conn.rx)) → IsHeldOff ids line (causes.StateGone line.line.receiver.last_in) off
+gone_off c now ids conn line h gone off i =
+    let r : Receiving = conn.rx in
+    let absent : present_at now r ≡ false = sym (present_same c now line.line.receiver line.inbox.joiner r h.stands) ∙ gone in
+    let why : end_cause now r ≡ Some (causes.StateGone r.last_in) = (let E : end_cause now r ≡ cond false (Some (causes.NoConnection r.source.dcep)) (cond false None (Some (causes.StateGone r.last_in))) = rw (h.stands.not_closed, absent) refl in E) in
+    let all : drops now r ≡ ended_with r.source (Some (causes.StateGone r.last_in)) (kept_numbers r) = drops_ended now r h.broken ∙ ap (λ (o : Option Cause). ended_with r.source o (kept_numbers r)) why in
+    subst (λ (n : ℕ). IsHeldOff ids line (causes.StateGone n) off) (sym h.stands.last_in) (held_off ids line r (causes.StateGone r.last_in) off h.kept (subst (λ (ds : List (Key × Cause)). In off (offs_of ds)) all i))
+
+-- of a connection that was closed
+closed_in : (now : ℕ) (r : Receiving) (off : Off) → lost_in r.join.gaps ≡ [] → In off (offs_of (drops now (record r { closed = true }))) → (n : ℕ) × In n (kept_numbers r) × (off ≡ record { key = key_at r.source n; cause = causes.NoConnection r.source.dcep })
+closed_in now r off broken i =
+    let closed : Receiving = record r { closed = true } in
+    let all : drops now closed ≡ ended_with r.source (Some (causes.NoConnection r.source.dcep)) (kept_numbers r) = drops_ended now closed broken in
+    ended_in r.source (causes.NoConnection r.source.dcep) (kept_numbers r) off (subst (λ (ds : List (Key × Cause)). In off (offs_of ds)) all i)
+
+pub closed_off : (c : Constants) (now : ℕ) (ids : Ids) (conn : Conn) (line : Direction) → IsReceiving c now ids conn line → (off : Off) → In off (offs_of (drops now (record conn.rx { closed = true }))) → IsHeldOff ids line (causes.NoConnection ids.scep) off
+closed_off c now ids conn line h off i =
+    let f = closed_in now conn.rx off h.broken i in
+    let k = h.kept f.0 f.1 in
+    let is : IsHeldOff ids line (causes.NoConnection ids.scep) (record { key = key_at conn.rx.source f.0; cause = causes.NoConnection conn.rx.source.dcep }) = (refl, ap (λ s. s.src) k.source, ap (λ s. s.scep) k.source, k.number, ap (λ s. causes.NoConnection s.dcep) k.source) in
+    subst (IsHeldOff ids line (causes.NoConnection ids.scep)) (sym f.2) is
+
+-- The tie
+
+-- all that was left of a state that is gone was fetched
+pub receiving_forgot : (c : Constants) (now : ℕ) (ids : Ids) (conn new : Conn) (line : Direction) (taken : List (Key × Cause)) → IsReceiving c now ids conn line → is_present c now line.line.receiver ≡ false → IsDrained now conn.rx taken new.rx → drops now new.rx ≡ [] → new.plan ≡ conn.plan → new.given_up ≡ None → IsReceiving c now ids new (happens c line Forget)
+receiving_forgot c now ids conn new line taken h gone drained none plan given_up =
+    let st = drained.stands c line.line.receiver line.inbox.joiner h.stands in
+    let absent : present_at now new.rx ≡ false = sym (present_same c now line.line.receiver line.inbox.joiner new.rx st) ∙ gone in
+    let nothing = kept_none now new.rx st.not_closed absent none in
+    record {
+      stands = stands_forgotten c now line.line.receiver line.inbox.joiner new.rx st gone;
+      plan = plan ∙ h.plan;
+      last = h.last;
+      whole = drained.whole ∙ h.whole;
+      broken = none_broken now new.rx none;
+      forward = fetched_forward c now line.line.receiver line.inbox.joiner new.rx st none;
+      none_given_up = given_up;
+      kept = λ n i. absurd (subst (In n) nothing i);
+    }
+
+-- a state that is gone is forgotten
+pub record HasForgotten (g : Config) (now : ℕ) (ends : List End) (conns : List Conn) (lines : List Direction) (at : ℕ) (end : End) (offs : List Off) (new : Conn) : Type 0 where
+  pub lines' : List Direction
+  pub forgets : ForgetsAt g ends (conns_of conns) lines at offs lines'
+  pub tied : IsTied g now (slice_set ends at end) (slice_set conns at new) lines'
+
+pub forgets_at : (g : Config) (now : ℕ) (ends : List End) (conns : List Conn) (lines : List Direction) (at from : ℕ) (end : End) (conn new : Conn) (line : Direction) (taken : List (Key × Cause)) → IsJournal now ends → IsTied g now ends conns lines → IsAt ends conns at end conn → end.state ≡ Allocated → IsInboundAt ends lines end from line → line.line.clock ≡ now → present_at now conn.rx ≡ false →
+    IsDrained now conn.rx taken new.rx → drops now new.rx ≡ [] → new.plan ≡ conn.plan → new.given_up ≡ None → new.sending ≡ conn.sending → HasForgotten g now ends conns lines at end (offs_of taken) new
+forgets_at g now ends conns lines at from end conn new line taken journal tied is_at allocated inbound clock absent drained none plan given_up sending =
+    let c : Constants = inward g conn in
+    let h = tied.receives at from end conn line is_at allocated inbound in
+    let gone : is_present c now line.line.receiver ≡ false = present_same c now line.line.receiver line.inbox.joiner conn.rx h.stands ∙ absent in
+    let all = drained_all now conn.rx taken new.rx drained none in
+    let line' : Direction = happens c line Forget in
+    let R : Sending → Type 0 = λ s. IsReceiving (constants g s.form.cube (flipped (ids_by s.form.peer s.form.cube.id))) now (ids_by s.form.peer s.form.cube.id) new line' in
+    record {
+      lines' = slice_set lines from line';
+      forgets = record {
+        end = end;
+        its_ids = ids_of conn;
+        cube = conn.sending.form.cube;
+        place = place_of g now ends conns lines at end conn tied is_at;
+        allocated = allocated;
+        from = from;
+        line = line;
+        inbound = inbound;
+        gone = ap (λ n. is_present c n line.line.receiver) clock ∙ gone;
+        offs_are = λ off i. gone_off c now (ids_of conn) conn line h gone off (subst (λ (ds : List (Key × Cause)). In off (offs_of ds)) (sym all) i);
+        lines_are = refl;
+      };
+      tied = tied_after g now ends conns lines at from end end conn new line line' journal tied (record { is_at = is_at; inbound = inbound; const = record { flow = refl; role = refl; port = refl; app = refl; peer = refl; cube = refl }; sending = sending; sender = refl; clock = refl }) (λ still. subst R (sym sending) (receiving_forgot c now (ids_of conn) conn new line taken h gone drained none plan given_up));
+    }
+
+-- an end is closed: what its connection held is written off, and it is tied to its sender alone
+pub record HasEnded (g : Config) (now : ℕ) (ends : List End) (conns : List Conn) (lines : List Direction) (at : ℕ) (end : End) (state : PortState) (offs : List Off) (new : Conn) : Type 0 where
+  pub stops : EndsAt ends (conns_of conns) lines at state offs (slice_set ends at (record end { state = state }))
+  pub tied : IsTied g now (slice_set ends at (record end { state = state })) (slice_set conns at new) lines
+
+pub ends_at : (g : Config) (now : ℕ) (ends : List End) (conns : List Conn) (lines : List Direction) (at from : ℕ) (end : End) (conn new : Conn) (line : Direction) (state : PortState) (taken : List (Key × Cause)) → IsJournal now ends → IsTied g now ends conns lines → IsAt ends conns at end conn → end.state ≡ Allocated → Moves end.state state → state ≢ Allocated → IsInboundAt ends lines end from line →
+    drops now (record conn.rx { closed = true }) ≡ taken → new.sending ≡ conn.sending → HasEnded g now ends conns lines at end state (offs_of taken) new
+ends_at g now ends conns lines at from end conn new line state taken journal tied is_at allocated moves stops inbound all sending =
+    let place = place_of g now ends conns lines at end conn tied is_at in
+    let end' : End = record end { state = state } in
+    let again = tied_after g now ends conns lines at from end end' conn new line line journal tied (record { is_at = is_at; inbound = inbound; const = record { flow = refl; role = refl; port = refl; app = refl; peer = refl; cube = refl }; sending = sending; sender = refl; clock = refl }) (λ still. absurd (stops still)) in
+    record {
+      stops = record {
+        end = end;
+        its_ids = ids_of conn;
+        is_conn = place.is_conn;
+        allocated = allocated;
+        moves = moves;
+        stops = stops;
+        offs_are = λ off m l i inb. closed_off (inward g conn) now (ids_of conn) conn l (tied.receives at m end conn l is_at allocated inb) off (subst (λ (ds : List (Key × Cause)). In off (offs_of ds)) (sym all) i);
+        ends_are = refl;
+      };
+      tied = subst (λ (ls : List Direction). IsTied g now (slice_set ends at end') (slice_set conns at new) ls) (slice_set-same lines from line inbound.is_line) again;
+    }
+
+-- For the DIF of which these are the flows
+
+pub is_forgotten : (d : DifSeen) (lines : List Direction) (at i : ℕ) (process : Process) (offs : List Off) (lines' : List Direction) (d' : DifSeen) → (f : ForgetsAt d.config d.ends d.conns lines at offs lines') → home f.end.port.node d.config.members ≡ Some i → slice_get d.processes i ≡ Some process → d' ≡ with_process d i (with_offs process offs) → IsForgotten d lines at d' lines'
+is_forgotten d lines at i process offs lines' d' f at_home is_process is = record {
+  end = f.end;
+  ids = f.its_ids;
+  i = i;
+  process = process;
+  cube = f.cube;
+  is_home = record { is_conn = f.place.is_conn; allocated = f.allocated; at_home = at_home; is_process = is_process; is_cube = f.place.is_cube };
+  from = f.from;
+  line = f.line;
+  inbound = record { partner = f.inbound.partner; is_partner = f.inbound.is_partner; partners = f.inbound.partners; is_line = f.inbound.is_line };
+  gone = f.gone;
+  dropped = offs;
+  all_dropped = f.offs_are;
+  lines_are = f.lines_are;
+  new_is = is;
+}
+
+pub is_ended : (d : DifSeen) (lines : List Direction) (at i : ℕ) (state : PortState) (process : Process) (offs : List Off) (ends' : List End) (d' : DifSeen) → (e : EndsAt d.ends d.conns lines at state offs ends') → home e.end.port.node d.config.members ≡ Some i → slice_get d.processes i ≡ Some process → d' ≡ record d { ends = ends'; processes = slice_set d.processes i (with_offs process offs) } → IsEnded d lines at state d'
+is_ended d lines at i state process offs ends' d' e at_home is_process is = record {
+  end = e.end;
+  ids = e.its_ids;
+  is_conn = e.is_conn;
+  allocated = e.allocated;
+  moves = e.moves;
+  ends = e.stops;
+  i = i;
+  process = process;
+  at_home = at_home;
+  is_process = is_process;
+  dropped = offs;
+  all_dropped = λ off from line here inb. e.offs_are off from line here (record { partner = inb.partner; is_partner = inb.is_partner; partners = inb.partners; is_line = inb.is_line });
+  new_is = is ∙ ap (λ (es : List End). record d { ends = es; processes = slice_set d.processes i (with_offs process offs) }) e.ends_are;
+}
