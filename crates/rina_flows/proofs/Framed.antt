@@ -42,17 +42,17 @@ same_ids (k ∷ ks) (suc at) conn conn' h e = ap (λ (xs : List Ids). ids_of k �
 pub inbound_was : (ends : List End) (lines : List Direction) (at : ℕ) (end end' e e' : End) (from : ℕ) (line : Direction) → At ends at end → IsConst end end' → IsConst e e' → IsInboundAt (slice_set ends at end') lines e' from line → IsInboundAt ends lines e from line
 inbound_was ends lines at end end' e e' from line is const c h = elim (set_at ends at from end end' h.partner is h.is_partner) [
   | inl t ↦ record {
-      partner = end;
-      is_partner = ap (slice_get ends) t.0 ∙ is;
-      partners = partner_was end e h.partner e' (subst (IsConst end) (sym t.1) const) c h.partners;
-      is_line = h.is_line;
-    }
+    partner = end;
+    is_partner = ap (slice_get ends) t.0 ∙ is;
+    partners = partner_was end e h.partner e' (subst (IsConst end) (sym t.1) const) c h.partners;
+    is_line = h.is_line;
+  }
   | inr f ↦ record {
-      partner = h.partner;
-      is_partner = f.1;
-      partners = partner_was h.partner e h.partner e' (const_refl h.partner) c h.partners;
-      is_line = h.is_line;
-    }
+    partner = h.partner;
+    is_partner = f.1;
+    partners = partner_was h.partner e h.partner e' (const_refl h.partner) c h.partners;
+    is_line = h.is_line;
+  }
 ]
 
 -- what changed, at the place `at`, and of the direction at the place `from`

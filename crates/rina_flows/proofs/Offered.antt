@@ -107,9 +107,9 @@ entry_is : (c : Constants) (now : ℕ) (sdu : List ℕ) (line : Direction) (part
 entry_is c now sdu line parts num clock is joins =
     ap (λ (n : Num). record { tick = now; num = n; bytes = sdu }) is ∙ ap (λ (bytes : List ℕ). record { tick = now; num = record { cep = c.cep; seq = length (ready c now line.line.sender).run }; bytes = bytes }) (sym joins) ∙ ap (λ (n : ℕ). record { tick = n; num = record { cep = c.cep; seq = length (ready c n line.line.sender).run }; bytes = join parts }) (sym clock)
 
-conn_same : (k k' : Conn) → k'.sending ≡ k.sending → k'.rx ≡ k.rx → k'.plan ≡ k.plan → k'.given_up ≡ k.given_up → k' ≡ k
-conn_same k k' a b c d =
-    ap (λ s. record { sending = s; rx = k'.rx; plan = k'.plan; given_up = k'.given_up }) a ∙ ap (λ r. record { sending = k.sending; rx = r; plan = k'.plan; given_up = k'.given_up }) b ∙ ap (λ p. record { sending = k.sending; rx = k.rx; plan = p; given_up = k'.given_up }) c ∙ ap (λ d. record { sending = k.sending; rx = k.rx; plan = k.plan; given_up = d }) d
+conn_same : (k k' : Conn) → k'.sending ≡ k.sending → k'.rx ≡ k.rx → k'.plan ≡ k.plan → k'.given_up ≡ k.given_up → k'.waiting ≡ k.waiting → k' ≡ k
+conn_same k k' a b c d e =
+    ap (λ s. record k' { sending = s }) a ∙ ap (λ r. record k' { sending = k.sending; rx = r }) b ∙ ap (λ p. record k' { sending = k.sending; rx = k.rx; plan = p }) c ∙ ap (λ d. record k' { sending = k.sending; rx = k.rx; plan = k.plan; given_up = d }) d ∙ ap (λ w. record k { waiting = w }) e
 
 abbrev pub flows_of : List End → List Conn → Flows
 flows_of ends conns = record { journal = record { ends = ends }; conns = conns }
@@ -145,7 +145,7 @@ offers_from now at sdu ends mid ends' conns conns' sent sent' (Ok made) lt lt' s
     let parts : List Part = made'.0 in
     let entry = entry_is (outward g conn) now sdu line parts made.num sends.clock made'.2.num made'.1.1 in
     let are : ends' ≡ slice_set ends at (with_sent end (offered_entry (outward g conn) parts line)) =
-        whole at ends mid ends' end sent' e.1 out back ∙ ap (λ (xs : List Entry). slice_set ends at (record end { sent = xs })) (o.1 ∙ ap (λ (xs : List Entry). xs ++ record { tick = now; num = made.num; bytes = sdu } ∷ []) (sent_is end e.1) ∙ ap (λ (x : Entry). end.sent ++ x ∷ []) entry) in
+    whole at ends mid ends' end sent' e.1 out back ∙ ap (λ (xs : List Entry). slice_set ends at (record end { sent = xs })) (o.1 ∙ ap (λ (xs : List Entry). xs ++ record { tick = now; num = made.num; bytes = sdu } ∷ []) (sent_is end e.1) ∙ ap (λ (x : Entry). end.sent ++ x ∷ []) entry) in
     let tied = tied_offered g now at ends conns lines end conn b.0 line parts made t is l.1 made'.2 b.1.rx b.1.plan b.1.given_up in
     let tied' = subst (λ (xs : List End). IsTied g now xs (slice_set conns at b.0) (slice_set lines at (offered (outward g conn) parts line))) (sym are) tied in
     record {
@@ -171,12 +171,13 @@ offers_from now at sdu ends mid ends' conns conns' sent sent' (Err why) lt lt' s
       | inr become ↦
           let b = become conn k.1 in
           let refused = b.1.offers (outward g conn) line.line.sender sends.sender in
-          let same : b.0 ≡ conn = conn_same conn b.0 refused.2.1 b.1.rx b.1.plan b.1.given_up in
-          let ready_is = ap (λ (n : ℕ). refusal (outward g conn) (ready (outward g conn) n line.line.sender) refused.0) (sym sends.clock) in
-          (λ other conn' line' hk hl.
-            let k_is : conn ≡ conn' = cc in
-            let l_is : line ≡ line' = cc in
-            let found : IsRefused g sdu conn line why = record { parts = refused.0; cut = (refused.1.0, refused.1.1); refuses = subst (send.Refuses why) ready_is refused.2.0 } in
-            subst (λ (x : Conn). IsRefused g sdu x line' why) k_is (subst (λ (y : Direction). IsRefused g sdu conn y why) l_is found),
-          flows_are (b.2 ∙ ap (λ (x : Conn). slice_set conns at x) same ∙ slice_set-same conns at conn k.1))
+          let same : b.0 ≡ conn = conn_same conn b.0 refused.2.1 b.1.rx b.1.plan b.1.given_up b.1.waiting in
+          let ready_is = ap (λ (n : ℕ). refusal (outward g conn) (ready (outward g conn) n line.line.sender) refused.0) (sym sends.clock) in (
+            λ other conn' line' hk hl.
+                let k_is : conn ≡ conn' = cc in
+                let l_is : line ≡ line' = cc in
+                let found : IsRefused g sdu conn line why = record { parts = refused.0; cut = (refused.1.0, refused.1.1); refuses = subst (send.Refuses why) ready_is refused.2.0 } in
+                subst (λ (x : Conn). IsRefused g sdu x line' why) k_is (subst (λ (y : Direction). IsRefused g sdu conn y why) l_is found),
+            flows_are (b.2 ∙ ap (λ (x : Conn). slice_set conns at x) same ∙ slice_set-same conns at conn k.1),
+          )
     ]

@@ -43,10 +43,10 @@ tied_passed g now at from ends conns lines end conn conn' line journal t is inb 
     let clock : line.line.clock ≡ now = (t.sends from far.0 line far.1 inb.is_line).clock in
     let form : conn'.sending.form ≡ conn.sending.form = ap (λ (s : Sending). s.form) p.sending in
     let main : end.state ≡ Allocated → IsReceiving (inward g conn') now (ids_of conn') conn' line' = λ state.
-        (let h = t.receives at from end conn line is state inb in
-        let marks = p.marks (inward g conn) line.line.receiver line.inbox.joiner line.mark h.stands h.last h.plan in
-        let plan : IsPlanOf (inward g conn) (mark_passed (inward g conn) line.line.clock line.line.receiver line.mark) conn'.plan = subst (λ (n : ℕ). IsPlanOf (inward g conn) (mark_passed (inward g conn) n line.line.receiver line.mark) conn'.plan) (sym clock) marks in
-        receiving_conn g now (record conn { plan = conn'.plan }) conn' line' form p.rx refl p.given_up (receiving_plan (inward g conn) now (ids_of conn) conn line conn'.plan (line.passed + 1) (mark_passed (inward g conn) line.line.clock line.line.receiver line.mark) plan h)) in
+    (let h = t.receives at from end conn line is state inb in
+    let marks = p.marks (inward g conn) line.line.receiver line.inbox.joiner line.mark h.stands h.last h.plan in
+    let plan : IsPlanOf (inward g conn) (mark_passed (inward g conn) line.line.clock line.line.receiver line.mark) conn'.plan = subst (λ (n : ℕ). IsPlanOf (inward g conn) (mark_passed (inward g conn) n line.line.receiver line.mark) conn'.plan) (sym clock) marks in
+    receiving_conn g now (record conn { plan = conn'.plan }) conn' line' form p.rx refl p.given_up (receiving_plan (inward g conn) now (ids_of conn) conn line conn'.plan (line.passed + 1) (mark_passed (inward g conn) line.line.clock line.line.receiver line.mark) plan h)) in
     tied_set g now ends conns lines at from end (with_passed end) conn conn' line line' t (record {
       is_at = is;
       is_line = inb.is_line;

@@ -17,12 +17,12 @@ same_at o a b h g = cc
 
 pub takes_both : (ends : List End) (conns : List Conn) (at : ℕ) (pdu : Pdu) (end : End) (conn : Conn) (b : Bool) → slice_get ends at ≡ Some end → slice_get conns at ≡ Some conn → (IsTrue b ↔ Takes end conn pdu) → (IsTrue b ↔ TakesHere ends conns at pdu)
 takes_both ends conns at pdu end conn b e k w = (
-    (λ t. record { end = end; conn = conn; is_at = record { end_is = e; conn_is = k }; takes = w.0 t }),
-    (λ h.
+  (λ t. record { end = end; conn = conn; is_at = record { end_is = e; conn_is = k }; takes = w.0 t }),
+  (λ h.
       let end_is = same_at (slice_get ends at) h.end end h.is_at.end_is e in
       let conn_is = same_at (slice_get conns at) h.conn conn h.is_at.conn_is k in
-      w.1 (subst (λ (x : End). Takes x conn pdu) end_is (subst (λ (x : Conn). Takes h.end x pdu) conn_is h.takes)))
-  )
+      w.1 (subst (λ (x : End). Takes x conn pdu) end_is (subst (λ (x : Conn). Takes h.end x pdu) conn_is h.takes))),
+)
 
 pub no_conn : (ends : List End) (conns : List Conn) (at : ℕ) (pdu : Pdu) → length conns ≤ at → (IsTrue false ↔ TakesHere ends conns at pdu)
 no_conn ends conns at pdu le = ((λ t. absurd (false≢true t)), (λ h. let lt = slice_get_within conns at h.conn h.is_at.conn_is in absurd (omega arith)))
@@ -42,11 +42,15 @@ of_id (k ∷ ks) zero ids h = record { conn = k; conn_is = refl; ids_are = cc }
 of_id (k ∷ ks) (suc at) ids h = (let r = of_id ks at ids h in record { conn = r.conn; conn_is = r.conn_is; ids_are = r.ids_are })
 
 pub taken_here : (ends : List End) (conns : List Conn) (at : ℕ) (pdu : Pdu) → TakesHere ends conns at pdu → TakenBy ends (conns_of conns) pdu (Some at)
-taken_here ends conns at pdu h = (h.end, ids_of h.conn, record {
-  is_conn = record { end = h.is_at.end_is; ids_are = ids_at conns at h.conn h.is_at.conn_is };
-  allocated = h.takes.allocated;
-  names = h.takes.names;
-})
+taken_here ends conns at pdu h = (
+  h.end,
+  ids_of h.conn,
+  record {
+    is_conn = record { end = h.is_at.end_is; ids_are = ids_at conns at h.conn h.is_at.conn_is };
+    allocated = h.takes.allocated;
+    names = h.takes.names;
+  },
+)
 
 pub taken_nowhere : (ends : List End) (conns : List Conn) (n : ℕ) (pdu : Pdu) → length conns ≤ n → NoneBefore n ends conns pdu → TakenBy ends (conns_of conns) pdu None
 taken_nowhere ends conns n pdu le none at end ids h =
