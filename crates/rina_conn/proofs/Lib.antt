@@ -6,3 +6,4 @@ pub mod Resending
 pub mod Arriving
 pub mod Passing
 pub mod Acknowledging
+pub mod Carried

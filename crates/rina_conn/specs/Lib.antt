@@ -5,3 +5,4 @@ pub mod Conns
 pub mod Standing
 pub mod Clock
 pub mod Lending
+pub mod Laws

@@ -3,15 +3,21 @@
 
 mod conn;
 mod form;
+mod laws;
 mod made;
 mod sending;
 mod waiting;
 
 pub use conn::{Conn, ConnDue};
 pub use form::{Form, Peer};
+pub use laws::connection_receives_on;
 pub use made::{Made, OfferError, Pdus};
 pub use sending::{Admitted, Sending};
 pub use waiting::Waiting;
 
+#[cfg(test)]
+mod exchange;
+#[cfg(test)]
+mod exchanges;
 #[cfg(test)]
 mod tests;
