@@ -67,13 +67,13 @@ tied_later g now later ends conns lines le t = record {
   alike = t.alike;
   lines_alike = length-map lines (ticked (later - now)) ∙ t.lines_alike;
   sends = λ at conn line c l.
-    let old = was_at (ticked (later - now)) lines at line l in
-    let s = t.sends at conn old.0 c old.1 in
-    subst (λ (z : Direction). IsSending g later conn z) old.2 (record { cube = s.cube; clock = (let e = s.clock in omega (arith, e, le)); sender = s.sender });
+      let old = was_at (ticked (later - now)) lines at line l in
+      let s = t.sends at conn old.0 c old.1 in
+      subst (λ (z : Direction). IsSending g later conn z) old.2 (record { cube = s.cube; clock = (let e = s.clock in omega (arith, e, le)); sender = s.sender });
   receives = λ at from end conn line is_at allocated inbound.
-    let old = was_at (ticked (later - now)) lines from line inbound.is_line in
-    let before : IsInboundAt ends lines end from old.0 = record { partner = inbound.partner; is_partner = inbound.is_partner; partners = inbound.partners; is_line = old.1 } in
-    subst (λ (z : Direction). IsReceiving (inward g conn) later (ids_of conn) conn z) old.2 (receiving_later (inward g conn) now later (ids_of conn) conn old.0 le (t.receives at from end conn old.0 is_at allocated before));
+      let old = was_at (ticked (later - now)) lines from line inbound.is_line in
+      let before : IsInboundAt ends lines end from old.0 = record { partner = inbound.partner; is_partner = inbound.is_partner; partners = inbound.partners; is_line = old.1 } in
+      subst (λ (z : Direction). IsReceiving (inward g conn) later (ids_of conn) conn z) old.2 (receiving_later (inward g conn) now later (ids_of conn) conn old.0 le (t.receives at from end conn old.0 is_at allocated before));
 }
 
 pub holds_later : (d : Dif) (now : ℕ) (lines : List Direction) (below below' : Seen) → d.clock ≤ now → AreKept below' → IsLifted (config_of d.settings) below below' → below'.now ≡ now → Holds d lines below → Holds (record d { clock = now }) (map (ticked (now - d.clock)) lines) below'

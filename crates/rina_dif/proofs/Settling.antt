@@ -1,6 +1,6 @@
 -- What becomes of a PDU that came.
 use Rattle.std.proofs.Common.{◌≡◌, ◌∙◌, ℕ, ◌+◌, ◌-◌, ◌<◌, ◌≤◌, List, [], ◌∷◌, ◌++◌, length, map, get_or, slice_get, slice_set, option_map, append_assoc, Option, Some, None, Result, Ok, Err, refl, sym, ap, subst, arith, inl, inr, ◌⊎◌}
-use Rattle.std.specs.Prelude.{IsSome}
+use Rattle.std.specs.Prelude.{IsSome, OnErr, OnOk}
 use Rattle.std.proofs.lemmas.List.{length-map, map-set}
 use Rattle.std.proofs.lemmas.Option.{slice_get-map, slice_get_read}
 use Rattle.rina_account.specs.declared.ledger.Off.{Off}
@@ -69,6 +69,10 @@ notes_one pdu cause r at ps x x' lt read noted cap p is =
     let same : x ≡ p = same_some (slice_get ps at) x p here is in
     (x', subst (λ (z : IpcProcess). IsNoted (process_of z) pdu cause r (process_of x')) same noted, subst (λ (z : IpcProcess). x'.queues.cap ≡ z.queues.cap) same cap, refl)
 
+pub noted_by : (process : Process) (pdu : Pdu) (cause : Cause) (r : Result (Unit {0}) NoMemory) (process' : Process) → OnOk r (Notes process pdu cause process') → OnErr r (process' ≡ process) → IsNoted process pdu cause r process'
+noted_by process pdu cause (Ok u) process' ok err = ok
+noted_by process pdu cause (Err e) process' ok err = err
+
 pub arrives_one : (now place : ℕ) (pdu : Pdu) (at : ℕ) (flows flows' : Flows) (r : Result (Option Cause) NoMemory) (ps : List IpcProcess) (x : IpcProcess) (ledger : List Off) → at < length ps → x ≡ get_or ps at x → ArrivesIn now place pdu flows x.ledger r flows' ledger → ArrivesTo now place pdu at flows ps r flows' (slice_set ps at (record x { ledger = ledger }))
 arrives_one now place pdu at flows flows' r ps x ledger lt read arrives p is =
     let here : slice_get ps at ≡ Some x = slice_get_read ps (length ps) at x refl lt read in
@@ -77,10 +81,10 @@ arrives_one now place pdu at flows flows' r ps x ledger lt read arrives p is =
 
 -- The queues keep their places
 
-off_house : (p : Process) (lines : List Off) → IsSameHouse p (with_offs p lines)
+pub off_house : (p : Process) (lines : List Off) → IsSameHouse p (with_offs p lines)
 off_house p lines = record { routes = refl; places = λ qos link. refl }
 
-decides_same : (cap now addr : ℕ) (p : Process) (since : ℕ) (hop : Hop) (r : Result Settled NoMemory) (p' : Process) → Decides cap now addr p since hop r p' → IsSameHouse p p'
+pub decides_same : (cap now addr : ℕ) (p : Process) (since : ℕ) (hop : Hop) (r : Result Settled NoMemory) (p' : Process) → Decides cap now addr p since hop r p' → IsSameHouse p p'
 decides_same cap now addr p since hop (Ok settled.Own) p' s = house_is p p p' s.2 (same_house p)
 decides_same cap now addr p since hop (Ok settled.Relayed) p' s =
     let q = s.2 in
@@ -117,9 +121,13 @@ holds_unseen d ps lines below same housed h = record {
   housed = housed;
 }
 
-unseen : (d : Dif) (at : ℕ) (p p' : IpcProcess) (ps : List IpcProcess) → slice_get d.processes at ≡ Some p → process_of p' ≡ process_of p → ps ≡ slice_set d.processes at p' → seen_of (record d { processes = ps }) ≡ seen_of d
+pub unseen : (d : Dif) (at : ℕ) (p p' : IpcProcess) (ps : List IpcProcess) → slice_get d.processes at ≡ Some p → process_of p' ≡ process_of p → ps ≡ slice_set d.processes at p' → seen_of (record d { processes = ps }) ≡ seen_of d
 unseen d at p p' ps is same new =
     stepped d at p' ps new ∙ ap (with_process (seen_of d) at) same ∙ ap (λ (qs : List Process). record (seen_of d) { processes = qs }) (slice_set-same (map process_of d.processes) at (process_of p) (shown_at d at p is))
+
+-- whatever the error is
+pub settles_err : (d : Dif) (at since : ℕ) (hop : Hop) (e e' : NoMemory) (r : Result Took NoMemory) (d' : Dif) → SettlesFor d at since hop (Err e) d' → r ≡ Err e' → SettlesFor d at since hop r d'
+settles_err d at since hop e e' r d' s is = subst (λ (v : Result Took NoMemory). SettlesFor d at since hop v d') (sym is) s
 
 pub decided_err : (d : Dif) (addr at since : ℕ) (hop : Hop) (e : NoMemory) (ps : List IpcProcess) → at < length d.settings.members → DecidesAt d.clock addr since hop (Err e) at d.processes ps → SettlesFor d at since hop (Err e) (record d { processes = ps })
 decided_err d addr at since hop e ps lt decides lines below h there =
@@ -145,10 +153,10 @@ decided d addr at since hop s end ps lt is_addr settles decides lines below h th
     record {
       lines' = lines;
       settled = λ member process q.
-        let same = decided_there d at p.0 member process p.1 q in
-        let addressed : Decides d.settings.cap d.clock member.addr (process_of p.0) since hop (Ok s) (process_of x.0) = subst (λ (a : ℕ). Decides d.settings.cap d.clock a (process_of p.0) since hop (Ok s) (process_of x.0)) (is_addr member q.is_member) (subst (λ (n : ℕ). Decides n d.clock addr (process_of p.0) since hop (Ok s) (process_of x.0)) cap x.1) in
-        let all = settles (process_of p.0) (process_of x.0) lines member addressed in
-        subst (λ (z : Process). Settles (seen_of d) lines at member z since hop end (seen_of (record d { processes = ps })) lines) same (subst (λ (z : DifSeen). Settles (seen_of d) lines at member (process_of p.0) since hop end z lines) (sym (stepped d at x.0 ps x.3)) all);
+          let same = decided_there d at p.0 member process p.1 q in
+          let addressed : Decides d.settings.cap d.clock member.addr (process_of p.0) since hop (Ok s) (process_of x.0) = subst (λ (a : ℕ). Decides d.settings.cap d.clock a (process_of p.0) since hop (Ok s) (process_of x.0)) (is_addr member q.is_member) (subst (λ (n : ℕ). Decides n d.clock addr (process_of p.0) since hop (Ok s) (process_of x.0)) cap x.1) in
+          let all = settles (process_of p.0) (process_of x.0) lines member addressed in
+          subst (λ (z : Process). Settles (seen_of d) lines at member z since hop end (seen_of (record d { processes = ps })) lines) same (subst (λ (z : DifSeen). Settles (seen_of d) lines at member (process_of p.0) since hop end z lines) (sym (stepped d at x.0 ps x.3)) all);
       tied = h.tied;
       housed = subst (AreHoused (config_of d.settings)) (sym x.3) (housed_set (config_of d.settings) d.processes at p.0 x.0 h.housed p.1 x.2 (decides_same p.0.queues.cap d.clock addr (process_of p.0) since hop (Ok s) (process_of x.0) x.1));
     }

@@ -4,6 +4,7 @@ ghost use Rattle.rina_base.specs.declared.pdu.PduKind.TheVariants.{Piece};
 ghost use Rattle.rina_iface.specs.Later.{IsLater};
 ghost use Rattle.rina_law.specs.Direction.{Direction};
 ghost use Rattle.rina_data.specs.Hops.{hop_of};
+ghost use Rattle.rina_data.specs.declared.step.StepError.TheVariants.{Memory as MemoryWanted};
 ghost use Rattle.rina_flows.specs.Calls.{TakenBy};
 ghost use Rattle.rina_flows.specs.Tied.{conns_of};
 ghost use Rattle.rina_dif.specs.Holding.{Holds, Stands};
@@ -95,5 +96,73 @@ impl Dif {
             Settled::Off(cause) => Ok(Took::Off(cause)),
             Settled::Own => self.own(alloc, at, came),
         }
+    }
+
+    /// Takes the oldest SDU of a link of the IPC process at a place.
+    fn take_in<F: Facility>(
+        &mut self,
+        alloc: Global,
+        below: &mut F,
+        at: usize,
+        link: u16,
+    ) -> Result<InStep, StepError>
+        requires valid { F.valid below.old }
+        requires stands { Stands self.old (F.seen below.old) }
+        requires at { at < length self.old.settings.members }
+        ensures valid { F.valid below.new }
+        ensures below { F.same_below below.old below.new }
+        ensures later { IsLater (F.seen below.old) (F.seen below.new) }
+        ensures does { (lines : List Direction) → Holds self.old lines (F.seen below.old) → TakesIn self.old lines (F.seen below.old) at link result self.new (F.seen below.new) }
+        ensures failed { self.new.failed ≡ self.old.failed }
+    {
+        let Some(process) = self.processes.get(at) else {
+            unreachable!()
+        };
+        let Some(live) = live_link(process.links.as_slice(), link) else {
+            return Err(StepError::NoLink);
+        };
+        let port = live.port;
+        let Some(lent) = below.peek(port) else {
+            return Ok(InStep::Idle);
+        };
+        let Some(hop) = open(lent.bytes, self.settings.widths) else {
+            unreachable!()
+        };
+        let key = hop.pdu.key();
+        let came = Came {
+            since: lent.at,
+            hop,
+        };
+        let end = self.settle(alloc, at, &came)?;
+        below.pass(port);
+        Ok(InStep::Took { key, end })
+    }
+
+    /// Takes one step of the IPC process at a node at a link: the oldest SDU that waits there is taken, and the PDU in
+    /// it delivered to its connection, relayed, or written off. Once memory was wanted every step answers so.
+    pub fn in_step<F: Facility>(
+        &mut self,
+        alloc: Global,
+        below: &mut F,
+        node: Node,
+        link: u16,
+    ) -> Result<InStep, StepError>
+        requires valid { F.valid below.old }
+        requires stands { Stands self.old (F.seen below.old) }
+        ensures valid { F.valid below.new }
+        ensures below { F.same_below below.old below.new }
+        ensures later { IsLater (F.seen below.old) (F.seen below.new) }
+        ensures does { (lines : List Direction) → Holds self.old lines (F.seen below.old) → TakesHome self.old lines (F.seen below.old) node link result self.new (F.seen below.new) }
+        ensures failed { self.old.failed ≡ true → result ≡ Err MemoryWanted }
+        ensures fails { self.new.failed ≡ true ↔ (result ≡ Err MemoryWanted) }
+    {
+        if self.failed {
+            return Err(StepError::Memory);
+        }
+        let Some(at) = self.home(node) else {
+            return Err(StepError::NoIpc);
+        };
+        let step = self.take_in(alloc, below, at, link);
+        Dif::note(&mut self.failed, step)
     }
 }

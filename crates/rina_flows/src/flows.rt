@@ -170,7 +170,8 @@ impl Flows {
     /// Lets the connection at a place take an acknowledgement. Takes no memory.
     pub fn told(&mut self, at: usize, pdu: &PduView<'_>)
         requires { at < length self.old.conns }
-        ensures { TellsOne at (pdu_of pdu.now) self.old self.new }
+        ensures told { TellsOne at (pdu_of pdu.now) self.old self.new }
+        ensures ends { self.new.journal.ends ≡ self.old.journal.ends }
     {
         self.conns.told(at, pdu);
     }
