@@ -10,8 +10,8 @@ use Rattle.rina_data.specs.Ids.{Ids}
 use Rattle.rina_dtp.specs.Joins.{bytes_of}
 use Rattle.rina_law.specs.declared.entry.Entry.{Entry}
 use Rattle.rina_law.specs.Pieces.{Sdu}
-use Rattle.rina_flows.specs.Arriving.{entry_from}
-use Rattle.rina_flows.specs.Delivering.{Delivers, IsDelivering, next_num, noted, with_fetched}
+use Rattle.rina_flows.specs.Arriving.{entry_from, noted}
+use Rattle.rina_flows.specs.Delivering.{Delivers, IsDelivering, next_num, with_fetched}
 use Rattle.rina_flows.specs.Tied.{ids_of}
 use Rattle.rina_flows.proofs.Writing.{pushed}
 

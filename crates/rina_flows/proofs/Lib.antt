@@ -1,4 +1,5 @@
 pub mod Added
+pub mod Adding
 pub mod Arrived
 pub mod ArrivesAt
 pub mod Coming
@@ -12,12 +13,15 @@ pub mod Landed
 pub mod Lasting
 pub mod Offered
 pub mod Passed
+pub mod Plain
 pub mod Received
 pub mod Receives
 pub mod Restated
 pub mod Retied
+pub mod Stopped
 pub mod Taking
 pub mod Told
 pub mod Unbroken
+pub mod Waiting
 pub mod Welcome
 pub mod Writing

@@ -9,11 +9,13 @@ use Rattle.rina_base.specs.declared.pdu.Pdu.{Pdu}
 use Rattle.rina_conn.specs.Conns.{Passes}
 use Rattle.rina_conn.specs.Sending as send
 use Rattle.rina_conn.specs.Standing.{PassesFirst}
-use Rattle.rina_data.specs.Dif.{Config, piece_size}
+use Rattle.rina_data.specs.Cloud.{Cloud, Everywhere}
+use Rattle.rina_data.specs.Dif.{Config, Process, piece_size}
 use Rattle.rina_data.specs.Ids.{Ids, IsFrom, flipped}
-use Rattle.rina_data.specs.Standing.{IsJournal}
+use Rattle.rina_data.specs.Standing.{IsJournal, IsOwn}
 use Rattle.rina_iface.specs.declared.ends.End.{End}
 use Rattle.rina_iface.specs.declared.state.PortState.TheVariants.{Allocated}
+use Rattle.rina_iface.specs.Seen.{Seen}
 use Rattle.rina_law.specs.declared.entry.Entry.{Entry}
 use Rattle.rina_law.specs.Direction.{Direction, offer_refusal}
 use Rattle.rina_law.specs.Pieces.{Part, IsCut, join}
@@ -104,7 +106,8 @@ pub record IsPassed (g : Config) (now at : ℕ) (old : Flows) (lines : List Dire
   pub ids : SameIds old new
 
 abbrev pub PassesOne : ℕ → ℕ → Flows → Flows → Type 0
-PassesOne now at old new = (g : Config) (lines : List Direction) → IsJournal now old.journal.ends → AreTied g now old lines → IsPassed g now at old lines new
+PassesOne now at old new =
+    (g : Config) (lines : List Direction) (processes : List Process) (below : Seen) → IsJournal now old.journal.ends → IsOwn g now (Cloud Everywhere g processes below) old.journal.ends (conns_of old.conns) lines → AreTied g now old lines → IsPassed g now at old lines new
 
 -- An acknowledgement
 

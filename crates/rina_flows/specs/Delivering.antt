@@ -1,6 +1,6 @@
 -- What a connection does with a piece that comes: what it gives up is noted behind the lines of a ledger, and what
 -- becomes whole behind what its end got, where there is room for all of it.
-use Rattle.std.specs.Prelude.{◌≡◌, ℕ, ◌+◌, ◌≤◌, List, [], ◌∷◌, ◌++◌, length, map, slice_get, Option, Some, None, Result, Ok, Err}
+use Rattle.std.specs.Prelude.{◌≡◌, ◌≢◌, ℕ, ◌+◌, ◌≤◌, Bool, true, false, List, [], ◌∷◌, ◌++◌, length, map, slice_get, Option, Some, None, Result, Ok, Err}
 use Rattle.rina_account.specs.declared.ledger.Off.{Off}
 use Rattle.rina_base.specs.declared.cause.Cause.{Cause}
 use Rattle.rina_base.specs.declared.memory.Memory.{Memory}
@@ -11,7 +11,6 @@ use Rattle.rina_base.specs.declared.pdu.PduKind.TheVariants.{Piece as APiece}
 use Rattle.rina_conn.specs.declared.conn.Conn.{Conn}
 use Rattle.rina_conn.specs.Conns.{Marks}
 use Rattle.rina_conn.specs.Standing.{Arrives}
-use Rattle.rina_conn.specs.Waiting.{Waits, with_whole}
 use Rattle.rina_data.specs.Cloud.{Cloud, Everywhere}
 use Rattle.rina_data.specs.Dif.{Config, Process}
 use Rattle.rina_data.specs.Ids.{Ids}
@@ -19,16 +18,21 @@ use Rattle.rina_data.specs.Incoming.{lines_for}
 use Rattle.rina_data.specs.Standing.{IsConfig, IsJournal, IsOwn}
 use Rattle.rina_dtp.specs.declared.verdict.Verdict.{Verdict}
 use Rattle.rina_dtp.specs.Joins.{bytes_of}
-use Rattle.rina_dtp.specs.Receiving.{Receiving, drops, kept_numbers}
+use Rattle.rina_dtp.specs.Receiving.{Receiving, drops, kept_numbers, present_at}
 use Rattle.rina_dtp.specs.Stands.{IsRow}
 use Rattle.rina_iface.specs.declared.ends.End.{End}
+use Rattle.rina_iface.specs.declared.state.PortState.{PortState}
+use Rattle.rina_iface.specs.declared.state.PortState.TheVariants.{Allocated}
+use Rattle.rina_iface.specs.Journal.{At}
+use Rattle.rina_iface.specs.Later.{Moves}
 use Rattle.rina_iface.specs.Seen.{Seen}
 use Rattle.rina_law.specs.declared.entry.Entry.{Entry}
 use Rattle.rina_law.specs.Direction.{Direction}
 use Rattle.rina_law.specs.Pieces.{Sdu}
 use Rattle.rina_flows.specs.declared.flows.Flows.{Flows}
-use Rattle.rina_flows.specs.Arriving.{IsDrained, cause_of, entry_from, offs_of}
-use Rattle.rina_flows.specs.Calls.{AreTied, Becomes, SameIds}
+use Rattle.rina_flows.specs.Arriving.{IsDrained, cause_of, entry_from, noted, offs_of}
+use Rattle.rina_flows.specs.Calls.{AreTied, Becomes, SameIds, Tells}
+use Rattle.rina_flows.specs.Ending.{EndsAt, ForgetsAt}
 use Rattle.rina_flows.specs.Rows.{ArrivesAt, TakesAt}
 use Rattle.rina_flows.specs.Tied.{conns_of, ids_of}
 
@@ -49,11 +53,6 @@ pub record WritesOff (now : ℕ) (old : Receiving) (lines : List Off) (room : �
 abbrev pub next_num : Ids → List Sdu → Option Num
 next_num ids [] = None
 next_num ids (w ∷ ws) = Some (record { cep = ids.dcep; seq = w.first })
-
--- these SDUs wait to be passed, behind those that waited
-abbrev pub noted : List Sdu → Waits → Waits
-noted [] w = w
-noted (s ∷ ss) w = noted ss (with_whole (Some s.first) w)
 
 -- the connection once SDUs that became whole are fetched (`done`), and these are left
 abbrev pub with_fetched : List Sdu → List Sdu → Conn → Conn
@@ -138,3 +137,48 @@ abbrev pub ArrivesIn : ℕ → ℕ → Pdu → Flows → List Off → Result (Op
 ArrivesIn now at pdu old ledger (Ok cause) new ledger' =
     (g : Config) (lines : List Direction) (processes : List Process) (below : Seen) → AreStanding g now (Cloud Everywhere g processes below) old lines → Comes now (Cloud Everywhere g processes below) old at pdu → HasComeIn g now at pdu old ledger lines cause new ledger'
 ArrivesIn now at pdu old ledger (Err e) new ledger' = (new ≡ old) × (ledger' ≡ ledger)
+
+-- What is given up without an arrival
+
+-- a connection gives up what it holds, and its lines are noted where there is room
+pub record GivesUpAll (now : ℕ) (from : Receiving → Receiving) (lines : List Off) (room : ℕ) (lines' : List Off) (old new : Conn) : Type 0 where
+  pub writes : WritesOff now (from old.rx) lines room new.rx lines'
+  pub new_is : new ≡ record old { rx = new.rx }
+
+-- its receiver is closed before
+abbrev pub closed : Receiving → Receiving
+closed r = record r { closed = true }
+
+-- pieces are held of a state that has ended
+abbrev pub HoldsGone : ℕ → Conn → Type 0
+HoldsGone now k = (present_at now k.rx ≡ false) × (kept_numbers k.rx ≢ [])
+
+-- they are given up, and the flows stay tied
+pub record HasGone (g : Config) (now at : ℕ) (old : Flows) (ledger : List Off) (lines : List Direction) (new : Flows) (ledger' : List Off) : Type 0 where
+  pub lines' : List Direction
+  pub offs : List Off
+  pub forgets : ForgetsAt g old.journal.ends (conns_of old.conns) lines at offs lines'
+  pub ledger_is : ledger' ≡ ledger ++ offs
+  pub same : new.journal ≡ old.journal
+  pub tied : AreTied g now new lines'
+  pub ids : SameIds old new
+
+-- `forget` answers whether there are any
+abbrev pub ForgetsIn : ℕ → ℕ → Flows → List Off → Result Bool Memory → Flows → List Off → Type 0
+ForgetsIn now at old ledger (Ok true) new ledger' = Tells (HoldsGone now) at old.conns ×
+    ((g : Config) (lines : List Direction) (end : End) → IsJournal now old.journal.ends → AreTied g now old lines → At old.journal.ends at end → end.state ≡ Allocated → HasGone g now at old ledger lines new ledger')
+ForgetsIn now at old ledger (Ok false) new ledger' = Tells (λ k. HoldsGone now k → ⊥) at old.conns × (new ≡ old) × (ledger' ≡ ledger)
+ForgetsIn now at old ledger (Err e) new ledger' = (new ≡ old) × (ledger' ≡ ledger)
+
+-- an end is allocated no more: what its connection held is given up, and the flows stay tied
+pub record HasStopped (g : Config) (now at : ℕ) (state : PortState) (old : Flows) (ledger : List Off) (lines : List Direction) (new : Flows) (ledger' : List Off) : Type 0 where
+  pub offs : List Off
+  pub stops : EndsAt old.journal.ends (conns_of old.conns) lines at state offs new.journal.ends
+  pub ledger_is : ledger' ≡ ledger ++ offs
+  pub tied : AreTied g now new lines
+  pub ids : SameIds old new
+
+abbrev pub StopsIn : ℕ → ℕ → PortState → Flows → List Off → Result (Unit {0}) Memory → Flows → List Off → Type 0
+StopsIn now at state old ledger (Ok u) new ledger' =
+    (g : Config) (lines : List Direction) (end : End) → IsJournal now old.journal.ends → AreTied g now old lines → At old.journal.ends at end → end.state ≡ Allocated → Moves end.state state → state ≢ Allocated → HasStopped g now at state old ledger lines new ledger'
+StopsIn now at state old ledger (Err e) new ledger' = (new ≡ old) × (ledger' ≡ ledger)

@@ -1,3 +1,4 @@
+pub mod Adding
 pub mod Arriving
 pub mod Calls
 pub mod Delivering

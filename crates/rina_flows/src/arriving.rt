@@ -59,7 +59,7 @@ pub fn cause_of(verdict: Verdict) -> Option<Cause>
 }
 
 /// Writes a line for each piece that a receiver gave up. A line for which there is no room is left out.
-fn write_off(rx: &mut Rx, now: Tick, lines: &mut Vec<Off>)
+pub fn write_off(rx: &mut Rx, now: Tick, lines: &mut Vec<Off>)
     ensures writes { WritesOff now rx.old lines.old.items (vec_capacity lines.old) rx.new lines.new.items }
     ensures capacity { vec_capacity lines.old ≤ vec_capacity lines.new }
 {

@@ -1,15 +1,17 @@
 //! Connections, each at the place of its end.
-ghost use Rattle.std.specs.Prelude.{◌≡◌, ◌≤◌, ◌<◌, [], length, slice_get, Some, MatchOption};
+ghost use Rattle.std.specs.Prelude.{◌≡◌, ◌≤◌, ◌<◌, [], ◌∷◌, ◌++◌, length, slice_get, Some, List, MatchOption, OnOk, OnErr};
 ghost use Rattle.std.specs.Vec.{vec_capacity};
+ghost use Rattle.rina_conn.specs.declared.conn.Conn.{Conn};
 ghost use Rattle.rina_base.specs.Pdus.{pdu_of};
-ghost use Rattle.rina_flows.specs.Delivering.{IsLanding, Receives};
+ghost use Rattle.rina_flows.specs.Delivering.{GivesUpAll, IsLanding, Receives, closed};
 ghost use Rattle.rina_flows.specs.Calls.{Becomes, IsOffer, IsPass, IsTold};
 
-use crate::arriving::{Notes, cause_of, receive};
+use crate::arriving::{Notes, cause_of, receive, write_off};
+use rina_account::Off;
 use rina_base::{Bytes, Cause, Memory, PduView, Tick};
 use rina_conn::{Conn, Made, OfferError};
 use rina_dtp::Verdict;
-use std::alloc::Global;
+use std::alloc::{AllocError, Global};
 use std::marker::Model;
 
 /// Connections, each at the place of its end. A contract sees the list of them.
@@ -134,5 +136,44 @@ impl Conns {
         let cause = cause_of(verdict);
         notes.write(pdu, cause);
         Ok(cause)
+    }
+
+    /// Writes off what the connection at this place holds of a state that has ended. Takes memory only where `lines`
+    /// has no room.
+    pub fn forget(&mut self, now: Tick, at: usize, lines: &mut Vec<Off>)
+        requires { at < length self.old }
+        ensures { Becomes (GivesUpAll now (λ r. r) lines.old.items (vec_capacity lines.old) lines.new.items) at self.old self.new }
+    {
+        let conn = &mut self.items[at];
+        write_off(&mut conn.rx, now, lines);
+    }
+
+    /// Closes the connection at this place, and writes off what it holds. Takes memory only where `lines` has no room.
+    pub fn close(&mut self, now: Tick, at: usize, lines: &mut Vec<Off>)
+        requires { at < length self.old }
+        ensures { Becomes (GivesUpAll now closed lines.old.items (vec_capacity lines.old) lines.new.items) at self.old self.new }
+    {
+        let conn = &mut self.items[at];
+        conn.close();
+        write_off(&mut conn.rx, now, lines);
+    }
+
+    /// Adds two connections, or none.
+    pub fn push_both(&mut self, first: Conn, second: Conn) -> Result<(), AllocError>
+        ensures ok { OnOk result (self.new ≡ self.old ++ first ∷ second ∷ []) }
+        ensures err { OnErr result (self.new ≡ self.old) }
+    {
+        self.items.reserve(2)?;
+        self.items.push_reserved(first);
+        self.items.push_reserved(second);
+        Ok(())
+    }
+
+    /// Takes the last two connections away.
+    pub fn pop_both(&mut self)
+        ensures { (was : List Conn) (first second : Conn) → self.old ≡ was ++ first ∷ second ∷ [] → self.new ≡ was }
+    {
+        let _ = self.items.pop();
+        let _ = self.items.pop();
     }
 }

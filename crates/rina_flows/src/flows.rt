@@ -1,19 +1,22 @@
 //! The flows of a DIF.
-ghost use Rattle.std.specs.Prelude.{◌≡◌, ◌≤◌, ◌<◌, ◌-◌, ◌^◌, min, [], length, slice_get, Some, IsTrue, ◌↔◌};
+ghost use Rattle.std.specs.Prelude.{◌≡◌, ◌≤◌, ◌<◌, ◌-◌, ◌^◌, min, [], ◌∷◌, ◌++◌, length, slice_get, Some, IsTrue, ◌↔◌, OnOk, OnErr};
 ghost use Rattle.rina_base.specs.Pdus.{pdu_of};
 ghost use Rattle.rina_conn.specs.Sending.{TellsRoom};
+ghost use Rattle.rina_cube.specs.Cubes.{IsCube};
 ghost use Rattle.rina_data.specs.Ids.{IsFrom, flipped};
+ghost use Rattle.rina_flows.specs.Adding.{Adds, turned};
 ghost use Rattle.rina_flows.specs.Calls.{Offered, Offers, PassesOne, TakenBy, Takes, TakesHere, Tells, TellsNeed, TellsNext, TellsOne};
-ghost use Rattle.rina_flows.specs.Delivering.{ArrivesIn};
+ghost use Rattle.rina_flows.specs.Delivering.{ArrivesIn, ForgetsIn, StopsIn};
 ghost use Rattle.rina_flows.specs.Tied.{IsAt, conns_of, ids_of};
 
 use crate::arriving::Notes;
 use crate::conns::Conns;
 use rina_account::Ledger;
 use rina_base::{Bytes, Cause, Memory, PduView, Tick};
-use rina_conn::{Conn, Form, Made, OfferError};
+use rina_conn::{Conn, Form, Made, OfferError, Peer};
+use rina_cube::Cube;
 use rina_iface::{End, Ends, Entry, Journal, PortState};
-use std::alloc::Global;
+use std::alloc::{AllocError, Global};
 
 /// The flows of a DIF: the journal of their ends, and the connection of each end, at the place of the end.
 #[derive(Drop)]
@@ -44,6 +47,18 @@ fn offer_noted(
         bytes,
     });
     Ok(made)
+}
+
+/// The two ends of a connection by the far one.
+fn turned(peer: Peer) -> Peer
+    ensures { result ≡ turned peer }
+{
+    Peer {
+        own: peer.far,
+        far: peer.own,
+        scep: peer.dcep,
+        dcep: peer.scep,
+    }
 }
 
 /// How many pieces an SDU of `len` bytes has.
@@ -240,5 +255,96 @@ impl Flows {
         self.journal.ends.put_got(at, notes.got);
         ledger.put(notes.lines);
         result
+    }
+
+    /// Writes off the pieces that the connection at a place holds of a state that has ended, and answers whether
+    /// there were any. Without memory nothing changes.
+    pub fn forget(
+        &mut self,
+        alloc: Global,
+        now: Tick,
+        at: usize,
+        ledger: &mut Ledger,
+    ) -> Result<bool, Memory>
+        requires { at < length self.old.conns }
+        ensures { ForgetsIn now at self.old ledger.old result self.new ledger.new }
+    {
+        let rx = &self.conns.at(at).rx;
+        let kept = rx.kept();
+        if rx.present(now) || kept == 0 {
+            return Ok(false);
+        }
+        let mut lines = ledger.take(alloc);
+        match lines.reserve(kept as usize) {
+            Ok(()) => {
+                self.conns.forget(now, at, &mut lines);
+                ledger.put(lines);
+                Ok(true)
+            }
+            Err(AllocError) => {
+                ledger.put(lines);
+                Err(Memory)
+            }
+        }
+    }
+
+    /// Lets the end at a place be in a state in which it is allocated no more, and writes off what its connection
+    /// holds. Without memory nothing changes.
+    pub fn stop(
+        &mut self,
+        alloc: Global,
+        now: Tick,
+        at: usize,
+        state: PortState,
+        ledger: &mut Ledger,
+    ) -> Result<(), Memory>
+        requires end { at < length self.old.journal.ends }
+        requires conn { at < length self.old.conns }
+        ensures { StopsIn now at state self.old ledger.old result self.new ledger.new }
+    {
+        let kept = self.conns.at(at).rx.kept();
+        let mut lines = ledger.take(alloc);
+        match lines.reserve(kept as usize) {
+            Ok(()) => {
+                self.conns.close(now, at, &mut lines);
+                ledger.put(lines);
+                self.journal.ends.set_state(at, state);
+                Ok(())
+            }
+            Err(AllocError) => {
+                ledger.put(lines);
+                Err(Memory)
+            }
+        }
+    }
+
+    /// Adds both ends of a flow, with new connections of a cube for pieces of at most `piece` bytes and numbers up to
+    /// `max`. `peer` is by the asker. Without memory nothing changes.
+    pub fn add(
+        &mut self,
+        alloc: Global,
+        cube: &Cube,
+        piece: u32,
+        max: u32,
+        peer: Peer,
+        asker: End,
+        far: End,
+    ) -> Result<(), Memory>
+        requires cube { IsCube cube.now }
+        requires piece { 1 ≤ piece }
+        ensures ends { OnOk result (self.new.journal.ends ≡ self.old.journal.ends ++ asker ∷ far ∷ []) }
+        ensures adds { OnOk result (Adds cube.now piece max peer asker far self.old self.new) }
+        ensures err { OnErr result (self.new ≡ self.old) }
+    {
+        let conn = Conn::new(alloc, cube, piece, max, peer)?;
+        let its = Conn::new(alloc, cube, piece, max, turned(peer))?;
+        self.conns.push_both(conn, its)?;
+        match self.journal.ends.push_both(asker, far) {
+            Ok(()) => Ok(()),
+            Err(AllocError) => {
+                self.conns.pop_both();
+                Err(Memory)
+            }
+        }
     }
 }

@@ -4,6 +4,9 @@
 mod arriving;
 mod conns;
 mod flows;
+mod laws;
 
+pub use arriving::Notes;
 pub use conns::Conns;
 pub use flows::Flows;
+pub use laws::{calls_are_those_of_the_dif, flows_stay_tied};

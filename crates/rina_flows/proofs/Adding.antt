@@ -1,0 +1,37 @@
+-- A flow that is added.
+use Rattle.std.proofs.Common.{◌≡◌, ℕ, List, [], ◌∷◌, ◌++◌, map, refl, sym, ◌∙◌, ap, subst}
+use Rattle.std.proofs.lemmas.List.{map-append}
+use Rattle.rina_conn.specs.declared.conn.Conn.{Conn}
+use Rattle.rina_conn.specs.declared.form.Peer.{Peer}
+use Rattle.rina_conn.specs.Conns.{IsNewConn}
+use Rattle.rina_cube.specs.declared.Cube.{Cube}
+use Rattle.rina_data.specs.Dif.{Config, constants, greatest, piece_size}
+use Rattle.rina_data.specs.Ids.{Ids}
+use Rattle.rina_data.specs.Lifting.{ticked}
+use Rattle.rina_iface.specs.declared.ends.End.{End}
+use Rattle.rina_law.specs.Constants.{Constants}
+use Rattle.rina_law.specs.Direction.{Direction, start}
+use Rattle.rina_flows.specs.Adding.{Adds, begun_now, turned}
+use Rattle.rina_flows.specs.Tied.{IsTied, ids_by, ids_of, outward}
+use Rattle.rina_flows.proofs.Added.{tied_both}
+use Rattle.rina_flows.proofs.Lasting.{new_flow}
+use Rattle.rina_flows.proofs.Offered.{flows_of}
+
+-- the names of a new connection, and the direction in which it sends
+new_ids : (cube : Cube) (piece max : ℕ) (peer : Peer) (conn : Conn) → IsNewConn cube piece max peer conn → ids_of conn ≡ ids_by peer cube.id
+new_ids cube piece max peer conn new = ap (λ (p : Peer). ids_by p conn.sending.form.cube.id) new.peer_is ∙ ap (λ (x : Cube). ids_by peer x.id) new.cube_is
+
+new_line : (g : Config) (now : ℕ) (cube : Cube) (piece max : ℕ) (peer : Peer) (conn : Conn) → IsNewConn cube piece max peer conn → ticked now (start (outward g conn)) ≡ begun_now g now cube peer
+new_line g now cube piece max peer conn new = ap (λ (x : Cube). ticked now (start (constants g x (ids_of conn)))) new.cube_is ∙ ap (λ (i : Ids). ticked now (start (constants g cube i))) (new_ids cube piece max peer conn new)
+
+pub adds_from : (cube : Cube) (piece max : ℕ) (peer : Peer) (ends : List End) (conns : List Conn) (asker far : End) (conn its : Conn) → IsNewConn cube piece max peer conn → IsNewConn cube piece max (turned peer) its → Adds cube piece max peer asker far (flows_of ends conns) (flows_of (ends ++ asker ∷ far ∷ []) (conns ++ conn ∷ its ∷ []))
+adds_from cube piece max peer ends conns asker far conn its new there = λ g now lines t n.
+    let N : Peer → Conn → ℕ → ℕ → Type 0 = λ p k x y. IsNewConn cube x y p k in
+    let new' : IsNewConn cube (piece_size g) (greatest g) peer conn = subst (λ (y : ℕ). N peer conn (piece_size g) y) n.max_is (subst (λ (x : ℕ). N peer conn x max) n.piece_is new) in
+    let there' : IsNewConn cube (piece_size g) (greatest g) (turned peer) its = subst (λ (y : ℕ). N (turned peer) its (piece_size g) y) n.max_is (subst (λ (x : ℕ). N (turned peer) its x max) n.piece_is there) in
+    let both = tied_both g now ends conns lines asker far conn its (ticked now (start (outward g conn))) (ticked now (start (outward g its))) t (new_flow g now ends asker far cube peer conn its new' there' n.is_cube n.fresh n.same_flow) in
+    let T : Direction → Direction → Type 0 = λ a b. IsTied g now (ends ++ asker ∷ far ∷ []) (conns ++ conn ∷ its ∷ []) (lines ++ a ∷ b ∷ []) in
+    record {
+      tied = subst (λ (b : Direction). T (begun_now g now cube peer) b) (new_line g now cube piece max (turned peer) its there) (subst (λ (a : Direction). T a (ticked now (start (outward g its)))) (new_line g now cube piece max peer conn new) both);
+      ids = map-append ids_of conns (conn ∷ its ∷ []) ∙ ap (λ (a : Ids). map ids_of conns ++ a ∷ ids_of its ∷ []) (new_ids cube piece max peer conn new) ∙ ap (λ (b : Ids). map ids_of conns ++ ids_by peer cube.id ∷ b ∷ []) (new_ids cube piece max (turned peer) its there);
+    }
