@@ -35,3 +35,8 @@ adds_from cube piece max peer ends conns asker far conn its new there = λ g now
       tied = subst (λ (b : Direction). T (begun_now g now cube peer) b) (new_line g now cube piece max (turned peer) its there) (subst (λ (a : Direction). T a (ticked now (start (outward g its)))) (new_line g now cube piece max peer conn new) both);
       ids = map-append ids_of conns (conn ∷ its ∷ []) ∙ ap (λ (a : Ids). map ids_of conns ++ a ∷ ids_of its ∷ []) (new_ids cube piece max peer conn new) ∙ ap (λ (b : Ids). map ids_of conns ++ ids_by peer cube.id ∷ b ∷ []) (new_ids cube piece max (turned peer) its there);
     }
+
+pub adds_at : (cube : Cube) (piece max : ℕ) (peer far_peer : Peer) (ends ends' : List End) (conns conns' : List Conn) (asker far : End) (conn its : Conn) → IsNewConn cube piece max peer conn → far_peer ≡ turned peer → IsNewConn cube piece max far_peer its → ends' ≡ ends ++ asker ∷ far ∷ [] → conns' ≡ conns ++ conn ∷ its ∷ [] → Adds cube piece max peer asker far (flows_of ends conns) (flows_of ends' conns')
+adds_at cube piece max peer far_peer ends ends' conns conns' asker far conn its new is there ends_are conns_are =
+    let all = adds_from cube piece max peer ends conns asker far conn its new (subst (λ (p : Peer). IsNewConn cube piece max p its) is there) in
+    subst (λ (xs : List End). Adds cube piece max peer asker far (flows_of ends conns) (flows_of xs conns')) (sym ends_are) (subst (λ (ks : List Conn). Adds cube piece max peer asker far (flows_of ends conns) (flows_of (ends ++ asker ∷ far ∷ []) ks)) (sym conns_are) all)

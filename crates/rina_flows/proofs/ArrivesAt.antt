@@ -29,7 +29,7 @@ use Rattle.rina_flows.specs.Rows.{ArrivesAt, IsPlace, TakesAt}
 use Rattle.rina_flows.specs.Tied.{IsAt, IsInboundAt, IsReceiving, IsTied, conns_of, ids_by, ids_of, inward}
 use Rattle.rina_flows.proofs.Coming.{IsInFlow, coming_of, inbound_of, inflow, room_is}
 use Rattle.rina_flows.proofs.Given.{offs_of-length}
-use Rattle.rina_flows.proofs.Receives.{arrives}
+use Rattle.rina_flows.proofs.Receives.{IsNoting, arrives}
 use Rattle.rina_flows.proofs.Retied.{tied_after}
 use Rattle.rina_flows.proofs.Welcome.{room_of_least}
 
@@ -73,7 +73,7 @@ module _ (g : Config) (now : ℕ) (cloud : ℕ → Pdu → Type 0) (ends : List 
       let here = beside ends lines at end tied.lines_alike is_at.end_is in
       let max = (tied.sends at conn here.0 is_at.conn_is here.1).sender.max in
       let same : unpassed ≡ length line.inbox.got - line.passed = (let got = ap (λ (es : List Entry). length es) flow.got in let passed = flow.passed in omega arith) in
-      let noting = record { cube = ap (λ (s : Sending). s.form.cube) a.sending_before; max = ap (λ (s : Sending). s.numbers.max) a.sending_before ∙ max; count = same; hears = a.hears; before = a.waiting_before; after = a.waiting_after } in
+      let noting : IsNoting c now line pdu unpassed conn a.ready a.heard new = record { cube = ap (λ (s : Sending). s.form.cube) a.sending_before; max = ap (λ (s : Sending). s.numbers.max) a.sending_before ∙ max; count = same; hears = a.hears; before = a.waiting_before; after = a.waiting_after } in
       let x = arrives c ids now line pdu unpassed conn a.ready a.heard new a.before a.after result flow.backed.clock coming (room ∙ room_is g now cloud end ids conn.sending.form.cube line flow) receiving a.drained a.none_before a.plan_before a.row a.marks a.given a.none_after a.plan_after a.none_given_up noting in
       let line' : Direction = arrived c (piece_in pdu) line in
       let end' : End = with_delivered ids now whole end in

@@ -69,9 +69,9 @@ passes_are d lines at ends' lines' d' p is = record {
 
 pub takers_are : TakersAreTakers
 takers_are d pdu at end ids = (
-    (λ t. record { is_conn = t.is_conn; allocated = t.allocated; names = t.names }),
-    (λ t. record { is_conn = t.is_conn; allocated = t.allocated; names = t.names })
-  )
+  (λ t. record { is_conn = t.is_conn; allocated = t.allocated; names = t.names }),
+  (λ t. record { is_conn = t.is_conn; allocated = t.allocated; names = t.names }),
+)
 
 pub tellings_are : TellingsAreTold
 tellings_are d lines pdu at end ids lines' kind t told = record {

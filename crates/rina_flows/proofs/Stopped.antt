@@ -44,10 +44,10 @@ clock_of g now ends conns lines end from line t inb = (let far = beside ends con
 
 pub forgets_from : (now at : ℕ) (ends : List End) (conns conns' : List Conn) (ledger ledger' lines lines' : List Off) (room kept : ℕ) (seen : Conn) → slice_get conns at ≡ Some seen → present_at now seen.rx ≡ false → kept ≡ length (kept_numbers seen.rx) → 1 ≤ kept → lines ≡ ledger → length lines + kept ≤ room → Becomes (GivesUpAll now (λ r. r) lines room lines') at conns conns' → ledger' ≡ lines' → ForgetsIn now at (flows_of ends conns) ledger (Ok true) (flows_of ends conns') ledger'
 forgets_from now at ends conns conns' ledger ledger' lines lines' room kept seen here absent count some lines_is fits become put = (
-    (λ k h.
+  (λ k h.
       let is : seen ≡ k = same_at (slice_get conns at) seen k here h in
       (ap (λ (x : Conn). present_at now x.rx) (sym is) ∙ absent, (λ none. let zero' : length (kept_numbers k.rx) ≡ 0 = ap (λ (ns : List ℕ). length ns) none in let same = ap (λ (x : Conn). length (kept_numbers x.rx)) is in absurd (omega arith)))),
-    (λ g ls end journal t is state.
+  (λ g ls end journal t is state.
       let b = become seen here in
       let new : Conn = b.0 in
       let G = b.1 in
@@ -68,8 +68,8 @@ forgets_from now at ends conns conns' ledger ledger' lines lines' room kept seen
         same = refl;
         tied = subst (T ends) (sym b.2) (subst (λ (xs : List End). T xs (slice_set conns at new)) (slice_set-same ends at end is) H.tied);
         ids = ap conns_of b.2 ∙ same_ids conns at seen new here (ap (λ (x : Conn). ids_of x) G.new_is);
-      })
-  )
+      }),
+)
 
 pub stops_from : (now at : ℕ) (state : PortState) (ends ends' : List End) (conns conns' : List Conn) (ledger ledger' lines lines' : List Off) (room kept : ℕ) (seen : Conn) → slice_get conns at ≡ Some seen → kept ≡ length (kept_numbers seen.rx) → lines ≡ ledger → length lines + kept ≤ room → Becomes (GivesUpAll now closed lines room lines') at conns conns' → ledger' ≡ lines' → ((e : End) → slice_get ends at ≡ Some e → ends' ≡ slice_set ends at (record e { state = state })) → StopsIn now at state (flows_of ends conns) ledger (Ok tt) (flows_of ends' conns') ledger'
 stops_from now at state ends ends' conns conns' ledger ledger' lines lines' room kept seen here count lines_is fits become put set = λ g ls end journal t is allocated moves other.

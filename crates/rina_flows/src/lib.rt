@@ -10,3 +10,6 @@ pub use arriving::Notes;
 pub use conns::Conns;
 pub use flows::Flows;
 pub use laws::{calls_are_those_of_the_dif, flows_stay_tied};
+
+#[cfg(test)]
+mod tests;
