@@ -126,7 +126,7 @@ seqs_more : (k : ℕ) (got new : List Entry) → k ≤ length got → seqs (drop
 unfolding seqs
 seqs_more k got new h = ap (map (λ (e : Entry). e.num.seq)) (drop-append-le k got new h) ∙ map-append (λ (e : Entry). e.num.seq) (drop k got) new
 
-open_count : (d : Direction) → length (open_numbers d) ≡ length d.inbox.got - max d.passed d.state_from
+pub open_count : (d : Direction) → length (open_numbers d) ≡ length d.inbox.got - max d.passed d.state_from
 open_count d = length-map (drop (max d.passed d.state_from) d.inbox.got) (λ (e : Entry). e.num.seq) ∙ length-drop (max d.passed d.state_from) d.inbox.got
 
 -- nothing was accepted

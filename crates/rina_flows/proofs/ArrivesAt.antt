@@ -29,7 +29,7 @@ use Rattle.rina_flows.specs.Rows.{ArrivesAt, IsPlace, TakesAt}
 use Rattle.rina_flows.specs.Tied.{IsAt, IsInboundAt, IsReceiving, IsTied, conns_of, ids_by, ids_of, inward}
 use Rattle.rina_flows.proofs.Coming.{IsInFlow, coming_of, inbound_of, inflow, room_is}
 use Rattle.rina_flows.proofs.Given.{offs_of-length}
-use Rattle.rina_flows.proofs.Receives.{arrives}
+use Rattle.rina_flows.proofs.Receives.{IsNoting, arrives}
 use Rattle.rina_flows.proofs.Retied.{tied_after}
 use Rattle.rina_flows.proofs.Welcome.{room_of_least}
 
@@ -62,14 +62,19 @@ module _ (g : Config) (now : ℕ) (cloud : ℕ → Pdu → Type 0) (ends : List 
       let takes : TakesAt ends (conns_of conns) pdu at end (ids_of conn) = record { is_conn = place.is_conn; allocated = allocated; names = names } in
       coming_of g now cloud ends (conns_of conns) lines at end (ids_of conn) conn.sending.form.cube line pdu death config place.is_cube (the_flow from line inbound) takes kind here alive
 
-  arrived_to : (pdu : Pdu) (from : ℕ) (line : Direction) (unpassed : ℕ) (result : Verdict) (offs : List Off) (whole : List Sdu) (new : Conn) → IsInboundAt ends lines end from line → IsComing (inward g conn) (ids_of conn) line pdu → ltb unpassed conn.sending.form.cube.window ≡ ltb (length end.got - end.taken) conn.sending.form.cube.window → IsArrival now pdu unpassed conn result offs whole new →
+  arrived_to : (pdu : Pdu) (from : ℕ) (line : Direction) (unpassed : ℕ) (result : Verdict) (offs : List Off) (whole : List Sdu) (new : Conn) → IsInboundAt ends lines end from line → IsComing (inward g conn) (ids_of conn) line pdu → unpassed ≡ length end.got - end.taken → IsArrival now pdu unpassed conn result offs whole new →
       HasArrived g now ends conns lines at end conn pdu result offs whole new
-  arrived_to pdu from line unpassed result offs whole new inbound coming room a =
+  arrived_to pdu from line unpassed result offs whole new inbound coming count a =
       let c : Constants = inward g conn in
       let ids : Ids = ids_of conn in
       let flow = the_flow from line inbound in
       let receiving = tied.receives at from end conn line is_at allocated inbound in
-      let x = arrives c ids now line pdu unpassed conn a.ready a.heard new a.before a.after result flow.backed.clock coming (room ∙ room_is g now cloud end ids conn.sending.form.cube line flow) receiving a.drained a.none_before a.plan_before a.row a.marks a.given a.none_after a.plan_after a.none_given_up in
+      let room = ap (λ n. ltb n conn.sending.form.cube.window) count in
+      let here = beside ends lines at end tied.lines_alike is_at.end_is in
+      let max = (tied.sends at conn here.0 is_at.conn_is here.1).sender.max in
+      let same : unpassed ≡ length line.inbox.got - line.passed = (let got = ap (λ (es : List Entry). length es) flow.got in let passed = flow.passed in omega arith) in
+      let noting : IsNoting c now line pdu unpassed conn a.ready a.heard new = record { cube = ap (λ (s : Sending). s.form.cube) a.sending_before; max = ap (λ (s : Sending). s.numbers.max) a.sending_before ∙ max; count = same; hears = a.hears; before = a.waiting_before; after = a.waiting_after } in
+      let x = arrives c ids now line pdu unpassed conn a.ready a.heard new a.before a.after result flow.backed.clock coming (room ∙ room_is g now cloud end ids conn.sending.form.cube line flow) receiving a.drained a.none_before a.plan_before a.row a.marks a.given a.none_after a.plan_after a.none_given_up noting in
       let line' : Direction = arrived c (piece_in pdu) line in
       let end' : End = with_delivered ids now whole end in
       let got : line'.inbox.got ≡ end'.got = x.got ∙ ap (λ (es : List Entry). es ++ map (entry_for c now) a.heard.rx.join.whole) flow.got ∙ ap (λ (ws : List Sdu). end.got ++ map (entry_for c now) ws) (sym a.whole_are) in
@@ -91,15 +96,11 @@ module _ (g : Config) (now : ℕ) (cloud : ℕ → Pdu → Type 0) (ends : List 
       }
 
   -- the whole of an arrival: a copy of the piece is in the cloud, and not dead
-  pub arrives_at : (pdu : Pdu) (death unpassed : ℕ) (result : Verdict) (offs : List Off) (whole : List Sdu) (new : Conn) → IsFrom (flipped (ids_of conn)) pdu → pdu.kind ≡ APiece → cloud death pdu → now ≤ death → ltb unpassed conn.sending.form.cube.window ≡ ltb (length end.got - end.taken) conn.sending.form.cube.window → IsArrival now pdu unpassed conn result offs whole new →
+  pub arrives_at : (pdu : Pdu) (death unpassed : ℕ) (result : Verdict) (offs : List Off) (whole : List Sdu) (new : Conn) → IsFrom (flipped (ids_of conn)) pdu → pdu.kind ≡ APiece → cloud death pdu → now ≤ death → unpassed ≡ length end.got - end.taken → IsArrival now pdu unpassed conn result offs whole new →
       HasArrived g now ends conns lines at end conn pdu result offs whole new
-  arrives_at pdu death unpassed result offs whole new names kind here alive room a =
+  arrives_at pdu death unpassed result offs whole new names kind here alive count a =
       let inb = inbound_of g now cloud ends (conns_of conns) lines at end journal own is_at.end_is allocated in
-      arrived_to pdu inb.0 inb.1 unpassed result offs whole new inb.2 (is_coming pdu death inb.0 inb.1 names kind here alive inb.2) room a
-
--- so it is where the count is told as the greatest that fits
-pub counted_room : (cube : Cube) (waiting most : ℕ) → IsCube cube → 256 ≤ most → ltb (min waiting most) cube.window ≡ ltb waiting cube.window
-counted_room cube waiting most limits le = (let w = limits.window in room_of_least waiting most cube.window (omega arith))
+      arrived_to pdu inb.0 inb.1 unpassed result offs whole new inb.2 (is_coming pdu death inb.0 inb.1 names kind here alive inb.2) count a
 
 -- For the DIF of which these are the flows
 

@@ -5,12 +5,13 @@ use Rattle.std.specs.Result.{OnErr, is_ok}
 use Rattle.std.specs.Prelude.{if◌then◌else◌}
 use Rattle.rina_base.specs.declared.number.Num.{Num}
 use Rattle.rina_conn.specs.declared.conn.Conn.{Conn}
+use Rattle.rina_conn.specs.Waiting.{Waits, with_whole}
 use Rattle.rina_data.specs.Ids.{Ids}
 use Rattle.rina_dtp.specs.Joins.{bytes_of}
 use Rattle.rina_law.specs.declared.entry.Entry.{Entry}
 use Rattle.rina_law.specs.Pieces.{Sdu}
-use Rattle.rina_flows.specs.Arriving.{entry_from}
-use Rattle.rina_flows.specs.Delivering.{Delivers, IsDelivering, next_num, with_whole}
+use Rattle.rina_flows.specs.Arriving.{entry_from, noted}
+use Rattle.rina_flows.specs.Delivering.{Delivers, IsDelivering, next_num, with_fetched}
 use Rattle.rina_flows.specs.Tied.{ids_of}
 use Rattle.rina_flows.proofs.Writing.{pushed}
 
@@ -25,13 +26,17 @@ after_same (x ∷ xs) ys zs e = after_same xs ys zs cc
 bytes_append : (xs ys : List Sdu) → bytes_of (xs ++ ys) ≡ bytes_of xs ++ bytes_of ys
 bytes_append xs ys = map_append (λ (w : Sdu). w.bytes) xs ys
 
+noted_append : (xs ys : List Sdu) (w : Waits) → noted (xs ++ ys) w ≡ noted ys (noted xs w)
+noted_append [] ys w = refl
+noted_append (x ∷ xs) ys w = noted_append xs ys (with_whole (Some x.first) w)
+
 pub delivering_none : (now : ℕ) (old : Conn) (got : List Entry) (room : ℕ) → IsDelivering now old got room [] old got
 delivering_none now old got room = record { done = []; rest = old.rx.join.whole; all = refl; bodies_are = refl; conn = refl; noted = λ fits. sym (append-nil got) }
 
 entry_same : (ids : Ids) (now : ℕ) (num : Num) (bytes : List ℕ) (w : Sdu) → num ≡ record { cep = ids.dcep; seq = w.first } → bytes ≡ w.bytes → record { tick = now; num = num; bytes = bytes } ≡ entry_from ids now w
 entry_same ids now num bytes w a b = ap (λ (n : Num). record { tick = now; num = n; bytes = bytes }) a ∙ ap (λ (bs : List ℕ). record { tick = now; num = record { cep = ids.dcep; seq = w.first }; bytes = bs }) b
 
-pub delivering_more : {A E : Type 0} (now : ℕ) (old : Conn) (got : List Entry) (room : ℕ) (y : List (List ℕ)) (b : List ℕ) (rest' : List (List ℕ)) (k k' : Conn) (got1 got2 : List Entry) (cap len : ℕ) (num : Num) (r : Result A E) → (y ++ b ∷ []) ++ rest' ≡ bytes_of old.rx.join.whole → IsDelivering now old got room y k got1 → room ≤ cap → Some num ≡ next_num (ids_of k) k.rx.join.whole → ((w : Sdu) (ws : List Sdu) → k.rx.join.whole ≡ w ∷ ws → k' ≡ with_whole k ws) → got2 ≡ (if is_ok r then got1 ++ record { tick = now; num = num; bytes = b } ∷ [] else got1) → len ≡ length got1 → OnErr r (cap ≤ len) → IsDelivering now old got room (y ++ b ∷ []) k' got2
+pub delivering_more : {A E : Type 0} (now : ℕ) (old : Conn) (got : List Entry) (room : ℕ) (y : List (List ℕ)) (b : List ℕ) (rest' : List (List ℕ)) (k k' : Conn) (got1 got2 : List Entry) (cap len : ℕ) (num : Num) (r : Result A E) → (y ++ b ∷ []) ++ rest' ≡ bytes_of old.rx.join.whole → IsDelivering now old got room y k got1 → room ≤ cap → Some num ≡ next_num (ids_of k) k.rx.join.whole → ((w : Sdu) (ws : List Sdu) → k.rx.join.whole ≡ w ∷ ws → k' ≡ with_fetched (w ∷ []) ws k) → got2 ≡ (if is_ok r then got1 ++ record { tick = now; num = num; bytes = b } ∷ [] else got1) → len ≡ length got1 → OnErr r (cap ≤ len) → IsDelivering now old got room (y ++ b ∷ []) k' got2
 delivering_more now old got room y b rest' k k' got1 got2 cap len num r bodies d wide is fetched put same full = go d.rest refl
   where
     ids_same : ids_of k ≡ ids_of old
@@ -55,7 +60,7 @@ delivering_more now old got room y b rest' k k' got1 got2 cap len num r bodies d
           rest = ws;
           all = all ∙ sym (append_assoc d.done (w ∷ []) ws);
           bodies_are = ap (λ (xs : List (List ℕ)). xs ++ b ∷ []) d.bodies_are ∙ ap (λ (x : List ℕ). bytes_of d.done ++ x ∷ []) b_is ∙ sym (bytes_append d.done (w ∷ []));
-          conn = fetched w ws here ∙ ap (λ (x : Conn). with_whole x ws) d.conn;
+          conn = fetched w ws here ∙ ap (with_fetched (w ∷ []) ws) d.conn ∙ ap (λ (x : Waits). record (with_fetched [] ws old) { waiting = x }) (sym (noted_append d.done (w ∷ []) old.waiting));
           noted = λ fits.
               let so_far : got1 ≡ got ++ map (entry_from (ids_of old) now) d.done = d.noted fits in
               let count : length got1 ≡ length got + length d.done = ap (λ (xs : List Entry). length xs) so_far ∙ length-append got (map (entry_from (ids_of old) now) d.done) ∙ ap (λ n. length got + n) (length-map d.done (entry_from (ids_of old) now)) in
@@ -76,7 +81,7 @@ delivered_all now old got room y k got' bodies d =
     let none : d.rest ≡ [] = nothing d.rest (sym (after_same y [] (bytes_of d.rest) bytes)) in
     let all : d.done ≡ old.rx.join.whole = sym (append-nil d.done) ∙ ap (λ (xs : List Sdu). d.done ++ xs) (sym none) ∙ sym d.all in
     record {
-      conn = d.conn ∙ ap (with_whole old) none;
+      conn = d.conn ∙ ap (λ (xs : List Sdu). with_fetched d.done xs old) none ∙ ap (λ (xs : List Sdu). with_fetched xs [] old) all;
       noted = λ fits. d.noted fits ∙ ap (λ (ws : List Sdu). got ++ map (entry_from (ids_of old) now) ws) all;
     }
 

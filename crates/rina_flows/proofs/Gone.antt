@@ -6,6 +6,8 @@ use Rattle.rina_base.specs.declared.cause.Cause.TheVariants as causes
 use Rattle.rina_base.specs.declared.number.Key.{Key}
 use Rattle.rina_conn.specs.declared.conn.Conn.{Conn}
 use Rattle.rina_conn.specs.declared.sending.Sending.{Sending}
+use Rattle.rina_conn.specs.Standing.{AreWaiting}
+use Rattle.rina_conn.specs.Waiting.{Waits}
 use Rattle.rina_data.specs.Dif.{Config, DifSeen, Process, constants, with_offs, with_process}
 use Rattle.rina_data.specs.Ending.{IsEnded}
 use Rattle.rina_data.specs.Ids.{Ids, flipped}
@@ -34,6 +36,7 @@ use Rattle.rina_flows.proofs.Given.{drained_all, ended_in}
 use Rattle.rina_flows.proofs.Kept.{drops_ended}
 use Rattle.rina_flows.proofs.Receives.{none_broken}
 use Rattle.rina_flows.proofs.Retied.{tied_after}
+use Rattle.rina_flows.proofs.Waiting.{waiting_same}
 
 -- The lines
 
@@ -70,8 +73,8 @@ closed_off c now ids conn line h off i =
 -- The tie
 
 -- all that was left of a state that is gone was fetched
-pub receiving_forgot : (c : Constants) (now : ℕ) (ids : Ids) (conn new : Conn) (line : Direction) (taken : List (Key × Cause)) → IsReceiving c now ids conn line → is_present c now line.line.receiver ≡ false → IsDrained now conn.rx taken new.rx → drops now new.rx ≡ [] → new.plan ≡ conn.plan → new.given_up ≡ None → IsReceiving c now ids new (happens c line Forget)
-receiving_forgot c now ids conn new line taken h gone drained none plan given_up =
+pub receiving_forgot : (c : Constants) (now : ℕ) (ids : Ids) (conn new : Conn) (line : Direction) (taken : List (Key × Cause)) → IsReceiving c now ids conn line → is_present c now line.line.receiver ≡ false → IsDrained now conn.rx taken new.rx → drops now new.rx ≡ [] → new.plan ≡ conn.plan → new.given_up ≡ None → new.waiting ≡ conn.waiting → IsReceiving c now ids new (happens c line Forget)
+receiving_forgot c now ids conn new line taken h gone drained none plan given_up waiting =
     let st = drained.stands c line.line.receiver line.inbox.joiner h.stands in
     let absent : present_at now new.rx ≡ false = sym (present_same c now line.line.receiver line.inbox.joiner new.rx st) ∙ gone in
     let nothing = kept_none now new.rx st.not_closed absent none in
@@ -83,6 +86,8 @@ receiving_forgot c now ids conn new line taken h gone drained none plan given_up
       broken = none_broken now new.rx none;
       forward = fetched_forward c now line.line.receiver line.inbox.joiner new.rx st none;
       none_given_up = given_up;
+      waiting = subst (λ (w : Waits). AreWaiting c (happens c line Forget) [] w) (sym waiting) (waiting_same c line (happens c line Forget) [] conn.waiting refl refl refl h.waiting);
+      early = h.early;
       kept = λ n i. absurd (subst (In n) nothing i);
     }
 
@@ -93,8 +98,8 @@ pub record HasForgotten (g : Config) (now : ℕ) (ends : List End) (conns : List
   pub tied : IsTied g now (slice_set ends at end) (slice_set conns at new) lines'
 
 pub forgets_at : (g : Config) (now : ℕ) (ends : List End) (conns : List Conn) (lines : List Direction) (at from : ℕ) (end : End) (conn new : Conn) (line : Direction) (taken : List (Key × Cause)) → IsJournal now ends → IsTied g now ends conns lines → IsAt ends conns at end conn → end.state ≡ Allocated → IsInboundAt ends lines end from line → line.line.clock ≡ now → present_at now conn.rx ≡ false →
-    IsDrained now conn.rx taken new.rx → drops now new.rx ≡ [] → new.plan ≡ conn.plan → new.given_up ≡ None → new.sending ≡ conn.sending → HasForgotten g now ends conns lines at end (offs_of taken) new
-forgets_at g now ends conns lines at from end conn new line taken journal tied is_at allocated inbound clock absent drained none plan given_up sending =
+    IsDrained now conn.rx taken new.rx → drops now new.rx ≡ [] → new.plan ≡ conn.plan → new.given_up ≡ None → new.waiting ≡ conn.waiting → new.sending ≡ conn.sending → HasForgotten g now ends conns lines at end (offs_of taken) new
+forgets_at g now ends conns lines at from end conn new line taken journal tied is_at allocated inbound clock absent drained none plan given_up waiting sending =
     let c : Constants = inward g conn in
     let h = tied.receives at from end conn line is_at allocated inbound in
     let gone : is_present c now line.line.receiver ≡ false = present_same c now line.line.receiver line.inbox.joiner conn.rx h.stands ∙ absent in
@@ -116,7 +121,7 @@ forgets_at g now ends conns lines at from end conn new line taken journal tied i
         offs_are = λ off i. gone_off c now (ids_of conn) conn line h gone off (subst (λ (ds : List (Key × Cause)). In off (offs_of ds)) (sym all) i);
         lines_are = refl;
       };
-      tied = tied_after g now ends conns lines at from end end conn new line line' journal tied (record { is_at = is_at; inbound = inbound; const = record { flow = refl; role = refl; port = refl; app = refl; peer = refl; cube = refl }; sending = sending; sender = refl; clock = refl }) (λ still. subst R (sym sending) (receiving_forgot c now (ids_of conn) conn new line taken h gone drained none plan given_up));
+      tied = tied_after g now ends conns lines at from end end conn new line line' journal tied (record { is_at = is_at; inbound = inbound; const = record { flow = refl; role = refl; port = refl; app = refl; peer = refl; cube = refl }; sending = sending; sender = refl; clock = refl }) (λ still. subst R (sym sending) (receiving_forgot c now (ids_of conn) conn new line taken h gone drained none plan given_up waiting));
     }
 
 -- an end is closed: what its connection held is written off, and it is tied to its sender alone

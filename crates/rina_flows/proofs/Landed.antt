@@ -31,10 +31,11 @@ use Rattle.rina_flows.specs.Arriving.{IsComing, IsDrained, cause_of, entry_from,
 use Rattle.rina_flows.specs.Delivering.{ArrivesIn, HasComeIn, IsLanding, Lands, Receives}
 use Rattle.rina_flows.specs.Rows.{ArrivesAt}
 use Rattle.rina_flows.specs.Tied.{IsAt, IsReceiving, IsTied, conns_of, ids_by, ids_of, inward}
-use Rattle.rina_flows.proofs.ArrivesAt.{arrives_at, counted_room, is_coming, the_flow}
+use Rattle.rina_flows.proofs.ArrivesAt.{arrives_at, is_coming, the_flow}
 use Rattle.rina_flows.proofs.Coming.{inbound_of, room_is}
 use Rattle.rina_flows.proofs.Framed.{ids_at, put_back, same_ids}
 use Rattle.rina_flows.proofs.Offered.{flows_of, flows_same}
+use Rattle.rina_flows.proofs.Waiting.{counted, few_wait}
 use Rattle.rina_flows.proofs.Received.{received}
 use Rattle.rina_flows.proofs.Receives.{came_heard}
 use Rattle.rina_flows.proofs.Welcome.{verdict_is, welcome}
@@ -98,11 +99,13 @@ arrives_from now at pdu ends mid ends' conns conns' ledger ledger' unpassed bodi
     let coming = is_coming g now cloud ends conns ls S.config S.journal S.own S.tied at end seen is_at allocated pdu C.death from line names C.piece C.here C.alive inb.2 in
     let receiving = S.tied.receives at from end seen line is_at allocated inb.2 in
     let flow = the_flow g now cloud ends conns ls S.config S.journal S.own S.tied at end seen is_at allocated from line inb.2 in
-    let room : ltb unpassed seen.sending.form.cube.window ≡ ltb (length end.got - end.taken) seen.sending.form.cube.window = ap (λ n. ltb n seen.sending.form.cube.window) (count end e.1) ∙ counted_room seen.sending.form.cube (length end.got - end.taken) (2 ^ 32 - 1) coming.limits (omega arith) in
+    let few = few_wait (inward g seen) line seen.waiting receiving.waiting receiving.early in
+    let all : unpassed ≡ length end.got - end.taken = (let a = flow.passed in let b = ap (λ (es : List Entry). length es) flow.got in let w = coming.limits.window in counted unpassed (length end.got - end.taken) (2 ^ 32 - 1) (omega arith) (count end e.1)) in
+    let room = ap (λ n. ltb n seen.sending.form.cube.window) all in
     let room' = room ∙ room_is g now cloud end ids seen.sending.form.cube line flow in
     let bodies_are : bodies ≡ bytes_of L.receives.heard.rx.join.whole = ahead_at (inward g seen) ids now line pdu unpassed seen L.receives.heard L.receives.ready L.receives.before.taken L.verdict bodies flow.backed.clock coming room' receiving L.receives.before.drained L.receives.before.none L.receives.row ahead in
     let R = received now pdu unpassed seen bodies got L.got_room lines L.lines_room L.verdict new got' L.between L.receives receiving.none_given_up bodies_are in
-    let X = arrives_at g now cloud ends conns ls S.config S.journal S.own S.tied at end seen is_at allocated pdu C.death unpassed L.verdict R.offs R.whole new names C.piece C.here C.alive room R.arrival in
+    let X = arrives_at g now cloud ends conns ls S.config S.journal S.own S.tied at end seen is_at allocated pdu C.death unpassed L.verdict R.offs R.whole new names C.piece C.here C.alive all R.arrival in
     let most : length R.offs ≤ length (kept_numbers seen.rx) = X.count in
     let fits = L.fits_lines in
     let between_is : L.between ≡ lines ++ R.offs = R.lines_are (omega arith) in

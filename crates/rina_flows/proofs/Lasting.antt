@@ -1,9 +1,11 @@
 -- Flows stay tied as time goes on, and new connections are tied to directions that start.
-use Rattle.std.proofs.Common.{◌≡◌, ◌≢◌, ℕ, ◌+◌, ◌-◌, ◌≤◌, List, [], map, false, Some, None, refl, sym, ◌∙◌, ap, subst, arith}
+use Rattle.std.proofs.Common.{◌≡◌, ◌≢◌, ℕ, ◌+◌, ◌-◌, ◌*◌, ◌<◌, ◌≤◌, List, [], map, false, Some, None, refl, sym, ◌∙◌, ap, subst, arith}
 use Rattle.std.proofs.lemmas.List.{length-map}
 use Rattle.rina_conn.specs.declared.conn.Conn.{Conn}
 use Rattle.rina_conn.specs.declared.form.Peer.{Peer}
 use Rattle.rina_conn.specs.Conns.{IsNewConn}
+use Rattle.rina_conn.specs.Standing.{AreWaiting}
+use Rattle.rina_conn.specs.Waiting.{Waits}
 use Rattle.rina_cube.specs.declared.Cube.{Cube}
 use Rattle.rina_cube.specs.Cubes.{delta_of}
 use Rattle.rina_data.specs.Dif.{Config, cube_by, greatest, piece_size}
@@ -25,6 +27,7 @@ use Rattle.rina_law.specs.Receiver.{no_state}
 use Rattle.rina_flows.specs.Tied.{IsInboundAt, IsReceiving, IsSending, IsTied, ids_of, inward, outward}
 use Rattle.rina_flows.proofs.Added.{AreNewEnds}
 use Rattle.rina_flows.proofs.Receives.{none_broken}
+use Rattle.rina_flows.proofs.Waiting.{waiting_same}
 
 -- Time
 
@@ -40,6 +43,8 @@ receiving_later c now later ids conn line le h = record {
   broken = h.broken;
   forward = h.forward;
   none_given_up = h.none_given_up;
+  waiting = waiting_same c line (ticked (later - now) line) [] conn.waiting refl refl refl h.waiting;
+  early = h.early;
   kept = λ n i. (let k = h.kept n i in record { made = k.made; source = k.source; number = k.number });
 }
 
@@ -77,6 +82,8 @@ receiving_new g now cube peer max conn new =
       broken = none_broken now conn.rx fetched.dropped;
       forward = fetched_forward c now no_state empty_joiner conn.rx st fetched.dropped;
       none_given_up = new.none_given_up;
+      waiting = subst (λ (w : Waits). AreWaiting c (ticked now (start c)) [] w) (sym (new.none_waits ∙ ap (λ (x : Cube). record { room = 2 * x.window; earlier = 0; firsts = [] }) (sym new.cube_is))) (record { room = refl; earlier = refl; firsts = refl; within = omega arith; few = (let one = st.of.cube.least_window in omega arith) });
+      early = (let one = st.of.cube.least_window in omega arith);
       kept = λ n i. absurd (new_kept c now conn.rx n st none i);
     }
 

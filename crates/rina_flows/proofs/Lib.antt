@@ -22,5 +22,6 @@ pub mod Stopped
 pub mod Taking
 pub mod Told
 pub mod Unbroken
+pub mod Waiting
 pub mod Welcome
 pub mod Writing

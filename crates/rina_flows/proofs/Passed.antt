@@ -1,26 +1,32 @@
 -- An SDU that is passed.
-use Rattle.std.proofs.Common.{◌≡◌, ◌≢◌, ℕ, ◌+◌, ◌<◌, List, length, slice_get, slice_set, Option, Some, refl, sym, ◌∙◌, ap, subst, inl, inr}
+use Rattle.std.proofs.Common.{◌≡◌, ◌≢◌, ℕ, ◌+◌, ◌<◌, List, [], length, slice_get, slice_set, Option, Some, refl, sym, ◌∙◌, ap, subst, arith, inl, inr}
+use Rattle.rina_base.specs.declared.pdu.Pdu.{Pdu}
 use Rattle.rina_conn.specs.declared.conn.Conn.{Conn}
 use Rattle.rina_conn.specs.declared.form.Form.{Form}
 use Rattle.rina_conn.specs.declared.sending.Sending.{Sending}
-use Rattle.rina_data.specs.Dif.{Config}
-use Rattle.rina_data.specs.Standing.{IsJournal}
+use Rattle.rina_conn.specs.Standing.{AreWaiting, IsReceiver}
+use Rattle.rina_data.specs.Cloud.{Cloud, Everywhere}
+use Rattle.rina_data.specs.Dif.{Config, constants}
+use Rattle.rina_data.specs.Ids.{flipped}
+use Rattle.rina_data.specs.Standing.{IsConn, IsJournal, IsOwn}
 use Rattle.rina_data.proofs.Finding.{beside, there}
 use Rattle.rina_data.proofs.Own.{one_partner, partner_back}
-use Rattle.rina_dtcp.specs.Plans.{IsPlanOf}
+use Rattle.rina_dtp.specs.Stands.{Stands}
 use Rattle.rina_iface.specs.declared.ends.End.{End}
 use Rattle.rina_iface.specs.declared.state.PortState.TheVariants.{Allocated}
 use Rattle.rina_iface.specs.Ends.{with_passed}
 use Rattle.rina_iface.specs.Journal.{At, IsPartner}
 use Rattle.rina_iface.proofs.Changed.{set_at}
+use Rattle.rina_law.specs.declared.entry.Entry.{Entry}
 use Rattle.rina_law.specs.Direction.{Direction, Pass, happens}
-use Rattle.rina_law.specs.Receiver.{mark_passed}
+use Rattle.rina_law.specs.Pieces.{Sdu}
 use Rattle.rina_flows.specs.Calls.{Becomes, IsPass, PassesOne}
 use Rattle.rina_flows.specs.Rows.{PassedAt}
 use Rattle.rina_flows.specs.Tied.{IsAt, IsInboundAt, IsReceiving, IsTied, conns_of, ids_by, ids_of, inward}
+use Rattle.rina_flows.proofs.Coming.{inflow}
 use Rattle.rina_flows.proofs.Framed.{ids_at, same_ids, tied_set}
 use Rattle.rina_flows.proofs.Offered.{elsewhere, flows_of}
-use Rattle.rina_flows.proofs.Restated.{receiving_conn, receiving_plan, sending_conn, sending_same}
+use Rattle.rina_flows.proofs.Restated.{receiving_passed, sending_conn, sending_same}
 
 -- only one end receives from a place
 pub one_receiver : (now : ℕ) (ends : List End) (lines : List Direction) (at i from : ℕ) (end e : End) (line l : Direction) → IsJournal now ends → At ends at end → At ends i e → IsInboundAt ends lines end from line → IsInboundAt ends lines e from l → i ≡ at
@@ -36,17 +42,22 @@ one_receiver now ends lines at i from end e line l journal is is' inb inb' =
 pub one_sender : (now : ℕ) (ends : List End) (lines lines' : List Direction) (i from : ℕ) (end : End) (line l : Direction) → IsJournal now ends → IsInboundAt ends lines end from line → IsInboundAt ends lines' end i l → i ≡ from
 one_sender now ends lines lines' i from end line l journal inb h = one_partner now ends i from h.partner inb.partner end journal h.is_partner inb.is_partner h.partners inb.partners
 
-pub tied_passed : (g : Config) (now at from : ℕ) (ends : List End) (conns : List Conn) (lines : List Direction) (end : End) (conn conn' : Conn) (line : Direction) → IsJournal now ends → IsTied g now ends conns lines → IsAt ends conns at end conn → IsInboundAt ends lines end from line → IsPass now conn conn' → IsTied g now (slice_set ends at (with_passed end)) (slice_set conns at conn') (slice_set lines from (happens (inward g conn) line Pass))
-tied_passed g now at from ends conns lines end conn conn' line journal t is inb p =
+pub tied_passed : (g : Config) (now at from : ℕ) (ends : List End) (conns : List Conn) (lines : List Direction) (end : End) (conn conn' : Conn) (line : Direction) → IsJournal now ends → IsTied g now ends conns lines → IsAt ends conns at end conn → IsInboundAt ends lines end from line → line.passed < length line.inbox.got → IsPass now conn conn' → IsTied g now (slice_set ends at (with_passed end)) (slice_set conns at conn') (slice_set lines from (happens (inward g conn) line Pass))
+tied_passed g now at from ends conns lines end conn conn' line journal t is inb waits p =
     let line' : Direction = happens (inward g conn) line Pass in
     let far = beside ends conns from inb.partner t.alike inb.is_partner in
     let clock : line.line.clock ≡ now = (t.sends from far.0 line far.1 inb.is_line).clock in
     let form : conn'.sending.form ≡ conn.sending.form = ap (λ (s : Sending). s.form) p.sending in
     let main : end.state ≡ Allocated → IsReceiving (inward g conn') now (ids_of conn') conn' line' = λ state.
-    (let h = t.receives at from end conn line is state inb in
-    let marks = p.marks (inward g conn) line.line.receiver line.inbox.joiner line.mark h.stands h.last h.plan in
-    let plan : IsPlanOf (inward g conn) (mark_passed (inward g conn) line.line.clock line.line.receiver line.mark) conn'.plan = subst (λ (n : ℕ). IsPlanOf (inward g conn) (mark_passed (inward g conn) n line.line.receiver line.mark) conn'.plan) (sym clock) marks in
-    receiving_conn g now (record conn { plan = conn'.plan }) conn' line' form p.rx refl p.given_up (receiving_plan (inward g conn) now (ids_of conn) conn line conn'.plan (line.passed + 1) (mark_passed (inward g conn) line.line.clock line.line.receiver line.mark) plan h)) in
+        (let h = t.receives at from end conn line is state inb in
+        let here = beside ends lines at end t.lines_alike is.end_is in
+        let max = (t.sends at conn here.0 is.conn_is here.1).sender.max in
+        let S : ℕ → Type 0 = λ n. Stands (inward g conn) n line.line.receiver line.inbox.joiner conn.rx in
+        let W : List Sdu → Type 0 = λ ws. AreWaiting (inward g conn) line ws conn.waiting in
+        let before : IsReceiver (inward g conn) line conn = record { cube = refl; max = max; rx = subst S (sym clock) h.stands; last = h.last; plan = h.plan; waiting = subst W (sym h.whole) h.waiting } in
+        let after = p.receives (inward g conn) line clock waits before h.whole in
+        let R : Form → Type 0 = λ f. IsReceiving (constants g f.cube (flipped (ids_by f.peer f.cube.id))) now (ids_by f.peer f.cube.id) conn' line' in
+        subst R (sym form) (receiving_passed (inward g conn) now (ids_of conn) conn conn' line p.rx p.given_up after h)) in
     tied_set g now ends conns lines at from end (with_passed end) conn conn' line line' t (record {
       is_at = is;
       is_line = inb.is_line;
@@ -64,7 +75,8 @@ tied_passed g now at from ends conns lines end conn conn' line journal t is inb 
     })
 
 pub passes_from : (now at : ℕ) (ends ends' : List End) (conns conns' : List Conn) → at < length ends → at < length conns → ((e : End) → slice_get ends at ≡ Some e → e.taken < length e.got) → Becomes (IsPass now) at conns conns' → ((e : End) → slice_get ends at ≡ Some e → ends' ≡ slice_set ends at (with_passed e)) → PassesOne now at (flows_of ends conns) (flows_of ends' conns')
-passes_from now at ends ends' conns conns' lt lt' waits become passed = λ g lines journal t.
+passes_from now at ends ends' conns conns' lt lt' waits become passed = λ g lines processes below journal own t.
+    let cloud : ℕ → Pdu → Type 0 = Cloud Everywhere g processes below in
     let e = there ends at lt in
     let end : End = e.0 in
     let k = there conns at lt' in
@@ -79,7 +91,11 @@ passes_from now at ends ends' conns conns' lt lt' waits become passed = λ g lin
     let inb : IsInboundAt ends lines end from line = record { partner = partner.other; is_partner = partner.stands; partners = partner_back end partner.other partner.partner; is_line = l.1 } in
     let lines' : List Direction = slice_set lines from (happens (inward g conn) line Pass) in
     let here = beside ends lines at end t.lines_alike e.1 in
-    let tied = tied_passed g now at from ends conns lines end conn b.0 line journal t is inb b.1 in
+    let cube = (t.sends at conn here.0 k.1 here.1).cube in
+    let is_conn : IsConn ends (conns_of conns) at end (ids_of conn) = record { end = e.1; ids_are = ids_at conns at conn k.1 } in
+    let flow = inflow g now cloud ends (conns_of conns) lines at end (ids_of conn) conn.sending.form.cube from line own is_conn cube inb in
+    let some : line.passed < length line.inbox.got = (let lt = waits end e.1 in let a = flow.passed in let b = ap (λ (es : List Entry). length es) flow.got in omega arith) in
+    let tied = tied_passed g now at from ends conns lines end conn b.0 line journal t is inb some b.1 in
     let tied' = subst (λ (xs : List End). IsTied g now xs (slice_set conns at b.0) lines') (sym (passed end e.1)) tied in
     record {
       lines' = lines';
@@ -87,7 +103,7 @@ passes_from now at ends ends' conns conns' lt lt' waits become passed = λ g lin
         end = end;
         its_ids = ids_of conn;
         cube = conn.sending.form.cube;
-        place = record { is_conn = record { end = e.1; ids_are = ids_at conns at conn k.1 }; is_cube = (t.sends at conn here.0 k.1 here.1).cube };
+        place = record { is_conn = is_conn; is_cube = cube };
         waits = waits end e.1;
         from = from;
         line = line;

@@ -1,5 +1,5 @@
 -- After a piece came, the connection stands for the direction that it made.
-use Rattle.std.proofs.Common.{◌≡◌, ℕ, ◌+◌, ◌≤◌, List, [], ◌∷◌, ◌++◌, length, map, Bool, true, false, ltb, None, refl, sym, ◌∙◌, ap, subst, arith, inl, inr}
+use Rattle.std.proofs.Common.{◌≡◌, ℕ, ◌+◌, ◌-◌, ◌<◌, ◌≤◌, List, [], ◌∷◌, ◌++◌, length, map, Bool, true, false, ltb, None, refl, sym, ◌∙◌, ap, subst, arith, inl, inr}
 use Rattle.std.proofs.lemmas.Bool.{false≢true}
 use Rattle.rina_account.specs.declared.ledger.Off.{Off}
 use Rattle.rina_base.specs.declared.cause.Cause.{Cause}
@@ -7,6 +7,9 @@ use Rattle.rina_base.specs.declared.number.Key.{Key}
 use Rattle.rina_base.specs.declared.pdu.Pdu.{Pdu}
 use Rattle.rina_conn.specs.declared.conn.Conn.{Conn}
 use Rattle.rina_conn.specs.Conns.{HasNoLast, Marks}
+use Rattle.rina_conn.specs.Standing as standing
+use Rattle.rina_conn.specs.Standing.{AreWaiting, IsReceiver}
+use Rattle.rina_conn.specs.Waiting.{Waits}
 use Rattle.rina_data.specs.Ids.{Ids, IsFrom, flipped}
 use Rattle.rina_data.specs.Incoming.{IsDropped, arrived, cause_for}
 use Rattle.rina_dtcp.specs.Plans.{IsPlanOf}
@@ -23,16 +26,17 @@ use Rattle.rina_law.specs.Direction.{Direction, entry_for, has_room}
 use Rattle.rina_law.specs.Line.{arrival_verdict}
 use Rattle.rina_law.specs.Lists.{In}
 use Rattle.rina_law.specs.Pdus.{piece_in}
-use Rattle.rina_law.specs.Pieces.{Joiner}
+use Rattle.rina_law.specs.Pieces.{Joiner, Sdu}
 use Rattle.rina_law.specs.Receiver as law
 use Rattle.rina_law.specs.Receiver.{Piece, Receiver, is_present, mark_after, receiver_after, verdict}
 use Rattle.rina_law.proofs.Arrived.{absent_cases, never}
 use Rattle.rina_law.proofs.Standing.{present_made}
-use Rattle.rina_flows.specs.Arriving.{IsComing, IsDrained, cause_of, delivered, offs_of}
+use Rattle.rina_flows.specs.Arriving.{IsComing, IsDrained, cause_of, delivered, noted, offs_of}
 use Rattle.rina_flows.specs.Tied.{IsKeptBy, IsReceiving, source_from}
 use Rattle.rina_flows.proofs.Arrived.{came_cause, came_dropped, came_got, came_of, drops_within, gone_dropped}
 use Rattle.rina_flows.proofs.Given.{drained_all, in_append, offs_of-append}
 use Rattle.rina_flows.proofs.Kept.{kept_before, kept_number}
+use Rattle.rina_flows.proofs.Waiting.{early_after, noted_waiting}
 use Rattle.rina_flows.proofs.Welcome.{verdict_is, welcome}
 
 -- Fetching
@@ -97,6 +101,15 @@ last_after c now m p law.NoRoom b room v_is present last = last
 
 -- The whole of an arrival
 
+-- what a connection notes of the SDUs that wait to be passed
+pub record IsNoting (c : Constants) (now : ℕ) (line : Direction) (pdu : Pdu) (unpassed : ℕ) (first ready heard last : Conn) : Type 0 where
+  pub cube : ready.sending.form.cube ≡ c.cube
+  pub max : ready.sending.numbers.max ≡ c.max
+  pub count : unpassed ≡ length line.inbox.got - line.passed
+  pub hears : standing.Arrives now pdu unpassed ready heard
+  pub before : ready.waiting ≡ first.waiting
+  pub after : last.waiting ≡ noted heard.rx.join.whole heard.waiting
+
 -- what is left of a state that is gone is fetched (`before`), the piece is received, the SDUs that are whole are delivered,
 -- and the pieces of broken SDUs are fetched (`after`), in order
 pub record Arrives (c : Constants) (ids : Ids) (now : ℕ) (line : Direction) (pdu : Pdu) (result : Verdict) (first : Conn) (came : Receiving) (before after : List (Key × Cause)) (last : Conn) : Type 0 where
@@ -140,8 +153,26 @@ module _ (c : Constants) (ids : Ids) (line : Direction) (pdu : Pdu) (unpassed : 
               let absent : present_at line.line.clock last.rx ≡ false = sym (present_same c line.line.clock (arrived c (piece_in pdu) line).line.receiver (arrived c (piece_in pdu) line).inbox.joiner last.rx stands_last) ∙ gone in
               absurd (subst (In n) (kept_none line.line.clock last.rx stands_last.not_closed absent end) i)
 
-      arrives_now : Marks line.line.clock pdu unpassed ready result heard → ready.plan ≡ first.plan → last.plan ≡ heard.plan → last.given_up ≡ None → Arrives c ids line.line.clock line pdu result first heard.rx before after last
-      arrives_now marks plan plan_last none_given =
+      -- what was noted before the piece came, and once it was heard
+      receiver_ready : ready.plan ≡ first.plan → IsNoting c line.line.clock line pdu unpassed first ready heard last → IsReceiver c line ready
+      receiver_ready plan n =
+          let W : List Sdu → Waits → Type 0 = λ ws w. AreWaiting c line ws w in
+          record {
+            cube = n.cube;
+            max = n.max;
+            rx = stands_ready;
+            last = receives.last;
+            plan = plan ∙ receives.plan;
+            waiting = subst (λ (ws : List Sdu). W ws ready.waiting) (sym fetched_ready.whole) (subst (W []) (sym n.before) receives.waiting);
+          }
+
+      waiting_last : ready.plan ≡ first.plan → IsNoting c line.line.clock line pdu unpassed first ready heard last → AreWaiting c (arrived c (piece_in pdu) line) [] last.waiting
+      waiting_last plan n =
+          let heard_is = n.hears c line refl n.count (receiver_ready plan n) fetched_ready (welcome c ids line pdu unpassed coming room) in
+          subst (λ (w : Waits). AreWaiting c (arrived c (piece_in pdu) line) [] w) (sym n.after) (noted_waiting c (arrived c (piece_in pdu) line) heard.rx.join.whole heard.waiting heard_is.waiting)
+
+      arrives_now : Marks line.line.clock pdu unpassed ready result heard → ready.plan ≡ first.plan → last.plan ≡ heard.plan → last.given_up ≡ None → IsNoting c line.line.clock line pdu unpassed first ready heard last → Arrives c ids line.line.clock line pdu result first heard.rx before after last
+      arrives_now marks plan plan_last none_given noting =
           let P : law.Verdict → Type 0 = λ v. IsPlanOf c (mark_after v c line.line.clock line.line.receiver line.mark) heard.plan in
           let planned = marks c line.line.receiver line.inbox.joiner line.mark stands_ready fetched_ready (welcome c ids line pdu unpassed coming room) receives.last (plan ∙ receives.plan) in
           let befores = drained_all line.line.clock first.rx before ready.rx drained none in
@@ -164,6 +195,8 @@ module _ (c : Constants) (ids : Ids) (line : Direction) (pdu : Pdu) (unpassed : 
               broken = none_broken line.line.clock last.rx end;
               forward = fetched_forward c line.line.clock (arrived c (piece_in pdu) line).line.receiver (arrived c (piece_in pdu) line).inbox.joiner last.rx stands_last end;
               none_given_up = none_given;
+              waiting = waiting_last plan noting;
+              early = early_after c line (piece_in pdu) receives.early;
               kept = kept_last;
             };
           }
@@ -172,8 +205,8 @@ module _ (c : Constants) (ids : Ids) (line : Direction) (pdu : Pdu) (unpassed : 
 pub arrives : (c : Constants) (ids : Ids) (now : ℕ) (line : Direction) (pdu : Pdu) (unpassed : ℕ) (first ready heard last : Conn) (before after : List (Key × Cause)) (result : Verdict) → line.line.clock ≡ now → IsComing c ids line pdu → ltb unpassed c.cube.window ≡ has_room c line →
     IsReceiving c now ids first line → IsDrained now first.rx before ready.rx → drops now ready.rx ≡ [] → ready.plan ≡ first.plan →
     IsRow now pdu unpassed ready.rx result heard.rx → Marks now pdu unpassed ready result heard →
-    IsDrained now (delivered heard.rx) after last.rx → drops now last.rx ≡ [] → last.plan ≡ heard.plan → last.given_up ≡ None →
+    IsDrained now (delivered heard.rx) after last.rx → drops now last.rx ≡ [] → last.plan ≡ heard.plan → last.given_up ≡ None → IsNoting c now line pdu unpassed first ready heard last →
     Arrives c ids now line pdu result first heard.rx before after last
 arrives c ids now line pdu unpassed first ready heard last before after result clock coming room =
-    let A : ℕ → Type 0 = λ t. IsReceiving c t ids first line → IsDrained t first.rx before ready.rx → drops t ready.rx ≡ [] → ready.plan ≡ first.plan → IsRow t pdu unpassed ready.rx result heard.rx → Marks t pdu unpassed ready result heard → IsDrained t (delivered heard.rx) after last.rx → drops t last.rx ≡ [] → last.plan ≡ heard.plan → last.given_up ≡ None → Arrives c ids t line pdu result first heard.rx before after last in
-    subst A clock (λ receives drained none plan row marks given end plan_last none_given. arrives_now c ids line pdu unpassed coming room first ready before receives drained none result heard row last after given end marks plan plan_last none_given)
+    let A : ℕ → Type 0 = λ t. IsReceiving c t ids first line → IsDrained t first.rx before ready.rx → drops t ready.rx ≡ [] → ready.plan ≡ first.plan → IsRow t pdu unpassed ready.rx result heard.rx → Marks t pdu unpassed ready result heard → IsDrained t (delivered heard.rx) after last.rx → drops t last.rx ≡ [] → last.plan ≡ heard.plan → last.given_up ≡ None → IsNoting c t line pdu unpassed first ready heard last → Arrives c ids t line pdu result first heard.rx before after last in
+    subst A clock (λ receives drained none plan row marks given end plan_last none_given noting. arrives_now c ids line pdu unpassed coming room first ready before receives drained none result heard row last after given end marks plan plan_last none_given noting)

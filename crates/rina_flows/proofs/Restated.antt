@@ -1,10 +1,12 @@
 -- What stays of the tie where a direction, or a connection, stays in what the tie speaks of.
-use Rattle.std.proofs.Common.{◌≡◌, ℕ, ◌+◌, ◌<◌, ◌≤◌, ◌⊎◌, List, slice_get, Option, Some, refl, sym, ◌∙◌, ap, subst}
+use Rattle.std.proofs.Common.{◌≡◌, ℕ, ◌+◌, ◌-◌, ◌<◌, ◌≤◌, ◌⊎◌, List, [], slice_get, Option, Some, refl, sym, ◌∙◌, ap, subst, arith}
 use Rattle.rina_conn.specs.declared.conn.Conn.{Conn}
 use Rattle.rina_conn.specs.declared.form.Form.{Form}
 use Rattle.rina_conn.specs.declared.sending.Sending.{Sending}
 use Rattle.rina_conn.specs.Conns.{HasNoLast}
 use Rattle.rina_conn.specs.Sending.{IsSender}
+use Rattle.rina_conn.specs.Standing.{AreWaiting, IsReceiver}
+use Rattle.rina_conn.specs.Waiting.{Waits}
 use Rattle.rina_data.specs.Dif.{Config, constants, cube_by}
 use Rattle.rina_data.specs.Ids.{Ids, flipped}
 use Rattle.rina_dtcp.specs.Plans.{Plan, IsPlanOf}
@@ -12,19 +14,22 @@ use Rattle.rina_dtp.specs.Joins.{IsForward}
 use Rattle.rina_dtp.specs.Receiving.{Receiving, kept_numbers, lost_in}
 use Rattle.rina_dtp.specs.Stands.{Stands}
 use Rattle.rina_law.specs.Constants.{Constants}
-use Rattle.rina_law.specs.Direction.{Direction}
+use Rattle.rina_law.specs.Direction.{Direction, Inbox, Pass, happens}
 use Rattle.rina_law.specs.Lists.{In}
-use Rattle.rina_law.specs.Pieces.{Joiner}
+use Rattle.rina_law.specs.Pieces.{Joiner, Sdu}
 use Rattle.rina_law.specs.Receiver.{Receiver, numbers}
 use Rattle.rina_flows.specs.Tied.{IsKeptBy, IsReceiving, IsSending, ids_by, ids_of, inward, outward}
+use Rattle.rina_flows.proofs.Waiting.{waiting_same}
 
 KeptAs : Receiver → Joiner → ℕ → Type 0
 KeptAs m j n = ((j.from ≤ n) × (n < j.from + j.count)) ⊎ In n (numbers m.held)
 
 -- the direction stays in what its receiver sees
-pub receiving_same : (c : Constants) (now : ℕ) (ids : Ids) (k : Conn) (line line' : Direction) → line'.line.receiver ≡ line.line.receiver → line'.inbox.joiner ≡ line.inbox.joiner → line'.mark ≡ line.mark → IsReceiving c now ids k line → IsReceiving c now ids k line'
+pub receiving_same : (c : Constants) (now : ℕ) (ids : Ids) (k : Conn) (line line' : Direction) → line'.line.receiver ≡ line.line.receiver → line'.inbox ≡ line.inbox → line'.passed ≡ line.passed → line'.state_from ≡ line.state_from → line'.mark ≡ line.mark → IsReceiving c now ids k line → IsReceiving c now ids k line'
 unfolding KeptAs
-receiving_same c now ids k line line' er ej em h =
+receiving_same c now ids k line line' er ei ep es em h =
+    let ej : line'.inbox.joiner ≡ line.inbox.joiner = ap (λ (i : Inbox). i.joiner) ei in
+    let eg : line'.inbox.got ≡ line.inbox.got = ap (λ (i : Inbox). i.got) ei in
     let S : Receiver → Type 0 = λ m. Stands c now m line.inbox.joiner k.rx in
     let T : Joiner → Type 0 = λ j. Stands c now line'.line.receiver j k.rx in
     let K = λ (n : ℕ) (m : Receiver). KeptAs m line.inbox.joiner n in
@@ -38,6 +43,8 @@ receiving_same c now ids k line line' er ej em h =
       broken = h.broken;
       forward = h.forward;
       none_given_up = h.none_given_up;
+      waiting = waiting_same c line line' [] k.waiting eg ep es h.waiting;
+      early = (let early = h.early in omega arith);
       kept = λ n i. (let q = h.kept n i in record {
         made = ap (λ (m : Receiver). m.made) er ∙ q.made;
         source = q.source;
@@ -46,8 +53,8 @@ receiving_same c now ids k line line' er ej em h =
     }
 
 -- the connection stays in what it receives
-pub receiving_conn : (g : Config) (now : ℕ) (k k' : Conn) (line : Direction) → k'.sending.form ≡ k.sending.form → k'.rx ≡ k.rx → k'.plan ≡ k.plan → k'.given_up ≡ k.given_up → IsReceiving (inward g k) now (ids_of k) k line → IsReceiving (inward g k') now (ids_of k') k' line
-receiving_conn g now k k' line form rx plan given_up h =
+pub receiving_conn : (g : Config) (now : ℕ) (k k' : Conn) (line : Direction) → k'.sending.form ≡ k.sending.form → k'.rx ≡ k.rx → k'.plan ≡ k.plan → k'.given_up ≡ k.given_up → k'.waiting ≡ k.waiting → IsReceiving (inward g k) now (ids_of k) k line → IsReceiving (inward g k') now (ids_of k') k' line
+receiving_conn g now k k' line form rx plan given_up waiting h =
     let c : Form → Constants = λ f. constants g f.cube (flipped (ids_by f.peer f.cube.id)) in
     let ids : Form → Ids = λ f. ids_by f.peer f.cube.id in
     let stands = subst (λ (f : Form). Stands (c f) now line.line.receiver line.inbox.joiner k.rx) (sym form) h.stands in
@@ -61,6 +68,8 @@ receiving_conn g now k k' line form rx plan given_up h =
       broken = ap (λ (r : Receiving). lost_in r.join.gaps) rx ∙ h.broken;
       forward = subst (λ (r : Receiving). IsForward r.join.joining.held) (sym rx) h.forward;
       none_given_up = given_up ∙ h.none_given_up;
+      waiting = subst (λ (w : Waits). AreWaiting (c k'.sending.form) line [] w) (sym waiting) (subst (λ (f : Form). AreWaiting (c f) line [] k.waiting) (sym form) h.waiting);
+      early = subst (λ (f : Form). line.state_from - line.passed < f.cube.window) (sym form) h.early;
       kept = subst (λ (r : Receiving). (n : ℕ) → In n (kept_numbers r) → IsKeptBy (ids_of k') line r n) (sym rx) kept;
     }
 
@@ -80,15 +89,20 @@ sending_conn g now k k' line e h = record {
   sender = subst (λ (s : Sending). IsSender (constants g s.form.cube (ids_by s.form.peer s.form.cube.id)) line.line.sender s) (sym e) h.sender;
 }
 
--- the plan alone changes
-pub receiving_plan : (c : Constants) (now : ℕ) (ids : Ids) (k : Conn) (line : Direction) (plan : Plan) (passed : ℕ) (mark : Option ℕ) → IsPlanOf c mark plan → IsReceiving c now ids k line → IsReceiving c now ids (record k { plan = plan }) (record line { passed = passed; mark = mark })
-receiving_plan c now ids k line plan passed mark is h = record {
-  stands = h.stands;
-  plan = is;
-  last = h.last;
-  whole = h.whole;
-  broken = h.broken;
-  forward = h.forward;
-  none_given_up = h.none_given_up;
-  kept = λ n i. (let q = h.kept n i in record { made = q.made; source = q.source; number = q.number });
-}
+-- an SDU is passed: the plan, and what waits to be passed, change
+pub receiving_passed : (c : Constants) (now : ℕ) (ids : Ids) (k k' : Conn) (line : Direction) → k'.rx ≡ k.rx → k'.given_up ≡ k.given_up → IsReceiver c (happens c line Pass) k' → IsReceiving c now ids k line → IsReceiving c now ids k' (happens c line Pass)
+receiving_passed c now ids k k' line rx given_up is h =
+    let kept = λ (n : ℕ) (i : In n (kept_numbers k.rx)). (let q = h.kept n i in let K : IsKeptBy ids (happens c line Pass) k.rx n = record { made = q.made; source = q.source; number = q.number } in K) in
+    let whole : k'.rx.join.whole ≡ [] = ap (λ (r : Receiving). r.join.whole) rx ∙ h.whole in
+    record {
+      stands = subst (λ (r : Receiving). Stands c now line.line.receiver line.inbox.joiner r) (sym rx) h.stands;
+      plan = is.plan;
+      last = h.last;
+      whole = whole;
+      broken = ap (λ (r : Receiving). lost_in r.join.gaps) rx ∙ h.broken;
+      forward = subst (λ (r : Receiving). IsForward r.join.joining.held) (sym rx) h.forward;
+      none_given_up = given_up ∙ h.none_given_up;
+      waiting = subst (λ (ws : List Sdu). AreWaiting c (happens c line Pass) ws k'.waiting) whole is.waiting;
+      early = (let early = h.early in omega arith);
+      kept = subst (λ (r : Receiving). (n : ℕ) → In n (kept_numbers r) → IsKeptBy ids (happens c line Pass) r n) (sym rx) kept;
+    }

@@ -6,6 +6,8 @@ use Rattle.rina_base.specs.declared.number.Key.{Key}
 use Rattle.rina_base.specs.declared.pdu.Pdu.{Pdu}
 use Rattle.rina_conn.specs.declared.conn.Conn.{Conn}
 use Rattle.rina_conn.specs.Conns.{Marks}
+use Rattle.rina_conn.specs.Standing.{Arrives}
+use Rattle.rina_conn.specs.Waiting.{Waits, with_whole}
 use Rattle.rina_cube.specs.Cubes.{IsCube}
 use Rattle.rina_data.specs.Ids.{Ids, IsFrom, flipped}
 use Rattle.rina_dtp.specs.declared.verdict.Verdict.{Verdict}
@@ -54,6 +56,11 @@ pub record IsDrained (now : ℕ) (old : Receiving) (taken : List (Key × Cause))
 abbrev pub delivered : Receiving → Receiving
 delivered r = record r { join = record r.join { whole = [] } }
 
+-- these SDUs wait to be passed, behind those that waited
+abbrev pub noted : List Sdu → Waits → Waits
+noted [] w = w
+noted (s ∷ ss) w = noted ss (with_whole (Some s.first) w)
+
 -- a connection receives a piece, while so many SDUs wait to be passed: what is left of a state that is gone is given up
 -- first (`before`), the SDUs that became whole are fetched, and then the pieces that the new one makes it give up (`after`)
 pub record IsArrival (now : ℕ) (pdu : Pdu) (unpassed : ℕ) (old : Conn) (result : Verdict) (offs : List Off) (whole : List Sdu) (new : Conn) : Type 0 where
@@ -62,14 +69,18 @@ pub record IsArrival (now : ℕ) (pdu : Pdu) (unpassed : ℕ) (old : Conn) (resu
   pub drained : IsDrained now old.rx before ready.rx
   pub none_before : drops now ready.rx ≡ []
   pub plan_before : ready.plan ≡ old.plan
+  pub waiting_before : ready.waiting ≡ old.waiting
+  pub sending_before : ready.sending ≡ old.sending
   pub heard : Conn
   pub row : IsRow now pdu unpassed ready.rx result heard.rx
   pub marks : Marks now pdu unpassed ready result heard
+  pub hears : Arrives now pdu unpassed ready heard
   pub whole_are : whole ≡ heard.rx.join.whole
   pub after : List (Key × Cause)
   pub given : IsDrained now (delivered heard.rx) after new.rx
   pub none_after : drops now new.rx ≡ []
   pub plan_after : new.plan ≡ heard.plan
+  pub waiting_after : new.waiting ≡ noted heard.rx.join.whole heard.waiting
   pub none_given_up : new.given_up ≡ None
   pub offs_are : offs ≡ offs_of (before ++ after)
   pub sending : new.sending ≡ old.sending

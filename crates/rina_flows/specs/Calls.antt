@@ -1,17 +1,21 @@
 -- What each call of the flows does, for the directions to which they are tied.
-use Rattle.std.specs.Prelude.{◌≡◌, ◌≢◌, ℕ, ◌<◌, ◌⊎◌, true, List, [], ◌∷◌, ◌++◌, length, slice_get, slice_set, Option, None, Some, Result, Ok, Err}
+use Rattle.std.specs.Prelude.{◌≡◌, ◌≢◌, ℕ, ◌-◌, ◌^◌, ◌<◌, min, ◌⊎◌, true, List, [], ◌∷◌, ◌++◌, length, slice_get, slice_set, Option, None, Some, Result, Ok, Err}
 use Rattle.rina_conn.specs.declared.conn.Conn.{Conn}
+use Rattle.rina_conn.specs.declared.form.Form.{Form}
 use Rattle.rina_conn.specs.declared.made.Made.{Made}
 use Rattle.rina_conn.specs.declared.made.OfferError.{OfferError}
 use Rattle.rina_conn.specs.declared.made.OfferError.TheVariants.{Memory}
 use Rattle.rina_base.specs.declared.pdu.Pdu.{Pdu}
 use Rattle.rina_conn.specs.Conns.{Passes}
 use Rattle.rina_conn.specs.Sending as send
-use Rattle.rina_data.specs.Dif.{Config, piece_size}
+use Rattle.rina_conn.specs.Standing.{PassesFirst}
+use Rattle.rina_data.specs.Cloud.{Cloud, Everywhere}
+use Rattle.rina_data.specs.Dif.{Config, Process, piece_size}
 use Rattle.rina_data.specs.Ids.{Ids, IsFrom, flipped}
-use Rattle.rina_data.specs.Standing.{IsJournal}
+use Rattle.rina_data.specs.Standing.{IsJournal, IsOwn}
 use Rattle.rina_iface.specs.declared.ends.End.{End}
 use Rattle.rina_iface.specs.declared.state.PortState.TheVariants.{Allocated}
+use Rattle.rina_iface.specs.Seen.{Seen}
 use Rattle.rina_law.specs.declared.entry.Entry.{Entry}
 use Rattle.rina_law.specs.Direction.{Direction, offer_refusal}
 use Rattle.rina_law.specs.Pieces.{Part, IsCut, join}
@@ -39,6 +43,7 @@ pub record IsOffer (now : ℕ) (sdu : List ℕ) (result : Result Made OfferError
   pub rx : new.rx ≡ old.rx
   pub plan : new.plan ≡ old.plan
   pub given_up : new.given_up ≡ old.given_up
+  pub waiting : new.waiting ≡ old.waiting
 
 -- by one connection, which notes it behind what its end sent, or by none where memory was wanted before
 abbrev pub Offered : ℕ → ℕ → List ℕ → List Conn → List Entry → Result Made OfferError → List Conn → List Entry → Type 0
@@ -82,8 +87,13 @@ Tells P at conns = (k : Conn) → slice_get conns at ≡ Some k → P k
 
 -- Passing
 
+-- the number with which the SDU begins that an end passes next, and how many pieces it has, each up to the greatest u32
+abbrev pub TellsNext : End → Form → ℕ × ℕ → Type 0
+TellsNext end form told = (x : Entry) → slice_get end.got end.taken ≡ Some x → (told.0 ≡ min x.num.seq (2 ^ 32 - 1)) × TellsNeed (min (length x.bytes) (2 ^ 32 - 1)) form.piece told.1
+
 pub record IsPass (now : ℕ) (old new : Conn) : Type 0 where
   pub marks : Passes now old new
+  pub receives : PassesFirst now old new
   pub sending : new.sending ≡ old.sending
   pub rx : new.rx ≡ old.rx
   pub given_up : new.given_up ≡ old.given_up
@@ -96,7 +106,8 @@ pub record IsPassed (g : Config) (now at : ℕ) (old : Flows) (lines : List Dire
   pub ids : SameIds old new
 
 abbrev pub PassesOne : ℕ → ℕ → Flows → Flows → Type 0
-PassesOne now at old new = (g : Config) (lines : List Direction) → IsJournal now old.journal.ends → AreTied g now old lines → IsPassed g now at old lines new
+PassesOne now at old new =
+    (g : Config) (lines : List Direction) (processes : List Process) (below : Seen) → IsJournal now old.journal.ends → IsOwn g now (Cloud Everywhere g processes below) old.journal.ends (conns_of old.conns) lines → AreTied g now old lines → IsPassed g now at old lines new
 
 -- An acknowledgement
 
@@ -106,6 +117,7 @@ pub record IsTold (pdu : Pdu) (old new : Conn) : Type 0 where
   pub rx : new.rx ≡ old.rx
   pub plan : new.plan ≡ old.plan
   pub given_up : new.given_up ≡ old.given_up
+  pub waiting : new.waiting ≡ old.waiting
 
 -- it comes to the connection at a place, and the flows stay tied
 pub record IsToldAt (g : Config) (now at : ℕ) (pdu : Pdu) (old : Flows) (lines : List Direction) (new : Flows) : Type 0 where

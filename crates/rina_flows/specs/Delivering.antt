@@ -10,6 +10,7 @@ use Rattle.rina_base.specs.declared.pdu.Pdu.{Pdu}
 use Rattle.rina_base.specs.declared.pdu.PduKind.TheVariants.{Piece as APiece}
 use Rattle.rina_conn.specs.declared.conn.Conn.{Conn}
 use Rattle.rina_conn.specs.Conns.{Marks}
+use Rattle.rina_conn.specs.Standing.{Arrives}
 use Rattle.rina_data.specs.Cloud.{Cloud, Everywhere}
 use Rattle.rina_data.specs.Dif.{Config, Process}
 use Rattle.rina_data.specs.Ids.{Ids}
@@ -29,7 +30,7 @@ use Rattle.rina_law.specs.declared.entry.Entry.{Entry}
 use Rattle.rina_law.specs.Direction.{Direction}
 use Rattle.rina_law.specs.Pieces.{Sdu}
 use Rattle.rina_flows.specs.declared.flows.Flows.{Flows}
-use Rattle.rina_flows.specs.Arriving.{IsDrained, cause_of, entry_from, offs_of}
+use Rattle.rina_flows.specs.Arriving.{IsDrained, cause_of, entry_from, noted, offs_of}
 use Rattle.rina_flows.specs.Calls.{AreTied, Becomes, SameIds, Tells}
 use Rattle.rina_flows.specs.Ending.{EndsAt, ForgetsAt}
 use Rattle.rina_flows.specs.Rows.{ArrivesAt, TakesAt}
@@ -53,9 +54,9 @@ abbrev pub next_num : Ids → List Sdu → Option Num
 next_num ids [] = None
 next_num ids (w ∷ ws) = Some (record { cep = ids.dcep; seq = w.first })
 
--- the connection with these SDUs still to be fetched
-abbrev pub with_whole : Conn → List Sdu → Conn
-with_whole k ws = record k { rx = record k.rx { join = record k.rx.join { whole = ws } } }
+-- the connection once SDUs that became whole are fetched (`done`), and these are left
+abbrev pub with_fetched : List Sdu → List Sdu → Conn → Conn
+with_fetched done left k = record k { rx = record k.rx { join = record k.rx.join { whole = left } }; waiting = noted done k.waiting }
 
 -- so far some of the SDUs that are whole are delivered, those with these bytes
 pub record IsDelivering (now : ℕ) (old : Conn) (got : List Entry) (room : ℕ) (bodies : List (List ℕ)) (new : Conn) (got' : List Entry) : Type 0 where
@@ -63,12 +64,12 @@ pub record IsDelivering (now : ℕ) (old : Conn) (got : List Entry) (room : ℕ)
   pub rest : List Sdu
   pub all : old.rx.join.whole ≡ done ++ rest
   pub bodies_are : bodies ≡ bytes_of done
-  pub conn : new ≡ with_whole old rest
+  pub conn : new ≡ with_fetched done rest old
   pub noted : length got + length old.rx.join.whole ≤ room → got' ≡ got ++ map (entry_from (ids_of old) now) done
 
 -- all are, where `bodies` are their bytes
 pub record Delivers (now : ℕ) (old : Conn) (got : List Entry) (room : ℕ) (new : Conn) (got' : List Entry) : Type 0 where
-  pub conn : new ≡ with_whole old []
+  pub conn : new ≡ with_fetched old.rx.join.whole [] old
   pub noted : length got + length old.rx.join.whole ≤ room → got' ≡ got ++ map (entry_from (ids_of old) now) old.rx.join.whole
 
 -- the whole of it, step by step
@@ -79,6 +80,7 @@ pub record Receives (now : ℕ) (pdu : Pdu) (unpassed : ℕ) (old : Conn) (bodie
   pub heard : Conn
   pub row : IsRow now pdu unpassed ready result heard.rx
   pub marks : Marks now pdu unpassed (record old { rx = ready }) result heard
+  pub hears : Arrives now pdu unpassed (record old { rx = ready }) heard
   pub sending : heard.sending ≡ old.sending
   pub given_up : heard.given_up ≡ old.given_up
   pub passed_on : Conn

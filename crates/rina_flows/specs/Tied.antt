@@ -1,9 +1,10 @@
 -- What ties the connections of a DIF to the directions of the law, one at the place of each end.
-use Rattle.std.specs.Prelude.{◌≡◌, ℕ, true, List, [], length, map, slice_get, Some, None}
+use Rattle.std.specs.Prelude.{◌≡◌, ℕ, ◌-◌, ◌<◌, true, List, [], length, map, slice_get, Some, None}
 use Rattle.rina_conn.specs.declared.conn.Conn.{Conn}
 use Rattle.rina_conn.specs.declared.form.Peer.{Peer}
 use Rattle.rina_conn.specs.Conns.{HasNoLast}
 use Rattle.rina_conn.specs.Sending.{IsSender}
+use Rattle.rina_conn.specs.Standing.{AreWaiting}
 use Rattle.rina_data.specs.Dif.{Config, constants, cube_by}
 use Rattle.rina_data.specs.Ids.{Ids, flipped}
 use Rattle.rina_data.specs.Incoming.{IsKeptNumber}
@@ -71,7 +72,8 @@ pub record IsKeptBy (ids : Ids) (line : Direction) (r : Receiving) (n : ℕ) : T
   pub number : IsKeptNumber line n
 
 -- the connection stands for the receiver and the joiner of a direction with these constants. All that came is fetched,
--- but for what is held of a state that has ended
+-- but for what is held of a state that has ended. It has noted which SDUs wait to be passed; those of earlier states are
+-- fewer than a window
 pub record IsReceiving (c : Constants) (now : ℕ) (ids : Ids) (conn : Conn) (line : Direction) : Type 0 where
   pub stands : Stands c now line.line.receiver line.inbox.joiner conn.rx
   pub plan : IsPlanOf c line.mark conn.plan
@@ -80,6 +82,8 @@ pub record IsReceiving (c : Constants) (now : ℕ) (ids : Ids) (conn : Conn) (li
   pub broken : lost_in conn.rx.join.gaps ≡ []
   pub forward : IsForward conn.rx.join.joining.held
   pub none_given_up : conn.given_up ≡ None
+  pub waiting : AreWaiting c line [] conn.waiting
+  pub early : line.state_from - line.passed < c.cube.window
   pub kept : (n : ℕ) → In n (kept_numbers conn.rx) → IsKeptBy ids line conn.rx n
 
 -- the connection of each place stands for the sender of the direction there, and, while its end is allocated, for the

@@ -1,11 +1,11 @@
 //! A piece that comes to a connection. All memory is found before.
-ghost use Rattle.std.specs.Prelude.{◌≡◌, ◌+◌, ◌≤◌, ◌^◌, List, ◌∷◌, ◌++◌, length, OnOk};
+ghost use Rattle.std.specs.Prelude.{◌≡◌, ◌+◌, ◌≤◌, ◌^◌, List, [], ◌∷◌, ◌++◌, length, OnOk};
 ghost use Rattle.std.specs.Vec.{vec_capacity};
 ghost use Rattle.rina_base.specs.Pdus.{pdu_of};
 ghost use Rattle.rina_data.specs.Incoming.{lines_for};
 ghost use Rattle.rina_dtp.specs.Joins.{bytes_of};
 ghost use Rattle.rina_flows.specs.Arriving.{cause_of};
-ghost use Rattle.rina_flows.specs.Delivering.{Delivers, Receives, WritesOff, next_num, with_whole};
+ghost use Rattle.rina_flows.specs.Delivering.{Delivers, Receives, WritesOff, next_num, with_fetched};
 ghost use Rattle.rina_flows.specs.Tied.{ids_of};
 ghost use Rattle.rina_law.specs.Pieces.{Sdu};
 
@@ -71,7 +71,7 @@ pub fn write_off(rx: &mut Rx, now: Tick, lines: &mut Vec<Off>)
 /// Fetches the next SDU that is whole, and tells its number.
 fn fetch(conn: &mut Conn) -> Option<Num>
     ensures num { result ≡ next_num (ids_of conn.old) conn.old.rx.join.whole }
-    ensures rest { (w : Sdu) (ws : List Sdu) → conn.old.rx.join.whole ≡ w ∷ ws → conn.new ≡ with_whole conn.old ws }
+    ensures rest { (w : Sdu) (ws : List Sdu) → conn.old.rx.join.whole ≡ w ∷ ws → conn.new ≡ with_fetched (w ∷ []) ws conn.old }
 {
     let cep = conn.sending.form.peer.dcep;
     let sdu = conn.next_whole()?;

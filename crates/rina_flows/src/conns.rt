@@ -77,13 +77,14 @@ impl Conns {
         &self.items[at]
     }
 
-    /// Notes that the next SDU of the connection at this place was passed. Takes no memory.
-    pub fn pass(&mut self, now: Tick, at: usize)
+    /// Notes that the next SDU of the connection at this place was passed, which begins with number `first` and has so
+    /// many pieces. Takes no memory.
+    pub fn pass(&mut self, now: Tick, at: usize, first: u32, pieces: u32)
         requires { at < length self.old }
         ensures { Becomes (IsPass now) at self.old self.new }
     {
         let conn = &mut self.items[at];
-        conn.passed(now, 0, 0);
+        conn.passed(now, first, pieces);
     }
 
     /// Lets the connection at this place take an acknowledgement. Takes no memory.

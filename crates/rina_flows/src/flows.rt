@@ -1,13 +1,13 @@
 //! The flows of a DIF.
-ghost use Rattle.std.specs.Prelude.{◌≡◌, ◌≤◌, ◌<◌, ◌-◌, ◌^◌, min, false, [], ◌∷◌, ◌++◌, length, slice_get, Some, IsTrue, ◌↔◌, OnOk, OnErr};
+ghost use Rattle.std.specs.Prelude.{◌≡◌, ◌≤◌, ◌<◌, ◌-◌, ◌^◌, min, [], ◌∷◌, ◌++◌, length, slice_get, Some, IsTrue, ◌↔◌, OnOk, OnErr};
 ghost use Rattle.rina_base.specs.Pdus.{pdu_of};
 ghost use Rattle.rina_conn.specs.Sending.{TellsRoom};
-ghost use Rattle.rina_cube.specs.Cubes.{IsCube, is_reliable};
+ghost use Rattle.rina_cube.specs.Cubes.{IsCube};
 ghost use Rattle.rina_data.specs.Ids.{IsFrom, flipped};
 ghost use Rattle.rina_flows.specs.Adding.{Adds, turned};
-ghost use Rattle.rina_flows.specs.Calls.{Offered, Offers, PassesOne, TakenBy, Takes, TakesHere, Tells, TellsNeed, TellsOne};
+ghost use Rattle.rina_flows.specs.Calls.{Offered, Offers, PassesOne, TakenBy, Takes, TakesHere, Tells, TellsNeed, TellsNext, TellsOne};
 ghost use Rattle.rina_flows.specs.Delivering.{ArrivesIn, ForgetsIn, StopsIn};
-ghost use Rattle.rina_flows.specs.Tied.{conns_of, ids_of};
+ghost use Rattle.rina_flows.specs.Tied.{IsAt, conns_of, ids_of};
 
 use crate::arriving::Notes;
 use crate::conns::Conns;
@@ -66,6 +66,26 @@ fn pieces(form: &Form, len: u32) -> u32
     ensures { TellsNeed len form.now.piece result }
 {
     len.saturating_sub(1) / form.piece + 1
+}
+
+/// The number with which the SDU begins that an end passes next, and how many pieces it has.
+fn next_passed(end: &End, form: &Form) -> (u32, u32)
+    ensures { TellsNext end.now form.now result }
+{
+    match end.got.get(end.taken as usize) {
+        Some(entry) => {
+            let len = entry.bytes.len() as u64;
+            (narrow(entry.num.seq), pieces(form, narrow(len)))
+        }
+        None => (0, 0),
+    }
+}
+
+/// The number itself, or the greatest u32 where it is greater.
+fn narrow(number: u64) -> u32
+    ensures { result ≡ min number (2 ^ 32 - 1) }
+{
+    number.min(u64::from(u32::MAX)) as u32
 }
 
 /// Whether a PDU bears the names of the far end of a connection.
@@ -138,6 +158,18 @@ impl Flows {
         self.conns.at(at).room(now)
     }
 
+    /// The number with which the SDU begins that the end at a place passes next, and how many pieces it has.
+    fn next_passed(&self, at: usize) -> (u32, u32)
+        requires { at < length self.now.conns }
+        ensures { (e : End) (k : Conn) → IsAt self.now.journal.ends self.now.conns at e k → TellsNext e k.sending.form result }
+    {
+        let form = &self.conns.at(at).sending.form;
+        match self.journal.ends.get(at) {
+            Some(end) => next_passed(end, form),
+            None => (0, 0),
+        }
+    }
+
     /// Passes the oldest SDU of the end at a place, where one waits. Takes no memory.
     pub fn pass(&mut self, now: Tick, at: usize)
         requires end { at < length self.old.journal.ends }
@@ -145,7 +177,8 @@ impl Flows {
         requires waits { (e : End) → slice_get self.old.journal.ends at ≡ Some e → e.taken < length e.got }
         ensures { PassesOne now at self.old self.new }
     {
-        self.conns.pass(now, at);
+        let (first, pieces) = self.next_passed(at);
+        self.conns.pass(now, at, first, pieces);
         self.journal.ends.pass(at);
     }
 
@@ -188,7 +221,7 @@ impl Flows {
         match self.journal.ends.get(at) {
             Some(end) => {
                 let waiting = (end.got.len() as u64).saturating_sub(end.taken);
-                waiting.min(u64::from(u32::MAX)) as u32
+                narrow(waiting)
             }
             None => 0,
         }
@@ -298,7 +331,6 @@ impl Flows {
         far: End,
     ) -> Result<(), Memory>
         requires cube { IsCube cube.now }
-        requires kind { is_reliable cube.now.kind ≡ false }
         requires piece { 1 ≤ piece }
         ensures ends { OnOk result (self.new.journal.ends ≡ self.old.journal.ends ++ asker ∷ far ∷ []) }
         ensures adds { OnOk result (Adds cube.now piece max peer asker far self.old self.new) }

@@ -11,6 +11,7 @@ returns-clause-receives c = record {
   heard = c.on_data-verdict.new.self;
   row = c.on_data-verdict.ensures.arrives;
   marks = c.on_data-verdict.ensures.marks;
+  hears = c.on_data-verdict.ensures.receives;
   sending = c.on_data-verdict.ensures.same.0;
   given_up = c.on_data-verdict.ensures.same.1;
   passed_on = c.deliver.new.conn;
