@@ -1,3 +1,5 @@
 pub mod Holding
+pub mod Sending
 pub mod Shown
 pub mod Steps
+pub mod Whole

@@ -4,6 +4,7 @@
 mod dif;
 mod leaving;
 mod processes;
+mod sending;
 
 pub use dif::Dif;
 pub use processes::Processes;
