@@ -17,7 +17,7 @@ pub use laws::{
     the_rank_below_keeps_standing, what_stands_can_step, what_stands_is_a_facility,
     what_was_got_has_come,
 };
-pub use link::{Link, Route, next_link};
+pub use link::{Link, Route, live_link, next_link};
 pub use process::IpcProcess;
 pub use settings::{Member, Settings};
 pub use step::{InStep, OutStep, Settled, StepError, Took};

@@ -68,7 +68,7 @@ has_process d below at st lt =
     let ms = length-map d.settings.members member_of in
     there d.processes at (omega (arith, alike, ps, ms, lt))
 
-shown_at : (d : Dif) (at : ℕ) (p : IpcProcess) → slice_get d.processes at ≡ Some p → slice_get (seen_of d).processes at ≡ Some (process_of p)
+pub shown_at : (d : Dif) (at : ℕ) (p : IpcProcess) → slice_get d.processes at ≡ Some p → slice_get (seen_of d).processes at ≡ Some (process_of p)
 shown_at d at p is = slice_get-map process_of d.processes at ∙ ap (λ (o : Option IpcProcess). option_map process_of o) is
 
 pub will_go : (d : Dif) (below : Seen) (at n : ℕ) → Stands d below → WillGo (config_of d.settings) d.clock below n at d.processes

@@ -7,6 +7,7 @@ use Rattle.rina_data.specs.Carried.{IsCarrying}
 use Rattle.rina_data.specs.Configs.{config_of}
 use Rattle.rina_data.specs.Deciding.{process_of}
 use Rattle.rina_data.specs.Dif.{Config, Process, next_hop, queue_place}
+use Rattle.rina_data.specs.Passing.{IsPassed}
 use Rattle.rina_data.specs.Standing.{IsQos, IsStanding}
 use Rattle.rina_flows.specs.Calls.{AreTied}
 use Rattle.rina_dif.specs.declared.dif.Dif.{Dif}
@@ -35,3 +36,9 @@ pub record Holds (d : Dif) (lines : List Direction) (below : Seen) : Type 0 wher
 -- some directions stand behind its flows
 abbrev pub Stands : Dif → Seen → Type 0
 Stands d below = (lines : List Direction) × Holds d lines below
+
+-- the oldest SDU of the end at a place was passed
+pub record Passes (d : Dif) (lines : List Direction) (at : ℕ) (d' : Dif) (below : Seen) : Type 0 where
+  pub lines' : List Direction
+  pub passed : IsPassed (seen_of d) lines at (seen_of d') lines'
+  pub holds : Holds d' lines' below

@@ -2,4 +2,5 @@ pub mod Holding
 pub mod Sending
 pub mod Shown
 pub mod Steps
+pub mod Taking
 pub mod Whole

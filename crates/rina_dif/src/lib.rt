@@ -1,10 +1,13 @@
 //! A DIF over any facility: its IPC processes, and its flows.
 #![tactic(auto)]
 
+mod clock;
 mod dif;
 mod leaving;
+mod passing;
 mod processes;
 mod sending;
+mod taking;
 
 pub use dif::Dif;
 pub use processes::Processes;

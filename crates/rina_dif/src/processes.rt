@@ -1,15 +1,19 @@
 //! The IPC processes of a DIF.
 ghost use Rattle.std.specs.Prelude.{◌≡◌, ◌<◌, ◌≤◌, [], ◌∷◌, ◌++◌, length, slice_get, Some, MatchOption, OnOk, OnErr, ◌+◌, IsSome};
 ghost use Rattle.rina_iface.specs.Later.{IsLater};
-ghost use Rattle.rina_data.specs.declared.process.IpcProcess.{IpcProcess};
-ghost use Rattle.rina_data.specs.Configs.{config_of};
+ghost use Rattle.rina_base.specs.Pdus.{pdu_of};
 ghost use Rattle.rina_queue.specs.declared.queue.Queue.{Queue};
 ghost use Rattle.rina_queue.specs.Queues.{Changes, queue_place, waiting, with_items};
+ghost use Rattle.rina_data.specs.declared.process.IpcProcess.{IpcProcess};
+ghost use Rattle.rina_data.specs.Configs.{config_of};
+ghost use Rattle.rina_data.specs.Hops.{hop_of};
 ghost use Rattle.rina_dif.specs.Sending.{AreOf, HasRoomFor, Puts, queued};
 ghost use Rattle.rina_dif.specs.Steps.{AsksAt, Leaves, WillGo};
+ghost use Rattle.rina_dif.specs.Taking.{ArrivesTo, DecidesAt, NotesAt, RoutesAt};
 
-use rina_base::{Pdu, Tick};
-use rina_data::{IpcProcess, OutStep, Settings, StepError};
+use rina_base::{Addr, Cause, Memory, Pdu, PduView, Tick};
+use rina_data::{HopView, IpcProcess, OutStep, Settings, Settled, StepError};
+use rina_flows::Flows;
 use rina_iface::Facility;
 use rina_policy::Picks;
 use rina_queue::{Queued, Queues};
@@ -112,5 +116,59 @@ impl Processes {
     {
         let process = &mut self.items[at];
         put_all(&mut process.queues, qos, link, left, since, pdus);
+    }
+
+    /// Lets the IPC process at a place decide on a PDU that came at tick `since`, where it has the address `addr`.
+    pub fn settle(
+        &mut self,
+        alloc: Global,
+        at: usize,
+        now: Tick,
+        addr: Addr,
+        since: Tick,
+        hop: &HopView<'_>,
+    ) -> Result<Settled, Memory>
+        requires now { now ≤ 10_000_000 }
+        requires at { at < length self.old }
+        requires routed { RoutesAt (hop_of hop.now) at self.old }
+        ensures { DecidesAt now addr since (hop_of hop.now) result at self.old self.new }
+    {
+        let process = &mut self.items[at];
+        process.settle(alloc, now, addr, since, hop)
+    }
+
+    /// Writes a PDU off in the ledger of the IPC process at a place.
+    pub fn write_off(
+        &mut self,
+        alloc: Global,
+        at: usize,
+        hop: &HopView<'_>,
+        cause: Cause,
+    ) -> Result<(), Memory>
+        requires { at < length self.old }
+        ensures { NotesAt (hop_of hop.now).pdu cause result at self.old self.new }
+    {
+        let process = &mut self.items[at];
+        process.write_off(alloc, hop, cause)
+    }
+
+    /// Lets the connection at a place of the flows take a piece that came to the IPC process at a place.
+    pub fn arrive(
+        &mut self,
+        alloc: Global,
+        at: usize,
+        flows: &mut Flows,
+        now: Tick,
+        place: usize,
+        pdu: &PduView<'_>,
+    ) -> Result<Option<Cause>, Memory>
+        requires now { now ≤ 10_000_000 }
+        requires at { at < length self.old }
+        requires end { place < length flows.old.journal.ends }
+        requires conn { place < length flows.old.conns }
+        ensures { ArrivesTo now place (pdu_of pdu.now) at flows.old self.old result flows.new self.new }
+    {
+        let process = &mut self.items[at];
+        flows.arrive(alloc, now, place, pdu, &mut process.ledger)
     }
 }

@@ -2,6 +2,7 @@ pub mod Arrived
 pub mod ArrivesAt
 pub mod Coming
 pub mod Counted
+pub mod Delivered
 pub mod Framed
 pub mod Given
 pub mod Kept
@@ -14,3 +15,6 @@ pub mod Taking
 pub mod Told
 pub mod Unbroken
 pub mod Welcome
+pub mod Writing
+pub mod Received
+pub mod Landed

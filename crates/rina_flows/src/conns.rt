@@ -1,10 +1,14 @@
 //! Connections, each at the place of its end.
 ghost use Rattle.std.specs.Prelude.{◌≡◌, ◌≤◌, ◌<◌, [], length, slice_get, Some, MatchOption};
+ghost use Rattle.std.specs.Vec.{vec_capacity};
 ghost use Rattle.rina_base.specs.Pdus.{pdu_of};
+ghost use Rattle.rina_flows.specs.Delivering.{IsLanding, Receives};
 ghost use Rattle.rina_flows.specs.Calls.{Becomes, IsOffer, IsPass, IsTold};
 
-use rina_base::{PduView, Tick};
+use crate::arriving::{Notes, cause_of, receive};
+use rina_base::{Bytes, Cause, Memory, PduView, Tick};
 use rina_conn::{Conn, Made, OfferError};
+use rina_dtp::Verdict;
 use std::alloc::Global;
 use std::marker::Model;
 
@@ -87,5 +91,47 @@ impl Conns {
     {
         let conn = &mut self.items[at];
         conn.on_control(pdu);
+    }
+
+    /// Lets the connection at this place receive a piece, while `unpassed` SDUs wait to be passed. `bodies` are the
+    /// bytes of the SDUs that it makes whole. Takes memory only where `notes` has no room.
+    pub fn receive(
+        &mut self,
+        now: Tick,
+        at: usize,
+        pdu: &PduView<'_>,
+        unpassed: u32,
+        bodies: Vec<Bytes>,
+        notes: &mut Notes,
+    ) -> Verdict
+        requires now { now ≤ 10000000 }
+        requires at { at < length self.old }
+        ensures capacity { vec_capacity notes.old.lines ≤ vec_capacity notes.new.lines }
+        ensures becomes { Becomes (λ old new. Receives now (pdu_of pdu.now) unpassed old bodies.items notes.old.got.items (vec_capacity notes.old.got) notes.old.lines.items (vec_capacity notes.old.lines) result new notes.new.got.items notes.new.lines.items) at self.old self.new }
+    {
+        let conn = &mut self.items[at];
+        receive(conn, now, pdu, unpassed, bodies, notes)
+    }
+
+    /// Lets the connection at this place receive a piece, once there is room for all that can come of it.
+    pub fn land(
+        &mut self,
+        now: Tick,
+        at: usize,
+        pdu: &PduView<'_>,
+        unpassed: u32,
+        bodies: Vec<Bytes>,
+        notes: &mut Notes,
+    ) -> Result<Option<Cause>, Memory>
+        requires now { now ≤ 10000000 }
+        requires at { at < length self.old }
+        ensures { IsLanding now (pdu_of pdu.now) unpassed at bodies.items self.old notes.old.got.items notes.old.lines.items result self.new notes.new.got.items notes.new.lines.items }
+    {
+        let kept = self.at(at).rx.kept();
+        notes.make_room(bodies.len(), kept)?;
+        let verdict = self.receive(now, at, pdu, unpassed, bodies, notes);
+        let cause = cause_of(verdict);
+        notes.write(pdu, cause);
+        Ok(cause)
     }
 }

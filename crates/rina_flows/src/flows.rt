@@ -1,13 +1,16 @@
 //! The flows of a DIF.
-ghost use Rattle.std.specs.Prelude.{◌≡◌, ◌≤◌, ◌<◌, [], length, slice_get, Some, IsTrue, ◌↔◌};
+ghost use Rattle.std.specs.Prelude.{◌≡◌, ◌≤◌, ◌<◌, ◌-◌, ◌^◌, min, [], length, slice_get, Some, IsTrue, ◌↔◌};
 ghost use Rattle.rina_base.specs.Pdus.{pdu_of};
 ghost use Rattle.rina_conn.specs.Sending.{TellsRoom};
 ghost use Rattle.rina_data.specs.Ids.{IsFrom, flipped};
 ghost use Rattle.rina_flows.specs.Calls.{Offered, Offers, PassesOne, TakenBy, Takes, TakesHere, Tells, TellsNeed, TellsOne};
+ghost use Rattle.rina_flows.specs.Delivering.{ArrivesIn};
 ghost use Rattle.rina_flows.specs.Tied.{conns_of, ids_of};
 
 use crate::conns::Conns;
-use rina_base::{Bytes, PduView, Tick};
+use crate::arriving::Notes;
+use rina_account::Ledger;
+use rina_base::{Bytes, Cause, Memory, PduView, Tick};
 use rina_conn::{Conn, Form, Made, OfferError};
 use rina_iface::{End, Ends, Entry, Journal, PortState};
 use std::alloc::Global;
@@ -134,7 +137,8 @@ impl Flows {
     /// Lets the connection at a place take an acknowledgement. Takes no memory.
     pub fn told(&mut self, at: usize, pdu: &PduView<'_>)
         requires { at < length self.old.conns }
-        ensures { TellsOne at (pdu_of pdu.now) self.old self.new }
+        ensures told { TellsOne at (pdu_of pdu.now) self.old self.new }
+        ensures ends { self.new.journal.ends ≡ self.old.journal.ends }
     {
         self.conns.told(at, pdu);
     }
@@ -160,5 +164,48 @@ impl Flows {
             }
         }
         None
+    }
+
+    /// How many SDUs of the end at a place wait to be passed, counted up to the greatest u32.
+    pub fn unpassed(&self, at: usize) -> u32
+        ensures { (e : End) → slice_get self.now.journal.ends at ≡ Some e → result ≡ min (length e.got - e.taken) (2 ^ 32 - 1) }
+    {
+        match self.journal.ends.get(at) {
+            Some(end) => {
+                let waiting = (end.got.len() as u64).saturating_sub(end.taken);
+                waiting.min(u64::from(u32::MAX)) as u32
+            }
+            None => 0,
+        }
+    }
+
+    /// A piece comes to the connection at a place, at a tick of at most 10,000,000: pieces of a state that has ended
+    /// are written off; the piece is accepted, held, or written off; the SDUs that it makes whole are delivered, with
+    /// this tick; and pieces of broken SDUs are written off. The lines stand in the ledger in that order, that of the
+    /// piece itself last. Answers why it is written off, if it is. Without memory nothing changes.
+    pub fn arrive(
+        &mut self,
+        alloc: Global,
+        now: Tick,
+        at: usize,
+        pdu: &PduView<'_>,
+        ledger: &mut Ledger,
+    ) -> Result<Option<Cause>, Memory>
+        requires now { now ≤ 10000000 }
+        requires end { at < length self.old.journal.ends }
+        requires conn { at < length self.old.conns }
+        ensures { ArrivesIn now at (pdu_of pdu.now) self.old ledger.old result self.new ledger.new }
+    {
+        let unpassed = self.unpassed(at);
+        let bodies = self.conns.at(at).rx.ahead(alloc, now, pdu, unpassed)?;
+        let mut notes = Notes {
+            got: self.journal.ends.take_got(alloc, at),
+            lines: ledger.take(alloc),
+        };
+        let bodies = bodies.into_vec();
+        let result = self.conns.land(now, at, pdu, unpassed, bodies, &mut notes);
+        self.journal.ends.put_got(at, notes.got);
+        ledger.put(notes.lines);
+        result
     }
 }

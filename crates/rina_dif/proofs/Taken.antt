@@ -1,0 +1,163 @@
+-- The oldest SDU of a link is taken.
+use Rattle.std.proofs.Common.{◌≡◌, ◌∙◌, ℕ, ◌+◌, ◌<◌, ◌≤◌, Bool, List, length, map, slice_get, option_map, Option, Some, None, Result, Ok, Err, refl, sym, ap, subst, arith, inl}
+use Rattle.std.specs.Prelude.{IsSome}
+use Rattle.std.proofs.lemmas.List.{length-map}
+use Rattle.std.proofs.lemmas.Option.{slice_get-map}
+use Rattle.rina_base.specs.declared.number.Key.{Key}
+use Rattle.rina_base.specs.declared.number.Port.{Port}
+use Rattle.rina_base.specs.Pdus.{key_of}
+use Rattle.rina_iface.specs.declared.ends.End.{End}
+use Rattle.rina_iface.specs.Journal.{AreKept}
+use Rattle.rina_iface.specs.Pass.{IsLent, IsPassed}
+use Rattle.rina_iface.specs.Seen.{Seen, unpassed}
+use Rattle.rina_law.specs.declared.entry.Entry.{Entry}
+use Rattle.rina_law.specs.Direction.{Direction}
+use Rattle.rina_pci.specs.declared.widths.Widths.{Widths}
+use Rattle.rina_data.specs.declared.hop.HopView.{HopView}
+use Rattle.rina_data.specs.declared.link.Link.{Link}
+use Rattle.rina_data.specs.declared.process.IpcProcess.{IpcProcess}
+use Rattle.rina_data.specs.declared.step.InStep.{InStep}
+use Rattle.rina_data.specs.declared.step.InStep.TheVariants as in_
+use Rattle.rina_data.specs.declared.step.StepError.{StepError}
+use Rattle.rina_data.specs.declared.step.StepError.TheVariants.{Memory, NoIpc, NoLink}
+use Rattle.rina_data.specs.declared.step.Took.{Took}
+use Rattle.rina_data.specs.Cloud.{Hop, IsMine, opened}
+use Rattle.rina_data.specs.Configs.{config_of, member_of}
+use Rattle.rina_data.specs.Deciding.{process_of}
+use Rattle.rina_data.specs.Dif.{DifSeen, IsProcess, Member, Process, link_by}
+use Rattle.rina_data.specs.Hops.{hop_of}
+use Rattle.rina_data.specs.Incoming.{Ins, Settles}
+use Rattle.rina_data.specs.Sending.{home}
+use Rattle.rina_data.specs.Standing.{IsStanding}
+use Rattle.rina_data.proofs.Arrivals.{arrival, closed}
+use Rattle.rina_data.proofs.Carries.{ins_carry}
+use Rattle.rina_data.proofs.Coming.{ins_stand}
+use Rattle.rina_data.proofs.Finding.{live_link, oldest_at, there}
+use Rattle.rina_data.proofs.Partnered.{met}
+use Rattle.rina_data.proofs.Spelled.{opened_spelling}
+use Rattle.rina_dif.specs.declared.dif.Dif.{Dif}
+use Rattle.rina_dif.specs.Holding.{Holds, Stands}
+use Rattle.rina_dif.specs.Shown.{seen_of}
+use Rattle.rina_dif.specs.Steps.{AtHome}
+use Rattle.rina_dif.specs.Taking.{Comes, HasSettled, InsAt, IsThere, TakesHome, TakesIn}
+use Rattle.rina_dif.proofs.Leaves.{has_process, shown_at}
+
+-- What waits
+
+-- whatever waits at a link is a protected SDU
+pub opens : (d : DifSeen) (lines : List Direction) (below : Seen) (i n : ℕ) (member : Member) (process : Process) (link : Link) (entry : Entry) → IsStanding d lines below → AreKept below → IsProcess d i member process → link_by n process.links ≡ Some link → unpassed below link.port ≡ Some entry → (hop : Hop) × (opened d.config.widths entry.bytes ≡ Some hop)
+opens d lines below i n member process link entry st kept is_process is_link waits =
+    let l = st.linked i member link is_process.is_member (live_link d.processes i n process link is_process.is_process is_link) in
+    let e = l.end in
+    let at = oldest_at below link.port e entry l.here waits in
+    let mine : IsMine d.config.members e.app = record { addr = member.addr; member = record { place = i; member = member; stands = is_process.is_member; addr_is = refl; name_is = sym l.app } } in
+    let m = met below link.port e e.taken entry kept l.here at in
+    let peer = subst (IsMine d.config.members) m.named.peer (closed d lines below st link.port e l.here mine) in
+    let s = st.spelled m.its_port m.other m.born.place m.born.source m.here peer m.born.is_place.is_source.stands in
+    (record { left = s.left; pdu = s.pdu }, ap (opened d.config.widths) (m.born.bytes ∙ s.is) ∙ opened_spelling d.config.widths s.left s.pdu st.config.widths s.fit.fits s.bound)
+
+-- an IPC process with its member
+pub record IsHere (d : Dif) (at : ℕ) (p : IpcProcess) : Type 0 where
+  pub member : Member
+  pub process : IsProcess (seen_of d) at member (process_of p)
+
+pub is_here : (d : Dif) (at : ℕ) (p : IpcProcess) → at < length d.settings.members → slice_get d.processes at ≡ Some p → IsHere d at p
+is_here d at p lt is =
+    let m = there d.settings.members at lt in
+    record { member = member_of m.0; process = record { is_member = slice_get-map member_of d.settings.members at ∙ ap (option_map member_of) m.1; is_process = shown_at d at p is } }
+
+-- the link that was looked up
+pub link_at : (p : IpcProcess) (seen : List Link) (n : ℕ) (o : Option Link) → seen ≡ p.links → o ≡ link_by n seen → link_by n p.links ≡ o
+link_at p seen n o same looked = ap (link_by n) (sym same) ∙ sym looked
+
+same_none : {X : Type 0} (o : Option X) (x : X) → o ≡ Some x → None ≡ o → ⊥
+same_none o x e f = absurd cc
+
+-- what was lent is no other thing
+pub never_closed : (d : Dif) (lines : List Direction) (below : Seen) (at n : ℕ) (p : IpcProcess) (link : Link) (tick : ℕ) (bytes : List ℕ) → AreKept below → at < length d.settings.members → Holds d lines below → slice_get d.processes at ≡ Some p → link_by n p.links ≡ Some link → IsLent below link.port tick bytes → None ≡ opened d.settings.widths bytes → ⊥
+never_closed d lines below at n p link tick bytes kept lt h is is_link lent none =
+    let here = is_here d at p lt is in
+    let o = opens (seen_of d) lines below at n here.member (process_of p) link lent.entry h.standing kept here.process is_link lent.oldest in
+    same_none (opened d.settings.widths lent.entry.bytes) o.0 o.1 (none ∙ ap (opened d.settings.widths) lent.its_bytes)
+
+-- it comes
+pub comes_there : (d : Dif) (lines : List Direction) (below : Seen) (at n : ℕ) (p : IpcProcess) (link : Link) (tick : ℕ) (bytes : List ℕ) (hop : Hop) → AreKept below → at < length d.settings.members → Holds d lines below → slice_get d.processes at ≡ Some p → link_by n p.links ≡ Some link → IsLent below link.port tick bytes → Some hop ≡ opened d.settings.widths bytes → IsThere (seen_of d) below tick hop
+comes_there d lines below at n p link tick bytes hop kept lt h is is_link lent opened_ =
+    let here = is_here d at p lt is in
+    let opens_ : opened d.settings.widths lent.entry.bytes ≡ Some hop = ap (opened d.settings.widths) (sym lent.its_bytes) ∙ sym opened_ in
+    let a = arrival (seen_of d) lines below at n here.member (process_of p) link lent.entry hop h.standing kept here.process is_link lent.oldest opens_ in
+    let its : IsThere (seen_of d) below lent.entry.tick hop = record { fit = a.fit.fit; past = a.past; older = a.older; later = a.later; on_way = a.on_way } in
+    subst (λ (t : ℕ). IsThere (seen_of d) below t hop) (sym lent.its_tick) its
+
+pub waits_there : (below : Seen) (port : Port) (tick : ℕ) (bytes : List ℕ) → IsLent below port tick bytes → IsSome (unpassed below port)
+waits_there below port tick bytes lent = subst (λ (o : Option Entry). IsSome o) (sym lent.oldest) refl
+
+-- What is answered
+
+pub no_link : (d : Dif) (lines : List Direction) (below : Seen) (at n : ℕ) (p : IpcProcess) → slice_get d.processes at ≡ Some p → link_by n p.links ≡ None → Holds d lines below → TakesIn d lines below at n (Err NoLink) d below
+no_link d lines below at n p is none h = record { lines' = lines; does = (record { process = process_of p; is_process = shown_at d at p is; none = none }, refl, refl, refl); holds = h }
+
+pub none_waits : (d : Dif) (lines : List Direction) (below : Seen) (at n : ℕ) (p : IpcProcess) (link : Link) → slice_get d.processes at ≡ Some p → link_by n p.links ≡ Some link → unpassed below link.port ≡ None → Holds d lines below → TakesIn d lines below at n (Ok in_.Idle) d below
+none_waits d lines below at n p link is is_link none h = record { lines' = lines; does = (record { process = process_of p; link = link; is_process = shown_at d at p is; is_link = is_link; none = none }, refl, refl, refl); holds = h }
+
+pub took_none : (d : Dif) (lines : List Direction) (below : Seen) (at n : ℕ) (d' : Dif) (e : StepError) (r : Result InStep StepError) → e ≡ Memory → r ≡ Err e → (seen_of d' ≡ seen_of d) × Holds d' lines below → TakesIn d lines below at n r d' below
+took_none d lines below at n d' e r is err same =
+    subst (λ (v : Result InStep StepError). TakesIn d lines below at n v d' below) (sym (err ∙ ap (λ (z : StepError). Err z) is)) (record { lines' = lines; does = (same.0, refl, refl); holds = same.1 })
+
+pub took_it : (d : Dif) (lines : List Direction) (below : Seen) (at n : ℕ) (p : IpcProcess) (link : Link) (tick : ℕ) (bytes : List ℕ) (hop : Hop) (key : Key) (end : Took) (d' : Dif) (below' : Seen) → AreKept below → AreKept below' → at < length d.settings.members → Holds d lines below → slice_get d.processes at ≡ Some p → link_by n p.links ≡ Some link → IsLent below link.port tick bytes → Some hop ≡ opened d.settings.widths bytes → key ≡ key_of hop.pdu → HasSettled d lines at tick hop end d' → IsPassed below link.port below' → TakesIn d lines below at n (Ok (in_.Took key end)) d' below'
+took_it d lines below at n p link tick bytes hop key end d' below' kept kept' lt h is is_link lent opened_ key_is s passed =
+    let here = is_here d at p lt is in
+    let does : Ins (seen_of d) lines below at n (Ok (in_.Took key end)) (seen_of d') s.lines' below' = record {
+      member = here.member;
+      process = process_of p;
+      is_process = here.process;
+      link = link;
+      is_link = is_link;
+      entry = lent.entry;
+      oldest = lent.oldest;
+      hop = hop;
+      opens = ap (opened d.settings.widths) (sym lent.its_bytes) ∙ sym opened_;
+      key_is = key_is;
+      settled = subst (λ (t : ℕ). Settles (seen_of d) lines at here.member (process_of p) t hop end (seen_of d') s.lines') lent.its_tick (s.settled here.member (process_of p) here.process);
+      passed = passed;
+    } in
+    record {
+      lines' = s.lines';
+      does = does;
+      holds = record {
+        tied = s.tied;
+        standing = ins_stand (seen_of d) lines below at n (Ok (in_.Took key end)) (seen_of d') s.lines' below' kept kept' h.standing does;
+        carrying = ins_carry (seen_of d) lines below at n (Ok (in_.Took key end)) (seen_of d') s.lines' below' kept kept' h.standing h.carrying does;
+        housed = s.housed;
+      };
+    }
+
+-- By node
+
+at_home : (o : Option ℕ) (k : ℕ) (P : ℕ → Type 0) (Q : Type 0) → o ≡ Some k → P k → AtHome o P Q
+at_home o k P Q is p = subst (λ (z : Option ℕ). AtHome z P Q) (sym is) p
+
+not_home : (o : Option ℕ) (P : ℕ → Type 0) (Q : Type 0) → o ≡ None → Q → AtHome o P Q
+not_home o P Q is q = subst (λ (z : Option ℕ). AtHome z P Q) (sym is) q
+
+ins_at : (d : DifSeen) (lines : List Direction) (below : Seen) (node n at : ℕ) (r : Result InStep StepError) (d' : DifSeen) (lines' : List Direction) (below' : Seen) → home node d.config.members ≡ Some at → Ins d lines below at n r d' lines' below' → InsAt d lines below node n r d' lines' below'
+ins_at d lines below node n at (Ok x) d' lines' below' here ins = at_home (home node d.config.members) at (λ k. Ins d lines below k n (Ok x) d' lines' below') _ here ins
+ins_at d lines below node n at (Err Memory) d' lines' below' here ins = ins
+ins_at d lines below node n at (Err NoIpc) d' lines' below' here ins = at_home (home node d.config.members) at (λ k. Ins d lines below k n (Err NoIpc) d' lines' below') _ here ins
+ins_at d lines below node n at (Err NoLink) d' lines' below' here ins = at_home (home node d.config.members) at (λ k. Ins d lines below k n (Err NoLink) d' lines' below') _ here ins
+
+-- and whether memory was wanted is noted
+pub takes_home : (d : Dif) (lines : List Direction) (below : Seen) (node n at : ℕ) (r r' : Result InStep StepError) (d' : Dif) (failed : Bool) (below' : Seen) → home node (config_of d.settings).members ≡ Some at → r' ≡ r → TakesIn d lines below at n r d' below' → TakesHome d lines below node n r' (record d' { failed = failed }) below'
+takes_home d lines below node n at r r' d' failed below' here same t =
+    let does = ins_at (seen_of d) lines below node n at r (seen_of d') t.lines' below' here t.does in
+    record {
+      lines' = t.lines';
+      does = subst (λ (v : Result InStep StepError). InsAt (seen_of d) lines below node n v (seen_of d') t.lines' below') (sym same) does;
+      holds = record { tied = t.holds.tied; standing = t.holds.standing; carrying = t.holds.carrying; housed = t.holds.housed };
+    }
+
+pub takes_none : (d : Dif) (lines : List Direction) (below : Seen) (node n : ℕ) → Holds d lines below → TakesHome d lines below node n (Err Memory) d below
+takes_none d lines below node n h = record { lines' = lines; does = (refl, refl, refl); holds = h }
+
+pub takes_nowhere : (d : Dif) (lines : List Direction) (below : Seen) (node n : ℕ) → home node (config_of d.settings).members ≡ None → Holds d lines below → TakesHome d lines below node n (Err NoIpc) d below
+takes_nowhere d lines below node n none h = record { lines' = lines; does = not_home (home node (config_of d.settings).members) (λ k. Ins (seen_of d) lines below k n (Err NoIpc) (seen_of d) lines below) _ none (refl, refl, refl, refl); holds = h }
