@@ -1,8 +1,12 @@
 pub mod Bare
+pub mod Barred
 pub mod Keeping
 pub mod Leaves
 pub mod Moves
 pub mod Owning
 pub mod Passed
+pub mod Putting
+pub mod Sent
 pub mod Settling
 pub mod Taken
+pub mod Ways

@@ -1,5 +1,7 @@
 pub mod Building
 pub mod Holding
+pub mod Sending
 pub mod Shown
 pub mod Steps
 pub mod Taking
+pub mod Whole

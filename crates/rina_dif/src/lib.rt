@@ -7,6 +7,7 @@ mod dif;
 mod leaving;
 mod passing;
 mod processes;
+mod sending;
 mod taking;
 
 pub use dif::Dif;

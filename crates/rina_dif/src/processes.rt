@@ -1,17 +1,22 @@
 //! The IPC processes of a DIF.
-ghost use Rattle.std.specs.Prelude.{◌≡◌, ◌<◌, ◌≤◌, [], ◌∷◌, ◌++◌, length, slice_get, Some, MatchOption, OnOk, OnErr};
+ghost use Rattle.std.specs.Prelude.{◌≡◌, ◌<◌, ◌≤◌, [], ◌∷◌, ◌++◌, length, slice_get, Some, MatchOption, OnOk, OnErr, ◌+◌, IsSome};
 ghost use Rattle.rina_iface.specs.Later.{IsLater};
 ghost use Rattle.rina_base.specs.Pdus.{pdu_of};
+ghost use Rattle.rina_queue.specs.declared.queue.Queue.{Queue};
+ghost use Rattle.rina_queue.specs.Queues.{Changes, queue_place, waiting, with_items};
+ghost use Rattle.rina_data.specs.declared.process.IpcProcess.{IpcProcess};
 ghost use Rattle.rina_data.specs.Configs.{config_of};
 ghost use Rattle.rina_data.specs.Hops.{hop_of};
+ghost use Rattle.rina_dif.specs.Sending.{AreOf, HasRoomFor, Puts, queued};
 ghost use Rattle.rina_dif.specs.Steps.{AsksAt, Leaves, WillGo};
 ghost use Rattle.rina_dif.specs.Taking.{ArrivesTo, DecidesAt, NotesAt, RoutesAt};
 
-use rina_base::{Addr, Cause, Memory, PduView, Tick};
+use rina_base::{Addr, Cause, Memory, Pdu, PduView, Tick};
 use rina_data::{HopView, IpcProcess, OutStep, Settings, Settled, StepError};
 use rina_flows::Flows;
 use rina_iface::Facility;
 use rina_policy::Picks;
+use rina_queue::{Queued, Queues};
 use std::alloc::{AllocError, Global};
 use std::marker::Model;
 
@@ -28,6 +33,22 @@ impl Model for Processes {
     ghost Value = { List IpcProcess };
 
     ghost view = { λ p. p.items.items };
+}
+
+/// Puts PDUs of a cube, made at a tick, at the end of its queue for a link, which has room for them.
+fn put_all(queues: &mut Queues, qos: u8, link: u16, left: u32, since: Tick, pdus: Vec<Pdu>)
+    requires there { IsSome (queue_place qos link queues.old.queues.items) }
+    requires cube { AreOf qos pdus.items }
+    requires room { length (waiting qos link queues.old.queues.items) + length pdus.items ≤ queues.old.cap }
+    ensures put { Changes qos link (λ (q : Queue). with_items (q.ring.items ++ queued left since pdus.items) q) queues.old.queues.items queues.new.queues.items }
+    ensures cap { queues.new.cap ≡ queues.old.cap }
+{
+    for pdu in pdus {
+        match queues.push(qos, link, Queued { pdu, left, since }) {
+            Ok(()) => {}
+            Err(_full) => unreachable!(),
+        }
+    }
 }
 
 impl Processes {
@@ -83,6 +104,18 @@ impl Processes {
         let who = member.number;
         let process = &mut self.items[at];
         process.out_step(alloc, below, shelf, settings, who, now, link)
+    }
+
+    /// Puts PDUs of a cube, made at a tick, at the end of its queue for a link of the IPC process at a place, which has
+    /// room for them. `left` is the lifetime that they have. Takes no memory.
+    pub fn put(&mut self, at: usize, qos: u8, link: u16, left: u32, since: Tick, pdus: Vec<Pdu>)
+        requires at { at < length self.old }
+        requires cube { AreOf qos pdus.items }
+        requires room { (p : IpcProcess) → slice_get self.old at ≡ Some p → HasRoomFor qos link (length pdus.items) p }
+        ensures { Puts qos link (queued left since pdus.items) at self.old self.new }
+    {
+        let process = &mut self.items[at];
+        put_all(&mut process.queues, qos, link, left, since, pdus);
     }
 
     /// Lets the IPC process at a place decide on a PDU that came at tick `since`, where it has the address `addr`.
