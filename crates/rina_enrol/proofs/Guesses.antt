@@ -1,10 +1,9 @@
 -- What the fields of a message tell is the message itself.
-use Rattle.std.proofs.Common.{◌≡◌, ℕ, ◌+◌, ◌^◌, ◌<◌, List, [], ◌∷◌, ◌++◌, Option, Some, None, Result, Ok, Err, IfOk, option_map, refl, sym, ap, ◌∙◌, arith}
+use Rattle.std.proofs.Common.{◌≡◌, ℕ, ◌^◌, ◌<◌, List, ◌++◌, Option, Some, None, Result, Ok, Err, IfOk, refl, sym, ap, ◌∙◌, arith}
 use Rattle.rina_cdap.specs.declared.message.Message.{Message}
-use Rattle.rina_cdap.specs.Messages.{be4, IfThere, InRange}
+use Rattle.rina_cdap.specs.Messages.{be4, InRange}
 use Rattle.rina_base.specs.declared.memory.Memory.{Memory}
 use Rattle.rina_cdap.specs.Reading.{Gives}
-use Rattle.rina_cdap.specs.Numbers.{number_at}
 use Rattle.rina_cdap.proofs.Numbers.{number_again, number_alone}
 use Rattle.rina_cdap.proofs.Spelled as cdap
 use Rattle.rina_newest.specs.declared.item.Version.{Version}
@@ -12,7 +11,7 @@ use Rattle.rina_newest.specs.declared.item.Item.{Item}
 use Rattle.rina_enrol.specs.declared.message.LinkMessage.{LinkMessage}
 use Rattle.rina_enrol.specs.declared.message.LinkMessage.TheVariants as messages
 use Rattle.rina_enrol.specs.Messages.{live_text, item_text, message_of, IsSpelled, IsVersion, IsInRange}
-use Rattle.rina_enrol.specs.Reading.{version, version_in, live_in, number_in, item_in, connect_in, start_in, enrolment_in, guessed}
+use Rattle.rina_enrol.specs.Reading.{version_in, live_in, number_in, item_in, connect_in, start_in, enrolment_in, guessed}
 
 version_again : (v : Version) (rest : List ℕ) → IsVersion v → version_in (be4 v.tick ++ (be4 v.count ++ (be4 v.origin ++ rest))) ≡ Some (v, rest)
 unfolding version_in

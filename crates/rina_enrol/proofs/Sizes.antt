@@ -1,20 +1,19 @@
 -- How long the messages of a link are.
-use Rattle.std.proofs.Common.{◌≡◌, ◌⊎◌, inl, inr, ℕ, zero, suc, ◌+◌, ◌*◌, ◌^◌, ◌<◌, ◌≤◌, List, [], ◌∷◌, ◌++◌, length, map, Option, Some, None, Ok, refl, sym, ap, ◌∙◌, arith}
+use Rattle.std.proofs.Common.{◌≡◌, inl, inr, ℕ, ◌+◌, ◌*◌, ◌^◌, ◌<◌, ◌≤◌, List, [], ◌∷◌, ◌++◌, length, map, Option, Some, None, ap, ◌∙◌, arith}
 use Rattle.std.specs.Prelude.{codes}
 use Rattle.std.specs.Fmt.{decimal}
 use Rattle.std.proofs.lemmas.Fmt.{length-decimal-le}
 use Rattle.std.proofs.lemmas.List.{length-append, length-map}
-use Rattle.rina_base.specs.Names.{name_at, app_at}
 use Rattle.rina_base.proofs.Lengths.{name_short, app_short}
-use Rattle.rina_cdap.specs.Messages.{Field, field, be2, be4, byte, field_text, text, contents, fields, Spells}
+use Rattle.rina_cdap.specs.Messages.{text, contents, fields}
 use Rattle.rina_cdap.proofs.Contents.{size, length-text}
 use Rattle.rina_cdap.proofs.Numbers.{length-number}
 use Rattle.rina_enrol.proofs.Proper.{length-item}
 use Rattle.rina_newest.specs.declared.item.Item.{Item}
 use Rattle.rina_enrol.specs.declared.message.LinkMessage.{LinkMessage}
 use Rattle.rina_enrol.specs.declared.message.LinkMessage.TheVariants as messages
-use Rattle.rina_enrol.specs.Messages.{live_text, item_text, message_of, IsSpelled, IsProper}
-use Rattle.rina_enrol.specs.Items.{Neighbour, neighbour_text, neighbours_text, AreInRange, IsText, IsLinkState, IsMember, IsEntry, shown, IsReplicated, CarriesReplicated}
+use Rattle.rina_enrol.specs.Messages.{live_text, message_of, IsSpelled, IsProper}
+use Rattle.rina_enrol.specs.Items.{Neighbour, neighbour_text, neighbours_text, AreInRange, IsText, shown, IsReplicated, CarriesReplicated}
 
 address_short : (n : ℕ) → n < 2 ^ 32 → length (decimal n) ≤ 10
 address_short n lt = length-decimal-le 10 n (omega arith) (omega arith) (omega arith)

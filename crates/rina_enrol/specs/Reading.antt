@@ -1,5 +1,5 @@
 -- What a CDAP message would be as a message of a link, by its operation, if it were spelled so.
-use Rattle.std.specs.Prelude.{◌≡◌, ℕ, ◌==◌, List, [], ◌∷◌, Option, Some, None, option_map, option_and_then, if◌then◌else◌}
+use Rattle.std.specs.Prelude.{ℕ, ◌==◌, List, [], ◌∷◌, Option, Some, None, option_map, if◌then◌else◌}
 use Rattle.rina_cdap.specs.Numbers.{number_at}
 use Rattle.rina_cdap.specs.declared.message.Message.{Message}
 use Rattle.rina_newest.specs.declared.item.Version.{Version}
