@@ -50,6 +50,9 @@ fn merged(from: usize, to: usize, part: usize) -> usize
 fn merge(parts: &mut [usize], from: usize, to: usize)
     ensures { parts.new ≡ map (merged from to) parts.old }
 {
+    if from == to {
+        return;
+    }
     for part in parts.iter_mut() {
         *part = merged(from, to, *part);
     }

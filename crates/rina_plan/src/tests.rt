@@ -24,14 +24,14 @@ fn cube(id: u8) -> Cube {
 }
 
 /// A DIF of rank 1 with cube 1 and so many members, on nodes from 0 on, without links and flows.
-fn dif(alloc: Global, members: usize) -> Result<DifPlan, Fail> {
+fn dif(alloc: Global, members: u8) -> Result<DifPlan, Fail> {
     let mut cubes = Seq::new(alloc);
     cubes.push(cube(1))?;
     let mut there = Seq::new(alloc);
     for node in 0..members {
         there.push(MemberPlan {
-            node,
-            addr: node as u32 + 1,
+            node: usize::from(node),
+            addr: u32::from(node) + 1,
         })?;
     }
     Ok(DifPlan {
@@ -171,7 +171,7 @@ fn a_wire_has_one_link(rt: HostRuntime) -> Result<(), Fail> {
 
 /// The first full one of two DIFs: the lower has so many members and flows from 0 to 1, the upper so
 /// many links on it from 0 to 1.
-fn full(alloc: Global, members: usize, flows: usize, links: usize) -> Result<Option<usize>, Fail> {
+fn full(alloc: Global, members: u8, flows: usize, links: usize) -> Result<Option<usize>, Fail> {
     let mut lower = dif(alloc, members)?;
     for _ in 0..flows {
         lower.flows.push(flow(alloc, 1, 0, 1)?)?;

@@ -383,6 +383,15 @@ fn a_plan_has_what_is_written(rt: HostRuntime) -> Result<(), Fail> {
     Ok(())
 }
 
+/// Texts, one behind the other.
+fn joined(alloc: Global, texts: &[&str]) -> Result<String, Fail> {
+    let mut whole = String::new(alloc);
+    for text in texts {
+        whole.push_str(*text)?;
+    }
+    Ok(whole)
+}
+
 /// A text, so many times.
 fn times(alloc: Global, text: &str, count: usize) -> Result<String, Fail> {
     let mut texts = String::new(alloc);
@@ -392,51 +401,46 @@ fn times(alloc: Global, text: &str, count: usize) -> Result<String, Fail> {
     Ok(texts)
 }
 
-/// Two nodes, a wire, and a DIF on it with so many more cubes and so many flows; above it one with so
-/// many rules, and so many links on it. They are the items 2 and 3.
-fn counted(
-    alloc: Global,
-    cubes: usize,
-    flows: usize,
-    rules: usize,
-    links: usize,
-) -> Result<String, Fail> {
-    let mut text = String::from_str(alloc, COUNTED)?;
-    text.push_str("name = 'd'\nrank = 1\npdu = 96\nlink = [{ on = 'w', a = 'a', b = 'b' }]\n")?;
-    text.push_str("cube = [{ id = 1, kind = 'datagram', mpl = 40, window = 16, largest = 80 }, ")?;
-    for cube in 0..cubes {
-        let id = cube + 2;
+/// So many cubes, with ids from 2 on.
+fn cubes(alloc: Global, count: u8) -> Result<String, Fail> {
+    let mut cubes = String::new(alloc);
+    for cube in 0..count {
+        let id = u32::from(cube) + 2;
         let one = format!(in alloc;
             "{{ id = {id}, kind = 'datagram', mpl = 40, window = 16, largest = 80 }}, "
         )?;
-        text.push_str(one.as_str())?;
+        cubes.push_str(one.as_str())?;
     }
-    text.push_str("]\nflow = [")?;
-    for flow in 0..flows {
+    Ok(cubes)
+}
+
+/// So many flows of cube 1 from a to b.
+fn flows(alloc: Global, count: usize) -> Result<String, Fail> {
+    let mut flows = String::new(alloc);
+    for flow in 0..count {
         let one = format!(in alloc;
             "{{ cube = 1, from = {{ node = 'a', app = 's', label = 'p{flow}' }}, to = {{ node = 'b', app = 't', label = 'q{flow}' }} }}, "
         )?;
-        text.push_str(one.as_str())?;
+        flows.push_str(one.as_str())?;
     }
-    text.push_str("]\n")?;
-    text.push_str(SHARED)?;
-    text.push_str("[[dif]]\nname = 'e'\nrank = 2\npdu = 80\nrule = [")?;
-    let rule = "{ subject = '*', act = 'enrol', allow = true }, ";
-    text.push_str(times(alloc, rule, rules)?.as_str())?;
-    text.push_str("]\nlink = [")?;
-    let link = "{ on = 'd', a = 'a', b = 'b', cube = 1 }, ";
-    text.push_str(times(alloc, link, links)?.as_str())?;
-    text.push_str(
-        "]\ncube = [{ id = 1, kind = 'datagram', mpl = 40, window = 16, largest = 64 }]\n",
-    )?;
-    text.push_str(SHARED)?;
-    Ok(text)
+    Ok(flows)
 }
 
-static COUNTED: &str = "nodes = ['a', 'b']
+static LOWER: &str = "nodes = ['a', 'b']
 wire = [{ name = 'w', ends = ['a', 'b'], delay = 2, life = 10, largest = 1500 }]
 [[dif]]
-";
+name = 'd'
+rank = 1
+pdu = 96
+link = [{ on = 'w', a = 'a', b = 'b' }]
+cube = [{ id = 1, kind = 'datagram', mpl = 40, window = 16, largest = 80 }, ";
+
+static UPPER: &str = "[[dif]]
+name = 'e'
+rank = 2
+pdu = 80
+cube = [{ id = 1, kind = 'datagram', mpl = 40, window = 16, largest = 64 }]
+rule = [";
 
 /// What the two DIFs have in common.
 static SHARED: &str = "static = true
@@ -448,8 +452,48 @@ manage = { mpl = 40, r = 30, a = 2, retry = 10, window = 8 }
 member = [{ node = 'a', addr = 1 }, { node = 'b', addr = 2 }]
 ";
 
+/// Two nodes, a wire, and a DIF on it with so many more cubes and so many flows; above it one with so
+/// many rules, and so many links on it. They are the items 2 and 3.
+fn counted(
+    alloc: Global,
+    more: u8,
+    flow_count: usize,
+    rule_count: usize,
+    link_count: usize,
+) -> Result<String, Fail> {
+    let more = cubes(alloc, more)?;
+    let flows = flows(alloc, flow_count)?;
+    let rules = times(
+        alloc,
+        "{ subject = '*', act = 'enrol', allow = true }, ",
+        rule_count,
+    )?;
+    let links = times(
+        alloc,
+        "{ on = 'd', a = 'a', b = 'b', cube = 1 }, ",
+        link_count,
+    )?;
+    joined(
+        alloc,
+        &[
+            LOWER,
+            more.as_str(),
+            "]\nflow = [",
+            flows.as_str(),
+            "]\n",
+            SHARED,
+            UPPER,
+            rules.as_str(),
+            "]\nlink = [",
+            links.as_str(),
+            "]\n",
+            SHARED,
+        ],
+    )
+}
+
 /// More cubes, flows, rules and links; the rule and the item.
-static COUNTS: [(usize, usize, usize, usize, u32, usize); 11] = [
+static COUNTS: [(u8, usize, usize, usize, u32, usize); 11] = [
     (0, 0, 0, 0, 0, 1),
     (7, 0, 0, 0, 0, 1),
     (8, 0, 0, 0, 19, 2),
@@ -477,29 +521,25 @@ fn what_there_is_of_a_dif_is_counted(rt: HostRuntime) -> Result<(), Fail> {
     Ok(())
 }
 
-/// So many nodes, wires and DIFs, each DIF with as many members as there are nodes.
-fn wide(alloc: Global, nodes: usize, wires: usize, difs: usize) -> Result<String, Fail> {
-    let mut text = String::new(alloc);
-    let mut members = String::new(alloc);
-    text.push_str("nodes = [")?;
-    for node in 0..nodes {
-        text.push_str(format!(in alloc; "'n{node}', ")?.as_str())?;
-        let addr = node + 1;
-        members.push_str(format!(in alloc; "{{ node = 'n{node}', addr = {addr} }}, ")?.as_str())?;
+/// The names of so many nodes.
+fn nodes(alloc: Global, count: usize) -> Result<String, Fail> {
+    let mut nodes = String::new(alloc);
+    for node in 0..count {
+        nodes.push_str(format!(in alloc; "'n{node}', ")?.as_str())?;
     }
-    text.push_str("]\nwire = [")?;
-    for wire in 0..wires {
-        text.push_str(format!(in alloc;
+    Ok(nodes)
+}
+
+/// So many wires, all between the first two nodes.
+fn wires(alloc: Global, count: usize) -> Result<String, Fail> {
+    let mut wires = String::new(alloc);
+    for wire in 0..count {
+        let one = format!(in alloc;
             "{{ name = 'w{wire}', ends = ['n0', 'n1'], delay = 2, life = 10, largest = 1500 }}, "
-        )?.as_str())?;
+        )?;
+        wires.push_str(one.as_str())?;
     }
-    text.push_str("]\n")?;
-    for dif in 0..difs {
-        text.push_str(format!(in alloc; "[[dif]]\nname = 'd{dif}'\n")?.as_str())?;
-        text.push_str(BARE)?;
-        text.push_str(format!(in alloc; "member = [{members}]\n")?.as_str())?;
-    }
-    Ok(text)
+    Ok(wires)
 }
 
 static BARE: &str = "rank = 1
@@ -510,17 +550,54 @@ policy = 'strict'
 wait = 500
 manage = { mpl = 40, r = 30, a = 2, retry = 10, window = 8 }
 cube = [{ id = 1, kind = 'datagram', mpl = 40, window = 16, largest = 80 }]
+member = [{ node = 'n0', addr = 1 }]
 ";
+
+/// So many DIFs, each with one member.
+fn difs(alloc: Global, count: usize) -> Result<String, Fail> {
+    let mut difs = String::new(alloc);
+    for dif in 0..count {
+        let one = format!(in alloc; "[[dif]]\nname = 'd{dif}'\n{BARE}")?;
+        difs.push_str(one.as_str())?;
+    }
+    Ok(difs)
+}
+
+/// So many nodes, wires and DIFs.
+fn wide(
+    alloc: Global,
+    node_count: usize,
+    wire_count: usize,
+    dif_count: usize,
+) -> Result<String, Fail> {
+    let nodes = nodes(alloc, node_count)?;
+    let wires = wires(alloc, wire_count)?;
+    let difs = difs(alloc, dif_count)?;
+    joined(
+        alloc,
+        &[
+            "nodes = [",
+            nodes.as_str(),
+            "]\nwire = [",
+            wires.as_str(),
+            "]\n",
+            difs.as_str(),
+        ],
+    )
+}
+
+/// Nodes, wires and DIFs; the rule, and the item or else the number of wires.
+static WIDTHS: [(usize, usize, usize, u32, usize); 4] = [
+    (64, 128, 16, 0, 128),
+    (65, 128, 16, 19, 0),
+    (2, 129, 16, 19, 0),
+    (2, 0, 17, 19, 0),
+];
 
 #[test]
 fn nodes_wires_and_difs_are_counted(rt: HostRuntime) -> Result<(), Fail> {
     let alloc = rt.alloc();
-    for (nodes, wires, difs, n, item) in &[
-        (64, 128, 16, 0, 128),
-        (65, 128, 16, 19, 0),
-        (2, 129, 16, 19, 0),
-        (2, 0, 17, 19, 0),
-    ] {
+    for (nodes, wires, difs, n, item) in &WIDTHS {
         let text = wide(alloc, *nodes, *wires, *difs)?;
         assert_eq!(rt;
             told(read_stack(alloc, text.as_bytes(), &BuiltIn)),
