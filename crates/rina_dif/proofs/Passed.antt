@@ -1,11 +1,12 @@
 -- An SDU is taken from a DIF.
-use Rattle.std.proofs.Common.{◌≡◌, ◌∙◌, ℕ, ◌<◌, List, length, slice_get, slice_set, Some, refl, sym, ap, subst, arith}
+use Rattle.std.proofs.Common.{◌≡◌, ◌∙◌, ℕ, ◌<◌, List, length, map, slice_get, slice_set, Some, refl, sym, ap, subst, arith}
 use Rattle.std.proofs.lemmas.List.{length-map}
 use Rattle.rina_iface.specs.declared.ends.End.{End}
 use Rattle.rina_iface.specs.Ends.{with_passed}
 use Rattle.rina_iface.specs.Seen.{Seen}
 use Rattle.rina_law.specs.Direction.{Direction}
 use Rattle.rina_data.specs.Configs.{config_of}
+use Rattle.rina_data.specs.Deciding.{process_of}
 use Rattle.rina_data.specs.Dif.{DifSeen}
 use Rattle.rina_data.specs.Ids.{Ids}
 use Rattle.rina_data.specs.Incoming.{IsInbound}
@@ -34,7 +35,7 @@ has_conn d below at st lt = (let e = st.1.tied.alike in omega (arith, e, lt))
 pub passes : (d : Dif) (at : ℕ) (flows : Flows) → PassesOne d.clock at d.flows flows → (lines : List Direction) (below : Seen) → Holds d lines below → Passes d lines at (record d { flows = flows }) below
 passes d at flows p lines below h =
     let d' : Dif = record d { flows = flows } in
-    let o = p (config_of d.settings) lines h.standing.journal h.tied in
+    let o = p (config_of d.settings) lines (map process_of d.processes) below h.standing.journal h.standing.own h.tied in
     let q = o.passed in
     let seen = seen_flows d flows (slice_set d.flows.journal.ends at (with_passed q.end)) q.ends_are o.ids in
     let passed : IsPassed (seen_of d) lines at (seen_of d') o.lines' = record {
