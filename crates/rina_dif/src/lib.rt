@@ -12,3 +12,6 @@ mod taking;
 
 pub use dif::Dif;
 pub use processes::Processes;
+
+#[cfg(test)]
+mod tests;

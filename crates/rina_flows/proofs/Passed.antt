@@ -49,15 +49,15 @@ tied_passed g now at from ends conns lines end conn conn' line journal t is inb 
     let clock : line.line.clock ≡ now = (t.sends from far.0 line far.1 inb.is_line).clock in
     let form : conn'.sending.form ≡ conn.sending.form = ap (λ (s : Sending). s.form) p.sending in
     let main : end.state ≡ Allocated → IsReceiving (inward g conn') now (ids_of conn') conn' line' = λ state.
-        (let h = t.receives at from end conn line is state inb in
-        let here = beside ends lines at end t.lines_alike is.end_is in
-        let max = (t.sends at conn here.0 is.conn_is here.1).sender.max in
-        let S : ℕ → Type 0 = λ n. Stands (inward g conn) n line.line.receiver line.inbox.joiner conn.rx in
-        let W : List Sdu → Type 0 = λ ws. AreWaiting (inward g conn) line ws conn.waiting in
-        let before : IsReceiver (inward g conn) line conn = record { cube = refl; max = max; rx = subst S (sym clock) h.stands; last = h.last; plan = h.plan; waiting = subst W (sym h.whole) h.waiting } in
-        let after = p.receives (inward g conn) line clock waits before h.whole in
-        let R : Form → Type 0 = λ f. IsReceiving (constants g f.cube (flipped (ids_by f.peer f.cube.id))) now (ids_by f.peer f.cube.id) conn' line' in
-        subst R (sym form) (receiving_passed (inward g conn) now (ids_of conn) conn conn' line p.rx p.given_up after h)) in
+    (let h = t.receives at from end conn line is state inb in
+    let here = beside ends lines at end t.lines_alike is.end_is in
+    let max = (t.sends at conn here.0 is.conn_is here.1).sender.max in
+    let S : ℕ → Type 0 = λ n. Stands (inward g conn) n line.line.receiver line.inbox.joiner conn.rx in
+    let W : List Sdu → Type 0 = λ ws. AreWaiting (inward g conn) line ws conn.waiting in
+    let before : IsReceiver (inward g conn) line conn = record { cube = refl; max = max; rx = subst S (sym clock) h.stands; last = h.last; plan = h.plan; waiting = subst W (sym h.whole) h.waiting } in
+    let after = p.receives (inward g conn) line clock waits before h.whole in
+    let R : Form → Type 0 = λ f. IsReceiving (constants g f.cube (flipped (ids_by f.peer f.cube.id))) now (ids_by f.peer f.cube.id) conn' line' in
+    subst R (sym form) (receiving_passed (inward g conn) now (ids_of conn) conn conn' line p.rx p.given_up after h)) in
     tied_set g now ends conns lines at from end (with_passed end) conn conn' line line' t (record {
       is_at = is;
       is_line = inb.is_line;

@@ -62,7 +62,7 @@ early_by NoRoom b got from passed window room early = early
 pub early_after : (c : Constants) (d : Direction) (p : Piece) → d.state_from - d.passed < c.cube.window → (after_arrival (arrival_verdict c d.line p (has_room c d)) (is_present c d.line.clock d.line.receiver) c p d).state_from - d.passed < c.cube.window
 early_after c d p early =
     early_by (arrival_verdict c d.line p (has_room c d)) (is_present c d.line.clock d.line.receiver) (length d.inbox.got) d.state_from d.passed c.cube.window
-      (λ e. ltb-true (length d.inbox.got - d.passed) c.cube.window (room_by (has_room c d) (verdict_by_state c.cube.kind (is_present c d.line.clock d.line.receiver) d.line.receiver p) e)) early
+    (λ e. ltb-true (length d.inbox.got - d.passed) c.cube.window (room_by (has_room c d) (verdict_by_state c.cube.kind (is_present c d.line.clock d.line.receiver) d.line.receiver p) e)) early
 
 -- so few SDUs wait that their count fits
 pub few_wait : (c : Constants) (d : Direction) (w : Waits) → AreWaiting c d [] w → d.state_from - d.passed < c.cube.window → length d.inbox.got - d.passed < 3 * c.cube.window
