@@ -1,4 +1,5 @@
 pub mod Barred
+pub mod Facing
 pub mod Keeping
 pub mod Leaves
 pub mod Moves

@@ -1,3 +1,4 @@
+pub mod Facade
 pub mod Holding
 pub mod Sending
 pub mod Shown

@@ -3,6 +3,7 @@
 
 mod clock;
 mod dif;
+mod facade;
 mod leaving;
 mod passing;
 mod processes;
@@ -10,4 +11,5 @@ mod sending;
 mod taking;
 
 pub use dif::Dif;
+pub use facade::a_rank_shows_its_difs;
 pub use processes::Processes;
