@@ -4,5 +4,6 @@ pub mod Leaves
 pub mod Moves
 pub mod Owning
 pub mod Passed
+pub mod Putting
 pub mod Settling
 pub mod Taken

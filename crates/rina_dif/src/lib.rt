@@ -7,7 +7,11 @@ mod dif;
 mod leaving;
 mod passing;
 mod processes;
+mod queueing;
 mod taking;
 
 pub use dif::Dif;
 pub use processes::Processes;
+
+#[cfg(test)]
+mod tests;
