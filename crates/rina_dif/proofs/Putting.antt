@@ -1,12 +1,11 @@
 -- PDUs are put into their queue one by one.
-use Rattle.std.proofs.Common.{◌≡◌, ◌∙◌, ℕ, ◌+◌, ◌-◌, ◌<◌, ◌≤◌, ◌==◌, ◌&&◌, option_map, List, [], ◌∷◌, ◌++◌, zero, suc, length, map, nat_lt, slice_get, slice_set, append_assoc, Bool, true, false, Option, Some, None, Result, Ok, Err, refl, sym, ap, subst, arith, if◌then◌else◌}
-use Rattle.std.specs.Prelude.{IsSome, position, OnOk}
+use Rattle.std.proofs.Common.{◌≡◌, ◌∙◌, ℕ, ◌+◌, ◌-◌, ◌<◌, ◌≤◌, ◌==◌, ◌&&◌, option_map, List, [], ◌∷◌, ◌++◌, suc, length, map, nat_lt, slice_get, slice_set, append_assoc, true, Option, Some, None, refl, sym, ap, subst, arith}
+use Rattle.std.specs.Prelude.{IsSome, position}
 use Rattle.std.proofs.lemmas.List.{append-nil, map-set}
 use Rattle.std.proofs.lemmas.Option.{slice_get-map}
 use Rattle.std.proofs.lemmas.Bool.Decides.{nat_tests}
 use Rattle.rina_base.specs.declared.pdu.Pdu.{Pdu}
-use Rattle.rina_iface.specs.declared.error.SendError.{SendError}
-use Rattle.rina_iface.specs.declared.error.SendError.TheVariants.{NoRoute, QueueFull}
+use Rattle.rina_iface.specs.declared.error.SendError.TheVariants.{QueueFull}
 use Rattle.rina_iface.proofs.Changed.{slice_get-set_same, slice_set-same}
 use Rattle.rina_queue.specs.declared.queue.Queue.{Queue}
 use Rattle.rina_queue.specs.declared.queue.Queued.{Queued}
@@ -21,7 +20,7 @@ use Rattle.rina_data.specs.Dif as dif
 use Rattle.rina_data.specs.Ids.{Ids}
 use Rattle.rina_data.specs.Sending.{by_hop, by_room, queue_in, room_in}
 use Rattle.rina_data.proofs.Plain.{same_place}
-use Rattle.rina_dif.specs.Queueing.{AreOfCube, HasWay, PutsAll, WayAs, items_of}
+use Rattle.rina_dif.specs.Queueing.{AreOfCube, HasWay, PutsAll, items_of}
 use Rattle.rina_dif.proofs.Keeping.{position_map}
 
 some_there : (o : Option ℕ) → IsSome o → (k : ℕ) × (o ≡ Some k)
@@ -79,7 +78,7 @@ puts_more qos link left since done pdu old mid new p c =
     let is : so ≡ c.1 = same_some (slice_get mid p.place) so c.1 here there in
     let last : Queue = with_items (p.queue.ring.items ++ items_of left since (done ++ pdu ∷ [])) p.queue in
     let pushed : with_items (c.1.ring.items ++ item ∷ []) c.1 ≡ last =
-          ap (λ (q : Queue). with_items (q.ring.items ++ item ∷ []) q) (sym is) ∙ ap (λ (is : List Queued). with_items is p.queue) (append_assoc p.queue.ring.items (items_of left since done) (item ∷ []) ∙ ap (λ (xs : List Queued). p.queue.ring.items ++ xs) (items_push left since done pdu)) in
+    ap (λ (q : Queue). with_items (q.ring.items ++ item ∷ []) q) (sym is) ∙ ap (λ (is : List Queued). with_items is p.queue) (append_assoc p.queue.ring.items (items_of left since done) (item ∷ []) ∙ ap (λ (xs : List Queued). p.queue.ring.items ++ xs) (items_push left since done pdu)) in
     let step : new ≡ slice_set mid p.place last = c.4 ∙ ap (λ (k : ℕ). slice_set mid k (with_items (c.1.ring.items ++ item ∷ []) c.1)) (sym same) ∙ ap (slice_set mid p.place) pushed in
     record { place = p.place; queue = p.queue; found = p.found; is_queue = p.is_queue; new_is = step ∙ ap (λ (qs : List Queue). slice_set qs p.place last) p.new_is ∙ set_twice old p.place so last }
 
@@ -100,6 +99,7 @@ puts_count qos link left since done old new p =
     append_length : (xs ys : List Queued) → length (xs ++ ys) ≡ length xs + length ys
     append_length [] ys = omega arith
     append_length (x ∷ xs) ys = (let rest = append_length xs ys in omega (arith, rest))
+
     items_length : (left since : ℕ) (pdus : List Pdu) → length (items_of left since pdus) ≡ length pdus
     items_length left since [] = refl
     items_length left since (p ∷ pdus) = ap suc (items_length left since pdus)

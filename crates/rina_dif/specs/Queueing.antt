@@ -1,5 +1,5 @@
 -- How PDUs that are made here go into the queue of their next hop.
-use Rattle.std.specs.Prelude.{◌≡◌, ℕ, ◌-◌, ◌≤◌, List, [], ◌∷◌, ◌++◌, length, map, slice_get, slice_set, Some, IsSome, Result, Ok, Err}
+use Rattle.std.specs.Prelude.{◌≡◌, ℕ, ◌-◌, ◌≤◌, List, ◌++◌, length, map, slice_get, slice_set, Some, IsSome, Result, Ok, Err}
 use Rattle.rina_base.specs.declared.pdu.Pdu.{Pdu}
 use Rattle.rina_iface.specs.declared.error.SendError.{SendError}
 use Rattle.rina_queue.specs.declared.queue.Queue.{Queue}

@@ -1,4 +1,4 @@
-use Rattle.std.proofs.Common.{◌≡◌, ◌∙◌, ◌++◌, ◌∷◌, [], List, sym, ap, append_assoc, rules, refl}
+use Rattle.std.proofs.Common.{◌∙◌, ◌++◌, ◌∷◌, [], List, sym, ap, append_assoc, rules, refl}
 use Rattle.std.proofs.lemmas.Bool.{false≢true}
 use Rattle.rina_base.specs.declared.pdu.Pdu.{Pdu}
 use Rattle.rina_dif.proofs.Putting.{next_cube, puts_count, puts_more, puts_none, puts_there, room_left}

@@ -1,4 +1,4 @@
-use Rattle.std.proofs.Common.{◌∙◌, sym, ap}
+use Rattle.std.proofs.Common.{sym}
 use Rattle.rina_dif.proofs.Putting.{found_hop, way_full}
 use Rattle.rina_dif.proofs.queueing.way.Goals as goal
 
