@@ -1,3 +1,4 @@
+pub mod Bare
 pub mod Barred
 pub mod Facing
 pub mod Keeping

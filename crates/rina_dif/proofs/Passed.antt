@@ -1,6 +1,5 @@
 -- An SDU is taken from a DIF.
-use Rattle.std.proofs.Common.{◌≡◌, ◌∙◌, ℕ, ◌<◌, List, length, slice_get, slice_set, Some, refl, sym, ap, subst, arith}
-use Rattle.std.proofs.lemmas.List.{length-map}
+use Rattle.std.proofs.Common.{◌≡◌, ◌∙◌, ℕ, ◌<◌, List, length, slice_set, ap, arith}
 use Rattle.rina_iface.specs.declared.ends.End.{End}
 use Rattle.rina_iface.specs.Ends.{with_passed}
 use Rattle.rina_iface.specs.Seen.{Seen}
@@ -14,8 +13,7 @@ use Rattle.rina_data.proofs.Carries.{passed_carries}
 use Rattle.rina_data.proofs.Taking.{passed_stands}
 use Rattle.rina_flows.specs.declared.flows.Flows.{Flows}
 use Rattle.rina_flows.specs.Calls.{PassesOne, SameIds}
-use Rattle.rina_flows.specs.Rows.{PassedAt}
-use Rattle.rina_flows.specs.Tied.{IsInboundAt, conns_of}
+use Rattle.rina_flows.specs.Tied.{IsInboundAt}
 use Rattle.rina_dif.specs.declared.dif.Dif.{Dif}
 use Rattle.rina_dif.specs.Holding.{Holds, Passes, Stands}
 use Rattle.rina_dif.specs.Shown.{seen_of}

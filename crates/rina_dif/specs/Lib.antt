@@ -1,3 +1,4 @@
+pub mod Building
 pub mod Facade
 pub mod Holding
 pub mod Sending

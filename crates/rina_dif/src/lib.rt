@@ -1,6 +1,7 @@
 //! A DIF over any facility: its IPC processes, and its flows.
 #![tactic(auto)]
 
+mod building;
 mod clock;
 mod dif;
 mod facade;
@@ -13,3 +14,6 @@ mod taking;
 pub use dif::Dif;
 pub use facade::a_rank_shows_its_difs;
 pub use processes::Processes;
+
+#[cfg(test)]
+mod tests;
