@@ -149,7 +149,7 @@ same_own s d lines below port at sdu end conn parts h is place shows cut =
     let own_there_is : own_refusal d port (length sdu) ≡ own = rw (place, is.end_is, is.conn_is) refl in
     let first = same_refusals s (seen_of d) lines below port at end parts h.standing shows ∙ refused_is d lines at end conn line.0 parts h.tied is line.1 in
     let swap : by_length (length (join parts)) (Some max) (by_sender (sender_refusal d conn line.0 parts) (way_refusal d end conn (length parts))) ≡ by_length (length (join parts)) (Some max) own =
-        lengths (length (join parts)) max (by_sender (sender_refusal d conn line.0 parts) (way_refusal d end conn (length parts))) own (λ le. own_is d lines below at sdu end conn line.0 parts h is line.1 cut (subst (λ (xs : List ℕ). length xs ≤ max) cut.1 le)) in
+    lengths (length (join parts)) max (by_sender (sender_refusal d conn line.0 parts) (way_refusal d end conn (length parts))) own (λ le. own_is d lines below at sdu end conn line.0 parts h is line.1 cut (subst (λ (xs : List ℕ). length xs ≤ max) cut.1 le)) in
     let state : state_of s port ≡ Some end.state = ap (option_map (λ (e : End). e.state)) (end_of_stands s port (fac_of (seen_of d)) at end shows.stands) in
     let last : refused s port (length (join parts)) own ≡ by_state (Some end.state) (by_length (length (join parts)) (Some max) own) = (λ i. by_state (state i) (by_length (length (join parts)) (largest_there s d lines below port at end conn h is shows i) own)) in
     first ∙ ap (by_state (Some end.state)) swap ∙ sym last ∙ ap (refused s port (length (join parts))) (sym own_there_is)
