@@ -1,12 +1,10 @@
 -- A DIF without links stands.
-use Rattle.std.proofs.Common.{◌≡◌, ◌∙◌, ℕ, ◌+◌, ◌<◌, ◌≤◌, ◌⊎◌, List, [], ◌∷◌, ◌++◌, length, map, take, slice_get, option_map, Option, Some, None, refl, sym, ap, subst, arith, inl, inr}
+use Rattle.std.proofs.Common.{◌≡◌, ◌∙◌, ℕ, ◌+◌, List, [], ◌∷◌, ◌++◌, length, map, slice_get, option_map, Option, Some, None, refl, sym, ap, subst, arith, inl, inr}
 use Rattle.std.proofs.lemmas.List.{length-map}
 use Rattle.std.proofs.lemmas.Option.{slice_get-map}
-use Rattle.rina_base.specs.declared.number.Port.{Port}
 use Rattle.rina_iface.specs.declared.ends.End.{End}
-use Rattle.rina_iface.specs.Seen.{Seen, end_of}
+use Rattle.rina_iface.specs.Seen.{Seen}
 use Rattle.rina_iface.proofs.Grown.{pushed_at}
-use Rattle.rina_law.specs.Direction.{Direction}
 use Rattle.rina_queue.specs.declared.queue.Queued.{Queued}
 use Rattle.rina_conn.specs.declared.conn.Conn.{Conn}
 use Rattle.rina_flows.specs.Tied.{ids_of}
@@ -14,12 +12,12 @@ use Rattle.rina_data.specs.declared.link.Link.{Link}
 use Rattle.rina_data.specs.declared.link.Route.{Route}
 use Rattle.rina_data.specs.declared.process.IpcProcess.{IpcProcess}
 use Rattle.rina_data.specs.declared.settings.Settings.{Settings}
-use Rattle.rina_data.specs.Cloud.{IsMine, Waits}
+use Rattle.rina_data.specs.Cloud.{Waits}
 use Rattle.rina_data.specs.Configs.{config_of, member_of}
 use Rattle.rina_data.specs.Deciding.{plain, process_of}
-use Rattle.rina_data.specs.Dif.{Config, DifSeen, Member, Process, Queue, next_hop}
+use Rattle.rina_data.specs.Dif.{Process, next_hop}
 use Rattle.rina_data.specs.Ids.{Ids}
-use Rattle.rina_data.specs.Standing.{HasLink, IsConfig, IsConn}
+use Rattle.rina_data.specs.Standing.{HasLink, IsConfig}
 use Rattle.rina_data.specs.Start.{IsStart}
 use Rattle.rina_data.proofs.Carries.{start_carries}
 use Rattle.rina_data.proofs.Starting.{start_stands}

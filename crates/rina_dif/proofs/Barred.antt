@@ -29,15 +29,12 @@ use Rattle.rina_flows.specs.Tied.{IsAt, IsSending, ids_of, outward}
 use Rattle.rina_flows.proofs.Framed.{ids_at}
 use Rattle.rina_dif.specs.declared.dif.Dif.{Dif}
 use Rattle.rina_dif.specs.declared.sending.Way.{Way}
+use Rattle.rina_dif.specs.Facade.{way_refusal}
 use Rattle.rina_dif.specs.Holding.{Stands}
 use Rattle.rina_dif.specs.Sending.{IsAdmitted, IsBarred, IsWay}
 use Rattle.rina_dif.specs.Shown.{seen_of}
 
--- what is refused because of the way
-abbrev pub way_refusal : Dif → End → Conn → ℕ → Option SendError
-way_refusal d end conn need = by_process d.settings.cap need (ids_of conn) (process_at (map process_of d.processes) (home end.port.node (config_of d.settings).members))
-
--- and by the sender
+-- what is refused by the sender
 abbrev pub sender_refusal : Dif → Conn → Direction → List Part → Option Refusal
 sender_refusal d conn line parts = offer_refusal (outward (config_of d.settings) conn) line parts
 

@@ -1,5 +1,5 @@
 -- What holds of a DIF stays as it takes a step.
-use Rattle.std.proofs.Common.{◌≡◌, ◌∙◌, ℕ, ◌+◌, ◌<◌, ◌==◌, ◌&&◌, not, Bool, cond, zero, suc, List, [], ◌∷◌, ◌++◌, length, map, drop, slice_get, slice_set, Option, Some, Result, Ok, Err, option_map, refl, sym, ap, subst, arith}
+use Rattle.std.proofs.Common.{◌≡◌, ◌∙◌, ℕ, ◌+◌, ◌==◌, ◌&&◌, not, Bool, cond, zero, suc, List, [], ◌∷◌, map, slice_get, slice_set, Option, Some, option_map, refl, sym, ap, subst}
 use Rattle.std.specs.Prelude.{IsSome, position}
 use Rattle.std.specs.List.{position_or_len}
 use Rattle.std.proofs.lemmas.List.{length-map, map-set}
@@ -12,7 +12,6 @@ use Rattle.rina_data.specs.Configs.{member_of}
 use Rattle.rina_data.specs.Deciding.{process_of}
 use Rattle.rina_data.specs.Dif.{Config, Process, Queue, next_hop, queue_place}
 use Rattle.rina_data.specs.Sending.{home}
-use Rattle.rina_data.specs.Standing.{IsQos}
 use Rattle.rina_dif.specs.Holding.{AreHoused, HasQueues, IsHoused}
 
 place_map : {X Y : Type 0} → (h : X → Y) (p : Y → Bool) (xs : List X) → position_or_len p (map h xs) ≡ position_or_len (λ x. p (h x)) xs

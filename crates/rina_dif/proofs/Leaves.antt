@@ -1,5 +1,5 @@
 -- What leaves a DIF.
-use Rattle.std.proofs.Common.{◌≡◌, ◌∙◌, ℕ, ◌<◌, List, [], ◌∷◌, length, map, drop, get_or, slice_get, slice_set, option_map, Option, Some, None, Result, Ok, Err, refl, sym, ap, subst, arith}
+use Rattle.std.proofs.Common.{◌≡◌, ◌∙◌, ℕ, ◌<◌, List, length, map, drop, get_or, slice_get, slice_set, option_map, Option, Some, Result, Ok, Err, refl, sym, ap, subst, arith}
 use Rattle.std.proofs.lemmas.List.{length-map, map-set}
 use Rattle.std.proofs.lemmas.Option.{slice_get-map, slice_get_read}
 use Rattle.rina_base.specs.declared.cause.Cause.{Cause}
@@ -13,8 +13,6 @@ use Rattle.rina_iface.proofs.Changed.{slice_get-set_same}
 use Rattle.rina_law.specs.Direction.{Direction}
 use Rattle.rina_policy.specs.declared.policy.Head.{Head}
 use Rattle.rina_policy.specs.Slots.{Slot}
-use Rattle.rina_queue.specs.declared.queue.Queued.{Queued}
-use Rattle.rina_data.specs.declared.link.Link.{Link}
 use Rattle.rina_data.specs.declared.process.IpcProcess.{IpcProcess}
 use Rattle.rina_data.specs.declared.settings.Member.{Member}
 use Rattle.rina_data.specs.declared.settings.Settings.{Settings}
@@ -25,8 +23,8 @@ use Rattle.rina_data.specs.declared.step.StepError.TheVariants.{Memory, NoIpc, N
 use Rattle.rina_data.specs.Configs.{config_of, member_of}
 use Rattle.rina_data.specs.Deciding.{process_of}
 use Rattle.rina_data.specs.Dif.{Config, DifSeen, Process, with_process}
-use Rattle.rina_data.specs.Leaving.{Asks, CanGo, IsAsked}
-use Rattle.rina_data.specs.Outgoing.{Goes, IsStep, IsWrittenOff, Offs, Outs}
+use Rattle.rina_data.specs.Leaving.{Asks, IsAsked}
+use Rattle.rina_data.specs.Outgoing.{Goes, Offs, Outs}
 use Rattle.rina_data.specs.Sending.{home}
 use Rattle.rina_data.proofs.Carries.{outs_carry}
 use Rattle.rina_data.proofs.Finding.{there}

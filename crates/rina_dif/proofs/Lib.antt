@@ -1,5 +1,6 @@
 pub mod Bare
 pub mod Barred
+pub mod Facing
 pub mod Keeping
 pub mod Leaves
 pub mod Moves

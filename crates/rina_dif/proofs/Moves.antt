@@ -1,18 +1,17 @@
 -- The clock of a DIF goes on with that of the rank below.
-use Rattle.std.proofs.Common.{◌≡◌, ◌∙◌, ℕ, ◌+◌, ◌-◌, ◌*◌, ◌<◌, ◌≤◌, ◌&&◌, Bool, true, false, List, length, map, slice_get, nat_lt, Option, Some, None, option_map, refl, sym, ap, subst, arith}
+use Rattle.std.proofs.Common.{◌≡◌, ◌∙◌, ℕ, ◌-◌, ◌≤◌, true, List, map, slice_get, Option, Some, None, option_map, refl, sym, ap, subst, arith}
 use Rattle.std.proofs.lemmas.List.{length-map}
 use Rattle.std.proofs.lemmas.Option.{slice_get-map}
 use Rattle.std.proofs.lemmas.Bool.Decides.{nat_tests}
 use Rattle.rina_conn.specs.declared.conn.Conn.{Conn}
 use Rattle.rina_iface.specs.declared.ends.End.{End}
-use Rattle.rina_iface.specs.declared.state.PortState.TheVariants.{Allocated}
 use Rattle.rina_iface.specs.Journal.{AreKept}
 use Rattle.rina_iface.specs.Seen.{Seen}
-use Rattle.rina_law.specs.Constants.{Constants, delta}
+use Rattle.rina_law.specs.Constants.{Constants}
 use Rattle.rina_law.specs.Direction.{Direction}
 use Rattle.rina_law.specs.Pieces.{Joiner}
 use Rattle.rina_law.specs.Receiver.{Receiver, is_present}
-use Rattle.rina_dtp.specs.Receiving.{Receiving, kept_numbers}
+use Rattle.rina_dtp.specs.Receiving.{Receiving}
 use Rattle.rina_dtp.specs.Stands.{Stands as StandsFor}
 use Rattle.rina_data.specs.Configs.{config_of}
 use Rattle.rina_data.specs.Dif.{Config}

@@ -1,6 +1,5 @@
 -- What becomes of a PDU that came for a connection.
-use Rattle.std.proofs.Common.{Bool, true, false, if◌then◌else◌, ◌≡◌, ◌∙◌, ℕ, ◌+◌, ◌-◌, ◌<◌, ◌≤◌, List, [], ◌∷◌, ◌++◌, length, map, get_or, slice_get, slice_set, option_map, append_assoc, Option, Some, None, Result, Ok, Err, refl, sym, ap, subst, arith, inl, inr, ◌⊎◌}
-use Rattle.std.specs.Prelude.{IsSome}
+use Rattle.std.proofs.Common.{true, false, if◌then◌else◌, ◌≡◌, ◌∙◌, ℕ, ◌-◌, ◌<◌, ◌≤◌, List, [], ◌∷◌, ◌++◌, length, map, slice_get, slice_set, option_map, append_assoc, Option, Some, None, Result, Ok, Err, refl, sym, ap, subst, arith, inl, inr}
 use Rattle.std.proofs.lemmas.List.{length-map, map-set}
 use Rattle.std.proofs.lemmas.Option.{slice_get-map, slice_get_within}
 use Rattle.rina_account.specs.declared.ledger.Off.{Off}
@@ -23,33 +22,26 @@ use Rattle.rina_law.specs.Receiver.{Piece, Verdict, Accepted, Held, Duplicate, B
 use Rattle.rina_conn.specs.declared.conn.Conn.{Conn}
 use Rattle.rina_data.specs.declared.process.IpcProcess.{IpcProcess}
 use Rattle.rina_data.specs.declared.settings.Member.{Member as Kept}
-use Rattle.rina_data.specs.declared.step.Settled.{Settled}
 use Rattle.rina_data.specs.declared.step.Settled.TheVariants as settled
 use Rattle.rina_data.specs.declared.step.Took.{Took}
 use Rattle.rina_data.specs.declared.step.Took.TheVariants as took
-use Rattle.rina_data.specs.Cloud.{Cloud, Everywhere, Hop}
+use Rattle.rina_data.specs.Cloud.{Hop}
 use Rattle.rina_data.specs.Configs.{config_of, member_of}
-use Rattle.rina_data.specs.Deciding.{Decides, IsRouted, process_of}
-use Rattle.rina_data.specs.Dif.{Config, DifSeen, constants, IsProcess, Member, Process, next_hop, with_offs, with_process, with_put}
+use Rattle.rina_data.specs.Deciding.{process_of}
+use Rattle.rina_data.specs.Dif.{DifSeen, constants, IsProcess, Member, Process, with_offs, with_process}
 use Rattle.rina_data.specs.Ids.{Ids, IsFrom, flipped}
-use Rattle.rina_data.specs.Incoming.{IsArrived, IsTaker, IsTold, Settles, SettlesOff, by_joiner, cause_by, cause_for, joiner_found, lines_for, missing_for}
-use Rattle.rina_data.specs.Queueing.{Notes, line_for}
-use Rattle.rina_data.specs.Carried.{IsCarrying}
-use Rattle.rina_data.specs.Standing.{IsConn, IsStanding}
+use Rattle.rina_data.specs.Incoming.{IsArrived, Settles, SettlesOff, by_joiner, cause_by, joiner_found, lines_for, missing_for}
+use Rattle.rina_data.specs.Queueing.{line_for}
 use Rattle.rina_data.proofs.Coming.{alive_arrival}
-use Rattle.rina_data.proofs.Decided.{off_settles, relayed_settles}
-use Rattle.rina_data.proofs.Plain.{same_place}
 use Rattle.rina_flows.specs.declared.flows.Flows.{Flows}
-use Rattle.rina_flows.specs.Calls.{AreTied, TakenBy, TellsOne}
-use Rattle.rina_flows.specs.Delivering.{ArrivesIn}
-use Rattle.rina_flows.specs.Rows.{ArrivesAt, TakesAt}
+use Rattle.rina_flows.specs.Calls.{TakenBy, TellsOne}
 use Rattle.rina_flows.specs.Tied.{conns_of, ids_of}
 use Rattle.rina_flows.proofs.ArrivesAt.{is_arrived}
 use Rattle.rina_dif.specs.declared.dif.Dif.{Dif}
 use Rattle.rina_dif.specs.Holding.{AreHoused, Holds, Stands}
 use Rattle.rina_dif.specs.Shown.{seen_of}
-use Rattle.rina_dif.specs.Taking.{ArrivesTo, Comes, DecidesAt, HasSettled, IsNoted, IsOwn, IsThere, NotesAt, RoutesAt, SettlesAs, SettlesFor, took_of}
-use Rattle.rina_dif.proofs.Keeping.{IsSameHouse, house_is, housed_set, same_house, same_places}
+use Rattle.rina_dif.specs.Taking.{ArrivesTo, Comes, DecidesAt, IsOwn, IsThere, NotesAt, SettlesFor, took_of}
+use Rattle.rina_dif.proofs.Keeping.{house_is, housed_set, same_house}
 use Rattle.rina_dif.proofs.Leaves.{has_process, shown_at, stepped}
 use Rattle.rina_dif.proofs.Passed.{seen_flows}
 use Rattle.rina_dif.proofs.Settling.{decides_same, holds_unseen, off_house, unseen}

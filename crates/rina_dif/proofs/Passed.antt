@@ -15,8 +15,7 @@ use Rattle.rina_data.proofs.Carries.{passed_carries}
 use Rattle.rina_data.proofs.Taking.{passed_stands}
 use Rattle.rina_flows.specs.declared.flows.Flows.{Flows}
 use Rattle.rina_flows.specs.Calls.{PassesOne, SameIds}
-use Rattle.rina_flows.specs.Rows.{PassedAt}
-use Rattle.rina_flows.specs.Tied.{IsInboundAt, conns_of}
+use Rattle.rina_flows.specs.Tied.{IsInboundAt}
 use Rattle.rina_dif.specs.declared.dif.Dif.{Dif}
 use Rattle.rina_dif.specs.Holding.{Holds, Passes, Stands}
 use Rattle.rina_dif.specs.Shown.{seen_of}

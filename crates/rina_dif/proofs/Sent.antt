@@ -37,11 +37,12 @@ use Rattle.rina_flows.specs.Tied.{conns_of, ids_of, outward}
 use Rattle.rina_flows.proofs.Framed.{ids_at}
 use Rattle.rina_dif.specs.declared.dif.Dif.{Dif}
 use Rattle.rina_dif.specs.declared.sending.Way.{Way}
+use Rattle.rina_dif.specs.Facade.{way_refusal}
 use Rattle.rina_dif.specs.Holding.{AreHoused, Holds}
 use Rattle.rina_dif.specs.Sending.{AreOf, HasPut, HasRoomFor, IsAdmitted, IsBarred, Puts, Sends, SendsAt, queued, told_as}
 use Rattle.rina_dif.specs.Shown.{seen_of}
 use Rattle.rina_dif.specs.Whole.{IsDif}
-use Rattle.rina_dif.proofs.Barred.{line_there, parts_of, past, sender_refusal, way_refusal}
+use Rattle.rina_dif.proofs.Barred.{line_there, parts_of, past, sender_refusal}
 use Rattle.rina_dif.proofs.Keeping.{house_is, housed_set, same_places}
 use Rattle.rina_dif.proofs.Putting.{waiting_there}
 use Rattle.rina_dif.proofs.Ways.{by_queue}

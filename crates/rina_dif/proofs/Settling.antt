@@ -1,53 +1,38 @@
 -- What becomes of a PDU that came.
-use Rattle.std.proofs.Common.{◌≡◌, ◌∙◌, ℕ, ◌+◌, ◌-◌, ◌<◌, ◌≤◌, List, [], ◌∷◌, ◌++◌, length, map, get_or, slice_get, slice_set, option_map, append_assoc, Option, Some, None, Result, Ok, Err, refl, sym, ap, subst, arith, inl, inr, ◌⊎◌}
+use Rattle.std.proofs.Common.{◌≡◌, ◌∙◌, ℕ, ◌<◌, List, [], ◌∷◌, ◌++◌, length, map, get_or, slice_get, slice_set, Option, Some, Result, Ok, Err, refl, sym, ap, subst}
 use Rattle.std.specs.Prelude.{IsSome, OnErr, OnOk}
-use Rattle.std.proofs.lemmas.List.{length-map, map-set}
-use Rattle.std.proofs.lemmas.Option.{slice_get-map, slice_get_read}
+use Rattle.std.proofs.lemmas.Option.{slice_get_read}
 use Rattle.rina_account.specs.declared.ledger.Off.{Off}
 use Rattle.rina_base.specs.declared.cause.Cause.{Cause}
 use Rattle.rina_base.specs.declared.cause.Cause.TheVariants as causes
 use Rattle.rina_base.specs.declared.memory.Memory.{Memory as NoMemory}
 use Rattle.rina_base.specs.declared.pdu.Pdu.{Pdu}
-use Rattle.rina_base.specs.declared.pdu.PduKind.TheVariants.{Piece as APiece, Ack as AnAck}
-use Rattle.rina_iface.specs.declared.ends.End.{End}
-use Rattle.rina_iface.specs.declared.state.PortState.TheVariants.{Allocated}
 use Rattle.rina_iface.specs.Seen.{Seen}
 use Rattle.rina_iface.proofs.Changed.{slice_set-same}
-use Rattle.rina_law.specs.Constants.{Constants}
-use Rattle.rina_law.specs.Direction.{Direction, has_room}
-use Rattle.rina_law.specs.Line.{arrival_verdict}
-use Rattle.rina_law.specs.Pdus.{piece_in}
-use Rattle.rina_law.specs.Receiver.{Piece, Verdict, Accepted, Held, Duplicate, Behind, NoState, NoRoom}
+use Rattle.rina_law.specs.Direction.{Direction}
 use Rattle.rina_data.specs.declared.process.IpcProcess.{IpcProcess}
 use Rattle.rina_data.specs.declared.step.Settled.{Settled}
 use Rattle.rina_data.specs.declared.step.Settled.TheVariants as settled
 use Rattle.rina_data.specs.declared.step.Took.{Took}
 use Rattle.rina_data.specs.declared.step.Took.TheVariants as took
-use Rattle.rina_data.specs.Cloud.{Cloud, Everywhere, Hop}
+use Rattle.rina_data.specs.Cloud.{Hop}
 use Rattle.rina_data.specs.Configs.{config_of}
 use Rattle.rina_data.specs.Deciding.{Decides, IsRouted, process_of}
-use Rattle.rina_data.specs.Dif.{Config, DifSeen, IsProcess, Member, Process, next_hop, with_offs, with_process, with_put}
-use Rattle.rina_data.specs.Ids.{Ids, IsFrom, flipped}
-use Rattle.rina_data.specs.Incoming.{IsArrived, IsTaker, IsTold, Settles, SettlesOff, by_joiner, cause_by, cause_for, lines_for}
-use Rattle.rina_data.specs.Queueing.{Notes, line_for}
+use Rattle.rina_data.specs.Dif.{DifSeen, IsProcess, Member, Process, with_offs, with_process}
+use Rattle.rina_data.specs.Incoming.{Settles}
+use Rattle.rina_data.specs.Queueing.{Notes}
 use Rattle.rina_data.specs.Carried.{IsCarrying}
-use Rattle.rina_data.specs.Standing.{IsConn, IsStanding}
-use Rattle.rina_data.proofs.Coming.{alive_arrival}
+use Rattle.rina_data.specs.Standing.{IsStanding}
 use Rattle.rina_data.proofs.Decided.{off_settles, relayed_settles}
 use Rattle.rina_data.proofs.Plain.{same_place}
 use Rattle.rina_flows.specs.declared.flows.Flows.{Flows}
-use Rattle.rina_flows.specs.Calls.{AreTied, TakenBy, TellsOne}
 use Rattle.rina_flows.specs.Delivering.{ArrivesIn}
-use Rattle.rina_flows.specs.Rows.{ArrivesAt, TakesAt}
-use Rattle.rina_flows.specs.Tied.{conns_of}
-use Rattle.rina_flows.proofs.ArrivesAt.{is_arrived}
 use Rattle.rina_dif.specs.declared.dif.Dif.{Dif}
 use Rattle.rina_dif.specs.Holding.{AreHoused, Holds, Stands}
 use Rattle.rina_dif.specs.Shown.{seen_of}
-use Rattle.rina_dif.specs.Taking.{ArrivesTo, Comes, DecidesAt, HasSettled, IsNoted, IsOwn, IsThere, NotesAt, RoutesAt, SettlesAs, SettlesFor, took_of}
+use Rattle.rina_dif.specs.Taking.{ArrivesTo, Comes, DecidesAt, IsNoted, NotesAt, RoutesAt, SettlesFor}
 use Rattle.rina_dif.proofs.Keeping.{IsSameHouse, house_is, housed_set, same_house, same_places}
 use Rattle.rina_dif.proofs.Leaves.{has_process, shown_at, stepped}
-use Rattle.rina_dif.proofs.Passed.{seen_flows}
 
 same_some : {X : Type 0} (o : Option X) (a b : X) → o ≡ Some a → o ≡ Some b → a ≡ b
 same_some o a b h g = cc

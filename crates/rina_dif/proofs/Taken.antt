@@ -1,19 +1,15 @@
 -- The oldest SDU of a link is taken.
-use Rattle.std.proofs.Common.{◌≡◌, ◌∙◌, ℕ, ◌+◌, ◌<◌, ◌≤◌, Bool, List, length, map, slice_get, option_map, Option, Some, None, Result, Ok, Err, refl, sym, ap, subst, arith, inl}
+use Rattle.std.proofs.Common.{◌≡◌, ◌∙◌, ℕ, ◌<◌, Bool, List, length, slice_get, option_map, Option, Some, None, Result, Ok, Err, refl, sym, ap, subst}
 use Rattle.std.specs.Prelude.{IsSome}
-use Rattle.std.proofs.lemmas.List.{length-map}
 use Rattle.std.proofs.lemmas.Option.{slice_get-map}
 use Rattle.rina_base.specs.declared.number.Key.{Key}
 use Rattle.rina_base.specs.declared.number.Port.{Port}
 use Rattle.rina_base.specs.Pdus.{key_of}
-use Rattle.rina_iface.specs.declared.ends.End.{End}
 use Rattle.rina_iface.specs.Journal.{AreKept}
 use Rattle.rina_iface.specs.Pass.{IsLent, IsPassed}
 use Rattle.rina_iface.specs.Seen.{Seen, unpassed}
 use Rattle.rina_law.specs.declared.entry.Entry.{Entry}
 use Rattle.rina_law.specs.Direction.{Direction}
-use Rattle.rina_pci.specs.declared.widths.Widths.{Widths}
-use Rattle.rina_data.specs.declared.hop.HopView.{HopView}
 use Rattle.rina_data.specs.declared.link.Link.{Link}
 use Rattle.rina_data.specs.declared.process.IpcProcess.{IpcProcess}
 use Rattle.rina_data.specs.declared.step.InStep.{InStep}
@@ -25,7 +21,6 @@ use Rattle.rina_data.specs.Cloud.{Hop, IsMine, opened}
 use Rattle.rina_data.specs.Configs.{config_of, member_of}
 use Rattle.rina_data.specs.Deciding.{process_of}
 use Rattle.rina_data.specs.Dif.{DifSeen, IsProcess, Member, Process, link_by}
-use Rattle.rina_data.specs.Hops.{hop_of}
 use Rattle.rina_data.specs.Incoming.{Ins, Settles}
 use Rattle.rina_data.specs.Sending.{home}
 use Rattle.rina_data.specs.Standing.{IsStanding}
@@ -36,11 +31,11 @@ use Rattle.rina_data.proofs.Finding.{live_link, oldest_at, there}
 use Rattle.rina_data.proofs.Partnered.{met}
 use Rattle.rina_data.proofs.Spelled.{opened_spelling}
 use Rattle.rina_dif.specs.declared.dif.Dif.{Dif}
-use Rattle.rina_dif.specs.Holding.{Holds, Stands}
+use Rattle.rina_dif.specs.Holding.{Holds}
 use Rattle.rina_dif.specs.Shown.{seen_of}
 use Rattle.rina_dif.specs.Steps.{AtHome}
-use Rattle.rina_dif.specs.Taking.{Comes, HasSettled, InsAt, IsThere, TakesHome, TakesIn}
-use Rattle.rina_dif.proofs.Leaves.{has_process, shown_at}
+use Rattle.rina_dif.specs.Taking.{HasSettled, InsAt, IsThere, TakesHome, TakesIn}
+use Rattle.rina_dif.proofs.Leaves.{shown_at}
 
 -- What waits
 

@@ -1,4 +1,5 @@
 pub mod Building
+pub mod Facade
 pub mod Holding
 pub mod Sending
 pub mod Shown

@@ -4,6 +4,7 @@
 mod building;
 mod clock;
 mod dif;
+mod facade;
 mod leaving;
 mod passing;
 mod processes;
@@ -11,6 +12,7 @@ mod sending;
 mod taking;
 
 pub use dif::Dif;
+pub use facade::a_rank_shows_its_difs;
 pub use processes::Processes;
 
 #[cfg(test)]

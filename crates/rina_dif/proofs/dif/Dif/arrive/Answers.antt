@@ -1,8 +1,6 @@
-use Rattle.std.proofs.Common.{Ok}
 use Rattle.std.proofs.lemmas.Result.{err_from_is_err_and}
 use Rattle.rina_data.specs.Hops.{hop_of}
-use Rattle.rina_dif.specs.Taking.{SettlesFor, took_of}
-use Rattle.rina_dif.proofs.Owning.{arrived_err, own_arrived, taken_within}
+use Rattle.rina_dif.proofs.Owning.{arrived_err, own_arrived}
 use Rattle.rina_dif.proofs.Settling.{settles_err}
 use Rattle.rina_dif.proofs.dif.Dif.arrive.Goals as goal
 

@@ -1,5 +1,5 @@
 use Rattle.std.proofs.Common.{◌∙◌, sym}
-use Rattle.rina_dif.proofs.Taken.{takes_home, takes_none, takes_nowhere}
+use Rattle.rina_dif.proofs.Taken.{takes_home}
 use Rattle.rina_dif.proofs.dif.Dif.in_step.Goals as goal
 
 pub returns-clause-does : goal.returns-clause-does

@@ -1,6 +1,8 @@
-use Rattle.std.proofs.Common.{◌∙◌, sym}
+use Rattle.std.proofs.Common.{rules, ◌≡◌, ◌∙◌, Err, None, sym}
+use Rattle.rina_iface.specs.declared.error.SendError.TheVariants.{Memory, NotAllocated}
 use Rattle.rina_iface.specs.Ends.{place_in}
 use Rattle.rina_dif.proofs.Sent.{failed_sends, refailed, sends_at, sent_whole}
+use Rattle.rina_dif.proofs.Facing.{nowhere_sends, sends_go_on, sends_shown}
 use Rattle.rina_dif.proofs.dif.Dif.send.Goals as goal
 
 pub returns-then-self-clause-does : goal.returns-then-self-clause-does
@@ -16,3 +18,31 @@ returns-clause-does c = λ lines below h.
     let d' = c.send_at-result.new.self in
     let here = sym c.place.ensures.at ∙ c.in-Some.is in
     sends_at (place_in c.args.port c.args.self.now.flows.journal.ends) c.args.self.now lines below c.in-Some.at c.args.sdu.now c.send_at-result.result (record d' { failed = c.match-matches.self }) here (refailed c.args.self.now lines below c.in-Some.at c.args.sdu.now c.send_at-result.result d' c.match-matches.self (c.send_at-result.ensures.does lines below h))
+
+pub returns-then-self-clause-shown : goal.returns-then-self-clause-shown
+returns-then-self-clause-shown c = λ s shows. sends_shown s c.args.self.now c.args.port c.args.sdu.now (Err Memory) c.args.self.now c.requires (failed_sends (place_in c.args.port c.args.self.now.flows.journal.ends) c.args.self.now c.args.sdu.now) shows
+
+pub returns-then-self-clause-goes_on : goal.returns-then-self-clause-goes_on
+returns-then-self-clause-goes_on c = sends_go_on c.args.self.now c.args.port c.args.sdu.now (Err Memory) c.args.self.now c.requires (failed_sends (place_in c.args.port c.args.self.now.flows.journal.ends) c.args.self.now c.args.sdu.now)
+
+pub returns-in_default-clause-shown : goal.returns-in_default-clause-shown
+returns-in_default-clause-shown c = λ s shows.
+    let none : place_in c.args.port c.args.self.now.flows.journal.ends ≡ None = search rules in
+    sends_shown s c.args.self.now c.args.port c.args.sdu.now (Err (NotAllocated None)) c.args.self.now c.requires (nowhere_sends (place_in c.args.port c.args.self.now.flows.journal.ends) c.args.self.now c.args.sdu.now none) shows
+
+pub returns-in_default-clause-goes_on : goal.returns-in_default-clause-goes_on
+returns-in_default-clause-goes_on c =
+    let none : place_in c.args.port c.args.self.now.flows.journal.ends ≡ None = search rules in
+    sends_go_on c.args.self.now c.args.port c.args.sdu.now (Err (NotAllocated None)) c.args.self.now c.requires (nowhere_sends (place_in c.args.port c.args.self.now.flows.journal.ends) c.args.self.now c.args.sdu.now none)
+
+pub returns-clause-shown : goal.returns-clause-shown
+returns-clause-shown c = λ s shows.
+    let d' = c.send_at-result.new.self in
+    let here = sym c.place.ensures.at ∙ c.in-Some.is in
+    sends_shown s c.args.self.now c.args.port c.args.sdu.now c.send_at-result.result (record d' { failed = c.match-matches.self }) c.requires (λ lines below h. sends_at (place_in c.args.port c.args.self.now.flows.journal.ends) c.args.self.now lines below c.in-Some.at c.args.sdu.now c.send_at-result.result (record d' { failed = c.match-matches.self }) here (refailed c.args.self.now lines below c.in-Some.at c.args.sdu.now c.send_at-result.result d' c.match-matches.self (c.send_at-result.ensures.does lines below h))) shows
+
+pub returns-clause-goes_on : goal.returns-clause-goes_on
+returns-clause-goes_on c =
+    let d' = c.send_at-result.new.self in
+    let here = sym c.place.ensures.at ∙ c.in-Some.is in
+    sends_go_on c.args.self.now c.args.port c.args.sdu.now c.send_at-result.result (record d' { failed = c.match-matches.self }) c.requires (λ lines below h. sends_at (place_in c.args.port c.args.self.now.flows.journal.ends) c.args.self.now lines below c.in-Some.at c.args.sdu.now c.send_at-result.result (record d' { failed = c.match-matches.self }) here (refailed c.args.self.now lines below c.in-Some.at c.args.sdu.now c.send_at-result.result d' c.match-matches.self (c.send_at-result.ensures.does lines below h)))

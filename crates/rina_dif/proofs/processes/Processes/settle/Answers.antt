@@ -1,5 +1,5 @@
 use Rattle.rina_data.specs.Hops.{hop_of}
-use Rattle.rina_dif.proofs.Settling.{decides_one, routes_one}
+use Rattle.rina_dif.proofs.Settling.{decides_one}
 use Rattle.rina_dif.proofs.processes.Processes.settle.Goals as goal
 
 pub returns : goal.returns

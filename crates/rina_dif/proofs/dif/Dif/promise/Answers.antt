@@ -1,0 +1,15 @@
+use Rattle.std.proofs.Common.{◌≡◌, ◌∙◌, None, Option, Some, ap, option_map, sym}
+use Rattle.rina_cube.specs.declared.Cube.{Cube}
+use Rattle.rina_iface.specs.Seen.{Offer}
+use Rattle.rina_dif.specs.Facade.{cube_there}
+use Rattle.rina_dif.proofs.Facing.{limits_of, offer_is}
+use Rattle.rina_dif.proofs.dif.Dif.promise.Goals as goal
+
+pub promise-requires : goal.promise-requires
+promise-requires c = limits_of c.args.self.now c.args.port c.in-Some.cube.now c.requires (sym (rw c.in-Some.is at c.cube.ensures))
+
+pub returns-in-Some : goal.returns-in-Some
+returns-in-Some c = ap (λ n. Some n) c.promise.ensures ∙ sym (ap (option_map (λ (o : Offer). o.promise)) (offer_is c.args.self.now c.args.port (Some c.in-Some.cube.now) (sym (rw c.in-Some.is at c.cube.ensures))))
+
+pub returns-in-None : goal.returns-in-None
+returns-in-None c = sym (ap (option_map (λ (o : Offer). o.promise)) (offer_is c.args.self.now c.args.port None (sym (rw c.in-None.is at c.cube.ensures))))
