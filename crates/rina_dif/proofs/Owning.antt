@@ -176,7 +176,7 @@ same_ends : (o : Option End) (a b : End) → o ≡ Some a → o ≡ Some b → a
 same_ends o a b h g = cc
 
 -- the DIF after it
-arrived_seen : (d : Dif) (at : ℕ) (p : IpcProcess) (offs : List Off) (ledger : List Off) (flows : Flows) (ps : List IpcProcess) → flows.journal.ends ≡ flows.journal.ends → conns_of flows.conns ≡ conns_of d.flows.conns → ledger ≡ p.ledger ++ offs → ps ≡ slice_set d.processes at (record p { ledger = ledger }) →
+pub arrived_seen : (d : Dif) (at : ℕ) (p : IpcProcess) (offs : List Off) (ledger : List Off) (flows : Flows) (ps : List IpcProcess) → flows.journal.ends ≡ flows.journal.ends → conns_of flows.conns ≡ conns_of d.flows.conns → ledger ≡ p.ledger ++ offs → ps ≡ slice_set d.processes at (record p { ledger = ledger }) →
     seen_of (record d { flows = flows; processes = ps }) ≡ record (seen_of d) { ends = flows.journal.ends; processes = slice_set (seen_of d).processes at (with_offs (process_of p) offs) }
 arrived_seen d at p offs ledger flows ps ends ids lines new =
     let processes : map process_of ps ≡ slice_set (map process_of d.processes) at (with_offs (process_of p) offs) =

@@ -5,4 +5,5 @@ pub mod Sending
 pub mod Shown
 pub mod Steps
 pub mod Taking
+pub mod Timely
 pub mod Whole

@@ -10,6 +10,7 @@ mod passing;
 mod processes;
 mod sending;
 mod taking;
+mod timely;
 
 pub use dif::Dif;
 pub use facade::a_rank_shows_its_difs;

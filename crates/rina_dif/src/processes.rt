@@ -10,8 +10,11 @@ ghost use Rattle.rina_data.specs.Hops.{hop_of};
 ghost use Rattle.rina_dif.specs.Sending.{AreOf, HasRoomFor, Puts, queued};
 ghost use Rattle.rina_dif.specs.Steps.{AsksAt, Leaves, WillGo};
 ghost use Rattle.rina_dif.specs.Taking.{ArrivesTo, DecidesAt, NotesAt, RoutesAt};
+ghost use Rattle.rina_dif.specs.Timely.{WithLedger};
+ghost use Rattle.rina_flows.specs.Delivering.{ForgetsIn};
+ghost use Rattle.rina_flows.specs.Timely.{GivesUpIn};
 
-use rina_base::{Addr, Cause, Memory, Pdu, PduView, Tick};
+use rina_base::{Addr, Cause, Memory, Num, Pdu, PduView, Tick};
 use rina_data::{HopView, IpcProcess, OutStep, Settings, Settled, StepError};
 use rina_flows::Flows;
 use rina_iface::Facility;
@@ -170,5 +173,42 @@ impl Processes {
     {
         let process = &mut self.items[at];
         flows.arrive(alloc, now, place, pdu, &mut process.ledger)
+    }
+
+    /// Writes off what the connection at a place of the flows holds of a state that has ended, in the ledger of the IPC
+    /// process at a place.
+    pub fn forget(
+        &mut self,
+        alloc: Global,
+        at: usize,
+        flows: &mut Flows,
+        now: Tick,
+        place: usize,
+    ) -> Result<bool, Memory>
+        requires at { at < length self.old }
+        requires conn { place < length flows.old.conns }
+        ensures { WithLedger (λ flows ledger flows' ledger'. ForgetsIn now place flows ledger result flows' ledger') at flows.old self.old flows.new self.new }
+    {
+        let process = &mut self.items[at];
+        flows.forget(alloc, now, place, &mut process.ledger)
+    }
+
+    /// Lets the end at a place of the flows fail where its connection gives a number up, with what it holds written off in
+    /// the ledger of the IPC process at a place.
+    pub fn give_up(
+        &mut self,
+        alloc: Global,
+        at: usize,
+        flows: &mut Flows,
+        now: Tick,
+        place: usize,
+    ) -> Result<Option<Num>, Memory>
+        requires at { at < length self.old }
+        requires end { place < length flows.old.journal.ends }
+        requires conn { place < length flows.old.conns }
+        ensures { WithLedger (λ flows ledger flows' ledger'. GivesUpIn now place flows ledger result flows' ledger') at flows.old self.old flows.new self.new }
+    {
+        let process = &mut self.items[at];
+        flows.give_up(alloc, now, place, &mut process.ledger)
     }
 }

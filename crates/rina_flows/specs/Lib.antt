@@ -6,3 +6,4 @@ pub mod Ending
 pub mod Laws
 pub mod Rows
 pub mod Tied
+pub mod Timely
