@@ -35,7 +35,7 @@ use Rattle.rina_data.proofs.Queues.{requeued_taken, same_links}
 use Rattle.rina_data.proofs.Spelled.{item_spelled, opened_spelling}
 
 -- the PDU at the head of a queue waits
-head_waits : (processes : List Process) (i n : ℕ) (process : Process) (link : Link) (place : ℕ) (queue : Queue) (item : Queued) → slice_get processes i ≡ Some process → IsHead process n link place queue item → Waits processes i n item
+pub head_waits : (processes : List Process) (i n : ℕ) (process : Process) (link : Link) (place : ℕ) (queue : Queue) (item : Queued) → slice_get processes i ≡ Some process → IsHead process n link place queue item → Waits processes i n item
 head_waits processes i n process link place queue item is_process h = record { process = process; is_process = is_process; place = place; queue = queue; is_queue = h.is_queue; link = h.of_link; at = 0; is_item = h.first }
 
 -- the tick of its death stays as a PDU is sent on
@@ -49,7 +49,7 @@ promise_same : (o : Option ℕ) (a b : ℕ) → o ≡ Some a → o ≡ Some b �
 promise_same o a b h g = cc
 
 -- a PDU that was sent on dies when it would have died in its queue
-given_dies : (g : Config) (now : ℕ) (below : Seen) (port : Port) (item : Queued) (promise death : ℕ) (pdu : Pdu) (num : Num) (scope : Scope) → IsConfig g → below.now ≡ now → IsItem g now item → promise_at below port ≡ Some promise → charge_of now item promise ≤ item.left
+pub given_dies : (g : Config) (now : ℕ) (below : Seen) (port : Port) (item : Queued) (promise death : ℕ) (pdu : Pdu) (num : Num) (scope : Scope) → IsConfig g → below.now ≡ now → IsItem g now item → promise_at below port ≡ Some promise → charge_of now item promise ≤ item.left
     → IsGiven scope g below (Just port (record { tick = below.now; num = num; bytes = protected (item.left - charge_of now item promise) (spelling g.widths item.pdu) })) death pdu → (death ≡ item.since + item.left) × (item.pdu ≡ pdu)
 given_dies g now below port item promise death pdu num scope config clock fit promised in_time n =
     let left : ℕ = item.left - charge_of now item promise in

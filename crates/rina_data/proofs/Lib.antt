@@ -17,6 +17,7 @@ pub mod Joined
 pub mod Journals
 pub mod Keepers
 pub mod Leaves
+pub mod Numbering
 pub mod Others
 pub mod Own
 pub mod Partnered

@@ -16,7 +16,7 @@ none_in : {X : Type 0} (xs : List X) (i : ℕ) (x : X) → xs ≡ [] → slice_g
 none_in [] i x e h = cc
 none_in (y ∷ ys) i x e h = cc
 
-no_cloud : (d : DifSeen) (lines : List Direction) (below : Seen) (death : ℕ) (pdu : Pdu) → IsStart d lines below → Cloud Everywhere d.config d.processes below death pdu → ⊥
+pub no_cloud : (d : DifSeen) (lines : List Direction) (below : Seen) (death : ℕ) (pdu : Pdu) → IsStart d lines below → Cloud Everywhere d.config d.processes below death pdu → ⊥
 no_cloud d lines below death pdu s (inl q) = s.idle q.process q.link q.item q.waits
 no_cloud d lines below death pdu s (inr w) = none_in w.end.sent w.at w.entry (s.silent w.port w.end w.here w.mine) w.is_entry
 

@@ -11,6 +11,7 @@ pub mod Incoming
 pub mod Laws
 pub mod Leaving
 pub mod Lifting
+pub mod Numbered
 pub mod Others
 pub mod Outgoing
 pub mod Partners

@@ -17,9 +17,11 @@ use Rattle.rina_data.specs.Configs.{config_of, member_of}
 use Rattle.rina_data.specs.Deciding.{plain, process_of}
 use Rattle.rina_data.specs.Dif.{Process, next_hop}
 use Rattle.rina_data.specs.Ids.{Ids}
+use Rattle.rina_data.specs.Numbered.{AreMembers}
 use Rattle.rina_data.specs.Standing.{HasLink, IsConfig}
 use Rattle.rina_data.specs.Start.{IsStart}
 use Rattle.rina_data.proofs.Carries.{start_carries}
+use Rattle.rina_data.proofs.Numbering.{start_numbered}
 use Rattle.rina_data.proofs.Starting.{start_stands}
 use Rattle.rina_dif.specs.declared.dif.Dif.{Dif}
 use Rattle.rina_dif.specs.Building.{AreBare, IsBare, IsFree}
@@ -91,8 +93,8 @@ starts d below ends conns config clock bare free =
     }
 
 -- it stands
-pub bare_holds : (d : Dif) (below : Seen) → d.flows.journal.ends ≡ [] → d.flows.conns ≡ [] → AreBare d.settings d.processes → IsConfig (config_of d.settings) → d.clock ≡ below.now → IsFree (config_of d.settings) below → Holds d [] below
-bare_holds d below ends conns bare config clock free =
+pub bare_holds : (d : Dif) (below : Seen) → d.flows.journal.ends ≡ [] → d.flows.conns ≡ [] → AreBare d.settings d.processes → IsConfig (config_of d.settings) → AreMembers (config_of d.settings) → d.clock ≡ below.now → IsFree (config_of d.settings) below → Holds d [] below
+bare_holds d below ends conns bare config members clock free =
     let s = starts d below ends conns config clock bare free in
     let no_ends : length d.flows.journal.ends ≡ 0 = ap (λ (es : List End). length es) ends in
     let no_conns : length d.flows.conns ≡ 0 = ap (λ (ks : List Conn). length ks) conns in
@@ -105,6 +107,7 @@ bare_holds d below ends conns bare config clock free =
       };
       standing = start_stands (seen_of d) [] below s;
       carrying = start_carries (seen_of d) [] below s;
+      numbered = start_numbered (seen_of d) [] below s members (λ i e ids conn. absurd (none_in i e d.flows.journal.ends ends conn.end)) (λ i e is. absurd (none_in i e d.flows.journal.ends ends is));
       housed = λ i p is. (let b = bare.each i p is in record { cap = b.room; queues = λ dst link qos hop known. absurd (no_hop dst link p.routes b.routes hop) });
     }
 

@@ -16,6 +16,7 @@ use Rattle.rina_data.specs.Dif.{with_offs}
 use Rattle.rina_data.specs.Sending.{home}
 use Rattle.rina_data.proofs.Carries.{forgotten_carries}
 use Rattle.rina_data.proofs.Finishing.{ended_carries, ended_stands}
+use Rattle.rina_data.proofs.Numbering.{ended_numbered, forgotten_numbered}
 use Rattle.rina_data.proofs.Rows.{forgotten_stands}
 use Rattle.rina_flows.specs.declared.flows.Flows.{Flows}
 use Rattle.rina_flows.specs.Delivering.{ForgetsIn}
@@ -76,6 +77,7 @@ forgets d i at (Ok true) flows ps lt here does lines below h =
           tied = f.tied;
           standing = forgotten_stands (seen_of d) lines below at (seen_of d') f.lines' h.standing forgotten;
           carrying = forgotten_carries (seen_of d) lines below at (seen_of d') f.lines' h.carrying forgotten;
+          numbered = forgotten_numbered (seen_of d) lines below at (seen_of d') f.lines' h.numbered forgotten;
           housed = housed_on d i p.0 ps x.0 lines below h p.1 x.2;
         };
       },
@@ -106,6 +108,7 @@ gives_up d i at (Ok (Some num)) flows ps lt here does lines below h =
         tied = f.tied;
         standing = ended_stands (seen_of d) lines below at _ (seen_of d') h.standing ended;
         carrying = ended_carries (seen_of d) lines below at _ (seen_of d') h.carrying ended;
+        numbered = ended_numbered (seen_of d) lines below at _ (seen_of d') h.numbered ended;
         housed = housed_on d i p.0 ps x.0 lines below h p.1 x.2;
       };
     }

@@ -27,6 +27,7 @@ use Rattle.rina_data.specs.Leaving.{Asks, IsAsked}
 use Rattle.rina_data.specs.Outgoing.{Goes, Offs, Outs}
 use Rattle.rina_data.specs.Sending.{home}
 use Rattle.rina_data.proofs.Carries.{outs_carry}
+use Rattle.rina_data.proofs.Numbering.{outs_numbered}
 use Rattle.rina_data.proofs.Finding.{there}
 use Rattle.rina_data.proofs.Going.{no_step, outs_stand}
 use Rattle.rina_data.proofs.Stepping.{can_go}
@@ -123,6 +124,7 @@ leaves_hold refuses d below at n r ps below' kept kept' lt leaves lines h =
       tied = h.tied;
       standing = outs_stand refuses (seen_of d) lines below at n r (seen_of d') below' kept kept' h.standing outs;
       carrying = outs_carry refuses (seen_of d) lines below at n r (seen_of d') below' kept kept' h.carrying outs;
+      numbered = outs_numbered refuses (seen_of d) lines below at n r (seen_of d') below' kept kept' h.standing h.numbered outs;
       housed = subst (AreHoused (config_of d.settings)) (sym l.3) (housed_set (config_of d.settings) d.processes at p.0 l.0 h.housed p.1 l.2 (goes_same refuses (config_of d.settings) d.clock (process_of p.0) below n r (process_of l.0) below' l.1));
     }
 

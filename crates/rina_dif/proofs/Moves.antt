@@ -19,6 +19,7 @@ use Rattle.rina_data.specs.Ids.{Ids}
 use Rattle.rina_data.specs.Lifting.{IsLifted, ticked}
 use Rattle.rina_data.specs.Passing.{IsTicked}
 use Rattle.rina_data.proofs.Carries.{time_carries}
+use Rattle.rina_data.proofs.Numbering.{time_numbered}
 use Rattle.rina_data.proofs.Taking.{lifted_stands}
 use Rattle.rina_flows.specs.Calls.{AreTied}
 use Rattle.rina_flows.proofs.Lasting.{tied_later}
@@ -37,5 +38,6 @@ holds_later d now lines below below' le kept' lifted clock h =
       tied = tied_later (config_of d.settings) d.clock now d.flows.journal.ends d.flows.conns lines le h.tied;
       standing = lifted_stands (seen_of d) lines below below' (seen_of d') lines' kept' h.standing lifted there;
       carrying = time_carries (seen_of d) lines below below' (seen_of d') lines' kept' h.carrying lifted there;
+      numbered = time_numbered (seen_of d) lines below below' (seen_of d') lines' kept' h.numbered lifted there;
       housed = h.housed;
     }

@@ -12,6 +12,7 @@ use Rattle.rina_data.specs.Ids.{Ids}
 use Rattle.rina_data.specs.Incoming.{IsInbound}
 use Rattle.rina_data.specs.Passing.{IsPassed}
 use Rattle.rina_data.proofs.Carries.{passed_carries}
+use Rattle.rina_data.proofs.Numbering.{passed_numbered}
 use Rattle.rina_data.proofs.Taking.{passed_stands}
 use Rattle.rina_flows.specs.declared.flows.Flows.{Flows}
 use Rattle.rina_flows.specs.Calls.{PassesOne, SameIds}
@@ -57,6 +58,7 @@ passes d at flows p lines below h =
         tied = o.tied;
         standing = passed_stands (seen_of d) lines below at (seen_of d') o.lines' h.standing passed;
         carrying = passed_carries (seen_of d) lines below at (seen_of d') o.lines' h.carrying passed;
+        numbered = passed_numbered (seen_of d) lines below at (seen_of d') o.lines' h.numbered passed;
         housed = h.housed;
       };
     }

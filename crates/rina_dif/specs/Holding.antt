@@ -7,6 +7,7 @@ use Rattle.rina_data.specs.Carried.{IsCarrying}
 use Rattle.rina_data.specs.Configs.{config_of}
 use Rattle.rina_data.specs.Deciding.{process_of}
 use Rattle.rina_data.specs.Dif.{Config, Process, next_hop, queue_place}
+use Rattle.rina_data.specs.Numbered.{IsNumbered}
 use Rattle.rina_data.specs.Passing.{IsPassed}
 use Rattle.rina_data.specs.Standing.{IsQos, IsStanding}
 use Rattle.rina_flows.specs.Calls.{AreTied}
@@ -26,11 +27,13 @@ pub record IsHoused (g : Config) (p : IpcProcess) : Type 0 where
 abbrev pub AreHoused : Config → List IpcProcess → Type 0
 AreHoused g processes = (i : ℕ) (p : IpcProcess) → slice_get processes i ≡ Some p → IsHoused g p
 
--- the DIF stands on the rank below, where these directions stand behind its flows, and whatever an end got has come
+-- the DIF stands on the rank below, where these directions stand behind its flows, whatever an end got has come, and
+-- its names are those of its members and ports
 pub record Holds (d : Dif) (lines : List Direction) (below : Seen) : Type 0 where
   pub tied : AreTied (config_of d.settings) d.clock d.flows lines
   pub standing : IsStanding (seen_of d) lines below
   pub carrying : IsCarrying (seen_of d) lines below
+  pub numbered : IsNumbered (seen_of d) below
   pub housed : AreHoused (config_of d.settings) d.processes
 
 -- some directions stand behind its flows

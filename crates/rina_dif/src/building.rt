@@ -2,6 +2,7 @@
 ghost use Rattle.std.specs.Prelude.{◌≡◌, [], false, IfOk};
 ghost use Rattle.rina_iface.specs.Seen.{Seen};
 ghost use Rattle.rina_data.specs.Configs.{config_of};
+ghost use Rattle.rina_data.specs.Numbered.{AreMembers};
 ghost use Rattle.rina_data.specs.Standing.{IsConfig};
 ghost use Rattle.rina_dif.specs.Building.{AreBare, IsBare, IsFree};
 ghost use Rattle.rina_dif.specs.Holding.{Holds};
@@ -57,7 +58,7 @@ impl Dif {
         ensures settings { IfOk result (λ d. d.settings ≡ settings) }
         ensures clock { IfOk result (λ d. d.clock ≡ clock) }
         ensures alive { IfOk result (λ d. d.failed ≡ false) }
-        ensures holds { IfOk result (λ d. (below : Seen) → IsConfig (config_of settings) → clock ≡ below.now → IsFree (config_of settings) below → Holds d [] below) }
+        ensures holds { IfOk result (λ d. (below : Seen) → IsConfig (config_of settings) → AreMembers (config_of settings) → clock ≡ below.now → IsFree (config_of settings) below → Holds d [] below) }
     {
         let processes = all_bare(alloc, &settings)?;
         Ok(Dif {
