@@ -11,6 +11,7 @@ use Rattle.rina_law.specs.Receiver.{next_of}
 use Rattle.rina_law.specs.Sender.{Ack}
 use Rattle.rina_conn.specs.declared.conn.Conn.{Conn}
 use Rattle.rina_conn.specs.declared.conn.ConnDue.{ConnDue}
+use Rattle.rina_conn.specs.declared.conn.DueAck.{DueAck}
 use Rattle.rina_conn.specs.declared.conn.ConnDue.TheVariants as due
 use Rattle.rina_conn.specs.Conns.{drops_of, IsGone, StandsStill}
 use Rattle.rina_conn.specs.Sending.{TellsGivenUp, TellsAgain, SendsAgain}
@@ -34,6 +35,10 @@ first_open next k = first_of (slice_get k.waiting.firsts 0) (first_of (from_kept
 -- the acknowledgement that the machine makes now
 abbrev pub ack_due : Constants → Direction → Option Ack
 ack_due c d = if is_ack_due c d then Some (record { ack = next_of d.line.receiver - 1; right = right_of c d }) else None
+
+-- as it is told
+abbrev pub ack_of : DueAck → Ack
+ack_of due = record { ack = due.ack; right = due.right }
 
 abbrev pub TellsAck : ℕ → Conn → Option Ack → Type 0
 TellsAck now k told = (c : Constants) (d : Direction) → d.line.clock ≡ now → IsReceiver c d k → k.rx.join.whole ≡ [] → told ≡ ack_due c d

@@ -1,5 +1,5 @@
 //! A connection.
-ghost use Rattle.std.specs.Prelude.{◌≡◌, ◌≤◌, ◌+◌, ◌-◌, ◌^◌, min, length, true, [], None, IfOk, if◌then◌else◌};
+ghost use Rattle.std.specs.Prelude.{◌≡◌, ◌≤◌, ◌+◌, ◌-◌, ◌^◌, min, length, true, [], None, IfOk, option_copied, option_map};
 ghost use Rattle.std.specs.Borrow.{sem};
 ghost use Rattle.rina_base.specs.Pdus.{pdu_of};
 ghost use Rattle.rina_cube.specs.Cubes.{IsCube};
@@ -9,7 +9,7 @@ ghost use Rattle.rina_dtp.specs.Lending.{IsFirst};
 ghost use Rattle.rina_dtp.specs.Observed.{TellsNext};
 ghost use Rattle.rina_dtp.specs.Receiving.{kept_numbers};
 ghost use Rattle.rina_dtp.specs.Stands.{IsRow, IsAhead};
-ghost use Rattle.rina_conn.specs.Clock.{IsClockDue, AnswersGone, AnswersGaveUp, AnswersAck, AnswersAgain, IsAfter, LendsDue, plan_is_due, first_open};
+ghost use Rattle.rina_conn.specs.Clock.{IsClockDue, AnswersGone, AnswersGaveUp, AnswersAck, AnswersAgain, IsAfter, LendsDue, TellsAck, ack_of, plan_is_due, first_open};
 ghost use Rattle.rina_conn.specs.Conns.{Marks, Passes, marks, IsNewConn, drops_of, IsGone, StandsStill, PassesOn, notes_next, is_accepted, waits_after};
 ghost use Rattle.rina_conn.specs.Lending.{LendsWhole};
 ghost use Rattle.rina_conn.specs.Sending as send;
@@ -50,6 +50,13 @@ pub enum ConnDue<'a> {
     Ack { ack: u32, right: u32 },
     /// A piece is sent again.
     Again(&'a Pdu),
+}
+
+/// An acknowledgement that is due: all numbers up to `ack` were accepted, and numbers up to `right` may be sent.
+#[derive(Clone, Copy, Debug, PartialEq, Eq)]
+pub struct DueAck {
+    pub ack: u32,
+    pub right: u32,
 }
 
 /// Whether a piece of this verdict wants an acknowledgement: it was accepted, held, or a duplicate.
@@ -234,25 +241,43 @@ impl Conn {
         ensures due { AnswersAck now self.old result }
         ensures after { IsAfter now self.old result self.new }
     {
-        let Some(next) = self.rx.next(now) else {
+        let Some(due) = self.ack_due(now) else {
             return ConnDue::Idle;
         };
-        if !self.is_ack_due(now) {
-            return ConnDue::Idle;
-        }
+        self.acknowledged();
         ConnDue::Ack {
-            ack: next.saturating_sub(1) as u32,
-            right: self.right(next),
+            ack: due.ack,
+            right: due.right,
         }
     }
 
-    /// Whether an acknowledgement is made now, where the receiver has state; then none is planned any more.
-    fn is_ack_due(&mut self, now: Tick) -> bool
-        ensures due { result ≡ plan_is_due now self.old }
-        ensures after { self.new ≡ record self.old { plan = if result then without self.old.plan else self.old.plan } }
+    /// The acknowledgement that item 6 of a clock step would make now; nothing changes. Takes no memory.
+    pub fn ack_due(&self, now: Tick) -> Option<DueAck>
+        ensures { TellsAck now self.now (option_map ack_of result) }
+    {
+        let next = self.rx.next(now)?;
+        if !self.is_ack_due(now) {
+            return None;
+        }
+        Some(DueAck {
+            ack: next.saturating_sub(1) as u32,
+            right: self.right(next),
+        })
+    }
+
+    /// Notes that the acknowledgement that is due was made: none is planned any more. Takes no memory.
+    pub fn acknowledged(&mut self)
+        ensures { self.new ≡ record self.old { plan = without self.old.plan } }
+    {
+        self.plan.forget();
+    }
+
+    /// Whether an acknowledgement is made now, where the receiver has state.
+    fn is_ack_due(&self, now: Tick) -> bool
+        ensures { result ≡ plan_is_due now self.now }
     {
         match (self.sending.form.cube.kind, self.rx.last_in()) {
-            (Kind::Reliable, Some(last_in)) => self.plan.due(now, last_in),
+            (Kind::Reliable, Some(last_in)) => self.plan.is_due(now, last_in),
             _ => false,
         }
     }
@@ -286,6 +311,22 @@ impl Conn {
             Some(pdu) => ConnDue::Again(pdu),
             None => ConnDue::Idle,
         }
+    }
+
+    /// The PDU that item 7 of a clock step would send again now; nothing changes. Takes no memory.
+    pub fn again_due(&self, now: Tick) -> Option<&Pdu>
+        ensures { send.TellsAgain now self.now.sending (option_copied result) }
+    {
+        self.sending.again_due(now)
+    }
+
+    /// Notes that the number that is due was sent again, where one is. Takes no memory.
+    pub fn sent_again(&mut self, now: Tick)
+        requires { now ≤ 10000000 }
+        ensures sends { send.SendsAgain now self.old.sending self.new.sending }
+        ensures same { self.new ≡ record self.old { sending = self.new.sending } }
+    {
+        let _ = self.sending.again(now);
     }
 
     /// Takes out the first of the pieces that are given up, where none was.

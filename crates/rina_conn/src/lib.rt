@@ -8,7 +8,7 @@ mod made;
 mod sending;
 mod waiting;
 
-pub use conn::{Conn, ConnDue};
+pub use conn::{Conn, ConnDue, DueAck};
 pub use form::{Form, Peer};
 pub use laws::connection_receives_on;
 pub use made::{Made, OfferError, Pdus};

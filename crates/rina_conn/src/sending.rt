@@ -1,11 +1,11 @@
 //! The half of a connection that sends.
-ghost use Rattle.std.specs.Prelude.{◌≡◌, ◌+◌, ◌^◌, ◌<◌, ◌≤◌, length, map, slice_get, is_some, position, Some, IfOk, IfErr};
+ghost use Rattle.std.specs.Prelude.{◌≡◌, ◌+◌, ◌^◌, ◌<◌, ◌≤◌, length, map, slice_get, is_some, option_copied, position, Some, IfOk, IfErr};
 ghost use Rattle.std.specs.Borrow.{sem};
 ghost use Rattle.rina_dtcp.specs.Senders.{flag_of};
 ghost use Rattle.rina_dtcp.specs.Sents.{is_due};
 ghost use Rattle.rina_conn.specs.Lending.{LendsAgain};
 ghost use Rattle.rina_conn.specs.Carrying.{carry, part_in, made_from, LieWithin};
-ghost use Rattle.rina_conn.specs.Sending.{IsNewSender, Offers, ChecksLength, ChecksWindow, IsPartsOf, Numbered, Admits, IsToldBy, TellsRoom, TellsNext, TellsGivenUp, NotesIf};
+ghost use Rattle.rina_conn.specs.Sending.{IsNewSender, Offers, ChecksLength, ChecksWindow, IsPartsOf, Numbered, Admits, IsToldBy, TellsRoom, TellsNext, TellsAgain, TellsGivenUp, NotesIf};
 
 use crate::form::Form;
 use crate::made::{Made, OfferError, Pdus};
@@ -249,6 +249,13 @@ impl Sending {
     {
         self.note_again(now);
         self.tx.due(now)
+    }
+
+    /// The PDU that `again` would give now; nothing changes. Takes no memory.
+    pub fn again_due(&self, now: Tick) -> Option<&Pdu>
+        ensures { TellsAgain now self.now (option_copied result) }
+    {
+        self.tx.next_due(now)
     }
 
     /// The least number that is given up now; None exactly where there is none. Takes no memory.

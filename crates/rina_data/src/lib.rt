@@ -20,7 +20,7 @@ pub use laws::{
 pub use link::{Link, Route, live_link, next_link};
 pub use process::IpcProcess;
 pub use settings::{Member, Settings};
-pub use step::{InStep, OutStep, Settled, StepError, Took};
+pub use step::{ClockStep, InStep, OutStep, Settled, StepError, Took};
 
 #[cfg(test)]
 mod tests;

@@ -70,8 +70,9 @@ impl IpcProcess {
         }
     }
 
-    /// Puts a PDU, which came at tick `at`, into the queue of its next hop.
-    fn forward(&mut self, alloc: Global, at: Tick, hop: &HopView<'_>) -> Result<Settled, Memory>
+    /// Puts a PDU, which came or was made at tick `at`, into the queue of its next hop, or writes it off. Without memory
+    /// nothing changes.
+    pub fn forward(&mut self, alloc: Global, at: Tick, hop: &HopView<'_>) -> Result<Settled, Memory>
         requires { IsRouted self.old (hop_of hop.now) }
         ensures does { Forwards self.old.queues.cap (process_of self.old) at (hop_of hop.now) result (process_of self.new) }
         ensures cap { self.new.queues.cap ≡ self.old.queues.cap }

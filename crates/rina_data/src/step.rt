@@ -1,5 +1,5 @@
 //! What the steps of an IPC process answer.
-use rina_base::{Cause, Key, Memory};
+use rina_base::{Cause, Cep, Key, Memory, Num, Port};
 use rina_iface::SendError;
 
 /// What became of a PDU that an IPC process took from a link.
@@ -44,6 +44,29 @@ pub enum OutStep {
     Off { key: Key, cause: Cause },
     /// The flow below refused the PDU for now, so it stays first.
     Held { why: SendError },
+}
+
+/// What an IPC process did by the clock: the first of its items that was due.
+#[derive(Clone, Copy, Debug, PartialEq, Eq)]
+pub enum ClockStep {
+    /// Nothing was due.
+    Idle,
+    /// The link of this number was lost: its flow below failed, was closed, or was refused.
+    LinkLost { link: u16 },
+    /// A flow that came in below was claimed as the link of this number.
+    LinkNew { link: u16 },
+    /// The pieces were written off that the connection of this CEP-id held of a state that has ended.
+    Gone { cep: Cep },
+    /// This number was given up, and its flow failed.
+    GaveUp { num: Num },
+    /// The ask at this port ran out of its time.
+    Timeout { port: Port },
+    /// The connection of this CEP-id made an acknowledgement.
+    Ack { cep: Cep },
+    /// This number was sent again.
+    Again { num: Num },
+    /// A message of management was offered to the connection of this link.
+    Message { link: u16 },
 }
 
 /// Why a step was not taken.

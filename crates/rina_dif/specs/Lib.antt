@@ -1,4 +1,5 @@
 pub mod Building
+pub mod Clocking
 pub mod Facade
 pub mod Holding
 pub mod Sending

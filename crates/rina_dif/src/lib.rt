@@ -3,6 +3,7 @@
 
 mod building;
 mod clock;
+mod clocking;
 mod dif;
 mod facade;
 mod leaving;

@@ -15,10 +15,10 @@ use Rattle.rina_dtcp.specs.declared.sent.Sent.{Sent}
 use Rattle.rina_dtcp.specs.declared.sent.GaveUp.{GaveUp}
 use Rattle.rina_dtcp.specs.Sents.{is_due, is_late, touched}
 use Rattle.rina_dtcp.specs.Senders.{Kept, is_gone, left_in, keeps, with_sent, counted, noted, least_from, flag_of, sents_from, with_all, counted_all, settled, raised, resent_at, IsPduAt, num_in, sent_at, late_of, late_in}
-use Rattle.rina_dtcp.specs.Rows.{waiting, sent_of, sent_from, Stands, ready, TellsRoom, TellsIdle, Notes, NotesAll, IsTold, Resends, LendsAgain, TellsDue, gave_up_of, TellsGivenUp}
+use Rattle.rina_dtcp.specs.Rows.{waiting, sent_of, sent_from, Stands, ready, TellsRoom, TellsIdle, Notes, NotesAll, IsTold, Resends, LendsAgain, TellsAgain, TellsDue, gave_up_of, TellsGivenUp}
 use Rattle.rina_law.proofs.Lists.{resent-length}
 use Rattle.rina_dtcp.proofs.Scanning.{due_place, late_place}
-use Rattle.rina_dtcp.proofs.Touching.{touched_pdu, touched_resent}
+use Rattle.rina_dtcp.proofs.Touching.{touched_pdu, touched_resent, touched_same}
 
 length-sent_from : (carry : Piece → Pdu) (n : ℕ) (ms : List Member) → length (sent_from carry n ms) ≡ length ms
 length-sent_from carry n [] = refl
@@ -294,6 +294,14 @@ lends_some now at old new pdu place e is = record { resends = resend_some now at
 
 pub lends_none : (now : ℕ) (old new : Kept) → None ≡ position (is_due old.cube now) old.unacked → new ≡ old → LendsAgain now old None new
 lends_none now old new place e = record { resends = resend_none now old new place e; there = ap is_some place; idle = λ none. e }
+
+-- the PDU that would be lent
+pub again_some : (now at : ℕ) (k : Kept) (pdu : Pdu) → Some at ≡ position (is_due k.cube now) k.unacked → IsPduAt k.unacked at pdu → TellsAgain now k (Some pdu)
+again_some now at k pdu place (s, stands, is) c carry m st =
+    (resend_some now at k (resent_at (Some at) now k) pdu place refl (record { first = s.first; last = now; pdu = s.pdu }, touched_same k.unacked at now s stands, is) c carry m st).0
+
+pub again_none : (now : ℕ) (k : Kept) → None ≡ position (is_due k.cube now) k.unacked → TellsAgain now k None
+again_none now k place c carry m st = (resend_none now k k place refl c carry m st).0
 
 some_mapped : (f : ℕ → ℕ) (o : Option ℕ) → is_some (option_map f o) ≡ is_some o
 some_mapped f (Some x) = refl

@@ -27,6 +27,12 @@ touched_pdu carry i now n k [] s e h = cc
 touched_pdu carry zero now n k (m ∷ ms) s e h = (let is : k ≡ n = omega arith in rw is (cc))
 touched_pdu carry (suc i) now n k (m ∷ ms) s e h = touched_pdu carry i now (n + 1) k ms s (omega arith) h
 
+-- marking leaves the PDU of a piece
+pub touched_same : (xs : List Sent) (i now : ℕ) (s : Sent) → slice_get xs i ≡ Some s → slice_get (touched i now xs) i ≡ Some (record { first = s.first; last = now; pdu = s.pdu })
+touched_same [] i now s e = cc
+touched_same (x ∷ xs) zero now s e = (let is : x ≡ s = cc in rw is refl)
+touched_same (x ∷ xs) (suc i) now s e = touched_same xs i now s e
+
 pub sent_pdu : (carry : Piece → Pdu) (i n k : ℕ) (ms : List Member) (s : Sent) → k ≡ n + i → slice_get (sent_from carry n ms) i ≡ Some s → (s.pdu ≡ carry (record { number = k; drf = (get_or ms i no_member).drf; part = (get_or ms i no_member).part })) × (s.first ≡ (get_or ms i no_member).first)
 sent_pdu carry i n k [] s e h = cc
 sent_pdu carry zero n k (m ∷ ms) s e h = (let is : k ≡ n = omega arith in rw is (cc, cc))

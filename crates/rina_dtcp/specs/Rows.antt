@@ -85,6 +85,10 @@ pub record LendsAgain (now : ℕ) (old : Kept) (lent : Option Pdu) (new : Kept) 
 abbrev pub TellsDue : ℕ → Kept → Bool → Type 0
 TellsDue now k told = (c : Constants) (carry : Piece → Pdu) (m : Sender) → Stands c carry m k → told ≡ is_some (again_due c now m)
 
+-- the PDU of the number that is sent again now
+abbrev pub TellsAgain : ℕ → Kept → Option Pdu → Type 0
+TellsAgain now k told = (c : Constants) (carry : Piece → Pdu) (m : Sender) → Stands c carry m k → told ≡ option_map (λ n. carry (piece_again n m)) (again_due c now m)
+
 -- a number that is given up, as the PDU that carries its piece has it
 abbrev pub gave_up_of : (Piece → Pdu) → ℕ → Sender → ℕ → GaveUp
 gave_up_of carry now m n = record { num = num_in (carry (piece_again n m)); first = (member m.run n).first; now = now }

@@ -54,7 +54,8 @@ impl AckPlan {
         }
     }
 
-    fn forget(&mut self)
+    /// Plans none any more. Takes no memory.
+    pub fn forget(&mut self)
         ensures { self.new ≡ without self.old }
     {
         self.since = None;
@@ -101,11 +102,18 @@ impl AckPlan {
         ensures due { result ≡ (has_come self.old.mark now && is_young now last_in self.old.delta) }
         ensures after { self.new ≡ (if result then without self.old else self.old) }
     {
-        if self.has_come(now) && self.is_young(now, last_in) {
+        if self.is_due(now, last_in) {
             self.forget();
             return true;
         }
         false
+    }
+
+    /// Whether `due` would answer so now; nothing changes. Takes no memory.
+    pub fn is_due(&self, now: Tick, last_in: Tick) -> bool
+        ensures { result ≡ (has_come self.now.mark now && is_young now last_in self.now.delta) }
+    {
+        self.has_come(now) && self.is_young(now, last_in)
     }
 
     fn has_come(&self, now: Tick) -> bool

@@ -1,10 +1,10 @@
 //! The sender of a connection.
-ghost use Rattle.std.specs.Prelude.{◌≡◌, ◌+◌, ◌-◌, ◌==◌, ◌<◌, ◌≤◌, ◌^◌, drop, length, position, is_some, IfSome, IfOk, OnOk, OnErr, [], ◌++◌, ◌∷◌};
+ghost use Rattle.std.specs.Prelude.{◌≡◌, ◌+◌, ◌-◌, ◌==◌, ◌<◌, ◌≤◌, ◌^◌, drop, length, position, is_some, option_copied, IfSome, IfOk, OnOk, OnErr, [], ◌++◌, ◌∷◌};
 ghost use Rattle.rina_dtcp.specs.Sents.{is_due, is_late, touched};
 ghost use Rattle.rina_dtcp.specs.Senders.{Kept, is_gone, left_in, keeps, with_sent, least_from, sents_from, with_all, counted, counted_all, noted, flag_of, settled, raised, resent_at, IsPduAt, late_of, late_in};
 ghost use Rattle.std.specs.Borrow.{sem};
 ghost use Rattle.rina_dtcp.specs.Lending.{LendsDue};
-ghost use Rattle.rina_dtcp.specs.Rows.{IsNew, TellsRoom, TellsIdle, Notes, NotesAll, IsTold, TellsDue, TellsGivenUp};
+ghost use Rattle.rina_dtcp.specs.Rows.{IsNew, TellsRoom, TellsIdle, Notes, NotesAll, IsTold, TellsAgain, TellsDue, TellsGivenUp};
 
 use crate::sent::{GaveUp, Sent, copy_of};
 use rina_base::{Memory, Num, Pdu, Tick};
@@ -352,6 +352,24 @@ impl Tx {
         ensures machine { TellsDue now self.now result }
     {
         first_due(&self.unacked, &self.cube, now).is_some()
+    }
+
+    /// The place of the first piece that is to be made again.
+    fn next_place(&self, now: Tick) -> Option<usize>
+        ensures place { result ≡ position (is_due self.now.cube now) self.now.unacked }
+        ensures within { IfSome result (λ k. k < length self.now.unacked) }
+    {
+        first_due(&self.unacked, &self.cube, now)
+    }
+
+    /// The PDU that `due` would give now; nothing changes. Takes no memory.
+    pub fn next_due(&self, now: Tick) -> Option<&Pdu>
+        ensures { TellsAgain now self.now (option_copied result) }
+    {
+        match self.next_place(now) {
+            Some(at) => Some(self.pdu(at)),
+            None => None,
+        }
     }
 
     fn pdu(&self, at: usize) -> &Pdu

@@ -1,5 +1,5 @@
--- What comes with time: a number is given up.
-use Rattle.std.specs.Prelude.{◌≡◌, ℕ, List, ◌++◌, slice_get, Option, Some, None, Result, Ok, Err}
+-- What comes with time: what is due, and a number that is given up.
+use Rattle.std.specs.Prelude.{◌≡◌, ℕ, true, List, ◌++◌, slice_get, Option, Some, None, Result, Ok, Err}
 use Rattle.rina_account.specs.declared.ledger.Off.{Off}
 use Rattle.rina_base.specs.declared.memory.Memory.{Memory}
 use Rattle.rina_base.specs.declared.number.Num.{Num}
@@ -12,12 +12,50 @@ use Rattle.rina_iface.specs.declared.ends.End.{End}
 use Rattle.rina_iface.specs.declared.state.Fail.TheVariants.{GaveUp}
 use Rattle.rina_iface.specs.declared.state.PortState.TheVariants.{Allocated, Failed}
 use Rattle.rina_iface.specs.Journal.{At}
-use Rattle.rina_law.specs.Direction.{Direction}
-use Rattle.rina_law.specs.Sender.{given_up, member}
+use Rattle.rina_law.specs.Constants.{Constants}
+use Rattle.rina_law.specs.Direction.{Direction, is_ack_due}
+use Rattle.rina_law.specs.Sender.{Sender, again_due, given_up, member}
 use Rattle.rina_flows.specs.declared.flows.Flows.{Flows}
+use Rattle.rina_flows.specs.declared.timely.Item.{Item}
+use Rattle.rina_flows.specs.declared.timely.Item.TheVariants.{Ack, Again, GiveUp, Gone}
 use Rattle.rina_flows.specs.Calls.{AreTied, SameIds}
+use Rattle.rina_flows.specs.Delivering.{HoldsGone}
 use Rattle.rina_flows.specs.Ending.{EndsAt}
-use Rattle.rina_flows.specs.Tied.{conns_of, outward}
+use Rattle.rina_flows.specs.Tied.{IsAt, IsInboundAt, conns_of, inward, outward}
+
+-- What is due
+
+-- by its sender a number is due at a place, to be given up or to be sent again
+pub record IsNumberDue (due : Constants → ℕ → Sender → Option ℕ) (g : Config) (conns : List Conn) (lines : List Direction) (at : ℕ) : Type 0 where
+  pub conn : Conn
+  pub is_conn : slice_get conns at ≡ Some conn
+  pub line : Direction
+  pub is_line : slice_get lines at ≡ Some line
+  pub number : ℕ
+  pub is_due : due (outward g conn) line.line.clock line.line.sender ≡ Some number
+
+-- by its receiver an acknowledgement is due
+pub record IsAckDue (g : Config) (flows : Flows) (lines : List Direction) (at : ℕ) : Type 0 where
+  pub end : End
+  pub conn : Conn
+  pub is_at : IsAt flows.journal.ends flows.conns at end conn
+  pub from : ℕ
+  pub line : Direction
+  pub inbound : IsInboundAt flows.journal.ends lines end from line
+  pub is_due : is_ack_due (inward g conn) line ≡ true
+
+-- its receiver holds pieces of a state that is gone
+pub record IsGoneDue (now : ℕ) (conns : List Conn) (at : ℕ) : Type 0 where
+  pub conn : Conn
+  pub is_conn : slice_get conns at ≡ Some conn
+  pub gone : HoldsGone now conn
+
+-- the item is due at the end of a place
+abbrev pub IsDue : Item → Config → ℕ → Flows → List Direction → ℕ → Type 0
+IsDue Gone g now flows lines at = IsGoneDue now flows.conns at
+IsDue GiveUp g now flows lines at = IsNumberDue given_up g flows.conns lines at
+IsDue Ack g now flows lines at = IsAckDue g flows lines at
+IsDue Again g now flows lines at = IsNumberDue again_due g flows.conns lines at
 
 -- A number that is given up
 

@@ -11,6 +11,7 @@ pub use arriving::Notes;
 pub use conns::Conns;
 pub use flows::Flows;
 pub use laws::{calls_are_those_of_the_dif, flows_stay_tied};
+pub use timely::Item;
 
 #[cfg(test)]
 mod tests;

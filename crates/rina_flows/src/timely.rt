@@ -11,6 +11,19 @@ use rina_dtcp::GaveUp;
 use rina_iface::{Fail, PortState};
 use std::alloc::Global;
 
+/// What may be due at the connection of an end.
+#[derive(Clone, Copy, Debug, PartialEq, Eq)]
+pub enum Item {
+    /// Pieces are written off that are held of a state that has ended.
+    Gone,
+    /// A number is given up.
+    GiveUp,
+    /// An acknowledgement is made.
+    Ack,
+    /// A number is sent again.
+    Again,
+}
+
 impl Flows {
     /// The number that the connection at a place gives up now.
     fn gave_up(&self, now: Tick, at: usize) -> Option<GaveUp>
