@@ -20,6 +20,7 @@ pub mod Restated
 pub mod Retied
 pub mod Stopped
 pub mod Taking
+pub mod Timed
 pub mod GaveUp
 pub mod Told
 pub mod Unbroken

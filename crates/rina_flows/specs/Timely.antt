@@ -1,19 +1,21 @@
 -- What comes with time: what is due, and a number that is given up.
-use Rattle.std.specs.Prelude.{◌≡◌, ℕ, true, List, ◌++◌, slice_get, Option, Some, None, Result, Ok, Err}
+use Rattle.std.specs.Prelude.{◌≡◌, ◌↔◌, ℕ, Bool, true, IsTrue, List, ◌++◌, slice_get, slice_set, Option, Some, None, Result, Ok, Err}
 use Rattle.rina_account.specs.declared.ledger.Off.{Off}
 use Rattle.rina_base.specs.declared.memory.Memory.{Memory}
 use Rattle.rina_base.specs.declared.number.Num.{Num}
 use Rattle.rina_conn.specs.declared.conn.Conn.{Conn}
+use Rattle.rina_conn.specs.Sending.{SendsAgain}
 use Rattle.rina_cube.specs.declared.Cube.{Cube}
 use Rattle.rina_data.specs.Dif.{Config, constants, cube_by}
 use Rattle.rina_data.specs.Ids.{Ids}
 use Rattle.rina_data.specs.Standing.{IsJournal}
+use Rattle.rina_dtcp.specs.Plans.{without}
 use Rattle.rina_iface.specs.declared.ends.End.{End}
 use Rattle.rina_iface.specs.declared.state.Fail.TheVariants.{GaveUp}
 use Rattle.rina_iface.specs.declared.state.PortState.TheVariants.{Allocated, Failed}
 use Rattle.rina_iface.specs.Journal.{At}
 use Rattle.rina_law.specs.Constants.{Constants}
-use Rattle.rina_law.specs.Direction.{Direction, is_ack_due}
+use Rattle.rina_law.specs.Direction.{Direction, after_ack, after_again, is_ack_due}
 use Rattle.rina_law.specs.Sender.{Sender, again_due, given_up, member}
 use Rattle.rina_flows.specs.declared.flows.Flows.{Flows}
 use Rattle.rina_flows.specs.declared.timely.Item.{Item}
@@ -56,6 +58,52 @@ IsDue Gone g now flows lines at = IsGoneDue now flows.conns at
 IsDue GiveUp g now flows lines at = IsNumberDue given_up g flows.conns lines at
 IsDue Ack g now flows lines at = IsAckDue g flows lines at
 IsDue Again g now flows lines at = IsNumberDue again_due g flows.conns lines at
+
+-- whether it is, at an allocated end of flows that are tied
+abbrev pub DueIn : Item → ℕ → ℕ → Flows → Bool → Type 0
+DueIn item now at flows told = (g : Config) (lines : List Direction) (end : End) → IsJournal now flows.journal.ends → AreTied g now flows lines → At flows.journal.ends at end → end.state ≡ Allocated → IsTrue told ↔ IsDue item g now flows lines at
+
+-- An acknowledgement that is made
+
+abbrev pub IsAcknowledged : Conn → Conn → Type 0
+IsAcknowledged old new = new ≡ record old { plan = without old.plan }
+
+-- the receiver of an allocated end has made one, and the flows stay tied
+pub record HasAcknowledged (g : Config) (now at : ℕ) (end : End) (old : Flows) (lines : List Direction) (new : Flows) : Type 0 where
+  pub conn : Conn
+  pub is_conn : slice_get old.conns at ≡ Some conn
+  pub from : ℕ
+  pub line : Direction
+  pub inbound : IsInboundAt old.journal.ends lines end from line
+  pub lines' : List Direction
+  pub lines_are : lines' ≡ slice_set lines from (after_ack true (inward g conn) line)
+  pub same : new.journal ≡ old.journal
+  pub tied : AreTied g now new lines'
+  pub ids : SameIds old new
+
+abbrev pub AcknowledgesIn : ℕ → Flows → Flows → Type 0
+AcknowledgesIn at old new = (g : Config) (now : ℕ) (lines : List Direction) (end : End) → IsJournal now old.journal.ends → AreTied g now old lines → At old.journal.ends at end → end.state ≡ Allocated → HasAcknowledged g now at end old lines new
+
+-- A number that is sent again
+
+pub record IsSentAgain (now : ℕ) (old new : Conn) : Type 0 where
+  pub sends : SendsAgain now old.sending new.sending
+  pub same : new ≡ record old { sending = new.sending }
+
+-- the sender at a place has sent the number again that was due, if one was, and the flows stay tied
+pub record HasSentAgain (g : Config) (now at : ℕ) (old : Flows) (lines : List Direction) (new : Flows) : Type 0 where
+  pub conn : Conn
+  pub is_conn : slice_get old.conns at ≡ Some conn
+  pub line : Direction
+  pub is_line : slice_get lines at ≡ Some line
+  pub lines' : List Direction
+  pub lines_are : lines' ≡ slice_set lines at (after_again (again_due (outward g conn) line.line.clock line.line.sender) (outward g conn) line)
+  pub same : new.journal ≡ old.journal
+  pub tied : AreTied g now new lines'
+  pub ids : SameIds old new
+
+abbrev pub SendsAgainIn : ℕ → ℕ → Flows → Flows → Type 0
+SendsAgainIn now at old new = (g : Config) (lines : List Direction) → AreTied g now old lines → HasSentAgain g now at old lines new
 
 -- A number that is given up
 

@@ -5,6 +5,7 @@ ghost use Rattle.rina_conn.specs.declared.conn.Conn.{Conn};
 ghost use Rattle.rina_base.specs.Pdus.{pdu_of};
 ghost use Rattle.rina_flows.specs.Delivering.{GivesUpAll, IsLanding, Receives, closed};
 ghost use Rattle.rina_flows.specs.Calls.{Becomes, IsOffer, IsPass, IsTold};
+ghost use Rattle.rina_flows.specs.Timely.{IsAcknowledged, IsSentAgain};
 
 use crate::arriving::{Notes, cause_of, receive, write_off};
 use rina_account::Off;
@@ -136,6 +137,25 @@ impl Conns {
         let cause = cause_of(verdict);
         notes.write(pdu, cause);
         Ok(cause)
+    }
+
+    /// Notes that the acknowledgement that is due at the connection of this place was made. Takes no memory.
+    pub fn acknowledged(&mut self, at: usize)
+        requires { at < length self.old }
+        ensures { Becomes IsAcknowledged at self.old self.new }
+    {
+        let conn = &mut self.items[at];
+        conn.acknowledged();
+    }
+
+    /// Notes that the number that is due at the connection of this place was sent again. Takes no memory.
+    pub fn sent_again(&mut self, now: Tick, at: usize)
+        requires now { now ≤ 10000000 }
+        requires at { at < length self.old }
+        ensures { Becomes (IsSentAgain now) at self.old self.new }
+    {
+        let conn = &mut self.items[at];
+        conn.sent_again(now);
     }
 
     /// Writes off what the connection at this place holds of a state that has ended. Takes memory only where `lines`

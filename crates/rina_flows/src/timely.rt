@@ -1,12 +1,15 @@
 //! What comes with time.
-ghost use Rattle.std.specs.Prelude.{◌<◌, length};
-ghost use Rattle.rina_conn.specs.Sending.{TellsGivenUp};
+ghost use Rattle.std.specs.Prelude.{◌<◌, ◌≤◌, ◌↔◌, IsTrue, length, option_copied, option_map};
+ghost use Rattle.rina_conn.specs.Clock.{TellsAck, ack_of};
+ghost use Rattle.rina_conn.specs.Sending.{TellsAgain, TellsGivenUp};
 ghost use Rattle.rina_flows.specs.Calls.{Tells};
-ghost use Rattle.rina_flows.specs.Timely.{GivesUpIn};
+ghost use Rattle.rina_flows.specs.Delivering.{HoldsGone};
+ghost use Rattle.rina_flows.specs.Timely.{AcknowledgesIn, DueIn, GivesUpIn, SendsAgainIn};
 
 use crate::flows::Flows;
 use rina_account::Ledger;
-use rina_base::{Memory, Num, Tick};
+use rina_base::{Memory, Num, Pdu, Tick};
+use rina_conn::DueAck;
 use rina_dtcp::GaveUp;
 use rina_iface::{Fail, PortState};
 use std::alloc::Global;
@@ -31,6 +34,62 @@ impl Flows {
         ensures { Tells (λ k. TellsGivenUp now k.sending result) at self.now.conns }
     {
         self.conns.at(at).sending.gave_up(now)
+    }
+
+    /// The acknowledgement that the connection at a place makes now. Takes no memory.
+    pub fn ack_due(&self, now: Tick, at: usize) -> Option<DueAck>
+        requires { at < length self.now.conns }
+        ensures { Tells (λ k. TellsAck now k (option_map ack_of result)) at self.now.conns }
+    {
+        self.conns.at(at).ack_due(now)
+    }
+
+    /// The PDU that the connection at a place sends again now. Takes no memory.
+    pub fn again_due(&self, now: Tick, at: usize) -> Option<&Pdu>
+        requires { at < length self.now.conns }
+        ensures { Tells (λ k. TellsAgain now k.sending (option_copied result)) at self.now.conns }
+    {
+        self.conns.at(at).again_due(now)
+    }
+
+    /// Whether the connection at a place holds pieces of a state that has ended.
+    fn holds_gone(&self, now: Tick, at: usize) -> bool
+        requires { at < length self.now.conns }
+        ensures { Tells (λ k. IsTrue result ↔ HoldsGone now k) at self.now.conns }
+    {
+        let rx = &self.conns.at(at).rx;
+        !rx.present(now) && rx.kept() > 0
+    }
+
+    /// Whether an item is due at the end of a place. Takes no memory.
+    pub fn is_due(&self, now: Tick, at: usize, item: Item) -> bool
+        requires { at < length self.now.conns }
+        ensures { DueIn item now at self.now result }
+    {
+        match item {
+            Item::Gone => self.holds_gone(now, at),
+            Item::GiveUp => self.gave_up(now, at).is_some(),
+            Item::Ack => self.ack_due(now, at).is_some(),
+            Item::Again => self.again_due(now, at).is_some(),
+        }
+    }
+
+    /// Notes that the acknowledgement that is due at the connection of a place was made. Takes no memory.
+    pub fn acknowledged(&mut self, at: usize)
+        requires { at < length self.old.conns }
+        ensures { AcknowledgesIn at self.old self.new }
+    {
+        self.conns.acknowledged(at);
+    }
+
+    /// Notes that the number that is due at the connection of a place was sent again, at a tick of at most 10,000,000.
+    /// Takes no memory.
+    pub fn sent_again(&mut self, now: Tick, at: usize)
+        requires now { now ≤ 10000000 }
+        requires at { at < length self.old.conns }
+        ensures { SendsAgainIn now at self.old self.new }
+    {
+        self.conns.sent_again(now, at);
     }
 
     /// Lets the end at a place fail where its connection gives a number up now, and writes off what the connection
