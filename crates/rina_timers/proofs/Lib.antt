@@ -1,2 +1,5 @@
-pub mod Mending
-pub mod Roots
+pub mod Linking
+pub mod Slots
+pub mod Written
+pub mod Walking
+pub mod Placing

@@ -1,2 +1,3 @@
+pub mod Chains
 pub mod Times
-pub mod Trees
+pub mod Wheel

@@ -1,6 +1,5 @@
 -- For each id the tick at which its timer is set, and the next timer that is due.
 use Rattle.std.specs.Prelude.{◌≡◌, ℕ, ◌<◌, ◌≤◌, ◌⊎◌, List, Option, Some, None, slice_get, slice_set}
-use Rattle.rina_timers.specs.declared.tree.Timer.{Timer}
 
 -- the timer of an id is set
 abbrev pub IsSet : List (Option ℕ) → ℕ → ℕ → Type 0
@@ -10,11 +9,6 @@ IsSet times id at = slice_get times id ≡ Some (Some at)
 pub record IsFirst (times : List (Option ℕ)) (id at : ℕ) : Type 0 where
   pub is_set : IsSet times id at
   pub first : (other later : ℕ) → IsSet times other later → (at < later) ⊎ ((at ≡ later) × (id ≤ other))
-
--- the first timer of all that are set
-abbrev pub TellsFirst : List (Option ℕ) → Option Timer → Type 0
-TellsFirst times (Some t) = IsFirst times t.id t.at
-TellsFirst times None = (id at : ℕ) → IsSet times id at → ⊥
 
 -- the first timer of all, where its tick has come; None where that of none has
 abbrev pub IsDue : ℕ → List (Option ℕ) → Option ℕ → Type 0

@@ -1,11 +1,11 @@
 //! Timers: for each of a fixed number of ids the tick at which it is set, and the next one that is due.
 #![tactic(auto)]
 
+mod chains;
 mod timers;
-mod tree;
+mod wheel;
 
 pub use timers::Timers;
-pub use tree::Timer;
 
 #[cfg(test)]
 mod plain;

@@ -1,4 +1,4 @@
-//! What a timer is as a program over a list: the tests run it beside the tree.
+//! What a timer is as a program over a list: the tests run it beside the wheel.
 use rina_base::Tick;
 use std::alloc::{AllocError, Global};
 

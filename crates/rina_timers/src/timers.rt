@@ -1,30 +1,36 @@
 //! Timers by id.
 ghost use Rattle.std.specs.Prelude.{◌≡◌, ℕ, ◌<◌, List, length, replicate, slice_set, None, Some, Option, IfOk};
-ghost use Rattle.rina_timers.specs.Times.{TellsFirst, IsDue, after_due};
+ghost use Rattle.rina_timers.specs.Times.{IsDue, after_due};
 
-use crate::tree::{Timer, mend, set_timer};
+use crate::chains::{Chains, tick_of};
+use crate::wheel::{DUE, advance, place};
 use rina_base::{Memory, Tick};
 use std::alloc::Global;
 use std::marker::Model;
 
 /// For each id below a number the tick at which it is set, None where it is not. A contract sees the list of
-/// them by id. Each call takes time with the logarithm of their number.
+/// them by id.
+///
+/// They stand in a wheel of four levels of 64 slots, whose clock goes on to the first tick that is due. So setting
+/// and clearing take the same time however many there are, and a timer moves at most five times before it is due.
 #[derive(Drop)]
 pub struct Timers {
     times: Vec<Option<Tick>>,
-    /// A tree of minima over them, its leaves in the order of the ids.
-    nodes: Vec<Option<Timer>>,
+    /// The tick that the wheel has reached.
+    clock: Tick,
+    /// The slots, and before them those that are due.
+    chains: Chains,
 }
 
 impl Model for Timers {
     ghost use Rattle.std.specs.Prelude.{ℕ, List, Option};
-    ghost use Rattle.rina_timers.specs.Trees.{Holds};
+    ghost use Rattle.rina_timers.specs.Wheel.{IsPlaced};
 
     ghost Value = { List (Option ℕ) };
 
     ghost view = { λ t. t.times.items };
 
-    ghost invariant = { λ t. Holds t.times.items t.nodes.items };
+    ghost invariant = { λ t. IsPlaced t.times.items t.chains t.clock };
 }
 
 impl Timers {
@@ -33,8 +39,12 @@ impl Timers {
         ensures { IfOk result (λ t. t ≡ replicate cap None) }
     {
         let times = vec![in alloc; None; cap as usize]?;
-        let nodes = vec![in alloc; None; 2 * cap as usize]?;
-        Ok(Timers { times, nodes })
+        let chains = Chains::new(alloc, cap)?;
+        Ok(Timers {
+            times,
+            clock: 0,
+            chains,
+        })
     }
 
     /// Writes the tick of a timer, or that it is not set.
@@ -42,10 +52,8 @@ impl Timers {
         requires { id < length self.old }
         ensures { self.new ≡ slice_set self.old id at }
     {
-        let leaf = self.times.len() + id as usize;
+        self.chains.put(id, place(self.clock, at));
         self.times[id as usize] = at;
-        self.nodes[leaf] = set_timer(id, at);
-        mend(&mut self.nodes, leaf);
     }
 
     /// Sets the timer `id`, also where it is set already. Takes no memory.
@@ -64,12 +72,15 @@ impl Timers {
         self.put(id, None);
     }
 
-    /// The one that is due first, of all that are set.
-    fn first(&self) -> Option<Timer>
-        ensures { TellsFirst self.now result }
+    /// Goes on to the first timers that are due, and tells the first of them.
+    fn first(&mut self, now: Tick) -> Option<u32>
+        ensures due { IsDue now self.old result }
+        ensures same { self.new ≡ self.old }
     {
-        if self.nodes.len() > 1 {
-            self.nodes[1]
+        self.clock = advance(&mut self.chains, &self.times, self.clock, now);
+        let id = self.chains.earliest(DUE, &self.times)?;
+        if tick_of(&self.times, id) <= now {
+            Some(id)
         } else {
             None
         }
@@ -82,12 +93,8 @@ impl Timers {
         ensures cleared { self.new ≡ after_due result self.old }
         ensures ids { length self.new ≡ length self.old }
     {
-        match self.first() {
-            Some(timer) if timer.at <= now => {
-                self.clear(timer.id);
-                Some(timer.id)
-            }
-            _ => None,
-        }
+        let id = self.first(now)?;
+        self.clear(id);
+        Some(id)
     }
 }

@@ -1,7 +1,14 @@
-use Rattle.std.proofs.Common.{rules}
-use Rattle.rina_timers.proofs.Mending.{node_read}
-use Rattle.rina_timers.proofs.Roots.{root_told}
+use Rattle.std.proofs.Common.{arith}
+use Rattle.rina_timers.proofs.Placing.{is_due, not_due}
 use Rattle.rina_timers.proofs.timers.Timers.first.Goals as goal
+use Rattle.rina_timers.proofs.timers.Timers.first.Goals.{then-tick_of-now, else-tick_of-now}
 
-pub returns-then-len-gt1 : goal.returns-then-len-gt1
-returns-then-len-gt1 c = rw (← c.self.view_is) (root_told c.self.inside.times.items c.self.inside.nodes.items c.index.result.now c.self.invariant (search rules) (node_read c.self.inside.nodes.items 1 c.index.result.now (search rules) c.index.ensures))
+pub returns-clause-due : goal.returns-clause-due
+returns-clause-due c =
+    let placed = rw c.deref.ensures.value at c.advance-self-inside.ensures.placed in
+    let earliest = rw c.deref-2.ensures.value at c.in_ok-id.ensures in
+    let tick = rw c.deref-3.ensures.value at c.tick_of.ensures in
+    rw (← c.self.view_is) (elim c.if-tick_of-now.branch [
+      | then-tick_of-now w ↦ rw w.result-is (is_due _ _ _ c.args.now placed c.in_ok-id.id earliest (omega (arith, tick, w.if-tick_of-now.true)))
+      | else-tick_of-now w ↦ rw w.result-is (not_due _ _ _ c.args.now placed c.in_ok-id.id earliest (omega (arith, tick, w.if-tick_of-now.false)))
+    ])
