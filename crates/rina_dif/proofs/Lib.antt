@@ -2,6 +2,7 @@ pub mod Bare
 pub mod Barred
 pub mod Facing
 pub mod Keeping
+pub mod Laid
 pub mod Lapsed
 pub mod Leaves
 pub mod Moves

@@ -2,6 +2,8 @@ pub mod Building
 pub mod Clocking
 pub mod Facade
 pub mod Holding
+pub mod Laying
+pub mod Planned
 pub mod Sending
 pub mod Shown
 pub mod Steps

@@ -6,6 +6,7 @@ mod clock;
 mod clocking;
 mod dif;
 mod facade;
+mod laying;
 mod leaving;
 mod passing;
 mod processes;

@@ -1,0 +1,104 @@
+-- How the links of a DIF are laid, and what a new DIF is.
+use Rattle.std.specs.Prelude.{◌≡◌, ℕ, ◌+◌, ◌≤◌, ◌==◌, true, false, List, [], ◌∷◌, filter, slice_get, Some, None, IsSome, All}
+use Rattle.rina_base.specs.declared.number.Port.{Port}
+use Rattle.rina_iface.specs.declared.ask.Fixed.{Fixed}
+use Rattle.rina_iface.specs.declared.ends.End.{End}
+use Rattle.rina_iface.specs.Bind.{CanBind, IsBound}
+use Rattle.rina_iface.specs.Later.{IsLater}
+use Rattle.rina_iface.specs.Seen.{Fac, Offer, Seen, cube_in, end_of}
+use Rattle.rina_stack.specs.declared.plan.Plan.{Plan}
+use Rattle.rina_data.specs.declared.link.Link.{Link}
+use Rattle.rina_data.specs.declared.process.IpcProcess.{IpcProcess}
+use Rattle.rina_data.specs.declared.settings.Member.{Member as Kept}
+use Rattle.rina_data.specs.declared.settings.Settings.{Settings}
+use Rattle.rina_data.specs.Cloud.{IsMine}
+use Rattle.rina_data.specs.Configs.{config_of}
+use Rattle.rina_data.specs.Deciding.{process_of}
+use Rattle.rina_data.specs.Dif.{Config, Member, Process, Queue, queue_place}
+use Rattle.rina_data.specs.Standing.{IsQos}
+use Rattle.rina_dif.specs.declared.dif.Dif.{Dif}
+use Rattle.rina_dif.specs.Building.{IsFree}
+use Rattle.rina_dif.specs.Planned.{links_of, settings_of}
+
+-- Binding one after the other
+
+-- the first of these flows can be bound, and when it was, whatever ports its ends got, so can the rest
+abbrev pub CanBindAll : Seen → List Fixed → Type 0
+CanBindAll s [] = Unit {0}
+CanBindAll s (f ∷ fs) = CanBind s f × ((p q : Port) (s' : Seen) → IsBound s f p q s' → CanBindAll s' fs)
+
+-- the facility of a flow takes SDUs of so many bytes on its cube
+abbrev pub Takes : Seen → ℕ → Fixed → Type 0
+Takes s size f = (facility : Fac) (cube : Offer) → slice_get s.facs f.fac ≡ Some facility → cube_in facility.cubes f.cube ≡ Some cube → size ≤ cube.largest
+
+-- these flows were bound in order, and nothing else; the ports of each are those of its two ends
+abbrev pub BindsAll : Seen → List Fixed → List (Port × Port) → Seen → Type 0
+BindsAll old [] [] new = new ≡ old
+BindsAll old (f ∷ fs) (p ∷ ps) new = (s : Seen) × IsBound old f p.0 p.1 s × BindsAll s fs ps new
+BindsAll old fs ps new = ⊥
+
+-- a new end has members as its application and its peer, and sent nothing
+pub record IsNewEnd (members : List Member) (e : End) : Type 0 where
+  pub app : IsMine members e.app
+  pub peer : IsMine members e.peer
+  pub sent : e.sent ≡ []
+
+-- the rank below after links were laid between these members: each end that was there is the same, and each other end
+-- is one of a member
+pub record IsLaid (members : List Member) (old new : Seen) : Type 0 where
+  pub clock : new.now ≡ old.now
+  pub later : IsLater old new
+  pub stays : (port : Port) (e : End) → end_of old port ≡ Some e → end_of new port ≡ Some e
+  pub fresh : (port : Port) (e : End) → end_of new port ≡ Some e → end_of old port ≡ None → IsNewEnd members e
+
+-- what a DIF that is the i-th of the stack asks of the rank below: its links can be bound there one after the other, on
+-- cubes that take its PDUs, and no end there has one of its members as application or peer
+pub record CanLay (plan : Plan) (i : ℕ) (below : Seen) : Type 0 where
+  pub binds : CanBindAll below (links_of plan i)
+  pub takes : (s : Settings) → settings_of plan i ≡ Some s → All (Takes below s.pdu) (links_of plan i)
+  pub free : (s : Settings) → settings_of plan i ≡ Some s → IsFree (config_of s) below
+
+-- its links were laid, all or the first of them
+abbrev pub Lays : Plan → ℕ → Seen → Seen → Type 0
+Lays plan i old new = (s : Settings) → settings_of plan i ≡ Some s → IsLaid (config_of s).members old new
+
+-- A new DIF
+
+-- the ports of both ends of each flow, in order
+abbrev pub ends_of : List (Port × Port) → List Port
+ends_of [] = []
+ends_of (p ∷ ps) = p.0 ∷ p.1 ∷ ends_of ps
+
+-- those at a node
+abbrev pub ports_at : ℕ → List Port → List Port
+ports_at node ports = filter (λ (p : Port). p.node == node) ports
+
+-- live links on these ports, numbered from a number on
+abbrev pub links_from : ℕ → List Port → List Link
+links_from n [] = []
+links_from n (p ∷ ps) = record { port = p; number = n; live = true } ∷ links_from (n + 1) ps
+
+-- each link has an empty queue for management and for each cube, and no PDU waits anywhere
+pub record HasEmptyQueues (g : Config) (process : Process) : Type 0 where
+  pub empty : (place : ℕ) (queue : Queue) → slice_get process.queues place ≡ Some queue → queue.items ≡ []
+  pub there : (place qos : ℕ) (link : Link) → slice_get process.links place ≡ Some link → IsQos g qos → IsSome (queue_place qos link.number process.queues)
+
+-- a new IPC process at a node, where these ports were drawn for the links of its DIF
+pub record IsNewProcess (g : Config) (node : ℕ) (ports : List Port) (process : Process) : Type 0 where
+  pub links : process.links ≡ links_from 0 (ports_at node ports)
+  pub queues : HasEmptyQueues g process
+  pub ledger : process.ledger ≡ []
+
+-- the i-th DIF of the stack when it was made: the settings of the plan, its links bound below in stack order, and no
+-- flows and names
+pub record IsNew (plan : Plan) (i : ℕ) (d : Dif) (old new : Seen) : Type 0 where
+  pub settings : settings_of plan i ≡ Some d.settings
+  pub clock : d.clock ≡ old.now
+  pub alive : d.failed ≡ false
+  pub ports : List (Port × Port)
+  pub bound : BindsAll old (links_of plan i) ports new
+  pub processes : (k : ℕ) (member : Kept) (p : IpcProcess) → slice_get d.settings.members k ≡ Some member → slice_get d.processes k ≡ Some p → IsNewProcess (config_of d.settings) member.node (ends_of ports) (process_of p)
+  pub ends : d.flows.journal.ends ≡ []
+  pub conns : d.flows.conns ≡ []
+  pub waiting : d.waiting ≡ []
+  pub names : d.names ≡ []
