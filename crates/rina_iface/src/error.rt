@@ -14,6 +14,8 @@ pub enum RegisterError {
     NoMember,
     /// The member would need `need` version counts, and has `left`.
     CountSpent { need: u32, left: u32 },
+    /// Registration and allocation over DIFs are not built yet.
+    Unbuilt,
 }
 
 /// Why a name was not taken back.
@@ -25,6 +27,8 @@ pub enum UnregisterError {
     NotThere,
     /// The member would need `need` version counts, and has `left`.
     CountSpent { need: u32, left: u32 },
+    /// Registration and allocation over DIFs are not built yet.
+    Unbuilt,
 }
 
 /// Why a flow was not asked for.
@@ -48,6 +52,8 @@ pub enum AllocateError {
     Busy { port: Port },
     /// The member would need `need` invoke ids or version counts, and has `left`.
     CountSpent { need: u32, left: u32 },
+    /// Registration and allocation over DIFs are not built yet.
+    Unbuilt,
 }
 
 /// Why an SDU was not sent.

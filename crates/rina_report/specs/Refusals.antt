@@ -51,6 +51,7 @@ refusal_word (refusals.Missing _) = codes "Missing"
 refusal_word (refusals.BadValue _) = codes "BadValue"
 refusal_word refusals.NoRank = codes "NoRank"
 refusal_word refusals.NotYours = codes "NotYours"
+refusal_word refusals.Unbuilt = codes "Unbuilt"
 
 -- the fields of a refusal
 unfoldable pub refusal_values : Refusal → List (List ℕ)

@@ -79,4 +79,6 @@ pub enum Refusal {
     NoRank,
     /// The application is an IPC process.
     NotYours,
+    /// Registration and allocation over DIFs are not built yet.
+    Unbuilt,
 }

@@ -94,6 +94,7 @@ carry_registers fac k a wire node app (Err names.Memory) a' c g = subst (Frame f
 carry_registers fac k a wire node app (Err names.Already) a' c g = subst (Frame fac k) (sym g.air) c
 carry_registers fac k a wire node app (Err names.NoMember) a' c g = subst (Frame fac k) (sym g.air) c
 carry_registers fac k a wire node app (Err (names.CountSpent n m)) a' c g = subst (Frame fac k) (sym g.air) c
+carry_registers fac k a wire node app (Err names.Unbuilt) a' c g = subst (Frame fac k) (sym g.air) c
 
 pub keeps_registers : (fac k : ℕ) (a : Air) (wire node : ℕ) (app : List ℕ) (r : Result (Unit {0}) RegisterError) (a' : Air) → IsCarrying fac k a → RegistersOn a wire node app r a' → IsCarrying fac k a'
 keeps_registers fac k a wire node app r a' c g = record { sound = sound_registers a wire node app r a' c.sound g; frame = carry_registers fac k a wire node app r a' c.frame g }
@@ -123,6 +124,7 @@ carry_allocates fac k a ask (Err (asks.NoIds used)) a' c g = subst (Frame fac k)
 carry_allocates fac k a ask (Err (asks.NoRoute dst)) a' c g = subst (Frame fac k) (sym g.air) c
 carry_allocates fac k a ask (Err (asks.Busy port)) a' c g = subst (Frame fac k) (sym g.air) c
 carry_allocates fac k a ask (Err (asks.CountSpent n m)) a' c g = subst (Frame fac k) (sym g.air) c
+carry_allocates fac k a ask (Err asks.Unbuilt) a' c g = subst (Frame fac k) (sym g.air) c
 
 pub keeps_allocates : (fac k : ℕ) (a : Air) (ask : Ask) (r : Result Port AllocateError) (a' : Air) → IsCarrying fac k a → AllocatesOn a ask r a' → IsCarrying fac k a'
 keeps_allocates fac k a ask r a' c g = record { sound = sound_allocates a ask r a' c.sound g; frame = carry_allocates fac k a ask r a' c.frame g }
@@ -248,6 +250,7 @@ carry_unregisters fac k a wire node app (Ok done) a' c g = subst (Frame fac k) (
 carry_unregisters fac k a wire node app (Err unregister.Memory) a' c g = subst (Frame fac k) (sym g) c
 carry_unregisters fac k a wire node app (Err unregister.NotThere) a' c g = subst (Frame fac k) (sym g.air) c
 carry_unregisters fac k a wire node app (Err (unregister.CountSpent n m)) a' c g = subst (Frame fac k) (sym g.air) c
+carry_unregisters fac k a wire node app (Err unregister.Unbuilt) a' c g = subst (Frame fac k) (sym g.air) c
 
 pub keeps_unregisters : (fac k : ℕ) (a : Air) (wire node : ℕ) (app : List ℕ) (r : Result (Unit {0}) UnregisterError) (a' : Air) → IsCarrying fac k a → UnregistersOn a wire node app r a' → IsCarrying fac k a'
 keeps_unregisters fac k a wire node app r a' c g = record { sound = sound_unregisters a wire node app r a' c.sound g; frame = carry_unregisters fac k a wire node app r a' c.frame g }

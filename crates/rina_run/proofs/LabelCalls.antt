@@ -50,6 +50,7 @@ registers V s fac node app (Err register.Memory) s' g = moves_same V s s' g
 registers V s fac node app (Err register.Already) s' g = moves_same V s s' g.1
 registers V s fac node app (Err register.NoMember) s' g = moves_same V s s' g.1
 registers V s fac node app (Err (register.CountSpent n k)) s' g = moves_same V s s' g.1
+registers V s fac node app (Err register.Unbuilt) s' g = moves_same V s s' g.1
 
 pub moves_register : {X : Type 0} (V : End → List X) (a : Air) (fac node : ℕ) (app : List ℕ) (r : Result (Unit {0}) RegisterError) (a' : Air) → RegistersOn a fac node app r a' → Moves V none (seen_of a) (seen_of a')
 moves_register V a fac node app r a' g = registers V (seen_of a) fac node app r (seen_of a') (seen_registers a fac node app r a' g)
@@ -61,6 +62,7 @@ unregisters V s fac node app (Ok done) s' g = subst (Moves V none s) (sym g.1.ne
 unregisters V s fac node app (Err unregister.Memory) s' g = moves_same V s s' g
 unregisters V s fac node app (Err unregister.NotThere) s' g = moves_same V s s' g.1
 unregisters V s fac node app (Err (unregister.CountSpent n k)) s' g = moves_same V s s' g.1
+unregisters V s fac node app (Err unregister.Unbuilt) s' g = moves_same V s s' g.1
 
 pub moves_unregister : {X : Type 0} (V : End → List X) (a : Air) (fac node : ℕ) (app : List ℕ) (r : Result (Unit {0}) UnregisterError) (a' : Air) → UnregistersOn a fac node app r a' → Moves V none (seen_of a) (seen_of a')
 moves_unregister V a fac node app r a' g = unregisters V (seen_of a) fac node app r (seen_of a') (seen_unregisters a fac node app r a' g)
@@ -132,6 +134,7 @@ refused_allocate a ask (allocate.NoIds used) a' g = ap seen_of g.air
 refused_allocate a ask (allocate.NoRoute dst) a' g = ap seen_of g.air
 refused_allocate a ask (allocate.Busy port) a' g = ap seen_of g.air
 refused_allocate a ask (allocate.CountSpent n k) a' g = ap seen_of g.air
+refused_allocate a ask allocate.Unbuilt a' g = ap seen_of g.air
 
 -- two ends were made, of which the first has the port, and neither has a journal yet
 pub record IsFlow (a : Air) (ask : Ask) (port : Port) (a' : Air) : Type 0 where

@@ -59,12 +59,14 @@ register_told register.Memory = None
 register_told register.Already = Some refusals.Already
 register_told register.NoMember = Some refusals.NoMember
 register_told (register.CountSpent need left) = Some (refusals.CountSpent need left)
+register_told register.Unbuilt = Some refusals.Unbuilt
 
 -- what `unregister` refused
 abbrev pub unregister_told : UnregisterError → Option Refusal
 unregister_told unregister.Memory = None
 unregister_told unregister.NotThere = Some refusals.NotThere
 unregister_told (unregister.CountSpent need left) = Some (refusals.CountSpent need left)
+unregister_told unregister.Unbuilt = Some refusals.Unbuilt
 
 -- what `free` refused
 abbrev pub free_told : FreeError → Option Refusal
@@ -82,6 +84,7 @@ allocate_told fac node (allocate.NoIds used) = Some (refusals.NoIds used)
 allocate_told fac node (allocate.NoRoute dst) = Some (refusals.NoRoute dst)
 allocate_told fac node (allocate.Busy port) = Some (refusals.Busy (port_note port.n fac node))
 allocate_told fac node (allocate.CountSpent need left) = Some (refusals.CountSpent need left)
+allocate_told fac node allocate.Unbuilt = Some refusals.Unbuilt
 
 -- what `send` refused
 abbrev pub send_told : Plan → SendError → Option Refusal

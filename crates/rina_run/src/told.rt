@@ -81,6 +81,7 @@ pub fn tell_register(error: RegisterError) -> Option<Refusal>
         RegisterError::Already => Some(Refusal::Already),
         RegisterError::NoMember => Some(Refusal::NoMember),
         RegisterError::CountSpent { need, left } => Some(Refusal::CountSpent { need, left }),
+        RegisterError::Unbuilt => Some(Refusal::Unbuilt),
     }
 }
 
@@ -92,6 +93,7 @@ pub fn tell_unregister(error: UnregisterError) -> Option<Refusal>
         UnregisterError::Memory => None,
         UnregisterError::NotThere => Some(Refusal::NotThere),
         UnregisterError::CountSpent { need, left } => Some(Refusal::CountSpent { need, left }),
+        UnregisterError::Unbuilt => Some(Refusal::Unbuilt),
     }
 }
 
@@ -135,6 +137,7 @@ pub fn tell_allocate(
             Ok(Some(Refusal::Busy { port }))
         }
         AllocateError::CountSpent { need, left } => Ok(Some(Refusal::CountSpent { need, left })),
+        AllocateError::Unbuilt => Ok(Some(Refusal::Unbuilt)),
     }
 }
 

@@ -53,6 +53,7 @@ fn word(why: &Refusal) -> &'static [u8]
         Refusal::BadValue { .. } => b"BadValue",
         Refusal::NoRank => b"NoRank",
         Refusal::NotYours => b"NotYours",
+        Refusal::Unbuilt => b"Unbuilt",
     }
 }
 
