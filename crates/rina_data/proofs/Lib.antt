@@ -1,5 +1,6 @@
 pub mod After
 pub mod Arrivals
+pub mod Binding
 pub mod Carries
 pub mod Carrying
 pub mod Clouds

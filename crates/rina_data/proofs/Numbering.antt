@@ -58,7 +58,7 @@ use Rattle.rina_data.proofs.Upper.{acknowledged_silent, forgotten_silent, ins_si
 
 -- ---- the ends
 
-abbrev counts : ℕ → End → ℕ
+abbrev pub counts : ℕ → End → ℕ
 counts node e = cond (eqb e.port.node node && is_asker e.role) 1 0
 
 counts_same : (node : ℕ) (a b : End) → b.port ≡ a.port → b.role ≡ a.role → counts node b ≡ counts node a

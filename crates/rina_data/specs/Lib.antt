@@ -1,3 +1,4 @@
+pub mod Binding
 pub mod Carried
 pub mod Cloud
 pub mod Configs
@@ -11,6 +12,7 @@ pub mod Incoming
 pub mod Laws
 pub mod Leaving
 pub mod Lifting
+pub mod NumberLaws
 pub mod Numbered
 pub mod Others
 pub mod Outgoing

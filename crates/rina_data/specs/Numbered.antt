@@ -45,7 +45,7 @@ pub record IsCounted (g : Config) (ends : List End) (e : End) : Type 0 where
   pub addr : member.addr ≡ e.flow.src
   pub count : e.flow.count < asked_at member.node ends
 
--- a PDU is one of management, or names a connection of the DIF as its source
+-- a PDU is one of management, which has CEP-id 0, or names a connection of the DIF as its source
 pub record IsOfConn (conns : List Ids) (pdu : Pdu) : Type 0 where
   pub at : ℕ
   pub ids : Ids
@@ -54,7 +54,7 @@ pub record IsOfConn (conns : List Ids) (pdu : Pdu) : Type 0 where
   pub scep : pdu.scep ≡ ids.scep
 
 abbrev pub IsFromHere : List Ids → Pdu → Type 0
-IsFromHere conns pdu = (pdu.qos ≡ 0) ⊎ IsOfConn conns pdu
+IsFromHere conns pdu = (pdu.scep ≡ 0) ⊎ IsOfConn conns pdu
 
 -- a DIF is numbered: so no PDU that may still come names the CEP-id of a port that is drawn next, and no flow has the
 -- name that is given next

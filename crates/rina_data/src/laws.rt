@@ -4,6 +4,7 @@
 //! came was sent, and came in time.
 ghost use Rattle.rina_data.specs.Partners.{EachIsMet};
 ghost use Rattle.rina_data.specs.Laws.{StartStands, SendsStand, PassesStand, OutStepsStand, InStepsStand, AcknowledgingStands, ResendingStands, ForgettingStands, EndingStands, StartCarries, SendsCarry, PassesCarry, OutStepsCarry, InStepsCarry, AcknowledgingCarries, ResendingCarries, ForgettingCarries, EndingCarries, TimeCarries, BesideCarries, SendsOfOthersCarry, PassesOfOthersCarry, TimeStands, BesideStands, SendsOfOthersStand, OutStepsOfOthersStand, InStepsOfOthersStand, CloudIsCovered, CloudLaw, StandingKeeps, SendsAreLater, PassesAreLater, OutStepsAreSilent, InStepsAreSilent, AcknowledgingIsSilent, ResendingIsSilent, ForgettingIsSilent, EndingIsSilent, TimeIsSilent, SendsAreSends, PassesArePasses, RelayingSettles, WritingOffSettles, StandingCanGo};
+ghost use Rattle.rina_data.specs.NumberLaws.{SendsNumber, PassesNumber, OutStepsNumber, InStepsNumber, AcknowledgingNumbers, ResendingNumbers, ForgettingNumbers, EndingNumbers, TimeNumbers, BesideNumbers, SendsOfOthersNumber, BindingStands, BindingCarries, BindingNumbers, BindingIsLater};
 
 /// Whatever an end of a kept facility got has a sender: its partner, of whose entries it is born.
 pub fn each_entry_has_a_sender()
@@ -93,4 +94,28 @@ pub fn decisions_are_what_becomes()
 /// takes whatever waits.
 pub fn what_stands_can_step()
     ensures { StandingCanGo }
+{}
+
+/// A DIF stays numbered: whatever is sent, relayed or lost, each PDU that may still come names a connection that
+/// stands.
+pub fn names_stay()
+    ensures send { SendsNumber }
+    ensures pass { PassesNumber }
+    ensures out { OutStepsNumber }
+    ensures in_ { InStepsNumber }
+    ensures acknowledge { AcknowledgingNumbers }
+    ensures resend { ResendingNumbers }
+    ensures forget { ForgettingNumbers }
+    ensures end { EndingNumbers }
+    ensures time { TimeNumbers }
+    ensures beside { BesideNumbers }
+    ensures others_send { SendsOfOthersNumber }
+{}
+
+/// A DIF that is numbered goes on to stand as both ends of a fixed flow are made with the names that are next.
+pub fn fixed_flows_may_be_made()
+    ensures stands { BindingStands }
+    ensures carries { BindingCarries }
+    ensures numbers { BindingNumbers }
+    ensures later { BindingIsLater }
 {}
