@@ -4,8 +4,8 @@ use Rattle.std.proofs.lemmas.Bool.{cases_lt}
 use Rattle.std.proofs.lemmas.Bool.Decides.{eqb_tells}
 use Rattle.std.proofs.lemmas.List.{get_or-replicate, length-replicate, get_or_past}
 use Rattle.std.proofs.lemmas.Option.{get_or_from_slice_get, slice_get_read}
-use Rattle.rina_timers.specs.Chains.{chain_of, link, led_by, set_link, Within, Chained, IsFirstChain}
-use Rattle.rina_timers.proofs.Linking.{taken_keeps, pushed_keeps}
+use Rattle.rina_timers.specs.Chains.{chain_of, link, led_by, set_link, Within, Chained, ChainedFrom, IsFirstSome, IsFirstChain}
+use Rattle.rina_timers.proofs.Linking.{told, taken_keeps, pushed_keeps}
 
 pub link_read : (xs : List (Option ℕ)) (i : ℕ) (x : Option ℕ) → i < length xs → x ≡ slice_index_or xs i x → x ≡ link xs i
 link_read xs i x h e = sym (get_or_from_slice_get xs i x None (slice_get_read xs (length xs) i x refl h e))
@@ -160,21 +160,37 @@ none_chained n =
       };
     }
 
--- the least chain that has a first id
-pub first_chain_told : (chain : List ℕ) (next prev first : List (Option ℕ)) → Chained chain next prev first → (c : ℕ) (x : Option ℕ) → 1 ≤ c → c < 514 → ((k : ℕ) → 1 ≤ k → k < c → link first k ≡ None) → x ≡ link first c → x ≢ None → IsFirstChain chain (Some c)
-first_chain_told chain next prev first l c None one few before is some = absurd (some refl)
-first_chain_told chain next prev first l c (Some id) one few before is some = (
-  (λ z. absurd (omega (arith, one, z))),
-  few,
-  (id, (l.linked.first_in c id (sym is)).0),
-  (λ m h. elim (cases_lt (chain_of chain m) c) [
-    | inl lt ↦ absurd (l.linked.first_any m h (before (chain_of chain m) (omega (arith, h)) lt))
-    | inr ge ↦ ge
-  ]),
-)
+pub none_low : (n low m : ℕ) → chain_of (replicate n 0) m ≢ 0 → low ≤ chain_of (replicate n 0) m
+none_low n low m h = absurd (h (zero_in n m))
 
-pub no_chain_told : (chain : List ℕ) (next prev first : List (Option ℕ)) → Chained chain next prev first → ((k : ℕ) → 1 ≤ k → k < 514 → link first k ≡ None) → IsFirstChain chain None
-no_chain_told chain next prev first l before id = elim (eqb_tells (chain_of chain id) 0) [
-  | inl is ↦ is.1
-  | inr not ↦ (let some = not.1 in absurd (l.linked.first_any id some (before (chain_of chain id) (omega (arith, some)) (l.within id))))
+-- no id stands before the low chain, as one leaves its chain or comes into one
+pub taken_low : (chain : List ℕ) (low : ℕ) → ((m : ℕ) → chain_of chain m ≢ 0 → low ≤ chain_of chain m) → (id : ℕ) → id < length chain → (m : ℕ) → chain_of (slice_set chain id 0) m ≢ 0 → low ≤ chain_of (slice_set chain id 0) m
+taken_low chain low least id there m some = elim (eqb_tells m id) [
+  | inl is ↦ (let e = get_or-set_same chain id 0 0 there in absurd (some (ap (chain_of (slice_set chain id 0)) is.1 ∙ e)))
+  | inr apart ↦ (let e = get_or-set_other chain id m 0 0 apart.1 in rw e (least m (λ z. some (e ∙ z))))
+]
+
+pub pushed_low : (chain : List ℕ) (low : ℕ) → ((m : ℕ) → chain_of chain m ≢ 0 → low ≤ chain_of chain m) → (id c : ℕ) → id < length chain → (low' : ℕ) → low' ≤ low → low' ≤ c → (m : ℕ) → chain_of (slice_set chain id c) m ≢ 0 → low' ≤ chain_of (slice_set chain id c) m
+pushed_low chain low least id c there low' under here m some = elim (eqb_tells m id) [
+  | inl is ↦ (let e = get_or-set_same chain id c 0 there in rw (is.1, e) here)
+  | inr apart ↦ (let e = get_or-set_other chain id m c 0 apart.1 in let old = least m (λ z. some (e ∙ z)) in rw e (omega (arith, under, old)))
+]
+
+-- no chain before the first place with a link has an id
+pub least_told : (chain : List ℕ) (next prev first : List (Option ℕ)) (low c : ℕ) → ChainedFrom chain next prev first low → IsFirstSome first low c → (m : ℕ) → chain_of chain m ≢ 0 → c ≤ chain_of chain m
+least_told chain next prev first low c l is m h = elim (cases_lt (chain_of chain m) c) [
+  | inl lt ↦ absurd (l.links.linked.first_any m h (is.before (chain_of chain m) (l.least m h) lt))
+  | inr ge ↦ ge
+]
+
+pub first_chain_told : (chain : List ℕ) (next prev first : List (Option ℕ)) (low c : ℕ) → ChainedFrom chain next prev first low → IsFirstSome first low c → c < 514 → IsFirstChain chain (Some c)
+first_chain_told chain next prev first low c l is few = elim (told (link first c)) [
+  | inl none ↦ absurd (is.here (omega (arith, few, l.links.first_long)) none)
+  | inr (id, top) ↦ (let (at, some) = l.links.linked.first_in c id top in (some, few, (id, at), least_told chain next prev first low c l is))
+]
+
+pub no_chain_told : (chain : List ℕ) (next prev first : List (Option ℕ)) (low c : ℕ) → ChainedFrom chain next prev first low → IsFirstSome first low c → 514 ≤ c → IsFirstChain chain None
+no_chain_told chain next prev first low c l is past id = elim (eqb_tells (chain_of chain id) 0) [
+  | inl same ↦ same.1
+  | inr not ↦ (let le = least_told chain next prev first low c l is id not.1 in let few = l.links.within id in absurd (omega (arith, le, few, past)))
 ]

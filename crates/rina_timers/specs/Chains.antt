@@ -19,6 +19,12 @@ IsFirstChain chains None = (id : ℕ) → chain_of chains id ≡ 0
 abbrev pub link : List (Option ℕ) → ℕ → Option ℕ
 link links i = slice_index_or links i None
 
+-- the first place from one on that has a link, the end where there is none
+pub record IsFirstSome (links : List (Option ℕ)) (from at : ℕ) : Type 0 where
+  pub before : (k : ℕ) → from ≤ k → k < at → link links k ≡ None
+  pub within : at ≤ length links
+  pub here : at < length links → link links at ≢ None
+
 -- the chain that an id leads, which has this one before it
 abbrev pub led_by : ℕ → Option ℕ → Option ℕ
 led_by c None = Some c
@@ -56,6 +62,11 @@ pub record Chained (chain : List ℕ) (next prev first : List (Option ℕ)) : Ty
   pub rank : ℕ → ℕ
   pub stamp : ℕ
   pub linked : Linked (chain_of chain) rank (link next) (link prev) (link first) stamp
+
+-- these links, and no id stands in a chain before one
+pub record ChainedFrom (chain : List ℕ) (next prev first : List (Option ℕ)) (low : ℕ) : Type 0 where
+  pub links : Chained chain next prev first
+  pub least : (id : ℕ) → chain_of chain id ≢ 0 → low ≤ chain_of chain id
 
 -- the tick at which a timer is set, 0 where it is not
 abbrev pub tick : Option ℕ → ℕ

@@ -1,6 +1,6 @@
 //! Chains of ids: each id stands in one of them, or in none.
 ghost use Rattle.std.specs.Prelude.{◌≡◌, ◌≢◌, ℕ, ◌<◌, ◌≤◌, List, Option, None, length, replicate, slice_set, IfOk};
-ghost use Rattle.rina_timers.specs.Chains.{chain_of, tick_of, is_before, led_by, set_link, Within, IsMember, IsFirstChain, IsEarliestOf};
+ghost use Rattle.rina_timers.specs.Chains.{chain_of, tick_of, is_before, led_by, set_link, Within, IsMember, IsFirstSome, IsFirstChain, IsEarliestOf};
 
 use rina_base::{Memory, Tick};
 use std::alloc::Global;
@@ -20,17 +20,19 @@ pub(crate) struct Chains {
     prev: Vec<Option<u32>>,
     /// The first id of each chain.
     first: Vec<Option<u32>>,
+    /// No id stands in a chain before this one.
+    low: usize,
 }
 
 impl Model for Chains {
     ghost use Rattle.std.specs.Prelude.{ℕ, List};
-    ghost use Rattle.rina_timers.specs.Chains.{Chained};
+    ghost use Rattle.rina_timers.specs.Chains.{ChainedFrom};
 
     ghost Value = { List ℕ };
 
     ghost view = { λ c. c.chain.items };
 
-    ghost invariant = { λ c. Chained c.chain.items c.next.items c.prev.items c.first.items };
+    ghost invariant = { λ c. ChainedFrom c.chain.items c.next.items c.prev.items c.first.items c.low };
 }
 
 /// So many links that lead nowhere.
@@ -38,6 +40,18 @@ fn no_links(alloc: Global, size: usize) -> Result<Vec<Option<u32>>, Memory>
     ensures { IfOk result (λ v. v.items ≡ replicate size None) }
 {
     Ok(vec![in alloc; None; size]?)
+}
+
+/// The first place from one on that has a link, the end where there is none.
+fn first_some(links: &[Option<u32>], from: usize) -> usize
+    ensures { IsFirstSome links.now from result }
+{
+    for at in from..links.len() {
+        if links[at].is_some() {
+            return at;
+        }
+    }
+    links.len()
 }
 
 /// Writes a link at an id, where there is one.
@@ -74,6 +88,7 @@ impl Chains {
             next,
             prev,
             first,
+            low: CHAINS,
         })
     }
 
@@ -124,6 +139,7 @@ impl Chains {
         self.next[at] = next;
         self.first[chain as usize] = Some(id);
         self.chain[at] = chain;
+        self.low = self.low.min(chain as usize);
     }
 
     /// Moves an id to a chain, or to none.
@@ -140,16 +156,18 @@ impl Chains {
         }
     }
 
-    /// The least number of a chain in which an id stands, None exactly where there is none.
-    pub(crate) fn first_chain(&self) -> Option<u32>
-        ensures { IsFirstChain self.now result }
+    /// The least number of a chain in which an id stands, None exactly where there is none. It looks on from where it
+    /// found one last, or from the least chain that an id came into since.
+    pub(crate) fn first_chain(&mut self) -> Option<u32>
+        ensures chain { IsFirstChain self.old result }
+        ensures same { self.new ≡ self.old }
     {
-        for chain in 1..CHAINS {
-            if self.first[chain].is_some() {
-                return Some(chain as u32);
-            }
+        self.low = first_some(&self.first, self.low);
+        if self.low < CHAINS {
+            Some(self.low as u32)
+        } else {
+            None
         }
-        None
     }
 
     /// Of the ids of a chain that of the least tick, and of those the least.

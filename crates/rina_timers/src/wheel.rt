@@ -72,9 +72,15 @@ fn spread(chains: &mut Chains, times: &[Option<Tick>], clock: Tick, chain: u32)
 }
 
 /// The first slot with timers, and its first tick, where that has come and no timer is due yet.
-fn next_slot(chains: &Chains, times: &[Option<Tick>], clock: Tick, now: Tick) -> Option<(u32, Tick)>
-    requires { IsPlaced times.now chains.now clock }
-    ensures { MatchOption result (IsReached times.now chains.now now) (λ r. IsNextSlot times.now chains.now clock now r.0 r.1) }
+fn next_slot(
+    chains: &mut Chains,
+    times: &[Option<Tick>],
+    clock: Tick,
+    now: Tick,
+) -> Option<(u32, Tick)>
+    requires { IsPlaced times.now chains.old clock }
+    ensures slot { MatchOption result (IsReached times.now chains.old now) (λ r. IsNextSlot times.now chains.old clock now r.0 r.1) }
+    ensures same { chains.new ≡ chains.old }
 {
     let chain = chains.first_chain()?;
     if chain == DUE {

@@ -7,7 +7,7 @@ use Rattle.rina_timers.proofs.chains.Chains.earliest.Goals.{then-is_before, else
 
 pub loop-init : goal.loop-init
 loop-init c =
-    let l = c.self.invariant in
+    let l = c.self.invariant.links in
     let read = link_read c.self.inside.first.items c.args.chain c.index.result.now (omega (arith, c.requires.within, l.first_long)) c.index.ensures in
     walk_begins _ _ _ _ c.args.times.now l c.args.chain c.in_ok-id.id c.requires.some (sym read ∙ c.in_ok-id.was)
 
