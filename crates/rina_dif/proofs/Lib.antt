@@ -1,6 +1,8 @@
 pub mod Bare
 pub mod Barred
+pub mod Clocked
 pub mod Facing
+pub mod Failing
 pub mod Keeping
 pub mod Laid
 pub mod Lapsed
@@ -8,6 +10,7 @@ pub mod Leaves
 pub mod Moves
 pub mod Owning
 pub mod Passed
+pub mod Posted
 pub mod Putting
 pub mod Sent
 pub mod Settling

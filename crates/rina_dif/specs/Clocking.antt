@@ -1,6 +1,7 @@
 -- The clock steps of a DIF.
-use Rattle.std.specs.Prelude.{◌≡◌, ℕ, ◌+◌, ◌*◌, ◌<◌, ◌≤◌, ◌⊎◌, List, length, slice_get, Option, Some, Result, Ok, Err}
+use Rattle.std.specs.Prelude.{◌≡◌, ℕ, ◌+◌, ◌*◌, ◌<◌, ◌≤◌, ◌⊎◌, nat_le, if◌then◌else◌, List, length, slice_get, Option, Some, None, Result, Ok, Err}
 use Rattle.rina_base.specs.declared.cause.Cause.{Cause}
+use Rattle.rina_conn.specs.declared.conn.Conn.{Conn}
 use Rattle.rina_cube.specs.declared.Cube.{Cube}
 use Rattle.rina_cube.specs.declared.Kind.TheVariants.{Reliable}
 use Rattle.rina_iface.specs.declared.ends.End.{End}
@@ -9,28 +10,36 @@ use Rattle.rina_iface.specs.declared.state.Fail.TheVariants.{GaveUp as IsGaveUp}
 use Rattle.rina_iface.specs.declared.state.PortState.TheVariants.{Allocated, Failed}
 use Rattle.rina_iface.specs.Journal.{At}
 use Rattle.rina_iface.specs.Seen.{Seen}
-use Rattle.rina_law.specs.Direction.{Direction}
-use Rattle.rina_law.specs.Sender.{member}
+use Rattle.rina_law.specs.declared.entry.Entry.{Entry}
+use Rattle.rina_law.specs.Direction.{Direction, start_of}
 use Rattle.rina_data.specs.declared.step.ClockStep.{ClockStep}
 use Rattle.rina_data.specs.declared.step.ClockStep.TheVariants as step
 use Rattle.rina_data.specs.declared.step.StepError.{StepError}
 use Rattle.rina_data.specs.declared.step.StepError.TheVariants.{Memory, NoIpc}
 use Rattle.rina_data.specs.Configs.{config_of}
-use Rattle.rina_data.specs.Dif.{cube_by}
+use Rattle.rina_data.specs.Dif.{DifSeen, cube_by}
 use Rattle.rina_data.specs.Ending.{IsGivenUp}
 use Rattle.rina_data.specs.Ids.{Ids}
 use Rattle.rina_data.specs.Sending.{home}
+use Rattle.rina_data.specs.Standing.{IsConn}
 use Rattle.rina_data.specs.Timely.{IsAcknowledged, IsForgotten, IsResent}
 use Rattle.rina_flows.specs.declared.timely.Item.{Item}
 use Rattle.rina_flows.specs.declared.timely.Item.TheVariants.{Ack, Again, GiveUp, Gone}
+use Rattle.rina_flows.specs.Calls.{Tells}
 use Rattle.rina_flows.specs.Tied.{conns_of}
 use Rattle.rina_flows.specs.Timely.{IsDue}
+use Rattle.rina_dif.specs.declared.clocking.Next.{Next}
+use Rattle.rina_dif.specs.declared.clocking.Turn.{Turn}
 use Rattle.rina_dif.specs.declared.dif.Dif.{Dif}
 use Rattle.rina_dif.specs.Holding.{Holds}
 use Rattle.rina_dif.specs.Shown.{seen_of}
 use Rattle.rina_dif.specs.Steps.{AtHome}
 
 -- What is due at a node
+
+pub record IsHere (end : End) (node : ℕ) : Type 0 where
+  pub allocated : end.state ≡ Allocated
+  pub node_is : end.port.node ≡ node
 
 -- an allocated end at this node has this place
 pub record IsEndAt (d : Dif) (node at : ℕ) : Type 0 where
@@ -68,50 +77,83 @@ pub record IsTurn (item : Item) (d : Dif) (lines : List Direction) (node at cep 
   pub before : NoneBefore item d lines node
   pub first : IsFirstDue item d lines node at cep
 
+-- the CEP-id at a place is that of its connection
+pub record IsIn (conns : List Conn) (at : ℕ) (turn : Turn) : Type 0 where
+  pub place_is : turn.place ≡ at
+  pub cep_is : Tells (λ k. turn.cep ≡ k.sending.form.peer.scep) at conns
+
+-- of two ends the one of the lesser CEP-id
+abbrev pub earlier : Option Turn → Turn → Turn
+earlier None other = other
+earlier (Some first) other = if nat_le first.cep other.cep then first else other
+
+-- none of the items is due
 pub record IsIdle (d : Dif) (lines : List Direction) (node : ℕ) : Type 0 where
   pub gone : NoneDue Gone d lines node
   pub give_up : NoneDue GiveUp d lines node
   pub ack : NoneDue Ack d lines node
   pub again : NoneDue Again d lines node
 
+-- the end that is found
+abbrev pub FindsFirst : Item → Dif → List Direction → ℕ → Option Turn → Type 0
+FindsFirst item d lines node None = NoneDue item d lines node
+FindsFirst item d lines node (Some turn) = IsFirstDue item d lines node turn.place turn.cep
+
+-- the item that is found, and its end
+abbrev pub FindsNext : Dif → List Direction → ℕ → Option Next → Type 0
+FindsNext d lines node None = IsIdle d lines node
+FindsNext d lines node (Some next) = IsTurn next.item d lines node next.turn.place next.turn.cep
+
 -- What is done
 
-pub record StepsGone (d : Dif) (lines : List Direction) (node cep : ℕ) (d' : Dif) (lines' : List Direction) : Type 0 where
+pub record StepsGone (d : Dif) (lines : List Direction) (node cep : ℕ) (new : DifSeen) (lines' : List Direction) : Type 0 where
   pub at : ℕ
   pub turn : IsTurn Gone d lines node at cep
-  pub forgotten : IsForgotten (seen_of d) lines at (seen_of d') lines'
+  pub forgotten : IsForgotten (seen_of d) lines at new lines'
 
-pub record StepsGaveUp (d : Dif) (lines : List Direction) (node cep number : ℕ) (d' : Dif) (lines' : List Direction) : Type 0 where
+pub record StepsGaveUp (d : Dif) (lines : List Direction) (node cep number : ℕ) (new : DifSeen) (lines' : List Direction) : Type 0 where
   pub at : ℕ
   pub turn : IsTurn GiveUp d lines node at cep
-  pub given_up : IsGivenUp (seen_of d) lines at number (seen_of d')
+  pub given_up : IsGivenUp (seen_of d) lines at number new
   pub lines_are : lines' ≡ lines
 
-pub record StepsAck (d : Dif) (lines : List Direction) (node cep : ℕ) (d' : Dif) (lines' : List Direction) : Type 0 where
+pub record StepsAck (d : Dif) (lines : List Direction) (node cep : ℕ) (new : DifSeen) (lines' : List Direction) : Type 0 where
   pub at : ℕ
   pub turn : IsTurn Ack d lines node at cep
   pub cause : Option Cause
-  pub acknowledged : IsAcknowledged (seen_of d) lines at cause (seen_of d') lines'
+  pub acknowledged : IsAcknowledged (seen_of d) lines at cause new lines'
 
-pub record StepsAgain (d : Dif) (lines : List Direction) (node cep number : ℕ) (d' : Dif) (lines' : List Direction) : Type 0 where
+pub record StepsAgain (d : Dif) (lines : List Direction) (node cep number : ℕ) (new : DifSeen) (lines' : List Direction) : Type 0 where
   pub at : ℕ
   pub turn : IsTurn Again d lines node at cep
   pub cause : Option Cause
-  pub resent : IsResent (seen_of d) lines at cause (seen_of d') lines'
+  pub resent : IsResent (seen_of d) lines at cause new lines'
   pub number_is : number ≡ resent.number
 
 -- what the first item that is due does, or Idle where none is
-abbrev pub Steps : Dif → List Direction → ℕ → ClockStep → Dif → List Direction → Type 0
-Steps d lines node step.Idle d' lines' = IsIdle d lines node × (seen_of d' ≡ seen_of d) × (lines' ≡ lines)
-Steps d lines node (step.Gone cep) d' lines' = StepsGone d lines node cep d' lines'
-Steps d lines node (step.GaveUp num) d' lines' = StepsGaveUp d lines node num.cep num.seq d' lines'
-Steps d lines node (step.Ack cep) d' lines' = StepsAck d lines node cep d' lines'
-Steps d lines node (step.Again num) d' lines' = StepsAgain d lines node num.cep num.seq d' lines'
-Steps d lines node other d' lines' = ⊥
+abbrev pub Steps : Dif → List Direction → ℕ → ClockStep → DifSeen → List Direction → Type 0
+Steps d lines node step.Idle new lines' = IsIdle d lines node × (new ≡ seen_of d) × (lines' ≡ lines)
+Steps d lines node (step.Gone cep) new lines' = StepsGone d lines node cep new lines'
+Steps d lines node (step.GaveUp num) new lines' = StepsGaveUp d lines node num.cep num.seq new lines'
+Steps d lines node (step.Ack cep) new lines' = StepsAck d lines node cep new lines'
+Steps d lines node (step.Again num) new lines' = StepsAgain d lines node num.cep num.seq new lines'
+Steps d lines node other new lines' = ⊥
+
+-- and the DIF holds after it
+pub record HasStepped (d : Dif) (lines : List Direction) (below : Seen) (node : ℕ) (done : ClockStep) (d' : Dif) : Type 0 where
+  pub lines' : List Direction
+  pub does : Steps d lines node done (seen_of d') lines'
+  pub holds : Holds d' lines' below
+
+-- or memory was wanted
+abbrev pub StepsHere : Dif → List Direction → Seen → ℕ → Result ClockStep StepError → Dif → Type 0
+StepsHere d lines below node (Ok done) d' = HasStepped d lines below node done d'
+StepsHere d lines below node (Err Memory) d' = (seen_of d' ≡ seen_of d) × Holds d' lines below
+StepsHere d lines below node (Err other) d' = ⊥
 
 -- at the IPC process of this node
 abbrev pub StepsOk : Dif → List Direction → ℕ → Result ClockStep StepError → Dif → List Direction → Type 0
-StepsOk d lines node (Ok done) d' lines' = Steps d lines node done d' lines'
+StepsOk d lines node (Ok done) d' lines' = Steps d lines node done (seen_of d') lines'
 StepsOk d lines node (Err e) d' lines' = ⊥
 
 -- what `clock_step` does at a node; nothing changes below
@@ -127,11 +169,12 @@ pub record ClockSteps (d : Dif) (lines : List Direction) (below : Seen) (node : 
 
 -- Why a flow fails
 
--- an end fails so: a number of its sender was first sent at this tick, is unacknowledged, and as much time has gone by
--- as an acknowledgement of any of its copies may take to come
+-- an end fails so: a piece of an SDU that it sent was first sent at this tick, is unacknowledged, and as much time has
+-- gone by as an acknowledgement of any of its copies may take to come
 pub record IsLate (d : Dif) (lines : List Direction) (at : ℕ) (fail : Fail) : Type 0 where
+  pub end : End
   pub ids : Ids
-  pub are_ids : slice_get (conns_of d.flows.conns) at ≡ Some ids
+  pub is_conn : IsConn d.flows.journal.ends (conns_of d.flows.conns) at end ids
   pub cube : Cube
   pub is_cube : cube_by ids.qos (config_of d.settings).cubes ≡ Some cube
   pub line : Direction
@@ -140,9 +183,13 @@ pub record IsLate (d : Dif) (lines : List Direction) (at : ℕ) (fail : Fail) : 
   pub first : ℕ
   pub is : fail ≡ IsGaveUp (record { cep = ids.scep; seq = number }) first d.clock
   pub reliable : cube.kind ≡ Reliable
-  pub sent : number < length line.line.sender.run
-  pub first_is : first ≡ (member line.line.sender.run number).first
   pub unacknowledged : line.line.sender.acked ≤ number
+  pub made : number < length line.line.sender.run
+  pub place : ℕ
+  pub sdu : Entry
+  pub is_sdu : slice_get end.sent place ≡ Some sdu
+  pub num : sdu.num ≡ record { cep = ids.scep; seq = start_of line.line.sender.run number }
+  pub tick : sdu.tick ≡ first
   pub late : first + cube.r + cube.a + 2 * cube.mpl ≤ d.clock
 
 -- an end that has failed did so before, or fails now, for that cause alone

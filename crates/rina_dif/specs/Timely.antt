@@ -1,6 +1,7 @@
 -- What comes with time to a DIF.
 use Rattle.std.specs.Prelude.{◌≡◌, ℕ, Bool, true, false, List, slice_get, slice_set, Option, Some, None, Result, Ok, Err}
 use Rattle.rina_account.specs.declared.ledger.Off.{Off}
+use Rattle.rina_base.specs.declared.cause.Cause.{Cause}
 use Rattle.rina_base.specs.declared.memory.Memory.{Memory}
 use Rattle.rina_base.specs.declared.number.Num.{Num}
 use Rattle.rina_iface.specs.declared.ends.End.{End}
@@ -9,14 +10,18 @@ use Rattle.rina_iface.specs.Journal.{At}
 use Rattle.rina_iface.specs.Seen.{Seen}
 use Rattle.rina_law.specs.Direction.{Direction}
 use Rattle.rina_data.specs.declared.process.IpcProcess.{IpcProcess}
+use Rattle.rina_data.specs.declared.step.Settled.{Settled}
+use Rattle.rina_data.specs.Cloud.{Hop}
 use Rattle.rina_data.specs.Configs.{config_of}
+use Rattle.rina_data.specs.Deciding.{Forwards, process_of}
 use Rattle.rina_data.specs.Ending.{IsGivenUp}
 use Rattle.rina_data.specs.Sending.{home}
-use Rattle.rina_data.specs.Timely.{IsForgotten}
+use Rattle.rina_data.specs.Timely.{IsAcknowledged, IsForgotten, IsResent}
 use Rattle.rina_flows.specs.declared.flows.Flows.{Flows}
 use Rattle.rina_flows.specs.Calls.{Tells}
 use Rattle.rina_flows.specs.Delivering.{HoldsGone}
-use Rattle.rina_flows.specs.Timely.{GivesNoneUp}
+use Rattle.rina_flows.specs.declared.timely.Item.TheVariants.{Ack, Again}
+use Rattle.rina_flows.specs.Timely.{GivesNoneUp, IsDue}
 use Rattle.rina_dif.specs.declared.dif.Dif.{Dif}
 use Rattle.rina_dif.specs.Holding.{Holds}
 use Rattle.rina_dif.specs.Shown.{seen_of}
@@ -57,3 +62,39 @@ abbrev pub GivesUpAs : Dif → List Direction → Seen → ℕ → Result (Optio
 GivesUpAs d lines below at (Ok (Some num)) d' = GivesUp d lines below at num d'
 GivesUpAs d lines below at (Ok None) d' = GivesNoneUp (config_of d.settings) at d.flows.conns lines × (d' ≡ d)
 GivesUpAs d lines below at (Err e) d' = d' ≡ d
+
+-- A PDU that is made beside a send
+
+-- the IPC process at a place puts it into the queue of its next hop, or writes it off
+abbrev pub ForwardsAt : ℕ → Hop → Result Settled Memory → ℕ → List IpcProcess → List IpcProcess → Type 0
+ForwardsAt now hop result at old new = (p : IpcProcess) → slice_get old at ≡ Some p → (p' : IpcProcess) × Forwards p.queues.cap (process_of p) now hop result (process_of p') × (p'.queues.cap ≡ p.queues.cap) × (new ≡ slice_set old at p')
+
+-- An acknowledgement that is made
+
+pub record Acknowledges (d : Dif) (lines : List Direction) (below : Seen) (at : ℕ) (d' : Dif) : Type 0 where
+  pub lines' : List Direction
+  pub cause : Option Cause
+  pub acknowledged : IsAcknowledged (seen_of d) lines at cause (seen_of d') lines'
+  pub holds : Holds d' lines' below
+
+-- one is made, or none is due
+abbrev pub AcknowledgesAs : Dif → List Direction → Seen → ℕ → Result Bool Memory → Dif → Type 0
+AcknowledgesAs d lines below at (Ok true) d' = Acknowledges d lines below at d'
+AcknowledgesAs d lines below at (Ok false) d' = (IsDue Ack (config_of d.settings) d.clock d.flows lines at → ⊥) × (d' ≡ d)
+AcknowledgesAs d lines below at (Err e) d' = (seen_of d' ≡ seen_of d) × Holds d' lines below
+
+-- A number that is sent again
+
+pub record SendsAgain (d : Dif) (lines : List Direction) (below : Seen) (at : ℕ) (num : Num) (d' : Dif) : Type 0 where
+  pub lines' : List Direction
+  pub cause : Option Cause
+  pub resent : IsResent (seen_of d) lines at cause (seen_of d') lines'
+  pub cep : num.cep ≡ resent.ids.scep
+  pub seq : num.seq ≡ resent.number
+  pub holds : Holds d' lines' below
+
+-- one is, or none is due
+abbrev pub SendsAgainAs : Dif → List Direction → Seen → ℕ → Result (Option Num) Memory → Dif → Type 0
+SendsAgainAs d lines below at (Ok (Some num)) d' = SendsAgain d lines below at num d'
+SendsAgainAs d lines below at (Ok None) d' = (IsDue Again (config_of d.settings) d.clock d.flows lines at → ⊥) × (d' ≡ d)
+SendsAgainAs d lines below at (Err e) d' = (seen_of d' ≡ seen_of d) × Holds d' lines below

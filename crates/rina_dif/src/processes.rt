@@ -10,7 +10,7 @@ ghost use Rattle.rina_data.specs.Hops.{hop_of};
 ghost use Rattle.rina_dif.specs.Sending.{AreOf, HasRoomFor, Puts, queued};
 ghost use Rattle.rina_dif.specs.Steps.{AsksAt, Leaves, WillGo};
 ghost use Rattle.rina_dif.specs.Taking.{ArrivesTo, DecidesAt, NotesAt, RoutesAt};
-ghost use Rattle.rina_dif.specs.Timely.{WithLedger};
+ghost use Rattle.rina_dif.specs.Timely.{ForwardsAt, WithLedger};
 ghost use Rattle.rina_flows.specs.Delivering.{ForgetsIn};
 ghost use Rattle.rina_flows.specs.Timely.{GivesUpIn};
 
@@ -138,6 +138,23 @@ impl Processes {
     {
         let process = &mut self.items[at];
         process.settle(alloc, now, addr, since, hop)
+    }
+
+    /// Puts a PDU, made at tick `now`, into the queue of its next hop at the IPC process of a place, or writes it off.
+    /// Without memory nothing changes.
+    pub fn forward(
+        &mut self,
+        alloc: Global,
+        at: usize,
+        now: Tick,
+        hop: &HopView<'_>,
+    ) -> Result<Settled, Memory>
+        requires at { at < length self.old }
+        requires routed { RoutesAt (hop_of hop.now) at self.old }
+        ensures { ForwardsAt now (hop_of hop.now) result at self.old self.new }
+    {
+        let process = &mut self.items[at];
+        process.forward(alloc, now, hop)
     }
 
     /// Writes a PDU off in the ledger of the IPC process at a place.

@@ -206,7 +206,7 @@ ack_cases true a None e = absurd cc
 ack_cases false a (Some x) e = absurd cc
 ack_cases false a None e = (λ h. h, λ h. h)
 
-receiver_of : (g : Config) (now at from : ℕ) (ends : List End) (conns : List Conn) (lines : List Direction) (end : End) (conn : Conn) (line : Direction) → IsTied g now ends conns lines → IsAt ends conns at end conn → IsInboundAt ends lines end from line → IsReceiving (inward g conn) now (ids_of conn) conn line → IsReceiver (inward g conn) line conn
+pub receiver_of : (g : Config) (now at from : ℕ) (ends : List End) (conns : List Conn) (lines : List Direction) (end : End) (conn : Conn) (line : Direction) → IsTied g now ends conns lines → IsAt ends conns at end conn → IsInboundAt ends lines end from line → IsReceiving (inward g conn) now (ids_of conn) conn line → IsReceiver (inward g conn) line conn
 receiver_of g now at from ends conns lines end conn line t is inb h =
     let clock = clock_of g now ends conns lines end from line t inb in
     let here = beside ends lines at end t.lines_alike is.end_is in

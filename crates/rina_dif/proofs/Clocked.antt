@@ -1,0 +1,228 @@
+-- The first item that is due at a node, and what it does.
+use Rattle.std.proofs.Common.{◌≡◌, ◌≢◌, ◌∙◌, ℕ, ◌+◌, ◌*◌, ◌<◌, ◌≤◌, ◌⊎◌, Bool, true, false, cond, leb, leb-true, leb-false, List, length, map, slice_get, slice_set, Option, Some, None, Result, Ok, Err, IsTrue, refl, sym, ap, subst, arith, inl, inr}
+use Rattle.std.specs.Prelude.{◌↔◌}
+use Rattle.std.proofs.lemmas.Bool.{cases_lt, false≢true}
+use Rattle.std.proofs.lemmas.Option.{slice_get_within}
+use Rattle.rina_base.specs.declared.memory.Memory.{Memory}
+use Rattle.rina_base.specs.declared.number.Num.{Num}
+use Rattle.rina_conn.specs.declared.conn.Conn.{Conn}
+use Rattle.rina_iface.specs.declared.ends.End.{End}
+use Rattle.rina_iface.specs.Journal.{At}
+use Rattle.rina_iface.specs.Seen.{Seen}
+use Rattle.rina_law.specs.Direction.{Direction}
+use Rattle.rina_law.specs.Sender.{Sender, given_up}
+use Rattle.rina_data.specs.declared.step.ClockStep.{ClockStep}
+use Rattle.rina_data.specs.declared.step.ClockStep.TheVariants as step
+use Rattle.rina_data.specs.declared.step.StepError.{StepError}
+use Rattle.rina_data.specs.declared.step.StepError.TheVariants as why
+use Rattle.rina_data.specs.Configs.{config_of}
+use Rattle.rina_data.specs.Ids.{Ids}
+use Rattle.rina_data.specs.Sending.{home}
+use Rattle.rina_data.proofs.Finding.{beside, there}
+use Rattle.rina_flows.specs.declared.timely.Item.{Item}
+use Rattle.rina_flows.specs.declared.timely.Item.TheVariants.{Ack, Again, GiveUp, Gone}
+use Rattle.rina_flows.specs.Calls.{Tells}
+use Rattle.rina_flows.specs.Tied.{conns_of, ids_of, outward}
+use Rattle.rina_flows.specs.Timely.{DueIn, IsDue}
+use Rattle.rina_flows.proofs.Framed.{ids_at}
+use Rattle.rina_dif.specs.declared.clocking.Next.{Next}
+use Rattle.rina_dif.specs.declared.clocking.Turn.{Turn}
+use Rattle.rina_dif.specs.declared.dif.Dif.{Dif}
+use Rattle.rina_dif.specs.Clocking.{FindsFirst, FindsNext, HasStepped, IsDueAt, IsFirstDue, IsIdle, IsIn, IsTurn, NoneDue, Steps, StepsHere, earlier}
+use Rattle.rina_dif.specs.Holding.{Holds}
+use Rattle.rina_dif.specs.Shown.{seen_of}
+use Rattle.rina_dif.specs.Timely.{AcknowledgesAs, ForgetsAs, GivesUpAs, IsHomeEnd, SendsAgainAs}
+
+same_some : {X : Type 0} (o : Option X) (a b : X) → o ≡ Some a → o ≡ Some b → a ≡ b
+same_some o a b h g = cc
+
+-- The end of the least CEP-id, of those at the places before n
+
+pub record IsFirstBelow (item : Item) (d : Dif) (lines : List Direction) (node n : ℕ) (turn : Turn) : Type 0 where
+  pub due : IsDueAt item d lines node turn.place
+  pub ids : Ids
+  pub are_ids : slice_get (conns_of d.flows.conns) turn.place ≡ Some ids
+  pub cep_is : turn.cep ≡ ids.scep
+  pub least : (other : ℕ) (its : Ids) → other < n → IsDueAt item d lines node other → slice_get (conns_of d.flows.conns) other ≡ Some its → ids.scep ≤ its.scep
+
+abbrev pub FindsBelow : Item → Dif → List Direction → ℕ → ℕ → Option Turn → Type 0
+FindsBelow item d lines node n None = (at : ℕ) → at < n → IsDueAt item d lines node at → ⊥
+FindsBelow item d lines node n (Some turn) = IsFirstBelow item d lines node n turn
+
+abbrev pub Found : Item → Dif → ℕ → ℕ → Option Turn → Type 0
+Found item d node n first = (lines : List Direction) (below : Seen) → Holds d lines below → FindsBelow item d lines node n first
+
+pub none_found : (item : Item) (d : Dif) (node : ℕ) → Found item d node 0 None
+none_found item d node lines below h at lt due = absurd (omega (arith, lt))
+
+-- one more place is looked at
+
+the_ids : (d : Dif) (n : ℕ) (turn : Turn) → n < length d.flows.conns → IsIn d.flows.conns n turn → (ids : Ids) × (slice_get (conns_of d.flows.conns) n ≡ Some ids) × (turn.cep ≡ ids.scep)
+the_ids d n turn lt here = (let k = there d.flows.conns n lt in (ids_of k.0, ids_at d.flows.conns n k.0 k.1, here.cep_is k.0 k.1))
+
+before_or_at : (other n : ℕ) → other < n + 1 → (other < n) ⊎ (other ≡ n)
+before_or_at other n lt = elim (cases_lt other n) [ inl l ↦ inl l | inr g ↦ inr (omega (arith, lt, g)) ]
+
+lesser : (item : Item) (d : Dif) (lines : List Direction) (node n : ℕ) (first turn : Turn) (b : Bool) → leb first.cep turn.cep ≡ b → IsFirstBelow item d lines node n first → IsDueAt item d lines node n → n < length d.flows.conns → IsIn d.flows.conns n turn → IsFirstBelow item d lines node (n + 1) (cond b first turn)
+lesser item d lines node n first turn true e f due lt here =
+    let k = the_ids d n turn lt here in
+    let le : first.cep ≤ turn.cep = leb-true first.cep turn.cep e in
+    record {
+      due = f.due;
+      ids = f.ids;
+      are_ids = f.are_ids;
+      cep_is = f.cep_is;
+      least = λ other its before is_due is. elim (before_or_at other n before) [
+        | inl l ↦ f.least other its l is_due is
+        | inr same ↦
+            (let its_is : its ≡ k.0 = same_some (slice_get (conns_of d.flows.conns) n) its k.0 (ap (slice_get (conns_of d.flows.conns)) (sym same) ∙ is) k.1 in
+            let cep : its.scep ≡ k.0.scep = ap (λ (x : Ids). x.scep) its_is in
+            let own = f.cep_is in
+            let far = k.2 in
+            omega (arith, le, cep, own, far))
+      ];
+    }
+lesser item d lines node n first turn false e f due lt here =
+    let k = the_ids d n turn lt here in
+    let gt : turn.cep < first.cep = leb-false first.cep turn.cep e in
+    record {
+      due = subst (IsDueAt item d lines node) (sym here.place_is) due;
+      ids = k.0;
+      are_ids = ap (slice_get (conns_of d.flows.conns)) here.place_is ∙ k.1;
+      cep_is = k.2;
+      least = λ other its before is_due is. elim (before_or_at other n before) [
+        | inl l ↦
+            (let least = f.least other its l is_due is in
+            let own = f.cep_is in
+            let far = k.2 in
+            omega (arith, gt, least, own, far))
+        | inr same ↦
+            (let its_is : its ≡ k.0 = same_some (slice_get (conns_of d.flows.conns) n) its k.0 (ap (slice_get (conns_of d.flows.conns)) (sym same) ∙ is) k.1 in
+            let cep : its.scep ≡ k.0.scep = ap (λ (x : Ids). x.scep) its_is in
+            omega (arith, cep))
+      ];
+    }
+
+found_with : (item : Item) (d : Dif) (lines : List Direction) (node n : ℕ) (first : Option Turn) (turn : Turn) → FindsBelow item d lines node n first → IsDueAt item d lines node n → n < length d.flows.conns → IsIn d.flows.conns n turn → FindsBelow item d lines node (n + 1) (Some (earlier first turn))
+found_with item d lines node n (Some first) turn f due lt here = lesser item d lines node n first turn (leb first.cep turn.cep) refl f due lt here
+found_with item d lines node n None turn f due lt here =
+    let k = the_ids d n turn lt here in
+    record {
+      due = subst (IsDueAt item d lines node) (sym here.place_is) due;
+      ids = k.0;
+      are_ids = ap (slice_get (conns_of d.flows.conns)) here.place_is ∙ k.1;
+      cep_is = k.2;
+      least = λ other its before is_due is. elim (before_or_at other n before) [
+        | inl l ↦ absurd (f other l is_due)
+        | inr same ↦
+            (let its_is : its ≡ k.0 = same_some (slice_get (conns_of d.flows.conns) n) its k.0 (ap (slice_get (conns_of d.flows.conns)) (sym same) ∙ is) k.1 in
+            let cep : its.scep ≡ k.0.scep = ap (λ (x : Ids). x.scep) its_is in
+            omega (arith, cep))
+      ];
+    }
+
+found_without : (item : Item) (d : Dif) (lines : List Direction) (node n : ℕ) (first : Option Turn) → FindsBelow item d lines node n first → (IsDueAt item d lines node n → ⊥) → FindsBelow item d lines node (n + 1) first
+found_without item d lines node n None f none = λ at lt due. elim (before_or_at at n lt) [ inl l ↦ f at l due | inr same ↦ none (subst (IsDueAt item d lines node) same due) ]
+found_without item d lines node n (Some turn) f none = record {
+  due = f.due;
+  ids = f.ids;
+  are_ids = f.are_ids;
+  cep_is = f.cep_is;
+  least = λ other its before is_due is. elim (before_or_at other n before) [ inl l ↦ f.least other its l is_due is | inr same ↦ absurd (none (subst (IsDueAt item d lines node) same is_due)) ];
+}
+
+abbrev pub Tests : Item → Dif → ℕ → ℕ → Bool → Type 0
+Tests item d node at r = (lines : List Direction) (below : Seen) → Holds d lines below → IsTrue r ↔ IsDueAt item d lines node at
+
+pub found_here : (item : Item) (d : Dif) (node n : ℕ) (first : Option Turn) (turn : Turn) (r : Bool) → Found item d node n first → Tests item d node n r → r ≡ true → n < length d.flows.conns → IsIn d.flows.conns n turn → Found item d node (n + 1) (Some (earlier first turn))
+found_here item d node n first turn r f tests meets lt here lines below h = found_with item d lines node n first turn (f lines below h) ((tests lines below h).0 meets) lt here
+
+pub found_not_here : (item : Item) (d : Dif) (node n : ℕ) (first : Option Turn) (r : Bool) → Found item d node n first → Tests item d node n r → r ≡ false → Found item d node (n + 1) first
+found_not_here item d node n first r f tests fails lines below h = found_without item d lines node n first (f lines below h) (λ due. false≢true (sym fails ∙ (tests lines below h).1 due))
+
+-- all places were looked at
+
+due_within : (item : Item) (d : Dif) (lines : List Direction) (below : Seen) (node at : ℕ) → Holds d lines below → IsDueAt item d lines node at → at < length d.flows.conns
+due_within item d lines below node at h due =
+    let lt = slice_get_within d.flows.journal.ends at due.here.end due.here.is_end in
+    let same = h.tied.alike in
+    omega (arith, lt, same)
+
+pub found_all : (item : Item) (d : Dif) (node n : ℕ) (first : Option Turn) → length d.flows.conns ≤ n → Found item d node n first → (lines : List Direction) (below : Seen) → Holds d lines below → FindsFirst item d lines node first
+found_all item d node n None le f lines below h = λ at due. (let lt = due_within item d lines below node at h due in f lines below h at (omega (arith, lt, le)) due)
+found_all item d node n (Some turn) le f lines below h =
+    let x = f lines below h in
+    record {
+      due = x.due;
+      ids = x.ids;
+      are_ids = x.are_ids;
+      cep_is = x.cep_is;
+      least = λ other its due is. (let lt = due_within item d lines below node other h due in x.least other its (omega (arith, lt, le)) due is);
+    }
+
+-- The first item
+
+pub then_again : (d : Dif) (lines : List Direction) (node : ℕ) (turn : Turn) → FindsFirst Gone d lines node None → FindsFirst GiveUp d lines node None → FindsFirst Ack d lines node None → FindsFirst Again d lines node (Some turn) → IsTurn Again d lines node turn.place turn.cep
+then_again d lines node turn gone give_up ack f = record { before = (gone, give_up, ack); first = f }
+
+pub idle : (d : Dif) (lines : List Direction) (node : ℕ) → FindsFirst Gone d lines node None → FindsFirst GiveUp d lines node None → FindsFirst Ack d lines node None → FindsFirst Again d lines node None → IsIdle d lines node
+idle d lines node gone give_up ack again = record { gone = gone; give_up = give_up; ack = ack; again = again }
+
+-- What it does
+
+-- the end is at home, of the IPC process at its node
+pub turn_home : (item : Item) (d : Dif) (lines : List Direction) (node i at cep : ℕ) → home node (config_of d.settings).members ≡ Some i → IsTurn item d lines node at cep → IsHomeEnd d i at
+turn_home item d lines node i at cep is turn = (let here = turn.first.due.here in record {
+  end = here.end;
+  is_end = here.is_end;
+  allocated = here.allocated;
+  at_home = ap (λ (n : ℕ). home n (config_of d.settings).members) here.node_is ∙ is;
+})
+
+-- the CEP-id is that of the connection there
+cep_there : (item : Item) (d : Dif) (lines : List Direction) (node at cep : ℕ) (ids : Ids) → IsTurn item d lines node at cep → slice_get (conns_of d.flows.conns) at ≡ Some ids → cep ≡ ids.scep
+cep_there item d lines node at cep ids turn is = turn.first.cep_is ∙ ap (λ (x : Ids). x.scep) (same_some (slice_get (conns_of d.flows.conns) at) turn.first.ids ids turn.first.are_ids is)
+
+turn_with : (item : Item) (d : Dif) (lines : List Direction) (node at cep cep' : ℕ) → cep ≡ cep' → IsTurn item d lines node at cep → IsTurn item d lines node at cep'
+turn_with item d lines node at cep cep' is turn = subst (IsTurn item d lines node at) is turn
+
+pub does_gone : (d : Dif) (lines : List Direction) (below : Seen) (node at cep : ℕ) (b : Bool) (d' : Dif) → IsTurn Gone d lines node at cep → ForgetsAs d lines below at (Ok b) d' → HasStepped d lines below node (step.Gone cep) d'
+does_gone d lines below node at cep true d' turn (f, told) = record { lines' = f.lines'; does = record { at = at; turn = turn; forgotten = f.forgotten }; holds = f.holds }
+does_gone d lines below node at cep false d' turn (told, same) = (let due = turn.first.due.due in absurd (told due.conn due.is_conn due.gone))
+
+pub does_give_up : (d : Dif) (lines : List Direction) (below : Seen) (node at cep : ℕ) (num : Num) (d' : Dif) → IsTurn GiveUp d lines node at cep → GivesUpAs d lines below at (Ok (Some num)) d' → HasStepped d lines below node (step.GaveUp num) d'
+does_give_up d lines below node at cep num d' turn g =
+    let cep_is : cep ≡ num.cep = cep_there GiveUp d lines node at cep g.given_up.ids turn g.given_up.ids_are ∙ sym g.cep in
+    record { lines' = lines; does = record { at = at; turn = turn_with GiveUp d lines node at cep num.cep cep_is turn; given_up = g.given_up; lines_are = refl }; holds = g.holds }
+
+some_none : {X : Type 0} (o : Option X) (x : X) → o ≡ Some x → o ≡ None → ⊥
+some_none o x e f = absurd cc
+
+pub never_kept : (d : Dif) (lines : List Direction) (below : Seen) (node at cep : ℕ) (d' : Dif) → IsTurn GiveUp d lines node at cep → GivesUpAs d lines below at (Ok None) d' → ⊥
+never_kept d lines below node at cep d' turn (none, same) =
+    let due = turn.first.due.due in
+    some_none (given_up (outward (config_of d.settings) due.conn) due.line.line.clock due.line.line.sender) due.number due.is_due (none due.conn due.line due.is_conn due.is_line)
+
+pub does_ack : (d : Dif) (lines : List Direction) (below : Seen) (node at cep : ℕ) (b : Bool) (d' : Dif) → IsTurn Ack d lines node at cep → AcknowledgesAs d lines below at (Ok b) d' → HasStepped d lines below node (step.Ack cep) d'
+does_ack d lines below node at cep true d' turn a = record { lines' = a.lines'; does = record { at = at; turn = turn; cause = a.cause; acknowledged = a.acknowledged }; holds = a.holds }
+does_ack d lines below node at cep false d' turn (none, same) = absurd (none turn.first.due.due)
+
+pub does_again : (d : Dif) (lines : List Direction) (below : Seen) (node at cep : ℕ) (num : Num) (d' : Dif) → IsTurn Again d lines node at cep → SendsAgainAs d lines below at (Ok (Some num)) d' → HasStepped d lines below node (step.Again num) d'
+does_again d lines below node at cep num d' turn a =
+    let cep_is : cep ≡ num.cep = cep_there Again d lines node at cep a.resent.ids turn a.resent.is_home.is_conn.ids_are ∙ sym a.cep in
+    record { lines' = a.lines'; does = record { at = at; turn = turn_with Again d lines node at cep num.cep cep_is turn; cause = a.cause; resent = a.resent; number_is = a.seq }; holds = a.holds }
+
+pub never_silent : (d : Dif) (lines : List Direction) (below : Seen) (node at cep : ℕ) (d' : Dif) → IsTurn Again d lines node at cep → SendsAgainAs d lines below at (Ok None) d' → ⊥
+never_silent d lines below node at cep d' turn (none, same) = none turn.first.due.due
+
+-- nothing is due
+pub none_due : (d : Dif) (lines : List Direction) (below : Seen) (node : ℕ) → IsIdle d lines node → Holds d lines below → HasStepped d lines below node step.Idle d
+none_due d lines below node idle h = record { lines' = lines; does = (idle, refl, refl); holds = h }
+
+-- memory was wanted
+pub steps_err : (d : Dif) (lines : List Direction) (below : Seen) (node : ℕ) (r : Result ClockStep StepError) (e : StepError) (d' : Dif) → e ≡ why.Memory → r ≡ Err e → (seen_of d' ≡ seen_of d) × Holds d' lines below → StepsHere d lines below node r d'
+steps_err d lines below node r e d' is err same = subst (λ (v : Result ClockStep StepError). StepsHere d lines below node v d') (sym (err ∙ ap (λ (z : StepError). Err z) is)) same
+
+-- nothing changed
+pub same_holds : (d : Dif) (lines : List Direction) (below : Seen) (d' : Dif) → d' ≡ d → Holds d lines below → (seen_of d' ≡ seen_of d) × Holds d' lines below
+same_holds d lines below d' is h = (ap seen_of is, subst (λ (z : Dif). Holds z lines below) (sym is) h)

@@ -1,0 +1,160 @@
+-- A flow fails in a clock step for its stated cause alone.
+use Rattle.std.proofs.Common.{◌≡◌, ◌≢◌, ◌∙◌, ℕ, ◌+◌, ◌*◌, ◌<◌, ◌≤◌, ◌⊎◌, Bool, List, length, get_or, slice_get, slice_set, Option, Some, None, Result, Ok, Err, refl, sym, ap, subst, arith, inl, inr}
+use Rattle.std.proofs.lemmas.Option.{slice_get-get_or}
+use Rattle.rina_cube.specs.declared.Cube.{Cube}
+use Rattle.rina_iface.specs.declared.ends.End.{End}
+use Rattle.rina_iface.specs.declared.state.Fail.{Fail}
+use Rattle.rina_iface.specs.declared.state.Fail.TheVariants.{GaveUp}
+use Rattle.rina_iface.specs.declared.state.PortState.{PortState}
+use Rattle.rina_iface.specs.declared.state.PortState.TheVariants.{Failed}
+use Rattle.rina_iface.specs.Journal.{At}
+use Rattle.rina_iface.specs.Seen.{Seen}
+use Rattle.rina_iface.proofs.Changed.{set_at}
+use Rattle.rina_law.specs.declared.entry.Entry.{Entry}
+use Rattle.rina_law.specs.Constants.{Constants}
+use Rattle.rina_law.specs.Direction.{Direction, entry, no_entry, place_of, start_of}
+use Rattle.rina_law.specs.DirectionHolds.{DirectionHolds}
+use Rattle.rina_law.specs.Sender.{member}
+use Rattle.rina_law.proofs.Due.{late_given_up}
+use Rattle.rina_law.proofs.Cuts.{place_within}
+use Rattle.rina_data.specs.declared.step.ClockStep.{ClockStep}
+use Rattle.rina_data.specs.declared.step.ClockStep.TheVariants as step
+use Rattle.rina_data.specs.declared.step.StepError.{StepError}
+use Rattle.rina_data.specs.declared.step.StepError.TheVariants as why
+use Rattle.rina_data.specs.Configs.{config_of}
+use Rattle.rina_data.specs.Dif.{DifSeen, constants, cube_by}
+use Rattle.rina_data.specs.Ending.{IsGivenUp}
+use Rattle.rina_data.specs.Sending.{home}
+use Rattle.rina_data.proofs.Finding.{beside}
+use Rattle.rina_dif.specs.declared.dif.Dif.{Dif}
+use Rattle.rina_dif.specs.Clocking.{ClockSteps, ClockStepsAt, FailsLate, IsLate, Steps, StepsHere, StepsOk}
+use Rattle.rina_dif.specs.Holding.{Holds}
+use Rattle.rina_dif.specs.Shown.{seen_of}
+use Rattle.rina_dif.specs.Steps.{AtHome}
+
+same_some : {X : Type 0} (o : Option X) (a b : X) → o ≡ Some a → o ≡ Some b → a ≡ b
+same_some o a b h g = cc
+
+-- the number that is given up is that of a piece of an SDU that was sent
+late_one : (d : Dif) (lines : List Direction) (below : Seen) (at number : ℕ) (new : DifSeen) → Holds d lines below → (g : IsGivenUp (seen_of d) lines at number new) → IsLate d lines at (GaveUp (record { cep = g.ids.scep; seq = number }) (member g.line.line.sender.run number).first d.clock)
+late_one d lines below at number new h g =
+    let st = h.standing in
+    let k : Constants = constants (config_of d.settings) g.cube g.ids in
+    let end : End = g.ended.end in
+    let is_end = g.ended.is_conn.end in
+    let partner = st.journal.allocated at end is_end g.ended.allocated in
+    let far = beside (seen_of d).ends (seen_of d).conns partner.place partner.other st.own.alike partner.stands in
+    let flow = st.own.flows at partner.place end partner.other g.ids far.0 g.line (record { end = is_end; ids_are = g.ids_are }) (record { end = partner.stands; ids_are = far.1 }) g.is_line partner.partner in
+    let cube_is : flow.cube ≡ g.cube = same_some (cube_by g.ids.qos (config_of d.settings).cubes) flow.cube g.cube flow.is_cube g.is_cube in
+    let holds : DirectionHolds k g.line = subst (λ (x : Cube). DirectionHolds (constants (config_of d.settings) x g.ids) g.line) cube_is flow.backed.holds in
+    let run = g.line.line.sender.run in
+    let sent = holds.core.sent in
+    let x = late_given_up k g.line.line.clock g.line.line.sender number g.late in
+    let place : ℕ = place_of run g.line.base number in
+    let within : place < length g.line.sent = place_within k run g.line.base g.line.sent sent number x.within in
+    let sdu : Entry = entry g.line.sent place in
+    record {
+      end = end;
+      ids = g.ids;
+      is_conn = record { end = is_end; ids_are = g.ids_are };
+      cube = g.cube;
+      is_cube = g.is_cube;
+      line = g.line;
+      is_line = g.is_line;
+      number = number;
+      first = (member run number).first;
+      is = refl;
+      reliable = x.reliable;
+      unacknowledged = x.unacked;
+      made = x.within;
+      place = place;
+      sdu = sdu;
+      is_sdu = ap (λ (es : List Entry). slice_get es place) (sym flow.sent) ∙ slice_get-get_or g.line.sent place no_entry within;
+      num = (let cep = sent.cep place within in let seq = sent.num number x.within in rw (← cep, ← seq) refl);
+      tick = sent.tick number x.within;
+      late = subst (λ (n : ℕ). (member run number).first + g.cube.r + g.cube.a + 2 * g.cube.mpl ≤ n) flow.backed.clock x.late;
+    }
+
+Late : Dif → List Direction → List End → Type 0
+Late d lines ends = (at : ℕ) (end end' : End) (fail : Fail) → At d.flows.journal.ends at end → At ends at end' → end'.state ≡ Failed fail → (end.state ≡ Failed fail) ⊎ IsLate d lines at fail
+
+-- no end changed
+late_same : (d : Dif) (lines : List Direction) (ends : List End) → ends ≡ d.flows.journal.ends → Late d lines ends
+unfolding Late
+late_same d lines ends is at end end' fail old new failed =
+    let same : end' ≡ end = same_some (slice_get d.flows.journal.ends at) end' end (ap (λ (es : List End). slice_get es at) (sym is) ∙ new) old in
+    inl (ap (λ (e : End). e.state) (sym same) ∙ failed)
+
+failed_so : (a b : Fail) (state : PortState) → state ≡ Failed b → state ≡ Failed a → b ≡ a
+failed_so a b state h g = cc
+
+-- one has failed
+late_failed : (d : Dif) (lines : List Direction) (below : Seen) (at number : ℕ) (new : DifSeen) → Holds d lines below → IsGivenUp (seen_of d) lines at number new → Late d lines new.ends
+unfolding Late
+late_failed d lines below at number new h g k end end' fail old is failed =
+    let by : Fail = GaveUp (record { cep = g.ids.scep; seq = number }) (member g.line.line.sender.run number).first d.clock in
+    let changed : End = record g.ended.end { state = Failed by } in
+    let ends : new.ends ≡ slice_set d.flows.journal.ends at changed = ap (λ (z : DifSeen). z.ends) g.ended.new_is in
+    elim (set_at d.flows.journal.ends at k g.ended.end changed end' g.ended.is_conn.end (subst (λ (es : List End). slice_get es k ≡ Some end') ends is)) [
+      | inl t ↦
+          (let so : fail ≡ by = failed_so by fail end'.state failed (ap (λ (e : End). e.state) t.1) in
+          inr (subst (λ (f : Fail). IsLate d lines k f) (sym so) (subst (λ (n : ℕ). IsLate d lines n by) (sym t.0) (late_one d lines below at number new h g))))
+      | inr f ↦
+          (let same : end' ≡ end = same_some (slice_get d.flows.journal.ends k) end' end f.1 old in
+          inl (ap (λ (e : End). e.state) (sym same) ∙ failed))
+    ]
+
+late_step : (d : Dif) (lines : List Direction) (below : Seen) (node : ℕ) (done : ClockStep) (new : DifSeen) (lines' : List Direction) → Holds d lines below → Steps d lines node done new lines' → Late d lines new.ends
+late_step d lines below node step.Idle new lines' h s = late_same d lines new.ends (ap (λ (z : DifSeen). z.ends) s.1)
+late_step d lines below node (step.Gone cep) new lines' h s = late_same d lines new.ends (ap (λ (z : DifSeen). z.ends) s.forgotten.new_is)
+late_step d lines below node (step.GaveUp num) new lines' h s = late_failed d lines below s.at num.seq new h s.given_up
+late_step d lines below node (step.Ack cep) new lines' h s = late_same d lines new.ends (ap (λ (z : DifSeen). z.ends) s.acknowledged.new_is)
+late_step d lines below node (step.Again num) new lines' h s = late_same d lines new.ends (ap (λ (z : DifSeen). z.ends) s.resent.new_is)
+late_step d lines below node (step.LinkLost link) new lines' h s = absurd s
+late_step d lines below node (step.LinkNew link) new lines' h s = absurd s
+late_step d lines below node (step.Timeout port) new lines' h s = absurd s
+late_step d lines below node (step.Message link) new lines' h s = absurd s
+
+pub fails_late : (d : Dif) (lines : List Direction) (below : Seen) (node : ℕ) (r : Result ClockStep StepError) (d' : Dif) → Holds d lines below → StepsHere d lines below node r d' → FailsLate d lines d'
+unfolding Late
+fails_late d lines below node (Ok done) d' h s = late_step d lines below node done (seen_of d') s.lines' h s.does
+fails_late d lines below node (Err why.Memory) d' h s = late_same d lines d'.flows.journal.ends (ap (λ (z : DifSeen). z.ends) s.0)
+fails_late d lines below node (Err why.NoIpc) d' h s = absurd s
+fails_late d lines below node (Err why.NoLink) d' h s = absurd s
+
+-- nothing was done
+pub fails_none : (d : Dif) (lines : List Direction) → FailsLate d lines d
+unfolding Late
+fails_none d lines = late_same d lines d.flows.journal.ends refl
+
+-- The step
+
+at_home : (o : Option ℕ) (i : ℕ) (P : ℕ → Type 0) (Q : Type 0) → o ≡ Some i → P i → AtHome o P Q
+at_home o i P Q is p = subst (λ (z : Option ℕ). AtHome z P Q) (sym is) p
+
+not_home : (o : Option ℕ) (P : ℕ → Type 0) (Q : Type 0) → o ≡ None → Q → AtHome o P Q
+not_home o P Q is q = subst (λ (z : Option ℕ). AtHome z P Q) (sym is) q
+
+-- whether memory was wanted is not seen
+noted : (d : Dif) (lines : List Direction) (below : Seen) (failed : Bool) → Holds d lines below → Holds (record d { failed = failed }) lines below
+noted d lines below failed h = record { tied = h.tied; standing = h.standing; carrying = h.carrying; numbered = h.numbered; housed = h.housed }
+
+steps_by : (d : Dif) (lines : List Direction) (below : Seen) (node i : ℕ) (r : Result ClockStep StepError) (d' : Dif) (failed : Bool) → home node (config_of d.settings).members ≡ Some i → StepsHere d lines below node r d' → ClockSteps d lines below node r (record d' { failed = failed }) below
+steps_by d lines below node i (Ok done) d' failed here s = record {
+  lines' = s.lines';
+  does = at_home (home node (config_of d.settings).members) i (λ n. StepsOk d lines node (Ok done) (record d' { failed = failed }) s.lines') _ here s.does;
+  same_below = refl;
+  holds = noted d' s.lines' below failed s.holds;
+}
+steps_by d lines below node i (Err why.Memory) d' failed here s = record { lines' = lines; does = (s.0, refl); same_below = refl; holds = noted d' lines below failed s.1 }
+steps_by d lines below node i (Err why.NoIpc) d' failed here s = absurd s
+steps_by d lines below node i (Err why.NoLink) d' failed here s = absurd s
+
+pub steps_home : (d : Dif) (lines : List Direction) (below : Seen) (node i : ℕ) (r r' : Result ClockStep StepError) (d' : Dif) (failed : Bool) → home node (config_of d.settings).members ≡ Some i → r' ≡ r → StepsHere d lines below node r d' → ClockSteps d lines below node r' (record d' { failed = failed }) below
+steps_home d lines below node i r r' d' failed here same s = subst (λ (v : Result ClockStep StepError). ClockSteps d lines below node v (record d' { failed = failed }) below) (sym same) (steps_by d lines below node i r d' failed here s)
+
+pub steps_none : (d : Dif) (lines : List Direction) (below : Seen) (node : ℕ) → Holds d lines below → ClockSteps d lines below node (Err why.Memory) d below
+steps_none d lines below node h = record { lines' = lines; does = (refl, refl); same_below = refl; holds = h }
+
+pub steps_nowhere : (d : Dif) (lines : List Direction) (below : Seen) (node : ℕ) → home node (config_of d.settings).members ≡ None → Holds d lines below → ClockSteps d lines below node (Err why.NoIpc) d below
+steps_nowhere d lines below node none h = record { lines' = lines; does = not_home (home node (config_of d.settings).members) (λ i. StepsOk d lines node (Err why.NoIpc) d lines) _ none (refl, refl, refl); same_below = refl; holds = h }

@@ -1,0 +1,33 @@
+use Rattle.std.proofs.Common.{Ok, ap, refl, subst}
+use Rattle.std.proofs.lemmas.Result.{err_from_is_err_and}
+use Rattle.rina_base.specs.declared.pdu.Pdu.{Pdu}
+use Rattle.rina_base.specs.Pdus.{pdu_of}
+use Rattle.rina_dif.specs.Timely.{ForwardsAt}
+use Rattle.rina_dif.proofs.Lapsed.{conn_there}
+use Rattle.rina_dif.proofs.Posted.{ack_err, acknowledges, forwarded_none, no_ack, routes_for}
+use Rattle.rina_dif.proofs.dif.Dif.acknowledge_at.Goals as goal
+
+pub returns-in_default-clause-does : goal.returns-in_default-clause-does
+returns-in_default-clause-does c = λ lines below h. (no_ack c.args.self.now lines below c.args.at c.args.place c.requires.here c.in_default.ensures h, refl)
+
+pub at-requires : goal.at-requires
+at-requires c = conn_there c.args.self.now c.requires.stands.0 c.args.at c.args.place c.requires.stands.1 c.requires.here
+
+pub acknowledged-requires : goal.acknowledged-requires
+acknowledged-requires c = conn_there c.args.self.now c.requires.stands.0 c.args.at c.args.place c.requires.stands.1 c.requires.here
+
+pub forward-requires-clause-routed : goal.forward-requires-clause-routed
+forward-requires-clause-routed c =
+    routes_for c.args.self.now c.requires.stands.1.0 c.requires.stands.0 c.args.at c.args.place c.at.result.now (record { left = c.at.result.now.sending.form.cube.mpl; pdu = pdu_of c.ack_pdu.result }) c.requires.stands.1.1 c.at.ensures (ap (λ (p : Pdu). p.qos) c.ack_pdu.ensures)
+
+pub returns-in_err-forward-clause-does : goal.returns-in_err-forward-clause-does
+returns-in_err-forward-clause-does c = λ lines below h.
+    let err = err_from_is_err_and c.from_residual.result c.from_residual.ensures.1 in
+    ack_err c.args.self.now lines below c.args.place c.from_residual.result err.0 _ err.1 (forwarded_none c.args.self.now lines below c.args.at (record { left = c.at.result.now.sending.form.cube.mpl; pdu = pdu_of c.ack_pdu.result }) c.in_err-forward.field-0.0 c.forward.new.self c.requires.at h c.in_err-forward.ensures)
+
+pub returns-clause-does : goal.returns-clause-does
+returns-clause-does c = λ lines below h.
+    let d = c.args.self.now in
+    let conn = c.at.result.now in
+    let forwards = subst (λ (q : Pdu). ForwardsAt d.clock (record { left = conn.sending.form.cube.mpl; pdu = q }) (Ok c.in_ok-forward.field-0) c.args.at d.processes c.forward.new.self) c.ack_pdu.ensures c.in_ok-forward.ensures in
+    acknowledges d lines below c.args.at c.args.place conn c.in-Some.due c.in_ok-forward.field-0 c.acknowledged.new.self c.forward.new.self c.requires.at c.requires.here c.at.ensures c.in-Some.ensures forwards c.acknowledged.ensures h

@@ -1,0 +1,73 @@
+use Rattle.std.proofs.Common.{refl, sym, subst, ap, ◌∙◌, Ok, Some, None}
+use Rattle.std.proofs.lemmas.Result.{err_from_is_err_and}
+use Rattle.rina_flows.specs.declared.timely.Item.{Item}
+use Rattle.rina_dif.specs.Clocking.{IsTurn}
+use Rattle.rina_dif.proofs.Clocked.{does_ack, does_again, does_give_up, does_gone, never_kept, never_silent, none_due, same_holds, steps_err, turn_home}
+use Rattle.rina_dif.proofs.dif.Dif.do_next.Goals as goal
+
+pub returns-in_default-clause-does : goal.returns-in_default-clause-does
+returns-in_default-clause-does c = λ lines below h. none_due c.args.self.now lines below c.args.node (c.in_default.ensures lines below h) h
+
+pub forget_at-requires-clause-here : goal.forget_at-requires-clause-here
+forget_at-requires-clause-here c = turn_home _ c.args.self.now c.requires.stands.1.0 c.args.node c.args.at _ _ c.requires.home (c.in-Some.ensures c.requires.stands.1.0 c.requires.stands.0 c.requires.stands.1.1)
+
+pub returns-in_err-forget_at-in-Gone-clause-does : goal.returns-in_err-forget_at-in-Gone-clause-does
+returns-in_err-forget_at-in-Gone-clause-does c = λ lines below h.
+    let err = err_from_is_err_and c.from_residual.result c.from_residual.ensures.1 in
+    steps_err c.args.self.now lines below c.args.node c.from_residual.result err.0 c.forget_at.new.self err.2 err.1 (same_holds c.args.self.now lines below c.forget_at.new.self (c.in_err-forget_at-in-Gone.ensures.does lines below h) h)
+
+pub give_up_at-requires-clause-here : goal.give_up_at-requires-clause-here
+give_up_at-requires-clause-here c = turn_home _ c.args.self.now c.requires.stands.1.0 c.args.node c.args.at _ _ c.requires.home (c.in-Some.ensures c.requires.stands.1.0 c.requires.stands.0 c.requires.stands.1.1)
+
+pub returns-in_err-num-in-GiveUp-clause-does : goal.returns-in_err-num-in-GiveUp-clause-does
+returns-in_err-num-in-GiveUp-clause-does c = λ lines below h.
+    let err = err_from_is_err_and c.from_residual-in_err-num-in-GiveUp.result c.from_residual-in_err-num-in-GiveUp.ensures.1 in
+    steps_err c.args.self.now lines below c.args.node c.from_residual-in_err-num-in-GiveUp.result err.0 c.give_up_at.new.self err.2 err.1 (same_holds c.args.self.now lines below c.give_up_at.new.self (c.in_err-num-in-GiveUp.ensures.does lines below h) h)
+
+pub unreachable-requires : goal.unreachable-requires
+unreachable-requires c =
+    let lines = c.requires.stands.1.0 in
+    let below = c.requires.stands.0 in
+    let h = c.requires.stands.1.1 in
+    let turn = subst (λ (i : Item). IsTurn i c.args.self.now lines c.args.node c.in-Some.field-0.turn.place c.in-Some.field-0.turn.cep) c.in-GiveUp.is (c.in-Some.ensures lines below h) in
+    never_kept c.args.self.now lines below c.args.node c.in-Some.field-0.turn.place c.in-Some.field-0.turn.cep c.give_up_at.new.self turn (rw c.in-None.is at (c.in_ok-num-in-GiveUp.ensures.does lines below h))
+
+pub acknowledge_at-requires-clause-here : goal.acknowledge_at-requires-clause-here
+acknowledge_at-requires-clause-here c = turn_home _ c.args.self.now c.requires.stands.1.0 c.args.node c.args.at _ _ c.requires.home (c.in-Some.ensures c.requires.stands.1.0 c.requires.stands.0 c.requires.stands.1.1)
+
+pub returns-in_err-acknowledge_at-in-Ack-clause-does : goal.returns-in_err-acknowledge_at-in-Ack-clause-does
+returns-in_err-acknowledge_at-in-Ack-clause-does c = λ lines below h.
+    let err = err_from_is_err_and c.from_residual-in_err-acknowledge_at-in-Ack.result c.from_residual-in_err-acknowledge_at-in-Ack.ensures.1 in
+    steps_err c.args.self.now lines below c.args.node c.from_residual-in_err-acknowledge_at-in-Ack.result err.0 c.acknowledge_at.new.self err.2 err.1 (c.in_err-acknowledge_at-in-Ack.ensures.does lines below h)
+
+pub again_at-requires-clause-here : goal.again_at-requires-clause-here
+again_at-requires-clause-here c = turn_home _ c.args.self.now c.requires.stands.1.0 c.args.node c.args.at _ _ c.requires.home (c.in-Some.ensures c.requires.stands.1.0 c.requires.stands.0 c.requires.stands.1.1)
+
+pub returns-in_err-num-in-Again-clause-does : goal.returns-in_err-num-in-Again-clause-does
+returns-in_err-num-in-Again-clause-does c = λ lines below h.
+    let err = err_from_is_err_and c.from_residual-in_err-num-in-Again.result c.from_residual-in_err-num-in-Again.ensures.1 in
+    steps_err c.args.self.now lines below c.args.node c.from_residual-in_err-num-in-Again.result err.0 c.again_at.new.self err.2 err.1 (c.in_err-num-in-Again.ensures.does lines below h)
+
+pub unreachable-requires-in-None-2 : goal.unreachable-requires-in-None-2
+unreachable-requires-in-None-2 c =
+    let lines = c.requires.stands.1.0 in
+    let below = c.requires.stands.0 in
+    let h = c.requires.stands.1.1 in
+    let turn = subst (λ (i : Item). IsTurn i c.args.self.now lines c.args.node c.in-Some.field-0.turn.place c.in-Some.field-0.turn.cep) c.in-Again.is (c.in-Some.ensures lines below h) in
+    never_silent c.args.self.now lines below c.args.node c.in-Some.field-0.turn.place c.in-Some.field-0.turn.cep c.again_at.new.self turn (rw c.in-None-2.is at (c.in_ok-num-in-Again.ensures.does lines below h))
+
+pub returns-in_ok-forget_at-in-Gone-clause-does : goal.returns-in_ok-forget_at-in-Gone-clause-does
+returns-in_ok-forget_at-in-Gone-clause-does c = λ lines below h.
+    does_gone c.args.self.now lines below c.args.node c.in-Some.field-0.turn.place c.in-Some.field-0.turn.cep c.in_ok-forget_at-in-Gone.field-0 c.forget_at.new.self (subst (λ (i : Item). IsTurn i c.args.self.now lines c.args.node c.in-Some.field-0.turn.place c.in-Some.field-0.turn.cep) c.in-Gone.is (c.in-Some.ensures lines below h)) (c.in_ok-forget_at-in-Gone.ensures.does lines below h)
+
+pub returns-in-Some-2-clause-does : goal.returns-in-Some-2-clause-does
+returns-in-Some-2-clause-does c = λ lines below h.
+    does_give_up c.args.self.now lines below c.args.node c.in-Some.field-0.turn.place c.in-Some.field-0.turn.cep c.in-Some-2.num c.give_up_at.new.self (subst (λ (i : Item). IsTurn i c.args.self.now lines c.args.node c.in-Some.field-0.turn.place c.in-Some.field-0.turn.cep) c.in-GiveUp.is (c.in-Some.ensures lines below h)) (rw c.in-Some-2.is at (c.in_ok-num-in-GiveUp.ensures.does lines below h))
+
+pub returns-in_ok-acknowledge_at-in-Ack-clause-does : goal.returns-in_ok-acknowledge_at-in-Ack-clause-does
+returns-in_ok-acknowledge_at-in-Ack-clause-does c = λ lines below h.
+    does_ack c.args.self.now lines below c.args.node c.in-Some.field-0.turn.place c.in-Some.field-0.turn.cep c.in_ok-acknowledge_at-in-Ack.field-0 c.acknowledge_at.new.self (subst (λ (i : Item). IsTurn i c.args.self.now lines c.args.node c.in-Some.field-0.turn.place c.in-Some.field-0.turn.cep) c.in-Ack.is (c.in-Some.ensures lines below h)) (c.in_ok-acknowledge_at-in-Ack.ensures.does lines below h)
+
+pub returns-in-Some-3-clause-does : goal.returns-in-Some-3-clause-does
+returns-in-Some-3-clause-does c = λ lines below h.
+    does_again c.args.self.now lines below c.args.node c.in-Some.field-0.turn.place c.in-Some.field-0.turn.cep c.in-Some-3.num c.again_at.new.self (subst (λ (i : Item). IsTurn i c.args.self.now lines c.args.node c.in-Some.field-0.turn.place c.in-Some.field-0.turn.cep) c.in-Again.is (c.in-Some.ensures lines below h)) (rw c.in-Some-3.is at (c.in_ok-num-in-Again.ensures.does lines below h))
