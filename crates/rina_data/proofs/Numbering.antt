@@ -86,7 +86,7 @@ was_there before now old new i e same later is =
     let e_is : h.0 ≡ e = cc in
     (o.0, o.1, subst (IsLaterEnd before now o.0) e_is h.2)
 
-numbered_with : (d : DifSeen) (clock : ℕ) (processes : List Process) (ends : List End) (below below' : Seen) → IsNumbered d below → AreLater d.clock clock d.ends ends → length ends ≡ length d.ends
+pub numbered_with : (d : DifSeen) (clock : ℕ) (processes : List Process) (ends : List End) (below below' : Seen) → IsNumbered d below → AreLater d.clock clock d.ends ends → length ends ≡ length d.ends
     → ((death : ℕ) (pdu : Pdu) → Cloud Everywhere d.config processes below' death pdu → IsFromHere d.conns pdu) → IsNumbered (record d { clock = clock; processes = processes; ends = ends }) below'
 numbered_with d clock processes ends below below' n later same cloud = record {
   members = n.members;
@@ -357,7 +357,7 @@ start_numbered d lines below s members addressed counted = record { members = me
 
 -- ---- the rank below goes on
 
-beside_after : (d : DifSeen) (below below' : Seen) → IsNumbered d below → IsAfter d.config NoMore below below' → IsNumbered d below'
+pub beside_after : (d : DifSeen) (below below' : Seen) → IsNumbered d below → IsAfter d.config NoMore below below' → IsNumbered d below'
 beside_after d below below' n after = record { members = n.members; addressed = n.addressed; counted = n.counted; named = none_here d d.processes below below' n (requeued_none d.processes) after }
 
 pub beside_numbered : (d : DifSeen) (below below' : Seen) → AreKept below' → IsNumbered d below → IsLifted d.config below below' → IsNumbered d below'

@@ -1,6 +1,6 @@
 -- A DIF is a facility of its rank.
-use Rattle.std.proofs.Common.{◌≡◌, ◌∙◌, ℕ, ◌+◌, ◌-◌, ◌*◌, ◌<◌, ◌≤◌, ◌==◌, ◌&&◌, ◌||◌, Bool, true, false, List, [], ◌∷◌, length, map, slice_get, slice_set, Option, Some, None, Result, Ok, Err, cond, option_and_then, option_map, refl, sym, ap, subst, arith}
-use Rattle.std.specs.Prelude.{IsSome, nat_le, nat_lt, if◌then◌else◌}
+use Rattle.std.proofs.Common.{◌≡◌, ◌∙◌, ℕ, ◌+◌, ◌*◌, ◌<◌, ◌≤◌, ◌==◌, ◌&&◌, ◌||◌, Bool, true, false, List, [], ◌∷◌, length, map, slice_get, Option, Some, None, Result, Ok, Err, cond, option_and_then, option_map, refl, sym, ap, subst, arith}
+use Rattle.std.specs.Prelude.{IsSome, nat_le, nat_lt}
 use Rattle.std.proofs.lemmas.Bool.{false≢true}
 use Rattle.std.proofs.lemmas.Bool.Decides.{nat_tests}
 use Rattle.std.proofs.lemmas.Option.{slice_get_within}
@@ -12,14 +12,14 @@ use Rattle.rina_conn.specs.Sending.{IsSender}
 use Rattle.rina_cube.specs.declared.Cube.{Cube}
 use Rattle.rina_cube.specs.declared.Kind.{Kind}
 use Rattle.rina_cube.specs.declared.Kind.TheVariants.{Datagram, Loose, Reliable}
-use Rattle.rina_cube.specs.Cubes.{IsCube, delta_of, is_reliable}
+use Rattle.rina_cube.specs.Cubes.{IsCube, delta_of}
 use Rattle.rina_dtcp.specs.Senders.{Kept}
 use Rattle.rina_iface.specs.declared.ends.End.{End}
 use Rattle.rina_iface.specs.declared.error.SendError.{SendError}
 use Rattle.rina_iface.specs.declared.error.SendError.TheVariants as errors
 use Rattle.rina_iface.specs.declared.state.PortState.{PortState}
-use Rattle.rina_iface.specs.Ends.{end_in, has_port, place_in}
-use Rattle.rina_iface.specs.Seen.{Fac, Offer, Seen, Stands, cube_at, cube_in, end_of, largest_at, state_of, unpassed, with_fac}
+use Rattle.rina_iface.specs.Ends.{has_port, place_in}
+use Rattle.rina_iface.specs.Seen.{Fac, Offer, Seen, cube_at, cube_in, largest_at, state_of, with_fac}
 use Rattle.rina_iface.specs.Later.{IsLaterFac}
 use Rattle.rina_iface.specs.Pass.{IsPassed as PassesThere}
 use Rattle.rina_iface.specs.Send.{Sends, by_length, by_state, refused}
@@ -34,8 +34,8 @@ use Rattle.rina_law.specs.Sender as law
 use Rattle.rina_law.specs.Sender.{Member, Refusal, Sender, TooLong, is_absent, is_empty, refusal, started}
 use Rattle.rina_data.specs.Configs.{config_of}
 use Rattle.rina_data.specs.Dif.{Config, DifSeen, cube_by, fac_of, offer_of, piece_size}
-use Rattle.rina_data.specs.Facade.{IsShown, own_refusal as own_there, shown}
-use Rattle.rina_data.specs.Sending.{Offers, by_sender, refused_at}
+use Rattle.rina_data.specs.Facade.{IsShown, own_refusal as own_there}
+use Rattle.rina_data.specs.Sending.{Offers, by_sender}
 use Rattle.rina_data.specs.Standing.{IsConfig}
 use Rattle.rina_data.specs.Upward.{IsFacility}
 use Rattle.rina_data.proofs.Facades.{offers_send, passed_there, same_refusals}
@@ -48,8 +48,8 @@ use Rattle.rina_flows.proofs.Counted.{cut_count}
 use Rattle.rina_flows.proofs.Framed.{ids_at}
 use Rattle.rina_queue.proofs.Places.{first_passes}
 use Rattle.rina_dif.specs.declared.dif.Dif.{Dif}
-use Rattle.rina_dif.specs.Facade.{GoesOn, IsShownAs, IsShownAt, RankShows, cube_there, is_idle, is_over, its_cube, its_end, its_oldest, own_at, own_by, own_of, own_refusal, pieces_in, refusal_by, refusal_from, shown_as, way_refusal}
-use Rattle.rina_dif.specs.Holding.{Holds, Passes}
+use Rattle.rina_dif.specs.Facade.{GoesOn, IsShownAs, RankShows, StaysStanding, cube_there, is_idle, is_over, its_cube, its_end, its_oldest, own_of, own_refusal, pieces_in, refusal_by, shown_as, way_refusal}
+use Rattle.rina_dif.specs.Holding.{Holds, Passes, Stands as StandsOn}
 use Rattle.rina_dif.specs.Sending.{SendsAt, SendsNowhere}
 use Rattle.rina_dif.specs.Sending as sent
 use Rattle.rina_dif.specs.Shown.{seen_of}
@@ -200,7 +200,7 @@ sends_shown s d port sdu r d' is does shows = go (place_in port d.flows.journal.
 
 -- The DIF goes on
 
-same_goes_on : (d d' : Dif) → IsDif d → seen_of d' ≡ seen_of d → GoesOn d d'
+pub same_goes_on : (d d' : Dif) → IsDif d → seen_of d' ≡ seen_of d → GoesOn d d'
 same_goes_on d d' is same = record {
   later = subst (λ (x : DifSeen). IsLaterFac d.clock x.clock (fac_of (seen_of d)) (fac_of x)) (sym same) (fac_refl d.clock d.clock (fac_of (seen_of d)));
   facility = subst IsFacility (sym same) (facility (seen_of d) is.stands.0 is.below is.stands.1.standing);
@@ -221,6 +221,15 @@ clock_sent d lines at parts (Err (errors.NumbersSpent until)) d' lines' x = ap (
 nowhere_same : (d : Dif) (lines : List Direction) (below : Seen) (r : Result Num SendError) (d' : Dif) → SendsNowhere d lines below r d' → seen_of d' ≡ seen_of d
 nowhere_same d lines below (Err errors.Memory) d' x = x.0
 nowhere_same d lines below r d' x = x.1
+
+-- it stands wherever it stood
+pub sends_stay : (d : Dif) (port : Port) (sdu : List ℕ) (r : Result Num SendError) (d' : Dif) → ((lines : List Direction) (below : Seen) → Holds d lines below → SendsAt (place_in port d.flows.journal.ends) d lines below sdu r d') → StaysStanding d d'
+sends_stay d port sdu r d' does below st = go (place_in port d.flows.journal.ends) r (does st.0 below st.1)
+  where
+    go : (o : Option ℕ) (r : Result Num SendError) → SendsAt o d st.0 below sdu r d' → StandsOn d' below
+    go (Some at) r x = (x.lines', x.holds)
+    go None (Err errors.Memory) x = (st.0, x.1)
+    go None r x = (st.0, x.2)
 
 pub sends_go_on : (d : Dif) (port : Port) (sdu : List ℕ) (r : Result Num SendError) (d' : Dif) → IsDif d → ((lines : List Direction) (below : Seen) → Holds d lines below → SendsAt (place_in port d.flows.journal.ends) d lines below sdu r d') → GoesOn d d'
 sends_go_on d port sdu r d' is does = go (place_in port d.flows.journal.ends) (does is.stands.0 is.below is.stands.1)
@@ -253,6 +262,9 @@ pub passed_whole : (d : Dif) (at : ℕ) (d' : Dif) → (is : IsDif d) → ((line
 passed_whole d at d' is does =
     let x = does is.stands.0 is.below is.stands.1 in
     record { below = is.below; stands = (x.lines', x.holds); clock = (let c = is.clock in let same = ap (λ (y : DifSeen). y.clock) x.passed.new_is in omega (arith, c, same)) }
+
+pub passed_stays : (d : Dif) (at : ℕ) (d' : Dif) → ((lines : List Direction) (below : Seen) → Holds d lines below → Passes d lines at d' below) → StaysStanding d d'
+passed_stays d at d' does below st = (let x = does st.0 below st.1 in (x.lines', x.holds))
 
 pub passed_shown : (s : Seen) (d : Dif) (port : Port) (at : ℕ) (d' : Dif) → (is : IsDif d) → place_in port d.flows.journal.ends ≡ Some at → ((lines : List Direction) (below : Seen) → Holds d lines below → Passes d lines at d' below) → IsShownAs s port.fac d → PassesThere s port (shown_as s port.fac d')
 passed_shown s d port at d' is place does shows =

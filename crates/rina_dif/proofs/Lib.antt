@@ -1,8 +1,11 @@
 pub mod Bare
 pub mod Barred
+pub mod Beside
+pub mod Claimed
 pub mod Clocked
 pub mod Facing
 pub mod Failing
+pub mod Freed
 pub mod Keeping
 pub mod Laid
 pub mod Lapsed
@@ -12,7 +15,9 @@ pub mod Owning
 pub mod Passed
 pub mod Posted
 pub mod Putting
+pub mod Refused
 pub mod Sent
 pub mod Settling
 pub mod Taken
 pub mod Ways
+pub mod Written

@@ -1,29 +1,17 @@
 -- The clock of a DIF goes on with that of the rank below.
-use Rattle.std.proofs.Common.{◌≡◌, ◌∙◌, ℕ, ◌-◌, ◌≤◌, true, List, map, slice_get, Option, Some, None, option_map, refl, sym, ap, subst, arith}
-use Rattle.std.proofs.lemmas.List.{length-map}
-use Rattle.std.proofs.lemmas.Option.{slice_get-map}
-use Rattle.std.proofs.lemmas.Bool.Decides.{nat_tests}
-use Rattle.rina_conn.specs.declared.conn.Conn.{Conn}
-use Rattle.rina_iface.specs.declared.ends.End.{End}
+use Rattle.std.proofs.Common.{◌≡◌, ℕ, ◌-◌, ◌≤◌, List, [], map, refl, sym, subst}
 use Rattle.rina_iface.specs.Journal.{AreKept}
 use Rattle.rina_iface.specs.Seen.{Seen}
-use Rattle.rina_law.specs.Constants.{Constants}
 use Rattle.rina_law.specs.Direction.{Direction}
-use Rattle.rina_law.specs.Pieces.{Joiner}
-use Rattle.rina_law.specs.Receiver.{Receiver, is_present}
-use Rattle.rina_dtp.specs.Receiving.{Receiving}
-use Rattle.rina_dtp.specs.Stands.{Stands as StandsFor}
 use Rattle.rina_data.specs.Configs.{config_of}
-use Rattle.rina_data.specs.Dif.{Config}
-use Rattle.rina_data.specs.Ids.{Ids}
 use Rattle.rina_data.specs.Lifting.{IsLifted, ticked}
 use Rattle.rina_data.specs.Passing.{IsTicked}
 use Rattle.rina_data.proofs.Carries.{time_carries}
+use Rattle.rina_data.specs.Upward.{IsSilent}
 use Rattle.rina_data.proofs.Numbering.{time_numbered}
 use Rattle.rina_data.proofs.Taking.{lifted_stands}
-use Rattle.rina_flows.specs.Calls.{AreTied}
+use Rattle.rina_data.proofs.Upper.{ticked_silent}
 use Rattle.rina_flows.proofs.Lasting.{tied_later}
-use Rattle.rina_flows.specs.Tied.{IsAt, IsInboundAt, IsKeptBy, IsReceiving, IsSending, IsTied, ids_of, inward}
 use Rattle.rina_dif.specs.declared.dif.Dif.{Dif}
 use Rattle.rina_dif.specs.Holding.{Holds}
 use Rattle.rina_dif.specs.Shown.{seen_of}
@@ -41,3 +29,7 @@ holds_later d now lines below below' le kept' lifted clock h =
       numbered = time_numbered (seen_of d) lines below below' (seen_of d') lines' kept' h.numbered lifted there;
       housed = h.housed;
     }
+
+-- the rank above sees nothing of it
+pub later_silent : (d : Dif) (now : ℕ) → d.clock ≤ now → IsSilent (seen_of d) (seen_of (record d { clock = now }))
+later_silent d now le = ticked_silent (seen_of d) [] now (seen_of (record d { clock = now })) [] (record { later = le; lines_are = refl; new_is = refl })

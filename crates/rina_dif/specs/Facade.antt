@@ -1,5 +1,6 @@
 -- A DIF as one facility of its rank.
-use Rattle.std.specs.Prelude.{◌≡◌, ℕ, ◌+◌, ◌-◌, ◌*◌, ◌/◌, ◌==◌, ◌&&◌, ◌||◌, Bool, true, nat_le, nat_lt, length, List, map, slice_get, Option, Some, None, option_and_then, option_map, if◌then◌else◌}
+use Rattle.std.specs.Prelude.{◌≡◌, ℕ, ◌+◌, ◌-◌, ◌*◌, ◌/◌, ◌==◌, ◌&&◌, ◌||◌, Bool, true, nat_le, nat_lt, List, map, slice_get, Option, Some, None, option_and_then, if◌then◌else◌}
+use Rattle.rina_account.specs.declared.ledger.Off.{Off}
 use Rattle.rina_base.specs.declared.number.Port.{Port}
 use Rattle.rina_conn.specs.declared.conn.Conn.{Conn}
 use Rattle.rina_conn.specs.declared.sending.Sending.{Sending}
@@ -16,14 +17,16 @@ use Rattle.rina_iface.specs.Later.{IsLaterFac}
 use Rattle.rina_law.specs.declared.entry.Entry.{Entry}
 use Rattle.rina_law.specs.Direction.{Direction}
 use Rattle.rina_law.specs.Sender.{NumbersSpent, Refusal, WindowShut}
+use Rattle.rina_data.specs.declared.process.IpcProcess.{IpcProcess}
 use Rattle.rina_data.specs.Configs.{config_of}
 use Rattle.rina_data.specs.Deciding.{process_of}
 use Rattle.rina_data.specs.Dif.{cube_by, fac_of}
+use Rattle.rina_data.specs.Others.{AreApart}
 use Rattle.rina_data.specs.Sending.{by_process, by_sender, home, process_at}
 use Rattle.rina_data.specs.Upward.{IsFacility}
 use Rattle.rina_flows.specs.Tied.{ids_of}
 use Rattle.rina_dif.specs.declared.dif.Dif.{Dif}
-use Rattle.rina_dif.specs.Holding.{Passes}
+use Rattle.rina_dif.specs.Holding.{Holds, Passes, Stands}
 use Rattle.rina_dif.specs.Shown.{seen_of}
 
 -- the rank shows the DIF as its facility n
@@ -116,3 +119,23 @@ pub record GoesOn (d d' : Dif) : Type 0 where
   pub later : IsLaterFac d.clock d'.clock (fac_of (seen_of d)) (fac_of (seen_of d'))
   pub facility : IsFacility (seen_of d')
   pub clock : d'.clock ≡ d.clock
+
+-- it stands wherever it stood
+abbrev pub StaysStanding : Dif → Dif → Type 0
+StaysStanding d d' = (below : Seen) → Stands d below → Stands d' below
+
+-- What a rank needs of each step
+
+-- the other DIFs of its rank, which share no IPC process with it, stand on
+abbrev pub OthersStand : Dif → Seen → Seen → Type 0
+OthersStand d below below' = (other : Dif) (lines : List Direction) → AreApart (seen_of d) (seen_of other) → Holds other lines below → Holds other lines below'
+
+-- What it has written off
+
+-- these are the write-offs of the member at a node, the oldest first
+pub record IsLedger (d : Dif) (node : ℕ) (offs : List Off) : Type 0 where
+  pub place : ℕ
+  pub at_home : home node (config_of d.settings).members ≡ Some place
+  pub process : IpcProcess
+  pub stands : slice_get d.processes place ≡ Some process
+  pub is : offs ≡ process.ledger

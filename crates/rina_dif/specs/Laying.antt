@@ -100,5 +100,5 @@ pub record IsNew (plan : Plan) (i : ℕ) (d : Dif) (old new : Seen) : Type 0 whe
   pub processes : (k : ℕ) (member : Kept) (p : IpcProcess) → slice_get d.settings.members k ≡ Some member → slice_get d.processes k ≡ Some p → IsNewProcess (config_of d.settings) member.node (ends_of ports) (process_of p)
   pub ends : d.flows.journal.ends ≡ []
   pub conns : d.flows.conns ≡ []
-  pub waiting : d.waiting ≡ []
+  pub waiting : d.waiting.items ≡ []
   pub names : d.names ≡ []

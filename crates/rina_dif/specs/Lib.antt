@@ -1,6 +1,7 @@
 pub mod Building
 pub mod Clocking
 pub mod Facade
+pub mod Freeing
 pub mod Holding
 pub mod Laying
 pub mod Planned

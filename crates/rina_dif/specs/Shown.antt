@@ -13,6 +13,6 @@ seen_of d = record {
   processes = map process_of d.processes;
   ends = d.flows.journal.ends;
   conns = conns_of d.flows.conns;
-  waiting = d.waiting;
+  waiting = d.waiting.items;
   names = d.names;
 }

@@ -66,7 +66,7 @@ impl Dif {
             clock,
             processes,
             flows: Flows::new(alloc),
-            waiting: Seq::new(alloc),
+            waiting: Vec::new(alloc),
             names: Seq::new(alloc),
             failed: false,
         })

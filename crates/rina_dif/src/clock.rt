@@ -6,6 +6,7 @@ ghost use Rattle.rina_law.specs.Direction.{Direction};
 ghost use Rattle.rina_data.specs.Configs.{config_of};
 ghost use Rattle.rina_data.specs.Lifting.{IsLifted, ticked};
 ghost use Rattle.rina_data.specs.Passing.{IsTicked};
+ghost use Rattle.rina_data.specs.Upward.{IsSilent};
 ghost use Rattle.rina_dif.specs.Holding.{Holds};
 ghost use Rattle.rina_dif.specs.Shown.{seen_of};
 
@@ -18,6 +19,9 @@ impl Dif {
         requires { self.old.clock ≤ now }
         ensures ticks { (lines : List Direction) → IsTicked (seen_of self.old) lines now (seen_of self.new) (map (ticked (now - self.old.clock)) lines) }
         ensures keeps { (lines : List Direction) (below below' : Seen) → AreKept below' → IsLifted (config_of self.old.settings) below below' → below'.now ≡ now → Holds self.old lines below → Holds self.new (map (ticked (now - self.old.clock)) lines) below' }
+        ensures silent { IsSilent (seen_of self.old) (seen_of self.new) }
+        ensures settings { self.new.settings ≡ self.old.settings }
+        ensures failed { self.new.failed ≡ self.old.failed }
     {
         self.clock = now;
     }

@@ -19,7 +19,7 @@ pub struct Dif {
     pub(crate) processes: Processes,
     pub(crate) flows: Flows,
     /// The places of the far ends that nobody has claimed yet, the oldest first.
-    pub(crate) waiting: Seq<usize>,
+    pub(crate) waiting: Vec<usize>,
     pub(crate) names: Seq<Registered>,
     /// Memory was wanted and not found: no call that takes memory does anything any more.
     pub(crate) failed: bool,

@@ -6,14 +6,18 @@ ghost use Rattle.rina_iface.specs.Pass.{IsPassed as PassesThere};
 ghost use Rattle.rina_iface.specs.Seen.{Offer, Seen};
 ghost use Rattle.rina_law.specs.declared.entry.Entry.{Entry};
 ghost use Rattle.rina_law.specs.Direction.{Direction};
+ghost use Rattle.rina_data.specs.Configs.{config_of};
 ghost use Rattle.rina_data.specs.Dif.{cube_by};
-ghost use Rattle.rina_dif.specs.Facade.{GoesOn, IsShownAs, PassesAt, RankShows, cube_there, its_cube, its_end, its_oldest, shown_as};
+ghost use Rattle.rina_data.specs.Sending.{home};
+ghost use Rattle.rina_dif.specs.Facade.{GoesOn, IsLedger, IsShownAs, PassesAt, RankShows, StaysStanding, cube_there, its_cube, its_end, its_oldest, shown_as};
 ghost use Rattle.rina_dif.specs.Holding.{Holds};
 ghost use Rattle.rina_dif.specs.Whole.{IsDif};
 
 use crate::dif::Dif;
-use rina_base::{Port, Tick};
+use rina_account::Off;
+use rina_base::{Node, Port, Tick};
 use rina_cube::Cube;
+use rina_data::Settings;
 use rina_iface::{Journal, Lent, PortState};
 
 /// A rank that shows a DIF shows its ends, the cubes of these, and what waits there.
@@ -34,6 +38,25 @@ impl Dif {
         ensures { result ≡ self.now.clock }
     {
         self.clock
+    }
+
+    /// What never changes in it.
+    pub fn settings(&self) -> &Settings
+        ensures { result.now ≡ self.now.settings }
+    {
+        &self.settings
+    }
+
+    /// What the member at a node has written off, the oldest first. None exactly where the DIF has no member there.
+    pub fn ledger(&self, node: Node) -> Option<&[Off]>
+        requires { IsDif self.now }
+        ensures { MatchOption result (home node (config_of self.now.settings).members ≡ None) (λ offs. IsLedger self.now node offs.now) }
+    {
+        let home = self.home(node)?;
+        let Some(process) = self.processes.get(home) else {
+            unreachable!()
+        };
+        Some(process.ledger.lines())
     }
 
     /// All ends of its flows.
@@ -99,6 +122,9 @@ impl Dif {
         ensures does { (lines : List Direction) (below : Seen) → Holds self.old lines below → PassesAt self.old lines port self.new below }
         ensures shown { (s : Seen) → IsShownAs s port.fac self.old → PassesThere s port (shown_as s port.fac self.new) }
         ensures goes_on { GoesOn self.old self.new }
+        ensures stands { StaysStanding self.old self.new }
+        ensures settings { self.new.settings ≡ self.old.settings }
+        ensures failed { self.new.failed ≡ self.old.failed }
     {
         let Some(at) = self.flows.journal.ends.place(port) else {
             unreachable!()

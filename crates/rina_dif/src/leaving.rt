@@ -4,7 +4,9 @@ ghost use Rattle.rina_iface.specs.Later.{IsLater};
 ghost use Rattle.rina_law.specs.Direction.{Direction};
 ghost use Rattle.rina_data.specs.Outgoing.{Outs};
 ghost use Rattle.rina_data.specs.Sending.{home};
+ghost use Rattle.rina_data.specs.Upward.{IsSilent};
 ghost use Rattle.rina_data.specs.declared.step.StepError.TheVariants.{Memory};
+ghost use Rattle.rina_dif.specs.Facade.{GoesOn, OthersStand};
 ghost use Rattle.rina_dif.specs.Holding.{Holds, Stands};
 ghost use Rattle.rina_dif.specs.Shown.{seen_of};
 ghost use Rattle.rina_dif.specs.Steps.{AsksAt, AsksHome, OutsAt};
@@ -60,6 +62,10 @@ impl Dif {
         ensures later { IsLater (F.seen below.old) (F.seen below.new) }
         ensures does { OutsAt (F.refuses_send below.old) (seen_of self.old) (F.seen below.old) node link result (seen_of self.new) (F.seen below.new) }
         ensures keeps { (lines : List Direction) → Holds self.old lines (F.seen below.old) → Holds self.new lines (F.seen below.new) }
+        ensures goes_on { GoesOn self.old self.new }
+        ensures silent { IsSilent (seen_of self.old) (seen_of self.new) }
+        ensures others { OthersStand self.old (F.seen below.old) (F.seen below.new) }
+        ensures settings { self.new.settings ≡ self.old.settings }
         ensures shelf { self.old.failed ≡ false → AsksHome (S.may_answer shelf.old self.old.settings.policy) self.old.settings node link (S.slots shelf.old) (S.slots shelf.new) self.old.processes result self.new.processes }
         ensures failed { self.old.failed ≡ true → result ≡ Err Memory }
         ensures fails { self.new.failed ≡ true ↔ (result ≡ Err Memory) }

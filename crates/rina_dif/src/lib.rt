@@ -1,13 +1,16 @@
 //! A DIF over any facility: its IPC processes, and its flows.
 #![tactic(auto)]
 
+mod asking;
 mod building;
 mod clock;
 mod clocking;
 mod dif;
 mod facade;
+mod freeing;
 mod laying;
 mod leaving;
+mod names;
 mod passing;
 mod processes;
 mod sending;

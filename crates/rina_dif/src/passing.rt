@@ -14,7 +14,8 @@ impl Dif {
         requires stands { (below : Seen) × Stands self.old below }
         requires end { at < length self.old.flows.journal.ends }
         requires waits { (e : End) → slice_get self.old.flows.journal.ends at ≡ Some e → e.taken < length e.got }
-        ensures { (lines : List Direction) (below : Seen) → Holds self.old lines below → Passes self.old lines at self.new below }
+        ensures does { (lines : List Direction) (below : Seen) → Holds self.old lines below → Passes self.old lines at self.new below }
+        ensures same { (self.new.settings ≡ self.old.settings) × (self.new.failed ≡ self.old.failed) }
     {
         self.flows.pass(self.clock, at);
     }

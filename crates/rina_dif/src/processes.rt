@@ -11,13 +11,13 @@ ghost use Rattle.rina_dif.specs.Sending.{AreOf, HasRoomFor, Puts, queued};
 ghost use Rattle.rina_dif.specs.Steps.{AsksAt, Leaves, WillGo};
 ghost use Rattle.rina_dif.specs.Taking.{ArrivesTo, DecidesAt, NotesAt, RoutesAt};
 ghost use Rattle.rina_dif.specs.Timely.{ForwardsAt, WithLedger};
-ghost use Rattle.rina_flows.specs.Delivering.{ForgetsIn};
+ghost use Rattle.rina_flows.specs.Delivering.{ForgetsIn, StopsIn};
 ghost use Rattle.rina_flows.specs.Timely.{GivesUpIn};
 
 use rina_base::{Addr, Cause, Memory, Num, Pdu, PduView, Tick};
 use rina_data::{HopView, IpcProcess, OutStep, Settings, Settled, StepError};
 use rina_flows::Flows;
-use rina_iface::Facility;
+use rina_iface::{Facility, PortState};
 use rina_policy::Picks;
 use rina_queue::{Queued, Queues};
 use std::alloc::{AllocError, Global};
@@ -227,5 +227,25 @@ impl Processes {
     {
         let process = &mut self.items[at];
         flows.give_up(alloc, now, place, &mut process.ledger)
+    }
+
+    /// Lets the end at a place of the flows be in a state in which it is allocated no more, and writes off what its
+    /// connection holds in the ledger of the IPC process at a place. Without memory nothing changes.
+    pub fn stop(
+        &mut self,
+        alloc: Global,
+        at: usize,
+        flows: &mut Flows,
+        now: Tick,
+        place: usize,
+        state: PortState,
+    ) -> Result<(), Memory>
+        requires at { at < length self.old }
+        requires end { place < length flows.old.journal.ends }
+        requires conn { place < length flows.old.conns }
+        ensures { WithLedger (λ flows ledger flows' ledger'. StopsIn now place state flows ledger result flows' ledger') at flows.old self.old flows.new self.new }
+    {
+        let process = &mut self.items[at];
+        flows.stop(alloc, now, place, state, &mut process.ledger)
     }
 }

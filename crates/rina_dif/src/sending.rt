@@ -14,7 +14,7 @@ ghost use Rattle.rina_data.specs.Deciding.{process_of};
 ghost use Rattle.rina_data.specs.Sending.{by_process, home, process_at};
 ghost use Rattle.rina_data.specs.Standing.{IsQos};
 ghost use Rattle.rina_flows.specs.Tied.{ids_of};
-ghost use Rattle.rina_dif.specs.Facade.{GoesOn, IsShownAs, own_refusal, shown_as};
+ghost use Rattle.rina_dif.specs.Facade.{GoesOn, IsShownAs, StaysStanding, own_refusal, shown_as};
 ghost use Rattle.rina_dif.specs.Holding.{AreHoused, Holds};
 ghost use Rattle.rina_dif.specs.Sending.{IsAdmitted, IsBarred, IsWay, SendsAt, Sends, told_as};
 ghost use Rattle.rina_dif.specs.Whole.{IsDif};
@@ -154,6 +154,8 @@ impl Dif {
         ensures does { (lines : List Direction) (below : Seen) → Holds self.old lines below → SendsAt (place_in port self.old.flows.journal.ends) self.old lines below sdu.now result self.new }
         ensures shown { (s : Seen) → IsShownAs s port.fac self.old → SendsThere (own_refusal self.old port (length sdu.now)) s port sdu.now result (shown_as s port.fac self.new) }
         ensures goes_on { GoesOn self.old self.new }
+        ensures stands { StaysStanding self.old self.new }
+        ensures settings { self.new.settings ≡ self.old.settings }
         ensures failed { self.old.failed ≡ true → result ≡ Err Memory }
         ensures fails { self.new.failed ≡ true ↔ (result ≡ Err Memory) }
     {

@@ -5,9 +5,12 @@ ghost use Rattle.rina_iface.specs.Later.{IsLater};
 ghost use Rattle.rina_law.specs.Direction.{Direction};
 ghost use Rattle.rina_data.specs.Hops.{hop_of};
 ghost use Rattle.rina_data.specs.declared.step.StepError.TheVariants.{Memory as MemoryWanted};
+ghost use Rattle.rina_data.specs.Upward.{IsSilent};
 ghost use Rattle.rina_flows.specs.Calls.{TakenBy};
 ghost use Rattle.rina_flows.specs.Tied.{conns_of};
+ghost use Rattle.rina_dif.specs.Facade.{GoesOn, OthersStand};
 ghost use Rattle.rina_dif.specs.Holding.{Holds, Stands};
+ghost use Rattle.rina_dif.specs.Shown.{seen_of};
 ghost use Rattle.rina_dif.specs.Taking.{Comes, IsOwn, SettlesFor, TakesHome, TakesIn};
 
 use crate::dif::Dif;
@@ -39,6 +42,7 @@ impl Dif {
         requires piece { came.now.hop.pdu.kind ≡ Piece }
         requires taken { TakenBy self.old.flows.journal.ends (conns_of self.old.flows.conns) (hop_of came.now.hop).pdu (Some place) }
         ensures does { SettlesFor self.old at came.now.since (hop_of came.now.hop) result self.new }
+        ensures settings { self.new.settings ≡ self.old.settings }
         ensures failed { self.new.failed ≡ self.old.failed }
     {
         let clock = self.clock;
@@ -58,6 +62,7 @@ impl Dif {
         requires comes { Comes self.old came.now.since (hop_of came.now.hop) }
         requires own { IsOwn self.old at came.now.since (hop_of came.now.hop) }
         ensures does { SettlesFor self.old at came.now.since (hop_of came.now.hop) result self.new }
+        ensures settings { self.new.settings ≡ self.old.settings }
         ensures failed { self.new.failed ≡ self.old.failed }
     {
         let pdu = &came.hop.pdu;
@@ -82,6 +87,7 @@ impl Dif {
         requires at { at < length self.old.settings.members }
         requires comes { Comes self.old came.now.since (hop_of came.now.hop) }
         ensures does { SettlesFor self.old at came.now.since (hop_of came.now.hop) result self.new }
+        ensures settings { self.new.settings ≡ self.old.settings }
         ensures failed { self.new.failed ≡ self.old.failed }
     {
         let Some(member) = self.settings.members.get(at) else {
@@ -113,6 +119,7 @@ impl Dif {
         ensures below { F.same_below below.old below.new }
         ensures later { IsLater (F.seen below.old) (F.seen below.new) }
         ensures does { (lines : List Direction) → Holds self.old lines (F.seen below.old) → TakesIn self.old lines (F.seen below.old) at link result self.new (F.seen below.new) }
+        ensures settings { self.new.settings ≡ self.old.settings }
         ensures failed { self.new.failed ≡ self.old.failed }
     {
         let Some(process) = self.processes.get(at) else {
@@ -153,6 +160,10 @@ impl Dif {
         ensures below { F.same_below below.old below.new }
         ensures later { IsLater (F.seen below.old) (F.seen below.new) }
         ensures does { (lines : List Direction) → Holds self.old lines (F.seen below.old) → TakesHome self.old lines (F.seen below.old) node link result self.new (F.seen below.new) }
+        ensures goes_on { GoesOn self.old self.new }
+        ensures silent { IsSilent (seen_of self.old) (seen_of self.new) }
+        ensures others { OthersStand self.old (F.seen below.old) (F.seen below.new) }
+        ensures settings { self.new.settings ≡ self.old.settings }
         ensures failed { self.old.failed ≡ true → result ≡ Err MemoryWanted }
         ensures fails { self.new.failed ≡ true ↔ (result ≡ Err MemoryWanted) }
     {

@@ -57,5 +57,7 @@ fn a_dif_has_an_ipc_process_for_each_member(rt: HostRuntime) -> Result<(), Fail>
     assert_eq!(rt; dif.home(2), None);
     assert!(rt; dif.processes.get(1).is_some());
     assert!(rt; dif.processes.get(2).is_none());
+    assert!(rt; dif.has_member(1) && !dif.has_member(2));
+    assert_eq!(rt; dif.settings().pdu, 100);
     Ok(())
 }

@@ -1,7 +1,29 @@
 use Rattle.std.proofs.Common.{◌∙◌, sym}
+use Rattle.rina_dif.proofs.Beside.{in_is_step, no_step, step_noted}
 use Rattle.rina_dif.proofs.Taken.{takes_home}
 use Rattle.rina_dif.proofs.dif.Dif.in_step.Goals as goal
 
 pub returns-clause-does : goal.returns-clause-does
 returns-clause-does g c = λ lines h.
     takes_home c.args.self.now lines (g.F.Facility.seen c.args.below.now) c.args.node c.args.link c.in-Some.at c.take_in-step.result c.note.result c.take_in-step.new.self c.note.new.failed (g.F.Facility.seen c.take_in-step.new.below) (sym c.home.ensures.place ∙ c.in-Some.is) c.note.ensures.same (c.take_in-step.ensures.does lines h)
+
+pub returns-then-self-clause-goes_on : goal.returns-then-self-clause-goes_on
+returns-then-self-clause-goes_on g c = (no_step c.args.self.now (g.F.Facility.seen c.args.below.now) c.requires.stands).goes_on
+
+pub returns-then-self-clause-silent : goal.returns-then-self-clause-silent
+returns-then-self-clause-silent g c = (no_step c.args.self.now (g.F.Facility.seen c.args.below.now) c.requires.stands).silent
+
+pub returns-in_default-clause-goes_on : goal.returns-in_default-clause-goes_on
+returns-in_default-clause-goes_on g c = (no_step c.args.self.now (g.F.Facility.seen c.args.below.now) c.requires.stands).goes_on
+
+pub returns-in_default-clause-silent : goal.returns-in_default-clause-silent
+returns-in_default-clause-silent g c = (no_step c.args.self.now (g.F.Facility.seen c.args.below.now) c.requires.stands).silent
+
+pub returns-clause-goes_on : goal.returns-clause-goes_on
+returns-clause-goes_on g c = (step_noted c.args.self.now (g.F.Facility.seen c.args.below.now) c.take_in-step.new.self c.note.new.failed (g.F.Facility.seen c.take_in-step.new.below) (in_is_step c.args.self.now (g.F.Facility.seen c.args.below.now) c.in-Some.at c.args.link c.take_in-step.result c.take_in-step.new.self (g.F.Facility.seen c.take_in-step.new.below) (g.met.F.Facility.kept c.args.below.now c.requires.valid) (g.met.F.Facility.kept c.take_in-step.new.below c.take_in-step.ensures.valid) c.requires.stands (c.take_in-step.ensures.does c.requires.stands.0 c.requires.stands.1))).goes_on
+
+pub returns-clause-silent : goal.returns-clause-silent
+returns-clause-silent g c = (step_noted c.args.self.now (g.F.Facility.seen c.args.below.now) c.take_in-step.new.self c.note.new.failed (g.F.Facility.seen c.take_in-step.new.below) (in_is_step c.args.self.now (g.F.Facility.seen c.args.below.now) c.in-Some.at c.args.link c.take_in-step.result c.take_in-step.new.self (g.F.Facility.seen c.take_in-step.new.below) (g.met.F.Facility.kept c.args.below.now c.requires.valid) (g.met.F.Facility.kept c.take_in-step.new.below c.take_in-step.ensures.valid) c.requires.stands (c.take_in-step.ensures.does c.requires.stands.0 c.requires.stands.1))).silent
+
+pub returns-clause-others : goal.returns-clause-others
+returns-clause-others g c = (step_noted c.args.self.now (g.F.Facility.seen c.args.below.now) c.take_in-step.new.self c.note.new.failed (g.F.Facility.seen c.take_in-step.new.below) (in_is_step c.args.self.now (g.F.Facility.seen c.args.below.now) c.in-Some.at c.args.link c.take_in-step.result c.take_in-step.new.self (g.F.Facility.seen c.take_in-step.new.below) (g.met.F.Facility.kept c.args.below.now c.requires.valid) (g.met.F.Facility.kept c.take_in-step.new.below c.take_in-step.ensures.valid) c.requires.stands (c.take_in-step.ensures.does c.requires.stands.0 c.requires.stands.1))).others

@@ -1,5 +1,6 @@
 use Rattle.std.proofs.Common.{◌∙◌, sym}
 use Rattle.rina_dif.specs.Shown.{seen_of}
+use Rattle.rina_dif.proofs.Beside.{no_step, out_is_step, step_noted}
 use Rattle.rina_dif.proofs.Leaves.{asks_home, outs_at}
 use Rattle.rina_dif.proofs.dif.Dif.out_step.Goals as goal
 
@@ -17,3 +18,24 @@ pub returns-clause-shelf : goal.returns-clause-shelf
 returns-clause-shelf g c = λ alive.
     let here = sym c.home.ensures.place ∙ c.in-Some.is in
     rw c.note.ensures.same (asks_home (g.S.Picks.may_answer c.args.shelf.now c.args.self.now.settings.policy) c.args.self.now.settings c.args.node c.args.link c.in-Some.at (g.S.Picks.slots c.args.shelf.now) (g.S.Picks.slots c.send_from-step.new.shelf) c.args.self.now.processes c.send_from-step.result c.send_from-step.new.self.processes here c.send_from-step.ensures.shelf)
+
+pub returns-then-self-clause-goes_on : goal.returns-then-self-clause-goes_on
+returns-then-self-clause-goes_on g c = (no_step c.args.self.now (g.F.Facility.seen c.args.below.now) c.requires.stands).goes_on
+
+pub returns-then-self-clause-silent : goal.returns-then-self-clause-silent
+returns-then-self-clause-silent g c = (no_step c.args.self.now (g.F.Facility.seen c.args.below.now) c.requires.stands).silent
+
+pub returns-in_default-clause-goes_on : goal.returns-in_default-clause-goes_on
+returns-in_default-clause-goes_on g c = (no_step c.args.self.now (g.F.Facility.seen c.args.below.now) c.requires.stands).goes_on
+
+pub returns-in_default-clause-silent : goal.returns-in_default-clause-silent
+returns-in_default-clause-silent g c = (no_step c.args.self.now (g.F.Facility.seen c.args.below.now) c.requires.stands).silent
+
+pub returns-clause-goes_on : goal.returns-clause-goes_on
+returns-clause-goes_on g c = (step_noted c.args.self.now (g.F.Facility.seen c.args.below.now) c.send_from-step.new.self c.note.new.failed (g.F.Facility.seen c.send_from-step.new.below) (out_is_step (g.F.Facility.refuses_send c.args.below.now) c.args.self.now (g.F.Facility.seen c.args.below.now) c.in-Some.at c.args.link c.send_from-step.result c.send_from-step.new.self (g.F.Facility.seen c.send_from-step.new.below) (g.met.F.Facility.kept c.args.below.now c.requires.valid) (g.met.F.Facility.kept c.send_from-step.new.below c.send_from-step.ensures.valid) c.requires.stands c.send_from-step.ensures.does c.send_from-step.ensures.keeps)).goes_on
+
+pub returns-clause-silent : goal.returns-clause-silent
+returns-clause-silent g c = (step_noted c.args.self.now (g.F.Facility.seen c.args.below.now) c.send_from-step.new.self c.note.new.failed (g.F.Facility.seen c.send_from-step.new.below) (out_is_step (g.F.Facility.refuses_send c.args.below.now) c.args.self.now (g.F.Facility.seen c.args.below.now) c.in-Some.at c.args.link c.send_from-step.result c.send_from-step.new.self (g.F.Facility.seen c.send_from-step.new.below) (g.met.F.Facility.kept c.args.below.now c.requires.valid) (g.met.F.Facility.kept c.send_from-step.new.below c.send_from-step.ensures.valid) c.requires.stands c.send_from-step.ensures.does c.send_from-step.ensures.keeps)).silent
+
+pub returns-clause-others : goal.returns-clause-others
+returns-clause-others g c = (step_noted c.args.self.now (g.F.Facility.seen c.args.below.now) c.send_from-step.new.self c.note.new.failed (g.F.Facility.seen c.send_from-step.new.below) (out_is_step (g.F.Facility.refuses_send c.args.below.now) c.args.self.now (g.F.Facility.seen c.args.below.now) c.in-Some.at c.args.link c.send_from-step.result c.send_from-step.new.self (g.F.Facility.seen c.send_from-step.new.below) (g.met.F.Facility.kept c.args.below.now c.requires.valid) (g.met.F.Facility.kept c.send_from-step.new.below c.send_from-step.ensures.valid) c.requires.stands c.send_from-step.ensures.does c.send_from-step.ensures.keeps)).others

@@ -1,7 +1,5 @@
-use Rattle.std.proofs.Common.{◌≡◌, ◌∙◌, None, Option, Some, ap, option_map, sym}
-use Rattle.rina_cube.specs.declared.Cube.{Cube}
+use Rattle.std.proofs.Common.{◌∙◌, None, Some, ap, option_map, sym}
 use Rattle.rina_iface.specs.Seen.{Offer}
-use Rattle.rina_dif.specs.Facade.{cube_there}
 use Rattle.rina_dif.proofs.Facing.{limits_of, offer_is}
 use Rattle.rina_dif.proofs.dif.Dif.promise.Goals as goal
 

@@ -1,0 +1,170 @@
+-- What a step of a DIF is to its rank, and to the DIFs beside it.
+use Rattle.std.proofs.Common.{◌≡◌, ◌∙◌, ℕ, ◌≤◌, Bool, List, slice_get, length, Option, Some, Result, Ok, Err, refl, sym, ap, subst, arith}
+use Rattle.rina_base.specs.declared.cause.Cause.{Cause}
+use Rattle.rina_base.specs.declared.cause.Cause.TheVariants as causes
+use Rattle.rina_base.specs.declared.number.Key.{Key}
+use Rattle.rina_base.specs.declared.number.Port.{Port}
+use Rattle.rina_iface.specs.declared.ends.End.{End}
+use Rattle.rina_iface.specs.declared.error.SendError.{SendError}
+use Rattle.rina_iface.specs.Journal.{AreKept}
+use Rattle.rina_iface.specs.Seen.{Seen, end_of}
+use Rattle.rina_iface.proofs.Later.{fac_refl}
+use Rattle.rina_iface.proofs.LaterCalls.{later_passes, later_sends}
+use Rattle.rina_law.specs.declared.entry.Entry.{Entry}
+use Rattle.rina_law.specs.Direction.{Direction}
+use Rattle.rina_data.specs.declared.step.InStep.{InStep}
+use Rattle.rina_data.specs.declared.step.InStep.TheVariants as in_
+use Rattle.rina_data.specs.declared.step.OutStep.{OutStep}
+use Rattle.rina_data.specs.declared.step.OutStep.TheVariants as out
+use Rattle.rina_data.specs.declared.step.StepError.{StepError}
+use Rattle.rina_data.specs.declared.step.StepError.TheVariants.{Memory, NoIpc, NoLink}
+use Rattle.rina_data.specs.Cloud.{IsMine}
+use Rattle.rina_data.specs.Configs.{config_of}
+use Rattle.rina_data.specs.Dif.{Config, DifSeen, Process, fac_of}
+use Rattle.rina_data.specs.Incoming.{Ins}
+use Rattle.rina_data.specs.Others.{AreApart}
+use Rattle.rina_data.specs.Outgoing.{Goes, IsForwarded, Offs, Outs, sent_bytes}
+use Rattle.rina_data.specs.Standing.{IsStanding}
+use Rattle.rina_data.specs.Upward.{IsSilent}
+use Rattle.rina_data.proofs.After.{IsAfter, NoMore, after_none, after_passed, after_sent, no_more_of_others}
+use Rattle.rina_data.proofs.Carries.{after_carries}
+use Rattle.rina_data.proofs.Ends.{same_some}
+use Rattle.rina_data.proofs.Finding.{beside, live_link}
+use Rattle.rina_data.proofs.Keepers.{facility}
+use Rattle.rina_data.proofs.Numbering.{beside_after}
+use Rattle.rina_data.proofs.Taking.{still_stands}
+use Rattle.rina_data.proofs.Upper.{ins_silent, outs_silent}
+use Rattle.rina_dif.specs.declared.dif.Dif.{Dif}
+use Rattle.rina_dif.specs.Facade.{GoesOn, OthersStand}
+use Rattle.rina_dif.specs.Holding.{Holds, Stands}
+use Rattle.rina_dif.specs.Shown.{seen_of}
+use Rattle.rina_dif.specs.Taking.{TakesIn}
+use Rattle.rina_dif.specs.Whole.{IsDif}
+
+-- What another DIF sends or takes below is nothing to a DIF
+
+-- no member of it sent anything, and the clock stayed
+record IsAside (g : Config) (below below' : Seen) : Type 0 where
+  after : IsAfter g NoMore below below'
+  clock : below'.now ≡ below.now
+
+aside_same : (g : Config) (below below' : Seen) → below' ≡ below → IsAside g below below'
+aside_same g below below' is = subst (IsAside g below) (sym is) (record { after = after_none g below; clock = refl })
+
+forwarded_aside : (refuses : Port → ℕ → Option SendError) (d o : DifSeen) (olines : List Direction) (below : Seen) (i n : ℕ) (process : Process) (key : Key) (process' : Process) (below' : Seen) → AreKept below → AreKept below' → IsStanding o olines below → AreApart o d → slice_get o.processes i ≡ Some process → IsForwarded refuses o.config o.clock process below n key process' below' → IsAside d.config below below'
+forwarded_aside refuses d o olines below i n process key process' below' kept kept' so apart is_process s =
+    let bytes : List ℕ = sent_bytes o.config o.clock s.item s.promise in
+    let x : Entry = record { tick = below.now; num = s.num; bytes = bytes } in
+    let later = later_sends (refuses s.link.port (length bytes)) below s.link.port bytes (Ok s.num) below' s.sent in
+    let member = beside o.processes o.config.members i process (sym so.aligned) is_process in
+    let link = so.linked i member.0 s.link member.1 (live_link o.processes i n process s.link is_process s.head.is_link) in
+    let others : (e : End) → end_of below s.link.port ≡ Some e → IsMine d.config.members e.app → ⊥ = λ e h mine.
+    (let is = same_some (end_of below s.link.port) e link.end h link.here in
+    apart member.0.name (record { addr = member.0.addr; member = record { place = i; member = member.0; stands = member.1; addr_is = refl; name_is = refl } }) (subst (IsMine d.config.members) (ap (λ (z : End). z.app) is ∙ link.app) mine)) in
+    let after = after_sent d.config below s.link.port bytes s.num below' kept kept' later s.sent.1 in
+    record { after = no_more_of_others d.config s.link.port x below below' others after; clock = ap (λ (z : Seen). z.now) s.sent.1.new_is }
+
+offs_aside : (refuses : Port → ℕ → Option SendError) (d o : DifSeen) (below : Seen) (n : ℕ) (process : Process) (key : Key) (cause : Cause) (process' : Process) (below' : Seen) → Offs refuses o.config o.clock process below n key cause process' below' → IsAside d.config below below'
+offs_aside refuses d o below n process key (causes.Expired left charge) process' below' s = aside_same d.config below below' s.below_is
+offs_aside refuses d o below n process key (causes.LinkDown port) process' below' s = aside_same d.config below below' s.below_is
+offs_aside refuses d o below n process key (causes.NoRoute dst) process' below' s = absurd s
+offs_aside refuses d o below n process key (causes.QueueFull cap) process' below' s = absurd s
+offs_aside refuses d o below n process key (causes.NoConnection cep) process' below' s = absurd s
+offs_aside refuses d o below n process key (causes.Duplicate num) process' below' s = absurd s
+offs_aside refuses d o below n process key (causes.Behind highest) process' below' s = absurd s
+offs_aside refuses d o below n process key (causes.NoState drf) process' below' s = absurd s
+offs_aside refuses d o below n process key (causes.NoRoom cap) process' below' s = absurd s
+offs_aside refuses d o below n process key (causes.StateGone last_in) process' below' s = absurd s
+offs_aside refuses d o below n process key (causes.Broken missing) process' below' s = absurd s
+
+goes_aside : (refuses : Port → ℕ → Option SendError) (d o : DifSeen) (olines : List Direction) (below : Seen) (i n : ℕ) (process : Process) (r : Result OutStep StepError) (process' : Process) (below' : Seen) → AreKept below → AreKept below' → IsStanding o olines below → AreApart o d → slice_get o.processes i ≡ Some process → Goes refuses o.config o.clock process below n r process' below' → IsAside d.config below below'
+goes_aside refuses d o olines below i n process (Ok out.Idle) process' below' kept kept' so apart is s = aside_same d.config below below' s.3
+goes_aside refuses d o olines below i n process (Ok (out.Sent key)) process' below' kept kept' so apart is s = forwarded_aside refuses d o olines below i n process key process' below' kept kept' so apart is s
+goes_aside refuses d o olines below i n process (Ok (out.Off key cause)) process' below' kept kept' so apart is s = offs_aside refuses d o below n process key cause process' below' s
+goes_aside refuses d o olines below i n process (Ok (out.Held why)) process' below' kept kept' so apart is s = aside_same d.config below below' s.2
+goes_aside refuses d o olines below i n process (Err Memory) process' below' kept kept' so apart is s = aside_same d.config below below' s.1
+goes_aside refuses d o olines below i n process (Err NoIpc) process' below' kept kept' so apart is s = absurd s
+goes_aside refuses d o olines below i n process (Err NoLink) process' below' kept kept' so apart is s = aside_same d.config below below' s.2
+
+outs_aside : (refuses : Port → ℕ → Option SendError) (d o : DifSeen) (olines : List Direction) (below : Seen) (i n : ℕ) (r : Result OutStep StepError) (o' : DifSeen) (below' : Seen) → AreKept below → AreKept below' → IsStanding o olines below → AreApart o d → Outs refuses o below i n r o' below' → IsAside d.config below below'
+outs_aside refuses d o olines below i n (Ok x) o' below' kept kept' so apart s = goes_aside refuses d o olines below i n s.process (Ok x) s.process' below' kept kept' so apart s.is_process s.done
+outs_aside refuses d o olines below i n (Err Memory) o' below' kept kept' so apart s = goes_aside refuses d o olines below i n s.process (Err Memory) s.process' below' kept kept' so apart s.is_process s.done
+outs_aside refuses d o olines below i n (Err NoIpc) o' below' kept kept' so apart s = aside_same d.config below below' s.2
+outs_aside refuses d o olines below i n (Err NoLink) o' below' kept kept' so apart s = goes_aside refuses d o olines below i n s.process (Err NoLink) s.process' below' kept kept' so apart s.is_process s.done
+
+ins_aside : (g : Config) (o : DifSeen) (olines : List Direction) (below : Seen) (i n : ℕ) (r : Result InStep StepError) (o' : DifSeen) (olines' : List Direction) (below' : Seen) → AreKept below → AreKept below' → Ins o olines below i n r o' olines' below' → IsAside g below below'
+ins_aside g o olines below i n (Ok in_.Idle) o' olines' below' kept kept' s = aside_same g below below' s.3
+ins_aside g o olines below i n (Ok (in_.Took key end)) o' olines' below' kept kept' s = record { after = after_passed g below s.link.port below' kept kept' (later_passes below s.link.port below' s.passed) s.passed; clock = ap (λ (x : Seen). x.now) s.passed.new_is }
+ins_aside g o olines below i n (Err Memory) o' olines' below' kept kept' s = aside_same g below below' s.2
+ins_aside g o olines below i n (Err NoIpc) o' olines' below' kept kept' s = aside_same g below below' s.3
+ins_aside g o olines below i n (Err NoLink) o' olines' below' kept kept' s = aside_same g below below' s.3
+
+-- so a DIF holds on
+holds_aside : (d : Dif) (lines : List Direction) (below below' : Seen) → IsAside (config_of d.settings) below below' → Holds d lines below → Holds d lines below'
+holds_aside d lines below below' a h = record {
+  tied = h.tied;
+  standing = still_stands (seen_of d) lines below below' h.standing a.after a.clock;
+  carrying = after_carries (seen_of d) lines NoMore below below' h.carrying a.after;
+  numbered = beside_after (seen_of d) below below' h.numbered a.after;
+  housed = h.housed;
+}
+
+-- What a step is to the rank
+
+-- it is silent, the clock stays, and the DIFs beside it stand
+pub record IsStep (d : Dif) (below : Seen) (d' : Dif) (below' : Seen) : Type 0 where
+  pub goes_on : GoesOn d d'
+  pub silent : IsSilent (seen_of d) (seen_of d')
+  pub others : OthersStand d below below'
+
+silent_refl : (d : DifSeen) → IsSilent d d
+silent_refl d = record {
+  later = fac_refl d.clock d.clock (fac_of d);
+  number = refl;
+  same = λ i e e' h h'. (let is : e' ≡ e = cc in (ap (λ (z : End). z.sent) is, ap (λ (z : End). z.taken) is));
+}
+
+-- nothing was done
+pub no_step : (d : Dif) (below : Seen) → Stands d below → IsStep d below d below
+no_step d below st = record {
+  goes_on = record { later = fac_refl d.clock d.clock (fac_of (seen_of d)); facility = facility (seen_of d) st.0 below st.1.standing; clock = refl };
+  silent = silent_refl (seen_of d);
+  others = λ other lines apart h. h;
+}
+
+-- whether memory was wanted is noted
+pub step_noted : (d : Dif) (below : Seen) (d' : Dif) (failed : Bool) (below' : Seen) → IsStep d below d' below' → IsStep d below (record d' { failed = failed }) below'
+step_noted d below d' failed below' s = record {
+  goes_on = record { later = s.goes_on.later; facility = s.goes_on.facility; clock = s.goes_on.clock };
+  silent = s.silent;
+  others = s.others;
+}
+
+step_clock : (d : DifSeen) (refuses : Port → ℕ → Option SendError) (below : Seen) (i n : ℕ) (r : Result OutStep StepError) (d' : DifSeen) (below' : Seen) → Outs refuses d below i n r d' below' → d'.clock ≡ d.clock
+step_clock d refuses below i n (Ok x) d' below' s = ap (λ (y : DifSeen). y.clock) s.new_is
+step_clock d refuses below i n (Err Memory) d' below' s = ap (λ (y : DifSeen). y.clock) s.new_is
+step_clock d refuses below i n (Err NoIpc) d' below' s = ap (λ (y : DifSeen). y.clock) s.1
+step_clock d refuses below i n (Err NoLink) d' below' s = ap (λ (y : DifSeen). y.clock) s.new_is
+
+pub out_is_step : (refuses : Port → ℕ → Option SendError) (d : Dif) (below : Seen) (i n : ℕ) (r : Result OutStep StepError) (d' : Dif) (below' : Seen) → AreKept below → AreKept below' → Stands d below → Outs refuses (seen_of d) below i n r (seen_of d') below' → ((lines : List Direction) → Holds d lines below → Holds d' lines below') → IsStep d below d' below'
+out_is_step refuses d below i n r d' below' kept kept' st outs keeps =
+    let silent = outs_silent refuses (seen_of d) below i n r (seen_of d') below' outs in
+    record {
+      goes_on = record { later = silent.later; facility = facility (seen_of d') st.0 below' (keeps st.0 st.1).standing; clock = step_clock (seen_of d) refuses below i n r (seen_of d') below' outs };
+      silent = silent;
+      others = λ other lines apart h. holds_aside other lines below below' (outs_aside refuses (seen_of other) (seen_of d) st.0 below i n r (seen_of d') below' kept kept' st.1.standing apart outs) h;
+    }
+
+pub in_is_step : (d : Dif) (below : Seen) (i n : ℕ) (r : Result InStep StepError) (d' : Dif) (below' : Seen) → AreKept below → AreKept below' → (st : Stands d below) → TakesIn d st.0 below i n r d' below' → IsStep d below d' below'
+in_is_step d below i n r d' below' kept kept' st t =
+    let clock = (ins_aside (config_of d.settings) (seen_of d) st.0 below i n r (seen_of d') t.lines' below' kept kept' t.does).clock in
+    let silent = ins_silent (seen_of d) st.0 below i n r (seen_of d') t.lines' below' st.1.standing t.does in
+    record {
+      goes_on = record { later = silent.later; facility = facility (seen_of d') t.lines' below' t.holds.standing; clock = t.holds.standing.clock ∙ clock ∙ sym st.1.standing.clock };
+      silent = silent;
+      others = λ other lines apart h. holds_aside other lines below below' (ins_aside (config_of other.settings) (seen_of d) st.0 below i n r (seen_of d') t.lines' below' kept kept' t.does) h;
+    }
+
+-- a DIF that stands is one at every moment
+pub stands_whole : (d : Dif) (below : Seen) → below.now ≤ 10000000 → Stands d below → IsDif d
+stands_whole d below ends st = record { below = below; stands = st; clock = (let c = st.1.standing.clock in omega (arith, c, ends)) }
