@@ -12,6 +12,8 @@ use Rattle.rina_iface.proofs.Later.{fac_refl}
 use Rattle.rina_iface.proofs.LaterCalls.{later_passes, later_sends}
 use Rattle.rina_law.specs.declared.entry.Entry.{Entry}
 use Rattle.rina_law.specs.Direction.{Direction}
+use Rattle.rina_data.specs.declared.step.ClockStep.{ClockStep}
+use Rattle.rina_data.specs.declared.step.ClockStep.TheVariants as step
 use Rattle.rina_data.specs.declared.step.InStep.{InStep}
 use Rattle.rina_data.specs.declared.step.InStep.TheVariants as in_
 use Rattle.rina_data.specs.declared.step.OutStep.{OutStep}
@@ -30,11 +32,13 @@ use Rattle.rina_data.proofs.After.{IsAfter, NoMore, after_none, after_passed, af
 use Rattle.rina_data.proofs.Carries.{after_carries}
 use Rattle.rina_data.proofs.Ends.{same_some}
 use Rattle.rina_data.proofs.Finding.{beside, live_link}
+use Rattle.rina_data.proofs.Finishing.{ended_silent}
 use Rattle.rina_data.proofs.Keepers.{facility}
 use Rattle.rina_data.proofs.Numbering.{beside_after}
 use Rattle.rina_data.proofs.Taking.{still_stands}
-use Rattle.rina_data.proofs.Upper.{ins_silent, outs_silent}
+use Rattle.rina_data.proofs.Upper.{acknowledged_silent, forgotten_silent, ins_silent, outs_silent, resent_silent}
 use Rattle.rina_dif.specs.declared.dif.Dif.{Dif}
+use Rattle.rina_dif.specs.Clocking.{Steps, StepsHere}
 use Rattle.rina_dif.specs.Facade.{GoesOn, OthersStand}
 use Rattle.rina_dif.specs.Holding.{Holds, Stands}
 use Rattle.rina_dif.specs.Shown.{seen_of}
@@ -164,6 +168,31 @@ in_is_step d below i n r d' below' kept kept' st t =
       silent = silent;
       others = λ other lines apart h. holds_aside other lines below below' (ins_aside (config_of other.settings) (seen_of d) st.0 below i n r (seen_of d') t.lines' below' kept kept' t.does) h;
     }
+
+-- what comes with time
+steps_silent : (d : Dif) (lines : List Direction) (node : ℕ) (done : ClockStep) (new : DifSeen) (lines' : List Direction) → Steps d lines node done new lines' → IsSilent (seen_of d) new
+steps_silent d lines node step.Idle new lines' s = subst (IsSilent (seen_of d)) (sym s.1) (silent_refl (seen_of d))
+steps_silent d lines node (step.Gone cep) new lines' s = forgotten_silent (seen_of d) lines s.at new lines' s.forgotten
+steps_silent d lines node (step.GaveUp num) new lines' s = ended_silent (seen_of d) lines s.at _ new s.given_up.ended
+steps_silent d lines node (step.Ack cep) new lines' s = acknowledged_silent (seen_of d) lines s.at s.cause new lines' s.acknowledged
+steps_silent d lines node (step.Again num) new lines' s = resent_silent (seen_of d) lines s.at s.cause new lines' s.resent
+steps_silent d lines node (step.LinkLost link) new lines' s = absurd s
+steps_silent d lines node (step.LinkNew link) new lines' s = absurd s
+steps_silent d lines node (step.Timeout port) new lines' s = absurd s
+steps_silent d lines node (step.Message link) new lines' s = absurd s
+
+clock_on : (d : Dif) (below : Seen) (d' : Dif) (lines' : List Direction) → Stands d below → IsSilent (seen_of d) (seen_of d') → Holds d' lines' below → IsStep d below d' below
+clock_on d below d' lines' st silent h = record {
+  goes_on = record { later = silent.later; facility = facility (seen_of d') lines' below h.standing; clock = h.standing.clock ∙ sym st.1.standing.clock };
+  silent = silent;
+  others = λ other lines apart x. x;
+}
+
+pub clock_is_step : (d : Dif) (below : Seen) (node : ℕ) (r : Result ClockStep StepError) (d' : Dif) → (st : Stands d below) → StepsHere d st.0 below node r d' → IsStep d below d' below
+clock_is_step d below node (Ok done) d' st s = clock_on d below d' s.lines' st (steps_silent d st.0 node done (seen_of d') s.lines' s.does) s.holds
+clock_is_step d below node (Err Memory) d' st s = clock_on d below d' st.0 st (subst (IsSilent (seen_of d)) (sym s.0) (silent_refl (seen_of d))) s.1
+clock_is_step d below node (Err NoIpc) d' st s = absurd s
+clock_is_step d below node (Err NoLink) d' st s = absurd s
 
 -- a DIF that stands is one at every moment
 pub stands_whole : (d : Dif) (below : Seen) → below.now ≤ 10000000 → Stands d below → IsDif d

@@ -5,9 +5,12 @@ ghost use Rattle.rina_iface.specs.Seen.{Seen};
 ghost use Rattle.rina_law.specs.Direction.{Direction};
 ghost use Rattle.rina_data.specs.Configs.{config_of};
 ghost use Rattle.rina_data.specs.Sending.{home};
+ghost use Rattle.rina_data.specs.Upward.{IsSilent};
 ghost use Rattle.rina_data.specs.declared.step.StepError.TheVariants.{Memory as MemoryWanted};
 ghost use Rattle.rina_dif.specs.Clocking.{ClockSteps, FailsLate, FindsFirst, FindsNext, IsDueAt, IsHere, IsIn, StepsHere, earlier};
+ghost use Rattle.rina_dif.specs.Facade.{GoesOn, OthersStand};
 ghost use Rattle.rina_dif.specs.Holding.{Holds, Stands};
+ghost use Rattle.rina_dif.specs.Shown.{seen_of};
 
 use crate::dif::Dif;
 use rina_base::{Cep, Node};
@@ -161,6 +164,9 @@ impl Dif {
         ensures later { IsLater (F.seen below.old) (F.seen below.new) }
         ensures does { (lines : List Direction) → Holds self.old lines (F.seen below.old) → ClockSteps self.old lines (F.seen below.old) node result self.new (F.seen below.new) }
         ensures fails_late { (lines : List Direction) → Holds self.old lines (F.seen below.old) → FailsLate self.old lines self.new }
+        ensures goes_on { GoesOn self.old self.new }
+        ensures silent { IsSilent (seen_of self.old) (seen_of self.new) }
+        ensures others { OthersStand self.old (F.seen below.old) (F.seen below.new) }
         ensures settings { self.new.settings ≡ self.old.settings }
         ensures failed { self.old.failed ≡ true → result ≡ Err MemoryWanted }
         ensures fails { self.new.failed ≡ true ↔ (result ≡ Err MemoryWanted) }

@@ -1,4 +1,5 @@
 use Rattle.std.proofs.Common.{◌∙◌, sym}
+use Rattle.rina_dif.proofs.Beside.{clock_is_step, no_step, step_noted}
 use Rattle.rina_dif.proofs.Failing.{fails_late, steps_home}
 use Rattle.rina_dif.proofs.dif.Dif.clock_step.Goals as goal
 
@@ -9,3 +10,21 @@ returns-clause-does g c = λ lines h.
 pub returns-clause-fails_late : goal.returns-clause-fails_late
 returns-clause-fails_late g c = λ lines h.
     fails_late c.args.self.now lines (g.F.Facility.seen c.args.below.now) c.args.node c.do_next-step.result c.do_next-step.new.self h (c.do_next-step.ensures.does lines (g.F.Facility.seen c.args.below.now) h)
+
+pub returns-then-self-clause-goes_on : goal.returns-then-self-clause-goes_on
+returns-then-self-clause-goes_on g c = (no_step c.args.self.now (g.F.Facility.seen c.args.below.now) c.requires.stands).goes_on
+
+pub returns-then-self-clause-silent : goal.returns-then-self-clause-silent
+returns-then-self-clause-silent g c = (no_step c.args.self.now (g.F.Facility.seen c.args.below.now) c.requires.stands).silent
+
+pub returns-in_default-clause-goes_on : goal.returns-in_default-clause-goes_on
+returns-in_default-clause-goes_on g c = (no_step c.args.self.now (g.F.Facility.seen c.args.below.now) c.requires.stands).goes_on
+
+pub returns-in_default-clause-silent : goal.returns-in_default-clause-silent
+returns-in_default-clause-silent g c = (no_step c.args.self.now (g.F.Facility.seen c.args.below.now) c.requires.stands).silent
+
+pub returns-clause-goes_on : goal.returns-clause-goes_on
+returns-clause-goes_on g c = (step_noted c.args.self.now (g.F.Facility.seen c.args.below.now) c.do_next-step.new.self c.note.new.failed (g.F.Facility.seen c.args.below.now) (clock_is_step c.args.self.now (g.F.Facility.seen c.args.below.now) c.args.node c.do_next-step.result c.do_next-step.new.self c.requires.stands (c.do_next-step.ensures.does c.requires.stands.0 (g.F.Facility.seen c.args.below.now) c.requires.stands.1))).goes_on
+
+pub returns-clause-silent : goal.returns-clause-silent
+returns-clause-silent g c = (step_noted c.args.self.now (g.F.Facility.seen c.args.below.now) c.do_next-step.new.self c.note.new.failed (g.F.Facility.seen c.args.below.now) (clock_is_step c.args.self.now (g.F.Facility.seen c.args.below.now) c.args.node c.do_next-step.result c.do_next-step.new.self c.requires.stands (c.do_next-step.ensures.does c.requires.stands.0 (g.F.Facility.seen c.args.below.now) c.requires.stands.1))).silent
