@@ -160,7 +160,7 @@ module _ (d : DifSeen) (lines : List Direction) (below : Seen) (st : IsStanding 
   ]
 
   -- the name of the flow that a member asks for next is none that stands
-  new_name : (node : ℕ) (member : Member) (i : ℕ) (e : End) → MayDraw d node member → At d.ends i e → e.flow ≢ flow_next d node member
+  pub new_name : (node : ℕ) (member : Member) (i : ℕ) (e : End) → MayDraw d node member → At d.ends i e → e.flow ≢ flow_next d node member
   new_name node member i e m is same =
       let c = n.counted i e is in
       let member_is : c.member ≡ member = same_member c.place m.place c.member member c.stands m.stands (c.addr ∙ ap (λ (f : FlowName). f.src) same) in

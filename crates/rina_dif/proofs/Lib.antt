@@ -1,4 +1,5 @@
 pub mod Bare
+pub mod Bound
 pub mod Barred
 pub mod Beside
 pub mod Claimed

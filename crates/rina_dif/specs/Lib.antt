@@ -1,3 +1,4 @@
+pub mod Binding
 pub mod Building
 pub mod Clocking
 pub mod Facade

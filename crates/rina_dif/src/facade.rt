@@ -26,7 +26,7 @@ pub fn a_rank_shows_its_difs()
 {}
 
 /// The cube of an id. None exactly where there is none.
-fn cube_of(cubes: &[Cube], id: u8) -> Option<&Cube>
+pub(crate) fn cube_of(cubes: &[Cube], id: u8) -> Option<&Cube>
     ensures { option_map (λ c. c.now) result ≡ cube_by id cubes.now }
 {
     cubes.iter().find(|cube| cube.id == id)

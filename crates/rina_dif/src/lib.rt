@@ -2,6 +2,7 @@
 #![tactic(auto)]
 
 mod asking;
+mod binding;
 mod building;
 mod clock;
 mod clocking;

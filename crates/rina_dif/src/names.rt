@@ -19,7 +19,7 @@ use rina_iface::{RegisterError, Registered, UnregisterError};
 use std::alloc::Global;
 
 /// Whether an application is registered at a node.
-fn is_registered(names: &[Registered], node: Node, app: &AppName) -> bool
+pub(crate) fn is_registered(names: &[Registered], node: Node, app: &AppName) -> bool
     ensures { result ≡ is_registered names.now node app.now }
 {
     names.iter().any(|one| one.node == node && one.app.is(app))

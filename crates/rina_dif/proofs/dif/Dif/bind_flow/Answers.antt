@@ -1,0 +1,30 @@
+use Rattle.std.proofs.Common.{◌≡◌, ◌∙◌, ℕ, ap, arith, refl}
+use Rattle.rina_base.specs.declared.number.FlowName.{FlowName}
+use Rattle.rina_iface.specs.Ends.{drawn_at}
+use Rattle.rina_data.specs.Numbered.{asked_at}
+use Rattle.rina_dif.proofs.Bound.{asked_small, asker_is, binds, far_is, next_small}
+use Rattle.rina_dif.proofs.dif.Dif.bind_flow.Goals as goal
+
+pub overflow_cast-flow : goal.overflow_cast-flow
+overflow_cast-flow c =
+    let ends = c.args.self.now.flows.journal.ends in
+    let node = c.args.fixed.now.a in
+    let m = c.requires.may in
+    let next = next_small c.args.self.now node (drawn_at node ends) c.requires.valid (m.of_a, m.at_a) refl in
+    let less = asked_small node ends in
+    let is = c.asked.ensures ∙ ap (asked_at node) c.as_slice.ensures in
+    omega (arith, next, less, is)
+
+pub returns-clause-does : goal.returns-clause-does
+returns-clause-does c =
+    let d = c.args.self.now in
+    let fixed = c.args.fixed.now in
+    let near = c.draw-near.result in
+    let other = c.draw-other.result in
+    let count = c.asked.ensures ∙ ap (asked_at fixed.a) c.as_slice.ensures in
+    let flow : FlowName = record { src = near.addr; tick = d.clock; count = c.asked.result } in
+    let flow_is : flow ≡ record { src = near.addr; tick = d.clock; count = asked_at fixed.a d.flows.journal.ends } = ap (λ (k : ℕ). record { src = near.addr; tick = d.clock; count = k }) count in
+    binds d fixed c.requires.may near other c.draw-near.ensures c.draw-other.ensures c.in_ok-asker.asker c.in_ok-far.far c.add_named.new.self
+    (c.in_ok-asker.ensures ∙ asker_is d fixed c.requires.may near other c.draw-near.ensures c.draw-other.ensures flow flow_is)
+    (c.in_ok-far.ensures ∙ far_is d fixed c.requires.may near other c.draw-near.ensures c.draw-other.ensures flow flow_is)
+    c.in_ok-add_named.ensures.ok c.in_ok-add_named.ensures.rest

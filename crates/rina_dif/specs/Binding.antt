@@ -1,0 +1,63 @@
+-- A flow that the stack fixes, at a DIF.
+use Rattle.std.specs.Prelude.{◌≡◌, ◌≢◌, ℕ, List, [], ◌∷◌, ◌++◌, Some, Result, Ok, Err}
+use Rattle.rina_base.specs.declared.number.Port.{Port}
+use Rattle.rina_conn.specs.declared.form.Peer.{Peer}
+use Rattle.rina_cube.specs.declared.Cube.{Cube}
+use Rattle.rina_iface.specs.declared.ask.Fixed.{Fixed}
+use Rattle.rina_iface.specs.declared.ends.End.{End}
+use Rattle.rina_iface.specs.declared.error.AllocateError.{AllocateError}
+use Rattle.rina_iface.specs.declared.error.AllocateError.TheVariants.{Memory}
+use Rattle.rina_iface.specs.Allocate.{next_port}
+use Rattle.rina_iface.specs.Seen.{Seen}
+use Rattle.rina_law.specs.Direction.{Direction}
+use Rattle.rina_data.specs.declared.settings.Settings.{Settings}
+use Rattle.rina_data.specs.Binding.{IsBound, MayDraw}
+use Rattle.rina_data.specs.Configs.{config_of}
+use Rattle.rina_data.specs.Dif.{Member, cube_by, fac_of, greatest, piece_size}
+use Rattle.rina_flows.specs.declared.flows.Flows.{Flows}
+use Rattle.rina_flows.specs.Adding.{Adds}
+use Rattle.rina_dif.specs.declared.binding.NextEnd.{NextEnd}
+use Rattle.rina_dif.specs.declared.dif.Dif.{Dif}
+use Rattle.rina_dif.specs.Holding.{Holds}
+use Rattle.rina_dif.specs.Shown.{seen_of}
+
+-- the flow may be made: the DIF is the facility that is meant, and has the cube, and a member with a CEP-id more at each
+-- of two nodes
+pub record MayBind (d : Dif) (fixed : Fixed) : Type 0 where
+  pub fac : d.settings.fac ≡ fixed.fac
+  pub apart : fixed.a ≢ fixed.b
+  pub cube : Cube
+  pub is_cube : cube_by fixed.cube d.settings.cubes ≡ Some cube
+  pub of_a : Member
+  pub of_b : Member
+  pub at_a : MayDraw (seen_of d) fixed.a of_a
+  pub at_b : MayDraw (seen_of d) fixed.b of_b
+
+-- some member at a node may draw a port
+abbrev pub SomeDraws : Dif → ℕ → Type 0
+SomeDraws d node = (member : Member) × MayDraw (seen_of d) node member
+
+-- its address, and the port that is drawn next at its node
+abbrev pub Draws : Dif → ℕ → NextEnd → Type 0
+Draws d node drawn = (member : Member) → MayDraw (seen_of d) node member → (drawn.addr ≡ member.addr) × (drawn.port ≡ next_port (fac_of (seen_of d)) d.settings.fac node)
+
+-- both ends of a flow stand behind the flows, with connections of the cube of this id
+pub record AddsFlow (settings : Settings) (id : ℕ) (peer : Peer) (asker far : End) (old new : Flows) : Type 0 where
+  pub cube : Cube
+  pub is_cube : cube_by id settings.cubes ≡ Some cube
+  pub ends : new.journal.ends ≡ old.journal.ends ++ asker ∷ far ∷ []
+  pub adds : Adds cube (piece_size (config_of settings)) (greatest (config_of settings)) peer asker far old new
+
+-- the flow is made, and its ports are told
+pub record BindsAt (d : Dif) (lines : List Direction) (below : Seen) (fixed : Fixed) (ports : Port × Port) (d' : Dif) : Type 0 where
+  pub lines' : List Direction
+  pub bound : IsBound (seen_of d) lines fixed (seen_of d') lines'
+  pub a_port : ports.0 ≡ next_port (fac_of (seen_of d)) fixed.fac fixed.a
+  pub b_port : ports.1 ≡ next_port (fac_of (seen_of d)) fixed.fac fixed.b
+  pub holds : Holds d' lines' below
+
+-- what `bind` does: it refuses nothing, and memory may be wanted
+abbrev pub BindsTo : Dif → List Direction → Seen → Fixed → Result (Port × Port) AllocateError → Dif → Type 0
+BindsTo d lines below fixed (Ok ports) d' = BindsAt d lines below fixed ports d'
+BindsTo d lines below fixed (Err Memory) d' = (seen_of d' ≡ seen_of d) × Holds d' lines below
+BindsTo d lines below fixed (Err e) d' = ⊥
