@@ -6,7 +6,8 @@ use rina_base::{Memory, Tick};
 use std::alloc::Global;
 use std::marker::Model;
 
-/// How many chains there are, that of number 0 included, in which no id stands.
+/// How many chains there are: number 0, in which no id stands, that of the timers that are due, and those of the 512
+/// slots of the wheel.
 pub(crate) const CHAINS: usize = 514;
 
 /// For each id the number of its chain, 0 where it stands in none. Each call but `first_chain` and `earliest` takes
