@@ -39,27 +39,6 @@ nowhere p xs h = λ k d within.
     let far = beyond _ (length xs) h in
     fails_not (p (get_or xs k d)) (prefix_len_passes (λ x. not (p x)) xs k d (omega arith))
 
--- ---- numbers that stand twice
-
-pub twice_here : (xs : List ℕ) (i x : ℕ) (b : Bool) → i < length xs → x ≡ get_or xs i 0 → b ≡ list_any (λ y. y == x) (drop (i + 1) xs) → b ≡ true → has_twice (drop i xs) ≡ has_twice xs → true ≡ has_twice xs
-unfolding has_twice
-twice_here xs i x b within is test here so_far =
-    let seen : list_any (λ y. y == get_or xs i 0) (drop (i + 1) xs) ≡ true = ap (λ z. list_any (λ y. y == z) (drop (i + 1) xs)) (sym is) ∙ sym test ∙ here in
-    sym (rw (drop_more xs i 0 within, seen) refl) ∙ so_far
-
-pub twice_later : (xs : List ℕ) (i x : ℕ) (b : Bool) → i < length xs → x ≡ get_or xs i 0 → b ≡ list_any (λ y. y == x) (drop (i + 1) xs) → b ≡ false → has_twice (drop i xs) ≡ has_twice xs → has_twice (drop (i + 1) xs) ≡ has_twice xs
-unfolding has_twice
-twice_later xs i x b within is test other so_far =
-    let seen : list_any (λ y. y == get_or xs i 0) (drop (i + 1) xs) ≡ false = ap (λ z. list_any (λ y. y == z) (drop (i + 1) xs)) (sym is) ∙ sym test ∙ other in
-    let one : has_twice (drop i xs) ≡ has_twice (drop (i + 1) xs) = rw (drop_more xs i 0 within, seen) refl in
-    sym one ∙ so_far
-
-pub not_twice : (xs : List ℕ) (i : ℕ) → length xs ≤ i → has_twice (drop i xs) ≡ has_twice xs → false ≡ has_twice xs
-unfolding has_twice
-not_twice xs i past so_far =
-    let last : has_twice (drop i xs) ≡ false = rw (drop_all i xs past) refl in
-    sym last ∙ so_far
-
 -- the four tests of the members of a DIF
 pub misplaced_is : (d : DifPlan) (ms : List MemberPlan) (n : ℕ) (node address odd : Bool) → ms ≡ d.members → n ≡ length d.members → node ≡ has_twice (map (λ (m : MemberPlan). m.node) ms) → address ≡ has_twice (map (λ (m : MemberPlan). m.addr) ms)
     → odd ≡ list_any (is_misaddressed d.widths.addr) ms → ((n == 0) || node || address || odd) ≡ is_misplaced d

@@ -11,26 +11,21 @@ use crate::dif::{DifPlan, MemberPlan};
 use crate::difs::any_misaddressed;
 use rina_cube::Cube;
 use std::alloc::{AllocError, Global};
-
-fn is_among(numbers: &[usize], number: usize) -> bool
-    ensures { result ≡ list_any (λ y. y == number) numbers.now }
-{
-    numbers.iter().any(|other| *other == number)
-}
+use std::collections::BTreeMap;
 
 /// Whether a number stands there twice.
-pub(crate) fn has_twice(numbers: &[usize]) -> bool
-    ensures { result ≡ has_twice numbers.now }
+pub(crate) fn has_twice(alloc: Global, numbers: &[usize]) -> Result<bool, AllocError>
+    ensures { IfOk result (λ b. b ≡ has_twice numbers.now) }
 {
-    let mut at = 0usize;
-    'numbers: for number in numbers {
-        at += 1;
-        let (_, later) = numbers.split_at(at);
-        if is_among(later, *number) {
-            return true;
-        }
+    let mut seen = BTreeMap::new(alloc);
+    let mut twice = false;
+    let mut at = numbers.len();
+    while at > 0 {
+        at -= 1;
+        let again = seen.insert(numbers[at], ())?.is_some();
+        twice = again || twice;
     }
-    false
+    Ok(twice)
 }
 
 fn ids_of(alloc: Global, cubes: &[Cube]) -> Result<Vec<usize>, AllocError>
@@ -59,21 +54,22 @@ fn lacks_cubes(alloc: Global, dif: &DifPlan) -> Result<bool, AllocError>
     ensures { IfOk result (λ b. b ≡ lacks_cubes dif.now) }
 {
     let ids = ids_of(alloc, dif.cubes.as_slice())?;
-    Ok(dif.cubes.len() == 0 || has_twice(ids.as_slice()))
+    let twice = has_twice(alloc, ids.as_slice())?;
+    Ok(dif.cubes.len() == 0 || twice)
 }
 
 fn shares_node(alloc: Global, members: &[MemberPlan]) -> Result<bool, AllocError>
     ensures { IfOk result (λ b. b ≡ has_twice (map (λ (m : MemberPlan). m.node) members.now)) }
 {
     let nodes = nodes_of(alloc, members)?;
-    Ok(has_twice(nodes.as_slice()))
+    has_twice(alloc, nodes.as_slice())
 }
 
 fn shares_address(alloc: Global, members: &[MemberPlan]) -> Result<bool, AllocError>
     ensures { IfOk result (λ b. b ≡ has_twice (map (λ (m : MemberPlan). m.addr) members.now)) }
 {
     let addresses = addresses_of(alloc, members)?;
-    Ok(has_twice(addresses.as_slice()))
+    has_twice(alloc, addresses.as_slice())
 }
 
 fn any_of(empty: bool, node: bool, address: bool, odd: bool) -> bool

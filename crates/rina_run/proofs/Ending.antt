@@ -11,8 +11,8 @@ use Rattle.rina_report.specs.Notes.{text_of}
 use Rattle.rina_schedule.specs.declared.error.LineError.{LineError}
 use Rattle.rina_schedule.specs.declared.error.LineError.TheVariants as errors
 use Rattle.rina_stack.specs.declared.plan.Plan.{Plan}
-use Rattle.rina_stack.specs.declared.error.StackError.{StackError}
-use Rattle.rina_stack.specs.declared.error.StackError.TheVariants as stack
+use Rattle.rina_table.specs.declared.error.StackError.{StackError}
+use Rattle.rina_table.specs.declared.error.StackError.TheVariants as stack
 use Rattle.rina_stack.specs.Built.{ReadsBuilt}
 use Rattle.rina_iface.specs.declared.state.Fail.{Fail}
 use Rattle.rina_iface.specs.declared.state.Fail.TheVariants.{GaveUp, Below, Cut}

@@ -13,7 +13,7 @@ use Rattle.rina_report.specs.declared.note.Fault.TheVariants as faults
 use Rattle.rina_schedule.specs.declared.error.LineError.{LineError}
 use Rattle.rina_schedule.specs.declared.error.LineError.TheVariants as errors
 use Rattle.rina_stack.specs.declared.plan.Plan.{Plan}
-use Rattle.rina_stack.specs.declared.error.StackError.TheVariants as stack
+use Rattle.rina_table.specs.declared.error.StackError.TheVariants as stack
 use Rattle.rina_stack.specs.Built.{ReadsBuilt}
 use Rattle.rina_wire.specs.Air.{Air}
 use Rattle.rina_run.specs.declared.world.World.{World}

@@ -7,13 +7,14 @@ use Rattle.std.proofs.lemmas.List.Elements.{All-cons}
 use Rattle.std.proofs.lemmas.List.Quantifiers.{position-Some}
 use Rattle.toml.specs.Data.{Data, get}
 use Rattle.rina_base.specs.Traverse.{◌>>=◌, traverse}
-use Rattle.rina_stack.specs.declared.error.StackError.{StackError}
-use Rattle.rina_stack.specs.declared.scope.Scope.{Scope}
-use Rattle.rina_stack.specs.declared.sketch.Sketch.{Sketch}
-use Rattle.rina_stack.specs.Faults.{there, needed, unless}
-use Rattle.rina_stack.specs.Keys.{items_in}
-use Rattle.rina_stack.specs.Names.{place_in, as_name}
-use Rattle.rina_stack.specs.Values.{is_between, as_number, ranged, integer_in, number_in, number_or, integer_or, named, node_named, node_in, text_in, rows, rows_in, rows_or}
+use Rattle.rina_table.specs.declared.error.StackError.{StackError}
+use Rattle.rina_fields.specs.declared.scope.Scope.{Scope}
+use Rattle.rina_rows.specs.declared.sketch.Sketch.{Sketch}
+use Rattle.rina_table.specs.Faults.{there, needed, unless}
+use Rattle.rina_table.specs.Keys.{items_in}
+use Rattle.rina_fields.specs.Names.{place_in, as_name}
+use Rattle.rina_table.specs.Values.{integer_in, integer_or, text_in, rows, rows_in, rows_or}
+use Rattle.rina_fields.specs.Fields.{is_between, as_number, ranged, number_in, number_or, named, node_named, node_in}
 use Rattle.rina_stack.specs.Stack.{plain, full}
 
 pub bind_ok : {A B : Type 0} (a : Result A StackError) (f : A → Result B StackError) (y : B) → (a >>= f) ≡ Ok y → (x : A) × (a ≡ Ok x) × (f x ≡ Ok y)

@@ -1,8 +1,7 @@
-pub mod Tables
-pub mod Named
-pub mod Indexing
+pub mod Seen
 pub mod TwinSteps
 pub mod Labels
 pub mod Inversion
 pub mod SoundDif
 pub mod Sound
+pub mod Runs

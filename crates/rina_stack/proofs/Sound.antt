@@ -23,20 +23,22 @@ use Rattle.rina_plan.specs.Counts.{links_of, load_of, first_loaded, first_full, 
 use Rattle.rina_plan.proofs.Places.{nowhere}
 use Rattle.rina_plan.proofs.Carried.{carried, each_roomy, single}
 use Rattle.rina_stack.specs.declared.plan.Plan.{Plan}
-use Rattle.rina_stack.specs.declared.scope.Scope.{Scope}
-use Rattle.rina_stack.specs.declared.sketch.WireSketch.{WireSketch}
-use Rattle.rina_stack.specs.declared.sketch.Sketch.{Sketch}
-use Rattle.rina_stack.specs.declared.error.StackError.{StackError}
-use Rattle.rina_stack.specs.declared.error.StackError.TheVariants.{Memory, NotToml, StackRule}
-use Rattle.rina_stack.specs.Faults.{Gives, there, unless}
-use Rattle.rina_stack.specs.Keys.{keys_fault, items_in}
-use Rattle.rina_stack.specs.Values.{element, has_third, named, name_in, text_in, number_in, node_named, rows, rows_in, tables_in}
-use Rattle.rina_stack.specs.Rows.{storm_or, wire_end, wire_at}
-use Rattle.rina_stack.specs.Items.{node_row, rounds_or, dif_at, sketch_at}
+use Rattle.rina_fields.specs.declared.scope.Scope.{Scope}
+use Rattle.rina_rows.specs.declared.sketch.WireSketch.{WireSketch}
+use Rattle.rina_rows.specs.declared.sketch.Sketch.{Sketch}
+use Rattle.rina_table.specs.declared.error.StackError.{StackError}
+use Rattle.rina_table.specs.declared.error.StackError.TheVariants.{Memory, NotToml, StackRule}
+use Rattle.rina_table.specs.Faults.{Gives, there, unless}
+use Rattle.rina_table.specs.Keys.{keys_fault, items_in}
+use Rattle.rina_table.specs.Values.{element, has_third, text_in, rows, rows_in, tables_in}
+use Rattle.rina_fields.specs.Fields.{named, name_in, number_in, node_named}
+use Rattle.rina_rows.specs.Rows.{storm_or, wire_end, wire_at}
+use Rattle.rina_rows.specs.Items.{node_row, rounds_or, dif_at, sketch_at}
 use Rattle.rina_stack.specs.Rules.{has_text, twin_after, twin_in, twin_fault, earlier, facility_twin, label_twin, wire_names, dif_names, first_wire, is_crossed, spread_of, top_fault}
 use Rattle.rina_stack.specs.Stack.{plain, full, narrow, plan_of, unknown_item, resolved_at, ends_of, difs_at, rules_at, stack_at, IsTable, Reads}
 use Rattle.rina_stack.specs.Policies.{is_built_in}
 use Rattle.rina_stack.specs.Built.{unbuilt_key, unbuilt_word, built_at}
+use Rattle.rina_stack.specs.Runnable.{unready_key, unready_type, runnable_at}
 use Rattle.rina_stack.specs.Plan.{AreDistinct, names_of, wire_ends, IsRangedCube, IsRangedDif, NoDif, IsSoundWire, IsPlan}
 use Rattle.rina_stack.proofs.SoundDif.{dif_7, whole_cube}
 use Rattle.rina_stack.proofs.Inversion.{bind_ok, ok_is, unbroken, all_read, same_rows, number_7, node_7, same_name}
@@ -46,7 +48,7 @@ use Rattle.rina_stack.proofs.Inversion.{bind_ok, ok_is, unbroken, all_read, same
 none_pass : {X : Type 0} (p : X → Bool) (xs : List X) → list_any p xs ≡ false → All (λ x. p x ≡ false) xs
 none_pass p xs h = λ k d within. false_from_ne_true (p (get_or xs k d)) (λ passes. false≢true (sym h ∙ list_any_at p xs k d within passes))
 
-no_more : (f : ℕ → ℕ) (o : Option ℕ) → option_map f o ≡ None → o ≡ None
+pub no_more : (f : ℕ → ℕ) (o : Option ℕ) → option_map f o ≡ None → o ≡ None
 no_more f None h = refl
 no_more f (Some i) h = cc
 
@@ -78,7 +80,7 @@ no_pairs = λ i j d lt within. absurd (omega arith)
 distinct : (ts : List (List ℕ)) → twin_in ts ≡ None → AreDistinct ts
 distinct ts h = apart [] ts no_pairs h
 
-neither : (a b : Option ℕ) → earlier a b ≡ None → (a ≡ None) × (b ≡ None)
+pub neither : (a b : Option ℕ) → earlier a b ≡ None → (a ≡ None) × (b ≡ None)
 neither None b h = (refl, h)
 neither (Some i) None h = cc
 neither (Some i) (Some j) h = cc
@@ -128,16 +130,16 @@ same_name_in known u n k d = refl
 
 -- ---- what was read of the whole stack
 
-record WasRead (s : Scope) (d : Data) (k : Sketch) : Type 0 where
-  wire_tables : List Data
-  dif_tables : List Data
-  nodes : rows_in (node_row s 0) 0 (codes "nodes") d ≡ Ok k.nodes
-  are_wires : tables_in 0 (codes "wire") d ≡ Ok wire_tables
-  are_difs : tables_in 0 (codes "dif") d ≡ Ok dif_tables
-  wires : traverse (wire_at s) 1 wire_tables ≡ Ok k.wires
-  difs : traverse (dif_at s) (1 + length wire_tables) dif_tables ≡ Ok k.difs
+pub record WasRead (s : Scope) (d : Data) (k : Sketch) : Type 0 where
+  pub wire_tables : List Data
+  pub dif_tables : List Data
+  pub nodes : rows_in (node_row s 0) 0 (codes "nodes") d ≡ Ok k.nodes
+  pub are_wires : tables_in 0 (codes "wire") d ≡ Ok wire_tables
+  pub are_difs : tables_in 0 (codes "dif") d ≡ Ok dif_tables
+  pub wires : traverse (wire_at s) 1 wire_tables ≡ Ok k.wires
+  pub difs : traverse (dif_at s) (1 + length wire_tables) dif_tables ≡ Ok k.difs
 
-parts : (s : Scope) (d : Data) (k : Sketch) → sketch_at s d ≡ Ok k → WasRead s d k
+pub parts : (s : Scope) (d : Data) (k : Sketch) → sketch_at s d ≡ Ok k → WasRead s d k
 unfolding sketch_at
 parts s d k h =
     let (nodes, is_nodes, h1) = bind_ok (rows_in (node_row s 0) 0 (codes "nodes") d) _ k h in
@@ -444,3 +446,11 @@ built_plan (Ok p) t h =
     let (_, _, h2) = bind_ok (unless 3 (unbuilt_word (get (codes "rounds") t))) _ p h1 in
     is_plan is_built_in t p h2
 built_plan (Err e) t h = tt
+
+pub runnable_plan : (known : List ℕ → Bool) (r : Result Plan StackError) (t : Data) → Gives (λ p. p) r (runnable_at known t) → IfOk r IsPlan
+unfolding runnable_at
+runnable_plan known (Ok p) t h =
+    let (_, _, h1) = bind_ok (unless 2 (unready_key t)) _ p h in
+    let (_, _, h2) = bind_ok (unless 3 (unready_type t)) _ p h1 in
+    is_plan known t p h2
+runnable_plan known (Err e) t h = tt

@@ -22,16 +22,17 @@ use Rattle.rina_plan.specs.declared.dif.EndPlan.{EndPlan}
 use Rattle.rina_plan.specs.declared.dif.FlowPlan.{FlowPlan}
 use Rattle.rina_plan.specs.declared.dif.DifPlan.{DifPlan}
 use Rattle.rina_plan.specs.Difs.{is_mistimed_by, is_mistimed}
-use Rattle.rina_stack.specs.declared.error.StackError.{StackError}
-use Rattle.rina_stack.specs.declared.scope.Scope.{Scope}
-use Rattle.rina_stack.specs.declared.sketch.WireSketch.{WireSketch}
-use Rattle.rina_stack.specs.declared.sketch.Sketch.{Sketch}
-use Rattle.rina_stack.specs.Faults.{there, needed, unless}
-use Rattle.rina_stack.specs.Keys.{items_in}
-use Rattle.rina_stack.specs.Names.{place_in, lower_or, lower_named}
-use Rattle.rina_stack.specs.Values.{text_in, name_in, subject_in, truth_in, flag_or, items_or, number_in, number_or, as_width, width_in, node_in, lower_in, rows, rows_in, rows_or}
-use Rattle.rina_stack.specs.Rows.{kind_in, act_in, widths_at, manage_at, cube_at, member_at, rule_at, link_at, end_at, flow_at}
-use Rattle.rina_stack.specs.Items.{unknown_at, widths_in, manage_in, dif_at}
+use Rattle.rina_table.specs.declared.error.StackError.{StackError}
+use Rattle.rina_fields.specs.declared.scope.Scope.{Scope}
+use Rattle.rina_rows.specs.declared.sketch.WireSketch.{WireSketch}
+use Rattle.rina_rows.specs.declared.sketch.Sketch.{Sketch}
+use Rattle.rina_table.specs.Faults.{there, needed, unless}
+use Rattle.rina_table.specs.Keys.{items_in}
+use Rattle.rina_fields.specs.Names.{place_in, lower_or, lower_named}
+use Rattle.rina_table.specs.Values.{text_in, truth_in, flag_or, items_or, rows, rows_in, rows_or}
+use Rattle.rina_fields.specs.Fields.{name_in, subject_in, number_in, number_or, as_width, width_in, node_in, lower_in}
+use Rattle.rina_rows.specs.Rows.{kind_in, act_in, widths_at, manage_at, cube_at, member_at, rule_at, link_at, end_at, flow_at}
+use Rattle.rina_rows.specs.Items.{unknown_at, widths_in, manage_in, dif_at}
 use Rattle.rina_stack.specs.Stack.{full}
 use Rattle.rina_stack.specs.Rules.{wire_names, dif_names}
 use Rattle.rina_stack.specs.Plan.{IsLower, IsSoundLink, IsRangedCube, IsRangedDif}
@@ -232,7 +233,7 @@ manage_part known u n d c h =
     manage_7 known u n t c read
 
 -- four steps that succeeded
-over4 : {A1 A2 A3 A4 B : Type 0} (P : B → Type 0) (r1 : Result A1 StackError) (r2 : Result A2 StackError) (r3 : Result A3 StackError) (r4 : Result A4 StackError) (rest : A1 → A2 → A3 → A4 → Result B StackError) (y : B)
+pub over4 : {A1 A2 A3 A4 B : Type 0} (P : B → Type 0) (r1 : Result A1 StackError) (r2 : Result A2 StackError) (r3 : Result A3 StackError) (r4 : Result A4 StackError) (rest : A1 → A2 → A3 → A4 → Result B StackError) (y : B)
     → (r1 >>= λ x1. r2 >>= λ x2. r3 >>= λ x3. r4 >>= λ x4. rest x1 x2 x3 x4) ≡ Ok y
     → ((x1 : A1) (x2 : A2) (x3 : A3) (x4 : A4) → r1 ≡ Ok x1 → r2 ≡ Ok x2 → r3 ≡ Ok x3 → r4 ≡ Ok x4 → rest x1 x2 x3 x4 ≡ Ok y → P y) → P y
 over4 P (Err e) r2 r3 r4 rest y h k = cc

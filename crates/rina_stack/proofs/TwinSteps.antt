@@ -4,7 +4,7 @@ use Rattle.std.proofs.lemmas.Grind.{common_steps}
 use Rattle.std.proofs.lemmas.List.{drop_more, drop_all, length-map, get_or-map}
 use Rattle.std.specs.Prelude.{is_some}
 use Rattle.rina_stack.specs.Rules.{has_text, twin_after}
-use Rattle.rina_stack.proofs.Indexing.{seen}
+use Rattle.rina_fields.proofs.Indexing.{seen}
 
 -- the text at a place stands among those before it
 found : (ts : List (List ℕ)) (i : ℕ) (d : List ℕ) → i < length ts → has_text (take i ts) (get_or ts i d) ≡ true → twin_after (take i ts) (drop i ts) ≡ Some i

@@ -1,22 +1,20 @@
 -- What is built so far, and what a stack is refused as that has more.
-use Rattle.std.specs.Prelude.{◌≡◌, ℕ, ◌+◌, nat_lt, Bool, List, length, codes, Option, Some, None, Result, Ok, Err, is_some, option_map, position, if◌then◌else◌}
+use Rattle.std.specs.Prelude.{◌≡◌, ℕ, ◌+◌, nat_lt, Bool, List, length, codes, Option, Some, None, Result, Ok, Err, option_map, position, if◌then◌else◌}
 use Rattle.std.specs.Str.{bytes_eq}
 use Rattle.toml.specs.Data.{Data, table, Members, get, as_str}
 use Rattle.rina_base.specs.Traverse.{◌>>=◌}
 use Rattle.rina_stack.specs.declared.plan.Plan.{Plan}
-use Rattle.rina_stack.specs.declared.error.StackError.{StackError}
-use Rattle.rina_stack.specs.declared.error.StackError.TheVariants.{Memory, NotToml, StackRule}
-use Rattle.rina_stack.specs.Faults.{unless}
-use Rattle.rina_stack.specs.Keys.{items_at, keys_fault}
+use Rattle.rina_table.specs.declared.error.StackError.{StackError}
+use Rattle.rina_table.specs.declared.error.StackError.TheVariants.{Memory, NotToml, StackRule}
+use Rattle.rina_table.specs.Faults.{unless}
+use Rattle.rina_table.specs.Keys.{items_at, keys_fault}
 use Rattle.rina_stack.specs.Policies.{is_built_in}
 use Rattle.rina_stack.specs.Rules.{earlier}
+use Rattle.rina_stack.specs.Runnable.{is_stormy}
 use Rattle.rina_stack.specs.Stack.{stack_at, ReadsBy}
 
 abbrev pub has_difs : Data → Bool
 has_difs d = nat_lt 0 (length (items_at (codes "dif") d))
-
-abbrev pub is_stormy : Data → Bool
-is_stormy d = is_some (get (codes "storm") d)
 
 -- the first wire with a storm
 abbrev pub first_stormy : Data → Option ℕ

@@ -1,11 +1,7 @@
-pub mod Faults
-pub mod Keys
 pub mod Names
-pub mod Values
-pub mod Rows
-pub mod Items
 pub mod Rules
 pub mod Policies
 pub mod Stack
+pub mod Runnable
 pub mod Built
 pub mod Plan

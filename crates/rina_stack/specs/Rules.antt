@@ -4,9 +4,9 @@ use Rattle.std.specs.List.{list_any}
 use Rattle.std.specs.Str.{bytes_eq}
 use Rattle.rina_plan.specs.declared.dif.FlowPlan.{FlowPlan}
 use Rattle.rina_plan.specs.declared.dif.DifPlan.{DifPlan}
-use Rattle.rina_stack.specs.declared.plan.Storm.{Storm}
-use Rattle.rina_stack.specs.declared.sketch.WireSketch.{WireSketch}
-use Rattle.rina_stack.specs.declared.sketch.Sketch.{Sketch}
+use Rattle.rina_rows.specs.declared.sketch.Storm.{Storm}
+use Rattle.rina_rows.specs.declared.sketch.WireSketch.{WireSketch}
+use Rattle.rina_rows.specs.declared.sketch.Sketch.{Sketch}
 
 -- the earlier of two items
 abbrev pub earlier : Option ℕ → Option ℕ → Option ℕ

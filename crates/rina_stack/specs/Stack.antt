@@ -11,14 +11,14 @@ use Rattle.rina_plan.specs.Walks.{is_unjoined}
 use Rattle.rina_plan.specs.Counts.{first_loaded, first_full}
 use Rattle.rina_stack.specs.declared.plan.WirePlan.{WirePlan}
 use Rattle.rina_stack.specs.declared.plan.Plan.{Plan}
-use Rattle.rina_stack.specs.declared.error.StackError.{StackError}
-use Rattle.rina_stack.specs.declared.error.StackError.TheVariants.{Memory, NotToml, StackRule}
-use Rattle.rina_stack.specs.declared.scope.Scope.{Scope}
-use Rattle.rina_stack.specs.declared.sketch.WireSketch.{WireSketch}
-use Rattle.rina_stack.specs.declared.sketch.Sketch.{Sketch}
-use Rattle.rina_stack.specs.Faults.{unless}
-use Rattle.rina_stack.specs.Keys.{keys_fault}
-use Rattle.rina_stack.specs.Items.{sketch_at}
+use Rattle.rina_table.specs.declared.error.StackError.{StackError}
+use Rattle.rina_table.specs.declared.error.StackError.TheVariants.{Memory, NotToml, StackRule}
+use Rattle.rina_fields.specs.declared.scope.Scope.{Scope}
+use Rattle.rina_rows.specs.declared.sketch.WireSketch.{WireSketch}
+use Rattle.rina_rows.specs.declared.sketch.Sketch.{Sketch}
+use Rattle.rina_table.specs.Faults.{unless}
+use Rattle.rina_table.specs.Keys.{keys_fault}
+use Rattle.rina_rows.specs.Items.{sketch_at}
 use Rattle.rina_stack.specs.Policies.{unknown_policy}
 use Rattle.rina_stack.specs.Rules.{wire_names, dif_names, twin_fault, first_wire, is_crossed, top_fault}
 

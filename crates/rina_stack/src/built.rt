@@ -1,41 +1,19 @@
 //! What is built so far: the one place that refuses what is not.
-ghost use Rattle.std.specs.Prelude.{◌≡◌, ◌<◌, Ok, length, map, position, is_some, option_map, IfOk, IfSome};
+ghost use Rattle.std.specs.Prelude.{◌≡◌, Ok, option_map, IfOk};
 ghost use Rattle.toml.specs.Data.{get};
 ghost use Rattle.toml.specs.View.{view};
-ghost use Rattle.rina_stack.specs.Faults.{Gives};
-ghost use Rattle.rina_stack.specs.Keys.{items_at};
+ghost use Rattle.rina_table.specs.Faults.{Gives};
 ghost use Rattle.rina_stack.specs.Plan.{IsPlan};
-ghost use Rattle.rina_stack.specs.Built.{is_stormy, has_difs, first_stormy, unbuilt_key, unbuilt_word, built_at, ReadsBuilt};
+ghost use Rattle.rina_stack.specs.Built.{has_difs, first_stormy, unbuilt_key, unbuilt_word, built_at, ReadsBuilt};
 
-use crate::error::{StackError, check};
-use crate::keys::key_fault;
 use crate::plan::Plan;
 use crate::policies::BuiltIn;
 use crate::read::stack_of;
+use crate::runnable::first_stormy;
 use crate::twins::earlier;
-use crate::value::items_at;
+use rina_table::{StackError, check, items_at, key_fault};
 use std::alloc::Global;
 use toml::Value;
-
-fn is_stormy(wire: &Value) -> bool
-    ensures { result ≡ is_stormy (view wire.now) }
-{
-    wire.get("storm").is_some()
-}
-
-fn first_stormy_in(wires: &[Value]) -> Option<usize>
-    ensures place { result ≡ position (λ v. is_stormy (view v)) wires.now }
-    ensures within { IfSome result (λ i. i < length wires.now) }
-{
-    wires.iter().position(|wire| is_stormy(wire))
-}
-
-fn first_stormy(wires: &[Value]) -> Option<usize>
-    ensures place { result ≡ position is_stormy (map view wires.now) }
-    ensures within { IfSome result (λ i. i < length wires.now) }
-{
-    first_stormy_in(wires)
-}
 
 fn stormy_item(stack: &Value) -> Option<usize>
     ensures { result ≡ first_stormy (view stack.now) }

@@ -2,29 +2,17 @@
 #![tactic(auto)]
 
 mod built;
-mod dif;
-mod dif_rows;
-mod error;
-mod fields;
-mod keys;
 mod plan;
 mod policies;
 mod read;
-mod rows;
 mod rules;
-mod scope;
-mod sketch;
-#[cfg(test)]
-mod stacks;
-#[cfg(test)]
-mod tests;
-mod top;
+mod runnable;
 mod twins;
-mod value;
-mod wire_rows;
 
 pub use built::read_built;
-pub use error::StackError;
-pub use plan::{Plan, Rounds, Storm, WirePlan};
+pub use plan::{Plan, WirePlan};
 pub use policies::{BuiltIn, Policies};
 pub use read::read_stack;
+pub use rina_rows::{Rounds, Storm};
+pub use rina_table::StackError;
+pub use runnable::read_runnable;

@@ -2,11 +2,12 @@
 ghost use Rattle.std.specs.Prelude.{◌≡◌, ◌<◌, length, position, IfSome};
 ghost use Rattle.std.specs.Str.{bytes_eq};
 ghost use Rattle.rina_stack.specs.declared.plan.WirePlan.{WirePlan};
-ghost use Rattle.rina_stack.specs.Names.{place_in};
+ghost use Rattle.rina_fields.specs.Names.{place_in};
 ghost use Rattle.rina_stack.specs.Plan.{names_of, IsPlan};
 
 use rina_base::{Name, Node, Seq};
 use rina_plan::DifPlan;
+use rina_rows::{Rounds, Storm};
 
 /// A stack: its systems, the wires between them, and the DIFs above.
 #[derive(Drop)]
@@ -18,13 +19,6 @@ pub struct Plan {
     pub wires: Seq<WirePlan>,
     /// The DIFs, in stack order.
     pub difs: Seq<DifPlan>,
-}
-
-/// Who moves PDUs: each tick by itself, or the schedule step by step.
-#[derive(Clone, Copy, Debug, PartialEq, Eq, Drop)]
-pub enum Rounds {
-    Auto,
-    Manual,
 }
 
 /// A wire between two systems.
@@ -42,19 +36,6 @@ pub struct WirePlan {
     /// The largest SDU, in bytes: 1 to 65,535.
     pub largest: u32,
     pub storm: Option<Storm>,
-}
-
-/// How a wire loses, repeats and delays frames by chance.
-#[derive(Clone, Copy, Debug, PartialEq, Eq, Drop)]
-pub struct Storm {
-    /// Where its random numbers begin, 0 to 2^53 - 1.
-    pub seed: u64,
-    /// How many of 1,000 frames are lost.
-    pub lose: u32,
-    /// How many of 1,000 frames come twice.
-    pub repeat: u32,
-    /// How many ticks a frame is late at most, 0 to 100,000.
-    pub spread: u32,
 }
 
 fn place_of(names: &[Name], name: &[u8]) -> Option<usize>

@@ -1,33 +1,31 @@
 //! The stack that a text describes.
 ghost use Rattle.std.specs.Prelude.{◌≡◌, ◌+◌, ◌<◌, ◌^◌, All, Ok, IfOk, length, map, option_map};
 ghost use Rattle.toml.specs.View.{view};
-ghost use Rattle.rina_stack.specs.declared.sketch.WireSketch.{WireSketch};
+ghost use Rattle.rina_rows.specs.declared.sketch.WireSketch.{WireSketch};
 ghost use Rattle.rina_plan.specs.Counts.{first_full};
-ghost use Rattle.rina_stack.specs.Faults.{Gives, unless};
-ghost use Rattle.rina_stack.specs.Items.{sketch_at};
+ghost use Rattle.rina_table.specs.Faults.{Gives, unless};
+ghost use Rattle.rina_rows.specs.Items.{sketch_at};
 ghost use Rattle.rina_stack.specs.Stack.{plain, full, narrow, plan_of, unknown_item, resolved_at, ends_of, difs_at, rules_at, stack_at, Reads};
 ghost use Rattle.rina_stack.specs.Plan.{IsPlan};
 
-use crate::error::{StackError, check, check_difs, check_wires, first_behind};
-use crate::keys::key_fault;
 use crate::plan::{Plan, WirePlan};
 use crate::policies::{Policies, first_unknown};
 use crate::rules::{crossed, too_many};
-use crate::scope::{Places, Scope};
-use crate::sketch::{Sketch, WireSketch};
-use crate::top::sketch;
 use crate::twins::{named_twice, names_of_difs, names_of_wires, texts_of};
 use rina_base::{Memory, Seq};
+use rina_fields::{Places, Scope};
 use rina_plan::{
     DifPlan, WireEnds, first_crossed, first_full, first_loaded, first_misfit, first_misplaced,
     first_mistimed, first_misused, first_oversized, first_uncarried, first_unjoined,
     first_without_cubes, first_without_lower,
 };
+use rina_rows::{Sketch, WireSketch, read_sketch};
+use rina_table::{StackError, check, check_difs, check_wires, first_behind, key_fault};
 use std::alloc::{AllocError, Global};
 use toml::Value;
 
 /// The stack, where what breaks a later rule than `upto` is let through; no reference is resolved.
-fn plain(alloc: Global, upto: u32, stack: &Value) -> Result<Sketch, StackError>
+pub(crate) fn plain(alloc: Global, upto: u32, stack: &Value) -> Result<Sketch, StackError>
     ensures { Gives (λ s. s) result (sketch_at (plain upto) (view stack.now)) }
 {
     let scope = Scope {
@@ -37,7 +35,7 @@ fn plain(alloc: Global, upto: u32, stack: &Value) -> Result<Sketch, StackError>
         difs: Places::of(alloc, Vec::new(alloc))?,
         unknown: None,
     };
-    sketch(alloc, &scope, stack)
+    read_sketch(alloc, &scope, stack)
 }
 
 /// The item of the first DIF whose policy nobody knows.
@@ -73,7 +71,7 @@ fn resolved<P: Policies>(
         difs: Places::of(alloc, difs)?,
         unknown,
     };
-    sketch(alloc, &scope, stack)
+    read_sketch(alloc, &scope, stack)
 }
 
 fn narrow(alloc: Global, wire: &WireSketch) -> Result<WirePlan, Memory>

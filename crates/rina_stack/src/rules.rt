@@ -2,8 +2,7 @@
 ghost use Rattle.std.specs.Prelude.{◌≡◌, ◌<◌, length, IfSome, position};
 ghost use Rattle.rina_stack.specs.Rules.{spread_of, is_crossed, first_wire, top_fault};
 
-use crate::plan::Storm;
-use crate::sketch::{Sketch, WireSketch};
+use rina_rows::{Sketch, Storm, WireSketch};
 
 fn spread(storm: Option<Storm>) -> u32
     ensures { result ≡ spread_of storm }

@@ -1,12 +1,12 @@
 //! Rule 5: no name stands twice.
 ghost use Rattle.std.specs.Prelude.{◌≡◌, ◌+◌, ◌*◌, ◌<◌, ◌≤◌, ◌++◌, length, map, IfOk, IfSome, OnOk, Ok, is_some};
-ghost use Rattle.rina_stack.specs.Faults.{Gives};
+ghost use Rattle.rina_table.specs.Faults.{Gives};
 ghost use Rattle.rina_stack.specs.Rules.{twin_in, wire_names, dif_names, flow_labels, labels, owner_of, earlier, facility_twin, label_twin, twin_fault};
 
-use crate::error::{StackError, first_behind};
-use crate::sketch::{Sketch, WireSketch};
 use rina_base::Name;
 use rina_plan::{DifPlan, FlowPlan};
+use rina_rows::{Sketch, WireSketch};
+use rina_table::{StackError, first_behind};
 use std::alloc::{AllocError, Global};
 use std::collections::BTreeMap;
 

@@ -1,7 +1,7 @@
 use Rattle.std.proofs.Common.{sym, ◌∙◌}
 use Rattle.std.specs.Str.{bytes_eq}
 use Rattle.rina_stack.specs.declared.plan.WirePlan.{WirePlan}
-use Rattle.rina_stack.proofs.Tables.{position_map}
+use Rattle.rina_table.proofs.Tables.{position_map}
 use Rattle.rina_stack.proofs.plan.place_of_wire.Goals as goal
 
 pub returns-clause-place : goal.returns-clause-place

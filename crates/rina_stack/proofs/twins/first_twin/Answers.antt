@@ -1,7 +1,7 @@
 use Rattle.std.proofs.Common.{Some, sym, ap, ◌∙◌, arith}
 use Rattle.std.specs.Prelude.{is_some}
 use Rattle.std.proofs.lemmas.Map.Text.{btree_map_updates_str}
-use Rattle.rina_stack.proofs.Indexing.{seen_step}
+use Rattle.rina_stack.proofs.Seen.{seen_step}
 use Rattle.rina_stack.proofs.TwinSteps.{twin_found, twin_goes_on, no_twin}
 use Rattle.rina_stack.proofs.twins.first_twin.Goals as goal
 

@@ -1,0 +1,75 @@
+//! The whole table of a stack.
+ghost use Rattle.std.specs.Prelude.{◌≡◌, option_map};
+ghost use Rattle.toml.specs.View.{view};
+ghost use Rattle.rina_table.specs.Faults.{Gives};
+ghost use Rattle.rina_rows.specs.Items.{rounds_of, rounds_or, sketch_at};
+
+use crate::rows::{Row, items_from, rows_of};
+use crate::sketch::{Rounds, Sketch};
+use rina_base::Name;
+use rina_fields::{Scope, name};
+use rina_table::{StackError, broken, first_behind, needs, tables_at};
+use std::alloc::Global;
+use toml::Value;
+
+fn rounds_named(word: &str) -> Option<Rounds>
+    ensures { result ≡ rounds_of word.now }
+{
+    match word {
+        "auto" => Some(Rounds::Auto),
+        "manual" => Some(Rounds::Manual),
+        _ => None,
+    }
+}
+
+fn rounds(value: Option<&Value>) -> Result<Rounds, StackError>
+    ensures { Gives (λ r. r) result (rounds_or (option_map (λ v. view v.now) value.entry)) }
+{
+    match value {
+        None => Ok(Rounds::Auto),
+        Some(value) => match value.as_str() {
+            Some(word) => needs(0, rounds_named(word)),
+            None => Err(broken(3, 0)),
+        },
+    }
+}
+
+/// The names of the nodes belong to the top.
+impl Row for Name {
+    ghost use Rattle.rina_rows.specs.Items.{node_row};
+
+    ghost reads_as = { node_row };
+
+    #[tactic(auto, unfolding(crate::specs::Items::node_row))]
+    fn read(
+        alloc: Global,
+        scope: &Scope<'_>,
+        item: usize,
+        value: &Value,
+    ) -> Result<Name, StackError> {
+        match value.as_str() {
+            Some(text) => name(alloc, scope, item, text),
+            None => Err(broken(3, item)),
+        }
+    }
+}
+
+/// A stack, read so far as the scope says.
+#[tactic(auto, unfolding(crate::specs::Items::sketch_at))]
+pub fn read_sketch(alloc: Global, scope: &Scope<'_>, stack: &Value) -> Result<Sketch, StackError>
+    ensures { Gives (λ s. s) result (sketch_at scope.now (view stack.now)) }
+{
+    let nodes = rows_of(alloc, scope, 0, stack, "nodes")?;
+    let rounds = rounds(stack.get("rounds"))?;
+    let wire_tables = tables_at(0, stack, "wire")?;
+    let dif_tables = tables_at(0, stack, "dif")?;
+    let first = first_behind(wire_tables.len(), dif_tables.len())?;
+    let wires = items_from(alloc, scope, 1, wire_tables)?;
+    let difs = items_from(alloc, scope, first, dif_tables)?;
+    Ok(Sketch {
+        nodes,
+        rounds,
+        wires,
+        difs,
+    })
+}

@@ -1,0 +1,91 @@
+//! Why a text describes no stack.
+ghost use Rattle.std.specs.Prelude.{◌≡◌, ◌+◌, ◌<◌, ◌^◌, Ok, IfOk, option_map};
+ghost use Rattle.rina_table.specs.Faults.{Gives, breaks, unless};
+
+use rina_base::Memory;
+use std::alloc::AllocError;
+
+/// Why a text describes no stack.
+#[derive(Clone, Copy, Debug, PartialEq, Eq)]
+pub enum StackError {
+    /// Memory was not found.
+    Memory,
+    /// The text is no TOML.
+    NotToml,
+    /// Rule `n` is broken, and no rule before it. `item` is the first item that breaks it: 0 for the
+    /// top, then 1 for the first wire and so on; places past 4,294,967,295 are given as that.
+    StackRule { n: u32, item: u32 },
+}
+
+impl From<AllocError> for StackError {
+    ghost use Rattle.std.specs.Prelude.{◌≡◌};
+    ghost use Rattle.rina_table.specs.declared.error.StackError.TheVariants.{Memory};
+
+    ghost from_gives = { λ _ e. e ≡ Memory };
+
+    fn from(_error: AllocError) -> StackError {
+        StackError::Memory
+    }
+}
+
+impl From<Memory> for StackError {
+    ghost use Rattle.std.specs.Prelude.{◌≡◌};
+    ghost use Rattle.rina_table.specs.declared.error.StackError.TheVariants.{Memory};
+
+    ghost from_gives = { λ _ e. e ≡ Memory };
+
+    fn from(_error: Memory) -> StackError {
+        StackError::Memory
+    }
+}
+
+/// The error for a rule that is broken at an item.
+pub fn broken(n: u32, item: usize) -> StackError
+    ensures { result ≡ breaks n item }
+{
+    StackError::StackRule {
+        n,
+        item: item.min(4_294_967_295) as u32,
+    }
+}
+
+/// The error for a rule, where it has a first item that breaks it.
+pub fn check(n: u32, fault: Option<usize>) -> Result<(), StackError>
+    ensures { Gives (λ t. t) result (unless n fault) }
+{
+    match fault {
+        None => Ok(()),
+        Some(item) => Err(broken(n, item)),
+    }
+}
+
+/// The number of the first DIF behind so many wires. More items than are counted find no memory.
+pub fn first_behind(wires: usize, difs: usize) -> Result<usize, StackError>
+    ensures place { Gives (λ n. n) result (Ok (1 + wires)) }
+    ensures wires { IfOk result (λ _. 1 + wires < 2 ^ 64) }
+    ensures room { IfOk result (λ n. n + difs < 2 ^ 64) }
+{
+    if wires < usize::MAX / 2 && difs < usize::MAX / 2 {
+        Ok(1 + wires)
+    } else {
+        Err(StackError::Memory)
+    }
+}
+
+/// The error for a rule, where it has a first wire that breaks it.
+pub fn check_wires(n: u32, fault: Option<usize>) -> Result<(), StackError>
+    ensures { Gives (λ t. t) result (unless n (option_map (λ i. 1 + i) fault)) }
+{
+    check_difs(n, 1, fault)
+}
+
+/// The error for a rule, where it has a first DIF that breaks it. `first` is the number of the first
+/// DIF.
+pub fn check_difs(n: u32, first: usize, fault: Option<usize>) -> Result<(), StackError>
+    ensures { Gives (λ t. t) result (unless n (option_map (λ i. first + i) fault)) }
+{
+    match fault {
+        None => Ok(()),
+        Some(at) => Err(broken(n, first.saturating_add(at))),
+    }
+}
