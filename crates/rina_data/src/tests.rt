@@ -63,5 +63,8 @@ fn what_is_too_old_or_has_no_way_is_written_off(rt: HostRuntime) -> Result<(), F
         charge: 31,
     };
     assert_eq!(rt; late, Settled::Off(expired));
+    let dst = hop.pdu.dst;
+    let lost = alone(alloc)?.forward(alloc, 100, &hop)?;
+    assert_eq!(rt; lost, Settled::Off(Cause::NoRoute { dst }));
     Ok(())
 }

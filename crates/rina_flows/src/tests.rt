@@ -20,6 +20,17 @@ const DATAGRAM: Cube = Cube {
     largest: 240,
 };
 
+const RELIABLE: Cube = Cube {
+    id: 1,
+    kind: Kind::Reliable,
+    mpl: 40,
+    r: 20,
+    a: 2,
+    retry: 5,
+    window: 4,
+    largest: 240,
+};
+
 const PEER: Peer = Peer {
     own: 1,
     far: 2,
@@ -72,6 +83,15 @@ fn flow(alloc: Global) -> Result<Flows, Fail> {
     let asker = end(alloc, Role::Asker, 1, b"ping", b"echo")?;
     let far = end(alloc, Role::Far, 2, b"echo", b"ping")?;
     flows.add(alloc, &DATAGRAM, 80, 255, PEER, asker, far)?;
+    Ok(flows)
+}
+
+/// The same of a reliable cube.
+fn reliable_flow(alloc: Global) -> Result<Flows, Fail> {
+    let mut flows = Flows::new(alloc);
+    let asker = end(alloc, Role::Asker, 1, b"ping", b"echo")?;
+    let far = end(alloc, Role::Far, 2, b"echo", b"ping")?;
+    flows.add(alloc, &RELIABLE, 80, 255, PEER, asker, far)?;
     Ok(flows)
 }
 
@@ -198,5 +218,49 @@ fn an_acknowledgement_is_taken_by_the_sender(rt: HostRuntime) -> Result<(), Fail
     flows.told(0, &ack);
     let stray = PduView { dcep: 6, ..ack };
     assert_eq!(rt; flows.taker(&stray), None);
+    Ok(())
+}
+
+#[test]
+fn a_piece_is_sent_again_once_its_time_has_come(rt: HostRuntime) -> Result<(), Fail> {
+    let alloc = rt.alloc();
+    let mut flows = reliable_flow(alloc)?;
+    offer(&rt, alloc, &mut flows, 3, b"hello")?;
+    assert!(rt; flows.conns.len() == 2);
+    assert!(rt; !flows.is_due(7, 0, Item::Again));
+    assert!(rt; flows.is_due(8, 0, Item::Again));
+    flows.sent_again(8, 0);
+    assert!(rt; flows.conns.len() == 2);
+    assert!(rt; !flows.is_due(9, 0, Item::Again));
+    Ok(())
+}
+
+#[test]
+fn an_acknowledgement_is_due_once_its_time_has_come(rt: HostRuntime) -> Result<(), Fail> {
+    let alloc = rt.alloc();
+    let mut flows = reliable_flow(alloc)?;
+    let mut ledger = Ledger::new(alloc);
+    let made = offer(&rt, alloc, &mut flows, 3, b"hello")?;
+    arrive(&rt, alloc, &mut flows, &mut ledger, 10, first(&made)?)?;
+    assert!(rt; flows.conns.len() == 2);
+    assert!(rt; !flows.is_due(11, 1, Item::Ack));
+    assert!(rt; flows.is_due(12, 1, Item::Ack));
+    flows.acknowledged(1);
+    assert!(rt; flows.conns.len() == 2);
+    assert!(rt; !flows.is_due(12, 1, Item::Ack));
+    Ok(())
+}
+
+#[test]
+fn a_flow_fails_where_a_number_is_given_up(rt: HostRuntime) -> Result<(), Fail> {
+    let alloc = rt.alloc();
+    let mut flows = reliable_flow(alloc)?;
+    let mut ledger = Ledger::new(alloc);
+    offer(&rt, alloc, &mut flows, 3, b"hello")?;
+    assert!(rt; flows.conns.len() == 2 && flows.journal.ends.len() == 2);
+    assert_eq!(rt; flows.give_up(alloc, 104, 0, &mut ledger)?, None);
+    assert!(rt; flows.conns.len() == 2 && flows.journal.ends.len() == 2);
+    let num = Num { cep: 5, seq: 0 };
+    assert_eq!(rt; flows.give_up(alloc, 105, 0, &mut ledger)?, Some(num));
     Ok(())
 }
