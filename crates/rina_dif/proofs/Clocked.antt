@@ -1,16 +1,12 @@
 -- The first item that is due at a node, and what it does.
-use Rattle.std.proofs.Common.{◌≡◌, ◌≢◌, ◌∙◌, ℕ, ◌+◌, ◌*◌, ◌<◌, ◌≤◌, ◌⊎◌, Bool, true, false, cond, leb, leb-true, leb-false, List, length, map, slice_get, slice_set, Option, Some, None, Result, Ok, Err, IsTrue, refl, sym, ap, subst, arith, inl, inr}
+use Rattle.std.proofs.Common.{◌≡◌, ◌≢◌, ◌∙◌, ℕ, ◌+◌, ◌<◌, ◌≤◌, ◌⊎◌, Bool, true, false, cond, leb, leb-true, leb-false, List, length, slice_get, Option, Some, None, Result, Ok, Err, IsTrue, refl, sym, ap, subst, arith, inl, inr}
 use Rattle.std.specs.Prelude.{◌↔◌}
 use Rattle.std.proofs.lemmas.Bool.{cases_lt, false≢true}
 use Rattle.std.proofs.lemmas.Option.{slice_get_within}
-use Rattle.rina_base.specs.declared.memory.Memory.{Memory}
 use Rattle.rina_base.specs.declared.number.Num.{Num}
-use Rattle.rina_conn.specs.declared.conn.Conn.{Conn}
-use Rattle.rina_iface.specs.declared.ends.End.{End}
-use Rattle.rina_iface.specs.Journal.{At}
 use Rattle.rina_iface.specs.Seen.{Seen}
 use Rattle.rina_law.specs.Direction.{Direction}
-use Rattle.rina_law.specs.Sender.{Sender, given_up}
+use Rattle.rina_law.specs.Sender.{given_up}
 use Rattle.rina_data.specs.declared.step.ClockStep.{ClockStep}
 use Rattle.rina_data.specs.declared.step.ClockStep.TheVariants as step
 use Rattle.rina_data.specs.declared.step.StepError.{StepError}
@@ -18,17 +14,14 @@ use Rattle.rina_data.specs.declared.step.StepError.TheVariants as why
 use Rattle.rina_data.specs.Configs.{config_of}
 use Rattle.rina_data.specs.Ids.{Ids}
 use Rattle.rina_data.specs.Sending.{home}
-use Rattle.rina_data.proofs.Finding.{beside, there}
+use Rattle.rina_data.proofs.Finding.{there}
 use Rattle.rina_flows.specs.declared.timely.Item.{Item}
 use Rattle.rina_flows.specs.declared.timely.Item.TheVariants.{Ack, Again, GiveUp, Gone}
-use Rattle.rina_flows.specs.Calls.{Tells}
 use Rattle.rina_flows.specs.Tied.{conns_of, ids_of, outward}
-use Rattle.rina_flows.specs.Timely.{DueIn, IsDue}
 use Rattle.rina_flows.proofs.Framed.{ids_at}
-use Rattle.rina_dif.specs.declared.clocking.Next.{Next}
 use Rattle.rina_dif.specs.declared.clocking.Turn.{Turn}
 use Rattle.rina_dif.specs.declared.dif.Dif.{Dif}
-use Rattle.rina_dif.specs.Clocking.{FindsFirst, FindsNext, HasStepped, IsDueAt, IsFirstDue, IsIdle, IsIn, IsTurn, NoneDue, Steps, StepsHere, earlier}
+use Rattle.rina_dif.specs.Clocking.{FindsFirst, HasStepped, IsDueAt, IsIdle, IsIn, IsTurn, StepsHere, earlier}
 use Rattle.rina_dif.specs.Holding.{Holds}
 use Rattle.rina_dif.specs.Shown.{seen_of}
 use Rattle.rina_dif.specs.Timely.{AcknowledgesAs, ForgetsAs, GivesUpAs, IsHomeEnd, SendsAgainAs}

@@ -1,5 +1,5 @@
 -- A flow fails in a clock step for its stated cause alone.
-use Rattle.std.proofs.Common.{◌≡◌, ◌≢◌, ◌∙◌, ℕ, ◌+◌, ◌*◌, ◌<◌, ◌≤◌, ◌⊎◌, Bool, List, length, get_or, slice_get, slice_set, Option, Some, None, Result, Ok, Err, refl, sym, ap, subst, arith, inl, inr}
+use Rattle.std.proofs.Common.{◌≡◌, ◌∙◌, ℕ, ◌+◌, ◌*◌, ◌<◌, ◌≤◌, ◌⊎◌, Bool, List, length, slice_get, slice_set, Option, Some, None, Result, Ok, Err, refl, sym, ap, subst, inl, inr}
 use Rattle.std.proofs.lemmas.Option.{slice_get-get_or}
 use Rattle.rina_cube.specs.declared.Cube.{Cube}
 use Rattle.rina_iface.specs.declared.ends.End.{End}
@@ -12,7 +12,7 @@ use Rattle.rina_iface.specs.Seen.{Seen}
 use Rattle.rina_iface.proofs.Changed.{set_at}
 use Rattle.rina_law.specs.declared.entry.Entry.{Entry}
 use Rattle.rina_law.specs.Constants.{Constants}
-use Rattle.rina_law.specs.Direction.{Direction, entry, no_entry, place_of, start_of}
+use Rattle.rina_law.specs.Direction.{Direction, entry, no_entry, place_of}
 use Rattle.rina_law.specs.DirectionHolds.{DirectionHolds}
 use Rattle.rina_law.specs.Sender.{member}
 use Rattle.rina_law.proofs.Due.{late_given_up}
@@ -27,7 +27,7 @@ use Rattle.rina_data.specs.Ending.{IsGivenUp}
 use Rattle.rina_data.specs.Sending.{home}
 use Rattle.rina_data.proofs.Finding.{beside}
 use Rattle.rina_dif.specs.declared.dif.Dif.{Dif}
-use Rattle.rina_dif.specs.Clocking.{ClockSteps, ClockStepsAt, FailsLate, IsLate, Steps, StepsHere, StepsOk}
+use Rattle.rina_dif.specs.Clocking.{ClockSteps, FailsLate, IsLate, Steps, StepsHere, StepsOk}
 use Rattle.rina_dif.specs.Holding.{Holds}
 use Rattle.rina_dif.specs.Shown.{seen_of}
 use Rattle.rina_dif.specs.Steps.{AtHome}

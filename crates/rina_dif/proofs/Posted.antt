@@ -1,8 +1,7 @@
 -- A PDU that is made beside a send: an acknowledgement, or a piece once more.
-use Rattle.std.proofs.Common.{◌≡◌, ◌≢◌, ◌∙◌, ℕ, ◌-◌, ◌<◌, Bool, true, false, cond, List, [], ◌∷◌, ◌++◌, length, map, option_map, get_or, slice_get, slice_set, Option, Some, None, Result, Ok, Err, refl, sym, ap, subst, inr}
+use Rattle.std.proofs.Common.{◌≡◌, ◌≢◌, ◌∙◌, ℕ, ◌-◌, ◌<◌, Bool, true, false, cond, List, [], ◌∷◌, ◌++◌, length, option_map, get_or, slice_get, slice_set, Option, Some, None, Result, Ok, Err, refl, sym, ap, subst, inr}
 use Rattle.std.proofs.lemmas.Bool.{false≢true}
 use Rattle.std.proofs.lemmas.Option.{slice_get_read}
-use Rattle.rina_account.specs.declared.ledger.Off.{Off}
 use Rattle.rina_base.specs.declared.cause.Cause.{Cause}
 use Rattle.rina_base.specs.declared.cause.Cause.TheVariants as causes
 use Rattle.rina_base.specs.declared.memory.Memory.{Memory}
@@ -13,12 +12,10 @@ use Rattle.rina_conn.specs.declared.conn.DueAck.{DueAck}
 use Rattle.rina_conn.specs.Carrying.{carry}
 use Rattle.rina_conn.specs.Clock.{TellsAck, ack_due, ack_of}
 use Rattle.rina_conn.specs.Sending.{TellsAgain}
-use Rattle.rina_cube.specs.declared.Cube.{Cube}
-use Rattle.rina_iface.specs.declared.ends.End.{End}
 use Rattle.rina_iface.specs.declared.ends.Journal.{Journal}
 use Rattle.rina_iface.specs.Seen.{Seen}
 use Rattle.rina_law.specs.Constants.{Constants}
-use Rattle.rina_law.specs.Direction.{Direction, after_ack, after_again, is_ack_due, right_of}
+use Rattle.rina_law.specs.Direction.{Direction, after_again, is_ack_due, right_of}
 use Rattle.rina_law.specs.Line.{again}
 use Rattle.rina_law.specs.Receiver.{next_of}
 use Rattle.rina_law.specs.Sender.{Ack as AnAck, again_due, piece_again}
@@ -27,9 +24,9 @@ use Rattle.rina_data.specs.declared.step.Settled.{Settled}
 use Rattle.rina_data.specs.declared.step.Settled.TheVariants as settled
 use Rattle.rina_data.specs.Cloud.{Hop}
 use Rattle.rina_data.specs.Configs.{config_of}
-use Rattle.rina_data.specs.Deciding.{Forwards, IsRouted, process_of}
-use Rattle.rina_data.specs.Dif.{Config, DifSeen, Process, constants, cube_by, next_hop, with_process}
-use Rattle.rina_data.specs.Ids.{Ids, flipped, pdu_of_ack, pdu_of_piece}
+use Rattle.rina_data.specs.Deciding.{Forwards, process_of}
+use Rattle.rina_data.specs.Dif.{Config, DifSeen, Process, next_hop, with_process}
+use Rattle.rina_data.specs.Ids.{Ids, pdu_of_ack, pdu_of_piece}
 use Rattle.rina_data.specs.Queueing.{IsFull, IsPassedOn}
 use Rattle.rina_data.specs.Sending.{home}
 use Rattle.rina_data.specs.Standing.{IsQos}

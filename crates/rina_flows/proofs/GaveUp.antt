@@ -1,7 +1,6 @@
 -- A number that is given up.
-use Rattle.std.proofs.Common.{◌≡◌, ◌≢◌, ℕ, ◌<◌, List, length, option_map, slice_get, Option, Some, None, Ok, refl, sym, ◌∙◌, ap, subst}
+use Rattle.std.proofs.Common.{◌≡◌, ◌≢◌, ℕ, List, option_map, Option, Some, None, Ok, refl, sym, ◌∙◌, ap, subst}
 use Rattle.rina_account.specs.declared.ledger.Off.{Off}
-use Rattle.rina_base.specs.declared.number.Num.{Num}
 use Rattle.rina_conn.specs.declared.conn.Conn.{Conn}
 use Rattle.rina_conn.specs.Carrying.{carry}
 use Rattle.rina_conn.specs.Sending.{TellsGivenUp}
@@ -9,19 +8,18 @@ use Rattle.rina_data.specs.Dif.{Config}
 use Rattle.rina_data.proofs.Finding.{beside}
 use Rattle.rina_dtcp.specs.declared.sent.GaveUp as told
 use Rattle.rina_dtcp.specs.Rows.{gave_up_of}
-use Rattle.rina_iface.specs.declared.ends.End.{End}
 use Rattle.rina_iface.specs.declared.state.Fail.TheVariants.{GaveUp}
 use Rattle.rina_iface.specs.declared.state.PortState.{PortState}
 use Rattle.rina_iface.specs.declared.state.PortState.TheVariants.{Allocated, Failed}
 use Rattle.rina_iface.specs.Later.{Moves}
 use Rattle.rina_law.specs.Direction.{Direction}
-use Rattle.rina_law.specs.Sender.{Sender, given_up, member}
+use Rattle.rina_law.specs.Sender.{given_up, member}
 use Rattle.rina_flows.specs.declared.flows.Flows.{Flows}
 use Rattle.rina_flows.specs.Calls.{AreTied, Tells}
-use Rattle.rina_flows.specs.Delivering.{HasStopped, StopsIn}
+use Rattle.rina_flows.specs.Delivering.{StopsIn}
 use Rattle.rina_flows.specs.Ending.{EndsAt}
 use Rattle.rina_flows.specs.Tied.{conns_of, ids_of, outward}
-use Rattle.rina_flows.specs.Timely.{GivesNoneUp, GivesUpIn, HasGivenUp}
+use Rattle.rina_flows.specs.Timely.{GivesNoneUp, GivesUpIn}
 use Rattle.rina_flows.proofs.Framed.{ids_at}
 
 -- where nothing is told, none is given up

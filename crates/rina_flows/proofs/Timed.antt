@@ -7,36 +7,30 @@ use Rattle.rina_base.specs.declared.pdu.Pdu.{Pdu}
 use Rattle.rina_conn.specs.declared.conn.Conn.{Conn}
 use Rattle.rina_conn.specs.declared.conn.DueAck.{DueAck}
 use Rattle.rina_conn.specs.declared.form.Form.{Form}
-use Rattle.rina_conn.specs.declared.sending.Sending.{Sending}
 use Rattle.rina_conn.specs.Carrying.{carry}
 use Rattle.rina_conn.specs.Clock.{TellsAck, ack_due, ack_of}
 use Rattle.rina_conn.specs.Sending.{IsSender, TellsAgain, TellsGivenUp}
 use Rattle.rina_conn.specs.Standing.{AreWaiting, IsReceiver}
 use Rattle.rina_data.specs.Dif.{Config, constants, cube_by}
-use Rattle.rina_data.specs.Standing.{IsJournal}
 use Rattle.rina_data.proofs.Finding.{beside, there}
 use Rattle.rina_dtcp.specs.declared.sent.GaveUp.{GaveUp}
 use Rattle.rina_dtcp.specs.Plans.{without}
 use Rattle.rina_dtcp.specs.Rows as dtcp
 use Rattle.rina_dtcp.specs.Rows.{gave_up_of}
-use Rattle.rina_dtp.specs.Receiving.{kept_numbers, present_at}
 use Rattle.rina_dtp.specs.Stands.{Stands}
 use Rattle.rina_data.specs.Ids.{Ids}
 use Rattle.rina_iface.specs.declared.ends.End.{End}
-use Rattle.rina_iface.specs.declared.state.PortState.TheVariants.{Allocated}
 use Rattle.rina_iface.specs.Journal.{At}
 use Rattle.rina_iface.proofs.Changed.{set_at, slice_get-set_same, slice_set-same}
 use Rattle.rina_law.specs.Constants.{Constants}
-use Rattle.rina_law.specs.Direction.{Direction, Inbox, after_ack, after_again, is_ack_due}
+use Rattle.rina_law.specs.Direction.{Direction, after_ack, after_again, is_ack_due}
 use Rattle.rina_law.specs.Pieces.{Sdu}
-use Rattle.rina_law.specs.Receiver.{Receiver}
 use Rattle.rina_law.specs.Sender.{Ack, Sender, again_due, given_up, piece_again}
-use Rattle.rina_flows.specs.declared.flows.Flows.{Flows}
 use Rattle.rina_flows.specs.declared.timely.Item.TheVariants as item
 use Rattle.rina_flows.specs.Calls.{Becomes, Tells}
 use Rattle.rina_flows.specs.Delivering.{HoldsGone}
 use Rattle.rina_flows.specs.Tied.{IsAt, IsInboundAt, IsReceiving, IsSending, IsTied, conns_of, ids_by, ids_of, inward, outward}
-use Rattle.rina_flows.specs.Timely.{AcknowledgesIn, DueIn, IsAckDue, IsAcknowledged, IsNumberDue, IsSentAgain, SendsAgainIn}
+use Rattle.rina_flows.specs.Timely.{AcknowledgesIn, DueIn, IsAcknowledged, IsNumberDue, IsSentAgain, SendsAgainIn}
 use Rattle.rina_flows.proofs.Framed.{same_ids, tied_set}
 use Rattle.rina_flows.proofs.Landed.{same_at}
 use Rattle.rina_flows.proofs.Offered.{elsewhere, flows_of}

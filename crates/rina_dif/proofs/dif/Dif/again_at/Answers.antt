@@ -1,4 +1,4 @@
-use Rattle.std.proofs.Common.{Ok, ap, refl, subst, sym, ◌∙◌}
+use Rattle.std.proofs.Common.{Ok, ap, refl, subst, ◌∙◌}
 use Rattle.std.proofs.lemmas.Result.{err_from_is_err_and}
 use Rattle.rina_base.specs.declared.pdu.Pdu.{Pdu}
 use Rattle.rina_base.specs.Pdus.{pdu_of}

@@ -1,4 +1,4 @@
-use Rattle.std.proofs.Common.{refl, sym, subst, ap, ◌∙◌, Ok, Some, None}
+use Rattle.std.proofs.Common.{subst}
 use Rattle.std.proofs.lemmas.Result.{err_from_is_err_and}
 use Rattle.rina_flows.specs.declared.timely.Item.{Item}
 use Rattle.rina_dif.specs.Clocking.{IsTurn}
