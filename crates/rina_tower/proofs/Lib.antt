@@ -1,0 +1,9 @@
+pub mod Alone
+pub mod Calling
+pub mod Lasting
+pub mod Ranking
+pub mod Serving
+pub mod Stepped
+pub mod Timing
+pub mod Walks
+pub mod Wiring

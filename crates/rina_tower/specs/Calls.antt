@@ -1,0 +1,130 @@
+-- What the calls of a facility do at the own rank of a tower.
+use Rattle.std.specs.Prelude.{◌≡◌, ℕ, false, List, length, slice_get, Option, Some, None, IsSome, Result, Err}
+use Rattle.rina_base.specs.declared.number.Num.{Num}
+use Rattle.rina_base.specs.declared.number.Port.{Port}
+use Rattle.rina_iface.specs.declared.ask.Ask.{Ask}
+use Rattle.rina_iface.specs.declared.ask.Fixed.{Fixed}
+use Rattle.rina_iface.specs.declared.error.AllocateError.{AllocateError}
+use Rattle.rina_iface.specs.declared.error.AllocateError.TheVariants as allocate
+use Rattle.rina_iface.specs.declared.error.FreeError.{FreeError}
+use Rattle.rina_iface.specs.declared.error.FreeError.TheVariants as free
+use Rattle.rina_iface.specs.declared.error.RegisterError.{RegisterError}
+use Rattle.rina_iface.specs.declared.error.RegisterError.TheVariants as register
+use Rattle.rina_iface.specs.declared.error.SendError.{SendError}
+use Rattle.rina_iface.specs.declared.error.SendError.TheVariants as send
+use Rattle.rina_iface.specs.declared.error.UnregisterError.{UnregisterError}
+use Rattle.rina_iface.specs.declared.error.UnregisterError.TheVariants as unregister
+use Rattle.rina_iface.specs.Allocate.{Allocates}
+use Rattle.rina_iface.specs.Bind.{Binds}
+use Rattle.rina_iface.specs.Claim.{Claims}
+use Rattle.rina_iface.specs.Ends.{place_in}
+use Rattle.rina_iface.specs.Free.{Frees}
+use Rattle.rina_iface.specs.Pass.{IsPassed}
+use Rattle.rina_iface.specs.Register.{Registers}
+use Rattle.rina_iface.specs.Seen.{Seen}
+use Rattle.rina_iface.specs.Send.{Sends}
+use Rattle.rina_iface.specs.Unregister.{Unregisters}
+use Rattle.rina_law.specs.Direction.{Direction}
+use Rattle.rina_dif.specs.declared.dif.Dif.{Dif}
+use Rattle.rina_dif.specs.Facade.{GoesOn, IsShownAs, PassesAt, StaysStanding, its_oldest, own_refusal, shown_as}
+use Rattle.rina_dif.specs.Freeing.{FreesAt}
+use Rattle.rina_dif.specs.Holding.{Holds}
+use Rattle.rina_dif.specs.Sending.{SendsAt}
+use Rattle.rina_dif.specs.Whole.{IsDif}
+use Rattle.rina_wire.specs.Allocate.{AllocatesOn}
+use Rattle.rina_wire.specs.Bind.{BindsOn}
+use Rattle.rina_wire.specs.Claim.{ClaimsOn}
+use Rattle.rina_wire.specs.Free.{FreesOn}
+use Rattle.rina_wire.specs.Register.{RegistersOn}
+use Rattle.rina_wire.specs.Send.{SendsOn, passed}
+use Rattle.rina_wire.specs.Unregister.{UnregistersOn}
+use Rattle.rina_tower.specs.declared.tower.Tower.{Tower, Wires, Rank'}
+use Rattle.rina_tower.specs.Walking.{AtDif, IsAtDif}
+
+-- all of these are DIFs
+abbrev pub AreDifs : List Dif → Type 0
+AreDifs difs = (n : ℕ) (d : Dif) → slice_get difs n ≡ Some d → IsDif d
+
+-- an SDU waits at a port of one of them
+pub record WaitsThere (difs : List Dif) (port : Port) : Type 0 where
+  pub dif : Dif
+  pub is_dif : slice_get difs port.fac ≡ Some dif
+  pub waits : IsSome (its_oldest dif port)
+
+-- a call at the DIF of place n is this at every rank that shows the DIF there; the DIF goes on as a facility, stands
+-- wherever it stood, and what never changes in it stays
+pub record Serves (call : Seen → Seen → Type 0) (n : ℕ) (d d' : Dif) : Type 0 where
+  pub shown : (s : Seen) → IsShownAs s n d → call s (shown_as s n d')
+  pub goes_on : GoesOn d d'
+  pub stands : StaysStanding d d'
+  pub settings : d'.settings ≡ d.settings
+
+-- Names and asks
+
+abbrev pub RegistersHere : ℕ → ℕ → List ℕ → Result (Unit {0}) RegisterError → Tower → Tower → Type 0
+RegistersHere fac node app result (Wires a) (Wires a') = RegistersOn a fac node app result a'
+RegistersHere fac node app result (Rank' p difs below) (Rank' p' difs' below') =
+    AtDif fac (Serves (λ s s'. Registers (Some register.Unbuilt) s fac node app result s') fac) (result ≡ Err register.NoMember) difs difs' × (below' ≡ below)
+RegistersHere fac node app result t t' = ⊥
+
+abbrev pub UnregistersHere : ℕ → ℕ → List ℕ → Result (Unit {0}) UnregisterError → Tower → Tower → Type 0
+UnregistersHere fac node app result (Wires a) (Wires a') = UnregistersOn a fac node app result a'
+UnregistersHere fac node app result (Rank' p difs below) (Rank' p' difs' below') =
+    AtDif fac (Serves (λ s s'. Unregisters (Some unregister.Unbuilt) s fac node app result s') fac) (result ≡ Err unregister.NotThere) difs difs' × (below' ≡ below)
+UnregistersHere fac node app result t t' = ⊥
+
+abbrev pub AllocatesHere : Ask → Result Port AllocateError → Tower → Tower → Type 0
+AllocatesHere ask result (Wires a) (Wires a') = AllocatesOn a ask result a'
+AllocatesHere ask result (Rank' p difs below) (Rank' p' difs' below') =
+    AtDif ask.fac (Serves (λ s s'. Allocates (Some allocate.Unbuilt) s ask result s') ask.fac) (result ≡ Err allocate.NoMember) difs difs' × (below' ≡ below)
+AllocatesHere ask result t t' = ⊥
+
+-- under the condition of `bind` there is such a DIF
+abbrev pub BindsHere : Fixed → Result (Port × Port) AllocateError → Tower → Tower → Type 0
+BindsHere fixed result (Wires a) (Wires a') = BindsOn a fixed result a'
+BindsHere fixed result (Rank' p difs below) (Rank' p' difs' below') =
+    IsAtDif (Serves (λ s s'. Binds s fixed result s') fixed.fac) fixed.fac difs difs' × (below' ≡ below)
+BindsHere fixed result t t' = ⊥
+
+abbrev pub ClaimsHere : ℕ → ℕ → List ℕ → Option Port → Tower → Tower → Type 0
+ClaimsHere fac node app result (Wires a) (Wires a') = ClaimsOn a fac node app result a'
+ClaimsHere fac node app result (Rank' p difs below) (Rank' p' difs' below') =
+    AtDif fac (Serves (λ s s'. Claims s fac node app result s') fac) (result ≡ None) difs difs' × (below' ≡ below)
+ClaimsHere fac node app result t t' = ⊥
+
+-- SDUs
+
+-- what `send` does at the DIF of a port
+pub record SendsFrom (port : Port) (bytes : List ℕ) (result : Result Num SendError) (d d' : Dif) : Type 0 where
+  pub serves : Serves (λ s s'. Sends (own_refusal d port (length bytes)) s port bytes result s') port.fac d d'
+  pub does : (lines : List Direction) (below : Seen) → Holds d lines below → SendsAt (place_in port d.flows.journal.ends) d lines below bytes result d'
+
+abbrev pub SendsHere : Port → List ℕ → Result Num SendError → Tower → Tower → Type 0
+SendsHere port bytes result (Wires a) (Wires a') = SendsOn a port bytes result a'
+SendsHere port bytes result (Rank' p difs below) (Rank' p' difs' below') =
+    AtDif port.fac (SendsFrom port bytes result) (result ≡ Err (send.NotAllocated None)) difs difs' × (below' ≡ below)
+SendsHere port bytes result t t' = ⊥
+
+-- what `pass` does at the DIF of a port
+pub record PassesFrom (port : Port) (d d' : Dif) : Type 0 where
+  pub serves : Serves (λ s s'. IsPassed s port s') port.fac d d'
+  pub does : (lines : List Direction) (below : Seen) → Holds d lines below → PassesAt d lines port d' below
+
+-- where an SDU waits there is such a DIF
+abbrev pub PassesHere : Port → Tower → Tower → Type 0
+PassesHere port (Wires a) (Wires a') = a' ≡ passed a port
+PassesHere port (Rank' p difs below) (Rank' p' difs' below') = IsAtDif (PassesFrom port) port.fac difs difs' × (below' ≡ below)
+PassesHere port t t' = ⊥
+
+-- The end of a flow
+
+-- what `free` does at the DIF of a port
+pub record FreesFrom (port : Port) (result : Result (Unit {0}) FreeError) (d d' : Dif) : Type 0 where
+  pub serves : Serves (λ s s'. Frees false s port result s') port.fac d d'
+  pub does : (lines : List Direction) (below : Seen) → Holds d lines below → FreesAt (place_in port d.flows.journal.ends) d lines below result d'
+
+abbrev pub FreesHere : Port → Result (Unit {0}) FreeError → Tower → Tower → Type 0
+FreesHere port result (Wires a) (Wires a') = FreesOn a port result a'
+FreesHere port result (Rank' p difs below) (Rank' p' difs' below') =
+    AtDif port.fac (FreesFrom port result) (result ≡ Err free.NoPort) difs difs' × (below' ≡ below)
+FreesHere port result t t' = ⊥

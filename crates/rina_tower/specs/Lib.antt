@@ -1,0 +1,11 @@
+pub mod Applications
+pub mod Beside
+pub mod Calls
+pub mod Events
+pub mod Lasting
+pub mod Ranks
+pub mod Refusing
+pub mod Standing
+pub mod Stepping
+pub mod Ticking
+pub mod Walking

@@ -1,0 +1,117 @@
+//! The calls of the facilities of a rank, each at the DIF of its number.
+ghost use Rattle.std.specs.Prelude.{◌≡◌, Some, None, Err};
+ghost use Rattle.rina_iface.specs.declared.error.AllocateError.TheVariants as allocate;
+ghost use Rattle.rina_iface.specs.declared.error.FreeError.TheVariants as free;
+ghost use Rattle.rina_iface.specs.declared.error.RegisterError.TheVariants as register;
+ghost use Rattle.rina_iface.specs.declared.error.SendError.TheVariants as send;
+ghost use Rattle.rina_iface.specs.declared.error.UnregisterError.TheVariants as unregister;
+ghost use Rattle.rina_iface.specs.Allocate.{Allocates};
+ghost use Rattle.rina_iface.specs.Claim.{Claims};
+ghost use Rattle.rina_iface.specs.Register.{Registers};
+ghost use Rattle.rina_iface.specs.Unregister.{Unregisters};
+ghost use Rattle.rina_tower.specs.Calls.{AreDifs, FreesFrom, PassesFrom, SendsFrom, Serves, WaitsThere};
+ghost use Rattle.rina_tower.specs.Walking.{AtDif, IsAtDif};
+
+use super::Difs;
+use rina_base::{AppName, Node, Num, Port};
+use rina_iface::{AllocateError, Ask, FreeError, RegisterError, SendError, UnregisterError};
+use std::alloc::Global;
+
+impl Difs {
+    /// Registers an application at a node.
+    pub fn register(
+        &mut self,
+        alloc: Global,
+        fac: u16,
+        node: Node,
+        app: &AppName,
+    ) -> Result<(), RegisterError>
+        requires { AreDifs self.old }
+        ensures { AtDif fac (Serves (λ s s'. Registers (Some register.Unbuilt) s fac node app.now result s') fac) (result ≡ Err register.NoMember) self.old self.new }
+    {
+        let Some(_dif) = self.get(fac) else {
+            return Err(RegisterError::NoMember);
+        };
+        let one = &mut self.items[fac as usize];
+        one.register(alloc, node, app)
+    }
+
+    /// Ends the registration of an application at a node.
+    pub fn unregister(
+        &mut self,
+        alloc: Global,
+        fac: u16,
+        node: Node,
+        app: &AppName,
+    ) -> Result<(), UnregisterError>
+        requires { AreDifs self.old }
+        ensures { AtDif fac (Serves (λ s s'. Unregisters (Some unregister.Unbuilt) s fac node app.now result s') fac) (result ≡ Err unregister.NotThere) self.old self.new }
+    {
+        let Some(_dif) = self.get(fac) else {
+            return Err(UnregisterError::NotThere);
+        };
+        let one = &mut self.items[fac as usize];
+        one.unregister(alloc, node, app)
+    }
+
+    /// Asks for a flow.
+    pub fn allocate(&mut self, alloc: Global, ask: &Ask) -> Result<Port, AllocateError>
+        requires { AreDifs self.old }
+        ensures { AtDif ask.now.fac (Serves (λ s s'. Allocates (Some allocate.Unbuilt) s ask.now result s') ask.now.fac) (result ≡ Err allocate.NoMember) self.old self.new }
+    {
+        let Some(_dif) = self.get(ask.fac) else {
+            return Err(AllocateError::NoMember);
+        };
+        let one = &mut self.items[ask.fac as usize];
+        one.allocate(alloc, ask)
+    }
+
+    /// Claims the oldest far end of an application at a node that nobody claimed yet.
+    pub fn incoming(&mut self, fac: u16, node: Node, app: &AppName) -> Option<Port>
+        requires { AreDifs self.old }
+        ensures { AtDif fac (Serves (λ s s'. Claims s fac node app.now result s') fac) (result ≡ None) self.old self.new }
+    {
+        let Some(_dif) = self.get(fac) else {
+            return None;
+        };
+        let one = &mut self.items[fac as usize];
+        one.incoming(node, app)
+    }
+
+    /// Sends an SDU.
+    pub fn send(&mut self, alloc: Global, port: Port, sdu: &[u8]) -> Result<Num, SendError>
+        requires { AreDifs self.old }
+        ensures { AtDif port.fac (SendsFrom port sdu.now result) (result ≡ Err (send.NotAllocated None)) self.old self.new }
+    {
+        let Some(_dif) = self.get(port.fac) else {
+            return Err(SendError::NotAllocated { state: None });
+        };
+        let one = &mut self.items[port.fac as usize];
+        one.send(alloc, port, sdu)
+    }
+
+    /// Passes the oldest SDU of a port, where one waits.
+    pub fn pass(&mut self, port: Port)
+        requires difs { AreDifs self.old }
+        requires waits { WaitsThere self.old port }
+        ensures { IsAtDif (PassesFrom port) port.fac self.old self.new }
+    {
+        let Some(_dif) = self.get(port.fac) else {
+            unreachable!()
+        };
+        let one = &mut self.items[port.fac as usize];
+        one.pass(port);
+    }
+
+    /// Gives up a port.
+    pub fn free(&mut self, alloc: Global, port: Port) -> Result<(), FreeError>
+        requires { AreDifs self.old }
+        ensures { AtDif port.fac (FreesFrom port result) (result ≡ Err free.NoPort) self.old self.new }
+    {
+        let Some(_dif) = self.get(port.fac) else {
+            return Err(FreeError::NoPort);
+        };
+        let one = &mut self.items[port.fac as usize];
+        one.free(alloc, port)
+    }
+}

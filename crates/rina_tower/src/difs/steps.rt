@@ -1,0 +1,147 @@
+//! The steps of the DIFs of a rank, over any facility below.
+ghost use Rattle.std.specs.Prelude.{◌≡◌, length, slice_get, Some, Err};
+ghost use Rattle.rina_data.specs.declared.step.StepError.TheVariants.{NoIpc};
+ghost use Rattle.rina_tower.specs.Beside.{Anyone, LeavesNow};
+ghost use Rattle.rina_tower.specs.Ranks.{seen_of_difs};
+ghost use Rattle.rina_tower.specs.Standing.{AreStanding};
+ghost use Rattle.rina_tower.specs.Stepping.{ClocksOne, SendsOne, TakesOne};
+ghost use Rattle.rina_tower.specs.Walking.{AtDif};
+
+use super::Difs;
+use rina_base::Node;
+use rina_data::{ClockStep, InStep, OutStep, StepError};
+use rina_iface::Facility;
+use rina_policy::Picks;
+use std::alloc::Global;
+
+impl Difs {
+    /// Takes the oldest SDU of a link at a DIF.
+    fn take<F: Facility>(
+        &mut self,
+        alloc: Global,
+        below: &mut F,
+        dif: u16,
+        node: Node,
+        link: u16,
+    ) -> Result<InStep, StepError>
+        requires valid { F.valid below.old }
+        requires stand { AreStanding self.old (F.seen below.old) }
+        ensures valid { F.valid below.new }
+        ensures below { F.same_below below.old below.new }
+        ensures does { AtDif dif (TakesOne (F.seen below.old) node link result (F.seen below.new)) ((result ≡ Err NoIpc) × (below.new ≡ below.old)) self.old self.new }
+    {
+        let Some(_dif) = self.get(dif) else {
+            return Err(StepError::NoIpc);
+        };
+        let one = &mut self.items[dif as usize];
+        one.in_step(alloc, below, node, link)
+    }
+
+    /// Takes one step at a link of the IPC process at a node of a DIF: the oldest SDU that waits there is taken.
+    pub fn in_step<F: Facility>(
+        &mut self,
+        alloc: Global,
+        below: &mut F,
+        dif: u16,
+        node: Node,
+        link: u16,
+    ) -> Result<InStep, StepError>
+        requires valid { F.valid below.old }
+        requires stand { AreStanding self.old (F.seen below.old) }
+        ensures valid { F.valid below.new }
+        ensures below { F.same_below below.old below.new }
+        ensures does { AtDif dif (TakesOne (F.seen below.old) node link result (F.seen below.new)) ((result ≡ Err NoIpc) × (below.new ≡ below.old)) self.old self.new }
+        ensures stand { AreStanding self.new (F.seen below.new) }
+        ensures clock { (F.seen below.new).now ≡ (F.seen below.old).now }
+        ensures quiet { LeavesNow Anyone (seen_of_difs (F.seen below.old).now self.old) (seen_of_difs (F.seen below.old).now self.new) }
+    {
+        self.take(alloc, below, dif, node, link)
+    }
+
+    /// Lets a PDU go at a link at a DIF.
+    fn let_go<F: Facility, S: Picks>(
+        &mut self,
+        alloc: Global,
+        below: &mut F,
+        shelf: &mut S,
+        dif: u16,
+        node: Node,
+        link: u16,
+    ) -> Result<OutStep, StepError>
+        requires valid { F.valid below.old }
+        requires stand { AreStanding self.old (F.seen below.old) }
+        ensures valid { F.valid below.new }
+        ensures below { F.same_below below.old below.new }
+        ensures does { AtDif dif (SendsOne (F.refuses_send below.old) (S.may_answer shelf.old) (S.slots shelf.old) (S.slots shelf.new) (F.seen below.old) node link result (F.seen below.new)) ((result ≡ Err NoIpc) × (S.slots shelf.new ≡ S.slots shelf.old) × (below.new ≡ below.old)) self.old self.new }
+    {
+        let Some(_dif) = self.get(dif) else {
+            return Err(StepError::NoIpc);
+        };
+        let one = &mut self.items[dif as usize];
+        one.out_step(alloc, below, shelf, node, link)
+    }
+
+    /// Takes one step at a link of the IPC process at a node of a DIF: the PDU that the policy picks of those that wait
+    /// is sent below, or written off, or stays.
+    pub fn out_step<F: Facility, S: Picks>(
+        &mut self,
+        alloc: Global,
+        below: &mut F,
+        shelf: &mut S,
+        dif: u16,
+        node: Node,
+        link: u16,
+    ) -> Result<OutStep, StepError>
+        requires valid { F.valid below.old }
+        requires stand { AreStanding self.old (F.seen below.old) }
+        ensures valid { F.valid below.new }
+        ensures below { F.same_below below.old below.new }
+        ensures does { AtDif dif (SendsOne (F.refuses_send below.old) (S.may_answer shelf.old) (S.slots shelf.old) (S.slots shelf.new) (F.seen below.old) node link result (F.seen below.new)) ((result ≡ Err NoIpc) × (S.slots shelf.new ≡ S.slots shelf.old) × (below.new ≡ below.old)) self.old self.new }
+        ensures stand { AreStanding self.new (F.seen below.new) }
+        ensures clock { (F.seen below.new).now ≡ (F.seen below.old).now }
+        ensures quiet { LeavesNow Anyone (seen_of_difs (F.seen below.old).now self.old) (seen_of_difs (F.seen below.old).now self.new) }
+    {
+        self.let_go(alloc, below, shelf, dif, node, link)
+    }
+
+    /// Does the first thing that is due at a node of a DIF.
+    fn do_due<F: Facility>(
+        &mut self,
+        alloc: Global,
+        below: &mut F,
+        dif: u16,
+        node: Node,
+    ) -> Result<ClockStep, StepError>
+        requires valid { F.valid below.old }
+        requires stand { AreStanding self.old (F.seen below.old) }
+        ensures valid { F.valid below.new }
+        ensures below { F.same_below below.old below.new }
+        ensures does { AtDif dif (ClocksOne (F.seen below.old) node result (F.seen below.new)) ((result ≡ Err NoIpc) × (below.new ≡ below.old)) self.old self.new }
+    {
+        let Some(_dif) = self.get(dif) else {
+            return Err(StepError::NoIpc);
+        };
+        let one = &mut self.items[dif as usize];
+        one.clock_step(alloc, below, node)
+    }
+
+    /// Takes one step of the IPC process at a node of a DIF by the clock: the first thing that is due is done.
+    pub fn clock_step<F: Facility>(
+        &mut self,
+        alloc: Global,
+        below: &mut F,
+        dif: u16,
+        node: Node,
+    ) -> Result<ClockStep, StepError>
+        requires valid { F.valid below.old }
+        requires stand { AreStanding self.old (F.seen below.old) }
+        ensures valid { F.valid below.new }
+        ensures below { F.same_below below.old below.new }
+        ensures does { AtDif dif (ClocksOne (F.seen below.old) node result (F.seen below.new)) ((result ≡ Err NoIpc) × (below.new ≡ below.old)) self.old self.new }
+        ensures stand { AreStanding self.new (F.seen below.new) }
+        ensures clock { (F.seen below.new).now ≡ (F.seen below.old).now }
+        ensures quiet { LeavesNow Anyone (seen_of_difs (F.seen below.old).now self.old) (seen_of_difs (F.seen below.old).now self.new) }
+    {
+        self.do_due(alloc, below, dif, node)
+    }
+}

@@ -1,0 +1,228 @@
+//! A tower as the facilities of its own rank.
+ghost use Rattle.std.specs.Prelude.{◌≡◌, IsSome, length};
+ghost use Rattle.rina_iface.specs.Allocate.{Allocates};
+ghost use Rattle.rina_iface.specs.Claim.{Claims};
+ghost use Rattle.rina_iface.specs.Free.{Frees};
+ghost use Rattle.rina_iface.specs.Later.{IsLater};
+ghost use Rattle.rina_iface.specs.Pass.{IsPassed};
+ghost use Rattle.rina_iface.specs.Register.{Registers};
+ghost use Rattle.rina_iface.specs.Seen.{unpassed};
+ghost use Rattle.rina_iface.specs.Send.{Sends};
+ghost use Rattle.rina_iface.specs.Unregister.{Unregisters};
+ghost use Rattle.rina_tower.specs.Calls.{AllocatesHere, ClaimsHere, FreesHere, PassesHere, RegistersHere, SendsHere, UnregistersHere};
+ghost use Rattle.rina_tower.specs.Ranks.{seen_of};
+ghost use Rattle.rina_tower.specs.Refusing.{frees_both, refuses_allocate, refuses_own, refuses_register, refuses_send, refuses_unregister};
+ghost use Rattle.rina_tower.specs.Standing.{IsTower, clock_of, kept_of};
+ghost use Rattle.rina_tower.specs.Walking.{SameBelow, same_refl, same_trans};
+
+use crate::tower::Tower;
+use rina_base::{AppName, Node, Num, Port, Tick};
+use rina_iface::{
+    AllocateError, Ask, Facility, Fixed, FreeError, Journal, Lent, PortState, RegisterError,
+    SendError, UnregisterError,
+};
+use std::alloc::Global;
+
+impl Facility for Tower {
+    ghost seen = { seen_of };
+
+    ghost valid = { IsTower };
+
+    ghost same_below = { SameBelow };
+
+    ghost refuses_register = { refuses_register };
+
+    ghost refuses_unregister = { refuses_unregister };
+
+    ghost refuses_allocate = { refuses_allocate };
+
+    ghost refuses_send = { refuses_send };
+
+    ghost frees_both = { frees_both };
+
+    fn now(&self) -> Tick {
+        self.clock()
+    }
+
+    fn journal(&self, fac: u16) -> Option<&Journal> {
+        match self {
+            Tower::Wires(wires) => wires.journal(fac),
+            Tower::Rank(rank) => match rank.difs.get(fac) {
+                Some(dif) => Some(dif.journal()),
+                None => None,
+            },
+        }
+    }
+
+    fn state(&self, port: Port) -> Option<PortState> {
+        match self {
+            Tower::Wires(wires) => wires.state(port),
+            Tower::Rank(rank) => match rank.difs.get(port.fac) {
+                Some(dif) => dif.state(port),
+                None => None,
+            },
+        }
+    }
+
+    fn promise(&self, port: Port) -> Option<u32> {
+        match self {
+            Tower::Wires(wires) => wires.promise(port),
+            Tower::Rank(rank) => match rank.difs.get(port.fac) {
+                Some(dif) => dif.promise(port),
+                None => None,
+            },
+        }
+    }
+
+    fn largest(&self, port: Port) -> Option<u32> {
+        match self {
+            Tower::Wires(wires) => wires.largest(port),
+            Tower::Rank(rank) => match rank.difs.get(port.fac) {
+                Some(dif) => dif.largest(port),
+                None => None,
+            },
+        }
+    }
+
+    fn register(
+        &mut self,
+        alloc: Global,
+        fac: u16,
+        node: Node,
+        app: &AppName,
+    ) -> Result<(), RegisterError>
+        requires { IsTower self.old }
+        ensures valid { IsTower self.new }
+        ensures below { SameBelow self.old self.new }
+        ensures later { IsLater (seen_of self.old) (seen_of self.new) }
+        ensures does { Registers (refuses_register self.old fac node app.now)
+            (seen_of self.old) fac node app.now result (seen_of self.new) }
+        ensures exact { RegistersHere fac node app.now result self.old self.new }
+    {
+        match self {
+            Tower::Wires(wires) => wires.register(alloc, fac, node, app),
+            Tower::Rank(rank) => rank.difs.register(alloc, fac, node, app),
+        }
+    }
+
+    fn unregister(
+        &mut self,
+        alloc: Global,
+        fac: u16,
+        node: Node,
+        app: &AppName,
+    ) -> Result<(), UnregisterError>
+        requires { IsTower self.old }
+        ensures valid { IsTower self.new }
+        ensures below { SameBelow self.old self.new }
+        ensures later { IsLater (seen_of self.old) (seen_of self.new) }
+        ensures does { Unregisters (refuses_unregister self.old fac node app.now)
+            (seen_of self.old) fac node app.now result (seen_of self.new) }
+        ensures exact { UnregistersHere fac node app.now result self.old self.new }
+    {
+        match self {
+            Tower::Wires(wires) => wires.unregister(alloc, fac, node, app),
+            Tower::Rank(rank) => rank.difs.unregister(alloc, fac, node, app),
+        }
+    }
+
+    fn allocate(&mut self, alloc: Global, ask: &Ask) -> Result<Port, AllocateError>
+        requires { IsTower self.old }
+        ensures valid { IsTower self.new }
+        ensures below { SameBelow self.old self.new }
+        ensures later { IsLater (seen_of self.old) (seen_of self.new) }
+        ensures does { Allocates (refuses_allocate self.old ask.now)
+            (seen_of self.old) ask.now result (seen_of self.new) }
+        ensures exact { AllocatesHere ask.now result self.old self.new }
+    {
+        match self {
+            Tower::Wires(wires) => wires.allocate(alloc, ask),
+            Tower::Rank(rank) => rank.difs.allocate(alloc, ask),
+        }
+    }
+
+    fn bind(&mut self, alloc: Global, fixed: &Fixed) -> Result<(Port, Port), AllocateError> {
+        match self {
+            Tower::Wires(wires) => wires.bind(alloc, fixed),
+            Tower::Rank(_) => Err(AllocateError::Memory),
+        }
+    }
+
+    fn incoming(&mut self, fac: u16, node: Node, app: &AppName) -> Option<Port>
+        requires { IsTower self.old }
+        ensures valid { IsTower self.new }
+        ensures below { SameBelow self.old self.new }
+        ensures later { IsLater (seen_of self.old) (seen_of self.new) }
+        ensures does { Claims (seen_of self.old) fac node app.now result (seen_of self.new) }
+        ensures exact { ClaimsHere fac node app.now result self.old self.new }
+    {
+        match self {
+            Tower::Wires(wires) => wires.incoming(fac, node, app),
+            Tower::Rank(rank) => rank.difs.incoming(fac, node, app),
+        }
+    }
+
+    fn send(&mut self, alloc: Global, port: Port, sdu: &[u8]) -> Result<Num, SendError>
+        requires { IsTower self.old }
+        ensures valid { IsTower self.new }
+        ensures below { SameBelow self.old self.new }
+        ensures later { IsLater (seen_of self.old) (seen_of self.new) }
+        ensures does { Sends (refuses_send self.old port (length sdu.now))
+            (seen_of self.old) port sdu.now result (seen_of self.new) }
+        ensures exact { SendsHere port sdu.now result self.old self.new }
+    {
+        match self {
+            Tower::Wires(wires) => wires.send(alloc, port, sdu),
+            Tower::Rank(rank) => rank.difs.send(alloc, port, sdu),
+        }
+    }
+
+    fn peek(&self, port: Port) -> Option<Lent<'_>> {
+        match self {
+            Tower::Wires(wires) => wires.peek(port),
+            Tower::Rank(rank) => match rank.difs.get(port.fac) {
+                Some(dif) => dif.peek(port),
+                None => None,
+            },
+        }
+    }
+
+    fn pass(&mut self, port: Port)
+        requires valid { IsTower self.old }
+        requires waits { IsSome (unpassed (seen_of self.old) port) }
+        ensures valid { IsTower self.new }
+        ensures below { SameBelow self.old self.new }
+        ensures later { IsLater (seen_of self.old) (seen_of self.new) }
+        ensures does { IsPassed (seen_of self.old) port (seen_of self.new) }
+        ensures exact { PassesHere port self.old self.new }
+    {
+        match self {
+            Tower::Wires(wires) => wires.pass(port),
+            Tower::Rank(rank) => rank.difs.pass(port),
+        }
+    }
+
+    fn free(&mut self, alloc: Global, port: Port) -> Result<(), FreeError>
+        requires { IsTower self.old }
+        ensures valid { IsTower self.new }
+        ensures below { SameBelow self.old self.new }
+        ensures later { IsLater (seen_of self.old) (seen_of self.new) }
+        ensures does { Frees (frees_both self.old) (seen_of self.old) port result (seen_of self.new) }
+        ensures exact { FreesHere port result self.old self.new }
+    {
+        match self {
+            Tower::Wires(wires) => wires.free(alloc, port),
+            Tower::Rank(rank) => rank.difs.free(alloc, port),
+        }
+    }
+
+    ghost same_refl = { same_refl };
+
+    ghost same_trans = { same_trans };
+
+    ghost kept = { kept_of };
+
+    ghost refusals = { λ t v port len. refuses_own t port len };
+
+    ghost clock_ends = { clock_of };
+}

@@ -1,0 +1,14 @@
+//! Ranks of DIFs over wires: each rank is a facility for the one above.
+#![tactic(auto)]
+
+mod applications;
+mod difs;
+mod events;
+mod facility;
+mod steps;
+mod tick;
+mod tower;
+
+pub use applications::AppError;
+pub use difs::Difs;
+pub use tower::{Rank, Tower};

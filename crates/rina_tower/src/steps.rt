@@ -1,0 +1,102 @@
+//! The steps of the DIFs, at any rank.
+ghost use Rattle.std.specs.Prelude.{◌≡◌};
+ghost use Rattle.rina_tower.specs.Beside.{Anyone, LeavesNow};
+ghost use Rattle.rina_tower.specs.Ranks.{height_of, seen_of};
+ghost use Rattle.rina_tower.specs.Standing.{IsTower};
+ghost use Rattle.rina_tower.specs.Stepping.{ClocksAt, InSteps, OutSteps};
+
+use crate::tower::{Rank, Tower};
+use rina_base::Node;
+use rina_data::{ClockStep, InStep, OutStep, StepError};
+use rina_policy::Picks;
+use std::alloc::Global;
+
+impl Tower {
+    /// Takes one step at a link of the IPC process at a node of a DIF of rank `r`: the oldest SDU that waits there is
+    /// taken. Where there is no such DIF it answers `NoIpc`.
+    pub fn in_step(
+        &mut self,
+        alloc: Global,
+        r: u16,
+        dif: u16,
+        node: Node,
+        link: u16,
+    ) -> Result<InStep, StepError>
+        requires { IsTower self.old }
+        ensures valid { IsTower self.new }
+        ensures does { InSteps r dif node link result self.old self.new }
+        ensures quiet { LeavesNow Anyone (seen_of self.old) (seen_of self.new) }
+        ensures height { height_of self.new ≡ height_of self.old }
+    {
+        match self {
+            Tower::Wires(_) => Err(StepError::NoIpc),
+            Tower::Rank(rank) => {
+                let rank: &mut Rank = rank;
+                if r == rank.below.height() + 1 {
+                    rank.difs.in_step(alloc, &mut rank.below, dif, node, link)
+                } else {
+                    rank.below.in_step(alloc, r, dif, node, link)
+                }
+            }
+        }
+    }
+
+    /// Takes one step at a link of the IPC process at a node of a DIF of rank `r`: the PDU that the policy picks of
+    /// those that wait is sent below, or written off, or stays. Where there is no such DIF it answers `NoIpc`.
+    pub fn out_step<S: Picks>(
+        &mut self,
+        alloc: Global,
+        r: u16,
+        dif: u16,
+        shelf: &mut S,
+        node: Node,
+        link: u16,
+    ) -> Result<OutStep, StepError>
+        requires { IsTower self.old }
+        ensures valid { IsTower self.new }
+        ensures does { OutSteps (S.may_answer shelf.old) (S.slots shelf.old) (S.slots shelf.new) r dif node link result self.old self.new }
+        ensures quiet { LeavesNow Anyone (seen_of self.old) (seen_of self.new) }
+        ensures height { height_of self.new ≡ height_of self.old }
+    {
+        match self {
+            Tower::Wires(_) => Err(StepError::NoIpc),
+            Tower::Rank(rank) => {
+                let rank: &mut Rank = rank;
+                if r == rank.below.height() + 1 {
+                    rank.difs
+                        .out_step(alloc, &mut rank.below, shelf, dif, node, link)
+                } else {
+                    rank.below.out_step(alloc, r, dif, shelf, node, link)
+                }
+            }
+        }
+    }
+
+    /// Takes one step of the IPC process at a node of a DIF of rank `r` by the clock: the first thing that is due is
+    /// done. Where there is no such DIF it answers `NoIpc`.
+    pub fn clock_step(
+        &mut self,
+        alloc: Global,
+        r: u16,
+        dif: u16,
+        node: Node,
+    ) -> Result<ClockStep, StepError>
+        requires { IsTower self.old }
+        ensures valid { IsTower self.new }
+        ensures does { ClocksAt r dif node result self.old self.new }
+        ensures quiet { LeavesNow Anyone (seen_of self.old) (seen_of self.new) }
+        ensures height { height_of self.new ≡ height_of self.old }
+    {
+        match self {
+            Tower::Wires(_) => Err(StepError::NoIpc),
+            Tower::Rank(rank) => {
+                let rank: &mut Rank = rank;
+                if r == rank.below.height() + 1 {
+                    rank.difs.clock_step(alloc, &mut rank.below, dif, node)
+                } else {
+                    rank.below.clock_step(alloc, r, dif, node)
+                }
+            }
+        }
+    }
+}
