@@ -1,4 +1,19 @@
 //! The calls of applications, at any rank.
+ghost use Rattle.std.specs.Prelude.{◌≡◌};
+ghost use Rattle.rina_tower.specs.Applications.{Answers, AppRegisters, AppUnregisters};
+ghost use Rattle.rina_tower.specs.Beside.{IsIpc, LeavesNow, is_ipc};
+ghost use Rattle.rina_tower.specs.Calls.{RegistersHere, UnregistersHere};
+ghost use Rattle.rina_tower.specs.Ranks.{height_of, seen_of};
+ghost use Rattle.rina_tower.specs.Standing.{IsTower};
+ghost use Rattle.rina_tower.specs.Walking.{SameBelow};
+
+mod asking;
+mod sending;
+
+use crate::tower::Tower;
+use rina_base::{AppName, Node};
+use rina_iface::{Facility, RegisterError, UnregisterError};
+use std::alloc::Global;
 
 /// Why a call of an application was refused. The variants stand in the order in which they are tried.
 #[derive(Clone, Copy, Debug, PartialEq, Eq)]
@@ -9,4 +24,100 @@ pub enum AppError<E> {
     NotYours,
     /// The call itself refused.
     Call(E),
+}
+
+impl Tower {
+    /// Registers an application at the own rank, where it is no IPC process.
+    fn register_app(
+        &mut self,
+        alloc: Global,
+        fac: u16,
+        node: Node,
+        app: &AppName,
+    ) -> Result<(), AppError<RegisterError>>
+        requires { IsTower self.old }
+        ensures valid { IsTower self.new }
+        ensures below { SameBelow self.old self.new }
+        ensures does { Answers (is_ipc app.now) (λ x. RegistersHere fac node app.now x self.old self.new) (self.new ≡ self.old) result }
+        ensures beside { LeavesNow IsIpc (seen_of self.old) (seen_of self.new) }
+    {
+        if app.is_ipc() {
+            return Err(AppError::NotYours);
+        }
+        match self.register(alloc, fac, node, app) {
+            Ok(()) => Ok(()),
+            Err(error) => Err(AppError::Call(error)),
+        }
+    }
+
+    /// Registers an application at a node of a facility of rank `r`.
+    pub fn app_register(
+        &mut self,
+        alloc: Global,
+        r: u16,
+        fac: u16,
+        node: Node,
+        app: &AppName,
+    ) -> Result<(), AppError<RegisterError>>
+        requires { IsTower self.old }
+        ensures valid { IsTower self.new }
+        ensures does { AppRegisters r fac node app.now result self.old self.new }
+        ensures beside { LeavesNow IsIpc (seen_of self.old) (seen_of self.new) }
+        ensures height { height_of self.new ≡ height_of self.old }
+    {
+        if r == self.height() {
+            return self.register_app(alloc, fac, node, app);
+        }
+        match self {
+            Tower::Wires(_) => Err(AppError::NoRank),
+            Tower::Rank(rank) => rank.below.app_register(alloc, r, fac, node, app),
+        }
+    }
+
+    /// Ends the registration of an application at the own rank, where it is no IPC process.
+    fn unregister_app(
+        &mut self,
+        alloc: Global,
+        fac: u16,
+        node: Node,
+        app: &AppName,
+    ) -> Result<(), AppError<UnregisterError>>
+        requires { IsTower self.old }
+        ensures valid { IsTower self.new }
+        ensures below { SameBelow self.old self.new }
+        ensures does { Answers (is_ipc app.now) (λ x. UnregistersHere fac node app.now x self.old self.new) (self.new ≡ self.old) result }
+        ensures beside { LeavesNow IsIpc (seen_of self.old) (seen_of self.new) }
+    {
+        if app.is_ipc() {
+            return Err(AppError::NotYours);
+        }
+        match self.unregister(alloc, fac, node, app) {
+            Ok(()) => Ok(()),
+            Err(error) => Err(AppError::Call(error)),
+        }
+    }
+
+    /// Ends the registration of an application at a node of a facility of rank `r`.
+    pub fn app_unregister(
+        &mut self,
+        alloc: Global,
+        r: u16,
+        fac: u16,
+        node: Node,
+        app: &AppName,
+    ) -> Result<(), AppError<UnregisterError>>
+        requires { IsTower self.old }
+        ensures valid { IsTower self.new }
+        ensures does { AppUnregisters r fac node app.now result self.old self.new }
+        ensures beside { LeavesNow IsIpc (seen_of self.old) (seen_of self.new) }
+        ensures height { height_of self.new ≡ height_of self.old }
+    {
+        if r == self.height() {
+            return self.unregister_app(alloc, fac, node, app);
+        }
+        match self {
+            Tower::Wires(_) => Err(AppError::NoRank),
+            Tower::Rank(rank) => rank.below.app_unregister(alloc, r, fac, node, app),
+        }
+    }
 }

@@ -1,0 +1,15 @@
+use Rattle.rina_tower.specs.Refusing.{refuses_unregister}
+use Rattle.rina_tower.proofs.Calling.{unregisters_alone}
+use Rattle.rina_tower.specs.Beside.{IsIpc}
+use Rattle.rina_tower.specs.Ranks.{seen_of}
+use Rattle.rina_tower.proofs.Alone.{all_alone}
+use Rattle.rina_tower.proofs.tower.Tower.unregister_app.Goals as goal
+
+pub returns-then-is_ipc-clause-beside : goal.returns-then-is_ipc-clause-beside
+returns-then-is_ipc-clause-beside c = all_alone IsIpc _
+
+pub returns-in-Ok-clause-beside : goal.returns-in-Ok-clause-beside
+returns-in-Ok-clause-beside c = unregisters_alone IsIpc (refuses_unregister c.args.self.now c.args.fac c.args.node c.args.app.now) (seen_of c.args.self.now) c.args.fac c.args.node c.args.app.now c.unregister.result (seen_of c.unregister.new.self) c.unregister.ensures.does
+
+pub returns-in-Err-clause-beside : goal.returns-in-Err-clause-beside
+returns-in-Err-clause-beside c = unregisters_alone IsIpc (refuses_unregister c.args.self.now c.args.fac c.args.node c.args.app.now) (seen_of c.args.self.now) c.args.fac c.args.node c.args.app.now c.unregister.result (seen_of c.unregister.new.self) c.unregister.ensures.does

@@ -1,0 +1,94 @@
+//! How applications ask for flows, and claim the far ends of those that were asked for.
+ghost use Rattle.std.specs.Prelude.{◌≡◌, ◌||◌};
+ghost use Rattle.rina_tower.specs.Applications.{Answers, AppAllocates, AppClaims, ClaimsFor};
+ghost use Rattle.rina_tower.specs.Beside.{IsIpc, LeavesNow, is_ipc};
+ghost use Rattle.rina_tower.specs.Calls.{AllocatesHere, ClaimsHere};
+ghost use Rattle.rina_tower.specs.Ranks.{height_of, seen_of};
+ghost use Rattle.rina_tower.specs.Standing.{IsTower};
+ghost use Rattle.rina_tower.specs.Walking.{SameBelow};
+
+use super::AppError;
+use crate::tower::Tower;
+use rina_base::{AppName, Node, Port};
+use rina_iface::{AllocateError, Ask, Facility};
+use std::alloc::Global;
+
+/// Whether an IPC process asks, or is asked for.
+fn is_for_ipc(ask: &Ask) -> bool
+    ensures { result ≡ is_ipc ask.now.app || is_ipc ask.now.to }
+{
+    ask.app.is_ipc() || ask.to.is_ipc()
+}
+
+impl Tower {
+    /// Asks for a flow at the own rank, where neither application is an IPC process.
+    fn allocate_app(&mut self, alloc: Global, ask: &Ask) -> Result<Port, AppError<AllocateError>>
+        requires { IsTower self.old }
+        ensures valid { IsTower self.new }
+        ensures below { SameBelow self.old self.new }
+        ensures does { Answers (is_ipc ask.now.app || is_ipc ask.now.to) (λ x. AllocatesHere ask.now x self.old self.new) (self.new ≡ self.old) result }
+        ensures beside { LeavesNow IsIpc (seen_of self.old) (seen_of self.new) }
+    {
+        if is_for_ipc(ask) {
+            return Err(AppError::NotYours);
+        }
+        match self.allocate(alloc, ask) {
+            Ok(port) => Ok(port),
+            Err(error) => Err(AppError::Call(error)),
+        }
+    }
+
+    /// Asks for a flow of a facility of rank `r`, and answers the port of its end.
+    pub fn app_allocate(
+        &mut self,
+        alloc: Global,
+        r: u16,
+        ask: &Ask,
+    ) -> Result<Port, AppError<AllocateError>>
+        requires { IsTower self.old }
+        ensures valid { IsTower self.new }
+        ensures does { AppAllocates r ask.now result self.old self.new }
+        ensures beside { LeavesNow IsIpc (seen_of self.old) (seen_of self.new) }
+        ensures height { height_of self.new ≡ height_of self.old }
+    {
+        if r == self.height() {
+            return self.allocate_app(alloc, ask);
+        }
+        match self {
+            Tower::Wires(_) => Err(AppError::NoRank),
+            Tower::Rank(rank) => rank.below.app_allocate(alloc, r, ask),
+        }
+    }
+
+    /// Claims a far end at the own rank, where the application is no IPC process.
+    fn incoming_app(&mut self, fac: u16, node: Node, app: &AppName) -> Option<Port>
+        requires { IsTower self.old }
+        ensures valid { IsTower self.new }
+        ensures below { SameBelow self.old self.new }
+        ensures does { ClaimsFor (is_ipc app.now) (λ x. ClaimsHere fac node app.now x self.old self.new) (self.new ≡ self.old) result }
+        ensures beside { LeavesNow IsIpc (seen_of self.old) (seen_of self.new) }
+    {
+        if app.is_ipc() {
+            return None;
+        }
+        self.incoming(fac, node, app)
+    }
+
+    /// Claims the oldest far end of an application at a node of a facility of rank `r` that nobody claimed yet. None
+    /// also where there is no such rank, and for an IPC process.
+    pub fn app_incoming(&mut self, r: u16, fac: u16, node: Node, app: &AppName) -> Option<Port>
+        requires { IsTower self.old }
+        ensures valid { IsTower self.new }
+        ensures does { AppClaims r fac node app.now result self.old self.new }
+        ensures beside { LeavesNow IsIpc (seen_of self.old) (seen_of self.new) }
+        ensures height { height_of self.new ≡ height_of self.old }
+    {
+        if r == self.height() {
+            return self.incoming_app(fac, node, app);
+        }
+        match self {
+            Tower::Wires(_) => None,
+            Tower::Rank(rank) => rank.below.app_incoming(r, fac, node, app),
+        }
+    }
+}

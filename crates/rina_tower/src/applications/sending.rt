@@ -1,0 +1,128 @@
+//! How applications send and pass SDUs, and free their ports.
+ghost use Rattle.std.specs.Prelude.{◌≡◌, false};
+ghost use Rattle.rina_iface.specs.Seen.{unpassed};
+ghost use Rattle.rina_tower.specs.Applications.{Answers, AppFrees, AppPasses, AppSends, CanPass, is_ipc_at};
+ghost use Rattle.rina_tower.specs.Beside.{IsIpc, LeavesNow};
+ghost use Rattle.rina_tower.specs.Calls.{FreesHere, SendsHere};
+ghost use Rattle.rina_tower.specs.Ranks.{height_of, seen_of};
+ghost use Rattle.rina_tower.specs.Standing.{IsTower};
+ghost use Rattle.rina_tower.specs.Walking.{SameBelow};
+
+use super::AppError;
+use crate::tower::Tower;
+use rina_base::{Num, Port};
+use rina_iface::{Facility, FreeError, SendError};
+use std::alloc::Global;
+
+impl Tower {
+    /// Whether the application at a port of the own rank is an IPC process.
+    fn is_ipc_port(&self, port: Port) -> bool
+        requires { IsTower self.now }
+        ensures { result ≡ is_ipc_at (seen_of self.now) port }
+    {
+        match self.journal(port.fac) {
+            None => false,
+            Some(journal) => match journal.ends.find(port) {
+                None => false,
+                Some(end) => end.app.is_ipc(),
+            },
+        }
+    }
+
+    /// Sends an SDU at the own rank, where the application of the port is no IPC process.
+    fn send_app(
+        &mut self,
+        alloc: Global,
+        port: Port,
+        sdu: &[u8],
+    ) -> Result<Num, AppError<SendError>>
+        requires { IsTower self.old }
+        ensures valid { IsTower self.new }
+        ensures below { SameBelow self.old self.new }
+        ensures does { Answers (is_ipc_at (seen_of self.old) port) (λ x. SendsHere port sdu.now x self.old self.new) (self.new ≡ self.old) result }
+        ensures beside { LeavesNow IsIpc (seen_of self.old) (seen_of self.new) }
+    {
+        if self.is_ipc_port(port) {
+            return Err(AppError::NotYours);
+        }
+        match self.send(alloc, port, sdu) {
+            Ok(num) => Ok(num),
+            Err(error) => Err(AppError::Call(error)),
+        }
+    }
+
+    /// Sends an SDU at a port of rank `r`, and answers its number.
+    pub fn app_send(
+        &mut self,
+        alloc: Global,
+        r: u16,
+        port: Port,
+        sdu: &[u8],
+    ) -> Result<Num, AppError<SendError>>
+        requires { IsTower self.old }
+        ensures valid { IsTower self.new }
+        ensures does { AppSends r port sdu.now result self.old self.new }
+        ensures beside { LeavesNow IsIpc (seen_of self.old) (seen_of self.new) }
+        ensures height { height_of self.new ≡ height_of self.old }
+    {
+        if r == self.height() {
+            return self.send_app(alloc, port, sdu);
+        }
+        match self {
+            Tower::Wires(_) => Err(AppError::NoRank),
+            Tower::Rank(rank) => rank.below.app_send(alloc, r, port, sdu),
+        }
+    }
+
+    /// Marks the oldest SDU at a port of rank `r` as passed, where one waits and the application is no IPC process.
+    pub fn app_pass(&mut self, r: u16, port: Port)
+        requires valid { IsTower self.old }
+        requires can { CanPass self.old r port }
+        ensures valid { IsTower self.new }
+        ensures does { AppPasses r port self.old self.new }
+        ensures beside { LeavesNow IsIpc (seen_of self.old) (seen_of self.new) }
+        ensures height { height_of self.new ≡ height_of self.old }
+    {
+        if r == self.height() {
+            return self.pass(port);
+        }
+        match self {
+            Tower::Wires(_) => unreachable!(),
+            Tower::Rank(rank) => rank.below.app_pass(r, port),
+        }
+    }
+
+    /// Gives up a port of the own rank, where its application is no IPC process.
+    fn free_app(&mut self, alloc: Global, port: Port) -> Result<(), AppError<FreeError>>
+        requires { IsTower self.old }
+        ensures valid { IsTower self.new }
+        ensures below { SameBelow self.old self.new }
+        ensures does { Answers (is_ipc_at (seen_of self.old) port) (λ x. FreesHere port x self.old self.new) (self.new ≡ self.old) result }
+        ensures beside { LeavesNow IsIpc (seen_of self.old) (seen_of self.new) }
+    {
+        if self.is_ipc_port(port) {
+            return Err(AppError::NotYours);
+        }
+        match self.free(alloc, port) {
+            Ok(()) => Ok(()),
+            Err(error) => Err(AppError::Call(error)),
+        }
+    }
+
+    /// Gives up a port of rank `r`.
+    pub fn app_free(&mut self, alloc: Global, r: u16, port: Port) -> Result<(), AppError<FreeError>>
+        requires { IsTower self.old }
+        ensures valid { IsTower self.new }
+        ensures does { AppFrees r port result self.old self.new }
+        ensures beside { LeavesNow IsIpc (seen_of self.old) (seen_of self.new) }
+        ensures height { height_of self.new ≡ height_of self.old }
+    {
+        if r == self.height() {
+            return self.free_app(alloc, port);
+        }
+        match self {
+            Tower::Wires(_) => Err(AppError::NoRank),
+            Tower::Rank(rank) => rank.below.app_free(alloc, r, port),
+        }
+    }
+}
