@@ -1,7 +1,7 @@
 -- What a call at one DIF is to its rank.
 use Rattle.std.proofs.Common.{◌≡◌, ◌∙◌, ℕ, ◌<◌, List, get_or, length, slice_get, slice_set, Option, Some, None, option_and_then, option_map, Result, Err, false, refl, sym, ap, subst, arith, inl, inr}
 use Rattle.std.proofs.lemmas.Bool.{false≢true}
-use Rattle.std.proofs.lemmas.Option.{get_or_from_slice_get, slice_get-map}
+use Rattle.std.proofs.lemmas.Option.{get_or_from_slice_get, same_Some, slice_get-map}
 use Rattle.rina_base.specs.declared.number.Num.{Num}
 use Rattle.rina_base.specs.declared.number.Port.{Port}
 use Rattle.rina_iface.specs.declared.ask.Ask.{Ask}
@@ -15,7 +15,10 @@ use Rattle.rina_iface.specs.declared.error.SendError.{SendError}
 use Rattle.rina_iface.specs.declared.error.SendError.TheVariants as send
 use Rattle.rina_iface.specs.declared.error.UnregisterError.{UnregisterError}
 use Rattle.rina_iface.specs.declared.error.UnregisterError.TheVariants as unregister
+use Rattle.rina_iface.specs.declared.ask.Fixed.{Fixed}
 use Rattle.rina_iface.specs.Allocate.{Allocates}
+use Rattle.rina_iface.specs.Bind.{Binds, CanBind}
+use Rattle.rina_data.proofs.Own.{map_at}
 use Rattle.rina_iface.specs.Claim.{Claims}
 use Rattle.rina_iface.specs.Free.{Frees}
 use Rattle.rina_iface.specs.Pass.{IsPassed}
@@ -30,7 +33,7 @@ use Rattle.rina_dif.specs.declared.dif.Dif.{Dif}
 use Rattle.rina_dif.specs.Facade.{StaysStanding, own_refusal}
 use Rattle.rina_tower.specs.declared.tower.Tower.{Tower, Rank', Wires}
 use Rattle.rina_tower.specs.Beside.{Anyone, IsIpc, LeavesNow}
-use Rattle.rina_tower.specs.Calls.{AreDifs, FreesFrom, PassesFrom, SendsFrom, Serves, WaitsThere}
+use Rattle.rina_tower.specs.Calls.{AreDifs, BindsFrom, MayBind, FreesFrom, PassesFrom, SendsFrom, Serves, WaitsThere}
 use Rattle.rina_tower.specs.Ranks.{fac_of_dif, height_of, now_of, seen_now, seen_of, seen_of_difs}
 use Rattle.rina_tower.specs.Standing.{AreStanding, At, IsRank, IsTower, kept_of}
 use Rattle.rina_tower.specs.Walking.{AtDif, IsAtDif, SameBelow}
@@ -191,3 +194,27 @@ waits_there difs now port some = go (slice_get difs port.fac) refl (subst (λ (o
     go : (o : Option Dif) → slice_get difs port.fac ≡ o → IsSome (option_and_then (λ (e : End). slice_get e.got e.taken) (option_and_then (λ (f : Fac). end_in port f.ends) (option_map fac_of_dif o))) → WaitsThere difs port
     go None h s = absurd (false≢true s)
     go (Some d) h s = record { dif = d; is_dif = h; waits = s }
+
+-- A fixed flow
+
+pub rank_binds : (fixed : Fixed) (result : Result (Port × Port) AllocateError) (difs difs' : List Dif) (below : Tower) → IsRank difs below → IsTower below → IsAtDif (BindsFrom fixed result) fixed.fac difs difs' → IsRank difs' below
+rank_binds fixed result difs difs' below rank v h = rank_after difs difs' below fixed.fac h.dif h.dif' rank v h.is_dif h.done.serves.stands h.done.serves.settings h.new_is
+
+pub binds_seen : (fixed : Fixed) (result : Result (Port × Port) AllocateError) (difs difs' : List Dif) (below : Tower) → IsRank difs below → IsAtDif (BindsFrom fixed result) fixed.fac difs difs' → Binds (seen_of_difs (now_of below) difs) fixed result (seen_of_difs (now_of below) difs')
+binds_seen fixed result difs difs' below rank h = call_seen (λ s s'. Binds s fixed result s') fixed.fac difs difs' below h.dif h.dif' rank h.is_dif h.done.serves h.new_is
+
+pub may_bind : (difs : List Dif) (below : Tower) (fixed : Fixed) → IsRank difs below → CanBind (seen_of_difs (now_of below) difs) fixed → MayBind difs fixed
+may_bind difs below fixed rank can =
+    let m = map_at fac_of_dif difs fixed.fac can.facility can.stands in
+    record {
+      dif = m.0;
+      is_dif = m.1;
+      number = rank.standing.number fixed.fac m.0 m.1;
+      rank = seen_of_difs (now_of below) difs;
+      shows = shows difs (seen_of below) fixed.fac m.0 (now_of below) (seen_now below) rank.standing m.1;
+      can = can;
+    }
+
+-- the DIF that may make it is the one of that place
+pub same_binder : (difs : List Dif) (fixed : Fixed) (one : Dif) → slice_get difs fixed.fac ≡ Some one → (may : MayBind difs fixed) → one ≡ may.dif
+same_binder difs fixed one at may = same_Some one may.dif (sym at ∙ may.is_dif)

@@ -15,7 +15,7 @@ use Rattle.rina_iface.specs.declared.error.SendError.TheVariants as send
 use Rattle.rina_iface.specs.declared.error.UnregisterError.{UnregisterError}
 use Rattle.rina_iface.specs.declared.error.UnregisterError.TheVariants as unregister
 use Rattle.rina_iface.specs.Allocate.{Allocates}
-use Rattle.rina_iface.specs.Bind.{Binds}
+use Rattle.rina_iface.specs.Bind.{Binds, CanBind}
 use Rattle.rina_iface.specs.Claim.{Claims}
 use Rattle.rina_iface.specs.Ends.{place_in}
 use Rattle.rina_iface.specs.Free.{Frees}
@@ -26,6 +26,7 @@ use Rattle.rina_iface.specs.Send.{Sends}
 use Rattle.rina_iface.specs.Unregister.{Unregisters}
 use Rattle.rina_law.specs.Direction.{Direction}
 use Rattle.rina_dif.specs.declared.dif.Dif.{Dif}
+use Rattle.rina_dif.specs.Binding.{BindsTo}
 use Rattle.rina_dif.specs.Facade.{GoesOn, IsShownAs, PassesAt, StaysStanding, its_oldest, own_refusal, shown_as}
 use Rattle.rina_dif.specs.Freeing.{FreesAt}
 use Rattle.rina_dif.specs.Holding.{Holds}
@@ -50,6 +51,15 @@ pub record WaitsThere (difs : List Dif) (port : Port) : Type 0 where
   pub dif : Dif
   pub is_dif : slice_get difs port.fac ≡ Some dif
   pub waits : IsSome (its_oldest dif port)
+
+-- one of them, which some rank shows with this number, may make a fixed flow
+pub record MayBind (difs : List Dif) (fixed : Fixed) : Type 0 where
+  pub dif : Dif
+  pub is_dif : slice_get difs fixed.fac ≡ Some dif
+  pub number : dif.settings.fac ≡ fixed.fac
+  pub rank : Seen
+  pub shows : IsShownAs rank fixed.fac dif
+  pub can : CanBind rank fixed
 
 -- a call at the DIF of place n is this at every rank that shows the DIF there; the DIF goes on as a facility, stands
 -- wherever it stood, and what never changes in it stays
@@ -79,11 +89,16 @@ AllocatesHere ask result (Rank' p difs below) (Rank' p' difs' below') =
     AtDif ask.fac (Serves (λ s s'. Allocates (Some allocate.Unbuilt) s ask result s') ask.fac) (result ≡ Err allocate.NoMember) difs difs' × (below' ≡ below)
 AllocatesHere ask result t t' = ⊥
 
+-- what `bind` does at the DIF of a fixed flow
+pub record BindsFrom (fixed : Fixed) (result : Result (Port × Port) AllocateError) (d d' : Dif) : Type 0 where
+  pub serves : Serves (λ s s'. Binds s fixed result s') fixed.fac d d'
+  pub does : (lines : List Direction) (below : Seen) → Holds d lines below → BindsTo d lines below fixed result d'
+
 -- under the condition of `bind` there is such a DIF
 abbrev pub BindsHere : Fixed → Result (Port × Port) AllocateError → Tower → Tower → Type 0
 BindsHere fixed result (Wires a) (Wires a') = BindsOn a fixed result a'
 BindsHere fixed result (Rank' p difs below) (Rank' p' difs' below') =
-    IsAtDif (Serves (λ s s'. Binds s fixed result s') fixed.fac) fixed.fac difs difs' × (below' ≡ below)
+    IsAtDif (BindsFrom fixed result) fixed.fac difs difs' × (below' ≡ below)
 BindsHere fixed result t t' = ⊥
 
 abbrev pub ClaimsHere : ℕ → ℕ → List ℕ → Option Port → Tower → Tower → Type 0

@@ -1,6 +1,7 @@
 //! A tower as the facilities of its own rank.
 ghost use Rattle.std.specs.Prelude.{◌≡◌, IsSome, length};
 ghost use Rattle.rina_iface.specs.Allocate.{Allocates};
+ghost use Rattle.rina_iface.specs.Bind.{Binds, CanBind};
 ghost use Rattle.rina_iface.specs.Claim.{Claims};
 ghost use Rattle.rina_iface.specs.Free.{Frees};
 ghost use Rattle.rina_iface.specs.Later.{IsLater};
@@ -9,7 +10,7 @@ ghost use Rattle.rina_iface.specs.Register.{Registers};
 ghost use Rattle.rina_iface.specs.Seen.{unpassed};
 ghost use Rattle.rina_iface.specs.Send.{Sends};
 ghost use Rattle.rina_iface.specs.Unregister.{Unregisters};
-ghost use Rattle.rina_tower.specs.Calls.{AllocatesHere, ClaimsHere, FreesHere, PassesHere, RegistersHere, SendsHere, UnregistersHere};
+ghost use Rattle.rina_tower.specs.Calls.{AllocatesHere, BindsHere, ClaimsHere, FreesHere, PassesHere, RegistersHere, SendsHere, UnregistersHere};
 ghost use Rattle.rina_tower.specs.Ranks.{seen_of};
 ghost use Rattle.rina_tower.specs.Refusing.{frees_both, refuses_allocate, refuses_own, refuses_register, refuses_send, refuses_unregister};
 ghost use Rattle.rina_tower.specs.Standing.{IsTower, clock_of, kept_of};
@@ -141,10 +142,18 @@ impl Facility for Tower {
         }
     }
 
-    fn bind(&mut self, alloc: Global, fixed: &Fixed) -> Result<(Port, Port), AllocateError> {
+    fn bind(&mut self, alloc: Global, fixed: &Fixed) -> Result<(Port, Port), AllocateError>
+        requires valid { IsTower self.old }
+        requires room { CanBind (seen_of self.old) fixed.now }
+        ensures valid { IsTower self.new }
+        ensures below { SameBelow self.old self.new }
+        ensures later { IsLater (seen_of self.old) (seen_of self.new) }
+        ensures does { Binds (seen_of self.old) fixed.now result (seen_of self.new) }
+        ensures exact { BindsHere fixed.now result self.old self.new }
+    {
         match self {
             Tower::Wires(wires) => wires.bind(alloc, fixed),
-            Tower::Rank(_) => Err(AllocateError::Memory),
+            Tower::Rank(rank) => rank.difs.bind(alloc, fixed),
         }
     }
 

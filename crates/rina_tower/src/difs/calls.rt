@@ -9,12 +9,12 @@ ghost use Rattle.rina_iface.specs.Allocate.{Allocates};
 ghost use Rattle.rina_iface.specs.Claim.{Claims};
 ghost use Rattle.rina_iface.specs.Register.{Registers};
 ghost use Rattle.rina_iface.specs.Unregister.{Unregisters};
-ghost use Rattle.rina_tower.specs.Calls.{AreDifs, FreesFrom, PassesFrom, SendsFrom, Serves, WaitsThere};
+ghost use Rattle.rina_tower.specs.Calls.{AreDifs, BindsFrom, MayBind, FreesFrom, PassesFrom, SendsFrom, Serves, WaitsThere};
 ghost use Rattle.rina_tower.specs.Walking.{AtDif, IsAtDif};
 
 use super::Difs;
 use rina_base::{AppName, Node, Num, Port};
-use rina_iface::{AllocateError, Ask, FreeError, RegisterError, SendError, UnregisterError};
+use rina_iface::{AllocateError, Ask, Fixed, FreeError, RegisterError, SendError, UnregisterError};
 use std::alloc::Global;
 
 impl Difs {
@@ -64,6 +64,19 @@ impl Difs {
         };
         let one = &mut self.items[ask.fac as usize];
         one.allocate(alloc, ask)
+    }
+
+    /// Makes a fixed flow, and answers the ports of both its ends.
+    pub fn bind(&mut self, alloc: Global, fixed: &Fixed) -> Result<(Port, Port), AllocateError>
+        requires difs { AreDifs self.old }
+        requires may { MayBind self.old fixed.now }
+        ensures { IsAtDif (BindsFrom fixed.now result) fixed.now.fac self.old self.new }
+    {
+        let Some(_dif) = self.get(fixed.fac) else {
+            unreachable!()
+        };
+        let one = &mut self.items[fixed.fac as usize];
+        one.bind(alloc, fixed)
     }
 
     /// Claims the oldest far end of an application at a node that nobody claimed yet.
