@@ -1,9 +1,10 @@
--- A DIF without links stands.
-use Rattle.std.proofs.Common.{◌≡◌, ◌∙◌, ℕ, ◌+◌, List, [], ◌∷◌, ◌++◌, length, map, slice_get, option_map, Option, Some, None, refl, sym, ap, subst, arith, inl, inr}
+-- A DIF without flows stands.
+use Rattle.std.proofs.Common.{◌≡◌, ◌∙◌, ℕ, ◌+◌, List, [], ◌∷◌, ◌++◌, length, map, slice_get, option_map, Option, Some, None, refl, sym, ap, subst, arith, inl, inr, ◌⊎◌}
 use Rattle.std.proofs.lemmas.List.{length-map}
 use Rattle.std.proofs.lemmas.Option.{slice_get-map}
+use Rattle.rina_base.specs.declared.number.Port.{Port}
 use Rattle.rina_iface.specs.declared.ends.End.{End}
-use Rattle.rina_iface.specs.Seen.{Seen}
+use Rattle.rina_iface.specs.Seen.{Seen, end_of}
 use Rattle.rina_iface.proofs.Grown.{pushed_at}
 use Rattle.rina_queue.specs.declared.queue.Queued.{Queued}
 use Rattle.rina_conn.specs.declared.conn.Conn.{Conn}
@@ -12,26 +13,26 @@ use Rattle.rina_data.specs.declared.link.Link.{Link}
 use Rattle.rina_data.specs.declared.link.Route.{Route}
 use Rattle.rina_data.specs.declared.process.IpcProcess.{IpcProcess}
 use Rattle.rina_data.specs.declared.settings.Settings.{Settings}
-use Rattle.rina_data.specs.Cloud.{Waits}
+use Rattle.rina_data.specs.Cloud.{IsMine, Waits}
 use Rattle.rina_data.specs.Configs.{config_of, member_of}
 use Rattle.rina_data.specs.Deciding.{plain, process_of}
-use Rattle.rina_data.specs.Dif.{Process, next_hop}
+use Rattle.rina_data.specs.Dif.{Member, Process, next_hop}
 use Rattle.rina_data.specs.Ids.{Ids}
 use Rattle.rina_data.specs.Numbered.{AreMembers}
-use Rattle.rina_data.specs.Standing.{HasLink, IsConfig}
+use Rattle.rina_data.specs.Standing.{HasLink, IsConfig, IsInside, IsLinked}
 use Rattle.rina_data.specs.Start.{IsStart}
 use Rattle.rina_data.proofs.Carries.{start_carries}
 use Rattle.rina_data.proofs.Numbering.{start_numbered}
 use Rattle.rina_data.proofs.Starting.{start_stands}
 use Rattle.rina_dif.specs.declared.dif.Dif.{Dif}
 use Rattle.rina_dif.specs.Building.{AreBare, IsBare, IsFree}
-use Rattle.rina_dif.specs.Holding.{Holds}
+use Rattle.rina_dif.specs.Holding.{AreHoused, Holds}
 use Rattle.rina_dif.specs.Shown.{seen_of}
 
-none_in : {X : Type 0} (i : ℕ) (x : X) (xs : List X) → xs ≡ [] → slice_get xs i ≡ Some x → ⊥
+pub none_in : {X : Type 0} (i : ℕ) (x : X) (xs : List X) → xs ≡ [] → slice_get xs i ≡ Some x → ⊥
 none_in i x xs none is = (let e : slice_get [] i ≡ Some x = subst (λ ys. slice_get ys i ≡ Some x) none is in cc)
 
-map_at : {X Y : Type 0} (f : X → Y) (xs : List X) (i : ℕ) (y : Y) → slice_get (map f xs) i ≡ Some y → (x : X) × (slice_get xs i ≡ Some x) × (f x ≡ y)
+pub map_at : {X Y : Type 0} (f : X → Y) (xs : List X) (i : ℕ) (y : Y) → slice_get (map f xs) i ≡ Some y → (x : X) × (slice_get xs i ≡ Some x) × (f x ≡ y)
 map_at f xs i y is = found (slice_get xs i) refl
   where
     found : (o : Option _) → slice_get xs i ≡ o → (x : _) × (slice_get xs i ≡ Some x) × (f x ≡ y)
@@ -50,14 +51,19 @@ no_item settings ps i n item bare w =
     let none : w.process.queues ≡ [] = ap (λ (z : Process). z.queues) (sym p.2) ∙ ap (map plain) (bare.each i p.0 p.1).queues in
     none_in w.place w.queue w.process.queues none w.is_queue
 
-no_hop : (dst link : ℕ) (routes : List Route) → routes ≡ [] → next_hop dst routes ≡ Some link → ⊥
+pub no_hop : (dst link : ℕ) (routes : List Route) → routes ≡ [] → next_hop dst routes ≡ Some link → ⊥
 no_hop dst link routes none is = (let e : next_hop dst [] ≡ Some link = subst (λ rs. next_hop dst rs ≡ Some link) none is in cc)
 
-starts : (d : Dif) (below : Seen) → d.flows.journal.ends ≡ [] → d.flows.conns ≡ [] → IsConfig (config_of d.settings) → d.clock ≡ below.now → AreBare d.settings d.processes → IsFree (config_of d.settings) below → IsStart (seen_of d) [] below
-starts d below ends conns config clock bare free =
+-- a DIF without flows starts, where its links are those of its members below, and nothing was sent
+pub starts : (d : Dif) (below : Seen) → d.flows.journal.ends ≡ [] → d.flows.conns ≡ [] → IsConfig (config_of d.settings) → d.clock ≡ below.now → length d.processes ≡ length d.settings.members
+    → ((i : ℕ) (member : Member) (link : Link) → slice_get (config_of d.settings).members i ≡ Some member → HasLink (map process_of d.processes) i link → IsLinked below member.name link.port)
+    → ((port : Port) (end : End) → end_of below port ≡ Some end → IsMine (config_of d.settings).members end.app ⊎ IsMine (config_of d.settings).members end.peer → IsInside (config_of d.settings) below port end)
+    → ((port : Port) (end : End) → end_of below port ≡ Some end → IsMine (config_of d.settings).members end.app → end.sent ≡ [])
+    → ((i n : ℕ) (item : Queued) → Waits (map process_of d.processes) i n item → ⊥)
+    → IsStart (seen_of d) [] below
+starts d below ends conns config clock same linked inside silent idle =
     let E = λ (i : ℕ) (e : End) (is : slice_get d.flows.journal.ends i ≡ Some e). none_in i e d.flows.journal.ends ends is in
     let C = λ (i : ℕ) (c : Ids) (is : slice_get (seen_of d).conns i ≡ Some c). none_in i c (seen_of d).conns (ap (map ids_of) conns) is in
-    let same = bare.aligned in
     let ps = length-map d.processes process_of in
     let ms = length-map d.settings.members member_of in
     let no_ends : length d.flows.journal.ends ≡ 0 = ap (λ (es : List End). length es) ends in
@@ -66,10 +72,10 @@ starts d below ends conns config clock bare free =
       config = config;
       clock = clock;
       aligned = omega (arith, same, ps, ms);
-      linked = λ i member link is has. absurd (no_link d.settings d.processes i link bare has);
-      inside = λ port end here mine. absurd (free port end here mine);
-      silent = λ port end here mine. absurd (free port end here (inl mine));
-      idle = λ i n item waits. no_item d.settings d.processes i n item bare waits;
+      linked = linked;
+      inside = inside;
+      silent = silent;
+      idle = idle;
       journal = record {
         distinct = λ i k a b x y same role. absurd (E i a x);
         far = λ i e x role. absurd (E i e x);
@@ -92,10 +98,9 @@ starts d below ends conns config clock bare free =
       fresh = λ i c line x y. absurd (C i c x);
     }
 
--- it stands
-pub bare_holds : (d : Dif) (below : Seen) → d.flows.journal.ends ≡ [] → d.flows.conns ≡ [] → AreBare d.settings d.processes → IsConfig (config_of d.settings) → AreMembers (config_of d.settings) → d.clock ≡ below.now → IsFree (config_of d.settings) below → Holds d [] below
-bare_holds d below ends conns bare config members clock free =
-    let s = starts d below ends conns config clock bare free in
+-- and stands
+pub start_holds : (d : Dif) (below : Seen) → d.flows.journal.ends ≡ [] → d.flows.conns ≡ [] → IsStart (seen_of d) [] below → AreMembers (config_of d.settings) → AreHoused (config_of d.settings) d.processes → Holds d [] below
+start_holds d below ends conns s members housed =
     let no_ends : length d.flows.journal.ends ≡ 0 = ap (λ (es : List End). length es) ends in
     let no_conns : length d.flows.conns ≡ 0 = ap (λ (ks : List Conn). length ks) conns in
     record {
@@ -108,22 +113,28 @@ bare_holds d below ends conns bare config members clock free =
       standing = start_stands (seen_of d) [] below s;
       carrying = start_carries (seen_of d) [] below s;
       numbered = start_numbered (seen_of d) [] below s members (λ i e ids conn. absurd (none_in i e d.flows.journal.ends ends conn.end)) (λ i e is. absurd (none_in i e d.flows.journal.ends ends is));
-      housed = λ i p is. (let b = bare.each i p is in record { cap = b.room; queues = λ dst link qos hop known. absurd (no_hop dst link p.routes b.routes hop) });
+      housed = housed;
     }
+
+-- so does a DIF without links
+pub bare_holds : (d : Dif) (below : Seen) → d.flows.journal.ends ≡ [] → d.flows.conns ≡ [] → AreBare d.settings d.processes → IsConfig (config_of d.settings) → AreMembers (config_of d.settings) → d.clock ≡ below.now → IsFree (config_of d.settings) below → Holds d [] below
+bare_holds d below ends conns bare config members clock free =
+    let start = starts d below ends conns config clock bare.aligned (λ i member link is has. absurd (no_link d.settings d.processes i link bare has)) (λ port end here mine. absurd (free port end here mine)) (λ port end here mine. absurd (free port end here (inl mine))) (λ i n item waits. no_item d.settings d.processes i n item bare waits) in
+    start_holds d below ends conns start members (λ i p is. (let b = bare.each i p is in record { cap = b.room; queues = λ dst link qos hop known. absurd (no_hop dst link p.routes b.routes hop) }))
 
 -- One by one
 
-pub record AreBareSo (cap count : ℕ) (processes : List IpcProcess) : Type 0 where
+pub record AreBareSo (settings : Settings) (count : ℕ) (processes : List IpcProcess) : Type 0 where
   pub aligned : length processes ≡ count
-  pub each : (i : ℕ) (p : IpcProcess) → slice_get processes i ≡ Some p → IsBare cap p
+  pub each : (i : ℕ) (p : IpcProcess) → slice_get processes i ≡ Some p → IsBare settings p
 
-pub none_bare : (cap : ℕ) → AreBareSo cap 0 []
-none_bare cap = record { aligned = refl; each = λ i p is. absurd (none_in i p [] refl is) }
+pub none_bare : (settings : Settings) → AreBareSo settings 0 []
+none_bare settings = record { aligned = refl; each = λ i p is. absurd (none_in i p [] refl is) }
 
-pub one_more : (cap count : ℕ) (ps new : List IpcProcess) (p : IpcProcess) → AreBareSo cap count ps → IsBare cap p → new ≡ ps ++ p ∷ [] → AreBareSo cap (count + 1) new
-one_more cap count ps new p so bare is = subst (λ (qs : List IpcProcess). AreBareSo cap (count + 1) qs) (sym is) (record {
+pub one_more : (settings : Settings) (count : ℕ) (ps new : List IpcProcess) (p : IpcProcess) → AreBareSo settings count ps → IsBare settings p → new ≡ ps ++ p ∷ [] → AreBareSo settings (count + 1) new
+one_more settings count ps new p so bare is = subst (λ (qs : List IpcProcess). AreBareSo settings (count + 1) qs) (sym is) (record {
   aligned = (let e = so.aligned in length_push ps p ∙ omega (arith, e));
-  each = λ i q at. elim (pushed_at ps p i q at) [ inl before ↦ so.each i q before | inr last ↦ subst (IsBare cap) (sym last.1) bare ];
+  each = λ i q at. elim (pushed_at ps p i q at) [ inl before ↦ so.each i q before | inr last ↦ subst (IsBare settings) (sym last.1) bare ];
 })
   where
     length_push : (xs : List IpcProcess) (x : IpcProcess) → length (xs ++ x ∷ []) ≡ length xs + 1

@@ -1,7 +1,8 @@
 pub mod Bare
-pub mod Bound
 pub mod Barred
+pub mod Below
 pub mod Beside
+pub mod Bound
 pub mod Claimed
 pub mod Clocked
 pub mod Facing
@@ -11,7 +12,10 @@ pub mod Keeping
 pub mod Laid
 pub mod Lapsed
 pub mod Leaves
+pub mod Linked
+pub mod Made
 pub mod Moves
+pub mod Named
 pub mod Owning
 pub mod Passed
 pub mod Posted
@@ -19,6 +23,8 @@ pub mod Putting
 pub mod Refused
 pub mod Sent
 pub mod Settling
+pub mod Sound
 pub mod Taken
 pub mod Ways
+pub mod Wiring
 pub mod Written

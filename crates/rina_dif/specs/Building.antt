@@ -1,25 +1,42 @@
 -- A DIF without links.
-use Rattle.std.specs.Prelude.{◌≡◌, ℕ, ◌⊎◌, List, [], length, slice_get, Some}
+use Rattle.std.specs.Prelude.{◌≡◌, ℕ, ◌⊎◌, List, [], ◌∷◌, length, map, slice_get, Some}
 use Rattle.rina_base.specs.declared.number.Port.{Port}
 use Rattle.rina_iface.specs.declared.ends.End.{End}
 use Rattle.rina_iface.specs.Seen.{Seen, end_of}
+use Rattle.rina_cube.specs.declared.Cube.{Cube}
+use Rattle.rina_queue.specs.Queues.{AreIds}
 use Rattle.rina_data.specs.declared.process.IpcProcess.{IpcProcess}
 use Rattle.rina_data.specs.declared.settings.Settings.{Settings}
 use Rattle.rina_data.specs.Cloud.{IsMine}
 use Rattle.rina_data.specs.Dif.{Config}
+use Rattle.rina_dif.specs.declared.dif.Dif.{Dif}
 
 -- no end of the rank below has a member as its application or its peer
 abbrev pub IsFree : Config → Seen → Type 0
 IsFree g below = (port : Port) (end : End) → end_of below port ≡ Some end → IsMine g.members end.app ⊎ IsMine g.members end.peer → ⊥
 
--- an IPC process without links and next hops, whose queues will have this room
-pub record IsBare (cap : ℕ) (p : IpcProcess) : Type 0 where
+-- the ids of the queues of a link: that of management, and those of the cubes
+abbrev pub queue_ids : List Cube → List ℕ
+queue_ids cubes = 0 ∷ map (λ (c : Cube). c.id) cubes
+
+-- an IPC process without links and next hops, whose queues will be those that its DIF says
+pub record IsBare (settings : Settings) (p : IpcProcess) : Type 0 where
   pub links : p.links ≡ []
   pub routes : p.routes ≡ []
   pub queues : p.queues.queues.items ≡ []
-  pub room : p.queues.cap ≡ cap
+  pub room : p.queues.cap ≡ settings.cap
+  pub ids : AreIds (queue_ids settings.cubes) p.queues.cubes
+  pub ledger : p.ledger ≡ []
 
 -- one for each member
 pub record AreBare (settings : Settings) (processes : List IpcProcess) : Type 0 where
   pub aligned : length processes ≡ length settings.members
-  pub each : (i : ℕ) (p : IpcProcess) → slice_get processes i ≡ Some p → IsBare settings.cap p
+  pub each : (i : ℕ) (p : IpcProcess) → slice_get processes i ≡ Some p → IsBare settings p
+
+-- a DIF without links, flows and names
+pub record IsBareDif (d : Dif) : Type 0 where
+  pub processes : AreBare d.settings d.processes
+  pub ends : d.flows.journal.ends ≡ []
+  pub conns : d.flows.conns ≡ []
+  pub waiting : d.waiting.items ≡ []
+  pub names : d.names ≡ []

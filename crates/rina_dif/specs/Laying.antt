@@ -1,11 +1,15 @@
 -- How the links of a DIF are laid, and what a new DIF is.
-use Rattle.std.specs.Prelude.{◌≡◌, ℕ, ◌+◌, ◌≤◌, ◌==◌, true, false, List, [], ◌∷◌, filter, slice_get, Some, None, IsSome, All}
+use Rattle.std.specs.Prelude.{◌≡◌, ℕ, ◌+◌, ◌≤◌, ◌==◌, true, false, List, [], ◌∷◌, ◌++◌, filter, length, map, position, slice_get, slice_set, Option, Some, None, IsSome, All, Contains, ◌<◌, ◌⊎◌}
 use Rattle.rina_base.specs.declared.number.Port.{Port}
 use Rattle.rina_iface.specs.declared.ask.Fixed.{Fixed}
 use Rattle.rina_iface.specs.declared.ends.End.{End}
 use Rattle.rina_iface.specs.Bind.{CanBind, IsBound}
 use Rattle.rina_iface.specs.Later.{IsLater}
 use Rattle.rina_iface.specs.Seen.{Fac, Offer, Seen, cube_in, end_of}
+use Rattle.rina_queue.specs.declared.queue.Queue.{Queue as Waiting}
+use Rattle.rina_queue.specs.Queues.{AreIds, added, queue_place as place_there}
+use Rattle.rina_plan.specs.declared.dif.DifPlan.{DifPlan}
+use Rattle.rina_plan.specs.declared.dif.LinkPlan.{LinkPlan}
 use Rattle.rina_stack.specs.declared.plan.Plan.{Plan}
 use Rattle.rina_data.specs.declared.link.Link.{Link}
 use Rattle.rina_data.specs.declared.process.IpcProcess.{IpcProcess}
@@ -15,10 +19,10 @@ use Rattle.rina_data.specs.Cloud.{IsMine}
 use Rattle.rina_data.specs.Configs.{config_of}
 use Rattle.rina_data.specs.Deciding.{process_of}
 use Rattle.rina_data.specs.Dif.{Config, Member, Process, Queue, queue_place}
-use Rattle.rina_data.specs.Standing.{IsQos}
+use Rattle.rina_data.specs.Standing.{IsInside, IsLinked, IsQos}
 use Rattle.rina_dif.specs.declared.dif.Dif.{Dif}
-use Rattle.rina_dif.specs.Building.{IsFree}
-use Rattle.rina_dif.specs.Planned.{links_of, settings_of}
+use Rattle.rina_dif.specs.Building.{IsFree, queue_ids}
+use Rattle.rina_dif.specs.Planned.{ipc_name, link_fixed, links_of, settings_by, settings_of}
 
 -- Binding one after the other
 
@@ -102,3 +106,79 @@ pub record IsNew (plan : Plan) (i : ℕ) (d : Dif) (old new : Seen) : Type 0 whe
   pub conns : d.flows.conns ≡ []
   pub waiting : d.waiting.items ≡ []
   pub names : d.names ≡ []
+
+-- One link more
+
+-- an IPC process has one link more, on this port, and its queues
+pub record AddsLink (port : Port) (p p' : IpcProcess) : Type 0 where
+  pub links : p'.links ≡ p.links ++ record { port = port; number = length p.links; live = true } ∷ []
+  pub routes : p'.routes ≡ p.routes
+  pub queues : p'.queues.queues.items ≡ added p.queues.cap (length p.links) p.queues.cubes p.queues.queues.items
+  pub cap : p'.queues.cap ≡ p.queues.cap
+  pub cubes : p'.queues.cubes ≡ p.queues.cubes
+  pub ledger : p'.ledger ≡ p.ledger
+
+-- and no other does anything
+abbrev pub AddsLinkAt : Port → ℕ → List IpcProcess → List IpcProcess → Type 0
+AddsLinkAt port at old new = (p : IpcProcess) → slice_get old at ≡ Some p → (p' : IpcProcess) × AddsLink port p p' × (new ≡ slice_set old at p')
+
+-- the member at a node, where there is one
+abbrev pub LaysPortAt : Option ℕ → Port → List IpcProcess → List IpcProcess → Type 0
+LaysPortAt (Some at) port old new = AddsLinkAt port at old new
+LaysPortAt None port old new = new ≡ old
+
+-- the IPC process at the node of a port has one link more, on this port
+abbrev pub LaysPort : Settings → Port → List IpcProcess → List IpcProcess → Type 0
+LaysPort s port old new = LaysPortAt (position (λ (m : Kept). m.node == port.node) s.members) port old new
+
+-- a link was bound below, if it was
+pub record IsBoundSo (f : Fixed) (old new : Seen) : Type 0 where
+  pub a : Port
+  pub b : Port
+  pub bound : IsBound old f a b new
+
+abbrev pub MayBind : Fixed → Seen → Seen → Type 0
+MayBind f old new = (new ≡ old) ⊎ IsBoundSo f old new
+
+-- and both its ends are links of their IPC processes
+pub record LaysLink (s : Settings) (f : Fixed) (old new : Seen) (processes processes' : List IpcProcess) : Type 0 where
+  pub bound : IsBoundSo f old new
+  pub between : List IpcProcess
+  pub a : LaysPort s bound.a processes between
+  pub b : LaysPort s bound.b between processes'
+
+-- All links
+
+-- these are the settings of a DIF of the plan
+pub record AreSettings (plan : Plan) (d : DifPlan) (s : Settings) : Type 0 where
+  pub place : ℕ
+  pub stands : slice_get plan.difs place ≡ Some d
+  pub are : s ≡ settings_by plan place d
+
+-- each new end is one inside the DIF
+pub record IsLaidIn (g : Config) (old new : Seen) : Type 0 where
+  pub laid : IsLaid g.members old new
+  pub inside : (port : Port) (e : End) → end_of new port ≡ Some e → end_of old port ≡ None → IsInside g new port e
+
+-- so far an IPC process at a node has the links of these ports, and nothing waits
+pub record IsLinkedUp (s : Settings) (node : ℕ) (ports : List Port) (p : IpcProcess) : Type 0 where
+  pub links : p.links ≡ links_from 0 (ports_at node ports)
+  pub routes : p.routes ≡ []
+  pub ledger : p.ledger ≡ []
+  pub room : p.queues.cap ≡ s.cap
+  pub ids : AreIds (queue_ids s.cubes) p.queues.cubes
+  pub empty : (k : ℕ) (q : Waiting) → slice_get p.queues.queues.items k ≡ Some q → q.ring.items ≡ []
+  pub known : (k : ℕ) (q : Waiting) → slice_get p.queues.queues.items k ≡ Some q → q.link < length p.links
+  pub there : (k qos : ℕ) (link : Link) → slice_get p.links k ≡ Some link → Contains p.queues.cubes qos → IsSome (place_there qos link.number p.queues.queues.items)
+
+-- and so each
+pub record AreLinkedUp (s : Settings) (ports : List Port) (processes : List IpcProcess) : Type 0 where
+  pub aligned : length processes ≡ length s.members
+  pub each : (k : ℕ) (m : Kept) (p : IpcProcess) → slice_get s.members k ≡ Some m → slice_get processes k ≡ Some p → IsLinkedUp s m.node ports p
+
+-- these links of a DIF are laid: each is bound below, and its ends are links of their IPC processes, which are there
+pub record AreLaid (plan : Plan) (d : DifPlan) (s : Settings) (links : List LinkPlan) (old new : Seen) (processes : List IpcProcess) : Type 0 where
+  pub ports : List (Port × Port)
+  pub bound : BindsAll old (map (link_fixed plan d) links) ports new
+  pub up : AreLinkedUp s (ends_of ports) processes
+  pub named : (k : ℕ) (port : Port) → slice_get (ends_of ports) k ≡ Some port → IsLinked new (ipc_name plan d port.node) port

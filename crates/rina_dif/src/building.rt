@@ -4,7 +4,7 @@ ghost use Rattle.rina_iface.specs.Seen.{Seen};
 ghost use Rattle.rina_data.specs.Configs.{config_of};
 ghost use Rattle.rina_data.specs.Numbered.{AreMembers};
 ghost use Rattle.rina_data.specs.Standing.{IsConfig};
-ghost use Rattle.rina_dif.specs.Building.{AreBare, IsBare, IsFree};
+ghost use Rattle.rina_dif.specs.Building.{AreBare, IsBare, IsBareDif, IsFree, queue_ids};
 ghost use Rattle.rina_dif.specs.Holding.{Holds};
 
 use crate::dif::Dif;
@@ -18,7 +18,9 @@ use rina_queue::Queues;
 use std::alloc::{AllocError, Global};
 
 /// The ids of the queues of a link: that of management, and those of the cubes.
-fn queue_ids(alloc: Global, cubes: &[Cube]) -> Result<Vec<u8>, AllocError> {
+fn queue_ids(alloc: Global, cubes: &[Cube]) -> Result<Vec<u8>, AllocError>
+    ensures { IfOk result (λ v. v.items ≡ queue_ids cubes.now) }
+{
     let mut ids = Vec::new(alloc);
     ids.push(0)?;
     for cube in cubes {
@@ -29,7 +31,7 @@ fn queue_ids(alloc: Global, cubes: &[Cube]) -> Result<Vec<u8>, AllocError> {
 
 /// An IPC process without links.
 fn bare(alloc: Global, settings: &Settings) -> Result<IpcProcess, Memory>
-    ensures { IfOk result (IsBare settings.now.cap) }
+    ensures { IfOk result (IsBare settings.now) }
 {
     let ids = queue_ids(alloc, settings.cubes.as_slice())?;
     Ok(IpcProcess {
@@ -58,6 +60,7 @@ impl Dif {
         ensures settings { IfOk result (λ d. d.settings ≡ settings) }
         ensures clock { IfOk result (λ d. d.clock ≡ clock) }
         ensures alive { IfOk result (λ d. d.failed ≡ false) }
+        ensures bare { IfOk result IsBareDif }
         ensures holds { IfOk result (λ d. (below : Seen) → IsConfig (config_of settings) → AreMembers (config_of settings) → clock ≡ below.now → IsFree (config_of settings) below → Holds d [] below) }
     {
         let processes = all_bare(alloc, &settings)?;

@@ -26,7 +26,7 @@ pub struct Dif {
 }
 
 /// The place of the member at a node.
-fn place(members: &[Member], node: Node) -> Option<usize>
+pub(crate) fn place(members: &[Member], node: Node) -> Option<usize>
     ensures place { result ≡ position (λ (m : Member). m.node == node) members.now }
     ensures within { IfSome result (λ i. i < length members.now) }
 {

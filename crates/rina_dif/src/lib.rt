@@ -13,6 +13,7 @@ mod laying;
 mod leaving;
 mod names;
 mod passing;
+mod planned;
 mod processes;
 mod sending;
 mod taking;

@@ -7,6 +7,7 @@ ghost use Rattle.rina_queue.specs.Queues.{Changes, queue_place, waiting, with_it
 ghost use Rattle.rina_data.specs.declared.process.IpcProcess.{IpcProcess};
 ghost use Rattle.rina_data.specs.Configs.{config_of};
 ghost use Rattle.rina_data.specs.Hops.{hop_of};
+ghost use Rattle.rina_dif.specs.Laying.{AddsLink, AddsLinkAt};
 ghost use Rattle.rina_dif.specs.Sending.{AreOf, HasRoomFor, Puts, queued};
 ghost use Rattle.rina_dif.specs.Steps.{AsksAt, Leaves, WillGo};
 ghost use Rattle.rina_dif.specs.Taking.{ArrivesTo, DecidesAt, NotesAt, RoutesAt};
@@ -14,8 +15,8 @@ ghost use Rattle.rina_dif.specs.Timely.{ForwardsAt, WithLedger};
 ghost use Rattle.rina_flows.specs.Delivering.{ForgetsIn, StopsIn};
 ghost use Rattle.rina_flows.specs.Timely.{GivesUpIn};
 
-use rina_base::{Addr, Cause, Memory, Num, Pdu, PduView, Tick};
-use rina_data::{HopView, IpcProcess, OutStep, Settings, Settled, StepError};
+use rina_base::{Addr, Cause, Memory, Num, Pdu, PduView, Port, Tick};
+use rina_data::{HopView, IpcProcess, Link, OutStep, Settings, Settled, StepError};
 use rina_flows::Flows;
 use rina_iface::{Facility, PortState};
 use rina_policy::Picks;
@@ -54,6 +55,22 @@ fn put_all(queues: &mut Queues, qos: u8, link: u16, left: u32, since: Tick, pdus
     }
 }
 
+/// Gives an IPC process one link more, on a port below, with its queues. There are at most 65,536 links.
+fn add_link(process: &mut IpcProcess, alloc: Global, port: Port) -> Result<(), Memory>
+    ensures { OnOk result (AddsLink port process.old process.new) }
+{
+    let Ok(number) = u16::try_from(process.links.len()) else {
+        return Err(Memory);
+    };
+    process.queues.add_link(alloc, number)?;
+    process.links.push(Link {
+        port,
+        number,
+        live: true,
+    })?;
+    Ok(())
+}
+
 impl Processes {
     /// No IPC processes yet.
     pub fn new(alloc: Global) -> Processes
@@ -78,6 +95,14 @@ impl Processes {
         ensures { MatchOption result (length self.now ≤ at) (λ p. slice_get self.now at ≡ Some p.now) }
     {
         self.items.get(at)
+    }
+
+    /// Gives the IPC process at a place one link more, on a port below.
+    pub fn add_link(&mut self, alloc: Global, at: usize, port: Port) -> Result<(), Memory>
+        requires { at < length self.old }
+        ensures { OnOk result (AddsLinkAt port at self.old self.new) }
+    {
+        add_link(&mut self.items[at], alloc, port)
     }
 
     /// Takes one step of the IPC process at a place at a link: a PDU that waits is sent below, or written off, or stays.

@@ -3,4 +3,4 @@ use Rattle.rina_dif.proofs.Bare.{AreBareSo}
 use Rattle.rina_dif.proofs.building.all_bare.Given as goal
 
 abbrev pub invariant-loop-member : goal.invariant-loop-member
-invariant-loop-member l = AreBareSo l.settings.cap l._member-index l.processes
+invariant-loop-member l = AreBareSo l.settings l._member-index l.processes

@@ -1,0 +1,158 @@
+-- A DIF that was made as the plan of a stack says.
+use Rattle.std.proofs.Common.{◌≡◌, ◌∙◌, ℕ, zero, suc, ◌+◌, ◌==◌, ◌⊎◌, All, List, [], ◌∷◌, length, map, slice_get, option_map, Option, Some, None, true, false, refl, sym, ap, subst, arith, inl, inr}
+use Rattle.std.specs.Prelude.{Contains, IsSome, slice_index_or}
+use Rattle.std.proofs.lemmas.Bool.Decides.{eqb_tells}
+use Rattle.std.proofs.lemmas.Bool.{false≢true}
+use Rattle.std.proofs.lemmas.Option.{get_or_from_slice_get, slice_get-map, slice_get_within}
+use Rattle.rina_base.specs.declared.number.Port.{Port}
+use Rattle.rina_cube.specs.declared.Cube.{Cube}
+use Rattle.rina_iface.specs.declared.ask.Fixed.{Fixed}
+use Rattle.rina_iface.specs.declared.ends.End.{End}
+use Rattle.rina_iface.specs.Seen.{Seen, end_of}
+use Rattle.rina_plan.specs.declared.dif.DifPlan.{DifPlan}
+use Rattle.rina_plan.specs.declared.dif.MemberPlan.{MemberPlan}
+use Rattle.rina_queue.specs.declared.queue.Queue.{Queue as Waiting}
+use Rattle.rina_queue.specs.declared.queue.Queued.{Queued}
+use Rattle.rina_queue.specs.Queues.{queue_place as place_there}
+use Rattle.rina_queue.proofs.Places.{kept_at}
+use Rattle.rina_stack.specs.declared.plan.Plan.{Plan}
+use Rattle.rina_stack.specs.Plan.{IsPlan}
+use Rattle.rina_data.specs.declared.link.Link.{Link}
+use Rattle.rina_data.specs.declared.process.IpcProcess.{IpcProcess}
+use Rattle.rina_data.specs.declared.settings.Member.{Member as Kept}
+use Rattle.rina_data.specs.declared.settings.Settings.{Settings}
+use Rattle.rina_data.specs.Cloud.{IsMine, Waits}
+use Rattle.rina_data.specs.Configs.{config_of, member_of}
+use Rattle.rina_data.specs.Deciding.{plain, process_of}
+use Rattle.rina_data.specs.Dif.{Member, Process, Queue, cube_by, queue_place}
+use Rattle.rina_data.specs.Standing.{HasLink, IsConfig, IsInside, IsLinked, IsQos}
+use Rattle.rina_data.specs.Numbered.{AreMembers}
+use Rattle.rina_data.proofs.Finding.{there}
+use Rattle.rina_data.proofs.Plain.{same_place}
+use Rattle.rina_dif.specs.declared.dif.Dif.{Dif}
+use Rattle.rina_dif.specs.Building.{IsFree, queue_ids}
+use Rattle.rina_dif.specs.Holding.{Holds, Stands}
+use Rattle.rina_dif.specs.Laying.{AreLaid, AreLinkedUp, AreSettings, BindsAll, CanLay, IsLaidIn, IsLinkedUp, IsNew, IsNewProcess, Takes, ends_of, links_from, ports_at}
+use Rattle.rina_dif.specs.Planned.{ipc_name, link_fixed, links_in, links_of, members_from, processes_before, settings_by, settings_in, settings_of}
+use Rattle.rina_dif.proofs.Bare.{map_at, no_hop, none_in, start_holds, starts}
+use Rattle.rina_dif.proofs.Laid.{same_end, stood_there}
+use Rattle.rina_dif.proofs.Sound.{are_members, is_config}
+
+-- The links
+
+link_on : (n : ℕ) (ports : List Port) (k : ℕ) (link : Link) → slice_get (links_from n ports) k ≡ Some link → slice_get ports k ≡ Some link.port
+link_on n [] k link is = absurd cc
+link_on n (p ∷ ps) zero link is = (let e = ap (option_map (λ (l : Link). l.port)) is in e)
+link_on n (p ∷ ps) (suc k) link is = link_on (n + 1) ps k link is
+
+its_name : (plan : Plan) (d : DifPlan) (n : ℕ) (ms : List MemberPlan) (i : ℕ) (m : Kept) → slice_get (members_from plan d n ms) i ≡ Some m → m.name ≡ ipc_name plan d m.node
+its_name plan d n [] i m is = absurd cc
+its_name plan d n (x ∷ ms) zero m is =
+    let name : Some (ipc_name plan d x.node) ≡ Some m.name = ap (option_map (λ (z : Kept). z.name)) is in
+    let node : Some x.node ≡ Some m.node = ap (option_map (λ (z : Kept). z.node)) is in
+    let name' : ipc_name plan d x.node ≡ m.name = cc in
+    let node' : x.node ≡ m.node = cc in
+    sym name' ∙ ap (ipc_name plan d) node'
+its_name plan d n (x ∷ ms) (suc i) m is = its_name plan d (n + 1) ms i m is
+
+is_node : (node : ℕ) (p : Port) → (p.node == node) ≡ true → p.node ≡ node
+is_node node p same = elim (eqb_tells p.node node) [ inl t ↦ t.1 | inr u ↦ absurd (false≢true (sym u.0 ∙ same)) ]
+
+linked : (plan : Plan) (d : DifPlan) (s : Settings) (old new : Seen) (ps : List IpcProcess) (i : ℕ) (member : Member) (link : Link) → AreSettings plan d s → AreLaid plan d s d.links old new ps → slice_get (config_of s).members i ≡ Some member → HasLink (map process_of ps) i link → IsLinked new member.name link.port
+linked plan d s old new ps i member link are laid is has =
+    let m = map_at member_of s.members i member is in
+    let p = map_at process_of ps i has.process has.is_process in
+    let up = laid.up.each i m.0 p.0 m.1 p.1 in
+    let links : has.process.links ≡ links_from 0 (ports_at m.0.node (ends_of laid.ports)) = ap (λ (z : Process). z.links) (sym p.2) ∙ up.links in
+    let on = link_on 0 (ports_at m.0.node (ends_of laid.ports)) has.place link (ap (λ (ls : List Link). slice_get ls has.place) (sym links) ∙ has.stands) in
+    let at = kept_at (λ (z : Port). z.node == m.0.node) (ends_of laid.ports) has.place link.port on in
+    let end = laid.named at.0 link.port at.1.stands in
+    let node : link.port.node ≡ m.0.node = is_node m.0.node link.port at.1.passes in
+    let name : m.0.name ≡ ipc_name plan d m.0.node = its_name plan d (processes_before plan.difs are.place) d.members i m.0 (ap (λ (z : Settings). slice_get z.members i) (sym are.are) ∙ m.1) in
+    let same : ipc_name plan d link.port.node ≡ member.name = ap (ipc_name plan d) node ∙ sym name ∙ ap (λ (z : Member). z.name) m.2 in
+    record { end = end.end; here = end.here; app = end.app ∙ same }
+
+-- no PDU waits
+idle : (s : Settings) (ports : List Port) (ps : List IpcProcess) (i n : ℕ) (item : Queued) → AreLinkedUp s ports ps → Waits (map process_of ps) i n item → ⊥
+idle s ports ps i n item up w =
+    let p = map_at process_of ps i w.process w.is_process in
+    let within = slice_get_within ps i p.0 p.1 in
+    let m = there s.members i (let e = up.aligned in omega (arith, within, e)) in
+    let linked = up.each i m.0 p.0 m.1 p.1 in
+    let q = map_at plain p.0.queues.queues.items w.place w.queue (ap (λ (z : Process). slice_get z.queues w.place) p.2 ∙ w.is_queue) in
+    let none : w.queue.items ≡ [] = ap (λ (z : Queue). z.items) (sym q.2) ∙ linked.empty w.place q.0 q.1 in
+    none_in w.at item w.queue.items none w.is_item
+
+-- It stands
+
+pub made_stands : (plan : Plan) (i : ℕ) (dif : DifPlan) (d : Dif) (old new : Seen) → IsPlan plan → slice_get plan.difs i ≡ Some dif → d.settings ≡ settings_by plan i dif → d.clock ≡ old.now → d.flows.journal.ends ≡ [] → d.flows.conns ≡ [] → IsFree (config_of d.settings) old → IsLaidIn (config_of d.settings) old new → AreLaid plan dif d.settings dif.links old new d.processes → Stands d new
+made_stands plan i dif d old new sound at are clock ends conns free inside laid =
+    let g = config_of d.settings in
+    let config : IsConfig g = subst (λ (s : Settings). IsConfig (config_of s)) (sym are) (is_config plan i dif sound at) in
+    let fresh = λ (port : Port) (end : End) (here : end_of new port ≡ Some end) (mine : IsMine g.members end.app ⊎ IsMine g.members end.peer) (P : Type 0) (then : end_of old port ≡ None → P).
+    stood_there old port P (λ e0 was. absurd (let same = same_end new port e0 end (inside.laid.stays port e0 was) here in free port end (was ∙ ap (λ (z : End). Some z) same) mine)) then in
+    let start = starts d new ends conns config (clock ∙ sym inside.laid.clock) laid.up.aligned
+    (λ k member link is has. linked plan dif d.settings old new d.processes k member link (record { place = i; stands = at; are = are }) laid is has)
+    (λ port end here mine. fresh port end here mine (IsInside g new port end) (λ none. inside.inside port end here none))
+    (λ port end here mine. fresh port end here (inl mine) (end.sent ≡ []) (λ none. (inside.laid.fresh port end here none).sent))
+    (λ k n item waits. idle d.settings (ends_of laid.ports) d.processes k n item laid.up waits) in
+    let members = subst (λ (s : Settings). AreMembers (config_of s)) (sym are) (are_members plan i dif sound at) in (
+      [],
+      start_holds d new ends conns start members (λ k p is.
+          let within = slice_get_within d.processes k p is in
+          let m = there d.settings.members k (let e = laid.up.aligned in omega (arith, within, e)) in
+          let up = laid.up.each k m.0 p m.1 is in
+          record { cap = up.room; queues = λ dst link qos hop known. absurd (no_hop dst link p.routes up.routes hop) }),
+    )
+
+-- What it is
+
+pub its_settings : (plan : Plan) (i : ℕ) (dif : DifPlan) (s : Settings) → slice_get plan.difs i ≡ Some dif → s ≡ settings_by plan i dif → settings_of plan i ≡ Some s
+its_settings plan i dif s at are = ap (settings_in plan i) at ∙ ap (λ (z : Settings). Some z) (sym are)
+
+pub its_links : (plan : Plan) (i : ℕ) (dif : DifPlan) → slice_get plan.difs i ≡ Some dif → links_of plan i ≡ map (link_fixed plan dif) dif.links
+its_links plan i dif at = ap (links_in plan) at
+
+its_id : (qos : ℕ) (cubes : List Cube) (cube : Cube) → cube_by qos cubes ≡ Some cube → (k : ℕ) × (slice_get (map (λ (c : Cube). c.id) cubes) k ≡ Some qos)
+its_id qos [] cube found = absurd cc
+its_id qos (c ∷ cs) cube found = elim (eqb_tells c.id qos) [
+  | inl t ↦ (zero, ap (λ (n : ℕ). Some n) t.1)
+  | inr u ↦
+      let later = its_id qos cs cube (rw u.0 at found) in
+      (suc later.0, later.1)
+]
+
+contained : (xs : List ℕ) (k x : ℕ) → slice_get xs k ≡ Some x → Contains xs x
+contained xs k x is = (k, slice_get_within xs k x is, get_or_from_slice_get xs k x x is)
+
+-- a queue for management, and for each cube
+has_id : (s : Settings) (qos : ℕ) → IsQos (config_of s) qos → Contains (queue_ids s.cubes) qos
+has_id s qos (inl none) = contained (queue_ids s.cubes) 0 qos (ap (λ (n : ℕ). Some n) (sym none))
+has_id s qos (inr known) = (let at = its_id qos s.cubes known.0 known.1 in contained (queue_ids s.cubes) (suc at.0) qos at.1)
+
+new_process : (s : Settings) (node : ℕ) (ports : List Port) (p : IpcProcess) → IsLinkedUp s node ports p → IsNewProcess (config_of s) node ports (process_of p)
+new_process s node ports p up = record {
+  links = up.links;
+  queues = record {
+    empty = λ place queue is. (let q = map_at plain p.queues.queues.items place queue is in ap (λ (z : Queue). z.items) (sym q.2) ∙ up.empty place q.0 q.1);
+    there = λ place qos link is known. subst (λ (o : Option ℕ). IsSome o) (sym (same_place qos link.number p.queues.queues.items)) (up.there place qos link is (up.ids.all qos (has_id s qos known)));
+  };
+  ledger = up.ledger;
+}
+
+pub made_new : (plan : Plan) (i : ℕ) (dif : DifPlan) (d : Dif) (old new : Seen) → slice_get plan.difs i ≡ Some dif → d.settings ≡ settings_by plan i dif → d.clock ≡ old.now → d.failed ≡ false → d.flows.journal.ends ≡ [] → d.flows.conns ≡ [] → d.waiting.items ≡ [] → d.names ≡ [] → AreLaid plan dif d.settings dif.links old new d.processes → IsNew plan i d old new
+made_new plan i dif d old new at are clock alive ends conns waiting names laid = record {
+  settings = its_settings plan i dif d.settings at are;
+  clock = clock;
+  alive = alive;
+  ports = laid.ports;
+  bound = subst (λ (fs : List Fixed). BindsAll old fs laid.ports new) (sym (its_links plan i dif at)) laid.bound;
+  processes = λ k member p is here. new_process d.settings member.node (ends_of laid.ports) p (laid.up.each k member p is here);
+  ends = ends;
+  conns = conns;
+  waiting = waiting;
+  names = names;
+}
+
+pub made_takes : (plan : Plan) (i : ℕ) (dif : DifPlan) (s : Settings) (below : Seen) → slice_get plan.difs i ≡ Some dif → s ≡ settings_by plan i dif → CanLay plan i below → All (Takes below s.pdu) (map (link_fixed plan dif) dif.links)
+made_takes plan i dif s below at are can = subst (λ (fs : List Fixed). All (Takes below s.pdu) fs) (its_links plan i dif at) (can.takes s (its_settings plan i dif s at are))
