@@ -1,5 +1,5 @@
 -- A fixed flow was bound on the rank below.
-use Rattle.std.proofs.Common.{◌≡◌, ◌≢◌, ◌∙◌, ℕ, zero, suc, ◌+◌, ◌≤◌, ◌⊎◌, List, [], ◌∷◌, ◌++◌, length, slice_get, Option, option_map, Some, None, Ok, refl, sym, ap, subst, inl, inr}
+use Rattle.std.proofs.Common.{◌≡◌, ◌∙◌, ℕ, zero, suc, ◌⊎◌, List, [], ◌∷◌, ◌++◌, length, slice_get, Some, None, refl, sym, ap, inl, inr}
 use Rattle.std.proofs.lemmas.Bool.Decides.{eqb_tells}
 use Rattle.rina_base.specs.declared.number.Port.{Port}
 use Rattle.rina_iface.specs.declared.ask.Fixed.{Fixed}
@@ -9,16 +9,10 @@ use Rattle.rina_iface.specs.declared.state.Role.TheVariants.{Asker, Far}
 use Rattle.rina_iface.specs.Allocate.{new_end, next_port}
 use Rattle.rina_iface.specs.Bind.{IsBound, bound}
 use Rattle.rina_iface.specs.Journal.{AreKept, At}
-use Rattle.rina_iface.specs.Later.{IsLater}
-use Rattle.rina_iface.specs.Seen.{Fac, Offer, Seen, Stands, cube_at, cube_in, end_of, largest_at, with_fac}
+use Rattle.rina_iface.specs.Seen.{Fac, Seen, end_of, with_fac}
 use Rattle.rina_iface.proofs.Changed.{set_at, slice_get-set_other, slice_get-set_same}
-use Rattle.rina_iface.proofs.Found.{IsFound, end_of_stands, found, its_port, stands_there}
+use Rattle.rina_iface.proofs.Found.{end_of_stands, found, its_port, stands_there}
 use Rattle.rina_iface.proofs.Grown.{still_at}
-use Rattle.rina_iface.proofs.LaterCalls.{later_binds}
-use Rattle.rina_data.specs.Cloud.{IsMine}
-use Rattle.rina_data.specs.Dif.{Config, Member}
-use Rattle.rina_data.specs.Standing.{IsInside}
-use Rattle.rina_dif.specs.Laying.{IsLaid, IsNewEnd, Takes}
 
 -- The two new ends
 

@@ -1,13 +1,12 @@
 -- What is laid on the rank below.
-use Rattle.std.proofs.Common.{◌≡◌, ◌∙◌, ℕ, ◌≤◌, ◌⊎◌, List, Option, option_map, slice_get, subst, Some, None, Ok, refl, sym, ap, inl, inr}
+use Rattle.std.proofs.Common.{◌≡◌, ◌∙◌, ◌⊎◌, List, Option, option_map, slice_get, subst, Some, None, Ok, refl, sym, ap, inl, inr}
 use Rattle.rina_base.specs.declared.number.Port.{Port}
 use Rattle.rina_iface.specs.declared.ask.Fixed.{Fixed}
 use Rattle.rina_iface.specs.declared.ends.End.{End}
 use Rattle.rina_iface.specs.Bind.{CanBind, IsBound}
 use Rattle.rina_iface.specs.Journal.{AreKept}
-use Rattle.rina_iface.specs.Later.{IsLater}
-use Rattle.rina_iface.specs.Seen.{Fac, Offer, Seen, cube_at, cube_in, end_of, largest_at}
-use Rattle.rina_iface.proofs.Found.{IsFound, found, largest_stays}
+use Rattle.rina_iface.specs.Seen.{Fac, Offer, Seen, cube_at, cube_in, end_of}
+use Rattle.rina_iface.proofs.Found.{found, largest_stays}
 use Rattle.rina_iface.proofs.Later.{later_refl}
 use Rattle.rina_iface.proofs.LaterCalls.{later_binds}
 use Rattle.rina_iface.proofs.LaterOn.{later_on}
@@ -15,7 +14,7 @@ use Rattle.rina_data.specs.Cloud.{IsMine}
 use Rattle.rina_data.specs.Dif.{Config, Member}
 use Rattle.rina_data.specs.Standing.{IsInside}
 use Rattle.rina_dif.specs.Laying.{IsLaid, IsLaidIn, IsNewEnd, Takes}
-use Rattle.rina_dif.proofs.Below.{asker_of, far_of, one_of, stays}
+use Rattle.rina_dif.proofs.Below.{one_of, stays}
 
 none_and_some : (s : Seen) (members : List Member) (port : Port) (e : End) → end_of s port ≡ Some e → end_of s port ≡ None → IsNewEnd members e
 none_and_some s members port e is none = absurd (let same : Some e ≡ None = sym is ∙ none in cc)

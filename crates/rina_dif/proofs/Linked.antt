@@ -1,6 +1,6 @@
 -- The IPC processes of a DIF while its links are laid.
-use Rattle.std.proofs.Common.{◌≡◌, ◌≢◌, ◌∙◌, ℕ, zero, suc, ◌+◌, ◌<◌, ◌==◌, ◌⊎◌, Bool, true, false, cond, get_or, List, [], ◌∷◌, ◌++◌, length, map, slice_get, slice_set, Option, Some, None, Result, Ok, Err, refl, sym, ap, subst, arith, inl, inr}
-use Rattle.std.specs.Prelude.{Contains, IsSome, OnOk, filter, position}
+use Rattle.std.proofs.Common.{◌≡◌, ◌≢◌, ◌∙◌, ℕ, zero, suc, ◌+◌, ◌<◌, ◌==◌, Bool, true, false, cond, get_or, List, [], ◌∷◌, ◌++◌, length, slice_get, slice_set, Option, Some, Result, Ok, Err, refl, sym, ap, subst, arith, inl, inr}
+use Rattle.std.specs.Prelude.{Contains, IsSome, OnOk, position}
 use Rattle.std.specs.List.{list_any, position_from}
 use Rattle.std.proofs.lemmas.Iterator.Adapters.{position_from-zero}
 use Rattle.std.proofs.lemmas.Bool.Decides.{eqb_tells}
@@ -17,7 +17,7 @@ use Rattle.rina_data.specs.declared.link.Link.{Link}
 use Rattle.rina_data.specs.declared.process.IpcProcess.{IpcProcess}
 use Rattle.rina_data.specs.declared.settings.Settings.{Settings}
 use Rattle.rina_dif.specs.Building.{IsBare, queue_ids}
-use Rattle.rina_dif.specs.Laying.{AddsLink, AddsLinkAt, AreLinkedUp, IsLinkedUp, LaysPort, LaysPortAt, links_from, ports_at}
+use Rattle.rina_dif.specs.Laying.{AddsLink, AddsLinkAt, IsLinkedUp, links_from, ports_at}
 use Rattle.rina_dif.proofs.Putting.{stands_there}
 
 none_at : {X : Type 0} (k : ℕ) (x : X) (xs : List X) → xs ≡ [] → slice_get xs k ≡ Some x → ⊥

@@ -1,9 +1,9 @@
 -- A DIF that was made as the plan of a stack says.
-use Rattle.std.proofs.Common.{◌≡◌, ◌∙◌, ℕ, zero, suc, ◌+◌, ◌==◌, ◌⊎◌, All, List, [], ◌∷◌, length, map, slice_get, option_map, Option, Some, None, true, false, refl, sym, ap, subst, arith, inl, inr}
-use Rattle.std.specs.Prelude.{Contains, IsSome, slice_index_or}
+use Rattle.std.proofs.Common.{◌≡◌, ◌∙◌, ℕ, zero, suc, ◌+◌, ◌==◌, ◌⊎◌, All, List, [], ◌∷◌, map, slice_get, option_map, Option, Some, None, true, false, sym, ap, subst, arith, inl, inr}
+use Rattle.std.specs.Prelude.{Contains, IsSome}
 use Rattle.std.proofs.lemmas.Bool.Decides.{eqb_tells}
 use Rattle.std.proofs.lemmas.Bool.{false≢true}
-use Rattle.std.proofs.lemmas.Option.{get_or_from_slice_get, slice_get-map, slice_get_within}
+use Rattle.std.proofs.lemmas.Option.{get_or_from_slice_get, slice_get_within}
 use Rattle.rina_base.specs.declared.number.Port.{Port}
 use Rattle.rina_cube.specs.declared.Cube.{Cube}
 use Rattle.rina_iface.specs.declared.ask.Fixed.{Fixed}
@@ -11,9 +11,7 @@ use Rattle.rina_iface.specs.declared.ends.End.{End}
 use Rattle.rina_iface.specs.Seen.{Seen, end_of}
 use Rattle.rina_plan.specs.declared.dif.DifPlan.{DifPlan}
 use Rattle.rina_plan.specs.declared.dif.MemberPlan.{MemberPlan}
-use Rattle.rina_queue.specs.declared.queue.Queue.{Queue as Waiting}
 use Rattle.rina_queue.specs.declared.queue.Queued.{Queued}
-use Rattle.rina_queue.specs.Queues.{queue_place as place_there}
 use Rattle.rina_queue.proofs.Places.{kept_at}
 use Rattle.rina_stack.specs.declared.plan.Plan.{Plan}
 use Rattle.rina_stack.specs.Plan.{IsPlan}
@@ -24,14 +22,14 @@ use Rattle.rina_data.specs.declared.settings.Settings.{Settings}
 use Rattle.rina_data.specs.Cloud.{IsMine, Waits}
 use Rattle.rina_data.specs.Configs.{config_of, member_of}
 use Rattle.rina_data.specs.Deciding.{plain, process_of}
-use Rattle.rina_data.specs.Dif.{Member, Process, Queue, cube_by, queue_place}
+use Rattle.rina_data.specs.Dif.{Member, Process, Queue, cube_by}
 use Rattle.rina_data.specs.Standing.{HasLink, IsConfig, IsInside, IsLinked, IsQos}
 use Rattle.rina_data.specs.Numbered.{AreMembers}
 use Rattle.rina_data.proofs.Finding.{there}
 use Rattle.rina_data.proofs.Plain.{same_place}
 use Rattle.rina_dif.specs.declared.dif.Dif.{Dif}
 use Rattle.rina_dif.specs.Building.{IsFree, queue_ids}
-use Rattle.rina_dif.specs.Holding.{Holds, Stands}
+use Rattle.rina_dif.specs.Holding.{Stands}
 use Rattle.rina_dif.specs.Laying.{AreLaid, AreLinkedUp, AreSettings, BindsAll, CanLay, IsLaidIn, IsLinkedUp, IsNew, IsNewProcess, Takes, ends_of, links_from, ports_at}
 use Rattle.rina_dif.specs.Planned.{ipc_name, link_fixed, links_in, links_of, members_from, processes_before, settings_by, settings_in, settings_of}
 use Rattle.rina_dif.proofs.Bare.{map_at, no_hop, none_in, start_holds, starts}

@@ -1,14 +1,13 @@
 -- The settings of a DIF whose plan is sound.
-use Rattle.std.proofs.Common.{◌≡◌, ◌≢◌, ◌∙◌, ℕ, zero, suc, ◌+◌, ◌<◌, ◌≤◌, ◌*◌, ◌^◌, ◌-◌, ◌==◌, ◌&&◌, ◌||◌, not, ◌⊎◌, All, Bool, true, false, List, [], ◌∷◌, length, map, nat_le, nat_lt, slice_get, option_map, Some, refl, sym, ap, subst, arith, inl, inr}
+use Rattle.std.proofs.Common.{◌≡◌, ◌∙◌, ℕ, zero, suc, ◌+◌, ◌<◌, ◌≤◌, ◌*◌, ◌^◌, ◌-◌, ◌==◌, ◌&&◌, ◌||◌, not, All, Bool, true, false, List, [], ◌∷◌, length, map, nat_lt, slice_get, option_map, Some, refl, sym, ap, subst, arith, inl, inr}
 use Rattle.std.specs.List.{list_any}
 use Rattle.std.proofs.lemmas.Bool.{false≢true, leb-false, ltb-false}
 use Rattle.std.proofs.lemmas.Bool.Decides.{eqb_tells}
-use Rattle.std.proofs.lemmas.Option.{slice_get-map, slice_get_within}
+use Rattle.std.proofs.lemmas.Option.{slice_get-map}
 use Rattle.rina_base.specs.declared.pdu.PduKind.TheVariants.{Piece, Ack}
-use Rattle.rina_cube.specs.declared.Cube.{Cube}
 use Rattle.rina_cube.specs.Cubes.{IsCube}
 use Rattle.rina_iface.proofs.Changed.{all_at}
-use Rattle.rina_pci.specs.Spelling.{AreWidths, IsWidth, pci_size}
+use Rattle.rina_pci.specs.Spelling.{IsWidth, pci_size}
 use Rattle.rina_plan.specs.declared.dif.DifPlan.{DifPlan}
 use Rattle.rina_plan.specs.declared.dif.LinkPlan.{LinkPlan}
 use Rattle.rina_plan.specs.declared.dif.MemberPlan.{MemberPlan}

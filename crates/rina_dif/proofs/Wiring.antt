@@ -1,9 +1,8 @@
 -- The links of a DIF are laid one after the other.
-use Rattle.std.proofs.Common.{◌≡◌, ◌≢◌, ◌∙◌, ℕ, zero, suc, ◌+◌, ◌<◌, ◌==◌, ◌⊎◌, All, add-one, Bool, true, false, get_or, List, [], ◌∷◌, ◌++◌, append_assoc, drop, length, length-set, map, slice_get, slice_set, take, Option, Some, None, option_map, Result, Ok, Err, refl, sym, ap, subst, arith, inl, inr}
+use Rattle.std.proofs.Common.{◌≡◌, ◌≢◌, ◌∙◌, ℕ, zero, suc, ◌+◌, ◌<◌, ◌==◌, ◌⊎◌, All, add-one, true, get_or, List, [], ◌∷◌, ◌++◌, drop, length, length-set, map, slice_get, take, Option, Some, None, option_map, Result, Ok, Err, refl, sym, ap, subst, arith, inl, inr}
 use Rattle.std.specs.Prelude.{IsSome, OnOk, position}
 use Rattle.std.proofs.lemmas.Bool.{false≢true}
 use Rattle.std.proofs.lemmas.Bool.Decides.{eqb_tells}
-use Rattle.std.proofs.lemmas.List.{length-map}
 use Rattle.std.proofs.lemmas.Option.{slice_get-get_or, slice_get-map, slice_get_within}
 use Rattle.rina_base.specs.declared.memory.Memory.{Memory}
 use Rattle.rina_base.specs.declared.number.Port.{Port}
@@ -26,12 +25,12 @@ use Rattle.rina_data.specs.declared.settings.Member.{Member as Kept}
 use Rattle.rina_data.specs.declared.settings.Settings.{Settings}
 use Rattle.rina_data.specs.Configs.{config_of, member_of}
 use Rattle.rina_data.specs.Cloud.{IsMine}
-use Rattle.rina_data.specs.Dif.{Config, Member}
+use Rattle.rina_data.specs.Dif.{Config}
 use Rattle.rina_data.specs.Standing.{IsLinked}
 use Rattle.rina_data.specs.Numbered.{AreMembers}
 use Rattle.rina_data.proofs.Finding.{there}
 use Rattle.rina_dif.specs.Building.{AreBare}
-use Rattle.rina_dif.specs.Laying.{AddsLink, AddsLinkAt, AreLaid, AreLinkedUp, AreSettings, BindsAll, CanBindAll, IsBoundSo, IsLaidIn, IsLinkedUp, LaysLink, LaysPort, LaysPortAt, MayBind, Takes, ends_of}
+use Rattle.rina_dif.specs.Laying.{AddsLinkAt, AreLaid, AreLinkedUp, AreSettings, BindsAll, CanBindAll, IsBoundSo, IsLaidIn, IsLinkedUp, LaysLink, LaysPort, LaysPortAt, MayBind, Takes, ends_of}
 use Rattle.rina_dif.specs.Planned.{ipc_name, link_fixed}
 use Rattle.rina_dif.proofs.Below.{asker_of, asker_there, far_of, far_there, stays}
 use Rattle.rina_dif.proofs.Laid.{bind_laid, laid_on}

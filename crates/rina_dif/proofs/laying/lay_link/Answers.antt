@@ -1,4 +1,4 @@
-use Rattle.rina_dif.proofs.Wiring.{lays_link, may_bind, still_aligned}
+use Rattle.rina_dif.proofs.Wiring.{lays_link, still_aligned}
 use Rattle.rina_dif.proofs.laying.lay_link.Goals as goal
 
 pub lay_port-requires-2 : goal.lay_port-requires-2

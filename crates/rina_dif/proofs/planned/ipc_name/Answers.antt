@@ -1,4 +1,4 @@
-use Rattle.std.proofs.Common.{◌∙◌, sym}
+use Rattle.std.proofs.Common.{◌∙◌}
 use Rattle.rina_dif.proofs.Named.{ipc_named}
 use Rattle.rina_dif.proofs.planned.ipc_name.Goals as goal
 

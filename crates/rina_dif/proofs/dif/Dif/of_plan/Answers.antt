@@ -1,7 +1,4 @@
-use Rattle.std.proofs.Common.{◌≡◌, ◌∙◌, sym}
-use Rattle.rina_data.specs.Configs.{config_of}
-use Rattle.rina_data.specs.declared.settings.Settings.{Settings}
-use Rattle.rina_dif.specs.declared.dif.Dif.{Dif}
+use Rattle.std.proofs.Common.{◌≡◌, ◌∙◌}
 use Rattle.rina_dif.proofs.Made.{its_settings, made_new, made_stands, made_takes}
 use Rattle.rina_dif.proofs.Wiring.{all_bare_up}
 use Rattle.rina_dif.proofs.dif.Dif.of_plan.Goals as goal
