@@ -1,20 +1,21 @@
 -- What was read where reading succeeded.
-use Rattle.std.proofs.Common.{◌≡◌, ℕ, ◌+◌, ◌<◌, ◌≤◌, Bool, true, false, cond, ℤ, pos, negsuc, ◌≤ℤ◌, List, [], ◌∷◌, length, get_or, Option, Some, None, Result, Ok, Err, refl, sym, ap, ◌∙◌, arith}
-use Rattle.std.specs.Prelude.{All, int_le, ◌&&◌, unsigned_abs}
+use Rattle.std.proofs.Common.{◌≡◌, ℕ, ◌+◌, ◌<◌, ◌≤◌, Bool, true, false, cond, ℤ, pos, negsuc, ◌≤ℤ◌, List, [], ◌∷◌, length, Option, Some, None, Result, Ok, Err, refl, ap, arith, subst}
+use Rattle.std.specs.Prelude.{All, codes, int_le, unsigned_abs}
 use Rattle.std.proofs.lemmas.Bool.{and_parts}
 use Rattle.std.proofs.lemmas.Int.{ints}
 use Rattle.std.proofs.lemmas.List.Elements.{All-cons}
 use Rattle.std.proofs.lemmas.List.Quantifiers.{position-Some}
 use Rattle.toml.specs.Data.{Data, get}
 use Rattle.rina_base.specs.Traverse.{◌>>=◌, traverse}
+use Rattle.rina_base.specs.declared.name.NameError.{NameError}
+use Rattle.rina_base.specs.Names.{length_at, bytes_at, name_at}
 use Rattle.rina_table.specs.declared.error.StackError.{StackError}
-use Rattle.rina_fields.specs.declared.scope.Scope.{Scope}
 use Rattle.rina_rows.specs.declared.sketch.Sketch.{Sketch}
 use Rattle.rina_table.specs.Faults.{there, needed, unless}
-use Rattle.rina_table.specs.Keys.{items_in}
 use Rattle.rina_fields.specs.Names.{place_in, as_name}
-use Rattle.rina_table.specs.Values.{integer_in, integer_or, text_in, rows, rows_in, rows_or}
-use Rattle.rina_fields.specs.Fields.{is_between, as_number, ranged, number_in, number_or, named, node_named, node_in}
+use Rattle.std.specs.Result.{result_ok}
+use Rattle.rina_table.specs.Values.{integer_in, integer_or, text_in}
+use Rattle.rina_fields.specs.Fields.{is_between, as_number, ranged, number_in, number_or, named, name_in, node_named, node_in}
 use Rattle.rina_stack.specs.Stack.{plain, full}
 
 pub bind_ok : {A B : Type 0} (a : Result A StackError) (f : A → Result B StackError) (y : B) → (a >>= f) ≡ Ok y → (x : A) × (a ≡ Ok x) × (f x ≡ Ok y)
@@ -106,3 +107,31 @@ node_in_7 known u n k d i h =
 pub same_name : (known : Sketch) (u : Option ℕ) (n : ℕ) (t : List ℕ) → named (plain 4) n t ≡ named (full known u) n t
 unfolding named
 same_name known u n t = refl
+
+-- ---- names
+
+result_of : {A : Type 0} (r : Result A NameError) (x : A) → result_ok r ≡ Some x → r ≡ Ok x
+result_of (Ok y) x h = cc
+result_of (Err e) x h = cc
+
+last_of : (a b : Result (Unit {0}) NameError) (t name : List ℕ) → (a >>= λ _. b >>= λ _. Ok t) ≡ Ok name → t ≡ name
+last_of (Ok x) (Ok y) t name h = cc
+last_of (Ok x) (Err e) t name h = cc
+last_of (Err e) b t name h = cc
+
+-- the name that a text is, is the text
+same_text : (t name : List ℕ) → name_at t ≡ Ok name → t ≡ name
+unfolding name_at
+same_text t name h = last_of (length_at t) (bytes_at 0 t) t name h
+
+found_4 : {A : Type 0} (n : ℕ) (instead : A) (o : Option A) (x : A) → needed 7 4 n instead o ≡ Ok x → o ≡ Some x
+found_4 n instead None x h = cc
+found_4 n instead (Some y) x h = cc
+
+-- what was read as a name is one
+pub name_7 : (known : Sketch) (u : Option ℕ) (n : ℕ) (k : List ℕ) (d : Data) (name : List ℕ) → name_in (full known u) n k d ≡ Ok name → name_at name ≡ Ok name
+unfolding name_in named
+name_7 known u n k d name h =
+    let (t, _, found) = bind_ok (text_in n k d) _ name h in
+    let is = result_of (name_at t) name (found_4 n (codes "-") (as_name t) name found) in
+    subst (λ x. name_at x ≡ Ok name) (same_text t name is) is

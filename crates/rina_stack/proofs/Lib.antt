@@ -5,3 +5,4 @@ pub mod Inversion
 pub mod SoundDif
 pub mod Sound
 pub mod Runs
+pub mod NamesOfDifs

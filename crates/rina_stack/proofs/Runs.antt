@@ -1,11 +1,11 @@
 -- What runs is static, and without rules.
-use Rattle.std.proofs.Common.{◌≡◌, ℕ, ◌+◌, ◌<◌, ◌||◌, Bool, true, false, cond, not, List, [], ◌∷◌, length, Option, Some, None, Result, Ok, Err, IfOk, refl, ap, arith, subst}
+use Rattle.std.proofs.Common.{◌≡◌, ℕ, ◌+◌, Bool, true, false, cond, not, List, [], ◌∷◌, length, Option, Some, None, Result, Ok, Err, IfOk, refl, ap, arith, subst}
 use Rattle.std.specs.Prelude.{All, codes, option_map, option_and_then, is_some}
 use Rattle.std.proofs.lemmas.Bool.{or_parts}
 use Rattle.std.proofs.lemmas.List.Elements.{All-cons, All-head, All-tail}
 use Rattle.std.specs.List.{list_all, position}
 use Rattle.toml.specs.Data.{Data, get, as_array, as_bool}
-use Rattle.rina_base.specs.Traverse.{◌>>=◌, traverse}
+use Rattle.rina_base.specs.Traverse.{traverse}
 use Rattle.rina_plan.specs.declared.dif.DifPlan.{DifPlan}
 use Rattle.rina_plan.proofs.Places.{nowhere}
 use Rattle.rina_table.specs.declared.error.StackError.{StackError}

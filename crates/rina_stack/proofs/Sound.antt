@@ -1,24 +1,23 @@
 -- What holds of the plan of a stack that breaks no rule.
-use Rattle.std.proofs.Common.{◌≡◌, ◌≢◌, ℕ, ◌+◌, ◌^◌, ◌<◌, ◌≤◌, nat_lt, Bool, true, false, cond, ◌||◌, ◌==◌, not, List, [], ◌∷◌, ◌++◌, length, map, get_or, Option, Some, None, Result, Ok, Err, IfOk, refl, sym, ap, ◌∙◌, arith, subst, append_assoc, length-append}
+use Rattle.std.proofs.Common.{◌≡◌, ◌≢◌, ℕ, ◌+◌, ◌^◌, ◌<◌, ◌≤◌, nat_lt, Bool, true, false, cond, ◌||◌, ◌==◌, List, [], ◌∷◌, ◌++◌, length, map, get_or, Option, Some, None, Result, Ok, Err, IfOk, refl, sym, ap, ◌∙◌, arith, subst, append_assoc, length-append}
 use Rattle.std.specs.Prelude.{All, option_map, is_some, codes}
 use Rattle.std.proofs.lemmas.Bool.{false_from_ne_true, false≢true, or_parts}
 use Rattle.std.proofs.lemmas.Bool.Decides.{nat_tests}
-use Rattle.std.proofs.lemmas.List.{append-nil, length-map, get_or_append_left}
+use Rattle.std.proofs.lemmas.List.{append-nil, length-map, get_or_append_left, get_or-append-add}
 use Rattle.std.proofs.lemmas.List.Elements.{All-map}
 use Rattle.std.proofs.lemmas.List.Folds.{list_any_at}
-use Rattle.std.proofs.lemmas.List.Sums.{prefix_len_passes}
 use Rattle.std.proofs.lemmas.List.Quantifiers.{all_pairs_push}
 use Rattle.std.proofs.lemmas.Slice.Eq.{bytes_eq-Decides}
 use Rattle.std.specs.List.{list_any, position}
 use Rattle.std.specs.Str.{bytes_eq}
-use Rattle.toml.specs.Data.{Data, table, Members, get}
+use Rattle.toml.specs.Data.{Data, get}
 use Rattle.rina_base.specs.Traverse.{◌>>=◌, traverse}
 use Rattle.rina_plan.specs.declared.dif.DifPlan.{DifPlan}
 use Rattle.rina_plan.specs.declared.dif.WireEnds.{WireEnds}
 use Rattle.rina_cube.specs.Cubes.{IsCube}
 use Rattle.rina_plan.specs.Difs.{lacks_lower, lacks_cubes, is_mistimed, has_mistimed, is_misplaced, is_misfit, has_oversized}
 use Rattle.rina_plan.specs.Links.{is_misused, has_crossed_link, is_uncarried}
-use Rattle.rina_plan.specs.Walks.{is_unjoined, IsCarriedFlow, IsCarriedLink}
+use Rattle.rina_plan.specs.Walks.{is_unjoined}
 use Rattle.rina_plan.specs.Counts.{links_of, load_of, first_loaded, first_full, IsRoomy}
 use Rattle.rina_plan.proofs.Places.{nowhere}
 use Rattle.rina_plan.proofs.Carried.{carried, each_roomy, single}
@@ -27,21 +26,20 @@ use Rattle.rina_fields.specs.declared.scope.Scope.{Scope}
 use Rattle.rina_rows.specs.declared.sketch.WireSketch.{WireSketch}
 use Rattle.rina_rows.specs.declared.sketch.Sketch.{Sketch}
 use Rattle.rina_table.specs.declared.error.StackError.{StackError}
-use Rattle.rina_table.specs.declared.error.StackError.TheVariants.{Memory, NotToml, StackRule}
 use Rattle.rina_table.specs.Faults.{Gives, there, unless}
 use Rattle.rina_table.specs.Keys.{keys_fault, items_in}
-use Rattle.rina_table.specs.Values.{element, has_third, text_in, rows, rows_in, tables_in}
-use Rattle.rina_fields.specs.Fields.{named, name_in, number_in, node_named}
+use Rattle.rina_table.specs.Values.{element, has_third, rows, rows_in, tables_in}
+use Rattle.rina_fields.specs.Fields.{named, name_in, number_in}
 use Rattle.rina_rows.specs.Rows.{storm_or, wire_end, wire_at}
 use Rattle.rina_rows.specs.Items.{node_row, rounds_or, dif_at, sketch_at}
 use Rattle.rina_stack.specs.Rules.{has_text, twin_after, twin_in, twin_fault, earlier, facility_twin, label_twin, wire_names, dif_names, first_wire, is_crossed, spread_of, top_fault}
-use Rattle.rina_stack.specs.Stack.{plain, full, narrow, plan_of, unknown_item, resolved_at, ends_of, difs_at, rules_at, stack_at, IsTable, Reads}
+use Rattle.rina_stack.specs.Stack.{plain, full, narrow, plan_of, unknown_item, resolved_at, ends_of, difs_at, rules_at, stack_at}
 use Rattle.rina_stack.specs.Policies.{is_built_in}
 use Rattle.rina_stack.specs.Built.{unbuilt_key, unbuilt_word, built_at}
 use Rattle.rina_stack.specs.Runnable.{unready_key, unready_type, runnable_at}
 use Rattle.rina_stack.specs.Plan.{AreDistinct, names_of, wire_ends, IsRangedCube, IsRangedDif, NoDif, IsSoundWire, IsPlan}
-use Rattle.rina_stack.proofs.SoundDif.{dif_7, whole_cube}
-use Rattle.rina_stack.proofs.Inversion.{bind_ok, ok_is, unbroken, all_read, same_rows, number_7, node_7, same_name}
+use Rattle.rina_stack.proofs.SoundDif.{dif_7, whole_cube, dif_parts, IsNamed, named_7}
+use Rattle.rina_stack.proofs.Inversion.{bind_ok, ok_is, unbroken, all_read, same_rows, number_7, node_7}
 
 -- ---- a test that no element passes
 
@@ -177,23 +175,25 @@ wire_name s n d w h =
     let whole : record { name = name; a = a; b = b; delay = delay; life = life; largest = largest; storm = storm } ≡ w = ok_is _ _ h8 in
     subst (λ (x : WireSketch). name_in s n (codes "name") d ≡ Ok x.name) whole is_name
 
-same_wire_names : (known : Sketch) (u : Option ℕ) (k : ℕ) (ts : List Data) (vs ws : List WireSketch) → traverse (wire_at (plain 4)) k ts ≡ Ok vs → traverse (wire_at (full known u)) k ts ≡ Ok ws → wire_names vs ≡ wire_names ws
+-- items whose name is read first have the same names in both readings
+same_names : {A : Type 0} (name : A → List ℕ) (at : Scope → ℕ → Data → Result A StackError) → ((s : Scope) (n : ℕ) (d : Data) (x : A) → at s n d ≡ Ok x → name_in s n (codes "name") d ≡ Ok (name x))
+    → (known : Sketch) (u : Option ℕ) (k : ℕ) (ts : List Data) (vs ws : List A) → traverse (at (plain 4)) k ts ≡ Ok vs → traverse (at (full known u)) k ts ≡ Ok ws → map name vs ≡ map name ws
 unfolding traverse
-same_wire_names known u k [] vs ws hv hw =
+same_names name at each known u k [] vs ws hv hw =
     let one : vs ≡ [] = cc in
     let two : ws ≡ [] = cc in
     rw (one, two) refl
-same_wire_names known u k (t ∷ ts) vs ws hv hw =
-    let (v, is_v, more_v) = bind_ok (wire_at (plain 4) k t) _ vs hv in
-    let (vs', are_v, whole_v) = bind_ok (traverse (wire_at (plain 4)) (k + 1) ts) _ vs more_v in
-    let (w, is_w, more_w) = bind_ok (wire_at (full known u) k t) _ ws hw in
-    let (ws', are_w, whole_w) = bind_ok (traverse (wire_at (full known u)) (k + 1) ts) _ ws more_w in
-    let names = sym (wire_name (plain 4) k t v is_v) ∙ same_name_in known u k (codes "name") t ∙ wire_name (full known u) k t w is_w in
-    let name : v.name ≡ w.name = cc names in
-    let rest = same_wire_names known u (k + 1) ts vs' ws' are_v are_w in
+same_names name at each known u k (t ∷ ts) vs ws hv hw =
+    let (v, is_v, more_v) = bind_ok (at (plain 4) k t) _ vs hv in
+    let (vs', are_v, whole_v) = bind_ok (traverse (at (plain 4)) (k + 1) ts) _ vs more_v in
+    let (w, is_w, more_w) = bind_ok (at (full known u) k t) _ ws hw in
+    let (ws', are_w, whole_w) = bind_ok (traverse (at (full known u)) (k + 1) ts) _ ws more_w in
+    let names = sym (each (plain 4) k t v is_v) ∙ same_name_in known u k (codes "name") t ∙ each (full known u) k t w is_w in
+    let same : name v ≡ name w = cc names in
+    let rest = same_names name at each known u (k + 1) ts vs' ws' are_v are_w in
     let one : v ∷ vs' ≡ vs = cc in
     let two : w ∷ ws' ≡ ws = cc in
-    rw (← one, ← two, name, rest) refl
+    rw (← one, ← two, same, rest) refl
 
 same_tables : (a b : List Data) (d : Data) → tables_in 0 (codes "wire") d ≡ Ok a → tables_in 0 (codes "wire") d ≡ Ok b → a ≡ b
 same_tables a b d one two = cc (sym one ∙ two)
@@ -313,6 +313,12 @@ front_differs xs ys h = λ i j d lt within.
     let room : j < length (xs ++ ys) = omega (arith, length-append xs ys) in
     rw (← get_or_append_left xs ys d i first, ← get_or_append_left xs ys d j within) (h i j d lt room)
 
+back_differs : (xs ys : List (List ℕ)) → AreDistinct (xs ++ ys) → AreDistinct ys
+back_differs xs ys h = λ i j d lt within.
+    let later : length xs + i < length xs + j = omega (arith, lt) in
+    let room : length xs + j < length (xs ++ ys) = omega (arith, within, length-append xs ys) in
+    rw (← get_or-append-add xs ys i d, ← get_or-append-add xs ys j d) (h (length xs + i) (length xs + j) d later room)
+
 same_narrow_names : (ws : List WireSketch) → names_of (map narrow ws) ≡ wire_names ws
 same_narrow_names [] = refl
 same_narrow_names (w ∷ ws) = ap (λ ts. w.name ∷ ts) (same_narrow_names ws)
@@ -340,6 +346,8 @@ pub record Resolved (known : List ℕ → Bool) (d : Data) (s : Sketch) : Type 0
   wires_differ : AreDistinct (wire_names s.wires)
   wires : All (IsSoundSketch (length s.nodes)) s.wires
   difs : All (IsRangedDif (length s.nodes) (length s.wires) (length s.difs)) s.difs
+  difs_differ : AreDistinct (dif_names s.difs)
+  named : All IsNamed s.difs
 
 pub resolved : (known : List ℕ → Bool) (d : Data) (named s : Sketch) (t t' : Unit {0}) → sketch_at (plain 4) d ≡ Ok named → unless 5 (twin_fault named) ≡ Ok t → resolved_at known named d ≡ Ok s → rules_at s ≡ Ok t' → Resolved known d s
 unfolding resolved_at
@@ -356,16 +364,21 @@ resolved known d named s t t' is_named five is_s rest =
     let earlier_difs : traverse (dif_at (plain 4)) (1 + length before.wire_tables) after.dif_tables ≡ Ok named.difs = subst (λ ts. traverse (dif_at (plain 4)) (1 + length before.wire_tables) ts ≡ Ok named.difs) dif_tables before.difs in
     let wire_count = same_count (wire_at (plain 4)) (wire_at (full named u)) 1 1 after.wire_tables named.wires s.wires earlier_wires after.wires in
     let dif_count = same_count (dif_at (plain 4)) (dif_at (full named u)) (1 + length before.wire_tables) (1 + length after.wire_tables) after.dif_tables named.difs s.difs earlier_difs after.difs in
-    let names = same_wire_names named u 1 after.wire_tables named.wires s.wires earlier_wires after.wires in
+    let names = same_names (λ (w : WireSketch). w.name) wire_at wire_name named u 1 after.wire_tables named.wires s.wires earlier_wires after.wires in
+    let behind : traverse (dif_at (plain 4)) (1 + length after.wire_tables) after.dif_tables ≡ Ok named.difs = subst (λ ts. traverse (dif_at (plain 4)) (1 + length ts) after.dif_tables ≡ Ok named.difs) tables earlier_difs in
+    let named_difs = same_names (λ (x : DifPlan). x.name) dif_at (λ c n x y is. (dif_parts c n x y is).name) named u (1 + length after.wire_tables) after.dif_tables named.difs s.difs behind after.difs in
+    let all_differ = distinct (wire_names named.wires ++ dif_names named.difs) single.facilities in
     record {
       unbroken_rules = unbroken_all s t' rest;
       nodes_differ = subst AreDistinct nodes (distinct named.nodes single.nodes);
-      wires_differ = subst AreDistinct names (front_differs (wire_names named.wires) (dif_names named.difs) (distinct (wire_names named.wires ++ dif_names named.difs) single.facilities));
+      wires_differ = subst AreDistinct names (front_differs (wire_names named.wires) (dif_names named.difs) all_differ);
       wires = subst (λ (ns : List (List ℕ)). All (IsSoundSketch (length ns)) s.wires) nodes (all_read (IsSoundSketch (length named.nodes)) (wire_at (full named u)) 1 after.wire_tables s.wires (λ n x y. wire_7 named u n x y) after.wires);
       difs = subst (λ (m : ℕ). All (IsRangedDif m (length s.wires) (length s.difs)) s.difs) (ap length nodes)
           (subst (λ (m : ℕ). All (IsRangedDif (length named.nodes) m (length s.difs)) s.difs) wire_count
           (subst (λ (m : ℕ). All (IsRangedDif (length named.nodes) (length named.wires) m) s.difs) dif_count
           (all_read (IsRangedDif (length named.nodes) (length named.wires) (length named.difs)) (dif_at (full named u)) (1 + length after.wire_tables) after.dif_tables s.difs (λ n x y. dif_7 named u n x y) after.difs)));
+      difs_differ = subst AreDistinct named_difs (back_differs (wire_names named.wires) (dif_names named.difs) all_differ);
+      named = all_read IsNamed (dif_at (full named u)) (1 + length after.wire_tables) after.dif_tables s.difs (λ n x y. named_7 named u n x y) after.difs;
     }
 
 pub narrows : (known : List ℕ → Bool) (d : Data) (s : Sketch) → Resolved known d s → All (λ (w : WireSketch). (w.a < 2 ^ 16) × (w.b < 2 ^ 16)) s.wires
@@ -406,6 +419,9 @@ planned known d s r =
       wires_differ = rw (same_narrow_names s.wires) r.wires_differ;
       wires = All-map (IsSoundWire (length s.nodes)) narrow s.wires (λ k e within. wire_planned (length s.nodes) (get_or s.wires k e) (r.wires k e within) (straight (get_or s.wires k e) (r.unbroken_rules.wires k e within)));
       few_difs = r.unbroken_rules.few_difs;
+      difs_differ = r.difs_differ;
+      dif_names = λ k e within. (r.named k e within).name;
+      app_names = λ k e within. (r.named k e within).flows;
       difs = subst (λ (m : ℕ). All (IsRangedDif (length s.nodes) m (length s.difs)) s.difs) (sym (length-map s.wires narrow)) r.difs;
       ranks = by.ranks;
       cubes = by.cubes;

@@ -1,13 +1,13 @@
 -- What is read of a DIF is in range, and refers to what is there.
-use Rattle.std.proofs.Common.{◌≡◌, ℕ, ◌+◌, ◌<◌, ◌≤◌, nat_lt, Bool, true, false, not, ◌||◌, ◌&&◌, ◌==◌, ◌⊎◌, inl, inr, List, [], ◌∷◌, length, map, get_or, Option, Some, None, Result, Ok, Err, refl, sym, ap, ◌∙◌, arith, subst}
-use Rattle.std.specs.Prelude.{All, codes, option_map}
+use Rattle.std.proofs.Common.{◌≡◌, ℕ, ◌<◌, true, false, ◌||◌, ◌==◌, inl, inr, List, [], length, Option, Some, None, Result, Ok, Err, refl, arith, subst}
+use Rattle.std.specs.Prelude.{All, codes}
 use Rattle.std.proofs.lemmas.Bool.{or_cases, eqb-true}
 use Rattle.std.proofs.lemmas.Bool.Decides.{nat_tests}
 use Rattle.std.proofs.lemmas.List.{length-map}
 use Rattle.std.proofs.lemmas.List.Quantifiers.{position-Some}
 use Rattle.toml.specs.Data.{Data, get}
-use Rattle.rina_base.specs.Traverse.{◌>>=◌, traverse}
-use Rattle.rina_access.specs.declared.rules.Rule.{Rule}
+use Rattle.rina_base.specs.Names.{name_at}
+use Rattle.rina_base.specs.Traverse.{◌>>=◌}
 use Rattle.rina_cube.specs.declared.Cube.{Cube}
 use Rattle.rina_cube.specs.declared.Kind.{Kind}
 use Rattle.rina_cube.specs.declared.Kind.TheVariants.{Datagram, Loose, Reliable}
@@ -26,17 +26,17 @@ use Rattle.rina_table.specs.declared.error.StackError.{StackError}
 use Rattle.rina_fields.specs.declared.scope.Scope.{Scope}
 use Rattle.rina_rows.specs.declared.sketch.WireSketch.{WireSketch}
 use Rattle.rina_rows.specs.declared.sketch.Sketch.{Sketch}
-use Rattle.rina_table.specs.Faults.{there, needed, unless}
+use Rattle.rina_table.specs.Faults.{there, unless}
 use Rattle.rina_table.specs.Keys.{items_in}
 use Rattle.rina_fields.specs.Names.{place_in, lower_or, lower_named}
-use Rattle.rina_table.specs.Values.{text_in, truth_in, flag_or, items_or, rows, rows_in, rows_or}
-use Rattle.rina_fields.specs.Fields.{name_in, subject_in, number_in, number_or, as_width, width_in, node_in, lower_in}
-use Rattle.rina_rows.specs.Rows.{kind_in, act_in, widths_at, manage_at, cube_at, member_at, rule_at, link_at, end_at, flow_at}
+use Rattle.rina_table.specs.Values.{flag_or, items_or, rows_in, rows_or}
+use Rattle.rina_fields.specs.Fields.{name_in, number_in, number_or, as_width, width_in, node_in, lower_in}
+use Rattle.rina_rows.specs.Rows.{kind_in, widths_at, manage_at, cube_at, member_at, rule_at, link_at, end_at, flow_at}
 use Rattle.rina_rows.specs.Items.{unknown_at, widths_in, manage_in, dif_at}
 use Rattle.rina_stack.specs.Stack.{full}
 use Rattle.rina_stack.specs.Rules.{wire_names, dif_names}
-use Rattle.rina_stack.specs.Plan.{IsLower, IsSoundLink, IsRangedCube, IsRangedDif}
-use Rattle.rina_stack.proofs.Inversion.{bind_ok, ok_is, all_read, found_6, found_7, number_7, number_or_7, node_in_7, if_some}
+use Rattle.rina_stack.specs.Plan.{IsLower, IsSoundLink, IsRangedCube, IsRangedDif, HasNames}
+use Rattle.rina_stack.proofs.Inversion.{bind_ok, ok_is, all_read, found_6, found_7, number_7, number_or_7, node_in_7, if_some, name_7}
 
 -- all rows of a list
 all_rows : {B : Type 0} (P : B → Type 0) (f : Data → Result B StackError) (n : ℕ) (k : List ℕ) (d : Data) (ys : List B) → ((x : Data) (y : B) → f x ≡ Ok y → P y) → rows_in f n k d ≡ Ok ys → All P ys
@@ -218,6 +218,30 @@ flow_7 known u n d f h =
     let whole : record { cube = cube; from = asker; to = other } ≡ f = ok_is _ _ h5 in
     subst (λ (x : FlowPlan). (x.from.node < length known.nodes) × (x.to.node < length known.nodes)) whole (end_7 known u n from asker is_asker, end_7 known u n to other is_other)
 
+-- ---- the applications of a flow
+
+end_named : (known : Sketch) (u : Option ℕ) (n : ℕ) (d : Data) (e : EndPlan) → end_at (full known u) n d ≡ Ok e → name_at e.app ≡ Ok e.app
+unfolding end_at
+end_named known u n d e h =
+    let s = full known u in
+    let (node, _, h1) = bind_ok (node_in s n (codes "node") d) _ e h in
+    let (app, is_app, h2) = bind_ok (name_in s n (codes "app") d) _ e h1 in
+    let (label, _, h3) = bind_ok (name_in s n (codes "label") d) _ e h2 in
+    let whole : record { node = node; app = app; label = label } ≡ e = ok_is _ _ h3 in
+    subst (λ (x : EndPlan). name_at x.app ≡ Ok x.app) whole (name_7 known u n (codes "app") d app is_app)
+
+flow_named : (known : Sketch) (u : Option ℕ) (n : ℕ) (d : Data) (f : FlowPlan) → flow_at (full known u) n d ≡ Ok f → HasNames f
+unfolding flow_at
+flow_named known u n d f h =
+    let s = full known u in
+    let (cube, _, h1) = bind_ok (number_in s n (codes "cube") d 0 255) _ f h in
+    let (from, _, h2) = bind_ok (there n (get (codes "from") d)) _ f h1 in
+    let (to, _, h3) = bind_ok (there n (get (codes "to") d)) _ f h2 in
+    let (asker, is_asker, h4) = bind_ok (end_at s n from) _ f h3 in
+    let (other, is_other, h5) = bind_ok (end_at s n to) _ f h4 in
+    let whole : record { cube = cube; from = asker; to = other } ≡ f = ok_is _ _ h5 in
+    subst HasNames whole (end_named known u n from asker is_asker, end_named known u n to other is_other)
+
 -- ---- a DIF
 
 widths_part : (known : Sketch) (u : Option ℕ) (n : ℕ) (d : Data) (w : Widths) → widths_in (full known u) n d ≡ Ok w → AreWidths w
@@ -274,3 +298,36 @@ dif_7 known u n d x h =
       links = all_rows_or (IsSoundLink nodes (length known.wires) (length known.difs)) (link_at s n) n (codes "link") d links (λ t l. link_7 known u n t l) are_links;
       flows = all_rows_or (λ (f : FlowPlan). (f.from.node < nodes) × (f.to.node < nodes)) (flow_at s n) n (codes "flow") d flows (λ t f. flow_7 known u n t f) are_flows;
     })))))
+
+-- how the name and the flows of a DIF were read
+pub record AreParts (s : Scope) (n : ℕ) (d : Data) (x : DifPlan) : Type 0 where
+  pub name : name_in s n (codes "name") d ≡ Ok x.name
+  pub flows : rows_or (flow_at s n) n (codes "flow") d ≡ Ok x.flows
+
+pub dif_parts : (s : Scope) (n : ℕ) (d : Data) (x : DifPlan) → dif_at s n d ≡ Ok x → AreParts s n d x
+unfolding dif_at
+dif_parts s n d x h =
+    let P = AreParts s n d in
+    over4 P (name_in s n (codes "name") d) (number_in s n (codes "rank") d 1 8) (flag_or n false (get (codes "static") d)) (number_in s n (codes "pdu") d 18 4096) _ x h
+    (λ name rank is_static pdu is_name _ _ _ h4.
+    over4 P (widths_in s n d) (number_in s n (codes "queue") d 1 256) (name_in s n (codes "policy") d) (unless 7 (unknown_at s.unknown n)) _ x h4
+    (λ widths queue policy _ _ _ _ _ h8.
+    over4 P (number_in s n (codes "wait") d 1 1000000) (manage_in s n d) (rows_in (cube_at s n) n (codes "cube") d) (rows_in (member_at s n) n (codes "member") d) _ x h8
+    (λ wait manage cubes members _ _ _ _ h12.
+    over4 P (flag_or n true (get (codes "default") d)) (rows_or (rule_at s n) n (codes "rule") d) (rows_or (link_at s n) n (codes "link") d) (rows_or (flow_at s n) n (codes "flow") d) _ x h12
+    (λ allow rules links flows _ _ _ are_flows h16.
+    let whole : record { name = name; rank = rank; is_static = is_static; pdu = pdu; widths = widths; queue = queue; policy = policy; wait = wait; manage = manage; cubes = cubes; members = members; allow = allow; rules = rules; links = links; flows = flows } ≡ x = ok_is _ _ h16 in
+    subst P whole (record { name = is_name; flows = are_flows })))))
+
+-- the names in a DIF are names
+pub record IsNamed (x : DifPlan) : Type 0 where
+  pub name : name_at x.name ≡ Ok x.name
+  pub flows : All HasNames x.flows
+
+pub named_7 : (known : Sketch) (u : Option ℕ) (n : ℕ) (d : Data) (x : DifPlan) → dif_at (full known u) n d ≡ Ok x → IsNamed x
+named_7 known u n d x h =
+    let parts = dif_parts (full known u) n d x h in
+    record {
+      name = name_7 known u n (codes "name") d x.name parts.name;
+      flows = all_rows_or HasNames (flow_at (full known u) n) n (codes "flow") d x.flows (λ t f. flow_named known u n t f) parts.flows;
+    }

@@ -1,11 +1,10 @@
 -- What is built so far, and what a stack is refused as that has more.
-use Rattle.std.specs.Prelude.{◌≡◌, ℕ, ◌+◌, nat_lt, Bool, List, length, codes, Option, Some, None, Result, Ok, Err, option_map, position, if◌then◌else◌}
+use Rattle.std.specs.Prelude.{ℕ, ◌+◌, nat_lt, Bool, List, length, codes, Option, Some, None, Result, option_map, position, if◌then◌else◌}
 use Rattle.std.specs.Str.{bytes_eq}
-use Rattle.toml.specs.Data.{Data, table, Members, get, as_str}
+use Rattle.toml.specs.Data.{Data, get, as_str}
 use Rattle.rina_base.specs.Traverse.{◌>>=◌}
 use Rattle.rina_stack.specs.declared.plan.Plan.{Plan}
 use Rattle.rina_table.specs.declared.error.StackError.{StackError}
-use Rattle.rina_table.specs.declared.error.StackError.TheVariants.{Memory, NotToml, StackRule}
 use Rattle.rina_table.specs.Faults.{unless}
 use Rattle.rina_table.specs.Keys.{items_at, keys_fault}
 use Rattle.rina_stack.specs.Policies.{is_built_in}

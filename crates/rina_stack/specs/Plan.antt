@@ -1,6 +1,7 @@
 -- What holds of each plan.
-use Rattle.std.specs.Prelude.{Bool, false, ◌≡◌, ℕ, ◌≢◌, ◌<◌, ◌≤◌, List, All, length, map, slice_index_or}
+use Rattle.std.specs.Prelude.{Bool, false, ◌≡◌, ℕ, ◌≢◌, ◌<◌, ◌≤◌, List, All, length, map, slice_index_or, Ok}
 use Rattle.std.specs.List.{AllPairs}
+use Rattle.rina_base.specs.Names.{name_at}
 use Rattle.rina_cube.specs.declared.Cube.{Cube}
 use Rattle.rina_cube.specs.Cubes.{IsCube}
 use Rattle.rina_pci.specs.Spelling.{AreWidths}
@@ -11,7 +12,7 @@ use Rattle.rina_plan.specs.declared.dif.LinkPlan.{LinkPlan}
 use Rattle.rina_plan.specs.declared.dif.FlowPlan.{FlowPlan}
 use Rattle.rina_plan.specs.declared.dif.DifPlan.{DifPlan}
 use Rattle.rina_plan.specs.declared.dif.WireEnds.{WireEnds}
-use Rattle.rina_plan.specs.Difs.{lacks_lower, lacks_cubes, has_mistimed, is_misplaced, is_misfit, has_oversized}
+use Rattle.rina_plan.specs.Difs.{lacks_lower, lacks_cubes, is_misplaced, is_misfit, has_oversized}
 use Rattle.rina_plan.specs.Links.{is_misused, has_crossed_link, is_uncarried}
 use Rattle.rina_plan.specs.Walks.{IsCarriedFlow, IsCarriedLink}
 use Rattle.rina_plan.specs.Counts.{links_of, load_of, IsRoomy}
@@ -82,12 +83,16 @@ pub record IsRangedDif (nodes wires difs : ℕ) (d : DifPlan) : Type 0 where
   pub links : All (IsSoundLink nodes wires difs) d.links
   pub flows : All (λ (f : FlowPlan). (f.from.node < nodes) × (f.to.node < nodes)) d.flows
 
+-- the applications of a flow are names
+abbrev pub HasNames : FlowPlan → Type 0
+HasNames f = (name_at f.from.app ≡ Ok f.from.app) × (name_at f.to.app ≡ Ok f.to.app)
+
 -- no DIF passes
 abbrev pub NoDif : (DifPlan → Bool) → List DifPlan → Type 0
 NoDif p difs = All (λ d. p d ≡ false) difs
 
--- What holds of each plan that was read. There are at most 64 nodes, 128 wires and 16 DIFs, and the names of nodes and of wires differ; each wire is
--- sound; and of each DIF:
+-- What holds of each plan that was read. There are at most 64 nodes, 128 wires and 16 DIFs, and the names of nodes, of wires and of DIFs differ; the
+-- names of DIFs and of the applications of flows are names, so that no slash stands in them; each wire is sound; and of each DIF:
 -- its numbers are in range, and what it refers to is there (difs); of rank above 1, there is one of the rank below (ranks); its cubes have different ids
 -- (cubes), are in range, and their times fit their kinds (times); its members stand on different nodes and have different addresses that fit (members);
 -- its PDUs fit their length field, and have room for a piece and for an acknowledgement (pdus); its SDUs fit a piece, or a window and a queue (sdus);
@@ -102,6 +107,9 @@ pub record IsPlan (p : Plan) : Type 0 where
   pub wires_differ : AreDistinct (names_of p.wires)
   pub wires : All (IsSoundWire (length p.nodes)) p.wires
   pub few_difs : length p.difs ≤ 16
+  pub difs_differ : AreDistinct (map (λ (d : DifPlan). d.name) p.difs)
+  pub dif_names : All (λ (d : DifPlan). name_at d.name ≡ Ok d.name) p.difs
+  pub app_names : All (λ (d : DifPlan). All HasNames d.flows) p.difs
   pub difs : All (IsRangedDif (length p.nodes) (length p.wires) (length p.difs)) p.difs
   pub ranks : NoDif (lacks_lower p.difs) p.difs
   pub cubes : NoDif lacks_cubes p.difs

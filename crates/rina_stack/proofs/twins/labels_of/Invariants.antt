@@ -1,4 +1,4 @@
-use Rattle.std.proofs.Common.{◌≡◌, ◌++◌, map, take}
+use Rattle.std.proofs.Common.{◌≡◌, map, take}
 use Rattle.rina_stack.specs.Rules.{labels}
 use Rattle.rina_stack.proofs.twins.labels_of.Given as goal
 
