@@ -9,7 +9,7 @@ mod shelf;
 
 pub use built_in::{First, Last, Round, Strict, Weighted};
 pub use count::Count;
-pub use picks::Picks;
+pub use picks::{Picks, Retires};
 pub use policy::{Head, Policy};
 pub use shelf::{NoPolicy, Place, Shelf, ShelfError};
 

@@ -1,10 +1,10 @@
-//! What a step asks of a shelf.
-ghost use Rattle.std.specs.Prelude.{◌≡◌, ◌<◌, ◌≤◌, ℕ, List, length, None, MatchOption};
-ghost use Rattle.rina_policy.specs.Slots.{Slot, slots_of, count_of, asked, policy_of};
+//! What a run asks of a shelf.
+ghost use Rattle.std.specs.Prelude.{◌≡◌, ◌↔◌, ◌<◌, ◌≤◌, ℕ, List, length, None, IsErr, MatchOption, OnErr, OnOk};
+ghost use Rattle.rina_policy.specs.Slots.{Slot, slots_of, count_of, asked, policy_of, retired};
 ghost use Rattle.rina_policy.specs.declared.policy.Head.{Head};
 
 use crate::policy::{Head, Policy};
-use crate::shelf::Shelf;
+use crate::shelf::{NoPolicy, Shelf};
 use rina_base::Name;
 
 /// Picks by name: what a step over any shelf needs to know of it.
@@ -31,5 +31,20 @@ impl Picks for Shelf {
 
     fn ask(&mut self, name: &Name, who: u32, heads: &[Head]) -> u32 {
         self.pick(name, who, heads)
+    }
+}
+
+/// A shelf whose policies are withdrawn by name too.
+pub trait Retires: Picks {
+    /// Drops the policy of a name; the shelf keeps the name. Takes no memory.
+    fn withdraw(&mut self, name: &Name) -> Result<(), NoPolicy>
+        ensures ok { OnOk result (Self.slots self.new ≡ retired name.now (Self.slots self.old)) }
+        ensures none { IsErr result ↔ (count_of name.now (Self.slots self.old) ≡ None) }
+        ensures err { OnErr result (Self.slots self.new ≡ Self.slots self.old) };
+}
+
+impl Retires for Shelf {
+    fn withdraw(&mut self, name: &Name) -> Result<(), NoPolicy> {
+        self.retire(name)
     }
 }

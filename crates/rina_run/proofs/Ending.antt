@@ -3,6 +3,7 @@ use Rattle.std.proofs.Common.{◌≡◌, ℕ, List, [], ◌∷◌, ◌++◌, Opt
 use Rattle.std.proofs.lemmas.List.{append-nil, take_all}
 use Rattle.std.proofs.KnownBytes.{Appends-nil}
 use Rattle.std.specs.Io.KnownBytes.{Appends, Consumes, IsAtEnd}
+use Rattle.rina_policy.specs.Slots.{Slot}
 use Rattle.rina_report.specs.declared.note.Note.{Note}
 use Rattle.rina_report.specs.declared.note.Note.TheVariants as notes
 use Rattle.rina_report.specs.declared.note.Fault.{Fault}
@@ -23,7 +24,6 @@ use Rattle.rina_wire.proofs.Kept.{is_mapped}
 use Rattle.std.proofs.lemmas.Option.{slice_get-map}
 use Rattle.rina_wire.specs.Air.{Air, fac_of, seen_of, wire_at}
 use Rattle.rina_wire.specs.Sound.{IsSound, IsWireState}
-use Rattle.rina_run.specs.declared.world.World.{World}
 use Rattle.rina_run.specs.declared.emit.Stop.{Stop}
 use Rattle.rina_run.specs.declared.emit.Stop.TheVariants as stops
 use Rattle.rina_run.specs.declared.play.BadLine.{BadLine}
@@ -32,6 +32,7 @@ use Rattle.rina_run.specs.declared.outcome.Status.TheVariants as statuses
 use Rattle.rina_run.specs.Look.{Extends}
 use Rattle.rina_run.specs.Run.{Runs, StopsAt, RanFirst, RanPart, LinesRan, opening}
 use Rattle.rina_run.specs.Script.{Script, script_in}
+use Rattle.rina_run.specs.Step.{HasNames, Stage}
 use Rattle.rina_run.specs.Written.{IsFront, Written}
 use Rattle.rina_run.specs.Top.{status_of, fault_at, fault_of, PlayOutcomes, RefusedBy, StackOutcomes, ScriptOutcomes, InputOutcomes, IsNothing, ClosedBy, IsEnding, EndedBy, RunOutcomes, is_whole, status_stopped, FailedByCut, IsCutBy}
 use Rattle.rina_run.proofs.Texts.{wrote_all}
@@ -60,47 +61,47 @@ refused_from fault s t c = c
 extends_one : (old new : List Note) (note : Note) → new ≡ old ++ note ∷ [] → Extends old new
 extends_one old new note p = record { notes = note ∷ []; trace = p }
 
-part_from : (plan : Plan) (w : World) (lines : List (List ℕ)) (told t : List Note) (u : World) (note : Note) → RanFirst plan w lines told u → (t ≡ told) ⊎ (t ≡ told ++ note ∷ []) → RanPart plan w lines t
-part_from plan w lines told t u note first (inl p) = record { world = u; told = told; first = first; more = record { notes = []; trace = p ∙ sym (append-nil told) } }
-part_from plan w lines told t u note first (inr p) = record { world = u; told = told; first = first; more = extends_one told t note p }
+part_from : (plan : Plan) (w : Stage) (lines : List (List ℕ)) (told t : List Note) (u : Stage) (note : Note) → RanFirst plan w lines told u → (t ≡ told) ⊎ (t ≡ told ++ note ∷ []) → RanPart plan w lines t
+part_from plan w lines told t u note first (inl p) = record { reached = u; told = told; first = first; more = record { notes = []; trace = p ∙ sym (append-nil told) } }
+part_from plan w lines told t u note first (inr p) = record { reached = u; told = told; first = first; more = extends_one told t note p }
 
-all_first : (plan : Plan) (w : World) (lines : List (List ℕ)) (told : List Note) (u : World) → Runs plan 1 w lines told u → RanFirst plan w lines told u
+all_first : (plan : Plan) (w : Stage) (lines : List (List ℕ)) (told : List Note) (u : Stage) → Runs plan 1 w lines told u → RanFirst plan w lines told u
 all_first plan w lines told u runs = record { count = length lines; runs = rw (take_all (length lines) lines (omega arith)) runs }
 
-stop_first : (plan : Plan) (w : World) (lines : List (List ℕ)) (bad : BadLine) (told : List Note) (u : World) → StopsAt plan w lines bad told u → RanFirst plan w lines told u
+stop_first : (plan : Plan) (w : Stage) (lines : List (List ℕ)) (bad : BadLine) (told : List Note) (u : Stage) → StopsAt plan w lines bad told u → RanFirst plan w lines told u
 stop_first plan w lines bad told u stops = record { count = stops.before; runs = stops.runs }
 
 -- all lines were run, and the run was closed
-pub done_from : (plan : Plan) (lines : List (List ℕ)) (told t : List Note) (u : World) (tower : Option Air) (s : Status) → Runs plan 1 (opening plan) lines told u → tower ≡ Some u.tower → ClosedBy statuses.Done (notes.End u.tower.now) told s t → PlayOutcomes plan None lines s t tower
-done_from plan lines told t u tower statuses.Done runs left c = (refl, record { told = told; world = u; ran = runs; notes = c.1; left = left })
-done_from plan lines told t u tower statuses.WriteFault runs left c = record { told = told; world = u; first = all_first plan (opening plan) lines told u runs; closing = extends_one told t (notes.End u.tower.now) c; left = left }
-done_from plan lines told t u tower statuses.Memory runs left c = part_from plan (opening plan) lines told t u (notes.End u.tower.now) (all_first plan (opening plan) lines told u runs) c
-done_from plan lines told t u tower s runs left c = cc
+pub done_from : (plan : Plan) (lines : List (List ℕ)) (shelf : List Slot) (told t : List Note) (u : Stage) (tower : Option Air) (shelf' : List Slot) (s : Status) → Runs plan 1 (opening plan shelf) lines told u → tower ≡ Some u.world.tower → shelf' ≡ u.shelf → HasNames shelf shelf' → ClosedBy statuses.Done (notes.End u.world.tower.now) told s t → PlayOutcomes plan None lines shelf s t tower shelf'
+done_from plan lines shelf told t u tower shelf' statuses.Done runs left after names c = (refl, record { told = told; reached = u; ran = runs; notes = c.1; left = left; shelf = after })
+done_from plan lines shelf told t u tower shelf' statuses.WriteFault runs left after names c = record { told = told; reached = u; first = all_first plan (opening plan shelf) lines told u runs; closing = extends_one told t (notes.End u.world.tower.now) c; left = left; after = after }
+done_from plan lines shelf told t u tower shelf' statuses.Memory runs left after names c = (part_from plan (opening plan shelf) lines told t u (notes.End u.world.tower.now) (all_first plan (opening plan shelf) lines told u runs) c, names)
+done_from plan lines shelf told t u tower shelf' s runs left after names c = cc
 
 -- all lines were run, and the fault that reading ended with was told
-read_fault_from : (plan : Plan) (lines : List (List ℕ)) (told t : List Note) (u : World) (tower : Option Air) (s : Status) → Runs plan 1 (opening plan) lines told u → tower ≡ Some u.tower → ClosedBy statuses.ReadFault (notes.Fault faults.ReadFault) told s t → PlayOutcomes plan (Some faults.ReadFault) lines s t tower
-read_fault_from plan lines told t u tower statuses.ReadFault runs left c = (refl, record { told = told; world = u; ran = runs; notes = c.1; left = left })
-read_fault_from plan lines told t u tower statuses.WriteFault runs left c = record { told = told; world = u; first = all_first plan (opening plan) lines told u runs; closing = extends_one told t (notes.Fault faults.ReadFault) c; left = left }
-read_fault_from plan lines told t u tower statuses.Memory runs left c = part_from plan (opening plan) lines told t u (notes.Fault faults.ReadFault) (all_first plan (opening plan) lines told u runs) c
-read_fault_from plan lines told t u tower s runs left c = cc
+read_fault_from : (plan : Plan) (lines : List (List ℕ)) (shelf : List Slot) (told t : List Note) (u : Stage) (tower : Option Air) (shelf' : List Slot) (s : Status) → Runs plan 1 (opening plan shelf) lines told u → tower ≡ Some u.world.tower → shelf' ≡ u.shelf → HasNames shelf shelf' → ClosedBy statuses.ReadFault (notes.Fault faults.ReadFault) told s t → PlayOutcomes plan (Some faults.ReadFault) lines shelf s t tower shelf'
+read_fault_from plan lines shelf told t u tower shelf' statuses.ReadFault runs left after names c = (refl, record { told = told; reached = u; ran = runs; notes = c.1; left = left; shelf = after })
+read_fault_from plan lines shelf told t u tower shelf' statuses.WriteFault runs left after names c = record { told = told; reached = u; first = all_first plan (opening plan shelf) lines told u runs; closing = extends_one told t (notes.Fault faults.ReadFault) c; left = left; after = after }
+read_fault_from plan lines shelf told t u tower shelf' statuses.Memory runs left after names c = (part_from plan (opening plan shelf) lines told t u (notes.Fault faults.ReadFault) (all_first plan (opening plan shelf) lines told u runs) c, names)
+read_fault_from plan lines shelf told t u tower shelf' s runs left after names c = cc
 
-too_large_from : (plan : Plan) (lines : List (List ℕ)) (told t : List Note) (u : World) (tower : Option Air) (s : Status) → Runs plan 1 (opening plan) lines told u → tower ≡ Some u.tower → ClosedBy statuses.TooLarge (notes.Fault faults.TooLarge) told s t → PlayOutcomes plan (Some faults.TooLarge) lines s t tower
-too_large_from plan lines told t u tower statuses.TooLarge runs left c = (refl, record { told = told; world = u; ran = runs; notes = c.1; left = left })
-too_large_from plan lines told t u tower statuses.WriteFault runs left c = record { told = told; world = u; first = all_first plan (opening plan) lines told u runs; closing = extends_one told t (notes.Fault faults.TooLarge) c; left = left }
-too_large_from plan lines told t u tower statuses.Memory runs left c = part_from plan (opening plan) lines told t u (notes.Fault faults.TooLarge) (all_first plan (opening plan) lines told u runs) c
-too_large_from plan lines told t u tower s runs left c = cc
+too_large_from : (plan : Plan) (lines : List (List ℕ)) (shelf : List Slot) (told t : List Note) (u : Stage) (tower : Option Air) (shelf' : List Slot) (s : Status) → Runs plan 1 (opening plan shelf) lines told u → tower ≡ Some u.world.tower → shelf' ≡ u.shelf → HasNames shelf shelf' → ClosedBy statuses.TooLarge (notes.Fault faults.TooLarge) told s t → PlayOutcomes plan (Some faults.TooLarge) lines shelf s t tower shelf'
+too_large_from plan lines shelf told t u tower shelf' statuses.TooLarge runs left after names c = (refl, record { told = told; reached = u; ran = runs; notes = c.1; left = left; shelf = after })
+too_large_from plan lines shelf told t u tower shelf' statuses.WriteFault runs left after names c = record { told = told; reached = u; first = all_first plan (opening plan shelf) lines told u runs; closing = extends_one told t (notes.Fault faults.TooLarge) c; left = left; after = after }
+too_large_from plan lines shelf told t u tower shelf' statuses.Memory runs left after names c = (part_from plan (opening plan shelf) lines told t u (notes.Fault faults.TooLarge) (all_first plan (opening plan shelf) lines told u runs) c, names)
+too_large_from plan lines shelf told t u tower shelf' s runs left after names c = cc
 
-pub ended_from : (plan : Plan) (lines : List (List ℕ)) (told t : List Note) (u : World) (tower : Option Air) (s : Status) (fault : Fault) → IsEnding (Some fault) → Runs plan 1 (opening plan) lines told u → tower ≡ Some u.tower → ClosedBy (status_of fault) (notes.Fault fault) told s t → PlayOutcomes plan (Some fault) lines s t tower
-ended_from plan lines told t u tower s faults.ReadFault is runs left c = read_fault_from plan lines told t u tower s runs left c
-ended_from plan lines told t u tower s faults.TooLarge is runs left c = too_large_from plan lines told t u tower s runs left c
-ended_from plan lines told t u tower s fault is runs left c = absurd is
+pub ended_from : (plan : Plan) (lines : List (List ℕ)) (shelf : List Slot) (told t : List Note) (u : Stage) (tower : Option Air) (shelf' : List Slot) (s : Status) (fault : Fault) → IsEnding (Some fault) → Runs plan 1 (opening plan shelf) lines told u → tower ≡ Some u.world.tower → shelf' ≡ u.shelf → HasNames shelf shelf' → ClosedBy (status_of fault) (notes.Fault fault) told s t → PlayOutcomes plan (Some fault) lines shelf s t tower shelf'
+ended_from plan lines shelf told t u tower shelf' s faults.ReadFault is runs left after names c = read_fault_from plan lines shelf told t u tower shelf' s runs left after names c
+ended_from plan lines shelf told t u tower shelf' s faults.TooLarge is runs left after names c = too_large_from plan lines shelf told t u tower shelf' s runs left after names c
+ended_from plan lines shelf told t u tower shelf' s fault is runs left after names c = absurd is
 
 -- a line was outside the grammar, and its fault was told
-bad_closed : (plan : Plan) (ending : Option Fault) (lines : List (List ℕ)) (told t : List Note) (u : World) (tower : Option Air) (s : Status) (bad : BadLine) (line n field : ℕ) → fault_of bad ≡ faults.Schedule line n field → StopsAt plan (opening plan) lines bad told u → tower ≡ Some u.tower → ClosedBy (statuses.Schedule line n field) (notes.Fault (fault_of bad)) told s t → PlayOutcomes plan ending lines s t tower
-bad_closed plan ending lines told t u tower (statuses.Schedule l m f) bad line n field is stops left c = (bad, is ∙ cc, record { told = told; world = u; ran = stops; notes = c.1; left = left })
-bad_closed plan ending lines told t u tower statuses.WriteFault bad line n field is stops left c = record { told = told; world = u; first = stop_first plan (opening plan) lines bad told u stops; closing = extends_one told t (notes.Fault (fault_of bad)) c; left = left }
-bad_closed plan ending lines told t u tower statuses.Memory bad line n field is stops left c = part_from plan (opening plan) lines told t u (notes.Fault (fault_of bad)) (stop_first plan (opening plan) lines bad told u stops) c
-bad_closed plan ending lines told t u tower s bad line n field is stops left c = cc
+bad_closed : (plan : Plan) (ending : Option Fault) (lines : List (List ℕ)) (shelf : List Slot) (told t : List Note) (u : Stage) (tower : Option Air) (shelf' : List Slot) (s : Status) (bad : BadLine) (line n field : ℕ) → fault_of bad ≡ faults.Schedule line n field → StopsAt plan (opening plan shelf) lines bad told u → tower ≡ Some u.world.tower → shelf' ≡ u.shelf → HasNames shelf shelf' → ClosedBy (statuses.Schedule line n field) (notes.Fault (fault_of bad)) told s t → PlayOutcomes plan ending lines shelf s t tower shelf'
+bad_closed plan ending lines shelf told t u tower shelf' (statuses.Schedule l m f) bad line n field is stops left after names c = (bad, is ∙ cc, record { told = told; reached = u; ran = stops; notes = c.1; left = left; shelf = after })
+bad_closed plan ending lines shelf told t u tower shelf' statuses.WriteFault bad line n field is stops left after names c = record { told = told; reached = u; first = stop_first plan (opening plan shelf) lines bad told u stops; closing = extends_one told t (notes.Fault (fault_of bad)) c; left = left; after = after }
+bad_closed plan ending lines shelf told t u tower shelf' statuses.Memory bad line n field is stops left after names c = (part_from plan (opening plan shelf) lines told t u (notes.Fault (fault_of bad)) (stop_first plan (opening plan shelf) lines bad told u stops) c, names)
+bad_closed plan ending lines shelf told t u tower shelf' s bad line n field is stops left after names c = cc
 
 schedule_is : (line : ℕ) (e : LineError) → (n : ℕ) × (field : ℕ) × (fault_at line e ≡ faults.Schedule line n field)
 schedule_is line errors.Memory = (1, 0, refl)
@@ -111,16 +112,16 @@ schedule_is line (errors.BadName n) = (4, n, refl)
 schedule_is line (errors.Extra n) = (5, n, refl)
 schedule_is line (errors.BadBytes n) = (6, n, refl)
 
-pub bad_from : (plan : Plan) (ending : Option Fault) (lines : List (List ℕ)) (told t : List Note) (u : World) (tower : Option Air) (s : Status) (bad : BadLine) → StopsAt plan (opening plan) lines bad told u → tower ≡ Some u.tower → ClosedBy (status_of (fault_of bad)) (notes.Fault (fault_of bad)) told s t → PlayOutcomes plan ending lines s t tower
-bad_from plan ending lines told t u tower s bad stops left c =
+pub bad_from : (plan : Plan) (ending : Option Fault) (lines : List (List ℕ)) (shelf : List Slot) (told t : List Note) (u : Stage) (tower : Option Air) (shelf' : List Slot) (s : Status) (bad : BadLine) → StopsAt plan (opening plan shelf) lines bad told u → tower ≡ Some u.world.tower → shelf' ≡ u.shelf → HasNames shelf shelf' → ClosedBy (status_of (fault_of bad)) (notes.Fault (fault_of bad)) told s t → PlayOutcomes plan ending lines shelf s t tower shelf'
+bad_from plan ending lines shelf told t u tower shelf' s bad stops left after names c =
     let k = schedule_is bad.number bad.error in
     let c' : ClosedBy (statuses.Schedule bad.number k.0 k.1) (notes.Fault (fault_of bad)) told s t = subst (λ (f : Fault). ClosedBy (status_of f) (notes.Fault (fault_of bad)) told s t) k.2 c in
-    bad_closed plan ending lines told t u tower s bad bad.number k.0 k.1 k.2 stops left c'
+    bad_closed plan ending lines shelf told t u tower shelf' s bad bad.number k.0 k.1 k.2 stops left after names c'
 
 -- the run was stopped
-pub stop_from : (plan : Plan) (ending : Option Fault) (lines : List (List ℕ)) (t : List Note) (u : World) (tower : Option Air) (stop : Stop) → LinesRan plan (opening plan) lines t u (Err stop) → tower ≡ Some u.tower → PlayOutcomes plan ending lines (status_stopped stop) t tower
-stop_from plan ending lines t u tower stops.Memory ran left = ran
-stop_from plan ending lines t u tower stops.WriteFault ran left = record { told = t; world = u; first = ran; closing = record { notes = []; trace = sym (append-nil t) }; left = left }
+pub stop_from : (plan : Plan) (ending : Option Fault) (lines : List (List ℕ)) (shelf : List Slot) (t : List Note) (u : Stage) (tower : Option Air) (shelf' : List Slot) (stop : Stop) → LinesRan plan (opening plan shelf) lines t u (Err stop) → tower ≡ Some u.world.tower → shelf' ≡ u.shelf → HasNames shelf shelf' → PlayOutcomes plan ending lines shelf (status_stopped stop) t tower shelf'
+stop_from plan ending lines shelf t u tower shelf' stops.Memory ran left after names = (ran, names)
+stop_from plan ending lines shelf t u tower shelf' stops.WriteFault ran left after names = record { told = t; reached = u; first = ran; closing = record { notes = []; trace = sym (append-nil t) }; left = left; after = after }
 
 -- a stack that is no TOML, or breaks a rule
 pub not_toml_from : (text : List ℕ) (s : Status) (t : List Note) → ReadsBuilt (Err stack.NotToml) text → RefusedBy faults.NotToml s t → StackOutcomes text s t
@@ -140,9 +141,9 @@ rule_from text statuses.Memory t n item reads (inr p) = inr (faults.StackRule n 
 rule_from text s t n item reads r = cc
 
 -- a stack that was accepted
-pub script_from : (ending : Option Fault) (s : Script) (status : Status) (t : List Note) (tower : Option Air) (plan : Plan) → ReadsBuilt (Ok plan) s.stack → IsSome tower → PlayOutcomes plan ending s.lines status t tower → ScriptOutcomes ending s status t tower
-script_from ending s status t (Some a) plan reads is played = (plan, reads, played)
-script_from ending s status t None plan reads is played = cc
+pub script_from : (ending : Option Fault) (s : Script) (shelf : List Slot) (status : Status) (t : List Note) (tower : Option Air) (shelf' : List Slot) (plan : Plan) → ReadsBuilt (Ok plan) s.stack → IsSome tower → PlayOutcomes plan ending s.lines shelf status t tower shelf' → ScriptOutcomes ending s shelf status t tower shelf'
+script_from ending s shelf status t (Some a) shelf' plan reads is played = (plan, reads, played)
+script_from ending s shelf status t None shelf' plan reads is played = cc
 
 -- a fault that is told is no write fault
 pub is_told : (fault : Fault) → ¬ (status_of fault ≡ statuses.WriteFault)
@@ -156,31 +157,31 @@ is_told faults.ReadFault h = cc
 pub front_same : (base took : Option (List ℕ)) (old new : List Note) → new ≡ old → Appends base took (text_of old) → IsFront base took (text_of new)
 front_same base took old new is p = rw is (wrote_all base took old p)
 
-ran : (left left' : Option (List ℕ)) (bytes used : List ℕ) (ending : Option Fault) (s : Status) (t : List Note) (tower : Option Air) → used ≡ take 16777216 bytes → Consumes left left' bytes → EndedBy ending left' bytes → (IsNothing s t tower ⊎ InputOutcomes ending (script_in (is_whole ending) used) s t tower) → RunOutcomes None left left' s t tower
-ran left left' bytes used ending s t tower is read ended (inl n) = inl n
-ran left left' bytes used ending s t tower is read ended (inr o) = inr (record { bytes = bytes; ending = ending; read = read; ended = ended; outcome = subst (λ (bs : List ℕ). InputOutcomes ending (script_in (is_whole ending) bs) s t tower) is o })
+ran : (left left' : Option (List ℕ)) (bytes used : List ℕ) (ending : Option Fault) (shelf : List Slot) (s : Status) (t : List Note) (tower : Option Air) (shelf' : List Slot) → used ≡ take 16777216 bytes → Consumes left left' bytes → EndedBy ending left' bytes → ((IsNothing s t tower × (shelf' ≡ shelf)) ⊎ InputOutcomes ending (script_in (is_whole ending) used) shelf s t tower shelf') → RunOutcomes None left left' shelf s t tower shelf'
+ran left left' bytes used ending shelf s t tower shelf' is read ended (inl n) = inl n
+ran left left' bytes used ending shelf s t tower shelf' is read ended (inr o) = inr (record { bytes = bytes; ending = ending; read = read; ended = ended; outcome = subst (λ (bs : List ℕ). InputOutcomes ending (script_in (is_whole ending) bs) shelf s t tower shelf') is o })
 
 -- the input was read to its end
-pub ran_whole : (words : Option ℕ) (left left' : Option (List ℕ)) (bytes : List ℕ) (s : Status) (t : List Note) (tower : Option Air) → words ≡ None → Consumes left left' bytes → IsAtEnd left' → length bytes ≤ 16777216 → (IsNothing s t tower ⊎ InputOutcomes None (script_in true bytes) s t tower) → RunOutcomes words left left' s t tower
-ran_whole words left left' bytes s t tower none read end small o = rw none (ran left left' bytes bytes None s t tower (sym (take_all 16777216 bytes small)) read (end, small) o)
+pub ran_whole : (words : Option ℕ) (left left' : Option (List ℕ)) (bytes : List ℕ) (shelf : List Slot) (s : Status) (t : List Note) (tower : Option Air) (shelf' : List Slot) → words ≡ None → Consumes left left' bytes → IsAtEnd left' → length bytes ≤ 16777216 → ((IsNothing s t tower × (shelf' ≡ shelf)) ⊎ InputOutcomes None (script_in true bytes) shelf s t tower shelf') → RunOutcomes words left left' shelf s t tower shelf'
+ran_whole words left left' bytes shelf s t tower shelf' none read end small o = rw none (ran left left' bytes bytes None shelf s t tower shelf' (sym (take_all 16777216 bytes small)) read (end, small) o)
 
 -- a read failed
-pub ran_fault : (words : Option ℕ) (left left' : Option (List ℕ)) (bytes : List ℕ) (s : Status) (t : List Note) (tower : Option Air) → words ≡ None → Consumes left left' bytes → length bytes ≤ 16777216 → (IsNothing s t tower ⊎ InputOutcomes (Some faults.ReadFault) (script_in false bytes) s t tower) → RunOutcomes words left left' s t tower
-ran_fault words left left' bytes s t tower none read small o = rw none (ran left left' bytes bytes (Some faults.ReadFault) s t tower (sym (take_all 16777216 bytes small)) read small o)
+pub ran_fault : (words : Option ℕ) (left left' : Option (List ℕ)) (bytes : List ℕ) (shelf : List Slot) (s : Status) (t : List Note) (tower : Option Air) (shelf' : List Slot) → words ≡ None → Consumes left left' bytes → length bytes ≤ 16777216 → ((IsNothing s t tower × (shelf' ≡ shelf)) ⊎ InputOutcomes (Some faults.ReadFault) (script_in false bytes) shelf s t tower shelf') → RunOutcomes words left left' shelf s t tower shelf'
+ran_fault words left left' bytes shelf s t tower shelf' none read small o = rw none (ran left left' bytes bytes (Some faults.ReadFault) shelf s t tower shelf' (sym (take_all 16777216 bytes small)) read small o)
 
 -- the input was too large
-pub ran_large : (words : Option ℕ) (left left' : Option (List ℕ)) (bytes used : List ℕ) (s : Status) (t : List Note) (tower : Option Air) → words ≡ None → Consumes left left' bytes → 16777216 < length bytes → used ≡ take 16777216 bytes → (IsNothing s t tower ⊎ InputOutcomes (Some faults.TooLarge) (script_in false used) s t tower) → RunOutcomes words left left' s t tower
-ran_large words left left' bytes used s t tower none read large is o = rw none (ran left left' bytes used (Some faults.TooLarge) s t tower is read large o)
+pub ran_large : (words : Option ℕ) (left left' : Option (List ℕ)) (bytes used : List ℕ) (shelf : List Slot) (s : Status) (t : List Note) (tower : Option Air) (shelf' : List Slot) → words ≡ None → Consumes left left' bytes → 16777216 < length bytes → used ≡ take 16777216 bytes → ((IsNothing s t tower × (shelf' ≡ shelf)) ⊎ InputOutcomes (Some faults.TooLarge) (script_in false used) shelf s t tower shelf') → RunOutcomes words left left' shelf s t tower shelf'
+ran_large words left left' bytes used shelf s t tower shelf' none read large is o = rw none (ran left left' bytes used (Some faults.TooLarge) shelf s t tower shelf' is read large o)
 
 -- a read fault is told only where a read failed
-no_read_fault : (script : Option Script) (t : List Note) (tower : Option Air) → InputOutcomes (Some faults.TooLarge) script statuses.ReadFault t tower → ⊥
-no_read_fault None t tower (left, r) = cc
-no_read_fault (Some s) t None o = o
-no_read_fault (Some s) t (Some a) (plan, reads, played) = cc
+no_read_fault : (script : Option Script) (shelf : List Slot) (t : List Note) (tower : Option Air) (shelf' : List Slot) → InputOutcomes (Some faults.TooLarge) script shelf statuses.ReadFault t tower shelf' → ⊥
+no_read_fault None shelf t tower shelf' (left, r, same) = cc
+no_read_fault (Some s) shelf t None shelf' o = o.0
+no_read_fault (Some s) shelf t (Some a) shelf' (plan, reads, played) = cc
 
-pub not_read : (script : Option Script) (s : Status) (t : List Note) (tower : Option Air) → (IsNothing s t tower ⊎ InputOutcomes (Some faults.TooLarge) script s t tower) → s ≡ statuses.ReadFault → ⊥
-not_read script s t tower (inl n) is = let e : statuses.Memory ≡ statuses.ReadFault = sym n.memory ∙ is in cc
-not_read script s t tower (inr o) is = no_read_fault script t tower (subst (λ (u : Status). InputOutcomes (Some faults.TooLarge) script u t tower) is o)
+pub not_read : (script : Option Script) (shelf : List Slot) (s : Status) (t : List Note) (tower : Option Air) (shelf' : List Slot) → ((IsNothing s t tower × (shelf' ≡ shelf)) ⊎ InputOutcomes (Some faults.TooLarge) script shelf s t tower shelf') → s ≡ statuses.ReadFault → ⊥
+not_read script shelf s t tower shelf' (inl n) is = let e : statuses.Memory ≡ statuses.ReadFault = sym n.0.memory ∙ is in cc
+not_read script shelf s t tower shelf' (inr o) is = no_read_fault script shelf t tower shelf' (subst (λ (u : Status). InputOutcomes (Some faults.TooLarge) script shelf u t tower shelf') is o)
 
 -- sound wires keep their flows
 pub kept_if : (tower : Option Air) → IfSome tower IsSound → IfSome tower (λ a. AreKept (seen_of a))

@@ -7,6 +7,7 @@ use Rattle.std.proofs.lemmas.Slice.Eq.{bytes_eq-Decides}
 use Rattle.rina_law.specs.declared.entry.Entry.{Entry}
 use Rattle.rina_iface.specs.declared.ends.End.{End}
 use Rattle.rina_iface.specs.Seen.{Fac}
+use Rattle.rina_policy.specs.Slots.{Slot}
 use Rattle.rina_report.specs.declared.note.Note.TheVariants as notes
 use Rattle.rina_report.specs.declared.said.Said.{Said}
 use Rattle.rina_report.specs.declared.said.Said.TheVariants as said
@@ -49,8 +50,8 @@ no_end plan n i e h = let no : slice_get [] i ≡ Some e = rw (opening_empty pla
 none_waits : (plan : Plan) (n at place : ℕ) → Waits (seen_of (air_of plan)) n at place → ⊥
 none_waits plan n at place w = let no : slice_get [] at ≡ Some place = rw (opening_empty plan n w.facility w.stands).waiting at w.is in cc
 
-keeps_opening : {X : Type 0} (V : End → List X) (plan : Plan) → IsSoundPlan plan → Keeps V (λ name. []) (opening plan)
-keeps_opening V plan p = record {
+keeps_opening : {X : Type 0} (V : End → List X) (plan : Plan) (shelf : List Slot) → IsSoundPlan plan → Keeps V (λ name. []) (opening plan shelf).world
+keeps_opening V plan shelf p = record {
   sound = sound_start plan p;
   named = record {
     names = λ j k l m hl hm same. cc;
@@ -105,10 +106,10 @@ sent_telling lines = record {
 }
 
 pub sent_is_told : SentIsTold
-sent_is_told plan lines ns w p runs k l is =
-    let kept = runs_keep lines sent_view (sent_by lines) (λ x. x ∷ []) (λ x. []) (λ name. []) plan 1 [] lines (opening plan) ns w (sent_telling lines) refl (omega arith) runs (keeps_opening sent_view plan p) in
+sent_is_told plan shelf lines ns s p runs k l is =
+    let kept = runs_keep lines sent_view (sent_by lines) (λ x. x ∷ []) (λ x. []) (λ name. []) plan 1 [] lines (opening plan shelf) ns s (sent_telling lines) refl (omega arith) runs (keeps_opening sent_view plan shelf p) in
     let h = kept.tells.stands k l is in
-    record { end = h.end; stands = end_stands (seen_of w.tower) h.place h.end l.port kept.sound.kept h.holds h.its; sent = h.view }
+    record { end = h.end; stands = end_stands (seen_of s.world.tower) h.place h.end l.port kept.sound.kept h.holds h.its; sent = h.view }
 
 -- ---- what was read
 
@@ -159,7 +160,7 @@ got_telling lines = record {
 }
 
 pub got_is_told : GotIsTold
-got_is_told plan lines ns w p runs k l is =
-    let kept = runs_keep lines got_view (got_by lines) (λ x. []) (λ x. sdu_of x ∷ []) (λ name. []) plan 1 [] lines (opening plan) ns w (got_telling lines) refl (omega arith) runs (keeps_opening got_view plan p) in
+got_is_told plan shelf lines ns s p runs k l is =
+    let kept = runs_keep lines got_view (got_by lines) (λ x. []) (λ x. sdu_of x ∷ []) (λ name. []) plan 1 [] lines (opening plan shelf) ns s (got_telling lines) refl (omega arith) runs (keeps_opening got_view plan shelf p) in
     let h = kept.tells.stands k l is in
-    record { end = h.end; stands = end_stands (seen_of w.tower) h.place h.end l.port kept.sound.kept h.holds h.its; passed = h.view }
+    record { end = h.end; stands = end_stands (seen_of s.world.tower) h.place h.end l.port kept.sound.kept h.holds h.its; passed = h.view }

@@ -34,7 +34,8 @@ use Rattle.rina_run.specs.Labels.{event_by}
 use Rattle.rina_run.specs.Look.{label_notes, noted, same_drawn, state_at, state_notes}
 use Rattle.rina_run.specs.Run.{LineDoes, Runs}
 use Rattle.rina_run.specs.Sites.{port_in, site_at}
-use Rattle.rina_run.specs.Step.{Acts, AtPort, CallsSend, Passes, Reading, Steps, Showing, Ticking, Ticks, end_notes, ends_in, entry_note, flow_note, got_note, journal_notes, read_notes, sent_note, wire_of}
+use Rattle.rina_policy.specs.Slots.{Slot, count_of}
+use Rattle.rina_run.specs.Step.{Acts, ActsOnWorld, AtPort, CallsSend, Passes, Reading, Steps, Showing, Stage, Ticking, Ticks, end_notes, ends_in, entry_note, flow_note, got_note, journal_notes, read_notes, retire_said, sent_note, stage, wire_of}
 use Rattle.rina_run.proofs.LabelCalls.{moves_pass, moves_send, refused_send}
 use Rattle.rina_run.proofs.LabelMoves.{moves_same}
 use Rattle.rina_run.proofs.LabelWords.{IsView, Keeps, keeps_accept, keeps_allocate, keeps_at, keeps_cut, keeps_free, keeps_hold, keeps_looked, keeps_lose, keeps_mend, keeps_none, keeps_register, keeps_repeat, keeps_same, keeps_state, keeps_tick, keeps_unregister}
@@ -95,9 +96,9 @@ quiet_state by number tick label (Some s) h name = ap (λ xs. xs ++ []) (h name 
 
 quiet_label : {X : Type 0} (by : List ℕ → Note → List X) (plan : Plan) (number : ℕ) (a : Air) (l : Label) → ((name : List ℕ) (s : StateNote) → by name (notes.Line number a.now (said.Label l.name s)) ≡ []) → IsQuiet by (label_notes plan number a l)
 unfolding label_notes
-quiet_label by plan number a l h = elim (same_drawn (state_at a l.port) l.shown) as (λ b. IsQuiet by (cond b [] (noted number a.now (option_map (said.Label l.name) (drawn_told plan (state_at a l.port)))))) [
+quiet_label by plan number a l h = elim (same_drawn (state_at a l.port) l.shown) as (λ b. IsQuiet by (cond b [] (noted number a.now (option_map (said.Label l.name) (drawn_told plan l.rank (state_at a l.port)))))) [
   | true ↦ λ name. refl
-  | false ↦ quiet_state by number a.now l.name (drawn_told plan (state_at a l.port)) h
+  | false ↦ quiet_state by number a.now l.name (drawn_told plan l.rank (state_at a l.port)) h
 ]
 
 quiet_states : {X : Type 0} (by : List ℕ → Note → List X) (plan : Plan) (number : ℕ) (a : Air) (ls : List Label) → ((name label : List ℕ) (s : StateNote) → by name (notes.Line number a.now (said.Label label s)) ≡ []) → IsQuiet by (state_notes plan number a ls)
@@ -111,7 +112,7 @@ same_labels w ls is = ap (λ (xs : List Label). record { tower = w.tower; labels
 
 sends_by : {X : Type 0} (lines : List (List ℕ)) (V : End → List X) (by : List ℕ → Note → List X) (sent got : Entry → List X) (told : List ℕ → List X) (plan : Plan) (number : ℕ) (label bytes : List ℕ) (w : World) (port : Port) (w' : World) (r : Result Num SendError)
     → IsTelling lines V by sent got → event_by lines number ≡ Some (events.Send label bytes) → port_in w.labels label ≡ Some port → SendsOn w.tower port bytes r w'.tower → Keeps V told w
-    → Keeps V (after by told (noted number w'.tower.now (answer_told (λ num. Some (said.Sent num)) (send_told plan) r))) (record { tower = w'.tower; labels = w.labels })
+    → Keeps V (after by told (noted number w'.tower.now (answer_told (λ num. Some (said.Sent num)) (send_told plan 0) r))) (record { tower = w'.tower; labels = w.labels })
 sends_by lines V by sent got told plan number label bytes w port w' (Ok num) t is found does k =
     let x : Entry = record { tick = w.tower.now; num = num; bytes = bytes } in
     let clock : w'.tower.now ≡ w.tower.now = ap (λ (a : Air). a.now) does.goes.air in
@@ -122,7 +123,7 @@ sends_by lines V by sent got told plan number label bytes w port w' (Ok num) t i
     k
 sends_by lines V by sent got told plan number label bytes w port w' (Err e) t is found does k =
     let mv = moves_same V (seen_of w.tower) (seen_of w'.tower) (refused_send w.tower port bytes e w'.tower does) in
-    after_quiet V by told (noted number w'.tower.now (option_map said.Refused (send_told plan e))) (record { tower = w'.tower; labels = w.labels }) (quiet_refusal by number w'.tower.now (send_told plan e) (λ name why. t.refused name number w'.tower.now why)) (keeps_none V told w w'.tower (sound_sends w.tower port bytes (Err e) w'.tower k.sound does) mv k)
+    after_quiet V by told (noted number w'.tower.now (option_map said.Refused (send_told plan 0 e))) (record { tower = w'.tower; labels = w.labels }) (quiet_refusal by number w'.tower.now (send_told plan 0 e) (λ name why. t.refused name number w'.tower.now why)) (keeps_none V told w w'.tower (sound_sends w.tower port bytes (Err e) w'.tower k.sound does) mv k)
 
 send_at : {X : Type 0} (lines : List (List ℕ)) (V : End → List X) (by : List ℕ → Note → List X) (sent got : Entry → List X) (told : List ℕ → List X) (plan : Plan) (number : ℕ) (label bytes : List ℕ) (w : World) (found : Option Port) (says : Option Said) (w' : World)
     → IsTelling lines V by sent got → event_by lines number ≡ Some (events.Send label bytes) → port_in w.labels label ≡ found → AtPort found (CallsSend plan bytes w) w says w' → Keeps V told w → Keeps V (after by told (noted number w'.tower.now says)) w'
@@ -131,7 +132,7 @@ send_at lines V by sent got told plan number label bytes w None says w' t is fou
     subst (λ s. Keeps V (after by told (noted number w'.tower.now s)) w') (sym c.said) (after_quiet V by told (noted number w'.tower.now (Some (said.Refused why))) w' (quiet_one by number w'.tower.now (said.Refused why) (λ name. t.refused name number w'.tower.now why)) (subst (Keeps V told) (sym c.world) k))
 send_at lines V by sent got told plan number label bytes w (Some port) says w' t is found c k =
     let kept = sends_by lines V by sent got told plan number label bytes w port w' c.result t is found c.does k in
-    let kept' = subst (Keeps V (after by told (noted number w'.tower.now (answer_told (λ num. Some (said.Sent num)) (send_told plan) c.result)))) (sym (same_labels w' w.labels c.labels)) kept in
+    let kept' = subst (Keeps V (after by told (noted number w'.tower.now (answer_told (λ num. Some (said.Sent num)) (send_told plan 0) c.result)))) (sym (same_labels w' w.labels c.labels)) kept in
     subst (λ s. Keeps V (after by told (noted number w'.tower.now s)) w') (sym c.told) kept'
 
 -- ---- read
@@ -194,73 +195,80 @@ quiet_map : {X : Type 0} (by : List ℕ → Note → List X) (number : ℕ) (not
 quiet_map by number note [] dumb name = refl
 quiet_map by number note (x ∷ xs) dumb name = quiet_append by (note x ∷ []) (map note xs) (λ n. ap (λ ys. ys ++ []) (dumb n x)) (quiet_map by number note xs dumb) name
 
-quiet_end : {X : Type 0} (by : List ℕ → Note → List X) (plan : Plan) (number tick : ℕ) (e : End) → IsDumb by number → IsQuiet by (end_notes plan number tick e)
-quiet_end by plan number tick e dumb =
-    quiet_append by (noted number tick (option_map said.Flow (flow_note plan e))) (map (sent_note number tick) e.sent ++ map (entry_note number tick) e.got) (quiet_dumb by number tick (option_map said.Flow (flow_note plan e)) dumb)
+quiet_end : {X : Type 0} (by : List ℕ → Note → List X) (plan : Plan) (rank number tick : ℕ) (e : End) → IsDumb by number → IsQuiet by (end_notes plan rank number tick e)
+quiet_end by plan rank number tick e dumb =
+    quiet_append by (noted number tick (option_map said.Flow (flow_note plan rank e))) (map (sent_note number tick) e.sent ++ map (entry_note number tick) e.got) (quiet_dumb by number tick (option_map said.Flow (flow_note plan rank e)) dumb)
     (quiet_append by (map (sent_note number tick) e.sent) (map (entry_note number tick) e.got) (quiet_map by number (sent_note number tick) e.sent (λ n x. dumb n tick (said.SentEntry x.tick x.num x.bytes))) (quiet_map by number (entry_note number tick) e.got (λ n x. dumb n tick (said.GotEntry x.tick x.num x.bytes))))
 
-quiet_ends : {X : Type 0} (by : List ℕ → Note → List X) (plan : Plan) (number tick : ℕ) (es : List End) → IsDumb by number → IsQuiet by (flat_map (end_notes plan number tick) es)
-quiet_ends by plan number tick [] dumb name = refl
-quiet_ends by plan number tick (e ∷ es) dumb name = quiet_append by (end_notes plan number tick e) (flat_map (end_notes plan number tick) es) (quiet_end by plan number tick e dumb) (quiet_ends by plan number tick es dumb) name
+quiet_ends : {X : Type 0} (by : List ℕ → Note → List X) (plan : Plan) (rank number tick : ℕ) (es : List End) → IsDumb by number → IsQuiet by (flat_map (end_notes plan rank number tick) es)
+quiet_ends by plan rank number tick [] dumb name = refl
+quiet_ends by plan rank number tick (e ∷ es) dumb name = quiet_append by (end_notes plan rank number tick e) (flat_map (end_notes plan rank number tick) es) (quiet_end by plan rank number tick e dumb) (quiet_ends by plan rank number tick es dumb) name
 
-quiet_journal : {X : Type 0} (by : List ℕ → Note → List X) (plan : Plan) (number tick : ℕ) (es : List End) → IsDumb by number → IsQuiet by (journal_notes plan number tick es)
-quiet_journal by plan number tick [] dumb = quiet_dumb by number tick (Some said.Nothing) dumb
-quiet_journal by plan number tick (e ∷ es) dumb = quiet_ends by plan number tick (e ∷ es) dumb
+quiet_journal : {X : Type 0} (by : List ℕ → Note → List X) (plan : Plan) (rank number tick : ℕ) (es : List End) → IsDumb by number → IsQuiet by (journal_notes plan rank number tick es)
+quiet_journal by plan rank number tick [] dumb = quiet_dumb by number tick (Some said.Nothing) dumb
+quiet_journal by plan rank number tick (e ∷ es) dumb = quiet_ends by plan rank number tick (e ∷ es) dumb
 
 showing_keep : {X : Type 0} (V : End → List X) (by : List ℕ → Note → List X) (told : List ℕ → List X) (plan : Plan) (number : ℕ) (found : Option ℕ) (w : World) (ns : List Note) (w' : World) → IsDumb by number → Showing plan number found w ns w' → Keeps V told w → Keeps V (after by told ns) w'
 showing_keep V by told plan number None w ns w' dumb d k = after_quiet V by told ns w' (λ name. ap (flat_map (by name)) d.0 ∙ quiet_dumb by number w.tower.now (Some (said.Refused (refusals.Unknown 1))) dumb name) (subst (Keeps V told) (sym d.1) k)
-showing_keep V by told plan number (Some n) w ns w' dumb d k = after_quiet V by told ns w' (λ name. ap (flat_map (by name)) d.notes ∙ quiet_journal by plan number w.tower.now (ends_in (seen_of w.tower) n) dumb name) (subst (Keeps V told) (sym d.world) k)
+showing_keep V by told plan number (Some n) w ns w' dumb d k = after_quiet V by told ns w' (λ name. ap (flat_map (by name)) d.notes ∙ quiet_journal by plan 0 number w.tower.now (ends_in (seen_of w.tower) n) dumb name) (subst (Keeps V told) (sym d.world) k)
 
-acts_keep : {X : Type 0} (lines : List (List ℕ)) (V : End → List X) (by : List ℕ → Note → List X) (sent got : Entry → List X) (told : List ℕ → List X) (plan : Plan) (number : ℕ) (event : Event) (w : World) (ns : List Note) (w' : World)
-    → IsTelling lines V by sent got → event_by lines number ≡ Some event → Acts plan number event w ns w' → Keeps V told w → Keeps V (after by told ns) w'
-acts_keep lines V by sent got told plan number (events.Register fac node app) w ns w' t is a k = quiet_says V by told number a.says ns w' (t.others number (events.Register fac node app) is tt) a.notes (keeps_register V told app w (site_at plan 1 fac node) a.says w' a.does k)
-acts_keep lines V by sent got told plan number (events.Alloc label fac node app to want) w ns w' t is a k = quiet_says V by told number a.says ns w' (t.others number (events.Alloc label fac node app to want) is tt) a.notes (keeps_allocate V told plan label fac node app to want w (site_at plan 2 fac node) a.says w' t.view a.does k)
-acts_keep lines V by sent got told plan number (events.Accept label fac node app) w ns w' t is a k = quiet_says V by told number a.says ns w' (t.others number (events.Accept label fac node app) is tt) a.notes (keeps_accept V told plan label app w (site_at plan 2 fac node) a.says w' a.does k)
-acts_keep lines V by sent got told plan number (events.Send label bytes) w ns w' t is a k = rw a.notes (send_at lines V by sent got told plan number label bytes w (port_in w.labels label) a.says w' t is refl a.does k)
-acts_keep lines V by sent got told plan number (events.Read label) w ns w' t is a k = read_at lines V by sent got told number label w (port_in w.labels label) ns w' t is refl a k
-acts_keep lines V by sent got told plan number (events.Tick count) w ns w' t is a k = ticking_keep lines V by sent got told plan number count w (nat_lt 10000000 (w.tower.now + count)) ns w' t (t.others number (events.Tick count) is tt) a k
-acts_keep lines V by sent got told plan number (events.Lose wire frame) w ns w' t is a k = quiet_says V by told number a.says ns w' (t.others number (events.Lose wire frame) is tt) a.notes (keeps_lose V told frame w (wire_of plan wire) a.says w' a.does k)
-acts_keep lines V by sent got told plan number (events.Repeat wire frame at) w ns w' t is a k = quiet_says V by told number a.says ns w' (t.others number (events.Repeat wire frame at) is tt) a.notes (keeps_repeat V told frame at w (wire_of plan wire) a.says w' a.does k)
-acts_keep lines V by sent got told plan number (events.Hold wire frame at) w ns w' t is a k = quiet_says V by told number a.says ns w' (t.others number (events.Hold wire frame at) is tt) a.notes (keeps_hold V told frame at w (wire_of plan wire) a.says w' a.does k)
-acts_keep lines V by sent got told plan number (events.Cut wire) w ns w' t is a k = quiet_says V by told number a.says ns w' (t.others number (events.Cut wire) is tt) a.notes (keeps_cut V told w (wire_of plan wire) a.says w' t.view a.does k)
-acts_keep lines V by sent got told plan number (events.Mend wire) w ns w' t is a k = quiet_says V by told number a.says ns w' (t.others number (events.Mend wire) is tt) a.notes (keeps_mend V told w (wire_of plan wire) a.says w' a.does k)
-acts_keep lines V by sent got told plan number (events.Unregister fac node app) w ns w' t is a k = quiet_says V by told number a.says ns w' (t.others number (events.Unregister fac node app) is tt) a.notes (keeps_unregister V told app w (site_at plan 1 fac node) a.says w' a.does k)
-acts_keep lines V by sent got told plan number (events.Free label) w ns w' t is a k = quiet_says V by told number a.says ns w' (t.others number (events.Free label) is tt) a.notes (keeps_free V told w (port_in w.labels label) a.says w' t.view a.does k)
-acts_keep lines V by sent got told plan number (events.State label) w ns w' t is a k = quiet_says V by told number a.says ns w' (t.others number (events.State label) is tt) a.notes (keeps_state V told plan w (port_in w.labels label) a.says w' a.does k)
-acts_keep lines V by sent got told plan number (events.Journal fac) w ns w' t is a k = showing_keep V by told plan number (wire_of plan fac) w ns w' (t.others number (events.Journal fac) is tt) a k
-acts_keep lines V by sent got told plan number event w ns w' t is a k = absurd a
+words_keep : {X : Type 0} (lines : List (List ℕ)) (V : End → List X) (by : List ℕ → Note → List X) (sent got : Entry → List X) (told : List ℕ → List X) (plan : Plan) (number : ℕ) (event : Event) (w : World) (ns : List Note) (w' : World)
+    → IsTelling lines V by sent got → event_by lines number ≡ Some event → ActsOnWorld plan number event w ns w' → Keeps V told w → Keeps V (after by told ns) w'
+words_keep lines V by sent got told plan number (events.Register fac node app) w ns w' t is a k = quiet_says V by told number a.says ns w' (t.others number (events.Register fac node app) is tt) a.notes (keeps_register V told app w (site_at plan 1 fac node) a.says w' a.does k)
+words_keep lines V by sent got told plan number (events.Alloc label fac node app to want) w ns w' t is a k = quiet_says V by told number a.says ns w' (t.others number (events.Alloc label fac node app to want) is tt) a.notes (keeps_allocate V told plan label fac node app to want w (site_at plan 2 fac node) a.says w' t.view a.does k)
+words_keep lines V by sent got told plan number (events.Accept label fac node app) w ns w' t is a k = quiet_says V by told number a.says ns w' (t.others number (events.Accept label fac node app) is tt) a.notes (keeps_accept V told plan label app w (site_at plan 2 fac node) a.says w' a.does k)
+words_keep lines V by sent got told plan number (events.Send label bytes) w ns w' t is a k = rw a.notes (send_at lines V by sent got told plan number label bytes w (port_in w.labels label) a.says w' t is refl a.does k)
+words_keep lines V by sent got told plan number (events.Read label) w ns w' t is a k = read_at lines V by sent got told number label w (port_in w.labels label) ns w' t is refl a k
+words_keep lines V by sent got told plan number (events.Tick count) w ns w' t is a k = ticking_keep lines V by sent got told plan number count w (nat_lt 10000000 (w.tower.now + count)) ns w' t (t.others number (events.Tick count) is tt) a k
+words_keep lines V by sent got told plan number (events.Lose wire frame) w ns w' t is a k = quiet_says V by told number a.says ns w' (t.others number (events.Lose wire frame) is tt) a.notes (keeps_lose V told frame w (wire_of plan wire) a.says w' a.does k)
+words_keep lines V by sent got told plan number (events.Repeat wire frame at) w ns w' t is a k = quiet_says V by told number a.says ns w' (t.others number (events.Repeat wire frame at) is tt) a.notes (keeps_repeat V told frame at w (wire_of plan wire) a.says w' a.does k)
+words_keep lines V by sent got told plan number (events.Hold wire frame at) w ns w' t is a k = quiet_says V by told number a.says ns w' (t.others number (events.Hold wire frame at) is tt) a.notes (keeps_hold V told frame at w (wire_of plan wire) a.says w' a.does k)
+words_keep lines V by sent got told plan number (events.Cut wire) w ns w' t is a k = quiet_says V by told number a.says ns w' (t.others number (events.Cut wire) is tt) a.notes (keeps_cut V told w (wire_of plan wire) a.says w' t.view a.does k)
+words_keep lines V by sent got told plan number (events.Mend wire) w ns w' t is a k = quiet_says V by told number a.says ns w' (t.others number (events.Mend wire) is tt) a.notes (keeps_mend V told w (wire_of plan wire) a.says w' a.does k)
+words_keep lines V by sent got told plan number (events.Unregister fac node app) w ns w' t is a k = quiet_says V by told number a.says ns w' (t.others number (events.Unregister fac node app) is tt) a.notes (keeps_unregister V told app w (site_at plan 1 fac node) a.says w' a.does k)
+words_keep lines V by sent got told plan number (events.Free label) w ns w' t is a k = quiet_says V by told number a.says ns w' (t.others number (events.Free label) is tt) a.notes (keeps_free V told w (port_in w.labels label) a.says w' t.view a.does k)
+words_keep lines V by sent got told plan number (events.State label) w ns w' t is a k = quiet_says V by told number a.says ns w' (t.others number (events.State label) is tt) a.notes (keeps_state V told plan w (port_in w.labels label) a.says w' a.does k)
+words_keep lines V by sent got told plan number (events.Journal fac) w ns w' t is a k = showing_keep V by told plan number (wire_of plan fac) w ns w' (t.others number (events.Journal fac) is tt) a k
+words_keep lines V by sent got told plan number event w ns w' t is a k = absurd a
+
+acts_keep : {X : Type 0} (lines : List (List ℕ)) (V : End → List X) (by : List ℕ → Note → List X) (sent got : Entry → List X) (told : List ℕ → List X) (plan : Plan) (number : ℕ) (event : Event) (s : Stage) (ns : List Note) (s' : Stage)
+    → IsTelling lines V by sent got → event_by lines number ≡ Some event → Acts plan number event s ns s' → Keeps V told s.world → Keeps V (after by told ns) s'.world
+acts_keep lines V by sent got told plan number (events.Retire policy) s ns s' t is a k =
+    let quiet = quiet_says V by told number (retire_said (count_of policy s.shelf)) ns s.world (t.others number (events.Retire policy) is tt) a.notes k in
+    subst (Keeps V (after by told ns)) (sym a.world) quiet
+acts_keep lines V by sent got told plan number event s ns s' t is a k = words_keep lines V by sent got told plan number event s.world ns s'.world t is a.0 k
 
 -- ---- lines
 
-steps_keep : {X : Type 0} (lines : List (List ℕ)) (V : End → List X) (by : List ℕ → Note → List X) (sent got : Entry → List X) (told : List ℕ → List X) (plan : Plan) (number : ℕ) (event : Event) (w : World) (ns : List Note) (w' : World)
-    → IsTelling lines V by sent got → event_by lines number ≡ Some event → Steps plan number event w ns w' → Keeps V told w → Keeps V (after by told ns) w'
-steps_keep lines V by sent got told plan number event w ns w' t is s k =
-    let kept = keeps_looked V (after by told s.answer) s.mid (acts_keep lines V by sent got told plan number event w s.answer s.mid t is s.acts k) in
-    let states = state_notes plan number s.mid.tower s.mid.labels in
-    let quiet : IsQuiet by states = quiet_states by plan number s.mid.tower s.mid.labels (λ n label st. t.state n number s.mid.tower.now label st) in
-    let same : (name : List ℕ) → after by told ns name ≡ after by told s.answer name = λ name. ap (λ ys. told name ++ ys) (ap (flat_map (by name)) s.notes ∙ flat_map-append (by name) s.answer states ∙ ap (λ ys. flat_map (by name) s.answer ++ ys) (quiet name) ∙ append-nil (flat_map (by name) s.answer)) in
-    subst (Keeps V (after by told ns)) (sym s.world) (keeps_same V (after by told s.answer) (after by told ns) _ same kept)
+steps_keep : {X : Type 0} (lines : List (List ℕ)) (V : End → List X) (by : List ℕ → Note → List X) (sent got : Entry → List X) (told : List ℕ → List X) (plan : Plan) (number : ℕ) (event : Event) (s : Stage) (ns : List Note) (s' : Stage)
+    → IsTelling lines V by sent got → event_by lines number ≡ Some event → Steps plan number event s ns s' → Keeps V told s.world → Keeps V (after by told ns) s'.world
+steps_keep lines V by sent got told plan number event s ns s' t is h k =
+    let kept = keeps_looked V (after by told h.answer) h.mid (acts_keep lines V by sent got told plan number event s h.answer (stage h.mid s'.shelf) t is h.acts k) in
+    let states = state_notes plan number h.mid.tower h.mid.labels in
+    let quiet : IsQuiet by states = quiet_states by plan number h.mid.tower h.mid.labels (λ n label st. t.state n number h.mid.tower.now label st) in
+    let same : (name : List ℕ) → after by told ns name ≡ after by told h.answer name = λ name. ap (λ ys. told name ++ ys) (ap (flat_map (by name)) h.notes ∙ flat_map-append (by name) h.answer states ∙ ap (λ ys. flat_map (by name) h.answer ++ ys) (quiet name) ∙ append-nil (flat_map (by name) h.answer)) in
+    subst (Keeps V (after by told ns)) (sym h.world) (keeps_same V (after by told h.answer) (after by told ns) _ same kept)
 
-line_keeps : {X : Type 0} (lines : List (List ℕ)) (V : End → List X) (by : List ℕ → Note → List X) (sent got : Entry → List X) (told : List ℕ → List X) (plan : Plan) (number : ℕ) (line : List ℕ) (read : Result (Option Event) LineError) (w : World) (ns : List Note) (w' : World)
-    → IsTelling lines V by sent got → slice_get lines (number - 1) ≡ Some line → event_at line ≡ read → LineDoes plan number read w ns w' → Keeps V told w → Keeps V (after by told ns) w'
-line_keeps lines V by sent got told plan number line (Ok None) w ns w' t stands is d k = after_quiet V by told ns w' (λ name. ap (flat_map (by name)) d.0) (subst (Keeps V told) (sym d.1) k)
-line_keeps lines V by sent got told plan number line (Ok (Some event)) w ns w' t stands is d k = steps_keep lines V by sent got told plan number event w ns w' t (rw (stands, is) refl) d k
-line_keeps lines V by sent got told plan number line (Err e) w ns w' t stands is d k = absurd d
+line_keeps : {X : Type 0} (lines : List (List ℕ)) (V : End → List X) (by : List ℕ → Note → List X) (sent got : Entry → List X) (told : List ℕ → List X) (plan : Plan) (number : ℕ) (line : List ℕ) (read : Result (Option Event) LineError) (s : Stage) (ns : List Note) (s' : Stage)
+    → IsTelling lines V by sent got → slice_get lines (number - 1) ≡ Some line → event_at line ≡ read → LineDoes plan number read s ns s' → Keeps V told s.world → Keeps V (after by told ns) s'.world
+line_keeps lines V by sent got told plan number line (Ok None) s ns s' t stands is d k = after_quiet V by told ns s'.world (λ name. ap (flat_map (by name)) d.0) (subst (Keeps V told) (sym (ap (λ (x : Stage). x.world) d.1)) k)
+line_keeps lines V by sent got told plan number line (Ok (Some event)) s ns s' t stands is d k = steps_keep lines V by sent got told plan number event s ns s' t (rw (stands, is) refl) d k
+line_keeps lines V by sent got told plan number line (Err e) s ns s' t stands is d k = absurd d
 
 -- what stands behind some lines
 middle : (xs ys : List (List ℕ)) (y : List ℕ) → slice_get (xs ++ y ∷ ys) (length xs) ≡ Some y
 middle [] ys y = refl
 middle (x ∷ xs) ys y = middle xs ys y
 
-pub runs_keep : {X : Type 0} (lines : List (List ℕ)) (V : End → List X) (by : List ℕ → Note → List X) (sent got : Entry → List X) (told : List ℕ → List X) (plan : Plan) (number : ℕ) (done ls : List (List ℕ)) (w : World) (ns : List Note) (w' : World)
-    → IsTelling lines V by sent got → lines ≡ done ++ ls → number ≡ length done + 1 → Runs plan number w ls ns w' → Keeps V told w → Keeps V (after by told ns) w'
-runs_keep lines V by sent got told plan number done [] w ns w' t all at r k = after_quiet V by told ns w' (λ name. ap (flat_map (by name)) r.0) (subst (Keeps V told) (sym r.1) k)
-runs_keep lines V by sent got told plan number done (l ∷ ls) w ns w' t all at (mid, first, rest, does, others, is) k =
+pub runs_keep : {X : Type 0} (lines : List (List ℕ)) (V : End → List X) (by : List ℕ → Note → List X) (sent got : Entry → List X) (told : List ℕ → List X) (plan : Plan) (number : ℕ) (done ls : List (List ℕ)) (s : Stage) (ns : List Note) (s' : Stage)
+    → IsTelling lines V by sent got → lines ≡ done ++ ls → number ≡ length done + 1 → Runs plan number s ls ns s' → Keeps V told s.world → Keeps V (after by told ns) s'.world
+runs_keep lines V by sent got told plan number done [] s ns s' t all at r k = after_quiet V by told ns s'.world (λ name. ap (flat_map (by name)) r.0) (subst (Keeps V told) (sym (ap (λ (x : Stage). x.world) r.1)) k)
+runs_keep lines V by sent got told plan number done (l ∷ ls) s ns s' t all at (mid, first, rest, does, others, is) k =
     let place : number - 1 ≡ length done = omega (arith, at) in
     let stands : slice_get lines (number - 1) ≡ Some l = rw (all, place) (middle done ls l) in
-    let one = line_keeps lines V by sent got told plan number l (event_at l) w first mid t stands refl does k in
+    let one = line_keeps lines V by sent got told plan number l (event_at l) s first mid t stands refl does k in
     let all' : lines ≡ (done ++ l ∷ []) ++ ls = all ∙ sym (append_assoc done (l ∷ []) ls) in
     let at' : number + 1 ≡ length (done ++ l ∷ []) + 1 = omega (arith, at, length-append done (l ∷ [])) in
-    let rest' = runs_keep lines V by sent got (after by told first) plan (number + 1) (done ++ l ∷ []) ls mid rest w' t all' at' others one in
+    let rest' = runs_keep lines V by sent got (after by told first) plan (number + 1) (done ++ l ∷ []) ls mid rest s' t all' at' others one in
     let same : (name : List ℕ) → after by told ns name ≡ after by (after by told first) rest name = λ name. ap (λ ys. told name ++ ys) (ap (flat_map (by name)) is ∙ flat_map-append (by name) first rest) ∙ sym (append_assoc (told name) (flat_map (by name) first) (flat_map (by name) rest)) in
-    keeps_same V (after by (after by told first) rest) (after by told ns) w' same rest'
+    keeps_same V (after by (after by told first) rest) (after by told ns) s'.world same rest'

@@ -2,6 +2,7 @@
 use Rattle.std.proofs.Common.{◌≡◌, ℕ, zero, suc, ◌+◌, List, [], ◌++◌, Result, Ok, Err, OnOk, OnErr, Option, refl, sym, ap, ◌∙◌, append_assoc, add-one}
 use Rattle.std.proofs.lemmas.List.{append-nil}
 use Rattle.rina_base.specs.declared.memory.Memory.{Memory}
+use Rattle.rina_policy.specs.Slots.{Slot}
 use Rattle.rina_report.specs.declared.note.Note.{Note}
 use Rattle.rina_report.specs.declared.said.Said.{Said}
 use Rattle.rina_schedule.specs.declared.event.Event.{Event}
@@ -9,7 +10,7 @@ use Rattle.rina_stack.specs.declared.plan.Plan.{Plan}
 use Rattle.rina_run.specs.declared.labels.Label.{Label}
 use Rattle.rina_run.specs.declared.world.World.{World}
 use Rattle.rina_run.specs.Look.{Leads, Extends, noted, state_notes, looked}
-use Rattle.rina_run.specs.Step.{Ticks, TicksOnce, Says, Acts, Steps}
+use Rattle.rina_run.specs.Step.{Ticks, TicksOnce, Says, Acts, Stage, Steps, stage}
 
 -- a trace that went on twice went on
 pub extends_on : (a b c : List Note) → Extends a b → Extends b c → Extends a c
@@ -53,10 +54,19 @@ pub told_extends : (line tick : ℕ) (says : Option Said) (a b : List Note) (r :
 told_extends line tick says a b (Ok done) same = tt
 told_extends line tick says a b (Err e) same = extends_same a b same
 
+-- what went on with notes of one kind, where the shelf stayed
+pub leads_beside : (P : List Note → Type 0) (shelf : List Slot) (a b : List Note) (r : Result (Unit {0}) Memory) → OnOk r (Leads P a b) → OnOk r (Leads (λ ns. P ns × (shelf ≡ shelf)) a b)
+leads_beside P shelf a b (Err e) p = tt
+leads_beside P shelf a b (Ok done) p = record { notes = p.notes; trace = p.trace; holds = (p.holds, refl) }
+
+-- a word that says one thing, after its note was added, where the shelf stayed
+pub told_beside : (Does : Option Said → World → Type 0) (shelf : List Slot) (line : ℕ) (says : Option Said) (w' : World) (a b : List Note) (tick : ℕ) (r : Result (Unit {0}) Memory) → Does says w' → tick ≡ w'.tower.now → OnOk r (b ≡ a ++ noted line tick says) → OnOk r (Leads (λ ns. Says line Does ns w' × (shelf ≡ shelf)) a b)
+told_beside Does shelf line says w' a b tick r does at told = leads_beside (λ ns. Says line Does ns w') shelf a b r (told_leads Does line says w' a b tick r does at told)
+
 -- a line: its word, and then the labels
-pub step_leads : (plan : Plan) (line : ℕ) (event : Event) (w mid w' : World) (a b c : List Note) (r : Result (Unit {0}) Memory) → Leads (λ ns. Acts plan line event w ns mid) a b → w' ≡ record { tower = mid.tower; labels = w'.labels } → OnOk r (c ≡ b ++ state_notes plan line mid.tower mid.labels) → OnOk r (w'.labels ≡ looked mid.tower mid.labels) → OnOk r (Leads (λ ns. Steps plan line event w ns w') a c)
-step_leads plan line event w mid w' a b c (Err e) p same told labels = tt
-step_leads plan line event w mid w' a b c (Ok done) p same told labels = record {
+pub step_leads : (plan : Plan) (line : ℕ) (event : Event) (s : Stage) (shelf : List Slot) (mid w' : World) (a b c : List Note) (r : Result (Unit {0}) Memory) → Leads (λ ns. Acts plan line event s ns (stage mid shelf)) a b → w' ≡ record { tower = mid.tower; labels = w'.labels } → OnOk r (c ≡ b ++ state_notes plan line mid.tower mid.labels) → OnOk r (w'.labels ≡ looked mid.tower mid.labels) → OnOk r (Leads (λ ns. Steps plan line event s ns (stage w' shelf)) a c)
+step_leads plan line event s shelf mid w' a b c (Err e) p same told labels = tt
+step_leads plan line event s shelf mid w' a b c (Ok done) p same told labels = record {
   notes = p.notes ++ state_notes plan line mid.tower mid.labels;
   trace = told ∙ ap (λ (ns : List Note). ns ++ state_notes plan line mid.tower mid.labels) p.trace ∙ append_assoc a p.notes (state_notes plan line mid.tower mid.labels);
   holds = record { mid = mid; answer = p.notes; acts = p.holds; world = same ∙ ap (λ (ls : List Label). let made : World = record { tower = mid.tower; labels = ls } in made) labels; notes = refl };

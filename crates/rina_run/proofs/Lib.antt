@@ -3,6 +3,8 @@ pub mod Texts
 pub mod Looking
 pub mod Reading
 pub mod Asking
+pub mod Retiring
+pub mod Naming
 pub mod Leading
 pub mod Playing
 pub mod Ending

@@ -18,7 +18,7 @@ unfolding label_notes
 told_before plan line a l ns same = rw (sym same) (sym (append-nil ns))
 
 -- the state is told now
-pub told_now : (plan : Plan) (line : ℕ) (a : Air) (l : Label) (says : Option Said) → false ≡ same_drawn (state_at a l.port) l.shown → says ≡ option_map (said.Label l.name) (drawn_told plan (state_at a l.port)) → noted line a.now says ≡ label_notes plan line a l
+pub told_now : (plan : Plan) (line : ℕ) (a : Air) (l : Label) (says : Option Said) → false ≡ same_drawn (state_at a l.port) l.shown → says ≡ option_map (said.Label l.name) (drawn_told plan l.rank (state_at a l.port)) → noted line a.now says ≡ label_notes plan line a l
 unfolding label_notes
 told_now plan line a l says differs is = rw (sym differs, is) refl
 

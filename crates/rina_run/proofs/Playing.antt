@@ -6,12 +6,12 @@ use Rattle.bstr.specs.Text.{without_terminator}
 use Rattle.rina_report.specs.declared.note.Note.{Note}
 use Rattle.rina_schedule.specs.declared.error.LineError.{LineError}
 use Rattle.rina_stack.specs.declared.plan.Plan.{Plan}
-use Rattle.rina_run.specs.declared.world.World.{World}
 use Rattle.rina_run.specs.declared.play.BadLine.{BadLine}
 use Rattle.rina_run.specs.declared.emit.Stop.{Stop}
 use Rattle.rina_run.specs.declared.emit.Stop.TheVariants as stops
 use Rattle.rina_run.specs.Built.{event_at}
 use Rattle.rina_run.specs.Look.{Leads, Extends}
+use Rattle.rina_run.specs.Step.{Stage}
 use Rattle.rina_run.specs.Run.{LineDoes, LineRan, LinesRan, IsBad, Runs, RanPart, StopsAt}
 
 -- the notes before, where the trace went on
@@ -19,7 +19,7 @@ pub front_is : (old new : List Note) → Extends old new → take (length old) n
 front_is old new p = rw p.trace (take-append_seam old p.notes)
 
 -- the line of this number follows those that were run
-runs_more : (plan : Plan) (number : ℕ) (w u v : World) (ls : List (List ℕ)) (l : List ℕ) (ns more : List Note) → Runs plan number w ls ns u → LineDoes plan (number + length ls) (event_at l) u more v → Runs plan number w (ls ++ l ∷ []) (ns ++ more) v
+runs_more : (plan : Plan) (number : ℕ) (w u v : Stage) (ls : List (List ℕ)) (l : List ℕ) (ns more : List Note) → Runs plan number w ls ns u → LineDoes plan (number + length ls) (event_at l) u more v → Runs plan number w (ls ++ l ∷ []) (ns ++ more) v
 runs_more plan number w u v [] l ns more p q =
     let here : LineDoes plan number (event_at l) u more v = rw (add-zero number) at q in
     let once : LineDoes plan number (event_at l) w more v = rw (sym p.1) here in
@@ -46,7 +46,7 @@ length-take-le : (i : ℕ) (ls : List (Bor (List ℕ))) → i < length ls → le
 length-take-le i ls lt = omega (arith, length-take i (texts_of ls), length-map ls (λ (l : Bor (List ℕ)). without_terminator l.now))
 
 -- one more line was run
-pub line_on : (plan : Plan) (w u v : World) (ls : List (Bor (List ℕ))) (i : ℕ) (d : Bor (List ℕ)) (number : ℕ) (line : List ℕ) (ns after : List Note) → i < length ls → number ≡ i → line ≡ without_terminator (get_or ls i d).now
+pub line_on : (plan : Plan) (w u v : Stage) (ls : List (Bor (List ℕ))) (i : ℕ) (d : Bor (List ℕ)) (number : ℕ) (line : List ℕ) (ns after : List Note) → i < length ls → number ≡ i → line ≡ without_terminator (get_or ls i d).now
     → Runs plan 1 w (take i (texts_of ls)) ns u → Leads (λ ms. LineDoes plan (number + 1) (event_at line) u ms v) ns after → Runs plan 1 w (take (i + 1) (texts_of ls)) after v
 line_on plan w u v ls i d number line ns after lt number_is line_is runs p =
     let f : Bor (List ℕ) → List ℕ = λ l. without_terminator l.now in
@@ -57,11 +57,11 @@ line_on plan w u v ls i d number line ns after lt number_is line_is runs p =
     rw (taken_more f ls i d lt, p.trace) (runs_more plan 1 w u v (take i (texts_of ls)) (f (get_or ls i d)) ns p.notes runs does')
 
 -- the lines so far, and some notes of the next one
-pub part_of : (plan : Plan) (w u : World) (ls : List (List ℕ)) (i : ℕ) (ns after : List Note) → Runs plan 1 w (take i ls) ns u → Extends ns after → RanPart plan w ls after
-part_of plan w u ls i ns after runs more = record { world = u; told = ns; first = record { count = i; runs = runs }; more = more }
+pub part_of : (plan : Plan) (w u : Stage) (ls : List (List ℕ)) (i : ℕ) (ns after : List Note) → Runs plan 1 w (take i ls) ns u → Extends ns after → RanPart plan w ls after
+part_of plan w u ls i ns after runs more = record { reached = u; told = ns; first = record { count = i; runs = runs }; more = more }
 
 -- the next line is outside the grammar
-pub stops_at : (plan : Plan) (w u v : World) (ls : List (Bor (List ℕ))) (i : ℕ) (d : Bor (List ℕ)) (number : ℕ) (line : List ℕ) (e : LineError) (ns after : List Note) → i < length ls → number ≡ i → line ≡ without_terminator (get_or ls i d).now
+pub stops_at : (plan : Plan) (w u v : Stage) (ls : List (Bor (List ℕ))) (i : ℕ) (d : Bor (List ℕ)) (number : ℕ) (line : List ℕ) (e : LineError) (ns after : List Note) → i < length ls → number ≡ i → line ≡ without_terminator (get_or ls i d).now
     → Runs plan 1 w (take i (texts_of ls)) ns u → IsBad line e u ns v after → StopsAt plan w (texts_of ls) (record { number = number + 1; error = e }) after v
 stops_at plan w u v ls i d number line e ns after lt number_is line_is runs bad =
     let f : Bor (List ℕ) → List ℕ = λ l. without_terminator l.now in
@@ -71,11 +71,11 @@ stops_at plan w u v ls i d number line e ns after lt number_is line_is runs bad 
       line = f (get_or ls i d);
       stands = line_got f ls i d lt;
       read = rw (sym line_is) bad.read;
-      runs = rw (bad.world, bad.trace) runs;
+      runs = rw (bad.same, bad.trace) runs;
     }
 
 -- the run stopped in the next line
-pub stopped_in : (plan : Plan) (w u v : World) (ls : List (Bor (List ℕ))) (i : ℕ) (d : Bor (List ℕ)) (number : ℕ) (line : List ℕ) (ns after : List Note) (e : Stop) (r : Result (Option BadLine) Stop) → i < length ls → number ≡ i → line ≡ without_terminator (get_or ls i d).now
+pub stopped_in : (plan : Plan) (w u v : Stage) (ls : List (Bor (List ℕ))) (i : ℕ) (d : Bor (List ℕ)) (number : ℕ) (line : List ℕ) (ns after : List Note) (e : Stop) (r : Result (Option BadLine) Stop) → i < length ls → number ≡ i → line ≡ without_terminator (get_or ls i d).now
     → Runs plan 1 w (take i (texts_of ls)) ns u → LineRan plan (number + 1) line u ns v after (Err e) → r ≡ Err e → LinesRan plan w (texts_of ls) after v r
 stopped_in plan w u v ls i d number line ns after stops.Memory r lt number_is line_is runs ran is = rw is (part_of plan w u (texts_of ls) i ns after runs ran)
 stopped_in plan w u v ls i d number line ns after stops.WriteFault r lt number_is line_is runs ran is = rw is (record { count = i + 1; runs = line_on plan w u v ls i d number line ns after lt number_is line_is runs ran })

@@ -10,7 +10,7 @@ use Rattle.rina_schedule.specs.Fields.{next_of}
 use Rattle.rina_schedule.specs.Line.{line_at}
 
 unfoldable pub is_built_word : List ℕ → Bool
-is_built_word word = bytes_eq word (codes "register") || bytes_eq word (codes "alloc") || bytes_eq word (codes "accept") || bytes_eq word (codes "send") || bytes_eq word (codes "read") || bytes_eq word (codes "tick") || bytes_eq word (codes "lose") || bytes_eq word (codes "repeat") || bytes_eq word (codes "hold") || bytes_eq word (codes "cut") || bytes_eq word (codes "mend") || bytes_eq word (codes "unregister") || bytes_eq word (codes "free") || bytes_eq word (codes "state") || bytes_eq word (codes "journal")
+is_built_word word = bytes_eq word (codes "register") || bytes_eq word (codes "alloc") || bytes_eq word (codes "accept") || bytes_eq word (codes "send") || bytes_eq word (codes "read") || bytes_eq word (codes "tick") || bytes_eq word (codes "lose") || bytes_eq word (codes "repeat") || bytes_eq word (codes "hold") || bytes_eq word (codes "cut") || bytes_eq word (codes "mend") || bytes_eq word (codes "unregister") || bytes_eq word (codes "free") || bytes_eq word (codes "state") || bytes_eq word (codes "journal") || bytes_eq word (codes "retire")
 
 abbrev pub is_built : Event → Bool
 is_built (events.Register fac node app) = true
@@ -28,6 +28,7 @@ is_built (events.Unregister fac node app) = true
 is_built (events.Free label) = true
 is_built (events.State label) = true
 is_built (events.Journal fac) = true
+is_built (events.Retire policy) = true
 is_built _ = false
 
 -- the line is blank or a comment, or begins with a word that is built

@@ -6,6 +6,7 @@ use Rattle.rina_iface.specs.declared.state.PortState.TheVariants.{Allocated}
 use Rattle.rina_law.specs.declared.entry.Entry.{Entry}
 use Rattle.rina_iface.specs.declared.ends.End.{End}
 use Rattle.rina_iface.specs.Journal.{At}
+use Rattle.rina_policy.specs.Slots.{Slot}
 use Rattle.rina_report.specs.declared.note.Note.{Note}
 use Rattle.rina_schedule.specs.declared.event.Event.{Event}
 use Rattle.rina_schedule.specs.declared.event.Event.TheVariants as events
@@ -19,7 +20,7 @@ use Rattle.rina_run.specs.Built.{event_at}
 use Rattle.rina_run.specs.Look.{same_num, state_at}
 use Rattle.rina_run.specs.Run.{Runs, opening}
 use Rattle.rina_run.specs.Sites.{port_in}
-use Rattle.rina_run.specs.Step.{wire_of}
+use Rattle.rina_run.specs.Step.{Stage, wire_of}
 
 -- the entries of this number, in their order
 abbrev pub of_number : Num → List Entry → List Entry
@@ -67,14 +68,14 @@ Touches plan fac frame w (events.Free label) = IsOpenPort (port_in w.labels labe
 Touches plan fac frame w event = ⊥
 
 -- no line touches the frame in the world to which the lines before it led
-abbrev pub IsSpared : Plan → ℕ → ℕ → List (List ℕ) → Type 0
-IsSpared plan fac frame lines =
-    (before : ℕ) (line : List ℕ) (event : Event) (ns : List Note) (w : World) → slice_get lines before ≡ Some line → event_at line ≡ Ok (Some event)
-    → Runs plan 1 (opening plan) (take before lines) ns w → Touches plan fac frame w event → ⊥
+abbrev pub IsSpared : Plan → List Slot → ℕ → ℕ → List (List ℕ) → Type 0
+IsSpared plan shelf fac frame lines =
+    (before : ℕ) (line : List ℕ) (event : Event) (ns : List Note) (s : Stage) → slice_get lines before ≡ Some line → event_at line ≡ Ok (Some event)
+    → Runs plan 1 (opening plan shelf) (take before lines) ns s → Touches plan fac frame s.world event → ⊥
 
 -- in every run, every frame that any end of any wire sent is carried, unless a line touched it
 abbrev pub FramesArriveOnce : Type 0
 FramesArriveOnce =
-    (plan : Plan) (lines : List (List ℕ)) (ns : List Note) (w : World) → IsPlan plan → Runs plan 1 (opening plan) lines ns w
-    → (fac : ℕ) (l : Line) → wire_at w.tower fac ≡ Some l → (i j : ℕ) (e : End) (frame : Entry) → At l.ends i e → slice_get e.sent j ≡ Some frame
-    → IsSpared plan fac frame.num.seq lines → IsCarried w.tower.now l i frame
+    (plan : Plan) (shelf : List Slot) (lines : List (List ℕ)) (ns : List Note) (s : Stage) → IsPlan plan → Runs plan 1 (opening plan shelf) lines ns s
+    → (fac : ℕ) (l : Line) → wire_at s.world.tower fac ≡ Some l → (i j : ℕ) (e : End) (frame : Entry) → At l.ends i e → slice_get e.sent j ≡ Some frame
+    → IsSpared plan shelf fac frame.num.seq lines → IsCarried s.world.tower.now l i frame

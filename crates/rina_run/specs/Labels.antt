@@ -7,6 +7,7 @@ use Rattle.rina_base.specs.declared.number.Port.{Port}
 use Rattle.rina_law.specs.declared.entry.Entry.{Entry}
 use Rattle.rina_iface.specs.declared.ends.End.{End}
 use Rattle.rina_iface.specs.Seen.{Seen, end_of}
+use Rattle.rina_policy.specs.Slots.{Slot}
 use Rattle.rina_report.specs.declared.note.Note.{Note}
 use Rattle.rina_report.specs.declared.note.Note.TheVariants as notes
 use Rattle.rina_report.specs.declared.said.Said.TheVariants as said
@@ -18,9 +19,9 @@ use Rattle.rina_stack.specs.Built.{ReadsBuilt}
 use Rattle.rina_wire.specs.Air.{seen_of}
 use Rattle.rina_wire.specs.Plan.{IsSoundPlan}
 use Rattle.rina_run.specs.declared.labels.Label.{Label}
-use Rattle.rina_run.specs.declared.world.World.{World}
 use Rattle.rina_run.specs.Built.{event_at}
 use Rattle.rina_run.specs.Run.{Runs, opening}
+use Rattle.rina_run.specs.Step.{Stage}
 
 -- the wires of each stack that is read are sound; of a wire from a node to itself both ends of a flow would have one port
 abbrev pub PlansAreSound : Type 0
@@ -63,8 +64,8 @@ pub record HasSent (s : Seen) (port : Port) (entries : List Entry) : Type 0 wher
 
 -- after a run the end of each label sent exactly what the notes tell for the label
 abbrev pub SentIsTold : Type 0
-SentIsTold = (plan : Plan) (lines : List (List ℕ)) (ns : List Note) (w : World) → IsSoundPlan plan → Runs plan 1 (opening plan) lines ns w
-    → (k : ℕ) (l : Label) → slice_get w.labels k ≡ Some l → HasSent (seen_of w.tower) l.port (sent_told lines ns l.name)
+SentIsTold = (plan : Plan) (shelf : List Slot) (lines : List (List ℕ)) (ns : List Note) (s : Stage) → IsSoundPlan plan → Runs plan 1 (opening plan shelf) lines ns s
+    → (k : ℕ) (l : Label) → slice_get s.world.labels k ≡ Some l → HasSent (seen_of s.world.tower) l.port (sent_told lines ns l.name)
 
 -- ---- what was read
 
@@ -94,5 +95,5 @@ pub record HasPassed (s : Seen) (port : Port) (sdus : List (ℕ × List ℕ)) : 
 
 -- after a run what was passed at the end of each label is exactly what the notes tell for the label
 abbrev pub GotIsTold : Type 0
-GotIsTold = (plan : Plan) (lines : List (List ℕ)) (ns : List Note) (w : World) → IsSoundPlan plan → Runs plan 1 (opening plan) lines ns w
-    → (k : ℕ) (l : Label) → slice_get w.labels k ≡ Some l → HasPassed (seen_of w.tower) l.port (got_told lines ns l.name)
+GotIsTold = (plan : Plan) (shelf : List Slot) (lines : List (List ℕ)) (ns : List Note) (s : Stage) → IsSoundPlan plan → Runs plan 1 (opening plan shelf) lines ns s
+    → (k : ℕ) (l : Label) → slice_get s.world.labels k ≡ Some l → HasPassed (seen_of s.world.tower) l.port (got_told lines ns l.name)

@@ -3,6 +3,7 @@ pub mod Script
 pub mod Built
 pub mod Sites
 pub mod Told
+pub mod StepTold
 pub mod Look
 pub mod Step
 pub mod Run

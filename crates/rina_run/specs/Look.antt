@@ -63,7 +63,7 @@ noted line tick (Some what) = notes.Line line tick what ∷ []
 
 -- what a label tells: its port's state, where that is not the one that was told last
 unfoldable pub label_notes : Plan → ℕ → Air → Label → List Note
-label_notes plan line a l = if same_drawn (state_at a l.port) l.shown then [] else noted line a.now (option_map (said.Label l.name) (drawn_told plan (state_at a l.port)))
+label_notes plan line a l = if same_drawn (state_at a l.port) l.shown then [] else noted line a.now (option_map (said.Label l.name) (drawn_told plan l.rank (state_at a l.port)))
 
 -- what all labels tell, in their order
 abbrev pub state_notes : Plan → ℕ → Air → List Label → List Note

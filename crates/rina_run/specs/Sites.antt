@@ -1,12 +1,14 @@
 -- What the names in a line stand for.
-use Rattle.std.specs.Prelude.{ℕ, ◌+◌, List, find, Option, Some, None, Result, Ok, Err, option_map}
+use Rattle.std.specs.Prelude.{ℕ, ◌+◌, ◌==◌, Bool, List, filter, find, length, map, position, slice_get, take, Option, Some, None, Result, Ok, Err, option_map}
 use Rattle.std.specs.Str.{bytes_eq}
 use Rattle.rina_base.specs.declared.number.Port.{Port}
 use Rattle.rina_base.specs.Traverse.{◌>>=◌}
+use Rattle.rina_plan.specs.declared.dif.DifPlan.{DifPlan}
 use Rattle.rina_stack.specs.declared.plan.Plan.{Plan}
 use Rattle.rina_stack.specs.Names.{place_in}
 use Rattle.rina_stack.specs.Plan.{names_of}
 use Rattle.rina_run.specs.declared.labels.Label.{Label}
+use Rattle.rina_run.specs.declared.fac.RankedFac.{RankedFac}
 use Rattle.rina_run.specs.declared.site.Site.{Site}
 
 -- what stands in a field; the field is unknown where there is nothing of that name
@@ -21,6 +23,34 @@ site_at plan field fac node = do
   f ← known field (place_in (names_of plan.wires) fac)
   n ← known (field + 1) (place_in plan.nodes node)
   Ok (record { fac = f; node = n })
+
+-- a DIF has this rank
+abbrev pub has_rank : ℕ → DifPlan → Bool
+has_rank rank d = d.rank == rank
+
+-- the names of the DIFs of a rank, in stack order
+abbrev pub names_at : ℕ → List DifPlan → List (List ℕ)
+names_at rank difs = map (λ (d : DifPlan). d.name) (filter (has_rank rank) difs)
+
+-- the facility that is the DIF at a place of the stack: its rank, and its number among the DIFs of that rank
+abbrev pub fac_at : List DifPlan → Option ℕ → Option RankedFac
+fac_at difs None = None
+fac_at difs (Some i) = option_map (λ (d : DifPlan). record { rank = d.rank; fac = length (filter (has_rank d.rank) (take i difs)) }) (slice_get difs i)
+
+-- the DIF of that name
+abbrev pub dif_named : List DifPlan → List ℕ → Option RankedFac
+dif_named difs name = fac_at difs (position (λ (d : DifPlan). bytes_eq d.name name) difs)
+
+abbrev pub wire_fac : ℕ → RankedFac
+wire_fac n = record { rank = 0; fac = n }
+
+abbrev pub or_dif : Option ℕ → Option RankedFac → Option RankedFac
+or_dif (Some n) dif = Some (wire_fac n)
+or_dif None dif = dif
+
+-- the facility of that name: a wire, or a DIF
+abbrev pub fac_named : Plan → List ℕ → Option RankedFac
+fac_named plan name = or_dif (place_in (names_of plan.wires) name) (dif_named plan.difs name)
 
 -- the label of that name
 abbrev pub label_in : List Label → List ℕ → Option Label

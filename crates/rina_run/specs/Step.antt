@@ -1,4 +1,4 @@
--- What each line of a schedule does to the tower and the labels, and which notes it gives.
+-- What each line of a schedule does to the tower, the labels and the shelf, and which notes it gives.
 use Rattle.std.specs.Prelude.{◌≡◌, ℕ, ◌+◌, zero, suc, nat_lt, Bool, true, false, List, [], ◌∷◌, ◌++◌, map, slice_get, Option, Some, None, Result, Ok, Err, option_and_then, option_map}
 use Rattle.std.specs.List.{flat_map}
 use Rattle.rina_base.specs.declared.number.Num.{Num}
@@ -13,6 +13,8 @@ use Rattle.rina_iface.specs.declared.error.AllocateError.{AllocateError}
 use Rattle.rina_iface.specs.declared.error.SendError.{SendError}
 use Rattle.rina_iface.specs.declared.ends.End.{End}
 use Rattle.rina_iface.specs.Seen.{Fac, Seen, unpassed}
+use Rattle.rina_policy.specs.declared.count.Count.{Count}
+use Rattle.rina_policy.specs.Slots.{Slot, count_of, retired}
 use Rattle.rina_report.specs.declared.note.Note.{Note}
 use Rattle.rina_report.specs.declared.note.Note.TheVariants as notes
 use Rattle.rina_report.specs.declared.refusal.Refusal.{Refusal}
@@ -94,7 +96,7 @@ Unregistering plan fac node app w says w' = AtSite (site_at plan 1 fac node) (Ca
 
 -- the state of a port, as it is said
 abbrev pub port_said : Plan → Air → Port → Option Said
-port_said plan a port = option_map said.Port (drawn_told plan (state_at a port))
+port_said plan a port = option_map said.Port (drawn_told plan 0 (state_at a port))
 
 -- a label of a port, whose state has been told
 abbrev pub label_of : List ℕ → Air → Port → Label
@@ -144,7 +146,7 @@ pub record CallsSend (plan : Plan) (bytes : List ℕ) (w : World) (port : Port) 
   pub result : Result Num SendError
   pub does : SendsOn w.tower port bytes result w'.tower
   pub labels : w'.labels ≡ w.labels
-  pub told : says ≡ answer_told (λ num. Some (said.Sent num)) (send_told plan) result
+  pub told : says ≡ answer_told (λ num. Some (said.Sent num)) (send_told plan 0) result
 
 abbrev pub Sending : Plan → List ℕ → List ℕ → World → Option Said → World → Type 0
 Sending plan label bytes w says w' = AtPort (port_in w.labels label) (CallsSend plan bytes w) w says w'
@@ -257,9 +259,9 @@ Mending plan wire w says w' = AtWire (wire_of plan wire) (λ n. CallsWire (λ a 
 
 -- ---- journal FAC
 
--- one end, as it is shown; nothing where the stack does not name its port
-abbrev pub flow_note : Plan → End → Option FlowNote
-flow_note plan e = option_and_then (λ port. option_map (λ state. record { flow = e.flow; role = e.role; port = port; app = e.app; peer = e.peer; cube = e.cube; taken = e.taken; state = state }) (state_told plan e.state)) (port_told plan e.port)
+-- one end of a facility of a rank, as it is shown; nothing where the stack does not name its port
+abbrev pub flow_note : Plan → ℕ → End → Option FlowNote
+flow_note plan rank e = option_and_then (λ port. option_map (λ state. record { flow = e.flow; role = e.role; port = port; app = e.app; peer = e.peer; cube = e.cube; taken = e.taken; state = state }) (state_told plan rank e.state)) (port_told plan rank e.port)
 
 abbrev pub sent_note : ℕ → ℕ → Entry → Note
 sent_note line tick x = notes.Line line tick (said.SentEntry x.tick x.num x.bytes)
@@ -268,13 +270,13 @@ abbrev pub entry_note : ℕ → ℕ → Entry → Note
 entry_note line tick x = notes.Line line tick (said.GotEntry x.tick x.num x.bytes)
 
 -- an end, then what it sent, and then what it got
-abbrev pub end_notes : Plan → ℕ → ℕ → End → List Note
-end_notes plan line tick e = noted line tick (option_map said.Flow (flow_note plan e)) ++ (map (sent_note line tick) e.sent ++ map (entry_note line tick) e.got)
+abbrev pub end_notes : Plan → ℕ → ℕ → ℕ → End → List Note
+end_notes plan rank line tick e = noted line tick (option_map said.Flow (flow_note plan rank e)) ++ (map (sent_note line tick) e.sent ++ map (entry_note line tick) e.got)
 
--- all ends of a facility, in the order in which they were made
-abbrev pub journal_notes : Plan → ℕ → ℕ → List End → List Note
-journal_notes plan line tick [] = noted line tick (Some said.Nothing)
-journal_notes plan line tick (e ∷ es) = flat_map (end_notes plan line tick) (e ∷ es)
+-- all ends of a facility of a rank, in the order in which they were made
+abbrev pub journal_notes : Plan → ℕ → ℕ → ℕ → List End → List Note
+journal_notes plan rank line tick [] = noted line tick (Some said.Nothing)
+journal_notes plan rank line tick (e ∷ es) = flat_map (end_notes plan rank line tick) (e ∷ es)
 
 abbrev pub or_none : Option (List End) → List End
 or_none None = []
@@ -287,7 +289,7 @@ ends_in s n = or_none (option_map (λ (f : Fac). f.ends) (slice_get s.facs n))
 -- the journal was shown, and nothing changed
 pub record ShowsJournal (plan : Plan) (line : ℕ) (w : World) (n : ℕ) (ns : List Note) (w' : World) : Type 0 where
   pub world : w' ≡ w
-  pub notes : ns ≡ journal_notes plan line w.tower.now (ends_in (seen_of w.tower) n)
+  pub notes : ns ≡ journal_notes plan 0 line w.tower.now (ends_in (seen_of w.tower) n)
 
 abbrev pub Showing : Plan → ℕ → Option ℕ → World → List Note → World → Type 0
 Showing plan line None w ns w' = (ns ≡ noted line w.tower.now (Some (said.Refused (refusals.Unknown 1)))) × (w' ≡ w)
@@ -301,29 +303,68 @@ pub record Says (line : ℕ) (Does : Option Said → World → Type 0) (ns : Lis
   pub does : Does says w'
   pub notes : ns ≡ noted line w'.tower.now says
 
--- what a word does and answers; words that are not built do nothing lawful
-abbrev pub Acts : Plan → ℕ → Event → World → List Note → World → Type 0
-Acts plan line (events.Register fac node app) w ns w' = Says line (Registering plan fac node app w) ns w'
-Acts plan line (events.Alloc label fac node app to want) w ns w' = Says line (Allocating plan label fac node app to want w) ns w'
-Acts plan line (events.Accept label fac node app) w ns w' = Says line (Accepting plan label fac node app w) ns w'
-Acts plan line (events.Send label bytes) w ns w' = Says line (Sending plan label bytes w) ns w'
-Acts plan line (events.Read label) w ns w' = Reading line (port_in w.labels label) w ns w'
-Acts plan line (events.Tick count) w ns w' = Ticking (nat_lt 10000000 (w.tower.now + count)) plan line count w ns w'
-Acts plan line (events.Lose wire frame) w ns w' = Says line (Losing plan wire frame w) ns w'
-Acts plan line (events.Repeat wire frame at) w ns w' = Says line (Repeating plan wire frame at w) ns w'
-Acts plan line (events.Hold wire frame at) w ns w' = Says line (Holding plan wire frame at w) ns w'
-Acts plan line (events.Cut wire) w ns w' = Says line (Cutting plan wire w) ns w'
-Acts plan line (events.Mend wire) w ns w' = Says line (Mending plan wire w) ns w'
-Acts plan line (events.Unregister fac node app) w ns w' = Says line (Unregistering plan fac node app w) ns w'
-Acts plan line (events.Free label) w ns w' = Says line (Freeing label w) ns w'
-Acts plan line (events.State label) w ns w' = Says line (Stating plan label w) ns w'
-Acts plan line (events.Journal fac) w ns w' = Showing plan line (wire_of plan fac) w ns w'
-Acts plan line event w ns w' = ⊥
+-- what a word does to the world, and what it answers; words that are not built do nothing lawful
+abbrev pub ActsOnWorld : Plan → ℕ → Event → World → List Note → World → Type 0
+ActsOnWorld plan line (events.Register fac node app) w ns w' = Says line (Registering plan fac node app w) ns w'
+ActsOnWorld plan line (events.Alloc label fac node app to want) w ns w' = Says line (Allocating plan label fac node app to want w) ns w'
+ActsOnWorld plan line (events.Accept label fac node app) w ns w' = Says line (Accepting plan label fac node app w) ns w'
+ActsOnWorld plan line (events.Send label bytes) w ns w' = Says line (Sending plan label bytes w) ns w'
+ActsOnWorld plan line (events.Read label) w ns w' = Reading line (port_in w.labels label) w ns w'
+ActsOnWorld plan line (events.Tick count) w ns w' = Ticking (nat_lt 10000000 (w.tower.now + count)) plan line count w ns w'
+ActsOnWorld plan line (events.Lose wire frame) w ns w' = Says line (Losing plan wire frame w) ns w'
+ActsOnWorld plan line (events.Repeat wire frame at) w ns w' = Says line (Repeating plan wire frame at w) ns w'
+ActsOnWorld plan line (events.Hold wire frame at) w ns w' = Says line (Holding plan wire frame at w) ns w'
+ActsOnWorld plan line (events.Cut wire) w ns w' = Says line (Cutting plan wire w) ns w'
+ActsOnWorld plan line (events.Mend wire) w ns w' = Says line (Mending plan wire w) ns w'
+ActsOnWorld plan line (events.Unregister fac node app) w ns w' = Says line (Unregistering plan fac node app w) ns w'
+ActsOnWorld plan line (events.Free label) w ns w' = Says line (Freeing label w) ns w'
+ActsOnWorld plan line (events.State label) w ns w' = Says line (Stating plan label w) ns w'
+ActsOnWorld plan line (events.Journal fac) w ns w' = Showing plan line (wire_of plan fac) w ns w'
+ActsOnWorld plan line event w ns w' = ⊥
+
+-- ---- the shelf beside the world
+
+-- what a run consists of: the world, and what a contract sees of the shelf
+pub record Stage : Type 0 where
+  pub world : World
+  pub shelf : List Slot
+
+abbrev pub stage : World → List Slot → Stage
+stage w shelf = record { world = w; shelf = shelf }
+
+-- two shelves have the same names in the same order
+abbrev pub HasNames : List Slot → List Slot → Type 0
+HasNames shelf shelf' = map (λ (x : Slot). x.name) shelf' ≡ map (λ (x : Slot). x.name) shelf
+
+-- ---- retire POLICY
+
+-- what is said where this is the count of the policy, if it is live
+abbrev pub retire_said : Option Count → Option Said
+retire_said None = Some (said.Refused refusals.NoPolicy)
+retire_said (Some count) = Some said.Done
+
+-- the shelf without the policy of that name, if it is live
+abbrev pub retired_if : Option Count → List ℕ → List Slot → List Slot
+retired_if None name shelf = shelf
+retired_if (Some count) name shelf = retired name shelf
+
+-- the policy of that name is retired where it is live, and the world is as it was
+pub record Retires (line : ℕ) (name : List ℕ) (s : Stage) (ns : List Note) (s' : Stage) : Type 0 where
+  pub world : s'.world ≡ s.world
+  pub shelf : s'.shelf ≡ retired_if (count_of name s.shelf) name s.shelf
+  pub notes : ns ≡ noted line s.world.tower.now (retire_said (count_of name s.shelf))
+
+-- ---- lines
+
+-- what a word does and answers; no word but `retire` changes the shelf
+abbrev pub Acts : Plan → ℕ → Event → Stage → List Note → Stage → Type 0
+Acts plan line (events.Retire policy) s ns s' = Retires line policy s ns s'
+Acts plan line event s ns s' = ActsOnWorld plan line event s.world ns s'.world × (s'.shelf ≡ s.shelf)
 
 -- a line: what its word does and answers, and then the states of the labels that changed
-pub record Steps (plan : Plan) (line : ℕ) (event : Event) (w : World) (ns : List Note) (w' : World) : Type 0 where
+pub record Steps (plan : Plan) (line : ℕ) (event : Event) (s : Stage) (ns : List Note) (s' : Stage) : Type 0 where
   pub mid : World
   pub answer : List Note
-  pub acts : Acts plan line event w answer mid
-  pub world : w' ≡ record { tower = mid.tower; labels = looked mid.tower mid.labels }
+  pub acts : Acts plan line event s answer (stage mid s'.shelf)
+  pub world : s'.world ≡ record { tower = mid.tower; labels = looked mid.tower mid.labels }
   pub notes : ns ≡ answer ++ state_notes plan line mid.tower mid.labels

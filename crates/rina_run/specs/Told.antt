@@ -1,5 +1,5 @@
 -- How a run tells ports, states and refusals: with the names of the stack in place of numbers.
-use Rattle.std.specs.Prelude.{ℕ, List, slice_get, Option, Some, None, Result, Ok, Err, option_and_then, option_map}
+use Rattle.std.specs.Prelude.{ℕ, ◌-◌, ◌==◌, if◌then◌else◌, List, slice_get, Option, Some, None, Result, Ok, Err, option_and_then, option_map}
 use Rattle.rina_base.specs.declared.number.Port.{Port}
 use Rattle.rina_iface.specs.declared.state.PortState.{PortState}
 use Rattle.rina_iface.specs.declared.state.PortState.TheVariants as states
@@ -15,6 +15,7 @@ use Rattle.rina_iface.specs.declared.error.AllocateError.{AllocateError}
 use Rattle.rina_iface.specs.declared.error.AllocateError.TheVariants as allocate
 use Rattle.rina_iface.specs.declared.error.SendError.{SendError}
 use Rattle.rina_iface.specs.declared.error.SendError.TheVariants as send
+use Rattle.rina_policy.specs.declared.shelf.NoPolicy.{NoPolicy}
 use Rattle.rina_wire.specs.declared.event.WireError.{WireError}
 use Rattle.rina_wire.specs.declared.event.WireError.TheVariants as wires
 use Rattle.rina_report.specs.declared.refusal.Refusal.{Refusal}
@@ -28,30 +29,36 @@ use Rattle.rina_report.specs.declared.state.StateNote.{StateNote}
 use Rattle.rina_report.specs.declared.state.StateNote.TheVariants as notes
 use Rattle.rina_stack.specs.declared.plan.Plan.{Plan}
 use Rattle.rina_stack.specs.Plan.{names_of}
+use Rattle.rina_run.specs.Sites.{names_at}
 
 abbrev pub port_note : ℕ → List ℕ → List ℕ → PortNote
 port_note n fac node = record { fac = fac; node = node; n = n }
 
--- a port with the names of its facility and its node; nothing where the stack names none such
-abbrev pub port_told : Plan → Port → Option PortNote
-port_told plan port = option_and_then (λ fac. option_map (port_note port.n fac) (slice_get plan.nodes port.node)) (slice_get (names_of plan.wires) port.fac)
+-- the names of the facilities of a rank, by their numbers
+unfoldable pub facs_of : Plan → ℕ → List (List ℕ)
+facs_of plan rank = if rank == 0 then names_of plan.wires else names_at rank plan.difs
 
-abbrev pub fail_told : Plan → Fail → Option FailNote
-fail_told plan (fails.GaveUp num first at) = Some (fail_notes.GaveUp num first at)
-fail_told plan (fails.Below port) = option_map fail_notes.Below (port_told plan port)
-fail_told plan (fails.Cut at) = Some (fail_notes.Cut at)
+-- a port of a rank with the names of its facility and its node; nothing where the stack names none such
+abbrev pub port_told : Plan → ℕ → Port → Option PortNote
+port_told plan rank port = option_and_then (λ fac. option_map (port_note port.n fac) (slice_get plan.nodes port.node)) (slice_get (facs_of plan rank) port.fac)
 
--- the state of a port
-abbrev pub state_told : Plan → PortState → Option StateNote
-state_told plan states.Pending = Some notes.Pending
-state_told plan states.Allocated = Some notes.Allocated
-state_told plan (states.Refused why) = Some (notes.Refused why)
-state_told plan (states.Failed fail) = option_map notes.Failed (fail_told plan fail)
-state_told plan states.Closed = Some notes.Closed
+-- why a flow of a rank failed; a port below it is of the rank below
+abbrev pub fail_told : Plan → ℕ → Fail → Option FailNote
+fail_told plan rank (fails.GaveUp num first at) = Some (fail_notes.GaveUp num first at)
+fail_told plan rank (fails.Below port) = option_map fail_notes.Below (port_told plan (rank - 1) port)
+fail_told plan rank (fails.Cut at) = Some (fail_notes.Cut at)
 
--- the state of a port that was drawn
-abbrev pub drawn_told : Plan → Option PortState → Option StateNote
-drawn_told plan state = option_and_then (state_told plan) state
+-- the state of a port of a rank
+abbrev pub state_told : Plan → ℕ → PortState → Option StateNote
+state_told plan rank states.Pending = Some notes.Pending
+state_told plan rank states.Allocated = Some notes.Allocated
+state_told plan rank (states.Refused why) = Some (notes.Refused why)
+state_told plan rank (states.Failed fail) = option_map notes.Failed (fail_told plan rank fail)
+state_told plan rank states.Closed = Some notes.Closed
+
+-- the state of a port of a rank that was drawn
+abbrev pub drawn_told : Plan → ℕ → Option PortState → Option StateNote
+drawn_told plan rank state = option_and_then (state_told plan rank) state
 
 -- what `register` refused; want of memory is not told
 abbrev pub register_told : RegisterError → Option Refusal
@@ -86,16 +93,16 @@ allocate_told fac node (allocate.Busy port) = Some (refusals.Busy (port_note por
 allocate_told fac node (allocate.CountSpent need left) = Some (refusals.CountSpent need left)
 allocate_told fac node allocate.Unbuilt = Some refusals.Unbuilt
 
--- what `send` refused
-abbrev pub send_told : Plan → SendError → Option Refusal
-send_told plan send.Memory = None
-send_told plan (send.NotAllocated state) = Some (refusals.NotAllocated (drawn_told plan state))
-send_told plan (send.Failed fail) = option_map refusals.Failed (fail_told plan fail)
-send_told plan (send.TooLong len max) = Some (refusals.TooLong len max)
-send_told plan (send.WindowShut need room) = Some (refusals.WindowShut need room)
-send_told plan (send.NoRoute dst) = Some (refusals.NoRoute dst)
-send_told plan (send.QueueFull need room) = Some (refusals.QueueFull need room)
-send_told plan (send.NumbersSpent until) = Some (refusals.NumbersSpent until)
+-- what `send` refused at a rank
+abbrev pub send_told : Plan → ℕ → SendError → Option Refusal
+send_told plan rank send.Memory = None
+send_told plan rank (send.NotAllocated state) = Some (refusals.NotAllocated (drawn_told plan rank state))
+send_told plan rank (send.Failed fail) = option_map refusals.Failed (fail_told plan rank fail)
+send_told plan rank (send.TooLong len max) = Some (refusals.TooLong len max)
+send_told plan rank (send.WindowShut need room) = Some (refusals.WindowShut need room)
+send_told plan rank (send.NoRoute dst) = Some (refusals.NoRoute dst)
+send_told plan rank (send.QueueFull need room) = Some (refusals.QueueFull need room)
+send_told plan rank (send.NumbersSpent until) = Some (refusals.NumbersSpent until)
 
 -- what an event of a wire refused
 abbrev pub wire_told : WireError → Option Refusal
@@ -109,3 +116,7 @@ wire_told (wires.LateHold last) = Some (refusals.LateHold last)
 abbrev pub answer_told : {A E : Type 0} → (A → Option Said) → (E → Option Refusal) → Result A E → Option Said
 answer_told done refused (Ok x) = done x
 answer_told done refused (Err e) = option_map said.Refused (refused e)
+
+-- what `retire` answered
+abbrev pub retired_told : Result (Unit {0}) NoPolicy → Option Said
+retired_told answer = answer_told (λ done. Some said.Done) (λ e. Some refusals.NoPolicy) answer

@@ -1,4 +1,4 @@
--- What a run came to: the status, the notes and the tower, by what was read.
+-- What a run came to: the status, the notes, the tower and the shelf, by what was read.
 use Rattle.std.specs.Prelude.{◌≡◌, slice_get, ℕ, ◌<◌, ◌≤◌, Bool, true, false, List, [], ◌∷◌, ◌++◌, length, take, Option, Some, None, Ok, Err, ◌⊎◌}
 use Rattle.std.specs.Io.KnownBytes.{Consumes, IsAtEnd}
 use Rattle.rina_iface.specs.declared.ends.End.{End}
@@ -6,6 +6,7 @@ use Rattle.rina_iface.specs.declared.state.Fail.{Fail}
 use Rattle.rina_iface.specs.declared.state.Fail.TheVariants.{Cut}
 use Rattle.rina_iface.specs.declared.state.PortState.TheVariants.{Failed}
 use Rattle.rina_iface.specs.Seen.{Fac, Seen}
+use Rattle.rina_policy.specs.Slots.{Slot}
 use Rattle.rina_report.specs.declared.note.Note.{Note}
 use Rattle.rina_report.specs.declared.note.Note.TheVariants as notes
 use Rattle.rina_report.specs.declared.note.Fault.{Fault}
@@ -16,7 +17,6 @@ use Rattle.rina_stack.specs.declared.plan.Plan.{Plan}
 use Rattle.rina_table.specs.declared.error.StackError.TheVariants as stack
 use Rattle.rina_stack.specs.Built.{ReadsBuilt}
 use Rattle.rina_wire.specs.Air.{Air}
-use Rattle.rina_run.specs.declared.world.World.{World}
 use Rattle.rina_run.specs.declared.play.BadLine.{BadLine}
 use Rattle.rina_run.specs.declared.emit.Stop.{Stop}
 use Rattle.rina_run.specs.declared.emit.Stop.TheVariants as stops
@@ -25,6 +25,7 @@ use Rattle.rina_run.specs.declared.outcome.Status.TheVariants as statuses
 use Rattle.rina_run.specs.Look.{Extends}
 use Rattle.rina_run.specs.Run.{Runs, StopsAt, RanFirst, RanPart, opening}
 use Rattle.rina_run.specs.Script.{Script, script_in}
+use Rattle.rina_run.specs.Step.{HasNames, Stage}
 
 -- the status that a fault is told beside
 abbrev pub status_of : Fault → Status
@@ -51,31 +52,33 @@ fault_of bad = fault_at bad.number bad.error
 abbrev pub told_once : Fault → List Note
 told_once fault = notes.Fault fault ∷ []
 
--- the lines led to this world, and a closing note was added
-pub record PlayedTo (Ran : List Note → World → Type 0) (closing : World → Note) (trace : List Note) (tower : Option Air) : Type 0 where
+-- the lines led to this stage, and a closing note was added
+pub record PlayedTo (Ran : List Note → Stage → Type 0) (closing : Stage → Note) (trace : List Note) (tower : Option Air) (shelf' : List Slot) : Type 0 where
   pub told : List Note
-  pub world : World
-  pub ran : Ran told world
-  pub notes : trace ≡ told ++ closing world ∷ []
-  pub left : tower ≡ Some world.tower
+  pub reached : Stage
+  pub ran : Ran told reached
+  pub notes : trace ≡ told ++ closing reached ∷ []
+  pub left : tower ≡ Some reached.world.tower
+  pub shelf : shelf' ≡ reached.shelf
 
--- the first lines led to this world, and a closing note may have been added
-pub record PlayedPart (plan : Plan) (lines : List (List ℕ)) (trace : List Note) (tower : Option Air) : Type 0 where
+-- the first lines led to this stage, and a closing note may have been added
+pub record PlayedPart (plan : Plan) (lines : List (List ℕ)) (shelf : List Slot) (trace : List Note) (tower : Option Air) (shelf' : List Slot) : Type 0 where
   pub told : List Note
-  pub world : World
-  pub first : RanFirst plan (opening plan) lines told world
+  pub reached : Stage
+  pub first : RanFirst plan (opening plan shelf) lines told reached
   pub closing : Extends told trace
-  pub left : tower ≡ Some world.tower
+  pub left : tower ≡ Some reached.world.tower
+  pub after : shelf' ≡ reached.shelf
 
--- what a run of lines came to, where `ending` is the fault that reading ended with, if any
-abbrev pub PlayOutcomes : Plan → Option Fault → List (List ℕ) → Status → List Note → Option Air → Type 0
-PlayOutcomes plan ending lines statuses.Done trace tower = (ending ≡ None) × PlayedTo (Runs plan 1 (opening plan) lines) (λ w. notes.End w.tower.now) trace tower
-PlayOutcomes plan ending lines (statuses.Schedule line n field) trace tower = (bad : BadLine) × (fault_of bad ≡ faults.Schedule line n field) × PlayedTo (StopsAt plan (opening plan) lines bad) (λ w. notes.Fault (fault_of bad)) trace tower
-PlayOutcomes plan ending lines statuses.ReadFault trace tower = (ending ≡ Some faults.ReadFault) × PlayedTo (Runs plan 1 (opening plan) lines) (λ w. notes.Fault faults.ReadFault) trace tower
-PlayOutcomes plan ending lines statuses.TooLarge trace tower = (ending ≡ Some faults.TooLarge) × PlayedTo (Runs plan 1 (opening plan) lines) (λ w. notes.Fault faults.TooLarge) trace tower
-PlayOutcomes plan ending lines statuses.WriteFault trace tower = PlayedPart plan lines trace tower
-PlayOutcomes plan ending lines statuses.Memory trace tower = RanPart plan (opening plan) lines trace
-PlayOutcomes plan ending lines status trace tower = ⊥
+-- what a run of lines came to, where `ending` is the fault that reading ended with, if any; without memory, of the shelf only its names are known
+abbrev pub PlayOutcomes : Plan → Option Fault → List (List ℕ) → List Slot → Status → List Note → Option Air → List Slot → Type 0
+PlayOutcomes plan ending lines shelf statuses.Done trace tower shelf' = (ending ≡ None) × PlayedTo (Runs plan 1 (opening plan shelf) lines) (λ s. notes.End s.world.tower.now) trace tower shelf'
+PlayOutcomes plan ending lines shelf (statuses.Schedule line n field) trace tower shelf' = (bad : BadLine) × (fault_of bad ≡ faults.Schedule line n field) × PlayedTo (StopsAt plan (opening plan shelf) lines bad) (λ s. notes.Fault (fault_of bad)) trace tower shelf'
+PlayOutcomes plan ending lines shelf statuses.ReadFault trace tower shelf' = (ending ≡ Some faults.ReadFault) × PlayedTo (Runs plan 1 (opening plan shelf) lines) (λ s. notes.Fault faults.ReadFault) trace tower shelf'
+PlayOutcomes plan ending lines shelf statuses.TooLarge trace tower shelf' = (ending ≡ Some faults.TooLarge) × PlayedTo (Runs plan 1 (opening plan shelf) lines) (λ s. notes.Fault faults.TooLarge) trace tower shelf'
+PlayOutcomes plan ending lines shelf statuses.WriteFault trace tower shelf' = PlayedPart plan lines shelf trace tower shelf'
+PlayOutcomes plan ending lines shelf statuses.Memory trace tower shelf' = RanPart plan (opening plan shelf) lines trace × HasNames shelf shelf'
+PlayOutcomes plan ending lines shelf status trace tower shelf' = ⊥
 
 -- the run was refused before its first line: the fault is told, and nothing else
 abbrev pub RefusedBy : Fault → Status → List Note → Type 0
@@ -91,16 +94,16 @@ StackOutcomes text statuses.WriteFault trace = (fault : Fault) × (trace ≡ tol
 StackOutcomes text statuses.Memory trace = (trace ≡ []) ⊎ ((fault : Fault) × (trace ≡ told_once fault))
 StackOutcomes text status trace = ⊥
 
--- what a script came to: its lines were run where its stack was accepted
-abbrev pub ScriptOutcomes : Option Fault → Script → Status → List Note → Option Air → Type 0
-ScriptOutcomes ending s status trace (Some a) = (plan : Plan) × ReadsBuilt (Ok plan) s.stack × PlayOutcomes plan ending s.lines status trace (Some a)
-ScriptOutcomes ending s status trace None = StackOutcomes s.stack status trace
+-- what a script came to: its lines were run where its stack was accepted, and else the shelf is as it was
+abbrev pub ScriptOutcomes : Option Fault → Script → List Slot → Status → List Note → Option Air → List Slot → Type 0
+ScriptOutcomes ending s shelf status trace (Some a) shelf' = (plan : Plan) × ReadsBuilt (Ok plan) s.stack × PlayOutcomes plan ending s.lines shelf status trace (Some a) shelf'
+ScriptOutcomes ending s shelf status trace None shelf' = StackOutcomes s.stack status trace × (shelf' ≡ shelf)
 
 -- what an input came to: where no mark was among what was read, the fault is told
-abbrev pub InputOutcomes : Option Fault → Option Script → Status → List Note → Option Air → Type 0
-InputOutcomes ending (Some s) status trace tower = ScriptOutcomes ending s status trace tower
-InputOutcomes (Some fault) None status trace tower = (tower ≡ None) × RefusedBy fault status trace
-InputOutcomes None None status trace tower = ⊥
+abbrev pub InputOutcomes : Option Fault → Option Script → List Slot → Status → List Note → Option Air → List Slot → Type 0
+InputOutcomes ending (Some s) shelf status trace tower shelf' = ScriptOutcomes ending s shelf status trace tower shelf'
+InputOutcomes (Some fault) None shelf status trace tower shelf' = (tower ≡ None) × RefusedBy fault status trace × (shelf' ≡ shelf)
+InputOutcomes None None shelf status trace tower shelf' = ⊥
 
 -- why reading ended: at the end of the input, past its limit, or by a fault
 abbrev pub EndedBy : Option Fault → Option (List ℕ) → List ℕ → Type 0
@@ -114,12 +117,12 @@ is_whole None = true
 is_whole (Some fault) = false
 
 -- the bytes that were read, and what they came to
-pub record InputRan (left left' : Option (List ℕ)) (status : Status) (trace : List Note) (tower : Option Air) : Type 0 where
+pub record InputRan (left left' : Option (List ℕ)) (shelf : List Slot) (status : Status) (trace : List Note) (tower : Option Air) (shelf' : List Slot) : Type 0 where
   pub bytes : List ℕ
   pub ending : Option Fault
   pub read : Consumes left left' bytes
   pub ended : EndedBy ending left' bytes
-  pub outcome : InputOutcomes ending (script_in (is_whole ending) (take 16777216 bytes)) status trace tower
+  pub outcome : InputOutcomes ending (script_in (is_whole ending) (take 16777216 bytes)) shelf status trace tower shelf'
 
 -- nothing was done, since memory was not found
 pub record IsNothing (status : Status) (trace : List Note) (tower : Option Air) : Type 0 where
@@ -127,10 +130,10 @@ pub record IsNothing (status : Status) (trace : List Note) (tower : Option Air) 
   pub notes : trace ≡ []
   pub left : tower ≡ None
 
--- what a run came to, by the words of the command line and by what was read
-abbrev pub RunOutcomes : Option ℕ → Option (List ℕ) → Option (List ℕ) → Status → List Note → Option Air → Type 0
-RunOutcomes (Some word) left left' status trace tower = (tower ≡ None) × RefusedBy (faults.Usage word) status trace
-RunOutcomes None left left' status trace tower = IsNothing status trace tower ⊎ InputRan left left' status trace tower
+-- what a run came to, by the words of the command line, by what was read, and by the shelf that was handed in
+abbrev pub RunOutcomes : Option ℕ → Option (List ℕ) → Option (List ℕ) → List Slot → Status → List Note → Option Air → List Slot → Type 0
+RunOutcomes (Some word) left left' shelf status trace tower shelf' = (tower ≡ None) × RefusedBy (faults.Usage word) status trace × (shelf' ≡ shelf)
+RunOutcomes None left left' shelf status trace tower shelf' = (IsNothing status trace tower × (shelf' ≡ shelf)) ⊎ InputRan left left' shelf status trace tower shelf'
 
 -- a closing note was added, unless memory was not found; the run ends with this status, unless it was stopped
 abbrev pub ClosedBy : Status → Note → List Note → Status → List Note → Type 0

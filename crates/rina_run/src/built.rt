@@ -26,6 +26,7 @@ fn word_is_built(word: &[u8]) -> bool
         || word == b"free".as_slice()
         || word == b"state".as_slice()
         || word == b"journal".as_slice()
+        || word == b"retire".as_slice()
 }
 
 fn event_is_built(event: &Event) -> bool
@@ -48,6 +49,7 @@ fn event_is_built(event: &Event) -> bool
             | Event::Free { .. }
             | Event::State { .. }
             | Event::Journal { .. }
+            | Event::Retire { .. }
     )
 }
 

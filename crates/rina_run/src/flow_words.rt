@@ -33,7 +33,7 @@ pub fn say_port(
     requires { IsSound tower.now }
     ensures { IfOk result (λ o. o ≡ port_said plan.now tower.now port) }
 {
-    match tell_drawn(alloc, plan, tower.state(port))? {
+    match tell_drawn(alloc, plan, 0, tower.state(port))? {
         Some(state) => Ok(Some(Said::Port { state })),
         None => Ok(None),
     }
@@ -240,6 +240,6 @@ fn call_send(
     match world.tower.send(alloc, port, bytes.as_slice()) {
         Ok(num) => Ok(Some(Said::Sent { num })),
         Err(SendError::Memory) => Err(Memory),
-        Err(error) => Ok(refused(tell_send(alloc, plan, error)?)),
+        Err(error) => Ok(refused(tell_send(alloc, plan, 0, error)?)),
     }
 }

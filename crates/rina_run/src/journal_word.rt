@@ -18,13 +18,13 @@ use rina_wire::Wires;
 use std::alloc::Global;
 
 /// One end, as it is shown.
-fn say_end(alloc: Global, plan: &Plan, end: &End) -> Result<Option<Said>, Memory>
-    ensures { IfOk result (λ o. o ≡ option_map said.Flow (flow_note plan.now end.now)) }
+fn say_end(alloc: Global, plan: &Plan, rank: u16, end: &End) -> Result<Option<Said>, Memory>
+    ensures { IfOk result (λ o. o ≡ option_map said.Flow (flow_note plan.now rank end.now)) }
 {
-    let Some(port) = tell_port(alloc, plan, end.port)? else {
+    let Some(port) = tell_port(alloc, plan, rank, end.port)? else {
         return Ok(None);
     };
-    let Some(state) = tell_state(alloc, plan, end.state)? else {
+    let Some(state) = tell_state(alloc, plan, rank, end.state)? else {
         return Ok(None);
     };
     Ok(Some(Said::Flow(FlowNote {
@@ -117,15 +117,16 @@ fn tell_all_got(
 fn tell_end(
     alloc: Global,
     plan: &Plan,
+    rank: u16,
     end: &End,
     line: u32,
     tick: Tick,
     trace: &mut Notes,
 ) -> Result<(), Memory>
-    ensures ok { OnOk result (trace.new ≡ trace.old ++ end_notes plan.now line tick end.now) }
+    ensures ok { OnOk result (trace.new ≡ trace.old ++ end_notes plan.now rank line tick end.now) }
     ensures err { OnErr result (Extends trace.old trace.new) }
 {
-    let says = say_end(alloc, plan, end)?;
+    let says = say_end(alloc, plan, rank, end)?;
     tell(trace, line, tick, says)?;
     tell_all_sent(alloc, end.sent.as_slice(), line, tick, trace)?;
     tell_all_got(alloc, end.got.as_slice(), line, tick, trace)
@@ -135,16 +136,17 @@ fn tell_end(
 fn tell_ends(
     alloc: Global,
     plan: &Plan,
+    rank: u16,
     ends: &[End],
     line: u32,
     tick: Tick,
     trace: &mut Notes,
 ) -> Result<(), Memory>
-    ensures ok { OnOk result (trace.new ≡ trace.old ++ flat_map (end_notes plan.now line tick) ends.now) }
+    ensures ok { OnOk result (trace.new ≡ trace.old ++ flat_map (end_notes plan.now rank line tick) ends.now) }
     ensures err { OnErr result (Extends trace.old trace.new) }
 {
     'ends: for end in ends {
-        tell_end(alloc, plan, end, line, tick, trace)?;
+        tell_end(alloc, plan, rank, end, line, tick, trace)?;
     }
     Ok(())
 }
@@ -153,18 +155,19 @@ fn tell_ends(
 fn tell_journal(
     alloc: Global,
     plan: &Plan,
+    rank: u16,
     ends: &[End],
     line: u32,
     tick: Tick,
     trace: &mut Notes,
 ) -> Result<(), Memory>
-    ensures ok { OnOk result (trace.new ≡ trace.old ++ journal_notes plan.now line tick ends.now) }
+    ensures ok { OnOk result (trace.new ≡ trace.old ++ journal_notes plan.now rank line tick ends.now) }
     ensures err { OnErr result (Extends trace.old trace.new) }
 {
     if ends.is_empty() {
         return tell(trace, line, tick, Some(Said::Nothing));
     }
-    tell_ends(alloc, plan, ends, line, tick, trace)
+    tell_ends(alloc, plan, rank, ends, line, tick, trace)
 }
 
 /// Shows the journal of the facility of a number.
@@ -177,12 +180,12 @@ fn tell_fac(
     line: u32,
     trace: &mut Notes,
 ) -> Result<(), Memory>
-    ensures ok { OnOk result (trace.new ≡ trace.old ++ journal_notes plan.now line tower.now.now (ends_in (seen_of tower.now) fac)) }
+    ensures ok { OnOk result (trace.new ≡ trace.old ++ journal_notes plan.now 0 line tower.now.now (ends_in (seen_of tower.now) fac)) }
     ensures err { OnErr result (Extends trace.old trace.new) }
 {
     let tick = tower.now();
     match tower.journal(fac) {
-        Some(journal) => tell_journal(alloc, plan, journal.ends.as_slice(), line, tick, trace),
+        Some(journal) => tell_journal(alloc, plan, 0, journal.ends.as_slice(), line, tick, trace),
         None => tell(trace, line, tick, Some(Said::Nothing)),
     }
 }

@@ -3,6 +3,7 @@
 
 mod built;
 mod emit;
+mod fac;
 mod flow_words;
 mod frame_law;
 mod input;
@@ -15,8 +16,10 @@ mod note;
 mod outcome;
 mod play;
 mod read_word;
+mod shelf;
 mod site;
 mod step;
+mod step_told;
 mod told;
 mod top;
 mod wire_words;

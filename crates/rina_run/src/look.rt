@@ -77,9 +77,9 @@ fn say_label(
     label: &Label,
     state: Option<PortState>,
 ) -> Result<Option<Said>, Memory>
-    ensures { IfOk result (λ o. o ≡ option_map (said.Label label.now.name) (drawn_told plan.now state)) }
+    ensures { IfOk result (λ o. o ≡ option_map (said.Label label.now.name) (drawn_told plan.now label.now.rank state)) }
 {
-    match tell_drawn(alloc, plan, state)? {
+    match tell_drawn(alloc, plan, label.rank, state)? {
         Some(state) => {
             let label = label.name.copy(alloc)?;
             Ok(Some(Said::Label { label, state }))

@@ -26,11 +26,21 @@ pub enum Status {
     Memory,
 }
 
-/// What a run came to: its status, the notes in order, and the tower as the run left it, where a
-/// stack was accepted.
+/// What a run came to, beside the shelf: its status, the notes in order, and the tower as the run left
+/// it, where a stack was accepted.
 #[derive(Drop)]
-pub struct Outcome {
+pub struct Finish {
     pub status: Status,
     pub trace: Notes,
     pub tower: Option<Wires>,
+}
+
+/// What a run came to: its status, the notes in order, the tower as the run left it, where a stack was
+/// accepted, and the shelf that was handed in, as the steps of the run left it.
+#[derive(Drop)]
+pub struct Outcome<P> {
+    pub status: Status,
+    pub trace: Notes,
+    pub tower: Option<Wires>,
+    pub shelf: P,
 }

@@ -8,7 +8,7 @@ ghost use Rattle.rina_stack.specs.Plan.{IsPlan};
 ghost use Rattle.rina_wire.specs.Sound.{IsSound};
 ghost use Rattle.rina_run.specs.Built.{is_built};
 ghost use Rattle.rina_run.specs.Written.{IsFront};
-ghost use Rattle.rina_run.specs.Step.{Steps};
+ghost use Rattle.rina_run.specs.Step.{HasNames, Steps, stage};
 ghost use Rattle.rina_run.specs.Run.{Ran, LineRan, LinesRan};
 
 use crate::built::read_event;
@@ -18,6 +18,7 @@ use crate::step::step;
 use crate::world::World;
 use rina_base::Memory;
 use rina_io::Sink;
+use rina_policy::Retires;
 use rina_report::Notes;
 use rina_schedule::{Event, LineError};
 use rina_stack::Plan;
@@ -25,10 +26,11 @@ use std::alloc::Global;
 
 /// Runs what a line asks for, and writes its notes.
 #[tactic(auto, using(crate::proofs::Playing::front_is))]
-fn run_event<K: Sink>(
+fn run_event<K: Sink, P: Retires>(
     alloc: Global,
     plan: &Plan,
     world: &mut World,
+    shelf: &mut P,
     number: u32,
     event: &Event,
     out: &mut K,
@@ -37,15 +39,16 @@ fn run_event<K: Sink>(
     requires plan { IsPlan plan.now }
     requires built { is_built event.now ≡ true }
     requires sound { IsSound world.old.tower }
-    ensures does { Ran (λ ns. Steps plan.now number event.now world.old ns world.new) trace.old trace.new result }
+    ensures does { Ran (λ ns. Steps plan.now number event.now (stage world.old (P.slots shelf.old)) ns (stage world.new (P.slots shelf.new))) trace.old trace.new result }
     ensures ok { OnOk result ((base : Option (List ℕ)) → Appends base (K.took out.old) (text_of trace.old) → Appends base (K.took out.new) (text_of trace.new)) }
     ensures err { OnErr result ((base : Option (List ℕ)) → Appends base (K.took out.old) (text_of trace.old) → IsFront base (K.took out.new) (text_of trace.new)) }
     ensures fault { IsErrOf result Stop.WriteFault → Rose (K.faults out.old) (K.faults out.new) }
     ensures later { K.faults out.old ≤ K.faults out.new }
     ensures sound { IsSound world.new.tower }
+    ensures names { HasNames (P.slots shelf.old) (P.slots shelf.new) }
 {
     let from = trace.len();
-    let stepped = step(alloc, plan, world, number, event, trace);
+    let stepped = step(alloc, plan, world, shelf, number, event, trace);
     let written = emit(alloc, out, trace, from);
     match stepped {
         Ok(()) => written,
@@ -56,10 +59,11 @@ fn run_event<K: Sink>(
 /// Runs a line and writes its notes. The fault of a line outside the grammar is answered, and then
 /// nothing was run.
 #[tactic(auto, using(crate::proofs::Texts::wrote_all))]
-fn run_line<K: Sink>(
+fn run_line<K: Sink, P: Retires>(
     alloc: Global,
     plan: &Plan,
     world: &mut World,
+    shelf: &mut P,
     number: u32,
     line: &[u8],
     out: &mut K,
@@ -67,16 +71,17 @@ fn run_line<K: Sink>(
 ) -> Result<Option<LineError>, Stop>
     requires plan { IsPlan plan.now }
     requires sound { IsSound world.old.tower }
-    ensures does { LineRan plan.now number line.now world.old trace.old world.new trace.new result }
+    ensures does { LineRan plan.now number line.now (stage world.old (P.slots shelf.old)) trace.old (stage world.new (P.slots shelf.new)) trace.new result }
     ensures ok { OnOk result ((base : Option (List ℕ)) → Appends base (K.took out.old) (text_of trace.old) → Appends base (K.took out.new) (text_of trace.new)) }
     ensures err { OnErr result ((base : Option (List ℕ)) → Appends base (K.took out.old) (text_of trace.old) → IsFront base (K.took out.new) (text_of trace.new)) }
     ensures fault { IsErrOf result Stop.WriteFault → Rose (K.faults out.old) (K.faults out.new) }
     ensures later { K.faults out.old ≤ K.faults out.new }
     ensures sound { IsSound world.new.tower }
+    ensures names { HasNames (P.slots shelf.old) (P.slots shelf.new) }
 {
     match read_event(alloc, line) {
         Ok(Some(event)) => {
-            run_event(alloc, plan, world, number, &event, out, trace)?;
+            run_event(alloc, plan, world, shelf, number, &event, out, trace)?;
             Ok(None)
         }
         Ok(None) => Ok(None),
@@ -93,10 +98,11 @@ pub struct BadLine {
 }
 
 /// Runs lines in their order, and answers the first that is outside the grammar.
-pub fn play<K: Sink>(
+pub fn play<K: Sink, P: Retires>(
     alloc: Global,
     plan: &Plan,
     world: &mut World,
+    shelf: &mut P,
     lines: &[&[u8]],
     out: &mut K,
     trace: &mut Notes,
@@ -105,18 +111,19 @@ pub fn play<K: Sink>(
     requires sound { IsSound world.old.tower }
     requires few { length lines.now < 2 ^ 32 }
     requires none { trace.old ≡ [] }
-    ensures does { LinesRan plan.now world.old (map (λ l. without_terminator l.now) lines.now) trace.new world.new result }
+    ensures does { LinesRan plan.now (stage world.old (P.slots shelf.old)) (map (λ l. without_terminator l.now) lines.now) trace.new (stage world.new (P.slots shelf.new)) result }
     ensures ok { OnOk result (Appends (K.took out.old) (K.took out.new) (text_of trace.new)) }
     ensures err { OnErr result (IsFront (K.took out.old) (K.took out.new) (text_of trace.new)) }
     ensures fault { IsErrOf result Stop.WriteFault → Rose (K.faults out.old) (K.faults out.new) }
     ensures later { K.faults out.old ≤ K.faults out.new }
     ensures sound { IsSound world.new.tower }
+    ensures names { HasNames (P.slots shelf.old) (P.slots shelf.new) }
 {
     let mut number = 0u32;
     'lines: for line in lines {
         number += 1;
         let line = without_end(line);
-        if let Some(error) = run_line(alloc, plan, world, number, line, out, trace)? {
+        if let Some(error) = run_line(alloc, plan, world, shelf, number, line, out, trace)? {
             return Ok(Some(BadLine { number, error }));
         }
     }

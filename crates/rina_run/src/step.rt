@@ -4,7 +4,7 @@ ghost use Rattle.rina_stack.specs.Plan.{IsPlan};
 ghost use Rattle.rina_wire.specs.Sound.{IsSound};
 ghost use Rattle.rina_run.specs.Built.{is_built};
 ghost use Rattle.rina_run.specs.Look.{Leads, Extends};
-ghost use Rattle.rina_run.specs.Step.{Acts, Steps, Ticking, Ticks, TicksOnce};
+ghost use Rattle.rina_run.specs.Step.{Acts, HasNames, Steps, Ticking, Ticks, TicksOnce, stage};
 
 use crate::flow_words::{accept, allocate, register, send};
 use crate::journal_word::journal;
@@ -12,10 +12,12 @@ use crate::leave_words::{free, tell_label, unregister};
 use crate::look::look;
 use crate::note::tell;
 use crate::read_word::read;
+use crate::shelf::retire;
 use crate::wire_words::{cut, hold, lose, mend, repeat};
 use crate::world::World;
 use rina_base::Memory;
 use rina_iface::Facility;
+use rina_policy::Retires;
 use rina_report::{Notes, Refusal, Said};
 use rina_schedule::Event;
 use rina_stack::Plan;
@@ -88,10 +90,11 @@ fn tick_all(
 }
 
 /// Does what a line asks for, and adds the notes of its answer.
-fn act(
+fn act<P: Retires>(
     alloc: Global,
     plan: &Plan,
     world: &mut World,
+    shelf: &mut P,
     line: u32,
     event: &Event,
     trace: &mut Notes,
@@ -99,9 +102,10 @@ fn act(
     requires plan { IsPlan plan.now }
     requires built { is_built event.now ≡ true }
     requires sound { IsSound world.old.tower }
-    ensures does { OnOk result (Leads (λ ns. Acts plan.now line event.now world.old ns world.new) trace.old trace.new) }
+    ensures does { OnOk result (Leads (λ ns. Acts plan.now line event.now (stage world.old (P.slots shelf.old)) ns (stage world.new (P.slots shelf.new))) trace.old trace.new) }
     ensures more { OnErr result (Extends trace.old trace.new) }
     ensures sound { IsSound world.new.tower }
+    ensures names { HasNames (P.slots shelf.old) (P.slots shelf.new) }
 {
     match event {
         Event::Register { fac, node, app } => {
@@ -167,15 +171,20 @@ fn act(
             tell(trace, line, world.tower.now(), says)
         }
         Event::Journal { fac } => journal(alloc, plan, world, line, fac, trace),
+        Event::Retire { policy } => {
+            let says = retire(shelf, policy);
+            tell(trace, line, world.tower.now(), says)
+        }
         _ => unreachable!(),
     }
 }
 
 /// Runs a line: its word, and then the states of the labels that changed.
-pub fn step(
+pub fn step<P: Retires>(
     alloc: Global,
     plan: &Plan,
     world: &mut World,
+    shelf: &mut P,
     line: u32,
     event: &Event,
     trace: &mut Notes,
@@ -183,10 +192,11 @@ pub fn step(
     requires plan { IsPlan plan.now }
     requires built { is_built event.now ≡ true }
     requires sound { IsSound world.old.tower }
-    ensures does { OnOk result (Leads (λ ns. Steps plan.now line event.now world.old ns world.new) trace.old trace.new) }
+    ensures does { OnOk result (Leads (λ ns. Steps plan.now line event.now (stage world.old (P.slots shelf.old)) ns (stage world.new (P.slots shelf.new))) trace.old trace.new) }
     ensures more { OnErr result (Extends trace.old trace.new) }
     ensures sound { IsSound world.new.tower }
+    ensures names { HasNames (P.slots shelf.old) (P.slots shelf.new) }
 {
-    act(alloc, plan, world, line, event, trace)?;
+    act(alloc, plan, world, shelf, line, event, trace)?;
     look(alloc, plan, &world.tower, &mut world.labels, line, trace)
 }

@@ -1,7 +1,8 @@
 //! How a run tells ports, states and refusals: with the names of the stack in place of numbers.
-ghost use Rattle.std.specs.Prelude.{◌≡◌, IfOk};
-ghost use Rattle.rina_run.specs.Told.{port_told, fail_told, state_told, drawn_told, register_told, unregister_told, free_told, allocate_told, send_told, wire_told};
+ghost use Rattle.std.specs.Prelude.{◌≡◌, IfOk, option_map, slice_get};
+ghost use Rattle.rina_run.specs.Told.{facs_of, port_told, fail_told, state_told, drawn_told, register_told, unregister_told, free_told, allocate_told, send_told, wire_told};
 
+use crate::fac::name_at;
 use rina_base::{Memory, Name, Port};
 use rina_iface::{
     AllocateError, Fail, FreeError, PortState, RegisterError, SendError, UnregisterError,
@@ -11,17 +12,34 @@ use rina_stack::Plan;
 use rina_wire::WireError;
 use std::alloc::Global;
 
-/// A port with the names of its facility and its node.
-pub fn tell_port(alloc: Global, plan: &Plan, port: Port) -> Result<Option<PortNote>, Memory>
-    ensures { IfOk result (λ o. o ≡ port_told plan.now port) }
+/// The name of a facility of a rank.
+#[tactic(auto, unfolding(crate::specs::Told::facs_of))]
+fn fac_name(plan: &Plan, rank: u16, fac: u16) -> Option<&Name>
+    ensures { option_map (λ n. n.now) result ≡ slice_get (facs_of plan.now rank) fac }
 {
-    let Some(wire) = plan.wires.get(port.fac as usize) else {
+    if rank == 0 {
+        Some(&plan.wires.get(fac as usize)?.name)
+    } else {
+        name_at(plan.difs.as_slice(), rank, fac)
+    }
+}
+
+/// A port of a rank with the names of its facility and its node.
+pub fn tell_port(
+    alloc: Global,
+    plan: &Plan,
+    rank: u16,
+    port: Port,
+) -> Result<Option<PortNote>, Memory>
+    ensures { IfOk result (λ o. o ≡ port_told plan.now rank port) }
+{
+    let Some(fac) = fac_name(plan, rank, port.fac) else {
         return Ok(None);
     };
     let Some(node) = plan.nodes.get(port.node as usize) else {
         return Ok(None);
     };
-    let fac = wire.name.copy(alloc)?;
+    let fac = fac.copy(alloc)?;
     let node = node.copy(alloc)?;
     Ok(Some(PortNote {
         fac,
@@ -30,12 +48,12 @@ pub fn tell_port(alloc: Global, plan: &Plan, port: Port) -> Result<Option<PortNo
     }))
 }
 
-fn tell_fail(alloc: Global, plan: &Plan, fail: Fail) -> Result<Option<FailNote>, Memory>
-    ensures { IfOk result (λ o. o ≡ fail_told plan.now fail) }
+fn tell_fail(alloc: Global, plan: &Plan, rank: u16, fail: Fail) -> Result<Option<FailNote>, Memory>
+    ensures { IfOk result (λ o. o ≡ fail_told plan.now rank fail) }
 {
     match fail {
         Fail::GaveUp { num, first, now } => Ok(Some(FailNote::GaveUp { num, first, now })),
-        Fail::Below { port } => match tell_port(alloc, plan, port)? {
+        Fail::Below { port } => match tell_port(alloc, plan, rank.saturating_sub(1), port)? {
             Some(port) => Ok(Some(FailNote::Below { port })),
             None => Ok(None),
         },
@@ -43,14 +61,20 @@ fn tell_fail(alloc: Global, plan: &Plan, fail: Fail) -> Result<Option<FailNote>,
     }
 }
 
-pub fn tell_state(alloc: Global, plan: &Plan, state: PortState) -> Result<Option<StateNote>, Memory>
-    ensures { IfOk result (λ o. o ≡ state_told plan.now state) }
+/// The state of a port of a rank.
+pub fn tell_state(
+    alloc: Global,
+    plan: &Plan,
+    rank: u16,
+    state: PortState,
+) -> Result<Option<StateNote>, Memory>
+    ensures { IfOk result (λ o. o ≡ state_told plan.now rank state) }
 {
     match state {
         PortState::Pending => Ok(Some(StateNote::Pending)),
         PortState::Allocated => Ok(Some(StateNote::Allocated)),
         PortState::Refused(why) => Ok(Some(StateNote::Refused(why))),
-        PortState::Failed(fail) => match tell_fail(alloc, plan, fail)? {
+        PortState::Failed(fail) => match tell_fail(alloc, plan, rank, fail)? {
             Some(fail) => Ok(Some(StateNote::Failed(fail))),
             None => Ok(None),
         },
@@ -58,16 +82,17 @@ pub fn tell_state(alloc: Global, plan: &Plan, state: PortState) -> Result<Option
     }
 }
 
-/// The state of a port that was drawn.
+/// The state of a port of a rank that was drawn.
 pub fn tell_drawn(
     alloc: Global,
     plan: &Plan,
+    rank: u16,
     state: Option<PortState>,
 ) -> Result<Option<StateNote>, Memory>
-    ensures { IfOk result (λ o. o ≡ drawn_told plan.now state) }
+    ensures { IfOk result (λ o. o ≡ drawn_told plan.now rank state) }
 {
     match state {
-        Some(state) => tell_state(alloc, plan, state),
+        Some(state) => tell_state(alloc, plan, rank, state),
         None => Ok(None),
     }
 }
@@ -141,17 +166,22 @@ pub fn tell_allocate(
     }
 }
 
-/// What `send` refused.
-pub fn tell_send(alloc: Global, plan: &Plan, error: SendError) -> Result<Option<Refusal>, Memory>
-    ensures { IfOk result (λ o. o ≡ send_told plan.now error) }
+/// What `send` refused at a rank.
+pub fn tell_send(
+    alloc: Global,
+    plan: &Plan,
+    rank: u16,
+    error: SendError,
+) -> Result<Option<Refusal>, Memory>
+    ensures { IfOk result (λ o. o ≡ send_told plan.now rank error) }
 {
     match error {
         SendError::Memory => Ok(None),
         SendError::NotAllocated { state } => {
-            let state = tell_drawn(alloc, plan, state)?;
+            let state = tell_drawn(alloc, plan, rank, state)?;
             Ok(Some(Refusal::NotAllocated { state }))
         }
-        SendError::Failed { fail } => match tell_fail(alloc, plan, fail)? {
+        SendError::Failed { fail } => match tell_fail(alloc, plan, rank, fail)? {
             Some(fail) => Ok(Some(Refusal::Failed { fail })),
             None => Ok(None),
         },

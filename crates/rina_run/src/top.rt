@@ -10,6 +10,7 @@ ghost use Rattle.rina_wire.specs.Air.{seen_of};
 ghost use Rattle.rina_wire.specs.Sound.{IsSound};
 ghost use Rattle.rina_run.specs.Run.{opening};
 ghost use Rattle.rina_run.specs.Script.{script, script_in};
+ghost use Rattle.rina_run.specs.Step.{stage};
 ghost use Rattle.rina_run.specs.Words.{word_fault};
 ghost use Rattle.rina_run.specs.Written.{IsFront, Written};
 ghost use Rattle.rina_run.specs.Top.{status_of, status_stopped, fault_of, is_whole, ClosedBy, RefusedBy, PlayOutcomes, ScriptOutcomes, InputOutcomes, RunOutcomes, IsEnding, IsNothing, FailedByCut};
@@ -17,13 +18,14 @@ ghost use Rattle.rina_run.specs.Top.{status_of, status_stopped, fault_of, is_who
 use crate::emit::{Stop, emit};
 use crate::input::{Parts, all_lines, split_input};
 use crate::labels::Labels;
-use crate::outcome::{Outcome, Status};
+use crate::outcome::{Finish, Outcome, Status};
 use crate::play::{BadLine, play};
 use crate::words::fault_in;
 use crate::world::World;
 use rina_base::Seq;
 use rina_iface::Facility;
 use rina_io::{Ending, LIMIT, Sink, Source, take_all};
+use rina_policy::Retires;
 use rina_report::{Fault, Note, Notes};
 use rina_schedule::LineError;
 use rina_stack::{Plan, StackError, read_built};
@@ -31,10 +33,10 @@ use rina_wire::Wires;
 use std::alloc::Global;
 
 /// Ends a run in which nothing was done, where memory was not found.
-fn nothing(alloc: Global) -> Outcome
+fn nothing(alloc: Global) -> Finish
     ensures { IsNothing result.status result.trace result.tower }
 {
-    Outcome {
+    Finish {
         status: Status::Memory,
         trace: Seq::new(alloc),
         tower: None,
@@ -111,7 +113,7 @@ fn seal<K: Sink>(
     tower: Option<Wires>,
     out: &mut K,
     trace: Notes,
-) -> Outcome
+) -> Finish
     ensures closed { ClosedBy status note trace result.status result.trace }
     ensures tower { result.tower ≡ tower }
     ensures written { (base : Option (List ℕ)) → Appends base (K.took out.old) (text_of trace) → Written base (K.took out.new) (text_of result.trace) result.status }
@@ -120,12 +122,12 @@ fn seal<K: Sink>(
 {
     let mut trace = trace;
     match close(alloc, out, &mut trace, note) {
-        Ok(()) => Outcome {
+        Ok(()) => Finish {
             status,
             trace,
             tower,
         },
-        Err(stop) => Outcome {
+        Err(stop) => Finish {
             status: stopped(stop),
             trace,
             tower,
@@ -135,7 +137,7 @@ fn seal<K: Sink>(
 
 /// Ends a run before its first line.
 #[tactic(auto, using(crate::proofs::Ending::refused_from, crate::proofs::Ending::wrote_nothing, crate::proofs::Ending::is_told))]
-fn refuse<K: Sink>(alloc: Global, out: &mut K, fault: Fault) -> Outcome
+fn refuse<K: Sink>(alloc: Global, out: &mut K, fault: Fault) -> Finish
     ensures refused { RefusedBy fault result.status result.trace }
     ensures tower { result.tower ≡ None }
     ensures written { Written (K.took out.old) (K.took out.new) (text_of result.trace) result.status }
@@ -155,20 +157,21 @@ fn refuse<K: Sink>(alloc: Global, out: &mut K, fault: Fault) -> Outcome
 /// Runs the lines of a script whose stack was accepted. `ending` is the fault that reading the
 /// input ended with, if it was not read to its end.
 #[tactic(auto, using(crate::proofs::Ending::done_from, crate::proofs::Ending::ended_from, crate::proofs::Ending::bad_from, crate::proofs::Ending::stop_from, crate::proofs::Ending::written_stop, crate::proofs::Ending::is_told))]
-fn run_lines<K: Sink>(
+fn run_lines<K: Sink, P: Retires>(
     alloc: Global,
     ending: Option<Fault>,
     plan: &Plan,
     mut world: World,
     lines: &[&[u8]],
     out: &mut K,
-) -> Outcome
+    shelf: &mut P,
+) -> Finish
     requires plan { IsPlan plan.now }
     requires ending { IsEnding ending }
-    requires start { world ≡ opening plan.now }
+    requires start { stage world (P.slots shelf.old) ≡ opening plan.now (P.slots shelf.old) }
     requires sound { IsSound world.tower }
     requires few { length lines.now < 2 ^ 32 }
-    ensures outcome { PlayOutcomes plan.now ending (map (λ l. without_terminator l.now) lines.now) result.status result.trace result.tower }
+    ensures outcome { PlayOutcomes plan.now ending (map (λ l. without_terminator l.now) lines.now) (P.slots shelf.old) result.status result.trace result.tower (P.slots shelf.new) }
     ensures tower { IsSome result.tower }
     ensures sound { IfSome result.tower IsSound }
     ensures written { Written (K.took out.old) (K.took out.new) (text_of result.trace) result.status }
@@ -176,7 +179,7 @@ fn run_lines<K: Sink>(
     ensures later { K.faults out.old ≤ K.faults out.new }
 {
     let mut trace = Seq::new(alloc);
-    match play(alloc, plan, &mut world, lines, out, &mut trace) {
+    match play(alloc, plan, &mut world, shelf, lines, out, &mut trace) {
         Ok(None) => match ending {
             None => {
                 let tick = world.tower.now();
@@ -213,7 +216,7 @@ fn run_lines<K: Sink>(
                 trace,
             )
         }
-        Err(stop) => Outcome {
+        Err(stop) => Finish {
             status: stopped(stop),
             trace,
             tower: Some(world.tower),
@@ -223,15 +226,16 @@ fn run_lines<K: Sink>(
 
 /// Runs a script.
 #[tactic(auto, using(crate::proofs::Ending::not_toml_from, crate::proofs::Ending::rule_from, crate::proofs::Ending::script_from, crate::proofs::Ending::wrote_nothing))]
-fn run_script<K: Sink>(
+fn run_script<K: Sink, P: Retires>(
     alloc: Global,
     ending: Option<Fault>,
     parts: &Parts<'_, '_>,
     out: &mut K,
-) -> Outcome
+    shelf: &mut P,
+) -> Finish
     requires ending { IsEnding ending }
     requires few { length parts.now.lines.now < 2 ^ 32 }
-    ensures outcome { ScriptOutcomes ending (script parts.now.stack.items (map (λ l. without_terminator l.now) parts.now.lines.now)) result.status result.trace result.tower }
+    ensures outcome { ScriptOutcomes ending (script parts.now.stack.items (map (λ l. without_terminator l.now) parts.now.lines.now)) (P.slots shelf.old) result.status result.trace result.tower (P.slots shelf.new) }
     ensures sound { IfSome result.tower IsSound }
     ensures written { Written (K.took out.old) (K.took out.new) (text_of result.trace) result.status }
     ensures fault { result.status ≡ Status.WriteFault → Rose (K.faults out.old) (K.faults out.new) }
@@ -252,15 +256,21 @@ fn run_script<K: Sink>(
         tower,
         labels: Labels::new(alloc),
     };
-    run_lines(alloc, ending, &plan, world, parts.lines, out)
+    run_lines(alloc, ending, &plan, world, parts.lines, out, shelf)
 }
 
 /// Runs an input, as far as it was read.
 #[tactic(auto, using(crate::proofs::Ending::wrote_nothing))]
-fn run_input<K: Sink>(alloc: Global, ending: Option<Fault>, bytes: &[u8], out: &mut K) -> Outcome
+fn run_input<K: Sink, P: Retires>(
+    alloc: Global,
+    ending: Option<Fault>,
+    bytes: &[u8],
+    out: &mut K,
+    shelf: &mut P,
+) -> Finish
     requires ending { IsEnding ending }
     requires few { length bytes.now ≤ 16777216 }
-    ensures outcome { IsNothing result.status result.trace result.tower ⊎ InputOutcomes ending (script_in (is_whole ending) bytes.now) result.status result.trace result.tower }
+    ensures outcome { (IsNothing result.status result.trace result.tower × (P.slots shelf.new ≡ P.slots shelf.old)) ⊎ InputOutcomes ending (script_in (is_whole ending) bytes.now) (P.slots shelf.old) result.status result.trace result.tower (P.slots shelf.new) }
     ensures sound { IfSome result.tower IsSound }
     ensures written { Written (K.took out.old) (K.took out.new) (text_of result.trace) result.status }
     ensures fault { result.status ≡ Status.WriteFault → Rose (K.faults out.old) (K.faults out.new) }
@@ -270,7 +280,7 @@ fn run_input<K: Sink>(alloc: Global, ending: Option<Fault>, bytes: &[u8], out: &
         return nothing(alloc);
     };
     match split_input(alloc, ending.is_none(), lines.as_slice()) {
-        Ok(Some(parts)) => run_script(alloc, ending, &parts, out),
+        Ok(Some(parts)) => run_script(alloc, ending, &parts, out, shelf),
         Ok(None) => match ending {
             Some(fault) => refuse(alloc, out, fault),
             None => nothing(alloc),
@@ -279,19 +289,20 @@ fn run_input<K: Sink>(alloc: Global, ending: Option<Fault>, bytes: &[u8], out: &
     }
 }
 
-/// The top call: the words of the command line without the program's name, the input, and where the
+/// A run over any shelf: the words of the command line without the program's name, the input, and where the
 /// notes are written. Each line's notes are written before the next line runs.
 #[tactic(auto, using(crate::proofs::Ending::kept_if, crate::proofs::Ending::failed_by_cut))]
-pub fn run<S: Source, K: Sink>(
+fn run_over<S: Source, K: Sink, P: Retires>(
     alloc: Global,
     words: &[String],
     input: &mut S,
     out: &mut K,
-) -> Outcome
+    shelf: &mut P,
+) -> Finish
     // What was written is the text of the trace, and a front of it after a write fault or want of memory.
     ensures written { Written (K.took out.old) (K.took out.new) (text_of result.trace) result.status }
     // The status, the trace and the tower are what the words and the input make.
-    ensures outcome { RunOutcomes (word_fault (map (λ w. string_bytes w) words.now)) (S.left input.old) (S.left input.new) result.status result.trace result.tower }
+    ensures outcome { RunOutcomes (word_fault (map (λ w. string_bytes w) words.now)) (S.left input.old) (S.left input.new) (P.slots shelf.old) result.status result.trace result.tower (P.slots shelf.new) }
     // Every facility of the tower keeps what its flows promise, and names its partners.
     ensures kept { IfSome result.tower (λ a. AreKept (seen_of a)) }
     // A flow has failed only by a cut of its wire.
@@ -304,12 +315,48 @@ pub fn run<S: Source, K: Sink>(
     }
     let taken = take_all(alloc, input);
     match taken.ending {
-        Ending::Whole => run_input(alloc, None, taken.bytes.as_slice(), out),
+        Ending::Whole => run_input(alloc, None, taken.bytes.as_slice(), out, shelf),
         Ending::TooLarge => {
             let (used, _) = taken.bytes.as_slice().split_at(LIMIT);
-            run_input(alloc, Some(Fault::TooLarge), used, out)
+            run_input(alloc, Some(Fault::TooLarge), used, out, shelf)
         }
-        Ending::Fault => run_input(alloc, Some(Fault::ReadFault), taken.bytes.as_slice(), out),
+        Ending::Fault => run_input(
+            alloc,
+            Some(Fault::ReadFault),
+            taken.bytes.as_slice(),
+            out,
+            shelf,
+        ),
         Ending::Memory => nothing(alloc),
+    }
+}
+
+/// The top call: the words of the command line without the program's name, the input, where the notes
+/// are written, and the policies. Each line's notes are written before the next line runs.
+pub fn run<S: Source, K: Sink, P: Retires>(
+    alloc: Global,
+    words: &[String],
+    input: &mut S,
+    out: &mut K,
+    shelf: P,
+) -> Outcome<P>
+    // What was written is the text of the trace, and a front of it after a write fault or want of memory.
+    ensures written { Written (K.took out.old) (K.took out.new) (text_of result.trace) result.status }
+    // The status, the trace, the tower and the shelf are what the words, the input and the shelf make.
+    ensures outcome { RunOutcomes (word_fault (map (λ w. string_bytes w) words.now)) (S.left input.old) (S.left input.new) (P.slots shelf) result.status result.trace result.tower (P.slots result.shelf) }
+    // Every facility of the tower keeps what its flows promise, and names its partners.
+    ensures kept { IfSome result.tower (λ a. AreKept (seen_of a)) }
+    // A flow has failed only by a cut of its wire.
+    ensures failed { IfSome result.tower (λ a. FailedByCut (seen_of a)) }
+    ensures read { result.status ≡ Status.ReadFault → Rose (S.faults input.old) (S.faults input.new) }
+    ensures write { result.status ≡ Status.WriteFault → Rose (K.faults out.old) (K.faults out.new) }
+{
+    let mut shelf = shelf;
+    let finish = run_over(alloc, words, input, out, &mut shelf);
+    Outcome {
+        status: finish.status,
+        trace: finish.trace,
+        tower: finish.tower,
+        shelf,
     }
 }

@@ -1,5 +1,7 @@
 //! Worked rows: inputs, each with the whole output that it has, and ends that fail.
+use rina_base::Name;
 use rina_io::{MemSink, MemSource};
+use rina_policy::{First, Last, Shelf};
 use rina_run::{Outcome, Status, run};
 use std::alloc::Global;
 use std::test::Fail;
@@ -30,6 +32,22 @@ const HELLO_NOTES: &str = "1 0 ok
 end 2
 ";
 
+/// A shelf with two policies.
+fn make_shelf(alloc: Global) -> Result<Shelf, Fail> {
+    let mut shelf = Shelf::new(alloc)?;
+    shelf.add(
+        alloc,
+        Name::read(alloc, b"last")?,
+        Box::new(alloc, Last::new())?,
+    )?;
+    shelf.add(
+        alloc,
+        Name::read(alloc, b"first")?,
+        Box::new(alloc, First::new())?,
+    )?;
+    Ok(shelf)
+}
+
 /// Runs an input with these words; reads and writes fail at the calls that are told.
 fn outcome_of(
     alloc: Global,
@@ -37,14 +55,15 @@ fn outcome_of(
     input: &str,
     reads: &[bool],
     writes: &[bool],
-) -> Result<(Outcome, MemSink), Fail> {
+) -> Result<(Outcome<Shelf>, MemSink), Fail> {
     let mut owned = Vec::new(alloc);
     for word in words {
         owned.push(String::from_str(alloc, word)?)?;
     }
     let mut source = MemSource::new(input.as_bytes().to_vec(alloc)?, reads.to_vec(alloc)?);
     let mut sink = MemSink::new(Vec::new(alloc), writes.to_vec(alloc)?);
-    let outcome = run(alloc, owned.as_slice(), &mut source, &mut sink);
+    let shelf = make_shelf(alloc)?;
+    let outcome = run(alloc, owned.as_slice(), &mut source, &mut sink, shelf);
     Ok((outcome, sink))
 }
 
@@ -58,7 +77,7 @@ fn hello_arrives_after_two_ticks(rt: HostRuntime) -> Result<(), Fail> {
 }
 
 /// Inputs of a stack and lines, and what is written.
-const ROWS: [(&str, &str); 17] = [
+const ROWS: [(&str, &str); 18] = [
     (
         "nodes = [\"a\", \"b\"]\n[[wire]]\nname = \"w\"\nends = [\"a\", \"b\"]\ndelay = 2\nlife = 10\nlargest = 1500\n%%\n",
         "end 0\n",
@@ -66,6 +85,10 @@ const ROWS: [(&str, &str); 17] = [
     (
         "nodes = [\"a\", \"b\"]\n[[wire]]\nname = \"w\"\nends = [\"a\", \"b\"]\ndelay = 2\nlife = 10\nlargest = 1500\n",
         "end 0\n",
+    ),
+    (
+        "nodes = [\"a\"]\n%%\nretire last\nretire last\nretire none\nretire first\n",
+        "1 0 ok\n2 0 no NoPolicy\n3 0 no NoPolicy\n4 0 ok\nend 0\n",
     ),
     ("nodes = [", "fault NotToml\n"),
     (

@@ -1,0 +1,159 @@
+//! How a run tells single steps of a DIF of a rank, and the write-offs of its ledgers.
+ghost use Rattle.std.specs.Prelude.{◌≡◌, IfOk};
+ghost use Rattle.rina_run.specs.StepTold.{cause_told, clock_note, clock_told, in_told, off_told, out_told, step_told, took_told};
+
+use crate::told::{tell_port, tell_send};
+use rina_account::Off;
+use rina_base::{Cause, Memory};
+use rina_data::{ClockStep, InStep, OutStep, StepError, Took};
+use rina_report::{CauseNote, ClockNote, Refusal, Said, TookNote};
+use rina_stack::Plan;
+use std::alloc::Global;
+
+/// The cause of a write-off in a DIF of a rank.
+pub fn tell_cause(
+    alloc: Global,
+    plan: &Plan,
+    rank: u16,
+    cause: Cause,
+) -> Result<Option<CauseNote>, Memory>
+    ensures { IfOk result (λ o. o ≡ cause_told plan.now rank cause) }
+{
+    match cause {
+        Cause::Expired { left, charge } => Ok(Some(CauseNote::Expired { left, charge })),
+        Cause::NoRoute { dst } => Ok(Some(CauseNote::NoRoute { dst })),
+        Cause::QueueFull { cap } => Ok(Some(CauseNote::QueueFull { cap })),
+        Cause::NoConnection { cep } => Ok(Some(CauseNote::NoConnection { cep })),
+        Cause::Duplicate { num } => Ok(Some(CauseNote::Duplicate { num })),
+        Cause::Behind { highest } => Ok(Some(CauseNote::Behind { highest })),
+        Cause::NoState { drf } => Ok(Some(CauseNote::NoState { drf })),
+        Cause::NoRoom { cap } => Ok(Some(CauseNote::NoRoom { cap })),
+        Cause::StateGone { last_in } => Ok(Some(CauseNote::StateGone { last_in })),
+        Cause::Broken { missing } => Ok(Some(CauseNote::Broken { missing })),
+        Cause::LinkDown { port } => match tell_port(alloc, plan, rank.saturating_sub(1), port)? {
+            Some(port) => Ok(Some(CauseNote::LinkDown { port })),
+            None => Ok(None),
+        },
+    }
+}
+
+/// What became of a PDU that a step took.
+fn tell_took(alloc: Global, plan: &Plan, rank: u16, took: Took) -> Result<Option<TookNote>, Memory>
+    ensures { IfOk result (λ o. o ≡ took_told plan.now rank took) }
+{
+    match took {
+        Took::Accepted => Ok(Some(TookNote::Accepted)),
+        Took::Relayed => Ok(Some(TookNote::Relayed)),
+        Took::Off(cause) => match tell_cause(alloc, plan, rank, cause)? {
+            Some(cause) => Ok(Some(TookNote::Off(cause))),
+            None => Ok(None),
+        },
+    }
+}
+
+/// What a step answered that takes a PDU from a link.
+pub fn tell_in(alloc: Global, plan: &Plan, rank: u16, step: InStep) -> Result<Option<Said>, Memory>
+    ensures { IfOk result (λ o. o ≡ in_told plan.now rank step) }
+{
+    match step {
+        InStep::Idle => Ok(Some(Said::Idle)),
+        InStep::Took { key, end } => match tell_took(alloc, plan, rank, end)? {
+            Some(end) => Ok(Some(Said::In { key, end })),
+            None => Ok(None),
+        },
+    }
+}
+
+/// What a step answered that gives a PDU to a link.
+pub fn tell_out(
+    alloc: Global,
+    plan: &Plan,
+    rank: u16,
+    step: OutStep,
+) -> Result<Option<Said>, Memory>
+    ensures { IfOk result (λ o. o ≡ out_told plan.now rank step) }
+{
+    match step {
+        OutStep::Idle => Ok(Some(Said::Idle)),
+        OutStep::Sent { key } => Ok(Some(Said::Out { key })),
+        OutStep::Off { key, cause } => match tell_cause(alloc, plan, rank, cause)? {
+            Some(cause) => Ok(Some(Said::OutOff { key, cause })),
+            None => Ok(None),
+        },
+        OutStep::Held { why } => match tell_send(alloc, plan, rank.saturating_sub(1), why)? {
+            Some(why) => Ok(Some(Said::Held { why })),
+            None => Ok(None),
+        },
+    }
+}
+
+/// What a step of the clock did, as a note shows it; None where nothing was due.
+fn note_clock(
+    alloc: Global,
+    plan: &Plan,
+    rank: u16,
+    step: ClockStep,
+) -> Result<Option<ClockNote>, Memory>
+    ensures { IfOk result (λ o. o ≡ clock_note plan.now rank step) }
+{
+    match step {
+        ClockStep::Idle => Ok(None),
+        ClockStep::LinkLost { link } => Ok(Some(ClockNote::LinkLost {
+            link: u32::from(link),
+        })),
+        ClockStep::LinkNew { link } => Ok(Some(ClockNote::LinkNew {
+            link: u32::from(link),
+        })),
+        ClockStep::Gone { cep } => Ok(Some(ClockNote::Gone { cep })),
+        ClockStep::GaveUp { num } => Ok(Some(ClockNote::GaveUp { num })),
+        ClockStep::Timeout { port } => match tell_port(alloc, plan, rank, port)? {
+            Some(port) => Ok(Some(ClockNote::Timeout { port })),
+            None => Ok(None),
+        },
+        ClockStep::Ack { cep } => Ok(Some(ClockNote::Ack { cep })),
+        ClockStep::Again { num } => Ok(Some(ClockNote::Again { num })),
+        ClockStep::Message { link } => Ok(Some(ClockNote::Message {
+            link: u32::from(link),
+        })),
+    }
+}
+
+/// What a step of the clock answered.
+pub fn tell_clock(
+    alloc: Global,
+    plan: &Plan,
+    rank: u16,
+    step: ClockStep,
+) -> Result<Option<Said>, Memory>
+    ensures { IfOk result (λ o. o ≡ clock_told plan.now rank step) }
+{
+    if let ClockStep::Idle = step {
+        return Ok(Some(Said::Idle));
+    }
+    match note_clock(alloc, plan, rank, step)? {
+        Some(step) => Ok(Some(Said::Clock { step })),
+        None => Ok(None),
+    }
+}
+
+/// Why a step was not taken.
+pub fn tell_step(error: StepError) -> Option<Refusal>
+    ensures { result ≡ step_told error }
+{
+    match error {
+        StepError::Memory => None,
+        StepError::NoIpc => Some(Refusal::NoIpc),
+        StepError::NoLink => Some(Refusal::NoLink),
+    }
+}
+
+/// A line of a ledger.
+pub fn tell_off(alloc: Global, plan: &Plan, rank: u16, off: &Off) -> Result<Option<Said>, Memory>
+    ensures { IfOk result (λ o. o ≡ off_told plan.now rank off.now) }
+{
+    let key = off.key;
+    match tell_cause(alloc, plan, rank, off.cause)? {
+        Some(cause) => Ok(Some(Said::Off { key, cause })),
+        None => Ok(None),
+    }
+}
