@@ -50,6 +50,9 @@ plan 2 2: addr = 300 => addr = 65535
 17 4: pdu = 80 => pdu = 255
 13 4: pdu = 80 => pdu = 19
 13 4: pdu = 80 => pdu = 20
+plan 2 2: pdu = 80 => pdu = 21 ;; queue = 64 => queue = 163 ;; retry = 31, window = 16 => retry = 31, window = 163 ;; largest = 244 => largest = 8 ;; largest = 240 => largest = 14
+13 4: pdu = 80 | widths = { addr = 2, cep = 2, len = 1, seq = 2 => pdu = 24 | widths = { addr = 2, cep = 2, len = 1, seq = 4 ;; queue = 64 => queue = 163 ;; retry = 31, window = 16 => retry = 31, window = 163 ;; largest = 244 => largest = 8 ;; largest = 240 => largest = 14
+plan 2 2: pdu = 80 | widths = { addr = 2, cep = 2, len = 1, seq = 2 => pdu = 25 | widths = { addr = 2, cep = 2, len = 1, seq = 4 ;; queue = 64 => queue = 163 ;; retry = 31, window = 16 => retry = 31, window = 163 ;; largest = 244 => largest = 8 ;; largest = 240 => largest = 14
 # Rule 14.
 14 3: largest = 80 } => largest = 81 }
 plan 2 2: largest = 80 } => largest = 80 }
