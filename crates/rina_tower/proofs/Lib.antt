@@ -1,6 +1,7 @@
 pub mod Alone
 pub mod Calling
 pub mod Lasting
+pub mod Owned
 pub mod Ranking
 pub mod Serving
 pub mod Stepped

@@ -3,6 +3,7 @@ pub mod Beside
 pub mod Calls
 pub mod Events
 pub mod Lasting
+pub mod Ledgers
 pub mod Ranks
 pub mod Refusing
 pub mod Standing

@@ -5,6 +5,7 @@ mod applications;
 mod difs;
 mod events;
 mod facility;
+mod ledgers;
 mod steps;
 mod tick;
 mod tower;
