@@ -1,11 +1,16 @@
 pub mod Applications
 pub mod Beside
+pub mod Building
 pub mod Calls
 pub mod Events
+pub mod Fitting
 pub mod Lasting
+pub mod Laying
 pub mod Ledgers
+pub mod Making
 pub mod Ranks
 pub mod Refusing
+pub mod Rooms
 pub mod Standing
 pub mod Stepping
 pub mod Ticking

@@ -2,6 +2,7 @@
 #![tactic(auto)]
 
 mod applications;
+mod build;
 mod difs;
 mod events;
 mod facility;

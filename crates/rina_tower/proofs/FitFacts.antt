@@ -1,0 +1,131 @@
+-- What a plan says of each link and each flow.
+use Rattle.std.proofs.Common.{◌≡◌, ◌≢◌, ℕ, zero, suc, ◌+◌, ◌==◌, ◌&&◌, ◌||◌, ◌∙◌, cond, not, Bool, true, false, List, [], ◌∷◌, map, slice_get, Some, nat_le, refl, sym, ap, subst, arith}
+use Rattle.std.specs.Prelude.{find}
+use Rattle.std.specs.List.{list_any}
+use Rattle.std.proofs.lemmas.Bool.{and_parts, not-false, or_parts}
+use Rattle.std.proofs.lemmas.Bool.Decides.{nat_tests}
+use Rattle.std.proofs.lemmas.Option.{same_Some}
+use Rattle.rina_cube.specs.declared.Cube.{Cube}
+use Rattle.rina_data.specs.Dif.{offer_of}
+use Rattle.rina_iface.proofs.Changed.{all_at}
+use Rattle.rina_iface.specs.Seen.{Offer, cube_in, is_member}
+use Rattle.rina_plan.specs.declared.dif.DifPlan.{DifPlan}
+use Rattle.rina_plan.specs.declared.dif.LinkPlan.{LinkPlan}
+use Rattle.rina_plan.specs.declared.dif.MemberPlan.{MemberPlan}
+use Rattle.rina_plan.specs.declared.dif.WireEnds.{WireEnds}
+use Rattle.rina_plan.specs.Links.{carries, has_crossed_link, is_crossed_link, is_member as has_node, is_there, is_uncarried, rank_of}
+use Rattle.rina_plan.specs.Walks.{has_cube}
+use Rattle.rina_stack.specs.declared.plan.Plan.{Plan}
+use Rattle.rina_stack.specs.Plan.{IsPlan, wire_ends}
+
+-- Lists
+
+pub none_at : {X : Type 0} (p : X → Bool) (xs : List X) → list_any p xs ≡ false → (k : ℕ) (x : X) → slice_get xs k ≡ Some x → p x ≡ false
+none_at p [] h k x at = cc
+none_at p (y ∷ xs) h zero x at = let same : y ≡ x = same_Some y x at in subst (λ z. p z ≡ false) same (or_parts (p y) (list_any p xs) h).0
+none_at p (y ∷ xs) h (suc k) x at = none_at p xs (or_parts (p y) (list_any p xs) h).1 k x at
+
+pub any_at : {X : Type 0} (p : X → Bool) (xs : List X) (k : ℕ) (x : X) → slice_get xs k ≡ Some x → p x ≡ true → list_any p xs ≡ true
+any_at p xs k x at holds = elim (list_any p xs) as (λ b. list_any p xs ≡ b → b ≡ true) [
+  | true ↦ λ h. refl
+  | false ↦ λ h. let none : p x ≡ false = none_at p xs h k x at in absurd (let e : true ≡ false = sym holds ∙ none in cc)
+] refl
+
+any_found : {X : Type 0} (p : X → Bool) (xs : List X) → list_any p xs ≡ true → (x : X) × (find p xs ≡ Some x)
+any_found p [] h = cc
+any_found p (y ∷ xs) h = elim (p y) as (λ b. (b || list_any p xs) ≡ true → (x : _) × (cond b (Some y) (find p xs) ≡ Some x)) [
+  | true ↦ λ g. (y, refl)
+  | false ↦ λ g. any_found p xs g
+] h
+
+pub any_element : {X : Type 0} (p : X → Bool) (xs : List X) → list_any p xs ≡ true → (k : ℕ) × (x : X) × (slice_get xs k ≡ Some x) × (p x ≡ true)
+any_element p [] h = cc
+any_element p (y ∷ xs) h = elim (p y) as (λ b. p y ≡ b → (b || list_any p xs) ≡ true → (k : ℕ) × (x : _) × (slice_get (y ∷ xs) k ≡ Some x) × (p x ≡ true)) [
+  | true ↦ λ e g. (0, y, refl, e)
+  | false ↦ λ e g. let r = any_element p xs g in (suc r.0, r.1, r.2, r.3)
+] refl h
+
+pub any_map : {A B : Type 0} (p : B → Bool) (f : A → B) (xs : List A) → list_any p (map f xs) ≡ list_any (λ x. p (f x)) xs
+any_map p f [] = refl
+any_map p f (x ∷ xs) = ap (λ b. p (f x) || b) (any_map p f xs)
+
+or_yes : (b : Bool) → (b || true) ≡ true
+or_yes true = refl
+or_yes false = refl
+
+pub any_weaker : {X : Type 0} (p q : X → Bool) (xs : List X) → ((x : X) → p x ≡ true → q x ≡ true) → list_any p xs ≡ true → list_any q xs ≡ true
+any_weaker p q [] each h = cc
+any_weaker p q (y ∷ xs) each h = elim (p y) as (λ b. p y ≡ b → (b || list_any p xs) ≡ true → (q y || list_any q xs) ≡ true) [
+  | true ↦ λ e g. rw (each y e) refl
+  | false ↦ λ e g. rw (any_weaker p q xs each g) (or_yes (q y))
+] refl h
+
+-- Links
+
+pub record IsLinkOf (plan : Plan) (d : DifPlan) (l : LinkPlan) : Type 0 where
+  pub rank : rank_of plan.difs l.on + 1 ≡ d.rank
+  pub apart : l.a ≢ l.b
+  pub a_there : is_there (map wire_ends plan.wires) plan.difs l.a l.on ≡ true
+  pub b_there : is_there (map wire_ends plan.wires) plan.difs l.b l.on ≡ true
+  pub carried : carries (map wire_ends plan.wires) plan.difs d.pdu l.cube l.on ≡ true
+
+differ : (m n : ℕ) → (m == n) ≡ false → m ≢ n
+differ m n h = grind (arith, nat_tests)
+
+same : (m n : ℕ) → (m == n) ≡ true → m ≡ n
+same m n h = grind (arith, nat_tests)
+
+record AreStraight (ranks nodes here there a_there b_there : Bool) : Type 0 where
+  rank : ranks ≡ true
+  apart : nodes ≡ false
+  a : a_there ≡ true
+  b : b_there ≡ true
+
+straight : (ranks nodes m n s t : Bool) → (not ranks || nodes || not (m && n && s && t)) ≡ false → AreStraight ranks nodes m n s t
+straight true false true true true true h = record { rank = refl; apart = refl; a = refl; b = refl }
+straight false nodes m n s t h = cc
+straight true true m n s t h = cc
+straight true false false n s t h = cc
+straight true false true false s t h = cc
+straight true false true true false t h = cc
+straight true false true true true false h = cc
+
+not_crossed : (wires : List WireEnds) (difs : List DifPlan) (d : DifPlan) (l : LinkPlan) → is_crossed_link wires difs d l ≡ false → AreStraight (rank_of difs l.on + 1 == d.rank) (l.a == l.b) (has_node l.a d) (has_node l.b d) (is_there wires difs l.a l.on) (is_there wires difs l.b l.on)
+unfolding is_crossed_link
+not_crossed wires difs d l h = straight (rank_of difs l.on + 1 == d.rank) (l.a == l.b) (has_node l.a d) (has_node l.b d) (is_there wires difs l.a l.on) (is_there wires difs l.b l.on) h
+
+crossed_none : (wires : List WireEnds) (difs : List DifPlan) (d : DifPlan) → has_crossed_link wires difs d ≡ false → (k : ℕ) (l : LinkPlan) → slice_get d.links k ≡ Some l → is_crossed_link wires difs d l ≡ false
+unfolding has_crossed_link
+crossed_none wires difs d h k l at = none_at (is_crossed_link wires difs d) d.links h k l at
+
+carried_each : (wires : List WireEnds) (difs : List DifPlan) (d : DifPlan) → is_uncarried wires difs d ≡ false → (k : ℕ) (l : LinkPlan) → slice_get d.links k ≡ Some l → not (carries wires difs d.pdu l.cube l.on) ≡ false
+unfolding is_uncarried
+carried_each wires difs d h k l at = none_at (λ (l' : LinkPlan). not (carries wires difs d.pdu l'.cube l'.on)) d.links h k l at
+
+pub link_facts : (plan : Plan) → IsPlan plan → (i : ℕ) (d : DifPlan) → slice_get plan.difs i ≡ Some d → (k : ℕ) (l : LinkPlan) → slice_get d.links k ≡ Some l → IsLinkOf plan d l
+link_facts plan p i d at k l link =
+    let ws : List WireEnds = map wire_ends plan.wires in
+    let none : has_crossed_link ws plan.difs d ≡ false = all_at (λ (e : DifPlan). has_crossed_link ws plan.difs e ≡ false) plan.difs i d p.links at in
+    let s = not_crossed ws plan.difs d l (crossed_none ws plan.difs d none k l link) in
+    let all : is_uncarried ws plan.difs d ≡ false = all_at (λ (e : DifPlan). is_uncarried ws plan.difs e ≡ false) plan.difs i d p.carried at in
+    record {
+      rank = same (rank_of plan.difs l.on + 1) d.rank s.rank;
+      apart = differ l.a l.b s.apart;
+      a_there = s.a;
+      b_there = s.b;
+      carried = not-false (carries ws plan.difs d.pdu l.cube l.on) (carried_each ws plan.difs d all k l link);
+    }
+
+-- Members and cubes of a DIF, as its facility shows them
+
+pub shows_member : (d : DifPlan) (node : ℕ) → has_node node d ≡ true → is_member (map (λ (m : MemberPlan). m.node) d.members) node ≡ true
+shows_member d node h = any_map (λ (m : ℕ). m == node) (λ (m : MemberPlan). m.node) d.members ∙ h
+
+pub lacks_member : (d : DifPlan) (node : ℕ) → is_member (map (λ (m : MemberPlan). m.node) d.members) node ≡ true → has_node node d ≡ true
+lacks_member d node h = sym (any_map (λ (m : ℕ). m == node) (λ (m : MemberPlan). m.node) d.members) ∙ h
+
+pub shows_cube : (d : DifPlan) (id : ℕ) → has_cube id d ≡ true → (o : Offer) × (cube_in (map offer_of d.cubes) id ≡ Some o)
+shows_cube d id h = any_found (λ (o : Offer). o.id == id) (map offer_of d.cubes) (any_map (λ (o : Offer). o.id == id) offer_of d.cubes ∙ h)
+
+pub carries_cube : (d : DifPlan) (pdu id : ℕ) → list_any (λ (c : Cube). (c.id == id) && nat_le pdu c.largest) d.cubes ≡ true → has_cube id d ≡ true
+carries_cube d pdu id h = any_weaker (λ (c : Cube). (c.id == id) && nat_le pdu c.largest) (λ (c : Cube). c.id == id) d.cubes (λ c g. (and_parts (c.id == id) (nat_le pdu c.largest) g).0) h
