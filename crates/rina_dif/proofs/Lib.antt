@@ -21,6 +21,7 @@ pub mod Passed
 pub mod Posted
 pub mod Putting
 pub mod Refused
+pub mod Routed
 pub mod Sent
 pub mod Settling
 pub mod Sound

@@ -26,7 +26,6 @@ none_at k x xs none is = (let e : slice_get [] k ≡ Some x = ap (λ ys. slice_g
 pub bare_up : (s : Settings) (node : ℕ) (p : IpcProcess) → IsBare s p → IsLinkedUp s node [] p
 bare_up s node p b = record {
   links = b.links;
-  routes = b.routes;
   ledger = b.ledger;
   room = b.room;
   ids = b.ids;
@@ -65,7 +64,7 @@ ports_skip node ports port other = filter-append _ ports (port ∷ []) ∙ ap (�
 
 -- a port of another node changes nothing
 pub up_skips : (s : Settings) (node : ℕ) (ports : List Port) (port : Port) (p : IpcProcess) → port.node ≢ node → IsLinkedUp s node ports p → IsLinkedUp s node (ports ++ port ∷ []) p
-up_skips s node ports port p other up = record { links = up.links ∙ ap (links_from 0) (sym (ports_skip node ports port other)); routes = up.routes; ledger = up.ledger; room = up.room; ids = up.ids; empty = up.empty; known = up.known; there = up.there }
+up_skips s node ports port p other up = record { links = up.links ∙ ap (links_from 0) (sym (ports_skip node ports port other)); ledger = up.ledger; room = up.room; ids = up.ids; empty = up.empty; known = up.known; there = up.there }
 
 -- Queues of a link that has none yet
 
@@ -156,7 +155,6 @@ up_adds s node ports port p p' same adds up =
     let all = in_more p p' port queues in
     record {
       links = adds.links ∙ ap (λ (n : ℕ). p.links ++ on n ∷ []) number ∙ ap (λ (ls : List Link). ls ++ on (0 + length (ports_at node ports)) ∷ []) up.links ∙ sym (links_push 0 (ports_at node ports) port) ∙ ap (links_from 0) (sym (ports_push node ports port same));
-      routes = adds.routes ∙ up.routes;
       ledger = adds.ledger ∙ up.ledger;
       room = adds.cap ∙ up.room;
       ids = subst (AreIds (queue_ids s.cubes)) (sym adds.cubes) up.ids;

@@ -1,5 +1,5 @@
 -- A DIF that was made as the plan of a stack says.
-use Rattle.std.proofs.Common.{◌≡◌, ◌∙◌, ℕ, zero, suc, ◌+◌, ◌==◌, ◌⊎◌, All, List, [], ◌∷◌, map, slice_get, option_map, Option, Some, None, true, false, sym, ap, subst, arith, inl, inr}
+use Rattle.std.proofs.Common.{◌≡◌, ◌∙◌, ℕ, zero, suc, ◌+◌, ◌==◌, ◌⊎◌, All, List, [], ◌∷◌, length, map, slice_get, option_map, Option, Some, None, true, false, sym, ap, subst, arith, inl, inr}
 use Rattle.std.specs.Prelude.{Contains, IsSome}
 use Rattle.std.proofs.lemmas.Bool.Decides.{eqb_tells}
 use Rattle.std.proofs.lemmas.Bool.{false≢true}
@@ -9,12 +9,14 @@ use Rattle.rina_cube.specs.declared.Cube.{Cube}
 use Rattle.rina_iface.specs.declared.ask.Fixed.{Fixed}
 use Rattle.rina_iface.specs.declared.ends.End.{End}
 use Rattle.rina_iface.specs.Seen.{Seen, end_of}
+use Rattle.rina_iface.proofs.Changed.{all_at}
+use Rattle.rina_plan.specs.declared.dif.LinkPlan.{LinkPlan}
 use Rattle.rina_plan.specs.declared.dif.DifPlan.{DifPlan}
 use Rattle.rina_plan.specs.declared.dif.MemberPlan.{MemberPlan}
 use Rattle.rina_queue.specs.declared.queue.Queued.{Queued}
 use Rattle.rina_queue.proofs.Places.{kept_at}
 use Rattle.rina_stack.specs.declared.plan.Plan.{Plan}
-use Rattle.rina_stack.specs.Plan.{IsPlan}
+use Rattle.rina_stack.specs.Plan.{IsPlan, IsRangedDif, IsSoundLink}
 use Rattle.rina_data.specs.declared.link.Link.{Link}
 use Rattle.rina_data.specs.declared.process.IpcProcess.{IpcProcess}
 use Rattle.rina_data.specs.declared.settings.Member.{Member as Kept}
@@ -22,7 +24,7 @@ use Rattle.rina_data.specs.declared.settings.Settings.{Settings}
 use Rattle.rina_data.specs.Cloud.{IsMine, Waits}
 use Rattle.rina_data.specs.Configs.{config_of, member_of}
 use Rattle.rina_data.specs.Deciding.{plain, process_of}
-use Rattle.rina_data.specs.Dif.{Member, Process, Queue, cube_by}
+use Rattle.rina_data.specs.Dif.{Member, Process, Queue, cube_by, queue_place}
 use Rattle.rina_data.specs.Standing.{HasLink, IsConfig, IsInside, IsLinked, IsQos}
 use Rattle.rina_data.specs.Numbered.{AreMembers}
 use Rattle.rina_data.proofs.Finding.{there}
@@ -32,8 +34,10 @@ use Rattle.rina_dif.specs.Building.{IsFree, queue_ids}
 use Rattle.rina_dif.specs.Holding.{Stands}
 use Rattle.rina_dif.specs.Laying.{AreLaid, AreLinkedUp, AreSettings, BindsAll, CanLay, IsLaidIn, IsLinkedUp, IsNew, IsNewProcess, Takes, ends_of, links_from, ports_at}
 use Rattle.rina_dif.specs.Planned.{ipc_name, link_fixed, links_in, links_of, members_from, processes_before, settings_by, settings_in, settings_of}
-use Rattle.rina_dif.proofs.Bare.{map_at, no_hop, none_in, start_holds, starts}
+use Rattle.rina_dif.specs.Routing.{AreRouted, KnowsLinks}
+use Rattle.rina_dif.proofs.Bare.{map_at, none_in, start_holds, starts}
 use Rattle.rina_dif.proofs.Laid.{same_end, stood_there}
+use Rattle.rina_dif.proofs.Routed.{Weigh, knows_link, laid_still}
 use Rattle.rina_dif.proofs.Sound.{are_members, is_config}
 
 -- The links
@@ -81,35 +85,7 @@ idle s ports ps i n item up w =
     let none : w.queue.items ≡ [] = ap (λ (z : Queue). z.items) (sym q.2) ∙ linked.empty w.place q.0 q.1 in
     none_in w.at item w.queue.items none w.is_item
 
--- It stands
-
-pub made_stands : (plan : Plan) (i : ℕ) (dif : DifPlan) (d : Dif) (old new : Seen) → IsPlan plan → slice_get plan.difs i ≡ Some dif → d.settings ≡ settings_by plan i dif → d.clock ≡ old.now → d.flows.journal.ends ≡ [] → d.flows.conns ≡ [] → IsFree (config_of d.settings) old → IsLaidIn (config_of d.settings) old new → AreLaid plan dif d.settings dif.links old new d.processes → Stands d new
-made_stands plan i dif d old new sound at are clock ends conns free inside laid =
-    let g = config_of d.settings in
-    let config : IsConfig g = subst (λ (s : Settings). IsConfig (config_of s)) (sym are) (is_config plan i dif sound at) in
-    let fresh = λ (port : Port) (end : End) (here : end_of new port ≡ Some end) (mine : IsMine g.members end.app ⊎ IsMine g.members end.peer) (P : Type 0) (then : end_of old port ≡ None → P).
-    stood_there old port P (λ e0 was. absurd (let same = same_end new port e0 end (inside.laid.stays port e0 was) here in free port end (was ∙ ap (λ (z : End). Some z) same) mine)) then in
-    let start = starts d new ends conns config (clock ∙ sym inside.laid.clock) laid.up.aligned
-    (λ k member link is has. linked plan dif d.settings old new d.processes k member link (record { place = i; stands = at; are = are }) laid is has)
-    (λ port end here mine. fresh port end here mine (IsInside g new port end) (λ none. inside.inside port end here none))
-    (λ port end here mine. fresh port end here (inl mine) (end.sent ≡ []) (λ none. (inside.laid.fresh port end here none).sent))
-    (λ k n item waits. idle d.settings (ends_of laid.ports) d.processes k n item laid.up waits) in
-    let members = subst (λ (s : Settings). AreMembers (config_of s)) (sym are) (are_members plan i dif sound at) in (
-      [],
-      start_holds d new ends conns start members (λ k p is.
-          let within = slice_get_within d.processes k p is in
-          let m = there d.settings.members k (let e = laid.up.aligned in omega (arith, within, e)) in
-          let up = laid.up.each k m.0 p m.1 is in
-          record { cap = up.room; queues = λ dst link qos hop known. absurd (no_hop dst link p.routes up.routes hop) }),
-    )
-
--- What it is
-
-pub its_settings : (plan : Plan) (i : ℕ) (dif : DifPlan) (s : Settings) → slice_get plan.difs i ≡ Some dif → s ≡ settings_by plan i dif → settings_of plan i ≡ Some s
-its_settings plan i dif s at are = ap (settings_in plan i) at ∙ ap (λ (z : Settings). Some z) (sym are)
-
-pub its_links : (plan : Plan) (i : ℕ) (dif : DifPlan) → slice_get plan.difs i ≡ Some dif → links_of plan i ≡ map (link_fixed plan dif) dif.links
-its_links plan i dif at = ap (links_in plan) at
+-- Its queues
 
 its_id : (qos : ℕ) (cubes : List Cube) (cube : Cube) → cube_by qos cubes ≡ Some cube → (k : ℕ) × (slice_get (map (λ (c : Cube). c.id) cubes) k ≡ Some qos)
 its_id qos [] cube found = absurd cc
@@ -128,6 +104,42 @@ has_id : (s : Settings) (qos : ℕ) → IsQos (config_of s) qos → Contains (qu
 has_id s qos (inl none) = contained (queue_ids s.cubes) 0 qos (ap (λ (n : ℕ). Some n) (sym none))
 has_id s qos (inr known) = (let at = its_id qos s.cubes known.0 known.1 in contained (queue_ids s.cubes) (suc at.0) qos at.1)
 
+-- It stands
+
+pub made_stands : (plan : Plan) (i : ℕ) (dif : DifPlan) (d : Dif) (old new : Seen) → IsPlan plan → slice_get plan.difs i ≡ Some dif → d.settings ≡ settings_by plan i dif → d.clock ≡ old.now → d.flows.journal.ends ≡ [] → d.flows.conns ≡ [] → IsFree (config_of d.settings) old → IsLaidIn (config_of d.settings) old new → (bare : List IpcProcess) → AreLaid plan dif d.settings dif.links old new bare → AreRouted d.settings.members dif.links (length d.settings.members) bare d.processes → Stands d new
+made_stands plan i dif d old new sound at are clock ends conns free inside bare was routed =
+    let laid = laid_still plan dif d.settings dif.links old new (length d.settings.members) bare d.processes was routed in
+    let g = config_of d.settings in
+    let config : IsConfig g = subst (λ (s : Settings). IsConfig (config_of s)) (sym are) (is_config plan i dif sound at) in
+    let fresh = λ (port : Port) (end : End) (here : end_of new port ≡ Some end) (mine : IsMine g.members end.app ⊎ IsMine g.members end.peer) (P : Type 0) (then : end_of old port ≡ None → P).
+    stood_there old port P (λ e0 was. absurd (let same = same_end new port e0 end (inside.laid.stays port e0 was) here in free port end (was ∙ ap (λ (z : End). Some z) same) mine)) then in
+    let start = starts d new ends conns config (clock ∙ sym inside.laid.clock) laid.up.aligned
+    (λ k member link is has. linked plan dif d.settings old new d.processes k member link (record { place = i; stands = at; are = are }) laid is has)
+    (λ port end here mine. fresh port end here mine (IsInside g new port end) (λ none. inside.inside port end here none))
+    (λ port end here mine. fresh port end here (inl mine) (end.sent ≡ []) (λ none. (inside.laid.fresh port end here none).sent))
+    (λ k n item waits. idle d.settings (ends_of laid.ports) d.processes k n item laid.up waits) in
+    let members = subst (λ (s : Settings). AreMembers (config_of s)) (sym are) (are_members plan i dif sound at) in (
+      [],
+      start_holds d new ends conns start members (λ k p is.
+          let within = slice_get_within d.processes k p is in
+          let m = there d.settings.members k (let e = laid.up.aligned in omega (arith, within, e)) in
+          let up = laid.up.each k m.0 p m.1 is in
+          record {
+            cap = up.room;
+            queues = λ dst link qos hop known.
+                let own = knows_link d.settings.members dif.links m.0 p dst link (routed.knows k m.0 p (slice_get_within d.settings.members k m.0 m.1) m.1 is) hop in
+                subst (λ (n : ℕ). IsSome (queue_place qos n (process_of p).queues)) own.3 (subst (λ (o : Option ℕ). IsSome o) (sym (same_place qos own.1.number p.queues.queues.items)) (up.there own.0 qos own.1 own.2 (up.ids.all qos (has_id d.settings qos known))));
+          }),
+    )
+
+-- What it is
+
+pub its_settings : (plan : Plan) (i : ℕ) (dif : DifPlan) (s : Settings) → slice_get plan.difs i ≡ Some dif → s ≡ settings_by plan i dif → settings_of plan i ≡ Some s
+its_settings plan i dif s at are = ap (settings_in plan i) at ∙ ap (λ (z : Settings). Some z) (sym are)
+
+pub its_links : (plan : Plan) (i : ℕ) (dif : DifPlan) → slice_get plan.difs i ≡ Some dif → links_of plan i ≡ map (link_fixed plan dif) dif.links
+its_links plan i dif at = ap (links_in plan) at
+
 new_process : (s : Settings) (node : ℕ) (ports : List Port) (p : IpcProcess) → IsLinkedUp s node ports p → IsNewProcess (config_of s) node ports (process_of p)
 new_process s node ports p up = record {
   links = up.links;
@@ -138,19 +150,26 @@ new_process s node ports p up = record {
   ledger = up.ledger;
 }
 
-pub made_new : (plan : Plan) (i : ℕ) (dif : DifPlan) (d : Dif) (old new : Seen) → slice_get plan.difs i ≡ Some dif → d.settings ≡ settings_by plan i dif → d.clock ≡ old.now → d.failed ≡ false → d.flows.journal.ends ≡ [] → d.flows.conns ≡ [] → d.waiting.items ≡ [] → d.names ≡ [] → AreLaid plan dif d.settings dif.links old new d.processes → IsNew plan i d old new
-made_new plan i dif d old new at are clock alive ends conns waiting names laid = record {
-  settings = its_settings plan i dif d.settings at are;
-  clock = clock;
-  alive = alive;
-  ports = laid.ports;
-  bound = subst (λ (fs : List Fixed). BindsAll old fs laid.ports new) (sym (its_links plan i dif at)) laid.bound;
-  processes = λ k member p is here. new_process d.settings member.node (ends_of laid.ports) p (laid.up.each k member p is here);
-  ends = ends;
-  conns = conns;
-  waiting = waiting;
-  names = names;
-}
+pub made_new : (plan : Plan) (i : ℕ) (dif : DifPlan) (d : Dif) (old new : Seen) → slice_get plan.difs i ≡ Some dif → d.settings ≡ settings_by plan i dif → d.clock ≡ old.now → d.failed ≡ false → d.flows.journal.ends ≡ [] → d.flows.conns ≡ [] → d.waiting.items ≡ [] → d.names ≡ [] → (bare : List IpcProcess) → AreLaid plan dif d.settings dif.links old new bare → AreRouted d.settings.members dif.links (length d.settings.members) bare d.processes → IsNew plan i d old new
+made_new plan i dif d old new at are clock alive ends conns waiting names bare was routed =
+    let laid = laid_still plan dif d.settings dif.links old new (length d.settings.members) bare d.processes was routed in record {
+      settings = its_settings plan i dif d.settings at are;
+      clock = clock;
+      alive = alive;
+      ports = laid.ports;
+      bound = subst (λ (fs : List Fixed). BindsAll old fs laid.ports new) (sym (its_links plan i dif at)) laid.bound;
+      processes = λ k member p is here. new_process d.settings member.node (ends_of laid.ports) p (laid.up.each k member p is here);
+      routed = λ dif' k member p at' is here. (let same : dif ≡ dif' = (let both : Some dif ≡ Some dif' = sym at ∙ at' in cc) in subst (λ (x : DifPlan). KnowsLinks d.settings.members x.links member p) same (routed.knows k member p (slice_get_within d.settings.members k member is) is here));
+      ends = ends;
+      conns = conns;
+      waiting = waiting;
+      names = names;
+    }
 
 pub made_takes : (plan : Plan) (i : ℕ) (dif : DifPlan) (s : Settings) (below : Seen) → slice_get plan.difs i ≡ Some dif → s ≡ settings_by plan i dif → CanLay plan i below → All (Takes below s.pdu) (map (link_fixed plan dif) dif.links)
 made_takes plan i dif s below at are can = subst (λ (fs : List Fixed). All (Takes below s.pdu) fs) (its_links plan i dif at) (can.takes s (its_settings plan i dif s at are))
+
+pub made_weighs : (plan : Plan) (i : ℕ) (dif : DifPlan) (links : List LinkPlan) → IsPlan plan → slice_get plan.difs i ≡ Some dif → links ≡ dif.links → Weigh links
+made_weighs plan i dif links sound at same k l is =
+    let d = all_at (IsRangedDif (length plan.nodes) (length plan.wires) (length plan.difs)) plan.difs i dif sound.difs at in
+    (all_at (IsSoundLink (length plan.nodes) (length plan.wires) (length plan.difs)) dif.links k l d.links (ap (λ (ls : List LinkPlan). slice_get ls k) (sym same) ∙ is)).least_weight

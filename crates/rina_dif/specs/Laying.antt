@@ -23,6 +23,7 @@ use Rattle.rina_data.specs.Standing.{IsInside, IsLinked, IsQos}
 use Rattle.rina_dif.specs.declared.dif.Dif.{Dif}
 use Rattle.rina_dif.specs.Building.{IsFree, queue_ids}
 use Rattle.rina_dif.specs.Planned.{ipc_name, link_fixed, links_of, settings_by, settings_of}
+use Rattle.rina_dif.specs.Routing.{KnowsLinks}
 
 -- Binding one after the other
 
@@ -93,8 +94,8 @@ pub record IsNewProcess (g : Config) (node : ℕ) (ports : List Port) (process :
   pub queues : HasEmptyQueues g process
   pub ledger : process.ledger ≡ []
 
--- the i-th DIF of the stack when it was made: the settings of the plan, its links bound below in stack order, and no
--- flows and names
+-- the i-th DIF of the stack when it was made: the settings of the plan, its links bound below in stack order, the
+-- next hops over them, and no flows and names
 pub record IsNew (plan : Plan) (i : ℕ) (d : Dif) (old new : Seen) : Type 0 where
   pub settings : settings_of plan i ≡ Some d.settings
   pub clock : d.clock ≡ old.now
@@ -102,6 +103,7 @@ pub record IsNew (plan : Plan) (i : ℕ) (d : Dif) (old new : Seen) : Type 0 whe
   pub ports : List (Port × Port)
   pub bound : BindsAll old (links_of plan i) ports new
   pub processes : (k : ℕ) (member : Kept) (p : IpcProcess) → slice_get d.settings.members k ≡ Some member → slice_get d.processes k ≡ Some p → IsNewProcess (config_of d.settings) member.node (ends_of ports) (process_of p)
+  pub routed : (dif : DifPlan) (k : ℕ) (member : Kept) (p : IpcProcess) → slice_get plan.difs i ≡ Some dif → slice_get d.settings.members k ≡ Some member → slice_get d.processes k ≡ Some p → KnowsLinks d.settings.members dif.links member p
   pub ends : d.flows.journal.ends ≡ []
   pub conns : d.flows.conns ≡ []
   pub waiting : d.waiting.items ≡ []
@@ -163,7 +165,6 @@ pub record IsLaidIn (g : Config) (old new : Seen) : Type 0 where
 -- so far an IPC process at a node has the links of these ports, and nothing waits
 pub record IsLinkedUp (s : Settings) (node : ℕ) (ports : List Port) (p : IpcProcess) : Type 0 where
   pub links : p.links ≡ links_from 0 (ports_at node ports)
-  pub routes : p.routes ≡ []
   pub ledger : p.ledger ≡ []
   pub room : p.queues.cap ≡ s.cap
   pub ids : AreIds (queue_ids s.cubes) p.queues.cubes

@@ -6,6 +6,7 @@ pub mod Freeing
 pub mod Holding
 pub mod Laying
 pub mod Planned
+pub mod Routing
 pub mod Sending
 pub mod Shown
 pub mod Steps

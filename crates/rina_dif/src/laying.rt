@@ -10,6 +10,7 @@ ghost use Rattle.rina_dif.specs.Planned.{link_fixed};
 use crate::dif::{Dif, place};
 use crate::planned::{link_fixed, settings_of};
 use crate::processes::Processes;
+use crate::routing::route_all;
 use rina_base::{Memory, Port};
 use rina_data::Settings;
 use rina_iface::{Facility, Fixed};
@@ -108,6 +109,8 @@ impl Dif {
         let settings = settings_of(alloc, plan, at, dif)?;
         let mut made = Dif::new(alloc, settings, below.now())?;
         lay_links(&mut made.processes, alloc, plan, dif, &made.settings, below)?;
+        let members = made.settings.members.as_slice();
+        route_all(&mut made.processes, alloc, members, dif.links.as_slice())?;
         Ok(made)
     }
 }

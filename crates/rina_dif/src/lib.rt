@@ -15,6 +15,7 @@ mod names;
 mod passing;
 mod planned;
 mod processes;
+mod routing;
 mod sending;
 mod taking;
 mod timely;

@@ -8,6 +8,7 @@ ghost use Rattle.rina_data.specs.declared.process.IpcProcess.{IpcProcess};
 ghost use Rattle.rina_data.specs.Configs.{config_of};
 ghost use Rattle.rina_data.specs.Hops.{hop_of};
 ghost use Rattle.rina_dif.specs.Laying.{AddsLink, AddsLinkAt};
+ghost use Rattle.rina_dif.specs.Routing.{SetsRoutes};
 ghost use Rattle.rina_dif.specs.Sending.{AreOf, HasRoomFor, Puts, queued};
 ghost use Rattle.rina_dif.specs.Steps.{AsksAt, Leaves, WillGo};
 ghost use Rattle.rina_dif.specs.Taking.{ArrivesTo, DecidesAt, NotesAt, RoutesAt};
@@ -15,8 +16,8 @@ ghost use Rattle.rina_dif.specs.Timely.{ForwardsAt, WithLedger};
 ghost use Rattle.rina_flows.specs.Delivering.{ForgetsIn, StopsIn};
 ghost use Rattle.rina_flows.specs.Timely.{GivesUpIn};
 
-use rina_base::{Addr, Cause, Memory, Num, Pdu, PduView, Port, Tick};
-use rina_data::{HopView, IpcProcess, Link, OutStep, Settings, Settled, StepError};
+use rina_base::{Addr, Cause, Memory, Num, Pdu, PduView, Port, Seq, Tick};
+use rina_data::{HopView, IpcProcess, Link, OutStep, Route, Settings, Settled, StepError};
 use rina_flows::Flows;
 use rina_iface::{Facility, PortState};
 use rina_policy::Picks;
@@ -103,6 +104,15 @@ impl Processes {
         ensures { OnOk result (AddsLinkAt port at self.old self.new) }
     {
         add_link(&mut self.items[at], alloc, port)
+    }
+
+    /// Gives the IPC process at a place other next hops. Takes no memory.
+    pub fn set_routes(&mut self, at: usize, routes: Seq<Route>)
+        requires { at < length self.old }
+        ensures { SetsRoutes at routes self.old self.new }
+    {
+        let process = &mut self.items[at];
+        process.routes = routes;
     }
 
     /// Takes one step of the IPC process at a place at a link: a PDU that waits is sent below, or written off, or stays.

@@ -11,7 +11,7 @@ use Rattle.rina_newest.specs.Decimal.{address_at}
 use Rattle.rina_newest.specs.Newest.{items_under}
 use Rattle.rina_route.specs.declared.link.Link.{Link}
 use Rattle.rina_route.specs.Nodes.{HaveWeights}
-use Rattle.rina_route.specs.Routes.{edge, in_weights, weight_at, edge_at, claim_at, claims_by, claims_of, has_link, is_up, turned, is_claimed, counts, edges_of, HaveLinks}
+use Rattle.rina_route.specs.Routes.{edge, in_weights, weight_at, edge_at, claim_at, claims_by, claims_of, has_link, is_up, turned, is_claimed, counts, counted, HaveLinks}
 use Rattle.rina_route.proofs.Lists.{in_none, contains_filter, contains_filter_map, contains_flat_map}
 
 -- ---- the parts of a text
@@ -108,10 +108,11 @@ item_weight : (item : Item) (e : Edge) → Contains (claims_of item) e → 1 ≤
 unfolding claims_of
 item_weight item e h = item_weight_by (starts_with nat_eq item.key (codes "/link/")) (address_at (drop 6 item.key)) item.value e h
 
-pub have_weights : (own : ℕ) (links : List Link) (items : List Item) → HaveWeights (edges_of own links items)
-have_weights own links items e among =
-    let r = contains_flat_map claims_of items e (contains_filter (counts own links (flat_map claims_of items)) (flat_map claims_of items) e among).0 in
-    item_weight r.0 e r.1
+pub have_weights : (items : List Item) → HaveWeights (flat_map claims_of items)
+have_weights items e among = (let r = contains_flat_map claims_of items e among in item_weight r.0 e r.1)
+
+pub counted_weights : (own : ℕ) (links : List Link) (claimed : List Edge) → HaveWeights claimed → HaveWeights (counted own links claimed)
+counted_weights own links claimed have e among = have e (contains_filter (counts own links claimed) claimed e among).0
 
 own_up : (own : ℕ) (links : List Link) (e : Edge) → is_up own links e ≡ true → e.from ≡ own → has_link links e.to e.weight ≡ true
 unfolding is_up
@@ -127,7 +128,5 @@ own_counts : (own : ℕ) (links : List Link) (claimed : List Edge) (e : Edge) �
 unfolding counts
 own_counts own links claimed e h from = own_up own links e (second (is_claimed claimed (turned e)) (is_up own links e) h) from
 
-pub have_links : (own : ℕ) (links : List Link) (items : List Item) → HaveLinks own links (edges_of own links items)
-have_links own links items e among from =
-    let claimed = flat_map claims_of items in
-    own_counts own links claimed e (contains_filter (counts own links claimed) claimed e among).1 from
+pub have_links : (own : ℕ) (links : List Link) (claimed : List Edge) → HaveLinks own links (counted own links claimed)
+have_links own links claimed e among from = own_counts own links claimed e (contains_filter (counts own links claimed) claimed e among).1 from

@@ -71,10 +71,6 @@ counts own links claimed e = is_claimed claimed (turned e) && is_up own links e
 abbrev pub counted : ℕ → List Link → List Edge → List Edge
 counted own links claimed = filter (counts own links claimed) claimed
 
--- the edges that the items claim and that count
-abbrev pub edges_of : ℕ → List Link → List Item → List Edge
-edges_of own links items = counted own links (flat_map claims_of items)
-
 -- the edges at the own address are over links
 abbrev pub HaveLinks : ℕ → List Link → List Edge → Type 0
 HaveLinks own links edges = (e : Edge) → Contains edges e → e.from ≡ own → has_link links e.to e.weight ≡ true
@@ -110,6 +106,10 @@ IsHop edges links own dst None = own ≢ dst → (walk : List Edge) → IsWalk e
 abbrev pub hop_at : List (ℕ × ℕ) → ℕ → Option ℕ
 hop_at rows dst = lookup (is_at (nat_cmp dst)) rows
 
--- each address has its link
+-- each address has its link over the edges that the ends of links claim
+abbrev pub AreHops : ℕ → List Link → List Edge → List (ℕ × ℕ) → Type 0
+AreHops own links claimed rows = (dst : ℕ) → IsHop (counted own links claimed) links own dst (hop_at rows dst)
+
+-- over those that the items claim
 abbrev pub AreRoutes : ℕ → List Link → List Item → List (ℕ × ℕ) → Type 0
-AreRoutes own links items rows = (dst : ℕ) → IsHop (edges_of own links items) links own dst (hop_at rows dst)
+AreRoutes own links items rows = AreHops own links (flat_map claims_of items) rows

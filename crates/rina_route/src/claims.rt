@@ -2,7 +2,7 @@
 //! names the neighbours there as `ADDRESS:WEIGHT`, joined by commas.
 ghost use Rattle.std.specs.Prelude.{◌≡◌, ◌++◌, ◌==◌, ◌<◌, filter, length, position, IfOk, IfSome};
 ghost use Rattle.std.specs.List.{flat_map};
-ghost use Rattle.rina_route.specs.Routes.{weight_at, edge_at, claim_at, claims_in, claims_of, has_link, is_up, same_edge, is_claimed, counts, counted, edges_of};
+ghost use Rattle.rina_route.specs.Routes.{weight_at, edge_at, claim_at, claims_in, claims_of, has_link, is_up, same_edge, is_claimed, counts, counted};
 
 use crate::link::Link;
 use rina_base::{Addr, Memory};
@@ -75,7 +75,7 @@ fn claims_of(alloc: Global, item: &Item) -> Result<Vec<Edge>, AllocError>
 }
 
 /// The edges that all items claim.
-fn claimed(alloc: Global, states: &Newest) -> Result<Vec<Edge>, Memory>
+pub(crate) fn claimed(alloc: Global, states: &Newest) -> Result<Vec<Edge>, Memory>
     ensures { IfOk result (λ v. v.items ≡ flat_map claims_of states.now) }
 {
     let found = states.under(alloc, FOLDER)?;
@@ -135,7 +135,7 @@ fn counts(own: Addr, links: &[Link], claimed: &[Edge], edge: Edge) -> bool
 }
 
 /// The edges that are claimed and count.
-fn counted(
+pub(crate) fn counted(
     alloc: Global,
     own: Addr,
     links: &[Link],
@@ -148,18 +148,4 @@ fn counted(
         .copied()
         .filter(|edge| counts(own, links, claimed, *edge))
         .collect(alloc)
-}
-
-/// The edges that the link states claim and that count.
-pub(crate) fn edges_of(
-    alloc: Global,
-    own: Addr,
-    links: &[Link],
-    states: &Newest,
-) -> Result<Vec<Edge>, Memory>
-    ensures { IfOk result (λ v. v.items ≡ edges_of own links.now states.now) }
-{
-    let claimed = claimed(alloc, states)?;
-    let edges = counted(alloc, own, links, &claimed)?;
-    Ok(edges)
 }

@@ -2,15 +2,15 @@
 ghost use Rattle.std.specs.Prelude.{◌≡◌, ◌<◌, ◌≤◌, ℕ, [], length, map, slice_index, IfOk, OnOk, OnErr};
 ghost use Rattle.std.specs.List.Sorted.{IsStrictlyIncreasing};
 ghost use Rattle.rina_graph.specs.Walks.{IsTree};
-ghost use Rattle.rina_route.specs.Nodes.{AreNodes, lifted};
-ghost use Rattle.rina_route.specs.Routes.{HaveLinks, IsHop, AreRoutes, edges_of, hop_at};
+ghost use Rattle.rina_route.specs.Nodes.{AreNodes, HaveWeights, lifted};
+ghost use Rattle.rina_route.specs.Routes.{HaveLinks, IsHop, AreHops, AreRoutes, hop_at};
 
-use crate::claims::edges_of;
+use crate::claims::{claimed, counted};
 use crate::hop::hop;
 use crate::link::Link;
 use crate::nodes::{graph_of, nodes_of, number_of};
 use rina_base::{Addr, Memory};
-use rina_graph::{Graph, Tree, least_hops};
+use rina_graph::{Edge, Graph, Tree, least_hops};
 use rina_newest::Newest;
 use std::alloc::Global;
 use std::collections::BTreeMap;
@@ -90,7 +90,25 @@ impl Routes {
         ensures ok { OnOk result (AreRoutes own links.now states.now self.new) }
         ensures err { OnErr result (self.new ≡ self.old) }
     {
-        let edges = edges_of(alloc, own, links, states)?;
+        let claimed = claimed(alloc, states)?;
+        self.rebuild_of(alloc, own, links, &claimed)
+    }
+
+    /// Builds the table anew, for the own address, the own links that are up, and the edges that the ends of links
+    /// claim, each with a weight of 1 or more. Without memory nothing changes, nor where the edges name more than
+    /// 65,535 other addresses.
+    pub fn rebuild_of(
+        &mut self,
+        alloc: Global,
+        own: Addr,
+        links: &[Link],
+        claimed: &[Edge],
+    ) -> Result<(), Memory>
+        requires weights { HaveWeights claimed.now }
+        ensures ok { OnOk result (AreHops own links.now claimed.now self.new) }
+        ensures err { OnErr result (self.new ≡ self.old) }
+    {
+        let edges = counted(alloc, own, links, claimed)?;
         let nodes = nodes_of(alloc, own, &edges)?;
         if nodes.len() > MOST_NODES {
             return Err(Memory);

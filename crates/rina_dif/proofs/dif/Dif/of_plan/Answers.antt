@@ -1,5 +1,7 @@
-use Rattle.std.proofs.Common.{◌≡◌, ◌∙◌}
-use Rattle.rina_dif.proofs.Made.{its_settings, made_new, made_stands, made_takes}
+use Rattle.std.proofs.Common.{◌≡◌, ◌∙◌, List, ap, length, sym}
+use Rattle.rina_data.specs.declared.settings.Member.{Member}
+use Rattle.rina_dif.proofs.Made.{its_settings, made_new, made_stands, made_takes, made_weighs}
+use Rattle.rina_dif.proofs.Routed.{same_routed}
 use Rattle.rina_dif.proofs.Wiring.{all_bare_up}
 use Rattle.rina_dif.proofs.dif.Dif.of_plan.Goals as goal
 
@@ -9,18 +11,28 @@ lay_links-requires-clause-takes g c = made_takes c.args.plan.now c.args.at c.in-
 pub lay_links-requires-clause-up : goal.lay_links-requires-clause-up
 lay_links-requires-clause-up g c = all_bare_up c.in_ok-made.made.settings c.in_ok-made.made.processes c.in_ok-made.ensures.bare.processes
 
+pub route_all-requires-clause-aligned : goal.route_all-requires-clause-aligned
+route_all-requires-clause-aligned g c = c.in_ok-lay_links.ensures.ok.up.aligned ∙ ap (λ (ms : List Member). length ms) (sym c.as_slice-members.ensures)
+
+pub route_all-requires-clause-weights : goal.route_all-requires-clause-weights
+route_all-requires-clause-weights g c = made_weighs c.args.plan.now c.args.at c.in-Some.dif.now c.as_slice.result.now c.requires.plan c.in-Some.ensures c.as_slice.ensures
+
 pub returns-clause-stands : goal.returns-clause-stands
 returns-clause-stands g c =
     let made = c.in_ok-made.made in
     let bare = c.in_ok-made.ensures.bare in
+    let dif = c.in-Some.dif.now in
     let seen = g.F.Facility.seen in
     let are : made.settings ≡ _ = c.in_ok-made.ensures.settings ∙ c.in_ok-settings.ensures in
-    let free = c.requires.can.free made.settings (its_settings c.args.plan.now c.args.at c.in-Some.dif.now made.settings c.in-Some.ensures are) in
-    made_stands c.args.plan.now c.args.at c.in-Some.dif.now (record made { processes = c.lay_links.new.processes }) (seen c.args.below.now) (seen c.lay_links.new.below) c.requires.plan c.in-Some.ensures are (c.in_ok-made.ensures.clock ∙ c.now.ensures) bare.ends bare.conns free c.lay_links.ensures.laid c.in_ok-lay_links.ensures.ok
+    let free = c.requires.can.free made.settings (its_settings c.args.plan.now c.args.at dif made.settings c.in-Some.ensures are) in
+    let routed = same_routed c.as_slice-members.result.now made.settings.members c.as_slice.result.now dif.links c.lay_links.new.processes c.route_all.new.processes c.as_slice-members.ensures c.as_slice.ensures c.in_ok-route_all.ensures in
+    made_stands c.args.plan.now c.args.at dif (record made { processes = c.route_all.new.processes }) (seen c.args.below.now) (seen c.lay_links.new.below) c.requires.plan c.in-Some.ensures are (c.in_ok-made.ensures.clock ∙ c.now.ensures) bare.ends bare.conns free c.lay_links.ensures.laid c.lay_links.new.processes c.in_ok-lay_links.ensures.ok routed
 
 pub returns-clause-exact : goal.returns-clause-exact
 returns-clause-exact g c =
     let made = c.in_ok-made.made in
     let bare = c.in_ok-made.ensures.bare in
+    let dif = c.in-Some.dif.now in
     let seen = g.F.Facility.seen in
-    made_new c.args.plan.now c.args.at c.in-Some.dif.now (record made { processes = c.lay_links.new.processes }) (seen c.args.below.now) (seen c.lay_links.new.below) c.in-Some.ensures (c.in_ok-made.ensures.settings ∙ c.in_ok-settings.ensures) (c.in_ok-made.ensures.clock ∙ c.now.ensures) c.in_ok-made.ensures.alive bare.ends bare.conns bare.waiting bare.names c.in_ok-lay_links.ensures.ok
+    let routed = same_routed c.as_slice-members.result.now made.settings.members c.as_slice.result.now dif.links c.lay_links.new.processes c.route_all.new.processes c.as_slice-members.ensures c.as_slice.ensures c.in_ok-route_all.ensures in
+    made_new c.args.plan.now c.args.at dif (record made { processes = c.route_all.new.processes }) (seen c.args.below.now) (seen c.lay_links.new.below) c.in-Some.ensures (c.in_ok-made.ensures.settings ∙ c.in_ok-settings.ensures) (c.in_ok-made.ensures.clock ∙ c.now.ensures) c.in_ok-made.ensures.alive bare.ends bare.conns bare.waiting bare.names c.lay_links.new.processes c.in_ok-lay_links.ensures.ok routed

@@ -1,0 +1,196 @@
+-- The IPC processes of a DIF get their next hops.
+use Rattle.std.proofs.Common.{◌≡◌, ◌∙◌, ◌⊎◌, ⊎_elim, ℕ, ◌+◌, ◌<◌, ◌≤◌, ◌==◌, Bool, true, false, cond, get_or, Contains, List, [], ◌∷◌, find, length, length-set, slice_get, Option, Some, None, option_and_then, option_map, refl, sym, ap, subst, arith, inl, inr}
+use Rattle.std.specs.List.{cons_option, filter_map}
+use Rattle.std.proofs.lemmas.Option.{get_or_from_slice_get, slice_get-get_or, slice_get_within}
+use Rattle.std.proofs.lemmas.List.Elements.{Contains-append_cases, Contains-append_left, Contains-append_right, Contains-push, Contains-push_cases}
+use Rattle.rina_base.specs.declared.number.Port.{Port}
+use Rattle.rina_iface.proofs.Changed.{set_at}
+use Rattle.rina_iface.specs.Seen.{Seen}
+use Rattle.rina_graph.specs.declared.graph.Edge.{Edge}
+use Rattle.rina_route.specs.declared.link.Link.{Link as Hop}
+use Rattle.rina_route.specs.Nodes.{HaveWeights}
+use Rattle.rina_route.specs.Routes.{AreHops, IsHop, counted, edge, hop_at}
+use Rattle.rina_plan.specs.declared.dif.DifPlan.{DifPlan}
+use Rattle.rina_plan.specs.declared.dif.LinkPlan.{LinkPlan}
+use Rattle.rina_stack.specs.declared.plan.Plan.{Plan}
+use Rattle.rina_data.specs.declared.link.Link.{Link}
+use Rattle.rina_data.specs.declared.link.Route.{Route}
+use Rattle.rina_data.specs.declared.process.IpcProcess.{IpcProcess}
+use Rattle.rina_data.specs.declared.settings.Member.{Member}
+use Rattle.rina_data.specs.declared.settings.Settings.{Settings}
+use Rattle.rina_data.specs.Dif.{next_hop}
+use Rattle.rina_data.proofs.Finding.{found_in}
+use Rattle.rina_dif.specs.Laying.{AreLaid, IsLinkedUp, ends_of}
+use Rattle.rina_dif.specs.Routing.{AreRouted, KnowsLinks, SetsRoutes, addr_at, edge_back, edge_between, edge_there, edges_from, edges_of, own_link, own_links, route_to, routes_to, with_routes}
+
+-- Lists
+
+in_none : {A : Type 0} (x : A) → Contains [] x → ⊥
+in_none x h = omega (arith, h.1)
+
+head : {A : Type 0} (x : A) (xs : List A) → Contains (x ∷ xs) x
+head x xs = Contains-append_left (x ∷ []) xs x (Contains-push [] x)
+
+tail : {A : Type 0} (x : A) (xs : List A) (y : A) → Contains xs y → Contains (x ∷ xs) y
+tail x xs y h = Contains-append_right (x ∷ []) xs y h
+
+cases : {A : Type 0} (x : A) (xs : List A) (y : A) → Contains (x ∷ xs) y → (x ≡ y) ⊎ Contains xs y
+cases x xs y h = ⊎_elim (λ one. ⊎_elim (λ none. absurd (in_none y none)) (λ same. inl same) (Contains-push_cases [] x y one)) (λ rest. inr rest) (Contains-append_cases (x ∷ []) xs y h)
+
+made_step : {A B : Type 0} (f : A → Option B) (y : A) (ys : List A) (x : B) (o : Option B) → f y ≡ o → (Contains (filter_map f ys) x → (z : A) × Contains ys z × (f z ≡ Some x)) → Contains (cons_option o (filter_map f ys)) x → (z : A) × Contains (y ∷ ys) z × (f z ≡ Some x)
+made_step f y ys x None is more h = (let r = more h in (r.0, tail y ys r.0 r.1, r.2))
+made_step f y ys x (Some v) is more h = ⊎_elim (λ same. (y, head y ys, is ∙ ap Some same)) (λ rest. (let r = more rest in (r.0, tail y ys r.0 r.1, r.2))) (cases v (filter_map f ys) x h)
+
+-- of which element it was made
+made_of : {A B : Type 0} (f : A → Option B) (xs : List A) (x : B) → Contains (filter_map f xs) x → (z : A) × Contains xs z × (f z ≡ Some x)
+made_of f [] x h = absurd (in_none x h)
+made_of f (y ∷ ys) x h = made_step f y ys x (f y) refl (λ rest. made_of f ys x rest) h
+
+at_place : {X : Type 0} (xs : List X) (x : X) → Contains xs x → (k : ℕ) × (slice_get xs k ≡ Some x)
+at_place {X = X} xs x has = (has.0, slice_get-get_or xs has.0 x has.1 ∙ ap (λ (y : X). Some y) has.2)
+
+is_there : {X : Type 0} (xs : List X) (k : ℕ) (x : X) → slice_get xs k ≡ Some x → Contains xs x
+is_there xs k x is = (k, slice_get_within xs k x is, get_or_from_slice_get xs k x x is)
+
+-- Weights
+
+weight_to : (from w : ℕ) (to : Option ℕ) (e : Edge) → option_map (λ to. edge from to w) to ≡ Some e → e.weight ≡ w
+weight_to from w None e h = absurd cc
+weight_to from w (Some to) e h = (let same : edge from to w ≡ e = cc in sym (ap (λ (x : Edge). x.weight) same))
+
+weight_by : (w : ℕ) (from to : Option ℕ) (e : Edge) → option_and_then (λ from. option_map (λ to. edge from to w) to) from ≡ Some e → e.weight ≡ w
+weight_by w None to e h = absurd cc
+weight_by w (Some from) to e h = weight_to from w to e h
+
+weight_of : (members : List Member) (a b w : ℕ) (e : Edge) → edge_between members a b w ≡ Some e → e.weight ≡ w
+weight_of members a b w e h = weight_by w (addr_at members a) (addr_at members b) e h
+
+abbrev pub Weigh : List LinkPlan → Type 0
+Weigh links = (k : ℕ) (l : LinkPlan) → slice_get links k ≡ Some l → 1 ≤ l.weight
+
+weighs : (links : List LinkPlan) (l : LinkPlan) (e : Edge) → Weigh links → Contains links l → e.weight ≡ l.weight → 1 ≤ e.weight
+weighs links l e all has same =
+    let at = at_place links l has in
+    let least : 1 ≤ l.weight = all at.0 l at.1 in
+    omega (arith, least, same)
+
+pub edges_weigh : (members : List Member) (links : List LinkPlan) → Weigh links → HaveWeights (edges_of members links)
+edges_weigh members links all e among = ⊎_elim
+    (λ first. (let r = made_of (edge_there members) links e first in weighs links r.0 e all r.1 (weight_of members r.0.a r.0.b r.0.weight e r.2)))
+    (λ second. (let r = made_of (edge_back members) links e second in weighs links r.0 e all r.1 (weight_of members r.0.b r.0.a r.0.weight e r.2)))
+    (Contains-append_cases (filter_map (edge_there members) links) (filter_map (edge_back members) links) e among)
+
+-- Its own links
+
+number_by : (link : Link) (o : Option Edge) (h : Hop) → option_map (λ (e : Edge). record { number = link.number; peer = e.to; weight = e.weight }) o ≡ Some h → link.number ≡ h.number
+number_by link None h is = absurd cc
+number_by link (Some e) h is =
+    let made : Hop = record { number = link.number; peer = e.to; weight = e.weight } in
+    let same : made ≡ h = cc in
+    ap (λ (z : Hop). z.number) same
+
+pub own_number : (edges : List Edge) (links : List Link) (h : Hop) → Contains (own_links edges links) h → (k : ℕ) × (link : Link) × (slice_get links k ≡ Some link) × (link.number ≡ h.number)
+own_number edges links h has =
+    let r = made_of (own_link edges) links h has in
+    let at = at_place links r.0 r.1 in
+    (at.0, r.0, at.1, number_by r.0 (slice_get edges r.0.number) h r.2)
+
+-- a next hop is one of them
+hop_there : (edges : List Edge) (links : List Hop) (own dst n : ℕ) (o : Option ℕ) → o ≡ Some n → IsHop edges links own dst o → (h : Hop) × Contains links h × (h.number ≡ n)
+hop_there edges links own dst n None is hop = absurd cc
+hop_there edges links own dst n (Some m) is hop = (let same : m ≡ n = cc in (hop.3.0.0, hop.3.0.1, hop.3.0.3 ∙ same))
+
+-- Its next hops
+
+row_by : (addr n : ℕ) (o : Option ℕ) (r : Route) → option_map (λ n. record { dst = addr; link = n }) o ≡ Some r → r.link ≡ n → (addr ≡ r.dst) × (o ≡ Some n)
+row_by addr n None r is link = absurd cc
+row_by addr n (Some m) r is link =
+    let made : Route = record { dst = addr; link = m } in
+    let same : made ≡ r = cc in
+    (ap (λ (z : Route). z.dst) same, ap (λ (x : ℕ). Some x) (ap (λ (z : Route). z.link) same ∙ link))
+
+row_if : (b : Bool) (addr n : ℕ) (o : Option ℕ) (r : Route) → cond b None (option_map (λ n. record { dst = addr; link = n }) o) ≡ Some r → r.link ≡ n → (addr ≡ r.dst) × (o ≡ Some n)
+row_if true addr n o r is link = absurd cc
+row_if false addr n o r is link = row_by addr n o r is link
+
+row_of : (own n : ℕ) (rows : List (ℕ × ℕ)) (m : Member) (r : Route) → route_to own rows m ≡ Some r → r.link ≡ n → (m.addr ≡ r.dst) × (hop_at rows m.addr ≡ Some n)
+row_of own n rows m r is link = row_if (m.addr == own) m.addr n (hop_at rows m.addr) r is link
+
+hop_found : (dst n : ℕ) (routes : List Route) (o : Option Route) → find (λ (r : Route). r.dst == dst) routes ≡ o → option_map (λ (r : Route). r.link) o ≡ Some n → (r : Route) × Contains routes r × (r.link ≡ n)
+hop_found dst n routes None found is = absurd cc
+hop_found dst n routes (Some r) found is =
+    let at = found_in (λ (r : Route). r.dst == dst) routes r found in
+    let link : r.link ≡ n = cc in
+    (r, is_there routes at.0 r at.1, link)
+
+-- the link of each next hop is one of its own
+pub knows_link : (members : List Member) (plans : List LinkPlan) (m : Member) (p : IpcProcess) (dst n : ℕ) → KnowsLinks members plans m p → next_hop dst p.routes ≡ Some n → (k : ℕ) × (link : Link) × (slice_get p.links k ≡ Some link) × (link.number ≡ n)
+knows_link members plans m p dst n knows hop =
+    let is : next_hop dst (routes_to m.addr knows.rows members) ≡ Some n = ap (next_hop dst) (sym knows.routes) ∙ hop in
+    let r = hop_found dst n (routes_to m.addr knows.rows members) (find (λ (r : Route). r.dst == dst) (routes_to m.addr knows.rows members)) refl is in
+    let to = made_of (route_to m.addr knows.rows) members r.0 r.1 in
+    let row = row_of m.addr n knows.rows to.0 r.0 to.2 r.2 in
+    let edges = edges_from members m.node plans in
+    let h = hop_there (counted m.addr (own_links edges p.links) (edges_of members plans)) (own_links edges p.links) m.addr to.0.addr n (hop_at knows.rows to.0.addr) row.1 (knows.hops to.0.addr) in
+    let own = own_number edges p.links h.0 h.1 in
+    (own.0, own.1, own.2, own.3 ∙ h.2)
+
+-- One after the other
+
+pub none_routed : (members : List Member) (plans : List LinkPlan) (ps : List IpcProcess) → AreRouted members plans 0 ps ps
+none_routed members plans ps = record {
+  aligned = refl;
+  knows = λ k m p lt is here. absurd (omega (arith, lt));
+  same = λ k p here. (p, p.routes, here, refl);
+}
+
+pub next_routed : (members : List Member) (plans : List LinkPlan) (at : ℕ) (old mid new : List IpcProcess) (m : Member) (p : IpcProcess) (rows : List (ℕ × ℕ)) (routes : List Route) → AreRouted members plans at old mid → slice_get members at ≡ Some m → slice_get mid at ≡ Some p → AreHops m.addr (own_links (edges_from members m.node plans) p.links) (edges_of members plans) rows → routes ≡ routes_to m.addr rows members → SetsRoutes at routes mid new → AreRouted members plans (at + 1) old new
+next_routed members plans at old mid new m p rows routes so is here hops are sets =
+    let set = sets p here in
+    let split = λ (k : ℕ) (q : IpcProcess) (there : slice_get new k ≡ Some q). set_at mid at k p (with_routes p routes) q here (ap (λ (ps : List IpcProcess). slice_get ps k) (sym set) ∙ there) in
+    record {
+      aligned = ap (λ (ps : List IpcProcess). length ps) set ∙ length-set mid at (with_routes p routes) ∙ so.aligned;
+      knows = λ k x q lt at_k there. elim (split k q there) [
+        | inl t ↦
+            let member : x ≡ m = (let both : Some x ≡ Some m = sym at_k ∙ ap (slice_get members) t.0 ∙ is in cc) in
+            subst (λ (z : Member). KnowsLinks members plans z q) (sym member) (subst (KnowsLinks members plans m) (sym t.1) (record { rows = rows; hops = hops; routes = are }))
+        | inr u ↦ (let other = u.0 in so.knows k x q (below k at lt other) at_k u.1)
+      ];
+      same = λ k q there. elim (split k q there) [
+        | inl t ↦
+            let before = so.same at p here in
+            (before.0, routes, ap (slice_get old) t.0 ∙ before.2, t.1 ∙ ap (λ (z : IpcProcess). with_routes z routes) before.3)
+        | inr u ↦ so.same k q u.1
+      ];
+    }
+  where
+    below : (k at : ℕ) → k < at + 1 → (k ≡ at → ⊥) → k < at
+    below k at lt other = omega (arith, lt, other)
+
+pub turn_routed : (members : List Member) (plans : List LinkPlan) (at : ℕ) (old mid new : List IpcProcess) (m : Member) (p : IpcProcess) (links : List Link) (claimed : List Edge) (rows : List (ℕ × ℕ)) (routes : List Route) → AreRouted members plans at old mid → at < length members → m ≡ get_or members at m → slice_get mid at ≡ Some p → links ≡ p.links → claimed ≡ edges_of members plans → AreHops m.addr (own_links (edges_from members m.node plans) links) claimed rows → routes ≡ routes_to m.addr rows members → SetsRoutes at routes mid new → AreRouted members plans (at + 1) old new
+turn_routed members plans at old mid new m p links claimed rows routes so lt is here same all hops are sets =
+    let edges = edges_from members m.node plans in
+    next_routed members plans at old mid new m p rows routes so (slice_get-get_or members at m lt ∙ ap (λ (x : Member). Some x) (sym is)) here (subst (λ (ls : List Link). AreHops m.addr (own_links edges ls) (edges_of members plans) rows) same (subst (λ (es : List Edge). AreHops m.addr (own_links edges links) es rows) all hops)) are sets
+
+pub all_routed : (members : List Member) (plans : List LinkPlan) (at : ℕ) (old new : List IpcProcess) → length members ≤ at → AreRouted members plans at old new → AreRouted members plans (length members) old new
+all_routed members plans at old new le so = record { aligned = so.aligned; knows = λ k m p lt is here. so.knows k m p (omega (arith, lt, le)) is here; same = so.same }
+
+-- seen otherwise
+pub same_routed : (members members' : List Member) (plans plans' : List LinkPlan) (old new : List IpcProcess) → members ≡ members' → plans ≡ plans' → AreRouted members plans (length members) old new → AreRouted members' plans' (length members') old new
+same_routed members members' plans plans' old new same same' so = subst (λ (ms : List Member). AreRouted ms plans' (length ms) old new) same (subst (λ (ls : List LinkPlan). AreRouted members ls (length members) old new) same' so)
+
+-- What was laid is laid still
+
+up_still : (s : Settings) (node : ℕ) (ports : List Port) (p : IpcProcess) (routes : List Route) → IsLinkedUp s node ports p → IsLinkedUp s node ports (with_routes p routes)
+up_still s node ports p routes up = record { links = up.links; ledger = up.ledger; room = up.room; ids = up.ids; empty = up.empty; known = up.known; there = up.there }
+
+pub laid_still : (plan : Plan) (d : DifPlan) (s : Settings) (links : List LinkPlan) (old new : Seen) (count : ℕ) (ps ps' : List IpcProcess) → AreLaid plan d s links old new ps → AreRouted s.members links count ps ps' → AreLaid plan d s links old new ps'
+laid_still plan d s links old new count ps ps' laid routed = record {
+  ports = laid.ports;
+  bound = laid.bound;
+  up = record {
+    aligned = routed.aligned ∙ laid.up.aligned;
+    each = λ k m p is here. (let q = routed.same k p here in subst (IsLinkedUp s m.node (ends_of laid.ports)) (sym q.3) (up_still s m.node (ends_of laid.ports) q.0 q.1 (laid.up.each k m q.0 is q.2)));
+  };
+  named = laid.named;
+}
