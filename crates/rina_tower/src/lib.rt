@@ -14,3 +14,6 @@ mod tower;
 pub use applications::AppError;
 pub use difs::Difs;
 pub use tower::{Rank, Tower};
+
+#[cfg(test)]
+mod tests;
