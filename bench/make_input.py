@@ -1,0 +1,150 @@
+"""Prints an rlemu input (stack, '%%', schedule) for one of the scenarios of this bench.
+
+    python3 make_input.py W N            two nodes, one wire, a flow on the wire itself
+    python3 make_input.py A N            two nodes, one wire, one datagram flow of a DIF
+    python3 make_input.py B N [LOSE]     chain of 6 nodes, reliable flow over 5 hops;
+                                         the middle wire loses LOSE of 1000 frames (50)
+    python3 make_input.py C N RANKS      two nodes, a tower of 1 to 8 static DIFs
+
+N SDUs of 80 zero bytes are sent and read.
+W, A and C send 64 and then tick once and read; B sends 2 in two ticks and reads after 16.
+"""
+import sys
+
+SDU = 80
+# Widths with a sequence number of 4 bytes, so that a million SDUs are one run of numbers.
+WIDTHS = "{ addr = 1, cep = 1, len = 2, seq = 4 }"
+PCI = 4 + 2 * 1 + 2 * 1 + 2 + 4   # pci_len of a data PDU
+LIFE = 4
+MAX_INPUT = 16_777_216            # what rlemu reads
+
+
+def dif(name, rank, pdu, queue, mpl, cube, members, links, flow):
+    """One static DIF as lines of TOML."""
+    manage_r = 400
+    lines = [
+        "[[dif]]",
+        f'name = "{name}"',
+        f"rank = {rank}",
+        "static = true",
+        f"pdu = {pdu}",
+        f"widths = {WIDTHS}",
+        f"queue = {queue}",
+        'policy = "strict"',
+        "wait = 2000",
+        f"manage = {{ mpl = {mpl}, r = {manage_r}, a = 2, retry = 40, window = 16 }}",
+        f"cube = [ {cube} ]",
+        "member = [ " + ", ".join(f'{{ node = "{n}", addr = {a} }}' for n, a in members) + " ]",
+        "link = [ " + ", ".join(links) + " ]",
+    ]
+    if flow:
+        lines.append(f"flow = [ {flow} ]")
+    return lines
+
+
+def wire(name, a, b, lose=0):
+    lines = [
+        "[[wire]]",
+        f'name = "{name}"',
+        f'ends = ["{a}", "{b}"]',
+        "delay = 1",
+        "life = 4",
+        "largest = 1500",
+    ]
+    if lose:
+        lines.append(f"storm = {{ seed = 1, lose = {lose}, repeat = 0, spread = 0 }}")
+    return lines
+
+
+def flow(cube, a, b):
+    return (f'{{ cube = {cube}, from = {{ node = "{a}", app = "s", label = "p" }}, '
+            f'to = {{ node = "{b}", app = "t", label = "q" }} }}')
+
+
+def stack_w():
+    return ['nodes = ["a", "b"]'] + wire("w", "a", "b")
+
+
+def stack_a():
+    cube = f'{{ id = 1, kind = "datagram", mpl = 40, window = 64, largest = {SDU} }}'
+    return (['nodes = ["a", "b"]'] + wire("w", "a", "b")
+            + dif("d", 1, SDU + PCI + LIFE, 64, 40, cube, [("a", 1), ("b", 2)],
+                  ['{ on = "w", a = "a", b = "b" }'], flow(1, "a", "b")))
+
+
+def stack_b(lose):
+    names = [f"n{i}" for i in range(6)]
+    lines = ["nodes = [" + ", ".join(f'"{n}"' for n in names) + "]"]
+    for i in range(5):
+        lines += wire(f"w{i}", names[i], names[i + 1], lose if i == 2 else 0)
+    cube = ('{ id = 1, kind = "reliable", mpl = 60, window = 256, '
+            f'largest = {SDU}, r = 420, a = 1, retry = 14 }}')
+    links = [f'{{ on = "w{i}", a = "{names[i]}", b = "{names[i + 1]}" }}' for i in range(5)]
+    return lines + dif("d", 1, SDU + PCI + LIFE, 256, 60, cube,
+                       [(n, i + 1) for i, n in enumerate(names)], links, flow(1, "n0", "n5"))
+
+
+def stack_c(ranks):
+    lines = ['nodes = ["a", "b"]'] + wire("w", "a", "b")
+    for rank in range(1, ranks + 1):
+        above = ranks - rank                      # layers above this one
+        largest = SDU + above * (PCI + LIFE)      # what the layer above needs
+        mpl = 40 * rank                           # each rank charges the promise below
+        cube = f'{{ id = 1, kind = "datagram", mpl = {mpl}, window = 64, largest = {largest} }}'
+        link = ('{ on = "w", a = "a", b = "b" }' if rank == 1 else
+                f'{{ on = "d{rank - 1}", a = "a", b = "b", cube = 1 }}')
+        lines += dif(f"d{rank}", rank, largest + PCI + LIFE, 64, mpl, cube,
+                     [("a", 1), ("b", 2)], [link],
+                     flow(1, "a", "b") if rank == ranks else None)
+    return lines
+
+
+def schedule_batches(n, batch=64):
+    """A and C: a batch is sent, crosses the wire in one tick, and is read."""
+    done = 0
+    while done < n:
+        k = min(batch, n - done)
+        for _ in range(k):
+            yield f"send p z{SDU}"
+        yield "tick 1"
+        yield "read q"
+        done += k
+
+
+def schedule_paced(n, per_send=2, per_read=16):
+    """B: one SDU a tick on average, a read after 16; at the end the losses are made good."""
+    done = 0
+    while done < n:
+        k = min(per_send, n - done)
+        for _ in range(k):
+            yield f"send p z{SDU}"
+        yield f"tick {per_send}"
+        done += k
+        if done % per_read == 0:
+            yield "read q"
+    yield "tick 300"
+    yield "read q"
+
+
+def main():
+    words = sys.argv[1:]
+    if len(words) < 2 or words[0] not in ("W", "A", "B", "C"):
+        sys.exit(__doc__)
+    what, n = words[0], int(words[1])
+    if what == "W":
+        stack = stack_w()
+        ask = ["register w b t", "alloc p w a s t", "accept q w b t"]
+        lines = ask + list(schedule_batches(n))
+    elif what == "A":
+        stack, lines = stack_a(), schedule_batches(n)
+    elif what == "B":
+        stack, lines = stack_b(int(words[2]) if len(words) > 2 else 50), schedule_paced(n)
+    else:
+        stack, lines = stack_c(int(words[2]) if len(words) > 2 else 4), schedule_batches(n)
+    text = "\n".join(stack) + "\n%%\n" + "\n".join(lines) + "\n"
+    if len(text) > MAX_INPUT:
+        print(f"make_input: {len(text)} bytes are more than rlemu reads", file=sys.stderr)
+    sys.stdout.write(text)
+
+
+main()
