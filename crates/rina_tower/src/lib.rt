@@ -16,4 +16,6 @@ pub use difs::Difs;
 pub use tower::{Rank, Tower};
 
 #[cfg(test)]
+mod build_tests;
+#[cfg(test)]
 mod tests;
