@@ -1,8 +1,7 @@
-pub mod Seen
-pub mod TwinSteps
-pub mod Labels
 pub mod Inversion
 pub mod SoundDif
+pub mod LabelsOfFlows
 pub mod Sound
 pub mod Runs
 pub mod NamesOfDifs
+pub mod Shelves

@@ -17,8 +17,9 @@ use Rattle.rina_rows.specs.declared.sketch.Sketch.{Sketch}
 use Rattle.rina_rows.specs.Rows.{cube_at, member_at, rule_at, link_at, flow_at}
 use Rattle.rina_rows.specs.Items.{unknown_at, widths_in, manage_in, dif_at, sketch_at}
 use Rattle.rina_stack.specs.declared.plan.Plan.{Plan}
-use Rattle.rina_stack.specs.Rules.{twin_fault}
-use Rattle.rina_stack.specs.Stack.{plain, full, plan_of, unknown_item, resolved_at, rules_at, stack_at}
+use Rattle.rina_rules.specs.Rules.{twin_fault}
+use Rattle.rina_rules.specs.Order.{rules_at}
+use Rattle.rina_stack.specs.Stack.{plain, full, plan_of, unknown_item, resolved_at, stack_at}
 use Rattle.rina_stack.specs.Runnable.{is_stormy, is_ruled, unready_item, unready_key, is_yes, is_dynamic, first_dynamic, item_of, unready_type, runnable_at, IsRunnableDif, IsRunnable}
 use Rattle.rina_stack.proofs.Inversion.{bind_ok, ok_is, unbroken}
 use Rattle.rina_stack.proofs.SoundDif.{over4}

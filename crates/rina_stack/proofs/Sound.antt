@@ -32,13 +32,13 @@ use Rattle.rina_table.specs.Values.{element, has_third, rows, rows_in, tables_in
 use Rattle.rina_fields.specs.Fields.{named, name_in, number_in}
 use Rattle.rina_rows.specs.Rows.{storm_or, wire_end, wire_at}
 use Rattle.rina_rows.specs.Items.{node_row, rounds_or, dif_at, sketch_at}
-use Rattle.rina_stack.specs.Rules.{has_text, twin_after, twin_in, twin_fault, earlier, facility_twin, label_twin, wire_names, dif_names, first_wire, is_crossed, spread_of, top_fault}
-use Rattle.rina_stack.specs.Stack.{plain, full, narrow, plan_of, unknown_item, resolved_at, ends_of, difs_at, rules_at, stack_at}
-use Rattle.rina_stack.specs.Policies.{is_built_in}
-use Rattle.rina_stack.specs.Built.{unbuilt_key, unbuilt_word, built_at}
+use Rattle.rina_rules.specs.Rules.{has_text, twin_after, twin_in, twin_fault, earlier, facility_twin, label_twin, wire_names, dif_names, labels, first_wire, is_crossed, spread_of, top_fault}
+use Rattle.rina_rules.specs.Order.{ends_of, alone_at, linked_at, difs_at, rules_at}
+use Rattle.rina_stack.specs.Stack.{plain, full, narrow, plan_of, unknown_item, resolved_at, stack_at}
 use Rattle.rina_stack.specs.Runnable.{unready_key, unready_type, runnable_at}
 use Rattle.rina_stack.specs.Plan.{AreDistinct, names_of, wire_ends, IsRangedCube, IsRangedDif, NoDif, IsSoundWire, IsPlan}
 use Rattle.rina_stack.proofs.SoundDif.{dif_7, whole_cube, dif_parts, IsNamed, named_7}
+use Rattle.rina_stack.proofs.LabelsOfFlows.{same_labels, no_label_twin}
 use Rattle.rina_stack.proofs.Inversion.{bind_ok, ok_is, unbroken, all_read, same_rows, number_7, node_7}
 
 -- ---- a test that no element passes
@@ -234,26 +234,48 @@ pub record NoneBrokenBy (wires : List WireEnds) (difs : List DifPlan) : Type 0 w
 no_dif : (n first : ℕ) (p : DifPlan → Bool) (difs : List DifPlan) (t : Unit {0}) → unless n (option_map (λ i. first + i) (position p difs)) ≡ Ok t → NoDif p difs
 no_dif n first p difs t h = nowhere p difs (no_more (λ i. first + i) (position p difs) (unbroken n (option_map (λ i. first + i) (position p difs)) t h))
 
-none_by : (first : ℕ) (wires : List WireEnds) (difs : List DifPlan) (t : Unit {0}) → difs_at first wires difs ≡ Ok t → NoneBrokenBy wires difs
-unfolding difs_at
-none_by first wires difs t h =
+-- nor one of those that it breaks by itself
+record NoneAlone (difs : List DifPlan) : Type 0 where
+  ranks : NoDif (lacks_lower difs) difs
+  cubes : NoDif lacks_cubes difs
+  times : NoDif has_mistimed difs
+  members : NoDif is_misplaced difs
+  pdus : NoDif is_misfit difs
+  sdus : NoDif has_oversized difs
+
+none_alone : (first : ℕ) (difs : List DifPlan) (t : Unit {0}) → alone_at first difs ≡ Ok t → NoneAlone difs
+unfolding alone_at
+none_alone first difs t h =
     let (_, r9, h10) = bind_ok (unless 9 (option_map (λ i. first + i) (position (lacks_lower difs) difs))) _ t h in
     let (_, r10, h11) = bind_ok (unless 10 (option_map (λ i. first + i) (position lacks_cubes difs))) _ t h10 in
     let (_, r11, h12) = bind_ok (unless 11 (option_map (λ i. first + i) (position has_mistimed difs))) _ t h11 in
     let (_, r12, h13) = bind_ok (unless 12 (option_map (λ i. first + i) (position is_misplaced difs))) _ t h12 in
     let (_, r13, h14) = bind_ok (unless 13 (option_map (λ i. first + i) (position is_misfit difs))) _ t h13 in
-    let (_, r14, h15) = bind_ok (unless 14 (option_map (λ i. first + i) (position has_oversized difs))) _ t h14 in
-    let (_, r15, h16) = bind_ok (unless 15 (option_map (λ i. first + i) (position (is_misused difs) difs))) _ t h15 in
-    let (_, r16a, h16b) = bind_ok (unless 16 (option_map (λ i. 1 + i) (first_loaded (length wires) difs))) _ t h16 in
-    let (_, r16, h17) = bind_ok (unless 16 (option_map (λ i. first + i) (position (has_crossed_link wires difs) difs))) _ t h16b in
-    let (_, r17, h18) = bind_ok (unless 17 (option_map (λ i. first + i) (position (is_uncarried wires difs) difs))) _ t h17 in
     record {
       ranks = no_dif 9 first (lacks_lower difs) difs _ r9;
       cubes = no_dif 10 first lacks_cubes difs _ r10;
       times = no_dif 11 first has_mistimed difs _ r11;
       members = no_dif 12 first is_misplaced difs _ r12;
       pdus = no_dif 13 first is_misfit difs _ r13;
-      sdus = no_dif 14 first has_oversized difs _ r14;
+      sdus = no_dif 14 first has_oversized difs t h14;
+    }
+
+none_by : (first : ℕ) (wires : List WireEnds) (difs : List DifPlan) (t : Unit {0}) → difs_at first wires difs ≡ Ok t → NoneBrokenBy wires difs
+unfolding difs_at linked_at
+none_by first wires difs t h =
+    let (u, by_itself, h15) = bind_ok (alone_at first difs) _ t h in
+    let alone = none_alone first difs u by_itself in
+    let (_, r15, h16) = bind_ok (unless 15 (option_map (λ i. first + i) (position (is_misused difs) difs))) _ t h15 in
+    let (_, r16a, h16b) = bind_ok (unless 16 (option_map (λ i. 1 + i) (first_loaded (length wires) difs))) _ t h16 in
+    let (_, r16, h17) = bind_ok (unless 16 (option_map (λ i. first + i) (position (has_crossed_link wires difs) difs))) _ t h16b in
+    let (_, r17, h18) = bind_ok (unless 17 (option_map (λ i. first + i) (position (is_uncarried wires difs) difs))) _ t h17 in
+    record {
+      ranks = alone.ranks;
+      cubes = alone.cubes;
+      times = alone.times;
+      members = alone.members;
+      pdus = alone.pdus;
+      sdus = alone.sdus;
       uses = no_dif 15 first (is_misused difs) difs _ r15;
       links = no_dif 16 first (has_crossed_link wires difs) difs _ r16;
       carried = no_dif 17 first (is_uncarried wires difs) difs _ r17;
@@ -295,6 +317,7 @@ same_fault n fault found t is h =
 record StandOnce (s : Sketch) : Type 0 where
   nodes : twin_in s.nodes ≡ None
   facilities : twin_in (wire_names s.wires ++ dif_names s.difs) ≡ None
+  labels : twin_in (labels s.difs) ≡ None
 
 top_holds : (b : Bool) (rest : Option ℕ) → cond b (Some 0) rest ≡ None → (b ≡ false) × (rest ≡ None)
 top_holds false rest h = (refl, h)
@@ -304,8 +327,12 @@ once : (s : Sketch) → twin_fault s ≡ None → StandOnce s
 unfolding twin_fault
 once s h =
     let (nodes, rest) = top_holds (is_some (twin_in s.nodes)) _ h in
-    let (facilities, _) = neither (facility_twin s) (option_map (λ i. 1 + length s.wires + i) (label_twin s.difs)) rest in
-    record { nodes = none_first (twin_in s.nodes) nodes; facilities = no_more (λ i. 1 + i) (twin_in (wire_names s.wires ++ dif_names s.difs)) facilities }
+    let (facilities, owners) = neither (facility_twin s) (option_map (λ i. 1 + length s.wires + i) (label_twin s.difs)) rest in
+    record {
+      nodes = none_first (twin_in s.nodes) nodes;
+      facilities = no_more (λ i. 1 + i) (twin_in (wire_names s.wires ++ dif_names s.difs)) facilities;
+      labels = no_label_twin s.difs (no_more (λ i. 1 + length s.wires + i) (label_twin s.difs) owners);
+    }
 
 front_differs : (xs ys : List (List ℕ)) → AreDistinct (xs ++ ys) → AreDistinct xs
 front_differs xs ys h = λ i j d lt within.
@@ -347,6 +374,7 @@ pub record Resolved (known : List ℕ → Bool) (d : Data) (s : Sketch) : Type 0
   wires : All (IsSoundSketch (length s.nodes)) s.wires
   difs : All (IsRangedDif (length s.nodes) (length s.wires) (length s.difs)) s.difs
   difs_differ : AreDistinct (dif_names s.difs)
+  labels_differ : AreDistinct (labels s.difs)
   named : All IsNamed s.difs
 
 pub resolved : (known : List ℕ → Bool) (d : Data) (named s : Sketch) (t t' : Unit {0}) → sketch_at (plain 4) d ≡ Ok named → unless 5 (twin_fault named) ≡ Ok t → resolved_at known named d ≡ Ok s → rules_at s ≡ Ok t' → Resolved known d s
@@ -378,6 +406,7 @@ resolved known d named s t t' is_named five is_s rest =
           (subst (λ (m : ℕ). All (IsRangedDif (length named.nodes) (length named.wires) m) s.difs) dif_count
           (all_read (IsRangedDif (length named.nodes) (length named.wires) (length named.difs)) (dif_at (full named u)) (1 + length after.wire_tables) after.dif_tables s.difs (λ n x y. dif_7 named u n x y) after.difs)));
       difs_differ = subst AreDistinct named_difs (back_differs (wire_names named.wires) (dif_names named.difs) all_differ);
+      labels_differ = subst AreDistinct (same_labels named u (1 + length after.wire_tables) after.dif_tables named.difs s.difs behind after.difs) (distinct (labels named.difs) single.labels);
       named = all_read IsNamed (dif_at (full named u)) (1 + length after.wire_tables) after.dif_tables s.difs (λ n x y. named_7 named u n x y) after.difs;
     }
 
@@ -420,6 +449,7 @@ planned known d s r =
       wires = All-map (IsSoundWire (length s.nodes)) narrow s.wires (λ k e within. wire_planned (length s.nodes) (get_or s.wires k e) (r.wires k e within) (straight (get_or s.wires k e) (r.unbroken_rules.wires k e within)));
       few_difs = r.unbroken_rules.few_difs;
       difs_differ = r.difs_differ;
+      labels_differ = r.labels_differ;
       dif_names = λ k e within. (r.named k e within).name;
       app_names = λ k e within. (r.named k e within).flows;
       difs = subst (λ (m : ℕ). All (IsRangedDif (length s.nodes) m (length s.difs)) s.difs) (sym (length-map s.wires narrow)) r.difs;
@@ -454,14 +484,6 @@ is_plan known t p h =
 pub read_plan : (known : List ℕ → Bool) (r : Result Plan StackError) (t : Data) → Gives (λ p. p) r (stack_at known t) → IfOk r IsPlan
 read_plan known (Ok p) t h = is_plan known t p h
 read_plan known (Err e) t h = tt
-
-pub built_plan : (r : Result Plan StackError) (t : Data) → Gives (λ p. p) r (built_at t) → IfOk r IsPlan
-unfolding built_at
-built_plan (Ok p) t h =
-    let (_, _, h1) = bind_ok (unless 2 (unbuilt_key t)) _ p h in
-    let (_, _, h2) = bind_ok (unless 3 (unbuilt_word (get (codes "rounds") t))) _ p h1 in
-    is_plan is_built_in t p h2
-built_plan (Err e) t h = tt
 
 pub runnable_plan : (known : List ℕ → Bool) (r : Result Plan StackError) (t : Data) → Gives (λ p. p) r (runnable_at known t) → IfOk r IsPlan
 unfolding runnable_at

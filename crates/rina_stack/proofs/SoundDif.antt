@@ -34,7 +34,7 @@ use Rattle.rina_fields.specs.Fields.{name_in, number_in, number_or, as_width, wi
 use Rattle.rina_rows.specs.Rows.{kind_in, widths_at, manage_at, cube_at, member_at, rule_at, link_at, end_at, flow_at}
 use Rattle.rina_rows.specs.Items.{unknown_at, widths_in, manage_in, dif_at}
 use Rattle.rina_stack.specs.Stack.{full}
-use Rattle.rina_stack.specs.Rules.{wire_names, dif_names}
+use Rattle.rina_rules.specs.Rules.{wire_names, dif_names}
 use Rattle.rina_stack.specs.Plan.{IsLower, IsSoundLink, IsRangedCube, IsRangedDif, HasNames}
 use Rattle.rina_stack.proofs.Inversion.{bind_ok, ok_is, all_read, found_6, found_7, number_7, number_or_7, node_in_7, if_some, name_7}
 

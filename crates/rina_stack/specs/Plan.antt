@@ -16,6 +16,7 @@ use Rattle.rina_plan.specs.Difs.{lacks_lower, lacks_cubes, is_misplaced, is_misf
 use Rattle.rina_plan.specs.Links.{is_misused, has_crossed_link, is_uncarried}
 use Rattle.rina_plan.specs.Walks.{IsCarriedFlow, IsCarriedLink}
 use Rattle.rina_plan.specs.Counts.{links_of, load_of, IsRoomy}
+use Rattle.rina_rules.specs.Rules.{labels}
 use Rattle.rina_stack.specs.declared.plan.WirePlan.{WirePlan}
 use Rattle.rina_stack.specs.declared.plan.Plan.{Plan}
 
@@ -92,7 +93,8 @@ abbrev pub NoDif : (DifPlan → Bool) → List DifPlan → Type 0
 NoDif p difs = All (λ d. p d ≡ false) difs
 
 -- What holds of each plan that was read. There are at most 64 nodes, 128 wires and 16 DIFs, and the names of nodes, of wires and of DIFs differ; the
--- names of DIFs and of the applications of flows are names, so that no slash stands in them; each wire is sound; and of each DIF:
+-- names of DIFs and of the applications of flows are names, so that no slash stands in them; no two labels of flows are alike; each wire is sound; and of
+-- each DIF:
 -- its numbers are in range, and what it refers to is there (difs); of rank above 1, there is one of the rank below (ranks); its cubes have different ids
 -- (cubes), are in range, and their times fit their kinds (times); its members stand on different nodes and have different addresses that fit (members);
 -- its PDUs fit their length field, and have room for a piece and for an acknowledgement (pdus); its SDUs fit a piece, or a window and a queue (sdus);
@@ -109,6 +111,7 @@ pub record IsPlan (p : Plan) : Type 0 where
   pub few_difs : length p.difs ≤ 16
   pub difs_differ : AreDistinct (map (λ (d : DifPlan). d.name) p.difs)
   pub dif_names : All (λ (d : DifPlan). name_at d.name ≡ Ok d.name) p.difs
+  pub labels_differ : AreDistinct (labels p.difs)
   pub app_names : All (λ (d : DifPlan). All HasNames d.flows) p.difs
   pub difs : All (IsRangedDif (length p.nodes) (length p.wires) (length p.difs)) p.difs
   pub ranks : NoDif (lacks_lower p.difs) p.difs

@@ -10,7 +10,7 @@ use Rattle.rina_table.specs.Keys.{items_at, first_item, or_next, keys_fault}
 use Rattle.rina_rows.specs.declared.sketch.Sketch.{Sketch}
 use Rattle.rina_rows.specs.Items.{sketch_at}
 use Rattle.rina_stack.specs.declared.plan.Plan.{Plan}
-use Rattle.rina_stack.specs.Rules.{earlier}
+use Rattle.rina_rules.specs.Rules.{earlier}
 use Rattle.rina_stack.specs.Stack.{plain, stack_at, ReadsBy}
 
 abbrev pub is_stormy : Data → Bool

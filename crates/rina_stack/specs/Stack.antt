@@ -3,12 +3,6 @@ use Rattle.std.specs.Prelude.{◌≡◌, ℕ, ◌+◌, Bool, List, [], length, m
 use Rattle.toml.specs.Data.{Data, table, Members}
 use Rattle.toml.specs.Parse.{parse_document}
 use Rattle.rina_base.specs.Traverse.{◌>>=◌}
-use Rattle.rina_plan.specs.declared.dif.DifPlan.{DifPlan}
-use Rattle.rina_plan.specs.declared.dif.WireEnds.{WireEnds}
-use Rattle.rina_plan.specs.Difs.{lacks_lower, lacks_cubes, has_mistimed, is_misplaced, is_misfit, has_oversized}
-use Rattle.rina_plan.specs.Links.{is_misused, has_crossed_link, is_uncarried}
-use Rattle.rina_plan.specs.Walks.{is_unjoined}
-use Rattle.rina_plan.specs.Counts.{first_loaded, first_full}
 use Rattle.rina_stack.specs.declared.plan.WirePlan.{WirePlan}
 use Rattle.rina_stack.specs.declared.plan.Plan.{Plan}
 use Rattle.rina_table.specs.declared.error.StackError.{StackError}
@@ -20,7 +14,8 @@ use Rattle.rina_table.specs.Faults.{unless}
 use Rattle.rina_table.specs.Keys.{keys_fault}
 use Rattle.rina_rows.specs.Items.{sketch_at}
 use Rattle.rina_stack.specs.Policies.{unknown_policy}
-use Rattle.rina_stack.specs.Rules.{wire_names, dif_names, twin_fault, first_wire, is_crossed, top_fault}
+use Rattle.rina_rules.specs.Rules.{wire_names, dif_names, twin_fault}
+use Rattle.rina_rules.specs.Order.{rules_at}
 
 -- rules up to `upto` are tried, of those that speak of one value, and no name is looked up
 abbrev pub plain : ℕ → Scope
@@ -37,33 +32,6 @@ unknown_item known named = option_map (λ i. 1 + length named.wires + i) (unknow
 -- the stack with its references, by the names that it has
 unfoldable pub resolved_at : (List ℕ → Bool) → Sketch → Data → Result Sketch StackError
 resolved_at known named d = sketch_at (full named (unknown_item known named)) d
-
--- what the rules on DIFs ask of a wire
-abbrev pub ends_of : WireSketch → WireEnds
-ends_of w = record { a = w.a; b = w.b; largest = w.largest }
-
--- the rules from 9 to 18, each over all DIFs, where `first` is the number of the first DIF; a wire with two links is the item of rule 16, before any DIF
-unfoldable pub difs_at : ℕ → List WireEnds → List DifPlan → Result (Unit {0}) StackError
-difs_at first wires difs = do
-  _ ← unless 9 (option_map (λ i. first + i) (position (lacks_lower difs) difs))
-  _ ← unless 10 (option_map (λ i. first + i) (position lacks_cubes difs))
-  _ ← unless 11 (option_map (λ i. first + i) (position has_mistimed difs))
-  _ ← unless 12 (option_map (λ i. first + i) (position is_misplaced difs))
-  _ ← unless 13 (option_map (λ i. first + i) (position is_misfit difs))
-  _ ← unless 14 (option_map (λ i. first + i) (position has_oversized difs))
-  _ ← unless 15 (option_map (λ i. first + i) (position (is_misused difs) difs))
-  _ ← unless 16 (option_map (λ i. 1 + i) (first_loaded (length wires) difs))
-  _ ← unless 16 (option_map (λ i. first + i) (position (has_crossed_link wires difs) difs))
-  _ ← unless 17 (option_map (λ i. first + i) (position (is_uncarried wires difs) difs))
-  unless 18 (option_map (λ i. first + i) (position (is_unjoined difs) difs))
-
--- the rules from 8 on, each over the whole stack
-unfoldable pub rules_at : Sketch → Result (Unit {0}) StackError
-rules_at s = do
-  _ ← unless 8 (first_wire is_crossed s.wires)
-  _ ← difs_at (1 + length s.wires) (map ends_of s.wires) s.difs
-  _ ← unless 19 (top_fault s)
-  unless 19 (option_map (λ i. 1 + length s.wires + i) (first_full s.difs))
 
 abbrev pub narrow : WireSketch → WirePlan
 narrow w = record { name = w.name; a = w.a; b = w.b; delay = w.delay; life = w.life; largest = w.largest; storm = w.storm }

@@ -1,15 +1,12 @@
 //! The stack that a TOML text describes, and the first rule that it breaks.
 #![tactic(auto)]
 
-mod built;
 mod plan;
 mod policies;
 mod read;
-mod rules;
 mod runnable;
-mod twins;
+mod shelf;
 
-pub use built::read_built;
 pub use plan::{Plan, WirePlan};
 pub use policies::{BuiltIn, Policies};
 pub use read::read_stack;

@@ -1,27 +1,20 @@
 //! The stack that a text describes.
-ghost use Rattle.std.specs.Prelude.{◌≡◌, ◌+◌, ◌<◌, ◌^◌, All, Ok, IfOk, length, map, option_map};
+ghost use Rattle.std.specs.Prelude.{◌≡◌, ◌<◌, ◌^◌, All, Ok, IfOk, map};
 ghost use Rattle.toml.specs.View.{view};
 ghost use Rattle.rina_rows.specs.declared.sketch.WireSketch.{WireSketch};
-ghost use Rattle.rina_plan.specs.Counts.{first_full};
-ghost use Rattle.rina_table.specs.Faults.{Gives, unless};
+ghost use Rattle.rina_table.specs.Faults.{Gives};
 ghost use Rattle.rina_rows.specs.Items.{sketch_at};
-ghost use Rattle.rina_stack.specs.Stack.{plain, full, narrow, plan_of, unknown_item, resolved_at, ends_of, difs_at, rules_at, stack_at, Reads};
+ghost use Rattle.rina_stack.specs.Stack.{plain, full, narrow, plan_of, unknown_item, resolved_at, stack_at, Reads};
 ghost use Rattle.rina_stack.specs.Plan.{IsPlan};
 
 use crate::plan::{Plan, WirePlan};
 use crate::policies::{Policies, first_unknown};
-use crate::rules::{crossed, too_many};
-use crate::twins::{named_twice, names_of_difs, names_of_wires, texts_of};
 use rina_base::{Memory, Seq};
 use rina_fields::{Places, Scope};
-use rina_plan::{
-    DifPlan, WireEnds, first_crossed, first_full, first_loaded, first_misfit, first_misplaced,
-    first_mistimed, first_misused, first_oversized, first_uncarried, first_unjoined,
-    first_without_cubes, first_without_lower,
-};
 use rina_rows::{Sketch, WireSketch, read_sketch};
-use rina_table::{StackError, check, check_difs, check_wires, first_behind, key_fault};
-use std::alloc::{AllocError, Global};
+use rina_rules::{check_rules, named_twice, names_of_difs, names_of_wires, texts_of};
+use rina_table::{StackError, check, first_behind, key_fault};
+use std::alloc::Global;
 use toml::Value;
 
 /// The stack, where what breaks a later rule than `upto` is let through; no reference is resolved.
@@ -113,78 +106,6 @@ fn plan(alloc: Global, sketch: Sketch) -> Result<Plan, Memory>
         wires,
         difs: sketch.difs,
     })
-}
-
-/// What the rules on DIFs ask of wires.
-fn ends(alloc: Global, wires: &[WireSketch]) -> Result<Vec<WireEnds>, AllocError>
-    ensures { IfOk result (λ v. v.items ≡ map ends_of wires.now) }
-{
-    let mut ends = Vec::new(alloc);
-    'wires: for wire in wires {
-        ends.push(WireEnds {
-            a: wire.a,
-            b: wire.b,
-            largest: wire.largest,
-        })?;
-    }
-    Ok(ends)
-}
-
-/// The rules from 9 to 18. `first` is the number of the first DIF.
-#[tactic(auto, unfolding(crate::specs::Stack::difs_at))]
-fn check_rules_of_difs(
-    alloc: Global,
-    first: usize,
-    wires: &[WireEnds],
-    difs: &[DifPlan],
-) -> Result<(), StackError>
-    ensures { Gives (λ t. t) result (difs_at first wires.now difs.now) }
-{
-    check_difs(9, first, first_without_lower(difs))?;
-    let cubes = first_without_cubes(alloc, difs)?;
-    check_difs(10, first, cubes)?;
-    check_difs(11, first, first_mistimed(difs))?;
-    let members = first_misplaced(alloc, difs)?;
-    check_difs(12, first, members)?;
-    check_difs(13, first, first_misfit(difs))?;
-    check_difs(14, first, first_oversized(difs))?;
-    check_difs(15, first, first_misused(difs))?;
-    let loaded = first_loaded(alloc, wires.len(), difs)?;
-    check_wires(16, loaded)?;
-    check_difs(16, first, first_crossed(wires, difs))?;
-    check_difs(17, first, first_uncarried(wires, difs))?;
-    let unjoined = first_unjoined(alloc, difs)?;
-    check_difs(18, first, unjoined)
-}
-
-fn check_all_difs(alloc: Global, sketch: &Sketch) -> Result<(), StackError>
-    ensures { Gives (λ t. t) result (difs_at (1 + length sketch.now.wires) (map ends_of sketch.now.wires) sketch.now.difs) }
-{
-    let difs = sketch.difs.as_slice();
-    let first = first_behind(sketch.wires.len(), difs.len())?;
-    let wires = ends(alloc, sketch.wires.as_slice())?;
-    check_rules_of_difs(alloc, first, wires.as_slice(), difs)
-}
-
-/// Rule 19 over the DIFs.
-fn check_counts(alloc: Global, sketch: &Sketch) -> Result<(), StackError>
-    ensures { Gives (λ t. t) result (unless 19 (option_map (λ i. 1 + length sketch.now.wires + i) (first_full sketch.now.difs))) }
-{
-    let difs = sketch.difs.as_slice();
-    let first = first_behind(sketch.wires.len(), difs.len())?;
-    let full = first_full(alloc, difs)?;
-    check_difs(19, first, full)
-}
-
-/// The rules from 8 on.
-#[tactic(auto, unfolding(crate::specs::Stack::rules_at))]
-fn check_rules(alloc: Global, sketch: &Sketch) -> Result<(), StackError>
-    ensures { Gives (λ t. t) result (rules_at sketch.now) }
-{
-    check(8, crossed(sketch.wires.as_slice()))?;
-    check_all_difs(alloc, sketch)?;
-    check(19, too_many(sketch))?;
-    check_counts(alloc, sketch)
 }
 
 /// The stack of a table.

@@ -10,7 +10,7 @@ ghost use Rattle.rina_stack.specs.Runnable.{is_stormy, is_ruled, is_dynamic, unr
 use crate::plan::Plan;
 use crate::policies::Policies;
 use crate::read::{plain, stack_of};
-use crate::twins::earlier;
+use rina_rules::earlier;
 use rina_table::{StackError, check, first_behind, items_at, key_fault};
 use std::alloc::Global;
 use toml::Value;
@@ -29,7 +29,7 @@ fn first_stormy_in(wires: &[Value]) -> Option<usize>
 }
 
 /// The first wire with a storm.
-pub(crate) fn first_stormy(wires: &[Value]) -> Option<usize>
+fn first_stormy(wires: &[Value]) -> Option<usize>
     ensures place { result ≡ position is_stormy (map view wires.now) }
     ensures within { IfSome result (λ i. i < length wires.now) }
 {

@@ -13,6 +13,7 @@ plan 2 2: delay = 2, life = 10, largest = 96 => delay = 3, life = 11, largest = 
 # Rule 9.
 9 4: rank = 2 => rank = 3
 9 3: rank = 1 => rank = 2
+plan 2 2: rank = 2 => rank = 1 ;; link = [{ on = 'd', a = 'a', b = 'c', cube = 1, weight = 9 }] => # no links
 # Rule 10.
 10 4: id = 3 => id = 2
 10 3: cube = [{ id = 1, kind = 'datagram', mpl = 40, window = 16, largest = 80 }] => cube = []
@@ -44,6 +45,7 @@ plan 2 2: addr = 255 => addr = 3
 plan 2 2: addr = 300 => addr = 65535
 12 4: addr = 300 => addr = 4
 12 4: node = 'c', addr = 300 => node = 'a', addr = 300
+plan 2 2: addr = 2, cep => addr = 4, cep ;; largest = 244 => largest = 228 ;; addr = 300 => addr = 4294967295
 12 4: [{ node = 'c', addr = 300 }, { node = 'a', addr = 4 }] => []
 # Rule 13.
 13 4: pdu = 80 => pdu = 256
@@ -64,6 +66,12 @@ plan 2 2: window = 4, largest = 244 => window = 5, largest = 245
 plan 2 2: window = 7, largest = 240 => window = 4, largest = 240
 14 4: queue = 64 => queue = 5
 plan 2 2: queue = 64 => queue = 6
+14 4: queue = 64 => queue = 6 ;; largest = 240 => largest = 367
+plan 2 2: queue = 64 => queue = 6 ;; largest = 240 => largest = 366
+14 4: queue = 64 => queue = 6 ;; window = 4, largest = 244 => window = 7, largest = 367
+plan 2 2: queue = 64 => queue = 6 ;; window = 4, largest = 244 => window = 7, largest = 366
+14 4: retry = 31, window = 16 => retry = 31, window = 5
+plan 2 2: retry = 31, window = 16 => retry = 31, window = 6
 # Rule 15.
 15 4: static = true | pdu = 80 => static = false | pdu = 80
 plan 2 2: static = true | pdu = 80 => pdu = 80 ;; link = [{ on = 'd', a = 'a', b = 'c', cube = 1, weight = 9 }] => # no links
@@ -73,9 +81,14 @@ plan 2 2: static = true | pdu = 80 => pdu = 80 ;; link = [{ on = 'd', a = 'a', b
 plan 2 2: static = true | pdu = 96 => static = false | pdu = 96 ;; link = [{ on = 'w', a = 'a', b = 'b' }, { on = 'v', a = 'c', b = 'b' }] => # no links ;; flow = [{ cube = 1, from = { node = 'a', app = 's', label = 'p' }, to = { node = 'b', app = 't', label = 'q' } }] => # no flows ;; link = [{ on = 'd', a = 'a', b = 'c', cube = 1, weight = 9 }] => # no links
 # Rule 16.
 16 1: on = 'd' => on = 'w'
+16 4: { on = 'w', a = 'a', b = 'b' }, { on => { on ;; node = 'c', addr = 300 => node = 'b', addr = 300 ;; on = 'd', a = 'a', b = 'c', cube = 1 => on = 'w', a = 'a', b = 'b'
+16 4: on = 'd' => on = 'e'
+16 3: static = true | pdu = 80 => pdu = 80 ;; link = [{ on = 'd', a = 'a', b = 'c', cube = 1, weight = 9 }] => # no links ;; on = 'v', a = 'c', b = 'b' => on = 'e', a = 'c', b = 'a'
 16 3: on = 'v', a = 'c', b = 'b' => on = 'e', a = 'c', b = 'a'
 16 4: a = 'a', b = 'c', cube => a = 'a', b = 'a', cube
 16 4: a = 'a', b = 'c', cube => a = 'a', b = 'b', cube
+16 4: a = 'a', b = 'c', cube => a = 'b', b = 'c', cube
+16 4: , { node = 'c', addr = 255 }] => ] ;; , { on = 'v', a = 'c', b = 'b' }] => ]
 plan 2 2: a = 'a', b = 'c', cube => a = 'c', b = 'a', cube
 16 3: a = 'c', b = 'b' => a = 'a', b = 'b'
 plan 2 2: a = 'c', b = 'b' => a = 'b', b = 'c'
@@ -87,15 +100,21 @@ plan 2 2: a = 'c', b = 'b' => a = 'b', b = 'c'
 17 3: largest = 96, => largest = 95,
 plan 2 2: largest = 96, => largest = 97,
 17 3: b = 'b' }, { => b = 'b', cube = 1 }, {
+plan 2 2: b = 'b' }, { => b = 'b', cube = 0 }, {
+17 4: largest = 80 }] => largest = 80 }, { id = 2, kind = 'loose', mpl = 40, window = 16, largest = 79 }] ;; cube = 1, weight => cube = 2, weight
+plan 2 2: largest = 80 }] => largest = 80 }, { id = 2, kind = 'loose', mpl = 40, window = 16, largest = 80 }] ;; cube = 1, weight => cube = 2, weight
 # Rule 18.
 18 3: flow = [{ cube = 1 => flow = [{ cube = 2
 18 3: flow = [{ cube = 1 => flow = [{ cube = 0
+plan 2 2: largest = 80 }] => largest = 80 }, { id = 2, kind = 'loose', mpl = 40, window = 16, largest = 80 }] ;; flow = [{ cube = 1 => flow = [{ cube = 2
 18 3: to = { node = 'b' => to = { node = 'a'
 plan 2 2: to = { node = 'b' => to = { node = 'c'
 18 3: { on = 'w', a = 'a', b = 'b' }, { on => { on
 18 4: , { on = 'v', a = 'c', b = 'b' }] => ]
 18 4: weight = 9 }] => weight = 9 }] | flow = [{ cube = 2, from = { node = 'a', app = 's', label = 'x' }, to = { node = 'b', app = 't', label = 'y' } }]
 18 4: weight = 9 }] => weight = 9 }] | flow = [{ cube = 1, from = { node = 'a', app = 's', label = 'x' }, to = { node = 'c', app = 't', label = 'y' } }]
+18 4: weight = 9 }] => weight = 9 }] | flow = [{ cube = 2, from = { node = 'b', app = 's', label = 'x' }, to = { node = 'c', app = 't', label = 'y' } }]
+plan 2 2: weight = 9 }] => weight = 9 }] | flow = [{ cube = 2, from = { node = 'c', app = 's', label = 'x' }, to = { node = 'a', app = 't', label = 'y' } }]
 # Rule 19.
 plan 2 2: cube = [{ id = 1, => cube = [ | * 7 { id = 1#, kind = 'datagram', mpl = 40, window = 16, largest = 80 }, | { id = 1,
 19 3: cube = [{ id = 1, => cube = [ | * 8 { id = 1#, kind = 'datagram', mpl = 40, window = 16, largest = 80 }, | { id = 1,

@@ -1,6 +1,6 @@
-//! Whole stacks: the table at the top, and what is not built or does not run.
+//! Whole stacks: the table at the top, and what does not run.
 use crate::cases::{lines_of, told};
-use rina_stack::{BuiltIn, read_built, read_runnable, read_stack};
+use rina_stack::{BuiltIn, read_runnable, read_stack};
 use std::test::Fail;
 
 /// What is told, and a stack.
@@ -42,27 +42,6 @@ fn the_top_is_read(rt: HostRuntime) -> Result<(), Fail> {
     }
     let read = read_stack(alloc, b"nodes = ['\xff']", &BuiltIn);
     assert_eq!(rt; told(alloc, read)?.as_str(), "no TOML");
-    Ok(())
-}
-
-/// What is told where only wires are built, and a stack.
-static UNBUILT: &str = "plan 0 0: nodes = []
-2 0: nodes = [] | dif = [1]
-2 0: nodes = [] | [[dif]] | name = 'd'
-3 0: nodes = [] | dif = 1
-3 0: nodes = [] | rounds = 'manual'
-2 2: nodes = [] | wire = [{}, { storm = {} }]
-2 1: nodes = [] | wire = [{ x = 1 }, { storm = {} }]";
-
-#[test]
-fn what_is_not_built_is_refused(rt: HostRuntime) -> Result<(), Fail> {
-    let alloc = rt.alloc();
-    for row in UNBUILT.lines() {
-        let (want, row) = row.split_once(": ").ok_or("no stack")?;
-        let text = lines_of(alloc, row)?;
-        let read = read_built(alloc, text.as_bytes());
-        assert_eq!(rt; told(alloc, read)?.as_str(), want, "{row}");
-    }
     Ok(())
 }
 

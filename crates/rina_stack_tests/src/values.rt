@@ -69,6 +69,93 @@ plan 2 2: cube = 1, weight = 9 => cube = 1
 3 3: flow = [{ cube = 1, => flow = [{
 3 3: node = 'a', app => app
 3 3: label = 'q' => label = 1
+# A key that is missing.
+3 1: ends = ['a', 'b'], delay => delay
+3 2: lose = 2, repeat => repeat
+3 2: repeat = 3, spread => spread
+3 2: repeat = 3, spread = 8 => repeat = 3
+3 4: rank = 2 | static => static
+3 4: widths = { addr = 2, cep = 2, len = 1, seq = 2 } => # no widths
+3 4: queue = 64 => # no queue
+3 4: policy = 'weighted' => # no policy
+3 4: wait = 501 => # no wait
+3 3: cube = [{ id = 1, kind = 'datagram', mpl = 40, window = 16, largest = 80 }] => # no cubes
+3 4: addr = 2, cep = 2, len => cep = 2, len
+3 4: cep = 2, len => len
+3 4: len = 1, seq = 2 => len = 1
+3 4: mpl = 40, r = 31 => r = 31
+3 4: r = 31, a => a
+3 4: a = 3, retry => retry
+3 4: retry = 31, window => window
+3 4: retry = 31, window = 16 => retry = 31
+3 4: id = 3, kind => kind
+3 4: kind = 'reliable', mpl => mpl
+3 4: mpl = 40, r = 32 => r = 32
+11 4: r = 32, a => a
+plan 2 2: a = 4, retry => retry
+11 4: retry = 11, window => window
+3 4: window = 7, largest => largest
+3 4: window = 7, largest = 240 => window = 7
+3 4: node = 'c', addr = 300 => node = 'c'
+3 3: subject = 'x/a', act = 'enrol', allow => subject = 'x/a', allow
+3 4: on = 'd', a = 'a', b => on = 'd', b
+3 4: a = 'a', b = 'c', cube => a = 'a', cube
+17 4: cube = 1, weight => weight
+3 3: from = { node = 'a', app = 's', label = 'p' }, to => to
+3 3: 'p' }, to = { node = 'b', app = 't', label = 'q' } => 'p' }
+3 3: app = 's', label => label
+3 3: app = 's', label = 'p' => app = 's'
+3 3: node = 'b', app => app
+3 3: app = 't', label => label
+3 3: app = 't', label = 'q' => app = 't'
+# A value of another type.
+3 1: delay = 2, life = 10, largest = 1500 => delay = '2', life = 10, largest = 1500
+3 1: largest = 1500 => largest = '1500'
+3 2: seed = 1 => seed = true
+3 2: repeat = 3 => repeat = '3'
+3 2: spread = 8 => spread = 8.0
+3 4: name = 'e' => name = 1
+3 4: pdu = 80 => pdu = '80'
+3 4: queue = 64 => queue = 64.0
+3 4: wait = 501 => wait = '501'
+3 4: manage = { mpl = 40, r = 31, a = 3, retry = 31, window = 16 } => manage = 1
+3 4: addr = 2, cep => addr = '2', cep
+3 4: cep = 2, len => cep = '2', len
+3 4: len = 1, seq => len = '1', seq
+3 4: mpl = 40, r = 31 => mpl = '40', r = 31
+3 4: r = 31, a => r = '31', a
+3 4: a = 3, retry => a = '3', retry
+3 4: retry = 31 => retry = '31'
+3 4: window = 16 } | cube => window = '16' } | cube
+3 4: id = 3 => id = '3'
+3 4: mpl = 40, r = 32 => mpl = '40', r = 32
+3 4: a = 4, retry => a = '4', retry
+3 4: retry = 11 => retry = '11'
+3 4: window = 7 => window = '7'
+3 4: largest = 240 => largest = '240'
+3 4: member = [{ node = 'c', addr = 300 }, { node = 'a', addr = 4 }] => member = 1
+3 4: member = [{ node = 'c', addr = 300 }, { node = 'a', addr = 4 }] => member = { node = 'c', addr = 300 }
+3 4: node = 'c', addr = 300 => node = 1, addr = 300
+3 4: addr = 300 => addr = '300'
+3 3: rule = [{ subject = 'x/a', act = 'enrol', allow = true }] => rule = [1]
+3 3: subject = 'x/a' => subject = 1
+3 3: act = 'enrol' => act = 1
+3 4: link = [{ on = 'd', a = 'a', b = 'c', cube = 1, weight = 9 }] => link = 1
+3 4: link = [{ on = 'd', a = 'a', b = 'c', cube = 1, weight = 9 }] => link = [1]
+3 4: on = 'd' => on = 1
+3 4: a = 'a', b = 'c', cube => a = 1, b = 'c', cube
+3 4: b = 'c', cube => b = 1, cube
+3 4: cube = 1, weight => cube = '1', weight
+3 4: weight = 9 }] => weight = 9 }] | flow = 1
+3 4: weight = 9 }] => weight = 9 }] | flow = [1]
+3 3: flow = [{ cube = 1 => flow = [{ cube = '1'
+3 3: from = { node = 'a', app = 's', label = 'p' } => from = 1
+3 3: to = { node = 'b', app = 't', label = 'q' } => to = 1
+3 3: from = { node = 'a' => from = { node = 1
+3 3: app = 's' => app = 1
+3 3: label = 'p' => label = 1
+3 3: to = { node = 'b' => to = { node = 1
+3 3: app = 't' => app = 1
 # Rule 4.
 4 0: nodes = [ => nodes = ['x y',
 4 0: nodes = [ => nodes = ['nnnnnnnnnnnnnnnnnnnnnnnnnnnnnnnnnnnnnnnnnnnnnnnnnnnnnnnnnnnnnnnnn',
@@ -77,6 +164,7 @@ plan 2 2: nodes = [ => nodes = ['az09.-_',
 4 1: 'w', ends => 'W', ends
 4 1: 'w', ends => '', ends
 4 2: ends = ['b', 'c'] => ends = ['b', 'C']
+4 1: ends = ['a', 'b'] => ends = ['A', 'b']
 4 4: name = 'e' => name = 'E'
 4 4: policy = 'weighted' => policy = ''
 4 4: node = 'c', addr = 300 => node = 'C', addr = 300
@@ -89,14 +177,29 @@ plan 2 2: subject = 'x/a' => subject = 'a'
 4 3: label = 'q' => label = 'Q'
 4 4: on = 'd' => on = '*'
 4 4: a = 'a', b = 'c', cube => a = 'A', b = 'c', cube
+4 4: b = 'c', cube => b = 'C', cube
+4 3: from = { node = 'a' => from = { node = 'A'
+4 3: to = { node = 'b' => to = { node = ''
+4 3: app = 't' => app = 'T'
+4 3: label = 'p' => label = ''
+4 3: subject = 'x/a' => subject = ''
+4 3: subject = 'x/a' => subject = 'X/a'
+4 3: subject = 'x/a' => subject = 'x/A'
+4 3: subject = 'x/a' => subject = 'x/a/b'
 # Rule 5.
 5 0: nodes = ['a', 'b', 'c'] => nodes = ['a', 'b', 'c', 'b']
 5 2: name = 'v' => name = 'w'
 5 4: name = 'e' => name = 'w'
 5 4: name = 'e' => name = 'd'
 plan 2 2: name = 'e' => name = 'a'
+plan 2 2: name = 'w', ends => name = 'a', ends ;; on = 'w' => on = 'a'
 5 3: label = 'q' => label = 'p'
 plan 2 2: label = 'q' => label = 'w'
+5 3: flow = [ => flow = [ | { cube = 1, from = { node = 'a', app = 's', label = 'p' }, to = { node = 'b', app = 't', label = 'y' } },
+5 3: flow = [ => flow = [ | { cube = 1, from = { node = 'a', app = 's', label = 'x' }, to = { node = 'b', app = 't', label = 'q' } },
+5 3: flow = [ => flow = [ | { cube = 1, from = { node = 'a', app = 's', label = 'q' }, to = { node = 'b', app = 't', label = 'y' } },
+plan 2 2: flow = [ => flow = [ | { cube = 1, from = { node = 'a', app = 's', label = 'x' }, to = { node = 'b', app = 't', label = 'y' } },
+5 4: weight = 9 }] => weight = 9 }] | flow = [{ cube = 2, from = { node = 'a', app = 's', label = 'x' }, to = { node = 'c', app = 't', label = 'q' } }]
 5 4: weight = 9 }] => weight = 9 }] | flow = [{ cube = 2, from = { node = 'a', app = 's', label = 'p' }, to = { node = 'c', app = 't', label = 'y' } }]
 plan 2 2: weight = 9 }] => weight = 9 }] | flow = [{ cube = 2, from = { node = 'a', app = 's', label = 'x' }, to = { node = 'c', app = 't', label = 'y' } }]
 # Rule 6.
@@ -222,9 +325,13 @@ plan 2 2: weight = 9 => weight = 65535
 # Rule 7.
 7 1: ends = ['a', 'b'] => ends = ['a', 'x']
 7 2: ends = ['b', 'c'] => ends = ['v', 'c']
+7 1: ends = ['a', 'b'] => ends = ['x', 'b']
 7 4: node = 'c', addr = 300 => node = 'x', addr = 300
 7 4: on = 'd' => on = 'x'
+7 4: on = 'd' => on = 'a'
 7 4: a = 'a', b = 'c', cube => a = 'x', b = 'c', cube
+7 4: b = 'c', cube => b = 'x', cube
+7 3: from = { node = 'a' => from = { node = 'x'
 7 3: to = { node = 'b' => to = { node = 'x'
 7 4: policy = 'weighted' => policy = 'none'
 7 3: policy = 'strict' => policy = 'stric'

@@ -1,6 +1,0 @@
-use Rattle.std.proofs.Common.{◌≡◌, map, take}
-use Rattle.rina_stack.specs.Stack.{ends_of}
-use Rattle.rina_stack.proofs.read.ends.Given as goal
-
-abbrev pub invariant-wires : goal.invariant-wires
-invariant-wires l = l.ends.items ≡ map ends_of (take l.wire-index l.wires)

@@ -1,0 +1,16 @@
+//! A shelf knows the policies that a stack may name: those that were added to it, retired or not.
+use crate::policies::Policies;
+use rina_base::Name;
+use rina_policy::Shelf;
+
+impl Policies for Shelf {
+    ghost use Rattle.std.specs.Prelude.{is_some, map, position};
+    ghost use Rattle.std.specs.Str.{bytes_eq};
+
+    ghost knows = { λ s name. is_some (position (λ n. bytes_eq n name) (map (λ p. p.name) s.places.items)) };
+
+    #[tactic(auto, using(crate::proofs::Shelves::known))]
+    fn has(&self, name: &Name) -> bool {
+        Shelf::has(self, name)
+    }
+}
