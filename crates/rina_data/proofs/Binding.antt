@@ -1,17 +1,15 @@
 -- A DIF that stands goes on to stand as a fixed flow is made.
-use Rattle.std.proofs.Common.{◌≡◌, ◌≢◌, ℕ, zero, suc, ◌+◌, ◌<◌, ◌≤◌, List, [], ◌∷◌, ◌++◌, cond, eqb, get_or, length, length-append, slice_get, Some, None, refl, sym, ◌∙◌, ap, subst, arith, inl, inr, ◌⊎◌, true, ◌==◌, ◌^◌, ◌*◌}
+use Rattle.std.proofs.Common.{◌≡◌, ◌≢◌, ℕ, zero, suc, ◌+◌, ◌<◌, ◌≤◌, List, [], ◌∷◌, ◌++◌, cond, eqb, get_or, length, length-append, slice_get, Some, refl, sym, ◌∙◌, ap, subst, arith, inl, inr, ◌⊎◌, true, ◌==◌}
 use Rattle.std.proofs.lemmas.Bool.Decides.{eqb_tells}
 use Rattle.std.proofs.lemmas.List.Quantifiers.{position-Some}
 use Rattle.std.proofs.lemmas.List.Sums.{sum_by-append}
 use Rattle.std.proofs.lemmas.Option.{get_or_from_slice_get, slice_get_within}
 use Rattle.rina_base.specs.declared.number.FlowName.{FlowName}
 use Rattle.rina_base.specs.declared.pdu.Pdu.{Pdu}
-use Rattle.rina_cube.specs.declared.Cube.{Cube}
 use Rattle.rina_iface.specs.declared.ask.Fixed.{Fixed}
 use Rattle.rina_iface.specs.declared.ask.Registered.{Registered}
 use Rattle.rina_iface.specs.declared.ends.End.{End}
 use Rattle.rina_iface.specs.declared.state.PortState.TheVariants.{Allocated}
-use Rattle.rina_iface.specs.declared.state.Role.{Role}
 use Rattle.rina_iface.specs.declared.state.Role.TheVariants.{Asker, Far}
 use Rattle.rina_iface.specs.Ends.{drawn_at}
 use Rattle.rina_iface.specs.Journal.{At, HasPartner, HasPorts, IsNamed, IsPartner, IsWhole}
@@ -20,23 +18,21 @@ use Rattle.rina_iface.specs.Seen.{Seen}
 use Rattle.rina_iface.proofs.Fresh.{fresh_port}
 use Rattle.rina_iface.proofs.Grown.{dated_none, still_at}
 use Rattle.rina_iface.proofs.Later.{ends_more}
-use Rattle.rina_law.specs.declared.entry.Entry.{Entry}
 use Rattle.rina_law.specs.Direction.{Direction}
 use Rattle.rina_law.proofs.Backing.{start_backed}
 use Rattle.rina_data.specs.Binding.{IsBound, MayDraw, asker_next, far_next, flow_next, ids_next}
 use Rattle.rina_data.specs.Carried.{HasCome, HoldsCome, IsCarrying}
 use Rattle.rina_data.specs.Cloud.{Cloud, Everywhere}
-use Rattle.rina_data.specs.Dif.{Config, DifSeen, Member, constants, fac_of, piece_size}
+use Rattle.rina_data.specs.Dif.{DifSeen, Member, constants, fac_of, piece_size}
 use Rattle.rina_data.specs.Ids.{AcksOf, Ids, IsFrom, PiecesOf, flipped}
-use Rattle.rina_data.specs.Incoming.{IsInbound}
-use Rattle.rina_data.specs.Numbered.{IsAddressed, IsCounted, IsFromHere, IsNumbered, asked_at}
+use Rattle.rina_data.specs.Numbered.{IsAddressed, IsCounted, IsNumbered, asked_at}
 use Rattle.rina_data.specs.Sending.{home}
 use Rattle.rina_data.specs.Standing.{AreIds, IsConfig, IsConn, IsFlow, IsJournal, IsOwn, IsStanding}
 use Rattle.rina_data.specs.Start.{IsFresh}
 use Rattle.rina_data.proofs.Finding.{beside, cube_limits}
 use Rattle.rina_data.proofs.Joined.{none_joined}
 use Rattle.rina_data.proofs.Numbering.{counts}
-use Rattle.rina_data.proofs.Own.{not_itself, partner_back}
+use Rattle.rina_data.proofs.Own.{partner_back}
 
 -- ---- lists with two elements more
 

@@ -6,6 +6,7 @@ pub mod Carrying
 pub mod Clouds
 pub mod Coming
 pub mod Decided
+pub mod Downed
 pub mod Ends
 pub mod Facades
 pub mod Finding
@@ -18,6 +19,7 @@ pub mod Joined
 pub mod Journals
 pub mod Keepers
 pub mod Leaves
+pub mod Linkless
 pub mod Numbering
 pub mod Others
 pub mod Own

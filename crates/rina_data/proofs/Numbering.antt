@@ -118,7 +118,7 @@ numbered_with d clock processes ends below below' n later same cloud = record {
 }
 
 -- whatever a call is, by what it did to the ends and to the cloud
-numbered_at : (d d' : DifSeen) (clock : ℕ) (processes : List Process) (ends : List End) (below below' : Seen) → d' ≡ record d { clock = clock; processes = processes; ends = ends } → AreLater d.clock d'.clock d.ends d'.ends → length d'.ends ≡ length d.ends → IsNumbered d below
+pub numbered_at : (d d' : DifSeen) (clock : ℕ) (processes : List Process) (ends : List End) (below below' : Seen) → d' ≡ record d { clock = clock; processes = processes; ends = ends } → AreLater d.clock d'.clock d.ends d'.ends → length d'.ends ≡ length d.ends → IsNumbered d below
     → ((death : ℕ) (pdu : Pdu) → Cloud Everywhere d.config processes below' death pdu → IsFromHere d.conns pdu) → IsNumbered d' below'
 numbered_at d d' clock processes ends below below' is later same n cloud =
     let later' : AreLater d.clock clock d.ends ends = subst (λ (z : DifSeen). AreLater d.clock z.clock d.ends z.ends) is later in
@@ -137,7 +137,7 @@ from_here d items entries processes below below' n moved after put given death p
 ]
 
 -- nothing is queued or sent
-none_here : (d : DifSeen) (processes : List Process) (below below' : Seen) → IsNumbered d below → Requeued NoItem d.processes processes → IsAfter d.config NoMore below below'
+pub none_here : (d : DifSeen) (processes : List Process) (below below' : Seen) → IsNumbered d below → Requeued NoItem d.processes processes → IsAfter d.config NoMore below below'
     → (death : ℕ) (pdu : Pdu) → Cloud Everywhere d.config processes below' death pdu → IsFromHere d.conns pdu
 none_here d processes below below' n moved after = from_here d NoItem NoMore processes below below' n moved after (λ j m item x. absurd x) (λ death pdu x. absurd x.new)
 

@@ -15,6 +15,7 @@ use Rattle.rina_iface.specs.Send.{IsSent, Sends}
 use Rattle.rina_law.specs.Backed.{Covers}
 use Rattle.rina_law.specs.Direction.{Direction}
 use Rattle.rina_law.specs.Pieces.{Part, join}
+use Rattle.rina_data.specs.declared.link.Route.{Route}
 use Rattle.rina_data.specs.declared.step.InStep.{InStep}
 use Rattle.rina_data.specs.declared.step.OutStep.{OutStep}
 use Rattle.rina_data.specs.declared.step.Settled.TheVariants as settled
@@ -29,6 +30,7 @@ use Rattle.rina_data.specs.Facade.{IsShown, own_refusal, shown}
 use Rattle.rina_data.specs.Incoming.{Ins, Settles}
 use Rattle.rina_data.specs.Leaving.{CanGo}
 use Rattle.rina_data.specs.Lifting.{IsLifted}
+use Rattle.rina_data.specs.Losing.{FailAll, Loses}
 use Rattle.rina_data.specs.Others.{AreApart}
 use Rattle.rina_data.specs.Outgoing.{Outs}
 use Rattle.rina_data.specs.Passing.{IsPassed, IsTicked}
@@ -77,6 +79,14 @@ abbrev pub EndingStands : Type 0
 EndingStands = (d : DifSeen) (lines : List Direction) (below : Seen) (at : ℕ) (state : PortState) (d' : DifSeen) →
     IsStanding d lines below → IsEnded d lines at state d' → IsStanding d' lines below
 
+abbrev pub LosingStands : Type 0
+LosingStands = (d : DifSeen) (lines : List Direction) (below : Seen) (i number : ℕ) (routes : List Route) (d' : DifSeen) →
+    IsStanding d lines below → Loses d below i number routes d' → IsStanding d' lines below
+
+abbrev pub FailingStands : Type 0
+FailingStands = (d : DifSeen) (lines : List Direction) (below : Seen) (node : ℕ) (port : Port) (d' : DifSeen) →
+    IsStanding d lines below → FailAll lines node port d d' → IsStanding d' lines below
+
 -- What the ends got has come, piece by piece: at the start, and after each call
 
 abbrev pub StartCarries : Type 0
@@ -113,6 +123,14 @@ ForgettingCarries = (d : DifSeen) (lines : List Direction) (below : Seen) (at : 
 abbrev pub EndingCarries : Type 0
 EndingCarries = (d : DifSeen) (lines : List Direction) (below : Seen) (at : ℕ) (state : PortState) (d' : DifSeen) →
     IsCarrying d lines below → IsEnded d lines at state d' → IsCarrying d' lines below
+
+abbrev pub LosingCarries : Type 0
+LosingCarries = (d : DifSeen) (lines : List Direction) (below : Seen) (i number : ℕ) (routes : List Route) (d' : DifSeen) →
+    IsCarrying d lines below → Loses d below i number routes d' → IsCarrying d' lines below
+
+abbrev pub FailingCarries : Type 0
+FailingCarries = (d : DifSeen) (lines : List Direction) (below : Seen) (node : ℕ) (port : Port) (d' : DifSeen) →
+    IsCarrying d lines below → FailAll lines node port d d' → IsCarrying d' lines below
 
 -- and as the rank below goes on, whoever sends or takes there
 abbrev pub TimeCarries : Type 0
@@ -196,6 +214,12 @@ ForgettingIsSilent = (d : DifSeen) (lines : List Direction) (at : ℕ) (d' : Dif
 
 abbrev pub EndingIsSilent : Type 0
 EndingIsSilent = (d : DifSeen) (lines : List Direction) (at : ℕ) (state : PortState) (d' : DifSeen) → IsEnded d lines at state d' → IsSilent d d'
+
+abbrev pub LosingIsSilent : Type 0
+LosingIsSilent = (d : DifSeen) (below : Seen) (i number : ℕ) (routes : List Route) (d' : DifSeen) → Loses d below i number routes d' → IsSilent d d'
+
+abbrev pub FailingIsSilent : Type 0
+FailingIsSilent = (d : DifSeen) (lines : List Direction) (node : ℕ) (port : Port) (d' : DifSeen) → FailAll lines node port d d' → IsSilent d d'
 
 -- a send and a pass are those of every facility, at the rank that shows the DIF
 

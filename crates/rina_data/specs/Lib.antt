@@ -12,6 +12,7 @@ pub mod Incoming
 pub mod Laws
 pub mod Leaving
 pub mod Lifting
+pub mod Losing
 pub mod NumberLaws
 pub mod Numbered
 pub mod Others

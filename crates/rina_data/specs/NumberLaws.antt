@@ -13,6 +13,7 @@ use Rattle.rina_iface.specs.Seen.{Seen, end_of}
 use Rattle.rina_iface.specs.Send.{IsSent}
 use Rattle.rina_law.specs.Direction.{Direction}
 use Rattle.rina_law.specs.Pieces.{Part}
+use Rattle.rina_data.specs.declared.link.Route.{Route}
 use Rattle.rina_data.specs.declared.step.InStep.{InStep}
 use Rattle.rina_data.specs.declared.step.OutStep.{OutStep}
 use Rattle.rina_data.specs.declared.step.StepError.{StepError}
@@ -23,6 +24,7 @@ use Rattle.rina_data.specs.Dif.{DifSeen, fac_of}
 use Rattle.rina_data.specs.Ending.{IsEnded}
 use Rattle.rina_data.specs.Incoming.{Ins}
 use Rattle.rina_data.specs.Lifting.{IsLifted}
+use Rattle.rina_data.specs.Losing.{FailAll, Loses}
 use Rattle.rina_data.specs.Numbered.{IsNumbered}
 use Rattle.rina_data.specs.Outgoing.{Outs}
 use Rattle.rina_data.specs.Passing.{IsPassed, IsTicked}
@@ -58,6 +60,12 @@ ForgettingNumbers = (d : DifSeen) (lines : List Direction) (below : Seen) (at : 
 
 abbrev pub EndingNumbers : Type 0
 EndingNumbers = (d : DifSeen) (lines : List Direction) (below : Seen) (at : ℕ) (state : PortState) (d' : DifSeen) → IsNumbered d below → IsEnded d lines at state d' → IsNumbered d' below
+
+abbrev pub LosingNumbers : Type 0
+LosingNumbers = (d : DifSeen) (below : Seen) (i number : ℕ) (routes : List Route) (d' : DifSeen) → IsNumbered d below → Loses d below i number routes d' → IsNumbered d' below
+
+abbrev pub FailingNumbers : Type 0
+FailingNumbers = (d : DifSeen) (lines : List Direction) (below : Seen) (node : ℕ) (port : Port) (d' : DifSeen) → IsNumbered d below → FailAll lines node port d d' → IsNumbered d' below
 
 -- also as the rank below goes on, whoever sends or takes there
 abbrev pub TimeNumbers : Type 0

@@ -3,8 +3,8 @@
 //! lost, repeated or delayed. Of the rank below they use the laws of a facility, and of its cubes that each SDU that
 //! came was sent, and came in time.
 ghost use Rattle.rina_data.specs.Partners.{EachIsMet};
-ghost use Rattle.rina_data.specs.Laws.{StartStands, SendsStand, PassesStand, OutStepsStand, InStepsStand, AcknowledgingStands, ResendingStands, ForgettingStands, EndingStands, StartCarries, SendsCarry, PassesCarry, OutStepsCarry, InStepsCarry, AcknowledgingCarries, ResendingCarries, ForgettingCarries, EndingCarries, TimeCarries, BesideCarries, SendsOfOthersCarry, PassesOfOthersCarry, TimeStands, BesideStands, SendsOfOthersStand, OutStepsOfOthersStand, InStepsOfOthersStand, CloudIsCovered, CloudLaw, StandingKeeps, SendsAreLater, PassesAreLater, OutStepsAreSilent, InStepsAreSilent, AcknowledgingIsSilent, ResendingIsSilent, ForgettingIsSilent, EndingIsSilent, TimeIsSilent, SendsAreSends, PassesArePasses, RelayingSettles, WritingOffSettles, StandingCanGo};
-ghost use Rattle.rina_data.specs.NumberLaws.{SendsNumber, PassesNumber, OutStepsNumber, InStepsNumber, AcknowledgingNumbers, ResendingNumbers, ForgettingNumbers, EndingNumbers, TimeNumbers, BesideNumbers, SendsOfOthersNumber, BindingStands, BindingCarries, BindingNumbers, BindingIsLater};
+ghost use Rattle.rina_data.specs.Laws.{StartStands, SendsStand, PassesStand, OutStepsStand, InStepsStand, AcknowledgingStands, ResendingStands, ForgettingStands, EndingStands, LosingStands, FailingStands, StartCarries, SendsCarry, PassesCarry, OutStepsCarry, InStepsCarry, AcknowledgingCarries, ResendingCarries, ForgettingCarries, EndingCarries, LosingCarries, FailingCarries, TimeCarries, BesideCarries, SendsOfOthersCarry, PassesOfOthersCarry, TimeStands, BesideStands, SendsOfOthersStand, OutStepsOfOthersStand, InStepsOfOthersStand, CloudIsCovered, CloudLaw, StandingKeeps, SendsAreLater, PassesAreLater, OutStepsAreSilent, InStepsAreSilent, AcknowledgingIsSilent, ResendingIsSilent, ForgettingIsSilent, EndingIsSilent, LosingIsSilent, FailingIsSilent, TimeIsSilent, SendsAreSends, PassesArePasses, RelayingSettles, WritingOffSettles, StandingCanGo};
+ghost use Rattle.rina_data.specs.NumberLaws.{SendsNumber, PassesNumber, OutStepsNumber, InStepsNumber, AcknowledgingNumbers, ResendingNumbers, ForgettingNumbers, EndingNumbers, LosingNumbers, FailingNumbers, TimeNumbers, BesideNumbers, SendsOfOthersNumber, BindingStands, BindingCarries, BindingNumbers, BindingIsLater};
 
 /// Whatever an end of a kept facility got has a sender: its partner, of whose entries it is born.
 pub fn each_entry_has_a_sender()
@@ -22,6 +22,8 @@ pub fn calls_keep_standing()
     ensures resend { ResendingStands }
     ensures forget { ForgettingStands }
     ensures end { EndingStands }
+    ensures lose { LosingStands }
+    ensures fail { FailingStands }
 {}
 
 /// Whatever an end got has come to its IPC process from the rank below, piece by piece, by the tick at which it was
@@ -36,6 +38,8 @@ pub fn what_was_got_has_come()
     ensures resend { ResendingCarries }
     ensures forget { ForgettingCarries }
     ensures end { EndingCarries }
+    ensures lose { LosingCarries }
+    ensures fail { FailingCarries }
     ensures time { TimeCarries }
     ensures beside { BesideCarries }
     ensures others_send { SendsOfOthersCarry }
@@ -74,6 +78,8 @@ pub fn calls_are_later()
     ensures resend { ResendingIsSilent }
     ensures forget { ForgettingIsSilent }
     ensures end { EndingIsSilent }
+    ensures lose { LosingIsSilent }
+    ensures fail { FailingIsSilent }
     ensures time { TimeIsSilent }
 {}
 
@@ -107,6 +113,8 @@ pub fn names_stay()
     ensures resend { ResendingNumbers }
     ensures forget { ForgettingNumbers }
     ensures end { EndingNumbers }
+    ensures lose { LosingNumbers }
+    ensures fail { FailingNumbers }
     ensures time { TimeNumbers }
     ensures beside { BesideNumbers }
     ensures others_send { SendsOfOthersNumber }

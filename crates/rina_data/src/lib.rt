@@ -5,6 +5,7 @@
 mod hop;
 mod laws;
 mod link;
+mod losing;
 mod outgoing;
 mod process;
 mod settings;
@@ -18,6 +19,7 @@ pub use laws::{
     what_stands_is_a_facility, what_was_got_has_come,
 };
 pub use link::{Link, Route, live_link, next_link};
+pub use losing::{Lost, lost_link};
 pub use process::IpcProcess;
 pub use settings::{Member, Settings};
 pub use step::{ClockStep, InStep, OutStep, Settled, StepError, Took};

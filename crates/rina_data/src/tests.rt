@@ -2,10 +2,10 @@
 ghost use Rattle.std.specs.Prelude.{◌≡◌, [], IfOk};
 
 use super::*;
-use rina_account::Ledger;
-use rina_base::{Cause, Seq};
+use rina_account::{Ledger, Off};
+use rina_base::{Cause, Key, Pdu, PduKind, Port, Seq};
 use rina_pci::Widths;
-use rina_queue::Queues;
+use rina_queue::{Queued, Queues};
 use std::alloc::Global;
 use std::process::Abort;
 use std::test::*;
@@ -66,5 +66,68 @@ fn what_is_too_old_or_has_no_way_is_written_off(rt: HostRuntime) -> Result<(), F
     let dst = hop.pdu.dst;
     let lost = alone(alloc)?.forward(alloc, 100, &hop)?;
     assert_eq!(rt; lost, Settled::Off(Cause::NoRoute { dst }));
+    Ok(())
+}
+
+/// A piece to address 2 on cube 1.
+fn queued(alloc: Global, seq: u32) -> Result<Queued, Fail>
+    ensures { IfOk result (λ q. q.pdu.qos ≡ 1) }
+{
+    let pdu = Pdu {
+        kind: PduKind::Piece,
+        dst: 2,
+        src: 1,
+        qos: 1,
+        dcep: 1,
+        scep: 1,
+        drf: false,
+        first: true,
+        last: true,
+        seq,
+        ack: 0,
+        right: 0,
+        body: Seq::copy_of(alloc, b"sdu")?,
+    };
+    Ok(Queued {
+        pdu,
+        left: 30,
+        since: 100,
+    })
+}
+
+#[test]
+fn what_waits_for_a_lost_link_is_written_off(rt: HostRuntime) -> Result<(), Fail> {
+    let alloc = rt.alloc();
+    let port = Port {
+        fac: 0,
+        node: 0,
+        n: 1,
+    };
+    let mut process = alone(alloc)?;
+    process.queues.add_link(alloc, 0)?;
+    process.links.push(Link {
+        port,
+        number: 0,
+        live: true,
+    })?;
+    assert!(rt; process.queues.has(1, 0));
+    assert_eq!(rt; process.queues.push(1, 0, queued(alloc, 7)?), Ok(()));
+    assert!(rt; live_link(process.links.as_slice(), 0).is_some());
+    assert_eq!(rt; process.links.len(), 1);
+    process.lose(alloc, 0, Seq::new(alloc))?;
+    assert!(rt; live_link(process.links.as_slice(), 0).is_none());
+    assert!(rt; process.queues.has(1, 0));
+    assert_eq!(rt; process.queues.room(1, 0), 4);
+    let key = Key {
+        kind: PduKind::Piece,
+        src: 1,
+        scep: 1,
+        seq: 7,
+    };
+    let line = Off {
+        key,
+        cause: Cause::LinkDown { port },
+    };
+    assert_eq!(rt; process.ledger.lines(), [line].as_slice());
     Ok(())
 }

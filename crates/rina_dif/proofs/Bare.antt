@@ -120,7 +120,7 @@ start_holds d below ends conns s members housed =
 pub bare_holds : (d : Dif) (below : Seen) → d.flows.journal.ends ≡ [] → d.flows.conns ≡ [] → AreBare d.settings d.processes → IsConfig (config_of d.settings) → AreMembers (config_of d.settings) → d.clock ≡ below.now → IsFree (config_of d.settings) below → Holds d [] below
 bare_holds d below ends conns bare config members clock free =
     let start = starts d below ends conns config clock bare.aligned (λ i member link is has. absurd (no_link d.settings d.processes i link bare has)) (λ port end here mine. absurd (free port end here mine)) (λ port end here mine. absurd (free port end here (inl mine))) (λ i n item waits. no_item d.settings d.processes i n item bare waits) in
-    start_holds d below ends conns start members (λ i p is. (let b = bare.each i p is in record { cap = b.room; queues = λ dst link qos hop known. absurd (no_hop dst link p.routes b.routes hop) }))
+    start_holds d below ends conns start members (λ i p is. (let b = bare.each i p is in record { cap = b.room; links = λ place qos link stands live known. absurd (none_in place link p.links b.links stands); queues = λ dst link qos hop known. absurd (no_hop dst link p.routes b.routes hop) }))
 
 -- One by one
 

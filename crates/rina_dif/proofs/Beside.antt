@@ -34,11 +34,12 @@ use Rattle.rina_data.proofs.Ends.{same_some}
 use Rattle.rina_data.proofs.Finding.{beside, live_link}
 use Rattle.rina_data.proofs.Finishing.{ended_silent}
 use Rattle.rina_data.proofs.Keepers.{facility}
+use Rattle.rina_data.proofs.Linkless.{lost_silent}
 use Rattle.rina_data.proofs.Numbering.{beside_after}
 use Rattle.rina_data.proofs.Taking.{still_stands}
 use Rattle.rina_data.proofs.Upper.{acknowledged_silent, forgotten_silent, ins_silent, outs_silent, resent_silent}
 use Rattle.rina_dif.specs.declared.dif.Dif.{Dif}
-use Rattle.rina_dif.specs.Clocking.{Steps, StepsHere}
+use Rattle.rina_dif.specs.Clocking.{Steps, StepsFlow, StepsHere}
 use Rattle.rina_dif.specs.Facade.{GoesOn, OthersStand}
 use Rattle.rina_dif.specs.Holding.{Holds, Stands}
 use Rattle.rina_dif.specs.Shown.{seen_of}
@@ -170,16 +171,27 @@ in_is_step d below i n r d' below' kept kept' st t =
     }
 
 -- what comes with time
-steps_silent : (d : Dif) (lines : List Direction) (node : ℕ) (done : ClockStep) (new : DifSeen) (lines' : List Direction) → Steps d lines node done new lines' → IsSilent (seen_of d) new
-steps_silent d lines node step.Idle new lines' s = subst (IsSilent (seen_of d)) (sym s.1) (silent_refl (seen_of d))
-steps_silent d lines node (step.Gone cep) new lines' s = forgotten_silent (seen_of d) lines s.at new lines' s.forgotten
-steps_silent d lines node (step.GaveUp num) new lines' s = ended_silent (seen_of d) lines s.at _ new s.given_up.ended
-steps_silent d lines node (step.Ack cep) new lines' s = acknowledged_silent (seen_of d) lines s.at s.cause new lines' s.acknowledged
-steps_silent d lines node (step.Again num) new lines' s = resent_silent (seen_of d) lines s.at s.cause new lines' s.resent
-steps_silent d lines node (step.LinkLost link) new lines' s = absurd s
-steps_silent d lines node (step.LinkNew link) new lines' s = absurd s
-steps_silent d lines node (step.Timeout port) new lines' s = absurd s
-steps_silent d lines node (step.Message link) new lines' s = absurd s
+flow_silent : (d : Dif) (lines : List Direction) (node : ℕ) (done : ClockStep) (new : DifSeen) (lines' : List Direction) → StepsFlow d lines node done new lines' → IsSilent (seen_of d) new
+flow_silent d lines node step.Idle new lines' s = subst (IsSilent (seen_of d)) (sym s.1) (silent_refl (seen_of d))
+flow_silent d lines node (step.Gone cep) new lines' s = forgotten_silent (seen_of d) lines s.at new lines' s.forgotten
+flow_silent d lines node (step.GaveUp num) new lines' s = ended_silent (seen_of d) lines s.at _ new s.given_up.ended
+flow_silent d lines node (step.Ack cep) new lines' s = acknowledged_silent (seen_of d) lines s.at s.cause new lines' s.acknowledged
+flow_silent d lines node (step.Again num) new lines' s = resent_silent (seen_of d) lines s.at s.cause new lines' s.resent
+flow_silent d lines node (step.LinkLost link) new lines' s = absurd s
+flow_silent d lines node (step.LinkNew link) new lines' s = absurd s
+flow_silent d lines node (step.Timeout port) new lines' s = absurd s
+flow_silent d lines node (step.Message link) new lines' s = absurd s
+
+pub steps_silent : (d : Dif) (lines : List Direction) (below : Seen) (node : ℕ) (done : ClockStep) (new : DifSeen) (lines' : List Direction) → Steps d lines below node done new lines' → IsSilent (seen_of d) new
+steps_silent d lines below node step.Idle new lines' s = flow_silent d lines node step.Idle new lines' s.1
+steps_silent d lines below node (step.Gone cep) new lines' s = flow_silent d lines node (step.Gone cep) new lines' s.1
+steps_silent d lines below node (step.GaveUp num) new lines' s = flow_silent d lines node (step.GaveUp num) new lines' s.1
+steps_silent d lines below node (step.Ack cep) new lines' s = flow_silent d lines node (step.Ack cep) new lines' s.1
+steps_silent d lines below node (step.Again num) new lines' s = flow_silent d lines node (step.Again num) new lines' s.1
+steps_silent d lines below node (step.LinkLost link) new lines' s = (let l = s.0.loses in lost_silent (seen_of d) below s.0.i link l.routes new l.loses)
+steps_silent d lines below node (step.LinkNew link) new lines' s = absurd s.1
+steps_silent d lines below node (step.Timeout port) new lines' s = absurd s.1
+steps_silent d lines below node (step.Message link) new lines' s = absurd s.1
 
 clock_on : (d : Dif) (below : Seen) (d' : Dif) (lines' : List Direction) → Stands d below → IsSilent (seen_of d) (seen_of d') → Holds d' lines' below → IsStep d below d' below
 clock_on d below d' lines' st silent h = record {
@@ -189,7 +201,7 @@ clock_on d below d' lines' st silent h = record {
 }
 
 pub clock_is_step : (d : Dif) (below : Seen) (node : ℕ) (r : Result ClockStep StepError) (d' : Dif) → (st : Stands d below) → StepsHere d st.0 below node r d' → IsStep d below d' below
-clock_is_step d below node (Ok done) d' st s = clock_on d below d' s.lines' st (steps_silent d st.0 node done (seen_of d') s.lines' s.does) s.holds
+clock_is_step d below node (Ok done) d' st s = clock_on d below d' s.lines' st (steps_silent d st.0 below node done (seen_of d') s.lines' s.does) s.holds
 clock_is_step d below node (Err Memory) d' st s = clock_on d below d' st.0 st (subst (IsSilent (seen_of d)) (sym s.0) (silent_refl (seen_of d))) s.1
 clock_is_step d below node (Err NoIpc) d' st s = absurd s
 clock_is_step d below node (Err NoLink) d' st s = absurd s

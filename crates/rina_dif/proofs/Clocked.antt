@@ -1,5 +1,5 @@
 -- The first item that is due at a node, and what it does.
-use Rattle.std.proofs.Common.{◌≡◌, ◌≢◌, ◌∙◌, ℕ, ◌+◌, ◌<◌, ◌≤◌, ◌⊎◌, Bool, true, false, cond, leb, leb-true, leb-false, List, length, slice_get, Option, Some, None, Result, Ok, Err, IsTrue, refl, sym, ap, subst, arith, inl, inr}
+use Rattle.std.proofs.Common.{◌≡◌, ◌∙◌, ℕ, ◌+◌, ◌<◌, ◌≤◌, ◌⊎◌, Bool, true, false, cond, leb, leb-true, leb-false, List, length, slice_get, Option, Some, None, Result, Ok, Err, IsTrue, refl, sym, ap, subst, arith, inl, inr}
 use Rattle.std.specs.Prelude.{◌↔◌}
 use Rattle.std.proofs.lemmas.Bool.{cases_lt, false≢true}
 use Rattle.std.proofs.lemmas.Option.{slice_get_within}
@@ -11,6 +11,7 @@ use Rattle.rina_data.specs.declared.step.ClockStep.{ClockStep}
 use Rattle.rina_data.specs.declared.step.ClockStep.TheVariants as step
 use Rattle.rina_data.specs.declared.step.StepError.{StepError}
 use Rattle.rina_data.specs.declared.step.StepError.TheVariants as why
+use Rattle.rina_data.specs.declared.losing.Lost.{Lost}
 use Rattle.rina_data.specs.Configs.{config_of}
 use Rattle.rina_data.specs.Ids.{Ids}
 use Rattle.rina_data.specs.Sending.{home}
@@ -21,10 +22,11 @@ use Rattle.rina_flows.specs.Tied.{conns_of, ids_of, outward}
 use Rattle.rina_flows.proofs.Framed.{ids_at}
 use Rattle.rina_dif.specs.declared.clocking.Turn.{Turn}
 use Rattle.rina_dif.specs.declared.dif.Dif.{Dif}
-use Rattle.rina_dif.specs.Clocking.{FindsFirst, HasStepped, IsDueAt, IsIdle, IsIn, IsTurn, StepsHere, earlier}
+use Rattle.rina_dif.specs.Clocking.{FindsFirst, HasStepped, HasSteppedFlow, IsDueAt, IsIdle, IsIn, IsTurn, NoneLostAt, StepsFlowHere, StepsHere, earlier}
 use Rattle.rina_dif.specs.Holding.{Holds}
 use Rattle.rina_dif.specs.Shown.{seen_of}
 use Rattle.rina_dif.specs.Timely.{AcknowledgesAs, ForgetsAs, GivesUpAs, IsHomeEnd, SendsAgainAs}
+use Rattle.rina_dif.specs.Unlinking.{FindsLostAt, LosesAs}
 
 same_some : {X : Type 0} (o : Option X) (a b : X) → o ≡ Some a → o ≡ Some b → a ≡ b
 same_some o a b h g = cc
@@ -179,11 +181,11 @@ cep_there item d lines node at cep ids turn is = turn.first.cep_is ∙ ap (λ (x
 turn_with : (item : Item) (d : Dif) (lines : List Direction) (node at cep cep' : ℕ) → cep ≡ cep' → IsTurn item d lines node at cep → IsTurn item d lines node at cep'
 turn_with item d lines node at cep cep' is turn = subst (IsTurn item d lines node at) is turn
 
-pub does_gone : (d : Dif) (lines : List Direction) (below : Seen) (node at cep : ℕ) (b : Bool) (d' : Dif) → IsTurn Gone d lines node at cep → ForgetsAs d lines below at (Ok b) d' → HasStepped d lines below node (step.Gone cep) d'
+pub does_gone : (d : Dif) (lines : List Direction) (below : Seen) (node at cep : ℕ) (b : Bool) (d' : Dif) → IsTurn Gone d lines node at cep → ForgetsAs d lines below at (Ok b) d' → HasSteppedFlow d lines below node (step.Gone cep) d'
 does_gone d lines below node at cep true d' turn (f, told) = record { lines' = f.lines'; does = record { at = at; turn = turn; forgotten = f.forgotten }; holds = f.holds }
 does_gone d lines below node at cep false d' turn (told, same) = (let due = turn.first.due.due in absurd (told due.conn due.is_conn due.gone))
 
-pub does_give_up : (d : Dif) (lines : List Direction) (below : Seen) (node at cep : ℕ) (num : Num) (d' : Dif) → IsTurn GiveUp d lines node at cep → GivesUpAs d lines below at (Ok (Some num)) d' → HasStepped d lines below node (step.GaveUp num) d'
+pub does_give_up : (d : Dif) (lines : List Direction) (below : Seen) (node at cep : ℕ) (num : Num) (d' : Dif) → IsTurn GiveUp d lines node at cep → GivesUpAs d lines below at (Ok (Some num)) d' → HasSteppedFlow d lines below node (step.GaveUp num) d'
 does_give_up d lines below node at cep num d' turn g =
     let cep_is : cep ≡ num.cep = cep_there GiveUp d lines node at cep g.given_up.ids turn g.given_up.ids_are ∙ sym g.cep in
     record { lines' = lines; does = record { at = at; turn = turn_with GiveUp d lines node at cep num.cep cep_is turn; given_up = g.given_up; lines_are = refl }; holds = g.holds }
@@ -196,11 +198,11 @@ never_kept d lines below node at cep d' turn (none, same) =
     let due = turn.first.due.due in
     some_none (given_up (outward (config_of d.settings) due.conn) due.line.line.clock due.line.line.sender) due.number due.is_due (none due.conn due.line due.is_conn due.is_line)
 
-pub does_ack : (d : Dif) (lines : List Direction) (below : Seen) (node at cep : ℕ) (b : Bool) (d' : Dif) → IsTurn Ack d lines node at cep → AcknowledgesAs d lines below at (Ok b) d' → HasStepped d lines below node (step.Ack cep) d'
+pub does_ack : (d : Dif) (lines : List Direction) (below : Seen) (node at cep : ℕ) (b : Bool) (d' : Dif) → IsTurn Ack d lines node at cep → AcknowledgesAs d lines below at (Ok b) d' → HasSteppedFlow d lines below node (step.Ack cep) d'
 does_ack d lines below node at cep true d' turn a = record { lines' = a.lines'; does = record { at = at; turn = turn; cause = a.cause; acknowledged = a.acknowledged }; holds = a.holds }
 does_ack d lines below node at cep false d' turn (none, same) = absurd (none turn.first.due.due)
 
-pub does_again : (d : Dif) (lines : List Direction) (below : Seen) (node at cep : ℕ) (num : Num) (d' : Dif) → IsTurn Again d lines node at cep → SendsAgainAs d lines below at (Ok (Some num)) d' → HasStepped d lines below node (step.Again num) d'
+pub does_again : (d : Dif) (lines : List Direction) (below : Seen) (node at cep : ℕ) (num : Num) (d' : Dif) → IsTurn Again d lines node at cep → SendsAgainAs d lines below at (Ok (Some num)) d' → HasSteppedFlow d lines below node (step.Again num) d'
 does_again d lines below node at cep num d' turn a =
     let cep_is : cep ≡ num.cep = cep_there Again d lines node at cep a.resent.ids turn a.resent.is_home.is_conn.ids_are ∙ sym a.cep in
     record { lines' = a.lines'; does = record { at = at; turn = turn_with Again d lines node at cep num.cep cep_is turn; cause = a.cause; resent = a.resent; number_is = a.seq }; holds = a.holds }
@@ -209,12 +211,40 @@ pub never_silent : (d : Dif) (lines : List Direction) (below : Seen) (node at ce
 never_silent d lines below node at cep d' turn (none, same) = none turn.first.due.due
 
 -- nothing is due
-pub none_due : (d : Dif) (lines : List Direction) (below : Seen) (node : ℕ) → IsIdle d lines node → Holds d lines below → HasStepped d lines below node step.Idle d
+pub none_due : (d : Dif) (lines : List Direction) (below : Seen) (node : ℕ) → IsIdle d lines node → Holds d lines below → HasSteppedFlow d lines below node step.Idle d
 none_due d lines below node idle h = record { lines' = lines; does = (idle, refl, refl); holds = h }
 
 -- memory was wanted
-pub steps_err : (d : Dif) (lines : List Direction) (below : Seen) (node : ℕ) (r : Result ClockStep StepError) (e : StepError) (d' : Dif) → e ≡ why.Memory → r ≡ Err e → (seen_of d' ≡ seen_of d) × Holds d' lines below → StepsHere d lines below node r d'
-steps_err d lines below node r e d' is err same = subst (λ (v : Result ClockStep StepError). StepsHere d lines below node v d') (sym (err ∙ ap (λ (z : StepError). Err z) is)) same
+pub steps_err : (d : Dif) (lines : List Direction) (below : Seen) (node : ℕ) (r : Result ClockStep StepError) (e : StepError) (d' : Dif) → e ≡ why.Memory → r ≡ Err e → (seen_of d' ≡ seen_of d) × Holds d' lines below → StepsFlowHere d lines below node r d'
+steps_err d lines below node r e d' is err same = subst (λ (v : Result ClockStep StepError). StepsFlowHere d lines below node v d') (sym (err ∙ ap (λ (z : StepError). Err z) is)) same
+
+-- A link comes before all of them
+
+pub link_first : (d : Dif) (lines : List Direction) (below : Seen) (node i : ℕ) (lost : Lost) (d' : Dif) → home node (config_of d.settings).members ≡ Some i → LosesAs d lines below i lost.number (Ok tt) d' → HasStepped d lines below node (step.LinkLost lost.number) d'
+link_first d lines below node i lost d' here l = record { lines' = lines; does = (record { i = i; at_home = here; loses = l.0 }, refl); holds = l.1 }
+
+pub none_first : (d : Dif) (below : Seen) (node i : ℕ) → home node (config_of d.settings).members ≡ Some i → FindsLostAt d below i None → NoneLostAt d below node
+none_first d below node i here none k p at_home is = (let same : k ≡ i = same_some (home node (config_of d.settings).members) k i at_home here in none p (ap (slice_get d.processes) (sym same) ∙ is))
+
+done_first : (d : Dif) (lines : List Direction) (below : Seen) (node : ℕ) (done : ClockStep) (d' : Dif) → NoneLostAt d below node → HasSteppedFlow d lines below node done d' → HasStepped d lines below node done d'
+done_first d lines below node step.Idle d' none s = record { lines' = s.lines'; does = (none, s.does); holds = s.holds }
+done_first d lines below node (step.Gone cep) d' none s = record { lines' = s.lines'; does = (none, s.does); holds = s.holds }
+done_first d lines below node (step.GaveUp num) d' none s = record { lines' = s.lines'; does = (none, s.does); holds = s.holds }
+done_first d lines below node (step.Ack cep) d' none s = record { lines' = s.lines'; does = (none, s.does); holds = s.holds }
+done_first d lines below node (step.Again num) d' none s = record { lines' = s.lines'; does = (none, s.does); holds = s.holds }
+done_first d lines below node (step.LinkLost link) d' none s = absurd s.does
+done_first d lines below node (step.LinkNew link) d' none s = absurd s.does
+done_first d lines below node (step.Timeout port) d' none s = absurd s.does
+done_first d lines below node (step.Message link) d' none s = absurd s.does
+
+pub flow_first : (d : Dif) (lines : List Direction) (below : Seen) (node : ℕ) (r : Result ClockStep StepError) (d' : Dif) → NoneLostAt d below node → StepsFlowHere d lines below node r d' → StepsHere d lines below node r d'
+flow_first d lines below node (Ok done) d' none s = done_first d lines below node done d' none s
+flow_first d lines below node (Err why.Memory) d' none s = s
+flow_first d lines below node (Err why.NoIpc) d' none s = absurd s
+flow_first d lines below node (Err why.NoLink) d' none s = absurd s
+
+pub link_err : (d : Dif) (lines : List Direction) (below : Seen) (node : ℕ) (r : Result ClockStep StepError) (e : StepError) (d' : Dif) → e ≡ why.Memory → r ≡ Err e → (seen_of d' ≡ seen_of d) × Holds d' lines below → StepsHere d lines below node r d'
+link_err d lines below node r e d' is err same = subst (λ (v : Result ClockStep StepError). StepsHere d lines below node v d') (sym (err ∙ ap (λ (z : StepError). Err z) is)) same
 
 -- nothing changed
 pub same_holds : (d : Dif) (lines : List Direction) (below : Seen) (d' : Dif) → d' ≡ d → Holds d lines below → (seen_of d' ≡ seen_of d) × Holds d' lines below

@@ -27,7 +27,7 @@ use Rattle.rina_data.specs.Ending.{IsGivenUp}
 use Rattle.rina_data.specs.Sending.{home}
 use Rattle.rina_data.proofs.Finding.{beside}
 use Rattle.rina_dif.specs.declared.dif.Dif.{Dif}
-use Rattle.rina_dif.specs.Clocking.{ClockSteps, FailsLate, IsLate, Steps, StepsHere, StepsOk}
+use Rattle.rina_dif.specs.Clocking.{ClockSteps, FailsLate, IsLate, Steps, StepsFlow, StepsHere, StepsOk}
 use Rattle.rina_dif.specs.Holding.{Holds}
 use Rattle.rina_dif.specs.Shown.{seen_of}
 use Rattle.rina_dif.specs.Steps.{AtHome}
@@ -104,16 +104,27 @@ late_failed d lines below at number new h g k end end' fail old is failed =
           inl (ap (λ (e : End). e.state) (sym same) ∙ failed))
     ]
 
-late_step : (d : Dif) (lines : List Direction) (below : Seen) (node : ℕ) (done : ClockStep) (new : DifSeen) (lines' : List Direction) → Holds d lines below → Steps d lines node done new lines' → Late d lines new.ends
-late_step d lines below node step.Idle new lines' h s = late_same d lines new.ends (ap (λ (z : DifSeen). z.ends) s.1)
-late_step d lines below node (step.Gone cep) new lines' h s = late_same d lines new.ends (ap (λ (z : DifSeen). z.ends) s.forgotten.new_is)
-late_step d lines below node (step.GaveUp num) new lines' h s = late_failed d lines below s.at num.seq new h s.given_up
-late_step d lines below node (step.Ack cep) new lines' h s = late_same d lines new.ends (ap (λ (z : DifSeen). z.ends) s.acknowledged.new_is)
-late_step d lines below node (step.Again num) new lines' h s = late_same d lines new.ends (ap (λ (z : DifSeen). z.ends) s.resent.new_is)
-late_step d lines below node (step.LinkLost link) new lines' h s = absurd s
-late_step d lines below node (step.LinkNew link) new lines' h s = absurd s
-late_step d lines below node (step.Timeout port) new lines' h s = absurd s
-late_step d lines below node (step.Message link) new lines' h s = absurd s
+late_flow : (d : Dif) (lines : List Direction) (below : Seen) (node : ℕ) (done : ClockStep) (new : DifSeen) (lines' : List Direction) → Holds d lines below → StepsFlow d lines node done new lines' → Late d lines new.ends
+late_flow d lines below node step.Idle new lines' h s = late_same d lines new.ends (ap (λ (z : DifSeen). z.ends) s.1)
+late_flow d lines below node (step.Gone cep) new lines' h s = late_same d lines new.ends (ap (λ (z : DifSeen). z.ends) s.forgotten.new_is)
+late_flow d lines below node (step.GaveUp num) new lines' h s = late_failed d lines below s.at num.seq new h s.given_up
+late_flow d lines below node (step.Ack cep) new lines' h s = late_same d lines new.ends (ap (λ (z : DifSeen). z.ends) s.acknowledged.new_is)
+late_flow d lines below node (step.Again num) new lines' h s = late_same d lines new.ends (ap (λ (z : DifSeen). z.ends) s.resent.new_is)
+late_flow d lines below node (step.LinkLost link) new lines' h s = absurd s
+late_flow d lines below node (step.LinkNew link) new lines' h s = absurd s
+late_flow d lines below node (step.Timeout port) new lines' h s = absurd s
+late_flow d lines below node (step.Message link) new lines' h s = absurd s
+
+late_step : (d : Dif) (lines : List Direction) (below : Seen) (node : ℕ) (done : ClockStep) (new : DifSeen) (lines' : List Direction) → Holds d lines below → Steps d lines below node done new lines' → Late d lines new.ends
+late_step d lines below node step.Idle new lines' h s = late_flow d lines below node step.Idle new lines' h s.1
+late_step d lines below node (step.Gone cep) new lines' h s = late_flow d lines below node (step.Gone cep) new lines' h s.1
+late_step d lines below node (step.GaveUp num) new lines' h s = late_flow d lines below node (step.GaveUp num) new lines' h s.1
+late_step d lines below node (step.Ack cep) new lines' h s = late_flow d lines below node (step.Ack cep) new lines' h s.1
+late_step d lines below node (step.Again num) new lines' h s = late_flow d lines below node (step.Again num) new lines' h s.1
+late_step d lines below node (step.LinkLost link) new lines' h s = late_same d lines new.ends (ap (λ (z : DifSeen). z.ends) s.0.loses.loses.new_is)
+late_step d lines below node (step.LinkNew link) new lines' h s = absurd s.1
+late_step d lines below node (step.Timeout port) new lines' h s = absurd s.1
+late_step d lines below node (step.Message link) new lines' h s = absurd s.1
 
 pub fails_late : (d : Dif) (lines : List Direction) (below : Seen) (node : ℕ) (r : Result ClockStep StepError) (d' : Dif) → Holds d lines below → StepsHere d lines below node r d' → FailsLate d lines d'
 unfolding Late
@@ -142,7 +153,7 @@ noted d lines below failed h = record { tied = h.tied; standing = h.standing; ca
 steps_by : (d : Dif) (lines : List Direction) (below : Seen) (node i : ℕ) (r : Result ClockStep StepError) (d' : Dif) (failed : Bool) → home node (config_of d.settings).members ≡ Some i → StepsHere d lines below node r d' → ClockSteps d lines below node r (record d' { failed = failed }) below
 steps_by d lines below node i (Ok done) d' failed here s = record {
   lines' = s.lines';
-  does = at_home (home node (config_of d.settings).members) i (λ n. StepsOk d lines node (Ok done) (record d' { failed = failed }) s.lines') _ here s.does;
+  does = at_home (home node (config_of d.settings).members) i (λ n. StepsOk d lines below node (Ok done) (record d' { failed = failed }) s.lines') _ here s.does;
   same_below = refl;
   holds = noted d' s.lines' below failed s.holds;
 }
@@ -157,4 +168,4 @@ pub steps_none : (d : Dif) (lines : List Direction) (below : Seen) (node : ℕ) 
 steps_none d lines below node h = record { lines' = lines; does = (refl, refl); same_below = refl; holds = h }
 
 pub steps_nowhere : (d : Dif) (lines : List Direction) (below : Seen) (node : ℕ) → home node (config_of d.settings).members ≡ None → Holds d lines below → ClockSteps d lines below node (Err why.NoIpc) d below
-steps_nowhere d lines below node none h = record { lines' = lines; does = not_home (home node (config_of d.settings).members) (λ i. StepsOk d lines node (Err why.NoIpc) d lines) _ none (refl, refl, refl); same_below = refl; holds = h }
+steps_nowhere d lines below node none h = record { lines' = lines; does = not_home (home node (config_of d.settings).members) (λ i. StepsOk d lines below node (Err why.NoIpc) d lines) _ none (refl, refl, refl); same_below = refl; holds = h }

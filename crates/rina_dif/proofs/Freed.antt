@@ -83,7 +83,7 @@ closes d i at end (Ok done) flows ps lt here is allocated stops lines below h =
         standing = ended_stands (seen_of d) lines below at Closed (seen_of d') h.standing ended;
         carrying = ended_carries (seen_of d) lines below at Closed (seen_of d') h.carrying ended;
         numbered = ended_numbered (seen_of d) lines below at Closed (seen_of d') h.numbered ended;
-        housed = subst (AreHoused g) (sym x.2) (housed_set g d.processes i p.0 (record p.0 { ledger = x.0 }) h.housed p.1 refl (record { routes = refl; places = λ qos link. refl }));
+        housed = subst (AreHoused g) (sym x.2) (housed_set g d.processes i p.0 (record p.0 { ledger = x.0 }) h.housed p.1 refl (record { links = refl; routes = refl; places = λ qos link. refl }));
       };
     }
 closes d i at end (Err e) flows ps lt here is allocated stops lines below h =

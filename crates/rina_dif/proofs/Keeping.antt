@@ -6,13 +6,14 @@ use Rattle.std.proofs.lemmas.List.{length-map, map-set}
 use Rattle.std.proofs.lemmas.Option.{slice_get-map}
 use Rattle.rina_iface.proofs.Changed.{slice_set-same}
 use Rattle.rina_queue.specs.declared.queue.Queued.{Queued}
+use Rattle.rina_data.specs.declared.link.Link.{Link}
 use Rattle.rina_data.specs.declared.process.IpcProcess.{IpcProcess}
 use Rattle.rina_data.specs.declared.settings.Member.{Member as Kept}
 use Rattle.rina_data.specs.Configs.{member_of}
 use Rattle.rina_data.specs.Deciding.{process_of}
 use Rattle.rina_data.specs.Dif.{Config, Process, Queue, next_hop, queue_place}
 use Rattle.rina_data.specs.Sending.{home}
-use Rattle.rina_dif.specs.Holding.{AreHoused, HasQueues, IsHoused}
+use Rattle.rina_dif.specs.Holding.{AreHoused, HasQueues, HaveQueues, IsHoused}
 
 place_map : {X Y : Type 0} → (h : X → Y) (p : Y → Bool) (xs : List X) → position_or_len p (map h xs) ≡ position_or_len (λ x. p (h x)) xs
 place_map h p [] = refl
@@ -36,8 +37,9 @@ pub record For : Type 0 where
 abbrev for_of : Queue → For
 for_of q = record { link = q.link; qos = q.qos }
 
--- next hops and queues are those that were there
+-- links, next hops and queues are those that were there
 pub record IsSameHouse (p p' : Process) : Type 0 where
+  pub links : p'.links ≡ p.links
   pub routes : p'.routes ≡ p.routes
   pub places : (qos link : ℕ) → queue_place qos link p'.queues ≡ queue_place qos link p.queues
 
@@ -53,7 +55,7 @@ same_places qos link qs k q items at =
     for_place qos link (slice_set qs k new) ∙ ap (position (λ (z : For). (z.link == link) && (z.qos == qos))) same ∙ sym (for_place qos link qs)
 
 pub same_house : (p : Process) → IsSameHouse p p
-same_house p = record { routes = refl; places = λ qos link. refl }
+same_house p = record { links = refl; routes = refl; places = λ qos link. refl }
 
 pub house_is : (p p' q : Process) → q ≡ p' → IsSameHouse p p' → IsSameHouse p q
 house_is p p' q is same = subst (λ (z : Process). IsSameHouse p z) (sym is) same
@@ -63,7 +65,12 @@ has_queues g p p' same has dst link qos hop known =
     let before : next_hop dst p.routes ≡ Some link = ap (next_hop dst) (sym same.routes) ∙ hop in
     subst (λ (o : Option ℕ). IsSome o) (sym (same.places qos link)) (has dst link qos before known)
 
-set_cases : {X : Type 0} (P : X → Type 0) (xs : List X) (k : ℕ) (y : X) → P y → ((i : ℕ) (x : X) → slice_get xs i ≡ Some x → P x) → (i : ℕ) (x : X) → slice_get (slice_set xs k y) i ≡ Some x → P x
+pub have_queues : (g : Config) (p p' : Process) → IsSameHouse p p' → HaveQueues g p → HaveQueues g p'
+have_queues g p p' same have place qos link is live known =
+    let was : slice_get p.links place ≡ Some link = ap (λ (ls : List Link). slice_get ls place) (sym same.links) ∙ is in
+    subst (λ (o : Option ℕ). IsSome o) (sym (same.places qos link.number)) (have place qos link was live known)
+
+pub set_cases : {X : Type 0} (P : X → Type 0) (xs : List X) (k : ℕ) (y : X) → P y → ((i : ℕ) (x : X) → slice_get xs i ≡ Some x → P x) → (i : ℕ) (x : X) → slice_get (slice_set xs k y) i ≡ Some x → P x
 set_cases P [] k y new all i x at = all i x at
 set_cases P (z ∷ xs) zero y new all zero x at = (let same : y ≡ x = cc in subst P same new)
 set_cases P (z ∷ xs) zero y new all (suc i) x at = all (suc i) x at
@@ -74,4 +81,4 @@ set_cases P (z ∷ xs) (suc k) y new all (suc i) x at = set_cases P xs k y new (
 pub housed_set : (g : Config) (ps : List IpcProcess) (at : ℕ) (p p' : IpcProcess) → AreHoused g ps → slice_get ps at ≡ Some p → p'.queues.cap ≡ p.queues.cap → IsSameHouse (process_of p) (process_of p') → AreHoused g (slice_set ps at p')
 housed_set g ps at p p' housed is cap same =
     let old = housed at p is in
-    set_cases (IsHoused g) ps at p' (record { cap = cap ∙ old.cap; queues = has_queues g (process_of p) (process_of p') same old.queues }) housed
+    set_cases (IsHoused g) ps at p' (record { cap = cap ∙ old.cap; links = have_queues g (process_of p) (process_of p') same old.links; queues = has_queues g (process_of p) (process_of p') same old.queues }) housed

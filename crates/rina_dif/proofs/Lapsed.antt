@@ -56,7 +56,7 @@ unchanged d i p flows ps ledger is same lines new =
     ap (λ (z : Flows). record d { flows = z; processes = ps }) same ∙ ap (λ (z : List IpcProcess). record d { processes = z }) all
 
 housed_on : (d : Dif) (i : ℕ) (p : IpcProcess) (ps : List IpcProcess) (ledger : List Off) (lines : List Direction) (below : Seen) → Holds d lines below → slice_get d.processes i ≡ Some p → ps ≡ slice_set d.processes i (record p { ledger = ledger }) → AreHoused (config_of d.settings) ps
-housed_on d i p ps ledger lines below h is new = subst (AreHoused (config_of d.settings)) (sym new) (housed_set (config_of d.settings) d.processes i p (record p { ledger = ledger }) h.housed is refl (record { routes = refl; places = λ qos link. refl }))
+housed_on d i p ps ledger lines below h is new = subst (AreHoused (config_of d.settings)) (sym new) (housed_set (config_of d.settings) d.processes i p (record p { ledger = ledger }) h.housed is refl (record { links = refl; routes = refl; places = λ qos link. refl }))
 
 -- the same end is at home
 at_home : (d : Dif) (i at : ℕ) (end : End) → (here : IsHomeEnd d i at) → slice_get d.flows.journal.ends at ≡ Some end → home end.port.node (config_of d.settings).members ≡ Some i

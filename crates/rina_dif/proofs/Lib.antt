@@ -24,8 +24,10 @@ pub mod Refused
 pub mod Routed
 pub mod Sent
 pub mod Settling
+pub mod Shelves
 pub mod Sound
 pub mod Taken
+pub mod Unlinked
 pub mod Ways
 pub mod Wiring
 pub mod Written

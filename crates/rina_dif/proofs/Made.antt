@@ -34,10 +34,10 @@ use Rattle.rina_dif.specs.Building.{IsFree, queue_ids}
 use Rattle.rina_dif.specs.Holding.{Stands}
 use Rattle.rina_dif.specs.Laying.{AreLaid, AreLinkedUp, AreSettings, BindsAll, CanLay, IsLaidIn, IsLinkedUp, IsNew, IsNewProcess, Takes, ends_of, links_from, ports_at}
 use Rattle.rina_dif.specs.Planned.{ipc_name, link_fixed, links_in, links_of, members_from, processes_before, settings_by, settings_in, settings_of}
-use Rattle.rina_dif.specs.Routing.{AreRouted, KnowsLinks}
+use Rattle.rina_dif.specs.Routing.{AreRouted, KnowsLinks, Weigh}
 use Rattle.rina_dif.proofs.Bare.{map_at, none_in, start_holds, starts}
 use Rattle.rina_dif.proofs.Laid.{same_end, stood_there}
-use Rattle.rina_dif.proofs.Routed.{Weigh, knows_link, laid_still}
+use Rattle.rina_dif.proofs.Routed.{knows_link, laid_still}
 use Rattle.rina_dif.proofs.Sound.{are_members, is_config}
 
 -- The links
@@ -104,6 +104,10 @@ has_id : (s : Settings) (qos : ℕ) → IsQos (config_of s) qos → Contains (qu
 has_id s qos (inl none) = contained (queue_ids s.cubes) 0 qos (ap (λ (n : ℕ). Some n) (sym none))
 has_id s qos (inr known) = (let at = its_id qos s.cubes known.0 known.1 in contained (queue_ids s.cubes) (suc at.0) qos at.1)
 
+-- each link has them
+has_place : (s : Settings) (node : ℕ) (ports : List Port) (p : IpcProcess) (place qos : ℕ) (link : Link) → IsLinkedUp s node ports p → slice_get p.links place ≡ Some link → IsQos (config_of s) qos → IsSome (queue_place qos link.number (process_of p).queues)
+has_place s node ports p place qos link up is known = subst (λ (o : Option ℕ). IsSome o) (sym (same_place qos link.number p.queues.queues.items)) (up.there place qos link is (up.ids.all qos (has_id s qos known)))
+
 -- It stands
 
 pub made_stands : (plan : Plan) (i : ℕ) (dif : DifPlan) (d : Dif) (old new : Seen) → IsPlan plan → slice_get plan.difs i ≡ Some dif → d.settings ≡ settings_by plan i dif → d.clock ≡ old.now → d.flows.journal.ends ≡ [] → d.flows.conns ≡ [] → IsFree (config_of d.settings) old → IsLaidIn (config_of d.settings) old new → (bare : List IpcProcess) → AreLaid plan dif d.settings dif.links old new bare → AreRouted d.settings.members dif.links (length d.settings.members) bare d.processes → Stands d new
@@ -126,9 +130,10 @@ made_stands plan i dif d old new sound at are clock ends conns free inside bare 
           let up = laid.up.each k m.0 p m.1 is in
           record {
             cap = up.room;
+            links = λ place qos link stands live known. has_place d.settings m.0.node (ends_of laid.ports) p place qos link up stands known;
             queues = λ dst link qos hop known.
                 let own = knows_link d.settings.members dif.links m.0 p dst link (routed.knows k m.0 p (slice_get_within d.settings.members k m.0 m.1) m.1 is) hop in
-                subst (λ (n : ℕ). IsSome (queue_place qos n (process_of p).queues)) own.3 (subst (λ (o : Option ℕ). IsSome o) (sym (same_place qos own.1.number p.queues.queues.items)) (up.there own.0 qos own.1 own.2 (up.ids.all qos (has_id d.settings qos known))));
+                subst (λ (n : ℕ). IsSome (queue_place qos n (process_of p).queues)) own.3 (has_place d.settings m.0.node (ends_of laid.ports) p own.0 qos own.1 up own.2 known);
           }),
     )
 
@@ -145,7 +150,7 @@ new_process s node ports p up = record {
   links = up.links;
   queues = record {
     empty = λ place queue is. (let q = map_at plain p.queues.queues.items place queue is in ap (λ (z : Queue). z.items) (sym q.2) ∙ up.empty place q.0 q.1);
-    there = λ place qos link is known. subst (λ (o : Option ℕ). IsSome o) (sym (same_place qos link.number p.queues.queues.items)) (up.there place qos link is (up.ids.all qos (has_id s qos known)));
+    there = λ place qos link is known. has_place s node ports p place qos link up is known;
   };
   ledger = up.ledger;
 }

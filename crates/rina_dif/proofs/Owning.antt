@@ -206,7 +206,7 @@ own_arrived d at since hop place cause flows ps lt own kind taken arrives lines 
           let same = same_some (slice_get (seen_of d).processes at) (process_of p.0) process (shown_at d at p.0 p.1) q.is_process in
           settles_arrived (seen_of d) lines at member process since hop cause (seen_of d') in_.lines' own.0 (own.1 member q.is_member) (subst (λ (z : Process). IsArrived (seen_of d) lines at z hop.pdu cause (seen_of d') in_.lines') same whole);
       tied = in_.tied;
-      housed = subst (AreHoused (config_of d.settings)) (sym x.2) (housed_set (config_of d.settings) d.processes at p.0 (record p.0 { ledger = x.0 }) h.housed p.1 refl (record { routes = refl; places = λ qos link. refl }));
+      housed = subst (AreHoused (config_of d.settings)) (sym x.2) (housed_set (config_of d.settings) d.processes at p.0 (record p.0 { ledger = x.0 }) h.housed p.1 refl (record { links = refl; routes = refl; places = λ qos link. refl }));
     }
 
 pub arrived_err : (d : Dif) (at since : ℕ) (hop : Hop) (place : ℕ) (e : NoMemory) (flows : Flows) (ps : List IpcProcess) → at < length d.settings.members → ArrivesTo d.clock place hop.pdu at d.flows d.processes (Err e) flows ps → SettlesFor d at since hop (Err e) (record d { flows = flows; processes = ps })

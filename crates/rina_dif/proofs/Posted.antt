@@ -1,5 +1,5 @@
 -- A PDU that is made beside a send: an acknowledgement, or a piece once more.
-use Rattle.std.proofs.Common.{◌≡◌, ◌≢◌, ◌∙◌, ℕ, ◌-◌, ◌<◌, Bool, true, false, cond, List, [], ◌∷◌, ◌++◌, length, option_map, get_or, slice_get, slice_set, Option, Some, None, Result, Ok, Err, refl, sym, ap, subst, inr}
+use Rattle.std.proofs.Common.{◌≡◌, ◌∙◌, ℕ, ◌-◌, ◌<◌, Bool, true, false, cond, List, [], ◌∷◌, ◌++◌, length, option_map, get_or, slice_get, slice_set, Option, Some, None, Result, Ok, Err, refl, sym, ap, subst, inr}
 use Rattle.std.proofs.lemmas.Bool.{false≢true}
 use Rattle.std.proofs.lemmas.Option.{slice_get_read}
 use Rattle.rina_base.specs.declared.cause.Cause.{Cause}
@@ -16,7 +16,6 @@ use Rattle.rina_iface.specs.declared.ends.Journal.{Journal}
 use Rattle.rina_iface.specs.Seen.{Seen}
 use Rattle.rina_law.specs.Constants.{Constants}
 use Rattle.rina_law.specs.Direction.{Direction, after_again, is_ack_due, right_of}
-use Rattle.rina_law.specs.Line.{again}
 use Rattle.rina_law.specs.Receiver.{next_of}
 use Rattle.rina_law.specs.Sender.{Ack as AnAck, again_due, piece_again}
 use Rattle.rina_data.specs.declared.process.IpcProcess.{IpcProcess}
@@ -28,7 +27,6 @@ use Rattle.rina_data.specs.Deciding.{Forwards, process_of}
 use Rattle.rina_data.specs.Dif.{Config, DifSeen, Process, next_hop, with_process}
 use Rattle.rina_data.specs.Ids.{Ids, pdu_of_ack, pdu_of_piece}
 use Rattle.rina_data.specs.Queueing.{IsFull, IsPassedOn}
-use Rattle.rina_data.specs.Sending.{home}
 use Rattle.rina_data.specs.Standing.{IsQos}
 use Rattle.rina_data.specs.Timely.{IsAcknowledged, IsAtHome, IsResent, Posts}
 use Rattle.rina_data.proofs.Carries.{acknowledged_carries, resent_carries}
@@ -67,7 +65,7 @@ forwards_one now hop r at ps x x' lt read forwards cap p is =
 -- its queues keep their places
 forwards_same : (cap : ℕ) (p : Process) (now : ℕ) (hop : Hop) (r : Result Settled Memory) (p' : Process) → Forwards cap p now hop r p' → IsSameHouse p p'
 forwards_same cap p now hop (Ok settled.Own) p' s = absurd s
-forwards_same cap p now hop (Ok settled.Relayed) p' s = house_is p _ p' s.new_is (record { routes = refl; places = λ qos link. same_places qos link p.queues s.place s.queue (s.queue.items ++ record { pdu = hop.pdu; left = hop.left; since = now } ∷ []) s.is_queue.is_queue })
+forwards_same cap p now hop (Ok settled.Relayed) p' s = house_is p _ p' s.new_is (record { links = refl; routes = refl; places = λ qos link. same_places qos link p.queues s.place s.queue (s.queue.items ++ record { pdu = hop.pdu; left = hop.left; since = now } ∷ []) s.is_queue.is_queue })
 forwards_same cap p now hop (Ok (settled.Off (causes.NoRoute dst))) p' s = house_is p _ p' s.2 (off_house p _)
 forwards_same cap p now hop (Ok (settled.Off (causes.QueueFull n))) p' s = house_is p _ p' s.2 (off_house p _)
 forwards_same cap p now hop (Ok (settled.Off (causes.Expired left charge))) p' s = absurd s

@@ -1,5 +1,5 @@
 -- The IPC processes of a DIF get their next hops.
-use Rattle.std.proofs.Common.{◌≡◌, ◌∙◌, ◌⊎◌, ⊎_elim, ℕ, ◌+◌, ◌<◌, ◌≤◌, ◌==◌, Bool, true, false, cond, get_or, Contains, List, [], ◌∷◌, find, length, length-set, slice_get, Option, Some, None, option_and_then, option_map, refl, sym, ap, subst, arith, inl, inr}
+use Rattle.std.proofs.Common.{◌≡◌, ◌∙◌, ◌⊎◌, ⊎_elim, ℕ, ◌+◌, ◌<◌, ◌≤◌, ◌==◌, Bool, true, false, cond, get_or, Contains, List, [], ◌∷◌, find, length, length-set, slice_get, Option, Some, None, option_and_then, option_map, refl, sym, ap, subst, arith, inl, inr, zero, suc, filter, map, not}
 use Rattle.std.specs.List.{cons_option, filter_map}
 use Rattle.std.proofs.lemmas.Option.{get_or_from_slice_get, slice_get-get_or, slice_get_within}
 use Rattle.std.proofs.lemmas.List.Elements.{Contains-append_cases, Contains-append_left, Contains-append_right, Contains-push, Contains-push_cases}
@@ -21,7 +21,7 @@ use Rattle.rina_data.specs.declared.settings.Settings.{Settings}
 use Rattle.rina_data.specs.Dif.{next_hop}
 use Rattle.rina_data.proofs.Finding.{found_in}
 use Rattle.rina_dif.specs.Laying.{AreLaid, IsLinkedUp, ends_of}
-use Rattle.rina_dif.specs.Routing.{AreRouted, KnowsLinks, SetsRoutes, addr_at, edge_back, edge_between, edge_there, edges_from, edges_of, own_link, own_links, route_to, routes_to, with_routes}
+use Rattle.rina_dif.specs.Routing.{AreRouted, KnowsLinks, SetsRoutes, KnowsLive, Weigh, addr_at, claims_with, edge_back, edge_between, edge_from, edge_there, edge_to, edges_from, edges_of, live_links, live_of, own_link, own_links, route_to, routes_to, with_routes}
 
 -- Lists
 
@@ -65,9 +65,6 @@ weight_by w (Some from) to e h = weight_to from w to e h
 weight_of : (members : List Member) (a b w : ℕ) (e : Edge) → edge_between members a b w ≡ Some e → e.weight ≡ w
 weight_of members a b w e h = weight_by w (addr_at members a) (addr_at members b) e h
 
-abbrev pub Weigh : List LinkPlan → Type 0
-Weigh links = (k : ℕ) (l : LinkPlan) → slice_get links k ≡ Some l → 1 ≤ l.weight
-
 weighs : (links : List LinkPlan) (l : LinkPlan) (e : Edge) → Weigh links → Contains links l → e.weight ≡ l.weight → 1 ≤ e.weight
 weighs links l e all has same =
     let at = at_place links l has in
@@ -79,6 +76,62 @@ edges_weigh members links all e among = ⊎_elim
     (λ first. (let r = made_of (edge_there members) links e first in weighs links r.0 e all r.1 (weight_of members r.0.a r.0.b r.0.weight e r.2)))
     (λ second. (let r = made_of (edge_back members) links e second in weighs links r.0 e all r.1 (weight_of members r.0.b r.0.a r.0.weight e r.2)))
     (Contains-append_cases (filter_map (edge_there members) links) (filter_map (edge_back members) links) e among)
+
+-- of the edges from a node
+
+weigh_from : (members : List Member) (node : ℕ) (l : LinkPlan) (e : Edge) → edge_from members node l ≡ Some e → e.weight ≡ l.weight
+weigh_from members node l e is = weigh_by (l.a == node) (l.b == node) is
+  where
+    weigh_if : (b : Bool) → cond b (edge_back members l) None ≡ Some e → e.weight ≡ l.weight
+    weigh_if true is = weight_of members l.b l.a l.weight e is
+    weigh_if false is = absurd cc
+
+    weigh_by : (a b : Bool) → cond a (edge_there members l) (cond b (edge_back members l) None) ≡ Some e → e.weight ≡ l.weight
+    weigh_by true b is = weight_of members l.a l.b l.weight e is
+    weigh_by false b is = weigh_if b is
+
+from_weigh : (members : List Member) (node : ℕ) (links : List LinkPlan) → Weigh links → HaveWeights (edges_from members node links)
+from_weigh members node links all e among = (let r = made_of (edge_from members node) links e among in weighs links r.0 e all r.1 (weigh_from members node r.0 e r.2))
+
+own_weight_by : (link : Link) (o : Option Edge) (h : Hop) → option_map (λ (e : Edge). record { number = link.number; peer = e.to; weight = e.weight }) o ≡ Some h → (e : Edge) × (o ≡ Some e) × (e.weight ≡ h.weight)
+own_weight_by link None h is = absurd cc
+own_weight_by link (Some e) h is =
+    let made : Hop = record { number = link.number; peer = e.to; weight = e.weight } in
+    let same : made ≡ h = cc in
+    (e, refl, ap (λ (z : Hop). z.weight) same)
+
+own_weigh : (edges : List Edge) (links : List Link) (h : Hop) → HaveWeights edges → Contains (own_links edges links) h → 1 ≤ h.weight
+own_weigh edges links h all has =
+    let r = made_of (own_link edges) links h has in
+    let e = own_weight_by r.0 (slice_get edges r.0.number) h r.2 in
+    let least : 1 ≤ e.0.weight = all e.0 (is_there edges r.0.number e.0 e.1) in
+    let same : e.0.weight ≡ h.weight = e.2 in
+    omega (arith, least, same)
+
+mapped : {A B : Type 0} (f : A → B) (xs : List A) (y : B) → Contains (map f xs) y → (x : A) × Contains xs x × (f x ≡ y)
+mapped f [] y h = absurd (in_none y h)
+mapped f (x ∷ xs) y h = ⊎_elim (λ same. (x, head x xs, same)) (λ rest. (let r = mapped f xs y rest in (r.0, tail x xs r.0 r.1, r.2))) (cases (f x) (map f xs) y h)
+
+kept_if : {A : Type 0} (f : A → Bool) (y : A) (ys : List A) (x : A) (b : Bool) → (Contains (filter f ys) x → Contains ys x) → Contains (cond b (y ∷ filter f ys) (filter f ys)) x → Contains (y ∷ ys) x
+kept_if f y ys x true rest h = ⊎_elim (λ same. subst (λ (z : _). Contains (y ∷ ys) z) same (head y ys)) (λ more. tail y ys x (rest more)) (cases y (filter f ys) x h)
+kept_if f y ys x false rest h = tail y ys x (rest h)
+
+kept : {A : Type 0} (f : A → Bool) (xs : List A) (x : A) → Contains (filter f xs) x → Contains xs x
+kept f [] x h = h
+kept f (y ∷ ys) x h = kept_if f y ys x (f y) (λ rest. kept f ys x rest) h
+
+-- of what the link states name
+pub own_weighs : (members : List Member) (plans : List LinkPlan) (node own : ℕ) (links : List Link) → Weigh plans → HaveWeights (claims_with own (own_links (edges_from members node plans) links) (edges_of members plans))
+own_weighs members plans node own links all e among =
+    let hops = own_links (edges_from members node plans) links in
+    ⊎_elim
+    (λ others. edges_weigh members plans all e (kept (λ (z : Edge). not (z.from == own)) (edges_of members plans) e others))
+    (λ named.
+    let m = mapped (edge_to own) hops e named in
+    let least : 1 ≤ m.0.weight = own_weigh (edges_from members node plans) links m.0 (from_weigh members node plans all) m.1 in
+    let same : m.0.weight ≡ e.weight = ap (λ (z : Edge). z.weight) m.2 in
+    omega (arith, least, same))
+    (Contains-append_cases (filter (λ (z : Edge). not (z.from == own)) (edges_of members plans)) (map (edge_to own) hops) e among)
 
 -- Its own links
 
@@ -123,17 +176,37 @@ hop_found dst n routes (Some r) found is =
     let link : r.link ≡ n = cc in
     (r, is_there routes at.0 r at.1, link)
 
--- the link of each next hop is one of its own
+-- the link of each next hop is one of those that were given
+knows_hop : (members : List Member) (edges : List Edge) (links : List Link) (claimed : List Edge) (rows : List (ℕ × ℕ)) (routes : List Route) (own dst n : ℕ) → AreHops own (own_links edges links) claimed rows → routes ≡ routes_to own rows members → next_hop dst routes ≡ Some n → (k : ℕ) × (link : Link) × (slice_get links k ≡ Some link) × (link.number ≡ n)
+knows_hop members edges links claimed rows routes own dst n hops are hop =
+    let is : next_hop dst (routes_to own rows members) ≡ Some n = ap (next_hop dst) (sym are) ∙ hop in
+    let r = hop_found dst n (routes_to own rows members) (find (λ (r : Route). r.dst == dst) (routes_to own rows members)) refl is in
+    let to = made_of (route_to own rows) members r.0 r.1 in
+    let row = row_of own n rows to.0 r.0 to.2 r.2 in
+    let h = hop_there (counted own (own_links edges links) claimed) (own_links edges links) own to.0.addr n (hop_at rows to.0.addr) row.1 (hops to.0.addr) in
+    let one = own_number edges links h.0 h.1 in
+    (one.0, one.1, one.2, one.3 ∙ h.2)
+
+-- one of its own
 pub knows_link : (members : List Member) (plans : List LinkPlan) (m : Member) (p : IpcProcess) (dst n : ℕ) → KnowsLinks members plans m p → next_hop dst p.routes ≡ Some n → (k : ℕ) × (link : Link) × (slice_get p.links k ≡ Some link) × (link.number ≡ n)
-knows_link members plans m p dst n knows hop =
-    let is : next_hop dst (routes_to m.addr knows.rows members) ≡ Some n = ap (next_hop dst) (sym knows.routes) ∙ hop in
-    let r = hop_found dst n (routes_to m.addr knows.rows members) (find (λ (r : Route). r.dst == dst) (routes_to m.addr knows.rows members)) refl is in
-    let to = made_of (route_to m.addr knows.rows) members r.0 r.1 in
-    let row = row_of m.addr n knows.rows to.0 r.0 to.2 r.2 in
-    let edges = edges_from members m.node plans in
-    let h = hop_there (counted m.addr (own_links edges p.links) (edges_of members plans)) (own_links edges p.links) m.addr to.0.addr n (hop_at knows.rows to.0.addr) row.1 (knows.hops to.0.addr) in
-    let own = own_number edges p.links h.0 h.1 in
-    (own.0, own.1, own.2, own.3 ∙ h.2)
+knows_link members plans m p dst n knows hop = knows_hop members (edges_from members m.node plans) p.links (edges_of members plans) knows.rows p.routes m.addr dst n knows.hops knows.routes hop
+
+-- what was filtered stood there, and passes
+filtered_if : {X : Type 0} (f : X → Bool) (y : X) (ys : List X) (x : X) (k : ℕ) (b : Bool) → f y ≡ b → ((k : ℕ) → slice_get (filter f ys) k ≡ Some x → (j : ℕ) × (slice_get ys j ≡ Some x) × (f x ≡ true)) → slice_get (cond b (y ∷ filter f ys) (filter f ys)) k ≡ Some x → (j : ℕ) × (slice_get (y ∷ ys) j ≡ Some x) × (f x ≡ true)
+filtered_if f y ys x zero true is rest at = (let same : y ≡ x = cc in (0, at, ap f (sym same) ∙ is))
+filtered_if f y ys x (suc k) true is rest at = (let r = rest k at in (suc r.0, r.1, r.2))
+filtered_if f y ys x k false is rest at = (let r = rest k at in (suc r.0, r.1, r.2))
+
+filtered : {X : Type 0} (f : X → Bool) (xs : List X) (x : X) (k : ℕ) → slice_get (filter f xs) k ≡ Some x → (j : ℕ) × (slice_get xs j ≡ Some x) × (f x ≡ true)
+filtered f [] x k at = absurd cc
+filtered f (y ∷ ys) x k at = filtered_if f y ys x k (f y) refl (λ j h. filtered f ys x j h) at
+
+-- where links were lost, a live one of its own
+pub live_hop : (members : List Member) (plans : List LinkPlan) (m : Member) (links : List Link) (routes : List Route) (dst n : ℕ) → KnowsLive members plans m links routes → next_hop dst routes ≡ Some n → (k : ℕ) × (link : Link) × (slice_get links k ≡ Some link) × (link.live ≡ true) × (link.number ≡ n)
+live_hop members plans m links routes dst n knows hop =
+    let l = knows_hop members (edges_from members m.node plans) (live_of links) (claims_with m.addr (live_links members plans m links) (edges_of members plans)) knows.rows routes m.addr dst n knows.hops knows.are hop in
+    let at = filtered (λ (z : Link). z.live) links l.1 l.0 l.2 in
+    (at.0, l.1, at.1, at.2, l.3)
 
 -- One after the other
 

@@ -267,7 +267,7 @@ sends_made d at sdu way made flows ps a offers puts lines below h =
     let refused : refused_at (seen_of d) lines at o.parts ≡ None = past_all d lines below at sdu way q.line o.parts h a q.is_line o.cut.0 o.cut.1 ∙ ap (λ (r : Option Refusal). by_sender r None) free in
     let offer : Offers (seen_of d) lines at o.parts (Ok made.num) (seen_of d') o.lines' = (refused, o.cut.0, accepted d lines below at sdu way made flows put.0 ps h a o put.1 put.2) in
     let i = is_put d q.its_ids way (queued way.left d.clock made.pdus) a.goes.process put.0 (a.qos ∙ ap (λ (x : Ids). x.qos) s.ids_are) put.1 in
-    let house = house_is (process_of a.goes.process) _ (process_of put.0) i.new_is (record { routes = refl; places = λ qos link. same_places qos link (process_of a.goes.process).queues i.place (plain i.queue) (i.queue.ring.items ++ queued way.left d.clock made.pdus) i.is_queue.is_queue }) in
+    let house = house_is (process_of a.goes.process) _ (process_of put.0) i.new_is (record { links = refl; routes = refl; places = λ qos link. same_places qos link (process_of a.goes.process).queues i.place (plain i.queue) (i.queue.ring.items ++ queued way.left d.clock made.pdus) i.is_queue.is_queue }) in
     record {
       parts = o.parts;
       cut = o.cut;

@@ -68,13 +68,13 @@ arrives_one now place pdu at flows flows' r ps x ledger lt read arrives p is =
 -- The queues keep their places
 
 pub off_house : (p : Process) (lines : List Off) → IsSameHouse p (with_offs p lines)
-off_house p lines = record { routes = refl; places = λ qos link. refl }
+off_house p lines = record { links = refl; routes = refl; places = λ qos link. refl }
 
 pub decides_same : (cap now addr : ℕ) (p : Process) (since : ℕ) (hop : Hop) (r : Result Settled NoMemory) (p' : Process) → Decides cap now addr p since hop r p' → IsSameHouse p p'
 decides_same cap now addr p since hop (Ok settled.Own) p' s = house_is p p p' s.2 (same_house p)
 decides_same cap now addr p since hop (Ok settled.Relayed) p' s =
     let q = s.2 in
-    house_is p _ p' q.new_is (record { routes = refl; places = λ qos link. same_places qos link p.queues q.place q.queue (q.queue.items ++ record { pdu = hop.pdu; left = hop.left; since = since } ∷ []) q.is_queue.is_queue })
+    house_is p _ p' q.new_is (record { links = refl; routes = refl; places = λ qos link. same_places qos link p.queues q.place q.queue (q.queue.items ++ record { pdu = hop.pdu; left = hop.left; since = since } ∷ []) q.is_queue.is_queue })
 decides_same cap now addr p since hop (Ok (settled.Off (causes.Expired left charge))) p' s = house_is p _ p' s.3 (off_house p _)
 decides_same cap now addr p since hop (Ok (settled.Off (causes.NoRoute dst))) p' s = house_is p _ p' s.2.2 (off_house p _)
 decides_same cap now addr p since hop (Ok (settled.Off (causes.QueueFull n))) p' s = house_is p _ p' s.2.2 (off_house p _)

@@ -12,6 +12,7 @@ use Rattle.rina_iface.specs.Journal.{At}
 use Rattle.rina_iface.specs.Seen.{Seen}
 use Rattle.rina_law.specs.declared.entry.Entry.{Entry}
 use Rattle.rina_law.specs.Direction.{Direction, start_of}
+use Rattle.rina_data.specs.declared.process.IpcProcess.{IpcProcess}
 use Rattle.rina_data.specs.declared.step.ClockStep.{ClockStep}
 use Rattle.rina_data.specs.declared.step.ClockStep.TheVariants as step
 use Rattle.rina_data.specs.declared.step.StepError.{StepError}
@@ -20,6 +21,7 @@ use Rattle.rina_data.specs.Configs.{config_of}
 use Rattle.rina_data.specs.Dif.{DifSeen, cube_by}
 use Rattle.rina_data.specs.Ending.{IsGivenUp}
 use Rattle.rina_data.specs.Ids.{Ids}
+use Rattle.rina_data.specs.Losing.{NoneLost}
 use Rattle.rina_data.specs.Sending.{home}
 use Rattle.rina_data.specs.Standing.{IsConn}
 use Rattle.rina_data.specs.Timely.{IsAcknowledged, IsForgotten, IsResent}
@@ -34,6 +36,7 @@ use Rattle.rina_dif.specs.declared.dif.Dif.{Dif}
 use Rattle.rina_dif.specs.Holding.{Holds}
 use Rattle.rina_dif.specs.Shown.{seen_of}
 use Rattle.rina_dif.specs.Steps.{AtHome}
+use Rattle.rina_dif.specs.Unlinking.{LosesLink}
 
 -- What is due at a node
 
@@ -130,19 +133,50 @@ pub record StepsAgain (d : Dif) (lines : List Direction) (node cep number : ℕ)
   pub resent : IsResent (seen_of d) lines at cause new lines'
   pub number_is : number ≡ resent.number
 
--- what the first item that is due does, or Idle where none is
-abbrev pub Steps : Dif → List Direction → ℕ → ClockStep → DifSeen → List Direction → Type 0
-Steps d lines node step.Idle new lines' = IsIdle d lines node × (new ≡ seen_of d) × (lines' ≡ lines)
-Steps d lines node (step.Gone cep) new lines' = StepsGone d lines node cep new lines'
-Steps d lines node (step.GaveUp num) new lines' = StepsGaveUp d lines node num.cep num.seq new lines'
-Steps d lines node (step.Ack cep) new lines' = StepsAck d lines node cep new lines'
-Steps d lines node (step.Again num) new lines' = StepsAgain d lines node num.cep num.seq new lines'
-Steps d lines node other new lines' = ⊥
+-- what the first item that is due at the flows does, or Idle where none is
+abbrev pub StepsFlow : Dif → List Direction → ℕ → ClockStep → DifSeen → List Direction → Type 0
+StepsFlow d lines node step.Idle new lines' = IsIdle d lines node × (new ≡ seen_of d) × (lines' ≡ lines)
+StepsFlow d lines node (step.Gone cep) new lines' = StepsGone d lines node cep new lines'
+StepsFlow d lines node (step.GaveUp num) new lines' = StepsGaveUp d lines node num.cep num.seq new lines'
+StepsFlow d lines node (step.Ack cep) new lines' = StepsAck d lines node cep new lines'
+StepsFlow d lines node (step.Again num) new lines' = StepsAgain d lines node num.cep num.seq new lines'
+StepsFlow d lines node other new lines' = ⊥
+
+-- and the DIF holds after it
+pub record HasSteppedFlow (d : Dif) (lines : List Direction) (below : Seen) (node : ℕ) (done : ClockStep) (d' : Dif) : Type 0 where
+  pub lines' : List Direction
+  pub does : StepsFlow d lines node done (seen_of d') lines'
+  pub holds : Holds d' lines' below
+
+-- or memory was wanted
+abbrev pub StepsFlowHere : Dif → List Direction → Seen → ℕ → Result ClockStep StepError → Dif → Type 0
+StepsFlowHere d lines below node (Ok done) d' = HasSteppedFlow d lines below node done d'
+StepsFlowHere d lines below node (Err Memory) d' = (seen_of d' ≡ seen_of d) × Holds d' lines below
+StepsFlowHere d lines below node (Err other) d' = ⊥
+
+-- What is done at the links
+
+-- the IPC process at this node has no link that is lost
+abbrev pub NoneLostAt : Dif → Seen → ℕ → Type 0
+NoneLostAt d below node = (i : ℕ) (p : IpcProcess) → home node (config_of d.settings).members ≡ Some i → slice_get d.processes i ≡ Some p → NoneLost p.links below
+
+-- it loses its link of this number
+pub record StepsLost (d : Dif) (below : Seen) (node number : ℕ) (new : DifSeen) : Type 0 where
+  pub i : ℕ
+  pub at_home : home node (config_of d.settings).members ≡ Some i
+  pub loses : LosesLink d below i number new
+
+-- What is done first
+
+-- a link that is lost comes before all that is due at the flows
+abbrev pub Steps : Dif → List Direction → Seen → ℕ → ClockStep → DifSeen → List Direction → Type 0
+Steps d lines below node (step.LinkLost link) new lines' = StepsLost d below node link new × (lines' ≡ lines)
+Steps d lines below node done new lines' = NoneLostAt d below node × StepsFlow d lines node done new lines'
 
 -- and the DIF holds after it
 pub record HasStepped (d : Dif) (lines : List Direction) (below : Seen) (node : ℕ) (done : ClockStep) (d' : Dif) : Type 0 where
   pub lines' : List Direction
-  pub does : Steps d lines node done (seen_of d') lines'
+  pub does : Steps d lines below node done (seen_of d') lines'
   pub holds : Holds d' lines' below
 
 -- or memory was wanted
@@ -152,18 +186,18 @@ StepsHere d lines below node (Err Memory) d' = (seen_of d' ≡ seen_of d) × Hol
 StepsHere d lines below node (Err other) d' = ⊥
 
 -- at the IPC process of this node
-abbrev pub StepsOk : Dif → List Direction → ℕ → Result ClockStep StepError → Dif → List Direction → Type 0
-StepsOk d lines node (Ok done) d' lines' = Steps d lines node done (seen_of d') lines'
-StepsOk d lines node (Err e) d' lines' = ⊥
+abbrev pub StepsOk : Dif → List Direction → Seen → ℕ → Result ClockStep StepError → Dif → List Direction → Type 0
+StepsOk d lines below node (Ok done) d' lines' = Steps d lines below node done (seen_of d') lines'
+StepsOk d lines below node (Err e) d' lines' = ⊥
 
 -- what `clock_step` does at a node; nothing changes below
-abbrev pub ClockStepsAt : Dif → List Direction → ℕ → Result ClockStep StepError → Dif → List Direction → Type 0
-ClockStepsAt d lines node (Err Memory) d' lines' = (seen_of d' ≡ seen_of d) × (lines' ≡ lines)
-ClockStepsAt d lines node result d' lines' = AtHome (home node (config_of d.settings).members) (λ i. StepsOk d lines node result d' lines') ((result ≡ Err NoIpc) × (seen_of d' ≡ seen_of d) × (lines' ≡ lines))
+abbrev pub ClockStepsAt : Dif → List Direction → Seen → ℕ → Result ClockStep StepError → Dif → List Direction → Type 0
+ClockStepsAt d lines below node (Err Memory) d' lines' = (seen_of d' ≡ seen_of d) × (lines' ≡ lines)
+ClockStepsAt d lines below node result d' lines' = AtHome (home node (config_of d.settings).members) (λ i. StepsOk d lines below node result d' lines') ((result ≡ Err NoIpc) × (seen_of d' ≡ seen_of d) × (lines' ≡ lines))
 
 pub record ClockSteps (d : Dif) (lines : List Direction) (below : Seen) (node : ℕ) (result : Result ClockStep StepError) (d' : Dif) (below' : Seen) : Type 0 where
   pub lines' : List Direction
-  pub does : ClockStepsAt d lines node result d' lines'
+  pub does : ClockStepsAt d lines below node result d' lines'
   pub same_below : below' ≡ below
   pub holds : Holds d' lines' below'
 

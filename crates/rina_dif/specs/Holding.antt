@@ -1,7 +1,8 @@
 -- What holds of a DIF at every moment.
-use Rattle.std.specs.Prelude.{◌≡◌, ℕ, List, slice_get, Some, IsSome}
+use Rattle.std.specs.Prelude.{◌≡◌, ℕ, true, List, slice_get, Some, IsSome}
 use Rattle.rina_iface.specs.Seen.{Seen}
 use Rattle.rina_law.specs.Direction.{Direction}
+use Rattle.rina_data.specs.declared.link.Link.{Link}
 use Rattle.rina_data.specs.declared.process.IpcProcess.{IpcProcess}
 use Rattle.rina_data.specs.Carried.{IsCarrying}
 use Rattle.rina_data.specs.Configs.{config_of}
@@ -14,6 +15,10 @@ use Rattle.rina_flows.specs.Calls.{AreTied}
 use Rattle.rina_dif.specs.declared.dif.Dif.{Dif}
 use Rattle.rina_dif.specs.Shown.{seen_of}
 
+-- each live link has a queue for each cube
+abbrev pub HaveQueues : Config → Process → Type 0
+HaveQueues g process = (place qos : ℕ) (link : Link) → slice_get process.links place ≡ Some link → link.live ≡ true → IsQos g qos → IsSome (queue_place qos link.number process.queues)
+
 -- the link of each next hop has a queue for each cube
 abbrev pub HasQueues : Config → Process → Type 0
 HasQueues g process = (dst link qos : ℕ) → next_hop dst process.routes ≡ Some link → IsQos g qos → IsSome (queue_place qos link process.queues)
@@ -21,6 +26,7 @@ HasQueues g process = (dst link qos : ℕ) → next_hop dst process.routes ≡ S
 -- the queues of an IPC process are those that its DIF says
 pub record IsHoused (g : Config) (p : IpcProcess) : Type 0 where
   pub cap : p.queues.cap ≡ g.cap
+  pub links : HaveQueues g (process_of p)
   pub queues : HasQueues g (process_of p)
 
 -- and so for each

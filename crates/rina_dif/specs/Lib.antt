@@ -12,4 +12,5 @@ pub mod Shown
 pub mod Steps
 pub mod Taking
 pub mod Timely
+pub mod Unlinking
 pub mod Whole

@@ -1,5 +1,5 @@
 -- The next hops of a DIF that was made.
-use Rattle.std.specs.Prelude.{◌≡◌, ℕ, ◌==◌, ◌<◌, List, ◌++◌, find, length, slice_get, slice_set, Option, Some, None, option_and_then, option_map, if◌then◌else◌}
+use Rattle.std.specs.Prelude.{◌≡◌, ℕ, ◌<◌, ◌≤◌, ◌==◌, not, List, ◌++◌, filter, find, length, map, slice_get, slice_set, Option, Some, None, option_and_then, option_map, if◌then◌else◌}
 use Rattle.std.specs.List.{filter_map}
 use Rattle.rina_graph.specs.declared.graph.Edge.{Edge}
 use Rattle.rina_route.specs.declared.link.Link.{Link as Hop}
@@ -72,3 +72,33 @@ pub record AreRouted (members : List Member) (links : List LinkPlan) (count : �
   pub aligned : length new ≡ length old
   pub knows : (k : ℕ) (m : Member) (p : IpcProcess) → k < count → slice_get members k ≡ Some m → slice_get new k ≡ Some p → KnowsLinks members links m p
   pub same : (k : ℕ) (p : IpcProcess) → slice_get new k ≡ Some p → (q : IpcProcess) × (routes : List Route) × (slice_get old k ≡ Some q) × (p ≡ with_routes q routes)
+
+-- Where links were lost
+
+-- each link has a weight
+abbrev pub Weigh : List LinkPlan → Type 0
+Weigh links = (k : ℕ) (l : LinkPlan) → slice_get links k ≡ Some l → 1 ≤ l.weight
+
+-- the links that are live
+abbrev pub live_of : List Link → List Link
+live_of links = filter (λ (l : Link). l.live) links
+
+-- a link of a member as its link state names it
+abbrev pub edge_to : ℕ → Hop → Edge
+edge_to own h = edge own h.peer h.weight
+
+-- what the link states name that a member of this address has: those of the others as they were from the start, and its
+-- own, which names these links
+abbrev pub claims_with : ℕ → List Hop → List Edge → List Edge
+claims_with own links claimed = filter (λ (e : Edge). not (e.from == own)) claimed ++ map (edge_to own) links
+
+-- the live links of a member, with its neighbours
+abbrev pub live_links : List Member → List LinkPlan → Member → List Link → List Hop
+live_links members plans member links = own_links (edges_from members member.node plans) (live_of links)
+
+-- an IPC process with these links, some of which were lost, knows its live ones, and those that the others had from the
+-- start: over them, the least number of a link on a least walk is the next hop to each other member
+pub record KnowsLive (members : List Member) (plans : List LinkPlan) (member : Member) (links : List Link) (routes : List Route) : Type 0 where
+  pub rows : List (ℕ × ℕ)
+  pub hops : AreHops member.addr (live_links members plans member links) (claims_with member.addr (live_links members plans member links) (edges_of members plans)) rows
+  pub are : routes ≡ routes_to member.addr rows members

@@ -67,6 +67,7 @@ impl Dif {
         ensures goes_on { GoesOn self.old self.new }
         ensures stands { StaysStanding self.old self.new }
         ensures settings { self.new.settings ≡ self.old.settings }
+        ensures laid { self.new.laid ≡ self.old.laid }
         ensures failed { self.old.failed ≡ true → result ≡ Err Memory }
         ensures fails { self.new.failed ≡ true ↔ (result ≡ Err Memory) }
     {
@@ -84,6 +85,7 @@ impl Dif {
         ensures goes_on { GoesOn self.old self.new }
         ensures stands { StaysStanding self.old self.new }
         ensures settings { self.new.settings ≡ self.old.settings }
+        ensures laid { self.new.laid ≡ self.old.laid }
         ensures failed { self.new.failed ≡ self.old.failed }
     {
         let at = oldest(&self.flows.journal.ends, self.waiting.as_slice(), node, app)?;

@@ -159,6 +159,7 @@ impl Dif {
         ensures ok { OnOk result (AddsFlow self.old.settings asker.cube peer asker far self.old.flows self.new.flows) }
         ensures rest { OnOk result (self.new ≡ record self.old { flows = self.new.flows; names = with_name_once self.old.names far.port.node far.app }) }
         ensures err { OnErr result (self.new ≡ self.old) }
+        ensures laid { self.new.laid ≡ self.old.laid }
     {
         let node = far.port.node;
         if is_registered(self.names.as_slice(), node, &far.app) {
@@ -183,6 +184,7 @@ impl Dif {
         requires may { MayBind self.old fixed.now }
         ensures does { (lines : List Direction) (below : Seen) → Holds self.old lines below → BindsTo self.old lines below fixed.now result self.new }
         ensures same { (self.new.settings ≡ self.old.settings) × (self.new.clock ≡ self.old.clock) × (self.new.failed ≡ self.old.failed) }
+        ensures laid { self.new.laid ≡ self.old.laid }
     {
         let near = self.draw(fixed.a);
         let other = self.draw(fixed.b);
@@ -216,6 +218,7 @@ impl Dif {
         ensures goes_on { GoesOn self.old self.new }
         ensures stands { StaysStanding self.old self.new }
         ensures settings { self.new.settings ≡ self.old.settings }
+        ensures laid { self.new.laid ≡ self.old.laid }
         ensures failed { self.old.failed ≡ true → result ≡ Err MemoryWanted }
         ensures fails { self.new.failed ≡ true ↔ (result ≡ Err MemoryWanted) }
     {

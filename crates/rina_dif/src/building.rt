@@ -9,6 +9,7 @@ ghost use Rattle.rina_dif.specs.Holding.{Holds};
 
 use crate::dif::Dif;
 use crate::processes::Processes;
+use crate::rerouting::Layout;
 use rina_account::Ledger;
 use rina_base::{Memory, Seq, Tick};
 use rina_cube::Cube;
@@ -68,6 +69,7 @@ impl Dif {
             settings,
             clock,
             processes,
+            laid: Layout::none(alloc),
             flows: Flows::new(alloc),
             waiting: Vec::new(alloc),
             names: Seq::new(alloc),

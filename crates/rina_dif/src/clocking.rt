@@ -7,7 +7,7 @@ ghost use Rattle.rina_data.specs.Configs.{config_of};
 ghost use Rattle.rina_data.specs.Sending.{home};
 ghost use Rattle.rina_data.specs.Upward.{IsSilent};
 ghost use Rattle.rina_data.specs.declared.step.StepError.TheVariants.{Memory as MemoryWanted};
-ghost use Rattle.rina_dif.specs.Clocking.{ClockSteps, FailsLate, FindsFirst, FindsNext, IsDueAt, IsHere, IsIn, StepsHere, earlier};
+ghost use Rattle.rina_dif.specs.Clocking.{ClockSteps, FailsLate, FindsFirst, FindsNext, IsDueAt, IsHere, IsIn, StepsFlowHere, StepsHere, earlier};
 ghost use Rattle.rina_dif.specs.Facade.{GoesOn, OthersStand};
 ghost use Rattle.rina_dif.specs.Holding.{Holds, Stands};
 ghost use Rattle.rina_dif.specs.Shown.{seen_of};
@@ -114,14 +114,15 @@ impl Dif {
         None
     }
 
-    /// Does the first item that is due at a node, at its IPC process.
+    /// Does the first item that is due at the flows of a node, at its IPC process.
     fn do_next(&mut self, alloc: Global, at: usize, node: Node) -> Result<ClockStep, StepError>
         requires stands { (below : Seen) × Stands self.old below }
         requires clock { self.old.clock ≤ 10_000_000 }
         requires at { at < length self.old.settings.members }
         requires home { home node (config_of self.old.settings).members ≡ Some at }
-        ensures does { (lines : List Direction) (below : Seen) → Holds self.old lines below → StepsHere self.old lines below node result self.new }
+        ensures does { (lines : List Direction) (below : Seen) → Holds self.old lines below → StepsFlowHere self.old lines below node result self.new }
         ensures same { (self.new.settings ≡ self.old.settings) × (self.new.failed ≡ self.old.failed) }
+        ensures laid { self.new.laid ≡ self.old.laid }
     {
         let Some(Next { item, turn }) = self.next_due(node) else {
             return Ok(ClockStep::Idle);
@@ -147,7 +148,35 @@ impl Dif {
         }
     }
 
-    /// Takes one step of the IPC process at a node by the clock, the first of these that is due: pieces that are held
+    /// Loses the first link of the IPC process at a place that is lost, or does the first item that is due at the flows
+    /// of its node.
+    fn step_at<F: Facility>(
+        &mut self,
+        alloc: Global,
+        below: &F,
+        at: usize,
+        node: Node,
+    ) -> Result<ClockStep, StepError>
+        requires valid { F.valid below.now }
+        requires stands { Stands self.old (F.seen below.now) }
+        requires clock { self.old.clock ≤ 10_000_000 }
+        requires at { at < length self.old.settings.members }
+        requires home { home node (config_of self.old.settings).members ≡ Some at }
+        ensures does { (lines : List Direction) → Holds self.old lines (F.seen below.now) → StepsHere self.old lines (F.seen below.now) node result self.new }
+        ensures same { (self.new.settings ≡ self.old.settings) × (self.new.failed ≡ self.old.failed) }
+        ensures laid { self.new.laid ≡ self.old.laid }
+    {
+        match self.lost_link_at(below, at) {
+            Some(lost) => {
+                self.lose_link(alloc, at, lost)?;
+                Ok(ClockStep::LinkLost { link: lost.number })
+            }
+            None => self.do_next(alloc, at, node),
+        }
+    }
+
+    /// Takes one step of the IPC process at a node by the clock, the first of these that is due: a link is lost, whose
+    /// flow below was refused, has failed, or was closed, the one of the least number first; pieces that are held
     /// of a state that has ended are written off; a number is given up, and its flow fails; an acknowledgement is made;
     /// a number is sent again. Of the flows there the one of the least CEP-id goes first. Answers Idle exactly where
     /// none is due. Once memory was wanted every step answers so.
@@ -168,17 +197,17 @@ impl Dif {
         ensures silent { IsSilent (seen_of self.old) (seen_of self.new) }
         ensures others { OthersStand self.old (F.seen below.old) (F.seen below.new) }
         ensures settings { self.new.settings ≡ self.old.settings }
+        ensures laid { self.new.laid ≡ self.old.laid }
         ensures failed { self.old.failed ≡ true → result ≡ Err MemoryWanted }
         ensures fails { self.new.failed ≡ true ↔ (result ≡ Err MemoryWanted) }
     {
-        let _ = below;
         if self.failed {
             return Err(StepError::Memory);
         }
         let Some(at) = self.home(node) else {
             return Err(StepError::NoIpc);
         };
-        let step = self.do_next(alloc, at, node);
+        let step = self.step_at(alloc, &*below, at, node);
         Dif::note(&mut self.failed, step)
     }
 }

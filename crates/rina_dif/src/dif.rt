@@ -6,6 +6,7 @@ ghost use Rattle.rina_data.specs.declared.settings.Member.{Member};
 ghost use Rattle.rina_data.specs.declared.step.StepError.TheVariants.{Memory};
 
 use crate::processes::Processes;
+use crate::rerouting::Layout;
 use rina_base::{Node, Seq, Tick};
 use rina_data::{Member, Settings, StepError};
 use rina_flows::Flows;
@@ -17,6 +18,8 @@ pub struct Dif {
     pub(crate) settings: Settings,
     pub(crate) clock: Tick,
     pub(crate) processes: Processes,
+    /// Its links as they were laid, which never change.
+    pub(crate) laid: Layout,
     pub(crate) flows: Flows,
     /// The places of the far ends that nobody has claimed yet, the oldest first.
     pub(crate) waiting: Vec<usize>,

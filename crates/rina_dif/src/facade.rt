@@ -17,7 +17,7 @@ use crate::dif::Dif;
 use rina_account::Off;
 use rina_base::{Node, Port, Tick};
 use rina_cube::Cube;
-use rina_data::Settings;
+use rina_data::{IpcProcess, Settings};
 use rina_iface::{Journal, Lent, PortState};
 
 /// A rank that shows a DIF shows its ends, the cubes of these, and what waits there.
@@ -45,6 +45,13 @@ impl Dif {
         ensures { result.now ≡ self.now.settings }
     {
         &self.settings
+    }
+
+    /// Its IPC processes, each at the place of its member.
+    pub fn processes(&self) -> &[IpcProcess]
+        ensures { result.now ≡ self.now.processes }
+    {
+        self.processes.as_slice()
     }
 
     /// What the member at a node has written off, the oldest first. None exactly where the DIF has no member there.
@@ -124,6 +131,7 @@ impl Dif {
         ensures goes_on { GoesOn self.old self.new }
         ensures stands { StaysStanding self.old self.new }
         ensures settings { self.new.settings ≡ self.old.settings }
+        ensures laid { self.new.laid ≡ self.old.laid }
         ensures failed { self.new.failed ≡ self.old.failed }
     {
         let Some(at) = self.flows.journal.ends.place(port) else {

@@ -38,6 +38,7 @@ impl Dif {
         requires end { (e : End) → slice_get self.old.flows.journal.ends at ≡ Some e → (e.state ≡ Allocated) × (e.port.node ≡ node) }
         ensures does { (lines : List Direction) (below : Seen) → Holds self.old lines below → FreesHere self.old lines below at result self.new }
         ensures same { (self.new.settings ≡ self.old.settings) × (self.new.clock ≡ self.old.clock) × (self.new.failed ≡ self.old.failed) }
+        ensures laid { self.new.laid ≡ self.old.laid }
     {
         let Some(home) = self.home(node) else {
             unreachable!()
@@ -53,6 +54,7 @@ impl Dif {
         requires at { at < length self.old.flows.journal.ends }
         ensures does { (lines : List Direction) (below : Seen) → Holds self.old lines below → FreesHere self.old lines below at result self.new }
         ensures same { (self.new.settings ≡ self.old.settings) × (self.new.clock ≡ self.old.clock) × (self.new.failed ≡ self.old.failed) }
+        ensures laid { self.new.laid ≡ self.old.laid }
     {
         let Some(end) = self.flows.journal.ends.get(at) else {
             unreachable!()
@@ -78,6 +80,7 @@ impl Dif {
         ensures goes_on { GoesOn self.old self.new }
         ensures stands { StaysStanding self.old self.new }
         ensures settings { self.new.settings ≡ self.old.settings }
+        ensures laid { self.new.laid ≡ self.old.laid }
         ensures failed { self.old.failed ≡ true → result ≡ Err NoneFound }
         ensures fails { self.new.failed ≡ true ↔ (result ≡ Err NoneFound) }
     {

@@ -1,6 +1,7 @@
 //! A DIF is made as the plan of a stack says, with its links laid on the rank below.
 ghost use Rattle.std.specs.Prelude.{◌≡◌, ◌<◌, [], All, length, map, IfOk, OnOk, slice_get, Some};
 ghost use Rattle.rina_iface.specs.Bind.{CanBind};
+ghost use Rattle.rina_plan.specs.declared.dif.DifPlan.{DifPlan};
 ghost use Rattle.rina_stack.specs.Plan.{IsPlan};
 ghost use Rattle.rina_data.specs.Configs.{config_of};
 ghost use Rattle.rina_dif.specs.Holding.{Stands};
@@ -10,6 +11,7 @@ ghost use Rattle.rina_dif.specs.Planned.{link_fixed};
 use crate::dif::{Dif, place};
 use crate::planned::{link_fixed, settings_of};
 use crate::processes::Processes;
+use crate::rerouting::Layout;
 use crate::routing::route_all;
 use rina_base::{Memory, Port};
 use rina_data::Settings;
@@ -102,6 +104,7 @@ impl Dif {
         ensures laid { Lays plan.now at (F.seen below.old) (F.seen below.new) }
         ensures stands { IfOk result (λ d. Stands d (F.seen below.new)) }
         ensures exact { IfOk result (λ d. IsNew plan.now at d (F.seen below.old) (F.seen below.new)) }
+        ensures laid_so { IfOk result (λ d. (dif : DifPlan) → slice_get plan.now.difs at ≡ Some dif → d.laid.links ≡ dif.links) }
     {
         let Some(dif) = plan.difs.get(at) else {
             unreachable!()
@@ -111,6 +114,7 @@ impl Dif {
         lay_links(&mut made.processes, alloc, plan, dif, &made.settings, below)?;
         let members = made.settings.members.as_slice();
         route_all(&mut made.processes, alloc, members, dif.links.as_slice())?;
+        made.laid = Layout::of(alloc, dif.links.as_slice())?;
         Ok(made)
     }
 }

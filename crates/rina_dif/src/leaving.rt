@@ -1,7 +1,8 @@
 //! What leaves a DIF on its links.
-ghost use Rattle.std.specs.Prelude.{◌≡◌, ◌<◌, List, length, true, false, ◌↔◌, Err, slice_get, Some};
+ghost use Rattle.std.specs.Prelude.{◌≡◌, ◌<◌, List, length, map, true, false, ◌↔◌, Err, slice_get, Some};
 ghost use Rattle.rina_iface.specs.Later.{IsLater};
 ghost use Rattle.rina_law.specs.Direction.{Direction};
+ghost use Rattle.rina_policy.specs.Slots.{Slot};
 ghost use Rattle.rina_data.specs.Outgoing.{Outs};
 ghost use Rattle.rina_data.specs.Sending.{home};
 ghost use Rattle.rina_data.specs.Upward.{IsSilent};
@@ -37,7 +38,9 @@ impl Dif {
         ensures does { Outs (F.refuses_send below.old) (seen_of self.old) (F.seen below.old) at link result (seen_of self.new) (F.seen below.new) }
         ensures keeps { (lines : List Direction) → Holds self.old lines (F.seen below.old) → Holds self.new lines (F.seen below.new) }
         ensures shelf { AsksAt (S.may_answer shelf.old self.old.settings.policy) self.old.settings link at (S.slots shelf.old) (S.slots shelf.new) self.old.processes result self.new.processes }
+        ensures names { map (λ (x : Slot). x.name) (S.slots shelf.new) ≡ map (λ (x : Slot). x.name) (S.slots shelf.old) }
         ensures settings { self.new.settings ≡ self.old.settings }
+        ensures laid { self.new.laid ≡ self.old.laid }
         ensures failed { self.new.failed ≡ self.old.failed }
     {
         self.processes
@@ -66,7 +69,9 @@ impl Dif {
         ensures silent { IsSilent (seen_of self.old) (seen_of self.new) }
         ensures others { OthersStand self.old (F.seen below.old) (F.seen below.new) }
         ensures settings { self.new.settings ≡ self.old.settings }
+        ensures laid { self.new.laid ≡ self.old.laid }
         ensures shelf { self.old.failed ≡ false → AsksHome (S.may_answer shelf.old self.old.settings.policy) self.old.settings node link (S.slots shelf.old) (S.slots shelf.new) self.old.processes result self.new.processes }
+        ensures names { map (λ (x : Slot). x.name) (S.slots shelf.new) ≡ map (λ (x : Slot). x.name) (S.slots shelf.old) }
         ensures failed { self.old.failed ≡ true → result ≡ Err Memory }
         ensures fails { self.new.failed ≡ true ↔ (result ≡ Err Memory) }
     {

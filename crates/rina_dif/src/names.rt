@@ -79,6 +79,7 @@ impl Dif {
         ensures goes_on { GoesOn self.old self.new }
         ensures stands { StaysStanding self.old self.new }
         ensures settings { self.new.settings ≡ self.old.settings }
+        ensures laid { self.new.laid ≡ self.old.laid }
         ensures failed { self.old.failed ≡ true → result ≡ Err register.Memory }
         ensures fails { self.new.failed ≡ true ↔ (result ≡ Err register.Memory) }
     {
@@ -102,6 +103,7 @@ impl Dif {
         ensures goes_on { GoesOn self.old self.new }
         ensures stands { StaysStanding self.old self.new }
         ensures settings { self.new.settings ≡ self.old.settings }
+        ensures laid { self.new.laid ≡ self.old.laid }
         ensures failed { self.old.failed ≡ true → result ≡ Err unregister.Memory }
         ensures fails { self.new.failed ≡ true ↔ (result ≡ Err unregister.Memory) }
     {

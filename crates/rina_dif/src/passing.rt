@@ -16,6 +16,7 @@ impl Dif {
         requires waits { (e : End) → slice_get self.old.flows.journal.ends at ≡ Some e → e.taken < length e.got }
         ensures does { (lines : List Direction) (below : Seen) → Holds self.old lines below → Passes self.old lines at self.new below }
         ensures same { (self.new.settings ≡ self.old.settings) × (self.new.failed ≡ self.old.failed) }
+        ensures laid { self.new.laid ≡ self.old.laid }
     {
         self.flows.pass(self.clock, at);
     }

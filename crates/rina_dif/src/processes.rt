@@ -1,7 +1,8 @@
 //! The IPC processes of a DIF.
-ghost use Rattle.std.specs.Prelude.{◌≡◌, ◌<◌, ◌≤◌, [], ◌∷◌, ◌++◌, length, slice_get, Some, MatchOption, OnOk, OnErr, ◌+◌, IsSome};
+ghost use Rattle.std.specs.Prelude.{◌≡◌, ◌<◌, ◌≤◌, [], ◌∷◌, ◌++◌, length, map, slice_get, Some, MatchOption, OnOk, OnErr, ◌+◌, IsSome};
 ghost use Rattle.rina_iface.specs.Later.{IsLater};
 ghost use Rattle.rina_base.specs.Pdus.{pdu_of};
+ghost use Rattle.rina_policy.specs.Slots.{Slot};
 ghost use Rattle.rina_queue.specs.declared.queue.Queue.{Queue};
 ghost use Rattle.rina_queue.specs.Queues.{Changes, queue_place, waiting, with_items};
 ghost use Rattle.rina_data.specs.declared.process.IpcProcess.{IpcProcess};
@@ -13,6 +14,7 @@ ghost use Rattle.rina_dif.specs.Sending.{AreOf, HasRoomFor, Puts, queued};
 ghost use Rattle.rina_dif.specs.Steps.{AsksAt, Leaves, WillGo};
 ghost use Rattle.rina_dif.specs.Taking.{ArrivesTo, DecidesAt, NotesAt, RoutesAt};
 ghost use Rattle.rina_dif.specs.Timely.{ForwardsAt, WithLedger};
+ghost use Rattle.rina_dif.specs.Unlinking.{LosesIn};
 ghost use Rattle.rina_flows.specs.Delivering.{ForgetsIn, StopsIn};
 ghost use Rattle.rina_flows.specs.Timely.{GivesUpIn};
 
@@ -91,6 +93,13 @@ impl Processes {
         Ok(())
     }
 
+    /// All IPC processes, each at the place of its member.
+    pub fn as_slice(&self) -> &[IpcProcess]
+        ensures { result.now ≡ self.now }
+    {
+        self.items.as_slice()
+    }
+
     /// The IPC process at a place, counted from 0. None where the place is out of range.
     pub fn get(&self, at: usize) -> Option<&IpcProcess>
         ensures { MatchOption result (length self.now ≤ at) (λ p. slice_get self.now at ≡ Some p.now) }
@@ -115,6 +124,23 @@ impl Processes {
         process.routes = routes;
     }
 
+    /// Loses the link at a place of the IPC process at a place, which gets these next hops. Without memory nothing
+    /// changes.
+    pub fn lose(
+        &mut self,
+        alloc: Global,
+        at: usize,
+        place: usize,
+        routes: Seq<Route>,
+    ) -> Result<(), Memory>
+        requires at { at < length self.old }
+        requires place { (p : IpcProcess) → slice_get self.old at ≡ Some p → place < length p.links }
+        ensures { LosesIn place routes result at self.old self.new }
+    {
+        let process = &mut self.items[at];
+        process.lose(alloc, place, routes)
+    }
+
     /// Takes one step of the IPC process at a place at a link: a PDU that waits is sent below, or written off, or stays.
     pub fn out_step<F: Facility, S: Picks>(
         &mut self,
@@ -135,6 +161,7 @@ impl Processes {
         ensures later { IsLater (F.seen below.old) (F.seen below.new) }
         ensures does { Leaves (F.refuses_send below.old) (config_of settings.now) now (F.seen below.old) link result (F.seen below.new) at self.old self.new }
         ensures shelf { AsksAt (S.may_answer shelf.old settings.now.policy) settings.now link at (S.slots shelf.old) (S.slots shelf.new) self.old result self.new }
+        ensures names { map (λ (x : Slot). x.name) (S.slots shelf.new) ≡ map (λ (x : Slot). x.name) (S.slots shelf.old) }
     {
         let Some(member) = settings.members.get(at) else {
             unreachable!()

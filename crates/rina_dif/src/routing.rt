@@ -89,7 +89,11 @@ fn edges_back(
 }
 
 /// The edges that the ends of links claim.
-fn edges_of(alloc: Global, members: &[Member], links: &[LinkPlan]) -> Result<Vec<Edge>, AllocError>
+pub(crate) fn edges_of(
+    alloc: Global,
+    members: &[Member],
+    links: &[LinkPlan],
+) -> Result<Vec<Edge>, AllocError>
     ensures { IfOk result (λ v. v.items ≡ edges_of members.now links.now) }
 {
     let mut edges = edges_there(alloc, members, links)?;
@@ -98,7 +102,7 @@ fn edges_of(alloc: Global, members: &[Member], links: &[LinkPlan]) -> Result<Vec
 }
 
 /// The edges from the member at a node, in stack order.
-fn edges_from(
+pub(crate) fn edges_from(
     alloc: Global,
     members: &[Member],
     node: usize,
@@ -125,7 +129,11 @@ fn own_link(edges: &[Edge], link: &Link) -> Option<Hop>
 }
 
 /// The links of an IPC process, with its neighbours.
-fn own_links(alloc: Global, edges: &[Edge], links: &[Link]) -> Result<Vec<Hop>, AllocError>
+pub(crate) fn own_links(
+    alloc: Global,
+    edges: &[Edge],
+    links: &[Link],
+) -> Result<Vec<Hop>, AllocError>
     ensures { IfOk result (λ v. v.items ≡ own_links edges.now links.now) }
 {
     links
@@ -149,7 +157,7 @@ fn route_to(own: Addr, table: &Routes, member: &Member) -> Option<Route>
 }
 
 /// The next hops to the other members.
-fn routes_to(
+pub(crate) fn routes_to(
     alloc: Global,
     own: Addr,
     table: &Routes,

@@ -134,6 +134,7 @@ impl Dif {
         requires at { at < length self.old.flows.journal.ends }
         ensures does { (lines : List Direction) (below : Seen) → Holds self.old lines below → Sends self.old lines below at sdu.now result self.new }
         ensures same { (self.new.settings ≡ self.old.settings) × (self.new.clock ≡ self.old.clock) × (self.new.failed ≡ self.old.failed) }
+        ensures laid { self.new.laid ≡ self.old.laid }
     {
         let way = self.admit(at, sdu)?;
         let made = match self.flows.offer(alloc, self.clock, at, sdu) {
@@ -156,6 +157,7 @@ impl Dif {
         ensures goes_on { GoesOn self.old self.new }
         ensures stands { StaysStanding self.old self.new }
         ensures settings { self.new.settings ≡ self.old.settings }
+        ensures laid { self.new.laid ≡ self.old.laid }
         ensures failed { self.old.failed ≡ true → result ≡ Err Memory }
         ensures fails { self.new.failed ≡ true ↔ (result ≡ Err Memory) }
     {

@@ -43,6 +43,7 @@ impl Dif {
         requires taken { TakenBy self.old.flows.journal.ends (conns_of self.old.flows.conns) (hop_of came.now.hop).pdu (Some place) }
         ensures does { SettlesFor self.old at came.now.since (hop_of came.now.hop) result self.new }
         ensures settings { self.new.settings ≡ self.old.settings }
+        ensures laid { self.new.laid ≡ self.old.laid }
         ensures failed { self.new.failed ≡ self.old.failed }
     {
         let clock = self.clock;
@@ -63,6 +64,7 @@ impl Dif {
         requires own { IsOwn self.old at came.now.since (hop_of came.now.hop) }
         ensures does { SettlesFor self.old at came.now.since (hop_of came.now.hop) result self.new }
         ensures settings { self.new.settings ≡ self.old.settings }
+        ensures laid { self.new.laid ≡ self.old.laid }
         ensures failed { self.new.failed ≡ self.old.failed }
     {
         let pdu = &came.hop.pdu;
@@ -88,6 +90,7 @@ impl Dif {
         requires comes { Comes self.old came.now.since (hop_of came.now.hop) }
         ensures does { SettlesFor self.old at came.now.since (hop_of came.now.hop) result self.new }
         ensures settings { self.new.settings ≡ self.old.settings }
+        ensures laid { self.new.laid ≡ self.old.laid }
         ensures failed { self.new.failed ≡ self.old.failed }
     {
         let Some(member) = self.settings.members.get(at) else {
@@ -120,6 +123,7 @@ impl Dif {
         ensures later { IsLater (F.seen below.old) (F.seen below.new) }
         ensures does { (lines : List Direction) → Holds self.old lines (F.seen below.old) → TakesIn self.old lines (F.seen below.old) at link result self.new (F.seen below.new) }
         ensures settings { self.new.settings ≡ self.old.settings }
+        ensures laid { self.new.laid ≡ self.old.laid }
         ensures failed { self.new.failed ≡ self.old.failed }
     {
         let Some(process) = self.processes.get(at) else {
@@ -164,6 +168,7 @@ impl Dif {
         ensures silent { IsSilent (seen_of self.old) (seen_of self.new) }
         ensures others { OthersStand self.old (F.seen below.old) (F.seen below.new) }
         ensures settings { self.new.settings ≡ self.old.settings }
+        ensures laid { self.new.laid ≡ self.old.laid }
         ensures failed { self.old.failed ≡ true → result ≡ Err MemoryWanted }
         ensures fails { self.new.failed ≡ true ↔ (result ≡ Err MemoryWanted) }
     {

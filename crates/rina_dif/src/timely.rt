@@ -72,6 +72,7 @@ impl Dif {
         requires here { IsHomeEnd self.old at place }
         ensures does { (lines : List Direction) (below : Seen) → Holds self.old lines below → ForgetsAs self.old lines below place result self.new }
         ensures same { (self.new.settings ≡ self.old.settings) × (self.new.failed ≡ self.old.failed) }
+        ensures laid { self.new.laid ≡ self.old.laid }
     {
         let clock = self.clock;
         self.processes
@@ -91,6 +92,7 @@ impl Dif {
         requires here { IsHomeEnd self.old at place }
         ensures does { (lines : List Direction) (below : Seen) → Holds self.old lines below → GivesUpAs self.old lines below place result self.new }
         ensures same { (self.new.settings ≡ self.old.settings) × (self.new.failed ≡ self.old.failed) }
+        ensures laid { self.new.laid ≡ self.old.laid }
     {
         let clock = self.clock;
         self.processes
@@ -110,6 +112,7 @@ impl Dif {
         requires here { IsHomeEnd self.old at place }
         ensures does { (lines : List Direction) (below : Seen) → Holds self.old lines below → AcknowledgesAs self.old lines below place result self.new }
         ensures same { (self.new.settings ≡ self.old.settings) × (self.new.failed ≡ self.old.failed) }
+        ensures laid { self.new.laid ≡ self.old.laid }
     {
         let clock = self.clock;
         let Some(due) = self.flows.ack_due(clock, place) else {
@@ -138,6 +141,7 @@ impl Dif {
         requires here { IsHomeEnd self.old at place }
         ensures does { (lines : List Direction) (below : Seen) → Holds self.old lines below → SendsAgainAs self.old lines below place result self.new }
         ensures same { (self.new.settings ≡ self.old.settings) × (self.new.failed ≡ self.old.failed) }
+        ensures laid { self.new.laid ≡ self.old.laid }
     {
         let clock = self.clock;
         let left = self.flows.conns.at(place).sending.form.cube.mpl;

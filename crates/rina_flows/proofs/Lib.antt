@@ -8,6 +8,7 @@ pub mod Delivered
 pub mod Framed
 pub mod Given
 pub mod Gone
+pub mod Halted
 pub mod Kept
 pub mod Landed
 pub mod Lasting

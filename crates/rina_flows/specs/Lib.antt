@@ -5,5 +5,6 @@ pub mod Delivering
 pub mod Ending
 pub mod Laws
 pub mod Rows
+pub mod Stopping
 pub mod Tied
 pub mod Timely

@@ -171,7 +171,8 @@ impl Conns {
     /// Closes the connection at this place, and writes off what it holds. Takes memory only where `lines` has no room.
     pub fn close(&mut self, now: Tick, at: usize, lines: &mut Vec<Off>)
         requires { at < length self.old }
-        ensures { Becomes (GivesUpAll now closed lines.old.items (vec_capacity lines.old) lines.new.items) at self.old self.new }
+        ensures becomes { Becomes (GivesUpAll now closed lines.old.items (vec_capacity lines.old) lines.new.items) at self.old self.new }
+        ensures capacity { vec_capacity lines.old ≤ vec_capacity lines.new }
     {
         let conn = &mut self.items[at];
         conn.close();

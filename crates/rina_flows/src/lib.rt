@@ -5,6 +5,7 @@ mod arriving;
 mod conns;
 mod flows;
 mod laws;
+mod stopping;
 mod timely;
 
 pub use arriving::Notes;

@@ -195,6 +195,25 @@ fn what_a_stopped_end_held_is_given_up(rt: HostRuntime) -> Result<(), Fail> {
 }
 
 #[test]
+fn all_ends_of_a_node_end_together(rt: HostRuntime) -> Result<(), Fail> {
+    let alloc = rt.alloc();
+    let mut flows = flow(alloc)?;
+    let mut ledger = Ledger::new(alloc);
+    let made = offer(&rt, alloc, &mut flows, 3, &[7; 200])?;
+    arrive(&rt, alloc, &mut flows, &mut ledger, 10, first(&made)?)?;
+    assert_eq!(rt; flows.held_at(0), Some(1));
+    assert_eq!(rt; flows.held_at(1), Some(0));
+    let mut lines = Vec::new(alloc);
+    lines.reserve(1)?;
+    assert!(rt; flows.conns.len() == 2 && flows.journal.ends.len() == 2);
+    flows.stop_all(92, 0, PortState::Closed, &mut lines);
+    let cause = lines.as_slice().last().map(|line| line.cause);
+    assert_eq!(rt; cause, Some(Cause::NoConnection { cep: 7 }));
+    assert_eq!(rt; flows.held_at(0), Some(0));
+    Ok(())
+}
+
+#[test]
 fn an_acknowledgement_is_taken_by_the_sender(rt: HostRuntime) -> Result<(), Fail> {
     let alloc = rt.alloc();
     let mut flows = flow(alloc)?;

@@ -1,4 +1,5 @@
 mod Cubes
+mod Emptied
 pub mod Places
 mod Rises
 mod Rooms

@@ -11,6 +11,10 @@ use Rattle.rina_queue.specs.declared.queue.Queued.{Queued}
 abbrev pub with_items : List Queued → Queue → Queue
 with_items items q = record { link = q.link; qos = q.qos; ring = buffer items q.ring.capacity }
 
+-- the queue without PDUs, where it is one for the link
+unfoldable pub emptied : ℕ → Queue → Queue
+emptied link q = if q.link == link then with_items [] q else q
+
 -- an empty queue
 abbrev pub no_items : ℕ → ℕ → ℕ → Queue
 no_items cap link qos = record { link = link; qos = qos; ring = buffer [] cap }

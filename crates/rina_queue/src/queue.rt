@@ -1,7 +1,7 @@
 //! One queue, and what it holds.
 ghost use Rattle.std.specs.Prelude.{◌≡◌, ◌-◌, ◌<◌, ◌↔◌, [], ◌∷◌, ◌++◌, length, drop, slice_get, true, IsOk, OnOk, OnErr, IfErr, IfOk, option_copied};
 ghost use Rattle.circular_buffer.specs.Buffer.{buffer};
-ghost use Rattle.rina_queue.specs.Queues.{waits, with_items, head_of};
+ghost use Rattle.rina_queue.specs.Queues.{emptied, waits, with_items, head_of};
 ghost use Rattle.rina_queue.specs.declared.queue.QueueFull.{QueueFull};
 
 use circular_buffer::HeapCircularBuffer;
@@ -68,6 +68,16 @@ impl Queue {
         ensures rest { self.new ≡ with_items (drop 1 self.old.ring.items) self.old }
     {
         self.ring.pop_front()
+    }
+
+    /// Takes all PDUs away, where the queue is one for this link.
+    #[tactic(auto, unfolding(crate::specs::Queues::emptied))]
+    pub fn empty(&mut self, link: u16)
+        ensures { self.new ≡ emptied link self.old }
+    {
+        if self.link == link {
+            self.ring.clear();
+        }
     }
 
     /// Whether a PDU waits here for a link.

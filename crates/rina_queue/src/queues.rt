@@ -1,7 +1,7 @@
 //! The queues of all cubes and links.
-ghost use Rattle.std.specs.Prelude.{◌≡◌, ◌≢◌, ◌+◌, ◌-◌, ◌<◌, ◌≤◌, ◌↔◌, ◌==◌, [], ◌∷◌, ◌++◌, ℕ, length, min, take, drop, filter, None, IsNone, position, slice_get, slice_set, true, false, Some, IsSome, IfSome, IsOk, OnOk, OnErr, IfOk, IfErr, option_copied};
+ghost use Rattle.std.specs.Prelude.{◌≡◌, ◌≢◌, ◌+◌, ◌-◌, ◌<◌, ◌≤◌, ◌↔◌, ◌==◌, [], ◌∷◌, ◌++◌, ℕ, length, map, min, take, drop, filter, None, IsNone, position, slice_get, slice_set, true, false, Some, IsSome, IfSome, IsOk, OnOk, OnErr, IfOk, IfErr, option_copied};
 ghost use Rattle.rina_policy.specs.Slots.{asked, count_of};
-ghost use Rattle.rina_queue.specs.Queues.{added, AllOfCubes, HaveRoom, has_link, is_queue, queue_place, waiting, waits, head_of, heads_of, head_at, first_in, with_items, no_queues, AreIds, IdsRise, Changes};
+ghost use Rattle.rina_queue.specs.Queues.{added, emptied, AllOfCubes, HaveRoom, has_link, is_queue, queue_place, waiting, waits, head_of, heads_of, head_at, first_in, with_items, no_queues, AreIds, IdsRise, Changes};
 ghost use Rattle.rina_queue.specs.declared.queue.Queue.{Queue};
 ghost use Rattle.rina_queue.specs.declared.queue.Queued.{Queued};
 ghost use Rattle.std.specs.List.Sorted.{IsStrictlyIncreasing};
@@ -122,6 +122,15 @@ fn show(queues: &[Queue], link: u16, heads: &mut [Head]) -> usize
     count
 }
 
+/// Takes all PDUs that wait for a link away.
+fn empty_all(queues: &mut Vec<Queue>, link: u16)
+    ensures { queues.new.items ≡ map (emptied link) queues.old.items }
+{
+    for queue in queues.iter_mut() {
+        queue.empty(link);
+    }
+}
+
 impl Queues {
     /// No link yet. Each cube id gets one queue, also where it is given twice, and the queues stand in
     /// the order of the ids, whatever the order in which these are given.
@@ -189,6 +198,14 @@ impl Queues {
             Some(at) => self.queues[at].take(),
             None => unreachable!(),
         }
+    }
+
+    /// Takes all PDUs that wait for a link away; its queues stay. Takes no memory.
+    pub fn empty(&mut self, link: u16)
+        ensures empty { self.new.queues.items ≡ map (emptied link) self.old.queues.items }
+        ensures same { (self.new.cap ≡ self.old.cap) × (self.new.cubes ≡ self.old.cubes) }
+    {
+        empty_all(&mut self.queues, link);
     }
 
     /// How many more PDUs the queue of a cube and link can take, which has one. Takes no memory.

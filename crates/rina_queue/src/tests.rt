@@ -76,3 +76,21 @@ fn queues_are_first_in_first_out(rt: HostRuntime) -> Result<(), Fail> {
     assert_eq!(rt; queue.take().map(|q| q.since), None);
     Ok(())
 }
+
+#[test]
+fn the_queues_of_one_link_are_emptied(rt: HostRuntime) -> Result<(), Fail> {
+    let alloc = rt.alloc();
+    let mut queues = Queues::new(alloc, 2, &[0, 1])?;
+    queues.add_link(alloc, 0)?;
+    queues.add_link(alloc, 1)?;
+    assert!(rt; queues.has(1, 0));
+    assert_eq!(rt; queues.push(1, 0, queued(alloc, 1, 5)?), Ok(()));
+    assert!(rt; queues.has(1, 1));
+    assert_eq!(rt; queues.push(1, 1, queued(alloc, 1, 6)?), Ok(()));
+    queues.empty(0);
+    assert!(rt; queues.has(1, 0));
+    assert_eq!(rt; queues.take(1, 0).map(|q| q.since), None);
+    assert!(rt; queues.has(1, 1));
+    assert_eq!(rt; queues.take(1, 1).map(|q| q.since), Some(6));
+    Ok(())
+}

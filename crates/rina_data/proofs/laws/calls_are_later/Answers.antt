@@ -1,5 +1,6 @@
 use Rattle.rina_data.proofs.Finishing.{ended_silent}
 use Rattle.rina_data.proofs.Upper.{acknowledged_silent, forgotten_silent, ins_silent, resent_silent, offers_later, outs_silent, passed_later, ticked_silent}
+use Rattle.rina_data.proofs.Linkless.{failed_silent, lost_silent}
 use Rattle.rina_data.proofs.laws.calls_are_later.Goals as goal
 
 pub returns-clause-send : goal.returns-clause-send
@@ -28,3 +29,9 @@ returns-clause-forget c = forgotten_silent
 
 pub returns-clause-end : goal.returns-clause-end
 returns-clause-end c = ended_silent
+
+pub returns-clause-lose : goal.returns-clause-lose
+returns-clause-lose c = lost_silent
+
+pub returns-clause-fail : goal.returns-clause-fail
+returns-clause-fail c = failed_silent

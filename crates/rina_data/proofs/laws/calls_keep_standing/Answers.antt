@@ -5,6 +5,7 @@ use Rattle.rina_data.proofs.Giving.{offers_stand}
 use Rattle.rina_data.proofs.Going.{outs_stand}
 use Rattle.rina_data.proofs.Starting.{start_stands}
 use Rattle.rina_data.proofs.Taking.{passed_stands}
+use Rattle.rina_data.proofs.Linkless.{failed_stands, lost_stands}
 use Rattle.rina_data.proofs.laws.calls_keep_standing.Goals as goal
 
 pub returns-clause-start : goal.returns-clause-start
@@ -33,3 +34,9 @@ returns-clause-forget c = forgotten_stands
 
 pub returns-clause-end : goal.returns-clause-end
 returns-clause-end c = ended_stands
+
+pub returns-clause-lose : goal.returns-clause-lose
+returns-clause-lose c = lost_stands
+
+pub returns-clause-fail : goal.returns-clause-fail
+returns-clause-fail c = failed_stands

@@ -1,4 +1,5 @@
 use Rattle.rina_data.proofs.Numbering.{acknowledged_numbered, beside_numbered, ended_numbered, forgotten_numbered, ins_numbered, offers_numbered, outs_numbered, passed_numbered, resent_numbered, send_of_others_numbered, time_numbered}
+use Rattle.rina_data.proofs.Linkless.{failed_numbered, lost_numbered}
 use Rattle.rina_data.proofs.laws.names_stay.Goals as goal
 
 pub returns-clause-send : goal.returns-clause-send
@@ -33,3 +34,9 @@ returns-clause-beside c = beside_numbered
 
 pub returns-clause-others_send : goal.returns-clause-others_send
 returns-clause-others_send c = send_of_others_numbered
+
+pub returns-clause-lose : goal.returns-clause-lose
+returns-clause-lose c = lost_numbered
+
+pub returns-clause-fail : goal.returns-clause-fail
+returns-clause-fail c = failed_numbered

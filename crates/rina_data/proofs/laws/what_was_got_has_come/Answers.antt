@@ -1,5 +1,6 @@
 use Rattle.rina_data.proofs.Finishing.{ended_carries}
 use Rattle.rina_data.proofs.Carries.{acknowledged_carries, beside_carries, forgotten_carries, resent_carries, ins_carry, offers_carry, outs_carry, passed_carries, passes_of_others_carry, sends_of_others_carry, start_carries, time_carries}
+use Rattle.rina_data.proofs.Linkless.{failed_carries, lost_carries}
 use Rattle.rina_data.proofs.laws.what_was_got_has_come.Goals as goal
 
 pub returns-clause-start : goal.returns-clause-start
@@ -40,3 +41,9 @@ returns-clause-forget c = forgotten_carries
 
 pub returns-clause-end : goal.returns-clause-end
 returns-clause-end c = ended_carries
+
+pub returns-clause-lose : goal.returns-clause-lose
+returns-clause-lose c = lost_carries
+
+pub returns-clause-fail : goal.returns-clause-fail
+returns-clause-fail c = failed_carries

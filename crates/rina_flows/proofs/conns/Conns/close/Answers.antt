@@ -5,8 +5,8 @@ use Rattle.rina_flows.specs.Delivering.{GivesUpAll, WritesOff, closed}
 use Rattle.rina_flows.proofs.Offered.{become_one, conn_same}
 use Rattle.rina_flows.proofs.conns.Conns.close.Goals as goal
 
-pub returns : goal.returns
-returns c =
+pub returns-clause-becomes : goal.returns-clause-becomes
+returns-clause-becomes c =
     let old = c.index_mut-conn.result.now in
     let new = record c.close.new.self { rx = c.write_off.new.rx } in
     let W : Receiving → Type 0 = λ r. WritesOff c.args.now r c.args.lines.now.items (vec_capacity c.args.lines.now) c.write_off.new.rx c.write_off.new.lines.items in

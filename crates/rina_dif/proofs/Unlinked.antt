@@ -1,0 +1,152 @@
+-- A DIF that loses a link holds.
+use Rattle.std.proofs.Common.{◌≡◌, ◌∙◌, ℕ, ◌<◌, ◌==◌, ◌&&◌, Bool, true, false, cond, List, [], ◌∷◌, get_or, length, map, slice_get, slice_set, Option, Some, Result, Ok, Err, refl, sym, ap, subst, inl, inr}
+use Rattle.std.specs.Prelude.{IsSome, OnErr, OnOk, position}
+use Rattle.std.proofs.lemmas.Bool.{false≢true}
+use Rattle.std.proofs.lemmas.Option.{slice_get_read}
+use Rattle.rina_base.specs.declared.memory.Memory.{Memory}
+use Rattle.rina_graph.specs.declared.graph.Edge.{Edge}
+use Rattle.rina_iface.specs.Seen.{Seen}
+use Rattle.rina_iface.proofs.Changed.{set_at}
+use Rattle.rina_law.specs.Direction.{Direction}
+use Rattle.rina_plan.specs.declared.dif.LinkPlan.{LinkPlan}
+use Rattle.rina_route.specs.declared.link.Link.{Link as Hop}
+use Rattle.rina_route.specs.Nodes.{HaveWeights}
+use Rattle.rina_route.specs.Routes.{AreHops}
+use Rattle.rina_data.specs.declared.link.Link.{Link}
+use Rattle.rina_data.specs.declared.link.Route.{Route}
+use Rattle.rina_data.specs.declared.losing.Lost.{Lost}
+use Rattle.rina_data.specs.declared.process.IpcProcess.{IpcProcess}
+use Rattle.rina_data.specs.declared.settings.Member.{Member}
+use Rattle.rina_data.specs.Configs.{config_of}
+use Rattle.rina_data.specs.Deciding.{process_of}
+use Rattle.rina_data.specs.Dif.{Config, Process, Queue, queue_place, with_process}
+use Rattle.rina_data.specs.Losing.{Loses, LosesAt, without_items, without_link}
+use Rattle.rina_data.proofs.Linkless.{lost_carries, lost_numbered, lost_stands}
+use Rattle.rina_dif.specs.declared.dif.Dif.{Dif}
+use Rattle.rina_dif.specs.Holding.{AreHoused, HasQueues, HaveQueues, Holds, IsHoused}
+use Rattle.rina_dif.specs.Routing.{KnowsLive, Weigh, claims_with, edges_from, edges_of, live_links, live_of, own_links, routes_to}
+use Rattle.rina_dif.specs.Shown.{seen_of}
+use Rattle.rina_dif.specs.Unlinking.{FindsLostAt, LosesAs, LosesIn, LosesOr}
+use Rattle.rina_dif.proofs.Keeping.{house_is, housed_set, position_map, same_house, set_cases}
+use Rattle.rina_dif.proofs.Leaves.{has_process, shown_at, stepped}
+use Rattle.rina_dif.proofs.Routed.{live_hop, own_weighs}
+use Rattle.rina_dif.proofs.Settling.{holds_unseen, unseen}
+
+same_some : {X : Type 0} (o : Option X) (a b : X) → o ≡ Some a → o ≡ Some b → a ≡ b
+same_some o a b h g = cc
+
+pub loses_or : (place : ℕ) (routes : List Route) (r : Result (Unit {0}) Memory) (x x' : IpcProcess) → OnOk r (LosesAt place routes (process_of x) (process_of x')) → OnErr r (process_of x' ≡ process_of x) → LosesOr place routes r (process_of x) (process_of x')
+loses_or place routes (Ok done) x x' ok err = ok
+loses_or place routes (Err e) x x' ok err = err
+
+pub loses_one : (place : ℕ) (routes : List Route) (r : Result (Unit {0}) Memory) (at : ℕ) (ps : List IpcProcess) (x x' : IpcProcess) → at < length ps → x ≡ get_or ps at x → LosesOr place routes r (process_of x) (process_of x') → x'.queues.cap ≡ x.queues.cap → LosesIn place routes r at ps (slice_set ps at x')
+loses_one place routes r at ps x x' lt read loses cap p is =
+    let here : slice_get ps at ≡ Some x = slice_get_read ps (length ps) at x refl lt read in
+    let same : x ≡ p = same_some (slice_get ps at) x p here is in
+    (x', subst (λ (z : IpcProcess). LosesOr place routes r (process_of z) (process_of x')) same loses, subst (λ (z : IpcProcess). x'.queues.cap ≡ z.queues.cap) same cap, refl)
+
+-- What it knows
+
+pub knows_all : (members : List Member) (plans : List LinkPlan) (member : Member) (links left : List Link) (edges claimed claims : List Edge) (own : List Hop) (rows : List (ℕ × ℕ)) (routes : List Route) → edges ≡ edges_from members member.node plans → left ≡ live_of links → own ≡ own_links edges left → claimed ≡ edges_of members plans → claims ≡ claims_with member.addr own claimed → AreHops member.addr own claims rows → routes ≡ routes_to member.addr rows members → KnowsLive members plans member links routes
+knows_all members plans member links left edges claimed claims own rows routes e l o c k hops are =
+    let live = live_links members plans member links in
+    let own_is : own ≡ live = o ∙ ap (λ (es : List Edge). own_links es left) e ∙ ap (own_links (edges_from members member.node plans)) l in
+    let claims_are : claims ≡ claims_with member.addr live (edges_of members plans) = k ∙ ap (λ (es : List Edge). claims_with member.addr own es) c ∙ ap (λ (hs : List Hop). claims_with member.addr hs (edges_of members plans)) own_is in
+    record {
+      rows = rows;
+      hops = subst (λ (hs : List Hop). AreHops member.addr hs (claims_with member.addr live (edges_of members plans)) rows) own_is (subst (λ (es : List Edge). AreHops member.addr own es rows) claims_are hops);
+      are = are;
+    }
+
+pub claims_weigh : (members : List Member) (plans : List LinkPlan) (node addr : ℕ) (left : List Link) (edges claimed claims : List Edge) (own : List Hop) → Weigh plans → edges ≡ edges_from members node plans → own ≡ own_links edges left → claimed ≡ edges_of members plans → claims ≡ claims_with addr own claimed → HaveWeights claims
+claims_weigh members plans node addr left edges claimed claims own all e o c k =
+    let own_is : own ≡ own_links (edges_from members node plans) left = o ∙ ap (λ (es : List Edge). own_links es left) e in
+    let are : claims ≡ claims_with addr (own_links (edges_from members node plans) left) (edges_of members plans) = k ∙ ap (λ (es : List Edge). claims_with addr own es) c ∙ ap (λ (hs : List Hop). claims_with addr hs (edges_of members plans)) own_is in
+    subst HaveWeights (sym are) (own_weighs members plans node addr left all)
+
+-- Its queues keep their places
+
+-- what a queue is for
+record For : Type 0 where
+  link : ℕ
+  qos : ℕ
+
+abbrev for_of : Queue → For
+for_of q = record { link = q.link; qos = q.qos }
+
+for_if : (b : Bool) (q : Queue) → for_of (cond b (record q { items = [] }) q) ≡ for_of q
+for_if true q = refl
+for_if false q = refl
+
+for_all : (link : Link) (qs : List Queue) → map for_of (map (without_items link) qs) ≡ map for_of qs
+for_all link [] = refl
+for_all link (q ∷ qs) = ap (λ (z : For). z ∷ map for_of (map (without_items link) qs)) (for_if (q.link == link.number) q) ∙ ap (λ (zs : List For). for_of q ∷ zs) (for_all link qs)
+
+emptied_places : (qos n : ℕ) (link : Link) (qs : List Queue) → queue_place qos n (map (without_items link) qs) ≡ queue_place qos n qs
+emptied_places qos n link qs =
+    let is = λ (z : For). (z.link == n) && (z.qos == qos) in
+    sym (position_map for_of is (map (without_items link) qs)) ∙ ap (position is) (for_all link qs) ∙ position_map for_of is qs
+
+-- The next hops are by live links, which have their queues
+
+have_after : (g : Config) (p : Process) (place : ℕ) (link : Link) (routes : List Route) → slice_get p.links place ≡ Some link → HaveQueues g p → HaveQueues g (without_link place link routes p)
+have_after g p place link routes is have k qos l at live known = elim (set_at p.links place k link (record link { live = false }) l is at) [
+  | inl t ↦ absurd (false≢true (ap (λ (z : Link). z.live) (sym t.1) ∙ live))
+  | inr f ↦ subst (λ (o : Option ℕ). IsSome o) (sym (emptied_places qos l.number link p.queues)) (have k qos l f.1 live known)
+]
+
+hop_after : (g : Config) (members : List Member) (plans : List LinkPlan) (member : Member) (p : Process) → HaveQueues g p → KnowsLive members plans member p.links p.routes → HasQueues g p
+hop_after g members plans member p have knows dst n qos hop known =
+    let l = live_hop members plans member p.links p.routes dst n knows hop in
+    subst (λ (m : ℕ). IsSome (queue_place qos m p.queues)) l.4 (have l.0 qos l.1 l.2 l.3 known)
+
+housed_after : (g : Config) (ps : List IpcProcess) (at : ℕ) (p p' : IpcProcess) (place : ℕ) (link : Link) (routes : List Route) (members : List Member) (plans : List LinkPlan) (member : Member) → AreHoused g ps → slice_get ps at ≡ Some p → p'.queues.cap ≡ p.queues.cap → slice_get p.links place ≡ Some link → process_of p' ≡ without_link place link routes (process_of p)
+    → KnowsLive members plans member (slice_set p.links place (record link { live = false })) routes → AreHoused g (slice_set ps at p')
+housed_after g ps at p p' place link routes members plans member housed is cap there new knows =
+    let old = housed at p is in
+    let have = have_after g (process_of p) place link routes there old.links in
+    let has = hop_after g members plans member (without_link place link routes (process_of p)) have knows in
+    set_cases (IsHoused g) ps at p' (record { cap = cap ∙ old.cap; links = subst (HaveQueues g) (sym new) have; queues = subst (HasQueues g) (sym new) has }) housed
+
+-- The DIF holds
+
+pub link_lost : (d : Dif) (lines : List Direction) (below : Seen) (at : ℕ) (lost : Lost) (routes : List Route) (member : Member) (links : List Link) (r : Result (Unit {0}) Memory) (ps : List IpcProcess) → at < length d.settings.members → slice_get d.settings.members at ≡ Some member → ((p : IpcProcess) → slice_get d.processes at ≡ Some p → links ≡ p.links)
+    → ((link : Link) → slice_get links lost.place ≡ Some link → KnowsLive d.settings.members d.laid.links member (slice_set links lost.place (record link { live = false })) routes)
+    → LosesIn lost.place routes r at d.processes ps → Holds d lines below → FindsLostAt d below at (Some lost) → LosesAs d lines below at lost.number r (record d { processes = ps })
+link_lost d lines below at lost routes member links (Ok done) ps lt is_member same knows loses h finds =
+    let p = has_process d below at (lines, h) lt in
+    let x = loses p.0 p.1 in
+    let f = finds p.0 p.1 in
+    let link = f.0 in
+    let there = f.1.lost.stands in
+    let new = x.1 link there in
+    let known = subst (λ (ls : List Link). (l : Link) → slice_get ls lost.place ≡ Some l → KnowsLive d.settings.members d.laid.links member (slice_set ls lost.place (record l { live = false })) routes) (same p.0 p.1) knows link there in
+    let gone : Loses (seen_of d) below at lost.number routes (seen_of (record d { processes = ps })) = record { process = process_of p.0; is_process = shown_at d at p.0 p.1; place = lost.place; link = link; first = f.1; number_is = f.2; new_is = stepped d at x.0 ps x.3 ∙ ap (with_process (seen_of d) at) new } in
+    let d' = seen_of (record d { processes = ps }) in (
+      record { routes = routes; loses = gone; member = member; is_member = is_member; knows = known },
+      record {
+        tied = h.tied;
+        standing = lost_stands (seen_of d) lines below at lost.number routes d' h.standing gone;
+        carrying = lost_carries (seen_of d) lines below at lost.number routes d' h.carrying gone;
+        numbered = lost_numbered (seen_of d) below at lost.number routes d' h.numbered gone;
+        housed = subst (AreHoused (config_of d.settings)) (sym x.3) (housed_after (config_of d.settings) d.processes at p.0 x.0 lost.place link routes d.settings.members d.laid.links member h.housed p.1 x.2 there new known);
+      },
+    )
+link_lost d lines below at lost routes member links (Err e) ps lt is_member same knows loses h finds =
+    let p = has_process d below at (lines, h) lt in
+    let x = loses p.0 p.1 in
+    let seen = unseen d at p.0 x.0 ps p.1 x.1 x.3 in
+    let housed = subst (AreHoused (config_of d.settings)) (sym x.3) (housed_set (config_of d.settings) d.processes at p.0 x.0 h.housed p.1 x.2 (house_is (process_of p.0) (process_of p.0) (process_of x.0) x.1 (same_house (process_of p.0)))) in
+    (seen, holds_unseen d ps lines below seen housed h)
+
+-- as the code finds it
+pub link_loses : (d : Dif) (at : ℕ) (lost : Lost) (routes found : List Route) (member : Member) (members : List Member) (links : List Link) (process : IpcProcess) (r : Result (Unit {0}) Memory) (ps : List IpcProcess) → at < length d.settings.members → member ≡ get_or members at member → members ≡ d.settings.members → slice_get d.processes at ≡ Some process → links ≡ process.links → routes ≡ found
+    → ((link : Link) → slice_get links lost.place ≡ Some link → KnowsLive members d.laid.links member (slice_set links lost.place (record link { live = false })) found)
+    → LosesIn lost.place routes r at d.processes ps → (lines : List Direction) (below : Seen) → Holds d lines below → FindsLostAt d below at (Some lost) → LosesAs d lines below at lost.number r (record d { processes = ps })
+link_loses d at lost routes found member members links process r ps lt read are here same is knows loses lines below h finds =
+    let ms = d.settings.members in
+    let its : member ≡ get_or ms at member = read ∙ ap (λ (xs : List Member). get_or xs at member) are in
+    let known : (link : Link) → slice_get links lost.place ≡ Some link → KnowsLive ms d.laid.links member (slice_set links lost.place (record link { live = false })) routes = λ link at_place.
+    subst (λ (rs : List Route). KnowsLive ms d.laid.links member (slice_set links lost.place (record link { live = false })) rs) (sym is)
+    (subst (λ (xs : List Member). KnowsLive xs d.laid.links member (slice_set links lost.place (record link { live = false })) found) are (knows link at_place)) in
+    link_lost d lines below at lost routes member links r ps lt (slice_get_read ms (length ms) at member refl lt its) (λ p there. same ∙ ap (λ (z : IpcProcess). z.links) (same_some (slice_get d.processes at) process p here there)) known loses h finds
