@@ -1,5 +1,5 @@
 -- What stays of a DIF after a step.
-use Rattle.std.proofs.Common.{◌≡◌, ◌∙◌, ℕ, List, Option, Some, None, Result, Ok, Err, sym, ap, subst}
+use Rattle.std.proofs.Common.{◌≡◌, ◌∙◌, ℕ, List, Option, Some, None, Result, Ok, Err, sym, ap, subst, inl}
 use Rattle.rina_iface.specs.Seen.{Seen}
 use Rattle.rina_law.specs.Direction.{Direction}
 use Rattle.rina_data.specs.declared.step.ClockStep.{ClockStep}
@@ -14,58 +14,73 @@ use Rattle.rina_data.specs.Upward.{IsSilent}
 use Rattle.rina_data.proofs.Finishing.{ended_silent}
 use Rattle.rina_data.proofs.Keepers.{facility}
 use Rattle.rina_data.proofs.Upper.{acknowledged_silent, forgotten_silent, resent_silent, silent_same}
+use Rattle.rina_data.proofs.Linkless.{lost_silent}
 use Rattle.rina_dif.specs.declared.dif.Dif.{Dif}
-use Rattle.rina_dif.specs.Clocking.{ClockSteps, ClockStepsAt, Steps, StepsOk}
+use Rattle.rina_dif.specs.Clocking.{ClockSteps, ClockStepsAt, Steps, StepsFlow, StepsOk}
 use Rattle.rina_dif.specs.Holding.{Holds, Stands}
 use Rattle.rina_dif.specs.Shown.{seen_of}
 use Rattle.rina_dif.specs.Steps.{AtHome}
 use Rattle.rina_dif.specs.Taking.{TakesHome}
 use Rattle.rina_tower.specs.Lasting.{StandsAfter}
+use Rattle.rina_tower.proofs.Waiting.{clock_waits}
 
 idle : (d d' : DifSeen) → d' ≡ d → IsSilent d d'
 idle d d' is = silent_same d d' (ap (λ (x : DifSeen). x.ends) is) (ap (λ (x : DifSeen). x.config) is) (ap (λ (x : DifSeen). x.clock) is)
 
 -- What comes with time
 
-clock_done : (d : Dif) (lines : List Direction) (node : ℕ) (done : ClockStep) (new : DifSeen) (lines' : List Direction) → Steps d lines node done new lines' → IsSilent (seen_of d) new
-clock_done d lines node step.Idle new lines' s = idle (seen_of d) new s.1
-clock_done d lines node (step.Gone cep) new lines' s = (forgotten_silent (seen_of d) lines s.at new lines' s.forgotten)
-clock_done d lines node (step.GaveUp num) new lines' s = (ended_silent (seen_of d) lines s.at _ new s.given_up.ended)
-clock_done d lines node (step.Ack cep) new lines' s = (acknowledged_silent (seen_of d) lines s.at s.cause new lines' s.acknowledged)
-clock_done d lines node (step.Again num) new lines' s = (resent_silent (seen_of d) lines s.at s.cause new lines' s.resent)
-clock_done d lines node (step.LinkLost link) new lines' s = absurd s
-clock_done d lines node (step.LinkNew link) new lines' s = absurd s
-clock_done d lines node (step.Timeout port) new lines' s = absurd s
-clock_done d lines node (step.Message link) new lines' s = absurd s
+clock_flow : (d : Dif) (lines : List Direction) (node : ℕ) (done : ClockStep) (new : DifSeen) (lines' : List Direction) → StepsFlow d lines node done new lines' → IsSilent (seen_of d) new
+clock_flow d lines node step.Idle new lines' s = idle (seen_of d) new s.1
+clock_flow d lines node (step.Gone cep) new lines' s = (forgotten_silent (seen_of d) lines s.at new lines' s.forgotten)
+clock_flow d lines node (step.GaveUp num) new lines' s = (ended_silent (seen_of d) lines s.at _ new s.given_up.ended)
+clock_flow d lines node (step.Ack cep) new lines' s = (acknowledged_silent (seen_of d) lines s.at s.cause new lines' s.acknowledged)
+clock_flow d lines node (step.Again num) new lines' s = (resent_silent (seen_of d) lines s.at s.cause new lines' s.resent)
+clock_flow d lines node (step.LinkLost link) new lines' s = absurd s
+clock_flow d lines node (step.LinkNew link) new lines' s = absurd s
+clock_flow d lines node (step.Timeout port) new lines' s = absurd s
+clock_flow d lines node (step.Message link) new lines' s = absurd s
 
-clock_ok : (d : Dif) (lines : List Direction) (node : ℕ) (r : Result ClockStep StepError) (d' : Dif) (lines' : List Direction) → StepsOk d lines node r d' lines' → IsSilent (seen_of d) (seen_of d')
-clock_ok d lines node (Ok done) d' lines' s = clock_done d lines node done (seen_of d') lines' s
-clock_ok d lines node (Err e) d' lines' s = absurd s
+clock_done : (d : Dif) (lines : List Direction) (below : Seen) (node : ℕ) (done : ClockStep) (new : DifSeen) (lines' : List Direction) → Steps d lines below node done new lines' → IsSilent (seen_of d) new
+clock_done d lines below node (step.LinkLost link) new lines' s = (let l = s.0.loses in lost_silent (seen_of d) below s.0.i link l.routes new l.loses)
+clock_done d lines below node step.Idle new lines' s = clock_flow d lines node step.Idle new lines' s.1
+clock_done d lines below node (step.Gone cep) new lines' s = clock_flow d lines node (step.Gone cep) new lines' s.1
+clock_done d lines below node (step.GaveUp num) new lines' s = clock_flow d lines node (step.GaveUp num) new lines' s.1
+clock_done d lines below node (step.Ack cep) new lines' s = clock_flow d lines node (step.Ack cep) new lines' s.1
+clock_done d lines below node (step.Again num) new lines' s = clock_flow d lines node (step.Again num) new lines' s.1
+clock_done d lines below node (step.LinkNew link) new lines' s = clock_flow d lines node (step.LinkNew link) new lines' s.1
+clock_done d lines below node (step.Timeout port) new lines' s = clock_flow d lines node (step.Timeout port) new lines' s.1
+clock_done d lines below node (step.Message link) new lines' s = clock_flow d lines node (step.Message link) new lines' s.1
 
-clock_at : (d : Dif) (lines : List Direction) (node : ℕ) (r : Result ClockStep StepError) (d' : Dif) (lines' : List Direction) (o : Option ℕ) → AtHome o (λ i. StepsOk d lines node r d' lines') ((r ≡ Err NoIpc) × (seen_of d' ≡ seen_of d) × (lines' ≡ lines)) → IsSilent (seen_of d) (seen_of d')
-clock_at d lines node r d' lines' (Some i) s = clock_ok d lines node r d' lines' s
-clock_at d lines node r d' lines' None s = idle (seen_of d) (seen_of d') s.1
+clock_ok : (d : Dif) (lines : List Direction) (below : Seen) (node : ℕ) (r : Result ClockStep StepError) (d' : Dif) (lines' : List Direction) → StepsOk d lines below node r d' lines' → IsSilent (seen_of d) (seen_of d')
+clock_ok d lines below node (Ok done) d' lines' s = clock_done d lines below node done (seen_of d') lines' s
+clock_ok d lines below node (Err e) d' lines' s = absurd s
 
-clock_step : (d : Dif) (lines : List Direction) (node : ℕ) (r : Result ClockStep StepError) (d' : Dif) (lines' : List Direction) → ClockStepsAt d lines node r d' lines' → IsSilent (seen_of d) (seen_of d')
-clock_step d lines node (Ok done) d' lines' s = clock_at d lines node (Ok done) d' lines' (home node (config_of d.settings).members) s
-clock_step d lines node (Err Memory) d' lines' s = idle (seen_of d) (seen_of d') s.0
-clock_step d lines node (Err NoIpc) d' lines' s = clock_at d lines node (Err NoIpc) d' lines' (home node (config_of d.settings).members) s
-clock_step d lines node (Err NoLink) d' lines' s = clock_at d lines node (Err NoLink) d' lines' (home node (config_of d.settings).members) s
+clock_at : (d : Dif) (lines : List Direction) (below : Seen) (node : ℕ) (r : Result ClockStep StepError) (d' : Dif) (lines' : List Direction) (o : Option ℕ) → AtHome o (λ i. StepsOk d lines below node r d' lines') ((r ≡ Err NoIpc) × (seen_of d' ≡ seen_of d) × (lines' ≡ lines)) → IsSilent (seen_of d) (seen_of d')
+clock_at d lines below node r d' lines' (Some i) s = clock_ok d lines below node r d' lines' s
+clock_at d lines below node r d' lines' None s = idle (seen_of d) (seen_of d') s.1
+
+clock_step : (d : Dif) (lines : List Direction) (below : Seen) (node : ℕ) (r : Result ClockStep StepError) (d' : Dif) (lines' : List Direction) → ClockStepsAt d lines below node r d' lines' → IsSilent (seen_of d) (seen_of d')
+clock_step d lines below node (Ok done) d' lines' s = clock_at d lines below node (Ok done) d' lines' (home node (config_of d.settings).members) s
+clock_step d lines below node (Err Memory) d' lines' s = idle (seen_of d) (seen_of d') s.0
+clock_step d lines below node (Err NoIpc) d' lines' s = clock_at d lines below node (Err NoIpc) d' lines' (home node (config_of d.settings).members) s
+clock_step d lines below node (Err NoLink) d' lines' s = clock_at d lines below node (Err NoLink) d' lines' (home node (config_of d.settings).members) s
 
 -- For the rank
 
 pub clocked_after : (d d' : Dif) (below : Seen) (node : ℕ) (r : Result ClockStep StepError) (below' : Seen) → Stands d below → d'.settings ≡ d.settings → ((lines : List Direction) → Holds d lines below → ClockSteps d lines below node r d' below') → StandsAfter below below' d d'
 clocked_after d d' below node r below' st settings does =
     let t = does st.0 st.1 in
-    let silent = clock_step d st.0 node r d' t.lines' t.does in
+    let silent = clock_step d st.0 below node r d' t.lines' t.does in
     record {
       stands = (t.lines', t.holds);
+      uses = inl t.same_below;
       goes_on = record {
         later = silent.later;
         facility = facility (seen_of d') t.lines' below' t.holds.standing;
         clock = t.holds.standing.clock ∙ ap (λ (s : Seen). s.now) t.same_below ∙ sym st.1.standing.clock;
       };
       silent = silent;
+      waiting = clock_waits d st.0 below node r d' t.lines' t.does;
       others = λ other lines apart h. subst (Holds other lines) (sym t.same_below) h;
       settings = settings;
     }

@@ -1,4 +1,5 @@
 pub mod Alone
+pub mod Answering
 pub mod Calling
 pub mod FitBound
 pub mod FitChains
@@ -14,10 +15,16 @@ pub mod FitRooms
 pub mod FitTakes
 pub mod FitWires
 pub mod Lasting
+pub mod Opened
+pub mod OpenedCounts
+pub mod Listing
 pub mod Owned
 pub mod Ranking
+pub mod Rounding
 pub mod Serving
 pub mod Stepped
 pub mod Timing
+pub mod Using
+pub mod Waiting
 pub mod Walks
 pub mod Wiring

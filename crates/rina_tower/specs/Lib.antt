@@ -4,6 +4,7 @@ pub mod Building
 pub mod Calls
 pub mod Events
 pub mod Fitting
+pub mod Flows
 pub mod Lasting
 pub mod Laying
 pub mod Ledgers
@@ -11,7 +12,9 @@ pub mod Making
 pub mod Ranks
 pub mod Refusing
 pub mod Rooms
+pub mod Rounds
 pub mod Standing
 pub mod Stepping
 pub mod Ticking
+pub mod Using
 pub mod Walking

@@ -1,5 +1,5 @@
 -- What the steps of the DIFs do at rank r of a tower.
-use Rattle.std.specs.Prelude.{◌≡◌, ℕ, false, List, Option, Result, Err}
+use Rattle.std.specs.Prelude.{◌≡◌, ℕ, true, false, List, Option, Result, Err}
 use Rattle.rina_base.specs.declared.number.Port.{Port}
 use Rattle.rina_iface.specs.declared.error.SendError.{SendError}
 use Rattle.rina_iface.specs.Seen.{Seen}
@@ -10,7 +10,7 @@ use Rattle.rina_data.specs.declared.step.ClockStep.{ClockStep}
 use Rattle.rina_data.specs.declared.step.InStep.{InStep}
 use Rattle.rina_data.specs.declared.step.OutStep.{OutStep}
 use Rattle.rina_data.specs.declared.step.StepError.{StepError}
-use Rattle.rina_data.specs.declared.step.StepError.TheVariants.{NoIpc}
+use Rattle.rina_data.specs.declared.step.StepError.TheVariants.{Memory, NoIpc}
 use Rattle.rina_dif.specs.declared.dif.Dif.{Dif}
 use Rattle.rina_dif.specs.Clocking.{ClockSteps, FailsLate}
 use Rattle.rina_dif.specs.Holding.{Holds}
@@ -48,6 +48,7 @@ pub record SendsOne (refuses : Port → ℕ → Option SendError) (may : List �
   pub does : OutsAt refuses (seen_of_dif d) below node link result (seen_of_dif d') below'
   pub after : StandsAfter below below' d d'
   pub shelf : d.failed ≡ false → AsksHome (may d.settings.policy) d.settings node link slots slots' d.processes result d'.processes
+  pub failed : d.failed ≡ true → result ≡ Err Memory
 
 abbrev pub OutsHere : (List ℕ → ℕ → List Head → ℕ → Type 0) → List Slot → List Slot → ℕ → ℕ → ℕ → Result OutStep StepError → Tower → Tower → Type 0
 OutsHere may slots slots' dif node link result (Wires a) (Wires a') = (result ≡ Err NoIpc) × (slots' ≡ slots) × (a' ≡ a)

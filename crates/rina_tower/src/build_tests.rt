@@ -232,3 +232,34 @@ fn an_sdu_goes_down_four_ranks_and_up_again(rt: HostRuntime) -> Result<(), Fail>
     assert_eq!(rt; lent.bytes, b"one".as_slice());
     Ok(())
 }
+
+#[test]
+fn rounds_carry_an_sdu_down_four_ranks_and_up_again(rt: HostRuntime) -> Result<(), Fail> {
+    let alloc = rt.alloc();
+    let mut tower = tower(alloc)?;
+    let mut shelf = NoPolicies;
+    let from = Port {
+        fac: 0,
+        node: 0,
+        n: 1,
+    };
+    let to = Port {
+        fac: 0,
+        node: 3,
+        n: 1,
+    };
+    assert!(rt; tower.app_send(alloc, 4, from, b"one").is_ok());
+    // Two wires of 2 ticks each.
+    for _ in 0..4 {
+        assert_eq!(rt; tower.round(alloc, &mut shelf), Ok(()));
+        assert!(rt; tower.peek(to).is_none());
+        assert_eq!(rt; tower.tick(alloc), Ok(()));
+    }
+    assert_eq!(rt; tower.round(alloc, &mut shelf), Ok(()));
+    let Some(lent) = tower.peek(to) else {
+        return Err("nothing came".into());
+    };
+    assert_eq!(rt; lent.at, 4);
+    assert_eq!(rt; lent.bytes, b"one".as_slice());
+    Ok(())
+}

@@ -3,6 +3,7 @@ ghost use Rattle.std.specs.Prelude.{◌≡◌, ◌≤◌, ℕ, [], ◌∷◌, �
 
 mod calls;
 mod clock;
+mod places;
 mod steps;
 
 use rina_dif::Dif;

@@ -7,12 +7,15 @@ mod difs;
 mod events;
 mod facility;
 mod ledgers;
+mod places;
+mod round;
 mod steps;
 mod tick;
 mod tower;
 
 pub use applications::AppError;
 pub use difs::Difs;
+pub use places::{LinkPlace, MemberPlace};
 pub use tower::{Rank, Tower};
 
 #[cfg(test)]

@@ -1,5 +1,6 @@
 //! The steps of the DIFs, at any rank.
-ghost use Rattle.std.specs.Prelude.{◌≡◌};
+ghost use Rattle.std.specs.Prelude.{◌≡◌, map};
+ghost use Rattle.rina_policy.specs.Slots.{Slot};
 ghost use Rattle.rina_tower.specs.Beside.{Anyone, LeavesNow};
 ghost use Rattle.rina_tower.specs.Ranks.{height_of, seen_of};
 ghost use Rattle.rina_tower.specs.Standing.{IsTower};
@@ -57,6 +58,7 @@ impl Tower {
         ensures does { OutSteps (S.may_answer shelf.old) (S.slots shelf.old) (S.slots shelf.new) r dif node link result self.old self.new }
         ensures quiet { LeavesNow Anyone (seen_of self.old) (seen_of self.new) }
         ensures height { height_of self.new ≡ height_of self.old }
+        ensures names { map (λ (x : Slot). x.name) (S.slots shelf.new) ≡ map (λ (x : Slot). x.name) (S.slots shelf.old) }
     {
         match self {
             Tower::Wires(_) => Err(StepError::NoIpc),

@@ -1,5 +1,6 @@
 //! The steps of the DIFs of a rank, over any facility below.
-ghost use Rattle.std.specs.Prelude.{◌≡◌, length, slice_get, Some, Err};
+ghost use Rattle.std.specs.Prelude.{◌≡◌, length, map, slice_get, Some, Err};
+ghost use Rattle.rina_policy.specs.Slots.{Slot};
 ghost use Rattle.rina_data.specs.declared.step.StepError.TheVariants.{NoIpc};
 ghost use Rattle.rina_tower.specs.Beside.{Anyone, LeavesNow};
 ghost use Rattle.rina_tower.specs.Ranks.{seen_of_difs};
@@ -73,6 +74,7 @@ impl Difs {
         ensures valid { F.valid below.new }
         ensures below { F.same_below below.old below.new }
         ensures does { AtDif dif (SendsOne (F.refuses_send below.old) (S.may_answer shelf.old) (S.slots shelf.old) (S.slots shelf.new) (F.seen below.old) node link result (F.seen below.new)) ((result ≡ Err NoIpc) × (S.slots shelf.new ≡ S.slots shelf.old) × (below.new ≡ below.old)) self.old self.new }
+        ensures names { map (λ (x : Slot). x.name) (S.slots shelf.new) ≡ map (λ (x : Slot). x.name) (S.slots shelf.old) }
     {
         let Some(_dif) = self.get(dif) else {
             return Err(StepError::NoIpc);
@@ -100,6 +102,7 @@ impl Difs {
         ensures stand { AreStanding self.new (F.seen below.new) }
         ensures clock { (F.seen below.new).now ≡ (F.seen below.old).now }
         ensures quiet { LeavesNow Anyone (seen_of_difs (F.seen below.old).now self.old) (seen_of_difs (F.seen below.old).now self.new) }
+        ensures names { map (λ (x : Slot). x.name) (S.slots shelf.new) ≡ map (λ (x : Slot). x.name) (S.slots shelf.old) }
     {
         self.let_go(alloc, below, shelf, dif, node, link)
     }

@@ -1,0 +1,144 @@
+-- A step of a DIF uses the rank below only at a link of its own.
+use Rattle.std.proofs.Common.{◌≡◌, ◌∙◌, ℕ, List, slice_get, Option, Some, None, Result, Ok, Err, refl, sym, subst, inl, inr}
+use Rattle.std.proofs.lemmas.Option.{same_Some}
+use Rattle.rina_base.specs.declared.cause.Cause.{Cause}
+use Rattle.rina_base.specs.declared.cause.Cause.TheVariants as causes
+use Rattle.rina_base.specs.declared.number.Key.{Key}
+use Rattle.rina_base.specs.declared.number.Port.{Port}
+use Rattle.rina_iface.specs.declared.ends.End.{End}
+use Rattle.rina_iface.specs.declared.error.SendError.{SendError}
+use Rattle.rina_iface.specs.Ends.{with_passed, with_sent}
+use Rattle.rina_iface.specs.Pass.{IsPassed}
+use Rattle.rina_iface.specs.Seen.{Fac, Seen, Stands as StandsThere}
+use Rattle.rina_iface.specs.Send.{IsSent}
+use Rattle.rina_iface.proofs.Found.{end_of_stands}
+use Rattle.rina_law.specs.Direction.{Direction}
+use Rattle.rina_data.specs.declared.link.Link.{Link}
+use Rattle.rina_data.specs.declared.step.InStep.{InStep}
+use Rattle.rina_data.specs.declared.step.InStep.TheVariants as ins
+use Rattle.rina_data.specs.declared.step.OutStep.{OutStep}
+use Rattle.rina_data.specs.declared.step.OutStep.TheVariants as outs
+use Rattle.rina_data.specs.declared.step.StepError.{StepError}
+use Rattle.rina_data.specs.declared.step.StepError.TheVariants as errors
+use Rattle.rina_data.specs.Cloud.{IsMine}
+use Rattle.rina_data.specs.Configs.{config_of}
+use Rattle.rina_data.specs.Dif.{Config, DifSeen, Member, Process, link_by}
+use Rattle.rina_data.specs.Incoming.{Ins}
+use Rattle.rina_data.specs.Outgoing.{Goes, Offs, Outs}
+use Rattle.rina_data.specs.Sending.{home}
+use Rattle.rina_data.specs.Standing.{IsStanding}
+use Rattle.rina_data.proofs.Finding.{beside, live_link}
+use Rattle.rina_dif.specs.declared.dif.Dif.{Dif}
+use Rattle.rina_dif.specs.Holding.{Holds, Stands}
+use Rattle.rina_dif.specs.Shown.{seen_of}
+use Rattle.rina_dif.specs.Steps.{AtHome, OutsAt}
+use Rattle.rina_dif.specs.Taking.{InsAt, TakesHome}
+use Rattle.rina_tower.specs.Beside.{IsIpc}
+use Rattle.rina_tower.specs.Using.{MayUse}
+
+-- all members are IPC processes by their names
+abbrev AreIpc : List Member → Type 0
+AreIpc members = (name : List ℕ) → IsMine members name → IsIpc name
+
+-- the end that stands at a link is that of its IPC process
+link_ipc : (d : DifSeen) (lines : List Direction) (below : Seen) (i n : ℕ) (process : Process) (link : Link) (f : Fac) (place : ℕ) (e : End) → AreIpc d.config.members → IsStanding d lines below
+    → slice_get d.processes i ≡ Some process → link_by n process.links ≡ Some link → StandsThere below link.port f place e → IsIpc e.app
+link_ipc d lines below i n process link f place e ipc st is is_link there =
+    let member = beside d.processes d.config.members i process (sym st.aligned) is in
+    let linked = st.linked i member.0 link member.1 (live_link d.processes i n process link is is_link) in
+    let mine : IsMine d.config.members linked.end.app = record { addr = member.0.addr; member = record { place = i; member = member.0; stands = member.1; addr_is = refl; name_is = sym linked.app } } in
+    let same : linked.end ≡ e = same_Some linked.end e (sym linked.here ∙ end_of_stands below link.port f place e there) in
+    subst (λ (z : End). IsIpc z.app) same (ipc linked.end.app mine)
+
+-- What comes
+
+passes_use : (s : Seen) (port : Port) (s' : Seen) → (h : IsPassed s port s') → IsIpc h.end.app → MayUse s s'
+passes_use s port s' h ipc = inr (record {
+  port = port;
+  facility = h.facility;
+  place = h.place;
+  end = h.end;
+  end' = with_passed h.end;
+  stands = h.stands;
+  ipc = ipc;
+  its_port = refl;
+  its_app = refl;
+  new_is = h.new_is;
+})
+
+ins_use : (d : DifSeen) (lines : List Direction) (below : Seen) (i n : ℕ) (r : Result InStep StepError) (d' : DifSeen) (lines' : List Direction) (below' : Seen) → AreIpc d.config.members → IsStanding d lines below → Ins d lines below i n r d' lines' below' → MayUse below below'
+ins_use d lines below i n (Ok ins.Idle) d' lines' below' ipc st h = inl h.3
+ins_use d lines below i n (Ok (ins.Took key end)) d' lines' below' ipc st h =
+    passes_use below h.link.port below' h.passed (link_ipc d lines below i n h.process h.link h.passed.facility h.passed.place h.passed.end ipc st h.is_process.is_process h.is_link h.passed.stands)
+ins_use d lines below i n (Err errors.Memory) d' lines' below' ipc st h = inl h.2
+ins_use d lines below i n (Err errors.NoIpc) d' lines' below' ipc st h = inl h.3
+ins_use d lines below i n (Err errors.NoLink) d' lines' below' ipc st h = inl h.3
+
+ins_home : (d : DifSeen) (lines : List Direction) (below : Seen) (n : ℕ) (r : Result InStep StepError) (d' : DifSeen) (lines' : List Direction) (below' : Seen) (o : Option ℕ) → AreIpc d.config.members → IsStanding d lines below
+    → AtHome o (λ i. Ins d lines below i n r d' lines' below') ((r ≡ Err errors.NoIpc) × (d' ≡ d) × (lines' ≡ lines) × (below' ≡ below)) → MayUse below below'
+ins_home d lines below n r d' lines' below' (Some i) ipc st h = ins_use d lines below i n r d' lines' below' ipc st h
+ins_home d lines below n r d' lines' below' None ipc st h = inl h.3
+
+ins_at : (d : DifSeen) (lines : List Direction) (below : Seen) (node n : ℕ) (r : Result InStep StepError) (d' : DifSeen) (lines' : List Direction) (below' : Seen) → AreIpc d.config.members → IsStanding d lines below → InsAt d lines below node n r d' lines' below' → MayUse below below'
+ins_at d lines below node n (Ok done) d' lines' below' ipc st h = ins_home d lines below n (Ok done) d' lines' below' (home node d.config.members) ipc st h
+ins_at d lines below node n (Err errors.Memory) d' lines' below' ipc st h = inl h.2
+ins_at d lines below node n (Err errors.NoIpc) d' lines' below' ipc st h = ins_home d lines below n (Err errors.NoIpc) d' lines' below' (home node d.config.members) ipc st h
+ins_at d lines below node n (Err errors.NoLink) d' lines' below' ipc st h = ins_home d lines below n (Err errors.NoLink) d' lines' below' (home node d.config.members) ipc st h
+
+pub takes_use : (d d' : Dif) (below : Seen) (node n : ℕ) (r : Result InStep StepError) (below' : Seen) → AreIpc (config_of d.settings).members → Stands d below → ((lines : List Direction) → Holds d lines below → TakesHome d lines below node n r d' below') → MayUse below below'
+takes_use d d' below node n r below' ipc st does =
+    let t = does st.0 st.1 in
+    ins_at (seen_of d) st.0 below node n r (seen_of d') t.lines' below' ipc st.1.standing t.does
+
+-- What leaves
+
+sends_use : (s : Seen) (port : Port) (bytes : List ℕ) (num : _) (s' : Seen) → (h : IsSent s port bytes num s') → IsIpc h.end.app → MayUse s s'
+sends_use s port bytes num s' h ipc = inr (record {
+  port = port;
+  facility = h.facility;
+  place = h.place;
+  end = h.end;
+  end' = with_sent h.end (record { tick = s.now; num = num; bytes = bytes });
+  stands = h.stands;
+  ipc = ipc;
+  its_port = refl;
+  its_app = refl;
+  new_is = h.new_is;
+})
+
+offs_use : (refuses : Port → ℕ → Option SendError) (g : Config) (now : ℕ) (process : Process) (below : Seen) (n : ℕ) (key : Key) (cause : Cause) (process' : Process) (below' : Seen) → Offs refuses g now process below n key cause process' below' → MayUse below below'
+offs_use refuses g now process below n key (causes.Expired left charge) process' below' h = inl h.below_is
+offs_use refuses g now process below n key (causes.LinkDown port) process' below' h = inl h.below_is
+offs_use refuses g now process below n key cause process' below' h = absurd h
+
+goes_use : (refuses : Port → ℕ → Option SendError) (d : DifSeen) (lines : List Direction) (below : Seen) (i n : ℕ) (process : Process) (r : Result OutStep StepError) (process' : Process) (below' : Seen) → AreIpc d.config.members → IsStanding d lines below
+    → slice_get d.processes i ≡ Some process → Goes refuses d.config d.clock process below n r process' below' → MayUse below below'
+goes_use refuses d lines below i n process (Ok outs.Idle) process' below' ipc st is h = inl h.3
+goes_use refuses d lines below i n process (Ok (outs.Sent key)) process' below' ipc st is h =
+    let sent = h.sent.1 in
+    sends_use below h.link.port _ h.num below' sent (link_ipc d lines below i n process h.link sent.facility sent.place sent.end ipc st is h.head.is_link sent.stands)
+goes_use refuses d lines below i n process (Ok (outs.Off key cause)) process' below' ipc st is h = offs_use refuses d.config d.clock process below n key cause process' below' h
+goes_use refuses d lines below i n process (Ok (outs.Held why)) process' below' ipc st is h = inl h.2
+goes_use refuses d lines below i n process (Err errors.Memory) process' below' ipc st is h = inl h.1
+goes_use refuses d lines below i n process (Err errors.NoIpc) process' below' ipc st is h = absurd h
+goes_use refuses d lines below i n process (Err errors.NoLink) process' below' ipc st is h = inl h.2
+
+outs_use : (refuses : Port → ℕ → Option SendError) (d : DifSeen) (lines : List Direction) (below : Seen) (i n : ℕ) (r : Result OutStep StepError) (d' : DifSeen) (below' : Seen) → AreIpc d.config.members → IsStanding d lines below → Outs refuses d below i n r d' below' → MayUse below below'
+outs_use refuses d lines below i n (Ok done) d' below' ipc st h = goes_use refuses d lines below i n h.process (Ok done) h.process' below' ipc st h.is_process h.done
+outs_use refuses d lines below i n (Err errors.Memory) d' below' ipc st h = goes_use refuses d lines below i n h.process (Err errors.Memory) h.process' below' ipc st h.is_process h.done
+outs_use refuses d lines below i n (Err errors.NoIpc) d' below' ipc st h = inl h.2
+outs_use refuses d lines below i n (Err errors.NoLink) d' below' ipc st h = goes_use refuses d lines below i n h.process (Err errors.NoLink) h.process' below' ipc st h.is_process h.done
+
+outs_home : (refuses : Port → ℕ → Option SendError) (d : DifSeen) (lines : List Direction) (below : Seen) (n : ℕ) (r : Result OutStep StepError) (d' : DifSeen) (below' : Seen) (o : Option ℕ) → AreIpc d.config.members → IsStanding d lines below
+    → AtHome o (λ at. Outs refuses d below at n r d' below') ((r ≡ Err errors.NoIpc) × (d' ≡ d) × (below' ≡ below)) → MayUse below below'
+outs_home refuses d lines below n r d' below' (Some i) ipc st h = outs_use refuses d lines below i n r d' below' ipc st h
+outs_home refuses d lines below n r d' below' None ipc st h = inl h.2
+
+outs_at : (refuses : Port → ℕ → Option SendError) (d : DifSeen) (lines : List Direction) (below : Seen) (node n : ℕ) (r : Result OutStep StepError) (d' : DifSeen) (below' : Seen) → AreIpc d.config.members → IsStanding d lines below → OutsAt refuses d below node n r d' below' → MayUse below below'
+outs_at refuses d lines below node n (Ok done) d' below' ipc st h = outs_home refuses d lines below n (Ok done) d' below' (home node d.config.members) ipc st h
+outs_at refuses d lines below node n (Err errors.Memory) d' below' ipc st h = inl h.1
+outs_at refuses d lines below node n (Err errors.NoIpc) d' below' ipc st h = outs_home refuses d lines below n (Err errors.NoIpc) d' below' (home node d.config.members) ipc st h
+outs_at refuses d lines below node n (Err errors.NoLink) d' below' ipc st h = outs_home refuses d lines below n (Err errors.NoLink) d' below' (home node d.config.members) ipc st h
+
+pub leaves_use : (refuses : Port → ℕ → Option SendError) (d d' : Dif) (below : Seen) (node n : ℕ) (r : Result OutStep StepError) (below' : Seen) → AreIpc (config_of d.settings).members → Stands d below → OutsAt refuses (seen_of d) below node n r (seen_of d') below' → MayUse below below'
+leaves_use refuses d d' below node n r below' ipc st does = outs_at refuses (seen_of d) st.0 below node n r (seen_of d') below' ipc st.1.standing does

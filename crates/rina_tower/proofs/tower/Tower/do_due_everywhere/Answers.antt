@@ -1,0 +1,25 @@
+use Rattle.std.proofs.Common.{◌∙◌}
+use Rattle.rina_tower.specs.Rounds.{DoesAllDue, members_upward}
+use Rattle.rina_tower.proofs.Rounding.{follows_none, follows_on, runs_all, runs_next, runs_none}
+use Rattle.rina_tower.proofs.tower.Tower.do_due_everywhere.Goals as goal
+
+pub returns-in_err-places-clause-follows : goal.returns-in_err-places-clause-follows
+returns-in_err-places-clause-follows c = follows_none c.args.self.now c.requires
+
+pub loop-place-init : goal.loop-place-init
+loop-place-init c = record {
+  follows = follows_none c.args.self.now c.requires;
+  does = λ slots. runs_none DoesAllDue slots c.args.self.now;
+}
+
+pub returns-in_err-do_all_due-clause-follows : goal.returns-in_err-do_all_due-clause-follows
+returns-in_err-do_all_due-clause-follows c = follows_on c.args.self.now c.loop-place.self c.do_all_due.new.self c.loop-place.invariant.follows c.do_all_due.ensures.follows
+
+pub loop-place-preserved : goal.loop-place-preserved
+loop-place-preserved c = record {
+  follows = follows_on c.args.self.now c.loop-place.self c.do_all_due.new.self c.loop-place.invariant.follows c.do_all_due.ensures.follows;
+  does = λ slots. runs_next DoesAllDue c.as_slice-place-items.result.now c.loop-place.place-index _ slots slots slots c.args.self.now c.loop-place.self c.do_all_due.new.self c.loop-place-test.true (c.loop-place.invariant.does slots) (c.in_ok-do_all_due.ensures.does slots);
+}
+
+pub returns-clause-does : goal.returns-clause-does
+returns-clause-does c = λ slots. runs_all DoesAllDue c.as_slice-place-items.result.now (members_upward c.args.self.now) c.loop-place.place-index slots slots c.args.self.now c.loop-place.self (c.as_slice-place-items.ensures ∙ c.in_ok-places.ensures) c.loop-place-test.false (c.loop-place.invariant.does slots)

@@ -1,0 +1,27 @@
+use Rattle.std.proofs.Common.{◌∙◌, refl}
+use Rattle.rina_tower.specs.Rounds.{LetsAll, links_downward}
+use Rattle.rina_tower.proofs.Rounding.{follows_none, follows_on, runs_all, runs_next, runs_none}
+use Rattle.rina_tower.proofs.tower.Tower.let_go_everywhere.Goals as goal
+
+pub returns-in_err-places-clause-follows : goal.returns-in_err-places-clause-follows
+returns-in_err-places-clause-follows g c = follows_none c.args.self.now c.requires
+
+pub loop-place-init : goal.loop-place-init
+loop-place-init g c = record {
+  follows = follows_none c.args.self.now c.requires;
+  names = refl;
+  does = runs_none LetsAll (g.S.Picks.slots c.args.shelf.now) c.args.self.now;
+}
+
+pub returns-in_err-let_all-clause-follows : goal.returns-in_err-let_all-clause-follows
+returns-in_err-let_all-clause-follows g c = follows_on c.args.self.now c.loop-place.self c.let_all.new.self c.loop-place.invariant.follows c.let_all.ensures.follows
+
+pub loop-place-preserved : goal.loop-place-preserved
+loop-place-preserved g c = record {
+  follows = follows_on c.args.self.now c.loop-place.self c.let_all.new.self c.loop-place.invariant.follows c.let_all.ensures.follows;
+  names = c.let_all.ensures.names ∙ c.loop-place.invariant.names;
+  does = runs_next LetsAll c.as_slice-place-items.result.now c.loop-place.place-index _ (g.S.Picks.slots c.args.shelf.now) (g.S.Picks.slots c.loop-place.shelf) (g.S.Picks.slots c.let_all.new.shelf) c.args.self.now c.loop-place.self c.let_all.new.self c.loop-place-test.true c.loop-place.invariant.does c.in_ok-let_all.ensures.does;
+}
+
+pub returns-clause-does : goal.returns-clause-does
+returns-clause-does g c = runs_all LetsAll c.as_slice-place-items.result.now (links_downward c.args.self.now) c.loop-place.place-index (g.S.Picks.slots c.args.shelf.now) (g.S.Picks.slots c.loop-place.shelf) c.args.self.now c.loop-place.self (c.as_slice-place-items.ensures ∙ c.in_ok-places.ensures) c.loop-place-test.false c.loop-place.invariant.does

@@ -1,0 +1,32 @@
+use Rattle.std.proofs.Common.{◌∙◌, ap, not, refl}
+use Rattle.rina_tower.specs.Rounds.{Taking, has_taken, takes_no_more}
+use Rattle.rina_tower.proofs.Rounding.{follows_none, follows_step, going_ends, going_more, going_none}
+use Rattle.rina_tower.proofs.tower.Tower.take_all.Goals as goal
+
+pub steps-init : goal.steps-init
+steps-init c = record {
+  follows = follows_none c.args.self.now c.requires;
+  going = λ slots. going_none has_taken (Taking c.args.place) slots c.args.self.now;
+}
+
+pub returns-in_err-has_taken-clause-follows : goal.returns-in_err-has_taken-clause-follows
+returns-in_err-has_taken-clause-follows c =
+    let k = c.in_step-answer.ensures in
+    follows_step c.args.self.now c.steps.self c.in_step-answer.new.self c.steps.invariant.follows k.valid k.quiet k.height
+
+pub returns-then-not-branch-clause-follows : goal.returns-then-not-branch-clause-follows
+returns-then-not-branch-clause-follows c =
+    let k = c.in_step-answer.ensures in
+    follows_step c.args.self.now c.steps.self c.in_step-answer.new.self c.steps.invariant.follows k.valid k.quiet k.height
+
+pub returns-then-not-branch-clause-does : goal.returns-then-not-branch-clause-does
+returns-then-not-branch-clause-does c = λ slots.
+    going_ends has_taken takes_no_more (Taking c.args.place) c.in_step-answer.result slots slots slots c.args.self.now c.steps.self c.in_step-answer.new.self (c.steps.invariant.going slots) (refl, c.in_step-answer.ensures.does) (c.in_ok-has_taken.ensures.1 ∙ ap not c.if-not-branch.true)
+
+pub steps-preserved : goal.steps-preserved
+steps-preserved c =
+    let k = c.in_step-answer.ensures in
+    record {
+      follows = follows_step c.args.self.now c.steps.self c.in_step-answer.new.self c.steps.invariant.follows k.valid k.quiet k.height;
+      going = λ slots. going_more has_taken (Taking c.args.place) c.in_step-answer.result slots slots slots c.args.self.now c.steps.self c.in_step-answer.new.self (c.steps.invariant.going slots) (refl, k.does) (c.in_ok-has_taken.ensures.0 ∙ c.if-not-branch.false);
+    }

@@ -1,0 +1,168 @@
+//! Rounds: the steps of all DIFs, each in its turn.
+ghost use Rattle.std.specs.Prelude.{◌≡◌, List, map, not, OnOk, IfOk};
+ghost use Rattle.rina_policy.specs.Slots.{Slot};
+ghost use Rattle.rina_tower.specs.Beside.{Anyone, LeavesNow};
+ghost use Rattle.rina_tower.specs.Ranks.{height_of, now_of, seen_of};
+ghost use Rattle.rina_tower.specs.Rounds.{DoesAllDue, Follows, InTurn, IsRound, LetsAll, Runs, TakesAll, has_left, has_taken, lets_no_more, links_downward, links_upward, members_upward, none_due, takes_no_more, was_due};
+ghost use Rattle.rina_tower.specs.Standing.{IsTower};
+
+use crate::places::{LinkPlace, MemberPlace};
+use crate::tower::Tower;
+use rina_base::Memory;
+use rina_data::{ClockStep, InStep, OutStep, StepError};
+use rina_policy::Picks;
+use std::alloc::Global;
+
+/// Whether a step took something, so that there may be more. Want of memory is passed on.
+fn has_taken(answer: Result<InStep, StepError>) -> Result<bool, Memory>
+    ensures { IfOk result (λ on. (has_taken answer ≡ on) × (takes_no_more answer ≡ not on)) }
+{
+    match answer {
+        Ok(InStep::Took { key: _, end: _ }) => Ok(true),
+        Ok(InStep::Idle) => Ok(false),
+        Err(StepError::Memory) => Err(Memory),
+        Err(StepError::NoIpc) => Ok(false),
+        Err(StepError::NoLink) => Ok(false),
+    }
+}
+
+/// Whether something was due, so that there may be more. Want of memory is passed on.
+fn was_due(answer: Result<ClockStep, StepError>) -> Result<bool, Memory>
+    ensures { IfOk result (λ on. (was_due answer ≡ on) × (none_due answer ≡ not on)) }
+{
+    match answer {
+        Ok(ClockStep::Idle) => Ok(false),
+        Ok(_) => Ok(true),
+        Err(StepError::Memory) => Err(Memory),
+        Err(StepError::NoIpc) => Ok(false),
+        Err(StepError::NoLink) => Ok(false),
+    }
+}
+
+/// Whether a PDU left its queue, so that the next one may. Want of memory is passed on.
+fn has_left(answer: Result<OutStep, StepError>) -> Result<bool, Memory>
+    ensures { IfOk result (λ on. (has_left answer ≡ on) × (lets_no_more answer ≡ not on)) }
+{
+    match answer {
+        Ok(OutStep::Sent { key: _ }) => Ok(true),
+        Ok(OutStep::Off { key: _, cause: _ }) => Ok(true),
+        Ok(OutStep::Idle) => Ok(false),
+        Ok(OutStep::Held { why: _ }) => Ok(false),
+        Err(StepError::Memory) => Err(Memory),
+        Err(StepError::NoIpc) => Ok(false),
+        Err(StepError::NoLink) => Ok(false),
+    }
+}
+
+impl Tower {
+    /// Takes what came at a link, one SDU after the other, until a step takes none.
+    fn take_all(&mut self, alloc: Global, place: LinkPlace) -> Result<(), Memory>
+        requires { IsTower self.old }
+        ensures follows { Follows self.old self.new }
+        ensures does { OnOk result ((slots : List Slot) → Runs (TakesAll place) slots self.old slots self.new) }
+    {
+        'steps: for _ in 0..u64::MAX {
+            let answer = self.in_step(alloc, place.rank, place.dif, place.node, place.link);
+            if !has_taken(answer)? {
+                return Ok(());
+            }
+        }
+        // So many SDUs fit into no memory.
+        Err(Memory)
+    }
+
+    /// Does what is due at an IPC process, one thing after the other, until a step finds none.
+    fn do_all_due(&mut self, alloc: Global, place: MemberPlace) -> Result<(), Memory>
+        requires { IsTower self.old }
+        ensures follows { Follows self.old self.new }
+        ensures does { OnOk result ((slots : List Slot) → Runs (DoesAllDue place) slots self.old slots self.new) }
+    {
+        'steps: for _ in 0..u64::MAX {
+            let answer = self.clock_step(alloc, place.rank, place.dif, place.node);
+            if !was_due(answer)? {
+                return Ok(());
+            }
+        }
+        // So many things fit into no memory.
+        Err(Memory)
+    }
+
+    /// Lets the PDUs at a link go, one after the other, until none waits or one stays.
+    fn let_all<S: Picks>(
+        &mut self,
+        alloc: Global,
+        shelf: &mut S,
+        place: LinkPlace,
+    ) -> Result<(), Memory>
+        requires { IsTower self.old }
+        ensures follows { Follows self.old self.new }
+        ensures names { map (λ (x : Slot). x.name) (S.slots shelf.new) ≡ map (λ (x : Slot). x.name) (S.slots shelf.old) }
+        ensures does { OnOk result (Runs (LetsAll place) (S.slots shelf.old) self.old (S.slots shelf.new) self.new) }
+    {
+        'steps: for _ in 0..u64::MAX {
+            let answer = self.out_step(alloc, place.rank, place.dif, shelf, place.node, place.link);
+            if !has_left(answer)? {
+                return Ok(());
+            }
+        }
+        // So many PDUs fit into no memory.
+        Err(Memory)
+    }
+
+    /// Takes what came at every link, from the lowest rank up.
+    fn take_everywhere(&mut self, alloc: Global) -> Result<(), Memory>
+        requires { IsTower self.old }
+        ensures follows { Follows self.old self.new }
+        ensures does { OnOk result ((slots : List Slot) → Runs (InTurn TakesAll (links_upward self.old)) slots self.old slots self.new) }
+    {
+        let places = self.links_upward(alloc)?;
+        for place in places.as_slice() {
+            self.take_all(alloc, *place)?;
+        }
+        Ok(())
+    }
+
+    /// Does what is due at every IPC process, from the lowest rank up.
+    fn do_due_everywhere(&mut self, alloc: Global) -> Result<(), Memory>
+        requires { IsTower self.old }
+        ensures follows { Follows self.old self.new }
+        ensures does { OnOk result ((slots : List Slot) → Runs (InTurn DoesAllDue (members_upward self.old)) slots self.old slots self.new) }
+    {
+        let places = self.members_upward(alloc)?;
+        for place in places.as_slice() {
+            self.do_all_due(alloc, *place)?;
+        }
+        Ok(())
+    }
+
+    /// Lets go what waits at every link, from the highest rank down.
+    fn let_go_everywhere<S: Picks>(&mut self, alloc: Global, shelf: &mut S) -> Result<(), Memory>
+        requires { IsTower self.old }
+        ensures follows { Follows self.old self.new }
+        ensures names { map (λ (x : Slot). x.name) (S.slots shelf.new) ≡ map (λ (x : Slot). x.name) (S.slots shelf.old) }
+        ensures does { OnOk result (Runs (InTurn LetsAll (links_downward self.old)) (S.slots shelf.old) self.old (S.slots shelf.new) self.new) }
+    {
+        let places = self.links_downward(alloc)?;
+        for place in places.as_slice() {
+            self.let_all(alloc, shelf, *place)?;
+        }
+        Ok(())
+    }
+
+    /// A round: first all that came is taken, at every link from rank 1 upward; then all that is due is done, at every
+    /// IPC process; then all that may leave leaves, at every link from the highest rank down. Each place has its turn
+    /// until a step there does nothing, or is refused. It ends early only where memory is wanted.
+    pub fn round<S: Picks>(&mut self, alloc: Global, shelf: &mut S) -> Result<(), Memory>
+        requires { IsTower self.old }
+        ensures valid { IsTower self.new }
+        ensures does { OnOk result (IsRound (S.slots shelf.old) (S.slots shelf.new) self.old self.new) }
+        ensures names { map (λ (x : Slot). x.name) (S.slots shelf.new) ≡ map (λ (x : Slot). x.name) (S.slots shelf.old) }
+        ensures quiet { LeavesNow Anyone (seen_of self.old) (seen_of self.new) }
+        ensures clock { now_of self.new ≡ now_of self.old }
+        ensures height { height_of self.new ≡ height_of self.old }
+    {
+        self.take_everywhere(alloc)?;
+        self.do_due_everywhere(alloc)?;
+        self.let_go_everywhere(alloc, shelf)
+    }
+}
