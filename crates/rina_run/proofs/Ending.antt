@@ -1,5 +1,5 @@
 -- How a run ends.
-use Rattle.std.proofs.Common.{◌≡◌, ℕ, List, [], ◌∷◌, ◌++◌, Option, Some, None, Ok, Err, ◌⊎◌, inl, inr, refl, sym, ◌∙◌, IsSome, IfSome, slice_get, length, take, true, false, ◌<◌, ◌≤◌, arith, subst}
+use Rattle.std.proofs.Common.{◌≡◌, ℕ, ◌+◌, List, [], ◌∷◌, ◌++◌, Option, Some, None, Ok, Err, ◌⊎◌, inl, inr, refl, sym, ◌∙◌, IsSome, IfSome, Bool, slice_get, length, take, true, false, ◌<◌, ◌≤◌, arith, subst}
 use Rattle.std.proofs.lemmas.List.{append-nil, take_all}
 use Rattle.std.proofs.KnownBytes.{Appends-nil}
 use Rattle.std.specs.Io.KnownBytes.{Appends, Consumes, IsAtEnd}
@@ -14,15 +14,15 @@ use Rattle.rina_schedule.specs.declared.error.LineError.TheVariants as errors
 use Rattle.rina_stack.specs.declared.plan.Plan.{Plan}
 use Rattle.rina_table.specs.declared.error.StackError.{StackError}
 use Rattle.rina_table.specs.declared.error.StackError.TheVariants as stack
-use Rattle.rina_stack.specs.Built.{ReadsBuilt}
+use Rattle.rina_stack.specs.Runnable.{ReadsRunnable}
 use Rattle.rina_iface.specs.declared.state.Fail.{Fail}
 use Rattle.rina_iface.specs.declared.state.Fail.TheVariants.{GaveUp, Below, Cut}
 use Rattle.rina_iface.specs.declared.state.PortState.TheVariants.{Failed}
 use Rattle.rina_iface.specs.Seen.{Fac}
-use Rattle.rina_iface.specs.Journal.{AreKept}
 use Rattle.rina_wire.proofs.Kept.{is_mapped}
-use Rattle.std.proofs.lemmas.Option.{slice_get-map}
-use Rattle.rina_wire.specs.Air.{Air, fac_of, seen_of, wire_at}
+use Rattle.std.proofs.lemmas.Bool.Decides.{eqb_tells}
+use Rattle.std.proofs.lemmas.Option.{same_Some, slice_get-map}
+use Rattle.rina_wire.specs.Air.{Air, fac_of, wire_at}
 use Rattle.rina_wire.specs.Sound.{IsSound, IsWireState}
 use Rattle.rina_run.specs.declared.emit.Stop.{Stop}
 use Rattle.rina_run.specs.declared.emit.Stop.TheVariants as stops
@@ -30,11 +30,17 @@ use Rattle.rina_run.specs.declared.play.BadLine.{BadLine}
 use Rattle.rina_run.specs.declared.outcome.Status.{Status}
 use Rattle.rina_run.specs.declared.outcome.Status.TheVariants as statuses
 use Rattle.rina_run.specs.Look.{Extends}
-use Rattle.rina_run.specs.Run.{Runs, StopsAt, RanFirst, RanPart, LinesRan, opening}
+use Rattle.rina_tower.specs.declared.tower.Tower.{Tower, Rank', Wires}
+use Rattle.rina_tower.specs.Ranks.{height_of, now_of, seen_of}
+use Rattle.rina_tower.specs.Standing.{IsTower, kept_of}
+use Rattle.rina_tower.proofs.Owned.{rank_valid}
+use Rattle.rina_run.specs.declared.world.World.{World}
+use Rattle.rina_run.specs.Opening.{IsOpening}
+use Rattle.rina_run.specs.Run.{Runs, StopsAt, RanFirst, RanPart, LinesRan}
 use Rattle.rina_run.specs.Script.{Script, script_in}
-use Rattle.rina_run.specs.Step.{HasNames, Stage}
+use Rattle.rina_run.specs.Step.{HasNames, Stage, stage}
 use Rattle.rina_run.specs.Written.{IsFront, Written}
-use Rattle.rina_run.specs.Top.{status_of, fault_at, fault_of, PlayOutcomes, RefusedBy, StackOutcomes, ScriptOutcomes, InputOutcomes, IsNothing, ClosedBy, IsEnding, EndedBy, RunOutcomes, is_whole, status_stopped, FailedByCut, IsCutBy}
+use Rattle.rina_run.specs.Top.{status_of, fault_at, fault_of, PlayOutcomes, RefusedBy, StackOutcomes, ScriptOutcomes, InputOutcomes, IsNothing, ClosedBy, IsEnding, EndedBy, RunOutcomes, is_whole, status_stopped, AreCut, FailedByCut, IsCutBy, KeepsAll}
 use Rattle.rina_run.proofs.Texts.{wrote_all}
 
 pub wrote_nothing : (base : Option (List ℕ)) (ns : List Note) → ns ≡ [] → Appends base base (text_of ns)
@@ -72,36 +78,36 @@ stop_first : (plan : Plan) (w : Stage) (lines : List (List ℕ)) (bad : BadLine)
 stop_first plan w lines bad told u stops = record { count = stops.before; runs = stops.runs }
 
 -- all lines were run, and the run was closed
-pub done_from : (plan : Plan) (lines : List (List ℕ)) (shelf : List Slot) (told t : List Note) (u : Stage) (tower : Option Air) (shelf' : List Slot) (s : Status) → Runs plan 1 (opening plan shelf) lines told u → tower ≡ Some u.world.tower → shelf' ≡ u.shelf → HasNames shelf shelf' → ClosedBy statuses.Done (notes.End u.world.tower.now) told s t → PlayOutcomes plan None lines shelf s t tower shelf'
-done_from plan lines shelf told t u tower shelf' statuses.Done runs left after names c = (refl, record { told = told; reached = u; ran = runs; notes = c.1; left = left; shelf = after })
-done_from plan lines shelf told t u tower shelf' statuses.WriteFault runs left after names c = record { told = told; reached = u; first = all_first plan (opening plan shelf) lines told u runs; closing = extends_one told t (notes.End u.world.tower.now) c; left = left; after = after }
-done_from plan lines shelf told t u tower shelf' statuses.Memory runs left after names c = (part_from plan (opening plan shelf) lines told t u (notes.End u.world.tower.now) (all_first plan (opening plan shelf) lines told u runs) c, names)
-done_from plan lines shelf told t u tower shelf' s runs left after names c = cc
+pub done_from : (plan : Plan) (lines : List (List ℕ)) (start : Stage) (told t : List Note) (u : Stage) (tower : Option Tower) (shelf' : List Slot) (s : Status) → Runs plan 1 start lines told u → tower ≡ Some u.world.tower → shelf' ≡ u.shelf → HasNames start.shelf shelf' → ClosedBy statuses.Done (notes.End (now_of u.world.tower)) told s t → PlayOutcomes plan None lines start s t tower shelf'
+done_from plan lines start told t u tower shelf' statuses.Done runs left after names c = (refl, record { told = told; reached = u; ran = runs; notes = c.1; left = left; shelf = after })
+done_from plan lines start told t u tower shelf' statuses.WriteFault runs left after names c = record { told = told; reached = u; first = all_first plan start lines told u runs; closing = extends_one told t (notes.End (now_of u.world.tower)) c; left = left; after = after }
+done_from plan lines start told t u tower shelf' statuses.Memory runs left after names c = (part_from plan start lines told t u (notes.End (now_of u.world.tower)) (all_first plan start lines told u runs) c, names)
+done_from plan lines start told t u tower shelf' s runs left after names c = cc
 
 -- all lines were run, and the fault that reading ended with was told
-read_fault_from : (plan : Plan) (lines : List (List ℕ)) (shelf : List Slot) (told t : List Note) (u : Stage) (tower : Option Air) (shelf' : List Slot) (s : Status) → Runs plan 1 (opening plan shelf) lines told u → tower ≡ Some u.world.tower → shelf' ≡ u.shelf → HasNames shelf shelf' → ClosedBy statuses.ReadFault (notes.Fault faults.ReadFault) told s t → PlayOutcomes plan (Some faults.ReadFault) lines shelf s t tower shelf'
-read_fault_from plan lines shelf told t u tower shelf' statuses.ReadFault runs left after names c = (refl, record { told = told; reached = u; ran = runs; notes = c.1; left = left; shelf = after })
-read_fault_from plan lines shelf told t u tower shelf' statuses.WriteFault runs left after names c = record { told = told; reached = u; first = all_first plan (opening plan shelf) lines told u runs; closing = extends_one told t (notes.Fault faults.ReadFault) c; left = left; after = after }
-read_fault_from plan lines shelf told t u tower shelf' statuses.Memory runs left after names c = (part_from plan (opening plan shelf) lines told t u (notes.Fault faults.ReadFault) (all_first plan (opening plan shelf) lines told u runs) c, names)
-read_fault_from plan lines shelf told t u tower shelf' s runs left after names c = cc
+read_fault_from : (plan : Plan) (lines : List (List ℕ)) (start : Stage) (told t : List Note) (u : Stage) (tower : Option Tower) (shelf' : List Slot) (s : Status) → Runs plan 1 start lines told u → tower ≡ Some u.world.tower → shelf' ≡ u.shelf → HasNames start.shelf shelf' → ClosedBy statuses.ReadFault (notes.Fault faults.ReadFault) told s t → PlayOutcomes plan (Some faults.ReadFault) lines start s t tower shelf'
+read_fault_from plan lines start told t u tower shelf' statuses.ReadFault runs left after names c = (refl, record { told = told; reached = u; ran = runs; notes = c.1; left = left; shelf = after })
+read_fault_from plan lines start told t u tower shelf' statuses.WriteFault runs left after names c = record { told = told; reached = u; first = all_first plan start lines told u runs; closing = extends_one told t (notes.Fault faults.ReadFault) c; left = left; after = after }
+read_fault_from plan lines start told t u tower shelf' statuses.Memory runs left after names c = (part_from plan start lines told t u (notes.Fault faults.ReadFault) (all_first plan start lines told u runs) c, names)
+read_fault_from plan lines start told t u tower shelf' s runs left after names c = cc
 
-too_large_from : (plan : Plan) (lines : List (List ℕ)) (shelf : List Slot) (told t : List Note) (u : Stage) (tower : Option Air) (shelf' : List Slot) (s : Status) → Runs plan 1 (opening plan shelf) lines told u → tower ≡ Some u.world.tower → shelf' ≡ u.shelf → HasNames shelf shelf' → ClosedBy statuses.TooLarge (notes.Fault faults.TooLarge) told s t → PlayOutcomes plan (Some faults.TooLarge) lines shelf s t tower shelf'
-too_large_from plan lines shelf told t u tower shelf' statuses.TooLarge runs left after names c = (refl, record { told = told; reached = u; ran = runs; notes = c.1; left = left; shelf = after })
-too_large_from plan lines shelf told t u tower shelf' statuses.WriteFault runs left after names c = record { told = told; reached = u; first = all_first plan (opening plan shelf) lines told u runs; closing = extends_one told t (notes.Fault faults.TooLarge) c; left = left; after = after }
-too_large_from plan lines shelf told t u tower shelf' statuses.Memory runs left after names c = (part_from plan (opening plan shelf) lines told t u (notes.Fault faults.TooLarge) (all_first plan (opening plan shelf) lines told u runs) c, names)
-too_large_from plan lines shelf told t u tower shelf' s runs left after names c = cc
+too_large_from : (plan : Plan) (lines : List (List ℕ)) (start : Stage) (told t : List Note) (u : Stage) (tower : Option Tower) (shelf' : List Slot) (s : Status) → Runs plan 1 start lines told u → tower ≡ Some u.world.tower → shelf' ≡ u.shelf → HasNames start.shelf shelf' → ClosedBy statuses.TooLarge (notes.Fault faults.TooLarge) told s t → PlayOutcomes plan (Some faults.TooLarge) lines start s t tower shelf'
+too_large_from plan lines start told t u tower shelf' statuses.TooLarge runs left after names c = (refl, record { told = told; reached = u; ran = runs; notes = c.1; left = left; shelf = after })
+too_large_from plan lines start told t u tower shelf' statuses.WriteFault runs left after names c = record { told = told; reached = u; first = all_first plan start lines told u runs; closing = extends_one told t (notes.Fault faults.TooLarge) c; left = left; after = after }
+too_large_from plan lines start told t u tower shelf' statuses.Memory runs left after names c = (part_from plan start lines told t u (notes.Fault faults.TooLarge) (all_first plan start lines told u runs) c, names)
+too_large_from plan lines start told t u tower shelf' s runs left after names c = cc
 
-pub ended_from : (plan : Plan) (lines : List (List ℕ)) (shelf : List Slot) (told t : List Note) (u : Stage) (tower : Option Air) (shelf' : List Slot) (s : Status) (fault : Fault) → IsEnding (Some fault) → Runs plan 1 (opening plan shelf) lines told u → tower ≡ Some u.world.tower → shelf' ≡ u.shelf → HasNames shelf shelf' → ClosedBy (status_of fault) (notes.Fault fault) told s t → PlayOutcomes plan (Some fault) lines shelf s t tower shelf'
-ended_from plan lines shelf told t u tower shelf' s faults.ReadFault is runs left after names c = read_fault_from plan lines shelf told t u tower shelf' s runs left after names c
-ended_from plan lines shelf told t u tower shelf' s faults.TooLarge is runs left after names c = too_large_from plan lines shelf told t u tower shelf' s runs left after names c
-ended_from plan lines shelf told t u tower shelf' s fault is runs left after names c = absurd is
+pub ended_from : (plan : Plan) (lines : List (List ℕ)) (start : Stage) (told t : List Note) (u : Stage) (tower : Option Tower) (shelf' : List Slot) (s : Status) (fault : Fault) → IsEnding (Some fault) → Runs plan 1 start lines told u → tower ≡ Some u.world.tower → shelf' ≡ u.shelf → HasNames start.shelf shelf' → ClosedBy (status_of fault) (notes.Fault fault) told s t → PlayOutcomes plan (Some fault) lines start s t tower shelf'
+ended_from plan lines start told t u tower shelf' s faults.ReadFault is runs left after names c = read_fault_from plan lines start told t u tower shelf' s runs left after names c
+ended_from plan lines start told t u tower shelf' s faults.TooLarge is runs left after names c = too_large_from plan lines start told t u tower shelf' s runs left after names c
+ended_from plan lines start told t u tower shelf' s fault is runs left after names c = absurd is
 
 -- a line was outside the grammar, and its fault was told
-bad_closed : (plan : Plan) (ending : Option Fault) (lines : List (List ℕ)) (shelf : List Slot) (told t : List Note) (u : Stage) (tower : Option Air) (shelf' : List Slot) (s : Status) (bad : BadLine) (line n field : ℕ) → fault_of bad ≡ faults.Schedule line n field → StopsAt plan (opening plan shelf) lines bad told u → tower ≡ Some u.world.tower → shelf' ≡ u.shelf → HasNames shelf shelf' → ClosedBy (statuses.Schedule line n field) (notes.Fault (fault_of bad)) told s t → PlayOutcomes plan ending lines shelf s t tower shelf'
-bad_closed plan ending lines shelf told t u tower shelf' (statuses.Schedule l m f) bad line n field is stops left after names c = (bad, is ∙ cc, record { told = told; reached = u; ran = stops; notes = c.1; left = left; shelf = after })
-bad_closed plan ending lines shelf told t u tower shelf' statuses.WriteFault bad line n field is stops left after names c = record { told = told; reached = u; first = stop_first plan (opening plan shelf) lines bad told u stops; closing = extends_one told t (notes.Fault (fault_of bad)) c; left = left; after = after }
-bad_closed plan ending lines shelf told t u tower shelf' statuses.Memory bad line n field is stops left after names c = (part_from plan (opening plan shelf) lines told t u (notes.Fault (fault_of bad)) (stop_first plan (opening plan shelf) lines bad told u stops) c, names)
-bad_closed plan ending lines shelf told t u tower shelf' s bad line n field is stops left after names c = cc
+bad_closed : (plan : Plan) (ending : Option Fault) (lines : List (List ℕ)) (start : Stage) (told t : List Note) (u : Stage) (tower : Option Tower) (shelf' : List Slot) (s : Status) (bad : BadLine) (line n field : ℕ) → fault_of bad ≡ faults.Schedule line n field → StopsAt plan start lines bad told u → tower ≡ Some u.world.tower → shelf' ≡ u.shelf → HasNames start.shelf shelf' → ClosedBy (statuses.Schedule line n field) (notes.Fault (fault_of bad)) told s t → PlayOutcomes plan ending lines start s t tower shelf'
+bad_closed plan ending lines start told t u tower shelf' (statuses.Schedule l m f) bad line n field is stops left after names c = (bad, is ∙ cc, record { told = told; reached = u; ran = stops; notes = c.1; left = left; shelf = after })
+bad_closed plan ending lines start told t u tower shelf' statuses.WriteFault bad line n field is stops left after names c = record { told = told; reached = u; first = stop_first plan start lines bad told u stops; closing = extends_one told t (notes.Fault (fault_of bad)) c; left = left; after = after }
+bad_closed plan ending lines start told t u tower shelf' statuses.Memory bad line n field is stops left after names c = (part_from plan start lines told t u (notes.Fault (fault_of bad)) (stop_first plan start lines bad told u stops) c, names)
+bad_closed plan ending lines start told t u tower shelf' s bad line n field is stops left after names c = cc
 
 schedule_is : (line : ℕ) (e : LineError) → (n : ℕ) × (field : ℕ) × (fault_at line e ≡ faults.Schedule line n field)
 schedule_is line errors.Memory = (1, 0, refl)
@@ -112,38 +118,38 @@ schedule_is line (errors.BadName n) = (4, n, refl)
 schedule_is line (errors.Extra n) = (5, n, refl)
 schedule_is line (errors.BadBytes n) = (6, n, refl)
 
-pub bad_from : (plan : Plan) (ending : Option Fault) (lines : List (List ℕ)) (shelf : List Slot) (told t : List Note) (u : Stage) (tower : Option Air) (shelf' : List Slot) (s : Status) (bad : BadLine) → StopsAt plan (opening plan shelf) lines bad told u → tower ≡ Some u.world.tower → shelf' ≡ u.shelf → HasNames shelf shelf' → ClosedBy (status_of (fault_of bad)) (notes.Fault (fault_of bad)) told s t → PlayOutcomes plan ending lines shelf s t tower shelf'
-bad_from plan ending lines shelf told t u tower shelf' s bad stops left after names c =
+pub bad_from : (plan : Plan) (ending : Option Fault) (lines : List (List ℕ)) (start : Stage) (told t : List Note) (u : Stage) (tower : Option Tower) (shelf' : List Slot) (s : Status) (bad : BadLine) → StopsAt plan start lines bad told u → tower ≡ Some u.world.tower → shelf' ≡ u.shelf → HasNames start.shelf shelf' → ClosedBy (status_of (fault_of bad)) (notes.Fault (fault_of bad)) told s t → PlayOutcomes plan ending lines start s t tower shelf'
+bad_from plan ending lines start told t u tower shelf' s bad stops left after names c =
     let k = schedule_is bad.number bad.error in
     let c' : ClosedBy (statuses.Schedule bad.number k.0 k.1) (notes.Fault (fault_of bad)) told s t = subst (λ (f : Fault). ClosedBy (status_of f) (notes.Fault (fault_of bad)) told s t) k.2 c in
-    bad_closed plan ending lines shelf told t u tower shelf' s bad bad.number k.0 k.1 k.2 stops left after names c'
+    bad_closed plan ending lines start told t u tower shelf' s bad bad.number k.0 k.1 k.2 stops left after names c'
 
 -- the run was stopped
-pub stop_from : (plan : Plan) (ending : Option Fault) (lines : List (List ℕ)) (shelf : List Slot) (t : List Note) (u : Stage) (tower : Option Air) (shelf' : List Slot) (stop : Stop) → LinesRan plan (opening plan shelf) lines t u (Err stop) → tower ≡ Some u.world.tower → shelf' ≡ u.shelf → HasNames shelf shelf' → PlayOutcomes plan ending lines shelf (status_stopped stop) t tower shelf'
-stop_from plan ending lines shelf t u tower shelf' stops.Memory ran left after names = (ran, names)
-stop_from plan ending lines shelf t u tower shelf' stops.WriteFault ran left after names = record { told = t; reached = u; first = ran; closing = record { notes = []; trace = sym (append-nil t) }; left = left; after = after }
+pub stop_from : (plan : Plan) (ending : Option Fault) (lines : List (List ℕ)) (start : Stage) (t : List Note) (u : Stage) (tower : Option Tower) (shelf' : List Slot) (stop : Stop) → LinesRan plan start lines t u (Err stop) → tower ≡ Some u.world.tower → shelf' ≡ u.shelf → HasNames start.shelf shelf' → PlayOutcomes plan ending lines start (status_stopped stop) t tower shelf'
+stop_from plan ending lines start t u tower shelf' stops.Memory ran left after names = (ran, names)
+stop_from plan ending lines start t u tower shelf' stops.WriteFault ran left after names = record { told = t; reached = u; first = ran; closing = record { notes = []; trace = sym (append-nil t) }; left = left; after = after }
 
 -- a stack that is no TOML, or breaks a rule
-pub not_toml_from : (text : List ℕ) (s : Status) (t : List Note) → ReadsBuilt (Err stack.NotToml) text → RefusedBy faults.NotToml s t → StackOutcomes text s t
-not_toml_from text statuses.NotToml t reads r = (reads, r.1)
-not_toml_from text statuses.WriteFault t reads r = (faults.NotToml, r)
-not_toml_from text statuses.Memory t reads (inl p) = inl p
-not_toml_from text statuses.Memory t reads (inr p) = inr (faults.NotToml, p)
-not_toml_from text s t reads r = cc
+pub not_toml_from : (known : List ℕ → Bool) (text : List ℕ) (s : Status) (t : List Note) → ReadsRunnable known (Err stack.NotToml) text → RefusedBy faults.NotToml s t → StackOutcomes known text s t
+not_toml_from known text statuses.NotToml t reads r = (reads, r.1)
+not_toml_from known text statuses.WriteFault t reads r = (faults.NotToml, r)
+not_toml_from known text statuses.Memory t reads (inl p) = inl p
+not_toml_from known text statuses.Memory t reads (inr p) = inr (faults.NotToml, p)
+not_toml_from known text s t reads r = cc
 
-pub rule_from : (text : List ℕ) (s : Status) (t : List Note) (n item : ℕ) → ReadsBuilt (Err (stack.StackRule n item)) text → RefusedBy (faults.StackRule n item) s t → StackOutcomes text s t
-rule_from text (statuses.StackRule m k) t n item reads r =
+pub rule_from : (known : List ℕ → Bool) (text : List ℕ) (s : Status) (t : List Note) (n item : ℕ) → ReadsRunnable known (Err (stack.StackRule n item)) text → RefusedBy (faults.StackRule n item) s t → StackOutcomes known text s t
+rule_from known text (statuses.StackRule m k) t n item reads r =
     let same : stack.StackRule n item ≡ stack.StackRule m k = cc in
-    (subst (λ (e : StackError). ReadsBuilt (Err e) text) same reads, r.1 ∙ cc)
-rule_from text statuses.WriteFault t n item reads r = (faults.StackRule n item, r)
-rule_from text statuses.Memory t n item reads (inl p) = inl p
-rule_from text statuses.Memory t n item reads (inr p) = inr (faults.StackRule n item, p)
-rule_from text s t n item reads r = cc
+    (subst (λ (e : StackError). ReadsRunnable known (Err e) text) same reads, r.1 ∙ cc)
+rule_from known text statuses.WriteFault t n item reads r = (faults.StackRule n item, r)
+rule_from known text statuses.Memory t n item reads (inl p) = inl p
+rule_from known text statuses.Memory t n item reads (inr p) = inr (faults.StackRule n item, p)
+rule_from known text s t n item reads r = cc
 
 -- a stack that was accepted
-pub script_from : (ending : Option Fault) (s : Script) (shelf : List Slot) (status : Status) (t : List Note) (tower : Option Air) (shelf' : List Slot) (plan : Plan) → ReadsBuilt (Ok plan) s.stack → IsSome tower → PlayOutcomes plan ending s.lines shelf status t tower shelf' → ScriptOutcomes ending s shelf status t tower shelf'
-script_from ending s shelf status t (Some a) shelf' plan reads is played = (plan, reads, played)
-script_from ending s shelf status t None shelf' plan reads is played = cc
+pub script_from : (known : List ℕ → Bool) (ending : Option Fault) (s : Script) (shelf : List Slot) (w : World) (status : Status) (t : List Note) (tower : Option Tower) (shelf' : List Slot) (plan : Plan) → ReadsRunnable known (Ok plan) s.stack → ((slots : List Slot) → IsOpening plan slots (stage w slots)) → IsSome tower → PlayOutcomes plan ending s.lines (stage w shelf) status t tower shelf' → ScriptOutcomes known ending s shelf status t tower shelf'
+script_from known ending s shelf w status t (Some a) shelf' plan reads opens is played = (plan, reads, stage w shelf, opens shelf, played)
+script_from known ending s shelf w status t None shelf' plan reads opens is played = cc
 
 -- a fault that is told is no write fault
 pub is_told : (fault : Fault) → ¬ (status_of fault ≡ statuses.WriteFault)
@@ -157,36 +163,39 @@ is_told faults.ReadFault h = cc
 pub front_same : (base took : Option (List ℕ)) (old new : List Note) → new ≡ old → Appends base took (text_of old) → IsFront base took (text_of new)
 front_same base took old new is p = rw is (wrote_all base took old p)
 
-ran : (left left' : Option (List ℕ)) (bytes used : List ℕ) (ending : Option Fault) (shelf : List Slot) (s : Status) (t : List Note) (tower : Option Air) (shelf' : List Slot) → used ≡ take 16777216 bytes → Consumes left left' bytes → EndedBy ending left' bytes → ((IsNothing s t tower × (shelf' ≡ shelf)) ⊎ InputOutcomes ending (script_in (is_whole ending) used) shelf s t tower shelf') → RunOutcomes None left left' shelf s t tower shelf'
-ran left left' bytes used ending shelf s t tower shelf' is read ended (inl n) = inl n
-ran left left' bytes used ending shelf s t tower shelf' is read ended (inr o) = inr (record { bytes = bytes; ending = ending; read = read; ended = ended; outcome = subst (λ (bs : List ℕ). InputOutcomes ending (script_in (is_whole ending) bs) shelf s t tower shelf') is o })
+ran : (known : List ℕ → Bool) (left left' : Option (List ℕ)) (bytes used : List ℕ) (ending : Option Fault) (shelf : List Slot) (s : Status) (t : List Note) (tower : Option Tower) (shelf' : List Slot) → used ≡ take 16777216 bytes → Consumes left left' bytes → EndedBy ending left' bytes → ((IsNothing s t tower × (shelf' ≡ shelf)) ⊎ InputOutcomes known ending (script_in (is_whole ending) used) shelf s t tower shelf') → RunOutcomes known None left left' shelf s t tower shelf'
+ran known left left' bytes used ending shelf s t tower shelf' is read ended (inl n) = inl n
+ran known left left' bytes used ending shelf s t tower shelf' is read ended (inr o) = inr (record { bytes = bytes; ending = ending; read = read; ended = ended; outcome = subst (λ (bs : List ℕ). InputOutcomes known ending (script_in (is_whole ending) bs) shelf s t tower shelf') is o })
 
 -- the input was read to its end
-pub ran_whole : (words : Option ℕ) (left left' : Option (List ℕ)) (bytes : List ℕ) (shelf : List Slot) (s : Status) (t : List Note) (tower : Option Air) (shelf' : List Slot) → words ≡ None → Consumes left left' bytes → IsAtEnd left' → length bytes ≤ 16777216 → ((IsNothing s t tower × (shelf' ≡ shelf)) ⊎ InputOutcomes None (script_in true bytes) shelf s t tower shelf') → RunOutcomes words left left' shelf s t tower shelf'
-ran_whole words left left' bytes shelf s t tower shelf' none read end small o = rw none (ran left left' bytes bytes None shelf s t tower shelf' (sym (take_all 16777216 bytes small)) read (end, small) o)
+pub ran_whole : (known : List ℕ → Bool) (words : Option ℕ) (left left' : Option (List ℕ)) (bytes : List ℕ) (shelf : List Slot) (s : Status) (t : List Note) (tower : Option Tower) (shelf' : List Slot) → words ≡ None → Consumes left left' bytes → IsAtEnd left' → length bytes ≤ 16777216 → ((IsNothing s t tower × (shelf' ≡ shelf)) ⊎ InputOutcomes known None (script_in true bytes) shelf s t tower shelf') → RunOutcomes known words left left' shelf s t tower shelf'
+ran_whole known words left left' bytes shelf s t tower shelf' none read end small o = rw none (ran known left left' bytes bytes None shelf s t tower shelf' (sym (take_all 16777216 bytes small)) read (end, small) o)
 
 -- a read failed
-pub ran_fault : (words : Option ℕ) (left left' : Option (List ℕ)) (bytes : List ℕ) (shelf : List Slot) (s : Status) (t : List Note) (tower : Option Air) (shelf' : List Slot) → words ≡ None → Consumes left left' bytes → length bytes ≤ 16777216 → ((IsNothing s t tower × (shelf' ≡ shelf)) ⊎ InputOutcomes (Some faults.ReadFault) (script_in false bytes) shelf s t tower shelf') → RunOutcomes words left left' shelf s t tower shelf'
-ran_fault words left left' bytes shelf s t tower shelf' none read small o = rw none (ran left left' bytes bytes (Some faults.ReadFault) shelf s t tower shelf' (sym (take_all 16777216 bytes small)) read small o)
+pub ran_fault : (known : List ℕ → Bool) (words : Option ℕ) (left left' : Option (List ℕ)) (bytes : List ℕ) (shelf : List Slot) (s : Status) (t : List Note) (tower : Option Tower) (shelf' : List Slot) → words ≡ None → Consumes left left' bytes → length bytes ≤ 16777216 → ((IsNothing s t tower × (shelf' ≡ shelf)) ⊎ InputOutcomes known (Some faults.ReadFault) (script_in false bytes) shelf s t tower shelf') → RunOutcomes known words left left' shelf s t tower shelf'
+ran_fault known words left left' bytes shelf s t tower shelf' none read small o = rw none (ran known left left' bytes bytes (Some faults.ReadFault) shelf s t tower shelf' (sym (take_all 16777216 bytes small)) read small o)
 
 -- the input was too large
-pub ran_large : (words : Option ℕ) (left left' : Option (List ℕ)) (bytes used : List ℕ) (shelf : List Slot) (s : Status) (t : List Note) (tower : Option Air) (shelf' : List Slot) → words ≡ None → Consumes left left' bytes → 16777216 < length bytes → used ≡ take 16777216 bytes → ((IsNothing s t tower × (shelf' ≡ shelf)) ⊎ InputOutcomes (Some faults.TooLarge) (script_in false used) shelf s t tower shelf') → RunOutcomes words left left' shelf s t tower shelf'
-ran_large words left left' bytes used shelf s t tower shelf' none read large is o = rw none (ran left left' bytes used (Some faults.TooLarge) shelf s t tower shelf' is read large o)
+pub ran_large : (known : List ℕ → Bool) (words : Option ℕ) (left left' : Option (List ℕ)) (bytes used : List ℕ) (shelf : List Slot) (s : Status) (t : List Note) (tower : Option Tower) (shelf' : List Slot) → words ≡ None → Consumes left left' bytes → 16777216 < length bytes → used ≡ take 16777216 bytes → ((IsNothing s t tower × (shelf' ≡ shelf)) ⊎ InputOutcomes known (Some faults.TooLarge) (script_in false used) shelf s t tower shelf') → RunOutcomes known words left left' shelf s t tower shelf'
+ran_large known words left left' bytes used shelf s t tower shelf' none read large is o = rw none (ran known left left' bytes used (Some faults.TooLarge) shelf s t tower shelf' is read large o)
 
 -- a read fault is told only where a read failed
-no_read_fault : (script : Option Script) (shelf : List Slot) (t : List Note) (tower : Option Air) (shelf' : List Slot) → InputOutcomes (Some faults.TooLarge) script shelf statuses.ReadFault t tower shelf' → ⊥
-no_read_fault None shelf t tower shelf' (left, r, same) = cc
-no_read_fault (Some s) shelf t None shelf' o = o.0
-no_read_fault (Some s) shelf t (Some a) shelf' (plan, reads, played) = cc
+no_read_fault : (known : List ℕ → Bool) (script : Option Script) (shelf : List Slot) (t : List Note) (tower : Option Tower) (shelf' : List Slot) → InputOutcomes known (Some faults.TooLarge) script shelf statuses.ReadFault t tower shelf' → ⊥
+no_read_fault known None shelf t tower shelf' (left, r, same) = cc
+no_read_fault known (Some s) shelf t None shelf' o = o.0
+no_read_fault known (Some s) shelf t (Some a) shelf' (plan, reads, start, opens, played) = cc
 
-pub not_read : (script : Option Script) (shelf : List Slot) (s : Status) (t : List Note) (tower : Option Air) (shelf' : List Slot) → ((IsNothing s t tower × (shelf' ≡ shelf)) ⊎ InputOutcomes (Some faults.TooLarge) script shelf s t tower shelf') → s ≡ statuses.ReadFault → ⊥
-not_read script shelf s t tower shelf' (inl n) is = let e : statuses.Memory ≡ statuses.ReadFault = sym n.0.memory ∙ is in cc
-not_read script shelf s t tower shelf' (inr o) is = no_read_fault script shelf t tower shelf' (subst (λ (u : Status). InputOutcomes (Some faults.TooLarge) script shelf u t tower shelf') is o)
+pub not_read : (known : List ℕ → Bool) (script : Option Script) (shelf : List Slot) (s : Status) (t : List Note) (tower : Option Tower) (shelf' : List Slot) → ((IsNothing s t tower × (shelf' ≡ shelf)) ⊎ InputOutcomes known (Some faults.TooLarge) script shelf s t tower shelf') → s ≡ statuses.ReadFault → ⊥
+not_read known script shelf s t tower shelf' (inl n) is = let e : statuses.Memory ≡ statuses.ReadFault = sym n.0.memory ∙ is in cc
+not_read known script shelf s t tower shelf' (inr o) is = no_read_fault known script shelf t tower shelf' (subst (λ (u : Status). InputOutcomes known (Some faults.TooLarge) script shelf u t tower shelf') is o)
 
--- sound wires keep their flows
-pub kept_if : (tower : Option Air) → IfSome tower IsSound → IfSome tower (λ a. AreKept (seen_of a))
-kept_if None s = s
-kept_if (Some a) s = s.kept
+-- the ranks of a tower that stands keep their flows
+kept_all : (t : Tower) → IsTower t → KeepsAll t
+kept_all t v rank u at = kept_of u (rank_valid t rank u v at)
+
+pub kept_if : (tower : Option Tower) → IfSome tower IsTower → IfSome tower KeepsAll
+kept_if None v = v
+kept_if (Some t) v = kept_all t v
 
 -- a state of wires that has failed
 cut_by : (now : ℕ) (fail : Fail) → IsWireState now (Failed fail) → IsCutBy now fail
@@ -195,12 +204,19 @@ cut_by now (Below port) w = w
 cut_by now (Cut at) w = w
 
 -- the ends of sound wires fail by cuts
-failed_all : (a : Air) → IsSound a → FailedByCut (seen_of a)
-failed_all a s n f h i e at fail failed =
+wires_cut : (a : Air) → IsSound a → AreCut (seen_of (Wires a))
+wires_cut a s n f h i e at fail failed =
     let w = is_mapped fac_of (wire_at a n) f (sym (slice_get-map fac_of a.wires n) ∙ h) in
     let at' : slice_get w.0.ends i ≡ Some e = subst (λ (g : Fac). slice_get g.ends i ≡ Some e) (sym w.2) at in
     cut_by a.now fail (subst (IsWireState a.now) failed ((s.flows n w.0 w.1).sound.each i e at').state)
 
-pub failed_by_cut : (tower : Option Air) → IfSome tower IsSound → IfSome tower (λ a. FailedByCut (seen_of a))
-failed_by_cut None s = s
-failed_by_cut (Some a) s = failed_all a s
+failed_all : (t : Tower) → IsTower t → FailedByCut t
+failed_all (Wires a) v u at = subst (λ (s : Tower). AreCut (seen_of s)) (same_Some (Wires a) u at) (wires_cut a v)
+failed_all (Rank' p difs below) v u at = elim (eqb_tells 0 (height_of below + 1)) [
+  | inl h ↦ absurd (omega (arith, h.1))
+  | inr f ↦ failed_all below v.1 u (rw f.0 at at)
+]
+
+pub failed_by_cut : (tower : Option Tower) → IfSome tower IsTower → IfSome tower FailedByCut
+failed_by_cut None v = v
+failed_by_cut (Some t) v = failed_all t v

@@ -7,20 +7,21 @@ use Rattle.rina_report.specs.declared.note.Note.{Note}
 use Rattle.rina_report.specs.declared.said.Said.{Said}
 use Rattle.rina_report.specs.declared.said.Said.TheVariants as said
 use Rattle.rina_stack.specs.declared.plan.Plan.{Plan}
-use Rattle.rina_wire.specs.Air.{Air}
+use Rattle.rina_tower.specs.declared.tower.Tower.{Tower}
+use Rattle.rina_tower.specs.Ranks.{now_of}
 use Rattle.rina_run.specs.declared.labels.Label.{Label}
 use Rattle.rina_run.specs.Told.{drawn_told}
 use Rattle.rina_run.specs.Look.{same_drawn, state_at, noted, label_notes, state_notes, shown_now, looked}
 
 -- the state was told before
-pub told_before : (plan : Plan) (line : ℕ) (a : Air) (l : Label) (ns : List Note) → true ≡ same_drawn (state_at a l.port) l.shown → ns ≡ ns ++ label_notes plan line a l
+pub told_before : (plan : Plan) (line : ℕ) (t : Tower) (l : Label) (ns : List Note) → true ≡ same_drawn (state_at t l.rank l.port) l.shown → ns ≡ ns ++ label_notes plan line t l
 unfolding label_notes
-told_before plan line a l ns same = rw (sym same) (sym (append-nil ns))
+told_before plan line t l ns same = rw (sym same) (sym (append-nil ns))
 
 -- the state is told now
-pub told_now : (plan : Plan) (line : ℕ) (a : Air) (l : Label) (says : Option Said) → false ≡ same_drawn (state_at a l.port) l.shown → says ≡ option_map (said.Label l.name) (drawn_told plan l.rank (state_at a l.port)) → noted line a.now says ≡ label_notes plan line a l
+pub told_now : (plan : Plan) (line : ℕ) (t : Tower) (l : Label) (says : Option Said) → false ≡ same_drawn (state_at t l.rank l.port) l.shown → says ≡ option_map (said.Label l.name) (drawn_told plan l.rank (state_at t l.rank l.port)) → noted line (now_of t) says ≡ label_notes plan line t l
 unfolding label_notes
-told_now plan line a l says differs is = rw (sym differs, is) refl
+told_now plan line t l says differs is = rw (sym differs, is) refl
 
 module _ {X : Type 0} where
   seen_after : (f : X → X) (xs : List X) (i : ℕ) → slice_get (map f (take i xs) ++ drop i xs) i ≡ slice_get xs i
@@ -45,17 +46,17 @@ module _ {X : Type 0} where
   taken_more (y ∷ xs) (suc i) x h = ap (λ (zs : List X). y ∷ zs) (taken_more xs i x h)
 
 -- the labels before the one at i have told their states, and so has that one
-pub look_labels : (a : Air) (ls now : List Label) (i : ℕ) (after : List Label) → i < length ls → now ≡ looked a (take i ls) ++ drop i ls → ((l : Label) → slice_get now i ≡ Some l → after ≡ slice_set now i (shown_now a l)) → after ≡ looked a (take (i + 1) ls) ++ drop (i + 1) ls
-look_labels a ls now i after lt is step =
+pub look_labels : (t : Tower) (ls now : List Label) (i : ℕ) (after : List Label) → i < length ls → now ≡ looked t (take i ls) ++ drop i ls → ((l : Label) → slice_get now i ≡ Some l → after ≡ slice_set now i (shown_now t l)) → after ≡ looked t (take (i + 1) ls) ++ drop (i + 1) ls
+look_labels t ls now i after lt is step =
     let (l, at) = there_is ls i lt in
-    let seen : slice_get now i ≡ Some l = ap (λ (zs : List Label). slice_get zs i) is ∙ seen_after (shown_now a) ls i ∙ at in
-    rw (add-one i) (step l seen ∙ ap (λ (zs : List Label). slice_set zs i (shown_now a l)) is ∙ set_after (shown_now a) ls i l at)
+    let seen : slice_get now i ≡ Some l = ap (λ (zs : List Label). slice_get zs i) is ∙ seen_after (shown_now t) ls i ∙ at in
+    rw (add-one i) (step l seen ∙ ap (λ (zs : List Label). slice_set zs i (shown_now t l)) is ∙ set_after (shown_now t) ls i l at)
 
-pub look_notes : (plan : Plan) (line : ℕ) (a : Air) (ls now : List Label) (i : ℕ) (start mid after : List Note) → i < length ls → now ≡ looked a (take i ls) ++ drop i ls → mid ≡ start ++ state_notes plan line a (take i ls) → ((l : Label) → slice_get now i ≡ Some l → after ≡ mid ++ label_notes plan line a l) → after ≡ start ++ state_notes plan line a (take (i + 1) ls)
-look_notes plan line a ls now i start mid after lt is so_far step =
+pub look_notes : (plan : Plan) (line : ℕ) (t : Tower) (ls now : List Label) (i : ℕ) (start mid after : List Note) → i < length ls → now ≡ looked t (take i ls) ++ drop i ls → mid ≡ start ++ state_notes plan line t (take i ls) → ((l : Label) → slice_get now i ≡ Some l → after ≡ mid ++ label_notes plan line t l) → after ≡ start ++ state_notes plan line t (take (i + 1) ls)
+look_notes plan line t ls now i start mid after lt is so_far step =
     let (l, at) = there_is ls i lt in
-    let seen : slice_get now i ≡ Some l = ap (λ (zs : List Label). slice_get zs i) is ∙ seen_after (shown_now a) ls i ∙ at in
-    let f = label_notes plan line a in
-    let one : state_notes plan line a (take (suc i) ls) ≡ state_notes plan line a (take i ls) ++ label_notes plan line a l =
+    let seen : slice_get now i ≡ Some l = ap (λ (zs : List Label). slice_get zs i) is ∙ seen_after (shown_now t) ls i ∙ at in
+    let f = label_notes plan line t in
+    let one : state_notes plan line t (take (suc i) ls) ≡ state_notes plan line t (take i ls) ++ label_notes plan line t l =
     ap (flat_map f) (taken_more ls i l at) ∙ flat_map-append f (take i ls) (l ∷ []) ∙ ap (λ (ns : List Note). flat_map f (take i ls) ++ ns) (flat_map-cons f l [] ∙ append-nil (f l)) in
-    rw (add-one i, one) (step l seen ∙ ap (λ (ns : List Note). ns ++ label_notes plan line a l) so_far ∙ append_assoc start (state_notes plan line a (take i ls)) (label_notes plan line a l))
+    rw (add-one i, one) (step l seen ∙ ap (λ (ns : List Note). ns ++ label_notes plan line t l) so_far ∙ append_assoc start (state_notes plan line t (take i ls)) (label_notes plan line t l))

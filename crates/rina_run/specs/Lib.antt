@@ -6,8 +6,7 @@ pub mod Told
 pub mod StepTold
 pub mod Look
 pub mod Step
+pub mod Opening
 pub mod Run
 pub mod Written
 pub mod Top
-pub mod Frames
-pub mod Labels

@@ -1,5 +1,5 @@
 -- The states of labelled ports: which changed since they were told last.
-use Rattle.std.specs.Prelude.{◌≡◌, ℕ, ◌++◌, ◌==◌, ◌&&◌, Bool, true, false, List, [], ◌∷◌, map, Option, Some, None, option_map, if◌then◌else◌}
+use Rattle.std.specs.Prelude.{◌≡◌, ℕ, ◌++◌, ◌==◌, ◌&&◌, Bool, true, false, List, [], ◌∷◌, map, Option, Some, None, option_and_then, option_map, slice_get, if◌then◌else◌}
 use Rattle.std.specs.List.{flat_map}
 use Rattle.rina_base.specs.declared.number.Port.{Port}
 use Rattle.rina_base.specs.declared.number.Num.{Num}
@@ -14,8 +14,10 @@ use Rattle.rina_report.specs.declared.note.Note.TheVariants as notes
 use Rattle.rina_report.specs.declared.said.Said.{Said}
 use Rattle.rina_report.specs.declared.said.Said.TheVariants as said
 use Rattle.rina_stack.specs.declared.plan.Plan.{Plan}
-use Rattle.rina_iface.specs.Seen.{state_of}
-use Rattle.rina_wire.specs.Air.{Air, seen_of}
+use Rattle.rina_iface.specs.declared.ends.End.{End}
+use Rattle.rina_iface.specs.Seen.{Fac, state_of}
+use Rattle.rina_tower.specs.declared.tower.Tower.{Tower}
+use Rattle.rina_tower.specs.Ranks.{now_of, rank_of, seen_of}
 use Rattle.rina_run.specs.declared.labels.Label.{Label}
 use Rattle.rina_run.specs.Told.{drawn_told}
 
@@ -52,9 +54,17 @@ same_drawn None None = true
 same_drawn (Some a) (Some b) = same_state a b
 same_drawn a b = false
 
--- the state of a port
-abbrev pub state_at : Air → Port → Option PortState
-state_at a port = state_of (seen_of a) port
+abbrev pub or_no_ends : Option (List End) → List End
+or_no_ends None = []
+or_no_ends (Some ends) = ends
+
+-- the ends of a facility of a rank; none where there is no such facility
+abbrev pub ends_at : Tower → ℕ → ℕ → List End
+ends_at t rank fac = or_no_ends (option_and_then (λ (u : Tower). option_map (λ (f : Fac). f.ends) (slice_get (seen_of u).facs fac)) (rank_of t rank))
+
+-- the state of a port of a rank
+abbrev pub state_at : Tower → ℕ → Port → Option PortState
+state_at t rank port = option_and_then (λ u. state_of (seen_of u) port) (rank_of t rank)
 
 -- the note of what is said by a line at a tick, if anything is
 abbrev pub noted : ℕ → ℕ → Option Said → List Note
@@ -62,19 +72,19 @@ noted line tick None = []
 noted line tick (Some what) = notes.Line line tick what ∷ []
 
 -- what a label tells: its port's state, where that is not the one that was told last
-unfoldable pub label_notes : Plan → ℕ → Air → Label → List Note
-label_notes plan line a l = if same_drawn (state_at a l.port) l.shown then [] else noted line a.now (option_map (said.Label l.name) (drawn_told plan l.rank (state_at a l.port)))
+unfoldable pub label_notes : Plan → ℕ → Tower → Label → List Note
+label_notes plan line t l = if same_drawn (state_at t l.rank l.port) l.shown then [] else noted line (now_of t) (option_map (said.Label l.name) (drawn_told plan l.rank (state_at t l.rank l.port)))
 
 -- what all labels tell, in their order
-abbrev pub state_notes : Plan → ℕ → Air → List Label → List Note
-state_notes plan line a labels = flat_map (label_notes plan line a) labels
+abbrev pub state_notes : Plan → ℕ → Tower → List Label → List Note
+state_notes plan line t labels = flat_map (label_notes plan line t) labels
 
-abbrev pub shown_now : Air → Label → Label
-shown_now a l = record l { shown = state_at a l.port }
+abbrev pub shown_now : Tower → Label → Label
+shown_now t l = record l { shown = state_at t l.rank l.port }
 
 -- the labels after they have told their states
-abbrev pub looked : Air → List Label → List Label
-looked a labels = map (shown_now a) labels
+abbrev pub looked : Tower → List Label → List Label
+looked t labels = map (shown_now t) labels
 
 -- the trace went on with notes of which this holds
 pub record Leads (P : List Note → Type 0) (old new : List Note) : Type 0 where

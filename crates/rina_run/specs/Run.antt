@@ -1,17 +1,15 @@
 -- A run: the lines of a schedule one after the other, from a tower that was just built.
 use Rattle.std.specs.Prelude.{◌≡◌, ℕ, ◌+◌, List, [], ◌∷◌, ◌++◌, take, slice_get, Option, Some, None, Result, Ok, Err}
-use Rattle.rina_policy.specs.Slots.{Slot}
 use Rattle.rina_report.specs.declared.note.Note.{Note}
 use Rattle.rina_schedule.specs.declared.error.LineError.{LineError}
 use Rattle.rina_schedule.specs.declared.event.Event.{Event}
 use Rattle.rina_stack.specs.declared.plan.Plan.{Plan}
-use Rattle.rina_wire.specs.Plan.{air_of}
 use Rattle.rina_run.specs.Built.{event_at}
 use Rattle.rina_run.specs.declared.emit.Stop.{Stop}
 use Rattle.rina_run.specs.declared.emit.Stop.TheVariants as stops
 use Rattle.rina_run.specs.declared.play.BadLine.{BadLine}
 use Rattle.rina_run.specs.Look.{Leads, Extends}
-use Rattle.rina_run.specs.Step.{Stage, Steps, stage}
+use Rattle.rina_run.specs.Step.{Stage, Steps}
 
 -- what a line of this number does, by what it asks for: nothing where it is blank or a comment
 abbrev pub LineDoes : Plan → ℕ → Result (Option Event) LineError → Stage → List Note → Stage → Type 0
@@ -23,10 +21,6 @@ LineDoes plan number (Err e) s ns s' = ⊥
 abbrev pub Runs : Plan → ℕ → Stage → List (List ℕ) → List Note → Stage → Type 0
 Runs plan number s [] ns s' = (ns ≡ []) × (s' ≡ s)
 Runs plan number s (l ∷ ls) ns s' = (mid : Stage) × (first : List Note) × (rest : List Note) × LineDoes plan number (event_at l) s first mid × Runs plan (number + 1) mid ls rest s' × (ns ≡ first ++ rest)
-
--- the stage before the first line: the tower of the plan as it is built, no labels, and a shelf
-abbrev pub opening : Plan → List Slot → Stage
-opening plan shelf = stage (record { tower = air_of plan; labels = [] }) shelf
 
 -- what is known after a line was run and its notes were written, by how that ended
 abbrev pub Ran : {A : Type 0} → (List Note → Type 0) → List Note → List Note → Result A Stop → Type 0

@@ -16,14 +16,6 @@ abbrev pub known : {A : Type 0} → ℕ → Option A → Result A ℕ
 known field (Some x) = Ok x
 known field None = Err field
 
--- the facility and the node that two fields of a line name, of which the first is this one; or the
--- first of them that names nothing
-unfoldable pub site_at : Plan → ℕ → List ℕ → List ℕ → Result Site ℕ
-site_at plan field fac node = do
-  f ← known field (place_in (names_of plan.wires) fac)
-  n ← known (field + 1) (place_in plan.nodes node)
-  Ok (record { fac = f; node = n })
-
 -- a DIF has this rank
 abbrev pub has_rank : ℕ → DifPlan → Bool
 has_rank rank d = d.rank == rank
@@ -52,10 +44,29 @@ or_dif None dif = dif
 abbrev pub fac_named : Plan → List ℕ → Option RankedFac
 fac_named plan name = or_dif (place_in (names_of plan.wires) name) (dif_named plan.difs name)
 
+-- the place of a facility and a node that were found
+abbrev pub site_of : RankedFac → ℕ → Site
+site_of f n = record { rank = f.rank; fac = f.fac; node = n }
+
+-- the facility and the node that two fields of a line name, of which the first is this one; or the
+-- first of them that names nothing
+unfoldable pub site_at : Plan → ℕ → List ℕ → List ℕ → Result Site ℕ
+site_at plan field fac node = do
+  f ← known field (fac_named plan fac)
+  n ← known (field + 1) (place_in plan.nodes node)
+  Ok (site_of f n)
+
+-- the DIF and the node that the first two fields of a line name
+unfoldable pub dif_site_at : Plan → List ℕ → List ℕ → Result Site ℕ
+dif_site_at plan dif node = do
+  f ← known 1 (dif_named plan.difs dif)
+  n ← known 2 (place_in plan.nodes node)
+  Ok (site_of f n)
+
 -- the label of that name
 abbrev pub label_in : List Label → List ℕ → Option Label
 label_in labels name = find (λ (l : Label). bytes_eq l.name name) labels
 
--- the port of a label
-abbrev pub port_in : List Label → List ℕ → Option Port
-port_in labels name = option_map (λ (l : Label). l.port) (label_in labels name)
+-- the port of a label, and its rank before it
+abbrev pub port_in : List Label → List ℕ → Option (ℕ × Port)
+port_in labels name = option_map (λ (l : Label). (l.rank, l.port)) (label_in labels name)

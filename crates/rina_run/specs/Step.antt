@@ -1,9 +1,14 @@
 -- What each line of a schedule does to the tower, the labels and the shelf, and which notes it gives.
-use Rattle.std.specs.Prelude.{◌≡◌, ℕ, ◌+◌, zero, suc, nat_lt, Bool, true, false, List, [], ◌∷◌, ◌++◌, map, slice_get, Option, Some, None, Result, Ok, Err, option_and_then, option_map}
+use Rattle.std.specs.Prelude.{◌≡◌, ℕ, ◌+◌, zero, suc, min, nat_lt, Bool, true, false, List, [], ◌∷◌, ◌++◌, map, slice_get, Option, Some, None, Result, Ok, Err, option_and_then, option_map}
 use Rattle.std.specs.List.{flat_map}
+use Rattle.rina_account.specs.declared.ledger.Off.{Off}
 use Rattle.rina_base.specs.declared.number.Num.{Num}
 use Rattle.rina_base.specs.declared.number.Port.{Port}
 use Rattle.rina_cube.specs.declared.Want.{Want}
+use Rattle.rina_data.specs.declared.step.ClockStep.{ClockStep}
+use Rattle.rina_data.specs.declared.step.InStep.{InStep}
+use Rattle.rina_data.specs.declared.step.OutStep.{OutStep}
+use Rattle.rina_data.specs.declared.step.StepError.{StepError}
 use Rattle.rina_law.specs.declared.entry.Entry.{Entry}
 use Rattle.rina_iface.specs.declared.ask.Ask.{Ask}
 use Rattle.rina_iface.specs.declared.error.RegisterError.{RegisterError}
@@ -14,6 +19,7 @@ use Rattle.rina_iface.specs.declared.error.SendError.{SendError}
 use Rattle.rina_iface.specs.declared.ends.End.{End}
 use Rattle.rina_iface.specs.Seen.{Fac, Seen, unpassed}
 use Rattle.rina_policy.specs.declared.count.Count.{Count}
+use Rattle.rina_policy.specs.declared.policy.Head.{Head}
 use Rattle.rina_policy.specs.Slots.{Slot, count_of, retired}
 use Rattle.rina_report.specs.declared.note.Note.{Note}
 use Rattle.rina_report.specs.declared.note.Note.TheVariants as notes
@@ -25,25 +31,43 @@ use Rattle.rina_report.specs.declared.said.Said.TheVariants as said
 use Rattle.rina_schedule.specs.declared.event.Event.{Event}
 use Rattle.rina_schedule.specs.declared.event.Event.TheVariants as events
 use Rattle.rina_stack.specs.declared.plan.Plan.{Plan}
+use Rattle.rina_rows.specs.declared.sketch.Rounds.{Rounds}
+use Rattle.rina_rows.specs.declared.sketch.Rounds.TheVariants.{Auto, Manual}
 use Rattle.rina_stack.specs.Plan.{names_of}
 use Rattle.rina_stack.specs.Names.{place_in}
+use Rattle.rina_tower.specs.declared.applications.AppError.{AppError}
+use Rattle.rina_tower.specs.declared.tower.Tower.{Tower}
+use Rattle.rina_tower.specs.Applications.{AppAllocates, AppClaims, AppFrees, AppPasses, AppRegisters, AppSends, AppUnregisters, is_ipc_at}
+use Rattle.rina_tower.specs.Events.{Cuts, HoldsBack, Loses, Mends, Repeats}
+use Rattle.rina_tower.specs.Ledgers.{IsLedgerAt, member_at}
+use Rattle.rina_tower.specs.Ranks.{now_of, rank_of, seen_of}
+use Rattle.rina_tower.specs.Stepping.{ClocksAt, InSteps, OutSteps}
+use Rattle.rina_tower.specs.Rounds.{Anything, IsRound}
+use Rattle.rina_tower.specs.Standing.{IsTower}
+use Rattle.rina_tower.specs.Ticking.{Ticks as TowerTicks}
 use Rattle.rina_wire.specs.declared.event.WireError.{WireError}
-use Rattle.rina_wire.specs.Air.{Air, seen_of}
-use Rattle.rina_wire.specs.Free.{FreesOn}
-use Rattle.rina_wire.specs.Register.{RegistersOn}
-use Rattle.rina_wire.specs.Allocate.{AllocatesOn}
-use Rattle.rina_wire.specs.Claim.{ClaimsOn}
-use Rattle.rina_wire.specs.Cut.{CutsOn, MendsOn}
-use Rattle.rina_wire.specs.Disturb.{HoldsOn, LosesOn, RepeatsOn}
-use Rattle.rina_wire.specs.Send.{SendsOn, passed}
-use Rattle.rina_wire.specs.Tick.{TicksOn}
-use Rattle.rina_wire.specs.Unregister.{UnregistersOn}
+use Rattle.rina_run.specs.declared.fac.RankedFac.{RankedFac}
 use Rattle.rina_run.specs.declared.world.World.{World}
 use Rattle.rina_run.specs.declared.labels.Label.{Label}
 use Rattle.rina_run.specs.declared.site.Site.{Site}
-use Rattle.rina_run.specs.Sites.{site_at, label_in, port_in}
-use Rattle.rina_run.specs.Told.{answer_told, register_told, unregister_told, free_told, allocate_told, send_told, wire_told, drawn_told, port_told, state_told}
-use Rattle.rina_run.specs.Look.{state_at, noted, state_notes, looked}
+use Rattle.rina_run.specs.Sites.{dif_site_at, fac_named, label_in, port_in, site_at}
+use Rattle.rina_run.specs.StepTold.{clock_told, in_told, off_told, out_told, step_told}
+use Rattle.rina_run.specs.Told.{answer_told, app_told, register_told, unregister_told, free_told, allocate_told, send_told, wire_told, drawn_told, port_told, state_told}
+use Rattle.rina_run.specs.Look.{ends_at, state_at, noted, state_notes, looked}
+
+-- ---- the shelf beside the world
+
+-- what a run consists of: the world, and what a contract sees of the shelf
+pub record Stage : Type 0 where
+  pub world : World
+  pub shelf : List Slot
+
+abbrev pub stage : World → List Slot → Stage
+stage w shelf = record { world = w; shelf = shelf }
+
+-- two shelves have the same names in the same order
+abbrev pub HasNames : List Slot → List Slot → Type 0
+HasNames shelf shelf' = map (λ (x : Slot). x.name) shelf' ≡ map (λ (x : Slot). x.name) shelf
 
 -- the line was refused before any call, and nothing changed
 pub record IsRefused (why : Refusal) (w : World) (says : Option Said) (w' : World) : Type 0 where
@@ -60,10 +84,10 @@ abbrev pub Unlabelled : Option Label → (Option Said → World → Type 0) → 
 Unlabelled (Some label) Call w says w' = IsRefused refusals.LabelUsed w says w'
 Unlabelled None Call w says w' = Call says w'
 
--- a call on the port of a label; where there is no such label, it is refused
-abbrev pub AtPort : Option Port → (Port → Option Said → World → Type 0) → World → Option Said → World → Type 0
+-- a call on the port of a label, of a rank; where there is no such label, it is refused
+abbrev pub AtPort : Option (ℕ × Port) → (ℕ → Port → Option Said → World → Type 0) → World → Option Said → World → Type 0
 AtPort None Call w says w' = IsRefused (refusals.Unknown 1) w says w'
-AtPort (Some port) Call w says w' = Call port says w'
+AtPort (Some p) Call w says w' = Call p.0 p.1 says w'
 
 -- an event at the wire that the line names; where the stack has none of that name, it is refused
 abbrev pub AtWire : Option ℕ → (ℕ → Option Said → World → Type 0) → World → Option Said → World → Type 0
@@ -73,10 +97,10 @@ AtWire (Some wire) Call w says w' = Call wire says w'
 -- ---- register FAC NODE APP
 
 pub record CallsRegister (app : List ℕ) (w : World) (site : Site) (says : Option Said) (w' : World) : Type 0 where
-  pub result : Result (Unit {0}) RegisterError
-  pub does : RegistersOn w.tower site.fac site.node app result w'.tower
+  pub result : Result (Unit {0}) (AppError RegisterError)
+  pub does : AppRegisters site.rank site.fac site.node app result w.tower w'.tower
   pub labels : w'.labels ≡ w.labels
-  pub told : says ≡ answer_told (λ done. Some said.Done) register_told result
+  pub told : says ≡ answer_told (λ done. Some said.Done) (app_told register_told) result
 
 abbrev pub Registering : Plan → List ℕ → List ℕ → List ℕ → World → Option Said → World → Type 0
 Registering plan fac node app w says w' = AtSite (site_at plan 1 fac node) (CallsRegister app w) w says w'
@@ -84,57 +108,57 @@ Registering plan fac node app w says w' = AtSite (site_at plan 1 fac node) (Call
 -- ---- unregister FAC NODE APP
 
 pub record CallsUnregister (app : List ℕ) (w : World) (site : Site) (says : Option Said) (w' : World) : Type 0 where
-  pub result : Result (Unit {0}) UnregisterError
-  pub does : UnregistersOn w.tower site.fac site.node app result w'.tower
+  pub result : Result (Unit {0}) (AppError UnregisterError)
+  pub does : AppUnregisters site.rank site.fac site.node app result w.tower w'.tower
   pub labels : w'.labels ≡ w.labels
-  pub told : says ≡ answer_told (λ done. Some said.Done) unregister_told result
+  pub told : says ≡ answer_told (λ done. Some said.Done) (app_told unregister_told) result
 
 abbrev pub Unregistering : Plan → List ℕ → List ℕ → List ℕ → World → Option Said → World → Type 0
 Unregistering plan fac node app w says w' = AtSite (site_at plan 1 fac node) (CallsUnregister app w) w says w'
 
 -- ---- alloc LABEL FAC NODE APP TO
 
--- the state of a port, as it is said
-abbrev pub port_said : Plan → Air → Port → Option Said
-port_said plan a port = option_map said.Port (drawn_told plan 0 (state_at a port))
+-- the state of a port of a rank, as it is said
+abbrev pub port_said : Plan → Tower → ℕ → Port → Option Said
+port_said plan t rank port = option_map said.Port (drawn_told plan rank (state_at t rank port))
 
--- a label of a port, whose state has been told
-abbrev pub label_of : List ℕ → Air → Port → Label
-label_of name a port = record { name = name; rank = 0; port = port; shown = state_at a port }
+-- a label of a port of a rank, whose state has been told
+abbrev pub label_of : List ℕ → Tower → ℕ → Port → Label
+label_of name t rank port = record { name = name; rank = rank; port = port; shown = state_at t rank port }
 
 abbrev pub asked : Site → List ℕ → List ℕ → Want → Ask
 asked site app to want = record { fac = site.fac; node = site.node; app = app; to = to; want = want }
 
 -- the labels after a call that may have given one
-abbrev pub labelled : {E : Type 0} → List ℕ → Air → Result Port E → List Label → List Label
-labelled name a (Ok port) labels = labels ++ label_of name a port ∷ []
-labelled name a (Err e) labels = labels
+abbrev pub labelled : {E : Type 0} → List ℕ → Tower → ℕ → Result Port E → List Label → List Label
+labelled name t rank (Ok port) labels = labels ++ label_of name t rank port ∷ []
+labelled name t rank (Err e) labels = labels
 
-pub record CallsAllocate (plan : Plan) (label fac node : List ℕ) (w : World) (ask : Ask) (says : Option Said) (w' : World) : Type 0 where
-  pub result : Result Port AllocateError
-  pub does : AllocatesOn w.tower ask result w'.tower
-  pub labels : w'.labels ≡ labelled label w'.tower result w.labels
-  pub told : says ≡ answer_told (port_said plan w'.tower) (allocate_told fac node) result
+pub record CallsAllocate (plan : Plan) (label fac node : List ℕ) (rank : ℕ) (w : World) (ask : Ask) (says : Option Said) (w' : World) : Type 0 where
+  pub result : Result Port (AppError AllocateError)
+  pub does : AppAllocates rank ask result w.tower w'.tower
+  pub labels : w'.labels ≡ labelled label w'.tower rank result w.labels
+  pub told : says ≡ answer_told (port_said plan w'.tower rank) (app_told (allocate_told fac node)) result
 
 abbrev pub Allocating : Plan → List ℕ → List ℕ → List ℕ → List ℕ → List ℕ → Want → World → Option Said → World → Type 0
 Allocating plan label fac node app to want w says w' =
-    AtSite (site_at plan 2 fac node) (λ site. Unlabelled (label_in w.labels label) (CallsAllocate plan label fac node w (asked site app to want)) w) w says w'
+    AtSite (site_at plan 2 fac node) (λ site. Unlabelled (label_in w.labels label) (CallsAllocate plan label fac node site.rank w (asked site app to want)) w) w says w'
 
 -- ---- accept LABEL FAC NODE APP
 
-abbrev pub claim_said : Plan → Air → Option Port → Option Said
-claim_said plan a None = Some said.Nothing
-claim_said plan a (Some port) = port_said plan a port
+abbrev pub claim_said : Plan → Tower → ℕ → Option Port → Option Said
+claim_said plan t rank None = Some said.Nothing
+claim_said plan t rank (Some port) = port_said plan t rank port
 
-abbrev pub claim_labelled : List ℕ → Air → Option Port → List Label → List Label
-claim_labelled name a None labels = labels
-claim_labelled name a (Some port) labels = labels ++ label_of name a port ∷ []
+abbrev pub claim_labelled : List ℕ → Tower → ℕ → Option Port → List Label → List Label
+claim_labelled name t rank None labels = labels
+claim_labelled name t rank (Some port) labels = labels ++ label_of name t rank port ∷ []
 
 pub record CallsIncoming (plan : Plan) (label app : List ℕ) (w : World) (site : Site) (says : Option Said) (w' : World) : Type 0 where
   pub result : Option Port
-  pub does : ClaimsOn w.tower site.fac site.node app result w'.tower
-  pub labels : w'.labels ≡ claim_labelled label w'.tower result w.labels
-  pub told : says ≡ claim_said plan w'.tower result
+  pub does : AppClaims site.rank site.fac site.node app result w.tower w'.tower
+  pub labels : w'.labels ≡ claim_labelled label w'.tower site.rank result w.labels
+  pub told : says ≡ claim_said plan w'.tower site.rank result
 
 abbrev pub Accepting : Plan → List ℕ → List ℕ → List ℕ → List ℕ → World → Option Said → World → Type 0
 Accepting plan label fac node app w says w' =
@@ -142,21 +166,37 @@ Accepting plan label fac node app w says w' =
 
 -- ---- send LABEL BYTES
 
-pub record CallsSend (plan : Plan) (bytes : List ℕ) (w : World) (port : Port) (says : Option Said) (w' : World) : Type 0 where
-  pub result : Result Num SendError
-  pub does : SendsOn w.tower port bytes result w'.tower
+pub record CallsSend (plan : Plan) (bytes : List ℕ) (w : World) (rank : ℕ) (port : Port) (says : Option Said) (w' : World) : Type 0 where
+  pub result : Result Num (AppError SendError)
+  pub does : AppSends rank port bytes result w.tower w'.tower
   pub labels : w'.labels ≡ w.labels
-  pub told : says ≡ answer_told (λ num. Some (said.Sent num)) (send_told plan 0) result
+  pub told : says ≡ answer_told (λ num. Some (said.Sent num)) (app_told (send_told plan rank)) result
 
 abbrev pub Sending : Plan → List ℕ → List ℕ → World → Option Said → World → Type 0
 Sending plan label bytes w says w' = AtPort (port_in w.labels label) (CallsSend plan bytes w) w says w'
 
 -- ---- read LABEL
 
+-- the oldest SDU that waits for an application at a port; what waits for an IPC process is none of an application's
+abbrev pub for_app : Bool → Option Entry → Option Entry
+for_app true oldest = None
+for_app false oldest = oldest
+
+-- the oldest SDU that waits for an application at a port of a rank
+abbrev pub waiting : Tower → ℕ → Port → Option Entry
+waiting t rank port = option_and_then (λ (u : Tower). for_app (is_ipc_at (seen_of u) port) (unpassed (seen_of u) port)) (rank_of t rank)
+
+-- what waits for an application at a port of a rank came at this tick, with these bytes
+pub record IsWaiting (t : Tower) (rank : ℕ) (port : Port) (at : ℕ) (bytes : List ℕ) : Type 0 where
+  pub entry : Entry
+  pub oldest : waiting t rank port ≡ Some entry
+  pub its_tick : at ≡ entry.tick
+  pub its_bytes : bytes ≡ entry.bytes
+
 -- these entries waited at the port, and were passed one after the other, the oldest first
-abbrev pub Passes : Port → Air → List Entry → Air → Type 0
-Passes port a [] a' = a' ≡ a
-Passes port a (x ∷ xs) a' = (unpassed (seen_of a) port ≡ Some x) × Passes port (passed a port) xs a'
+abbrev pub Passes : ℕ → Port → Tower → List Entry → Tower → Type 0
+Passes rank port t [] t' = t' ≡ t
+Passes rank port t (x ∷ xs) t' = (mid : Tower) × (waiting t rank port ≡ Some x) × AppPasses rank port t mid × Passes rank port mid xs t'
 
 abbrev pub got_note : ℕ → ℕ → Entry → Note
 got_note line tick x = notes.Line line tick (said.Got x.tick x.bytes)
@@ -166,55 +206,32 @@ read_notes line tick [] = noted line tick (Some said.Nothing)
 read_notes line tick (x ∷ xs) = got_note line tick x ∷ map (got_note line tick) xs
 
 -- all that waited at the port was read, and nothing is left
-pub record IsRead (line : ℕ) (w : World) (port : Port) (ns : List Note) (w' : World) : Type 0 where
+pub record IsRead (line : ℕ) (w : World) (rank : ℕ) (port : Port) (ns : List Note) (w' : World) : Type 0 where
   pub entries : List Entry
-  pub passes : Passes port w.tower entries w'.tower
-  pub none_left : unpassed (seen_of w'.tower) port ≡ None
+  pub passes : Passes rank port w.tower entries w'.tower
+  pub none_left : waiting w'.tower rank port ≡ None
   pub labels : w'.labels ≡ w.labels
-  pub notes : ns ≡ read_notes line w.tower.now entries
+  pub notes : ns ≡ read_notes line (now_of w.tower) entries
 
 -- all that waited at the port was read, each entry with a note
-pub record ReadsAll (line : ℕ) (port : Port) (w : World) (trace : List Note) (w' : World) (trace' : List Note) : Type 0 where
+pub record ReadsAll (line : ℕ) (rank : ℕ) (port : Port) (w : World) (trace : List Note) (w' : World) (trace' : List Note) : Type 0 where
   pub entries : List Entry
-  pub passes : Passes port w.tower entries w'.tower
-  pub none_left : unpassed (seen_of w'.tower) port ≡ None
+  pub passes : Passes rank port w.tower entries w'.tower
+  pub none_left : waiting w'.tower rank port ≡ None
   pub labels : w'.labels ≡ w.labels
-  pub notes : trace' ≡ trace ++ map (got_note line w.tower.now) entries
+  pub notes : trace' ≡ trace ++ map (got_note line (now_of w.tower)) entries
 
-abbrev pub Reading : ℕ → Option Port → World → List Note → World → Type 0
-Reading line None w ns w' = (ns ≡ noted line w.tower.now (Some (said.Refused (refusals.Unknown 1)))) × (w' ≡ w)
-Reading line (Some port) w ns w' = IsRead line w port ns w'
-
--- ---- tick N
-
--- one tick, after which the labels told their states
-pub record TicksOnce (plan : Plan) (line : ℕ) (w : World) (ns : List Note) (w' : World) : Type 0 where
-  pub tower : TicksOn w.tower (Ok tt) w'.tower
-  pub labels : w'.labels ≡ looked w'.tower w.labels
-  pub notes : ns ≡ state_notes plan line w'.tower w.labels
-
--- so many ticks
-abbrev pub Ticks : Plan → ℕ → ℕ → World → List Note → World → Type 0
-Ticks plan line zero w ns w' = (ns ≡ []) × (w' ≡ w)
-Ticks plan line (suc count) w ns w' = (mid : World) × (first : List Note) × (rest : List Note) × TicksOnce plan line w first mid × Ticks plan line count mid rest w' × (ns ≡ first ++ rest)
-
-pub record AllTicks (plan : Plan) (line count : ℕ) (w : World) (ns : List Note) (w' : World) : Type 0 where
-  pub told : List Note
-  pub ticks : Ticks plan line count w told w'
-  pub notes : ns ≡ told ++ noted line w'.tower.now (Some said.Done)
-
--- all the ticks, or none where the clock would pass its end
-abbrev pub Ticking : Bool → Plan → ℕ → ℕ → World → List Note → World → Type 0
-Ticking true plan line count w ns w' = (ns ≡ noted line w.tower.now (Some (said.Refused refusals.ClockSpent))) × (w' ≡ w)
-Ticking false plan line count w ns w' = AllTicks plan line count w ns w'
+abbrev pub Reading : ℕ → Option (ℕ × Port) → World → List Note → World → Type 0
+Reading line None w ns w' = (ns ≡ noted line (now_of w.tower) (Some (said.Refused (refusals.Unknown 1)))) × (w' ≡ w)
+Reading line (Some p) w ns w' = IsRead line w p.0 p.1 ns w'
 
 -- ---- free LABEL
 
-pub record CallsFree (w : World) (port : Port) (says : Option Said) (w' : World) : Type 0 where
-  pub result : Result (Unit {0}) FreeError
-  pub does : FreesOn w.tower port result w'.tower
+pub record CallsFree (w : World) (rank : ℕ) (port : Port) (says : Option Said) (w' : World) : Type 0 where
+  pub result : Result (Unit {0}) (AppError FreeError)
+  pub does : AppFrees rank port result w.tower w'.tower
   pub labels : w'.labels ≡ w.labels
-  pub told : says ≡ answer_told (λ done. Some said.Done) free_told result
+  pub told : says ≡ answer_told (λ done. Some said.Done) (app_told free_told) result
 
 abbrev pub Freeing : List ℕ → World → Option Said → World → Type 0
 Freeing label w says w' = AtPort (port_in w.labels label) (CallsFree w) w says w'
@@ -222,8 +239,8 @@ Freeing label w says w' = AtPort (port_in w.labels label) (CallsFree w) w says w
 -- ---- state LABEL
 
 -- the state of the port was told; it was told before too, by the line that changed it
-pub record TellsState (plan : Plan) (w : World) (port : Port) (says : Option Said) (w' : World) : Type 0 where
-  pub told : says ≡ port_said plan w.tower port
+pub record TellsState (plan : Plan) (w : World) (rank : ℕ) (port : Port) (says : Option Said) (w' : World) : Type 0 where
+  pub told : says ≡ port_said plan w.tower rank port
   pub world : w' ≡ w
 
 abbrev pub Stating : Plan → List ℕ → World → Option Said → World → Type 0
@@ -236,26 +253,26 @@ abbrev pub wire_of : Plan → List ℕ → Option ℕ
 wire_of plan name = place_in (names_of plan.wires) name
 
 -- an event of a wire, by what it does to the tower
-pub record CallsWire (Does : Air → Result (Unit {0}) WireError → Air → Type 0) (w : World) (says : Option Said) (w' : World) : Type 0 where
+pub record CallsWire (Does : Result (Unit {0}) WireError → Tower → Tower → Type 0) (w : World) (says : Option Said) (w' : World) : Type 0 where
   pub result : Result (Unit {0}) WireError
-  pub does : Does w.tower result w'.tower
+  pub does : Does result w.tower w'.tower
   pub labels : w'.labels ≡ w.labels
   pub told : says ≡ answer_told (λ done. Some said.Done) wire_told result
 
 abbrev pub Losing : Plan → List ℕ → ℕ → World → Option Said → World → Type 0
-Losing plan wire frame w says w' = AtWire (wire_of plan wire) (λ n. CallsWire (λ a r a'. LosesOn a n frame r a') w) w says w'
+Losing plan wire frame w says w' = AtWire (wire_of plan wire) (λ n. CallsWire (Loses n frame) w) w says w'
 
 abbrev pub Repeating : Plan → List ℕ → ℕ → ℕ → World → Option Said → World → Type 0
-Repeating plan wire frame at w says w' = AtWire (wire_of plan wire) (λ n. CallsWire (λ a r a'. RepeatsOn a n frame at r a') w) w says w'
+Repeating plan wire frame at w says w' = AtWire (wire_of plan wire) (λ n. CallsWire (Repeats n frame at) w) w says w'
 
 abbrev pub Holding : Plan → List ℕ → ℕ → ℕ → World → Option Said → World → Type 0
-Holding plan wire frame at w says w' = AtWire (wire_of plan wire) (λ n. CallsWire (λ a r a'. HoldsOn a n frame at r a') w) w says w'
+Holding plan wire frame at w says w' = AtWire (wire_of plan wire) (λ n. CallsWire (HoldsBack n frame at) w) w says w'
 
 abbrev pub Cutting : Plan → List ℕ → World → Option Said → World → Type 0
-Cutting plan wire w says w' = AtWire (wire_of plan wire) (λ n. CallsWire (λ a r a'. CutsOn a n r a') w) w says w'
+Cutting plan wire w says w' = AtWire (wire_of plan wire) (λ n. CallsWire (Cuts n) w) w says w'
 
 abbrev pub Mending : Plan → List ℕ → World → Option Said → World → Type 0
-Mending plan wire w says w' = AtWire (wire_of plan wire) (λ n. CallsWire (λ a r a'. MendsOn a n r a') w) w says w'
+Mending plan wire w says w' = AtWire (wire_of plan wire) (λ n. CallsWire (Mends n) w) w says w'
 
 -- ---- journal FAC
 
@@ -278,63 +295,14 @@ abbrev pub journal_notes : Plan → ℕ → ℕ → ℕ → List End → List No
 journal_notes plan rank line tick [] = noted line tick (Some said.Nothing)
 journal_notes plan rank line tick (e ∷ es) = flat_map (end_notes plan rank line tick) (e ∷ es)
 
-abbrev pub or_none : Option (List End) → List End
-or_none None = []
-or_none (Some ends) = ends
-
--- the ends of the facility of this number
-abbrev pub ends_in : Seen → ℕ → List End
-ends_in s n = or_none (option_map (λ (f : Fac). f.ends) (slice_get s.facs n))
-
 -- the journal was shown, and nothing changed
-pub record ShowsJournal (plan : Plan) (line : ℕ) (w : World) (n : ℕ) (ns : List Note) (w' : World) : Type 0 where
+pub record ShowsJournal (plan : Plan) (line : ℕ) (w : World) (f : RankedFac) (ns : List Note) (w' : World) : Type 0 where
   pub world : w' ≡ w
-  pub notes : ns ≡ journal_notes plan 0 line w.tower.now (ends_in (seen_of w.tower) n)
+  pub notes : ns ≡ journal_notes plan f.rank line (now_of w.tower) (ends_at w.tower f.rank f.fac)
 
-abbrev pub Showing : Plan → ℕ → Option ℕ → World → List Note → World → Type 0
-Showing plan line None w ns w' = (ns ≡ noted line w.tower.now (Some (said.Refused (refusals.Unknown 1)))) × (w' ≡ w)
-Showing plan line (Some n) w ns w' = ShowsJournal plan line w n ns w'
-
--- ---- all words
-
--- a word that says one thing
-pub record Says (line : ℕ) (Does : Option Said → World → Type 0) (ns : List Note) (w' : World) : Type 0 where
-  pub says : Option Said
-  pub does : Does says w'
-  pub notes : ns ≡ noted line w'.tower.now says
-
--- what a word does to the world, and what it answers; words that are not built do nothing lawful
-abbrev pub ActsOnWorld : Plan → ℕ → Event → World → List Note → World → Type 0
-ActsOnWorld plan line (events.Register fac node app) w ns w' = Says line (Registering plan fac node app w) ns w'
-ActsOnWorld plan line (events.Alloc label fac node app to want) w ns w' = Says line (Allocating plan label fac node app to want w) ns w'
-ActsOnWorld plan line (events.Accept label fac node app) w ns w' = Says line (Accepting plan label fac node app w) ns w'
-ActsOnWorld plan line (events.Send label bytes) w ns w' = Says line (Sending plan label bytes w) ns w'
-ActsOnWorld plan line (events.Read label) w ns w' = Reading line (port_in w.labels label) w ns w'
-ActsOnWorld plan line (events.Tick count) w ns w' = Ticking (nat_lt 10000000 (w.tower.now + count)) plan line count w ns w'
-ActsOnWorld plan line (events.Lose wire frame) w ns w' = Says line (Losing plan wire frame w) ns w'
-ActsOnWorld plan line (events.Repeat wire frame at) w ns w' = Says line (Repeating plan wire frame at w) ns w'
-ActsOnWorld plan line (events.Hold wire frame at) w ns w' = Says line (Holding plan wire frame at w) ns w'
-ActsOnWorld plan line (events.Cut wire) w ns w' = Says line (Cutting plan wire w) ns w'
-ActsOnWorld plan line (events.Mend wire) w ns w' = Says line (Mending plan wire w) ns w'
-ActsOnWorld plan line (events.Unregister fac node app) w ns w' = Says line (Unregistering plan fac node app w) ns w'
-ActsOnWorld plan line (events.Free label) w ns w' = Says line (Freeing label w) ns w'
-ActsOnWorld plan line (events.State label) w ns w' = Says line (Stating plan label w) ns w'
-ActsOnWorld plan line (events.Journal fac) w ns w' = Showing plan line (wire_of plan fac) w ns w'
-ActsOnWorld plan line event w ns w' = ⊥
-
--- ---- the shelf beside the world
-
--- what a run consists of: the world, and what a contract sees of the shelf
-pub record Stage : Type 0 where
-  pub world : World
-  pub shelf : List Slot
-
-abbrev pub stage : World → List Slot → Stage
-stage w shelf = record { world = w; shelf = shelf }
-
--- two shelves have the same names in the same order
-abbrev pub HasNames : List Slot → List Slot → Type 0
-HasNames shelf shelf' = map (λ (x : Slot). x.name) shelf' ≡ map (λ (x : Slot). x.name) shelf
+abbrev pub Showing : Plan → ℕ → Option RankedFac → World → List Note → World → Type 0
+Showing plan line None w ns w' = (ns ≡ noted line (now_of w.tower) (Some (said.Refused (refusals.Unknown 1)))) × (w' ≡ w)
+Showing plan line (Some f) w ns w' = ShowsJournal plan line w f ns w'
 
 -- ---- retire POLICY
 
@@ -352,19 +320,163 @@ retired_if (Some count) name shelf = retired name shelf
 pub record Retires (line : ℕ) (name : List ℕ) (s : Stage) (ns : List Note) (s' : Stage) : Type 0 where
   pub world : s'.world ≡ s.world
   pub shelf : s'.shelf ≡ retired_if (count_of name s.shelf) name s.shelf
-  pub notes : ns ≡ noted line s.world.tower.now (retire_said (count_of name s.shelf))
+  pub notes : ns ≡ noted line (now_of s.world.tower) (retire_said (count_of name s.shelf))
+
+-- ---- rounds, and tick N
+
+-- the round that follows by itself, where one does
+abbrev pub RoundsBy : Rounds → List Slot → Tower → List Slot → Tower → Type 0
+RoundsBy Auto slots t slots' t' = IsRound slots slots' t t'
+RoundsBy Manual slots t slots' t' = (slots' ≡ slots) × (t' ≡ t)
+
+-- one tick, and the round that follows it, after which the labels told their states
+pub record TicksOnce (plan : Plan) (line : ℕ) (s : Stage) (ns : List Note) (s' : Stage) : Type 0 where
+  pub ticked : Tower
+  pub ticks : TowerTicks (Ok tt) s.world.tower ticked
+  pub rounds : RoundsBy plan.rounds s.shelf ticked s'.shelf s'.world.tower
+  pub labels : s'.world.labels ≡ looked s'.world.tower s.world.labels
+  pub notes : ns ≡ state_notes plan line s'.world.tower s.world.labels
+
+-- so many ticks
+abbrev pub Ticks : Plan → ℕ → ℕ → Stage → List Note → Stage → Type 0
+Ticks plan line zero s ns s' = (ns ≡ []) × (s' ≡ s)
+Ticks plan line (suc count) s ns s' = (mid : Stage) × (first : List Note) × (rest : List Note) × TicksOnce plan line s first mid × Ticks plan line count mid rest s' × (ns ≡ first ++ rest)
+
+pub record AllTicks (plan : Plan) (line count : ℕ) (s : Stage) (ns : List Note) (s' : Stage) : Type 0 where
+  pub told : List Note
+  pub ticks : Ticks plan line count s told s'
+  pub notes : ns ≡ told ++ noted line (now_of s'.world.tower) (Some said.Done)
+
+-- all the ticks, or none where the clock would pass its end
+abbrev pub Ticking : Bool → Plan → ℕ → ℕ → Stage → List Note → Stage → Type 0
+Ticking true plan line count s ns s' = (ns ≡ noted line (now_of s.world.tower) (Some (said.Refused refusals.ClockSpent))) × (s' ≡ s)
+Ticking false plan line count s ns s' = AllTicks plan line count s ns s'
+
+-- ---- in DIF NODE LINK, out DIF NODE LINK, clock DIF NODE, round
+
+-- no link has a number above 65,535
+abbrev pub link_of : ℕ → ℕ
+link_of link = min link 65535
+
+pub record CallsIn (plan : Plan) (link : ℕ) (w : World) (site : Site) (says : Option Said) (w' : World) : Type 0 where
+  pub result : Result InStep StepError
+  pub does : InSteps site.rank site.fac site.node (link_of link) result w.tower w'.tower
+  pub labels : w'.labels ≡ w.labels
+  pub told : says ≡ answer_told (in_told plan site.rank) step_told result
+
+abbrev pub TakingIn : Plan → List ℕ → List ℕ → ℕ → World → Option Said → World → Type 0
+TakingIn plan dif node link w says w' = AtSite (dif_site_at plan dif node) (CallsIn plan link w) w says w'
+
+pub record CallsClock (plan : Plan) (w : World) (site : Site) (says : Option Said) (w' : World) : Type 0 where
+  pub result : Result ClockStep StepError
+  pub does : ClocksAt site.rank site.fac site.node result w.tower w'.tower
+  pub labels : w'.labels ≡ w.labels
+  pub told : says ≡ answer_told (clock_told plan site.rank) step_told result
+
+abbrev pub Clocking : Plan → List ℕ → List ℕ → World → Option Said → World → Type 0
+Clocking plan dif node w says w' = AtSite (dif_site_at plan dif node) (CallsClock plan w) w says w'
+
+-- the step lets a PDU go that the shelf picks: any place among the heads is lawful
+pub record CallsOut (plan : Plan) (link : ℕ) (s : Stage) (site : Site) (says : Option Said) (s' : Stage) : Type 0 where
+  pub result : Result OutStep StepError
+  pub does : OutSteps Anything s.shelf s'.shelf site.rank site.fac site.node (link_of link) result s.world.tower s'.world.tower
+  pub labels : s'.world.labels ≡ s.world.labels
+  pub told : says ≡ answer_told (out_told plan site.rank) step_told result
+
+abbrev pub LettingOut : Plan → Result Site ℕ → ℕ → Stage → Option Said → Stage → Type 0
+LettingOut plan (Err field) link s says s' = (says ≡ Some (said.Refused (refusals.Unknown field))) × (s' ≡ s)
+LettingOut plan (Ok site) link s says s' = CallsOut plan link s site says s'
+
+-- a word that says one thing, beside the shelf
+pub record SaysBeside (line : ℕ) (Does : Option Said → Stage → Type 0) (ns : List Note) (s' : Stage) : Type 0 where
+  pub says : Option Said
+  pub does : Does says s'
+  pub notes : ns ≡ noted line (now_of s'.world.tower) says
+
+pub record RoundsOnce (line : ℕ) (s : Stage) (ns : List Note) (s' : Stage) : Type 0 where
+  pub does : IsRound s.shelf s'.shelf s.world.tower s'.world.tower
+  pub labels : s'.world.labels ≡ s.world.labels
+  pub notes : ns ≡ noted line (now_of s'.world.tower) (Some said.Done)
+
+-- ---- ledger DIF NODE
+
+-- the write-offs of a member, in order; where nothing was written off, that is said
+abbrev pub off_notes : Plan → ℕ → ℕ → ℕ → List Off → List Note
+off_notes plan rank line tick [] = noted line tick (Some said.Nothing)
+off_notes plan rank line tick (off ∷ offs) = flat_map (λ (x : Off). noted line tick (off_told plan rank x)) (off ∷ offs)
+
+-- where the DIF has no member at that node, this is said
+abbrev pub ledger_notes : Plan → ℕ → ℕ → ℕ → Option (List Off) → List Note
+ledger_notes plan rank line tick None = noted line tick (Some (said.Refused refusals.NoIpc))
+ledger_notes plan rank line tick (Some offs) = off_notes plan rank line tick offs
+
+-- these are the write-offs of the member at a node of a DIF of a rank, if it has one there
+abbrev pub AreOffs : Tower → Site → Option (List Off) → Type 0
+AreOffs t site None = member_at t site.rank site.fac site.node ≡ None
+AreOffs t site (Some offs) = IsLedgerAt t site.rank site.fac site.node offs
+
+-- the ledger was shown, and nothing changed
+pub record ShowsLedger (plan : Plan) (line : ℕ) (w : World) (site : Site) (ns : List Note) (w' : World) : Type 0 where
+  pub offs : Option (List Off)
+  pub are : AreOffs w.tower site offs
+  pub world : w' ≡ w
+  pub notes : ns ≡ ledger_notes plan site.rank line (now_of w.tower) offs
+
+abbrev pub Accounting : Plan → ℕ → Result Site ℕ → World → List Note → World → Type 0
+Accounting plan line (Err field) w ns w' = (ns ≡ noted line (now_of w.tower) (Some (said.Refused (refusals.Unknown field)))) × (w' ≡ w)
+Accounting plan line (Ok site) w ns w' = ShowsLedger plan line w site ns w'
+
+-- ---- all words
+
+-- a word that says one thing
+pub record Says (line : ℕ) (Does : Option Said → World → Type 0) (ns : List Note) (w' : World) : Type 0 where
+  pub says : Option Said
+  pub does : Does says w'
+  pub notes : ns ≡ noted line (now_of w'.tower) says
+
+-- what a word does to the world, and what it answers; words that are not built do nothing lawful
+abbrev pub ActsOnWorld : Plan → ℕ → Event → World → List Note → World → Type 0
+ActsOnWorld plan line (events.Register fac node app) w ns w' = Says line (Registering plan fac node app w) ns w'
+ActsOnWorld plan line (events.Alloc label fac node app to want) w ns w' = Says line (Allocating plan label fac node app to want w) ns w'
+ActsOnWorld plan line (events.Accept label fac node app) w ns w' = Says line (Accepting plan label fac node app w) ns w'
+ActsOnWorld plan line (events.Send label bytes) w ns w' = Says line (Sending plan label bytes w) ns w'
+ActsOnWorld plan line (events.Read label) w ns w' = Reading line (port_in w.labels label) w ns w'
+ActsOnWorld plan line (events.Lose wire frame) w ns w' = Says line (Losing plan wire frame w) ns w'
+ActsOnWorld plan line (events.Repeat wire frame at) w ns w' = Says line (Repeating plan wire frame at w) ns w'
+ActsOnWorld plan line (events.Hold wire frame at) w ns w' = Says line (Holding plan wire frame at w) ns w'
+ActsOnWorld plan line (events.Cut wire) w ns w' = Says line (Cutting plan wire w) ns w'
+ActsOnWorld plan line (events.Mend wire) w ns w' = Says line (Mending plan wire w) ns w'
+ActsOnWorld plan line (events.Unregister fac node app) w ns w' = Says line (Unregistering plan fac node app w) ns w'
+ActsOnWorld plan line (events.Free label) w ns w' = Says line (Freeing label w) ns w'
+ActsOnWorld plan line (events.State label) w ns w' = Says line (Stating plan label w) ns w'
+ActsOnWorld plan line (events.Journal fac) w ns w' = Showing plan line (fac_named plan fac) w ns w'
+ActsOnWorld plan line (events.In dif node link) w ns w' = Says line (TakingIn plan dif node link w) ns w'
+ActsOnWorld plan line (events.Clock dif node) w ns w' = Says line (Clocking plan dif node w) ns w'
+ActsOnWorld plan line (events.Ledger dif node) w ns w' = Accounting plan line (dif_site_at plan dif node) w ns w'
+ActsOnWorld plan line event w ns w' = ⊥
 
 -- ---- lines
 
--- what a word does and answers; no word but `retire` changes the shelf
+-- what a word does and answers; no other words change the shelf
 abbrev pub Acts : Plan → ℕ → Event → Stage → List Note → Stage → Type 0
 Acts plan line (events.Retire policy) s ns s' = Retires line policy s ns s'
+Acts plan line (events.Tick count) s ns s' = Ticking (nat_lt 10000000 (now_of s.world.tower + count)) plan line count s ns s'
+Acts plan line (events.Out dif node link) s ns s' = SaysBeside line (LettingOut plan (dif_site_at plan dif node) link s) ns s'
+Acts plan line events.Round s ns s' = RoundsOnce line s ns s'
 Acts plan line event s ns s' = ActsOnWorld plan line event s.world ns s'.world × (s'.shelf ≡ s.shelf)
 
--- a line: what its word does and answers, and then the states of the labels that changed
+-- who moves PDUs after a line: after a line of ticks nobody, since each tick had its round
+abbrev pub rounds_after : Rounds → Event → Rounds
+rounds_after rounds (events.Tick count) = Manual
+rounds_after rounds event = rounds
+
+-- a line: what its word does and answers, the round that follows by itself, and then the states of the labels that changed; the
+-- tower stands after it
 pub record Steps (plan : Plan) (line : ℕ) (event : Event) (s : Stage) (ns : List Note) (s' : Stage) : Type 0 where
-  pub mid : World
+  pub mid : Stage
   pub answer : List Note
-  pub acts : Acts plan line event s answer (stage mid s'.shelf)
-  pub world : s'.world ≡ record { tower = mid.tower; labels = looked mid.tower mid.labels }
-  pub notes : ns ≡ answer ++ state_notes plan line mid.tower mid.labels
+  pub acts : Acts plan line event s answer mid
+  pub rounds : RoundsBy (rounds_after plan.rounds event) mid.shelf mid.world.tower s'.shelf s'.world.tower
+  pub labels : s'.world.labels ≡ looked s'.world.tower mid.world.labels
+  pub notes : ns ≡ answer ++ state_notes plan line s'.world.tower mid.world.labels
+  pub stands : IsTower s'.world.tower

@@ -28,6 +28,8 @@ use Rattle.rina_report.specs.declared.state.FailNote.TheVariants as fail_notes
 use Rattle.rina_report.specs.declared.state.StateNote.{StateNote}
 use Rattle.rina_report.specs.declared.state.StateNote.TheVariants as notes
 use Rattle.rina_stack.specs.declared.plan.Plan.{Plan}
+use Rattle.rina_tower.specs.declared.applications.AppError.{AppError}
+use Rattle.rina_tower.specs.declared.applications.AppError.TheVariants as apps
 use Rattle.rina_stack.specs.Plan.{names_of}
 use Rattle.rina_run.specs.Sites.{names_at}
 
@@ -103,6 +105,12 @@ send_told plan rank (send.WindowShut need room) = Some (refusals.WindowShut need
 send_told plan rank (send.NoRoute dst) = Some (refusals.NoRoute dst)
 send_told plan rank (send.QueueFull need room) = Some (refusals.QueueFull need room)
 send_told plan rank (send.NumbersSpent until) = Some (refusals.NumbersSpent until)
+
+-- what a call of an application refused
+abbrev pub app_told : {E : Type 0} → (E → Option Refusal) → AppError E → Option Refusal
+app_told refused apps.NoRank = Some refusals.NoRank
+app_told refused apps.NotYours = Some refusals.NotYours
+app_told refused (apps.Call e) = refused e
 
 -- what an event of a wire refused
 abbrev pub wire_told : WireError → Option Refusal

@@ -5,6 +5,7 @@ use Rattle.rina_iface.specs.declared.ends.End.{End}
 use Rattle.rina_iface.specs.declared.state.Fail.{Fail}
 use Rattle.rina_iface.specs.declared.state.Fail.TheVariants.{Cut}
 use Rattle.rina_iface.specs.declared.state.PortState.TheVariants.{Failed}
+use Rattle.rina_iface.specs.Journal.{AreKept}
 use Rattle.rina_iface.specs.Seen.{Fac, Seen}
 use Rattle.rina_policy.specs.Slots.{Slot}
 use Rattle.rina_report.specs.declared.note.Note.{Note}
@@ -15,15 +16,17 @@ use Rattle.rina_schedule.specs.declared.error.LineError.{LineError}
 use Rattle.rina_schedule.specs.declared.error.LineError.TheVariants as errors
 use Rattle.rina_stack.specs.declared.plan.Plan.{Plan}
 use Rattle.rina_table.specs.declared.error.StackError.TheVariants as stack
-use Rattle.rina_stack.specs.Built.{ReadsBuilt}
-use Rattle.rina_wire.specs.Air.{Air}
+use Rattle.rina_stack.specs.Runnable.{ReadsRunnable}
+use Rattle.rina_tower.specs.declared.tower.Tower.{Tower}
+use Rattle.rina_tower.specs.Ranks.{now_of, rank_of, seen_of}
 use Rattle.rina_run.specs.declared.play.BadLine.{BadLine}
 use Rattle.rina_run.specs.declared.emit.Stop.{Stop}
 use Rattle.rina_run.specs.declared.emit.Stop.TheVariants as stops
 use Rattle.rina_run.specs.declared.outcome.Status.{Status}
 use Rattle.rina_run.specs.declared.outcome.Status.TheVariants as statuses
 use Rattle.rina_run.specs.Look.{Extends}
-use Rattle.rina_run.specs.Run.{Runs, StopsAt, RanFirst, RanPart, opening}
+use Rattle.rina_run.specs.Opening.{IsOpening}
+use Rattle.rina_run.specs.Run.{Runs, StopsAt, RanFirst, RanPart}
 use Rattle.rina_run.specs.Script.{Script, script_in}
 use Rattle.rina_run.specs.Step.{HasNames, Stage}
 
@@ -53,7 +56,7 @@ abbrev pub told_once : Fault → List Note
 told_once fault = notes.Fault fault ∷ []
 
 -- the lines led to this stage, and a closing note was added
-pub record PlayedTo (Ran : List Note → Stage → Type 0) (closing : Stage → Note) (trace : List Note) (tower : Option Air) (shelf' : List Slot) : Type 0 where
+pub record PlayedTo (Ran : List Note → Stage → Type 0) (closing : Stage → Note) (trace : List Note) (tower : Option Tower) (shelf' : List Slot) : Type 0 where
   pub told : List Note
   pub reached : Stage
   pub ran : Ran told reached
@@ -62,23 +65,23 @@ pub record PlayedTo (Ran : List Note → Stage → Type 0) (closing : Stage → 
   pub shelf : shelf' ≡ reached.shelf
 
 -- the first lines led to this stage, and a closing note may have been added
-pub record PlayedPart (plan : Plan) (lines : List (List ℕ)) (shelf : List Slot) (trace : List Note) (tower : Option Air) (shelf' : List Slot) : Type 0 where
+pub record PlayedPart (plan : Plan) (lines : List (List ℕ)) (start : Stage) (trace : List Note) (tower : Option Tower) (shelf' : List Slot) : Type 0 where
   pub told : List Note
   pub reached : Stage
-  pub first : RanFirst plan (opening plan shelf) lines told reached
+  pub first : RanFirst plan start lines told reached
   pub closing : Extends told trace
   pub left : tower ≡ Some reached.world.tower
   pub after : shelf' ≡ reached.shelf
 
--- what a run of lines came to, where `ending` is the fault that reading ended with, if any; without memory, of the shelf only its names are known
-abbrev pub PlayOutcomes : Plan → Option Fault → List (List ℕ) → List Slot → Status → List Note → Option Air → List Slot → Type 0
-PlayOutcomes plan ending lines shelf statuses.Done trace tower shelf' = (ending ≡ None) × PlayedTo (Runs plan 1 (opening plan shelf) lines) (λ s. notes.End s.world.tower.now) trace tower shelf'
-PlayOutcomes plan ending lines shelf (statuses.Schedule line n field) trace tower shelf' = (bad : BadLine) × (fault_of bad ≡ faults.Schedule line n field) × PlayedTo (StopsAt plan (opening plan shelf) lines bad) (λ s. notes.Fault (fault_of bad)) trace tower shelf'
-PlayOutcomes plan ending lines shelf statuses.ReadFault trace tower shelf' = (ending ≡ Some faults.ReadFault) × PlayedTo (Runs plan 1 (opening plan shelf) lines) (λ s. notes.Fault faults.ReadFault) trace tower shelf'
-PlayOutcomes plan ending lines shelf statuses.TooLarge trace tower shelf' = (ending ≡ Some faults.TooLarge) × PlayedTo (Runs plan 1 (opening plan shelf) lines) (λ s. notes.Fault faults.TooLarge) trace tower shelf'
-PlayOutcomes plan ending lines shelf statuses.WriteFault trace tower shelf' = PlayedPart plan lines shelf trace tower shelf'
-PlayOutcomes plan ending lines shelf statuses.Memory trace tower shelf' = RanPart plan (opening plan shelf) lines trace × HasNames shelf shelf'
-PlayOutcomes plan ending lines shelf status trace tower shelf' = ⊥
+-- what a run of lines from a stage came to, where `ending` is the fault that reading ended with, if any; without memory, of the shelf only its names are known
+abbrev pub PlayOutcomes : Plan → Option Fault → List (List ℕ) → Stage → Status → List Note → Option Tower → List Slot → Type 0
+PlayOutcomes plan ending lines start statuses.Done trace tower shelf' = (ending ≡ None) × PlayedTo (Runs plan 1 start lines) (λ s. notes.End (now_of s.world.tower)) trace tower shelf'
+PlayOutcomes plan ending lines start (statuses.Schedule line n field) trace tower shelf' = (bad : BadLine) × (fault_of bad ≡ faults.Schedule line n field) × PlayedTo (StopsAt plan start lines bad) (λ s. notes.Fault (fault_of bad)) trace tower shelf'
+PlayOutcomes plan ending lines start statuses.ReadFault trace tower shelf' = (ending ≡ Some faults.ReadFault) × PlayedTo (Runs plan 1 start lines) (λ s. notes.Fault faults.ReadFault) trace tower shelf'
+PlayOutcomes plan ending lines start statuses.TooLarge trace tower shelf' = (ending ≡ Some faults.TooLarge) × PlayedTo (Runs plan 1 start lines) (λ s. notes.Fault faults.TooLarge) trace tower shelf'
+PlayOutcomes plan ending lines start statuses.WriteFault trace tower shelf' = PlayedPart plan lines start trace tower shelf'
+PlayOutcomes plan ending lines start statuses.Memory trace tower shelf' = RanPart plan start lines trace × HasNames start.shelf shelf'
+PlayOutcomes plan ending lines start status trace tower shelf' = ⊥
 
 -- the run was refused before its first line: the fault is told, and nothing else
 abbrev pub RefusedBy : Fault → Status → List Note → Type 0
@@ -87,23 +90,23 @@ RefusedBy fault statuses.Memory trace = (trace ≡ []) ⊎ (trace ≡ told_once 
 RefusedBy fault status trace = (status ≡ status_of fault) × (trace ≡ told_once fault)
 
 -- what a stack that was not accepted came to
-abbrev pub StackOutcomes : List ℕ → Status → List Note → Type 0
-StackOutcomes text statuses.NotToml trace = ReadsBuilt (Err stack.NotToml) text × (trace ≡ told_once faults.NotToml)
-StackOutcomes text (statuses.StackRule n item) trace = ReadsBuilt (Err (stack.StackRule n item)) text × (trace ≡ told_once (faults.StackRule n item))
-StackOutcomes text statuses.WriteFault trace = (fault : Fault) × (trace ≡ told_once fault)
-StackOutcomes text statuses.Memory trace = (trace ≡ []) ⊎ ((fault : Fault) × (trace ≡ told_once fault))
-StackOutcomes text status trace = ⊥
+abbrev pub StackOutcomes : (List ℕ → Bool) → List ℕ → Status → List Note → Type 0
+StackOutcomes known text statuses.NotToml trace = ReadsRunnable known (Err stack.NotToml) text × (trace ≡ told_once faults.NotToml)
+StackOutcomes known text (statuses.StackRule n item) trace = ReadsRunnable known (Err (stack.StackRule n item)) text × (trace ≡ told_once (faults.StackRule n item))
+StackOutcomes known text statuses.WriteFault trace = (fault : Fault) × (trace ≡ told_once fault)
+StackOutcomes known text statuses.Memory trace = (trace ≡ []) ⊎ ((fault : Fault) × (trace ≡ told_once fault))
+StackOutcomes known text status trace = ⊥
 
 -- what a script came to: its lines were run where its stack was accepted, and else the shelf is as it was
-abbrev pub ScriptOutcomes : Option Fault → Script → List Slot → Status → List Note → Option Air → List Slot → Type 0
-ScriptOutcomes ending s shelf status trace (Some a) shelf' = (plan : Plan) × ReadsBuilt (Ok plan) s.stack × PlayOutcomes plan ending s.lines shelf status trace (Some a) shelf'
-ScriptOutcomes ending s shelf status trace None shelf' = StackOutcomes s.stack status trace × (shelf' ≡ shelf)
+abbrev pub ScriptOutcomes : (List ℕ → Bool) → Option Fault → Script → List Slot → Status → List Note → Option Tower → List Slot → Type 0
+ScriptOutcomes known ending s shelf status trace (Some t) shelf' = (plan : Plan) × ReadsRunnable known (Ok plan) s.stack × (start : Stage) × IsOpening plan shelf start × PlayOutcomes plan ending s.lines start status trace (Some t) shelf'
+ScriptOutcomes known ending s shelf status trace None shelf' = StackOutcomes known s.stack status trace × (shelf' ≡ shelf)
 
 -- what an input came to: where no mark was among what was read, the fault is told
-abbrev pub InputOutcomes : Option Fault → Option Script → List Slot → Status → List Note → Option Air → List Slot → Type 0
-InputOutcomes ending (Some s) shelf status trace tower shelf' = ScriptOutcomes ending s shelf status trace tower shelf'
-InputOutcomes (Some fault) None shelf status trace tower shelf' = (tower ≡ None) × RefusedBy fault status trace × (shelf' ≡ shelf)
-InputOutcomes None None shelf status trace tower shelf' = ⊥
+abbrev pub InputOutcomes : (List ℕ → Bool) → Option Fault → Option Script → List Slot → Status → List Note → Option Tower → List Slot → Type 0
+InputOutcomes known ending (Some s) shelf status trace tower shelf' = ScriptOutcomes known ending s shelf status trace tower shelf'
+InputOutcomes known (Some fault) None shelf status trace tower shelf' = (tower ≡ None) × RefusedBy fault status trace × (shelf' ≡ shelf)
+InputOutcomes known None None shelf status trace tower shelf' = ⊥
 
 -- why reading ended: at the end of the input, past its limit, or by a fault
 abbrev pub EndedBy : Option Fault → Option (List ℕ) → List ℕ → Type 0
@@ -117,23 +120,23 @@ is_whole None = true
 is_whole (Some fault) = false
 
 -- the bytes that were read, and what they came to
-pub record InputRan (left left' : Option (List ℕ)) (shelf : List Slot) (status : Status) (trace : List Note) (tower : Option Air) (shelf' : List Slot) : Type 0 where
+pub record InputRan (known : List ℕ → Bool) (left left' : Option (List ℕ)) (shelf : List Slot) (status : Status) (trace : List Note) (tower : Option Tower) (shelf' : List Slot) : Type 0 where
   pub bytes : List ℕ
   pub ending : Option Fault
   pub read : Consumes left left' bytes
   pub ended : EndedBy ending left' bytes
-  pub outcome : InputOutcomes ending (script_in (is_whole ending) (take 16777216 bytes)) shelf status trace tower shelf'
+  pub outcome : InputOutcomes known ending (script_in (is_whole ending) (take 16777216 bytes)) shelf status trace tower shelf'
 
 -- nothing was done, since memory was not found
-pub record IsNothing (status : Status) (trace : List Note) (tower : Option Air) : Type 0 where
+pub record IsNothing (status : Status) (trace : List Note) (tower : Option Tower) : Type 0 where
   pub memory : status ≡ statuses.Memory
   pub notes : trace ≡ []
   pub left : tower ≡ None
 
 -- what a run came to, by the words of the command line, by what was read, and by the shelf that was handed in
-abbrev pub RunOutcomes : Option ℕ → Option (List ℕ) → Option (List ℕ) → List Slot → Status → List Note → Option Air → List Slot → Type 0
-RunOutcomes (Some word) left left' shelf status trace tower shelf' = (tower ≡ None) × RefusedBy (faults.Usage word) status trace × (shelf' ≡ shelf)
-RunOutcomes None left left' shelf status trace tower shelf' = (IsNothing status trace tower × (shelf' ≡ shelf)) ⊎ InputRan left left' shelf status trace tower shelf'
+abbrev pub RunOutcomes : (List ℕ → Bool) → Option ℕ → Option (List ℕ) → Option (List ℕ) → List Slot → Status → List Note → Option Tower → List Slot → Type 0
+RunOutcomes known (Some word) left left' shelf status trace tower shelf' = (tower ≡ None) × RefusedBy (faults.Usage word) status trace × (shelf' ≡ shelf)
+RunOutcomes known None left left' shelf status trace tower shelf' = (IsNothing status trace tower × (shelf' ≡ shelf)) ⊎ InputRan known left left' shelf status trace tower shelf'
 
 -- a closing note was added, unless memory was not found; the run ends with this status, unless it was stopped
 abbrev pub ClosedBy : Status → Note → List Note → Status → List Note → Type 0
@@ -157,6 +160,14 @@ abbrev pub IsCutBy : ℕ → Fail → Type 0
 IsCutBy now (Cut at) = at ≤ now
 IsCutBy now fail = ⊥
 
--- each end that has failed did so by a cut of its wire
-abbrev pub FailedByCut : Seen → Type 0
-FailedByCut s = (n : ℕ) (f : Fac) → slice_get s.facs n ≡ Some f → (i : ℕ) (e : End) → slice_get f.ends i ≡ Some e → (fail : Fail) → e.state ≡ Failed fail → IsCutBy s.now fail
+-- each end that has failed did so by a cut
+abbrev pub AreCut : Seen → Type 0
+AreCut s = (n : ℕ) (f : Fac) → slice_get s.facs n ≡ Some f → (i : ℕ) (e : End) → slice_get f.ends i ≡ Some e → (fail : Fail) → e.state ≡ Failed fail → IsCutBy s.now fail
+
+-- each end of a wire of a tower that has failed did so by a cut of its wire
+abbrev pub FailedByCut : Tower → Type 0
+FailedByCut t = (u : Tower) → rank_of t 0 ≡ Some u → AreCut (seen_of u)
+
+-- the facilities of each rank of a tower keep what their flows promise
+abbrev pub KeepsAll : Tower → Type 0
+KeepsAll t = (rank : ℕ) (u : Tower) → rank_of t rank ≡ Some u → AreKept (seen_of u)

@@ -27,6 +27,11 @@ fn word_is_built(word: &[u8]) -> bool
         || word == b"state".as_slice()
         || word == b"journal".as_slice()
         || word == b"retire".as_slice()
+        || word == b"in".as_slice()
+        || word == b"out".as_slice()
+        || word == b"clock".as_slice()
+        || word == b"round".as_slice()
+        || word == b"ledger".as_slice()
 }
 
 fn event_is_built(event: &Event) -> bool
@@ -50,6 +55,11 @@ fn event_is_built(event: &Event) -> bool
             | Event::State { .. }
             | Event::Journal { .. }
             | Event::Retire { .. }
+            | Event::In { .. }
+            | Event::Out { .. }
+            | Event::Clock { .. }
+            | Event::Round
+            | Event::Ledger { .. }
     )
 }
 

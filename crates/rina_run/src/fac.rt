@@ -64,7 +64,7 @@ fn fac_at(difs: &[DifPlan], at: usize) -> Option<RankedFac>
 }
 
 /// The DIF of that name.
-fn find_dif(difs: &[DifPlan], name: &Name) -> Option<RankedFac>
+pub fn find_dif(difs: &[DifPlan], name: &Name) -> Option<RankedFac>
     requires { length difs.now ≤ 16 }
     ensures { result ≡ dif_named difs.now name.now }
 {

@@ -2,18 +2,19 @@
 ghost use Rattle.std.specs.Prelude.{◌≡◌, ◌∷◌, ◌++◌, [], option_map, IfOk, OnOk};
 ghost use Rattle.rina_run.specs.Step.{Registering, Allocating, Accepting, Sending, CallsRegister, CallsAllocate, CallsIncoming, CallsSend, port_said, label_of, asked};
 ghost use Rattle.rina_stack.specs.Plan.{IsPlan};
-ghost use Rattle.rina_wire.specs.Sound.{IsSound};
+ghost use Rattle.rina_tower.specs.Standing.{IsTower};
 
 use crate::labels::Label;
+use crate::look::state_at;
 use crate::site::{Site, find_site};
-use crate::told::{tell_allocate, tell_drawn, tell_register, tell_send};
+use crate::told::{tell_allocate, tell_app_send, tell_drawn, tell_register};
 use crate::world::World;
 use rina_base::{AppName, Bytes, Memory, Name, Port};
 use rina_cube::Want;
 use rina_iface::{AllocateError, Ask, Facility, RegisterError, SendError};
 use rina_report::{Refusal, Said};
 use rina_stack::Plan;
-use rina_wire::Wires;
+use rina_tower::{AppError, Tower};
 use std::alloc::Global;
 
 /// A refusal, as it is said.
@@ -23,17 +24,18 @@ pub fn refused(why: Option<Refusal>) -> Option<Said>
     Some(Said::Refused { why: why? })
 }
 
-/// The state of a port, as it is said.
+/// The state of a port of a rank, as it is said.
 pub fn say_port(
     alloc: Global,
     plan: &Plan,
-    tower: &Wires,
+    tower: &Tower,
+    rank: u16,
     port: Port,
 ) -> Result<Option<Said>, Memory>
-    requires { IsSound tower.now }
-    ensures { IfOk result (λ o. o ≡ port_said plan.now tower.now port) }
+    requires { IsTower tower.now }
+    ensures { IfOk result (λ o. o ≡ port_said plan.now tower.now rank port) }
 {
-    match tell_drawn(alloc, plan, 0, tower.state(port))? {
+    match tell_drawn(alloc, plan, rank, state_at(tower, rank, port))? {
         Some(state) => Ok(Some(Said::Port { state })),
         None => Ok(None),
     }
@@ -49,9 +51,9 @@ pub fn register(
     app: &AppName,
 ) -> Result<Option<Said>, Memory>
     requires plan { IsPlan plan.now }
-    requires sound { IsSound world.old.tower }
+    requires sound { IsTower world.old.tower }
     ensures does { IfOk result (λ says. Registering plan.now fac.now node.now app.now world.old says world.new) }
-    ensures sound { IsSound world.new.tower }
+    ensures sound { IsTower world.new.tower }
 {
     let site = match find_site(plan, 1, fac, node) {
         Ok(site) => site,
@@ -66,13 +68,16 @@ fn call_register(
     site: Site,
     app: &AppName,
 ) -> Result<Option<Said>, Memory>
-    requires { IsSound world.old.tower }
+    requires { IsTower world.old.tower }
     ensures does { IfOk result (λ says. CallsRegister app.now world.old site says world.new) }
-    ensures sound { IsSound world.new.tower }
+    ensures sound { IsTower world.new.tower }
 {
-    match world.tower.register(alloc, site.fac, site.node, app) {
+    match world
+        .tower
+        .app_register(alloc, site.rank, site.fac, site.node, app)
+    {
         Ok(()) => Ok(Some(Said::Done)),
-        Err(RegisterError::Memory) => Err(Memory),
+        Err(AppError::Call(RegisterError::Memory)) => Err(Memory),
         Err(error) => Ok(refused(tell_register(error))),
     }
 }
@@ -90,9 +95,9 @@ pub fn allocate(
     want: Want,
 ) -> Result<Option<Said>, Memory>
     requires plan { IsPlan plan.now }
-    requires sound { IsSound world.old.tower }
+    requires sound { IsTower world.old.tower }
     ensures does { IfOk result (λ says. Allocating plan.now label.now fac.now node.now app.now to.now want world.old says world.new) }
-    ensures sound { IsSound world.new.tower }
+    ensures sound { IsTower world.new.tower }
 {
     let site = match find_site(plan, 2, fac, node) {
         Ok(site) => site,
@@ -102,7 +107,7 @@ pub fn allocate(
         return Ok(refused(Some(Refusal::LabelUsed)));
     }
     let ask = make_ask(alloc, site, app, to, want)?;
-    call_allocate(alloc, plan, world, label, fac, node, &ask)
+    call_allocate(alloc, plan, world, label, fac, node, site.rank, &ask)
 }
 
 fn make_ask(
@@ -130,33 +135,40 @@ fn call_allocate(
     label: &Name,
     fac: &Name,
     node: &Name,
+    rank: u16,
     ask: &Ask,
 ) -> Result<Option<Said>, Memory>
-    requires { IsSound world.old.tower }
-    ensures does { IfOk result (λ says. CallsAllocate plan.now label.now fac.now node.now world.old ask.now says world.new) }
-    ensures sound { IsSound world.new.tower }
+    requires { IsTower world.old.tower }
+    ensures does { IfOk result (λ says. CallsAllocate plan.now label.now fac.now node.now rank world.old ask.now says world.new) }
+    ensures sound { IsTower world.new.tower }
 {
-    match world.tower.allocate(alloc, ask) {
+    match world.tower.app_allocate(alloc, rank, ask) {
         Ok(port) => {
-            give_label(alloc, world, label, port)?;
-            say_port(alloc, plan, &world.tower, port)
+            give_label(alloc, world, label, rank, port)?;
+            say_port(alloc, plan, &world.tower, rank, port)
         }
-        Err(AllocateError::Memory) => Err(Memory),
+        Err(AppError::Call(AllocateError::Memory)) => Err(Memory),
         Err(error) => Ok(refused(tell_allocate(alloc, fac, node, error)?)),
     }
 }
 
-/// Gives a label to a port, whose state is told now.
-fn give_label(alloc: Global, world: &mut World, name: &Name, port: Port) -> Result<(), Memory>
-    requires { IsSound world.old.tower }
+/// Gives a label to a port of a rank, whose state is told now.
+fn give_label(
+    alloc: Global,
+    world: &mut World,
+    name: &Name,
+    rank: u16,
+    port: Port,
+) -> Result<(), Memory>
+    requires { IsTower world.old.tower }
     ensures tower { world.new.tower ≡ world.old.tower }
-    ensures labels { OnOk result (world.new.labels ≡ world.old.labels ++ label_of name.now world.old.tower port ∷ []) }
+    ensures labels { OnOk result (world.new.labels ≡ world.old.labels ++ label_of name.now world.old.tower rank port ∷ []) }
 {
     let label = Label {
         name: name.copy(alloc)?,
-        rank: 0,
+        rank,
         port,
-        shown: world.tower.state(port),
+        shown: state_at(&world.tower, rank, port),
     };
     world.labels.push(label)?;
     Ok(())
@@ -173,9 +185,9 @@ pub fn accept(
     app: &AppName,
 ) -> Result<Option<Said>, Memory>
     requires plan { IsPlan plan.now }
-    requires sound { IsSound world.old.tower }
+    requires sound { IsTower world.old.tower }
     ensures does { IfOk result (λ says. Accepting plan.now label.now fac.now node.now app.now world.old says world.new) }
-    ensures sound { IsSound world.new.tower }
+    ensures sound { IsTower world.new.tower }
 {
     let site = match find_site(plan, 2, fac, node) {
         Ok(site) => site,
@@ -195,14 +207,17 @@ fn call_incoming(
     site: Site,
     app: &AppName,
 ) -> Result<Option<Said>, Memory>
-    requires { IsSound world.old.tower }
+    requires { IsTower world.old.tower }
     ensures does { IfOk result (λ says. CallsIncoming plan.now label.now app.now world.old site says world.new) }
-    ensures sound { IsSound world.new.tower }
+    ensures sound { IsTower world.new.tower }
 {
-    match world.tower.incoming(site.fac, site.node, app) {
+    match world
+        .tower
+        .app_incoming(site.rank, site.fac, site.node, app)
+    {
         Some(port) => {
-            give_label(alloc, world, label, port)?;
-            say_port(alloc, plan, &world.tower, port)
+            give_label(alloc, world, label, site.rank, port)?;
+            say_port(alloc, plan, &world.tower, site.rank, port)
         }
         None => Ok(Some(Said::Nothing)),
     }
@@ -216,30 +231,31 @@ pub fn send(
     label: &Name,
     bytes: &Bytes,
 ) -> Result<Option<Said>, Memory>
-    requires { IsSound world.old.tower }
+    requires { IsTower world.old.tower }
     ensures does { IfOk result (λ says. Sending plan.now label.now bytes.now world.old says world.new) }
-    ensures sound { IsSound world.new.tower }
+    ensures sound { IsTower world.new.tower }
 {
-    let Some(port) = world.labels.port(label) else {
+    let Some((rank, port)) = world.labels.port(label) else {
         return Ok(refused(Some(Refusal::Unknown { field: 1 })));
     };
-    call_send(alloc, plan, world, port, bytes)
+    call_send(alloc, plan, world, rank, port, bytes)
 }
 
 fn call_send(
     alloc: Global,
     plan: &Plan,
     world: &mut World,
+    rank: u16,
     port: Port,
     bytes: &Bytes,
 ) -> Result<Option<Said>, Memory>
-    requires { IsSound world.old.tower }
-    ensures does { IfOk result (λ says. CallsSend plan.now bytes.now world.old port says world.new) }
-    ensures sound { IsSound world.new.tower }
+    requires { IsTower world.old.tower }
+    ensures does { IfOk result (λ says. CallsSend plan.now bytes.now world.old rank port says world.new) }
+    ensures sound { IsTower world.new.tower }
 {
-    match world.tower.send(alloc, port, bytes.as_slice()) {
+    match world.tower.app_send(alloc, rank, port, bytes.as_slice()) {
         Ok(num) => Ok(Some(Said::Sent { num })),
-        Err(SendError::Memory) => Err(Memory),
-        Err(error) => Ok(refused(tell_send(alloc, plan, 0, error)?)),
+        Err(AppError::Call(SendError::Memory)) => Err(Memory),
+        Err(error) => Ok(refused(tell_app_send(alloc, plan, rank, error)?)),
     }
 }

@@ -3,18 +3,20 @@ ghost use Rattle.std.specs.Prelude.{◌≡◌, ◌++◌, ◌∷◌, [], map, opt
 ghost use Rattle.std.specs.List.{flat_map};
 ghost use Rattle.rina_report.specs.declared.said.Said.TheVariants as said;
 ghost use Rattle.rina_stack.specs.Plan.{IsPlan};
-ghost use Rattle.rina_wire.specs.Air.{seen_of};
+ghost use Rattle.rina_tower.specs.Standing.{IsTower};
 ghost use Rattle.rina_run.specs.Look.{Leads, Extends};
-ghost use Rattle.rina_run.specs.Step.{Showing, end_notes, ends_in, entry_note, flow_note, journal_notes, sent_note, wire_of};
+ghost use Rattle.rina_run.specs.Sites.{fac_named};
+ghost use Rattle.rina_run.specs.Step.{Showing, end_notes, entry_note, flow_note, journal_notes, sent_note};
 
-use crate::note::tell;
+use crate::fac::find_fac;
+use crate::look::ends_at;
+use crate::note::{tell, tick_of};
 use crate::told::{tell_port, tell_state};
 use crate::world::World;
 use rina_base::{Memory, Name, Seq, Tick};
 use rina_iface::{End, Entry, Facility};
 use rina_report::{FlowNote, Notes, Refusal, Said};
 use rina_stack::Plan;
-use rina_wire::Wires;
 use std::alloc::Global;
 
 /// One end, as it is shown.
@@ -170,26 +172,6 @@ fn tell_journal(
     tell_ends(alloc, plan, rank, ends, line, tick, trace)
 }
 
-/// Shows the journal of the facility of a number.
-#[tactic(auto, using(crate::proofs::Telling::ends_are, crate::proofs::Telling::ends_none))]
-fn tell_fac(
-    alloc: Global,
-    plan: &Plan,
-    tower: &Wires,
-    fac: u16,
-    line: u32,
-    trace: &mut Notes,
-) -> Result<(), Memory>
-    ensures ok { OnOk result (trace.new ≡ trace.old ++ journal_notes plan.now 0 line tower.now.now (ends_in (seen_of tower.now) fac)) }
-    ensures err { OnErr result (Extends trace.old trace.new) }
-{
-    let tick = tower.now();
-    match tower.journal(fac) {
-        Some(journal) => tell_journal(alloc, plan, 0, journal.ends.as_slice(), line, tick, trace),
-        None => tell(trace, line, tick, Some(Said::Nothing)),
-    }
-}
-
 /// The word `journal`.
 pub fn journal(
     alloc: Global,
@@ -199,14 +181,16 @@ pub fn journal(
     fac: &Name,
     trace: &mut Notes,
 ) -> Result<(), Memory>
-    requires { IsPlan plan.now }
-    ensures does { OnOk result (Leads (λ ns. Showing plan.now line (wire_of plan.now fac.now) world.now ns world.now) trace.old trace.new) }
+    requires plan { IsPlan plan.now }
+    requires tower { IsTower world.now.tower }
+    ensures does { OnOk result (Leads (λ ns. Showing plan.now line (fac_named plan.now fac.now) world.now ns world.now) trace.old trace.new) }
     ensures more { OnErr result (Extends trace.old trace.new) }
 {
-    let tick = world.tower.now();
-    let Some(fac) = plan.wire(fac) else {
+    let tick = tick_of(&world.tower);
+    let Some(at) = find_fac(plan, fac) else {
         let why = Refusal::Unknown { field: 1 };
         return tell(trace, line, tick, Some(Said::Refused { why }));
     };
-    tell_fac(alloc, plan, &world.tower, fac, line, trace)
+    let ends = ends_at(&world.tower, at.rank, at.fac);
+    tell_journal(alloc, plan, at.rank, ends, line, tick, trace)
 }

@@ -91,10 +91,11 @@ impl Labels {
         self.find(name).is_some()
     }
 
-    /// The port of the label of that name.
-    pub fn port(&self, name: &Name) -> Option<Port>
+    /// The port of the label of that name, and its rank before it.
+    pub fn port(&self, name: &Name) -> Option<(u16, Port)>
         ensures { result ≡ port_in self.now name.now }
     {
-        Some(self.find(name)?.port)
+        let label = self.find(name)?;
+        Some((label.rank, label.port))
     }
 }

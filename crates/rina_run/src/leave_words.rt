@@ -2,7 +2,7 @@
 ghost use Rattle.std.specs.Prelude.{◌≡◌, IfOk};
 ghost use Rattle.rina_run.specs.Step.{CallsFree, CallsUnregister, Freeing, Stating, Unregistering};
 ghost use Rattle.rina_stack.specs.Plan.{IsPlan};
-ghost use Rattle.rina_wire.specs.Sound.{IsSound};
+ghost use Rattle.rina_tower.specs.Standing.{IsTower};
 
 use crate::flow_words::{refused, say_port};
 use crate::site::{Site, find_site};
@@ -12,6 +12,7 @@ use rina_base::{AppName, Memory, Name, Port};
 use rina_iface::{Facility, FreeError, UnregisterError};
 use rina_report::{Refusal, Said};
 use rina_stack::Plan;
+use rina_tower::AppError;
 use std::alloc::Global;
 
 /// The word `unregister`.
@@ -24,9 +25,9 @@ pub fn unregister(
     app: &AppName,
 ) -> Result<Option<Said>, Memory>
     requires plan { IsPlan plan.now }
-    requires sound { IsSound world.old.tower }
+    requires sound { IsTower world.old.tower }
     ensures does { IfOk result (λ says. Unregistering plan.now fac.now node.now app.now world.old says world.new) }
-    ensures sound { IsSound world.new.tower }
+    ensures sound { IsTower world.new.tower }
 {
     let site = match find_site(plan, 1, fac, node) {
         Ok(site) => site,
@@ -41,37 +42,45 @@ fn call_unregister(
     site: Site,
     app: &AppName,
 ) -> Result<Option<Said>, Memory>
-    requires { IsSound world.old.tower }
+    requires { IsTower world.old.tower }
     ensures does { IfOk result (λ says. CallsUnregister app.now world.old site says world.new) }
-    ensures sound { IsSound world.new.tower }
+    ensures sound { IsTower world.new.tower }
 {
-    match world.tower.unregister(alloc, site.fac, site.node, app) {
+    match world
+        .tower
+        .app_unregister(alloc, site.rank, site.fac, site.node, app)
+    {
         Ok(()) => Ok(Some(Said::Done)),
-        Err(UnregisterError::Memory) => Err(Memory),
+        Err(AppError::Call(UnregisterError::Memory)) => Err(Memory),
         Err(error) => Ok(refused(tell_unregister(error))),
     }
 }
 
 /// The word `free`.
 pub fn free(alloc: Global, world: &mut World, label: &Name) -> Result<Option<Said>, Memory>
-    requires { IsSound world.old.tower }
+    requires { IsTower world.old.tower }
     ensures does { IfOk result (λ says. Freeing label.now world.old says world.new) }
-    ensures sound { IsSound world.new.tower }
+    ensures sound { IsTower world.new.tower }
 {
-    let Some(port) = world.labels.port(label) else {
+    let Some((rank, port)) = world.labels.port(label) else {
         return Ok(refused(Some(Refusal::Unknown { field: 1 })));
     };
-    call_free(alloc, world, port)
+    call_free(alloc, world, rank, port)
 }
 
-fn call_free(alloc: Global, world: &mut World, port: Port) -> Result<Option<Said>, Memory>
-    requires { IsSound world.old.tower }
-    ensures does { IfOk result (λ says. CallsFree world.old port says world.new) }
-    ensures sound { IsSound world.new.tower }
+fn call_free(
+    alloc: Global,
+    world: &mut World,
+    rank: u16,
+    port: Port,
+) -> Result<Option<Said>, Memory>
+    requires { IsTower world.old.tower }
+    ensures does { IfOk result (λ says. CallsFree world.old rank port says world.new) }
+    ensures sound { IsTower world.new.tower }
 {
-    match world.tower.free(alloc, port) {
+    match world.tower.app_free(alloc, rank, port) {
         Ok(()) => Ok(Some(Said::Done)),
-        Err(FreeError::Memory) => Err(Memory),
+        Err(AppError::Call(FreeError::Memory)) => Err(Memory),
         Err(error) => Ok(refused(tell_free(error))),
     }
 }
@@ -83,11 +92,11 @@ pub fn tell_label(
     world: &World,
     label: &Name,
 ) -> Result<Option<Said>, Memory>
-    requires { IsSound world.now.tower }
+    requires { IsTower world.now.tower }
     ensures { IfOk result (λ says. Stating plan.now label.now world.now says world.now) }
 {
-    let Some(port) = world.labels.port(label) else {
+    let Some((rank, port)) = world.labels.port(label) else {
         return Ok(refused(Some(Refusal::Unknown { field: 1 })));
     };
-    say_port(alloc, plan, &world.tower, port)
+    say_port(alloc, plan, &world.tower, rank, port)
 }

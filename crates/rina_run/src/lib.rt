@@ -2,20 +2,22 @@
 #![tactic(auto)]
 
 mod built;
+mod dif_words;
 mod emit;
 mod fac;
 mod flow_words;
-mod frame_law;
 mod input;
 mod journal_word;
 mod labels;
-mod laws;
 mod leave_words;
+mod ledger_word;
 mod look;
 mod note;
+mod opening;
 mod outcome;
 mod play;
 mod read_word;
+mod round_words;
 mod shelf;
 mod site;
 mod step;
@@ -26,7 +28,5 @@ mod wire_words;
 mod words;
 mod world;
 
-pub use frame_law::a_frame_arrives_once;
-pub use laws::labels_tell_their_ends;
 pub use outcome::{Outcome, Status};
 pub use top::run;

@@ -1,19 +1,19 @@
 //! The states of labelled ports: which changed since they were told last.
 ghost use Rattle.std.specs.Prelude.{◌≡◌, ◌<◌, ◌++◌, length, option_map, slice_get, slice_set, IfOk, OnOk, OnErr};
-ghost use Rattle.rina_wire.specs.Sound.{IsSound};
+ghost use Rattle.rina_tower.specs.Standing.{IsTower};
 ghost use Rattle.rina_run.specs.declared.labels.Label.{Label};
 ghost use Rattle.rina_report.specs.declared.said.Said.TheVariants as said;
 ghost use Rattle.rina_run.specs.Told.{drawn_told};
-ghost use Rattle.rina_run.specs.Look.{same_num, same_port, same_why, same_fail, same_state, same_drawn, label_notes, state_notes, shown_now, looked, Extends};
+ghost use Rattle.rina_run.specs.Look.{same_num, same_port, same_why, same_fail, same_state, same_drawn, ends_at, label_notes, state_at, state_notes, shown_now, looked, Extends};
 
 use crate::labels::{Label, Labels};
-use crate::note::tell;
+use crate::note::{tell, tick_of};
 use crate::told::tell_drawn;
-use rina_base::Memory;
-use rina_iface::{Facility, Fail, PortState, Why};
+use rina_base::{Memory, Port};
+use rina_iface::{End, Facility, Fail, PortState, Why};
 use rina_report::{Notes, Said};
 use rina_stack::Plan;
-use rina_wire::Wires;
+use rina_tower::Tower;
 use std::alloc::Global;
 
 fn is_same_why(a: Why, b: Why) -> bool
@@ -70,6 +70,29 @@ fn is_same(a: Option<PortState>, b: Option<PortState>) -> bool
     }
 }
 
+/// The ends of a facility of a rank, in the order in which they were made; none where there is no such
+/// facility.
+pub fn ends_at(tower: &Tower, rank: u16, fac: u16) -> &[End]
+    requires { IsTower tower.now }
+    ensures { result.now ≡ ends_at tower.now rank fac }
+{
+    let Some(at) = tower.rank(rank) else {
+        return &[];
+    };
+    match at.journal(fac) {
+        Some(journal) => journal.ends.as_slice(),
+        None => &[],
+    }
+}
+
+/// The state of a port of a rank.
+pub fn state_at(tower: &Tower, rank: u16, port: Port) -> Option<PortState>
+    requires { IsTower tower.now }
+    ensures { result ≡ state_at tower.now rank port }
+{
+    tower.rank(rank)?.state(port)
+}
+
 /// What a label tells of its port's new state.
 fn say_label(
     alloc: Global,
@@ -93,42 +116,42 @@ fn say_label(
 fn look_at(
     alloc: Global,
     plan: &Plan,
-    tower: &Wires,
+    tower: &Tower,
     label: &Label,
     line: u32,
     trace: &mut Notes,
 ) -> Result<(), Memory>
-    requires { IsSound tower.now }
+    requires { IsTower tower.now }
     ensures ok { OnOk result (trace.new ≡ trace.old ++ label_notes plan.now line tower.now label.now) }
     ensures err { OnErr result (trace.new ≡ trace.old) }
 {
-    let state = tower.state(label.port);
+    let state = state_at(tower, label.rank, label.port);
     if is_same(state, label.shown) {
         return Ok(());
     }
     let says = say_label(alloc, plan, label, state)?;
-    tell(trace, line, tower.now(), says)
+    tell(trace, line, tick_of(tower), says)
 }
 
 /// Looks at the label at this place.
 fn look_one(
     alloc: Global,
     plan: &Plan,
-    tower: &Wires,
+    tower: &Tower,
     labels: &mut Labels,
     at: usize,
     line: u32,
     trace: &mut Notes,
 ) -> Result<(), Memory>
     requires place { at < length labels.old }
-    requires sound { IsSound tower.now }
+    requires sound { IsTower tower.now }
     ensures notes { OnOk result ((l : Label) → slice_get labels.old at ≡ Some l → trace.new ≡ trace.old ++ label_notes plan.now line tower.now l) }
     ensures labels { OnOk result ((l : Label) → slice_get labels.old at ≡ Some l → labels.new ≡ slice_set labels.old at (shown_now tower.now l)) }
     ensures err { OnErr result (trace.new ≡ trace.old) }
 {
     let label = &labels.as_slice()[at];
     look_at(alloc, plan, tower, label, line, trace)?;
-    let state = tower.state(label.port);
+    let state = state_at(tower, label.rank, label.port);
     labels.show(at, state);
     Ok(())
 }
@@ -137,12 +160,12 @@ fn look_one(
 pub fn look(
     alloc: Global,
     plan: &Plan,
-    tower: &Wires,
+    tower: &Tower,
     labels: &mut Labels,
     line: u32,
     trace: &mut Notes,
 ) -> Result<(), Memory>
-    requires { IsSound tower.now }
+    requires { IsTower tower.now }
     ensures notes { OnOk result (trace.new ≡ trace.old ++ state_notes plan.now line tower.now labels.old) }
     ensures labels { OnOk result (labels.new ≡ looked tower.now labels.old) }
     ensures more { OnErr result (Extends trace.old trace.new) }

@@ -1,9 +1,20 @@
 //! Notes of the lines that were run.
 ghost use Rattle.std.specs.Prelude.{◌≡◌, ◌++◌, OnOk, OnErr};
+ghost use Rattle.rina_tower.specs.Ranks.{now_of};
 ghost use Rattle.rina_run.specs.Look.{noted};
 
 use rina_base::{Memory, Tick};
+use rina_iface::Facility;
 use rina_report::{Note, Notes, Said};
+use rina_tower::Tower;
+
+/// The tick that it is.
+#[tactic(auto, using(rina_tower::specs::Ranks::seen_now))]
+pub fn tick_of(tower: &Tower) -> Tick
+    ensures { result ≡ now_of tower.now }
+{
+    tower.now()
+}
 
 /// Adds the note of what a line says at a tick, if it says anything.
 pub fn tell(trace: &mut Notes, line: u32, tick: Tick, says: Option<Said>) -> Result<(), Memory>

@@ -1,6 +1,6 @@
 //! What a run came to.
 use rina_report::Notes;
-use rina_wire::Wires;
+use rina_tower::Tower;
 
 /// How a run ended.
 #[derive(Clone, Copy, Debug, PartialEq, Eq)]
@@ -32,7 +32,7 @@ pub enum Status {
 pub struct Finish {
     pub status: Status,
     pub trace: Notes,
-    pub tower: Option<Wires>,
+    pub tower: Option<Tower>,
 }
 
 /// What a run came to: its status, the notes in order, the tower as the run left it, where a stack was
@@ -41,6 +41,6 @@ pub struct Finish {
 pub struct Outcome<P> {
     pub status: Status,
     pub trace: Notes,
-    pub tower: Option<Wires>,
+    pub tower: Option<Tower>,
     pub shelf: P,
 }

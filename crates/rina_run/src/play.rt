@@ -5,7 +5,7 @@ ghost use Rattle.bstr.specs.Text.{without_terminator};
 ghost use Rattle.rina_io.specs.Causes.{Rose};
 ghost use Rattle.rina_report.specs.Notes.{text_of};
 ghost use Rattle.rina_stack.specs.Plan.{IsPlan};
-ghost use Rattle.rina_wire.specs.Sound.{IsSound};
+ghost use Rattle.rina_tower.specs.Standing.{IsTower};
 ghost use Rattle.rina_run.specs.Built.{is_built};
 ghost use Rattle.rina_run.specs.Written.{IsFront};
 ghost use Rattle.rina_run.specs.Step.{HasNames, Steps, stage};
@@ -38,13 +38,13 @@ fn run_event<K: Sink, P: Retires>(
 ) -> Result<(), Stop>
     requires plan { IsPlan plan.now }
     requires built { is_built event.now ≡ true }
-    requires sound { IsSound world.old.tower }
+    requires sound { IsTower world.old.tower }
     ensures does { Ran (λ ns. Steps plan.now number event.now (stage world.old (P.slots shelf.old)) ns (stage world.new (P.slots shelf.new))) trace.old trace.new result }
     ensures ok { OnOk result ((base : Option (List ℕ)) → Appends base (K.took out.old) (text_of trace.old) → Appends base (K.took out.new) (text_of trace.new)) }
     ensures err { OnErr result ((base : Option (List ℕ)) → Appends base (K.took out.old) (text_of trace.old) → IsFront base (K.took out.new) (text_of trace.new)) }
     ensures fault { IsErrOf result Stop.WriteFault → Rose (K.faults out.old) (K.faults out.new) }
     ensures later { K.faults out.old ≤ K.faults out.new }
-    ensures sound { IsSound world.new.tower }
+    ensures sound { IsTower world.new.tower }
     ensures names { HasNames (P.slots shelf.old) (P.slots shelf.new) }
 {
     let from = trace.len();
@@ -70,13 +70,13 @@ fn run_line<K: Sink, P: Retires>(
     trace: &mut Notes,
 ) -> Result<Option<LineError>, Stop>
     requires plan { IsPlan plan.now }
-    requires sound { IsSound world.old.tower }
+    requires sound { IsTower world.old.tower }
     ensures does { LineRan plan.now number line.now (stage world.old (P.slots shelf.old)) trace.old (stage world.new (P.slots shelf.new)) trace.new result }
     ensures ok { OnOk result ((base : Option (List ℕ)) → Appends base (K.took out.old) (text_of trace.old) → Appends base (K.took out.new) (text_of trace.new)) }
     ensures err { OnErr result ((base : Option (List ℕ)) → Appends base (K.took out.old) (text_of trace.old) → IsFront base (K.took out.new) (text_of trace.new)) }
     ensures fault { IsErrOf result Stop.WriteFault → Rose (K.faults out.old) (K.faults out.new) }
     ensures later { K.faults out.old ≤ K.faults out.new }
-    ensures sound { IsSound world.new.tower }
+    ensures sound { IsTower world.new.tower }
     ensures names { HasNames (P.slots shelf.old) (P.slots shelf.new) }
 {
     match read_event(alloc, line) {
@@ -108,7 +108,7 @@ pub fn play<K: Sink, P: Retires>(
     trace: &mut Notes,
 ) -> Result<Option<BadLine>, Stop>
     requires plan { IsPlan plan.now }
-    requires sound { IsSound world.old.tower }
+    requires sound { IsTower world.old.tower }
     requires few { length lines.now < 2 ^ 32 }
     requires none { trace.old ≡ [] }
     ensures does { LinesRan plan.now (stage world.old (P.slots shelf.old)) (map (λ l. without_terminator l.now) lines.now) trace.new (stage world.new (P.slots shelf.new)) result }
@@ -116,7 +116,7 @@ pub fn play<K: Sink, P: Retires>(
     ensures err { OnErr result (IsFront (K.took out.old) (K.took out.new) (text_of trace.new)) }
     ensures fault { IsErrOf result Stop.WriteFault → Rose (K.faults out.old) (K.faults out.new) }
     ensures later { K.faults out.old ≤ K.faults out.new }
-    ensures sound { IsSound world.new.tower }
+    ensures sound { IsTower world.new.tower }
     ensures names { HasNames (P.slots shelf.old) (P.slots shelf.new) }
 {
     let mut number = 0u32;

@@ -1,17 +1,21 @@
 //! One line of a schedule.
 ghost use Rattle.std.specs.Prelude.{◌≡◌, ◌+◌, ◌<◌, ◌≤◌, nat_lt, true, OnOk, OnErr};
 ghost use Rattle.rina_stack.specs.Plan.{IsPlan};
-ghost use Rattle.rina_wire.specs.Sound.{IsSound};
+ghost use Rattle.rina_tower.specs.Standing.{IsTower};
+ghost use Rattle.rina_tower.specs.Ranks.{now_of};
 ghost use Rattle.rina_run.specs.Built.{is_built};
 ghost use Rattle.rina_run.specs.Look.{Leads, Extends};
-ghost use Rattle.rina_run.specs.Step.{Acts, HasNames, Steps, Ticking, Ticks, TicksOnce, stage};
+ghost use Rattle.rina_run.specs.Step.{Acts, HasNames, Steps, Ticking, Ticks, TicksOnce, rounds_after, stage};
 
+use crate::dif_words::{clock, take_in};
 use crate::flow_words::{accept, allocate, register, send};
 use crate::journal_word::journal;
 use crate::leave_words::{free, tell_label, unregister};
+use crate::ledger_word::ledger;
 use crate::look::look;
-use crate::note::tell;
+use crate::note::{tell, tick_of};
 use crate::read_word::read;
+use crate::round_words::{go_round, let_out};
 use crate::shelf::retire;
 use crate::wire_words::{cut, hold, lose, mend, repeat};
 use crate::world::World;
@@ -20,71 +24,84 @@ use rina_iface::Facility;
 use rina_policy::Retires;
 use rina_report::{Notes, Refusal, Said};
 use rina_schedule::Event;
-use rina_stack::Plan;
+use rina_stack::{Plan, Rounds};
 use rina_wire::TickError;
 use std::alloc::Global;
 
-/// One tick, after which the labels tell their states.
-fn tick_once(
+/// One tick and the round that follows it, after which the labels tell their states.
+fn tick_once<P: Retires>(
     alloc: Global,
     plan: &Plan,
     world: &mut World,
+    shelf: &mut P,
     line: u32,
     trace: &mut Notes,
 ) -> Result<(), Memory>
-    requires sound { IsSound world.old.tower }
-    requires clock { world.old.tower.now < 10_000_000 }
-    ensures does { OnOk result (Leads (λ ns. TicksOnce plan.now line world.old ns world.new) trace.old trace.new) }
+    requires tower { IsTower world.old.tower }
+    requires clock { now_of world.old.tower < 10_000_000 }
+    ensures does { OnOk result (Leads (λ ns. TicksOnce plan.now line (stage world.old (P.slots shelf.old)) ns (stage world.new (P.slots shelf.new))) trace.old trace.new) }
     ensures more { OnErr result (Extends trace.old trace.new) }
-    ensures clock { OnOk result (world.new.tower.now ≡ world.old.tower.now + 1) }
-    ensures sound { IsSound world.new.tower }
+    ensures clock { OnOk result (now_of world.new.tower ≡ now_of world.old.tower + 1) }
+    ensures tower { IsTower world.new.tower }
+    ensures names { HasNames (P.slots shelf.old) (P.slots shelf.new) }
 {
     match world.tower.tick(alloc) {
-        Ok(()) => look(alloc, plan, &world.tower, &mut world.labels, line, trace),
-        Err(TickError::Memory) => Err(Memory),
+        Ok(()) => {}
+        Err(TickError::Memory) => return Err(Memory),
         Err(TickError::ClockSpent) => unreachable!(),
     }
+    go_round(alloc, plan.rounds, world, shelf)?;
+    look(alloc, plan, &world.tower, &mut world.labels, line, trace)
 }
 
 /// The word `tick`.
-fn tick(
+fn tick<P: Retires>(
     alloc: Global,
     plan: &Plan,
     world: &mut World,
+    shelf: &mut P,
     line: u32,
     count: u32,
     trace: &mut Notes,
 ) -> Result<(), Memory>
-    requires { IsSound world.old.tower }
-    ensures does { OnOk result (Leads (λ ns. Ticking (nat_lt 10000000 (world.old.tower.now + count)) plan.now line count world.old ns world.new) trace.old trace.new) }
+    requires { IsTower world.old.tower }
+    ensures does { OnOk result (Leads (λ ns. Ticking (nat_lt 10000000 (now_of world.old.tower + count)) plan.now line count (stage world.old (P.slots shelf.old)) ns (stage world.new (P.slots shelf.new))) trace.old trace.new) }
     ensures more { OnErr result (Extends trace.old trace.new) }
-    ensures sound { IsSound world.new.tower }
+    ensures tower { IsTower world.new.tower }
+    ensures names { HasNames (P.slots shelf.old) (P.slots shelf.new) }
 {
-    if u64::from(world.tower.now()) + u64::from(count) > 10_000_000 {
+    if u64::from(tick_of(&world.tower)) + u64::from(count) > 10_000_000 {
         let why = Refusal::ClockSpent;
-        return tell(trace, line, world.tower.now(), Some(Said::Refused { why }));
+        return tell(
+            trace,
+            line,
+            tick_of(&world.tower),
+            Some(Said::Refused { why }),
+        );
     }
-    tick_all(alloc, plan, world, line, count, trace)?;
-    tell(trace, line, world.tower.now(), Some(Said::Done))
+    tick_all(alloc, plan, world, shelf, line, count, trace)?;
+    tell(trace, line, tick_of(&world.tower), Some(Said::Done))
 }
 
 /// So many ticks.
-fn tick_all(
+fn tick_all<P: Retires>(
     alloc: Global,
     plan: &Plan,
     world: &mut World,
+    shelf: &mut P,
     line: u32,
     count: u32,
     trace: &mut Notes,
 ) -> Result<(), Memory>
-    requires sound { IsSound world.old.tower }
-    requires clock { world.old.tower.now + count ≤ 10_000_000 }
-    ensures does { OnOk result (Leads (λ ns. Ticks plan.now line count world.old ns world.new) trace.old trace.new) }
+    requires tower { IsTower world.old.tower }
+    requires clock { now_of world.old.tower + count ≤ 10_000_000 }
+    ensures does { OnOk result (Leads (λ ns. Ticks plan.now line count (stage world.old (P.slots shelf.old)) ns (stage world.new (P.slots shelf.new))) trace.old trace.new) }
     ensures more { OnErr result (Extends trace.old trace.new) }
-    ensures sound { IsSound world.new.tower }
+    ensures tower { IsTower world.new.tower }
+    ensures names { HasNames (P.slots shelf.old) (P.slots shelf.new) }
 {
     'ticks: for _ in 0..count {
-        tick_once(alloc, plan, world, line, trace)?;
+        tick_once(alloc, plan, world, shelf, line, trace)?;
     }
     Ok(())
 }
@@ -101,16 +118,16 @@ fn act<P: Retires>(
 ) -> Result<(), Memory>
     requires plan { IsPlan plan.now }
     requires built { is_built event.now ≡ true }
-    requires sound { IsSound world.old.tower }
+    requires sound { IsTower world.old.tower }
     ensures does { OnOk result (Leads (λ ns. Acts plan.now line event.now (stage world.old (P.slots shelf.old)) ns (stage world.new (P.slots shelf.new))) trace.old trace.new) }
     ensures more { OnErr result (Extends trace.old trace.new) }
-    ensures sound { IsSound world.new.tower }
+    ensures sound { IsTower world.new.tower }
     ensures names { HasNames (P.slots shelf.old) (P.slots shelf.new) }
 {
     match event {
         Event::Register { fac, node, app } => {
             let says = register(alloc, plan, world, fac, node, app)?;
-            tell(trace, line, world.tower.now(), says)
+            tell(trace, line, tick_of(&world.tower), says)
         }
         Event::Alloc {
             label,
@@ -121,7 +138,7 @@ fn act<P: Retires>(
             want,
         } => {
             let says = allocate(alloc, plan, world, label, fac, node, app, to, *want)?;
-            tell(trace, line, world.tower.now(), says)
+            tell(trace, line, tick_of(&world.tower), says)
         }
         Event::Accept {
             label,
@@ -130,56 +147,84 @@ fn act<P: Retires>(
             app,
         } => {
             let says = accept(alloc, plan, world, label, fac, node, app)?;
-            tell(trace, line, world.tower.now(), says)
+            tell(trace, line, tick_of(&world.tower), says)
         }
         Event::Send { label, bytes } => {
             let says = send(alloc, plan, world, label, bytes)?;
-            tell(trace, line, world.tower.now(), says)
+            tell(trace, line, tick_of(&world.tower), says)
         }
         Event::Read { label } => read(alloc, world, line, label, trace),
-        Event::Tick { count } => tick(alloc, plan, world, line, *count, trace),
+        Event::Tick { count } => tick(alloc, plan, world, shelf, line, *count, trace),
         Event::Lose { wire, frame } => {
             let says = lose(plan, world, wire, *frame)?;
-            tell(trace, line, world.tower.now(), says)
+            tell(trace, line, tick_of(&world.tower), says)
         }
         Event::Repeat { wire, frame, at } => {
             let says = repeat(alloc, plan, world, wire, *frame, *at)?;
-            tell(trace, line, world.tower.now(), says)
+            tell(trace, line, tick_of(&world.tower), says)
         }
         Event::Hold { wire, frame, at } => {
             let says = hold(plan, world, wire, *frame, *at)?;
-            tell(trace, line, world.tower.now(), says)
+            tell(trace, line, tick_of(&world.tower), says)
         }
         Event::Cut { wire } => {
             let says = cut(plan, world, wire)?;
-            tell(trace, line, world.tower.now(), says)
+            tell(trace, line, tick_of(&world.tower), says)
         }
         Event::Mend { wire } => {
             let says = mend(plan, world, wire)?;
-            tell(trace, line, world.tower.now(), says)
+            tell(trace, line, tick_of(&world.tower), says)
         }
         Event::Unregister { fac, node, app } => {
             let says = unregister(alloc, plan, world, fac, node, app)?;
-            tell(trace, line, world.tower.now(), says)
+            tell(trace, line, tick_of(&world.tower), says)
         }
         Event::Free { label } => {
             let says = free(alloc, world, label)?;
-            tell(trace, line, world.tower.now(), says)
+            tell(trace, line, tick_of(&world.tower), says)
         }
         Event::State { label } => {
             let says = tell_label(alloc, plan, world, label)?;
-            tell(trace, line, world.tower.now(), says)
+            tell(trace, line, tick_of(&world.tower), says)
         }
         Event::Journal { fac } => journal(alloc, plan, world, line, fac, trace),
+        Event::In { dif, node, link } => {
+            let says = take_in(alloc, plan, world, dif, node, *link)?;
+            tell(trace, line, tick_of(&world.tower), says)
+        }
+        Event::Out { dif, node, link } => {
+            let says = let_out(alloc, plan, world, shelf, dif, node, *link)?;
+            tell(trace, line, tick_of(&world.tower), says)
+        }
+        Event::Clock { dif, node } => {
+            let says = clock(alloc, plan, world, dif, node)?;
+            tell(trace, line, tick_of(&world.tower), says)
+        }
+        Event::Ledger { dif, node } => ledger(alloc, plan, world, line, dif, node, trace),
+        Event::Round => {
+            go_round(alloc, Rounds::Auto, world, shelf)?;
+            tell(trace, line, tick_of(&world.tower), Some(Said::Done))
+        }
         Event::Retire { policy } => {
             let says = retire(shelf, policy);
-            tell(trace, line, world.tower.now(), says)
+            tell(trace, line, tick_of(&world.tower), says)
         }
         _ => unreachable!(),
     }
 }
 
-/// Runs a line: its word, and then the states of the labels that changed.
+/// Who moves PDUs after a line: after a line of ticks nobody, since each tick had its round.
+fn rounds_after(rounds: Rounds, event: &Event) -> Rounds
+    ensures { result ≡ rounds_after rounds event.now }
+{
+    match event {
+        Event::Tick { .. } => Rounds::Manual,
+        _ => rounds,
+    }
+}
+
+/// Runs a line: its word, the round that follows by itself, and then the states of the labels that
+/// changed.
 pub fn step<P: Retires>(
     alloc: Global,
     plan: &Plan,
@@ -191,12 +236,13 @@ pub fn step<P: Retires>(
 ) -> Result<(), Memory>
     requires plan { IsPlan plan.now }
     requires built { is_built event.now ≡ true }
-    requires sound { IsSound world.old.tower }
+    requires sound { IsTower world.old.tower }
     ensures does { OnOk result (Leads (λ ns. Steps plan.now line event.now (stage world.old (P.slots shelf.old)) ns (stage world.new (P.slots shelf.new))) trace.old trace.new) }
     ensures more { OnErr result (Extends trace.old trace.new) }
-    ensures sound { IsSound world.new.tower }
+    ensures sound { IsTower world.new.tower }
     ensures names { HasNames (P.slots shelf.old) (P.slots shelf.new) }
 {
     act(alloc, plan, world, shelf, line, event, trace)?;
+    go_round(alloc, rounds_after(plan.rounds, event), world, shelf)?;
     look(alloc, plan, &world.tower, &mut world.labels, line, trace)
 }

@@ -1,6 +1,6 @@
 //! How a run tells ports, states and refusals: with the names of the stack in place of numbers.
 ghost use Rattle.std.specs.Prelude.{◌≡◌, IfOk, option_map, slice_get};
-ghost use Rattle.rina_run.specs.Told.{facs_of, port_told, fail_told, state_told, drawn_told, register_told, unregister_told, free_told, allocate_told, send_told, wire_told};
+ghost use Rattle.rina_run.specs.Told.{app_told, facs_of, port_told, fail_told, state_told, drawn_told, register_told, unregister_told, free_told, allocate_told, send_told, wire_told};
 
 use crate::fac::name_at;
 use rina_base::{Memory, Name, Port};
@@ -9,6 +9,7 @@ use rina_iface::{
 };
 use rina_report::{FailNote, PortNote, Refusal, StateNote};
 use rina_stack::Plan;
+use rina_tower::AppError;
 use rina_wire::WireError;
 use std::alloc::Global;
 
@@ -97,8 +98,19 @@ pub fn tell_drawn(
     }
 }
 
+/// What `register` of an application refused.
+pub fn tell_register(error: AppError<RegisterError>) -> Option<Refusal>
+    ensures { result ≡ app_told register_told error }
+{
+    match error {
+        AppError::NoRank => Some(Refusal::NoRank),
+        AppError::NotYours => Some(Refusal::NotYours),
+        AppError::Call(error) => register_refusal(error),
+    }
+}
+
 /// What `register` refused.
-pub fn tell_register(error: RegisterError) -> Option<Refusal>
+fn register_refusal(error: RegisterError) -> Option<Refusal>
     ensures { result ≡ register_told error }
 {
     match error {
@@ -110,8 +122,19 @@ pub fn tell_register(error: RegisterError) -> Option<Refusal>
     }
 }
 
+/// What `unregister` of an application refused.
+pub fn tell_unregister(error: AppError<UnregisterError>) -> Option<Refusal>
+    ensures { result ≡ app_told unregister_told error }
+{
+    match error {
+        AppError::NoRank => Some(Refusal::NoRank),
+        AppError::NotYours => Some(Refusal::NotYours),
+        AppError::Call(error) => unregister_refusal(error),
+    }
+}
+
 /// What `unregister` refused.
-pub fn tell_unregister(error: UnregisterError) -> Option<Refusal>
+fn unregister_refusal(error: UnregisterError) -> Option<Refusal>
     ensures { result ≡ unregister_told error }
 {
     match error {
@@ -122,8 +145,19 @@ pub fn tell_unregister(error: UnregisterError) -> Option<Refusal>
     }
 }
 
+/// What `free` of an application refused.
+pub fn tell_free(error: AppError<FreeError>) -> Option<Refusal>
+    ensures { result ≡ app_told free_told error }
+{
+    match error {
+        AppError::NoRank => Some(Refusal::NoRank),
+        AppError::NotYours => Some(Refusal::NotYours),
+        AppError::Call(error) => free_refusal(error),
+    }
+}
+
 /// What `free` refused.
-pub fn tell_free(error: FreeError) -> Option<Refusal>
+fn free_refusal(error: FreeError) -> Option<Refusal>
     ensures { result ≡ free_told error }
 {
     match error {
@@ -140,8 +174,24 @@ fn tell_busy(alloc: Global, fac: &Name, node: &Name, n: u32) -> Result<PortNote,
     Ok(PortNote { fac, node, n })
 }
 
-/// What `allocate` refused at a facility and a node of these names.
+/// What `allocate` of an application refused at a facility and a node of these names.
 pub fn tell_allocate(
+    alloc: Global,
+    fac: &Name,
+    node: &Name,
+    error: AppError<AllocateError>,
+) -> Result<Option<Refusal>, Memory>
+    ensures { IfOk result (λ o. o ≡ app_told (allocate_told fac.now node.now) error) }
+{
+    match error {
+        AppError::NoRank => Ok(Some(Refusal::NoRank)),
+        AppError::NotYours => Ok(Some(Refusal::NotYours)),
+        AppError::Call(error) => allocate_refusal(alloc, fac, node, error),
+    }
+}
+
+/// What `allocate` refused at a facility and a node of these names.
+fn allocate_refusal(
     alloc: Global,
     fac: &Name,
     node: &Name,
@@ -193,6 +243,22 @@ pub fn tell_send(
         SendError::NoRoute { dst } => Ok(Some(Refusal::NoRoute { dst })),
         SendError::QueueFull { need, room } => Ok(Some(Refusal::QueueFull { need, room })),
         SendError::NumbersSpent { until } => Ok(Some(Refusal::NumbersSpent { until })),
+    }
+}
+
+/// What `send` of an application refused at a rank.
+pub fn tell_app_send(
+    alloc: Global,
+    plan: &Plan,
+    rank: u16,
+    error: AppError<SendError>,
+) -> Result<Option<Refusal>, Memory>
+    ensures { IfOk result (λ o. o ≡ app_told (send_told plan.now rank) error) }
+{
+    match error {
+        AppError::NoRank => Ok(Some(Refusal::NoRank)),
+        AppError::NotYours => Ok(Some(Refusal::NotYours)),
+        AppError::Call(error) => tell_send(alloc, plan, rank, error),
     }
 }
 

@@ -5,19 +5,18 @@ ghost use Rattle.bstr.specs.Text.{without_terminator};
 ghost use Rattle.rina_io.specs.Causes.{Rose};
 ghost use Rattle.rina_report.specs.Notes.{text_of};
 ghost use Rattle.rina_stack.specs.Plan.{IsPlan};
-ghost use Rattle.rina_iface.specs.Journal.{AreKept};
-ghost use Rattle.rina_wire.specs.Air.{seen_of};
-ghost use Rattle.rina_wire.specs.Sound.{IsSound};
-ghost use Rattle.rina_run.specs.Run.{opening};
+ghost use Rattle.rina_tower.specs.Standing.{IsTower};
+ghost use Rattle.rina_run.specs.Opening.{IsOpening};
 ghost use Rattle.rina_run.specs.Script.{script, script_in};
 ghost use Rattle.rina_run.specs.Step.{stage};
 ghost use Rattle.rina_run.specs.Words.{word_fault};
 ghost use Rattle.rina_run.specs.Written.{IsFront, Written};
-ghost use Rattle.rina_run.specs.Top.{status_of, status_stopped, fault_of, is_whole, ClosedBy, RefusedBy, PlayOutcomes, ScriptOutcomes, InputOutcomes, RunOutcomes, IsEnding, IsNothing, FailedByCut};
+ghost use Rattle.rina_run.specs.Top.{status_of, status_stopped, fault_of, is_whole, ClosedBy, RefusedBy, PlayOutcomes, ScriptOutcomes, InputOutcomes, RunOutcomes, IsEnding, IsNothing, FailedByCut, KeepsAll};
 
 use crate::emit::{Stop, emit};
 use crate::input::{Parts, all_lines, split_input};
-use crate::labels::Labels;
+use crate::note::tick_of;
+use crate::opening::open_world;
 use crate::outcome::{Finish, Outcome, Status};
 use crate::play::{BadLine, play};
 use crate::words::fault_in;
@@ -28,8 +27,8 @@ use rina_io::{Ending, LIMIT, Sink, Source, take_all};
 use rina_policy::Retires;
 use rina_report::{Fault, Note, Notes};
 use rina_schedule::LineError;
-use rina_stack::{Plan, StackError, read_built};
-use rina_wire::Wires;
+use rina_stack::{Plan, Policies, StackError, read_runnable};
+use rina_tower::Tower;
 use std::alloc::Global;
 
 /// Ends a run in which nothing was done, where memory was not found.
@@ -110,7 +109,7 @@ fn seal<K: Sink>(
     alloc: Global,
     status: Status,
     note: Note,
-    tower: Option<Wires>,
+    tower: Option<Tower>,
     out: &mut K,
     trace: Notes,
 ) -> Finish
@@ -168,12 +167,11 @@ fn run_lines<K: Sink, P: Retires>(
 ) -> Finish
     requires plan { IsPlan plan.now }
     requires ending { IsEnding ending }
-    requires start { stage world (P.slots shelf.old) ≡ opening plan.now (P.slots shelf.old) }
-    requires sound { IsSound world.tower }
+    requires sound { IsTower world.tower }
     requires few { length lines.now < 2 ^ 32 }
-    ensures outcome { PlayOutcomes plan.now ending (map (λ l. without_terminator l.now) lines.now) (P.slots shelf.old) result.status result.trace result.tower (P.slots shelf.new) }
+    ensures outcome { PlayOutcomes plan.now ending (map (λ l. without_terminator l.now) lines.now) (stage world (P.slots shelf.old)) result.status result.trace result.tower (P.slots shelf.new) }
     ensures tower { IsSome result.tower }
-    ensures sound { IfSome result.tower IsSound }
+    ensures sound { IfSome result.tower IsTower }
     ensures written { Written (K.took out.old) (K.took out.new) (text_of result.trace) result.status }
     ensures fault { result.status ≡ Status.WriteFault → Rose (K.faults out.old) (K.faults out.new) }
     ensures later { K.faults out.old ≤ K.faults out.new }
@@ -182,7 +180,7 @@ fn run_lines<K: Sink, P: Retires>(
     match play(alloc, plan, &mut world, shelf, lines, out, &mut trace) {
         Ok(None) => match ending {
             None => {
-                let tick = world.tower.now();
+                let tick = tick_of(&world.tower);
                 seal(
                     alloc,
                     Status::Done,
@@ -226,7 +224,7 @@ fn run_lines<K: Sink, P: Retires>(
 
 /// Runs a script.
 #[tactic(auto, using(crate::proofs::Ending::not_toml_from, crate::proofs::Ending::rule_from, crate::proofs::Ending::script_from, crate::proofs::Ending::wrote_nothing))]
-fn run_script<K: Sink, P: Retires>(
+fn run_script<K: Sink, P: Retires + Policies>(
     alloc: Global,
     ending: Option<Fault>,
     parts: &Parts<'_, '_>,
@@ -235,13 +233,13 @@ fn run_script<K: Sink, P: Retires>(
 ) -> Finish
     requires ending { IsEnding ending }
     requires few { length parts.now.lines.now < 2 ^ 32 }
-    ensures outcome { ScriptOutcomes ending (script parts.now.stack.items (map (λ l. without_terminator l.now) parts.now.lines.now)) (P.slots shelf.old) result.status result.trace result.tower (P.slots shelf.new) }
-    ensures sound { IfSome result.tower IsSound }
+    ensures outcome { ScriptOutcomes (P.knows shelf.old) ending (script parts.now.stack.items (map (λ l. without_terminator l.now) parts.now.lines.now)) (P.slots shelf.old) result.status result.trace result.tower (P.slots shelf.new) }
+    ensures sound { IfSome result.tower IsTower }
     ensures written { Written (K.took out.old) (K.took out.new) (text_of result.trace) result.status }
     ensures fault { result.status ≡ Status.WriteFault → Rose (K.faults out.old) (K.faults out.new) }
     ensures later { K.faults out.old ≤ K.faults out.new }
 {
-    let plan = match read_built(alloc, parts.stack.as_slice()) {
+    let plan = match read_runnable(alloc, parts.stack.as_slice(), shelf) {
         Ok(plan) => plan,
         Err(StackError::Memory) => return nothing(alloc),
         Err(StackError::NotToml) => return refuse(alloc, out, Fault::NotToml),
@@ -249,19 +247,15 @@ fn run_script<K: Sink, P: Retires>(
             return refuse(alloc, out, Fault::StackRule { n, item });
         }
     };
-    let Ok(tower) = Wires::new(alloc, &plan) else {
+    let Ok(world) = open_world(alloc, &plan) else {
         return nothing(alloc);
-    };
-    let world = World {
-        tower,
-        labels: Labels::new(alloc),
     };
     run_lines(alloc, ending, &plan, world, parts.lines, out, shelf)
 }
 
 /// Runs an input, as far as it was read.
 #[tactic(auto, using(crate::proofs::Ending::wrote_nothing))]
-fn run_input<K: Sink, P: Retires>(
+fn run_input<K: Sink, P: Retires + Policies>(
     alloc: Global,
     ending: Option<Fault>,
     bytes: &[u8],
@@ -270,8 +264,8 @@ fn run_input<K: Sink, P: Retires>(
 ) -> Finish
     requires ending { IsEnding ending }
     requires few { length bytes.now ≤ 16777216 }
-    ensures outcome { (IsNothing result.status result.trace result.tower × (P.slots shelf.new ≡ P.slots shelf.old)) ⊎ InputOutcomes ending (script_in (is_whole ending) bytes.now) (P.slots shelf.old) result.status result.trace result.tower (P.slots shelf.new) }
-    ensures sound { IfSome result.tower IsSound }
+    ensures outcome { (IsNothing result.status result.trace result.tower × (P.slots shelf.new ≡ P.slots shelf.old)) ⊎ InputOutcomes (P.knows shelf.old) ending (script_in (is_whole ending) bytes.now) (P.slots shelf.old) result.status result.trace result.tower (P.slots shelf.new) }
+    ensures sound { IfSome result.tower IsTower }
     ensures written { Written (K.took out.old) (K.took out.new) (text_of result.trace) result.status }
     ensures fault { result.status ≡ Status.WriteFault → Rose (K.faults out.old) (K.faults out.new) }
     ensures later { K.faults out.old ≤ K.faults out.new }
@@ -292,7 +286,7 @@ fn run_input<K: Sink, P: Retires>(
 /// A run over any shelf: the words of the command line without the program's name, the input, and where the
 /// notes are written. Each line's notes are written before the next line runs.
 #[tactic(auto, using(crate::proofs::Ending::kept_if, crate::proofs::Ending::failed_by_cut))]
-fn run_over<S: Source, K: Sink, P: Retires>(
+fn run_over<S: Source, K: Sink, P: Retires + Policies>(
     alloc: Global,
     words: &[String],
     input: &mut S,
@@ -302,11 +296,13 @@ fn run_over<S: Source, K: Sink, P: Retires>(
     // What was written is the text of the trace, and a front of it after a write fault or want of memory.
     ensures written { Written (K.took out.old) (K.took out.new) (text_of result.trace) result.status }
     // The status, the trace and the tower are what the words and the input make.
-    ensures outcome { RunOutcomes (word_fault (map (λ w. string_bytes w) words.now)) (S.left input.old) (S.left input.new) (P.slots shelf.old) result.status result.trace result.tower (P.slots shelf.new) }
-    // Every facility of the tower keeps what its flows promise, and names its partners.
-    ensures kept { IfSome result.tower (λ a. AreKept (seen_of a)) }
-    // A flow has failed only by a cut of its wire.
-    ensures failed { IfSome result.tower (λ a. FailedByCut (seen_of a)) }
+    ensures outcome { RunOutcomes (P.knows shelf.old) (word_fault (map (λ w. string_bytes w) words.now)) (S.left input.old) (S.left input.new) (P.slots shelf.old) result.status result.trace result.tower (P.slots shelf.new) }
+    // Every DIF of every rank stands on the rank below.
+    ensures stands { IfSome result.tower IsTower }
+    // Every facility of every rank keeps what its flows promise, and names its partners.
+    ensures kept { IfSome result.tower KeepsAll }
+    // A flow of a wire has failed only by a cut of that wire.
+    ensures failed { IfSome result.tower FailedByCut }
     ensures read { result.status ≡ Status.ReadFault → Rose (S.faults input.old) (S.faults input.new) }
     ensures write { result.status ≡ Status.WriteFault → Rose (K.faults out.old) (K.faults out.new) }
 {
@@ -333,7 +329,7 @@ fn run_over<S: Source, K: Sink, P: Retires>(
 
 /// The top call: the words of the command line without the program's name, the input, where the notes
 /// are written, and the policies. Each line's notes are written before the next line runs.
-pub fn run<S: Source, K: Sink, P: Retires>(
+pub fn run<S: Source, K: Sink, P: Retires + Policies>(
     alloc: Global,
     words: &[String],
     input: &mut S,
@@ -343,11 +339,13 @@ pub fn run<S: Source, K: Sink, P: Retires>(
     // What was written is the text of the trace, and a front of it after a write fault or want of memory.
     ensures written { Written (K.took out.old) (K.took out.new) (text_of result.trace) result.status }
     // The status, the trace, the tower and the shelf are what the words, the input and the shelf make.
-    ensures outcome { RunOutcomes (word_fault (map (λ w. string_bytes w) words.now)) (S.left input.old) (S.left input.new) (P.slots shelf) result.status result.trace result.tower (P.slots result.shelf) }
-    // Every facility of the tower keeps what its flows promise, and names its partners.
-    ensures kept { IfSome result.tower (λ a. AreKept (seen_of a)) }
-    // A flow has failed only by a cut of its wire.
-    ensures failed { IfSome result.tower (λ a. FailedByCut (seen_of a)) }
+    ensures outcome { RunOutcomes (P.knows shelf) (word_fault (map (λ w. string_bytes w) words.now)) (S.left input.old) (S.left input.new) (P.slots shelf) result.status result.trace result.tower (P.slots result.shelf) }
+    // Every DIF of every rank stands on the rank below.
+    ensures stands { IfSome result.tower IsTower }
+    // Every facility of every rank keeps what its flows promise, and names its partners.
+    ensures kept { IfSome result.tower KeepsAll }
+    // A flow of a wire has failed only by a cut of that wire.
+    ensures failed { IfSome result.tower FailedByCut }
     ensures read { result.status ≡ Status.ReadFault → Rose (S.faults input.old) (S.faults input.new) }
     ensures write { result.status ≡ Status.WriteFault → Rose (K.faults out.old) (K.faults out.new) }
 {

@@ -1,9 +1,8 @@
 //! The words on wires: each calls the tower, and says what it answered.
 ghost use Rattle.std.specs.Prelude.{◌≡◌, IfOk};
 ghost use Rattle.rina_stack.specs.Plan.{IsPlan};
-ghost use Rattle.rina_wire.specs.Cut.{CutsOn, MendsOn};
-ghost use Rattle.rina_wire.specs.Disturb.{HoldsOn, LosesOn, RepeatsOn};
-ghost use Rattle.rina_wire.specs.Sound.{IsSound};
+ghost use Rattle.rina_tower.specs.Events.{Cuts, HoldsBack, Loses, Mends, Repeats};
+ghost use Rattle.rina_tower.specs.Standing.{IsTower};
 ghost use Rattle.rina_run.specs.Step.{CallsWire, Cutting, Holding, Losing, Mending, Repeating};
 
 use crate::flow_words::refused;
@@ -18,9 +17,9 @@ use std::alloc::Global;
 /// The word `lose`.
 pub fn lose(plan: &Plan, world: &mut World, wire: &Name, frame: u32) -> Result<Option<Said>, Memory>
     requires plan { IsPlan plan.now }
-    requires sound { IsSound world.old.tower }
+    requires sound { IsTower world.old.tower }
     ensures does { IfOk result (λ says. Losing plan.now wire.now frame world.old says world.new) }
-    ensures sound { IsSound world.new.tower }
+    ensures sound { IsTower world.new.tower }
 {
     let Some(wire) = plan.wire(wire) else {
         return Ok(refused(Some(Refusal::NoWire)));
@@ -29,9 +28,9 @@ pub fn lose(plan: &Plan, world: &mut World, wire: &Name, frame: u32) -> Result<O
 }
 
 fn call_lose(world: &mut World, wire: u16, frame: u32) -> Result<Option<Said>, Memory>
-    requires { IsSound world.old.tower }
-    ensures does { IfOk result (λ says. CallsWire (λ a r b. LosesOn a wire frame r b) world.old says world.new) }
-    ensures sound { IsSound world.new.tower }
+    requires { IsTower world.old.tower }
+    ensures does { IfOk result (λ says. CallsWire (Loses wire frame) world.old says world.new) }
+    ensures sound { IsTower world.new.tower }
 {
     match world.tower.lose(wire, u64::from(frame)) {
         Ok(()) => Ok(Some(Said::Done)),
@@ -50,9 +49,9 @@ pub fn repeat(
     at: Tick,
 ) -> Result<Option<Said>, Memory>
     requires plan { IsPlan plan.now }
-    requires sound { IsSound world.old.tower }
+    requires sound { IsTower world.old.tower }
     ensures does { IfOk result (λ says. Repeating plan.now wire.now frame at world.old says world.new) }
-    ensures sound { IsSound world.new.tower }
+    ensures sound { IsTower world.new.tower }
 {
     let Some(wire) = plan.wire(wire) else {
         return Ok(refused(Some(Refusal::NoWire)));
@@ -67,9 +66,9 @@ fn call_repeat(
     frame: u32,
     at: Tick,
 ) -> Result<Option<Said>, Memory>
-    requires { IsSound world.old.tower }
-    ensures does { IfOk result (λ says. CallsWire (λ a r b. RepeatsOn a wire frame at r b) world.old says world.new) }
-    ensures sound { IsSound world.new.tower }
+    requires { IsTower world.old.tower }
+    ensures does { IfOk result (λ says. CallsWire (Repeats wire frame at) world.old says world.new) }
+    ensures sound { IsTower world.new.tower }
 {
     match world.tower.repeat(alloc, wire, u64::from(frame), at) {
         Ok(()) => Ok(Some(Said::Done)),
@@ -87,9 +86,9 @@ pub fn hold(
     at: Tick,
 ) -> Result<Option<Said>, Memory>
     requires plan { IsPlan plan.now }
-    requires sound { IsSound world.old.tower }
+    requires sound { IsTower world.old.tower }
     ensures does { IfOk result (λ says. Holding plan.now wire.now frame at world.old says world.new) }
-    ensures sound { IsSound world.new.tower }
+    ensures sound { IsTower world.new.tower }
 {
     let Some(wire) = plan.wire(wire) else {
         return Ok(refused(Some(Refusal::NoWire)));
@@ -98,9 +97,9 @@ pub fn hold(
 }
 
 fn call_hold(world: &mut World, wire: u16, frame: u32, at: Tick) -> Result<Option<Said>, Memory>
-    requires { IsSound world.old.tower }
-    ensures does { IfOk result (λ says. CallsWire (λ a r b. HoldsOn a wire frame at r b) world.old says world.new) }
-    ensures sound { IsSound world.new.tower }
+    requires { IsTower world.old.tower }
+    ensures does { IfOk result (λ says. CallsWire (HoldsBack wire frame at) world.old says world.new) }
+    ensures sound { IsTower world.new.tower }
 {
     match world.tower.hold(wire, u64::from(frame), at) {
         Ok(()) => Ok(Some(Said::Done)),
@@ -112,9 +111,9 @@ fn call_hold(world: &mut World, wire: u16, frame: u32, at: Tick) -> Result<Optio
 /// The word `cut`.
 pub fn cut(plan: &Plan, world: &mut World, wire: &Name) -> Result<Option<Said>, Memory>
     requires plan { IsPlan plan.now }
-    requires sound { IsSound world.old.tower }
+    requires sound { IsTower world.old.tower }
     ensures does { IfOk result (λ says. Cutting plan.now wire.now world.old says world.new) }
-    ensures sound { IsSound world.new.tower }
+    ensures sound { IsTower world.new.tower }
 {
     let Some(wire) = plan.wire(wire) else {
         return Ok(refused(Some(Refusal::NoWire)));
@@ -123,9 +122,9 @@ pub fn cut(plan: &Plan, world: &mut World, wire: &Name) -> Result<Option<Said>, 
 }
 
 fn call_cut(world: &mut World, wire: u16) -> Result<Option<Said>, Memory>
-    requires { IsSound world.old.tower }
-    ensures does { IfOk result (λ says. CallsWire (λ a r b. CutsOn a wire r b) world.old says world.new) }
-    ensures sound { IsSound world.new.tower }
+    requires { IsTower world.old.tower }
+    ensures does { IfOk result (λ says. CallsWire (Cuts wire) world.old says world.new) }
+    ensures sound { IsTower world.new.tower }
 {
     match world.tower.cut(wire) {
         Ok(()) => Ok(Some(Said::Done)),
@@ -137,9 +136,9 @@ fn call_cut(world: &mut World, wire: u16) -> Result<Option<Said>, Memory>
 /// The word `mend`.
 pub fn mend(plan: &Plan, world: &mut World, wire: &Name) -> Result<Option<Said>, Memory>
     requires plan { IsPlan plan.now }
-    requires sound { IsSound world.old.tower }
+    requires sound { IsTower world.old.tower }
     ensures does { IfOk result (λ says. Mending plan.now wire.now world.old says world.new) }
-    ensures sound { IsSound world.new.tower }
+    ensures sound { IsTower world.new.tower }
 {
     let Some(wire) = plan.wire(wire) else {
         return Ok(refused(Some(Refusal::NoWire)));
@@ -148,9 +147,9 @@ pub fn mend(plan: &Plan, world: &mut World, wire: &Name) -> Result<Option<Said>,
 }
 
 fn call_mend(world: &mut World, wire: u16) -> Result<Option<Said>, Memory>
-    requires { IsSound world.old.tower }
-    ensures does { IfOk result (λ says. CallsWire (λ a r b. MendsOn a wire r b) world.old says world.new) }
-    ensures sound { IsSound world.new.tower }
+    requires { IsTower world.old.tower }
+    ensures does { IfOk result (λ says. CallsWire (Mends wire) world.old says world.new) }
+    ensures sound { IsTower world.new.tower }
 {
     match world.tower.mend(wire) {
         Ok(()) => Ok(Some(Said::Done)),

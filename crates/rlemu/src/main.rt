@@ -3,6 +3,8 @@
 #![tactic(auto)]
 
 #[cfg(test)]
+mod dif_rows;
+#[cfg(test)]
 mod drawn;
 mod policies;
 #[cfg(test)]

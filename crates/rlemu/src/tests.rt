@@ -1,7 +1,8 @@
 //! Worked rows: inputs, each with the whole output that it has, and ends that fail.
+use crate::dif_rows::DIF_ROWS;
 use rina_base::Name;
 use rina_io::{MemSink, MemSource};
-use rina_policy::{First, Last, Shelf};
+use rina_policy::{First, Last, Round, Shelf, Strict, Weighted};
 use rina_run::{Outcome, Status, run};
 use std::alloc::Global;
 use std::test::Fail;
@@ -32,9 +33,14 @@ const HELLO_NOTES: &str = "1 0 ok
 end 2
 ";
 
-/// A shelf with two policies.
+/// A shelf with the five built-in policies.
 fn make_shelf(alloc: Global) -> Result<Shelf, Fail> {
     let mut shelf = Shelf::new(alloc)?;
+    shelf.add(
+        alloc,
+        Name::read(alloc, b"strict")?,
+        Box::new(alloc, Strict::new())?,
+    )?;
     shelf.add(
         alloc,
         Name::read(alloc, b"last")?,
@@ -44,6 +50,16 @@ fn make_shelf(alloc: Global) -> Result<Shelf, Fail> {
         alloc,
         Name::read(alloc, b"first")?,
         Box::new(alloc, First::new())?,
+    )?;
+    shelf.add(
+        alloc,
+        Name::read(alloc, b"round")?,
+        Box::new(alloc, Round::new())?,
+    )?;
+    shelf.add(
+        alloc,
+        Name::read(alloc, b"weighted")?,
+        Box::new(alloc, Weighted::new())?,
     )?;
     Ok(shelf)
 }
@@ -104,7 +120,7 @@ const ROWS: [(&str, &str); 18] = [
         "1 1 ok\nfault Schedule 2 3 1\n",
     ),
     (
-        "nodes = [\"a\"]\n%%\ntick 1\n\n# nothing\nround\n",
+        "nodes = [\"a\"]\n%%\ntick 1\n\n# nothing\nmember d a\n",
         "1 1 ok\nfault Schedule 4 1 0\n",
     ),
     (
@@ -154,6 +170,16 @@ fn each_row_has_its_output(rt: HostRuntime) -> Result<(), Fail> {
     for (input, notes) in ROWS {
         let (_, sink) = outcome_of(rt.alloc(), &["run"], input, &[], &[])?;
         assert_eq!(rt; sink.bytes(), notes.as_bytes(), "at {input}");
+    }
+    Ok(())
+}
+
+#[test]
+fn each_row_of_difs_has_its_output(rt: HostRuntime) -> Result<(), Fail> {
+    for (stack, lines, notes) in DIF_ROWS {
+        let input = format!(in rt.alloc(); "{stack}%%\n{lines}")?;
+        let (_, sink) = outcome_of(rt.alloc(), &["run"], input.as_str(), &[], &[])?;
+        assert_eq!(rt; sink.bytes(), notes.as_bytes(), "at {lines}");
     }
     Ok(())
 }

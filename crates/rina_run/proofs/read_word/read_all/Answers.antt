@@ -1,9 +1,11 @@
 use Rattle.std.proofs.Common.{◌∙◌}
+use Rattle.rina_tower.specs.Beside.{IsIpc}
+use Rattle.rina_run.proofs.Clocks.{clock_stays}
 use Rattle.rina_run.proofs.Reading.{partly_more}
 use Rattle.rina_run.proofs.read_word.read_all.Goals as goal
 
 pub entries-preserved : goal.entries-preserved
 entries-preserved c = record {
-  sound = c.pass.ensures.valid;
-  read = partly_more _ _ _ c.entries.world _ _ _ c.in-Some.ensures.entry c.now.result _ _ _ c.entries.invariant.read c.in-Some.ensures.oldest c.in-Some.ensures.its_tick (c.in_ok-bytes.ensures ∙ c.in-Some.ensures.its_bytes) c.now.ensures c.in_ok-tell.ensures.ok c.pass.ensures.exact;
+  sound = c.app_pass.ensures.valid;
+  read = partly_more _ _ _ _ c.entries.world _ _ _ c.in-Some.ensures.entry c.tick_of.result _ _ _ c.entries.invariant.read c.in-Some.ensures.oldest c.in-Some.ensures.its_tick (c.in_ok-bytes.ensures ∙ c.in-Some.ensures.its_bytes) c.tick_of.ensures c.in_ok-tell.ensures.ok c.app_pass.ensures.does (clock_stays IsIpc c.entries.world.tower c.app_pass.new.self c.app_pass.ensures.beside);
 }

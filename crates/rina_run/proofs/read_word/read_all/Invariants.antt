@@ -1,9 +1,9 @@
-use Rattle.rina_wire.specs.Sound.{IsSound}
+use Rattle.rina_tower.specs.Standing.{IsTower}
 use Rattle.rina_run.proofs.Reading.{Partly}
 use Rattle.rina_run.proofs.read_word.read_all.Given as goal
 
 abbrev pub invariant-entries : goal.invariant-entries
 invariant-entries l = record {
-  sound : IsSound l.world.tower;
-  read : Partly l.line l.port l.fn.world l.fn.trace l.world l.trace;
+  sound : IsTower l.world.tower;
+  read : Partly l.line l.rank l.port l.fn.world l.fn.trace l.world l.trace;
 }

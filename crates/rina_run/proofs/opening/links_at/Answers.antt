@@ -1,0 +1,7 @@
+use Rattle.std.proofs.Common.{◌==◌}
+use Rattle.rina_iface.specs.declared.ask.Fixed.{Fixed}
+use Rattle.rina_run.proofs.Opens.{links_counted}
+use Rattle.rina_run.proofs.opening.links_at.Goals as goal
+
+pub difs-preserved : goal.difs-preserved
+difs-preserved c = links_counted (λ (f : Fixed). f.fac == c.args.fac) c.args.plan.now c.args.rank c.difs.at c.difs.count c.links_there.result c.in_ok-count.count c.difs.invariant c.links_there.ensures c.in_ok-count.ensures.1
