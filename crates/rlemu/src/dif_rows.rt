@@ -439,1025 +439,133 @@ flow = [ { cube = 1, from = { node = \"a\", app = \"s\", label = \"p\" }, to = {
 pub const DIF_ROWS: [(&str, &str, &str); 27] = [
     (
         ONE_FLOW,
-        "send p1 'a
-repeat w 0 3
-tick 3
-read q1
-",
-        "1 0 sent 1.0
-2 0 ok
-3 3 ok
-4 3 got 2 'a
-end 3
-",
+        "send p1 'a\nrepeat w 0 3\ntick 3\nread q1\n",
+        "1 0 sent 1.0\n2 0 ok\n3 3 ok\n4 3 got 2 'a\nend 3\n",
     ),
     (
         THREE_FLOWS,
-        "send p1 'a
-repeat w 0 3
-tick 3
-read q1
-ledger d b
-",
-        "1 0 sent 1.0
-2 0 ok
-3 3 ok
-4 3 got 2 'a
-5 3 off data 1.1.0 Duplicate 1.0
-end 3
-",
+        "send p1 'a\nrepeat w 0 3\ntick 3\nread q1\nledger d b\n",
+        "1 0 sent 1.0\n2 0 ok\n3 3 ok\n4 3 got 2 'a\n5 3 off data 1.1.0 Duplicate 1.0\nend 3\n",
     ),
     (
         ONE_FLOW,
-        "send p1 'a
-send p1 'b
-send p1 'c
-hold w 0 3
-hold w 1 4
-tick 12
-read q1
-",
-        "1 0 sent 1.0
-2 0 sent 1.1
-3 0 sent 1.2
-4 0 ok
-5 0 ok
-6 12 ok
-7 12 got 2 'c
-7 12 got 3 'a
-7 12 got 4 'b
-end 12
-",
+        "send p1 'a\nsend p1 'b\nsend p1 'c\nhold w 0 3\nhold w 1 4\ntick 12\nread q1\n",
+        "1 0 sent 1.0\n2 0 sent 1.1\n3 0 sent 1.2\n4 0 ok\n5 0 ok\n6 12 ok\n7 12 got 2 'c\n7 12 got 3 'a\n7 12 got 4 'b\nend 12\n",
     ),
     (
         THREE_FLOWS,
-        "send p1 'a
-send p1 'b
-send p1 'c
-hold w 0 3
-hold w 1 4
-tick 12
-read q1
-",
-        "1 0 sent 1.0
-2 0 sent 1.1
-3 0 sent 1.2
-4 0 ok
-5 0 ok
-6 12 ok
-7 12 got 2 'c
-7 12 got 3 'a
-7 12 got 4 'b
-end 12
-",
+        "send p1 'a\nsend p1 'b\nsend p1 'c\nhold w 0 3\nhold w 1 4\ntick 12\nread q1\n",
+        "1 0 sent 1.0\n2 0 sent 1.1\n3 0 sent 1.2\n4 0 ok\n5 0 ok\n6 12 ok\n7 12 got 2 'c\n7 12 got 3 'a\n7 12 got 4 'b\nend 12\n",
     ),
     (
         TWO_FLOWS,
-        "send p2 'a
-send p2 'b
-send p2 'c
-hold w 0 3
-hold w 1 4
-tick 12
-read q2
-",
-        "1 0 sent 2.0
-2 0 sent 2.1
-3 0 sent 2.2
-4 0 ok
-5 0 ok
-6 12 ok
-7 12 got 2 'c
-end 12
-",
+        "send p2 'a\nsend p2 'b\nsend p2 'c\nhold w 0 3\nhold w 1 4\ntick 12\nread q2\n",
+        "1 0 sent 2.0\n2 0 sent 2.1\n3 0 sent 2.2\n4 0 ok\n5 0 ok\n6 12 ok\n7 12 got 2 'c\nend 12\n",
     ),
     (
         THREE_FLOWS,
-        "send p2 'a
-send p2 'b
-send p2 'c
-hold w 0 3
-hold w 1 4
-tick 12
-read q2
-ledger d b
-",
-        "1 0 sent 2.0
-2 0 sent 2.1
-3 0 sent 2.2
-4 0 ok
-5 0 ok
-6 12 ok
-7 12 got 2 'c
-8 12 off data 1.2.0 Behind 2
-8 12 off data 1.2.1 Behind 2
-end 12
-",
+        "send p2 'a\nsend p2 'b\nsend p2 'c\nhold w 0 3\nhold w 1 4\ntick 12\nread q2\nledger d b\n",
+        "1 0 sent 2.0\n2 0 sent 2.1\n3 0 sent 2.2\n4 0 ok\n5 0 ok\n6 12 ok\n7 12 got 2 'c\n8 12 off data 1.2.0 Behind 2\n8 12 off data 1.2.1 Behind 2\nend 12\n",
     ),
     (
         THREE_FLOWS,
-        "send p3 'a
-send p3 'b
-send p3 'c
-hold w 0 3
-hold w 1 4
-tick 12
-read q3
-",
-        "1 0 sent 3.0
-2 0 sent 3.1
-3 0 sent 3.2
-4 0 ok
-5 0 ok
-6 12 ok
-7 12 got 3 'a
-7 12 got 4 'b
-7 12 got 12 'c
-end 12
-",
+        "send p3 'a\nsend p3 'b\nsend p3 'c\nhold w 0 3\nhold w 1 4\ntick 12\nread q3\n",
+        "1 0 sent 3.0\n2 0 sent 3.1\n3 0 sent 3.2\n4 0 ok\n5 0 ok\n6 12 ok\n7 12 got 3 'a\n7 12 got 4 'b\n7 12 got 12 'c\nend 12\n",
     ),
     (
         THREE_FLOWS,
-        "send p3 'a
-send p3 'b
-send p3 'c
-hold w 0 3
-hold w 1 4
-tick 12
-read q3
-ledger d b
-",
-        "1 0 sent 3.0
-2 0 sent 3.1
-3 0 sent 3.2
-4 0 ok
-5 0 ok
-6 12 ok
-7 12 got 3 'a
-7 12 got 4 'b
-7 12 got 12 'c
-8 12 off data 1.3.2 NoState 0
-end 12
-",
+        "send p3 'a\nsend p3 'b\nsend p3 'c\nhold w 0 3\nhold w 1 4\ntick 12\nread q3\nledger d b\n",
+        "1 0 sent 3.0\n2 0 sent 3.1\n3 0 sent 3.2\n4 0 ok\n5 0 ok\n6 12 ok\n7 12 got 3 'a\n7 12 got 4 'b\n7 12 got 12 'c\n8 12 off data 1.3.2 NoState 0\nend 12\n",
     ),
     (
         TWO_FLOWS,
-        "send p2 z200
-lose w 1
-send p2 'next
-tick 2
-read q2
-",
-        "1 0 sent 2.0
-2 0 ok
-3 0 sent 2.3
-4 2 ok
-5 2 got 2 'next
-end 2
-",
+        "send p2 z200\nlose w 1\nsend p2 'next\ntick 2\nread q2\n",
+        "1 0 sent 2.0\n2 0 ok\n3 0 sent 2.3\n4 2 ok\n5 2 got 2 'next\nend 2\n",
     ),
     (
         THREE_FLOWS,
-        "send p2 z200
-lose w 1
-send p2 'next
-tick 2
-read q2
-ledger d b
-",
-        "1 0 sent 2.0
-2 0 ok
-3 0 sent 2.3
-4 2 ok
-5 2 got 2 'next
-6 2 off data 1.2.0 Broken 1
-6 2 off data 1.2.2 Broken 1
-end 2
-",
+        "send p2 z200\nlose w 1\nsend p2 'next\ntick 2\nread q2\nledger d b\n",
+        "1 0 sent 2.0\n2 0 ok\n3 0 sent 2.3\n4 2 ok\n5 2 got 2 'next\n6 2 off data 1.2.0 Broken 1\n6 2 off data 1.2.2 Broken 1\nend 2\n",
     ),
     (
         ONE_FLOW,
-        "send p1 z80
-send p1 z81
-",
-        "1 0 sent 1.0
-2 0 no TooLong 81 80
-end 0
-",
+        "send p1 z80\nsend p1 z81\n",
+        "1 0 sent 1.0\n2 0 no TooLong 81 80\nend 0\n",
     ),
     (
         THREE_FLOWS,
-        "send p1 z80
-send p1 z81
-",
-        "1 0 sent 1.0
-2 0 no TooLong 81 80
-end 0
-",
+        "send p1 z80\nsend p1 z81\n",
+        "1 0 sent 1.0\n2 0 no TooLong 81 80\nend 0\n",
     ),
     (
         THREE_FLOWS,
-        "send p3 'a
-send p3 'b
-send p3 'c
-send p3 'd
-send p3 'e
-tick 2
-read q3
-tick 4
-send p3 'e
-",
-        "1 0 sent 3.0
-2 0 sent 3.1
-3 0 sent 3.2
-4 0 sent 3.3
-5 0 no WindowShut 1 0
-6 2 ok
-7 2 got 2 'a
-7 2 got 2 'b
-7 2 got 2 'c
-7 2 got 2 'd
-8 6 ok
-9 6 sent 3.4
-end 6
-",
+        "send p3 'a\nsend p3 'b\nsend p3 'c\nsend p3 'd\nsend p3 'e\ntick 2\nread q3\ntick 4\nsend p3 'e\n",
+        "1 0 sent 3.0\n2 0 sent 3.1\n3 0 sent 3.2\n4 0 sent 3.3\n5 0 no WindowShut 1 0\n6 2 ok\n7 2 got 2 'a\n7 2 got 2 'b\n7 2 got 2 'c\n7 2 got 2 'd\n8 6 ok\n9 6 sent 3.4\nend 6\n",
     ),
     (
         THREE_FLOWS,
-        "send p3 'a
-lose w 0
-tick 10
-lose w 1
-tick 10
-lose w 2
-tick 10
-lose w 3
-tick 81
-tick 1
-send p3 'b
-",
-        "1 0 sent 3.0
-2 0 ok
-3 10 ok
-4 10 ok
-5 20 ok
-6 20 ok
-7 30 ok
-8 30 ok
-9 111 ok
-10 112 state p3 failed GaveUp 3.0 0 112
-10 112 ok
-11 112 no Failed GaveUp 3.0 0 112
-end 112
-",
+        "send p3 'a\nlose w 0\ntick 10\nlose w 1\ntick 10\nlose w 2\ntick 10\nlose w 3\ntick 81\ntick 1\nsend p3 'b\n",
+        "1 0 sent 3.0\n2 0 ok\n3 10 ok\n4 10 ok\n5 20 ok\n6 20 ok\n7 30 ok\n8 30 ok\n9 111 ok\n10 112 state p3 failed GaveUp 3.0 0 112\n10 112 ok\n11 112 no Failed GaveUp 3.0 0 112\nend 112\n",
     ),
     (
         FOUR_IN_A_ROW,
-        "send p 'a
-tick 10
-read q
-ledger d c
-",
-        "1 0 sent 1.0
-2 10 ok
-3 10 none
-4 10 off data 1.1.0 Expired 5 10
-end 10
-",
+        "send p 'a\ntick 10\nread q\nledger d c\n",
+        "1 0 sent 1.0\n2 10 ok\n3 10 none\n4 10 off data 1.1.0 Expired 5 10\nend 10\n",
     ),
     (
         THREE_FLOWS,
-        "send p3 'a
-tick 215
-send p3 'b
-",
-        "1 0 sent 3.0
-2 215 ok
-3 215 sent 3.1
-end 215
-",
+        "send p3 'a\ntick 215\nsend p3 'b\n",
+        "1 0 sent 3.0\n2 215 ok\n3 215 sent 3.1\nend 215\n",
     ),
     (
         THREE_FLOWS,
-        "send p3 'a
-tick 216
-send p3 'b
-",
-        "1 0 sent 3.0
-2 216 ok
-3 216 sent 3.0
-end 216
-",
+        "send p3 'a\ntick 216\nsend p3 'b\n",
+        "1 0 sent 3.0\n2 216 ok\n3 216 sent 3.0\nend 216\n",
     ),
     (
         NARROW,
-        "send p1 'a
-send p1 'a
-send p1 'a
-send p1 'a
-send p1 'a
-send p1 'a
-send p1 'a
-send p1 'a
-send p1 'a
-send p1 'a
-send p1 'a
-send p1 'a
-send p1 'a
-send p1 'a
-send p1 'a
-send p1 'a
-send p1 'a
-send p1 'a
-send p1 'a
-send p1 'a
-send p1 'a
-send p1 'a
-send p1 'a
-send p1 'a
-send p1 'a
-send p1 'a
-send p1 'a
-send p1 'a
-send p1 'a
-send p1 'a
-send p1 'a
-send p1 'a
-send p1 'a
-send p1 'a
-send p1 'a
-send p1 'a
-send p1 'a
-send p1 'a
-send p1 'a
-send p1 'a
-send p1 'a
-send p1 'a
-send p1 'a
-send p1 'a
-send p1 'a
-send p1 'a
-send p1 'a
-send p1 'a
-send p1 'a
-send p1 'a
-send p1 'a
-send p1 'a
-send p1 'a
-send p1 'a
-send p1 'a
-send p1 'a
-send p1 'a
-send p1 'a
-send p1 'a
-send p1 'a
-send p1 'a
-send p1 'a
-send p1 'a
-send p1 'a
-send p1 'a
-send p1 'a
-send p1 'a
-send p1 'a
-send p1 'a
-send p1 'a
-send p1 'a
-send p1 'a
-send p1 'a
-send p1 'a
-send p1 'a
-send p1 'a
-send p1 'a
-send p1 'a
-send p1 'a
-send p1 'a
-send p1 'a
-send p1 'a
-send p1 'a
-send p1 'a
-send p1 'a
-send p1 'a
-send p1 'a
-send p1 'a
-send p1 'a
-send p1 'a
-send p1 'a
-send p1 'a
-send p1 'a
-send p1 'a
-send p1 'a
-send p1 'a
-send p1 'a
-send p1 'a
-send p1 'a
-send p1 'a
-send p1 'a
-send p1 'a
-send p1 'a
-send p1 'a
-send p1 'a
-send p1 'a
-send p1 'a
-send p1 'a
-send p1 'a
-send p1 'a
-send p1 'a
-send p1 'a
-send p1 'a
-send p1 'a
-send p1 'a
-send p1 'a
-send p1 'a
-send p1 'a
-send p1 'a
-send p1 'a
-send p1 'a
-send p1 'a
-send p1 'a
-send p1 'a
-send p1 'a
-send p1 'a
-send p1 'a
-send p1 'a
-send p1 'a
-send p1 'a
-send p1 'a
-send p1 'a
-send p1 'a
-send p1 'a
-send p1 'a
-send p1 'a
-send p1 'a
-send p1 'a
-send p1 'a
-send p1 'a
-send p1 'a
-send p1 'a
-send p1 'a
-send p1 'a
-send p1 'a
-send p1 'a
-send p1 'a
-send p1 'a
-send p1 'a
-send p1 'a
-send p1 'a
-send p1 'a
-send p1 'a
-send p1 'a
-send p1 'a
-send p1 'a
-send p1 'a
-send p1 'a
-send p1 'a
-send p1 'a
-send p1 'a
-send p1 'a
-send p1 'a
-send p1 'a
-send p1 'a
-send p1 'a
-send p1 'a
-send p1 'a
-send p1 'a
-send p1 'a
-send p1 'a
-send p1 'a
-send p1 'a
-send p1 'a
-send p1 'a
-send p1 'a
-send p1 'a
-send p1 'a
-send p1 'a
-send p1 'a
-send p1 'a
-send p1 'a
-send p1 'a
-send p1 'a
-send p1 'a
-send p1 'a
-send p1 'a
-send p1 'a
-send p1 'a
-send p1 'a
-send p1 'a
-send p1 'a
-send p1 'a
-send p1 'a
-send p1 'a
-send p1 'a
-send p1 'a
-send p1 'a
-send p1 'a
-send p1 'a
-send p1 'a
-send p1 'a
-send p1 'a
-send p1 'a
-send p1 'a
-send p1 'a
-send p1 'a
-send p1 'a
-send p1 'a
-send p1 'a
-send p1 'a
-send p1 'a
-send p1 'a
-send p1 'a
-send p1 'a
-send p1 'a
-send p1 'a
-send p1 'a
-send p1 'a
-send p1 'a
-send p1 'a
-send p1 'a
-send p1 'a
-send p1 'a
-send p1 'a
-send p1 'a
-send p1 'a
-send p1 'a
-send p1 'a
-send p1 'a
-send p1 'a
-send p1 'a
-send p1 'a
-send p1 'a
-send p1 'a
-send p1 'a
-send p1 'a
-send p1 'a
-send p1 'a
-send p1 'a
-send p1 'a
-send p1 'a
-send p1 'a
-send p1 'a
-send p1 'a
-send p1 'a
-send p1 'a
-send p1 'a
-send p1 'a
-send p1 'a
-send p1 'a
-send p1 'a
-send p1 'a
-send p1 'a
-send p1 'a
-send p1 'a
-send p1 'a
-tick 120
-send p1 'a
-",
-        "1 0 sent 1.0
-2 0 sent 1.1
-3 0 sent 1.2
-4 0 sent 1.3
-5 0 sent 1.4
-6 0 sent 1.5
-7 0 sent 1.6
-8 0 sent 1.7
-9 0 sent 1.8
-10 0 sent 1.9
-11 0 sent 1.10
-12 0 sent 1.11
-13 0 sent 1.12
-14 0 sent 1.13
-15 0 sent 1.14
-16 0 sent 1.15
-17 0 sent 1.16
-18 0 sent 1.17
-19 0 sent 1.18
-20 0 sent 1.19
-21 0 sent 1.20
-22 0 sent 1.21
-23 0 sent 1.22
-24 0 sent 1.23
-25 0 sent 1.24
-26 0 sent 1.25
-27 0 sent 1.26
-28 0 sent 1.27
-29 0 sent 1.28
-30 0 sent 1.29
-31 0 sent 1.30
-32 0 sent 1.31
-33 0 sent 1.32
-34 0 sent 1.33
-35 0 sent 1.34
-36 0 sent 1.35
-37 0 sent 1.36
-38 0 sent 1.37
-39 0 sent 1.38
-40 0 sent 1.39
-41 0 sent 1.40
-42 0 sent 1.41
-43 0 sent 1.42
-44 0 sent 1.43
-45 0 sent 1.44
-46 0 sent 1.45
-47 0 sent 1.46
-48 0 sent 1.47
-49 0 sent 1.48
-50 0 sent 1.49
-51 0 sent 1.50
-52 0 sent 1.51
-53 0 sent 1.52
-54 0 sent 1.53
-55 0 sent 1.54
-56 0 sent 1.55
-57 0 sent 1.56
-58 0 sent 1.57
-59 0 sent 1.58
-60 0 sent 1.59
-61 0 sent 1.60
-62 0 sent 1.61
-63 0 sent 1.62
-64 0 sent 1.63
-65 0 sent 1.64
-66 0 sent 1.65
-67 0 sent 1.66
-68 0 sent 1.67
-69 0 sent 1.68
-70 0 sent 1.69
-71 0 sent 1.70
-72 0 sent 1.71
-73 0 sent 1.72
-74 0 sent 1.73
-75 0 sent 1.74
-76 0 sent 1.75
-77 0 sent 1.76
-78 0 sent 1.77
-79 0 sent 1.78
-80 0 sent 1.79
-81 0 sent 1.80
-82 0 sent 1.81
-83 0 sent 1.82
-84 0 sent 1.83
-85 0 sent 1.84
-86 0 sent 1.85
-87 0 sent 1.86
-88 0 sent 1.87
-89 0 sent 1.88
-90 0 sent 1.89
-91 0 sent 1.90
-92 0 sent 1.91
-93 0 sent 1.92
-94 0 sent 1.93
-95 0 sent 1.94
-96 0 sent 1.95
-97 0 sent 1.96
-98 0 sent 1.97
-99 0 sent 1.98
-100 0 sent 1.99
-101 0 sent 1.100
-102 0 sent 1.101
-103 0 sent 1.102
-104 0 sent 1.103
-105 0 sent 1.104
-106 0 sent 1.105
-107 0 sent 1.106
-108 0 sent 1.107
-109 0 sent 1.108
-110 0 sent 1.109
-111 0 sent 1.110
-112 0 sent 1.111
-113 0 sent 1.112
-114 0 sent 1.113
-115 0 sent 1.114
-116 0 sent 1.115
-117 0 sent 1.116
-118 0 sent 1.117
-119 0 sent 1.118
-120 0 sent 1.119
-121 0 sent 1.120
-122 0 sent 1.121
-123 0 sent 1.122
-124 0 sent 1.123
-125 0 sent 1.124
-126 0 sent 1.125
-127 0 sent 1.126
-128 0 sent 1.127
-129 0 sent 1.128
-130 0 sent 1.129
-131 0 sent 1.130
-132 0 sent 1.131
-133 0 sent 1.132
-134 0 sent 1.133
-135 0 sent 1.134
-136 0 sent 1.135
-137 0 sent 1.136
-138 0 sent 1.137
-139 0 sent 1.138
-140 0 sent 1.139
-141 0 sent 1.140
-142 0 sent 1.141
-143 0 sent 1.142
-144 0 sent 1.143
-145 0 sent 1.144
-146 0 sent 1.145
-147 0 sent 1.146
-148 0 sent 1.147
-149 0 sent 1.148
-150 0 sent 1.149
-151 0 sent 1.150
-152 0 sent 1.151
-153 0 sent 1.152
-154 0 sent 1.153
-155 0 sent 1.154
-156 0 sent 1.155
-157 0 sent 1.156
-158 0 sent 1.157
-159 0 sent 1.158
-160 0 sent 1.159
-161 0 sent 1.160
-162 0 sent 1.161
-163 0 sent 1.162
-164 0 sent 1.163
-165 0 sent 1.164
-166 0 sent 1.165
-167 0 sent 1.166
-168 0 sent 1.167
-169 0 sent 1.168
-170 0 sent 1.169
-171 0 sent 1.170
-172 0 sent 1.171
-173 0 sent 1.172
-174 0 sent 1.173
-175 0 sent 1.174
-176 0 sent 1.175
-177 0 sent 1.176
-178 0 sent 1.177
-179 0 sent 1.178
-180 0 sent 1.179
-181 0 sent 1.180
-182 0 sent 1.181
-183 0 sent 1.182
-184 0 sent 1.183
-185 0 sent 1.184
-186 0 sent 1.185
-187 0 sent 1.186
-188 0 sent 1.187
-189 0 sent 1.188
-190 0 sent 1.189
-191 0 sent 1.190
-192 0 sent 1.191
-193 0 sent 1.192
-194 0 sent 1.193
-195 0 sent 1.194
-196 0 sent 1.195
-197 0 sent 1.196
-198 0 sent 1.197
-199 0 sent 1.198
-200 0 sent 1.199
-201 0 sent 1.200
-202 0 sent 1.201
-203 0 sent 1.202
-204 0 sent 1.203
-205 0 sent 1.204
-206 0 sent 1.205
-207 0 sent 1.206
-208 0 sent 1.207
-209 0 sent 1.208
-210 0 sent 1.209
-211 0 sent 1.210
-212 0 sent 1.211
-213 0 sent 1.212
-214 0 sent 1.213
-215 0 sent 1.214
-216 0 sent 1.215
-217 0 sent 1.216
-218 0 sent 1.217
-219 0 sent 1.218
-220 0 sent 1.219
-221 0 sent 1.220
-222 0 sent 1.221
-223 0 sent 1.222
-224 0 sent 1.223
-225 0 sent 1.224
-226 0 sent 1.225
-227 0 sent 1.226
-228 0 sent 1.227
-229 0 sent 1.228
-230 0 sent 1.229
-231 0 sent 1.230
-232 0 sent 1.231
-233 0 sent 1.232
-234 0 sent 1.233
-235 0 sent 1.234
-236 0 sent 1.235
-237 0 sent 1.236
-238 0 sent 1.237
-239 0 sent 1.238
-240 0 sent 1.239
-241 0 sent 1.240
-242 0 sent 1.241
-243 0 sent 1.242
-244 0 sent 1.243
-245 0 sent 1.244
-246 0 sent 1.245
-247 0 sent 1.246
-248 0 sent 1.247
-249 0 sent 1.248
-250 0 sent 1.249
-251 0 sent 1.250
-252 0 sent 1.251
-253 0 sent 1.252
-254 0 sent 1.253
-255 0 sent 1.254
-256 0 sent 1.255
-257 0 no NumbersSpent 120
-258 120 ok
-259 120 sent 1.0
-end 120
-",
+        "send p1 'a\nsend p1 'a\nsend p1 'a\nsend p1 'a\nsend p1 'a\nsend p1 'a\nsend p1 'a\nsend p1 'a\nsend p1 'a\nsend p1 'a\nsend p1 'a\nsend p1 'a\nsend p1 'a\nsend p1 'a\nsend p1 'a\nsend p1 'a\nsend p1 'a\nsend p1 'a\nsend p1 'a\nsend p1 'a\nsend p1 'a\nsend p1 'a\nsend p1 'a\nsend p1 'a\nsend p1 'a\nsend p1 'a\nsend p1 'a\nsend p1 'a\nsend p1 'a\nsend p1 'a\nsend p1 'a\nsend p1 'a\nsend p1 'a\nsend p1 'a\nsend p1 'a\nsend p1 'a\nsend p1 'a\nsend p1 'a\nsend p1 'a\nsend p1 'a\nsend p1 'a\nsend p1 'a\nsend p1 'a\nsend p1 'a\nsend p1 'a\nsend p1 'a\nsend p1 'a\nsend p1 'a\nsend p1 'a\nsend p1 'a\nsend p1 'a\nsend p1 'a\nsend p1 'a\nsend p1 'a\nsend p1 'a\nsend p1 'a\nsend p1 'a\nsend p1 'a\nsend p1 'a\nsend p1 'a\nsend p1 'a\nsend p1 'a\nsend p1 'a\nsend p1 'a\nsend p1 'a\nsend p1 'a\nsend p1 'a\nsend p1 'a\nsend p1 'a\nsend p1 'a\nsend p1 'a\nsend p1 'a\nsend p1 'a\nsend p1 'a\nsend p1 'a\nsend p1 'a\nsend p1 'a\nsend p1 'a\nsend p1 'a\nsend p1 'a\nsend p1 'a\nsend p1 'a\nsend p1 'a\nsend p1 'a\nsend p1 'a\nsend p1 'a\nsend p1 'a\nsend p1 'a\nsend p1 'a\nsend p1 'a\nsend p1 'a\nsend p1 'a\nsend p1 'a\nsend p1 'a\nsend p1 'a\nsend p1 'a\nsend p1 'a\nsend p1 'a\nsend p1 'a\nsend p1 'a\nsend p1 'a\nsend p1 'a\nsend p1 'a\nsend p1 'a\nsend p1 'a\nsend p1 'a\nsend p1 'a\nsend p1 'a\nsend p1 'a\nsend p1 'a\nsend p1 'a\nsend p1 'a\nsend p1 'a\nsend p1 'a\nsend p1 'a\nsend p1 'a\nsend p1 'a\nsend p1 'a\nsend p1 'a\nsend p1 'a\nsend p1 'a\nsend p1 'a\nsend p1 'a\nsend p1 'a\nsend p1 'a\nsend p1 'a\nsend p1 'a\nsend p1 'a\nsend p1 'a\nsend p1 'a\nsend p1 'a\nsend p1 'a\nsend p1 'a\nsend p1 'a\nsend p1 'a\nsend p1 'a\nsend p1 'a\nsend p1 'a\nsend p1 'a\nsend p1 'a\nsend p1 'a\nsend p1 'a\nsend p1 'a\nsend p1 'a\nsend p1 'a\nsend p1 'a\nsend p1 'a\nsend p1 'a\nsend p1 'a\nsend p1 'a\nsend p1 'a\nsend p1 'a\nsend p1 'a\nsend p1 'a\nsend p1 'a\nsend p1 'a\nsend p1 'a\nsend p1 'a\nsend p1 'a\nsend p1 'a\nsend p1 'a\nsend p1 'a\nsend p1 'a\nsend p1 'a\nsend p1 'a\nsend p1 'a\nsend p1 'a\nsend p1 'a\nsend p1 'a\nsend p1 'a\nsend p1 'a\nsend p1 'a\nsend p1 'a\nsend p1 'a\nsend p1 'a\nsend p1 'a\nsend p1 'a\nsend p1 'a\nsend p1 'a\nsend p1 'a\nsend p1 'a\nsend p1 'a\nsend p1 'a\nsend p1 'a\nsend p1 'a\nsend p1 'a\nsend p1 'a\nsend p1 'a\nsend p1 'a\nsend p1 'a\nsend p1 'a\nsend p1 'a\nsend p1 'a\nsend p1 'a\nsend p1 'a\nsend p1 'a\nsend p1 'a\nsend p1 'a\nsend p1 'a\nsend p1 'a\nsend p1 'a\nsend p1 'a\nsend p1 'a\nsend p1 'a\nsend p1 'a\nsend p1 'a\nsend p1 'a\nsend p1 'a\nsend p1 'a\nsend p1 'a\nsend p1 'a\nsend p1 'a\nsend p1 'a\nsend p1 'a\nsend p1 'a\nsend p1 'a\nsend p1 'a\nsend p1 'a\nsend p1 'a\nsend p1 'a\nsend p1 'a\nsend p1 'a\nsend p1 'a\nsend p1 'a\nsend p1 'a\nsend p1 'a\nsend p1 'a\nsend p1 'a\nsend p1 'a\nsend p1 'a\nsend p1 'a\nsend p1 'a\nsend p1 'a\nsend p1 'a\nsend p1 'a\nsend p1 'a\nsend p1 'a\nsend p1 'a\nsend p1 'a\nsend p1 'a\nsend p1 'a\nsend p1 'a\nsend p1 'a\nsend p1 'a\nsend p1 'a\nsend p1 'a\nsend p1 'a\nsend p1 'a\nsend p1 'a\nsend p1 'a\nsend p1 'a\nsend p1 'a\nsend p1 'a\nsend p1 'a\nsend p1 'a\nsend p1 'a\nsend p1 'a\ntick 120\nsend p1 'a\n",
+        "1 0 sent 1.0\n2 0 sent 1.1\n3 0 sent 1.2\n4 0 sent 1.3\n5 0 sent 1.4\n6 0 sent 1.5\n7 0 sent 1.6\n8 0 sent 1.7\n9 0 sent 1.8\n10 0 sent 1.9\n11 0 sent 1.10\n12 0 sent 1.11\n13 0 sent 1.12\n14 0 sent 1.13\n15 0 sent 1.14\n16 0 sent 1.15\n17 0 sent 1.16\n18 0 sent 1.17\n19 0 sent 1.18\n20 0 sent 1.19\n21 0 sent 1.20\n22 0 sent 1.21\n23 0 sent 1.22\n24 0 sent 1.23\n25 0 sent 1.24\n26 0 sent 1.25\n27 0 sent 1.26\n28 0 sent 1.27\n29 0 sent 1.28\n30 0 sent 1.29\n31 0 sent 1.30\n32 0 sent 1.31\n33 0 sent 1.32\n34 0 sent 1.33\n35 0 sent 1.34\n36 0 sent 1.35\n37 0 sent 1.36\n38 0 sent 1.37\n39 0 sent 1.38\n40 0 sent 1.39\n41 0 sent 1.40\n42 0 sent 1.41\n43 0 sent 1.42\n44 0 sent 1.43\n45 0 sent 1.44\n46 0 sent 1.45\n47 0 sent 1.46\n48 0 sent 1.47\n49 0 sent 1.48\n50 0 sent 1.49\n51 0 sent 1.50\n52 0 sent 1.51\n53 0 sent 1.52\n54 0 sent 1.53\n55 0 sent 1.54\n56 0 sent 1.55\n57 0 sent 1.56\n58 0 sent 1.57\n59 0 sent 1.58\n60 0 sent 1.59\n61 0 sent 1.60\n62 0 sent 1.61\n63 0 sent 1.62\n64 0 sent 1.63\n65 0 sent 1.64\n66 0 sent 1.65\n67 0 sent 1.66\n68 0 sent 1.67\n69 0 sent 1.68\n70 0 sent 1.69\n71 0 sent 1.70\n72 0 sent 1.71\n73 0 sent 1.72\n74 0 sent 1.73\n75 0 sent 1.74\n76 0 sent 1.75\n77 0 sent 1.76\n78 0 sent 1.77\n79 0 sent 1.78\n80 0 sent 1.79\n81 0 sent 1.80\n82 0 sent 1.81\n83 0 sent 1.82\n84 0 sent 1.83\n85 0 sent 1.84\n86 0 sent 1.85\n87 0 sent 1.86\n88 0 sent 1.87\n89 0 sent 1.88\n90 0 sent 1.89\n91 0 sent 1.90\n92 0 sent 1.91\n93 0 sent 1.92\n94 0 sent 1.93\n95 0 sent 1.94\n96 0 sent 1.95\n97 0 sent 1.96\n98 0 sent 1.97\n99 0 sent 1.98\n100 0 sent 1.99\n101 0 sent 1.100\n102 0 sent 1.101\n103 0 sent 1.102\n104 0 sent 1.103\n105 0 sent 1.104\n106 0 sent 1.105\n107 0 sent 1.106\n108 0 sent 1.107\n109 0 sent 1.108\n110 0 sent 1.109\n111 0 sent 1.110\n112 0 sent 1.111\n113 0 sent 1.112\n114 0 sent 1.113\n115 0 sent 1.114\n116 0 sent 1.115\n117 0 sent 1.116\n118 0 sent 1.117\n119 0 sent 1.118\n120 0 sent 1.119\n121 0 sent 1.120\n122 0 sent 1.121\n123 0 sent 1.122\n124 0 sent 1.123\n125 0 sent 1.124\n126 0 sent 1.125\n127 0 sent 1.126\n128 0 sent 1.127\n129 0 sent 1.128\n130 0 sent 1.129\n131 0 sent 1.130\n132 0 sent 1.131\n133 0 sent 1.132\n134 0 sent 1.133\n135 0 sent 1.134\n136 0 sent 1.135\n137 0 sent 1.136\n138 0 sent 1.137\n139 0 sent 1.138\n140 0 sent 1.139\n141 0 sent 1.140\n142 0 sent 1.141\n143 0 sent 1.142\n144 0 sent 1.143\n145 0 sent 1.144\n146 0 sent 1.145\n147 0 sent 1.146\n148 0 sent 1.147\n149 0 sent 1.148\n150 0 sent 1.149\n151 0 sent 1.150\n152 0 sent 1.151\n153 0 sent 1.152\n154 0 sent 1.153\n155 0 sent 1.154\n156 0 sent 1.155\n157 0 sent 1.156\n158 0 sent 1.157\n159 0 sent 1.158\n160 0 sent 1.159\n161 0 sent 1.160\n162 0 sent 1.161\n163 0 sent 1.162\n164 0 sent 1.163\n165 0 sent 1.164\n166 0 sent 1.165\n167 0 sent 1.166\n168 0 sent 1.167\n169 0 sent 1.168\n170 0 sent 1.169\n171 0 sent 1.170\n172 0 sent 1.171\n173 0 sent 1.172\n174 0 sent 1.173\n175 0 sent 1.174\n176 0 sent 1.175\n177 0 sent 1.176\n178 0 sent 1.177\n179 0 sent 1.178\n180 0 sent 1.179\n181 0 sent 1.180\n182 0 sent 1.181\n183 0 sent 1.182\n184 0 sent 1.183\n185 0 sent 1.184\n186 0 sent 1.185\n187 0 sent 1.186\n188 0 sent 1.187\n189 0 sent 1.188\n190 0 sent 1.189\n191 0 sent 1.190\n192 0 sent 1.191\n193 0 sent 1.192\n194 0 sent 1.193\n195 0 sent 1.194\n196 0 sent 1.195\n197 0 sent 1.196\n198 0 sent 1.197\n199 0 sent 1.198\n200 0 sent 1.199\n201 0 sent 1.200\n202 0 sent 1.201\n203 0 sent 1.202\n204 0 sent 1.203\n205 0 sent 1.204\n206 0 sent 1.205\n207 0 sent 1.206\n208 0 sent 1.207\n209 0 sent 1.208\n210 0 sent 1.209\n211 0 sent 1.210\n212 0 sent 1.211\n213 0 sent 1.212\n214 0 sent 1.213\n215 0 sent 1.214\n216 0 sent 1.215\n217 0 sent 1.216\n218 0 sent 1.217\n219 0 sent 1.218\n220 0 sent 1.219\n221 0 sent 1.220\n222 0 sent 1.221\n223 0 sent 1.222\n224 0 sent 1.223\n225 0 sent 1.224\n226 0 sent 1.225\n227 0 sent 1.226\n228 0 sent 1.227\n229 0 sent 1.228\n230 0 sent 1.229\n231 0 sent 1.230\n232 0 sent 1.231\n233 0 sent 1.232\n234 0 sent 1.233\n235 0 sent 1.234\n236 0 sent 1.235\n237 0 sent 1.236\n238 0 sent 1.237\n239 0 sent 1.238\n240 0 sent 1.239\n241 0 sent 1.240\n242 0 sent 1.241\n243 0 sent 1.242\n244 0 sent 1.243\n245 0 sent 1.244\n246 0 sent 1.245\n247 0 sent 1.246\n248 0 sent 1.247\n249 0 sent 1.248\n250 0 sent 1.249\n251 0 sent 1.250\n252 0 sent 1.251\n253 0 sent 1.252\n254 0 sent 1.253\n255 0 sent 1.254\n256 0 sent 1.255\n257 0 no NumbersSpent 120\n258 120 ok\n259 120 sent 1.0\nend 120\n",
     ),
     (
         THREE_RANKS,
-        "send p 'up
-tick 2
-read q
-",
-        "1 0 sent 1.0
-2 2 ok
-3 2 got 2 'up
-end 2
-",
+        "send p 'up\ntick 2\nread q\n",
+        "1 0 sent 1.0\n2 2 ok\n3 2 got 2 'up\nend 2\n",
     ),
     (
         THREE_RANKS_BY_HAND,
-        "send p 'up
-out d3 a 0
-out d2 a 0
-out d1 a 0
-tick 2
-in d1 b 0
-tick 20
-in d2 b 0
-in d3 b 0
-read q
-",
-        "1 0 sent 1.0
-2 0 out data 1.1.0
-3 0 out data 1.1.0
-4 0 out data 1.1.0
-5 2 ok
-6 2 in data 1.1.0 accepted
-7 22 ok
-8 22 in data 1.1.0 accepted
-9 22 in data 1.1.0 accepted
-10 22 got 22 'up
-end 22
-",
+        "send p 'up\nout d3 a 0\nout d2 a 0\nout d1 a 0\ntick 2\nin d1 b 0\ntick 20\nin d2 b 0\nin d3 b 0\nread q\n",
+        "1 0 sent 1.0\n2 0 out data 1.1.0\n3 0 out data 1.1.0\n4 0 out data 1.1.0\n5 2 ok\n6 2 in data 1.1.0 accepted\n7 22 ok\n8 22 in data 1.1.0 accepted\n9 22 in data 1.1.0 accepted\n10 22 got 22 'up\nend 22\n",
     ),
     (
         THREE_RANKS_BY_HAND,
-        "send p 'up
-out d3 a 0
-out d2 a 0
-out d1 a 0
-tick 2
-in d1 b 0
-tick 21
-in d2 b 0
-in d3 b 0
-read q
-",
-        "1 0 sent 1.0
-2 0 out data 1.1.0
-3 0 out data 1.1.0
-4 0 out data 1.1.0
-5 2 ok
-6 2 in data 1.1.0 accepted
-7 23 ok
-8 23 in data 1.1.0 off Expired 20 21
-9 23 idle
-10 23 none
-end 23
-",
+        "send p 'up\nout d3 a 0\nout d2 a 0\nout d1 a 0\ntick 2\nin d1 b 0\ntick 21\nin d2 b 0\nin d3 b 0\nread q\n",
+        "1 0 sent 1.0\n2 0 out data 1.1.0\n3 0 out data 1.1.0\n4 0 out data 1.1.0\n5 2 ok\n6 2 in data 1.1.0 accepted\n7 23 ok\n8 23 in data 1.1.0 off Expired 20 21\n9 23 idle\n10 23 none\nend 23\n",
     ),
     (
         LAST_FIRST,
-        "send p1 'a
-send p1 'b
-send p2 'c
-send p2 'd
-out d a 0
-retire last
-out d a 0
-out d a 0
-out d a 0
-out d a 0
-tick 2
-in d b 0
-read q2
-",
-        "1 0 sent 1.0
-2 0 sent 1.1
-3 0 sent 2.0
-4 0 sent 2.1
-5 0 out data 1.2.0
-6 0 ok
-7 0 out data 1.1.0
-8 0 out data 1.1.1
-9 0 out data 1.2.1
-10 0 idle
-11 2 ok
-12 2 in data 1.2.0 accepted
-13 2 got 2 'c
-end 2
-",
+        "send p1 'a\nsend p1 'b\nsend p2 'c\nsend p2 'd\nout d a 0\nretire last\nout d a 0\nout d a 0\nout d a 0\nout d a 0\ntick 2\nin d b 0\nread q2\n",
+        "1 0 sent 1.0\n2 0 sent 1.1\n3 0 sent 2.0\n4 0 sent 2.1\n5 0 out data 1.2.0\n6 0 ok\n7 0 out data 1.1.0\n8 0 out data 1.1.1\n9 0 out data 1.2.1\n10 0 idle\n11 2 ok\n12 2 in data 1.2.0 accepted\n13 2 got 2 'c\nend 2\n",
     ),
     (
         LAST_FIRST,
-        "send p1 'a
-send p1 'b
-send p2 'c
-send p2 'd
-out d a 0
-retire last
-out d a 0
-out d a 0
-out d a 0
-out d a 0
-tick 33
-in d b 0
-read q2
-",
-        "1 0 sent 1.0
-2 0 sent 1.1
-3 0 sent 2.0
-4 0 sent 2.1
-5 0 out data 1.2.0
-6 0 ok
-7 0 out data 1.1.0
-8 0 out data 1.1.1
-9 0 out data 1.2.1
-10 0 idle
-11 33 ok
-12 33 in data 1.2.0 off Expired 30 31
-13 33 none
-end 33
-",
+        "send p1 'a\nsend p1 'b\nsend p2 'c\nsend p2 'd\nout d a 0\nretire last\nout d a 0\nout d a 0\nout d a 0\nout d a 0\ntick 33\nin d b 0\nread q2\n",
+        "1 0 sent 1.0\n2 0 sent 1.1\n3 0 sent 2.0\n4 0 sent 2.1\n5 0 out data 1.2.0\n6 0 ok\n7 0 out data 1.1.0\n8 0 out data 1.1.1\n9 0 out data 1.2.1\n10 0 idle\n11 33 ok\n12 33 in data 1.2.0 off Expired 30 31\n13 33 none\nend 33\n",
     ),
     (
         LAST_FIRST,
-        "retire last
-retire last
-",
-        "1 0 ok
-2 0 no NoPolicy
-end 0
-",
+        "retire last\nretire last\n",
+        "1 0 ok\n2 0 no NoPolicy\nend 0\n",
     ),
     (
         SHORT_QUEUE_ONE_FLOW,
-        "send p1 'a
-send p1 'a
-send p1 'a
-send p1 'a
-send p1 'a
-send p1 'a
-in d b 0
-in d b 1
-clock d a
-",
-        "1 0 sent 1.0
-2 0 sent 1.1
-3 0 sent 1.2
-4 0 sent 1.3
-5 0 sent 1.4
-6 0 no QueueFull 1 0
-7 0 idle
-8 0 no NoLink
-9 0 idle
-end 0
-",
+        "send p1 'a\nsend p1 'a\nsend p1 'a\nsend p1 'a\nsend p1 'a\nsend p1 'a\nin d b 0\nin d b 1\nclock d a\n",
+        "1 0 sent 1.0\n2 0 sent 1.1\n3 0 sent 1.2\n4 0 sent 1.3\n5 0 sent 1.4\n6 0 no QueueFull 1 0\n7 0 idle\n8 0 no NoLink\n9 0 idle\nend 0\n",
     ),
     (
         SHORT_QUEUE,
-        "send p1 'a
-send p1 'a
-send p1 'a
-send p1 'a
-send p1 'a
-send p1 'a
-in d b 0
-in d b 1
-clock d a
-",
-        "1 0 sent 1.0
-2 0 sent 1.1
-3 0 sent 1.2
-4 0 sent 1.3
-5 0 sent 1.4
-6 0 no QueueFull 1 0
-7 0 idle
-8 0 no NoLink
-9 0 idle
-end 0
-",
+        "send p1 'a\nsend p1 'a\nsend p1 'a\nsend p1 'a\nsend p1 'a\nsend p1 'a\nin d b 0\nin d b 1\nclock d a\n",
+        "1 0 sent 1.0\n2 0 sent 1.1\n3 0 sent 1.2\n4 0 sent 1.3\n5 0 sent 1.4\n6 0 no QueueFull 1 0\n7 0 idle\n8 0 no NoLink\n9 0 idle\nend 0\n",
     ),
     (
         RING,
