@@ -24,12 +24,12 @@ use Rattle.rina_data.specs.Carried.{AreJoined, HasCome, HoldsCome, IsCarried, Is
 use Rattle.rina_data.specs.Cloud.{Cloud, Everywhere, IsMember}
 use Rattle.rina_data.specs.Dif.{Config, DifSeen, Process, constants, piece_size, with_offs}
 use Rattle.rina_data.specs.Ids.{Ids, IsFrom, PiecesOf, flipped}
-use Rattle.rina_data.specs.Incoming.{IsArrived, IsInbound, arrived, lines_for}
+use Rattle.rina_data.specs.Incoming.{IsArrived, IsInbound, arrived, found, landed, lines_for, whole_by}
 use Rattle.rina_data.specs.Standing.{IsConn, IsFlow, IsJournal, IsStanding}
 use Rattle.rina_data.proofs.After.{IsAfter}
-use Rattle.rina_data.proofs.Coming.{delivers}
 use Rattle.rina_data.proofs.Ends.{IsEndAt, at_end}
 use Rattle.rina_data.proofs.Finding.{beside}
+use Rattle.rina_data.proofs.Forgot.{by_found, found_clock, found_got}
 use Rattle.rina_data.proofs.Joined.{IsWholeOf, after_known, none_joined}
 use Rattle.rina_data.proofs.Journals.{IsConst, const_refl, partner_was, was_end}
 use Rattle.rina_data.proofs.Own.{map_at, one_partner, partner_back}
@@ -158,7 +158,7 @@ record IsDeliveredTo (g : Config) (below' : Seen) (ids : Ids) (now : ℕ) (p : P
   holds : HoldsCome g now below' ids line'
   entries : (j : ℕ) (x : Entry) → slice_get line'.inbox.got j ≡ Some x → ((i : ℕ) × (slice_get got i ≡ Some x)) ⊎ IsCarried g below' ids x
 
-delivered_to : (g : Config) (more : Port → Entry → Type 0) (below below' : Seen) (ids : Ids) (k : Constants) (now : ℕ) (p : Piece) (line : Direction) (got : List Entry) → IsAfter g more below below' → line.line.clock ≡ now → line.inbox.got ≡ got → HasCome g below' ids now p.number p.part → IsSized (piece_size g) p.part → HoldsCome g now below ids line → IsDeliveredTo g below' ids now p line (arrived k p line) got
+delivered_to : (g : Config) (more : Port → Entry → Type 0) (below below' : Seen) (ids : Ids) (k : Constants) (now : ℕ) (p : Piece) (line : Direction) (got : List Entry) → IsAfter g more below below' → line.line.clock ≡ now → line.inbox.got ≡ got → HasCome g below' ids now p.number p.part → IsSized (piece_size g) p.part → HoldsCome g now below ids line → IsDeliveredTo g below' ids now p line (landed k p line) got
 delivered_to g more below below' ids k now p line got after clock got_is come sized h =
     let v : Verdict = arrival_verdict k line.line p (has_room k line) in
     let present : Bool = is_present k line.line.clock line.line.receiver in
@@ -177,15 +177,23 @@ delivered_to g more below below' ids k now p line got after clock got_is come si
           | inr is ↦ subst (λ (z : Piece). IsSized (piece_size g) z.part) (sym is) sized
         ];
       };
-      entries = λ j x at. elim (either_at line.inbox.got (map (entry_for k line.line.clock) (delivers k p line)) j x at) [
+      entries = λ j x at. elim (either_at line.inbox.got (map (entry_for k line.line.clock) (whole_by k p line)) j x at) [
         | inl o ↦ inl (o.0, subst (λ (xs : List Entry). slice_get xs o.0 ≡ Some x) got_is o.1)
         | inr n ↦
-            let s = map_at (entry_for k line.line.clock) (delivers k p line) n.0 x n.1 in
-            let carried = delivered_carried g below' ids k now s.0 (all.whole s.0 (in_list (delivers k p line) n.0 s.0 s.1)) in
+            let s = map_at (entry_for k line.line.clock) (whole_by k p line) n.0 x n.1 in
+            let carried = delivered_carried g below' ids k now s.0 (all.whole s.0 (in_list (whole_by k p line) n.0 s.0 s.1)) in
             let P : ℕ → Type 0 = λ t. IsCarried g below' ids (entry_for k t s.0) in
             inr (subst (IsCarried g below' ids) (sym s.2) (subst P (sym clock) carried))
       ];
     }
+
+-- also where it gives up first what is left of a state that is gone
+found_holds : (g : Config) (now : ℕ) (below : Seen) (ids : Ids) (k : Constants) (line : Direction) → HoldsCome g now below ids line → HoldsCome g now below ids (found k line)
+found_holds g now below ids k line h = by_found (HoldsCome g now below ids) k line h (λ gone. record {
+  joined = none_joined (piece_size g) (HasCome g below ids now);
+  held = λ p none. absurd none;
+  sized = λ p none. absurd none;
+})
 
 end_same : (o : Option End) (a b : End) → o ≡ Some a → o ≡ Some b → a ≡ b
 end_same o a b h g = cc
@@ -244,7 +252,8 @@ arrived_carrying d lines more below below' older i process pdu cause d' lines' s
     let c_is : flipped s.ids ≡ f.0 = ap flipped flow.mirror in
     let piece : PiecesOf (Cloud Everywhere g d.processes below) f.0 older (piece_in pdu) = record { pdu = pdu; in_cloud = has; kind = s.piece; from = subst (λ (z : Ids). IsFrom z pdu) c_is s.taker.names; is = refl } in
     let sized = arriving_sized g d.clock (Cloud Everywhere g d.processes below) partner s.end f.0 s.ids s.line older (piece_in pdu) flow piece alive in
-    let new = delivered_to g more below below' s.ids k d.clock (piece_in pdu) s.line s.end.got after flow.backed.clock flow.got come sized (c.holding s.place s.from s.end s.ids s.line s.taker.is_conn s.inbound) in
+    let holding = found_holds g d.clock below s.ids k s.line (c.holding s.place s.from s.end s.ids s.line s.taker.is_conn s.inbound) in
+    let new = delivered_to g more below below' s.ids k d.clock (piece_in pdu) (found k s.line) s.end.got after (found_clock k s.line ∙ flow.backed.clock) (found_got k s.line ∙ flow.got) come sized holding in
     let const : IsConst s.end end' = record { flow = refl; role = refl; port = refl; app = refl; peer = refl; cube = refl } in
     let processes' : List Process = slice_set d.processes i (with_offs process (s.dropped ++ lines_for pdu cause)) in
     subst (λ (z : DifSeen). IsCarrying z lines' below') (sym s.new_is) (subst (λ (ls : List Direction). IsCarrying (record d { ends = slice_set d.ends s.place end'; processes = processes' }) ls below') (sym s.lines_are)

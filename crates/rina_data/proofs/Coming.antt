@@ -15,11 +15,11 @@ use Rattle.rina_iface.proofs.LaterCalls.{later_passes}
 use Rattle.rina_law.specs.declared.entry.Entry.{Entry}
 use Rattle.rina_law.specs.Backed.{Covers}
 use Rattle.rina_law.specs.Constants.{Constants}
-use Rattle.rina_law.specs.Direction.{Direction, entry_for, has_room}
-use Rattle.rina_law.specs.Line.{arrival_verdict, told}
+use Rattle.rina_law.specs.Direction.{Direction, entry_for}
+use Rattle.rina_law.specs.Line.{told}
 use Rattle.rina_law.specs.Pdus.{ack_in, piece_in}
 use Rattle.rina_law.specs.Pieces.{Sdu}
-use Rattle.rina_law.specs.Receiver.{Piece, is_present, joined_after}
+use Rattle.rina_law.specs.Receiver.{Piece}
 use Rattle.rina_queue.specs.declared.queue.Queued.{Queued}
 use Rattle.rina_data.specs.declared.step.InStep.{InStep}
 use Rattle.rina_data.specs.declared.step.InStep.TheVariants as in_
@@ -30,14 +30,15 @@ use Rattle.rina_data.specs.declared.step.Took.TheVariants as took
 use Rattle.rina_data.specs.Cloud.{Cloud, Everywhere, Hop}
 use Rattle.rina_data.specs.Dif.{DifSeen, Member, Process, fac_of, constants, cube_by, with_offs, with_process, with_put}
 use Rattle.rina_data.specs.Ids.{AcksOf, Ids, IsFrom, PiecesOf, flipped}
-use Rattle.rina_data.specs.Incoming.{Ins, IsArrived, IsInTime, IsRelayed, IsTold, Settles, SettlesOff, arrived, lines_for, written_off}
+use Rattle.rina_data.specs.Incoming.{Ins, IsArrived, IsInTime, IsRelayed, IsTold, Settles, SettlesOff, arrived, found, joined_by, lines_for, written_off}
 use Rattle.rina_data.specs.Queueing.{line_for}
 use Rattle.rina_data.specs.Standing.{IsConn, IsFlow, IsItem, IsStanding}
 use Rattle.rina_data.proofs.After.{IsAfter, NoMore, after_passed}
 use Rattle.rina_data.proofs.Arrivals.{IsArrival, arrival}
 use Rattle.rina_data.proofs.Clouds.{NoItem, cloud_after, covers_less, requeued_none}
 use Rattle.rina_data.proofs.Finding.{beside, cube_limits}
-use Rattle.rina_data.proofs.Flows.{flow_arrived, flow_told}
+use Rattle.rina_data.proofs.Flows.{flow_arrived, flow_forgot, flow_told}
+use Rattle.rina_data.proofs.Forgot.{by_found, found_clock, found_got}
 use Rattle.rina_data.proofs.Frame.{stands_with}
 use Rattle.rina_data.proofs.Going.{lost_stands, same_stands}
 use Rattle.rina_data.proofs.Journals.{IsConst, journal_set, ports_set}
@@ -57,15 +58,13 @@ more_whole c now end whole w = record {
   taken = let taken = w.taken in omega (arith, length-append end.got (map (entry_for c now) whole));
 }
 
--- what an arrival delivers
-abbrev pub delivers : Constants → Piece → Direction → List Sdu
-delivers k p line = (joined_after (arrival_verdict k line.line p (has_room k line)) k.cube.kind (is_present k line.line.clock line.line.receiver) p line.line.receiver.held line.inbox.joiner).whole
-
 arrived_whole : (k : Constants) (now : ℕ) (p : Piece) (line : Direction) (end : End) → line.line.clock ≡ now → line.inbox.got ≡ end.got → IsWhole now end → IsWhole now (record end { got = (arrived k p line).inbox.got })
 arrived_whole k now p line end clock got w =
-    let P : ℕ → Type 0 = λ t. IsWhole now (record end { got = line.inbox.got ++ map (entry_for k t) (delivers k p line) }) in
-    let Q : List Entry → Type 0 = λ xs. IsWhole now (record end { got = xs ++ map (entry_for k now) (delivers k p line) }) in
-    subst P (sym clock) (subst Q (sym got) (more_whole k now end (delivers k p line) w))
+    let x : Direction = found k line in
+    let whole = joined_by k p line in
+    let P : ℕ → Type 0 = λ t. IsWhole now (record end { got = x.inbox.got ++ map (entry_for k t) whole }) in
+    let Q : List Entry → Type 0 = λ xs. IsWhole now (record end { got = xs ++ map (entry_for k now) whole }) in
+    subst P (sym (found_clock k line ∙ clock)) (subst Q (sym (found_got k line ∙ got)) (more_whole k now end whole w))
 
 ids_same : (o : Option Ids) (a b : Ids) → o ≡ Some a → o ≡ Some b → a ≡ b
 ids_same o a b h g = cc
@@ -83,7 +82,11 @@ module _ (d : DifSeen) (lines : List Direction) (below below' : Seen) (st : IsSt
       let c_is : flipped ids ≡ c = ap flipped (sym f_is ∙ h.mirror) in
       let piece : PiecesOf cloud (flipped ids) older (piece_in pdu) = record { pdu = pdu; in_cloud = has; kind = kind; from = names; is = refl } in
       let P : Ids → Type 0 = λ x. IsFlow d.config d.clock cloud partner end x f line → IsFlow d.config d.clock cloud' partner end' x f (arrived k (piece_in pdu) line) in
-      subst P c_is (λ flow. flow_arrived d.config d.clock cloud cloud' partner end (flipped ids) f line cube is_cube (cube_limits d.config ids.qos cube st.config is_cube) end' older (piece_in pdu) piece alive covers refl refl flow) h
+      let limits = cube_limits d.config ids.qos cube st.config is_cube in
+      let same : Covers d.clock cloud cloud = λ death x there lives. (death, omega arith, there) in
+      let F : Direction → Type 0 = λ l. IsFlow d.config d.clock cloud partner end (flipped ids) f l in
+      subst P c_is (λ flow. flow_arrived d.config d.clock cloud cloud' partner end (flipped ids) f (found k line) cube is_cube limits end' older (piece_in pdu) piece alive covers refl refl
+          (by_found F k line flow (λ gone. flow_forgot d.config d.clock cloud cloud partner end (flipped ids) f line cube is_cube limits gone same flow))) h
 
   arrived_stands : (i : ℕ) (process : Process) (cause : Option Cause) (d' : DifSeen) (lines' : List Direction) → slice_get d.processes i ≡ Some process → IsArrived d lines i process pdu cause d' lines' → IsStanding d' lines' below'
   arrived_stands i process cause d' lines' is_process s =

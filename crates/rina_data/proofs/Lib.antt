@@ -12,6 +12,7 @@ pub mod Facades
 pub mod Finding
 pub mod Finishing
 pub mod Flows
+pub mod Forgot
 pub mod Frame
 pub mod Giving
 pub mod Going

@@ -32,15 +32,15 @@ use Rattle.rina_data.specs.declared.step.Took.TheVariants as took
 use Rattle.rina_data.specs.Cloud.{Hop}
 use Rattle.rina_data.specs.Dif.{DifSeen, Member, Process, constants, fac_of, with_offs}
 use Rattle.rina_data.specs.Ids.{flipped}
-use Rattle.rina_data.specs.Incoming.{Ins, IsArrived, Settles, SettlesOff, arrived}
+use Rattle.rina_data.specs.Incoming.{Ins, IsArrived, Settles, SettlesOff, arrived, found, joined_by}
 use Rattle.rina_data.specs.Outgoing.{Outs}
 use Rattle.rina_data.specs.Passing.{IsPassed, IsTicked}
 use Rattle.rina_data.specs.Sending.{IsOffered, Offers, offered_entry}
 use Rattle.rina_data.specs.Standing.{IsStanding}
 use Rattle.rina_data.specs.Timely.{IsAcknowledged, IsForgotten, IsResent}
 use Rattle.rina_data.specs.Upward.{IsSilent}
-use Rattle.rina_data.proofs.Coming.{delivers}
 use Rattle.rina_data.proofs.Finding.{beside}
+use Rattle.rina_data.proofs.Forgot.{found_clock, found_got}
 
 -- nothing of the journal changed
 pub silent_same : (d d' : DifSeen) → d'.ends ≡ d.ends → d'.config ≡ d.config → d'.clock ≡ d.clock → IsSilent d d'
@@ -64,9 +64,11 @@ all_now c now (s ∷ ss) (suc i) e h = all_now c now ss i e h
 
 arrived_grows : (k : Constants) (now : ℕ) (p : Piece) (line : Direction) (end : End) → line.line.clock ≡ now → line.inbox.got ≡ end.got → Grows now now end.got ((arrived k p line).inbox.got)
 arrived_grows k now p line end clock got =
-    let P : ℕ → Type 0 = λ t. Grows now now end.got (line.inbox.got ++ map (entry_for k t) (delivers k p line)) in
-    let Q : List Entry → Type 0 = λ xs. Grows now now end.got (xs ++ map (entry_for k now) (delivers k p line)) in
-    subst P (sym clock) (subst Q (sym got) (record { more = map (entry_for k now) (delivers k p line); is = refl; dated = all_now k now (delivers k p line) }))
+    let x : Direction = found k line in
+    let whole = joined_by k p line in
+    let P : ℕ → Type 0 = λ t. Grows now now end.got (x.inbox.got ++ map (entry_for k t) whole) in
+    let Q : List Entry → Type 0 = λ xs. Grows now now end.got (xs ++ map (entry_for k now) whole) in
+    subst P (sym (found_clock k line ∙ clock)) (subst Q (sym (found_got k line ∙ got)) (record { more = map (entry_for k now) whole; is = refl; dated = all_now k now whole }))
 
 was_allocated : (s : PortState) → s ≡ Allocated → WasAllocated s s
 was_allocated s e = subst (λ (x : PortState). WasAllocated x x) (sym e) tt

@@ -12,6 +12,7 @@ use Rattle.rina_iface.specs.Later.{Moves}
 use Rattle.rina_law.specs.Direction.{Direction}
 use Rattle.rina_law.specs.Lists.{In}
 use Rattle.rina_law.specs.Sender.{given_up, member}
+use Rattle.rina_data.specs.Counting.{AllOff}
 use Rattle.rina_data.specs.Dif.{Process, DifSeen, constants, cube_by, with_offs}
 use Rattle.rina_data.specs.Ids.{Ids}
 use Rattle.rina_data.specs.Incoming.{IsInbound, IsKeptNumber}
@@ -33,6 +34,7 @@ pub record IsEnded (d : DifSeen) (lines : List Direction) (at : ℕ) (state : Po
   pub is_process : slice_get d.processes i ≡ Some process
   pub dropped : List Off
   pub all_dropped : (off : Off) (from : ℕ) (line : Direction) → In off dropped → IsInbound d lines end from line → (off.key.kind ≡ APiece) × (off.key.src ≡ ids.far) × (off.key.scep ≡ ids.dcep) × IsKeptNumber line off.key.seq × (off.cause ≡ causes.NoConnection ids.scep)
+  pub all : (from : ℕ) (line : Direction) → IsInbound d lines end from line → AllOff line dropped
   pub new_is : d' ≡ record d { ends = slice_set d.ends at (record end { state = state }); processes = slice_set d.processes i (with_offs process dropped) }
 
 -- a reliable sender gives a number up: the flow has failed

@@ -15,12 +15,12 @@ use Rattle.rina_iface.specs.Pass.{IsPassed}
 use Rattle.rina_iface.specs.Seen.{Seen, unpassed}
 use Rattle.rina_law.specs.declared.entry.Entry.{Entry}
 use Rattle.rina_law.specs.Constants.{Constants}
-use Rattle.rina_law.specs.Direction.{Direction, after_arrival, has_room}
+use Rattle.rina_law.specs.Direction.{Direction, Forget, after_arrival, happens, has_room}
 use Rattle.rina_law.specs.Line.{arrival_verdict, told}
 use Rattle.rina_law.specs.Lists.{In, highest}
 use Rattle.rina_law.specs.Pdus.{ack_in, piece_in}
-use Rattle.rina_law.specs.Pieces.{Joiner, empty_joiner, goes_on}
-use Rattle.rina_law.specs.Receiver.{Piece, Verdict, Accepted, Held, Duplicate, Behind, NoState, NoRoom, is_present, numbers}
+use Rattle.rina_law.specs.Pieces.{Joiner, Sdu, empty_joiner, goes_on}
+use Rattle.rina_law.specs.Receiver.{Piece, Verdict, Accepted, Held, Duplicate, Behind, NoState, NoRoom, is_present, joined_after, numbers}
 use Rattle.rina_data.specs.declared.step.InStep.{InStep}
 use Rattle.rina_data.specs.declared.step.InStep.TheVariants as in_
 use Rattle.rina_data.specs.declared.step.StepError.{StepError}
@@ -29,6 +29,7 @@ use Rattle.rina_data.specs.declared.step.Took.{Took}
 use Rattle.rina_data.specs.declared.step.Took.TheVariants as took
 use Rattle.rina_data.specs.Cloud.{Hop, opened}
 use Rattle.rina_data.specs.declared.link.Link.{Link}
+use Rattle.rina_data.specs.Counting.{held_numbers, off_numbers, times, whole_numbers}
 use Rattle.rina_data.specs.Dif.{Member, Process, DifSeen, IsProcess, constants, cube_by, link_by, next_hop, with_offs, with_process}
 use Rattle.rina_data.specs.Ids.{Ids, IsFrom, flipped}
 use Rattle.rina_data.specs.Queueing.{IsFull, IsPassedOn, line_for}
@@ -66,9 +67,24 @@ pub record IsInbound (d : DifSeen) (lines : List Direction) (end : End) (from : 
   pub partners : IsPartner partner end
   pub is_line : slice_get lines from ≡ Some line
 
+-- the direction that a piece finds: what is left of a state that is gone is given up first
+abbrev pub found : Constants → Direction → Direction
+found c line = if is_present c line.line.clock line.line.receiver then line else happens c line Forget
+
+-- what a piece makes of a direction, once that was given up
+abbrev pub landed : Constants → Piece → Direction → Direction
+landed c p line = after_arrival (arrival_verdict c line.line p (has_room c line)) (is_present c line.line.clock line.line.receiver) c p line
+
 -- what a piece makes of a direction
 abbrev pub arrived : Constants → Piece → Direction → Direction
-arrived c p line = after_arrival (arrival_verdict c line.line p (has_room c line)) (is_present c line.line.clock line.line.receiver) c p line
+arrived c p line = landed c p (found c line)
+
+-- the SDUs that become whole by it
+abbrev pub whole_by : Constants → Piece → Direction → List Sdu
+whole_by c p line = (joined_after (arrival_verdict c line.line p (has_room c line)) c.cube.kind (is_present c line.line.clock line.line.receiver) p line.line.receiver.held line.inbox.joiner).whole
+
+abbrev pub joined_by : Constants → Piece → Direction → List Sdu
+joined_by c p line = whole_by c p (found c line)
 
 -- the joiner that a piece finds: that of the state, or an empty one
 abbrev pub joiner_found : Constants → Direction → Joiner
@@ -116,6 +132,11 @@ abbrev pub lines_for : Pdu → Option Cause → List Off
 lines_for pdu None = []
 lines_for pdu (Some cause) = line_for pdu cause ∷ []
 
+-- of each number: the pieces that were held, and the one that came, are those that are written off in these lines, those
+-- that are held, and those of SDUs that are delivered
+abbrev pub AllSettled : Constants → Piece → Direction → List Off → Type 0
+AllSettled c p line offs = (n : ℕ) → times n (p.number ∷ held_numbers line) ≡ times n (off_numbers offs) + times n (held_numbers (arrived c p line)) + times n (whole_numbers (joined_by c p line))
+
 -- a piece comes to its connection; what is whole is delivered
 pub record IsArrived (d : DifSeen) (lines : List Direction) (i : ℕ) (process : Process) (pdu : Pdu) (cause : Option Cause) (d' : DifSeen) (lines' : List Direction) : Type 0 where
   pub piece : pdu.kind ≡ APiece
@@ -131,6 +152,7 @@ pub record IsArrived (d : DifSeen) (lines : List Direction) (i : ℕ) (process :
   pub cause_is : cause ≡ cause_for (constants d.config cube (flipped ids)) (piece_in pdu) line
   pub dropped : List Off
   pub all_dropped : (off : Off) → In off dropped → IsDropped (constants d.config cube (flipped ids)) (piece_in pdu) line ids off
+  pub settled : AllSettled (constants d.config cube (flipped ids)) (piece_in pdu) line (dropped ++ lines_for pdu cause)
   pub lines_are : lines' ≡ slice_set lines from (arrived (constants d.config cube (flipped ids)) (piece_in pdu) line)
   pub new_is : d' ≡ record d {
     ends = slice_set d.ends place (record end { got = (arrived (constants d.config cube (flipped ids)) (piece_in pdu) line).inbox.got });

@@ -2,6 +2,7 @@ pub mod Binding
 pub mod Carried
 pub mod Cloud
 pub mod Configs
+pub mod Counting
 pub mod Deciding
 pub mod Dif
 pub mod Ending

@@ -14,6 +14,7 @@ use Rattle.rina_law.specs.Line.{again}
 use Rattle.rina_law.specs.Lists.{In}
 use Rattle.rina_law.specs.Receiver.{is_present, next_of}
 use Rattle.rina_law.specs.Sender.{again_due, piece_again}
+use Rattle.rina_data.specs.Counting.{AllOff}
 use Rattle.rina_data.specs.Dif.{Config, Process, DifSeen, constants, cube_by, next_hop, with_offs, with_process}
 use Rattle.rina_data.specs.Ids.{Ids, flipped, pdu_of_ack, pdu_of_piece}
 use Rattle.rina_data.specs.Incoming.{IsInbound, IsKeptNumber}
@@ -88,5 +89,6 @@ pub record IsForgotten (d : DifSeen) (lines : List Direction) (at : ℕ) (d' : D
   pub gone : is_present (constants d.config cube (flipped ids)) line.line.clock line.line.receiver ≡ false
   pub dropped : List Off
   pub all_dropped : (off : Off) → In off dropped → (off.key.kind ≡ APiece) × (off.key.src ≡ ids.far) × (off.key.scep ≡ ids.dcep) × IsKeptNumber line off.key.seq × (off.cause ≡ causes.StateGone line.line.receiver.last_in)
+  pub all : AllOff line dropped
   pub lines_are : lines' ≡ slice_set lines from (happens (constants d.config cube (flipped ids)) line Forget)
   pub new_is : d' ≡ with_process d i (with_offs process dropped)
