@@ -1,5 +1,7 @@
+pub mod Accounting
 pub mod After
 pub mod Arrivals
+pub mod Balancing
 pub mod Binding
 pub mod Carries
 pub mod Carrying
@@ -19,6 +21,7 @@ pub mod Going
 pub mod Joined
 pub mod Journals
 pub mod Keepers
+pub mod Keys
 pub mod Leaves
 pub mod Linkless
 pub mod Numbering
@@ -28,8 +31,11 @@ pub mod Partnered
 pub mod Plain
 pub mod Queues
 pub mod Rows
+pub mod Shares
 pub mod Spelled
 pub mod Starting
 pub mod Stepping
 pub mod Taking
+pub mod Tallies
+pub mod Totals
 pub mod Upper

@@ -1,3 +1,5 @@
+pub mod AccountLaws
+pub mod Accounted
 pub mod Binding
 pub mod Carried
 pub mod Cloud

@@ -12,11 +12,12 @@ use Rattle.rina_data.specs.Ids.{Ids}
 use Rattle.rina_data.specs.Sending.{home}
 use Rattle.rina_data.specs.Standing.{IsConn}
 
--- no two members have one address or one node, each address fits its field, and so does the CEP-id of each port that a
--- node may draw for a fixed flow
+-- no two members have one address, one node or one name, each address fits its field, and so does the CEP-id of each
+-- port that a node may draw for a fixed flow
 pub record AreMembers (g : Config) : Type 0 where
   pub addrs : (i k : ℕ) (a b : Member) → slice_get g.members i ≡ Some a → slice_get g.members k ≡ Some b → a.addr ≡ b.addr → i ≡ k
   pub nodes : (i k : ℕ) (a b : Member) → slice_get g.members i ≡ Some a → slice_get g.members k ≡ Some b → a.node ≡ b.node → i ≡ k
+  pub names : (i k : ℕ) (a b : Member) → slice_get g.members i ≡ Some a → slice_get g.members k ≡ Some b → a.name ≡ b.name → i ≡ k
   pub fit : (i : ℕ) (a : Member) → slice_get g.members i ≡ Some a → a.addr < 2 ^ (8 * g.widths.addr)
   pub ceps : g.admits < 2 ^ (8 * g.widths.cep)
 

@@ -2,6 +2,7 @@
 //! any facility below.
 #![tactic(auto)]
 
+mod account;
 mod hop;
 mod laws;
 mod link;
@@ -11,6 +12,7 @@ mod process;
 mod settings;
 mod step;
 
+pub use account::processes_stay_in_account;
 pub use hop::{HopView, charge, left_after, open, protect};
 pub use laws::{
     calls_are_later, calls_are_those_of_a_facility, calls_keep_standing,

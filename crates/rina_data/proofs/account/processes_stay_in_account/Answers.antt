@@ -1,0 +1,14 @@
+use Rattle.rina_data.proofs.Accounting.{acknowledged_accounted, lost_accounted, passed_accounted, resent_accounted}
+use Rattle.rina_data.proofs.account.processes_stay_in_account.Goals as goal
+
+pub returns-clause-pass : goal.returns-clause-pass
+returns-clause-pass c = passed_accounted
+
+pub returns-clause-acknowledge : goal.returns-clause-acknowledge
+returns-clause-acknowledge c = acknowledged_accounted
+
+pub returns-clause-resend : goal.returns-clause-resend
+returns-clause-resend c = resent_accounted
+
+pub returns-clause-lose : goal.returns-clause-lose
+returns-clause-lose c = lost_accounted
