@@ -30,6 +30,7 @@ pub mod Own
 pub mod Partnered
 pub mod Plain
 pub mod Queues
+pub mod Relaying
 pub mod Rows
 pub mod Shares
 pub mod Spelled

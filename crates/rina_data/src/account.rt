@@ -1,10 +1,11 @@
 //! The account of each IPC process, each law as the contract of a function that does nothing.
-ghost use Rattle.rina_data.specs.AccountLaws.{PassesAccount, AcknowledgingAccounts, ResendingAccounts, LosingAccounts};
+ghost use Rattle.rina_data.specs.AccountLaws.{PassesAccount, OutStepsAccount, AcknowledgingAccounts, ResendingAccounts, LosingAccounts};
 
 /// Each IPC process stays in account for each key of a PDU: what came in or was made is out, waits, was written off, or
 /// is kept.
 pub fn processes_stay_in_account()
     ensures pass { PassesAccount }
+    ensures out { OutStepsAccount }
     ensures acknowledge { AcknowledgingAccounts }
     ensures resend { ResendingAccounts }
     ensures lose { LosingAccounts }

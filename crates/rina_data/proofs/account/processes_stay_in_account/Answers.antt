@@ -1,4 +1,5 @@
 use Rattle.rina_data.proofs.Accounting.{acknowledged_accounted, lost_accounted, passed_accounted, resent_accounted}
+use Rattle.rina_data.proofs.Relaying.{outs_accounted}
 use Rattle.rina_data.proofs.account.processes_stay_in_account.Goals as goal
 
 pub returns-clause-pass : goal.returns-clause-pass
@@ -12,3 +13,6 @@ returns-clause-resend c = resent_accounted
 
 pub returns-clause-lose : goal.returns-clause-lose
 returns-clause-lose c = lost_accounted
+
+pub returns-clause-out : goal.returns-clause-out
+returns-clause-out c = outs_accounted
