@@ -14,6 +14,7 @@ use Rattle.rina_data.specs.Carried.{AreJoined, IsOpenCut}
 pub record IsWholeOf (size : ℕ) (known : ℕ → Part → Type 0) (sdu : Sdu) : Type 0 where
   pub parts : List Part
   pub cut : IsCut size true parts
+  pub count : length parts ≡ sdu.pieces
   pub joins : join parts ≡ sdu.bytes
   pub each : (k : ℕ) (part : Part) → slice_get parts k ≡ Some part → known (sdu.first + k) part
 
@@ -101,7 +102,7 @@ finished_known size known part j whole true ends sized h done = record {
   joiner = none_joined size known;
   whole = λ sdu i. elim (in_push whole (record { first = j.from; pieces = j.count; bytes = j.bytes }) sdu i) [
     | inl o ↦ done sdu o
-    | inr is ↦ subst (IsWholeOf size known) (sym is) (record { parts = h.parts ++ part ∷ []; cut = closed_push size true h.parts part h.is_open h.begins ends sized; joins = h.bytes; each = h.each })
+    | inr is ↦ subst (IsWholeOf size known) (sym is) (record { parts = h.parts ++ part ∷ []; cut = closed_push size true h.parts part h.is_open h.begins ends sized; count = (let c = h.count in omega (arith, length-append h.parts (part ∷ []))); joins = h.bytes; each = h.each })
   ];
 }
 finished_known size known part j whole false ends sized h done = record {

@@ -22,14 +22,17 @@ pub mod Joined
 pub mod Journals
 pub mod Keepers
 pub mod Keys
+pub mod Landing
 pub mod Leaves
 pub mod Linkless
 pub mod Numbering
 pub mod Others
 pub mod Own
 pub mod Partnered
+pub mod Pieces
 pub mod Plain
 pub mod Queues
+pub mod Receiving
 pub mod Relaying
 pub mod Rows
 pub mod Shares

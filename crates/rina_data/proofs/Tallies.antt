@@ -162,3 +162,55 @@ kept_all_same size conns lines lines' addr k ends hold = total_same (length ends
     alike None i = refl
     alike (Some a) None = refl
     alike (Some a) (Some c) = ap (λ (n : ℕ). cond ((eqb c.own addr && eqb c.far k.src) && eqb c.dcep k.scep) (times k.seq (journal_numbers size a.got) + held_by a.state n) 0) (inbound_same conns lines lines' k.seq c hold)
+
+-- Where the far end of a connection stands
+
+abbrev pub AreApartIds : List Ids → Type 0
+AreApartIds conns = (i k : ℕ) (c f : Ids) → slice_get conns i ≡ Some c → slice_get conns k ≡ Some f → c.own ≡ f.own → c.scep ≡ f.scep → i ≡ k
+
+-- what two ids have in common that are those of the two ends of a connection
+pub record AreFar (c f : Ids) : Type 0 where
+  pub own : f.own ≡ c.far
+  pub far : f.far ≡ c.own
+  pub scep : f.scep ≡ c.dcep
+  pub dcep : f.dcep ≡ c.scep
+
+pub are_far : (c f : Ids) → is_far c f ≡ true → AreFar c f
+are_far c f t =
+    let p = and_parts ((eqb f.own c.far && eqb f.far c.own) && eqb f.scep c.dcep) (eqb f.dcep c.scep) t in
+    let q = and_parts (eqb f.own c.far && eqb f.far c.own) (eqb f.scep c.dcep) p.0 in
+    let r = and_parts (eqb f.own c.far) (eqb f.far c.own) q.0 in
+    record { own = eqb-true f.own c.far r.0; far = eqb-true f.far c.own r.1; scep = eqb-true f.scep c.dcep q.1; dcep = eqb-true f.dcep c.scep p.1 }
+
+far_flipped : (c : Ids) → is_far c (flipped c) ≡ true
+far_flipped c =
+    let a = and_true (eqb c.far c.far) (eqb c.own c.own) (eq-eqb c.far c.far refl) (eq-eqb c.own c.own refl) in
+    let b = and_true (eqb c.far c.far && eqb c.own c.own) (eqb c.dcep c.dcep) a (eq-eqb c.dcep c.dcep refl) in
+    and_true ((eqb c.far c.far && eqb c.own c.own) && eqb c.dcep c.dcep) (eqb c.scep c.scep) b (eq-eqb c.scep c.scep refl)
+
+pub far_place : (conns : List Ids) (from : ℕ) (c : Ids) → AreApartIds conns → slice_get conns from ≡ Some (flipped c) → position (is_far c) conns ≡ Some from
+far_place conns from c apart is = position_only (is_far c) conns from (flipped c) is (far_flipped c) (λ j f at t. let a = are_far c f t in apart j from f (flipped c) at is a.own a.scep)
+
+-- what stands where the far end is found
+found_far : (conns : List Ids) (from : ℕ) (c f : Ids) → position (is_far c) conns ≡ Some from → slice_get conns from ≡ Some f → AreFar c f
+found_far conns from c f place is =
+    let at : get_or conns from f ≡ f = get_or_from_slice_get conns from f f is in
+    are_far c f (rw at at ((position-Some (is_far c) conns from f place).1))
+
+-- no other end receives in the direction from there
+pub far_alone : (conns : List Ids) (from at j : ℕ) (ids c : Ids) → AreApartIds conns → slice_get conns from ≡ Some (flipped ids) → slice_get conns at ≡ Some ids → slice_get conns j ≡ Some c → position (is_far c) conns ≡ Some from → j ≡ at
+far_alone conns from at j ids c apart is is_at is_j place = (let a = found_far conns from c (flipped ids) place is in apart j at c ids is_j is_at (sym a.far) (sym a.dcep))
+
+pub hold_elsewhere : (conns : List Ids) (lines : List Direction) (from at : ℕ) (ids : Ids) (line' : Direction) (n : ℕ) → AreApartIds conns → slice_get conns from ≡ Some (flipped ids) → slice_get conns at ≡ Some ids → HoldElsewhere conns lines (slice_set lines from line') at n
+hold_elsewhere conns lines from at ids line' n apart is is_at j c ne is_j = go (position (is_far c) conns) refl
+  where
+    go : (o : Option ℕ) → position (is_far c) conns ≡ o → held_in (option_and_then (λ i. slice_get (slice_set lines from line') i) o) n ≡ held_in (option_and_then (λ i. slice_get lines i) o) n
+    go None place = refl
+    go (Some i) place = elim (eqb_tells i from) [
+      | inl t ↦ absurd (ne (far_alone conns from at j ids c apart is is_at is_j (place ∙ ap (λ (m : ℕ). Some m) t.1)))
+      | inr f ↦ ap (λ (o : Option Direction). held_in o n) (slice_get-set_other lines from i line' f.1)
+    ]
+
+-- the end itself does
+pub inbound_at : (conns : List Ids) (lines : List Direction) (from : ℕ) (c : Ids) (line : Direction) → AreApartIds conns → slice_get conns from ≡ Some (flipped c) → slice_get lines from ≡ Some line → inbound_of conns lines c ≡ Some line
+inbound_at conns lines from c line apart is is_line = ap (option_and_then (λ i. slice_get lines i)) (far_place conns from c apart is) ∙ is_line

@@ -1,5 +1,5 @@
 //! The account of each IPC process, each law as the contract of a function that does nothing.
-ghost use Rattle.rina_data.specs.AccountLaws.{PassesAccount, OutStepsAccount, AcknowledgingAccounts, ResendingAccounts, LosingAccounts};
+ghost use Rattle.rina_data.specs.AccountLaws.{PassesAccount, OutStepsAccount, AcknowledgingAccounts, ResendingAccounts, ForgettingAccounts, EndingAccounts, LosingAccounts};
 
 /// Each IPC process stays in account for each key of a PDU: what came in or was made is out, waits, was written off, or
 /// is kept.
@@ -8,5 +8,7 @@ pub fn processes_stay_in_account()
     ensures out { OutStepsAccount }
     ensures acknowledge { AcknowledgingAccounts }
     ensures resend { ResendingAccounts }
+    ensures forget { ForgettingAccounts }
+    ensures end { EndingAccounts }
     ensures lose { LosingAccounts }
 {}
