@@ -24,6 +24,7 @@ pub mod Keepers
 pub mod Keys
 pub mod Landing
 pub mod Leaves
+pub mod Lifted
 pub mod Linkless
 pub mod Numbering
 pub mod Others

@@ -112,7 +112,7 @@ link_named d lines below i n m process link e st is is_link here =
 pub accounted_same : (d : DifSeen) (lines : List Direction) (below : Seen) (d' : DifSeen) (lines' : List Direction) (below' : Seen) → d' ≡ d → lines' ≡ lines → below' ≡ below → IsAccounted d lines below → IsAccounted d' lines' below'
 accounted_same d lines below d' lines' below' p q r a = subst (λ (z : DifSeen). IsAccounted z lines' below') (sym p) (subst (λ (ls : List Direction). IsAccounted d ls below') (sym q) (subst (IsAccounted d lines) (sym r) a))
 
-same_process : (d : DifSeen) (i : ℕ) (p p' : Process) → slice_get d.processes i ≡ Some p → p' ≡ p → with_process d i p' ≡ d
+pub same_process : (d : DifSeen) (i : ℕ) (p p' : Process) → slice_get d.processes i ≡ Some p → p' ≡ p → with_process d i p' ≡ d
 same_process d i p p' is same = ap (with_process d i) same ∙ ap (λ (ps : List Process). record d { processes = ps }) (slice_set-same d.processes i p is)
 
 -- an IPC process neither sends nor changes

@@ -1,5 +1,6 @@
 use Rattle.rina_data.proofs.Accounting.{acknowledged_accounted, lost_accounted, passed_accounted, resent_accounted}
-use Rattle.rina_data.proofs.Landing.{IsTakenFrom}
+use Rattle.rina_data.proofs.Landing.{ins_accounted}
+use Rattle.rina_data.proofs.Lifted.{beside_accounted, passes_of_others_account, sends_of_others_account, time_accounted}
 use Rattle.rina_data.proofs.Receiving.{ended_accounted, forgotten_accounted}
 use Rattle.rina_data.proofs.Relaying.{outs_accounted}
 use Rattle.rina_data.proofs.account.processes_stay_in_account.Goals as goal
@@ -24,3 +25,18 @@ returns-clause-forget c = forgotten_accounted
 
 pub returns-clause-end : goal.returns-clause-end
 returns-clause-end c = ended_accounted
+
+pub returns-clause-in_ : goal.returns-clause-in_
+returns-clause-in_ c = ins_accounted
+
+pub returns-clause-time : goal.returns-clause-time
+returns-clause-time c = time_accounted
+
+pub returns-clause-beside : goal.returns-clause-beside
+returns-clause-beside c = beside_accounted
+
+pub returns-clause-others_send : goal.returns-clause-others_send
+returns-clause-others_send c = sends_of_others_account
+
+pub returns-clause-others_pass : goal.returns-clause-others_pass
+returns-clause-others_pass c = passes_of_others_account
