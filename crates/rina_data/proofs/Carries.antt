@@ -88,7 +88,7 @@ begun_receiver : (b : Bool) (c : Constants) (line : Line) → (begun b c line).r
 begun_receiver true c line = refl
 begun_receiver false c line = refl
 
-offered_held : (c : Constants) (parts : List Part) (line : Line) → (offer c parts line).receiver.held ≡ line.receiver.held
+pub offered_held : (c : Constants) (parts : List Part) (line : Line) → (offer c parts line).receiver.held ≡ line.receiver.held
 offered_held c parts line = ap (λ (r : Receiver). r.held) (put_all_receiver c parts (begun (is_absent c line.clock line.sender) c line) ∙ begun_receiver (is_absent c line.clock line.sender) c line)
 
 offered_carries : (d : DifSeen) (lines : List Direction) (below : Seen) (at : ℕ) (parts : List Part) (num : Num) (d' : DifSeen) (lines' : List Direction) → IsCarrying d lines below → IsOffered d lines at parts num d' lines' → IsCarrying d' lines' below

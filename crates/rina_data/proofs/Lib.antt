@@ -26,6 +26,7 @@ pub mod Landing
 pub mod Leaves
 pub mod Lifted
 pub mod Linkless
+pub mod Making
 pub mod Numbering
 pub mod Others
 pub mod Own

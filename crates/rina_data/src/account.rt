@@ -1,9 +1,10 @@
 //! The account of each IPC process, each law as the contract of a function that does nothing.
-ghost use Rattle.rina_data.specs.AccountLaws.{PassesAccount, OutStepsAccount, InStepsAccount, AcknowledgingAccounts, ResendingAccounts, ForgettingAccounts, EndingAccounts, LosingAccounts, TimeAccounts, BesideAccounts, SendsOfOthersAccount, PassesOfOthersAccount};
+ghost use Rattle.rina_data.specs.AccountLaws.{SendsAccount, PassesAccount, OutStepsAccount, InStepsAccount, AcknowledgingAccounts, ResendingAccounts, ForgettingAccounts, EndingAccounts, LosingAccounts, TimeAccounts, BesideAccounts, SendsOfOthersAccount, PassesOfOthersAccount};
 
 /// Each IPC process stays in account for each key of a PDU: what came in or was made is out, waits, was written off, or
 /// is kept.
 pub fn processes_stay_in_account()
+    ensures send { SendsAccount }
     ensures pass { PassesAccount }
     ensures out { OutStepsAccount }
     ensures in_ { InStepsAccount }

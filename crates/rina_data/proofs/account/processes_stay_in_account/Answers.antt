@@ -1,6 +1,7 @@
 use Rattle.rina_data.proofs.Accounting.{acknowledged_accounted, lost_accounted, passed_accounted, resent_accounted}
 use Rattle.rina_data.proofs.Landing.{ins_accounted}
 use Rattle.rina_data.proofs.Lifted.{beside_accounted, passes_of_others_account, sends_of_others_account, time_accounted}
+use Rattle.rina_data.proofs.Making.{offers_accounted}
 use Rattle.rina_data.proofs.Receiving.{ended_accounted, forgotten_accounted}
 use Rattle.rina_data.proofs.Relaying.{outs_accounted}
 use Rattle.rina_data.proofs.account.processes_stay_in_account.Goals as goal
@@ -40,3 +41,6 @@ returns-clause-others_send c = sends_of_others_account
 
 pub returns-clause-others_pass : goal.returns-clause-others_pass
 returns-clause-others_pass c = passes_of_others_account
+
+pub returns-clause-send : goal.returns-clause-send
+returns-clause-send c = offers_accounted
