@@ -60,31 +60,31 @@ pub one_process : (d : DifSeen) (lines lines' : List Direction) (below below' : 
 one_process d lines lines' below below' ends' i p new a is passed others main =
     let d' : DifSeen = renewed d ends' i new in
     accounted_on d d' lines lines' below below' a passed a.apart (λ j m q k h.
-      let resends : Resends d m.addr k.scep → Resends d' m.addr k.scep = resends_on d d' m.addr k.scep refl (λ n ids x. x) in
-      let back : Resends d' m.addr k.scep → Resends d m.addr k.scep = resends_on d' d m.addr k.scep refl (λ n ids x. x) in
-      elim (set_at d.processes i j p new q is h.is_process) [
-        | inl t ↦
-            let member : slice_get d.config.members i ≡ Some m = subst (λ (n : ℕ). slice_get d.config.members n ≡ Some m) t.0 h.is_member in
-            let there : IsProcess d i m p = record { is_member = member; is_process = is } in
-            let old = main m k there in
-            let moved : IsMoved m.addr k (Resends d' m.addr k.scep) (counts_of d lines below m p k) (counts_of d' lines' below' m new k) = record {
-              foreign = old.foreign;
-              own = old.own;
-              once = λ kind src none. old.once kind src (λ r. none (resends r));
-              relayed = old.relayed;
-              bounded = old.bounded;
-              own_ack = old.own_ack;
-            } in
-            record {
-              process = p;
-              is_process = subst (λ (n : ℕ). IsProcess d n m p) (sym t.0) there;
-              resends = resends;
-              moved = subst (λ (z : Process). IsMoved m.addr k (Resends d' m.addr k.scep) (counts_of d lines below m p k) (counts_of d' lines' below' m z k)) (sym t.1) moved;
-            }
-        | inr f ↦
-            let there : IsProcess d j m q = record { is_member = h.is_member; is_process = f.1 } in
-            record { process = q; is_process = there; resends = resends; moved = moved_same m.addr k (Resends d' m.addr k.scep) (counts_of d lines below m q k) (counts_of d' lines' below' m q k) (others j m q k f.0 there) }
-      ])
+    let resends : Resends d m.addr k.scep → Resends d' m.addr k.scep = resends_on d d' m.addr k.scep refl (λ n ids x. x) in
+    let back : Resends d' m.addr k.scep → Resends d m.addr k.scep = resends_on d' d m.addr k.scep refl (λ n ids x. x) in
+    elim (set_at d.processes i j p new q is h.is_process) [
+      | inl t ↦
+          let member : slice_get d.config.members i ≡ Some m = subst (λ (n : ℕ). slice_get d.config.members n ≡ Some m) t.0 h.is_member in
+          let there : IsProcess d i m p = record { is_member = member; is_process = is } in
+          let old = main m k there in
+          let moved : IsMoved m.addr k (Resends d' m.addr k.scep) (counts_of d lines below m p k) (counts_of d' lines' below' m new k) = record {
+            foreign = old.foreign;
+            own = old.own;
+            once = λ kind src none. old.once kind src (λ r. none (resends r));
+            relayed = old.relayed;
+            bounded = old.bounded;
+            own_ack = old.own_ack;
+          } in
+          record {
+            process = p;
+            is_process = subst (λ (n : ℕ). IsProcess d n m p) (sym t.0) there;
+            resends = resends;
+            moved = subst (λ (z : Process). IsMoved m.addr k (Resends d' m.addr k.scep) (counts_of d lines below m p k) (counts_of d' lines' below' m z k)) (sym t.1) moved;
+          }
+      | inr f ↦
+          let there : IsProcess d j m q = record { is_member = h.is_member; is_process = f.1 } in
+          record { process = q; is_process = there; resends = resends; moved = moved_same m.addr k (Resends d' m.addr k.scep) (counts_of d lines below m q k) (counts_of d' lines' below' m q k) (others j m q k f.0 there) }
+    ])
 
 pub same_refl : (n : Counts) → AreSame n n
 same_refl n = record { taken = refl; relayed = refl; gone = refl; made = refl; kept = refl }
@@ -175,15 +175,15 @@ acknowledged_accounted d lines below at cause d' lines' numbered a s =
     let kept : (addr : ℕ) (k : Key) → _ = λ addr k. kept_all_same _ d.conns lines (slice_set lines s.from line') addr k d.ends (hold k.seq) in
     subst (λ (z : DifSeen). IsAccounted z lines' below) (sym s.new_is) (subst (λ (ls : List Direction). IsAccounted (with_process d s.i s.process') ls below) (sym s.lines_are)
     (one_process d lines (slice_set lines s.from line') below below d.ends s.i s.process s.process' a s.is_home.is_process a.passed
-      (λ j m q k ne is. record { taken = refl; relayed = refl; gone = refl; made = refl; kept = kept m.addr k })
-      (λ m k is.
-        let own = home_addr d below at s.end s.ids s.i m numbered s.is_home.is_conn s.is_home.at_home is.is_member in
-        let more = posted_more d.config d.clock s.cube.mpl s.process pdu cause s.process' k s.posted in
-        let none : (IsOneKey k (key_of pdu) → ⊥) → one k (key_of pdu) ≡ 0 = one_not k (key_of pdu) in
-        moved_more m.addr k (Resends d m.addr k.scep) (counts_of d lines below m s.process k) (counts_of (with_process d s.i s.process') (slice_set lines s.from line') below m s.process' k) (one k (key_of pdu)) refl refl (omega (arith, more)) refl (kept m.addr k)
-          (λ kind src. none (λ o. piece_no_ack k.kind kind o.kind))
-          (λ kind src no. none (λ o. piece_no_ack k.kind kind o.kind))
-          (λ kind src. none (λ o. src (o.src ∙ own))))))
+    (λ j m q k ne is. record { taken = refl; relayed = refl; gone = refl; made = refl; kept = kept m.addr k })
+    (λ m k is.
+    let own = home_addr d below at s.end s.ids s.i m numbered s.is_home.is_conn s.is_home.at_home is.is_member in
+    let more = posted_more d.config d.clock s.cube.mpl s.process pdu cause s.process' k s.posted in
+    let none : (IsOneKey k (key_of pdu) → ⊥) → one k (key_of pdu) ≡ 0 = one_not k (key_of pdu) in
+    moved_more m.addr k (Resends d m.addr k.scep) (counts_of d lines below m s.process k) (counts_of (with_process d s.i s.process') (slice_set lines s.from line') below m s.process' k) (one k (key_of pdu)) refl refl (omega (arith, more)) refl (kept m.addr k)
+    (λ kind src. none (λ o. piece_no_ack k.kind kind o.kind))
+    (λ kind src no. none (λ o. piece_no_ack k.kind kind o.kind))
+    (λ kind src. none (λ o. src (o.src ∙ own))))))
 
 is_resending : (kind : Kind) (o : Option ℕ) (n : ℕ) → if_reliable kind o ≡ Some n → is_reliable kind ≡ true
 is_resending Reliable o n h = refl
@@ -199,16 +199,16 @@ resent_accounted d lines below at cause d' lines' numbered a s =
     let kept : (addr : ℕ) (k : Key) → _ = λ addr k. kept_all_same _ d.conns lines (slice_set lines at line') addr k d.ends (hold k.seq) in
     subst (λ (z : DifSeen). IsAccounted z lines' below) (sym s.new_is) (subst (λ (ls : List Direction). IsAccounted (with_process d s.i s.process') ls below) (sym s.lines_are)
     (one_process d lines (slice_set lines at line') below below d.ends s.i s.process s.process' a s.is_home.is_process a.passed
-      (λ j m q k ne is. record { taken = refl; relayed = refl; gone = refl; made = refl; kept = kept m.addr k })
-      (λ m k is.
-        let own = home_addr d below at s.end s.ids s.i m numbered s.is_home.is_conn s.is_home.at_home is.is_member in
-        let more = posted_more d.config d.clock s.cube.mpl s.process pdu cause s.process' k s.posted in
-        let none : (IsOneKey k (key_of pdu) → ⊥) → one k (key_of pdu) ≡ 0 = one_not k (key_of pdu) in
-        let resends : IsOneKey k (key_of pdu) → Resends d m.addr k.scep = λ o. record { place = at; ids = s.ids; stands = s.is_home.is_conn.ids_are; own = own; scep = sym o.scep; cube = s.cube; is_cube = s.is_home.is_cube; reliable = is_resending s.cube.kind (due_from c s.line.line.clock s.line.line.sender.acked 0 s.line.line.sender.run) s.number s.due } in
-        moved_more m.addr k (Resends d m.addr k.scep) (counts_of d lines below m s.process k) (counts_of (with_process d s.i s.process') (slice_set lines at line') below m s.process' k) (one k (key_of pdu)) refl refl (omega (arith, more)) refl (kept m.addr k)
-          (λ kind src. none (λ o. src (o.src ∙ own)))
-          (λ kind src no. none (λ o. no (resends o)))
-          (λ kind src. none (λ o. piece_no_ack k.kind o.kind kind)))))
+    (λ j m q k ne is. record { taken = refl; relayed = refl; gone = refl; made = refl; kept = kept m.addr k })
+    (λ m k is.
+    let own = home_addr d below at s.end s.ids s.i m numbered s.is_home.is_conn s.is_home.at_home is.is_member in
+    let more = posted_more d.config d.clock s.cube.mpl s.process pdu cause s.process' k s.posted in
+    let none : (IsOneKey k (key_of pdu) → ⊥) → one k (key_of pdu) ≡ 0 = one_not k (key_of pdu) in
+    let resends : IsOneKey k (key_of pdu) → Resends d m.addr k.scep = λ o. record { place = at; ids = s.ids; stands = s.is_home.is_conn.ids_are; own = own; scep = sym o.scep; cube = s.cube; is_cube = s.is_home.is_cube; reliable = is_resending s.cube.kind (due_from c s.line.line.clock s.line.line.sender.acked 0 s.line.line.sender.run) s.number s.due } in
+    moved_more m.addr k (Resends d m.addr k.scep) (counts_of d lines below m s.process k) (counts_of (with_process d s.i s.process') (slice_set lines at line') below m s.process' k) (one k (key_of pdu)) refl refl (omega (arith, more)) refl (kept m.addr k)
+    (λ kind src. none (λ o. src (o.src ∙ own)))
+    (λ kind src no. none (λ o. no (resends o)))
+    (λ kind src. none (λ o. piece_no_ack k.kind o.kind kind)))))
 
 -- ---- the oldest SDU of an end is taken
 
@@ -271,7 +271,7 @@ lost_accounted d lines below i number routes d' a s =
     let new : Process = without_link s.place s.link routes s.process in
     subst (λ (z : DifSeen). IsAccounted z lines below) (sym s.new_is)
     (one_process d lines lines below below d.ends i s.process new a s.is_process a.passed
-      (λ j m q k ne is. record { taken = refl; relayed = refl; gone = refl; made = refl; kept = refl })
-      (λ m k is.
-        let left = lost_left k s.place s.link routes s.process in
-        moved_same m.addr k (Resends d m.addr k.scep) (counts_of d lines below m s.process k) (counts_of (with_process d i new) lines below m new k) (record { taken = refl; relayed = refl; gone = omega (arith, left); made = refl; kept = refl })))
+    (λ j m q k ne is. record { taken = refl; relayed = refl; gone = refl; made = refl; kept = refl })
+    (λ m k is.
+    let left = lost_left k s.place s.link routes s.process in
+    moved_same m.addr k (Resends d m.addr k.scep) (counts_of d lines below m s.process k) (counts_of (with_process d i new) lines below m new k) (record { taken = refl; relayed = refl; gone = omega (arith, left); made = refl; kept = refl })))

@@ -31,12 +31,12 @@ balanced_moved addr k r r' n n' b more m = record {
   own = λ kind src. (let x = b.own kind src in let y = m.own kind src in omega arith);
   once = λ kind src none. (let x = b.once kind src (λ h. none (more h)) in let y = m.once kind src none in omega arith);
   foreign_ack = λ kind src scep. (
-    let x = b.foreign_ack kind src scep in
-    let y = m.relayed kind src in
-    let z = m.bounded kind src in
-    let x0 = x.0 in
-    let x1 = x.1 in
-    ((omega arith), (omega arith)));
+      let x = b.foreign_ack kind src scep in
+      let y = m.relayed kind src in
+      let z = m.bounded kind src in
+      let x0 = x.0 in
+      let x1 = x.1 in
+      ((omega arith), (omega arith)));
   own_ack = λ kind src. (let x = b.own_ack kind src in let y = m.own_ack kind src in omega arith);
 }
 

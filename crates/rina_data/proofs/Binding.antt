@@ -301,7 +301,7 @@ module _ (d : DifSeen) (lines : List Direction) (below : Seen) (st : IsStanding 
   ]
 
   -- two members have two addresses
-  addrs_apart : of_a.addr ≡ of_b.addr → ⊥
+  pub addrs_apart : of_a.addr ≡ of_b.addr → ⊥
   addrs_apart same =
       let is : of_a ≡ of_b = same_member d lines below st n a_draws.place b_draws.place of_a of_b a_draws.stands b_draws.stands same in
       let a_is = test_passes d.config.members fixed.a a_draws.place of_a a_draws.at_home a_draws.stands in

@@ -170,16 +170,20 @@ offs_of_arrival ids pdu dropped cause kind names each = go dropped each cause
   where
     go : (offs : List Off) → ((off : Off) → In off offs → (off.key.kind ≡ APiece) × (off.key.src ≡ ids.far) × (off.key.scep ≡ ids.dcep)) → (o : Option Cause) → AreOf ids.far ids.dcep (offs ++ lines_for pdu o)
     go [] all None = record { each = λ off none. absurd none }
-    go [] all (Some why) = record { each = λ off one. elim one [
-      | inl is ↦ (ap (λ (z : Off). z.key.kind) is ∙ kind, ap (λ (z : Off). z.key.src) is ∙ names.src, ap (λ (z : Off). z.key.scep) is ∙ names.scep)
-      | inr none ↦ absurd none
-    ] }
+    go [] all (Some why) = record {
+      each = λ off one. elim one [
+        | inl is ↦ (ap (λ (z : Off). z.key.kind) is ∙ kind, ap (λ (z : Off). z.key.src) is ∙ names.src, ap (λ (z : Off). z.key.scep) is ∙ names.scep)
+        | inr none ↦ absurd none
+      ];
+    }
     go (o ∷ os) all why =
         let rest = go os (λ off one. all off (inr one)) why in
-        record { each = λ off one. elim one [
-          | inl is ↦ all off (inl is)
-          | inr more ↦ rest.each off more
-        ] }
+        record {
+          each = λ off one. elim one [
+            | inl is ↦ all off (inl is)
+            | inr more ↦ rest.each off more
+          ];
+        }
 
 ledger_balance : (came number held held' offs whole got got' by by' : ℕ) → came ≡ number → by ≡ held → by' ≡ held' → got' ≡ got + whole → number + held ≡ offs + held' + whole → came + (got + by) ≡ offs + (got' + by')
 ledger_balance came number held held' offs whole got got' by by' a b c e f = omega arith
@@ -193,11 +197,11 @@ module _ (d : DifSeen) (lines : List Direction) (below below' : Seen) (kept' : A
   noted new left = one_process d lines lines below below' d.ends i process new a t.is_process.is_process within
       (λ j m q k ne is. (let o = t.others j m q k ne is in let s = t.sent m.name k in record { taken = o.0; relayed = o.1; gone = omega (arith, s); made = refl; kept = refl }))
       (λ m k is.
-        let P : Member → Type 0 = λ z. IsMoved z.addr k (Resends d z.addr k.scep) (counts_of d lines below z process k) (counts_of (with_process d i new) lines below' z new k) in
-        let s = t.sent t.member.name k in
-        let l = left k in
-        subst P (one_member d i t.member m process process t.is_process is)
-        (moved_in t.member.addr k (Resends d t.member.addr k.scep) (counts_of d lines below t.member process k) (counts_of (with_process d i new) lines below' t.member new k) (one k (key_of hop.pdu)) (cond (bears_on t.member.addr k (Some hop)) 1 0) (on_less t.member.addr k hop) (t.taken k) (t.relayed k) (omega (arith, s, l)) refl refl))
+      let P : Member → Type 0 = λ z. IsMoved z.addr k (Resends d z.addr k.scep) (counts_of d lines below z process k) (counts_of (with_process d i new) lines below' z new k) in
+      let s = t.sent t.member.name k in
+      let l = left k in
+      subst P (one_member d i t.member m process process t.is_process is)
+      (moved_in t.member.addr k (Resends d t.member.addr k.scep) (counts_of d lines below t.member process k) (counts_of (with_process d i new) lines below' t.member new k) (one k (key_of hop.pdu)) (cond (bears_on t.member.addr k (Some hop)) 1 0) (on_less t.member.addr k hop) (t.taken k) (t.relayed k) (omega (arith, s, l)) refl refl))
 
   noted_as : (d' : DifSeen) (lines' : List Direction) (cause : Cause) → d' ≡ written_off d i process hop.pdu cause → lines' ≡ lines → IsAccounted d' lines' below'
   noted_as d' lines' cause is same = subst (λ (z : DifSeen). IsAccounted z lines' below') (sym is) (subst (λ (ls : List Direction). IsAccounted (written_off d i process hop.pdu cause) ls below') (sym same) (noted (with_offs process (line_for hop.pdu cause ∷ [])) (λ k. one_off k process (line_for hop.pdu cause))))
@@ -245,18 +249,18 @@ module _ (d : DifSeen) (lines : List Direction) (below below' : Seen) (kept' : A
       let new : inbound_of d.conns lines'' s.ids ≡ Some line' = inbound_at d.conns lines'' s.from s.ids line' st.own.apart far (slice_get-set_same lines s.from s.line line' s.inbound.is_line) in
       subst (λ (z : DifSeen). IsAccounted z lines' below') (sym s.new_is) (subst (λ (ls : List Direction). IsAccounted (renewed d (slice_set d.ends s.place e') i (with_offs process offs)) ls below') (sym s.lines_are)
       (received d lines lines'' below below' (slice_set d.ends s.place e') i process s.place s.end e' s.ids offs (λ k. one k (key_of pdu)) (end_changed d.ends s.place s.end e' conn.end) conn.ids_are refl
-        (λ n. hold_elsewhere d.conns lines s.from s.place s.ids line' n st.own.apart far conn.ids_are)
-        (offs_of_arrival s.ids pdu s.dropped cause s.piece names (λ off one. (let h = s.all_dropped off one in (h.kind, h.src, h.scep))))
-        (come_here dst)
-        (λ k none. one_not k (key_of pdu) (λ o. none (o.kind ∙ s.piece, sym names.src ∙ sym o.src, sym names.scep ∙ sym o.scep)))
-        (λ k h.
-          let before : held_by s.end.state (held_in (inbound_of d.conns lines s.ids) k.seq) ≡ times k.seq (held_numbers s.line) = ap (λ (z : PortState). held_by z (held_in (inbound_of d.conns lines s.ids) k.seq)) s.taker.allocated ∙ ap (λ (o : Option Direction). held_in o k.seq) old in
-          let after : held_by s.end.state (held_in (inbound_of d.conns lines'' s.ids) k.seq) ≡ times k.seq (held_numbers line') = ap (λ (z : PortState). held_by z (held_in (inbound_of d.conns lines'' s.ids) k.seq)) s.taker.allocated ∙ ap (λ (o : Option Direction). held_in o k.seq) new in
-          let number : one k (key_of pdu) ≡ cond (eqb k.seq p.number) 1 0 = one_by_number k (key_of pdu) (h.0 ∙ sym s.piece) (sym h.1 ∙ sym names.src) (sym h.2 ∙ sym names.scep) ∙ ap (λ (n : ℕ). cond (eqb k.seq n) 1 0) (piece_number pdu s.piece) in
-          let got = got_more size c p s.line s.end.got k.seq some sized holds flow.got in
-          let all : cond (eqb k.seq p.number) 1 0 + times k.seq (held_numbers s.line) ≡ times k.seq (off_numbers offs) + times k.seq (held_numbers line') + times k.seq (whole_numbers (joined_by c p s.line)) = s.settled k.seq in
-          ledger_balance (one k (key_of pdu)) (cond (eqb k.seq p.number) 1 0) (times k.seq (held_numbers s.line)) (times k.seq (held_numbers line')) (times k.seq (off_numbers offs)) (times k.seq (whole_numbers (joined_by c p s.line))) (times k.seq (journal_numbers size s.end.got)) (times k.seq (journal_numbers size e'.got)) (held_by s.end.state (held_in (inbound_of d.conns lines s.ids) k.seq)) (held_by s.end.state (held_in (inbound_of d.conns lines'' s.ids) k.seq)) number before after got all)
-        a t.is_process.is_process within own (others_addr d below i t.member s.ids numbered t.is_process.is_member (own t.member t.is_process.is_member))))
+      (λ n. hold_elsewhere d.conns lines s.from s.place s.ids line' n st.own.apart far conn.ids_are)
+      (offs_of_arrival s.ids pdu s.dropped cause s.piece names (λ off one. (let h = s.all_dropped off one in (h.kind, h.src, h.scep))))
+      (come_here dst)
+      (λ k none. one_not k (key_of pdu) (λ o. none (o.kind ∙ s.piece, sym names.src ∙ sym o.src, sym names.scep ∙ sym o.scep)))
+      (λ k h.
+      let before : held_by s.end.state (held_in (inbound_of d.conns lines s.ids) k.seq) ≡ times k.seq (held_numbers s.line) = ap (λ (z : PortState). held_by z (held_in (inbound_of d.conns lines s.ids) k.seq)) s.taker.allocated ∙ ap (λ (o : Option Direction). held_in o k.seq) old in
+      let after : held_by s.end.state (held_in (inbound_of d.conns lines'' s.ids) k.seq) ≡ times k.seq (held_numbers line') = ap (λ (z : PortState). held_by z (held_in (inbound_of d.conns lines'' s.ids) k.seq)) s.taker.allocated ∙ ap (λ (o : Option Direction). held_in o k.seq) new in
+      let number : one k (key_of pdu) ≡ cond (eqb k.seq p.number) 1 0 = one_by_number k (key_of pdu) (h.0 ∙ sym s.piece) (sym h.1 ∙ sym names.src) (sym h.2 ∙ sym names.scep) ∙ ap (λ (n : ℕ). cond (eqb k.seq n) 1 0) (piece_number pdu s.piece) in
+      let got = got_more size c p s.line s.end.got k.seq some sized holds flow.got in
+      let all : cond (eqb k.seq p.number) 1 0 + times k.seq (held_numbers s.line) ≡ times k.seq (off_numbers offs) + times k.seq (held_numbers line') + times k.seq (whole_numbers (joined_by c p s.line)) = s.settled k.seq in
+      ledger_balance (one k (key_of pdu)) (cond (eqb k.seq p.number) 1 0) (times k.seq (held_numbers s.line)) (times k.seq (held_numbers line')) (times k.seq (off_numbers offs)) (times k.seq (whole_numbers (joined_by c p s.line))) (times k.seq (journal_numbers size s.end.got)) (times k.seq (journal_numbers size e'.got)) (held_by s.end.state (held_in (inbound_of d.conns lines s.ids) k.seq)) (held_by s.end.state (held_in (inbound_of d.conns lines'' s.ids) k.seq)) number before after got all)
+      a t.is_process.is_process within own (others_addr d below i t.member s.ids numbered t.is_process.is_member (own t.member t.is_process.is_member))))
 
   told_as : (d' : DifSeen) (lines' : List Direction) → hop.pdu.dst ≡ t.member.addr → IsTold d lines hop.pdu d' lines' → IsAccounted d' lines' below'
   told_as d' lines' dst s =
@@ -269,16 +273,16 @@ module _ (d : DifSeen) (lines : List Direction) (below below' : Seen) (kept' : A
       subst (λ (z : DifSeen). IsAccounted z lines' below') (sym s.new_is) (subst (λ (ls : List Direction). IsAccounted d ls below') (sym s.lines_are)
       (subst (λ (z : DifSeen). IsAccounted z lines'' below') (same_process d i process process t.is_process.is_process refl)
       (one_process d lines lines'' below below' d.ends i process process a t.is_process.is_process within
-        (λ j m q k ne is. (let o = t.others j m q k ne is in let x = t.sent m.name k in record { taken = o.0; relayed = o.1; gone = omega (arith, x); made = refl; kept = kept m.addr k }))
-        (λ m k is.
-          let P : Member → Type 0 = λ z. IsMoved z.addr k (Resends d z.addr k.scep) (counts_of d lines below z process k) (counts_of (with_process d i process) lines'' below' z process k) in
-          let x = t.sent t.member.name k in
-          let none = on_none t.member.addr k hop dst in
-          let on = t.relayed k in
-          let no_piece : k.kind ≡ APiece → one k key ≡ 0 = λ kind. one_not k key (λ o. piece_no_ack k.kind kind (o.kind ∙ s.ack)) in
-          let no_own : k.src ≡ t.member.addr → one k key ≡ 0 = λ src. one_not k key (λ o. not_own k o src) in
-          subst P (one_member d i t.member m process process t.is_process is)
-          (moved_told t.member.addr k (Resends d t.member.addr k.scep) (counts_of d lines below t.member process k) (counts_of (with_process d i process) lines'' below' t.member process k) (one k key) (t.taken k) (omega (arith, none, on)) (omega (arith, x)) refl (kept t.member.addr k) no_piece no_own)))))
+      (λ j m q k ne is. (let o = t.others j m q k ne is in let x = t.sent m.name k in record { taken = o.0; relayed = o.1; gone = omega (arith, x); made = refl; kept = kept m.addr k }))
+      (λ m k is.
+      let P : Member → Type 0 = λ z. IsMoved z.addr k (Resends d z.addr k.scep) (counts_of d lines below z process k) (counts_of (with_process d i process) lines'' below' z process k) in
+      let x = t.sent t.member.name k in
+      let none = on_none t.member.addr k hop dst in
+      let on = t.relayed k in
+      let no_piece : k.kind ≡ APiece → one k key ≡ 0 = λ kind. one_not k key (λ o. piece_no_ack k.kind kind (o.kind ∙ s.ack)) in
+      let no_own : k.src ≡ t.member.addr → one k key ≡ 0 = λ src. one_not k key (λ o. not_own k o src) in
+      subst P (one_member d i t.member m process process t.is_process is)
+      (moved_told t.member.addr k (Resends d t.member.addr k.scep) (counts_of d lines below t.member process k) (counts_of (with_process d i process) lines'' below' t.member process k) (one k key) (t.taken k) (omega (arith, none, on)) (omega (arith, x)) refl (kept t.member.addr k) no_piece no_own)))))
 
   settled_off : (older at : ℕ) (cause : Cause) (d' : DifSeen) (lines' : List Direction) → Cloud Everywhere d.config d.processes below older hop.pdu → (IsInTime d at hop → d.clock ≤ older) → SettlesOff d lines i t.member process at hop cause d' lines' → IsAccounted d' lines' below'
   settled_off older at (causes.Expired left charge) d' lines' has alive s = noted_as d' lines' (causes.Expired left charge) s.3 s.4

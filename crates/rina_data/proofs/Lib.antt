@@ -15,6 +15,7 @@ pub mod Finding
 pub mod Finishing
 pub mod Flows
 pub mod Forgot
+pub mod Founding
 pub mod Frame
 pub mod Giving
 pub mod Going

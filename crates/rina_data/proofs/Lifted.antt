@@ -64,21 +64,21 @@ still_accounted : (d : DifSeen) (clock : ℕ) (lines lines' : List Direction) (b
 still_accounted d clock lines lines' below below' a passed hold same =
     let d' : DifSeen = record d { clock = clock } in
     accounted_on d d' lines lines' below below' a passed a.apart (λ i m p k is.
-      let x = same m.name (bears k) (is_mine d i m is.is_member) in
-      let y = same m.name (bears_on m.addr k) (is_mine d i m is.is_member) in
-      let out = x.1 in
-      record {
-        process = p;
-        is_process = record { is_member = is.is_member; is_process = is.is_process };
-        resends = resends_on d d' m.addr k.scep refl (λ n ids z. z);
-        moved = moved_same m.addr k (Resends d' m.addr k.scep) (counts_of d lines below m p k) (counts_of d' lines' below' m p k) (record {
-          taken = x.0;
-          relayed = y.0;
-          gone = omega (arith, out);
-          made = refl;
-          kept = kept_all_same (piece_size d.config) d.conns lines lines' m.addr k d.ends (hold k.seq);
-        });
-      })
+    let x = same m.name (bears k) (is_mine d i m is.is_member) in
+    let y = same m.name (bears_on m.addr k) (is_mine d i m is.is_member) in
+    let out = x.1 in
+    record {
+      process = p;
+      is_process = record { is_member = is.is_member; is_process = is.is_process };
+      resends = resends_on d d' m.addr k.scep refl (λ n ids z. z);
+      moved = moved_same m.addr k (Resends d' m.addr k.scep) (counts_of d lines below m p k) (counts_of d' lines' below' m p k) (record {
+        taken = x.0;
+        relayed = y.0;
+        gone = omega (arith, out);
+        made = refl;
+        kept = kept_all_same (piece_size d.config) d.conns lines lines' m.addr k d.ends (hold k.seq);
+      });
+    })
 
 lifted_same : (d : DifSeen) (lines : List Direction) (below below' : Seen) → AreKept below' → IsAccounted d lines below → IsLifted d.config below below' → (name : List ℕ) (test : Option Hop → Bool) → IsMine d.config.members name → (over_ends name (taken_with test d.config.widths) below' ≡ over_ends name (taken_with test d.config.widths) below) × (over_ends name (sent_with test d.config.widths) below' ≡ over_ends name (sent_with test d.config.widths) below)
 lifted_same d lines below below' kept a lifted name test mine = (
@@ -111,14 +111,16 @@ pub sends_of_others_account : (d : DifSeen) (lines : List Direction) (below : Se
 sends_of_others_account d lines below port bytes num below' kept a others s =
     let here = end_of_stands below port s.facility s.place s.end s.stands in
     still_accounted d d.clock lines lines below below' a (λ p e h mine. within_kept below' kept p e h) (λ n i. refl) (λ name test mine.
-      let other = other_name d below port s.end name others here mine in
-      (ap (over_ends name (taken_with test d.config.widths)) s.new_is ∙ ends_other name (taken_with test d.config.widths) below port s.facility s.place s.end _ s.stands refl other,
-      ap (over_ends name (sent_with test d.config.widths)) s.new_is ∙ ends_other name (sent_with test d.config.widths) below port s.facility s.place s.end _ s.stands refl other))
+    let other = other_name d below port s.end name others here mine in (
+      ap (over_ends name (taken_with test d.config.widths)) s.new_is ∙ ends_other name (taken_with test d.config.widths) below port s.facility s.place s.end _ s.stands refl other,
+      ap (over_ends name (sent_with test d.config.widths)) s.new_is ∙ ends_other name (sent_with test d.config.widths) below port s.facility s.place s.end _ s.stands refl other,
+    ))
 
 pub passes_of_others_account : (d : DifSeen) (lines : List Direction) (below : Seen) (port : Port) (below' : Seen) → AreKept below' → IsAccounted d lines below → ((e : End) → end_of below port ≡ Some e → IsMine d.config.members e.app → ⊥) → PassesBelow below port below' → IsAccounted d lines below'
 passes_of_others_account d lines below port below' kept a others s =
     let here = end_of_stands below port s.facility s.place s.end s.stands in
     still_accounted d d.clock lines lines below below' a (λ p e h mine. within_kept below' kept p e h) (λ n i. refl) (λ name test mine.
-      let other = other_name d below port s.end name others here mine in
-      (ap (over_ends name (taken_with test d.config.widths)) s.new_is ∙ ends_other name (taken_with test d.config.widths) below port s.facility s.place s.end _ s.stands refl other,
-      ap (over_ends name (sent_with test d.config.widths)) s.new_is ∙ ends_other name (sent_with test d.config.widths) below port s.facility s.place s.end _ s.stands refl other))
+    let other = other_name d below port s.end name others here mine in (
+      ap (over_ends name (taken_with test d.config.widths)) s.new_is ∙ ends_other name (taken_with test d.config.widths) below port s.facility s.place s.end _ s.stands refl other,
+      ap (over_ends name (sent_with test d.config.widths)) s.new_is ∙ ends_other name (sent_with test d.config.widths) below port s.facility s.place s.end _ s.stands refl other,
+    ))

@@ -97,35 +97,35 @@ offered_accounted d lines below at parts num d' lines' st numbered a cut s =
     let own : (m : Member) → slice_get d.config.members s.i ≡ Some m → s.ids.own ≡ m.addr = λ m is. home_addr d below at s.end s.ids s.i m numbered s.is_conn s.at_home is in
     let m0 = member_at d lines below s.i s.process st s.is_process in
     let made_apart : (addr : ℕ) (k : Key) → (s.ids.own ≡ addr → s.ids.scep ≡ k.scep → ⊥) → total (length ends') (made_in size d.conns addr k ends') ≡ total (length d.ends) (made_in size d.conns addr k d.ends) = λ addr k none.
-        let all = made_change size d.conns addr k d.ends ends' at s.end e' s.ids change s.is_conn.ids_are in
-        let old = made_not size addr k s.end s.ids none in
-        let news = made_not size addr k e' s.ids none in
-        omega (arith, all, old, news) in
+    let all = made_change size d.conns addr k d.ends ends' at s.end e' s.ids change s.is_conn.ids_are in
+    let old = made_not size addr k s.end s.ids none in
+    let news = made_not size addr k e' s.ids none in
+    omega (arith, all, old, news) in
     subst (λ (z : DifSeen). IsAccounted z lines' below) (sym s.new_is) (subst (λ (ls : List Direction). IsAccounted (renewed d ends' s.i new) ls below) (sym s.lines_are)
     (one_process d lines lines'' below below ends' s.i s.process new a s.is_process a.passed
-      (λ j m q k ne is. record { taken = refl; relayed = refl; gone = refl; made = made_apart m.addr k (λ mine scep. others_addr d below s.i m0.0 s.ids numbered m0.1 (own m0.0 m0.1) j m ne is.is_member mine); kept = kept m.addr k })
-      (λ m k is.
-        let mine = own m is.is_member in
-        let n = counts_of d lines below m s.process k in
-        let n' = counts_of (renewed d ends' s.i new) lines'' below m new k in
-        let put = put_more k s.process s.place s.queue items s.is_queue.is_queue in
-        let more : gone n' ≡ gone n + sum_by (item_one k) items = omega (arith, put) in
-        elim (eqb_tells k.scep s.ids.scep) [
-          | inl t ↦
-              let all : n'.made + made_by size m.addr k (Some s.end) (Some s.ids) ≡ n.made + made_by size m.addr k (Some e') (Some s.ids) = made_change size d.conns m.addr k d.ends ends' at s.end e' s.ids change s.is_conn.ids_are in
-              let old = made_own size m.addr k s.end s.ids mine (sym t.1) in
-              let news = made_own size m.addr k e' s.ids mine (sym t.1) in
-              let journal : times k.seq (journal_numbers size e'.sent) ≡ times k.seq (journal_numbers size s.end.sent) + times k.seq (numbers pieces) = offered_more size c parts s.line s.end.sent k.seq some cut in
-              let made : n'.made ≡ n.made + times k.seq (numbers pieces) = omega (arith, all, old, news, journal) in
-              moved_made m.addr k (Resends d m.addr k.scep) n n' (sum_by (item_one k) items) (times k.seq (numbers pieces)) refl refl more made (kept m.addr k)
-                (λ kind src. made_none k s.ids s.cube.mpl d.clock pieces (λ x own_src y. src (own_src ∙ mine)))
-                (λ kind src. made_of k s.ids s.cube.mpl d.clock pieces kind (src ∙ sym mine) t.1)
-                (λ kind. made_none k s.ids s.cube.mpl d.clock pieces (λ x y z. piece_no_ack k.kind x kind))
-          | inr f ↦
-              let none : sum_by (item_one k) items ≡ 0 = made_none k s.ids s.cube.mpl d.clock pieces (λ x y z. f.1 z) in
-              let made : n'.made ≡ n.made + 0 = (let same : n'.made ≡ n.made = made_apart m.addr k (λ x scep. f.1 (sym scep)) in omega (arith, same)) in
-              moved_made m.addr k (Resends d m.addr k.scep) n n' (sum_by (item_one k) items) 0 refl refl more made (kept m.addr k) (λ kind src. none) (λ kind src. none) (λ kind. none)
-        ])))
+    (λ j m q k ne is. record { taken = refl; relayed = refl; gone = refl; made = made_apart m.addr k (λ mine scep. others_addr d below s.i m0.0 s.ids numbered m0.1 (own m0.0 m0.1) j m ne is.is_member mine); kept = kept m.addr k })
+    (λ m k is.
+    let mine = own m is.is_member in
+    let n = counts_of d lines below m s.process k in
+    let n' = counts_of (renewed d ends' s.i new) lines'' below m new k in
+    let put = put_more k s.process s.place s.queue items s.is_queue.is_queue in
+    let more : gone n' ≡ gone n + sum_by (item_one k) items = omega (arith, put) in
+    elim (eqb_tells k.scep s.ids.scep) [
+      | inl t ↦
+          let all : n'.made + made_by size m.addr k (Some s.end) (Some s.ids) ≡ n.made + made_by size m.addr k (Some e') (Some s.ids) = made_change size d.conns m.addr k d.ends ends' at s.end e' s.ids change s.is_conn.ids_are in
+          let old = made_own size m.addr k s.end s.ids mine (sym t.1) in
+          let news = made_own size m.addr k e' s.ids mine (sym t.1) in
+          let journal : times k.seq (journal_numbers size e'.sent) ≡ times k.seq (journal_numbers size s.end.sent) + times k.seq (numbers pieces) = offered_more size c parts s.line s.end.sent k.seq some cut in
+          let made : n'.made ≡ n.made + times k.seq (numbers pieces) = omega (arith, all, old, news, journal) in
+          moved_made m.addr k (Resends d m.addr k.scep) n n' (sum_by (item_one k) items) (times k.seq (numbers pieces)) refl refl more made (kept m.addr k)
+          (λ kind src. made_none k s.ids s.cube.mpl d.clock pieces (λ x own_src y. src (own_src ∙ mine)))
+          (λ kind src. made_of k s.ids s.cube.mpl d.clock pieces kind (src ∙ sym mine) t.1)
+          (λ kind. made_none k s.ids s.cube.mpl d.clock pieces (λ x y z. piece_no_ack k.kind x kind))
+      | inr f ↦
+          let none : sum_by (item_one k) items ≡ 0 = made_none k s.ids s.cube.mpl d.clock pieces (λ x y z. f.1 z) in
+          let made : n'.made ≡ n.made + 0 = (let same : n'.made ≡ n.made = made_apart m.addr k (λ x scep. f.1 (sym scep)) in omega (arith, same)) in
+          moved_made m.addr k (Resends d m.addr k.scep) n n' (sum_by (item_one k) items) 0 refl refl more made (kept m.addr k) (λ kind src. none) (λ kind src. none) (λ kind. none)
+    ])))
   where
     offered_hold : (c : Constants) (parts : List Part) (line : Direction) (n : ℕ) → times n (held_numbers (offered c parts line)) ≡ times n (held_numbers line)
     offered_hold c parts line n = ap (λ (ps : List Piece). times n (numbers_from line.inbox.joiner.from line.inbox.joiner.count ++ numbers ps)) (offered_held c parts line.line)

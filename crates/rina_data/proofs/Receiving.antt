@@ -93,46 +93,46 @@ module _ (d : DifSeen) (lines lines' : List Direction) (below below' : Seen) (en
       → IsAccounted (renewed d ends' i (with_offs process offs)) lines' below'
   received a is_process passed own_addr other_addr = one_process d lines lines' below below' ends' i process (with_offs process offs) a is_process passed
       (λ j m q k ne is.
-        let o = have.others j m q k ne is in
-        let s = have.sent m.name k in
-        record {
-          taken = o.0;
-          relayed = o.1;
-          gone = omega (arith, s);
-          made = made_same (piece_size d.config) d.conns m.addr k d.ends ends' at e e' change sent;
-          kept = kept_apart m.addr k (λ own far dcep. other_addr j m ne is.is_member own);
-        })
+      let o = have.others j m q k ne is in
+      let s = have.sent m.name k in
+      record {
+        taken = o.0;
+        relayed = o.1;
+        gone = omega (arith, s);
+        made = made_same (piece_size d.config) d.conns m.addr k d.ends ends' at e e' change sent;
+        kept = kept_apart m.addr k (λ own far dcep. other_addr j m ne is.is_member own);
+      })
       (λ m k is.
-        let own = own_addr m is.is_member in
-        let n = counts_of d lines below m process k in
-        let n' = counts_of (renewed d ends' i (with_offs process offs)) lines' below' m (with_offs process offs) k in
-        let taken : n'.taken ≡ n.taken + came k = have.taken m process k is in
-        let relayed : n'.relayed ≡ n.relayed = have.relayed m process k is in
-        let out = have.sent m.name k in
-        let left = offs_more k process offs in
-        let more : gone n' ≡ gone n + off_count offs k = omega (arith, out, left) in
-        let made : n'.made ≡ n.made = made_same (piece_size d.config) d.conns m.addr k d.ends ends' at e e' change sent in
-        let none_of : (IsComing ids k → ⊥) → off_count offs k ≡ 0 = λ none. offs_others k ids.far ids.dcep offs of (λ kind src scep. none (kind, sym src, sym scep)) in
-        let not_own : k.src ≡ m.addr → IsComing ids k → ⊥ = λ src h. a.apart at ids conn (own ∙ sym src ∙ sym h.1) in
-        let not_ack : k.kind ≡ Ack → IsComing ids k → ⊥ = λ kind h. piece_no_ack k.kind h.0 kind in
-        let apart : k.kind ≡ Piece → (IsComing ids k → ⊥) → n'.kept ≡ n.kept = λ kind none. kept_apart m.addr k (λ x far dcep. none (kind, far, dcep)) in
-        record {
-          foreign = λ kind src. elim (coming_cases ids k kind) [
-            | inl h ↦
-                let all : n'.kept + kept_by (piece_size d.config) d.conns lines m.addr k (Some e) (Some ids) ≡ n.kept + kept_by (piece_size d.config) d.conns lines' m.addr k (Some e') (Some ids) = kept_change (piece_size d.config) d.conns lines lines' m.addr k d.ends ends' at e e' ids change conn (hold k.seq) in
-                let old : kept_by (piece_size d.config) d.conns lines m.addr k (Some e) (Some ids) ≡ keeps_of d lines e ids k.seq = kept_own (piece_size d.config) d.conns lines m.addr k e ids own h.1 h.2 in
-                let new : kept_by (piece_size d.config) d.conns lines' m.addr k (Some e') (Some ids) ≡ keeps_of d lines' e' ids k.seq = kept_own (piece_size d.config) d.conns lines' m.addr k e' ids own h.1 h.2 in
-                let balance = settled k h in
-                let offs_are = offs_of k ids.far ids.dcep offs of kind (sym h.1) (sym h.2) in
-                moved_kept n n' (came k) (off_count offs k) (keeps_of d lines e ids k.seq) (keeps_of d lines' e' ids k.seq) taken more (ap (λ (x : ℕ). n'.kept + x) (sym old) ∙ all ∙ ap (λ (x : ℕ). n.kept + x) new) (balance ∙ ap (λ (x : ℕ). x + keeps_of d lines' e' ids k.seq) (sym offs_are))
-            | inr none ↦ moved_apart n n' (came k) (off_count offs k) taken more (nothing k none) (none_of none) (apart kind none)
-          ];
-          own = λ kind src. (let none = not_own src in let x = nothing k none in let y = none_of none in still_le n n' (came k) (off_count offs k) taken more made x y);
-          once = λ kind src no. (let none = not_own src in let x = nothing k none in let y = none_of none in still_same n n' (came k) (off_count offs k) taken more made x y);
-          relayed = λ kind src. (let none = not_ack kind in let y = none_of none in still_relayed n n' (off_count offs k) relayed more y);
-          bounded = λ kind src. (let none = not_ack kind in let x = nothing k none in let y = none_of none in still_bounded n n' (came k) (off_count offs k) taken more x y);
-          own_ack = λ kind src. (let none = not_ack kind in let x = nothing k none in let y = none_of none in still_ack n n' (came k) (off_count offs k) taken more x y);
-        })
+      let own = own_addr m is.is_member in
+      let n = counts_of d lines below m process k in
+      let n' = counts_of (renewed d ends' i (with_offs process offs)) lines' below' m (with_offs process offs) k in
+      let taken : n'.taken ≡ n.taken + came k = have.taken m process k is in
+      let relayed : n'.relayed ≡ n.relayed = have.relayed m process k is in
+      let out = have.sent m.name k in
+      let left = offs_more k process offs in
+      let more : gone n' ≡ gone n + off_count offs k = omega (arith, out, left) in
+      let made : n'.made ≡ n.made = made_same (piece_size d.config) d.conns m.addr k d.ends ends' at e e' change sent in
+      let none_of : (IsComing ids k → ⊥) → off_count offs k ≡ 0 = λ none. offs_others k ids.far ids.dcep offs of (λ kind src scep. none (kind, sym src, sym scep)) in
+      let not_own : k.src ≡ m.addr → IsComing ids k → ⊥ = λ src h. a.apart at ids conn (own ∙ sym src ∙ sym h.1) in
+      let not_ack : k.kind ≡ Ack → IsComing ids k → ⊥ = λ kind h. piece_no_ack k.kind h.0 kind in
+      let apart : k.kind ≡ Piece → (IsComing ids k → ⊥) → n'.kept ≡ n.kept = λ kind none. kept_apart m.addr k (λ x far dcep. none (kind, far, dcep)) in
+      record {
+        foreign = λ kind src. elim (coming_cases ids k kind) [
+          | inl h ↦
+              let all : n'.kept + kept_by (piece_size d.config) d.conns lines m.addr k (Some e) (Some ids) ≡ n.kept + kept_by (piece_size d.config) d.conns lines' m.addr k (Some e') (Some ids) = kept_change (piece_size d.config) d.conns lines lines' m.addr k d.ends ends' at e e' ids change conn (hold k.seq) in
+              let old : kept_by (piece_size d.config) d.conns lines m.addr k (Some e) (Some ids) ≡ keeps_of d lines e ids k.seq = kept_own (piece_size d.config) d.conns lines m.addr k e ids own h.1 h.2 in
+              let new : kept_by (piece_size d.config) d.conns lines' m.addr k (Some e') (Some ids) ≡ keeps_of d lines' e' ids k.seq = kept_own (piece_size d.config) d.conns lines' m.addr k e' ids own h.1 h.2 in
+              let balance = settled k h in
+              let offs_are = offs_of k ids.far ids.dcep offs of kind (sym h.1) (sym h.2) in
+              moved_kept n n' (came k) (off_count offs k) (keeps_of d lines e ids k.seq) (keeps_of d lines' e' ids k.seq) taken more (ap (λ (x : ℕ). n'.kept + x) (sym old) ∙ all ∙ ap (λ (x : ℕ). n.kept + x) new) (balance ∙ ap (λ (x : ℕ). x + keeps_of d lines' e' ids k.seq) (sym offs_are))
+          | inr none ↦ moved_apart n n' (came k) (off_count offs k) taken more (nothing k none) (none_of none) (apart kind none)
+        ];
+        own = λ kind src. (let none = not_own src in let x = nothing k none in let y = none_of none in still_le n n' (came k) (off_count offs k) taken more made x y);
+        once = λ kind src no. (let none = not_own src in let x = nothing k none in let y = none_of none in still_same n n' (came k) (off_count offs k) taken more made x y);
+        relayed = λ kind src. (let none = not_ack kind in let y = none_of none in still_relayed n n' (off_count offs k) relayed more y);
+        bounded = λ kind src. (let none = not_ack kind in let x = nothing k none in let y = none_of none in still_bounded n n' (came k) (off_count offs k) taken more x y);
+        own_ack = λ kind src. (let none = not_ack kind in let x = nothing k none in let y = none_of none in still_ack n n' (came k) (off_count offs k) taken more x y);
+      })
 
 -- ---- a receiver gives up what it holds
 
@@ -164,13 +164,13 @@ forgotten_accounted d lines below at d' lines' st numbered a s =
     let new : inbound_of d.conns lines'' s.ids ≡ Some line' = inbound_at d.conns lines'' s.from s.ids line' st.own.apart far (slice_get-set_same lines s.from s.line line' s.inbound.is_line) in
     subst (λ (z : DifSeen). IsAccounted z lines' below) (sym s.new_is) (subst (λ (ls : List Direction). IsAccounted (renewed d d.ends s.i (with_offs s.process s.dropped)) ls below) (sym s.lines_are)
     (received d lines lines'' below below d.ends s.i s.process at s.end s.end s.ids s.dropped (λ k. 0) (end_stays d.ends at s.end conn.end) conn.ids_are refl
-      (λ n. hold_elsewhere d.conns lines s.from at s.ids line' n st.own.apart far conn.ids_are) of (none_came d below s.i) (λ k none. refl)
-      (λ k h.
-        let before : held_by s.end.state (held_in (inbound_of d.conns lines s.ids) k.seq) ≡ times k.seq (held_numbers s.line) = ap (λ (z : PortState). held_by z (held_in (inbound_of d.conns lines s.ids) k.seq)) s.is_home.allocated ∙ ap (λ (o : Option Direction). held_in o k.seq) old in
-        let after : held_by s.end.state (held_in (inbound_of d.conns lines'' s.ids) k.seq) ≡ 0 = ap (λ (z : PortState). held_by z (held_in (inbound_of d.conns lines'' s.ids) k.seq)) s.is_home.allocated ∙ ap (λ (o : Option Direction). held_in o k.seq) new in
-        let all = s.all k.seq in
-        omega (arith, before, after, all))
-      a s.is_home.is_process a.passed own (others_addr d below s.i m.0 s.ids numbered m.1 (own m.0 m.1))))
+    (λ n. hold_elsewhere d.conns lines s.from at s.ids line' n st.own.apart far conn.ids_are) of (none_came d below s.i) (λ k none. refl)
+    (λ k h.
+    let before : held_by s.end.state (held_in (inbound_of d.conns lines s.ids) k.seq) ≡ times k.seq (held_numbers s.line) = ap (λ (z : PortState). held_by z (held_in (inbound_of d.conns lines s.ids) k.seq)) s.is_home.allocated ∙ ap (λ (o : Option Direction). held_in o k.seq) old in
+    let after : held_by s.end.state (held_in (inbound_of d.conns lines'' s.ids) k.seq) ≡ 0 = ap (λ (z : PortState). held_by z (held_in (inbound_of d.conns lines'' s.ids) k.seq)) s.is_home.allocated ∙ ap (λ (o : Option Direction). held_in o k.seq) new in
+    let all = s.all k.seq in
+    omega (arith, before, after, all))
+    a s.is_home.is_process a.passed own (others_addr d below s.i m.0 s.ids numbered m.1 (own m.0 m.1))))
 
 -- ---- an end is allocated no more
 
@@ -196,10 +196,10 @@ ended_accounted d lines below at state d' st numbered a s =
     let is : inbound_of d.conns lines s.ids ≡ Some l.0 = inbound_at d.conns lines p.place s.ids l.0 st.own.apart far l.1 in
     subst (λ (z : DifSeen). IsAccounted z lines below) (sym s.new_is)
     (received d lines lines below below ends' s.i s.process at s.end e' s.ids s.dropped (λ k. 0) (end_changed d.ends at s.end e' conn.end) conn.ids_are refl
-      (λ n j c ne there. refl) of (none_came d below s.i) (λ k none. refl)
-      (λ k h.
-        let before : held_by s.end.state (held_in (inbound_of d.conns lines s.ids) k.seq) ≡ times k.seq (held_numbers l.0) = ap (λ (z : PortState). held_by z (held_in (inbound_of d.conns lines s.ids) k.seq)) s.allocated ∙ ap (λ (o : Option Direction). held_in o k.seq) is in
-        let after : held_by state (held_in (inbound_of d.conns lines s.ids) k.seq) ≡ 0 = held_none state (held_in (inbound_of d.conns lines s.ids) k.seq) s.ends in
-        let all = s.all p.place l.0 inbound k.seq in
-        omega (arith, before, after, all))
-      a s.is_process a.passed own (others_addr d below s.i m.0 s.ids numbered m.1 (own m.0 m.1)))
+    (λ n j c ne there. refl) of (none_came d below s.i) (λ k none. refl)
+    (λ k h.
+    let before : held_by s.end.state (held_in (inbound_of d.conns lines s.ids) k.seq) ≡ times k.seq (held_numbers l.0) = ap (λ (z : PortState). held_by z (held_in (inbound_of d.conns lines s.ids) k.seq)) s.allocated ∙ ap (λ (o : Option Direction). held_in o k.seq) is in
+    let after : held_by state (held_in (inbound_of d.conns lines s.ids) k.seq) ≡ 0 = held_none state (held_in (inbound_of d.conns lines s.ids) k.seq) s.ends in
+    let all = s.all p.place l.0 inbound k.seq in
+    omega (arith, before, after, all))
+    a s.is_process a.passed own (others_addr d below s.i m.0 s.ids numbered m.1 (own m.0 m.1)))

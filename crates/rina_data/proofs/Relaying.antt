@@ -60,10 +60,10 @@ has_sent w old port bytes num new s =
     record {
       taken = λ name test. ap (over_ends name (taken_with test w)) s.new_is ∙ ends_same name (taken_with test w) old port s.facility s.place s.end e' s.stands refl refl;
       own = λ name test own.
-        let is = ap (over_ends name (sent_with test w)) s.new_is in
-        let all = ends_own name (sent_with test w) old port s.facility s.place s.end e' s.stands refl own in
-        let more = sent_more test w s.end x in
-        omega (arith, is, all, more);
+          let is = ap (over_ends name (sent_with test w)) s.new_is in
+          let all = ends_own name (sent_with test w) old port s.facility s.place s.end e' s.stands refl own in
+          let more = sent_more test w s.end x in
+          omega (arith, is, all, more);
       others = λ name test other. ap (over_ends name (sent_with test w)) s.new_is ∙ ends_other name (sent_with test w) old port s.facility s.place s.end e' s.stands refl other;
     }
 
@@ -79,10 +79,10 @@ has_taken w old port x new s at =
     record {
       sent = λ name test. ap (over_ends name (sent_with test w)) s.new_is ∙ ends_same name (sent_with test w) old port s.facility s.place s.end e' s.stands refl refl;
       own = λ name test own.
-        let is = ap (over_ends name (taken_with test w)) s.new_is in
-        let all = ends_own name (taken_with test w) old port s.facility s.place s.end e' s.stands refl own in
-        let more = passed_more test w s.end x at in
-        omega (arith, is, all, more);
+          let is = ap (over_ends name (taken_with test w)) s.new_is in
+          let all = ends_own name (taken_with test w) old port s.facility s.place s.end e' s.stands refl own in
+          let more = passed_more test w s.end x at in
+          omega (arith, is, all, more);
       others = λ name test other. ap (over_ends name (taken_with test w)) s.new_is ∙ ends_other name (taken_with test w) old port s.facility s.place s.end e' s.stands refl other;
     }
 
@@ -126,12 +126,12 @@ off_accounted holds cause d lines below i n process key process' below' a is s =
     let new : Process = with_offs (with_taken process s.place s.queue) (off ∷ []) in
     subst (λ (z : Process). IsAccounted (with_process d i z) lines below') (sym s.new_is) (subst (IsAccounted (with_process d i new) lines) (sym s.below_is)
     (one_process d lines lines below below d.ends i process new a is a.passed
-      (λ j m q k ne there. record { taken = refl; relayed = refl; gone = refl; made = refl; kept = refl })
-      (λ m k there.
-        let less = taken_less k process s.place s.queue s.item s.head.is_queue s.head.first in
-        let more = one_off k (with_taken process s.place s.queue) off in
-        let same : one k off.key ≡ item_one k s.item = ap (one k) s.key_is in
-        moved_same m.addr k (Resends d m.addr k.scep) (counts_of d lines below m process k) (counts_of (with_process d i new) lines below m new k) (record { taken = refl; relayed = refl; gone = omega (arith, less, more, same); made = refl; kept = refl }))))
+    (λ j m q k ne there. record { taken = refl; relayed = refl; gone = refl; made = refl; kept = refl })
+    (λ m k there.
+    let less = taken_less k process s.place s.queue s.item s.head.is_queue s.head.first in
+    let more = one_off k (with_taken process s.place s.queue) off in
+    let same : one k off.key ≡ item_one k s.item = ap (one k) s.key_is in
+    moved_same m.addr k (Resends d m.addr k.scep) (counts_of d lines below m process k) (counts_of (with_process d i new) lines below m new k) (record { taken = refl; relayed = refl; gone = omega (arith, less, more, same); made = refl; kept = refl }))))
 
 -- it is sent below
 forwarded_accounted : (refuses : Port → ℕ → Option SendError) (d : DifSeen) (lines : List Direction) (below : Seen) (i n : ℕ) (process : Process) (key : Key) (process' : Process) (below' : Seen) → AreKept below' → IsStanding d lines below → IsNumbered d below → IsAccounted d lines below → slice_get d.processes i ≡ Some process → IsForwarded refuses d.config d.clock process below n key process' below' → IsAccounted (with_process d i process') lines below'
@@ -148,17 +148,17 @@ forwarded_accounted refuses d lines below i n process key process' below' kept s
     let new : Process = with_taken process s.place s.queue in
     subst (λ (z : Process). IsAccounted (with_process d i z) lines below') (sym s.new_is)
     (one_process d lines lines below below' d.ends i process new a is (λ port e h mine. within_kept below' kept port e h)
-      (λ j m q k ne there.
-        let other : w.end.app ≡ m.name → ⊥ = λ same. at.others j m q ne there (sym app ∙ same) in
-        let more = sent.others m.name (bears k) other in
-        record { taken = sent.taken m.name (bears k); relayed = sent.taken m.name (bears_on m.addr k); gone = omega (arith, more); made = refl; kept = refl })
-      (λ m k there.
-        let m_is : at.member ≡ m = same_some (slice_get d.config.members i) at.member m at.is_process.is_member there.is_member in
-        let own : w.end.app ≡ m.name = app ∙ ap (λ (z : Member). z.name) m_is in
-        let more = sent.own m.name (bears k) own in
-        let one_is : cond (bears k (opened d.config.widths bytes)) 1 0 ≡ item_one k s.item = ap (λ (o : Option Hop). cond (bears k o) 1 0) opens in
-        let less = taken_less k process s.place s.queue s.item s.head.is_queue s.head.first in
-        moved_same m.addr k (Resends d m.addr k.scep) (counts_of d lines below m process k) (counts_of (with_process d i new) lines below' m new k) (record { taken = sent.taken m.name (bears k); relayed = sent.taken m.name (bears_on m.addr k); gone = omega (arith, more, one_is, less); made = refl; kept = refl })))
+    (λ j m q k ne there.
+    let other : w.end.app ≡ m.name → ⊥ = λ same. at.others j m q ne there (sym app ∙ same) in
+    let more = sent.others m.name (bears k) other in
+    record { taken = sent.taken m.name (bears k); relayed = sent.taken m.name (bears_on m.addr k); gone = omega (arith, more); made = refl; kept = refl })
+    (λ m k there.
+    let m_is : at.member ≡ m = same_some (slice_get d.config.members i) at.member m at.is_process.is_member there.is_member in
+    let own : w.end.app ≡ m.name = app ∙ ap (λ (z : Member). z.name) m_is in
+    let more = sent.own m.name (bears k) own in
+    let one_is : cond (bears k (opened d.config.widths bytes)) 1 0 ≡ item_one k s.item = ap (λ (o : Option Hop). cond (bears k o) 1 0) opens in
+    let less = taken_less k process s.place s.queue s.item s.head.is_queue s.head.first in
+    moved_same m.addr k (Resends d m.addr k.scep) (counts_of d lines below m process k) (counts_of (with_process d i new) lines below' m new k) (record { taken = sent.taken m.name (bears k); relayed = sent.taken m.name (bears_on m.addr k); gone = omega (arith, more, one_is, less); made = refl; kept = refl })))
 
 goes_accounted : (refuses : Port → ℕ → Option SendError) (d : DifSeen) (lines : List Direction) (below : Seen) (i n : ℕ) (process : Process) (r : Result OutStep StepError) (process' : Process) (below' : Seen) → AreKept below' → IsStanding d lines below → IsNumbered d below → IsAccounted d lines below → slice_get d.processes i ≡ Some process → Goes refuses d.config d.clock process below n r process' below' → IsAccounted (with_process d i process') lines below'
 goes_accounted refuses d lines below i n process (Ok out.Idle) process' below' kept st numbered a is s = idle d lines below below' i process process' is s.2 s.3 a

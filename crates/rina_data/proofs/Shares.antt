@@ -124,8 +124,8 @@ stands_before old new n f i e later kept facility at =
     record {
       facility = ap (slice_get old.facs) own ∙ facility;
       place = position_only (has_port e.port) f.ends i e at (has_own e) (λ j a there t.
-        let l = g.2.ends j a there in
-        ports.apart j i l.0 k.0 l.1 k.1 (l.2.port ∙ port_of e.port a t ∙ sym k.2.port));
+          let l = g.2.ends j a there in
+          ports.apart j i l.0 k.0 l.1 k.1 (l.2.port ∙ port_of e.port a t ∙ sym k.2.port));
       is = at;
     }
 
@@ -201,13 +201,13 @@ module _ (g : Config) (old new : Seen) (name : List ℕ) (count : End → ℕ) (
   pub ends_lifted : over_ends name count new ≡ over_ends name count old
   ends_lifted = sum_lists (λ (f : Fac). sum_by (share name count) f.ends) (λ (f : Fac). sum_by (share name count) f.ends) old.facs new.facs
       (λ n f is.
-        let h = lifted.later.facs n f is in
-        let inner : sum_by (share name count) h.0.ends ≡ sum_by (share name count) f.ends = sum_lists (share name count) (share name count) f.ends h.0.ends
-            (λ i e at. let k = h.2.ends i e at in (k.0, k.1, share_stays n f h.0 i e k.0 is h.1 at k.1 k.2))
-            (λ i e' at' past. share_fresh n f h.0 i e' is h.1 at' past) in
-        (h.0, h.1, inner))
+      let h = lifted.later.facs n f is in
+      let inner : sum_by (share name count) h.0.ends ≡ sum_by (share name count) f.ends = sum_lists (share name count) (share name count) f.ends h.0.ends
+      (λ i e at. let k = h.2.ends i e at in (k.0, k.1, share_stays n f h.0 i e k.0 is h.1 at k.1 k.2))
+      (λ i e' at' past. share_fresh n f h.0 i e' is h.1 at' past) in
+      (h.0, h.1, inner))
       (λ n f' is' none.
-        let within = slice_get_within new.facs n f' is' in
-        let number = lifted.later.number in
-        let there = there_is old.facs n (omega arith) in
-        absurd (none_some (slice_get old.facs n) there.0 there.1 none))
+      let within = slice_get_within new.facs n f' is' in
+      let number = lifted.later.number in
+      let there = there_is old.facs n (omega arith) in
+      absurd (none_some (slice_get old.facs n) there.0 there.1 none))

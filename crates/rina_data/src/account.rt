@@ -1,9 +1,10 @@
 //! The account of each IPC process, each law as the contract of a function that does nothing.
-ghost use Rattle.rina_data.specs.AccountLaws.{SendsAccount, PassesAccount, OutStepsAccount, InStepsAccount, AcknowledgingAccounts, ResendingAccounts, ForgettingAccounts, EndingAccounts, LosingAccounts, TimeAccounts, BesideAccounts, SendsOfOthersAccount, PassesOfOthersAccount};
+ghost use Rattle.rina_data.specs.AccountLaws.{StartAccounts, SendsAccount, PassesAccount, OutStepsAccount, InStepsAccount, AcknowledgingAccounts, ResendingAccounts, ForgettingAccounts, EndingAccounts, LosingAccounts, FailingAccounts, BindingAccounts, TimeAccounts, BesideAccounts, SendsOfOthersAccount, PassesOfOthersAccount};
 
 /// Each IPC process stays in account for each key of a PDU: what came in or was made is out, waits, was written off, or
 /// is kept.
 pub fn processes_stay_in_account()
+    ensures start { StartAccounts }
     ensures send { SendsAccount }
     ensures pass { PassesAccount }
     ensures out { OutStepsAccount }
@@ -13,6 +14,8 @@ pub fn processes_stay_in_account()
     ensures forget { ForgettingAccounts }
     ensures end { EndingAccounts }
     ensures lose { LosingAccounts }
+    ensures fail { FailingAccounts }
+    ensures bind { BindingAccounts }
     ensures time { TimeAccounts }
     ensures beside { BesideAccounts }
     ensures others_send { SendsOfOthersAccount }

@@ -1,4 +1,5 @@
 use Rattle.rina_data.proofs.Accounting.{acknowledged_accounted, lost_accounted, passed_accounted, resent_accounted}
+use Rattle.rina_data.proofs.Founding.{bound_accounted, failed_accounted, start_accounted}
 use Rattle.rina_data.proofs.Landing.{ins_accounted}
 use Rattle.rina_data.proofs.Lifted.{beside_accounted, passes_of_others_account, sends_of_others_account, time_accounted}
 use Rattle.rina_data.proofs.Making.{offers_accounted}
@@ -44,3 +45,12 @@ returns-clause-others_pass c = passes_of_others_account
 
 pub returns-clause-send : goal.returns-clause-send
 returns-clause-send c = offers_accounted
+
+pub returns-clause-start : goal.returns-clause-start
+returns-clause-start c = start_accounted
+
+pub returns-clause-fail : goal.returns-clause-fail
+returns-clause-fail c = failed_accounted
+
+pub returns-clause-bind : goal.returns-clause-bind
+returns-clause-bind c = bound_accounted
