@@ -73,8 +73,7 @@ module _ (g : Config) (now : ℕ) (cloud : ℕ → Pdu → Type 0) (ends : List 
       let here = beside ends lines at end tied.lines_alike is_at.end_is in
       let max = (tied.sends at conn here.0 is_at.conn_is here.1).sender.max in
       let same : unpassed ≡ length line.inbox.got - line.passed = (let got = ap (λ (es : List Entry). length es) flow.got in let passed = flow.passed in omega arith) in
-      let noting : IsNoting c now line pdu unpassed conn a.ready a.heard new = record { cube = ap (λ (s : Sending). s.form.cube) a.sending_before; max = ap (λ (s : Sending). s.numbers.max) a.sending_before ∙ max; count = same; hears = a.hears; before = a.waiting_before; after = a.waiting_after } in
-      let x = arrives c ids now line pdu unpassed conn a.ready a.heard new a.before a.after result flow.backed.clock coming (room ∙ room_is g now cloud end ids conn.sending.form.cube line flow) receiving a.drained a.none_before a.plan_before a.row a.marks a.given a.none_after a.plan_after a.none_given_up noting in
+      let x = arrives_found c ids now line pdu unpassed conn new result offs whole flow.backed.clock coming (room ∙ room_is g now cloud end ids conn.sending.form.cube line flow) receiving same a (ap (λ (s : Sending). s.form.cube) a.sending_before) (ap (λ (s : Sending). s.numbers.max) a.sending_before ∙ max) in
       let line' : Direction = arrived c (piece_in pdu) line in
       let end' : End = with_delivered ids now whole end in
       let got : line'.inbox.got ≡ end'.got = x.got ∙ ap (λ (es : List Entry). es ++ map (entry_for c now) a.heard.rx.join.whole) flow.got ∙ ap (λ (ws : List Sdu). end.got ++ map (entry_for c now) ws) (sym a.whole_are) in
@@ -89,10 +88,10 @@ module _ (g : Config) (now : ℕ) (cloud : ℕ → Pdu → Type 0) (ends : List 
           from = from;
           line = line;
           inbound = inbound;
-          arrived = (x.cause, (λ off i. x.dropped off (subst (In off) a.offs_are i)), ap (λ (es : List Entry). slice_set ends at (record end { got = es })) (sym got), refl);
+          arrived = (x.cause, x.dropped, ap (λ (es : List Entry). slice_set ends at (record end { got = es })) (sym got), refl, x.settled);
         };
         tied = tied_after g now ends conns lines at from end end' conn new line line' journal tied (record { is_at = is_at; inbound = inbound; const = record { flow = refl; role = refl; port = refl; app = refl; peer = refl; cube = refl }; sending = a.sending; sender = refl; clock = refl }) (λ still. subst R (sym a.sending) x.receives);
-        count = (let most = x.count in let e = ap (λ (os : List Off). length os) a.offs_are in let f = offs_of-length (a.before ++ a.after) in let sum = length-append a.before a.after in omega arith);
+        count = x.count;
       }
 
   -- the whole of an arrival: a copy of the piece is in the cloud, and not dead
@@ -120,6 +119,7 @@ is_arrived d lines i process pdu at cause offs ends' lines' d' kind a allocated 
   cause_is = a.arrived.0;
   dropped = offs;
   all_dropped = a.arrived.1;
+  settled = a.arrived.4;
   lines_are = a.arrived.3;
   new_is = is ∙ ap (λ (es : List End). record d { ends = es; processes = slice_set d.processes i (with_offs process (offs ++ lines_for pdu cause)) }) (a.arrived.2);
 }

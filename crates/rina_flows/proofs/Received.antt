@@ -49,6 +49,7 @@ received now pdu unpassed old bodies got got_room lines lines_room result new go
         plan_before = refl;
         waiting_before = refl;
         sending_before = refl;
+        given_up_before = refl;
         heard = r.heard;
         row = r.row;
         marks = r.marks;

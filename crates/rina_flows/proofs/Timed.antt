@@ -53,6 +53,8 @@ receiving_acknowledged c now ids k line h = record {
   waiting = record { room = h.waiting.room; earlier = h.waiting.earlier; firsts = h.waiting.firsts; within = h.waiting.within; few = h.waiting.few };
   early = h.early;
   kept = λ n i. (let q = h.kept n i in record { made = q.made; source = q.source; number = q.number });
+  once = h.once;
+  all = h.all;
 }
 
 pub acknowledges_from : (at : ℕ) (ends : List End) (conns conns' : List Conn) → Becomes IsAcknowledged at conns conns' → AcknowledgesIn at (flows_of ends conns) (flows_of ends conns')
