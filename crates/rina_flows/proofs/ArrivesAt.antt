@@ -14,6 +14,7 @@ use Rattle.rina_data.specs.Ids.{Ids, IsFrom, flipped}
 use Rattle.rina_data.specs.Incoming.{IsArrived, arrived, lines_for}
 use Rattle.rina_data.specs.Standing.{IsConfig, IsJournal, IsOwn}
 use Rattle.rina_data.proofs.Finding.{beside}
+use Rattle.rina_data.proofs.Forgot.{found_clock}
 use Rattle.rina_dtp.specs.declared.verdict.Verdict.{Verdict}
 use Rattle.rina_dtp.specs.Receiving.{kept_numbers}
 use Rattle.rina_iface.specs.declared.ends.End.{End}
@@ -29,7 +30,7 @@ use Rattle.rina_flows.specs.Rows.{ArrivesAt, IsPlace, TakesAt}
 use Rattle.rina_flows.specs.Tied.{IsAt, IsInboundAt, IsReceiving, IsTied, conns_of, ids_by, ids_of, inward}
 use Rattle.rina_flows.proofs.Coming.{IsInFlow, coming_of, inbound_of, inflow, room_is}
 use Rattle.rina_flows.proofs.Given.{offs_of-length}
-use Rattle.rina_flows.proofs.Receives.{IsNoting, arrives}
+use Rattle.rina_flows.proofs.Finds.{arrives_found, found_sender}
 use Rattle.rina_flows.proofs.Retied.{tied_after}
 use Rattle.rina_flows.proofs.Welcome.{room_of_least}
 
@@ -90,7 +91,7 @@ module _ (g : Config) (now : ℕ) (cloud : ℕ → Pdu → Type 0) (ends : List 
           inbound = inbound;
           arrived = (x.cause, x.dropped, ap (λ (es : List Entry). slice_set ends at (record end { got = es })) (sym got), refl, x.settled);
         };
-        tied = tied_after g now ends conns lines at from end end' conn new line line' journal tied (record { is_at = is_at; inbound = inbound; const = record { flow = refl; role = refl; port = refl; app = refl; peer = refl; cube = refl }; sending = a.sending; sender = refl; clock = refl }) (λ still. subst R (sym a.sending) x.receives);
+        tied = tied_after g now ends conns lines at from end end' conn new line line' journal tied (record { is_at = is_at; inbound = inbound; const = record { flow = refl; role = refl; port = refl; app = refl; peer = refl; cube = refl }; sending = a.sending; sender = found_sender c line; clock = found_clock c line }) (λ still. subst R (sym a.sending) x.receives);
         count = x.count;
       }
 

@@ -8,7 +8,7 @@ use Rattle.rina_base.specs.declared.pdu.Pdu.{Pdu}
 use Rattle.rina_conn.specs.declared.conn.Conn.{Conn}
 use Rattle.rina_data.specs.Counting.{AllOff, held_numbers, off_numbers, times, whole_numbers}
 use Rattle.rina_data.specs.Ids.{Ids}
-use Rattle.rina_data.specs.Incoming.{AllSettled, GivesUp, IsDropped, IsKeptNumber, arrived, cause_for, found, joined_by, lines_for}
+use Rattle.rina_data.specs.Incoming.{AllSettled, GivesUp, IsDropped, IsKeptNumber, arrived, by_joiner, cause_by, cause_for, found, lines_for}
 use Rattle.rina_dtp.specs.declared.verdict.Verdict.{Verdict}
 use Rattle.rina_dtp.specs.Receiving.{Receiving, broken_with, drops, kept_numbers, lost_in, present_at}
 use Rattle.rina_dtp.proofs.Came.{drops_standing, kept_none, present_same}
@@ -17,11 +17,12 @@ use Rattle.rina_law.specs.declared.entry.Entry.{Entry}
 use Rattle.rina_law.specs.Constants.{Constants}
 use Rattle.rina_law.specs.Direction.{Direction, Forget, entry_for, happens, has_room}
 use Rattle.rina_law.specs.DirectionHolds.{DirectionHolds}
-use Rattle.rina_law.specs.Line.{InFlight}
+use Rattle.rina_law.specs.Line.{arrival_verdict}
 use Rattle.rina_law.specs.Lists.{In}
 use Rattle.rina_law.specs.Pdus.{piece_in}
 use Rattle.rina_law.specs.Pieces.{Sdu, empty_joiner}
-use Rattle.rina_law.specs.Receiver.{Piece, is_present}
+use Rattle.rina_law.specs.Receiver as law
+use Rattle.rina_law.specs.Receiver.{Piece, is_present, verdict_by_state, with_room}
 use Rattle.rina_law.proofs.Suffices.{row_holds}
 use Rattle.rina_flows.specs.Arriving.{IsArrival, IsComing, IsDrained, cause_of, offs_of}
 use Rattle.rina_flows.specs.Tied.{IsReceiving}
@@ -36,6 +37,9 @@ use Rattle.rina_flows.proofs.Times.{times-append}
 
 -- What a piece finds
 
+pub found_sender : (c : Constants) (line : Direction) → (found c line).line.sender ≡ line.line.sender
+found_sender c line = by_presence (λ l. l.line.sender ≡ line.line.sender) c line (λ stands. refl) (λ gone. refl)
+
 found_clean : (c : Constants) (line : Direction) → IsClean c (found c line)
 found_clean c line = by_presence (IsClean c) c line
     (λ stands. record { joiner = λ gone. absurd (false≢true (sym gone ∙ stands)); held = λ gone. absurd (false≢true (sym gone ∙ stands)) })
@@ -47,8 +51,18 @@ found_coming c ids line pdu x = by_presence (λ l. IsComing c ids l pdu) c line 
 
 -- it writes off the same, for the same cause, as what was there before
 
+gone_cause : (v : law.Verdict) (c : Constants) (p : Piece) (line : Direction) → is_present c line.line.clock line.line.receiver ≡ false → cause_by v c p (happens c line Forget) ≡ cause_by v c p line
+gone_cause law.Accepted c p line gone = ap (by_joiner p) (ap (λ (b : Bool). cond b empty_joiner empty_joiner) gone ∙ sym (ap (λ (b : Bool). cond b line.inbox.joiner empty_joiner) gone))
+gone_cause law.Held c p line gone = refl
+gone_cause law.Duplicate c p line gone = refl
+gone_cause law.Behind c p line gone = refl
+gone_cause law.NoState c p line gone = refl
+gone_cause law.NoRoom c p line gone = refl
+
 found_cause : (c : Constants) (p : Piece) (line : Direction) → cause_for c p (found c line) ≡ cause_for c p line
-found_cause c p line = by_presence (λ l. cause_for c p l ≡ cause_for c p line) c line (λ stands. refl) (λ gone. rw gone refl)
+found_cause c p line = by_presence (λ l. cause_for c p l ≡ cause_for c p line) c line (λ stands. refl) (λ gone.
+    let same : arrival_verdict c (happens c line Forget).line p (has_room c line) ≡ arrival_verdict c line.line p (has_room c line) = ap (λ (b : Bool). with_room (has_room c line) (verdict_by_state c.cube.kind b (happens c line Forget).line.receiver p)) gone ∙ sym (ap (λ (b : Bool). with_room (has_room c line) (verdict_by_state c.cube.kind b line.line.receiver p)) gone) in
+    ap (λ v. cause_by v c p (happens c line Forget)) same ∙ gone_cause (arrival_verdict c line.line p (has_room c line)) c p line gone)
 
 found_dropped : (c : Constants) (p : Piece) (ids : Ids) (line : Direction) (off : Off) → IsDropped c p (found c line) ids off → IsDropped c p line ids off
 found_dropped c p ids line off = by_presence (λ l. IsDropped c p l ids off → IsDropped c p line ids off) c line (λ stands x. x)
