@@ -86,7 +86,7 @@ module _ (d : DifSeen) (lines : List Direction) (below below' : Seen) (st : IsSt
       let same : Covers d.clock cloud cloud = λ death x there lives. (death, omega arith, there) in
       let F : Direction → Type 0 = λ l. IsFlow d.config d.clock cloud partner end (flipped ids) f l in
       subst P c_is (λ flow. flow_arrived d.config d.clock cloud cloud' partner end (flipped ids) f (found k line) cube is_cube limits end' older (piece_in pdu) piece alive covers refl refl
-          (by_found F k line flow (λ gone. flow_forgot d.config d.clock cloud cloud partner end (flipped ids) f line cube is_cube limits gone same flow))) h
+      (by_found F k line flow (λ gone. flow_forgot d.config d.clock cloud cloud partner end (flipped ids) f line cube is_cube limits gone same flow))) h
 
   arrived_stands : (i : ℕ) (process : Process) (cause : Option Cause) (d' : DifSeen) (lines' : List Direction) → slice_get d.processes i ≡ Some process → IsArrived d lines i process pdu cause d' lines' → IsStanding d' lines' below'
   arrived_stands i process cause d' lines' is_process s =

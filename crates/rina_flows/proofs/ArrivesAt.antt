@@ -1,5 +1,5 @@
 -- A connection that receives a piece does what the law says of the direction from its partner, and the flows stay tied.
-use Rattle.std.proofs.Common.{◌≡◌, ℕ, ◌-◌, ◌≤◌, List, ◌++◌, length, map, min, ltb, slice_set, Option, option_map, length-append, refl, sym, ◌∙◌, ap, subst, arith}
+use Rattle.std.proofs.Common.{◌≡◌, ℕ, ◌-◌, ◌≤◌, List, ◌++◌, length, map, ltb, slice_set, Option, option_map, refl, sym, ◌∙◌, ap, subst, arith}
 use Rattle.std.proofs.lemmas.Option.{slice_get-map}
 use Rattle.rina_account.specs.declared.ledger.Off.{Off}
 use Rattle.rina_base.specs.declared.cause.Cause.{Cause}
@@ -7,8 +7,6 @@ use Rattle.rina_base.specs.declared.pdu.Pdu.{Pdu}
 use Rattle.rina_base.specs.declared.pdu.PduKind.TheVariants.{Piece as APiece}
 use Rattle.rina_conn.specs.declared.conn.Conn.{Conn}
 use Rattle.rina_conn.specs.declared.sending.Sending.{Sending}
-use Rattle.rina_cube.specs.declared.Cube.{Cube}
-use Rattle.rina_cube.specs.Cubes.{IsCube}
 use Rattle.rina_data.specs.Dif.{Config, DifSeen, Process, constants, with_offs}
 use Rattle.rina_data.specs.Ids.{Ids, IsFrom, flipped}
 use Rattle.rina_data.specs.Incoming.{IsArrived, arrived, lines_for}
@@ -22,17 +20,14 @@ use Rattle.rina_iface.specs.declared.state.PortState.TheVariants.{Allocated}
 use Rattle.rina_law.specs.declared.entry.Entry.{Entry}
 use Rattle.rina_law.specs.Constants.{Constants}
 use Rattle.rina_law.specs.Direction.{Direction, entry_for}
-use Rattle.rina_law.specs.Lists.{In}
 use Rattle.rina_law.specs.Pdus.{piece_in}
 use Rattle.rina_law.specs.Pieces.{Sdu}
 use Rattle.rina_flows.specs.Arriving.{IsArrival, IsComing, cause_of, with_delivered}
 use Rattle.rina_flows.specs.Rows.{ArrivesAt, IsPlace, TakesAt}
 use Rattle.rina_flows.specs.Tied.{IsAt, IsInboundAt, IsReceiving, IsTied, conns_of, ids_by, ids_of, inward}
 use Rattle.rina_flows.proofs.Coming.{IsInFlow, coming_of, inbound_of, inflow, room_is}
-use Rattle.rina_flows.proofs.Given.{offs_of-length}
 use Rattle.rina_flows.proofs.Finds.{arrives_found, found_sender}
 use Rattle.rina_flows.proofs.Retied.{tied_after}
-use Rattle.rina_flows.proofs.Welcome.{room_of_least}
 
 -- the directions after it, to which the flows are tied
 pub record HasArrived (g : Config) (now : ℕ) (ends : List End) (conns : List Conn) (lines : List Direction) (at : ℕ) (end : End) (conn : Conn) (pdu : Pdu) (result : Verdict) (offs : List Off) (whole : List Sdu) (new : Conn) : Type 0 where

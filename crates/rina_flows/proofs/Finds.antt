@@ -1,14 +1,14 @@
 -- The whole of an arrival, from what the piece finds on.
-use Rattle.std.proofs.Common.{◌≡◌, ℕ, ◌+◌, ◌-◌, ◌<◌, ◌≤◌, List, [], ◌∷◌, ◌++◌, length, map, length-append, Bool, true, false, cond, ltb, Option, Some, None, refl, sym, ◌∙◌, ap, subst, arith, inl, inr}
+use Rattle.std.proofs.Common.{◌≡◌, ℕ, ◌+◌, ◌-◌, ◌≤◌, List, [], ◌++◌, length, map, length-append, Bool, true, false, cond, ltb, refl, sym, ◌∙◌, ap, subst, arith, inl, inr}
 use Rattle.std.proofs.lemmas.Bool.{false≢true}
 use Rattle.rina_account.specs.declared.ledger.Off.{Off}
 use Rattle.rina_base.specs.declared.cause.Cause.{Cause}
 use Rattle.rina_base.specs.declared.number.Key.{Key}
 use Rattle.rina_base.specs.declared.pdu.Pdu.{Pdu}
 use Rattle.rina_conn.specs.declared.conn.Conn.{Conn}
-use Rattle.rina_data.specs.Counting.{AllOff, held_numbers, off_numbers, times, whole_numbers}
+use Rattle.rina_data.specs.Counting.{held_numbers, off_numbers, times}
 use Rattle.rina_data.specs.Ids.{Ids}
-use Rattle.rina_data.specs.Incoming.{AllSettled, GivesUp, IsDropped, IsKeptNumber, arrived, by_joiner, cause_by, cause_for, found, lines_for}
+use Rattle.rina_data.specs.Incoming.{AllSettled, IsDropped, arrived, by_joiner, cause_by, cause_for, found, lines_for}
 use Rattle.rina_dtp.specs.declared.verdict.Verdict.{Verdict}
 use Rattle.rina_dtp.specs.Receiving.{Receiving, broken_with, drops, kept_numbers, lost_in, present_at}
 use Rattle.rina_dtp.proofs.Came.{drops_standing, kept_none, present_same}
@@ -16,7 +16,6 @@ use Rattle.rina_data.proofs.Forgot.{found_clock, found_got}
 use Rattle.rina_law.specs.declared.entry.Entry.{Entry}
 use Rattle.rina_law.specs.Constants.{Constants}
 use Rattle.rina_law.specs.Direction.{Direction, Forget, entry_for, happens, has_room}
-use Rattle.rina_law.specs.DirectionHolds.{DirectionHolds}
 use Rattle.rina_law.specs.Line.{arrival_verdict}
 use Rattle.rina_law.specs.Lists.{In}
 use Rattle.rina_law.specs.Pdus.{piece_in}
@@ -31,7 +30,7 @@ use Rattle.rina_flows.proofs.Given.{drained_all, drained_none, in_append, offs_o
 use Rattle.rina_flows.proofs.Kept.{drops_count}
 use Rattle.rina_flows.proofs.KeptOnce.{cause_gone, cause_none, ended_all}
 use Rattle.rina_flows.proofs.Ready.{by_presence, receiving_found}
-use Rattle.rina_flows.proofs.Receives.{Arrives, IsClean, IsNoting, arrives}
+use Rattle.rina_flows.proofs.Receives.{IsClean, IsNoting, arrives}
 use Rattle.rina_flows.proofs.Settled.{off-append}
 use Rattle.rina_flows.proofs.Times.{times-append}
 
@@ -95,6 +94,7 @@ module _ (c : Constants) (ids : Ids) (line : Direction) (conn ready : Conn) (bef
     where
       befores : length (drops line.line.clock conn.rx) ≡ length before
       befores = ap (λ (ds : List (Key × Cause)). length ds) (drained_all line.line.clock conn.rx before ready.rx drained none)
+
       go : (b : Bool) → is_present c line.line.clock line.line.receiver ≡ b → length before + after ≤ length (kept_numbers conn.rx)
       go true stands =
           let now : present_at line.line.clock conn.rx ≡ true = sym (present_same c line.line.clock line.line.receiver line.inbox.joiner conn.rx h.stands) ∙ stands in

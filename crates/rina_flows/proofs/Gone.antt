@@ -6,8 +6,6 @@ use Rattle.rina_base.specs.declared.cause.Cause.TheVariants as causes
 use Rattle.rina_base.specs.declared.number.Key.{Key}
 use Rattle.rina_conn.specs.declared.conn.Conn.{Conn}
 use Rattle.rina_conn.specs.declared.sending.Sending.{Sending}
-use Rattle.rina_conn.specs.Standing.{AreWaiting}
-use Rattle.rina_conn.specs.Waiting.{Waits}
 use Rattle.rina_data.specs.Counting.{AllOff, off_numbers, times}
 use Rattle.rina_data.specs.Dif.{Config, DifSeen, Process, constants, with_offs, with_process}
 use Rattle.rina_data.specs.Ending.{IsEnded}
@@ -17,9 +15,7 @@ use Rattle.rina_data.specs.Standing.{IsJournal}
 use Rattle.rina_data.specs.Timely.{IsForgotten}
 use Rattle.rina_dtp.specs.Receiving.{Receiving, drops, end_cause, ended_with, kept_numbers, lost_in, present_at}
 use Rattle.rina_dtp.specs.Source.{key_at}
-use Rattle.rina_dtp.proofs.Ahead.{fetched_forward}
-use Rattle.rina_dtp.proofs.Came.{kept_none, present_same}
-use Rattle.rina_dtp.proofs.Lasting.{stands_forgotten}
+use Rattle.rina_dtp.proofs.Came.{present_same}
 use Rattle.rina_iface.specs.declared.ends.End.{End}
 use Rattle.rina_iface.specs.declared.state.PortState.{PortState}
 use Rattle.rina_iface.specs.declared.state.PortState.TheVariants.{Allocated}
@@ -38,7 +34,6 @@ use Rattle.rina_flows.proofs.Kept.{drops_ended}
 use Rattle.rina_flows.proofs.KeptOnce.{cause_gone, ended_all}
 use Rattle.rina_flows.proofs.Ready.{receiving_forgot}
 use Rattle.rina_flows.proofs.Retied.{tied_after}
-use Rattle.rina_flows.proofs.Waiting.{waiting_same}
 
 -- The lines
 

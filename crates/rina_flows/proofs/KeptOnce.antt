@@ -1,11 +1,11 @@
 -- While state stands, a receiver keeps exactly the pieces that the direction holds, each once.
-use Rattle.std.proofs.Common.{◌≡◌, ℕ, suc, ◌+◌, ◌-◌, ◌<◌, ◌≤◌, List, [], ◌∷◌, ◌++◌, length, filter, Bool, true, false, cond, Option, Some, None, refl, sym, ◌∙◌, ap, subst, arith, inl, inr}
+use Rattle.std.proofs.Common.{◌≡◌, ℕ, suc, ◌+◌, ◌-◌, ◌<◌, ◌≤◌, List, [], ◌∷◌, ◌++◌, length, Bool, true, false, cond, Option, Some, None, refl, sym, ◌∙◌, ap, arith}
 use Rattle.rina_base.specs.declared.cause.Cause.{Cause}
 use Rattle.rina_base.specs.declared.cause.Cause.TheVariants as causes
 use Rattle.rina_base.specs.declared.number.Key.{Key}
 use Rattle.rina_cube.specs.declared.Kind.{Kind}
 use Rattle.rina_cube.specs.declared.Kind.TheVariants as kinds
-use Rattle.rina_data.specs.Counting.{AllOff, held_numbers, joiner_numbers, numbers_from, off_numbers, times}
+use Rattle.rina_data.specs.Counting.{held_numbers, joiner_numbers, numbers_from, off_numbers, times}
 use Rattle.rina_delim.specs.declared.joiner.Run.{Run}
 use Rattle.rina_dtp.specs.declared.accepted.Accepted.{Accepted}
 use Rattle.rina_dtp.specs.declared.accepted.Accepted.TheVariants.{Datagram, Loose, Reliable}
@@ -17,7 +17,6 @@ use Rattle.rina_dtp.specs.Receiving as receiving
 use Rattle.rina_dtp.specs.Receiving.{Receiving, broken_with, drops, end_cause, ended_with, held_in, kept_numbers, lost_in, present_at, run_numbers}
 use Rattle.rina_dtp.specs.Shelf.{holds}
 use Rattle.rina_dtp.specs.Stands.{IsRun, Knows, Stands}
-use Rattle.rina_dtp.proofs.Came.{present_same}
 use Rattle.rina_law.specs.Constants.{Constants}
 use Rattle.rina_law.specs.Direction.{Direction}
 use Rattle.rina_law.specs.Lists.{In, has}

@@ -304,17 +304,21 @@ held_fresh kind room m p v = by_room room v
     reliable true h t is = absurd cc
     reliable false true t is = absurd cc
     reliable false false t is = refl
+
     datagram : (b h : Bool) → cond b law.Behind (cond h law.Duplicate law.Accepted) ≡ law.Held → ⊥
     datagram true h is = cc
     datagram false true is = cc
     datagram false false is = cc
+
     loose : (b : Bool) → cond b law.Accepted law.Behind ≡ law.Held → ⊥
     loose true is = cc
     loose false is = cc
+
     by_kind : (x : Kind) → present_verdict x m p.number ≡ law.Held → (x ≡ Reliable) × (has p.number (numbers m.held) ≡ false)
     by_kind Datagram is = absurd (datagram (leb (p.number + 4096) (highest m.accepted)) (has p.number m.accepted) is)
     by_kind Loose is = absurd (loose (ltb (highest m.accepted) p.number) is)
     by_kind Reliable is = (refl, reliable (ltb p.number (next_of m)) (has p.number (numbers m.held)) (eqb p.number (next_of m)) is)
+
     no_room : (x : law.Verdict) → law.Held ≡ with_room false x → ⊥
     no_room law.Accepted is = cc
     no_room law.Held is = cc
@@ -322,6 +326,7 @@ held_fresh kind room m p v = by_room room v
     no_room law.Behind is = cc
     no_room law.NoState is = cc
     no_room law.NoRoom is = cc
+
     by_room : (r : Bool) → law.Held ≡ verdict kind true m p r → (kind ≡ Reliable) × (has p.number (numbers m.held) ≡ false)
     by_room true is = by_kind kind (sym is)
     by_room false is = absurd (no_room (present_verdict kind m p.number) is)

@@ -1,7 +1,6 @@
 -- How often numbers stand in lists.
 use Rattle.std.proofs.Common.{◌≡◌, ◌≢◌, ℕ, zero, suc, ◌+◌, ◌<◌, ◌≤◌, List, [], ◌∷◌, ◌++◌, filter, Bool, true, false, cond, eqb, leb, refl, sym, ◌∙◌, ap, subst, arith, inl, inr}
-use Rattle.std.proofs.lemmas.Bool.{cases_eq, eq-eqb, eqb-false, eqb-true, ne_eqb}
-use Rattle.std.proofs.lemmas.Bool.Decides.{eqb_tells}
+use Rattle.std.proofs.lemmas.Bool.{cases_eq, eq-eqb, ne_eqb}
 use Rattle.rina_data.specs.Counting.{numbers_from, times}
 use Rattle.rina_dtp.specs.Lost as dtp
 use Rattle.rina_law.specs.Lists.{In}
@@ -109,6 +108,7 @@ from_on_cons k b q hs rest = elim (cases_eq k q.number) [
     at : (c : Bool) → times k (numbers (from_on b hs)) ≡ cond c (times k (numbers hs)) 0 → times k (numbers (cond c (q ∷ from_on b hs) (from_on b hs))) ≡ cond c (one k q.number + times k (numbers hs)) 0
     at true h = omega arith
     at false h = h
+
     other : one k q.number ≡ 0 → (c d : Bool) → times k (numbers (from_on b hs)) ≡ cond d (times k (numbers hs)) 0 → times k (numbers (cond c (q ∷ from_on b hs) (from_on b hs))) ≡ cond d (one k q.number + times k (numbers hs)) 0
     other o true true h = omega arith
     other o true false h = omega arith
