@@ -214,10 +214,26 @@ changes_kept r result new on = (goes r (gathered r) (gathered r).going result ne
 
 -- No more is kept than before
 
-pub keeps_broken : (r between new : Receiving) → between ≡ record r { join = record r.join { gaps = between.join.gaps } } → KeepsNoMore between new → KeepsNoMore r new
-keeps_broken r between new is h = record {
-  source = h.source ∙ ap (λ (y : Receiving). y.source) is;
-  kept = λ n i. subst (λ (y : Receiving). In n (kept_numbers y)) is (h.kept n i);
+pub keeps_broken : (now : ℕ) (r between new : Receiving) → between ≡ record r { join = record r.join { gaps = between.join.gaps } } → KeepsNoMore now between new → KeepsNoMore now r new
+keeps_broken now r between new is h =
+    let why : end_cause now between ≡ end_cause now r = ap (end_cause now) is in
+    let kept : kept_numbers between ≡ kept_numbers r = ap kept_numbers is in
+    record {
+      source = h.source ∙ ap (λ (y : Receiving). y.source) is;
+      kept = λ n i. subst (In n) kept (h.kept n i);
+      why = h.why ∙ why;
+      all = λ none. h.all (why ∙ none) ∙ kept;
+    }
+
+pub keeps_same : (now : ℕ) (r : Receiving) → KeepsNoMore now r r
+keeps_same now r = record { source = refl; kept = λ n i. i; why = refl; all = λ none. refl }
+
+pub keeps_on : (now : ℕ) (r between new : Receiving) → KeepsNoMore now r between → KeepsNoMore now between new → KeepsNoMore now r new
+keeps_on now r between new a b = record {
+  source = b.source ∙ a.source;
+  kept = λ n i. a.kept n (b.kept n i);
+  why = b.why ∙ a.why;
+  all = λ none. b.all (a.why ∙ none) ∙ a.all none;
 }
 
 -- What a receiver stands for

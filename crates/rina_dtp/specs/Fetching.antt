@@ -6,7 +6,7 @@ use Rattle.rina_dtp.specs.declared.accepted.Accepted.{Accepted}
 use Rattle.rina_dtp.specs.declared.gap.Gap.{Gap}
 use Rattle.rina_dtp.specs.declared.gap.Lost.{Lost}
 use Rattle.rina_dtp.specs.Accepted.{kind_of, HasSlotsFor}
-use Rattle.rina_dtp.specs.Receiving.{Receiving, held_numbers, kept_numbers}
+use Rattle.rina_dtp.specs.Receiving.{Receiving, end_cause, held_numbers, kept_numbers}
 use Rattle.rina_dtp.specs.Shelf.{Shelved, holds}
 use Rattle.rina_dtp.specs.Stands.{HasPlacesFor, Stands}
 use Rattle.rina_law.specs.Constants.{Constants}
@@ -62,10 +62,12 @@ pub record ChangesKept (old new : Receiving) : Type 0 where
   pub shape : SameShape old.accepted new.accepted
   pub largest : new.join.joining.largest ≡ old.join.joining.largest
 
--- no more is kept than before, and it comes from the same source
-pub record KeepsNoMore (old new : Receiving) : Type 0 where
+-- no more is kept than before, and it comes from the same source; all of it is, while neither state nor connection has ended
+pub record KeepsNoMore (now : ℕ) (old new : Receiving) : Type 0 where
   pub source : new.source ≡ old.source
   pub kept : (n : ℕ) → In n (kept_numbers new) → In n (kept_numbers old)
+  pub why : end_cause now new ≡ end_cause now old
+  pub all : end_cause now old ≡ None → kept_numbers new ≡ kept_numbers old
 
 -- it stands for the same receiver and joiner of the machine
 abbrev pub StandsAsBefore : ℕ → Receiving → Receiving → Type 0

@@ -362,7 +362,7 @@ impl Rx {
         ensures taken { TakesFirst result (ended_with self.old.source (end_cause now self.old) (kept_numbers self.old)) (ended_with self.new.source (end_cause now self.new) (kept_numbers self.new)) }
         ensures rest { ChangesKept self.old self.new }
         ensures standing { end_cause now self.old ≡ None → self.new ≡ self.old }
-        ensures kept { KeepsNoMore self.old self.new }
+        ensures kept { KeepsNoMore now self.old self.new }
     {
         let cause = self.end_cause(now)?;
         let number = self.next_kept()?;
@@ -392,7 +392,7 @@ impl Rx {
         ensures taken { TakesFirst result (drops now self.old) (drops now self.new) }
         ensures stands { StandsAsBefore now self.old self.new }
         ensures whole { self.new.join.whole ≡ self.old.join.whole }
-        ensures kept { KeepsNoMore self.old self.new }
+        ensures kept { KeepsNoMore now self.old self.new }
     {
         match self.next_broken() {
             Some(broken) => Some(broken),

@@ -1,5 +1,5 @@
 -- A flow that is added.
-use Rattle.std.proofs.Common.{◌≡◌, ℕ, List, [], ◌∷◌, ◌++◌, map, refl, sym, ◌∙◌, ap, subst}
+use Rattle.std.proofs.Common.{◌≡◌, ℕ, List, [], ◌∷◌, ◌++◌, map, sym, ◌∙◌, ap, subst}
 use Rattle.std.proofs.lemmas.List.{map-append}
 use Rattle.rina_conn.specs.declared.conn.Conn.{Conn}
 use Rattle.rina_conn.specs.declared.form.Peer.{Peer}
@@ -9,7 +9,6 @@ use Rattle.rina_data.specs.Dif.{Config, constants, greatest, piece_size}
 use Rattle.rina_data.specs.Ids.{Ids}
 use Rattle.rina_data.specs.Lifting.{ticked}
 use Rattle.rina_iface.specs.declared.ends.End.{End}
-use Rattle.rina_law.specs.Constants.{Constants}
 use Rattle.rina_law.specs.Direction.{Direction, start}
 use Rattle.rina_flows.specs.Adding.{Adds, begun_now, turned}
 use Rattle.rina_flows.specs.Tied.{IsTied, ids_by, ids_of, outward}

@@ -8,7 +8,7 @@ use Rattle.rina_base.specs.declared.pdu.Pdu.{Pdu}
 use Rattle.rina_cube.specs.declared.Kind.{Kind}
 use Rattle.rina_cube.specs.declared.Kind.TheVariants as kinds
 use Rattle.rina_data.specs.Ids.{Ids, IsFrom, flipped}
-use Rattle.rina_data.specs.Incoming.{GivesUp, IsDropped, arrived, by_joiner, cause_by, cause_for, missing_for}
+use Rattle.rina_data.specs.Incoming.{GivesUp, IsDropped, by_joiner, cause_by, cause_for, landed, missing_for}
 use Rattle.rina_dtp.specs.declared.gap.Lost.{Lost}
 use Rattle.rina_dtp.specs.declared.verdict.Verdict.{Verdict}
 use Rattle.rina_dtp.specs.Lost.{given_up, joiner_for, lost_after, missing_before, told, told_accepted}
@@ -68,7 +68,7 @@ module _ (c : Constants) (ids : Ids) (line : Direction) (pdu : Pdu) (coming : Is
   came_cause = ap cause_of came.told_is ∙ told_cause (arrival_verdict c line.line (piece_in pdu) (has_room c line)) c line pdu _ (coming.names.scep ∙ sym coming.cep)
 
   -- what is delivered
-  pub came_got : (arrived c (piece_in pdu) line).inbox.got ≡ line.inbox.got ++ map (entry_for c line.line.clock) new.join.whole
+  pub came_got : (landed c (piece_in pdu) line).inbox.got ≡ line.inbox.got ++ map (entry_for c line.line.clock) new.join.whole
   came_got = ap (λ (ws : List Sdu). line.inbox.got ++ map (entry_for c line.line.clock) ws) (sym came.whole)
 
 -- The pieces that are given up

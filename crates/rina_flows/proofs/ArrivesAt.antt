@@ -1,5 +1,5 @@
 -- A connection that receives a piece does what the law says of the direction from its partner, and the flows stay tied.
-use Rattle.std.proofs.Common.{◌≡◌, ℕ, ◌-◌, ◌≤◌, List, ◌++◌, length, map, min, ltb, slice_set, Option, option_map, length-append, refl, sym, ◌∙◌, ap, subst, arith}
+use Rattle.std.proofs.Common.{◌≡◌, ℕ, ◌-◌, ◌≤◌, List, ◌++◌, length, map, ltb, slice_set, Option, option_map, refl, sym, ◌∙◌, ap, subst, arith}
 use Rattle.std.proofs.lemmas.Option.{slice_get-map}
 use Rattle.rina_account.specs.declared.ledger.Off.{Off}
 use Rattle.rina_base.specs.declared.cause.Cause.{Cause}
@@ -7,13 +7,12 @@ use Rattle.rina_base.specs.declared.pdu.Pdu.{Pdu}
 use Rattle.rina_base.specs.declared.pdu.PduKind.TheVariants.{Piece as APiece}
 use Rattle.rina_conn.specs.declared.conn.Conn.{Conn}
 use Rattle.rina_conn.specs.declared.sending.Sending.{Sending}
-use Rattle.rina_cube.specs.declared.Cube.{Cube}
-use Rattle.rina_cube.specs.Cubes.{IsCube}
 use Rattle.rina_data.specs.Dif.{Config, DifSeen, Process, constants, with_offs}
 use Rattle.rina_data.specs.Ids.{Ids, IsFrom, flipped}
 use Rattle.rina_data.specs.Incoming.{IsArrived, arrived, lines_for}
 use Rattle.rina_data.specs.Standing.{IsConfig, IsJournal, IsOwn}
 use Rattle.rina_data.proofs.Finding.{beside}
+use Rattle.rina_data.proofs.Forgot.{found_clock}
 use Rattle.rina_dtp.specs.declared.verdict.Verdict.{Verdict}
 use Rattle.rina_dtp.specs.Receiving.{kept_numbers}
 use Rattle.rina_iface.specs.declared.ends.End.{End}
@@ -21,17 +20,14 @@ use Rattle.rina_iface.specs.declared.state.PortState.TheVariants.{Allocated}
 use Rattle.rina_law.specs.declared.entry.Entry.{Entry}
 use Rattle.rina_law.specs.Constants.{Constants}
 use Rattle.rina_law.specs.Direction.{Direction, entry_for}
-use Rattle.rina_law.specs.Lists.{In}
 use Rattle.rina_law.specs.Pdus.{piece_in}
 use Rattle.rina_law.specs.Pieces.{Sdu}
 use Rattle.rina_flows.specs.Arriving.{IsArrival, IsComing, cause_of, with_delivered}
 use Rattle.rina_flows.specs.Rows.{ArrivesAt, IsPlace, TakesAt}
 use Rattle.rina_flows.specs.Tied.{IsAt, IsInboundAt, IsReceiving, IsTied, conns_of, ids_by, ids_of, inward}
 use Rattle.rina_flows.proofs.Coming.{IsInFlow, coming_of, inbound_of, inflow, room_is}
-use Rattle.rina_flows.proofs.Given.{offs_of-length}
-use Rattle.rina_flows.proofs.Receives.{IsNoting, arrives}
+use Rattle.rina_flows.proofs.Finds.{arrives_found, found_sender}
 use Rattle.rina_flows.proofs.Retied.{tied_after}
-use Rattle.rina_flows.proofs.Welcome.{room_of_least}
 
 -- the directions after it, to which the flows are tied
 pub record HasArrived (g : Config) (now : ℕ) (ends : List End) (conns : List Conn) (lines : List Direction) (at : ℕ) (end : End) (conn : Conn) (pdu : Pdu) (result : Verdict) (offs : List Off) (whole : List Sdu) (new : Conn) : Type 0 where
@@ -73,8 +69,7 @@ module _ (g : Config) (now : ℕ) (cloud : ℕ → Pdu → Type 0) (ends : List 
       let here = beside ends lines at end tied.lines_alike is_at.end_is in
       let max = (tied.sends at conn here.0 is_at.conn_is here.1).sender.max in
       let same : unpassed ≡ length line.inbox.got - line.passed = (let got = ap (λ (es : List Entry). length es) flow.got in let passed = flow.passed in omega arith) in
-      let noting : IsNoting c now line pdu unpassed conn a.ready a.heard new = record { cube = ap (λ (s : Sending). s.form.cube) a.sending_before; max = ap (λ (s : Sending). s.numbers.max) a.sending_before ∙ max; count = same; hears = a.hears; before = a.waiting_before; after = a.waiting_after } in
-      let x = arrives c ids now line pdu unpassed conn a.ready a.heard new a.before a.after result flow.backed.clock coming (room ∙ room_is g now cloud end ids conn.sending.form.cube line flow) receiving a.drained a.none_before a.plan_before a.row a.marks a.given a.none_after a.plan_after a.none_given_up noting in
+      let x = arrives_found c ids now line pdu unpassed conn new result offs whole flow.backed.clock coming (room ∙ room_is g now cloud end ids conn.sending.form.cube line flow) receiving same a (ap (λ (s : Sending). s.form.cube) a.sending_before) (ap (λ (s : Sending). s.numbers.max) a.sending_before ∙ max) in
       let line' : Direction = arrived c (piece_in pdu) line in
       let end' : End = with_delivered ids now whole end in
       let got : line'.inbox.got ≡ end'.got = x.got ∙ ap (λ (es : List Entry). es ++ map (entry_for c now) a.heard.rx.join.whole) flow.got ∙ ap (λ (ws : List Sdu). end.got ++ map (entry_for c now) ws) (sym a.whole_are) in
@@ -89,10 +84,10 @@ module _ (g : Config) (now : ℕ) (cloud : ℕ → Pdu → Type 0) (ends : List 
           from = from;
           line = line;
           inbound = inbound;
-          arrived = (x.cause, (λ off i. x.dropped off (subst (In off) a.offs_are i)), ap (λ (es : List Entry). slice_set ends at (record end { got = es })) (sym got), refl);
+          arrived = (x.cause, x.dropped, ap (λ (es : List Entry). slice_set ends at (record end { got = es })) (sym got), refl, x.settled);
         };
-        tied = tied_after g now ends conns lines at from end end' conn new line line' journal tied (record { is_at = is_at; inbound = inbound; const = record { flow = refl; role = refl; port = refl; app = refl; peer = refl; cube = refl }; sending = a.sending; sender = refl; clock = refl }) (λ still. subst R (sym a.sending) x.receives);
-        count = (let most = x.count in let e = ap (λ (os : List Off). length os) a.offs_are in let f = offs_of-length (a.before ++ a.after) in let sum = length-append a.before a.after in omega arith);
+        tied = tied_after g now ends conns lines at from end end' conn new line line' journal tied (record { is_at = is_at; inbound = inbound; const = record { flow = refl; role = refl; port = refl; app = refl; peer = refl; cube = refl }; sending = a.sending; sender = found_sender c line; clock = found_clock c line }) (λ still. subst R (sym a.sending) x.receives);
+        count = x.count;
       }
 
   -- the whole of an arrival: a copy of the piece is in the cloud, and not dead
@@ -120,6 +115,7 @@ is_arrived d lines i process pdu at cause offs ends' lines' d' kind a allocated 
   cause_is = a.arrived.0;
   dropped = offs;
   all_dropped = a.arrived.1;
+  settled = a.arrived.4;
   lines_are = a.arrived.3;
   new_is = is ∙ ap (λ (es : List End). record d { ends = es; processes = slice_set d.processes i (with_offs process (offs ++ lines_for pdu cause)) }) (a.arrived.2);
 }

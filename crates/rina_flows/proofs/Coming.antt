@@ -68,5 +68,6 @@ coming_of g now cloud ends ids lines at end its_ids cube line pdu death config i
       copy_is = found.2;
       flies = found.1;
       alive = (let le = found.3 in omega arith);
+      kind = kind;
       names = takes.names;
     }

@@ -1,14 +1,12 @@
 -- A call changes an end with its connection, and one direction: the flows stay tied.
-use Rattle.std.proofs.Common.{◌≡◌, ◌≢◌, ℕ, zero, suc, ◌<◌, List, [], ◌∷◌, length, map, length-set, slice_get, slice_set, Some, refl, sym, ◌∙◌, ap, subst, arith, inl, inr}
-use Rattle.std.proofs.lemmas.Option.{slice_get-map}
+use Rattle.std.proofs.Common.{◌≡◌, ◌≢◌, ℕ, zero, suc, List, [], ◌∷◌, length-set, slice_get, slice_set, Some, refl, sym, ◌∙◌, ap, subst, inl, inr}
 use Rattle.rina_conn.specs.declared.conn.Conn.{Conn}
 use Rattle.rina_data.specs.Dif.{Config}
 use Rattle.rina_data.specs.Ids.{Ids}
-use Rattle.rina_data.proofs.Finding.{there}
 use Rattle.rina_data.proofs.Journals.{IsConst, const_refl, partner_was}
 use Rattle.rina_iface.specs.declared.ends.End.{End}
 use Rattle.rina_iface.specs.declared.state.PortState.TheVariants.{Allocated}
-use Rattle.rina_iface.specs.Journal.{At, IsPartner}
+use Rattle.rina_iface.specs.Journal.{At}
 use Rattle.rina_iface.proofs.Changed.{set_at, slice_get-set_same}
 use Rattle.rina_law.specs.Direction.{Direction}
 use Rattle.rina_flows.specs.Tied.{IsAt, IsInboundAt, IsReceiving, IsSending, IsTied, conns_of, ids_of, inward}

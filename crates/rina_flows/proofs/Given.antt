@@ -9,6 +9,7 @@ use Rattle.rina_base.specs.declared.number.Key.{Key}
 use Rattle.rina_dtp.specs.declared.gap.Lost.{Lost}
 use Rattle.rina_dtp.specs.declared.source.Source.{Source}
 use Rattle.rina_dtp.specs.Fetching.{KeepsNoMore, StandsAsBefore, TakesFirst}
+use Rattle.rina_dtp.proofs.Fetched.{keeps_on, keeps_same}
 use Rattle.rina_dtp.specs.Lost.{given_up, lost_with, missing_before, numbers_from}
 use Rattle.rina_dtp.specs.Receiving.{Receiving, broken_with, drops, ended_with}
 use Rattle.rina_dtp.specs.Source.{key_at}
@@ -112,23 +113,23 @@ ended_with-length source (Some why) (n ∷ ns) = (let le = ended_with-length sou
 -- They are fetched one after the other
 
 pub drained_none : (now : ℕ) (r : Receiving) → IsDrained now r [] r
-drained_none now r = record { taken_is = refl; stands = λ c m j st. st; kept = record { source = refl; kept = λ n i. i }; whole = refl }
+drained_none now r = record { taken_is = refl; stands = λ c m j st. st; kept = keeps_same now r; whole = refl }
 
-pub drained_more : (now : ℕ) (old : Receiving) (taken : List (Key × Cause)) (between : Receiving) (d : Key × Cause) (new : Receiving) → IsDrained now old taken between → TakesFirst (Some d) (drops now between) (drops now new) → StandsAsBefore now between new → new.join.whole ≡ between.join.whole → KeepsNoMore between new → IsDrained now old (taken ++ d ∷ []) new
+pub drained_more : (now : ℕ) (old : Receiving) (taken : List (Key × Cause)) (between : Receiving) (d : Key × Cause) (new : Receiving) → IsDrained now old taken between → TakesFirst (Some d) (drops now between) (drops now new) → StandsAsBefore now between new → new.join.whole ≡ between.join.whole → KeepsNoMore now between new → IsDrained now old (taken ++ d ∷ []) new
 drained_more now old taken between d new h t stands whole kept = record {
   taken_is = h.taken_is ∙ ap (λ (ds : List (Key × Cause)). taken ++ ds) t ∙ sym (append_assoc taken (d ∷ []) (drops now new));
   stands = λ c m j st. stands c m j (h.stands c m j st);
-  kept = record { source = kept.source ∙ h.kept.source; kept = λ n i. h.kept.kept n (kept.kept n i) };
+  kept = keeps_on now old between new h.kept kept;
   whole = whole ∙ h.whole;
 }
 
 -- the last look finds none
-pub drained_last : (now : ℕ) (old : Receiving) (taken : List (Key × Cause)) (between new : Receiving) → IsDrained now old taken between → TakesFirst None (drops now between) (drops now new) → StandsAsBefore now between new → new.join.whole ≡ between.join.whole → KeepsNoMore between new → IsDrained now old taken new × (drops now new ≡ [])
+pub drained_last : (now : ℕ) (old : Receiving) (taken : List (Key × Cause)) (between new : Receiving) → IsDrained now old taken between → TakesFirst None (drops now between) (drops now new) → StandsAsBefore now between new → new.join.whole ≡ between.join.whole → KeepsNoMore now between new → IsDrained now old taken new × (drops now new ≡ [])
 drained_last now old taken between new h t stands whole kept = (
   record {
     taken_is = h.taken_is ∙ ap (λ (ds : List (Key × Cause)). taken ++ ds) (t.0 ∙ sym t.1);
     stands = λ c m j st. stands c m j (h.stands c m j st);
-    kept = record { source = kept.source ∙ h.kept.source; kept = λ n i. h.kept.kept n (kept.kept n i) };
+    kept = keeps_on now old between new h.kept kept;
     whole = whole ∙ h.whole;
   },
   t.1,

@@ -6,8 +6,7 @@ use Rattle.rina_base.specs.declared.cause.Cause.TheVariants as causes
 use Rattle.rina_base.specs.declared.number.Key.{Key}
 use Rattle.rina_conn.specs.declared.conn.Conn.{Conn}
 use Rattle.rina_conn.specs.declared.sending.Sending.{Sending}
-use Rattle.rina_conn.specs.Standing.{AreWaiting}
-use Rattle.rina_conn.specs.Waiting.{Waits}
+use Rattle.rina_data.specs.Counting.{AllOff, off_numbers, times}
 use Rattle.rina_data.specs.Dif.{Config, DifSeen, Process, constants, with_offs, with_process}
 use Rattle.rina_data.specs.Ending.{IsEnded}
 use Rattle.rina_data.specs.Ids.{Ids, flipped}
@@ -16,9 +15,7 @@ use Rattle.rina_data.specs.Standing.{IsJournal}
 use Rattle.rina_data.specs.Timely.{IsForgotten}
 use Rattle.rina_dtp.specs.Receiving.{Receiving, drops, end_cause, ended_with, kept_numbers, lost_in, present_at}
 use Rattle.rina_dtp.specs.Source.{key_at}
-use Rattle.rina_dtp.proofs.Ahead.{fetched_forward}
-use Rattle.rina_dtp.proofs.Came.{kept_none, present_same}
-use Rattle.rina_dtp.proofs.Lasting.{stands_forgotten}
+use Rattle.rina_dtp.proofs.Came.{present_same}
 use Rattle.rina_iface.specs.declared.ends.End.{End}
 use Rattle.rina_iface.specs.declared.state.PortState.{PortState}
 use Rattle.rina_iface.specs.declared.state.PortState.TheVariants.{Allocated}
@@ -34,9 +31,9 @@ use Rattle.rina_flows.specs.Tied.{IsAt, IsInboundAt, IsKeptBy, IsReceiving, IsTi
 use Rattle.rina_flows.proofs.ArrivesAt.{place_of}
 use Rattle.rina_flows.proofs.Given.{drained_all, ended_in}
 use Rattle.rina_flows.proofs.Kept.{drops_ended}
-use Rattle.rina_flows.proofs.Receives.{none_broken}
+use Rattle.rina_flows.proofs.KeptOnce.{cause_gone, ended_all}
+use Rattle.rina_flows.proofs.Ready.{receiving_forgot}
 use Rattle.rina_flows.proofs.Retied.{tied_after}
-use Rattle.rina_flows.proofs.Waiting.{waiting_same}
 
 -- The lines
 
@@ -70,26 +67,17 @@ closed_off c now ids conn line h off i =
     let is : IsHeldOff ids line (causes.NoConnection ids.scep) (record { key = key_at conn.rx.source f.0; cause = causes.NoConnection conn.rx.source.dcep }) = (refl, ap (λ s. s.src) k.source, ap (λ s. s.scep) k.source, k.number, ap (λ s. causes.NoConnection s.dcep) k.source) in
     subst (IsHeldOff ids line (causes.NoConnection ids.scep)) (sym f.2) is
 
--- The tie
+-- and each piece that is held is given up once
 
--- all that was left of a state that is gone was fetched
-pub receiving_forgot : (c : Constants) (now : ℕ) (ids : Ids) (conn new : Conn) (line : Direction) (taken : List (Key × Cause)) → IsReceiving c now ids conn line → is_present c now line.line.receiver ≡ false → IsDrained now conn.rx taken new.rx → drops now new.rx ≡ [] → new.plan ≡ conn.plan → new.given_up ≡ None → new.waiting ≡ conn.waiting → IsReceiving c now ids new (happens c line Forget)
-receiving_forgot c now ids conn new line taken h gone drained none plan given_up waiting =
-    let st = drained.stands c line.line.receiver line.inbox.joiner h.stands in
-    let absent : present_at now new.rx ≡ false = sym (present_same c now line.line.receiver line.inbox.joiner new.rx st) ∙ gone in
-    let nothing = kept_none now new.rx st.not_closed absent none in
-    record {
-      stands = stands_forgotten c now line.line.receiver line.inbox.joiner new.rx st gone;
-      plan = plan ∙ h.plan;
-      last = h.last;
-      whole = drained.whole ∙ h.whole;
-      broken = none_broken now new.rx none;
-      forward = fetched_forward c now line.line.receiver line.inbox.joiner new.rx st none;
-      none_given_up = given_up;
-      waiting = subst (λ (w : Waits). AreWaiting c (happens c line Forget) [] w) (sym waiting) (waiting_same c line (happens c line Forget) [] conn.waiting refl refl refl h.waiting);
-      early = h.early;
-      kept = λ n i. absurd (subst (In n) nothing i);
-    }
+gone_all : (c : Constants) (now : ℕ) (ids : Ids) (conn : Conn) (line : Direction) → IsReceiving c now ids conn line → is_present c now line.line.receiver ≡ false → AllOff line (offs_of (drops now conn.rx))
+gone_all c now ids conn line h gone n =
+    let absent : present_at now conn.rx ≡ false = sym (present_same c now line.line.receiver line.inbox.joiner conn.rx h.stands) ∙ gone in
+    ap (times n) (ended_all now conn.rx _ h.broken (cause_gone now conn.rx h.stands.not_closed absent)) ∙ h.all n
+
+closed_all : (c : Constants) (now : ℕ) (ids : Ids) (conn : Conn) (line : Direction) → IsReceiving c now ids conn line → AllOff line (offs_of (drops now (record conn.rx { closed = true })))
+closed_all c now ids conn line h n = ap (times n) (ended_all now (record conn.rx { closed = true }) _ h.broken refl) ∙ h.all n
+
+-- The tie
 
 -- a state that is gone is forgotten
 pub record HasForgotten (g : Config) (now : ℕ) (ends : List End) (conns : List Conn) (lines : List Direction) (at : ℕ) (end : End) (offs : List Off) (new : Conn) : Type 0 where
@@ -119,6 +107,7 @@ forgets_at g now ends conns lines at from end conn new line taken journal tied i
         inbound = inbound;
         gone = ap (λ n. is_present c n line.line.receiver) clock ∙ gone;
         offs_are = λ off i. gone_off c now (ids_of conn) conn line h gone off (subst (λ (ds : List (Key × Cause)). In off (offs_of ds)) (sym all) i);
+        all = λ n. ap (λ (ds : List (Key × Cause)). times n (off_numbers (offs_of ds))) (sym all) ∙ gone_all c now (ids_of conn) conn line h gone n;
         lines_are = refl;
       };
       tied = tied_after g now ends conns lines at from end end conn new line line' journal tied (record { is_at = is_at; inbound = inbound; const = record { flow = refl; role = refl; port = refl; app = refl; peer = refl; cube = refl }; sending = sending; sender = refl; clock = refl }) (λ still. subst R (sym sending) (receiving_forgot c now (ids_of conn) conn new line taken h gone drained none plan given_up waiting));
@@ -144,6 +133,7 @@ ends_at g now ends conns lines at from end conn new line state taken journal tie
         moves = moves;
         stops = stops;
         offs_are = λ off m l i inb. closed_off (inward g conn) now (ids_of conn) conn l (tied.receives at m end conn l is_at allocated inb) off (subst (λ (ds : List (Key × Cause)). In off (offs_of ds)) (sym all) i);
+        all = λ m l inb n. ap (λ (ds : List (Key × Cause)). times n (off_numbers (offs_of ds))) (sym all) ∙ closed_all (inward g conn) now (ids_of conn) conn l (tied.receives at m end conn l is_at allocated inb) n;
         ends_are = refl;
       };
       tied = subst (λ (ls : List Direction). IsTied g now (slice_set ends at end') (slice_set conns at new) ls) (slice_set-same lines from line inbound.is_line) again;
@@ -165,6 +155,7 @@ is_forgotten d lines at i process offs lines' d' f at_home is_process is = recor
   gone = f.gone;
   dropped = offs;
   all_dropped = f.offs_are;
+  all = f.all;
   lines_are = f.lines_are;
   new_is = is;
 }
@@ -183,5 +174,6 @@ is_ended d lines at i state process offs ends' d' e at_home is_process is = reco
   is_process = is_process;
   dropped = offs;
   all_dropped = λ off from line here inb. e.offs_are off from line here (record { partner = inb.partner; is_partner = inb.is_partner; partners = inb.partners; is_line = inb.is_line });
+  all = λ from line inb. e.all from line (record { partner = inb.partner; is_partner = inb.is_partner; partners = inb.partners; is_line = inb.is_line });
   new_is = is ∙ ap (λ (es : List End). record d { ends = es; processes = slice_set d.processes i (with_offs process offs) }) e.ends_are;
 }

@@ -40,7 +40,7 @@ run_count j (Some run) is = (let e = run_length run in omega arith)
 
 -- The numbers of held pieces
 
-held_of : (a : Accepted) (m : Receiver) (n : ℕ) → Knows a m → In n (held_numbers a) → In n (numbers m.held)
+pub held_of : (a : Accepted) (m : Receiver) (n : ℕ) → Knows a m → In n (held_numbers a) → In n (numbers m.held)
 held_of (Datagram r) m n k i = absurd i
 held_of (Loose h) m n k i = absurd i
 held_of (Reliable s) m n k i = has-in n (numbers m.held) ((k.1).same n ∙ filter_in (holds s.places) _ n i)

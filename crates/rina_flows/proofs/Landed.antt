@@ -1,5 +1,5 @@
 -- A piece comes to the flows of a DIF.
-use Rattle.std.proofs.Common.{◌≡◌, ℕ, ◌+◌, ◌-◌, ◌^◌, ◌<◌, ◌≤◌, List, [], ◌∷◌, ◌++◌, length, length-append, ltb, map, min, slice_get, slice_set, Option, Some, None, Result, Ok, Err, refl, sym, ◌∙◌, ap, subst, arith}
+use Rattle.std.proofs.Common.{◌≡◌, ℕ, ◌+◌, ◌-◌, ◌^◌, ◌<◌, ◌≤◌, List, [], ◌++◌, length, length-append, ltb, map, min, slice_get, slice_set, Option, Some, Result, Ok, Err, sym, ◌∙◌, ap, subst, arith}
 use Rattle.rina_account.specs.declared.ledger.Off.{Off}
 use Rattle.rina_base.specs.declared.cause.Cause.{Cause}
 use Rattle.rina_base.specs.declared.memory.Memory.{Memory}
@@ -8,7 +8,6 @@ use Rattle.rina_base.specs.declared.pdu.Pdu.{Pdu}
 use Rattle.rina_conn.specs.declared.conn.Conn.{Conn}
 use Rattle.rina_conn.specs.declared.sending.Sending.{Sending}
 use Rattle.rina_data.specs.Cloud.{Cloud, Everywhere}
-use Rattle.rina_data.specs.Dif.{Config, Process}
 use Rattle.rina_data.specs.Ids.{Ids, IsFrom, flipped}
 use Rattle.rina_data.specs.Incoming.{lines_for}
 use Rattle.rina_data.proofs.Finding.{there}
@@ -19,16 +18,14 @@ use Rattle.rina_dtp.specs.Stands.{IsAhead, IsRow, joined_by}
 use Rattle.rina_iface.specs.declared.ends.End.{End}
 use Rattle.rina_iface.specs.declared.state.PortState.TheVariants.{Allocated}
 use Rattle.rina_iface.specs.Journal.{At}
-use Rattle.rina_iface.specs.Seen.{Seen}
 use Rattle.rina_iface.proofs.Changed.{slice_set-same}
 use Rattle.rina_law.specs.declared.entry.Entry.{Entry}
 use Rattle.rina_law.specs.Constants.{Constants}
 use Rattle.rina_law.specs.Direction.{Direction, has_room}
 use Rattle.rina_law.specs.Pdus.{piece_in}
-use Rattle.rina_law.specs.Pieces.{Sdu}
 use Rattle.rina_law.specs.Receiver.{is_present}
 use Rattle.rina_flows.specs.Arriving.{IsComing, IsDrained, cause_of, entry_from, with_delivered}
-use Rattle.rina_flows.specs.Delivering.{ArrivesIn, HasComeIn, IsLanding, Lands, Receives}
+use Rattle.rina_flows.specs.Delivering.{ArrivesIn, IsLanding, Lands, Receives}
 use Rattle.rina_flows.specs.Rows.{ArrivesAt}
 use Rattle.rina_flows.specs.Tied.{IsAt, IsReceiving, IsTied, conns_of, ids_by, ids_of, inward}
 use Rattle.rina_flows.proofs.ArrivesAt.{arrives_at, is_coming, the_flow}

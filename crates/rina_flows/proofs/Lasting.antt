@@ -1,5 +1,5 @@
 -- Flows stay tied as time goes on, and new connections are tied to directions that start.
-use Rattle.std.proofs.Common.{◌≡◌, ◌≢◌, ℕ, ◌+◌, ◌-◌, ◌*◌, ◌<◌, ◌≤◌, List, [], map, false, Some, None, refl, sym, ◌∙◌, ap, subst, arith}
+use Rattle.std.proofs.Common.{◌≡◌, ◌≢◌, ℕ, ◌+◌, ◌-◌, ◌*◌, ◌≤◌, List, [], map, false, Some, None, refl, sym, ◌∙◌, ap, subst, arith}
 use Rattle.std.proofs.lemmas.List.{length-map}
 use Rattle.rina_conn.specs.declared.conn.Conn.{Conn}
 use Rattle.rina_conn.specs.declared.form.Peer.{Peer}
@@ -8,6 +8,7 @@ use Rattle.rina_conn.specs.Standing.{AreWaiting}
 use Rattle.rina_conn.specs.Waiting.{Waits}
 use Rattle.rina_cube.specs.declared.Cube.{Cube}
 use Rattle.rina_cube.specs.Cubes.{delta_of}
+use Rattle.rina_data.specs.Counting.{times}
 use Rattle.rina_data.specs.Dif.{Config, cube_by, greatest, piece_size}
 use Rattle.rina_data.specs.Ids.{Ids}
 use Rattle.rina_data.specs.Lifting.{ticked}
@@ -46,6 +47,8 @@ receiving_later c now later ids conn line le h = record {
   waiting = waiting_same c line (ticked (later - now) line) [] conn.waiting refl refl refl h.waiting;
   early = h.early;
   kept = λ n i. (let k = h.kept n i in record { made = k.made; source = k.source; number = k.number });
+  once = h.once;
+  all = h.all;
 }
 
 pub tied_later : (g : Config) (now later : ℕ) (ends : List End) (conns : List Conn) (lines : List Direction) → now ≤ later → IsTied g now ends conns lines → IsTied g later ends conns (map (ticked (later - now)) lines)
@@ -85,6 +88,8 @@ receiving_new g now cube peer max conn new =
       waiting = subst (λ (w : Waits). AreWaiting c (ticked now (start c)) [] w) (sym (new.none_waits ∙ ap (λ (x : Cube). record { room = 2 * x.window; earlier = 0; firsts = [] }) (sym new.cube_is))) (record { room = refl; earlier = refl; firsts = refl; within = omega arith; few = (let one = st.of.cube.least_window in omega arith) });
       early = (let one = st.of.cube.least_window in omega arith);
       kept = λ n i. absurd (new_kept c now conn.rx n st none i);
+      once = record { once = λ n. omega arith; only = λ other. refl };
+      all = λ n. ap (times n) none;
     }
 
 pub sending_new : (g : Config) (now : ℕ) (cube : Cube) (peer : Peer) (conn : Conn) → IsNewConn cube (piece_size g) (greatest g) peer conn → cube_by cube.id g.cubes ≡ Some cube → IsSending g now conn (ticked now (start (outward g conn)))

@@ -1,39 +1,35 @@
 -- An SDU that is offered.
-use Rattle.std.proofs.Common.{◌≡◌, ◌≢◌, ℕ, ◌<◌, ◌⊎◌, Bool, true, false, List, [], ◌∷◌, ◌++◌, length, map, slice_get, slice_set, slice_index_or, Result, Ok, Err, Some, None, Option, refl, sym, ◌∙◌, ap, subst, inl, inr}
+use Rattle.std.proofs.Common.{◌≡◌, ◌≢◌, ℕ, ◌<◌, Bool, true, false, List, [], ◌∷◌, ◌++◌, length, map, slice_get, slice_set, slice_index_or, Result, Ok, Err, Some, refl, sym, ◌∙◌, ap, subst, inl, inr}
 use Rattle.std.proofs.lemmas.Option.{get_or_from_slice_get}
-use Rattle.rina_base.specs.declared.pdu.Pdu.{Pdu}
 use Rattle.rina_base.specs.declared.number.Num.{Num}
 use Rattle.rina_conn.specs.declared.conn.Conn.{Conn}
 use Rattle.rina_conn.specs.declared.form.Form.{Form}
 use Rattle.rina_conn.specs.declared.made.Made.{Made}
 use Rattle.rina_conn.specs.declared.made.OfferError.{OfferError}
-use Rattle.rina_conn.specs.declared.made.OfferError.TheVariants.{Memory, TooLong, WindowShut, NumbersSpent}
+use Rattle.rina_conn.specs.declared.made.OfferError.TheVariants.{Memory}
 use Rattle.rina_conn.specs.Sending as send
 use Rattle.rina_conn.specs.Sending.{IsMade, IsSender}
 use Rattle.rina_data.specs.Dif.{Config, constants, cube_by}
-use Rattle.rina_data.specs.Ids.{Ids, flipped, pdu_of_piece}
-use Rattle.rina_data.specs.Sending.{offered, offered_entry, offered_pieces}
-use Rattle.rina_data.specs.Standing.{IsConn}
+use Rattle.rina_data.specs.Ids.{pdu_of_piece}
+use Rattle.rina_data.specs.Sending.{offered, offered_entry}
 use Rattle.rina_data.proofs.Finding.{beside, there}
 use Rattle.rina_data.proofs.Own.{not_itself}
 use Rattle.rina_iface.specs.declared.ends.End.{End}
-use Rattle.rina_iface.specs.declared.state.PortState.TheVariants.{Allocated}
 use Rattle.rina_iface.specs.Ends.{with_sent}
 use Rattle.rina_iface.specs.Journal.{At, IsPartner}
 use Rattle.rina_iface.proofs.Changed.{set_at, slice_get-set_same, slice_set-same}
 use Rattle.rina_law.specs.declared.entry.Entry.{Entry}
 use Rattle.rina_law.specs.Constants.{Constants}
-use Rattle.rina_law.specs.Direction.{Direction, offer_refusal}
+use Rattle.rina_law.specs.Direction.{Direction}
 use Rattle.rina_law.specs.Line.{Line, begun, offer, put, put_all}
 use Rattle.rina_law.specs.Pieces.{Part, join}
-use Rattle.rina_law.specs.Receiver.{Receiver}
 use Rattle.rina_law.specs.Sender.{Sender, is_absent, pieces_for, refusal, sender_with_all, started}
 use Rattle.rina_law.proofs.Making.{offered_clock, offered_sender}
 use Rattle.rina_dtcp.specs.Rows.{ready}
 use Rattle.rina_flows.specs.declared.flows.Flows.{Flows}
-use Rattle.rina_flows.specs.Calls.{Accepts, AreTied, Becomes, IsOffer, IsRefused, Offered, Offers, Refuses}
+use Rattle.rina_flows.specs.Calls.{Becomes, IsOffer, IsRefused, Offered, Offers}
 use Rattle.rina_flows.specs.Rows.{OffersAt}
-use Rattle.rina_flows.specs.Tied.{IsAt, IsInboundAt, IsReceiving, IsSending, IsTied, conns_of, ids_by, ids_of, inward, outward}
+use Rattle.rina_flows.specs.Tied.{IsAt, IsInboundAt, IsSending, IsTied, conns_of, ids_by, ids_of, inward, outward}
 use Rattle.rina_flows.proofs.Framed.{ids_at, put_back, same_ids, tied_set}
 use Rattle.rina_flows.proofs.Restated.{receiving_conn, receiving_same}
 

@@ -1,5 +1,5 @@
 -- An SDU that is passed.
-use Rattle.std.proofs.Common.{◌≡◌, ◌≢◌, ℕ, ◌+◌, ◌<◌, List, [], length, slice_get, slice_set, Option, Some, refl, sym, ◌∙◌, ap, subst, arith, inl, inr}
+use Rattle.std.proofs.Common.{◌≡◌, ℕ, ◌<◌, List, length, slice_get, slice_set, Option, Some, refl, sym, ◌∙◌, ap, subst, arith, inl, inr}
 use Rattle.rina_base.specs.declared.pdu.Pdu.{Pdu}
 use Rattle.rina_conn.specs.declared.conn.Conn.{Conn}
 use Rattle.rina_conn.specs.declared.form.Form.{Form}
@@ -8,7 +8,7 @@ use Rattle.rina_conn.specs.Standing.{AreWaiting, IsReceiver}
 use Rattle.rina_data.specs.Cloud.{Cloud, Everywhere}
 use Rattle.rina_data.specs.Dif.{Config, constants}
 use Rattle.rina_data.specs.Ids.{flipped}
-use Rattle.rina_data.specs.Standing.{IsConn, IsJournal, IsOwn}
+use Rattle.rina_data.specs.Standing.{IsConn, IsJournal}
 use Rattle.rina_data.proofs.Finding.{beside, there}
 use Rattle.rina_data.proofs.Own.{one_partner, partner_back}
 use Rattle.rina_dtp.specs.Stands.{Stands}
@@ -21,7 +21,6 @@ use Rattle.rina_law.specs.declared.entry.Entry.{Entry}
 use Rattle.rina_law.specs.Direction.{Direction, Pass, happens}
 use Rattle.rina_law.specs.Pieces.{Sdu}
 use Rattle.rina_flows.specs.Calls.{Becomes, IsPass, PassesOne}
-use Rattle.rina_flows.specs.Rows.{PassedAt}
 use Rattle.rina_flows.specs.Tied.{IsAt, IsInboundAt, IsReceiving, IsTied, conns_of, ids_by, ids_of, inward}
 use Rattle.rina_flows.proofs.Coming.{inflow}
 use Rattle.rina_flows.proofs.Framed.{ids_at, same_ids, tied_set}

@@ -1,9 +1,7 @@
 -- A connection that receives a piece: its steps, and what they come to.
-use Rattle.std.proofs.Common.{◌≡◌, ℕ, ◌+◌, ◌≤◌, List, [], ◌∷◌, ◌++◌, length, length-append, append_assoc, map, None, refl, sym, ◌∙◌, ap, subst, arith}
+use Rattle.std.proofs.Common.{◌≡◌, ℕ, ◌+◌, ◌≤◌, List, [], ◌++◌, length, length-append, append_assoc, map, None, refl, sym, ◌∙◌, ap, subst, arith}
 use Rattle.std.proofs.lemmas.List.{length-map}
 use Rattle.rina_account.specs.declared.ledger.Off.{Off}
-use Rattle.rina_base.specs.declared.cause.Cause.{Cause}
-use Rattle.rina_base.specs.declared.number.Key.{Key}
 use Rattle.rina_base.specs.declared.pdu.Pdu.{Pdu}
 use Rattle.rina_conn.specs.declared.conn.Conn.{Conn}
 use Rattle.rina_conn.specs.declared.sending.Sending.{Sending}
@@ -49,6 +47,7 @@ received now pdu unpassed old bodies got got_room lines lines_room result new go
         plan_before = refl;
         waiting_before = refl;
         sending_before = refl;
+        given_up_before = refl;
         heard = r.heard;
         row = r.row;
         marks = r.marks;

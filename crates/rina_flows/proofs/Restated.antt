@@ -1,5 +1,5 @@
 -- What stays of the tie where a direction, or a connection, stays in what the tie speaks of.
-use Rattle.std.proofs.Common.{◌≡◌, ℕ, ◌+◌, ◌-◌, ◌<◌, ◌≤◌, ◌⊎◌, List, [], slice_get, Option, Some, refl, sym, ◌∙◌, ap, subst, arith}
+use Rattle.std.proofs.Common.{◌≡◌, ℕ, ◌+◌, ◌-◌, ◌<◌, ◌≤◌, ◌⊎◌, List, [], ◌++◌, Option, Some, sym, ◌∙◌, ap, subst, arith}
 use Rattle.rina_conn.specs.declared.conn.Conn.{Conn}
 use Rattle.rina_conn.specs.declared.form.Form.{Form}
 use Rattle.rina_conn.specs.declared.sending.Sending.{Sending}
@@ -7,6 +7,7 @@ use Rattle.rina_conn.specs.Conns.{HasNoLast}
 use Rattle.rina_conn.specs.Sending.{IsSender}
 use Rattle.rina_conn.specs.Standing.{AreWaiting, IsReceiver}
 use Rattle.rina_conn.specs.Waiting.{Waits}
+use Rattle.rina_data.specs.Counting.{joiner_numbers, times}
 use Rattle.rina_data.specs.Dif.{Config, constants, cube_by}
 use Rattle.rina_data.specs.Ids.{Ids, flipped}
 use Rattle.rina_dtcp.specs.Plans.{Plan, IsPlanOf}
@@ -18,7 +19,7 @@ use Rattle.rina_law.specs.Direction.{Direction, Inbox, Pass, happens}
 use Rattle.rina_law.specs.Lists.{In}
 use Rattle.rina_law.specs.Pieces.{Joiner, Sdu}
 use Rattle.rina_law.specs.Receiver.{Receiver, numbers}
-use Rattle.rina_flows.specs.Tied.{IsKeptBy, IsReceiving, IsSending, ids_by, ids_of, inward, outward}
+use Rattle.rina_flows.specs.Tied.{HoldsOnce, IsKeptBy, IsReceiving, IsSending, ids_by, ids_of, inward, outward}
 use Rattle.rina_flows.proofs.Waiting.{waiting_same}
 
 KeptAs : Receiver → Joiner → ℕ → Type 0
@@ -50,6 +51,11 @@ receiving_same c now ids k line line' er ei ep es em h =
         source = q.source;
         number = subst (L n) (sym ej) (subst (K n) (sym er) q.number);
       });
+      once = subst (HoldsOnce c.cube.kind) (sym er) h.once;
+      all = λ n.
+          let J : Joiner → Type 0 = λ j. times n (kept_numbers k.rx) ≡ times n (joiner_numbers j ++ numbers line'.line.receiver.held) in
+          let M : Receiver → Type 0 = λ m. times n (kept_numbers k.rx) ≡ times n (joiner_numbers line.inbox.joiner ++ numbers m.held) in
+          subst J (sym ej) (subst M (sym er) (h.all n));
     }
 
 -- the connection stays in what it receives
@@ -71,6 +77,8 @@ receiving_conn g now k k' line form rx plan given_up waiting h =
       waiting = subst (λ (w : Waits). AreWaiting (c k'.sending.form) line [] w) (sym waiting) (subst (λ (f : Form). AreWaiting (c f) line [] k.waiting) (sym form) h.waiting);
       early = subst (λ (f : Form). line.state_from - line.passed < f.cube.window) (sym form) h.early;
       kept = subst (λ (r : Receiving). (n : ℕ) → In n (kept_numbers r) → IsKeptBy (ids_of k') line r n) (sym rx) kept;
+      once = subst (λ (f : Form). HoldsOnce f.cube.kind line.line.receiver) (sym form) h.once;
+      all = λ n. ap (λ (r : Receiving). times n (kept_numbers r)) rx ∙ h.all n;
     }
 
 -- the direction stays in what its sender sees
@@ -105,4 +113,6 @@ receiving_passed c now ids k k' line rx given_up is h =
       waiting = subst (λ (ws : List Sdu). AreWaiting c (happens c line Pass) ws k'.waiting) whole is.waiting;
       early = (let early = h.early in omega arith);
       kept = subst (λ (r : Receiving). (n : ℕ) → In n (kept_numbers r) → IsKeptBy ids (happens c line Pass) r n) (sym rx) kept;
+      once = h.once;
+      all = λ n. ap (λ (r : Receiving). times n (kept_numbers r)) rx ∙ h.all n;
     }

@@ -1,5 +1,5 @@
 -- What a connection holds is given up with its state, or with its end.
-use Rattle.std.proofs.Common.{◌≡◌, ◌≢◌, ℕ, ◌+◌, ◌<◌, ◌≤◌, true, false, List, [], ◌∷◌, ◌++◌, length, slice_get, slice_set, Ok, Some, None, refl, sym, ◌∙◌, ap, subst, arith}
+use Rattle.std.proofs.Common.{◌≡◌, ℕ, ◌+◌, ◌≤◌, true, false, List, ◌++◌, length, slice_get, slice_set, Ok, Some, refl, sym, ◌∙◌, ap, subst, arith}
 use Rattle.rina_account.specs.declared.ledger.Off.{Off}
 use Rattle.rina_base.specs.declared.cause.Cause.{Cause}
 use Rattle.rina_base.specs.declared.number.Key.{Key}
@@ -8,7 +8,7 @@ use Rattle.rina_data.specs.Dif.{Config}
 use Rattle.rina_data.specs.Standing.{IsJournal}
 use Rattle.rina_data.proofs.Finding.{beside}
 use Rattle.rina_data.proofs.Own.{partner_back}
-use Rattle.rina_dtp.specs.Receiving.{Receiving, drops, kept_numbers, present_at}
+use Rattle.rina_dtp.specs.Receiving.{drops, kept_numbers, present_at}
 use Rattle.rina_iface.specs.declared.ends.End.{End}
 use Rattle.rina_iface.specs.declared.state.PortState.{PortState}
 use Rattle.rina_iface.specs.declared.state.PortState.TheVariants.{Allocated}

@@ -1,5 +1,5 @@
 -- Which end takes a PDU.
-use Rattle.std.proofs.Common.{◌≡◌, ℕ, ◌+◌, ◌<◌, ◌≤◌, zero, suc, List, [], ◌∷◌, length, map, Bool, true, false, IsTrue, ◌↔◌, slice_get, Some, None, Option, refl, sym, ◌∙◌, ap, subst, arith, inl, inr}
+use Rattle.std.proofs.Common.{◌≡◌, ℕ, ◌+◌, ◌≤◌, zero, suc, List, [], ◌∷◌, length, Bool, false, IsTrue, ◌↔◌, slice_get, Some, None, Option, refl, sym, subst, arith, inl, inr}
 use Rattle.std.proofs.lemmas.Bool.{false≢true}
 use Rattle.std.proofs.lemmas.Bool.Decides.{eqb_tells}
 use Rattle.std.proofs.lemmas.Option.{slice_get_within}
@@ -8,8 +8,7 @@ use Rattle.rina_conn.specs.declared.conn.Conn.{Conn}
 use Rattle.rina_data.specs.Ids.{Ids, IsFrom, flipped}
 use Rattle.rina_iface.specs.declared.ends.End.{End}
 use Rattle.rina_flows.specs.Calls.{NoneBefore, TakenBy, Takes, TakesHere}
-use Rattle.rina_flows.specs.Rows.{TakesAt}
-use Rattle.rina_flows.specs.Tied.{IsAt, conns_of, ids_of}
+use Rattle.rina_flows.specs.Tied.{conns_of, ids_of}
 use Rattle.rina_flows.proofs.Framed.{ids_at}
 
 same_at : {X : Type 0} → (o : Option X) (a b : X) → o ≡ Some a → o ≡ Some b → a ≡ b

@@ -1,5 +1,5 @@
 -- What is due at a connection, and what is noted once it was done.
-use Rattle.std.proofs.Common.{◌≡◌, ◌≢◌, ℕ, ◌<◌, Bool, true, false, cond, List, [], length, slice_get, slice_set, Option, Some, None, IsTrue, is_some, option_copied, option_map, refl, sym, ◌∙◌, ap, subst, inl, inr}
+use Rattle.std.proofs.Common.{◌≡◌, ℕ, ◌<◌, Bool, true, false, cond, List, length, slice_get, slice_set, Option, Some, None, IsTrue, is_some, option_copied, option_map, refl, sym, ◌∙◌, ap, subst, inl, inr}
 use Rattle.std.specs.Prelude.{◌↔◌}
 use Rattle.std.proofs.lemmas.Bool.{false≢true}
 use Rattle.std.specs.Borrow.{Bor}
@@ -53,6 +53,8 @@ receiving_acknowledged c now ids k line h = record {
   waiting = record { room = h.waiting.room; earlier = h.waiting.earlier; firsts = h.waiting.firsts; within = h.waiting.within; few = h.waiting.few };
   early = h.early;
   kept = λ n i. (let q = h.kept n i in record { made = q.made; source = q.source; number = q.number });
+  once = h.once;
+  all = h.all;
 }
 
 pub acknowledges_from : (at : ℕ) (ends : List End) (conns conns' : List Conn) → Becomes IsAcknowledged at conns conns' → AcknowledgesIn at (flows_of ends conns) (flows_of ends conns')

@@ -4,6 +4,7 @@ use Rattle.rina_account.specs.declared.ledger.Off.{Off}
 use Rattle.rina_base.specs.declared.cause.Cause.{Cause}
 use Rattle.rina_base.specs.declared.number.Key.{Key}
 use Rattle.rina_base.specs.declared.pdu.Pdu.{Pdu}
+use Rattle.rina_base.specs.declared.pdu.PduKind.TheVariants.{Piece as APiece}
 use Rattle.rina_conn.specs.declared.conn.Conn.{Conn}
 use Rattle.rina_conn.specs.Conns.{Marks}
 use Rattle.rina_conn.specs.Standing.{Arrives}
@@ -49,7 +50,7 @@ with_delivered ids now whole end = record end { got = end.got ++ map (entry_from
 pub record IsDrained (now : ℕ) (old : Receiving) (taken : List (Key × Cause)) (new : Receiving) : Type 0 where
   pub taken_is : drops now old ≡ taken ++ drops now new
   pub stands : StandsAsBefore now old new
-  pub kept : KeepsNoMore old new
+  pub kept : KeepsNoMore now old new
   pub whole : new.join.whole ≡ old.join.whole
 
 -- the SDUs that became whole were fetched
@@ -71,6 +72,7 @@ pub record IsArrival (now : ℕ) (pdu : Pdu) (unpassed : ℕ) (old : Conn) (resu
   pub plan_before : ready.plan ≡ old.plan
   pub waiting_before : ready.waiting ≡ old.waiting
   pub sending_before : ready.sending ≡ old.sending
+  pub given_up_before : ready.given_up ≡ old.given_up
   pub heard : Conn
   pub row : IsRow now pdu unpassed ready.rx result heard.rx
   pub marks : Marks now pdu unpassed ready result heard
@@ -94,4 +96,5 @@ pub record IsComing (c : Constants) (ids : Ids) (line : Direction) (pdu : Pdu) :
   pub copy_is : copy.pdu ≡ piece_in pdu
   pub flies : In copy line.line.pieces
   pub alive : line.line.clock ≤ copy.death
+  pub kind : pdu.kind ≡ APiece
   pub names : IsFrom (flipped ids) pdu

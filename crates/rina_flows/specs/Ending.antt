@@ -5,6 +5,7 @@ use Rattle.rina_base.specs.declared.cause.Cause.{Cause}
 use Rattle.rina_base.specs.declared.cause.Cause.TheVariants as causes
 use Rattle.rina_base.specs.declared.pdu.PduKind.TheVariants.{Piece as APiece}
 use Rattle.rina_cube.specs.declared.Cube.{Cube}
+use Rattle.rina_data.specs.Counting.{AllOff}
 use Rattle.rina_data.specs.Dif.{Config, constants}
 use Rattle.rina_data.specs.Ids.{Ids, flipped}
 use Rattle.rina_data.specs.Incoming.{IsKeptNumber}
@@ -36,6 +37,7 @@ pub record ForgetsAt (g : Config) (ends : List End) (ids : List Ids) (lines : Li
   pub inbound : IsInboundAt ends lines end from line
   pub gone : is_present (constants g cube (flipped its_ids)) line.line.clock line.line.receiver ≡ false
   pub offs_are : (off : Off) → In off offs → IsHeldOff its_ids line (causes.StateGone line.line.receiver.last_in) off
+  pub all : AllOff line offs
   pub lines_are : lines' ≡ slice_set lines from (happens (constants g cube (flipped its_ids)) line Forget)
 
 -- an allocated end is allocated no more, and gives up what its connection holds
@@ -47,4 +49,5 @@ pub record EndsAt (ends : List End) (ids : List Ids) (lines : List Direction) (a
   pub moves : Moves end.state state
   pub stops : state ≢ Allocated
   pub offs_are : (off : Off) (from : ℕ) (line : Direction) → In off offs → IsInboundAt ends lines end from line → IsHeldOff its_ids line (causes.NoConnection its_ids.scep) off
+  pub all : (from : ℕ) (line : Direction) → IsInboundAt ends lines end from line → AllOff line offs
   pub ends_are : ends' ≡ slice_set ends at (record end { state = state })

@@ -1,5 +1,5 @@
 -- What each call makes of the ends, and of the directions behind them.
-use Rattle.std.specs.Prelude.{◌≡◌, ℕ, ◌<◌, List, length, map, slice_get, slice_set, Option, Some, None}
+use Rattle.std.specs.Prelude.{◌≡◌, ℕ, ◌<◌, List, ◌++◌, length, map, slice_get, slice_set, Option, Some, None}
 use Rattle.rina_account.specs.declared.ledger.Off.{Off}
 use Rattle.rina_base.specs.declared.cause.Cause.{Cause}
 use Rattle.rina_base.specs.declared.number.Num.{Num}
@@ -7,7 +7,7 @@ use Rattle.rina_base.specs.declared.pdu.Pdu.{Pdu}
 use Rattle.rina_cube.specs.declared.Cube.{Cube}
 use Rattle.rina_data.specs.Dif.{Config, constants, cube_by}
 use Rattle.rina_data.specs.Ids.{Ids, IsFrom, flipped, pdu_of_piece}
-use Rattle.rina_data.specs.Incoming.{IsDropped, arrived, cause_for}
+use Rattle.rina_data.specs.Incoming.{AllSettled, IsDropped, arrived, cause_for, lines_for}
 use Rattle.rina_data.specs.Sending.{offered, offered_entry, offered_pieces}
 use Rattle.rina_data.specs.Standing.{IsConn}
 use Rattle.rina_iface.specs.declared.ends.End.{End}
@@ -68,11 +68,12 @@ pub record TakesAt (ends : List End) (ids : List Ids) (pdu : Pdu) (at : ℕ) (en
   pub names : IsFrom (flipped its_ids) pdu
 
 -- what comes of a piece: the cause for which it is written off, where it is; the lines of pieces that were held and are
--- given up; and the SDUs that are whole are delivered
+-- given up; the SDUs that are whole are delivered; and each piece is written off, held or delivered once
 abbrev pub IsArrivedBy : Constants → Ids → ℕ → End → ℕ → Direction → Pdu → Option Cause → List Off → List End → List Direction → List End → List Direction → Type 0
 IsArrivedBy c ids at end from line pdu cause offs ends lines ends' lines' =
     (cause ≡ cause_for c (piece_in pdu) line) × ((off : Off) → In off offs → IsDropped c (piece_in pdu) line ids off) ×
-    (ends' ≡ slice_set ends at (record end { got = (arrived c (piece_in pdu) line).inbox.got })) × (lines' ≡ slice_set lines from (arrived c (piece_in pdu) line))
+    (ends' ≡ slice_set ends at (record end { got = (arrived c (piece_in pdu) line).inbox.got })) × (lines' ≡ slice_set lines from (arrived c (piece_in pdu) line)) ×
+    AllSettled c (piece_in pdu) line (offs ++ lines_for pdu cause)
 
 -- a piece comes to the connection at a place. `offs` are the lines before its own
 pub record ArrivesAt (g : Config) (ends : List End) (ids : List Ids) (lines : List Direction) (at : ℕ) (pdu : Pdu) (cause : Option Cause) (offs : List Off) (ends' : List End) (lines' : List Direction) : Type 0 where

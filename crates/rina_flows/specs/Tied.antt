@@ -1,10 +1,13 @@
 -- What ties the connections of a DIF to the directions of the law, one at the place of each end.
-use Rattle.std.specs.Prelude.{◌≡◌, ℕ, ◌-◌, ◌<◌, true, List, [], length, map, slice_get, Some, None}
+use Rattle.std.specs.Prelude.{◌≡◌, ◌≢◌, ℕ, ◌-◌, ◌<◌, ◌≤◌, true, List, [], length, map, slice_get, Some, None}
 use Rattle.rina_conn.specs.declared.conn.Conn.{Conn}
 use Rattle.rina_conn.specs.declared.form.Peer.{Peer}
 use Rattle.rina_conn.specs.Conns.{HasNoLast}
 use Rattle.rina_conn.specs.Sending.{IsSender}
 use Rattle.rina_conn.specs.Standing.{AreWaiting}
+use Rattle.rina_cube.specs.declared.Kind.{Kind}
+use Rattle.rina_cube.specs.declared.Kind.TheVariants.{Reliable}
+use Rattle.rina_data.specs.Counting.{held_numbers, times}
 use Rattle.rina_data.specs.Dif.{Config, constants, cube_by}
 use Rattle.rina_data.specs.Ids.{Ids, flipped}
 use Rattle.rina_data.specs.Incoming.{IsKeptNumber}
@@ -19,6 +22,7 @@ use Rattle.rina_iface.specs.Journal.{At, IsPartner}
 use Rattle.rina_law.specs.Constants.{Constants}
 use Rattle.rina_law.specs.Direction.{Direction}
 use Rattle.rina_law.specs.Lists.{In}
+use Rattle.rina_law.specs.Receiver.{Receiver, numbers}
 
 -- The names of a connection
 
@@ -71,9 +75,14 @@ pub record IsKeptBy (ids : Ids) (line : Direction) (r : Receiving) (n : ℕ) : T
   pub source : r.source ≡ source_from ids
   pub number : IsKeptNumber line n
 
+-- a receiver holds each number beside the joiner once at most, and only on a reliable flow
+pub record HoldsOnce (kind : Kind) (m : Receiver) : Type 0 where
+  pub once : (n : ℕ) → times n (numbers m.held) ≤ 1
+  pub only : kind ≢ Reliable → m.held ≡ []
+
 -- the connection stands for the receiver and the joiner of a direction with these constants. All that came is fetched,
 -- but for what is held of a state that has ended. It has noted which SDUs wait to be passed; those of earlier states are
--- fewer than a window
+-- fewer than a window. It keeps exactly the pieces that the direction holds, each once
 pub record IsReceiving (c : Constants) (now : ℕ) (ids : Ids) (conn : Conn) (line : Direction) : Type 0 where
   pub stands : Stands c now line.line.receiver line.inbox.joiner conn.rx
   pub plan : IsPlanOf c line.mark conn.plan
@@ -85,6 +94,8 @@ pub record IsReceiving (c : Constants) (now : ℕ) (ids : Ids) (conn : Conn) (li
   pub waiting : AreWaiting c line [] conn.waiting
   pub early : line.state_from - line.passed < c.cube.window
   pub kept : (n : ℕ) → In n (kept_numbers conn.rx) → IsKeptBy ids line conn.rx n
+  pub once : HoldsOnce c.cube.kind line.line.receiver
+  pub all : (n : ℕ) → times n (kept_numbers conn.rx) ≡ times n (held_numbers line)
 
 -- the connection of each place stands for the sender of the direction there, and, while its end is allocated, for the
 -- receiver of the direction from its partner

@@ -1,4 +1,3 @@
-use Rattle.std.proofs.Common.{refl}
 use Rattle.rina_flows.specs.Timely.{IsAcknowledged}
 use Rattle.rina_flows.proofs.Offered.{become_one}
 use Rattle.rina_flows.proofs.conns.Conns.acknowledged.Goals as goal

@@ -1,4 +1,4 @@
-use Rattle.std.proofs.Common.{◌≡◌, Option, Some, ap, slice_get, arith}
+use Rattle.std.proofs.Common.{ap, slice_get, arith}
 use Rattle.std.specs.Vec.{vec_capacity}
 use Rattle.rina_base.specs.Pdus.{pdu_of}
 use Rattle.rina_flows.proofs.Landed.{landed, same_at}

@@ -1,4 +1,4 @@
-use Rattle.std.proofs.Common.{◌≡◌, length, length-set, sym, subst}
+use Rattle.std.proofs.Common.{length-set, sym, subst}
 use Rattle.rina_base.specs.Pdus.{pdu_of}
 use Rattle.rina_data.proofs.Finding.{there}
 use Rattle.rina_dtp.specs.Stands.{IsAhead}

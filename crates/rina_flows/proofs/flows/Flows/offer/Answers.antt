@@ -1,4 +1,4 @@
-use Rattle.std.proofs.Common.{ap, length, length-set, arith}
+use Rattle.std.proofs.Common.{length-set}
 use Rattle.rina_data.proofs.Finding.{there}
 use Rattle.rina_flows.proofs.Offered.{offers_from}
 use Rattle.rina_flows.proofs.flows.Flows.offer.Goals as goal
