@@ -1,6 +1,7 @@
 //! How an IPC process loses a link: what waits for it is written off, and it is live no more.
-ghost use Rattle.std.specs.Prelude.{◌≡◌, ◌<◌, ◌↔◌, ◌++◌, IsTrue, length, map, true, IfOk, OnOk, OnErr};
+ghost use Rattle.std.specs.Prelude.{◌≡◌, ◌<◌, ◌↔◌, ◌++◌, ◌+◌, ◌≤◌, IsTrue, length, map, true, IfOk, OnOk, OnErr};
 ghost use Rattle.std.specs.List.{flat_map};
+ghost use Rattle.std.specs.Vec.{vec_capacity};
 ghost use Rattle.rina_iface.specs.Seen.{state_of};
 ghost use Rattle.rina_data.specs.Deciding.{plain, process_of};
 ghost use Rattle.rina_data.specs.Losing.{FindsLost, IsNoMore, LosesAt, lesser, line_down, lines_down};
@@ -102,18 +103,71 @@ fn lines_down(alloc: Global, queues: &[Queue], link: Link) -> Result<Vec<Off>, A
     Ok(lines)
 }
 
+/// Adds lines behind others, with room for so many more after them, or none.
+fn add_lines(lines: &mut Vec<Off>, more: &mut Vec<Off>, room: usize) -> Result<(), AllocError>
+    ensures ok { OnOk result ((lines.new.items ≡ lines.old.items ++ more.old.items) × (length lines.new.items + room ≤ vec_capacity lines.new)) }
+    ensures err { OnErr result (lines.new.items ≡ lines.old.items) }
+{
+    let Some(room) = more.len().checked_add(room) else {
+        return Err(AllocError);
+    };
+    lines.reserve(room)?;
+    lines.append(more)
+}
+
 impl IpcProcess {
-    /// Writes more lines, or none.
-    fn write_lines(&mut self, alloc: Global, mut more: Vec<Off>) -> Result<(), Memory>
-        ensures ok { OnOk result (self.new.ledger ≡ self.old.ledger ++ more.items) }
+    /// Takes the lines of the ledger out, with more behind them and room for so many after those. Without memory
+    /// nothing changes.
+    fn take_lines(
+        &mut self,
+        alloc: Global,
+        mut more: Vec<Off>,
+        room: usize,
+    ) -> Result<Vec<Off>, Memory>
+        ensures ok { IfOk result (λ v. (v.items ≡ self.old.ledger ++ more.items) × (length v.items + room ≤ vec_capacity v)) }
         ensures err { OnErr result (self.new.ledger ≡ self.old.ledger) }
         ensures same { (self.new.links ≡ self.old.links) × (self.new.routes ≡ self.old.routes) × (self.new.queues ≡ self.old.queues) }
     {
         let mut lines = self.ledger.take(alloc);
-        let written = lines.append(&mut more);
-        self.ledger.put(lines);
-        written?;
-        Ok(())
+        match add_lines(&mut lines, &mut more, room) {
+            Ok(()) => Ok(lines),
+            Err(AllocError) => {
+                self.ledger.put(lines);
+                Err(Memory)
+            }
+        }
+    }
+
+    /// Loses the link at a place as `lose` does, and hands out the lines of the ledger, with room for so many more, until
+    /// they are put back. Without memory nothing changes.
+    pub fn lose_with_room(
+        &mut self,
+        alloc: Global,
+        at: usize,
+        routes: Seq<Route>,
+        room: usize,
+    ) -> Result<Vec<Off>, Memory>
+        requires { at < length self.old.links }
+        ensures ok { IfOk result (λ v. LosesAt at routes (process_of self.old) (record (process_of self.new) { ledger = v.items }) × (length v.items + room ≤ vec_capacity v)) }
+        ensures err { OnErr result (process_of self.new ≡ process_of self.old) }
+        ensures cap { self.new.queues.cap ≡ self.old.queues.cap }
+    {
+        let Some(link) = self.links.get(at) else {
+            unreachable!()
+        };
+        let link = *link;
+        let more = lines_down(alloc, self.queues.queues.as_slice(), link)?;
+        let lines = self.take_lines(alloc, more, room)?;
+        self.queues.empty(link.number);
+        self.links.set(
+            at,
+            Link {
+                live: false,
+                ..link
+            },
+        );
+        self.routes = routes;
+        Ok(lines)
     }
 
     /// Loses the link at a place: the PDUs that wait for it are written off, queue by queue, the first that came first;
@@ -124,21 +178,8 @@ impl IpcProcess {
         ensures err { OnErr result (process_of self.new ≡ process_of self.old) }
         ensures cap { self.new.queues.cap ≡ self.old.queues.cap }
     {
-        let Some(link) = self.links.get(at) else {
-            unreachable!()
-        };
-        let link = *link;
-        let lines = lines_down(alloc, self.queues.queues.as_slice(), link)?;
-        self.write_lines(alloc, lines)?;
-        self.queues.empty(link.number);
-        self.links.set(
-            at,
-            Link {
-                live: false,
-                ..link
-            },
-        );
-        self.routes = routes;
+        let lines = self.lose_with_room(alloc, at, routes, 0)?;
+        self.ledger.put(lines);
         Ok(())
     }
 }

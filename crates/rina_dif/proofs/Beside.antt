@@ -34,7 +34,6 @@ use Rattle.rina_data.proofs.Ends.{same_some}
 use Rattle.rina_data.proofs.Finding.{beside, live_link}
 use Rattle.rina_data.proofs.Finishing.{ended_silent}
 use Rattle.rina_data.proofs.Keepers.{facility}
-use Rattle.rina_data.proofs.Linkless.{lost_silent}
 use Rattle.rina_data.proofs.Numbering.{beside_after}
 use Rattle.rina_data.proofs.Taking.{still_stands}
 use Rattle.rina_data.proofs.Upper.{acknowledged_silent, forgotten_silent, ins_silent, outs_silent, resent_silent}
@@ -45,6 +44,7 @@ use Rattle.rina_dif.specs.Holding.{Holds, Stands}
 use Rattle.rina_dif.specs.Shown.{seen_of}
 use Rattle.rina_dif.specs.Taking.{TakesIn}
 use Rattle.rina_dif.specs.Whole.{IsDif}
+use Rattle.rina_dif.proofs.Cutting.{loses_silent}
 
 -- What another DIF sends or takes below is nothing to a DIF
 
@@ -188,7 +188,7 @@ steps_silent d lines below node (step.Gone cep) new lines' s = flow_silent d lin
 steps_silent d lines below node (step.GaveUp num) new lines' s = flow_silent d lines node (step.GaveUp num) new lines' s.1
 steps_silent d lines below node (step.Ack cep) new lines' s = flow_silent d lines node (step.Ack cep) new lines' s.1
 steps_silent d lines below node (step.Again num) new lines' s = flow_silent d lines node (step.Again num) new lines' s.1
-steps_silent d lines below node (step.LinkLost link) new lines' s = (let l = s.0.loses in lost_silent (seen_of d) below s.0.i link l.routes new l.loses)
+steps_silent d lines below node (step.LinkLost link) new lines' s = loses_silent d lines below s.0.i node link new s.0.loses
 steps_silent d lines below node (step.LinkNew link) new lines' s = absurd s.1
 steps_silent d lines below node (step.Timeout port) new lines' s = absurd s.1
 steps_silent d lines below node (step.Message link) new lines' s = absurd s.1

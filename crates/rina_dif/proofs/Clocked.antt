@@ -220,7 +220,7 @@ steps_err d lines below node r e d' is err same = subst (λ (v : Result ClockSte
 
 -- A link comes before all of them
 
-pub link_first : (d : Dif) (lines : List Direction) (below : Seen) (node i : ℕ) (lost : Lost) (d' : Dif) → home node (config_of d.settings).members ≡ Some i → LosesAs d lines below i lost.number (Ok tt) d' → HasStepped d lines below node (step.LinkLost lost.number) d'
+pub link_first : (d : Dif) (lines : List Direction) (below : Seen) (node i : ℕ) (lost : Lost) (d' : Dif) → home node (config_of d.settings).members ≡ Some i → LosesAs d lines below i node lost.number (Ok tt) d' → HasStepped d lines below node (step.LinkLost lost.number) d'
 link_first d lines below node i lost d' here l = record { lines' = lines; does = (record { i = i; at_home = here; loses = l.0 }, refl); holds = l.1 }
 
 pub none_first : (d : Dif) (below : Seen) (node i : ℕ) → home node (config_of d.settings).members ≡ Some i → FindsLostAt d below i None → NoneLostAt d below node

@@ -1,15 +1,15 @@
--- A flow fails in a clock step for its stated cause alone.
+-- A flow fails in a clock step for its stated causes alone.
 use Rattle.std.proofs.Common.{◌≡◌, ◌∙◌, ℕ, ◌+◌, ◌*◌, ◌<◌, ◌≤◌, ◌⊎◌, Bool, List, length, slice_get, slice_set, Option, Some, None, Result, Ok, Err, refl, sym, ap, subst, inl, inr}
 use Rattle.std.proofs.lemmas.Option.{slice_get-get_or}
 use Rattle.rina_cube.specs.declared.Cube.{Cube}
 use Rattle.rina_iface.specs.declared.ends.End.{End}
 use Rattle.rina_iface.specs.declared.state.Fail.{Fail}
-use Rattle.rina_iface.specs.declared.state.Fail.TheVariants.{GaveUp}
+use Rattle.rina_iface.specs.declared.state.Fail.TheVariants.{Below, GaveUp}
 use Rattle.rina_iface.specs.declared.state.PortState.{PortState}
 use Rattle.rina_iface.specs.declared.state.PortState.TheVariants.{Failed}
 use Rattle.rina_iface.specs.Journal.{At}
 use Rattle.rina_iface.specs.Seen.{Seen}
-use Rattle.rina_iface.proofs.Changed.{set_at}
+use Rattle.rina_iface.proofs.Changed.{set_at, slice_get-set_other}
 use Rattle.rina_law.specs.declared.entry.Entry.{Entry}
 use Rattle.rina_law.specs.Constants.{Constants}
 use Rattle.rina_law.specs.Direction.{Direction, entry, no_entry, place_of}
@@ -24,13 +24,16 @@ use Rattle.rina_data.specs.declared.step.StepError.TheVariants as why
 use Rattle.rina_data.specs.Configs.{config_of}
 use Rattle.rina_data.specs.Dif.{DifSeen, constants, cube_by}
 use Rattle.rina_data.specs.Ending.{IsGivenUp}
+use Rattle.rina_data.specs.Losing.{IsAllocatedAt}
 use Rattle.rina_data.specs.Sending.{home}
 use Rattle.rina_data.proofs.Finding.{beside}
 use Rattle.rina_dif.specs.declared.dif.Dif.{Dif}
-use Rattle.rina_dif.specs.Clocking.{ClockSteps, FailsLate, IsLate, Steps, StepsFlow, StepsHere, StepsOk}
+use Rattle.rina_dif.specs.Clocking.{ClockSteps, FailsBelow, FailsLate, IsLate, Steps, StepsFlow, StepsHere, StepsLost, StepsOk}
 use Rattle.rina_dif.specs.Holding.{Holds}
 use Rattle.rina_dif.specs.Shown.{seen_of}
 use Rattle.rina_dif.specs.Steps.{AtHome}
+use Rattle.rina_dif.specs.Unlinking.{NoneLeft, links_without}
+use Rattle.rina_dif.proofs.Cutting.{failed_ends}
 
 same_some : {X : Type 0} (o : Option X) (a b : X) → o ≡ Some a → o ≡ Some b → a ≡ b
 same_some o a b h g = cc
@@ -75,13 +78,13 @@ late_one d lines below at number new h g =
       late = subst (λ (n : ℕ). (member run number).first + g.cube.r + g.cube.a + 2 * g.cube.mpl ≤ n) flow.backed.clock x.late;
     }
 
-Late : Dif → List Direction → List End → Type 0
-Late d lines ends = (at : ℕ) (end end' : End) (fail : Fail) → At d.flows.journal.ends at end → At ends at end' → end'.state ≡ Failed fail → (end.state ≡ Failed fail) ⊎ IsLate d lines at fail
+Late : Dif → List Direction → Seen → List End → Type 0
+Late d lines below ends = (at : ℕ) (end end' : End) (fail : Fail) → At d.flows.journal.ends at end → At ends at end' → end'.state ≡ Failed fail → (end.state ≡ Failed fail) ⊎ (IsLate d lines at fail ⊎ FailsBelow d below at fail)
 
 -- no end changed
-late_same : (d : Dif) (lines : List Direction) (ends : List End) → ends ≡ d.flows.journal.ends → Late d lines ends
+late_same : (d : Dif) (lines : List Direction) (below : Seen) (ends : List End) → ends ≡ d.flows.journal.ends → Late d lines below ends
 unfolding Late
-late_same d lines ends is at end end' fail old new failed =
+late_same d lines below ends is at end end' fail old new failed =
     let same : end' ≡ end = same_some (slice_get d.flows.journal.ends at) end' end (ap (λ (es : List End). slice_get es at) (sym is) ∙ new) old in
     inl (ap (λ (e : End). e.state) (sym same) ∙ failed)
 
@@ -89,7 +92,7 @@ failed_so : (a b : Fail) (state : PortState) → state ≡ Failed b → state �
 failed_so a b state h g = cc
 
 -- one has failed
-late_failed : (d : Dif) (lines : List Direction) (below : Seen) (at number : ℕ) (new : DifSeen) → Holds d lines below → IsGivenUp (seen_of d) lines at number new → Late d lines new.ends
+late_failed : (d : Dif) (lines : List Direction) (below : Seen) (at number : ℕ) (new : DifSeen) → Holds d lines below → IsGivenUp (seen_of d) lines at number new → Late d lines below new.ends
 unfolding Late
 late_failed d lines below at number new h g k end end' fail old is failed =
     let by : Fail = GaveUp (record { cep = g.ids.scep; seq = number }) (member g.line.line.sender.run number).first d.clock in
@@ -98,45 +101,82 @@ late_failed d lines below at number new h g k end end' fail old is failed =
     elim (set_at d.flows.journal.ends at k g.ended.end changed end' g.ended.is_conn.end (subst (λ (es : List End). slice_get es k ≡ Some end') ends is)) [
       | inl t ↦
           (let so : fail ≡ by = failed_so by fail end'.state failed (ap (λ (e : End). e.state) t.1) in
-          inr (subst (λ (f : Fail). IsLate d lines k f) (sym so) (subst (λ (n : ℕ). IsLate d lines n by) (sym t.0) (late_one d lines below at number new h g))))
+          inr (inl (subst (λ (f : Fail). IsLate d lines k f) (sym so) (subst (λ (n : ℕ). IsLate d lines n by) (sym t.0) (late_one d lines below at number new h g)))))
       | inr f ↦
           (let same : end' ≡ end = same_some (slice_get d.flows.journal.ends k) end' end f.1 old in
           inl (ap (λ (e : End). e.state) (sym same) ∙ failed))
     ]
 
-late_flow : (d : Dif) (lines : List Direction) (below : Seen) (node : ℕ) (done : ClockStep) (new : DifSeen) (lines' : List Direction) → Holds d lines below → StepsFlow d lines node done new lines' → Late d lines new.ends
-late_flow d lines below node step.Idle new lines' h s = late_same d lines new.ends (ap (λ (z : DifSeen). z.ends) s.1)
-late_flow d lines below node (step.Gone cep) new lines' h s = late_same d lines new.ends (ap (λ (z : DifSeen). z.ends) s.forgotten.new_is)
+late_flow : (d : Dif) (lines : List Direction) (below : Seen) (node : ℕ) (done : ClockStep) (new : DifSeen) (lines' : List Direction) → Holds d lines below → StepsFlow d lines node done new lines' → Late d lines below new.ends
+late_flow d lines below node step.Idle new lines' h s = late_same d lines below new.ends (ap (λ (z : DifSeen). z.ends) s.1)
+late_flow d lines below node (step.Gone cep) new lines' h s = late_same d lines below new.ends (ap (λ (z : DifSeen). z.ends) s.forgotten.new_is)
 late_flow d lines below node (step.GaveUp num) new lines' h s = late_failed d lines below s.at num.seq new h s.given_up
-late_flow d lines below node (step.Ack cep) new lines' h s = late_same d lines new.ends (ap (λ (z : DifSeen). z.ends) s.acknowledged.new_is)
-late_flow d lines below node (step.Again num) new lines' h s = late_same d lines new.ends (ap (λ (z : DifSeen). z.ends) s.resent.new_is)
+late_flow d lines below node (step.Ack cep) new lines' h s = late_same d lines below new.ends (ap (λ (z : DifSeen). z.ends) s.acknowledged.new_is)
+late_flow d lines below node (step.Again num) new lines' h s = late_same d lines below new.ends (ap (λ (z : DifSeen). z.ends) s.resent.new_is)
 late_flow d lines below node (step.LinkLost link) new lines' h s = absurd s
 late_flow d lines below node (step.LinkNew link) new lines' h s = absurd s
 late_flow d lines below node (step.Timeout port) new lines' h s = absurd s
 late_flow d lines below node (step.Message link) new lines' h s = absurd s
 
-late_step : (d : Dif) (lines : List Direction) (below : Seen) (node : ℕ) (done : ClockStep) (new : DifSeen) (lines' : List Direction) → Holds d lines below → Steps d lines below node done new lines' → Late d lines new.ends
+-- all of a node have failed
+below_one : (d : Dif) (lines : List Direction) (below : Seen) (node number : ℕ) (new : DifSeen) (s : StepsLost d lines below node number new) (at : ℕ) (fail : Fail) → NoneLeft (links_without s.loses.loses.loses.process.links s.loses.loses.loses.place s.loses.loses.loses.link) below s.loses.loses.loses.link.port → IsAllocatedAt d.flows.journal.ends node at → fail ≡ Below s.loses.loses.loses.link.port → FailsBelow d below at fail
+below_one d lines below node number new s at fail left a is =
+    let l = s.loses.loses.loses in
+    record {
+      end = a.end;
+      is_end = a.is_end;
+      allocated = a.allocated;
+      i = s.i;
+      at_home = ap (λ (n : ℕ). home n (config_of d.settings).members) a.node_is ∙ s.at_home;
+      process = l.process;
+      is_process = l.is_process;
+      place = l.place;
+      link = l.link;
+      stands = l.first.lost.stands;
+      live = l.first.lost.live;
+      last = λ other its ne there live. left.none other its (slice_get-set_other l.process.links l.place other (record l.link { live = false }) ne ∙ there) live;
+      is = is;
+      failed = left.failed;
+    }
+
+late_lost : (d : Dif) (lines : List Direction) (below : Seen) (node number : ℕ) (new : DifSeen) → StepsLost d lines below node number new → Late d lines below new.ends
+unfolding Late
+late_lost d lines below node number new s at end end' fail old is failed =
+    let l = s.loses.loses.loses in
+    let mid : DifSeen = s.loses.between in
+    let by : Fail = Below l.link.port in
+    let ends : mid.ends ≡ d.flows.journal.ends = ap (λ (z : DifSeen). z.ends) l.new_is in
+    let kept : slice_get mid.ends at ≡ Some end' → end.state ≡ Failed fail = λ there. ap (λ (e : End). e.state) (same_some (slice_get d.flows.journal.ends at) end end' old (ap (λ (es : List End). slice_get es at) (sym ends) ∙ there)) ∙ failed in
+    elim s.loses.fails [
+      | inl f ↦ elim (failed_ends lines node by (length mid.ends) mid new f.1 at end' is) [
+          | inl there ↦ inl (kept there)
+          | inr x ↦ inr (inr (below_one d lines below node number new s at fail f.0 (subst (λ (es : List End). IsAllocatedAt es node at) ends x.0) (failed_so by fail end'.state failed x.1)))
+        ]
+      | inr k ↦ inl (kept (subst (λ (z : DifSeen). slice_get z.ends at ≡ Some end') k.1 is))
+    ]
+
+late_step : (d : Dif) (lines : List Direction) (below : Seen) (node : ℕ) (done : ClockStep) (new : DifSeen) (lines' : List Direction) → Holds d lines below → Steps d lines below node done new lines' → Late d lines below new.ends
 late_step d lines below node step.Idle new lines' h s = late_flow d lines below node step.Idle new lines' h s.1
 late_step d lines below node (step.Gone cep) new lines' h s = late_flow d lines below node (step.Gone cep) new lines' h s.1
 late_step d lines below node (step.GaveUp num) new lines' h s = late_flow d lines below node (step.GaveUp num) new lines' h s.1
 late_step d lines below node (step.Ack cep) new lines' h s = late_flow d lines below node (step.Ack cep) new lines' h s.1
 late_step d lines below node (step.Again num) new lines' h s = late_flow d lines below node (step.Again num) new lines' h s.1
-late_step d lines below node (step.LinkLost link) new lines' h s = late_same d lines new.ends (ap (λ (z : DifSeen). z.ends) s.0.loses.loses.new_is)
+late_step d lines below node (step.LinkLost link) new lines' h s = late_lost d lines below node link new s.0
 late_step d lines below node (step.LinkNew link) new lines' h s = absurd s.1
 late_step d lines below node (step.Timeout port) new lines' h s = absurd s.1
 late_step d lines below node (step.Message link) new lines' h s = absurd s.1
 
-pub fails_late : (d : Dif) (lines : List Direction) (below : Seen) (node : ℕ) (r : Result ClockStep StepError) (d' : Dif) → Holds d lines below → StepsHere d lines below node r d' → FailsLate d lines d'
+pub fails_late : (d : Dif) (lines : List Direction) (below : Seen) (node : ℕ) (r : Result ClockStep StepError) (d' : Dif) → Holds d lines below → StepsHere d lines below node r d' → FailsLate d lines below d'
 unfolding Late
 fails_late d lines below node (Ok done) d' h s = late_step d lines below node done (seen_of d') s.lines' h s.does
-fails_late d lines below node (Err why.Memory) d' h s = late_same d lines d'.flows.journal.ends (ap (λ (z : DifSeen). z.ends) s.0)
+fails_late d lines below node (Err why.Memory) d' h s = late_same d lines below d'.flows.journal.ends (ap (λ (z : DifSeen). z.ends) s.0)
 fails_late d lines below node (Err why.NoIpc) d' h s = absurd s
 fails_late d lines below node (Err why.NoLink) d' h s = absurd s
 
 -- nothing was done
-pub fails_none : (d : Dif) (lines : List Direction) → FailsLate d lines d
+pub fails_none : (d : Dif) (lines : List Direction) (below : Seen) → FailsLate d lines below d
 unfolding Late
-fails_none d lines = late_same d lines d.flows.journal.ends refl
+fails_none d lines below = late_same d lines below d.flows.journal.ends refl
 
 -- The step
 

@@ -5,6 +5,7 @@ pub mod Beside
 pub mod Bound
 pub mod Claimed
 pub mod Clocked
+pub mod Cutting
 pub mod Facing
 pub mod Failing
 pub mod Freed

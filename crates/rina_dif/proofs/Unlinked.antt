@@ -1,9 +1,10 @@
 -- A DIF that loses a link holds.
-use Rattle.std.proofs.Common.{◌≡◌, ◌∙◌, ℕ, ◌<◌, ◌==◌, ◌&&◌, Bool, true, false, cond, List, [], ◌∷◌, get_or, length, map, slice_get, slice_set, Option, Some, Result, Ok, Err, refl, sym, ap, subst, inl, inr}
+use Rattle.std.proofs.Common.{◌≡◌, ◌∙◌, ℕ, ◌<◌, ◌==◌, ◌&&◌, Bool, true, false, cond, List, [], ◌∷◌, get_or, length, map, slice_get, slice_set, Option, Some, None, Result, Ok, Err, refl, sym, ap, subst, inl, inr}
 use Rattle.std.specs.Prelude.{IsSome, OnErr, OnOk, position}
 use Rattle.std.proofs.lemmas.Bool.{false≢true}
-use Rattle.std.proofs.lemmas.Option.{slice_get_read}
+use Rattle.std.proofs.lemmas.Option.{slice_get_read, slice_get_within}
 use Rattle.rina_base.specs.declared.memory.Memory.{Memory}
+use Rattle.rina_base.specs.declared.number.Port.{Port}
 use Rattle.rina_graph.specs.declared.graph.Edge.{Edge}
 use Rattle.rina_iface.specs.Seen.{Seen}
 use Rattle.rina_iface.proofs.Changed.{set_at}
@@ -19,14 +20,15 @@ use Rattle.rina_data.specs.declared.process.IpcProcess.{IpcProcess}
 use Rattle.rina_data.specs.declared.settings.Member.{Member}
 use Rattle.rina_data.specs.Configs.{config_of}
 use Rattle.rina_data.specs.Deciding.{process_of}
-use Rattle.rina_data.specs.Dif.{Config, Process, Queue, queue_place, with_process}
+use Rattle.rina_data.specs.Dif.{Config, DifSeen, Process, Queue, queue_place, with_process}
 use Rattle.rina_data.specs.Losing.{Loses, LosesAt, without_items, without_link}
+use Rattle.rina_data.proofs.Finding.{there}
 use Rattle.rina_data.proofs.Linkless.{lost_carries, lost_numbered, lost_stands}
 use Rattle.rina_dif.specs.declared.dif.Dif.{Dif}
-use Rattle.rina_dif.specs.Holding.{AreHoused, HasQueues, HaveQueues, Holds, IsHoused}
+use Rattle.rina_dif.specs.Holding.{AreHoused, HasQueues, HaveQueues, Holds, IsHoused, Stands}
 use Rattle.rina_dif.specs.Routing.{KnowsLive, Weigh, claims_with, edges_from, edges_of, live_links, live_of, own_links, routes_to}
 use Rattle.rina_dif.specs.Shown.{seen_of}
-use Rattle.rina_dif.specs.Unlinking.{FindsLostAt, LosesAs, LosesIn, LosesOr}
+use Rattle.rina_dif.specs.Unlinking.{FailsWith, FindsLostAt, FindsNoneLeft, KnowsWithout, LosesAs, LosesIn, LosesLink, LosesOr, LosesWith, links_without}
 use Rattle.rina_dif.proofs.Keeping.{house_is, housed_set, position_map, same_house, set_cases}
 use Rattle.rina_dif.proofs.Leaves.{has_process, shown_at, stepped}
 use Rattle.rina_dif.proofs.Routed.{live_hop, own_weighs}
@@ -110,43 +112,83 @@ housed_after g ps at p p' place link routes members plans member housed is cap t
 
 -- The DIF holds
 
-pub link_lost : (d : Dif) (lines : List Direction) (below : Seen) (at : ℕ) (lost : Lost) (routes : List Route) (member : Member) (links : List Link) (r : Result (Unit {0}) Memory) (ps : List IpcProcess) → at < length d.settings.members → slice_get d.settings.members at ≡ Some member → ((p : IpcProcess) → slice_get d.processes at ≡ Some p → links ≡ p.links)
-    → ((link : Link) → slice_get links lost.place ≡ Some link → KnowsLive d.settings.members d.laid.links member (slice_set links lost.place (record link { live = false })) routes)
-    → LosesIn lost.place routes r at d.processes ps → Holds d lines below → FindsLostAt d below at (Some lost) → LosesAs d lines below at lost.number r (record d { processes = ps })
-link_lost d lines below at lost routes member links (Ok done) ps lt is_member same knows loses h finds =
-    let p = has_process d below at (lines, h) lt in
-    let x = loses p.0 p.1 in
-    let f = finds p.0 p.1 in
-    let link = f.0 in
+-- what is known of a DIF that lost the link at a place of the IPC process at a place
+pub record HasLost (d : Dif) (lines : List Direction) (below : Seen) (at place number : ℕ) (d' : Dif) : Type 0 where
+  pub process : IpcProcess
+  pub is_process : slice_get d.processes at ≡ Some process
+  pub link : Link
+  pub stands : slice_get process.links place ≡ Some link
+  pub loses : LosesLink d below at number (seen_of d')
+  pub links_are : links_without loses.loses.process.links loses.loses.place loses.loses.link ≡ links_without process.links place link
+  pub port_is : loses.loses.link.port ≡ link.port
+  pub holds : Holds d' lines below
+
+pub link_lost : (d : Dif) (lines : List Direction) (below : Seen) (at : ℕ) (lost : Lost) (routes : List Route) (member : Member) (p p' : IpcProcess) → slice_get d.settings.members at ≡ Some member → slice_get d.processes at ≡ Some p → KnowsWithout d at lost.place routes
+    → LosesAt lost.place routes (process_of p) (process_of p') → p'.queues.cap ≡ p.queues.cap → Holds d lines below → FindsLostAt d below at (Some lost) → HasLost d lines below at lost.place lost.number (record d { processes = slice_set d.processes at p' })
+link_lost d lines below at lost routes member p p' is_member is knows loses cap h finds =
+    let f = finds p is in
+    let link : Link = f.0 in
     let there = f.1.lost.stands in
-    let new = x.1 link there in
-    let known = subst (λ (ls : List Link). (l : Link) → slice_get ls lost.place ≡ Some l → KnowsLive d.settings.members d.laid.links member (slice_set ls lost.place (record l { live = false })) routes) (same p.0 p.1) knows link there in
-    let gone : Loses (seen_of d) below at lost.number routes (seen_of (record d { processes = ps })) = record { process = process_of p.0; is_process = shown_at d at p.0 p.1; place = lost.place; link = link; first = f.1; number_is = f.2; new_is = stepped d at x.0 ps x.3 ∙ ap (with_process (seen_of d) at) new } in
-    let d' = seen_of (record d { processes = ps }) in (
-      record { routes = routes; loses = gone; member = member; is_member = is_member; knows = known },
-      record {
+    let new = loses link there in
+    let known = knows member p link is_member is there in
+    let ps : List IpcProcess = slice_set d.processes at p' in
+    let d' : DifSeen = seen_of (record d { processes = ps }) in
+    let gone : Loses (seen_of d) below at lost.number routes d' = record { process = process_of p; is_process = shown_at d at p is; place = lost.place; link = link; first = f.1; number_is = f.2; new_is = stepped d at p' ps refl ∙ ap (with_process (seen_of d) at) new } in
+    record {
+      process = p;
+      is_process = is;
+      link = link;
+      stands = there;
+      loses = record { routes = routes; loses = gone; member = member; is_member = is_member; knows = known };
+      links_are = refl;
+      port_is = refl;
+      holds = record {
         tied = h.tied;
         standing = lost_stands (seen_of d) lines below at lost.number routes d' h.standing gone;
         carrying = lost_carries (seen_of d) lines below at lost.number routes d' h.carrying gone;
         numbered = lost_numbered (seen_of d) below at lost.number routes d' h.numbered gone;
-        housed = subst (AreHoused (config_of d.settings)) (sym x.3) (housed_after (config_of d.settings) d.processes at p.0 x.0 lost.place link routes d.settings.members d.laid.links member h.housed p.1 x.2 there new known);
-      },
-    )
-link_lost d lines below at lost routes member links (Err e) ps lt is_member same knows loses h finds =
-    let p = has_process d below at (lines, h) lt in
-    let x = loses p.0 p.1 in
-    let seen = unseen d at p.0 x.0 ps p.1 x.1 x.3 in
-    let housed = subst (AreHoused (config_of d.settings)) (sym x.3) (housed_set (config_of d.settings) d.processes at p.0 x.0 h.housed p.1 x.2 (house_is (process_of p.0) (process_of p.0) (process_of x.0) x.1 (same_house (process_of p.0)))) in
+        housed = housed_after (config_of d.settings) d.processes at p p' lost.place link routes d.settings.members d.laid.links member h.housed is cap there new known;
+      };
+    }
+
+-- the flows fail with it, or none does
+pub lost_with : (d : Dif) (lines : List Direction) (below : Seen) (at node place number : ℕ) (mid : Dif) (new : DifSeen) → (l : HasLost d lines below at place number mid) → FailsWith (links_without l.process.links place l.link) below l.link.port lines node (seen_of mid) new → LosesWith d lines below at node number new
+lost_with d lines below at node place number mid new l fails = record {
+  between = seen_of mid;
+  loses = l.loses;
+  fails = subst (λ (ls : List Link). FailsWith ls below l.loses.loses.link.port lines node (seen_of mid) new) (sym l.links_are) (subst (λ (port : Port). FailsWith (links_without l.process.links place l.link) below port lines node (seen_of mid) new) (sym l.port_is) fails);
+}
+
+-- memory was wanted
+pub keeps_links : (d : Dif) (lines : List Direction) (below : Seen) (at : ℕ) (p p' : IpcProcess) (ps : List IpcProcess) → slice_get d.processes at ≡ Some p → process_of p' ≡ process_of p → p'.queues.cap ≡ p.queues.cap → ps ≡ slice_set d.processes at p' → Holds d lines below → (seen_of (record d { processes = ps }) ≡ seen_of d) × Holds (record d { processes = ps }) lines below
+keeps_links d lines below at p p' ps is same cap new h =
+    let seen = unseen d at p p' ps is same new in
+    let housed = subst (AreHoused (config_of d.settings)) (sym new) (housed_set (config_of d.settings) d.processes at p p' h.housed is cap (house_is (process_of p) (process_of p) (process_of p') same (same_house (process_of p)))) in
     (seen, holds_unseen d ps lines below seen housed h)
 
--- as the code finds it
-pub link_loses : (d : Dif) (at : ℕ) (lost : Lost) (routes found : List Route) (member : Member) (members : List Member) (links : List Link) (process : IpcProcess) (r : Result (Unit {0}) Memory) (ps : List IpcProcess) → at < length d.settings.members → member ≡ get_or members at member → members ≡ d.settings.members → slice_get d.processes at ≡ Some process → links ≡ process.links → routes ≡ found
-    → ((link : Link) → slice_get links lost.place ≡ Some link → KnowsLive members d.laid.links member (slice_set links lost.place (record link { live = false })) found)
-    → LosesIn lost.place routes r at d.processes ps → (lines : List Direction) (below : Seen) → Holds d lines below → FindsLostAt d below at (Some lost) → LosesAs d lines below at lost.number r (record d { processes = ps })
-link_loses d at lost routes found member members links process r ps lt read are here same is knows loses lines below h finds =
-    let ms = d.settings.members in
-    let its : member ≡ get_or ms at member = read ∙ ap (λ (xs : List Member). get_or xs at member) are in
-    let known : (link : Link) → slice_get links lost.place ≡ Some link → KnowsLive ms d.laid.links member (slice_set links lost.place (record link { live = false })) routes = λ link at_place.
-    subst (λ (rs : List Route). KnowsLive ms d.laid.links member (slice_set links lost.place (record link { live = false })) rs) (sym is)
-    (subst (λ (xs : List Member). KnowsLive xs d.laid.links member (slice_set links lost.place (record link { live = false })) found) are (knows link at_place)) in
-    link_lost d lines below at lost routes member links r ps lt (slice_get_read ms (length ms) at member refl lt its) (λ p there. same ∙ ap (λ (z : IpcProcess). z.links) (same_some (slice_get d.processes at) process p here there)) known loses h finds
+pub has_member : (d : Dif) (at : ℕ) → at < length d.settings.members → (m : Member) × (slice_get d.settings.members at ≡ Some m)
+has_member d at lt = there d.settings.members at lt
+
+-- a link is lost, and no flow fails
+pub link_loses : (d : Dif) (at : ℕ) (lost : Lost) (routes : List Route) (r : Result (Unit {0}) Memory) (ps : List IpcProcess) → at < length d.settings.members → KnowsWithout d at lost.place routes → LosesIn lost.place routes r at d.processes ps
+    → (node : ℕ) (lines : List Direction) (below : Seen) → Holds d lines below → FindsLostAt d below at (Some lost) → FindsNoneLeft d below at lost.place None → LosesAs d lines below at node lost.number r (record d { processes = ps })
+link_loses d at lost routes (Ok done) ps lt knows loses node lines below h finds left =
+    let p = has_process d below at (lines, h) lt in
+    let x = loses p.0 p.1 in
+    let m = has_member d at lt in
+    let l = link_lost d lines below at lost routes m.0 p.0 x.0 m.1 p.1 knows x.1 x.2 h finds in
+    let mid : Dif = record d { processes = slice_set d.processes at x.0 } in
+    let w = lost_with d lines below at node lost.place lost.number mid (seen_of mid) l (inr (left l.process l.link l.is_process l.stands, refl)) in
+    subst (λ (qs : List IpcProcess). LosesAs d lines below at node lost.number (Ok tt) (record d { processes = qs })) (sym x.3) (w, l.holds)
+link_loses d at lost routes (Err e) ps lt knows loses node lines below h finds left =
+    let p = has_process d below at (lines, h) lt in
+    let x = loses p.0 p.1 in
+    keeps_links d lines below at p.0 x.0 ps p.1 x.1 x.2 x.3 h
+
+-- the link that was found is there
+pub found_within : (d : Dif) (at : ℕ) (lost : Lost) → ((below : Seen) × Stands d below × FindsLostAt d below at (Some lost)) → (p : IpcProcess) → slice_get d.processes at ≡ Some p → lost.place < length p.links
+found_within d at lost f p is = (let x = f.2 p is in slice_get_within p.links lost.place x.0 x.1.lost.stands)
+
+-- memory was wanted for the next hops
+pub lost_err : (d : Dif) (lines : List Direction) (below : Seen) (at node number : ℕ) (r : Result (Unit {0}) Memory) (e : Memory) → r ≡ Err e → Holds d lines below → LosesAs d lines below at node number r d
+lost_err d lines below at node number r e is h = subst (λ (v : Result (Unit {0}) Memory). LosesAs d lines below at node number v d) (sym is) (refl, h)

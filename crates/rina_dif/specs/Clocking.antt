@@ -1,24 +1,25 @@
 -- The clock steps of a DIF.
-use Rattle.std.specs.Prelude.{◌≡◌, ℕ, ◌+◌, ◌*◌, ◌<◌, ◌≤◌, ◌⊎◌, nat_le, if◌then◌else◌, List, length, slice_get, Option, Some, None, Result, Ok, Err}
+use Rattle.std.specs.Prelude.{◌≡◌, ◌≢◌, ℕ, ◌+◌, ◌*◌, ◌<◌, ◌≤◌, ◌⊎◌, nat_le, true, if◌then◌else◌, List, length, slice_get, Option, Some, None, Result, Ok, Err}
 use Rattle.rina_base.specs.declared.cause.Cause.{Cause}
 use Rattle.rina_conn.specs.declared.conn.Conn.{Conn}
 use Rattle.rina_cube.specs.declared.Cube.{Cube}
 use Rattle.rina_cube.specs.declared.Kind.TheVariants.{Reliable}
 use Rattle.rina_iface.specs.declared.ends.End.{End}
 use Rattle.rina_iface.specs.declared.state.Fail.{Fail}
-use Rattle.rina_iface.specs.declared.state.Fail.TheVariants.{GaveUp as IsGaveUp}
+use Rattle.rina_iface.specs.declared.state.Fail.TheVariants.{Below, GaveUp as IsGaveUp}
 use Rattle.rina_iface.specs.declared.state.PortState.TheVariants.{Allocated, Failed}
 use Rattle.rina_iface.specs.Journal.{At}
-use Rattle.rina_iface.specs.Seen.{Seen}
+use Rattle.rina_iface.specs.Seen.{Seen, state_of}
 use Rattle.rina_law.specs.declared.entry.Entry.{Entry}
 use Rattle.rina_law.specs.Direction.{Direction, start_of}
+use Rattle.rina_data.specs.declared.link.Link.{Link}
 use Rattle.rina_data.specs.declared.process.IpcProcess.{IpcProcess}
 use Rattle.rina_data.specs.declared.step.ClockStep.{ClockStep}
 use Rattle.rina_data.specs.declared.step.ClockStep.TheVariants as step
 use Rattle.rina_data.specs.declared.step.StepError.{StepError}
 use Rattle.rina_data.specs.declared.step.StepError.TheVariants.{Memory, NoIpc}
 use Rattle.rina_data.specs.Configs.{config_of}
-use Rattle.rina_data.specs.Dif.{DifSeen, cube_by}
+use Rattle.rina_data.specs.Dif.{DifSeen, Process, cube_by}
 use Rattle.rina_data.specs.Ending.{IsGivenUp}
 use Rattle.rina_data.specs.Ids.{Ids}
 use Rattle.rina_data.specs.Losing.{NoneLost}
@@ -36,7 +37,7 @@ use Rattle.rina_dif.specs.declared.dif.Dif.{Dif}
 use Rattle.rina_dif.specs.Holding.{Holds}
 use Rattle.rina_dif.specs.Shown.{seen_of}
 use Rattle.rina_dif.specs.Steps.{AtHome}
-use Rattle.rina_dif.specs.Unlinking.{LosesLink}
+use Rattle.rina_dif.specs.Unlinking.{HasFailed, LosesWith}
 
 -- What is due at a node
 
@@ -160,17 +161,17 @@ StepsFlowHere d lines below node (Err other) d' = ⊥
 abbrev pub NoneLostAt : Dif → Seen → ℕ → Type 0
 NoneLostAt d below node = (i : ℕ) (p : IpcProcess) → home node (config_of d.settings).members ≡ Some i → slice_get d.processes i ≡ Some p → NoneLost p.links below
 
--- it loses its link of this number
-pub record StepsLost (d : Dif) (below : Seen) (node number : ℕ) (new : DifSeen) : Type 0 where
+-- it loses its link of this number, and the flows of the node may fail with it
+pub record StepsLost (d : Dif) (lines : List Direction) (below : Seen) (node number : ℕ) (new : DifSeen) : Type 0 where
   pub i : ℕ
   pub at_home : home node (config_of d.settings).members ≡ Some i
-  pub loses : LosesLink d below i number new
+  pub loses : LosesWith d lines below i node number new
 
 -- What is done first
 
 -- a link that is lost comes before all that is due at the flows
 abbrev pub Steps : Dif → List Direction → Seen → ℕ → ClockStep → DifSeen → List Direction → Type 0
-Steps d lines below node (step.LinkLost link) new lines' = StepsLost d below node link new × (lines' ≡ lines)
+Steps d lines below node (step.LinkLost link) new lines' = StepsLost d lines below node link new × (lines' ≡ lines)
 Steps d lines below node done new lines' = NoneLostAt d below node × StepsFlow d lines node done new lines'
 
 -- and the DIF holds after it
@@ -226,6 +227,23 @@ pub record IsLate (d : Dif) (lines : List Direction) (at : ℕ) (fail : Fail) : 
   pub tick : sdu.tick ≡ first
   pub late : first + cube.r + cube.a + 2 * cube.mpl ≤ d.clock
 
--- an end that has failed did so before, or fails now, for that cause alone
-abbrev pub FailsLate : Dif → List Direction → Dif → Type 0
-FailsLate d lines d' = (at : ℕ) (end end' : End) (fail : Fail) → At d.flows.journal.ends at end → At d'.flows.journal.ends at end' → end'.state ≡ Failed fail → (end.state ≡ Failed fail) ⊎ IsLate d lines at fail
+-- an end fails so: it was allocated, its IPC process had one live link, and the flow of the port of that link has failed
+pub record FailsBelow (d : Dif) (below : Seen) (at : ℕ) (fail : Fail) : Type 0 where
+  pub end : End
+  pub is_end : At d.flows.journal.ends at end
+  pub allocated : end.state ≡ Allocated
+  pub i : ℕ
+  pub at_home : home end.port.node (config_of d.settings).members ≡ Some i
+  pub process : Process
+  pub is_process : slice_get (seen_of d).processes i ≡ Some process
+  pub place : ℕ
+  pub link : Link
+  pub stands : slice_get process.links place ≡ Some link
+  pub live : link.live ≡ true
+  pub last : (other : ℕ) (its : Link) → other ≢ place → slice_get process.links other ≡ Some its → its.live ≡ true → ⊥
+  pub is : fail ≡ Below link.port
+  pub failed : HasFailed (state_of below link.port)
+
+-- an end that has failed did so before, or fails now, for one of these two causes alone
+abbrev pub FailsLate : Dif → List Direction → Seen → Dif → Type 0
+FailsLate d lines below d' = (at : ℕ) (end end' : End) (fail : Fail) → At d.flows.journal.ends at end → At d'.flows.journal.ends at end' → end'.state ≡ Failed fail → (end.state ≡ Failed fail) ⊎ (IsLate d lines at fail ⊎ FailsBelow d below at fail)

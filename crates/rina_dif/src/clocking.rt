@@ -148,8 +148,8 @@ impl Dif {
         }
     }
 
-    /// Loses the first link of the IPC process at a place that is lost, or does the first item that is due at the flows
-    /// of its node.
+    /// Loses the first link of the IPC process at a place that is lost, and all flows there with it where it was the last
+    /// one and its flow below has failed, or does the first item that is due at the flows of its node.
     fn step_at<F: Facility>(
         &mut self,
         alloc: Global,
@@ -168,7 +168,7 @@ impl Dif {
     {
         match self.lost_link_at(below, at) {
             Some(lost) => {
-                self.lose_link(alloc, at, lost)?;
+                self.lose_at(alloc, below, at, node, lost)?;
                 Ok(ClockStep::LinkLost { link: lost.number })
             }
             None => self.do_next(alloc, at, node),
@@ -176,7 +176,8 @@ impl Dif {
     }
 
     /// Takes one step of the IPC process at a node by the clock, the first of these that is due: a link is lost, whose
-    /// flow below was refused, has failed, or was closed, the one of the least number first; pieces that are held
+    /// flow below was refused, has failed, or was closed, the one of the least number first, and where no link is left
+    /// and that flow has failed, all flows of the node fail with it; pieces that are held
     /// of a state that has ended are written off; a number is given up, and its flow fails; an acknowledgement is made;
     /// a number is sent again. Of the flows there the one of the least CEP-id goes first. Answers Idle exactly where
     /// none is due. Once memory was wanted every step answers so.
@@ -192,7 +193,7 @@ impl Dif {
         ensures below { F.same_below below.old below.new }
         ensures later { IsLater (F.seen below.old) (F.seen below.new) }
         ensures does { (lines : List Direction) → Holds self.old lines (F.seen below.old) → ClockSteps self.old lines (F.seen below.old) node result self.new (F.seen below.new) }
-        ensures fails_late { (lines : List Direction) → Holds self.old lines (F.seen below.old) → FailsLate self.old lines self.new }
+        ensures fails_late { (lines : List Direction) → Holds self.old lines (F.seen below.old) → FailsLate self.old lines (F.seen below.old) self.new }
         ensures goes_on { GoesOn self.old self.new }
         ensures silent { IsSilent (seen_of self.old) (seen_of self.new) }
         ensures others { OthersStand self.old (F.seen below.old) (F.seen below.new) }

@@ -14,11 +14,11 @@ ghost use Rattle.rina_dif.specs.Sending.{AreOf, HasRoomFor, Puts, queued};
 ghost use Rattle.rina_dif.specs.Steps.{AsksAt, Leaves, WillGo};
 ghost use Rattle.rina_dif.specs.Taking.{ArrivesTo, DecidesAt, NotesAt, RoutesAt};
 ghost use Rattle.rina_dif.specs.Timely.{ForwardsAt, WithLedger};
-ghost use Rattle.rina_dif.specs.Unlinking.{LosesIn};
+ghost use Rattle.rina_dif.specs.Unlinking.{LosesIn, LosesLast, LosesLastIn};
 ghost use Rattle.rina_flows.specs.Delivering.{ForgetsIn, StopsIn};
 ghost use Rattle.rina_flows.specs.Timely.{GivesUpIn};
 
-use rina_base::{Addr, Cause, Memory, Num, Pdu, PduView, Port, Seq, Tick};
+use rina_base::{Addr, Cause, Memory, Node, Num, Pdu, PduView, Port, Seq, Tick};
 use rina_data::{HopView, IpcProcess, Link, OutStep, Route, Settings, Settled, StepError};
 use rina_flows::Flows;
 use rina_iface::{Facility, PortState};
@@ -71,6 +71,32 @@ fn add_link(process: &mut IpcProcess, alloc: Global, port: Port) -> Result<(), M
         number,
         live: true,
     })?;
+    Ok(())
+}
+
+/// Loses the link at a place of an IPC process, and lets each allocated end at its node be in a state in which it is
+/// allocated no more. Without memory nothing changes.
+fn lose_last(
+    process: &mut IpcProcess,
+    alloc: Global,
+    place: usize,
+    routes: Seq<Route>,
+    flows: &mut Flows,
+    now: Tick,
+    node: Node,
+    state: PortState,
+) -> Result<(), Memory>
+    requires place { place < length process.old.links }
+    requires alike { length flows.old.journal.ends ≡ length flows.old.conns }
+    ensures does { LosesLast now node state place routes flows.old process.old result flows.new process.new }
+    ensures cap { process.new.queues.cap ≡ process.old.queues.cap }
+{
+    let Some(held) = flows.held_at(node) else {
+        return Err(Memory);
+    };
+    let mut lines = process.lose_with_room(alloc, place, routes, held)?;
+    flows.stop_all(now, node, state, &mut lines);
+    process.ledger.put(lines);
     Ok(())
 }
 
@@ -139,6 +165,29 @@ impl Processes {
     {
         let process = &mut self.items[at];
         process.lose(alloc, place, routes)
+    }
+
+    /// Loses the link at a place of the IPC process at a place, as `lose` does, and lets each allocated end at its node
+    /// be in a state in which it is allocated no more, in the order of the journal; what their connections hold is
+    /// written off behind what waited for the link. Without memory nothing changes.
+    pub fn lose_last(
+        &mut self,
+        alloc: Global,
+        at: usize,
+        place: usize,
+        routes: Seq<Route>,
+        flows: &mut Flows,
+        now: Tick,
+        node: Node,
+        state: PortState,
+    ) -> Result<(), Memory>
+        requires at { at < length self.old }
+        requires place { (p : IpcProcess) → slice_get self.old at ≡ Some p → place < length p.links }
+        requires alike { length flows.old.journal.ends ≡ length flows.old.conns }
+        ensures { LosesLastIn now node state place routes result at flows.old self.old flows.new self.new }
+    {
+        let process = &mut self.items[at];
+        lose_last(process, alloc, place, routes, flows, now, node, state)
     }
 
     /// Takes one step of the IPC process at a place at a link: a PDU that waits is sent below, or written off, or stays.

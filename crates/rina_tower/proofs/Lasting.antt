@@ -14,13 +14,13 @@ use Rattle.rina_data.specs.Upward.{IsSilent}
 use Rattle.rina_data.proofs.Finishing.{ended_silent}
 use Rattle.rina_data.proofs.Keepers.{facility}
 use Rattle.rina_data.proofs.Upper.{acknowledged_silent, forgotten_silent, resent_silent, silent_same}
-use Rattle.rina_data.proofs.Linkless.{lost_silent}
 use Rattle.rina_dif.specs.declared.dif.Dif.{Dif}
 use Rattle.rina_dif.specs.Clocking.{ClockSteps, ClockStepsAt, Steps, StepsFlow, StepsOk}
 use Rattle.rina_dif.specs.Holding.{Holds, Stands}
 use Rattle.rina_dif.specs.Shown.{seen_of}
 use Rattle.rina_dif.specs.Steps.{AtHome}
 use Rattle.rina_dif.specs.Taking.{TakesHome}
+use Rattle.rina_dif.proofs.Cutting.{loses_silent}
 use Rattle.rina_tower.specs.Lasting.{StandsAfter}
 use Rattle.rina_tower.proofs.Waiting.{clock_waits}
 
@@ -41,7 +41,7 @@ clock_flow d lines node (step.Timeout port) new lines' s = absurd s
 clock_flow d lines node (step.Message link) new lines' s = absurd s
 
 clock_done : (d : Dif) (lines : List Direction) (below : Seen) (node : ℕ) (done : ClockStep) (new : DifSeen) (lines' : List Direction) → Steps d lines below node done new lines' → IsSilent (seen_of d) new
-clock_done d lines below node (step.LinkLost link) new lines' s = (let l = s.0.loses in lost_silent (seen_of d) below s.0.i link l.routes new l.loses)
+clock_done d lines below node (step.LinkLost link) new lines' s = loses_silent d lines below s.0.i node link new s.0.loses
 clock_done d lines below node step.Idle new lines' s = clock_flow d lines node step.Idle new lines' s.1
 clock_done d lines below node (step.Gone cep) new lines' s = clock_flow d lines node (step.Gone cep) new lines' s.1
 clock_done d lines below node (step.GaveUp num) new lines' s = clock_flow d lines node (step.GaveUp num) new lines' s.1

@@ -27,6 +27,7 @@ use Rattle.rina_dif.specs.Holding.{Holds, Stands}
 use Rattle.rina_dif.specs.Shown.{seen_of}
 use Rattle.rina_dif.specs.Steps.{AtHome, OutsAt}
 use Rattle.rina_dif.specs.Taking.{InsAt, TakesHome}
+use Rattle.rina_dif.proofs.Cutting.{loses_waits}
 
 -- the same far ends wait
 abbrev SameWait : DifSeen → DifSeen → Type 0
@@ -107,7 +108,7 @@ clock_flow d lines node (clocks.Timeout port) new lines' s = absurd s
 clock_flow d lines node (clocks.Message link) new lines' s = absurd s
 
 clock_done : (d : Dif) (lines : List Direction) (below : Seen) (node : ℕ) (done : ClockStep) (new : DifSeen) (lines' : List Direction) → Steps d lines below node done new lines' → SameWait (seen_of d) new
-clock_done d lines below node (clocks.LinkLost link) new lines' s = ap (λ (x : DifSeen). x.waiting) s.0.loses.loses.new_is
+clock_done d lines below node (clocks.LinkLost link) new lines' s = loses_waits d lines below s.0.i node link new s.0.loses
 clock_done d lines below node clocks.Idle new lines' s = clock_flow d lines node clocks.Idle new lines' s.1
 clock_done d lines below node (clocks.Gone cep) new lines' s = clock_flow d lines node (clocks.Gone cep) new lines' s.1
 clock_done d lines below node (clocks.GaveUp num) new lines' s = clock_flow d lines node (clocks.GaveUp num) new lines' s.1

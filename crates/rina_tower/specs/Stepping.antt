@@ -62,10 +62,10 @@ OutSteps may slots slots' r dif node link result t t' =
 
 -- What comes with time
 
--- a DIF does the first thing that is due at a node; a flow fails only for its cause
+-- a DIF does the first thing that is due at a node; a flow fails only for its causes
 pub record ClocksOne (below : Seen) (node : ℕ) (result : Result ClockStep StepError) (below' : Seen) (d d' : Dif) : Type 0 where
   pub does : (lines : List Direction) → Holds d lines below → ClockSteps d lines below node result d' below'
-  pub fails : (lines : List Direction) → Holds d lines below → FailsLate d lines d'
+  pub fails : (lines : List Direction) → Holds d lines below → FailsLate d lines below d'
   pub after : StandsAfter below below' d d'
 
 abbrev pub ClocksHere : ℕ → ℕ → Result ClockStep StepError → Tower → Tower → Type 0

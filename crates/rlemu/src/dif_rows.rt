@@ -436,7 +436,7 @@ flow = [ { cube = 1, from = { node = \"a\", app = \"s\", label = \"p\" }, to = {
 ";
 
 /// Stacks, the lines that are run on each, and what is written.
-pub const DIF_ROWS: [(&str, &str, &str); 27] = [
+pub const DIF_ROWS: [(&str, &str, &str); 28] = [
     (
         ONE_FLOW,
         "send p1 'a\nrepeat w 0 3\ntick 3\nread q1\n",
@@ -569,7 +569,12 @@ pub const DIF_ROWS: [(&str, &str, &str); 27] = [
     ),
     (
         RING,
-        "send p 'one\ntick 4\nread q\ncut ab\nsend p 'two\ntick 4\nread q\n",
-        "1 0 sent 1.0\n2 4 ok\n3 4 got 4 'one\n4 4 ok\n5 4 sent 1.1\n6 8 ok\n7 8 got 8 'two\nend 8\n",
+        "send p 'one\ntick 4\nread q\ncut ab\nsend p 'two\ntick 4\nread q\ncut ac\n",
+        "1 0 sent 1.0\n2 4 ok\n3 4 got 4 'one\n4 4 ok\n5 4 sent 1.1\n6 8 ok\n7 8 got 8 'two\n8 8 ok\n8 8 state p failed Below d3/a/1\nend 8\n",
+    ),
+    (
+        FOUR_IN_A_ROW,
+        "cut w3\ntick 4\n",
+        "1 0 ok\n1 0 state q failed Below w3/d/1\n2 4 ok\nend 4\n",
     ),
 ];

@@ -6,16 +6,16 @@ use Rattle.rina_dif.proofs.dif.Dif.step_at.Goals as goal
 pub lost_link_at-requires-clause-at : goal.lost_link_at-requires-clause-at
 lost_link_at-requires-clause-at g c = process_there c.args.self.now (g.F.Facility.seen c.args.below.now) c.args.at c.requires.stands c.requires.at
 
-pub returns-in_err-lose_link-in-Some-clause-does : goal.returns-in_err-lose_link-in-Some-clause-does
-returns-in_err-lose_link-in-Some-clause-does g c = λ lines h.
+pub returns-in_err-lose_at-in-Some-clause-does : goal.returns-in_err-lose_at-in-Some-clause-does
+returns-in_err-lose_at-in-Some-clause-does g c = λ lines h.
     let below = g.F.Facility.seen c.args.below.now in
     let err = err_from_is_err_and c.from_residual.result c.from_residual.ensures.1 in
-    link_err c.args.self.now lines below c.args.node c.from_residual.result err.0 c.lose_link.new.self err.2 err.1 (c.in_err-lose_link-in-Some.ensures.does lines below h c.in-Some.ensures)
+    link_err c.args.self.now lines below c.args.node c.from_residual.result err.0 c.lose_at.new.self err.2 err.1 (c.in_err-lose_at-in-Some.ensures.does lines h)
 
-pub returns-in_ok-lose_link-in-Some-clause-does : goal.returns-in_ok-lose_link-in-Some-clause-does
-returns-in_ok-lose_link-in-Some-clause-does g c = λ lines h.
+pub returns-in_ok-lose_at-in-Some-clause-does : goal.returns-in_ok-lose_at-in-Some-clause-does
+returns-in_ok-lose_at-in-Some-clause-does g c = λ lines h.
     let below = g.F.Facility.seen c.args.below.now in
-    link_first c.args.self.now lines below c.args.node c.args.at c.in-Some.lost c.lose_link.new.self c.requires.home (c.in_ok-lose_link-in-Some.ensures.does lines below h c.in-Some.ensures)
+    link_first c.args.self.now lines below c.args.node c.args.at c.in-Some.lost c.lose_at.new.self c.requires.home (c.in_ok-lose_at-in-Some.ensures.does lines h)
 
 pub returns-in-None-clause-does : goal.returns-in-None-clause-does
 returns-in-None-clause-does g c = λ lines h.

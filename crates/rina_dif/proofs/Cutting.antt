@@ -1,0 +1,180 @@
+-- All flows of a node fail with the last link of their IPC process.
+use Rattle.std.proofs.Common.{◌≡◌, ◌≢◌, ◌∙◌, ℕ, zero, suc, ◌<◌, ◌⊎◌, List, get_or, length, slice_get, slice_set, Option, Some, Result, Ok, Err, refl, sym, ap, subst, arith, inl, inr, set-set}
+use Rattle.std.proofs.lemmas.Option.{slice_get_read}
+use Rattle.rina_account.specs.declared.ledger.Off.{Off}
+use Rattle.rina_base.specs.declared.memory.Memory.{Memory}
+use Rattle.rina_base.specs.declared.number.Port.{Port}
+use Rattle.rina_iface.specs.declared.ends.End.{End}
+use Rattle.rina_iface.specs.declared.state.Fail.{Fail}
+use Rattle.rina_iface.specs.declared.state.Fail.TheVariants.{Below}
+use Rattle.rina_iface.specs.declared.state.PortState.{PortState}
+use Rattle.rina_iface.specs.declared.state.PortState.TheVariants.{Allocated, Failed}
+use Rattle.rina_iface.specs.Journal.{At}
+use Rattle.rina_iface.specs.Later.{Moves}
+use Rattle.rina_iface.specs.Seen.{Seen}
+use Rattle.rina_iface.proofs.Changed.{set_at, slice_get-set_same}
+use Rattle.rina_law.specs.Direction.{Direction}
+use Rattle.rina_data.specs.declared.link.Route.{Route}
+use Rattle.rina_data.specs.declared.losing.Lost.{Lost}
+use Rattle.rina_data.specs.declared.process.IpcProcess.{IpcProcess}
+use Rattle.rina_data.specs.Configs.{config_of}
+use Rattle.rina_data.specs.Deciding.{process_of}
+use Rattle.rina_data.specs.Dif.{Config, DifSeen}
+use Rattle.rina_data.specs.Ending.{IsEnded}
+use Rattle.rina_data.specs.Losing.{FailFirst, IsAllocatedAt, LosesAt, MayFail}
+use Rattle.rina_data.specs.Sending.{home}
+use Rattle.rina_data.specs.Upward.{IsSilent}
+use Rattle.rina_data.proofs.Linkless.{failed_carries, failed_numbered, failed_silent, failed_stands, first_stay, lost_silent, silent_on}
+use Rattle.rina_flows.specs.declared.flows.Flows.{Flows}
+use Rattle.rina_flows.specs.Delivering.{HasStopped}
+use Rattle.rina_flows.specs.Stopping.{MayStop, StopFirst}
+use Rattle.rina_flows.proofs.Gone.{is_ended}
+use Rattle.rina_dif.specs.declared.dif.Dif.{Dif}
+use Rattle.rina_dif.specs.Holding.{AreHoused, Holds}
+use Rattle.rina_dif.specs.Shown.{seen_of}
+use Rattle.rina_dif.specs.Unlinking.{FindsLostAt, FindsNoneLeft, KnowsWithout, LosesAs, LosesLast, LosesLastIn, LosesThenStops, LosesWith}
+use Rattle.rina_dif.proofs.Keeping.{housed_set}
+use Rattle.rina_dif.proofs.Leaves.{has_process, shown_at}
+use Rattle.rina_dif.proofs.Owning.{arrived_seen}
+use Rattle.rina_dif.proofs.Unlinked.{has_member, keeps_links, link_lost, lost_with}
+
+same_some : {X : Type 0} (o : Option X) (a b : X) → o ≡ Some a → o ≡ Some b → a ≡ b
+same_some o a b h g = cc
+
+-- One IPC process of those that are kept
+
+pub last_one : (now node : ℕ) (state : PortState) (place : ℕ) (routes : List Route) (r : Result (Unit {0}) Memory) (at : ℕ) (flows flows' : Flows) (ps : List IpcProcess) (x x' : IpcProcess) → at < length ps → x ≡ get_or ps at x → LosesLast now node state place routes flows x r flows' x' → x'.queues.cap ≡ x.queues.cap → LosesLastIn now node state place routes r at flows ps flows' (slice_set ps at x')
+last_one now node state place routes r at flows flows' ps x x' lt read loses cap p is =
+    let here : slice_get ps at ≡ Some x = slice_get_read ps (length ps) at x refl lt read in
+    let same : x ≡ p = same_some (slice_get ps at) x p here is in
+    (x', subst (λ (z : IpcProcess). LosesLast now node state place routes flows z r flows' x') same loses, subst (λ (z : IpcProcess). x'.queues.cap ≡ z.queues.cap) same cap, refl)
+
+-- The flows of a node end one after the other
+
+-- with these flows so far, and this ledger of the IPC process at a place
+abbrev stage : Dif → ℕ → IpcProcess → Flows → List Off → Dif
+stage d i p flows ledger = record d { flows = flows; processes = slice_set d.processes i (record p { ledger = ledger }) }
+
+stage_ended : (d : Dif) (i n node : ℕ) (p q : IpcProcess) (state : PortState) (lines : List Direction) (f f' : Flows) (l l' : List Off) → slice_get d.processes i ≡ Some q → home node (config_of d.settings).members ≡ Some i → IsAllocatedAt f.journal.ends node n → HasStopped (config_of d.settings) d.clock n state f l lines f' l' → IsEnded (seen_of (stage d i p f l)) lines n state (seen_of (stage d i p f' l'))
+stage_ended d i n node p q state lines f f' l l' is here a s =
+    let g : Config = config_of d.settings in
+    let old : Dif = stage d i p f l in
+    let pl : IpcProcess = record p { ledger = l } in
+    let ps' : List IpcProcess = slice_set d.processes i (record p { ledger = l' }) in
+    let there : slice_get old.processes i ≡ Some pl = slice_get-set_same d.processes i q pl is in
+    let twice : ps' ≡ slice_set old.processes i (record pl { ledger = l' }) = sym (set-set d.processes i pl (record p { ledger = l' })) in
+    let seen = arrived_seen old i pl s.offs l' f' ps' refl s.ids s.ledger_is twice in
+    let same : a.end ≡ s.stops.end = same_some (slice_get f.journal.ends n) a.end s.stops.end a.is_end s.stops.is_conn.end in
+    let at_home : home s.stops.end.port.node g.members ≡ Some i = ap (λ (e : End). home e.port.node g.members) (sym same) ∙ ap (λ (k : ℕ). home k g.members) a.node_is ∙ here in
+    is_ended (seen_of old) lines n i state (process_of pl) s.offs f'.journal.ends (seen_of (stage d i p f' l')) s.stops at_home (shown_at old i pl there) seen
+
+stage_fails : (d : Dif) (i n node : ℕ) (p q : IpcProcess) (fail : Fail) (lines : List Direction) (f f' : Flows) (l l' : List Off) → slice_get d.processes i ≡ Some q → home node (config_of d.settings).members ≡ Some i → MayStop (config_of d.settings) d.clock node (Failed fail) lines n f l f' l' → MayFail lines node fail n (seen_of (stage d i p f l)) (seen_of (stage d i p f' l'))
+stage_fails d i n node p q fail lines f f' l l' is here (inl s) = inl (s.0, stage_ended d i n node p q (Failed fail) lines f f' l l' is here s.0 s.1)
+stage_fails d i n node p q fail lines f f' l l' is here (inr k) = inr (k.0, ap (λ (z : Flows). seen_of (stage d i p z l')) k.1 ∙ ap (λ (z : List Off). seen_of (stage d i p f z)) k.2)
+
+stages_fail : (d : Dif) (i n node : ℕ) (p q : IpcProcess) (fail : Fail) (lines : List Direction) (f f' : Flows) (l l' : List Off) → slice_get d.processes i ≡ Some q → home node (config_of d.settings).members ≡ Some i → StopFirst (config_of d.settings) d.clock node (Failed fail) lines n f l f' l' → FailFirst lines node fail n (seen_of (stage d i p f l)) (seen_of (stage d i p f' l'))
+stages_fail d i zero node p q fail lines f f' l l' is here s = ap (λ (z : Flows). seen_of (stage d i p z l')) s.0 ∙ ap (λ (z : List Off). seen_of (stage d i p f z)) s.1
+stages_fail d i (suc n) node p q fail lines f f' l l' is here s = (seen_of (stage d i p s.0 s.1), stages_fail d i n node p q fail lines f s.0 l s.1 is here s.2, stage_fails d i n node p q fail lines s.0 f' s.1 l' is here s.3)
+
+-- The link is lost, and they all fail
+
+failed_other : (fail : Fail) → Failed fail ≢ Allocated
+failed_other fail e = absurd cc
+
+last_fails : (d : Dif) (at node : ℕ) (lost : Lost) (port : Port) (routes : List Route) (flows : Flows) (p p' : IpcProcess) → at < length d.settings.members → home node (config_of d.settings).members ≡ Some at → slice_get d.processes at ≡ Some p → KnowsWithout d at lost.place routes → LosesThenStops d.clock node (Failed (Below port)) lost.place routes d.flows p flows p' → p'.queues.cap ≡ p.queues.cap
+    → (lines : List Direction) (below : Seen) → Holds d lines below → FindsLostAt d below at (Some lost) → FindsNoneLeft d below at lost.place (Some port) → LosesAs d lines below at node lost.number (Ok tt) (record d { flows = flows; processes = slice_set d.processes at p' })
+last_fails d at node lost port routes flows p p' lt here is knows s cap lines below h finds left =
+    let g : Config = config_of d.settings in
+    let m = has_member d at lt in
+    let p1 : IpcProcess = record p' { ledger = s.ledger } in
+    let mid : Dif = record d { processes = slice_set d.processes at p1 } in
+    let d' : Dif = record d { flows = flows; processes = slice_set d.processes at p' } in
+    let l = link_lost d lines below at lost routes m.0 p p1 m.1 is knows s.loses cap h finds in
+    let told = left l.process l.link l.is_process l.stands in
+    let all = s.stops g lines l.holds.standing.journal l.holds.tied tt (failed_other (Below port)) s.fits in
+    let fails = stages_fail d at (length d.flows.journal.ends) node p' p (Below port) lines d.flows flows s.ledger p'.ledger is here all.0 in
+    let by : FailFirst lines node (Below l.link.port) (length d.flows.journal.ends) (seen_of mid) (seen_of d') = subst (λ (z : Port). FailFirst lines node (Below z) (length d.flows.journal.ends) (seen_of mid) (seen_of d')) told.0 fails in
+    let there : slice_get mid.processes at ≡ Some p1 = slice_get-set_same d.processes at p p1 is in
+    let twice : slice_set mid.processes at p' ≡ slice_set d.processes at p' = set-set d.processes at p1 p' in
+    (
+      lost_with d lines below at node lost.place lost.number mid (seen_of d') l (inl (told.1, by)),
+      record {
+        tied = all.1;
+        standing = failed_stands (seen_of mid) lines below node l.link.port (seen_of d') l.holds.standing by;
+        carrying = failed_carries (seen_of mid) lines below node l.link.port (seen_of d') l.holds.carrying by;
+        numbered = failed_numbered (seen_of mid) lines below node l.link.port (seen_of d') l.holds.numbered by;
+        housed = subst (λ (ps : List IpcProcess). AreHoused g ps) twice (housed_set g mid.processes at p1 p' l.holds.housed there refl (record { links = refl; routes = refl; places = λ qos link. refl }));
+      },
+    )
+
+pub last_loses : (d : Dif) (at node : ℕ) (lost : Lost) (port : Port) (routes : List Route) (r : Result (Unit {0}) Memory) (flows : Flows) (ps : List IpcProcess) → at < length d.settings.members → home node (config_of d.settings).members ≡ Some at → KnowsWithout d at lost.place routes → LosesLastIn d.clock node (Failed (Below port)) lost.place routes r at d.flows d.processes flows ps
+    → (lines : List Direction) (below : Seen) → Holds d lines below → FindsLostAt d below at (Some lost) → FindsNoneLeft d below at lost.place (Some port) → LosesAs d lines below at node lost.number r (record d { flows = flows; processes = ps })
+last_loses d at node lost port routes (Ok done) flows ps lt here knows loses lines below h finds left =
+    let p = has_process d below at (lines, h) lt in
+    let x = loses p.0 p.1 in
+    subst (λ (qs : List IpcProcess). LosesAs d lines below at node lost.number (Ok tt) (record d { flows = flows; processes = qs })) (sym x.3) (last_fails d at node lost port routes flows p.0 x.0 lt here p.1 knows x.1 x.2 lines below h finds left)
+last_loses d at node lost port routes (Err e) flows ps lt here knows loses lines below h finds left =
+    let p = has_process d below at (lines, h) lt in
+    let x = loses p.0 p.1 in
+    subst (λ (f : Flows). LosesAs d lines below at node lost.number (Err e) (record d { flows = f; processes = ps })) (sym x.1.0) (keeps_links d lines below at p.0 x.0 ps p.1 x.1.1 x.2 x.3 h)
+
+-- What a rank sees of it
+
+-- nothing but ends and IPC processes changes as they fail
+record IsFramed (d z : DifSeen) : Type 0 where
+  clock : z.clock ≡ d.clock
+  waiting : z.waiting ≡ d.waiting
+
+fails_frame : (lines : List Direction) (node : ℕ) (port : Port) (n : ℕ) (d d' : DifSeen) → FailFirst lines node (Below port) n d d' → IsFramed d d'
+fails_frame lines node port n d d' f = first_stay (IsFramed d) lines node (Below port) (λ at a b x e. record { clock = ap (λ (z : DifSeen). z.clock) e.new_is ∙ x.clock; waiting = ap (λ (z : DifSeen). z.waiting) e.new_is ∙ x.waiting }) n d d' (record { clock = refl; waiting = refl }) f
+
+pub loses_silent : (d : Dif) (lines : List Direction) (below : Seen) (i node number : ℕ) (new : DifSeen) → LosesWith d lines below i node number new → IsSilent (seen_of d) new
+loses_silent d lines below i node number new w =
+    let l = w.loses in
+    let lost = lost_silent (seen_of d) below i number l.routes w.between l.loses in
+    let first : w.between.clock ≡ d.clock = ap (λ (x : DifSeen). x.clock) l.loses.new_is in
+    elim w.fails [
+      | inl f ↦
+          (let then = (fails_frame lines node l.loses.link.port (length w.between.ends) w.between new f.1).clock in
+          silent_on (seen_of d) w.between new (omega (arith, first)) (omega (arith, then)) lost (failed_silent w.between lines node l.loses.link.port new f.1))
+      | inr k ↦ subst (IsSilent (seen_of d)) (sym k.1) lost
+    ]
+
+-- the far ends that wait are the same
+pub loses_waits : (d : Dif) (lines : List Direction) (below : Seen) (i node number : ℕ) (new : DifSeen) → LosesWith d lines below i node number new → new.waiting ≡ d.waiting.items
+loses_waits d lines below i node number new w =
+    let l = w.loses in
+    let first : w.between.waiting ≡ d.waiting.items = ap (λ (x : DifSeen). x.waiting) l.loses.new_is in
+    elim w.fails [
+      | inl f ↦ (fails_frame lines node l.loses.link.port (length w.between.ends) w.between new f.1).waiting ∙ first
+      | inr k ↦ ap (λ (x : DifSeen). x.waiting) k.1 ∙ first
+    ]
+
+-- Which ends failed
+
+-- an end is as it was, or was allocated there and has failed so
+Failing : (lines : List Direction) → ℕ → Fail → DifSeen → ℕ → End → Type 0
+Failing lines node fail d at end' = At d.ends at end' ⊎ (IsAllocatedAt d.ends node at × (end'.state ≡ Failed fail))
+
+failed_one : (lines : List Direction) (node : ℕ) (fail : Fail) (n : ℕ) (d mid d' : DifSeen) → ((at : ℕ) (end : End) → At mid.ends at end → Failing lines node fail d at end) → IsAllocatedAt mid.ends node n → IsEnded mid lines n (Failed fail) d' → (at : ℕ) (end' : End) → At d'.ends at end' → Failing lines node fail d at end'
+unfolding Failing
+failed_one lines node fail n d mid d' was a e at end' is =
+    let changed : End = record e.end { state = Failed fail } in
+    let ends : d'.ends ≡ slice_set mid.ends n changed = ap (λ (z : DifSeen). z.ends) e.new_is in
+    elim (set_at mid.ends n at e.end changed end' e.is_conn.end (subst (λ (es : List End). slice_get es at ≡ Some end') ends is)) [
+      | inl t ↦
+          (let same : e.end ≡ a.end = same_some (slice_get mid.ends n) e.end a.end e.is_conn.end a.is_end in
+          elim (was n e.end e.is_conn.end) [
+            | inl old ↦ inr (record { end = e.end; is_end = ap (slice_get d.ends) t.0 ∙ old; allocated = e.allocated; node_is = ap (λ (z : End). z.port.node) same ∙ a.node_is }, ap (λ (z : End). z.state) t.1)
+            | inr gone ↦ absurd (failed_other fail (sym gone.1 ∙ e.allocated))
+          ])
+      | inr f ↦ was at end' f.1
+    ]
+
+pub failed_ends : (lines : List Direction) (node : ℕ) (fail : Fail) (n : ℕ) (d d' : DifSeen) → FailFirst lines node fail n d d' → (at : ℕ) (end' : End) → At d'.ends at end' → At d.ends at end' ⊎ (IsAllocatedAt d.ends node at × (end'.state ≡ Failed fail))
+unfolding Failing
+failed_ends lines node fail zero d d' f at end' is = inl (subst (λ (z : DifSeen). slice_get z.ends at ≡ Some end') f is)
+failed_ends lines node fail (suc n) d d' f at end' is = elim f.2 [
+  | inl s ↦ failed_one lines node fail n d f.0 d' (failed_ends lines node fail n d f.0 f.1) s.0 s.1 at end' is
+  | inr k ↦ failed_ends lines node fail n d f.0 f.1 at end' (subst (λ (z : DifSeen). slice_get z.ends at ≡ Some end') k.1 is)
+]
