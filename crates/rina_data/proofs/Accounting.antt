@@ -1,5 +1,5 @@
 -- The account goes on as an IPC process queues, sends and writes off PDUs.
-use Rattle.std.proofs.Common.{◌≡◌, ◌≢◌, ℕ, zero, suc, ◌+◌, ◌-◌, ◌<◌, ◌≤◌, Bool, true, false, cond, eqb, List, [], ◌∷◌, ◌++◌, drop, length, map, slice_get, slice_set, Some, None, Option, Ok, Err, Result, refl, sym, ◌∙◌, ap, subst, arith, inl, inr, ◌⊎◌}
+use Rattle.std.proofs.Common.{◌≡◌, ◌≢◌, ℕ, ◌+◌, ◌-◌, ◌≤◌, Bool, true, false, cond, eqb, List, [], ◌∷◌, ◌++◌, drop, length, map, slice_get, slice_set, Some, None, Option, refl, sym, ◌∙◌, ap, subst, arith, inl, inr}
 use Rattle.std.specs.Prelude.{flat_map, sum_by}
 use Rattle.std.proofs.lemmas.List.Concat.{flat_map-cons}
 use Rattle.std.proofs.lemmas.List.Sums.{sum_by-append, sum_by-cons}
@@ -36,10 +36,10 @@ use Rattle.rina_data.specs.Passing.{IsPassed}
 use Rattle.rina_data.specs.Queueing.{line_for}
 use Rattle.rina_data.specs.Sending.{home}
 use Rattle.rina_data.specs.Standing.{IsConn}
-use Rattle.rina_data.specs.Timely.{IsAcknowledged, IsAtHome, IsResent, Posts}
-use Rattle.rina_data.proofs.Balancing.{AreSame, IsBefore, IsMoved, accounted_on, gone, moved_same}
+use Rattle.rina_data.specs.Timely.{IsAcknowledged, IsResent, Posts}
+use Rattle.rina_data.proofs.Balancing.{AreSame, IsMoved, accounted_on, gone, moved_same}
 use Rattle.rina_data.proofs.Ends.{same_some}
-use Rattle.rina_data.proofs.Keys.{IsOneKey, key_cases, offs_append, offs_one, one, one_not, piece_no_ack}
+use Rattle.rina_data.proofs.Keys.{IsOneKey, offs_append, offs_one, one, one_not, piece_no_ack}
 use Rattle.rina_data.proofs.Tallies.{HoldSame, end_changed, hold_set, kept_all_same, kept_same, made_same}
 use Rattle.rina_data.proofs.Totals.{sum_set}
 

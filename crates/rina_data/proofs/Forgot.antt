@@ -1,6 +1,5 @@
 -- What a piece finds, once what is left of a state that is gone was given up.
-use Rattle.std.proofs.Common.{◌≡◌, ℕ, List, Bool, true, false, cond, refl}
-use Rattle.rina_law.specs.declared.entry.Entry.{Entry}
+use Rattle.std.proofs.Common.{◌≡◌, Bool, true, false, cond, refl}
 use Rattle.rina_law.specs.Constants.{Constants}
 use Rattle.rina_law.specs.Direction.{Direction, Forget, happens}
 use Rattle.rina_law.specs.Receiver.{is_present}

@@ -1,13 +1,12 @@
 -- The account begins, and goes on as flows are made and as they fail.
-use Rattle.std.proofs.Common.{◌≡◌, ◌≢◌, ℕ, zero, suc, ◌+◌, ◌-◌, ◌<◌, ◌≤◌, ◌&&◌, cond, not, Bool, true, false, eqb, ltb, List, [], ◌∷◌, ◌++◌, get_or, length, length-append, map, slice_get, take, Some, None, Option, option_and_then, option_map, refl, sym, ◌∙◌, ap, subst, arith, inl, inr, ◌⊎◌}
+use Rattle.std.proofs.Common.{◌≡◌, ◌≢◌, ℕ, zero, suc, ◌+◌, ◌<◌, ◌≤◌, ◌&&◌, cond, not, Bool, true, false, eqb, ltb, List, [], ◌∷◌, ◌++◌, length, length-append, slice_get, take, Some, None, Option, option_and_then, refl, sym, ◌∙◌, ap, subst, arith, inl, inr, ◌⊎◌}
 use Rattle.std.specs.Prelude.{position, sum_by}
-use Rattle.std.specs.List.{position_or_len, prefix_len}
+use Rattle.std.specs.List.{position_or_len}
 use Rattle.std.specs.Str.{bytes_eq}
 use Rattle.std.proofs.lemmas.Bool.{cases_lt, eq-eqb, le-ltb, lt-ltb}
 use Rattle.std.proofs.lemmas.Bool.Decides.{eqb_tells}
 use Rattle.std.proofs.lemmas.List.Folds.{prefix_len-append}
 use Rattle.std.proofs.lemmas.List.Sums.{prefix_len-le-length, sum_by-cons}
-use Rattle.std.proofs.lemmas.Option.{slice_get_past, slice_get_within}
 use Rattle.std.proofs.lemmas.Slice.Eq.{bytes_eq-Decides}
 use Rattle.rina_account.specs.Account.{Counts, off_count}
 use Rattle.rina_account.specs.declared.ledger.Off.{Off}
@@ -20,7 +19,7 @@ use Rattle.rina_iface.specs.declared.state.PortState.{PortState}
 use Rattle.rina_iface.specs.declared.state.PortState.TheVariants.{Allocated, Closed, Failed, Pending, Refused}
 use Rattle.rina_iface.specs.Bind.{with_name_once}
 use Rattle.rina_iface.specs.Journal.{AreKept, At}
-use Rattle.rina_iface.specs.Seen.{Fac, Seen, end_of}
+use Rattle.rina_iface.specs.Seen.{Fac, Seen}
 use Rattle.rina_iface.proofs.Found.{end_of_stands, stands_there}
 use Rattle.rina_iface.proofs.Grown.{still_at}
 use Rattle.rina_law.specs.declared.entry.Entry.{Entry}
@@ -30,25 +29,24 @@ use Rattle.rina_queue.specs.declared.queue.Queued.{Queued}
 use Rattle.rina_data.specs.Accounted.{IsAccounted, IsBalanced, Resends, bears, bears_on, counts_of, entries_with, held_by, held_in, inbound_of, is_far, journal_numbers, kept_by, made_by, over_ends, queued_with, sent_with, share, taken_with, total}
 use Rattle.rina_data.specs.AccountLaws.{IsUnused}
 use Rattle.rina_data.specs.Binding.{IsBound, asker_next, far_next, ids_next}
-use Rattle.rina_data.specs.Cloud.{Hop, IsMine, Waits}
+use Rattle.rina_data.specs.Cloud.{Hop, IsMine}
 use Rattle.rina_data.specs.Counting.{held_numbers, times}
-use Rattle.rina_data.specs.Dif.{Config, DifSeen, IsProcess, Member, Process, Queue, piece_size}
+use Rattle.rina_data.specs.Dif.{DifSeen, Member, Process, piece_size}
 use Rattle.rina_data.specs.Ids.{Ids, flipped}
 use Rattle.rina_data.specs.Losing.{FailAll}
 use Rattle.rina_data.specs.Numbered.{IsNumbered}
 use Rattle.rina_data.specs.Standing.{IsStanding}
 use Rattle.rina_data.specs.Start.{IsFresh, IsStart}
 use Rattle.rina_data.proofs.Accounting.{resends_on}
-use Rattle.rina_data.proofs.Balancing.{IsBefore, accounted_on, moved_same}
+use Rattle.rina_data.proofs.Balancing.{accounted_on, moved_same}
 use Rattle.rina_data.proofs.Binding.{addrs_apart, bound_stands, two_at}
 use Rattle.rina_data.proofs.Finding.{beside, there}
 use Rattle.rina_data.proofs.Finishing.{ended_stands}
 use Rattle.rina_data.proofs.Linkless.{first_stay}
 use Rattle.rina_data.proofs.Numbering.{ended_numbered}
 use Rattle.rina_data.proofs.Receiving.{ended_accounted}
-use Rattle.rina_data.proofs.Shares.{share_other, share_own}
 use Rattle.rina_data.proofs.Tallies.{AreApartIds, inbound_at, kept_in, made_in}
-use Rattle.rina_data.proofs.Totals.{total_same, total_two}
+use Rattle.rina_data.proofs.Totals.{total_same}
 
 -- ---- sums of nothing
 

@@ -1,7 +1,7 @@
 -- The account goes on as an IPC process takes what came from below.
-use Rattle.std.proofs.Common.{◌≡◌, ◌≢◌, ℕ, zero, suc, ◌+◌, ◌-◌, ◌<◌, ◌≤◌, ◌&&◌, not, Bool, true, false, cond, eqb, List, [], ◌∷◌, ◌++◌, length, map, slice_get, slice_set, Some, None, Option, Ok, Err, Result, refl, sym, ◌∙◌, ap, subst, arith, inl, inr, ◌⊎◌}
+use Rattle.std.proofs.Common.{◌≡◌, ◌≢◌, ℕ, ◌+◌, ◌<◌, ◌≤◌, ◌&&◌, not, Bool, true, false, cond, eqb, List, [], ◌∷◌, ◌++◌, length, map, slice_get, slice_set, Some, None, Option, Ok, Err, Result, refl, sym, ◌∙◌, ap, subst, arith, inl, inr}
 use Rattle.std.proofs.lemmas.Bool.{eq-eqb}
-use Rattle.rina_account.specs.Account.{Counts, key_eq, off_count}
+use Rattle.rina_account.specs.Account.{Counts, key_eq}
 use Rattle.rina_account.specs.declared.ledger.Off.{Off}
 use Rattle.rina_base.specs.declared.cause.Cause.{Cause}
 use Rattle.rina_base.specs.declared.cause.Cause.TheVariants as causes
@@ -9,7 +9,7 @@ use Rattle.rina_base.specs.declared.number.Key.{Key}
 use Rattle.rina_base.specs.declared.number.Port.{Port}
 use Rattle.rina_base.specs.declared.pdu.Pdu.{Pdu}
 use Rattle.rina_base.specs.declared.pdu.PduKind.{PduKind}
-use Rattle.rina_base.specs.declared.pdu.PduKind.TheVariants.{Piece as APiece, Ack as AnAck}
+use Rattle.rina_base.specs.declared.pdu.PduKind.TheVariants.{Piece as APiece}
 use Rattle.rina_base.specs.Pdus.{key_of, number_by}
 use Rattle.rina_iface.specs.declared.ends.End.{End}
 use Rattle.rina_iface.specs.declared.state.PortState.{PortState}
@@ -20,12 +20,12 @@ use Rattle.rina_iface.proofs.Changed.{slice_get-set_same}
 use Rattle.rina_iface.proofs.Found.{end_of_stands}
 use Rattle.rina_law.specs.declared.entry.Entry.{Entry}
 use Rattle.rina_law.specs.Constants.{Constants}
-use Rattle.rina_law.specs.Direction.{Direction, Forget, entry_for, happens, has_room}
+use Rattle.rina_law.specs.Direction.{Direction, entry_for, has_room}
 use Rattle.rina_law.specs.Line.{arrival_verdict, told}
 use Rattle.rina_law.specs.Lists.{In}
 use Rattle.rina_law.specs.Pdus.{ack_in, piece_in}
-use Rattle.rina_law.specs.Pieces.{IsSized, Joiner, Part, Sdu}
-use Rattle.rina_law.specs.Receiver.{Piece, is_present, numbers}
+use Rattle.rina_law.specs.Pieces.{IsSized, Part, Sdu}
+use Rattle.rina_law.specs.Receiver.{Piece, is_present}
 use Rattle.rina_queue.specs.declared.queue.Queued.{Queued}
 use Rattle.rina_data.specs.declared.link.Link.{Link}
 use Rattle.rina_data.specs.declared.step.InStep.{InStep}
@@ -34,29 +34,28 @@ use Rattle.rina_data.specs.declared.step.StepError.{StepError}
 use Rattle.rina_data.specs.declared.step.StepError.TheVariants.{Memory, NoIpc, NoLink}
 use Rattle.rina_data.specs.declared.step.Took.{Took}
 use Rattle.rina_data.specs.declared.step.Took.TheVariants as took
-use Rattle.rina_data.specs.Accounted.{IsAccounted, Resends, bears, bears_on, counts_of, entry_numbers, held_by, held_in, inbound_of, journal_numbers, over_ends, pieces_of, sent_with, taken_with}
-use Rattle.rina_data.specs.Carried.{AreJoined, HasCome, HoldsCome, IsCarrying}
+use Rattle.rina_data.specs.Accounted.{IsAccounted, Resends, bears, bears_on, counts_of, held_by, held_in, inbound_of, journal_numbers, over_ends, pieces_of, sent_with, taken_with}
+use Rattle.rina_data.specs.Carried.{AreJoined, HoldsCome, IsCarrying}
 use Rattle.rina_data.specs.Cloud.{Cloud, Everywhere, Hop, IsMine, opened}
-use Rattle.rina_data.specs.Counting.{held_numbers, numbers_from, off_numbers, times, whole_numbers}
-use Rattle.rina_data.specs.Dif.{Config, DifSeen, IsProcess, Member, Process, constants, link_by, piece_size, with_offs, with_process, with_put}
+use Rattle.rina_data.specs.Counting.{held_numbers, off_numbers, times, whole_numbers}
+use Rattle.rina_data.specs.Dif.{Config, DifSeen, IsProcess, Member, Process, constants, link_by, piece_size, with_offs, with_process}
 use Rattle.rina_data.specs.Ids.{Ids, IsFrom, PiecesOf, flipped}
-use Rattle.rina_data.specs.Incoming.{AllSettled, Ins, IsArrived, IsInTime, IsRelayed, IsTold, Settles, SettlesOff, arrived, found, joined_by, lines_for, written_off}
+use Rattle.rina_data.specs.Incoming.{Ins, IsArrived, IsInTime, IsRelayed, IsTold, Settles, SettlesOff, arrived, found, joined_by, lines_for, written_off}
 use Rattle.rina_data.specs.Numbered.{IsNumbered}
 use Rattle.rina_data.specs.Queueing.{line_for}
-use Rattle.rina_data.specs.Standing.{IsConfig, IsConn, IsStanding}
+use Rattle.rina_data.specs.Standing.{IsStanding}
 use Rattle.rina_data.proofs.Accounting.{left_at, one_off, one_process, put_one, renewed}
-use Rattle.rina_data.proofs.Arrivals.{IsArrival, arrival}
-use Rattle.rina_data.proofs.Balancing.{AreSame, IsMoved, gone, moved_in, moved_same}
+use Rattle.rina_data.proofs.Arrivals.{arrival}
+use Rattle.rina_data.proofs.Balancing.{IsMoved, gone, moved_in}
 use Rattle.rina_data.proofs.Carrying.{arriving_sized}
 use Rattle.rina_data.proofs.Coming.{alive_arrival}
 use Rattle.rina_data.proofs.Ends.{same_some}
-use Rattle.rina_data.proofs.Finding.{beside}
-use Rattle.rina_data.proofs.Forgot.{by_found, found_clock, found_got}
-use Rattle.rina_data.proofs.Joined.{IsWholeOf, after_known, none_joined}
+use Rattle.rina_data.proofs.Forgot.{by_found, found_got}
+use Rattle.rina_data.proofs.Joined.{after_known, none_joined}
 use Rattle.rina_data.proofs.Keys.{AreOf, IsOneKey, one, one_by_number, one_not, piece_no_ack}
 use Rattle.rina_data.proofs.Pieces.{cut_pieces, journal_more, whole_journal}
-use Rattle.rina_data.proofs.Receiving.{HaveCome, IsComing, inbound_ids, keeps_of, member_at, others_addr, received}
-use Rattle.rina_data.proofs.Relaying.{HasTaken, accounted_same, has_taken, link_named, named_at, same_process, within_kept}
+use Rattle.rina_data.proofs.Receiving.{HaveCome, inbound_ids, others_addr, received}
+use Rattle.rina_data.proofs.Relaying.{accounted_same, has_taken, link_named, named_at, same_process, within_kept}
 use Rattle.rina_data.proofs.Tallies.{end_changed, hold_elsewhere, hold_set, inbound_at, kept_all_same}
 
 -- Nothing is asked of a part but its size

@@ -1,41 +1,28 @@
 -- The account goes on as the rank below does, and it begins.
-use Rattle.std.proofs.Common.{◌≡◌, ◌≢◌, ℕ, zero, suc, ◌+◌, ◌-◌, ◌<◌, ◌≤◌, cond, Bool, true, false, List, [], ◌∷◌, ◌++◌, get_or, length, map, slice_get, take, Some, None, Option, option_and_then, option_map, refl, sym, ◌∙◌, ap, subst, arith, inl, inr}
-use Rattle.std.specs.Prelude.{sum_by}
-use Rattle.std.specs.Str.{bytes_eq}
+use Rattle.std.proofs.Common.{◌≡◌, ℕ, ◌-◌, ◌≤◌, Bool, List, ◌++◌, length, map, slice_get, take, Some, None, Option, option_map, refl, sym, ◌∙◌, ap, subst, arith}
 use Rattle.std.proofs.lemmas.List.{take-append-le}
-use Rattle.std.proofs.lemmas.List.Sums.{sum_by-cons}
 use Rattle.std.proofs.lemmas.Option.{slice_get-map}
-use Rattle.rina_account.specs.Account.{Counts, off_count}
-use Rattle.rina_account.specs.declared.ledger.Off.{Off}
-use Rattle.rina_base.specs.declared.number.Key.{Key}
 use Rattle.rina_base.specs.declared.number.Num.{Num}
 use Rattle.rina_base.specs.declared.number.Port.{Port}
 use Rattle.rina_iface.specs.declared.ends.End.{End}
-use Rattle.rina_iface.specs.Journal.{AreKept, At}
-use Rattle.rina_iface.specs.Later.{IsLater, IsLaterEnd}
+use Rattle.rina_iface.specs.Journal.{AreKept}
 use Rattle.rina_iface.specs.Pass.{IsPassed as PassesBelow}
-use Rattle.rina_iface.specs.Seen.{Fac, Seen, end_of}
+use Rattle.rina_iface.specs.Seen.{Seen, end_of}
 use Rattle.rina_iface.specs.Send.{IsSent}
-use Rattle.rina_iface.proofs.Found.{end_of_stands, stands_there}
+use Rattle.rina_iface.proofs.Found.{end_of_stands}
 use Rattle.rina_law.specs.declared.entry.Entry.{Entry}
-use Rattle.rina_law.specs.Direction.{Direction, start}
+use Rattle.rina_law.specs.Direction.{Direction}
 use Rattle.rina_pci.specs.declared.widths.Widths.{Widths}
-use Rattle.rina_queue.specs.declared.queue.Queued.{Queued}
-use Rattle.rina_data.specs.Accounted.{IsAccounted, IsBalanced, Resends, bears, bears_on, counts_of, entries_with, held_in, held_by, inbound_of, kept_by, made_by, over_ends, queued_with, sent_with, share, taken_with, total}
-use Rattle.rina_data.specs.AccountLaws.{IsUnused}
-use Rattle.rina_data.specs.Cloud.{Hop, IsMember, IsMine, Waits, opened}
-use Rattle.rina_data.specs.Counting.{held_numbers, times}
-use Rattle.rina_data.specs.Dif.{Config, DifSeen, IsProcess, Member, Process, Queue, constants, piece_size}
-use Rattle.rina_data.specs.Ids.{Ids}
+use Rattle.rina_data.specs.Accounted.{IsAccounted, Resends, bears, bears_on, counts_of, entries_with, held_in, over_ends, sent_with, taken_with}
+use Rattle.rina_data.specs.Cloud.{Hop, IsMine}
+use Rattle.rina_data.specs.Dif.{Config, DifSeen, Member, piece_size}
 use Rattle.rina_data.specs.Lifting.{IsLifted, ticked}
 use Rattle.rina_data.specs.Passing.{IsTicked}
-use Rattle.rina_data.specs.Start.{IsStart}
 use Rattle.rina_data.proofs.Accounting.{resends_on}
-use Rattle.rina_data.proofs.Balancing.{AreSame, IsBefore, accounted_on, gone, moved_same}
-use Rattle.rina_data.proofs.Relaying.{HasSent, HasTaken, within_kept}
-use Rattle.rina_data.proofs.Shares.{CountsOn, ends_lifted, ends_other, share_other, share_own}
-use Rattle.rina_data.proofs.Tallies.{HoldSame, kept_all_same, kept_in, made_in}
-use Rattle.rina_data.proofs.Totals.{total_same}
+use Rattle.rina_data.proofs.Balancing.{accounted_on, moved_same}
+use Rattle.rina_data.proofs.Relaying.{within_kept}
+use Rattle.rina_data.proofs.Shares.{CountsOn, ends_lifted, ends_other}
+use Rattle.rina_data.proofs.Tallies.{HoldSame, kept_all_same}
 
 -- ---- the rank below goes on without the DIF
 

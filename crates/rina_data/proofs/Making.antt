@@ -1,5 +1,5 @@
 -- The account goes on as an SDU is sent.
-use Rattle.std.proofs.Common.{◌≡◌, ◌≢◌, ℕ, zero, suc, ◌+◌, ◌<◌, ◌≤◌, Bool, true, false, cond, eqb, List, [], ◌∷◌, ◌++◌, length, slice_get, slice_set, Some, None, Option, Ok, Err, Result, refl, sym, ◌∙◌, ap, subst, arith, inl, inr, ◌⊎◌}
+use Rattle.std.proofs.Common.{◌≡◌, ◌≢◌, ℕ, ◌+◌, ◌<◌, true, cond, eqb, List, [], ◌∷◌, ◌++◌, length, slice_get, slice_set, Some, Ok, Err, Result, refl, sym, ◌∙◌, ap, subst, arith, inl, inr}
 use Rattle.std.specs.Prelude.{sum_by}
 use Rattle.std.proofs.lemmas.Bool.Decides.{eqb_tells}
 use Rattle.std.proofs.lemmas.List.Sums.{sum_by-cons}
@@ -16,21 +16,21 @@ use Rattle.rina_iface.specs.Seen.{Seen}
 use Rattle.rina_law.specs.declared.entry.Entry.{Entry}
 use Rattle.rina_law.specs.Constants.{Constants}
 use Rattle.rina_law.specs.Direction.{Direction}
-use Rattle.rina_law.specs.Pieces.{IsCut, Part, join}
+use Rattle.rina_law.specs.Pieces.{IsCut, Part}
 use Rattle.rina_law.specs.Receiver.{Piece, numbers}
 use Rattle.rina_law.specs.Sender.{started}
 use Rattle.rina_queue.specs.declared.queue.Queued.{Queued}
-use Rattle.rina_data.specs.Accounted.{IsAccounted, Resends, counts_of, entry_numbers, journal_numbers, made_by, pieces_of, total}
+use Rattle.rina_data.specs.Accounted.{IsAccounted, Resends, counts_of, entry_numbers, journal_numbers, made_by, total}
 use Rattle.rina_data.specs.Counting.{held_numbers, numbers_from, times}
-use Rattle.rina_data.specs.Dif.{Config, DifSeen, IsProcess, Member, Process, constants, piece_size, with_put}
+use Rattle.rina_data.specs.Dif.{DifSeen, Member, Process, constants, piece_size, with_put}
 use Rattle.rina_data.specs.Ids.{Ids, pdu_of_piece}
 use Rattle.rina_data.specs.Numbered.{IsNumbered}
 use Rattle.rina_data.specs.Sending.{IsOffered, Offers, begins, made_items, offered, offered_entry, offered_pieces}
 use Rattle.rina_data.specs.Standing.{IsStanding}
-use Rattle.rina_data.proofs.Accounting.{home_addr, item_one, left_at, one_process, put_more, renewed}
-use Rattle.rina_data.proofs.Balancing.{AreSame, IsMoved, gone}
+use Rattle.rina_data.proofs.Accounting.{home_addr, item_one, one_process, put_more, renewed}
+use Rattle.rina_data.proofs.Balancing.{IsMoved, gone}
 use Rattle.rina_data.proofs.Carries.{offered_held}
-use Rattle.rina_data.proofs.Keys.{one, one_by_number, one_not, piece_no_ack}
+use Rattle.rina_data.proofs.Keys.{one_by_number, one_not, piece_no_ack}
 use Rattle.rina_data.proofs.Pieces.{cut_pieces, journal_more, journal_one, pieces_numbers}
 use Rattle.rina_data.proofs.Receiving.{member_at, others_addr}
 use Rattle.rina_data.proofs.Relaying.{accounted_same}

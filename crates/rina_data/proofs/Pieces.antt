@@ -1,6 +1,5 @@
 -- The pieces of SDUs, by their bytes and by their numbers.
-use Rattle.std.proofs.Common.{◌≡◌, ℕ, zero, suc, ◌+◌, ◌-◌, ◌*◌, ◌/◌, ◌<◌, ◌≤◌, Bool, true, false, List, [], ◌∷◌, ◌++◌, append-nil, length, length-append, map, refl, sym, ◌∙◌, ap, subst, arith, inl, inr}
-use Rattle.std.specs.Prelude.{flat_map}
+use Rattle.std.proofs.Common.{◌≡◌, ℕ, suc, ◌+◌, ◌-◌, ◌/◌, ◌<◌, ◌≤◌, Bool, false, List, [], ◌∷◌, ◌++◌, append-nil, length, length-append, map, refl, sym, ◌∙◌, ap, arith, inl, inr}
 use Rattle.std.proofs.Math.Nat.{add-div_left, div-eq_of_lt}
 use Rattle.std.proofs.lemmas.List.Concat.{flat_map-append, flat_map-cons}
 use Rattle.rina_law.specs.declared.entry.Entry.{Entry}
@@ -8,7 +7,7 @@ use Rattle.rina_law.specs.Constants.{Constants}
 use Rattle.rina_law.specs.Direction.{entry_for}
 use Rattle.rina_law.specs.Lists.{In}
 use Rattle.rina_law.specs.Pieces.{IsCut, Part, Sdu, join}
-use Rattle.rina_law.specs.Receiver.{Piece, numbers}
+use Rattle.rina_law.specs.Receiver.{numbers}
 use Rattle.rina_law.specs.Sender.{Sender, pieces_for, sender_with}
 use Rattle.rina_data.specs.Accounted.{entry_numbers, journal_numbers, pieces_of}
 use Rattle.rina_data.specs.Counting.{numbers_from, times, whole_numbers}

@@ -1,5 +1,5 @@
 -- The account goes on as an end gets, gives up or holds less of what came to it.
-use Rattle.std.proofs.Common.{◌≡◌, ◌≢◌, ℕ, zero, suc, ◌+◌, ◌-◌, ◌<◌, ◌≤◌, Bool, true, false, cond, eqb, List, [], ◌∷◌, ◌++◌, length, map, slice_get, slice_set, Some, None, Option, refl, sym, ◌∙◌, ap, subst, arith, inl, inr, ◌⊎◌}
+use Rattle.std.proofs.Common.{◌≡◌, ◌≢◌, ℕ, ◌+◌, ◌≤◌, List, length, slice_get, slice_set, Some, Option, refl, sym, ◌∙◌, ap, subst, arith, inl, inr, ◌⊎◌}
 use Rattle.std.proofs.lemmas.Bool.Decides.{eqb_tells}
 use Rattle.rina_account.specs.Account.{Counts, off_count}
 use Rattle.rina_account.specs.declared.ledger.Off.{Off}
@@ -12,19 +12,18 @@ use Rattle.rina_iface.specs.declared.state.PortState.TheVariants.{Allocated, Clo
 use Rattle.rina_iface.specs.Seen.{Seen, end_of}
 use Rattle.rina_iface.proofs.Changed.{slice_get-set_same}
 use Rattle.rina_law.specs.Direction.{Direction, Forget, happens}
-use Rattle.rina_data.specs.Accounted.{IsAccounted, Resends, bears, bears_on, counts_of, held_by, held_in, inbound_of, journal_numbers, kept_by, over_ends, sent_with, taken_with, total}
+use Rattle.rina_data.specs.Accounted.{IsAccounted, bears, bears_on, counts_of, held_by, held_in, inbound_of, journal_numbers, kept_by, over_ends, sent_with, taken_with, total}
 use Rattle.rina_data.specs.Cloud.{IsMine}
-use Rattle.rina_data.specs.Counting.{AllOff, held_numbers, off_numbers, times}
-use Rattle.rina_data.specs.Dif.{Config, DifSeen, IsProcess, Member, Process, constants, piece_size, with_offs}
+use Rattle.rina_data.specs.Counting.{held_numbers, off_numbers, times}
+use Rattle.rina_data.specs.Dif.{DifSeen, IsProcess, Member, Process, constants, piece_size, with_offs}
 use Rattle.rina_data.specs.Ending.{IsEnded}
 use Rattle.rina_data.specs.Ids.{Ids, flipped}
 use Rattle.rina_data.specs.Incoming.{IsInbound}
 use Rattle.rina_data.specs.Numbered.{IsNumbered}
 use Rattle.rina_data.specs.Standing.{IsConn, IsStanding}
 use Rattle.rina_data.specs.Timely.{IsForgotten}
-use Rattle.rina_data.proofs.Accounting.{home_addr, left_at, offs_more, one_process, renewed}
-use Rattle.rina_data.proofs.Balancing.{AreSame, IsMoved, gone, moved_same}
-use Rattle.rina_data.proofs.Ends.{same_some}
+use Rattle.rina_data.proofs.Accounting.{home_addr, offs_more, one_process, renewed}
+use Rattle.rina_data.proofs.Balancing.{gone}
 use Rattle.rina_data.proofs.Finding.{beside}
 use Rattle.rina_data.proofs.Keys.{AreOf, offs_of, offs_others, piece_no_ack}
 use Rattle.rina_data.proofs.Own.{partner_back}

@@ -1,15 +1,11 @@
 -- The account goes on as an IPC process sends below, takes from there, and relays.
-use Rattle.std.proofs.Common.{◌≡◌, ◌≢◌, ℕ, zero, suc, ◌+◌, ◌-◌, ◌<◌, ◌≤◌, ◌&&◌, Bool, true, false, cond, eqb, not, List, [], ◌∷◌, ◌++◌, length, slice_get, slice_set, Some, None, Option, Ok, Err, Result, refl, sym, ◌∙◌, ap, subst, arith, inl, inr, ◌⊎◌}
-use Rattle.std.proofs.lemmas.Bool.{eq-eqb}
-use Rattle.rina_account.specs.Account.{Counts, key_eq, off_count}
+use Rattle.std.proofs.Common.{◌≡◌, ◌≢◌, ℕ, ◌+◌, ◌-◌, ◌<◌, ◌≤◌, Bool, cond, List, [], ◌∷◌, length, slice_get, Some, Option, Ok, Err, Result, refl, sym, ◌∙◌, ap, subst, arith}
 use Rattle.rina_account.specs.declared.ledger.Off.{Off}
 use Rattle.rina_base.specs.declared.cause.Cause.{Cause}
 use Rattle.rina_base.specs.declared.cause.Cause.TheVariants as causes
 use Rattle.rina_base.specs.declared.number.Key.{Key}
 use Rattle.rina_base.specs.declared.number.Num.{Num}
 use Rattle.rina_base.specs.declared.number.Port.{Port}
-use Rattle.rina_base.specs.declared.pdu.Pdu.{Pdu}
-use Rattle.rina_base.specs.Pdus.{key_of}
 use Rattle.rina_iface.specs.declared.ends.End.{End}
 use Rattle.rina_iface.specs.declared.error.SendError.{SendError}
 use Rattle.rina_iface.specs.Ends.{with_passed, with_sent}
@@ -29,17 +25,17 @@ use Rattle.rina_data.specs.declared.step.OutStep.TheVariants as out
 use Rattle.rina_data.specs.declared.step.StepError.{StepError}
 use Rattle.rina_data.specs.declared.step.StepError.TheVariants.{Memory, NoIpc, NoLink}
 use Rattle.rina_data.specs.Accounted.{IsAccounted, Resends, bears, bears_on, counts_of, over_ends, sent_with, taken_with}
-use Rattle.rina_data.specs.Cloud.{Hop, IsMine, opened}
-use Rattle.rina_data.specs.Dif.{Config, DifSeen, IsProcess, Member, Process, Queue, link_by, with_offs, with_process, with_taken}
+use Rattle.rina_data.specs.Cloud.{Hop, opened}
+use Rattle.rina_data.specs.Dif.{DifSeen, IsProcess, Member, Process, link_by, with_offs, with_process, with_taken}
 use Rattle.rina_data.specs.Numbered.{IsNumbered}
-use Rattle.rina_data.specs.Outgoing.{Goes, IsForwarded, IsHead, IsStep, IsWrittenOff, Outs, charge_of, sent_bytes}
+use Rattle.rina_data.specs.Outgoing.{Goes, IsForwarded, IsStep, IsWrittenOff, Outs, charge_of, sent_bytes}
 use Rattle.rina_data.specs.Standing.{IsStanding}
-use Rattle.rina_data.proofs.Accounting.{item_one, left_at, offs_more, one_off, one_process, taken_less}
-use Rattle.rina_data.proofs.Balancing.{AreSame, IsBefore, IsMoved, accounted_on, gone, moved_in, moved_same}
+use Rattle.rina_data.proofs.Accounting.{item_one, one_off, one_process, taken_less}
+use Rattle.rina_data.proofs.Balancing.{moved_same}
 use Rattle.rina_data.proofs.Ends.{same_some}
 use Rattle.rina_data.proofs.Finding.{beside, live_link}
 use Rattle.rina_data.proofs.Keys.{one}
-use Rattle.rina_data.proofs.Shares.{ends_other, ends_own, ends_same, entry_with, passed_more, sent_more}
+use Rattle.rina_data.proofs.Shares.{ends_other, ends_own, ends_same, passed_more, sent_more}
 use Rattle.rina_data.proofs.Spelled.{opened_spelling}
 
 -- ---- the rank below

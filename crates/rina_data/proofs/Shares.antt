@@ -1,24 +1,23 @@
 -- What the ends below count for an IPC process, as one of them changes and as the rank below goes on.
-use Rattle.std.proofs.Common.{◌≡◌, ◌≢◌, ℕ, zero, suc, ◌+◌, ◌<◌, ◌≤◌, Bool, true, false, cond, eqb, ltb, List, [], ◌∷◌, ◌++◌, get_or, length, slice_get, slice_set, take, Some, None, Option, refl, sym, ◌∙◌, ap, subst, arith, inl, inr}
+use Rattle.std.proofs.Common.{◌≡◌, ℕ, zero, suc, ◌+◌, Bool, true, false, cond, List, [], ◌∷◌, get_or, length, slice_get, Some, None, Option, refl, sym, ◌∙◌, ap, subst, arith, inl}
 use Rattle.std.specs.Prelude.{find, position, sum_by}
 use Rattle.std.specs.List.{position_or_len}
 use Rattle.std.specs.Str.{bytes_eq}
 use Rattle.std.proofs.lemmas.Bool.{lt-ltb}
-use Rattle.std.proofs.lemmas.List.{take-append-le}
 use Rattle.std.proofs.lemmas.List.Folds.{find_at}
-use Rattle.std.proofs.lemmas.List.Sums.{sum_by-append, sum_by-cons, sum_by_more, sum_by_push}
-use Rattle.std.proofs.lemmas.Option.{get_or_from_slice_get, slice_get_past, slice_get_within}
+use Rattle.std.proofs.lemmas.List.Sums.{sum_by_more, sum_by_push}
+use Rattle.std.proofs.lemmas.Option.{get_or_from_slice_get, slice_get_within}
 use Rattle.std.proofs.lemmas.Slice.Eq.{bytes_eq-Decides}
 use Rattle.rina_base.specs.declared.number.Port.{Port}
 use Rattle.rina_iface.specs.declared.ends.End.{End}
-use Rattle.rina_iface.specs.Ends.{has_port, place_in, with_passed, with_sent}
+use Rattle.rina_iface.specs.Ends.{has_port, with_passed, with_sent}
 use Rattle.rina_iface.specs.Journal.{AreKept, At}
 use Rattle.rina_iface.specs.Later.{IsLater, IsLaterEnd}
 use Rattle.rina_iface.specs.Seen.{Fac, Seen, Stands, end_of, with_end, with_fac}
 use Rattle.rina_iface.proofs.Found.{end_of_stands, stands_there}
 use Rattle.rina_law.specs.declared.entry.Entry.{Entry}
 use Rattle.rina_pci.specs.declared.widths.Widths.{Widths}
-use Rattle.rina_data.specs.Accounted.{entries_with, over_ends, sent_with, share, taken_with}
+use Rattle.rina_data.specs.Accounted.{over_ends, sent_with, share, taken_with}
 use Rattle.rina_data.specs.Cloud.{Hop, IsMine, opened}
 use Rattle.rina_data.specs.Dif.{Config}
 use Rattle.rina_data.specs.Lifting.{IsLifted}

@@ -1,13 +1,12 @@
 -- What the own ends of an IPC process made and keep, as one end or one direction changes.
-use Rattle.std.proofs.Common.{◌≡◌, ◌≢◌, ℕ, zero, suc, ◌+◌, ◌<◌, ◌≤◌, ◌&&◌, Bool, true, false, cond, eqb, List, [], ◌∷◌, ◌++◌, get_or, length, length-set, slice_get, slice_set, Some, None, Option, option_and_then, refl, sym, ◌∙◌, ap, subst, arith, inl, inr, ◌⊎◌}
+use Rattle.std.proofs.Common.{◌≡◌, ◌≢◌, ℕ, ◌+◌, ◌&&◌, Bool, true, false, cond, eqb, List, get_or, length, length-set, slice_get, slice_set, Some, None, Option, option_and_then, refl, sym, ◌∙◌, ap, subst, arith, inl, inr}
 use Rattle.std.specs.Prelude.{position}
-use Rattle.std.proofs.lemmas.Bool.{and_parts, eq-eqb, eqb-true, false≢true}
+use Rattle.std.proofs.lemmas.Bool.{and_parts, eq-eqb, eqb-true}
 use Rattle.std.proofs.lemmas.Bool.Decides.{eqb_tells}
 use Rattle.std.proofs.lemmas.List.Quantifiers.{position-Some}
 use Rattle.std.proofs.lemmas.Option.{get_or_from_slice_get, slice_get_within}
 use Rattle.rina_base.specs.declared.number.Key.{Key}
 use Rattle.rina_iface.specs.declared.ends.End.{End}
-use Rattle.rina_iface.specs.Journal.{At, IsPartner}
 use Rattle.rina_iface.proofs.Changed.{slice_get-set_other, slice_get-set_same}
 use Rattle.rina_iface.specs.declared.state.PortState.{PortState}
 use Rattle.rina_law.specs.declared.entry.Entry.{Entry}

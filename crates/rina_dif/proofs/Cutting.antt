@@ -24,6 +24,7 @@ use Rattle.rina_data.specs.Ending.{IsEnded}
 use Rattle.rina_data.specs.Losing.{FailFirst, IsAllocatedAt, LosesAt, MayFail}
 use Rattle.rina_data.specs.Sending.{home}
 use Rattle.rina_data.specs.Upward.{IsSilent}
+use Rattle.rina_data.proofs.Founding.{failed_accounted}
 use Rattle.rina_data.proofs.Linkless.{failed_carries, failed_numbered, failed_silent, failed_stands, first_stay, lost_silent, silent_on}
 use Rattle.rina_flows.specs.declared.flows.Flows.{Flows}
 use Rattle.rina_flows.specs.Delivering.{HasStopped}
@@ -103,6 +104,7 @@ last_fails d at node lost port routes flows p p' lt here is knows s cap lines be
         standing = failed_stands (seen_of mid) lines below node l.link.port (seen_of d') l.holds.standing by;
         carrying = failed_carries (seen_of mid) lines below node l.link.port (seen_of d') l.holds.carrying by;
         numbered = failed_numbered (seen_of mid) lines below node l.link.port (seen_of d') l.holds.numbered by;
+        accounted = failed_accounted (seen_of mid) lines below node l.link.port (seen_of d') l.holds.standing l.holds.numbered l.holds.accounted by;
         housed = subst (λ (ps : List IpcProcess). AreHoused g ps) twice (housed_set g mid.processes at p1 p' l.holds.housed there refl (record { links = refl; routes = refl; places = λ qos link. refl }));
       },
     )

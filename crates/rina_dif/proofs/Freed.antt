@@ -21,6 +21,7 @@ use Rattle.rina_iface.specs.State.{freed, freed_state, with_state}
 use Rattle.rina_iface.proofs.Changed.{set_at, slice_set-same}
 use Rattle.rina_iface.proofs.Later.{end_restated, ends_set, fac_refl, moves_freed}
 use Rattle.rina_law.specs.Direction.{Direction}
+use Rattle.rina_data.specs.Accounted.{IsAccounted}
 use Rattle.rina_data.specs.declared.process.IpcProcess.{IpcProcess}
 use Rattle.rina_data.specs.Carried.{IsCarrying}
 use Rattle.rina_data.specs.Cloud.{Cloud, Everywhere}
@@ -39,6 +40,7 @@ use Rattle.rina_data.proofs.Journals.{IsConst, const_refl, journal_set, partner_
 use Rattle.rina_data.proofs.Keepers.{facility}
 use Rattle.rina_data.proofs.Numbering.{ended_numbered, numbered_with}
 use Rattle.rina_data.proofs.Own.{own_restated}
+use Rattle.rina_data.proofs.Receiving.{ended_accounted, restated_accounted}
 use Rattle.rina_flows.specs.declared.flows.Flows.{Flows}
 use Rattle.rina_flows.specs.Delivering.{StopsIn}
 use Rattle.rina_flows.specs.Tied.{IsTied, ids_of}
@@ -83,6 +85,7 @@ closes d i at end (Ok done) flows ps lt here is allocated stops lines below h =
         standing = ended_stands (seen_of d) lines below at Closed (seen_of d') h.standing ended;
         carrying = ended_carries (seen_of d) lines below at Closed (seen_of d') h.carrying ended;
         numbered = ended_numbered (seen_of d) lines below at Closed (seen_of d') h.numbered ended;
+        accounted = ended_accounted (seen_of d) lines below at Closed (seen_of d') h.standing h.numbered h.accounted ended;
         housed = subst (AreHoused g) (sym x.2) (housed_set g d.processes i p.0 (record p.0 { ledger = x.0 }) h.housed p.1 refl (record { links = refl; routes = refl; places = λ qos link. refl }));
       };
     }
@@ -190,6 +193,7 @@ withdraws d at end flows is not conns ends lines below h =
         standing = subst (λ (z : DifSeen). IsStanding z lines below) (sym seen) (restated_stands (seen_of d) lines below at end (freed_state end.state) h.standing is gone);
         carrying = subst (λ (z : DifSeen). IsCarrying z lines below) (sym seen) (restated_carries (seen_of d) lines below at end (freed_state end.state) h.carrying is);
         numbered = subst (λ (z : DifSeen). IsNumbered z below) (sym seen) (restated_numbered (seen_of d) below at end h.numbered is);
+        accounted = subst (λ (z : DifSeen). IsAccounted z lines below) (sym seen) (restated_accounted (seen_of d) lines below at end (freed_state end.state) h.accounted is not gone);
         housed = h.housed;
       };
     }
@@ -198,7 +202,7 @@ withdraws d at end flows is not conns ends lines below h =
 
 -- whether memory was wanted is noted
 holds_noted : (d : Dif) (failed : Bool) (lines : List Direction) (below : Seen) → Holds d lines below → Holds (record d { failed = failed }) lines below
-holds_noted d failed lines below h = record { tied = h.tied; standing = h.standing; carrying = h.carrying; numbered = h.numbered; housed = h.housed }
+holds_noted d failed lines below h = record { tied = h.tied; standing = h.standing; carrying = h.carrying; numbered = h.numbered; accounted = h.accounted; housed = h.housed }
 
 -- what `free` does, whatever it stands on
 abbrev pub FreesFor : Dif → Port → Result (Unit {0}) FreeError → Dif → Type 0

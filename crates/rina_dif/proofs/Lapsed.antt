@@ -17,6 +17,7 @@ use Rattle.rina_data.specs.Sending.{home}
 use Rattle.rina_data.proofs.Carries.{forgotten_carries}
 use Rattle.rina_data.proofs.Finishing.{ended_carries, ended_stands}
 use Rattle.rina_data.proofs.Numbering.{ended_numbered, forgotten_numbered}
+use Rattle.rina_data.proofs.Receiving.{ended_accounted, forgotten_accounted}
 use Rattle.rina_data.proofs.Rows.{forgotten_stands}
 use Rattle.rina_flows.specs.declared.flows.Flows.{Flows}
 use Rattle.rina_flows.specs.Delivering.{ForgetsIn}
@@ -78,6 +79,7 @@ forgets d i at (Ok true) flows ps lt here does lines below h =
           standing = forgotten_stands (seen_of d) lines below at (seen_of d') f.lines' h.standing forgotten;
           carrying = forgotten_carries (seen_of d) lines below at (seen_of d') f.lines' h.carrying forgotten;
           numbered = forgotten_numbered (seen_of d) lines below at (seen_of d') f.lines' h.numbered forgotten;
+          accounted = forgotten_accounted (seen_of d) lines below at (seen_of d') f.lines' h.standing h.numbered h.accounted forgotten;
           housed = housed_on d i p.0 ps x.0 lines below h p.1 x.2;
         };
       },
@@ -109,6 +111,7 @@ gives_up d i at (Ok (Some num)) flows ps lt here does lines below h =
         standing = ended_stands (seen_of d) lines below at _ (seen_of d') h.standing ended;
         carrying = ended_carries (seen_of d) lines below at _ (seen_of d') h.carrying ended;
         numbered = ended_numbered (seen_of d) lines below at _ (seen_of d') h.numbered ended;
+        accounted = ended_accounted (seen_of d) lines below at _ (seen_of d') h.standing h.numbered h.accounted ended;
         housed = housed_on d i p.0 ps x.0 lines below h p.1 x.2;
       };
     }

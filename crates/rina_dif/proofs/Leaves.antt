@@ -30,6 +30,7 @@ use Rattle.rina_data.proofs.Carries.{outs_carry}
 use Rattle.rina_data.proofs.Numbering.{outs_numbered}
 use Rattle.rina_data.proofs.Finding.{there}
 use Rattle.rina_data.proofs.Going.{no_step, outs_stand}
+use Rattle.rina_data.proofs.Relaying.{outs_accounted}
 use Rattle.rina_data.proofs.Stepping.{can_go}
 use Rattle.rina_dif.specs.declared.dif.Dif.{Dif}
 use Rattle.rina_dif.specs.Holding.{AreHoused, Holds, Stands}
@@ -125,6 +126,7 @@ leaves_hold refuses d below at n r ps below' kept kept' lt leaves lines h =
       standing = outs_stand refuses (seen_of d) lines below at n r (seen_of d') below' kept kept' h.standing outs;
       carrying = outs_carry refuses (seen_of d) lines below at n r (seen_of d') below' kept kept' h.carrying outs;
       numbered = outs_numbered refuses (seen_of d) lines below at n r (seen_of d') below' kept kept' h.standing h.numbered outs;
+      accounted = outs_accounted refuses (seen_of d) lines below at n r (seen_of d') below' kept kept' h.standing h.numbered h.accounted outs;
       housed = subst (AreHoused (config_of d.settings)) (sym l.3) (housed_set (config_of d.settings) d.processes at p.0 l.0 h.housed p.1 l.2 (goes_same refuses (config_of d.settings) d.clock (process_of p.0) below n r (process_of l.0) below' l.1));
     }
 

@@ -7,6 +7,7 @@ use Rattle.rina_data.specs.Configs.{config_of}
 use Rattle.rina_data.specs.Lifting.{IsLifted, ticked}
 use Rattle.rina_data.specs.Passing.{IsTicked}
 use Rattle.rina_data.proofs.Carries.{time_carries}
+use Rattle.rina_data.proofs.Lifted.{time_accounted}
 use Rattle.rina_data.specs.Upward.{IsSilent}
 use Rattle.rina_data.proofs.Numbering.{time_numbered}
 use Rattle.rina_data.proofs.Taking.{lifted_stands}
@@ -27,6 +28,7 @@ holds_later d now lines below below' le kept' lifted clock h =
       standing = lifted_stands (seen_of d) lines below below' (seen_of d') lines' kept' h.standing lifted there;
       carrying = time_carries (seen_of d) lines below below' (seen_of d') lines' kept' h.carrying lifted there;
       numbered = time_numbered (seen_of d) lines below below' (seen_of d') lines' kept' h.numbered lifted there;
+      accounted = time_accounted (seen_of d) lines below below' (seen_of d') lines' kept' h.accounted lifted there;
       housed = h.housed;
     }
 

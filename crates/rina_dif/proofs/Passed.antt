@@ -11,6 +11,7 @@ use Rattle.rina_data.specs.Dif.{DifSeen}
 use Rattle.rina_data.specs.Ids.{Ids}
 use Rattle.rina_data.specs.Incoming.{IsInbound}
 use Rattle.rina_data.specs.Passing.{IsPassed}
+use Rattle.rina_data.proofs.Accounting.{passed_accounted}
 use Rattle.rina_data.proofs.Carries.{passed_carries}
 use Rattle.rina_data.proofs.Numbering.{passed_numbered}
 use Rattle.rina_data.proofs.Taking.{passed_stands}
@@ -59,6 +60,7 @@ passes d at flows p lines below h =
         standing = passed_stands (seen_of d) lines below at (seen_of d') o.lines' h.standing passed;
         carrying = passed_carries (seen_of d) lines below at (seen_of d') o.lines' h.carrying passed;
         numbered = passed_numbered (seen_of d) lines below at (seen_of d') o.lines' h.numbered passed;
+        accounted = passed_accounted (seen_of d) lines below at (seen_of d') o.lines' h.accounted passed;
         housed = h.housed;
       };
     }

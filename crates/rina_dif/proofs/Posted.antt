@@ -29,6 +29,7 @@ use Rattle.rina_data.specs.Ids.{Ids, pdu_of_ack, pdu_of_piece}
 use Rattle.rina_data.specs.Queueing.{IsFull, IsPassedOn}
 use Rattle.rina_data.specs.Standing.{IsQos}
 use Rattle.rina_data.specs.Timely.{IsAcknowledged, IsAtHome, IsResent, Posts}
+use Rattle.rina_data.proofs.Accounting.{acknowledged_accounted, resent_accounted}
 use Rattle.rina_data.proofs.Carries.{acknowledged_carries, resent_carries}
 use Rattle.rina_data.proofs.Finding.{beside}
 use Rattle.rina_data.proofs.Numbering.{acknowledged_numbered, resent_numbered}
@@ -206,6 +207,7 @@ acknowledges d lines below i at conn due s flows ps lt here is tells forwards do
         standing = acknowledged_stands (seen_of d) lines below at p.cause (seen_of d') a.lines' h.standing acknowledged;
         carrying = acknowledged_carries (seen_of d) lines below at p.cause (seen_of d') a.lines' h.carrying acknowledged;
         numbered = acknowledged_numbered (seen_of d) lines below at p.cause (seen_of d') a.lines' h.numbered acknowledged;
+        accounted = acknowledged_accounted (seen_of d) lines below at p.cause (seen_of d') a.lines' h.numbered h.accounted acknowledged;
         housed = p.housed;
       };
     }
@@ -275,6 +277,7 @@ sends_again d lines below i at conn pdu s flows ps lt here is tells forwards doe
         standing = resent_stands (seen_of d) lines below at p.cause (seen_of d') a.lines' h.standing resent;
         carrying = resent_carries (seen_of d) lines below at p.cause (seen_of d') a.lines' h.carrying resent;
         numbered = resent_numbered (seen_of d) lines below at p.cause (seen_of d') a.lines' h.numbered resent;
+        accounted = resent_accounted (seen_of d) lines below at p.cause (seen_of d') a.lines' h.numbered h.accounted resent;
         housed = p.housed;
       };
     }

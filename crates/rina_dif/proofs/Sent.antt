@@ -31,6 +31,7 @@ use Rattle.rina_data.specs.Sending.{IsOffered, Offers, by_room, by_sender, home,
 use Rattle.rina_data.proofs.Carries.{offers_carry}
 use Rattle.rina_data.proofs.Numbering.{offers_numbered}
 use Rattle.rina_data.proofs.Giving.{offers_stand}
+use Rattle.rina_data.proofs.Making.{offers_accounted}
 use Rattle.rina_data.proofs.Plain.{same_place}
 use Rattle.rina_flows.specs.declared.flows.Flows.{Flows}
 use Rattle.rina_flows.specs.Calls.{Accepts, Offers as FlowsOffer}
@@ -278,6 +279,7 @@ sends_made d at sdu way made flows ps a offers puts lines below h =
         standing = offers_stand (seen_of d) lines below at o.parts (Ok made.num) (seen_of d') o.lines' h.standing offer;
         carrying = offers_carry (seen_of d) lines below at o.parts (Ok made.num) (seen_of d') o.lines' h.carrying offer;
         numbered = offers_numbered (seen_of d) lines below at o.parts (Ok made.num) (seen_of d') o.lines' h.standing h.numbered offer;
+        accounted = offers_accounted (seen_of d) lines below at o.parts (Ok made.num) (seen_of d') o.lines' h.standing h.numbered h.accounted offer;
         housed = subst (AreHoused g) (sym put.2) (housed_set g d.processes way.home a.goes.process put.0 h.housed a.goes.is_process put.1.cap house);
       };
     }
@@ -290,7 +292,7 @@ refailed d lines below at sdu r d' failed s = record {
   cut = s.cut;
   lines' = s.lines';
   offers = s.offers;
-  holds = record { tied = s.holds.tied; standing = s.holds.standing; carrying = s.holds.carrying; numbered = s.holds.numbered; housed = s.holds.housed };
+  holds = record { tied = s.holds.tied; standing = s.holds.standing; carrying = s.holds.carrying; numbered = s.holds.numbered; accounted = s.holds.accounted; housed = s.holds.housed };
 }
 
 pub sends_at : (o : Option ℕ) (d : Dif) (lines : List Direction) (below : Seen) (at : ℕ) (sdu : List ℕ) (r : Result Num SendError) (d' : Dif) → o ≡ Some at → Sends d lines below at sdu r d' → SendsAt o d lines below sdu r d'

@@ -10,6 +10,7 @@ use Rattle.rina_base.specs.declared.pdu.Pdu.{Pdu}
 use Rattle.rina_iface.specs.Seen.{Seen}
 use Rattle.rina_iface.proofs.Changed.{slice_set-same}
 use Rattle.rina_law.specs.Direction.{Direction}
+use Rattle.rina_data.specs.Accounted.{IsAccounted}
 use Rattle.rina_data.specs.declared.process.IpcProcess.{IpcProcess}
 use Rattle.rina_data.specs.declared.step.Settled.{Settled}
 use Rattle.rina_data.specs.declared.step.Settled.TheVariants as settled
@@ -105,6 +106,7 @@ holds_unseen d ps lines below same housed h = record {
   standing = subst (λ (z : DifSeen). IsStanding z lines below) (sym same) h.standing;
   carrying = subst (λ (z : DifSeen). IsCarrying z lines below) (sym same) h.carrying;
   numbered = subst (λ (z : DifSeen). IsNumbered z below) (sym same) h.numbered;
+  accounted = subst (λ (z : DifSeen). IsAccounted z lines below) (sym same) h.accounted;
   housed = housed;
 }
 

@@ -29,6 +29,7 @@ use Rattle.rina_data.proofs.Carries.{ins_carry}
 use Rattle.rina_data.proofs.Coming.{ins_stand}
 use Rattle.rina_data.proofs.Numbering.{ins_numbered}
 use Rattle.rina_data.proofs.Finding.{live_link, oldest_at, there}
+use Rattle.rina_data.proofs.Landing.{ins_accounted}
 use Rattle.rina_data.proofs.Partnered.{met}
 use Rattle.rina_data.proofs.Spelled.{opened_spelling}
 use Rattle.rina_dif.specs.declared.dif.Dif.{Dif}
@@ -125,6 +126,7 @@ took_it d lines below at n p link tick bytes hop key end d' below' kept kept' lt
         standing = ins_stand (seen_of d) lines below at n (Ok (in_.Took key end)) (seen_of d') s.lines' below' kept kept' h.standing does;
         carrying = ins_carry (seen_of d) lines below at n (Ok (in_.Took key end)) (seen_of d') s.lines' below' kept kept' h.standing h.carrying does;
         numbered = ins_numbered (seen_of d) lines below at n (Ok (in_.Took key end)) (seen_of d') s.lines' below' kept kept' h.standing h.numbered does;
+        accounted = ins_accounted (seen_of d) lines below at n (Ok (in_.Took key end)) (seen_of d') s.lines' below' kept kept' h.standing h.numbered h.carrying h.accounted does;
         housed = s.housed;
       };
     }
@@ -150,7 +152,7 @@ takes_home d lines below node n at r r' d' failed below' here same t =
     record {
       lines' = t.lines';
       does = subst (λ (v : Result InStep StepError). InsAt (seen_of d) lines below node n v (seen_of d') t.lines' below') (sym same) does;
-      holds = record { tied = t.holds.tied; standing = t.holds.standing; carrying = t.holds.carrying; numbered = t.holds.numbered; housed = t.holds.housed };
+      holds = record { tied = t.holds.tied; standing = t.holds.standing; carrying = t.holds.carrying; numbered = t.holds.numbered; accounted = t.holds.accounted; housed = t.holds.housed };
     }
 
 pub takes_none : (d : Dif) (lines : List Direction) (below : Seen) (node n : ℕ) → Holds d lines below → TakesHome d lines below node n (Err Memory) d below

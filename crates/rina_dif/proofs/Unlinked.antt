@@ -22,6 +22,7 @@ use Rattle.rina_data.specs.Configs.{config_of}
 use Rattle.rina_data.specs.Deciding.{process_of}
 use Rattle.rina_data.specs.Dif.{Config, DifSeen, Process, Queue, queue_place, with_process}
 use Rattle.rina_data.specs.Losing.{Loses, LosesAt, without_items, without_link}
+use Rattle.rina_data.proofs.Accounting.{lost_accounted}
 use Rattle.rina_data.proofs.Finding.{there}
 use Rattle.rina_data.proofs.Linkless.{lost_carries, lost_numbered, lost_stands}
 use Rattle.rina_dif.specs.declared.dif.Dif.{Dif}
@@ -147,6 +148,7 @@ link_lost d lines below at lost routes member p p' is_member is knows loses cap 
         standing = lost_stands (seen_of d) lines below at lost.number routes d' h.standing gone;
         carrying = lost_carries (seen_of d) lines below at lost.number routes d' h.carrying gone;
         numbered = lost_numbered (seen_of d) below at lost.number routes d' h.numbered gone;
+        accounted = lost_accounted (seen_of d) lines below at lost.number routes d' h.accounted gone;
         housed = housed_after (config_of d.settings) d.processes at p p' lost.place link routes d.settings.members d.laid.links member h.housed is cap there new known;
       };
     }
