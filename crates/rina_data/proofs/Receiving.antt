@@ -12,7 +12,7 @@ use Rattle.rina_iface.specs.declared.state.PortState.TheVariants.{Allocated, Clo
 use Rattle.rina_iface.specs.Seen.{Seen, end_of}
 use Rattle.rina_iface.proofs.Changed.{slice_get-set_same}
 use Rattle.rina_law.specs.Direction.{Direction, Forget, happens}
-use Rattle.rina_data.specs.Accounted.{IsAccounted, bears, bears_on, counts_of, held_by, held_in, inbound_of, journal_numbers, kept_by, over_ends, sent_with, taken_with, total}
+use Rattle.rina_data.specs.Accounted.{IsAccounted, Resends, bears, bears_on, counts_of, held_by, held_in, inbound_of, journal_numbers, kept_by, over_ends, sent_with, taken_with, total}
 use Rattle.rina_data.specs.Cloud.{IsMine}
 use Rattle.rina_data.specs.Counting.{held_numbers, off_numbers, times}
 use Rattle.rina_data.specs.Dif.{DifSeen, IsProcess, Member, Process, constants, piece_size, with_offs}
@@ -22,12 +22,12 @@ use Rattle.rina_data.specs.Incoming.{IsInbound}
 use Rattle.rina_data.specs.Numbered.{IsNumbered}
 use Rattle.rina_data.specs.Standing.{IsConn, IsStanding}
 use Rattle.rina_data.specs.Timely.{IsForgotten}
-use Rattle.rina_data.proofs.Accounting.{home_addr, offs_more, one_process, renewed}
-use Rattle.rina_data.proofs.Balancing.{gone}
+use Rattle.rina_data.proofs.Accounting.{home_addr, resends_on, offs_more, one_process, renewed}
+use Rattle.rina_data.proofs.Balancing.{accounted_on, gone, moved_same}
 use Rattle.rina_data.proofs.Finding.{beside}
 use Rattle.rina_data.proofs.Keys.{AreOf, offs_of, offs_others, piece_no_ack}
 use Rattle.rina_data.proofs.Own.{partner_back}
-use Rattle.rina_data.proofs.Tallies.{HoldElsewhere, IsEndChanged, end_changed, end_stays, hold_elsewhere, inbound_at, kept_change, kept_in, kept_not, kept_own, made_same}
+use Rattle.rina_data.proofs.Tallies.{HoldElsewhere, IsEndChanged, end_changed, end_stays, hold_elsewhere, inbound_at, kept_change, kept_in, kept_not, kept_own, kept_restated, made_same}
 
 -- what came to an IPC process from below, by keys, and to no other
 pub record HaveCome (d : DifSeen) (below below' : Seen) (i : ℕ) (came : Key → ℕ) : Type 0 where
@@ -173,7 +173,7 @@ forgotten_accounted d lines below at d' lines' st numbered a s =
 
 -- ---- an end is allocated no more
 
-held_none : (state : PortState) (n : ℕ) → state ≢ Allocated → held_by state n ≡ 0
+pub held_none : (state : PortState) (n : ℕ) → state ≢ Allocated → held_by state n ≡ 0
 held_none Pending n other = refl
 held_none Allocated n other = absurd (other refl)
 held_none (Refused why) n other = refl
@@ -202,3 +202,24 @@ ended_accounted d lines below at state d' st numbered a s =
     let all = s.all p.place l.0 inbound k.seq in
     omega (arith, before, after, all))
     a s.is_process a.passed own (others_addr d below s.i m.0 s.ids numbered m.1 (own m.0 m.1)))
+
+-- an end that is not allocated moves on
+
+pub restated_accounted : (d : DifSeen) (lines : List Direction) (below : Seen) (at : ℕ) (end : End) (state : PortState) → IsAccounted d lines below → slice_get d.ends at ≡ Some end → end.state ≢ Allocated → state ≢ Allocated → IsAccounted (record d { ends = slice_set d.ends at (record end { state = state }) }) lines below
+restated_accounted d lines below at end state a is old new =
+    let end' : End = record end { state = state } in
+    let ends' : List End = slice_set d.ends at end' in
+    let d' : DifSeen = record d { ends = ends' } in
+    let change = end_changed d.ends at end end' is in
+    accounted_on d d' lines lines below below a a.passed a.apart (λ i m p k here. record {
+      process = p;
+      is_process = record { is_member = here.is_member; is_process = here.is_process };
+      resends = resends_on d d' m.addr k.scep refl (λ n ids x. x);
+      moved = moved_same m.addr k (Resends d' m.addr k.scep) (counts_of d lines below m p k) (counts_of d' lines below m p k) (record {
+        taken = refl;
+        relayed = refl;
+        gone = refl;
+        made = made_same (piece_size d.config) d.conns m.addr k d.ends ends' at end end' change refl;
+        kept = kept_restated (piece_size d.config) d.conns lines m.addr k d.ends ends' at end end' change refl (λ n. held_none end.state n old ∙ sym (held_none state n new));
+      });
+    })

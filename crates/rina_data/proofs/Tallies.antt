@@ -153,6 +153,24 @@ kept_same size conns lines lines' addr k ends ends' at e e' change got state hol
     here : (o : Option Ids) → kept_by size conns lines' addr k (slice_get ends' at) o ≡ kept_by size conns lines addr k (slice_get ends at) o
     here o = ap (λ (z : Option End). kept_by size conns lines' addr k z o) change.new ∙ alike o ∙ ap (λ (z : Option End). kept_by size conns lines addr k z o) (sym change.old)
 
+-- an end that moves on without holding anything
+pub kept_restated : (size : ℕ) (conns : List Ids) (lines : List Direction) (addr : ℕ) (k : Key) (ends ends' : List End) (at : ℕ) (e e' : End) → IsEndChanged ends ends' at e e' → e'.got ≡ e.got → ((n : ℕ) → held_by e.state n ≡ held_by e'.state n) → total (length ends') (kept_in size conns lines addr k ends') ≡ total (length ends) (kept_in size conns lines addr k ends)
+kept_restated size conns lines addr k ends ends' at e e' change got held =
+    let each : (j : ℕ) → kept_in size conns lines addr k ends' j ≡ kept_in size conns lines addr k ends j = λ j. elim (eqb_tells j at) [
+      | inl t ↦ subst (λ (i : ℕ). kept_in size conns lines addr k ends' i ≡ kept_in size conns lines addr k ends i) (sym t.1) (here (slice_get conns at))
+      | inr f ↦ ap (λ (o : Option End). kept_by size conns lines addr k o (slice_get conns j)) (change.others j f.1)
+    ] in
+    ap (λ (n : ℕ). total n (kept_in size conns lines addr k ends')) change.number ∙ total_same (length ends) (kept_in size conns lines addr k ends') (kept_in size conns lines addr k ends) (λ j lt. each j)
+  where
+    alike : (o : Option Ids) → kept_by size conns lines addr k (Some e') o ≡ kept_by size conns lines addr k (Some e) o
+    alike None = refl
+    alike (Some c) =
+        ap (λ (xs : List Entry). cond ((eqb c.own addr && eqb c.far k.src) && eqb c.dcep k.scep) (times k.seq (journal_numbers size xs) + held_by e'.state (held_in (inbound_of conns lines c) k.seq)) 0) got
+        ∙ ap (λ (n : ℕ). cond ((eqb c.own addr && eqb c.far k.src) && eqb c.dcep k.scep) (times k.seq (journal_numbers size e.got) + n) 0) (sym (held (held_in (inbound_of conns lines c) k.seq)))
+
+    here : (o : Option Ids) → kept_by size conns lines addr k (slice_get ends' at) o ≡ kept_by size conns lines addr k (slice_get ends at) o
+    here o = ap (λ (z : Option End). kept_by size conns lines addr k z o) change.new ∙ alike o ∙ ap (λ (z : Option End). kept_by size conns lines addr k z o) (sym change.old)
+
 -- and the same of all ends
 pub kept_all_same : (size : ℕ) (conns : List Ids) (lines lines' : List Direction) (addr : ℕ) (k : Key) (ends : List End) → HoldSame lines lines' k.seq → total (length ends) (kept_in size conns lines' addr k ends) ≡ total (length ends) (kept_in size conns lines addr k ends)
 kept_all_same size conns lines lines' addr k ends hold = total_same (length ends) (kept_in size conns lines' addr k ends) (kept_in size conns lines addr k ends) (λ j lt. alike (slice_get ends j) (slice_get conns j))

@@ -4,6 +4,7 @@ use Rattle.std.proofs.lemmas.List.{length-map}
 use Rattle.std.proofs.lemmas.Option.{slice_get-map}
 use Rattle.rina_base.specs.declared.number.Port.{Port}
 use Rattle.rina_iface.specs.declared.ends.End.{End}
+use Rattle.rina_iface.specs.Journal.{AreKept}
 use Rattle.rina_iface.specs.Seen.{Seen, end_of}
 use Rattle.rina_iface.proofs.Grown.{pushed_at}
 use Rattle.rina_queue.specs.declared.queue.Queued.{Queued}
@@ -22,6 +23,7 @@ use Rattle.rina_data.specs.Numbered.{AreMembers}
 use Rattle.rina_data.specs.Standing.{HasLink, IsConfig, IsInside, IsLinked}
 use Rattle.rina_data.specs.Start.{IsStart}
 use Rattle.rina_data.proofs.Carries.{start_carries}
+use Rattle.rina_data.proofs.Founding.{start_accounted}
 use Rattle.rina_data.proofs.Numbering.{start_numbered}
 use Rattle.rina_data.proofs.Starting.{start_stands}
 use Rattle.rina_dif.specs.declared.dif.Dif.{Dif}
@@ -98,9 +100,14 @@ starts d below ends conns config clock same linked inside silent idle =
       fresh = λ i c line x y. absurd (C i c x);
     }
 
+-- nothing was taken from below or written off yet
+pub record IsUntouched (d : Dif) (below : Seen) : Type 0 where
+  pub unread : (port : Port) (e : End) → end_of below port ≡ Some e → IsMine (config_of d.settings).members e.app → e.taken ≡ 0
+  pub clean : (i : ℕ) (p : IpcProcess) → slice_get d.processes i ≡ Some p → p.ledger ≡ []
+
 -- and stands
-pub start_holds : (d : Dif) (below : Seen) → d.flows.journal.ends ≡ [] → d.flows.conns ≡ [] → IsStart (seen_of d) [] below → AreMembers (config_of d.settings) → AreHoused (config_of d.settings) d.processes → Holds d [] below
-start_holds d below ends conns s members housed =
+pub start_holds : (d : Dif) (below : Seen) → AreKept below → d.flows.journal.ends ≡ [] → d.flows.conns ≡ [] → IsStart (seen_of d) [] below → IsUntouched d below → AreMembers (config_of d.settings) → AreHoused (config_of d.settings) d.processes → Holds d [] below
+start_holds d below kept ends conns s untouched members housed =
     let no_ends : length d.flows.journal.ends ≡ 0 = ap (λ (es : List End). length es) ends in
     let no_conns : length d.flows.conns ≡ 0 = ap (λ (ks : List Conn). length ks) conns in
     record {
@@ -113,14 +120,20 @@ start_holds d below ends conns s members housed =
       standing = start_stands (seen_of d) [] below s;
       carrying = start_carries (seen_of d) [] below s;
       numbered = start_numbered (seen_of d) [] below s members (λ i e ids conn. absurd (none_in i e d.flows.journal.ends ends conn.end)) (λ i e is. absurd (none_in i e d.flows.journal.ends ends is));
+      accounted = start_accounted (seen_of d) [] below kept s (record {
+        unread = untouched.unread;
+        clean = λ i process is. (let p = map_at process_of d.processes i process is in ap (λ (z : Process). z.ledger) (sym p.2) ∙ untouched.clean i p.0 p.1);
+        apart = λ i ids is. absurd (none_in i ids (seen_of d).conns (ap (map ids_of) conns) is);
+      });
       housed = housed;
     }
 
 -- so does a DIF without links
-pub bare_holds : (d : Dif) (below : Seen) → d.flows.journal.ends ≡ [] → d.flows.conns ≡ [] → AreBare d.settings d.processes → IsConfig (config_of d.settings) → AreMembers (config_of d.settings) → d.clock ≡ below.now → IsFree (config_of d.settings) below → Holds d [] below
-bare_holds d below ends conns bare config members clock free =
+pub bare_holds : (d : Dif) (below : Seen) → AreKept below → d.flows.journal.ends ≡ [] → d.flows.conns ≡ [] → AreBare d.settings d.processes → IsConfig (config_of d.settings) → AreMembers (config_of d.settings) → d.clock ≡ below.now → IsFree (config_of d.settings) below → Holds d [] below
+bare_holds d below kept ends conns bare config members clock free =
     let start = starts d below ends conns config clock bare.aligned (λ i member link is has. absurd (no_link d.settings d.processes i link bare has)) (λ port end here mine. absurd (free port end here mine)) (λ port end here mine. absurd (free port end here (inl mine))) (λ i n item waits. no_item d.settings d.processes i n item bare waits) in
-    start_holds d below ends conns start members (λ i p is. (let b = bare.each i p is in record { cap = b.room; links = λ place qos link stands live known. absurd (none_in place link p.links b.links stands); queues = λ dst link qos hop known. absurd (no_hop dst link p.routes b.routes hop) }))
+    let untouched : IsUntouched d below = record { unread = λ port e here mine. absurd (free port e here (inl mine)); clean = λ i p is. (bare.each i p is).ledger } in
+    start_holds d below kept ends conns start untouched members (λ i p is. (let b = bare.each i p is in record { cap = b.room; links = λ place qos link stands live known. absurd (none_in place link p.links b.links stands); queues = λ dst link qos hop known. absurd (no_hop dst link p.routes b.routes hop) }))
 
 -- One by one
 

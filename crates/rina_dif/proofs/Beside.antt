@@ -20,13 +20,14 @@ use Rattle.rina_data.specs.declared.step.OutStep.{OutStep}
 use Rattle.rina_data.specs.declared.step.OutStep.TheVariants as out
 use Rattle.rina_data.specs.declared.step.StepError.{StepError}
 use Rattle.rina_data.specs.declared.step.StepError.TheVariants.{Memory, NoIpc, NoLink}
+use Rattle.rina_data.specs.Accounted.{IsAccounted}
 use Rattle.rina_data.specs.Cloud.{IsMine}
 use Rattle.rina_data.specs.Configs.{config_of}
-use Rattle.rina_data.specs.Dif.{Config, DifSeen, Process, fac_of}
+use Rattle.rina_data.specs.Dif.{Config, DifSeen, Member, Process, fac_of}
 use Rattle.rina_data.specs.Incoming.{Ins}
 use Rattle.rina_data.specs.Others.{AreApart}
 use Rattle.rina_data.specs.Outgoing.{Goes, IsForwarded, Offs, Outs, sent_bytes}
-use Rattle.rina_data.specs.Standing.{IsStanding}
+use Rattle.rina_data.specs.Standing.{IsLinked, IsStanding}
 use Rattle.rina_data.specs.Upward.{IsSilent}
 use Rattle.rina_data.proofs.After.{IsAfter, NoMore, after_none, after_passed, after_sent, no_more_of_others}
 use Rattle.rina_data.proofs.Carries.{after_carries}
@@ -34,6 +35,7 @@ use Rattle.rina_data.proofs.Ends.{same_some}
 use Rattle.rina_data.proofs.Finding.{beside, live_link}
 use Rattle.rina_data.proofs.Finishing.{ended_silent}
 use Rattle.rina_data.proofs.Keepers.{facility}
+use Rattle.rina_data.proofs.Lifted.{passes_of_others_account, sends_of_others_account}
 use Rattle.rina_data.proofs.Numbering.{beside_after}
 use Rattle.rina_data.proofs.Taking.{still_stands}
 use Rattle.rina_data.proofs.Upper.{acknowledged_silent, forgotten_silent, ins_silent, outs_silent, resent_silent}
@@ -48,13 +50,23 @@ use Rattle.rina_dif.proofs.Cutting.{loses_silent}
 
 -- What another DIF sends or takes below is nothing to a DIF
 
--- no member of it sent anything, and the clock stayed
+-- no member of it sent or took anything, and the clock stayed
 record IsAside (g : Config) (below below' : Seen) : Type 0 where
   after : IsAfter g NoMore below below'
   clock : below'.now ≡ below.now
+  accounts : (d : DifSeen) (lines : List Direction) → d.config ≡ g → IsAccounted d lines below → IsAccounted d lines below'
 
 aside_same : (g : Config) (below below' : Seen) → below' ≡ below → IsAside g below below'
-aside_same g below below' is = subst (IsAside g below) (sym is) (record { after = after_none g below; clock = refl })
+aside_same g below below' is = subst (IsAside g below) (sym is) (record { after = after_none g below; clock = refl; accounts = λ d lines same a. a })
+
+-- the end of another DIF's link is that of no member
+not_linked : (d o : DifSeen) (below : Seen) (i : ℕ) (member : Member) (port : Port) → AreApart o d → slice_get o.config.members i ≡ Some member → IsLinked below member.name port → (e : End) → end_of below port ≡ Some e → IsMine d.config.members e.app → ⊥
+not_linked d o below i member port apart is link e h mine =
+    let same = same_some (end_of below port) e link.end h link.here in
+    apart member.name (record { addr = member.addr; member = record { place = i; member = member; stands = is; addr_is = refl; name_is = refl } }) (subst (IsMine d.config.members) (ap (λ (z : End). z.app) same ∙ link.app) mine)
+
+not_mine : (z d : DifSeen) (below : Seen) (port : Port) → z.config ≡ d.config → ((e : End) → end_of below port ≡ Some e → IsMine d.config.members e.app → ⊥) → (e : End) → end_of below port ≡ Some e → IsMine z.config.members e.app → ⊥
+not_mine z d below port same others e h mine = others e h (subst (λ (g : Config). IsMine g.members e.app) same mine)
 
 forwarded_aside : (refuses : Port → ℕ → Option SendError) (d o : DifSeen) (olines : List Direction) (below : Seen) (i n : ℕ) (process : Process) (key : Key) (process' : Process) (below' : Seen) → AreKept below → AreKept below' → IsStanding o olines below → AreApart o d → slice_get o.processes i ≡ Some process → IsForwarded refuses o.config o.clock process below n key process' below' → IsAside d.config below below'
 forwarded_aside refuses d o olines below i n process key process' below' kept kept' so apart is_process s =
@@ -63,11 +75,13 @@ forwarded_aside refuses d o olines below i n process key process' below' kept ke
     let later = later_sends (refuses s.link.port (length bytes)) below s.link.port bytes (Ok s.num) below' s.sent in
     let member = beside o.processes o.config.members i process (sym so.aligned) is_process in
     let link = so.linked i member.0 s.link member.1 (live_link o.processes i n process s.link is_process s.head.is_link) in
-    let others : (e : End) → end_of below s.link.port ≡ Some e → IsMine d.config.members e.app → ⊥ = λ e h mine.
-    (let is = same_some (end_of below s.link.port) e link.end h link.here in
-    apart member.0.name (record { addr = member.0.addr; member = record { place = i; member = member.0; stands = member.1; addr_is = refl; name_is = refl } }) (subst (IsMine d.config.members) (ap (λ (z : End). z.app) is ∙ link.app) mine)) in
+    let others = not_linked d o below i member.0 s.link.port apart member.1 link in
     let after = after_sent d.config below s.link.port bytes s.num below' kept kept' later s.sent.1 in
-    record { after = no_more_of_others d.config s.link.port x below below' others after; clock = ap (λ (z : Seen). z.now) s.sent.1.new_is }
+    record {
+      after = no_more_of_others d.config s.link.port x below below' others after;
+      clock = ap (λ (z : Seen). z.now) s.sent.1.new_is;
+      accounts = λ z lines same a. sends_of_others_account z lines below s.link.port bytes s.num below' kept' a (not_mine z d below s.link.port same others) s.sent.1;
+    }
 
 offs_aside : (refuses : Port → ℕ → Option SendError) (d o : DifSeen) (below : Seen) (n : ℕ) (process : Process) (key : Key) (cause : Cause) (process' : Process) (below' : Seen) → Offs refuses o.config o.clock process below n key cause process' below' → IsAside d.config below below'
 offs_aside refuses d o below n process key (causes.Expired left charge) process' below' s = aside_same d.config below below' s.below_is
@@ -97,12 +111,26 @@ outs_aside refuses d o olines below i n (Err Memory) o' below' kept kept' so apa
 outs_aside refuses d o olines below i n (Err NoIpc) o' below' kept kept' so apart s = aside_same d.config below below' s.2
 outs_aside refuses d o olines below i n (Err NoLink) o' below' kept kept' so apart s = goes_aside refuses d o olines below i n s.process (Err NoLink) s.process' below' kept kept' so apart s.is_process s.done
 
-ins_aside : (g : Config) (o : DifSeen) (olines : List Direction) (below : Seen) (i n : ℕ) (r : Result InStep StepError) (o' : DifSeen) (olines' : List Direction) (below' : Seen) → AreKept below → AreKept below' → Ins o olines below i n r o' olines' below' → IsAside g below below'
-ins_aside g o olines below i n (Ok in_.Idle) o' olines' below' kept kept' s = aside_same g below below' s.3
-ins_aside g o olines below i n (Ok (in_.Took key end)) o' olines' below' kept kept' s = record { after = after_passed g below s.link.port below' kept kept' (later_passes below s.link.port below' s.passed) s.passed; clock = ap (λ (x : Seen). x.now) s.passed.new_is }
-ins_aside g o olines below i n (Err Memory) o' olines' below' kept kept' s = aside_same g below below' s.2
-ins_aside g o olines below i n (Err NoIpc) o' olines' below' kept kept' s = aside_same g below below' s.3
-ins_aside g o olines below i n (Err NoLink) o' olines' below' kept kept' s = aside_same g below below' s.3
+ins_aside : (d o : DifSeen) (olines : List Direction) (below : Seen) (i n : ℕ) (r : Result InStep StepError) (o' : DifSeen) (olines' : List Direction) (below' : Seen) → AreKept below → AreKept below' → IsStanding o olines below → AreApart o d → Ins o olines below i n r o' olines' below' → IsAside d.config below below'
+ins_aside d o olines below i n (Ok in_.Idle) o' olines' below' kept kept' so apart s = aside_same d.config below below' s.3
+ins_aside d o olines below i n (Ok (in_.Took key end)) o' olines' below' kept kept' so apart s =
+    let link = so.linked i s.member s.link s.is_process.is_member (live_link o.processes i n s.process s.link s.is_process.is_process s.is_link) in
+    let others = not_linked d o below i s.member s.link.port apart s.is_process.is_member link in
+    record {
+      after = after_passed d.config below s.link.port below' kept kept' (later_passes below s.link.port below' s.passed) s.passed;
+      clock = ap (λ (x : Seen). x.now) s.passed.new_is;
+      accounts = λ z lines same a. passes_of_others_account z lines below s.link.port below' kept' a (not_mine z d below s.link.port same others) s.passed;
+    }
+ins_aside d o olines below i n (Err Memory) o' olines' below' kept kept' so apart s = aside_same d.config below below' s.2
+ins_aside d o olines below i n (Err NoIpc) o' olines' below' kept kept' so apart s = aside_same d.config below below' s.3
+ins_aside d o olines below i n (Err NoLink) o' olines' below' kept kept' so apart s = aside_same d.config below below' s.3
+
+ins_clock : (o : DifSeen) (olines : List Direction) (below : Seen) (i n : ℕ) (r : Result InStep StepError) (o' : DifSeen) (olines' : List Direction) (below' : Seen) → Ins o olines below i n r o' olines' below' → below'.now ≡ below.now
+ins_clock o olines below i n (Ok in_.Idle) o' olines' below' s = ap (λ (x : Seen). x.now) s.3
+ins_clock o olines below i n (Ok (in_.Took key end)) o' olines' below' s = ap (λ (x : Seen). x.now) s.passed.new_is
+ins_clock o olines below i n (Err Memory) o' olines' below' s = ap (λ (x : Seen). x.now) s.2
+ins_clock o olines below i n (Err NoIpc) o' olines' below' s = ap (λ (x : Seen). x.now) s.3
+ins_clock o olines below i n (Err NoLink) o' olines' below' s = ap (λ (x : Seen). x.now) s.3
 
 -- so a DIF holds on
 holds_aside : (d : Dif) (lines : List Direction) (below below' : Seen) → IsAside (config_of d.settings) below below' → Holds d lines below → Holds d lines below'
@@ -111,6 +139,7 @@ holds_aside d lines below below' a h = record {
   standing = still_stands (seen_of d) lines below below' h.standing a.after a.clock;
   carrying = after_carries (seen_of d) lines NoMore below below' h.carrying a.after;
   numbered = beside_after (seen_of d) below below' h.numbered a.after;
+  accounted = a.accounts (seen_of d) lines refl h.accounted;
   housed = h.housed;
 }
 
@@ -162,12 +191,12 @@ out_is_step refuses d below i n r d' below' kept kept' st outs keeps =
 
 pub in_is_step : (d : Dif) (below : Seen) (i n : ℕ) (r : Result InStep StepError) (d' : Dif) (below' : Seen) → AreKept below → AreKept below' → (st : Stands d below) → TakesIn d st.0 below i n r d' below' → IsStep d below d' below'
 in_is_step d below i n r d' below' kept kept' st t =
-    let clock = (ins_aside (config_of d.settings) (seen_of d) st.0 below i n r (seen_of d') t.lines' below' kept kept' t.does).clock in
+    let clock = ins_clock (seen_of d) st.0 below i n r (seen_of d') t.lines' below' t.does in
     let silent = ins_silent (seen_of d) st.0 below i n r (seen_of d') t.lines' below' st.1.standing t.does in
     record {
       goes_on = record { later = silent.later; facility = facility (seen_of d') t.lines' below' t.holds.standing; clock = t.holds.standing.clock ∙ clock ∙ sym st.1.standing.clock };
       silent = silent;
-      others = λ other lines apart h. holds_aside other lines below below' (ins_aside (config_of other.settings) (seen_of d) st.0 below i n r (seen_of d') t.lines' below' kept kept' t.does) h;
+      others = λ other lines apart h. holds_aside other lines below below' (ins_aside (seen_of other) (seen_of d) st.0 below i n r (seen_of d') t.lines' below' kept kept' st.1.standing apart t.does) h;
     }
 
 -- what comes with time

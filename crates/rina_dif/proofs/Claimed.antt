@@ -9,7 +9,11 @@ use Rattle.rina_iface.specs.Claim.{Claims}
 use Rattle.rina_iface.specs.Seen.{Seen, is_of, oldest_in, with_fac}
 use Rattle.rina_iface.proofs.Later.{fac_refl}
 use Rattle.rina_law.specs.Direction.{Direction}
-use Rattle.rina_data.specs.Dif.{fac_of}
+use Rattle.rina_base.specs.declared.number.Key.{Key}
+use Rattle.rina_data.specs.Accounted.{Resends, counts_of}
+use Rattle.rina_data.proofs.Accounting.{resends_on, same_refl}
+use Rattle.rina_data.proofs.Balancing.{IsBefore, accounted_on, moved_same}
+use Rattle.rina_data.specs.Dif.{IsProcess, Member, Process, fac_of}
 use Rattle.rina_data.proofs.Keepers.{facility}
 use Rattle.rina_dif.specs.declared.dif.Dif.{Dif}
 use Rattle.rina_dif.specs.Facade.{GoesOn, IsShownAs, StaysStanding, shown_as}
@@ -55,6 +59,15 @@ never_missing ends waiting node app at place h read none =
 -- the DIF with other ends that wait
 abbrev pub with_waiting : Dif → Vec ℕ → Dif
 with_waiting d waiting = record d { waiting = waiting }
+
+-- the account counts none of them
+still_before : (d : Dif) (waiting : Vec ℕ) (lines : List Direction) (below : Seen) (i : ℕ) (m : Member) (p : Process) (k : Key) → IsProcess (seen_of (with_waiting d waiting)) i m p → IsBefore (seen_of d) (seen_of (with_waiting d waiting)) lines lines below below i m p k
+still_before d waiting lines below i m p k is = record {
+  process = p;
+  is_process = record { is_member = is.is_member; is_process = is.is_process };
+  resends = resends_on (seen_of d) (seen_of (with_waiting d waiting)) m.addr k.scep refl (λ n ids x. x);
+  moved = moved_same m.addr k (Resends (seen_of (with_waiting d waiting)) m.addr k.scep) (counts_of (seen_of d) lines below m p k) (counts_of (seen_of (with_waiting d waiting)) lines below m p k) (same_refl (counts_of (seen_of d) lines below m p k));
+}
 
 holds_claimed : (d : Dif) (waiting : Vec ℕ) (lines : List Direction) (below : Seen) → Holds d lines below → Holds (with_waiting d waiting) lines below
 holds_claimed d waiting lines below h = (let st = h.standing in record {

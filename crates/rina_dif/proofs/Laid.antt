@@ -73,8 +73,8 @@ bind_laid g s f p q new can b kept kept' a_mine b_mine takes = record {
     later = later_binds s f (Ok (p, q)) new b;
     stays = stays s f p q new b kept';
     fresh = λ port e is none. elim ((one_of s f p q new b kept port e is none).1) [
-      | inl asker ↦ record { app = subst (IsMine g.members) (sym (ap (λ (z : End). z.app) asker)) a_mine; peer = subst (IsMine g.members) (sym (ap (λ (z : End). z.peer) asker)) b_mine; sent = ap (λ (z : End). z.sent) asker }
-      | inr far ↦ record { app = subst (IsMine g.members) (sym (ap (λ (z : End). z.app) far)) b_mine; peer = subst (IsMine g.members) (sym (ap (λ (z : End). z.peer) far)) a_mine; sent = ap (λ (z : End). z.sent) far }
+      | inl asker ↦ record { app = subst (IsMine g.members) (sym (ap (λ (z : End). z.app) asker)) a_mine; peer = subst (IsMine g.members) (sym (ap (λ (z : End). z.peer) asker)) b_mine; sent = ap (λ (z : End). z.sent) asker; taken = ap (λ (z : End). z.taken) asker }
+      | inr far ↦ record { app = subst (IsMine g.members) (sym (ap (λ (z : End). z.app) far)) b_mine; peer = subst (IsMine g.members) (sym (ap (λ (z : End). z.peer) far)) a_mine; sent = ap (λ (z : End). z.sent) far; taken = ap (λ (z : End). z.taken) far }
     ];
   };
   inside = λ port e is none.
@@ -83,8 +83,8 @@ bind_laid g s f p q new can b kept kept' a_mine b_mine takes = record {
       let cube_is : e.cube ≡ f.cube = elim (one.1) [ inl asker ↦ ap (λ (z : End). z.cube) asker | inr far ↦ ap (λ (z : End). z.cube) far ] in
       let cubes : cube_in b.facility.cubes e.cube ≡ Some can.cube = ap (cube_in b.facility.cubes) cube_is ∙ ap (λ (z : Fac). cube_in z.cubes f.cube) (sym same) ∙ can.offer in
       let fresh : IsNewEnd g.members e = elim (one.1) [
-        | inl asker ↦ record { app = subst (IsMine g.members) (sym (ap (λ (z : End). z.app) asker)) a_mine; peer = subst (IsMine g.members) (sym (ap (λ (z : End). z.peer) asker)) b_mine; sent = ap (λ (z : End). z.sent) asker }
-        | inr far ↦ record { app = subst (IsMine g.members) (sym (ap (λ (z : End). z.app) far)) b_mine; peer = subst (IsMine g.members) (sym (ap (λ (z : End). z.peer) far)) a_mine; sent = ap (λ (z : End). z.sent) far }
+        | inl asker ↦ record { app = subst (IsMine g.members) (sym (ap (λ (z : End). z.app) asker)) a_mine; peer = subst (IsMine g.members) (sym (ap (λ (z : End). z.peer) asker)) b_mine; sent = ap (λ (z : End). z.sent) asker; taken = ap (λ (z : End). z.taken) asker }
+        | inr far ↦ record { app = subst (IsMine g.members) (sym (ap (λ (z : End). z.app) far)) b_mine; peer = subst (IsMine g.members) (sym (ap (λ (z : End). z.peer) far)) a_mine; sent = ap (λ (z : End). z.sent) far; taken = ap (λ (z : End). z.taken) far }
       ] in
       record { app = fresh.app; peer = fresh.peer; largest = can.cube.largest; is_largest = ap (option_map (λ (c : Offer). c.largest)) (cube_there new port e _ is one.0 ∙ cubes); whole = takes can.facility can.cube can.stands can.offer };
 }

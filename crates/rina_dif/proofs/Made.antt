@@ -8,6 +8,7 @@ use Rattle.rina_base.specs.declared.number.Port.{Port}
 use Rattle.rina_cube.specs.declared.Cube.{Cube}
 use Rattle.rina_iface.specs.declared.ask.Fixed.{Fixed}
 use Rattle.rina_iface.specs.declared.ends.End.{End}
+use Rattle.rina_iface.specs.Journal.{AreKept}
 use Rattle.rina_iface.specs.Seen.{Seen, end_of}
 use Rattle.rina_iface.proofs.Changed.{all_at}
 use Rattle.rina_plan.specs.declared.dif.LinkPlan.{LinkPlan}
@@ -35,7 +36,7 @@ use Rattle.rina_dif.specs.Holding.{Stands}
 use Rattle.rina_dif.specs.Laying.{AreLaid, AreLinkedUp, AreSettings, BindsAll, CanLay, IsLaidIn, IsLinkedUp, IsNew, IsNewProcess, Takes, ends_of, links_from, ports_at}
 use Rattle.rina_dif.specs.Planned.{ipc_name, link_fixed, links_in, links_of, members_from, processes_before, settings_by, settings_in, settings_of}
 use Rattle.rina_dif.specs.Routing.{AreRouted, KnowsLinks, Weigh}
-use Rattle.rina_dif.proofs.Bare.{map_at, none_in, start_holds, starts}
+use Rattle.rina_dif.proofs.Bare.{IsUntouched, map_at, none_in, start_holds, starts}
 use Rattle.rina_dif.proofs.Laid.{same_end, stood_there}
 use Rattle.rina_dif.proofs.Routed.{knows_link, laid_still}
 use Rattle.rina_dif.proofs.Sound.{are_members, is_config}
@@ -110,8 +111,8 @@ has_place s node ports p place qos link up is known = subst (λ (o : Option ℕ)
 
 -- It stands
 
-pub made_stands : (plan : Plan) (i : ℕ) (dif : DifPlan) (d : Dif) (old new : Seen) → IsPlan plan → slice_get plan.difs i ≡ Some dif → d.settings ≡ settings_by plan i dif → d.clock ≡ old.now → d.flows.journal.ends ≡ [] → d.flows.conns ≡ [] → IsFree (config_of d.settings) old → IsLaidIn (config_of d.settings) old new → (bare : List IpcProcess) → AreLaid plan dif d.settings dif.links old new bare → AreRouted d.settings.members dif.links (length d.settings.members) bare d.processes → Stands d new
-made_stands plan i dif d old new sound at are clock ends conns free inside bare was routed =
+pub made_stands : (plan : Plan) (i : ℕ) (dif : DifPlan) (d : Dif) (old new : Seen) → AreKept new → IsPlan plan → slice_get plan.difs i ≡ Some dif → d.settings ≡ settings_by plan i dif → d.clock ≡ old.now → d.flows.journal.ends ≡ [] → d.flows.conns ≡ [] → IsFree (config_of d.settings) old → IsLaidIn (config_of d.settings) old new → (bare : List IpcProcess) → AreLaid plan dif d.settings dif.links old new bare → AreRouted d.settings.members dif.links (length d.settings.members) bare d.processes → Stands d new
+made_stands plan i dif d old new kept sound at are clock ends conns free inside bare was routed =
     let laid = laid_still plan dif d.settings dif.links old new (length d.settings.members) bare d.processes was routed in
     let g = config_of d.settings in
     let config : IsConfig g = subst (λ (s : Settings). IsConfig (config_of s)) (sym are) (is_config plan i dif sound at) in
@@ -122,9 +123,16 @@ made_stands plan i dif d old new sound at are clock ends conns free inside bare 
     (λ port end here mine. fresh port end here mine (IsInside g new port end) (λ none. inside.inside port end here none))
     (λ port end here mine. fresh port end here (inl mine) (end.sent ≡ []) (λ none. (inside.laid.fresh port end here none).sent))
     (λ k n item waits. idle d.settings (ends_of laid.ports) d.processes k n item laid.up waits) in
+    let untouched : IsUntouched d new = record {
+      unread = λ port end here mine. fresh port end here (inl mine) (end.taken ≡ 0) (λ none. (inside.laid.fresh port end here none).taken);
+      clean = λ k p is.
+          let within = slice_get_within d.processes k p is in
+          let m = there d.settings.members k (let e = laid.up.aligned in omega (arith, within, e)) in
+          (laid.up.each k m.0 p m.1 is).ledger;
+    } in
     let members = subst (λ (s : Settings). AreMembers (config_of s)) (sym are) (are_members plan i dif sound at) in (
       [],
-      start_holds d new ends conns start members (λ k p is.
+      start_holds d new kept ends conns start untouched members (λ k p is.
           let within = slice_get_within d.processes k p is in
           let m = there d.settings.members k (let e = laid.up.aligned in omega (arith, within, e)) in
           let up = laid.up.each k m.0 p m.1 is in

@@ -1,7 +1,7 @@
 -- The settings of a DIF whose plan is sound.
-use Rattle.std.proofs.Common.{◌≡◌, ◌∙◌, ℕ, zero, suc, ◌+◌, ◌<◌, ◌≤◌, ◌*◌, ◌^◌, ◌-◌, ◌==◌, ◌&&◌, ◌||◌, not, All, Bool, true, false, List, [], ◌∷◌, length, map, nat_lt, slice_get, option_map, Some, refl, sym, ap, subst, arith, inl, inr}
+use Rattle.std.proofs.Common.{◌≡◌, ◌∙◌, ℕ, zero, suc, ◌+◌, ◌<◌, ◌≤◌, ◌*◌, ◌^◌, ◌-◌, ◌==◌, ◌&&◌, ◌||◌, not, All, Bool, true, false, List, [], ◌∷◌, ◌++◌, length, map, nat_lt, slice_get, option_map, Some, refl, sym, ap, subst, arith, inl, inr}
 use Rattle.std.specs.List.{list_any}
-use Rattle.std.proofs.lemmas.Bool.{false≢true, leb-false, ltb-false}
+use Rattle.std.proofs.lemmas.Bool.{cases_lt, false≢true, leb-false, ltb-false}
 use Rattle.std.proofs.lemmas.Bool.Decides.{eqb_tells}
 use Rattle.std.proofs.lemmas.Option.{slice_get-map}
 use Rattle.rina_base.specs.declared.pdu.PduKind.TheVariants.{Piece, Ack}
@@ -15,13 +15,13 @@ use Rattle.rina_plan.specs.declared.dif.WireEnds.{WireEnds}
 use Rattle.rina_plan.specs.Difs.{has_twice, is_misaddressed, is_misfit, is_misplaced, most_of}
 use Rattle.rina_plan.specs.Links.{has_crossed_link, is_crossed_link, is_member, is_there, rank_of}
 use Rattle.rina_stack.specs.declared.plan.Plan.{Plan}
-use Rattle.rina_stack.specs.Plan.{IsPlan, IsRangedDif, wire_ends}
+use Rattle.rina_stack.specs.Plan.{AreDistinct, IsPlan, IsRangedDif, wire_ends}
 use Rattle.rina_data.specs.Cloud.{IsMine}
 use Rattle.rina_data.specs.Configs.{config_of, member_of as config_member}
 use Rattle.rina_data.specs.Dif.{Member}
 use Rattle.rina_data.specs.Numbered.{AreMembers}
 use Rattle.rina_data.specs.Standing.{IsConfig}
-use Rattle.rina_dif.specs.Planned.{ipc_name, members_from, processes_before, settings_by}
+use Rattle.rina_dif.specs.Planned.{ipc_name, members_from, node_name, processes_before, settings_by}
 
 -- Tests
 
@@ -70,9 +70,9 @@ first_two false b c d h = absurd cc
 -- Members
 
 -- a member of the plan stands at the place of each
-planned : (plan : Plan) (d : DifPlan) (n : ℕ) (ms : List MemberPlan) (i : ℕ) (a : Member) → slice_get (map config_member (members_from plan d n ms)) i ≡ Some a → (m : MemberPlan) × (slice_get ms i ≡ Some m) × (m.addr ≡ a.addr) × (m.node ≡ a.node)
+planned : (plan : Plan) (d : DifPlan) (n : ℕ) (ms : List MemberPlan) (i : ℕ) (a : Member) → slice_get (map config_member (members_from plan d n ms)) i ≡ Some a → (m : MemberPlan) × (slice_get ms i ≡ Some m) × (m.addr ≡ a.addr) × (m.node ≡ a.node) × (ipc_name plan d m.node ≡ a.name)
 planned plan d n [] i a is = absurd cc
-planned plan d n (m ∷ ms) zero a is = (m, refl, (let e = ap (option_map (λ (z : Member). z.addr)) is in cc), (let e = ap (option_map (λ (z : Member). z.node)) is in cc))
+planned plan d n (m ∷ ms) zero a is = (m, refl, (let e = ap (option_map (λ (z : Member). z.addr)) is in cc), (let e = ap (option_map (λ (z : Member). z.node)) is in cc), (let e = ap (option_map (λ (z : Member). z.name)) is in cc))
 planned plan d n (m ∷ ms) (suc i) a is = planned plan d (n + 1) ms i a is
 
 -- the IPC process at the node of a member is one of the DIF
@@ -142,6 +142,27 @@ is_placed : (d : DifPlan) → is_misplaced d ≡ false → IsPlaced d
 unfolding is_misplaced
 is_placed d h = (let parts = rest_false _ _ _ _ h in record { nodes = parts.0; addrs = parts.1; fit = parts.2 })
 
+-- IPC processes of one DIF have different names on different nodes
+
+cancel : (xs ys zs : List ℕ) → xs ++ ys ≡ xs ++ zs → ys ≡ zs
+cancel [] ys zs e = e
+cancel (x ∷ xs) ys zs e = (let rest : xs ++ ys ≡ xs ++ zs = cc in cancel xs ys zs rest)
+
+same_tail : (x : ℕ) (ys zs : List ℕ) → x ∷ ys ≡ x ∷ zs → ys ≡ zs
+same_tail x ys zs e = cc
+
+one_named : (plan : Plan) (d : DifPlan) (n m : ℕ) → AreDistinct plan.nodes → n < length plan.nodes → m < length plan.nodes → ipc_name plan d n ≡ ipc_name plan d m → n ≡ m
+unfolding ipc_name
+one_named plan d n m differ in_n in_m same =
+    let names : node_name plan n ≡ node_name plan m = same_tail 47 (node_name plan n) (node_name plan m) (cancel d.name (47 ∷ node_name plan n) (47 ∷ node_name plan m) same) in
+    elim (cases_lt n m) [
+      | inl low ↦ absurd (differ n m [] low in_m names)
+      | inr high ↦ elim (cases_lt m n) [
+        | inl low ↦ absurd (differ m n [] low in_n (sym names))
+        | inr other ↦ omega arith
+      ]
+    ]
+
 -- the members of its settings
 pub are_members : (plan : Plan) (i : ℕ) (d : DifPlan) → IsPlan plan → slice_get plan.difs i ≡ Some d → AreMembers (config_of (settings_by plan i d))
 are_members plan i d sound at =
@@ -158,6 +179,13 @@ are_members plan i d sound at =
           let p = planned plan d n d.members j a x in
           let q = planned plan d n d.members k b y in
           once (map (λ (m : MemberPlan). m.node) d.members) j k a.node placed.nodes (slice_get-map _ d.members j ∙ ap (option_map (λ (m : MemberPlan). m.node)) p.1 ∙ ap (λ (z : ℕ). Some z) p.3) (slice_get-map _ d.members k ∙ ap (option_map (λ (m : MemberPlan). m.node)) q.1 ∙ ap (λ (z : ℕ). Some z) (q.3 ∙ sym same));
+      names = λ j k a b x y same.
+          let p = planned plan d n d.members j a x in
+          let q = planned plan d n d.members k b y in
+          let in_a = all_at (λ (m : MemberPlan). m.node < length plan.nodes) d.members j p.0 ranged.members p.1 in
+          let in_b = all_at (λ (m : MemberPlan). m.node < length plan.nodes) d.members k q.0 ranged.members q.1 in
+          let node = one_named plan d p.0.node q.0.node sound.nodes_differ in_a in_b (p.4 ∙ same ∙ sym q.4) in
+          once (map (λ (m : MemberPlan). m.node) d.members) j k p.0.node placed.nodes (slice_get-map _ d.members j ∙ ap (option_map (λ (m : MemberPlan). m.node)) p.1) (slice_get-map _ d.members k ∙ ap (option_map (λ (m : MemberPlan). m.node)) q.1 ∙ ap (λ (z : ℕ). Some z) (sym node));
       fit = λ j a x.
           let p = planned plan d n d.members j a x in
           subst (λ (z : ℕ). z < 2 ^ (8 * d.widths.addr)) p.2 (most_fits d.widths.addr p.0.addr widths.addr (addressed d.widths.addr p.0 (any_false (is_misaddressed d.widths.addr) d.members j p.0 placed.fit p.1)));

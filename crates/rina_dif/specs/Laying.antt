@@ -42,11 +42,12 @@ BindsAll old [] [] new = new ≡ old
 BindsAll old (f ∷ fs) (p ∷ ps) new = (s : Seen) × IsBound old f p.0 p.1 s × BindsAll s fs ps new
 BindsAll old fs ps new = ⊥
 
--- a new end has members as its application and its peer, and sent nothing
+-- a new end has members as its application and its peer, and sent and passed nothing
 pub record IsNewEnd (members : List Member) (e : End) : Type 0 where
   pub app : IsMine members e.app
   pub peer : IsMine members e.peer
   pub sent : e.sent ≡ []
+  pub taken : e.taken ≡ 0
 
 -- the rank below after links were laid between these members: each end that was there is the same, and each other end
 -- is one of a member

@@ -1,5 +1,6 @@
 //! How a DIF is made.
 ghost use Rattle.std.specs.Prelude.{◌≡◌, [], false, IfOk};
+ghost use Rattle.rina_iface.specs.Journal.{AreKept};
 ghost use Rattle.rina_iface.specs.Seen.{Seen};
 ghost use Rattle.rina_data.specs.Configs.{config_of};
 ghost use Rattle.rina_data.specs.Numbered.{AreMembers};
@@ -56,13 +57,13 @@ fn all_bare(alloc: Global, settings: &Settings) -> Result<Processes, Memory>
 
 impl Dif {
     /// A DIF of these settings, whose clock is that of the rank below, without links, names and flows. It stands on
-    /// every rank where no end has a member as its application or its peer.
+    /// every kept rank where no end has a member as its application or its peer.
     pub fn new(alloc: Global, settings: Settings, clock: Tick) -> Result<Dif, Memory>
         ensures settings { IfOk result (λ d. d.settings ≡ settings) }
         ensures clock { IfOk result (λ d. d.clock ≡ clock) }
         ensures alive { IfOk result (λ d. d.failed ≡ false) }
         ensures bare { IfOk result IsBareDif }
-        ensures holds { IfOk result (λ d. (below : Seen) → IsConfig (config_of settings) → AreMembers (config_of settings) → clock ≡ below.now → IsFree (config_of settings) below → Holds d [] below) }
+        ensures holds { IfOk result (λ d. (below : Seen) → AreKept below → IsConfig (config_of settings) → AreMembers (config_of settings) → clock ≡ below.now → IsFree (config_of settings) below → Holds d [] below) }
     {
         let processes = all_bare(alloc, &settings)?;
         Ok(Dif {

@@ -130,6 +130,7 @@ lifted g who s s' kept kept' mine l = record {
       let q = (l.ends port.fac a.facility b.facility a.stands.facility b.stands.facility).stays a.place e b.end a.stands.is b.stands.is (mine b.end.app (subst (λ (z : End). IsMine g.members z.app) same my)) in
       (ap (λ (z : End). z.sent) same ∙ q.0, ap (λ (z : End). z.taken) same ∙ q.1);
   fresh = λ port e' x' none my. absurd (nothing port e' x' none my);
+  unread = λ port e' x' none my. absurd (nothing port e' x' none (inl my));
 }
   where
     length_is : length s'.facs ≡ length s.facs

@@ -14,6 +14,7 @@ use Rattle.rina_data.specs.Dif.{Config}
 use Rattle.rina_data.specs.Upward.{IsFacility, IsSilent}
 use Rattle.rina_data.proofs.Carries.{beside_carries}
 use Rattle.rina_data.proofs.Keepers.{facility}
+use Rattle.rina_data.proofs.Lifted.{beside_accounted}
 use Rattle.rina_data.proofs.Numbering.{beside_numbered}
 use Rattle.rina_data.proofs.Others.{stands_beside}
 use Rattle.rina_data.proofs.Own.{map_at}
@@ -37,6 +38,7 @@ holds_beside who d lines below below' kept kept' mine alone h =
       standing = stands_beside (seen_of_dif d) lines below below' kept' h.standing up alone.clock;
       carrying = beside_carries (seen_of_dif d) lines below below' kept' h.carrying up;
       numbered = beside_numbered (seen_of_dif d) below below' kept' h.numbered up;
+      accounted = beside_accounted (seen_of_dif d) lines below below' kept' h.accounted up;
       housed = h.housed;
     }
 
