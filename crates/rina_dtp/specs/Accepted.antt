@@ -37,6 +37,15 @@ judged_as law.Behind = judged.Behind
 judged_as law.NoState = judged.NoState
 judged_as law.NoRoom = judged.NoRoom
 
+-- the piece of a number is held
+abbrev pub is_held : Accepted → ℕ → Bool
+is_held (Reliable s) n = holds s.places n
+is_held _ n = false
+
+abbrev pub is_accepted : law.Verdict → Bool
+is_accepted law.Accepted = true
+is_accepted _ = false
+
 -- the greatest number that was accepted
 abbrev pub top_of : Accepted → ℕ
 top_of (Datagram r) = r.top

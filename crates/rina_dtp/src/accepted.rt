@@ -1,7 +1,7 @@
 //! The numbers that a receiver accepted, by its kind.
 ghost use Rattle.std.specs.Prelude.{◌≡◌, ◌≤◌, ◌<◌, ◌+◌, ◌-◌, ◌*◌, ◌^◌, ℕ, [], length, true, false, IfOk};
 ghost use Rattle.rina_law.specs.Receiver.{absent_verdict};
-ghost use Rattle.rina_dtp.specs.Accepted.{kind_of, known_verdict, number_verdict, judged_as, top_of, MayCount, IsCounted, IsGiven, FollowsOne, FollowsAll, Follows, HasSlotsFor, IsFresh};
+ghost use Rattle.rina_dtp.specs.Accepted.{kind_of, known_verdict, number_verdict, judged_as, is_held, top_of, MayCount, IsCounted, IsGiven, FollowsOne, FollowsAll, Follows, HasSlotsFor, IsFresh};
 ghost use Rattle.rina_cube.specs.Cubes.{IsCube};
 ghost use Rattle.rina_dtp.specs.Fetching.{TakesFirst, SameShape};
 ghost use Rattle.rina_dtp.specs.Joins.{Grows};
@@ -183,6 +183,16 @@ impl Accepted {
             self.known_verdict(number)
         } else {
             self.absent_verdict(drf)
+        }
+    }
+
+    /// Whether the piece of a number is held.
+    pub fn holds(&self, number: u64) -> bool
+        ensures { result ≡ is_held self.now number }
+    {
+        match self {
+            Accepted::Reliable(shelf) => shelf.holds(number),
+            _ => false,
         }
     }
 

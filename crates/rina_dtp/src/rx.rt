@@ -1,9 +1,9 @@
 //! The receiver of a connection.
-ghost use Rattle.std.specs.Prelude.{◌≡◌, ◌≤◌, ◌<◌, ◌+◌, ◌-◌, ◌*◌, ◌^◌, min, nat_lt, true, false, [], length, Some, None, IfOk, IfSome, if◌then◌else◌};
+ghost use Rattle.std.specs.Prelude.{◌≡◌, ◌≤◌, ◌<◌, ◌+◌, ◌-◌, ◌*◌, ◌^◌, ℕ, min, nat_lt, true, false, [], ◌∷◌, length, Some, None, IfOk, IfSome, if◌then◌else◌};
 ghost use Rattle.rina_base.specs.Pdus.{pdu_of};
 ghost use Rattle.rina_cube.specs.Cubes.{IsCube};
 ghost use Rattle.rina_law.specs.Receiver as law;
-ghost use Rattle.rina_dtp.specs.Accepted.{known_verdict, number_verdict, judged_as};
+ghost use Rattle.rina_dtp.specs.Accepted.{known_verdict, number_verdict, judged_as, is_accepted, is_held};
 ghost use Rattle.rina_dtp.specs.Receiving.{present_at, cleared, IsAccepted, IsHeldIn, IsStep, Steps, slots_of, StartsFresh, run_numbers, kept_numbers, end_cause, ended_with, broken_with, lost_in, drops};
 ghost use Rattle.rina_dtp.specs.Fetching.{TakesFirst, after_first, gathered, GoesOn, ChangesKept, KeepsNoMore, StandsAsBefore};
 ghost use Rattle.rina_dtp.specs.Observed.{IsNew, TellsPresence, TellsNext, TellsJoining, TellsLastIn, from_kept};
@@ -17,7 +17,7 @@ use crate::sdu::{Bodies, Sdu};
 use crate::shelf::Shelf;
 use crate::source::Source;
 use crate::verdict::{Judged, Verdict};
-use rina_base::{Cause, Key, Memory, Num, PduView, Tick};
+use rina_base::{Bytes, Cause, Key, Memory, Num, PduView, Seq, Tick};
 use rina_cube::{Cube, Kind};
 use rina_delim::Run;
 use std::alloc::Global;
@@ -61,6 +61,21 @@ fn with_room(room: bool, judged: Judged) -> Judged
         Judged::Accepted | Judged::Held if !room => Judged::NoRoom,
         _ => judged,
     }
+}
+
+fn is_accepted(judged: Judged) -> bool
+    ensures { (v : law.Verdict) → judged ≡ judged_as v → result ≡ is_accepted v }
+{
+    matches!(judged, Judged::Accepted)
+}
+
+/// The bytes of one SDU.
+fn one_body(alloc: Global, bytes: &[u8]) -> Result<Bodies, Memory>
+    ensures { IfOk result (λ bodies. bodies ≡ bytes.now ∷ []) }
+{
+    let mut bodies = Seq::new(alloc);
+    bodies.push(Bytes::copy_of(alloc, bytes)?)?;
+    Ok(bodies)
 }
 
 /// A run of pieces without the first.
@@ -437,8 +452,29 @@ impl Rx {
         })
     }
 
-    /// The bytes of the SDUs that `on_data` would make whole, in order, under its conditions. Nothing changes.
-    pub fn ahead(
+    /// Whether a piece is accepted. One that is not makes no SDU whole.
+    #[tactic(auto, using(crate::proofs::Ahead::none_ahead))]
+    fn accepts(&self, now: Tick, pdu: &PduView<'_>, unpassed: u32) -> bool
+        requires { now ≤ 10000000 }
+        ensures accepted { result ≡ is_accepted (law.with_room (nat_lt unpassed self.now.window) (number_verdict (present_at now self.now) self.now.accepted pdu.now.seq pdu.now.drf)) }
+        ensures none { result ≡ false → IsAhead now (pdu_of pdu.now) unpassed self.now [] }
+    {
+        let present = self.present(now);
+        let room = unpassed < self.window;
+        is_accepted(self.judge(present, room, pdu.seq, pdu.drf))
+    }
+
+    /// Whether a piece is an SDU by itself, and no held one follows it. One that is makes its SDU whole and no other,
+    /// where it is accepted.
+    #[tactic(auto, using(crate::proofs::Ahead::one_ahead))]
+    fn is_alone(&self, pdu: &PduView<'_>) -> bool
+        ensures alone { (now unpassed : ℕ) → result ≡ true → is_accepted (law.with_room (nat_lt unpassed self.now.window) (number_verdict (present_at now self.now) self.now.accepted pdu.now.seq pdu.now.drf)) ≡ true → IsAhead now (pdu_of pdu.now) unpassed self.now (pdu.now.body.now ∷ []) }
+    {
+        pdu.first && pdu.last && !self.accepted.holds(u64::from(pdu.seq) + 1)
+    }
+
+    /// The bytes of the SDUs that a piece would make whole, by a copy that receives it.
+    fn ahead_by_copy(
         &self,
         alloc: Global,
         now: Tick,
@@ -451,5 +487,25 @@ impl Rx {
         let mut copy = self.copy(alloc)?;
         let _verdict = copy.receive(now, pdu, unpassed);
         copy.join.bodies(alloc)
+    }
+
+    /// The bytes of the SDUs that `on_data` would make whole, in order, under its conditions. Nothing changes.
+    pub fn ahead(
+        &self,
+        alloc: Global,
+        now: Tick,
+        pdu: &PduView<'_>,
+        unpassed: u32,
+    ) -> Result<Bodies, Memory>
+        requires { now ≤ 10000000 }
+        ensures { IfOk result (IsAhead now (pdu_of pdu.now) unpassed self.now) }
+    {
+        if !self.accepts(now, pdu, unpassed) {
+            return Ok(Seq::new(alloc));
+        }
+        if self.is_alone(pdu) {
+            return one_body(alloc, pdu.body);
+        }
+        self.ahead_by_copy(alloc, now, pdu, unpassed)
     }
 }

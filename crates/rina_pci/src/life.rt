@@ -10,7 +10,8 @@ use std::alloc::Global;
 pub fn write_life(alloc: Global, life: u32, pdu: &[u8]) -> Result<Vec<u8>, Memory>
     ensures { IfOk result (λ v. v.items ≡ protected life pdu.now) }
 {
-    let mut out = Vec::from_slice(alloc, &life.to_be_bytes())?;
+    let mut out = Vec::with_capacity(alloc, 4 + pdu.len())?;
+    out.extend_from_slice(&life.to_be_bytes())?;
     out.extend_from_slice(pdu)?;
     Ok(out)
 }

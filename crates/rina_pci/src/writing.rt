@@ -99,10 +99,10 @@ fn write_whole(alloc: Global, pdu: &Pdu, w: Widths) -> Result<Vec<u8>, PciError>
     requires { AreWidths w }
     ensures { Gives result (written w pdu.now) }
 {
-    let mut out = Vec::new(alloc);
+    let size = u64::from(pci_len(pdu.kind, w)) + pdu.body.as_slice().len() as u64;
+    let mut out = Vec::with_capacity(alloc, size as usize)?;
     put_head(&mut out, pdu)?;
     put_addresses(&mut out, pdu, w)?;
-    let size = u64::from(pci_len(pdu.kind, w)) + pdu.body.as_slice().len() as u64;
     put_field(&mut out, 9, w.len, size)?;
     put_numbers(&mut out, pdu, w)?;
     Ok(out)

@@ -1,5 +1,5 @@
 -- Queues of a link that are emptied keep what holds of all queues.
-use Rattle.std.proofs.Common.{◌≡◌, ◌∙◌, ℕ, ◌<◌, Bool, true, false, cond, eqb, List, [], ◌∷◌, map, Option, Some, None, option_map, slice_get, refl, sym, ap, subst, arith}
+use Rattle.std.proofs.Common.{◌≡◌, ◌∙◌, ℕ, ◌<◌, Bool, true, false, cond, eqb, List, [], map, Option, Some, None, option_map, slice_get, refl, sym, subst, arith}
 use Rattle.std.proofs.lemmas.Option.{slice_get-map}
 use Rattle.rina_queue.specs.declared.queue.Queue.{Queue}
 use Rattle.rina_queue.specs.declared.queue.Queued.{Queued}

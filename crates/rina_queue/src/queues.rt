@@ -27,6 +27,16 @@ pub struct Queues {
     pub ghost own: { AllOfCubes queues.items },
 }
 
+/// Fewer heads than these are shown in a short row: to fill a long one would be most of the work.
+const FEW: usize = 8;
+
+const NO_HEAD: Head = Head {
+    qos: 0,
+    waiting: 0,
+    len: 0,
+    since: 0,
+};
+
 #[tactic(auto, unfolding(crate::specs::Queues::is_queue))]
 fn is_queue(queue: &Queue, qos: u8, link: u16) -> bool
     ensures { result ≡ is_queue qos link queue.now }
@@ -106,20 +116,55 @@ fn has_link(queues: &[Queue], link: u16) -> bool
     queues.iter().any(|queue| queue.link == link)
 }
 
-/// Shows the heads of the queues in which a PDU waits for a link, and gives how many these are.
+/// Shows the heads of the queues in which a PDU waits for a link, as many as the row has room for, and gives how
+/// many these are.
 fn show(queues: &[Queue], link: u16, heads: &mut [Head]) -> usize
-    requires { length heads.old ≡ 256 }
-    ensures count { result ≡ min (length (filter (waits link) queues.now)) 256 }
-    ensures heads { take result heads.new ≡ heads_of link queues.now }
+    ensures count { result ≡ min (length (filter (waits link) queues.now)) (length heads.old) }
+    ensures heads { take result heads.new ≡ take (length heads.old) (map head_of (filter (waits link) queues.now)) }
 {
+    let most = heads.len();
     let mut count = 0;
     for queue in queues {
-        if count < 256 && queue.waits(link) {
+        if count < most && queue.waits(link) {
             heads[count] = queue.head();
             count += 1;
         }
     }
     count
+}
+
+/// What a policy answers that is asked once and shown the first 256 heads of a link, where there are any.
+fn ask_many<S: Picks>(queues: &[Queue], shelf: &mut S, name: &Name, who: u32, link: u16) -> u32
+    requires { filter (waits link) queues.now ≢ [] }
+    ensures within { result < length (filter (waits link) queues.now) }
+    ensures answer { S.may_answer shelf.old name.now who (heads_of link queues.now) result }
+    ensures dead { count_of name.now (S.slots shelf.old) ≡ None → result ≡ 0 }
+    ensures asked { S.slots shelf.new ≡ asked name.now result (S.slots shelf.old) }
+{
+    let mut heads = [NO_HEAD; 256];
+    let count = show(queues, link, &mut heads);
+    shelf.ask(name, who, &heads[..count])
+}
+
+/// What a policy answers that is asked once and shown the first 256 heads of a link; None where there are none, and it
+/// is not asked.
+fn ask<S: Picks>(queues: &[Queue], shelf: &mut S, name: &Name, who: u32, link: u16) -> Option<u32>
+    ensures none { IsNone result ↔ (filter (waits link) queues.now ≡ []) }
+    ensures idle { IsNone result → S.slots shelf.new ≡ S.slots shelf.old }
+    ensures within { IfSome result (λ place. place < length (filter (waits link) queues.now)) }
+    ensures answer { IfSome result (λ place. S.may_answer shelf.old name.now who (heads_of link queues.now) place) }
+    ensures dead { IfSome result (λ place. count_of name.now (S.slots shelf.old) ≡ None → place ≡ 0) }
+    ensures asked { IfSome result (λ place. S.slots shelf.new ≡ asked name.now place (S.slots shelf.old)) }
+{
+    let mut heads = [NO_HEAD; FEW];
+    let count = show(queues, link, &mut heads);
+    if count == 0 {
+        return None;
+    }
+    if count < FEW {
+        return Some(shelf.ask(name, who, &heads[..count]));
+    }
+    Some(ask_many(queues, shelf, name, who, link))
 }
 
 /// Takes all PDUs that wait for a link away.
@@ -235,17 +280,7 @@ impl Queues {
         ensures first { (item : Queued) → option_copied result ≡ Some item → slice_get (waiting item.pdu.qos link self.now.queues.items) 0 ≡ Some item }
     {
         let queues = self.queues.as_slice();
-        let mut heads = [Head {
-            qos: 0,
-            waiting: 0,
-            len: 0,
-            since: 0,
-        }; 256];
-        let count = show(queues, link, &mut heads);
-        if count == 0 {
-            return None;
-        }
-        let place = shelf.ask(name, who, &heads[..count]);
+        let place = ask(queues, shelf, name, who, link)?;
         lend(nth_waiting(queues, link, place as usize))
     }
 }

@@ -14,7 +14,7 @@ use Rattle.rina_schedule.specs.declared.error.LineError.TheVariants as errors
 use Rattle.rina_stack.specs.declared.plan.Plan.{Plan}
 use Rattle.rina_table.specs.declared.error.StackError.{StackError}
 use Rattle.rina_table.specs.declared.error.StackError.TheVariants as stack
-use Rattle.rina_stack.specs.Runnable.{ReadsRunnable}
+use Rattle.rina_runnable.specs.Runnable.{ReadsRunnable}
 use Rattle.rina_iface.specs.declared.state.Fail.{Fail}
 use Rattle.rina_iface.specs.declared.state.Fail.TheVariants.{GaveUp, Below, Cut}
 use Rattle.rina_iface.specs.declared.state.PortState.TheVariants.{Failed}

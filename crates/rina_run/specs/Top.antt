@@ -16,7 +16,7 @@ use Rattle.rina_schedule.specs.declared.error.LineError.{LineError}
 use Rattle.rina_schedule.specs.declared.error.LineError.TheVariants as errors
 use Rattle.rina_stack.specs.declared.plan.Plan.{Plan}
 use Rattle.rina_table.specs.declared.error.StackError.TheVariants as stack
-use Rattle.rina_stack.specs.Runnable.{ReadsRunnable}
+use Rattle.rina_runnable.specs.Runnable.{ReadsRunnable}
 use Rattle.rina_tower.specs.declared.tower.Tower.{Tower}
 use Rattle.rina_tower.specs.Ranks.{now_of, rank_of, seen_of}
 use Rattle.rina_run.specs.declared.play.BadLine.{BadLine}

@@ -26,8 +26,9 @@ use rina_iface::Facility;
 use rina_io::{Ending, LIMIT, Sink, Source, take_all};
 use rina_policy::Retires;
 use rina_report::{Fault, Note, Notes};
+use rina_runnable::read_runnable;
 use rina_schedule::LineError;
-use rina_stack::{Plan, Policies, StackError, read_runnable};
+use rina_stack::{Plan, Policies, StackError};
 use rina_tower::Tower;
 use std::alloc::Global;
 

@@ -35,7 +35,6 @@ use Rattle.rina_rows.specs.Items.{node_row, rounds_or, dif_at, sketch_at}
 use Rattle.rina_rules.specs.Rules.{has_text, twin_after, twin_in, twin_fault, earlier, facility_twin, label_twin, wire_names, dif_names, labels, first_wire, is_crossed, spread_of, top_fault}
 use Rattle.rina_rules.specs.Order.{ends_of, alone_at, linked_at, difs_at, rules_at}
 use Rattle.rina_stack.specs.Stack.{plain, full, narrow, plan_of, unknown_item, resolved_at, stack_at}
-use Rattle.rina_stack.specs.Runnable.{unready_key, unready_type, runnable_at}
 use Rattle.rina_stack.specs.Plan.{AreDistinct, names_of, wire_ends, IsRangedCube, IsRangedDif, NoDif, IsSoundWire, IsPlan}
 use Rattle.rina_stack.proofs.SoundDif.{dif_7, whole_cube, dif_parts, IsNamed, named_7}
 use Rattle.rina_stack.proofs.LabelsOfFlows.{same_labels, no_label_twin}
@@ -468,7 +467,7 @@ planned known d s r =
       counts = r.unbroken_rules.counts;
     }
 
-is_plan : (known : List ℕ → Bool) (t : Data) (p : Plan) → stack_at known t ≡ Ok p → IsPlan p
+pub is_plan : (known : List ℕ → Bool) (t : Data) (p : Plan) → stack_at known t ≡ Ok p → IsPlan p
 unfolding stack_at
 is_plan known t p h =
     let (_, _, h1) = bind_ok (unless 2 (keys_fault t)) _ p h in
@@ -484,11 +483,3 @@ is_plan known t p h =
 pub read_plan : (known : List ℕ → Bool) (r : Result Plan StackError) (t : Data) → Gives (λ p. p) r (stack_at known t) → IfOk r IsPlan
 read_plan known (Ok p) t h = is_plan known t p h
 read_plan known (Err e) t h = tt
-
-pub runnable_plan : (known : List ℕ → Bool) (r : Result Plan StackError) (t : Data) → Gives (λ p. p) r (runnable_at known t) → IfOk r IsPlan
-unfolding runnable_at
-runnable_plan known (Ok p) t h =
-    let (_, _, h1) = bind_ok (unless 2 (unready_key t)) _ p h in
-    let (_, _, h2) = bind_ok (unless 3 (unready_type t)) _ p h1 in
-    is_plan known t p h2
-runnable_plan known (Err e) t h = tt

@@ -17,8 +17,8 @@ use rina_table::{StackError, check, first_behind, key_fault};
 use std::alloc::Global;
 use toml::Value;
 
-/// The stack, where what breaks a later rule than `upto` is let through; no reference is resolved.
-pub(crate) fn plain(alloc: Global, upto: u32, stack: &Value) -> Result<Sketch, StackError>
+/// The stack of a table, where what breaks a later rule than `upto` is let through; no reference is resolved.
+pub fn plain(alloc: Global, upto: u32, stack: &Value) -> Result<Sketch, StackError>
     ensures { Gives (λ s. s) result (sketch_at (plain upto) (view stack.now)) }
 {
     let scope = Scope {
@@ -108,13 +108,9 @@ fn plan(alloc: Global, sketch: Sketch) -> Result<Plan, Memory>
     })
 }
 
-/// The stack of a table.
+/// The stack of a table, or the first rule that it breaks.
 #[tactic(auto, unfolding(crate::specs::Stack::stack_at))]
-pub(crate) fn stack_of<P: Policies>(
-    alloc: Global,
-    policies: &P,
-    stack: &Value,
-) -> Result<Plan, StackError>
+pub fn stack_of<P: Policies>(alloc: Global, policies: &P, stack: &Value) -> Result<Plan, StackError>
     ensures { Gives (λ p. p) result (stack_at (P.knows policies.now) (view stack.now)) }
 {
     let odd = key_fault(stack)?;

@@ -1,6 +1,5 @@
-use Rattle.rina_stack.proofs.Sound.{runnable_plan}
-use Rattle.rina_stack.proofs.Runs.{runnable_difs}
-use Rattle.rina_stack.proofs.runnable.read_runnable.Goals as goal
+use Rattle.rina_runnable.proofs.Runs.{runnable_plan, runnable_difs}
+use Rattle.rina_runnable.proofs.runnable.read_runnable.Goals as goal
 
 pub returns-in-Ok-clause-plan : goal.returns-in-Ok-clause-plan
 returns-in-Ok-clause-plan g c = runnable_plan _ c.runnable_of.result _ c.runnable_of.ensures

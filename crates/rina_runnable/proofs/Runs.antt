@@ -20,10 +20,11 @@ use Rattle.rina_stack.specs.declared.plan.Plan.{Plan}
 use Rattle.rina_rules.specs.Rules.{twin_fault}
 use Rattle.rina_rules.specs.Order.{rules_at}
 use Rattle.rina_stack.specs.Stack.{plain, full, plan_of, unknown_item, resolved_at, stack_at}
-use Rattle.rina_stack.specs.Runnable.{is_stormy, is_ruled, unready_item, unready_key, is_yes, is_dynamic, first_dynamic, item_of, unready_type, runnable_at, IsRunnableDif, IsRunnable}
+use Rattle.rina_runnable.specs.Runnable.{is_stormy, is_ruled, unready_item, unready_key, is_yes, is_dynamic, first_dynamic, item_of, unready_type, runnable_at, IsRunnableDif, IsRunnable}
 use Rattle.rina_stack.proofs.Inversion.{bind_ok, ok_is, unbroken}
 use Rattle.rina_stack.proofs.SoundDif.{over4}
-use Rattle.rina_stack.proofs.Sound.{no_more, neither, parts}
+use Rattle.rina_stack.specs.Plan.{IsPlan}
+use Rattle.rina_stack.proofs.Sound.{no_more, neither, parts, is_plan}
 
 -- what each row is that has a property, all are
 all_read_of : {A B : Type 0} (Q : A → Type 0) (P : B → Type 0) (f : ℕ → A → Result B StackError) (k : ℕ) (xs : List A) (ys : List B) → All Q xs → ((n : ℕ) (x : A) (y : B) → Q x → f n x ≡ Ok y → P y) → traverse f k xs ≡ Ok ys → All P ys
@@ -153,3 +154,12 @@ runnable_difs known (Ok p) t h =
     let free = unruled t (unbroken 2 (unready_key t) _ keys) in
     of_stack known t p (λ k e within. record { is_static = static k e within; unruled = free k e within }) h2
 runnable_difs known (Err e) t h = tt
+
+-- what is read where all of it runs is a plan
+pub runnable_plan : (known : List ℕ → Bool) (r : Result Plan StackError) (t : Data) → Gives (λ p. p) r (runnable_at known t) → IfOk r IsPlan
+unfolding runnable_at
+runnable_plan known (Ok p) t h =
+    let (_, _, h1) = bind_ok (unless 2 (unready_key t)) _ p h in
+    let (_, _, h2) = bind_ok (unless 3 (unready_type t)) _ p h1 in
+    is_plan known t p h2
+runnable_plan known (Err e) t h = tt

@@ -7,7 +7,7 @@ use Rattle.rina_dtp.specs.Joins.{IsForward, bytes_of}
 use Rattle.rina_dtp.specs.Receiving.{Receiving, cleared, Steps}
 use Rattle.rina_dtp.specs.Stands.{IsAhead}
 use Rattle.rina_dtp.proofs.Ahead.{is_ahead}
-use Rattle.rina_dtp.proofs.rx.Rx.ahead.Goals as goal
+use Rattle.rina_dtp.proofs.rx.Rx.ahead_by_copy.Goals as goal
 
 ahead_where : (r : Result (List (List ℕ)) Memory) (now : ℕ) (pdu : Pdu) (unpassed : ℕ) (old copy : Receiving) (answer : Verdict) (new : Receiving) → pdu.seq < 2 ^ 32 → (IsForward old.join.joining.held → copy ≡ cleared old) → Steps now pdu unpassed copy answer new → IfOk r (λ b. b ≡ bytes_of new.join.whole) → IfOk r (IsAhead now pdu unpassed old)
 ahead_where (Ok b) now pdu unpassed old copy answer new small same steps h = is_ahead now pdu unpassed old copy answer new b small same steps h
