@@ -8,6 +8,7 @@ pub mod Naming
 pub mod Leading
 pub mod Playing
 pub mod Ending
+pub mod Promised
 pub mod Clocks
 pub mod Opens
 pub mod Calls

@@ -10,3 +10,4 @@ pub mod Opening
 pub mod Run
 pub mod Written
 pub mod Top
+pub mod Promises

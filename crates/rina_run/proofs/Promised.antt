@@ -1,0 +1,23 @@
+-- What a tower that stands promises of each of its DIFs.
+use Rattle.std.proofs.Common.{◌≡◌, ℕ, Option, Some, None, IfSome, slice_get, unit}
+use Rattle.rina_iface.specs.Seen.{Seen}
+use Rattle.rina_dif.specs.declared.dif.Dif.{Dif}
+use Rattle.rina_dif.specs.Holding.{Stands}
+use Rattle.rina_tower.specs.declared.tower.Tower.{Tower, Rank', Wires}
+use Rattle.rina_tower.specs.Standing.{IsTower}
+use Rattle.rina_run.specs.Promises.{CarriesAll, IsCarriedBy, OfEachDif}
+
+-- what follows of a DIF that stands holds of each
+of_each : (Promise : Dif → Seen → Type 0) → ((d : Dif) (below : Seen) → Stands d below → Promise d below) → (t : Tower) → IsTower t → OfEachDif Promise t
+of_each Promise follows (Wires a) v = unit
+of_each Promise follows (Rank' p difs below) v = (λ n d here. follows d _ (v.0.standing.stand n d here)), of_each Promise follows below v.1
+
+pub of_each_if : (Promise : Dif → Seen → Type 0) → ((d : Dif) (below : Seen) → Stands d below → Promise d below) → (tower : Option Tower) → IfSome tower IsTower → IfSome tower (OfEachDif Promise)
+of_each_if Promise follows None v = v
+of_each_if Promise follows (Some t) v = of_each Promise follows t v
+
+carried : (d : Dif) (below : Seen) → Stands d below → IsCarriedBy d below
+carried d below stands = stands.1.carrying.entries
+
+pub carried_if : (tower : Option Tower) → IfSome tower IsTower → IfSome tower CarriesAll
+carried_if = of_each_if IsCarriedBy carried

@@ -1,0 +1,21 @@
+-- What holds of each DIF of the tower that a run returns, at every rank.
+use Rattle.std.specs.Prelude.{◌≡◌, ℕ, slice_get, Some, Unit}
+use Rattle.rina_iface.specs.Seen.{Seen}
+use Rattle.rina_data.specs.Carried.{AreCarried}
+use Rattle.rina_dif.specs.declared.dif.Dif.{Dif}
+use Rattle.rina_dif.specs.Shown.{seen_of as seen_of_dif}
+use Rattle.rina_tower.specs.declared.tower.Tower.{Tower, Wires, Rank'}
+use Rattle.rina_tower.specs.Ranks.{seen_of}
+
+-- this holds of each DIF of each rank, over what the rank below shows
+abbrev pub OfEachDif : (Dif → Seen → Type 0) → Tower → Type 0
+OfEachDif Promise (Wires a) = Unit {0}
+OfEachDif Promise (Rank' p difs below) = ((n : ℕ) (d : Dif) → slice_get difs n ≡ Some d → Promise d (seen_of below)) × OfEachDif Promise below
+
+-- whatever its ends got has come to their IPC processes from the rank below, piece by piece
+abbrev pub IsCarriedBy : Dif → Seen → Type 0
+IsCarriedBy d below = AreCarried (seen_of_dif d) below
+
+-- and so at every rank
+abbrev pub CarriesAll : Tower → Type 0
+CarriesAll = OfEachDif IsCarriedBy

@@ -1,0 +1,328 @@
+//! The examples from h to p, each an input, a line `----`, and what it writes; a line `====` parts them. Written by
+//! `bin/examples-as-tests` from the folder examples/.
+
+pub(crate) static EXAMPLES_H_TO_P: &str = "\
+# A frame is held back until its life ends, and no longer.
+nodes = [\"a\", \"b\"]
+[[wire]]
+name = \"w\"
+ends = [\"a\", \"b\"]
+delay = 2
+life = 10
+largest = 1500
+%%
+register w b echo
+alloc p w a ping echo
+accept q w b echo
+send p 'hello
+hold w 0 10
+hold w 0 11
+tick 9
+read q
+tick 1
+read q
+----
+1 0 ok
+2 0 ok allocated
+3 0 ok allocated
+4 0 sent 0.0
+5 0 ok
+6 0 no LateHold 10
+7 9 ok
+8 9 none
+9 10 ok
+10 10 got 10 'hello
+end 10
+====
+nodes = [\"a\", \"b\"]
+[[wire]]
+name = \"w\"
+ends = [\"a\", \"b\"]
+delay = 2
+life = 10
+largest = 1500
+%%
+register w b echo
+alloc p w a ping echo
+accept q w b echo
+send p 'hello
+tick 2
+read q
+----
+1 0 ok
+2 0 ok allocated
+3 0 ok allocated
+4 0 sent 0.0
+5 2 ok
+6 2 got 2 'hello
+end 2
+====
+# What both ends of a flow sent and got.
+nodes = [\"a\", \"b\"]
+[[wire]]
+name = \"w\"
+ends = [\"a\", \"b\"]
+delay = 2
+life = 10
+largest = 1500
+%%
+register w b echo
+alloc p w a ping echo
+accept q w b echo
+send p 'hello
+tick 2
+read q
+journal w
+----
+1 0 ok
+2 0 ok allocated
+3 0 ok allocated
+4 0 sent 0.0
+5 2 ok
+6 2 got 2 'hello
+7 2 flow 1.0.0 asker w/a/1 ping echo 0 0 allocated
+7 2 s 0 0.0 'hello
+7 2 flow 1.0.0 far w/b/1 echo ping 0 1 allocated
+7 2 g 2 0.0 'hello
+end 2
+====
+# Three wires, and a lifetime that is too short for them: at the third hop 5 ticks are left, and 10 are charged.
+nodes = [\"a\", \"b\", \"c\", \"d\"]
+[[wire]]
+name = \"w1\"
+ends = [\"a\", \"b\"]
+delay = 2
+life = 10
+largest = 1500
+[[wire]]
+name = \"w2\"
+ends = [\"b\", \"c\"]
+delay = 2
+life = 10
+largest = 1500
+[[wire]]
+name = \"w3\"
+ends = [\"c\", \"d\"]
+delay = 2
+life = 10
+largest = 1500
+[[dif]]
+name = \"d\"
+rank = 1
+static = true
+pdu = 96
+widths = { addr = 1, cep = 1, len = 2, seq = 2 }
+queue = 64
+policy = \"strict\"
+wait = 500
+manage = { mpl = 40, r = 30, a = 2, retry = 10, window = 8 }
+cube = [ { id = 1, kind = \"datagram\", mpl = 25, window = 16, largest = 80 } ]
+member = [ { node = \"a\", addr = 1 }, { node = \"b\", addr = 2 }, { node = \"c\", addr = 3 }, { node = \"d\", addr = 4 } ]
+link = [ { on = \"w1\", a = \"a\", b = \"b\" }, { on = \"w2\", a = \"b\", b = \"c\" }, { on = \"w3\", a = \"c\", b = \"d\" } ]
+flow = [ { cube = 1, from = { node = \"a\", app = \"s\", label = \"p\" }, to = { node = \"d\", app = \"t\", label = \"q\" } } ]
+%%
+send p 'a
+tick 10
+read q
+ledger d c
+----
+1 0 sent 1.0
+2 10 ok
+3 10 none
+4 10 off data 1.1.0 Expired 5 10
+end 10
+====
+# A stack with a mistake. docs/stacks.md says what rule 8 is; item 2 is the second wire.
+nodes = [\"a\", \"b\", \"c\"]
+[[wire]]
+name = \"w1\"
+ends = [\"a\", \"b\"]
+delay = 2
+life = 10
+largest = 1500
+[[wire]]
+name = \"w2\"
+ends = [\"b\", \"b\"]
+delay = 2
+life = 10
+largest = 1500
+%%
+tick 1
+----
+fault StackRule 8 2
+====
+# Two of three SDUs are late. The cube is loose, in order with gaps: what comes behind a later SDU is written off,
+# and the ledger of b says so.
+nodes = [\"a\", \"b\"]
+[[wire]]
+name = \"w\"
+ends = [\"a\", \"b\"]
+delay = 2
+life = 10
+largest = 1500
+[[dif]]
+name = \"d\"
+rank = 1
+static = true
+pdu = 96
+widths = { addr = 1, cep = 1, len = 2, seq = 2 }
+queue = 64
+policy = \"strict\"
+wait = 500
+manage = { mpl = 40, r = 30, a = 2, retry = 10, window = 8 }
+cube = [
+  { id = 1, kind = \"datagram\", mpl = 40, window = 16, largest = 80 },
+  { id = 2, kind = \"loose\", mpl = 40, window = 16, largest = 240 },
+  { id = 3, kind = \"reliable\", mpl = 40, r = 30, a = 2, retry = 10, window = 4, largest = 240 },
+]
+member = [ { node = \"a\", addr = 1 }, { node = \"b\", addr = 2 } ]
+link = [ { on = \"w\", a = \"a\", b = \"b\" } ]
+flow = [
+  { cube = 1, from = { node = \"a\", app = \"s1\", label = \"p1\" }, to = { node = \"b\", app = \"t1\", label = \"q1\" } },
+  { cube = 2, from = { node = \"a\", app = \"s2\", label = \"p2\" }, to = { node = \"b\", app = \"t2\", label = \"q2\" } },
+  { cube = 3, from = { node = \"a\", app = \"s3\", label = \"p3\" }, to = { node = \"b\", app = \"t3\", label = \"q3\" } },
+]
+%%
+send p2 'a
+send p2 'b
+send p2 'c
+hold w 0 3
+hold w 1 4
+tick 12
+read q2
+ledger d b
+----
+1 0 sent 2.0
+2 0 sent 2.1
+3 0 sent 2.2
+4 0 ok
+5 0 ok
+6 12 ok
+7 12 got 2 'c
+8 12 off data 1.2.0 Behind 2
+8 12 off data 1.2.1 Behind 2
+end 12
+====
+# The policy `last` sends the PDU of the last cube first. It is retired then, and the first place is taken.
+nodes = [\"a\", \"b\"]
+rounds = \"manual\"
+[[wire]]
+name = \"w\"
+ends = [\"a\", \"b\"]
+delay = 2
+life = 10
+largest = 1500
+[[dif]]
+name = \"d\"
+rank = 1
+static = true
+pdu = 96
+widths = { addr = 1, cep = 1, len = 2, seq = 2 }
+queue = 64
+policy = \"last\"
+wait = 500
+manage = { mpl = 40, r = 30, a = 2, retry = 10, window = 8 }
+cube = [
+  { id = 1, kind = \"datagram\", mpl = 40, window = 16, largest = 80 },
+  { id = 2, kind = \"loose\", mpl = 40, window = 16, largest = 240 },
+  { id = 3, kind = \"reliable\", mpl = 40, r = 30, a = 2, retry = 10, window = 4, largest = 240 },
+]
+member = [ { node = \"a\", addr = 1 }, { node = \"b\", addr = 2 } ]
+link = [ { on = \"w\", a = \"a\", b = \"b\" } ]
+flow = [
+  { cube = 1, from = { node = \"a\", app = \"s1\", label = \"p1\" }, to = { node = \"b\", app = \"t1\", label = \"q1\" } },
+  { cube = 2, from = { node = \"a\", app = \"s2\", label = \"p2\" }, to = { node = \"b\", app = \"t2\", label = \"q2\" } },
+  { cube = 3, from = { node = \"a\", app = \"s3\", label = \"p3\" }, to = { node = \"b\", app = \"t3\", label = \"q3\" } },
+]
+%%
+send p1 'a
+send p1 'b
+send p2 'c
+send p2 'd
+out d a 0
+retire last
+out d a 0
+out d a 0
+out d a 0
+out d a 0
+tick 2
+in d b 0
+read q2
+----
+1 0 sent 1.0
+2 0 sent 1.1
+3 0 sent 2.0
+4 0 sent 2.1
+5 0 out data 1.2.0
+6 0 ok
+7 0 out data 1.1.0
+8 0 out data 1.1.1
+9 0 out data 1.2.1
+10 0 idle
+11 2 ok
+12 2 in data 1.2.0 accepted
+13 2 got 2 'c
+end 2
+====
+# The policy `strict` on the same traffic as in policy-last: the PDU of the first cube goes first, in the order of the
+# cubes' ids. Retired or not, it picks the first place.
+nodes = [\"a\", \"b\"]
+rounds = \"manual\"
+[[wire]]
+name = \"w\"
+ends = [\"a\", \"b\"]
+delay = 2
+life = 10
+largest = 1500
+[[dif]]
+name = \"d\"
+rank = 1
+static = true
+pdu = 96
+widths = { addr = 1, cep = 1, len = 2, seq = 2 }
+queue = 64
+policy = \"strict\"
+wait = 500
+manage = { mpl = 40, r = 30, a = 2, retry = 10, window = 8 }
+cube = [
+  { id = 1, kind = \"datagram\", mpl = 40, window = 16, largest = 80 },
+  { id = 2, kind = \"loose\", mpl = 40, window = 16, largest = 240 },
+  { id = 3, kind = \"reliable\", mpl = 40, r = 30, a = 2, retry = 10, window = 4, largest = 240 },
+]
+member = [ { node = \"a\", addr = 1 }, { node = \"b\", addr = 2 } ]
+link = [ { on = \"w\", a = \"a\", b = \"b\" } ]
+flow = [
+  { cube = 1, from = { node = \"a\", app = \"s1\", label = \"p1\" }, to = { node = \"b\", app = \"t1\", label = \"q1\" } },
+  { cube = 2, from = { node = \"a\", app = \"s2\", label = \"p2\" }, to = { node = \"b\", app = \"t2\", label = \"q2\" } },
+  { cube = 3, from = { node = \"a\", app = \"s3\", label = \"p3\" }, to = { node = \"b\", app = \"t3\", label = \"q3\" } },
+]
+%%
+send p1 'a
+send p1 'b
+send p2 'c
+send p2 'd
+out d a 0
+retire strict
+out d a 0
+out d a 0
+out d a 0
+out d a 0
+tick 2
+in d b 0
+read q2
+----
+1 0 sent 1.0
+2 0 sent 1.1
+3 0 sent 2.0
+4 0 sent 2.1
+5 0 out data 1.1.0
+6 0 ok
+7 0 out data 1.1.1
+8 0 out data 1.2.0
+9 0 out data 1.2.1
+10 0 idle
+11 2 ok
+12 2 in data 1.1.0 accepted
+13 2 none
+end 2
+";

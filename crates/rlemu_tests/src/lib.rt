@@ -1,0 +1,17 @@
+//! Whole runs: each example, and each worked row, with all that it writes. Tests alone.
+#![tactic(auto)]
+
+#[cfg(test)]
+mod examples_a_to_g;
+#[cfg(test)]
+mod examples_h_to_p;
+#[cfg(test)]
+mod examples_q_to_z;
+#[cfg(test)]
+mod flat_rows;
+#[cfg(test)]
+mod running;
+#[cfg(test)]
+mod spent_rows;
+#[cfg(test)]
+mod tall_rows;

@@ -1,0 +1,92 @@
+//! How a text of inputs and outputs is run.
+use crate::examples_a_to_g::EXAMPLES_A_TO_G;
+use crate::examples_h_to_p::EXAMPLES_H_TO_P;
+use crate::examples_q_to_z::EXAMPLES_Q_TO_Z;
+use crate::flat_rows::FLAT_ROWS;
+use crate::spent_rows::SPENT_ROWS;
+use crate::tall_rows::TALL_ROWS;
+use rina_base::Name;
+use rina_io::{MemSink, MemSource};
+use rina_policy::{First, Last, Round, Shelf, Strict, Weighted};
+use rina_run::run;
+use std::alloc::Global;
+use std::test::Fail;
+
+/// A shelf with the five built-in policies.
+fn make_shelf(alloc: Global) -> Result<Shelf, Fail> {
+    let mut shelf = Shelf::new(alloc)?;
+    let name = Name::read(alloc, b"strict")?;
+    shelf.add(alloc, name, Box::new(alloc, Strict::new())?)?;
+    let name = Name::read(alloc, b"last")?;
+    shelf.add(alloc, name, Box::new(alloc, Last::new())?)?;
+    let name = Name::read(alloc, b"first")?;
+    shelf.add(alloc, name, Box::new(alloc, First::new())?)?;
+    let name = Name::read(alloc, b"round")?;
+    shelf.add(alloc, name, Box::new(alloc, Round::new())?)?;
+    let name = Name::read(alloc, b"weighted")?;
+    shelf.add(alloc, name, Box::new(alloc, Weighted::new())?)?;
+    Ok(shelf)
+}
+
+/// What the word `run` writes of an input.
+fn written(alloc: Global, input: &str) -> Result<MemSink, Fail> {
+    let mut words = Vec::new(alloc);
+    words.push(String::from_str(alloc, "run")?)?;
+    let mut source = MemSource::new(input.as_bytes().to_vec(alloc)?, Vec::new(alloc));
+    let mut sink = MemSink::new(Vec::new(alloc), Vec::new(alloc));
+    let shelf = make_shelf(alloc)?;
+    run(alloc, words.as_slice(), &mut source, &mut sink, shelf);
+    Ok(sink)
+}
+
+/// The first example of a text that writes something else than its output, where there is one.
+fn other_example<'a>(alloc: Global, text: &'a str) -> Result<Option<&'a str>, Fail> {
+    for example in text.split("====\n") {
+        let (input, output) = example.split_once("----\n").ok_or("no output")?;
+        if written(alloc, input)?.bytes() != output.as_bytes() {
+            return Ok(Some(example));
+        }
+    }
+    Ok(None)
+}
+
+/// The first of some rows on a stack that writes something else than its output, where there is one.
+fn other_row<'a>(alloc: Global, stack: &str, rows: &'a str) -> Result<Option<&'a str>, Fail> {
+    for row in rows.split("====\n") {
+        let (lines, output) = row.split_once("----\n").ok_or("no output")?;
+        let input = format!(in alloc; "{stack}%%\n{lines}")?;
+        if written(alloc, input.as_str())?.bytes() != output.as_bytes() {
+            return Ok(Some(row));
+        }
+    }
+    Ok(None)
+}
+
+/// And of all stacks of a text.
+fn other_of_all<'a>(alloc: Global, text: &'a str) -> Result<Option<&'a str>, Fail> {
+    for part in text.split("####\n") {
+        let (stack, rows) = part.split_once("%%\n").ok_or("no rows")?;
+        if let Some(row) = other_row(alloc, stack, rows)? {
+            return Ok(Some(row));
+        }
+    }
+    Ok(None)
+}
+
+#[test]
+fn each_example_writes_its_output(rt: HostRuntime) -> Result<(), Fail> {
+    let alloc = rt.alloc();
+    assert_eq!(rt; other_example(alloc, EXAMPLES_A_TO_G)?, None);
+    assert_eq!(rt; other_example(alloc, EXAMPLES_H_TO_P)?, None);
+    assert_eq!(rt; other_example(alloc, EXAMPLES_Q_TO_Z)?, None);
+    Ok(())
+}
+
+#[test]
+fn each_row_writes_its_output(rt: HostRuntime) -> Result<(), Fail> {
+    let alloc = rt.alloc();
+    assert_eq!(rt; other_of_all(alloc, FLAT_ROWS)?, None);
+    assert_eq!(rt; other_of_all(alloc, SPENT_ROWS)?, None);
+    assert_eq!(rt; other_of_all(alloc, TALL_ROWS)?, None);
+    Ok(())
+}
