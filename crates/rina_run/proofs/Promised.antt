@@ -5,7 +5,7 @@ use Rattle.rina_dif.specs.declared.dif.Dif.{Dif}
 use Rattle.rina_dif.specs.Holding.{Stands}
 use Rattle.rina_tower.specs.declared.tower.Tower.{Tower, Rank', Wires}
 use Rattle.rina_tower.specs.Standing.{IsTower}
-use Rattle.rina_run.specs.Promises.{CarriesAll, IsCarriedBy, OfEachDif}
+use Rattle.rina_run.specs.Promises.{AccountsAll, CarriesAll, IsCarriedBy, IsInAccount, OfEachDif}
 
 -- what follows of a DIF that stands holds of each
 of_each : (Promise : Dif → Seen → Type 0) → ((d : Dif) (below : Seen) → Stands d below → Promise d below) → (t : Tower) → IsTower t → OfEachDif Promise t
@@ -21,3 +21,9 @@ carried d below stands = stands.1.carrying.entries
 
 pub carried_if : (tower : Option Tower) → IfSome tower IsTower → IfSome tower CarriesAll
 carried_if = of_each_if IsCarriedBy carried
+
+in_account : (d : Dif) (below : Seen) → Stands d below → IsInAccount d below
+in_account d below stands = stands.0, stands.1.standing, stands.1.accounted
+
+pub accounted_if : (tower : Option Tower) → IfSome tower IsTower → IfSome tower AccountsAll
+accounted_if = of_each_if IsInAccount in_account

@@ -1,7 +1,10 @@
 -- What holds of each DIF of the tower that a run returns, at every rank.
-use Rattle.std.specs.Prelude.{◌≡◌, ℕ, slice_get, Some, Unit}
+use Rattle.std.specs.Prelude.{◌≡◌, ℕ, List, slice_get, Some, Unit}
 use Rattle.rina_iface.specs.Seen.{Seen}
+use Rattle.rina_law.specs.Direction.{Direction}
+use Rattle.rina_data.specs.Accounted.{IsAccounted}
 use Rattle.rina_data.specs.Carried.{AreCarried}
+use Rattle.rina_data.specs.Standing.{IsStanding}
 use Rattle.rina_dif.specs.declared.dif.Dif.{Dif}
 use Rattle.rina_dif.specs.Shown.{seen_of as seen_of_dif}
 use Rattle.rina_tower.specs.declared.tower.Tower.{Tower, Wires, Rank'}
@@ -19,3 +22,10 @@ IsCarriedBy d below = AreCarried (seen_of_dif d) below
 -- and so at every rank
 abbrev pub CarriesAll : Tower → Type 0
 CarriesAll = OfEachDif IsCarriedBy
+
+-- each IPC process is in account for each key of a PDU, where these are the directions that stand behind its flows
+abbrev pub IsInAccount : Dif → Seen → Type 0
+IsInAccount d below = (lines : List Direction) × IsStanding (seen_of_dif d) lines below × IsAccounted (seen_of_dif d) lines below
+
+abbrev pub AccountsAll : Tower → Type 0
+AccountsAll = OfEachDif IsInAccount

@@ -7,7 +7,7 @@ ghost use Rattle.rina_report.specs.Notes.{text_of};
 ghost use Rattle.rina_stack.specs.Plan.{IsPlan};
 ghost use Rattle.rina_tower.specs.Standing.{IsTower};
 ghost use Rattle.rina_run.specs.Opening.{IsOpening};
-ghost use Rattle.rina_run.specs.Promises.{CarriesAll};
+ghost use Rattle.rina_run.specs.Promises.{AccountsAll, CarriesAll};
 ghost use Rattle.rina_run.specs.Script.{script, script_in};
 ghost use Rattle.rina_run.specs.Step.{stage};
 ghost use Rattle.rina_run.specs.Words.{word_fault};
@@ -287,7 +287,7 @@ fn run_input<K: Sink, P: Retires + Policies>(
 
 /// A run over any shelf: the words of the command line without the program's name, the input, and where the
 /// notes are written. Each line's notes are written before the next line runs.
-#[tactic(auto, using(crate::proofs::Ending::kept_if, crate::proofs::Ending::failed_by_cut, crate::proofs::Promised::carried_if))]
+#[tactic(auto, using(crate::proofs::Ending::kept_if, crate::proofs::Ending::failed_by_cut, crate::proofs::Promised::carried_if, crate::proofs::Promised::accounted_if))]
 fn run_over<S: Source, K: Sink, P: Retires + Policies>(
     alloc: Global,
     words: &[String],
@@ -305,6 +305,8 @@ fn run_over<S: Source, K: Sink, P: Retires + Policies>(
     ensures kept { IfSome result.tower KeepsAll }
     // Whatever an end of a DIF got has come to its IPC process from the rank below, piece by piece.
     ensures carried { IfSome result.tower CarriesAll }
+    // Of each PDU each IPC process can tell where it is: what came in or was made is out, waits, was written off, or is kept.
+    ensures accounted { IfSome result.tower AccountsAll }
     // A flow of a wire has failed only by a cut of that wire.
     ensures failed { IfSome result.tower FailedByCut }
     ensures read { result.status ≡ Status.ReadFault → Rose (S.faults input.old) (S.faults input.new) }
@@ -350,6 +352,8 @@ pub fn run<S: Source, K: Sink, P: Retires + Policies>(
     ensures kept { IfSome result.tower KeepsAll }
     // Whatever an end of a DIF got has come to its IPC process from the rank below, piece by piece.
     ensures carried { IfSome result.tower CarriesAll }
+    // Of each PDU each IPC process can tell where it is: what came in or was made is out, waits, was written off, or is kept.
+    ensures accounted { IfSome result.tower AccountsAll }
     // A flow of a wire has failed only by a cut of that wire.
     ensures failed { IfSome result.tower FailedByCut }
     ensures read { result.status ≡ Status.ReadFault → Rose (S.faults input.old) (S.faults input.new) }
