@@ -1,5 +1,6 @@
 pub mod Binding
 pub mod Carried
+pub mod Caused
 pub mod Cloud
 pub mod Configs
 pub mod Deciding
