@@ -2,6 +2,7 @@ pub mod AccountLaws
 pub mod Accounted
 pub mod Binding
 pub mod Carried
+pub mod Caused
 pub mod Cloud
 pub mod Configs
 pub mod Counting

@@ -1,5 +1,5 @@
 -- A flow fails in a clock step for its stated causes alone.
-use Rattle.std.proofs.Common.{◌≡◌, ◌∙◌, ℕ, ◌+◌, ◌*◌, ◌<◌, ◌≤◌, ◌⊎◌, Bool, List, length, slice_get, slice_set, Option, Some, None, Result, Ok, Err, refl, sym, ap, subst, inl, inr}
+use Rattle.std.proofs.Common.{◌≡◌, ◌∙◌, ℕ, ◌+◌, ◌*◌, ◌<◌, ◌≤◌, ◌⊎◌, Bool, false, List, length, slice_get, slice_set, Option, Some, None, Result, Ok, Err, refl, sym, ap, subst, inl, inr}
 use Rattle.std.proofs.lemmas.Option.{slice_get-get_or}
 use Rattle.rina_cube.specs.declared.Cube.{Cube}
 use Rattle.rina_iface.specs.declared.ends.End.{End}

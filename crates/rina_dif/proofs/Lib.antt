@@ -12,6 +12,7 @@ pub mod Freed
 pub mod Keeping
 pub mod Laid
 pub mod Lapsed
+pub mod Lastly
 pub mod Leaves
 pub mod Linked
 pub mod Made
