@@ -6,6 +6,8 @@
 mod dif_rows;
 #[cfg(test)]
 mod drawn;
+#[cfg(test)]
+mod own_policy;
 mod policies;
 #[cfg(test)]
 mod tests;
