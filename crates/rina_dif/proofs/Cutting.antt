@@ -96,8 +96,7 @@ last_fails d at node lost port routes flows p p' lt here is knows s cap lines be
     let fails = stages_fail d at (length d.flows.journal.ends) node p' p (Below port) lines d.flows flows s.ledger p'.ledger is here all.0 in
     let by : FailFirst lines node (Below l.link.port) (length d.flows.journal.ends) (seen_of mid) (seen_of d') = subst (λ (z : Port). FailFirst lines node (Below z) (length d.flows.journal.ends) (seen_of mid) (seen_of d')) told.0 fails in
     let there : slice_get mid.processes at ≡ Some p1 = slice_get-set_same d.processes at p p1 is in
-    let twice : slice_set mid.processes at p' ≡ slice_set d.processes at p' = set-set d.processes at p1 p' in
-    (
+    let twice : slice_set mid.processes at p' ≡ slice_set d.processes at p' = set-set d.processes at p1 p' in (
       lost_with d lines below at node lost.place lost.number mid (seen_of d') l (inl (told.1, by)),
       record {
         tied = all.1;

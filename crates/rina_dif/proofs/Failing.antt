@@ -149,9 +149,9 @@ late_lost d lines below node number new s at end end' fail old is failed =
     let kept : slice_get mid.ends at ≡ Some end' → end.state ≡ Failed fail = λ there. ap (λ (e : End). e.state) (same_some (slice_get d.flows.journal.ends at) end end' old (ap (λ (es : List End). slice_get es at) (sym ends) ∙ there)) ∙ failed in
     elim s.loses.fails [
       | inl f ↦ elim (failed_ends lines node by (length mid.ends) mid new f.1 at end' is) [
-          | inl there ↦ inl (kept there)
-          | inr x ↦ inr (inr (below_one d lines below node number new s at fail f.0 (subst (λ (es : List End). IsAllocatedAt es node at) ends x.0) (failed_so by fail end'.state failed x.1)))
-        ]
+        | inl there ↦ inl (kept there)
+        | inr x ↦ inr (inr (below_one d lines below node number new s at fail f.0 (subst (λ (es : List End). IsAllocatedAt es node at) ends x.0) (failed_so by fail end'.state failed x.1)))
+      ]
       | inr k ↦ inl (kept (subst (λ (z : DifSeen). slice_get z.ends at ≡ Some end') k.1 is))
     ]
 

@@ -29,7 +29,7 @@ one_so links lost k link x ne is live none = none k x (slice_get-set_other links
 -- As the code looks at them
 
 pub one_read : (links : List Link) (lost k : ℕ) (d : Link) → k < length links → k ≢ lost → (get_or links k d).live ≡ true → (link : Link) → slice_get links lost ≡ Some link → IsTrue false ↔ NoneLive (links_without links lost link)
-one_read links lost k d lt ne live link is = (λ t. absurd t, λ none. absurd (one_so links lost k link (get_or links k d) ne (slice_get-get_or links k d lt) live none))
+one_read links lost k d lt ne live link is = (λ t. false≢true t, λ none. absurd (one_so links lost k link (get_or links k d) ne (slice_get-get_or links k d lt) live none))
 
 pub more_not : (links : List Link) (lost n : ℕ) (d : Link) → n < length links → NoneSo links lost n → (get_or links n d).live ≡ false → NoneSo links lost (n + 1)
 more_not links lost n d lt none dead k link before ne is live = elim (cases_lt k n) [
@@ -47,4 +47,4 @@ more_lost links lost n none same k link before ne is live = elim (cases_lt k n) 
 ]
 
 pub all_read : (links : List Link) (lost n : ℕ) → length links ≤ n → NoneSo links lost n → (link : Link) → slice_get links lost ≡ Some link → IsTrue true ↔ NoneLive (links_without links lost link)
-all_read links lost n all none link is = (λ t. none_so links lost n link all none is, λ left. tt)
+all_read links lost n all none link is = (λ t. none_so links lost n link all none is, λ left. refl)

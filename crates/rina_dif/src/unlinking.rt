@@ -112,8 +112,9 @@ impl Dif {
         let routes = self.routes_left(alloc, at, lost.place)?;
         let state = PortState::Failed(Fail::Below { port });
         let flows = &mut self.flows;
-        self.processes
-            .lose_last(alloc, at, lost.place, routes, flows, self.clock, node, state)
+        self.processes.lose_last(
+            alloc, at, lost.place, routes, flows, self.clock, node, state,
+        )
     }
 
     /// Loses the link that was found at the IPC process at a place, at a node. Where no other is live, and its flow below
