@@ -1,5 +1,5 @@
 -- Whether a link is the last one that is live.
-use Rattle.std.proofs.Common.{◌≡◌, ◌≢◌, ◌∙◌, ℕ, ◌+◌, ◌<◌, ◌≤◌, true, false, List, get_or, length, slice_get, Option, Some, sym, ap, arith, inl, inr}
+use Rattle.std.proofs.Common.{◌≡◌, ◌≢◌, ◌∙◌, ℕ, ◌+◌, ◌<◌, ◌≤◌, true, false, List, get_or, length, slice_get, Option, Some, refl, sym, ap, arith, inl, inr}
 use Rattle.std.specs.Prelude.{IsTrue, ◌↔◌}
 use Rattle.std.proofs.lemmas.Bool.{cases_lt, false≢true}
 use Rattle.std.proofs.lemmas.Option.{slice_get-get_or, slice_get_within}
@@ -29,7 +29,7 @@ one_so links lost k link x ne is live none = none k x (slice_get-set_other links
 -- As the code looks at them
 
 pub one_read : (links : List Link) (lost k : ℕ) (d : Link) → k < length links → k ≢ lost → (get_or links k d).live ≡ true → (link : Link) → slice_get links lost ≡ Some link → IsTrue false ↔ NoneLive (links_without links lost link)
-one_read links lost k d lt ne live link is = (λ t. false≢true t, λ none. absurd (one_so links lost k link (get_or links k d) ne (slice_get-get_or links k d lt) live none))
+one_read links lost k d lt ne live link is = (λ t. absurd (false≢true t), λ none. absurd (one_so links lost k link (get_or links k d) ne (slice_get-get_or links k d lt) live none))
 
 pub more_not : (links : List Link) (lost n : ℕ) (d : Link) → n < length links → NoneSo links lost n → (get_or links n d).live ≡ false → NoneSo links lost (n + 1)
 more_not links lost n d lt none dead k link before ne is live = elim (cases_lt k n) [
