@@ -5,6 +5,7 @@ pub mod Facade
 pub mod Freeing
 pub mod Holding
 pub mod Laying
+pub mod Objects
 pub mod Planned
 pub mod Routing
 pub mod Sending
