@@ -27,6 +27,7 @@ pub mod Settling
 pub mod Shelves
 pub mod Sound
 pub mod Taken
+pub mod Texts
 pub mod Unlinked
 pub mod Ways
 pub mod Wiring

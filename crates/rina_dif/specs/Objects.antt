@@ -1,7 +1,7 @@
 -- The objects of an IPC process: what its RIB tells of its DIF, and what CDAP requests made.
 use Rattle.std.specs.Prelude.{◌≡◌, ℕ, ◌+◌, ◌==◌, ◌||◌, ◌&&◌, Bool, true, false, not, nat_lt, max, List, [], ◌∷◌, ◌++◌, codes, drop, filter, length, map, slice_get, Option, Some, None, is_some, unwrap_or, Result, Ok, Err, if◌then◌else◌}
 use Rattle.std.specs.Str.{bytes_eq}
-use Rattle.std.specs.List.{fold}
+use Rattle.std.specs.List.{fold, insert, position_or_len}
 use Rattle.std.specs.Fmt.{decimal}
 use Rattle.std.specs.Map.{lookup}
 use Rattle.std.specs.Ordering.{nat_cmp}
@@ -57,10 +57,9 @@ cube_object c = shown (codes "/cube/" ++ decimal c.id) classes.Cube (kind_text c
 unfoldable pub is_before : Edge → Edge → Bool
 is_before a b = nat_lt a.to b.to || ((a.to == b.to) && nat_lt a.weight b.weight)
 
--- neighbours that rise, with one more
-unfoldable pub with_neighbour : List Edge → Edge → List Edge
-with_neighbour [] a = a ∷ []
-with_neighbour (b ∷ bs) a = if is_before a b then a ∷ b ∷ bs else b ∷ with_neighbour bs a
+-- neighbours that rise, with one more in front of the first that it stands before
+abbrev pub with_neighbour : List Edge → Edge → List Edge
+with_neighbour others a = insert others (position_or_len (is_before a) others) a
 
 -- neighbours in rising order
 abbrev pub rising : List Edge → List Edge
@@ -176,15 +175,19 @@ told_all t objects = fold told t objects
 abbrev pub ended : Tree → FlowState → Tree
 ended t f = if f.open then t else (if is_object_name_of (flow_object f).name then or_same t (deleted t Own (flow_object f).name) else t)
 
+-- a flow is told
+abbrev pub told_flow : Tree → FlowState → Tree
+told_flow t f = told t (flow_object f)
+
 -- a flow is told while it is allocated
 abbrev pub told_open : Tree → FlowState → Tree
-told_open t f = if f.open then told t (flow_object f) else t
+told_open t f = if f.open then told_flow t f else t
 
 -- what a RIB begins with: the first request finds what the member told when the DIF was made, its flows in the order of binding; a later
 -- one finds what the one before left
 abbrev pub begun_with : Option Tree → List Shown → List FlowState → Tree
 begun_with (Some t) objects flows = t
-begun_with None objects flows = told_all (told_all first_tree objects) (map flow_object flows)
+begun_with None objects flows = fold told_flow (told_all first_tree objects) flows
 
 -- the RIB now: each object has the value of now, and flows that are allocated no more have none
 abbrev pub rib_of : Option Tree → List Shown → List FlowState → Tree

@@ -1,10 +1,11 @@
 //! The objects of the IPC processes of a DIF.
 ghost use Rattle.std.specs.Prelude.{◌≡◌, ◌<◌, length, map, IfOk, OnOk, option_map};
 ghost use Rattle.std.specs.Borrow.{Bor};
+ghost use Rattle.std.specs.List.{fold};
 ghost use Rattle.rina_cdap.specs.ObjectNames.{IsObjectName};
 ghost use Rattle.rina_rib.specs.Rows.{Tree};
 ghost use Rattle.rina_rib.specs.Walks.{named_of, within};
-ghost use Rattle.rina_dif.specs.Objects.{IsRibAt, ShowsUnder, begun_with, ended, lasting_objects, rib_of, shown_of, told, told_all, told_open};
+ghost use Rattle.rina_dif.specs.Objects.{IsRibAt, ShowsUnder, begun_with, ended, lasting_objects, rib_of, shown_of, told, told_all, told_flow, told_open};
 ghost use Rattle.rina_dif.specs.Whole.{IsDif};
 
 use crate::dif::Dif;
@@ -49,14 +50,34 @@ fn tell_all(alloc: Global, rib: &mut Rib, objects: &[Shown]) -> Result<(), Memor
     Ok(())
 }
 
+/// Tells flows, one after the other.
+fn tell_flows(alloc: Global, rib: &mut Rib, flows: &[FlowState]) -> Result<(), Memory>
+    ensures { OnOk result (rib.new ≡ fold told_flow rib.old flows.now) }
+{
+    for flow in flows {
+        tell(alloc, rib, &flow_object(alloc, flow)?)?;
+    }
+    Ok(())
+}
+
 /// Tells a flow while it is allocated.
-fn tell_open(alloc: Global, rib: &mut Rib, flow: &FlowState) -> Result<(), Memory>
+fn tell_if_open(alloc: Global, rib: &mut Rib, flow: &FlowState) -> Result<(), Memory>
     ensures { OnOk result (rib.new ≡ told_open rib.old flow.now) }
 {
     if !flow.open {
         return Ok(());
     }
     tell(alloc, rib, &flow_object(alloc, flow)?)
+}
+
+/// Tells the flows that are allocated.
+fn tell_open(alloc: Global, rib: &mut Rib, flows: &[FlowState]) -> Result<(), Memory>
+    ensures { OnOk result (rib.new ≡ fold told_open rib.old flows.now) }
+{
+    for flow in flows {
+        tell_if_open(alloc, rib, flow)?;
+    }
+    Ok(())
 }
 
 /// Deletes the object of a flow that is allocated no more.
@@ -77,6 +98,16 @@ fn end(alloc: Global, rib: &mut Rib, flow: &FlowState) -> Result<(), Memory>
     }
 }
 
+/// Deletes the objects of the flows that are allocated no more.
+fn end_flows(alloc: Global, rib: &mut Rib, flows: &[FlowState]) -> Result<(), Memory>
+    ensures { OnOk result (rib.new ≡ fold ended rib.old flows.now) }
+{
+    for flow in flows {
+        end(alloc, rib, flow)?;
+    }
+    Ok(())
+}
+
 /// What a RIB begins with: what the last request left, or else all that its member told from the start.
 fn begin(
     alloc: Global,
@@ -91,9 +122,7 @@ fn begin(
     }
     let mut rib = Rib::new(alloc)?;
     tell_all(alloc, &mut rib, objects)?;
-    for flow in flows {
-        tell(alloc, &mut rib, &flow_object(alloc, flow)?)?;
-    }
+    tell_flows(alloc, &mut rib, flows)?;
     Ok(rib)
 }
 
@@ -108,12 +137,8 @@ fn rib_of(
 {
     let mut rib = begin(alloc, kept, objects, flows)?;
     tell_all(alloc, &mut rib, objects)?;
-    for flow in flows {
-        tell_open(alloc, &mut rib, flow)?;
-    }
-    for flow in flows {
-        end(alloc, &mut rib, flow)?;
-    }
+    tell_open(alloc, &mut rib, flows)?;
+    end_flows(alloc, &mut rib, flows)?;
     Ok(rib)
 }
 

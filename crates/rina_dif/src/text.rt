@@ -1,10 +1,18 @@
 //! Numbers in decimal.
-ghost use Rattle.std.specs.Prelude.{◌≡◌, ◌++◌, ◌∷◌, IfOk, OnOk, codes};
+ghost use Rattle.std.specs.Prelude.{◌≡◌, [], ◌++◌, ◌∷◌, IfOk, OnOk};
 ghost use Rattle.std.specs.Fmt.{decimal};
 ghost use Rattle.rina_dif.specs.Objects.{number_text};
 
 use rina_base::{Bytes, Seq};
 use std::alloc::{AllocError, Global};
+
+/// Adds a byte.
+fn push(text: &mut Vec<u8>, b: u8) -> Result<(), AllocError>
+    ensures { OnOk result (text.new.items ≡ text.old.items ++ b ∷ []) }
+{
+    text.push(b)?;
+    Ok(())
+}
 
 /// Adds a number in decimal.
 #[tactic(auto, using(std::proofs::lemmas::Fmt::decimal_digit, crate::proofs::Texts::last_digit))]
@@ -12,10 +20,10 @@ pub(crate) fn add_decimal(text: &mut Vec<u8>, n: u64) -> Result<(), AllocError>
     ensures { OnOk result (text.new.items ≡ text.old.items ++ decimal n) }
 {
     if n < 10 {
-        return text.push(b'0' + n as u8);
+        return push(text, b'0' + n as u8);
     }
     add_decimal(text, n / 10)?;
-    text.push(b'0' + (n % 10) as u8)
+    push(text, b'0' + (n % 10) as u8)
 }
 
 /// A number in decimal behind a text.
@@ -33,6 +41,6 @@ pub(crate) fn add_number(text: &mut Vec<u8>, n: Option<u64>) -> Result<(), Alloc
 {
     match n {
         Some(n) => add_decimal(text, n),
-        None => text.push(b'-'),
+        None => push(text, b'-'),
     }
 }

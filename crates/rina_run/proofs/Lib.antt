@@ -9,5 +9,6 @@ pub mod Leading
 pub mod Playing
 pub mod Ending
 pub mod Clocks
+pub mod Objects
 pub mod Opens
 pub mod Calls

@@ -17,6 +17,7 @@ mod opening;
 mod outcome;
 mod play;
 mod read_word;
+mod rib_word;
 mod round_words;
 mod shelf;
 mod site;

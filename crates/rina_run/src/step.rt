@@ -15,6 +15,7 @@ use crate::ledger_word::ledger;
 use crate::look::look;
 use crate::note::{tell, tick_of};
 use crate::read_word::read;
+use crate::rib_word::rib;
 use crate::round_words::{go_round, let_out};
 use crate::shelf::retire;
 use crate::wire_words::{cut, hold, lose, mend, repeat};
@@ -201,6 +202,7 @@ fn act<P: Retires>(
             tell(trace, line, tick_of(&world.tower), says)
         }
         Event::Ledger { dif, node } => ledger(alloc, plan, world, line, dif, node, trace),
+        Event::Rib { dif, node, path } => rib(alloc, plan, world, line, dif, node, path, trace),
         Event::Round => {
             go_round(alloc, Rounds::Auto, world, shelf)?;
             tell(trace, line, tick_of(&world.tower), Some(Said::Done))

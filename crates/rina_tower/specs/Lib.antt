@@ -9,6 +9,7 @@ pub mod Lasting
 pub mod Laying
 pub mod Ledgers
 pub mod Making
+pub mod Objects
 pub mod Ranks
 pub mod Refusing
 pub mod Rooms
