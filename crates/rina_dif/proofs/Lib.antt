@@ -1,3 +1,4 @@
+pub mod Asked
 pub mod Bare
 pub mod Barred
 pub mod Below

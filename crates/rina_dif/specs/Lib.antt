@@ -1,3 +1,4 @@
+pub mod Asking
 pub mod Binding
 pub mod Building
 pub mod Clocking

@@ -4,6 +4,7 @@
 mod asking;
 mod binding;
 mod building;
+mod cdap;
 mod clock;
 mod clocking;
 mod dif;
@@ -28,6 +29,7 @@ mod text;
 mod timely;
 mod unlinking;
 
+pub use cdap::CdapCallError;
 pub use dif::Dif;
 pub use facade::a_rank_shows_its_difs;
 pub use processes::Processes;

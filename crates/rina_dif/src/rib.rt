@@ -186,7 +186,7 @@ impl Dif {
     }
 
     /// The RIB of the IPC process at a place.
-    fn rib_at(&self, alloc: Global, at: usize) -> Result<Rib, Memory>
+    pub(crate) fn rib_at(&self, alloc: Global, at: usize) -> Result<Rib, Memory>
         requires valid { IsDif self.now }
         requires at { at < length self.now.settings.members }
         ensures { IfOk result (IsRibAt self.now at) }

@@ -10,6 +10,7 @@ use Rattle.rina_data.specs.declared.step.InStep.{InStep}
 use Rattle.rina_data.specs.declared.step.OutStep.{OutStep}
 use Rattle.rina_data.specs.declared.step.StepError.{StepError}
 use Rattle.rina_data.specs.declared.step.StepError.TheVariants.{Memory as NoMemory}
+use Rattle.rina_dif.specs.declared.cdap.CdapCallError.{CdapCallError}
 use Rattle.rina_dif.specs.declared.shown.Shown.{Shown}
 use Rattle.rina_law.specs.declared.entry.Entry.{Entry}
 use Rattle.rina_iface.specs.declared.ask.Ask.{Ask}
@@ -40,6 +41,7 @@ use Rattle.rina_stack.specs.Names.{place_in}
 use Rattle.rina_tower.specs.declared.applications.AppError.{AppError}
 use Rattle.rina_tower.specs.declared.tower.Tower.{Tower}
 use Rattle.rina_tower.specs.Applications.{AppAllocates, AppClaims, AppFrees, AppPasses, AppRegisters, AppSends, AppUnregisters, is_ipc_at}
+use Rattle.rina_tower.specs.Asking.{AsksAt}
 use Rattle.rina_tower.specs.Events.{Cuts, HoldsBack, Loses, Mends, Repeats}
 use Rattle.rina_tower.specs.Ledgers.{IsLedgerAt, member_at}
 use Rattle.rina_tower.specs.Objects.{ShowsUnderAt}
@@ -54,7 +56,7 @@ use Rattle.rina_run.specs.declared.world.World.{World}
 use Rattle.rina_run.specs.declared.labels.Label.{Label}
 use Rattle.rina_run.specs.declared.site.Site.{Site}
 use Rattle.rina_run.specs.Sites.{dif_site_at, fac_named, label_in, port_in, site_at}
-use Rattle.rina_run.specs.StepTold.{clock_told, in_told, object_told, off_told, out_told, step_told}
+use Rattle.rina_run.specs.StepTold.{cdap_told, clock_told, in_told, object_told, off_told, out_told, step_told}
 use Rattle.rina_run.specs.Told.{answer_told, app_told, register_told, unregister_told, free_told, allocate_told, send_told, wire_told, drawn_told, port_told, state_told}
 use Rattle.rina_run.specs.Look.{ends_at, state_at, noted, state_notes, looked}
 
@@ -458,6 +460,17 @@ abbrev pub ShowingRib : ℕ → Option (List ℕ) → Result Site ℕ → World 
 ShowingRib line path (Err field) w ns w' = (ns ≡ noted line (now_of w.tower) (Some (said.Refused (refusals.Unknown field)))) × (w' ≡ w)
 ShowingRib line path (Ok site) w ns w' = ShowsObjects line path w site ns w'
 
+-- ---- cdap DIF NODE BYTES
+
+pub record CallsCdap (bytes : List ℕ) (w : World) (site : Site) (says : Option Said) (w' : World) : Type 0 where
+  pub result : Result (List ℕ) CdapCallError
+  pub does : AsksAt site.rank site.fac site.node bytes result w.tower w'.tower
+  pub labels : w'.labels ≡ w.labels
+  pub told : says ≡ answer_told (λ answer. Some (said.Cdap answer)) cdap_told result
+
+abbrev pub Asking : Plan → List ℕ → List ℕ → List ℕ → World → Option Said → World → Type 0
+Asking plan dif node bytes w says w' = AtSite (dif_site_at plan dif node) (CallsCdap bytes w) w says w'
+
 -- ---- all words
 
 -- a word that says one thing
@@ -485,6 +498,7 @@ ActsOnWorld plan line (events.Journal fac) w ns w' = Showing plan line (fac_name
 ActsOnWorld plan line (events.In dif node link) w ns w' = Says line (TakingIn plan dif node link w) ns w'
 ActsOnWorld plan line (events.Clock dif node) w ns w' = Says line (Clocking plan dif node w) ns w'
 ActsOnWorld plan line (events.Ledger dif node) w ns w' = Accounting plan line (dif_site_at plan dif node) w ns w'
+ActsOnWorld plan line (events.Cdap dif node bytes) w ns w' = Says line (Asking plan dif node bytes w) ns w'
 ActsOnWorld plan line (events.Rib dif node path) w ns w' = ShowingRib line path (dif_site_at plan dif node) w ns w'
 ActsOnWorld plan line event w ns w' = ⊥
 

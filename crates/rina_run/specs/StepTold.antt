@@ -13,6 +13,10 @@ use Rattle.rina_data.specs.declared.step.ClockStep.{ClockStep}
 use Rattle.rina_data.specs.declared.step.ClockStep.TheVariants as clocks
 use Rattle.rina_data.specs.declared.step.StepError.{StepError}
 use Rattle.rina_data.specs.declared.step.StepError.TheVariants as errors
+use Rattle.rina_cdap.specs.declared.error.CdapError.{CdapError}
+use Rattle.rina_cdap.specs.declared.error.CdapError.TheVariants as faults
+use Rattle.rina_dif.specs.declared.cdap.CdapCallError.{CdapCallError}
+use Rattle.rina_dif.specs.declared.cdap.CdapCallError.TheVariants as calls
 use Rattle.rina_dif.specs.declared.shown.Shown.{Shown}
 use Rattle.rina_rib.specs.declared.class.Class.{Class}
 use Rattle.rina_rib.specs.declared.class.Class.TheVariants as classes
@@ -89,6 +93,22 @@ step_told errors.NoLink = Some refusals.NoLink
 -- a line of a ledger
 abbrev pub off_told : Plan → ℕ → Off → Option Said
 off_told plan rank off = option_map (said.Off off.key) (cause_told plan rank off.cause)
+
+-- the first fault of bytes that are no CDAP message; want of memory is not told
+abbrev pub fault_told : CdapError → Option Refusal
+fault_told faults.Memory = None
+fault_told (faults.Short at) = Some (refusals.Short at)
+fault_told (faults.BadTag at) = Some (refusals.BadTag at)
+fault_told (faults.BadOp n) = Some (refusals.BadOp n)
+fault_told (faults.Twice tag) = Some (refusals.Twice tag)
+fault_told (faults.Missing tag) = Some (refusals.Missing tag)
+fault_told (faults.BadValue tag) = Some (refusals.BadValue tag)
+
+-- why bytes were not answered
+abbrev pub cdap_told : CdapCallError → Option Refusal
+cdap_told calls.Memory = None
+cdap_told calls.NoIpc = Some refusals.NoIpc
+cdap_told (calls.Cdap error) = fault_told error
 
 -- the class of an object
 abbrev pub class_note : Class → ClassNote

@@ -33,6 +33,7 @@ fn word_is_built(word: &[u8]) -> bool
         || word == b"round".as_slice()
         || word == b"ledger".as_slice()
         || word == b"rib".as_slice()
+        || word == b"cdap".as_slice()
 }
 
 fn event_is_built(event: &Event) -> bool
@@ -62,6 +63,7 @@ fn event_is_built(event: &Event) -> bool
             | Event::Round
             | Event::Ledger { .. }
             | Event::Rib { .. }
+            | Event::Cdap { .. }
     )
 }
 

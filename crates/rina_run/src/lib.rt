@@ -2,6 +2,7 @@
 #![tactic(auto)]
 
 mod built;
+mod cdap_word;
 mod dif_words;
 mod emit;
 mod fac;

@@ -1,5 +1,6 @@
 pub mod Alone
 pub mod Answering
+pub mod Asked
 pub mod Calling
 pub mod FitBound
 pub mod FitChains

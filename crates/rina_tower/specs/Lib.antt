@@ -1,4 +1,5 @@
 pub mod Applications
+pub mod Asking
 pub mod Beside
 pub mod Building
 pub mod Calls

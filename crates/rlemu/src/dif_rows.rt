@@ -436,7 +436,7 @@ flow = [ { cube = 1, from = { node = \"a\", app = \"s\", label = \"p\" }, to = {
 ";
 
 /// Stacks, the lines that are run on each, and what is written.
-pub const DIF_ROWS: [(&str, &str, &str); 31] = [
+pub const DIF_ROWS: [(&str, &str, &str); 33] = [
     (
         ONE_FLOW,
         "send p1 'a\nrepeat w 0 3\ntick 3\nread q1\n",
@@ -594,5 +594,17 @@ pub const DIF_ROWS: [(&str, &str, &str); 31] = [
         THREE_FLOWS,
         "free p1\nrib d a /flow/1\nrib d b /flow/1\ncut w\nrib d a /link\n",
         "1 0 ok\n1 0 state p1 closed\n2 0 none\n3 0 obj /flow/1 flow 'tx=-,rx=-\n4 0 ok\n5 0 obj /link folder x\n5 0 obj /link/1 value x\n5 0 obj /link/2 value '1:1\nend 0\n",
+    ),
+    // CDAP messages: what is read, made, and refused; bytes that are no message.
+    (
+        THREE_FLOWS,
+        "cdap d a x01000108020004000000010400052f75736572\ncdap d a x0100\ncdap d a x01000108\ncdap e a x\ncdap d c x\n",
+        "1 0 cdap x0100010902000400000001030006666f6c6465720400052f75736572050008000000000000000606000007000100\n2 0 no Short 0\n3 0 no Missing 2\n4 0 no Unknown 1\n5 0 no Unknown 2\nend 0\n",
+    ),
+    // An object is made under `/user` of one member alone, and where none is; its number follows those of the start.
+    (
+        THREE_FLOWS,
+        "cdap d a x010001040200040000000203000576616c75650400072f757365722f78060001ff\ncdap d a x010001040200040000000203000576616c75650400072f757365722f78060001ee\ncdap d a x010001040200040000000303000576616c75650400022f78\nrib d a /user\nrib d b /user\ncdap d a x010001040200040000000403000576616c75650400072f757365722f79\n",
+        "1 0 cdap x010001050200040000000203000576616c75650400072f757365722f780500080000000000000014060001ff07000100\n2 0 cdap x01000105020004000000020400072f757365722f7807000102\n3 0 cdap x01000105020004000000030400022f7807000106\n4 0 obj /user folder x\n4 0 obj /user/x value xff\n5 0 obj /user folder x\n6 0 cdap x010001050200040000000403000576616c75650400072f757365722f79050008000000000000001506000007000100\nend 0\n",
     ),
 ];
