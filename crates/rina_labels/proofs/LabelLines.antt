@@ -28,7 +28,7 @@ use Rattle.rina_labels.specs.Labels.{event_by}
 use Rattle.rina_labels.proofs.LabelKeeps.{keeps_looked, keeps_same}
 use Rattle.rina_labels.proofs.LabelNotes.{IsDumb, IsQuiet, IsTelling, after, after_quiet, quiet_as, quiet_dumb, quiet_journal, quiet_ledger, quiet_rib, quiet_states}
 use Rattle.rina_labels.proofs.LabelReads.{read_at, send_at, ticking_keep}
-use Rattle.rina_labels.proofs.LabelWords.{Holds, holds_same, keeps_accept, keeps_allocate, keeps_clock, keeps_cut, keeps_free, keeps_hold, keeps_in, keeps_lose, keeps_mend, keeps_once, keeps_out, keeps_register, keeps_repeat, keeps_rounds, keeps_state, keeps_unregister}
+use Rattle.rina_labels.proofs.LabelWords.{Holds, holds_same, keeps_accept, keeps_allocate, keeps_cdap, keeps_clock, keeps_cut, keeps_free, keeps_hold, keeps_in, keeps_lose, keeps_mend, keeps_once, keeps_out, keeps_register, keeps_repeat, keeps_rounds, keeps_state, keeps_unregister}
 
 -- a word that is none of these tells nothing
 quiet_says : {X : Type 0} (V : End → List X) (by : List ℕ → Note → List X) (told : List ℕ → List X) (number : ℕ) (says : Option Said) (ns : List Note) (w : World) → IsDumb by number → ns ≡ noted number (now_of w.tower) says → Holds V told w → Holds V (after by told ns) w
@@ -65,6 +65,7 @@ words_keep lines V by sent got told plan number (events.In dif node link) w ns w
 words_keep lines V by sent got told plan number (events.Clock dif node) w ns w' t is v a k = quiet_says V by told number a.says ns w' (t.others number (events.Clock dif node) is tt) a.notes (keeps_clock V told plan w (dif_site_at plan dif node) a.says w' t.view a.does k)
 words_keep lines V by sent got told plan number (events.Journal fac) w ns w' t is v a k = showing_keep V by told plan number (fac_named plan fac) w ns w' (t.others number (events.Journal fac) is tt) a k
 words_keep lines V by sent got told plan number (events.Ledger dif node) w ns w' t is v a k = accounting_keep V by told plan number (dif_site_at plan dif node) w ns w' (t.others number (events.Ledger dif node) is tt) a k
+words_keep lines V by sent got told plan number (events.Cdap dif node bytes) w ns w' t is v a k = quiet_says V by told number a.says ns w' (t.others number (events.Cdap dif node bytes) is tt) a.notes (keeps_cdap V told bytes w (dif_site_at plan dif node) a.says w' t.view a.does k)
 words_keep lines V by sent got told plan number (events.Rib dif node path) w ns w' t is v a k = rib_keep V by told number path (dif_site_at plan dif node) w ns w' (t.others number (events.Rib dif node path) is tt) a k
 words_keep lines V by sent got told plan number event w ns w' t is v a k = absurd a
 

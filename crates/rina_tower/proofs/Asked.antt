@@ -30,9 +30,12 @@ same_facs difs difs' n d d' at keeps is =
     let there : slice_get (map fac_of_dif difs) n ≡ Some (fac_of_dif d) = slice_get-map fac_of_dif difs n ∙ ap (option_map fac_of_dif) at in
     ap (map fac_of_dif) is ∙ map-set fac_of_dif difs n d' ∙ ap (slice_set (map fac_of_dif difs) n) same ∙ slice_set-same (map fac_of_dif difs) n (fac_of_dif d) there
 
--- and the rank shows what it showed
+-- and each facility of the rank shows what it showed
+pub asked_facs : (n node : ℕ) (bytes : List ℕ) (result : Result (List ℕ) CdapCallError) (none : Type 0) (difs difs' : List Dif) → AtDif n (AsksOne node bytes result) none difs difs' → map fac_of_dif difs' ≡ map fac_of_dif difs
+asked_facs n node bytes result none difs difs' a = elim a [
+  | inl h ↦ same_facs difs difs' n h.dif h.dif' h.is_dif h.done.keeps h.new_is
+  | inr h ↦ ap (map fac_of_dif) h.2
+]
+
 pub asked_alone : (n node : ℕ) (bytes : List ℕ) (result : Result (List ℕ) CdapCallError) (none : Type 0) (now : ℕ) (difs difs' : List Dif) → AtDif n (AsksOne node bytes result) none difs difs' → LeavesNow Anyone (seen_of_difs now difs) (seen_of_difs now difs')
-asked_alone n node bytes result none now difs difs' a = same_alone Anyone (seen_of_difs now difs) (seen_of_difs now difs') (elim a [
-  | inl h ↦ ap (λ (fs : List Fac). record { now = now; facs = fs }) (same_facs difs difs' n h.dif h.dif' h.is_dif h.done.keeps h.new_is)
-  | inr h ↦ ap (seen_of_difs now) h.2
-])
+asked_alone n node bytes result none now difs difs' a = same_alone Anyone (seen_of_difs now difs) (seen_of_difs now difs') (ap (λ (fs : List Fac). record { now = now; facs = fs }) (asked_facs n node bytes result none difs difs' a))
