@@ -29,6 +29,7 @@ pub mod Shelves
 pub mod Sound
 pub mod Taken
 pub mod Texts
+pub mod Told
 pub mod Unlinked
 pub mod Ways
 pub mod Wiring

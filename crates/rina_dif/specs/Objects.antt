@@ -1,12 +1,11 @@
 -- The objects of an IPC process: what its RIB tells of its DIF, and what CDAP requests made.
 use Rattle.std.specs.Prelude.{◌≡◌, ℕ, ◌+◌, ◌==◌, ◌||◌, ◌&&◌, Bool, true, false, not, nat_lt, max, List, [], ◌∷◌, ◌++◌, codes, drop, filter, length, map, slice_get, Option, Some, None, is_some, unwrap_or, Result, Ok, Err, if◌then◌else◌}
 use Rattle.std.specs.Str.{bytes_eq}
-use Rattle.std.specs.List.{fold, insert, position_or_len}
+use Rattle.std.specs.List.{fold, insert, position}
 use Rattle.std.specs.Fmt.{decimal}
 use Rattle.std.specs.Map.{lookup}
 use Rattle.std.specs.Ordering.{nat_cmp}
 use Rattle.std.specs.BTreeMap.{is_at}
-use Rattle.rina_base.specs.Names.{slash_in}
 use Rattle.rina_cdap.specs.ObjectNames.{is_object_name_of}
 use Rattle.rina_conn.specs.declared.conn.Conn.{Conn}
 use Rattle.rina_conn.specs.Sending as sender
@@ -57,9 +56,9 @@ cube_object c = shown (codes "/cube/" ++ decimal c.id) classes.Cube (kind_text c
 unfoldable pub is_before : Edge → Edge → Bool
 is_before a b = nat_lt a.to b.to || ((a.to == b.to) && nat_lt a.weight b.weight)
 
--- neighbours that rise, with one more in front of the first that it stands before
+-- neighbours that rise, with one more in front of the first that it stands before, or last
 abbrev pub with_neighbour : List Edge → Edge → List Edge
-with_neighbour others a = insert others (position_or_len (is_before a) others) a
+with_neighbour others a = insert others (unwrap_or (position (is_before a) others) (length others)) a
 
 -- neighbours in rising order
 abbrev pub rising : List Edge → List Edge
@@ -78,14 +77,18 @@ joined (b ∷ text) e = (b ∷ text) ++ 44 ∷ neighbour_text e
 unfoldable pub link_object : ℕ → List Edge → Shown
 link_object addr edges = shown (codes "/link/" ++ decimal addr) classes.Value (fold joined [] (rising edges))
 
--- what stands behind the first slash
+-- the place of the first slash
+abbrev pub first_slash : List ℕ → Option ℕ
+first_slash name = position (λ b. b == 47) name
+
+-- what stands behind a place, or all
 abbrev pub behind : Option ℕ → List ℕ → List ℕ
 behind None name = name
 behind (Some at) name = drop (at + 1) name
 
 -- a member: the name of its node, which stands behind the slash in its own name
 unfoldable pub member_object : Member → Shown
-member_object m = shown (codes "/member/" ++ decimal m.addr) classes.Value (behind (slash_in m.name) m.name)
+member_object m = shown (codes "/member/" ++ decimal m.addr) classes.Value (behind (first_slash m.name) m.name)
 
 -- a byte of an application's name in a key: a slash is written '!'
 abbrev pub key_byte : ℕ → ℕ

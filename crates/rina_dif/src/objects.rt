@@ -1,7 +1,6 @@
 //! The objects that a member tells.
 ghost use Rattle.std.specs.Prelude.{◌≡◌, ◌++◌, map, codes, IfOk, OnOk};
-ghost use Rattle.rina_base.specs.Names.{slash_in};
-ghost use Rattle.rina_dif.specs.Objects.{address_of, behind, cube_object, dir_object, flow_object, key_byte, kind_text, link_object, links_named, member_object, or_greater, state_object};
+ghost use Rattle.rina_dif.specs.Objects.{address_of, behind, cube_object, dir_object, first_slash, flow_object, key_byte, kind_text, link_object, links_named, member_object, or_greater, state_object};
 ghost use Rattle.rina_dif.specs.Routing.{edge_to, live_links, live_of};
 
 use crate::flow_state::FlowState;
@@ -54,9 +53,8 @@ fn link_object(alloc: Global, addr: Addr, edges: &[Edge]) -> Result<Shown, Memor
 }
 
 /// What stands behind the first slash of a name.
-#[tactic(auto, unfolding(rina_base::specs::Names::slash_in))]
 fn behind_slash(name: &[u8]) -> &[u8]
-    ensures { result.now ≡ behind (slash_in name.entry.now) name.entry.now }
+    ensures { result.now ≡ behind (first_slash name.entry.now) name.entry.now }
 {
     match name.iter().position(|b| *b == b'/') {
         Some(at) => &name[at + 1..],
@@ -137,6 +135,7 @@ fn dir_object(
 }
 
 /// The numbers of a flow.
+#[tactic(auto, unfolding(crate::specs::Objects::flow_object))]
 fn flow_text(alloc: Global, flow: &FlowState) -> Result<Vec<u8>, AllocError>
     ensures { IfOk result (λ v. v.items ≡ (flow_object flow.now).value) }
 {

@@ -1,8 +1,9 @@
 //! The objects of the IPC processes of a DIF.
-ghost use Rattle.std.specs.Prelude.{◌≡◌, ◌<◌, length, map, IfOk, OnOk, option_map};
+ghost use Rattle.std.specs.Prelude.{◌≡◌, ◌<◌, Err, length, map, IfOk, OnOk, option_map};
 ghost use Rattle.std.specs.Borrow.{Bor};
 ghost use Rattle.std.specs.List.{fold};
 ghost use Rattle.rina_cdap.specs.ObjectNames.{IsObjectName};
+ghost use Rattle.rina_rib.specs.declared.error.RibError.TheVariants as errors;
 ghost use Rattle.rina_rib.specs.Rows.{Tree};
 ghost use Rattle.rina_rib.specs.Walks.{named_of, within};
 ghost use Rattle.rina_dif.specs.Objects.{IsRibAt, ShowsUnder, begun_with, ended, lasting_objects, rib_of, shown_of, told, told_all, told_flow, told_open};
@@ -18,6 +19,17 @@ use rina_data::{Link, Member, StepError};
 use rina_rib::{Caller, Object, Rib, RibError};
 use std::alloc::{AllocError, Global};
 
+/// Whether memory was found: any other refusal changed nothing.
+fn unless_memory<T: Drop>(done: Result<T, RibError>) -> Result<(), Memory>
+    ensures { OnOk result (done ≡ Err errors.Memory → ⊥) }
+{
+    match done {
+        Ok(_) => Ok(()),
+        Err(RibError::Memory) => Err(Memory),
+        Err(_) => Ok(()),
+    }
+}
+
 /// Tells an object: it is made, or has another value from now on.
 fn tell(alloc: Global, rib: &mut Rib, shown: &Shown) -> Result<(), Memory>
     ensures { OnOk result (rib.new ≡ told rib.old shown.now) }
@@ -28,16 +40,9 @@ fn tell(alloc: Global, rib: &mut Rib, shown: &Shown) -> Result<(), Memory>
         return Ok(());
     }
     if rib.read(name).is_ok() {
-        match rib.write(alloc, Caller::Own, name, shown.class, value) {
-            Err(RibError::Memory) => Err(Memory),
-            _ => Ok(()),
-        }
-    } else {
-        match rib.create(alloc, Caller::Own, name, shown.class, value) {
-            Err(RibError::Memory) => Err(Memory),
-            _ => Ok(()),
-        }
+        return unless_memory(rib.write(alloc, Caller::Own, name, shown.class, value));
     }
+    unless_memory(rib.create(alloc, Caller::Own, name, shown.class, value))
 }
 
 /// Tells objects, one after the other.
@@ -92,10 +97,7 @@ fn end(alloc: Global, rib: &mut Rib, flow: &FlowState) -> Result<(), Memory>
     if !is_object_name(name) {
         return Ok(());
     }
-    match rib.delete(Caller::Own, name) {
-        Err(RibError::Memory) => Err(Memory),
-        _ => Ok(()),
-    }
+    unless_memory(rib.delete(Caller::Own, name))
 }
 
 /// Deletes the objects of the flows that are allocated no more.
@@ -144,7 +146,7 @@ fn rib_of(
 
 /// An object as it is shown.
 fn show(alloc: Global, name: &[u8], object: Object<'_>) -> Result<Shown, AllocError>
-    ensures { IfOk result (λ s. s ≡ shown_of (named_of (name.entry, object))) }
+    ensures { IfOk result (λ s. s ≡ shown_of (named_of (name.entry, object.entry))) }
 {
     Ok(Shown {
         name: Bytes::copy_of(alloc, name)?,
