@@ -1,10 +1,10 @@
 -- Texts of objects.
-use Rattle.std.proofs.Common.{◌≡◌, ℕ, ◌+◌, ◌≤◌, ◌<◌, ◌^◌, ◌/◌, ◌%◌, List, [], ◌∷◌, ◌++◌, Result, Ok, Err, sym, ap, ◌∙◌, append_assoc, length, drop}
+use Rattle.std.proofs.Common.{◌≡◌, ℕ, ◌+◌, ◌≤◌, ◌<◌, ◌^◌, ◌/◌, ◌%◌, List, [], ◌∷◌, ◌++◌, Result, Ok, Err, sym, ap, ◌∙◌, append_assoc, length, take, drop, ◌-◌, Option, Some}
 use Rattle.std.specs.Prelude.{OnOk}
-use Rattle.std.specs.List.{insert}
 use Rattle.std.specs.Fmt.{decimal}
-use Rattle.std.proofs.Math.Seq.{take-length, drop-length}
-use Rattle.rina_graph.specs.declared.graph.Edge.{Edge}
+use Rattle.std.proofs.Math.Seq.{take-length}
+use Rattle.std.proofs.lemmas.List.{length-drop}
+use Rattle.rina_dif.specs.Objects.{behind}
 use Rattle.std.proofs.lemmas.Fmt.{decimal_step}
 
 -- the last digit was added behind those of a tenth
@@ -14,6 +14,7 @@ last_digit (Ok _) old mid new n large fits tenth last =
     last ∙ ap (λ (x : List ℕ). x ++ (48 + n % 10) ∷ []) tenth ∙ append_assoc old (decimal (n / 10)) ((48 + n % 10) ∷ []) ∙ ap (λ (x : List ℕ). old ++ x) (sym (decimal_step n large fits))
 last_digit (Err _) old mid new n large fits tenth last = tt
 
--- a neighbour is put behind all others
-pub insert_last : (xs : List Edge) (a : Edge) → insert xs (length xs) a ≡ xs ++ a ∷ []
-insert_last xs a = ap (λ (ys : List Edge). ys ++ a ∷ drop (length xs) xs) (take-length xs) ∙ ap (λ (ys : List Edge). xs ++ a ∷ ys) (drop-length xs)
+-- what stands behind a slash
+pub behind_at : (name : List ℕ) (at : ℕ) (found : Option ℕ) → Some at ≡ found → take (length name - (at + 1)) (drop (at + 1) name) ≡ behind found name
+behind_at name at found is =
+    ap (λ (n : ℕ). take n (drop (at + 1) name)) (sym (length-drop (at + 1) name)) ∙ take-length (drop (at + 1) name) ∙ ap (λ (o : Option ℕ). behind o name) is

@@ -1,6 +1,6 @@
 -- What a member tells.
 use Rattle.std.proofs.Common.{◌≡◌, ◌∙◌, ℕ, Bool, true, false, cond, List, [], ◌∷◌, ◌++◌, length, slice_get, Option, Some, None, is_some, Result, Ok, Err, refl, sym, ap, subst}
-use Rattle.std.specs.Prelude.{MatchResult, OnOk, is_ok}
+use Rattle.std.specs.Prelude.{IfOk, MatchResult, OnOk, is_ok}
 use Rattle.std.proofs.lemmas.Option.{same_Some}
 use Rattle.rina_base.specs.declared.memory.Memory.{Memory as NoneFound}
 use Rattle.rina_conn.specs.declared.conn.Conn.{Conn}
@@ -12,7 +12,11 @@ use Rattle.rina_rib.specs.declared.object.Object.{Object}
 use Rattle.rina_rib.specs.Rows.{Does, Tree}
 use Rattle.rina_rib.specs.Things.{Thing, thing_of}
 use Rattle.rina_dif.specs.declared.flow_state.FlowState.{FlowState}
-use Rattle.rina_dif.specs.Objects.{IsFlow, or_same}
+use Rattle.rina_data.specs.declared.process.IpcProcess.{IpcProcess}
+use Rattle.rina_data.specs.declared.settings.Member.{Member}
+use Rattle.rina_dif.specs.declared.dif.Dif.{Dif}
+use Rattle.rina_dif.specs.declared.shown.Shown.{Shown}
+use Rattle.rina_dif.specs.Objects.{AreFlows, IsFlow, IsRibAt, flows_at, kept_at, lasting_objects, or_same, rib_of}
 
 -- Operations
 
@@ -51,3 +55,18 @@ one_flow now ends conns states end conn f so here there is = λ at e k g is_end 
       let same_conn : conn ≡ k = same_Some conn k (sym there ∙ ap (slice_get conns) (sym h.0) ∙ is_conn) in
       subst (λ (x : FlowState). IsFlow now e k x) (sym h.1) (subst (λ (x : Conn). IsFlow now e x f) same_conn (subst (λ (x : End). IsFlow now x conn f) same_end is))
 ]
+
+-- The RIB of a place
+
+pub rib_there : (d : Dif) (at : ℕ) (r : Result Tree NoneFound) (member : Member) (process : IpcProcess) (states : List FlowState) (kept : Option Tree) (objects : List Shown) (flows : List FlowState) → slice_get d.settings.members at ≡ Some member → slice_get d.processes at ≡ Some process → AreFlows d states
+    → kept ≡ kept_at d at → objects ≡ lasting_objects d member process.links → flows ≡ flows_at member.node states → IfOk r (λ t. t ≡ rib_of kept objects flows) → IfOk r (IsRibAt d at)
+rib_there d at (Err e) member process states kept objects flows is_member is_process are keeps lasting here h = tt
+rib_there d at (Ok t) member process states kept objects flows is_member is_process are keeps lasting here h = record {
+  member = member;
+  is_member = is_member;
+  process = process;
+  is_process = is_process;
+  flows = states;
+  are_flows = are;
+  is = h ∙ ap (λ (k : Option Tree). rib_of k objects flows) keeps ∙ ap (λ (os : List Shown). rib_of (kept_at d at) os flows) lasting ∙ ap (rib_of (kept_at d at) (lasting_objects d member process.links)) here;
+}

@@ -1,5 +1,5 @@
 //! The objects that a member tells.
-ghost use Rattle.std.specs.Prelude.{◌≡◌, ◌++◌, map, codes, IfOk, OnOk};
+ghost use Rattle.std.specs.Prelude.{◌≡◌, ◌<◌, ◌++◌, length, map, codes, IfOk, IfSome, OnOk};
 ghost use Rattle.rina_dif.specs.Objects.{address_of, behind, cube_object, dir_object, first_slash, flow_object, key_byte, kind_text, link_object, links_named, member_object, or_greater, state_object};
 ghost use Rattle.rina_dif.specs.Routing.{edge_to, live_links, live_of};
 
@@ -52,11 +52,19 @@ fn link_object(alloc: Global, addr: Addr, edges: &[Edge]) -> Result<Shown, Memor
     })
 }
 
+/// The place of the first slash.
+fn slash(name: &[u8]) -> Option<usize>
+    ensures at { result ≡ first_slash name.now }
+    ensures within { IfSome result (λ k. k < length name.now) }
+{
+    name.iter().position(|b| *b == b'/')
+}
+
 /// What stands behind the first slash of a name.
 fn behind_slash(name: &[u8]) -> &[u8]
     ensures { result.now ≡ behind (first_slash name.entry.now) name.entry.now }
 {
-    match name.iter().position(|b| *b == b'/') {
+    match slash(name) {
         Some(at) => &name[at + 1..],
         None => name,
     }
