@@ -1,7 +1,7 @@
 //! CDAP messages to the IPC processes of a DIF.
-ghost use Rattle.std.specs.Prelude.{◌≡◌, ◌<◌, ◌↔◌, true, Err, length, IfOk, OnErr};
+ghost use Rattle.std.specs.Prelude.{◌≡◌, ◌<◌, ◌↔◌, true, Err, length, IfOk, OnOk, OnErr};
 ghost use Rattle.rina_dif.specs.declared.cdap.CdapCallError.TheVariants.{Memory as MemoryWanted};
-ghost use Rattle.rina_dif.specs.Asking.{Asks, IsAnswer, KeepsAll, answer_of};
+ghost use Rattle.rina_dif.specs.Asking.{Asks, IsAnswer, KeepsAll, answer_of, is_done, kept_after};
 ghost use Rattle.rina_dif.specs.Facade.{GoesOn, StaysStanding};
 ghost use Rattle.rina_dif.specs.Whole.{IsDif};
 
@@ -9,6 +9,7 @@ use crate::dif::Dif;
 use rina_answer::answer;
 use rina_base::{Memory, Node};
 use rina_cdap::{CdapError, Message, read, write};
+use rina_rib::Rib;
 use std::alloc::Global;
 
 /// Why bytes that were given to an IPC process were not answered.
@@ -22,7 +23,33 @@ pub enum CdapCallError {
     Cdap(CdapError),
 }
 
+/// Whether what was asked is done.
+fn is_done(outcome: Option<u8>) -> bool
+    ensures { result ≡ is_done outcome }
+{
+    match outcome {
+        Some(code) => code == 0,
+        None => false,
+    }
+}
+
 impl Dif {
+    /// Keeps the RIB of the IPC process at a place, where what was asked is done.
+    fn keep(&mut self, at: usize, done: bool, rib: Rib) -> Result<(), Memory>
+        ensures kept { OnOk result (self.new.laid.ribs.entries ≡ kept_after done at rib self.old.laid.ribs.entries) }
+        ensures err { OnErr result (self.new.laid.ribs.entries ≡ self.old.laid.ribs.entries) }
+        ensures same { KeepsAll self.old self.new }
+        ensures failed { self.new.failed ≡ self.old.failed }
+    {
+        if !done {
+            return Ok(());
+        }
+        match self.laid.ribs.insert(at, rib) {
+            Ok(_) => Ok(()),
+            Err(_) => Err(Memory),
+        }
+    }
+
     /// Answers a message as the RIB of the IPC process at a place says, which is kept where what was asked is done.
     fn answer_at(
         &mut self,
@@ -42,11 +69,7 @@ impl Dif {
         let Ok(bytes) = write(alloc, &response) else {
             return Err(Memory);
         };
-        if response.result == Some(0) {
-            let Ok(_before) = self.laid.ribs.insert(at, rib) else {
-                return Err(Memory);
-            };
-        }
+        self.keep(at, is_done(response.result), rib)?;
         Ok(bytes)
     }
 
