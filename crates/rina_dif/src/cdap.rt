@@ -51,12 +51,7 @@ impl Dif {
     }
 
     /// Answers a message as the RIB of the IPC process at a place says, which is kept where what was asked is done.
-    fn answer_at(
-        &mut self,
-        alloc: Global,
-        at: usize,
-        message: &Message,
-    ) -> Result<Vec<u8>, Memory>
+    fn answer_at(&mut self, alloc: Global, at: usize, message: &Message) -> Result<Vec<u8>, Memory>
         requires valid { IsDif self.old }
         requires at { at < length self.old.settings.members }
         ensures does { IfOk result (λ v. IsAnswer self.old at message.now v.items self.new) }

@@ -186,7 +186,11 @@ fn live_edges(
 fn live(alloc: Global, links: &[Link]) -> Result<Vec<Link>, AllocError>
     ensures { IfOk result (λ v. v.items ≡ live_of links.now) }
 {
-    links.iter().copied().filter(|link| link.live).collect(alloc)
+    links
+        .iter()
+        .copied()
+        .filter(|link| link.live)
+        .collect(alloc)
 }
 
 /// The link state of a member, as another one or itself knows it.
@@ -209,11 +213,7 @@ fn state_object(
 }
 
 /// Adds the objects of cubes.
-pub(crate) fn add_cubes(
-    alloc: Global,
-    cubes: &[Cube],
-    objects: &mut Objects,
-) -> Result<(), Memory>
+pub(crate) fn add_cubes(alloc: Global, cubes: &[Cube], objects: &mut Objects) -> Result<(), Memory>
     ensures { OnOk result (objects.new ≡ objects.old ++ map cube_object cubes.now) }
 {
     'cubes: for cube in cubes {

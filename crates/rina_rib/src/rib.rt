@@ -10,7 +10,9 @@ use crate::caller::{Caller, is_foreign_to, is_outside_of, is_own_of};
 use crate::class::Class;
 use crate::error::RibError;
 use crate::object::{Kept, Object};
-use crate::objects::{Objects, copy_of, find, has_children, has_parent, put, rewrite, switch, take_out};
+use crate::objects::{
+    Objects, copy_of, find, has_children, has_parent, put, rewrite, switch, take_out,
+};
 use crate::walk::Walk;
 use rina_base::{Bytes, Memory};
 use std::alloc::Global;

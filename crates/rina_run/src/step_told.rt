@@ -5,8 +5,8 @@ ghost use Rattle.rina_run.specs.StepTold.{cause_told, cdap_told, class_note, clo
 use crate::told::{tell_port, tell_send};
 use rina_account::Off;
 use rina_base::{Bytes, Cause, Memory};
-use rina_data::{ClockStep, InStep, OutStep, StepError, Took};
 use rina_cdap::CdapError;
+use rina_data::{ClockStep, InStep, OutStep, StepError, Took};
 use rina_dif::{CdapCallError, Shown};
 use rina_report::{CauseNote, ClassNote, ClockNote, Refusal, Said, TookNote};
 use rina_rib::Class;

@@ -12,6 +12,6 @@ loop-at-preserved c =
     record {
       count = omega (arith, count, simp length-append at (ap (λ (xs : List FlowState). length xs) is));
       each = subst (λ (xs : List FlowState). AreSoFar d.clock d.flows.journal.ends d.flows.conns xs) (sym is)
-        (one_flow d.clock d.flows.journal.ends d.flows.conns states c.in-Some.end.now c.at-conn.result.now c.flow_state.result c.loop-at.invariant.each
+          (one_flow d.clock d.flows.journal.ends d.flows.conns states c.in-Some.end.now c.at-conn.result.now c.flow_state.result c.loop-at.invariant.each
           (ap (slice_get d.flows.journal.ends) count ∙ c.in-Some.ensures) (ap (slice_get d.flows.conns) count ∙ c.at-conn.ensures) c.flow_state.ensures);
     }
