@@ -1,3 +1,4 @@
+pub mod Asked
 pub mod Bare
 pub mod Barred
 pub mod Below
@@ -29,6 +30,8 @@ pub mod Settling
 pub mod Shelves
 pub mod Sound
 pub mod Taken
+pub mod Texts
+pub mod Told
 pub mod Unlinked
 pub mod Ways
 pub mod Wiring

@@ -1,3 +1,4 @@
+pub mod Asking
 pub mod Binding
 pub mod Building
 pub mod Clocking
@@ -5,6 +6,7 @@ pub mod Facade
 pub mod Freeing
 pub mod Holding
 pub mod Laying
+pub mod Objects
 pub mod Planned
 pub mod Routing
 pub mod Sending

@@ -9,33 +9,42 @@ use rina_base::{Addr, Memory, Seq};
 use rina_data::{Link, Member, Route};
 use rina_graph::Edge;
 use rina_plan::LinkPlan;
+use rina_rib::Rib;
 use rina_route::{Link as Hop, Routes};
 use std::alloc::{AllocError, Global};
+use std::collections::BTreeMap;
 
-/// The links of a DIF as they were laid, in stack order: what the link states say from the start.
+/// What no step of a DIF changes.
 #[derive(Drop)]
 pub struct Layout {
+    /// Its links as they were laid, in stack order: what the link states say from the start.
     pub links: Seq<LinkPlan>,
+    /// What the last CDAP request that was done left at IPC processes, by the places of their members.
+    pub ribs: BTreeMap<usize, Rib>,
     pub ghost weigh: { Weigh links },
 }
 
 impl Layout {
-    /// No links.
+    /// No links, and no requests.
     pub(crate) fn none(alloc: Global) -> Layout
-        ensures { result.links ≡ [] }
+        ensures links { result.links ≡ [] }
+        ensures ribs { result.ribs.entries ≡ [] }
     {
         Layout {
             links: Seq::new(alloc),
+            ribs: BTreeMap::new(alloc),
         }
     }
 
-    /// These links.
+    /// These links, and no requests.
     pub(crate) fn of(alloc: Global, links: &[LinkPlan]) -> Result<Layout, AllocError>
         requires { Weigh links.now }
-        ensures { IfOk result (λ l. l.links ≡ links.now) }
+        ensures links { IfOk result (λ l. l.links ≡ links.now) }
+        ensures ribs { IfOk result (λ l. l.ribs.entries ≡ []) }
     {
         Ok(Layout {
             links: Seq::from_vec(Vec::from_slice(alloc, links)?),
+            ribs: BTreeMap::new(alloc),
         })
     }
 }
@@ -76,7 +85,7 @@ fn claims_of_others(alloc: Global, own: Addr, claimed: &[Edge]) -> Result<Vec<Ed
 }
 
 /// The links of a member as its link state names them.
-fn edges_to(alloc: Global, own: Addr, links: &[Hop]) -> Result<Vec<Edge>, AllocError>
+pub(crate) fn edges_to(alloc: Global, own: Addr, links: &[Hop]) -> Result<Vec<Edge>, AllocError>
     ensures { IfOk result (λ v. v.items ≡ map (edge_to own) links.now) }
 {
     links.iter().map(|hop| edge_to(own, hop)).collect(alloc)

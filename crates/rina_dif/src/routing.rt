@@ -15,7 +15,7 @@ use rina_route::{Link as Hop, Routes};
 use std::alloc::{AllocError, Global};
 
 /// The address of the member at a node.
-fn addr_at(members: &[Member], node: usize) -> Option<Addr>
+pub(crate) fn addr_at(members: &[Member], node: usize) -> Option<Addr>
     ensures { result ≡ addr_at members.now node }
 {
     let member = members

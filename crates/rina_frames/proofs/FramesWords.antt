@@ -3,6 +3,7 @@ use Rattle.std.proofs.Common.{◌≡◌, ◌≢◌, ℕ, zero, suc, ◌+◌, nat
 use Rattle.rina_base.specs.declared.number.Port.{Port}
 use Rattle.rina_cube.specs.declared.Want.{Want}
 use Rattle.rina_data.specs.declared.step.StepError.TheVariants.{NoIpc}
+use Rattle.rina_dif.specs.declared.cdap.CdapCallError.TheVariants.{NoIpc as NoneThere}
 use Rattle.rina_iface.specs.declared.state.PortState.TheVariants.{Allocated}
 use Rattle.rina_report.specs.declared.note.Note.{Note}
 use Rattle.rina_report.specs.declared.said.Said.{Said}
@@ -11,6 +12,7 @@ use Rattle.rina_schedule.specs.declared.event.Event.TheVariants as events
 use Rattle.rina_stack.specs.declared.plan.Plan.{Plan}
 use Rattle.rina_tower.specs.declared.tower.Tower.{Tower, Wires}
 use Rattle.rina_tower.specs.Applications.{is_ipc_at}
+use Rattle.rina_tower.specs.Asking.{AsksHere}
 use Rattle.rina_tower.specs.Beside.{is_ipc}
 use Rattle.rina_tower.specs.Calls.{AllocatesHere, ClaimsHere, FreesHere, RegistersHere, SendsHere, UnregistersHere}
 use Rattle.rina_tower.specs.Events.{Cuts, HoldsBack, Loses, Mends, Repeats}
@@ -28,7 +30,7 @@ use Rattle.rina_run.specs.declared.site.Site.{Site}
 use Rattle.rina_run.specs.declared.world.World.{World}
 use Rattle.rina_run.specs.Look.{state_at}
 use Rattle.rina_run.specs.Sites.{dif_site_at, fac_named, label_in, port_in, site_at}
-use Rattle.rina_run.specs.Step.{Accounting, Acts, ActsOnWorld, AtPort, AtSite, AtWire, CallsAllocate, CallsClock, CallsFree, CallsIn, CallsIncoming, CallsRegister, CallsSend, CallsUnregister, CallsWire, LettingOut, Reading, Showing, Stage, TellsState, Ticking, Ticks, Unlabelled, asked, link_of, wire_of}
+use Rattle.rina_run.specs.Step.{Accounting, Acts, ActsOnWorld, AtPort, AtSite, AtWire, CallsAllocate, CallsCdap, CallsClock, CallsFree, CallsIn, CallsIncoming, CallsRegister, CallsSend, CallsUnregister, CallsWire, LettingOut, Reading, Showing, ShowingRib, Stage, TellsState, Ticking, Ticks, Unlabelled, asked, link_of, wire_of}
 use Rattle.rina_frames.specs.Frames.{IsInFlight, IsOpenPort, Touches, copies_of, wires_of}
 use Rattle.rina_frames.proofs.FramesAt.{Holds, at_app, at_claim, at_rank, at_wires, passes, round, rounds_by, tick}
 use Rattle.rina_frames.proofs.FramesCalls.{IsCarrying, keeps_allocates, keeps_claims, keeps_registers, keeps_sends, keeps_unregisters}
@@ -138,11 +140,18 @@ accounting : (fac k : ℕ) (plan : Plan) (line : ℕ) (r : Result Site ℕ) (w :
 accounting fac k plan line (Err field) w ns w' h d = subst (λ (v : World). Holds fac k v.tower) (sym d.1) h
 accounting fac k plan line (Ok site) w ns w' h d = subst (λ (v : World). Holds fac k v.tower) (sym d.world) h
 
+showing_rib : (fac k : ℕ) (line : ℕ) (path : Option (List ℕ)) (r : Result Site ℕ) (w : World) (ns : List Note) (w' : World) → Holds fac k w.tower → ShowingRib line path r w ns w' → Holds fac k w'.tower
+showing_rib fac k line path (Err field) w ns w' h d = subst (λ (v : World). Holds fac k v.tower) (sym d.1) h
+showing_rib fac k line path (Ok site) w ns w' h d = subst (λ (v : World). Holds fac k v.tower) (sym d.world) h
+
 takes_in : (fac k : ℕ) (plan : Plan) (link : ℕ) (w : World) (site : Site) (says : Option Said) (w' : World) → Holds fac k w.tower → CallsIn plan link w site says w' → Holds fac k w'.tower
 takes_in fac k plan link w site says w' h c = at_rank fac k site.rank (InsHere site.fac site.node (link_of link) c.result) (c.result ≡ Err NoIpc) w.tower w'.tower h c.does (λ a a' is zero g d. subst (IsCarrying fac k) (sym d.1) g)
 
 clocks : (fac k : ℕ) (plan : Plan) (w : World) (site : Site) (says : Option Said) (w' : World) → Holds fac k w.tower → CallsClock plan w site says w' → Holds fac k w'.tower
 clocks fac k plan w site says w' h c = at_rank fac k site.rank (ClocksHere site.fac site.node c.result) (c.result ≡ Err NoIpc) w.tower w'.tower h c.does (λ a a' is zero g d. subst (IsCarrying fac k) (sym d.1) g)
+
+asking : (fac k : ℕ) (bytes : List ℕ) (w : World) (site : Site) (says : Option Said) (w' : World) → Holds fac k w.tower → CallsCdap bytes w site says w' → Holds fac k w'.tower
+asking fac k bytes w site says w' h c = at_rank fac k site.rank (AsksHere site.fac site.node bytes c.result) (c.result ≡ Err NoneThere) w.tower w'.tower h c.does (λ a a' is zero g d. subst (IsCarrying fac k) (sym d.1) g)
 
 letting : (fac k : ℕ) (plan : Plan) (r : Result Site ℕ) (link : ℕ) (s : Stage) (says : Option Said) (s' : Stage) → Holds fac k s.world.tower → LettingOut plan r link s says s' → Holds fac k s'.world.tower
 letting fac k plan (Err field) link s says s' h d = subst (λ (v : Stage). Holds fac k v.world.tower) (sym d.1) h
@@ -172,6 +181,8 @@ words fac k plan line (events.Journal name) w ns w' spared h d = showing fac k p
 words fac k plan line (events.In dif node link) w ns w' spared h d = at_site fac k (dif_site_at plan dif node) (CallsIn plan link w) w d.says w' h d.does (λ site c. takes_in fac k plan link w site d.says w' h c)
 words fac k plan line (events.Clock dif node) w ns w' spared h d = at_site fac k (dif_site_at plan dif node) (CallsClock plan w) w d.says w' h d.does (λ site c. clocks fac k plan w site d.says w' h c)
 words fac k plan line (events.Ledger dif node) w ns w' spared h d = accounting fac k plan line (dif_site_at plan dif node) w ns w' h d
+words fac k plan line (events.Cdap dif node bytes) w ns w' spared h d = at_site fac k (dif_site_at plan dif node) (CallsCdap bytes w) w d.says w' h d.does (λ site c. asking fac k bytes w site d.says w' h c)
+words fac k plan line (events.Rib dif node path) w ns w' spared h d = showing_rib fac k line path (dif_site_at plan dif node) w ns w' h d
 words fac k plan line event w ns w' spared h d = absurd d
 
 pub acts : (fac k : ℕ) (plan : Plan) (line : ℕ) (event : Event) (s : Stage) (ns : List Note) (s' : Stage) → (Touches plan fac k s.world event → ⊥) → Holds fac k s.world.tower → Acts plan line event s ns s' → Holds fac k s'.world.tower

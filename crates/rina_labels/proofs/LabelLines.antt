@@ -23,12 +23,12 @@ use Rattle.rina_run.specs.Built.{event_at}
 use Rattle.rina_run.specs.Look.{ends_at, noted, state_notes}
 use Rattle.rina_run.specs.Run.{LineDoes, Runs}
 use Rattle.rina_run.specs.Sites.{dif_site_at, fac_named, port_in, site_at}
-use Rattle.rina_run.specs.Step.{Accounting, Acts, ActsOnWorld, Showing, Stage, Steps, journal_notes, ledger_notes, retire_said, rounds_after, wire_of}
+use Rattle.rina_run.specs.Step.{Accounting, Acts, ActsOnWorld, Showing, ShowingRib, Stage, Steps, journal_notes, ledger_notes, retire_said, rib_notes, rounds_after, wire_of}
 use Rattle.rina_labels.specs.Labels.{event_by}
 use Rattle.rina_labels.proofs.LabelKeeps.{keeps_looked, keeps_same}
-use Rattle.rina_labels.proofs.LabelNotes.{IsDumb, IsQuiet, IsTelling, after, after_quiet, quiet_as, quiet_dumb, quiet_journal, quiet_ledger, quiet_states}
+use Rattle.rina_labels.proofs.LabelNotes.{IsDumb, IsQuiet, IsTelling, after, after_quiet, quiet_as, quiet_dumb, quiet_journal, quiet_ledger, quiet_rib, quiet_states}
 use Rattle.rina_labels.proofs.LabelReads.{read_at, send_at, ticking_keep}
-use Rattle.rina_labels.proofs.LabelWords.{Holds, holds_same, keeps_accept, keeps_allocate, keeps_clock, keeps_cut, keeps_free, keeps_hold, keeps_in, keeps_lose, keeps_mend, keeps_once, keeps_out, keeps_register, keeps_repeat, keeps_rounds, keeps_state, keeps_unregister}
+use Rattle.rina_labels.proofs.LabelWords.{Holds, holds_same, keeps_accept, keeps_allocate, keeps_cdap, keeps_clock, keeps_cut, keeps_free, keeps_hold, keeps_in, keeps_lose, keeps_mend, keeps_once, keeps_out, keeps_register, keeps_repeat, keeps_rounds, keeps_state, keeps_unregister}
 
 -- a word that is none of these tells nothing
 quiet_says : {X : Type 0} (V : End → List X) (by : List ℕ → Note → List X) (told : List ℕ → List X) (number : ℕ) (says : Option Said) (ns : List Note) (w : World) → IsDumb by number → ns ≡ noted number (now_of w.tower) says → Holds V told w → Holds V (after by told ns) w
@@ -41,6 +41,10 @@ showing_keep V by told plan number (Some f) w ns w' dumb d k = after_quiet V by 
 accounting_keep : {X : Type 0} (V : End → List X) (by : List ℕ → Note → List X) (told : List ℕ → List X) (plan : Plan) (number : ℕ) (found : Result Site ℕ) (w : World) (ns : List Note) (w' : World) → IsDumb by number → Accounting plan number found w ns w' → Holds V told w → Holds V (after by told ns) w'
 accounting_keep V by told plan number (Err field) w ns w' dumb d k = after_quiet V by told ns w'.tower w'.labels (quiet_as by ns (noted number (now_of w.tower) (Some (said.Refused (refusals.Unknown field)))) d.0 (quiet_dumb by number (now_of w.tower) (Some (said.Refused (refusals.Unknown field))) dumb)) (holds_same V told w w' d.1 k)
 accounting_keep V by told plan number (Ok site) w ns w' dumb d k = after_quiet V by told ns w'.tower w'.labels (quiet_as by ns (ledger_notes plan site.rank number (now_of w.tower) d.offs) d.notes (quiet_ledger by plan site.rank number (now_of w.tower) d.offs dumb)) (holds_same V told w w' d.world k)
+
+rib_keep : {X : Type 0} (V : End → List X) (by : List ℕ → Note → List X) (told : List ℕ → List X) (number : ℕ) (path : Option (List ℕ)) (found : Result Site ℕ) (w : World) (ns : List Note) (w' : World) → IsDumb by number → ShowingRib number path found w ns w' → Holds V told w → Holds V (after by told ns) w'
+rib_keep V by told number path (Err field) w ns w' dumb d k = after_quiet V by told ns w'.tower w'.labels (quiet_as by ns (noted number (now_of w.tower) (Some (said.Refused (refusals.Unknown field)))) d.0 (quiet_dumb by number (now_of w.tower) (Some (said.Refused (refusals.Unknown field))) dumb)) (holds_same V told w w' d.1 k)
+rib_keep V by told number path (Ok site) w ns w' dumb d k = after_quiet V by told ns w'.tower w'.labels (quiet_as by ns (rib_notes number (now_of w.tower) d.found) d.notes (quiet_rib by number (now_of w.tower) d.found dumb)) (holds_same V told w w' d.world k)
 
 words_keep : {X : Type 0} (lines : List (List ℕ)) (V : End → List X) (by : List ℕ → Note → List X) (sent got : Entry → List X) (told : List ℕ → List X) (plan : Plan) (number : ℕ) (event : Event) (w : World) (ns : List Note) (w' : World)
     → IsTelling lines V by sent got → event_by lines number ≡ Some event → IsTower w.tower → ActsOnWorld plan number event w ns w' → Holds V told w → Holds V (after by told ns) w'
@@ -61,6 +65,8 @@ words_keep lines V by sent got told plan number (events.In dif node link) w ns w
 words_keep lines V by sent got told plan number (events.Clock dif node) w ns w' t is v a k = quiet_says V by told number a.says ns w' (t.others number (events.Clock dif node) is tt) a.notes (keeps_clock V told plan w (dif_site_at plan dif node) a.says w' t.view a.does k)
 words_keep lines V by sent got told plan number (events.Journal fac) w ns w' t is v a k = showing_keep V by told plan number (fac_named plan fac) w ns w' (t.others number (events.Journal fac) is tt) a k
 words_keep lines V by sent got told plan number (events.Ledger dif node) w ns w' t is v a k = accounting_keep V by told plan number (dif_site_at plan dif node) w ns w' (t.others number (events.Ledger dif node) is tt) a k
+words_keep lines V by sent got told plan number (events.Cdap dif node bytes) w ns w' t is v a k = quiet_says V by told number a.says ns w' (t.others number (events.Cdap dif node bytes) is tt) a.notes (keeps_cdap V told bytes w (dif_site_at plan dif node) a.says w' t.view a.does k)
+words_keep lines V by sent got told plan number (events.Rib dif node path) w ns w' t is v a k = rib_keep V by told number path (dif_site_at plan dif node) w ns w' (t.others number (events.Rib dif node path) is tt) a k
 words_keep lines V by sent got told plan number event w ns w' t is v a k = absurd a
 
 acts_keep : {X : Type 0} (lines : List (List ℕ)) (V : End → List X) (by : List ℕ → Note → List X) (sent got : Entry → List X) (told : List ℕ → List X) (plan : Plan) (number : ℕ) (event : Event) (s : Stage) (ns : List Note) (s' : Stage)

@@ -1,10 +1,12 @@
 -- Which notes tell nothing for a label.
-use Rattle.std.proofs.Common.{cond, ◌≡◌, ◌≢◌, ◌∙◌, ℕ, true, false, List, [], ◌∷◌, ◌++◌, map, slice_get, Option, Some, None, option_map, refl, ap}
+use Rattle.std.proofs.Common.{cond, ◌≡◌, ◌≢◌, ◌∙◌, ℕ, true, false, List, [], ◌∷◌, ◌++◌, map, slice_get, Option, Some, None, Result, Ok, Err, option_map, refl, ap}
 use Rattle.std.specs.List.{flat_map}
 use Rattle.std.proofs.lemmas.List.{append-nil}
 use Rattle.std.proofs.lemmas.List.Concat.{flat_map-append}
 use Rattle.rina_account.specs.declared.ledger.Off.{Off}
 use Rattle.rina_base.specs.declared.number.Num.{Num}
+use Rattle.rina_data.specs.declared.step.StepError.{StepError}
+use Rattle.rina_dif.specs.declared.shown.Shown.{Shown}
 use Rattle.rina_law.specs.declared.entry.Entry.{Entry}
 use Rattle.rina_iface.specs.declared.ends.End.{End}
 use Rattle.rina_iface.specs.Ends.{with_passed, with_sent}
@@ -23,8 +25,8 @@ use Rattle.rina_tower.specs.Beside.{is_ipc}
 use Rattle.rina_tower.specs.Ranks.{now_of}
 use Rattle.rina_run.specs.declared.labels.Label.{Label}
 use Rattle.rina_run.specs.Look.{label_notes, noted, same_drawn, state_at, state_notes}
-use Rattle.rina_run.specs.Step.{end_notes, entry_note, flow_note, got_note, journal_notes, ledger_notes, off_notes, sent_note}
-use Rattle.rina_run.specs.StepTold.{off_told}
+use Rattle.rina_run.specs.Step.{end_notes, entry_note, flow_note, got_note, journal_notes, ledger_notes, object_notes, off_notes, rib_notes, sent_note}
+use Rattle.rina_run.specs.StepTold.{object_told, off_told, step_told}
 use Rattle.rina_run.specs.Told.{drawn_told}
 use Rattle.rina_labels.specs.Labels.{event_by}
 use Rattle.rina_labels.proofs.LabelKeeps.{Keeps, keeps_same}
@@ -98,7 +100,7 @@ pub quiet_states : {X : Type 0} (by : List ℕ → Note → List X) (plan : Plan
 quiet_states by plan number t [] h name = refl
 quiet_states by plan number t (l ∷ ls) h name = quiet_append by (label_notes plan number t l) (state_notes plan number t ls) (quiet_label by plan number t l (λ n s. h n l.name s)) (quiet_states by plan number t ls h) name
 
--- ---- journals and ledgers
+-- ---- journals, ledgers and objects
 
 quiet_map : {X : Type 0} (by : List ℕ → Note → List X) (number : ℕ) (note : Entry → Note) (xs : List Entry) → ((name : List ℕ) (x : Entry) → by name (note x) ≡ []) → IsQuiet by (map note xs)
 quiet_map by number note [] dumb name = refl
@@ -128,3 +130,15 @@ quiet_offs by plan rank number tick (x ∷ xs) dumb = quiet_lines by plan rank n
 pub quiet_ledger : {X : Type 0} (by : List ℕ → Note → List X) (plan : Plan) (rank number tick : ℕ) (offs : Option (List Off)) → IsDumb by number → IsQuiet by (ledger_notes plan rank number tick offs)
 quiet_ledger by plan rank number tick None dumb = quiet_dumb by number tick (Some (said.Refused refusals.NoIpc)) dumb
 quiet_ledger by plan rank number tick (Some offs) dumb = quiet_offs by plan rank number tick offs dumb
+
+quiet_told : {X : Type 0} (by : List ℕ → Note → List X) (number tick : ℕ) (objects : List Shown) → IsDumb by number → IsQuiet by (flat_map (λ (x : Shown). noted number tick (object_told x)) objects)
+quiet_told by number tick [] dumb name = refl
+quiet_told by number tick (x ∷ xs) dumb name = quiet_append by (noted number tick (object_told x)) (flat_map (λ (y : Shown). noted number tick (object_told y)) xs) (quiet_dumb by number tick (object_told x) dumb) (quiet_told by number tick xs dumb) name
+
+quiet_objects : {X : Type 0} (by : List ℕ → Note → List X) (number tick : ℕ) (objects : List Shown) → IsDumb by number → IsQuiet by (object_notes number tick objects)
+quiet_objects by number tick [] dumb = quiet_dumb by number tick (Some said.Nothing) dumb
+quiet_objects by number tick (x ∷ xs) dumb = quiet_told by number tick (x ∷ xs) dumb
+
+pub quiet_rib : {X : Type 0} (by : List ℕ → Note → List X) (number tick : ℕ) (found : Result (List Shown) StepError) → IsDumb by number → IsQuiet by (rib_notes number tick found)
+quiet_rib by number tick (Ok objects) dumb = quiet_objects by number tick objects dumb
+quiet_rib by number tick (Err error) dumb = quiet_dumb by number tick (option_map said.Refused (step_told error)) dumb

@@ -9,18 +9,21 @@ use Rattle.rina_data.specs.declared.step.InStep.{InStep}
 use Rattle.rina_data.specs.declared.step.OutStep.{OutStep}
 use Rattle.rina_data.specs.declared.step.StepError.{StepError}
 use Rattle.rina_data.specs.Upward.{IsSilent}
+use Rattle.rina_dif.specs.declared.cdap.CdapCallError.{CdapCallError}
 use Rattle.rina_dif.specs.declared.dif.Dif.{Dif}
 use Rattle.rina_dif.specs.Shown.{seen_of as seen_of_dif}
 use Rattle.rina_iface.specs.declared.ends.End.{End}
 use Rattle.rina_iface.specs.Journal.{At}
 use Rattle.rina_iface.specs.Seen.{Seen, with_end}
 use Rattle.rina_tower.specs.declared.tower.Tower.{Tower, Rank', Wires}
+use Rattle.rina_tower.specs.Asking.{AsksAt, AsksHere}
 use Rattle.rina_tower.specs.Lasting.{StandsAfter}
 use Rattle.rina_tower.specs.Ranks.{fac_of_dif, height_of, rank_of, seen_of}
 use Rattle.rina_tower.specs.Rounds.{AllMove, Anything, IsRound, Move, Moves, Taking, Clocking, Letting}
 use Rattle.rina_tower.specs.Stepping.{ClocksAt, ClocksHere, InSteps, InsHere, OutSteps, OutsHere}
 use Rattle.rina_tower.specs.Using.{MayUse}
 use Rattle.rina_tower.specs.Walking.{AtDif, AtRank, SameBelow, same_refl}
+use Rattle.rina_tower.proofs.Asked.{asked_facs}
 use Rattle.rina_labels.proofs.LabelCalls.{AllRest, rest_idle}
 use Rattle.rina_labels.proofs.LabelRanks.{DoesAll, at_rank, at_rank_more, at_top, facs_of, level}
 use Rattle.rina_labels.proofs.LabelRests.{Rest, RestFac, Rests, ends_set, rest_same, rest_set, rests_still}
@@ -87,6 +90,19 @@ clock_rests n node x (Rank' p difs below) (Rank' p' difs' below') w = step_rests
 clock_rests n node x (Wires a) (Rank' p difs below) w = absurd w
 clock_rests n node x (Rank' p difs below) (Wires a) w = absurd w
 
+ask_rests : (n node : ℕ) (bytes : List ℕ) (x : Result (List ℕ) CdapCallError) (u u' : Tower) → AsksHere n node bytes x u u' → DoesAll (λ r. Rest) u u'
+ask_rests n node bytes x (Wires a) (Wires a') w = same_rests (Wires a) (Wires a') (ap Wires w.1)
+ask_rests n node bytes x (Rank' p difs below) (Rank' p' difs' below') w =
+    let same : SameBelow below below' = subst (SameBelow below) (sym w.1) (same_refl below) in
+    let own = rest_same (map fac_of_dif difs) (map fac_of_dif difs') (asked_facs n node bytes x _ difs difs' w.0) in
+    let low = at_top (λ r. Rest) below below' same (rest_same (facs_of below) (facs_of below') (ap facs_of w.1)) (rest_idle (height_of below)) in
+    record {
+      level = ap (λ h. h + 1) (level below below' same);
+      all = at_rank_more (λ r. Rest) p p' difs difs' below below' (level below below' same) own (λ r ne. low.rank r);
+    }
+ask_rests n node bytes x (Wires a) (Rank' p difs below) w = absurd w
+ask_rests n node bytes x (Rank' p difs below) (Wires a) w = absurd w
+
 -- ---- at a rank
 
 steps_rest : (r : ℕ) (does : Tower → Tower → Type 0) (none : Type 0) (t t' : Tower) → ((u u' : Tower) → does u u' → DoesAll (λ k. Rest) u u') → AtRank r does none t t' → AllRest t t'
@@ -100,6 +116,9 @@ outs_rest may slots slots' r n node link x t t' d = steps_rest r _ _ t t' (out_r
 
 pub clocks_rest : (r n node : ℕ) (x : Result ClockStep StepError) (t t' : Tower) → ClocksAt r n node x t t' → AllRest t t'
 clocks_rest r n node x t t' d = steps_rest r _ _ t t' (clock_rests n node x) d
+
+pub asks_rest : (r n node : ℕ) (bytes : List ℕ) (x : Result (List ℕ) CdapCallError) (t t' : Tower) → AsksAt r n node bytes x t t' → AllRest t t'
+asks_rest r n node bytes x t t' d = steps_rest r _ _ t t' (ask_rests n node bytes x) d
 
 -- ---- rounds
 

@@ -22,7 +22,7 @@ use Rattle.rina_run.specs.declared.labels.Label.{Label}
 use Rattle.rina_run.specs.declared.site.Site.{Site}
 use Rattle.rina_run.specs.declared.world.World.{World}
 use Rattle.rina_run.specs.Sites.{label_in}
-use Rattle.rina_run.specs.Step.{AtPort, AtSite, AtWire, CallsAllocate, CallsClock, CallsFree, CallsIn, CallsIncoming, CallsRegister, CallsUnregister, CallsWire, LettingOut, RoundsBy, RoundsOnce, Stage, TellsState, TicksOnce, Unlabelled, asked, label_of, link_of}
+use Rattle.rina_run.specs.Step.{AtPort, AtSite, AtWire, CallsAllocate, CallsCdap, CallsClock, CallsFree, CallsIn, CallsIncoming, CallsRegister, CallsUnregister, CallsWire, LettingOut, RoundsBy, RoundsOnce, Stage, TellsState, TicksOnce, Unlabelled, asked, label_of, link_of}
 use Rattle.rina_labels.proofs.LabelCalls.{AllRest, app_frees, app_registers, app_unregisters}
 use Rattle.rina_labels.proofs.LabelClaimed.{fit_taken, named_claimed, ports_taken, tells_claimed}
 use Rattle.rina_labels.proofs.LabelClaims.{app_claims, app_claims_none}
@@ -32,7 +32,7 @@ use Rattle.rina_labels.proofs.LabelKeeps.{Keeps, keeps_looked, keeps_on, keeps_r
 use Rattle.rina_labels.proofs.LabelMade.{fit_grown, named_grown, tells_grown}
 use Rattle.rina_labels.proofs.LabelMoves.{Fits, IsView}
 use Rattle.rina_labels.proofs.LabelRanks.{shown}
-use Rattle.rina_labels.proofs.LabelSteps.{clocks_rest, ins_rest, outs_rest, round_keeps}
+use Rattle.rina_labels.proofs.LabelSteps.{asks_rest, clocks_rest, ins_rest, outs_rest, round_keeps}
 use Rattle.rina_labels.proofs.LabelTells.{IsUnknown}
 use Rattle.rina_labels.proofs.LabelTicks.{cut_rests, hold_rests, lose_rests, mend_rests, repeat_rests, tick_rests}
 
@@ -153,6 +153,10 @@ keeps_in V told plan link w (Ok site) says w' view c k = keeps_on V told w.tower
 pub keeps_clock : {X : Type 0} (V : End → List X) (told : List ℕ → List X) (plan : Plan) (w : World) (found : Result Site ℕ) (says : Option Said) (w' : World) → IsView V → AtSite found (CallsClock plan w) w says w' → Holds V told w → Holds V told w'
 keeps_clock V told plan w (Err field) says w' view c k = holds_same V told w w' c.world k
 keeps_clock V told plan w (Ok site) says w' view c k = keeps_on V told w.tower w'.tower w.labels w'.labels view (clocks_rest site.rank site.fac site.node c.result w.tower w'.tower c.does) c.labels k
+
+pub keeps_cdap : {X : Type 0} (V : End → List X) (told : List ℕ → List X) (bytes : List ℕ) (w : World) (found : Result Site ℕ) (says : Option Said) (w' : World) → IsView V → AtSite found (CallsCdap bytes w) w says w' → Holds V told w → Holds V told w'
+keeps_cdap V told bytes w (Err field) says w' view c k = holds_same V told w w' c.world k
+keeps_cdap V told bytes w (Ok site) says w' view c k = keeps_on V told w.tower w'.tower w.labels w'.labels view (asks_rest site.rank site.fac site.node bytes c.result w.tower w'.tower c.does) c.labels k
 
 pub keeps_out : {X : Type 0} (V : End → List X) (told : List ℕ → List X) (plan : Plan) (link : ℕ) (s : Stage) (found : Result Site ℕ) (says : Option Said) (s' : Stage) → IsView V → LettingOut plan found link s says s' → Holds V told s.world → Holds V told s'.world
 keeps_out V told plan link s (Err field) says s' view c k = holds_same V told s.world s'.world (ap (λ (x : Stage). x.world) c.1) k

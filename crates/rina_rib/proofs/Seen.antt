@@ -1,13 +1,15 @@
 -- What a map shows: each change of it is the same change of what it shows.
-use Rattle.std.proofs.Common.{◌≡◌, ℕ, Bool, true, false, cond, List, [], ◌∷◌, map, Option, Some, None, ◌||◌, refl, sym, ap, ◌∙◌}
-use Rattle.std.specs.List.{list_any}
+use Rattle.std.proofs.Common.{◌≡◌, ℕ, Bool, true, false, cond, List, [], ◌∷◌, map, Option, Some, None, Result, Ok, Err, ◌||◌, refl, sym, ap, ◌∙◌}
+use Rattle.std.specs.List.{AllZip, list_any}
+use Rattle.std.specs.Vec.{vec_len}
+use Rattle.std.specs.Prelude.{IfOk, MatchResult}
 use Rattle.std.specs.Global.{Vec}
 use Rattle.std.specs.declared.cmp.Ordering.{Ordering}
 use Rattle.std.specs.declared.cmp.Ordering.TheVariants.{Less, Equal, Greater}
 use Rattle.std.specs.Ordering.{match_ordering, nat_cmp}
 use Rattle.std.specs.Cmp.Lexicographic.{slice_cmp}
 use Rattle.std.specs.Map.{lookup, remove_entry, set_value, keys_of}
-use Rattle.std.specs.BTreeMap.{is_at, insert_entry}
+use Rattle.std.specs.BTreeMap.{BTreeMap, is_at, insert_entry}
 use Rattle.rina_rib.specs.Things.{Thing}
 use Rattle.rina_rib.specs.Objects.{Named, seen, object_at, with_object, without_object, changed_object, has_child}
 use Rattle.rina_rib.specs.Names.{is_child}
@@ -68,3 +70,29 @@ pub absent_seen : (es after : Entries) (name : List ℕ) (f : Option Thing → L
 absent_seen es after name f same none is =
     let at : object_at (seen es) name ≡ None = sym (lookup-seen es name) ∙ sym none in
     ap (λ (xs : Entries). seen xs) same ∙ sym is ∙ sym (ap f at)
+
+-- Copies
+
+same_bytes : (xs ys : List ℕ) → AllZip (λ x y. y ≡ x) xs ys → ys ≡ xs
+same_bytes [] [] h = refl
+same_bytes [] (y ∷ ys) h = absurd h
+same_bytes (x ∷ xs) [] h = absurd h
+same_bytes (x ∷ xs) (y ∷ ys) h = ap (λ (b : ℕ). b ∷ ys) h.0 ∙ ap (λ (bs : List ℕ). x ∷ bs) (same_bytes xs ys h.1)
+
+-- an entry and its copy
+abbrev pub IsCopy : Vec ℕ × Thing → Vec ℕ × Thing → Type 0
+IsCopy p q = (AllZip (λ x y. y ≡ x) p.0.items q.0.items × (vec_len q.0 ≡ vec_len p.0)) × (q.1 ≡ p.1)
+
+-- copies of the entries show the same
+pub copied : (es fs : Entries) → AllZip IsCopy es fs → seen fs ≡ seen es
+copied [] [] h = refl
+copied [] (f ∷ fs) h = absurd h
+copied (e ∷ es) [] h = absurd h
+copied (e ∷ es) (f ∷ fs) h =
+    ap (λ (n : List ℕ). (n, f.1) ∷ seen fs) (same_bytes e.0.items f.0.items h.0.0.0)
+    ∙ ap (λ (t : Thing). (e.0.items, t) ∷ seen fs) h.0.1
+    ∙ ap (λ (xs : List Named). (e.0.items, e.1) ∷ xs) (copied es fs h.1)
+
+pub if_copied : {E : Type 0} (r : Result (BTreeMap (Vec ℕ) Thing) E) (es : Entries) (Q : E → Type 0) → MatchResult r (λ n. AllZip IsCopy es n.entries) Q → IfOk r (λ n. seen n.entries ≡ seen es)
+if_copied (Ok n) es Q h = copied es n.entries h
+if_copied (Err e) es Q h = tt

@@ -4,6 +4,7 @@ ghost use Rattle.rina_rib.specs.Things.{thing, thing_of, switched};
 
 use crate::class::Class;
 use rina_base::Bytes;
+use std::alloc::AllocError;
 use std::marker::Model;
 
 /// An object that is lent: its class, its number, and its value.
@@ -20,7 +21,7 @@ pub struct Object<'a> {
 pub(crate) struct Kept {
     class: Class,
     instance: u64,
-    value: Bytes,
+    value: Vec<u8>,
     /// Whether a service runs.
     on: bool,
 }
@@ -30,7 +31,22 @@ impl Model for Kept {
 
     ghost Value = { Thing };
 
-    ghost view = { λ k. thing k.class k.instance (shown k.class k.on k.value) };
+    ghost view = { λ k. thing k.class k.instance (shown k.class k.on k.value.items) };
+}
+
+impl Clone for Kept {
+    ghost use Rattle.std.specs.Prelude.{◌≡◌};
+
+    ghost is_clone = { λ k c. c ≡ k };
+
+    fn clone(&self) -> Result<Kept, AllocError> {
+        Ok(Kept {
+            class: self.class,
+            instance: self.instance,
+            value: Vec::from_slice(*self.value.allocator(), self.value.as_slice())?,
+            on: self.on,
+        })
+    }
 }
 
 impl Kept {
@@ -43,7 +59,7 @@ impl Kept {
         Kept {
             class,
             instance,
-            value,
+            value: value.into_vec(),
             on: false,
         }
     }
@@ -85,6 +101,6 @@ impl Kept {
     pub(crate) fn set(&mut self, value: Bytes)
         ensures { self.new ≡ with_value self.old value }
     {
-        self.value = value;
+        self.value = value.into_vec();
     }
 }

@@ -1,5 +1,5 @@
 //! Objects by name.
-ghost use Rattle.std.specs.Prelude.{◌≡◌, option_copied, OnOk, OnErr};
+ghost use Rattle.std.specs.Prelude.{◌≡◌, option_copied, IfOk, OnOk, OnErr};
 ghost use Rattle.std.specs.List.{list_any};
 ghost use Rattle.std.specs.BTreeMap.{keys};
 ghost use Rattle.rina_rib.specs.Names.{is_child};
@@ -9,10 +9,18 @@ use crate::class::Class;
 use crate::names::{is_child_of, parent};
 use crate::object::Kept;
 use rina_base::{Bytes, Memory};
+use std::alloc::AllocError;
 use std::collections::BTreeMap;
 
 /// The objects by name, in the byte order of names.
 pub(crate) type Objects = BTreeMap<Vec<u8>, Kept>;
+
+/// A copy of all objects.
+pub(crate) fn copy_of(objects: &Objects) -> Result<Objects, AllocError>
+    ensures { IfOk result (λ c. seen c.entries ≡ seen objects.now.entries) }
+{
+    objects.clone()
+}
 
 /// The object of a name.
 pub(crate) fn find<'a>(objects: &'a Objects, name: &[u8]) -> Option<&'a Kept>

@@ -10,7 +10,9 @@ use crate::caller::{Caller, is_foreign_to, is_outside_of, is_own_of};
 use crate::class::Class;
 use crate::error::RibError;
 use crate::object::{Kept, Object};
-use crate::objects::{Objects, find, has_children, has_parent, put, rewrite, switch, take_out};
+use crate::objects::{
+    Objects, copy_of, find, has_children, has_parent, put, rewrite, switch, take_out,
+};
 use crate::walk::Walk;
 use rina_base::{Bytes, Memory};
 use std::alloc::Global;
@@ -87,6 +89,17 @@ impl Rib {
         put_folder(alloc, &mut objects, b"/member", 5)?;
         put_folder(alloc, &mut objects, b"/user", 6)?;
         Ok(Rib { objects, next: 7 })
+    }
+
+    /// A copy: the same objects, with the same numbers.
+    pub fn copy(&self) -> Result<Rib, Memory>
+        ensures { IfOk result (λ r. r ≡ self.now) }
+    {
+        let objects = copy_of(&self.objects)?;
+        Ok(Rib {
+            objects,
+            next: self.next,
+        })
     }
 
     /// Makes an object, and answers its number: objects are counted on from 7, and the count stays at the greatest

@@ -10,5 +10,6 @@ pub mod Playing
 pub mod Ending
 pub mod Promised
 pub mod Clocks
+pub mod Objects
 pub mod Opens
 pub mod Calls

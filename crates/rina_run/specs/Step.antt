@@ -1,5 +1,5 @@
 -- What each line of a schedule does to the tower, the labels and the shelf, and which notes it gives.
-use Rattle.std.specs.Prelude.{◌≡◌, ℕ, ◌+◌, zero, suc, min, nat_lt, Bool, true, false, List, [], ◌∷◌, ◌++◌, map, slice_get, Option, Some, None, Result, Ok, Err, option_and_then, option_map}
+use Rattle.std.specs.Prelude.{◌≡◌, ◌≢◌, ℕ, codes, ◌+◌, zero, suc, min, nat_lt, Bool, true, false, List, [], ◌∷◌, ◌++◌, map, slice_get, Option, Some, None, Result, Ok, Err, option_and_then, option_map}
 use Rattle.std.specs.List.{flat_map}
 use Rattle.rina_account.specs.declared.ledger.Off.{Off}
 use Rattle.rina_base.specs.declared.number.Num.{Num}
@@ -9,6 +9,9 @@ use Rattle.rina_data.specs.declared.step.ClockStep.{ClockStep}
 use Rattle.rina_data.specs.declared.step.InStep.{InStep}
 use Rattle.rina_data.specs.declared.step.OutStep.{OutStep}
 use Rattle.rina_data.specs.declared.step.StepError.{StepError}
+use Rattle.rina_data.specs.declared.step.StepError.TheVariants.{Memory as NoMemory}
+use Rattle.rina_dif.specs.declared.cdap.CdapCallError.{CdapCallError}
+use Rattle.rina_dif.specs.declared.shown.Shown.{Shown}
 use Rattle.rina_law.specs.declared.entry.Entry.{Entry}
 use Rattle.rina_iface.specs.declared.ask.Ask.{Ask}
 use Rattle.rina_iface.specs.declared.error.RegisterError.{RegisterError}
@@ -38,8 +41,10 @@ use Rattle.rina_stack.specs.Names.{place_in}
 use Rattle.rina_tower.specs.declared.applications.AppError.{AppError}
 use Rattle.rina_tower.specs.declared.tower.Tower.{Tower}
 use Rattle.rina_tower.specs.Applications.{AppAllocates, AppClaims, AppFrees, AppPasses, AppRegisters, AppSends, AppUnregisters, is_ipc_at}
+use Rattle.rina_tower.specs.Asking.{AsksAt}
 use Rattle.rina_tower.specs.Events.{Cuts, HoldsBack, Loses, Mends, Repeats}
 use Rattle.rina_tower.specs.Ledgers.{IsLedgerAt, member_at}
+use Rattle.rina_tower.specs.Objects.{ShowsUnderAt}
 use Rattle.rina_tower.specs.Ranks.{now_of, rank_of, seen_of}
 use Rattle.rina_tower.specs.Stepping.{ClocksAt, InSteps, OutSteps}
 use Rattle.rina_tower.specs.Rounds.{Anything, IsRound}
@@ -51,7 +56,7 @@ use Rattle.rina_run.specs.declared.world.World.{World}
 use Rattle.rina_run.specs.declared.labels.Label.{Label}
 use Rattle.rina_run.specs.declared.site.Site.{Site}
 use Rattle.rina_run.specs.Sites.{dif_site_at, fac_named, label_in, port_in, site_at}
-use Rattle.rina_run.specs.StepTold.{clock_told, in_told, off_told, out_told, step_told}
+use Rattle.rina_run.specs.StepTold.{cdap_told, clock_told, in_told, object_told, off_told, out_told, step_told}
 use Rattle.rina_run.specs.Told.{answer_told, app_told, register_told, unregister_told, free_told, allocate_told, send_told, wire_told, drawn_told, port_told, state_told}
 use Rattle.rina_run.specs.Look.{ends_at, state_at, noted, state_notes, looked}
 
@@ -426,6 +431,46 @@ abbrev pub Accounting : Plan → ℕ → Result Site ℕ → World → List Note
 Accounting plan line (Err field) w ns w' = (ns ≡ noted line (now_of w.tower) (Some (said.Refused (refusals.Unknown field)))) × (w' ≡ w)
 Accounting plan line (Ok site) w ns w' = ShowsLedger plan line w site ns w'
 
+-- ---- rib DIF NODE [PATH]
+
+-- the name that is asked for; all objects where none is given
+abbrev pub path_of : Option (List ℕ) → List ℕ
+path_of None = codes "/"
+path_of (Some path) = path
+
+-- objects, in order; where there is none, that is said
+abbrev pub object_notes : ℕ → ℕ → List Shown → List Note
+object_notes line tick [] = noted line tick (Some said.Nothing)
+object_notes line tick (object ∷ objects) = flat_map (λ (x : Shown). noted line tick (object_told x)) (object ∷ objects)
+
+-- where the DIF has no member at that node, this is said
+abbrev pub rib_notes : ℕ → ℕ → Result (List Shown) StepError → List Note
+rib_notes line tick (Ok objects) = object_notes line tick objects
+rib_notes line tick (Err error) = noted line tick (option_map said.Refused (step_told error))
+
+-- the objects were shown as they are now, and nothing changed
+pub record ShowsObjects (line : ℕ) (path : Option (List ℕ)) (w : World) (site : Site) (ns : List Note) (w' : World) : Type 0 where
+  pub found : Result (List Shown) StepError
+  pub are : ShowsUnderAt w.tower site.rank site.fac site.node (path_of path) found
+  pub memory : found ≢ Err NoMemory
+  pub world : w' ≡ w
+  pub notes : ns ≡ rib_notes line (now_of w.tower) found
+
+abbrev pub ShowingRib : ℕ → Option (List ℕ) → Result Site ℕ → World → List Note → World → Type 0
+ShowingRib line path (Err field) w ns w' = (ns ≡ noted line (now_of w.tower) (Some (said.Refused (refusals.Unknown field)))) × (w' ≡ w)
+ShowingRib line path (Ok site) w ns w' = ShowsObjects line path w site ns w'
+
+-- ---- cdap DIF NODE BYTES
+
+pub record CallsCdap (bytes : List ℕ) (w : World) (site : Site) (says : Option Said) (w' : World) : Type 0 where
+  pub result : Result (List ℕ) CdapCallError
+  pub does : AsksAt site.rank site.fac site.node bytes result w.tower w'.tower
+  pub labels : w'.labels ≡ w.labels
+  pub told : says ≡ answer_told (λ answer. Some (said.Cdap answer)) cdap_told result
+
+abbrev pub Asking : Plan → List ℕ → List ℕ → List ℕ → World → Option Said → World → Type 0
+Asking plan dif node bytes w says w' = AtSite (dif_site_at plan dif node) (CallsCdap bytes w) w says w'
+
 -- ---- all words
 
 -- a word that says one thing
@@ -453,6 +498,8 @@ ActsOnWorld plan line (events.Journal fac) w ns w' = Showing plan line (fac_name
 ActsOnWorld plan line (events.In dif node link) w ns w' = Says line (TakingIn plan dif node link w) ns w'
 ActsOnWorld plan line (events.Clock dif node) w ns w' = Says line (Clocking plan dif node w) ns w'
 ActsOnWorld plan line (events.Ledger dif node) w ns w' = Accounting plan line (dif_site_at plan dif node) w ns w'
+ActsOnWorld plan line (events.Cdap dif node bytes) w ns w' = Says line (Asking plan dif node bytes w) ns w'
+ActsOnWorld plan line (events.Rib dif node path) w ns w' = ShowingRib line path (dif_site_at plan dif node) w ns w'
 ActsOnWorld plan line event w ns w' = ⊥
 
 -- ---- lines

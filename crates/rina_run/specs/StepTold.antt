@@ -1,4 +1,4 @@
--- How a run tells single steps of a DIF of a rank, and the write-offs of its ledgers.
+-- How a run tells single steps of a DIF of a rank, the write-offs of its ledgers, and the objects of its RIBs.
 use Rattle.std.specs.Prelude.{ℕ, ◌-◌, Option, Some, None, Result, Ok, Err, option_map}
 use Rattle.rina_account.specs.declared.ledger.Off.{Off}
 use Rattle.rina_base.specs.declared.cause.Cause.{Cause}
@@ -13,10 +13,20 @@ use Rattle.rina_data.specs.declared.step.ClockStep.{ClockStep}
 use Rattle.rina_data.specs.declared.step.ClockStep.TheVariants as clocks
 use Rattle.rina_data.specs.declared.step.StepError.{StepError}
 use Rattle.rina_data.specs.declared.step.StepError.TheVariants as errors
+use Rattle.rina_cdap.specs.declared.error.CdapError.{CdapError}
+use Rattle.rina_cdap.specs.declared.error.CdapError.TheVariants as faults
+use Rattle.rina_dif.specs.declared.cdap.CdapCallError.{CdapCallError}
+use Rattle.rina_dif.specs.declared.cdap.CdapCallError.TheVariants as calls
+use Rattle.rina_dif.specs.declared.shown.Shown.{Shown}
+use Rattle.rina_rib.specs.declared.class.Class.{Class}
+use Rattle.rina_rib.specs.declared.class.Class.TheVariants as classes
+use Rattle.rina_schedule.specs.Objects.{object_name_of}
 use Rattle.rina_report.specs.declared.cause.CauseNote.{CauseNote}
 use Rattle.rina_report.specs.declared.cause.CauseNote.TheVariants as cause_notes
 use Rattle.rina_report.specs.declared.refusal.Refusal.{Refusal}
 use Rattle.rina_report.specs.declared.refusal.Refusal.TheVariants as refusals
+use Rattle.rina_report.specs.declared.said.ClassNote.{ClassNote}
+use Rattle.rina_report.specs.declared.said.ClassNote.TheVariants as class_notes
 use Rattle.rina_report.specs.declared.said.Said.{Said}
 use Rattle.rina_report.specs.declared.said.Said.TheVariants as said
 use Rattle.rina_report.specs.declared.step.ClockNote.{ClockNote}
@@ -83,3 +93,31 @@ step_told errors.NoLink = Some refusals.NoLink
 -- a line of a ledger
 abbrev pub off_told : Plan → ℕ → Off → Option Said
 off_told plan rank off = option_map (said.Off off.key) (cause_told plan rank off.cause)
+
+-- the first fault of bytes that are no CDAP message; want of memory is not told
+abbrev pub fault_told : CdapError → Option Refusal
+fault_told faults.Memory = None
+fault_told (faults.Short at) = Some (refusals.Short at)
+fault_told (faults.BadTag at) = Some (refusals.BadTag at)
+fault_told (faults.BadOp n) = Some (refusals.BadOp n)
+fault_told (faults.Twice tag) = Some (refusals.Twice tag)
+fault_told (faults.Missing tag) = Some (refusals.Missing tag)
+fault_told (faults.BadValue tag) = Some (refusals.BadValue tag)
+
+-- why bytes were not answered
+abbrev pub cdap_told : CdapCallError → Option Refusal
+cdap_told calls.Memory = None
+cdap_told calls.NoIpc = Some refusals.NoIpc
+cdap_told (calls.Cdap error) = fault_told error
+
+-- the class of an object
+abbrev pub class_note : Class → ClassNote
+class_note classes.Folder = class_notes.Folder
+class_note classes.Value = class_notes.Value
+class_note classes.Cube = class_notes.Cube
+class_note classes.Flow = class_notes.Flow
+class_note classes.Service = class_notes.Service
+
+-- an object of a RIB
+abbrev pub object_told : Shown → Option Said
+object_told x = option_map (λ name. said.Object name (class_note x.class) x.value) (object_name_of x.name)

@@ -32,6 +32,8 @@ fn word_is_built(word: &[u8]) -> bool
         || word == b"clock".as_slice()
         || word == b"round".as_slice()
         || word == b"ledger".as_slice()
+        || word == b"rib".as_slice()
+        || word == b"cdap".as_slice()
 }
 
 fn event_is_built(event: &Event) -> bool
@@ -60,6 +62,8 @@ fn event_is_built(event: &Event) -> bool
             | Event::Clock { .. }
             | Event::Round
             | Event::Ledger { .. }
+            | Event::Rib { .. }
+            | Event::Cdap { .. }
     )
 }
 

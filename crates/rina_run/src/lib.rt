@@ -2,6 +2,7 @@
 #![tactic(auto)]
 
 mod built;
+mod cdap_word;
 mod dif_words;
 mod emit;
 mod fac;
@@ -17,6 +18,7 @@ mod opening;
 mod outcome;
 mod play;
 mod read_word;
+mod rib_word;
 mod round_words;
 mod shelf;
 mod site;

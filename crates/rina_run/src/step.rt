@@ -7,6 +7,7 @@ ghost use Rattle.rina_run.specs.Built.{is_built};
 ghost use Rattle.rina_run.specs.Look.{Leads, Extends};
 ghost use Rattle.rina_run.specs.Step.{Acts, HasNames, Steps, Ticking, Ticks, TicksOnce, rounds_after, stage};
 
+use crate::cdap_word::cdap;
 use crate::dif_words::{clock, take_in};
 use crate::flow_words::{accept, allocate, register, send};
 use crate::journal_word::journal;
@@ -15,6 +16,7 @@ use crate::ledger_word::ledger;
 use crate::look::look;
 use crate::note::{tell, tick_of};
 use crate::read_word::read;
+use crate::rib_word::rib;
 use crate::round_words::{go_round, let_out};
 use crate::shelf::retire;
 use crate::wire_words::{cut, hold, lose, mend, repeat};
@@ -201,6 +203,11 @@ fn act<P: Retires>(
             tell(trace, line, tick_of(&world.tower), says)
         }
         Event::Ledger { dif, node } => ledger(alloc, plan, world, line, dif, node, trace),
+        Event::Cdap { dif, node, bytes } => {
+            let says = cdap(alloc, plan, world, dif, node, bytes)?;
+            tell(trace, line, tick_of(&world.tower), says)
+        }
+        Event::Rib { dif, node, path } => rib(alloc, plan, world, line, dif, node, path, trace),
         Event::Round => {
             go_round(alloc, Rounds::Auto, world, shelf)?;
             tell(trace, line, tick_of(&world.tower), Some(Said::Done))

@@ -1,12 +1,16 @@
-//! How a run tells single steps of a DIF of a rank, and the write-offs of its ledgers.
+//! How a run tells single steps of a DIF of a rank, the write-offs of its ledgers, and the objects of its RIBs.
 ghost use Rattle.std.specs.Prelude.{◌≡◌, IfOk};
-ghost use Rattle.rina_run.specs.StepTold.{cause_told, clock_note, clock_told, in_told, off_told, out_told, step_told, took_told};
+ghost use Rattle.rina_run.specs.StepTold.{cause_told, cdap_told, class_note, clock_note, clock_told, fault_told, in_told, object_told, off_told, out_told, step_told, took_told};
 
 use crate::told::{tell_port, tell_send};
 use rina_account::Off;
-use rina_base::{Cause, Memory};
+use rina_base::{Bytes, Cause, Memory};
+use rina_cdap::CdapError;
 use rina_data::{ClockStep, InStep, OutStep, StepError, Took};
-use rina_report::{CauseNote, ClockNote, Refusal, Said, TookNote};
+use rina_dif::{CdapCallError, Shown};
+use rina_report::{CauseNote, ClassNote, ClockNote, Refusal, Said, TookNote};
+use rina_rib::Class;
+use rina_schedule::ObjectName;
 use rina_stack::Plan;
 use std::alloc::Global;
 
@@ -154,6 +158,66 @@ pub fn tell_off(alloc: Global, plan: &Plan, rank: u16, off: &Off) -> Result<Opti
     let key = off.key;
     match tell_cause(alloc, plan, rank, off.cause)? {
         Some(cause) => Ok(Some(Said::Off { key, cause })),
+        None => Ok(None),
+    }
+}
+
+/// The first fault of bytes that are no CDAP message.
+fn tell_fault(error: CdapError) -> Option<Refusal>
+    ensures { result ≡ fault_told error }
+{
+    match error {
+        CdapError::Memory => None,
+        CdapError::Short { at } => Some(Refusal::Short { at: at as u64 }),
+        CdapError::BadTag { at } => Some(Refusal::BadTag { at: at as u64 }),
+        CdapError::BadOp { n } => Some(Refusal::BadOp { op: u32::from(n) }),
+        CdapError::Twice { tag } => Some(Refusal::Twice {
+            tag: u32::from(tag),
+        }),
+        CdapError::Missing { tag } => Some(Refusal::Missing {
+            tag: u32::from(tag),
+        }),
+        CdapError::BadValue { tag } => Some(Refusal::BadValue {
+            tag: u32::from(tag),
+        }),
+    }
+}
+
+/// Why bytes were not answered.
+pub fn tell_cdap(error: CdapCallError) -> Option<Refusal>
+    ensures { result ≡ cdap_told error }
+{
+    match error {
+        CdapCallError::Memory => None,
+        CdapCallError::NoIpc => Some(Refusal::NoIpc),
+        CdapCallError::Cdap(error) => tell_fault(error),
+    }
+}
+
+/// The class of an object.
+fn note_class(class: Class) -> ClassNote
+    ensures { result ≡ class_note class }
+{
+    match class {
+        Class::Folder => ClassNote::Folder,
+        Class::Value => ClassNote::Value,
+        Class::Cube => ClassNote::Cube,
+        Class::Flow => ClassNote::Flow,
+        Class::Service => ClassNote::Service,
+    }
+}
+
+/// An object of a RIB.
+pub fn tell_object(alloc: Global, shown: &Shown) -> Result<Option<Said>, Memory>
+    ensures { IfOk result (λ o. o ≡ object_told shown.now) }
+{
+    let value = Bytes::copy_of(alloc, shown.value.as_slice())?;
+    match ObjectName::read(alloc, shown.name.as_slice())? {
+        Some(name) => Ok(Some(Said::Object {
+            name,
+            class: note_class(shown.class),
+            value,
+        })),
         None => Ok(None),
     }
 }

@@ -1,5 +1,6 @@
 pub mod Alone
 pub mod Answering
+pub mod Asked
 pub mod Calling
 pub mod FitBound
 pub mod FitChains
@@ -15,6 +16,7 @@ pub mod FitRooms
 pub mod FitTakes
 pub mod FitWires
 pub mod Lasting
+pub mod Objects
 pub mod Opened
 pub mod OpenedCounts
 pub mod Listing

@@ -1,4 +1,5 @@
 pub mod Applications
+pub mod Asking
 pub mod Beside
 pub mod Building
 pub mod Calls
@@ -9,6 +10,7 @@ pub mod Lasting
 pub mod Laying
 pub mod Ledgers
 pub mod Making
+pub mod Objects
 pub mod Ranks
 pub mod Refusing
 pub mod Rooms

@@ -3,6 +3,7 @@ ghost use Rattle.std.specs.Prelude.{◌≡◌, ◌≤◌, ℕ, [], ◌∷◌, �
 
 mod calls;
 mod clock;
+mod objects;
 mod places;
 mod steps;
 

@@ -10,7 +10,7 @@ use rina_dif::Dif;
 
 impl Tower {
     /// The DIF of a number at the own rank. None exactly where there is none.
-    fn own_dif(&self, dif: u16) -> Option<&Dif>
+    pub(crate) fn own_dif(&self, dif: u16) -> Option<&Dif>
         ensures { MatchOption result (dif_of self.now dif ≡ None) (λ d. dif_of self.now dif ≡ Some d.now) }
     {
         match self {

@@ -7,6 +7,7 @@ mod difs;
 mod events;
 mod facility;
 mod ledgers;
+mod objects;
 mod places;
 mod round;
 mod steps;

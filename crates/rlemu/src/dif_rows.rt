@@ -436,7 +436,7 @@ flow = [ { cube = 1, from = { node = \"a\", app = \"s\", label = \"p\" }, to = {
 ";
 
 /// Stacks, the lines that are run on each, and what is written.
-pub const DIF_ROWS: [(&str, &str, &str); 28] = [
+pub const DIF_ROWS: [(&str, &str, &str); 34] = [
     (
         ONE_FLOW,
         "send p1 'a\nrepeat w 0 3\ntick 3\nread q1\n",
@@ -576,5 +576,40 @@ pub const DIF_ROWS: [(&str, &str, &str); 28] = [
         FOUR_IN_A_ROW,
         "cut w3\ntick 4\n",
         "1 0 ok\n1 0 state q failed Below w3/d/1\n2 4 ok\nend 4\n",
+    ),
+    // The objects of an IPC process: the numbers of a flow while its state stands.
+    (
+        THREE_FLOWS,
+        "send p3 'a\ntick 2\nrib d a /flow/3\nrib d b /flow/3\n",
+        "1 0 sent 3.0\n2 2 ok\n3 2 obj /flow/3 flow 'tx=1,rx=-\n4 2 obj /flow/3 flow 'tx=-,rx=1\nend 2\n",
+    ),
+    (
+        THREE_FLOWS,
+        "send p3 'a\ntick 145\nrib d b /flow/3\ntick 1\nrib d b /flow/3\nsend p3 'b\ntick 2\nread q3\n",
+        "1 0 sent 3.0\n2 145 ok\n3 145 obj /flow/3 flow 'tx=-,rx=1\n4 146 ok\n5 146 obj /flow/3 flow 'tx=-,rx=-\n6 146 sent 3.1\n7 148 ok\n8 148 got 2 'a\n8 148 got 148 'b\nend 148\n",
+    ),
+    // All objects, and none.
+    (
+        THREE_FLOWS,
+        "rib d b\nrib d b /user/x\nrib d c\nrib e a\n",
+        "1 0 obj / folder x\n1 0 obj /cube folder x\n1 0 obj /cube/1 cube 'datagram\n1 0 obj /cube/2 cube 'loose\n1 0 obj /cube/3 cube 'reliable\n1 0 obj /dir folder x\n1 0 obj /dir/t1 value '2\n1 0 obj /dir/t2 value '2\n1 0 obj /dir/t3 value '2\n1 0 obj /flow folder x\n1 0 obj /flow/1 flow 'tx=-,rx=-\n1 0 obj /flow/2 flow 'tx=-,rx=-\n1 0 obj /flow/3 flow 'tx=-,rx=-\n1 0 obj /link folder x\n1 0 obj /link/1 value '2:1\n1 0 obj /link/2 value '1:1\n1 0 obj /member folder x\n1 0 obj /member/1 value 'a\n1 0 obj /member/2 value 'b\n1 0 obj /user folder x\n2 0 none\n3 0 no Unknown 2\n4 0 no Unknown 1\nend 0\n",
+    ),
+    // A flow that is freed has no object any more, at its own end alone; the own link state changes with a lost link.
+    (
+        THREE_FLOWS,
+        "free p1\nrib d a /flow/1\nrib d b /flow/1\ncut w\nrib d a /link\n",
+        "1 0 ok\n1 0 state p1 closed\n2 0 none\n3 0 obj /flow/1 flow 'tx=-,rx=-\n4 0 ok\n5 0 obj /link folder x\n5 0 obj /link/1 value x\n5 0 obj /link/2 value '1:1\nend 0\n",
+    ),
+    // CDAP messages: what is read, made, and refused; bytes that are no message.
+    (
+        THREE_FLOWS,
+        "cdap d a x01000108020004000000010400052f75736572\ncdap d a x0100\ncdap d a x01000108\ncdap e a x\ncdap d c x\n",
+        "1 0 cdap x0100010902000400000001030006666f6c6465720400052f75736572050008000000000000000606000007000100\n2 0 no Short 0\n3 0 no Missing 2\n4 0 no Unknown 1\n5 0 no Unknown 2\nend 0\n",
+    ),
+    // An object is made under `/user` of one member alone, and where none is; its number follows those of the start.
+    (
+        THREE_FLOWS,
+        "cdap d a x010001040200040000000203000576616c75650400072f757365722f78060001ff\ncdap d a x010001040200040000000203000576616c75650400072f757365722f78060001ee\ncdap d a x010001040200040000000303000576616c75650400022f78\nrib d a /user\nrib d b /user\ncdap d a x010001040200040000000403000576616c75650400072f757365722f79\n",
+        "1 0 cdap x010001050200040000000203000576616c75650400072f757365722f780500080000000000000014060001ff07000100\n2 0 cdap x01000105020004000000020400072f757365722f7807000102\n3 0 cdap x01000105020004000000030400022f7807000106\n4 0 obj /user folder x\n4 0 obj /user/x value xff\n5 0 obj /user folder x\n6 0 cdap x010001050200040000000403000576616c75650400072f757365722f79050008000000000000001506000007000100\nend 0\n",
     ),
 ];

@@ -1,4 +1,4 @@
-use Rattle.rina_run.specs.Step.{Registering, Allocating, Accepting, Sending, Losing, Repeating, Holding, Cutting, Mending, Unregistering, Freeing, Stating, TakingIn, Clocking, LettingOut, stage}
+use Rattle.rina_run.specs.Step.{Asking, Registering, Allocating, Accepting, Sending, Losing, Repeating, Holding, Cutting, Mending, Unregistering, Freeing, Stating, TakingIn, Clocking, LettingOut, stage}
 use Rattle.rina_run.specs.Sites.{dif_site_at}
 use Rattle.rina_run.proofs.Leading.{said_beside, told_beside}
 use Rattle.rina_run.proofs.step.act.Goals as goal
@@ -44,6 +44,9 @@ returns-in_ok-says-in-In-clause-does g c = rw c.in-In.is (told_beside (TakingIn 
 
 pub returns-in_ok-says-in-Clock-clause-does : goal.returns-in_ok-says-in-Clock-clause-does
 returns-in_ok-says-in-Clock-clause-does g c = rw c.in-Clock.is (told_beside (Clocking c.args.plan.now c.in-Clock.dif c.in-Clock.node c.args.world.now) _ _ _ _ _ _ _ _ c.in_ok-says-in-Clock.ensures.does c.tick_of-in-Clock.ensures c.tell-in-Clock.ensures.ok)
+
+pub returns-in_ok-says-in-Cdap-clause-does : goal.returns-in_ok-says-in-Cdap-clause-does
+returns-in_ok-says-in-Cdap-clause-does g c = rw c.in-Cdap.is (told_beside (Asking c.args.plan.now c.in-Cdap.dif c.in-Cdap.node c.in-Cdap.bytes c.args.world.now) _ _ _ _ _ _ _ _ c.in_ok-says-in-Cdap.ensures.does c.tick_of-in-Cdap.ensures c.tell-in-Cdap.ensures.ok)
 
 pub returns-in_ok-says-in-Out-clause-does : goal.returns-in_ok-says-in-Out-clause-does
 returns-in_ok-says-in-Out-clause-does g c = rw c.in-Out.is (said_beside (LettingOut c.args.plan.now (dif_site_at c.args.plan.now c.in-Out.dif c.in-Out.node) c.in-Out.link (stage c.args.world.now (g.P.Picks.slots c.args.shelf.now))) _ _ (stage c.let_out.new.world (g.P.Picks.slots c.let_out.new.shelf)) _ _ _ _ c.in_ok-says-in-Out.ensures.does c.tick_of-in-Out.ensures c.tell-in-Out.ensures.ok)

@@ -1,0 +1,219 @@
+//! The objects of the IPC processes of a DIF.
+ghost use Rattle.std.specs.Prelude.{◌≡◌, ◌<◌, Err, length, map, IfOk, OnOk, option_map};
+ghost use Rattle.std.specs.Borrow.{Bor};
+ghost use Rattle.std.specs.List.{fold};
+ghost use Rattle.rina_cdap.specs.ObjectNames.{IsObjectName};
+ghost use Rattle.rina_rib.specs.declared.error.RibError.TheVariants as errors;
+ghost use Rattle.rina_rib.specs.Rows.{Tree};
+ghost use Rattle.rina_rib.specs.Walks.{named_of, within};
+ghost use Rattle.rina_dif.specs.Objects.{IsRibAt, ShowsUnder, begun_with, ended, lasting_objects, rib_of, shown_of, told, told_all, told_flow, told_open};
+ghost use Rattle.rina_dif.specs.Whole.{IsDif};
+
+use crate::dif::Dif;
+use crate::flow_state::{FlowState, flows_at};
+use crate::objects::{add_cubes, add_directory, add_members, add_states, flow_object};
+use crate::shown::{Objects, Shown};
+use rina_base::{Bytes, Memory, Node, Seq};
+use rina_cdap::is_object_name;
+use rina_data::{Link, Member, StepError};
+use rina_rib::{Caller, Object, Rib, RibError};
+use std::alloc::{AllocError, Global};
+
+/// Whether memory was found: any other refusal changed nothing.
+fn unless_memory<T: Drop>(done: Result<T, RibError>) -> Result<(), Memory>
+    ensures { OnOk result (done ≡ Err errors.Memory → ⊥) }
+{
+    match done {
+        Ok(_) => Ok(()),
+        Err(RibError::Memory) => Err(Memory),
+        Err(_) => Ok(()),
+    }
+}
+
+/// Tells an object: it is made, or has another value from now on.
+fn tell(alloc: Global, rib: &mut Rib, shown: &Shown) -> Result<(), Memory>
+    ensures { OnOk result (rib.new ≡ told rib.old shown.now) }
+{
+    let name = shown.name.as_slice();
+    let value = shown.value.as_slice();
+    if !is_object_name(name) {
+        return Ok(());
+    }
+    if rib.read(name).is_ok() {
+        return unless_memory(rib.write(alloc, Caller::Own, name, shown.class, value));
+    }
+    unless_memory(rib.create(alloc, Caller::Own, name, shown.class, value))
+}
+
+/// Tells objects, one after the other.
+fn tell_all(alloc: Global, rib: &mut Rib, objects: &[Shown]) -> Result<(), Memory>
+    ensures { OnOk result (rib.new ≡ told_all rib.old objects.now) }
+{
+    for shown in objects {
+        tell(alloc, rib, shown)?;
+    }
+    Ok(())
+}
+
+/// Tells flows, one after the other.
+fn tell_flows(alloc: Global, rib: &mut Rib, flows: &[FlowState]) -> Result<(), Memory>
+    ensures { OnOk result (rib.new ≡ fold told_flow rib.old flows.now) }
+{
+    for flow in flows {
+        tell(alloc, rib, &flow_object(alloc, flow)?)?;
+    }
+    Ok(())
+}
+
+/// Tells a flow while it is allocated.
+fn tell_if_open(alloc: Global, rib: &mut Rib, flow: &FlowState) -> Result<(), Memory>
+    ensures { OnOk result (rib.new ≡ told_open rib.old flow.now) }
+{
+    if !flow.open {
+        return Ok(());
+    }
+    tell(alloc, rib, &flow_object(alloc, flow)?)
+}
+
+/// Tells the flows that are allocated.
+fn tell_open(alloc: Global, rib: &mut Rib, flows: &[FlowState]) -> Result<(), Memory>
+    ensures { OnOk result (rib.new ≡ fold told_open rib.old flows.now) }
+{
+    for flow in flows {
+        tell_if_open(alloc, rib, flow)?;
+    }
+    Ok(())
+}
+
+/// Deletes the object of a flow that is allocated no more.
+fn end(alloc: Global, rib: &mut Rib, flow: &FlowState) -> Result<(), Memory>
+    ensures { OnOk result (rib.new ≡ ended rib.old flow.now) }
+{
+    if flow.open {
+        return Ok(());
+    }
+    let shown = flow_object(alloc, flow)?;
+    let name = shown.name.as_slice();
+    if !is_object_name(name) {
+        return Ok(());
+    }
+    unless_memory(rib.delete(Caller::Own, name))
+}
+
+/// Deletes the objects of the flows that are allocated no more.
+fn end_flows(alloc: Global, rib: &mut Rib, flows: &[FlowState]) -> Result<(), Memory>
+    ensures { OnOk result (rib.new ≡ fold ended rib.old flows.now) }
+{
+    for flow in flows {
+        end(alloc, rib, flow)?;
+    }
+    Ok(())
+}
+
+/// What a RIB begins with: what the last request left, or else all that its member told from the start.
+fn begin(
+    alloc: Global,
+    kept: Option<&Rib>,
+    objects: &[Shown],
+    flows: &[FlowState],
+) -> Result<Rib, Memory>
+    ensures { IfOk result (λ t. t ≡ begun_with (option_map (λ (r : Bor Tree). r.now) kept.entry) objects.now flows.now) }
+{
+    if let Some(rib) = kept {
+        return rib.copy();
+    }
+    let mut rib = Rib::new(alloc)?;
+    tell_all(alloc, &mut rib, objects)?;
+    tell_flows(alloc, &mut rib, flows)?;
+    Ok(rib)
+}
+
+/// The RIB now, of what the last request left.
+fn rib_of(
+    alloc: Global,
+    kept: Option<&Rib>,
+    objects: &[Shown],
+    flows: &[FlowState],
+) -> Result<Rib, Memory>
+    ensures { IfOk result (λ t. t ≡ rib_of (option_map (λ (r : Bor Tree). r.now) kept.entry) objects.now flows.now) }
+{
+    let mut rib = begin(alloc, kept, objects, flows)?;
+    tell_all(alloc, &mut rib, objects)?;
+    tell_open(alloc, &mut rib, flows)?;
+    end_flows(alloc, &mut rib, flows)?;
+    Ok(rib)
+}
+
+/// An object as it is shown.
+fn show(alloc: Global, name: &[u8], object: Object<'_>) -> Result<Shown, AllocError>
+    ensures { IfOk result (λ s. s ≡ shown_of (named_of (name.entry, object.entry))) }
+{
+    Ok(Shown {
+        name: Bytes::copy_of(alloc, name)?,
+        class: object.class,
+        value: Bytes::copy_of(alloc, object.value)?,
+    })
+}
+
+/// The object of a name, and all under it, in the byte order of names.
+fn show_under(alloc: Global, rib: &Rib, under: &[u8]) -> Result<Objects, Memory>
+    requires { IsObjectName under.now }
+    ensures { IfOk result (λ objects. objects ≡ map shown_of (within under.now rib.now.objects)) }
+{
+    let mut objects = Seq::new(alloc);
+    for (name, object) in rib.walk(under) {
+        objects.push(show(alloc, name, object)?)?;
+    }
+    Ok(objects)
+}
+
+impl Dif {
+    /// What a member tells but its flows: cubes, link states, members and the directory.
+    fn lasting_objects(
+        &self,
+        alloc: Global,
+        own: &Member,
+        links: &[Link],
+    ) -> Result<Objects, Memory>
+        ensures { IfOk result (λ objects. objects ≡ lasting_objects self.now own.now links.now) }
+    {
+        let mut objects = Seq::new(alloc);
+        let members = self.settings.members.as_slice();
+        let plans = self.laid.links.as_slice();
+        add_cubes(alloc, self.settings.cubes.as_slice(), &mut objects)?;
+        add_states(alloc, members, plans, own, links, &mut objects)?;
+        add_members(alloc, members, &mut objects)?;
+        add_directory(alloc, members, self.names.as_slice(), &mut objects)?;
+        Ok(objects)
+    }
+
+    /// The RIB of the IPC process at a place.
+    pub(crate) fn rib_at(&self, alloc: Global, at: usize) -> Result<Rib, Memory>
+        requires valid { IsDif self.now }
+        requires at { at < length self.now.settings.members }
+        ensures { IfOk result (IsRibAt self.now at) }
+    {
+        let (Some(member), Some(process)) = (self.settings.members.get(at), self.processes.get(at))
+        else {
+            unreachable!()
+        };
+        let objects = self.lasting_objects(alloc, member, process.links.as_slice())?;
+        let states = self.flow_states(alloc)?;
+        let flows = flows_at(alloc, member.node, &states)?;
+        rib_of(alloc, self.laid.ribs.get(&at), objects.as_slice(), &flows)
+    }
+
+    /// The object of a name at the member of a node, and all under it, in the byte order of names. `NoIpc` where the
+    /// DIF has no member there.
+    pub fn rib(&self, alloc: Global, node: Node, under: &[u8]) -> Result<Objects, StepError>
+        requires valid { IsDif self.now }
+        requires under { IsObjectName under.now }
+        ensures { ShowsUnder self.now node under.now result }
+    {
+        let Some(at) = self.home(node) else {
+            return Err(StepError::NoIpc);
+        };
+        let rib = self.rib_at(alloc, at)?;
+        Ok(show_under(alloc, &rib, under)?)
+    }
+}

@@ -1,0 +1,15 @@
+use Rattle.rina_tower.proofs.Objects.{shows_there}
+use Rattle.rina_tower.proofs.Owned.{dif_there, member_there, own_valid, rank_valid}
+use Rattle.rina_tower.proofs.tower.Tower.rib.Goals as goal
+
+pub rib-requires-clause-valid : goal.rib-requires-clause-valid
+rib-requires-clause-valid c =
+    let t = c.in-Some.rank.now in
+    own_valid t c.args.dif c.in-Some-2.dif.now (rank_valid c.args.self.now c.args.r t c.requires.tower c.in-Some.ensures) c.in-Some-2.ensures
+
+pub returns : goal.returns
+returns c =
+    let d = c.in-Some-2.dif.now in
+    let there = dif_there c.args.self.now c.args.r c.args.dif c.in-Some.rank.now d c.in-Some.ensures c.in-Some-2.ensures in
+    let member = member_there c.args.self.now c.args.r c.args.dif c.args.node d there in
+    shows_there c.args.self.now c.args.r c.args.dif c.args.node c.args.under.now d c.rib.result there member c.rib.ensures
