@@ -3,8 +3,6 @@
 #![tactic(auto)]
 
 #[cfg(test)]
-mod dif_rows;
-#[cfg(test)]
 mod drawn;
 #[cfg(test)]
 mod own_policy;

@@ -1,5 +1,4 @@
 //! Worked rows: inputs, each with the whole output that it has, and ends that fail.
-use crate::dif_rows::DIF_ROWS;
 use rina_base::Name;
 use rina_io::{MemSink, MemSource};
 use rina_policy::{First, Last, Round, Shelf, Strict, Weighted};
@@ -170,16 +169,6 @@ fn each_row_has_its_output(rt: HostRuntime) -> Result<(), Fail> {
     for (input, notes) in ROWS {
         let (_, sink) = outcome_of(rt.alloc(), &["run"], input, &[], &[])?;
         assert_eq!(rt; sink.bytes(), notes.as_bytes(), "at {input}");
-    }
-    Ok(())
-}
-
-#[test]
-fn each_row_of_difs_has_its_output(rt: HostRuntime) -> Result<(), Fail> {
-    for (stack, lines, notes) in DIF_ROWS {
-        let input = format!(in rt.alloc(); "{stack}%%\n{lines}")?;
-        let (_, sink) = outcome_of(rt.alloc(), &["run"], input.as_str(), &[], &[])?;
-        assert_eq!(rt; sink.bytes(), notes.as_bytes(), "at {lines}");
     }
     Ok(())
 }

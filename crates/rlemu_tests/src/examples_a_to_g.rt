@@ -161,6 +161,75 @@ read q1
 4 3 got 2 'a
 end 3
 ====
+# A ring, by hand. The wire to b is cut while an SDU waits for it: that SDU is written off, with its cause, and the next one goes by c.
+nodes = [\"a\", \"b\", \"c\", \"d\"]
+rounds = \"manual\"
+[[wire]]
+name = \"ab\"
+ends = [\"a\", \"b\"]
+delay = 2
+life = 10
+largest = 1500
+[[wire]]
+name = \"bd\"
+ends = [\"b\", \"d\"]
+delay = 2
+life = 10
+largest = 1500
+[[wire]]
+name = \"ac\"
+ends = [\"a\", \"c\"]
+delay = 2
+life = 10
+largest = 1500
+[[wire]]
+name = \"cd\"
+ends = [\"c\", \"d\"]
+delay = 2
+life = 10
+largest = 1500
+[[dif]]
+name = \"net\"
+rank = 1
+static = true
+pdu = 96
+widths = { addr = 1, cep = 1, len = 2, seq = 2 }
+queue = 64
+policy = \"strict\"
+wait = 500
+manage = { mpl = 40, r = 30, a = 2, retry = 10, window = 8 }
+cube = [ { id = 1, kind = \"datagram\", mpl = 40, window = 16, largest = 80 } ]
+member = [ { node = \"a\", addr = 1 }, { node = \"b\", addr = 2 }, { node = \"c\", addr = 3 }, { node = \"d\", addr = 4 } ]
+link = [ { on = \"ab\", a = \"a\", b = \"b\" }, { on = \"bd\", a = \"b\", b = \"d\" }, { on = \"ac\", a = \"a\", b = \"c\" }, { on = \"cd\", a = \"c\", b = \"d\" } ]
+flow = [ { cube = 1, from = { node = \"a\", app = \"s\", label = \"p\" }, to = { node = \"d\", app = \"t\", label = \"q\" } } ]
+%%
+send p 'one
+cut ab
+clock net a
+ledger net a
+send p 'two
+out net a 1
+tick 2
+in net c 0
+out net c 1
+tick 2
+in net d 1
+read q
+----
+1 0 sent 1.0
+2 0 ok
+3 0 clock link-lost 0
+4 0 off data 1.1.0 LinkDown ab/a/1
+5 0 sent 1.1
+6 0 out data 1.1.1
+7 2 ok
+8 2 in data 1.1.1 relayed
+9 2 out data 1.1.1
+10 4 ok
+11 4 in data 1.1.1 accepted
+12 4 got 4 'two
+end 4
+====
 # One tick more: the SDU waited 21 ticks at b, its lifetime in d2 was 20, and it is written off with both numbers.
 nodes = [\"a\", \"b\"]
 rounds = \"manual\"

@@ -86,6 +86,55 @@ journal w
 7 2 g 2 0.0 'hello
 end 2
 ====
+# The one link of d is cut: its flow fails, and says for which flow below. What a still sends finds no way on at c, and is written off there.
+nodes = [\"a\", \"b\", \"c\", \"d\"]
+[[wire]]
+name = \"w1\"
+ends = [\"a\", \"b\"]
+delay = 2
+life = 10
+largest = 1500
+[[wire]]
+name = \"w2\"
+ends = [\"b\", \"c\"]
+delay = 2
+life = 10
+largest = 1500
+[[wire]]
+name = \"w3\"
+ends = [\"c\", \"d\"]
+delay = 2
+life = 10
+largest = 1500
+[[dif]]
+name = \"d\"
+rank = 1
+static = true
+pdu = 96
+widths = { addr = 1, cep = 1, len = 2, seq = 2 }
+queue = 64
+policy = \"strict\"
+wait = 500
+manage = { mpl = 40, r = 30, a = 2, retry = 10, window = 8 }
+cube = [ { id = 1, kind = \"datagram\", mpl = 25, window = 16, largest = 80 } ]
+member = [ { node = \"a\", addr = 1 }, { node = \"b\", addr = 2 }, { node = \"c\", addr = 3 }, { node = \"d\", addr = 4 } ]
+link = [ { on = \"w1\", a = \"a\", b = \"b\" }, { on = \"w2\", a = \"b\", b = \"c\" }, { on = \"w3\", a = \"c\", b = \"d\" } ]
+flow = [ { cube = 1, from = { node = \"a\", app = \"s\", label = \"p\" }, to = { node = \"d\", app = \"t\", label = \"q\" } } ]
+%%
+cut w3
+tick 4
+send p 'x
+tick 4
+ledger d c
+----
+1 0 ok
+1 0 state q failed Below w3/d/1
+2 4 ok
+3 4 sent 1.0
+4 8 ok
+5 8 off data 1.1.0 NoRoute 4
+end 8
+====
 # Three wires, and a lifetime that is too short for them: at the third hop 5 ticks are left, and 10 are charged.
 nodes = [\"a\", \"b\", \"c\", \"d\"]
 [[wire]]
@@ -150,6 +199,58 @@ largest = 1500
 tick 1
 ----
 fault StackRule 8 2
+====
+# What an IPC process tells of itself: its flows with the numbers of both halves of each connection, and its neighbours.
+nodes = [\"a\", \"b\"]
+[[wire]]
+name = \"w\"
+ends = [\"a\", \"b\"]
+delay = 2
+life = 10
+largest = 1500
+[[dif]]
+name = \"d\"
+rank = 1
+static = true
+pdu = 96
+widths = { addr = 1, cep = 1, len = 2, seq = 2 }
+queue = 64
+policy = \"strict\"
+wait = 500
+manage = { mpl = 40, r = 30, a = 2, retry = 10, window = 8 }
+cube = [
+  { id = 1, kind = \"datagram\", mpl = 40, window = 16, largest = 80 },
+  { id = 2, kind = \"loose\", mpl = 40, window = 16, largest = 240 },
+  { id = 3, kind = \"reliable\", mpl = 40, r = 30, a = 2, retry = 10, window = 4, largest = 240 },
+]
+member = [ { node = \"a\", addr = 1 }, { node = \"b\", addr = 2 } ]
+link = [ { on = \"w\", a = \"a\", b = \"b\" } ]
+flow = [
+  { cube = 1, from = { node = \"a\", app = \"s1\", label = \"p1\" }, to = { node = \"b\", app = \"t1\", label = \"q1\" } },
+  { cube = 2, from = { node = \"a\", app = \"s2\", label = \"p2\" }, to = { node = \"b\", app = \"t2\", label = \"q2\" } },
+  { cube = 3, from = { node = \"a\", app = \"s3\", label = \"p3\" }, to = { node = \"b\", app = \"t3\", label = \"q3\" } },
+]
+%%
+send p3 'a
+tick 2
+rib d a /flow
+rib d b /flow
+rib d b /link
+----
+1 0 sent 3.0
+2 2 ok
+3 2 obj /flow folder x
+3 2 obj /flow/1 flow 'tx=-,rx=-
+3 2 obj /flow/2 flow 'tx=-,rx=-
+3 2 obj /flow/3 flow 'tx=1,rx=-
+4 2 obj /flow folder x
+4 2 obj /flow/1 flow 'tx=-,rx=-
+4 2 obj /flow/2 flow 'tx=-,rx=-
+4 2 obj /flow/3 flow 'tx=-,rx=1
+5 2 obj /link folder x
+5 2 obj /link/1 value '2:1
+5 2 obj /link/2 value '1:1
+end 2
 ====
 # Two of three SDUs are late. The cube is loose, in order with gaps: what comes behind a later SDU is written off,
 # and the ledger of b says so.

@@ -10,6 +10,8 @@ mod examples_q_to_z;
 #[cfg(test)]
 mod flat_rows;
 #[cfg(test)]
+mod kinds_rows;
+#[cfg(test)]
 mod running;
 #[cfg(test)]
 mod spent_rows;

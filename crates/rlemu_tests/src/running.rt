@@ -3,6 +3,7 @@ use crate::examples_a_to_g::EXAMPLES_A_TO_G;
 use crate::examples_h_to_p::EXAMPLES_H_TO_P;
 use crate::examples_q_to_z::EXAMPLES_Q_TO_Z;
 use crate::flat_rows::FLAT_ROWS;
+use crate::kinds_rows::KINDS_ROWS;
 use crate::spent_rows::SPENT_ROWS;
 use crate::tall_rows::TALL_ROWS;
 use rina_base::Name;
@@ -86,6 +87,7 @@ fn each_example_writes_its_output(rt: HostRuntime) -> Result<(), Fail> {
 fn each_row_writes_its_output(rt: HostRuntime) -> Result<(), Fail> {
     let alloc = rt.alloc();
     assert_eq!(rt; other_of_all(alloc, FLAT_ROWS)?, None);
+    assert_eq!(rt; other_of_all(alloc, KINDS_ROWS)?, None);
     assert_eq!(rt; other_of_all(alloc, SPENT_ROWS)?, None);
     assert_eq!(rt; other_of_all(alloc, TALL_ROWS)?, None);
     Ok(())

@@ -240,6 +240,7 @@ cut ab
 send p 'two
 tick 4
 read q
+cut ac
 ----
 1 0 sent 1.0
 2 4 ok
@@ -248,5 +249,7 @@ read q
 5 4 sent 1.1
 6 8 ok
 7 8 got 8 'two
+8 8 ok
+8 8 state p failed Below d3/a/1
 end 8
 ";
