@@ -2,7 +2,6 @@
 use Rattle.std.proofs.Common.{◌≡◌, ◌∙◌, ℕ, zero, suc, ◌+◌, ◌<◌, add-one, arith, take, get_or, Bool, true, false, cond, List, [], ◌∷◌, ◌++◌, length, slice_get, Option, Some, None, is_some, Result, Ok, Err, refl, sym, ap, subst, inl, inr}
 use Rattle.std.specs.Prelude.{IfOk, MatchResult, OnOk, is_ok}
 use Rattle.std.specs.List.{flat_map, zip}
-use Rattle.std.proofs.Math.Seq.{take-length}
 use Rattle.std.proofs.lemmas.Grind.{common_steps}
 use Rattle.std.proofs.lemmas.List.{flat_map_more}
 use Rattle.std.proofs.lemmas.Option.{same_Some, slice_get-get_or}
@@ -69,13 +68,6 @@ zip_more (a ∷ xs) [] at x y is_x is_y = grind (arith, common_steps)
 zip_more (a ∷ xs) (b ∷ ys) zero x y is_x is_y = let first : a ≡ x = same_Some a x is_x in let second : b ≡ y = same_Some b y is_y in cc
 zip_more {A = A} {B = B} (a ∷ xs) (b ∷ ys) (suc at) x y is_x is_y = ap (λ (zs : List (A × B)). (a, b) ∷ zs) (zip_more xs ys at x y is_x is_y)
 
--- the longer one counts as far as the other goes
-zip_taken : {A B : Type 0} (xs : List A) (ys : List B) → zip (take (length ys) xs) ys ≡ zip xs ys
-zip_taken [] [] = refl
-zip_taken [] (b ∷ ys) = refl
-zip_taken (a ∷ xs) [] = refl
-zip_taken {A = A} {B = B} (a ∷ xs) (b ∷ ys) = ap (λ (zs : List (A × B)). (a, b) ∷ zs) (zip_taken xs ys)
-
 -- what was added for the first places
 abbrev pub IsAddedFor : {A B X : Type 0} → (A × B → List X) → List A → List B → List X → List X → ℕ → Type 0
 IsAddedFor f xs ys old new at = new ≡ old ++ flat_map f (zip (take at xs) (take at ys))
@@ -85,11 +77,6 @@ pub added_more : {A B X : Type 0} (f told : A × B → List X) (xs : List A) (ys
 added_more {A = A} {B = B} {X = X} f told xs ys old mid new at x d same is_x below so more =
     let y = get_or ys at d in
     more ∙ ap (λ (g : A × B → List X). mid ++ g (x, y)) same ∙ ap (λ (zs : List X). zs ++ f (x, y)) so ∙ flat_map_more f old (zip (take at xs) (take at ys)) (x, y) ∙ ap (λ (zs : List (A × B)). old ++ flat_map f zs) (sym (zip_more xs ys at x y is_x (slice_get-get_or ys at d below))) ∙ ap (λ (n : ℕ). old ++ flat_map f (zip (take n xs) (take n ys))) (sym (add-one at))
-
--- and for all
-pub added_all : {A B X : Type 0} (f : A × B → List X) (xs : List A) (ys : List B) (old new : List X) (at : ℕ) → at ≡ length ys → IsAddedFor f xs ys old new at → new ≡ old ++ flat_map f (zip xs ys)
-added_all {A = A} {B = B} {X = X} f xs ys old new at last so =
-    so ∙ ap (λ (n : ℕ). old ++ flat_map f (zip (take n xs) (take n ys))) last ∙ ap (λ (zs : List B). old ++ flat_map f (zip (take (length ys) xs) zs)) (take-length ys) ∙ ap (λ (zs : List (A × B)). old ++ flat_map f zs) (zip_taken xs ys)
 
 -- The RIB of a place
 
