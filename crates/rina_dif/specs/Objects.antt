@@ -1,7 +1,7 @@
 -- The objects of an IPC process: what its RIB tells of its DIF, and what CDAP requests made.
 use Rattle.std.specs.Prelude.{◌≡◌, ℕ, ◌+◌, ◌==◌, ◌||◌, ◌&&◌, Bool, true, false, not, nat_lt, max, List, [], ◌∷◌, ◌++◌, codes, drop, filter, length, map, slice_get, Option, Some, None, is_some, unwrap_or, Result, Ok, Err, if◌then◌else◌}
 use Rattle.std.specs.Str.{bytes_eq}
-use Rattle.std.specs.List.{fold, insert, position}
+use Rattle.std.specs.List.{flat_map, fold, insert, position, zip}
 use Rattle.std.specs.Fmt.{decimal}
 use Rattle.std.specs.Map.{lookup}
 use Rattle.std.specs.Ordering.{nat_cmp}
@@ -25,6 +25,7 @@ use Rattle.rina_data.specs.declared.settings.Member.{Member}
 use Rattle.rina_data.specs.declared.step.StepError.{StepError}
 use Rattle.rina_data.specs.declared.step.StepError.TheVariants.{Memory, NoIpc}
 use Rattle.rina_data.specs.Configs.{config_of}
+use Rattle.rina_data.specs.Numbered.{is_asker}
 use Rattle.rina_data.specs.Sending.{home}
 use Rattle.rina_rib.specs.declared.caller.Caller.TheVariants.{Own}
 use Rattle.rina_rib.specs.declared.class.Class.{Class}
@@ -103,8 +104,12 @@ abbrev pub address_of : List Member → List Registered → List ℕ → ℕ
 address_of members names app = fold (or_greater members app) 0 names
 
 -- an application of the directory: the address where it is registered
-unfoldable pub dir_object : List Member → List Registered → Registered → Shown
-dir_object members names r = shown (codes "/dir/" ++ map key_byte r.app) classes.Value (decimal (address_of members names r.app))
+unfoldable pub dir_object : List Member → List Registered → List ℕ → Shown
+dir_object members names app = shown (codes "/dir/" ++ map key_byte app) classes.Value (decimal (address_of members names app))
+
+-- a registration in the directory
+abbrev pub named_object : List Member → List Registered → Registered → Shown
+named_object members names r = dir_object members names r.app
 
 -- a number, or a dash where there is no state
 abbrev pub number_text : Option ℕ → List ℕ
@@ -144,13 +149,36 @@ links_named members plans own links m = if m.addr == own.addr then map (edge_to 
 abbrev pub state_object : List Member → List LinkPlan → Member → List Link → Member → Shown
 state_object members plans own links m = link_object m.addr (links_named members plans own links m)
 
--- all that a member tells but its flows: cubes, link states, members, and the directory
-abbrev pub lasting_objects : Dif → Member → List Link → List Shown
-lasting_objects d own links =
+-- what a member tells of the DIF as it was laid: cubes, members, and the link states of all
+abbrev pub laid_objects : Dif → Member → List Link → List Shown
+laid_objects d own links =
     map cube_object d.settings.cubes
-    ++ map (state_object d.settings.members d.laid.links own links) d.settings.members
     ++ map member_object d.settings.members
-    ++ map (dir_object d.settings.members d.names) d.names
+    ++ map (state_object d.settings.members d.laid.links own links) d.settings.members
+
+-- all that a member tells but its flows: that, and the directory
+abbrev pub lasting_objects : Dif → Member → List Link → List Shown
+lasting_objects d own links = laid_objects d own links ++ map (named_object d.settings.members d.names) d.names
+
+-- what the asker's end of a flow tells every member: the application of the far end
+abbrev pub far_objects : List Member → List Registered → End → List Shown
+far_objects members names e = if is_asker e.role then dir_object members names e.peer ∷ [] else []
+
+-- what an end of a flow tells the member at its node: the flow
+abbrev pub own_objects : ℕ → FlowState → List Shown
+own_objects node f = if f.node == node then flow_object f ∷ [] else []
+
+-- what the member at a node tells of an end when its flow is bound: the application of the far end comes before the flow
+abbrev pub end_objects : List Member → List Registered → ℕ → End × FlowState → List Shown
+end_objects members names node x = far_objects members names x.0 ++ own_objects node x.1
+
+-- what it tells of all flows, in the order of binding
+abbrev pub bound_objects : Dif → ℕ → List FlowState → List Shown
+bound_objects d node flows = flat_map (end_objects d.settings.members d.names node) (zip d.flows.journal.ends flows)
+
+-- all that a member told when the DIF was made, in this order
+abbrev pub first_objects : Dif → Member → List Link → List FlowState → List Shown
+first_objects d own links flows = laid_objects d own links ++ bound_objects d own.node flows
 
 -- the ends of flows at a node
 abbrev pub flows_at : ℕ → List FlowState → List FlowState
@@ -178,23 +206,19 @@ told_all t objects = fold told t objects
 abbrev pub ended : Tree → FlowState → Tree
 ended t f = if f.open then t else (if is_object_name_of (flow_object f).name then or_same t (deleted t Own (flow_object f).name) else t)
 
--- a flow is told
-abbrev pub told_flow : Tree → FlowState → Tree
-told_flow t f = told t (flow_object f)
-
 -- a flow is told while it is allocated
 abbrev pub told_open : Tree → FlowState → Tree
-told_open t f = if f.open then told_flow t f else t
+told_open t f = if f.open then told t (flow_object f) else t
 
--- what a RIB begins with: the first request finds what the member told when the DIF was made, its flows in the order of binding; a later
--- one finds what the one before left
-abbrev pub begun_with : Option Tree → List Shown → List FlowState → Tree
-begun_with (Some t) objects flows = t
-begun_with None objects flows = fold told_flow (told_all first_tree objects) flows
+-- what a RIB begins with: the first request finds what the member told when the DIF was made; a later one finds what the one
+-- before left
+abbrev pub begun_with : Option Tree → List Shown → Tree
+begun_with (Some t) first = t
+begun_with None first = told_all first_tree first
 
 -- the RIB now: each object has the value of now, and flows that are allocated no more have none
-abbrev pub rib_of : Option Tree → List Shown → List FlowState → Tree
-rib_of kept objects flows = fold ended (fold told_open (told_all (begun_with kept objects flows) objects) flows) flows
+abbrev pub rib_of : Option Tree → List Shown → List Shown → List FlowState → Tree
+rib_of kept first lasting flows = fold ended (fold told_open (told_all (begun_with kept first) lasting) flows) flows
 
 -- what the last request to the IPC process at a place left
 abbrev pub kept_at : Dif → ℕ → Option Tree
@@ -208,7 +232,7 @@ pub record IsRibAt (d : Dif) (at : ℕ) (t : Tree) : Type 0 where
   pub is_process : slice_get d.processes at ≡ Some process
   pub flows : List FlowState
   pub are_flows : AreFlows d flows
-  pub is : t ≡ rib_of (kept_at d at) (lasting_objects d member process.links) (flows_at member.node flows)
+  pub is : t ≡ rib_of (kept_at d at) (first_objects d member process.links flows) (lasting_objects d member process.links) (flows_at member.node flows)
 
 -- the RIB of the member at a node
 pub record IsRib (d : Dif) (node : ℕ) (t : Tree) : Type 0 where

@@ -45,7 +45,7 @@ fn drawn(ends: &[End], node: Node) -> usize
 }
 
 /// Whether an end is one of the asker.
-fn is_asker(end: &End) -> bool
+pub(crate) fn is_asker(end: &End) -> bool
     ensures { result ≡ is_asker end.now.role }
 {
     matches!(end.role, Role::Asker)

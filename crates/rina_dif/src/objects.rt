@@ -1,19 +1,20 @@
 //! The objects that a member tells.
 ghost use Rattle.std.specs.Prelude.{◌≡◌, ◌<◌, ◌++◌, length, map, codes, IfOk, IfSome, OnOk};
-ghost use Rattle.rina_dif.specs.Objects.{address_of, behind, cube_object, dir_object, first_slash, flow_object, key_byte, kind_text, link_object, links_named, member_object, or_greater, state_object};
+ghost use Rattle.rina_dif.specs.Objects.{address_of, behind, cube_object, dir_object, end_objects, far_objects, first_slash, flow_object, key_byte, kind_text, link_object, links_named, member_object, named_object, or_greater, own_objects, state_object};
 ghost use Rattle.rina_dif.specs.Routing.{edge_to, live_links, live_of};
 
+use crate::binding::is_asker;
 use crate::flow_state::FlowState;
 use crate::neighbours::neighbours_text;
 use crate::rerouting::edges_to;
 use crate::routing::{addr_at, edges_from, own_links};
 use crate::shown::{Objects, Shown};
 use crate::text::{add_decimal, add_number, numbered};
-use rina_base::{Addr, AppName, Bytes, Memory, Seq};
+use rina_base::{Addr, AppName, Bytes, Memory, Node, Seq};
 use rina_cube::{Cube, Kind};
 use rina_data::{Link, Member};
 use rina_graph::Edge;
-use rina_iface::Registered;
+use rina_iface::{End, Registered};
 use rina_plan::LinkPlan;
 use rina_rib::Class;
 use std::alloc::{AllocError, Global};
@@ -130,13 +131,13 @@ fn dir_object(
     alloc: Global,
     members: &[Member],
     names: &[Registered],
-    registered: &Registered,
+    app: &AppName,
 ) -> Result<Shown, Memory>
-    ensures { IfOk result (λ s. s ≡ dir_object members.now names.now registered.now) }
+    ensures { IfOk result (λ s. s ≡ dir_object members.now names.now app.now) }
 {
-    let addr = address_of(members, names, &registered.app);
+    let addr = address_of(members, names, app);
     Ok(Shown {
-        name: dir_name(alloc, &registered.app)?,
+        name: dir_name(alloc, app)?,
         class: Class::Value,
         value: numbered(alloc, b"", u64::from(addr))?,
     })
@@ -260,10 +261,55 @@ pub(crate) fn add_directory(
     names: &[Registered],
     objects: &mut Objects,
 ) -> Result<(), Memory>
-    ensures { OnOk result (objects.new ≡ objects.old ++ map (dir_object members.now names.now) names.now) }
+    ensures { OnOk result (objects.new ≡ objects.old ++ map (named_object members.now names.now) names.now) }
 {
     'names: for registered in names {
-        objects.push(dir_object(alloc, members, names, registered)?)?;
+        objects.push(dir_object(alloc, members, names, &registered.app)?)?;
     }
+    Ok(())
+}
+
+/// Adds what the member at a node tells of an end when its flow is bound: the application of the far end, with the
+/// asker's end, and then the flow, where the end is its own.
+pub(crate) fn add_end(
+    alloc: Global,
+    members: &[Member],
+    names: &[Registered],
+    node: Node,
+    end: &End,
+    flow: &FlowState,
+    objects: &mut Objects,
+) -> Result<(), Memory>
+    ensures { OnOk result (objects.new ≡ objects.old ++ end_objects members.now names.now node (end.now, flow.now)) }
+{
+    add_far(alloc, members, names, end, objects)?;
+    add_own(alloc, node, flow, objects)
+}
+
+/// Adds the application of a flow's far end, with the asker's end.
+fn add_far(
+    alloc: Global,
+    members: &[Member],
+    names: &[Registered],
+    end: &End,
+    objects: &mut Objects,
+) -> Result<(), Memory>
+    ensures { OnOk result (objects.new ≡ objects.old ++ far_objects members.now names.now end.now) }
+{
+    if !is_asker(end) {
+        return Ok(());
+    }
+    objects.push(dir_object(alloc, members, names, &end.peer)?)?;
+    Ok(())
+}
+
+/// Adds a flow where its end stands at a node.
+fn add_own(alloc: Global, node: Node, flow: &FlowState, objects: &mut Objects) -> Result<(), Memory>
+    ensures { OnOk result (objects.new ≡ objects.old ++ own_objects node flow.now) }
+{
+    if flow.node != node {
+        return Ok(());
+    }
+    objects.push(flow_object(alloc, flow)?)?;
     Ok(())
 }

@@ -1,17 +1,17 @@
 //! The objects of the IPC processes of a DIF.
-ghost use Rattle.std.specs.Prelude.{◌≡◌, ◌<◌, Err, length, map, IfOk, OnOk, option_map};
+ghost use Rattle.std.specs.Prelude.{◌≡◌, ◌<◌, ◌++◌, Err, length, map, IfOk, OnOk, option_map};
 ghost use Rattle.std.specs.Borrow.{Bor};
 ghost use Rattle.std.specs.List.{fold};
 ghost use Rattle.rina_cdap.specs.ObjectNames.{IsObjectName};
 ghost use Rattle.rina_rib.specs.declared.error.RibError.TheVariants as errors;
 ghost use Rattle.rina_rib.specs.Rows.{Tree};
 ghost use Rattle.rina_rib.specs.Walks.{named_of, within};
-ghost use Rattle.rina_dif.specs.Objects.{IsRibAt, ShowsUnder, begun_with, ended, lasting_objects, rib_of, shown_of, told, told_all, told_flow, told_open};
+ghost use Rattle.rina_dif.specs.Objects.{AreFlows, IsRibAt, ShowsUnder, begun_with, bound_objects, ended, first_objects, laid_objects, lasting_objects, rib_of, shown_of, told, told_all, told_open};
 ghost use Rattle.rina_dif.specs.Whole.{IsDif};
 
 use crate::dif::Dif;
 use crate::flow_state::{FlowState, flows_at};
-use crate::objects::{add_cubes, add_directory, add_members, add_states, flow_object};
+use crate::objects::{add_cubes, add_directory, add_end, add_members, add_states, flow_object};
 use crate::shown::{Objects, Shown};
 use rina_base::{Bytes, Memory, Node, Seq};
 use rina_cdap::is_object_name;
@@ -51,16 +51,6 @@ fn tell_all(alloc: Global, rib: &mut Rib, objects: &[Shown]) -> Result<(), Memor
 {
     for shown in objects {
         tell(alloc, rib, shown)?;
-    }
-    Ok(())
-}
-
-/// Tells flows, one after the other.
-fn tell_flows(alloc: Global, rib: &mut Rib, flows: &[FlowState]) -> Result<(), Memory>
-    ensures { OnOk result (rib.new ≡ fold told_flow rib.old flows.now) }
-{
-    for flow in flows {
-        tell(alloc, rib, &flow_object(alloc, flow)?)?;
     }
     Ok(())
 }
@@ -110,21 +100,15 @@ fn end_flows(alloc: Global, rib: &mut Rib, flows: &[FlowState]) -> Result<(), Me
     Ok(())
 }
 
-/// What a RIB begins with: what the last request left, or else all that its member told from the start.
-fn begin(
-    alloc: Global,
-    kept: Option<&Rib>,
-    objects: &[Shown],
-    flows: &[FlowState],
-) -> Result<Rib, Memory>
-    ensures { IfOk result (λ t. t ≡ begun_with (option_map (λ (r : Bor Tree). r.now) kept.entry) objects.now flows.now) }
+/// What a RIB begins with: what the last request left, or else all that its member told at the start.
+fn begin(alloc: Global, kept: Option<&Rib>, first: &[Shown]) -> Result<Rib, Memory>
+    ensures { IfOk result (λ t. t ≡ begun_with (option_map (λ (r : Bor Tree). r.now) kept.entry) first.now) }
 {
     if let Some(rib) = kept {
         return rib.copy();
     }
     let mut rib = Rib::new(alloc)?;
-    tell_all(alloc, &mut rib, objects)?;
-    tell_flows(alloc, &mut rib, flows)?;
+    tell_all(alloc, &mut rib, first)?;
     Ok(rib)
 }
 
@@ -132,13 +116,14 @@ fn begin(
 fn rib_of(
     alloc: Global,
     kept: Option<&Rib>,
-    objects: &[Shown],
+    first: &[Shown],
+    lasting: &[Shown],
     flows: &[FlowState],
 ) -> Result<Rib, Memory>
-    ensures { IfOk result (λ t. t ≡ rib_of (option_map (λ (r : Bor Tree). r.now) kept.entry) objects.now flows.now) }
+    ensures { IfOk result (λ t. t ≡ rib_of (option_map (λ (r : Bor Tree). r.now) kept.entry) first.now lasting.now flows.now) }
 {
-    let mut rib = begin(alloc, kept, objects, flows)?;
-    tell_all(alloc, &mut rib, objects)?;
+    let mut rib = begin(alloc, kept, first)?;
+    tell_all(alloc, &mut rib, lasting)?;
     tell_open(alloc, &mut rib, flows)?;
     end_flows(alloc, &mut rib, flows)?;
     Ok(rib)
@@ -168,7 +153,20 @@ fn show_under(alloc: Global, rib: &Rib, under: &[u8]) -> Result<Objects, Memory>
 }
 
 impl Dif {
-    /// What a member tells but its flows: cubes, link states, members and the directory.
+    /// What a member tells of the DIF as it was laid: cubes, members, and the link states of all.
+    fn laid_objects(&self, alloc: Global, own: &Member, links: &[Link]) -> Result<Objects, Memory>
+        ensures { IfOk result (λ objects. objects ≡ laid_objects self.now own.now links.now) }
+    {
+        let mut objects = Seq::new(alloc);
+        let members = self.settings.members.as_slice();
+        let plans = self.laid.links.as_slice();
+        add_cubes(alloc, self.settings.cubes.as_slice(), &mut objects)?;
+        add_members(alloc, members, &mut objects)?;
+        add_states(alloc, members, plans, own, links, &mut objects)?;
+        Ok(objects)
+    }
+
+    /// All that a member tells but its flows: that, and the directory.
     fn lasting_objects(
         &self,
         alloc: Global,
@@ -177,13 +175,49 @@ impl Dif {
     ) -> Result<Objects, Memory>
         ensures { IfOk result (λ objects. objects ≡ lasting_objects self.now own.now links.now) }
     {
-        let mut objects = Seq::new(alloc);
+        let mut objects = self.laid_objects(alloc, own, links)?;
         let members = self.settings.members.as_slice();
-        let plans = self.laid.links.as_slice();
-        add_cubes(alloc, self.settings.cubes.as_slice(), &mut objects)?;
-        add_states(alloc, members, plans, own, links, &mut objects)?;
-        add_members(alloc, members, &mut objects)?;
         add_directory(alloc, members, self.names.as_slice(), &mut objects)?;
+        Ok(objects)
+    }
+
+    /// Adds what the member at a node tells of all flows, in the order of binding.
+    fn add_bound(
+        &self,
+        alloc: Global,
+        node: Node,
+        flows: &[FlowState],
+        objects: &mut Objects,
+    ) -> Result<(), Memory>
+        requires valid { IsDif self.now }
+        requires flows { AreFlows self.now flows.now }
+        ensures { OnOk result (objects.new ≡ objects.old ++ bound_objects self.now node flows.now) }
+    {
+        let members = self.settings.members.as_slice();
+        let names = self.names.as_slice();
+        'flows: for (at, flow) in flows.iter().enumerate() {
+            let Some(end) = self.flows.journal.ends.get(at) else {
+                unreachable!()
+            };
+            add_end(alloc, members, names, node, end, flow, objects)?;
+        }
+        Ok(())
+    }
+
+    /// All that a member told when the DIF was made.
+    fn first_objects(
+        &self,
+        alloc: Global,
+        own: &Member,
+        links: &[Link],
+        flows: &[FlowState],
+    ) -> Result<Objects, Memory>
+        requires valid { IsDif self.now }
+        requires flows { AreFlows self.now flows.now }
+        ensures { IfOk result (λ objects. objects ≡ first_objects self.now own.now links.now flows.now) }
+    {
+        let mut objects = self.laid_objects(alloc, own, links)?;
+        self.add_bound(alloc, own.node, flows, &mut objects)?;
         Ok(objects)
     }
 
@@ -197,10 +231,13 @@ impl Dif {
         else {
             unreachable!()
         };
-        let objects = self.lasting_objects(alloc, member, process.links.as_slice())?;
+        let links = process.links.as_slice();
         let states = self.flow_states(alloc)?;
+        let first = self.first_objects(alloc, member, links, &states)?;
+        let lasting = self.lasting_objects(alloc, member, links)?;
         let flows = flows_at(alloc, member.node, &states)?;
-        rib_of(alloc, self.laid.ribs.get(&at), objects.as_slice(), &flows)
+        let kept = self.laid.ribs.get(&at);
+        rib_of(alloc, kept, first.as_slice(), lasting.as_slice(), &flows)
     }
 
     /// The object of a name at the member of a node, and all under it, in the byte order of names. `NoIpc` where the
