@@ -24,6 +24,7 @@ use rina_stack::Plan;
 use std::alloc::Global;
 
 /// The name that is asked for; all objects where none is given.
+#[tactic(auto, using(crate::proofs::Objects::same_names), unfolding(rina_cdap::specs::ObjectNames::is_object_name_of))]
 fn path_of(path: &Option<ObjectName>) -> &[u8]
     ensures path { result.now ≡ path_of path.now }
     ensures name { IsObjectName result.now }

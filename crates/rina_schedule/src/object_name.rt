@@ -75,9 +75,10 @@ impl ObjectName {
         Ok(Some(ObjectName { bytes }))
     }
 
-    /// Its bytes.
+    /// Its bytes, which are the name of an object.
     pub fn as_bytes(&self) -> &[u8]
-        ensures { result.now ≡ self.now }
+        ensures bytes { result.now ≡ self.now }
+        ensures name { is_object_name result.now ≡ true }
     {
         self.bytes.as_slice()
     }

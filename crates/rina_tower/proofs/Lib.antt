@@ -16,7 +16,7 @@ pub mod FitRooms
 pub mod FitTakes
 pub mod FitWires
 pub mod Lasting
-pub mod Objects
+pub mod Shows
 pub mod Opened
 pub mod OpenedCounts
 pub mod Listing

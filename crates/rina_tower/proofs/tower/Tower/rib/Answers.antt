@@ -1,4 +1,4 @@
-use Rattle.rina_tower.proofs.Objects.{shows_there}
+use Rattle.rina_tower.proofs.Shows.{shows_there}
 use Rattle.rina_tower.proofs.Owned.{dif_there, member_there, own_valid, rank_valid}
 use Rattle.rina_tower.proofs.tower.Tower.rib.Goals as goal
 
