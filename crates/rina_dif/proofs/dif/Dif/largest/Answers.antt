@@ -1,4 +1,4 @@
-use Rattle.std.proofs.Common.{◌≡◌, ◌∙◌, None, Option, Some, ap, option_map, sym}
+use Rattle.std.proofs.Common.{None, Some, ap, option_map, sym}
 use Rattle.rina_iface.specs.Seen.{Offer}
 use Rattle.rina_dif.proofs.Facing.{offer_is}
 use Rattle.rina_dif.proofs.dif.Dif.largest.Goals as goal
