@@ -287,6 +287,11 @@ rib d a /link
 2 0 none
 3 0 obj /flow/1 flow 'tx=-,rx=-
 4 0 ok
+4 0 state q1 failed Below w/b/1
+4 0 state p2 failed Below w/a/1
+4 0 state q2 failed Below w/b/1
+4 0 state p3 failed Below w/a/1
+4 0 state q3 failed Below w/b/1
 5 0 obj /link folder x
 5 0 obj /link/1 value x
 5 0 obj /link/2 value '1:1
