@@ -1,21 +1,24 @@
 -- Single steps of a DIF, as a line does them.
-use Rattle.std.proofs.Common.{◌≡◌, ℕ, List, Option, Result, Ok, Err, IfOk, refl, subst}
+use Rattle.std.proofs.Common.{◌≡◌, ℕ, List, Option, Some, Result, Ok, Err, IfOk, refl, subst}
 use Rattle.rina_base.specs.declared.memory.Memory.{Memory}
 use Rattle.rina_data.specs.declared.step.InStep.{InStep}
 use Rattle.rina_data.specs.declared.step.OutStep.{OutStep}
 use Rattle.rina_data.specs.declared.step.StepError.{StepError}
+use Rattle.rina_dif.specs.declared.cdap.CdapCallError.{CdapCallError}
 use Rattle.rina_policy.specs.declared.policy.Head.{Head}
 use Rattle.rina_policy.specs.Slots.{Slot}
 use Rattle.rina_report.specs.declared.said.Said.{Said}
+use Rattle.rina_report.specs.declared.said.Said.TheVariants as said
 use Rattle.rina_stack.specs.declared.plan.Plan.{Plan}
 use Rattle.rina_tower.specs.declared.tower.Tower.{Tower}
+use Rattle.rina_tower.specs.Asking.{AsksAt}
 use Rattle.rina_tower.specs.Rounds.{Anything}
 use Rattle.rina_tower.specs.Stepping.{InSteps, OutSteps}
 use Rattle.rina_tower.proofs.Answering.{any_place}
 use Rattle.rina_run.specs.declared.site.Site.{Site}
 use Rattle.rina_run.specs.declared.world.World.{World}
-use Rattle.rina_run.specs.Step.{CallsIn, CallsOut, link_of, stage}
-use Rattle.rina_run.specs.StepTold.{in_told, out_told, step_told}
+use Rattle.rina_run.specs.Step.{CallsCdap, CallsIn, CallsOut, link_of, stage}
+use Rattle.rina_run.specs.StepTold.{cdap_told, in_told, out_told, step_told}
 use Rattle.rina_run.specs.Told.{answer_told}
 
 abbrev moved : World → Tower → World
@@ -30,3 +33,8 @@ calls_in plan link n w site result t (Ok says) is does told = record { result = 
 pub calls_out : (may : List ℕ → ℕ → List Head → ℕ → Type 0) (plan : Plan) (link n : ℕ) (w : World) (slots slots' : List Slot) (site : Site) (result : Result OutStep StepError) (t : Tower) (r : Result (Option Said) Memory) → n ≡ link_of link → OutSteps may slots slots' site.rank site.fac site.node n result w.tower t → IfOk r (λ says. says ≡ answer_told (out_told plan site.rank) step_told result) → IfOk r (λ says. CallsOut plan link (stage w slots) site says (stage (moved w t) slots'))
 calls_out may plan link n w slots slots' site result t (Err e) is does told = tt
 calls_out may plan link n w slots slots' site result t (Ok says) is does told = record { result = result; does = subst (λ (k : ℕ). OutSteps Anything slots slots' site.rank site.fac site.node k result w.tower t) is (any_place may slots slots' site.rank site.fac site.node n result w.tower t does); labels = refl; told = told }
+
+-- bytes for an IPC process
+pub calls_cdap : (bytes : List ℕ) (w : World) (site : Site) (result : Result (List ℕ) CdapCallError) (t : Tower) (r : Result (Option Said) Memory) → AsksAt site.rank site.fac site.node bytes result w.tower t → IfOk r (λ says. says ≡ answer_told (λ answer. Some (said.Cdap answer)) cdap_told result) → IfOk r (λ says. CallsCdap bytes w site says (moved w t))
+calls_cdap bytes w site result t (Err e) does told = tt
+calls_cdap bytes w site result t (Ok says) does told = record { result = result; does = does; labels = refl; told = told }

@@ -19,9 +19,13 @@ pub struct Difs {
 
 impl Model for Difs {
     ghost use Rattle.std.specs.Prelude.{List};
+    ghost use Rattle.std.specs.Coded.{coded_list};
     ghost use Rattle.rina_dif.specs.declared.dif.Dif.{Dif};
+    ghost use Rattle.rina_dif.specs.contracts.dif.Dif as dif;
 
     ghost Value = { List Dif };
+
+    ghost coded = { coded_list dif.the_row.coded };
 
     ghost view = { λ d. d.items.items };
 }

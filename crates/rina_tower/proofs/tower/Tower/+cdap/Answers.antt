@@ -15,18 +15,18 @@ pub returns-then-r-height-clause-valid : goal.returns-then-r-height-clause-valid
 returns-then-r-height-clause-valid t c =
     let v = rw c.in-Rank.is at c.requires in
     let old = c.in-Rank.rank.value in
-    (asked_rank c.args.dif c.args.node c.args.bytes.now (answer_of c.cdap.result) (answer_of c.cdap.result ≡ Err NoIpc) old.difs c.cdap.new.self old.below v.0 v.1 (rw c.deref_mut-rank.ensures.value at c.cdap.ensures), v.1)
+    rw c.deref_mut-rank.ensures.value (asked_rank c.args.dif c.args.node c.args.bytes.now (answer_of c.cdap.result) (answer_of c.cdap.result ≡ Err NoIpc) old.difs c.cdap.new.self old.below v.0 v.1 (rw c.deref_mut-rank.ensures.value at c.cdap.ensures), v.1)
 
 pub returns-then-r-height-clause-quiet : goal.returns-then-r-height-clause-quiet
 returns-then-r-height-clause-quiet t c =
     let old = c.in-Rank.rank.value in
-    rw c.in-Rank.is (asked_alone c.args.dif c.args.node c.args.bytes.now (answer_of c.cdap.result) (answer_of c.cdap.result ≡ Err NoIpc) (now_of old.below) old.difs c.cdap.new.self (rw c.deref_mut-rank.ensures.value at c.cdap.ensures))
+    rw (c.in-Rank.is, c.deref_mut-rank.ensures.value) (asked_alone c.args.dif c.args.node c.args.bytes.now (answer_of c.cdap.result) (answer_of c.cdap.result ≡ Err NoIpc) (now_of old.below) old.difs c.cdap.new.self (rw c.deref_mut-rank.ensures.value at c.cdap.ensures))
 
 pub returns-then-r-height-clause-does : goal.returns-then-r-height-clause-does
 returns-then-r-height-clause-does t c =
     let height = rw c.deref_mut-rank.ensures.value at c.height.ensures in
     let does = rw c.deref_mut-rank.ensures.value at c.cdap.ensures in
-    rw c.in-Rank.is (inl (c.if-r-height.true ∙ ap (λ (n : ℕ). n + 1) height, (does, refl)))
+    rw (c.in-Rank.is, c.deref_mut-rank.ensures.value) (inl (c.if-r-height.true ∙ ap (λ (n : ℕ). n + 1) height, (does, refl)))
 
 pub returns-else-r-height-clause-valid : goal.returns-else-r-height-clause-valid
 returns-else-r-height-clause-valid t c =
