@@ -28,6 +28,7 @@ use Rattle.rina_dif.specs.declared.dif.Dif.{Dif}
 use Rattle.rina_dif.specs.Building.{AreBare, IsBare, IsFree}
 use Rattle.rina_dif.specs.Holding.{AreHoused, Holds}
 use Rattle.rina_dif.specs.Shown.{seen_of}
+use Rattle.rina_dif.proofs.Causing.{none_caused}
 
 pub none_in : {X : Type 0} (i : ℕ) (x : X) (xs : List X) → xs ≡ [] → slice_get xs i ≡ Some x → ⊥
 none_in i x xs none is = (let e : slice_get [] i ≡ Some x = subst (λ ys. slice_get ys i ≡ Some x) none is in cc)
@@ -113,6 +114,7 @@ start_holds d below ends conns s members housed =
       standing = start_stands (seen_of d) [] below s;
       carrying = start_carries (seen_of d) [] below s;
       numbered = start_numbered (seen_of d) [] below s members (λ i e ids conn. absurd (none_in i e d.flows.journal.ends ends conn.end)) (λ i e is. absurd (none_in i e d.flows.journal.ends ends is));
+      caused = none_caused (seen_of d) below ends;
       housed = housed;
     }
 

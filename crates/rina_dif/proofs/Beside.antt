@@ -44,17 +44,19 @@ use Rattle.rina_dif.specs.Holding.{Holds, Stands}
 use Rattle.rina_dif.specs.Shown.{seen_of}
 use Rattle.rina_dif.specs.Taking.{TakesIn}
 use Rattle.rina_dif.specs.Whole.{IsDif}
+use Rattle.rina_dif.proofs.Causing.{LowerStays, caused_on, lower_later, lower_same, none_is}
 use Rattle.rina_dif.proofs.Cutting.{loses_silent}
 
 -- What another DIF sends or takes below is nothing to a DIF
 
--- no member of it sent anything, and the clock stayed
+-- no member of it sent anything, the clock stayed, and what has failed below has failed
 record IsAside (g : Config) (below below' : Seen) : Type 0 where
   after : IsAfter g NoMore below below'
   clock : below'.now ≡ below.now
+  lower : LowerStays g below below'
 
 aside_same : (g : Config) (below below' : Seen) → below' ≡ below → IsAside g below below'
-aside_same g below below' is = subst (IsAside g below) (sym is) (record { after = after_none g below; clock = refl })
+aside_same g below below' is = subst (IsAside g below) (sym is) (record { after = after_none g below; clock = refl; lower = lower_same g below below refl })
 
 forwarded_aside : (refuses : Port → ℕ → Option SendError) (d o : DifSeen) (olines : List Direction) (below : Seen) (i n : ℕ) (process : Process) (key : Key) (process' : Process) (below' : Seen) → AreKept below → AreKept below' → IsStanding o olines below → AreApart o d → slice_get o.processes i ≡ Some process → IsForwarded refuses o.config o.clock process below n key process' below' → IsAside d.config below below'
 forwarded_aside refuses d o olines below i n process key process' below' kept kept' so apart is_process s =
@@ -67,7 +69,7 @@ forwarded_aside refuses d o olines below i n process key process' below' kept ke
     (let is = same_some (end_of below s.link.port) e link.end h link.here in
     apart member.0.name (record { addr = member.0.addr; member = record { place = i; member = member.0; stands = member.1; addr_is = refl; name_is = refl } }) (subst (IsMine d.config.members) (ap (λ (z : End). z.app) is ∙ link.app) mine)) in
     let after = after_sent d.config below s.link.port bytes s.num below' kept kept' later s.sent.1 in
-    record { after = no_more_of_others d.config s.link.port x below below' others after; clock = ap (λ (z : Seen). z.now) s.sent.1.new_is }
+    record { after = no_more_of_others d.config s.link.port x below below' others after; clock = ap (λ (z : Seen). z.now) s.sent.1.new_is; lower = lower_later d.config below below' kept' later }
 
 offs_aside : (refuses : Port → ℕ → Option SendError) (d o : DifSeen) (below : Seen) (n : ℕ) (process : Process) (key : Key) (cause : Cause) (process' : Process) (below' : Seen) → Offs refuses o.config o.clock process below n key cause process' below' → IsAside d.config below below'
 offs_aside refuses d o below n process key (causes.Expired left charge) process' below' s = aside_same d.config below below' s.below_is
@@ -99,7 +101,7 @@ outs_aside refuses d o olines below i n (Err NoLink) o' below' kept kept' so apa
 
 ins_aside : (g : Config) (o : DifSeen) (olines : List Direction) (below : Seen) (i n : ℕ) (r : Result InStep StepError) (o' : DifSeen) (olines' : List Direction) (below' : Seen) → AreKept below → AreKept below' → Ins o olines below i n r o' olines' below' → IsAside g below below'
 ins_aside g o olines below i n (Ok in_.Idle) o' olines' below' kept kept' s = aside_same g below below' s.3
-ins_aside g o olines below i n (Ok (in_.Took key end)) o' olines' below' kept kept' s = record { after = after_passed g below s.link.port below' kept kept' (later_passes below s.link.port below' s.passed) s.passed; clock = ap (λ (x : Seen). x.now) s.passed.new_is }
+ins_aside g o olines below i n (Ok (in_.Took key end)) o' olines' below' kept kept' s = record { after = after_passed g below s.link.port below' kept kept' (later_passes below s.link.port below' s.passed) s.passed; clock = ap (λ (x : Seen). x.now) s.passed.new_is; lower = lower_later g below below' kept' (later_passes below s.link.port below' s.passed) }
 ins_aside g o olines below i n (Err Memory) o' olines' below' kept kept' s = aside_same g below below' s.2
 ins_aside g o olines below i n (Err NoIpc) o' olines' below' kept kept' s = aside_same g below below' s.3
 ins_aside g o olines below i n (Err NoLink) o' olines' below' kept kept' s = aside_same g below below' s.3
@@ -111,6 +113,7 @@ holds_aside d lines below below' a h = record {
   standing = still_stands (seen_of d) lines below below' h.standing a.after a.clock;
   carrying = after_carries (seen_of d) lines NoMore below below' h.carrying a.after;
   numbered = beside_after (seen_of d) below below' h.numbered a.after;
+  caused = caused_on (seen_of d) (seen_of d) below below' (none_is (seen_of d) (seen_of d) refl) a.lower h.caused;
   housed = h.housed;
 }
 

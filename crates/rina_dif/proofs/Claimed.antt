@@ -73,6 +73,7 @@ holds_claimed d waiting lines below h = (let st = h.standing in record {
   };
   carrying = record { entries = h.carrying.entries; holding = λ i from e ids line conn inbound. h.carrying.holding i from e ids line conn (record { partner = inbound.partner; is_partner = inbound.is_partner; partners = inbound.partners; is_line = inbound.is_line }) };
   numbered = (let n = h.numbered in record { members = n.members; addressed = n.addressed; counted = n.counted; named = n.named });
+  caused = h.caused;
   housed = h.housed;
 })
 

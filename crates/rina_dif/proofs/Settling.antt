@@ -22,6 +22,7 @@ use Rattle.rina_data.specs.Dif.{DifSeen, IsProcess, Member, Process, with_offs, 
 use Rattle.rina_data.specs.Incoming.{Settles}
 use Rattle.rina_data.specs.Queueing.{Notes}
 use Rattle.rina_data.specs.Carried.{IsCarrying}
+use Rattle.rina_data.specs.Caused.{AreCaused}
 use Rattle.rina_data.specs.Numbered.{IsNumbered}
 use Rattle.rina_data.specs.Standing.{IsStanding}
 use Rattle.rina_data.proofs.Decided.{off_settles, relayed_settles}
@@ -105,6 +106,7 @@ holds_unseen d ps lines below same housed h = record {
   standing = subst (λ (z : DifSeen). IsStanding z lines below) (sym same) h.standing;
   carrying = subst (λ (z : DifSeen). IsCarrying z lines below) (sym same) h.carrying;
   numbered = subst (λ (z : DifSeen). IsNumbered z below) (sym same) h.numbered;
+  caused = subst (λ (z : DifSeen). AreCaused z below) (sym same) h.caused;
   housed = housed;
 }
 
