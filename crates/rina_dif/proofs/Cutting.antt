@@ -34,6 +34,7 @@ use Rattle.rina_dif.specs.declared.dif.Dif.{Dif}
 use Rattle.rina_dif.specs.Holding.{AreHoused, Holds}
 use Rattle.rina_dif.specs.Shown.{seen_of}
 use Rattle.rina_dif.specs.Unlinking.{FindsLostAt, FindsNoneLeft, KnowsWithout, LosesAs, LosesLast, LosesLastIn, LosesThenStops, LosesWith}
+use Rattle.rina_dif.proofs.Causing.{failed_below, failed_caused}
 use Rattle.rina_dif.proofs.Keeping.{housed_set}
 use Rattle.rina_dif.proofs.Leaves.{has_process, shown_at}
 use Rattle.rina_dif.proofs.Owning.{arrived_seen}
@@ -104,6 +105,7 @@ last_fails d at node lost port routes flows p p' lt here is knows s cap lines be
         carrying = failed_carries (seen_of mid) lines below node l.link.port (seen_of d') l.holds.carrying by;
         numbered = failed_numbered (seen_of mid) lines below node l.link.port (seen_of d') l.holds.numbered by;
         accounted = failed_accounted (seen_of mid) lines below node l.link.port (seen_of d') l.holds.standing l.holds.numbered l.holds.accounted by;
+        caused = failed_caused (seen_of mid) lines below node l.link.port (seen_of d') (failed_below (seen_of d) lines below at node lost.place (process_of l.process) l.link h.standing here (shown_at d at l.process l.is_process) l.stands told.1.failed) l.holds.caused by;
         housed = subst (λ (ps : List IpcProcess). AreHoused g ps) twice (housed_set g mid.processes at p1 p' l.holds.housed there refl (record { links = refl; routes = refl; places = λ qos link. refl }));
       },
     )
