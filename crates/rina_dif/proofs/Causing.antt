@@ -1,5 +1,6 @@
 -- Each end that has failed did so for its cause, and goes on to.
 use Rattle.std.proofs.Common.{◌≡◌, ◌∙◌, ℕ, zero, suc, ◌+◌, ◌*◌, ◌<◌, ◌≤◌, ◌⊎◌, List, [], ◌++◌, length, slice_get, slice_set, Option, option_map, Some, None, Result, Ok, Err, refl, sym, ap, subst, arith, inl, inr}
+use Rattle.std.proofs.lemmas.List.{append-nil}
 use Rattle.std.proofs.lemmas.Option.{slice_get-get_or}
 use Rattle.rina_base.specs.declared.cause.Cause.{Cause}
 use Rattle.rina_base.specs.declared.cause.Cause.TheVariants as causes
@@ -129,7 +130,7 @@ caused_on d d' below below' none lower c at end' ids fail is is_ids failed =
     subst (λ (g : Config). IsCause g d'.clock below' end' ids fail) (sym none.config) (cause_on d.config d.clock d'.clock below below' h.end end' ids h.more fail none.clock h.port h.sent lower (c at h.end ids fail h.is_end h.is_ids h.failed))
 
 no_more : (xs : List Entry) → xs ≡ xs ++ []
-no_more xs = grind arith
+no_more xs = sym (append-nil xs)
 
 still_failed : (d : DifSeen) (at : ℕ) (end : End) (ids : Ids) (fail : Fail) → At d.ends at end → slice_get d.conns at ≡ Some ids → end.state ≡ Failed fail → HadFailed d at end ids fail
 still_failed d at end ids fail is is_ids failed = record { end = end; is_end = is; is_ids = is_ids; failed = failed; port = refl; more = []; sent = no_more end.sent }

@@ -1,6 +1,7 @@
 -- A number that is given up is that of a piece of an SDU that was sent.
 use Rattle.std.proofs.Common.{◌≡◌, ◌≢◌, ◌∙◌, ℕ, zero, suc, ◌+◌, ◌-◌, ◌*◌, ◌<◌, ◌≤◌, ◌⊎◌, ◌++◌, Bool, true, false, cond, List, length, length-append, slice_get, Some, refl, sym, ap, subst, arith, inl, inr}
-use Rattle.std.proofs.lemmas.Bool.{cases_lt, false≢true}
+use Rattle.std.proofs.lemmas.Bool.{cases_lt}
+use Rattle.std.proofs.Math.Nat.{mul-le-mul_left}
 use Rattle.rina_law.specs.declared.entry.Entry.{Entry}
 use Rattle.rina_law.specs.Constants.{Constants}
 use Rattle.rina_law.specs.Direction.{Direction, entry, place_of, start_of}
@@ -11,31 +12,42 @@ use Rattle.rina_law.proofs.Runs.{bytes_begins, bytes_on, start_begins, start_le,
 use Rattle.rina_base.specs.declared.number.Num.{Num}
 use Rattle.rina_data.specs.Caused.{IsNumberOf}
 
+-- Products
+
+times_none : (a b : ℕ) → b ≡ 0 → a * b ≡ 0
+times_none a b is = omega (arith, ap (λ (x : ℕ). a * x) is)
+
+times_more : (a b d : ℕ) → b ≡ d + 1 → a * b ≡ a * d + a
+times_more a b d is = omega (arith, ap (λ (x : ℕ). a * x) is)
+
+below_all : (a b some all : ℕ) → a ≤ b → b + some ≡ all → 1 ≤ some → a < all
+below_all a b some all le is least = omega (arith, le, is, least)
+
 -- so many bytes of its SDU stand before a piece
 bytes_before : (c : Constants) (run : List Member) → RunHolds c run → (n : ℕ) → n < length run → (k : ℕ) → start_of run n + k ≡ n → c.piece * k + length (part_at run n).body ≡ length (bytes_of run n)
-bytes_before c run h zero lt k is = (let none : k ≡ 0 = omega (arith, is) in let all : c.piece * k ≡ 0 = rw none (grind arith) in omega (arith, all))
-bytes_before c run h (suc n) lt k is = go (part_at run (suc n)).begins refl
+bytes_before c run h zero lt k is = (let all = times_none c.piece k (omega (arith, is)) in omega (arith, all))
+bytes_before c run h (suc n) lt k is = go (bytes_before c run h n (omega (arith, lt))) (part_at run (suc n)).begins refl
   where
-    go : (b : Bool) → (part_at run (suc n)).begins ≡ b → c.piece * k + length (part_at run (suc n)).body ≡ length (bytes_of run (suc n))
-    go true e =
+    go : ((j : ℕ) → start_of run n + j ≡ n → c.piece * j + length (part_at run n).body ≡ length (bytes_of run n)) → (b : Bool) → (part_at run (suc n)).begins ≡ b → c.piece * k + length (part_at run (suc n)).body ≡ length (bytes_of run (suc n))
+    go before true e =
         let start : start_of run (suc n) ≡ suc n = start_begins run (suc n) e in
-        let none : k ≡ 0 = omega (arith, is, start) in
-        let all : c.piece * k ≡ 0 = rw none (grind arith) in
+        let all = times_none c.piece k (omega (arith, is, start)) in
         let bytes : length (bytes_of run (suc n)) ≡ length (part_at run (suc n)).body = ap (λ (xs : List ℕ). length xs) (bytes_begins run (suc n) e) in
         omega (arith, all, bytes)
-    go false e =
+    go before false e =
         let start : start_of run (suc n) ≡ start_of run n = start_on run n e in
         let low = start_le run n in
-        let before : start_of run n + (k - 1) ≡ n = omega (arith, is, start, low) in
+        let place : start_of run n + (k - 1) ≡ n = omega (arith, is, start, low) in
         let one : k ≡ (k - 1) + 1 = omega (arith, is, start, low) in
-        let rest = bytes_before c run h n (omega (arith, lt)) (k - 1) before in
+        let rest = before (k - 1) place in
         let open_ : (part_at run n).ends ≡ false = sym (h.goes_on n lt) ∙ e in
         let full = (h.sized n (omega (arith, lt))).full open_ in
         let bytes : length (bytes_of run (suc n)) ≡ length (bytes_of run n) + length (part_at run (suc n)).body = ap (λ (xs : List ℕ). length xs) (bytes_on run n e) ∙ length-append (bytes_of run n) (part_at run (suc n)).body in
-        let more : c.piece * k ≡ c.piece * (k - 1) + c.piece = product c.piece k (k - 1) one in
+        let more = times_more c.piece k (k - 1) one in
         omega (arith, rest, full, bytes, more)
-    product : (a b d : ℕ) → b ≡ d + 1 → a * b ≡ a * d + a
-    product a b d is = grind (arith, is)
+
+place_on : (run : List Member) (base n : ℕ) → (part_at run (suc n)).begins ≡ false → place_of run base (suc n) ≡ place_of run base n
+place_on run base n on = rw on refl
 
 -- the last piece of the SDU of a number
 record IsLastOf (run : List Member) (base n m : ℕ) : Type 0 where
@@ -47,20 +59,19 @@ record IsLastOf (run : List Member) (base n m : ℕ) : Type 0 where
 
 last_of : (c : Constants) (run : List Member) (base : ℕ) → RunHolds c run → IsClosed run → (steps n : ℕ) → n + suc steps ≡ length run → (m : ℕ) × IsLastOf run base n m
 last_of c run base h closed zero n is = (n, record { after = omega arith; within = omega (arith, is); ends = closed n (omega (arith, is)); start = refl; place = refl })
-last_of c run base h closed (suc steps) n is = go (part_at run n).ends refl
+last_of c run base h closed (suc steps) n is = go (last_of c run base h closed steps (suc n) (omega (arith, is))) (part_at run n).ends refl
   where
-    go : (b : Bool) → (part_at run n).ends ≡ b → (m : ℕ) × IsLastOf run base n m
-    go true e = (n, record { after = omega arith; within = omega (arith, is); ends = e; start = refl; place = refl })
-    go false e =
+    go : (m : ℕ) × IsLastOf run base (suc n) m → (b : Bool) → (part_at run n).ends ≡ b → (m : ℕ) × IsLastOf run base n m
+    go l true e = (n, record { after = omega arith; within = omega (arith, is); ends = e; start = refl; place = refl })
+    go l false e =
         let on : (part_at run (suc n)).begins ≡ false = h.goes_on n (omega (arith, is)) ∙ e in
-        let l = last_of c run base h closed steps (suc n) (omega (arith, is)) in
         let after = l.1.after in
         (l.0, record {
           after = omega (arith, after);
           within = l.1.within;
           ends = l.1.ends;
           start = l.1.start ∙ start_on run n on;
-          place = l.1.place ∙ ap (λ (b : Bool). cond b (suc (place_of run base n)) (place_of run base n)) on;
+          place = l.1.place ∙ place_on run base n on;
         })
 
 -- a piece that is not the first begins within the bytes
@@ -73,14 +84,12 @@ begins_within c run base h n m l lt =
     let all = bytes_before c run h m l.within k at in
     let first : (part_at run m).begins ≡ true → ⊥ = λ b. (let is = start_begins run m b in omega (arith, is, start, lt, after)) in
     let some = (h.sized m l.within).some (not_begins (part_at run m).begins first) l.ends in
-    let most : c.piece * (n - start_of run n) ≤ c.piece * k = rises c.piece (n - start_of run n) k (omega (arith, after)) in
-    omega (arith, all, some, most)
+    let before : n - start_of run n ≤ k = omega (arith, after) in
+    below_all (c.piece * (n - start_of run n)) (c.piece * k) (length (part_at run m).body) (length (bytes_of run m)) (mul-le-mul_left c.piece before) all some
   where
     not_begins : (b : Bool) → (b ≡ true → ⊥) → b ≡ false
-    not_begins true no = absurd (no refl)
-    not_begins false no = refl
-    rises : (a b d : ℕ) → b ≤ d → a * b ≤ a * d
-    rises a b d le = grind (arith, le)
+    not_begins true never = absurd (never refl)
+    not_begins false never = refl
 
 -- so the number is that of a piece of its entry
 pub number_of : (c : Constants) (d : Direction) (n : ℕ) → DirectionHolds c d → n < length d.line.sender.run → IsNumberOf c.piece (entry d.sent (place_of d.line.sender.run d.base n)) (record { cep = c.cep; seq = n })
