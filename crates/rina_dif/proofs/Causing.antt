@@ -206,6 +206,7 @@ outs_caused refuses d below i n r d' below' kept c s = caused_on d d' below belo
   where
     by_process : (p' : Process) → d' ≡ record d { processes = slice_set d.processes i p' } → NoneFails d d'
     by_process p' is = none_same d d' (ap (λ (x : DifSeen). x.ends) is) (ap (λ (x : DifSeen). x.conns) is) (ap (λ (x : DifSeen). x.config) is) (let same = ap (λ (x : DifSeen). x.clock) is in omega (arith, same))
+
     none_outs : (r : Result OutStep StepError) → Outs refuses d below i n r d' below' → NoneFails d d'
     none_outs (Ok x) s = by_process s.process' s.new_is
     none_outs (Err Memory) s = by_process s.process' s.new_is

@@ -1,5 +1,5 @@
 -- A number that is given up is that of a piece of an SDU that was sent.
-use Rattle.std.proofs.Common.{◌≡◌, ◌≢◌, ◌∙◌, ℕ, zero, suc, ◌+◌, ◌-◌, ◌*◌, ◌<◌, ◌≤◌, ◌⊎◌, ◌++◌, Bool, true, false, cond, List, length, length-append, slice_get, Some, refl, sym, ap, subst, arith, inl, inr}
+use Rattle.std.proofs.Common.{◌≡◌, ◌∙◌, ℕ, zero, suc, ◌+◌, ◌-◌, ◌*◌, ◌<◌, ◌≤◌, ◌⊎◌, ◌++◌, Bool, true, false, List, length, length-append, slice_get, Some, refl, sym, ap, subst, arith, inl, inr}
 use Rattle.std.proofs.lemmas.Bool.{cases_lt}
 use Rattle.std.proofs.Math.Nat.{mul-le-mul_left}
 use Rattle.rina_law.specs.declared.entry.Entry.{Entry}
@@ -12,7 +12,7 @@ use Rattle.rina_law.proofs.Runs.{bytes_begins, bytes_on, start_begins, start_le,
 use Rattle.rina_base.specs.declared.number.Num.{Num}
 use Rattle.rina_data.specs.Caused.{IsNumberOf}
 
--- Products
+-- Products and sums
 
 times_none : (a b : ℕ) → b ≡ 0 → a * b ≡ 0
 times_none a b is = omega (arith, ap (λ (x : ℕ). a * x) is)
@@ -22,6 +22,8 @@ times_more a b d is = omega (arith, ap (λ (x : ℕ). a * x) is)
 
 below_all : (a b some all : ℕ) → a ≤ b → b + some ≡ all → 1 ≤ some → a < all
 below_all a b some all le is least = omega (arith, le, is, least)
+
+-- The pieces of an SDU
 
 -- so many bytes of its SDU stand before a piece
 bytes_before : (c : Constants) (run : List Member) → RunHolds c run → (n : ℕ) → n < length run → (k : ℕ) → start_of run n + k ≡ n → c.piece * k + length (part_at run n).body ≡ length (bytes_of run n)
@@ -65,14 +67,16 @@ last_of c run base h closed (suc steps) n is = go (last_of c run base h closed s
     go l true e = (n, record { after = omega arith; within = omega (arith, is); ends = e; start = refl; place = refl })
     go l false e =
         let on : (part_at run (suc n)).begins ≡ false = h.goes_on n (omega (arith, is)) ∙ e in
-        let after = l.1.after in
-        (l.0, record {
-          after = omega (arith, after);
-          within = l.1.within;
-          ends = l.1.ends;
-          start = l.1.start ∙ start_on run n on;
-          place = l.1.place ∙ place_on run base n on;
-        })
+        let after = l.1.after in (
+          l.0,
+          record {
+            after = omega (arith, after);
+            within = l.1.within;
+            ends = l.1.ends;
+            start = l.1.start ∙ start_on run n on;
+            place = l.1.place ∙ place_on run base n on;
+          },
+        )
 
 -- a piece that is not the first begins within the bytes
 begins_within : (c : Constants) (run : List Member) (base : ℕ) → RunHolds c run → (n m : ℕ) → IsLastOf run base n m → start_of run n < n → c.piece * (n - start_of run n) < length (bytes_of run m)
