@@ -16,7 +16,7 @@ use Rattle.rina_iface.specs.declared.state.PortState.{PortState}
 use Rattle.rina_iface.specs.declared.state.PortState.TheVariants.{Allocated, Closed, Failed, Pending, Refused}
 use Rattle.rina_iface.specs.Journal.{At, AreKept}
 use Rattle.rina_iface.specs.Later.{IsLater, Moves}
-use Rattle.rina_iface.specs.Seen.{Seen, end_of, state_of}
+use Rattle.rina_iface.specs.Seen.{Seen, state_of}
 use Rattle.rina_iface.specs.State.{freed, freed_state}
 use Rattle.rina_iface.proofs.Changed.{set_at}
 use Rattle.rina_iface.proofs.Found.{end_of_stands, found, stands_later}
@@ -47,7 +47,7 @@ use Rattle.rina_data.specs.Ending.{IsEnded, IsGivenUp}
 use Rattle.rina_data.specs.Ids.{Ids}
 use Rattle.rina_data.specs.Incoming.{Ins, IsArrived, IsTold, Settles, SettlesOff}
 use Rattle.rina_data.specs.Losing.{FailAll, FailFirst}
-use Rattle.rina_data.specs.Outgoing.{Goes, IsForwarded, Offs, Outs, sent_bytes}
+use Rattle.rina_data.specs.Outgoing.{Goes, Outs, sent_bytes}
 use Rattle.rina_data.specs.Passing.{IsPassed}
 use Rattle.rina_data.specs.Sending.{IsOffered, home}
 use Rattle.rina_data.specs.Standing.{IsStanding}

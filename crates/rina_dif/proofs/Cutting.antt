@@ -10,7 +10,6 @@ use Rattle.rina_iface.specs.declared.state.Fail.TheVariants.{Below}
 use Rattle.rina_iface.specs.declared.state.PortState.{PortState}
 use Rattle.rina_iface.specs.declared.state.PortState.TheVariants.{Allocated, Failed}
 use Rattle.rina_iface.specs.Journal.{At}
-use Rattle.rina_iface.specs.Later.{Moves}
 use Rattle.rina_iface.specs.Seen.{Seen}
 use Rattle.rina_iface.proofs.Changed.{set_at, slice_get-set_same}
 use Rattle.rina_law.specs.Direction.{Direction}
@@ -21,7 +20,7 @@ use Rattle.rina_data.specs.Configs.{config_of}
 use Rattle.rina_data.specs.Deciding.{process_of}
 use Rattle.rina_data.specs.Dif.{Config, DifSeen}
 use Rattle.rina_data.specs.Ending.{IsEnded}
-use Rattle.rina_data.specs.Losing.{FailFirst, IsAllocatedAt, LosesAt, MayFail}
+use Rattle.rina_data.specs.Losing.{FailFirst, IsAllocatedAt, MayFail}
 use Rattle.rina_data.specs.Sending.{home}
 use Rattle.rina_data.specs.Upward.{IsSilent}
 use Rattle.rina_data.proofs.Founding.{failed_accounted}

@@ -1,5 +1,5 @@
 -- A number that is given up is that of a piece of an SDU that was sent.
-use Rattle.std.proofs.Common.{◌≡◌, ◌∙◌, ℕ, zero, suc, ◌+◌, ◌-◌, ◌*◌, ◌<◌, ◌≤◌, ◌⊎◌, ◌++◌, Bool, true, false, List, length, length-append, slice_get, Some, refl, sym, ap, subst, arith, inl, inr}
+use Rattle.std.proofs.Common.{◌≡◌, ◌∙◌, ℕ, zero, suc, ◌+◌, ◌-◌, ◌*◌, ◌<◌, ◌≤◌, Bool, true, false, List, length, length-append, refl, sym, ap, subst, arith, inl, inr}
 use Rattle.std.proofs.lemmas.Bool.{cases_lt}
 use Rattle.std.proofs.Math.Nat.{mul-le-mul_left}
 use Rattle.rina_law.specs.declared.entry.Entry.{Entry}
@@ -9,7 +9,6 @@ use Rattle.rina_law.specs.DirectionHolds.{DirectionHolds, IsClosed, RunHolds, by
 use Rattle.rina_law.specs.Sender.{Member}
 use Rattle.rina_law.proofs.Cuts.{place_within}
 use Rattle.rina_law.proofs.Runs.{bytes_begins, bytes_on, start_begins, start_le, start_on}
-use Rattle.rina_base.specs.declared.number.Num.{Num}
 use Rattle.rina_data.specs.Caused.{IsNumberOf}
 
 -- Products and sums

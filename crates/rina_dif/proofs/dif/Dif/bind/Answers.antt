@@ -1,4 +1,4 @@
-use Rattle.std.proofs.Common.{Err, refl}
+use Rattle.std.proofs.Common.{Err}
 use Rattle.rina_iface.specs.declared.error.AllocateError.TheVariants.{Memory}
 use Rattle.rina_dif.proofs.Bound.{binds_go_on, binds_none, binds_noted, binds_shown, binds_stay, binds_whole, may_bind}
 use Rattle.rina_dif.proofs.dif.Dif.bind.Goals as goal

@@ -1,4 +1,4 @@
-use Rattle.rina_dif.proofs.Unlinked.{found_within, link_loses, lost_err}
+use Rattle.rina_dif.proofs.Unlinked.{link_loses}
 use Rattle.rina_dif.proofs.dif.Dif.lose_link.Goals as goal
 
 pub returns-clause-does : goal.returns-clause-does
