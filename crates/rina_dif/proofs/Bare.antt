@@ -30,6 +30,7 @@ use Rattle.rina_dif.specs.declared.dif.Dif.{Dif}
 use Rattle.rina_dif.specs.Building.{AreBare, IsBare, IsFree}
 use Rattle.rina_dif.specs.Holding.{AreHoused, Holds}
 use Rattle.rina_dif.specs.Shown.{seen_of}
+use Rattle.rina_dif.proofs.Causing.{none_caused}
 
 pub none_in : {X : Type 0} (i : ℕ) (x : X) (xs : List X) → xs ≡ [] → slice_get xs i ≡ Some x → ⊥
 none_in i x xs none is = (let e : slice_get [] i ≡ Some x = subst (λ ys. slice_get ys i ≡ Some x) none is in cc)
@@ -125,6 +126,7 @@ start_holds d below kept ends conns s untouched members housed =
         clean = λ i process is. (let p = map_at process_of d.processes i process is in ap (λ (z : Process). z.ledger) (sym p.2) ∙ untouched.clean i p.0 p.1);
         apart = λ i ids is. absurd (none_in i ids (seen_of d).conns (ap (map ids_of) conns) is);
       });
+      caused = none_caused (seen_of d) below ends;
       housed = housed;
     }
 

@@ -1,5 +1,5 @@
 -- What the end of a place refuses to an SDU.
-use Rattle.std.proofs.Common.{◌≡◌, ◌∙◌, ℕ, ◌-◌, ◌^◌, ◌<◌, ◌≤◌, Bool, true, false, List, [], ◌∷◌, length, map, slice_get, Option, Some, None, refl, sym, ap, subst, inr, arith}
+use Rattle.std.proofs.Common.{◌≡◌, ◌∙◌, ℕ, ◌-◌, ◌^◌, ◌<◌, ◌≤◌, Bool, true, false, List, [], ◌∷◌, length, slice_get, Option, Some, None, refl, sym, ap, subst, inr, arith}
 use Rattle.std.specs.Prelude.{IfErr, IfOk, Result, Ok, Err, nat_lt, if◌then◌else◌}
 use Rattle.std.proofs.lemmas.Bool.Decides.{nat_tests}
 use Rattle.rina_conn.specs.declared.conn.Conn.{Conn}
@@ -19,9 +19,8 @@ use Rattle.rina_law.specs.Direction.{Direction, offer_refusal}
 use Rattle.rina_law.specs.Pieces.{Part, IsCut, join}
 use Rattle.rina_law.specs.Sender.{Refusal, Sender, WindowShut, NumbersSpent, is_absent, refusal, room_of, started}
 use Rattle.rina_data.specs.Configs.{config_of}
-use Rattle.rina_data.specs.Deciding.{process_of}
 use Rattle.rina_data.specs.Dif.{Config, piece_size}
-use Rattle.rina_data.specs.Sending.{by_process, by_sender, home, or_else, process_at, refused_at}
+use Rattle.rina_data.specs.Sending.{by_sender, or_else, refused_at}
 use Rattle.rina_data.specs.Standing.{IsConfig, IsQos}
 use Rattle.rina_data.proofs.Finding.{beside}
 use Rattle.rina_flows.specs.Calls.{AreParts, AreTied, TellsNeed}

@@ -1,5 +1,5 @@
 -- A fixed flow is made.
-use Rattle.std.proofs.Common.{◌≡◌, ◌∙◌, ◌≢◌, ℕ, ◌+◌, ◌*◌, ◌^◌, ◌<◌, ◌≤◌, ◌&&◌, ◌||◌, ◌==◌, not, Bool, true, false, cond, eqb, List, [], ◌∷◌, ◌++◌, length, map, slice_get, Option, Some, None, option_map, Result, Ok, Err, refl, sym, ap, subst, arith, inl, inr, ◌⊎◌}
+use Rattle.std.proofs.Common.{◌≡◌, ◌∙◌, ℕ, ◌+◌, ◌*◌, ◌^◌, ◌<◌, ◌≤◌, ◌&&◌, ◌||◌, ◌==◌, not, Bool, true, false, cond, eqb, List, [], ◌∷◌, ◌++◌, length, map, slice_get, Option, Some, None, option_map, Result, Ok, Err, refl, sym, ap, subst, arith, inl, inr}
 use Rattle.std.specs.Prelude.{OnOk}
 use Rattle.std.specs.List.{list_any, position_or_len}
 use Rattle.std.proofs.lemmas.Bool.Decides.{eqb_tells, nat_tests}
@@ -25,7 +25,7 @@ use Rattle.rina_law.specs.Direction.{Direction, start}
 use Rattle.rina_pci.specs.Spelling.{IsWidth}
 use Rattle.rina_data.specs.declared.settings.Member.{Member as Kept}
 use Rattle.rina_data.specs.declared.settings.Settings.{Settings}
-use Rattle.rina_data.specs.Binding.{IsBound, MayDraw, asker_next, far_next, flow_next, ids_next}
+use Rattle.rina_data.specs.Binding.{IsBound, asker_next, far_next, flow_next, ids_next}
 use Rattle.rina_data.specs.Configs.{config_of, member_of}
 use Rattle.rina_data.specs.Dif.{Config, DifSeen, Member, constants, cube_by, fac_of, greatest, offer_of, piece_size}
 use Rattle.rina_data.specs.Ids.{Ids, flipped}
@@ -49,6 +49,7 @@ use Rattle.rina_dif.specs.Facade.{GoesOn, IsShownAs, StaysStanding, shown_as}
 use Rattle.rina_dif.specs.Holding.{Holds, Stands}
 use Rattle.rina_dif.specs.Shown.{seen_of}
 use Rattle.rina_dif.specs.Whole.{IsDif}
+use Rattle.rina_dif.proofs.Causing.{bound_caused}
 use Rattle.rina_dif.proofs.Facing.{same_goes_on, unchanged}
 
 -- Numbers
@@ -205,6 +206,7 @@ module _ (d : Dif) (fixed : Fixed) (may : MayBind d fixed) (near other : NextEnd
           carrying = bound_carries seen lines below fixed (seen_of d') lines' h.standing h.numbered h.carrying bound;
           numbered = bound_numbers seen lines below fixed (seen_of d') lines' h.standing h.numbered bound;
           accounted = bound_accounted seen lines below fixed (seen_of d') lines' h.standing h.numbered h.accounted bound;
+          caused = bound_caused seen lines below fixed (seen_of d') lines' h.standing bound h.caused;
           housed = h.housed;
         };
       }
@@ -319,6 +321,6 @@ pub binds_noted : (d : Dif) (lines : List Direction) (below : Seen) (fixed : Fix
 binds_noted d lines below fixed (Ok ports) d' failed x = record { lines' = x.lines'; bound = x.bound; a_port = x.a_port; b_port = x.b_port; holds = still x.lines' x.holds }
   where
     still : (ls : List Direction) → Holds d' ls below → Holds (record d' { failed = failed }) ls below
-    still ls h = record { tied = h.tied; standing = h.standing; carrying = h.carrying; numbered = h.numbered; accounted = h.accounted; housed = h.housed }
-binds_noted d lines below fixed (Err Memory) d' failed x = (x.0, record { tied = x.1.tied; standing = x.1.standing; carrying = x.1.carrying; numbered = x.1.numbered; accounted = x.1.accounted; housed = x.1.housed })
+    still ls h = record { tied = h.tied; standing = h.standing; carrying = h.carrying; numbered = h.numbered; accounted = h.accounted; caused = h.caused; housed = h.housed }
+binds_noted d lines below fixed (Err Memory) d' failed x = (x.0, record { tied = x.1.tied; standing = x.1.standing; carrying = x.1.carrying; numbered = x.1.numbered; accounted = x.1.accounted; caused = x.1.caused; housed = x.1.housed })
 binds_noted d lines below fixed (Err e) d' failed x = absurd x

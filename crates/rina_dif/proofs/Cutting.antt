@@ -10,7 +10,6 @@ use Rattle.rina_iface.specs.declared.state.Fail.TheVariants.{Below}
 use Rattle.rina_iface.specs.declared.state.PortState.{PortState}
 use Rattle.rina_iface.specs.declared.state.PortState.TheVariants.{Allocated, Failed}
 use Rattle.rina_iface.specs.Journal.{At}
-use Rattle.rina_iface.specs.Later.{Moves}
 use Rattle.rina_iface.specs.Seen.{Seen}
 use Rattle.rina_iface.proofs.Changed.{set_at, slice_get-set_same}
 use Rattle.rina_law.specs.Direction.{Direction}
@@ -21,7 +20,7 @@ use Rattle.rina_data.specs.Configs.{config_of}
 use Rattle.rina_data.specs.Deciding.{process_of}
 use Rattle.rina_data.specs.Dif.{Config, DifSeen}
 use Rattle.rina_data.specs.Ending.{IsEnded}
-use Rattle.rina_data.specs.Losing.{FailFirst, IsAllocatedAt, LosesAt, MayFail}
+use Rattle.rina_data.specs.Losing.{FailFirst, IsAllocatedAt, MayFail}
 use Rattle.rina_data.specs.Sending.{home}
 use Rattle.rina_data.specs.Upward.{IsSilent}
 use Rattle.rina_data.proofs.Founding.{failed_accounted}
@@ -34,6 +33,7 @@ use Rattle.rina_dif.specs.declared.dif.Dif.{Dif}
 use Rattle.rina_dif.specs.Holding.{AreHoused, Holds}
 use Rattle.rina_dif.specs.Shown.{seen_of}
 use Rattle.rina_dif.specs.Unlinking.{FindsLostAt, FindsNoneLeft, KnowsWithout, LosesAs, LosesLast, LosesLastIn, LosesThenStops, LosesWith}
+use Rattle.rina_dif.proofs.Causing.{failed_below, failed_caused}
 use Rattle.rina_dif.proofs.Keeping.{housed_set}
 use Rattle.rina_dif.proofs.Leaves.{has_process, shown_at}
 use Rattle.rina_dif.proofs.Owning.{arrived_seen}
@@ -104,6 +104,7 @@ last_fails d at node lost port routes flows p p' lt here is knows s cap lines be
         carrying = failed_carries (seen_of mid) lines below node l.link.port (seen_of d') l.holds.carrying by;
         numbered = failed_numbered (seen_of mid) lines below node l.link.port (seen_of d') l.holds.numbered by;
         accounted = failed_accounted (seen_of mid) lines below node l.link.port (seen_of d') l.holds.standing l.holds.numbered l.holds.accounted by;
+        caused = failed_caused (seen_of mid) lines below node l.link.port (seen_of d') (failed_below (seen_of d) lines below at node lost.place (process_of l.process) l.link h.standing here (shown_at d at l.process l.is_process) l.stands told.1.failed) l.holds.caused by;
         housed = subst (λ (ps : List IpcProcess). AreHoused g ps) twice (housed_set g mid.processes at p1 p' l.holds.housed there refl (record { links = refl; routes = refl; places = λ qos link. refl }));
       },
     )

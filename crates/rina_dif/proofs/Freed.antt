@@ -24,6 +24,7 @@ use Rattle.rina_law.specs.Direction.{Direction}
 use Rattle.rina_data.specs.Accounted.{IsAccounted}
 use Rattle.rina_data.specs.declared.process.IpcProcess.{IpcProcess}
 use Rattle.rina_data.specs.Carried.{IsCarrying}
+use Rattle.rina_data.specs.Caused.{AreCaused}
 use Rattle.rina_data.specs.Cloud.{Cloud, Everywhere}
 use Rattle.rina_data.specs.Configs.{config_of}
 use Rattle.rina_data.specs.Deciding.{process_of}
@@ -52,6 +53,7 @@ use Rattle.rina_dif.specs.Holding.{AreHoused, Holds, Stands}
 use Rattle.rina_dif.specs.Shown.{seen_of}
 use Rattle.rina_dif.specs.Timely.{WithLedger}
 use Rattle.rina_dif.specs.Whole.{IsDif}
+use Rattle.rina_dif.proofs.Causing.{closed_caused, freed_caused}
 use Rattle.rina_dif.proofs.Facing.{unchanged}
 use Rattle.rina_dif.proofs.Keeping.{housed_set}
 use Rattle.rina_dif.proofs.Leaves.{has_process, shown_at}
@@ -86,6 +88,7 @@ closes d i at end (Ok done) flows ps lt here is allocated stops lines below h =
         carrying = ended_carries (seen_of d) lines below at Closed (seen_of d') h.carrying ended;
         numbered = ended_numbered (seen_of d) lines below at Closed (seen_of d') h.numbered ended;
         accounted = ended_accounted (seen_of d) lines below at Closed (seen_of d') h.standing h.numbered h.accounted ended;
+        caused = closed_caused (seen_of d) lines below at (seen_of d') ended h.caused;
         housed = subst (AreHoused g) (sym x.2) (housed_set g d.processes i p.0 (record p.0 { ledger = x.0 }) h.housed p.1 refl (record { links = refl; routes = refl; places = λ qos link. refl }));
       };
     }
@@ -194,6 +197,7 @@ withdraws d at end flows is not conns ends lines below h =
         carrying = subst (λ (z : DifSeen). IsCarrying z lines below) (sym seen) (restated_carries (seen_of d) lines below at end (freed_state end.state) h.carrying is);
         numbered = subst (λ (z : DifSeen). IsNumbered z below) (sym seen) (restated_numbered (seen_of d) below at end h.numbered is);
         accounted = subst (λ (z : DifSeen). IsAccounted z lines below) (sym seen) (restated_accounted (seen_of d) lines below at end (freed_state end.state) h.accounted is not gone);
+        caused = subst (λ (z : DifSeen). AreCaused z below) (sym seen) (freed_caused (seen_of d) below at end is h.caused);
         housed = h.housed;
       };
     }
@@ -202,7 +206,7 @@ withdraws d at end flows is not conns ends lines below h =
 
 -- whether memory was wanted is noted
 holds_noted : (d : Dif) (failed : Bool) (lines : List Direction) (below : Seen) → Holds d lines below → Holds (record d { failed = failed }) lines below
-holds_noted d failed lines below h = record { tied = h.tied; standing = h.standing; carrying = h.carrying; numbered = h.numbered; accounted = h.accounted; housed = h.housed }
+holds_noted d failed lines below h = record { tied = h.tied; standing = h.standing; carrying = h.carrying; numbered = h.numbered; accounted = h.accounted; caused = h.caused; housed = h.housed }
 
 -- what `free` does, whatever it stands on
 abbrev pub FreesFor : Dif → Port → Result (Unit {0}) FreeError → Dif → Type 0

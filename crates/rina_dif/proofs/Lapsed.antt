@@ -13,6 +13,7 @@ use Rattle.rina_data.specs.declared.process.IpcProcess.{IpcProcess}
 use Rattle.rina_data.specs.Configs.{config_of}
 use Rattle.rina_data.specs.Deciding.{process_of}
 use Rattle.rina_data.specs.Dif.{with_offs}
+use Rattle.rina_data.specs.Ending.{IsGivenUp}
 use Rattle.rina_data.specs.Sending.{home}
 use Rattle.rina_data.proofs.Carries.{forgotten_carries}
 use Rattle.rina_data.proofs.Finishing.{ended_carries, ended_stands}
@@ -27,6 +28,7 @@ use Rattle.rina_dif.specs.declared.dif.Dif.{Dif}
 use Rattle.rina_dif.specs.Holding.{AreHoused, Holds, Stands}
 use Rattle.rina_dif.specs.Shown.{seen_of}
 use Rattle.rina_dif.specs.Timely.{ForgetsAs, GivesUpAs, IsHomeEnd, WithLedger}
+use Rattle.rina_dif.proofs.Causing.{given_up_caused, process_caused}
 use Rattle.rina_dif.proofs.Keeping.{housed_set}
 use Rattle.rina_dif.proofs.Leaves.{has_process, shown_at}
 use Rattle.rina_dif.proofs.Owning.{arrived_seen}
@@ -80,6 +82,7 @@ forgets d i at (Ok true) flows ps lt here does lines below h =
           carrying = forgotten_carries (seen_of d) lines below at (seen_of d') f.lines' h.carrying forgotten;
           numbered = forgotten_numbered (seen_of d) lines below at (seen_of d') f.lines' h.numbered forgotten;
           accounted = forgotten_accounted (seen_of d) lines below at (seen_of d') f.lines' h.standing h.numbered h.accounted forgotten;
+          caused = process_caused (seen_of d) (seen_of d') below forgotten.i _ forgotten.new_is h.caused;
           housed = housed_on d i p.0 ps x.0 lines below h p.1 x.2;
         };
       },
@@ -103,8 +106,9 @@ gives_up d i at (Ok (Some num)) flows ps lt here does lines below h =
     let g = f.gives_up in
     let seen = arrived_seen d i p.0 f.offs x.0 flows ps refl f.ids f.ledger_is x.2 in
     let ended = is_ended (seen_of d) lines at i _ (process_of p.0) f.offs flows.journal.ends (seen_of d') g.ended (at_home d i at g.ended.end here g.ended.is_conn.end) (shown_at d i p.0 p.1) seen in
+    let given : IsGivenUp (seen_of d) lines at num.seq (seen_of d') = record { line = g.line; is_line = g.is_line; ids = g.its_ids; ids_are = g.ids_are; cube = g.cube; is_cube = g.is_cube; late = g.late; ended = ended } in
     record {
-      given_up = record { line = g.line; is_line = g.is_line; ids = g.its_ids; ids_are = g.ids_are; cube = g.cube; is_cube = g.is_cube; late = g.late; ended = ended };
+      given_up = given;
       cep = f.num_is;
       holds = record {
         tied = f.tied;
@@ -112,6 +116,7 @@ gives_up d i at (Ok (Some num)) flows ps lt here does lines below h =
         carrying = ended_carries (seen_of d) lines below at _ (seen_of d') h.carrying ended;
         numbered = ended_numbered (seen_of d) lines below at _ (seen_of d') h.numbered ended;
         accounted = ended_accounted (seen_of d) lines below at _ (seen_of d') h.standing h.numbered h.accounted ended;
+        caused = given_up_caused (seen_of d) lines below at num.seq (seen_of d') h.standing given h.caused;
         housed = housed_on d i p.0 ps x.0 lines below h p.1 x.2;
       };
     }

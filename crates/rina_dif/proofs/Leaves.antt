@@ -36,6 +36,7 @@ use Rattle.rina_dif.specs.declared.dif.Dif.{Dif}
 use Rattle.rina_dif.specs.Holding.{AreHoused, Holds, Stands}
 use Rattle.rina_dif.specs.Shown.{seen_of}
 use Rattle.rina_dif.specs.Steps.{AsksAt, AsksHome, AtHome, Leaves, OutsAt, WillGo}
+use Rattle.rina_dif.proofs.Causing.{outs_caused}
 use Rattle.rina_dif.proofs.Keeping.{IsSameHouse, house_is, housed_set, same_house, same_places}
 
 same_some : {X : Type 0} (o : Option X) (a b : X) → o ≡ Some a → o ≡ Some b → a ≡ b
@@ -127,6 +128,7 @@ leaves_hold refuses d below at n r ps below' kept kept' lt leaves lines h =
       carrying = outs_carry refuses (seen_of d) lines below at n r (seen_of d') below' kept kept' h.carrying outs;
       numbered = outs_numbered refuses (seen_of d) lines below at n r (seen_of d') below' kept kept' h.standing h.numbered outs;
       accounted = outs_accounted refuses (seen_of d) lines below at n r (seen_of d') below' kept kept' h.standing h.numbered h.accounted outs;
+      caused = outs_caused refuses (seen_of d) below at n r (seen_of d') below' kept' h.caused outs;
       housed = subst (AreHoused (config_of d.settings)) (sym l.3) (housed_set (config_of d.settings) d.processes at p.0 l.0 h.housed p.1 l.2 (goes_same refuses (config_of d.settings) d.clock (process_of p.0) below n r (process_of l.0) below' l.1));
     }
 

@@ -4,6 +4,7 @@ pub mod Barred
 pub mod Below
 pub mod Beside
 pub mod Bound
+pub mod Causing
 pub mod Claimed
 pub mod Clocked
 pub mod Cutting
@@ -21,6 +22,7 @@ pub mod Moves
 pub mod Named
 pub mod Owning
 pub mod Passed
+pub mod Pieced
 pub mod Posted
 pub mod Putting
 pub mod Refused

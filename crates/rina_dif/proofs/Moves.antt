@@ -16,6 +16,7 @@ use Rattle.rina_flows.proofs.Lasting.{tied_later}
 use Rattle.rina_dif.specs.declared.dif.Dif.{Dif}
 use Rattle.rina_dif.specs.Holding.{Holds}
 use Rattle.rina_dif.specs.Shown.{seen_of}
+use Rattle.rina_dif.proofs.Causing.{caused_on, lower_later, none_same}
 
 pub holds_later : (d : Dif) (now : ℕ) (lines : List Direction) (below below' : Seen) → d.clock ≤ now → AreKept below' → IsLifted (config_of d.settings) below below' → below'.now ≡ now → Holds d lines below → Holds (record d { clock = now }) (map (ticked (now - d.clock)) lines) below'
 holds_later d now lines below below' le kept' lifted clock h =
@@ -29,6 +30,7 @@ holds_later d now lines below below' le kept' lifted clock h =
       carrying = time_carries (seen_of d) lines below below' (seen_of d') lines' kept' h.carrying lifted there;
       numbered = time_numbered (seen_of d) lines below below' (seen_of d') lines' kept' h.numbered lifted there;
       accounted = time_accounted (seen_of d) lines below below' (seen_of d') lines' kept' h.accounted lifted there;
+      caused = caused_on (seen_of d) (seen_of d') below below' (none_same (seen_of d) (seen_of d') refl refl refl le) (lower_later (config_of d.settings) below below' kept' lifted.later) h.caused;
       housed = h.housed;
     }
 

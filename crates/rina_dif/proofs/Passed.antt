@@ -1,6 +1,5 @@
 -- An SDU is taken from a DIF.
-use Rattle.std.proofs.Common.{◌≡◌, ◌∙◌, ℕ, ◌<◌, List, length, map, slice_get, slice_set, Some, refl, sym, ap, subst, arith}
-use Rattle.std.proofs.lemmas.List.{length-map}
+use Rattle.std.proofs.Common.{◌≡◌, ◌∙◌, ℕ, ◌<◌, List, length, map, slice_set, ap, arith}
 use Rattle.rina_iface.specs.declared.ends.End.{End}
 use Rattle.rina_iface.specs.Ends.{with_passed}
 use Rattle.rina_iface.specs.Seen.{Seen}
@@ -21,6 +20,7 @@ use Rattle.rina_flows.specs.Tied.{IsInboundAt}
 use Rattle.rina_dif.specs.declared.dif.Dif.{Dif}
 use Rattle.rina_dif.specs.Holding.{Holds, Passes, Stands}
 use Rattle.rina_dif.specs.Shown.{seen_of}
+use Rattle.rina_dif.proofs.Causing.{passed_caused}
 
 -- the DIF with other flows of the same names
 pub seen_flows : (d : Dif) (flows : Flows) (ends : List End) → flows.journal.ends ≡ ends → SameIds d.flows flows → seen_of (record d { flows = flows }) ≡ record (seen_of d) { ends = ends }
@@ -61,6 +61,7 @@ passes d at flows p lines below h =
         carrying = passed_carries (seen_of d) lines below at (seen_of d') o.lines' h.carrying passed;
         numbered = passed_numbered (seen_of d) lines below at (seen_of d') o.lines' h.numbered passed;
         accounted = passed_accounted (seen_of d) lines below at (seen_of d') o.lines' h.accounted passed;
+        caused = passed_caused (seen_of d) lines below at (seen_of d') o.lines' passed h.caused;
         housed = h.housed;
       };
     }

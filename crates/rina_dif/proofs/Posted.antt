@@ -47,6 +47,7 @@ use Rattle.rina_dif.specs.Holding.{AreHoused, Holds}
 use Rattle.rina_dif.specs.Shown.{seen_of}
 use Rattle.rina_dif.specs.Taking.{RoutesAt}
 use Rattle.rina_dif.specs.Timely.{Acknowledges, AcknowledgesAs, ForwardsAt, IsHomeEnd, SendsAgain, SendsAgainAs}
+use Rattle.rina_dif.proofs.Causing.{process_caused}
 use Rattle.rina_dif.proofs.Keeping.{IsSameHouse, house_is, housed_set, same_house, same_places}
 use Rattle.rina_dif.proofs.Leaves.{has_process, shown_at, stepped}
 use Rattle.rina_dif.proofs.Putting.{is_there}
@@ -208,6 +209,7 @@ acknowledges d lines below i at conn due s flows ps lt here is tells forwards do
         carrying = acknowledged_carries (seen_of d) lines below at p.cause (seen_of d') a.lines' h.carrying acknowledged;
         numbered = acknowledged_numbered (seen_of d) lines below at p.cause (seen_of d') a.lines' h.numbered acknowledged;
         accounted = acknowledged_accounted (seen_of d) lines below at p.cause (seen_of d') a.lines' h.numbered h.accounted acknowledged;
+        caused = process_caused (seen_of d) (seen_of d') below acknowledged.i acknowledged.process' acknowledged.new_is h.caused;
         housed = p.housed;
       };
     }
@@ -278,6 +280,7 @@ sends_again d lines below i at conn pdu s flows ps lt here is tells forwards doe
         carrying = resent_carries (seen_of d) lines below at p.cause (seen_of d') a.lines' h.carrying resent;
         numbered = resent_numbered (seen_of d) lines below at p.cause (seen_of d') a.lines' h.numbered resent;
         accounted = resent_accounted (seen_of d) lines below at p.cause (seen_of d') a.lines' h.numbered h.accounted resent;
+        caused = process_caused (seen_of d) (seen_of d') below resent.i resent.process' resent.new_is h.caused;
         housed = p.housed;
       };
     }

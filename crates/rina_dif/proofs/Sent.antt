@@ -44,6 +44,7 @@ use Rattle.rina_dif.specs.Holding.{AreHoused, Holds}
 use Rattle.rina_dif.specs.Sending.{AreOf, HasPut, HasRoomFor, IsAdmitted, IsBarred, Puts, Sends, SendsAt, queued, told_as}
 use Rattle.rina_dif.specs.Shown.{seen_of}
 use Rattle.rina_dif.specs.Whole.{IsDif}
+use Rattle.rina_dif.proofs.Causing.{offered_caused}
 use Rattle.rina_dif.proofs.Barred.{line_there, parts_of, past, sender_refusal}
 use Rattle.rina_dif.proofs.Keeping.{house_is, housed_set, same_places}
 use Rattle.rina_dif.proofs.Putting.{waiting_there}
@@ -280,6 +281,7 @@ sends_made d at sdu way made flows ps a offers puts lines below h =
         carrying = offers_carry (seen_of d) lines below at o.parts (Ok made.num) (seen_of d') o.lines' h.carrying offer;
         numbered = offers_numbered (seen_of d) lines below at o.parts (Ok made.num) (seen_of d') o.lines' h.standing h.numbered offer;
         accounted = offers_accounted (seen_of d) lines below at o.parts (Ok made.num) (seen_of d') o.lines' h.standing h.numbered h.accounted offer;
+        caused = offered_caused (seen_of d) lines below at o.parts made.num (seen_of d') o.lines' offer.2 h.caused;
         housed = subst (AreHoused g) (sym put.2) (housed_set g d.processes way.home a.goes.process put.0 h.housed a.goes.is_process put.1.cap house);
       };
     }
@@ -292,7 +294,7 @@ refailed d lines below at sdu r d' failed s = record {
   cut = s.cut;
   lines' = s.lines';
   offers = s.offers;
-  holds = record { tied = s.holds.tied; standing = s.holds.standing; carrying = s.holds.carrying; numbered = s.holds.numbered; accounted = s.holds.accounted; housed = s.holds.housed };
+  holds = record { tied = s.holds.tied; standing = s.holds.standing; carrying = s.holds.carrying; numbered = s.holds.numbered; accounted = s.holds.accounted; caused = s.holds.caused; housed = s.holds.housed };
 }
 
 pub sends_at : (o : Option ℕ) (d : Dif) (lines : List Direction) (below : Seen) (at : ℕ) (sdu : List ℕ) (r : Result Num SendError) (d' : Dif) → o ≡ Some at → Sends d lines below at sdu r d' → SendsAt o d lines below sdu r d'

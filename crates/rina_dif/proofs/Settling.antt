@@ -23,6 +23,7 @@ use Rattle.rina_data.specs.Dif.{DifSeen, IsProcess, Member, Process, with_offs, 
 use Rattle.rina_data.specs.Incoming.{Settles}
 use Rattle.rina_data.specs.Queueing.{Notes}
 use Rattle.rina_data.specs.Carried.{IsCarrying}
+use Rattle.rina_data.specs.Caused.{AreCaused}
 use Rattle.rina_data.specs.Numbered.{IsNumbered}
 use Rattle.rina_data.specs.Standing.{IsStanding}
 use Rattle.rina_data.proofs.Decided.{off_settles, relayed_settles}
@@ -107,6 +108,7 @@ holds_unseen d ps lines below same housed h = record {
   carrying = subst (λ (z : DifSeen). IsCarrying z lines below) (sym same) h.carrying;
   numbered = subst (λ (z : DifSeen). IsNumbered z below) (sym same) h.numbered;
   accounted = subst (λ (z : DifSeen). IsAccounted z lines below) (sym same) h.accounted;
+  caused = subst (λ (z : DifSeen). AreCaused z below) (sym same) h.caused;
   housed = housed;
 }
 

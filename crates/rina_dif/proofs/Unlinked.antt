@@ -30,6 +30,7 @@ use Rattle.rina_dif.specs.Holding.{AreHoused, HasQueues, HaveQueues, Holds, IsHo
 use Rattle.rina_dif.specs.Routing.{KnowsLive, Weigh, claims_with, edges_from, edges_of, live_links, live_of, own_links, routes_to}
 use Rattle.rina_dif.specs.Shown.{seen_of}
 use Rattle.rina_dif.specs.Unlinking.{FailsWith, FindsLostAt, FindsNoneLeft, KnowsWithout, LosesAs, LosesIn, LosesLink, LosesOr, LosesWith, links_without}
+use Rattle.rina_dif.proofs.Causing.{process_caused}
 use Rattle.rina_dif.proofs.Keeping.{house_is, housed_set, position_map, same_house, set_cases}
 use Rattle.rina_dif.proofs.Leaves.{has_process, shown_at, stepped}
 use Rattle.rina_dif.proofs.Routed.{live_hop, own_weighs}
@@ -149,6 +150,7 @@ link_lost d lines below at lost routes member p p' is_member is knows loses cap 
         carrying = lost_carries (seen_of d) lines below at lost.number routes d' h.carrying gone;
         numbered = lost_numbered (seen_of d) below at lost.number routes d' h.numbered gone;
         accounted = lost_accounted (seen_of d) lines below at lost.number routes d' h.accounted gone;
+        caused = process_caused (seen_of d) d' below at _ gone.new_is h.caused;
         housed = housed_after (config_of d.settings) d.processes at p p' lost.place link routes d.settings.members d.laid.links member h.housed is cap there new known;
       };
     }

@@ -6,6 +6,7 @@ use Rattle.rina_data.specs.declared.link.Link.{Link}
 use Rattle.rina_data.specs.declared.process.IpcProcess.{IpcProcess}
 use Rattle.rina_data.specs.Accounted.{IsAccounted}
 use Rattle.rina_data.specs.Carried.{IsCarrying}
+use Rattle.rina_data.specs.Caused.{AreCaused}
 use Rattle.rina_data.specs.Configs.{config_of}
 use Rattle.rina_data.specs.Deciding.{process_of}
 use Rattle.rina_data.specs.Dif.{Config, Process, next_hop, queue_place}
@@ -35,13 +36,15 @@ abbrev pub AreHoused : Config → List IpcProcess → Type 0
 AreHoused g processes = (i : ℕ) (p : IpcProcess) → slice_get processes i ≡ Some p → IsHoused g p
 
 -- the DIF stands on the rank below, where these directions stand behind its flows, whatever an end got has come, its
--- names are those of its members and ports, and each IPC process is in account for each PDU
+-- names are those of its members and ports, each IPC process is in account for each PDU, and each end that has failed
+-- did so for its cause
 pub record Holds (d : Dif) (lines : List Direction) (below : Seen) : Type 0 where
   pub tied : AreTied (config_of d.settings) d.clock d.flows lines
   pub standing : IsStanding (seen_of d) lines below
   pub carrying : IsCarrying (seen_of d) lines below
   pub numbered : IsNumbered (seen_of d) below
   pub accounted : IsAccounted (seen_of d) lines below
+  pub caused : AreCaused (seen_of d) below
   pub housed : AreHoused (config_of d.settings) d.processes
 
 -- some directions stand behind its flows

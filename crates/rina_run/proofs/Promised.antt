@@ -5,7 +5,7 @@ use Rattle.rina_dif.specs.declared.dif.Dif.{Dif}
 use Rattle.rina_dif.specs.Holding.{Stands}
 use Rattle.rina_tower.specs.declared.tower.Tower.{Tower, Rank', Wires}
 use Rattle.rina_tower.specs.Standing.{IsTower}
-use Rattle.rina_run.specs.Promises.{AccountsAll, CarriesAll, IsCarriedBy, IsInAccount, OfEachDif}
+use Rattle.rina_run.specs.Promises.{AccountsAll, CarriesAll, CausesAll, IsCarriedBy, IsCausedIn, IsInAccount, OfEachDif}
 
 -- what follows of a DIF that stands holds of each
 of_each : (Promise : Dif → Seen → Type 0) → ((d : Dif) (below : Seen) → Stands d below → Promise d below) → (t : Tower) → IsTower t → OfEachDif Promise t
@@ -27,3 +27,9 @@ in_account d below stands = stands.0, stands.1.standing, stands.1.accounted
 
 pub accounted_if : (tower : Option Tower) → IfSome tower IsTower → IfSome tower AccountsAll
 accounted_if = of_each_if IsInAccount in_account
+
+caused_in : (d : Dif) (below : Seen) → Stands d below → IsCausedIn d below
+caused_in d below stands = stands.1.caused
+
+pub caused_if : (tower : Option Tower) → IfSome tower IsTower → IfSome tower CausesAll
+caused_if = of_each_if IsCausedIn caused_in

@@ -4,6 +4,7 @@ use Rattle.rina_iface.specs.Seen.{Seen}
 use Rattle.rina_law.specs.Direction.{Direction}
 use Rattle.rina_data.specs.Accounted.{IsAccounted}
 use Rattle.rina_data.specs.Carried.{AreCarried}
+use Rattle.rina_data.specs.Caused.{AreCaused}
 use Rattle.rina_data.specs.Standing.{IsStanding}
 use Rattle.rina_dif.specs.declared.dif.Dif.{Dif}
 use Rattle.rina_dif.specs.Shown.{seen_of as seen_of_dif}
@@ -29,3 +30,11 @@ IsInAccount d below = (lines : List Direction) × IsStanding (seen_of_dif d) lin
 
 abbrev pub AccountsAll : Tower → Type 0
 AccountsAll = OfEachDif IsInAccount
+
+-- each end of a flow that has failed did so for its cause: it gave up a number whose answer was too late to come, or the
+-- flow below its IPC process has failed
+abbrev pub IsCausedIn : Dif → Seen → Type 0
+IsCausedIn d below = AreCaused (seen_of_dif d) below
+
+abbrev pub CausesAll : Tower → Type 0
+CausesAll = OfEachDif IsCausedIn

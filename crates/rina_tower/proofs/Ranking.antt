@@ -22,6 +22,7 @@ use Rattle.rina_dif.specs.declared.dif.Dif.{Dif}
 use Rattle.rina_dif.specs.Facade.{IsShownAs, OthersStand, shown_as}
 use Rattle.rina_dif.specs.Holding.{Holds, Stands}
 use Rattle.rina_dif.specs.Shown.{seen_of as seen_of_dif}
+use Rattle.rina_dif.proofs.Causing.{caused_on, lower_later, none_is}
 use Rattle.rina_tower.specs.declared.tower.Tower.{Tower}
 use Rattle.rina_tower.specs.Beside.{Anyone, IsIpc, LeavesEnds, LeavesNow}
 use Rattle.rina_tower.specs.Ranks.{fac_of_dif, height_of, now_of, seen_now, seen_of, seen_of_difs}
@@ -39,6 +40,7 @@ holds_beside who d lines below below' kept kept' mine alone h =
       carrying = beside_carries (seen_of_dif d) lines below below' kept' h.carrying up;
       numbered = beside_numbered (seen_of_dif d) below below' kept' h.numbered up;
       accounted = beside_accounted (seen_of_dif d) lines below below' kept' h.accounted up;
+      caused = caused_on (seen_of_dif d) (seen_of_dif d) below below' (none_is (seen_of_dif d) (seen_of_dif d) refl) (lower_later (config_of d.settings) below below' kept' up.later) h.caused;
       housed = h.housed;
     }
 
