@@ -1,5 +1,5 @@
 //! Names of objects of a RIB.
-ghost use Rattle.std.specs.Prelude.{◌≡◌, ◌≤◌, IfOk, IfSome};
+ghost use Rattle.std.specs.Prelude.{◌≡◌, ◌≤◌, true, IfOk, IfSome};
 ghost use Rattle.rina_schedule.specs.Objects.{is_object_byte, are_parts, is_object_name, object_name_of};
 
 use rina_base::Memory;
