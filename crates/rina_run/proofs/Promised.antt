@@ -10,7 +10,7 @@ use Rattle.rina_run.specs.Promises.{AccountsAll, CarriesAll, CausesAll, IsCarrie
 -- what follows of a DIF that stands holds of each
 of_each : (Promise : Dif → Seen → Type 0) → ((d : Dif) (below : Seen) → Stands d below → Promise d below) → (t : Tower) → IsTower t → OfEachDif Promise t
 of_each Promise follows (Wires a) v = unit
-of_each Promise follows (Rank' p difs below) v = (λ n d here. follows d _ (v.0.standing.stand n d here)), of_each Promise follows below v.1
+of_each Promise follows (Rank' p difs below) v = (λ n d here. follows d _ (v.0.standing.stand n d here), of_each Promise follows below v.1)
 
 pub of_each_if : (Promise : Dif → Seen → Type 0) → ((d : Dif) (below : Seen) → Stands d below → Promise d below) → (tower : Option Tower) → IfSome tower IsTower → IfSome tower (OfEachDif Promise)
 of_each_if Promise follows None v = v
@@ -23,7 +23,7 @@ pub carried_if : (tower : Option Tower) → IfSome tower IsTower → IfSome towe
 carried_if = of_each_if IsCarriedBy carried
 
 in_account : (d : Dif) (below : Seen) → Stands d below → IsInAccount d below
-in_account d below stands = stands.0, stands.1.standing, stands.1.accounted
+in_account d below stands = (stands.0, stands.1.standing, stands.1.accounted)
 
 pub accounted_if : (tower : Option Tower) → IfSome tower IsTower → IfSome tower AccountsAll
 accounted_if = of_each_if IsInAccount in_account
