@@ -1,5 +1,5 @@
 -- What a tower that stands promises of each of its DIFs.
-use Rattle.std.proofs.Common.{◌≡◌, ℕ, Option, Some, None, IfSome, slice_get, unit}
+use Rattle.std.proofs.Common.{◌≡◌, ℕ, Option, Some, None, IfSome, slice_get}
 use Rattle.rina_iface.specs.Seen.{Seen}
 use Rattle.rina_dif.specs.declared.dif.Dif.{Dif}
 use Rattle.rina_dif.specs.Holding.{Stands}
@@ -9,7 +9,7 @@ use Rattle.rina_run.specs.Promises.{AccountsAll, CarriesAll, CausesAll, IsCarrie
 
 -- what follows of a DIF that stands holds of each
 of_each : (Promise : Dif → Seen → Type 0) → ((d : Dif) (below : Seen) → Stands d below → Promise d below) → (t : Tower) → IsTower t → OfEachDif Promise t
-of_each Promise follows (Wires a) v = unit
+of_each Promise follows (Wires a) v = tt
 of_each Promise follows (Rank' p difs below) v = (λ n d here. follows d _ (v.0.standing.stand n d here), of_each Promise follows below v.1)
 
 pub of_each_if : (Promise : Dif → Seen → Type 0) → ((d : Dif) (below : Seen) → Stands d below → Promise d below) → (tower : Option Tower) → IfSome tower IsTower → IfSome tower (OfEachDif Promise)
