@@ -1,5 +1,5 @@
 -- What holds of each DIF of the tower that a run returns, at every rank.
-use Rattle.std.specs.Prelude.{◌≡◌, ℕ, List, slice_get, Some, Unit}
+use Rattle.std.specs.Prelude.{◌≡◌, ℕ, List, slice_get, Some}
 use Rattle.rina_iface.specs.Seen.{Seen}
 use Rattle.rina_law.specs.Direction.{Direction}
 use Rattle.rina_data.specs.Accounted.{IsAccounted}
