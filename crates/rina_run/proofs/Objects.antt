@@ -1,5 +1,6 @@
 -- Names of objects, as a schedule and as a RIB read them.
-use Rattle.std.proofs.Common.{◌≡◌, ℕ, ◌+◌, ◌==◌, Bool, true, false, cond, ◌||◌, ◌&&◌, nat_le, nat_lt, List, [], ◌∷◌, length, refl, sym, ap, ◌∙◌}
+use Rattle.std.proofs.Common.{◌≡◌, ℕ, ◌+◌, ◌==◌, Bool, true, false, cond, ◌||◌, ◌&&◌, nat_le, nat_lt, List, [], ◌∷◌, length, inl, inr, refl, sym, ap, ◌∙◌, arith}
+use Rattle.std.proofs.lemmas.Bool.Decides.{eqb_tells}
 use Rattle.rina_base.specs.Names.{is_name_byte}
 use Rattle.rina_cdap.specs.ObjectNames.{is_object_name_of, is_part_byte, parts_from}
 use Rattle.rina_schedule.specs.Objects.{are_parts, is_object_byte, is_object_name}
@@ -32,9 +33,17 @@ and_true : (b : Bool) → (b && true) ≡ b
 and_true true = refl
 and_true false = refl
 
+some_byte : (c : ℕ) (text : List ℕ) → (length (c ∷ text) == 0) ≡ false
+some_byte c text = elim (eqb_tells (length (c ∷ text)) 0) [
+  | inl h ↦ absurd (omega (arith, h.1))
+  | inr f ↦ f.0
+]
+
 -- what a schedule takes for the name of an object is one of a RIB, and the other way round
 pub same_names : (text : List ℕ) → is_object_name text ≡ is_object_name_of text
 unfolding is_object_name is_object_name_of
 same_names [] = refl
 same_names (b ∷ []) = and_true (b == 47)
-same_names (b ∷ c ∷ text) = ap (λ (x : Bool). (b == 47) && x) (same_parts 0 (c ∷ text))
+same_names (b ∷ c ∷ text) =
+    ap (λ (x : Bool). (b == 47) && (x || are_parts 0 (c ∷ text))) (some_byte c text)
+    ∙ ap (λ (x : Bool). (b == 47) && x) (same_parts 0 (c ∷ text))

@@ -4,7 +4,7 @@ use Rattle.rina_run.proofs.Calls.{calls_cdap}
 use Rattle.rina_run.proofs.cdap_word.call_cdap.Goals as goal
 
 pub returns-in-Ok-clause-does : goal.returns-in-Ok-clause-does
-returns-in-Ok-clause-does c = calls_cdap c.args.bytes.now c.args.world.now c.args.site (Ok c.in-Ok.answer.items) _ _ c.in-Ok.ensures.does (ap (λ (x : List ℕ). Some (said.Cdap x)) c.from_vec.ensures)
+returns-in-Ok-clause-does c = calls_cdap c.args.bytes.now c.args.world.now c.args.site (Ok c.in-Ok.answer.items) _ (Ok (Some (said.Cdap c.from_vec.result))) c.in-Ok.ensures.does (ap (λ (x : List ℕ). Some (said.Cdap x)) c.from_vec.ensures)
 
 pub returns-in-Err : goal.returns-in-Err
 returns-in-Err c = record {
