@@ -16,6 +16,7 @@ use Rattle.rina_tower.specs.declared.tower.Tower.{Tower}
 use Rattle.rina_tower.specs.Building.{IsBuilt}
 use Rattle.rina_tower.specs.Flows.{links_on}
 use Rattle.rina_tower.specs.Making.{IsHighest}
+use Rattle.rina_tower.specs.Planned.{IsAsPlanned}
 use Rattle.rina_tower.specs.Ranks.{height_of}
 use Rattle.rina_tower.specs.Standing.{IsTower}
 use Rattle.rina_run.specs.declared.labels.Label.{Label}
@@ -48,12 +49,13 @@ abbrev pub AreLabelsOf : Plan → Tower → List ℕ → List Label → Type 0
 AreLabelsOf plan t [] labels = labels ≡ []
 AreLabelsOf plan t (i ∷ is) labels = (first : List Label) × (rest : List Label) × AreDifLabels plan t i first × AreLabelsOf plan t is rest × (labels ≡ first ++ rest)
 
--- the stage before the first line: the tower of the plan as it was built, the labels of the stack's flows in stack order, and
--- the shelf that was handed in
+-- the stage before the first line: the tower of the plan as it was built, each DIF with its settings and links, the labels of
+-- the stack's flows in stack order, and the shelf that was handed in
 pub record IsOpening (plan : Plan) (slots : List Slot) (s : Stage) : Type 0 where
   pub stands : IsTower s.world.tower
   pub built : IsBuilt plan s.world.tower
   pub height : IsHighest plan.difs (height_of s.world.tower)
+  pub planned : IsAsPlanned plan s.world.tower
   pub labels : AreLabelsOf plan s.world.tower (range_with_len 0 (length plan.difs)) s.world.labels
   pub shelf : s.shelf ≡ slots
 

@@ -25,6 +25,7 @@ use Rattle.rina_tower.specs.Building.{AreMade, IsBuilt, IsBuiltFrom, IsRankOf, I
 use Rattle.rina_tower.specs.Fitting.{flows_at, links_at}
 use Rattle.rina_tower.specs.Laying.{IsGround, IsLaying}
 use Rattle.rina_tower.specs.Making.{AreBound, AreLaid, HasBound, IsHalfMade, IsHighest, IsRaised, LaysNext}
+use Rattle.rina_tower.specs.Planned.{AreOfPlan, IsAsPlanned}
 use Rattle.rina_tower.specs.Ranks.{height_of, now_of, seen_of, seen_of_difs}
 use Rattle.rina_tower.specs.Standing.{AreStanding, IsTower, kept_of}
 use Rattle.rina_tower.specs.Walking.{SameBelow, same_refl, same_trans}
@@ -34,6 +35,7 @@ use Rattle.rina_tower.proofs.FitMade.{all_made, begun, can_lay, laid_on, passed_
 use Rattle.rina_tower.proofs.FitNames.{are_named}
 use Rattle.rina_tower.proofs.Ranking.{is_rank, standing_beside}
 use Rattle.rina_tower.proofs.Serving.{same_height}
+use Rattle.rina_tower.proofs.Staying.{next_planned, none_planned, same_planned}
 
 -- The clock
 
@@ -84,14 +86,14 @@ top_used plan (Wires a) (Wires a') top same b = (ap seen_of_wires top, record { 
 top_used plan (Wires a) (Rank' p' difs' below') top same b = absurd same
 top_used plan (Rank' p difs below) (Wires a') top same b = absurd same
 top_used plan (Rank' p difs below) (Rank' p' difs' below') top same b =
-    let bound = subst (λ (z : Tower). AreBound (seen_of_difs (now_of below) difs) (links_at plan (height_of below + 1 + 1) ++ flows_at plan (height_of below + 1)) (seen_of_difs (now_of z) difs')) same b in
+    let bound = subst (λ (z : Tower). AreBound (seen_of_difs (now_of below) difs) (links_at plan (height_of below + 1 + 1) ++ flows_at plan (height_of below + 1)) (seen_of_difs (now_of z) difs')) same.1 b in
     let u = used_here plan difs difs' below top.0 top.1 top.2.0 top.2.1 bound in
-    subst (λ (z : Tower). IsBuiltFrom plan (Rank' p' difs' z) (seen_of_difs (now_of below) difs)) (sym same) (top.0, top.1, u.0, u.1)
+    subst (λ (z : Tower). IsBuiltFrom plan (Rank' p' difs' z) (seen_of_difs (now_of below) difs)) (sym same.1) (top.0, top.1, u.0, u.1)
 
 -- A rank more
 
 pub start_raised : (plan : Plan) (a : Air) → IsSound a → a ≡ air_of plan → IsRaised plan 0 (Wires a)
-start_raised plan a sound is = record { valid = sound; top = is; height = refl }
+start_raised plan a sound is = record { valid = sound; top = is; height = refl; planned = tt }
 
 pub raised_ground : (plan : Plan) (k : ℕ) (t : Tower) → IsPlan plan → IsRaised plan k t → IsGround plan k (seen_of t)
 raised_ground plan k t p h = subst (λ (n : ℕ). IsGround plan n (seen_of t)) h.height (top_ground plan t p h.top)
@@ -113,6 +115,7 @@ raised plan k p t u v difs low h laid flows =
       valid = (is_rank difs v flows.valid (omega (arith, height, low)) standing, flows.valid);
       top = (seen_of t, below_built plan k t u v difs h laid flows, (seen_of u, subst (λ (n : ℕ). AreMade plan (places_in plan (n + 1) (length plan.difs)) (seen_of t) difs (seen_of u)) (sym height) laid.laying.made));
       height = ap (λ (n : ℕ). n + 1) height;
+      planned = (subst (λ (n : ℕ). AreOfPlan plan (n + 1) difs) (sym height) laid.planned, same_planned plan t v (same_trans t u v laid.below flows.below) h.planned);
     }
 
 -- The highest rank
@@ -171,6 +174,9 @@ last_built plan r t t' h most flows =
     let all : AreBound (seen_of t) (links_at plan (r + 1) ++ flows_at plan r) (seen_of t') = subst (λ (fs : List Fixed). AreBound (seen_of t) (fs ++ flows_at plan r) (seen_of t')) (sym (no_links plan r most)) flows.bound in
     (seen_of t, top_used plan t t' h.top flows.below (subst (λ (n : ℕ). AreBound (seen_of t) (links_at plan (n + 1) ++ flows_at plan n) (seen_of t')) (sym h.height) all))
 
+pub last_planned : (plan : Plan) (r : ℕ) (t t' : Tower) → IsRaised plan r t → HasBound t (flows_at plan r) t' → IsAsPlanned plan t'
+last_planned plan r t t' h flows = same_planned plan t t' flows.below h.planned
+
 pub last_height : (plan : Plan) (r : ℕ) (t t' : Tower) → IsRaised plan r t → HasBound t (flows_at plan r) t' → height_of t' ≡ r
 last_height plan r t t' h flows = same_height t t' flows.below ∙ h.height
 
@@ -181,6 +187,7 @@ laid_none plan k t difs valid ground none = record {
   valid = valid;
   below = same_refl t;
   laying = subst (λ (ds : List Dif). IsLaying plan k 0 (seen_of t) ds (seen_of t)) (sym none) (begun plan k (seen_of t) ground);
+  planned = subst (AreOfPlan plan (k + 1)) (sym none) (none_planned plan (k + 1));
 }
 
 pub laid_more : (plan : Plan) (k at : ℕ) (t u v : Tower) (difs difs' : List Dif) → IsGround plan k (seen_of t) → AreLaid plan k at t difs u → LaysNext plan k at difs u difs' v → AreLaid plan k (at + 1) t difs' v
@@ -188,6 +195,7 @@ laid_more plan k at t u v difs difs' ground a b = record {
   valid = b.valid;
   below = same_trans t u v a.below b.below;
   laying = b.laying (seen_of t) ground a.laying;
+  planned = b.planned a.planned;
 }
 
 pub laid_over : (plan : Plan) (k at : ℕ) (d : DifPlan) (difs : List Dif) (t : Tower) → slice_get plan.difs at ≡ Some d → d.rank ≢ k + 1 → at < length plan.difs → IsTower t → LaysNext plan k at difs t difs t
@@ -195,16 +203,18 @@ laid_over plan k at d difs t is other within valid = record {
   valid = valid;
   below = same_refl t;
   laying = λ ground g h. passed_over plan k at ground difs (seen_of t) within (rank_no plan (k + 1) at d is other) h;
+  planned = λ h. h;
 }
 
 pub may_lay : (plan : Plan) (k at : ℕ) (d : DifPlan) (difs : List Dif) (t : Tower) → slice_get plan.difs at ≡ Some d → d.rank ≡ k + 1 → at < length plan.difs → IsPlan plan → IsHalfMade plan k at difs (seen_of t) → CanLay plan at (seen_of t)
 may_lay plan k at d difs t is own within p half = can_lay plan k at half.0 difs (seen_of t) (are_named plan p) half.1 within (rank_yes plan (k + 1) at d is own) half.2
 
-pub laid_next : (plan : Plan) (k at : ℕ) (d : DifPlan) (difs difs' : List Dif) (made : Dif) (t u : Tower) → slice_get plan.difs at ≡ Some d → d.rank ≡ k + 1 → at < length plan.difs → IsPlan plan → IsTower t → IsTower u → SameBelow t u → Lays plan at (seen_of t) (seen_of u) → Stands made (seen_of u) → IsNew plan at made (seen_of t) (seen_of u) → difs' ≡ difs ++ made ∷ [] → LaysNext plan k at difs t difs' u
-laid_next plan k at d difs difs' made t u is own within p valid valid' same lays stands new more = record {
+pub laid_next : (plan : Plan) (k at : ℕ) (d : DifPlan) (difs difs' : List Dif) (made : Dif) (t u : Tower) → slice_get plan.difs at ≡ Some d → d.rank ≡ k + 1 → at < length plan.difs → IsPlan plan → IsTower t → IsTower u → SameBelow t u → Lays plan at (seen_of t) (seen_of u) → Stands made (seen_of u) → IsNew plan at made (seen_of t) (seen_of u) → made.laid.links ≡ d.links → difs' ≡ difs ++ made ∷ [] → LaysNext plan k at difs t difs' u
+laid_next plan k at d difs difs' made t u is own within p valid valid' same lays stands new links more = record {
   valid = valid';
   below = same;
   laying = λ ground g h. subst (λ (ds : List Dif). IsLaying plan k (at + 1) ground ds (seen_of u)) (sym more) (laid_on plan k at ground difs (seen_of t) (seen_of u) made (are_named plan p) within (rank_yes plan (k + 1) at d is own) (kept_of t valid) (kept_of u valid') h lays stands new);
+  planned = next_planned plan at (k + 1) d difs difs' made (seen_of t) (seen_of u) is own new links more;
 }
 
 pub all_laid : (plan : Plan) (k at n : ℕ) (t u : Tower) (difs : List Dif) → at ≤ n → n ≤ at → n ≡ length plan.difs → AreLaid plan k at t difs u → AreLaid plan k (length plan.difs) t difs u

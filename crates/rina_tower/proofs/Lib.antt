@@ -24,6 +24,7 @@ pub mod Owned
 pub mod Ranking
 pub mod Rounding
 pub mod Serving
+pub mod Staying
 pub mod Stepped
 pub mod Timing
 pub mod Using

@@ -137,7 +137,7 @@ frees_seen port result difs difs' below rank a = elim a [
 -- the height stays where nothing below the own rank changes
 pub same_height : (t t' : Tower) → SameBelow t t' → height_of t' ≡ height_of t
 same_height (Wires a) (Wires a') h = refl
-same_height (Rank' p difs below) (Rank' p' difs' below') h = rw h refl
+same_height (Rank' p difs below) (Rank' p' difs' below') h = rw h.1 refl
 same_height (Wires a) (Rank' p' difs' below') h = absurd h
 same_height (Rank' p difs below) (Wires a') h = absurd h
 

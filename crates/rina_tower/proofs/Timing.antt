@@ -21,15 +21,17 @@ use Rattle.rina_tower.specs.declared.tower.Tower.{Tower}
 use Rattle.rina_tower.specs.Beside.{Anyone, Leaves, LeavesEnds}
 use Rattle.rina_tower.specs.Ranks.{fac_of_dif, height_of, now_of, seen_now, seen_of, seen_of_difs}
 use Rattle.rina_tower.specs.Standing.{At, IsRank, IsTower, kept_of}
+use Rattle.rina_tower.specs.Staying.{IsStaying}
 use Rattle.rina_tower.specs.Ticking.{AreClocked, IsClocked}
 use Rattle.rina_tower.proofs.Alone.{ends_alone, lifted}
 use Rattle.rina_tower.proofs.Ranking.{is_rank}
 
 -- One DIF
 
-pub is_clocked : (d d' : Dif) (now : ℕ) → ((lines : List Direction) → IsTicked (seen_of_dif d) lines now (seen_of_dif d') (map (ticked (now - d.clock)) lines)) → ((lines : List Direction) (below below' : Seen) → AreKept below' → IsLifted (config_of d.settings) below below' → below'.now ≡ now → Holds d lines below → Holds d' (map (ticked (now - d.clock)) lines) below') → IsClocked now d d'
-is_clocked d d' now ticks keeps = record {
+pub is_clocked : (d d' : Dif) (now : ℕ) → IsStaying d d' → ((lines : List Direction) → IsTicked (seen_of_dif d) lines now (seen_of_dif d') (map (ticked (now - d.clock)) lines)) → ((lines : List Direction) (below below' : Seen) → AreKept below' → IsLifted (config_of d.settings) below below' → below'.now ≡ now → Holds d lines below → Holds d' (map (ticked (now - d.clock)) lines) below') → IsClocked now d d'
+is_clocked d d' now stays ticks keeps = record {
   seen = (ticks []).new_is;
+  stays = stays;
   stands = λ below below' kept up clock st. (map (ticked (now - d.clock)) st.0, keeps st.0 below below' kept up clock st.1);
 }
 

@@ -68,6 +68,7 @@ pub record Serves (call : Seen → Seen → Type 0) (n : ℕ) (d d' : Dif) : Typ
   pub goes_on : GoesOn d d'
   pub stands : StaysStanding d d'
   pub settings : d'.settings ≡ d.settings
+  pub links : d'.laid.links ≡ d.laid.links
 
 -- Names and asks
 

@@ -18,3 +18,4 @@ pub record StandsAfter (below below' : Seen) (d d' : Dif) : Type 0 where
   pub waiting : (seen_of d').waiting ≡ (seen_of d).waiting
   pub others : OthersStand d below below'
   pub settings : d'.settings ≡ d.settings
+  pub links : d'.laid.links ≡ d.laid.links

@@ -11,11 +11,13 @@ pub mod Laying
 pub mod Ledgers
 pub mod Making
 pub mod Objects
+pub mod Planned
 pub mod Ranks
 pub mod Refusing
 pub mod Rooms
 pub mod Rounds
 pub mod Standing
+pub mod Staying
 pub mod Stepping
 pub mod Ticking
 pub mod Using

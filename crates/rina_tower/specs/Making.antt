@@ -13,6 +13,7 @@ use Rattle.rina_tower.specs.declared.tower.Tower.{Tower}
 use Rattle.rina_tower.specs.Beside.{IsIpc, LeavesNow}
 use Rattle.rina_tower.specs.Building.{IsTop, has_rank}
 use Rattle.rina_tower.specs.Laying.{IsGround, IsLaying}
+use Rattle.rina_tower.specs.Planned.{AreOfPlan, IsAsPlanned}
 use Rattle.rina_tower.specs.Ranks.{height_of, seen_of}
 use Rattle.rina_tower.specs.Standing.{IsTower}
 use Rattle.rina_tower.specs.Walking.{SameBelow}
@@ -62,15 +63,18 @@ pub record LaysNext (plan : Plan) (k at : ℕ) (difs : List Dif) (old : Tower) (
   pub valid : IsTower new
   pub below : SameBelow old new
   pub laying : (ground : Seen) → IsGround plan k ground → IsLaying plan k at ground difs (seen_of old) → IsLaying plan k (at + 1) ground difs' (seen_of new)
+  pub planned : AreOfPlan plan (k + 1) difs → AreOfPlan plan (k + 1) difs'
 
 -- the DIFs of the rank above were made over a tower, as far as a place of the stack
 pub record AreLaid (plan : Plan) (k at : ℕ) (old : Tower) (difs : List Dif) (new : Tower) : Type 0 where
   pub valid : IsTower new
   pub below : SameBelow old new
   pub laying : IsLaying plan k at (seen_of old) difs (seen_of new)
+  pub planned : AreOfPlan plan (k + 1) difs
 
 -- a tower of so many ranks, of which nobody has used the own one
 pub record IsRaised (plan : Plan) (r : ℕ) (t : Tower) : Type 0 where
   pub valid : IsTower t
   pub top : IsTop plan t
   pub height : height_of t ≡ r
+  pub planned : IsAsPlanned plan t

@@ -11,10 +11,12 @@ use Rattle.rina_wire.specs.declared.tick.TickError.{TickError}
 use Rattle.rina_wire.specs.Tick.{TicksOn}
 use Rattle.rina_tower.specs.declared.tower.Tower.{Tower, Wires, Rank'}
 use Rattle.rina_tower.specs.Ranks.{now_of}
+use Rattle.rina_tower.specs.Staying.{IsStaying}
 
 -- the clock of a DIF was set, and nothing else changed; it stands on the rank below that has gone on with the clock
 pub record IsClocked (now : ℕ) (d d' : Dif) : Type 0 where
   pub seen : seen_of_dif d' ≡ record (seen_of_dif d) { clock = now }
+  pub stays : IsStaying d d'
   pub stands : (below below' : Seen) → AreKept below' → IsLifted (config_of d.settings) below below' → below'.now ≡ now → Stands d below → Stands d' below'
 
 -- and so that of each

@@ -5,20 +5,21 @@ use Rattle.rina_dif.specs.declared.dif.Dif.{Dif}
 use Rattle.rina_wire.specs.Air.{Air}
 use Rattle.rina_tower.specs.declared.tower.Tower.{Tower, Wires, Rank'}
 use Rattle.rina_tower.specs.Ranks.{height_of}
+use Rattle.rina_tower.specs.Staying.{AreStaying, difs_refl, difs_trans}
 
--- nothing of the ranks below the own one changed
+-- nothing of the ranks below the own one changed, and nothing in the own DIFs that never does
 abbrev pub SameBelow : Tower → Tower → Type 0
 SameBelow (Wires a) (Wires a') = Unit {0}
-SameBelow (Rank' p difs below) (Rank' p' difs' below') = below' ≡ below
+SameBelow (Rank' p difs below) (Rank' p' difs' below') = AreStaying difs difs' × (below' ≡ below)
 SameBelow t t' = ⊥
 
 pub same_refl : (t : Tower) → SameBelow t t
 same_refl (Wires a) = tt
-same_refl (Rank' p difs below) = refl
+same_refl (Rank' p difs below) = (difs_refl difs, refl)
 
 pub same_trans : (t u v : Tower) → SameBelow t u → SameBelow u v → SameBelow t v
 same_trans (Wires a) (Wires a') (Wires a'') h g = tt
-same_trans (Rank' p difs below) (Rank' p' difs' below') (Rank' p'' difs'' below'') h g = g ∙ h
+same_trans (Rank' p difs below) (Rank' p' difs' below') (Rank' p'' difs'' below'') h g = (difs_trans difs difs' difs'' h.0 g.0, g.1 ∙ h.1)
 same_trans (Wires a) (Wires a') (Rank' p difs below) h g = absurd g
 same_trans (Wires a) (Rank' p difs below) v h g = absurd h
 same_trans (Rank' p difs below) (Wires a') v h g = absurd h

@@ -9,6 +9,7 @@ ghost use Rattle.rina_tower.specs.Building.{IsBuilt};
 ghost use Rattle.rina_tower.specs.Fitting.{flows_at};
 ghost use Rattle.rina_tower.specs.Laying.{IsGround};
 ghost use Rattle.rina_tower.specs.Making.{AreLaid, HasBound, IsHalfMade, IsHighest, IsPlain, IsRaised, LaysNext, flows_there};
+ghost use Rattle.rina_tower.specs.Planned.{IsAsPlanned};
 ghost use Rattle.rina_tower.specs.Ranks.{height_of, seen_of};
 ghost use Rattle.rina_tower.specs.Standing.{IsTower};
 
@@ -218,6 +219,7 @@ impl Tower {
         ensures stands { IfOk result IsTower }
         ensures built { IfOk result (IsBuilt plan.now) }
         ensures height { IfOk result (λ t. IsHighest plan.now.difs (height_of t)) }
+        ensures planned { IfOk result (IsAsPlanned plan.now) }
     {
         let top = highest(plan.difs.as_slice());
         let mut tower = Tower::Wires(Wires::new(alloc, plan)?);

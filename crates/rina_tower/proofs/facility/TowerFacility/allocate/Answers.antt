@@ -1,9 +1,10 @@
-use Rattle.std.proofs.Common.{◌≡◌, Err, Some}
+use Rattle.std.proofs.Common.{◌≡◌, Err, Some, refl}
 use Rattle.rina_iface.proofs.LaterCalls.{later_allocates}
 use Rattle.rina_tower.specs.Ranks.{now_of, seen_of_difs}
 use Rattle.rina_tower.proofs.Serving.{rank_serves, allocates_seen}
 use Rattle.rina_iface.specs.declared.error.AllocateError.TheVariants.{Unbuilt, NoMember}
 use Rattle.rina_iface.specs.Allocate.{Allocates}
+use Rattle.rina_tower.proofs.Staying.{any_stays, serves_stays}
 use Rattle.rina_tower.proofs.facility.TowerFacility.allocate.Goals as goal
 
 pub returns-in-Rank-clause-valid : goal.returns-in-Rank-clause-valid
@@ -33,3 +34,10 @@ returns-in-Rank-clause-does c =
     let new = c.allocate-in-Rank.new.self in
     let r = c.allocate-in-Rank.result in
     rw (c.in-Rank.is, c.deref_mut.ensures.value) (allocates_seen c.args.ask.now r old.difs new old.below v.0 h)
+
+pub returns-in-Rank-clause-below : goal.returns-in-Rank-clause-below
+returns-in-Rank-clause-below c =
+    let h = rw c.deref_mut.ensures.value at c.allocate-in-Rank.ensures in
+    let old = c.in-Rank.rank.value in
+    let new = c.allocate-in-Rank.new.self in
+    rw (c.in-Rank.is, c.deref_mut.ensures.value) (any_stays _ _ _ old.difs new (λ d d' x. serves_stays _ _ d d' x) h, refl)

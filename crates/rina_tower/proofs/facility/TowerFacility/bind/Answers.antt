@@ -1,6 +1,8 @@
+use Rattle.std.proofs.Common.{refl}
 use Rattle.rina_iface.proofs.LaterCalls.{later_binds}
 use Rattle.rina_tower.specs.Ranks.{now_of, seen_of_difs}
 use Rattle.rina_tower.proofs.Serving.{binds_seen, may_bind, rank_binds}
+use Rattle.rina_tower.proofs.Staying.{one_stays, serves_stays}
 use Rattle.rina_tower.proofs.facility.TowerFacility.bind.Goals as goal
 
 pub returns-in-Rank-clause-valid : goal.returns-in-Rank-clause-valid
@@ -37,3 +39,10 @@ bind-requires-in-Rank-clause-may c =
     let old = c.in-Rank.rank.value in
     let can = rw c.in-Rank.is at c.requires.room in
     rw c.deref_mut.ensures.value (may_bind old.difs old.below c.args.fixed.now v.0 can)
+
+pub returns-in-Rank-clause-below : goal.returns-in-Rank-clause-below
+returns-in-Rank-clause-below c =
+    let h = rw c.deref_mut.ensures.value at c.bind-in-Rank.ensures in
+    let old = c.in-Rank.rank.value in
+    let new = c.bind-in-Rank.new.self in
+    rw (c.in-Rank.is, c.deref_mut.ensures.value) (one_stays _ _ old.difs new (λ d d' x. serves_stays _ _ d d' x.serves) h, refl)

@@ -1,9 +1,10 @@
-use Rattle.std.proofs.Common.{◌≡◌, Err}
+use Rattle.std.proofs.Common.{◌≡◌, Err, refl}
 use Rattle.rina_iface.proofs.LaterCalls.{later_frees}
 use Rattle.rina_tower.specs.Ranks.{now_of, seen_of_difs}
 use Rattle.rina_tower.proofs.Serving.{rank_frees, frees_seen}
 use Rattle.std.proofs.Common.{false}
 use Rattle.rina_iface.specs.declared.error.FreeError.TheVariants.{NoPort}
+use Rattle.rina_tower.proofs.Staying.{any_stays, serves_stays}
 use Rattle.rina_tower.proofs.facility.TowerFacility.free.Goals as goal
 
 pub returns-in-Rank-clause-valid : goal.returns-in-Rank-clause-valid
@@ -33,3 +34,10 @@ returns-in-Rank-clause-does c =
     let new = c.free-in-Rank.new.self in
     let r = c.free-in-Rank.result in
     rw (c.in-Rank.is, c.deref_mut.ensures.value) (frees_seen c.args.port r old.difs new old.below v.0 h)
+
+pub returns-in-Rank-clause-below : goal.returns-in-Rank-clause-below
+returns-in-Rank-clause-below c =
+    let h = rw c.deref_mut.ensures.value at c.free-in-Rank.ensures in
+    let old = c.in-Rank.rank.value in
+    let new = c.free-in-Rank.new.self in
+    rw (c.in-Rank.is, c.deref_mut.ensures.value) (any_stays _ _ _ old.difs new (λ d d' x. serves_stays _ _ d d' x.serves) h, refl)

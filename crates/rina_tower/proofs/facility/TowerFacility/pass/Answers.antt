@@ -1,6 +1,8 @@
+use Rattle.std.proofs.Common.{refl}
 use Rattle.rina_iface.proofs.LaterCalls.{later_passes}
 use Rattle.rina_tower.specs.Ranks.{now_of, seen_of_difs}
 use Rattle.rina_tower.proofs.Serving.{rank_passes, passes_seen, waits_there}
+use Rattle.rina_tower.proofs.Staying.{one_stays, serves_stays}
 use Rattle.rina_tower.proofs.facility.TowerFacility.pass.Goals as goal
 
 pub returns-in-Rank-clause-valid : goal.returns-in-Rank-clause-valid
@@ -36,3 +38,10 @@ pass-requires-in-Rank-clause-waits c =
     let old = c.in-Rank.rank.value in
     let waits = rw c.in-Rank.is at c.requires.waits in
     rw c.deref_mut.ensures.value (waits_there old.difs (now_of old.below) c.args.port waits)
+
+pub returns-in-Rank-clause-below : goal.returns-in-Rank-clause-below
+returns-in-Rank-clause-below c =
+    let h = rw c.deref_mut.ensures.value at c.pass-in-Rank.ensures in
+    let old = c.in-Rank.rank.value in
+    let new = c.pass-in-Rank.new.self in
+    rw (c.in-Rank.is, c.deref_mut.ensures.value) (one_stays _ _ old.difs new (λ d d' x. serves_stays _ _ d d' x.serves) h, refl)

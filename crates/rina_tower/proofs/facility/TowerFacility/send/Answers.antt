@@ -1,8 +1,9 @@
-use Rattle.std.proofs.Common.{◌≡◌, Err, None}
+use Rattle.std.proofs.Common.{◌≡◌, Err, None, refl}
 use Rattle.rina_iface.proofs.LaterCalls.{later_sends}
 use Rattle.rina_tower.specs.Ranks.{now_of, seen_of_difs}
 use Rattle.rina_tower.proofs.Serving.{rank_sends, sends_seen}
 use Rattle.rina_iface.specs.declared.error.SendError.TheVariants.{NotAllocated}
+use Rattle.rina_tower.proofs.Staying.{any_stays, serves_stays}
 use Rattle.rina_tower.proofs.facility.TowerFacility.send.Goals as goal
 
 pub returns-in-Rank-clause-valid : goal.returns-in-Rank-clause-valid
@@ -32,3 +33,10 @@ returns-in-Rank-clause-does c =
     let new = c.send-in-Rank.new.self in
     let r = c.send-in-Rank.result in
     rw (c.in-Rank.is, c.deref_mut.ensures.value) (sends_seen c.args.port c.args.sdu.now r old.difs new old.below v.0 h)
+
+pub returns-in-Rank-clause-below : goal.returns-in-Rank-clause-below
+returns-in-Rank-clause-below c =
+    let h = rw c.deref_mut.ensures.value at c.send-in-Rank.ensures in
+    let old = c.in-Rank.rank.value in
+    let new = c.send-in-Rank.new.self in
+    rw (c.in-Rank.is, c.deref_mut.ensures.value) (any_stays _ _ _ old.difs new (λ d d' x. serves_stays _ _ d d' x.serves) h, refl)

@@ -1,9 +1,10 @@
-use Rattle.std.proofs.Common.{◌≡◌, Err, Some}
+use Rattle.std.proofs.Common.{◌≡◌, Err, Some, refl}
 use Rattle.rina_iface.proofs.LaterCalls.{later_unregisters}
 use Rattle.rina_tower.specs.Ranks.{now_of, seen_of_difs}
 use Rattle.rina_tower.proofs.Serving.{rank_serves, unregisters_seen}
 use Rattle.rina_iface.specs.declared.error.UnregisterError.TheVariants.{Unbuilt, NotThere}
 use Rattle.rina_iface.specs.Unregister.{Unregisters}
+use Rattle.rina_tower.proofs.Staying.{any_stays, serves_stays}
 use Rattle.rina_tower.proofs.facility.TowerFacility.unregister.Goals as goal
 
 pub returns-in-Rank-clause-valid : goal.returns-in-Rank-clause-valid
@@ -33,3 +34,10 @@ returns-in-Rank-clause-does c =
     let new = c.unregister-in-Rank.new.self in
     let r = c.unregister-in-Rank.result in
     rw (c.in-Rank.is, c.deref_mut.ensures.value) (unregisters_seen c.args.fac c.args.node c.args.app.now r old.difs new old.below v.0 h)
+
+pub returns-in-Rank-clause-below : goal.returns-in-Rank-clause-below
+returns-in-Rank-clause-below c =
+    let h = rw c.deref_mut.ensures.value at c.unregister-in-Rank.ensures in
+    let old = c.in-Rank.rank.value in
+    let new = c.unregister-in-Rank.new.self in
+    rw (c.in-Rank.is, c.deref_mut.ensures.value) (any_stays _ _ _ old.difs new (λ d d' x. serves_stays _ _ d d' x) h, refl)

@@ -1,0 +1,3 @@
+pub mod PlannedAt
+pub mod PlannedWords
+pub mod PlannedRun

@@ -1,0 +1,44 @@
+-- What never changes in the DIFs of a tower.
+use Rattle.std.specs.Prelude.{◌≡◌, ℕ, List, length, slice_get, Some, refl}
+use Rattle.std.proofs.Common.{◌∙◌, sym, subst, arith, get_or}
+use Rattle.std.proofs.lemmas.Option.{same_Some, slice_get-get_or, slice_get_within}
+use Rattle.rina_dif.specs.declared.dif.Dif.{Dif}
+use Rattle.rina_tower.specs.declared.tower.Tower.{Tower, Wires, Rank'}
+
+-- a DIF has the settings that it had, and the links that were laid for it
+pub record IsStaying (d d' : Dif) : Type 0 where
+  pub settings : d'.settings ≡ d.settings
+  pub links : d'.laid.links ≡ d.laid.links
+
+-- and so each of a rank
+pub record AreStaying (difs difs' : List Dif) : Type 0 where
+  pub number : length difs' ≡ length difs
+  pub each : (n : ℕ) (d d' : Dif) → slice_get difs n ≡ Some d → slice_get difs' n ≡ Some d' → IsStaying d d'
+
+-- and so each of each rank
+abbrev pub Stays : Tower → Tower → Type 0
+Stays (Wires a) (Wires a') = Unit {0}
+Stays (Rank' p difs below) (Rank' p' difs' below') = AreStaying difs difs' × Stays below below'
+Stays t t' = ⊥
+
+-- What follows
+
+pub dif_refl : (d : Dif) → IsStaying d d
+dif_refl d = record { settings = refl; links = refl }
+
+pub dif_trans : (d e f : Dif) → IsStaying d e → IsStaying e f → IsStaying d f
+dif_trans d e f h g = record { settings = g.settings ∙ h.settings; links = g.links ∙ h.links }
+
+pub difs_refl : (difs : List Dif) → AreStaying difs difs
+difs_refl difs = record { number = refl; each = λ n d d' at at'. subst (IsStaying d) (same_Some d d' (sym at ∙ at')) (dif_refl d) }
+
+pub difs_trans : (difs difs' difs'' : List Dif) → AreStaying difs difs' → AreStaying difs' difs'' → AreStaying difs difs''
+difs_trans difs difs' difs'' h g = record {
+  number = g.number ∙ h.number;
+  each = λ n d d'' at at''.
+      let within = slice_get_within difs'' n d'' at'' in
+      let number = g.number in
+      let mid = get_or difs' n d in
+      let there = slice_get-get_or difs' n d (omega (arith, within, number)) in
+      dif_trans d mid d'' (h.each n d mid at there) (g.each n mid d'' there at'');
+}
