@@ -29,9 +29,9 @@ use Rattle.rina_tower.specs.Beside.{is_ipc}
 use Rattle.rina_tower.specs.Calls.{FreesHere, RegistersHere, Serves, UnregistersHere}
 use Rattle.rina_tower.specs.Ranks.{fac_of_dif, height_of, rank_of, seen_of, seen_of_difs}
 use Rattle.rina_tower.specs.Standing.{IsTower}
-use Rattle.rina_tower.specs.Walking.{AtRank, SameBelow, same_refl}
+use Rattle.rina_tower.specs.Walking.{AtRank}
 use Rattle.rina_tower.proofs.Ranking.{shown_after}
-use Rattle.rina_labels.proofs.LabelRanks.{AtAll, IsIdle, at_rank, at_top, facs_of, level, rank_kept, shown}
+use Rattle.rina_labels.proofs.LabelRanks.{AtAll, IsAlone, IsIdle, alone_refl, at_rank, at_top, facs_of, level, rank_kept, shown}
 use Rattle.rina_labels.proofs.LabelRests.{Rest, RestEnds, Rests, ends_on, ends_set, fac_same, rest_same, rest_set, rests_still}
 
 -- ---- at one facility
@@ -84,7 +84,7 @@ served call n d d' difs difs' at is w =
 
 -- only the own rank changed, and its ends rest
 pub record RestsHere (u u' : Tower) : Type 0 where
-  pub below : SameBelow u u'
+  pub below : IsAlone u u'
   pub rests : Rest (facs_of u) (facs_of u')
 
 rests_register : (fac node : ℕ) (app : List ℕ) (r : Result (Unit {0}) RegisterError) (u u' : Tower) → RegistersHere fac node app r u u' → RestsHere u u'
@@ -126,7 +126,7 @@ rests_free port r (Rank' p difs below) (Wires a) v w = absurd w
 -- ---- by an application
 
 pub rests_nothing : (u u' : Tower) → u' ≡ u → RestsHere u u'
-rests_nothing u u' is = subst (RestsHere u) (sym is) (record { below = same_refl u; rests = rest_same (facs_of u) (facs_of u) refl })
+rests_nothing u u' is = subst (RestsHere u) (sym is) (record { below = alone_refl u; rests = rest_same (facs_of u) (facs_of u) refl })
 
 pub answered : {T E : Type 0} (ipc : Bool) (call : Result T E → Type 0) (u u' : Tower) (r : Result T (AppError E)) → ((x : Result T E) → call x → RestsHere u u') → Answers ipc call (u' ≡ u) r → RestsHere u u'
 answered ipc call u u' (Ok x) own w = own (Ok x) w.1

@@ -93,14 +93,30 @@ IsIdle P r = (k : ℕ) → k ≢ r → (fs fs' : List Fac) → fs' ≡ fs → P 
 
 -- ---- at one rank of a tower
 
-pub level : (t t' : Tower) → SameBelow t t' → height_of t' ≡ height_of t
+-- nothing of the ranks below the own one changed
+abbrev pub IsAlone : Tower → Tower → Type 0
+IsAlone (Wires a) (Wires a') = Unit {0}
+IsAlone (Rank' p difs below) (Rank' p' difs' below') = below' ≡ below
+IsAlone t t' = ⊥
+
+pub alone_refl : (t : Tower) → IsAlone t t
+alone_refl (Wires a) = tt
+alone_refl (Rank' p difs below) = refl
+
+pub is_alone : (t t' : Tower) → SameBelow t t' → IsAlone t t'
+is_alone (Wires a) (Wires a') h = tt
+is_alone (Rank' p difs below) (Rank' p' difs' below') h = h.1
+is_alone (Wires a) (Rank' p difs below) h = absurd h
+is_alone (Rank' p difs below) (Wires a) h = absurd h
+
+pub level : (t t' : Tower) → IsAlone t t' → height_of t' ≡ height_of t
 level (Wires a) (Wires a') h = refl
 level (Rank' p difs below) (Rank' p' difs' below') h = ap (λ (u : Tower). height_of u + 1) h
 level (Wires a) (Rank' p difs below) h = absurd h
 level (Rank' p difs below) (Wires a) h = absurd h
 
 -- only the own rank changes
-pub at_top : (P : ℕ → List Fac → List Fac → Type 0) (t t' : Tower) → SameBelow t t' → P (height_of t) (facs_of t) (facs_of t') → IsIdle P (height_of t) → AtAll P (shown t) (shown t')
+pub at_top : (P : ℕ → List Fac → List Fac → Type 0) (t t' : Tower) → IsAlone t t' → P (height_of t) (facs_of t) (facs_of t') → IsIdle P (height_of t) → AtAll P (shown t) (shown t')
 at_top P (Wires a) (Wires a') same here idle = at_wires P a a' here
 at_top P (Rank' p difs below) (Rank' p' difs' below') same here idle = at_rank_more P p p' difs difs' below below' (ap height_of same) here (λ r ne. both_same (P r) (shown below r) (shown below' r) (ap (λ (u : Tower). shown u r) same) (idle r ne))
 at_top P (Wires a) (Rank' p difs below) same here idle = absurd same

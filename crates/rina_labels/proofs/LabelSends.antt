@@ -26,11 +26,11 @@ use Rattle.rina_tower.specs.Beside.{is_ipc}
 use Rattle.rina_tower.specs.Calls.{PassesHere, SendsHere}
 use Rattle.rina_tower.specs.Ranks.{fac_of_dif, now_of, rank_of, seen_now, seen_of, seen_of_difs}
 use Rattle.rina_tower.specs.Standing.{IsTower}
-use Rattle.rina_tower.specs.Walking.{AtRank, SameBelow}
+use Rattle.rina_tower.specs.Walking.{AtRank}
 use Rattle.rina_labels.proofs.LabelCalls.{AllRest, RestsHere, call_rests, rests_nothing, served}
 use Rattle.rina_labels.proofs.LabelEnds.{HavePorts}
 use Rattle.rina_labels.proofs.LabelMoves.{Fits, IsView, MovesIn, at_port, moves_end, none, rest_moves}
-use Rattle.rina_labels.proofs.LabelRanks.{AllPorts, AtAll, IsIdle, at_rank, at_top, facs_of, level, rank_clock, rank_kept, rank_now, shown}
+use Rattle.rina_labels.proofs.LabelRanks.{AllPorts, AtAll, IsAlone, IsIdle, at_rank, at_top, facs_of, level, rank_clock, rank_kept, rank_now, shown}
 use Rattle.rina_labels.proofs.LabelRests.{rest_same}
 use Rattle.rina_labels.proofs.LabelTells.{AllMoves}
 
@@ -54,7 +54,7 @@ spot_idle V r port xs v k ne fs fs' is = elim (eqb_tells k r) [
 
 -- only the own rank changed, and this was done there
 pub record DoesHere (P : List Fac → List Fac → Type 0) (u u' : Tower) : Type 0 where
-  pub below : SameBelow u u'
+  pub below : IsAlone u u'
   pub done : P (facs_of u) (facs_of u')
 
 pub call_at : (P : ℕ → List Fac → List Fac → Type 0) (r : ℕ) (does : Tower → Tower → Type 0) (none : Type 0) (t t' : Tower) → ((u u' : Tower) → rank_of t r ≡ Some u → does u u' → DoesHere (P r) u u') → IsIdle P r → AtRank r does none t t' → AtAll P (shown t) (shown t')

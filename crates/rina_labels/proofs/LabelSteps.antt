@@ -22,10 +22,10 @@ use Rattle.rina_tower.specs.Ranks.{fac_of_dif, height_of, rank_of, seen_of}
 use Rattle.rina_tower.specs.Rounds.{AllMove, Anything, IsRound, Move, Moves, Taking, Clocking, Letting}
 use Rattle.rina_tower.specs.Stepping.{ClocksAt, ClocksHere, InSteps, InsHere, OutSteps, OutsHere}
 use Rattle.rina_tower.specs.Using.{MayUse}
-use Rattle.rina_tower.specs.Walking.{AtDif, AtRank, SameBelow, same_refl}
+use Rattle.rina_tower.specs.Walking.{AtDif, AtRank}
 use Rattle.rina_tower.proofs.Asked.{asked_facs}
 use Rattle.rina_labels.proofs.LabelCalls.{AllRest, rest_idle}
-use Rattle.rina_labels.proofs.LabelRanks.{DoesAll, at_rank, at_rank_more, at_top, facs_of, level}
+use Rattle.rina_labels.proofs.LabelRanks.{DoesAll, IsAlone, alone_refl, at_rank, at_rank_more, at_top, facs_of, is_alone, level}
 use Rattle.rina_labels.proofs.LabelRests.{Rest, RestFac, Rests, ends_set, rest_same, rest_set, rests_still}
 
 -- ---- one DIF
@@ -51,7 +51,7 @@ uses_rest s s' (inr u) =
 -- ---- at the own rank, over the rank below
 
 step_rests : (p p' : _) (n : ℕ) (does : Dif → Dif → Type 0) (none : Type 0) (difs difs' : List Dif) (below below' : Tower) → ((d d' : Dif) → does d d' → StandsAfter (seen_of below) (seen_of below') d d') → (none → below' ≡ below)
-    → AtDif n does none difs difs' → SameBelow below below' → DoesAll (λ r. Rest) (Rank' p difs below) (Rank' p' difs' below')
+    → AtDif n does none difs difs' → IsAlone below below' → DoesAll (λ r. Rest) (Rank' p difs below) (Rank' p' difs' below')
 step_rests p p' n does none difs difs' below below' after idle a same = elim a [
   | inl h ↦
       let k = after h.dif h.dif' h.done in
@@ -70,30 +70,30 @@ step_rests p p' n does none difs difs' below below' after idle a same = elim a [
         }
 
 same_rests : (u u' : Tower) → u' ≡ u → DoesAll (λ r. Rest) u u'
-same_rests u u' is = subst (DoesAll (λ r. Rest) u) (sym is) (record { level = refl; all = at_top (λ r. Rest) u u (same_refl u) (rest_same (facs_of u) (facs_of u) refl) (rest_idle (height_of u)) })
+same_rests u u' is = subst (DoesAll (λ r. Rest) u) (sym is) (record { level = refl; all = at_top (λ r. Rest) u u (alone_refl u) (rest_same (facs_of u) (facs_of u) refl) (rest_idle (height_of u)) })
 
 in_rests : (n node link : ℕ) (x : Result InStep StepError) (u u' : Tower) → InsHere n node link x u u' → DoesAll (λ r. Rest) u u'
 in_rests n node link x (Wires a) (Wires a') w = same_rests (Wires a) (Wires a') (ap Wires w.1)
-in_rests n node link x (Rank' p difs below) (Rank' p' difs' below') w = step_rests p p' n _ _ difs difs' below below' (λ d d' k. k.after) (λ h. h.1) w.0 w.1
+in_rests n node link x (Rank' p difs below) (Rank' p' difs' below') w = step_rests p p' n _ _ difs difs' below below' (λ d d' k. k.after) (λ h. h.1) w.0 (is_alone below below' w.1)
 in_rests n node link x (Wires a) (Rank' p difs below) w = absurd w
 in_rests n node link x (Rank' p difs below) (Wires a) w = absurd w
 
 out_rests : (may : List ℕ → ℕ → List Head → ℕ → Type 0) (slots slots' : List Slot) (n node link : ℕ) (x : Result OutStep StepError) (u u' : Tower) → OutsHere may slots slots' n node link x u u' → DoesAll (λ r. Rest) u u'
 out_rests may slots slots' n node link x (Wires a) (Wires a') w = same_rests (Wires a) (Wires a') (ap Wires w.2)
-out_rests may slots slots' n node link x (Rank' p difs below) (Rank' p' difs' below') w = step_rests p p' n _ _ difs difs' below below' (λ d d' k. k.after) (λ h. h.2) w.0 w.1
+out_rests may slots slots' n node link x (Rank' p difs below) (Rank' p' difs' below') w = step_rests p p' n _ _ difs difs' below below' (λ d d' k. k.after) (λ h. h.2) w.0 (is_alone below below' w.1)
 out_rests may slots slots' n node link x (Wires a) (Rank' p difs below) w = absurd w
 out_rests may slots slots' n node link x (Rank' p difs below) (Wires a) w = absurd w
 
 clock_rests : (n node : ℕ) (x : Result ClockStep StepError) (u u' : Tower) → ClocksHere n node x u u' → DoesAll (λ r. Rest) u u'
 clock_rests n node x (Wires a) (Wires a') w = same_rests (Wires a) (Wires a') (ap Wires w.1)
-clock_rests n node x (Rank' p difs below) (Rank' p' difs' below') w = step_rests p p' n _ _ difs difs' below below' (λ d d' k. k.after) (λ h. h.1) w.0 w.1
+clock_rests n node x (Rank' p difs below) (Rank' p' difs' below') w = step_rests p p' n _ _ difs difs' below below' (λ d d' k. k.after) (λ h. h.1) w.0 (is_alone below below' w.1)
 clock_rests n node x (Wires a) (Rank' p difs below) w = absurd w
 clock_rests n node x (Rank' p difs below) (Wires a) w = absurd w
 
 ask_rests : (n node : ℕ) (bytes : List ℕ) (x : Result (List ℕ) CdapCallError) (u u' : Tower) → AsksHere n node bytes x u u' → DoesAll (λ r. Rest) u u'
 ask_rests n node bytes x (Wires a) (Wires a') w = same_rests (Wires a) (Wires a') (ap Wires w.1)
 ask_rests n node bytes x (Rank' p difs below) (Rank' p' difs' below') w =
-    let same : SameBelow below below' = subst (SameBelow below) (sym w.1) (same_refl below) in
+    let same : IsAlone below below' = subst (IsAlone below) (sym w.1) (alone_refl below) in
     let own = rest_same (map fac_of_dif difs) (map fac_of_dif difs') (asked_facs n node bytes x _ difs difs' w.0) in
     let low = at_top (λ r. Rest) below below' same (rest_same (facs_of below) (facs_of below') (ap facs_of w.1)) (rest_idle (height_of below)) in
     record {
