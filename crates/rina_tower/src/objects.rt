@@ -59,8 +59,8 @@ impl Tower {
         requires { IsTower self.old }
         ensures valid { IsTower self.new }
         ensures does { has_failed self.old ≡ false → AsksAt r dif node bytes.now (answer_of result) self.old self.new }
-        ensures failed { has_failed self.old ≡ true → (answer_of result ≡ Err errors.Memory) × (self.new ≡ self.old) }
-        ensures fails { answer_of result ≡ Err errors.Memory → has_failed self.new ≡ true }
+        ensures failed { has_failed self.old ≡ true → (result ≡ Err errors.Memory) × (self.new ≡ self.old) }
+        ensures fails { result ≡ Err errors.Memory → has_failed self.new ≡ true }
         ensures quiet { LeavesNow Anyone (seen_of self.old) (seen_of self.new) }
         ensures height { height_of self.new ≡ height_of self.old }
     {
@@ -82,7 +82,7 @@ impl Tower {
         requires { IsTower self.old }
         ensures valid { IsTower self.new }
         ensures does { AsksAt r dif node bytes.now (answer_of result) self.old self.new }
-        ensures fails { answer_of result ≡ Err errors.Memory → has_failed self.new ≡ true }
+        ensures fails { result ≡ Err errors.Memory → has_failed self.new ≡ true }
         ensures quiet { LeavesNow Anyone (seen_of self.old) (seen_of self.new) }
         ensures height { height_of self.new ≡ height_of self.old }
     {

@@ -23,7 +23,7 @@ impl Difs {
     ) -> Result<Vec<u8>, CdapCallError>
         requires { AreDifs self.old }
         ensures does { AtDif fac (AsksOne node bytes.now (answer_of result)) (answer_of result ≡ Err errors.NoIpc) self.old self.new }
-        ensures fails { answer_of result ≡ Err errors.Memory → have_failed self.new ≡ true }
+        ensures fails { result ≡ Err errors.Memory → have_failed self.new ≡ true }
     {
         let Some(_dif) = self.get(fac) else {
             return Err(CdapCallError::NoIpc);
