@@ -45,6 +45,13 @@ impl Dif {
         place(self.settings.members.as_slice(), node)
     }
 
+    /// Whether memory was wanted and not found.
+    pub fn has_failed(&self) -> bool
+        ensures { result ≡ self.now.failed }
+    {
+        self.failed
+    }
+
     /// Notes whether a step wanted memory.
     pub(crate) fn note<T>(failed: &mut bool, step: Result<T, StepError>) -> Result<T, StepError>
         requires { failed.old ≡ false }

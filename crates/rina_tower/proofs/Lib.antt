@@ -2,6 +2,7 @@ pub mod Alone
 pub mod Answering
 pub mod Asked
 pub mod Calling
+pub mod Failed
 pub mod FitBound
 pub mod FitChains
 pub mod FitCounts

@@ -4,6 +4,7 @@ pub mod Beside
 pub mod Building
 pub mod Calls
 pub mod Events
+pub mod Failing
 pub mod Fitting
 pub mod Flows
 pub mod Lasting

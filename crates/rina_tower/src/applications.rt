@@ -1,8 +1,12 @@
 //! The calls of applications, at any rank.
-ghost use Rattle.std.specs.Prelude.{◌≡◌};
+ghost use Rattle.std.specs.Prelude.{◌≡◌, true, false, Err};
+ghost use Rattle.rina_iface.specs.declared.error.RegisterError.TheVariants as register;
+ghost use Rattle.rina_iface.specs.declared.error.UnregisterError.TheVariants as unregister;
+ghost use Rattle.rina_tower.specs.declared.applications.AppError.TheVariants.{Call};
 ghost use Rattle.rina_tower.specs.Applications.{Answers, AppRegisters, AppUnregisters};
 ghost use Rattle.rina_tower.specs.Beside.{IsIpc, LeavesNow, is_ipc};
 ghost use Rattle.rina_tower.specs.Calls.{RegistersHere, UnregistersHere};
+ghost use Rattle.rina_tower.specs.Failing.{has_failed};
 ghost use Rattle.rina_tower.specs.Ranks.{height_of, seen_of};
 ghost use Rattle.rina_tower.specs.Standing.{IsTower};
 ghost use Rattle.rina_tower.specs.Walking.{SameBelow};
@@ -39,12 +43,13 @@ impl Tower {
         ensures valid { IsTower self.new }
         ensures below { SameBelow self.old self.new }
         ensures does { Answers (is_ipc app.now) (λ x. RegistersHere fac node app.now x self.old self.new) (self.new ≡ self.old) result }
+        ensures fails { result ≡ Err (Call register.Memory) → has_failed self.new ≡ true }
         ensures beside { LeavesNow IsIpc (seen_of self.old) (seen_of self.new) }
     {
         if app.is_ipc() {
             return Err(AppError::NotYours);
         }
-        match self.register(alloc, fac, node, app) {
+        match self.register_here(alloc, fac, node, app) {
             Ok(()) => Ok(()),
             Err(error) => Err(AppError::Call(error)),
         }
@@ -61,7 +66,31 @@ impl Tower {
     ) -> Result<(), AppError<RegisterError>>
         requires { IsTower self.old }
         ensures valid { IsTower self.new }
+        ensures does { has_failed self.old ≡ false → AppRegisters r fac node app.now result self.old self.new }
+        ensures failed { has_failed self.old ≡ true → (result ≡ Err (Call register.Memory)) × (self.new ≡ self.old) }
+        ensures fails { result ≡ Err (Call register.Memory) → has_failed self.new ≡ true }
+        ensures beside { LeavesNow IsIpc (seen_of self.old) (seen_of self.new) }
+        ensures height { height_of self.new ≡ height_of self.old }
+    {
+        if self.has_failed() {
+            return Err(AppError::Call(RegisterError::Memory));
+        }
+        self.app_register_at(alloc, r, fac, node, app)
+    }
+
+    /// The same, where nobody asks whether memory was wanted before.
+    fn app_register_at(
+        &mut self,
+        alloc: Global,
+        r: u16,
+        fac: u16,
+        node: Node,
+        app: &AppName,
+    ) -> Result<(), AppError<RegisterError>>
+        requires { IsTower self.old }
+        ensures valid { IsTower self.new }
         ensures does { AppRegisters r fac node app.now result self.old self.new }
+        ensures fails { result ≡ Err (Call register.Memory) → has_failed self.new ≡ true }
         ensures beside { LeavesNow IsIpc (seen_of self.old) (seen_of self.new) }
         ensures height { height_of self.new ≡ height_of self.old }
     {
@@ -70,7 +99,7 @@ impl Tower {
         }
         match self {
             Tower::Wires(_) => Err(AppError::NoRank),
-            Tower::Rank(rank) => rank.below.app_register(alloc, r, fac, node, app),
+            Tower::Rank(rank) => rank.below.app_register_at(alloc, r, fac, node, app),
         }
     }
 
@@ -86,12 +115,13 @@ impl Tower {
         ensures valid { IsTower self.new }
         ensures below { SameBelow self.old self.new }
         ensures does { Answers (is_ipc app.now) (λ x. UnregistersHere fac node app.now x self.old self.new) (self.new ≡ self.old) result }
+        ensures fails { result ≡ Err (Call unregister.Memory) → has_failed self.new ≡ true }
         ensures beside { LeavesNow IsIpc (seen_of self.old) (seen_of self.new) }
     {
         if app.is_ipc() {
             return Err(AppError::NotYours);
         }
-        match self.unregister(alloc, fac, node, app) {
+        match self.unregister_here(alloc, fac, node, app) {
             Ok(()) => Ok(()),
             Err(error) => Err(AppError::Call(error)),
         }
@@ -108,7 +138,31 @@ impl Tower {
     ) -> Result<(), AppError<UnregisterError>>
         requires { IsTower self.old }
         ensures valid { IsTower self.new }
+        ensures does { has_failed self.old ≡ false → AppUnregisters r fac node app.now result self.old self.new }
+        ensures failed { has_failed self.old ≡ true → (result ≡ Err (Call unregister.Memory)) × (self.new ≡ self.old) }
+        ensures fails { result ≡ Err (Call unregister.Memory) → has_failed self.new ≡ true }
+        ensures beside { LeavesNow IsIpc (seen_of self.old) (seen_of self.new) }
+        ensures height { height_of self.new ≡ height_of self.old }
+    {
+        if self.has_failed() {
+            return Err(AppError::Call(UnregisterError::Memory));
+        }
+        self.app_unregister_at(alloc, r, fac, node, app)
+    }
+
+    /// The same, where nobody asks whether memory was wanted before.
+    fn app_unregister_at(
+        &mut self,
+        alloc: Global,
+        r: u16,
+        fac: u16,
+        node: Node,
+        app: &AppName,
+    ) -> Result<(), AppError<UnregisterError>>
+        requires { IsTower self.old }
+        ensures valid { IsTower self.new }
         ensures does { AppUnregisters r fac node app.now result self.old self.new }
+        ensures fails { result ≡ Err (Call unregister.Memory) → has_failed self.new ≡ true }
         ensures beside { LeavesNow IsIpc (seen_of self.old) (seen_of self.new) }
         ensures height { height_of self.new ≡ height_of self.old }
     {
@@ -117,7 +171,7 @@ impl Tower {
         }
         match self {
             Tower::Wires(_) => Err(AppError::NoRank),
-            Tower::Rank(rank) => rank.below.app_unregister(alloc, r, fac, node, app),
+            Tower::Rank(rank) => rank.below.app_unregister_at(alloc, r, fac, node, app),
         }
     }
 }

@@ -1,11 +1,12 @@
 //! A tower is built of a plan: rank by rank, and on each rank links before flows.
-ghost use Rattle.std.specs.Prelude.{◌≡◌, ◌≤◌, ◌<◌, ◌==◌, ◌+◌, IfOk, OnOk, count_by, length, map, slice_get, Some, [], ◌∷◌};
+ghost use Rattle.std.specs.Prelude.{◌≡◌, false, ◌≤◌, ◌<◌, ◌==◌, ◌+◌, IfOk, OnOk, count_by, length, map, slice_get, Some, [], ◌∷◌};
 ghost use Rattle.rina_iface.specs.Bind.{CanBind};
 ghost use Rattle.rina_plan.specs.declared.dif.DifPlan.{DifPlan};
 ghost use Rattle.rina_stack.specs.Plan.{HasNames, IsPlan};
 ghost use Rattle.rina_dif.specs.Laying.{CanBindAll};
 ghost use Rattle.rina_dif.specs.Planned.{flow_fixed, number_of};
 ghost use Rattle.rina_tower.specs.Building.{IsBuilt};
+ghost use Rattle.rina_tower.specs.Failing.{has_failed};
 ghost use Rattle.rina_tower.specs.Fitting.{flows_at};
 ghost use Rattle.rina_tower.specs.Laying.{IsGround};
 ghost use Rattle.rina_tower.specs.Making.{AreLaid, HasBound, IsHalfMade, IsHighest, IsPlain, IsRaised, LaysNext, flows_there};
@@ -220,6 +221,7 @@ impl Tower {
         ensures built { IfOk result (IsBuilt plan.now) }
         ensures height { IfOk result (λ t. IsHighest plan.now.difs (height_of t)) }
         ensures planned { IfOk result (IsAsPlanned plan.now) }
+        ensures alive { IfOk result (λ t. has_failed t ≡ false) }
     {
         let top = highest(plan.difs.as_slice());
         let mut tower = Tower::Wires(Wires::new(alloc, plan)?);
@@ -227,6 +229,10 @@ impl Tower {
             tower = raise(alloc, plan, rank, tower)?;
         }
         bind_rank(alloc, plan, top, &mut tower)?;
+        // Who wanted memory has answered so; but the trait, by which a rank is used, does not tell that nobody else noted it.
+        if tower.has_failed() {
+            return Err(Memory);
+        }
         Ok(tower)
     }
 }

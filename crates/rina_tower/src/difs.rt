@@ -1,5 +1,6 @@
 //! The DIFs of a rank.
 ghost use Rattle.std.specs.Prelude.{◌≡◌, ◌≤◌, ℕ, [], ◌∷◌, ◌++◌, length, slice_get, Some, None, OnOk, OnErr, MatchOption};
+ghost use Rattle.rina_tower.specs.Failing.{have_failed};
 
 mod calls;
 mod clock;
@@ -54,6 +55,13 @@ impl Difs {
         ensures { result ≡ length self.now }
     {
         self.items.len()
+    }
+
+    /// Whether memory was wanted at one of them and not found.
+    pub fn have_failed(&self) -> bool
+        ensures { result ≡ have_failed self.now }
+    {
+        self.items.iter().any(|dif| dif.has_failed())
     }
 
     /// The DIF of a number. None exactly where there is none.

@@ -1,7 +1,9 @@
 //! The events of a wire of a tower.
-ghost use Rattle.std.specs.Prelude.{◌≡◌};
+ghost use Rattle.std.specs.Prelude.{◌≡◌, true, false, Err};
+ghost use Rattle.rina_wire.specs.declared.event.WireError.TheVariants.{Memory};
 ghost use Rattle.rina_tower.specs.Beside.{Anyone, LeavesNow};
 ghost use Rattle.rina_tower.specs.Events.{Cuts, HoldsBack, Loses, Mends, Repeats};
+ghost use Rattle.rina_tower.specs.Failing.{has_failed};
 ghost use Rattle.rina_tower.specs.Ranks.{height_of, seen_of};
 ghost use Rattle.rina_tower.specs.Standing.{IsTower};
 
@@ -29,13 +31,30 @@ impl Tower {
     pub fn repeat(&mut self, alloc: Global, wire: u16, k: u64, at: Tick) -> Result<(), WireError>
         requires { IsTower self.old }
         ensures valid { IsTower self.new }
+        ensures does { has_failed self.old ≡ false → Repeats wire k at result self.old self.new }
+        ensures failed { has_failed self.old ≡ true → (result ≡ Err Memory) × (self.new ≡ self.old) }
+        ensures fails { result ≡ Err Memory → has_failed self.new ≡ true }
+        ensures quiet { LeavesNow Anyone (seen_of self.old) (seen_of self.new) }
+        ensures height { height_of self.new ≡ height_of self.old }
+    {
+        if self.has_failed() {
+            return Err(WireError::Memory);
+        }
+        self.repeat_there(alloc, wire, k, at)
+    }
+
+    /// The same, where nobody asks whether memory was wanted before.
+    fn repeat_there(&mut self, alloc: Global, wire: u16, k: u64, at: Tick) -> Result<(), WireError>
+        requires { IsTower self.old }
+        ensures valid { IsTower self.new }
         ensures does { Repeats wire k at result self.old self.new }
+        ensures fails { result ≡ Err Memory → has_failed self.new ≡ true }
         ensures quiet { LeavesNow Anyone (seen_of self.old) (seen_of self.new) }
         ensures height { height_of self.new ≡ height_of self.old }
     {
         match self {
             Tower::Wires(wires) => wires.repeat(alloc, wire, k, at),
-            Tower::Rank(rank) => rank.below.repeat(alloc, wire, k, at),
+            Tower::Rank(rank) => rank.below.repeat_there(alloc, wire, k, at),
         }
     }
 

@@ -1,5 +1,10 @@
-//! A tower as the facilities of its own rank.
-ghost use Rattle.std.specs.Prelude.{◌≡◌, IsSome, length};
+//! A tower as the facilities of its own rank. Once memory was wanted at any rank, each call that takes memory answers so.
+ghost use Rattle.std.specs.Prelude.{◌≡◌, true, false, Err, IsSome, length};
+ghost use Rattle.rina_iface.specs.declared.error.AllocateError.TheVariants as allocate;
+ghost use Rattle.rina_iface.specs.declared.error.FreeError.TheVariants as free;
+ghost use Rattle.rina_iface.specs.declared.error.RegisterError.TheVariants as register;
+ghost use Rattle.rina_iface.specs.declared.error.SendError.TheVariants as send;
+ghost use Rattle.rina_iface.specs.declared.error.UnregisterError.TheVariants as unregister;
 ghost use Rattle.rina_iface.specs.Allocate.{Allocates};
 ghost use Rattle.rina_iface.specs.Bind.{Binds, CanBind};
 ghost use Rattle.rina_iface.specs.Claim.{Claims};
@@ -11,6 +16,7 @@ ghost use Rattle.rina_iface.specs.Seen.{unpassed};
 ghost use Rattle.rina_iface.specs.Send.{Sends};
 ghost use Rattle.rina_iface.specs.Unregister.{Unregisters};
 ghost use Rattle.rina_tower.specs.Calls.{AllocatesHere, BindsHere, ClaimsHere, FreesHere, PassesHere, RegistersHere, SendsHere, UnregistersHere};
+ghost use Rattle.rina_tower.specs.Failing.{has_failed};
 ghost use Rattle.rina_tower.specs.Ranks.{seen_of};
 ghost use Rattle.rina_tower.specs.Refusing.{frees_both, refuses_allocate, refuses_own, refuses_register, refuses_send, refuses_unregister};
 ghost use Rattle.rina_tower.specs.Standing.{IsTower, clock_of, kept_of};
@@ -98,12 +104,14 @@ impl Facility for Tower {
         ensures later { IsLater (seen_of self.old) (seen_of self.new) }
         ensures does { Registers (refuses_register self.old fac node app.now)
             (seen_of self.old) fac node app.now result (seen_of self.new) }
-        ensures exact { RegistersHere fac node app.now result self.old self.new }
+        ensures exact { has_failed self.old ≡ false → RegistersHere fac node app.now result self.old self.new }
+        ensures failed { has_failed self.old ≡ true → (result ≡ Err register.Memory) × (self.new ≡ self.old) }
+        ensures fails { result ≡ Err register.Memory → has_failed self.new ≡ true }
     {
-        match self {
-            Tower::Wires(wires) => wires.register(alloc, fac, node, app),
-            Tower::Rank(rank) => rank.difs.register(alloc, fac, node, app),
+        if self.has_failed() {
+            return Err(RegisterError::Memory);
         }
+        self.register_here(alloc, fac, node, app)
     }
 
     fn unregister(
@@ -119,12 +127,14 @@ impl Facility for Tower {
         ensures later { IsLater (seen_of self.old) (seen_of self.new) }
         ensures does { Unregisters (refuses_unregister self.old fac node app.now)
             (seen_of self.old) fac node app.now result (seen_of self.new) }
-        ensures exact { UnregistersHere fac node app.now result self.old self.new }
+        ensures exact { has_failed self.old ≡ false → UnregistersHere fac node app.now result self.old self.new }
+        ensures failed { has_failed self.old ≡ true → (result ≡ Err unregister.Memory) × (self.new ≡ self.old) }
+        ensures fails { result ≡ Err unregister.Memory → has_failed self.new ≡ true }
     {
-        match self {
-            Tower::Wires(wires) => wires.unregister(alloc, fac, node, app),
-            Tower::Rank(rank) => rank.difs.unregister(alloc, fac, node, app),
+        if self.has_failed() {
+            return Err(UnregisterError::Memory);
         }
+        self.unregister_here(alloc, fac, node, app)
     }
 
     fn allocate(&mut self, alloc: Global, ask: &Ask) -> Result<Port, AllocateError>
@@ -134,12 +144,14 @@ impl Facility for Tower {
         ensures later { IsLater (seen_of self.old) (seen_of self.new) }
         ensures does { Allocates (refuses_allocate self.old ask.now)
             (seen_of self.old) ask.now result (seen_of self.new) }
-        ensures exact { AllocatesHere ask.now result self.old self.new }
+        ensures exact { has_failed self.old ≡ false → AllocatesHere ask.now result self.old self.new }
+        ensures failed { has_failed self.old ≡ true → (result ≡ Err allocate.Memory) × (self.new ≡ self.old) }
+        ensures fails { result ≡ Err allocate.Memory → has_failed self.new ≡ true }
     {
-        match self {
-            Tower::Wires(wires) => wires.allocate(alloc, ask),
-            Tower::Rank(rank) => rank.difs.allocate(alloc, ask),
+        if self.has_failed() {
+            return Err(AllocateError::Memory);
         }
+        self.allocate_here(alloc, ask)
     }
 
     fn bind(&mut self, alloc: Global, fixed: &Fixed) -> Result<(Port, Port), AllocateError>
@@ -149,12 +161,14 @@ impl Facility for Tower {
         ensures below { SameBelow self.old self.new }
         ensures later { IsLater (seen_of self.old) (seen_of self.new) }
         ensures does { Binds (seen_of self.old) fixed.now result (seen_of self.new) }
-        ensures exact { BindsHere fixed.now result self.old self.new }
+        ensures exact { has_failed self.old ≡ false → BindsHere fixed.now result self.old self.new }
+        ensures failed { has_failed self.old ≡ true → (result ≡ Err allocate.Memory) × (self.new ≡ self.old) }
+        ensures fails { result ≡ Err allocate.Memory → has_failed self.new ≡ true }
     {
-        match self {
-            Tower::Wires(wires) => wires.bind(alloc, fixed),
-            Tower::Rank(rank) => rank.difs.bind(alloc, fixed),
+        if self.has_failed() {
+            return Err(AllocateError::Memory);
         }
+        self.bind_here(alloc, fixed)
     }
 
     fn incoming(&mut self, fac: u16, node: Node, app: &AppName) -> Option<Port>
@@ -178,12 +192,14 @@ impl Facility for Tower {
         ensures later { IsLater (seen_of self.old) (seen_of self.new) }
         ensures does { Sends (refuses_send self.old port (length sdu.now))
             (seen_of self.old) port sdu.now result (seen_of self.new) }
-        ensures exact { SendsHere port sdu.now result self.old self.new }
+        ensures exact { has_failed self.old ≡ false → SendsHere port sdu.now result self.old self.new }
+        ensures failed { has_failed self.old ≡ true → (result ≡ Err send.Memory) × (self.new ≡ self.old) }
+        ensures fails { result ≡ Err send.Memory → has_failed self.new ≡ true }
     {
-        match self {
-            Tower::Wires(wires) => wires.send(alloc, port, sdu),
-            Tower::Rank(rank) => rank.difs.send(alloc, port, sdu),
+        if self.has_failed() {
+            return Err(SendError::Memory);
         }
+        self.send_here(alloc, port, sdu)
     }
 
     fn peek(&self, port: Port) -> Option<Lent<'_>> {
@@ -217,12 +233,14 @@ impl Facility for Tower {
         ensures below { SameBelow self.old self.new }
         ensures later { IsLater (seen_of self.old) (seen_of self.new) }
         ensures does { Frees (frees_both self.old) (seen_of self.old) port result (seen_of self.new) }
-        ensures exact { FreesHere port result self.old self.new }
+        ensures exact { has_failed self.old ≡ false → FreesHere port result self.old self.new }
+        ensures failed { has_failed self.old ≡ true → (result ≡ Err free.Memory) × (self.new ≡ self.old) }
+        ensures fails { result ≡ Err free.Memory → has_failed self.new ≡ true }
     {
-        match self {
-            Tower::Wires(wires) => wires.free(alloc, port),
-            Tower::Rank(rank) => rank.difs.free(alloc, port),
+        if self.has_failed() {
+            return Err(FreeError::Memory);
         }
+        self.free_here(alloc, port)
     }
 
     ghost same_refl = { same_refl };

@@ -6,6 +6,8 @@ mod build;
 mod difs;
 mod events;
 mod facility;
+mod failing;
+mod here;
 mod ledgers;
 mod objects;
 mod places;

@@ -1,9 +1,12 @@
 //! The objects of the IPC processes of a tower.
-ghost use Rattle.std.specs.Prelude.{◌≡◌};
+ghost use Rattle.std.specs.Prelude.{◌≡◌, true, false, Err};
 ghost use Rattle.rina_cdap.specs.ObjectNames.{IsObjectName};
+ghost use Rattle.rina_data.specs.declared.step.StepError.TheVariants.{Memory};
+ghost use Rattle.rina_dif.specs.declared.cdap.CdapCallError.TheVariants as errors;
 ghost use Rattle.rina_dif.specs.Asking.{answer_of};
 ghost use Rattle.rina_tower.specs.Asking.{AsksAt};
 ghost use Rattle.rina_tower.specs.Beside.{Anyone, LeavesNow};
+ghost use Rattle.rina_tower.specs.Failing.{has_failed};
 ghost use Rattle.rina_tower.specs.Objects.{ShowsUnderAt};
 ghost use Rattle.rina_tower.specs.Ranks.{height_of, seen_of};
 ghost use Rattle.rina_tower.specs.Standing.{IsTower};
@@ -16,7 +19,8 @@ use std::alloc::Global;
 
 impl Tower {
     /// The object of a name at the member of a node of a DIF of rank `r`, and all under it, in the byte order of names.
-    /// `NoIpc` exactly where there is no such DIF, or it has no member there.
+    /// `NoIpc` exactly where there is no such DIF, or it has no member there. Since it only reads, the tower does not note
+    /// that it wanted memory; but after a call that did, it answers `Memory` too.
     pub fn rib(
         &self,
         alloc: Global,
@@ -27,8 +31,12 @@ impl Tower {
     ) -> Result<Objects, StepError>
         requires tower { IsTower self.now }
         requires under { IsObjectName under.now }
-        ensures { ShowsUnderAt self.now r dif node under.now result }
+        ensures does { ShowsUnderAt self.now r dif node under.now result }
+        ensures failed { has_failed self.now ≡ true → result ≡ Err Memory }
     {
+        if self.has_failed() {
+            return Err(StepError::Memory);
+        }
         let Some(rank) = self.rank(r) else {
             return Err(StepError::NoIpc);
         };
@@ -50,7 +58,31 @@ impl Tower {
     ) -> Result<Vec<u8>, CdapCallError>
         requires { IsTower self.old }
         ensures valid { IsTower self.new }
+        ensures does { has_failed self.old ≡ false → AsksAt r dif node bytes.now (answer_of result) self.old self.new }
+        ensures failed { has_failed self.old ≡ true → (result ≡ Err errors.Memory) × (self.new ≡ self.old) }
+        ensures fails { result ≡ Err errors.Memory → has_failed self.new ≡ true }
+        ensures quiet { LeavesNow Anyone (seen_of self.old) (seen_of self.new) }
+        ensures height { height_of self.new ≡ height_of self.old }
+    {
+        if self.has_failed() {
+            return Err(CdapCallError::Memory);
+        }
+        self.cdap_at(alloc, r, dif, node, bytes)
+    }
+
+    /// The same, where nobody asks whether memory was wanted before.
+    fn cdap_at(
+        &mut self,
+        alloc: Global,
+        r: u16,
+        dif: u16,
+        node: Node,
+        bytes: &[u8],
+    ) -> Result<Vec<u8>, CdapCallError>
+        requires { IsTower self.old }
+        ensures valid { IsTower self.new }
         ensures does { AsksAt r dif node bytes.now (answer_of result) self.old self.new }
+        ensures fails { result ≡ Err errors.Memory → has_failed self.new ≡ true }
         ensures quiet { LeavesNow Anyone (seen_of self.old) (seen_of self.new) }
         ensures height { height_of self.new ≡ height_of self.old }
     {
@@ -61,7 +93,7 @@ impl Tower {
                 if r == rank.below.height() + 1 {
                     rank.difs.cdap(alloc, dif, node, bytes)
                 } else {
-                    rank.below.cdap(alloc, r, dif, node, bytes)
+                    rank.below.cdap_at(alloc, r, dif, node, bytes)
                 }
             }
         }

@@ -1,7 +1,9 @@
 //! Rounds: the steps of all DIFs, each in its turn.
-ghost use Rattle.std.specs.Prelude.{◌≡◌, List, map, not, OnOk, IfOk};
+ghost use Rattle.std.specs.Prelude.{◌≡◌, true, false, Err, List, map, not, OnOk, OnErr, IfOk, IsErr};
 ghost use Rattle.rina_policy.specs.Slots.{Slot};
+ghost use Rattle.rina_data.specs.declared.step.StepError.TheVariants as errors;
 ghost use Rattle.rina_tower.specs.Beside.{Anyone, LeavesNow};
+ghost use Rattle.rina_tower.specs.Failing.{has_failed};
 ghost use Rattle.rina_tower.specs.Ranks.{height_of, now_of, seen_of};
 ghost use Rattle.rina_tower.specs.Rounds.{DoesAllDue, Follows, InTurn, IsRound, LetsAll, Runs, TakesAll, has_left, has_taken, lets_no_more, links_downward, links_upward, members_upward, none_due, takes_no_more, was_due};
 ghost use Rattle.rina_tower.specs.Standing.{IsTower};
@@ -15,7 +17,8 @@ use std::alloc::Global;
 
 /// Whether a step took something, so that there may be more. Want of memory is passed on.
 fn has_taken(answer: Result<InStep, StepError>) -> Result<bool, Memory>
-    ensures { IfOk result (λ on. (has_taken answer ≡ on) × (takes_no_more answer ≡ not on)) }
+    ensures tells { IfOk result (λ on. (has_taken answer ≡ on) × (takes_no_more answer ≡ not on)) }
+    ensures memory { OnErr result (answer ≡ Err errors.Memory) }
 {
     match answer {
         Ok(InStep::Took { key: _, end: _ }) => Ok(true),
@@ -28,7 +31,8 @@ fn has_taken(answer: Result<InStep, StepError>) -> Result<bool, Memory>
 
 /// Whether something was due, so that there may be more. Want of memory is passed on.
 fn was_due(answer: Result<ClockStep, StepError>) -> Result<bool, Memory>
-    ensures { IfOk result (λ on. (was_due answer ≡ on) × (none_due answer ≡ not on)) }
+    ensures tells { IfOk result (λ on. (was_due answer ≡ on) × (none_due answer ≡ not on)) }
+    ensures memory { OnErr result (answer ≡ Err errors.Memory) }
 {
     match answer {
         Ok(ClockStep::Idle) => Ok(false),
@@ -41,7 +45,8 @@ fn was_due(answer: Result<ClockStep, StepError>) -> Result<bool, Memory>
 
 /// Whether a PDU left its queue, so that the next one may. Want of memory is passed on.
 fn has_left(answer: Result<OutStep, StepError>) -> Result<bool, Memory>
-    ensures { IfOk result (λ on. (has_left answer ≡ on) × (lets_no_more answer ≡ not on)) }
+    ensures tells { IfOk result (λ on. (has_left answer ≡ on) × (lets_no_more answer ≡ not on)) }
+    ensures memory { OnErr result (answer ≡ Err errors.Memory) }
 {
     match answer {
         Ok(OutStep::Sent { key: _ }) => Ok(true),
@@ -60,15 +65,16 @@ impl Tower {
         requires { IsTower self.old }
         ensures follows { Follows self.old self.new }
         ensures does { OnOk result ((slots : List Slot) → Runs (TakesAll place) slots self.old slots self.new) }
+        ensures fails { OnErr result (has_failed self.new ≡ true) }
     {
         'steps: for _ in 0..u64::MAX {
-            let answer = self.in_step(alloc, place.rank, place.dif, place.node, place.link);
+            let answer = self.in_step_at(alloc, place.rank, place.dif, place.node, place.link);
             if !has_taken(answer)? {
                 return Ok(());
             }
         }
         // So many SDUs fit into no memory.
-        Err(Memory)
+        Err(self.fail())
     }
 
     /// Does what is due at an IPC process, one thing after the other, until a step finds none.
@@ -76,15 +82,16 @@ impl Tower {
         requires { IsTower self.old }
         ensures follows { Follows self.old self.new }
         ensures does { OnOk result ((slots : List Slot) → Runs (DoesAllDue place) slots self.old slots self.new) }
+        ensures fails { OnErr result (has_failed self.new ≡ true) }
     {
         'steps: for _ in 0..u64::MAX {
-            let answer = self.clock_step(alloc, place.rank, place.dif, place.node);
+            let answer = self.clock_step_at(alloc, place.rank, place.dif, place.node);
             if !was_due(answer)? {
                 return Ok(());
             }
         }
         // So many things fit into no memory.
-        Err(Memory)
+        Err(self.fail())
     }
 
     /// Lets the PDUs at a link go, one after the other, until none waits or one stays.
@@ -98,15 +105,18 @@ impl Tower {
         ensures follows { Follows self.old self.new }
         ensures names { map (λ (x : Slot). x.name) (S.slots shelf.new) ≡ map (λ (x : Slot). x.name) (S.slots shelf.old) }
         ensures does { OnOk result (Runs (LetsAll place) (S.slots shelf.old) self.old (S.slots shelf.new) self.new) }
+        ensures fails { OnErr result (has_failed self.new ≡ true) }
     {
         'steps: for _ in 0..u64::MAX {
-            let answer = self.out_step(alloc, place.rank, place.dif, shelf, place.node, place.link);
+            let answer = self.out_step_at(
+                alloc, place.rank, place.dif, shelf, place.node, place.link,
+            );
             if !has_left(answer)? {
                 return Ok(());
             }
         }
         // So many PDUs fit into no memory.
-        Err(Memory)
+        Err(self.fail())
     }
 
     /// Takes what came at every link, from the lowest rank up.
@@ -114,8 +124,11 @@ impl Tower {
         requires { IsTower self.old }
         ensures follows { Follows self.old self.new }
         ensures does { OnOk result ((slots : List Slot) → Runs (InTurn TakesAll (links_upward self.old)) slots self.old slots self.new) }
+        ensures fails { OnErr result (has_failed self.new ≡ true) }
     {
-        let places = self.links_upward(alloc)?;
+        let Ok(places) = self.links_upward(alloc) else {
+            return Err(self.fail());
+        };
         for place in places.as_slice() {
             self.take_all(alloc, *place)?;
         }
@@ -127,8 +140,11 @@ impl Tower {
         requires { IsTower self.old }
         ensures follows { Follows self.old self.new }
         ensures does { OnOk result ((slots : List Slot) → Runs (InTurn DoesAllDue (members_upward self.old)) slots self.old slots self.new) }
+        ensures fails { OnErr result (has_failed self.new ≡ true) }
     {
-        let places = self.members_upward(alloc)?;
+        let Ok(places) = self.members_upward(alloc) else {
+            return Err(self.fail());
+        };
         for place in places.as_slice() {
             self.do_all_due(alloc, *place)?;
         }
@@ -141,8 +157,11 @@ impl Tower {
         ensures follows { Follows self.old self.new }
         ensures names { map (λ (x : Slot). x.name) (S.slots shelf.new) ≡ map (λ (x : Slot). x.name) (S.slots shelf.old) }
         ensures does { OnOk result (Runs (InTurn LetsAll (links_downward self.old)) (S.slots shelf.old) self.old (S.slots shelf.new) self.new) }
+        ensures fails { OnErr result (has_failed self.new ≡ true) }
     {
-        let places = self.links_downward(alloc)?;
+        let Ok(places) = self.links_downward(alloc) else {
+            return Err(self.fail());
+        };
         for place in places.as_slice() {
             self.let_all(alloc, shelf, *place)?;
         }
@@ -151,16 +170,21 @@ impl Tower {
 
     /// A round: first all that came is taken, at every link from rank 1 upward; then all that is due is done, at every
     /// IPC process; then all that may leave leaves, at every link from the highest rank down. Each place has its turn
-    /// until a step there does nothing, or is refused. It ends early only where memory is wanted.
+    /// until a step there does nothing, or is refused. It ends early only where memory is wanted, which the tower notes.
     pub fn round<S: Picks>(&mut self, alloc: Global, shelf: &mut S) -> Result<(), Memory>
         requires { IsTower self.old }
         ensures valid { IsTower self.new }
         ensures does { OnOk result (IsRound (S.slots shelf.old) (S.slots shelf.new) self.old self.new) }
+        ensures failed { has_failed self.old ≡ true → IsErr result × (shelf.new ≡ shelf.old) × (self.new ≡ self.old) }
+        ensures fails { OnErr result (has_failed self.new ≡ true) }
         ensures names { map (λ (x : Slot). x.name) (S.slots shelf.new) ≡ map (λ (x : Slot). x.name) (S.slots shelf.old) }
         ensures quiet { LeavesNow Anyone (seen_of self.old) (seen_of self.new) }
         ensures clock { now_of self.new ≡ now_of self.old }
         ensures height { height_of self.new ≡ height_of self.old }
     {
+        if self.has_failed() {
+            return Err(Memory);
+        }
         self.take_everywhere(alloc)?;
         self.do_due_everywhere(alloc)?;
         self.let_go_everywhere(alloc, shelf)

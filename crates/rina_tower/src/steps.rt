@@ -1,7 +1,9 @@
 //! The steps of the DIFs, at any rank.
-ghost use Rattle.std.specs.Prelude.{◌≡◌, map};
+ghost use Rattle.std.specs.Prelude.{◌≡◌, true, false, Err, map};
 ghost use Rattle.rina_policy.specs.Slots.{Slot};
+ghost use Rattle.rina_data.specs.declared.step.StepError.TheVariants.{Memory};
 ghost use Rattle.rina_tower.specs.Beside.{Anyone, LeavesNow};
+ghost use Rattle.rina_tower.specs.Failing.{has_failed};
 ghost use Rattle.rina_tower.specs.Ranks.{height_of, seen_of};
 ghost use Rattle.rina_tower.specs.Standing.{IsTower};
 ghost use Rattle.rina_tower.specs.Stepping.{ClocksAt, InSteps, OutSteps};
@@ -25,7 +27,31 @@ impl Tower {
     ) -> Result<InStep, StepError>
         requires { IsTower self.old }
         ensures valid { IsTower self.new }
+        ensures does { has_failed self.old ≡ false → InSteps r dif node link result self.old self.new }
+        ensures failed { has_failed self.old ≡ true → (result ≡ Err Memory) × (self.new ≡ self.old) }
+        ensures fails { result ≡ Err Memory → has_failed self.new ≡ true }
+        ensures quiet { LeavesNow Anyone (seen_of self.old) (seen_of self.new) }
+        ensures height { height_of self.new ≡ height_of self.old }
+    {
+        if self.has_failed() {
+            return Err(StepError::Memory);
+        }
+        self.in_step_at(alloc, r, dif, node, link)
+    }
+
+    /// The same, where nobody asks whether memory was wanted before.
+    pub(crate) fn in_step_at(
+        &mut self,
+        alloc: Global,
+        r: u16,
+        dif: u16,
+        node: Node,
+        link: u16,
+    ) -> Result<InStep, StepError>
+        requires { IsTower self.old }
+        ensures valid { IsTower self.new }
         ensures does { InSteps r dif node link result self.old self.new }
+        ensures fails { result ≡ Err Memory → has_failed self.new ≡ true }
         ensures quiet { LeavesNow Anyone (seen_of self.old) (seen_of self.new) }
         ensures height { height_of self.new ≡ height_of self.old }
     {
@@ -36,7 +62,7 @@ impl Tower {
                 if r == rank.below.height() + 1 {
                     rank.difs.in_step(alloc, &mut rank.below, dif, node, link)
                 } else {
-                    rank.below.in_step(alloc, r, dif, node, link)
+                    rank.below.in_step_at(alloc, r, dif, node, link)
                 }
             }
         }
@@ -55,7 +81,33 @@ impl Tower {
     ) -> Result<OutStep, StepError>
         requires { IsTower self.old }
         ensures valid { IsTower self.new }
+        ensures does { has_failed self.old ≡ false → OutSteps (S.may_answer shelf.old) (S.slots shelf.old) (S.slots shelf.new) r dif node link result self.old self.new }
+        ensures failed { has_failed self.old ≡ true → (result ≡ Err Memory) × (shelf.new ≡ shelf.old) × (self.new ≡ self.old) }
+        ensures fails { result ≡ Err Memory → has_failed self.new ≡ true }
+        ensures quiet { LeavesNow Anyone (seen_of self.old) (seen_of self.new) }
+        ensures height { height_of self.new ≡ height_of self.old }
+        ensures names { map (λ (x : Slot). x.name) (S.slots shelf.new) ≡ map (λ (x : Slot). x.name) (S.slots shelf.old) }
+    {
+        if self.has_failed() {
+            return Err(StepError::Memory);
+        }
+        self.out_step_at(alloc, r, dif, shelf, node, link)
+    }
+
+    /// The same, where nobody asks whether memory was wanted before.
+    pub(crate) fn out_step_at<S: Picks>(
+        &mut self,
+        alloc: Global,
+        r: u16,
+        dif: u16,
+        shelf: &mut S,
+        node: Node,
+        link: u16,
+    ) -> Result<OutStep, StepError>
+        requires { IsTower self.old }
+        ensures valid { IsTower self.new }
         ensures does { OutSteps (S.may_answer shelf.old) (S.slots shelf.old) (S.slots shelf.new) r dif node link result self.old self.new }
+        ensures fails { result ≡ Err Memory → has_failed self.new ≡ true }
         ensures quiet { LeavesNow Anyone (seen_of self.old) (seen_of self.new) }
         ensures height { height_of self.new ≡ height_of self.old }
         ensures names { map (λ (x : Slot). x.name) (S.slots shelf.new) ≡ map (λ (x : Slot). x.name) (S.slots shelf.old) }
@@ -68,7 +120,7 @@ impl Tower {
                     rank.difs
                         .out_step(alloc, &mut rank.below, shelf, dif, node, link)
                 } else {
-                    rank.below.out_step(alloc, r, dif, shelf, node, link)
+                    rank.below.out_step_at(alloc, r, dif, shelf, node, link)
                 }
             }
         }
@@ -85,7 +137,30 @@ impl Tower {
     ) -> Result<ClockStep, StepError>
         requires { IsTower self.old }
         ensures valid { IsTower self.new }
+        ensures does { has_failed self.old ≡ false → ClocksAt r dif node result self.old self.new }
+        ensures failed { has_failed self.old ≡ true → (result ≡ Err Memory) × (self.new ≡ self.old) }
+        ensures fails { result ≡ Err Memory → has_failed self.new ≡ true }
+        ensures quiet { LeavesNow Anyone (seen_of self.old) (seen_of self.new) }
+        ensures height { height_of self.new ≡ height_of self.old }
+    {
+        if self.has_failed() {
+            return Err(StepError::Memory);
+        }
+        self.clock_step_at(alloc, r, dif, node)
+    }
+
+    /// The same, where nobody asks whether memory was wanted before.
+    pub(crate) fn clock_step_at(
+        &mut self,
+        alloc: Global,
+        r: u16,
+        dif: u16,
+        node: Node,
+    ) -> Result<ClockStep, StepError>
+        requires { IsTower self.old }
+        ensures valid { IsTower self.new }
         ensures does { ClocksAt r dif node result self.old self.new }
+        ensures fails { result ≡ Err Memory → has_failed self.new ≡ true }
         ensures quiet { LeavesNow Anyone (seen_of self.old) (seen_of self.new) }
         ensures height { height_of self.new ≡ height_of self.old }
     {
@@ -96,7 +171,7 @@ impl Tower {
                 if r == rank.below.height() + 1 {
                     rank.difs.clock_step(alloc, &mut rank.below, dif, node)
                 } else {
-                    rank.below.clock_step(alloc, r, dif, node)
+                    rank.below.clock_step_at(alloc, r, dif, node)
                 }
             }
         }

@@ -1,6 +1,8 @@
 //! The clock of a tower.
-ghost use Rattle.std.specs.Prelude.{◌≡◌};
+ghost use Rattle.std.specs.Prelude.{◌≡◌, true, false, Err};
+ghost use Rattle.rina_wire.specs.declared.tick.TickError.TheVariants.{Memory};
 ghost use Rattle.rina_tower.specs.Beside.{Anyone, Leaves};
+ghost use Rattle.rina_tower.specs.Failing.{has_failed};
 ghost use Rattle.rina_tower.specs.Ranks.{height_of, now_of, seen_of};
 ghost use Rattle.rina_tower.specs.Standing.{IsTower};
 ghost use Rattle.rina_tower.specs.Ticking.{Ticks};
@@ -14,7 +16,24 @@ impl Tower {
     pub fn tick(&mut self, alloc: Global) -> Result<(), TickError>
         requires { IsTower self.old }
         ensures valid { IsTower self.new }
+        ensures does { has_failed self.old ≡ false → Ticks result self.old self.new }
+        ensures failed { has_failed self.old ≡ true → (result ≡ Err Memory) × (self.new ≡ self.old) }
+        ensures fails { result ≡ Err Memory → has_failed self.new ≡ true }
+        ensures quiet { Leaves Anyone (seen_of self.old) (seen_of self.new) }
+        ensures height { height_of self.new ≡ height_of self.old }
+    {
+        if self.has_failed() {
+            return Err(TickError::Memory);
+        }
+        self.tick_on(alloc)
+    }
+
+    /// The same, where nobody asks whether memory was wanted before.
+    fn tick_on(&mut self, alloc: Global) -> Result<(), TickError>
+        requires { IsTower self.old }
+        ensures valid { IsTower self.new }
         ensures does { Ticks result self.old self.new }
+        ensures fails { result ≡ Err Memory → has_failed self.new ≡ true }
         ensures quiet { Leaves Anyone (seen_of self.old) (seen_of self.new) }
         ensures height { height_of self.new ≡ height_of self.old }
     {
@@ -22,7 +41,7 @@ impl Tower {
             Tower::Wires(wires) => wires.tick(alloc),
             Tower::Rank(rank) => {
                 let rank: &mut Rank = rank;
-                let result = rank.below.tick(alloc);
+                let result = rank.below.tick_on(alloc);
                 let now = rank.below.clock();
                 rank.difs.clock_to(now);
                 result

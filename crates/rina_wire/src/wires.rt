@@ -1,6 +1,6 @@
 //! All wires.
 ghost use Rattle.std.specs.Prelude.{◌≡◌, ◌+◌, ◌<◌, ◌≤◌, length, slice_get, map, IfOk, MatchOption};
-ghost use Rattle.rina_wire.specs.Air.{end_at};
+ghost use Rattle.rina_wire.specs.Air.{end_at, failed_air, seen_of};
 ghost use Rattle.rina_wire.specs.Plan.{IsSoundPlan, air_of, line_of};
 ghost use Rattle.rina_wire.specs.Sound.{IsSound};
 
@@ -56,6 +56,25 @@ impl Wires {
             wires: lay(alloc, plan.wires.as_slice())?,
             failed: false,
         })
+    }
+
+    /// Whether memory was wanted and not found.
+    pub fn has_failed(&self) -> bool
+        ensures { result ≡ self.now.failed }
+    {
+        self.failed
+    }
+
+    /// Notes that memory was wanted and not found by what stands on the wires: each call that takes memory answers so
+    /// from now on.
+    #[tactic(auto, using(crate::proofs::Sound::sound_failed))]
+    pub fn fail(&mut self)
+        requires { IsSound self.old }
+        ensures valid { IsSound self.new }
+        ensures journals { seen_of self.new ≡ seen_of self.old }
+        ensures exact { self.new ≡ failed_air self.old }
+    {
+        self.failed = true;
     }
 
     /// The end of a port.

@@ -1,8 +1,11 @@
 //! How applications ask for flows, and claim the far ends of those that were asked for.
-ghost use Rattle.std.specs.Prelude.{◌≡◌, ◌||◌};
+ghost use Rattle.std.specs.Prelude.{◌≡◌, ◌||◌, true, false, Err};
+ghost use Rattle.rina_iface.specs.declared.error.AllocateError.TheVariants as allocate;
+ghost use Rattle.rina_tower.specs.declared.applications.AppError.TheVariants.{Call};
 ghost use Rattle.rina_tower.specs.Applications.{Answers, AppAllocates, AppClaims, ClaimsFor};
 ghost use Rattle.rina_tower.specs.Beside.{IsIpc, LeavesNow, is_ipc};
 ghost use Rattle.rina_tower.specs.Calls.{AllocatesHere, ClaimsHere};
+ghost use Rattle.rina_tower.specs.Failing.{has_failed};
 ghost use Rattle.rina_tower.specs.Ranks.{height_of, seen_of};
 ghost use Rattle.rina_tower.specs.Standing.{IsTower};
 ghost use Rattle.rina_tower.specs.Walking.{SameBelow};
@@ -27,12 +30,13 @@ impl Tower {
         ensures valid { IsTower self.new }
         ensures below { SameBelow self.old self.new }
         ensures does { Answers (is_ipc ask.now.app || is_ipc ask.now.to) (λ x. AllocatesHere ask.now x self.old self.new) (self.new ≡ self.old) result }
+        ensures fails { result ≡ Err (Call allocate.Memory) → has_failed self.new ≡ true }
         ensures beside { LeavesNow IsIpc (seen_of self.old) (seen_of self.new) }
     {
         if is_for_ipc(ask) {
             return Err(AppError::NotYours);
         }
-        match self.allocate(alloc, ask) {
+        match self.allocate_here(alloc, ask) {
             Ok(port) => Ok(port),
             Err(error) => Err(AppError::Call(error)),
         }
@@ -47,7 +51,29 @@ impl Tower {
     ) -> Result<Port, AppError<AllocateError>>
         requires { IsTower self.old }
         ensures valid { IsTower self.new }
+        ensures does { has_failed self.old ≡ false → AppAllocates r ask.now result self.old self.new }
+        ensures failed { has_failed self.old ≡ true → (result ≡ Err (Call allocate.Memory)) × (self.new ≡ self.old) }
+        ensures fails { result ≡ Err (Call allocate.Memory) → has_failed self.new ≡ true }
+        ensures beside { LeavesNow IsIpc (seen_of self.old) (seen_of self.new) }
+        ensures height { height_of self.new ≡ height_of self.old }
+    {
+        if self.has_failed() {
+            return Err(AppError::Call(AllocateError::Memory));
+        }
+        self.app_allocate_at(alloc, r, ask)
+    }
+
+    /// The same, where nobody asks whether memory was wanted before.
+    fn app_allocate_at(
+        &mut self,
+        alloc: Global,
+        r: u16,
+        ask: &Ask,
+    ) -> Result<Port, AppError<AllocateError>>
+        requires { IsTower self.old }
+        ensures valid { IsTower self.new }
         ensures does { AppAllocates r ask.now result self.old self.new }
+        ensures fails { result ≡ Err (Call allocate.Memory) → has_failed self.new ≡ true }
         ensures beside { LeavesNow IsIpc (seen_of self.old) (seen_of self.new) }
         ensures height { height_of self.new ≡ height_of self.old }
     {
@@ -56,7 +82,7 @@ impl Tower {
         }
         match self {
             Tower::Wires(_) => Err(AppError::NoRank),
-            Tower::Rank(rank) => rank.below.app_allocate(alloc, r, ask),
+            Tower::Rank(rank) => rank.below.app_allocate_at(alloc, r, ask),
         }
     }
 

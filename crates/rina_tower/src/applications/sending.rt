@@ -1,9 +1,13 @@
 //! How applications send and pass SDUs, and free their ports.
-ghost use Rattle.std.specs.Prelude.{◌≡◌, false};
+ghost use Rattle.std.specs.Prelude.{◌≡◌, true, false, Err};
+ghost use Rattle.rina_iface.specs.declared.error.FreeError.TheVariants as free;
+ghost use Rattle.rina_iface.specs.declared.error.SendError.TheVariants as send;
 ghost use Rattle.rina_iface.specs.Seen.{unpassed};
+ghost use Rattle.rina_tower.specs.declared.applications.AppError.TheVariants.{Call};
 ghost use Rattle.rina_tower.specs.Applications.{Answers, AppFrees, AppPasses, AppSends, CanPass, is_ipc_at};
 ghost use Rattle.rina_tower.specs.Beside.{IsIpc, LeavesNow};
 ghost use Rattle.rina_tower.specs.Calls.{FreesHere, SendsHere};
+ghost use Rattle.rina_tower.specs.Failing.{has_failed};
 ghost use Rattle.rina_tower.specs.Ranks.{height_of, seen_of};
 ghost use Rattle.rina_tower.specs.Standing.{IsTower};
 ghost use Rattle.rina_tower.specs.Walking.{SameBelow};
@@ -40,12 +44,13 @@ impl Tower {
         ensures valid { IsTower self.new }
         ensures below { SameBelow self.old self.new }
         ensures does { Answers (is_ipc_at (seen_of self.old) port) (λ x. SendsHere port sdu.now x self.old self.new) (self.new ≡ self.old) result }
+        ensures fails { result ≡ Err (Call send.Memory) → has_failed self.new ≡ true }
         ensures beside { LeavesNow IsIpc (seen_of self.old) (seen_of self.new) }
     {
         if self.is_ipc_port(port) {
             return Err(AppError::NotYours);
         }
-        match self.send(alloc, port, sdu) {
+        match self.send_here(alloc, port, sdu) {
             Ok(num) => Ok(num),
             Err(error) => Err(AppError::Call(error)),
         }
@@ -61,7 +66,30 @@ impl Tower {
     ) -> Result<Num, AppError<SendError>>
         requires { IsTower self.old }
         ensures valid { IsTower self.new }
+        ensures does { has_failed self.old ≡ false → AppSends r port sdu.now result self.old self.new }
+        ensures failed { has_failed self.old ≡ true → (result ≡ Err (Call send.Memory)) × (self.new ≡ self.old) }
+        ensures fails { result ≡ Err (Call send.Memory) → has_failed self.new ≡ true }
+        ensures beside { LeavesNow IsIpc (seen_of self.old) (seen_of self.new) }
+        ensures height { height_of self.new ≡ height_of self.old }
+    {
+        if self.has_failed() {
+            return Err(AppError::Call(SendError::Memory));
+        }
+        self.app_send_at(alloc, r, port, sdu)
+    }
+
+    /// The same, where nobody asks whether memory was wanted before.
+    fn app_send_at(
+        &mut self,
+        alloc: Global,
+        r: u16,
+        port: Port,
+        sdu: &[u8],
+    ) -> Result<Num, AppError<SendError>>
+        requires { IsTower self.old }
+        ensures valid { IsTower self.new }
         ensures does { AppSends r port sdu.now result self.old self.new }
+        ensures fails { result ≡ Err (Call send.Memory) → has_failed self.new ≡ true }
         ensures beside { LeavesNow IsIpc (seen_of self.old) (seen_of self.new) }
         ensures height { height_of self.new ≡ height_of self.old }
     {
@@ -70,7 +98,7 @@ impl Tower {
         }
         match self {
             Tower::Wires(_) => Err(AppError::NoRank),
-            Tower::Rank(rank) => rank.below.app_send(alloc, r, port, sdu),
+            Tower::Rank(rank) => rank.below.app_send_at(alloc, r, port, sdu),
         }
     }
 
@@ -98,12 +126,13 @@ impl Tower {
         ensures valid { IsTower self.new }
         ensures below { SameBelow self.old self.new }
         ensures does { Answers (is_ipc_at (seen_of self.old) port) (λ x. FreesHere port x self.old self.new) (self.new ≡ self.old) result }
+        ensures fails { result ≡ Err (Call free.Memory) → has_failed self.new ≡ true }
         ensures beside { LeavesNow IsIpc (seen_of self.old) (seen_of self.new) }
     {
         if self.is_ipc_port(port) {
             return Err(AppError::NotYours);
         }
-        match self.free(alloc, port) {
+        match self.free_here(alloc, port) {
             Ok(()) => Ok(()),
             Err(error) => Err(AppError::Call(error)),
         }
@@ -113,7 +142,24 @@ impl Tower {
     pub fn app_free(&mut self, alloc: Global, r: u16, port: Port) -> Result<(), AppError<FreeError>>
         requires { IsTower self.old }
         ensures valid { IsTower self.new }
+        ensures does { has_failed self.old ≡ false → AppFrees r port result self.old self.new }
+        ensures failed { has_failed self.old ≡ true → (result ≡ Err (Call free.Memory)) × (self.new ≡ self.old) }
+        ensures fails { result ≡ Err (Call free.Memory) → has_failed self.new ≡ true }
+        ensures beside { LeavesNow IsIpc (seen_of self.old) (seen_of self.new) }
+        ensures height { height_of self.new ≡ height_of self.old }
+    {
+        if self.has_failed() {
+            return Err(AppError::Call(FreeError::Memory));
+        }
+        self.app_free_at(alloc, r, port)
+    }
+
+    /// The same, where nobody asks whether memory was wanted before.
+    fn app_free_at(&mut self, alloc: Global, r: u16, port: Port) -> Result<(), AppError<FreeError>>
+        requires { IsTower self.old }
+        ensures valid { IsTower self.new }
         ensures does { AppFrees r port result self.old self.new }
+        ensures fails { result ≡ Err (Call free.Memory) → has_failed self.new ≡ true }
         ensures beside { LeavesNow IsIpc (seen_of self.old) (seen_of self.new) }
         ensures height { height_of self.new ≡ height_of self.old }
     {
@@ -122,7 +168,7 @@ impl Tower {
         }
         match self {
             Tower::Wires(_) => Err(AppError::NoRank),
-            Tower::Rank(rank) => rank.below.app_free(alloc, r, port),
+            Tower::Rank(rank) => rank.below.app_free_at(alloc, r, port),
         }
     }
 }

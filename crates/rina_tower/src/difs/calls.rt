@@ -1,5 +1,5 @@
 //! The calls of the facilities of a rank, each at the DIF of its number.
-ghost use Rattle.std.specs.Prelude.{◌≡◌, Some, None, Err};
+ghost use Rattle.std.specs.Prelude.{◌≡◌, true, Some, None, Err};
 ghost use Rattle.rina_iface.specs.declared.error.AllocateError.TheVariants as allocate;
 ghost use Rattle.rina_iface.specs.declared.error.FreeError.TheVariants as free;
 ghost use Rattle.rina_iface.specs.declared.error.RegisterError.TheVariants as register;
@@ -10,6 +10,7 @@ ghost use Rattle.rina_iface.specs.Claim.{Claims};
 ghost use Rattle.rina_iface.specs.Register.{Registers};
 ghost use Rattle.rina_iface.specs.Unregister.{Unregisters};
 ghost use Rattle.rina_tower.specs.Calls.{AreDifs, BindsFrom, MayBind, FreesFrom, PassesFrom, SendsFrom, Serves, WaitsThere};
+ghost use Rattle.rina_tower.specs.Failing.{have_failed};
 ghost use Rattle.rina_tower.specs.Walking.{AtDif, IsAtDif};
 
 use super::Difs;
@@ -27,7 +28,8 @@ impl Difs {
         app: &AppName,
     ) -> Result<(), RegisterError>
         requires { AreDifs self.old }
-        ensures { AtDif fac (Serves (λ s s'. Registers (Some register.Unbuilt) s fac node app.now result s') fac) (result ≡ Err register.NoMember) self.old self.new }
+        ensures does { AtDif fac (Serves (λ s s'. Registers (Some register.Unbuilt) s fac node app.now result s') fac) (result ≡ Err register.NoMember) self.old self.new }
+        ensures fails { result ≡ Err register.Memory → have_failed self.new ≡ true }
     {
         let Some(_dif) = self.get(fac) else {
             return Err(RegisterError::NoMember);
@@ -45,7 +47,8 @@ impl Difs {
         app: &AppName,
     ) -> Result<(), UnregisterError>
         requires { AreDifs self.old }
-        ensures { AtDif fac (Serves (λ s s'. Unregisters (Some unregister.Unbuilt) s fac node app.now result s') fac) (result ≡ Err unregister.NotThere) self.old self.new }
+        ensures does { AtDif fac (Serves (λ s s'. Unregisters (Some unregister.Unbuilt) s fac node app.now result s') fac) (result ≡ Err unregister.NotThere) self.old self.new }
+        ensures fails { result ≡ Err unregister.Memory → have_failed self.new ≡ true }
     {
         let Some(_dif) = self.get(fac) else {
             return Err(UnregisterError::NotThere);
@@ -57,7 +60,8 @@ impl Difs {
     /// Asks for a flow.
     pub fn allocate(&mut self, alloc: Global, ask: &Ask) -> Result<Port, AllocateError>
         requires { AreDifs self.old }
-        ensures { AtDif ask.now.fac (Serves (λ s s'. Allocates (Some allocate.Unbuilt) s ask.now result s') ask.now.fac) (result ≡ Err allocate.NoMember) self.old self.new }
+        ensures does { AtDif ask.now.fac (Serves (λ s s'. Allocates (Some allocate.Unbuilt) s ask.now result s') ask.now.fac) (result ≡ Err allocate.NoMember) self.old self.new }
+        ensures fails { result ≡ Err allocate.Memory → have_failed self.new ≡ true }
     {
         let Some(_dif) = self.get(ask.fac) else {
             return Err(AllocateError::NoMember);
@@ -70,7 +74,8 @@ impl Difs {
     pub fn bind(&mut self, alloc: Global, fixed: &Fixed) -> Result<(Port, Port), AllocateError>
         requires difs { AreDifs self.old }
         requires may { MayBind self.old fixed.now }
-        ensures { IsAtDif (BindsFrom fixed.now result) fixed.now.fac self.old self.new }
+        ensures does { IsAtDif (BindsFrom fixed.now result) fixed.now.fac self.old self.new }
+        ensures fails { result ≡ Err allocate.Memory → have_failed self.new ≡ true }
     {
         let Some(_dif) = self.get(fixed.fac) else {
             unreachable!()
@@ -94,7 +99,8 @@ impl Difs {
     /// Sends an SDU.
     pub fn send(&mut self, alloc: Global, port: Port, sdu: &[u8]) -> Result<Num, SendError>
         requires { AreDifs self.old }
-        ensures { AtDif port.fac (SendsFrom port sdu.now result) (result ≡ Err (send.NotAllocated None)) self.old self.new }
+        ensures does { AtDif port.fac (SendsFrom port sdu.now result) (result ≡ Err (send.NotAllocated None)) self.old self.new }
+        ensures fails { result ≡ Err send.Memory → have_failed self.new ≡ true }
     {
         let Some(_dif) = self.get(port.fac) else {
             return Err(SendError::NotAllocated { state: None });
@@ -119,7 +125,8 @@ impl Difs {
     /// Gives up a port.
     pub fn free(&mut self, alloc: Global, port: Port) -> Result<(), FreeError>
         requires { AreDifs self.old }
-        ensures { AtDif port.fac (FreesFrom port result) (result ≡ Err free.NoPort) self.old self.new }
+        ensures does { AtDif port.fac (FreesFrom port result) (result ≡ Err free.NoPort) self.old self.new }
+        ensures fails { result ≡ Err free.Memory → have_failed self.new ≡ true }
     {
         let Some(_dif) = self.get(port.fac) else {
             return Err(FreeError::NoPort);

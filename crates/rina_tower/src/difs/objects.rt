@@ -1,9 +1,10 @@
 //! CDAP messages to the DIFs of a rank.
-ghost use Rattle.std.specs.Prelude.{◌≡◌, Err};
+ghost use Rattle.std.specs.Prelude.{◌≡◌, true, Err};
 ghost use Rattle.rina_dif.specs.declared.cdap.CdapCallError.TheVariants as errors;
 ghost use Rattle.rina_dif.specs.Asking.{answer_of};
 ghost use Rattle.rina_tower.specs.Asking.{AsksOne};
 ghost use Rattle.rina_tower.specs.Calls.{AreDifs};
+ghost use Rattle.rina_tower.specs.Failing.{have_failed};
 ghost use Rattle.rina_tower.specs.Walking.{AtDif};
 
 use super::Difs;
@@ -21,7 +22,8 @@ impl Difs {
         bytes: &[u8],
     ) -> Result<Vec<u8>, CdapCallError>
         requires { AreDifs self.old }
-        ensures { AtDif fac (AsksOne node bytes.now (answer_of result)) (answer_of result ≡ Err errors.NoIpc) self.old self.new }
+        ensures does { AtDif fac (AsksOne node bytes.now (answer_of result)) (answer_of result ≡ Err errors.NoIpc) self.old self.new }
+        ensures fails { result ≡ Err errors.Memory → have_failed self.new ≡ true }
     {
         let Some(_dif) = self.get(fac) else {
             return Err(CdapCallError::NoIpc);

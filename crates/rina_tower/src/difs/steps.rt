@@ -1,8 +1,9 @@
 //! The steps of the DIFs of a rank, over any facility below.
-ghost use Rattle.std.specs.Prelude.{◌≡◌, length, map, slice_get, Some, Err};
+ghost use Rattle.std.specs.Prelude.{◌≡◌, length, map, slice_get, true, Some, Err};
 ghost use Rattle.rina_policy.specs.Slots.{Slot};
-ghost use Rattle.rina_data.specs.declared.step.StepError.TheVariants.{NoIpc};
+ghost use Rattle.rina_data.specs.declared.step.StepError.TheVariants.{Memory, NoIpc};
 ghost use Rattle.rina_tower.specs.Beside.{Anyone, LeavesNow};
+ghost use Rattle.rina_tower.specs.Failing.{have_failed};
 ghost use Rattle.rina_tower.specs.Ranks.{seen_of_difs};
 ghost use Rattle.rina_tower.specs.Standing.{AreStanding};
 ghost use Rattle.rina_tower.specs.Stepping.{ClocksOne, SendsOne, TakesOne};
@@ -30,6 +31,7 @@ impl Difs {
         ensures valid { F.valid below.new }
         ensures below { F.same_below below.old below.new }
         ensures does { AtDif dif (TakesOne (F.seen below.old) node link result (F.seen below.new)) ((result ≡ Err NoIpc) × (below.new ≡ below.old)) self.old self.new }
+        ensures fails { result ≡ Err Memory → have_failed self.new ≡ true }
     {
         let Some(_dif) = self.get(dif) else {
             return Err(StepError::NoIpc);
@@ -52,6 +54,7 @@ impl Difs {
         ensures valid { F.valid below.new }
         ensures below { F.same_below below.old below.new }
         ensures does { AtDif dif (TakesOne (F.seen below.old) node link result (F.seen below.new)) ((result ≡ Err NoIpc) × (below.new ≡ below.old)) self.old self.new }
+        ensures fails { result ≡ Err Memory → have_failed self.new ≡ true }
         ensures stand { AreStanding self.new (F.seen below.new) }
         ensures clock { (F.seen below.new).now ≡ (F.seen below.old).now }
         ensures quiet { LeavesNow Anyone (seen_of_difs (F.seen below.old).now self.old) (seen_of_difs (F.seen below.old).now self.new) }
@@ -74,6 +77,7 @@ impl Difs {
         ensures valid { F.valid below.new }
         ensures below { F.same_below below.old below.new }
         ensures does { AtDif dif (SendsOne (F.refuses_send below.old) (S.may_answer shelf.old) (S.slots shelf.old) (S.slots shelf.new) (F.seen below.old) node link result (F.seen below.new)) ((result ≡ Err NoIpc) × (S.slots shelf.new ≡ S.slots shelf.old) × (below.new ≡ below.old)) self.old self.new }
+        ensures fails { result ≡ Err Memory → have_failed self.new ≡ true }
         ensures names { map (λ (x : Slot). x.name) (S.slots shelf.new) ≡ map (λ (x : Slot). x.name) (S.slots shelf.old) }
     {
         let Some(_dif) = self.get(dif) else {
@@ -99,6 +103,7 @@ impl Difs {
         ensures valid { F.valid below.new }
         ensures below { F.same_below below.old below.new }
         ensures does { AtDif dif (SendsOne (F.refuses_send below.old) (S.may_answer shelf.old) (S.slots shelf.old) (S.slots shelf.new) (F.seen below.old) node link result (F.seen below.new)) ((result ≡ Err NoIpc) × (S.slots shelf.new ≡ S.slots shelf.old) × (below.new ≡ below.old)) self.old self.new }
+        ensures fails { result ≡ Err Memory → have_failed self.new ≡ true }
         ensures stand { AreStanding self.new (F.seen below.new) }
         ensures clock { (F.seen below.new).now ≡ (F.seen below.old).now }
         ensures quiet { LeavesNow Anyone (seen_of_difs (F.seen below.old).now self.old) (seen_of_difs (F.seen below.old).now self.new) }
@@ -120,6 +125,7 @@ impl Difs {
         ensures valid { F.valid below.new }
         ensures below { F.same_below below.old below.new }
         ensures does { AtDif dif (ClocksOne (F.seen below.old) node result (F.seen below.new)) ((result ≡ Err NoIpc) × (below.new ≡ below.old)) self.old self.new }
+        ensures fails { result ≡ Err Memory → have_failed self.new ≡ true }
     {
         let Some(_dif) = self.get(dif) else {
             return Err(StepError::NoIpc);
@@ -141,6 +147,7 @@ impl Difs {
         ensures valid { F.valid below.new }
         ensures below { F.same_below below.old below.new }
         ensures does { AtDif dif (ClocksOne (F.seen below.old) node result (F.seen below.new)) ((result ≡ Err NoIpc) × (below.new ≡ below.old)) self.old self.new }
+        ensures fails { result ≡ Err Memory → have_failed self.new ≡ true }
         ensures stand { AreStanding self.new (F.seen below.new) }
         ensures clock { (F.seen below.new).now ≡ (F.seen below.old).now }
         ensures quiet { LeavesNow Anyone (seen_of_difs (F.seen below.old).now self.old) (seen_of_difs (F.seen below.old).now self.new) }

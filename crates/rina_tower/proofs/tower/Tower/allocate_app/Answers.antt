@@ -10,7 +10,7 @@ pub returns-then-is_for_ipc-clause-beside : goal.returns-then-is_for_ipc-clause-
 returns-then-is_for_ipc-clause-beside c = all_alone IsIpc _
 
 pub returns-in-Ok-clause-beside : goal.returns-in-Ok-clause-beside
-returns-in-Ok-clause-beside c = asked_beside (refuses_allocate c.args.self.now c.args.ask.now) (seen_of c.args.self.now) c.args.ask.now c.allocate.result (seen_of c.allocate.new.self) (sym c.is_for_ipc.ensures ∙ c.if-is_for_ipc.false) c.allocate.ensures.does
+returns-in-Ok-clause-beside c = asked_beside (refuses_allocate c.args.self.now c.args.ask.now) (seen_of c.args.self.now) c.args.ask.now c.allocate_here.result (seen_of c.allocate_here.new.self) (sym c.is_for_ipc.ensures ∙ c.if-is_for_ipc.false) c.allocate_here.ensures.does
 
 pub returns-in-Err-clause-beside : goal.returns-in-Err-clause-beside
-returns-in-Err-clause-beside c = asked_beside (refuses_allocate c.args.self.now c.args.ask.now) (seen_of c.args.self.now) c.args.ask.now c.allocate.result (seen_of c.allocate.new.self) (sym c.is_for_ipc.ensures ∙ c.if-is_for_ipc.false) c.allocate.ensures.does
+returns-in-Err-clause-beside c = asked_beside (refuses_allocate c.args.self.now c.args.ask.now) (seen_of c.args.self.now) c.args.ask.now c.allocate_here.result (seen_of c.allocate_here.new.self) (sym c.is_for_ipc.ensures ∙ c.if-is_for_ipc.false) c.allocate_here.ensures.does

@@ -3,9 +3,6 @@ use Rattle.rina_tower.specs.Rounds.{DoesAllDue, members_upward}
 use Rattle.rina_tower.proofs.Rounding.{follows_none, follows_on, runs_all, runs_next, runs_none}
 use Rattle.rina_tower.proofs.tower.Tower.do_due_everywhere.Goals as goal
 
-pub returns-in_err-places-clause-follows : goal.returns-in_err-places-clause-follows
-returns-in_err-places-clause-follows c = follows_none c.args.self.now c.requires
-
 pub loop-place-init : goal.loop-place-init
 loop-place-init c = record {
   follows = follows_none c.args.self.now c.requires;
@@ -22,4 +19,4 @@ loop-place-preserved c = record {
 }
 
 pub returns-clause-does : goal.returns-clause-does
-returns-clause-does c = λ slots. runs_all DoesAllDue c.as_slice-place-items.result.now (members_upward c.args.self.now) c.loop-place.place-index slots slots c.args.self.now c.loop-place.self (c.as_slice-place-items.ensures ∙ c.in_ok-places.ensures) c.loop-place-test.false (c.loop-place.invariant.does slots)
+returns-clause-does c = λ slots. runs_all DoesAllDue c.as_slice-place-items.result.now (members_upward c.args.self.now) c.loop-place.place-index slots slots c.args.self.now c.loop-place.self (c.as_slice-place-items.ensures ∙ c.in-Ok.ensures) c.loop-place-test.false (c.loop-place.invariant.does slots)

@@ -9,7 +9,7 @@ pub returns-then-is_ipc_port-clause-beside : goal.returns-then-is_ipc_port-claus
 returns-then-is_ipc_port-clause-beside c = all_alone IsIpc _
 
 pub returns-in-Ok-clause-beside : goal.returns-in-Ok-clause-beside
-returns-in-Ok-clause-beside c = frees_alone IsIpc (frees_both c.args.self.now) (seen_of c.args.self.now) c.args.port c.free.result (seen_of c.free.new.self) c.free.ensures.does
+returns-in-Ok-clause-beside c = frees_alone IsIpc (frees_both c.args.self.now) (seen_of c.args.self.now) c.args.port c.free_here.result (seen_of c.free_here.new.self) c.free_here.ensures.does
 
 pub returns-in-Err-clause-beside : goal.returns-in-Err-clause-beside
-returns-in-Err-clause-beside c = frees_alone IsIpc (frees_both c.args.self.now) (seen_of c.args.self.now) c.args.port c.free.result (seen_of c.free.new.self) c.free.ensures.does
+returns-in-Err-clause-beside c = frees_alone IsIpc (frees_both c.args.self.now) (seen_of c.args.self.now) c.args.port c.free_here.result (seen_of c.free_here.new.self) c.free_here.ensures.does

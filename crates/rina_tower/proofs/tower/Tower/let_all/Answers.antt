@@ -13,23 +13,23 @@ steps-init g c = record {
 
 pub returns-in_err-has_left-clause-follows : goal.returns-in_err-has_left-clause-follows
 returns-in_err-has_left-clause-follows g c =
-    let k = c.out_step-answer.ensures in
-    follows_step c.args.self.now c.steps.self c.out_step-answer.new.self c.steps.invariant.follows k.valid k.quiet k.height
+    let k = c.out_step_at-answer.ensures in
+    follows_step c.args.self.now c.steps.self c.out_step_at-answer.new.self c.steps.invariant.follows k.valid k.quiet k.height
 
 pub returns-then-not-branch-clause-follows : goal.returns-then-not-branch-clause-follows
 returns-then-not-branch-clause-follows g c =
-    let k = c.out_step-answer.ensures in
-    follows_step c.args.self.now c.steps.self c.out_step-answer.new.self c.steps.invariant.follows k.valid k.quiet k.height
+    let k = c.out_step_at-answer.ensures in
+    follows_step c.args.self.now c.steps.self c.out_step_at-answer.new.self c.steps.invariant.follows k.valid k.quiet k.height
 
 pub returns-then-not-branch-clause-does : goal.returns-then-not-branch-clause-does
 returns-then-not-branch-clause-does g c =
-    going_ends has_left lets_no_more (Letting c.args.place) c.out_step-answer.result (g.S.Picks.slots c.args.shelf.now) (g.S.Picks.slots c.steps.shelf) (g.S.Picks.slots c.out_step-answer.new.shelf) c.args.self.now c.steps.self c.out_step-answer.new.self c.steps.invariant.going (any_place (g.S.Picks.may_answer c.steps.shelf) (g.S.Picks.slots c.steps.shelf) (g.S.Picks.slots c.out_step-answer.new.shelf) c.args.place.rank c.args.place.dif c.args.place.node c.args.place.link c.out_step-answer.result c.steps.self c.out_step-answer.new.self c.out_step-answer.ensures.does) (c.in_ok-has_left.ensures.1 ∙ ap not c.if-not-branch.true)
+    going_ends has_left lets_no_more (Letting c.args.place) c.out_step_at-answer.result (g.S.Picks.slots c.args.shelf.now) (g.S.Picks.slots c.steps.shelf) (g.S.Picks.slots c.out_step_at-answer.new.shelf) c.args.self.now c.steps.self c.out_step_at-answer.new.self c.steps.invariant.going (any_place (g.S.Picks.may_answer c.steps.shelf) (g.S.Picks.slots c.steps.shelf) (g.S.Picks.slots c.out_step_at-answer.new.shelf) c.args.place.rank c.args.place.dif c.args.place.node c.args.place.link c.out_step_at-answer.result c.steps.self c.out_step_at-answer.new.self c.out_step_at-answer.ensures.does) (c.in_ok-has_left.ensures.tells.1 ∙ ap not c.if-not-branch.true)
 
 pub steps-preserved : goal.steps-preserved
 steps-preserved g c =
-    let k = c.out_step-answer.ensures in
+    let k = c.out_step_at-answer.ensures in
     record {
-      follows = follows_step c.args.self.now c.steps.self c.out_step-answer.new.self c.steps.invariant.follows k.valid k.quiet k.height;
+      follows = follows_step c.args.self.now c.steps.self c.out_step_at-answer.new.self c.steps.invariant.follows k.valid k.quiet k.height;
       names = k.names ∙ c.steps.invariant.names;
-      going = going_more has_left (Letting c.args.place) c.out_step-answer.result (g.S.Picks.slots c.args.shelf.now) (g.S.Picks.slots c.steps.shelf) (g.S.Picks.slots c.out_step-answer.new.shelf) c.args.self.now c.steps.self c.out_step-answer.new.self c.steps.invariant.going (any_place (g.S.Picks.may_answer c.steps.shelf) (g.S.Picks.slots c.steps.shelf) (g.S.Picks.slots c.out_step-answer.new.shelf) c.args.place.rank c.args.place.dif c.args.place.node c.args.place.link c.out_step-answer.result c.steps.self c.out_step-answer.new.self c.out_step-answer.ensures.does) (c.in_ok-has_left.ensures.0 ∙ c.if-not-branch.false);
+      going = going_more has_left (Letting c.args.place) c.out_step_at-answer.result (g.S.Picks.slots c.args.shelf.now) (g.S.Picks.slots c.steps.shelf) (g.S.Picks.slots c.out_step_at-answer.new.shelf) c.args.self.now c.steps.self c.out_step_at-answer.new.self c.steps.invariant.going (any_place (g.S.Picks.may_answer c.steps.shelf) (g.S.Picks.slots c.steps.shelf) (g.S.Picks.slots c.out_step_at-answer.new.shelf) c.args.place.rank c.args.place.dif c.args.place.node c.args.place.link c.out_step_at-answer.result c.steps.self c.out_step_at-answer.new.self c.out_step_at-answer.ensures.does) (c.in_ok-has_left.ensures.tells.0 ∙ c.if-not-branch.false);
     }

@@ -3,9 +3,6 @@ use Rattle.rina_tower.specs.Rounds.{LetsAll, links_downward}
 use Rattle.rina_tower.proofs.Rounding.{follows_none, follows_on, runs_all, runs_next, runs_none}
 use Rattle.rina_tower.proofs.tower.Tower.let_go_everywhere.Goals as goal
 
-pub returns-in_err-places-clause-follows : goal.returns-in_err-places-clause-follows
-returns-in_err-places-clause-follows g c = follows_none c.args.self.now c.requires
-
 pub loop-place-init : goal.loop-place-init
 loop-place-init g c = record {
   follows = follows_none c.args.self.now c.requires;
@@ -24,4 +21,4 @@ loop-place-preserved g c = record {
 }
 
 pub returns-clause-does : goal.returns-clause-does
-returns-clause-does g c = runs_all LetsAll c.as_slice-place-items.result.now (links_downward c.args.self.now) c.loop-place.place-index (g.S.Picks.slots c.args.shelf.now) (g.S.Picks.slots c.loop-place.shelf) c.args.self.now c.loop-place.self (c.as_slice-place-items.ensures ∙ c.in_ok-places.ensures) c.loop-place-test.false c.loop-place.invariant.does
+returns-clause-does g c = runs_all LetsAll c.as_slice-place-items.result.now (links_downward c.args.self.now) c.loop-place.place-index (g.S.Picks.slots c.args.shelf.now) (g.S.Picks.slots c.loop-place.shelf) c.args.self.now c.loop-place.self (c.as_slice-place-items.ensures ∙ c.in-Ok.ensures) c.loop-place-test.false c.loop-place.invariant.does

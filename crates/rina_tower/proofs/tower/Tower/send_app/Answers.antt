@@ -10,7 +10,7 @@ pub returns-then-is_ipc_port-clause-beside : goal.returns-then-is_ipc_port-claus
 returns-then-is_ipc_port-clause-beside c = all_alone IsIpc _
 
 pub returns-in-Ok-clause-beside : goal.returns-in-Ok-clause-beside
-returns-in-Ok-clause-beside c = sent_beside (refuses_send c.args.self.now c.args.port (length c.args.sdu.now)) (seen_of c.args.self.now) c.args.port c.args.sdu.now c.send.result (seen_of c.send.new.self) (sym c.is_ipc_port.ensures ∙ c.if-is_ipc_port.false) c.send.ensures.does
+returns-in-Ok-clause-beside c = sent_beside (refuses_send c.args.self.now c.args.port (length c.args.sdu.now)) (seen_of c.args.self.now) c.args.port c.args.sdu.now c.send_here.result (seen_of c.send_here.new.self) (sym c.is_ipc_port.ensures ∙ c.if-is_ipc_port.false) c.send_here.ensures.does
 
 pub returns-in-Err-clause-beside : goal.returns-in-Err-clause-beside
-returns-in-Err-clause-beside c = sent_beside (refuses_send c.args.self.now c.args.port (length c.args.sdu.now)) (seen_of c.args.self.now) c.args.port c.args.sdu.now c.send.result (seen_of c.send.new.self) (sym c.is_ipc_port.ensures ∙ c.if-is_ipc_port.false) c.send.ensures.does
+returns-in-Err-clause-beside c = sent_beside (refuses_send c.args.self.now c.args.port (length c.args.sdu.now)) (seen_of c.args.self.now) c.args.port c.args.sdu.now c.send_here.result (seen_of c.send_here.new.self) (sym c.is_ipc_port.ensures ∙ c.if-is_ipc_port.false) c.send_here.ensures.does

@@ -11,22 +11,22 @@ steps-init c = record {
 
 pub returns-in_err-has_taken-clause-follows : goal.returns-in_err-has_taken-clause-follows
 returns-in_err-has_taken-clause-follows c =
-    let k = c.in_step-answer.ensures in
-    follows_step c.args.self.now c.steps.self c.in_step-answer.new.self c.steps.invariant.follows k.valid k.quiet k.height
+    let k = c.in_step_at-answer.ensures in
+    follows_step c.args.self.now c.steps.self c.in_step_at-answer.new.self c.steps.invariant.follows k.valid k.quiet k.height
 
 pub returns-then-not-branch-clause-follows : goal.returns-then-not-branch-clause-follows
 returns-then-not-branch-clause-follows c =
-    let k = c.in_step-answer.ensures in
-    follows_step c.args.self.now c.steps.self c.in_step-answer.new.self c.steps.invariant.follows k.valid k.quiet k.height
+    let k = c.in_step_at-answer.ensures in
+    follows_step c.args.self.now c.steps.self c.in_step_at-answer.new.self c.steps.invariant.follows k.valid k.quiet k.height
 
 pub returns-then-not-branch-clause-does : goal.returns-then-not-branch-clause-does
 returns-then-not-branch-clause-does c = λ slots.
-    going_ends has_taken takes_no_more (Taking c.args.place) c.in_step-answer.result slots slots slots c.args.self.now c.steps.self c.in_step-answer.new.self (c.steps.invariant.going slots) (refl, c.in_step-answer.ensures.does) (c.in_ok-has_taken.ensures.1 ∙ ap not c.if-not-branch.true)
+    going_ends has_taken takes_no_more (Taking c.args.place) c.in_step_at-answer.result slots slots slots c.args.self.now c.steps.self c.in_step_at-answer.new.self (c.steps.invariant.going slots) (refl, c.in_step_at-answer.ensures.does) (c.in_ok-has_taken.ensures.tells.1 ∙ ap not c.if-not-branch.true)
 
 pub steps-preserved : goal.steps-preserved
 steps-preserved c =
-    let k = c.in_step-answer.ensures in
+    let k = c.in_step_at-answer.ensures in
     record {
-      follows = follows_step c.args.self.now c.steps.self c.in_step-answer.new.self c.steps.invariant.follows k.valid k.quiet k.height;
-      going = λ slots. going_more has_taken (Taking c.args.place) c.in_step-answer.result slots slots slots c.args.self.now c.steps.self c.in_step-answer.new.self (c.steps.invariant.going slots) (refl, k.does) (c.in_ok-has_taken.ensures.0 ∙ c.if-not-branch.false);
+      follows = follows_step c.args.self.now c.steps.self c.in_step_at-answer.new.self c.steps.invariant.follows k.valid k.quiet k.height;
+      going = λ slots. going_more has_taken (Taking c.args.place) c.in_step_at-answer.result slots slots slots c.args.self.now c.steps.self c.in_step_at-answer.new.self (c.steps.invariant.going slots) (refl, k.does) (c.in_ok-has_taken.ensures.tells.0 ∙ c.if-not-branch.false);
     }

@@ -9,7 +9,7 @@ pub returns-then-is_ipc-clause-beside : goal.returns-then-is_ipc-clause-beside
 returns-then-is_ipc-clause-beside c = all_alone IsIpc _
 
 pub returns-in-Ok-clause-beside : goal.returns-in-Ok-clause-beside
-returns-in-Ok-clause-beside c = unregisters_alone IsIpc (refuses_unregister c.args.self.now c.args.fac c.args.node c.args.app.now) (seen_of c.args.self.now) c.args.fac c.args.node c.args.app.now c.unregister.result (seen_of c.unregister.new.self) c.unregister.ensures.does
+returns-in-Ok-clause-beside c = unregisters_alone IsIpc (refuses_unregister c.args.self.now c.args.fac c.args.node c.args.app.now) (seen_of c.args.self.now) c.args.fac c.args.node c.args.app.now c.unregister_here.result (seen_of c.unregister_here.new.self) c.unregister_here.ensures.does
 
 pub returns-in-Err-clause-beside : goal.returns-in-Err-clause-beside
-returns-in-Err-clause-beside c = unregisters_alone IsIpc (refuses_unregister c.args.self.now c.args.fac c.args.node c.args.app.now) (seen_of c.args.self.now) c.args.fac c.args.node c.args.app.now c.unregister.result (seen_of c.unregister.new.self) c.unregister.ensures.does
+returns-in-Err-clause-beside c = unregisters_alone IsIpc (refuses_unregister c.args.self.now c.args.fac c.args.node c.args.app.now) (seen_of c.args.self.now) c.args.fac c.args.node c.args.app.now c.unregister_here.result (seen_of c.unregister_here.new.self) c.unregister_here.ensures.does

@@ -1,0 +1,30 @@
+use Rattle.rina_tower.proofs.Timing.{clocks_before, rank_ticked, ticked_alone}
+use Rattle.rina_tower.proofs.Wiring.{ticks_alone}
+use Rattle.rina_tower.proofs.tower.Tower.+tick_on.Goals as goal
+
+pub returns-in-Wires-clause-quiet : goal.returns-in-Wires-clause-quiet
+returns-in-Wires-clause-quiet t c = rw c.in-Wires.is (ticks_alone c.in-Wires.wires c.tick.result c.tick.new.self c.tick.ensures.exact)
+
+pub clock_to-requires : goal.clock_to-requires
+clock_to-requires t c = λ n d at.
+    let v = rw c.in-Rank.is at c.requires in
+    let old = c.in-Rank.rank.value in
+    let quiet = rw c.deref_mut-rank.ensures.value at c.tick_on-result.ensures.quiet in
+    rw c.clock-now.ensures (clocks_before old.difs old.below c.tick_on-result.new.self v.0 quiet n d (rw c.deref_mut-rank.ensures.value at at))
+
+pub returns-in-Rank-clause-valid : goal.returns-in-Rank-clause-valid
+returns-in-Rank-clause-valid t c =
+    let v = rw c.in-Rank.is at c.requires in
+    let old = c.in-Rank.rank.value in
+    let k = c.tick_on-result.ensures in
+    let height = rw c.deref_mut-rank.ensures.value at k.height in
+    let quiet = rw c.deref_mut-rank.ensures.value at k.quiet in
+    let clocked = rw (c.deref_mut-rank.ensures.value, c.clock-now.ensures) at c.clock_to.ensures in
+    (rank_ticked old.difs c.clock_to.new.self old.below c.tick_on-result.new.self v.0 v.1 k.valid height quiet clocked, k.valid)
+
+pub returns-in-Rank-clause-quiet : goal.returns-in-Rank-clause-quiet
+returns-in-Rank-clause-quiet t c =
+    let old = c.in-Rank.rank.value in
+    let quiet = rw c.deref_mut-rank.ensures.value at c.tick_on-result.ensures.quiet in
+    let clocked = rw (c.deref_mut-rank.ensures.value, c.clock-now.ensures) at c.clock_to.ensures in
+    rw c.in-Rank.is (ticked_alone old.difs c.clock_to.new.self old.below c.tick_on-result.new.self quiet clocked)

@@ -1,0 +1,6 @@
+use Rattle.rina_tower.specs.Beside.{IsIpc}
+use Rattle.rina_tower.proofs.Alone.{all_alone}
+use Rattle.rina_tower.proofs.tower.Tower.app_allocate.Goals as goal
+
+pub returns-then-has_failed-clause-beside : goal.returns-then-has_failed-clause-beside
+returns-then-has_failed-clause-beside c = all_alone IsIpc _

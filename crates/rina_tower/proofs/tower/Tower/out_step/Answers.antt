@@ -1,0 +1,6 @@
+use Rattle.rina_tower.specs.Beside.{Anyone}
+use Rattle.rina_tower.proofs.Alone.{all_alone}
+use Rattle.rina_tower.proofs.tower.Tower.out_step.Goals as goal
+
+pub returns-then-has_failed-clause-quiet : goal.returns-then-has_failed-clause-quiet
+returns-then-has_failed-clause-quiet g c = all_alone Anyone _
