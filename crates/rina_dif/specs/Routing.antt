@@ -102,3 +102,7 @@ pub record KnowsLive (members : List Member) (plans : List LinkPlan) (member : M
   pub rows : List (ℕ × ℕ)
   pub hops : AreHops member.addr (live_links members plans member links) (claims_with member.addr (live_links members plans member links) (edges_of members plans)) rows
   pub are : routes ≡ routes_to member.addr rows members
+
+-- each IPC process knows its live links, and those that the others had from the start
+abbrev pub HaveRoutes : List Member → List LinkPlan → List IpcProcess → Type 0
+HaveRoutes members plans processes = (k : ℕ) (m : Member) (p : IpcProcess) → slice_get members k ≡ Some m → slice_get processes k ≡ Some p → KnowsLive members plans m p.links p.routes
