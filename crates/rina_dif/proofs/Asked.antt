@@ -2,12 +2,14 @@
 use Rattle.std.proofs.Common.{◌≡◌, ◌≤◌, ◌∙◌, ℕ, Bool, List, Result, Ok, Err, refl, sym, ap, subst}
 use Rattle.rina_iface.specs.Seen.{Seen}
 use Rattle.rina_law.specs.Direction.{Direction}
+use Rattle.rina_plan.specs.declared.dif.LinkPlan.{LinkPlan}
 use Rattle.rina_dif.specs.declared.cdap.CdapCallError.{CdapCallError}
 use Rattle.rina_dif.specs.declared.cdap.CdapCallError.TheVariants.{Memory, NoIpc, Cdap}
 use Rattle.rina_dif.specs.declared.dif.Dif.{Dif}
 use Rattle.rina_dif.specs.Asking.{Asks, KeepsAll}
 use Rattle.rina_dif.specs.Facade.{GoesOn, StaysStanding}
 use Rattle.rina_dif.specs.Holding.{Holds}
+use Rattle.rina_dif.specs.Routing.{HaveRoutes}
 use Rattle.rina_dif.specs.Shown.{seen_of}
 use Rattle.rina_dif.specs.Whole.{IsDif}
 use Rattle.rina_dif.proofs.Facing.{same_goes_on}
@@ -17,7 +19,7 @@ pub kept_seen : (d d' : Dif) → KeepsAll d d' → seen_of d' ≡ seen_of d
 kept_seen d d' k = ap seen_of k.is
 
 pub kept_holds : (d d' : Dif) (lines : List Direction) (below : Seen) → KeepsAll d d' → Holds d lines below → Holds d' lines below
-kept_holds d d' lines below k h = subst (λ (x : Dif). Holds x lines below) (sym k.is) (record { tied = h.tied; standing = h.standing; carrying = h.carrying; numbered = h.numbered; accounted = h.accounted; caused = h.caused; housed = h.housed })
+kept_holds d d' lines below k h = subst (λ (x : Dif). Holds x lines below) (sym k.is) (record { tied = h.tied; standing = h.standing; carrying = h.carrying; numbered = h.numbered; accounted = h.accounted; caused = h.caused; housed = h.housed; routed = subst (λ (ls : List LinkPlan). HaveRoutes d.settings.members ls d.processes) (sym k.links) h.routed })
 
 pub kept_stands : (d d' : Dif) → KeepsAll d d' → StaysStanding d d'
 kept_stands d d' k = λ below s. (s.0, kept_holds d d' s.0 below k s.1)

@@ -146,6 +146,7 @@ holds_aside d lines below below' a h = record {
   accounted = a.accounts (seen_of d) lines refl h.accounted;
   caused = caused_on (seen_of d) (seen_of d) below below' (none_is (seen_of d) (seen_of d) refl) a.lower h.caused;
   housed = h.housed;
+  routed = h.routed;
 }
 
 -- What a step is to the rank

@@ -208,6 +208,7 @@ module _ (d : Dif) (fixed : Fixed) (may : MayBind d fixed) (near other : NextEnd
           accounted = bound_accounted seen lines below fixed (seen_of d') lines' h.standing h.numbered h.accounted bound;
           caused = bound_caused seen lines below fixed (seen_of d') lines' h.standing bound h.caused;
           housed = h.housed;
+          routed = h.routed;
         };
       }
 
@@ -321,6 +322,6 @@ pub binds_noted : (d : Dif) (lines : List Direction) (below : Seen) (fixed : Fix
 binds_noted d lines below fixed (Ok ports) d' failed x = record { lines' = x.lines'; bound = x.bound; a_port = x.a_port; b_port = x.b_port; holds = still x.lines' x.holds }
   where
     still : (ls : List Direction) → Holds d' ls below → Holds (record d' { failed = failed }) ls below
-    still ls h = record { tied = h.tied; standing = h.standing; carrying = h.carrying; numbered = h.numbered; accounted = h.accounted; caused = h.caused; housed = h.housed }
-binds_noted d lines below fixed (Err Memory) d' failed x = (x.0, record { tied = x.1.tied; standing = x.1.standing; carrying = x.1.carrying; numbered = x.1.numbered; accounted = x.1.accounted; caused = x.1.caused; housed = x.1.housed })
+    still ls h = record { tied = h.tied; standing = h.standing; carrying = h.carrying; numbered = h.numbered; accounted = h.accounted; caused = h.caused; housed = h.housed; routed = h.routed }
+binds_noted d lines below fixed (Err Memory) d' failed x = (x.0, record { tied = x.1.tied; standing = x.1.standing; carrying = x.1.carrying; numbered = x.1.numbered; accounted = x.1.accounted; caused = x.1.caused; housed = x.1.housed; routed = x.1.routed })
 binds_noted d lines below fixed (Err e) d' failed x = absurd x

@@ -89,6 +89,7 @@ holds_claimed d waiting lines below h = (let st = h.standing in record {
   accounted = accounted_on (seen_of d) (seen_of (with_waiting d waiting)) lines lines below below h.accounted h.accounted.passed h.accounted.apart (λ i m p k is. still_before d waiting lines below i m p k is);
   caused = h.caused;
   housed = h.housed;
+  routed = h.routed;
 })
 
 pub claimed_stays : (d : Dif) (waiting : Vec ℕ) → StaysStanding d (with_waiting d waiting)

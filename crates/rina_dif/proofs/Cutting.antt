@@ -30,11 +30,11 @@ use Rattle.rina_flows.specs.Delivering.{HasStopped}
 use Rattle.rina_flows.specs.Stopping.{MayStop, StopFirst}
 use Rattle.rina_flows.proofs.Gone.{is_ended}
 use Rattle.rina_dif.specs.declared.dif.Dif.{Dif}
-use Rattle.rina_dif.specs.Holding.{AreHoused, Holds}
+use Rattle.rina_dif.specs.Holding.{Holds}
 use Rattle.rina_dif.specs.Shown.{seen_of}
 use Rattle.rina_dif.specs.Unlinking.{FindsLostAt, FindsNoneLeft, KnowsWithout, LosesAs, LosesLast, LosesLastIn, LosesThenStops, LosesWith}
 use Rattle.rina_dif.proofs.Causing.{failed_below, failed_caused}
-use Rattle.rina_dif.proofs.Keeping.{housed_set}
+use Rattle.rina_dif.proofs.Keeping.{home_set}
 use Rattle.rina_dif.proofs.Leaves.{has_process, shown_at}
 use Rattle.rina_dif.proofs.Owning.{arrived_seen}
 use Rattle.rina_dif.proofs.Unlinked.{has_member, keeps_links, link_lost, lost_with}
@@ -96,7 +96,8 @@ last_fails d at node lost port routes flows p p' lt here is knows s cap lines be
     let fails = stages_fail d at (length d.flows.journal.ends) node p' p (Below port) lines d.flows flows s.ledger p'.ledger is here all.0 in
     let by : FailFirst lines node (Below l.link.port) (length d.flows.journal.ends) (seen_of mid) (seen_of d') = subst (λ (z : Port). FailFirst lines node (Below z) (length d.flows.journal.ends) (seen_of mid) (seen_of d')) told.0 fails in
     let there : slice_get mid.processes at ≡ Some p1 = slice_get-set_same d.processes at p p1 is in
-    let twice : slice_set mid.processes at p' ≡ slice_set d.processes at p' = set-set d.processes at p1 p' in (
+    let twice : slice_set mid.processes at p' ≡ slice_set d.processes at p' = set-set d.processes at p1 p' in
+    let house = home_set mid lines below at p1 p' (slice_set d.processes at p') l.holds there refl (record { links = refl; routes = refl; places = λ qos link. refl }) (sym twice) in (
       lost_with d lines below at node lost.place lost.number mid (seen_of d') l (inl (told.1, by)),
       record {
         tied = all.1;
@@ -105,7 +106,8 @@ last_fails d at node lost port routes flows p p' lt here is knows s cap lines be
         numbered = failed_numbered (seen_of mid) lines below node l.link.port (seen_of d') l.holds.numbered by;
         accounted = failed_accounted (seen_of mid) lines below node l.link.port (seen_of d') l.holds.standing l.holds.numbered l.holds.accounted by;
         caused = failed_caused (seen_of mid) lines below node l.link.port (seen_of d') (failed_below (seen_of d) lines below at node lost.place (process_of l.process) l.link h.standing here (shown_at d at l.process l.is_process) l.stands told.1.failed) l.holds.caused by;
-        housed = subst (λ (ps : List IpcProcess). AreHoused g ps) twice (housed_set g mid.processes at p1 p' l.holds.housed there refl (record { links = refl; routes = refl; places = λ qos link. refl }));
+        housed = house.housed;
+        routed = house.routed;
       },
     )
 

@@ -49,13 +49,13 @@ use Rattle.rina_flows.proofs.Gone.{is_ended}
 use Rattle.rina_dif.specs.declared.dif.Dif.{Dif}
 use Rattle.rina_dif.specs.Facade.{GoesOn, IsShownAs, StaysStanding, shown_as}
 use Rattle.rina_dif.specs.Freeing.{FreesAt, FreesEnd, FreesHere, IsFreed, IsKept}
-use Rattle.rina_dif.specs.Holding.{AreHoused, Holds, Stands}
+use Rattle.rina_dif.specs.Holding.{Holds, Stands}
 use Rattle.rina_dif.specs.Shown.{seen_of}
 use Rattle.rina_dif.specs.Timely.{WithLedger}
 use Rattle.rina_dif.specs.Whole.{IsDif}
 use Rattle.rina_dif.proofs.Causing.{closed_caused, freed_caused}
 use Rattle.rina_dif.proofs.Facing.{unchanged}
-use Rattle.rina_dif.proofs.Keeping.{housed_set}
+use Rattle.rina_dif.proofs.Keeping.{home_set}
 use Rattle.rina_dif.proofs.Leaves.{has_process, shown_at}
 use Rattle.rina_dif.proofs.Owning.{arrived_seen}
 
@@ -78,6 +78,7 @@ closes d i at end (Ok done) flows ps lt here is allocated stops lines below h =
     let same : end ≡ e.end = same_end (slice_get d.flows.journal.ends at) end e.end is e.is_conn.end in
     let there : home e.end.port.node g.members ≡ Some i = subst (λ (z : End). home z.port.node g.members ≡ Some i) same here in
     let ended : IsEnded (seen_of d) lines at Closed (seen_of d') = is_ended (seen_of d) lines at i Closed (process_of p.0) s.offs flows.journal.ends (seen_of d') e there (shown_at d i p.0 p.1) seen in
+    let house = home_set d lines below i p.0 (record p.0 { ledger = x.0 }) ps h p.1 refl (record { links = refl; routes = refl; places = λ qos link. refl }) x.2 in
     record {
       end = end;
       is_end = is;
@@ -89,7 +90,8 @@ closes d i at end (Ok done) flows ps lt here is allocated stops lines below h =
         numbered = ended_numbered (seen_of d) lines below at Closed (seen_of d') h.numbered ended;
         accounted = ended_accounted (seen_of d) lines below at Closed (seen_of d') h.standing h.numbered h.accounted ended;
         caused = closed_caused (seen_of d) lines below at (seen_of d') ended h.caused;
-        housed = subst (AreHoused g) (sym x.2) (housed_set g d.processes i p.0 (record p.0 { ledger = x.0 }) h.housed p.1 refl (record { links = refl; routes = refl; places = λ qos link. refl }));
+        housed = house.housed;
+        routed = house.routed;
       };
     }
 closes d i at end (Err e) flows ps lt here is allocated stops lines below h =
@@ -199,6 +201,7 @@ withdraws d at end flows is not conns ends lines below h =
         accounted = subst (λ (z : DifSeen). IsAccounted z lines below) (sym seen) (restated_accounted (seen_of d) lines below at end (freed_state end.state) h.accounted is not gone);
         caused = subst (λ (z : DifSeen). AreCaused z below) (sym seen) (freed_caused (seen_of d) below at end is h.caused);
         housed = h.housed;
+        routed = h.routed;
       };
     }
 
@@ -206,7 +209,7 @@ withdraws d at end flows is not conns ends lines below h =
 
 -- whether memory was wanted is noted
 holds_noted : (d : Dif) (failed : Bool) (lines : List Direction) (below : Seen) → Holds d lines below → Holds (record d { failed = failed }) lines below
-holds_noted d failed lines below h = record { tied = h.tied; standing = h.standing; carrying = h.carrying; numbered = h.numbered; accounted = h.accounted; caused = h.caused; housed = h.housed }
+holds_noted d failed lines below h = record { tied = h.tied; standing = h.standing; carrying = h.carrying; numbered = h.numbered; accounted = h.accounted; caused = h.caused; housed = h.housed; routed = h.routed }
 
 -- what `free` does, whatever it stands on
 abbrev pub FreesFor : Dif → Port → Result (Unit {0}) FreeError → Dif → Type 0

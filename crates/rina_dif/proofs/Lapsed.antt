@@ -25,11 +25,11 @@ use Rattle.rina_flows.specs.Delivering.{ForgetsIn}
 use Rattle.rina_flows.specs.Timely.{GivesUpIn}
 use Rattle.rina_flows.proofs.Gone.{is_ended, is_forgotten}
 use Rattle.rina_dif.specs.declared.dif.Dif.{Dif}
-use Rattle.rina_dif.specs.Holding.{AreHoused, Holds, Stands}
+use Rattle.rina_dif.specs.Holding.{Holds, Stands}
 use Rattle.rina_dif.specs.Shown.{seen_of}
 use Rattle.rina_dif.specs.Timely.{ForgetsAs, GivesUpAs, IsHomeEnd, WithLedger}
 use Rattle.rina_dif.proofs.Causing.{given_up_caused, process_caused}
-use Rattle.rina_dif.proofs.Keeping.{housed_set}
+use Rattle.rina_dif.proofs.Keeping.{AreHome, home_set}
 use Rattle.rina_dif.proofs.Leaves.{has_process, shown_at}
 use Rattle.rina_dif.proofs.Owning.{arrived_seen}
 
@@ -58,8 +58,8 @@ unchanged d i p flows ps ledger is same lines new =
     let all : ps ≡ d.processes = new ∙ ap (λ (z : List Off). slice_set d.processes i (record p { ledger = z })) lines ∙ slice_set-same d.processes i p is in
     ap (λ (z : Flows). record d { flows = z; processes = ps }) same ∙ ap (λ (z : List IpcProcess). record d { processes = z }) all
 
-housed_on : (d : Dif) (i : ℕ) (p : IpcProcess) (ps : List IpcProcess) (ledger : List Off) (lines : List Direction) (below : Seen) → Holds d lines below → slice_get d.processes i ≡ Some p → ps ≡ slice_set d.processes i (record p { ledger = ledger }) → AreHoused (config_of d.settings) ps
-housed_on d i p ps ledger lines below h is new = subst (AreHoused (config_of d.settings)) (sym new) (housed_set (config_of d.settings) d.processes i p (record p { ledger = ledger }) h.housed is refl (record { links = refl; routes = refl; places = λ qos link. refl }))
+home_on : (d : Dif) (i : ℕ) (p : IpcProcess) (ps : List IpcProcess) (ledger : List Off) (lines : List Direction) (below : Seen) → Holds d lines below → slice_get d.processes i ≡ Some p → ps ≡ slice_set d.processes i (record p { ledger = ledger }) → AreHome d ps
+home_on d i p ps ledger lines below h is new = home_set d lines below i p (record p { ledger = ledger }) ps h is refl (record { links = refl; routes = refl; places = λ qos link. refl }) new
 
 -- the same end is at home
 at_home : (d : Dif) (i at : ℕ) (end : End) → (here : IsHomeEnd d i at) → slice_get d.flows.journal.ends at ≡ Some end → home end.port.node (config_of d.settings).members ≡ Some i
@@ -72,6 +72,7 @@ forgets d i at (Ok true) flows ps lt here does lines below h =
     let x = does p.0 p.1 in
     let f = x.1.1 (config_of d.settings) lines here.end h.standing.journal h.tied here.is_end here.allocated in
     let seen = arrived_seen d i p.0 f.offs x.0 flows ps refl f.ids f.ledger_is x.2 ∙ ap (λ (j : Journal). record (seen_of d) { ends = j.ends; processes = slice_set (seen_of d).processes i (with_offs (process_of p.0) f.offs) }) f.same in
+    let house = home_on d i p.0 ps x.0 lines below h p.1 x.2 in
     let forgotten = is_forgotten (seen_of d) lines at i (process_of p.0) f.offs f.lines' (seen_of d') f.forgets (at_home d i at f.forgets.end here f.forgets.place.is_conn.end) (shown_at d i p.0 p.1) seen in (
       record {
         lines' = f.lines';
@@ -83,7 +84,8 @@ forgets d i at (Ok true) flows ps lt here does lines below h =
           numbered = forgotten_numbered (seen_of d) lines below at (seen_of d') f.lines' h.numbered forgotten;
           accounted = forgotten_accounted (seen_of d) lines below at (seen_of d') f.lines' h.standing h.numbered h.accounted forgotten;
           caused = process_caused (seen_of d) (seen_of d') below forgotten.i _ forgotten.new_is h.caused;
-          housed = housed_on d i p.0 ps x.0 lines below h p.1 x.2;
+          housed = house.housed;
+          routed = house.routed;
         };
       },
       x.1.0,
@@ -106,6 +108,7 @@ gives_up d i at (Ok (Some num)) flows ps lt here does lines below h =
     let g = f.gives_up in
     let seen = arrived_seen d i p.0 f.offs x.0 flows ps refl f.ids f.ledger_is x.2 in
     let ended = is_ended (seen_of d) lines at i _ (process_of p.0) f.offs flows.journal.ends (seen_of d') g.ended (at_home d i at g.ended.end here g.ended.is_conn.end) (shown_at d i p.0 p.1) seen in
+    let house = home_on d i p.0 ps x.0 lines below h p.1 x.2 in
     let given : IsGivenUp (seen_of d) lines at num.seq (seen_of d') = record { line = g.line; is_line = g.is_line; ids = g.its_ids; ids_are = g.ids_are; cube = g.cube; is_cube = g.is_cube; late = g.late; ended = ended } in
     record {
       given_up = given;
@@ -117,7 +120,8 @@ gives_up d i at (Ok (Some num)) flows ps lt here does lines below h =
         numbered = ended_numbered (seen_of d) lines below at _ (seen_of d') h.numbered ended;
         accounted = ended_accounted (seen_of d) lines below at _ (seen_of d') h.standing h.numbered h.accounted ended;
         caused = given_up_caused (seen_of d) lines below at num.seq (seen_of d') h.standing given h.caused;
-        housed = housed_on d i p.0 ps x.0 lines below h p.1 x.2;
+        housed = house.housed;
+        routed = house.routed;
       };
     }
 gives_up d i at (Ok None) flows ps lt here does lines below h =

@@ -33,11 +33,11 @@ use Rattle.rina_data.proofs.Going.{no_step, outs_stand}
 use Rattle.rina_data.proofs.Relaying.{outs_accounted}
 use Rattle.rina_data.proofs.Stepping.{can_go}
 use Rattle.rina_dif.specs.declared.dif.Dif.{Dif}
-use Rattle.rina_dif.specs.Holding.{AreHoused, Holds, Stands}
+use Rattle.rina_dif.specs.Holding.{Holds, Stands}
 use Rattle.rina_dif.specs.Shown.{seen_of}
 use Rattle.rina_dif.specs.Steps.{AsksAt, AsksHome, AtHome, Leaves, OutsAt, WillGo}
 use Rattle.rina_dif.proofs.Causing.{outs_caused}
-use Rattle.rina_dif.proofs.Keeping.{IsSameHouse, house_is, housed_set, same_house, same_places}
+use Rattle.rina_dif.proofs.Keeping.{IsSameHouse, home_set, house_is, same_house, same_places}
 
 same_some : {X : Type 0} (o : Option X) (a b : X) → o ≡ Some a → o ≡ Some b → a ≡ b
 same_some o a b h g = cc
@@ -122,6 +122,7 @@ leaves_hold refuses d below at n r ps below' kept kept' lt leaves lines h =
     let l = leaves p.0 p.1 in
     let outs = dif_outs refuses d below at n r ps below' st lt leaves in
     let d' : Dif = record d { processes = ps } in
+    let house = home_set d lines below at p.0 l.0 ps h p.1 l.2 (goes_same refuses (config_of d.settings) d.clock (process_of p.0) below n r (process_of l.0) below' l.1) l.3 in
     record {
       tied = h.tied;
       standing = outs_stand refuses (seen_of d) lines below at n r (seen_of d') below' kept kept' h.standing outs;
@@ -129,7 +130,8 @@ leaves_hold refuses d below at n r ps below' kept kept' lt leaves lines h =
       numbered = outs_numbered refuses (seen_of d) lines below at n r (seen_of d') below' kept kept' h.standing h.numbered outs;
       accounted = outs_accounted refuses (seen_of d) lines below at n r (seen_of d') below' kept kept' h.standing h.numbered h.accounted outs;
       caused = outs_caused refuses (seen_of d) below at n r (seen_of d') below' kept' h.caused outs;
-      housed = subst (AreHoused (config_of d.settings)) (sym l.3) (housed_set (config_of d.settings) d.processes at p.0 l.0 h.housed p.1 l.2 (goes_same refuses (config_of d.settings) d.clock (process_of p.0) below n r (process_of l.0) below' l.1));
+      housed = house.housed;
+      routed = house.routed;
     }
 
 -- By node

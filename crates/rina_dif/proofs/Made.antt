@@ -35,10 +35,10 @@ use Rattle.rina_dif.specs.Building.{IsFree, queue_ids}
 use Rattle.rina_dif.specs.Holding.{Stands}
 use Rattle.rina_dif.specs.Laying.{AreLaid, AreLinkedUp, AreSettings, BindsAll, CanLay, IsLaidIn, IsLinkedUp, IsNew, IsNewProcess, Takes, ends_of, links_from, ports_at}
 use Rattle.rina_dif.specs.Planned.{ipc_name, link_fixed, links_in, links_of, members_from, processes_before, settings_by, settings_in, settings_of}
-use Rattle.rina_dif.specs.Routing.{AreRouted, KnowsLinks, Weigh}
+use Rattle.rina_dif.specs.Routing.{AreRouted, HaveRoutes, Weigh}
 use Rattle.rina_dif.proofs.Bare.{IsUntouched, map_at, none_in, start_holds, starts}
 use Rattle.rina_dif.proofs.Laid.{same_end, stood_there}
-use Rattle.rina_dif.proofs.Routed.{knows_link, laid_still}
+use Rattle.rina_dif.proofs.Routed.{all_know, laid_still, live_hop}
 use Rattle.rina_dif.proofs.Sound.{are_members, is_config}
 
 -- The links
@@ -111,8 +111,8 @@ has_place s node ports p place qos link up is known = subst (λ (o : Option ℕ)
 
 -- It stands
 
-pub made_stands : (plan : Plan) (i : ℕ) (dif : DifPlan) (d : Dif) (old new : Seen) → AreKept new → IsPlan plan → slice_get plan.difs i ≡ Some dif → d.settings ≡ settings_by plan i dif → d.clock ≡ old.now → d.flows.journal.ends ≡ [] → d.flows.conns ≡ [] → IsFree (config_of d.settings) old → IsLaidIn (config_of d.settings) old new → (bare : List IpcProcess) → AreLaid plan dif d.settings dif.links old new bare → AreRouted d.settings.members dif.links (length d.settings.members) bare d.processes → Stands d new
-made_stands plan i dif d old new kept sound at are clock ends conns free inside bare was routed =
+pub made_stands : (plan : Plan) (i : ℕ) (dif : DifPlan) (d : Dif) (old new : Seen) → AreKept new → IsPlan plan → slice_get plan.difs i ≡ Some dif → d.settings ≡ settings_by plan i dif → d.clock ≡ old.now → d.flows.journal.ends ≡ [] → d.flows.conns ≡ [] → IsFree (config_of d.settings) old → IsLaidIn (config_of d.settings) old new → (bare : List IpcProcess) → AreLaid plan dif d.settings dif.links old new bare → AreRouted d.settings.members dif.links (length d.settings.members) bare d.processes → d.laid.links ≡ dif.links → Stands d new
+made_stands plan i dif d old new kept sound at are clock ends conns free inside bare was routed same =
     let laid = laid_still plan dif d.settings dif.links old new (length d.settings.members) bare d.processes was routed in
     let g = config_of d.settings in
     let config : IsConfig g = subst (λ (s : Settings). IsConfig (config_of s)) (sym are) (is_config plan i dif sound at) in
@@ -130,7 +130,8 @@ made_stands plan i dif d old new kept sound at are clock ends conns free inside 
           let m = there d.settings.members k (let e = laid.up.aligned in omega (arith, within, e)) in
           (laid.up.each k m.0 p m.1 is).ledger;
     } in
-    let members = subst (λ (s : Settings). AreMembers (config_of s)) (sym are) (are_members plan i dif sound at) in (
+    let members = subst (λ (s : Settings). AreMembers (config_of s)) (sym are) (are_members plan i dif sound at) in
+    let routes = all_know d.settings.members dif.links bare d.processes routed in (
       [],
       start_holds d new kept ends conns start untouched members (λ k p is.
           let within = slice_get_within d.processes k p is in
@@ -140,9 +141,9 @@ made_stands plan i dif d old new kept sound at are clock ends conns free inside 
             cap = up.room;
             links = λ place qos link stands live known. has_place d.settings m.0.node (ends_of laid.ports) p place qos link up stands known;
             queues = λ dst link qos hop known.
-                let own = knows_link d.settings.members dif.links m.0 p dst link (routed.knows k m.0 p (slice_get_within d.settings.members k m.0 m.1) m.1 is) hop in
-                subst (λ (n : ℕ). IsSome (queue_place qos n (process_of p).queues)) own.3 (has_place d.settings m.0.node (ends_of laid.ports) p own.0 qos own.1 up own.2 known);
-          }),
+                let own = live_hop d.settings.members dif.links m.0 p.links p.routes dst link (routes k m.0 p m.1 is) hop in
+                subst (λ (n : ℕ). IsSome (queue_place qos n (process_of p).queues)) own.4 (has_place d.settings m.0.node (ends_of laid.ports) p own.0 qos own.1 up own.2 known);
+          }) (subst (λ (ls : List LinkPlan). HaveRoutes d.settings.members ls d.processes) (sym same) routes),
     )
 
 -- What it is
@@ -172,7 +173,7 @@ made_new plan i dif d old new at are clock alive ends conns waiting names bare w
       ports = laid.ports;
       bound = subst (λ (fs : List Fixed). BindsAll old fs laid.ports new) (sym (its_links plan i dif at)) laid.bound;
       processes = λ k member p is here. new_process d.settings member.node (ends_of laid.ports) p (laid.up.each k member p is here);
-      routed = λ dif' k member p at' is here. (let same : dif ≡ dif' = (let both : Some dif ≡ Some dif' = sym at ∙ at' in cc) in subst (λ (x : DifPlan). KnowsLinks d.settings.members x.links member p) same (routed.knows k member p (slice_get_within d.settings.members k member is) is here));
+      routed = λ dif' at'. (let same : dif ≡ dif' = (let both : Some dif ≡ Some dif' = sym at ∙ at' in cc) in subst (λ (x : DifPlan). HaveRoutes d.settings.members x.links d.processes) same (all_know d.settings.members dif.links bare d.processes routed));
       ends = ends;
       conns = conns;
       waiting = waiting;

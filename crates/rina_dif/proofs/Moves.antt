@@ -32,6 +32,7 @@ holds_later d now lines below below' le kept' lifted clock h =
       accounted = time_accounted (seen_of d) lines below below' (seen_of d') lines' kept' h.accounted lifted there;
       caused = caused_on (seen_of d) (seen_of d') below below' (none_same (seen_of d) (seen_of d') refl refl refl le) (lower_later (config_of d.settings) below below' kept' lifted.later) h.caused;
       housed = h.housed;
+      routed = h.routed;
     }
 
 -- the rank above sees nothing of it

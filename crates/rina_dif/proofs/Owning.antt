@@ -38,10 +38,10 @@ use Rattle.rina_flows.specs.Calls.{TakenBy, TellsOne}
 use Rattle.rina_flows.specs.Tied.{conns_of, ids_of}
 use Rattle.rina_flows.proofs.ArrivesAt.{is_arrived}
 use Rattle.rina_dif.specs.declared.dif.Dif.{Dif}
-use Rattle.rina_dif.specs.Holding.{AreHoused, Holds, Stands}
+use Rattle.rina_dif.specs.Holding.{Holds, Stands}
 use Rattle.rina_dif.specs.Shown.{seen_of}
 use Rattle.rina_dif.specs.Taking.{ArrivesTo, Comes, DecidesAt, IsOwn, IsThere, NotesAt, SettlesFor, took_of}
-use Rattle.rina_dif.proofs.Keeping.{house_is, housed_set, same_house}
+use Rattle.rina_dif.proofs.Keeping.{AreHome, home_set, house_is, same_house}
 use Rattle.rina_dif.proofs.Leaves.{has_process, shown_at, stepped}
 use Rattle.rina_dif.proofs.Passed.{seen_flows}
 use Rattle.rina_dif.proofs.Settling.{decides_same, holds_unseen, off_house, unseen}
@@ -67,6 +67,7 @@ own_none d at since hop ps lt own none notes lines below h there =
     let st : Stands d below = (lines, h) in
     let p = has_process d below at st lt in
     let x = notes p.0 p.1 in
+    let house = home_set d lines below at p.0 x.0 ps h p.1 x.2 (house_is (process_of p.0) _ (process_of x.0) x.1 (off_house (process_of p.0) _)) x.3 in
     record {
       lines' = lines;
       settled = λ member process q.
@@ -74,7 +75,8 @@ own_none d at since hop ps lt own none notes lines below h there =
           let new : seen_of (record d { processes = ps }) ≡ with_process (seen_of d) at (with_offs (process_of p.0) (line_for hop.pdu (causes.NoConnection hop.pdu.dcep) ∷ [])) = stepped d at x.0 ps x.3 ∙ ap (with_process (seen_of d) at) x.1 in
           (own.0, own.1 member q.is_member, refl, (λ k end ids t. none k end ids (record { is_conn = t.is_conn; allocated = t.allocated; names = t.names })), new ∙ ap (λ (z : Process). with_process (seen_of d) at (with_offs z (line_for hop.pdu (causes.NoConnection hop.pdu.dcep) ∷ []))) same, refl);
       tied = h.tied;
-      housed = subst (AreHoused (config_of d.settings)) (sym x.3) (housed_set (config_of d.settings) d.processes at p.0 x.0 h.housed p.1 x.2 (house_is (process_of p.0) _ (process_of x.0) x.1 (off_house (process_of p.0) _)));
+      housed = house.housed;
+      routed = house.routed;
     }
 
 -- without memory for its line nothing changes
@@ -84,8 +86,8 @@ noted_err d at since hop cause e ps lt notes lines below h there =
     let p = has_process d below at st lt in
     let x = notes p.0 p.1 in
     let same = unseen d at p.0 x.0 ps p.1 x.1 x.3 in
-    let housed = subst (AreHoused (config_of d.settings)) (sym x.3) (housed_set (config_of d.settings) d.processes at p.0 x.0 h.housed p.1 x.2 (house_is (process_of p.0) (process_of p.0) (process_of x.0) x.1 (same_house (process_of p.0)))) in
-    (same, holds_unseen d ps lines below same housed h)
+    let house = home_set d lines below at p.0 x.0 ps h p.1 x.2 (house_is (process_of p.0) (process_of p.0) (process_of x.0) x.1 (same_house (process_of p.0))) x.3 in
+    (same, holds_unseen d ps lines below same house h)
 
 -- An acknowledgement
 
@@ -112,6 +114,7 @@ own_told d at since hop place flows own kind taken tells same lines below h ther
       );
       tied = t.tied;
       housed = h.housed;
+      routed = h.routed;
     }
 
 -- A piece
@@ -200,13 +203,15 @@ own_arrived d at since hop place cause flows ps lt own kind taken arrives lines 
     let d' : Dif = record d { flows = flows; processes = ps } in
     let seen = arrived_seen d at p.0 (in_.offs ++ lines_for hop.pdu cause) x.0 flows ps refl in_.ids ledger x.2 in
     let whole : IsArrived (seen_of d) lines at (process_of p.0) hop.pdu cause (seen_of d') in_.lines' = is_arrived (seen_of d) lines at (process_of p.0) hop.pdu place cause in_.offs flows.journal.ends in_.lines' (seen_of d') kind a allocated names seen in
+    let house = home_set d lines below at p.0 (record p.0 { ledger = x.0 }) ps h p.1 refl (record { links = refl; routes = refl; places = λ qos link. refl }) x.2 in
     record {
       lines' = in_.lines';
       settled = λ member process q.
           let same = same_some (slice_get (seen_of d).processes at) (process_of p.0) process (shown_at d at p.0 p.1) q.is_process in
           settles_arrived (seen_of d) lines at member process since hop cause (seen_of d') in_.lines' own.0 (own.1 member q.is_member) (subst (λ (z : Process). IsArrived (seen_of d) lines at z hop.pdu cause (seen_of d') in_.lines') same whole);
       tied = in_.tied;
-      housed = subst (AreHoused (config_of d.settings)) (sym x.2) (housed_set (config_of d.settings) d.processes at p.0 (record p.0 { ledger = x.0 }) h.housed p.1 refl (record { links = refl; routes = refl; places = λ qos link. refl }));
+      housed = house.housed;
+      routed = house.routed;
     }
 
 pub arrived_err : (d : Dif) (at since : ℕ) (hop : Hop) (place : ℕ) (e : NoMemory) (flows : Flows) (ps : List IpcProcess) → at < length d.settings.members → ArrivesTo d.clock place hop.pdu at d.flows d.processes (Err e) flows ps → SettlesFor d at since hop (Err e) (record d { flows = flows; processes = ps })
@@ -224,7 +229,7 @@ arrived_err d at since hop place e flows ps lt arrives lines below h there =
 pub record IsForMe (d : Dif) (at since : ℕ) (hop : Hop) (ps : List IpcProcess) : Type 0 where
   pub same : seen_of (record d { processes = ps }) ≡ seen_of d
   pub own : IsOwn (record d { processes = ps }) at since hop
-  pub housed : (lines : List Direction) (below : Seen) → Holds d lines below → AreHoused (config_of d.settings) ps
+  pub house : (lines : List Direction) (below : Seen) → Holds d lines below → AreHome d ps
 
 pub decided_own : (d : Dif) (addr at since : ℕ) (hop : Hop) (ps : List IpcProcess) → Comes d since hop → at < length d.settings.members → ((member : Member) → slice_get (seen_of d).config.members at ≡ Some member → addr ≡ member.addr) → DecidesAt d.clock addr since hop (Ok settled.Own) at d.processes ps → IsForMe d at since hop ps
 decided_own d addr at since hop ps comes lt is_addr decides =
@@ -234,24 +239,25 @@ decided_own d addr at since hop ps comes lt is_addr decides =
     record {
       same = unseen d at p.0 x.0 ps p.1 x.1.2 x.3;
       own = (x.1.0, λ member is. x.1.1 ∙ is_addr member is);
-      housed = λ lines below h. subst (AreHoused (config_of d.settings)) (sym x.3) (housed_set (config_of d.settings) d.processes at p.0 x.0 h.housed p.1 x.2 (decides_same p.0.queues.cap d.clock addr (process_of p.0) since hop (Ok settled.Own) (process_of x.0) x.1));
+      house = λ lines below h. home_set d lines below at p.0 x.0 ps h p.1 x.2 (decides_same p.0.queues.cap d.clock addr (process_of p.0) since hop (Ok settled.Own) (process_of x.0) x.1) x.3;
     }
 
 pub comes_on : (d : Dif) (at since : ℕ) (hop : Hop) (ps : List IpcProcess) → IsForMe d at since hop ps → Comes d since hop → Comes (record d { processes = ps }) since hop
 comes_on d at since hop ps me comes =
-    (comes.0, comes.1, holds_unseen d ps comes.0 comes.1 me.same (me.housed comes.0 comes.1 comes.2) comes.2, subst (λ (z : DifSeen). IsThere z comes.1 since hop) (sym me.same) comes.3)
+    (comes.0, comes.1, holds_unseen d ps comes.0 comes.1 me.same (me.house comes.0 comes.1 comes.2) comes.2, subst (λ (z : DifSeen). IsThere z comes.1 since hop) (sym me.same) comes.3)
 
 pub settles_on : (d : Dif) (at since : ℕ) (hop : Hop) (ps : List IpcProcess) (r : Result Took NoMemory) (d' : Dif) → IsForMe d at since hop ps → SettlesFor (record d { processes = ps }) at since hop r d' → SettlesFor d at since hop r d'
 settles_on d at since hop ps (Ok end) d' me settles lines below h there =
-    let s = settles lines below (holds_unseen d ps lines below me.same (me.housed lines below h) h) (subst (λ (z : DifSeen). IsThere z below since hop) (sym me.same) there) in
+    let s = settles lines below (holds_unseen d ps lines below me.same (me.house lines below h) h) (subst (λ (z : DifSeen). IsThere z below since hop) (sym me.same) there) in
     record {
       lines' = s.lines';
       settled = subst (λ (z : DifSeen). (member : Member) (process : Process) → IsProcess z at member process → Settles z lines at member process since hop end (seen_of d') s.lines') me.same s.settled;
       tied = s.tied;
       housed = s.housed;
+      routed = s.routed;
     }
 settles_on d at since hop ps (Err e) d' me settles lines below h there =
-    let s = settles lines below (holds_unseen d ps lines below me.same (me.housed lines below h) h) (subst (λ (z : DifSeen). IsThere z below since hop) (sym me.same) there) in
+    let s = settles lines below (holds_unseen d ps lines below me.same (me.house lines below h) h) (subst (λ (z : DifSeen). IsThere z below since hop) (sym me.same) there) in
     (s.0 ∙ me.same, s.1)
 
 -- the address of the IPC process at a place

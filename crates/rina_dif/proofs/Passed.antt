@@ -63,5 +63,6 @@ passes d at flows p lines below h =
         accounted = passed_accounted (seen_of d) lines below at (seen_of d') o.lines' h.accounted passed;
         caused = passed_caused (seen_of d) lines below at (seen_of d') o.lines' passed h.caused;
         housed = h.housed;
+        routed = h.routed;
       };
     }

@@ -43,12 +43,12 @@ use Rattle.rina_flows.proofs.Framed.{ids_at}
 use Rattle.rina_flows.proofs.Stopped.{clock_of}
 use Rattle.rina_flows.proofs.Timed.{ack_is_due, again_is_due, receiver_of}
 use Rattle.rina_dif.specs.declared.dif.Dif.{Dif}
-use Rattle.rina_dif.specs.Holding.{AreHoused, Holds}
+use Rattle.rina_dif.specs.Holding.{Holds}
 use Rattle.rina_dif.specs.Shown.{seen_of}
 use Rattle.rina_dif.specs.Taking.{RoutesAt}
 use Rattle.rina_dif.specs.Timely.{Acknowledges, AcknowledgesAs, ForwardsAt, IsHomeEnd, SendsAgain, SendsAgainAs}
 use Rattle.rina_dif.proofs.Causing.{process_caused}
-use Rattle.rina_dif.proofs.Keeping.{IsSameHouse, house_is, housed_set, same_house, same_places}
+use Rattle.rina_dif.proofs.Keeping.{AreHome, IsSameHouse, home_set, house_is, same_house, same_places}
 use Rattle.rina_dif.proofs.Leaves.{has_process, shown_at, stepped}
 use Rattle.rina_dif.proofs.Putting.{is_there}
 use Rattle.rina_dif.proofs.Settling.{holds_unseen, off_house, unseen}
@@ -106,7 +106,7 @@ record HasPosted (d : Dif) (i mpl : ℕ) (pdu : Pdu) (ps : List IpcProcess) : Ty
   process' : Process
   posted : Posts (config_of d.settings) d.clock mpl process pdu cause process'
   seen : seen_of (record d { processes = ps }) ≡ with_process (seen_of d) i process'
-  housed : AreHoused (config_of d.settings) ps
+  house : AreHome d ps
 
 posted_at : (d : Dif) (lines : List Direction) (below : Seen) (i mpl : ℕ) (pdu : Pdu) (s : Settled) (ps : List IpcProcess) → i < length d.settings.members → Holds d lines below → ForwardsAt d.clock (record { left = mpl; pdu = pdu }) (Ok s) i d.processes ps → HasPosted d i mpl pdu ps
 posted_at d lines below i mpl pdu s ps lt h forwards =
@@ -121,7 +121,7 @@ posted_at d lines below i mpl pdu s ps lt h forwards =
       process' = process_of x.0;
       posted = posts.1;
       seen = stepped d i x.0 ps x.3;
-      housed = subst (AreHoused (config_of d.settings)) (sym x.3) (housed_set (config_of d.settings) d.processes i p.0 x.0 h.housed p.1 x.2 (forwards_same p.0.queues.cap (process_of p.0) d.clock (record { left = mpl; pdu = pdu }) (Ok s) (process_of x.0) x.1));
+      house = home_set d lines below i p.0 x.0 ps h p.1 x.2 (forwards_same p.0.queues.cap (process_of p.0) d.clock (record { left = mpl; pdu = pdu }) (Ok s) (process_of x.0) x.1) x.3;
     }
 
 -- memory was wanted
@@ -130,8 +130,8 @@ forwarded_none d lines below i hop e ps lt h forwards =
     let p = has_process d below i (lines, h) lt in
     let x = forwards p.0 p.1 in
     let same = unseen d i p.0 x.0 ps p.1 x.1 x.3 in
-    let housed = subst (AreHoused (config_of d.settings)) (sym x.3) (housed_set (config_of d.settings) d.processes i p.0 x.0 h.housed p.1 x.2 (forwards_same p.0.queues.cap (process_of p.0) d.clock hop (Err e) (process_of x.0) x.1)) in
-    (same, holds_unseen d ps lines below same housed h)
+    let house = home_set d lines below i p.0 x.0 ps h p.1 x.2 (forwards_same p.0.queues.cap (process_of p.0) d.clock hop (Err e) (process_of x.0) x.1) x.3 in
+    (same, holds_unseen d ps lines below same house h)
 
 -- with flows whose ends and names are those that were there
 seen_with : (d : Dif) (flows : Flows) (ps : List IpcProcess) (z : DifSeen) → flows.journal ≡ d.flows.journal → conns_of flows.conns ≡ conns_of d.flows.conns → seen_of (record d { processes = ps }) ≡ z → seen_of (record d { flows = flows; processes = ps }) ≡ z
@@ -210,7 +210,8 @@ acknowledges d lines below i at conn due s flows ps lt here is tells forwards do
         numbered = acknowledged_numbered (seen_of d) lines below at p.cause (seen_of d') a.lines' h.numbered acknowledged;
         accounted = acknowledged_accounted (seen_of d) lines below at p.cause (seen_of d') a.lines' h.numbered h.accounted acknowledged;
         caused = process_caused (seen_of d) (seen_of d') below acknowledged.i acknowledged.process' acknowledged.new_is h.caused;
-        housed = p.housed;
+        housed = p.house.housed;
+        routed = p.house.routed;
       };
     }
 
@@ -281,7 +282,8 @@ sends_again d lines below i at conn pdu s flows ps lt here is tells forwards doe
         numbered = resent_numbered (seen_of d) lines below at p.cause (seen_of d') a.lines' h.numbered resent;
         accounted = resent_accounted (seen_of d) lines below at p.cause (seen_of d') a.lines' h.numbered h.accounted resent;
         caused = process_caused (seen_of d) (seen_of d') below resent.i resent.process' resent.new_is h.caused;
-        housed = p.housed;
+        housed = p.house.housed;
+        routed = p.house.routed;
       };
     }
 

@@ -1,5 +1,5 @@
 -- The IPC processes of a DIF get their next hops.
-use Rattle.std.proofs.Common.{◌≡◌, ◌∙◌, ◌⊎◌, ⊎_elim, ℕ, ◌+◌, ◌<◌, ◌≤◌, ◌==◌, Bool, true, false, cond, get_or, Contains, List, [], ◌∷◌, find, length, length-set, slice_get, Option, Some, None, option_and_then, option_map, refl, sym, ap, subst, arith, inl, inr, zero, suc, filter, map, not}
+use Rattle.std.proofs.Common.{◌≡◌, ◌≢◌, ◌∙◌, ◌⊎◌, ⊎_elim, ℕ, ◌+◌, ◌<◌, ◌≤◌, ◌==◌, Bool, true, false, cond, get_or, Contains, List, [], ◌∷◌, find, length, length-set, slice_get, Option, Some, None, option_and_then, option_map, refl, sym, ap, subst, arith, inl, inr, zero, suc, filter, map, not}
 use Rattle.std.specs.List.{cons_option, filter_map}
 use Rattle.std.proofs.lemmas.Option.{get_or_from_slice_get, slice_get-get_or, slice_get_within}
 use Rattle.std.proofs.lemmas.List.Elements.{Contains-append_cases, Contains-append_left, Contains-append_right, Contains-push, Contains-push_cases}
@@ -7,6 +7,7 @@ use Rattle.rina_base.specs.declared.number.Port.{Port}
 use Rattle.rina_iface.proofs.Changed.{set_at}
 use Rattle.rina_iface.specs.Seen.{Seen}
 use Rattle.rina_graph.specs.declared.graph.Edge.{Edge}
+use Rattle.rina_graph.specs.Walks.{IsWalk}
 use Rattle.rina_route.specs.declared.link.Link.{Link as Hop}
 use Rattle.rina_route.specs.Nodes.{HaveWeights}
 use Rattle.rina_route.specs.Routes.{AreHops, IsHop, counted, edge, hop_at}
@@ -21,7 +22,7 @@ use Rattle.rina_data.specs.declared.settings.Settings.{Settings}
 use Rattle.rina_data.specs.Dif.{next_hop}
 use Rattle.rina_data.proofs.Finding.{found_in}
 use Rattle.rina_dif.specs.Laying.{AreLaid, IsLinkedUp, ends_of}
-use Rattle.rina_dif.specs.Routing.{AreRouted, KnowsLinks, SetsRoutes, KnowsLive, Weigh, addr_at, claims_with, edge_back, edge_between, edge_from, edge_there, edge_to, edges_from, edges_of, live_links, live_of, own_link, own_links, route_to, routes_to, with_routes}
+use Rattle.rina_dif.specs.Routing.{AreRouted, HaveRoutes, KnowsLive, SetsRoutes, Weigh, addr_at, claims_with, edge_back, edge_between, edge_from, edge_there, edge_to, edges_from, edges_of, live_links, live_of, own_link, own_links, route_to, routes_to, with_routes}
 
 -- Lists
 
@@ -133,6 +134,39 @@ own_weighs members plans node own links all e among =
     omega (arith, least, same))
     (Contains-append_cases (filter (λ (z : Edge). not (z.from == own)) (edges_of members plans)) (map (edge_to own) hops) e among)
 
+-- What it knows
+
+pub claims_weigh : (members : List Member) (plans : List LinkPlan) (member : Member) (links : List Link) (claimed claims : List Edge) (own : List Hop) → Weigh plans → own ≡ live_links members plans member links → claimed ≡ edges_of members plans → claims ≡ claims_with member.addr own claimed → HaveWeights claims
+claims_weigh members plans member links claimed claims own all o c k =
+    let are : claims ≡ claims_with member.addr (live_links members plans member links) (edges_of members plans) = k ∙ ap (claims_with member.addr own) c ∙ ap (λ (hs : List Hop). claims_with member.addr hs (edges_of members plans)) o in
+    subst HaveWeights (sym are) (own_weighs members plans member.node member.addr (live_of links) all)
+
+pub knows_all : (members : List Member) (plans : List LinkPlan) (member : Member) (links : List Link) (claimed claims : List Edge) (own : List Hop) (rows : List (ℕ × ℕ)) (routes : List Route) → own ≡ live_links members plans member links → claimed ≡ edges_of members plans → claims ≡ claims_with member.addr own claimed → AreHops member.addr own claims rows → routes ≡ routes_to member.addr rows members → KnowsLive members plans member links routes
+knows_all members plans member links claimed claims own rows routes o c k hops are =
+    let live = live_links members plans member links in
+    let claims_are : claims ≡ claims_with member.addr live (edges_of members plans) = k ∙ ap (claims_with member.addr own) c ∙ ap (λ (hs : List Hop). claims_with member.addr hs (edges_of members plans)) o in
+    record {
+      rows = rows;
+      hops = subst (λ (hs : List Hop). AreHops member.addr hs (claims_with member.addr live (edges_of members plans)) rows) o (subst (λ (es : List Edge). AreHops member.addr own es rows) claims_are hops);
+      are = are;
+    }
+
+-- without any links
+no_walk : (own dst : ℕ) (walk : List Edge) → own ≢ dst → IsWalk [] own walk dst → ⊥
+no_walk own dst [] other is = other is
+no_walk own dst (e ∷ walk) other is = in_none e is.0
+
+no_route : (b : Bool) (f : ℕ → Route) (rest : List Route) → cons_option (cond b None (option_map f None)) rest ≡ rest
+no_route true f rest = refl
+no_route false f rest = refl
+
+no_routes : (own : ℕ) (members : List Member) → routes_to own [] members ≡ []
+no_routes own [] = refl
+no_routes own (m ∷ members) = no_route (m.addr == own) (λ n. record { dst = m.addr; link = n }) (routes_to own [] members) ∙ no_routes own members
+
+pub knows_none : (members : List Member) (m : Member) → KnowsLive members [] m [] []
+knows_none members m = record { rows = []; hops = λ dst other walk is. no_walk m.addr dst walk other is; are = sym (no_routes m.addr members) }
+
 -- Its own links
 
 number_by : (link : Link) (o : Option Edge) (h : Hop) → option_map (λ (e : Edge). record { number = link.number; peer = e.to; weight = e.weight }) o ≡ Some h → link.number ≡ h.number
@@ -187,10 +221,6 @@ knows_hop members edges links claimed rows routes own dst n hops are hop =
     let one = own_number edges links h.0 h.1 in
     (one.0, one.1, one.2, one.3 ∙ h.2)
 
--- one of its own
-pub knows_link : (members : List Member) (plans : List LinkPlan) (m : Member) (p : IpcProcess) (dst n : ℕ) → KnowsLinks members plans m p → next_hop dst p.routes ≡ Some n → (k : ℕ) × (link : Link) × (slice_get p.links k ≡ Some link) × (link.number ≡ n)
-knows_link members plans m p dst n knows hop = knows_hop members (edges_from members m.node plans) p.links (edges_of members plans) knows.rows p.routes m.addr dst n knows.hops knows.routes hop
-
 -- what was filtered stood there, and passes
 filtered_if : {X : Type 0} (f : X → Bool) (y : X) (ys : List X) (x : X) (k : ℕ) (b : Bool) → f y ≡ b → ((k : ℕ) → slice_get (filter f ys) k ≡ Some x → (j : ℕ) × (slice_get ys j ≡ Some x) × (f x ≡ true)) → slice_get (cond b (y ∷ filter f ys) (filter f ys)) k ≡ Some x → (j : ℕ) × (slice_get (y ∷ ys) j ≡ Some x) × (f x ≡ true)
 filtered_if f y ys x zero true is rest at = (let same : y ≡ x = cc in (0, at, ap f (sym same) ∙ is))
@@ -201,7 +231,7 @@ filtered : {X : Type 0} (f : X → Bool) (xs : List X) (x : X) (k : ℕ) → sli
 filtered f [] x k at = absurd cc
 filtered f (y ∷ ys) x k at = filtered_if f y ys x k (f y) refl (λ j h. filtered f ys x j h) at
 
--- where links were lost, a live one of its own
+-- a live one of its own
 pub live_hop : (members : List Member) (plans : List LinkPlan) (m : Member) (links : List Link) (routes : List Route) (dst n : ℕ) → KnowsLive members plans m links routes → next_hop dst routes ≡ Some n → (k : ℕ) × (link : Link) × (slice_get links k ≡ Some link) × (link.live ≡ true) × (link.number ≡ n)
 live_hop members plans m links routes dst n knows hop =
     let l = knows_hop members (edges_from members m.node plans) (live_of links) (claims_with m.addr (live_links members plans m links) (edges_of members plans)) knows.rows routes m.addr dst n knows.hops knows.are hop in
@@ -217,8 +247,8 @@ none_routed members plans ps = record {
   same = λ k p here. (p, p.routes, here, refl);
 }
 
-pub next_routed : (members : List Member) (plans : List LinkPlan) (at : ℕ) (old mid new : List IpcProcess) (m : Member) (p : IpcProcess) (rows : List (ℕ × ℕ)) (routes : List Route) → AreRouted members plans at old mid → slice_get members at ≡ Some m → slice_get mid at ≡ Some p → AreHops m.addr (own_links (edges_from members m.node plans) p.links) (edges_of members plans) rows → routes ≡ routes_to m.addr rows members → SetsRoutes at routes mid new → AreRouted members plans (at + 1) old new
-next_routed members plans at old mid new m p rows routes so is here hops are sets =
+pub next_routed : (members : List Member) (plans : List LinkPlan) (at : ℕ) (old mid new : List IpcProcess) (m : Member) (p : IpcProcess) (routes : List Route) → AreRouted members plans at old mid → slice_get members at ≡ Some m → slice_get mid at ≡ Some p → KnowsLive members plans m p.links routes → SetsRoutes at routes mid new → AreRouted members plans (at + 1) old new
+next_routed members plans at old mid new m p routes so is here knows sets =
     let set = sets p here in
     let split = λ (k : ℕ) (q : IpcProcess) (there : slice_get new k ≡ Some q). set_at mid at k p (with_routes p routes) q here (ap (λ (ps : List IpcProcess). slice_get ps k) (sym set) ∙ there) in
     record {
@@ -226,7 +256,7 @@ next_routed members plans at old mid new m p rows routes so is here hops are set
       knows = λ k x q lt at_k there. elim (split k q there) [
         | inl t ↦
             let member : x ≡ m = (let both : Some x ≡ Some m = sym at_k ∙ ap (slice_get members) t.0 ∙ is in cc) in
-            subst (λ (z : Member). KnowsLinks members plans z q) (sym member) (subst (KnowsLinks members plans m) (sym t.1) (record { rows = rows; hops = hops; routes = are }))
+            subst (λ (z : Member). KnowsLive members plans z q.links q.routes) (sym member) (subst (λ (z : IpcProcess). KnowsLive members plans m z.links z.routes) (sym t.1) knows)
         | inr u ↦ (let other = u.0 in so.knows k x q (below k at lt other) at_k u.1)
       ];
       same = λ k q there. elim (split k q there) [
@@ -240,10 +270,9 @@ next_routed members plans at old mid new m p rows routes so is here hops are set
     below : (k at : ℕ) → k < at + 1 → (k ≡ at → ⊥) → k < at
     below k at lt other = omega (arith, lt, other)
 
-pub turn_routed : (members : List Member) (plans : List LinkPlan) (at : ℕ) (old mid new : List IpcProcess) (m : Member) (p : IpcProcess) (links : List Link) (claimed : List Edge) (rows : List (ℕ × ℕ)) (routes : List Route) → AreRouted members plans at old mid → at < length members → m ≡ get_or members at m → slice_get mid at ≡ Some p → links ≡ p.links → claimed ≡ edges_of members plans → AreHops m.addr (own_links (edges_from members m.node plans) links) claimed rows → routes ≡ routes_to m.addr rows members → SetsRoutes at routes mid new → AreRouted members plans (at + 1) old new
-turn_routed members plans at old mid new m p links claimed rows routes so lt is here same all hops are sets =
-    let edges = edges_from members m.node plans in
-    next_routed members plans at old mid new m p rows routes so (slice_get-get_or members at m lt ∙ ap (λ (x : Member). Some x) (sym is)) here (subst (λ (ls : List Link). AreHops m.addr (own_links edges ls) (edges_of members plans) rows) same (subst (λ (es : List Edge). AreHops m.addr (own_links edges links) es rows) all hops)) are sets
+pub turn_routed : (members : List Member) (plans : List LinkPlan) (at : ℕ) (old mid new : List IpcProcess) (m : Member) (p : IpcProcess) (links : List Link) (routes routes' : List Route) → AreRouted members plans at old mid → at < length members → m ≡ get_or members at m → slice_get mid at ≡ Some p → links ≡ p.links → KnowsLive members plans m links routes → routes' ≡ routes → SetsRoutes at routes' mid new → AreRouted members plans (at + 1) old new
+turn_routed members plans at old mid new m p links routes routes' so lt is here same knows are sets =
+    next_routed members plans at old mid new m p routes' so (slice_get-get_or members at m lt ∙ ap (λ (x : Member). Some x) (sym is)) here (subst (KnowsLive members plans m p.links) (sym are) (subst (λ (ls : List Link). KnowsLive members plans m ls routes) same knows)) sets
 
 pub all_routed : (members : List Member) (plans : List LinkPlan) (at : ℕ) (old new : List IpcProcess) → length members ≤ at → AreRouted members plans at old new → AreRouted members plans (length members) old new
 all_routed members plans at old new le so = record { aligned = so.aligned; knows = λ k m p lt is here. so.knows k m p (omega (arith, lt, le)) is here; same = so.same }
@@ -251,6 +280,10 @@ all_routed members plans at old new le so = record { aligned = so.aligned; knows
 -- seen otherwise
 pub same_routed : (members members' : List Member) (plans plans' : List LinkPlan) (old new : List IpcProcess) → members ≡ members' → plans ≡ plans' → AreRouted members plans (length members) old new → AreRouted members' plans' (length members') old new
 same_routed members members' plans plans' old new same same' so = subst (λ (ms : List Member). AreRouted ms plans' (length ms) old new) same (subst (λ (ls : List LinkPlan). AreRouted members ls (length members) old new) same' so)
+
+-- each of them
+pub all_know : (members : List Member) (plans : List LinkPlan) (old new : List IpcProcess) → AreRouted members plans (length members) old new → HaveRoutes members plans new
+all_know members plans old new so k m p is here = so.knows k m p (slice_get_within members k m is) is here
 
 -- What was laid is laid still
 

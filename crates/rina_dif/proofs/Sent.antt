@@ -46,7 +46,7 @@ use Rattle.rina_dif.specs.Shown.{seen_of}
 use Rattle.rina_dif.specs.Whole.{IsDif}
 use Rattle.rina_dif.proofs.Causing.{offered_caused}
 use Rattle.rina_dif.proofs.Barred.{line_there, parts_of, past, sender_refusal}
-use Rattle.rina_dif.proofs.Keeping.{house_is, housed_set, same_places}
+use Rattle.rina_dif.proofs.Keeping.{home_set, house_is, same_places}
 use Rattle.rina_dif.proofs.Putting.{waiting_there}
 use Rattle.rina_dif.proofs.Ways.{by_queue}
 
@@ -270,6 +270,7 @@ sends_made d at sdu way made flows ps a offers puts lines below h =
     let offer : Offers (seen_of d) lines at o.parts (Ok made.num) (seen_of d') o.lines' = (refused, o.cut.0, accepted d lines below at sdu way made flows put.0 ps h a o put.1 put.2) in
     let i = is_put d q.its_ids way (queued way.left d.clock made.pdus) a.goes.process put.0 (a.qos ∙ ap (λ (x : Ids). x.qos) s.ids_are) put.1 in
     let house = house_is (process_of a.goes.process) _ (process_of put.0) i.new_is (record { links = refl; routes = refl; places = λ qos link. same_places qos link (process_of a.goes.process).queues i.place (plain i.queue) (i.queue.ring.items ++ queued way.left d.clock made.pdus) i.is_queue.is_queue }) in
+    let kept = home_set d lines below way.home a.goes.process put.0 ps h a.goes.is_process put.1.cap house put.2 in
     record {
       parts = o.parts;
       cut = o.cut;
@@ -282,7 +283,8 @@ sends_made d at sdu way made flows ps a offers puts lines below h =
         numbered = offers_numbered (seen_of d) lines below at o.parts (Ok made.num) (seen_of d') o.lines' h.standing h.numbered offer;
         accounted = offers_accounted (seen_of d) lines below at o.parts (Ok made.num) (seen_of d') o.lines' h.standing h.numbered h.accounted offer;
         caused = offered_caused (seen_of d) lines below at o.parts made.num (seen_of d') o.lines' offer.2 h.caused;
-        housed = subst (AreHoused g) (sym put.2) (housed_set g d.processes way.home a.goes.process put.0 h.housed a.goes.is_process put.1.cap house);
+        housed = kept.housed;
+        routed = kept.routed;
       };
     }
 
@@ -294,7 +296,7 @@ refailed d lines below at sdu r d' failed s = record {
   cut = s.cut;
   lines' = s.lines';
   offers = s.offers;
-  holds = record { tied = s.holds.tied; standing = s.holds.standing; carrying = s.holds.carrying; numbered = s.holds.numbered; accounted = s.holds.accounted; caused = s.holds.caused; housed = s.holds.housed };
+  holds = record { tied = s.holds.tied; standing = s.holds.standing; carrying = s.holds.carrying; numbered = s.holds.numbered; accounted = s.holds.accounted; caused = s.holds.caused; housed = s.holds.housed; routed = s.holds.routed };
 }
 
 pub sends_at : (o : Option ℕ) (d : Dif) (lines : List Direction) (below : Seen) (at : ℕ) (sdu : List ℕ) (r : Result Num SendError) (d' : Dif) → o ≡ Some at → Sends d lines below at sdu r d' → SendsAt o d lines below sdu r d'

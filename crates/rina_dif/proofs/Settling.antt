@@ -31,10 +31,10 @@ use Rattle.rina_data.proofs.Plain.{same_place}
 use Rattle.rina_flows.specs.declared.flows.Flows.{Flows}
 use Rattle.rina_flows.specs.Delivering.{ArrivesIn}
 use Rattle.rina_dif.specs.declared.dif.Dif.{Dif}
-use Rattle.rina_dif.specs.Holding.{AreHoused, Holds, Stands}
+use Rattle.rina_dif.specs.Holding.{Holds, Stands}
 use Rattle.rina_dif.specs.Shown.{seen_of}
 use Rattle.rina_dif.specs.Taking.{ArrivesTo, Comes, DecidesAt, IsNoted, NotesAt, RoutesAt, SettlesFor}
-use Rattle.rina_dif.proofs.Keeping.{IsSameHouse, house_is, housed_set, same_house, same_places}
+use Rattle.rina_dif.proofs.Keeping.{AreHome, IsSameHouse, home_set, house_is, same_house, same_places}
 use Rattle.rina_dif.proofs.Leaves.{has_process, shown_at, stepped}
 
 same_some : {X : Type 0} (o : Option X) (a b : X) → o ≡ Some a → o ≡ Some b → a ≡ b
@@ -101,15 +101,16 @@ will_route d since hop at comes p is link next =
 -- The DIF after one of its IPC processes changed
 
 -- in nothing that is seen
-pub holds_unseen : (d : Dif) (ps : List IpcProcess) (lines : List Direction) (below : Seen) → seen_of (record d { processes = ps }) ≡ seen_of d → AreHoused (config_of d.settings) ps → Holds d lines below → Holds (record d { processes = ps }) lines below
-holds_unseen d ps lines below same housed h = record {
+pub holds_unseen : (d : Dif) (ps : List IpcProcess) (lines : List Direction) (below : Seen) → seen_of (record d { processes = ps }) ≡ seen_of d → AreHome d ps → Holds d lines below → Holds (record d { processes = ps }) lines below
+holds_unseen d ps lines below same house h = record {
   tied = h.tied;
   standing = subst (λ (z : DifSeen). IsStanding z lines below) (sym same) h.standing;
   carrying = subst (λ (z : DifSeen). IsCarrying z lines below) (sym same) h.carrying;
   numbered = subst (λ (z : DifSeen). IsNumbered z below) (sym same) h.numbered;
   accounted = subst (λ (z : DifSeen). IsAccounted z lines below) (sym same) h.accounted;
   caused = subst (λ (z : DifSeen). AreCaused z below) (sym same) h.caused;
-  housed = housed;
+  housed = house.housed;
+  routed = house.routed;
 }
 
 pub unseen : (d : Dif) (at : ℕ) (p p' : IpcProcess) (ps : List IpcProcess) → slice_get d.processes at ≡ Some p → process_of p' ≡ process_of p → ps ≡ slice_set d.processes at p' → seen_of (record d { processes = ps }) ≡ seen_of d
@@ -126,8 +127,8 @@ decided_err d addr at since hop e ps lt decides lines below h there =
     let p = has_process d below at st lt in
     let x = decides p.0 p.1 in
     let same = unseen d at p.0 x.0 ps p.1 x.1 x.3 in
-    let housed = subst (AreHoused (config_of d.settings)) (sym x.3) (housed_set (config_of d.settings) d.processes at p.0 x.0 h.housed p.1 x.2 (decides_same p.0.queues.cap d.clock addr (process_of p.0) since hop (Err e) (process_of x.0) x.1)) in
-    (same, holds_unseen d ps lines below same housed h)
+    let house = home_set d lines below at p.0 x.0 ps h p.1 x.2 (decides_same p.0.queues.cap d.clock addr (process_of p.0) since hop (Err e) (process_of x.0) x.1) x.3 in
+    (same, holds_unseen d ps lines below same house h)
 
 -- the own decision stands in what is seen
 decided_there : (d : Dif) (at : ℕ) (p : IpcProcess) (member : Member) (process : Process) → slice_get d.processes at ≡ Some p → IsProcess (seen_of d) at member process → process_of p ≡ process
@@ -141,6 +142,7 @@ decided d addr at since hop s end ps lt is_addr settles decides lines below h th
     let p = has_process d below at st lt in
     let x = decides p.0 p.1 in
     let cap = (h.housed at p.0 p.1).cap in
+    let house = home_set d lines below at p.0 x.0 ps h p.1 x.2 (decides_same p.0.queues.cap d.clock addr (process_of p.0) since hop (Ok s) (process_of x.0) x.1) x.3 in
     record {
       lines' = lines;
       settled = λ member process q.
@@ -149,7 +151,8 @@ decided d addr at since hop s end ps lt is_addr settles decides lines below h th
           let all = settles (process_of p.0) (process_of x.0) lines member addressed in
           subst (λ (z : Process). Settles (seen_of d) lines at member z since hop end (seen_of (record d { processes = ps })) lines) same (subst (λ (z : DifSeen). Settles (seen_of d) lines at member (process_of p.0) since hop end z lines) (sym (stepped d at x.0 ps x.3)) all);
       tied = h.tied;
-      housed = subst (AreHoused (config_of d.settings)) (sym x.3) (housed_set (config_of d.settings) d.processes at p.0 x.0 h.housed p.1 x.2 (decides_same p.0.queues.cap d.clock addr (process_of p.0) since hop (Ok s) (process_of x.0) x.1));
+      housed = house.housed;
+      routed = house.routed;
     }
 
 pub decided_relayed : (d : Dif) (addr at since : ℕ) (hop : Hop) (ps : List IpcProcess) → at < length d.settings.members → ((member : Member) → slice_get (seen_of d).config.members at ≡ Some member → addr ≡ member.addr) → DecidesAt d.clock addr since hop (Ok settled.Relayed) at d.processes ps → SettlesFor d at since hop (Ok took.Relayed) (record d { processes = ps })

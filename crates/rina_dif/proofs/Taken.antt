@@ -130,6 +130,7 @@ took_it d lines below at n p link tick bytes hop key end d' below' kept kept' lt
         accounted = ins_accounted (seen_of d) lines below at n (Ok (in_.Took key end)) (seen_of d') s.lines' below' kept kept' h.standing h.numbered h.carrying h.accounted does;
         caused = ins_caused (seen_of d) lines below at n (Ok (in_.Took key end)) (seen_of d') s.lines' below' kept' h.caused does;
         housed = s.housed;
+        routed = s.routed;
       };
     }
 
@@ -154,7 +155,7 @@ takes_home d lines below node n at r r' d' failed below' here same t =
     record {
       lines' = t.lines';
       does = subst (λ (v : Result InStep StepError). InsAt (seen_of d) lines below node n v (seen_of d') t.lines' below') (sym same) does;
-      holds = record { tied = t.holds.tied; standing = t.holds.standing; carrying = t.holds.carrying; numbered = t.holds.numbered; accounted = t.holds.accounted; caused = t.holds.caused; housed = t.holds.housed };
+      holds = record { tied = t.holds.tied; standing = t.holds.standing; carrying = t.holds.carrying; numbered = t.holds.numbered; accounted = t.holds.accounted; caused = t.holds.caused; housed = t.holds.housed; routed = t.holds.routed };
     }
 
 pub takes_none : (d : Dif) (lines : List Direction) (below : Seen) (node n : ℕ) → Holds d lines below → TakesHome d lines below node n (Err Memory) d below

@@ -5,14 +5,10 @@ use Rattle.std.proofs.lemmas.Bool.{false≢true}
 use Rattle.std.proofs.lemmas.Option.{slice_get_read, slice_get_within}
 use Rattle.rina_base.specs.declared.memory.Memory.{Memory}
 use Rattle.rina_base.specs.declared.number.Port.{Port}
-use Rattle.rina_graph.specs.declared.graph.Edge.{Edge}
 use Rattle.rina_iface.specs.Seen.{Seen}
 use Rattle.rina_iface.proofs.Changed.{set_at}
 use Rattle.rina_law.specs.Direction.{Direction}
 use Rattle.rina_plan.specs.declared.dif.LinkPlan.{LinkPlan}
-use Rattle.rina_route.specs.declared.link.Link.{Link as Hop}
-use Rattle.rina_route.specs.Nodes.{HaveWeights}
-use Rattle.rina_route.specs.Routes.{AreHops}
 use Rattle.rina_data.specs.declared.link.Link.{Link}
 use Rattle.rina_data.specs.declared.link.Route.{Route}
 use Rattle.rina_data.specs.declared.losing.Lost.{Lost}
@@ -27,13 +23,13 @@ use Rattle.rina_data.proofs.Finding.{there}
 use Rattle.rina_data.proofs.Linkless.{lost_carries, lost_numbered, lost_stands}
 use Rattle.rina_dif.specs.declared.dif.Dif.{Dif}
 use Rattle.rina_dif.specs.Holding.{AreHoused, HasQueues, HaveQueues, Holds, IsHoused, Stands}
-use Rattle.rina_dif.specs.Routing.{KnowsLive, Weigh, claims_with, edges_from, edges_of, live_links, live_of, own_links, routes_to}
+use Rattle.rina_dif.specs.Routing.{HaveRoutes, KnowsLive}
 use Rattle.rina_dif.specs.Shown.{seen_of}
 use Rattle.rina_dif.specs.Unlinking.{FailsWith, FindsLostAt, FindsNoneLeft, KnowsWithout, LosesAs, LosesIn, LosesLink, LosesOr, LosesWith, links_without}
 use Rattle.rina_dif.proofs.Causing.{process_caused}
-use Rattle.rina_dif.proofs.Keeping.{house_is, housed_set, position_map, same_house, set_cases}
+use Rattle.rina_dif.proofs.Keeping.{home_set, house_is, position_map, routes_set, same_house, set_cases}
 use Rattle.rina_dif.proofs.Leaves.{has_process, shown_at, stepped}
-use Rattle.rina_dif.proofs.Routed.{live_hop, own_weighs}
+use Rattle.rina_dif.proofs.Routed.{live_hop}
 use Rattle.rina_dif.proofs.Settling.{holds_unseen, unseen}
 
 same_some : {X : Type 0} (o : Option X) (a b : X) → o ≡ Some a → o ≡ Some b → a ≡ b
@@ -48,25 +44,6 @@ loses_one place routes r at ps x x' lt read loses cap p is =
     let here : slice_get ps at ≡ Some x = slice_get_read ps (length ps) at x refl lt read in
     let same : x ≡ p = same_some (slice_get ps at) x p here is in
     (x', subst (λ (z : IpcProcess). LosesOr place routes r (process_of z) (process_of x')) same loses, subst (λ (z : IpcProcess). x'.queues.cap ≡ z.queues.cap) same cap, refl)
-
--- What it knows
-
-pub knows_all : (members : List Member) (plans : List LinkPlan) (member : Member) (links left : List Link) (edges claimed claims : List Edge) (own : List Hop) (rows : List (ℕ × ℕ)) (routes : List Route) → edges ≡ edges_from members member.node plans → left ≡ live_of links → own ≡ own_links edges left → claimed ≡ edges_of members plans → claims ≡ claims_with member.addr own claimed → AreHops member.addr own claims rows → routes ≡ routes_to member.addr rows members → KnowsLive members plans member links routes
-knows_all members plans member links left edges claimed claims own rows routes e l o c k hops are =
-    let live = live_links members plans member links in
-    let own_is : own ≡ live = o ∙ ap (λ (es : List Edge). own_links es left) e ∙ ap (own_links (edges_from members member.node plans)) l in
-    let claims_are : claims ≡ claims_with member.addr live (edges_of members plans) = k ∙ ap (λ (es : List Edge). claims_with member.addr own es) c ∙ ap (λ (hs : List Hop). claims_with member.addr hs (edges_of members plans)) own_is in
-    record {
-      rows = rows;
-      hops = subst (λ (hs : List Hop). AreHops member.addr hs (claims_with member.addr live (edges_of members plans)) rows) own_is (subst (λ (es : List Edge). AreHops member.addr own es rows) claims_are hops);
-      are = are;
-    }
-
-pub claims_weigh : (members : List Member) (plans : List LinkPlan) (node addr : ℕ) (left : List Link) (edges claimed claims : List Edge) (own : List Hop) → Weigh plans → edges ≡ edges_from members node plans → own ≡ own_links edges left → claimed ≡ edges_of members plans → claims ≡ claims_with addr own claimed → HaveWeights claims
-claims_weigh members plans node addr left edges claimed claims own all e o c k =
-    let own_is : own ≡ own_links (edges_from members node plans) left = o ∙ ap (λ (es : List Edge). own_links es left) e in
-    let are : claims ≡ claims_with addr (own_links (edges_from members node plans) left) (edges_of members plans) = k ∙ ap (λ (es : List Edge). claims_with addr own es) c ∙ ap (λ (hs : List Hop). claims_with addr hs (edges_of members plans)) own_is in
-    subst HaveWeights (sym are) (own_weighs members plans node addr left all)
 
 -- Its queues keep their places
 
@@ -112,6 +89,13 @@ housed_after g ps at p p' place link routes members plans member housed is cap t
     let has = hop_after g members plans member (without_link place link routes (process_of p)) have knows in
     set_cases (IsHoused g) ps at p' (record { cap = cap ∙ old.cap; links = subst (HaveQueues g) (sym new) have; queues = subst (HasQueues g) (sym new) has }) housed
 
+routed_after : (members : List Member) (plans : List LinkPlan) (ps : List IpcProcess) (at : ℕ) (p p' : IpcProcess) (place : ℕ) (link : Link) (routes : List Route) (member : Member) → HaveRoutes members plans ps → slice_get ps at ≡ Some p → slice_get members at ≡ Some member → process_of p' ≡ without_link place link routes (process_of p)
+    → KnowsLive members plans member (slice_set p.links place (record link { live = false })) routes → HaveRoutes members plans (slice_set ps at p')
+routed_after members plans ps at p p' place link routes member routed is is_member new knows = routes_set members plans ps at p p' is routed (λ m is_m. (
+    let same : member ≡ m = same_some (slice_get members at) member m is_member is_m in
+    let its : KnowsLive members plans m (slice_set p.links place (record link { live = false })) routes = subst (λ (z : Member). KnowsLive members plans z (slice_set p.links place (record link { live = false })) routes) same knows in
+    subst (λ (z : Process). KnowsLive members plans m z.links z.routes) (sym new) its))
+
 -- The DIF holds
 
 -- what is known of a DIF that lost the link at a place of the IPC process at a place
@@ -152,6 +136,7 @@ link_lost d lines below at lost routes member p p' is_member is knows loses cap 
         accounted = lost_accounted (seen_of d) lines below at lost.number routes d' h.accounted gone;
         caused = process_caused (seen_of d) d' below at _ gone.new_is h.caused;
         housed = housed_after (config_of d.settings) d.processes at p p' lost.place link routes d.settings.members d.laid.links member h.housed is cap there new known;
+        routed = routed_after d.settings.members d.laid.links d.processes at p p' lost.place link routes member h.routed is is_member new known;
       };
     }
 
@@ -167,8 +152,8 @@ lost_with d lines below at node place number mid new l fails = record {
 pub keeps_links : (d : Dif) (lines : List Direction) (below : Seen) (at : ℕ) (p p' : IpcProcess) (ps : List IpcProcess) → slice_get d.processes at ≡ Some p → process_of p' ≡ process_of p → p'.queues.cap ≡ p.queues.cap → ps ≡ slice_set d.processes at p' → Holds d lines below → (seen_of (record d { processes = ps }) ≡ seen_of d) × Holds (record d { processes = ps }) lines below
 keeps_links d lines below at p p' ps is same cap new h =
     let seen = unseen d at p p' ps is same new in
-    let housed = subst (AreHoused (config_of d.settings)) (sym new) (housed_set (config_of d.settings) d.processes at p p' h.housed is cap (house_is (process_of p) (process_of p) (process_of p') same (same_house (process_of p)))) in
-    (seen, holds_unseen d ps lines below seen housed h)
+    let house = home_set d lines below at p p' ps h is cap (house_is (process_of p) (process_of p) (process_of p') same (same_house (process_of p))) new in
+    (seen, holds_unseen d ps lines below seen house h)
 
 pub has_member : (d : Dif) (at : ℕ) → at < length d.settings.members → (m : Member) × (slice_get d.settings.members at ≡ Some m)
 has_member d at lt = there d.settings.members at lt

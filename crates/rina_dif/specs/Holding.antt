@@ -15,6 +15,7 @@ use Rattle.rina_data.specs.Passing.{IsPassed}
 use Rattle.rina_data.specs.Standing.{IsQos, IsStanding}
 use Rattle.rina_flows.specs.Calls.{AreTied}
 use Rattle.rina_dif.specs.declared.dif.Dif.{Dif}
+use Rattle.rina_dif.specs.Routing.{HaveRoutes}
 use Rattle.rina_dif.specs.Shown.{seen_of}
 
 -- each live link has a queue for each cube
@@ -36,8 +37,8 @@ abbrev pub AreHoused : Config → List IpcProcess → Type 0
 AreHoused g processes = (i : ℕ) (p : IpcProcess) → slice_get processes i ≡ Some p → IsHoused g p
 
 -- the DIF stands on the rank below, where these directions stand behind its flows, whatever an end got has come, its
--- names are those of its members and ports, each IPC process is in account for each PDU, and each end that has failed
--- did so for its cause
+-- names are those of its members and ports, each IPC process is in account for each PDU, each end that has failed did so
+-- for its cause, and each next hop is the least number of a link on a least walk over the links that its IPC process knows
 pub record Holds (d : Dif) (lines : List Direction) (below : Seen) : Type 0 where
   pub tied : AreTied (config_of d.settings) d.clock d.flows lines
   pub standing : IsStanding (seen_of d) lines below
@@ -46,6 +47,7 @@ pub record Holds (d : Dif) (lines : List Direction) (below : Seen) : Type 0 wher
   pub accounted : IsAccounted (seen_of d) lines below
   pub caused : AreCaused (seen_of d) below
   pub housed : AreHoused (config_of d.settings) d.processes
+  pub routed : HaveRoutes d.settings.members d.laid.links d.processes
 
 -- some directions stand behind its flows
 abbrev pub Stands : Dif → Seen → Type 0

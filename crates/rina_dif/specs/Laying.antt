@@ -23,7 +23,7 @@ use Rattle.rina_data.specs.Standing.{IsInside, IsLinked, IsQos}
 use Rattle.rina_dif.specs.declared.dif.Dif.{Dif}
 use Rattle.rina_dif.specs.Building.{IsFree, queue_ids}
 use Rattle.rina_dif.specs.Planned.{ipc_name, link_fixed, links_of, settings_by, settings_of}
-use Rattle.rina_dif.specs.Routing.{KnowsLinks}
+use Rattle.rina_dif.specs.Routing.{HaveRoutes}
 
 -- Binding one after the other
 
@@ -104,7 +104,7 @@ pub record IsNew (plan : Plan) (i : ℕ) (d : Dif) (old new : Seen) : Type 0 whe
   pub ports : List (Port × Port)
   pub bound : BindsAll old (links_of plan i) ports new
   pub processes : (k : ℕ) (member : Kept) (p : IpcProcess) → slice_get d.settings.members k ≡ Some member → slice_get d.processes k ≡ Some p → IsNewProcess (config_of d.settings) member.node (ends_of ports) (process_of p)
-  pub routed : (dif : DifPlan) (k : ℕ) (member : Kept) (p : IpcProcess) → slice_get plan.difs i ≡ Some dif → slice_get d.settings.members k ≡ Some member → slice_get d.processes k ≡ Some p → KnowsLinks d.settings.members dif.links member p
+  pub routed : (dif : DifPlan) → slice_get plan.difs i ≡ Some dif → HaveRoutes d.settings.members dif.links d.processes
   pub ends : d.flows.journal.ends ≡ []
   pub conns : d.flows.conns ≡ []
   pub waiting : d.waiting.items ≡ []

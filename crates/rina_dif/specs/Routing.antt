@@ -1,4 +1,4 @@
--- The next hops of a DIF that was made.
+-- The next hops of the IPC processes of a DIF.
 use Rattle.std.specs.Prelude.{◌≡◌, ℕ, ◌<◌, ◌≤◌, ◌==◌, not, List, ◌++◌, filter, find, length, map, slice_get, slice_set, Option, Some, None, option_and_then, option_map, if◌then◌else◌}
 use Rattle.std.specs.List.{filter_map}
 use Rattle.rina_graph.specs.declared.graph.Edge.{Edge}
@@ -53,27 +53,7 @@ route_to own rows m = if m.addr == own then None else option_map (λ n. record {
 abbrev pub routes_to : ℕ → List (ℕ × ℕ) → List Member → List Route
 routes_to own rows members = filter_map (route_to own rows) members
 
--- an IPC process knows all links of its DIF: over them, the least number of a link on a least walk is the next hop to each other member
-pub record KnowsLinks (members : List Member) (links : List LinkPlan) (member : Member) (p : IpcProcess) : Type 0 where
-  pub rows : List (ℕ × ℕ)
-  pub hops : AreHops member.addr (own_links (edges_from members member.node links) p.links) (edges_of members links) rows
-  pub routes : p.routes ≡ routes_to member.addr rows members
-
--- with other next hops
-abbrev pub with_routes : IpcProcess → List Route → IpcProcess
-with_routes p routes = record p { routes = routes }
-
--- the IPC process at a place has other next hops, and no other does anything
-abbrev pub SetsRoutes : ℕ → List Route → List IpcProcess → List IpcProcess → Type 0
-SetsRoutes at routes old new = (p : IpcProcess) → slice_get old at ≡ Some p → new ≡ slice_set old at (with_routes p routes)
-
--- the first of the IPC processes have their next hops, and nothing else changed
-pub record AreRouted (members : List Member) (links : List LinkPlan) (count : ℕ) (old new : List IpcProcess) : Type 0 where
-  pub aligned : length new ≡ length old
-  pub knows : (k : ℕ) (m : Member) (p : IpcProcess) → k < count → slice_get members k ≡ Some m → slice_get new k ≡ Some p → KnowsLinks members links m p
-  pub same : (k : ℕ) (p : IpcProcess) → slice_get new k ≡ Some p → (q : IpcProcess) × (routes : List Route) × (slice_get old k ≡ Some q) × (p ≡ with_routes q routes)
-
--- Where links were lost
+-- What an IPC process knows
 
 -- each link has a weight
 abbrev pub Weigh : List LinkPlan → Type 0
@@ -96,9 +76,29 @@ claims_with own links claimed = filter (λ (e : Edge). not (e.from == own)) clai
 abbrev pub live_links : List Member → List LinkPlan → Member → List Link → List Hop
 live_links members plans member links = own_links (edges_from members member.node plans) (live_of links)
 
--- an IPC process with these links, some of which were lost, knows its live ones, and those that the others had from the
+-- an IPC process with these links, some of which may be lost, knows its live ones, and those that the others had from the
 -- start: over them, the least number of a link on a least walk is the next hop to each other member
 pub record KnowsLive (members : List Member) (plans : List LinkPlan) (member : Member) (links : List Link) (routes : List Route) : Type 0 where
   pub rows : List (ℕ × ℕ)
   pub hops : AreHops member.addr (live_links members plans member links) (claims_with member.addr (live_links members plans member links) (edges_of members plans)) rows
   pub are : routes ≡ routes_to member.addr rows members
+
+-- so each does, where these are the links of the DIF as they were laid
+abbrev pub HaveRoutes : List Member → List LinkPlan → List IpcProcess → Type 0
+HaveRoutes members plans processes = (k : ℕ) (m : Member) (p : IpcProcess) → slice_get members k ≡ Some m → slice_get processes k ≡ Some p → KnowsLive members plans m p.links p.routes
+
+-- One after the other
+
+-- with other next hops
+abbrev pub with_routes : IpcProcess → List Route → IpcProcess
+with_routes p routes = record p { routes = routes }
+
+-- the IPC process at a place has other next hops, and no other does anything
+abbrev pub SetsRoutes : ℕ → List Route → List IpcProcess → List IpcProcess → Type 0
+SetsRoutes at routes old new = (p : IpcProcess) → slice_get old at ≡ Some p → new ≡ slice_set old at (with_routes p routes)
+
+-- the first of the IPC processes have their next hops, and nothing else changed
+pub record AreRouted (members : List Member) (links : List LinkPlan) (count : ℕ) (old new : List IpcProcess) : Type 0 where
+  pub aligned : length new ≡ length old
+  pub knows : (k : ℕ) (m : Member) (p : IpcProcess) → k < count → slice_get members k ≡ Some m → slice_get new k ≡ Some p → KnowsLive members links m p.links p.routes
+  pub same : (k : ℕ) (p : IpcProcess) → slice_get new k ≡ Some p → (q : IpcProcess) × (routes : List Route) × (slice_get old k ≡ Some q) × (p ≡ with_routes q routes)

@@ -18,7 +18,7 @@ pub struct Dif {
     pub(crate) settings: Settings,
     pub(crate) clock: Tick,
     pub(crate) processes: Processes,
-    /// Its links as they were laid, which never change.
+    /// Its links as they were laid, which never change, and what CDAP requests left.
     pub(crate) laid: Layout,
     pub(crate) flows: Flows,
     /// The places of the far ends that nobody has claimed yet, the oldest first.

@@ -1,13 +1,12 @@
 //! The objects that a member tells.
 ghost use Rattle.std.specs.Prelude.{◌≡◌, ◌<◌, ◌++◌, length, map, codes, IfOk, IfSome, OnOk};
 ghost use Rattle.rina_dif.specs.Objects.{address_of, behind, cube_object, dir_object, end_objects, far_objects, first_slash, flow_object, key_byte, kind_text, link_object, links_named, member_object, named_object, or_greater, own_objects, state_object};
-ghost use Rattle.rina_dif.specs.Routing.{edge_to, live_links, live_of};
+ghost use Rattle.rina_dif.specs.Routing.{edge_to, live_links};
 
 use crate::binding::is_asker;
 use crate::flow_state::FlowState;
 use crate::neighbours::neighbours_text;
-use crate::rerouting::edges_to;
-use crate::routing::{addr_at, edges_from, own_links};
+use crate::routing::{addr_at, edges_from, edges_to, live_links};
 use crate::shown::{Objects, Shown};
 use crate::text::{add_decimal, add_number, numbered};
 use rina_base::{Addr, AppName, Bytes, Memory, Node, Seq};
@@ -177,21 +176,8 @@ fn live_edges(
 ) -> Result<Vec<Edge>, AllocError>
     ensures { IfOk result (λ v. v.items ≡ map (edge_to own.now.addr) (live_links members.now plans.now own.now links.now)) }
 {
-    let edges = edges_from(alloc, members, usize::from(own.node), plans)?;
-    let live = live(alloc, links)?;
-    let hops = own_links(alloc, &edges, &live)?;
+    let hops = live_links(alloc, members, plans, own, links)?;
     edges_to(alloc, own.addr, &hops)
-}
-
-/// The links that are live.
-fn live(alloc: Global, links: &[Link]) -> Result<Vec<Link>, AllocError>
-    ensures { IfOk result (λ v. v.items ≡ live_of links.now) }
-{
-    links
-        .iter()
-        .copied()
-        .filter(|link| link.live)
-        .collect(alloc)
 }
 
 /// The link state of a member, as another one or itself knows it.

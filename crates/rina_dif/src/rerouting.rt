@@ -1,20 +1,17 @@
 //! The next hops of an IPC process that loses a link.
-ghost use Rattle.std.specs.Prelude.{◌≡◌, ◌<◌, [], ◌==◌, false, not, filter, length, map, slice_get, slice_set, Some, IfOk};
-ghost use Rattle.rina_graph.specs.declared.graph.Edge.{Edge};
+ghost use Rattle.std.specs.Prelude.{◌≡◌, ◌<◌, [], false, length, slice_get, slice_set, Some, IfOk};
 ghost use Rattle.rina_data.specs.declared.link.Link.{Link};
-ghost use Rattle.rina_dif.specs.Routing.{KnowsLive, Weigh, claims_with, edge_to, live_of};
+ghost use Rattle.rina_dif.specs.Routing.{KnowsLive, Weigh};
 
-use crate::routing::{edges_from, edges_of, own_links, routes_to};
-use rina_base::{Addr, Memory, Seq};
+use crate::routing::{edges_of, routes_over};
+use rina_base::{Memory, Seq};
 use rina_data::{Link, Member, Route};
-use rina_graph::Edge;
 use rina_plan::LinkPlan;
 use rina_rib::Rib;
-use rina_route::{Link as Hop, Routes};
 use std::alloc::{AllocError, Global};
 use std::collections::BTreeMap;
 
-/// What no step of a DIF changes.
+/// The links of a DIF, which no step changes, and what CDAP requests left at its IPC processes.
 #[derive(Drop)]
 pub struct Layout {
     /// Its links as they were laid, in stack order: what the link states say from the start.
@@ -49,60 +46,17 @@ impl Layout {
     }
 }
 
-/// The live links once the one at a place is lost.
-fn live_without(alloc: Global, links: &[Link], lost: usize) -> Result<Vec<Link>, AllocError>
+/// The links once the one at a place is lost.
+fn links_without(alloc: Global, links: &[Link], lost: usize) -> Result<Vec<Link>, AllocError>
     requires { lost < length links.now }
-    ensures { IfOk result (λ v. (link : Link) → slice_get links.now lost ≡ Some link → v.items ≡ live_of (slice_set links.now lost (record link { live = false }))) }
+    ensures { IfOk result (λ v. (link : Link) → slice_get links.now lost ≡ Some link → v.items ≡ slice_set links.now lost (record link { live = false })) }
 {
     let mut left = Vec::from_slice(alloc, links)?;
     left[lost] = Link {
         live: false,
         ..links[lost]
     };
-    left.iter().copied().filter(|link| link.live).collect(alloc)
-}
-
-/// A link of a member as its link state names it.
-fn edge_to(own: Addr, hop: &Hop) -> Edge
-    ensures { result ≡ edge_to own hop.now }
-{
-    Edge {
-        from: own,
-        to: hop.peer,
-        weight: hop.weight,
-    }
-}
-
-/// The edges that the link states of others name.
-fn claims_of_others(alloc: Global, own: Addr, claimed: &[Edge]) -> Result<Vec<Edge>, AllocError>
-    ensures { IfOk result (λ v. v.items ≡ filter (λ (e : Edge). not (e.from == own)) claimed.now) }
-{
-    claimed
-        .iter()
-        .copied()
-        .filter(|edge| edge.from != own)
-        .collect(alloc)
-}
-
-/// The links of a member as its link state names them.
-pub(crate) fn edges_to(alloc: Global, own: Addr, links: &[Hop]) -> Result<Vec<Edge>, AllocError>
-    ensures { IfOk result (λ v. v.items ≡ map (edge_to own) links.now) }
-{
-    links.iter().map(|hop| edge_to(own, hop)).collect(alloc)
-}
-
-/// The edges that the link states name, where that of the member with this address names these links.
-fn claims_with(
-    alloc: Global,
-    own: Addr,
-    links: &[Hop],
-    claimed: &[Edge],
-) -> Result<Vec<Edge>, AllocError>
-    ensures { IfOk result (λ v. v.items ≡ claims_with own links.now claimed.now) }
-{
-    let mut claims = claims_of_others(alloc, own, claimed)?;
-    claims.append(&mut edges_to(alloc, own, links)?)?;
-    Ok(claims)
+    Ok(left)
 }
 
 /// The next hops of a member, which has these links, once the one at a place is lost.
@@ -119,11 +73,6 @@ pub(crate) fn routes_without(
 {
     let plans = laid.links.as_slice();
     let claimed = edges_of(alloc, members, plans)?;
-    let edges = edges_from(alloc, members, usize::from(member.node), plans)?;
-    let left = live_without(alloc, links, lost)?;
-    let own = own_links(alloc, &edges, &left)?;
-    let claims = claims_with(alloc, member.addr, &own, &claimed)?;
-    let mut table = Routes::new(alloc);
-    table.rebuild_of(alloc, member.addr, &own, &claims)?;
-    Ok(routes_to(alloc, member.addr, &table, members)?)
+    let left = links_without(alloc, links, lost)?;
+    routes_over(alloc, member, members, plans, &claimed, &left)
 }

@@ -1,10 +1,8 @@
-//! The next hops of a DIF that was made: each IPC process knows all its links from the start.
-ghost use Rattle.std.specs.Prelude.{◌≡◌, ◌≤◌, ℕ, Some, length, slice_get, IfOk, OnOk};
+//! The next hops of an IPC process: it knows its own live links, and those that the others had from the start.
+ghost use Rattle.std.specs.Prelude.{◌≡◌, ◌==◌, filter, length, map, not, IfOk, OnOk};
 ghost use Rattle.std.specs.List.{filter_map};
-ghost use Rattle.rina_plan.specs.declared.dif.LinkPlan.{LinkPlan};
-ghost use Rattle.rina_route.specs.Nodes.{HaveWeights};
-ghost use Rattle.rina_route.specs.Routes.{AreHops};
-ghost use Rattle.rina_dif.specs.Routing.{AreRouted, addr_at, edge_back, edge_between, edge_from, edge_there, edges_from, edges_of, own_link, own_links, route_to, routes_to};
+ghost use Rattle.rina_graph.specs.declared.graph.Edge.{Edge};
+ghost use Rattle.rina_dif.specs.Routing.{AreRouted, KnowsLive, Weigh, addr_at, claims_with, edge_back, edge_between, edge_from, edge_there, edge_to, edges_from, edges_of, live_links, live_of, own_link, own_links, route_to, routes_to};
 
 use crate::processes::Processes;
 use rina_base::{Addr, Memory, Seq};
@@ -129,11 +127,7 @@ fn own_link(edges: &[Edge], link: &Link) -> Option<Hop>
 }
 
 /// The links of an IPC process, with its neighbours.
-pub(crate) fn own_links(
-    alloc: Global,
-    edges: &[Edge],
-    links: &[Link],
-) -> Result<Vec<Hop>, AllocError>
+fn own_links(alloc: Global, edges: &[Edge], links: &[Link]) -> Result<Vec<Hop>, AllocError>
     ensures { IfOk result (λ v. v.items ≡ own_links edges.now links.now) }
 {
     links
@@ -157,7 +151,7 @@ fn route_to(own: Addr, table: &Routes, member: &Member) -> Option<Route>
 }
 
 /// The next hops to the other members.
-pub(crate) fn routes_to(
+fn routes_to(
     alloc: Global,
     own: Addr,
     table: &Routes,
@@ -171,26 +165,96 @@ pub(crate) fn routes_to(
         .collect(alloc)
 }
 
-/// The table of a member, which has these links, over the edges that are claimed.
-fn table_of(
+/// The links that are live.
+fn live_of(alloc: Global, links: &[Link]) -> Result<Vec<Link>, AllocError>
+    ensures { IfOk result (λ v. v.items ≡ live_of links.now) }
+{
+    links
+        .iter()
+        .copied()
+        .filter(|link| link.live)
+        .collect(alloc)
+}
+
+/// The live links of a member, with its neighbours.
+pub(crate) fn live_links(
+    alloc: Global,
+    members: &[Member],
+    plans: &[LinkPlan],
+    member: &Member,
+    links: &[Link],
+) -> Result<Vec<Hop>, AllocError>
+    ensures { IfOk result (λ v. v.items ≡ live_links members.now plans.now member.now links.now) }
+{
+    let edges = edges_from(alloc, members, usize::from(member.node), plans)?;
+    let live = live_of(alloc, links)?;
+    own_links(alloc, &edges, &live)
+}
+
+/// A link of a member as its link state names it.
+fn edge_to(own: Addr, hop: &Hop) -> Edge
+    ensures { result ≡ edge_to own hop.now }
+{
+    Edge {
+        from: own,
+        to: hop.peer,
+        weight: hop.weight,
+    }
+}
+
+/// The links of a member as its link state names them.
+pub(crate) fn edges_to(alloc: Global, own: Addr, links: &[Hop]) -> Result<Vec<Edge>, AllocError>
+    ensures { IfOk result (λ v. v.items ≡ map (edge_to own) links.now) }
+{
+    links.iter().map(|hop| edge_to(own, hop)).collect(alloc)
+}
+
+/// The edges that the link states of others name.
+fn claims_of_others(alloc: Global, own: Addr, claimed: &[Edge]) -> Result<Vec<Edge>, AllocError>
+    ensures { IfOk result (λ v. v.items ≡ filter (λ (e : Edge). not (e.from == own)) claimed.now) }
+{
+    claimed
+        .iter()
+        .copied()
+        .filter(|edge| edge.from != own)
+        .collect(alloc)
+}
+
+/// The edges that the link states name, where that of the member with this address names these links.
+fn claims_with(
+    alloc: Global,
+    own: Addr,
+    links: &[Hop],
+    claimed: &[Edge],
+) -> Result<Vec<Edge>, AllocError>
+    ensures { IfOk result (λ v. v.items ≡ claims_with own links.now claimed.now) }
+{
+    let mut claims = claims_of_others(alloc, own, claimed)?;
+    claims.append(&mut edges_to(alloc, own, links)?)?;
+    Ok(claims)
+}
+
+/// The next hops of a member over its live links, and those that the others had from the start.
+pub(crate) fn routes_over(
     alloc: Global,
     member: &Member,
     members: &[Member],
     plans: &[LinkPlan],
-    links: &[Link],
     claimed: &[Edge],
-) -> Result<Routes, Memory>
-    requires weights { HaveWeights claimed.now }
-    ensures { IfOk result (λ rows. AreHops member.now.addr (own_links (edges_from members.now member.now.node plans.now) links.now) claimed.now rows) }
+    links: &[Link],
+) -> Result<Vec<Route>, Memory>
+    requires weigh { Weigh plans.now }
+    requires claimed { claimed.now ≡ edges_of members.now plans.now }
+    ensures { IfOk result (λ v. KnowsLive members.now plans.now member.now links.now v.items) }
 {
-    let edges = edges_from(alloc, members, usize::from(member.node), plans)?;
-    let own = own_links(alloc, &edges, links)?;
+    let own = live_links(alloc, members, plans, member, links)?;
+    let claims = claims_with(alloc, member.addr, &own, claimed)?;
     let mut table = Routes::new(alloc);
-    table.rebuild_of(alloc, member.addr, &own, claimed)?;
-    Ok(table)
+    table.rebuild_of(alloc, member.addr, &own, &claims)?;
+    Ok(routes_to(alloc, member.addr, &table, members)?)
 }
 
-/// Gives each IPC process its next hops, over these links of the DIF.
+/// Gives each IPC process its next hops, where these are the links of the DIF.
 pub(crate) fn route_all(
     processes: &mut Processes,
     alloc: Global,
@@ -198,24 +262,16 @@ pub(crate) fn route_all(
     plans: &[LinkPlan],
 ) -> Result<(), Memory>
     requires aligned { length processes.old ≡ length members.now }
-    requires weights { (k : ℕ) (l : LinkPlan) → slice_get plans.now k ≡ Some l → 1 ≤ l.weight }
+    requires weights { Weigh plans.now }
     ensures { OnOk result (AreRouted members.now plans.now (length members.now) processes.old processes.new) }
 {
     let claimed = edges_of(alloc, members, plans)?;
     for at in 0..members.len() {
-        let member = &members[at];
         let Some(process) = processes.get(at) else {
             unreachable!()
         };
-        let table = table_of(
-            alloc,
-            member,
-            members,
-            plans,
-            process.links.as_slice(),
-            &claimed,
-        )?;
-        let routes = routes_to(alloc, member.addr, &table, members)?;
+        let links = process.links.as_slice();
+        let routes = routes_over(alloc, &members[at], members, plans, &claimed, links)?;
         processes.set_routes(at, Seq::from_vec(routes));
     }
     Ok(())

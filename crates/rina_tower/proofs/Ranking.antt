@@ -42,6 +42,7 @@ holds_beside who d lines below below' kept kept' mine alone h =
       accounted = beside_accounted (seen_of_dif d) lines below below' kept' h.accounted up;
       caused = caused_on (seen_of_dif d) (seen_of_dif d) below below' (none_is (seen_of_dif d) (seen_of_dif d) refl) (lower_later (config_of d.settings) below below' kept' up.later) h.caused;
       housed = h.housed;
+      routed = h.routed;
     }
 
 -- where no IPC process sends, takes or is asked for, all DIFs stand on

@@ -1,7 +1,6 @@
 -- One more has its next hops.
-use Rattle.std.proofs.Common.{◌∙◌, Contains, List, arith, subst}
-use Rattle.rina_graph.specs.declared.graph.Edge.{Edge}
-use Rattle.rina_dif.proofs.Routed.{all_routed, edges_weigh, none_routed, turn_routed}
+use Rattle.std.proofs.Common.{◌∙◌, arith}
+use Rattle.rina_dif.proofs.Routed.{all_routed, none_routed, turn_routed}
 use Rattle.rina_dif.proofs.routing.route_all.Goals as goal
 
 pub loop-at-init : goal.loop-at-init
@@ -15,11 +14,8 @@ unreachable-requires c =
     let before = c.requires.aligned in
     omega (arith, out, lt, now, before)
 
-pub table_of-requires : goal.table_of-requires
-table_of-requires c = record { weights = λ e among. edges_weigh c.args.members.now c.args.plans.now c.requires.weights e (subst (λ (es : List Edge). Contains es e) (c.deref.ensures.value ∙ c.in_ok-claimed.ensures) among) }
-
 pub loop-at-preserved : goal.loop-at-preserved
-loop-at-preserved c = turn_routed c.args.members.now c.args.plans.now c.loop-at.at c.args.processes.now c.loop-at.processes c.set_routes.new.self c.index-members-at.result c.in-Some.process.now c.as_slice.result.now c.deref.result.now c.in_ok-table.table _ c.loop-at.invariant c.loop-at-test.true c.index-members-at.is c.in-Some.ensures c.as_slice.ensures (c.deref.ensures.value ∙ c.in_ok-claimed.ensures) c.in_ok-table.ensures (c.from_vec.ensures ∙ c.in_ok-routes.ensures) c.set_routes.ensures
+loop-at-preserved c = turn_routed c.args.members.now c.args.plans.now c.loop-at.at c.args.processes.now c.loop-at.processes c.set_routes.new.self c.index-members-at.result c.in-Some.process.now c.as_slice-links.result.now _ _ c.loop-at.invariant c.loop-at-test.true c.index-members-at.is c.in-Some.ensures c.as_slice-links.ensures c.in_ok-routes.ensures c.from_vec.ensures c.set_routes.ensures
 
 pub returns : goal.returns
 returns c = all_routed c.args.members.now c.args.plans.now c.loop-at.at c.args.processes.now c.loop-at.processes c.loop-at-test.false c.loop-at.invariant

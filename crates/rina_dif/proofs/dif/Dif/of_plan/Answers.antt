@@ -26,7 +26,7 @@ returns-clause-stands g c =
     let are : made.settings ≡ _ = c.in_ok-made.ensures.settings ∙ c.in_ok-settings.ensures in
     let free = c.requires.can.free made.settings (its_settings c.args.plan.now c.args.at dif made.settings c.in-Some.ensures are) in
     let routed = same_routed c.as_slice-members.result.now made.settings.members c.as_slice.result.now dif.links c.lay_links.new.processes c.route_all.new.processes c.as_slice-members.ensures c.as_slice.ensures c.in_ok-route_all.ensures in
-    made_stands c.args.plan.now c.args.at dif (record made { processes = c.route_all.new.processes; laid = c.in_ok-made-2.field-0 }) (seen c.args.below.now) (seen c.lay_links.new.below) (g.met.F.Facility.kept c.lay_links.new.below c.lay_links.ensures.valid) c.requires.plan c.in-Some.ensures are (c.in_ok-made.ensures.clock ∙ c.now.ensures) bare.ends bare.conns free c.lay_links.ensures.laid c.lay_links.new.processes c.in_ok-lay_links.ensures.ok routed
+    made_stands c.args.plan.now c.args.at dif (record made { processes = c.route_all.new.processes; laid = c.in_ok-made-2.field-0 }) (seen c.args.below.now) (seen c.lay_links.new.below) (g.met.F.Facility.kept c.lay_links.new.below c.lay_links.ensures.valid) c.requires.plan c.in-Some.ensures are (c.in_ok-made.ensures.clock ∙ c.now.ensures) bare.ends bare.conns free c.lay_links.ensures.laid c.lay_links.new.processes c.in_ok-lay_links.ensures.ok routed (c.in_ok-made-2.ensures.links ∙ c.as_slice-2.ensures)
 
 pub returns-clause-exact : goal.returns-clause-exact
 returns-clause-exact g c =

@@ -12,7 +12,7 @@ returns-clause-does g c =
 pub returns-clause-keeps : goal.returns-clause-keeps
 returns-clause-keeps g c = λ lines h.
     let k = c.send_from-step.ensures.keeps lines h in
-    record { tied = k.tied; standing = k.standing; carrying = k.carrying; numbered = k.numbered; accounted = k.accounted; caused = k.caused; housed = k.housed }
+    record { tied = k.tied; standing = k.standing; carrying = k.carrying; numbered = k.numbered; accounted = k.accounted; caused = k.caused; housed = k.housed; routed = k.routed }
 
 pub returns-clause-shelf : goal.returns-clause-shelf
 returns-clause-shelf g c = λ alive.
