@@ -10,8 +10,8 @@ use Rattle.std.proofs.lemmas.List.Quantifiers.{all_pairs_push}
 use Rattle.std.proofs.lemmas.Slice.Eq.{bytes_eq-Decides}
 use Rattle.std.specs.List.{list_any, position}
 use Rattle.std.specs.Str.{bytes_eq}
-use Rattle.toml.specs.Data.{Data, get}
-use Rattle.rina_base.specs.Traverse.{◌>>=◌, traverse}
+use Rattle.toml.specs.Data.{Data}
+use Rattle.rina_base.specs.Traverse.{traverse}
 use Rattle.rina_plan.specs.declared.dif.DifPlan.{DifPlan}
 use Rattle.rina_plan.specs.declared.dif.WireEnds.{WireEnds}
 use Rattle.rina_cube.specs.Cubes.{IsCube}
@@ -22,23 +22,25 @@ use Rattle.rina_plan.specs.Counts.{links_of, load_of, first_loaded, first_full, 
 use Rattle.rina_plan.proofs.Places.{nowhere}
 use Rattle.rina_plan.proofs.Carried.{carried, each_roomy, single}
 use Rattle.rina_stack.specs.declared.plan.Plan.{Plan}
-use Rattle.rina_fields.specs.declared.scope.Scope.{Scope}
 use Rattle.rina_rows.specs.declared.sketch.WireSketch.{WireSketch}
 use Rattle.rina_rows.specs.declared.sketch.Sketch.{Sketch}
 use Rattle.rina_table.specs.declared.error.StackError.{StackError}
-use Rattle.rina_table.specs.Faults.{Gives, there, unless}
-use Rattle.rina_table.specs.Keys.{keys_fault, items_in}
-use Rattle.rina_table.specs.Values.{element, has_third, rows, rows_in, tables_in}
-use Rattle.rina_fields.specs.Fields.{named, name_in, number_in}
-use Rattle.rina_rows.specs.Rows.{storm_or, wire_end, wire_at}
-use Rattle.rina_rows.specs.Items.{node_row, rounds_or, dif_at, sketch_at}
+use Rattle.rina_table.specs.Faults.{Gives, unless}
+use Rattle.rina_table.specs.Keys.{keys_fault}
+use Rattle.rina_rows.specs.Rows.{wire_at}
+use Rattle.rina_rows.specs.Items.{dif_at, sketch_at}
 use Rattle.rina_rules.specs.Rules.{has_text, twin_after, twin_in, twin_fault, earlier, facility_twin, label_twin, wire_names, dif_names, labels, first_wire, is_crossed, spread_of, top_fault}
 use Rattle.rina_rules.specs.Order.{ends_of, alone_at, linked_at, difs_at, rules_at}
-use Rattle.rina_stack.specs.Stack.{plain, full, narrow, plan_of, unknown_item, resolved_at, stack_at}
-use Rattle.rina_stack.specs.Plan.{AreDistinct, names_of, wire_ends, IsRangedCube, IsRangedDif, NoDif, IsSoundWire, IsPlan}
-use Rattle.rina_stack.proofs.SoundDif.{dif_7, whole_cube, dif_parts, IsNamed, named_7}
-use Rattle.rina_stack.proofs.LabelsOfFlows.{same_labels, no_label_twin}
-use Rattle.rina_stack.proofs.Inversion.{bind_ok, ok_is, unbroken, all_read, same_rows, number_7, node_7}
+use Rattle.rina_sound.specs.Scopes.{plain, full}
+use Rattle.rina_stack.specs.Stack.{narrow, plan_of, unknown_item, resolved_at, stack_at}
+use Rattle.rina_sound.specs.Ranges.{IsRangedWire, IsRangedCube, IsRangedDif, IsNamed}
+use Rattle.rina_stack.specs.Plan.{AreDistinct, names_of, wire_ends, NoDif, IsSoundWire, IsPlan}
+use Rattle.rina_sound.proofs.Inversion.{bind_ok, unbroken}
+use Rattle.rina_sound.proofs.SoundDif.{whole_cube, dif_parts}
+use Rattle.rina_sound.proofs.SoundWire.{wire_name}
+use Rattle.rina_sound.proofs.Reading.{parts, sound}
+use Rattle.rina_sound.proofs.SameNames.{same_node_rows, same_names, same_tables, same_dif_tables, same_count}
+use Rattle.rina_sound.proofs.LabelsOfFlows.{same_labels, no_label_twin}
 
 -- ---- a test that no element passes
 
@@ -81,124 +83,6 @@ pub neither : (a b : Option ℕ) → earlier a b ≡ None → (a ≡ None) × (b
 neither None b h = (refl, h)
 neither (Some i) None h = cc
 neither (Some i) (Some j) h = cc
-
--- ---- a wire
-
-pub record IsSoundSketch (nodes : ℕ) (w : WireSketch) : Type 0 where
-  pub a : w.a < nodes
-  pub b : w.b < nodes
-  pub least_delay : 1 ≤ w.delay
-  pub life : w.life ≤ 100000
-  pub least_largest : 1 ≤ w.largest
-  pub largest : w.largest ≤ 65535
-
-end_7 : (known : Sketch) (u : Option ℕ) (n : ℕ) (d : Data) (i at : ℕ) → wire_end (full known u) n d i ≡ Ok at → at < length known.nodes
-unfolding wire_end
-end_7 known u n d i at h =
-    let (t, _, found) = bind_ok (there n (element i (codes "ends") d)) _ at h in
-    node_7 known u n t at found
-
-wire_7 : (known : Sketch) (u : Option ℕ) (n : ℕ) (d : Data) (w : WireSketch) → wire_at (full known u) n d ≡ Ok w → IsSoundSketch (length known.nodes) w
-unfolding wire_at
-wire_7 known u n d w h =
-    let s = full known u in
-    let (name, _, h1) = bind_ok (name_in s n (codes "name") d) _ w h in
-    let (a, end_a, h2) = bind_ok (wire_end s n d 0) _ w h1 in
-    let (b, end_b, h3) = bind_ok (wire_end s n d 1) _ w h2 in
-    let (_, _, h4) = bind_ok (unless 3 (cond (has_third (codes "ends") d) (Some n) None)) _ w h3 in
-    let (delay, is_delay, h5) = bind_ok (number_in s n (codes "delay") d 1 100000) _ w h4 in
-    let (life, is_life, h6) = bind_ok (number_in s n (codes "life") d 1 100000) _ w h5 in
-    let (largest, is_largest, h7) = bind_ok (number_in s n (codes "largest") d 1 65535) _ w h6 in
-    let (storm, _, h8) = bind_ok (storm_or s n (get (codes "storm") d)) _ w h7 in
-    let whole : record { name = name; a = a; b = b; delay = delay; life = life; largest = largest; storm = storm } ≡ w = cc in
-    subst (IsSoundSketch (length known.nodes)) whole
-    (record {
-      a = end_7 known u n d 0 a end_a;
-      b = end_7 known u n d 1 b end_b;
-      least_delay = (number_7 known u n (codes "delay") d 1 100000 delay is_delay).0;
-      life = (number_7 known u n (codes "life") d 1 100000 life is_life).1;
-      least_largest = (number_7 known u n (codes "largest") d 1 65535 largest is_largest).0;
-      largest = (number_7 known u n (codes "largest") d 1 65535 largest is_largest).1;
-    })
-
-same_name_in : (known : Sketch) (u : Option ℕ) (n : ℕ) (k : List ℕ) (d : Data) → name_in (plain 4) n k d ≡ name_in (full known u) n k d
-unfolding name_in named
-same_name_in known u n k d = refl
-
--- ---- what was read of the whole stack
-
-pub record WasRead (s : Scope) (d : Data) (k : Sketch) : Type 0 where
-  pub wire_tables : List Data
-  pub dif_tables : List Data
-  pub nodes : rows_in (node_row s 0) 0 (codes "nodes") d ≡ Ok k.nodes
-  pub are_wires : tables_in 0 (codes "wire") d ≡ Ok wire_tables
-  pub are_difs : tables_in 0 (codes "dif") d ≡ Ok dif_tables
-  pub wires : traverse (wire_at s) 1 wire_tables ≡ Ok k.wires
-  pub difs : traverse (dif_at s) (1 + length wire_tables) dif_tables ≡ Ok k.difs
-
-pub parts : (s : Scope) (d : Data) (k : Sketch) → sketch_at s d ≡ Ok k → WasRead s d k
-unfolding sketch_at
-parts s d k h =
-    let (nodes, is_nodes, h1) = bind_ok (rows_in (node_row s 0) 0 (codes "nodes") d) _ k h in
-    let (rounds, _, h2) = bind_ok (rounds_or (get (codes "rounds") d)) _ k h1 in
-    let (wts, is_wts, h3) = bind_ok (tables_in 0 (codes "wire") d) _ k h2 in
-    let (dts, is_dts, h4) = bind_ok (tables_in 0 (codes "dif") d) _ k h3 in
-    let (wires, is_wires, h5) = bind_ok (traverse (wire_at s) 1 wts) _ k h4 in
-    let (difs, is_difs, h6) = bind_ok (traverse (dif_at s) (1 + length wts) dts) _ k h5 in
-    let whole : record { nodes = nodes; rounds = rounds; wires = wires; difs = difs } ≡ k = cc in
-    subst (WasRead s d) whole (record { wire_tables = wts; dif_tables = dts; nodes = is_nodes; are_wires = is_wts; are_difs = is_dts; wires = is_wires; difs = is_difs })
-
-same_node_row : (known : Sketch) (u : Option ℕ) (n : ℕ) (d : Data) → node_row (plain 4) n d ≡ node_row (full known u) n d
-unfolding node_row named
-same_node_row known u n d = refl
-
-same_after : {A B : Type 0} (a : Result A StackError) (f g : A → Result B StackError) → ((x : A) → f x ≡ g x) → (a >>= f) ≡ (a >>= g)
-same_after (Ok x) f g h = h x
-same_after (Err e) f g h = refl
-
-same_node_rows : (known : Sketch) (u : Option ℕ) (n : ℕ) (k : List ℕ) (d : Data) → rows_in (node_row (plain 4) 0) n k d ≡ rows_in (node_row (full known u) 0) n k d
-unfolding rows_in
-same_node_rows known u n k d = same_after (there n (items_in k d)) (rows (node_row (plain 4) 0)) (rows (node_row (full known u) 0)) (λ ds. same_rows (λ _. node_row (plain 4) 0) (λ _. node_row (full known u) 0) 0 ds (λ _ x. same_node_row known u 0 x))
-
-wire_name : (s : Scope) (n : ℕ) (d : Data) (w : WireSketch) → wire_at s n d ≡ Ok w → name_in s n (codes "name") d ≡ Ok w.name
-unfolding wire_at
-wire_name s n d w h =
-    let (name, is_name, h1) = bind_ok (name_in s n (codes "name") d) _ w h in
-    let (a, _, h2) = bind_ok (wire_end s n d 0) _ w h1 in
-    let (b, _, h3) = bind_ok (wire_end s n d 1) _ w h2 in
-    let (_, _, h4) = bind_ok (unless 3 (cond (has_third (codes "ends") d) (Some n) None)) _ w h3 in
-    let (delay, _, h5) = bind_ok (number_in s n (codes "delay") d 1 100000) _ w h4 in
-    let (life, _, h6) = bind_ok (number_in s n (codes "life") d 1 100000) _ w h5 in
-    let (largest, _, h7) = bind_ok (number_in s n (codes "largest") d 1 65535) _ w h6 in
-    let (storm, _, h8) = bind_ok (storm_or s n (get (codes "storm") d)) _ w h7 in
-    let whole : record { name = name; a = a; b = b; delay = delay; life = life; largest = largest; storm = storm } ≡ w = ok_is _ _ h8 in
-    subst (λ (x : WireSketch). name_in s n (codes "name") d ≡ Ok x.name) whole is_name
-
--- items whose name is read first have the same names in both readings
-same_names : {A : Type 0} (name : A → List ℕ) (at : Scope → ℕ → Data → Result A StackError) → ((s : Scope) (n : ℕ) (d : Data) (x : A) → at s n d ≡ Ok x → name_in s n (codes "name") d ≡ Ok (name x))
-    → (known : Sketch) (u : Option ℕ) (k : ℕ) (ts : List Data) (vs ws : List A) → traverse (at (plain 4)) k ts ≡ Ok vs → traverse (at (full known u)) k ts ≡ Ok ws → map name vs ≡ map name ws
-unfolding traverse
-same_names name at each known u k [] vs ws hv hw =
-    let one : vs ≡ [] = cc in
-    let two : ws ≡ [] = cc in
-    rw (one, two) refl
-same_names name at each known u k (t ∷ ts) vs ws hv hw =
-    let (v, is_v, more_v) = bind_ok (at (plain 4) k t) _ vs hv in
-    let (vs', are_v, whole_v) = bind_ok (traverse (at (plain 4)) (k + 1) ts) _ vs more_v in
-    let (w, is_w, more_w) = bind_ok (at (full known u) k t) _ ws hw in
-    let (ws', are_w, whole_w) = bind_ok (traverse (at (full known u)) (k + 1) ts) _ ws more_w in
-    let names = sym (each (plain 4) k t v is_v) ∙ same_name_in known u k (codes "name") t ∙ each (full known u) k t w is_w in
-    let same : name v ≡ name w = cc names in
-    let rest = same_names name at each known u (k + 1) ts vs' ws' are_v are_w in
-    let one : v ∷ vs' ≡ vs = cc in
-    let two : w ∷ ws' ≡ ws = cc in
-    rw (← one, ← two, same, rest) refl
-
-same_tables : (a b : List Data) (d : Data) → tables_in 0 (codes "wire") d ≡ Ok a → tables_in 0 (codes "wire") d ≡ Ok b → a ≡ b
-same_tables a b d one two = cc (sym one ∙ two)
-
-same_dif_tables : (a b : List Data) (d : Data) → tables_in 0 (codes "dif") d ≡ Ok a → tables_in 0 (codes "dif") d ≡ Ok b → a ≡ b
-same_dif_tables a b d one two = cc (sym one ∙ two)
 
 -- ---- the plan
 
@@ -349,28 +233,12 @@ same_narrow_names : (ws : List WireSketch) → names_of (map narrow ws) ≡ wire
 same_narrow_names [] = refl
 same_narrow_names (w ∷ ws) = ap (λ ts. w.name ∷ ts) (same_narrow_names ws)
 
-same_count : {A B C : Type 0} (f : ℕ → A → Result B StackError) (g : ℕ → A → Result C StackError) (k m : ℕ) (xs : List A) (ys : List B) (zs : List C) → traverse f k xs ≡ Ok ys → traverse g m xs ≡ Ok zs → length ys ≡ length zs
-unfolding traverse
-same_count f g k m [] ys zs hy hz =
-    let one : ys ≡ [] = cc in
-    let two : zs ≡ [] = cc in
-    rw (one, two) refl
-same_count f g k m (x ∷ xs) ys zs hy hz =
-    let (y, _, more_y) = bind_ok (f k x) _ ys hy in
-    let (ys', are_y, _) = bind_ok (traverse f (k + 1) xs) _ ys more_y in
-    let (z, _, more_z) = bind_ok (g m x) _ zs hz in
-    let (zs', are_z, _) = bind_ok (traverse g (m + 1) xs) _ zs more_z in
-    let one : y ∷ ys' ≡ ys = cc in
-    let two : z ∷ zs' ≡ zs = cc in
-    let rest = same_count f g (k + 1) (m + 1) xs ys' zs' are_y are_z in
-    rw (← one, ← two) (grind (arith, rest))
-
 -- what a stack that was read, resolved and tried has
 pub record Resolved (known : List ℕ → Bool) (d : Data) (s : Sketch) : Type 0 where
   unbroken_rules : NoneBroken s
   nodes_differ : AreDistinct s.nodes
   wires_differ : AreDistinct (wire_names s.wires)
-  wires : All (IsSoundSketch (length s.nodes)) s.wires
+  wires : All (IsRangedWire (length s.nodes)) s.wires
   difs : All (IsRangedDif (length s.nodes) (length s.wires) (length s.difs)) s.difs
   difs_differ : AreDistinct (dif_names s.difs)
   labels_differ : AreDistinct (labels s.difs)
@@ -382,6 +250,7 @@ resolved known d named s t t' is_named five is_s rest =
     let u = unknown_item known named in
     let before = parts (plain 4) d named is_named in
     let after = parts (full named u) d s is_s in
+    let ranged = sound named u d s is_s in
     let single = once named (unbroken 5 (twin_fault named) t five) in
     let nodes_both = sym before.nodes ∙ same_node_rows named u 0 (codes "nodes") d ∙ after.nodes in
     let nodes : named.nodes ≡ s.nodes = cc nodes_both in
@@ -399,14 +268,13 @@ resolved known d named s t t' is_named five is_s rest =
       unbroken_rules = unbroken_all s t' rest;
       nodes_differ = subst AreDistinct nodes (distinct named.nodes single.nodes);
       wires_differ = subst AreDistinct names (front_differs (wire_names named.wires) (dif_names named.difs) all_differ);
-      wires = subst (λ (ns : List (List ℕ)). All (IsSoundSketch (length ns)) s.wires) nodes (all_read (IsSoundSketch (length named.nodes)) (wire_at (full named u)) 1 after.wire_tables s.wires (λ n x y. wire_7 named u n x y) after.wires);
+      wires = subst (λ (ns : List (List ℕ)). All (IsRangedWire (length ns)) s.wires) nodes ranged.wires;
       difs = subst (λ (m : ℕ). All (IsRangedDif m (length s.wires) (length s.difs)) s.difs) (ap length nodes)
           (subst (λ (m : ℕ). All (IsRangedDif (length named.nodes) m (length s.difs)) s.difs) wire_count
-          (subst (λ (m : ℕ). All (IsRangedDif (length named.nodes) (length named.wires) m) s.difs) dif_count
-          (all_read (IsRangedDif (length named.nodes) (length named.wires) (length named.difs)) (dif_at (full named u)) (1 + length after.wire_tables) after.dif_tables s.difs (λ n x y. dif_7 named u n x y) after.difs)));
+          (subst (λ (m : ℕ). All (IsRangedDif (length named.nodes) (length named.wires) m) s.difs) dif_count ranged.difs));
       difs_differ = subst AreDistinct named_difs (back_differs (wire_names named.wires) (dif_names named.difs) all_differ);
       labels_differ = subst AreDistinct (same_labels named u (1 + length after.wire_tables) after.dif_tables named.difs s.difs behind after.difs) (distinct (labels named.difs) single.labels);
-      named = all_read IsNamed (dif_at (full named u)) (1 + length after.wire_tables) after.dif_tables s.difs (λ n x y. named_7 named u n x y) after.difs;
+      named = ranged.are_named;
     }
 
 pub narrows : (known : List ℕ → Bool) (d : Data) (s : Sketch) → Resolved known d s → All (λ (w : WireSketch). (w.a < 2 ^ 16) × (w.b < 2 ^ 16)) s.wires
@@ -414,7 +282,7 @@ narrows known d s r = λ k e within.
     let w = r.wires k e within in
     (omega (arith, w.a, r.unbroken_rules.few_nodes), omega (arith, w.b, r.unbroken_rules.few_nodes))
 
-wire_planned : (nodes : ℕ) (w : WireSketch) → IsSoundSketch nodes w → (w.a ≢ w.b) × (w.delay + spread_of w.storm ≤ w.life) → IsSoundWire nodes (narrow w)
+wire_planned : (nodes : ℕ) (w : WireSketch) → IsRangedWire nodes w → (w.a ≢ w.b) × (w.delay + spread_of w.storm ≤ w.life) → IsSoundWire nodes (narrow w)
 wire_planned nodes w s h = record {
   a = s.a;
   b = s.b;
