@@ -25,8 +25,10 @@ use Rattle.rina_runnable.specs.Runnable.{is_stormy, is_ruled, unready_item, unre
 use Rattle.rina_sound.proofs.Inversion.{bind_ok, ok_is, unbroken}
 use Rattle.rina_sound.proofs.SoundDif.{over4}
 use Rattle.rina_sound.proofs.Reading.{parts}
+use Rattle.rina_sound.proofs.Unbroken.{no_more}
+use Rattle.rina_sound.proofs.Distinct.{neither}
 use Rattle.rina_stack.specs.Plan.{IsPlan}
-use Rattle.rina_stack.proofs.Sound.{no_more, neither, is_plan}
+use Rattle.rina_stack.proofs.Sound.{is_plan}
 
 -- what each row is that has a property, all are
 all_read_of : {A B : Type 0} (Q : A → Type 0) (P : B → Type 0) (f : ℕ → A → Result B StackError) (k : ℕ) (xs : List A) (ys : List B) → All Q xs → ((n : ℕ) (x : A) (y : B) → Q x → f n x ≡ Ok y → P y) → traverse f k xs ≡ Ok ys → All P ys

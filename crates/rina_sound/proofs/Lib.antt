@@ -4,3 +4,6 @@ pub mod SoundWire
 pub mod Reading
 pub mod SameNames
 pub mod LabelsOfFlows
+pub mod Unbroken
+pub mod Distinct
+pub mod Tried

@@ -1,6 +1,5 @@
 -- What holds of each plan.
-use Rattle.std.specs.Prelude.{Bool, false, ◌≡◌, ℕ, ◌≢◌, ◌<◌, ◌≤◌, List, All, length, map, slice_index_or, Ok}
-use Rattle.std.specs.List.{AllPairs}
+use Rattle.std.specs.Prelude.{◌≡◌, ℕ, ◌≢◌, ◌<◌, ◌≤◌, List, All, length, map, slice_index_or, Ok}
 use Rattle.rina_base.specs.Names.{name_at}
 use Rattle.rina_cube.specs.Cubes.{IsCube}
 use Rattle.rina_plan.specs.declared.dif.DifPlan.{DifPlan}
@@ -11,12 +10,9 @@ use Rattle.rina_plan.specs.Walks.{IsCarriedFlow, IsCarriedLink}
 use Rattle.rina_plan.specs.Counts.{links_of, load_of, IsRoomy}
 use Rattle.rina_rules.specs.Rules.{labels}
 use Rattle.rina_sound.specs.Ranges.{IsRangedDif, HasNames}
+use Rattle.rina_sound.specs.Unbroken.{AreDistinct, NoDif}
 use Rattle.rina_stack.specs.declared.plan.WirePlan.{WirePlan}
 use Rattle.rina_stack.specs.declared.plan.Plan.{Plan}
-
--- no text stands there twice
-abbrev pub AreDistinct : List (List ℕ) → Type 0
-AreDistinct ts = AllPairs (λ t u. t ≢ u) ts
 
 -- a wire among so many nodes: it joins two of them, and its numbers are in range
 pub record IsSoundWire (nodes : ℕ) (w : WirePlan) : Type 0 where
@@ -35,10 +31,6 @@ names_of wires = map (λ (w : WirePlan). w.name) wires
 -- what the rules on DIFs ask of a wire
 abbrev pub wire_ends : WirePlan → WireEnds
 wire_ends w = record { a = w.a; b = w.b; largest = w.largest }
-
--- no DIF passes
-abbrev pub NoDif : (DifPlan → Bool) → List DifPlan → Type 0
-NoDif p difs = All (λ d. p d ≡ false) difs
 
 -- What holds of each plan that was read. There are at most 64 nodes, 128 wires and 16 DIFs, and the names of nodes, of wires and of DIFs differ; the
 -- names of DIFs and of the applications of flows are names, so that no slash stands in them; no two labels of flows are alike; each wire is sound; and of

@@ -92,11 +92,11 @@ pub fn stack_of<P: Policies>(alloc: Global, policies: &P, stack: &Value) -> Resu
 {
     let odd = key_fault(stack)?;
     check(2, odd)?;
-    let _typed = plain(alloc, 3, stack)?;
+    plain(alloc, 3, stack)?;
     let named = plain(alloc, 4, stack)?;
     let twin = named_twice(alloc, &named)?;
     check(5, twin)?;
-    let _ranged = plain(alloc, 6, stack)?;
+    plain(alloc, 6, stack)?;
     let sketch = resolved(alloc, policies, &named, stack)?;
     check_rules(alloc, &sketch)?;
     Ok(plan(alloc, sketch)?)
