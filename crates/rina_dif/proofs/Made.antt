@@ -17,7 +17,8 @@ use Rattle.rina_plan.specs.declared.dif.MemberPlan.{MemberPlan}
 use Rattle.rina_queue.specs.declared.queue.Queued.{Queued}
 use Rattle.rina_queue.proofs.Places.{kept_at}
 use Rattle.rina_stack.specs.declared.plan.Plan.{Plan}
-use Rattle.rina_stack.specs.Plan.{IsPlan, IsRangedDif, IsSoundLink}
+use Rattle.rina_sound.specs.Ranges.{IsRangedDif, IsSoundLink}
+use Rattle.rina_stack.specs.Plan.{IsPlan}
 use Rattle.rina_data.specs.declared.link.Link.{Link}
 use Rattle.rina_data.specs.declared.process.IpcProcess.{IpcProcess}
 use Rattle.rina_data.specs.declared.settings.Member.{Member as Kept}

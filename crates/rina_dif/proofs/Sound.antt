@@ -15,7 +15,9 @@ use Rattle.rina_plan.specs.declared.dif.WireEnds.{WireEnds}
 use Rattle.rina_plan.specs.Difs.{has_twice, is_misaddressed, is_misfit, is_misplaced, most_of}
 use Rattle.rina_plan.specs.Links.{has_crossed_link, is_crossed_link, is_member, is_there, rank_of}
 use Rattle.rina_stack.specs.declared.plan.Plan.{Plan}
-use Rattle.rina_stack.specs.Plan.{AreDistinct, IsPlan, IsRangedDif, wire_ends}
+use Rattle.rina_sound.specs.Ranges.{IsRangedDif}
+use Rattle.rina_sound.specs.Unbroken.{AreDistinct}
+use Rattle.rina_stack.specs.Plan.{IsPlan, wire_ends}
 use Rattle.rina_data.specs.Cloud.{IsMine}
 use Rattle.rina_data.specs.Configs.{config_of, member_of as config_member}
 use Rattle.rina_data.specs.Dif.{Member}

@@ -3,7 +3,8 @@ ghost use Rattle.std.specs.Prelude.{◌≡◌, ◌+◌, ◌-◌, ◌*◌, ◌^�
 ghost use Rattle.rina_pci.specs.Spelling.{IsWidth};
 ghost use Rattle.rina_plan.specs.declared.dif.DifPlan.{DifPlan};
 ghost use Rattle.rina_plan.specs.declared.dif.MemberPlan.{MemberPlan};
-ghost use Rattle.rina_stack.specs.Plan.{IsLower, IsPlan};
+ghost use Rattle.rina_sound.specs.Ranges.{IsLower};
+ghost use Rattle.rina_stack.specs.Plan.{IsPlan};
 ghost use Rattle.rina_dif.specs.Planned.{ipc_name, link_fixed, lower_fac, member_of, members_from, number_of, settings_by};
 
 use rina_base::{AppName, Memory, Seq};

@@ -12,7 +12,8 @@ use Rattle.rina_plan.specs.declared.dif.Lower.TheVariants.{Dif}
 use Rattle.rina_plan.specs.Links.{rank_in, rank_of as rank_in_stack}
 use Rattle.rina_policy.specs.Slots.{Slot}
 use Rattle.rina_stack.specs.declared.plan.Plan.{Plan}
-use Rattle.rina_stack.specs.Plan.{AreDistinct, IsPlan}
+use Rattle.rina_sound.specs.Unbroken.{AreDistinct}
+use Rattle.rina_stack.specs.Plan.{IsPlan}
 use Rattle.rina_rules.specs.Rules.{labels}
 use Rattle.rina_dif.specs.Planned.{number_of}
 use Rattle.rina_wire.proofs.Kept.{is_mapped}

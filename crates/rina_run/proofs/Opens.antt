@@ -16,7 +16,8 @@ use Rattle.rina_plan.specs.declared.dif.Lower.{Lower}
 use Rattle.rina_plan.specs.declared.dif.Lower.TheVariants.{Wire, Dif}
 use Rattle.rina_plan.specs.Links.{rank_in}
 use Rattle.rina_stack.specs.declared.plan.Plan.{Plan}
-use Rattle.rina_stack.specs.Plan.{IsLower, IsPlan, IsRangedDif, IsSoundLink}
+use Rattle.rina_sound.specs.Ranges.{IsLower, IsRangedDif, IsSoundLink}
+use Rattle.rina_stack.specs.Plan.{IsPlan}
 use Rattle.rina_dif.specs.Planned.{link_fixed, links_in, number_of}
 use Rattle.rina_tower.specs.declared.tower.Tower.{Tower}
 use Rattle.rina_tower.specs.Building.{IsBuilt}

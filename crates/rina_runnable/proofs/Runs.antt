@@ -19,12 +19,16 @@ use Rattle.rina_rows.specs.Items.{unknown_at, widths_in, manage_in, dif_at, sket
 use Rattle.rina_stack.specs.declared.plan.Plan.{Plan}
 use Rattle.rina_rules.specs.Rules.{twin_fault}
 use Rattle.rina_rules.specs.Order.{rules_at}
-use Rattle.rina_stack.specs.Stack.{plain, full, plan_of, unknown_item, resolved_at, stack_at}
+use Rattle.rina_sound.specs.Scopes.{plain, full}
+use Rattle.rina_stack.specs.Stack.{plan_of, unknown_item, resolved_at, stack_at}
 use Rattle.rina_runnable.specs.Runnable.{is_stormy, is_ruled, unready_item, unready_key, is_yes, is_dynamic, first_dynamic, item_of, unready_type, runnable_at, IsRunnableDif, IsRunnable}
-use Rattle.rina_stack.proofs.Inversion.{bind_ok, ok_is, unbroken}
-use Rattle.rina_stack.proofs.SoundDif.{over4}
+use Rattle.rina_sound.proofs.Inversion.{bind_ok, ok_is, unbroken}
+use Rattle.rina_sound.proofs.SoundDif.{over4}
+use Rattle.rina_sound.proofs.Reading.{parts}
+use Rattle.rina_sound.proofs.Unbroken.{no_more}
+use Rattle.rina_sound.proofs.Distinct.{neither}
 use Rattle.rina_stack.specs.Plan.{IsPlan}
-use Rattle.rina_stack.proofs.Sound.{no_more, neither, parts, is_plan}
+use Rattle.rina_stack.proofs.Sound.{is_plan}
 
 -- what each row is that has a property, all are
 all_read_of : {A B : Type 0} (Q : A → Type 0) (P : B → Type 0) (f : ℕ → A → Result B StackError) (k : ℕ) (xs : List A) (ys : List B) → All Q xs → ((n : ℕ) (x : A) (y : B) → Q x → f n x ≡ Ok y → P y) → traverse f k xs ≡ Ok ys → All P ys

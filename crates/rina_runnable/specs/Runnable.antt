@@ -11,7 +11,8 @@ use Rattle.rina_rows.specs.declared.sketch.Sketch.{Sketch}
 use Rattle.rina_rows.specs.Items.{sketch_at}
 use Rattle.rina_stack.specs.declared.plan.Plan.{Plan}
 use Rattle.rina_rules.specs.Rules.{earlier}
-use Rattle.rina_stack.specs.Stack.{plain, stack_at, ReadsBy}
+use Rattle.rina_sound.specs.Scopes.{plain}
+use Rattle.rina_stack.specs.Stack.{stack_at, ReadsBy}
 
 abbrev pub is_stormy : Data → Bool
 is_stormy d = is_some (get (codes "storm") d)

@@ -3,12 +3,13 @@ ghost use Rattle.std.specs.Prelude.{◌≡◌, ◌<◌, Ok, length, map, positio
 ghost use Rattle.toml.specs.View.{view};
 ghost use Rattle.rina_table.specs.Faults.{Gives};
 ghost use Rattle.rina_rows.specs.Items.{sketch_at};
-ghost use Rattle.rina_stack.specs.Stack.{plain};
+ghost use Rattle.rina_sound.specs.Scopes.{plain};
 ghost use Rattle.rina_stack.specs.Plan.{IsPlan};
 ghost use Rattle.rina_runnable.specs.Runnable.{is_stormy, is_ruled, is_dynamic, unready_item, unready_key, first_dynamic, item_of, unready_type, runnable_at, ReadsRunnable, IsRunnable};
 
 use rina_rules::earlier;
-use rina_stack::{Plan, Policies, plain, stack_of};
+use rina_sound::plain;
+use rina_stack::{Plan, Policies, stack_of};
 use rina_table::{StackError, check, first_behind, items_at, key_fault};
 use std::alloc::Global;
 use toml::Value;

@@ -1,6 +1,3 @@
-pub mod Inversion
-pub mod SoundDif
-pub mod LabelsOfFlows
 pub mod Sound
 pub mod NamesOfDifs
 pub mod Shelves

@@ -1,15 +1,7 @@
 -- What holds of each plan.
-use Rattle.std.specs.Prelude.{Bool, false, ◌≡◌, ℕ, ◌≢◌, ◌<◌, ◌≤◌, List, All, length, map, slice_index_or, Ok}
-use Rattle.std.specs.List.{AllPairs}
+use Rattle.std.specs.Prelude.{◌≡◌, ℕ, ◌≢◌, ◌<◌, ◌≤◌, List, All, length, map, slice_index_or, Ok}
 use Rattle.rina_base.specs.Names.{name_at}
-use Rattle.rina_cube.specs.declared.Cube.{Cube}
 use Rattle.rina_cube.specs.Cubes.{IsCube}
-use Rattle.rina_pci.specs.Spelling.{AreWidths}
-use Rattle.rina_plan.specs.declared.dif.MemberPlan.{MemberPlan}
-use Rattle.rina_plan.specs.declared.dif.Lower.{Lower}
-use Rattle.rina_plan.specs.declared.dif.Lower.TheVariants.{Wire, Dif}
-use Rattle.rina_plan.specs.declared.dif.LinkPlan.{LinkPlan}
-use Rattle.rina_plan.specs.declared.dif.FlowPlan.{FlowPlan}
 use Rattle.rina_plan.specs.declared.dif.DifPlan.{DifPlan}
 use Rattle.rina_plan.specs.declared.dif.WireEnds.{WireEnds}
 use Rattle.rina_plan.specs.Difs.{lacks_lower, lacks_cubes, is_misplaced, is_misfit, has_oversized}
@@ -17,12 +9,10 @@ use Rattle.rina_plan.specs.Links.{is_misused, has_crossed_link, is_uncarried}
 use Rattle.rina_plan.specs.Walks.{IsCarriedFlow, IsCarriedLink}
 use Rattle.rina_plan.specs.Counts.{links_of, load_of, IsRoomy}
 use Rattle.rina_rules.specs.Rules.{labels}
+use Rattle.rina_sound.specs.Ranges.{IsRangedDif, HasNames}
+use Rattle.rina_sound.specs.Unbroken.{AreDistinct, NoDif}
 use Rattle.rina_stack.specs.declared.plan.WirePlan.{WirePlan}
 use Rattle.rina_stack.specs.declared.plan.Plan.{Plan}
-
--- no text stands there twice
-abbrev pub AreDistinct : List (List ℕ) → Type 0
-AreDistinct ts = AllPairs (λ t u. t ≢ u) ts
 
 -- a wire among so many nodes: it joins two of them, and its numbers are in range
 pub record IsSoundWire (nodes : ℕ) (w : WirePlan) : Type 0 where
@@ -41,56 +31,6 @@ names_of wires = map (λ (w : WirePlan). w.name) wires
 -- what the rules on DIFs ask of a wire
 abbrev pub wire_ends : WirePlan → WireEnds
 wire_ends w = record { a = w.a; b = w.b; largest = w.largest }
-
--- a link is on a wire or DIF that is there
-abbrev pub IsLower : ℕ → ℕ → Lower → Type 0
-IsLower wires difs (Wire i) = i < wires
-IsLower wires difs (Dif i) = i < difs
-
--- a link among so many nodes, wires and DIFs
-pub record IsSoundLink (nodes wires difs : ℕ) (l : LinkPlan) : Type 0 where
-  pub on : IsLower wires difs l.on
-  pub a : l.a < nodes
-  pub b : l.b < nodes
-  pub least_weight : 1 ≤ l.weight
-  pub weight : l.weight ≤ 65535
-
--- the numbers of a cube are in range; whether its times fit its kind is another question
-pub record IsRangedCube (c : Cube) : Type 0 where
-  pub least_mpl : 1 ≤ c.mpl
-  pub mpl : c.mpl ≤ 1000000
-  pub r : c.r ≤ 1000000
-  pub a : c.a ≤ 1000000
-  pub retry : c.retry ≤ 1000000
-  pub least_window : 1 ≤ c.window
-  pub window : c.window ≤ 256
-  pub least_largest : 1 ≤ c.largest
-  pub largest : c.largest ≤ 65535
-
--- a DIF among so many nodes, wires and DIFs: its numbers are in range, and what it refers to is there
-pub record IsRangedDif (nodes wires difs : ℕ) (d : DifPlan) : Type 0 where
-  pub least_rank : 1 ≤ d.rank
-  pub rank : d.rank ≤ 8
-  pub least_pdu : 18 ≤ d.pdu
-  pub pdu : d.pdu ≤ 4096
-  pub widths : AreWidths d.widths
-  pub least_queue : 1 ≤ d.queue
-  pub queue : d.queue ≤ 256
-  pub least_wait : 1 ≤ d.wait
-  pub wait : d.wait ≤ 1000000
-  pub manage : IsRangedCube d.manage
-  pub cubes : All IsRangedCube d.cubes
-  pub members : All (λ (m : MemberPlan). m.node < nodes) d.members
-  pub links : All (IsSoundLink nodes wires difs) d.links
-  pub flows : All (λ (f : FlowPlan). (f.from.node < nodes) × (f.to.node < nodes)) d.flows
-
--- the applications of a flow are names
-abbrev pub HasNames : FlowPlan → Type 0
-HasNames f = (name_at f.from.app ≡ Ok f.from.app) × (name_at f.to.app ≡ Ok f.to.app)
-
--- no DIF passes
-abbrev pub NoDif : (DifPlan → Bool) → List DifPlan → Type 0
-NoDif p difs = All (λ d. p d ≡ false) difs
 
 -- What holds of each plan that was read. There are at most 64 nodes, 128 wires and 16 DIFs, and the names of nodes, of wires and of DIFs differ; the
 -- names of DIFs and of the applications of flows are names, so that no slash stands in them; no two labels of flows are alike; each wire is sound; and of

@@ -1,5 +1,5 @@
 -- The plan of a table, or the first rule that it breaks.
-use Rattle.std.specs.Prelude.{◌≡◌, ℕ, ◌+◌, Bool, List, [], length, map, Option, Some, None, Result, Ok, Err, option_map, IsUtf8, position}
+use Rattle.std.specs.Prelude.{◌≡◌, ℕ, ◌+◌, Bool, List, length, map, Option, Some, Result, Ok, Err, option_map, IsUtf8}
 use Rattle.toml.specs.Data.{Data, table, Members}
 use Rattle.toml.specs.Parse.{parse_document}
 use Rattle.rina_base.specs.Traverse.{◌>>=◌}
@@ -7,23 +7,15 @@ use Rattle.rina_stack.specs.declared.plan.WirePlan.{WirePlan}
 use Rattle.rina_stack.specs.declared.plan.Plan.{Plan}
 use Rattle.rina_table.specs.declared.error.StackError.{StackError}
 use Rattle.rina_table.specs.declared.error.StackError.TheVariants.{Memory, NotToml, StackRule}
-use Rattle.rina_fields.specs.declared.scope.Scope.{Scope}
 use Rattle.rina_rows.specs.declared.sketch.WireSketch.{WireSketch}
 use Rattle.rina_rows.specs.declared.sketch.Sketch.{Sketch}
 use Rattle.rina_table.specs.Faults.{unless}
 use Rattle.rina_table.specs.Keys.{keys_fault}
 use Rattle.rina_rows.specs.Items.{sketch_at}
 use Rattle.rina_stack.specs.Policies.{unknown_policy}
-use Rattle.rina_rules.specs.Rules.{wire_names, dif_names, twin_fault}
+use Rattle.rina_rules.specs.Rules.{twin_fault}
 use Rattle.rina_rules.specs.Order.{rules_at}
-
--- rules up to `upto` are tried, of those that speak of one value, and no name is looked up
-abbrev pub plain : ℕ → Scope
-plain upto = record { upto = upto; nodes = []; wires = []; difs = []; unknown = None }
-
--- all such rules are tried, and names are looked up among those of the stack
-abbrev pub full : Sketch → Option ℕ → Scope
-full named unknown = record { upto = 7; nodes = named.nodes; wires = wire_names named.wires; difs = dif_names named.difs; unknown = unknown }
+use Rattle.rina_sound.specs.Scopes.{plain, full}
 
 -- the item of the first DIF whose policy is not known
 abbrev pub unknown_item : (List ℕ → Bool) → Sketch → Option ℕ

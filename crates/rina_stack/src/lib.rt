@@ -8,6 +8,6 @@ mod shelf;
 
 pub use plan::{Plan, WirePlan};
 pub use policies::{BuiltIn, Policies};
-pub use read::{plain, read_stack, stack_of};
+pub use read::{read_stack, stack_of};
 pub use rina_rows::{Rounds, Storm};
 pub use rina_table::StackError;

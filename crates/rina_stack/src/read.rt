@@ -4,32 +4,19 @@ ghost use Rattle.toml.specs.View.{view};
 ghost use Rattle.rina_rows.specs.declared.sketch.WireSketch.{WireSketch};
 ghost use Rattle.rina_table.specs.Faults.{Gives};
 ghost use Rattle.rina_rows.specs.Items.{sketch_at};
-ghost use Rattle.rina_stack.specs.Stack.{plain, full, narrow, plan_of, unknown_item, resolved_at, stack_at, Reads};
+ghost use Rattle.rina_sound.specs.Scopes.{plain, full};
+ghost use Rattle.rina_stack.specs.Stack.{narrow, plan_of, unknown_item, resolved_at, stack_at, Reads};
 ghost use Rattle.rina_stack.specs.Plan.{IsPlan};
 
 use crate::plan::{Plan, WirePlan};
 use crate::policies::{Policies, first_unknown};
 use rina_base::{Memory, Seq};
-use rina_fields::{Places, Scope};
-use rina_rows::{Sketch, WireSketch, read_sketch};
-use rina_rules::{check_rules, named_twice, names_of_difs, names_of_wires, texts_of};
+use rina_rows::{Sketch, WireSketch};
+use rina_rules::{check_rules, named_twice};
+use rina_sound::{full, plain};
 use rina_table::{StackError, check, first_behind, key_fault};
 use std::alloc::Global;
 use toml::Value;
-
-/// The stack of a table, where what breaks a later rule than `upto` is let through; no reference is resolved.
-pub fn plain(alloc: Global, upto: u32, stack: &Value) -> Result<Sketch, StackError>
-    ensures { Gives (λ s. s) result (sketch_at (plain upto) (view stack.now)) }
-{
-    let scope = Scope {
-        upto,
-        nodes: Places::of(alloc, Vec::new(alloc))?,
-        wires: Places::of(alloc, Vec::new(alloc))?,
-        difs: Places::of(alloc, Vec::new(alloc))?,
-        unknown: None,
-    };
-    read_sketch(alloc, &scope, stack)
-}
 
 /// The item of the first DIF whose policy nobody knows.
 fn unknown_of<P: Policies>(policies: &P, named: &Sketch) -> Result<Option<usize>, StackError>
@@ -54,17 +41,7 @@ fn resolved<P: Policies>(
     ensures { Gives (λ s. s) result (resolved_at (P.knows policies.now) named.now (view stack.now)) }
 {
     let unknown = unknown_of(policies, named)?;
-    let nodes = texts_of(alloc, named.nodes.as_slice())?;
-    let wires = names_of_wires(alloc, named.wires.as_slice())?;
-    let difs = names_of_difs(alloc, named.difs.as_slice())?;
-    let scope = Scope {
-        upto: 7,
-        nodes: Places::of(alloc, nodes)?,
-        wires: Places::of(alloc, wires)?,
-        difs: Places::of(alloc, difs)?,
-        unknown,
-    };
-    read_sketch(alloc, &scope, stack)
+    full(alloc, named, unknown, stack)
 }
 
 fn narrow(alloc: Global, wire: &WireSketch) -> Result<WirePlan, Memory>
@@ -115,11 +92,11 @@ pub fn stack_of<P: Policies>(alloc: Global, policies: &P, stack: &Value) -> Resu
 {
     let odd = key_fault(stack)?;
     check(2, odd)?;
-    let _typed = plain(alloc, 3, stack)?;
+    plain(alloc, 3, stack)?;
     let named = plain(alloc, 4, stack)?;
     let twin = named_twice(alloc, &named)?;
     check(5, twin)?;
-    let _ranged = plain(alloc, 6, stack)?;
+    plain(alloc, 6, stack)?;
     let sketch = resolved(alloc, policies, &named, stack)?;
     check_rules(alloc, &sketch)?;
     Ok(plan(alloc, sketch)?)

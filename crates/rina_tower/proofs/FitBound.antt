@@ -17,7 +17,8 @@ use Rattle.rina_plan.specs.declared.dif.DifPlan.{DifPlan}
 use Rattle.rina_plan.specs.declared.dif.FlowPlan.{FlowPlan}
 use Rattle.rina_plan.specs.Links.{rank_in}
 use Rattle.rina_stack.specs.declared.plan.Plan.{Plan}
-use Rattle.rina_stack.specs.Plan.{HasNames, IsPlan, IsRangedDif}
+use Rattle.rina_sound.specs.Ranges.{HasNames, IsRangedDif}
+use Rattle.rina_stack.specs.Plan.{IsPlan}
 use Rattle.rina_dif.specs.Laying.{BindsAll, CanBindAll}
 use Rattle.rina_dif.specs.Planned.{flows_in, flows_of}
 use Rattle.rina_tower.specs.declared.tower.Tower.{Tower}

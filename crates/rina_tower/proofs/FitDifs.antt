@@ -22,7 +22,8 @@ use Rattle.rina_plan.specs.Links.{carries, is_member as has_node, is_there, rank
 use Rattle.rina_plan.specs.Walks.{IsCarriedFlow}
 use Rattle.rina_pci.specs.Spelling.{IsWidth}
 use Rattle.rina_stack.specs.declared.plan.Plan.{Plan}
-use Rattle.rina_stack.specs.Plan.{IsPlan, IsRangedDif, wire_ends}
+use Rattle.rina_sound.specs.Ranges.{IsRangedDif}
+use Rattle.rina_stack.specs.Plan.{IsPlan, wire_ends}
 use Rattle.rina_tower.specs.Rooms.{ArePlaced, HasRoom, IsPlaced, ends_there}
 use Rattle.rina_tower.specs.Fitting.{DifsFit, IsFreshRank, flows_at, fresh_dif, links_at}
 use Rattle.rina_dif.specs.Planned.{flow_fixed, flows_in, flows_of, ipc_name, link_fixed, links_in, links_of, lower_fac, number_of}

@@ -16,7 +16,8 @@ use Rattle.rina_plan.specs.declared.dif.Lower.TheVariants.{Dif as IsDif}
 use Rattle.rina_plan.specs.Links.{rank_in, rank_of}
 use Rattle.rina_stack.specs.declared.plan.Plan.{Plan}
 use Rattle.rina_stack.specs.declared.plan.WirePlan.{WirePlan}
-use Rattle.rina_stack.specs.Plan.{IsPlan, IsRangedDif}
+use Rattle.rina_sound.specs.Ranges.{IsRangedDif}
+use Rattle.rina_stack.specs.Plan.{IsPlan}
 use Rattle.rina_data.proofs.Finding.{there}
 use Rattle.rina_data.proofs.Own.{map_at}
 use Rattle.rina_data.specs.declared.settings.Settings.{Settings}

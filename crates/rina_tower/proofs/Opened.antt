@@ -17,7 +17,8 @@ use Rattle.rina_iface.proofs.Changed.{all_at, slice_get-set_other, slice_get-set
 use Rattle.rina_plan.specs.declared.dif.DifPlan.{DifPlan}
 use Rattle.rina_plan.specs.declared.dif.FlowPlan.{FlowPlan}
 use Rattle.rina_stack.specs.declared.plan.Plan.{Plan}
-use Rattle.rina_stack.specs.Plan.{IsPlan, IsRangedDif}
+use Rattle.rina_sound.specs.Ranges.{IsRangedDif}
+use Rattle.rina_stack.specs.Plan.{IsPlan}
 use Rattle.rina_dif.specs.Laying.{BindsAll}
 use Rattle.rina_dif.specs.Planned.{flow_fixed, number_of}
 use Rattle.rina_tower.specs.declared.tower.Tower.{Tower, Wires, Rank'}

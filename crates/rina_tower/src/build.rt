@@ -2,7 +2,8 @@
 ghost use Rattle.std.specs.Prelude.{◌≡◌, false, ◌≤◌, ◌<◌, ◌==◌, ◌+◌, IfOk, OnOk, count_by, length, map, slice_get, Some, [], ◌∷◌};
 ghost use Rattle.rina_iface.specs.Bind.{CanBind};
 ghost use Rattle.rina_plan.specs.declared.dif.DifPlan.{DifPlan};
-ghost use Rattle.rina_stack.specs.Plan.{HasNames, IsPlan};
+ghost use Rattle.rina_sound.specs.Ranges.{HasNames};
+ghost use Rattle.rina_stack.specs.Plan.{IsPlan};
 ghost use Rattle.rina_dif.specs.Laying.{CanBindAll};
 ghost use Rattle.rina_dif.specs.Planned.{flow_fixed, number_of};
 ghost use Rattle.rina_tower.specs.Building.{IsBuilt};

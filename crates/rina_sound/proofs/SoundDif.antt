@@ -33,10 +33,10 @@ use Rattle.rina_table.specs.Values.{flag_or, items_or, rows_in, rows_or}
 use Rattle.rina_fields.specs.Fields.{name_in, number_in, number_or, as_width, width_in, node_in, lower_in}
 use Rattle.rina_rows.specs.Rows.{kind_in, widths_at, manage_at, cube_at, member_at, rule_at, link_at, end_at, flow_at}
 use Rattle.rina_rows.specs.Items.{unknown_at, widths_in, manage_in, dif_at}
-use Rattle.rina_stack.specs.Stack.{full}
+use Rattle.rina_sound.specs.Scopes.{full}
 use Rattle.rina_rules.specs.Rules.{wire_names, dif_names}
-use Rattle.rina_stack.specs.Plan.{IsLower, IsSoundLink, IsRangedCube, IsRangedDif, HasNames}
-use Rattle.rina_stack.proofs.Inversion.{bind_ok, ok_is, all_read, found_6, found_7, number_7, number_or_7, node_in_7, if_some, name_7}
+use Rattle.rina_sound.specs.Ranges.{IsLower, IsSoundLink, IsRangedCube, IsRangedDif, HasNames, IsNamed}
+use Rattle.rina_sound.proofs.Inversion.{bind_ok, ok_is, all_read, found_6, found_7, number_7, number_or_7, node_in_7, if_some, name_7}
 
 -- all rows of a list
 all_rows : {B : Type 0} (P : B → Type 0) (f : Data → Result B StackError) (n : ℕ) (k : List ℕ) (d : Data) (ys : List B) → ((x : Data) (y : B) → f x ≡ Ok y → P y) → rows_in f n k d ≡ Ok ys → All P ys
@@ -319,11 +319,7 @@ dif_parts s n d x h =
     let whole : record { name = name; rank = rank; is_static = is_static; pdu = pdu; widths = widths; queue = queue; policy = policy; wait = wait; manage = manage; cubes = cubes; members = members; allow = allow; rules = rules; links = links; flows = flows } ≡ x = ok_is _ _ h16 in
     subst P whole (record { name = is_name; flows = are_flows })))))
 
--- the names in a DIF are names
-pub record IsNamed (x : DifPlan) : Type 0 where
-  pub name : name_at x.name ≡ Ok x.name
-  pub flows : All HasNames x.flows
-
+-- the names that were read of a DIF are names
 pub named_7 : (known : Sketch) (u : Option ℕ) (n : ℕ) (d : Data) (x : DifPlan) → dif_at (full known u) n d ≡ Ok x → IsNamed x
 named_7 known u n d x h =
     let parts = dif_parts (full known u) n d x h in

@@ -1,5 +1,5 @@
 -- The labels of the flows of a stack: they are read alike whether references are resolved or not, and where two are alike a DIF has them.
-use Rattle.std.proofs.Common.{◌≡◌, ◌≢◌, ℕ, ◌+◌, ◌-◌, ◌*◌, ◌/◌, ◌<◌, nat_lt, Bool, true, false, cond, List, [], ◌∷◌, ◌++◌, length, Option, Some, None, Result, Ok, refl, sym, ap, ◌∙◌, arith, subst, length-append}
+use Rattle.std.proofs.Common.{◌≡◌, ◌≢◌, ℕ, ◌+◌, ◌-◌, ◌*◌, ◌/◌, ◌<◌, nat_lt, Bool, true, false, cond, List, [], ◌∷◌, ◌++◌, length, Option, Some, None, Result, Ok, refl, sym, ◌∙◌, arith, subst, length-append}
 use Rattle.std.specs.Prelude.{option_map, option_and_then, codes}
 use Rattle.std.proofs.lemmas.Bool.Decides.{nat_tests}
 use Rattle.toml.specs.Data.{Data, get}
@@ -16,9 +16,9 @@ use Rattle.rina_fields.specs.Fields.{named, name_in, number_in, node_in}
 use Rattle.rina_rows.specs.Rows.{end_at, flow_at}
 use Rattle.rina_rows.specs.Items.{dif_at}
 use Rattle.rina_rules.specs.Rules.{has_text, twin_after, twin_in, flow_labels, labels, owner_of, label_twin}
-use Rattle.rina_stack.specs.Stack.{plain, full}
-use Rattle.rina_stack.proofs.Inversion.{bind_ok, ok_is}
-use Rattle.rina_stack.proofs.SoundDif.{dif_parts}
+use Rattle.rina_sound.specs.Scopes.{plain, full}
+use Rattle.rina_sound.proofs.Inversion.{bind_ok, ok_is}
+use Rattle.rina_sound.proofs.SoundDif.{dif_parts}
 
 -- ---- both readings have the same labels
 

@@ -16,7 +16,7 @@ use Rattle.rina_fields.specs.Names.{place_in, as_name}
 use Rattle.std.specs.Result.{result_ok}
 use Rattle.rina_table.specs.Values.{integer_in, integer_or, text_in}
 use Rattle.rina_fields.specs.Fields.{is_between, as_number, ranged, number_in, number_or, named, name_in, node_named, node_in}
-use Rattle.rina_stack.specs.Stack.{plain, full}
+use Rattle.rina_sound.specs.Scopes.{plain, full}
 
 pub bind_ok : {A B : Type 0} (a : Result A StackError) (f : A → Result B StackError) (y : B) → (a >>= f) ≡ Ok y → (x : A) × (a ≡ Ok x) × (f x ≡ Ok y)
 bind_ok (Ok x) f y h = (x, refl, h)
