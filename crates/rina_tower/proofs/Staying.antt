@@ -20,8 +20,8 @@ use Rattle.rina_tower.specs.Walking.{AtDif, IsAtDif, SameBelow}
 
 -- A DIF
 
-pub same_links : (d d' : Dif) → d'.laid ≡ d.laid → d'.laid.links ≡ d.laid.links
-same_links d d' same = ap (λ (l : Layout). l.links) same
+pub same_links : (l l' : Layout) → l' ≡ l → l'.links ≡ l.links
+same_links l l' same = ap (λ (x : Layout). x.links) same
 
 -- A rank
 
