@@ -17,7 +17,6 @@ use Rattle.rina_data.specs.declared.step.Settled.TheVariants as settled
 use Rattle.rina_data.specs.declared.step.Took.{Took}
 use Rattle.rina_data.specs.declared.step.Took.TheVariants as took
 use Rattle.rina_data.specs.Cloud.{Hop}
-use Rattle.rina_data.specs.Configs.{config_of}
 use Rattle.rina_data.specs.Deciding.{Decides, IsRouted, process_of}
 use Rattle.rina_data.specs.Dif.{DifSeen, IsProcess, Member, Process, with_offs, with_process}
 use Rattle.rina_data.specs.Incoming.{Settles}

@@ -1,5 +1,5 @@
 -- The objects of an IPC process: what its RIB tells of its DIF, and what CDAP requests made.
-use Rattle.std.specs.Prelude.{◌≡◌, ℕ, ◌+◌, ◌==◌, ◌||◌, ◌&&◌, Bool, true, false, not, nat_lt, max, List, [], ◌∷◌, ◌++◌, codes, drop, filter, length, map, slice_get, Option, Some, None, is_some, unwrap_or, Result, Ok, Err, if◌then◌else◌}
+use Rattle.std.specs.Prelude.{◌≡◌, ℕ, ◌+◌, ◌==◌, ◌||◌, ◌&&◌, Bool, true, false, nat_lt, max, List, [], ◌∷◌, ◌++◌, codes, drop, filter, length, map, slice_get, Option, Some, None, is_some, unwrap_or, Result, Ok, Err, if◌then◌else◌}
 use Rattle.std.specs.Str.{bytes_eq}
 use Rattle.std.specs.List.{flat_map, fold, insert, position, zip}
 use Rattle.std.specs.Fmt.{decimal}

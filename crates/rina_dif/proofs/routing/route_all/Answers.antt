@@ -1,5 +1,5 @@
 -- One more has its next hops.
-use Rattle.std.proofs.Common.{◌∙◌, arith}
+use Rattle.std.proofs.Common.{arith}
 use Rattle.rina_dif.proofs.Routed.{all_routed, none_routed, turn_routed}
 use Rattle.rina_dif.proofs.routing.route_all.Goals as goal
 

@@ -1,4 +1,4 @@
-use Rattle.rina_dif.proofs.Asked.{kept_goes_on, kept_stands, kept_valid, noted, noted_asks, noted_keeps, same_keeps}
+use Rattle.rina_dif.proofs.Asked.{kept_goes_on, kept_stands, kept_valid, noted, noted_asks, noted_keeps}
 use Rattle.rina_dif.proofs.Facing.{same_goes_on}
 use Rattle.rina_dif.specs.Asking.{answer_of}
 use Rattle.std.proofs.Common.{refl}
