@@ -3,8 +3,6 @@ ghost use Rattle.std.specs.Prelude.{◌≡◌, ◌<◌, ◌^◌, All, Ok, IfOk, 
 ghost use Rattle.toml.specs.View.{view};
 ghost use Rattle.rina_rows.specs.declared.sketch.WireSketch.{WireSketch};
 ghost use Rattle.rina_table.specs.Faults.{Gives};
-ghost use Rattle.rina_rows.specs.Items.{sketch_at};
-ghost use Rattle.rina_sound.specs.Scopes.{plain, full};
 ghost use Rattle.rina_stack.specs.Stack.{narrow, plan_of, unknown_item, resolved_at, stack_at, Reads};
 ghost use Rattle.rina_stack.specs.Plan.{IsPlan};
 
