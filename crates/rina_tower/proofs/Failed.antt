@@ -1,6 +1,6 @@
 -- When memory was wanted and not found.
-use Rattle.std.proofs.Common.{◌≡◌, ◌∙◌, ℕ, ◌+◌, zero, suc, Bool, true, false, List, [], ◌∷◌, slice_get, slice_set, Some, Result, Err, refl, ap, subst}
-use Rattle.std.specs.Prelude.{◌||◌}
+use Rattle.std.proofs.Common.{◌≡◌, ◌∙◌, ℕ, ◌+◌, zero, suc, Bool, true, false, List, [], ◌∷◌, slice_get, slice_set, Some, Result, Ok, Err, refl, ap, subst}
+use Rattle.std.specs.Prelude.{◌||◌, OnErr}
 use Rattle.rina_wire.specs.Air.{Air, failed_air}
 use Rattle.rina_wire.specs.Tick.{TornBy}
 use Rattle.rina_dif.specs.declared.dif.Dif.{Dif}
@@ -10,6 +10,11 @@ use Rattle.rina_tower.specs.Failing.{has_failed, have_failed}
 use Rattle.rina_tower.specs.Rounds.{Follows}
 use Rattle.rina_tower.specs.Standing.{IsRank, IsTower}
 use Rattle.rina_tower.proofs.Serving.{beside_alone, rank_quiet}
+
+-- what holds anyway holds after an error
+pub on_err : {T E : Type 0} (r : Result T E) (X : Type 0) → X → OnErr r X
+on_err (Ok x) X h = tt
+on_err (Err e) X h = h
 
 or_first : (a b : Bool) → a ≡ true → a || b ≡ true
 or_first true b h = refl

@@ -1,5 +1,6 @@
 use Rattle.std.proofs.Common.{◌∙◌, ap, not, refl}
 use Rattle.rina_tower.specs.Rounds.{Letting, has_left, lets_no_more}
+use Rattle.rina_tower.proofs.Failed.{on_err}
 use Rattle.rina_tower.proofs.Answering.{any_place}
 use Rattle.rina_tower.proofs.Rounding.{follows_none, follows_on, follows_step, going_ends, going_more, going_none}
 use Rattle.rina_tower.proofs.tower.Tower.let_all.Goals as goal
@@ -35,7 +36,7 @@ steps-preserved g c =
     }
 
 pub returns-in_err-has_left-clause-fails : goal.returns-in_err-has_left-clause-fails
-returns-in_err-has_left-clause-fails g c = c.out_step_at-answer.ensures.fails c.in_err-has_left.ensures.memory
+returns-in_err-has_left-clause-fails g c = on_err c.from_residual.result _ (c.out_step_at-answer.ensures.fails c.in_err-has_left.ensures.memory)
 
 pub returns-clause-follows : goal.returns-clause-follows
 returns-clause-follows g c = follows_on c.args.self.now c.steps.self c.fail.new.self c.steps.invariant.follows c.fail.ensures.follows
