@@ -183,7 +183,7 @@ words fac k plan line (events.Clock dif node) w ns w' spared h d = at_site fac k
 words fac k plan line (events.Ledger dif node) w ns w' spared h d = accounting fac k plan line (dif_site_at plan dif node) w ns w' h d
 words fac k plan line (events.Cdap dif node bytes) w ns w' spared h d = at_site fac k (dif_site_at plan dif node) (CallsCdap bytes w) w d.says w' h d.does (λ site c. asking fac k bytes w site d.says w' h c)
 words fac k plan line (events.Rib dif node path) w ns w' spared h d = showing_rib fac k line path (dif_site_at plan dif node) w ns w' h d
-words fac k plan line event w ns w' spared h d = absurd d
+words fac k plan line event w ns w' spared h d = absurd d.does
 
 pub acts : (fac k : ℕ) (plan : Plan) (line : ℕ) (event : Event) (s : Stage) (ns : List Note) (s' : Stage) → (Touches plan fac k s.world event → ⊥) → Holds fac k s.world.tower → Acts plan line event s ns s' → Holds fac k s'.world.tower
 acts fac k plan line (events.Retire policy) s ns s' spared h d = subst (λ (v : World). Holds fac k v.tower) (sym d.world) h

@@ -67,7 +67,7 @@ words_keep lines V by sent got told plan number (events.Journal fac) w ns w' t i
 words_keep lines V by sent got told plan number (events.Ledger dif node) w ns w' t is v a k = accounting_keep V by told plan number (dif_site_at plan dif node) w ns w' (t.others number (events.Ledger dif node) is tt) a k
 words_keep lines V by sent got told plan number (events.Cdap dif node bytes) w ns w' t is v a k = quiet_says V by told number a.says ns w' (t.others number (events.Cdap dif node bytes) is tt) a.notes (keeps_cdap V told bytes w (dif_site_at plan dif node) a.says w' t.view a.does k)
 words_keep lines V by sent got told plan number (events.Rib dif node path) w ns w' t is v a k = rib_keep V by told number path (dif_site_at plan dif node) w ns w' (t.others number (events.Rib dif node path) is tt) a k
-words_keep lines V by sent got told plan number event w ns w' t is v a k = absurd a
+words_keep lines V by sent got told plan number event w ns w' t is v a k = absurd a.does
 
 acts_keep : {X : Type 0} (lines : List (List ℕ)) (V : End → List X) (by : List ℕ → Note → List X) (sent got : Entry → List X) (told : List ℕ → List X) (plan : Plan) (number : ℕ) (event : Event) (s : Stage) (ns : List Note) (s' : Stage)
     → IsTelling lines V by sent got → event_by lines number ≡ Some event → IsTower s.world.tower → Acts plan number event s ns s' → Holds V told s.world → Holds V (after by told ns) s'.world

@@ -145,7 +145,7 @@ words plan line (events.Clock dif node) w ns w' d = at_site plan (dif_site_at pl
 words plan line (events.Ledger dif node) w ns w' d = accounting plan line (dif_site_at plan dif node) w ns w' d
 words plan line (events.Cdap dif node bytes) w ns w' d = at_site plan (dif_site_at plan dif node) (CallsCdap bytes w) w d.says w' (λ site c. asking plan bytes w site d.says w' c) d.does
 words plan line (events.Rib dif node path) w ns w' d = showing_rib plan line path (dif_site_at plan dif node) w ns w' d
-words plan line event w ns w' d = absurd d
+words plan line event w ns w' d = absurd d.does
 
 pub acts : (plan : Plan) (line : ℕ) (event : Event) (s : Stage) (ns : List Note) (s' : Stage) → Acts plan line event s ns s' → Keeps plan s.world.tower s'.world.tower
 acts plan line (events.Retire policy) s ns s' d = same plan s.world s'.world d.world

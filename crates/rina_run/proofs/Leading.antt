@@ -1,25 +1,22 @@
 -- Traces that go on.
-use Rattle.std.proofs.Common.{◌≡◌, ◌≢◌, subst, ℕ, zero, suc, ◌+◌, List, [], ◌++◌, Result, Ok, Err, OnOk, OnErr, Option, Some, None, option_map, Bor, refl, sym, ap, ◌∙◌, append_assoc, add-one}
+use Rattle.std.proofs.Common.{◌≡◌, ℕ, zero, suc, ◌+◌, List, [], ◌++◌, Result, Ok, Err, OnOk, OnErr, Option, Some, None, option_map, Bor, refl, sym, ap, ◌∙◌, append_assoc, add-one}
 use Rattle.std.proofs.lemmas.List.{append-nil}
 use Rattle.std.specs.Prelude.{MatchOption}
 use Rattle.rina_account.specs.declared.ledger.Off.{Off}
 use Rattle.rina_base.specs.declared.memory.Memory.{Memory}
-use Rattle.rina_data.specs.declared.step.StepError.{StepError}
-use Rattle.rina_data.specs.declared.step.StepError.TheVariants.{Memory as NoMemory}
-use Rattle.rina_dif.specs.declared.shown.Shown.{Shown}
 use Rattle.rina_policy.specs.Slots.{Slot}
 use Rattle.rina_report.specs.declared.note.Note.{Note}
 use Rattle.rina_report.specs.declared.said.Said.{Said}
 use Rattle.rina_schedule.specs.declared.event.Event.{Event}
+use Rattle.rina_schedule.specs.declared.event.Event.TheVariants as events
 use Rattle.rina_stack.specs.declared.plan.Plan.{Plan}
 use Rattle.rina_run.specs.declared.world.World.{World}
 use Rattle.rina_tower.specs.declared.tower.Tower.{Tower}
 use Rattle.rina_tower.specs.Ledgers.{IsLedgerAt, member_at}
-use Rattle.rina_tower.specs.Objects.{ShowsUnderAt}
 use Rattle.rina_tower.specs.Ranks.{now_of}
 use Rattle.rina_run.specs.declared.site.Site.{Site}
 use Rattle.rina_run.specs.Look.{Leads, Extends, noted}
-use Rattle.rina_run.specs.Step.{Accounting, AreOffs, SaysBeside, ShowingRib, ShowsLedger, ShowsObjects, ledger_notes, path_of, rib_notes, Ticks, TicksOnce, Says, Stage}
+use Rattle.rina_run.specs.Step.{Accounting, Acts, Answering, AreOffs, Says, SaysBeside, ShowsLedger, Stage, Ticks, TicksOnce, ledger_notes, stage}
 
 -- a trace that went on twice went on
 pub extends_on : (a b c : List Note) → Extends a b → Extends b c → Extends a c
@@ -59,18 +56,21 @@ pub told_leads : (Does : Option Said → World → Type 0) (line : ℕ) (says : 
 told_leads Does line says w' a b tick (Ok done) does at told = record { notes = noted line tick says; trace = told; holds = record { says = says; does = does; notes = ap (λ (n : ℕ). noted line n says) at } }
 told_leads Does line says w' a b tick (Err e) does at told = tt
 
-pub told_extends : (line tick : ℕ) (says : Option Said) (a b : List Note) (r : Result (Unit {0}) Memory) → OnErr r (b ≡ a) → OnErr r (Extends a b)
-told_extends line tick says a b (Ok done) same = tt
-told_extends line tick says a b (Err e) same = extends_same a b same
+-- a word that says one thing leaves the shelf as it was
+acts_once : (plan : Plan) (line : ℕ) (event : Event) (shelf : List Slot) (w : World) (ns : List Note) (w' : World) → Says line (Answering plan event w) ns w' → Acts plan line event (stage w shelf) ns (stage w' shelf)
+acts_once plan line (events.Read label) shelf w ns w' h = absurd h.does
+acts_once plan line (events.Tick count) shelf w ns w' h = absurd h.does
+acts_once plan line (events.Journal fac) shelf w ns w' h = absurd h.does
+acts_once plan line (events.Ledger dif node) shelf w ns w' h = absurd h.does
+acts_once plan line (events.Rib dif node path) shelf w ns w' h = absurd h.does
+acts_once plan line (events.Out dif node link) shelf w ns w' h = absurd h.does
+acts_once plan line events.Round shelf w ns w' h = absurd h.does
+acts_once plan line (events.Retire policy) shelf w ns w' h = absurd h.does
+acts_once plan line event shelf w ns w' h = (h, refl)
 
--- what went on with notes of one kind, where the shelf stayed
-pub leads_beside : (P : List Note → Type 0) (shelf : List Slot) (a b : List Note) (r : Result (Unit {0}) Memory) → OnOk r (Leads P a b) → OnOk r (Leads (λ ns. P ns × (shelf ≡ shelf)) a b)
-leads_beside P shelf a b (Err e) p = tt
-leads_beside P shelf a b (Ok done) p = record { notes = p.notes; trace = p.trace; holds = (p.holds, refl) }
-
--- a word that says one thing, after its note was added, where the shelf stayed
-pub told_beside : (Does : Option Said → World → Type 0) (shelf : List Slot) (line : ℕ) (says : Option Said) (w' : World) (a b : List Note) (tick : ℕ) (r : Result (Unit {0}) Memory) → Does says w' → tick ≡ now_of w'.tower → OnOk r (b ≡ a ++ noted line tick says) → OnOk r (Leads (λ ns. Says line Does ns w' × (shelf ≡ shelf)) a b)
-told_beside Does shelf line says w' a b tick r does at told = leads_beside (λ ns. Says line Does ns w') shelf a b r (told_leads Does line says w' a b tick r does at told)
+pub acts_leads : (plan : Plan) (line : ℕ) (event : Event) (shelf : List Slot) (w w' : World) (a b : List Note) (r : Result (Unit {0}) Memory) → OnOk r (Leads (λ ns. Says line (Answering plan event w) ns w') a b) → OnOk r (Leads (λ ns. Acts plan line event (stage w shelf) ns (stage w' shelf)) a b)
+acts_leads plan line event shelf w w' a b (Ok done) p = record { notes = p.notes; trace = p.trace; holds = acts_once plan line event shelf w p.notes w' p.holds }
+acts_leads plan line event shelf w w' a b (Err e) p = tt
 
 pub on_ok : (P : Type 0) (r : Result (Unit {0}) Memory) → P → OnOk r P
 on_ok P (Ok done) p = p
@@ -87,19 +87,6 @@ accounting_from plan line tick w site found offs a b (Err e) at are clock told =
 accounting_from plan line tick w site found offs a b (Ok done) at are clock told =
     let shows : ShowsLedger plan line w site (ledger_notes plan site.rank line tick offs) w = record { offs = offs; are = are; world = refl; notes = ap (λ (n : ℕ). ledger_notes plan site.rank line n offs) clock } in
     record { notes = ledger_notes plan site.rank line tick offs; trace = told; holds = rw at shows }
-
--- the objects were told
-pub rib_from : (line tick : ℕ) (path : Option (List ℕ)) (under : List ℕ) (w : World) (site : Site) (found : Result Site ℕ) (objects : Result (List Shown) StepError) (a b : List Note) (r : Result (Unit {0}) Memory) → found ≡ Ok site → under ≡ path_of path → ShowsUnderAt w.tower site.rank site.fac site.node under objects → objects ≢ Err NoMemory → tick ≡ now_of w.tower → OnOk r (b ≡ a ++ rib_notes line tick objects) → OnOk r (Leads (λ ns. ShowingRib line path found w ns w) a b)
-rib_from line tick path under w site found objects a b (Err e) at is are some clock told = tt
-rib_from line tick path under w site found objects a b (Ok done) at is are some clock told =
-    let shows : ShowsObjects line path w site (rib_notes line tick objects) w = record {
-      found = objects;
-      are = subst (λ (u : List ℕ). ShowsUnderAt w.tower site.rank site.fac site.node u objects) is are;
-      memory = some;
-      world = refl;
-      notes = ap (λ (n : ℕ). rib_notes line n objects) clock;
-    } in
-    record { notes = rib_notes line tick objects; trace = told; holds = rw at shows }
 
 -- a word beside the shelf that says one thing, after its note was added
 pub said_beside : (Does : Option Said → Stage → Type 0) (line : ℕ) (says : Option Said) (s' : Stage) (a b : List Note) (tick : ℕ) (r : Result (Unit {0}) Memory) → Does says s' → tick ≡ now_of s'.world.tower → OnOk r (b ≡ a ++ noted line tick says) → OnOk r (Leads (λ ns. SaysBeside line Does ns s') a b)

@@ -479,28 +479,32 @@ pub record Says (line : ℕ) (Does : Option Said → World → Type 0) (ns : Lis
   pub does : Does says w'
   pub notes : ns ≡ noted line (now_of w'.tower) says
 
+-- what a word that says one thing does to the world, and what it says; no other words do anything lawful
+abbrev pub Answering : Plan → Event → World → Option Said → World → Type 0
+Answering plan (events.Register fac node app) w says w' = Registering plan fac node app w says w'
+Answering plan (events.Unregister fac node app) w says w' = Unregistering plan fac node app w says w'
+Answering plan (events.Alloc label fac node app to want) w says w' = Allocating plan label fac node app to want w says w'
+Answering plan (events.Accept label fac node app) w says w' = Accepting plan label fac node app w says w'
+Answering plan (events.Send label bytes) w says w' = Sending plan label bytes w says w'
+Answering plan (events.State label) w says w' = Stating plan label w says w'
+Answering plan (events.Free label) w says w' = Freeing label w says w'
+Answering plan (events.Lose wire frame) w says w' = Losing plan wire frame w says w'
+Answering plan (events.Repeat wire frame at) w says w' = Repeating plan wire frame at w says w'
+Answering plan (events.Hold wire frame at) w says w' = Holding plan wire frame at w says w'
+Answering plan (events.Cut wire) w says w' = Cutting plan wire w says w'
+Answering plan (events.Mend wire) w says w' = Mending plan wire w says w'
+Answering plan (events.In dif node link) w says w' = TakingIn plan dif node link w says w'
+Answering plan (events.Clock dif node) w says w' = Clocking plan dif node w says w'
+Answering plan (events.Cdap dif node bytes) w says w' = Asking plan dif node bytes w says w'
+Answering plan event w says w' = ⊥
+
 -- what a word does to the world, and what it answers; words that are not built do nothing lawful
 abbrev pub ActsOnWorld : Plan → ℕ → Event → World → List Note → World → Type 0
-ActsOnWorld plan line (events.Register fac node app) w ns w' = Says line (Registering plan fac node app w) ns w'
-ActsOnWorld plan line (events.Alloc label fac node app to want) w ns w' = Says line (Allocating plan label fac node app to want w) ns w'
-ActsOnWorld plan line (events.Accept label fac node app) w ns w' = Says line (Accepting plan label fac node app w) ns w'
-ActsOnWorld plan line (events.Send label bytes) w ns w' = Says line (Sending plan label bytes w) ns w'
 ActsOnWorld plan line (events.Read label) w ns w' = Reading line (port_in w.labels label) w ns w'
-ActsOnWorld plan line (events.Lose wire frame) w ns w' = Says line (Losing plan wire frame w) ns w'
-ActsOnWorld plan line (events.Repeat wire frame at) w ns w' = Says line (Repeating plan wire frame at w) ns w'
-ActsOnWorld plan line (events.Hold wire frame at) w ns w' = Says line (Holding plan wire frame at w) ns w'
-ActsOnWorld plan line (events.Cut wire) w ns w' = Says line (Cutting plan wire w) ns w'
-ActsOnWorld plan line (events.Mend wire) w ns w' = Says line (Mending plan wire w) ns w'
-ActsOnWorld plan line (events.Unregister fac node app) w ns w' = Says line (Unregistering plan fac node app w) ns w'
-ActsOnWorld plan line (events.Free label) w ns w' = Says line (Freeing label w) ns w'
-ActsOnWorld plan line (events.State label) w ns w' = Says line (Stating plan label w) ns w'
 ActsOnWorld plan line (events.Journal fac) w ns w' = Showing plan line (fac_named plan fac) w ns w'
-ActsOnWorld plan line (events.In dif node link) w ns w' = Says line (TakingIn plan dif node link w) ns w'
-ActsOnWorld plan line (events.Clock dif node) w ns w' = Says line (Clocking plan dif node w) ns w'
 ActsOnWorld plan line (events.Ledger dif node) w ns w' = Accounting plan line (dif_site_at plan dif node) w ns w'
-ActsOnWorld plan line (events.Cdap dif node bytes) w ns w' = Says line (Asking plan dif node bytes w) ns w'
 ActsOnWorld plan line (events.Rib dif node path) w ns w' = ShowingRib line path (dif_site_at plan dif node) w ns w'
-ActsOnWorld plan line event w ns w' = ⊥
+ActsOnWorld plan line event w ns w' = Says line (Answering plan event w) ns w'
 
 -- ---- lines
 

@@ -1,11 +1,11 @@
 //! One line of a schedule.
-ghost use Rattle.std.specs.Prelude.{◌≡◌, ◌+◌, ◌<◌, ◌≤◌, nat_lt, true, OnOk, OnErr};
+ghost use Rattle.std.specs.Prelude.{◌≡◌, ◌+◌, ◌<◌, ◌≤◌, nat_lt, true, IfOk, OnOk, OnErr};
 ghost use Rattle.rina_stack.specs.Plan.{IsPlan};
 ghost use Rattle.rina_tower.specs.Standing.{IsTower};
 ghost use Rattle.rina_tower.specs.Ranks.{now_of};
-ghost use Rattle.rina_run.specs.Built.{is_built};
+ghost use Rattle.rina_run.specs.Built.{is_below, is_built, says_one};
 ghost use Rattle.rina_run.specs.Look.{Leads, Extends};
-ghost use Rattle.rina_run.specs.Step.{Acts, HasNames, Steps, Ticking, Ticks, TicksOnce, rounds_after, stage};
+ghost use Rattle.rina_run.specs.Step.{Acts, Answering, HasNames, Says, Steps, Ticking, Ticks, TicksOnce, rounds_after, stage};
 
 use crate::cdap_word::cdap;
 use crate::dif_words::{clock, take_in};
@@ -108,6 +108,89 @@ fn tick_all<P: Retires>(
     Ok(())
 }
 
+/// What a line asks for, where its word is on a wire or on an IPC process: it is done, and its answer is said.
+fn answer_below(
+    alloc: Global,
+    plan: &Plan,
+    world: &mut World,
+    event: &Event,
+) -> Result<Option<Said>, Memory>
+    requires plan { IsPlan plan.now }
+    requires below { is_below event.now ≡ true }
+    requires sound { IsTower world.old.tower }
+    ensures does { IfOk result (λ says. Answering plan.now event.now world.old says world.new) }
+    ensures sound { IsTower world.new.tower }
+{
+    match event {
+        Event::Lose { wire, frame } => lose(plan, world, wire, *frame),
+        Event::Repeat { wire, frame, at } => repeat(alloc, plan, world, wire, *frame, *at),
+        Event::Hold { wire, frame, at } => hold(plan, world, wire, *frame, *at),
+        Event::Cut { wire } => cut(plan, world, wire),
+        Event::Mend { wire } => mend(plan, world, wire),
+        Event::In { dif, node, link } => take_in(alloc, plan, world, dif, node, *link),
+        Event::Clock { dif, node } => clock(alloc, plan, world, dif, node),
+        Event::Cdap { dif, node, bytes } => cdap(alloc, plan, world, dif, node, bytes),
+        _ => unreachable!(),
+    }
+}
+
+/// What a line asks for, where its word says one thing: it is done, and its answer is said.
+fn answer(
+    alloc: Global,
+    plan: &Plan,
+    world: &mut World,
+    event: &Event,
+) -> Result<Option<Said>, Memory>
+    requires plan { IsPlan plan.now }
+    requires one { says_one event.now ≡ true }
+    requires sound { IsTower world.old.tower }
+    ensures does { IfOk result (λ says. Answering plan.now event.now world.old says world.new) }
+    ensures sound { IsTower world.new.tower }
+{
+    match event {
+        Event::Register { fac, node, app } => register(alloc, plan, world, fac, node, app),
+        Event::Unregister { fac, node, app } => unregister(alloc, plan, world, fac, node, app),
+        Event::Alloc {
+            label,
+            fac,
+            node,
+            app,
+            to,
+            want,
+        } => allocate(alloc, plan, world, label, fac, node, app, to, *want),
+        Event::Accept {
+            label,
+            fac,
+            node,
+            app,
+        } => accept(alloc, plan, world, label, fac, node, app),
+        Event::Send { label, bytes } => send(alloc, plan, world, label, bytes),
+        Event::State { label } => tell_label(alloc, plan, world, label),
+        Event::Free { label } => free(alloc, world, label),
+        _ => answer_below(alloc, plan, world, event),
+    }
+}
+
+/// Does what a line asks for, where its word says one thing, and adds the note of its answer.
+fn act_once(
+    alloc: Global,
+    plan: &Plan,
+    world: &mut World,
+    line: u32,
+    event: &Event,
+    trace: &mut Notes,
+) -> Result<(), Memory>
+    requires plan { IsPlan plan.now }
+    requires one { says_one event.now ≡ true }
+    requires sound { IsTower world.old.tower }
+    ensures does { OnOk result (Leads (λ ns. Says line (Answering plan.now event.now world.old) ns world.new) trace.old trace.new) }
+    ensures more { OnErr result (Extends trace.old trace.new) }
+    ensures sound { IsTower world.new.tower }
+{
+    let says = answer(alloc, plan, world, event)?;
+    tell(trace, line, tick_of(&world.tower), says)
+}
+
 /// Does what a line asks for, and adds the notes of its answer.
 fn act<P: Retires>(
     alloc: Global,
@@ -127,87 +210,15 @@ fn act<P: Retires>(
     ensures names { HasNames (P.slots shelf.old) (P.slots shelf.new) }
 {
     match event {
-        Event::Register { fac, node, app } => {
-            let says = register(alloc, plan, world, fac, node, app)?;
-            tell(trace, line, tick_of(&world.tower), says)
-        }
-        Event::Alloc {
-            label,
-            fac,
-            node,
-            app,
-            to,
-            want,
-        } => {
-            let says = allocate(alloc, plan, world, label, fac, node, app, to, *want)?;
-            tell(trace, line, tick_of(&world.tower), says)
-        }
-        Event::Accept {
-            label,
-            fac,
-            node,
-            app,
-        } => {
-            let says = accept(alloc, plan, world, label, fac, node, app)?;
-            tell(trace, line, tick_of(&world.tower), says)
-        }
-        Event::Send { label, bytes } => {
-            let says = send(alloc, plan, world, label, bytes)?;
-            tell(trace, line, tick_of(&world.tower), says)
-        }
         Event::Read { label } => read(alloc, world, line, label, trace),
         Event::Tick { count } => tick(alloc, plan, world, shelf, line, *count, trace),
-        Event::Lose { wire, frame } => {
-            let says = lose(plan, world, wire, *frame)?;
-            tell(trace, line, tick_of(&world.tower), says)
-        }
-        Event::Repeat { wire, frame, at } => {
-            let says = repeat(alloc, plan, world, wire, *frame, *at)?;
-            tell(trace, line, tick_of(&world.tower), says)
-        }
-        Event::Hold { wire, frame, at } => {
-            let says = hold(plan, world, wire, *frame, *at)?;
-            tell(trace, line, tick_of(&world.tower), says)
-        }
-        Event::Cut { wire } => {
-            let says = cut(plan, world, wire)?;
-            tell(trace, line, tick_of(&world.tower), says)
-        }
-        Event::Mend { wire } => {
-            let says = mend(plan, world, wire)?;
-            tell(trace, line, tick_of(&world.tower), says)
-        }
-        Event::Unregister { fac, node, app } => {
-            let says = unregister(alloc, plan, world, fac, node, app)?;
-            tell(trace, line, tick_of(&world.tower), says)
-        }
-        Event::Free { label } => {
-            let says = free(alloc, world, label)?;
-            tell(trace, line, tick_of(&world.tower), says)
-        }
-        Event::State { label } => {
-            let says = tell_label(alloc, plan, world, label)?;
-            tell(trace, line, tick_of(&world.tower), says)
-        }
         Event::Journal { fac } => journal(alloc, plan, world, line, fac, trace),
-        Event::In { dif, node, link } => {
-            let says = take_in(alloc, plan, world, dif, node, *link)?;
-            tell(trace, line, tick_of(&world.tower), says)
-        }
+        Event::Ledger { dif, node } => ledger(alloc, plan, world, line, dif, node, trace),
+        Event::Rib { dif, node, path } => rib(alloc, plan, world, line, dif, node, path, trace),
         Event::Out { dif, node, link } => {
             let says = let_out(alloc, plan, world, shelf, dif, node, *link)?;
             tell(trace, line, tick_of(&world.tower), says)
         }
-        Event::Clock { dif, node } => {
-            let says = clock(alloc, plan, world, dif, node)?;
-            tell(trace, line, tick_of(&world.tower), says)
-        }
-        Event::Ledger { dif, node } => ledger(alloc, plan, world, line, dif, node, trace),
-        Event::Cdap { dif, node, bytes } => {
-            let says = cdap(alloc, plan, world, dif, node, bytes)?;
-            tell(trace, line, tick_of(&world.tower), says)
-        }
-        Event::Rib { dif, node, path } => rib(alloc, plan, world, line, dif, node, path, trace),
         Event::Round => {
             go_round(alloc, Rounds::Auto, world, shelf)?;
             tell(trace, line, tick_of(&world.tower), Some(Said::Done))
@@ -216,7 +227,7 @@ fn act<P: Retires>(
             let says = retire(shelf, policy);
             tell(trace, line, tick_of(&world.tower), says)
         }
-        _ => unreachable!(),
+        _ => act_once(alloc, plan, world, line, event, trace),
     }
 }
 
