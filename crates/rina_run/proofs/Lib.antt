@@ -1,3 +1,4 @@
+pub mod Alive
 pub mod Lines
 pub mod Texts
 pub mod Looking

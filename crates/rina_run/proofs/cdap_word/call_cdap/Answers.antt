@@ -1,13 +1,14 @@
-use Rattle.std.proofs.Common.{◌∙◌, ℕ, List, Some, Ok, Err, ap, option_map}
+use Rattle.std.proofs.Common.{◌∙◌, arith, ℕ, List, Some, Ok, Err, ap, option_map}
 use Rattle.rina_report.specs.declared.said.Said.TheVariants as said
+use Rattle.rina_run.proofs.Alive.{alive, answered}
 use Rattle.rina_run.proofs.Calls.{calls_cdap}
 use Rattle.rina_run.proofs.cdap_word.call_cdap.Goals as goal
 
 pub returns-in-Ok-clause-does : goal.returns-in-Ok-clause-does
-returns-in-Ok-clause-does c = calls_cdap c.args.bytes.now c.args.world.now c.args.site (Ok c.in-Ok.answer.items) _ (Ok (Some (said.Cdap c.from_vec.result))) c.in-Ok.ensures.does (ap (λ (x : List ℕ). Some (said.Cdap x)) c.from_vec.ensures)
+returns-in-Ok-clause-does c = calls_cdap c.args.bytes.now c.args.world.now c.args.site (Ok c.in-Ok.answer.items) _ (Ok (Some (said.Cdap c.from_vec.result))) (c.in-Ok.ensures.does (alive _ c.in-Ok.ensures.failed (λ h. answered _ _ h.0))) (ap (λ (x : List ℕ). Some (said.Cdap x)) c.from_vec.ensures)
 
 pub returns-in-Err : goal.returns-in-Err
 returns-in-Err c = record {
-  does = calls_cdap c.args.bytes.now c.args.world.now c.args.site (Err c.in-Err.error) _ (Ok c.refused.result) c.in-Err.ensures.does (c.refused.ensures ∙ ap (option_map said.Refused) c.tell_cdap.ensures);
+  does = calls_cdap c.args.bytes.now c.args.world.now c.args.site (Err c.in-Err.error) _ (Ok c.refused.result) (c.in-Err.ensures.does (alive _ c.in-Err.ensures.failed (λ h. grind arith))) (c.refused.ensures ∙ ap (option_map said.Refused) c.tell_cdap.ensures);
   tower = c.cdap.ensures.valid;
 }

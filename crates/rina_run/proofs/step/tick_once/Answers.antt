@@ -1,7 +1,15 @@
-use Rattle.std.proofs.Common.{◌≡◌, ◌+◌, ◌∙◌}
-use Rattle.rina_run.proofs.Clocks.{tick_goes}
+use Rattle.std.proofs.Common.{◌≡◌, ◌+◌, ◌∙◌, false, rules}
+use Rattle.rina_tower.specs.Failing.{has_failed}
+use Rattle.rina_run.proofs.Alive.{alive, answered}
+use Rattle.rina_run.proofs.Clocks.{never_spent, tick_goes}
 use Rattle.rina_run.proofs.Leading.{on_ok}
 use Rattle.rina_run.proofs.step.tick_once.Goals as goal
 
 pub returns-clause-clock : goal.returns-clause-clock
-returns-clause-clock g c = on_ok _ c.look.result (c.go_round.ensures.clock ∙ tick_goes c.args.world.now.tower c.tick.new.self c.in-Ok.ensures.does)
+returns-clause-clock g c = on_ok _ c.look.result (c.go_round.ensures.clock ∙ tick_goes c.args.world.now.tower c.tick.new.self (c.in-Ok.ensures.does (alive _ c.in-Ok.ensures.failed (λ h. answered _ _ h.0))))
+
+pub returns-clause-does : goal.returns-clause-does
+returns-clause-does g c = let up : has_failed c.args.world.now.tower ≡ false = alive _ c.in-Ok.ensures.failed (λ h. answered _ _ h.0) in search rules
+
+pub unreachable-requires : goal.unreachable-requires
+unreachable-requires g c = never_spent c.args.world.now.tower c.tick.new.self c.in-Err-ClockSpent.field-0 c.in-Err-ClockSpent.field-0-is c.in-Err-ClockSpent.ensures.does c.in-Err-ClockSpent.ensures.failed c.requires.clock
