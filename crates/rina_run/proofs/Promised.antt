@@ -5,7 +5,7 @@ use Rattle.rina_dif.specs.declared.dif.Dif.{Dif}
 use Rattle.rina_dif.specs.Holding.{Stands}
 use Rattle.rina_tower.specs.declared.tower.Tower.{Tower, Rank', Wires}
 use Rattle.rina_tower.specs.Standing.{IsTower}
-use Rattle.rina_run.specs.Promises.{AccountsAll, CarriesAll, CausesAll, IsCarriedBy, IsCausedIn, IsInAccount, OfEachDif}
+use Rattle.rina_run.specs.Promises.{AccountsAll, CarriesAll, CausesAll, IsCarriedBy, IsCausedIn, IsInAccount, IsRoutedIn, OfEachDif, RoutesAll}
 
 -- what follows of a DIF that stands holds of each
 of_each : (Promise : Dif → Seen → Type 0) → ((d : Dif) (below : Seen) → Stands d below → Promise d below) → (t : Tower) → IsTower t → OfEachDif Promise t
@@ -33,3 +33,9 @@ caused_in d below stands = stands.1.caused
 
 pub caused_if : (tower : Option Tower) → IfSome tower IsTower → IfSome tower CausesAll
 caused_if = of_each_if IsCausedIn caused_in
+
+routed_in : (d : Dif) (below : Seen) → Stands d below → IsRoutedIn d below
+routed_in d below stands = stands.1.routed
+
+pub routed_if : (tower : Option Tower) → IfSome tower IsTower → IfSome tower RoutesAll
+routed_if = of_each_if IsRoutedIn routed_in

@@ -7,6 +7,7 @@ use Rattle.rina_data.specs.Carried.{AreCarried}
 use Rattle.rina_data.specs.Caused.{AreCaused}
 use Rattle.rina_data.specs.Standing.{IsStanding}
 use Rattle.rina_dif.specs.declared.dif.Dif.{Dif}
+use Rattle.rina_dif.specs.Routing.{HaveRoutes}
 use Rattle.rina_dif.specs.Shown.{seen_of as seen_of_dif}
 use Rattle.rina_tower.specs.declared.tower.Tower.{Tower, Wires, Rank'}
 use Rattle.rina_tower.specs.Ranks.{seen_of}
@@ -38,3 +39,11 @@ IsCausedIn d below = AreCaused (seen_of_dif d) below
 
 abbrev pub CausesAll : Tower → Type 0
 CausesAll = OfEachDif IsCausedIn
+
+-- the next hop of each IPC process to each other member is the least number of a link on a least walk, over its live links
+-- and those that the others had from the start
+abbrev pub IsRoutedIn : Dif → Seen → Type 0
+IsRoutedIn d below = HaveRoutes d.settings.members d.laid.links d.processes
+
+abbrev pub RoutesAll : Tower → Type 0
+RoutesAll = OfEachDif IsRoutedIn

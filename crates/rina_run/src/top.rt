@@ -7,7 +7,7 @@ ghost use Rattle.rina_report.specs.Notes.{text_of};
 ghost use Rattle.rina_stack.specs.Plan.{IsPlan};
 ghost use Rattle.rina_tower.specs.Standing.{IsTower};
 ghost use Rattle.rina_run.specs.Opening.{IsOpening};
-ghost use Rattle.rina_run.specs.Promises.{AccountsAll, CarriesAll, CausesAll};
+ghost use Rattle.rina_run.specs.Promises.{AccountsAll, CarriesAll, CausesAll, RoutesAll};
 ghost use Rattle.rina_run.specs.Script.{script, script_in};
 ghost use Rattle.rina_run.specs.Step.{stage};
 ghost use Rattle.rina_run.specs.Words.{word_fault};
@@ -287,7 +287,7 @@ fn run_input<K: Sink, P: Retires + Policies>(
 
 /// A run over any shelf: the words of the command line without the program's name, the input, and where the
 /// notes are written. Each line's notes are written before the next line runs.
-#[tactic(auto, using(crate::proofs::Ending::kept_if, crate::proofs::Ending::failed_by_cut, crate::proofs::Promised::carried_if, crate::proofs::Promised::accounted_if, crate::proofs::Promised::caused_if))]
+#[tactic(auto, using(crate::proofs::Ending::kept_if, crate::proofs::Ending::failed_by_cut, crate::proofs::Promised::carried_if, crate::proofs::Promised::accounted_if, crate::proofs::Promised::caused_if, crate::proofs::Promised::routed_if))]
 fn run_over<S: Source, K: Sink, P: Retires + Policies>(
     alloc: Global,
     words: &[String],
@@ -307,6 +307,8 @@ fn run_over<S: Source, K: Sink, P: Retires + Policies>(
     ensures carried { IfSome result.tower CarriesAll }
     // Of each PDU each IPC process can tell where it is: what came in or was made is out, waits, was written off, or is kept.
     ensures accounted { IfSome result.tower AccountsAll }
+    // Each next hop of each IPC process is the first link of a least walk over the links that it knows.
+    ensures routed { IfSome result.tower RoutesAll }
     // A flow of a DIF has failed only where an answer to what it sent could come no more, or with the flow below it.
     ensures caused { IfSome result.tower CausesAll }
     // A flow of a wire has failed only by a cut of that wire.
@@ -356,6 +358,8 @@ pub fn run<S: Source, K: Sink, P: Retires + Policies>(
     ensures carried { IfSome result.tower CarriesAll }
     // Of each PDU each IPC process can tell where it is: what came in or was made is out, waits, was written off, or is kept.
     ensures accounted { IfSome result.tower AccountsAll }
+    // Each next hop of each IPC process is the first link of a least walk over the links that it knows.
+    ensures routed { IfSome result.tower RoutesAll }
     // A flow of a DIF has failed only where an answer to what it sent could come no more, or with the flow below it.
     ensures caused { IfSome result.tower CausesAll }
     // A flow of a wire has failed only by a cut of that wire.
