@@ -1,11 +1,15 @@
 -- When memory was wanted and not found.
-use Rattle.std.proofs.Common.{◌≡◌, ◌∙◌, ℕ, zero, suc, Bool, true, false, List, [], ◌∷◌, slice_get, slice_set, Some, Result, Err, refl, ap, subst}
-use Rattle.std.specs.Prelude.{◌||◌}
+use Rattle.std.proofs.Common.{◌≡◌, ◌∙◌, ℕ, ◌+◌, zero, suc, Bool, true, false, List, [], ◌∷◌, slice_get, slice_set, Some, Result, Ok, Err, refl, ap, subst}
+use Rattle.std.specs.Prelude.{◌||◌, OnErr}
 use Rattle.rina_wire.specs.Air.{Air, failed_air}
 use Rattle.rina_wire.specs.Tick.{TornBy}
 use Rattle.rina_dif.specs.declared.dif.Dif.{Dif}
-use Rattle.rina_tower.specs.declared.tower.Tower.{Tower}
+use Rattle.rina_tower.specs.declared.tower.Tower.{Tower, Rank'}
+use Rattle.rina_tower.specs.Beside.{Anyone}
 use Rattle.rina_tower.specs.Failing.{has_failed, have_failed}
+use Rattle.rina_tower.specs.Rounds.{Follows}
+use Rattle.rina_tower.specs.Standing.{IsRank, IsTower}
+use Rattle.rina_tower.proofs.Serving.{beside_alone, rank_quiet}
 
 or_first : (a b : Bool) → a ≡ true → a || b ≡ true
 or_first true b h = refl
@@ -39,3 +43,16 @@ wires_failed On r m a a' g h is = ap (λ (x : Air). x.failed) (is (subst On h g)
 pub torn_failed : (a a' : Air) (f : Bool) → a.failed ≡ f → TornBy f a a' → a'.failed ≡ true
 torn_failed a a' true h t = ap (λ (x : Air). x.failed) t ∙ h
 torn_failed a a' false h t = t.failed
+
+-- what follows below follows of a rank over it
+pub rank_follows : (p : _) (p' : _) (difs : List Dif) (below below' : Tower) → IsRank difs below → IsTower below → Follows below below' → Follows (Rank' p difs below) (Rank' p' difs below')
+rank_follows p p' difs below below' rank v f = record {
+  valid = (rank_quiet difs below below' rank v f.valid f.height f.quiet, f.valid);
+  quiet = beside_alone Anyone difs below below' f.quiet;
+  height = ap (λ (n : ℕ). n + 1) f.height;
+}
+
+-- an answer that may be an error, where this holds at any rate
+pub on_err : {T E : Type 0} (r : Result T E) (P : Type 0) → P → OnErr r P
+on_err (Ok x) P h = tt
+on_err (Err e) P h = h

@@ -1,6 +1,7 @@
 use Rattle.rina_tower.specs.Beside.{IsIpc}
 use Rattle.rina_tower.proofs.Alone.{all_alone}
 use Rattle.rina_tower.proofs.Serving.{beside_alone, rank_beside}
+use Rattle.rina_tower.proofs.Failed.{below_failed}
 use Rattle.rina_tower.proofs.tower.Tower.+app_unregister_at.Goals as goal
 
 pub returns-in-Wires-clause-beside : goal.returns-in-Wires-clause-beside
@@ -20,3 +21,6 @@ returns-in-Rank-clause-beside t c =
     let old = c.in-Rank.rank.value in
     let beside = rw c.deref_mut.ensures.value at c.app_unregister_at.ensures.beside in
     rw (c.in-Rank.is, c.deref_mut.ensures.value) (beside_alone IsIpc old.difs old.below c.app_unregister_at.new.self beside)
+
+pub returns-in-Rank-clause-fails : goal.returns-in-Rank-clause-fails
+returns-in-Rank-clause-fails t c = λ h. rw c.deref_mut.ensures.value (below_failed c.in-Rank.rank.value.difs c.app_unregister_at.new.self (c.app_unregister_at.ensures.fails h))

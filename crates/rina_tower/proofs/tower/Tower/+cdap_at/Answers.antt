@@ -6,6 +6,7 @@ use Rattle.rina_tower.specs.Ranks.{now_of}
 use Rattle.rina_tower.proofs.Alone.{all_alone}
 use Rattle.rina_tower.proofs.Asked.{asked_alone, asked_rank}
 use Rattle.rina_tower.proofs.Serving.{beside_alone, rank_quiet}
+use Rattle.rina_tower.proofs.Failed.{below_failed, rank_failed}
 use Rattle.rina_tower.proofs.tower.Tower.+cdap_at.Goals as goal
 
 pub returns-in-Wires-clause-quiet : goal.returns-in-Wires-clause-quiet
@@ -42,3 +43,9 @@ returns-else-r-height-clause-quiet t c =
     let old = c.in-Rank.rank.value in
     let quiet = rw c.deref_mut-rank.ensures.value at c.cdap_at.ensures.quiet in
     rw (c.in-Rank.is, c.deref_mut-rank.ensures.value) (beside_alone Anyone old.difs old.below c.cdap_at.new.self quiet)
+
+pub returns-then-r-height-clause-fails : goal.returns-then-r-height-clause-fails
+returns-then-r-height-clause-fails t c = λ h. rw c.deref_mut-rank.ensures.value (rank_failed c.cdap.new.self c.in-Rank.rank.value.below (c.cdap.ensures.fails h))
+
+pub returns-else-r-height-clause-fails : goal.returns-else-r-height-clause-fails
+returns-else-r-height-clause-fails t c = λ h. rw c.deref_mut-rank.ensures.value (below_failed c.in-Rank.rank.value.difs c.cdap_at.new.self (c.cdap_at.ensures.fails h))

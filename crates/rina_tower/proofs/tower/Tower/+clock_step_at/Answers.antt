@@ -2,6 +2,7 @@ use Rattle.std.proofs.Common.{◌+◌, ◌∙◌, ℕ, ap, inl}
 use Rattle.rina_tower.specs.Beside.{Anyone}
 use Rattle.rina_tower.proofs.Alone.{all_alone}
 use Rattle.rina_tower.proofs.Serving.{beside_alone, rank_quiet, rank_stepped, same_height, stepped_alone}
+use Rattle.rina_tower.proofs.Failed.{below_failed, rank_failed}
 use Rattle.rina_tower.proofs.tower.Tower.+clock_step_at.Goals as goal
 
 pub returns-in-Wires-clause-quiet : goal.returns-in-Wires-clause-quiet
@@ -49,3 +50,9 @@ returns-else-r-height-clause-quiet t c =
     let old = c.in-Rank.rank.value in
     let quiet = rw c.deref_mut-rank.ensures.value at c.clock_step_at.ensures.quiet in
     rw (c.in-Rank.is, c.deref_mut-rank.ensures.value) (beside_alone Anyone old.difs old.below c.clock_step_at.new.self quiet)
+
+pub returns-then-r-height-clause-fails : goal.returns-then-r-height-clause-fails
+returns-then-r-height-clause-fails t c = λ h. rank_failed c.clock_step.new.self c.clock_step.new.below (c.clock_step.ensures.fails h)
+
+pub returns-else-r-height-clause-fails : goal.returns-else-r-height-clause-fails
+returns-else-r-height-clause-fails t c = λ h. rw c.deref_mut-rank.ensures.value (below_failed c.in-Rank.rank.value.difs c.clock_step_at.new.self (c.clock_step_at.ensures.fails h))

@@ -1,5 +1,8 @@
 use Rattle.rina_tower.proofs.Timing.{clocks_before, rank_ticked, ticked_alone}
 use Rattle.rina_tower.proofs.Wiring.{ticks_alone}
+use Rattle.std.proofs.Common.{refl, subst}
+use Rattle.rina_wire.specs.Tick.{TicksOn}
+use Rattle.rina_tower.proofs.Failed.{below_failed, torn_failed}
 use Rattle.rina_tower.proofs.tower.Tower.+tick_on.Goals as goal
 
 pub returns-in-Wires-clause-quiet : goal.returns-in-Wires-clause-quiet
@@ -28,3 +31,9 @@ returns-in-Rank-clause-quiet t c =
     let quiet = rw c.deref_mut-rank.ensures.value at c.tick_on-result.ensures.quiet in
     let clocked = rw (c.deref_mut-rank.ensures.value, c.clock-now.ensures) at c.clock_to.ensures in
     rw c.in-Rank.is (ticked_alone old.difs c.clock_to.new.self old.below c.tick_on-result.new.self quiet clocked)
+
+pub returns-in-Wires-clause-fails : goal.returns-in-Wires-clause-fails
+returns-in-Wires-clause-fails t c = λ h. torn_failed c.in-Wires.wires c.tick.new.self c.in-Wires.wires.failed refl (subst (λ z. TicksOn c.in-Wires.wires z c.tick.new.self) h c.tick.ensures.exact)
+
+pub returns-in-Rank-clause-fails : goal.returns-in-Rank-clause-fails
+returns-in-Rank-clause-fails t c = λ h. below_failed c.clock_to.new.self c.tick_on-result.new.self (c.tick_on-result.ensures.fails h)

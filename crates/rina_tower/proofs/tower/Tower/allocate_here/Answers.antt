@@ -1,10 +1,12 @@
 use Rattle.std.proofs.Common.{◌≡◌, Err, Some}
 use Rattle.rina_iface.proofs.LaterCalls.{later_allocates}
 use Rattle.rina_tower.specs.Ranks.{now_of, seen_of_difs}
-use Rattle.rina_tower.proofs.Failed.{rank_failed}
+use Rattle.rina_tower.proofs.Failed.{rank_failed, wires_failed}
 use Rattle.rina_tower.proofs.Serving.{rank_serves, allocates_seen}
 use Rattle.rina_iface.specs.declared.error.AllocateError.TheVariants.{Unbuilt, NoMember}
 use Rattle.rina_iface.specs.Allocate.{Allocates}
+use Rattle.rina_iface.specs.declared.error.AllocateError.TheVariants as allocate
+use Rattle.rina_wire.specs.Allocate.{AllocatesOn}
 use Rattle.rina_tower.proofs.tower.Tower.allocate_here.Goals as goal
 
 pub returns-in-Rank-clause-valid : goal.returns-in-Rank-clause-valid
@@ -37,3 +39,6 @@ returns-in-Rank-clause-does c =
 
 pub returns-in-Rank-clause-fails : goal.returns-in-Rank-clause-fails
 returns-in-Rank-clause-fails c = λ h. rw c.deref_mut.ensures.value (rank_failed c.allocate-in-Rank.new.self c.in-Rank.rank.value.below (c.allocate-in-Rank.ensures.fails h))
+
+pub returns-in-Wires-clause-fails : goal.returns-in-Wires-clause-fails
+returns-in-Wires-clause-fails c = λ h. wires_failed (λ z. AllocatesOn c.in-Wires.wires c.args.ask.now z c.allocate.new.self) c.allocate.result (Err allocate.Memory) c.in-Wires.wires c.allocate.new.self c.allocate.ensures.exact h (λ x. x)

@@ -1,7 +1,10 @@
 use Rattle.rina_iface.proofs.LaterCalls.{later_binds}
 use Rattle.rina_tower.specs.Ranks.{now_of, seen_of_difs}
-use Rattle.rina_tower.proofs.Failed.{rank_failed}
+use Rattle.rina_tower.proofs.Failed.{rank_failed, wires_failed}
 use Rattle.rina_tower.proofs.Serving.{binds_seen, may_bind, rank_binds}
+use Rattle.std.proofs.Common.{Err}
+use Rattle.rina_iface.specs.declared.error.AllocateError.TheVariants as allocate
+use Rattle.rina_wire.specs.Bind.{BindsOn}
 use Rattle.rina_tower.proofs.tower.Tower.bind_here.Goals as goal
 
 pub returns-in-Rank-clause-valid : goal.returns-in-Rank-clause-valid
@@ -41,3 +44,6 @@ bind-requires-in-Rank-clause-may c =
 
 pub returns-in-Rank-clause-fails : goal.returns-in-Rank-clause-fails
 returns-in-Rank-clause-fails c = λ h. rw c.deref_mut.ensures.value (rank_failed c.bind-in-Rank.new.self c.in-Rank.rank.value.below (c.bind-in-Rank.ensures.fails h))
+
+pub returns-in-Wires-clause-fails : goal.returns-in-Wires-clause-fails
+returns-in-Wires-clause-fails c = λ h. wires_failed (λ z. BindsOn c.in-Wires.wires c.args.fixed.now z c.bind.new.self) c.bind.result (Err allocate.Memory) c.in-Wires.wires c.bind.new.self c.bind.ensures.exact h (λ x. x)

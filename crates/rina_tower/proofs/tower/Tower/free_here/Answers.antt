@@ -1,10 +1,11 @@
-use Rattle.std.proofs.Common.{◌≡◌, Err}
+use Rattle.std.proofs.Common.{◌≡◌, Err, false}
 use Rattle.rina_iface.proofs.LaterCalls.{later_frees}
 use Rattle.rina_tower.specs.Ranks.{now_of, seen_of_difs}
-use Rattle.rina_tower.proofs.Failed.{rank_failed}
+use Rattle.rina_tower.proofs.Failed.{rank_failed, wires_failed}
 use Rattle.rina_tower.proofs.Serving.{rank_frees, frees_seen}
-use Rattle.std.proofs.Common.{false}
 use Rattle.rina_iface.specs.declared.error.FreeError.TheVariants.{NoPort}
+use Rattle.rina_iface.specs.declared.error.FreeError.TheVariants as free
+use Rattle.rina_wire.specs.Free.{FreesOn}
 use Rattle.rina_tower.proofs.tower.Tower.free_here.Goals as goal
 
 pub returns-in-Rank-clause-valid : goal.returns-in-Rank-clause-valid
@@ -37,3 +38,6 @@ returns-in-Rank-clause-does c =
 
 pub returns-in-Rank-clause-fails : goal.returns-in-Rank-clause-fails
 returns-in-Rank-clause-fails c = λ h. rw c.deref_mut.ensures.value (rank_failed c.free-in-Rank.new.self c.in-Rank.rank.value.below (c.free-in-Rank.ensures.fails h))
+
+pub returns-in-Wires-clause-fails : goal.returns-in-Wires-clause-fails
+returns-in-Wires-clause-fails c = λ h. wires_failed (λ z. FreesOn c.in-Wires.wires c.args.port z c.free.new.self) c.free.result (Err free.Memory) c.in-Wires.wires c.free.new.self c.free.ensures.exact h (λ x. x)

@@ -1,7 +1,8 @@
 use Rattle.std.proofs.Common.{◌∙◌, ap, not, refl}
 use Rattle.rina_tower.specs.Rounds.{Letting, has_left, lets_no_more}
 use Rattle.rina_tower.proofs.Answering.{any_place}
-use Rattle.rina_tower.proofs.Rounding.{follows_none, follows_step, going_ends, going_more, going_none}
+use Rattle.rina_tower.proofs.Failed.{on_err}
+use Rattle.rina_tower.proofs.Rounding.{follows_none, follows_on, follows_step, going_ends, going_more, going_none}
 use Rattle.rina_tower.proofs.tower.Tower.let_all.Goals as goal
 
 pub steps-init : goal.steps-init
@@ -33,3 +34,9 @@ steps-preserved g c =
       names = k.names ∙ c.steps.invariant.names;
       going = going_more has_left (Letting c.args.place) c.out_step_at-answer.result (g.S.Picks.slots c.args.shelf.now) (g.S.Picks.slots c.steps.shelf) (g.S.Picks.slots c.out_step_at-answer.new.shelf) c.args.self.now c.steps.self c.out_step_at-answer.new.self c.steps.invariant.going (any_place (g.S.Picks.may_answer c.steps.shelf) (g.S.Picks.slots c.steps.shelf) (g.S.Picks.slots c.out_step_at-answer.new.shelf) c.args.place.rank c.args.place.dif c.args.place.node c.args.place.link c.out_step_at-answer.result c.steps.self c.out_step_at-answer.new.self c.out_step_at-answer.ensures.does) (c.in_ok-has_left.ensures.tells.0 ∙ c.if-not-branch.false);
     }
+
+pub returns-in_err-has_left-clause-fails : goal.returns-in_err-has_left-clause-fails
+returns-in_err-has_left-clause-fails g c = on_err c.from_residual.result _ (c.out_step_at-answer.ensures.fails c.in_err-has_left.ensures.memory)
+
+pub returns-clause-follows : goal.returns-clause-follows
+returns-clause-follows g c = follows_on c.args.self.now c.steps.self c.fail.new.self c.steps.invariant.follows c.fail.ensures.follows

@@ -1,10 +1,12 @@
 use Rattle.std.proofs.Common.{◌≡◌, Err, Some}
 use Rattle.rina_iface.proofs.LaterCalls.{later_registers}
 use Rattle.rina_tower.specs.Ranks.{now_of, seen_of_difs}
-use Rattle.rina_tower.proofs.Failed.{rank_failed}
+use Rattle.rina_tower.proofs.Failed.{rank_failed, wires_failed}
 use Rattle.rina_tower.proofs.Serving.{rank_serves, registers_seen}
 use Rattle.rina_iface.specs.declared.error.RegisterError.TheVariants.{Unbuilt, NoMember}
 use Rattle.rina_iface.specs.Register.{Registers}
+use Rattle.rina_iface.specs.declared.error.RegisterError.TheVariants as register
+use Rattle.rina_wire.specs.Register.{RegistersOn}
 use Rattle.rina_tower.proofs.tower.Tower.register_here.Goals as goal
 
 pub returns-in-Rank-clause-valid : goal.returns-in-Rank-clause-valid
@@ -37,3 +39,6 @@ returns-in-Rank-clause-does c =
 
 pub returns-in-Rank-clause-fails : goal.returns-in-Rank-clause-fails
 returns-in-Rank-clause-fails c = λ h. rw c.deref_mut.ensures.value (rank_failed c.register-in-Rank.new.self c.in-Rank.rank.value.below (c.register-in-Rank.ensures.fails h))
+
+pub returns-in-Wires-clause-fails : goal.returns-in-Wires-clause-fails
+returns-in-Wires-clause-fails c = λ h. wires_failed (λ z. RegistersOn c.in-Wires.wires c.args.fac c.args.node c.args.app.now z c.register.new.self) c.register.result (Err register.Memory) c.in-Wires.wires c.register.new.self c.register.ensures.exact h (λ x. x)

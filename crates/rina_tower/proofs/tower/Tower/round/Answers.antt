@@ -1,6 +1,11 @@
+use Rattle.rina_tower.specs.Beside.{Anyone}
 use Rattle.rina_tower.specs.Rounds.{InTurn, IsRound, LetsAll, Runs, links_downward}
+use Rattle.rina_tower.proofs.Alone.{all_alone}
 use Rattle.rina_tower.proofs.Rounding.{follows_on, on_ok, round_done}
 use Rattle.rina_tower.proofs.tower.Tower.round.Goals as goal
+
+pub returns-then-has_failed-clause-quiet : goal.returns-then-has_failed-clause-quiet
+returns-then-has_failed-clause-quiet g c = all_alone Anyone _
 
 pub returns-in_err-do_due_everywhere-clause-quiet : goal.returns-in_err-do_due_everywhere-clause-quiet
 returns-in_err-do_due_everywhere-clause-quiet g c = (follows_on c.args.self.now c.take_everywhere.new.self c.do_due_everywhere.new.self c.take_everywhere.ensures.follows c.do_due_everywhere.ensures.follows).quiet

@@ -1,9 +1,11 @@
 use Rattle.std.proofs.Common.{◌≡◌, Err, None}
 use Rattle.rina_iface.proofs.LaterCalls.{later_sends}
 use Rattle.rina_tower.specs.Ranks.{now_of, seen_of_difs}
-use Rattle.rina_tower.proofs.Failed.{rank_failed}
+use Rattle.rina_tower.proofs.Failed.{rank_failed, wires_failed}
 use Rattle.rina_tower.proofs.Serving.{rank_sends, sends_seen}
 use Rattle.rina_iface.specs.declared.error.SendError.TheVariants.{NotAllocated}
+use Rattle.rina_iface.specs.declared.error.SendError.TheVariants as send
+use Rattle.rina_wire.specs.Send.{SendsOn}
 use Rattle.rina_tower.proofs.tower.Tower.send_here.Goals as goal
 
 pub returns-in-Rank-clause-valid : goal.returns-in-Rank-clause-valid
@@ -36,3 +38,6 @@ returns-in-Rank-clause-does c =
 
 pub returns-in-Rank-clause-fails : goal.returns-in-Rank-clause-fails
 returns-in-Rank-clause-fails c = λ h. rw c.deref_mut.ensures.value (rank_failed c.send-in-Rank.new.self c.in-Rank.rank.value.below (c.send-in-Rank.ensures.fails h))
+
+pub returns-in-Wires-clause-fails : goal.returns-in-Wires-clause-fails
+returns-in-Wires-clause-fails c = λ h. wires_failed (λ z. SendsOn c.in-Wires.wires c.args.port c.args.sdu.now z c.send.new.self) c.send.result (Err send.Memory) c.in-Wires.wires c.send.new.self c.send.ensures.exact h (λ x. x)

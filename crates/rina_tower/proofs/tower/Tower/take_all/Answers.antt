@@ -1,6 +1,7 @@
 use Rattle.std.proofs.Common.{◌∙◌, ap, not, refl}
 use Rattle.rina_tower.specs.Rounds.{Taking, has_taken, takes_no_more}
-use Rattle.rina_tower.proofs.Rounding.{follows_none, follows_step, going_ends, going_more, going_none}
+use Rattle.rina_tower.proofs.Failed.{on_err}
+use Rattle.rina_tower.proofs.Rounding.{follows_none, follows_on, follows_step, going_ends, going_more, going_none}
 use Rattle.rina_tower.proofs.tower.Tower.take_all.Goals as goal
 
 pub steps-init : goal.steps-init
@@ -30,3 +31,9 @@ steps-preserved c =
       follows = follows_step c.args.self.now c.steps.self c.in_step_at-answer.new.self c.steps.invariant.follows k.valid k.quiet k.height;
       going = λ slots. going_more has_taken (Taking c.args.place) c.in_step_at-answer.result slots slots slots c.args.self.now c.steps.self c.in_step_at-answer.new.self (c.steps.invariant.going slots) (refl, k.does) (c.in_ok-has_taken.ensures.tells.0 ∙ c.if-not-branch.false);
     }
+
+pub returns-in_err-has_taken-clause-fails : goal.returns-in_err-has_taken-clause-fails
+returns-in_err-has_taken-clause-fails c = on_err c.from_residual.result _ (c.in_step_at-answer.ensures.fails c.in_err-has_taken.ensures.memory)
+
+pub returns-clause-follows : goal.returns-clause-follows
+returns-clause-follows c = follows_on c.args.self.now c.steps.self c.fail.new.self c.steps.invariant.follows c.fail.ensures.follows

@@ -1,10 +1,12 @@
 use Rattle.std.proofs.Common.{◌≡◌, Err, Some}
 use Rattle.rina_iface.proofs.LaterCalls.{later_unregisters}
 use Rattle.rina_tower.specs.Ranks.{now_of, seen_of_difs}
-use Rattle.rina_tower.proofs.Failed.{rank_failed}
+use Rattle.rina_tower.proofs.Failed.{rank_failed, wires_failed}
 use Rattle.rina_tower.proofs.Serving.{rank_serves, unregisters_seen}
 use Rattle.rina_iface.specs.declared.error.UnregisterError.TheVariants.{Unbuilt, NotThere}
 use Rattle.rina_iface.specs.Unregister.{Unregisters}
+use Rattle.rina_iface.specs.declared.error.UnregisterError.TheVariants as unregister
+use Rattle.rina_wire.specs.Unregister.{UnregistersOn}
 use Rattle.rina_tower.proofs.tower.Tower.unregister_here.Goals as goal
 
 pub returns-in-Rank-clause-valid : goal.returns-in-Rank-clause-valid
@@ -37,3 +39,6 @@ returns-in-Rank-clause-does c =
 
 pub returns-in-Rank-clause-fails : goal.returns-in-Rank-clause-fails
 returns-in-Rank-clause-fails c = λ h. rw c.deref_mut.ensures.value (rank_failed c.unregister-in-Rank.new.self c.in-Rank.rank.value.below (c.unregister-in-Rank.ensures.fails h))
+
+pub returns-in-Wires-clause-fails : goal.returns-in-Wires-clause-fails
+returns-in-Wires-clause-fails c = λ h. wires_failed (λ z. UnregistersOn c.in-Wires.wires c.args.fac c.args.node c.args.app.now z c.unregister.new.self) c.unregister.result (Err unregister.Memory) c.in-Wires.wires c.unregister.new.self c.unregister.ensures.exact h (λ x. x)
