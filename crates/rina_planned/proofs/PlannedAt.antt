@@ -58,7 +58,7 @@ keeps_below plan t t' same = (same_height t t' same, same_planned plan t t' same
 keeps_rank : (plan : Plan) (p p' : _) (difs difs' : List Dif) (below below' : Tower) → AreStaying difs difs' → Keeps plan below below' → Keeps plan (Rank' p difs below) (Rank' p' difs' below')
 keeps_rank plan p p' difs difs' below below' stays k = (
   ap (λ (n : ℕ). n + 1) k.0,
-  λ h. (subst (λ (n : ℕ). AreOfPlan plan (n + 1) difs') (sym k.0) (difs_planned plan (height_of below + 1) difs difs' stays h.0), k.1 h.1)
+  λ h. (subst (λ (n : ℕ). AreOfPlan plan (n + 1) difs') (sym k.0) (difs_planned plan (height_of below + 1) difs difs' stays h.0), k.1 h.1),
 )
 
 -- ---- at a rank
