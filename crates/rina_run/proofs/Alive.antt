@@ -1,5 +1,5 @@
 -- Calls of a tower, which wanted no memory before where it answers anything but that it wants some.
-use Rattle.std.proofs.Common.{◌≡◌, Bool, true, false, Result, Ok, Err, refl}
+use Rattle.std.proofs.Common.{◌≡◌, Bool, true, false, Ok, Err, refl}
 
 -- what would follow of a tower that wanted memory before does not hold
 pub alive : {X : Type 0} (b : Bool) → (b ≡ true → X) → (X → ⊥) → b ≡ false

@@ -1,5 +1,5 @@
 -- Traces that go on.
-use Rattle.std.proofs.Common.{◌≡◌, ℕ, zero, suc, ◌+◌, List, [], ◌++◌, Result, Ok, Err, OnOk, OnErr, Option, Some, None, option_map, Bor, refl, sym, ap, ◌∙◌, append_assoc, add-one}
+use Rattle.std.proofs.Common.{◌≡◌, ℕ, zero, suc, ◌+◌, List, [], ◌++◌, Result, Ok, Err, OnOk, Option, Some, None, option_map, Bor, refl, sym, ap, ◌∙◌, append_assoc, add-one}
 use Rattle.std.proofs.lemmas.List.{append-nil}
 use Rattle.std.specs.Prelude.{MatchOption}
 use Rattle.rina_account.specs.declared.ledger.Off.{Off}

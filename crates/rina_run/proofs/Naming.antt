@@ -1,5 +1,5 @@
 -- The DIFs of a rank, one after the other.
-use Rattle.std.proofs.Common.{◌≡◌, ℕ, ◌+◌, ◌-◌, ◌<◌, ◌≤◌, ◌==◌, not, zero, suc, Bool, true, false, List, [], ◌∷◌, drop, filter, get_or, length, map, slice_get, Option, Some, None, refl, sym, ap, ◌∙◌, arith}
+use Rattle.std.proofs.Common.{◌≡◌, ℕ, ◌+◌, ◌<◌, ◌≤◌, not, suc, Bool, true, false, List, ◌∷◌, drop, filter, get_or, length, slice_get, Some, refl, ap, ◌∙◌, arith}
 use Rattle.std.proofs.lemmas.List.{drop_more}
 use Rattle.std.proofs.lemmas.List.Filters.{length-filter_both}
 use Rattle.rina_plan.specs.declared.dif.DifPlan.{DifPlan}

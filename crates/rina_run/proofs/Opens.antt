@@ -1,5 +1,5 @@
 -- The labels that a run begins with.
-use Rattle.std.proofs.Common.{◌≡◌, ◌∙◌, ℕ, zero, suc, ◌+◌, ◌*◌, ◌<◌, ◌≤◌, ◌==◌, Bool, true, false, cond, List, [], ◌∷◌, ◌++◌, length, map, take, get_or, slice_get, Some, refl, sym, ap, subst, arith, append_assoc}
+use Rattle.std.proofs.Common.{◌≡◌, ◌∙◌, ℕ, zero, suc, ◌+◌, ◌*◌, ◌<◌, ◌≤◌, ◌==◌, Bool, true, false, List, [], ◌∷◌, ◌++◌, length, map, take, get_or, slice_get, Some, refl, sym, ap, subst, arith, append_assoc}
 use Rattle.std.specs.Prelude.{count_by, flat_map}
 use Rattle.std.specs.List.{range_with_len}
 use Rattle.std.proofs.lemmas.List.{append-nil, length-take, map-append, take_more}
@@ -9,16 +9,14 @@ use Rattle.rina_iface.specs.declared.ask.Fixed.{Fixed}
 use Rattle.rina_iface.specs.declared.ends.End.{End}
 use Rattle.rina_iface.proofs.Changed.{all_at}
 use Rattle.rina_plan.specs.declared.dif.DifPlan.{DifPlan}
-use Rattle.rina_plan.specs.declared.dif.EndPlan.{EndPlan}
 use Rattle.rina_plan.specs.declared.dif.FlowPlan.{FlowPlan}
 use Rattle.rina_plan.specs.declared.dif.LinkPlan.{LinkPlan}
 use Rattle.rina_plan.specs.declared.dif.Lower.{Lower}
 use Rattle.rina_plan.specs.declared.dif.Lower.TheVariants.{Wire, Dif}
-use Rattle.rina_plan.specs.Links.{rank_in}
 use Rattle.rina_stack.specs.declared.plan.Plan.{Plan}
 use Rattle.rina_sound.specs.Ranges.{IsLower, IsRangedDif, IsSoundLink}
 use Rattle.rina_stack.specs.Plan.{IsPlan}
-use Rattle.rina_dif.specs.Planned.{link_fixed, links_in, number_of}
+use Rattle.rina_dif.specs.Planned.{link_fixed, number_of}
 use Rattle.rina_tower.specs.declared.tower.Tower.{Tower}
 use Rattle.rina_tower.specs.Building.{IsBuilt}
 use Rattle.rina_tower.specs.Fitting.{links_at}
@@ -30,7 +28,7 @@ use Rattle.rina_tower.proofs.FitMade.{range_more}
 use Rattle.rina_tower.proofs.Opened.{opened}
 use Rattle.rina_run.specs.declared.labels.Label.{Label}
 use Rattle.rina_run.specs.Look.{ends_at}
-use Rattle.rina_run.specs.Opening.{Adds, AreDifLabels, AreFlowLabels, AreLabelsOf, IsLabelOf, NamesEnd, links_of_rank}
+use Rattle.rina_run.specs.Opening.{Adds, AreDifLabels, AreFlowLabels, AreLabelsOf, IsLabelOf, links_of_rank}
 
 -- Lists
 

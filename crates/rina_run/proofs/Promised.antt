@@ -1,5 +1,5 @@
 -- What a tower that stands promises of each of its DIFs.
-use Rattle.std.proofs.Common.{◌≡◌, ℕ, Option, Some, None, IfSome, slice_get}
+use Rattle.std.proofs.Common.{Option, Some, None, IfSome}
 use Rattle.rina_iface.specs.Seen.{Seen}
 use Rattle.rina_dif.specs.declared.dif.Dif.{Dif}
 use Rattle.rina_dif.specs.Holding.{Stands}

@@ -1,5 +1,5 @@
 -- A policy that is retired.
-use Rattle.std.proofs.Common.{◌≡◌, ℕ, Bool, true, false, List, [], ◌∷◌, map, Option, Some, None, option_map, Result, Ok, Err, IsErr, OnOk, OnErr, ◌↔◌, refl, sym, ap, ◌∙◌, get_or, slice_get, slice_set}
+use Rattle.std.proofs.Common.{◌≡◌, ℕ, true, false, List, map, Option, Some, None, option_map, Result, Ok, Err, IsErr, OnOk, OnErr, ◌↔◌, refl, sym, ap, ◌∙◌, get_or, slice_get, slice_set}
 use Rattle.std.specs.Str.{bytes_eq}
 use Rattle.std.proofs.lemmas.List.{map-set}
 use Rattle.std.proofs.lemmas.List.Quantifiers.{position-Some}
@@ -8,7 +8,7 @@ use Rattle.std.proofs.lemmas.Slice.Eq.{bytes_eq-Decides}
 use Rattle.rina_iface.proofs.Changed.{slice_set-same}
 use Rattle.rina_policy.specs.declared.count.Count.{Count}
 use Rattle.rina_policy.specs.declared.shelf.NoPolicy.{NoPolicy}
-use Rattle.rina_policy.specs.Slots.{Slot, count_of, place_of, put_at, retired, slot}
+use Rattle.rina_policy.specs.Slots.{Slot, place_of, put_at, retired, slot}
 use Rattle.rina_run.specs.Step.{HasNames, retire_said, retired_if}
 use Rattle.rina_run.specs.Told.{retired_told}
 

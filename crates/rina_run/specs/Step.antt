@@ -1,5 +1,5 @@
 -- What each line of a schedule does to the tower, the labels and the shelf, and which notes it gives.
-use Rattle.std.specs.Prelude.{◌≡◌, ◌≢◌, ℕ, codes, ◌+◌, zero, suc, min, nat_lt, Bool, true, false, List, [], ◌∷◌, ◌++◌, map, slice_get, Option, Some, None, Result, Ok, Err, option_and_then, option_map}
+use Rattle.std.specs.Prelude.{◌≡◌, ◌≢◌, ℕ, codes, ◌+◌, zero, suc, min, nat_lt, Bool, true, false, List, [], ◌∷◌, ◌++◌, map, Option, Some, None, Result, Ok, Err, option_and_then, option_map}
 use Rattle.std.specs.List.{flat_map}
 use Rattle.rina_account.specs.declared.ledger.Off.{Off}
 use Rattle.rina_base.specs.declared.number.Num.{Num}
@@ -20,9 +20,8 @@ use Rattle.rina_iface.specs.declared.error.FreeError.{FreeError}
 use Rattle.rina_iface.specs.declared.error.AllocateError.{AllocateError}
 use Rattle.rina_iface.specs.declared.error.SendError.{SendError}
 use Rattle.rina_iface.specs.declared.ends.End.{End}
-use Rattle.rina_iface.specs.Seen.{Fac, Seen, unpassed}
+use Rattle.rina_iface.specs.Seen.{unpassed}
 use Rattle.rina_policy.specs.declared.count.Count.{Count}
-use Rattle.rina_policy.specs.declared.policy.Head.{Head}
 use Rattle.rina_policy.specs.Slots.{Slot, count_of, retired}
 use Rattle.rina_report.specs.declared.note.Note.{Note}
 use Rattle.rina_report.specs.declared.note.Note.TheVariants as notes

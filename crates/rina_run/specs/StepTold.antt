@@ -1,5 +1,5 @@
 -- How a run tells single steps of a DIF of a rank, the write-offs of its ledgers, and the objects of its RIBs.
-use Rattle.std.specs.Prelude.{ℕ, ◌-◌, Option, Some, None, Result, Ok, Err, option_map}
+use Rattle.std.specs.Prelude.{ℕ, ◌-◌, Option, Some, None, option_map}
 use Rattle.rina_account.specs.declared.ledger.Off.{Off}
 use Rattle.rina_base.specs.declared.cause.Cause.{Cause}
 use Rattle.rina_base.specs.declared.cause.Cause.TheVariants as causes

@@ -1,4 +1,4 @@
-use Rattle.std.proofs.Common.{◌≡◌, ◌+◌, ◌∙◌, false, rules}
+use Rattle.std.proofs.Common.{◌≡◌, ◌∙◌, false, rules}
 use Rattle.rina_tower.specs.Failing.{has_failed}
 use Rattle.rina_run.proofs.Alive.{alive, answered}
 use Rattle.rina_run.proofs.Clocks.{never_spent, tick_goes}
