@@ -5,7 +5,7 @@ use Rattle.std.proofs.lemmas.List.{length-append}
 use Rattle.rina_base.specs.Names.{is_name_byte, length_at, bad_at, bytes_at, name_at}
 use Rattle.rina_base.proofs.Lengths.{app_short}
 use Rattle.rina_cdap.specs.Messages.{Field, field, be2, be4, byte, has_form, IsRow, contents, fields, is_response, whole_fault}
-use Rattle.rina_cdap.specs.ObjectNames.{is_part_byte, parts_from, is_object_name_of}
+use Rattle.rina_base.specs.ObjectNames.{is_object_byte, are_parts, is_object_name}
 use Rattle.rina_cdap.proofs.Contents.{spells, lawful, front_row, value_row, result_row, addresses_row, size, length-text}
 use Rattle.rina_cdap.proofs.Numbers.{length-number}
 use Rattle.rina_cdap.proofs.Written.{row_fault-message}
@@ -22,7 +22,7 @@ unfolding has_form name_at length_at bytes_at bad_at is_name_byte
 flow_class = refl
 
 flows_name : has_form 4 (codes "/flow") ≡ true
-unfolding has_form is_object_name_of parts_from is_part_byte
+unfolding has_form is_object_name are_parts is_object_byte is_name_byte
 flows_name = refl
 
 length-app : (app : List ℕ) → length (app_text app) ≡ 2 + length app

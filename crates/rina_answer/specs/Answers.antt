@@ -1,15 +1,15 @@
 -- What a RIB answers to a message, and what it is afterwards.
 use Rattle.std.specs.Prelude.{◌≡◌, ℕ, ◌+◌, Bool, true, false, ◌||◌, ◌==◌, List, [], Option, Some, None, unwrap_or, Result, Ok, Err, if◌then◌else◌}
 use Rattle.rina_base.specs.declared.memory.Memory.{Memory}
-use Rattle.rina_cdap.specs.ObjectNames.{is_object_name_of}
+use Rattle.rina_base.specs.ObjectNames.{is_object_name}
 use Rattle.rina_cdap.specs.declared.message.Message.{Message}
 use Rattle.rina_cdap.specs.Messages.{is_response}
 use Rattle.rina_cdap.specs.Plain.{plain}
-use Rattle.rina_rib.specs.declared.class.Class.{Class}
+use Rattle.rina_base.specs.declared.class.Class.{Class}
 use Rattle.rina_rib.specs.declared.error.RibError.{RibError}
 use Rattle.rina_rib.specs.declared.error.RibError.TheVariants as errors
 use Rattle.rina_rib.specs.declared.caller.Caller.TheVariants.{Cdap}
-use Rattle.rina_rib.specs.Classes.{class_text, class_of}
+use Rattle.rina_base.specs.Classes.{class_text, class_of}
 use Rattle.rina_rib.specs.Things.{Thing, thing, made_value, switched, with_value}
 use Rattle.rina_rib.specs.Objects.{object_at}
 use Rattle.rina_rib.specs.Rows.{Tree, created, deleted, written, turned}
@@ -114,7 +114,7 @@ turn_told t m op name on = turn_of t m op name on (object_at t.objects name)
 -- the name of an object
 abbrev pub named : Option (List ℕ) → Option (List ℕ)
 named None = None
-named (Some name) = if is_object_name_of name then Some name else None
+named (Some name) = if is_object_name name then Some name else None
 
 abbrev pub at_name : Tree → Message → Option (List ℕ) → Told
 at_name t m None = refusal t m 1

@@ -1,12 +1,12 @@
 //! Answering.
 ghost use Rattle.std.specs.Prelude.{◌≡◌, true, false, Some, IfSome, option_copied};
-ghost use Rattle.rina_cdap.specs.ObjectNames.{IsObjectName};
+ghost use Rattle.rina_base.specs.ObjectNames.{IsObjectName};
 ghost use Rattle.rina_rib.specs.Things.{shown};
 ghost use Rattle.rina_answer.specs.Answers.{named, value_of, class_in, class_or, is_asked, create_told, delete_told, read_told, write_told, turn_told, at_name, told, Answers};
 
 use crate::reply::{Shown, begin, fail, refuse, succeed};
-use rina_base::Memory;
-use rina_cdap::{Message, is_object_name, operation};
+use rina_base::{Memory, is_object_name};
+use rina_cdap::{Message, operation};
 use rina_rib::{Caller, Class, Rib};
 use std::alloc::Global;
 

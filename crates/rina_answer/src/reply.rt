@@ -1,7 +1,7 @@
 //! Answers.
 ghost use Rattle.std.specs.Prelude.{◌≡◌, IfOk};
 ghost use Rattle.std.specs.Result.{result_ok};
-ghost use Rattle.rina_rib.specs.Classes.{class_text};
+ghost use Rattle.rina_base.specs.Classes.{class_text};
 ghost use Rattle.rina_rib.specs.Things.{thing};
 ghost use Rattle.rina_answer.specs.Answers.{response_of, begun, refused, succeeded, failed};
 
@@ -22,7 +22,7 @@ pub(crate) struct Shown {
 
 impl Model for Shown {
     ghost use Rattle.std.specs.Prelude.{◌≡◌};
-    ghost use Rattle.rina_rib.specs.Classes.{class_text};
+    ghost use Rattle.rina_base.specs.Classes.{class_text};
     ghost use Rattle.rina_rib.specs.Things.{Thing, thing};
 
     ghost Value = { Thing };

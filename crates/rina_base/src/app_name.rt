@@ -1,5 +1,5 @@
 //! Names of applications.
-ghost use Rattle.std.specs.Prelude.{◌≡◌, ◌<◌, ◌≤◌, Ok, length, IfOk, IfSome, is_some};
+ghost use Rattle.std.specs.Prelude.{◌≡◌, ◌<◌, ◌≤◌, Ok, length, IfOk, IfSome, is_ok, is_some};
 ghost use Rattle.std.specs.Str.{bytes_eq};
 ghost use Rattle.rina_base.specs.Names.{Gives, app_at, ipc_at, slash_in};
 
@@ -37,7 +37,8 @@ fn slash(text: &[u8]) -> Option<usize>
 
 #[tactic(auto, unfolding(crate::specs::Names::ipc_at))]
 fn check_ipc(dif: &[u8], node: &[u8]) -> Result<(), NameError>
-    ensures { Gives (λ t. t) result (ipc_at dif.now node.now) }
+    ensures fault { Gives (λ t. t) result (ipc_at dif.now node.now) }
+    ensures is { is_ok result ≡ is_ok (ipc_at dif.now node.now) }
 {
     check_length(dif)?;
     check_length(node)?;
@@ -48,7 +49,8 @@ fn check_ipc(dif: &[u8], node: &[u8]) -> Result<(), NameError>
 /// Whether a text is an application name.
 #[tactic(auto, unfolding(crate::specs::Names::app_at))]
 fn check_app(text: &[u8]) -> Result<(), NameError>
-    ensures { Gives (λ _. text.now) result (app_at text.now) }
+    ensures fault { Gives (λ _. text.now) result (app_at text.now) }
+    ensures is { is_ok result ≡ is_ok (app_at text.now) }
 {
     match slash(text) {
         None => check_name(text),
@@ -69,6 +71,13 @@ impl AppName {
         check_app(text)?;
         let bytes = Vec::from_slice(alloc, text)?;
         Ok(AppName { bytes })
+    }
+
+    /// Whether a text is an application name; takes no memory.
+    pub fn is_app_name(text: &[u8]) -> bool
+        ensures { result ≡ is_ok (app_at text.now) }
+    {
+        check_app(text).is_ok()
     }
 
     /// A copy.

@@ -64,7 +64,8 @@ fn first_bad(text: &[u8]) -> Option<usize>
 /// Whether a part of a name has 1 to 64 bytes.
 #[tactic(auto, unfolding(crate::specs::Names::length_at))]
 pub(crate) fn check_length(text: &[u8]) -> Result<(), NameError>
-    ensures gives { Gives (λ t. t) result (length_at text.now) }
+    ensures fault { Gives (λ t. t) result (length_at text.now) }
+    ensures is { is_ok result ≡ is_ok (length_at text.now) }
     ensures short { OnOk result (length text.now ≤ 64) }
 {
     if text.is_empty() || text.len() > 64 {
@@ -77,7 +78,8 @@ pub(crate) fn check_length(text: &[u8]) -> Result<(), NameError>
 #[tactic(auto, unfolding(crate::specs::Names::bytes_at))]
 pub(crate) fn check_bytes(before: usize, text: &[u8]) -> Result<(), NameError>
     requires { before < 2 ^ 32 }
-    ensures { Gives (λ t. t) result (bytes_at before text.now) }
+    ensures fault { Gives (λ t. t) result (bytes_at before text.now) }
+    ensures is { is_ok result ≡ is_ok (bytes_at before text.now) }
 {
     match first_bad(text) {
         Some(at) => Err(NameError::BadByte { at: before + at }),
@@ -88,7 +90,8 @@ pub(crate) fn check_bytes(before: usize, text: &[u8]) -> Result<(), NameError>
 /// Whether a text is a name.
 #[tactic(auto, unfolding(crate::specs::Names::name_at))]
 pub(crate) fn check_name(text: &[u8]) -> Result<(), NameError>
-    ensures { Gives (λ _. text.now) result (name_at text.now) }
+    ensures fault { Gives (λ _. text.now) result (name_at text.now) }
+    ensures is { is_ok result ≡ is_ok (name_at text.now) }
 {
     check_length(text)?;
     check_bytes(0, text)?;
@@ -128,10 +131,9 @@ impl Name {
     }
 
     /// Whether a text is a name; takes no memory.
-    #[tactic(auto, unfolding(crate::specs::Names::name_at, crate::specs::Names::length_at, crate::specs::Names::bytes_at))]
     pub fn is_name(text: &[u8]) -> bool
         ensures { result ≡ is_ok (name_at text.now) }
     {
-        !text.is_empty() && text.len() <= 64 && first_bad(text).is_none()
+        check_name(text).is_ok()
     }
 }

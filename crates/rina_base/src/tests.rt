@@ -116,3 +116,23 @@ fn an_acknowledgement_is_known_by_what_it_acknowledges(rt: HostRuntime) -> Resul
     assert_eq!(rt; view.key(), key);
     Ok(())
 }
+
+#[test]
+fn an_object_name_is_a_slash_or_parts(rt: HostRuntime) {
+    for name in [b"/".as_slice(), b"/user", b"/dir/d!b", b"/a/b.c-d_9"] {
+        assert!(rt; is_object_name(name));
+    }
+    for name in [b"".as_slice(), b"user", b"//", b"/a/", b"/A", b"/a//b"] {
+        assert!(rt; !is_object_name(name));
+    }
+}
+
+#[test]
+fn numbers_are_decimal(rt: HostRuntime) {
+    assert_eq!(rt; read_number(b"7"), Some(7));
+    assert_eq!(rt; read_number(b"007"), Some(7));
+    assert_eq!(rt; read_number(b"4294967295"), Some(4_294_967_295));
+    assert_eq!(rt; read_number(b"4294967296"), None);
+    assert_eq!(rt; read_number(b""), None);
+    assert_eq!(rt; read_number(b"1a"), None);
+}

@@ -9,7 +9,7 @@ use Rattle.rina_cdap.specs.declared.error.CdapError.{CdapError}
 use Rattle.rina_cdap.specs.declared.error.CdapError.TheVariants.{Memory, Short, BadTag, BadOp, Twice, Missing, BadValue}
 use Rattle.rina_cdap.specs.declared.message.Message.{Message}
 use Rattle.rina_cdap.specs.Messages.{Field, field, be2, be4, byte, has_form, IsLawful, IsRow, field_text, text, fields, row_fault, Spells}
-use Rattle.rina_cdap.specs.ObjectNames.{is_object_name_of}
+use Rattle.rina_base.specs.ObjectNames.{is_object_name}
 use Rattle.rina_cdap.specs.Writing.{Makes}
 
 -- only want of memory stops what can be written
@@ -40,7 +40,7 @@ pub invoke_form : (n : ℕ) → has_form 2 (be4 n) ≡ true
 unfolding has_form be4
 invoke_form n = refl
 
-pub key_form : (key : List ℕ) → is_object_name_of key ≡ true → length key ≤ 255 → has_form 4 key ≡ true
+pub key_form : (key : List ℕ) → is_object_name key ≡ true → length key ≤ 255 → has_form 4 key ≡ true
 unfolding has_form
 key_form key name short = both _ _ (le-leb _ _ (omega arith)) (both _ _ (le-leb _ _ short) name)
 

@@ -5,7 +5,7 @@ use Rattle.std.proofs.lemmas.Bool.{ltb-false, le-ltb, eqb-true, eqb-false, leb-t
 use Rattle.std.proofs.lemmas.List.{take_at, drop_at, take-append-drop, length-append, length-take}
 use Rattle.std.proofs.lemmas.Nat.{be_bytes_2, from_be_bytes-to_be_bytes_2}
 use Rattle.rina_base.specs.Names.{name_at, app_at}
-use Rattle.rina_cdap.specs.ObjectNames.{is_object_name_of}
+use Rattle.rina_base.specs.ObjectNames.{is_object_name}
 use Rattle.rina_cdap.specs.declared.error.CdapError.{CdapError}
 use Rattle.rina_cdap.specs.declared.error.CdapError.TheVariants.{BadTag, BadOp, Twice, BadValue}
 use Rattle.rina_cdap.specs.Messages.{Field, field, be2, has_form, IsLawful, field_text}
@@ -79,7 +79,7 @@ table_form tag content =
     cond (eqb tag 1) (eqb (length content) 1 && leb (get_or content 0 0) 17)
     (cond (eqb tag 2 || eqb tag 11 || eqb tag 12) (eqb (length content) 4)
     (cond (eqb tag 3) (is_ok (name_at content))
-    (cond (eqb tag 4) (leb (length content) 255 && is_object_name_of content)
+    (cond (eqb tag 4) (leb (length content) 255 && is_object_name content)
     (cond (eqb tag 5) (eqb (length content) 8)
     (cond (eqb tag 6) true
     (cond (eqb tag 7) (eqb (length content) 1)

@@ -1,6 +1,5 @@
 pub mod Faults
 pub mod Messages
-pub mod ObjectNames
 pub mod Plain
 pub mod Reading
 pub mod Writing

@@ -2,7 +2,7 @@
 use Rattle.std.specs.Prelude.{◌≡◌, ℕ, ◌+◌, ◌%◌, ◌<◌, ◌≤◌, ◌^◌, Bool, true, ◌||◌, ◌&&◌, ◌==◌, nat_le, List, [], ◌∷◌, ◌++◌, length, slice_index, Option, Some, None, option_map, is_some, is_ok, if◌then◌else◌}
 use Rattle.std.specs.Int.{w16, w32, w64, to_be_bytes}
 use Rattle.rina_base.specs.Names.{name_at, app_at}
-use Rattle.rina_cdap.specs.ObjectNames.{is_object_name_of}
+use Rattle.rina_base.specs.ObjectNames.{is_object_name}
 use Rattle.rina_cdap.specs.declared.error.CdapError.{CdapError}
 use Rattle.rina_cdap.specs.declared.error.CdapError.TheVariants.{Missing, BadValue}
 use Rattle.rina_cdap.specs.declared.message.Message.{Message}
@@ -33,7 +33,7 @@ has_form tag content = nat_le (length content) 65535 &&
     (if tag == 1 then (length content == 1) && nat_le (slice_index content 0) 17
     else (if (tag == 2) || (tag == 11) || (tag == 12) then length content == 4
     else (if tag == 3 then is_ok (name_at content)
-    else (if tag == 4 then nat_le (length content) 255 && is_object_name_of content
+    else (if tag == 4 then nat_le (length content) 255 && is_object_name content
     else (if tag == 5 then length content == 8
     else (if tag == 6 then true
     else (if tag == 7 then length content == 1

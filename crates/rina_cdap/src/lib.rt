@@ -6,7 +6,6 @@ mod form;
 mod laws;
 mod message;
 mod number;
-mod object_name;
 mod reading;
 mod writing;
 
@@ -14,7 +13,6 @@ pub use error::CdapError;
 pub use laws::{there_is_one_first_fault, what_is_read_is_spelled_so, what_is_written_is_read};
 pub use message::{Message, operation};
 pub use number::{put_number, take_number};
-pub use object_name::is_object_name;
 pub use reading::read;
 pub use writing::write;
 

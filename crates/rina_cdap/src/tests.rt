@@ -127,16 +127,6 @@ fn what_is_not_written(rt: HostRuntime) -> Result<(), Fail> {
 }
 
 #[test]
-fn an_object_name_is_a_slash_or_parts(rt: HostRuntime) {
-    for name in [b"/".as_slice(), b"/user", b"/dir/d!b", b"/a/b.c-d_9"] {
-        assert!(rt; is_object_name(name));
-    }
-    for name in [b"".as_slice(), b"user", b"//", b"/a/", b"/A", b"/a//b"] {
-        assert!(rt; !is_object_name(name));
-    }
-}
-
-#[test]
 fn a_number_is_taken_as_it_was_put(rt: HostRuntime) -> Result<(), Fail> {
     let mut out = Vec::new(rt.alloc());
     put_number(&mut out, 0x01020304)?;

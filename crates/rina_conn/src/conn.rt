@@ -122,12 +122,12 @@ impl Conn {
         let present = self.rx.present(now);
         let last_in = self.rx.last_in();
         let verdict = self.rx.on_data(now, pdu, unpassed);
-        self.mark(now, last_in, verdict);
-        self.begin(present, verdict, unpassed);
+        self.plan_ack(now, last_in, verdict);
+        self.note_state_begun(present, verdict, unpassed);
         verdict
     }
 
-    fn mark(&mut self, now: Tick, last_in: Option<Tick>, verdict: Verdict)
+    fn plan_ack(&mut self, now: Tick, last_in: Option<Tick>, verdict: Verdict)
         ensures marks { PassesOn now last_in (marks verdict) self.old.plan self.new.plan }
         ensures same { (self.new.rx ≡ self.old.rx) × (self.new.sending ≡ self.old.sending) × (self.new.given_up ≡ self.old.given_up) × (self.new.waiting ≡ self.old.waiting) }
     {
@@ -137,7 +137,7 @@ impl Conn {
     }
 
     /// Notes that a state began, where the piece that came began one.
-    fn begin(&mut self, present: bool, verdict: Verdict, unpassed: u32)
+    fn note_state_begun(&mut self, present: bool, verdict: Verdict, unpassed: u32)
         ensures { self.new ≡ record self.old { waiting = waits_after present verdict unpassed self.old.waiting } }
     {
         if !present && is_accepted(verdict) {
@@ -160,7 +160,7 @@ impl Conn {
     }
 
     /// Notes that the SDU that is fetched next waits to be passed.
-    fn note_next(&mut self)
+    fn note_next_whole(&mut self)
         ensures { self.new ≡ notes_next self.old }
     {
         if let Some(first) = self.rx.next_first() {
@@ -174,7 +174,7 @@ impl Conn {
         ensures* rest { sem 𝓛 (LendsWhole self.entry) }
         ensures first { IsFirst result self.old.rx.join.whole }
     {
-        self.note_next();
+        self.note_next_whole();
         self.rx.next_whole()
     }
 

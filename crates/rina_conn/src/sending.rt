@@ -33,12 +33,12 @@ pub struct Admitted {
 }
 
 /// The bytes of a part of an SDU.
-fn body_of<'a>(sdu: &'a [u8], parts: &[Part], at: usize) -> &'a [u8]
-    requires at { at < length parts.now }
+fn body_of<'a>(sdu: &'a [u8], parts: &[Part], place: usize) -> &'a [u8]
+    requires place { place < length parts.now }
     requires within { LieWithin (length sdu.now) parts.now }
-    ensures { (p : Part) → slice_get parts.now at ≡ Some p → result.now ≡ (part_in sdu.now p).body }
+    ensures { (p : Part) → slice_get parts.now place ≡ Some p → result.now ≡ (part_in sdu.now p).body }
 {
-    let part = parts[at];
+    let part = parts[place];
     let from = part.at as usize;
     &sdu[from..from + part.len as usize]
 }
@@ -66,7 +66,7 @@ impl Sending {
     }
 
     /// The PDU of a piece.
-    fn piece(
+    fn pdu_of_piece(
         &self,
         alloc: Global,
         seq: u32,
@@ -95,26 +95,26 @@ impl Sending {
     }
 
     /// The PDU of the part at a place.
-    fn nth(
+    fn pdu_of_part(
         &self,
         alloc: Global,
         now: Tick,
         seq: u32,
         parts: &[Part],
-        at: usize,
+        place: usize,
         sdu: &[u8],
     ) -> Result<Pdu, Memory>
-        requires at { at < length parts.now }
+        requires place { place < length parts.now }
         requires within { LieWithin (length sdu.now) parts.now }
-        ensures { IfOk result (λ pdu. (p : Part) → slice_get parts.now at ≡ Some p → pdu ≡ carry self.now.form.peer self.now.form.cube.id (record { number = seq; drf = flag_of now seq self.now.tx; part = part_in sdu.now p })) }
+        ensures { IfOk result (λ pdu. (p : Part) → slice_get parts.now place ≡ Some p → pdu ≡ carry self.now.form.peer self.now.form.cube.id (record { number = seq; drf = flag_of now seq self.now.tx; part = part_in sdu.now p })) }
     {
-        let body = body_of(sdu, parts, at);
+        let body = body_of(sdu, parts, place);
         let drf = self.tx.has_flag(now, seq);
-        self.piece(alloc, seq, drf, &parts[at], body)
+        self.pdu_of_piece(alloc, seq, drf, &parts[place], body)
     }
 
     /// The PDUs of all parts.
-    fn make(
+    fn make_pdus(
         &self,
         alloc: Global,
         now: Tick,
@@ -128,8 +128,8 @@ impl Sending {
         ensures { IfOk result (λ pdus. pdus ≡ made_from (λ n. flag_of now n self.now.tx) (carry self.now.form.peer self.now.form.cube.id) first (map (part_in sdu.now) parts.now)) }
     {
         let mut pdus = Seq::new(alloc);
-        for at in 0..parts.len() {
-            pdus.push(self.nth(alloc, now, first + at as u32, parts, at, sdu)?)?;
+        for place in 0..parts.len() {
+            pdus.push(self.pdu_of_part(alloc, now, first + place as u32, parts, place, sdu)?)?;
         }
         Ok(pdus)
     }
@@ -154,7 +154,7 @@ impl Sending {
     }
 
     /// Takes the numbers of so many pieces, and tells the first of them.
-    fn number(&self, now: Tick, count: u32) -> Result<(u32, Numbers), OfferError>
+    fn take_numbers(&self, now: Tick, count: u32) -> Result<(u32, Numbers), OfferError>
         requires now { now ≤ 10000000 }
         requires count { 1 ≤ count }
         ensures numbers { Numbered now count self.now result }
@@ -178,7 +178,7 @@ impl Sending {
         let parts = self.cut(alloc, sdu)?;
         let count = parts.len() as u32;
         self.check_window(now, count)?;
-        let (first, numbers) = self.number(now, count)?;
+        let (first, numbers) = self.take_numbers(now, count)?;
         Ok(Admitted {
             parts,
             first,
@@ -194,7 +194,7 @@ impl Sending {
     {
         let admitted = self.admit(alloc, now, sdu)?;
         let first = admitted.first;
-        let pdus = self.make(alloc, now, first, admitted.parts.as_slice(), sdu)?;
+        let pdus = self.make_pdus(alloc, now, first, admitted.parts.as_slice(), sdu)?;
         self.tx.note_all(alloc, now, first, pdus.as_slice())?;
         self.numbers = admitted.numbers;
         let num = Num {

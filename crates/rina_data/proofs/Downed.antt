@@ -14,10 +14,10 @@ use Rattle.rina_queue.specs.declared.queues.Queues.{Queues}
 use Rattle.rina_queue.specs.Queues.{emptied, with_items}
 use Rattle.rina_data.specs.declared.link.Link.{Link}
 use Rattle.rina_data.specs.declared.link.Route.{Route}
-use Rattle.rina_data.specs.declared.losing.Lost.{Lost}
+use Rattle.rina_data.specs.declared.loss.Lost.{Lost}
 use Rattle.rina_data.specs.declared.process.IpcProcess.{IpcProcess}
 use Rattle.rina_data.specs.Deciding.{plain, process_of}
-use Rattle.rina_data.specs.Dif.{Process, Queue}
+use Rattle.rina_data.specs.Process.{Process, Queue}
 use Rattle.rina_data.specs.Losing.{FindsLost, IsLost, IsNoMore, lesser, line_down, lines_down, without_items, without_link}
 
 same_some : {X : Type 0} (o : Option X) (a b : X) → o ≡ Some a → o ≡ Some b → a ≡ b

@@ -24,17 +24,18 @@ use Rattle.rina_queue.specs.declared.queue.Queued.{Queued}
 use Rattle.rina_queue.specs.Queues.{Changes, IsServed, head_at, waits, with_items}
 use Rattle.rina_queue.proofs.Served.{served}
 use Rattle.rina_data.specs.declared.link.Link.{Link}
-use Rattle.rina_data.specs.declared.outgoing.First.{First}
+use Rattle.rina_data.specs.declared.departure.First.{First}
 use Rattle.rina_data.specs.declared.process.IpcProcess.{IpcProcess}
 use Rattle.rina_data.specs.declared.step.OutStep.{OutStep}
 use Rattle.rina_data.specs.declared.step.OutStep.TheVariants as out
 use Rattle.rina_data.specs.declared.step.StepError.{StepError}
 use Rattle.rina_data.specs.declared.step.StepError.TheVariants.{Memory, NoIpc, NoLink}
 use Rattle.rina_data.specs.Deciding.{plain, process_of}
-use Rattle.rina_data.specs.Dif.{Config, IsQueue, Process, Queue, link_by, queue_place}
+use Rattle.rina_data.specs.Configs.{Config}
+use Rattle.rina_data.specs.Process.{IsQueue, Process, Queue, link_by, queue_place}
 use Rattle.rina_data.specs.Leaving.{Asks, CanGo, Deals, Drops, IsOff, IsRoomy, IsTaken, Tries}
 use Rattle.rina_data.specs.Outgoing.{Goes, IsHead, charge_of, sent_bytes}
-use Rattle.rina_data.specs.Standing.{IsFit}
+use Rattle.rina_data.specs.Fitting.{IsFit}
 use Rattle.rina_data.proofs.Finding.{found_in}
 use Rattle.rina_data.proofs.Plain.{same_place}
 

@@ -9,11 +9,11 @@ use Rattle.rina_queue.specs.declared.queue.Queue.{Queue as Waiting}
 use Rattle.rina_queue.specs.declared.queue.Queued.{Queued}
 use Rattle.rina_queue.specs.Queues.{Changes, is_queue, items_at, items_in, queue_place as place_there, waiting, with_items}
 use Rattle.rina_data.specs.declared.process.IpcProcess.{IpcProcess}
-use Rattle.rina_data.specs.Cloud.{Hop}
+use Rattle.rina_data.specs.Hops.{Hop}
 use Rattle.rina_data.specs.Deciding.{plain, process_of}
 use Rattle.rina_data.specs.Queueing.{IsFull, IsPassedOn}
 use Rattle.rina_base.specs.declared.pdu.Pdu.{Pdu}
-use Rattle.rina_data.specs.Dif.{IsQueue, Queue, next_hop, queue_place, with_put}
+use Rattle.rina_data.specs.Process.{IsQueue, Queue, next_hop, queue_place, with_put}
 use Rattle.rina_data.proofs.Finding.{there}
 
 place_map : {X Y : Type 0} → (h : X → Y) (p : Y → Bool) (xs : List X) → position_or_len p (map h xs) ≡ position_or_len (λ x. p (h x)) xs

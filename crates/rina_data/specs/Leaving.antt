@@ -16,14 +16,15 @@ use Rattle.rina_queue.specs.declared.queue.Queue.{Queue as Waiting}
 use Rattle.rina_queue.specs.declared.queue.Queued.{Queued}
 use Rattle.rina_queue.specs.Queues.{IsServed, heads_of}
 use Rattle.rina_data.specs.declared.link.Link.{Link}
-use Rattle.rina_data.specs.declared.outgoing.First.{First}
+use Rattle.rina_data.specs.declared.departure.First.{First}
 use Rattle.rina_data.specs.declared.step.OutStep.{OutStep}
 use Rattle.rina_data.specs.declared.step.OutStep.TheVariants as out
 use Rattle.rina_data.specs.declared.step.StepError.{StepError}
 use Rattle.rina_data.specs.declared.step.StepError.TheVariants.{Memory, NoIpc, NoLink}
-use Rattle.rina_data.specs.Dif.{Config, Process, Queue, IsQueue, link_by, with_offs, with_taken}
+use Rattle.rina_data.specs.Configs.{Config}
+use Rattle.rina_data.specs.Process.{Process, Queue, IsQueue, link_by, with_offs, with_taken}
 use Rattle.rina_data.specs.Outgoing.{IsOver}
-use Rattle.rina_data.specs.Standing.{IsFit}
+use Rattle.rina_data.specs.Fitting.{IsFit}
 
 -- What a step finds
 

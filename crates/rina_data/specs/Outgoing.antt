@@ -18,7 +18,8 @@ use Rattle.rina_data.specs.declared.step.OutStep.TheVariants as out
 use Rattle.rina_data.specs.declared.step.StepError.{StepError}
 use Rattle.rina_data.specs.declared.step.StepError.TheVariants.{Memory, NoIpc, NoLink}
 use Rattle.rina_data.specs.declared.link.Link.{Link}
-use Rattle.rina_data.specs.Dif.{Config, Queue, Process, DifSeen, link_by, with_offs, with_process, with_taken}
+use Rattle.rina_data.specs.Configs.{Config}
+use Rattle.rina_data.specs.Process.{Queue, Process, link_by, with_offs, with_taken}
 
 -- the lifetime that this hop takes from a PDU: the ticks since it came into this system, and what the flow below may
 -- take
@@ -124,18 +125,3 @@ Goes refuses g now process below n (Ok (out.Held why)) process' below' = IsHeld 
 Goes refuses g now process below n (Err Memory) process' below' = (process' ≡ process) × (below' ≡ below)
 Goes refuses g now process below n (Err NoIpc) process' below' = ⊥
 Goes refuses g now process below n (Err NoLink) process' below' = (link_by n process.links ≡ None) × (process' ≡ process) × (below' ≡ below)
-
--- The same at a DIF
-
--- the IPC process of place i does something, and nothing else changes
-pub record IsStep (does : Process → Process → Type 0) (d : DifSeen) (i : ℕ) (d' : DifSeen) : Type 0 where
-  pub process : Process
-  pub process' : Process
-  pub is_process : slice_get d.processes i ≡ Some process
-  pub done : does process process'
-  pub new_is : d' ≡ with_process d i process'
-
--- what `out_step` does at link n of the IPC process of place i
-abbrev pub Outs : (Port → ℕ → Option SendError) → DifSeen → Seen → ℕ → ℕ → Result OutStep StepError → DifSeen → Seen → Type 0
-Outs refuses d below i n (Err NoIpc) d' below' = (slice_get d.processes i ≡ None) × (d' ≡ d) × (below' ≡ below)
-Outs refuses d below i n result d' below' = IsStep (λ process process'. Goes refuses d.config d.clock process below n result process' below') d i d'

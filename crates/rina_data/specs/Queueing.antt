@@ -4,8 +4,8 @@ use Rattle.rina_account.specs.declared.ledger.Off.{Off}
 use Rattle.rina_base.specs.declared.cause.Cause.{Cause}
 use Rattle.rina_base.specs.declared.pdu.Pdu.{Pdu}
 use Rattle.rina_base.specs.Pdus.{key_of}
-use Rattle.rina_data.specs.Cloud.{Hop}
-use Rattle.rina_data.specs.Dif.{Queue, Process, IsQueue, next_hop, with_offs, with_put}
+use Rattle.rina_data.specs.Hops.{Hop}
+use Rattle.rina_data.specs.Process.{Queue, Process, IsQueue, next_hop, with_offs, with_put}
 
 abbrev pub line_for : Pdu → Cause → Off
 line_for pdu cause = record { key = key_of pdu; cause = cause }

@@ -3,8 +3,7 @@ ghost use Rattle.std.specs.Prelude.{◌≡◌, ◌+◌, ◌-◌, ◌<◌, ◌≤
 ghost use Rattle.rina_base.specs.Pdus.{pdu_of};
 ghost use Rattle.rina_pci.specs.Life.{protected};
 ghost use Rattle.rina_pci.specs.Spelling.{AreWidths, Fits, spelling};
-ghost use Rattle.rina_data.specs.Cloud.{opened};
-ghost use Rattle.rina_data.specs.Hops.{hop_of};
+ghost use Rattle.rina_data.specs.Hops.{hop_of, opened};
 
 use rina_base::{Memory, Pdu, PduView, Tick};
 use rina_pci::{PciError, Widths, read_life, read_pdu, write_life, write_pdu};

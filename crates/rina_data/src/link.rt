@@ -1,6 +1,6 @@
 //! The links of an IPC process, and its next hops.
 ghost use Rattle.std.specs.Prelude.{◌≡◌, ◌<◌, length, position, IfSome};
-ghost use Rattle.rina_data.specs.Dif.{is_link, link_by, next_hop};
+ghost use Rattle.rina_data.specs.Process.{is_link, link_by, next_hop};
 
 use rina_base::{Addr, Port};
 
@@ -22,7 +22,7 @@ pub struct Route {
     pub link: u16,
 }
 
-#[tactic(auto, unfolding(crate::specs::Dif::is_link))]
+#[tactic(auto, unfolding(crate::specs::Process::is_link))]
 fn is_link(link: &Link, number: u16) -> bool
     ensures { result ≡ is_link number link.now }
 {

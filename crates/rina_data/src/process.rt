@@ -2,13 +2,13 @@
 ghost use Rattle.std.specs.Prelude.{◌≡◌, ◌≢◌, ◌-◌, ◌<◌, ◌≤◌, OnOk, OnErr, Some, IsSome};
 ghost use Rattle.rina_queue.specs.Queues.{queue_place};
 ghost use Rattle.rina_data.specs.Deciding.{process_of, IsRouted, Forwards, Decides};
-ghost use Rattle.rina_data.specs.Dif.{next_hop};
+ghost use Rattle.rina_data.specs.Process.{next_hop};
 ghost use Rattle.rina_data.specs.Hops.{hop_of};
 ghost use Rattle.rina_data.specs.Queueing.{Notes};
 
 use crate::hop::{HopView, charge, left_after};
 use crate::link::{Link, Route, next_link};
-use crate::step::Settled;
+use crate::step::Decision;
 use rina_account::Ledger;
 use rina_base::{Addr, Cause, Memory, Seq, Tick};
 use rina_queue::{Queued, Queues};
@@ -46,7 +46,7 @@ impl IpcProcess {
         link: u16,
         at: Tick,
         hop: &HopView<'_>,
-    ) -> Result<Settled, Memory>
+    ) -> Result<Decision, Memory>
         requires next { next_hop (hop_of hop.now).pdu.dst self.old.routes ≡ Some link }
         requires there { IsSome (queue_place (hop_of hop.now).pdu.qos link self.old.queues.queues.items) }
         ensures does { Forwards self.old.queues.cap (process_of self.old) at (hop_of hop.now) result (process_of self.new) }
@@ -55,7 +55,7 @@ impl IpcProcess {
         let cap = self.queues.cap;
         if self.queues.room(hop.pdu.qos, link) == 0 {
             self.write_off(alloc, hop, Cause::QueueFull { cap })?;
-            return Ok(Settled::Off(Cause::QueueFull { cap }));
+            return Ok(Decision::Off(Cause::QueueFull { cap }));
         }
         let pdu = hop.pdu.keep(alloc)?;
         let left = hop.left;
@@ -65,14 +65,19 @@ impl IpcProcess {
             since: at,
         };
         match self.queues.push(hop.pdu.qos, link, item) {
-            Ok(()) => Ok(Settled::Relayed),
+            Ok(()) => Ok(Decision::Relayed),
             Err(_full) => unreachable!(),
         }
     }
 
     /// Puts a PDU, which came or was made at tick `at`, into the queue of its next hop, or writes it off. Without memory
     /// nothing changes.
-    pub fn forward(&mut self, alloc: Global, at: Tick, hop: &HopView<'_>) -> Result<Settled, Memory>
+    pub fn forward(
+        &mut self,
+        alloc: Global,
+        at: Tick,
+        hop: &HopView<'_>,
+    ) -> Result<Decision, Memory>
         requires { IsRouted self.old (hop_of hop.now) }
         ensures does { Forwards self.old.queues.cap (process_of self.old) at (hop_of hop.now) result (process_of self.new) }
         ensures cap { self.new.queues.cap ≡ self.old.queues.cap }
@@ -80,21 +85,21 @@ impl IpcProcess {
         let dst = hop.pdu.dst;
         let Some(link) = next_link(self.routes.as_slice(), dst) else {
             self.write_off(alloc, hop, Cause::NoRoute { dst })?;
-            return Ok(Settled::Off(Cause::NoRoute { dst }));
+            return Ok(Decision::Off(Cause::NoRoute { dst }));
         };
         self.queue(alloc, link, at, hop)
     }
 
     /// Decides on a PDU that came at tick `at` to this IPC process, which has the address `addr`: whether it is too
     /// old, is for a connection here, or waits for its next hop.
-    pub fn settle(
+    pub fn route_or_deliver(
         &mut self,
         alloc: Global,
         now: Tick,
         addr: Addr,
         at: Tick,
         hop: &HopView<'_>,
-    ) -> Result<Settled, Memory>
+    ) -> Result<Decision, Memory>
         requires now { now ≤ 10_000_000 }
         requires routed { IsRouted self.old (hop_of hop.now) }
         ensures does { Decides self.old.queues.cap now addr (process_of self.old) at (hop_of hop.now) result (process_of self.new) }
@@ -104,10 +109,10 @@ impl IpcProcess {
         let charge = charge(now, at, 0);
         if left_after(left, charge).is_none() {
             self.write_off(alloc, hop, Cause::Expired { left, charge })?;
-            return Ok(Settled::Off(Cause::Expired { left, charge }));
+            return Ok(Decision::Off(Cause::Expired { left, charge }));
         }
         if hop.pdu.dst == addr {
-            return Ok(Settled::Own);
+            return Ok(Decision::Here);
         }
         self.forward(alloc, at, hop)
     }

@@ -15,9 +15,9 @@ pub enum Took {
 
 /// What an IPC process decided on a PDU by what it knows itself.
 #[derive(Clone, Copy, Debug, PartialEq, Eq)]
-pub enum Settled {
+pub enum Decision {
     /// It is for a connection of this IPC process.
-    Own,
+    Here,
     /// It waits in the queue of the next hop.
     Relayed,
     /// It was written off.

@@ -57,15 +57,15 @@ fn what_is_too_old_or_has_no_way_is_written_off(rt: HostRuntime) -> Result<(), F
         return Err("it is no protected SDU".into());
     };
     let mut process = alone(alloc)?;
-    let late = process.settle(alloc, 131, 2, 100, &hop)?;
+    let late = process.route_or_deliver(alloc, 131, 2, 100, &hop)?;
     let expired = Cause::Expired {
         left: 30,
         charge: 31,
     };
-    assert_eq!(rt; late, Settled::Off(expired));
+    assert_eq!(rt; late, Decision::Off(expired));
     let dst = hop.pdu.dst;
     let lost = alone(alloc)?.forward(alloc, 100, &hop)?;
-    assert_eq!(rt; lost, Settled::Off(Cause::NoRoute { dst }));
+    assert_eq!(rt; lost, Decision::Off(Cause::NoRoute { dst }));
     Ok(())
 }
 
@@ -114,7 +114,7 @@ fn what_waits_for_a_lost_link_is_written_off(rt: HostRuntime) -> Result<(), Fail
     assert_eq!(rt; process.queues.push(1, 0, queued(alloc, 7)?), Ok(()));
     assert!(rt; live_link(process.links.as_slice(), 0).is_some());
     assert_eq!(rt; process.links.len(), 1);
-    process.lose(alloc, 0, Seq::new(alloc))?;
+    process.lose_link(alloc, 0, Seq::new(alloc))?;
     assert!(rt; live_link(process.links.as_slice(), 0).is_none());
     assert!(rt; process.queues.has(1, 0));
     assert_eq!(rt; process.queues.room(1, 0), 4);

@@ -15,18 +15,18 @@ use Rattle.rina_data.specs.declared.link.Link.{Link}
 use Rattle.rina_data.specs.declared.link.Route.{Route}
 use Rattle.rina_data.specs.declared.process.IpcProcess.{IpcProcess}
 use Rattle.rina_data.specs.declared.settings.Settings.{Settings}
-use Rattle.rina_data.specs.Cloud.{IsMine, Waits}
-use Rattle.rina_data.specs.Configs.{config_of, member_of}
+use Rattle.rina_dif_law.specs.Cloud.{IsMine, Waits}
+use Rattle.rina_data.specs.Configs.{Member, config_of, member_of}
 use Rattle.rina_data.specs.Deciding.{plain, process_of}
-use Rattle.rina_data.specs.Dif.{Member, Process, next_hop}
-use Rattle.rina_data.specs.Ids.{Ids}
-use Rattle.rina_data.specs.Numbered.{AreMembers}
-use Rattle.rina_data.specs.Standing.{HasLink, IsConfig, IsInside, IsLinked}
-use Rattle.rina_data.specs.Start.{IsStart}
-use Rattle.rina_data.proofs.Carries.{start_carries}
-use Rattle.rina_data.proofs.Founding.{start_accounted}
-use Rattle.rina_data.proofs.Numbering.{start_numbered}
-use Rattle.rina_data.proofs.Starting.{start_stands}
+use Rattle.rina_data.specs.Process.{Process, next_hop}
+use Rattle.rina_dif_law.specs.Ids.{Ids}
+use Rattle.rina_dif_law.specs.Numbered.{AreMembers}
+use Rattle.rina_dif_law.specs.Standing.{HasLink, IsConfig, IsInside, IsLinked}
+use Rattle.rina_dif_law.specs.Start.{IsStart}
+use Rattle.rina_dif_law.proofs.Carries.{start_carries}
+use Rattle.rina_dif_law.proofs.Founding.{start_accounted}
+use Rattle.rina_dif_law.proofs.Numbering.{start_numbered}
+use Rattle.rina_dif_law.proofs.Starting.{start_stands}
 use Rattle.rina_dif.specs.declared.dif.Dif.{Dif}
 use Rattle.rina_dif.specs.Building.{AreBare, IsBare, IsFree}
 use Rattle.rina_dif.specs.Holding.{AreHoused, Holds}

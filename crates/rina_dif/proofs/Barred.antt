@@ -18,16 +18,16 @@ use Rattle.rina_law.specs.Constants.{Constants}
 use Rattle.rina_law.specs.Direction.{Direction, offer_refusal}
 use Rattle.rina_law.specs.Pieces.{Part, IsCut, join}
 use Rattle.rina_law.specs.Sender.{Refusal, Sender, WindowShut, NumbersSpent, is_absent, refusal, room_of, started}
-use Rattle.rina_data.specs.Configs.{config_of}
-use Rattle.rina_data.specs.Dif.{Config, piece_size}
-use Rattle.rina_data.specs.Sending.{by_sender, or_else, refused_at}
-use Rattle.rina_data.specs.Standing.{IsConfig, IsQos}
-use Rattle.rina_data.proofs.Finding.{beside}
+use Rattle.rina_data.specs.Configs.{Config, config_of, piece_size}
+use Rattle.rina_dif_law.specs.Sending.{by_sender, or_else, refused_at}
+use Rattle.rina_dif_law.specs.Standing.{IsConfig}
+use Rattle.rina_data.specs.Fitting.{IsQos}
+use Rattle.rina_dif_law.proofs.Finding.{beside}
 use Rattle.rina_flows.specs.Calls.{AreParts, AreTied, TellsNeed}
 use Rattle.rina_flows.specs.Tied.{IsAt, IsSending, ids_of, outward}
 use Rattle.rina_flows.proofs.Framed.{ids_at}
 use Rattle.rina_dif.specs.declared.dif.Dif.{Dif}
-use Rattle.rina_dif.specs.declared.sending.Way.{Way}
+use Rattle.rina_dif.specs.declared.send.Way.{Way}
 use Rattle.rina_dif.specs.Facade.{way_refusal}
 use Rattle.rina_dif.specs.Holding.{Stands}
 use Rattle.rina_dif.specs.Sending.{IsAdmitted, IsBarred, IsWay}

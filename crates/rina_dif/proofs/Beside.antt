@@ -20,25 +20,27 @@ use Rattle.rina_data.specs.declared.step.OutStep.{OutStep}
 use Rattle.rina_data.specs.declared.step.OutStep.TheVariants as out
 use Rattle.rina_data.specs.declared.step.StepError.{StepError}
 use Rattle.rina_data.specs.declared.step.StepError.TheVariants.{Memory, NoIpc, NoLink}
-use Rattle.rina_data.specs.Accounted.{IsAccounted}
-use Rattle.rina_data.specs.Cloud.{IsMine}
-use Rattle.rina_data.specs.Configs.{config_of}
-use Rattle.rina_data.specs.Dif.{Config, DifSeen, Member, Process, fac_of}
-use Rattle.rina_data.specs.Incoming.{Ins}
-use Rattle.rina_data.specs.Others.{AreApart}
-use Rattle.rina_data.specs.Outgoing.{Goes, IsForwarded, Offs, Outs, sent_bytes}
-use Rattle.rina_data.specs.Standing.{IsLinked, IsStanding}
-use Rattle.rina_data.specs.Upward.{IsSilent}
-use Rattle.rina_data.proofs.After.{IsAfter, NoMore, after_none, after_passed, after_sent, no_more_of_others}
-use Rattle.rina_data.proofs.Carries.{after_carries}
-use Rattle.rina_data.proofs.Ends.{same_some}
-use Rattle.rina_data.proofs.Finding.{beside, live_link}
-use Rattle.rina_data.proofs.Finishing.{ended_silent}
-use Rattle.rina_data.proofs.Keepers.{facility}
-use Rattle.rina_data.proofs.Lifted.{passes_of_others_account, sends_of_others_account}
-use Rattle.rina_data.proofs.Numbering.{beside_after}
-use Rattle.rina_data.proofs.Taking.{still_stands}
-use Rattle.rina_data.proofs.Upper.{acknowledged_silent, forgotten_silent, ins_silent, outs_silent, resent_silent}
+use Rattle.rina_dif_law.specs.Accounted.{IsAccounted}
+use Rattle.rina_dif_law.specs.Cloud.{IsMine}
+use Rattle.rina_data.specs.Configs.{Config, Member, config_of}
+use Rattle.rina_dif_law.specs.Dif.{DifSeen, fac_of}
+use Rattle.rina_data.specs.Process.{Process}
+use Rattle.rina_dif_law.specs.Incoming.{Ins}
+use Rattle.rina_dif_law.specs.Others.{AreApart}
+use Rattle.rina_data.specs.Outgoing.{Goes, IsForwarded, Offs, sent_bytes}
+use Rattle.rina_dif_law.specs.Outgoing.{Outs}
+use Rattle.rina_dif_law.specs.Standing.{IsLinked, IsStanding}
+use Rattle.rina_dif_law.specs.Upward.{IsSilent}
+use Rattle.rina_dif_law.proofs.After.{IsAfter, NoMore, after_none, after_passed, after_sent, no_more_of_others}
+use Rattle.rina_dif_law.proofs.Carries.{after_carries}
+use Rattle.rina_dif_law.proofs.Ends.{same_some}
+use Rattle.rina_dif_law.proofs.Finding.{beside, live_link}
+use Rattle.rina_dif_law.proofs.Finishing.{ended_silent}
+use Rattle.rina_dif_law.proofs.Keepers.{facility}
+use Rattle.rina_dif_law.proofs.Lifted.{passes_of_others_account, sends_of_others_account}
+use Rattle.rina_dif_law.proofs.Numbering.{beside_after}
+use Rattle.rina_dif_law.proofs.Taking.{still_stands}
+use Rattle.rina_dif_law.proofs.Upper.{acknowledged_silent, forgotten_silent, ins_silent, outs_silent, resent_silent}
 use Rattle.rina_dif.specs.declared.dif.Dif.{Dif}
 use Rattle.rina_dif.specs.Clocking.{Steps, StepsFlow, StepsHere}
 use Rattle.rina_dif.specs.Facade.{GoesOn, OthersStand}

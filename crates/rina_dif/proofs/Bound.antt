@@ -25,24 +25,24 @@ use Rattle.rina_law.specs.Direction.{Direction, start}
 use Rattle.rina_pci.specs.Spelling.{IsWidth}
 use Rattle.rina_data.specs.declared.settings.Member.{Member as Kept}
 use Rattle.rina_data.specs.declared.settings.Settings.{Settings}
-use Rattle.rina_data.specs.Binding.{IsBound, asker_next, far_next, flow_next, ids_next}
-use Rattle.rina_data.specs.Configs.{config_of, member_of}
-use Rattle.rina_data.specs.Dif.{Config, DifSeen, Member, constants, cube_by, fac_of, greatest, offer_of, piece_size}
-use Rattle.rina_data.specs.Ids.{Ids, flipped}
-use Rattle.rina_data.specs.Lifting.{ticked}
-use Rattle.rina_data.specs.Numbered.{AreMembers, asked_at, is_asker}
-use Rattle.rina_data.specs.Sending.{home}
-use Rattle.rina_data.specs.Standing.{IsConfig}
-use Rattle.rina_data.specs.Start.{IsFresh}
-use Rattle.rina_data.proofs.Binding.{bound_carries, bound_later, bound_numbers, bound_stands, new_name}
+use Rattle.rina_dif_law.specs.Binding.{IsBound, asker_next, far_next, flow_next, ids_next}
+use Rattle.rina_data.specs.Configs.{Config, Member, config_of, cube_by, greatest, member_of, piece_size}
+use Rattle.rina_dif_law.specs.Dif.{DifSeen, constants, fac_of, offer_of}
+use Rattle.rina_dif_law.specs.Ids.{Ids, flipped}
+use Rattle.rina_dif_law.specs.Lifting.{ticked}
+use Rattle.rina_dif_law.specs.Numbered.{AreMembers, asked_at, is_asker}
+use Rattle.rina_dif_law.specs.Sending.{home}
+use Rattle.rina_dif_law.specs.Standing.{IsConfig}
+use Rattle.rina_dif_law.specs.Start.{IsFresh}
+use Rattle.rina_dif_law.proofs.Binding.{bound_carries, bound_later, bound_numbers, bound_stands, new_name}
 use Rattle.rina_data.proofs.Finding.{there}
-use Rattle.rina_data.proofs.Founding.{bound_accounted}
-use Rattle.rina_data.proofs.Keepers.{facility, offered_by}
-use Rattle.rina_data.proofs.Numbering.{counts}
+use Rattle.rina_dif_law.proofs.Founding.{bound_accounted}
+use Rattle.rina_dif_law.proofs.Keepers.{facility, offered_by}
+use Rattle.rina_dif_law.proofs.Numbering.{counts}
 use Rattle.rina_flows.specs.declared.flows.Flows.{Flows}
 use Rattle.rina_flows.specs.Adding.{Adds, IsNewFlow, begun_now, turned}
 use Rattle.rina_flows.specs.Tied.{conns_of, ids_by}
-use Rattle.rina_dif.specs.declared.binding.NextEnd.{NextEnd}
+use Rattle.rina_dif.specs.declared.fixed_flows.NextEnd.{NextEnd}
 use Rattle.rina_dif.specs.declared.dif.Dif.{Dif}
 use Rattle.rina_dif.specs.Binding.{AddsFlow, BindsAt, BindsTo, Draws, MayBind, SomeDraws}
 use Rattle.rina_dif.specs.Facade.{GoesOn, IsShownAs, StaysStanding, shown_as}

@@ -39,20 +39,23 @@ use Rattle.rina_data.specs.declared.step.StepError.{StepError}
 use Rattle.rina_data.specs.declared.step.StepError.TheVariants.{Memory, NoIpc, NoLink}
 use Rattle.rina_data.specs.declared.step.Took.{Took}
 use Rattle.rina_data.specs.declared.step.Took.TheVariants as took
-use Rattle.rina_data.specs.Binding.{IsBound, asker_next, far_next}
-use Rattle.rina_data.specs.Caused.{AreCaused, HasFailedBelow, HasGivenUp, IsCause}
-use Rattle.rina_data.specs.Cloud.{Hop}
-use Rattle.rina_data.specs.Dif.{Config, DifSeen, Member, Process, constants, cube_by}
-use Rattle.rina_data.specs.Ending.{IsEnded, IsGivenUp}
-use Rattle.rina_data.specs.Ids.{Ids}
-use Rattle.rina_data.specs.Incoming.{Ins, IsArrived, IsTold, Settles, SettlesOff}
-use Rattle.rina_data.specs.Losing.{FailAll, FailFirst}
-use Rattle.rina_data.specs.Outgoing.{Goes, Outs, sent_bytes}
-use Rattle.rina_data.specs.Passing.{IsPassed}
-use Rattle.rina_data.specs.Sending.{IsOffered, home}
-use Rattle.rina_data.specs.Standing.{IsStanding}
-use Rattle.rina_data.proofs.Binding.{two_at}
-use Rattle.rina_data.proofs.Finding.{beside}
+use Rattle.rina_dif_law.specs.Binding.{IsBound, asker_next, far_next}
+use Rattle.rina_dif_law.specs.Caused.{AreCaused, HasFailedBelow, HasGivenUp, IsCause}
+use Rattle.rina_data.specs.Hops.{Hop}
+use Rattle.rina_data.specs.Configs.{Config, Member, cube_by}
+use Rattle.rina_dif_law.specs.Dif.{DifSeen, constants}
+use Rattle.rina_data.specs.Process.{Process}
+use Rattle.rina_dif_law.specs.Ending.{IsEnded, IsGivenUp}
+use Rattle.rina_dif_law.specs.Ids.{Ids}
+use Rattle.rina_dif_law.specs.Incoming.{Ins, IsArrived, IsTold, Settles, SettlesOff}
+use Rattle.rina_dif_law.specs.Losing.{FailAll, FailFirst}
+use Rattle.rina_data.specs.Outgoing.{Goes, sent_bytes}
+use Rattle.rina_dif_law.specs.Outgoing.{Outs}
+use Rattle.rina_dif_law.specs.Passing.{IsPassed}
+use Rattle.rina_dif_law.specs.Sending.{IsOffered, home}
+use Rattle.rina_dif_law.specs.Standing.{IsStanding}
+use Rattle.rina_dif_law.proofs.Binding.{two_at}
+use Rattle.rina_dif_law.proofs.Finding.{beside}
 use Rattle.rina_dif.specs.Unlinking.{HasFailed}
 use Rattle.rina_dif.proofs.Pieced.{number_of}
 

@@ -10,11 +10,13 @@ use Rattle.rina_iface.specs.Seen.{Seen, is_of, oldest_in, with_fac}
 use Rattle.rina_iface.proofs.Later.{fac_refl}
 use Rattle.rina_law.specs.Direction.{Direction}
 use Rattle.rina_base.specs.declared.number.Key.{Key}
-use Rattle.rina_data.specs.Accounted.{Resends, counts_of}
-use Rattle.rina_data.proofs.Accounting.{resends_on, same_refl}
-use Rattle.rina_data.proofs.Balancing.{IsBefore, accounted_on, moved_same}
-use Rattle.rina_data.specs.Dif.{IsProcess, Member, Process, fac_of}
-use Rattle.rina_data.proofs.Keepers.{facility}
+use Rattle.rina_dif_law.specs.Accounted.{Resends, counts_of}
+use Rattle.rina_dif_law.proofs.Accounting.{resends_on, same_refl}
+use Rattle.rina_dif_law.proofs.Balancing.{IsBefore, accounted_on, moved_same}
+use Rattle.rina_dif_law.specs.Dif.{IsProcess, fac_of}
+use Rattle.rina_data.specs.Configs.{Member}
+use Rattle.rina_data.specs.Process.{Process}
+use Rattle.rina_dif_law.proofs.Keepers.{facility}
 use Rattle.rina_dif.specs.declared.dif.Dif.{Dif}
 use Rattle.rina_dif.specs.Facade.{GoesOn, IsShownAs, StaysStanding, shown_as}
 use Rattle.rina_dif.specs.Holding.{Holds}

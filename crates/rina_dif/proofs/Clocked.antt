@@ -11,16 +11,16 @@ use Rattle.rina_data.specs.declared.step.ClockStep.{ClockStep}
 use Rattle.rina_data.specs.declared.step.ClockStep.TheVariants as step
 use Rattle.rina_data.specs.declared.step.StepError.{StepError}
 use Rattle.rina_data.specs.declared.step.StepError.TheVariants as why
-use Rattle.rina_data.specs.declared.losing.Lost.{Lost}
+use Rattle.rina_data.specs.declared.loss.Lost.{Lost}
 use Rattle.rina_data.specs.Configs.{config_of}
-use Rattle.rina_data.specs.Ids.{Ids}
-use Rattle.rina_data.specs.Sending.{home}
+use Rattle.rina_dif_law.specs.Ids.{Ids}
+use Rattle.rina_dif_law.specs.Sending.{home}
 use Rattle.rina_data.proofs.Finding.{there}
-use Rattle.rina_flows.specs.declared.timely.Item.{Item}
-use Rattle.rina_flows.specs.declared.timely.Item.TheVariants.{Ack, Again, GiveUp, Gone}
+use Rattle.rina_flows.specs.declared.due.Item.{Item}
+use Rattle.rina_flows.specs.declared.due.Item.TheVariants.{Ack, Again, GiveUp, Gone}
 use Rattle.rina_flows.specs.Tied.{conns_of, ids_of, outward}
 use Rattle.rina_flows.proofs.Framed.{ids_at}
-use Rattle.rina_dif.specs.declared.clocking.Turn.{Turn}
+use Rattle.rina_dif.specs.declared.clock_steps.Turn.{Turn}
 use Rattle.rina_dif.specs.declared.dif.Dif.{Dif}
 use Rattle.rina_dif.specs.Clocking.{FindsFirst, HasStepped, HasSteppedFlow, IsDueAt, IsIdle, IsIn, IsTurn, NoneLostAt, StepsFlowHere, StepsHere, earlier}
 use Rattle.rina_dif.specs.Holding.{Holds}

@@ -14,17 +14,17 @@ use Rattle.rina_iface.specs.Seen.{Seen}
 use Rattle.rina_iface.proofs.Changed.{set_at, slice_get-set_same}
 use Rattle.rina_law.specs.Direction.{Direction}
 use Rattle.rina_data.specs.declared.link.Route.{Route}
-use Rattle.rina_data.specs.declared.losing.Lost.{Lost}
+use Rattle.rina_data.specs.declared.loss.Lost.{Lost}
 use Rattle.rina_data.specs.declared.process.IpcProcess.{IpcProcess}
-use Rattle.rina_data.specs.Configs.{config_of}
+use Rattle.rina_data.specs.Configs.{Config, config_of}
 use Rattle.rina_data.specs.Deciding.{process_of}
-use Rattle.rina_data.specs.Dif.{Config, DifSeen}
-use Rattle.rina_data.specs.Ending.{IsEnded}
-use Rattle.rina_data.specs.Losing.{FailFirst, IsAllocatedAt, MayFail}
-use Rattle.rina_data.specs.Sending.{home}
-use Rattle.rina_data.specs.Upward.{IsSilent}
-use Rattle.rina_data.proofs.Founding.{failed_accounted}
-use Rattle.rina_data.proofs.Linkless.{failed_carries, failed_numbered, failed_silent, failed_stands, first_stay, lost_silent, silent_on}
+use Rattle.rina_dif_law.specs.Dif.{DifSeen}
+use Rattle.rina_dif_law.specs.Ending.{IsEnded}
+use Rattle.rina_dif_law.specs.Losing.{FailFirst, IsAllocatedAt, MayFail}
+use Rattle.rina_dif_law.specs.Sending.{home}
+use Rattle.rina_dif_law.specs.Upward.{IsSilent}
+use Rattle.rina_dif_law.proofs.Founding.{failed_accounted}
+use Rattle.rina_dif_law.proofs.Linkless.{failed_carries, failed_numbered, failed_silent, failed_stands, first_stay, lost_silent, silent_on}
 use Rattle.rina_flows.specs.declared.flows.Flows.{Flows}
 use Rattle.rina_flows.specs.Delivering.{HasStopped}
 use Rattle.rina_flows.specs.Stopping.{MayStop, StopFirst}

@@ -32,16 +32,16 @@ use Rattle.rina_law.specs.Direction.{Direction}
 use Rattle.rina_law.specs.Pieces.{Part, IsCut, join}
 use Rattle.rina_law.specs.Sender as law
 use Rattle.rina_law.specs.Sender.{Member, Refusal, Sender, TooLong, is_absent, is_empty, refusal, started}
-use Rattle.rina_data.specs.Configs.{config_of}
-use Rattle.rina_data.specs.Dif.{Config, DifSeen, cube_by, fac_of, offer_of, piece_size}
-use Rattle.rina_data.specs.Facade.{IsShown, own_refusal as own_there}
-use Rattle.rina_data.specs.Sending.{Offers, by_sender}
-use Rattle.rina_data.specs.Standing.{IsConfig}
-use Rattle.rina_data.specs.Upward.{IsFacility}
-use Rattle.rina_data.proofs.Facades.{offers_send, passed_there, same_refusals}
-use Rattle.rina_data.proofs.Keepers.{facility, offered_by}
-use Rattle.rina_data.proofs.Upper.{offers_later, passed_later}
-use Rattle.rina_data.proofs.Finding.{beside, cube_limits}
+use Rattle.rina_data.specs.Configs.{Config, config_of, cube_by, piece_size}
+use Rattle.rina_dif_law.specs.Dif.{DifSeen, fac_of, offer_of}
+use Rattle.rina_dif_law.specs.Facade.{IsShown, own_refusal as own_there}
+use Rattle.rina_dif_law.specs.Sending.{Offers, by_sender}
+use Rattle.rina_dif_law.specs.Standing.{IsConfig}
+use Rattle.rina_dif_law.specs.Upward.{IsFacility}
+use Rattle.rina_dif_law.proofs.Facades.{offers_send, passed_there, same_refusals}
+use Rattle.rina_dif_law.proofs.Keepers.{facility, offered_by}
+use Rattle.rina_dif_law.proofs.Upper.{offers_later, passed_later}
+use Rattle.rina_dif_law.proofs.Finding.{beside, cube_limits}
 use Rattle.rina_flows.specs.Calls.{AreParts}
 use Rattle.rina_flows.specs.Tied.{IsAt, ids_of, outward}
 use Rattle.rina_flows.proofs.Counted.{cut_count}

@@ -21,12 +21,12 @@ use Rattle.rina_data.specs.declared.step.ClockStep.{ClockStep}
 use Rattle.rina_data.specs.declared.step.ClockStep.TheVariants as step
 use Rattle.rina_data.specs.declared.step.StepError.{StepError}
 use Rattle.rina_data.specs.declared.step.StepError.TheVariants as why
-use Rattle.rina_data.specs.Configs.{config_of}
-use Rattle.rina_data.specs.Dif.{DifSeen, constants, cube_by}
-use Rattle.rina_data.specs.Ending.{IsGivenUp}
-use Rattle.rina_data.specs.Losing.{IsAllocatedAt}
-use Rattle.rina_data.specs.Sending.{home}
-use Rattle.rina_data.proofs.Finding.{beside}
+use Rattle.rina_data.specs.Configs.{config_of, cube_by}
+use Rattle.rina_dif_law.specs.Dif.{DifSeen, constants}
+use Rattle.rina_dif_law.specs.Ending.{IsGivenUp}
+use Rattle.rina_dif_law.specs.Losing.{IsAllocatedAt}
+use Rattle.rina_dif_law.specs.Sending.{home}
+use Rattle.rina_dif_law.proofs.Finding.{beside}
 use Rattle.rina_dif.specs.declared.dif.Dif.{Dif}
 use Rattle.rina_dif.specs.Clocking.{ClockSteps, FailsBelow, FailsLate, IsLate, Steps, StepsFlow, StepsHere, StepsLost, StepsOk}
 use Rattle.rina_dif.specs.Holding.{Holds}

@@ -21,27 +21,28 @@ use Rattle.rina_iface.specs.State.{freed, freed_state, with_state}
 use Rattle.rina_iface.proofs.Changed.{set_at, slice_set-same}
 use Rattle.rina_iface.proofs.Later.{end_restated, ends_set, fac_refl, moves_freed}
 use Rattle.rina_law.specs.Direction.{Direction}
-use Rattle.rina_data.specs.Accounted.{IsAccounted}
+use Rattle.rina_dif_law.specs.Accounted.{IsAccounted}
 use Rattle.rina_data.specs.declared.process.IpcProcess.{IpcProcess}
-use Rattle.rina_data.specs.Carried.{IsCarrying}
-use Rattle.rina_data.specs.Caused.{AreCaused}
-use Rattle.rina_data.specs.Cloud.{Cloud, Everywhere}
-use Rattle.rina_data.specs.Configs.{config_of}
+use Rattle.rina_dif_law.specs.Carried.{IsCarrying}
+use Rattle.rina_dif_law.specs.Caused.{AreCaused}
+use Rattle.rina_dif_law.specs.Cloud.{Cloud, Everywhere}
+use Rattle.rina_data.specs.Configs.{Config, config_of}
 use Rattle.rina_data.specs.Deciding.{process_of}
-use Rattle.rina_data.specs.Dif.{Config, DifSeen, fac_of}
-use Rattle.rina_data.specs.Ending.{IsEnded}
-use Rattle.rina_data.specs.Numbered.{IsNumbered}
-use Rattle.rina_data.specs.Sending.{home}
-use Rattle.rina_data.specs.Standing.{IsStanding}
-use Rattle.rina_data.proofs.After.{NoMore, after_none}
-use Rattle.rina_data.proofs.Carrying.{carrying_same, end_set, line_was}
-use Rattle.rina_data.proofs.Finding.{beside, there}
-use Rattle.rina_data.proofs.Finishing.{ended_carries, ended_stands}
-use Rattle.rina_data.proofs.Journals.{IsConst, const_refl, journal_set, partner_was, ports_set, was_end}
-use Rattle.rina_data.proofs.Keepers.{facility}
-use Rattle.rina_data.proofs.Numbering.{ended_numbered, numbered_with}
-use Rattle.rina_data.proofs.Own.{own_restated}
-use Rattle.rina_data.proofs.Receiving.{ended_accounted, restated_accounted}
+use Rattle.rina_dif_law.specs.Dif.{DifSeen, fac_of}
+use Rattle.rina_dif_law.specs.Ending.{IsEnded}
+use Rattle.rina_dif_law.specs.Numbered.{IsNumbered}
+use Rattle.rina_dif_law.specs.Sending.{home}
+use Rattle.rina_dif_law.specs.Standing.{IsStanding}
+use Rattle.rina_dif_law.proofs.After.{NoMore, after_none}
+use Rattle.rina_dif_law.proofs.Carrying.{carrying_same, end_set, line_was}
+use Rattle.rina_dif_law.proofs.Finding.{beside}
+use Rattle.rina_data.proofs.Finding.{there}
+use Rattle.rina_dif_law.proofs.Finishing.{ended_carries, ended_stands}
+use Rattle.rina_dif_law.proofs.Journals.{IsConst, const_refl, journal_set, partner_was, ports_set, was_end}
+use Rattle.rina_dif_law.proofs.Keepers.{facility}
+use Rattle.rina_dif_law.proofs.Numbering.{ended_numbered, numbered_with}
+use Rattle.rina_dif_law.proofs.Own.{own_restated}
+use Rattle.rina_dif_law.proofs.Receiving.{ended_accounted, restated_accounted}
 use Rattle.rina_flows.specs.declared.flows.Flows.{Flows}
 use Rattle.rina_flows.specs.Delivering.{StopsIn}
 use Rattle.rina_flows.specs.Tied.{IsTied, ids_of}

@@ -13,10 +13,10 @@ use Rattle.rina_data.specs.declared.link.Link.{Link}
 use Rattle.rina_data.specs.declared.link.Route.{Route}
 use Rattle.rina_data.specs.declared.process.IpcProcess.{IpcProcess}
 use Rattle.rina_data.specs.declared.settings.Member.{Member as Kept}
-use Rattle.rina_data.specs.Configs.{config_of, member_of}
+use Rattle.rina_data.specs.Configs.{Config, config_of, member_of}
 use Rattle.rina_data.specs.Deciding.{process_of}
-use Rattle.rina_data.specs.Dif.{Config, Process, Queue, next_hop, queue_place}
-use Rattle.rina_data.specs.Sending.{home}
+use Rattle.rina_data.specs.Process.{Process, Queue, next_hop, queue_place}
+use Rattle.rina_dif_law.specs.Sending.{home}
 use Rattle.rina_dif.specs.declared.dif.Dif.{Dif}
 use Rattle.rina_dif.specs.Holding.{AreHoused, HasQueues, HaveQueues, Holds, IsHoused}
 use Rattle.rina_dif.specs.Routing.{HaveRoutes, KnowsLive}

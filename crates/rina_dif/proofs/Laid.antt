@@ -10,9 +10,9 @@ use Rattle.rina_iface.proofs.Found.{found, largest_stays}
 use Rattle.rina_iface.proofs.Later.{later_refl}
 use Rattle.rina_iface.proofs.LaterCalls.{later_binds}
 use Rattle.rina_iface.proofs.LaterOn.{later_on}
-use Rattle.rina_data.specs.Cloud.{IsMine}
-use Rattle.rina_data.specs.Dif.{Config, Member}
-use Rattle.rina_data.specs.Standing.{IsInside}
+use Rattle.rina_dif_law.specs.Cloud.{IsMine}
+use Rattle.rina_data.specs.Configs.{Config, Member}
+use Rattle.rina_dif_law.specs.Standing.{IsInside}
 use Rattle.rina_dif.specs.Laying.{IsLaid, IsLaidIn, IsNewEnd, Takes}
 use Rattle.rina_dif.proofs.Below.{one_of, stays}
 

@@ -12,14 +12,14 @@ use Rattle.rina_law.specs.Direction.{Direction}
 use Rattle.rina_data.specs.declared.process.IpcProcess.{IpcProcess}
 use Rattle.rina_data.specs.Configs.{config_of}
 use Rattle.rina_data.specs.Deciding.{process_of}
-use Rattle.rina_data.specs.Dif.{with_offs}
-use Rattle.rina_data.specs.Ending.{IsGivenUp}
-use Rattle.rina_data.specs.Sending.{home}
-use Rattle.rina_data.proofs.Carries.{forgotten_carries}
-use Rattle.rina_data.proofs.Finishing.{ended_carries, ended_stands}
-use Rattle.rina_data.proofs.Numbering.{ended_numbered, forgotten_numbered}
-use Rattle.rina_data.proofs.Receiving.{ended_accounted, forgotten_accounted}
-use Rattle.rina_data.proofs.Rows.{forgotten_stands}
+use Rattle.rina_data.specs.Process.{with_offs}
+use Rattle.rina_dif_law.specs.Ending.{IsGivenUp}
+use Rattle.rina_dif_law.specs.Sending.{home}
+use Rattle.rina_dif_law.proofs.Carries.{forgotten_carries}
+use Rattle.rina_dif_law.proofs.Finishing.{ended_carries, ended_stands}
+use Rattle.rina_dif_law.proofs.Numbering.{ended_numbered, forgotten_numbered}
+use Rattle.rina_dif_law.proofs.Receiving.{ended_accounted, forgotten_accounted}
+use Rattle.rina_dif_law.proofs.Rows.{forgotten_stands}
 use Rattle.rina_flows.specs.declared.flows.Flows.{Flows}
 use Rattle.rina_flows.specs.Delivering.{ForgetsIn}
 use Rattle.rina_flows.specs.Timely.{GivesUpIn}

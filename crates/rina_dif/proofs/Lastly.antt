@@ -5,7 +5,7 @@ use Rattle.std.proofs.lemmas.Bool.{cases_lt, false≢true}
 use Rattle.std.proofs.lemmas.Option.{slice_get-get_or, slice_get_within}
 use Rattle.rina_iface.proofs.Changed.{set_at, slice_get-set_other}
 use Rattle.rina_data.specs.declared.link.Link.{Link}
-use Rattle.rina_data.specs.Losing.{NoneLive}
+use Rattle.rina_dif_law.specs.Losing.{NoneLive}
 use Rattle.rina_dif.specs.Unlinking.{links_without}
 
 -- at none of the first places is a live link, but at that of the lost one

@@ -20,18 +20,20 @@ use Rattle.rina_data.specs.declared.step.OutStep.{OutStep}
 use Rattle.rina_data.specs.declared.step.OutStep.TheVariants as out
 use Rattle.rina_data.specs.declared.step.StepError.{StepError}
 use Rattle.rina_data.specs.declared.step.StepError.TheVariants.{Memory, NoIpc, NoLink}
-use Rattle.rina_data.specs.Configs.{config_of, member_of}
+use Rattle.rina_data.specs.Configs.{Config, config_of, member_of}
 use Rattle.rina_data.specs.Deciding.{process_of}
-use Rattle.rina_data.specs.Dif.{Config, DifSeen, Process, with_process}
+use Rattle.rina_dif_law.specs.Dif.{DifSeen, with_process}
+use Rattle.rina_data.specs.Process.{Process}
 use Rattle.rina_data.specs.Leaving.{Asks, IsAsked}
-use Rattle.rina_data.specs.Outgoing.{Goes, Offs, Outs}
-use Rattle.rina_data.specs.Sending.{home}
-use Rattle.rina_data.proofs.Carries.{outs_carry}
-use Rattle.rina_data.proofs.Numbering.{outs_numbered}
+use Rattle.rina_data.specs.Outgoing.{Goes, Offs}
+use Rattle.rina_dif_law.specs.Outgoing.{Outs}
+use Rattle.rina_dif_law.specs.Sending.{home}
+use Rattle.rina_dif_law.proofs.Carries.{outs_carry}
+use Rattle.rina_dif_law.proofs.Numbering.{outs_numbered}
 use Rattle.rina_data.proofs.Finding.{there}
-use Rattle.rina_data.proofs.Going.{no_step, outs_stand}
-use Rattle.rina_data.proofs.Relaying.{outs_accounted}
-use Rattle.rina_data.proofs.Stepping.{can_go}
+use Rattle.rina_dif_law.proofs.Going.{no_step, outs_stand}
+use Rattle.rina_dif_law.proofs.Relaying.{outs_accounted}
+use Rattle.rina_dif_law.proofs.Stepping.{can_go}
 use Rattle.rina_dif.specs.declared.dif.Dif.{Dif}
 use Rattle.rina_dif.specs.Holding.{Holds, Stands}
 use Rattle.rina_dif.specs.Shown.{seen_of}

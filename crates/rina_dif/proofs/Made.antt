@@ -17,18 +17,19 @@ use Rattle.rina_plan.specs.declared.dif.MemberPlan.{MemberPlan}
 use Rattle.rina_queue.specs.declared.queue.Queued.{Queued}
 use Rattle.rina_queue.proofs.Places.{kept_at}
 use Rattle.rina_stack.specs.declared.plan.Plan.{Plan}
-use Rattle.rina_sound.specs.Ranges.{IsRangedDif, IsSoundLink}
+use Rattle.rina_stack.specs.Ranges.{IsRangedDif, IsSoundLink}
 use Rattle.rina_stack.specs.Plan.{IsPlan}
 use Rattle.rina_data.specs.declared.link.Link.{Link}
 use Rattle.rina_data.specs.declared.process.IpcProcess.{IpcProcess}
 use Rattle.rina_data.specs.declared.settings.Member.{Member as Kept}
 use Rattle.rina_data.specs.declared.settings.Settings.{Settings}
-use Rattle.rina_data.specs.Cloud.{IsMine, Waits}
-use Rattle.rina_data.specs.Configs.{config_of, member_of}
+use Rattle.rina_dif_law.specs.Cloud.{IsMine, Waits}
+use Rattle.rina_data.specs.Configs.{Member, config_of, cube_by, member_of}
 use Rattle.rina_data.specs.Deciding.{plain, process_of}
-use Rattle.rina_data.specs.Dif.{Member, Process, Queue, cube_by, queue_place}
-use Rattle.rina_data.specs.Standing.{HasLink, IsConfig, IsInside, IsLinked, IsQos}
-use Rattle.rina_data.specs.Numbered.{AreMembers}
+use Rattle.rina_data.specs.Process.{Process, Queue, queue_place}
+use Rattle.rina_dif_law.specs.Standing.{HasLink, IsConfig, IsInside, IsLinked}
+use Rattle.rina_data.specs.Fitting.{IsQos}
+use Rattle.rina_dif_law.specs.Numbered.{AreMembers}
 use Rattle.rina_data.proofs.Finding.{there}
 use Rattle.rina_data.proofs.Plain.{same_place}
 use Rattle.rina_dif.specs.declared.dif.Dif.{Dif}

@@ -4,14 +4,14 @@ use Rattle.rina_iface.specs.Journal.{AreKept}
 use Rattle.rina_iface.specs.Seen.{Seen}
 use Rattle.rina_law.specs.Direction.{Direction}
 use Rattle.rina_data.specs.Configs.{config_of}
-use Rattle.rina_data.specs.Lifting.{IsLifted, ticked}
-use Rattle.rina_data.specs.Passing.{IsTicked}
-use Rattle.rina_data.proofs.Carries.{time_carries}
-use Rattle.rina_data.proofs.Lifted.{time_accounted}
-use Rattle.rina_data.specs.Upward.{IsSilent}
-use Rattle.rina_data.proofs.Numbering.{time_numbered}
-use Rattle.rina_data.proofs.Taking.{lifted_stands}
-use Rattle.rina_data.proofs.Upper.{ticked_silent}
+use Rattle.rina_dif_law.specs.Lifting.{IsLifted, ticked}
+use Rattle.rina_dif_law.specs.Passing.{IsTicked}
+use Rattle.rina_dif_law.proofs.Carries.{time_carries}
+use Rattle.rina_dif_law.proofs.Lifted.{time_accounted}
+use Rattle.rina_dif_law.specs.Upward.{IsSilent}
+use Rattle.rina_dif_law.proofs.Numbering.{time_numbered}
+use Rattle.rina_dif_law.proofs.Taking.{lifted_stands}
+use Rattle.rina_dif_law.proofs.Upper.{ticked_silent}
 use Rattle.rina_flows.proofs.Lasting.{tied_later}
 use Rattle.rina_dif.specs.declared.dif.Dif.{Dif}
 use Rattle.rina_dif.specs.Holding.{Holds}

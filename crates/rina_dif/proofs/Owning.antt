@@ -22,17 +22,18 @@ use Rattle.rina_law.specs.Receiver.{Piece, Verdict, Accepted, Held, Duplicate, B
 use Rattle.rina_conn.specs.declared.conn.Conn.{Conn}
 use Rattle.rina_data.specs.declared.process.IpcProcess.{IpcProcess}
 use Rattle.rina_data.specs.declared.settings.Member.{Member as Kept}
-use Rattle.rina_data.specs.declared.step.Settled.TheVariants as settled
+use Rattle.rina_data.specs.declared.step.Decision.TheVariants as decision
 use Rattle.rina_data.specs.declared.step.Took.{Took}
 use Rattle.rina_data.specs.declared.step.Took.TheVariants as took
-use Rattle.rina_data.specs.Cloud.{Hop}
-use Rattle.rina_data.specs.Configs.{config_of, member_of}
+use Rattle.rina_data.specs.Hops.{Hop}
+use Rattle.rina_data.specs.Configs.{Member, config_of, member_of}
 use Rattle.rina_data.specs.Deciding.{process_of}
-use Rattle.rina_data.specs.Dif.{DifSeen, constants, IsProcess, Member, Process, with_offs, with_process}
-use Rattle.rina_data.specs.Ids.{Ids, IsFrom, flipped}
-use Rattle.rina_data.specs.Incoming.{IsArrived, Settles, SettlesOff, by_joiner, cause_by, joiner_found, lines_for, missing_for}
+use Rattle.rina_dif_law.specs.Dif.{DifSeen, constants, IsProcess, with_process}
+use Rattle.rina_data.specs.Process.{Process, with_offs}
+use Rattle.rina_dif_law.specs.Ids.{Ids, IsFrom, flipped}
+use Rattle.rina_dif_law.specs.Incoming.{IsArrived, Settles, SettlesOff, by_joiner, cause_by, joiner_found, lines_for, missing_for}
 use Rattle.rina_data.specs.Queueing.{line_for}
-use Rattle.rina_data.proofs.Coming.{alive_arrival}
+use Rattle.rina_dif_law.proofs.Coming.{alive_arrival}
 use Rattle.rina_flows.specs.declared.flows.Flows.{Flows}
 use Rattle.rina_flows.specs.Calls.{TakenBy, TellsOne}
 use Rattle.rina_flows.specs.Tied.{conns_of, ids_of}
@@ -231,7 +232,7 @@ pub record IsForMe (d : Dif) (at since : ℕ) (hop : Hop) (ps : List IpcProcess)
   pub own : IsOwn (record d { processes = ps }) at since hop
   pub house : (lines : List Direction) (below : Seen) → Holds d lines below → AreHome d ps
 
-pub decided_own : (d : Dif) (addr at since : ℕ) (hop : Hop) (ps : List IpcProcess) → Comes d since hop → at < length d.settings.members → ((member : Member) → slice_get (seen_of d).config.members at ≡ Some member → addr ≡ member.addr) → DecidesAt d.clock addr since hop (Ok settled.Own) at d.processes ps → IsForMe d at since hop ps
+pub decided_own : (d : Dif) (addr at since : ℕ) (hop : Hop) (ps : List IpcProcess) → Comes d since hop → at < length d.settings.members → ((member : Member) → slice_get (seen_of d).config.members at ≡ Some member → addr ≡ member.addr) → DecidesAt d.clock addr since hop (Ok decision.Here) at d.processes ps → IsForMe d at since hop ps
 decided_own d addr at since hop ps comes lt is_addr decides =
     let st : Stands d comes.1 = (comes.0, comes.2) in
     let p = has_process d comes.1 at st lt in
@@ -239,7 +240,7 @@ decided_own d addr at since hop ps comes lt is_addr decides =
     record {
       same = unseen d at p.0 x.0 ps p.1 x.1.2 x.3;
       own = (x.1.0, λ member is. x.1.1 ∙ is_addr member is);
-      house = λ lines below h. home_set d lines below at p.0 x.0 ps h p.1 x.2 (decides_same p.0.queues.cap d.clock addr (process_of p.0) since hop (Ok settled.Own) (process_of x.0) x.1) x.3;
+      house = λ lines below h. home_set d lines below at p.0 x.0 ps h p.1 x.2 (decides_same p.0.queues.cap d.clock addr (process_of p.0) since hop (Ok decision.Here) (process_of x.0) x.1) x.3;
     }
 
 pub comes_on : (d : Dif) (at since : ℕ) (hop : Hop) (ps : List IpcProcess) → IsForMe d at since hop ps → Comes d since hop → Comes (record d { processes = ps }) since hop

@@ -6,14 +6,14 @@ use Rattle.rina_iface.specs.Seen.{Seen}
 use Rattle.rina_law.specs.Direction.{Direction}
 use Rattle.rina_data.specs.Configs.{config_of}
 use Rattle.rina_data.specs.Deciding.{process_of}
-use Rattle.rina_data.specs.Dif.{DifSeen}
-use Rattle.rina_data.specs.Ids.{Ids}
-use Rattle.rina_data.specs.Incoming.{IsInbound}
-use Rattle.rina_data.specs.Passing.{IsPassed}
-use Rattle.rina_data.proofs.Accounting.{passed_accounted}
-use Rattle.rina_data.proofs.Carries.{passed_carries}
-use Rattle.rina_data.proofs.Numbering.{passed_numbered}
-use Rattle.rina_data.proofs.Taking.{passed_stands}
+use Rattle.rina_dif_law.specs.Dif.{DifSeen}
+use Rattle.rina_dif_law.specs.Ids.{Ids}
+use Rattle.rina_dif_law.specs.Incoming.{IsInbound}
+use Rattle.rina_dif_law.specs.Passing.{IsPassed}
+use Rattle.rina_dif_law.proofs.Accounting.{passed_accounted}
+use Rattle.rina_dif_law.proofs.Carries.{passed_carries}
+use Rattle.rina_dif_law.proofs.Numbering.{passed_numbered}
+use Rattle.rina_dif_law.proofs.Taking.{passed_stands}
 use Rattle.rina_flows.specs.declared.flows.Flows.{Flows}
 use Rattle.rina_flows.specs.Calls.{PassesOne, SameIds}
 use Rattle.rina_flows.specs.Tied.{IsInboundAt}

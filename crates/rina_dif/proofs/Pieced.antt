@@ -9,7 +9,7 @@ use Rattle.rina_law.specs.DirectionHolds.{DirectionHolds, IsClosed, RunHolds, by
 use Rattle.rina_law.specs.Sender.{Member}
 use Rattle.rina_law.proofs.Cuts.{place_within}
 use Rattle.rina_law.proofs.Runs.{bytes_begins, bytes_on, start_begins, start_le, start_on}
-use Rattle.rina_data.specs.Caused.{IsNumberOf}
+use Rattle.rina_dif_law.specs.Caused.{IsNumberOf}
 
 -- Products and sums
 

@@ -19,25 +19,26 @@ use Rattle.rina_law.specs.Direction.{Direction, after_again, is_ack_due, right_o
 use Rattle.rina_law.specs.Receiver.{next_of}
 use Rattle.rina_law.specs.Sender.{Ack as AnAck, again_due, piece_again}
 use Rattle.rina_data.specs.declared.process.IpcProcess.{IpcProcess}
-use Rattle.rina_data.specs.declared.step.Settled.{Settled}
-use Rattle.rina_data.specs.declared.step.Settled.TheVariants as settled
-use Rattle.rina_data.specs.Cloud.{Hop}
-use Rattle.rina_data.specs.Configs.{config_of}
+use Rattle.rina_data.specs.declared.step.Decision.{Decision}
+use Rattle.rina_data.specs.declared.step.Decision.TheVariants as decision
+use Rattle.rina_data.specs.Hops.{Hop}
+use Rattle.rina_data.specs.Configs.{Config, config_of}
 use Rattle.rina_data.specs.Deciding.{Forwards, process_of}
-use Rattle.rina_data.specs.Dif.{Config, DifSeen, Process, next_hop, with_process}
-use Rattle.rina_data.specs.Ids.{Ids, pdu_of_ack, pdu_of_piece}
+use Rattle.rina_dif_law.specs.Dif.{DifSeen, with_process}
+use Rattle.rina_data.specs.Process.{Process, next_hop}
+use Rattle.rina_dif_law.specs.Ids.{Ids, pdu_of_ack, pdu_of_piece}
 use Rattle.rina_data.specs.Queueing.{IsFull, IsPassedOn}
-use Rattle.rina_data.specs.Standing.{IsQos}
-use Rattle.rina_data.specs.Timely.{IsAcknowledged, IsAtHome, IsResent, Posts}
-use Rattle.rina_data.proofs.Accounting.{acknowledged_accounted, resent_accounted}
-use Rattle.rina_data.proofs.Carries.{acknowledged_carries, resent_carries}
-use Rattle.rina_data.proofs.Finding.{beside}
-use Rattle.rina_data.proofs.Numbering.{acknowledged_numbered, resent_numbered}
-use Rattle.rina_data.proofs.Rows.{acknowledged_stands, resent_stands}
+use Rattle.rina_data.specs.Fitting.{IsQos}
+use Rattle.rina_dif_law.specs.Timely.{IsAcknowledged, IsAtHome, IsResent, Posts}
+use Rattle.rina_dif_law.proofs.Accounting.{acknowledged_accounted, resent_accounted}
+use Rattle.rina_dif_law.proofs.Carries.{acknowledged_carries, resent_carries}
+use Rattle.rina_dif_law.proofs.Finding.{beside}
+use Rattle.rina_dif_law.proofs.Numbering.{acknowledged_numbered, resent_numbered}
+use Rattle.rina_dif_law.proofs.Rows.{acknowledged_stands, resent_stands}
 use Rattle.rina_flows.specs.declared.flows.Flows.{Flows}
 use Rattle.rina_flows.specs.Calls.{Tells}
 use Rattle.rina_flows.specs.Tied.{IsAt, conns_of, ids_of, inward, outward}
-use Rattle.rina_flows.specs.declared.timely.Item.TheVariants.{Ack, Again}
+use Rattle.rina_flows.specs.declared.due.Item.TheVariants.{Ack, Again}
 use Rattle.rina_flows.specs.Timely.{AcknowledgesIn, IsDue, SendsAgainIn}
 use Rattle.rina_flows.proofs.Framed.{ids_at}
 use Rattle.rina_flows.proofs.Stopped.{clock_of}
@@ -66,36 +67,36 @@ forwards_one now hop r at ps x x' lt read forwards cap p is =
 
 -- its queues keep their places
 forwards_same : (cap : ℕ) (p : Process) (now : ℕ) (hop : Hop) (r : Result Settled Memory) (p' : Process) → Forwards cap p now hop r p' → IsSameHouse p p'
-forwards_same cap p now hop (Ok settled.Own) p' s = absurd s
-forwards_same cap p now hop (Ok settled.Relayed) p' s = house_is p _ p' s.new_is (record { links = refl; routes = refl; places = λ qos link. same_places qos link p.queues s.place s.queue (s.queue.items ++ record { pdu = hop.pdu; left = hop.left; since = now } ∷ []) s.is_queue.is_queue })
-forwards_same cap p now hop (Ok (settled.Off (causes.NoRoute dst))) p' s = house_is p _ p' s.2 (off_house p _)
-forwards_same cap p now hop (Ok (settled.Off (causes.QueueFull n))) p' s = house_is p _ p' s.2 (off_house p _)
-forwards_same cap p now hop (Ok (settled.Off (causes.Expired left charge))) p' s = absurd s
-forwards_same cap p now hop (Ok (settled.Off (causes.NoConnection cep))) p' s = absurd s
-forwards_same cap p now hop (Ok (settled.Off (causes.Duplicate num))) p' s = absurd s
-forwards_same cap p now hop (Ok (settled.Off (causes.Behind highest))) p' s = absurd s
-forwards_same cap p now hop (Ok (settled.Off (causes.NoState drf))) p' s = absurd s
-forwards_same cap p now hop (Ok (settled.Off (causes.NoRoom n))) p' s = absurd s
-forwards_same cap p now hop (Ok (settled.Off (causes.StateGone last_in))) p' s = absurd s
-forwards_same cap p now hop (Ok (settled.Off (causes.Broken missing))) p' s = absurd s
-forwards_same cap p now hop (Ok (settled.Off (causes.LinkDown port))) p' s = absurd s
+forwards_same cap p now hop (Ok decision.Here) p' s = absurd s
+forwards_same cap p now hop (Ok decision.Relayed) p' s = house_is p _ p' s.new_is (record { links = refl; routes = refl; places = λ qos link. same_places qos link p.queues s.place s.queue (s.queue.items ++ record { pdu = hop.pdu; left = hop.left; since = now } ∷ []) s.is_queue.is_queue })
+forwards_same cap p now hop (Ok (decision.Off (causes.NoRoute dst))) p' s = house_is p _ p' s.2 (off_house p _)
+forwards_same cap p now hop (Ok (decision.Off (causes.QueueFull n))) p' s = house_is p _ p' s.2 (off_house p _)
+forwards_same cap p now hop (Ok (decision.Off (causes.Expired left charge))) p' s = absurd s
+forwards_same cap p now hop (Ok (decision.Off (causes.NoConnection cep))) p' s = absurd s
+forwards_same cap p now hop (Ok (decision.Off (causes.Duplicate num))) p' s = absurd s
+forwards_same cap p now hop (Ok (decision.Off (causes.Behind highest))) p' s = absurd s
+forwards_same cap p now hop (Ok (decision.Off (causes.NoState drf))) p' s = absurd s
+forwards_same cap p now hop (Ok (decision.Off (causes.NoRoom n))) p' s = absurd s
+forwards_same cap p now hop (Ok (decision.Off (causes.StateGone last_in))) p' s = absurd s
+forwards_same cap p now hop (Ok (decision.Off (causes.Broken missing))) p' s = absurd s
+forwards_same cap p now hop (Ok (decision.Off (causes.LinkDown port))) p' s = absurd s
 forwards_same cap p now hop (Err e) p' s = house_is p p p' s (same_house p)
 
 -- it is posted, or written off
 posts_of : (g : Config) (cap now mpl : ℕ) (p : Process) (pdu : Pdu) (s : Settled) (p' : Process) → cap ≡ g.cap → Forwards cap p now (record { left = mpl; pdu = pdu }) (Ok s) p' → (cause : Option Cause) × Posts g now mpl p pdu cause p'
-posts_of g cap now mpl p pdu settled.Own p' same f = absurd f
-posts_of g cap now mpl p pdu settled.Relayed p' same f = (None, subst (λ (n : ℕ). IsPassedOn n p now (record { left = mpl; pdu = pdu }) p') same f)
-posts_of g cap now mpl p pdu (settled.Off (causes.NoRoute dst)) p' same f = (Some (causes.NoRoute dst), (f.0, subst (λ (n : ℕ). next_hop n p.routes ≡ None) f.0 f.1, f.2))
-posts_of g cap now mpl p pdu (settled.Off (causes.QueueFull n)) p' same f = (Some (causes.QueueFull n), (f.0 ∙ same, subst (λ (c : ℕ). IsFull c p pdu) same f.1, f.2))
-posts_of g cap now mpl p pdu (settled.Off (causes.Expired left charge)) p' same f = absurd f
-posts_of g cap now mpl p pdu (settled.Off (causes.NoConnection cep)) p' same f = absurd f
-posts_of g cap now mpl p pdu (settled.Off (causes.Duplicate num)) p' same f = absurd f
-posts_of g cap now mpl p pdu (settled.Off (causes.Behind highest)) p' same f = absurd f
-posts_of g cap now mpl p pdu (settled.Off (causes.NoState drf)) p' same f = absurd f
-posts_of g cap now mpl p pdu (settled.Off (causes.NoRoom n)) p' same f = absurd f
-posts_of g cap now mpl p pdu (settled.Off (causes.StateGone last_in)) p' same f = absurd f
-posts_of g cap now mpl p pdu (settled.Off (causes.Broken missing)) p' same f = absurd f
-posts_of g cap now mpl p pdu (settled.Off (causes.LinkDown port)) p' same f = absurd f
+posts_of g cap now mpl p pdu decision.Here p' same f = absurd f
+posts_of g cap now mpl p pdu decision.Relayed p' same f = (None, subst (λ (n : ℕ). IsPassedOn n p now (record { left = mpl; pdu = pdu }) p') same f)
+posts_of g cap now mpl p pdu (decision.Off (causes.NoRoute dst)) p' same f = (Some (causes.NoRoute dst), (f.0, subst (λ (n : ℕ). next_hop n p.routes ≡ None) f.0 f.1, f.2))
+posts_of g cap now mpl p pdu (decision.Off (causes.QueueFull n)) p' same f = (Some (causes.QueueFull n), (f.0 ∙ same, subst (λ (c : ℕ). IsFull c p pdu) same f.1, f.2))
+posts_of g cap now mpl p pdu (decision.Off (causes.Expired left charge)) p' same f = absurd f
+posts_of g cap now mpl p pdu (decision.Off (causes.NoConnection cep)) p' same f = absurd f
+posts_of g cap now mpl p pdu (decision.Off (causes.Duplicate num)) p' same f = absurd f
+posts_of g cap now mpl p pdu (decision.Off (causes.Behind highest)) p' same f = absurd f
+posts_of g cap now mpl p pdu (decision.Off (causes.NoState drf)) p' same f = absurd f
+posts_of g cap now mpl p pdu (decision.Off (causes.NoRoom n)) p' same f = absurd f
+posts_of g cap now mpl p pdu (decision.Off (causes.StateGone last_in)) p' same f = absurd f
+posts_of g cap now mpl p pdu (decision.Off (causes.Broken missing)) p' same f = absurd f
+posts_of g cap now mpl p pdu (decision.Off (causes.LinkDown port)) p' same f = absurd f
 
 -- The DIF after it
 

@@ -13,9 +13,10 @@ use Rattle.rina_queue.specs.Queues.{Changes, is_queue, items_at, items_in, queue
 use Rattle.rina_queue.proofs.Places.{first_passes}
 use Rattle.rina_data.specs.declared.process.IpcProcess.{IpcProcess}
 use Rattle.rina_data.specs.Deciding.{plain}
-use Rattle.rina_data.specs.Dif.{Config, next_hop, queue_place}
-use Rattle.rina_data.specs.Sending.{queue_in, room_in}
-use Rattle.rina_data.specs.Standing.{IsQos}
+use Rattle.rina_data.specs.Configs.{Config}
+use Rattle.rina_data.specs.Process.{next_hop, queue_place}
+use Rattle.rina_dif_law.specs.Sending.{queue_in, room_in}
+use Rattle.rina_data.specs.Fitting.{IsQos}
 use Rattle.rina_data.proofs.Plain.{same_place}
 use Rattle.rina_flows.proofs.Framed.{set_twice}
 use Rattle.rina_dif.specs.Holding.{IsHoused}

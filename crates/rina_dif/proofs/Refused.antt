@@ -24,8 +24,8 @@ use Rattle.rina_iface.specs.Seen.{Fac, Seen, is_member, meets, offered}
 use Rattle.rina_iface.specs.Unregister.{Unregisters}
 use Rattle.rina_iface.specs.Unregister as left
 use Rattle.rina_data.specs.declared.settings.Member.{Member as Kept}
-use Rattle.rina_data.specs.Configs.{member_of}
-use Rattle.rina_data.specs.Dif.{Member, fac_of, offer_of}
+use Rattle.rina_data.specs.Configs.{Member, member_of}
+use Rattle.rina_dif_law.specs.Dif.{fac_of, offer_of}
 use Rattle.rina_dif.specs.declared.dif.Dif.{Dif}
 use Rattle.rina_dif.specs.Facade.{IsShownAs, shown_as}
 use Rattle.rina_dif.specs.Shown.{seen_of}

@@ -19,7 +19,7 @@ use Rattle.rina_data.specs.declared.link.Route.{Route}
 use Rattle.rina_data.specs.declared.process.IpcProcess.{IpcProcess}
 use Rattle.rina_data.specs.declared.settings.Member.{Member}
 use Rattle.rina_data.specs.declared.settings.Settings.{Settings}
-use Rattle.rina_data.specs.Dif.{next_hop}
+use Rattle.rina_data.specs.Process.{next_hop}
 use Rattle.rina_data.proofs.Finding.{found_in}
 use Rattle.rina_dif.specs.Laying.{AreLaid, IsLinkedUp, ends_of}
 use Rattle.rina_dif.specs.Routing.{AreRouted, HaveRoutes, KnowsLive, SetsRoutes, Weigh, addr_at, claims_with, edge_back, edge_between, edge_from, edge_there, edge_to, edges_from, edges_of, live_links, live_of, own_link, own_links, route_to, routes_to, with_routes}

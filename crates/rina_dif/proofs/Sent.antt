@@ -23,22 +23,23 @@ use Rattle.rina_queue.specs.declared.queue.Queue.{Queue as Waiting}
 use Rattle.rina_queue.specs.declared.queue.Queued.{Queued}
 use Rattle.rina_queue.specs.Queues.{queue_place as place_there, waiting, with_items}
 use Rattle.rina_data.specs.declared.process.IpcProcess.{IpcProcess}
-use Rattle.rina_data.specs.Configs.{config_of}
+use Rattle.rina_data.specs.Configs.{config_of, cube_by, piece_size}
 use Rattle.rina_data.specs.Deciding.{plain, process_of}
-use Rattle.rina_data.specs.Dif.{DifSeen, IsQueue, Process, constants, cube_by, next_hop, piece_size, with_put}
-use Rattle.rina_data.specs.Ids.{Ids, pdu_of_piece}
-use Rattle.rina_data.specs.Sending.{IsOffered, Offers, by_room, by_sender, home, made_items, offered_pieces, refused_at}
-use Rattle.rina_data.proofs.Carries.{offers_carry}
-use Rattle.rina_data.proofs.Numbering.{offers_numbered}
-use Rattle.rina_data.proofs.Giving.{offers_stand}
-use Rattle.rina_data.proofs.Making.{offers_accounted}
+use Rattle.rina_dif_law.specs.Dif.{DifSeen, constants}
+use Rattle.rina_data.specs.Process.{IsQueue, Process, next_hop, with_put}
+use Rattle.rina_dif_law.specs.Ids.{Ids, pdu_of_piece}
+use Rattle.rina_dif_law.specs.Sending.{IsOffered, Offers, by_room, by_sender, home, made_items, offered_pieces, refused_at}
+use Rattle.rina_dif_law.proofs.Carries.{offers_carry}
+use Rattle.rina_dif_law.proofs.Numbering.{offers_numbered}
+use Rattle.rina_dif_law.proofs.Giving.{offers_stand}
+use Rattle.rina_dif_law.proofs.Making.{offers_accounted}
 use Rattle.rina_data.proofs.Plain.{same_place}
 use Rattle.rina_flows.specs.declared.flows.Flows.{Flows}
 use Rattle.rina_flows.specs.Calls.{Accepts, Offers as FlowsOffer}
 use Rattle.rina_flows.specs.Tied.{conns_of, ids_of, outward}
 use Rattle.rina_flows.proofs.Framed.{ids_at}
 use Rattle.rina_dif.specs.declared.dif.Dif.{Dif}
-use Rattle.rina_dif.specs.declared.sending.Way.{Way}
+use Rattle.rina_dif.specs.declared.send.Way.{Way}
 use Rattle.rina_dif.specs.Facade.{way_refusal}
 use Rattle.rina_dif.specs.Holding.{AreHoused, Holds}
 use Rattle.rina_dif.specs.Sending.{AreOf, HasPut, HasRoomFor, IsAdmitted, IsBarred, Puts, Sends, SendsAt, queued, told_as}

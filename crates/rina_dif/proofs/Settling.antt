@@ -10,22 +10,24 @@ use Rattle.rina_base.specs.declared.pdu.Pdu.{Pdu}
 use Rattle.rina_iface.specs.Seen.{Seen}
 use Rattle.rina_iface.proofs.Changed.{slice_set-same}
 use Rattle.rina_law.specs.Direction.{Direction}
-use Rattle.rina_data.specs.Accounted.{IsAccounted}
+use Rattle.rina_dif_law.specs.Accounted.{IsAccounted}
 use Rattle.rina_data.specs.declared.process.IpcProcess.{IpcProcess}
-use Rattle.rina_data.specs.declared.step.Settled.{Settled}
-use Rattle.rina_data.specs.declared.step.Settled.TheVariants as settled
+use Rattle.rina_data.specs.declared.step.Decision.{Decision}
+use Rattle.rina_data.specs.declared.step.Decision.TheVariants as decision
 use Rattle.rina_data.specs.declared.step.Took.{Took}
 use Rattle.rina_data.specs.declared.step.Took.TheVariants as took
-use Rattle.rina_data.specs.Cloud.{Hop}
+use Rattle.rina_data.specs.Hops.{Hop}
 use Rattle.rina_data.specs.Deciding.{Decides, IsRouted, process_of}
-use Rattle.rina_data.specs.Dif.{DifSeen, IsProcess, Member, Process, with_offs, with_process}
-use Rattle.rina_data.specs.Incoming.{Settles}
+use Rattle.rina_dif_law.specs.Dif.{DifSeen, IsProcess, with_process}
+use Rattle.rina_data.specs.Configs.{Member}
+use Rattle.rina_data.specs.Process.{Process, with_offs}
+use Rattle.rina_dif_law.specs.Incoming.{Settles}
 use Rattle.rina_data.specs.Queueing.{Notes}
-use Rattle.rina_data.specs.Carried.{IsCarrying}
-use Rattle.rina_data.specs.Caused.{AreCaused}
-use Rattle.rina_data.specs.Numbered.{IsNumbered}
-use Rattle.rina_data.specs.Standing.{IsStanding}
-use Rattle.rina_data.proofs.Decided.{off_settles, relayed_settles}
+use Rattle.rina_dif_law.specs.Carried.{IsCarrying}
+use Rattle.rina_dif_law.specs.Caused.{AreCaused}
+use Rattle.rina_dif_law.specs.Numbered.{IsNumbered}
+use Rattle.rina_dif_law.specs.Standing.{IsStanding}
+use Rattle.rina_dif_law.proofs.Decided.{off_settles, relayed_settles}
 use Rattle.rina_data.proofs.Plain.{same_place}
 use Rattle.rina_flows.specs.declared.flows.Flows.{Flows}
 use Rattle.rina_flows.specs.Delivering.{ArrivesIn}
@@ -72,21 +74,21 @@ pub off_house : (p : Process) (lines : List Off) → IsSameHouse p (with_offs p 
 off_house p lines = record { links = refl; routes = refl; places = λ qos link. refl }
 
 pub decides_same : (cap now addr : ℕ) (p : Process) (since : ℕ) (hop : Hop) (r : Result Settled NoMemory) (p' : Process) → Decides cap now addr p since hop r p' → IsSameHouse p p'
-decides_same cap now addr p since hop (Ok settled.Own) p' s = house_is p p p' s.2 (same_house p)
-decides_same cap now addr p since hop (Ok settled.Relayed) p' s =
+decides_same cap now addr p since hop (Ok decision.Here) p' s = house_is p p p' s.2 (same_house p)
+decides_same cap now addr p since hop (Ok decision.Relayed) p' s =
     let q = s.2 in
     house_is p _ p' q.new_is (record { links = refl; routes = refl; places = λ qos link. same_places qos link p.queues q.place q.queue (q.queue.items ++ record { pdu = hop.pdu; left = hop.left; since = since } ∷ []) q.is_queue.is_queue })
-decides_same cap now addr p since hop (Ok (settled.Off (causes.Expired left charge))) p' s = house_is p _ p' s.3 (off_house p _)
-decides_same cap now addr p since hop (Ok (settled.Off (causes.NoRoute dst))) p' s = house_is p _ p' s.2.2 (off_house p _)
-decides_same cap now addr p since hop (Ok (settled.Off (causes.QueueFull n))) p' s = house_is p _ p' s.2.2 (off_house p _)
-decides_same cap now addr p since hop (Ok (settled.Off (causes.NoConnection cep))) p' s = absurd s.2
-decides_same cap now addr p since hop (Ok (settled.Off (causes.Duplicate num))) p' s = absurd s.2
-decides_same cap now addr p since hop (Ok (settled.Off (causes.Behind highest))) p' s = absurd s.2
-decides_same cap now addr p since hop (Ok (settled.Off (causes.NoState drf))) p' s = absurd s.2
-decides_same cap now addr p since hop (Ok (settled.Off (causes.NoRoom n))) p' s = absurd s.2
-decides_same cap now addr p since hop (Ok (settled.Off (causes.StateGone last_in))) p' s = absurd s.2
-decides_same cap now addr p since hop (Ok (settled.Off (causes.Broken missing))) p' s = absurd s.2
-decides_same cap now addr p since hop (Ok (settled.Off (causes.LinkDown port))) p' s = absurd s.2
+decides_same cap now addr p since hop (Ok (decision.Off (causes.Expired left charge))) p' s = house_is p _ p' s.3 (off_house p _)
+decides_same cap now addr p since hop (Ok (decision.Off (causes.NoRoute dst))) p' s = house_is p _ p' s.2.2 (off_house p _)
+decides_same cap now addr p since hop (Ok (decision.Off (causes.QueueFull n))) p' s = house_is p _ p' s.2.2 (off_house p _)
+decides_same cap now addr p since hop (Ok (decision.Off (causes.NoConnection cep))) p' s = absurd s.2
+decides_same cap now addr p since hop (Ok (decision.Off (causes.Duplicate num))) p' s = absurd s.2
+decides_same cap now addr p since hop (Ok (decision.Off (causes.Behind highest))) p' s = absurd s.2
+decides_same cap now addr p since hop (Ok (decision.Off (causes.NoState drf))) p' s = absurd s.2
+decides_same cap now addr p since hop (Ok (decision.Off (causes.NoRoom n))) p' s = absurd s.2
+decides_same cap now addr p since hop (Ok (decision.Off (causes.StateGone last_in))) p' s = absurd s.2
+decides_same cap now addr p since hop (Ok (decision.Off (causes.Broken missing))) p' s = absurd s.2
+decides_same cap now addr p since hop (Ok (decision.Off (causes.LinkDown port))) p' s = absurd s.2
 decides_same cap now addr p since hop (Err e) p' s = house_is p p p' s (same_house p)
 
 -- What a step finds
@@ -154,10 +156,10 @@ decided d addr at since hop s end ps lt is_addr settles decides lines below h th
       routed = house.routed;
     }
 
-pub decided_relayed : (d : Dif) (addr at since : ℕ) (hop : Hop) (ps : List IpcProcess) → at < length d.settings.members → ((member : Member) → slice_get (seen_of d).config.members at ≡ Some member → addr ≡ member.addr) → DecidesAt d.clock addr since hop (Ok settled.Relayed) at d.processes ps → SettlesFor d at since hop (Ok took.Relayed) (record d { processes = ps })
+pub decided_relayed : (d : Dif) (addr at since : ℕ) (hop : Hop) (ps : List IpcProcess) → at < length d.settings.members → ((member : Member) → slice_get (seen_of d).config.members at ≡ Some member → addr ≡ member.addr) → DecidesAt d.clock addr since hop (Ok decision.Relayed) at d.processes ps → SettlesFor d at since hop (Ok took.Relayed) (record d { processes = ps })
 decided_relayed d addr at since hop ps lt is_addr decides =
-    decided d addr at since hop settled.Relayed took.Relayed ps lt is_addr (λ p p' lines member s. relayed_settles (seen_of d) lines at member p p' since hop s) decides
+    decided d addr at since hop decision.Relayed took.Relayed ps lt is_addr (λ p p' lines member s. relayed_settles (seen_of d) lines at member p p' since hop s) decides
 
-pub decided_off : (d : Dif) (addr at since : ℕ) (hop : Hop) (cause : Cause) (ps : List IpcProcess) → at < length d.settings.members → ((member : Member) → slice_get (seen_of d).config.members at ≡ Some member → addr ≡ member.addr) → DecidesAt d.clock addr since hop (Ok (settled.Off cause)) at d.processes ps → SettlesFor d at since hop (Ok (took.Off cause)) (record d { processes = ps })
+pub decided_off : (d : Dif) (addr at since : ℕ) (hop : Hop) (cause : Cause) (ps : List IpcProcess) → at < length d.settings.members → ((member : Member) → slice_get (seen_of d).config.members at ≡ Some member → addr ≡ member.addr) → DecidesAt d.clock addr since hop (Ok (decision.Off cause)) at d.processes ps → SettlesFor d at since hop (Ok (took.Off cause)) (record d { processes = ps })
 decided_off d addr at since hop cause ps lt is_addr decides =
-    decided d addr at since hop (settled.Off cause) (took.Off cause) ps lt is_addr (λ p p' lines member s. off_settles (seen_of d) lines at member p p' since hop cause s) decides
+    decided d addr at since hop (decision.Off cause) (took.Off cause) ps lt is_addr (λ p p' lines member s. off_settles (seen_of d) lines at member p p' since hop cause s) decides

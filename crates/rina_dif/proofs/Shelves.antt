@@ -13,7 +13,7 @@ use Rattle.rina_data.specs.declared.step.OutStep.{OutStep}
 use Rattle.rina_data.specs.declared.step.OutStep.TheVariants as out
 use Rattle.rina_data.specs.declared.step.StepError.{StepError}
 use Rattle.rina_data.specs.declared.step.StepError.TheVariants.{Memory, NoIpc, NoLink}
-use Rattle.rina_data.specs.Dif.{Process}
+use Rattle.rina_data.specs.Process.{Process}
 use Rattle.rina_data.specs.Leaving.{Asks, IsAsked}
 
 abbrev names : List Slot → List (List ℕ)

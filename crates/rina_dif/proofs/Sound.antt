@@ -12,17 +12,16 @@ use Rattle.rina_plan.specs.declared.dif.DifPlan.{DifPlan}
 use Rattle.rina_plan.specs.declared.dif.LinkPlan.{LinkPlan}
 use Rattle.rina_plan.specs.declared.dif.MemberPlan.{MemberPlan}
 use Rattle.rina_plan.specs.declared.dif.WireEnds.{WireEnds}
-use Rattle.rina_plan.specs.Difs.{has_twice, is_misaddressed, is_misfit, is_misplaced, most_of}
-use Rattle.rina_plan.specs.Links.{has_crossed_link, is_crossed_link, is_member, is_there, rank_of}
+use Rattle.rina_plan.specs.Difs.{has_twice, is_misaddressed, has_unfit_pdu, is_misplaced, greatest_of}
+use Rattle.rina_plan.specs.Links.{has_unfit_link, is_unfit_link, is_member, is_there, rank_of}
 use Rattle.rina_stack.specs.declared.plan.Plan.{Plan}
-use Rattle.rina_sound.specs.Ranges.{IsRangedDif}
-use Rattle.rina_sound.specs.Unbroken.{AreDistinct}
+use Rattle.rina_stack.specs.Ranges.{IsRangedDif}
+use Rattle.rina_stack.specs.Unbroken.{AreDistinct}
 use Rattle.rina_stack.specs.Plan.{IsPlan, wire_ends}
-use Rattle.rina_data.specs.Cloud.{IsMine}
-use Rattle.rina_data.specs.Configs.{config_of, member_of as config_member}
-use Rattle.rina_data.specs.Dif.{Member}
-use Rattle.rina_data.specs.Numbered.{AreMembers}
-use Rattle.rina_data.specs.Standing.{IsConfig}
+use Rattle.rina_dif_law.specs.Cloud.{IsMine}
+use Rattle.rina_data.specs.Configs.{Member, config_of, member_of as config_member}
+use Rattle.rina_dif_law.specs.Numbered.{AreMembers}
+use Rattle.rina_dif_law.specs.Standing.{IsConfig}
 use Rattle.rina_dif.specs.Planned.{ipc_name, members_from, node_name, processes_before, settings_by}
 
 -- Tests
@@ -87,18 +86,18 @@ is_mine plan d n node (m ∷ ms) h = elim (eqb_tells m.node node) [
       record { addr = later.addr; member = record { place = suc later.member.place; member = later.member.member; stands = later.member.stands; addr_is = later.member.addr_is; name_is = later.member.name_is } }
 ]
 
-crossed : (wires : List WireEnds) (difs : List DifPlan) (d : DifPlan) (l : LinkPlan) → is_crossed_link wires difs d l ≡ false → (is_member l.a d ≡ true) × (is_member l.b d ≡ true)
-unfolding is_crossed_link
+crossed : (wires : List WireEnds) (difs : List DifPlan) (d : DifPlan) (l : LinkPlan) → is_unfit_link wires difs d l ≡ false → (is_member l.a d ≡ true) × (is_member l.b d ≡ true)
+unfolding is_unfit_link
 crossed wires difs d l h = first_two (is_member l.a d) (is_member l.b d) (is_there wires difs l.a l.on) (is_there wires difs l.b l.on) (is_true _ (third_false (not (rank_of difs l.on + 1 == d.rank)) (l.a == l.b) _ h))
 
-all_crossed : (wires : List WireEnds) (difs : List DifPlan) (d : DifPlan) (k : ℕ) (l : LinkPlan) → has_crossed_link wires difs d ≡ false → slice_get d.links k ≡ Some l → is_crossed_link wires difs d l ≡ false
-unfolding has_crossed_link
-all_crossed wires difs d k l none is = any_false (is_crossed_link wires difs d) d.links k l none is
+all_crossed : (wires : List WireEnds) (difs : List DifPlan) (d : DifPlan) (k : ℕ) (l : LinkPlan) → has_unfit_link wires difs d ≡ false → slice_get d.links k ≡ Some l → is_unfit_link wires difs d l ≡ false
+unfolding has_unfit_link
+all_crossed wires difs d k l none is = any_false (is_unfit_link wires difs d) d.links k l none is
 
 -- both ends of a link are IPC processes of the DIF
 pub link_mine : (plan : Plan) (i : ℕ) (d : DifPlan) (k : ℕ) (l : LinkPlan) → IsPlan plan → slice_get plan.difs i ≡ Some d → slice_get d.links k ≡ Some l → IsMine (config_of (settings_by plan i d)).members (ipc_name plan d l.a) × IsMine (config_of (settings_by plan i d)).members (ipc_name plan d l.b)
 link_mine plan i d k l sound at is =
-    let none = all_at (λ (z : DifPlan). has_crossed_link (map wire_ends plan.wires) plan.difs z ≡ false) plan.difs i d sound.links at in
+    let none = all_at (λ (z : DifPlan). has_unfit_link (map wire_ends plan.wires) plan.difs z ≡ false) plan.difs i d sound.links at in
     let ends = crossed (map wire_ends plan.wires) plan.difs d l (all_crossed (map wire_ends plan.wires) plan.difs d k l none is) in
     (is_mine plan d (processes_before plan.difs i) l.a d.members ends.0, is_mine plan d (processes_before plan.difs i) l.b d.members ends.1)
 
@@ -120,8 +119,8 @@ once (y ∷ ys) (suc i) (suc k) x none a b = ap suc (once ys i k x (both_false _
 
 -- Numbers that fit
 
-most_fits : (w n : ℕ) → IsWidth w → nat_lt (most_of w) n ≡ false → n < 2 ^ (8 * w)
-unfolding most_of
+most_fits : (w n : ℕ) → IsWidth w → nat_lt (greatest_of w) n ≡ false → n < 2 ^ (8 * w)
+unfolding greatest_of
 most_fits w n (inl is) h = (let le : n ≤ 255 = ltb-false 255 n (rw is at h) in subst (λ (v : ℕ). n < 2 ^ (8 * v)) (sym is) (omega (arith, le)))
 most_fits w n (inr (inl is)) h = (let le : n ≤ 65535 = ltb-false 65535 n (rw is at h) in subst (λ (v : ℕ). n < 2 ^ (8 * v)) (sym is) (omega (arith, le)))
 most_fits w n (inr (inr is)) h = (let le : n ≤ 4294967295 = ltb-false 4294967295 n (rw is at h) in subst (λ (v : ℕ). n < 2 ^ (8 * v)) (sym is) (omega (arith, le)))
@@ -131,7 +130,7 @@ less_one w (inl is) = subst (λ (v : ℕ). 2 ^ (8 * v) - 1 < 2 ^ (8 * v)) (sym i
 less_one w (inr (inl is)) = subst (λ (v : ℕ). 2 ^ (8 * v) - 1 < 2 ^ (8 * v)) (sym is) (omega arith)
 less_one w (inr (inr is)) = subst (λ (v : ℕ). 2 ^ (8 * v) - 1 < 2 ^ (8 * v)) (sym is) (omega arith)
 
-addressed : (width : ℕ) (m : MemberPlan) → is_misaddressed width m ≡ false → nat_lt (most_of width) m.addr ≡ false
+addressed : (width : ℕ) (m : MemberPlan) → is_misaddressed width m ≡ false → nat_lt (greatest_of width) m.addr ≡ false
 unfolding is_misaddressed
 addressed width m h = (both_false _ _ h).1
 
@@ -194,8 +193,8 @@ are_members plan i d sound at =
       ceps = less_one d.widths.cep widths.cep;
     }
 
-fitting : (d : DifPlan) → is_misfit d ≡ false → (nat_lt (most_of d.widths.len) d.pdu ≡ false) × (4 + pci_size Piece d.widths < d.pdu) × (4 + pci_size Ack d.widths ≤ d.pdu)
-unfolding is_misfit
+fitting : (d : DifPlan) → has_unfit_pdu d ≡ false → (nat_lt (greatest_of d.widths.len) d.pdu ≡ false) × (4 + pci_size Piece d.widths < d.pdu) × (4 + pci_size Ack d.widths ≤ d.pdu)
+unfolding has_unfit_pdu
 fitting d h =
     let parts = all_false _ _ _ h in
     (parts.0, leb-false d.pdu (4 + pci_size Piece d.widths) parts.1, ltb-false d.pdu (4 + pci_size Ack d.widths) parts.2)
@@ -205,7 +204,7 @@ pub is_config : (plan : Plan) (i : ℕ) (d : DifPlan) → IsPlan plan → slice_
 is_config plan i d sound at =
     let ranged : IsRangedDif (length plan.nodes) (length plan.wires) (length plan.difs) d = all_at (IsRangedDif (length plan.nodes) (length plan.wires) (length plan.difs)) plan.difs i d sound.difs at in
     let widths = ranged.widths in
-    let fit = fitting d (all_at (λ (z : DifPlan). is_misfit z ≡ false) plan.difs i d sound.pdus at) in
+    let fit = fitting d (all_at (λ (z : DifPlan). has_unfit_pdu z ≡ false) plan.difs i d sound.pdus at) in
     let times : IsCube d.manage × All IsCube d.cubes = all_at (λ (z : DifPlan). IsCube z.manage × All IsCube z.cubes) plan.difs i d sound.times at in
     let cubes = times.1 in
     record { widths = widths; cubes = λ k cube is. all_at IsCube d.cubes k cube cubes is; long = most_fits d.widths.len d.pdu widths.len fit.0; piece = fit.1; ack = fit.2 }

@@ -17,21 +17,24 @@ use Rattle.rina_data.specs.declared.step.InStep.TheVariants as in_
 use Rattle.rina_data.specs.declared.step.StepError.{StepError}
 use Rattle.rina_data.specs.declared.step.StepError.TheVariants.{Memory, NoIpc, NoLink}
 use Rattle.rina_data.specs.declared.step.Took.{Took}
-use Rattle.rina_data.specs.Cloud.{Hop, IsMine, opened}
-use Rattle.rina_data.specs.Configs.{config_of, member_of}
+use Rattle.rina_data.specs.Hops.{Hop, opened}
+use Rattle.rina_dif_law.specs.Cloud.{IsMine}
+use Rattle.rina_data.specs.Configs.{Member, config_of, member_of}
 use Rattle.rina_data.specs.Deciding.{process_of}
-use Rattle.rina_data.specs.Dif.{DifSeen, IsProcess, Member, Process, link_by}
-use Rattle.rina_data.specs.Incoming.{Ins, Settles}
-use Rattle.rina_data.specs.Sending.{home}
-use Rattle.rina_data.specs.Standing.{IsStanding}
-use Rattle.rina_data.proofs.Arrivals.{arrival, closed}
-use Rattle.rina_data.proofs.Carries.{ins_carry}
-use Rattle.rina_data.proofs.Coming.{ins_stand}
-use Rattle.rina_data.proofs.Numbering.{ins_numbered}
-use Rattle.rina_data.proofs.Finding.{live_link, oldest_at, there}
-use Rattle.rina_data.proofs.Landing.{ins_accounted}
-use Rattle.rina_data.proofs.Partnered.{met}
-use Rattle.rina_data.proofs.Spelled.{opened_spelling}
+use Rattle.rina_dif_law.specs.Dif.{DifSeen, IsProcess}
+use Rattle.rina_data.specs.Process.{Process, link_by}
+use Rattle.rina_dif_law.specs.Incoming.{Ins, Settles}
+use Rattle.rina_dif_law.specs.Sending.{home}
+use Rattle.rina_dif_law.specs.Standing.{IsStanding}
+use Rattle.rina_dif_law.proofs.Arrivals.{arrival, closed}
+use Rattle.rina_dif_law.proofs.Carries.{ins_carry}
+use Rattle.rina_dif_law.proofs.Coming.{ins_stand}
+use Rattle.rina_dif_law.proofs.Numbering.{ins_numbered}
+use Rattle.rina_dif_law.proofs.Finding.{live_link, oldest_at}
+use Rattle.rina_data.proofs.Finding.{there}
+use Rattle.rina_dif_law.proofs.Landing.{ins_accounted}
+use Rattle.rina_dif_law.proofs.Partnered.{met}
+use Rattle.rina_dif_law.proofs.Spelled.{opened_spelling}
 use Rattle.rina_dif.specs.declared.dif.Dif.{Dif}
 use Rattle.rina_dif.specs.Holding.{Holds}
 use Rattle.rina_dif.specs.Shown.{seen_of}

@@ -11,16 +11,18 @@ use Rattle.rina_law.specs.Direction.{Direction}
 use Rattle.rina_plan.specs.declared.dif.LinkPlan.{LinkPlan}
 use Rattle.rina_data.specs.declared.link.Link.{Link}
 use Rattle.rina_data.specs.declared.link.Route.{Route}
-use Rattle.rina_data.specs.declared.losing.Lost.{Lost}
+use Rattle.rina_data.specs.declared.loss.Lost.{Lost}
 use Rattle.rina_data.specs.declared.process.IpcProcess.{IpcProcess}
 use Rattle.rina_data.specs.declared.settings.Member.{Member}
-use Rattle.rina_data.specs.Configs.{config_of}
+use Rattle.rina_data.specs.Configs.{Config, config_of}
 use Rattle.rina_data.specs.Deciding.{process_of}
-use Rattle.rina_data.specs.Dif.{Config, DifSeen, Process, Queue, queue_place, with_process}
-use Rattle.rina_data.specs.Losing.{Loses, LosesAt, without_items, without_link}
-use Rattle.rina_data.proofs.Accounting.{lost_accounted}
+use Rattle.rina_dif_law.specs.Dif.{DifSeen, with_process}
+use Rattle.rina_data.specs.Process.{Process, Queue, queue_place}
+use Rattle.rina_dif_law.specs.Losing.{Loses}
+use Rattle.rina_data.specs.Losing.{LosesAt, without_items, without_link}
+use Rattle.rina_dif_law.proofs.Accounting.{lost_accounted}
 use Rattle.rina_data.proofs.Finding.{there}
-use Rattle.rina_data.proofs.Linkless.{lost_carries, lost_numbered, lost_stands}
+use Rattle.rina_dif_law.proofs.Linkless.{lost_carries, lost_numbered, lost_stands}
 use Rattle.rina_dif.specs.declared.dif.Dif.{Dif}
 use Rattle.rina_dif.specs.Holding.{AreHoused, HasQueues, HaveQueues, Holds, IsHoused, Stands}
 use Rattle.rina_dif.specs.Routing.{HaveRoutes, KnowsLive}

@@ -9,10 +9,10 @@ use Rattle.rina_queue.specs.Queues.{queue_place as place_there, waiting}
 use Rattle.rina_data.specs.declared.process.IpcProcess.{IpcProcess}
 use Rattle.rina_data.specs.Configs.{config_of}
 use Rattle.rina_data.specs.Deciding.{process_of}
-use Rattle.rina_data.specs.Dif.{next_hop}
-use Rattle.rina_data.specs.Ids.{Ids}
-use Rattle.rina_data.specs.Sending.{by_hop, by_process, by_room, home, process_at}
-use Rattle.rina_data.specs.Standing.{IsQos}
+use Rattle.rina_data.specs.Process.{next_hop}
+use Rattle.rina_dif_law.specs.Ids.{Ids}
+use Rattle.rina_dif_law.specs.Sending.{by_hop, by_process, by_room, home, process_at}
+use Rattle.rina_data.specs.Fitting.{IsQos}
 use Rattle.rina_flows.specs.Tied.{ids_of}
 use Rattle.rina_dif.specs.declared.dif.Dif.{Dif}
 use Rattle.rina_dif.specs.Holding.{AreHoused}

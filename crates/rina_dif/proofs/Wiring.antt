@@ -23,11 +23,10 @@ use Rattle.rina_queue.proofs.Places.{first_passes}
 use Rattle.rina_data.specs.declared.process.IpcProcess.{IpcProcess}
 use Rattle.rina_data.specs.declared.settings.Member.{Member as Kept}
 use Rattle.rina_data.specs.declared.settings.Settings.{Settings}
-use Rattle.rina_data.specs.Configs.{config_of, member_of}
-use Rattle.rina_data.specs.Cloud.{IsMine}
-use Rattle.rina_data.specs.Dif.{Config}
-use Rattle.rina_data.specs.Standing.{IsLinked}
-use Rattle.rina_data.specs.Numbered.{AreMembers}
+use Rattle.rina_data.specs.Configs.{Config, config_of, member_of}
+use Rattle.rina_dif_law.specs.Cloud.{IsMine}
+use Rattle.rina_dif_law.specs.Standing.{IsLinked}
+use Rattle.rina_dif_law.specs.Numbered.{AreMembers}
 use Rattle.rina_data.proofs.Finding.{there}
 use Rattle.rina_dif.specs.Building.{AreBare}
 use Rattle.rina_dif.specs.Laying.{AddsLinkAt, AreLaid, AreLinkedUp, AreSettings, BindsAll, CanBindAll, IsBoundSo, IsLaidIn, IsLinkedUp, LaysLink, LaysPort, LaysPortAt, MayBind, Takes, ends_of}

@@ -11,7 +11,7 @@ use Rattle.rina_cdap.specs.Reading.{Faulty}
 use Rattle.rina_rib.specs.Rows.{Tree}
 use Rattle.rina_answer.specs.Answers as answers
 use Rattle.rina_data.specs.Configs.{config_of}
-use Rattle.rina_data.specs.Sending.{home}
+use Rattle.rina_dif_law.specs.Sending.{home}
 use Rattle.rina_dif.specs.declared.cdap.CdapCallError.{CdapCallError}
 use Rattle.rina_dif.specs.declared.cdap.CdapCallError.TheVariants.{Memory, NoIpc, Cdap}
 use Rattle.rina_dif.specs.declared.dif.Dif.{Dif}

@@ -11,12 +11,12 @@ use Rattle.rina_iface.specs.Allocate.{next_port}
 use Rattle.rina_iface.specs.Seen.{Seen}
 use Rattle.rina_law.specs.Direction.{Direction}
 use Rattle.rina_data.specs.declared.settings.Settings.{Settings}
-use Rattle.rina_data.specs.Binding.{IsBound, MayDraw}
-use Rattle.rina_data.specs.Configs.{config_of}
-use Rattle.rina_data.specs.Dif.{Member, cube_by, fac_of, greatest, piece_size}
+use Rattle.rina_dif_law.specs.Binding.{IsBound, MayDraw}
+use Rattle.rina_data.specs.Configs.{Member, config_of, cube_by, greatest, piece_size}
+use Rattle.rina_dif_law.specs.Dif.{fac_of}
 use Rattle.rina_flows.specs.declared.flows.Flows.{Flows}
 use Rattle.rina_flows.specs.Adding.{Adds}
-use Rattle.rina_dif.specs.declared.binding.NextEnd.{NextEnd}
+use Rattle.rina_dif.specs.declared.fixed_flows.NextEnd.{NextEnd}
 use Rattle.rina_dif.specs.declared.dif.Dif.{Dif}
 use Rattle.rina_dif.specs.Holding.{Holds}
 use Rattle.rina_dif.specs.Shown.{seen_of}

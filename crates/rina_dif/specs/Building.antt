@@ -7,8 +7,8 @@ use Rattle.rina_cube.specs.declared.Cube.{Cube}
 use Rattle.rina_queue.specs.Queues.{AreIds}
 use Rattle.rina_data.specs.declared.process.IpcProcess.{IpcProcess}
 use Rattle.rina_data.specs.declared.settings.Settings.{Settings}
-use Rattle.rina_data.specs.Cloud.{IsMine}
-use Rattle.rina_data.specs.Dif.{Config}
+use Rattle.rina_dif_law.specs.Cloud.{IsMine}
+use Rattle.rina_data.specs.Configs.{Config}
 use Rattle.rina_dif.specs.declared.dif.Dif.{Dif}
 
 -- no end of the rank below has a member as its application or its peer

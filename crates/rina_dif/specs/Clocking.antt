@@ -18,21 +18,22 @@ use Rattle.rina_data.specs.declared.step.ClockStep.{ClockStep}
 use Rattle.rina_data.specs.declared.step.ClockStep.TheVariants as step
 use Rattle.rina_data.specs.declared.step.StepError.{StepError}
 use Rattle.rina_data.specs.declared.step.StepError.TheVariants.{Memory, NoIpc}
-use Rattle.rina_data.specs.Configs.{config_of}
-use Rattle.rina_data.specs.Dif.{DifSeen, Process, cube_by}
-use Rattle.rina_data.specs.Ending.{IsGivenUp}
-use Rattle.rina_data.specs.Ids.{Ids}
+use Rattle.rina_data.specs.Configs.{config_of, cube_by}
+use Rattle.rina_dif_law.specs.Dif.{DifSeen}
+use Rattle.rina_data.specs.Process.{Process}
+use Rattle.rina_dif_law.specs.Ending.{IsGivenUp}
+use Rattle.rina_dif_law.specs.Ids.{Ids}
 use Rattle.rina_data.specs.Losing.{NoneLost}
-use Rattle.rina_data.specs.Sending.{home}
-use Rattle.rina_data.specs.Standing.{IsConn}
-use Rattle.rina_data.specs.Timely.{IsAcknowledged, IsForgotten, IsResent}
-use Rattle.rina_flows.specs.declared.timely.Item.{Item}
-use Rattle.rina_flows.specs.declared.timely.Item.TheVariants.{Ack, Again, GiveUp, Gone}
+use Rattle.rina_dif_law.specs.Sending.{home}
+use Rattle.rina_dif_law.specs.Standing.{IsConn}
+use Rattle.rina_dif_law.specs.Timely.{IsAcknowledged, IsForgotten, IsResent}
+use Rattle.rina_flows.specs.declared.due.Item.{Item}
+use Rattle.rina_flows.specs.declared.due.Item.TheVariants.{Ack, Again, GiveUp, Gone}
 use Rattle.rina_flows.specs.Calls.{Tells}
 use Rattle.rina_flows.specs.Tied.{conns_of}
 use Rattle.rina_flows.specs.Timely.{IsDue}
-use Rattle.rina_dif.specs.declared.clocking.Next.{Next}
-use Rattle.rina_dif.specs.declared.clocking.Turn.{Turn}
+use Rattle.rina_dif.specs.declared.clock_steps.Next.{Next}
+use Rattle.rina_dif.specs.declared.clock_steps.Turn.{Turn}
 use Rattle.rina_dif.specs.declared.dif.Dif.{Dif}
 use Rattle.rina_dif.specs.Holding.{Holds}
 use Rattle.rina_dif.specs.Shown.{seen_of}

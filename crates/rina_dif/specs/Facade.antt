@@ -18,12 +18,12 @@ use Rattle.rina_law.specs.declared.entry.Entry.{Entry}
 use Rattle.rina_law.specs.Direction.{Direction}
 use Rattle.rina_law.specs.Sender.{NumbersSpent, Refusal, WindowShut}
 use Rattle.rina_data.specs.declared.process.IpcProcess.{IpcProcess}
-use Rattle.rina_data.specs.Configs.{config_of}
+use Rattle.rina_data.specs.Configs.{config_of, cube_by}
 use Rattle.rina_data.specs.Deciding.{process_of}
-use Rattle.rina_data.specs.Dif.{cube_by, fac_of}
-use Rattle.rina_data.specs.Others.{AreApart}
-use Rattle.rina_data.specs.Sending.{by_process, by_sender, home, process_at}
-use Rattle.rina_data.specs.Upward.{IsFacility}
+use Rattle.rina_dif_law.specs.Dif.{fac_of}
+use Rattle.rina_dif_law.specs.Others.{AreApart}
+use Rattle.rina_dif_law.specs.Sending.{by_process, by_sender, home, process_at}
+use Rattle.rina_dif_law.specs.Upward.{IsFacility}
 use Rattle.rina_flows.specs.Tied.{ids_of}
 use Rattle.rina_dif.specs.declared.dif.Dif.{Dif}
 use Rattle.rina_dif.specs.Holding.{Holds, Passes, Stands}

@@ -9,8 +9,8 @@ use Rattle.rina_iface.specs.declared.state.PortState.TheVariants.{Allocated, Clo
 use Rattle.rina_iface.specs.Seen.{Seen}
 use Rattle.rina_iface.specs.State.{freed}
 use Rattle.rina_law.specs.Direction.{Direction}
-use Rattle.rina_data.specs.Dif.{DifSeen}
-use Rattle.rina_data.specs.Ending.{IsEnded}
+use Rattle.rina_dif_law.specs.Dif.{DifSeen}
+use Rattle.rina_dif_law.specs.Ending.{IsEnded}
 use Rattle.rina_dif.specs.declared.dif.Dif.{Dif}
 use Rattle.rina_dif.specs.Holding.{Holds}
 use Rattle.rina_dif.specs.Shown.{seen_of}

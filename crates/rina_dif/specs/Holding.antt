@@ -4,15 +4,16 @@ use Rattle.rina_iface.specs.Seen.{Seen}
 use Rattle.rina_law.specs.Direction.{Direction}
 use Rattle.rina_data.specs.declared.link.Link.{Link}
 use Rattle.rina_data.specs.declared.process.IpcProcess.{IpcProcess}
-use Rattle.rina_data.specs.Accounted.{IsAccounted}
-use Rattle.rina_data.specs.Carried.{IsCarrying}
-use Rattle.rina_data.specs.Caused.{AreCaused}
-use Rattle.rina_data.specs.Configs.{config_of}
+use Rattle.rina_dif_law.specs.Accounted.{IsAccounted}
+use Rattle.rina_dif_law.specs.Carried.{IsCarrying}
+use Rattle.rina_dif_law.specs.Caused.{AreCaused}
+use Rattle.rina_data.specs.Configs.{Config, config_of}
 use Rattle.rina_data.specs.Deciding.{process_of}
-use Rattle.rina_data.specs.Dif.{Config, Process, next_hop, queue_place}
-use Rattle.rina_data.specs.Numbered.{IsNumbered}
-use Rattle.rina_data.specs.Passing.{IsPassed}
-use Rattle.rina_data.specs.Standing.{IsQos, IsStanding}
+use Rattle.rina_data.specs.Process.{Process, next_hop, queue_place}
+use Rattle.rina_dif_law.specs.Numbered.{IsNumbered}
+use Rattle.rina_dif_law.specs.Passing.{IsPassed}
+use Rattle.rina_data.specs.Fitting.{IsQos}
+use Rattle.rina_dif_law.specs.Standing.{IsStanding}
 use Rattle.rina_flows.specs.Calls.{AreTied}
 use Rattle.rina_dif.specs.declared.dif.Dif.{Dif}
 use Rattle.rina_dif.specs.Routing.{HaveRoutes}

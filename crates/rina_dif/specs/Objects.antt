@@ -6,7 +6,7 @@ use Rattle.std.specs.Fmt.{decimal}
 use Rattle.std.specs.Map.{lookup}
 use Rattle.std.specs.Ordering.{nat_cmp}
 use Rattle.std.specs.BTreeMap.{is_at}
-use Rattle.rina_cdap.specs.ObjectNames.{is_object_name_of}
+use Rattle.rina_base.specs.ObjectNames.{is_object_name}
 use Rattle.rina_conn.specs.declared.conn.Conn.{Conn}
 use Rattle.rina_conn.specs.Sending as sender
 use Rattle.rina_dtp.specs.Observed as receiver
@@ -25,11 +25,11 @@ use Rattle.rina_data.specs.declared.settings.Member.{Member}
 use Rattle.rina_data.specs.declared.step.StepError.{StepError}
 use Rattle.rina_data.specs.declared.step.StepError.TheVariants.{Memory, NoIpc}
 use Rattle.rina_data.specs.Configs.{config_of}
-use Rattle.rina_data.specs.Numbered.{is_asker}
-use Rattle.rina_data.specs.Sending.{home}
+use Rattle.rina_dif_law.specs.Numbered.{is_asker}
+use Rattle.rina_dif_law.specs.Sending.{home}
 use Rattle.rina_rib.specs.declared.caller.Caller.TheVariants.{Own}
-use Rattle.rina_rib.specs.declared.class.Class.{Class}
-use Rattle.rina_rib.specs.declared.class.Class.TheVariants as classes
+use Rattle.rina_base.specs.declared.class.Class.{Class}
+use Rattle.rina_base.specs.declared.class.Class.TheVariants as classes
 use Rattle.rina_rib.specs.declared.error.RibError.{RibError}
 use Rattle.rina_rib.specs.Objects.{Named, object_at}
 use Rattle.rina_rib.specs.Rows.{Tree, created, deleted, first_tree, written}
@@ -194,7 +194,7 @@ or_same t (Err e) = t
 -- the member tells an object: it is made, or has another value from now on
 abbrev pub told : Tree → Shown → Tree
 told t s =
-    if is_object_name_of s.name
+    if is_object_name s.name
     then (if is_some (object_at t.objects s.name) then or_same t (written t Own s.name s.class s.value) else or_same t (created t Own s.name s.class s.value))
     else t
 
@@ -204,7 +204,7 @@ told_all t objects = fold told t objects
 
 -- the member deletes the object of a flow that is allocated no more
 abbrev pub ended : Tree → FlowState → Tree
-ended t f = if f.open then t else (if is_object_name_of (flow_object f).name then or_same t (deleted t Own (flow_object f).name) else t)
+ended t f = if f.open then t else (if is_object_name (flow_object f).name then or_same t (deleted t Own (flow_object f).name) else t)
 
 -- a flow is told while it is allocated
 abbrev pub told_open : Tree → FlowState → Tree

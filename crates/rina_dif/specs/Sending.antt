@@ -18,13 +18,13 @@ use Rattle.rina_queue.specs.declared.queue.Queued.{Queued}
 use Rattle.rina_queue.specs.Queues.{Changes, queue_place, waiting, with_items}
 use Rattle.rina_data.specs.declared.process.IpcProcess.{IpcProcess}
 use Rattle.rina_data.specs.Configs.{config_of}
-use Rattle.rina_data.specs.Dif.{next_hop}
-use Rattle.rina_data.specs.Ids.{Ids}
-use Rattle.rina_data.specs.Sending.{Offers, home, refused_at}
+use Rattle.rina_data.specs.Process.{next_hop}
+use Rattle.rina_dif_law.specs.Ids.{Ids}
+use Rattle.rina_dif_law.specs.Sending.{Offers, home, refused_at}
 use Rattle.rina_flows.specs.Calls.{AreParts, AreTied, TellsNeed}
 use Rattle.rina_flows.specs.Tied.{IsAt, ids_of}
 use Rattle.rina_dif.specs.declared.dif.Dif.{Dif}
-use Rattle.rina_dif.specs.declared.sending.Way.{Way}
+use Rattle.rina_dif.specs.declared.send.Way.{Way}
 use Rattle.rina_dif.specs.Holding.{Holds}
 use Rattle.rina_dif.specs.Shown.{seen_of}
 

@@ -2,7 +2,7 @@
 use Rattle.std.specs.Prelude.{map}
 use Rattle.rina_data.specs.Configs.{config_of}
 use Rattle.rina_data.specs.Deciding.{process_of}
-use Rattle.rina_data.specs.Dif.{DifSeen}
+use Rattle.rina_dif_law.specs.Dif.{DifSeen}
 use Rattle.rina_flows.specs.Tied.{conns_of}
 use Rattle.rina_dif.specs.declared.dif.Dif.{Dif}
 

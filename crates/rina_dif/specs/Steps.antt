@@ -11,12 +11,13 @@ use Rattle.rina_data.specs.declared.settings.Settings.{Settings}
 use Rattle.rina_data.specs.declared.step.OutStep.{OutStep}
 use Rattle.rina_data.specs.declared.step.StepError.{StepError}
 use Rattle.rina_data.specs.declared.step.StepError.TheVariants.{Memory, NoIpc}
-use Rattle.rina_data.specs.Configs.{config_of}
+use Rattle.rina_data.specs.Configs.{Config, config_of}
 use Rattle.rina_data.specs.Deciding.{process_of}
-use Rattle.rina_data.specs.Dif.{Config, DifSeen}
+use Rattle.rina_dif_law.specs.Dif.{DifSeen}
 use Rattle.rina_data.specs.Leaving.{Asks, CanGo, IsAsked}
-use Rattle.rina_data.specs.Outgoing.{Goes, Outs}
-use Rattle.rina_data.specs.Sending.{home}
+use Rattle.rina_data.specs.Outgoing.{Goes}
+use Rattle.rina_dif_law.specs.Outgoing.{Outs}
+use Rattle.rina_dif_law.specs.Sending.{home}
 
 -- at the IPC process of a place, where there is one
 abbrev pub AtHome : Option ℕ → (ℕ → Type 0) → Type 0 → Type 0

@@ -8,19 +8,21 @@ use Rattle.rina_iface.specs.Seen.{Seen}
 use Rattle.rina_law.specs.Direction.{Direction}
 use Rattle.rina_data.specs.declared.process.IpcProcess.{IpcProcess}
 use Rattle.rina_data.specs.declared.step.InStep.{InStep}
-use Rattle.rina_data.specs.declared.step.Settled.{Settled}
+use Rattle.rina_data.specs.declared.step.Decision.{Decision}
 use Rattle.rina_data.specs.declared.step.StepError.{StepError}
 use Rattle.rina_data.specs.declared.step.StepError.TheVariants.{Memory, NoIpc}
 use Rattle.rina_data.specs.declared.step.Took.{Took}
 use Rattle.rina_data.specs.declared.step.Took.TheVariants as took
-use Rattle.rina_data.specs.Cloud.{Everywhere, Hop, IsOnWay}
-use Rattle.rina_data.specs.Configs.{config_of}
+use Rattle.rina_dif_law.specs.Cloud.{Everywhere, IsOnWay}
+use Rattle.rina_data.specs.Hops.{Hop}
+use Rattle.rina_data.specs.Configs.{Member, config_of}
 use Rattle.rina_data.specs.Deciding.{Decides, IsRouted, process_of}
-use Rattle.rina_data.specs.Dif.{DifSeen, IsProcess, Member, Process}
-use Rattle.rina_data.specs.Incoming.{Ins, Settles}
+use Rattle.rina_dif_law.specs.Dif.{DifSeen, IsProcess}
+use Rattle.rina_data.specs.Process.{Process}
+use Rattle.rina_dif_law.specs.Incoming.{Ins, Settles}
 use Rattle.rina_data.specs.Queueing.{Notes}
-use Rattle.rina_data.specs.Sending.{home}
-use Rattle.rina_data.specs.Standing.{IsFit}
+use Rattle.rina_dif_law.specs.Sending.{home}
+use Rattle.rina_data.specs.Fitting.{IsFit}
 use Rattle.rina_flows.specs.declared.flows.Flows.{Flows}
 use Rattle.rina_flows.specs.Calls.{AreTied}
 use Rattle.rina_flows.specs.Delivering.{ArrivesIn}

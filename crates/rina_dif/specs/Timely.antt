@@ -10,17 +10,17 @@ use Rattle.rina_iface.specs.Journal.{At}
 use Rattle.rina_iface.specs.Seen.{Seen}
 use Rattle.rina_law.specs.Direction.{Direction}
 use Rattle.rina_data.specs.declared.process.IpcProcess.{IpcProcess}
-use Rattle.rina_data.specs.declared.step.Settled.{Settled}
-use Rattle.rina_data.specs.Cloud.{Hop}
+use Rattle.rina_data.specs.declared.step.Decision.{Decision}
+use Rattle.rina_data.specs.Hops.{Hop}
 use Rattle.rina_data.specs.Configs.{config_of}
 use Rattle.rina_data.specs.Deciding.{Forwards, process_of}
-use Rattle.rina_data.specs.Ending.{IsGivenUp}
-use Rattle.rina_data.specs.Sending.{home}
-use Rattle.rina_data.specs.Timely.{IsAcknowledged, IsForgotten, IsResent}
+use Rattle.rina_dif_law.specs.Ending.{IsGivenUp}
+use Rattle.rina_dif_law.specs.Sending.{home}
+use Rattle.rina_dif_law.specs.Timely.{IsAcknowledged, IsForgotten, IsResent}
 use Rattle.rina_flows.specs.declared.flows.Flows.{Flows}
 use Rattle.rina_flows.specs.Calls.{Tells}
 use Rattle.rina_flows.specs.Delivering.{HoldsGone}
-use Rattle.rina_flows.specs.declared.timely.Item.TheVariants.{Ack, Again}
+use Rattle.rina_flows.specs.declared.due.Item.TheVariants.{Ack, Again}
 use Rattle.rina_flows.specs.Timely.{GivesNoneUp, IsDue}
 use Rattle.rina_dif.specs.declared.dif.Dif.{Dif}
 use Rattle.rina_dif.specs.Holding.{Holds}

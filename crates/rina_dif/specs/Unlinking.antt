@@ -9,12 +9,14 @@ use Rattle.rina_iface.specs.Seen.{Seen, state_of}
 use Rattle.rina_law.specs.Direction.{Direction}
 use Rattle.rina_data.specs.declared.link.Link.{Link}
 use Rattle.rina_data.specs.declared.link.Route.{Route}
-use Rattle.rina_data.specs.declared.losing.Lost.{Lost}
+use Rattle.rina_data.specs.declared.loss.Lost.{Lost}
 use Rattle.rina_data.specs.declared.process.IpcProcess.{IpcProcess}
 use Rattle.rina_data.specs.declared.settings.Member.{Member}
 use Rattle.rina_data.specs.Deciding.{process_of}
-use Rattle.rina_data.specs.Dif.{DifSeen, Process}
-use Rattle.rina_data.specs.Losing.{FailAll, FindsLost, Loses, LosesAt, NoneLive, without_link}
+use Rattle.rina_dif_law.specs.Dif.{DifSeen}
+use Rattle.rina_data.specs.Process.{Process}
+use Rattle.rina_dif_law.specs.Losing.{FailAll, Loses, NoneLive}
+use Rattle.rina_data.specs.Losing.{FindsLost, LosesAt, without_link}
 use Rattle.rina_flows.specs.declared.flows.Flows.{Flows}
 use Rattle.rina_flows.specs.Stopping.{StopsAll, held_before}
 use Rattle.rina_dif.specs.declared.dif.Dif.{Dif}

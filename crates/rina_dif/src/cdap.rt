@@ -75,7 +75,7 @@ impl Dif {
         ensures same { KeepsAll self.old self.new }
         ensures failed { self.new.failed ≡ self.old.failed }
     {
-        let Some(at) = self.home(node) else {
+        let Some(at) = self.place_at_node(node) else {
             return Err(CdapCallError::NoIpc);
         };
         let message = match read(alloc, bytes) {

@@ -4,9 +4,9 @@ ghost use Rattle.rina_iface.specs.Journal.{AreKept};
 ghost use Rattle.rina_iface.specs.Seen.{Seen};
 ghost use Rattle.rina_law.specs.Direction.{Direction};
 ghost use Rattle.rina_data.specs.Configs.{config_of};
-ghost use Rattle.rina_data.specs.Lifting.{IsLifted, ticked};
-ghost use Rattle.rina_data.specs.Passing.{IsTicked};
-ghost use Rattle.rina_data.specs.Upward.{IsSilent};
+ghost use Rattle.rina_dif_law.specs.Lifting.{IsLifted, ticked};
+ghost use Rattle.rina_dif_law.specs.Passing.{IsTicked};
+ghost use Rattle.rina_dif_law.specs.Upward.{IsSilent};
 ghost use Rattle.rina_dif.specs.Holding.{Holds};
 ghost use Rattle.rina_dif.specs.Shown.{seen_of};
 

@@ -1,12 +1,12 @@
 //! A DIF.
 ghost use Rattle.std.specs.Prelude.{◌≡◌, ◌<◌, length, IfSome, true, false, ◌==◌, ◌↔◌, Err, position};
 ghost use Rattle.rina_data.specs.Configs.{config_of};
-ghost use Rattle.rina_data.specs.Sending.{home};
+ghost use Rattle.rina_dif_law.specs.Sending.{home};
 ghost use Rattle.rina_data.specs.declared.settings.Member.{Member};
 ghost use Rattle.rina_data.specs.declared.step.StepError.TheVariants.{Memory};
 
+use crate::layout::Layout;
 use crate::processes::Processes;
-use crate::rerouting::Layout;
 use rina_base::{Node, Seq, Tick};
 use rina_data::{Member, Settings, StepError};
 use rina_flows::Flows;
@@ -38,7 +38,7 @@ pub(crate) fn place(members: &[Member], node: Node) -> Option<usize>
 
 impl Dif {
     /// The place of the IPC process at a node. None exactly where the DIF has none there.
-    pub(crate) fn home(&self, node: Node) -> Option<usize>
+    pub(crate) fn place_at_node(&self, node: Node) -> Option<usize>
         ensures place { result ≡ home node (config_of self.now.settings).members }
         ensures within { IfSome result (λ i. i < length self.now.settings.members) }
     {
@@ -53,7 +53,10 @@ impl Dif {
     }
 
     /// Notes whether a step wanted memory.
-    pub(crate) fn note<T>(failed: &mut bool, step: Result<T, StepError>) -> Result<T, StepError>
+    pub(crate) fn remember_memory_failure<T>(
+        failed: &mut bool,
+        step: Result<T, StepError>,
+    ) -> Result<T, StepError>
         requires { failed.old ≡ false }
         ensures same { result ≡ step }
         ensures noted { failed.new ≡ true ↔ (step ≡ Err Memory) }

@@ -6,9 +6,8 @@ ghost use Rattle.rina_iface.specs.Pass.{IsPassed as PassesThere};
 ghost use Rattle.rina_iface.specs.Seen.{Offer, Seen};
 ghost use Rattle.rina_law.specs.declared.entry.Entry.{Entry};
 ghost use Rattle.rina_law.specs.Direction.{Direction};
-ghost use Rattle.rina_data.specs.Configs.{config_of};
-ghost use Rattle.rina_data.specs.Dif.{cube_by};
-ghost use Rattle.rina_data.specs.Sending.{home};
+ghost use Rattle.rina_data.specs.Configs.{config_of, cube_by};
+ghost use Rattle.rina_dif_law.specs.Sending.{home};
 ghost use Rattle.rina_dif.specs.Facade.{GoesOn, IsLedger, IsShownAs, PassesAt, RankShows, StaysStanding, cube_there, its_cube, its_end, its_oldest, shown_as};
 ghost use Rattle.rina_dif.specs.Holding.{Holds};
 ghost use Rattle.rina_dif.specs.Whole.{IsDif};
@@ -59,7 +58,7 @@ impl Dif {
         requires { IsDif self.now }
         ensures { MatchOption result (home node (config_of self.now.settings).members ≡ None) (λ offs. IsLedger self.now node offs.now) }
     {
-        let home = self.home(node)?;
+        let home = self.place_at_node(node)?;
         let Some(process) = self.processes.get(home) else {
             unreachable!()
         };

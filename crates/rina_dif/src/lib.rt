@@ -1,39 +1,39 @@
 //! A DIF over any facility: its IPC processes, and its flows.
 #![tactic(auto)]
 
-mod asking;
-mod binding;
-mod building;
+mod asks;
 mod cdap;
 mod clock;
-mod clocking;
+mod clock_steps;
+mod construction;
 mod dif;
+mod due;
 mod facade;
+mod fixed_flows;
 mod flow_state;
-mod freeing;
-mod laying;
-mod leaving;
+mod in_step;
+mod layout;
+mod lost_links;
 mod names;
 mod neighbours;
+mod next_hops;
 mod objects;
-mod passing;
-mod planned;
+mod out_step;
+mod pass;
+mod plan;
 mod processes;
-mod rerouting;
+mod release;
 mod rib;
-mod routing;
-mod sending;
+mod send;
 mod shown;
-mod taking;
+mod start;
 mod text;
-mod timely;
-mod unlinking;
 
 pub use cdap::CdapCallError;
 pub use dif::Dif;
 pub use facade::a_rank_shows_its_difs;
+pub use layout::Layout;
 pub use processes::Processes;
-pub use rerouting::Layout;
 pub use shown::{Objects, Shown};
 
 #[cfg(test)]

@@ -7,7 +7,7 @@ ghost use Rattle.rina_iface.specs.Register.{Registers, refused_in as register_re
 ghost use Rattle.rina_iface.specs.Seen.{Seen, is_member, is_registered};
 ghost use Rattle.rina_iface.specs.Unregister.{Unregisters, refused_in as unregister_refused};
 ghost use Rattle.rina_data.specs.declared.settings.Member.{Member};
-ghost use Rattle.rina_data.specs.Dif.{fac_of};
+ghost use Rattle.rina_dif_law.specs.Dif.{fac_of};
 ghost use Rattle.rina_dif.specs.Facade.{GoesOn, IsShownAs, StaysStanding, shown_as};
 ghost use Rattle.rina_dif.specs.Shown.{seen_of};
 ghost use Rattle.rina_dif.specs.Whole.{IsDif};

@@ -3,10 +3,10 @@ ghost use Rattle.std.specs.Prelude.{◌≡◌, ◌<◌, ◌++◌, length, map, c
 ghost use Rattle.rina_dif.specs.Objects.{address_of, behind, cube_object, dir_object, end_objects, far_objects, first_slash, flow_object, key_byte, kind_text, link_object, links_named, member_object, named_object, or_greater, own_objects, state_object};
 ghost use Rattle.rina_dif.specs.Routing.{edge_to, live_links};
 
-use crate::binding::is_asker;
+use crate::fixed_flows::is_asker;
 use crate::flow_state::FlowState;
 use crate::neighbours::neighbours_text;
-use crate::routing::{addr_at, edges_from, edges_to, live_links};
+use crate::next_hops::{addr_at, edges_from, edges_to, live_links};
 use crate::shown::{Objects, Shown};
 use crate::text::{add_decimal, add_number, numbered};
 use rina_base::{Addr, AppName, Bytes, Memory, Node, Seq};

@@ -19,7 +19,7 @@ ghost use Rattle.rina_flows.specs.Delivering.{ForgetsIn, StopsIn};
 ghost use Rattle.rina_flows.specs.Timely.{GivesUpIn};
 
 use rina_base::{Addr, Cause, Memory, Node, Num, Pdu, PduView, Port, Seq, Tick};
-use rina_data::{HopView, IpcProcess, Link, OutStep, Route, Settings, Settled, StepError};
+use rina_data::{Decision, HopView, IpcProcess, Link, OutStep, Route, Settings, StepError};
 use rina_flows::Flows;
 use rina_iface::{Facility, PortState};
 use rina_policy::Picks;
@@ -76,7 +76,7 @@ fn add_link(process: &mut IpcProcess, alloc: Global, port: Port) -> Result<(), M
 
 /// Loses the link at a place of an IPC process, and lets each allocated end at its node be in a state in which it is
 /// allocated no more. Without memory nothing changes.
-fn lose_last(
+fn lose_last_link(
     process: &mut IpcProcess,
     alloc: Global,
     place: usize,
@@ -94,7 +94,7 @@ fn lose_last(
     let Some(held) = flows.held_at(node) else {
         return Err(Memory);
     };
-    let mut lines = process.lose_with_room(alloc, place, routes, held)?;
+    let mut lines = process.lose_link_with_room(alloc, place, routes, held)?;
     flows.stop_all(now, node, state, &mut lines);
     process.ledger.put(lines);
     Ok(())
@@ -152,7 +152,7 @@ impl Processes {
 
     /// Loses the link at a place of the IPC process at a place, which gets these next hops. Without memory nothing
     /// changes.
-    pub fn lose(
+    pub fn lose_link(
         &mut self,
         alloc: Global,
         at: usize,
@@ -164,13 +164,13 @@ impl Processes {
         ensures { LosesIn place routes result at self.old self.new }
     {
         let process = &mut self.items[at];
-        process.lose(alloc, place, routes)
+        process.lose_link(alloc, place, routes)
     }
 
     /// Loses the link at a place of the IPC process at a place, as `lose` does, and lets each allocated end at its node
     /// be in a state in which it is allocated no more, in the order of the journal; what their connections hold is
     /// written off behind what waited for the link. Without memory nothing changes.
-    pub fn lose_last(
+    pub fn lose_last_link(
         &mut self,
         alloc: Global,
         at: usize,
@@ -187,7 +187,7 @@ impl Processes {
         ensures { LosesLastIn now node state place routes result at flows.old self.old flows.new self.new }
     {
         let process = &mut self.items[at];
-        lose_last(process, alloc, place, routes, flows, now, node, state)
+        lose_last_link(process, alloc, place, routes, flows, now, node, state)
     }
 
     /// Takes one step of the IPC process at a place at a link: a PDU that waits is sent below, or written off, or stays.
@@ -233,7 +233,7 @@ impl Processes {
     }
 
     /// Lets the IPC process at a place decide on a PDU that came at tick `since`, where it has the address `addr`.
-    pub fn settle(
+    pub fn route_or_deliver(
         &mut self,
         alloc: Global,
         at: usize,
@@ -241,14 +241,14 @@ impl Processes {
         addr: Addr,
         since: Tick,
         hop: &HopView<'_>,
-    ) -> Result<Settled, Memory>
+    ) -> Result<Decision, Memory>
         requires now { now ≤ 10_000_000 }
         requires at { at < length self.old }
         requires routed { RoutesAt (hop_of hop.now) at self.old }
         ensures { DecidesAt now addr since (hop_of hop.now) result at self.old self.new }
     {
         let process = &mut self.items[at];
-        process.settle(alloc, now, addr, since, hop)
+        process.route_or_deliver(alloc, now, addr, since, hop)
     }
 
     /// Puts a PDU, made at tick `now`, into the queue of its next hop at the IPC process of a place, or writes it off.
@@ -259,7 +259,7 @@ impl Processes {
         at: usize,
         now: Tick,
         hop: &HopView<'_>,
-    ) -> Result<Settled, Memory>
+    ) -> Result<Decision, Memory>
         requires at { at < length self.old }
         requires routed { RoutesAt (hop_of hop.now) at self.old }
         ensures { ForwardsAt now (hop_of hop.now) result at self.old self.new }
@@ -284,7 +284,7 @@ impl Processes {
     }
 
     /// Lets the connection at a place of the flows take a piece that came to the IPC process at a place.
-    pub fn arrive(
+    pub fn on_data(
         &mut self,
         alloc: Global,
         at: usize,
@@ -300,7 +300,7 @@ impl Processes {
         ensures { ArrivesTo now place (pdu_of pdu.now) at flows.old self.old result flows.new self.new }
     {
         let process = &mut self.items[at];
-        flows.arrive(alloc, now, place, pdu, &mut process.ledger)
+        flows.on_data(alloc, now, place, pdu, &mut process.ledger)
     }
 
     /// Writes off what the connection at a place of the flows holds of a state that has ended, in the ledger of the IPC

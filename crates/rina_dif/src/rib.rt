@@ -2,7 +2,7 @@
 ghost use Rattle.std.specs.Prelude.{◌≡◌, ◌<◌, ◌++◌, Err, length, map, IfOk, OnOk, option_map};
 ghost use Rattle.std.specs.Borrow.{Bor};
 ghost use Rattle.std.specs.List.{fold};
-ghost use Rattle.rina_cdap.specs.ObjectNames.{IsObjectName};
+ghost use Rattle.rina_base.specs.ObjectNames.{IsObjectName};
 ghost use Rattle.rina_rib.specs.declared.error.RibError.TheVariants as errors;
 ghost use Rattle.rina_rib.specs.Rows.{Tree};
 ghost use Rattle.rina_rib.specs.Walks.{named_of, within};
@@ -13,8 +13,7 @@ use crate::dif::Dif;
 use crate::flow_state::{FlowState, flows_at};
 use crate::objects::{add_cubes, add_directory, add_end, add_members, add_states, flow_object};
 use crate::shown::{Objects, Shown};
-use rina_base::{Bytes, Memory, Node, Seq};
-use rina_cdap::is_object_name;
+use rina_base::{Bytes, Memory, Node, Seq, is_object_name};
 use rina_data::{Link, Member, StepError};
 use rina_rib::{Caller, Object, Rib, RibError};
 use std::alloc::{AllocError, Global};
@@ -247,7 +246,7 @@ impl Dif {
         requires under { IsObjectName under.now }
         ensures { ShowsUnder self.now node under.now result }
     {
-        let Some(at) = self.home(node) else {
+        let Some(at) = self.place_at_node(node) else {
             return Err(StepError::NoIpc);
         };
         let rib = self.rib_at(alloc, at)?;

@@ -52,9 +52,9 @@ fn settings(alloc: Global) -> Result<Settings, Fail> {
 fn a_dif_has_an_ipc_process_for_each_member(rt: HostRuntime) -> Result<(), Fail> {
     let alloc = rt.alloc();
     let dif = Dif::new(alloc, settings(alloc)?, 0)?;
-    assert_eq!(rt; dif.home(0), Some(0));
-    assert_eq!(rt; dif.home(1), Some(1));
-    assert_eq!(rt; dif.home(2), None);
+    assert_eq!(rt; dif.place_at_node(0), Some(0));
+    assert_eq!(rt; dif.place_at_node(1), Some(1));
+    assert_eq!(rt; dif.place_at_node(2), None);
     assert!(rt; dif.processes.get(1).is_some());
     assert!(rt; dif.processes.get(2).is_none());
     assert!(rt; dif.has_member(1) && !dif.has_member(2));

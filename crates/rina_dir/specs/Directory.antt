@@ -1,6 +1,6 @@
 -- Directory entries: the key of an application, the address in decimal, and what is found.
 use Rattle.std.specs.Prelude.{◌≡◌, ℕ, ◌≤◌, length, take, Contains, IsSome, ◌+◌, ◌-◌, ◌*◌, ◌^◌, ◌&&◌, ◌==◌, nat_le, nat_lt, List, [], ◌∷◌, ◌++◌, Option, Some, None, option_and_then, map, codes, if◌then◌else◌}
-use Rattle.rina_newest.specs.Decimal.{address_at}
+use Rattle.rina_base.specs.Decimals.{number_of}
 use Rattle.rina_newest.specs.declared.item.Item.{Item}
 use Rattle.rina_newest.specs.Newest.{value_at}
 
@@ -14,11 +14,11 @@ key_of app = codes "/dir/" ++ map key_byte app
 
 -- the address in the live entry of an application
 unfoldable pub found : List Item → List ℕ → Option ℕ
-found items app = option_and_then address_at (value_at items (key_of app))
+found items app = option_and_then number_of (value_at items (key_of app))
 
 -- an item that is a live entry has the form of the directory: a key of at most 134 bytes, which is "/dir/" and a name, and an address in decimal
 abbrev pub IsEntry : Item → Type 0
-IsEntry item = (value : List ℕ) → item.value ≡ Some value → take 5 item.key ≡ codes "/dir/" → (length item.key ≤ 134) × IsSome (address_at value)
+IsEntry item = (value : List ℕ) → item.value ≡ Some value → take 5 item.key ≡ codes "/dir/" → (length item.key ≤ 134) × IsSome (number_of value)
 
 -- all live entries have the form of the directory
 abbrev pub AreEntries : List Item → Type 0

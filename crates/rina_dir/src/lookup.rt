@@ -3,8 +3,8 @@ ghost use Rattle.std.specs.Prelude.{◌≡◌};
 ghost use Rattle.rina_dir.specs.Directory.{found, AreEntries};
 
 use crate::key::{LONGEST, write_key};
-use rina_base::{Addr, AppName};
-use rina_newest::{Newest, address_of};
+use rina_base::{Addr, AppName, read_number};
+use rina_newest::Newest;
 
 /// The address in the newest entry of an application, where that is live; None exactly where there
 /// is none. Takes no memory.
@@ -19,7 +19,7 @@ pub fn find(states: &Newest, app: &AppName) -> Option<Addr>
     }
     let mut key = [0; LONGEST];
     let len = write_key(name, &mut key);
-    address_of(states.get(&key[..len])?)
+    read_number(states.get(&key[..len])?)
 }
 
 #[cfg(test)]

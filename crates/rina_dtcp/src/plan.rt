@@ -46,7 +46,7 @@ impl AckPlan {
     }
 
     /// Plans one from now on, where none is planned.
-    fn plan(&mut self, now: Tick)
+    fn plan_from(&mut self, now: Tick)
         ensures { self.new ≡ with_mark now self.old }
     {
         if self.since.is_none() {
@@ -61,13 +61,13 @@ impl AckPlan {
         self.since = None;
     }
 
-    fn note_at(&mut self, now: Tick, last_in: Tick)
+    fn plan_noted(&mut self, now: Tick, last_in: Tick)
         ensures { self.new ≡ noted_plan now last_in self.old }
     {
         if !self.is_young(now, last_in) {
             self.forget();
         }
-        self.plan(now);
+        self.plan_from(now);
     }
 
     /// Notes a piece that was accepted, held, or a duplicate. `last_in` is the tick of the last piece that
@@ -76,14 +76,14 @@ impl AckPlan {
     pub fn note(&mut self, now: Tick, last_in: Option<Tick>)
         ensures { TellsNote now last_in self.old self.new }
     {
-        self.note_at(now, last_in.unwrap_or(0));
+        self.plan_noted(now, last_in.unwrap_or(0));
     }
 
-    fn pass_at(&mut self, now: Tick, last_in: Option<Tick>)
+    fn plan_passed(&mut self, now: Tick, last_in: Option<Tick>)
         ensures { self.new ≡ passed_plan now last_in self.old }
     {
         match last_in {
-            Some(last_in) if self.is_young(now, last_in) => self.plan(now),
+            Some(last_in) if self.is_young(now, last_in) => self.plan_from(now),
             _ => self.forget(),
         }
     }
@@ -93,7 +93,7 @@ impl AckPlan {
     pub fn note_passed(&mut self, now: Tick, last_in: Option<Tick>)
         ensures { TellsPass now last_in self.old self.new }
     {
-        self.pass_at(now, last_in);
+        self.plan_passed(now, last_in);
     }
 
     /// Whether an acknowledgement is made now; then none is planned any more. Else nothing changes. Takes no

@@ -91,11 +91,11 @@ fn copies(
 }
 
 /// Marks a piece as made now.
-fn touch(unacked: &mut VecDeque<Sent>, at: usize, now: Tick)
-    requires { at < length unacked.old.items }
-    ensures { unacked.new.items ≡ touched at now unacked.old.items }
+fn mark_resent(unacked: &mut VecDeque<Sent>, place: usize, now: Tick)
+    requires { place < length unacked.old.items }
+    ensures { unacked.new.items ≡ touched place now unacked.old.items }
 {
-    unacked[at].last = now;
+    unacked[place].last = now;
 }
 
 /// The place of the first piece that is to be made again.
@@ -160,10 +160,10 @@ impl Tx {
     pub fn room(&self, now: Tick) -> u32
         ensures { TellsRoom now self.now result }
     {
-        self.left(now)
+        self.room_left(now)
     }
 
-    fn left(&self, now: Tick) -> u32
+    fn room_left(&self, now: Tick) -> u32
         ensures { result ≡ left_in (is_gone now self.now) self.now }
     {
         if self.is_absent(now) {
@@ -188,10 +188,10 @@ impl Tx {
     pub fn idle(&self) -> bool
         ensures { TellsIdle self.now result }
     {
-        self.has_none()
+        self.has_no_unacked()
     }
 
-    fn has_none(&self) -> bool
+    fn has_no_unacked(&self) -> bool
         ensures { result ≡ (length self.now.unacked == 0) }
     {
         self.unacked.is_empty()
@@ -205,7 +205,7 @@ impl Tx {
     }
 
     /// Keeps a copy of a piece's PDU until it is acknowledged.
-    fn keep(&mut self, alloc: Global, now: Tick, pdu: &Pdu) -> Result<(), Memory>
+    fn keep_copy(&mut self, alloc: Global, now: Tick, pdu: &Pdu) -> Result<(), Memory>
         ensures ok { OnOk result (self.new ≡ with_sent now pdu.now self.old) }
         ensures err { OnErr result (self.new ≡ self.old) }
     {
@@ -219,7 +219,7 @@ impl Tx {
     }
 
     /// Counts a number as sent now, in a run that begins or in the present one.
-    fn count(&mut self, begins: bool, now: Tick, seq: u32)
+    fn count_sent(&mut self, begins: bool, now: Tick, seq: u32)
         ensures { self.new ≡ counted begins now seq self.old }
     {
         if begins {
@@ -230,15 +230,15 @@ impl Tx {
         self.last_out = now;
     }
 
-    fn note(&mut self, alloc: Global, now: Tick, seq: u32, pdu: &Pdu) -> Result<(), Memory>
+    fn note_piece(&mut self, alloc: Global, now: Tick, seq: u32, pdu: &Pdu) -> Result<(), Memory>
         ensures ok { OnOk result (self.new ≡ noted now seq pdu.now self.old) }
         ensures err { OnErr result (self.new ≡ self.old) }
     {
         let begins = self.is_absent(now);
         if self.keeps(begins, seq) {
-            self.keep(alloc, now, pdu)?;
+            self.keep_copy(alloc, now, pdu)?;
         }
-        self.count(begins, now, seq);
+        self.count_sent(begins, now, seq);
         Ok(())
     }
 
@@ -248,7 +248,7 @@ impl Tx {
         ensures ok { OnOk result (Notes now seq pdu.now self.old self.new) }
         ensures err { OnErr result (self.new ≡ self.old) }
     {
-        self.note(alloc, now, seq, pdu)
+        self.note_piece(alloc, now, seq, pdu)
     }
 
     /// The first number of a run that begins, or of the present one, that is to be acknowledged.
@@ -259,7 +259,7 @@ impl Tx {
     }
 
     /// Keeps copies of those PDUs of pieces that are to be acknowledged; `seq` is the number of the first.
-    fn keep_all(
+    fn keep_copies(
         &mut self,
         alloc: Global,
         begins: bool,
@@ -278,15 +278,21 @@ impl Tx {
         Ok(())
     }
 
-    fn note_each(&mut self, alloc: Global, now: Tick, seq: u32, pdus: &[Pdu]) -> Result<(), Memory>
+    fn note_pieces(
+        &mut self,
+        alloc: Global,
+        now: Tick,
+        seq: u32,
+        pdus: &[Pdu],
+    ) -> Result<(), Memory>
         requires some { 1 ≤ length pdus.now }
         requires fits { seq + length pdus.now ≤ 2 ^ 32 }
         ensures ok { OnOk result (self.new ≡ counted_all (is_gone now self.old) now seq pdus.now self.old) }
         ensures err { OnErr result (self.new ≡ self.old) }
     {
         let begins = self.is_absent(now);
-        self.keep_all(alloc, begins, now, seq, pdus)?;
-        self.count(begins, now, seq + (pdus.len() - 1) as u32);
+        self.keep_copies(alloc, begins, now, seq, pdus)?;
+        self.count_sent(begins, now, seq + (pdus.len() - 1) as u32);
         Ok(())
     }
 
@@ -304,10 +310,10 @@ impl Tx {
         ensures ok { OnOk result (NotesAll now seq pdus.now self.old self.new) }
         ensures err { OnErr result (self.new ≡ self.old) }
     {
-        self.note_each(alloc, now, seq, pdus)
+        self.note_pieces(alloc, now, seq, pdus)
     }
 
-    fn settle(&mut self, ack: u32)
+    fn drop_acknowledged(&mut self, ack: u32)
         ensures { self.new ≡ settled ack self.old }
     {
         let acked = u64::from(ack) + 1;
@@ -317,7 +323,7 @@ impl Tx {
         }
     }
 
-    fn raise(&mut self, right: u32)
+    fn raise_edge(&mut self, right: u32)
         ensures { self.new ≡ raised right self.old }
     {
         self.right = self.right.max(right);
@@ -328,19 +334,19 @@ impl Tx {
     pub fn on_control(&mut self, ack: u32, right: u32)
         ensures { IsTold ack right self.old self.new }
     {
-        self.settle(ack);
-        self.raise(right);
+        self.drop_acknowledged(ack);
+        self.raise_edge(right);
     }
 
     /// Marks the first piece that is to be made again as made now.
-    fn mark(&mut self, now: Tick) -> Option<usize>
+    fn mark_first_due(&mut self, now: Tick) -> Option<usize>
         ensures place { result ≡ position (is_due self.old.cube now) self.old.unacked }
         ensures marks { self.new ≡ resent_at result now self.old }
         ensures within { IfSome result (λ k. k < length self.new.unacked) }
     {
         let place = first_due(&self.unacked, &self.cube, now);
         if let Some(at) = place {
-            touch(&mut self.unacked, at, now);
+            mark_resent(&mut self.unacked, at, now);
             self.last_out = now;
         }
         place
@@ -367,16 +373,16 @@ impl Tx {
         ensures { TellsAgain now self.now (option_copied result) }
     {
         match self.next_place(now) {
-            Some(at) => Some(self.pdu(at)),
+            Some(at) => Some(self.pdu_at(at)),
             None => None,
         }
     }
 
-    fn pdu(&self, at: usize) -> &Pdu
-        requires { at < length self.now.unacked }
-        ensures { IsPduAt self.now.unacked at result.now }
+    fn pdu_at(&self, place: usize) -> &Pdu
+        requires { place < length self.now.unacked }
+        ensures { IsPduAt self.now.unacked place result.now }
     {
-        &self.unacked[at].pdu
+        &self.unacked[place].pdu
     }
 
     /// The PDU of the least number that is unacknowledged, was last made `retry` ticks ago or more, and was
@@ -385,13 +391,13 @@ impl Tx {
     pub fn due(&mut self, now: Tick) -> Option<&Pdu>
         ensures* { sem 𝓛 (LendsDue now self.entry result) }
     {
-        match self.mark(now) {
-            Some(at) => Some(self.pdu(at)),
+        match self.mark_first_due(now) {
+            Some(at) => Some(self.pdu_at(at)),
             None => None,
         }
     }
 
-    fn late(&self, now: Tick) -> Option<GaveUp>
+    fn least_given_up(&self, now: Tick) -> Option<GaveUp>
         ensures { result ≡ late_in now self.now }
     {
         match first_late(&self.unacked, &self.cube, now) {
@@ -405,6 +411,6 @@ impl Tx {
     pub fn gave_up(&self, now: Tick) -> Option<GaveUp>
         ensures { TellsGivenUp now self.now result }
     {
-        self.late(now)
+        self.least_given_up(now)
     }
 }

@@ -75,14 +75,14 @@ fn join_held(place: &Place, join: &mut Join)
     ensures grows { Grows 2 join.old join.new }
 {
     let number = place.number();
-    let missing = join.take(number, place.is_first(), place.is_last(), place.body());
+    let missing = join.join_piece(number, place.is_first(), place.is_last(), place.body());
     if let Some(missing) = missing {
         join.give_up_one(number, missing);
     }
 }
 
 /// Joins the held piece of the next number, where there is one, and answers whether there was.
-fn follow_one(shelf: &mut Shelf, join: &mut Join) -> bool
+fn join_next_held(shelf: &mut Shelf, join: &mut Join) -> bool
     requires slot { join.old.filled < join.old.slots }
     requires gap { length join.old.gaps + 1 < 2 * join.old.slots }
     ensures there { result ≡ holds shelf.old.places shelf.old.next }
@@ -101,7 +101,7 @@ fn follow_one(shelf: &mut Shelf, join: &mut Join) -> bool
 }
 
 /// Joins the held pieces that follow, one after the other.
-fn follow_all(shelf: &mut Shelf, join: &mut Join)
+fn join_all_following(shelf: &mut Shelf, join: &mut Join)
     requires filled { join.old.filled ≤ 1 }
     requires gaps { length join.old.gaps ≤ 1 }
     requires least { 1 ≤ length shelf.old.places }
@@ -112,7 +112,7 @@ fn follow_all(shelf: &mut Shelf, join: &mut Join)
 {
     let others = shelf.window() - 1;
     for step in 0..others {
-        if !follow_one(shelf, join) {
+        if !join_next_held(shelf, join) {
             return;
         }
     }
@@ -197,7 +197,7 @@ impl Accepted {
     }
 
     /// The greatest number that was accepted.
-    pub fn top(&self) -> u32
+    pub fn highest(&self) -> u32
         ensures { result ≡ top_of self.now }
     {
         match self {
@@ -208,7 +208,7 @@ impl Accepted {
     }
 
     /// Counts a number as accepted; where no state stood, as the only one.
-    pub fn count(&mut self, present: bool, number: u32)
+    pub fn note_accepted(&mut self, present: bool, number: u32)
         requires { present ≡ true → MayCount self.old number }
         ensures counted { IsCounted present number self.old self.new }
         ensures sound { (slots : ℕ) → HasSlotsFor self.old slots → HasSlotsFor self.new slots }
@@ -223,7 +223,7 @@ impl Accepted {
     }
 
     /// Joins the held pieces that follow.
-    pub fn follow(&mut self, join: &mut Join)
+    pub fn join_following(&mut self, join: &mut Join)
         requires filled { join.old.filled ≤ 1 }
         requires gaps { length join.old.gaps ≤ 1 }
         requires slots { HasSlotsFor self.old join.old.slots }
@@ -232,7 +232,7 @@ impl Accepted {
         ensures sound { HasSlotsFor self.new join.new.slots }
     {
         match self {
-            Accepted::Reliable(shelf) => follow_all(shelf, join),
+            Accepted::Reliable(shelf) => join_all_following(shelf, join),
             _ => {}
         }
     }

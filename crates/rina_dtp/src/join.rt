@@ -95,7 +95,7 @@ fn take_lost(gaps: &mut Vec<Gap>) -> Option<Lost>
 }
 
 /// The number of the first piece of an SDU.
-fn start(first: bool, held: Option<Run>, number: u32) -> u32
+fn sdu_start(first: bool, held: Option<Run>, number: u32) -> u32
     ensures { result ≡ start_of first held number }
 {
     match held {
@@ -117,7 +117,7 @@ fn bodies_of(alloc: Global, slots: &[Slot]) -> Result<Bodies, Memory>
 
 /// Goes on with an empty piece.
 #[tactic(auto, using(crate::proofs::Copied::goes_on_empty, crate::proofs::Copied::has_room_empty))]
-fn go_on(joiner: &mut Joiner, run: Run)
+fn push_empty(joiner: &mut Joiner, run: Run)
     requires next { run.last + 1 < 2 ^ 32 }
     requires held { joiner.old.held ≡ Some run }
     requires within { length joiner.old.bytes ≤ joiner.old.largest }
@@ -127,14 +127,14 @@ fn go_on(joiner: &mut Joiner, run: Run)
 }
 
 /// Goes on with empty pieces up to the last one of a run.
-fn go_to(joiner: &mut Joiner, run: Run)
+fn push_empty_up_to(joiner: &mut Joiner, run: Run)
     requires held { joiner.old.held ≡ Some (record { from = run.from; last = run.from }) }
     requires within { length joiner.old.bytes ≤ joiner.old.largest }
     ensures held { run.from ≤ run.last → joiner.new ≡ record joiner.old { held = Some run } }
     ensures largest { joiner.new.largest ≡ joiner.old.largest }
 {
     for number in run.from..run.last {
-        go_on(
+        push_empty(
             joiner,
             Run {
                 from: run.from,
@@ -146,7 +146,7 @@ fn go_to(joiner: &mut Joiner, run: Run)
 
 /// Joins one piece that begins an SDU to nothing.
 #[tactic(auto, using(crate::proofs::Copied::begun_alone))]
-fn begin(joiner: &mut Joiner, number: u32, last: bool, bytes: &[u8])
+fn push_first(joiner: &mut Joiner, number: u32, last: bool, bytes: &[u8])
     requires empty { joiner.old ≡ empty joiner.old.largest }
     requires within { length bytes.now ≤ joiner.old.largest }
     ensures { joiner.new ≡ record { largest = joiner.old.largest; held = held_after number number last; bytes = bytes.now } }
@@ -166,11 +166,11 @@ fn copy_joiner(alloc: Global, joiner: &Joiner, largest: u32) -> Result<Joiner, M
     };
     match joiner.held() {
         None => {
-            begin(&mut copy, 0, true, joiner.whole());
+            push_first(&mut copy, 0, true, joiner.whole());
         }
         Some(run) => {
-            begin(&mut copy, run.from, false, joiner.whole());
-            go_to(&mut copy, run);
+            push_first(&mut copy, run.from, false, joiner.whole());
+            push_empty_up_to(&mut copy, run);
         }
     }
     Ok(copy)
@@ -236,7 +236,7 @@ impl Join {
     }
 
     /// Keeps the SDU that was made whole, in the next slot.
-    fn keep(&mut self, from: u32, last: u32)
+    fn keep_whole(&mut self, from: u32, last: u32)
         requires { self.old.filled < self.old.slots }
         ensures { self.new ≡ record self.old { whole = self.old.whole ++ record { first = from; pieces = last - from + 1; bytes = self.old.joining.bytes } ∷ []; filled = self.old.filled + 1 } }
     {
@@ -261,7 +261,7 @@ impl Join {
     }
 
     /// Joins a piece for which there is room.
-    fn add(&mut self, number: u32, first: bool, last: bool, body: &[u8]) -> Option<u32>
+    fn push_piece(&mut self, number: u32, first: bool, last: bool, body: &[u8]) -> Option<u32>
         requires room { HasRoom self.old.joining number first (length body.now) }
         requires slot { self.old.filled < self.old.slots }
         requires gap { length self.old.gaps < 2 * self.old.slots }
@@ -276,7 +276,7 @@ impl Join {
             }
             Joined::Whole => {
                 give_up(&mut self.gaps, held, first);
-                self.keep(start(first, held, number), number);
+                self.keep_whole(sdu_start(first, held, number), number);
                 None
             }
             Joined::Broken { missing } => {
@@ -288,14 +288,14 @@ impl Join {
 
     /// Joins an accepted piece to those that wait, and answers the number that is missing where its SDU
     /// can't be joined. Takes no memory. A piece for which there is no room breaks its SDU.
-    pub fn take(&mut self, number: u32, first: bool, last: bool, body: &[u8]) -> Option<u32>
+    pub fn join_piece(&mut self, number: u32, first: bool, last: bool, body: &[u8]) -> Option<u32>
         requires slot { self.old.filled < self.old.slots }
         requires gap { length self.old.gaps < 2 * self.old.slots }
         ensures joined { IsJoined (piece number first last body.now) self.old result self.new }
         ensures grows { Grows 1 self.old self.new }
     {
         if self.has_room(number, first, body.len()) {
-            self.add(number, first, last, body)
+            self.push_piece(number, first, last, body)
         } else {
             self.overflow();
             Some(number)

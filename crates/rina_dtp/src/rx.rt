@@ -185,9 +185,9 @@ impl Rx {
         if !present {
             self.join.reset();
         }
-        self.accepted.count(present, pdu.seq);
-        let missing = self.join.take(pdu.seq, pdu.first, pdu.last, pdu.body);
-        self.accepted.follow(&mut self.join);
+        self.accepted.note_accepted(present, pdu.seq);
+        let missing = self.join.join_piece(pdu.seq, pdu.first, pdu.last, pdu.body);
+        self.accepted.join_following(&mut self.join);
         self.made = true;
         self.last_in = now;
         self.source = Source::of(pdu);
@@ -216,7 +216,7 @@ impl Rx {
     }
 
     /// Writes off a piece that was there before. It counts for how long state stands.
-    fn know(&mut self, now: Tick, cause: Cause) -> Verdict
+    fn reject_known(&mut self, now: Tick, cause: Cause) -> Verdict
         requires { now ≤ 10000000 }
         ensures told { result ≡ Verdict.Off cause }
         ensures last_in { self.new ≡ record self.old { last_in = now } }
@@ -241,11 +241,11 @@ impl Rx {
                     cep: pdu.scep,
                     seq: u64::from(pdu.seq),
                 };
-                self.know(now, Cause::Duplicate { num })
+                self.reject_known(now, Cause::Duplicate { num })
             }
             Judged::Behind => {
-                let highest = self.accepted.top();
-                self.know(now, Cause::Behind { highest })
+                let highest = self.accepted.highest();
+                self.reject_known(now, Cause::Behind { highest })
             }
             Judged::NoState => Verdict::Off(Cause::NoState { drf: pdu.drf }),
             Judged::NoRoom => Verdict::Off(Cause::NoRoom { cap: self.window }),
@@ -341,7 +341,7 @@ impl Rx {
     }
 
     /// Takes the pieces out of the joiner, once those that were taken before are given up.
-    fn gather(&mut self)
+    fn empty_joiner(&mut self)
         ensures { self.new ≡ gathered self.old }
     {
         if self.going.is_none() {
@@ -351,7 +351,7 @@ impl Rx {
     }
 
     /// Takes the first piece of those that were in the joiner, or else of those that are held.
-    fn next_going(&mut self) -> Option<u32>
+    fn next_leftover(&mut self) -> Option<u32>
         ensures { GoesOn self.old.going self.old result self.new }
     {
         match self.going {
@@ -368,8 +368,8 @@ impl Rx {
         ensures taken { TakesFirst result (kept_numbers self.old) (kept_numbers self.new) }
         ensures rest { ChangesKept self.old self.new }
     {
-        self.gather();
-        self.next_going()
+        self.empty_joiner();
+        self.next_leftover()
     }
 
     /// The next piece that is given up because state or connection ended.

@@ -4,7 +4,7 @@ use Rattle.std.specs.Prelude.{codes}
 use Rattle.std.proofs.lemmas.List.{length-append}
 use Rattle.rina_base.specs.Names.{is_name_byte, length_at, bad_at, bytes_at, name_at}
 use Rattle.rina_cdap.specs.Messages.{Field, field, be4, byte, has_form, IsRow, contents, fields, is_response, whole_fault}
-use Rattle.rina_cdap.specs.ObjectNames.{is_part_byte, parts_from, is_object_name_of}
+use Rattle.rina_base.specs.ObjectNames.{is_object_byte, are_parts, is_object_name}
 use Rattle.rina_cdap.proofs.Contents.{spells, key_form, value_form, lawful, front_row, value_row, result_row, names_row}
 use Rattle.rina_cdap.proofs.Numbers.{length-number}
 use Rattle.rina_cdap.proofs.Written.{row_fault-message}
@@ -22,7 +22,7 @@ unfolding has_form name_at length_at bytes_at bad_at is_name_byte
 value_class = refl
 
 members_name : has_form 4 (codes "/member") ≡ true
-unfolding has_form is_object_name_of parts_from is_part_byte
+unfolding has_form is_object_name are_parts is_object_byte is_name_byte
 members_name = refl
 
 pub length-item : (item : Item) → length (item_text item) ≡ 12 + length (live_text item.value)

@@ -2,7 +2,7 @@
 use Rattle.std.specs.Prelude.{◌≡◌, ℕ, ◌<◌, ◌≤◌, ◌^◌, List, [], ◌∷◌, ◌++◌, length, Option, Some, None, Ok, option_map, codes}
 use Rattle.rina_base.specs.Names.{app_at}
 use Rattle.rina_cdap.specs.Messages.{be4, IfThere, Spells}
-use Rattle.rina_cdap.specs.ObjectNames.{IsObjectName}
+use Rattle.rina_base.specs.ObjectNames.{IsObjectName}
 use Rattle.rina_cdap.specs.declared.message.Message.{Message}
 use Rattle.rina_newest.specs.declared.item.Version.{Version}
 use Rattle.rina_newest.specs.declared.item.Item.{Item}

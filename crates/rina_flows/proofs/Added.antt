@@ -2,8 +2,8 @@
 use Rattle.std.proofs.Common.{◌≡◌, ◌≢◌, ℕ, ◌+◌, List, [], ◌∷◌, ◌++◌, append_assoc, length, length-append, slice_get, Some, sym, ◌∙◌, ap, subst, arith, inl, inr}
 use Rattle.std.proofs.lemmas.Option.{slice_get_within}
 use Rattle.rina_conn.specs.declared.conn.Conn.{Conn}
-use Rattle.rina_data.specs.Dif.{Config}
-use Rattle.rina_data.proofs.Own.{not_itself}
+use Rattle.rina_data.specs.Configs.{Config}
+use Rattle.rina_dif_law.proofs.Own.{not_itself}
 use Rattle.rina_iface.specs.declared.ends.End.{End}
 use Rattle.rina_iface.specs.declared.state.PortState.TheVariants.{Allocated}
 use Rattle.rina_iface.specs.Journal.{At, IsPartner}

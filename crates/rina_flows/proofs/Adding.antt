@@ -5,9 +5,10 @@ use Rattle.rina_conn.specs.declared.conn.Conn.{Conn}
 use Rattle.rina_conn.specs.declared.form.Peer.{Peer}
 use Rattle.rina_conn.specs.Conns.{IsNewConn}
 use Rattle.rina_cube.specs.declared.Cube.{Cube}
-use Rattle.rina_data.specs.Dif.{Config, constants, greatest, piece_size}
-use Rattle.rina_data.specs.Ids.{Ids}
-use Rattle.rina_data.specs.Lifting.{ticked}
+use Rattle.rina_data.specs.Configs.{Config, greatest, piece_size}
+use Rattle.rina_dif_law.specs.Dif.{constants}
+use Rattle.rina_dif_law.specs.Ids.{Ids}
+use Rattle.rina_dif_law.specs.Lifting.{ticked}
 use Rattle.rina_iface.specs.declared.ends.End.{End}
 use Rattle.rina_law.specs.Direction.{Direction, start}
 use Rattle.rina_flows.specs.Adding.{Adds, begun_now, turned}

@@ -7,12 +7,14 @@ use Rattle.rina_base.specs.declared.pdu.Pdu.{Pdu}
 use Rattle.rina_base.specs.declared.pdu.PduKind.TheVariants.{Piece as APiece}
 use Rattle.rina_conn.specs.declared.conn.Conn.{Conn}
 use Rattle.rina_conn.specs.declared.sending.Sending.{Sending}
-use Rattle.rina_data.specs.Dif.{Config, DifSeen, Process, constants, with_offs}
-use Rattle.rina_data.specs.Ids.{Ids, IsFrom, flipped}
-use Rattle.rina_data.specs.Incoming.{IsArrived, arrived, lines_for}
-use Rattle.rina_data.specs.Standing.{IsConfig, IsJournal, IsOwn}
-use Rattle.rina_data.proofs.Finding.{beside}
-use Rattle.rina_data.proofs.Forgot.{found_clock}
+use Rattle.rina_data.specs.Configs.{Config}
+use Rattle.rina_dif_law.specs.Dif.{DifSeen, constants}
+use Rattle.rina_data.specs.Process.{Process, with_offs}
+use Rattle.rina_dif_law.specs.Ids.{Ids, IsFrom, flipped}
+use Rattle.rina_dif_law.specs.Incoming.{IsArrived, arrived, lines_for}
+use Rattle.rina_dif_law.specs.Standing.{IsConfig, IsJournal, IsOwn}
+use Rattle.rina_dif_law.proofs.Finding.{beside}
+use Rattle.rina_dif_law.proofs.Forgot.{found_clock}
 use Rattle.rina_dtp.specs.declared.verdict.Verdict.{Verdict}
 use Rattle.rina_dtp.specs.Receiving.{kept_numbers}
 use Rattle.rina_iface.specs.declared.ends.End.{End}

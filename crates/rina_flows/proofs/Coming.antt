@@ -3,11 +3,12 @@ use Rattle.std.proofs.Common.{◌≡◌, ℕ, ◌-◌, ◌≤◌, List, length, 
 use Rattle.rina_base.specs.declared.pdu.Pdu.{Pdu}
 use Rattle.rina_base.specs.declared.pdu.PduKind.TheVariants.{Piece as APiece}
 use Rattle.rina_cube.specs.declared.Cube.{Cube}
-use Rattle.rina_data.specs.Dif.{Config, constants, cube_by}
-use Rattle.rina_data.specs.Ids.{AcksOf, Ids, PiecesOf, flipped}
-use Rattle.rina_data.specs.Standing.{IsConfig, IsConn, IsJournal, IsOwn}
-use Rattle.rina_data.proofs.Finding.{beside, cube_limits}
-use Rattle.rina_data.proofs.Own.{partner_back}
+use Rattle.rina_data.specs.Configs.{Config, cube_by}
+use Rattle.rina_dif_law.specs.Dif.{constants}
+use Rattle.rina_dif_law.specs.Ids.{AcksOf, Ids, PiecesOf, flipped}
+use Rattle.rina_dif_law.specs.Standing.{IsConfig, IsConn, IsJournal, IsOwn}
+use Rattle.rina_dif_law.proofs.Finding.{beside, cube_limits}
+use Rattle.rina_dif_law.proofs.Own.{partner_back}
 use Rattle.rina_iface.specs.declared.ends.End.{End}
 use Rattle.rina_iface.specs.declared.state.PortState.TheVariants.{Allocated}
 use Rattle.rina_iface.specs.Journal.{At}

@@ -6,7 +6,7 @@ use Rattle.std.specs.Prelude.{if◌then◌else◌}
 use Rattle.rina_base.specs.declared.number.Num.{Num}
 use Rattle.rina_conn.specs.declared.conn.Conn.{Conn}
 use Rattle.rina_conn.specs.Waiting.{Waits, with_whole}
-use Rattle.rina_data.specs.Ids.{Ids}
+use Rattle.rina_dif_law.specs.Ids.{Ids}
 use Rattle.rina_dtp.specs.Joins.{bytes_of}
 use Rattle.rina_law.specs.declared.entry.Entry.{Entry}
 use Rattle.rina_law.specs.Pieces.{Sdu}

@@ -6,13 +6,13 @@ use Rattle.rina_base.specs.declared.cause.Cause.{Cause}
 use Rattle.rina_base.specs.declared.number.Key.{Key}
 use Rattle.rina_base.specs.declared.pdu.Pdu.{Pdu}
 use Rattle.rina_conn.specs.declared.conn.Conn.{Conn}
-use Rattle.rina_data.specs.Counting.{held_numbers, off_numbers, times}
-use Rattle.rina_data.specs.Ids.{Ids}
-use Rattle.rina_data.specs.Incoming.{AllSettled, IsDropped, arrived, by_joiner, cause_by, cause_for, found, lines_for}
+use Rattle.rina_dif_law.specs.Counting.{held_numbers, off_numbers, times}
+use Rattle.rina_dif_law.specs.Ids.{Ids}
+use Rattle.rina_dif_law.specs.Incoming.{AllSettled, IsDropped, arrived, by_joiner, cause_by, cause_for, found, lines_for}
 use Rattle.rina_dtp.specs.declared.verdict.Verdict.{Verdict}
 use Rattle.rina_dtp.specs.Receiving.{Receiving, broken_with, drops, kept_numbers, lost_in, present_at}
 use Rattle.rina_dtp.proofs.Came.{drops_standing, kept_none, present_same}
-use Rattle.rina_data.proofs.Forgot.{found_clock, found_got}
+use Rattle.rina_dif_law.proofs.Forgot.{found_clock, found_got}
 use Rattle.rina_law.specs.declared.entry.Entry.{Entry}
 use Rattle.rina_law.specs.Constants.{Constants}
 use Rattle.rina_law.specs.Direction.{Direction, Forget, entry_for, happens, has_room}

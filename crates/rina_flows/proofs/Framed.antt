@@ -1,9 +1,9 @@
 -- A call changes an end with its connection, and one direction: the flows stay tied.
 use Rattle.std.proofs.Common.{◌≡◌, ◌≢◌, ℕ, zero, suc, List, [], ◌∷◌, length-set, slice_get, slice_set, Some, refl, sym, ◌∙◌, ap, subst, inl, inr}
 use Rattle.rina_conn.specs.declared.conn.Conn.{Conn}
-use Rattle.rina_data.specs.Dif.{Config}
-use Rattle.rina_data.specs.Ids.{Ids}
-use Rattle.rina_data.proofs.Journals.{IsConst, const_refl, partner_was}
+use Rattle.rina_data.specs.Configs.{Config}
+use Rattle.rina_dif_law.specs.Ids.{Ids}
+use Rattle.rina_dif_law.proofs.Journals.{IsConst, const_refl, partner_was}
 use Rattle.rina_iface.specs.declared.ends.End.{End}
 use Rattle.rina_iface.specs.declared.state.PortState.TheVariants.{Allocated}
 use Rattle.rina_iface.specs.Journal.{At}

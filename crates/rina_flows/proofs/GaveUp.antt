@@ -4,8 +4,8 @@ use Rattle.rina_account.specs.declared.ledger.Off.{Off}
 use Rattle.rina_conn.specs.declared.conn.Conn.{Conn}
 use Rattle.rina_conn.specs.Carrying.{carry}
 use Rattle.rina_conn.specs.Sending.{TellsGivenUp}
-use Rattle.rina_data.specs.Dif.{Config}
-use Rattle.rina_data.proofs.Finding.{beside}
+use Rattle.rina_data.specs.Configs.{Config}
+use Rattle.rina_dif_law.proofs.Finding.{beside}
 use Rattle.rina_dtcp.specs.declared.sent.GaveUp as told
 use Rattle.rina_dtcp.specs.Rows.{gave_up_of}
 use Rattle.rina_iface.specs.declared.state.Fail.TheVariants.{GaveUp}

@@ -6,13 +6,15 @@ use Rattle.rina_base.specs.declared.cause.Cause.TheVariants as causes
 use Rattle.rina_base.specs.declared.number.Key.{Key}
 use Rattle.rina_conn.specs.declared.conn.Conn.{Conn}
 use Rattle.rina_conn.specs.declared.sending.Sending.{Sending}
-use Rattle.rina_data.specs.Counting.{AllOff, off_numbers, times}
-use Rattle.rina_data.specs.Dif.{Config, DifSeen, Process, constants, with_offs, with_process}
-use Rattle.rina_data.specs.Ending.{IsEnded}
-use Rattle.rina_data.specs.Ids.{Ids, flipped}
-use Rattle.rina_data.specs.Sending.{home}
-use Rattle.rina_data.specs.Standing.{IsJournal}
-use Rattle.rina_data.specs.Timely.{IsForgotten}
+use Rattle.rina_dif_law.specs.Counting.{AllOff, off_numbers, times}
+use Rattle.rina_data.specs.Configs.{Config}
+use Rattle.rina_dif_law.specs.Dif.{DifSeen, constants, with_process}
+use Rattle.rina_data.specs.Process.{Process, with_offs}
+use Rattle.rina_dif_law.specs.Ending.{IsEnded}
+use Rattle.rina_dif_law.specs.Ids.{Ids, flipped}
+use Rattle.rina_dif_law.specs.Sending.{home}
+use Rattle.rina_dif_law.specs.Standing.{IsJournal}
+use Rattle.rina_dif_law.specs.Timely.{IsForgotten}
 use Rattle.rina_dtp.specs.Receiving.{Receiving, drops, end_cause, ended_with, kept_numbers, lost_in, present_at}
 use Rattle.rina_dtp.specs.Source.{key_at}
 use Rattle.rina_dtp.proofs.Came.{present_same}

@@ -3,7 +3,7 @@ use Rattle.std.proofs.Common.{◌≡◌, ℕ, ◌+◌, ◌-◌, ◌<◌, ◌≤�
 use Rattle.std.proofs.lemmas.Bool.{cases_eq}
 use Rattle.rina_cube.specs.declared.Kind.TheVariants as kinds
 use Rattle.rina_delim.specs.declared.joiner.Run.{Run}
-use Rattle.rina_data.specs.Incoming.{IsKeptNumber}
+use Rattle.rina_dif_law.specs.Incoming.{IsKeptNumber}
 use Rattle.rina_dtp.specs.declared.accepted.Accepted.{Accepted}
 use Rattle.rina_dtp.specs.declared.accepted.Accepted.TheVariants.{Datagram, Loose, Reliable}
 use Rattle.rina_dtp.specs.Accepted.{kind_of}

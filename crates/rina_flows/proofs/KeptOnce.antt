@@ -5,7 +5,7 @@ use Rattle.rina_base.specs.declared.cause.Cause.TheVariants as causes
 use Rattle.rina_base.specs.declared.number.Key.{Key}
 use Rattle.rina_cube.specs.declared.Kind.{Kind}
 use Rattle.rina_cube.specs.declared.Kind.TheVariants as kinds
-use Rattle.rina_data.specs.Counting.{held_numbers, joiner_numbers, numbers_from, off_numbers, times}
+use Rattle.rina_dif_law.specs.Counting.{held_numbers, joiner_numbers, numbers_from, off_numbers, times}
 use Rattle.rina_delim.specs.declared.joiner.Run.{Run}
 use Rattle.rina_dtp.specs.declared.accepted.Accepted.{Accepted}
 use Rattle.rina_dtp.specs.declared.accepted.Accepted.TheVariants.{Datagram, Loose, Reliable}

@@ -7,9 +7,9 @@ use Rattle.rina_base.specs.declared.number.Key.{Key}
 use Rattle.rina_base.specs.declared.pdu.Pdu.{Pdu}
 use Rattle.rina_conn.specs.declared.conn.Conn.{Conn}
 use Rattle.rina_conn.specs.declared.sending.Sending.{Sending}
-use Rattle.rina_data.specs.Cloud.{Cloud, Everywhere}
-use Rattle.rina_data.specs.Ids.{Ids, IsFrom, flipped}
-use Rattle.rina_data.specs.Incoming.{lines_for}
+use Rattle.rina_dif_law.specs.Cloud.{Cloud, Everywhere}
+use Rattle.rina_dif_law.specs.Ids.{Ids, IsFrom, flipped}
+use Rattle.rina_dif_law.specs.Incoming.{lines_for}
 use Rattle.rina_data.proofs.Finding.{there}
 use Rattle.rina_dtp.specs.declared.verdict.Verdict.{Verdict}
 use Rattle.rina_dtp.specs.Joins.{bytes_of}

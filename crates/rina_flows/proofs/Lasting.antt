@@ -8,11 +8,11 @@ use Rattle.rina_conn.specs.Standing.{AreWaiting}
 use Rattle.rina_conn.specs.Waiting.{Waits}
 use Rattle.rina_cube.specs.declared.Cube.{Cube}
 use Rattle.rina_cube.specs.Cubes.{delta_of}
-use Rattle.rina_data.specs.Counting.{times}
-use Rattle.rina_data.specs.Dif.{Config, cube_by, greatest, piece_size}
-use Rattle.rina_data.specs.Ids.{Ids}
-use Rattle.rina_data.specs.Lifting.{ticked}
-use Rattle.rina_data.proofs.Own.{map_at}
+use Rattle.rina_dif_law.specs.Counting.{times}
+use Rattle.rina_data.specs.Configs.{Config, cube_by, greatest, piece_size}
+use Rattle.rina_dif_law.specs.Ids.{Ids}
+use Rattle.rina_dif_law.specs.Lifting.{ticked}
+use Rattle.rina_dif_law.proofs.Own.{map_at}
 use Rattle.rina_dtp.specs.Receiving.{Receiving, kept_numbers, present_at}
 use Rattle.rina_dtp.specs.Stands.{Stands}
 use Rattle.rina_dtp.proofs.Ahead.{fetched_forward}

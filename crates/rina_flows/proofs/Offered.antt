@@ -9,11 +9,13 @@ use Rattle.rina_conn.specs.declared.made.OfferError.{OfferError}
 use Rattle.rina_conn.specs.declared.made.OfferError.TheVariants.{Memory}
 use Rattle.rina_conn.specs.Sending as send
 use Rattle.rina_conn.specs.Sending.{IsMade, IsSender}
-use Rattle.rina_data.specs.Dif.{Config, constants, cube_by}
-use Rattle.rina_data.specs.Ids.{pdu_of_piece}
-use Rattle.rina_data.specs.Sending.{offered, offered_entry}
-use Rattle.rina_data.proofs.Finding.{beside, there}
-use Rattle.rina_data.proofs.Own.{not_itself}
+use Rattle.rina_data.specs.Configs.{Config, cube_by}
+use Rattle.rina_dif_law.specs.Dif.{constants}
+use Rattle.rina_dif_law.specs.Ids.{pdu_of_piece}
+use Rattle.rina_dif_law.specs.Sending.{offered, offered_entry}
+use Rattle.rina_dif_law.proofs.Finding.{beside}
+use Rattle.rina_data.proofs.Finding.{there}
+use Rattle.rina_dif_law.proofs.Own.{not_itself}
 use Rattle.rina_iface.specs.declared.ends.End.{End}
 use Rattle.rina_iface.specs.Ends.{with_sent}
 use Rattle.rina_iface.specs.Journal.{At, IsPartner}

@@ -5,12 +5,14 @@ use Rattle.rina_conn.specs.declared.conn.Conn.{Conn}
 use Rattle.rina_conn.specs.declared.form.Form.{Form}
 use Rattle.rina_conn.specs.declared.sending.Sending.{Sending}
 use Rattle.rina_conn.specs.Standing.{AreWaiting, IsReceiver}
-use Rattle.rina_data.specs.Cloud.{Cloud, Everywhere}
-use Rattle.rina_data.specs.Dif.{Config, constants}
-use Rattle.rina_data.specs.Ids.{flipped}
-use Rattle.rina_data.specs.Standing.{IsConn, IsJournal}
-use Rattle.rina_data.proofs.Finding.{beside, there}
-use Rattle.rina_data.proofs.Own.{one_partner, partner_back}
+use Rattle.rina_dif_law.specs.Cloud.{Cloud, Everywhere}
+use Rattle.rina_data.specs.Configs.{Config}
+use Rattle.rina_dif_law.specs.Dif.{constants}
+use Rattle.rina_dif_law.specs.Ids.{flipped}
+use Rattle.rina_dif_law.specs.Standing.{IsConn, IsJournal}
+use Rattle.rina_dif_law.proofs.Finding.{beside}
+use Rattle.rina_data.proofs.Finding.{there}
+use Rattle.rina_dif_law.proofs.Own.{one_partner, partner_back}
 use Rattle.rina_dtp.specs.Stands.{Stands}
 use Rattle.rina_iface.specs.declared.ends.End.{End}
 use Rattle.rina_iface.specs.declared.state.PortState.TheVariants.{Allocated}

@@ -2,9 +2,10 @@
 use Rattle.std.proofs.Common.{◌≡◌, ℕ, suc, List, [], ◌∷◌, length, map, slice_set, refl, sym, ◌∙◌, ap, arith}
 use Rattle.std.proofs.lemmas.List.{length-map}
 use Rattle.rina_base.specs.declared.pdu.Pdu.{Pdu}
-use Rattle.rina_data.specs.Dif.{constants, with_put}
-use Rattle.rina_data.specs.Ids.{Ids, pdu_of_piece}
-use Rattle.rina_data.specs.Sending.{made_items, offered_entry, offered_pieces}
+use Rattle.rina_dif_law.specs.Dif.{constants}
+use Rattle.rina_data.specs.Process.{with_put}
+use Rattle.rina_dif_law.specs.Ids.{Ids, pdu_of_piece}
+use Rattle.rina_dif_law.specs.Sending.{made_items, offered_entry, offered_pieces}
 use Rattle.rina_iface.specs.Ends.{with_sent}
 use Rattle.rina_law.specs.Constants.{Constants}
 use Rattle.rina_law.specs.Pieces.{Part}

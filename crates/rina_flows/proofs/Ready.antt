@@ -5,9 +5,9 @@ use Rattle.rina_base.specs.declared.number.Key.{Key}
 use Rattle.rina_conn.specs.declared.conn.Conn.{Conn}
 use Rattle.rina_conn.specs.Standing.{AreWaiting}
 use Rattle.rina_conn.specs.Waiting.{Waits}
-use Rattle.rina_data.specs.Counting.{times}
-use Rattle.rina_data.specs.Ids.{Ids}
-use Rattle.rina_data.specs.Incoming.{found}
+use Rattle.rina_dif_law.specs.Counting.{times}
+use Rattle.rina_dif_law.specs.Ids.{Ids}
+use Rattle.rina_dif_law.specs.Incoming.{found}
 use Rattle.rina_dtp.specs.Receiving.{drops, kept_numbers, present_at}
 use Rattle.rina_dtp.proofs.Ahead.{fetched_forward}
 use Rattle.rina_dtp.proofs.Came.{kept_none, present_same}

@@ -10,10 +10,10 @@ use Rattle.rina_conn.specs.Conns.{HasNoLast, Marks}
 use Rattle.rina_conn.specs.Standing as standing
 use Rattle.rina_conn.specs.Standing.{AreWaiting, IsReceiver}
 use Rattle.rina_conn.specs.Waiting.{Waits}
-use Rattle.rina_data.specs.Ids.{Ids, IsFrom, flipped}
+use Rattle.rina_dif_law.specs.Ids.{Ids, IsFrom, flipped}
 use Rattle.rina_cube.specs.Cubes.{IsCube}
-use Rattle.rina_data.specs.Counting.{held_numbers, joiner_numbers, off_numbers, times, whole_numbers}
-use Rattle.rina_data.specs.Incoming.{IsDropped, by_joiner, cause_by, cause_for, joiner_found, landed, lines_for, whole_by}
+use Rattle.rina_dif_law.specs.Counting.{held_numbers, joiner_numbers, off_numbers, times, whole_numbers}
+use Rattle.rina_dif_law.specs.Incoming.{IsDropped, by_joiner, cause_by, cause_for, joiner_found, landed, lines_for, whole_by}
 use Rattle.rina_dtcp.specs.Plans.{IsPlanOf}
 use Rattle.rina_dtp.specs.declared.source.Source.{Source}
 use Rattle.rina_dtp.specs.declared.verdict.Verdict.{Verdict}

@@ -7,9 +7,10 @@ use Rattle.rina_conn.specs.Conns.{HasNoLast}
 use Rattle.rina_conn.specs.Sending.{IsSender}
 use Rattle.rina_conn.specs.Standing.{AreWaiting, IsReceiver}
 use Rattle.rina_conn.specs.Waiting.{Waits}
-use Rattle.rina_data.specs.Counting.{joiner_numbers, times}
-use Rattle.rina_data.specs.Dif.{Config, constants, cube_by}
-use Rattle.rina_data.specs.Ids.{Ids, flipped}
+use Rattle.rina_dif_law.specs.Counting.{joiner_numbers, times}
+use Rattle.rina_data.specs.Configs.{Config, cube_by}
+use Rattle.rina_dif_law.specs.Dif.{constants}
+use Rattle.rina_dif_law.specs.Ids.{Ids, flipped}
 use Rattle.rina_dtcp.specs.Plans.{Plan, IsPlanOf}
 use Rattle.rina_dtp.specs.Joins.{IsForward}
 use Rattle.rina_dtp.specs.Receiving.{Receiving, kept_numbers, lost_in}

@@ -3,10 +3,11 @@ use Rattle.std.proofs.Common.{◌≡◌, ◌≢◌, ℕ, List, slice_get, slice_
 use Rattle.rina_conn.specs.declared.conn.Conn.{Conn}
 use Rattle.rina_conn.specs.declared.sending.Sending.{Sending}
 use Rattle.rina_conn.specs.Sending.{IsSender}
-use Rattle.rina_data.specs.Dif.{Config, constants, cube_by}
-use Rattle.rina_data.specs.Standing.{IsJournal}
-use Rattle.rina_data.proofs.Journals.{IsConst, const_refl, partner_was, was_end}
-use Rattle.rina_data.proofs.Own.{one_partner, partner_back}
+use Rattle.rina_data.specs.Configs.{Config, cube_by}
+use Rattle.rina_dif_law.specs.Dif.{constants}
+use Rattle.rina_dif_law.specs.Standing.{IsJournal}
+use Rattle.rina_dif_law.proofs.Journals.{IsConst, const_refl, partner_was, was_end}
+use Rattle.rina_dif_law.proofs.Own.{one_partner, partner_back}
 use Rattle.rina_iface.specs.declared.ends.End.{End}
 use Rattle.rina_iface.specs.declared.state.PortState.TheVariants.{Allocated}
 use Rattle.rina_iface.specs.Journal.{At, IsPartner}

@@ -10,8 +10,8 @@ use Rattle.rina_base.specs.declared.pdu.PduKind.TheVariants.{Piece as APiece}
 use Rattle.rina_base.specs.Pdus.{number_by}
 use Rattle.rina_cube.specs.declared.Kind.{Kind}
 use Rattle.rina_cube.specs.declared.Kind.TheVariants.{Datagram, Loose, Reliable}
-use Rattle.rina_data.specs.Counting.{joiner_numbers, numbers_from, off_numbers, times, whole_numbers}
-use Rattle.rina_data.specs.Incoming.{by_joiner, lines_for, missing_for}
+use Rattle.rina_dif_law.specs.Counting.{joiner_numbers, numbers_from, off_numbers, times, whole_numbers}
+use Rattle.rina_dif_law.specs.Incoming.{by_joiner, lines_for, missing_for}
 use Rattle.rina_dtp.specs.declared.gap.Lost.{Lost}
 use Rattle.rina_dtp.specs.Lost as dtp
 use Rattle.rina_dtp.specs.Lost.{given_up, is_broken, itself, lost_after, lost_held, lost_on, lost_with, missing_before}

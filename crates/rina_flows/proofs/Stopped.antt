@@ -4,10 +4,10 @@ use Rattle.rina_account.specs.declared.ledger.Off.{Off}
 use Rattle.rina_base.specs.declared.cause.Cause.{Cause}
 use Rattle.rina_base.specs.declared.number.Key.{Key}
 use Rattle.rina_conn.specs.declared.conn.Conn.{Conn}
-use Rattle.rina_data.specs.Dif.{Config}
-use Rattle.rina_data.specs.Standing.{IsJournal}
-use Rattle.rina_data.proofs.Finding.{beside}
-use Rattle.rina_data.proofs.Own.{partner_back}
+use Rattle.rina_data.specs.Configs.{Config}
+use Rattle.rina_dif_law.specs.Standing.{IsJournal}
+use Rattle.rina_dif_law.proofs.Finding.{beside}
+use Rattle.rina_dif_law.proofs.Own.{partner_back}
 use Rattle.rina_dtp.specs.Receiving.{drops, kept_numbers, present_at}
 use Rattle.rina_iface.specs.declared.ends.End.{End}
 use Rattle.rina_iface.specs.declared.state.PortState.{PortState}

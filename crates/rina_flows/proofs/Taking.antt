@@ -5,7 +5,7 @@ use Rattle.std.proofs.lemmas.Bool.Decides.{eqb_tells}
 use Rattle.std.proofs.lemmas.Option.{slice_get_within}
 use Rattle.rina_base.specs.declared.pdu.Pdu.{Pdu}
 use Rattle.rina_conn.specs.declared.conn.Conn.{Conn}
-use Rattle.rina_data.specs.Ids.{Ids, IsFrom, flipped}
+use Rattle.rina_dif_law.specs.Ids.{Ids, IsFrom, flipped}
 use Rattle.rina_iface.specs.declared.ends.End.{End}
 use Rattle.rina_flows.specs.Calls.{NoneBefore, TakenBy, Takes, TakesHere}
 use Rattle.rina_flows.specs.Tied.{conns_of, ids_of}

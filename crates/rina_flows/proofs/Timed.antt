@@ -11,14 +11,16 @@ use Rattle.rina_conn.specs.Carrying.{carry}
 use Rattle.rina_conn.specs.Clock.{TellsAck, ack_due, ack_of}
 use Rattle.rina_conn.specs.Sending.{IsSender, TellsAgain, TellsGivenUp}
 use Rattle.rina_conn.specs.Standing.{AreWaiting, IsReceiver}
-use Rattle.rina_data.specs.Dif.{Config, constants, cube_by}
-use Rattle.rina_data.proofs.Finding.{beside, there}
+use Rattle.rina_data.specs.Configs.{Config, cube_by}
+use Rattle.rina_dif_law.specs.Dif.{constants}
+use Rattle.rina_dif_law.proofs.Finding.{beside}
+use Rattle.rina_data.proofs.Finding.{there}
 use Rattle.rina_dtcp.specs.declared.sent.GaveUp.{GaveUp}
 use Rattle.rina_dtcp.specs.Plans.{without}
 use Rattle.rina_dtcp.specs.Rows as dtcp
 use Rattle.rina_dtcp.specs.Rows.{gave_up_of}
 use Rattle.rina_dtp.specs.Stands.{Stands}
-use Rattle.rina_data.specs.Ids.{Ids}
+use Rattle.rina_dif_law.specs.Ids.{Ids}
 use Rattle.rina_iface.specs.declared.ends.End.{End}
 use Rattle.rina_iface.specs.Journal.{At}
 use Rattle.rina_iface.proofs.Changed.{set_at, slice_get-set_same, slice_set-same}
@@ -26,7 +28,7 @@ use Rattle.rina_law.specs.Constants.{Constants}
 use Rattle.rina_law.specs.Direction.{Direction, after_ack, after_again, is_ack_due}
 use Rattle.rina_law.specs.Pieces.{Sdu}
 use Rattle.rina_law.specs.Sender.{Ack, Sender, again_due, given_up, piece_again}
-use Rattle.rina_flows.specs.declared.timely.Item.TheVariants as item
+use Rattle.rina_flows.specs.declared.due.Item.TheVariants as item
 use Rattle.rina_flows.specs.Calls.{Becomes, Tells}
 use Rattle.rina_flows.specs.Delivering.{HoldsGone}
 use Rattle.rina_flows.specs.Tied.{IsAt, IsInboundAt, IsReceiving, IsSending, IsTied, conns_of, ids_by, ids_of, inward, outward}

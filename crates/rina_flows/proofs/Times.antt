@@ -1,7 +1,7 @@
 -- How often numbers stand in lists.
 use Rattle.std.proofs.Common.{◌≡◌, ◌≢◌, ℕ, zero, suc, ◌+◌, ◌<◌, ◌≤◌, List, [], ◌∷◌, ◌++◌, filter, Bool, true, false, cond, eqb, leb, refl, sym, ◌∙◌, ap, subst, arith, inl, inr}
 use Rattle.std.proofs.lemmas.Bool.{cases_eq, eq-eqb, ne_eqb}
-use Rattle.rina_data.specs.Counting.{numbers_from, times}
+use Rattle.rina_dif_law.specs.Counting.{numbers_from, times}
 use Rattle.rina_dtp.specs.Lost as dtp
 use Rattle.rina_law.specs.Lists.{In}
 use Rattle.rina_law.specs.Receiver.{Piece, from_on, numbers}

@@ -4,8 +4,10 @@ use Rattle.rina_base.specs.declared.pdu.Pdu.{Pdu}
 use Rattle.rina_conn.specs.declared.conn.Conn.{Conn}
 use Rattle.rina_conn.specs.declared.form.Form.{Form}
 use Rattle.rina_conn.specs.Sending.{IsSender}
-use Rattle.rina_data.specs.Dif.{Config, constants, cube_by}
-use Rattle.rina_data.proofs.Finding.{beside, there}
+use Rattle.rina_data.specs.Configs.{Config, cube_by}
+use Rattle.rina_dif_law.specs.Dif.{constants}
+use Rattle.rina_dif_law.proofs.Finding.{beside}
+use Rattle.rina_data.proofs.Finding.{there}
 use Rattle.rina_iface.specs.declared.ends.End.{End}
 use Rattle.rina_iface.proofs.Changed.{set_at, slice_get-set_same, slice_set-same}
 use Rattle.rina_law.specs.Direction.{Direction}

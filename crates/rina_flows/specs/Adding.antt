@@ -2,8 +2,9 @@
 use Rattle.std.specs.Prelude.{◌≡◌, ◌≢◌, ℕ, List, [], ◌∷◌, ◌++◌, Some}
 use Rattle.rina_conn.specs.declared.form.Peer.{Peer}
 use Rattle.rina_cube.specs.declared.Cube.{Cube}
-use Rattle.rina_data.specs.Dif.{Config, constants, cube_by, greatest, piece_size}
-use Rattle.rina_data.specs.Lifting.{ticked}
+use Rattle.rina_data.specs.Configs.{Config, cube_by, greatest, piece_size}
+use Rattle.rina_dif_law.specs.Dif.{constants}
+use Rattle.rina_dif_law.specs.Lifting.{ticked}
 use Rattle.rina_iface.specs.declared.ends.End.{End}
 use Rattle.rina_iface.specs.Journal.{At}
 use Rattle.rina_law.specs.Direction.{Direction, start}

@@ -10,7 +10,7 @@ use Rattle.rina_conn.specs.Conns.{Marks}
 use Rattle.rina_conn.specs.Standing.{Arrives}
 use Rattle.rina_conn.specs.Waiting.{Waits, with_whole}
 use Rattle.rina_cube.specs.Cubes.{IsCube}
-use Rattle.rina_data.specs.Ids.{Ids, IsFrom, flipped}
+use Rattle.rina_dif_law.specs.Ids.{Ids, IsFrom, flipped}
 use Rattle.rina_dtp.specs.declared.verdict.Verdict.{Verdict}
 use Rattle.rina_dtp.specs.declared.verdict.Verdict.TheVariants.{Accept, Hold, Off as WrittenOff}
 use Rattle.rina_dtp.specs.Fetching.{KeepsNoMore, StandsAsBefore}

@@ -9,10 +9,11 @@ use Rattle.rina_base.specs.declared.pdu.Pdu.{Pdu}
 use Rattle.rina_conn.specs.Conns.{Passes}
 use Rattle.rina_conn.specs.Sending as send
 use Rattle.rina_conn.specs.Standing.{PassesFirst}
-use Rattle.rina_data.specs.Cloud.{Cloud, Everywhere}
-use Rattle.rina_data.specs.Dif.{Config, Process, piece_size}
-use Rattle.rina_data.specs.Ids.{Ids, IsFrom, flipped}
-use Rattle.rina_data.specs.Standing.{IsJournal, IsOwn}
+use Rattle.rina_dif_law.specs.Cloud.{Cloud, Everywhere}
+use Rattle.rina_data.specs.Configs.{Config, piece_size}
+use Rattle.rina_data.specs.Process.{Process}
+use Rattle.rina_dif_law.specs.Ids.{Ids, IsFrom, flipped}
+use Rattle.rina_dif_law.specs.Standing.{IsJournal, IsOwn}
 use Rattle.rina_iface.specs.declared.ends.End.{End}
 use Rattle.rina_iface.specs.declared.state.PortState.TheVariants.{Allocated}
 use Rattle.rina_iface.specs.Seen.{Seen}

@@ -11,11 +11,12 @@ use Rattle.rina_base.specs.declared.pdu.PduKind.TheVariants.{Piece as APiece}
 use Rattle.rina_conn.specs.declared.conn.Conn.{Conn}
 use Rattle.rina_conn.specs.Conns.{Marks}
 use Rattle.rina_conn.specs.Standing.{Arrives}
-use Rattle.rina_data.specs.Cloud.{Cloud, Everywhere}
-use Rattle.rina_data.specs.Dif.{Config, Process}
-use Rattle.rina_data.specs.Ids.{Ids}
-use Rattle.rina_data.specs.Incoming.{lines_for}
-use Rattle.rina_data.specs.Standing.{IsConfig, IsJournal, IsOwn}
+use Rattle.rina_dif_law.specs.Cloud.{Cloud, Everywhere}
+use Rattle.rina_data.specs.Configs.{Config}
+use Rattle.rina_data.specs.Process.{Process}
+use Rattle.rina_dif_law.specs.Ids.{Ids}
+use Rattle.rina_dif_law.specs.Incoming.{lines_for}
+use Rattle.rina_dif_law.specs.Standing.{IsConfig, IsJournal, IsOwn}
 use Rattle.rina_dtp.specs.declared.verdict.Verdict.{Verdict}
 use Rattle.rina_dtp.specs.Joins.{bytes_of}
 use Rattle.rina_dtp.specs.Receiving.{Receiving, drops, kept_numbers, present_at}

@@ -5,11 +5,12 @@ use Rattle.rina_base.specs.declared.cause.Cause.{Cause}
 use Rattle.rina_base.specs.declared.cause.Cause.TheVariants as causes
 use Rattle.rina_base.specs.declared.pdu.PduKind.TheVariants.{Piece as APiece}
 use Rattle.rina_cube.specs.declared.Cube.{Cube}
-use Rattle.rina_data.specs.Counting.{AllOff}
-use Rattle.rina_data.specs.Dif.{Config, constants}
-use Rattle.rina_data.specs.Ids.{Ids, flipped}
-use Rattle.rina_data.specs.Incoming.{IsKeptNumber}
-use Rattle.rina_data.specs.Standing.{IsConn}
+use Rattle.rina_dif_law.specs.Counting.{AllOff}
+use Rattle.rina_data.specs.Configs.{Config}
+use Rattle.rina_dif_law.specs.Dif.{constants}
+use Rattle.rina_dif_law.specs.Ids.{Ids, flipped}
+use Rattle.rina_dif_law.specs.Incoming.{IsKeptNumber}
+use Rattle.rina_dif_law.specs.Standing.{IsConn}
 use Rattle.rina_iface.specs.declared.ends.End.{End}
 use Rattle.rina_iface.specs.declared.state.PortState.{PortState}
 use Rattle.rina_iface.specs.declared.state.PortState.TheVariants.{Allocated}

@@ -6,14 +6,16 @@ use Rattle.rina_base.specs.declared.number.Num.{Num}
 use Rattle.rina_base.specs.declared.pdu.Pdu.{Pdu}
 use Rattle.rina_base.specs.declared.pdu.PduKind.TheVariants.{Piece as APiece, Ack as AnAck}
 use Rattle.rina_conn.specs.declared.conn.Conn.{Conn}
-use Rattle.rina_data.specs.Dif.{Config, DifSeen, Process, Queue, IsQueue, next_hop, with_offs, with_process, with_put}
-use Rattle.rina_data.specs.Ending.{IsEnded}
-use Rattle.rina_data.specs.Ids.{Ids, IsFrom, flipped}
-use Rattle.rina_data.specs.Incoming.{IsArrived, IsTaker, IsTold, lines_for}
-use Rattle.rina_data.specs.Lifting.{ticked}
-use Rattle.rina_data.specs.Passing.{IsPassed}
-use Rattle.rina_data.specs.Sending.{IsOffered, home}
-use Rattle.rina_data.specs.Timely.{IsForgotten}
+use Rattle.rina_data.specs.Configs.{Config}
+use Rattle.rina_dif_law.specs.Dif.{DifSeen, with_process}
+use Rattle.rina_data.specs.Process.{Process, Queue, IsQueue, next_hop, with_offs, with_put}
+use Rattle.rina_dif_law.specs.Ending.{IsEnded}
+use Rattle.rina_dif_law.specs.Ids.{Ids, IsFrom, flipped}
+use Rattle.rina_dif_law.specs.Incoming.{IsArrived, IsTaker, IsTold, lines_for}
+use Rattle.rina_dif_law.specs.Lifting.{ticked}
+use Rattle.rina_dif_law.specs.Passing.{IsPassed}
+use Rattle.rina_dif_law.specs.Sending.{IsOffered, home}
+use Rattle.rina_dif_law.specs.Timely.{IsForgotten}
 use Rattle.rina_iface.specs.declared.ends.End.{End}
 use Rattle.rina_iface.specs.declared.state.PortState.{PortState}
 use Rattle.rina_iface.specs.declared.state.PortState.TheVariants.{Allocated}

@@ -5,11 +5,12 @@ use Rattle.rina_base.specs.declared.cause.Cause.{Cause}
 use Rattle.rina_base.specs.declared.number.Num.{Num}
 use Rattle.rina_base.specs.declared.pdu.Pdu.{Pdu}
 use Rattle.rina_cube.specs.declared.Cube.{Cube}
-use Rattle.rina_data.specs.Dif.{Config, constants, cube_by}
-use Rattle.rina_data.specs.Ids.{Ids, IsFrom, flipped, pdu_of_piece}
-use Rattle.rina_data.specs.Incoming.{AllSettled, IsDropped, arrived, cause_for, lines_for}
-use Rattle.rina_data.specs.Sending.{offered, offered_entry, offered_pieces}
-use Rattle.rina_data.specs.Standing.{IsConn}
+use Rattle.rina_data.specs.Configs.{Config, cube_by}
+use Rattle.rina_dif_law.specs.Dif.{constants}
+use Rattle.rina_dif_law.specs.Ids.{Ids, IsFrom, flipped, pdu_of_piece}
+use Rattle.rina_dif_law.specs.Incoming.{AllSettled, IsDropped, arrived, cause_for, lines_for}
+use Rattle.rina_dif_law.specs.Sending.{offered, offered_entry, offered_pieces}
+use Rattle.rina_dif_law.specs.Standing.{IsConn}
 use Rattle.rina_iface.specs.declared.ends.End.{End}
 use Rattle.rina_iface.specs.declared.state.PortState.TheVariants.{Allocated}
 use Rattle.rina_iface.specs.Ends.{with_passed, with_sent}

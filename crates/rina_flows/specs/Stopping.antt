@@ -8,9 +8,9 @@ use Rattle.rina_iface.specs.declared.state.PortState.{PortState}
 use Rattle.rina_iface.specs.declared.state.PortState.TheVariants.{Allocated}
 use Rattle.rina_iface.specs.Later.{Moves}
 use Rattle.rina_law.specs.Direction.{Direction}
-use Rattle.rina_data.specs.Dif.{Config}
-use Rattle.rina_data.specs.Losing.{IsAllocatedAt}
-use Rattle.rina_data.specs.Standing.{IsJournal}
+use Rattle.rina_data.specs.Configs.{Config}
+use Rattle.rina_dif_law.specs.Losing.{IsAllocatedAt}
+use Rattle.rina_dif_law.specs.Standing.{IsJournal}
 use Rattle.rina_flows.specs.declared.flows.Flows.{Flows}
 use Rattle.rina_flows.specs.Calls.{AreTied}
 use Rattle.rina_flows.specs.Delivering.{HasStopped}

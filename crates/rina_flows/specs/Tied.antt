@@ -7,10 +7,11 @@ use Rattle.rina_conn.specs.Sending.{IsSender}
 use Rattle.rina_conn.specs.Standing.{AreWaiting}
 use Rattle.rina_cube.specs.declared.Kind.{Kind}
 use Rattle.rina_cube.specs.declared.Kind.TheVariants.{Reliable}
-use Rattle.rina_data.specs.Counting.{held_numbers, times}
-use Rattle.rina_data.specs.Dif.{Config, constants, cube_by}
-use Rattle.rina_data.specs.Ids.{Ids, flipped}
-use Rattle.rina_data.specs.Incoming.{IsKeptNumber}
+use Rattle.rina_dif_law.specs.Counting.{held_numbers, times}
+use Rattle.rina_data.specs.Configs.{Config, cube_by}
+use Rattle.rina_dif_law.specs.Dif.{constants}
+use Rattle.rina_dif_law.specs.Ids.{Ids, flipped}
+use Rattle.rina_dif_law.specs.Incoming.{IsKeptNumber}
 use Rattle.rina_dtcp.specs.Plans.{IsPlanOf}
 use Rattle.rina_dtp.specs.declared.source.Source.{Source}
 use Rattle.rina_dtp.specs.Joins.{IsForward}

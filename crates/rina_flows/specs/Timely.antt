@@ -6,9 +6,10 @@ use Rattle.rina_base.specs.declared.number.Num.{Num}
 use Rattle.rina_conn.specs.declared.conn.Conn.{Conn}
 use Rattle.rina_conn.specs.Sending.{SendsAgain}
 use Rattle.rina_cube.specs.declared.Cube.{Cube}
-use Rattle.rina_data.specs.Dif.{Config, constants, cube_by}
-use Rattle.rina_data.specs.Ids.{Ids}
-use Rattle.rina_data.specs.Standing.{IsJournal}
+use Rattle.rina_data.specs.Configs.{Config, cube_by}
+use Rattle.rina_dif_law.specs.Dif.{constants}
+use Rattle.rina_dif_law.specs.Ids.{Ids}
+use Rattle.rina_dif_law.specs.Standing.{IsJournal}
 use Rattle.rina_dtcp.specs.Plans.{without}
 use Rattle.rina_iface.specs.declared.ends.End.{End}
 use Rattle.rina_iface.specs.declared.state.Fail.TheVariants.{GaveUp}
@@ -18,8 +19,8 @@ use Rattle.rina_law.specs.Constants.{Constants}
 use Rattle.rina_law.specs.Direction.{Direction, after_ack, after_again, is_ack_due}
 use Rattle.rina_law.specs.Sender.{Sender, again_due, given_up, member}
 use Rattle.rina_flows.specs.declared.flows.Flows.{Flows}
-use Rattle.rina_flows.specs.declared.timely.Item.{Item}
-use Rattle.rina_flows.specs.declared.timely.Item.TheVariants.{Ack, Again, GiveUp, Gone}
+use Rattle.rina_flows.specs.declared.due.Item.{Item}
+use Rattle.rina_flows.specs.declared.due.Item.TheVariants.{Ack, Again, GiveUp, Gone}
 use Rattle.rina_flows.specs.Calls.{AreTied, SameIds}
 use Rattle.rina_flows.specs.Delivering.{HoldsGone}
 use Rattle.rina_flows.specs.Ending.{EndsAt}

@@ -7,7 +7,7 @@ ghost use Rattle.rina_flows.specs.Delivering.{GivesUpAll, IsLanding, Receives, c
 ghost use Rattle.rina_flows.specs.Calls.{Becomes, IsOffer, IsPass, IsTold};
 ghost use Rattle.rina_flows.specs.Timely.{IsAcknowledged, IsSentAgain};
 
-use crate::arriving::{Notes, cause_of, receive, write_off};
+use crate::arrival::{Notes, cause_of, receive, write_off};
 use rina_account::Off;
 use rina_base::{Bytes, Cause, Memory, PduView, Tick};
 use rina_conn::{Conn, Made, OfferError};
@@ -89,7 +89,7 @@ impl Conns {
     }
 
     /// Lets the connection at this place take an acknowledgement. Takes no memory.
-    pub fn told(&mut self, at: usize, pdu: &PduView<'_>)
+    pub fn on_ack(&mut self, at: usize, pdu: &PduView<'_>)
         requires { at < length self.old }
         ensures { Becomes (IsTold (pdu_of pdu.now)) at self.old self.new }
     {
@@ -118,7 +118,7 @@ impl Conns {
     }
 
     /// Lets the connection at this place receive a piece, once there is room for all that can come of it.
-    pub fn land(
+    pub fn receive_with_room(
         &mut self,
         now: Tick,
         at: usize,

@@ -3,13 +3,13 @@ ghost use Rattle.std.specs.Prelude.{◌≡◌, ◌≤◌, ◌<◌, ◌-◌, ◌^
 ghost use Rattle.rina_base.specs.Pdus.{pdu_of};
 ghost use Rattle.rina_conn.specs.Sending.{TellsRoom};
 ghost use Rattle.rina_cube.specs.Cubes.{IsCube};
-ghost use Rattle.rina_data.specs.Ids.{IsFrom, flipped};
+ghost use Rattle.rina_dif_law.specs.Ids.{IsFrom, flipped};
 ghost use Rattle.rina_flows.specs.Adding.{Adds, turned};
 ghost use Rattle.rina_flows.specs.Calls.{Offered, Offers, PassesOne, TakenBy, Takes, TakesHere, Tells, TellsNeed, TellsNext, TellsOne};
 ghost use Rattle.rina_flows.specs.Delivering.{ArrivesIn, ForgetsIn, StopsIn};
 ghost use Rattle.rina_flows.specs.Tied.{IsAt, conns_of, ids_of};
 
-use crate::arriving::Notes;
+use crate::arrival::Notes;
 use crate::conns::Conns;
 use rina_account::Ledger;
 use rina_base::{Bytes, Cause, Memory, PduView, Tick};
@@ -183,12 +183,12 @@ impl Flows {
     }
 
     /// Lets the connection at a place take an acknowledgement. Takes no memory.
-    pub fn told(&mut self, at: usize, pdu: &PduView<'_>)
+    pub fn on_ack(&mut self, at: usize, pdu: &PduView<'_>)
         requires { at < length self.old.conns }
         ensures told { TellsOne at (pdu_of pdu.now) self.old self.new }
         ensures ends { self.new.journal.ends ≡ self.old.journal.ends }
     {
-        self.conns.told(at, pdu);
+        self.conns.on_ack(at, pdu);
     }
 
     /// Whether the end at a place, and its connection, take the PDU.
@@ -231,7 +231,7 @@ impl Flows {
     /// are written off; the piece is accepted, held, or written off; the SDUs that it makes whole are delivered, with
     /// this tick; and pieces of broken SDUs are written off. The lines stand in the ledger in that order, that of the
     /// piece itself last. Answers why it is written off, if it is. Without memory nothing changes.
-    pub fn arrive(
+    pub fn on_data(
         &mut self,
         alloc: Global,
         now: Tick,
@@ -251,7 +251,9 @@ impl Flows {
             lines: ledger.take(alloc),
         };
         let bodies = bodies.into_vec();
-        let result = self.conns.land(now, at, pdu, unpassed, bodies, &mut notes);
+        let result = self
+            .conns
+            .receive_with_room(now, at, pdu, unpassed, bodies, &mut notes);
         self.journal.ends.put_got(at, notes.got);
         ledger.put(notes.lines);
         result

@@ -124,7 +124,7 @@ fn arrive(
         return Err("no end takes the PDU".into());
     };
     assert!(rt; now <= 10_000_000 && at < flows.journal.ends.len() && at < flows.conns.len());
-    Ok(flows.arrive(alloc, now, at, &pdu, ledger)?)
+    Ok(flows.on_data(alloc, now, at, &pdu, ledger)?)
 }
 
 /// The first PDU of an SDU that was accepted.
@@ -234,7 +234,7 @@ fn an_acknowledgement_is_taken_by_the_sender(rt: HostRuntime) -> Result<(), Fail
     };
     assert_eq!(rt; flows.taker(&ack), Some(0));
     assert!(rt; flows.conns.len() == 2);
-    flows.told(0, &ack);
+    flows.on_ack(0, &ack);
     let stray = PduView { dcep: 6, ..ack };
     assert_eq!(rt; flows.taker(&stray), None);
     Ok(())

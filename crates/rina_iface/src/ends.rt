@@ -77,10 +77,10 @@ impl Ends {
     }
 
     /// The end at a place, counted from 0. None where the place is out of range.
-    pub fn get(&self, at: usize) -> Option<&End>
-        ensures { MatchOption result (length self.now ≤ at) (λ e. slice_get self.now at ≡ Some e.now) }
+    pub fn get(&self, place: usize) -> Option<&End>
+        ensures { MatchOption result (length self.now ≤ place) (λ e. slice_get self.now place ≡ Some e.now) }
     {
-        self.items.get(at)
+        self.items.get(place)
     }
 
     /// The place of a port's end.
@@ -96,8 +96,8 @@ impl Ends {
     pub fn find(&self, port: Port) -> Option<&End>
         ensures { MatchOption result (end_in port self.now ≡ None) (λ e. end_in port self.now ≡ Some e.now) }
     {
-        let at = self.place(port)?;
-        self.items.get(at)
+        let place = self.place(port)?;
+        self.items.get(place)
     }
 
     /// Adds an end.
@@ -123,90 +123,90 @@ impl Ends {
     }
 
     /// Notes what the end at this place sent.
-    pub fn note_sent(&mut self, at: usize, entry: Entry) -> Result<(), AllocError>
-        requires { at < length self.old }
-        ensures ok { OnOk result ((e : End) → slice_get self.old at ≡ Some e → self.new ≡ slice_set self.old at (with_sent e entry)) }
+    pub fn note_sent(&mut self, place: usize, entry: Entry) -> Result<(), AllocError>
+        requires { place < length self.old }
+        ensures ok { OnOk result ((e : End) → slice_get self.old place ≡ Some e → self.new ≡ slice_set self.old place (with_sent e entry)) }
         ensures err { OnErr result (self.new ≡ self.old) }
     {
-        let end = &mut self.items[at];
+        let end = &mut self.items[place];
         end.sent.push(entry)?;
         Ok(())
     }
 
     /// Notes what was delivered to the end at this place.
-    pub fn note_got(&mut self, at: usize, entry: Entry) -> Result<(), AllocError>
-        requires { at < length self.old }
-        ensures ok { OnOk result ((e : End) → slice_get self.old at ≡ Some e → self.new ≡ slice_set self.old at (with_got e entry)) }
+    pub fn note_got(&mut self, place: usize, entry: Entry) -> Result<(), AllocError>
+        requires { place < length self.old }
+        ensures ok { OnOk result ((e : End) → slice_get self.old place ≡ Some e → self.new ≡ slice_set self.old place (with_got e entry)) }
         ensures err { OnErr result (self.new ≡ self.old) }
     {
-        let end = &mut self.items[at];
+        let end = &mut self.items[place];
         end.got.push(entry)?;
         Ok(())
     }
 
     /// Takes out what the end at this place sent, until `put_sent` puts it back. Takes no memory.
-    pub fn take_sent(&mut self, alloc: Global, at: usize) -> Vec<Entry>
-        requires { at < length self.old }
-        ensures sent { (e : End) → slice_get self.old at ≡ Some e → result.items ≡ e.sent }
-        ensures rest { (e : End) → slice_get self.old at ≡ Some e → self.new ≡ slice_set self.old at (record e { sent = [] }) }
+    pub fn take_sent(&mut self, alloc: Global, place: usize) -> Vec<Entry>
+        requires { place < length self.old }
+        ensures sent { (e : End) → slice_get self.old place ≡ Some e → result.items ≡ e.sent }
+        ensures rest { (e : End) → slice_get self.old place ≡ Some e → self.new ≡ slice_set self.old place (record e { sent = [] }) }
     {
-        let end = &mut self.items[at];
+        let end = &mut self.items[place];
         std::mem::replace(&mut end.sent, Entries::new(alloc)).into_vec()
     }
 
     /// Lets these be what the end at this place sent.
-    pub fn put_sent(&mut self, at: usize, sent: Vec<Entry>)
-        requires { at < length self.old }
-        ensures { (e : End) → slice_get self.old at ≡ Some e → self.new ≡ slice_set self.old at (record e { sent = sent.items }) }
+    pub fn put_sent(&mut self, place: usize, sent: Vec<Entry>)
+        requires { place < length self.old }
+        ensures { (e : End) → slice_get self.old place ≡ Some e → self.new ≡ slice_set self.old place (record e { sent = sent.items }) }
     {
-        let end = &mut self.items[at];
+        let end = &mut self.items[place];
         end.sent = Entries::from_vec(sent);
     }
 
     /// Takes out what was delivered to the end at this place, until `put_got` puts it back. Takes no memory.
-    pub fn take_got(&mut self, alloc: Global, at: usize) -> Vec<Entry>
-        requires { at < length self.old }
-        ensures got { (e : End) → slice_get self.old at ≡ Some e → result.items ≡ e.got }
-        ensures rest { (e : End) → slice_get self.old at ≡ Some e → self.new ≡ slice_set self.old at (record e { got = [] }) }
+    pub fn take_got(&mut self, alloc: Global, place: usize) -> Vec<Entry>
+        requires { place < length self.old }
+        ensures got { (e : End) → slice_get self.old place ≡ Some e → result.items ≡ e.got }
+        ensures rest { (e : End) → slice_get self.old place ≡ Some e → self.new ≡ slice_set self.old place (record e { got = [] }) }
     {
-        let end = &mut self.items[at];
+        let end = &mut self.items[place];
         std::mem::replace(&mut end.got, Entries::new(alloc)).into_vec()
     }
 
     /// Lets these be what was delivered to the end at this place.
-    pub fn put_got(&mut self, at: usize, got: Vec<Entry>)
-        requires { at < length self.old }
-        ensures { (e : End) → slice_get self.old at ≡ Some e → self.new ≡ slice_set self.old at (record e { got = got.items }) }
+    pub fn put_got(&mut self, place: usize, got: Vec<Entry>)
+        requires { place < length self.old }
+        ensures { (e : End) → slice_get self.old place ≡ Some e → self.new ≡ slice_set self.old place (record e { got = got.items }) }
     {
-        let end = &mut self.items[at];
+        let end = &mut self.items[place];
         end.got = Entries::from_vec(got);
     }
 
     /// Marks the oldest entry of the end at this place as passed.
-    pub fn pass(&mut self, at: usize)
-        requires within { at < length self.old }
-        requires waits { (e : End) → slice_get self.old at ≡ Some e → e.taken < length e.got }
-        ensures { (e : End) → slice_get self.old at ≡ Some e → self.new ≡ slice_set self.old at (with_passed e) }
+    pub fn pass(&mut self, place: usize)
+        requires within { place < length self.old }
+        requires waits { (e : End) → slice_get self.old place ≡ Some e → e.taken < length e.got }
+        ensures { (e : End) → slice_get self.old place ≡ Some e → self.new ≡ slice_set self.old place (with_passed e) }
     {
-        let end = &mut self.items[at];
+        let end = &mut self.items[place];
         if end.taken < end.got.len() as u64 {
             end.taken += 1;
         }
     }
 
     /// Sets the state of the end at this place.
-    pub fn set_state(&mut self, at: usize, state: PortState)
-        requires { at < length self.old }
-        ensures { (e : End) → slice_get self.old at ≡ Some e → self.new ≡ slice_set self.old at (with_state e state) }
+    pub fn set_state(&mut self, place: usize, state: PortState)
+        requires { place < length self.old }
+        ensures { (e : End) → slice_get self.old place ≡ Some e → self.new ≡ slice_set self.old place (with_state e state) }
     {
-        set_state(&mut self.items, at, state);
+        set_state(&mut self.items, place, state);
     }
 
     /// Lets each end that is allocated fail by a cut at this tick.
-    pub fn cut(&mut self, at: Tick)
-        ensures { self.new ≡ map (cut_off at) self.old }
+    pub fn cut(&mut self, tick: Tick)
+        ensures { self.new ≡ map (cut_off tick) self.old }
     {
-        cut_all(&mut self.items, at);
+        cut_all(&mut self.items, tick);
     }
 }
 
@@ -214,18 +214,18 @@ impl Ends {
 fn cut_all(ends: &mut Vec<End>, tick: Tick)
     ensures { ends.new.items ≡ map (cut_off tick) ends.old.items }
 {
-    for at in 0..ends.len() {
-        let state = cut_state(ends[at].state, tick);
-        set_state(ends, at, state);
+    for place in 0..ends.len() {
+        let state = cut_state(ends[place].state, tick);
+        set_state(ends, place, state);
     }
 }
 
 /// Sets the state of the end at a place.
-fn set_state(ends: &mut Vec<End>, at: usize, state: PortState)
-    requires { at < length ends.old.items }
-    ensures { (e : End) → slice_get ends.old.items at ≡ Some e → ends.new.items ≡ slice_set ends.old.items at (with_state e state) }
+fn set_state(ends: &mut Vec<End>, place: usize, state: PortState)
+    requires { place < length ends.old.items }
+    ensures { (e : End) → slice_get ends.old.items place ≡ Some e → ends.new.items ≡ slice_set ends.old.items place (with_state e state) }
 {
-    let end = &mut ends[at];
+    let end = &mut ends[place];
     end.state = state;
 }
 

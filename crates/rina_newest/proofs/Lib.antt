@@ -1,4 +1,3 @@
-mod Digits
 mod Index
 mod Places
 mod Put

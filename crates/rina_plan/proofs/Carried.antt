@@ -11,30 +11,30 @@ use Rattle.rina_plan.specs.declared.dif.Lower.TheVariants.{Wire, Dif}
 use Rattle.rina_plan.specs.declared.dif.LinkPlan.{LinkPlan}
 use Rattle.rina_plan.specs.declared.dif.FlowPlan.{FlowPlan}
 use Rattle.rina_plan.specs.declared.dif.DifPlan.{DifPlan}
-use Rattle.rina_plan.specs.Difs.{most_of, is_crowded}
+use Rattle.rina_plan.specs.Difs.{greatest_of, is_crowded}
 use Rattle.rina_plan.specs.Links.{is_member}
-use Rattle.rina_plan.specs.Walks.{is_joined, has_cube, is_stray, joins_in, joins_on, is_torn, is_unjoined, IsCarriedFlow, AreJoinedOn, IsCarriedLink}
-use Rattle.rina_plan.specs.Counts.{links_of, load_of, first_loaded, has_link_end, needs_of, is_strained, is_full, full_from, IsRoomy}
+use Rattle.rina_plan.specs.Walks.{is_joined, has_cube, is_unfit_flow, joins_in, joins_on, is_unjoined_link, is_unjoined, IsCarriedFlow, AreJoinedOn, IsCarriedLink}
+use Rattle.rina_plan.specs.Counts.{links_of, load_of, first_loaded, has_link_end, cep_ids_needed, is_overloaded, is_full, full_from, IsRoomy}
 use Rattle.rina_plan.proofs.Places.{none_pass, nowhere}
 use Rattle.rina_plan.proofs.Walking.{joined_walk}
 
 -- ---- walks
 
-stray_parts : (c e m n j : Bool) → (not c || e || not (m && n) || not j) ≡ false → (c ≡ true) × (e ≡ false) × (m ≡ true) × (n ≡ true) × (j ≡ true)
-stray_parts false e m n j h = cc
-stray_parts true true m n j h = cc
-stray_parts true false false n j h = cc
-stray_parts true false true false j h = cc
-stray_parts true false true true false h = cc
-stray_parts true false true true true h = (refl, refl, refl, refl, refl)
+unfit_flow_parts : (c e m n j : Bool) → (not c || e || not (m && n) || not j) ≡ false → (c ≡ true) × (e ≡ false) × (m ≡ true) × (n ≡ true) × (j ≡ true)
+unfit_flow_parts false e m n j h = cc
+unfit_flow_parts true true m n j h = cc
+unfit_flow_parts true false false n j h = cc
+unfit_flow_parts true false true false j h = cc
+unfit_flow_parts true false true true false h = cc
+unfit_flow_parts true false true true true h = (refl, refl, refl, refl, refl)
 
 differ : (m n : ℕ) → (m == n) ≡ false → m ≢ n
 differ m n h = grind (arith, nat_tests)
 
-flow_carried : (d : DifPlan) (f : FlowPlan) → is_stray d f ≡ false → IsCarriedFlow d f
-unfolding is_stray
+flow_carried : (d : DifPlan) (f : FlowPlan) → is_unfit_flow d f ≡ false → IsCarriedFlow d f
+unfolding is_unfit_flow
 flow_carried d f h =
-    let (cube, apart, from, to, joined) = stray_parts (has_cube f.cube d) (f.from.node == f.to.node) (is_member f.from.node d) (is_member f.to.node d) (is_joined d.links f.from.node f.to.node) h in
+    let (cube, apart, from, to, joined) = unfit_flow_parts (has_cube f.cube d) (f.from.node == f.to.node) (is_member f.from.node d) (is_member f.to.node d) (is_joined d.links f.from.node f.to.node) h in
     record { cube = cube; apart = differ f.from.node f.to.node apart; from = from; to = to; walk = joined_walk d.links f.from.node f.to.node joined }
 
 not_false : (b : Bool) → not b ≡ false → b ≡ true
@@ -48,9 +48,9 @@ on_joined difs m n (Dif i) h = λ d is. joined_walk d.links m n (ap (joins_in m 
 pub carried : (difs : List DifPlan) (d : DifPlan) → is_unjoined difs d ≡ false → All (IsCarriedFlow d) d.flows × All (IsCarriedLink difs) d.links
 unfolding is_unjoined
 carried difs d h =
-    let (flows, links) = or_parts (list_any (is_stray d) d.flows) (list_any (is_torn difs) d.links) h in (
-      λ k e within. flow_carried d (get_or d.flows k e) (none_pass (is_stray d) d.flows flows k e within),
-      λ k e within. let l = get_or d.links k e in on_joined difs l.a l.b l.on (not_false (joins_on difs l.a l.b l.on) (none_pass (is_torn difs) d.links links k e within)),
+    let (flows, links) = or_parts (list_any (is_unfit_flow d) d.flows) (list_any (is_unjoined_link difs) d.links) h in (
+      λ k e within. flow_carried d (get_or d.flows k e) (none_pass (is_unfit_flow d) d.flows flows k e within),
+      λ k e within. let l = get_or d.links k e in on_joined difs l.a l.b l.on (not_false (joins_on difs l.a l.b l.on) (none_pass (is_unjoined_link difs) d.links links k e within)),
     )
 
 -- ---- counts
@@ -65,23 +65,23 @@ not_crowded d h = crowd_of (length d.members) (length d.cubes) (length d.rules) 
 at_most : (a b : ℕ) → nat_lt a b ≡ false → b ≤ a
 at_most a b h = grind (arith, nat_tests)
 
-not_strained : (links : List LinkPlan) (at : ℕ) (d : DifPlan) (m : MemberPlan) → is_strained links at d m ≡ false → (count_by (has_link_end m.node) d.links ≤ 16) × (needs_of links at d m.node ≤ most_of d.widths.cep)
-unfolding is_strained
+not_strained : (links : List LinkPlan) (at : ℕ) (d : DifPlan) (m : MemberPlan) → is_overloaded links at d m ≡ false → (count_by (has_link_end m.node) d.links ≤ 16) × (cep_ids_needed links at d m.node ≤ greatest_of d.widths.cep)
+unfolding is_overloaded
 not_strained links at d m h =
-    let (few, ids) = or_parts (nat_lt 16 (count_by (has_link_end m.node) d.links)) (nat_lt (most_of d.widths.cep) (needs_of links at d m.node)) h in
-    (at_most 16 (count_by (has_link_end m.node) d.links) few, at_most (most_of d.widths.cep) (needs_of links at d m.node) ids)
+    let (few, ids) = or_parts (nat_lt 16 (count_by (has_link_end m.node) d.links)) (nat_lt (greatest_of d.widths.cep) (cep_ids_needed links at d m.node)) h in
+    (at_most 16 (count_by (has_link_end m.node) d.links) few, at_most (greatest_of d.widths.cep) (cep_ids_needed links at d m.node) ids)
 
 roomy : (links : List LinkPlan) (at : ℕ) (d : DifPlan) → is_full links at d ≡ false → IsRoomy links at d
 unfolding is_full
 roomy links at d h =
-    let (crowd, each) = or_parts (is_crowded d) (list_any (is_strained links at d) d.members) h in
+    let (crowd, each) = or_parts (is_crowded d) (list_any (is_overloaded links at d) d.members) h in
     let (members, cubes, rules) = not_crowded d crowd in
     record {
       members = members;
       cubes = cubes;
       rules = rules;
-      links = λ k e within. (not_strained links at d (get_or d.members k e) (none_pass (is_strained links at d) d.members each k e within)).0;
-      ids = λ k e within. (not_strained links at d (get_or d.members k e) (none_pass (is_strained links at d) d.members each k e within)).1;
+      links = λ k e within. (not_strained links at d (get_or d.members k e) (none_pass (is_overloaded links at d) d.members each k e within)).0;
+      ids = λ k e within. (not_strained links at d (get_or d.members k e) (none_pass (is_overloaded links at d) d.members each k e within)).1;
     }
 
 not_here : (b : Bool) (n : ℕ) (rest : Option ℕ) → cond b (Some n) rest ≡ None → (b ≡ false) × (rest ≡ None)

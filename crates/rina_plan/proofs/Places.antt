@@ -40,7 +40,7 @@ nowhere p xs h = λ k d within.
     fails_not (p (get_or xs k d)) (prefix_len_passes (λ x. not (p x)) xs k d (omega arith))
 
 -- the four tests of the members of a DIF
-pub misplaced_is : (d : DifPlan) (ms : List MemberPlan) (n : ℕ) (node address odd : Bool) → ms ≡ d.members → n ≡ length d.members → node ≡ has_twice (map (λ (m : MemberPlan). m.node) ms) → address ≡ has_twice (map (λ (m : MemberPlan). m.addr) ms)
-    → odd ≡ list_any (is_misaddressed d.widths.addr) ms → ((n == 0) || node || address || odd) ≡ is_misplaced d
+pub misplaced_is : (d : DifPlan) (ms : List MemberPlan) (n : ℕ) (node address misaddressed : Bool) → ms ≡ d.members → n ≡ length d.members → node ≡ has_twice (map (λ (m : MemberPlan). m.node) ms) → address ≡ has_twice (map (λ (m : MemberPlan). m.addr) ms)
+    → misaddressed ≡ list_any (is_misaddressed d.widths.addr) ms → ((n == 0) || node || address || misaddressed) ≡ is_misplaced d
 unfolding is_misplaced
-misplaced_is d ms n node address odd same size a b c = rw (size, a, b, c, same) refl
+misplaced_is d ms n node address misaddressed same size a b c = rw (size, a, b, c, same) refl

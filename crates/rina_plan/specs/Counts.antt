@@ -7,7 +7,7 @@ use Rattle.rina_plan.specs.declared.dif.Lower.TheVariants.{Wire, Dif}
 use Rattle.rina_plan.specs.declared.dif.LinkPlan.{LinkPlan}
 use Rattle.rina_plan.specs.declared.dif.FlowPlan.{FlowPlan}
 use Rattle.rina_plan.specs.declared.dif.DifPlan.{DifPlan}
-use Rattle.rina_plan.specs.Difs.{most_of, is_crowded}
+use Rattle.rina_plan.specs.Difs.{greatest_of, is_crowded}
 
 -- the links of all DIFs
 abbrev pub links_of : List DifPlan → List LinkPlan
@@ -41,16 +41,16 @@ abbrev pub has_flow_end : ℕ → FlowPlan → Bool
 has_flow_end node f = (f.from.node == node) || (f.to.node == node)
 
 -- how many CEP-ids the member of a DIF on a node needs from the start: one for each of its flows, and for each link that is on it. `at` is the place of the DIF.
-abbrev pub needs_of : List LinkPlan → ℕ → DifPlan → ℕ → ℕ
-needs_of links at d node = count_by (has_flow_end node) d.flows + count_by (λ (l : LinkPlan). is_on_dif at l.on && has_link_end node l) links
+abbrev pub cep_ids_needed : List LinkPlan → ℕ → DifPlan → ℕ → ℕ
+cep_ids_needed links at d node = count_by (has_flow_end node) d.flows + count_by (λ (l : LinkPlan). is_on_dif at l.on && has_link_end node l) links
 
 -- a member has more than 16 links, or needs more CEP-ids than there are
-unfoldable pub is_strained : List LinkPlan → ℕ → DifPlan → MemberPlan → Bool
-is_strained links at d m = nat_lt 16 (count_by (has_link_end m.node) d.links) || nat_lt (most_of d.widths.cep) (needs_of links at d m.node)
+unfoldable pub is_overloaded : List LinkPlan → ℕ → DifPlan → MemberPlan → Bool
+is_overloaded links at d m = nat_lt 16 (count_by (has_link_end m.node) d.links) || nat_lt (greatest_of d.widths.cep) (cep_ids_needed links at d m.node)
 
 -- a DIF has too many members, cubes or rules, or one of its members has too many links or flows
 unfoldable pub is_full : List LinkPlan → ℕ → DifPlan → Bool
-is_full links at d = is_crowded d || list_any (is_strained links at d) d.members
+is_full links at d = is_crowded d || list_any (is_overloaded links at d) d.members
 
 -- the place of the first DIF that is full, where the list begins at a place
 unfoldable pub full_from : List LinkPlan → ℕ → List DifPlan → Option ℕ
@@ -67,4 +67,4 @@ pub record IsRoomy (all : List LinkPlan) (at : ℕ) (d : DifPlan) : Type 0 where
   pub cubes : length d.cubes ≤ 8
   pub rules : length d.rules ≤ 256
   pub links : All (λ (m : MemberPlan). count_by (has_link_end m.node) d.links ≤ 16) d.members
-  pub ids : All (λ (m : MemberPlan). needs_of all at d m.node ≤ most_of d.widths.cep) d.members
+  pub ids : All (λ (m : MemberPlan). cep_ids_needed all at d m.node ≤ greatest_of d.widths.cep) d.members

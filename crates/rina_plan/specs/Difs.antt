@@ -34,12 +34,12 @@ unfoldable pub has_mistimed : DifPlan → Bool
 has_mistimed d = is_mistimed d.manage || list_any is_mistimed d.cubes
 
 -- the greatest number that so many bytes hold
-unfoldable pub most_of : ℕ → ℕ
-most_of width = if width == 1 then 255 else (if width == 2 then 65535 else 4294967295)
+unfoldable pub greatest_of : ℕ → ℕ
+greatest_of width = if width == 1 then 255 else (if width == 2 then 65535 else 4294967295)
 
 -- a member has no address, or one that is too wide
 unfoldable pub is_misaddressed : ℕ → MemberPlan → Bool
-is_misaddressed width m = (m.addr == 0) || nat_lt (most_of width) m.addr
+is_misaddressed width m = (m.addr == 0) || nat_lt (greatest_of width) m.addr
 
 -- no member, a node or an address twice, or an address that no member can have
 unfoldable pub is_misplaced : DifPlan → Bool
@@ -50,8 +50,8 @@ abbrev pub head_of : DifPlan → ℕ
 head_of d = 4 + pci_size Piece d.widths
 
 -- a PDU is wider than its length field, leaves no byte for a piece, or is too short for an acknowledgement
-unfoldable pub is_misfit : DifPlan → Bool
-is_misfit d = nat_lt (most_of d.widths.len) d.pdu || nat_le d.pdu (head_of d) || nat_lt d.pdu (4 + pci_size Ack d.widths)
+unfoldable pub has_unfit_pdu : DifPlan → Bool
+has_unfit_pdu d = nat_lt (greatest_of d.widths.len) d.pdu || nat_le d.pdu (head_of d) || nat_lt d.pdu (4 + pci_size Ack d.widths)
 
 -- the most bytes of a piece
 abbrev pub piece_of : DifPlan → ℕ

@@ -68,12 +68,12 @@ is_misused difs d =
     || (d.is_static && nat_lt 1 d.rank && list_any (λ (l : LinkPlan). is_dynamic difs l.on) d.links)
 
 -- a link is not on the rank just below, or its ends are equal, or one of them is no member here or there
-unfoldable pub is_crossed_link : List WireEnds → List DifPlan → DifPlan → LinkPlan → Bool
-is_crossed_link wires difs d l =
+unfoldable pub is_unfit_link : List WireEnds → List DifPlan → DifPlan → LinkPlan → Bool
+is_unfit_link wires difs d l =
     not (rank_of difs l.on + 1 == d.rank) || (l.a == l.b) || not (is_member l.a d && is_member l.b d && is_there wires difs l.a l.on && is_there wires difs l.b l.on)
 
-unfoldable pub has_crossed_link : List WireEnds → List DifPlan → DifPlan → Bool
-has_crossed_link wires difs d = list_any (is_crossed_link wires difs d) d.links
+unfoldable pub has_unfit_link : List WireEnds → List DifPlan → DifPlan → Bool
+has_unfit_link wires difs d = list_any (is_unfit_link wires difs d) d.links
 
 -- a link's cube is not in the facility below, or takes less than a PDU
 unfoldable pub is_uncarried : List WireEnds → List DifPlan → DifPlan → Bool

@@ -33,8 +33,8 @@ abbrev pub has_cube : ℕ → DifPlan → Bool
 has_cube id d = list_any (λ (c : Cube). c.id == id) d.cubes
 
 -- a flow's cube is missing, its nodes are equal or no members, or no walk of links joins them
-unfoldable pub is_stray : DifPlan → FlowPlan → Bool
-is_stray d f = not (has_cube f.cube d) || (f.from.node == f.to.node) || not (is_member f.from.node d && is_member f.to.node d) || not (is_joined d.links f.from.node f.to.node)
+unfoldable pub is_unfit_flow : DifPlan → FlowPlan → Bool
+is_unfit_flow d f = not (has_cube f.cube d) || (f.from.node == f.to.node) || not (is_member f.from.node d && is_member f.to.node d) || not (is_joined d.links f.from.node f.to.node)
 
 abbrev pub joins_in : ℕ → ℕ → Option DifPlan → Bool
 joins_in m n (Some d) = is_joined d.links m n
@@ -46,14 +46,14 @@ joins_on difs m n (Wire i) = true
 joins_on difs m n (Dif i) = joins_in m n (slice_get difs i)
 
 -- a link is on a DIF in which no walk of links joins its ends
-abbrev pub is_torn : List DifPlan → LinkPlan → Bool
-is_torn difs l = not (joins_on difs l.a l.b l.on)
+abbrev pub is_unjoined_link : List DifPlan → LinkPlan → Bool
+is_unjoined_link difs l = not (joins_on difs l.a l.b l.on)
 
--- a DIF has a flow that is stray, or a link that is torn
+-- a DIF has an unfit flow, or a link whose ends no walk joins on the DIF below
 unfoldable pub is_unjoined : List DifPlan → DifPlan → Bool
-is_unjoined difs d = list_any (is_stray d) d.flows || list_any (is_torn difs) d.links
+is_unjoined difs d = list_any (is_unfit_flow d) d.flows || list_any (is_unjoined_link difs) d.links
 
--- ---- what holds where nothing is stray or torn
+-- ---- what holds of flows and links that break no rule
 
 -- a flow has its cube, and a walk of links joins its nodes, which differ and have members
 pub record IsCarriedFlow (d : DifPlan) (f : FlowPlan) : Type 0 where

@@ -2,10 +2,10 @@
 ghost use Rattle.std.specs.Prelude.{◌≡◌, ℕ, ◌+◌, ◌<◌, ◌^◌, ◌&&◌, nat_lt, length, map, count_by, slice_index, position, IfOk, IfSome};
 ghost use Rattle.std.specs.List.{list_any, range_with_len};
 ghost use Rattle.rina_plan.specs.declared.dif.LinkPlan.{LinkPlan};
-ghost use Rattle.rina_plan.specs.Counts.{links_of, load_of, first_loaded, is_on_wire, one_if, is_on_dif, has_link_end, has_flow_end, needs_of, is_strained, is_full, full_from, first_full};
+ghost use Rattle.rina_plan.specs.Counts.{links_of, load_of, first_loaded, is_on_wire, one_if, is_on_dif, has_link_end, has_flow_end, cep_ids_needed, is_overloaded, is_full, full_from, first_full};
 
 use crate::dif::{DifPlan, FlowPlan, LinkPlan, Lower, MemberPlan};
-use crate::difs::{is_crowded, most_of};
+use crate::difs::{greatest_of, is_crowded};
 use std::alloc::{AllocError, Global};
 
 /// The links of all DIFs.
@@ -121,33 +121,33 @@ fn links_above(links: &[LinkPlan], at: usize, node: usize) -> usize
         .count()
 }
 
-fn needs_of(links: &[LinkPlan], at: usize, dif: &DifPlan, node: usize) -> usize
-    ensures { result ≡ needs_of links.now at dif.now node }
+fn cep_ids_needed(links: &[LinkPlan], at: usize, dif: &DifPlan, node: usize) -> usize
+    ensures { result ≡ cep_ids_needed links.now at dif.now node }
 {
     flows_at(dif.flows.as_slice(), node) + links_above(links, at, node)
 }
 
-#[tactic(auto, unfolding(crate::specs::Counts::is_strained))]
-fn is_strained(links: &[LinkPlan], at: usize, dif: &DifPlan, member: &MemberPlan) -> bool
-    ensures { result ≡ is_strained links.now at dif.now member.now }
+#[tactic(auto, unfolding(crate::specs::Counts::is_overloaded))]
+fn is_overloaded(links: &[LinkPlan], at: usize, dif: &DifPlan, member: &MemberPlan) -> bool
+    ensures { result ≡ is_overloaded links.now at dif.now member.now }
 {
     links_at(dif.links.as_slice(), member.node) > 16
-        || needs_of(links, at, dif, member.node) > most_of(dif.widths.cep) as usize
+        || cep_ids_needed(links, at, dif, member.node) > greatest_of(dif.widths.cep) as usize
 }
 
-fn any_strained(links: &[LinkPlan], at: usize, dif: &DifPlan, members: &[MemberPlan]) -> bool
-    ensures { result ≡ list_any (is_strained links.now at dif.now) members.now }
+fn any_overloaded(links: &[LinkPlan], at: usize, dif: &DifPlan, members: &[MemberPlan]) -> bool
+    ensures { result ≡ list_any (is_overloaded links.now at dif.now) members.now }
 {
     members
         .iter()
-        .any(|member| is_strained(links, at, dif, member))
+        .any(|member| is_overloaded(links, at, dif, member))
 }
 
 #[tactic(auto, unfolding(crate::specs::Counts::is_full))]
 fn is_full(links: &[LinkPlan], at: usize, dif: &DifPlan) -> bool
     ensures { result ≡ is_full links.now at dif.now }
 {
-    is_crowded(dif) || any_strained(links, at, dif, dif.members.as_slice())
+    is_crowded(dif) || any_overloaded(links, at, dif, dif.members.as_slice())
 }
 
 fn first_of(links: &[LinkPlan], difs: &[DifPlan]) -> Option<usize>

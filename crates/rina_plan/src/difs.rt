@@ -3,7 +3,7 @@
 ghost use Rattle.std.specs.Prelude.{◌≡◌, ◌+◌, ◌==◌, ◌<◌, length, position, IfSome};
 ghost use Rattle.std.specs.List.{list_any};
 ghost use Rattle.rina_plan.specs.declared.dif.DifPlan.{DifPlan};
-ghost use Rattle.rina_plan.specs.Difs.{lacks_lower, is_mistimed, has_mistimed, most_of, is_misaddressed, head_of, is_misfit, piece_of, is_over, is_oversized, has_oversized, is_crowded};
+ghost use Rattle.rina_plan.specs.Difs.{lacks_lower, is_mistimed, has_mistimed, greatest_of, is_misaddressed, head_of, has_unfit_pdu, piece_of, is_over, is_oversized, has_oversized, is_crowded};
 
 use crate::dif::{DifPlan, MemberPlan};
 use rina_base::PduKind;
@@ -70,9 +70,9 @@ pub fn first_mistimed(difs: &[DifPlan]) -> Option<usize>
 // The sizes of PDUs.
 
 /// The greatest number that so many bytes hold.
-#[tactic(auto, unfolding(crate::specs::Difs::most_of))]
-pub(crate) fn most_of(width: u8) -> u32
-    ensures { result ≡ most_of width }
+#[tactic(auto, unfolding(crate::specs::Difs::greatest_of))]
+pub(crate) fn greatest_of(width: u8) -> u32
+    ensures { result ≡ greatest_of width }
 {
     match width {
         1 => 255,
@@ -88,22 +88,22 @@ fn head(dif: &DifPlan) -> u32
     4 + pci_len(PduKind::Piece, dif.widths)
 }
 
-#[tactic(auto, unfolding(crate::specs::Difs::is_misfit))]
-fn is_misfit(dif: &DifPlan) -> bool
-    ensures { result ≡ is_misfit dif.now }
+#[tactic(auto, unfolding(crate::specs::Difs::has_unfit_pdu))]
+fn has_unfit_pdu(dif: &DifPlan) -> bool
+    ensures { result ≡ has_unfit_pdu dif.now }
 {
-    dif.pdu > most_of(dif.widths.len)
+    dif.pdu > greatest_of(dif.widths.len)
         || dif.pdu <= head(dif)
         || dif.pdu < 4 + pci_len(PduKind::Ack, dif.widths)
 }
 
 /// A PDU that is wider than its length field, leaves no byte for a piece, or is too short for an
 /// acknowledgement.
-pub fn first_misfit(difs: &[DifPlan]) -> Option<usize>
-    ensures place { result ≡ position is_misfit difs.now }
+pub fn first_with_unfit_pdu(difs: &[DifPlan]) -> Option<usize>
+    ensures place { result ≡ position has_unfit_pdu difs.now }
     ensures within { IfSome result (λ i. i < length difs.now) }
 {
-    difs.iter().position(|dif| is_misfit(dif))
+    difs.iter().position(|dif| has_unfit_pdu(dif))
 }
 
 // The sizes of SDUs.
@@ -161,7 +161,7 @@ pub fn first_oversized(difs: &[DifPlan]) -> Option<usize>
 fn is_misaddressed(width: u8, member: &MemberPlan) -> bool
     ensures { result ≡ is_misaddressed width member.now }
 {
-    member.addr == 0 || member.addr > most_of(width)
+    member.addr == 0 || member.addr > greatest_of(width)
 }
 
 pub(crate) fn any_misaddressed(width: u8, members: &[MemberPlan]) -> bool

@@ -5,7 +5,7 @@ ghost use Rattle.rina_cube.specs.declared.Cube.{Cube};
 ghost use Rattle.rina_plan.specs.declared.dif.DifPlan.{DifPlan};
 ghost use Rattle.rina_plan.specs.declared.nets.Net.{Net};
 ghost use Rattle.rina_plan.specs.Nets.{difs_of};
-ghost use Rattle.rina_plan.specs.Walks.{has_cube, is_stray, joins_on, is_torn, is_unjoined};
+ghost use Rattle.rina_plan.specs.Walks.{has_cube, is_unfit_flow, joins_on, is_unjoined_link, is_unjoined};
 
 use crate::dif::{DifPlan, FlowPlan, LinkPlan, Lower};
 use crate::links::is_member;
@@ -25,9 +25,9 @@ fn has_cube(id: u8, dif: &DifPlan) -> bool
     any_of_id(dif.cubes.as_slice(), id)
 }
 
-#[tactic(auto, unfolding(crate::specs::Walks::is_stray))]
-fn is_stray(net: &Net<'_>, flow: &FlowPlan) -> bool
-    ensures { result ≡ is_stray net.now.dif.now flow.now }
+#[tactic(auto, unfolding(crate::specs::Walks::is_unfit_flow))]
+fn is_unfit_flow(net: &Net<'_>, flow: &FlowPlan) -> bool
+    ensures { result ≡ is_unfit_flow net.now.dif.now flow.now }
 {
     let dif = net.dif();
     let from = flow.from.node;
@@ -38,10 +38,10 @@ fn is_stray(net: &Net<'_>, flow: &FlowPlan) -> bool
         || !net.joins(from, to)
 }
 
-fn any_stray(net: &Net<'_>, flows: &[FlowPlan]) -> bool
-    ensures { result ≡ list_any (is_stray net.now.dif.now) flows.now }
+fn any_unfit_flow(net: &Net<'_>, flows: &[FlowPlan]) -> bool
+    ensures { result ≡ list_any (is_unfit_flow net.now.dif.now) flows.now }
 {
-    flows.iter().any(|flow| is_stray(net, flow))
+    flows.iter().any(|flow| is_unfit_flow(net, flow))
 }
 
 fn joins_on(nets: &[Net<'_>], one: usize, other: usize, on: Lower) -> bool
@@ -56,16 +56,16 @@ fn joins_on(nets: &[Net<'_>], one: usize, other: usize, on: Lower) -> bool
     }
 }
 
-fn is_torn(nets: &[Net<'_>], link: &LinkPlan) -> bool
-    ensures { result ≡ is_torn (difs_of nets.now) link.now }
+fn is_unjoined_link(nets: &[Net<'_>], link: &LinkPlan) -> bool
+    ensures { result ≡ is_unjoined_link (difs_of nets.now) link.now }
 {
     !joins_on(nets, link.a, link.b, link.on)
 }
 
-fn any_torn(nets: &[Net<'_>], links: &[LinkPlan]) -> bool
-    ensures { result ≡ list_any (is_torn (difs_of nets.now)) links.now }
+fn any_unjoined_link(nets: &[Net<'_>], links: &[LinkPlan]) -> bool
+    ensures { result ≡ list_any (is_unjoined_link (difs_of nets.now)) links.now }
 {
-    links.iter().any(|link| is_torn(nets, link))
+    links.iter().any(|link| is_unjoined_link(nets, link))
 }
 
 #[tactic(auto, unfolding(crate::specs::Walks::is_unjoined))]
@@ -73,7 +73,7 @@ fn is_unjoined(nets: &[Net<'_>], net: &Net<'_>) -> bool
     ensures { result ≡ is_unjoined (difs_of nets.now) net.now.dif.now }
 {
     let dif = net.dif();
-    any_stray(net, dif.flows.as_slice()) || any_torn(nets, dif.links.as_slice())
+    any_unfit_flow(net, dif.flows.as_slice()) || any_unjoined_link(nets, dif.links.as_slice())
 }
 
 fn first_of(nets: &[Net<'_>]) -> Option<usize>

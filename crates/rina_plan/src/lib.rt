@@ -13,8 +13,8 @@ mod tests;
 
 pub use counts::{first_full, first_loaded};
 pub use dif::{DifPlan, EndPlan, FlowPlan, LinkPlan, Lower, MemberPlan, WireEnds};
-pub use difs::{first_misfit, first_mistimed, first_oversized, first_without_lower};
+pub use difs::{first_mistimed, first_oversized, first_with_unfit_pdu, first_without_lower};
 pub use joined::first_unjoined;
-pub use links::{first_crossed, first_misused, first_uncarried};
+pub use links::{first_misused, first_uncarried, first_with_unfit_link};
 pub use nets::are_joined;
 pub use once::{first_misplaced, first_without_cubes};

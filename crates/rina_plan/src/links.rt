@@ -5,7 +5,7 @@ ghost use Rattle.std.specs.List.{list_any};
 ghost use Rattle.rina_cube.specs.declared.Cube.{Cube};
 ghost use Rattle.rina_plan.specs.declared.dif.MemberPlan.{MemberPlan};
 ghost use Rattle.rina_plan.specs.declared.dif.LinkPlan.{LinkPlan};
-ghost use Rattle.rina_plan.specs.Links.{is_dynamic, rank_of, is_member, is_there, carries, is_misused, is_crossed_link, has_crossed_link, is_uncarried};
+ghost use Rattle.rina_plan.specs.Links.{is_dynamic, rank_of, is_member, is_there, carries, is_misused, is_unfit_link, has_unfit_link, is_uncarried};
 
 use crate::dif::{DifPlan, LinkPlan, Lower, MemberPlan, WireEnds};
 use rina_cube::Cube;
@@ -84,9 +84,9 @@ fn is_there(wires: &[WireEnds], difs: &[DifPlan], node: usize, on: Lower) -> boo
     }
 }
 
-#[tactic(auto, unfolding(crate::specs::Links::is_crossed_link))]
-fn is_crossed(wires: &[WireEnds], difs: &[DifPlan], dif: &DifPlan, link: &LinkPlan) -> bool
-    ensures { result ≡ is_crossed_link wires.now difs.now dif.now link.now }
+#[tactic(auto, unfolding(crate::specs::Links::is_unfit_link))]
+fn is_unfit_link(wires: &[WireEnds], difs: &[DifPlan], dif: &DifPlan, link: &LinkPlan) -> bool
+    ensures { result ≡ is_unfit_link wires.now difs.now dif.now link.now }
 {
     u32::from(rank_of(difs, link.on)) + 1 != u32::from(dif.rank)
         || link.a == link.b
@@ -96,25 +96,27 @@ fn is_crossed(wires: &[WireEnds], difs: &[DifPlan], dif: &DifPlan, link: &LinkPl
             && is_there(wires, difs, link.b, link.on))
 }
 
-fn any_crossed(wires: &[WireEnds], difs: &[DifPlan], dif: &DifPlan, links: &[LinkPlan]) -> bool
-    ensures { result ≡ list_any (is_crossed_link wires.now difs.now dif.now) links.now }
+fn any_unfit_link(wires: &[WireEnds], difs: &[DifPlan], dif: &DifPlan, links: &[LinkPlan]) -> bool
+    ensures { result ≡ list_any (is_unfit_link wires.now difs.now dif.now) links.now }
 {
-    links.iter().any(|link| is_crossed(wires, difs, dif, link))
+    links
+        .iter()
+        .any(|link| is_unfit_link(wires, difs, dif, link))
 }
 
-#[tactic(auto, unfolding(crate::specs::Links::has_crossed_link))]
-fn has_crossed(wires: &[WireEnds], difs: &[DifPlan], dif: &DifPlan) -> bool
-    ensures { result ≡ has_crossed_link wires.now difs.now dif.now }
+#[tactic(auto, unfolding(crate::specs::Links::has_unfit_link))]
+fn has_unfit_link(wires: &[WireEnds], difs: &[DifPlan], dif: &DifPlan) -> bool
+    ensures { result ≡ has_unfit_link wires.now difs.now dif.now }
 {
-    any_crossed(wires, difs, dif, dif.links.as_slice())
+    any_unfit_link(wires, difs, dif, dif.links.as_slice())
 }
 
 /// A link that is not on the rank just below, or whose ends are equal or no members here and there.
-pub fn first_crossed(wires: &[WireEnds], difs: &[DifPlan]) -> Option<usize>
-    ensures place { result ≡ position (has_crossed_link wires.now difs.now) difs.now }
+pub fn first_with_unfit_link(wires: &[WireEnds], difs: &[DifPlan]) -> Option<usize>
+    ensures place { result ≡ position (has_unfit_link wires.now difs.now) difs.now }
     ensures within { IfSome result (λ i. i < length difs.now) }
 {
-    difs.iter().position(|dif| has_crossed(wires, difs, dif))
+    difs.iter().position(|dif| has_unfit_link(wires, difs, dif))
 }
 
 fn any_carries(cubes: &[Cube], pdu: u32, id: u8) -> bool

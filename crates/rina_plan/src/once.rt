@@ -72,10 +72,10 @@ fn shares_address(alloc: Global, members: &[MemberPlan]) -> Result<bool, AllocEr
     has_twice(alloc, addresses.as_slice())
 }
 
-fn any_of(empty: bool, node: bool, address: bool, odd: bool) -> bool
-    ensures { result ≡ (empty || node || address || odd) }
+fn any_of(empty: bool, node: bool, address: bool, misaddressed: bool) -> bool
+    ensures { result ≡ (empty || node || address || misaddressed) }
 {
-    empty || node || address || odd
+    empty || node || address || misaddressed
 }
 
 #[tactic(auto, unfolding(crate::specs::Difs::is_misplaced))]
@@ -85,8 +85,8 @@ fn is_misplaced(alloc: Global, dif: &DifPlan) -> Result<bool, AllocError>
     let members = dif.members.as_slice();
     let node = shares_node(alloc, members)?;
     let address = shares_address(alloc, members)?;
-    let odd = any_misaddressed(dif.widths.addr, members);
-    Ok(any_of(dif.members.len() == 0, node, address, odd))
+    let misaddressed = any_misaddressed(dif.widths.addr, members);
+    Ok(any_of(dif.members.len() == 0, node, address, misaddressed))
 }
 
 fn each_lacking(alloc: Global, difs: &[DifPlan]) -> Result<Vec<bool>, AllocError>

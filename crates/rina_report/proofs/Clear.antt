@@ -25,11 +25,11 @@ use Rattle.rina_report.specs.declared.step.ClockNote.{ClockNote}
 use Rattle.rina_report.specs.declared.step.ClockNote.TheVariants as clocks
 use Rattle.rina_report.specs.declared.refusal.Refusal.{Refusal}
 use Rattle.rina_report.specs.declared.refusal.Refusal.TheVariants as refusals
-use Rattle.rina_report.specs.declared.said.ClassNote.{ClassNote}
-use Rattle.rina_report.specs.declared.said.ClassNote.TheVariants as classes
-use Rattle.rina_report.specs.declared.said.FlowNote.{FlowNote}
-use Rattle.rina_report.specs.declared.said.Said.{Said}
-use Rattle.rina_report.specs.declared.said.Said.TheVariants as saids
+use Rattle.rina_report.specs.declared.answer.ClassNote.{ClassNote}
+use Rattle.rina_report.specs.declared.answer.ClassNote.TheVariants as classes
+use Rattle.rina_report.specs.declared.answer.FlowNote.{FlowNote}
+use Rattle.rina_report.specs.declared.answer.Answer.{Answer}
+use Rattle.rina_report.specs.declared.answer.Answer.TheVariants as answers
 use Rattle.rina_report.specs.declared.note.Fault.{Fault}
 use Rattle.rina_report.specs.declared.note.Fault.TheVariants as faults
 use Rattle.rina_report.specs.declared.note.Note.{Note}
@@ -39,10 +39,10 @@ use Rattle.rina_report.specs.States.{why_fields, fail_fields, state_fields, memb
 use Rattle.rina_report.specs.Causes.{cause_word, cause_values, cause_fields}
 use Rattle.rina_report.specs.Steps.{took_fields, clock_fields}
 use Rattle.rina_report.specs.Refusals.{state_or_none, refusal_word, refusal_values, refusal_fields}
-use Rattle.rina_report.specs.Saids.{class_word, role_word, end_fields, flow_fields, said_fields}
+use Rattle.rina_report.specs.Answers.{class_word, role_word, end_fields, flow_fields, answer_fields}
 use Rattle.rina_report.specs.Notes.{fault_word, fault_values, told_fields}
 use Rattle.rina_report.specs.Fields.{max32, max64}
-use Rattle.rina_report.specs.Ranges.{IsNum, IsFlowName, IsKey, IsPort, IsWhy, IsFail, IsState, IsMember, IsCause, IsTook, IsClock, IsStateOrNone, IsRefusal, IsFlow, IsSaid, IsFault, IsNote}
+use Rattle.rina_report.specs.Ranges.{IsNum, IsFlowName, IsKey, IsPort, IsWhy, IsFail, IsState, IsMember, IsCause, IsTook, IsClock, IsStateOrNone, IsRefusal, IsFlow, IsAnswer, IsFault, IsNote}
 use Rattle.std.specs.List.{list_all}
 use Rattle.std.proofs.lemmas.Bool.{and_from}
 use Rattle.std.proofs.lemmas.List.Folds.{list_all-append}
@@ -215,28 +215,28 @@ unfolding flow_fields end_fields
 flow_clear e h =
     rw (flow_text_clear e.flow h.0, role_clear e.role, port_clear e.port h.1, (IsField-app e.app h.2).clear, (IsField-app e.peer h.3).clear, decimal_clear32 e.cube (omega (arith, h.4)), decimal_clear64 e.taken h.5) (state_clear e.state h.6)
 
-pub said_clear : (x : Said) → IsSaid x → are_clear (said_fields x) ≡ true
-unfolding said_fields
-said_clear saids.Done h = refl
-said_clear (saids.Port state) h = state_clear state h
-said_clear (saids.Member state) h = member_clear state h
-said_clear saids.Nothing h = refl
-said_clear (saids.Sent num) h = rw (num_clear num h) refl
-said_clear (saids.Got at bytes) h = rw (decimal_clear32 at h.0, (IsField-spelling bytes).clear) refl
-said_clear (saids.In key end) h = key_clear key (took_fields end) h.0 (took_clear end h.1)
-said_clear (saids.Out key) h = key_clear key [] h refl
-said_clear (saids.OutOff key cause) h = key_clear key (codes "off" ∷ cause_fields cause) h.0 (cause_clear cause h.1)
-said_clear (saids.Held why) h = refusal_clear why h
-said_clear (saids.Clock step) h = clock_clear step h
-said_clear saids.Idle h = refl
-said_clear (saids.Cdap bytes) h = rw ((IsField-spelling bytes).clear) refl
-said_clear (saids.Object name class value) h = rw ((IsField-object name h.0).clear, class_clear class, (IsField-spelling value).clear) refl
-said_clear (saids.Off key cause) h = key_clear key (cause_fields cause) h.0 (cause_clear cause h.1)
-said_clear (saids.Flow end) h = flow_clear end h
-said_clear (saids.SentEntry at num bytes) h = rw (decimal_clear32 at h.0, num_clear num h.1, (IsField-spelling bytes).clear) refl
-said_clear (saids.GotEntry at num bytes) h = rw (decimal_clear32 at h.0, num_clear num h.1, (IsField-spelling bytes).clear) refl
-said_clear (saids.Refused why) h = refusal_clear why h
-said_clear (saids.Label label state) h = rw ((IsField-name label h.0).clear) (state_clear state h.1)
+pub answer_clear : (x : Answer) → IsAnswer x → are_clear (answer_fields x) ≡ true
+unfolding answer_fields
+answer_clear answers.Done h = refl
+answer_clear (answers.Port state) h = state_clear state h
+answer_clear (answers.Member state) h = member_clear state h
+answer_clear answers.Nothing h = refl
+answer_clear (answers.Sent num) h = rw (num_clear num h) refl
+answer_clear (answers.Got at bytes) h = rw (decimal_clear32 at h.0, (IsField-spelling bytes).clear) refl
+answer_clear (answers.In key end) h = key_clear key (took_fields end) h.0 (took_clear end h.1)
+answer_clear (answers.Out key) h = key_clear key [] h refl
+answer_clear (answers.OutOff key cause) h = key_clear key (codes "off" ∷ cause_fields cause) h.0 (cause_clear cause h.1)
+answer_clear (answers.Held why) h = refusal_clear why h
+answer_clear (answers.Clock step) h = clock_clear step h
+answer_clear answers.Idle h = refl
+answer_clear (answers.Cdap bytes) h = rw ((IsField-spelling bytes).clear) refl
+answer_clear (answers.Object name class value) h = rw ((IsField-object name h.0).clear, class_clear class, (IsField-spelling value).clear) refl
+answer_clear (answers.Off key cause) h = key_clear key (cause_fields cause) h.0 (cause_clear cause h.1)
+answer_clear (answers.Flow end) h = flow_clear end h
+answer_clear (answers.SentEntry at num bytes) h = rw (decimal_clear32 at h.0, num_clear num h.1, (IsField-spelling bytes).clear) refl
+answer_clear (answers.GotEntry at num bytes) h = rw (decimal_clear32 at h.0, num_clear num h.1, (IsField-spelling bytes).clear) refl
+answer_clear (answers.Refused why) h = refusal_clear why h
+answer_clear (answers.Label label state) h = rw ((IsField-name label h.0).clear) (state_clear state h.1)
 
 fault_clear : (x : Fault) → IsFault x → are_clear (fault_word x ∷ fault_values x) ≡ true
 unfolding fault_word fault_values
@@ -249,7 +249,7 @@ fault_clear faults.ReadFault h = refl
 
 pub note_clear : (x : Note) → IsNote x → are_clear (note_fields x) ≡ true
 unfolding told_fields
-note_clear (notes.Line line tick said) h = rw (decimal_clear32 line h.0, decimal_clear32 tick h.1) (said_clear said h.2)
+note_clear (notes.Line line tick answer) h = rw (decimal_clear32 line h.0, decimal_clear32 tick h.1) (answer_clear answer h.2)
 note_clear (notes.End tick) h = rw (decimal_clear32 tick h) refl
 note_clear (notes.Fault fault) h = fault_clear fault h
 note_clear (notes.Checked nodes wires difs lines) h = rw (decimal_clear32 nodes h.0, decimal_clear32 wires h.1, decimal_clear32 difs h.2, decimal_clear32 lines h.3) refl

@@ -25,11 +25,11 @@ use Rattle.rina_report.specs.declared.step.ClockNote.{ClockNote}
 use Rattle.rina_report.specs.declared.step.ClockNote.TheVariants as clocks
 use Rattle.rina_report.specs.declared.refusal.Refusal.{Refusal}
 use Rattle.rina_report.specs.declared.refusal.Refusal.TheVariants as refusals
-use Rattle.rina_report.specs.declared.said.ClassNote.{ClassNote}
-use Rattle.rina_report.specs.declared.said.ClassNote.TheVariants as classes
-use Rattle.rina_report.specs.declared.said.FlowNote.{FlowNote}
-use Rattle.rina_report.specs.declared.said.Said.{Said}
-use Rattle.rina_report.specs.declared.said.Said.TheVariants as saids
+use Rattle.rina_report.specs.declared.answer.ClassNote.{ClassNote}
+use Rattle.rina_report.specs.declared.answer.ClassNote.TheVariants as classes
+use Rattle.rina_report.specs.declared.answer.FlowNote.{FlowNote}
+use Rattle.rina_report.specs.declared.answer.Answer.{Answer}
+use Rattle.rina_report.specs.declared.answer.Answer.TheVariants as answers
 use Rattle.rina_report.specs.declared.note.Fault.{Fault}
 use Rattle.rina_report.specs.declared.note.Fault.TheVariants as faults
 use Rattle.rina_report.specs.declared.note.Note.{Note}
@@ -39,15 +39,15 @@ use Rattle.rina_report.specs.States.{why_fields, fail_fields, state_fields, memb
 use Rattle.rina_report.specs.Causes.{cause_word, cause_values, cause_fields}
 use Rattle.rina_report.specs.Steps.{took_fields, clock_fields}
 use Rattle.rina_report.specs.Refusals.{state_or_none, refusal_word, refusal_values, refusal_fields}
-use Rattle.rina_report.specs.Saids.{class_word, role_word, end_fields, flow_fields, said_fields}
+use Rattle.rina_report.specs.Answers.{class_word, role_word, end_fields, flow_fields, answer_fields}
 use Rattle.rina_report.specs.Notes.{fault_word, fault_values, told_fields}
 use Rattle.rina_report.specs.Fields.{max8, max32, max64, word_at}
 use Rattle.rina_report.specs.ReadStates.{why_of, why_at, gave_up_at, fail_of, fail_at, state_of, state_at}
 use Rattle.rina_report.specs.ReadCauses.{pdu_cause_of, cause_of, cause_at, took_of, took_at, clock_of, clock_at}
 use Rattle.rina_report.specs.ReadRefusals.{bare_of, state_or_none_of, state_or_none_at, shaped_of, numbered_of, counted_of, refusal_of, refusal_at}
-use Rattle.rina_report.specs.ReadSaids.{class_of, role_of, ok_state_of, ok_at, got_at, in_at, out_off_of, out_at, off_at, object_note_at, flow_note_at, entry_at, label_at, journal_word_at, step_word_at, said_at}
+use Rattle.rina_report.specs.ReadAnswers.{class_of, role_of, ok_state_of, ok_at, got_at, in_at, out_off_of, out_at, off_at, object_note_at, flow_note_at, entry_at, label_at, journal_word_at, step_word_at, answer_at}
 use Rattle.rina_report.specs.ReadNotes.{schedule_at, fault_of, fault_at, checked_at, named_at, gen_at, counter_at, told_at, line_note_at, whole_at, fields_note}
-use Rattle.rina_report.specs.Ranges.{IsNum, IsWhy, IsFail, IsState, IsMember, IsCause, IsTook, IsClock, IsStateOrNone, IsRefusal, IsFlow, IsSaid, IsFault, IsNote}
+use Rattle.rina_report.specs.Ranges.{IsNum, IsWhy, IsFail, IsState, IsMember, IsCause, IsTook, IsClock, IsStateOrNone, IsRefusal, IsFlow, IsAnswer, IsFault, IsNote}
 use Rattle.std.specs.List.{list_all}
 use Rattle.std.proofs.lemmas.Bool.{and_parts, eqb-true, false≢true}
 use Rattle.rina_schedule.specs.Numbers.{is_digit}
@@ -171,7 +171,7 @@ unfolding role_of role_word
 role_back roles.Asker = refl
 role_back roles.Far = refl
 
-ok_port_back : (state : StateNote) → IsState state → ok_at 1 (state_fields state) ≡ Ok (saids.Port state)
+ok_port_back : (state : StateNote) → IsState state → ok_at 1 (state_fields state) ≡ Ok (answers.Port state)
 unfolding ok_state_of state_of state_fields
 ok_port_back states.Pending h = refl
 ok_port_back states.Allocated h = refl
@@ -179,7 +179,7 @@ ok_port_back states.Closed h = refl
 ok_port_back (states.Refused why) h = rw (why_back 2 why h) refl
 ok_port_back (states.Failed fail) h = rw (fail_back 2 fail h) refl
 
-ok_member_back : (state : MemberNote) → IsMember state → ok_at 1 (member_fields state) ≡ Ok (saids.Member state)
+ok_member_back : (state : MemberNote) → IsMember state → ok_at 1 (member_fields state) ≡ Ok (answers.Member state)
 unfolding ok_state_of member_fields
 ok_member_back members.Outside h = refl
 ok_member_back (members.Joining link) h = rw (last_number_back max32 2 link (omega arith) h) refl
@@ -206,32 +206,32 @@ entry_back : (at : ℕ) (num : Num) (bytes : List ℕ) → (at ≤ max32) × IsN
 unfolding entry_at
 entry_back at num bytes h = rw (number_back max32 1 at (num_text num ∷ spelling bytes ∷ []) (omega arith) h.0, num_back 2 num (spelling bytes ∷ []) h.1, last_bytes_back 3 bytes h.2) refl
 
-abbrev pub said_by : List (List ℕ) → Result Said LineError
-said_by [] = Err errors.UnknownWord
-said_by (word ∷ fs) = said_at word fs
+abbrev pub answer_by : List (List ℕ) → Result Answer LineError
+answer_by [] = Err errors.UnknownWord
+answer_by (word ∷ fs) = answer_at word fs
 
-pub said_back : (x : Said) → IsSaid x → said_by (said_fields x) ≡ Ok x
-unfolding said_at step_word_at journal_word_at got_at in_at out_off_of out_at off_at object_note_at label_at said_fields flow_fields
-said_back saids.Done h = refl
-said_back (saids.Port state) h = ok_port_back state h
-said_back (saids.Member state) h = ok_member_back state h
-said_back saids.Nothing h = refl
-said_back (saids.Sent num) h = rw (last_num_back 1 num h) refl
-said_back (saids.Got at bytes) h = rw (number_back max32 1 at (spelling bytes ∷ []) (omega arith) h.0, last_bytes_back 2 bytes h.1) refl
-said_back (saids.In key end) h = rw (key_back 1 key (took_fields end) h.0, took_back 3 end h.1) refl
-said_back (saids.Out key) h = rw (key_back 1 key [] h) refl
-said_back (saids.OutOff key cause) h = rw (key_back 1 key (codes "off" ∷ cause_fields cause) h.0, cause_back 4 cause h.1) refl
-said_back (saids.Held why) h = rw (refusal_back 1 why h) refl
-said_back (saids.Clock step) h = rw (clock_back 1 step h) refl
-said_back saids.Idle h = refl
-said_back (saids.Cdap bytes) h = rw (last_bytes_back 1 bytes h) refl
-said_back (saids.Object name class value) h = rw (object_back 1 name (class_word class ∷ spelling value ∷ []) h.0, class_back class, last_bytes_back 3 value h.1) refl
-said_back (saids.Off key cause) h = rw (key_back 1 key (cause_fields cause) h.0, cause_back 3 cause h.1) refl
-said_back (saids.Flow end) h = rw (flow_note_back end h) refl
-said_back (saids.SentEntry at num bytes) h = rw (entry_back at num bytes h) refl
-said_back (saids.GotEntry at num bytes) h = rw (entry_back at num bytes h) refl
-said_back (saids.Refused why) h = rw (refusal_back 1 why h) refl
-said_back (saids.Label label state) h = rw (name_back 1 label (state_fields state) h.0, state_back 2 state h.1) refl
+pub answer_back : (x : Answer) → IsAnswer x → answer_by (answer_fields x) ≡ Ok x
+unfolding answer_at step_word_at journal_word_at got_at in_at out_off_of out_at off_at object_note_at label_at answer_fields flow_fields
+answer_back answers.Done h = refl
+answer_back (answers.Port state) h = ok_port_back state h
+answer_back (answers.Member state) h = ok_member_back state h
+answer_back answers.Nothing h = refl
+answer_back (answers.Sent num) h = rw (last_num_back 1 num h) refl
+answer_back (answers.Got at bytes) h = rw (number_back max32 1 at (spelling bytes ∷ []) (omega arith) h.0, last_bytes_back 2 bytes h.1) refl
+answer_back (answers.In key end) h = rw (key_back 1 key (took_fields end) h.0, took_back 3 end h.1) refl
+answer_back (answers.Out key) h = rw (key_back 1 key [] h) refl
+answer_back (answers.OutOff key cause) h = rw (key_back 1 key (codes "off" ∷ cause_fields cause) h.0, cause_back 4 cause h.1) refl
+answer_back (answers.Held why) h = rw (refusal_back 1 why h) refl
+answer_back (answers.Clock step) h = rw (clock_back 1 step h) refl
+answer_back answers.Idle h = refl
+answer_back (answers.Cdap bytes) h = rw (last_bytes_back 1 bytes h) refl
+answer_back (answers.Object name class value) h = rw (object_back 1 name (class_word class ∷ spelling value ∷ []) h.0, class_back class, last_bytes_back 3 value h.1) refl
+answer_back (answers.Off key cause) h = rw (key_back 1 key (cause_fields cause) h.0, cause_back 3 cause h.1) refl
+answer_back (answers.Flow end) h = rw (flow_note_back end h) refl
+answer_back (answers.SentEntry at num bytes) h = rw (entry_back at num bytes h) refl
+answer_back (answers.GotEntry at num bytes) h = rw (entry_back at num bytes h) refl
+answer_back (answers.Refused why) h = rw (refusal_back 1 why h) refl
+answer_back (answers.Label label state) h = rw (name_back 1 label (state_fields state) h.0, state_back 2 state h.1) refl
 
 fault_back : (m : ℕ) (x : Fault) → IsFault x → fault_at m (fault_word x ∷ fault_values x) ≡ Ok x
 unfolding fault_at fault_of schedule_at fault_word fault_values
@@ -252,7 +252,7 @@ counter_back x fs h = rw (numeral_back max32 x (omega arith) h) refl
 
 -- the fields of a note
 abbrev pub note_fields : Note → List (List ℕ)
-note_fields (notes.Line line tick said) = decimal line ∷ decimal tick ∷ said_fields said
+note_fields (notes.Line line tick answer) = decimal line ∷ decimal tick ∷ answer_fields answer
 note_fields (notes.End tick) = codes "end" ∷ decimal tick ∷ []
 note_fields (notes.Fault fault) = codes "fault" ∷ fault_word fault ∷ fault_values fault
 note_fields (notes.Checked nodes wires difs lines) = codes "checked" ∷ decimal nodes ∷ decimal wires ∷ decimal difs ∷ decimal lines ∷ []
@@ -267,22 +267,22 @@ no_word (d ∷ ds) c cs digits other = by_same (eqb d c) refl
     by_same true e = absurd (false≢true (sym other ∙ ap is_digit (sym (eqb-true d c e)) ∙ (and_parts (is_digit d) (list_all is_digit ds) digits).0))
     by_same false e = refl
 
-told_back : (line tick : ℕ) (fs : List (List ℕ)) (said : Said) → said_by fs ≡ Ok said → told_at line tick fs ≡ Ok (notes.Line line tick said)
-told_back line tick [] said e = absurd cc
-told_back line tick (word ∷ fs) said e = rw e refl
+told_back : (line tick : ℕ) (fs : List (List ℕ)) (answer : Answer) → answer_by fs ≡ Ok answer → told_at line tick fs ≡ Ok (notes.Line line tick answer)
+told_back line tick [] answer e = absurd cc
+told_back line tick (word ∷ fs) answer e = rw e refl
 
 pub note_back : (x : Note) → IsNote x → fields_note (note_fields x) ≡ Ok x
 unfolding whole_at line_note_at checked_at gen_at told_fields is_digit
-note_back (notes.Line line tick said) h =
+note_back (notes.Line line tick answer) h =
     let digits = (decimal_digits line (omega (arith, h.0))).0 in
     rw (
       no_word (decimal line) 101 (codes "nd") digits refl,
       no_word (decimal line) 102 (codes "ault") digits refl,
       no_word (decimal line) 99 (codes "hecked") digits refl,
       no_word (decimal line) 103 (codes "en") digits refl,
-      counter_back line (decimal tick ∷ said_fields said) h.0,
-      counter_back tick (said_fields said) h.1,
-    ) (told_back line tick (said_fields said) said (said_back said h.2))
+      counter_back line (decimal tick ∷ answer_fields answer) h.0,
+      counter_back tick (answer_fields answer) h.1,
+    ) (told_back line tick (answer_fields answer) answer (answer_back answer h.2))
 note_back (notes.End tick) h = rw (last_number_back max32 1 tick (omega arith) h) refl
 note_back (notes.Fault fault) h = rw (fault_back 1 fault h) refl
 note_back (notes.Checked nodes wires difs lines) h =

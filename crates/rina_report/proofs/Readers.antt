@@ -21,7 +21,7 @@ use Rattle.rina_schedule.specs.declared.error.LineError.TheVariants as errors
 use Rattle.rina_schedule.specs.Gives.{or_bad}
 use Rattle.rina_schedule.specs.Fields.{name_or_bad}
 use Rattle.rina_schedule.specs.Bytes.{printed_of}
-use Rattle.rina_schedule.specs.Objects.{is_object_name, object_name_of}
+use Rattle.rina_base.specs.ObjectNames.{is_object_name, object_name_of}
 use Rattle.rina_schedule.specs.Spelling.{spelling}
 use Rattle.rina_schedule.specs.Ranges.{IsName, IsApp, IsBytes}
 use Rattle.rina_schedule.proofs.Values.{name_reads, app_reads, name_bytes, printed_back, printed_is}

@@ -10,23 +10,23 @@ use Rattle.rina_schedule.specs.declared.error.LineError.{LineError}
 use Rattle.rina_schedule.specs.declared.error.LineError.TheVariants as errors
 use Rattle.rina_schedule.specs.Gives.{guard}
 use Rattle.rina_schedule.specs.Spelling.{spelling}
-use Rattle.rina_schedule.specs.Objects.{is_object_name}
+use Rattle.rina_base.specs.ObjectNames.{is_object_name}
 use Rattle.rina_schedule.specs.Ranges.{IsName, IsApp, IsBytes}
-use Rattle.rina_report.specs.declared.said.FlowNote.{FlowNote}
-use Rattle.rina_report.specs.declared.said.Said.{Said}
+use Rattle.rina_report.specs.declared.answer.FlowNote.{FlowNote}
+use Rattle.rina_report.specs.declared.answer.Answer.{Answer}
 use Rattle.rina_report.specs.declared.note.Fault.{Fault}
 use Rattle.rina_report.specs.declared.note.Note.{Note}
 use Rattle.rina_report.specs.Values.{num_text, flow_text, port_text, kind_word, key_text}
 use Rattle.rina_report.specs.States.{member_fields}
-use Rattle.rina_report.specs.Saids.{class_word, role_word, end_fields, flow_fields, said_fields}
+use Rattle.rina_report.specs.Answers.{class_word, role_word, end_fields, flow_fields, answer_fields}
 use Rattle.rina_report.specs.Notes.{fault_word, fault_values, told_fields}
 use Rattle.rina_report.specs.Fields.{max8, max32, max64, numeral_of, field_at, number_at, num_at, flow_at, key_at, port_at, name_field_at, app_field_at, object_at, word_at, last_number_at, last_two_at, last_num_at, last_bytes_at}
 use Rattle.rina_report.specs.ReadStates.{state_of, state_at}
 use Rattle.rina_report.specs.ReadCauses.{cause_at, took_at, clock_at}
 use Rattle.rina_report.specs.ReadRefusals.{refusal_at}
-use Rattle.rina_report.specs.ReadSaids.{class_of, role_of, ok_state_of, ok_at, got_at, in_at, out_off_of, out_end_at, out_at, off_at, object_note_at, flow_note_at, entry_at, label_at, journal_word_at, step_word_at, said_at}
+use Rattle.rina_report.specs.ReadAnswers.{class_of, role_of, ok_state_of, ok_at, got_at, in_at, out_off_of, out_end_at, out_at, off_at, object_note_at, flow_note_at, entry_at, label_at, journal_word_at, step_word_at, answer_at}
 use Rattle.rina_report.specs.ReadNotes.{schedule_at, fault_of, fault_at, checked_at, named_at, gen_at, counter_at, told_at, line_note_at, whole_at, fields_note}
-use Rattle.rina_report.specs.Ranges.{IsNum, IsFlowName, IsKey, IsPort, IsFlow, IsSaid, IsFault, IsNote}
+use Rattle.rina_report.specs.Ranges.{IsNum, IsFlowName, IsKey, IsPort, IsFlow, IsAnswer, IsFault, IsNote}
 use Rattle.rina_report.proofs.Numerals.{numeral_is}
 use Rattle.rina_report.proofs.Readers.{then, at_ok, word_is, itself, Reads, ReadsKey, ReadsLast, ReadsTwo, end_then, found_then, number_is, num_is, flow_is, key_is, port_is, name_is, app_is, object_is, last_number_is, last_two_is, last_num_is, last_bytes_is}
 use Rattle.rina_report.proofs.Printed.{note_fields}
@@ -77,14 +77,14 @@ field_read n (f ∷ fs) x e = same (f, fs) x e
         ok_is : (a b : List ℕ × List (List ℕ)) → ◌≡◌ {A = Result (List ℕ × List (List ℕ)) LineError} (Ok a) (Ok b) → a ≡ b
         ok_is a b e = cc
 
-abbrev SpellsSaid : List (List ℕ) → Said → Type 0
-SpellsSaid fs x = (fs ≡ said_fields x) × IsSaid x
+abbrev SpellsAnswer : List (List ℕ) → Answer → Type 0
+SpellsAnswer fs x = (fs ≡ answer_fields x) × IsAnswer x
 
-abbrev SpellsBehind : List ℕ → List (List ℕ) → Said → Type 0
-SpellsBehind word fs x = (word ∷ fs ≡ said_fields x) × IsSaid x
+abbrev SpellsBehind : List ℕ → List (List ℕ) → Answer → Type 0
+SpellsBehind word fs x = (word ∷ fs ≡ answer_fields x) × IsAnswer x
 
 ok_state_is : (word : List ℕ) (n : ℕ) (fs : List (List ℕ)) → Holds (SpellsBehind (codes "ok") (word ∷ fs)) (ok_state_of word n fs)
-unfolding ok_state_of said_fields member_fields
+unfolding ok_state_of answer_fields member_fields
 ok_state_is word n fs =
     let P = SpellsBehind (codes "ok") (word ∷ fs) in
     word_then word (codes "outside") _ _ (λ e. end_then (n + 1) fs _ P (λ d. (cons refl (cons e d), tt))) (
@@ -94,12 +94,12 @@ ok_state_is word n fs =
     record { is = step P (state_of word n fs) _ (SpellsState (word ∷ fs)) (state_of_is word n fs).is (λ x h. (cons refl h.0, h.1)) }))))
 
 ok_is : (fs : List (List ℕ)) → IfOk (ok_at 1 fs) (SpellsBehind (codes "ok") fs)
-unfolding said_fields
+unfolding answer_fields
 ok_is [] = (refl, tt)
 ok_is (f ∷ fs) = (ok_state_is f 1 fs).is
 
 got_is : (n : ℕ) (fs : List (List ℕ)) → IfOk (got_at n fs) (SpellsBehind (codes "got") fs)
-unfolding got_at said_fields
+unfolding got_at answer_fields
 got_is n fs =
     let P = SpellsBehind (codes "got") fs in
     then P (number_at max32 n fs) _ (λ at e.
@@ -107,7 +107,7 @@ got_is n fs =
     (let a = number_read n fs at e in (cons refl (a.0 ∙ cons refl h.0), (a.1, h.1)))))
 
 in_is : (n : ℕ) (fs : List (List ℕ)) → IfOk (in_at n fs) (SpellsBehind (codes "in") fs)
-unfolding in_at said_fields
+unfolding in_at answer_fields
 in_is n fs =
     let P = SpellsBehind (codes "in") fs in
     then P (key_at n fs) _ (λ key e.
@@ -115,23 +115,23 @@ in_is n fs =
     (let a = key_read n fs key e in (cons refl (a.0 ∙ cons refl (cons refl h.0)), (a.1, h.1)))))
 
 off_is : (n : ℕ) (fs : List (List ℕ)) → IfOk (off_at n fs) (SpellsBehind (codes "off") fs)
-unfolding off_at said_fields
+unfolding off_at answer_fields
 off_is n fs =
     let P = SpellsBehind (codes "off") fs in
     then P (key_at n fs) _ (λ key e.
     step P (cause_at (n + 2) key.1) _ (SpellsCause key.1) (cause_is (n + 2) key.1) (λ cause h.
     (let a = key_read n fs key e in (cons refl (a.0 ∙ cons refl (cons refl h.0)), (a.1, h.1)))))
 
-abbrev SpellsOut : Key → List (List ℕ) → Said → Type 0
-SpellsOut key fs x = (codes "out" ∷ kind_word key.kind ∷ key_text key ∷ fs ≡ said_fields x) × (IsKey key → IsSaid x)
+abbrev SpellsOut : Key → List (List ℕ) → Answer → Type 0
+SpellsOut key fs x = (codes "out" ∷ kind_word key.kind ∷ key_text key ∷ fs ≡ answer_fields x) × (IsKey key → IsAnswer x)
 
 out_off_is : (key : Key) (word : List ℕ) (n : ℕ) (fs : List (List ℕ)) → Holds (SpellsOut key (word ∷ fs)) (out_off_of key word n fs)
-unfolding out_off_of said_fields
+unfolding out_off_of answer_fields
 out_off_is key word n fs =
     word_then word (codes "off") _ _ (λ e. step (SpellsOut key (word ∷ fs)) (cause_at (n + 1) fs) _ (SpellsCause fs) (cause_is (n + 1) fs) (λ x h. (cons refl (cons refl (cons refl (cons e h.0))), λ k. (k, h.1)))) failed
 
 out_end_is : (key : Key) (n : ℕ) (fs : List (List ℕ)) → IfOk (out_end_at key n fs) (SpellsOut key fs)
-unfolding said_fields
+unfolding answer_fields
 out_end_is key n [] = (refl, λ k. k)
 out_end_is key n (f ∷ fs) = (out_off_is key f n fs).is
 
@@ -144,7 +144,7 @@ out_is n fs =
     (let a = key_read n fs key e in (cons refl a.0 ∙ h.0, h.1 a.1))))
 
 object_note_is : (n : ℕ) (fs : List (List ℕ)) → IfOk (object_note_at n fs) (SpellsBehind (codes "obj") fs)
-unfolding object_note_at said_fields
+unfolding object_note_at answer_fields
 object_note_is n fs =
     let P = SpellsBehind (codes "obj") fs in
     then P (object_at n fs) _ (λ name e.
@@ -196,7 +196,7 @@ entry_is n fs =
     (a.0 ∙ cons refl (b.0 ∙ cons refl h.0), a.1, b.1, h.1))))
 
 label_is : (n : ℕ) (fs : List (List ℕ)) → IfOk (label_at n fs) (SpellsBehind (codes "state") fs)
-unfolding label_at said_fields
+unfolding label_at answer_fields
 label_is n fs =
     let P = SpellsBehind (codes "state") fs in
     then P (name_field_at n fs) _ (λ label e.
@@ -205,23 +205,23 @@ label_is n fs =
     (cons refl (a.0 ∙ cons refl h.0), (a.1, h.1))))
 
 -- a reader of what stands behind a word
-behind : (word other : List ℕ) (fs : List (List ℕ)) (r : Result Said LineError) → IfOk r (SpellsBehind other fs) → word ≡ other → IfOk r (SpellsSaid (word ∷ fs))
-behind word other fs r h e = weaken r (SpellsBehind other fs) (SpellsSaid (word ∷ fs)) h (λ x g. (cons e refl ∙ g.0, g.1))
+behind : (word other : List ℕ) (fs : List (List ℕ)) (r : Result Answer LineError) → IfOk r (SpellsBehind other fs) → word ≡ other → IfOk r (SpellsAnswer (word ∷ fs))
+behind word other fs r h e = weaken r (SpellsBehind other fs) (SpellsAnswer (word ∷ fs)) h (λ x g. (cons e refl ∙ g.0, g.1))
 
-journal_word_is : (word : List ℕ) (fs : List (List ℕ)) → Holds (SpellsSaid (word ∷ fs)) (journal_word_at word fs)
-unfolding journal_word_at said_fields
+journal_word_is : (word : List ℕ) (fs : List (List ℕ)) → Holds (SpellsAnswer (word ∷ fs)) (journal_word_at word fs)
+unfolding journal_word_at answer_fields
 journal_word_is word fs =
-    let P = SpellsSaid (word ∷ fs) in
+    let P = SpellsAnswer (word ∷ fs) in
     word_then word (codes "cdap") _ _ (λ e. step P (last_bytes_at 1 fs) _ (ReadsLast spelling IsBytes fs) (last_bytes_is 1 fs) (λ x h. (cons e h.0, h.1))) (
     word_then word (codes "obj") _ _ (λ e. behind word (codes "obj") fs (object_note_at 1 fs) (object_note_is 1 fs) e) (
     word_then word (codes "flow") _ _ (λ e. step P (flow_note_at 1 fs) _ (λ x. (codes "flow" ∷ fs ≡ flow_fields x) × IsFlow x) (flow_note_is 1 fs) (λ x h. (cons e refl ∙ h.0, h.1))) (
     word_then word (codes "s") _ _ (λ e. step P (entry_at 1 fs) _ (SpellsEntry fs) (entry_is 1 fs) (λ x h. (cons e h.0, (h.1, h.2, h.3)))) (
     word_then word (codes "g") _ _ (λ e. step P (entry_at 1 fs) _ (SpellsEntry fs) (entry_is 1 fs) (λ x h. (cons e h.0, (h.1, h.2, h.3)))) failed))))
 
-step_word_is : (word : List ℕ) (fs : List (List ℕ)) → Holds (SpellsSaid (word ∷ fs)) (step_word_at word fs)
-unfolding step_word_at said_fields
+step_word_is : (word : List ℕ) (fs : List (List ℕ)) → Holds (SpellsAnswer (word ∷ fs)) (step_word_at word fs)
+unfolding step_word_at answer_fields
 step_word_is word fs =
-    let P = SpellsSaid (word ∷ fs) in
+    let P = SpellsAnswer (word ∷ fs) in
     word_then word (codes "in") _ _ (λ e. behind word (codes "in") fs (in_at 1 fs) (in_is 1 fs) e) (
     word_then word (codes "out") _ _ (λ e. behind word (codes "out") fs (out_at 1 fs) (out_is 1 fs) e) (
     word_then word (codes "held") _ _ (λ e. step P (refusal_at 1 fs) _ (SpellsRefusal fs) (refusal_is 1 fs) (λ x h. (cons e h.0, h.1))) (
@@ -229,10 +229,10 @@ step_word_is word fs =
     word_then word (codes "idle") _ _ (λ e. end_then 1 fs _ P (λ d. (cons e d, tt))) (
     word_then word (codes "off") _ _ (λ e. behind word (codes "off") fs (off_at 1 fs) (off_is 1 fs) e) (journal_word_is word fs))))))
 
-said_is : (word : List ℕ) (fs : List (List ℕ)) → Holds (SpellsSaid (word ∷ fs)) (said_at word fs)
-unfolding said_at said_fields
-said_is word fs =
-    let P = SpellsSaid (word ∷ fs) in
+answer_is : (word : List ℕ) (fs : List (List ℕ)) → Holds (SpellsAnswer (word ∷ fs)) (answer_at word fs)
+unfolding answer_at answer_fields
+answer_is word fs =
+    let P = SpellsAnswer (word ∷ fs) in
     word_then word (codes "ok") _ _ (λ e. behind word (codes "ok") fs (ok_at 1 fs) (ok_is fs) e) (
     word_then word (codes "none") _ _ (λ e. end_then 1 fs _ P (λ d. (cons e d, tt))) (
     word_then word (codes "sent") _ _ (λ e. step P (last_num_at 1 fs) _ (ReadsLast num_text IsNum fs) (last_num_is 1 fs) (λ x h. (cons e h.0, h.1))) (
@@ -338,7 +338,7 @@ counter_is (f ∷ fs) = found_then (numeral_of max32 f) errors.UnknownWord _ (Re
 
 told_is : (line tick : ℕ) (fs : List (List ℕ)) → line ≤ max32 → tick ≤ max32 → IfOk (told_at line tick fs) (SpellsNote (decimal line ∷ decimal tick ∷ fs))
 told_is line tick [] hl ht = tt
-told_is line tick (word ∷ fs) hl ht = step (SpellsNote (decimal line ∷ decimal tick ∷ word ∷ fs)) (said_at word fs) _ (SpellsSaid (word ∷ fs)) (said_is word fs).is (λ x h. (cons refl (cons refl h.0), (hl, ht, h.1)))
+told_is line tick (word ∷ fs) hl ht = step (SpellsNote (decimal line ∷ decimal tick ∷ word ∷ fs)) (answer_at word fs) _ (SpellsAnswer (word ∷ fs)) (answer_is word fs).is (λ x h. (cons refl (cons refl h.0), (hl, ht, h.1)))
 
 line_note_is : (fs : List (List ℕ)) → IfOk (line_note_at fs) (SpellsNote fs)
 unfolding line_note_at

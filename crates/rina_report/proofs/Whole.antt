@@ -15,7 +15,7 @@ use Rattle.rina_report.proofs.Told.{fields_is}
 -- the fields of a note's text
 text_fields : (x : Note) → IsNote x → fields_of (note_text x) ≡ note_fields x
 unfolding note_text
-text_fields (notes.Line line tick said) h = fields_back _ _ (note_clear (notes.Line line tick said) h)
+text_fields (notes.Line line tick answer) h = fields_back _ _ (note_clear (notes.Line line tick answer) h)
 text_fields (notes.End tick) h = fields_back _ _ (note_clear (notes.End tick) h)
 text_fields (notes.Fault fault) h = fields_back _ _ (note_clear (notes.Fault fault) h)
 text_fields (notes.Checked nodes wires difs lines) h = fields_back _ _ (note_clear (notes.Checked nodes wires difs lines) h)
@@ -27,7 +27,7 @@ text_back x h = ap fields_note (text_fields x h) ∙ note_back x h
 
 fields_text : (x : Note) (text : List ℕ) → fields_of text ≡ note_fields x → text ≡ note_text x
 unfolding note_text
-fields_text (notes.Line line tick said) text e = fields_are text _ _ e
+fields_text (notes.Line line tick answer) text e = fields_are text _ _ e
 fields_text (notes.End tick) text e = fields_are text _ _ e
 fields_text (notes.Fault fault) text e = fields_are text _ _ e
 fields_text (notes.Checked nodes wires difs lines) text e = fields_are text _ _ e

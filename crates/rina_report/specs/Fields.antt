@@ -16,7 +16,7 @@ use Rattle.rina_schedule.specs.Gives.{or_bad, guard}
 use Rattle.rina_schedule.specs.Fields.{name_or_bad}
 use Rattle.rina_schedule.specs.Numbers.{is_digit}
 use Rattle.rina_schedule.specs.Bytes.{printed_of}
-use Rattle.rina_schedule.specs.Objects.{object_name_of}
+use Rattle.rina_base.specs.ObjectNames.{object_name_of}
 use Rattle.rina_report.specs.declared.state.PortNote.{PortNote}
 
 abbrev pub onto : ℕ → List (List ℕ) → List (List ℕ)

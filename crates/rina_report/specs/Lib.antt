@@ -5,10 +5,10 @@ pub mod Ranges
 pub mod ReadCauses
 pub mod ReadNotes
 pub mod ReadRefusals
-pub mod ReadSaids
+pub mod ReadAnswers
 pub mod ReadStates
 pub mod Refusals
-pub mod Saids
+pub mod Answers
 pub mod States
 pub mod Steps
 pub mod Values

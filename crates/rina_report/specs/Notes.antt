@@ -7,7 +7,7 @@ use Rattle.rina_report.specs.declared.note.Fault.{Fault}
 use Rattle.rina_report.specs.declared.note.Fault.TheVariants as faults
 use Rattle.rina_report.specs.declared.note.Note.{Note}
 use Rattle.rina_report.specs.declared.note.Note.TheVariants as notes
-use Rattle.rina_report.specs.Saids.{said_fields}
+use Rattle.rina_report.specs.Answers.{answer_fields}
 
 -- the name of a fault
 unfoldable pub fault_word : Fault → List ℕ
@@ -33,7 +33,7 @@ told_fields sent got refused off failed =
 
 -- a note without the end of its line
 unfoldable pub note_text : Note → List ℕ
-note_text (notes.Line line tick said) = decimal line ++ spaced (decimal tick ∷ said_fields said)
+note_text (notes.Line line tick answer) = decimal line ++ spaced (decimal tick ∷ answer_fields answer)
 note_text (notes.End tick) = codes "end" ++ spaced (decimal tick ∷ [])
 note_text (notes.Fault fault) = codes "fault" ++ spaced (fault_word fault ∷ fault_values fault)
 note_text (notes.Checked nodes wires difs lines) = codes "checked" ++ spaced (decimal nodes ∷ decimal wires ∷ decimal difs ∷ decimal lines ∷ [])

@@ -5,7 +5,7 @@ use Rattle.rina_base.specs.declared.number.FlowName.{FlowName}
 use Rattle.rina_base.specs.declared.number.Key.{Key}
 use Rattle.rina_iface.specs.declared.state.Why.{Why}
 use Rattle.rina_iface.specs.declared.state.Why.TheVariants as whys
-use Rattle.rina_schedule.specs.Objects.{is_object_name}
+use Rattle.rina_base.specs.ObjectNames.{is_object_name}
 use Rattle.rina_schedule.specs.Ranges.{IsName, IsApp, IsBytes}
 use Rattle.rina_report.specs.declared.state.PortNote.{PortNote}
 use Rattle.rina_report.specs.declared.state.FailNote.{FailNote}
@@ -22,9 +22,9 @@ use Rattle.rina_report.specs.declared.step.ClockNote.{ClockNote}
 use Rattle.rina_report.specs.declared.step.ClockNote.TheVariants as clocks
 use Rattle.rina_report.specs.declared.refusal.Refusal.{Refusal}
 use Rattle.rina_report.specs.declared.refusal.Refusal.TheVariants as refusals
-use Rattle.rina_report.specs.declared.said.FlowNote.{FlowNote}
-use Rattle.rina_report.specs.declared.said.Said.{Said}
-use Rattle.rina_report.specs.declared.said.Said.TheVariants as saids
+use Rattle.rina_report.specs.declared.answer.FlowNote.{FlowNote}
+use Rattle.rina_report.specs.declared.answer.Answer.{Answer}
+use Rattle.rina_report.specs.declared.answer.Answer.TheVariants as answers
 use Rattle.rina_report.specs.declared.note.Fault.{Fault}
 use Rattle.rina_report.specs.declared.note.Fault.TheVariants as faults
 use Rattle.rina_report.specs.declared.note.Note.{Note}
@@ -128,27 +128,27 @@ IsRefusal _ = Unit {0}
 abbrev pub IsFlow : FlowNote → Type 0
 IsFlow e = IsFlowName e.flow × IsPort e.port × IsApp e.app × IsApp e.peer × (e.cube ≤ max8) × (e.taken ≤ max64) × IsState e.state
 
-abbrev pub IsSaid : Said → Type 0
-IsSaid saids.Done = Unit {0}
-IsSaid (saids.Port state) = IsState state
-IsSaid (saids.Member state) = IsMember state
-IsSaid saids.Nothing = Unit {0}
-IsSaid (saids.Sent num) = IsNum num
-IsSaid (saids.Got at bytes) = (at ≤ max32) × IsBytes bytes
-IsSaid (saids.In key end) = IsKey key × IsTook end
-IsSaid (saids.Out key) = IsKey key
-IsSaid (saids.OutOff key cause) = IsKey key × IsCause cause
-IsSaid (saids.Held why) = IsRefusal why
-IsSaid (saids.Clock step) = IsClock step
-IsSaid saids.Idle = Unit {0}
-IsSaid (saids.Cdap bytes) = IsBytes bytes
-IsSaid (saids.Object name class value) = (is_object_name name ≡ true) × IsBytes value
-IsSaid (saids.Off key cause) = IsKey key × IsCause cause
-IsSaid (saids.Flow end) = IsFlow end
-IsSaid (saids.SentEntry at num bytes) = (at ≤ max32) × IsNum num × IsBytes bytes
-IsSaid (saids.GotEntry at num bytes) = (at ≤ max32) × IsNum num × IsBytes bytes
-IsSaid (saids.Refused why) = IsRefusal why
-IsSaid (saids.Label label state) = IsName label × IsState state
+abbrev pub IsAnswer : Answer → Type 0
+IsAnswer answers.Done = Unit {0}
+IsAnswer (answers.Port state) = IsState state
+IsAnswer (answers.Member state) = IsMember state
+IsAnswer answers.Nothing = Unit {0}
+IsAnswer (answers.Sent num) = IsNum num
+IsAnswer (answers.Got at bytes) = (at ≤ max32) × IsBytes bytes
+IsAnswer (answers.In key end) = IsKey key × IsTook end
+IsAnswer (answers.Out key) = IsKey key
+IsAnswer (answers.OutOff key cause) = IsKey key × IsCause cause
+IsAnswer (answers.Held why) = IsRefusal why
+IsAnswer (answers.Clock step) = IsClock step
+IsAnswer answers.Idle = Unit {0}
+IsAnswer (answers.Cdap bytes) = IsBytes bytes
+IsAnswer (answers.Object name class value) = (is_object_name name ≡ true) × IsBytes value
+IsAnswer (answers.Off key cause) = IsKey key × IsCause cause
+IsAnswer (answers.Flow end) = IsFlow end
+IsAnswer (answers.SentEntry at num bytes) = (at ≤ max32) × IsNum num × IsBytes bytes
+IsAnswer (answers.GotEntry at num bytes) = (at ≤ max32) × IsNum num × IsBytes bytes
+IsAnswer (answers.Refused why) = IsRefusal why
+IsAnswer (answers.Label label state) = IsName label × IsState state
 
 abbrev pub IsFault : Fault → Type 0
 IsFault (faults.Usage word) = word ≤ max32
@@ -159,7 +159,7 @@ IsFault (faults.Schedule line n field) = (line ≤ max32) × (n ≤ max32) × (f
 IsFault faults.ReadFault = Unit {0}
 
 abbrev pub IsNote : Note → Type 0
-IsNote (notes.Line line tick said) = (line ≤ max32) × (tick ≤ max32) × IsSaid said
+IsNote (notes.Line line tick answer) = (line ≤ max32) × (tick ≤ max32) × IsAnswer answer
 IsNote (notes.End tick) = tick ≤ max32
 IsNote (notes.Fault fault) = IsFault fault
 IsNote (notes.Checked nodes wires difs lines) = (nodes ≤ max32) × (wires ≤ max32) × (difs ≤ max32) × (lines ≤ max32)

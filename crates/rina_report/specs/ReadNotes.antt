@@ -10,7 +10,7 @@ use Rattle.rina_report.specs.declared.note.Fault.TheVariants as faults
 use Rattle.rina_report.specs.declared.note.Note.{Note}
 use Rattle.rina_report.specs.declared.note.Note.TheVariants as notes
 use Rattle.rina_report.specs.Fields.{fields_of, max32, numeral_of, field_at, end_at, number_at, word_at, last_number_at, last_two_at}
-use Rattle.rina_report.specs.ReadSaids.{said_at}
+use Rattle.rina_report.specs.ReadAnswers.{answer_at}
 
 -- LINE N FIELD
 unfoldable pub schedule_at : ℕ → List (List ℕ) → Result Fault LineError
@@ -70,7 +70,7 @@ counter_at (f ∷ fs) = or_bad errors.UnknownWord (numeral_of max32 f) >>= λ x.
 
 abbrev pub told_at : ℕ → ℕ → List (List ℕ) → Result Note LineError
 told_at line tick [] = Err errors.UnknownWord
-told_at line tick (word ∷ fs) = said_at word fs >>= λ said. Ok (notes.Line line tick said)
+told_at line tick (word ∷ fs) = answer_at word fs >>= λ answer. Ok (notes.Line line tick answer)
 
 -- LINE TICK, the word, and its fields
 unfoldable pub line_note_at : List (List ℕ) → Result Note LineError

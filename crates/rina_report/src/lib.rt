@@ -1,24 +1,24 @@
 //! Notes: what a run tells, each of them one line of text.
 #![tactic(auto)]
 
+mod answer;
 mod cause;
 mod laws;
 mod note;
 mod print;
 mod read;
 mod refusal;
-mod said;
 mod state;
 mod step;
 #[cfg(test)]
 mod tests;
 
+pub use answer::{Answer, ClassNote, FlowNote};
 pub use cause::CauseNote;
 pub use laws::{what_is_printed_is_read, what_is_read_is_printed};
 pub use note::{Fault, Note, Notes};
 pub use print::{add_line, print_note};
 pub use read::read_note;
 pub use refusal::Refusal;
-pub use said::{ClassNote, FlowNote, Said};
 pub use state::{FailNote, MemberNote, PortNote, StateNote};
 pub use step::{ClockNote, TookNote};

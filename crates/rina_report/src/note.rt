@@ -1,5 +1,5 @@
 //! The notes of a run.
-use crate::said::Said;
+use crate::answer::Answer;
 use rina_base::{Seq, Tick};
 
 /// Why a run ended before its last line.
@@ -26,7 +26,7 @@ pub enum Note {
     Line {
         line: u32,
         tick: Tick,
-        said: Said,
+        answer: Answer,
     },
     /// The run ended at this tick.
     End {

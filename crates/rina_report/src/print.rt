@@ -1,9 +1,9 @@
 //! Notes as text: exact spelling, one function for each kind of value.
 
+mod answer;
 mod cause;
 mod note;
 mod refusal;
-mod said;
 mod state;
 mod step;
 mod value;

@@ -1,4 +1,4 @@
-use crate::{Note, Said, print_note, read_note};
+use crate::{Answer, Note, print_note, read_note};
 use rina_schedule::LineError;
 use std::alloc::Global;
 
@@ -31,7 +31,7 @@ fn the_first_run_begins_and_ends_so(rt: HostRuntime) {
     let begins = Note::Line {
         line: 1,
         tick: 0,
-        said: Said::Done,
+        answer: Answer::Done,
     };
     assert!(rt; prints(rt.alloc(), &begins, b"1 0 ok"));
     assert!(rt; prints(rt.alloc(), &Note::End { tick: 2 }, b"end 2"));

@@ -8,7 +8,7 @@ use Rattle.std.specs.Cmp.Lexicographic.{slice_cmp}
 use Rattle.std.specs.Map.{lookup, remove_entry, set_value, keys_of}
 use Rattle.std.specs.List.Sorted.{IsStrictlySortedBy}
 use Rattle.std.specs.BTreeMap.{is_at, insert_entry}
-use Rattle.rina_rib.specs.Classes.{is_folder}
+use Rattle.rina_base.specs.Classes.{is_folder}
 use Rattle.rina_rib.specs.Names.{parent_of, is_child}
 use Rattle.rina_rib.specs.Things.{Thing, switched, with_value}
 

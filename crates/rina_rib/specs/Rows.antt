@@ -1,12 +1,12 @@
 -- What each operation on objects does, and when it is refused. Refusals are tried in the order of their numbers.
 use Rattle.std.specs.Prelude.{◌≡◌, ℕ, ◌+◌, ◌-◌, ◌^◌, Bool, true, false, not, ◌||◌, ◌&&◌, min, List, [], ◌∷◌, Option, Some, None, is_some, Result, Ok, Err, codes, if◌then◌else◌}
-use Rattle.rina_rib.specs.declared.class.Class.{Class}
-use Rattle.rina_rib.specs.declared.class.Class.TheVariants.{Folder}
+use Rattle.rina_base.specs.declared.class.Class.{Class}
+use Rattle.rina_base.specs.declared.class.Class.TheVariants.{Folder}
 use Rattle.rina_rib.specs.declared.error.RibError.{RibError}
 use Rattle.rina_rib.specs.declared.error.RibError.TheVariants.{Memory, NoObject, Exists, NoParent, HasChildren, WrongClass, NotAllowed}
 use Rattle.rina_rib.specs.declared.caller.Caller.{Caller}
 use Rattle.rina_rib.specs.declared.caller.Caller.TheVariants.{Own, Cdap}
-use Rattle.rina_rib.specs.Classes.{is_folder, is_cube, is_flow, is_service, same_class}
+use Rattle.rina_base.specs.Classes.{is_folder, is_cube, is_flow, is_service, same_class}
 use Rattle.rina_rib.specs.Names.{is_below, is_within}
 use Rattle.rina_rib.specs.Things.{Thing, thing, made_value, switched, with_value}
 use Rattle.rina_rib.specs.Objects.{Named, object_at, with_object, without_object, changed_object, has_child, has_folder}

@@ -1,8 +1,8 @@
 -- Objects.
 use Rattle.std.specs.Prelude.{ℕ, Bool, true, false, List, codes, if◌then◌else◌}
-use Rattle.rina_rib.specs.declared.class.Class.{Class}
+use Rattle.rina_base.specs.declared.class.Class.{Class}
 use Rattle.rina_rib.specs.declared.object.Object.{Object}
-use Rattle.rina_rib.specs.Classes.{is_service}
+use Rattle.rina_base.specs.Classes.{is_service}
 
 -- an object
 pub record Thing : Type 0 where

@@ -2,8 +2,8 @@
 ghost use Rattle.std.specs.Prelude.{◌≡◌};
 ghost use Rattle.rina_rib.specs.Rows.{is_foreign, is_outside, is_own, is_cdap};
 
-use crate::class::Class;
 use crate::names::{is_at_or_under, is_under};
+use rina_base::Class;
 
 /// Who asks for an operation: the member itself, or a CDAP message.
 #[derive(Clone, Copy, Debug, PartialEq, Eq)]

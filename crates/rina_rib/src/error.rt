@@ -1,5 +1,5 @@
 //! Why an operation on objects is refused.
-use crate::class::Class;
+use rina_base::Class;
 use std::alloc::AllocError;
 
 /// Why an operation on objects is refused. They are tried in this order.

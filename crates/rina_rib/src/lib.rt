@@ -2,7 +2,6 @@
 #![tactic(auto)]
 
 mod caller;
-mod class;
 mod error;
 mod names;
 mod object;
@@ -11,10 +10,10 @@ mod rib;
 mod walk;
 
 pub use caller::Caller;
-pub use class::Class;
 pub use error::RibError;
 pub use object::Object;
 pub use rib::Rib;
+pub use rina_base::Class;
 pub use walk::Walk;
 
 #[cfg(test)]

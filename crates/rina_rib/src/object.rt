@@ -2,8 +2,7 @@
 ghost use Rattle.std.specs.Prelude.{◌≡◌};
 ghost use Rattle.rina_rib.specs.Things.{thing, thing_of, switched};
 
-use crate::class::Class;
-use rina_base::Bytes;
+use rina_base::{Bytes, Class};
 use std::alloc::AllocError;
 use std::marker::Model;
 

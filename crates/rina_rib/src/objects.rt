@@ -5,10 +5,9 @@ ghost use Rattle.std.specs.BTreeMap.{keys};
 ghost use Rattle.rina_rib.specs.Names.{is_child};
 ghost use Rattle.rina_rib.specs.Objects.{seen, object_at, with_object, without_object, has_child, has_folder, switched_at, rewritten_at};
 
-use crate::class::Class;
 use crate::names::{is_child_of, parent};
 use crate::object::Kept;
-use rina_base::{Bytes, Memory};
+use rina_base::{Bytes, Class, Memory};
 use std::alloc::AllocError;
 use std::collections::BTreeMap;
 

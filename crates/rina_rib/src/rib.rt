@@ -1,20 +1,19 @@
 //! The objects of one IPC process.
 ghost use Rattle.std.specs.Prelude.{◌≡◌, true, false, IfErr, IfOk, OnOk, OnErr, MatchResult};
-ghost use Rattle.rina_cdap.specs.ObjectNames.{IsObjectName};
+ghost use Rattle.rina_base.specs.ObjectNames.{IsObjectName};
 ghost use Rattle.rina_rib.specs.declared.error.RibError.TheVariants as errors;
 ghost use Rattle.rina_rib.specs.Things.{thing, made_value};
 ghost use Rattle.rina_rib.specs.Objects.{seen, with_object};
 ghost use Rattle.rina_rib.specs.Rows.{folder};
 
 use crate::caller::{Caller, is_foreign_to, is_outside_of, is_own_of};
-use crate::class::Class;
 use crate::error::RibError;
 use crate::object::{Kept, Object};
 use crate::objects::{
     Objects, copy_of, find, has_children, has_parent, put, rewrite, switch, take_out,
 };
 use crate::walk::Walk;
-use rina_base::{Bytes, Memory};
+use rina_base::{Bytes, Class, Memory};
 use std::alloc::Global;
 use std::collections::BTreeMap;
 use std::marker::Model;

@@ -1,5 +1,5 @@
 use super::*;
-use rina_cdap::is_object_name;
+use rina_base::is_object_name;
 use std::alloc::Global;
 use std::process::Abort;
 use std::test::*;

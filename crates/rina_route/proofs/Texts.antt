@@ -7,7 +7,7 @@ use Rattle.std.proofs.lemmas.Bool.Decides.{nat_tests}
 use Rattle.std.proofs.lemmas.Grind.{common_steps}
 use Rattle.rina_graph.specs.declared.graph.Edge.{Edge}
 use Rattle.rina_newest.specs.declared.item.Item.{Item}
-use Rattle.rina_newest.specs.Decimal.{address_at}
+use Rattle.rina_base.specs.Decimals.{decimal_of, number_of}
 use Rattle.rina_newest.specs.Newest.{items_under}
 use Rattle.rina_route.specs.declared.link.Link.{Link}
 use Rattle.rina_route.specs.Nodes.{HaveWeights}
@@ -30,7 +30,7 @@ no_weight from None = refl
 no_weight from (Some there) = refl
 
 empty_weight : weight_at [] ≡ None
-unfolding address_at
+unfolding decimal_of
 empty_weight = refl
 
 past_by : (part : List ℕ) (at : ℕ) (b : Bool) → nat_lt at (length part) ≡ b → None ≡ cond b (Some at) None → length part ≤ at
@@ -43,7 +43,7 @@ no_colon from part is =
     let at : ℕ = position_or_len (λ b. b == 58) part in
     let le : length part ≤ at = past_by part at (nat_lt at (length part)) refl is in
     let rest : after_first (λ b. b == 58) part ≡ [] = drop_all (at + 1) part (omega (arith, le)) in
-    ap (λ t. edge_at from (before_first (λ b. b == 58) part) t) rest ∙ ap (λ w. option_and_then (λ there. option_map (λ v. edge from there v) w) (address_at (before_first (λ b. b == 58) part))) empty_weight ∙ no_weight from (address_at (before_first (λ b. b == 58) part))
+    ap (λ t. edge_at from (before_first (λ b. b == 58) part) t) rest ∙ ap (λ w. option_and_then (λ there. option_map (λ v. edge from there v) w) (number_of (before_first (λ b. b == 58) part))) empty_weight ∙ no_weight from (number_of (before_first (λ b. b == 58) part))
 
 -- ---- one more item
 pub claims_more : {A : Type 0} (f : Item → List Edge) (view : A → Item) (xs : List A) (i : ℕ) (x : A) (old made new : List Edge) → i < length xs → x ≡ get_or xs i x → made ≡ f (view x) → new ≡ old ++ made → old ≡ flat_map f (take i (map view xs)) → new ≡ flat_map f (take (i + 1) (map view xs))
@@ -87,11 +87,11 @@ edge_weight from there (Some v) e some h =
 
 edge_weight_by : (from : ℕ) (to : Option ℕ) (text : List ℕ) (e : Edge) → option_and_then (λ there. option_map (λ w. edge from there w) (weight_at text)) to ≡ Some e → 1 ≤ e.weight
 edge_weight_by from None text e h = absurd cc
-edge_weight_by from (Some there) text e h = edge_weight from there (weight_at text) e (λ v is. weight_by (address_at text) v is) h
+edge_weight_by from (Some there) text e h = edge_weight from there (weight_at text) e (λ v is. weight_by (number_of text) v is) h
 
 claim_weight : (from : ℕ) (part : List ℕ) (e : Edge) → claim_at from part ≡ Some e → 1 ≤ e.weight
 unfolding claim_at
-claim_weight from part e h = edge_weight_by from (address_at (before_first (λ b. b == 58) part)) (after_first (λ b. b == 58) part) e h
+claim_weight from part e h = edge_weight_by from (number_of (before_first (λ b. b == 58) part)) (after_first (λ b. b == 58) part) e h
 
 claims_by_weight : (from : Option ℕ) (value : Option (List ℕ)) (e : Edge) → Contains (claims_by from value) e → 1 ≤ e.weight
 claims_by_weight None value e h = absurd (in_none e h)
@@ -106,7 +106,7 @@ item_weight_by false from value e h = absurd (in_none e h)
 
 item_weight : (item : Item) (e : Edge) → Contains (claims_of item) e → 1 ≤ e.weight
 unfolding claims_of
-item_weight item e h = item_weight_by (starts_with nat_eq item.key (codes "/link/")) (address_at (drop 6 item.key)) item.value e h
+item_weight item e h = item_weight_by (starts_with nat_eq item.key (codes "/link/")) (number_of (drop 6 item.key)) item.value e h
 
 pub have_weights : (items : List Item) → HaveWeights (flat_map claims_of items)
 have_weights items e among = (let r = contains_flat_map claims_of items e among in item_weight r.0 e r.1)

@@ -7,7 +7,7 @@ use Rattle.std.specs.BTreeMap.{is_at}
 use Rattle.rina_graph.specs.declared.graph.Edge.{Edge}
 use Rattle.rina_graph.specs.Walks.{IsWalk, IsLeastWalk}
 use Rattle.rina_newest.specs.declared.item.Item.{Item}
-use Rattle.rina_newest.specs.Decimal.{address_at}
+use Rattle.rina_base.specs.Decimals.{number_of}
 use Rattle.rina_route.specs.declared.link.Link.{Link}
 
 abbrev pub edge : ℕ → ℕ → ℕ → Edge
@@ -18,11 +18,11 @@ in_weights n = if nat_le 1 n && nat_le n 65535 then Some n else None
 
 -- the weight that a text is in decimal
 abbrev pub weight_at : List ℕ → Option ℕ
-weight_at text = option_and_then in_weights (address_at text)
+weight_at text = option_and_then in_weights (number_of text)
 
 -- the edge from an address to another at a weight, which are texts
 abbrev pub edge_at : ℕ → List ℕ → List ℕ → Option Edge
-edge_at from to weight = option_and_then (λ there. option_map (λ w. edge from there w) (weight_at weight)) (address_at to)
+edge_at from to weight = option_and_then (λ there. option_map (λ w. edge from there w) (weight_at weight)) (number_of to)
 
 -- the edge from an address that a part of its link state claims: an address, a colon and a weight
 unfoldable pub claim_at : ℕ → List ℕ → Option Edge
@@ -39,7 +39,7 @@ claims_by None value = []
 
 -- the edges that an item claims: those of a live link state, whose key is "/link/" and an address
 unfoldable pub claims_of : Item → List Edge
-claims_of item = if starts_with nat_eq item.key (codes "/link/") then claims_by (address_at (drop 6 item.key)) item.value else []
+claims_of item = if starts_with nat_eq item.key (codes "/link/") then claims_by (number_of (drop 6 item.key)) item.value else []
 
 -- a link leads to a neighbour at a weight
 abbrev pub leads_to : ℕ → ℕ → Link → Bool

@@ -5,9 +5,9 @@ ghost use Rattle.std.specs.List.{flat_map};
 ghost use Rattle.rina_route.specs.Routes.{weight_at, edge_at, claim_at, claims_in, claims_of, has_link, is_up, same_edge, is_claimed, counts, counted};
 
 use crate::link::Link;
-use rina_base::{Addr, Memory};
+use rina_base::{Addr, Memory, read_number};
 use rina_graph::Edge;
-use rina_newest::{Item, Newest, address_of};
+use rina_newest::{Item, Newest};
 use std::alloc::{AllocError, Global};
 
 /// What the keys of link states begin with.
@@ -17,7 +17,7 @@ const FOLDER: &[u8] = b"/link/";
 fn weight_of(text: &[u8]) -> Option<u16>
     ensures { result ≡ weight_at text.now }
 {
-    match address_of(text)? {
+    match read_number(text)? {
         number @ 1..=65_535 => Some(number as u16),
         _ => None,
     }
@@ -27,7 +27,7 @@ fn weight_of(text: &[u8]) -> Option<u16>
 fn edge(from: Addr, to: &[u8], weight: &[u8]) -> Option<Edge>
     ensures { result ≡ edge_at from to.now weight.now }
 {
-    let to = address_of(to)?;
+    let to = read_number(to)?;
     let weight = weight_of(weight)?;
     Some(Edge { from, to, weight })
 }
@@ -68,7 +68,7 @@ fn claims_of(alloc: Global, item: &Item) -> Result<Vec<Edge>, AllocError>
     if !key.starts_with(FOLDER) {
         return Ok(Vec::new(alloc));
     }
-    match (address_of(&key[FOLDER.len()..]), item.live()) {
+    match (read_number(&key[FOLDER.len()..]), item.live()) {
         (Some(from), Some(text)) => claims_in(alloc, from, text),
         _ => Ok(Vec::new(alloc)),
     }

@@ -14,7 +14,7 @@ use Rattle.rina_schedule.specs.declared.error.LineError.TheVariants as errors
 use Rattle.rina_stack.specs.declared.plan.Plan.{Plan}
 use Rattle.rina_table.specs.declared.error.StackError.{StackError}
 use Rattle.rina_table.specs.declared.error.StackError.TheVariants as stack
-use Rattle.rina_runnable.specs.Runnable.{ReadsRunnable}
+use Rattle.rina_stack.specs.Runnable.{ReadsRunnable}
 use Rattle.rina_iface.specs.declared.state.Fail.{Fail}
 use Rattle.rina_iface.specs.declared.state.Fail.TheVariants.{GaveUp, Below, Cut}
 use Rattle.rina_iface.specs.declared.state.PortState.TheVariants.{Failed}
@@ -24,23 +24,23 @@ use Rattle.std.proofs.lemmas.Bool.Decides.{eqb_tells}
 use Rattle.std.proofs.lemmas.Option.{same_Some, slice_get-map}
 use Rattle.rina_wire.specs.Air.{Air, fac_of, wire_at}
 use Rattle.rina_wire.specs.Sound.{IsSound, IsWireState}
-use Rattle.rina_run.specs.declared.emit.Stop.{Stop}
-use Rattle.rina_run.specs.declared.emit.Stop.TheVariants as stops
-use Rattle.rina_run.specs.declared.play.BadLine.{BadLine}
+use Rattle.rina_run.specs.declared.output.Stop.{Stop}
+use Rattle.rina_run.specs.declared.output.Stop.TheVariants as stops
+use Rattle.rina_run.specs.declared.lines.BadLine.{BadLine}
 use Rattle.rina_run.specs.declared.outcome.Status.{Status}
 use Rattle.rina_run.specs.declared.outcome.Status.TheVariants as statuses
-use Rattle.rina_run.specs.Look.{Extends}
+use Rattle.rina_notes.specs.Look.{Extends}
 use Rattle.rina_tower.specs.declared.tower.Tower.{Tower, Rank', Wires}
 use Rattle.rina_tower.specs.Ranks.{height_of, now_of, seen_of}
-use Rattle.rina_tower.specs.Standing.{IsTower, kept_of}
+use Rattle.rina_tower.specs.Stands.{IsTower, kept_of}
 use Rattle.rina_tower.proofs.Owned.{rank_valid}
-use Rattle.rina_run.specs.declared.world.World.{World}
+use Rattle.rina_words.specs.declared.run.Run.{Run}
 use Rattle.rina_run.specs.Opening.{IsOpening}
 use Rattle.rina_run.specs.Run.{Runs, StopsAt, RanFirst, RanPart, LinesRan}
 use Rattle.rina_run.specs.Script.{Script, script_in}
-use Rattle.rina_run.specs.Step.{HasNames, Stage, stage}
+use Rattle.rina_words.specs.Step.{HasNames, Stage, stage}
 use Rattle.rina_run.specs.Written.{IsFront, Written}
-use Rattle.rina_run.specs.Top.{status_of, fault_at, fault_of, PlayOutcomes, RefusedBy, StackOutcomes, ScriptOutcomes, InputOutcomes, IsNothing, ClosedBy, IsEnding, EndedBy, RunOutcomes, is_whole, status_stopped, AreCut, FailedByCut, IsCutBy, KeepsAll}
+use Rattle.rina_run.specs.Top.{status_of, fault_at, fault_of, PlayOutcomes, RefusedBy, StackOutcomes, ScriptOutcomes, InputOutcomes, IsOutOfMemory, ClosedBy, IsEnding, EndedBy, RunOutcomes, is_whole, status_stopped, AreCut, FailedByCut, IsCutBy, KeepsAll}
 use Rattle.rina_run.proofs.Texts.{wrote_all}
 
 pub wrote_nothing : (base : Option (List ℕ)) (ns : List Note) → ns ≡ [] → Appends base base (text_of ns)
@@ -78,32 +78,32 @@ stop_first : (plan : Plan) (w : Stage) (lines : List (List ℕ)) (bad : BadLine)
 stop_first plan w lines bad told u stops = record { count = stops.before; runs = stops.runs }
 
 -- all lines were run, and the run was closed
-pub done_from : (plan : Plan) (lines : List (List ℕ)) (start : Stage) (told t : List Note) (u : Stage) (tower : Option Tower) (shelf' : List Slot) (s : Status) → Runs plan 1 start lines told u → tower ≡ Some u.world.tower → shelf' ≡ u.shelf → HasNames start.shelf shelf' → ClosedBy statuses.Done (notes.End (now_of u.world.tower)) told s t → PlayOutcomes plan None lines start s t tower shelf'
+pub done_from : (plan : Plan) (lines : List (List ℕ)) (start : Stage) (told t : List Note) (u : Stage) (tower : Option Tower) (shelf' : List Slot) (s : Status) → Runs plan 1 start lines told u → tower ≡ Some u.run.tower → shelf' ≡ u.shelf → HasNames start.shelf shelf' → ClosedBy statuses.Done (notes.End (now_of u.run.tower)) told s t → PlayOutcomes plan None lines start s t tower shelf'
 done_from plan lines start told t u tower shelf' statuses.Done runs left after names c = (refl, record { told = told; reached = u; ran = runs; notes = c.1; left = left; shelf = after })
-done_from plan lines start told t u tower shelf' statuses.WriteFault runs left after names c = record { told = told; reached = u; first = all_first plan start lines told u runs; closing = extends_one told t (notes.End (now_of u.world.tower)) c; left = left; after = after }
-done_from plan lines start told t u tower shelf' statuses.Memory runs left after names c = (part_from plan start lines told t u (notes.End (now_of u.world.tower)) (all_first plan start lines told u runs) c, names)
+done_from plan lines start told t u tower shelf' statuses.WriteFault runs left after names c = record { told = told; reached = u; first = all_first plan start lines told u runs; closing = extends_one told t (notes.End (now_of u.run.tower)) c; left = left; after = after }
+done_from plan lines start told t u tower shelf' statuses.Memory runs left after names c = (part_from plan start lines told t u (notes.End (now_of u.run.tower)) (all_first plan start lines told u runs) c, names)
 done_from plan lines start told t u tower shelf' s runs left after names c = cc
 
 -- all lines were run, and the fault that reading ended with was told
-read_fault_from : (plan : Plan) (lines : List (List ℕ)) (start : Stage) (told t : List Note) (u : Stage) (tower : Option Tower) (shelf' : List Slot) (s : Status) → Runs plan 1 start lines told u → tower ≡ Some u.world.tower → shelf' ≡ u.shelf → HasNames start.shelf shelf' → ClosedBy statuses.ReadFault (notes.Fault faults.ReadFault) told s t → PlayOutcomes plan (Some faults.ReadFault) lines start s t tower shelf'
+read_fault_from : (plan : Plan) (lines : List (List ℕ)) (start : Stage) (told t : List Note) (u : Stage) (tower : Option Tower) (shelf' : List Slot) (s : Status) → Runs plan 1 start lines told u → tower ≡ Some u.run.tower → shelf' ≡ u.shelf → HasNames start.shelf shelf' → ClosedBy statuses.ReadFault (notes.Fault faults.ReadFault) told s t → PlayOutcomes plan (Some faults.ReadFault) lines start s t tower shelf'
 read_fault_from plan lines start told t u tower shelf' statuses.ReadFault runs left after names c = (refl, record { told = told; reached = u; ran = runs; notes = c.1; left = left; shelf = after })
 read_fault_from plan lines start told t u tower shelf' statuses.WriteFault runs left after names c = record { told = told; reached = u; first = all_first plan start lines told u runs; closing = extends_one told t (notes.Fault faults.ReadFault) c; left = left; after = after }
 read_fault_from plan lines start told t u tower shelf' statuses.Memory runs left after names c = (part_from plan start lines told t u (notes.Fault faults.ReadFault) (all_first plan start lines told u runs) c, names)
 read_fault_from plan lines start told t u tower shelf' s runs left after names c = cc
 
-too_large_from : (plan : Plan) (lines : List (List ℕ)) (start : Stage) (told t : List Note) (u : Stage) (tower : Option Tower) (shelf' : List Slot) (s : Status) → Runs plan 1 start lines told u → tower ≡ Some u.world.tower → shelf' ≡ u.shelf → HasNames start.shelf shelf' → ClosedBy statuses.TooLarge (notes.Fault faults.TooLarge) told s t → PlayOutcomes plan (Some faults.TooLarge) lines start s t tower shelf'
+too_large_from : (plan : Plan) (lines : List (List ℕ)) (start : Stage) (told t : List Note) (u : Stage) (tower : Option Tower) (shelf' : List Slot) (s : Status) → Runs plan 1 start lines told u → tower ≡ Some u.run.tower → shelf' ≡ u.shelf → HasNames start.shelf shelf' → ClosedBy statuses.TooLarge (notes.Fault faults.TooLarge) told s t → PlayOutcomes plan (Some faults.TooLarge) lines start s t tower shelf'
 too_large_from plan lines start told t u tower shelf' statuses.TooLarge runs left after names c = (refl, record { told = told; reached = u; ran = runs; notes = c.1; left = left; shelf = after })
 too_large_from plan lines start told t u tower shelf' statuses.WriteFault runs left after names c = record { told = told; reached = u; first = all_first plan start lines told u runs; closing = extends_one told t (notes.Fault faults.TooLarge) c; left = left; after = after }
 too_large_from plan lines start told t u tower shelf' statuses.Memory runs left after names c = (part_from plan start lines told t u (notes.Fault faults.TooLarge) (all_first plan start lines told u runs) c, names)
 too_large_from plan lines start told t u tower shelf' s runs left after names c = cc
 
-pub ended_from : (plan : Plan) (lines : List (List ℕ)) (start : Stage) (told t : List Note) (u : Stage) (tower : Option Tower) (shelf' : List Slot) (s : Status) (fault : Fault) → IsEnding (Some fault) → Runs plan 1 start lines told u → tower ≡ Some u.world.tower → shelf' ≡ u.shelf → HasNames start.shelf shelf' → ClosedBy (status_of fault) (notes.Fault fault) told s t → PlayOutcomes plan (Some fault) lines start s t tower shelf'
+pub ended_from : (plan : Plan) (lines : List (List ℕ)) (start : Stage) (told t : List Note) (u : Stage) (tower : Option Tower) (shelf' : List Slot) (s : Status) (fault : Fault) → IsEnding (Some fault) → Runs plan 1 start lines told u → tower ≡ Some u.run.tower → shelf' ≡ u.shelf → HasNames start.shelf shelf' → ClosedBy (status_of fault) (notes.Fault fault) told s t → PlayOutcomes plan (Some fault) lines start s t tower shelf'
 ended_from plan lines start told t u tower shelf' s faults.ReadFault is runs left after names c = read_fault_from plan lines start told t u tower shelf' s runs left after names c
 ended_from plan lines start told t u tower shelf' s faults.TooLarge is runs left after names c = too_large_from plan lines start told t u tower shelf' s runs left after names c
 ended_from plan lines start told t u tower shelf' s fault is runs left after names c = absurd is
 
 -- a line was outside the grammar, and its fault was told
-bad_closed : (plan : Plan) (ending : Option Fault) (lines : List (List ℕ)) (start : Stage) (told t : List Note) (u : Stage) (tower : Option Tower) (shelf' : List Slot) (s : Status) (bad : BadLine) (line n field : ℕ) → fault_of bad ≡ faults.Schedule line n field → StopsAt plan start lines bad told u → tower ≡ Some u.world.tower → shelf' ≡ u.shelf → HasNames start.shelf shelf' → ClosedBy (statuses.Schedule line n field) (notes.Fault (fault_of bad)) told s t → PlayOutcomes plan ending lines start s t tower shelf'
+bad_closed : (plan : Plan) (ending : Option Fault) (lines : List (List ℕ)) (start : Stage) (told t : List Note) (u : Stage) (tower : Option Tower) (shelf' : List Slot) (s : Status) (bad : BadLine) (line n field : ℕ) → fault_of bad ≡ faults.Schedule line n field → StopsAt plan start lines bad told u → tower ≡ Some u.run.tower → shelf' ≡ u.shelf → HasNames start.shelf shelf' → ClosedBy (statuses.Schedule line n field) (notes.Fault (fault_of bad)) told s t → PlayOutcomes plan ending lines start s t tower shelf'
 bad_closed plan ending lines start told t u tower shelf' (statuses.Schedule l m f) bad line n field is stops left after names c = (bad, is ∙ cc, record { told = told; reached = u; ran = stops; notes = c.1; left = left; shelf = after })
 bad_closed plan ending lines start told t u tower shelf' statuses.WriteFault bad line n field is stops left after names c = record { told = told; reached = u; first = stop_first plan start lines bad told u stops; closing = extends_one told t (notes.Fault (fault_of bad)) c; left = left; after = after }
 bad_closed plan ending lines start told t u tower shelf' statuses.Memory bad line n field is stops left after names c = (part_from plan start lines told t u (notes.Fault (fault_of bad)) (stop_first plan start lines bad told u stops) c, names)
@@ -118,14 +118,14 @@ schedule_is line (errors.BadName n) = (4, n, refl)
 schedule_is line (errors.Extra n) = (5, n, refl)
 schedule_is line (errors.BadBytes n) = (6, n, refl)
 
-pub bad_from : (plan : Plan) (ending : Option Fault) (lines : List (List ℕ)) (start : Stage) (told t : List Note) (u : Stage) (tower : Option Tower) (shelf' : List Slot) (s : Status) (bad : BadLine) → StopsAt plan start lines bad told u → tower ≡ Some u.world.tower → shelf' ≡ u.shelf → HasNames start.shelf shelf' → ClosedBy (status_of (fault_of bad)) (notes.Fault (fault_of bad)) told s t → PlayOutcomes plan ending lines start s t tower shelf'
+pub bad_from : (plan : Plan) (ending : Option Fault) (lines : List (List ℕ)) (start : Stage) (told t : List Note) (u : Stage) (tower : Option Tower) (shelf' : List Slot) (s : Status) (bad : BadLine) → StopsAt plan start lines bad told u → tower ≡ Some u.run.tower → shelf' ≡ u.shelf → HasNames start.shelf shelf' → ClosedBy (status_of (fault_of bad)) (notes.Fault (fault_of bad)) told s t → PlayOutcomes plan ending lines start s t tower shelf'
 bad_from plan ending lines start told t u tower shelf' s bad stops left after names c =
     let k = schedule_is bad.number bad.error in
     let c' : ClosedBy (statuses.Schedule bad.number k.0 k.1) (notes.Fault (fault_of bad)) told s t = subst (λ (f : Fault). ClosedBy (status_of f) (notes.Fault (fault_of bad)) told s t) k.2 c in
     bad_closed plan ending lines start told t u tower shelf' s bad bad.number k.0 k.1 k.2 stops left after names c'
 
 -- the run was stopped
-pub stop_from : (plan : Plan) (ending : Option Fault) (lines : List (List ℕ)) (start : Stage) (t : List Note) (u : Stage) (tower : Option Tower) (shelf' : List Slot) (stop : Stop) → LinesRan plan start lines t u (Err stop) → tower ≡ Some u.world.tower → shelf' ≡ u.shelf → HasNames start.shelf shelf' → PlayOutcomes plan ending lines start (status_stopped stop) t tower shelf'
+pub stop_from : (plan : Plan) (ending : Option Fault) (lines : List (List ℕ)) (start : Stage) (t : List Note) (u : Stage) (tower : Option Tower) (shelf' : List Slot) (stop : Stop) → LinesRan plan start lines t u (Err stop) → tower ≡ Some u.run.tower → shelf' ≡ u.shelf → HasNames start.shelf shelf' → PlayOutcomes plan ending lines start (status_stopped stop) t tower shelf'
 stop_from plan ending lines start t u tower shelf' stops.Memory ran left after names = (ran, names)
 stop_from plan ending lines start t u tower shelf' stops.WriteFault ran left after names = record { told = t; reached = u; first = ran; closing = record { notes = []; trace = sym (append-nil t) }; left = left; after = after }
 
@@ -147,7 +147,7 @@ rule_from known text statuses.Memory t n item reads (inr p) = inr (faults.StackR
 rule_from known text s t n item reads r = cc
 
 -- a stack that was accepted
-pub script_from : (known : List ℕ → Bool) (ending : Option Fault) (s : Script) (shelf : List Slot) (w : World) (status : Status) (t : List Note) (tower : Option Tower) (shelf' : List Slot) (plan : Plan) → ReadsRunnable known (Ok plan) s.stack → ((slots : List Slot) → IsOpening plan slots (stage w slots)) → IsSome tower → PlayOutcomes plan ending s.lines (stage w shelf) status t tower shelf' → ScriptOutcomes known ending s shelf status t tower shelf'
+pub script_from : (known : List ℕ → Bool) (ending : Option Fault) (s : Script) (shelf : List Slot) (w : Run) (status : Status) (t : List Note) (tower : Option Tower) (shelf' : List Slot) (plan : Plan) → ReadsRunnable known (Ok plan) s.stack → ((slots : List Slot) → IsOpening plan slots (stage w slots)) → IsSome tower → PlayOutcomes plan ending s.lines (stage w shelf) status t tower shelf' → ScriptOutcomes known ending s shelf status t tower shelf'
 script_from known ending s shelf w status t (Some a) shelf' plan reads opens is played = (plan, reads, stage w shelf, opens shelf, played)
 script_from known ending s shelf w status t None shelf' plan reads opens is played = cc
 
@@ -163,20 +163,20 @@ is_told faults.ReadFault h = cc
 pub front_same : (base took : Option (List ℕ)) (old new : List Note) → new ≡ old → Appends base took (text_of old) → IsFront base took (text_of new)
 front_same base took old new is p = rw is (wrote_all base took old p)
 
-ran : (known : List ℕ → Bool) (left left' : Option (List ℕ)) (bytes used : List ℕ) (ending : Option Fault) (shelf : List Slot) (s : Status) (t : List Note) (tower : Option Tower) (shelf' : List Slot) → used ≡ take 16777216 bytes → Consumes left left' bytes → EndedBy ending left' bytes → ((IsNothing s t tower × (shelf' ≡ shelf)) ⊎ InputOutcomes known ending (script_in (is_whole ending) used) shelf s t tower shelf') → RunOutcomes known None left left' shelf s t tower shelf'
+ran : (known : List ℕ → Bool) (left left' : Option (List ℕ)) (bytes used : List ℕ) (ending : Option Fault) (shelf : List Slot) (s : Status) (t : List Note) (tower : Option Tower) (shelf' : List Slot) → used ≡ take 16777216 bytes → Consumes left left' bytes → EndedBy ending left' bytes → ((IsOutOfMemory s t tower × (shelf' ≡ shelf)) ⊎ InputOutcomes known ending (script_in (is_whole ending) used) shelf s t tower shelf') → RunOutcomes known None left left' shelf s t tower shelf'
 ran known left left' bytes used ending shelf s t tower shelf' is read ended (inl n) = inl n
 ran known left left' bytes used ending shelf s t tower shelf' is read ended (inr o) = inr (record { bytes = bytes; ending = ending; read = read; ended = ended; outcome = subst (λ (bs : List ℕ). InputOutcomes known ending (script_in (is_whole ending) bs) shelf s t tower shelf') is o })
 
 -- the input was read to its end
-pub ran_whole : (known : List ℕ → Bool) (words : Option ℕ) (left left' : Option (List ℕ)) (bytes : List ℕ) (shelf : List Slot) (s : Status) (t : List Note) (tower : Option Tower) (shelf' : List Slot) → words ≡ None → Consumes left left' bytes → IsAtEnd left' → length bytes ≤ 16777216 → ((IsNothing s t tower × (shelf' ≡ shelf)) ⊎ InputOutcomes known None (script_in true bytes) shelf s t tower shelf') → RunOutcomes known words left left' shelf s t tower shelf'
+pub ran_whole : (known : List ℕ → Bool) (words : Option ℕ) (left left' : Option (List ℕ)) (bytes : List ℕ) (shelf : List Slot) (s : Status) (t : List Note) (tower : Option Tower) (shelf' : List Slot) → words ≡ None → Consumes left left' bytes → IsAtEnd left' → length bytes ≤ 16777216 → ((IsOutOfMemory s t tower × (shelf' ≡ shelf)) ⊎ InputOutcomes known None (script_in true bytes) shelf s t tower shelf') → RunOutcomes known words left left' shelf s t tower shelf'
 ran_whole known words left left' bytes shelf s t tower shelf' none read end small o = rw none (ran known left left' bytes bytes None shelf s t tower shelf' (sym (take_all 16777216 bytes small)) read (end, small) o)
 
 -- a read failed
-pub ran_fault : (known : List ℕ → Bool) (words : Option ℕ) (left left' : Option (List ℕ)) (bytes : List ℕ) (shelf : List Slot) (s : Status) (t : List Note) (tower : Option Tower) (shelf' : List Slot) → words ≡ None → Consumes left left' bytes → length bytes ≤ 16777216 → ((IsNothing s t tower × (shelf' ≡ shelf)) ⊎ InputOutcomes known (Some faults.ReadFault) (script_in false bytes) shelf s t tower shelf') → RunOutcomes known words left left' shelf s t tower shelf'
+pub ran_fault : (known : List ℕ → Bool) (words : Option ℕ) (left left' : Option (List ℕ)) (bytes : List ℕ) (shelf : List Slot) (s : Status) (t : List Note) (tower : Option Tower) (shelf' : List Slot) → words ≡ None → Consumes left left' bytes → length bytes ≤ 16777216 → ((IsOutOfMemory s t tower × (shelf' ≡ shelf)) ⊎ InputOutcomes known (Some faults.ReadFault) (script_in false bytes) shelf s t tower shelf') → RunOutcomes known words left left' shelf s t tower shelf'
 ran_fault known words left left' bytes shelf s t tower shelf' none read small o = rw none (ran known left left' bytes bytes (Some faults.ReadFault) shelf s t tower shelf' (sym (take_all 16777216 bytes small)) read small o)
 
 -- the input was too large
-pub ran_large : (known : List ℕ → Bool) (words : Option ℕ) (left left' : Option (List ℕ)) (bytes used : List ℕ) (shelf : List Slot) (s : Status) (t : List Note) (tower : Option Tower) (shelf' : List Slot) → words ≡ None → Consumes left left' bytes → 16777216 < length bytes → used ≡ take 16777216 bytes → ((IsNothing s t tower × (shelf' ≡ shelf)) ⊎ InputOutcomes known (Some faults.TooLarge) (script_in false used) shelf s t tower shelf') → RunOutcomes known words left left' shelf s t tower shelf'
+pub ran_large : (known : List ℕ → Bool) (words : Option ℕ) (left left' : Option (List ℕ)) (bytes used : List ℕ) (shelf : List Slot) (s : Status) (t : List Note) (tower : Option Tower) (shelf' : List Slot) → words ≡ None → Consumes left left' bytes → 16777216 < length bytes → used ≡ take 16777216 bytes → ((IsOutOfMemory s t tower × (shelf' ≡ shelf)) ⊎ InputOutcomes known (Some faults.TooLarge) (script_in false used) shelf s t tower shelf') → RunOutcomes known words left left' shelf s t tower shelf'
 ran_large known words left left' bytes used shelf s t tower shelf' none read large is o = rw none (ran known left left' bytes used (Some faults.TooLarge) shelf s t tower shelf' is read large o)
 
 -- a read fault is told only where a read failed
@@ -185,7 +185,7 @@ no_read_fault known None shelf t tower shelf' (left, r, same) = cc
 no_read_fault known (Some s) shelf t None shelf' o = o.0
 no_read_fault known (Some s) shelf t (Some a) shelf' (plan, reads, start, opens, played) = cc
 
-pub not_read : (known : List ℕ → Bool) (script : Option Script) (shelf : List Slot) (s : Status) (t : List Note) (tower : Option Tower) (shelf' : List Slot) → ((IsNothing s t tower × (shelf' ≡ shelf)) ⊎ InputOutcomes known (Some faults.TooLarge) script shelf s t tower shelf') → s ≡ statuses.ReadFault → ⊥
+pub not_read : (known : List ℕ → Bool) (script : Option Script) (shelf : List Slot) (s : Status) (t : List Note) (tower : Option Tower) (shelf' : List Slot) → ((IsOutOfMemory s t tower × (shelf' ≡ shelf)) ⊎ InputOutcomes known (Some faults.TooLarge) script shelf s t tower shelf') → s ≡ statuses.ReadFault → ⊥
 not_read known script shelf s t tower shelf' (inl n) is = let e : statuses.Memory ≡ statuses.ReadFault = sym n.0.memory ∙ is in cc
 not_read known script shelf s t tower shelf' (inr o) is = no_read_fault known script shelf t tower shelf' (subst (λ (u : Status). InputOutcomes known (Some faults.TooLarge) script shelf u t tower shelf') is o)
 

@@ -1,16 +1,6 @@
-pub mod Alive
 pub mod Lines
 pub mod Texts
-pub mod Looking
-pub mod Reading
-pub mod Asking
-pub mod Retiring
-pub mod Naming
-pub mod Leading
 pub mod Playing
 pub mod Ending
 pub mod Promised
-pub mod Clocks
-pub mod Objects
 pub mod Opens
-pub mod Calls

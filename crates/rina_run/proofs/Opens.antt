@@ -14,20 +14,20 @@ use Rattle.rina_plan.specs.declared.dif.LinkPlan.{LinkPlan}
 use Rattle.rina_plan.specs.declared.dif.Lower.{Lower}
 use Rattle.rina_plan.specs.declared.dif.Lower.TheVariants.{Wire, Dif}
 use Rattle.rina_stack.specs.declared.plan.Plan.{Plan}
-use Rattle.rina_sound.specs.Ranges.{IsLower, IsRangedDif, IsSoundLink}
+use Rattle.rina_stack.specs.Ranges.{IsLower, IsRangedDif, IsSoundLink}
 use Rattle.rina_stack.specs.Plan.{IsPlan}
 use Rattle.rina_dif.specs.Planned.{link_fixed, number_of}
 use Rattle.rina_tower.specs.declared.tower.Tower.{Tower}
-use Rattle.rina_tower.specs.Building.{IsBuilt}
-use Rattle.rina_tower.specs.Fitting.{links_at}
+use Rattle.rina_tower.specs.Built.{IsBuilt}
+use Rattle.rina_tower.specs.Fits.{links_at}
 use Rattle.rina_tower.specs.Flows.{links_on}
-use Rattle.rina_tower.specs.Making.{IsHighest}
+use Rattle.rina_tower.specs.BuildSteps.{IsHighest}
 use Rattle.rina_tower.specs.Ranks.{height_of, rank_of, seen_of}
 use Rattle.rina_tower.proofs.FitCounts.{count_append}
 use Rattle.rina_tower.proofs.FitMade.{range_more}
 use Rattle.rina_tower.proofs.Opened.{opened}
-use Rattle.rina_run.specs.declared.labels.Label.{Label}
-use Rattle.rina_run.specs.Look.{ends_at}
+use Rattle.rina_notes.specs.declared.label.Label.{Label}
+use Rattle.rina_notes.specs.Look.{ends_at}
 use Rattle.rina_run.specs.Opening.{Adds, AreDifLabels, AreFlowLabels, AreLabelsOf, IsLabelOf, links_of_rank}
 
 -- Lists

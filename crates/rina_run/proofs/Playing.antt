@@ -6,12 +6,12 @@ use Rattle.bstr.specs.Text.{without_terminator}
 use Rattle.rina_report.specs.declared.note.Note.{Note}
 use Rattle.rina_schedule.specs.declared.error.LineError.{LineError}
 use Rattle.rina_stack.specs.declared.plan.Plan.{Plan}
-use Rattle.rina_run.specs.declared.play.BadLine.{BadLine}
-use Rattle.rina_run.specs.declared.emit.Stop.{Stop}
-use Rattle.rina_run.specs.declared.emit.Stop.TheVariants as stops
-use Rattle.rina_run.specs.Built.{event_at}
-use Rattle.rina_run.specs.Look.{Leads, Extends}
-use Rattle.rina_run.specs.Step.{Stage}
+use Rattle.rina_run.specs.declared.lines.BadLine.{BadLine}
+use Rattle.rina_run.specs.declared.output.Stop.{Stop}
+use Rattle.rina_run.specs.declared.output.Stop.TheVariants as stops
+use Rattle.rina_words.specs.Built.{event_at}
+use Rattle.rina_notes.specs.Look.{Leads, Extends}
+use Rattle.rina_words.specs.Step.{Stage}
 use Rattle.rina_run.specs.Run.{LineDoes, LineRan, LinesRan, IsBad, Runs, RanPart, StopsAt}
 
 -- the notes before, where the trace went on

@@ -4,7 +4,7 @@ use Rattle.rina_iface.specs.Seen.{Seen}
 use Rattle.rina_dif.specs.declared.dif.Dif.{Dif}
 use Rattle.rina_dif.specs.Holding.{Stands}
 use Rattle.rina_tower.specs.declared.tower.Tower.{Tower, Rank', Wires}
-use Rattle.rina_tower.specs.Standing.{IsTower}
+use Rattle.rina_tower.specs.Stands.{IsTower}
 use Rattle.rina_run.specs.Promises.{AccountsAll, CarriesAll, CausesAll, IsCarriedBy, IsCausedIn, IsInAccount, IsRoutedIn, OfEachDif, RoutesAll}
 
 -- what follows of a DIF that stands holds of each

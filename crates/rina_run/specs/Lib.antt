@@ -1,11 +1,5 @@
-pub mod Words
+pub mod Command
 pub mod Script
-pub mod Built
-pub mod Sites
-pub mod Told
-pub mod StepTold
-pub mod Look
-pub mod Step
 pub mod Opening
 pub mod Run
 pub mod Written

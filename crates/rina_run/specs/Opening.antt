@@ -13,15 +13,15 @@ use Rattle.rina_policy.specs.Slots.{Slot}
 use Rattle.rina_stack.specs.declared.plan.Plan.{Plan}
 use Rattle.rina_dif.specs.Planned.{links_of, number_of}
 use Rattle.rina_tower.specs.declared.tower.Tower.{Tower}
-use Rattle.rina_tower.specs.Building.{IsBuilt}
+use Rattle.rina_tower.specs.Built.{IsBuilt}
 use Rattle.rina_tower.specs.Flows.{links_on}
-use Rattle.rina_tower.specs.Making.{IsHighest}
-use Rattle.rina_tower.specs.Planned.{IsAsPlanned}
+use Rattle.rina_tower.specs.BuildSteps.{IsHighest}
+use Rattle.rina_tower.specs.PlanSettings.{IsAsPlanned}
 use Rattle.rina_tower.specs.Ranks.{height_of}
-use Rattle.rina_tower.specs.Standing.{IsTower}
-use Rattle.rina_run.specs.declared.labels.Label.{Label}
-use Rattle.rina_run.specs.Look.{ends_at}
-use Rattle.rina_run.specs.Step.{Stage}
+use Rattle.rina_tower.specs.Stands.{IsTower}
+use Rattle.rina_notes.specs.declared.label.Label.{Label}
+use Rattle.rina_notes.specs.Look.{ends_at}
+use Rattle.rina_words.specs.Step.{Stage}
 
 -- the links of the i-th DIF of the stack, where it is of this rank
 abbrev pub links_of_rank : Plan → ℕ → ℕ → List Fixed
@@ -52,11 +52,11 @@ AreLabelsOf plan t (i ∷ is) labels = (first : List Label) × (rest : List Labe
 -- the stage before the first line: the tower of the plan as it was built, each DIF with its settings and links, the labels of
 -- the stack's flows in stack order, and the shelf that was handed in
 pub record IsOpening (plan : Plan) (slots : List Slot) (s : Stage) : Type 0 where
-  pub stands : IsTower s.world.tower
-  pub built : IsBuilt plan s.world.tower
-  pub height : IsHighest plan.difs (height_of s.world.tower)
-  pub planned : IsAsPlanned plan s.world.tower
-  pub labels : AreLabelsOf plan s.world.tower (range_with_len 0 (length plan.difs)) s.world.labels
+  pub stands : IsTower s.run.tower
+  pub built : IsBuilt plan s.run.tower
+  pub height : IsHighest plan.difs (height_of s.run.tower)
+  pub planned : IsAsPlanned plan s.run.tower
+  pub labels : AreLabelsOf plan s.run.tower (range_with_len 0 (length plan.difs)) s.run.labels
   pub shelf : s.shelf ≡ slots
 
 -- labels were added of which this holds

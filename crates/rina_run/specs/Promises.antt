@@ -2,10 +2,10 @@
 use Rattle.std.specs.Prelude.{◌≡◌, ℕ, List, slice_get, Some}
 use Rattle.rina_iface.specs.Seen.{Seen}
 use Rattle.rina_law.specs.Direction.{Direction}
-use Rattle.rina_data.specs.Accounted.{IsAccounted}
-use Rattle.rina_data.specs.Carried.{AreCarried}
-use Rattle.rina_data.specs.Caused.{AreCaused}
-use Rattle.rina_data.specs.Standing.{IsStanding}
+use Rattle.rina_dif_law.specs.Accounted.{IsAccounted}
+use Rattle.rina_dif_law.specs.Carried.{AreCarried}
+use Rattle.rina_dif_law.specs.Caused.{AreCaused}
+use Rattle.rina_dif_law.specs.Standing.{IsStanding}
 use Rattle.rina_dif.specs.declared.dif.Dif.{Dif}
 use Rattle.rina_dif.specs.Routing.{HaveRoutes}
 use Rattle.rina_dif.specs.Shown.{seen_of as seen_of_dif}

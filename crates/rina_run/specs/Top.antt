@@ -16,19 +16,19 @@ use Rattle.rina_schedule.specs.declared.error.LineError.{LineError}
 use Rattle.rina_schedule.specs.declared.error.LineError.TheVariants as errors
 use Rattle.rina_stack.specs.declared.plan.Plan.{Plan}
 use Rattle.rina_table.specs.declared.error.StackError.TheVariants as stack
-use Rattle.rina_runnable.specs.Runnable.{ReadsRunnable}
+use Rattle.rina_stack.specs.Runnable.{ReadsRunnable}
 use Rattle.rina_tower.specs.declared.tower.Tower.{Tower}
 use Rattle.rina_tower.specs.Ranks.{now_of, rank_of, seen_of}
-use Rattle.rina_run.specs.declared.play.BadLine.{BadLine}
-use Rattle.rina_run.specs.declared.emit.Stop.{Stop}
-use Rattle.rina_run.specs.declared.emit.Stop.TheVariants as stops
+use Rattle.rina_run.specs.declared.lines.BadLine.{BadLine}
+use Rattle.rina_run.specs.declared.output.Stop.{Stop}
+use Rattle.rina_run.specs.declared.output.Stop.TheVariants as stops
 use Rattle.rina_run.specs.declared.outcome.Status.{Status}
 use Rattle.rina_run.specs.declared.outcome.Status.TheVariants as statuses
-use Rattle.rina_run.specs.Look.{Extends}
+use Rattle.rina_notes.specs.Look.{Extends}
 use Rattle.rina_run.specs.Opening.{IsOpening}
 use Rattle.rina_run.specs.Run.{Runs, StopsAt, RanFirst, RanPart}
 use Rattle.rina_run.specs.Script.{Script, script_in}
-use Rattle.rina_run.specs.Step.{HasNames, Stage}
+use Rattle.rina_words.specs.Step.{HasNames, Stage}
 
 -- the status that a fault is told beside
 abbrev pub status_of : Fault → Status
@@ -61,7 +61,7 @@ pub record PlayedTo (Ran : List Note → Stage → Type 0) (closing : Stage → 
   pub reached : Stage
   pub ran : Ran told reached
   pub notes : trace ≡ told ++ closing reached ∷ []
-  pub left : tower ≡ Some reached.world.tower
+  pub left : tower ≡ Some reached.run.tower
   pub shelf : shelf' ≡ reached.shelf
 
 -- the first lines led to this stage, and a closing note may have been added
@@ -70,12 +70,12 @@ pub record PlayedPart (plan : Plan) (lines : List (List ℕ)) (start : Stage) (t
   pub reached : Stage
   pub first : RanFirst plan start lines told reached
   pub closing : Extends told trace
-  pub left : tower ≡ Some reached.world.tower
+  pub left : tower ≡ Some reached.run.tower
   pub after : shelf' ≡ reached.shelf
 
 -- what a run of lines from a stage came to, where `ending` is the fault that reading ended with, if any; without memory, of the shelf only its names are known
 abbrev pub PlayOutcomes : Plan → Option Fault → List (List ℕ) → Stage → Status → List Note → Option Tower → List Slot → Type 0
-PlayOutcomes plan ending lines start statuses.Done trace tower shelf' = (ending ≡ None) × PlayedTo (Runs plan 1 start lines) (λ s. notes.End (now_of s.world.tower)) trace tower shelf'
+PlayOutcomes plan ending lines start statuses.Done trace tower shelf' = (ending ≡ None) × PlayedTo (Runs plan 1 start lines) (λ s. notes.End (now_of s.run.tower)) trace tower shelf'
 PlayOutcomes plan ending lines start (statuses.Schedule line n field) trace tower shelf' = (bad : BadLine) × (fault_of bad ≡ faults.Schedule line n field) × PlayedTo (StopsAt plan start lines bad) (λ s. notes.Fault (fault_of bad)) trace tower shelf'
 PlayOutcomes plan ending lines start statuses.ReadFault trace tower shelf' = (ending ≡ Some faults.ReadFault) × PlayedTo (Runs plan 1 start lines) (λ s. notes.Fault faults.ReadFault) trace tower shelf'
 PlayOutcomes plan ending lines start statuses.TooLarge trace tower shelf' = (ending ≡ Some faults.TooLarge) × PlayedTo (Runs plan 1 start lines) (λ s. notes.Fault faults.TooLarge) trace tower shelf'
@@ -128,7 +128,7 @@ pub record InputRan (known : List ℕ → Bool) (left left' : Option (List ℕ))
   pub outcome : InputOutcomes known ending (script_in (is_whole ending) (take 16777216 bytes)) shelf status trace tower shelf'
 
 -- nothing was done, since memory was not found
-pub record IsNothing (status : Status) (trace : List Note) (tower : Option Tower) : Type 0 where
+pub record IsOutOfMemory (status : Status) (trace : List Note) (tower : Option Tower) : Type 0 where
   pub memory : status ≡ statuses.Memory
   pub notes : trace ≡ []
   pub left : tower ≡ None
@@ -136,7 +136,7 @@ pub record IsNothing (status : Status) (trace : List Note) (tower : Option Tower
 -- what a run came to, by the words of the command line, by what was read, and by the shelf that was handed in
 abbrev pub RunOutcomes : (List ℕ → Bool) → Option ℕ → Option (List ℕ) → Option (List ℕ) → List Slot → Status → List Note → Option Tower → List Slot → Type 0
 RunOutcomes known (Some word) left left' shelf status trace tower shelf' = (tower ≡ None) × RefusedBy (faults.Usage word) status trace × (shelf' ≡ shelf)
-RunOutcomes known None left left' shelf status trace tower shelf' = (IsNothing status trace tower × (shelf' ≡ shelf)) ⊎ InputRan known left left' shelf status trace tower shelf'
+RunOutcomes known None left left' shelf status trace tower shelf' = (IsOutOfMemory status trace tower × (shelf' ≡ shelf)) ⊎ InputRan known left left' shelf status trace tower shelf'
 
 -- a closing note was added, unless memory was not found; the run ends with this status, unless it was stopped
 abbrev pub ClosedBy : Status → Note → List Note → Status → List Note → Type 0

@@ -4,28 +4,27 @@ ghost use Rattle.std.specs.List.{range_with_len};
 ghost use Rattle.rina_iface.specs.declared.ask.Fixed.{Fixed};
 ghost use Rattle.rina_plan.specs.declared.dif.DifPlan.{DifPlan};
 ghost use Rattle.rina_policy.specs.Slots.{Slot};
-ghost use Rattle.rina_sound.specs.Ranges.{IsLower};
+ghost use Rattle.rina_stack.specs.Ranges.{IsLower};
 ghost use Rattle.rina_stack.specs.Plan.{IsPlan};
 ghost use Rattle.rina_dif.specs.Planned.{link_fixed, lower_fac, number_of};
 ghost use Rattle.rina_tower.specs.declared.tower.Tower.{Tower};
-ghost use Rattle.rina_tower.specs.Building.{IsBuilt};
-ghost use Rattle.rina_tower.specs.Fitting.{links_at};
+ghost use Rattle.rina_tower.specs.Built.{IsBuilt};
+ghost use Rattle.rina_tower.specs.Fits.{links_at};
 ghost use Rattle.rina_tower.specs.Flows.{links_on};
-ghost use Rattle.rina_tower.specs.Making.{IsHighest};
+ghost use Rattle.rina_tower.specs.BuildSteps.{IsHighest};
 ghost use Rattle.rina_tower.specs.Ranks.{height_of};
-ghost use Rattle.rina_tower.specs.Standing.{IsTower};
-ghost use Rattle.rina_run.specs.Look.{ends_at};
+ghost use Rattle.rina_tower.specs.Stands.{IsTower};
+ghost use Rattle.rina_notes.specs.Look.{ends_at};
 ghost use Rattle.rina_run.specs.Opening.{Adds, AreDifLabels, AreFlowLabels, AreLabelsOf, IsLabelOf, IsOpening, links_of_rank};
-ghost use Rattle.rina_run.specs.Step.{stage};
+ghost use Rattle.rina_words.specs.Step.{stage};
 
-use crate::labels::{Label, Labels};
-use crate::look::ends_at;
-use crate::world::World;
 use rina_base::Memory;
 use rina_iface::{End, PortState};
+use rina_notes::{Label, Labels, ends_at};
 use rina_plan::{DifPlan, EndPlan, FlowPlan, Lower};
 use rina_stack::Plan;
 use rina_tower::Tower;
+use rina_words::Run;
 use std::alloc::Global;
 
 /// How many DIFs have a rank.
@@ -213,13 +212,13 @@ fn open_labels(alloc: Global, plan: &Plan, tower: &Tower) -> Result<Labels, Memo
     Ok(labels)
 }
 
-/// The world that a run begins with: the tower of the plan, and the labels of the stack's flows.
-pub fn open_world(alloc: Global, plan: &Plan) -> Result<World, Memory>
+/// The run that a run begins with: the tower of the plan, and the labels of the stack's flows.
+pub fn open_run(alloc: Global, plan: &Plan) -> Result<Run, Memory>
     requires { IsPlan plan.now }
     ensures opens { IfOk result (λ w. (slots : List Slot) → IsOpening plan.now slots (stage w slots)) }
     ensures stands { IfOk result (λ w. IsTower w.tower) }
 {
     let tower = Tower::build(alloc, plan)?;
     let labels = open_labels(alloc, plan, &tower)?;
-    Ok(World { tower, labels })
+    Ok(Run { tower, labels })
 }

@@ -5,37 +5,36 @@ ghost use Rattle.bstr.specs.Text.{without_terminator};
 ghost use Rattle.rina_io.specs.Causes.{Rose};
 ghost use Rattle.rina_report.specs.Notes.{text_of};
 ghost use Rattle.rina_stack.specs.Plan.{IsPlan};
-ghost use Rattle.rina_tower.specs.Standing.{IsTower};
+ghost use Rattle.rina_tower.specs.Stands.{IsTower};
 ghost use Rattle.rina_run.specs.Opening.{IsOpening};
 ghost use Rattle.rina_run.specs.Promises.{AccountsAll, CarriesAll, CausesAll, RoutesAll};
 ghost use Rattle.rina_run.specs.Script.{script, script_in};
-ghost use Rattle.rina_run.specs.Step.{stage};
-ghost use Rattle.rina_run.specs.Words.{word_fault};
+ghost use Rattle.rina_words.specs.Step.{stage};
+ghost use Rattle.rina_run.specs.Command.{word_fault};
 ghost use Rattle.rina_run.specs.Written.{IsFront, Written};
-ghost use Rattle.rina_run.specs.Top.{status_of, status_stopped, fault_of, is_whole, ClosedBy, RefusedBy, PlayOutcomes, ScriptOutcomes, InputOutcomes, RunOutcomes, IsEnding, IsNothing, FailedByCut, KeepsAll};
+ghost use Rattle.rina_run.specs.Top.{status_of, status_stopped, fault_of, is_whole, ClosedBy, RefusedBy, PlayOutcomes, ScriptOutcomes, InputOutcomes, RunOutcomes, IsEnding, IsOutOfMemory, FailedByCut, KeepsAll};
 
-use crate::emit::{Stop, emit};
+use crate::command::fault_in;
 use crate::input::{Parts, all_lines, split_input};
-use crate::note::tick_of;
-use crate::opening::open_world;
+use crate::lines::{BadLine, play};
+use crate::opening::open_run;
 use crate::outcome::{Finish, Outcome, Status};
-use crate::play::{BadLine, play};
-use crate::words::fault_in;
-use crate::world::World;
+use crate::output::{Stop, emit};
 use rina_base::Seq;
 use rina_iface::Facility;
 use rina_io::{Ending, LIMIT, Sink, Source, take_all};
+use rina_notes::tick_of;
 use rina_policy::Retires;
 use rina_report::{Fault, Note, Notes};
-use rina_runnable::read_runnable;
 use rina_schedule::LineError;
-use rina_stack::{Plan, Policies, StackError};
+use rina_stack::{Plan, Policies, StackError, read_runnable};
 use rina_tower::Tower;
+use rina_words::Run;
 use std::alloc::Global;
 
 /// Ends a run in which nothing was done, where memory was not found.
-fn nothing(alloc: Global) -> Finish
-    ensures { IsNothing result.status result.trace result.tower }
+fn out_of_memory(alloc: Global) -> Finish
+    ensures { IsOutOfMemory result.status result.trace result.tower }
 {
     Finish {
         status: Status::Memory,
@@ -162,16 +161,16 @@ fn run_lines<K: Sink, P: Retires>(
     alloc: Global,
     ending: Option<Fault>,
     plan: &Plan,
-    mut world: World,
+    mut opened: Run,
     lines: &[&[u8]],
     out: &mut K,
     shelf: &mut P,
 ) -> Finish
     requires plan { IsPlan plan.now }
     requires ending { IsEnding ending }
-    requires sound { IsTower world.tower }
+    requires sound { IsTower opened.tower }
     requires few { length lines.now < 2 ^ 32 }
-    ensures outcome { PlayOutcomes plan.now ending (map (λ l. without_terminator l.now) lines.now) (stage world (P.slots shelf.old)) result.status result.trace result.tower (P.slots shelf.new) }
+    ensures outcome { PlayOutcomes plan.now ending (map (λ l. without_terminator l.now) lines.now) (stage opened (P.slots shelf.old)) result.status result.trace result.tower (P.slots shelf.new) }
     ensures tower { IsSome result.tower }
     ensures sound { IfSome result.tower IsTower }
     ensures written { Written (K.took out.old) (K.took out.new) (text_of result.trace) result.status }
@@ -179,15 +178,15 @@ fn run_lines<K: Sink, P: Retires>(
     ensures later { K.faults out.old ≤ K.faults out.new }
 {
     let mut trace = Seq::new(alloc);
-    match play(alloc, plan, &mut world, shelf, lines, out, &mut trace) {
+    match play(alloc, plan, &mut opened, shelf, lines, out, &mut trace) {
         Ok(None) => match ending {
             None => {
-                let tick = tick_of(&world.tower);
+                let tick = tick_of(&opened.tower);
                 seal(
                     alloc,
                     Status::Done,
                     Note::End { tick },
-                    Some(world.tower),
+                    Some(opened.tower),
                     out,
                     trace,
                 )
@@ -198,7 +197,7 @@ fn run_lines<K: Sink, P: Retires>(
                     alloc,
                     status,
                     Note::Fault(fault),
-                    Some(world.tower),
+                    Some(opened.tower),
                     out,
                     trace,
                 )
@@ -211,7 +210,7 @@ fn run_lines<K: Sink, P: Retires>(
                 alloc,
                 status,
                 Note::Fault(fault),
-                Some(world.tower),
+                Some(opened.tower),
                 out,
                 trace,
             )
@@ -219,7 +218,7 @@ fn run_lines<K: Sink, P: Retires>(
         Err(stop) => Finish {
             status: stopped(stop),
             trace,
-            tower: Some(world.tower),
+            tower: Some(opened.tower),
         },
     }
 }
@@ -243,16 +242,16 @@ fn run_script<K: Sink, P: Retires + Policies>(
 {
     let plan = match read_runnable(alloc, parts.stack.as_slice(), shelf) {
         Ok(plan) => plan,
-        Err(StackError::Memory) => return nothing(alloc),
+        Err(StackError::Memory) => return out_of_memory(alloc),
         Err(StackError::NotToml) => return refuse(alloc, out, Fault::NotToml),
         Err(StackError::StackRule { n, item }) => {
             return refuse(alloc, out, Fault::StackRule { n, item });
         }
     };
-    let Ok(world) = open_world(alloc, &plan) else {
-        return nothing(alloc);
+    let Ok(opened) = open_run(alloc, &plan) else {
+        return out_of_memory(alloc);
     };
-    run_lines(alloc, ending, &plan, world, parts.lines, out, shelf)
+    run_lines(alloc, ending, &plan, opened, parts.lines, out, shelf)
 }
 
 /// Runs an input, as far as it was read.
@@ -266,22 +265,22 @@ fn run_input<K: Sink, P: Retires + Policies>(
 ) -> Finish
     requires ending { IsEnding ending }
     requires few { length bytes.now ≤ 16777216 }
-    ensures outcome { (IsNothing result.status result.trace result.tower × (P.slots shelf.new ≡ P.slots shelf.old)) ⊎ InputOutcomes (P.knows shelf.old) ending (script_in (is_whole ending) bytes.now) (P.slots shelf.old) result.status result.trace result.tower (P.slots shelf.new) }
+    ensures outcome { (IsOutOfMemory result.status result.trace result.tower × (P.slots shelf.new ≡ P.slots shelf.old)) ⊎ InputOutcomes (P.knows shelf.old) ending (script_in (is_whole ending) bytes.now) (P.slots shelf.old) result.status result.trace result.tower (P.slots shelf.new) }
     ensures sound { IfSome result.tower IsTower }
     ensures written { Written (K.took out.old) (K.took out.new) (text_of result.trace) result.status }
     ensures fault { result.status ≡ Status.WriteFault → Rose (K.faults out.old) (K.faults out.new) }
     ensures later { K.faults out.old ≤ K.faults out.new }
 {
     let Ok(lines) = all_lines(alloc, bytes) else {
-        return nothing(alloc);
+        return out_of_memory(alloc);
     };
     match split_input(alloc, ending.is_none(), lines.as_slice()) {
         Ok(Some(parts)) => run_script(alloc, ending, &parts, out, shelf),
         Ok(None) => match ending {
             Some(fault) => refuse(alloc, out, fault),
-            None => nothing(alloc),
+            None => out_of_memory(alloc),
         },
-        Err(_) => nothing(alloc),
+        Err(_) => out_of_memory(alloc),
     }
 }
 
@@ -333,7 +332,7 @@ fn run_over<S: Source, K: Sink, P: Retires + Policies>(
             out,
             shelf,
         ),
-        Ending::Memory => nothing(alloc),
+        Ending::Memory => out_of_memory(alloc),
     }
 }
 

@@ -13,7 +13,7 @@ use Rattle.rina_schedule.specs.declared.event.Event.TheVariants as events
 use Rattle.rina_schedule.specs.Gives.{or_bad, guard}
 use Rattle.rina_schedule.specs.Numbers.{number_of}
 use Rattle.rina_schedule.specs.Bytes.{bytes_of}
-use Rattle.rina_schedule.specs.Objects.{is_object_name, object_name_of}
+use Rattle.rina_base.specs.ObjectNames.{is_object_name, object_name_of}
 use Rattle.rina_schedule.specs.Fields.{next_of, field_at, number_at, name_or_bad, name_field_at, app_field_at, bytes_at, path_or_none, path_at, end_at, behind, value_or_default, setting_or_none, setting_at}
 use Rattle.rina_schedule.specs.FlowWords.{register_at, unregister_at, want_at, alloc_at, accept_at, send_at, read_at, state_at, free_at}
 use Rattle.rina_schedule.specs.WireWords.{lose_at, repeat_at, hold_at, cut_at, mend_at, tick_at, round_at, retire_at, journal_at}

@@ -15,7 +15,7 @@ use Rattle.rina_schedule.specs.FlowWords.{register_at, unregister_at, want_at, a
 use Rattle.rina_schedule.specs.WireWords.{lose_at, repeat_at, hold_at, cut_at, mend_at, tick_at, round_at, retire_at, journal_at}
 use Rattle.rina_schedule.specs.DifWords.{publish_at, enrol_at, member_at, in_at, out_at, clock_at, cdap_at, rib_at, ledger_at}
 use Rattle.rina_schedule.specs.Line.{step_word_at, dif_word_at, wire_word_at, word_at, line_at}
-use Rattle.rina_schedule.specs.Objects.{object_name_of}
+use Rattle.rina_base.specs.ObjectNames.{object_name_of}
 use Rattle.rina_schedule.specs.Printed.{flag_fields, setting_fields, want_fields, path_fields, event_word, event_fields, line_text}
 use Rattle.rina_schedule.specs.Ranges.{IsName, IsApp, IsNumber, IsBytes, IsPath, IsWant, IsEvent}
 use Rattle.rina_schedule.proofs.Fields.{is_clear, IsField, next_word, next_spaced, next_none}

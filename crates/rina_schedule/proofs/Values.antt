@@ -15,7 +15,7 @@ use Rattle.rina_base.specs.declared.name.NameError.{NameError}
 use Rattle.rina_base.specs.declared.name.NameError.TheVariants.{BadLength}
 use Rattle.rina_schedule.specs.Numbers.{is_digit, number_from, number_of}
 use Rattle.rina_schedule.specs.Bytes.{is_plain, are_plain, hex_digit, hex_pair_of, hex_of, plain_of, zeros_of, bytes_of, is_lower, lower_hex_of, printed_of}
-use Rattle.rina_schedule.specs.Objects.{is_object_byte, are_parts, is_object_name}
+use Rattle.rina_base.specs.ObjectNames.{is_object_byte, are_parts, is_object_name}
 use Rattle.rina_schedule.specs.Spelling.{hex_glyph, hex_pair, spelling}
 use Rattle.rina_schedule.specs.Ranges.{IsName, IsApp, IsNumber, IsBytes}
 use Rattle.rina_schedule.proofs.Fields.{is_clear, IsField}

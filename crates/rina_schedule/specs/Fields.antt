@@ -9,7 +9,7 @@ use Rattle.rina_schedule.specs.declared.error.LineError.TheVariants as errors
 use Rattle.rina_schedule.specs.Gives.{or_bad}
 use Rattle.rina_schedule.specs.Numbers.{number_of}
 use Rattle.rina_schedule.specs.Bytes.{bytes_of}
-use Rattle.rina_schedule.specs.Objects.{object_name_of}
+use Rattle.rina_base.specs.ObjectNames.{object_name_of}
 
 abbrev pub from_place : Option ℕ → List ℕ → List ℕ
 from_place None text = []

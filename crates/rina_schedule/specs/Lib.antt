@@ -5,7 +5,6 @@ pub mod FlowWords
 pub mod Gives
 pub mod Line
 pub mod Numbers
-pub mod Objects
 pub mod Printed
 pub mod Ranges
 pub mod Spelling

@@ -4,7 +4,7 @@ use Rattle.rina_base.specs.Names.{name_at, app_at}
 use Rattle.rina_cube.specs.declared.Want.{Want}
 use Rattle.rina_schedule.specs.declared.event.Event.{Event}
 use Rattle.rina_schedule.specs.declared.event.Event.TheVariants as events
-use Rattle.rina_schedule.specs.Objects.{is_object_name}
+use Rattle.rina_base.specs.ObjectNames.{is_object_name}
 
 abbrev pub IsName : List ℕ → Type 0
 IsName text = name_at text ≡ Ok text

@@ -1,6 +1,5 @@
 //! What a line of a schedule asks for.
-use crate::object_name::ObjectName;
-use rina_base::{AppName, Bytes, Name, Tick};
+use rina_base::{AppName, Bytes, Name, ObjectName, Tick};
 use rina_cube::Want;
 
 /// An event, one variant for each word of a schedule, with the fields of its line in their order.

@@ -8,7 +8,6 @@ mod field;
 mod laws;
 mod line;
 mod number;
-mod object_name;
 mod print;
 #[cfg(test)]
 mod tests;
@@ -22,6 +21,6 @@ pub use field::next_field;
 pub use laws::{what_is_printed_is_read, what_is_read_is_printed};
 pub use line::read_line;
 pub use number::read_number;
-pub use object_name::ObjectName;
 pub use print::print_line;
+pub use rina_base::ObjectName;
 pub use text::Text;

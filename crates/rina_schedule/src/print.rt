@@ -5,9 +5,8 @@ ghost use Rattle.rina_schedule.specs.Spelling.{Adds, spaced, spelling};
 ghost use Rattle.rina_schedule.specs.Printed.{flag_fields, setting_fields, want_fields, path_fields, event_word, event_fields, line_text};
 
 use crate::event::Event;
-use crate::object_name::ObjectName;
 use crate::text::Text;
-use rina_base::Memory;
+use rina_base::{Memory, ObjectName};
 use rina_cube::Want;
 use std::alloc::Global;
 

@@ -6,7 +6,7 @@ use Rattle.std.proofs.lemmas.Option.{get_or_from_slice_get, slice_get_within}
 use Rattle.rina_base.specs.Names.{name_at}
 use Rattle.rina_plan.specs.declared.dif.DifPlan.{DifPlan}
 use Rattle.rina_stack.specs.declared.plan.Plan.{Plan}
-use Rattle.rina_sound.specs.Unbroken.{AreDistinct}
+use Rattle.rina_stack.specs.Unbroken.{AreDistinct}
 use Rattle.rina_stack.specs.Plan.{IsPlan}
 
 -- the name of each DIF is one

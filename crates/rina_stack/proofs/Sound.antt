@@ -6,21 +6,21 @@ use Rattle.std.proofs.lemmas.List.Elements.{All-map}
 use Rattle.toml.specs.Data.{Data}
 use Rattle.rina_plan.proofs.Carried.{carried}
 use Rattle.rina_stack.specs.declared.plan.Plan.{Plan}
-use Rattle.rina_rows.specs.declared.sketch.WireSketch.{WireSketch}
-use Rattle.rina_rows.specs.declared.sketch.Sketch.{Sketch}
+use Rattle.rina_table.specs.declared.sketch.WireSketch.{WireSketch}
+use Rattle.rina_table.specs.declared.sketch.Sketch.{Sketch}
 use Rattle.rina_table.specs.declared.error.StackError.{StackError}
 use Rattle.rina_table.specs.Faults.{Gives, unless}
 use Rattle.rina_table.specs.Keys.{keys_fault}
-use Rattle.rina_rows.specs.Items.{sketch_at}
-use Rattle.rina_rules.specs.Rules.{twin_fault, wire_names, spread_of}
-use Rattle.rina_rules.specs.Order.{ends_of, rules_at}
-use Rattle.rina_sound.specs.Scopes.{plain}
+use Rattle.rina_table.specs.Items.{sketch_at}
+use Rattle.rina_stack.specs.Rules.{duplicate_fault, wire_names, spread_of}
+use Rattle.rina_stack.specs.Order.{ends_of, rules_at}
+use Rattle.rina_stack.specs.Scopes.{unresolved_scope}
 use Rattle.rina_stack.specs.Stack.{narrow, plan_of, unknown_item, resolved_at, stack_at}
-use Rattle.rina_sound.specs.Ranges.{IsRangedWire, IsRangedDif}
+use Rattle.rina_stack.specs.Ranges.{IsRangedWire, IsRangedDif}
 use Rattle.rina_stack.specs.Plan.{names_of, wire_ends, IsSoundWire, IsPlan}
-use Rattle.rina_sound.proofs.Inversion.{bind_ok}
-use Rattle.rina_sound.proofs.Unbroken.{straight, NoneBrokenBy, whole_cubes}
-use Rattle.rina_sound.proofs.Tried.{IsTried, tried}
+use Rattle.rina_stack.proofs.Inversion.{bind_ok}
+use Rattle.rina_stack.proofs.Unbroken.{straight, NoneBrokenBy, whole_cubes}
+use Rattle.rina_stack.proofs.Tried.{IsTried, tried}
 
 -- a fault that was found is that which is defined
 pub same_fault : (n : ℕ) (fault found : Option ℕ) (t : Unit {0}) → ◌≡◌ {A = Result (Option ℕ) StackError} (Ok fault) (Ok found) → unless n found ≡ Ok t → unless n fault ≡ Ok t
@@ -33,7 +33,7 @@ same_narrow_names [] = refl
 same_narrow_names (w ∷ ws) = ap (λ ts. w.name ∷ ts) (same_narrow_names ws)
 
 -- the stack that is resolved among the names it has
-pub resolved : (known : List ℕ → Bool) (d : Data) (named s : Sketch) (t t' : Unit {0}) → sketch_at (plain 4) d ≡ Ok named → unless 5 (twin_fault named) ≡ Ok t → resolved_at known named d ≡ Ok s → rules_at s ≡ Ok t' → IsTried s
+pub resolved : (known : List ℕ → Bool) (d : Data) (named s : Sketch) (t t' : Unit {0}) → sketch_at (unresolved_scope 4) d ≡ Ok named → unless 5 (duplicate_fault named) ≡ Ok t → resolved_at known named d ≡ Ok s → rules_at s ≡ Ok t' → IsTried s
 unfolding resolved_at
 resolved known d named s t t' is_named five is_s rest = tried d named s (unknown_item known named) t t' is_named five is_s rest
 
@@ -92,10 +92,10 @@ pub is_plan : (known : List ℕ → Bool) (t : Data) (p : Plan) → stack_at kno
 unfolding stack_at
 is_plan known t p h =
     let (_, _, h1) = bind_ok (unless 2 (keys_fault t)) _ p h in
-    let (_, _, h2) = bind_ok (sketch_at (plain 3) t) _ p h1 in
-    let (named, is_named, h3) = bind_ok (sketch_at (plain 4) t) _ p h2 in
-    let (five, is_five, h4) = bind_ok (unless 5 (twin_fault named)) _ p h3 in
-    let (_, _, h5) = bind_ok (sketch_at (plain 6) t) _ p h4 in
+    let (_, _, h2) = bind_ok (sketch_at (unresolved_scope 3) t) _ p h1 in
+    let (named, is_named, h3) = bind_ok (sketch_at (unresolved_scope 4) t) _ p h2 in
+    let (five, is_five, h4) = bind_ok (unless 5 (duplicate_fault named)) _ p h3 in
+    let (_, _, h5) = bind_ok (sketch_at (unresolved_scope 6) t) _ p h4 in
     let (s, is_s, h6) = bind_ok (resolved_at known named t) _ p h5 in
     let (fine, is_fine, h7) = bind_ok (rules_at s) _ p h6 in
     let same : plan_of s ≡ p = cc in

@@ -1,4 +1,10 @@
+pub mod Rules
+pub mod Order
+pub mod Scopes
+pub mod Ranges
+pub mod Unbroken
 pub mod Names
 pub mod Policies
 pub mod Stack
 pub mod Plan
+pub mod Runnable

@@ -1,2 +1,2 @@
 -- What a name refers to.
-pub use Rattle.rina_fields.specs.Names.{place_in}
+pub use Rattle.rina_table.specs.Names.{place_in}

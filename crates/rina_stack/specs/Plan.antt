@@ -4,13 +4,13 @@ use Rattle.rina_base.specs.Names.{name_at}
 use Rattle.rina_cube.specs.Cubes.{IsCube}
 use Rattle.rina_plan.specs.declared.dif.DifPlan.{DifPlan}
 use Rattle.rina_plan.specs.declared.dif.WireEnds.{WireEnds}
-use Rattle.rina_plan.specs.Difs.{lacks_lower, lacks_cubes, is_misplaced, is_misfit, has_oversized}
-use Rattle.rina_plan.specs.Links.{is_misused, has_crossed_link, is_uncarried}
+use Rattle.rina_plan.specs.Difs.{lacks_lower, lacks_cubes, is_misplaced, has_unfit_pdu, has_oversized}
+use Rattle.rina_plan.specs.Links.{is_misused, has_unfit_link, is_uncarried}
 use Rattle.rina_plan.specs.Walks.{IsCarriedFlow, IsCarriedLink}
 use Rattle.rina_plan.specs.Counts.{links_of, load_of, IsRoomy}
-use Rattle.rina_rules.specs.Rules.{labels}
-use Rattle.rina_sound.specs.Ranges.{IsRangedDif, HasNames}
-use Rattle.rina_sound.specs.Unbroken.{AreDistinct, NoDif}
+use Rattle.rina_stack.specs.Rules.{labels}
+use Rattle.rina_stack.specs.Ranges.{IsRangedDif, HasNames}
+use Rattle.rina_stack.specs.Unbroken.{AreDistinct, NoDif}
 use Rattle.rina_stack.specs.declared.plan.WirePlan.{WirePlan}
 use Rattle.rina_stack.specs.declared.plan.Plan.{Plan}
 
@@ -58,10 +58,10 @@ pub record IsPlan (p : Plan) : Type 0 where
   pub cubes : NoDif lacks_cubes p.difs
   pub times : All (λ (d : DifPlan). IsCube d.manage × All IsCube d.cubes) p.difs
   pub members : NoDif is_misplaced p.difs
-  pub pdus : NoDif is_misfit p.difs
+  pub pdus : NoDif has_unfit_pdu p.difs
   pub sdus : NoDif has_oversized p.difs
   pub uses : NoDif (is_misused p.difs) p.difs
-  pub links : NoDif (has_crossed_link (map wire_ends p.wires) p.difs) p.difs
+  pub links : NoDif (has_unfit_link (map wire_ends p.wires) p.difs) p.difs
   pub carried : NoDif (is_uncarried (map wire_ends p.wires) p.difs) p.difs
   pub single : (i : ℕ) → i < length p.wires → load_of (links_of p.difs) i ≤ 1
   pub flows : All (λ (d : DifPlan). All (IsCarriedFlow d) d.flows) p.difs

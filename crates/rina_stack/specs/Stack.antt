@@ -7,15 +7,15 @@ use Rattle.rina_stack.specs.declared.plan.WirePlan.{WirePlan}
 use Rattle.rina_stack.specs.declared.plan.Plan.{Plan}
 use Rattle.rina_table.specs.declared.error.StackError.{StackError}
 use Rattle.rina_table.specs.declared.error.StackError.TheVariants.{Memory, NotToml, StackRule}
-use Rattle.rina_rows.specs.declared.sketch.WireSketch.{WireSketch}
-use Rattle.rina_rows.specs.declared.sketch.Sketch.{Sketch}
+use Rattle.rina_table.specs.declared.sketch.WireSketch.{WireSketch}
+use Rattle.rina_table.specs.declared.sketch.Sketch.{Sketch}
 use Rattle.rina_table.specs.Faults.{unless}
 use Rattle.rina_table.specs.Keys.{keys_fault}
-use Rattle.rina_rows.specs.Items.{sketch_at}
+use Rattle.rina_table.specs.Items.{sketch_at}
 use Rattle.rina_stack.specs.Policies.{unknown_policy}
-use Rattle.rina_rules.specs.Rules.{twin_fault}
-use Rattle.rina_rules.specs.Order.{rules_at}
-use Rattle.rina_sound.specs.Scopes.{plain, full}
+use Rattle.rina_stack.specs.Rules.{duplicate_fault}
+use Rattle.rina_stack.specs.Order.{rules_at}
+use Rattle.rina_stack.specs.Scopes.{unresolved_scope, resolved_scope}
 
 -- the item of the first DIF whose policy is not known
 abbrev pub unknown_item : (List ℕ → Bool) → Sketch → Option ℕ
@@ -23,7 +23,7 @@ unknown_item known named = option_map (λ i. 1 + length named.wires + i) (unknow
 
 -- the stack with its references, by the names that it has
 unfoldable pub resolved_at : (List ℕ → Bool) → Sketch → Data → Result Sketch StackError
-resolved_at known named d = sketch_at (full named (unknown_item known named)) d
+resolved_at known named d = sketch_at (resolved_scope named (unknown_item known named)) d
 
 abbrev pub narrow : WireSketch → WirePlan
 narrow w = record { name = w.name; a = w.a; b = w.b; delay = w.delay; life = w.life; largest = w.largest; storm = w.storm }
@@ -36,10 +36,10 @@ plan_of s = record { nodes = s.nodes; rounds = s.rounds; wires = map narrow s.wi
 unfoldable pub stack_at : (List ℕ → Bool) → Data → Result Plan StackError
 stack_at known d = do
   _ ← unless 2 (keys_fault d)
-  _ ← sketch_at (plain 3) d
-  named ← sketch_at (plain 4) d
-  _ ← unless 5 (twin_fault named)
-  _ ← sketch_at (plain 6) d
+  _ ← sketch_at (unresolved_scope 3) d
+  named ← sketch_at (unresolved_scope 4) d
+  _ ← unless 5 (duplicate_fault named)
+  _ ← sketch_at (unresolved_scope 6) d
   s ← resolved_at known named d
   _ ← rules_at s
   Ok (plan_of s)

@@ -1,13 +1,18 @@
-//! The stack that a TOML text describes, and the first rule that it breaks.
+//! The stack that a TOML text describes, or the first rule that it breaks, with the item that breaks it.
 #![tactic(auto)]
 
+mod duplicates;
+mod order;
 mod plan;
 mod policies;
 mod read;
+mod references;
+mod rules;
+mod runnable;
 mod shelf;
 
 pub use plan::{Plan, WirePlan};
 pub use policies::{BuiltIn, Policies};
-pub use read::{read_stack, stack_of};
-pub use rina_rows::{Rounds, Storm};
-pub use rina_table::StackError;
+pub use read::read_stack;
+pub use rina_table::{Rounds, StackError, Storm};
+pub use runnable::read_runnable;

@@ -2,12 +2,12 @@
 ghost use Rattle.std.specs.Prelude.{◌≡◌, ◌<◌, length, position, IfSome};
 ghost use Rattle.std.specs.Str.{bytes_eq};
 ghost use Rattle.rina_stack.specs.declared.plan.WirePlan.{WirePlan};
-ghost use Rattle.rina_fields.specs.Names.{place_in};
+ghost use Rattle.rina_table.specs.Names.{place_in};
 ghost use Rattle.rina_stack.specs.Plan.{names_of, IsPlan};
 
 use rina_base::{Name, Node, Seq};
 use rina_plan::DifPlan;
-use rina_rows::{Rounds, Storm};
+use rina_table::{Rounds, Storm};
 
 /// A stack: its systems, the wires between them, and the DIFs above.
 #[derive(Drop)]

@@ -1,18 +1,18 @@
 //! The stack that a text describes.
 ghost use Rattle.std.specs.Prelude.{◌≡◌, ◌<◌, ◌^◌, All, Ok, IfOk, map};
 ghost use Rattle.toml.specs.View.{view};
-ghost use Rattle.rina_rows.specs.declared.sketch.WireSketch.{WireSketch};
+ghost use Rattle.rina_table.specs.declared.sketch.WireSketch.{WireSketch};
 ghost use Rattle.rina_table.specs.Faults.{Gives};
 ghost use Rattle.rina_stack.specs.Stack.{narrow, plan_of, unknown_item, resolved_at, stack_at, Reads};
 ghost use Rattle.rina_stack.specs.Plan.{IsPlan};
 
+use crate::duplicates::named_twice;
+use crate::order::check_rules;
 use crate::plan::{Plan, WirePlan};
 use crate::policies::{Policies, first_unknown};
+use crate::references::{read_resolved, read_unresolved};
 use rina_base::{Memory, Seq};
-use rina_rows::{Sketch, WireSketch};
-use rina_rules::{check_rules, named_twice};
-use rina_sound::{full, plain};
-use rina_table::{StackError, check, first_behind, key_fault};
+use rina_table::{Sketch, StackError, WireSketch, check, first_dif_item, key_fault};
 use std::alloc::Global;
 use toml::Value;
 
@@ -21,7 +21,7 @@ fn unknown_of<P: Policies>(policies: &P, named: &Sketch) -> Result<Option<usize>
     ensures { Gives (λ f. f) result (Ok (unknown_item (P.knows policies.now) named.now)) }
 {
     let difs = named.difs.as_slice();
-    let first = first_behind(named.wires.len(), difs.len())?;
+    let first = first_dif_item(named.wires.len(), difs.len())?;
     match first_unknown(policies, difs) {
         Some(at) => Ok(Some(first + at)),
         None => Ok(None),
@@ -39,7 +39,7 @@ fn resolved<P: Policies>(
     ensures { Gives (λ s. s) result (resolved_at (P.knows policies.now) named.now (view stack.now)) }
 {
     let unknown = unknown_of(policies, named)?;
-    full(alloc, named, unknown, stack)
+    read_resolved(alloc, named, unknown, stack)
 }
 
 fn narrow(alloc: Global, wire: &WireSketch) -> Result<WirePlan, Memory>
@@ -88,13 +88,13 @@ fn plan(alloc: Global, sketch: Sketch) -> Result<Plan, Memory>
 pub fn stack_of<P: Policies>(alloc: Global, policies: &P, stack: &Value) -> Result<Plan, StackError>
     ensures { Gives (λ p. p) result (stack_at (P.knows policies.now) (view stack.now)) }
 {
-    let odd = key_fault(stack)?;
-    check(2, odd)?;
-    plain(alloc, 3, stack)?;
-    let named = plain(alloc, 4, stack)?;
-    let twin = named_twice(alloc, &named)?;
-    check(5, twin)?;
-    plain(alloc, 6, stack)?;
+    let unlisted = key_fault(stack)?;
+    check(2, unlisted)?;
+    read_unresolved(alloc, 3, stack)?;
+    let named = read_unresolved(alloc, 4, stack)?;
+    let duplicate = named_twice(alloc, &named)?;
+    check(5, duplicate)?;
+    read_unresolved(alloc, 6, stack)?;
     let sketch = resolved(alloc, policies, &named, stack)?;
     check_rules(alloc, &sketch)?;
     Ok(plan(alloc, sketch)?)

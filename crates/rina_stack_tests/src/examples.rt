@@ -1,7 +1,6 @@
 //! The stacks of the examples.
 use crate::cases::told;
-use rina_runnable::read_runnable;
-use rina_stack::{BuiltIn, read_stack};
+use rina_stack::{BuiltIn, read_runnable, read_stack};
 use std::test::Fail;
 
 /// What is told of each, and what is told where static DIFs run; then the stack, up to a line `%%`.

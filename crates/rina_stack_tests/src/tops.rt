@@ -1,7 +1,6 @@
 //! Whole stacks: the table at the top, and what does not run.
 use crate::cases::{lines_of, told};
-use rina_runnable::read_runnable;
-use rina_stack::{BuiltIn, read_stack};
+use rina_stack::{BuiltIn, read_runnable, read_stack};
 use std::test::Fail;
 
 /// What is told, and a stack.

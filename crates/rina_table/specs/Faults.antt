@@ -4,23 +4,23 @@ use Rattle.rina_table.specs.declared.error.StackError.{StackError}
 use Rattle.rina_table.specs.declared.error.StackError.TheVariants.{Memory, NotToml, StackRule}
 
 -- rule n is broken at an item, whose place is given up to the greatest number of 32 bits
-abbrev pub breaks : ℕ → ℕ → StackError
-breaks n place = StackRule n (min place 4294967295)
+abbrev pub rule_error : ℕ → ℕ → StackError
+rule_error n place = StackRule n (min place 4294967295)
 
 -- the error of rule n, where an item breaks it
 abbrev pub unless : ℕ → Option ℕ → Result (Unit {0}) StackError
 unless n None = Ok tt
-unless n (Some place) = Err (breaks n place)
+unless n (Some place) = Err (rule_error n place)
 
 -- what an item has to have, by rule 3
-abbrev pub there : {A : Type 0} → ℕ → Option A → Result A StackError
-there place (Some x) = Ok x
-there place None = Err (breaks 3 place)
+abbrev pub required : {A : Type 0} → ℕ → Option A → Result A StackError
+required place (Some x) = Ok x
+required place None = Err (rule_error 3 place)
 
 -- what an item has to have by rule n; where only rules below n are tried something else stands for it
-abbrev pub needed : {A : Type 0} → ℕ → ℕ → ℕ → A → Option A → Result A StackError
-needed upto n place instead (Some x) = Ok x
-needed upto n place instead None = if nat_lt upto n then Ok instead else Err (breaks n place)
+abbrev pub required_by : {A : Type 0} → ℕ → ℕ → ℕ → A → Option A → Result A StackError
+required_by upto n place instead (Some x) = Ok x
+required_by upto n place instead None = if nat_lt upto n then Ok instead else Err (rule_error n place)
 
 -- what a call returned, seen by view, is what the definition gives, unless memory ran out
 abbrev pub Gives : {X Y : Type 0} → (X → Y) → Result X StackError → Result Y StackError → Type 0

@@ -65,9 +65,9 @@ all_keys p no_members = true
 all_keys p (member k d ms) = p k && all_keys p ms
 
 -- a table of this kind has a key that is not listed
-unfoldable pub is_strange : Shape → Data → Bool
-is_strange of (table ms) = not (all_keys (is_key of) ms)
-is_strange of _ = false
+unfoldable pub has_unlisted : Shape → Data → Bool
+has_unlisted of (table ms) = not (all_keys (is_key of) ms)
+has_unlisted of _ = false
 
 -- the elements of an array
 abbrev pub list_of : Items → List Data
@@ -86,28 +86,28 @@ or_empty (Some ds) = ds
 abbrev pub items_at : List ℕ → Data → List Data
 items_at k d = or_empty (items_in k d)
 
-abbrev pub is_strange_part : Shape → Option Data → Bool
-is_strange_part of None = false
-is_strange_part of (Some d) = is_strange of d
+abbrev pub part_has_unlisted : Shape → Option Data → Bool
+part_has_unlisted of None = false
+part_has_unlisted of (Some d) = has_unlisted of d
 
 -- the table at a key has a key that is not listed
-abbrev pub strange_at : Shape → List ℕ → Data → Bool
-strange_at of k d = is_strange_part of (get k d)
+abbrev pub has_unlisted_at : Shape → List ℕ → Data → Bool
+has_unlisted_at of k d = part_has_unlisted of (get k d)
 
 -- a table of the list at a key has a key that is not listed
-abbrev pub strange_among : Shape → List ℕ → Data → Bool
-strange_among of k d = list_any (is_strange of) (items_at k d)
+abbrev pub has_unlisted_among : Shape → List ℕ → Data → Bool
+has_unlisted_among of k d = list_any (has_unlisted of) (items_at k d)
 
-unfoldable pub is_strange_wire : Data → Bool
-is_strange_wire d = is_strange shape.Wire d || strange_at shape.Storm (codes "storm") d
+unfoldable pub wire_has_unlisted : Data → Bool
+wire_has_unlisted d = has_unlisted shape.Wire d || has_unlisted_at shape.Storm (codes "storm") d
 
-unfoldable pub is_strange_flow : Data → Bool
-is_strange_flow d = is_strange shape.Flow d || strange_at shape.End (codes "from") d || strange_at shape.End (codes "to") d
+unfoldable pub flow_has_unlisted : Data → Bool
+flow_has_unlisted d = has_unlisted shape.Flow d || has_unlisted_at shape.End (codes "from") d || has_unlisted_at shape.End (codes "to") d
 
-unfoldable pub is_strange_dif : Data → Bool
-is_strange_dif d =
-    is_strange shape.Dif d || strange_at shape.Widths (codes "widths") d || strange_at shape.Manage (codes "manage") d || strange_among shape.Cube (codes "cube") d || strange_among shape.Member (codes "member") d
-    || strange_among shape.Rule (codes "rule") d || strange_among shape.Link (codes "link") d || list_any is_strange_flow (items_at (codes "flow") d)
+unfoldable pub dif_has_unlisted : Data → Bool
+dif_has_unlisted d =
+    has_unlisted shape.Dif d || has_unlisted_at shape.Widths (codes "widths") d || has_unlisted_at shape.Manage (codes "manage") d || has_unlisted_among shape.Cube (codes "cube") d || has_unlisted_among shape.Member (codes "member") d
+    || has_unlisted_among shape.Rule (codes "rule") d || has_unlisted_among shape.Link (codes "link") d || list_any flow_has_unlisted (items_at (codes "flow") d)
 
 -- the first of these items that passes, where their numbers count on from `first`
 abbrev pub first_item : ℕ → (Data → Bool) → List Data → Option ℕ
@@ -121,4 +121,4 @@ or_next None next = next
 unfoldable pub keys_fault : Data → Option ℕ
 keys_fault d =
     let wires = items_at (codes "wire") d in
-    if is_strange shape.Top d then Some 0 else or_next (first_item 1 is_strange_wire wires) (first_item (1 + length wires) is_strange_dif (items_at (codes "dif") d))
+    if has_unlisted shape.Top d then Some 0 else or_next (first_item 1 wire_has_unlisted wires) (first_item (1 + length wires) dif_has_unlisted (items_at (codes "dif") d))

@@ -1,6 +1,6 @@
 //! Why a text describes no stack.
 ghost use Rattle.std.specs.Prelude.{◌≡◌, ◌+◌, ◌<◌, ◌^◌, Ok, IfOk, option_map};
-ghost use Rattle.rina_table.specs.Faults.{Gives, breaks, unless};
+ghost use Rattle.rina_table.specs.Faults.{Gives, rule_error, unless};
 
 use rina_base::Memory;
 use std::alloc::AllocError;
@@ -40,8 +40,8 @@ impl From<Memory> for StackError {
 }
 
 /// The error for a rule that is broken at an item.
-pub fn broken(n: u32, item: usize) -> StackError
-    ensures { result ≡ breaks n item }
+pub fn rule_error(n: u32, item: usize) -> StackError
+    ensures { result ≡ rule_error n item }
 {
     StackError::StackRule {
         n,
@@ -55,12 +55,12 @@ pub fn check(n: u32, fault: Option<usize>) -> Result<(), StackError>
 {
     match fault {
         None => Ok(()),
-        Some(item) => Err(broken(n, item)),
+        Some(item) => Err(rule_error(n, item)),
     }
 }
 
 /// The number of the first DIF behind so many wires. More items than are counted find no memory.
-pub fn first_behind(wires: usize, difs: usize) -> Result<usize, StackError>
+pub fn first_dif_item(wires: usize, difs: usize) -> Result<usize, StackError>
     ensures place { Gives (λ n. n) result (Ok (1 + wires)) }
     ensures wires { IfOk result (λ _. 1 + wires < 2 ^ 64) }
     ensures room { IfOk result (λ n. n + difs < 2 ^ 64) }
@@ -86,6 +86,6 @@ pub fn check_difs(n: u32, first: usize, fault: Option<usize>) -> Result<(), Stac
 {
     match fault {
         None => Ok(()),
-        Some(at) => Err(broken(n, first.saturating_add(at))),
+        Some(at) => Err(rule_error(n, first.saturating_add(at))),
     }
 }

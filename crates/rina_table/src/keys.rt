@@ -4,9 +4,9 @@ ghost use Rattle.std.specs.List.{list_all, list_any};
 ghost use Rattle.std.specs.BTreeMap.{keys};
 ghost use Rattle.toml.specs.View.{view, table_view};
 ghost use Rattle.rina_table.specs.Faults.{Gives};
-ghost use Rattle.rina_table.specs.Keys.{is_top_key, is_wire_key, is_storm_key, is_dif_key, is_widths_key, is_manage_key, is_cube_key, is_member_key, is_rule_key, is_link_key, is_flow_key, is_end_key, is_key, all_keys, is_strange, items_at, strange_at, strange_among, is_strange_wire, is_strange_flow, is_strange_dif, keys_fault};
+ghost use Rattle.rina_table.specs.Keys.{is_top_key, is_wire_key, is_storm_key, is_dif_key, is_widths_key, is_manage_key, is_cube_key, is_member_key, is_rule_key, is_link_key, is_flow_key, is_end_key, is_key, all_keys, has_unlisted, items_at, has_unlisted_at, has_unlisted_among, wire_has_unlisted, flow_has_unlisted, dif_has_unlisted, keys_fault};
 
-use crate::error::{StackError, first_behind};
+use crate::error::{StackError, first_dif_item};
 use crate::value::items_at;
 use toml::{Table, Value};
 
@@ -167,9 +167,9 @@ fn all_listed(of: Shape, table: &Table) -> bool
 }
 
 /// Whether a table has a key that is not listed.
-#[tactic(auto, unfolding(crate::specs::Keys::is_strange))]
-fn is_odd(of: Shape, value: &Value) -> bool
-    ensures { result ≡ is_strange of (view value.now) }
+#[tactic(auto, unfolding(crate::specs::Keys::has_unlisted))]
+fn has_unlisted(of: Shape, value: &Value) -> bool
+    ensures { result ≡ has_unlisted of (view value.now) }
 {
     match value.as_table() {
         Some(table) => !all_listed(of, table),
@@ -178,102 +178,102 @@ fn is_odd(of: Shape, value: &Value) -> bool
 }
 
 /// Whether the table at a key has a key that is not listed.
-fn is_odd_at(of: Shape, value: &Value, key: &str) -> bool
-    ensures { result ≡ strange_at of key.now (view value.now) }
+fn has_unlisted_at(of: Shape, value: &Value, key: &str) -> bool
+    ensures { result ≡ has_unlisted_at of key.now (view value.now) }
 {
     match value.get(key) {
-        Some(table) => is_odd(of, table),
+        Some(table) => has_unlisted(of, table),
         None => false,
     }
 }
 
-fn any_is_odd(of: Shape, values: &[Value]) -> bool
-    ensures { result ≡ list_any (λ v. is_strange of (view v)) values.now }
+fn any_value_has_unlisted(of: Shape, values: &[Value]) -> bool
+    ensures { result ≡ list_any (λ v. has_unlisted of (view v)) values.now }
 {
-    values.iter().any(|value| is_odd(of, value))
+    values.iter().any(|value| has_unlisted(of, value))
 }
 
-fn any_odd(of: Shape, values: &[Value]) -> bool
-    ensures { result ≡ list_any (is_strange of) (map view values.now) }
+fn any_has_unlisted(of: Shape, values: &[Value]) -> bool
+    ensures { result ≡ list_any (has_unlisted of) (map view values.now) }
 {
-    any_is_odd(of, values)
+    any_value_has_unlisted(of, values)
 }
 
 /// Whether a table of the list at a key has a key that is not listed.
-fn is_odd_among(of: Shape, value: &Value, key: &str) -> bool
-    ensures { result ≡ strange_among of key.now (view value.now) }
+fn has_unlisted_among(of: Shape, value: &Value, key: &str) -> bool
+    ensures { result ≡ has_unlisted_among of key.now (view value.now) }
 {
-    any_odd(of, items_at(value, key))
+    any_has_unlisted(of, items_at(value, key))
 }
 
-#[tactic(auto, unfolding(crate::specs::Keys::is_strange_wire))]
-fn is_odd_wire(value: &Value) -> bool
-    ensures { result ≡ is_strange_wire (view value.now) }
+#[tactic(auto, unfolding(crate::specs::Keys::wire_has_unlisted))]
+fn wire_has_unlisted(value: &Value) -> bool
+    ensures { result ≡ wire_has_unlisted (view value.now) }
 {
-    is_odd(Shape::Wire, value) || is_odd_at(Shape::Storm, value, "storm")
+    has_unlisted(Shape::Wire, value) || has_unlisted_at(Shape::Storm, value, "storm")
 }
 
-#[tactic(auto, unfolding(crate::specs::Keys::is_strange_flow))]
-fn is_odd_flow(value: &Value) -> bool
-    ensures { result ≡ is_strange_flow (view value.now) }
+#[tactic(auto, unfolding(crate::specs::Keys::flow_has_unlisted))]
+fn flow_has_unlisted(value: &Value) -> bool
+    ensures { result ≡ flow_has_unlisted (view value.now) }
 {
-    is_odd(Shape::Flow, value)
-        || is_odd_at(Shape::End, value, "from")
-        || is_odd_at(Shape::End, value, "to")
+    has_unlisted(Shape::Flow, value)
+        || has_unlisted_at(Shape::End, value, "from")
+        || has_unlisted_at(Shape::End, value, "to")
 }
 
-fn any_flow_is_odd(values: &[Value]) -> bool
-    ensures { result ≡ list_any (λ v. is_strange_flow (view v)) values.now }
+fn any_flow_value_has_unlisted(values: &[Value]) -> bool
+    ensures { result ≡ list_any (λ v. flow_has_unlisted (view v)) values.now }
 {
-    values.iter().any(|value| is_odd_flow(value))
+    values.iter().any(|value| flow_has_unlisted(value))
 }
 
-fn any_odd_flow(values: &[Value]) -> bool
-    ensures { result ≡ list_any is_strange_flow (map view values.now) }
+fn any_flow_has_unlisted(values: &[Value]) -> bool
+    ensures { result ≡ list_any flow_has_unlisted (map view values.now) }
 {
-    any_flow_is_odd(values)
+    any_flow_value_has_unlisted(values)
 }
 
-#[tactic(auto, unfolding(crate::specs::Keys::is_strange_dif))]
-fn is_odd_dif(value: &Value) -> bool
-    ensures { result ≡ is_strange_dif (view value.now) }
+#[tactic(auto, unfolding(crate::specs::Keys::dif_has_unlisted))]
+fn dif_has_unlisted(value: &Value) -> bool
+    ensures { result ≡ dif_has_unlisted (view value.now) }
 {
-    is_odd(Shape::Dif, value)
-        || is_odd_at(Shape::Widths, value, "widths")
-        || is_odd_at(Shape::Manage, value, "manage")
-        || is_odd_among(Shape::Cube, value, "cube")
-        || is_odd_among(Shape::Member, value, "member")
-        || is_odd_among(Shape::Rule, value, "rule")
-        || is_odd_among(Shape::Link, value, "link")
-        || any_odd_flow(items_at(value, "flow"))
+    has_unlisted(Shape::Dif, value)
+        || has_unlisted_at(Shape::Widths, value, "widths")
+        || has_unlisted_at(Shape::Manage, value, "manage")
+        || has_unlisted_among(Shape::Cube, value, "cube")
+        || has_unlisted_among(Shape::Member, value, "member")
+        || has_unlisted_among(Shape::Rule, value, "rule")
+        || has_unlisted_among(Shape::Link, value, "link")
+        || any_flow_has_unlisted(items_at(value, "flow"))
 }
 
-fn first_odd_wire_in(values: &[Value]) -> Option<usize>
-    ensures place { result ≡ position (λ v. is_strange_wire (view v)) values.now }
+fn first_value_of_unlisted_wire(values: &[Value]) -> Option<usize>
+    ensures place { result ≡ position (λ v. wire_has_unlisted (view v)) values.now }
     ensures within { IfSome result (λ i. i < length values.now) }
 {
-    values.iter().position(|value| is_odd_wire(value))
+    values.iter().position(|value| wire_has_unlisted(value))
 }
 
-fn first_odd_wire(values: &[Value]) -> Option<usize>
-    ensures place { result ≡ position is_strange_wire (map view values.now) }
+fn first_unlisted_wire(values: &[Value]) -> Option<usize>
+    ensures place { result ≡ position wire_has_unlisted (map view values.now) }
     ensures within { IfSome result (λ i. i < length values.now) }
 {
-    first_odd_wire_in(values)
+    first_value_of_unlisted_wire(values)
 }
 
-fn first_odd_dif_in(values: &[Value]) -> Option<usize>
-    ensures place { result ≡ position (λ v. is_strange_dif (view v)) values.now }
+fn first_value_of_unlisted_dif(values: &[Value]) -> Option<usize>
+    ensures place { result ≡ position (λ v. dif_has_unlisted (view v)) values.now }
     ensures within { IfSome result (λ i. i < length values.now) }
 {
-    values.iter().position(|value| is_odd_dif(value))
+    values.iter().position(|value| dif_has_unlisted(value))
 }
 
-fn first_odd_dif(values: &[Value]) -> Option<usize>
-    ensures place { result ≡ position is_strange_dif (map view values.now) }
+fn first_unlisted_dif(values: &[Value]) -> Option<usize>
+    ensures place { result ≡ position dif_has_unlisted (map view values.now) }
     ensures within { IfSome result (λ i. i < length values.now) }
 {
-    first_odd_dif_in(values)
+    first_value_of_unlisted_dif(values)
 }
 
 /// The first item with a key that is not listed.
@@ -281,16 +281,16 @@ fn first_odd_dif(values: &[Value]) -> Option<usize>
 pub fn key_fault(stack: &Value) -> Result<Option<usize>, StackError>
     ensures { Gives (λ f. f) result (Ok (keys_fault (view stack.now))) }
 {
-    if is_odd(Shape::Top, stack) {
+    if has_unlisted(Shape::Top, stack) {
         return Ok(Some(0));
     }
     let wires = items_at(stack, "wire");
-    if let Some(at) = first_odd_wire(wires) {
+    if let Some(at) = first_unlisted_wire(wires) {
         return Ok(Some(1 + at));
     }
     let difs = items_at(stack, "dif");
-    let first = first_behind(wires.len(), difs.len())?;
-    match first_odd_dif(difs) {
+    let first = first_dif_item(wires.len(), difs.len())?;
+    match first_unlisted_dif(difs) {
         Some(at) => Ok(Some(first + at)),
         None => Ok(None),
     }

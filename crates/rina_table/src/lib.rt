@@ -1,14 +1,22 @@
-//! The shape of a stack's table: which keys there are, and values of their types. What is read names the
-//! rule that is broken, and the item that breaks it.
+//! The tables of a stack, read from TOML: which keys there are, values of their types, and a row for each
+//! wire, DIF and part of a DIF. What is read names the rule that is broken, and the item that breaks it.
 #![tactic(auto)]
 
+mod dif;
+mod dif_rows;
 mod error;
+mod fields;
 mod keys;
+mod rows;
+mod scope;
+mod sketch;
+mod top;
 mod value;
+mod wire_rows;
 
-pub use error::{StackError, broken, check, check_difs, check_wires, first_behind};
-pub use keys::{Shape, key_fault};
-pub use value::{
-    flag, has_more_than_two, integer_of, integer_or_else, items, items_at, items_or_none, needs,
-    part, tables_at, text, text_among, text_of, truth,
-};
+pub use error::{StackError, check, check_difs, check_wires, first_dif_item};
+pub use keys::key_fault;
+pub use scope::{Places, Scope};
+pub use sketch::{Rounds, Sketch, Storm, WireSketch};
+pub use top::read_sketch;
+pub use value::items_at;

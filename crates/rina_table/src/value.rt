@@ -2,21 +2,21 @@
 ghost use Rattle.std.specs.Prelude.{◌≡◌, Ok, pos, map, option_map};
 ghost use Rattle.std.specs.List.{list_all};
 ghost use Rattle.toml.specs.View.{view, array_view};
-ghost use Rattle.rina_table.specs.Faults.{Gives, there};
+ghost use Rattle.rina_table.specs.Faults.{Gives, required};
 ghost use Rattle.rina_table.specs.Keys.{list_of, items_in, items_at};
-ghost use Rattle.rina_table.specs.Values.{text_at, text_in, integer_at, integer_in, integer_or, flag_or, truth_in, items_or, element, has_third, is_table, tables_of, tables_in};
+ghost use Rattle.rina_table.specs.Values.{text_at, text_in, integer_at, integer_in, integer_or, truth_or, truth_in, items_or, element, has_third, is_table, tables_of, tables_in};
 ghost use Rattle.toml.specs.Data.{get, as_array};
 
-use crate::error::{StackError, broken};
+use crate::error::{StackError, rule_error};
 use toml::Value;
 
 /// What has to be there.
-pub fn needs<T>(item: usize, found: Option<T>) -> Result<T, StackError>
-    ensures { Gives (λ t. t) result (there item found) }
+pub fn require<T>(item: usize, found: Option<T>) -> Result<T, StackError>
+    ensures { Gives (λ t. t) result (required item found) }
 {
     match found {
         Some(found) => Ok(found),
-        None => Err(broken(3, item)),
+        None => Err(rule_error(3, item)),
     }
 }
 
@@ -33,7 +33,7 @@ pub fn text_of<'a>(item: usize, table: &'a Value, key: &str) -> Result<&'a str, 
 {
     match text(table, key) {
         Some(text) => Ok(text),
-        None => Err(broken(3, item)),
+        None => Err(rule_error(3, item)),
     }
 }
 
@@ -47,7 +47,7 @@ fn integer(table: &Value, key: &str) -> Option<i64>
 pub fn integer_of(item: usize, table: &Value, key: &str) -> Result<i64, StackError>
     ensures { Gives (λ t. t) result (integer_in item key.now (view table.now)) }
 {
-    needs(item, integer(table, key))
+    require(item, integer(table, key))
 }
 
 /// The integer at a key of an item, or a default where there is no such key.
@@ -61,37 +61,42 @@ pub fn integer_or_else(
 {
     match table.get(key) {
         None => Ok(i64::from(default)),
-        Some(value) => needs(item, value.as_integer()),
+        Some(value) => require(item, value.as_integer()),
     }
 }
 
 /// The truth value at a key of an item, or a default where there is no such key.
-pub fn flag(item: usize, default: bool, table: &Value, key: &str) -> Result<bool, StackError>
-    ensures { Gives (λ t. t) result (flag_or item default (get key.now (view table.now))) }
+pub fn truth_or_else(
+    item: usize,
+    default: bool,
+    table: &Value,
+    key: &str,
+) -> Result<bool, StackError>
+    ensures { Gives (λ t. t) result (truth_or item default (get key.now (view table.now))) }
 {
     match table.get(key) {
         None => Ok(default),
-        Some(value) => needs(item, value.as_bool()),
+        Some(value) => require(item, value.as_bool()),
     }
 }
 
 /// The truth value at a key of an item.
-pub fn truth(item: usize, table: &Value, key: &str) -> Result<bool, StackError>
+pub fn truth_of(item: usize, table: &Value, key: &str) -> Result<bool, StackError>
     ensures { Gives (λ t. t) result (truth_in item key.now (view table.now)) }
 {
     match table.get(key) {
-        None => Err(broken(3, item)),
-        Some(value) => needs(item, value.as_bool()),
+        None => Err(rule_error(3, item)),
+        Some(value) => require(item, value.as_bool()),
     }
 }
 
 /// What stands at a key of an item.
-pub fn part<'a>(item: usize, table: &'a Value, key: &str) -> Result<&'a Value, StackError>
-    ensures { Gives (λ v. view v.now) result (there item (get key.now (view table.now))) }
+pub fn value_of<'a>(item: usize, table: &'a Value, key: &str) -> Result<&'a Value, StackError>
+    ensures { Gives (λ v. view v.now) result (required item (get key.now (view table.now))) }
 {
     match table.get(key) {
         Some(value) => Ok(value),
-        None => Err(broken(3, item)),
+        None => Err(rule_error(3, item)),
     }
 }
 
@@ -139,11 +144,11 @@ pub fn items_at<'a>(table: &'a Value, key: &str) -> &'a [Value]
 
 /// The elements of the list at a key of an item.
 pub fn items<'a>(item: usize, table: &'a Value, key: &str) -> Result<&'a [Value], StackError>
-    ensures { Gives (λ s. map view s.now) result (there item (items_in key.now (view table.now))) }
+    ensures { Gives (λ s. map view s.now) result (required item (items_in key.now (view table.now))) }
 {
     match elements_at(table, key) {
         Some(values) => Ok(values),
-        None => Err(broken(3, item)),
+        None => Err(rule_error(3, item)),
     }
 }
 
@@ -159,7 +164,7 @@ pub fn items_or_none<'a>(
         None => Ok(&[]),
         Some(value) => match elements(value) {
             Some(values) => Ok(values),
-            None => Err(broken(3, item)),
+            None => Err(rule_error(3, item)),
         },
     }
 }
@@ -196,7 +201,7 @@ pub fn tables_at<'a>(item: usize, table: &'a Value, key: &str) -> Result<&'a [Va
         None => Ok(&[]),
         Some(value) => match tables(value) {
             Some(values) => Ok(values),
-            None => Err(broken(3, item)),
+            None => Err(rule_error(3, item)),
         },
     }
 }

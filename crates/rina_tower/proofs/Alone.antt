@@ -11,11 +11,11 @@ use Rattle.rina_iface.proofs.Changed.{set_at}
 use Rattle.rina_iface.proofs.Found.{end_of_stands, found, its_port, stands_later, stands_there}
 use Rattle.rina_iface.proofs.Later.{later_refl}
 use Rattle.rina_iface.proofs.LaterOn.{later_on}
-use Rattle.rina_data.specs.Cloud.{IsMine}
-use Rattle.rina_data.specs.Dif.{Config}
-use Rattle.rina_data.specs.Lifting.{IsLifted}
+use Rattle.rina_dif_law.specs.Cloud.{IsMine}
+use Rattle.rina_data.specs.Configs.{Config}
+use Rattle.rina_dif_law.specs.Lifting.{IsLifted}
 use Rattle.rina_data.proofs.Finding.{there}
-use Rattle.rina_tower.specs.Beside.{Leaves, LeavesEnds, LeavesNow}
+use Rattle.rina_tower.specs.Bystanders.{Leaves, LeavesEnds, LeavesNow}
 
 -- The ends of one facility
 

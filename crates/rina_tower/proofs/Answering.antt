@@ -14,17 +14,17 @@ use Rattle.rina_data.specs.declared.step.StepError.{StepError}
 use Rattle.rina_data.specs.declared.step.StepError.TheVariants.{Memory, NoIpc, NoLink}
 use Rattle.rina_data.specs.Configs.{config_of}
 use Rattle.rina_data.specs.Deciding.{process_of}
-use Rattle.rina_data.specs.Dif.{Process}
+use Rattle.rina_data.specs.Process.{Process}
 use Rattle.rina_data.specs.Leaving.{Asks, IsAsked}
-use Rattle.rina_data.specs.Sending.{home}
+use Rattle.rina_dif_law.specs.Sending.{home}
 use Rattle.rina_dif.specs.declared.dif.Dif.{Dif}
 use Rattle.rina_dif.specs.Steps.{AsksAt, AsksHome, AtHome}
 use Rattle.rina_tower.specs.declared.tower.Tower.{Tower, Rank', Wires}
 use Rattle.rina_tower.specs.Ranks.{seen_of}
-use Rattle.rina_tower.specs.Refusing.{refuses_send}
+use Rattle.rina_tower.specs.Refusals.{refuses_send}
 use Rattle.rina_tower.specs.Rounds.{Anything}
-use Rattle.rina_tower.specs.Stepping.{OutsHere, OutSteps, SendsOne}
-use Rattle.rina_tower.specs.Walking.{AtDif, AtRank}
+use Rattle.rina_tower.specs.Steps.{OutStepsAtTop, OutSteps, SendsOne}
+use Rattle.rina_tower.specs.Levels.{AtDif, AtRank}
 
 asked_any : (may : List Head → ℕ → Type 0) (name policy : List ℕ) (who : ℕ) (queues : List Queue) (n : ℕ) (slots slots' : List Slot) (p : Process) (r : Result OutStep StepError) (p' : Process) → IsAsked may policy queues n slots slots' p r p' → IsAsked (Anything name who) policy queues n slots slots' p r p'
 asked_any may name policy who queues n slots slots' p r p' a = record { pick = a.pick; lawful = tt; once = a.once; dead = a.dead; item = a.item; served = a.served; dealt = a.dealt }
@@ -76,7 +76,7 @@ at_rank r does does' none (Rank' p difs below) (Rank' p' difs' below') f x = eli
 at_rank r does does' none (Wires a) (Rank' p' difs' below') f x = absurd x
 at_rank r does does' none (Rank' p difs below) (Wires a') f x = absurd x
 
-here_any : (may : List ℕ → ℕ → List Head → ℕ → Type 0) (slots slots' : List Slot) (dif node link : ℕ) (r : Result OutStep StepError) (t t' : Tower) → OutsHere may slots slots' dif node link r t t' → OutsHere Anything slots slots' dif node link r t t'
+here_any : (may : List ℕ → ℕ → List Head → ℕ → Type 0) (slots slots' : List Slot) (dif node link : ℕ) (r : Result OutStep StepError) (t t' : Tower) → OutStepsAtTop may slots slots' dif node link r t t' → OutStepsAtTop Anything slots slots' dif node link r t t'
 here_any may slots slots' dif node link r (Wires a) (Wires a') x = x
 here_any may slots slots' dif node link r (Rank' p difs below) (Rank' p' difs' below') x =
     (at_dif (SendsOne (refuses_send below) may slots slots' (seen_of below) node link r (seen_of below')) (SendsOne (refuses_send below) Anything slots slots' (seen_of below) node link r (seen_of below')) dif ((r ≡ Err NoIpc) × (slots' ≡ slots) × (below' ≡ below)) difs difs' (sends_any (refuses_send below) may slots slots' (seen_of below) node link r (seen_of below')) x.0, x.1)
@@ -86,4 +86,4 @@ here_any may slots slots' dif node link r (Rank' p difs below) (Wires a') x = ab
 -- what a step does where the policies may answer this, it does where they may answer anything
 pub any_place : (may : List ℕ → ℕ → List Head → ℕ → Type 0) (slots slots' : List Slot) (r dif node link : ℕ) (result : Result OutStep StepError) (t t' : Tower) → OutSteps may slots slots' r dif node link result t t' → OutSteps Anything slots slots' r dif node link result t t'
 any_place may slots slots' r dif node link result t t' x =
-    at_rank r (OutsHere may slots slots' dif node link result) (OutsHere Anything slots slots' dif node link result) ((result ≡ Err NoIpc) × (slots' ≡ slots)) t t' (here_any may slots slots' dif node link result) x
+    at_rank r (OutStepsAtTop may slots slots' dif node link result) (OutStepsAtTop Anything slots slots' dif node link result) ((result ≡ Err NoIpc) × (slots' ≡ slots)) t t' (here_any may slots slots' dif node link result) x

@@ -9,11 +9,11 @@ use Rattle.rina_dif.specs.declared.cdap.CdapCallError.TheVariants.{NoIpc}
 use Rattle.rina_dif.specs.declared.dif.Dif.{Dif}
 use Rattle.rina_dif.specs.Asking.{KeepsAll}
 use Rattle.rina_tower.specs.declared.tower.Tower.{Tower}
-use Rattle.rina_tower.specs.Asking.{AsksOne}
-use Rattle.rina_tower.specs.Beside.{Anyone, LeavesNow}
+use Rattle.rina_tower.specs.Cdap.{AsksOne}
+use Rattle.rina_tower.specs.Bystanders.{Anyone, LeavesNow}
 use Rattle.rina_tower.specs.Ranks.{fac_of_dif, now_of, seen_of_difs}
-use Rattle.rina_tower.specs.Standing.{IsRank, IsTower}
-use Rattle.rina_tower.specs.Walking.{AtDif}
+use Rattle.rina_tower.specs.Stands.{IsRank, IsTower}
+use Rattle.rina_tower.specs.Levels.{AtDif}
 use Rattle.rina_tower.proofs.Alone.{same_alone}
 use Rattle.rina_tower.proofs.Serving.{rank_after}
 

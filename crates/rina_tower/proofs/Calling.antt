@@ -34,7 +34,7 @@ use Rattle.rina_iface.proofs.Changed.{slice_get-set_other}
 use Rattle.rina_iface.proofs.Found.{end_of_stands}
 use Rattle.rina_iface.proofs.Later.{end_restated, ends_set, moves_freed}
 use Rattle.rina_iface.proofs.LaterCalls.{later_allocates, later_binds, later_claims, later_frees, later_passes, later_registers, later_sends, later_unregisters, partners_apart}
-use Rattle.rina_tower.specs.Beside.{LeavesEnds, LeavesNow}
+use Rattle.rina_tower.specs.Bystanders.{LeavesEnds, LeavesNow}
 use Rattle.rina_tower.proofs.Alone.{end_alone, ends_alone, ends_on, fac_alone, more_alone, same_alone}
 
 -- a facility with the same ends

@@ -5,10 +5,10 @@ use Rattle.rina_wire.specs.Air.{Air, failed_air}
 use Rattle.rina_wire.specs.Tick.{TornBy}
 use Rattle.rina_dif.specs.declared.dif.Dif.{Dif}
 use Rattle.rina_tower.specs.declared.tower.Tower.{Tower, Rank'}
-use Rattle.rina_tower.specs.Beside.{Anyone}
-use Rattle.rina_tower.specs.Failing.{has_failed, have_failed}
+use Rattle.rina_tower.specs.Bystanders.{Anyone}
+use Rattle.rina_tower.specs.MemoryFailure.{has_failed, have_failed}
 use Rattle.rina_tower.specs.Rounds.{Follows}
-use Rattle.rina_tower.specs.Standing.{IsRank, IsTower}
+use Rattle.rina_tower.specs.Stands.{IsRank, IsTower}
 use Rattle.rina_tower.proofs.Serving.{beside_alone, rank_quiet}
 
 -- what holds anyway holds after an error

@@ -17,18 +17,18 @@ use Rattle.rina_plan.specs.declared.dif.DifPlan.{DifPlan}
 use Rattle.rina_plan.specs.declared.dif.FlowPlan.{FlowPlan}
 use Rattle.rina_plan.specs.Links.{rank_in}
 use Rattle.rina_stack.specs.declared.plan.Plan.{Plan}
-use Rattle.rina_sound.specs.Ranges.{HasNames, IsRangedDif}
+use Rattle.rina_stack.specs.Ranges.{HasNames, IsRangedDif}
 use Rattle.rina_stack.specs.Plan.{IsPlan}
 use Rattle.rina_dif.specs.Laying.{BindsAll, CanBindAll}
 use Rattle.rina_dif.specs.Planned.{flows_in, flows_of}
 use Rattle.rina_tower.specs.declared.tower.Tower.{Tower}
-use Rattle.rina_tower.specs.Beside.{IsIpc}
-use Rattle.rina_tower.specs.Building.{has_rank}
-use Rattle.rina_tower.specs.Fitting.{flows_at}
-use Rattle.rina_tower.specs.Making.{AreBound, HasBound, IsPlain, flows_before, flows_there}
+use Rattle.rina_tower.specs.Bystanders.{IsIpc}
+use Rattle.rina_tower.specs.Built.{has_rank}
+use Rattle.rina_tower.specs.Fits.{flows_at}
+use Rattle.rina_tower.specs.BuildSteps.{AreBound, HasBound, IsPlain, flows_before, flows_there}
 use Rattle.rina_tower.specs.Ranks.{seen_of}
-use Rattle.rina_tower.specs.Standing.{IsTower}
-use Rattle.rina_tower.specs.Walking.{SameBelow, same_refl, same_trans}
+use Rattle.rina_tower.specs.Stands.{IsTower}
+use Rattle.rina_tower.specs.Levels.{SameBelow, same_refl, same_trans}
 use Rattle.rina_tower.proofs.Alone.{all_alone, now_on}
 use Rattle.rina_tower.proofs.Calling.{binds_alone}
 use Rattle.rina_tower.proofs.FitChains.{front_can, rest_can}

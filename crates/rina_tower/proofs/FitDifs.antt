@@ -16,16 +16,16 @@ use Rattle.rina_plan.specs.declared.dif.LinkPlan.{LinkPlan}
 use Rattle.rina_plan.specs.declared.dif.Lower.{Lower}
 use Rattle.rina_plan.specs.declared.dif.Lower.TheVariants.{Wire, Dif}
 use Rattle.rina_plan.specs.declared.dif.MemberPlan.{MemberPlan}
-use Rattle.rina_plan.specs.Counts.{IsRoomy, has_flow_end, has_link_end, is_on_dif, links_of as all_links, needs_of}
-use Rattle.rina_plan.specs.Difs.{most_of}
+use Rattle.rina_plan.specs.Counts.{IsRoomy, has_flow_end, has_link_end, is_on_dif, links_of as all_links, cep_ids_needed}
+use Rattle.rina_plan.specs.Difs.{greatest_of}
 use Rattle.rina_plan.specs.Links.{carries, is_member as has_node, is_there, rank_in, rank_of}
 use Rattle.rina_plan.specs.Walks.{IsCarriedFlow}
 use Rattle.rina_pci.specs.Spelling.{IsWidth}
 use Rattle.rina_stack.specs.declared.plan.Plan.{Plan}
-use Rattle.rina_sound.specs.Ranges.{IsRangedDif}
+use Rattle.rina_stack.specs.Ranges.{IsRangedDif}
 use Rattle.rina_stack.specs.Plan.{IsPlan, wire_ends}
 use Rattle.rina_tower.specs.Rooms.{ArePlaced, HasRoom, IsPlaced, ends_there}
-use Rattle.rina_tower.specs.Fitting.{DifsFit, IsFreshRank, flows_at, fresh_dif, links_at}
+use Rattle.rina_tower.specs.Fits.{DifsFit, IsFreshRank, flows_at, fresh_dif, links_at}
 use Rattle.rina_dif.specs.Planned.{flow_fixed, flows_in, flows_of, ipc_name, link_fixed, links_in, links_of, lower_fac, number_of}
 use Rattle.rina_tower.proofs.FitRooms.{binds_fit}
 use Rattle.rina_tower.proofs.FitCounts.{count_append, count_cons, count_flat, count_map, count_none, over_places, same_place, sum_only}
@@ -217,8 +217,8 @@ absent s n node d at none (x ∷ xs) ps =
     ] refl in
     count_cons (ends_there n node) x xs ∙ rw here (omega (arith, rest))
 
-most_is : (w : ℕ) → IsWidth w → most_of w ≡ 2 ^ (8 * w) - 1
-unfolding most_of
+most_is : (w : ℕ) → IsWidth w → greatest_of w ≡ 2 ^ (8 * w) - 1
+unfolding greatest_of
 most_is w h = grind arith
 
 roomy_at : (plan : Plan) → IsPlan plan → (i : ℕ) (d : DifPlan) → slice_get plan.difs i ≡ Some d → IsRoomy (all_links plan.difs) i d
@@ -234,14 +234,14 @@ room_at plan r s p fresh n node i d at rank number = elim (has_node node d) as (
   | true ↦ λ h.
       let m = any_element (λ (m : MemberPlan). m.node == node) d.members h in
       let member : MemberPlan = m.1 in
-      let ids : needs_of (all_links plan.difs) i d member.node ≤ most_of d.widths.cep = all_at (λ (e : MemberPlan). needs_of (all_links plan.difs) i d e.node ≤ most_of d.widths.cep) d.members m.0 member (roomy_at plan p i d at).ids m.2 in
-      let ids' : needs_of (all_links plan.difs) i d node ≤ most_of d.widths.cep = subst (λ (k : ℕ). needs_of (all_links plan.difs) i d k ≤ most_of d.widths.cep) (same member.node node m.3) ids in
+      let ids : cep_ids_needed (all_links plan.difs) i d member.node ≤ greatest_of d.widths.cep = all_at (λ (e : MemberPlan). cep_ids_needed (all_links plan.difs) i d e.node ≤ greatest_of d.widths.cep) d.members m.0 member (roomy_at plan p i d at).ids m.2 in
+      let ids' : cep_ids_needed (all_links plan.difs) i d node ≤ greatest_of d.widths.cep = subst (λ (k : ℕ). cep_ids_needed (all_links plan.difs) i d k ≤ greatest_of d.widths.cep) (same member.node node m.3) ids in
       let ranged = all_at (IsRangedDif (length plan.nodes) (length plan.wires) (length plan.difs)) plan.difs i d p.difs at in
-      let most : most_of d.widths.cep ≡ 2 ^ (8 * d.widths.cep) - 1 = most_is d.widths.cep ranged.widths.cep in
+      let most : greatest_of d.widths.cep ≡ 2 ^ (8 * d.widths.cep) - 1 = most_is d.widths.cep ranged.widths.cep in
       let ls : count_by (ends_there n node) (links_at plan (r + 1)) ≤ count_by (ends_on i node) (all_links plan.difs) = all_links_count plan r i n node d p at rank number fresh.least in
       let fs : count_by (ends_there n node) (flows_at plan r) ≤ count_by (has_flow_end node) d.flows = flows_count plan r i n node d at rank number in
       let both : count_by (ends_there n node) (links_at plan (r + 1) ++ flows_at plan r) ≡ count_by (ends_there n node) (links_at plan (r + 1)) + count_by (ends_there n node) (flows_at plan r) = count_append (ends_there n node) (links_at plan (r + 1)) (flows_at plan r) in
-      let needs : count_by (has_flow_end node) d.flows + count_by (ends_on i node) (all_links plan.difs) ≤ most_of d.widths.cep = ids' in
+      let needs : count_by (has_flow_end node) d.flows + count_by (ends_on i node) (all_links plan.difs) ≤ greatest_of d.widths.cep = ids' in
       omega (arith, most, ls, fs, both, needs)
 ] refl
 

@@ -6,14 +6,14 @@ use Rattle.std.proofs.lemmas.Bool.{and_parts, not-false, or_parts}
 use Rattle.std.proofs.lemmas.Bool.Decides.{nat_tests}
 use Rattle.std.proofs.lemmas.Option.{same_Some}
 use Rattle.rina_cube.specs.declared.Cube.{Cube}
-use Rattle.rina_data.specs.Dif.{offer_of}
+use Rattle.rina_dif_law.specs.Dif.{offer_of}
 use Rattle.rina_iface.proofs.Changed.{all_at}
 use Rattle.rina_iface.specs.Seen.{Offer, cube_in, is_member}
 use Rattle.rina_plan.specs.declared.dif.DifPlan.{DifPlan}
 use Rattle.rina_plan.specs.declared.dif.LinkPlan.{LinkPlan}
 use Rattle.rina_plan.specs.declared.dif.MemberPlan.{MemberPlan}
 use Rattle.rina_plan.specs.declared.dif.WireEnds.{WireEnds}
-use Rattle.rina_plan.specs.Links.{carries, has_crossed_link, is_crossed_link, is_member as has_node, is_there, is_uncarried, rank_of}
+use Rattle.rina_plan.specs.Links.{carries, has_unfit_link, is_unfit_link, is_member as has_node, is_there, is_uncarried, rank_of}
 use Rattle.rina_plan.specs.Walks.{has_cube}
 use Rattle.rina_stack.specs.declared.plan.Plan.{Plan}
 use Rattle.rina_stack.specs.Plan.{IsPlan, wire_ends}
@@ -90,13 +90,13 @@ straight true false true false s t h = cc
 straight true false true true false t h = cc
 straight true false true true true false h = cc
 
-not_crossed : (wires : List WireEnds) (difs : List DifPlan) (d : DifPlan) (l : LinkPlan) → is_crossed_link wires difs d l ≡ false → AreStraight (rank_of difs l.on + 1 == d.rank) (l.a == l.b) (has_node l.a d) (has_node l.b d) (is_there wires difs l.a l.on) (is_there wires difs l.b l.on)
-unfolding is_crossed_link
+not_crossed : (wires : List WireEnds) (difs : List DifPlan) (d : DifPlan) (l : LinkPlan) → is_unfit_link wires difs d l ≡ false → AreStraight (rank_of difs l.on + 1 == d.rank) (l.a == l.b) (has_node l.a d) (has_node l.b d) (is_there wires difs l.a l.on) (is_there wires difs l.b l.on)
+unfolding is_unfit_link
 not_crossed wires difs d l h = straight (rank_of difs l.on + 1 == d.rank) (l.a == l.b) (has_node l.a d) (has_node l.b d) (is_there wires difs l.a l.on) (is_there wires difs l.b l.on) h
 
-crossed_none : (wires : List WireEnds) (difs : List DifPlan) (d : DifPlan) → has_crossed_link wires difs d ≡ false → (k : ℕ) (l : LinkPlan) → slice_get d.links k ≡ Some l → is_crossed_link wires difs d l ≡ false
-unfolding has_crossed_link
-crossed_none wires difs d h k l at = none_at (is_crossed_link wires difs d) d.links h k l at
+crossed_none : (wires : List WireEnds) (difs : List DifPlan) (d : DifPlan) → has_unfit_link wires difs d ≡ false → (k : ℕ) (l : LinkPlan) → slice_get d.links k ≡ Some l → is_unfit_link wires difs d l ≡ false
+unfolding has_unfit_link
+crossed_none wires difs d h k l at = none_at (is_unfit_link wires difs d) d.links h k l at
 
 carried_each : (wires : List WireEnds) (difs : List DifPlan) (d : DifPlan) → is_uncarried wires difs d ≡ false → (k : ℕ) (l : LinkPlan) → slice_get d.links k ≡ Some l → not (carries wires difs d.pdu l.cube l.on) ≡ false
 unfolding is_uncarried
@@ -105,7 +105,7 @@ carried_each wires difs d h k l at = none_at (λ (l' : LinkPlan). not (carries w
 pub link_facts : (plan : Plan) → IsPlan plan → (i : ℕ) (d : DifPlan) → slice_get plan.difs i ≡ Some d → (k : ℕ) (l : LinkPlan) → slice_get d.links k ≡ Some l → IsLinkOf plan d l
 link_facts plan p i d at k l link =
     let ws : List WireEnds = map wire_ends plan.wires in
-    let none : has_crossed_link ws plan.difs d ≡ false = all_at (λ (e : DifPlan). has_crossed_link ws plan.difs e ≡ false) plan.difs i d p.links at in
+    let none : has_unfit_link ws plan.difs d ≡ false = all_at (λ (e : DifPlan). has_unfit_link ws plan.difs e ≡ false) plan.difs i d p.links at in
     let s = not_crossed ws plan.difs d l (crossed_none ws plan.difs d none k l link) in
     let all : is_uncarried ws plan.difs d ≡ false = all_at (λ (e : DifPlan). is_uncarried ws plan.difs e ≡ false) plan.difs i d p.carried at in
     record {

@@ -16,21 +16,21 @@ use Rattle.rina_plan.specs.declared.dif.Lower.TheVariants.{Dif as IsDif}
 use Rattle.rina_plan.specs.Links.{rank_in, rank_of}
 use Rattle.rina_stack.specs.declared.plan.Plan.{Plan}
 use Rattle.rina_stack.specs.declared.plan.WirePlan.{WirePlan}
-use Rattle.rina_sound.specs.Ranges.{IsRangedDif}
+use Rattle.rina_stack.specs.Ranges.{IsRangedDif}
 use Rattle.rina_stack.specs.Plan.{IsPlan}
 use Rattle.rina_data.proofs.Finding.{there}
-use Rattle.rina_data.proofs.Own.{map_at}
+use Rattle.rina_dif_law.proofs.Own.{map_at}
 use Rattle.rina_data.specs.declared.settings.Settings.{Settings}
-use Rattle.rina_data.specs.Configs.{config_of, member_of as data_member}
-use Rattle.rina_data.specs.Dif.{Member, offer_of}
+use Rattle.rina_data.specs.Configs.{Member, config_of, member_of as data_member}
+use Rattle.rina_dif_law.specs.Dif.{offer_of}
 use Rattle.rina_dif.specs.declared.dif.Dif.{Dif}
 use Rattle.rina_dif.specs.Laying.{CanBindAll}
 use Rattle.rina_dif.specs.Planned.{flows_in, flows_of, members_from, number_of, processes_before}
 use Rattle.rina_wire.specs.Air.{seen_of as seen_of_wires}
 use Rattle.rina_wire.specs.Plan.{air_of}
-use Rattle.rina_tower.specs.Building.{AreMade, has_rank, places_in}
-use Rattle.rina_tower.specs.Fitting.{IsFreshRank, flows_at, fresh_dif, links_at}
-use Rattle.rina_tower.specs.Laying.{IsGround}
+use Rattle.rina_tower.specs.Built.{AreMade, has_rank, places_in}
+use Rattle.rina_tower.specs.Fits.{IsFreshRank, flows_at, fresh_dif, links_at}
+use Rattle.rina_tower.specs.Layout.{IsGround}
 use Rattle.rina_tower.specs.Ranks.{fac_of_dif, seen_of_difs}
 use Rattle.rina_tower.proofs.FitDifs.{difs_fit}
 use Rattle.rina_tower.proofs.FitMade.{HasPlan, IsMadeAt, append_nil, in_last, in_two, made_at, made_long, places_count, places_more, planned, rank_is}

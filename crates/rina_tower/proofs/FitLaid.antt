@@ -8,14 +8,13 @@ use Rattle.rina_iface.proofs.Found.{end_of_stands, found, its_port, stands_there
 use Rattle.rina_plan.specs.declared.dif.DifPlan.{DifPlan}
 use Rattle.rina_plan.specs.declared.dif.MemberPlan.{MemberPlan}
 use Rattle.rina_stack.specs.declared.plan.Plan.{Plan}
-use Rattle.rina_data.specs.Cloud.{IsMine}
+use Rattle.rina_dif_law.specs.Cloud.{IsMine}
 use Rattle.rina_data.specs.declared.settings.Member.{Member as Kept}
-use Rattle.rina_data.specs.Configs.{config_of, member_of as data_member}
-use Rattle.rina_data.specs.Dif.{Member}
+use Rattle.rina_data.specs.Configs.{Member, config_of, member_of as data_member}
 use Rattle.rina_dif.specs.Laying.{IsLaid}
 use Rattle.rina_dif.specs.Planned.{ipc_name, member_of, members_from, processes_before, settings_by}
-use Rattle.rina_tower.specs.Beside.{LeavesEnds, LeavesNow}
-use Rattle.rina_data.proofs.Own.{map_at}
+use Rattle.rina_tower.specs.Bystanders.{LeavesEnds, LeavesNow}
+use Rattle.rina_dif_law.proofs.Own.{map_at}
 
 -- What was laid leaves alone whoever is no member
 

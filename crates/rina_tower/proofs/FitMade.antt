@@ -19,20 +19,20 @@ use Rattle.rina_plan.specs.declared.dif.LinkPlan.{LinkPlan}
 use Rattle.rina_plan.specs.declared.dif.Lower.TheVariants.{Dif as IsDif}
 use Rattle.rina_plan.specs.Links.{rank_in, rank_of}
 use Rattle.rina_stack.specs.declared.plan.Plan.{Plan}
-use Rattle.rina_data.specs.Cloud.{IsMine}
+use Rattle.rina_dif_law.specs.Cloud.{IsMine}
 use Rattle.rina_data.specs.declared.settings.Settings.{Settings}
 use Rattle.rina_data.specs.Configs.{config_of}
-use Rattle.rina_data.specs.Others.{AreApart}
+use Rattle.rina_dif_law.specs.Others.{AreApart}
 use Rattle.rina_data.proofs.Finding.{there}
 use Rattle.rina_dif.specs.declared.dif.Dif.{Dif}
 use Rattle.rina_dif.specs.Holding.{Stands}
 use Rattle.rina_dif.specs.Laying.{CanBindAll, CanLay, IsLaid, IsNew, Lays, Takes}
 use Rattle.rina_dif.specs.Planned.{link_fixed, links_in, links_of, number_of, settings_by, settings_in, settings_of}
 use Rattle.rina_dif.specs.Shown.{seen_of as seen_of_dif}
-use Rattle.rina_tower.specs.Beside.{IsIpc}
-use Rattle.rina_tower.specs.Building.{AreMade, has_rank, places_in}
-use Rattle.rina_tower.specs.Fitting.{flows_at}
-use Rattle.rina_tower.specs.Laying.{IsBefore, IsGround, IsLaying, links_from}
+use Rattle.rina_tower.specs.Bystanders.{IsIpc}
+use Rattle.rina_tower.specs.Built.{AreMade, has_rank, places_in}
+use Rattle.rina_tower.specs.Fits.{flows_at}
+use Rattle.rina_tower.specs.Layout.{IsBefore, IsGround, IsLaying, links_from}
 use Rattle.rina_tower.proofs.FitChains.{front_can, rest_can, stay_all, stay_refl, stay_trans}
 use Rattle.rina_tower.proofs.FitLaid.{IsIpcOf, laid_alone, mine_of}
 use Rattle.rina_tower.proofs.FitNames.{AreNamed, has_slash, one_name}

@@ -13,7 +13,7 @@ use Rattle.rina_stack.specs.declared.plan.Plan.{Plan}
 use Rattle.rina_stack.specs.Plan.{IsPlan}
 use Rattle.rina_stack.proofs.NamesOfDifs.{differ, named}
 use Rattle.rina_dif.specs.Planned.{ipc_name, node_name}
-use Rattle.rina_tower.specs.Beside.{IsIpc}
+use Rattle.rina_tower.specs.Bystanders.{IsIpc}
 
 -- the names of the DIFs are names, and differ
 pub record AreNamed (plan : Plan) : Type 0 where

@@ -21,14 +21,14 @@ use Rattle.rina_wire.specs.Air.{Air, seen_of as seen_of_wires}
 use Rattle.rina_wire.specs.Plan.{air_of}
 use Rattle.rina_wire.specs.Sound.{IsSound}
 use Rattle.rina_tower.specs.declared.tower.Tower.{Tower, Rank', Wires}
-use Rattle.rina_tower.specs.Building.{AreMade, IsBuilt, IsBuiltFrom, IsRankOf, IsTop, IsUsed, has_rank, places_in}
-use Rattle.rina_tower.specs.Fitting.{flows_at, links_at}
-use Rattle.rina_tower.specs.Laying.{IsGround, IsLaying}
-use Rattle.rina_tower.specs.Making.{AreBound, AreLaid, HasBound, IsHalfMade, IsHighest, IsRaised, LaysNext}
-use Rattle.rina_tower.specs.Planned.{AreOfPlan, IsAsPlanned}
+use Rattle.rina_tower.specs.Built.{AreMade, IsBuilt, IsBuiltFrom, IsRankOf, IsTop, IsUsed, has_rank, places_in}
+use Rattle.rina_tower.specs.Fits.{flows_at, links_at}
+use Rattle.rina_tower.specs.Layout.{IsGround, IsLaying}
+use Rattle.rina_tower.specs.BuildSteps.{AreBound, AreLaid, HasBound, IsHalfMade, IsHighest, IsRaised, LaysNext}
+use Rattle.rina_tower.specs.PlanSettings.{AreOfPlan, IsAsPlanned}
 use Rattle.rina_tower.specs.Ranks.{height_of, now_of, seen_of, seen_of_difs}
-use Rattle.rina_tower.specs.Standing.{AreStanding, IsTower, kept_of}
-use Rattle.rina_tower.specs.Walking.{SameBelow, same_refl, same_trans}
+use Rattle.rina_tower.specs.Stands.{AreStanding, IsTower, kept_of}
+use Rattle.rina_tower.specs.Levels.{SameBelow, same_refl, same_trans}
 use Rattle.rina_tower.proofs.FitBound.{bound_on, rank_no, rank_yes}
 use Rattle.rina_tower.proofs.FitGround.{none_flat, rank_ground, wires_ground}
 use Rattle.rina_tower.proofs.FitMade.{all_made, begun, can_lay, laid_on, passed_over}

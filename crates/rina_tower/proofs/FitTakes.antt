@@ -5,7 +5,7 @@ use Rattle.std.proofs.lemmas.Bool.{and_parts, or_parts}
 use Rattle.std.proofs.lemmas.Bool.Decides.{nat_tests}
 use Rattle.std.proofs.lemmas.Option.{same_Some, slice_get-map}
 use Rattle.rina_cube.specs.declared.Cube.{Cube}
-use Rattle.rina_data.specs.Dif.{offer_of}
+use Rattle.rina_dif_law.specs.Dif.{offer_of}
 use Rattle.rina_iface.proofs.Changed.{all_at}
 use Rattle.rina_iface.specs.Seen.{Fac, Offer, Seen, cube_in}
 use Rattle.rina_plan.specs.declared.dif.DifPlan.{DifPlan}
@@ -21,7 +21,7 @@ use Rattle.rina_stack.specs.Plan.{IsPlan, wire_ends}
 use Rattle.rina_wire.specs.Air.{offer_of as wire_offer, seen_of}
 use Rattle.rina_wire.specs.Plan.{air_of, line_of}
 use Rattle.rina_tower.specs.Rooms.{OffersStay}
-use Rattle.rina_tower.specs.Fitting.{DifsTake, IsFreshRank, WiresTake, fresh_dif}
+use Rattle.rina_tower.specs.Fits.{DifsTake, IsFreshRank, WiresTake, fresh_dif}
 use Rattle.rina_dif.specs.Planned.{lower_fac}
 use Rattle.rina_tower.proofs.FitFacts.{any_map, any_weaker, link_facts}
 use Rattle.rina_tower.proofs.FitDifs.{below_in}

@@ -19,12 +19,12 @@ use Rattle.rina_plan.specs.Counts.{is_on_wire, links_of as all_links, load_of}
 use Rattle.rina_plan.specs.Links.{carries, has_end, has_member, is_there, rank_in, rank_of, wire_carries}
 use Rattle.rina_stack.specs.declared.plan.Plan.{Plan}
 use Rattle.rina_stack.specs.declared.plan.WirePlan.{WirePlan}
-use Rattle.rina_sound.specs.Ranges.{IsRangedDif}
+use Rattle.rina_stack.specs.Ranges.{IsRangedDif}
 use Rattle.rina_stack.specs.Plan.{IsPlan, wire_ends}
 use Rattle.rina_wire.specs.Air.{fac_of, offer_of, seen_of}
 use Rattle.rina_wire.specs.Plan.{air_of, line_of}
 use Rattle.rina_tower.specs.Rooms.{ArePlaced, HasRoom, IsPlaced, ends_there}
-use Rattle.rina_tower.specs.Fitting.{WiresFit, links_at}
+use Rattle.rina_tower.specs.Fits.{WiresFit, links_at}
 use Rattle.rina_dif.specs.Planned.{ipc_name, link_fixed, links_in, links_of, lower_fac}
 use Rattle.rina_tower.proofs.FitRooms.{binds_fit}
 use Rattle.rina_tower.proofs.FitCounts.{count_flat, count_map, over_places}

@@ -8,12 +8,12 @@ use Rattle.rina_data.specs.declared.step.InStep.{InStep}
 use Rattle.rina_data.specs.declared.step.StepError.{StepError}
 use Rattle.rina_data.specs.declared.step.StepError.TheVariants.{Memory, NoIpc, NoLink}
 use Rattle.rina_data.specs.Configs.{config_of}
-use Rattle.rina_data.specs.Dif.{DifSeen}
-use Rattle.rina_data.specs.Sending.{home}
-use Rattle.rina_data.specs.Upward.{IsSilent}
-use Rattle.rina_data.proofs.Finishing.{ended_silent}
-use Rattle.rina_data.proofs.Keepers.{facility}
-use Rattle.rina_data.proofs.Upper.{acknowledged_silent, forgotten_silent, resent_silent, silent_same}
+use Rattle.rina_dif_law.specs.Dif.{DifSeen}
+use Rattle.rina_dif_law.specs.Sending.{home}
+use Rattle.rina_dif_law.specs.Upward.{IsSilent}
+use Rattle.rina_dif_law.proofs.Finishing.{ended_silent}
+use Rattle.rina_dif_law.proofs.Keepers.{facility}
+use Rattle.rina_dif_law.proofs.Upper.{acknowledged_silent, forgotten_silent, resent_silent, silent_same}
 use Rattle.rina_dif.specs.declared.dif.Dif.{Dif}
 use Rattle.rina_dif.specs.Clocking.{ClockSteps, ClockStepsAt, Steps, StepsFlow, StepsOk}
 use Rattle.rina_dif.specs.Holding.{Holds, Stands}
@@ -21,7 +21,7 @@ use Rattle.rina_dif.specs.Shown.{seen_of}
 use Rattle.rina_dif.specs.Steps.{AtHome}
 use Rattle.rina_dif.specs.Taking.{TakesHome}
 use Rattle.rina_dif.proofs.Cutting.{loses_silent}
-use Rattle.rina_tower.specs.Lasting.{StandsAfter}
+use Rattle.rina_tower.specs.StepEffect.{StandsAfter}
 use Rattle.rina_tower.proofs.Waiting.{clock_waits}
 
 idle : (d d' : DifSeen) → d' ≡ d → IsSilent d d'

@@ -17,15 +17,15 @@ use Rattle.rina_iface.proofs.Changed.{all_at, slice_get-set_other, slice_get-set
 use Rattle.rina_plan.specs.declared.dif.DifPlan.{DifPlan}
 use Rattle.rina_plan.specs.declared.dif.FlowPlan.{FlowPlan}
 use Rattle.rina_stack.specs.declared.plan.Plan.{Plan}
-use Rattle.rina_sound.specs.Ranges.{IsRangedDif}
+use Rattle.rina_stack.specs.Ranges.{IsRangedDif}
 use Rattle.rina_stack.specs.Plan.{IsPlan}
 use Rattle.rina_dif.specs.Laying.{BindsAll}
 use Rattle.rina_dif.specs.Planned.{flow_fixed, number_of}
 use Rattle.rina_tower.specs.declared.tower.Tower.{Tower, Wires, Rank'}
-use Rattle.rina_tower.specs.Building.{AreMade, IsBuilt, IsBuiltFrom, IsUsed, places_in}
-use Rattle.rina_tower.specs.Fitting.{IsFreshRank, fresh_dif}
+use Rattle.rina_tower.specs.Built.{AreMade, IsBuilt, IsBuiltFrom, IsUsed, places_in}
+use Rattle.rina_tower.specs.Fits.{IsFreshRank, fresh_dif}
 use Rattle.rina_tower.specs.Flows.{HasFlow, IsOpenAt, links_on}
-use Rattle.rina_tower.specs.Making.{IsHighest}
+use Rattle.rina_tower.specs.BuildSteps.{IsHighest}
 use Rattle.rina_tower.specs.Ranks.{height_of, rank_of, seen_of}
 use Rattle.rina_tower.proofs.FitBound.{flow_names, plain_as}
 use Rattle.rina_tower.proofs.FitCounts.{count_cons, one_if}

@@ -13,7 +13,7 @@ use Rattle.rina_plan.specs.declared.dif.Lower.TheVariants.{Dif}
 use Rattle.rina_plan.specs.Links.{rank_in, rank_of}
 use Rattle.rina_stack.specs.declared.plan.Plan.{Plan}
 use Rattle.rina_dif.specs.Planned.{flow_fixed, flows_in, flows_of, number_of}
-use Rattle.rina_tower.specs.Fitting.{flows_at, links_at}
+use Rattle.rina_tower.specs.Fits.{flows_at, links_at}
 use Rattle.rina_tower.specs.Flows.{links_on}
 use Rattle.rina_tower.proofs.FitCounts.{count_append, count_cons, count_grows, count_none, one_if}
 

@@ -8,25 +8,24 @@ use Rattle.rina_iface.specs.Seen.{Fac, Seen}
 use Rattle.rina_iface.proofs.Changed.{set_at}
 use Rattle.rina_iface.proofs.Later.{later_fac}
 use Rattle.rina_law.specs.Direction.{Direction}
-use Rattle.rina_data.specs.Cloud.{IsMine}
-use Rattle.rina_data.specs.Configs.{config_of}
-use Rattle.rina_data.specs.Dif.{Config}
-use Rattle.rina_data.specs.Upward.{IsFacility, IsSilent}
-use Rattle.rina_data.proofs.Carries.{beside_carries}
-use Rattle.rina_data.proofs.Keepers.{facility}
-use Rattle.rina_data.proofs.Lifted.{beside_accounted}
-use Rattle.rina_data.proofs.Numbering.{beside_numbered}
-use Rattle.rina_data.proofs.Others.{stands_beside}
-use Rattle.rina_data.proofs.Own.{map_at}
+use Rattle.rina_dif_law.specs.Cloud.{IsMine}
+use Rattle.rina_data.specs.Configs.{Config, config_of}
+use Rattle.rina_dif_law.specs.Upward.{IsFacility, IsSilent}
+use Rattle.rina_dif_law.proofs.Carries.{beside_carries}
+use Rattle.rina_dif_law.proofs.Keepers.{facility}
+use Rattle.rina_dif_law.proofs.Lifted.{beside_accounted}
+use Rattle.rina_dif_law.proofs.Numbering.{beside_numbered}
+use Rattle.rina_dif_law.proofs.Others.{stands_beside}
+use Rattle.rina_dif_law.proofs.Own.{map_at}
 use Rattle.rina_dif.specs.declared.dif.Dif.{Dif}
 use Rattle.rina_dif.specs.Facade.{IsShownAs, OthersStand, shown_as}
 use Rattle.rina_dif.specs.Holding.{Holds, Stands}
 use Rattle.rina_dif.specs.Shown.{seen_of as seen_of_dif}
 use Rattle.rina_dif.proofs.Causing.{caused_on, lower_later, none_is}
 use Rattle.rina_tower.specs.declared.tower.Tower.{Tower}
-use Rattle.rina_tower.specs.Beside.{Anyone, IsIpc, LeavesEnds, LeavesNow}
+use Rattle.rina_tower.specs.Bystanders.{Anyone, IsIpc, LeavesEnds, LeavesNow}
 use Rattle.rina_tower.specs.Ranks.{fac_of_dif, height_of, now_of, seen_now, seen_of, seen_of_difs}
-use Rattle.rina_tower.specs.Standing.{AreStanding, At, IsRank, IsTower, clock_of}
+use Rattle.rina_tower.specs.Stands.{AreStanding, At, IsRank, IsTower, clock_of}
 use Rattle.rina_tower.proofs.Alone.{fac_alone, lifted}
 
 -- The rank below goes on without a DIF

@@ -1,13 +1,13 @@
 -- How the steps of a round are put together.
 use Rattle.std.proofs.Common.{◌≡◌, ◌∙◌, ℕ, ◌+◌, ◌<◌, ◌≤◌, Bool, true, zero, suc, List, [], ◌∷◌, ◌++◌, get_or, length, map, take, slice_get, Some, Result, Ok, Err, refl, sym, ap, subst, append_assoc}
-use Rattle.std.proofs.lemmas.List.{append-nil, map-append, take_all, take_more}
+use Rattle.std.proofs.lemmas.List.{append-nil, map-append, in_steps, take_more}
 use Rattle.rina_policy.specs.Slots.{Slot}
 use Rattle.rina_tower.specs.declared.tower.Tower.{Tower}
-use Rattle.rina_tower.specs.Beside.{Anyone, LeavesNow}
+use Rattle.rina_tower.specs.Bystanders.{Anyone, LeavesNow}
 use Rattle.rina_tower.specs.Ranks.{height_of, now_of, seen_now, seen_of}
 use Rattle.std.specs.Prelude.{OnOk}
-use Rattle.rina_tower.specs.Rounds.{AllMove, DoesAllDue, Follows, InTurn, IsRound, IsUntil, LetsAll, Move, Moves, Runs, TakesAll, links_downward, links_upward, members_upward}
-use Rattle.rina_tower.specs.Standing.{IsTower}
+use Rattle.rina_tower.specs.Rounds.{AllMove, AllClockSteps, Follows, InTurn, IsRound, IsUntil, AllOutSteps, Move, Moves, Runs, AllInSteps, links_downward, links_upward, members_upward}
+use Rattle.rina_tower.specs.Stands.{IsTower}
 use Rattle.rina_tower.proofs.Alone.{all_alone, now_on}
 
 -- What follows
@@ -80,7 +80,7 @@ pub runs_next : {P : Type 0} (At : P → List Move → Type 0) (ps : List P) (k 
 runs_next {P = P} At ps k d a b c t u v lt x y = subst (λ (qs : List P). Runs (InTurn At qs) a t c v) (sym (take_more ps k d lt)) (runs_more At (take k ps) (get_or ps k d) a b c t u v x y)
 
 pub runs_all : {P : Type 0} (At : P → List Move → Type 0) (ps qs : List P) (k : ℕ) (a c : List Slot) (t v : Tower) → ps ≡ qs → length ps ≤ k → Runs (InTurn At (take k ps)) a t c v → Runs (InTurn At qs) a t c v
-runs_all {P = P} At ps qs k a c t v is past x = subst (λ (rs : List P). Runs (InTurn At rs) a t c v) (take_all k ps past ∙ is) x
+runs_all {P = P} At ps qs k a c t v is past x = subst (λ (rs : List P). Runs (InTurn At rs) a t c v) (in_steps k ps past ∙ is) x
 
 -- A round
 
@@ -88,7 +88,7 @@ pub on_ok : {A E : Type 0} (r : Result A E) (P Q : Type 0) → (P → Q) → OnO
 on_ok (Ok x) P Q f h = f h
 on_ok (Err e) P Q f h = h
 
-pub round_done : (a b : List Slot) (t u v w : Tower) → ((s : List Slot) → Runs (InTurn TakesAll (links_upward t)) s t s u) → ((s : List Slot) → Runs (InTurn DoesAllDue (members_upward u)) s u s v) → Runs (InTurn LetsAll (links_downward v)) a v b w → IsRound a b t w
+pub round_done : (a b : List Slot) (t u v w : Tower) → ((s : List Slot) → Runs (InTurn AllInSteps (links_upward t)) s t s u) → ((s : List Slot) → Runs (InTurn AllClockSteps (members_upward u)) s u s v) → Runs (InTurn AllOutSteps (links_downward v)) a v b w → IsRound a b t w
 round_done a b t u v w takes dues leaves =
     let x = takes a in
     let y = dues a in

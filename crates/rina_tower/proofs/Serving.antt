@@ -18,7 +18,7 @@ use Rattle.rina_iface.specs.declared.error.UnregisterError.TheVariants as unregi
 use Rattle.rina_iface.specs.declared.ask.Fixed.{Fixed}
 use Rattle.rina_iface.specs.Allocate.{Allocates}
 use Rattle.rina_iface.specs.Bind.{Binds, CanBind}
-use Rattle.rina_data.proofs.Own.{map_at}
+use Rattle.rina_dif_law.proofs.Own.{map_at}
 use Rattle.rina_iface.specs.Claim.{Claims}
 use Rattle.rina_iface.specs.Free.{Frees}
 use Rattle.rina_iface.specs.Pass.{IsPassed}
@@ -32,11 +32,11 @@ use Rattle.rina_iface.specs.Unregister.{Unregisters}
 use Rattle.rina_dif.specs.declared.dif.Dif.{Dif}
 use Rattle.rina_dif.specs.Facade.{StaysStanding, own_refusal}
 use Rattle.rina_tower.specs.declared.tower.Tower.{Tower, Rank', Wires}
-use Rattle.rina_tower.specs.Beside.{Anyone, IsIpc, LeavesNow}
+use Rattle.rina_tower.specs.Bystanders.{Anyone, IsIpc, LeavesNow}
 use Rattle.rina_tower.specs.Calls.{AreDifs, BindsFrom, MayBind, FreesFrom, PassesFrom, SendsFrom, Serves, WaitsThere}
 use Rattle.rina_tower.specs.Ranks.{fac_of_dif, height_of, now_of, seen_now, seen_of, seen_of_difs}
-use Rattle.rina_tower.specs.Standing.{AreStanding, At, IsRank, IsTower, kept_of}
-use Rattle.rina_tower.specs.Walking.{AtDif, IsAtDif, SameBelow}
+use Rattle.rina_tower.specs.Stands.{AreStanding, At, IsRank, IsTower, kept_of}
+use Rattle.rina_tower.specs.Levels.{AtDif, IsAtDif, SameBelow}
 use Rattle.rina_tower.proofs.Alone.{fewer_now, same_alone}
 use Rattle.rina_tower.proofs.Ranking.{is_rank, shown_after, shows, standing_after, standing_beside}
 

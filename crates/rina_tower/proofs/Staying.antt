@@ -13,10 +13,10 @@ use Rattle.rina_dif.specs.declared.rerouting.Layout.{Layout}
 use Rattle.rina_dif.specs.Laying.{IsNew}
 use Rattle.rina_tower.specs.declared.tower.Tower.{Tower, Rank', Wires}
 use Rattle.rina_tower.specs.Calls.{Serves}
-use Rattle.rina_tower.specs.Planned.{AreOfPlan, IsAsPlanned, IsOfPlan}
+use Rattle.rina_tower.specs.PlanSettings.{AreOfPlan, IsAsPlanned, IsOfPlan}
 use Rattle.rina_tower.specs.Ranks.{height_of}
-use Rattle.rina_tower.specs.Staying.{AreStaying, IsStaying, difs_refl}
-use Rattle.rina_tower.specs.Walking.{AtDif, IsAtDif, SameBelow}
+use Rattle.rina_tower.specs.Unchanged.{AreStaying, IsStaying, difs_refl}
+use Rattle.rina_tower.specs.Levels.{AtDif, IsAtDif, SameBelow}
 
 -- A DIF
 

@@ -2,11 +2,11 @@
 use Rattle.std.proofs.Common.{◌≡◌, ◌∙◌, ℕ, List, sym, ap, subst, inl, inr}
 use Rattle.rina_iface.specs.Seen.{Seen}
 use Rattle.rina_dif.specs.declared.dif.Dif.{Dif}
-use Rattle.rina_tower.specs.Beside.{Anyone, LeavesNow}
-use Rattle.rina_tower.specs.Lasting.{StandsAfter}
+use Rattle.rina_tower.specs.Bystanders.{Anyone, LeavesNow}
+use Rattle.rina_tower.specs.StepEffect.{StandsAfter}
 use Rattle.rina_tower.specs.Ranks.{seen_of_difs}
-use Rattle.rina_tower.specs.Standing.{AreStanding}
-use Rattle.rina_tower.specs.Walking.{AtDif}
+use Rattle.rina_tower.specs.Stands.{AreStanding}
+use Rattle.rina_tower.specs.Levels.{AtDif}
 use Rattle.rina_tower.proofs.Alone.{same_alone}
 use Rattle.rina_tower.proofs.Ranking.{silent_alone, standing_after}
 

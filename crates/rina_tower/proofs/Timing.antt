@@ -7,22 +7,22 @@ use Rattle.rina_iface.specs.Seen.{Fac, Seen}
 use Rattle.rina_iface.proofs.Changed.{set_at}
 use Rattle.rina_iface.proofs.Later.{fac_refl}
 use Rattle.rina_law.specs.Direction.{Direction}
-use Rattle.rina_data.specs.Cloud.{IsMine}
-use Rattle.rina_data.specs.Configs.{config_of}
-use Rattle.rina_data.specs.Dif.{Config, DifSeen, fac_of}
-use Rattle.rina_data.specs.Lifting.{IsLifted, ticked}
-use Rattle.rina_data.specs.Passing.{IsTicked}
+use Rattle.rina_dif_law.specs.Cloud.{IsMine}
+use Rattle.rina_data.specs.Configs.{Config, config_of}
+use Rattle.rina_dif_law.specs.Dif.{DifSeen, fac_of}
+use Rattle.rina_dif_law.specs.Lifting.{IsLifted, ticked}
+use Rattle.rina_dif_law.specs.Passing.{IsTicked}
 use Rattle.rina_data.proofs.Finding.{there}
-use Rattle.rina_data.proofs.Own.{map_at}
+use Rattle.rina_dif_law.proofs.Own.{map_at}
 use Rattle.rina_dif.specs.declared.dif.Dif.{Dif}
 use Rattle.rina_dif.specs.Holding.{Holds}
 use Rattle.rina_dif.specs.Shown.{seen_of as seen_of_dif}
 use Rattle.rina_tower.specs.declared.tower.Tower.{Tower}
-use Rattle.rina_tower.specs.Beside.{Anyone, Leaves, LeavesEnds}
+use Rattle.rina_tower.specs.Bystanders.{Anyone, Leaves, LeavesEnds}
 use Rattle.rina_tower.specs.Ranks.{fac_of_dif, height_of, now_of, seen_now, seen_of, seen_of_difs}
-use Rattle.rina_tower.specs.Standing.{At, IsRank, IsTower, kept_of}
-use Rattle.rina_tower.specs.Staying.{IsStaying}
-use Rattle.rina_tower.specs.Ticking.{AreClocked, IsClocked}
+use Rattle.rina_tower.specs.Stands.{At, IsRank, IsTower, kept_of}
+use Rattle.rina_tower.specs.Unchanged.{IsStaying}
+use Rattle.rina_tower.specs.ClockTick.{AreClocked, IsClocked}
 use Rattle.rina_tower.proofs.Alone.{ends_alone, lifted}
 use Rattle.rina_tower.proofs.Ranking.{is_rank}
 

@@ -20,21 +20,23 @@ use Rattle.rina_data.specs.declared.step.OutStep.{OutStep}
 use Rattle.rina_data.specs.declared.step.OutStep.TheVariants as outs
 use Rattle.rina_data.specs.declared.step.StepError.{StepError}
 use Rattle.rina_data.specs.declared.step.StepError.TheVariants as errors
-use Rattle.rina_data.specs.Cloud.{IsMine}
-use Rattle.rina_data.specs.Configs.{config_of}
-use Rattle.rina_data.specs.Dif.{Config, DifSeen, Member, Process, link_by}
-use Rattle.rina_data.specs.Incoming.{Ins}
-use Rattle.rina_data.specs.Outgoing.{Goes, Offs, Outs}
-use Rattle.rina_data.specs.Sending.{home}
-use Rattle.rina_data.specs.Standing.{IsStanding}
-use Rattle.rina_data.proofs.Finding.{beside, live_link}
+use Rattle.rina_dif_law.specs.Cloud.{IsMine}
+use Rattle.rina_data.specs.Configs.{Config, Member, config_of}
+use Rattle.rina_dif_law.specs.Dif.{DifSeen}
+use Rattle.rina_data.specs.Process.{Process, link_by}
+use Rattle.rina_dif_law.specs.Incoming.{Ins}
+use Rattle.rina_data.specs.Outgoing.{Goes, Offs}
+use Rattle.rina_dif_law.specs.Outgoing.{Outs}
+use Rattle.rina_dif_law.specs.Sending.{home}
+use Rattle.rina_dif_law.specs.Standing.{IsStanding}
+use Rattle.rina_dif_law.proofs.Finding.{beside, live_link}
 use Rattle.rina_dif.specs.declared.dif.Dif.{Dif}
 use Rattle.rina_dif.specs.Holding.{Holds, Stands}
 use Rattle.rina_dif.specs.Shown.{seen_of}
 use Rattle.rina_dif.specs.Steps.{AtHome, OutsAt}
 use Rattle.rina_dif.specs.Taking.{InsAt, TakesHome}
-use Rattle.rina_tower.specs.Beside.{IsIpc}
-use Rattle.rina_tower.specs.Using.{MayUse}
+use Rattle.rina_tower.specs.Bystanders.{IsIpc}
+use Rattle.rina_tower.specs.LowerUse.{MayUse}
 
 -- all members are IPC processes by their names
 abbrev AreIpc : List Member → Type 0

@@ -15,12 +15,13 @@ use Rattle.rina_data.specs.declared.step.StepError.{StepError}
 use Rattle.rina_data.specs.declared.step.StepError.TheVariants as errors
 use Rattle.rina_data.specs.declared.step.Took.{Took}
 use Rattle.rina_data.specs.declared.step.Took.TheVariants as took
-use Rattle.rina_data.specs.Cloud.{Hop}
-use Rattle.rina_data.specs.Configs.{config_of}
-use Rattle.rina_data.specs.Dif.{DifSeen, Member, Process}
-use Rattle.rina_data.specs.Incoming.{Ins, IsArrived, IsTold, Settles, SettlesOff}
-use Rattle.rina_data.specs.Outgoing.{Outs}
-use Rattle.rina_data.specs.Sending.{home}
+use Rattle.rina_data.specs.Hops.{Hop}
+use Rattle.rina_data.specs.Configs.{Member, config_of}
+use Rattle.rina_dif_law.specs.Dif.{DifSeen}
+use Rattle.rina_data.specs.Process.{Process}
+use Rattle.rina_dif_law.specs.Incoming.{Ins, IsArrived, IsTold, Settles, SettlesOff}
+use Rattle.rina_dif_law.specs.Outgoing.{Outs}
+use Rattle.rina_dif_law.specs.Sending.{home}
 use Rattle.rina_dif.specs.declared.dif.Dif.{Dif}
 use Rattle.rina_dif.specs.Clocking.{ClockStepsAt, Steps, StepsFlow, StepsOk}
 use Rattle.rina_dif.specs.Holding.{Holds, Stands}

@@ -17,9 +17,9 @@ use Rattle.rina_dif.specs.declared.dif.Dif.{Dif}
 use Rattle.rina_wire.specs.Air.{Air}
 use Rattle.rina_tower.specs.declared.tower.Tower.{Tower, Rank', Wires}
 use Rattle.rina_tower.specs.Applications.{CanPass, is_ipc_at, is_ipc_end}
-use Rattle.rina_tower.specs.Beside.{IsIpc, LeavesNow, is_ipc}
+use Rattle.rina_tower.specs.Bystanders.{IsIpc, LeavesNow, is_ipc}
 use Rattle.rina_tower.specs.Ranks.{height_of, rank_of, seen_of}
-use Rattle.rina_tower.specs.Walking.{AtRank, SameBelow}
+use Rattle.rina_tower.specs.Levels.{AtRank, SameBelow}
 use Rattle.rina_tower.proofs.Calling.{allocates_alone, passes_alone, sends_alone}
 
 -- at the own rank

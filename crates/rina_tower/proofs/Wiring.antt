@@ -22,7 +22,7 @@ use Rattle.rina_wire.proofs.LaterTick.{ticks_later}
 use Rattle.rina_wire.proofs.Seen.{fac_at, seen_on_wire}
 use Rattle.rina_wire.proofs.SoundCut.{OnlyStates, cut_states, cuts_later}
 use Rattle.rina_wire.proofs.Ticks.{whole}
-use Rattle.rina_tower.specs.Beside.{Anyone, Leaves, LeavesEnds, LeavesNow}
+use Rattle.rina_tower.specs.Bystanders.{Anyone, Leaves, LeavesEnds, LeavesNow}
 use Rattle.rina_tower.proofs.Alone.{end_alone, fac_alone, same_alone}
 
 -- Journals of which nothing was sent or passed

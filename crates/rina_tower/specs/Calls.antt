@@ -40,7 +40,7 @@ use Rattle.rina_wire.specs.Register.{RegistersOn}
 use Rattle.rina_wire.specs.Send.{SendsOn, passed}
 use Rattle.rina_wire.specs.Unregister.{UnregistersOn}
 use Rattle.rina_tower.specs.declared.tower.Tower.{Tower, Wires, Rank'}
-use Rattle.rina_tower.specs.Walking.{AtDif, IsAtDif}
+use Rattle.rina_tower.specs.Levels.{AtDif, IsAtDif}
 
 -- all of these are DIFs
 abbrev pub AreDifs : List Dif → Type 0
@@ -72,23 +72,23 @@ pub record Serves (call : Seen → Seen → Type 0) (n : ℕ) (d d' : Dif) : Typ
 
 -- Names and asks
 
-abbrev pub RegistersHere : ℕ → ℕ → List ℕ → Result (Unit {0}) RegisterError → Tower → Tower → Type 0
-RegistersHere fac node app result (Wires a) (Wires a') = RegistersOn a fac node app result a'
-RegistersHere fac node app result (Rank' p difs below) (Rank' p' difs' below') =
+abbrev pub RegistersAtTop : ℕ → ℕ → List ℕ → Result (Unit {0}) RegisterError → Tower → Tower → Type 0
+RegistersAtTop fac node app result (Wires a) (Wires a') = RegistersOn a fac node app result a'
+RegistersAtTop fac node app result (Rank' p difs below) (Rank' p' difs' below') =
     AtDif fac (Serves (λ s s'. Registers (Some register.Unbuilt) s fac node app result s') fac) (result ≡ Err register.NoMember) difs difs' × (below' ≡ below)
-RegistersHere fac node app result t t' = ⊥
+RegistersAtTop fac node app result t t' = ⊥
 
-abbrev pub UnregistersHere : ℕ → ℕ → List ℕ → Result (Unit {0}) UnregisterError → Tower → Tower → Type 0
-UnregistersHere fac node app result (Wires a) (Wires a') = UnregistersOn a fac node app result a'
-UnregistersHere fac node app result (Rank' p difs below) (Rank' p' difs' below') =
+abbrev pub UnregistersAtTop : ℕ → ℕ → List ℕ → Result (Unit {0}) UnregisterError → Tower → Tower → Type 0
+UnregistersAtTop fac node app result (Wires a) (Wires a') = UnregistersOn a fac node app result a'
+UnregistersAtTop fac node app result (Rank' p difs below) (Rank' p' difs' below') =
     AtDif fac (Serves (λ s s'. Unregisters (Some unregister.Unbuilt) s fac node app result s') fac) (result ≡ Err unregister.NotThere) difs difs' × (below' ≡ below)
-UnregistersHere fac node app result t t' = ⊥
+UnregistersAtTop fac node app result t t' = ⊥
 
-abbrev pub AllocatesHere : Ask → Result Port AllocateError → Tower → Tower → Type 0
-AllocatesHere ask result (Wires a) (Wires a') = AllocatesOn a ask result a'
-AllocatesHere ask result (Rank' p difs below) (Rank' p' difs' below') =
+abbrev pub AllocatesAtTop : Ask → Result Port AllocateError → Tower → Tower → Type 0
+AllocatesAtTop ask result (Wires a) (Wires a') = AllocatesOn a ask result a'
+AllocatesAtTop ask result (Rank' p difs below) (Rank' p' difs' below') =
     AtDif ask.fac (Serves (λ s s'. Allocates (Some allocate.Unbuilt) s ask result s') ask.fac) (result ≡ Err allocate.NoMember) difs difs' × (below' ≡ below)
-AllocatesHere ask result t t' = ⊥
+AllocatesAtTop ask result t t' = ⊥
 
 -- what `bind` does at the DIF of a fixed flow
 pub record BindsFrom (fixed : Fixed) (result : Result (Port × Port) AllocateError) (d d' : Dif) : Type 0 where
@@ -96,17 +96,17 @@ pub record BindsFrom (fixed : Fixed) (result : Result (Port × Port) AllocateErr
   pub does : (lines : List Direction) (below : Seen) → Holds d lines below → BindsTo d lines below fixed result d'
 
 -- under the condition of `bind` there is such a DIF
-abbrev pub BindsHere : Fixed → Result (Port × Port) AllocateError → Tower → Tower → Type 0
-BindsHere fixed result (Wires a) (Wires a') = BindsOn a fixed result a'
-BindsHere fixed result (Rank' p difs below) (Rank' p' difs' below') =
+abbrev pub BindsAtTop : Fixed → Result (Port × Port) AllocateError → Tower → Tower → Type 0
+BindsAtTop fixed result (Wires a) (Wires a') = BindsOn a fixed result a'
+BindsAtTop fixed result (Rank' p difs below) (Rank' p' difs' below') =
     IsAtDif (BindsFrom fixed result) fixed.fac difs difs' × (below' ≡ below)
-BindsHere fixed result t t' = ⊥
+BindsAtTop fixed result t t' = ⊥
 
-abbrev pub ClaimsHere : ℕ → ℕ → List ℕ → Option Port → Tower → Tower → Type 0
-ClaimsHere fac node app result (Wires a) (Wires a') = ClaimsOn a fac node app result a'
-ClaimsHere fac node app result (Rank' p difs below) (Rank' p' difs' below') =
+abbrev pub ClaimsAtTop : ℕ → ℕ → List ℕ → Option Port → Tower → Tower → Type 0
+ClaimsAtTop fac node app result (Wires a) (Wires a') = ClaimsOn a fac node app result a'
+ClaimsAtTop fac node app result (Rank' p difs below) (Rank' p' difs' below') =
     AtDif fac (Serves (λ s s'. Claims s fac node app result s') fac) (result ≡ None) difs difs' × (below' ≡ below)
-ClaimsHere fac node app result t t' = ⊥
+ClaimsAtTop fac node app result t t' = ⊥
 
 -- SDUs
 
@@ -115,11 +115,11 @@ pub record SendsFrom (port : Port) (bytes : List ℕ) (result : Result Num SendE
   pub serves : Serves (λ s s'. Sends (own_refusal d port (length bytes)) s port bytes result s') port.fac d d'
   pub does : (lines : List Direction) (below : Seen) → Holds d lines below → SendsAt (place_in port d.flows.journal.ends) d lines below bytes result d'
 
-abbrev pub SendsHere : Port → List ℕ → Result Num SendError → Tower → Tower → Type 0
-SendsHere port bytes result (Wires a) (Wires a') = SendsOn a port bytes result a'
-SendsHere port bytes result (Rank' p difs below) (Rank' p' difs' below') =
+abbrev pub SendsAtTop : Port → List ℕ → Result Num SendError → Tower → Tower → Type 0
+SendsAtTop port bytes result (Wires a) (Wires a') = SendsOn a port bytes result a'
+SendsAtTop port bytes result (Rank' p difs below) (Rank' p' difs' below') =
     AtDif port.fac (SendsFrom port bytes result) (result ≡ Err (send.NotAllocated None)) difs difs' × (below' ≡ below)
-SendsHere port bytes result t t' = ⊥
+SendsAtTop port bytes result t t' = ⊥
 
 -- what `pass` does at the DIF of a port
 pub record PassesFrom (port : Port) (d d' : Dif) : Type 0 where
@@ -127,10 +127,10 @@ pub record PassesFrom (port : Port) (d d' : Dif) : Type 0 where
   pub does : (lines : List Direction) (below : Seen) → Holds d lines below → PassesAt d lines port d' below
 
 -- where an SDU waits there is such a DIF
-abbrev pub PassesHere : Port → Tower → Tower → Type 0
-PassesHere port (Wires a) (Wires a') = a' ≡ passed a port
-PassesHere port (Rank' p difs below) (Rank' p' difs' below') = IsAtDif (PassesFrom port) port.fac difs difs' × (below' ≡ below)
-PassesHere port t t' = ⊥
+abbrev pub PassesAtTop : Port → Tower → Tower → Type 0
+PassesAtTop port (Wires a) (Wires a') = a' ≡ passed a port
+PassesAtTop port (Rank' p difs below) (Rank' p' difs' below') = IsAtDif (PassesFrom port) port.fac difs difs' × (below' ≡ below)
+PassesAtTop port t t' = ⊥
 
 -- The end of a flow
 
@@ -139,8 +139,8 @@ pub record FreesFrom (port : Port) (result : Result (Unit {0}) FreeError) (d d' 
   pub serves : Serves (λ s s'. Frees false s port result s') port.fac d d'
   pub does : (lines : List Direction) (below : Seen) → Holds d lines below → FreesAt (place_in port d.flows.journal.ends) d lines below result d'
 
-abbrev pub FreesHere : Port → Result (Unit {0}) FreeError → Tower → Tower → Type 0
-FreesHere port result (Wires a) (Wires a') = FreesOn a port result a'
-FreesHere port result (Rank' p difs below) (Rank' p' difs' below') =
+abbrev pub FreesAtTop : Port → Result (Unit {0}) FreeError → Tower → Tower → Type 0
+FreesAtTop port result (Wires a) (Wires a') = FreesOn a port result a'
+FreesAtTop port result (Rank' p difs below) (Rank' p' difs' below') =
     AtDif port.fac (FreesFrom port result) (result ≡ Err free.NoPort) difs difs' × (below' ≡ below)
-FreesHere port result t t' = ⊥
+FreesAtTop port result t t' = ⊥

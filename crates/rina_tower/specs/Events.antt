@@ -4,7 +4,7 @@ use Rattle.rina_wire.specs.declared.event.WireError.{WireError}
 use Rattle.rina_wire.specs.Cut.{CutsOn, MendsOn}
 use Rattle.rina_wire.specs.Disturb.{HoldsOn, LosesOn, RepeatsOn}
 use Rattle.rina_tower.specs.declared.tower.Tower.{Tower}
-use Rattle.rina_tower.specs.Walking.{AtWires}
+use Rattle.rina_tower.specs.Levels.{AtWires}
 
 abbrev pub Loses : ℕ → ℕ → Result (Unit {0}) WireError → Tower → Tower → Type 0
 Loses wire k result t t' = AtWires (λ a a'. LosesOn a wire k result a') t t'

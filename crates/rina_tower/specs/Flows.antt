@@ -10,8 +10,8 @@ use Rattle.rina_plan.specs.declared.dif.FlowPlan.{FlowPlan}
 use Rattle.rina_stack.specs.declared.plan.Plan.{Plan}
 use Rattle.rina_dif.specs.Planned.{number_of}
 use Rattle.rina_tower.specs.declared.tower.Tower.{Tower}
-use Rattle.rina_tower.specs.Beside.{IsIpc}
-use Rattle.rina_tower.specs.Fitting.{links_at}
+use Rattle.rina_tower.specs.Bystanders.{IsIpc}
+use Rattle.rina_tower.specs.Fits.{links_at}
 use Rattle.rina_tower.specs.Ranks.{rank_of, seen_of}
 
 -- how many links the DIFs above have on the i-th DIF of the stack, which is this one

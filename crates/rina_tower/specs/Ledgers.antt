@@ -2,7 +2,7 @@
 use Rattle.std.specs.Prelude.{◌≡◌, ℕ, List, slice_get, Option, Some, None, option_and_then}
 use Rattle.rina_account.specs.declared.ledger.Off.{Off}
 use Rattle.rina_data.specs.Configs.{config_of}
-use Rattle.rina_data.specs.Sending.{home}
+use Rattle.rina_dif_law.specs.Sending.{home}
 use Rattle.rina_dif.specs.declared.dif.Dif.{Dif}
 use Rattle.rina_dif.specs.Facade.{IsLedger}
 use Rattle.rina_tower.specs.declared.tower.Tower.{Tower, Wires, Rank'}

@@ -1,7 +1,7 @@
 -- What a contract sees of a tower, rank by rank.
 use Rattle.std.specs.Prelude.{◌≡◌, ℕ, ◌+◌, ◌==◌, List, map, Option, Some, None, if◌then◌else◌, refl}
 use Rattle.rina_iface.specs.Seen.{Fac, Seen}
-use Rattle.rina_data.specs.Dif.{fac_of}
+use Rattle.rina_dif_law.specs.Dif.{fac_of}
 use Rattle.rina_dif.specs.declared.dif.Dif.{Dif}
 use Rattle.rina_dif.specs.Shown.{seen_of as seen_of_dif}
 use Rattle.rina_wire.specs.Air.{seen_of as seen_of_wires}

@@ -17,18 +17,18 @@ use Rattle.rina_dif.specs.declared.dif.Dif.{Dif}
 use Rattle.rina_tower.specs.declared.places.LinkPlace.{LinkPlace}
 use Rattle.rina_tower.specs.declared.places.MemberPlace.{MemberPlace}
 use Rattle.rina_tower.specs.declared.tower.Tower.{Tower, Wires, Rank'}
-use Rattle.rina_tower.specs.Beside.{Anyone, LeavesNow}
+use Rattle.rina_tower.specs.Bystanders.{Anyone, LeavesNow}
 use Rattle.rina_tower.specs.Ranks.{height_of, seen_of}
-use Rattle.rina_tower.specs.Standing.{IsTower}
-use Rattle.rina_tower.specs.Stepping.{ClocksAt, InSteps, OutSteps}
+use Rattle.rina_tower.specs.Stands.{IsTower}
+use Rattle.rina_tower.specs.Steps.{ClocksAt, InSteps, OutSteps}
 
 -- Single steps
 
 -- one step of a DIF, at a link of an IPC process or by its clock, and what it answered
 pub data Move : Type 0 where
-  Taking : LinkPlace → Result InStep StepError → Move
-  Clocking : MemberPlace → Result ClockStep StepError → Move
-  Letting : LinkPlace → Result OutStep StepError → Move
+  InMove : LinkPlace → Result InStep StepError → Move
+  ClockMove : MemberPlace → Result ClockStep StepError → Move
+  OutMove : LinkPlace → Result OutStep StepError → Move
 
 -- whatever a policy may answer
 abbrev pub Anything : List ℕ → ℕ → List Head → ℕ → Type 0
@@ -36,9 +36,9 @@ Anything name who heads place = Unit {0}
 
 -- the step does to shelf and tower what that single step does; a policy may answer any place among the heads
 abbrev pub Moves : Move → List Slot → Tower → List Slot → Tower → Type 0
-Moves (Taking p result) slots t slots' t' = (slots' ≡ slots) × InSteps p.rank p.dif p.node p.link result t t'
-Moves (Clocking p result) slots t slots' t' = (slots' ≡ slots) × ClocksAt p.rank p.dif p.node result t t'
-Moves (Letting p result) slots t slots' t' = OutSteps Anything slots slots' p.rank p.dif p.node p.link result t t'
+Moves (InMove p result) slots t slots' t' = (slots' ≡ slots) × InSteps p.rank p.dif p.node p.link result t t'
+Moves (ClockMove p result) slots t slots' t' = (slots' ≡ slots) × ClocksAt p.rank p.dif p.node result t t'
+Moves (OutMove p result) slots t slots' t' = OutSteps Anything slots slots' p.rank p.dif p.node p.link result t t'
 
 -- steps one after the other
 abbrev pub AllMove : List Move → List Slot → Tower → List Slot → Tower → Type 0
@@ -143,23 +143,23 @@ has_left (Ok (outs.Off key cause)) = true
 has_left answer = false
 
 -- no PDU waits, or the first one stays
-abbrev pub lets_no_more : Result OutStep StepError → Bool
-lets_no_more (Ok (outs.Sent key)) = false
-lets_no_more (Ok (outs.Off key cause)) = false
-lets_no_more (Err errors.Memory) = false
-lets_no_more answer = true
+abbrev pub leaves_no_more : Result OutStep StepError → Bool
+leaves_no_more (Ok (outs.Sent key)) = false
+leaves_no_more (Ok (outs.Off key cause)) = false
+leaves_no_more (Err errors.Memory) = false
+leaves_no_more answer = true
 
 -- the steps at a link that take until nothing is left
-abbrev pub TakesAll : LinkPlace → List Move → Type 0
-TakesAll p ms = (answers : List (Result InStep StepError)) × IsUntil has_taken takes_no_more answers × (ms ≡ map (Taking p) answers)
+abbrev pub AllInSteps : LinkPlace → List Move → Type 0
+AllInSteps p ms = (answers : List (Result InStep StepError)) × IsUntil has_taken takes_no_more answers × (ms ≡ map (InMove p) answers)
 
 -- the steps of an IPC process by its clock until nothing is due
-abbrev pub DoesAllDue : MemberPlace → List Move → Type 0
-DoesAllDue p ms = (answers : List (Result ClockStep StepError)) × IsUntil was_due none_due answers × (ms ≡ map (Clocking p) answers)
+abbrev pub AllClockSteps : MemberPlace → List Move → Type 0
+AllClockSteps p ms = (answers : List (Result ClockStep StepError)) × IsUntil was_due none_due answers × (ms ≡ map (ClockMove p) answers)
 
 -- the steps at a link that let PDUs go until none waits or one stays
-abbrev pub LetsAll : LinkPlace → List Move → Type 0
-LetsAll p ms = (answers : List (Result OutStep StepError)) × IsUntil has_left lets_no_more answers × (ms ≡ map (Letting p) answers)
+abbrev pub AllOutSteps : LinkPlace → List Move → Type 0
+AllOutSteps p ms = (answers : List (Result OutStep StepError)) × IsUntil has_left leaves_no_more answers × (ms ≡ map (OutMove p) answers)
 
 -- at one place after the other
 abbrev pub InTurn : {P : Type 0} → (P → List Move → Type 0) → List P → List Move → Type 0
@@ -173,12 +173,12 @@ InTurn At (p ∷ ps) ms = (first : List Move) × (rest : List Move) × At p firs
 pub record IsRound (slots slots' : List Slot) (t t' : Tower) : Type 0 where
   pub taken : Tower
   pub takes : List Move
-  pub takes_are : InTurn TakesAll (links_upward t) takes
+  pub takes_are : InTurn AllInSteps (links_upward t) takes
   pub do_take : AllMove takes slots t slots taken
   pub clocked : Tower
   pub dues : List Move
-  pub dues_are : InTurn DoesAllDue (members_upward taken) dues
+  pub dues_are : InTurn AllClockSteps (members_upward taken) dues
   pub do_dues : AllMove dues slots taken slots clocked
   pub leaves : List Move
-  pub leaves_are : InTurn LetsAll (links_downward clocked) leaves
+  pub leaves_are : InTurn AllOutSteps (links_downward clocked) leaves
   pub do_leave : AllMove leaves slots clocked slots' t'

@@ -4,15 +4,15 @@ ghost use Rattle.rina_iface.specs.declared.error.RegisterError.TheVariants as re
 ghost use Rattle.rina_iface.specs.declared.error.UnregisterError.TheVariants as unregister;
 ghost use Rattle.rina_tower.specs.declared.applications.AppError.TheVariants.{Call};
 ghost use Rattle.rina_tower.specs.Applications.{Answers, AppRegisters, AppUnregisters};
-ghost use Rattle.rina_tower.specs.Beside.{IsIpc, LeavesNow, is_ipc};
-ghost use Rattle.rina_tower.specs.Calls.{RegistersHere, UnregistersHere};
-ghost use Rattle.rina_tower.specs.Failing.{has_failed};
+ghost use Rattle.rina_tower.specs.Bystanders.{IsIpc, LeavesNow, is_ipc};
+ghost use Rattle.rina_tower.specs.Calls.{RegistersAtTop, UnregistersAtTop};
+ghost use Rattle.rina_tower.specs.MemoryFailure.{has_failed};
 ghost use Rattle.rina_tower.specs.Ranks.{height_of, seen_of};
-ghost use Rattle.rina_tower.specs.Standing.{IsTower};
-ghost use Rattle.rina_tower.specs.Walking.{SameBelow};
+ghost use Rattle.rina_tower.specs.Stands.{IsTower};
+ghost use Rattle.rina_tower.specs.Levels.{SameBelow};
 
-mod asking;
-mod sending;
+mod flows;
+mod ports;
 
 use crate::tower::Tower;
 use rina_base::{AppName, Node};
@@ -32,7 +32,7 @@ pub enum AppError<E> {
 
 impl Tower {
     /// Registers an application at the own rank, where it is no IPC process.
-    fn register_app(
+    fn register_app_at_top(
         &mut self,
         alloc: Global,
         fac: u16,
@@ -42,14 +42,14 @@ impl Tower {
         requires { IsTower self.old }
         ensures valid { IsTower self.new }
         ensures below { SameBelow self.old self.new }
-        ensures does { Answers (is_ipc app.now) (λ x. RegistersHere fac node app.now x self.old self.new) (self.new ≡ self.old) result }
+        ensures does { Answers (is_ipc app.now) (λ x. RegistersAtTop fac node app.now x self.old self.new) (self.new ≡ self.old) result }
         ensures fails { result ≡ Err (Call register.Memory) → has_failed self.new ≡ true }
         ensures beside { LeavesNow IsIpc (seen_of self.old) (seen_of self.new) }
     {
         if app.is_ipc() {
             return Err(AppError::NotYours);
         }
-        match self.register_here(alloc, fac, node, app) {
+        match self.register_at_top(alloc, fac, node, app) {
             Ok(()) => Ok(()),
             Err(error) => Err(AppError::Call(error)),
         }
@@ -75,11 +75,11 @@ impl Tower {
         if self.has_failed() {
             return Err(AppError::Call(RegisterError::Memory));
         }
-        self.app_register_at(alloc, r, fac, node, app)
+        self.app_register_at_rank(alloc, r, fac, node, app)
     }
 
     /// The same, where nobody asks whether memory was wanted before.
-    fn app_register_at(
+    fn app_register_at_rank(
         &mut self,
         alloc: Global,
         r: u16,
@@ -95,16 +95,16 @@ impl Tower {
         ensures height { height_of self.new ≡ height_of self.old }
     {
         if r == self.height() {
-            return self.register_app(alloc, fac, node, app);
+            return self.register_app_at_top(alloc, fac, node, app);
         }
         match self {
             Tower::Wires(_) => Err(AppError::NoRank),
-            Tower::Rank(rank) => rank.below.app_register_at(alloc, r, fac, node, app),
+            Tower::Rank(rank) => rank.below.app_register_at_rank(alloc, r, fac, node, app),
         }
     }
 
     /// Ends the registration of an application at the own rank, where it is no IPC process.
-    fn unregister_app(
+    fn unregister_app_at_top(
         &mut self,
         alloc: Global,
         fac: u16,
@@ -114,14 +114,14 @@ impl Tower {
         requires { IsTower self.old }
         ensures valid { IsTower self.new }
         ensures below { SameBelow self.old self.new }
-        ensures does { Answers (is_ipc app.now) (λ x. UnregistersHere fac node app.now x self.old self.new) (self.new ≡ self.old) result }
+        ensures does { Answers (is_ipc app.now) (λ x. UnregistersAtTop fac node app.now x self.old self.new) (self.new ≡ self.old) result }
         ensures fails { result ≡ Err (Call unregister.Memory) → has_failed self.new ≡ true }
         ensures beside { LeavesNow IsIpc (seen_of self.old) (seen_of self.new) }
     {
         if app.is_ipc() {
             return Err(AppError::NotYours);
         }
-        match self.unregister_here(alloc, fac, node, app) {
+        match self.unregister_at_top(alloc, fac, node, app) {
             Ok(()) => Ok(()),
             Err(error) => Err(AppError::Call(error)),
         }
@@ -147,11 +147,11 @@ impl Tower {
         if self.has_failed() {
             return Err(AppError::Call(UnregisterError::Memory));
         }
-        self.app_unregister_at(alloc, r, fac, node, app)
+        self.app_unregister_at_rank(alloc, r, fac, node, app)
     }
 
     /// The same, where nobody asks whether memory was wanted before.
-    fn app_unregister_at(
+    fn app_unregister_at_rank(
         &mut self,
         alloc: Global,
         r: u16,
@@ -167,11 +167,11 @@ impl Tower {
         ensures height { height_of self.new ≡ height_of self.old }
     {
         if r == self.height() {
-            return self.unregister_app(alloc, fac, node, app);
+            return self.unregister_app_at_top(alloc, fac, node, app);
         }
         match self {
             Tower::Wires(_) => Err(AppError::NoRank),
-            Tower::Rank(rank) => rank.below.app_unregister_at(alloc, r, fac, node, app),
+            Tower::Rank(rank) => rank.below.app_unregister_at_rank(alloc, r, fac, node, app),
         }
     }
 }

@@ -2,18 +2,18 @@
 ghost use Rattle.std.specs.Prelude.{◌≡◌, false, ◌≤◌, ◌<◌, ◌==◌, ◌+◌, IfOk, OnOk, count_by, length, map, slice_get, Some, [], ◌∷◌};
 ghost use Rattle.rina_iface.specs.Bind.{CanBind};
 ghost use Rattle.rina_plan.specs.declared.dif.DifPlan.{DifPlan};
-ghost use Rattle.rina_sound.specs.Ranges.{HasNames};
+ghost use Rattle.rina_stack.specs.Ranges.{HasNames};
 ghost use Rattle.rina_stack.specs.Plan.{IsPlan};
 ghost use Rattle.rina_dif.specs.Laying.{CanBindAll};
 ghost use Rattle.rina_dif.specs.Planned.{flow_fixed, number_of};
-ghost use Rattle.rina_tower.specs.Building.{IsBuilt};
-ghost use Rattle.rina_tower.specs.Failing.{has_failed};
-ghost use Rattle.rina_tower.specs.Fitting.{flows_at};
-ghost use Rattle.rina_tower.specs.Laying.{IsGround};
-ghost use Rattle.rina_tower.specs.Making.{AreLaid, HasBound, IsHalfMade, IsHighest, IsPlain, IsRaised, LaysNext, flows_there};
-ghost use Rattle.rina_tower.specs.Planned.{IsAsPlanned};
+ghost use Rattle.rina_tower.specs.Built.{IsBuilt};
+ghost use Rattle.rina_tower.specs.MemoryFailure.{has_failed};
+ghost use Rattle.rina_tower.specs.Fits.{flows_at};
+ghost use Rattle.rina_tower.specs.Layout.{IsGround};
+ghost use Rattle.rina_tower.specs.BuildSteps.{AreLaid, HasBound, IsHalfMade, IsHighest, IsPlain, IsRaised, LaysNext, flows_there};
+ghost use Rattle.rina_tower.specs.PlanSettings.{IsAsPlanned};
 ghost use Rattle.rina_tower.specs.Ranks.{height_of, seen_of};
-ghost use Rattle.rina_tower.specs.Standing.{IsTower};
+ghost use Rattle.rina_tower.specs.Stands.{IsTower};
 
 use crate::difs::Difs;
 use crate::tower::{Rank, Tower};
@@ -57,27 +57,27 @@ fn count_of(difs: &[DifPlan], rank: u8) -> usize
 }
 
 /// The number of the DIF at a place among those of its rank.
-fn number_of(difs: &[DifPlan], at: usize) -> u16
+fn number_of(difs: &[DifPlan], place: usize) -> u16
     requires few { length difs.now ≤ 16 }
-    requires at { at < length difs.now }
-    ensures { result ≡ number_of difs.now at }
+    requires place { place < length difs.now }
+    ensures { result ≡ number_of difs.now place }
 {
-    let rank = difs[at].rank;
+    let rank = difs[place].rank;
     count_of(&difs[..at], rank) as u16
 }
 
 /// A flow of the DIF at a place of the stack, as a fixed flow of that DIF.
-fn flow_fixed(alloc: Global, plan: &Plan, at: usize, flow: &FlowPlan) -> Result<Fixed, Memory>
+fn flow_fixed(alloc: Global, plan: &Plan, place: usize, flow: &FlowPlan) -> Result<Fixed, Memory>
     requires plan { IsPlan plan.now }
-    requires at { at < length plan.now.difs }
+    requires place { place < length plan.now.difs }
     requires from { flow.now.from.node < length plan.now.nodes }
     requires to { flow.now.to.node < length plan.now.nodes }
     requires names { HasNames flow.now }
-    ensures exact { IfOk result (λ f. f ≡ flow_fixed plan.now at flow.now) }
+    ensures exact { IfOk result (λ f. f ≡ flow_fixed plan.now place flow.now) }
     ensures plain { IfOk result IsPlain }
 {
     Ok(Fixed {
-        fac: number_of(plan.difs.as_slice(), at),
+        fac: number_of(plan.difs.as_slice(), place),
         cube: flow.cube,
         a: flow.from.node as u16,
         a_app: app_of(alloc, &flow.from.app)?,
@@ -103,44 +103,44 @@ fn bind_flow(alloc: Global, tower: &mut Tower, fixed: &Fixed) -> Result<(), Memo
 fn bind_flows(
     alloc: Global,
     plan: &Plan,
-    at: usize,
+    place: usize,
     dif: &DifPlan,
     tower: &mut Tower,
 ) -> Result<(), Memory>
     requires plan { IsPlan plan.now }
-    requires at { slice_get plan.now.difs at ≡ Some dif.now }
+    requires place { slice_get plan.now.difs place ≡ Some dif.now }
     requires valid { IsTower tower.old }
-    requires can { CanBindAll (seen_of tower.old) (map (flow_fixed plan.now at) dif.now.flows) }
-    ensures { OnOk result (HasBound tower.old (map (flow_fixed plan.now at) dif.now.flows) tower.new) }
+    requires can { CanBindAll (seen_of tower.old) (map (flow_fixed plan.now place) dif.now.flows) }
+    ensures { OnOk result (HasBound tower.old (map (flow_fixed plan.now place) dif.now.flows) tower.new) }
 {
     for flow in dif.flows.as_slice() {
-        let fixed = flow_fixed(alloc, plan, at, flow)?;
+        let fixed = flow_fixed(alloc, plan, place, flow)?;
         bind_flow(alloc, tower, &fixed)?;
     }
     Ok(())
 }
 
 /// The same, where the DIF is of a rank.
-fn bind_there(
+fn bind_flows_on_rank(
     alloc: Global,
     plan: &Plan,
     rank: u8,
-    at: usize,
+    place: usize,
     tower: &mut Tower,
 ) -> Result<(), Memory>
     requires plan { IsPlan plan.now }
-    requires at { at < length plan.now.difs }
+    requires place { place < length plan.now.difs }
     requires valid { IsTower tower.old }
-    requires can { CanBindAll (seen_of tower.old) (flows_there plan.now rank at) }
-    ensures { OnOk result (HasBound tower.old (flows_there plan.now rank at) tower.new) }
+    requires can { CanBindAll (seen_of tower.old) (flows_there plan.now rank place) }
+    ensures { OnOk result (HasBound tower.old (flows_there plan.now rank place) tower.new) }
 {
-    let Some(dif) = plan.difs.get(at) else {
+    let Some(dif) = plan.difs.get(place) else {
         unreachable!()
     };
     if dif.rank != rank {
         return Ok(());
     }
-    bind_flows(alloc, plan, at, dif, tower)
+    bind_flows(alloc, plan, place, dif, tower)
 }
 
 /// Makes the flows of the DIFs of the own rank, in stack order.
@@ -150,41 +150,41 @@ fn bind_rank(alloc: Global, plan: &Plan, rank: u8, tower: &mut Tower) -> Result<
     requires can { CanBindAll (seen_of tower.old) (flows_at plan.now rank) }
     ensures { OnOk result (HasBound tower.old (flows_at plan.now rank) tower.new) }
 {
-    for at in 0..plan.difs.len() {
-        bind_there(alloc, plan, rank, at, tower)?;
+    for place in 0..plan.difs.len() {
+        bind_flows_on_rank(alloc, plan, rank, place, tower)?;
     }
     Ok(())
 }
 
 /// Makes the DIF at a place of the stack behind the others, where it is of the rank above a tower.
-fn lay_next(
+fn make_next_dif(
     alloc: Global,
     plan: &Plan,
     rank: u8,
-    at: usize,
+    place: usize,
     difs: &mut Difs,
     below: &mut Tower,
 ) -> Result<(), Memory>
     requires plan { IsPlan plan.now }
     requires rank { rank < 8 }
-    requires at { at < length plan.now.difs }
+    requires place { place < length plan.now.difs }
     requires valid { IsTower below.old }
-    requires laying { IsHalfMade plan.now rank at difs.old (seen_of below.old) }
-    ensures { OnOk result (LaysNext plan.now rank at difs.old below.old difs.new below.new) }
+    requires laying { IsHalfMade plan.now rank place difs.old (seen_of below.old) }
+    ensures { OnOk result (LaysNext plan.now rank place difs.old below.old difs.new below.new) }
 {
-    let Some(dif) = plan.difs.get(at) else {
+    let Some(dif) = plan.difs.get(place) else {
         unreachable!()
     };
     if dif.rank != rank + 1 {
         return Ok(());
     }
-    let made = Dif::of_plan(alloc, plan, at, below)?;
+    let made = Dif::of_plan(alloc, plan, place, below)?;
     difs.push(made)?;
     Ok(())
 }
 
 /// Makes the DIFs of the rank above a tower, in stack order.
-fn lay_rank(alloc: Global, plan: &Plan, rank: u8, below: &mut Tower) -> Result<Difs, Memory>
+fn make_rank(alloc: Global, plan: &Plan, rank: u8, below: &mut Tower) -> Result<Difs, Memory>
     requires plan { IsPlan plan.now }
     requires rank { rank < 8 }
     requires valid { IsTower below.old }
@@ -192,20 +192,20 @@ fn lay_rank(alloc: Global, plan: &Plan, rank: u8, below: &mut Tower) -> Result<D
     ensures { IfOk result (λ difs. AreLaid plan.now rank (length plan.now.difs) below.old difs below.new) }
 {
     let mut difs = Difs::new(alloc);
-    for at in 0..plan.difs.len() {
-        lay_next(alloc, plan, rank, at, &mut difs, below)?;
+    for place in 0..plan.difs.len() {
+        make_next_dif(alloc, plan, rank, place, &mut difs, below)?;
     }
     Ok(difs)
 }
 
 /// Makes the rank above a tower of so many ranks, and then the flows of the one that was its own.
-fn raise(alloc: Global, plan: &Plan, rank: u8, mut below: Tower) -> Result<Tower, Memory>
+fn add_rank(alloc: Global, plan: &Plan, rank: u8, mut below: Tower) -> Result<Tower, Memory>
     requires plan { IsPlan plan.now }
     requires rank { rank < 8 }
     requires raised { IsRaised plan.now rank below }
     ensures { IfOk result (IsRaised plan.now (rank + 1)) }
 {
-    let difs = lay_rank(alloc, plan, rank, &mut below)?;
+    let difs = make_rank(alloc, plan, rank, &mut below)?;
     bind_rank(alloc, plan, rank, &mut below)?;
     match Box::new(alloc, Rank { difs, below }) {
         Ok(own) => Ok(Tower::Rank(own)),
@@ -227,7 +227,7 @@ impl Tower {
         let top = highest(plan.difs.as_slice());
         let mut tower = Tower::Wires(Wires::new(alloc, plan)?);
         for rank in 0..top {
-            tower = raise(alloc, plan, rank, tower)?;
+            tower = add_rank(alloc, plan, rank, tower)?;
         }
         bind_rank(alloc, plan, top, &mut tower)?;
         // Who wanted memory has answered so; but the trait, by which a rank is used, does not tell that nobody else noted it.

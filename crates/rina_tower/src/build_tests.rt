@@ -1,6 +1,6 @@
 //! A tower is built of a stack, and an SDU goes down its ranks and up again.
 ghost use Rattle.std.specs.Prelude.{◌≡◌, [], IfOk};
-ghost use Rattle.rina_tower.specs.Standing.{IsTower};
+ghost use Rattle.rina_tower.specs.Stands.{IsTower};
 
 use super::*;
 use rina_base::{Memory, Name, Node, Port};
@@ -275,7 +275,7 @@ fn a_tower_that_wanted_memory_answers_so(rt: HostRuntime) -> Result<(), Fail> {
         n: 1,
     };
     assert!(rt; !tower.has_failed());
-    assert_eq!(rt; tower.fail(), Memory);
+    assert_eq!(rt; tower.remember_memory_failure(), Memory);
     assert!(rt; tower.has_failed());
     assert_eq!(rt;
         tower.app_send(alloc, 4, from, b"one"),

@@ -1,11 +1,11 @@
 //! The events of a wire of a tower.
 ghost use Rattle.std.specs.Prelude.{◌≡◌, true, false, Err};
 ghost use Rattle.rina_wire.specs.declared.event.WireError.TheVariants.{Memory};
-ghost use Rattle.rina_tower.specs.Beside.{Anyone, LeavesNow};
+ghost use Rattle.rina_tower.specs.Bystanders.{Anyone, LeavesNow};
 ghost use Rattle.rina_tower.specs.Events.{Cuts, HoldsBack, Loses, Mends, Repeats};
-ghost use Rattle.rina_tower.specs.Failing.{has_failed};
+ghost use Rattle.rina_tower.specs.MemoryFailure.{has_failed};
 ghost use Rattle.rina_tower.specs.Ranks.{height_of, seen_of};
-ghost use Rattle.rina_tower.specs.Standing.{IsTower};
+ghost use Rattle.rina_tower.specs.Stands.{IsTower};
 
 use crate::tower::{Rank, Tower};
 use rina_base::Tick;
@@ -40,11 +40,17 @@ impl Tower {
         if self.has_failed() {
             return Err(WireError::Memory);
         }
-        self.repeat_there(alloc, wire, k, at)
+        self.repeat_on_wires(alloc, wire, k, at)
     }
 
     /// The same, where nobody asks whether memory was wanted before.
-    fn repeat_there(&mut self, alloc: Global, wire: u16, k: u64, at: Tick) -> Result<(), WireError>
+    fn repeat_on_wires(
+        &mut self,
+        alloc: Global,
+        wire: u16,
+        k: u64,
+        at: Tick,
+    ) -> Result<(), WireError>
         requires { IsTower self.old }
         ensures valid { IsTower self.new }
         ensures does { Repeats wire k at result self.old self.new }
@@ -54,7 +60,7 @@ impl Tower {
     {
         match self {
             Tower::Wires(wires) => wires.repeat(alloc, wire, k, at),
-            Tower::Rank(rank) => rank.below.repeat_there(alloc, wire, k, at),
+            Tower::Rank(rank) => rank.below.repeat_on_wires(alloc, wire, k, at),
         }
     }
 

@@ -15,12 +15,12 @@ ghost use Rattle.rina_iface.specs.Register.{Registers};
 ghost use Rattle.rina_iface.specs.Seen.{unpassed};
 ghost use Rattle.rina_iface.specs.Send.{Sends};
 ghost use Rattle.rina_iface.specs.Unregister.{Unregisters};
-ghost use Rattle.rina_tower.specs.Calls.{AllocatesHere, BindsHere, ClaimsHere, FreesHere, PassesHere, RegistersHere, SendsHere, UnregistersHere};
-ghost use Rattle.rina_tower.specs.Failing.{has_failed};
+ghost use Rattle.rina_tower.specs.Calls.{AllocatesAtTop, BindsAtTop, ClaimsAtTop, FreesAtTop, PassesAtTop, RegistersAtTop, SendsAtTop, UnregistersAtTop};
+ghost use Rattle.rina_tower.specs.MemoryFailure.{has_failed};
 ghost use Rattle.rina_tower.specs.Ranks.{seen_of};
-ghost use Rattle.rina_tower.specs.Refusing.{frees_both, refuses_allocate, refuses_own, refuses_register, refuses_send, refuses_unregister};
-ghost use Rattle.rina_tower.specs.Standing.{IsTower, clock_of, kept_of};
-ghost use Rattle.rina_tower.specs.Walking.{SameBelow, same_refl, same_trans};
+ghost use Rattle.rina_tower.specs.Refusals.{frees_both, refuses_allocate, refuses_own, refuses_register, refuses_send, refuses_unregister};
+ghost use Rattle.rina_tower.specs.Stands.{IsTower, clock_of, kept_of};
+ghost use Rattle.rina_tower.specs.Levels.{SameBelow, same_refl, same_trans};
 
 use crate::tower::Tower;
 use rina_base::{AppName, Node, Num, Port, Tick};
@@ -104,14 +104,14 @@ impl Facility for Tower {
         ensures later { IsLater (seen_of self.old) (seen_of self.new) }
         ensures does { Registers (refuses_register self.old fac node app.now)
             (seen_of self.old) fac node app.now result (seen_of self.new) }
-        ensures exact { has_failed self.old ≡ false → RegistersHere fac node app.now result self.old self.new }
+        ensures exact { has_failed self.old ≡ false → RegistersAtTop fac node app.now result self.old self.new }
         ensures failed { has_failed self.old ≡ true → (result ≡ Err register.Memory) × (self.new ≡ self.old) }
         ensures fails { result ≡ Err register.Memory → has_failed self.new ≡ true }
     {
         if self.has_failed() {
             return Err(RegisterError::Memory);
         }
-        self.register_here(alloc, fac, node, app)
+        self.register_at_top(alloc, fac, node, app)
     }
 
     fn unregister(
@@ -127,14 +127,14 @@ impl Facility for Tower {
         ensures later { IsLater (seen_of self.old) (seen_of self.new) }
         ensures does { Unregisters (refuses_unregister self.old fac node app.now)
             (seen_of self.old) fac node app.now result (seen_of self.new) }
-        ensures exact { has_failed self.old ≡ false → UnregistersHere fac node app.now result self.old self.new }
+        ensures exact { has_failed self.old ≡ false → UnregistersAtTop fac node app.now result self.old self.new }
         ensures failed { has_failed self.old ≡ true → (result ≡ Err unregister.Memory) × (self.new ≡ self.old) }
         ensures fails { result ≡ Err unregister.Memory → has_failed self.new ≡ true }
     {
         if self.has_failed() {
             return Err(UnregisterError::Memory);
         }
-        self.unregister_here(alloc, fac, node, app)
+        self.unregister_at_top(alloc, fac, node, app)
     }
 
     fn allocate(&mut self, alloc: Global, ask: &Ask) -> Result<Port, AllocateError>
@@ -144,14 +144,14 @@ impl Facility for Tower {
         ensures later { IsLater (seen_of self.old) (seen_of self.new) }
         ensures does { Allocates (refuses_allocate self.old ask.now)
             (seen_of self.old) ask.now result (seen_of self.new) }
-        ensures exact { has_failed self.old ≡ false → AllocatesHere ask.now result self.old self.new }
+        ensures exact { has_failed self.old ≡ false → AllocatesAtTop ask.now result self.old self.new }
         ensures failed { has_failed self.old ≡ true → (result ≡ Err allocate.Memory) × (self.new ≡ self.old) }
         ensures fails { result ≡ Err allocate.Memory → has_failed self.new ≡ true }
     {
         if self.has_failed() {
             return Err(AllocateError::Memory);
         }
-        self.allocate_here(alloc, ask)
+        self.allocate_at_top(alloc, ask)
     }
 
     fn bind(&mut self, alloc: Global, fixed: &Fixed) -> Result<(Port, Port), AllocateError>
@@ -161,14 +161,14 @@ impl Facility for Tower {
         ensures below { SameBelow self.old self.new }
         ensures later { IsLater (seen_of self.old) (seen_of self.new) }
         ensures does { Binds (seen_of self.old) fixed.now result (seen_of self.new) }
-        ensures exact { has_failed self.old ≡ false → BindsHere fixed.now result self.old self.new }
+        ensures exact { has_failed self.old ≡ false → BindsAtTop fixed.now result self.old self.new }
         ensures failed { has_failed self.old ≡ true → (result ≡ Err allocate.Memory) × (self.new ≡ self.old) }
         ensures fails { result ≡ Err allocate.Memory → has_failed self.new ≡ true }
     {
         if self.has_failed() {
             return Err(AllocateError::Memory);
         }
-        self.bind_here(alloc, fixed)
+        self.bind_at_top(alloc, fixed)
     }
 
     fn incoming(&mut self, fac: u16, node: Node, app: &AppName) -> Option<Port>
@@ -177,7 +177,7 @@ impl Facility for Tower {
         ensures below { SameBelow self.old self.new }
         ensures later { IsLater (seen_of self.old) (seen_of self.new) }
         ensures does { Claims (seen_of self.old) fac node app.now result (seen_of self.new) }
-        ensures exact { ClaimsHere fac node app.now result self.old self.new }
+        ensures exact { ClaimsAtTop fac node app.now result self.old self.new }
     {
         match self {
             Tower::Wires(wires) => wires.incoming(fac, node, app),
@@ -192,14 +192,14 @@ impl Facility for Tower {
         ensures later { IsLater (seen_of self.old) (seen_of self.new) }
         ensures does { Sends (refuses_send self.old port (length sdu.now))
             (seen_of self.old) port sdu.now result (seen_of self.new) }
-        ensures exact { has_failed self.old ≡ false → SendsHere port sdu.now result self.old self.new }
+        ensures exact { has_failed self.old ≡ false → SendsAtTop port sdu.now result self.old self.new }
         ensures failed { has_failed self.old ≡ true → (result ≡ Err send.Memory) × (self.new ≡ self.old) }
         ensures fails { result ≡ Err send.Memory → has_failed self.new ≡ true }
     {
         if self.has_failed() {
             return Err(SendError::Memory);
         }
-        self.send_here(alloc, port, sdu)
+        self.send_at_top(alloc, port, sdu)
     }
 
     fn peek(&self, port: Port) -> Option<Lent<'_>> {
@@ -219,7 +219,7 @@ impl Facility for Tower {
         ensures below { SameBelow self.old self.new }
         ensures later { IsLater (seen_of self.old) (seen_of self.new) }
         ensures does { IsPassed (seen_of self.old) port (seen_of self.new) }
-        ensures exact { PassesHere port self.old self.new }
+        ensures exact { PassesAtTop port self.old self.new }
     {
         match self {
             Tower::Wires(wires) => wires.pass(port),
@@ -233,14 +233,14 @@ impl Facility for Tower {
         ensures below { SameBelow self.old self.new }
         ensures later { IsLater (seen_of self.old) (seen_of self.new) }
         ensures does { Frees (frees_both self.old) (seen_of self.old) port result (seen_of self.new) }
-        ensures exact { has_failed self.old ≡ false → FreesHere port result self.old self.new }
+        ensures exact { has_failed self.old ≡ false → FreesAtTop port result self.old self.new }
         ensures failed { has_failed self.old ≡ true → (result ≡ Err free.Memory) × (self.new ≡ self.old) }
         ensures fails { result ≡ Err free.Memory → has_failed self.new ≡ true }
     {
         if self.has_failed() {
             return Err(FreeError::Memory);
         }
-        self.free_here(alloc, port)
+        self.free_at_top(alloc, port)
     }
 
     ghost same_refl = { same_refl };

@@ -1,7 +1,7 @@
 //! What the DIFs of a tower have written off.
 ghost use Rattle.std.specs.Prelude.{◌≡◌, None, Some, MatchOption};
 ghost use Rattle.rina_tower.specs.Ledgers.{IsLedgerAt, dif_of, member_at};
-ghost use Rattle.rina_tower.specs.Standing.{IsTower};
+ghost use Rattle.rina_tower.specs.Stands.{IsTower};
 
 use crate::tower::Tower;
 use rina_account::Off;
@@ -10,7 +10,7 @@ use rina_dif::Dif;
 
 impl Tower {
     /// The DIF of a number at the own rank. None exactly where there is none.
-    pub(crate) fn own_dif(&self, dif: u16) -> Option<&Dif>
+    pub(crate) fn top_dif(&self, dif: u16) -> Option<&Dif>
         ensures { MatchOption result (dif_of self.now dif ≡ None) (λ d. dif_of self.now dif ≡ Some d.now) }
     {
         match self {
@@ -26,7 +26,7 @@ impl Tower {
         ensures { MatchOption result (member_at self.now r dif node ≡ None) (λ offs. IsLedgerAt self.now r dif node offs.now) }
     {
         let rank = self.rank(r)?;
-        let dif = rank.own_dif(dif)?;
+        let dif = rank.top_dif(dif)?;
         dif.ledger(node)
     }
 }

@@ -6,14 +6,14 @@ mod build;
 mod difs;
 mod events;
 mod facility;
-mod failing;
-mod here;
 mod ledgers;
+mod memory;
 mod objects;
 mod places;
 mod round;
 mod steps;
 mod tick;
+mod top_rank;
 mod tower;
 
 pub use applications::AppError;

@@ -1,15 +1,15 @@
 //! The objects of the IPC processes of a tower.
 ghost use Rattle.std.specs.Prelude.{◌≡◌, true, false, Err};
-ghost use Rattle.rina_cdap.specs.ObjectNames.{IsObjectName};
+ghost use Rattle.rina_base.specs.ObjectNames.{IsObjectName};
 ghost use Rattle.rina_data.specs.declared.step.StepError.TheVariants.{Memory};
 ghost use Rattle.rina_dif.specs.declared.cdap.CdapCallError.TheVariants as errors;
 ghost use Rattle.rina_dif.specs.Asking.{answer_of};
-ghost use Rattle.rina_tower.specs.Asking.{AsksAt};
-ghost use Rattle.rina_tower.specs.Beside.{Anyone, LeavesNow};
-ghost use Rattle.rina_tower.specs.Failing.{has_failed};
+ghost use Rattle.rina_tower.specs.Cdap.{AsksAt};
+ghost use Rattle.rina_tower.specs.Bystanders.{Anyone, LeavesNow};
+ghost use Rattle.rina_tower.specs.MemoryFailure.{has_failed};
 ghost use Rattle.rina_tower.specs.Objects.{ShowsUnderAt};
 ghost use Rattle.rina_tower.specs.Ranks.{height_of, seen_of};
-ghost use Rattle.rina_tower.specs.Standing.{IsTower};
+ghost use Rattle.rina_tower.specs.Stands.{IsTower};
 
 use crate::tower::{Rank, Tower};
 use rina_base::Node;
@@ -40,7 +40,7 @@ impl Tower {
         let Some(rank) = self.rank(r) else {
             return Err(StepError::NoIpc);
         };
-        let Some(dif) = rank.own_dif(dif) else {
+        let Some(dif) = rank.top_dif(dif) else {
             return Err(StepError::NoIpc);
         };
         dif.rib(alloc, node, under)
@@ -67,11 +67,11 @@ impl Tower {
         if self.has_failed() {
             return Err(CdapCallError::Memory);
         }
-        self.cdap_at(alloc, r, dif, node, bytes)
+        self.cdap_at_rank(alloc, r, dif, node, bytes)
     }
 
     /// The same, where nobody asks whether memory was wanted before.
-    fn cdap_at(
+    fn cdap_at_rank(
         &mut self,
         alloc: Global,
         r: u16,
@@ -93,7 +93,7 @@ impl Tower {
                 if r == rank.below.height() + 1 {
                     rank.difs.cdap(alloc, dif, node, bytes)
                 } else {
-                    rank.below.cdap_at(alloc, r, dif, node, bytes)
+                    rank.below.cdap_at_rank(alloc, r, dif, node, bytes)
                 }
             }
         }

@@ -1,7 +1,7 @@
 //! The places of the steps of a round.
 ghost use Rattle.std.specs.Prelude.{◌≡◌, ◌++◌, OnOk, IfOk};
 ghost use Rattle.rina_tower.specs.Rounds.{links_downward, links_upward, members_upward};
-ghost use Rattle.rina_tower.specs.Standing.{IsTower};
+ghost use Rattle.rina_tower.specs.Stands.{IsTower};
 
 use crate::tower::Tower;
 use rina_base::{Memory, Node, Seq};

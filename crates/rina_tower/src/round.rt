@@ -2,11 +2,11 @@
 ghost use Rattle.std.specs.Prelude.{◌≡◌, true, false, Err, List, map, not, OnOk, OnErr, IfOk, IsErr};
 ghost use Rattle.rina_policy.specs.Slots.{Slot};
 ghost use Rattle.rina_data.specs.declared.step.StepError.TheVariants as errors;
-ghost use Rattle.rina_tower.specs.Beside.{Anyone, LeavesNow};
-ghost use Rattle.rina_tower.specs.Failing.{has_failed};
+ghost use Rattle.rina_tower.specs.Bystanders.{Anyone, LeavesNow};
+ghost use Rattle.rina_tower.specs.MemoryFailure.{has_failed};
 ghost use Rattle.rina_tower.specs.Ranks.{height_of, now_of, seen_of};
-ghost use Rattle.rina_tower.specs.Rounds.{DoesAllDue, Follows, InTurn, IsRound, LetsAll, Runs, TakesAll, has_left, has_taken, lets_no_more, links_downward, links_upward, members_upward, none_due, takes_no_more, was_due};
-ghost use Rattle.rina_tower.specs.Standing.{IsTower};
+ghost use Rattle.rina_tower.specs.Rounds.{AllClockSteps, Follows, InTurn, IsRound, AllOutSteps, Runs, AllInSteps, has_left, has_taken, leaves_no_more, links_downward, links_upward, members_upward, none_due, takes_no_more, was_due};
+ghost use Rattle.rina_tower.specs.Stands.{IsTower};
 
 use crate::places::{LinkPlace, MemberPlace};
 use crate::tower::Tower;
@@ -45,7 +45,7 @@ fn was_due(answer: Result<ClockStep, StepError>) -> Result<bool, Memory>
 
 /// Whether a PDU left its queue, so that the next one may. Want of memory is passed on.
 fn has_left(answer: Result<OutStep, StepError>) -> Result<bool, Memory>
-    ensures tells { IfOk result (λ on. (has_left answer ≡ on) × (lets_no_more answer ≡ not on)) }
+    ensures tells { IfOk result (λ on. (has_left answer ≡ on) × (leaves_no_more answer ≡ not on)) }
     ensures memory { OnErr result (answer ≡ Err errors.Memory) }
 {
     match answer {
@@ -61,41 +61,41 @@ fn has_left(answer: Result<OutStep, StepError>) -> Result<bool, Memory>
 
 impl Tower {
     /// Takes what came at a link, one SDU after the other, until a step takes none.
-    fn take_all(&mut self, alloc: Global, place: LinkPlace) -> Result<(), Memory>
+    fn in_steps(&mut self, alloc: Global, place: LinkPlace) -> Result<(), Memory>
         requires { IsTower self.old }
         ensures follows { Follows self.old self.new }
-        ensures does { OnOk result ((slots : List Slot) → Runs (TakesAll place) slots self.old slots self.new) }
+        ensures does { OnOk result ((slots : List Slot) → Runs (AllInSteps place) slots self.old slots self.new) }
         ensures fails { OnErr result (has_failed self.new ≡ true) }
     {
         'steps: for _ in 0..u64::MAX {
-            let answer = self.in_step_at(alloc, place.rank, place.dif, place.node, place.link);
+            let answer = self.in_step_at_rank(alloc, place.rank, place.dif, place.node, place.link);
             if !has_taken(answer)? {
                 return Ok(());
             }
         }
         // So many SDUs fit into no memory.
-        Err(self.fail())
+        Err(self.remember_memory_failure())
     }
 
     /// Does what is due at an IPC process, one thing after the other, until a step finds none.
-    fn do_all_due(&mut self, alloc: Global, place: MemberPlace) -> Result<(), Memory>
+    fn clock_steps(&mut self, alloc: Global, place: MemberPlace) -> Result<(), Memory>
         requires { IsTower self.old }
         ensures follows { Follows self.old self.new }
-        ensures does { OnOk result ((slots : List Slot) → Runs (DoesAllDue place) slots self.old slots self.new) }
+        ensures does { OnOk result ((slots : List Slot) → Runs (AllClockSteps place) slots self.old slots self.new) }
         ensures fails { OnErr result (has_failed self.new ≡ true) }
     {
         'steps: for _ in 0..u64::MAX {
-            let answer = self.clock_step_at(alloc, place.rank, place.dif, place.node);
+            let answer = self.clock_step_at_rank(alloc, place.rank, place.dif, place.node);
             if !was_due(answer)? {
                 return Ok(());
             }
         }
         // So many things fit into no memory.
-        Err(self.fail())
+        Err(self.remember_memory_failure())
     }
 
     /// Lets the PDUs at a link go, one after the other, until none waits or one stays.
-    fn let_all<S: Picks>(
+    fn out_steps<S: Picks>(
         &mut self,
         alloc: Global,
         shelf: &mut S,
@@ -104,11 +104,11 @@ impl Tower {
         requires { IsTower self.old }
         ensures follows { Follows self.old self.new }
         ensures names { map (λ (x : Slot). x.name) (S.slots shelf.new) ≡ map (λ (x : Slot). x.name) (S.slots shelf.old) }
-        ensures does { OnOk result (Runs (LetsAll place) (S.slots shelf.old) self.old (S.slots shelf.new) self.new) }
+        ensures does { OnOk result (Runs (AllOutSteps place) (S.slots shelf.old) self.old (S.slots shelf.new) self.new) }
         ensures fails { OnErr result (has_failed self.new ≡ true) }
     {
         'steps: for _ in 0..u64::MAX {
-            let answer = self.out_step_at(
+            let answer = self.out_step_at_rank(
                 alloc, place.rank, place.dif, shelf, place.node, place.link,
             );
             if !has_left(answer)? {
@@ -116,54 +116,54 @@ impl Tower {
             }
         }
         // So many PDUs fit into no memory.
-        Err(self.fail())
+        Err(self.remember_memory_failure())
     }
 
     /// Takes what came at every link, from the lowest rank up.
-    fn take_everywhere(&mut self, alloc: Global) -> Result<(), Memory>
+    fn in_steps_everywhere(&mut self, alloc: Global) -> Result<(), Memory>
         requires { IsTower self.old }
         ensures follows { Follows self.old self.new }
-        ensures does { OnOk result ((slots : List Slot) → Runs (InTurn TakesAll (links_upward self.old)) slots self.old slots self.new) }
+        ensures does { OnOk result ((slots : List Slot) → Runs (InTurn AllInSteps (links_upward self.old)) slots self.old slots self.new) }
         ensures fails { OnErr result (has_failed self.new ≡ true) }
     {
         let Ok(places) = self.links_upward(alloc) else {
-            return Err(self.fail());
+            return Err(self.remember_memory_failure());
         };
         for place in places.as_slice() {
-            self.take_all(alloc, *place)?;
+            self.in_steps(alloc, *place)?;
         }
         Ok(())
     }
 
     /// Does what is due at every IPC process, from the lowest rank up.
-    fn do_due_everywhere(&mut self, alloc: Global) -> Result<(), Memory>
+    fn clock_steps_everywhere(&mut self, alloc: Global) -> Result<(), Memory>
         requires { IsTower self.old }
         ensures follows { Follows self.old self.new }
-        ensures does { OnOk result ((slots : List Slot) → Runs (InTurn DoesAllDue (members_upward self.old)) slots self.old slots self.new) }
+        ensures does { OnOk result ((slots : List Slot) → Runs (InTurn AllClockSteps (members_upward self.old)) slots self.old slots self.new) }
         ensures fails { OnErr result (has_failed self.new ≡ true) }
     {
         let Ok(places) = self.members_upward(alloc) else {
-            return Err(self.fail());
+            return Err(self.remember_memory_failure());
         };
         for place in places.as_slice() {
-            self.do_all_due(alloc, *place)?;
+            self.clock_steps(alloc, *place)?;
         }
         Ok(())
     }
 
     /// Lets go what waits at every link, from the highest rank down.
-    fn let_go_everywhere<S: Picks>(&mut self, alloc: Global, shelf: &mut S) -> Result<(), Memory>
+    fn out_steps_everywhere<S: Picks>(&mut self, alloc: Global, shelf: &mut S) -> Result<(), Memory>
         requires { IsTower self.old }
         ensures follows { Follows self.old self.new }
         ensures names { map (λ (x : Slot). x.name) (S.slots shelf.new) ≡ map (λ (x : Slot). x.name) (S.slots shelf.old) }
-        ensures does { OnOk result (Runs (InTurn LetsAll (links_downward self.old)) (S.slots shelf.old) self.old (S.slots shelf.new) self.new) }
+        ensures does { OnOk result (Runs (InTurn AllOutSteps (links_downward self.old)) (S.slots shelf.old) self.old (S.slots shelf.new) self.new) }
         ensures fails { OnErr result (has_failed self.new ≡ true) }
     {
         let Ok(places) = self.links_downward(alloc) else {
-            return Err(self.fail());
+            return Err(self.remember_memory_failure());
         };
         for place in places.as_slice() {
-            self.let_all(alloc, shelf, *place)?;
+            self.out_steps(alloc, shelf, *place)?;
         }
         Ok(())
     }
@@ -185,8 +185,8 @@ impl Tower {
         if self.has_failed() {
             return Err(Memory);
         }
-        self.take_everywhere(alloc)?;
-        self.do_due_everywhere(alloc)?;
-        self.let_go_everywhere(alloc, shelf)
+        self.in_steps_everywhere(alloc)?;
+        self.clock_steps_everywhere(alloc)?;
+        self.out_steps_everywhere(alloc, shelf)
     }
 }

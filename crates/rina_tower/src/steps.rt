@@ -2,11 +2,11 @@
 ghost use Rattle.std.specs.Prelude.{◌≡◌, true, false, Err, map};
 ghost use Rattle.rina_policy.specs.Slots.{Slot};
 ghost use Rattle.rina_data.specs.declared.step.StepError.TheVariants.{Memory};
-ghost use Rattle.rina_tower.specs.Beside.{Anyone, LeavesNow};
-ghost use Rattle.rina_tower.specs.Failing.{has_failed};
+ghost use Rattle.rina_tower.specs.Bystanders.{Anyone, LeavesNow};
+ghost use Rattle.rina_tower.specs.MemoryFailure.{has_failed};
 ghost use Rattle.rina_tower.specs.Ranks.{height_of, seen_of};
-ghost use Rattle.rina_tower.specs.Standing.{IsTower};
-ghost use Rattle.rina_tower.specs.Stepping.{ClocksAt, InSteps, OutSteps};
+ghost use Rattle.rina_tower.specs.Stands.{IsTower};
+ghost use Rattle.rina_tower.specs.Steps.{ClocksAt, InSteps, OutSteps};
 
 use crate::tower::{Rank, Tower};
 use rina_base::Node;
@@ -36,11 +36,11 @@ impl Tower {
         if self.has_failed() {
             return Err(StepError::Memory);
         }
-        self.in_step_at(alloc, r, dif, node, link)
+        self.in_step_at_rank(alloc, r, dif, node, link)
     }
 
     /// The same, where nobody asks whether memory was wanted before.
-    pub(crate) fn in_step_at(
+    pub(crate) fn in_step_at_rank(
         &mut self,
         alloc: Global,
         r: u16,
@@ -62,7 +62,7 @@ impl Tower {
                 if r == rank.below.height() + 1 {
                     rank.difs.in_step(alloc, &mut rank.below, dif, node, link)
                 } else {
-                    rank.below.in_step_at(alloc, r, dif, node, link)
+                    rank.below.in_step_at_rank(alloc, r, dif, node, link)
                 }
             }
         }
@@ -91,11 +91,11 @@ impl Tower {
         if self.has_failed() {
             return Err(StepError::Memory);
         }
-        self.out_step_at(alloc, r, dif, shelf, node, link)
+        self.out_step_at_rank(alloc, r, dif, shelf, node, link)
     }
 
     /// The same, where nobody asks whether memory was wanted before.
-    pub(crate) fn out_step_at<S: Picks>(
+    pub(crate) fn out_step_at_rank<S: Picks>(
         &mut self,
         alloc: Global,
         r: u16,
@@ -120,7 +120,8 @@ impl Tower {
                     rank.difs
                         .out_step(alloc, &mut rank.below, shelf, dif, node, link)
                 } else {
-                    rank.below.out_step_at(alloc, r, dif, shelf, node, link)
+                    rank.below
+                        .out_step_at_rank(alloc, r, dif, shelf, node, link)
                 }
             }
         }
@@ -146,11 +147,11 @@ impl Tower {
         if self.has_failed() {
             return Err(StepError::Memory);
         }
-        self.clock_step_at(alloc, r, dif, node)
+        self.clock_step_at_rank(alloc, r, dif, node)
     }
 
     /// The same, where nobody asks whether memory was wanted before.
-    pub(crate) fn clock_step_at(
+    pub(crate) fn clock_step_at_rank(
         &mut self,
         alloc: Global,
         r: u16,
@@ -171,7 +172,7 @@ impl Tower {
                 if r == rank.below.height() + 1 {
                     rank.difs.clock_step(alloc, &mut rank.below, dif, node)
                 } else {
-                    rank.below.clock_step_at(alloc, r, dif, node)
+                    rank.below.clock_step_at_rank(alloc, r, dif, node)
                 }
             }
         }

@@ -1,6 +1,6 @@
 //! Applications at the wires of a tower.
 ghost use Rattle.std.specs.Prelude.{IfOk};
-ghost use Rattle.rina_tower.specs.Standing.{IsTower};
+ghost use Rattle.rina_tower.specs.Stands.{IsTower};
 
 use super::*;
 use rina_base::{AppName, Name, Num, Port, Seq};

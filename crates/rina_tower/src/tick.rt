@@ -1,11 +1,11 @@
 //! The clock of a tower.
 ghost use Rattle.std.specs.Prelude.{◌≡◌, true, false, Err};
 ghost use Rattle.rina_wire.specs.declared.tick.TickError.TheVariants.{Memory};
-ghost use Rattle.rina_tower.specs.Beside.{Anyone, Leaves};
-ghost use Rattle.rina_tower.specs.Failing.{has_failed};
+ghost use Rattle.rina_tower.specs.Bystanders.{Anyone, Leaves};
+ghost use Rattle.rina_tower.specs.MemoryFailure.{has_failed};
 ghost use Rattle.rina_tower.specs.Ranks.{height_of, now_of, seen_of};
-ghost use Rattle.rina_tower.specs.Standing.{IsTower};
-ghost use Rattle.rina_tower.specs.Ticking.{Ticks};
+ghost use Rattle.rina_tower.specs.Stands.{IsTower};
+ghost use Rattle.rina_tower.specs.ClockTick.{Ticks};
 
 use crate::tower::{Rank, Tower};
 use rina_wire::TickError;
@@ -25,11 +25,11 @@ impl Tower {
         if self.has_failed() {
             return Err(TickError::Memory);
         }
-        self.tick_on(alloc)
+        self.tick_ranks(alloc)
     }
 
     /// The same, where nobody asks whether memory was wanted before.
-    fn tick_on(&mut self, alloc: Global) -> Result<(), TickError>
+    fn tick_ranks(&mut self, alloc: Global) -> Result<(), TickError>
         requires { IsTower self.old }
         ensures valid { IsTower self.new }
         ensures does { Ticks result self.old self.new }
@@ -41,7 +41,7 @@ impl Tower {
             Tower::Wires(wires) => wires.tick(alloc),
             Tower::Rank(rank) => {
                 let rank: &mut Rank = rank;
-                let result = rank.below.tick_on(alloc);
+                let result = rank.below.tick_ranks(alloc);
                 let now = rank.below.clock();
                 rank.difs.clock_to(now);
                 result

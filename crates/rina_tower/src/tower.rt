@@ -1,7 +1,7 @@
 //! Wires, and ranks of DIFs over them.
 ghost use Rattle.std.specs.Prelude.{◌≡◌, None, Some, MatchOption};
 ghost use Rattle.rina_tower.specs.Ranks.{height_of, now_of, rank_of};
-ghost use Rattle.rina_tower.specs.Standing.{IsTower};
+ghost use Rattle.rina_tower.specs.Stands.{IsTower};
 
 use crate::difs::Difs;
 use rina_base::Tick;

@@ -68,7 +68,7 @@ impl Wires {
     /// Notes that memory was wanted and not found by what stands on the wires: each call that takes memory answers so
     /// from now on.
     #[tactic(auto, using(crate::proofs::Sound::sound_failed))]
-    pub fn fail(&mut self)
+    pub fn remember_memory_failure(&mut self)
         requires { IsSound self.old }
         ensures valid { IsSound self.new }
         ensures journals { seen_of self.new ≡ seen_of self.old }

@@ -5,7 +5,7 @@ ghost use Rattle.rina_schedule.specs.Spelling.{Adds, spaced};
 ghost use Rattle.rina_report.specs.Notes.{fault_word, fault_values, told_fields, note_text, line_of};
 
 use crate::note::{Fault, Note};
-use crate::print::said::said;
+use crate::print::answer::answer;
 use crate::print::value;
 use rina_base::Memory;
 use rina_schedule::Text;
@@ -76,11 +76,11 @@ fn note(text: &mut Text, note: &Note) -> Result<(), Memory>
         Note::Line {
             line,
             tick,
-            said: told,
+            answer: told,
         } => {
             text.number(u64::from(*line))?;
             text.number_field(u64::from(*tick))?;
-            said(text, told)
+            answer(text, told)
         }
         Note::End { tick } => {
             text.add(b"end")?;

@@ -5,9 +5,9 @@ ghost use Rattle.rina_report.specs.Fields.{fields_of, behind, max32, numeral_of}
 ghost use Rattle.rina_report.specs.ReadNotes.{schedule_at, fault_of, fault_at, checked_at, named_at, gen_at, counter_at, told_at, line_note_at, whole_at, note_at};
 
 use crate::note::{Fault, Note};
+use crate::read::answer::answer;
 use crate::read::field::{end, field, first_field, is, next_field, number, read_numeral, word};
 use crate::read::last::{last_number, last_two};
-use crate::read::said::said;
 use rina_base::Tick;
 use rina_schedule::LineError;
 use std::alloc::Global;
@@ -135,8 +135,8 @@ fn told(alloc: Global, line: u32, tick: Tick, rest: &[u8]) -> Result<Note, LineE
     let Some((word, rest)) = next_field(rest) else {
         return Err(LineError::UnknownWord);
     };
-    let said = said(alloc, word, rest)?;
-    Ok(Note::Line { line, tick, said })
+    let answer = answer(alloc, word, rest)?;
+    Ok(Note::Line { line, tick, answer })
 }
 
 /// The tick of a line, and what it told.

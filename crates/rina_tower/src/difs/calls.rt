@@ -10,8 +10,8 @@ ghost use Rattle.rina_iface.specs.Claim.{Claims};
 ghost use Rattle.rina_iface.specs.Register.{Registers};
 ghost use Rattle.rina_iface.specs.Unregister.{Unregisters};
 ghost use Rattle.rina_tower.specs.Calls.{AreDifs, BindsFrom, MayBind, FreesFrom, PassesFrom, SendsFrom, Serves, WaitsThere};
-ghost use Rattle.rina_tower.specs.Failing.{have_failed};
-ghost use Rattle.rina_tower.specs.Walking.{AtDif, IsAtDif};
+ghost use Rattle.rina_tower.specs.MemoryFailure.{have_failed};
+ghost use Rattle.rina_tower.specs.Levels.{AtDif, IsAtDif};
 
 use super::Difs;
 use rina_base::{AppName, Node, Num, Port};

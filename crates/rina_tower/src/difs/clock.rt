@@ -1,7 +1,7 @@
 //! The clock of the DIFs of a rank.
 ghost use Rattle.std.specs.Prelude.{◌≡◌, ◌≤◌, ℕ, slice_get, Some};
 ghost use Rattle.rina_dif.specs.declared.dif.Dif.{Dif};
-ghost use Rattle.rina_tower.specs.Ticking.{AreClocked};
+ghost use Rattle.rina_tower.specs.ClockTick.{AreClocked};
 
 use super::Difs;
 use rina_base::Tick;

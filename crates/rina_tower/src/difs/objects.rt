@@ -2,10 +2,10 @@
 ghost use Rattle.std.specs.Prelude.{◌≡◌, true, Err};
 ghost use Rattle.rina_dif.specs.declared.cdap.CdapCallError.TheVariants as errors;
 ghost use Rattle.rina_dif.specs.Asking.{answer_of};
-ghost use Rattle.rina_tower.specs.Asking.{AsksOne};
+ghost use Rattle.rina_tower.specs.Cdap.{AsksOne};
 ghost use Rattle.rina_tower.specs.Calls.{AreDifs};
-ghost use Rattle.rina_tower.specs.Failing.{have_failed};
-ghost use Rattle.rina_tower.specs.Walking.{AtDif};
+ghost use Rattle.rina_tower.specs.MemoryFailure.{have_failed};
+ghost use Rattle.rina_tower.specs.Levels.{AtDif};
 
 use super::Difs;
 use rina_base::Node;

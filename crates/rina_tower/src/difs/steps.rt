@@ -2,12 +2,12 @@
 ghost use Rattle.std.specs.Prelude.{◌≡◌, length, map, slice_get, true, Some, Err};
 ghost use Rattle.rina_policy.specs.Slots.{Slot};
 ghost use Rattle.rina_data.specs.declared.step.StepError.TheVariants.{Memory, NoIpc};
-ghost use Rattle.rina_tower.specs.Beside.{Anyone, LeavesNow};
-ghost use Rattle.rina_tower.specs.Failing.{have_failed};
+ghost use Rattle.rina_tower.specs.Bystanders.{Anyone, LeavesNow};
+ghost use Rattle.rina_tower.specs.MemoryFailure.{have_failed};
 ghost use Rattle.rina_tower.specs.Ranks.{seen_of_difs};
-ghost use Rattle.rina_tower.specs.Standing.{AreStanding};
-ghost use Rattle.rina_tower.specs.Stepping.{ClocksOne, SendsOne, TakesOne};
-ghost use Rattle.rina_tower.specs.Walking.{AtDif};
+ghost use Rattle.rina_tower.specs.Stands.{AreStanding};
+ghost use Rattle.rina_tower.specs.Steps.{ClocksOne, SendsOne, TakesOne};
+ghost use Rattle.rina_tower.specs.Levels.{AtDif};
 
 use super::Difs;
 use rina_base::Node;
@@ -18,7 +18,7 @@ use std::alloc::Global;
 
 impl Difs {
     /// Takes the oldest SDU of a link at a DIF.
-    fn take<F: Facility>(
+    fn dif_in_step<F: Facility>(
         &mut self,
         alloc: Global,
         below: &mut F,
@@ -59,11 +59,11 @@ impl Difs {
         ensures clock { (F.seen below.new).now ≡ (F.seen below.old).now }
         ensures quiet { LeavesNow Anyone (seen_of_difs (F.seen below.old).now self.old) (seen_of_difs (F.seen below.old).now self.new) }
     {
-        self.take(alloc, below, dif, node, link)
+        self.dif_in_step(alloc, below, dif, node, link)
     }
 
     /// Lets a PDU go at a link at a DIF.
-    fn let_go<F: Facility, S: Picks>(
+    fn dif_out_step<F: Facility, S: Picks>(
         &mut self,
         alloc: Global,
         below: &mut F,
@@ -109,11 +109,11 @@ impl Difs {
         ensures quiet { LeavesNow Anyone (seen_of_difs (F.seen below.old).now self.old) (seen_of_difs (F.seen below.old).now self.new) }
         ensures names { map (λ (x : Slot). x.name) (S.slots shelf.new) ≡ map (λ (x : Slot). x.name) (S.slots shelf.old) }
     {
-        self.let_go(alloc, below, shelf, dif, node, link)
+        self.dif_out_step(alloc, below, shelf, dif, node, link)
     }
 
     /// Does the first thing that is due at a node of a DIF.
-    fn do_due<F: Facility>(
+    fn dif_clock_step<F: Facility>(
         &mut self,
         alloc: Global,
         below: &mut F,
@@ -152,6 +152,6 @@ impl Difs {
         ensures clock { (F.seen below.new).now ≡ (F.seen below.old).now }
         ensures quiet { LeavesNow Anyone (seen_of_difs (F.seen below.old).now self.old) (seen_of_difs (F.seen below.old).now self.new) }
     {
-        self.do_due(alloc, below, dif, node)
+        self.dif_clock_step(alloc, below, dif, node)
     }
 }

@@ -17,11 +17,11 @@ cut_more tick at xs now after seen state lt is its_seen its_state step = changed
 cut_size : (at : ℕ) (now after : List End) (d : End) (state : PortState) → at < length now → ((e : End) → slice_get now at ≡ Some e → after ≡ slice_set now at (with_state e state)) → length after ≡ length now
 cut_size at now after d state lt step = ap length (step (get_or now at d) (slice_get-get_or now at d lt)) ∙ length-set now at (with_state (get_or now at d) state)
 
-pub loop-at-preserved : goal.loop-at-preserved
-loop-at-preserved c =
-    let within : c.loop-at.at < length c.args.ends.now.items = omega (arith, c.loop-at-test.true, c.loop-at.invariant.size, c.loop-at.auto.at-end, c.len-at-end.ensures) in
-    let here : c.loop-at.at < length c.loop-at.ends.items = omega (arith, within, c.loop-at.invariant.size) in
+pub loop-place-preserved : goal.loop-place-preserved
+loop-place-preserved c =
+    let within : c.loop-place.place < length c.args.ends.now.items = omega (arith, c.loop-place-test.true, c.loop-place.invariant.size, c.loop-place.auto.place-end, c.len-place-end.ensures) in
+    let here : c.loop-place.place < length c.loop-place.ends.items = omega (arith, within, c.loop-place.invariant.size) in
     record {
-      ends = cut_more c.args.tick c.loop-at.at c.args.ends.now.items c.loop-at.ends.items c.set_state.new.ends.items c.index.result.now c.cut_state-state.result within c.loop-at.invariant.ends c.index.ensures c.cut_state-state.ensures c.set_state.ensures;
-      size = cut_size c.loop-at.at c.loop-at.ends.items c.set_state.new.ends.items c.index.result.now c.cut_state-state.result here c.set_state.ensures ∙ c.loop-at.invariant.size;
+      ends = cut_more c.args.tick c.loop-place.place c.args.ends.now.items c.loop-place.ends.items c.set_state.new.ends.items c.index.result.now c.cut_state-state.result within c.loop-place.invariant.ends c.index.ensures c.cut_state-state.ensures c.set_state.ensures;
+      size = cut_size c.loop-place.place c.loop-place.ends.items c.set_state.new.ends.items c.index.result.now c.cut_state-state.result here c.set_state.ensures ∙ c.loop-place.invariant.size;
     }

@@ -1,7 +1,7 @@
 -- So far the ends of these flows have their labels.
 use Rattle.std.proofs.Common.{◌≡◌, ◌+◌, ◌*◌, ℕ, take}
 use Rattle.rina_tower.specs.declared.tower.Tower.{Tower}
-use Rattle.rina_run.specs.Look.{ends_at}
+use Rattle.rina_notes.specs.Look.{ends_at}
 use Rattle.rina_run.specs.Opening.{Adds, AreFlowLabels}
 use Rattle.rina_run.proofs.opening.open_flows.Given as goal
 

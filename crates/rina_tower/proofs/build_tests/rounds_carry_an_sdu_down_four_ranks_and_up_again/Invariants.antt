@@ -1,4 +1,4 @@
-use Rattle.rina_tower.specs.Standing.{IsTower}
+use Rattle.rina_tower.specs.Stands.{IsTower}
 use Rattle.rina_tower.proofs.build_tests.rounds_carry_an_sdu_down_four_ranks_and_up_again.Given as goal
 
 -- the tower stands

@@ -1,4 +1,4 @@
-use Rattle.rina_tower.specs.Standing.{IsTower}
+use Rattle.rina_tower.specs.Stands.{IsTower}
 use Rattle.rina_tower.proofs.tests.a_name_is_registered_at_the_wires.Given as goal
 
 -- the tower stands

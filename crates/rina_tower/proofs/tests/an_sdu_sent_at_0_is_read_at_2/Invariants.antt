@@ -1,4 +1,4 @@
-use Rattle.rina_tower.specs.Standing.{IsTower}
+use Rattle.rina_tower.specs.Stands.{IsTower}
 use Rattle.rina_tower.proofs.tests.an_sdu_sent_at_0_is_read_at_2.Given as goal
 
 -- the tower stands

@@ -1,7 +1,7 @@
 use Rattle.std.proofs.Common.{◌≡◌, ◌∙◌, ℕ, ap, arith, refl}
 use Rattle.rina_base.specs.declared.number.FlowName.{FlowName}
 use Rattle.rina_iface.specs.Ends.{drawn_at}
-use Rattle.rina_data.specs.Numbered.{asked_at}
+use Rattle.rina_dif_law.specs.Numbered.{asked_at}
 use Rattle.rina_dif.proofs.Bound.{asked_small, asker_is, binds, far_is, next_small}
 use Rattle.rina_dif.proofs.dif.Dif.bind_flow.Goals as goal
 

@@ -5,7 +5,7 @@ use Rattle.rina_dif.proofs.dif.Dif.clock_step.Goals as goal
 
 pub returns-clause-does : goal.returns-clause-does
 returns-clause-does g c = λ lines h.
-    steps_home c.args.self.now lines (g.F.Facility.seen c.args.below.now) c.args.node c.in-Some.at c.step_at-step.result c.note.result c.step_at-step.new.self c.note.new.failed (sym c.home.ensures.place ∙ c.in-Some.is) c.note.ensures.same (c.step_at-step.ensures.does lines h)
+    steps_home c.args.self.now lines (g.F.Facility.seen c.args.below.now) c.args.node c.in-Some.at c.step_at-step.result c.remember_memory_failure.result c.step_at-step.new.self c.remember_memory_failure.new.failed (sym c.place_at_node.ensures.place ∙ c.in-Some.is) c.remember_memory_failure.ensures.same (c.step_at-step.ensures.does lines h)
 
 pub returns-clause-fails_late : goal.returns-clause-fails_late
 returns-clause-fails_late g c = λ lines h.
@@ -24,7 +24,7 @@ pub returns-in_default-clause-silent : goal.returns-in_default-clause-silent
 returns-in_default-clause-silent g c = (no_step c.args.self.now (g.F.Facility.seen c.args.below.now) c.requires.stands).silent
 
 pub returns-clause-goes_on : goal.returns-clause-goes_on
-returns-clause-goes_on g c = (step_noted c.args.self.now (g.F.Facility.seen c.args.below.now) c.step_at-step.new.self c.note.new.failed (g.F.Facility.seen c.args.below.now) (clock_is_step c.args.self.now (g.F.Facility.seen c.args.below.now) c.args.node c.step_at-step.result c.step_at-step.new.self c.requires.stands (c.step_at-step.ensures.does c.requires.stands.0 c.requires.stands.1))).goes_on
+returns-clause-goes_on g c = (step_noted c.args.self.now (g.F.Facility.seen c.args.below.now) c.step_at-step.new.self c.remember_memory_failure.new.failed (g.F.Facility.seen c.args.below.now) (clock_is_step c.args.self.now (g.F.Facility.seen c.args.below.now) c.args.node c.step_at-step.result c.step_at-step.new.self c.requires.stands (c.step_at-step.ensures.does c.requires.stands.0 c.requires.stands.1))).goes_on
 
 pub returns-clause-silent : goal.returns-clause-silent
-returns-clause-silent g c = (step_noted c.args.self.now (g.F.Facility.seen c.args.below.now) c.step_at-step.new.self c.note.new.failed (g.F.Facility.seen c.args.below.now) (clock_is_step c.args.self.now (g.F.Facility.seen c.args.below.now) c.args.node c.step_at-step.result c.step_at-step.new.self c.requires.stands (c.step_at-step.ensures.does c.requires.stands.0 c.requires.stands.1))).silent
+returns-clause-silent g c = (step_noted c.args.self.now (g.F.Facility.seen c.args.below.now) c.step_at-step.new.self c.remember_memory_failure.new.failed (g.F.Facility.seen c.args.below.now) (clock_is_step c.args.self.now (g.F.Facility.seen c.args.below.now) c.args.node c.step_at-step.result c.step_at-step.new.self c.requires.stands (c.step_at-step.ensures.does c.requires.stands.0 c.requires.stands.1))).silent

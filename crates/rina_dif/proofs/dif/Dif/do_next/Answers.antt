@@ -1,6 +1,6 @@
 use Rattle.std.proofs.Common.{subst}
 use Rattle.std.proofs.lemmas.Result.{err_from_is_err_and}
-use Rattle.rina_flows.specs.declared.timely.Item.{Item}
+use Rattle.rina_flows.specs.declared.due.Item.{Item}
 use Rattle.rina_dif.specs.Clocking.{IsTurn}
 use Rattle.rina_dif.proofs.Clocked.{does_ack, does_again, does_give_up, does_gone, never_kept, never_silent, none_due, same_holds, steps_err, turn_home}
 use Rattle.rina_dif.proofs.dif.Dif.do_next.Goals as goal

@@ -5,7 +5,7 @@ use Rattle.rina_dif.proofs.dif.Dif.in_step.Goals as goal
 
 pub returns-clause-does : goal.returns-clause-does
 returns-clause-does g c = λ lines h.
-    takes_home c.args.self.now lines (g.F.Facility.seen c.args.below.now) c.args.node c.args.link c.in-Some.at c.take_in-step.result c.note.result c.take_in-step.new.self c.note.new.failed (g.F.Facility.seen c.take_in-step.new.below) (sym c.home.ensures.place ∙ c.in-Some.is) c.note.ensures.same (c.take_in-step.ensures.does lines h)
+    takes_home c.args.self.now lines (g.F.Facility.seen c.args.below.now) c.args.node c.args.link c.in-Some.at c.in_step_at-step.result c.remember_memory_failure.result c.in_step_at-step.new.self c.remember_memory_failure.new.failed (g.F.Facility.seen c.in_step_at-step.new.below) (sym c.place_at_node.ensures.place ∙ c.in-Some.is) c.remember_memory_failure.ensures.same (c.in_step_at-step.ensures.does lines h)
 
 pub returns-then-self-clause-goes_on : goal.returns-then-self-clause-goes_on
 returns-then-self-clause-goes_on g c = (no_step c.args.self.now (g.F.Facility.seen c.args.below.now) c.requires.stands).goes_on
@@ -20,10 +20,10 @@ pub returns-in_default-clause-silent : goal.returns-in_default-clause-silent
 returns-in_default-clause-silent g c = (no_step c.args.self.now (g.F.Facility.seen c.args.below.now) c.requires.stands).silent
 
 pub returns-clause-goes_on : goal.returns-clause-goes_on
-returns-clause-goes_on g c = (step_noted c.args.self.now (g.F.Facility.seen c.args.below.now) c.take_in-step.new.self c.note.new.failed (g.F.Facility.seen c.take_in-step.new.below) (in_is_step c.args.self.now (g.F.Facility.seen c.args.below.now) c.in-Some.at c.args.link c.take_in-step.result c.take_in-step.new.self (g.F.Facility.seen c.take_in-step.new.below) (g.met.F.Facility.kept c.args.below.now c.requires.valid) (g.met.F.Facility.kept c.take_in-step.new.below c.take_in-step.ensures.valid) c.requires.stands (c.take_in-step.ensures.does c.requires.stands.0 c.requires.stands.1))).goes_on
+returns-clause-goes_on g c = (step_noted c.args.self.now (g.F.Facility.seen c.args.below.now) c.in_step_at-step.new.self c.remember_memory_failure.new.failed (g.F.Facility.seen c.in_step_at-step.new.below) (in_is_step c.args.self.now (g.F.Facility.seen c.args.below.now) c.in-Some.at c.args.link c.in_step_at-step.result c.in_step_at-step.new.self (g.F.Facility.seen c.in_step_at-step.new.below) (g.met.F.Facility.kept c.args.below.now c.requires.valid) (g.met.F.Facility.kept c.in_step_at-step.new.below c.in_step_at-step.ensures.valid) c.requires.stands (c.in_step_at-step.ensures.does c.requires.stands.0 c.requires.stands.1))).goes_on
 
 pub returns-clause-silent : goal.returns-clause-silent
-returns-clause-silent g c = (step_noted c.args.self.now (g.F.Facility.seen c.args.below.now) c.take_in-step.new.self c.note.new.failed (g.F.Facility.seen c.take_in-step.new.below) (in_is_step c.args.self.now (g.F.Facility.seen c.args.below.now) c.in-Some.at c.args.link c.take_in-step.result c.take_in-step.new.self (g.F.Facility.seen c.take_in-step.new.below) (g.met.F.Facility.kept c.args.below.now c.requires.valid) (g.met.F.Facility.kept c.take_in-step.new.below c.take_in-step.ensures.valid) c.requires.stands (c.take_in-step.ensures.does c.requires.stands.0 c.requires.stands.1))).silent
+returns-clause-silent g c = (step_noted c.args.self.now (g.F.Facility.seen c.args.below.now) c.in_step_at-step.new.self c.remember_memory_failure.new.failed (g.F.Facility.seen c.in_step_at-step.new.below) (in_is_step c.args.self.now (g.F.Facility.seen c.args.below.now) c.in-Some.at c.args.link c.in_step_at-step.result c.in_step_at-step.new.self (g.F.Facility.seen c.in_step_at-step.new.below) (g.met.F.Facility.kept c.args.below.now c.requires.valid) (g.met.F.Facility.kept c.in_step_at-step.new.below c.in_step_at-step.ensures.valid) c.requires.stands (c.in_step_at-step.ensures.does c.requires.stands.0 c.requires.stands.1))).silent
 
 pub returns-clause-others : goal.returns-clause-others
-returns-clause-others g c = (step_noted c.args.self.now (g.F.Facility.seen c.args.below.now) c.take_in-step.new.self c.note.new.failed (g.F.Facility.seen c.take_in-step.new.below) (in_is_step c.args.self.now (g.F.Facility.seen c.args.below.now) c.in-Some.at c.args.link c.take_in-step.result c.take_in-step.new.self (g.F.Facility.seen c.take_in-step.new.below) (g.met.F.Facility.kept c.args.below.now c.requires.valid) (g.met.F.Facility.kept c.take_in-step.new.below c.take_in-step.ensures.valid) c.requires.stands (c.take_in-step.ensures.does c.requires.stands.0 c.requires.stands.1))).others
+returns-clause-others g c = (step_noted c.args.self.now (g.F.Facility.seen c.args.below.now) c.in_step_at-step.new.self c.remember_memory_failure.new.failed (g.F.Facility.seen c.in_step_at-step.new.below) (in_is_step c.args.self.now (g.F.Facility.seen c.args.below.now) c.in-Some.at c.args.link c.in_step_at-step.result c.in_step_at-step.new.self (g.F.Facility.seen c.in_step_at-step.new.below) (g.met.F.Facility.kept c.args.below.now c.requires.valid) (g.met.F.Facility.kept c.in_step_at-step.new.below c.in_step_at-step.ensures.valid) c.requires.stands (c.in_step_at-step.ensures.does c.requires.stands.0 c.requires.stands.1))).others

@@ -1,5 +1,5 @@
 use Rattle.rina_iface.proofs.Later.{later_refl}
-use Rattle.rina_tower.specs.Walking.{same_refl}
+use Rattle.rina_tower.specs.Levels.{same_refl}
 use Rattle.rina_tower.proofs.facility.TowerFacility.register.Goals as goal
 
 pub returns-then-has_failed-clause-below : goal.returns-then-has_failed-clause-below

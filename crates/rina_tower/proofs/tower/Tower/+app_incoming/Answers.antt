@@ -1,4 +1,4 @@
-use Rattle.rina_tower.specs.Beside.{IsIpc}
+use Rattle.rina_tower.specs.Bystanders.{IsIpc}
 use Rattle.rina_tower.proofs.Alone.{all_alone}
 use Rattle.rina_tower.proofs.Serving.{beside_alone, rank_beside}
 use Rattle.rina_tower.proofs.tower.Tower.+app_incoming.Goals as goal

@@ -1,4 +1,4 @@
-use Rattle.rina_tower.specs.Beside.{IsIpc}
+use Rattle.rina_tower.specs.Bystanders.{IsIpc}
 use Rattle.rina_tower.specs.Ranks.{seen_of}
 use Rattle.rina_tower.proofs.Serving.{beside_alone, rank_beside}
 use Rattle.rina_tower.proofs.Walks.{can_own, passed_beside}

@@ -1,5 +1,5 @@
 use Rattle.rina_tower.proofs.Alone.{same_alone}
-use Rattle.rina_tower.specs.Beside.{Anyone}
+use Rattle.rina_tower.specs.Bystanders.{Anyone}
 use Rattle.rina_tower.proofs.Serving.{beside_alone, rank_quiet}
 use Rattle.rina_tower.proofs.tower.Tower.+lose.Goals as goal
 

@@ -1,4 +1,4 @@
-use Rattle.rina_tower.specs.Beside.{IsIpc}
+use Rattle.rina_tower.specs.Bystanders.{IsIpc}
 use Rattle.rina_tower.proofs.Alone.{all_alone}
 use Rattle.rina_tower.proofs.tower.Tower.app_unregister.Goals as goal
 

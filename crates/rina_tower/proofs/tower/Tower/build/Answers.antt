@@ -1,6 +1,6 @@
 use Rattle.std.proofs.Common.{List, subst}
 use Rattle.rina_plan.specs.declared.dif.DifPlan.{DifPlan}
-use Rattle.rina_tower.specs.Making.{IsHighest}
+use Rattle.rina_tower.specs.BuildSteps.{IsHighest}
 use Rattle.rina_tower.proofs.FitRank.{at_top, last_built, last_can, last_planned}
 use Rattle.rina_tower.proofs.tower.Tower.build.Goals as goal
 

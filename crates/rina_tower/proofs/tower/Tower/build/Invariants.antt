@@ -1,5 +1,5 @@
 -- So far each rank is made.
-use Rattle.rina_tower.specs.Making.{IsRaised}
+use Rattle.rina_tower.specs.BuildSteps.{IsRaised}
 use Rattle.rina_tower.proofs.tower.Tower.build.Given as goal
 
 abbrev pub invariant-loop-rank : goal.invariant-loop-rank

@@ -1,6 +1,6 @@
 use Rattle.std.proofs.Common.{◌≡◌, ◌∙◌, None}
 use Rattle.rina_data.specs.Configs.{config_of}
-use Rattle.rina_data.specs.Sending.{home}
+use Rattle.rina_dif_law.specs.Sending.{home}
 use Rattle.rina_dif.specs.Facade.{IsLedger}
 use Rattle.rina_tower.specs.Ledgers.{IsLedgerAt, member_at}
 use Rattle.rina_tower.proofs.Owned.{dif_there, match_by, member_there, own_valid, rank_valid}

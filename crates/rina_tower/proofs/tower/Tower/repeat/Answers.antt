@@ -1,4 +1,4 @@
-use Rattle.rina_tower.specs.Beside.{Anyone}
+use Rattle.rina_tower.specs.Bystanders.{Anyone}
 use Rattle.rina_tower.proofs.Alone.{all_alone}
 use Rattle.rina_tower.proofs.tower.Tower.repeat.Goals as goal
 

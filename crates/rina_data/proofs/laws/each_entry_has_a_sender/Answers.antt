@@ -1,5 +1,0 @@
-use Rattle.rina_data.proofs.Partnered.{met}
-use Rattle.rina_data.proofs.laws.each_entry_has_a_sender.Goals as goal
-
-pub returns : goal.returns
-returns c = met

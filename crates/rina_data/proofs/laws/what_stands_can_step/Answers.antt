@@ -1,5 +1,0 @@
-use Rattle.rina_data.proofs.Stepping.{can_go}
-use Rattle.rina_data.proofs.laws.what_stands_can_step.Goals as goal
-
-pub returns : goal.returns
-returns c = can_go

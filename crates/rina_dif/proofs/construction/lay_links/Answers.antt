@@ -1,0 +1,33 @@
+use Rattle.rina_dif.proofs.Wiring.{its_turn, turn_done, turn_laid, turn_rest}
+use Rattle.rina_dif.proofs.construction.lay_links.Goals as goal
+
+pub returns-in_err-lay_link-clause-laid : goal.returns-in_err-lay_link-clause-laid
+returns-in_err-lay_link-clause-laid g c =
+    let seen = g.F.Facility.seen in
+    let plan = c.args.plan.now in
+    let d = c.args.dif.now in
+    let s = c.args.settings.now in
+    let i = c.loop-link.link-index in
+    let held = c.loop-link.invariant in
+    let turn = its_turn plan d c.as_slice-link-items.result.now i c.in_ok-fixed.fixed _ c.as_slice-link-items.ensures c.loop-link-test.true c.in_ok-fixed.ensures in
+    turn_laid plan d s i c.in_ok-fixed.fixed (seen c.args.below.now) (seen c.loop-link.below) (seen c.lay_link.new.below) turn c.requires.plan c.requires.settings (g.met.F.Facility.kept c.loop-link.below held.valid) (g.met.F.Facility.kept c.lay_link.new.below c.lay_link.ensures.valid) held.laid held.rest c.requires.takes c.lay_link.ensures.may
+
+pub loop-link-preserved : goal.loop-link-preserved
+loop-link-preserved g c =
+    let seen = g.F.Facility.seen in
+    let plan = c.args.plan.now in
+    let d = c.args.dif.now in
+    let s = c.args.settings.now in
+    let i = c.loop-link.link-index in
+    let held = c.loop-link.invariant in
+    let valid = c.lay_link.ensures.valid in
+    let kept = g.met.F.Facility.kept c.lay_link.new.below valid in
+    let lays = c.in_ok-lay_link.ensures.ok in
+    let turn = its_turn plan d c.as_slice-link-items.result.now i c.in_ok-fixed.fixed _ c.as_slice-link-items.ensures c.loop-link-test.true c.in_ok-fixed.ensures in
+    record {
+      valid = valid;
+      same = g.met.F.Facility.same_trans c.args.below.now c.loop-link.below c.lay_link.new.below held.same c.lay_link.ensures.below;
+      laid = turn_laid plan d s i c.in_ok-fixed.fixed (seen c.args.below.now) (seen c.loop-link.below) (seen c.lay_link.new.below) turn c.requires.plan c.requires.settings (g.met.F.Facility.kept c.loop-link.below held.valid) kept held.laid held.rest c.requires.takes c.lay_link.ensures.may;
+      rest = turn_rest plan d s i c.in_ok-fixed.fixed (seen c.loop-link.below) (seen c.lay_link.new.below) c.loop-link.processes c.lay_link.new.processes turn held.rest lays;
+      done = turn_done plan d s i c.in_ok-fixed.fixed (seen c.args.below.now) (seen c.loop-link.below) (seen c.lay_link.new.below) c.loop-link.processes c.lay_link.new.processes turn c.requires.plan c.requires.settings kept held.done lays;
+    }

@@ -1,7 +1,0 @@
-use Rattle.rina_dif.proofs.Cutting.{last_one}
-use Rattle.rina_dif.proofs.processes.Processes.lose_last.Goals as goal
-
-pub returns : goal.returns
-returns c =
-    let x = c.index_mut-process.result.now in
-    rw (← c.self.view_is) (last_one c.args.now c.args.node c.args.state c.args.place c.args.routes c.lose_last.result c.args.at c.args.flows.now c.lose_last.new.flows c.self.inside.items.items x c.lose_last.new.process (rw (← c.self.view_is) at c.requires.at) c.index_mut-process.ensures.value c.lose_last.ensures.does c.lose_last.ensures.cap)

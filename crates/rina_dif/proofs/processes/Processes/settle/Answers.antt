@@ -1,8 +1,0 @@
-use Rattle.rina_data.specs.Hops.{hop_of}
-use Rattle.rina_dif.proofs.Settling.{decides_one}
-use Rattle.rina_dif.proofs.processes.Processes.settle.Goals as goal
-
-pub returns : goal.returns
-returns c =
-    let x = c.index_mut-process.result.now in
-    rw (← c.self.view_is) (decides_one c.args.now c.args.addr c.args.since (hop_of c.args.hop.now) c.settle.result c.args.at c.self.inside.items.items x c.settle.new.self (rw (← c.self.view_is) at c.requires.at) c.index_mut-process.ensures.value c.settle.ensures.does c.settle.ensures.cap)

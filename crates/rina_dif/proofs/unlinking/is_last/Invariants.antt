@@ -1,5 +1,0 @@
-use Rattle.rina_dif.proofs.Lastly.{NoneSo}
-use Rattle.rina_dif.proofs.unlinking.is_last.Given as goal
-
-abbrev pub invariant-loop-place : goal.invariant-loop-place
-invariant-loop-place l = NoneSo l.links l.lost l.place

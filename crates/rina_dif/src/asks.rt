@@ -1,0 +1,98 @@
+//! How flows are asked of a DIF, and how their far ends are claimed.
+ghost use Rattle.std.specs.Prelude.{◌≡◌, ◌≢◌, ◌↔◌, ◌<◌, ℕ, Some, Err, IfSome, length, map, slice_get, true};
+ghost use Rattle.std.specs.Option.{is_some};
+ghost use Rattle.rina_iface.specs.declared.error.AllocateError.TheVariants.{Memory, Unbuilt};
+ghost use Rattle.rina_iface.specs.Allocate.{Allocates, refused_in};
+ghost use Rattle.rina_iface.specs.Claim.{Claims};
+ghost use Rattle.rina_iface.specs.Seen.{Seen, is_of, offered, oldest_in};
+ghost use Rattle.rina_dif_law.specs.Dif.{fac_of, offer_of};
+ghost use Rattle.rina_dif.specs.Facade.{GoesOn, IsShownAs, StaysStanding, shown_as};
+ghost use Rattle.rina_dif.specs.Shown.{seen_of};
+ghost use Rattle.rina_dif.specs.Whole.{IsDif};
+
+use crate::dif::Dif;
+use rina_base::{AppName, Node, Port};
+use rina_cube::{Cube, Want, pick};
+use rina_iface::{AllocateError, Ask, Ends};
+use std::alloc::Global;
+
+/// Whether a cube meets a wish.
+fn is_met(cubes: &[Cube], want: &Want) -> bool
+    ensures { result ≡ is_some (offered (map offer_of cubes.now) want.now) }
+{
+    pick(cubes, want).is_some()
+}
+
+/// Whether the end at a place is one of an application at a node.
+fn is_of(ends: &Ends, place: usize, node: Node, app: &AppName) -> bool
+    ensures { result ≡ is_of node app.now (slice_get ends.now place) }
+{
+    match ends.get(place) {
+        None => false,
+        Some(end) => end.port.node == node && end.app.is(app),
+    }
+}
+
+/// Where the oldest far end of an application at a node stands among those that wait.
+fn oldest(ends: &Ends, waiting: &[usize], node: Node, app: &AppName) -> Option<usize>
+    ensures at { result ≡ oldest_in ends.now waiting.now node app.now }
+    ensures within { IfSome result (λ i. i < length waiting.now) }
+{
+    waiting
+        .iter()
+        .position(|place| is_of(ends, *place, node, app))
+}
+
+impl Dif {
+    /// Why an ask is refused.
+    fn refuses_allocate(&self, ask: &Ask) -> AllocateError
+        ensures refused { refused_in (Some (fac_of (seen_of self.now))) ask.now (Some Unbuilt) ≡ Some result }
+        ensures tells { result ≢ Memory }
+    {
+        if !self.has_member(ask.node) {
+            return AllocateError::NoMember;
+        }
+        if !is_met(self.settings.cubes.as_slice(), &ask.want) {
+            return AllocateError::NoCube;
+        }
+        AllocateError::Unbuilt
+    }
+
+    /// Asks for a flow, which is not built yet: each call is refused, and changes nothing. Once memory was wanted every
+    /// call answers so.
+    pub fn allocate(&mut self, _alloc: Global, ask: &Ask) -> Result<Port, AllocateError>
+        requires { IsDif self.old }
+        ensures valid { IsDif self.new }
+        ensures shown { (s : Seen) → IsShownAs s ask.now.fac self.old → Allocates (Some Unbuilt) s ask.now result (shown_as s ask.now.fac self.new) }
+        ensures goes_on { GoesOn self.old self.new }
+        ensures stands { StaysStanding self.old self.new }
+        ensures settings { self.new.settings ≡ self.old.settings }
+        ensures laid { self.new.laid ≡ self.old.laid }
+        ensures failed { self.old.failed ≡ true → result ≡ Err Memory }
+        ensures fails { self.new.failed ≡ true ↔ (result ≡ Err Memory) }
+    {
+        if self.failed {
+            return Err(AllocateError::Memory);
+        }
+        Err(self.refuses_allocate(ask))
+    }
+
+    /// Claims the oldest far end of an application at a node that nobody claimed yet, and answers its port.
+    pub fn incoming(&mut self, node: Node, app: &AppName) -> Option<Port>
+        requires { IsDif self.old }
+        ensures valid { IsDif self.new }
+        ensures shown { (s : Seen) (n : ℕ) → IsShownAs s n self.old → Claims s n node app.now result (shown_as s n self.new) }
+        ensures goes_on { GoesOn self.old self.new }
+        ensures stands { StaysStanding self.old self.new }
+        ensures settings { self.new.settings ≡ self.old.settings }
+        ensures laid { self.new.laid ≡ self.old.laid }
+        ensures failed { self.new.failed ≡ self.old.failed }
+    {
+        let at = oldest(&self.flows.journal.ends, self.waiting.as_slice(), node, app)?;
+        let place = self.waiting.remove(at);
+        let Some(end) = self.flows.journal.ends.get(place) else {
+            unreachable!()
+        };
+        Some(end.port)
+    }
+}

@@ -1,0 +1,214 @@
+//! The clock steps of a DIF.
+ghost use Rattle.std.specs.Prelude.{◌≡◌, ◌<◌, ◌≤◌, ◌↔◌, List, Some, IsTrue, length, true, Err};
+ghost use Rattle.rina_iface.specs.Later.{IsLater};
+ghost use Rattle.rina_iface.specs.Seen.{Seen};
+ghost use Rattle.rina_law.specs.Direction.{Direction};
+ghost use Rattle.rina_data.specs.Configs.{config_of};
+ghost use Rattle.rina_dif_law.specs.Sending.{home};
+ghost use Rattle.rina_dif_law.specs.Upward.{IsSilent};
+ghost use Rattle.rina_data.specs.declared.step.StepError.TheVariants.{Memory as MemoryWanted};
+ghost use Rattle.rina_dif.specs.Clocking.{ClockSteps, FailsLate, FindsFirst, FindsNext, IsDueAt, IsHere, IsIn, StepsFlowHere, StepsHere, earlier};
+ghost use Rattle.rina_dif.specs.Facade.{GoesOn, OthersStand};
+ghost use Rattle.rina_dif.specs.Holding.{Holds, Stands};
+ghost use Rattle.rina_dif.specs.Shown.{seen_of};
+
+use crate::dif::Dif;
+use rina_base::{Cep, Node};
+use rina_data::{ClockStep, StepError};
+use rina_flows::Item;
+use rina_iface::{End, Facility, PortState};
+use std::alloc::Global;
+
+/// An end at which an item is due.
+#[derive(Clone, Copy)]
+pub struct Turn {
+    /// Its place.
+    pub place: usize,
+    /// The CEP-id of its connection.
+    pub cep: Cep,
+}
+
+/// The first item that is due at a node, and the end at which it is.
+#[derive(Clone, Copy)]
+pub struct Next {
+    pub item: Item,
+    pub turn: Turn,
+}
+
+/// Whether an end is allocated, and at this node.
+fn is_here(end: &End, node: Node) -> bool
+    ensures { IsTrue result ↔ IsHere end.now node }
+{
+    matches!(end.state, PortState::Allocated) && end.port.node == node
+}
+
+/// Of two ends the one of the lesser CEP-id.
+fn earlier(first: Option<Turn>, other: Turn) -> Turn
+    ensures { result ≡ earlier first other }
+{
+    match first {
+        Some(first) if first.cep <= other.cep => first,
+        _ => other,
+    }
+}
+
+impl Dif {
+    /// Whether an item is due at the end of a place, which is allocated and at this node.
+    fn is_due_at(&self, node: Node, at: usize, item: Item) -> bool
+        requires { at < length self.now.flows.conns }
+        ensures { (lines : List Direction) (below : Seen) → Holds self.now lines below → IsTrue result ↔ IsDueAt item self.now lines node at }
+    {
+        let Some(end) = self.flows.journal.ends.get(at) else {
+            return false;
+        };
+        if !is_here(end, node) {
+            return false;
+        }
+        self.flows.is_due(self.clock, at, item)
+    }
+
+    /// The end of a place, and the CEP-id of its connection.
+    fn turn(&self, at: usize) -> Turn
+        requires { at < length self.now.flows.conns }
+        ensures { IsIn self.now.flows.conns at result }
+    {
+        Turn {
+            place: at,
+            cep: self.flows.conns.at(at).sending.form.peer.scep,
+        }
+    }
+
+    /// Of the ends of a node at which an item is due, the one of the least CEP-id. None exactly where it is due at none.
+    fn first_due(&self, node: Node, item: Item) -> Option<Turn>
+        ensures { (lines : List Direction) (below : Seen) → Holds self.now lines below → FindsFirst item self.now lines node result }
+    {
+        let mut first = None;
+        for at in 0..self.flows.conns.len() {
+            if self.is_due_at(node, at, item) {
+                first = Some(earlier(first, self.turn(at)));
+            }
+        }
+        first
+    }
+
+    /// The first item that is due at a node. None exactly where none is.
+    fn next_due(&self, node: Node) -> Option<Next>
+        ensures { (lines : List Direction) (below : Seen) → Holds self.now lines below → FindsNext self.now lines node result }
+    {
+        if let Some(turn) = self.first_due(node, Item::Gone) {
+            let item = Item::Gone;
+            return Some(Next { item, turn });
+        }
+        if let Some(turn) = self.first_due(node, Item::GiveUp) {
+            let item = Item::GiveUp;
+            return Some(Next { item, turn });
+        }
+        if let Some(turn) = self.first_due(node, Item::Ack) {
+            let item = Item::Ack;
+            return Some(Next { item, turn });
+        }
+        if let Some(turn) = self.first_due(node, Item::Again) {
+            let item = Item::Again;
+            return Some(Next { item, turn });
+        }
+        None
+    }
+
+    /// Does the first item that is due at the flows of a node, at its IPC process.
+    fn do_next(&mut self, alloc: Global, at: usize, node: Node) -> Result<ClockStep, StepError>
+        requires stands { (below : Seen) × Stands self.old below }
+        requires clock { self.old.clock ≤ 10_000_000 }
+        requires at { at < length self.old.settings.members }
+        requires home { home node (config_of self.old.settings).members ≡ Some at }
+        ensures does { (lines : List Direction) (below : Seen) → Holds self.old lines below → StepsFlowHere self.old lines below node result self.new }
+        ensures same { (self.new.settings ≡ self.old.settings) × (self.new.failed ≡ self.old.failed) }
+        ensures laid { self.new.laid ≡ self.old.laid }
+    {
+        let Some(Next { item, turn }) = self.next_due(node) else {
+            return Ok(ClockStep::Idle);
+        };
+        let Turn { place, cep } = turn;
+        match item {
+            Item::Gone => {
+                self.forget_at(alloc, at, place)?;
+                Ok(ClockStep::Gone { cep })
+            }
+            Item::GiveUp => match self.give_up_at(alloc, at, place)? {
+                Some(num) => Ok(ClockStep::GaveUp { num }),
+                None => unreachable!(),
+            },
+            Item::Ack => {
+                self.acknowledge_at(alloc, at, place)?;
+                Ok(ClockStep::Ack { cep })
+            }
+            Item::Again => match self.again_at(alloc, at, place)? {
+                Some(num) => Ok(ClockStep::Again { num }),
+                None => unreachable!(),
+            },
+        }
+    }
+
+    /// Loses the first link of the IPC process at a place that is lost, and all flows there with it where it was the last
+    /// one and its flow below has failed, or does the first item that is due at the flows of its node.
+    fn step_at<F: Facility>(
+        &mut self,
+        alloc: Global,
+        below: &F,
+        at: usize,
+        node: Node,
+    ) -> Result<ClockStep, StepError>
+        requires valid { F.valid below.now }
+        requires stands { Stands self.old (F.seen below.now) }
+        requires clock { self.old.clock ≤ 10_000_000 }
+        requires at { at < length self.old.settings.members }
+        requires home { home node (config_of self.old.settings).members ≡ Some at }
+        ensures does { (lines : List Direction) → Holds self.old lines (F.seen below.now) → StepsHere self.old lines (F.seen below.now) node result self.new }
+        ensures same { (self.new.settings ≡ self.old.settings) × (self.new.failed ≡ self.old.failed) }
+        ensures laid { self.new.laid ≡ self.old.laid }
+    {
+        match self.lost_link_at(below, at) {
+            Some(lost) => {
+                self.lose_at(alloc, below, at, node, lost)?;
+                Ok(ClockStep::LinkLost { link: lost.number })
+            }
+            None => self.do_next(alloc, at, node),
+        }
+    }
+
+    /// Takes one step of the IPC process at a node by the clock, the first of these that is due: a link is lost, whose
+    /// flow below was refused, has failed, or was closed, the one of the least number first, and where no link is left
+    /// and that flow has failed, all flows of the node fail with it; pieces that are held
+    /// of a state that has ended are written off; a number is given up, and its flow fails; an acknowledgement is made;
+    /// a number is sent again. Of the flows there the one of the least CEP-id goes first. Answers Idle exactly where
+    /// none is due. Once memory was wanted every step answers so.
+    pub fn clock_step<F: Facility>(
+        &mut self,
+        alloc: Global,
+        below: &mut F,
+        node: Node,
+    ) -> Result<ClockStep, StepError>
+        requires valid { F.valid below.old }
+        requires stands { Stands self.old (F.seen below.old) }
+        ensures valid { F.valid below.new }
+        ensures below { F.same_below below.old below.new }
+        ensures later { IsLater (F.seen below.old) (F.seen below.new) }
+        ensures does { (lines : List Direction) → Holds self.old lines (F.seen below.old) → ClockSteps self.old lines (F.seen below.old) node result self.new (F.seen below.new) }
+        ensures fails_late { (lines : List Direction) → Holds self.old lines (F.seen below.old) → FailsLate self.old lines (F.seen below.old) self.new }
+        ensures goes_on { GoesOn self.old self.new }
+        ensures silent { IsSilent (seen_of self.old) (seen_of self.new) }
+        ensures others { OthersStand self.old (F.seen below.old) (F.seen below.new) }
+        ensures settings { self.new.settings ≡ self.old.settings }
+        ensures laid { self.new.laid ≡ self.old.laid }
+        ensures failed { self.old.failed ≡ true → result ≡ Err MemoryWanted }
+        ensures fails { self.new.failed ≡ true ↔ (result ≡ Err MemoryWanted) }
+    {
+        if self.failed {
+            return Err(StepError::Memory);
+        }
+        let Some(at) = self.place_at_node(node) else {
+            return Err(StepError::NoIpc);
+        };
+        let step = self.step_at(alloc, &*below, at, node);
+        Dif::remember_memory_failure(&mut self.failed, step)
+    }
+}

@@ -1,0 +1,189 @@
+//! What comes to a DIF on its links.
+ghost use Rattle.std.specs.Prelude.{◌≡◌, ◌<◌, ◌≤◌, List, Some, length, true, ◌↔◌, Err};
+ghost use Rattle.rina_base.specs.declared.pdu.PduKind.TheVariants.{Piece};
+ghost use Rattle.rina_iface.specs.Later.{IsLater};
+ghost use Rattle.rina_law.specs.Direction.{Direction};
+ghost use Rattle.rina_data.specs.Hops.{hop_of};
+ghost use Rattle.rina_data.specs.declared.step.StepError.TheVariants.{Memory as MemoryWanted};
+ghost use Rattle.rina_dif_law.specs.Upward.{IsSilent};
+ghost use Rattle.rina_flows.specs.Calls.{TakenBy};
+ghost use Rattle.rina_flows.specs.Tied.{conns_of};
+ghost use Rattle.rina_dif.specs.Facade.{GoesOn, OthersStand};
+ghost use Rattle.rina_dif.specs.Holding.{Holds, Stands};
+ghost use Rattle.rina_dif.specs.Shown.{seen_of};
+ghost use Rattle.rina_dif.specs.Taking.{Comes, IsOwn, SettlesFor, TakesHome, TakesIn};
+
+use crate::dif::Dif;
+use rina_base::{Cause, Memory, Node, PduKind, Tick};
+use rina_data::{Decision, HopView, InStep, StepError, Took, live_link, open};
+use rina_iface::Facility;
+use std::alloc::Global;
+
+/// A PDU that came from below, lent, and the tick at which it came.
+#[derive(Clone, Copy)]
+pub struct Came<'a> {
+    pub since: Tick,
+    pub hop: HopView<'a>,
+}
+
+impl Dif {
+    /// Lets the connection at a place take a piece.
+    fn on_data(
+        &mut self,
+        alloc: Global,
+        at: usize,
+        place: usize,
+        came: &Came<'_>,
+    ) -> Result<Took, Memory>
+        requires clock { self.old.clock ≤ 10_000_000 }
+        requires at { at < length self.old.settings.members }
+        requires comes { Comes self.old came.now.since (hop_of came.now.hop) }
+        requires own { IsOwn self.old at came.now.since (hop_of came.now.hop) }
+        requires piece { came.now.hop.pdu.kind ≡ Piece }
+        requires taken { TakenBy self.old.flows.journal.ends (conns_of self.old.flows.conns) (hop_of came.now.hop).pdu (Some place) }
+        ensures does { SettlesFor self.old at came.now.since (hop_of came.now.hop) result self.new }
+        ensures settings { self.new.settings ≡ self.old.settings }
+        ensures laid { self.new.laid ≡ self.old.laid }
+        ensures failed { self.new.failed ≡ self.old.failed }
+    {
+        let clock = self.clock;
+        match self
+            .processes
+            .on_data(alloc, at, &mut self.flows, clock, place, &came.hop.pdu)?
+        {
+            Some(cause) => Ok(Took::Off(cause)),
+            None => Ok(Took::Accepted),
+        }
+    }
+
+    /// Settles a PDU for the IPC process at a place, which is not too old: it is for the connection that it names.
+    fn deliver_here(&mut self, alloc: Global, at: usize, came: &Came<'_>) -> Result<Took, Memory>
+        requires clock { self.old.clock ≤ 10_000_000 }
+        requires at { at < length self.old.settings.members }
+        requires comes { Comes self.old came.now.since (hop_of came.now.hop) }
+        requires own { IsOwn self.old at came.now.since (hop_of came.now.hop) }
+        ensures does { SettlesFor self.old at came.now.since (hop_of came.now.hop) result self.new }
+        ensures settings { self.new.settings ≡ self.old.settings }
+        ensures laid { self.new.laid ≡ self.old.laid }
+        ensures failed { self.new.failed ≡ self.old.failed }
+    {
+        let pdu = &came.hop.pdu;
+        let Some(place) = self.flows.taker(pdu) else {
+            let cause = Cause::NoConnection { cep: pdu.dcep };
+            self.processes.write_off(alloc, at, &came.hop, cause)?;
+            return Ok(Took::Off(cause));
+        };
+        match pdu.kind {
+            PduKind::Piece => self.on_data(alloc, at, place, came),
+            PduKind::Ack => {
+                self.flows.on_ack(place, pdu);
+                Ok(Took::Accepted)
+            }
+        }
+    }
+
+    /// Settles a PDU that came to the IPC process at a place: it is too old, or for a connection there, or waits for
+    /// its next hop.
+    fn route_or_deliver(
+        &mut self,
+        alloc: Global,
+        at: usize,
+        came: &Came<'_>,
+    ) -> Result<Took, Memory>
+        requires clock { self.old.clock ≤ 10_000_000 }
+        requires at { at < length self.old.settings.members }
+        requires comes { Comes self.old came.now.since (hop_of came.now.hop) }
+        ensures does { SettlesFor self.old at came.now.since (hop_of came.now.hop) result self.new }
+        ensures settings { self.new.settings ≡ self.old.settings }
+        ensures laid { self.new.laid ≡ self.old.laid }
+        ensures failed { self.new.failed ≡ self.old.failed }
+    {
+        let Some(member) = self.settings.members.get(at) else {
+            unreachable!()
+        };
+        let addr = member.addr;
+        match self
+            .processes
+            .route_or_deliver(alloc, at, self.clock, addr, came.since, &came.hop)?
+        {
+            Decision::Relayed => Ok(Took::Relayed),
+            Decision::Off(cause) => Ok(Took::Off(cause)),
+            Decision::Here => self.deliver_here(alloc, at, came),
+        }
+    }
+
+    /// Takes the oldest SDU of a link of the IPC process at a place.
+    fn in_step_at<F: Facility>(
+        &mut self,
+        alloc: Global,
+        below: &mut F,
+        at: usize,
+        link: u16,
+    ) -> Result<InStep, StepError>
+        requires valid { F.valid below.old }
+        requires stands { Stands self.old (F.seen below.old) }
+        requires at { at < length self.old.settings.members }
+        ensures valid { F.valid below.new }
+        ensures below { F.same_below below.old below.new }
+        ensures later { IsLater (F.seen below.old) (F.seen below.new) }
+        ensures does { (lines : List Direction) → Holds self.old lines (F.seen below.old) → TakesIn self.old lines (F.seen below.old) at link result self.new (F.seen below.new) }
+        ensures settings { self.new.settings ≡ self.old.settings }
+        ensures laid { self.new.laid ≡ self.old.laid }
+        ensures failed { self.new.failed ≡ self.old.failed }
+    {
+        let Some(process) = self.processes.get(at) else {
+            unreachable!()
+        };
+        let Some(live) = live_link(process.links.as_slice(), link) else {
+            return Err(StepError::NoLink);
+        };
+        let port = live.port;
+        let Some(lent) = below.peek(port) else {
+            return Ok(InStep::Idle);
+        };
+        let Some(hop) = open(lent.bytes, self.settings.widths) else {
+            unreachable!()
+        };
+        let key = hop.pdu.key();
+        let came = Came {
+            since: lent.at,
+            hop,
+        };
+        let end = self.route_or_deliver(alloc, at, &came)?;
+        below.pass(port);
+        Ok(InStep::Took { key, end })
+    }
+
+    /// Takes one step of the IPC process at a node at a link: the oldest SDU that waits there is taken, and the PDU in
+    /// it delivered to its connection, relayed, or written off. Once memory was wanted every step answers so.
+    pub fn in_step<F: Facility>(
+        &mut self,
+        alloc: Global,
+        below: &mut F,
+        node: Node,
+        link: u16,
+    ) -> Result<InStep, StepError>
+        requires valid { F.valid below.old }
+        requires stands { Stands self.old (F.seen below.old) }
+        ensures valid { F.valid below.new }
+        ensures below { F.same_below below.old below.new }
+        ensures later { IsLater (F.seen below.old) (F.seen below.new) }
+        ensures does { (lines : List Direction) → Holds self.old lines (F.seen below.old) → TakesHome self.old lines (F.seen below.old) node link result self.new (F.seen below.new) }
+        ensures goes_on { GoesOn self.old self.new }
+        ensures silent { IsSilent (seen_of self.old) (seen_of self.new) }
+        ensures others { OthersStand self.old (F.seen below.old) (F.seen below.new) }
+        ensures settings { self.new.settings ≡ self.old.settings }
+        ensures laid { self.new.laid ≡ self.old.laid }
+        ensures failed { self.old.failed ≡ true → result ≡ Err MemoryWanted }
+        ensures fails { self.new.failed ≡ true ↔ (result ≡ Err MemoryWanted) }
+    {
+        if self.failed {
+            return Err(StepError::Memory);
+        }
+        let Some(at) = self.place_at_node(node) else {
+            return Err(StepError::NoIpc);
+        };
+        let step = self.in_step_at(alloc, below, at, link);
+        Dif::remember_memory_failure(&mut self.failed, step)
+    }
+}

@@ -1,0 +1,148 @@
+//! How a DIF loses a link.
+ghost use Rattle.std.specs.Prelude.{◌≡◌, ◌↔◌, ◌<◌, ℕ, List, None, Some, IfOk, IsTrue, length, slice_get};
+ghost use Rattle.rina_iface.specs.Seen.{Seen};
+ghost use Rattle.rina_law.specs.Direction.{Direction};
+ghost use Rattle.rina_data.specs.declared.link.Link.{Link};
+ghost use Rattle.rina_data.specs.declared.process.IpcProcess.{IpcProcess};
+ghost use Rattle.rina_data.specs.Configs.{config_of};
+ghost use Rattle.rina_data.specs.Losing.{FindsLost};
+ghost use Rattle.rina_dif_law.specs.Losing.{NoneLive};
+ghost use Rattle.rina_dif_law.specs.Sending.{home};
+ghost use Rattle.rina_dif.specs.Holding.{Holds, Stands};
+ghost use Rattle.rina_dif.specs.Unlinking.{FindsLostAt, FindsNoneLeft, HasFailed, KnowsWithout, LosesAs, TellsNoneLeft, links_without};
+
+use crate::dif::Dif;
+use crate::layout::routes_without;
+use rina_base::{Memory, Node, Port, Seq};
+use rina_data::{Link, Lost, Route, lost_link};
+use rina_iface::{Facility, Fail, PortState};
+use std::alloc::Global;
+
+/// Whether no link is live but the one at a place.
+fn is_last(links: &[Link], lost: usize) -> bool
+    ensures { (link : Link) → slice_get links.now lost ≡ Some link → IsTrue result ↔ NoneLive (links_without links.now lost link) }
+{
+    for place in 0..links.len() {
+        if place != lost && links[place].live {
+            return false;
+        }
+    }
+    true
+}
+
+/// Whether a flow has failed.
+fn has_failed(state: Option<PortState>) -> bool
+    ensures { IsTrue result ↔ HasFailed state }
+{
+    matches!(state, Some(PortState::Failed(_)))
+}
+
+/// The port below of the link at a place, where the flow there has failed and no other link is live.
+fn last_failed<F: Facility>(links: &[Link], lost: usize, below: &F) -> Option<Port>
+    requires valid { F.valid below.now }
+    requires lost { lost < length links.now }
+    ensures { (link : Link) → slice_get links.now lost ≡ Some link → TellsNoneLeft (links_without links.now lost link) (F.seen below.now) link.port result }
+{
+    let port = links[lost].port;
+    if is_last(links, lost) && has_failed(below.state(port)) {
+        Some(port)
+    } else {
+        None
+    }
+}
+
+impl Dif {
+    /// The link that the IPC process at a place loses first. None exactly where it loses none.
+    pub(crate) fn lost_link_at<F: Facility>(&self, below: &F, at: usize) -> Option<Lost>
+        requires valid { F.valid below.now }
+        requires at { at < length self.now.processes }
+        ensures { (p : IpcProcess) → slice_get self.now.processes at ≡ Some p → FindsLost p.links (F.seen below.now) result }
+    {
+        let Some(process) = self.processes.get(at) else {
+            unreachable!()
+        };
+        lost_link(process.links.as_slice(), below)
+    }
+
+    /// The next hops of the IPC process at a place once the link at a place is lost.
+    fn routes_left(&self, alloc: Global, at: usize, lost: usize) -> Result<Seq<Route>, Memory>
+        requires process { at < length self.now.processes }
+        requires member { at < length self.now.settings.members }
+        requires link { (p : IpcProcess) → slice_get self.now.processes at ≡ Some p → lost < length p.links }
+        ensures { IfOk result (λ routes. KnowsWithout self.now at lost routes) }
+    {
+        let members = self.settings.members.as_slice();
+        let (Some(member), Some(process)) = (members.get(at), self.processes.get(at)) else {
+            unreachable!()
+        };
+        let links = process.links.as_slice();
+        let routes = routes_without(alloc, member, members, &self.laid, links, lost)?;
+        Ok(Seq::from_vec(routes))
+    }
+
+    /// Loses the link that was found at the IPC process at a place: what waits for it is written off, it is live no
+    /// more, and the next hops are built anew. Without memory nothing changes.
+    fn lose_link(&mut self, alloc: Global, at: usize, lost: Lost) -> Result<(), Memory>
+        requires stands { (below : Seen) × Stands self.old below × FindsLostAt self.old below at (Some lost) }
+        requires at { at < length self.old.settings.members }
+        ensures does { (node : ℕ) (lines : List Direction) (below : Seen) → Holds self.old lines below → FindsLostAt self.old below at (Some lost) → FindsNoneLeft self.old below at lost.place None → LosesAs self.old lines below at node lost.number result self.new }
+        ensures same { (self.new.settings ≡ self.old.settings) × (self.new.failed ≡ self.old.failed) }
+        ensures laid { self.new.laid ≡ self.old.laid }
+    {
+        let routes = self.routes_left(alloc, at, lost.place)?;
+        self.processes.lose_link(alloc, at, lost.place, routes)
+    }
+
+    /// Loses the link that was found at the IPC process at a place, the last one of that node, and lets all flows there
+    /// fail with it, since the flow of its port below has failed. Without memory nothing changes.
+    fn lose_last_link(
+        &mut self,
+        alloc: Global,
+        at: usize,
+        node: Node,
+        lost: Lost,
+        port: Port,
+    ) -> Result<(), Memory>
+        requires stands { (below : Seen) × Stands self.old below × FindsLostAt self.old below at (Some lost) }
+        requires at { at < length self.old.settings.members }
+        requires home { home node (config_of self.old.settings).members ≡ Some at }
+        ensures does { (lines : List Direction) (below : Seen) → Holds self.old lines below → FindsLostAt self.old below at (Some lost) → FindsNoneLeft self.old below at lost.place (Some port) → LosesAs self.old lines below at node lost.number result self.new }
+        ensures same { (self.new.settings ≡ self.old.settings) × (self.new.failed ≡ self.old.failed) }
+        ensures laid { self.new.laid ≡ self.old.laid }
+    {
+        let routes = self.routes_left(alloc, at, lost.place)?;
+        let state = PortState::Failed(Fail::Below { port });
+        let flows = &mut self.flows;
+        self.processes.lose_last_link(
+            alloc, at, lost.place, routes, flows, self.clock, node, state,
+        )
+    }
+
+    /// Loses the link that was found at the IPC process at a place, at a node. Where no other is live, and its flow below
+    /// has failed, all flows at the node fail with it. Without memory nothing changes.
+    pub(crate) fn lose_at<F: Facility>(
+        &mut self,
+        alloc: Global,
+        below: &F,
+        at: usize,
+        node: Node,
+        lost: Lost,
+    ) -> Result<(), Memory>
+        requires valid { F.valid below.now }
+        requires stands { Stands self.old (F.seen below.now) }
+        requires found { FindsLostAt self.old (F.seen below.now) at (Some lost) }
+        requires at { at < length self.old.settings.members }
+        requires home { home node (config_of self.old.settings).members ≡ Some at }
+        ensures does { (lines : List Direction) → Holds self.old lines (F.seen below.now) → LosesAs self.old lines (F.seen below.now) at node lost.number result self.new }
+        ensures same { (self.new.settings ≡ self.old.settings) × (self.new.failed ≡ self.old.failed) }
+        ensures laid { self.new.laid ≡ self.old.laid }
+    {
+        let Some(process) = self.processes.get(at) else {
+            unreachable!()
+        };
+        match last_failed(process.links.as_slice(), lost.place, below) {
+            Some(port) => self.lose_last_link(alloc, at, node, lost, port),
+            None => self.lose_link(alloc, at, lost),
+        }
+    }
+}

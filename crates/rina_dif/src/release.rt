@@ -1,0 +1,99 @@
+//! How flows of a DIF are freed.
+ghost use Rattle.std.specs.Prelude.{◌≡◌, ◌<◌, ◌↔◌, ℕ, List, length, slice_get, Some, Err, true, false, None};
+ghost use Rattle.rina_iface.specs.declared.ends.End.{End};
+ghost use Rattle.rina_iface.specs.declared.error.FreeError.TheVariants.{Memory as NoneFound};
+ghost use Rattle.rina_iface.specs.declared.state.PortState.TheVariants.{Allocated};
+ghost use Rattle.rina_iface.specs.Ends.{place_in};
+ghost use Rattle.rina_iface.specs.Free.{Frees};
+ghost use Rattle.rina_iface.specs.Seen.{Seen};
+ghost use Rattle.rina_iface.specs.State.{freed_state};
+ghost use Rattle.rina_law.specs.Direction.{Direction};
+ghost use Rattle.rina_dif.specs.Facade.{GoesOn, IsShownAs, StaysStanding, shown_as};
+ghost use Rattle.rina_dif.specs.Freeing.{FreesAt, FreesHere};
+ghost use Rattle.rina_dif.specs.Holding.{Holds};
+ghost use Rattle.rina_dif.specs.Whole.{IsDif};
+
+use crate::dif::Dif;
+use rina_base::{Memory, Node, Port};
+use rina_iface::{FreeError, PortState, Why};
+use std::alloc::Global;
+
+/// The state of a port that is freed: a flow that was there is closed, and one that was asked for is withdrawn.
+fn freed(state: PortState) -> PortState
+    ensures { result ≡ freed_state state }
+{
+    match state {
+        PortState::Allocated => PortState::Closed,
+        PortState::Pending => PortState::Refused(Why::Withdrawn),
+        state => state,
+    }
+}
+
+impl Dif {
+    /// Closes the allocated end at a place, which is at a node, and writes off what its connection holds in the ledger
+    /// of the member there.
+    fn close_at(&mut self, alloc: Global, at: usize, node: Node) -> Result<(), Memory>
+        requires valid { IsDif self.old }
+        requires at { at < length self.old.flows.journal.ends }
+        requires end { (e : End) → slice_get self.old.flows.journal.ends at ≡ Some e → (e.state ≡ Allocated) × (e.port.node ≡ node) }
+        ensures does { (lines : List Direction) (below : Seen) → Holds self.old lines below → FreesHere self.old lines below at result self.new }
+        ensures same { (self.new.settings ≡ self.old.settings) × (self.new.clock ≡ self.old.clock) × (self.new.failed ≡ self.old.failed) }
+        ensures laid { self.new.laid ≡ self.old.laid }
+    {
+        let Some(home) = self.place_at_node(node) else {
+            unreachable!()
+        };
+        let clock = self.clock;
+        self.processes
+            .stop(alloc, home, &mut self.flows, clock, at, PortState::Closed)
+    }
+
+    /// Frees the end at a place.
+    fn free_at(&mut self, alloc: Global, at: usize) -> Result<(), Memory>
+        requires valid { IsDif self.old }
+        requires at { at < length self.old.flows.journal.ends }
+        ensures does { (lines : List Direction) (below : Seen) → Holds self.old lines below → FreesHere self.old lines below at result self.new }
+        ensures same { (self.new.settings ≡ self.old.settings) × (self.new.clock ≡ self.old.clock) × (self.new.failed ≡ self.old.failed) }
+        ensures laid { self.new.laid ≡ self.old.laid }
+    {
+        let Some(end) = self.flows.journal.ends.get(at) else {
+            unreachable!()
+        };
+        let (state, node) = (end.state, end.port.node);
+        match state {
+            PortState::Allocated => self.close_at(alloc, at, node),
+            state => {
+                self.flows.journal.ends.set_state(at, freed(state));
+                Ok(())
+            }
+        }
+    }
+
+    /// Gives up a port: an allocated one is closed, at this end alone, and the pieces that its connection holds are
+    /// written off; one that was asked for is withdrawn, and any other stays as it is. Once memory was wanted every call
+    /// answers so.
+    pub fn free(&mut self, alloc: Global, port: Port) -> Result<(), FreeError>
+        requires { IsDif self.old }
+        ensures valid { IsDif self.new }
+        ensures does { (lines : List Direction) (below : Seen) → Holds self.old lines below → FreesAt (place_in port self.old.flows.journal.ends) self.old lines below result self.new }
+        ensures shown { (s : Seen) → IsShownAs s port.fac self.old → Frees false s port result (shown_as s port.fac self.new) }
+        ensures goes_on { GoesOn self.old self.new }
+        ensures stands { StaysStanding self.old self.new }
+        ensures settings { self.new.settings ≡ self.old.settings }
+        ensures laid { self.new.laid ≡ self.old.laid }
+        ensures failed { self.old.failed ≡ true → result ≡ Err NoneFound }
+        ensures fails { self.new.failed ≡ true ↔ (result ≡ Err NoneFound) }
+    {
+        if self.failed {
+            return Err(FreeError::Memory);
+        }
+        let Some(at) = self.flows.journal.ends.place(port) else {
+            return Err(FreeError::NoPort);
+        };
+        if self.free_at(alloc, at).is_err() {
+            self.failed = true;
+            return Err(FreeError::Memory);
+        }
+        Ok(())
+    }
+}

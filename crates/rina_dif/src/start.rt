@@ -1,0 +1,80 @@
+//! How a DIF is made.
+ghost use Rattle.std.specs.Prelude.{◌≡◌, [], false, IfOk};
+ghost use Rattle.rina_iface.specs.Journal.{AreKept};
+ghost use Rattle.rina_iface.specs.Seen.{Seen};
+ghost use Rattle.rina_data.specs.Configs.{config_of};
+ghost use Rattle.rina_dif_law.specs.Numbered.{AreMembers};
+ghost use Rattle.rina_dif_law.specs.Standing.{IsConfig};
+ghost use Rattle.rina_dif.specs.Building.{AreBare, IsBare, IsBareDif, IsFree, queue_ids};
+ghost use Rattle.rina_dif.specs.Holding.{Holds};
+
+use crate::dif::Dif;
+use crate::layout::Layout;
+use crate::processes::Processes;
+use rina_account::Ledger;
+use rina_base::{Memory, Seq, Tick};
+use rina_cube::Cube;
+use rina_data::{IpcProcess, Settings};
+use rina_flows::Flows;
+use rina_queue::Queues;
+use std::alloc::{AllocError, Global};
+
+/// The ids of the queues of a link: that of management, and those of the cubes.
+fn queue_ids(alloc: Global, cubes: &[Cube]) -> Result<Vec<u8>, AllocError>
+    ensures { IfOk result (λ v. v.items ≡ queue_ids cubes.now) }
+{
+    let mut ids = Vec::new(alloc);
+    ids.push(0)?;
+    for cube in cubes {
+        ids.push(cube.id)?;
+    }
+    Ok(ids)
+}
+
+/// An IPC process without links.
+fn bare(alloc: Global, settings: &Settings) -> Result<IpcProcess, Memory>
+    ensures { IfOk result (IsBare settings.now) }
+{
+    let ids = queue_ids(alloc, settings.cubes.as_slice())?;
+    Ok(IpcProcess {
+        links: Seq::new(alloc),
+        routes: Seq::new(alloc),
+        queues: Queues::new(alloc, settings.cap, ids.as_slice())?,
+        ledger: Ledger::new(alloc),
+    })
+}
+
+/// An IPC process without links for each member.
+fn all_bare(alloc: Global, settings: &Settings) -> Result<Processes, Memory>
+    ensures { IfOk result (AreBare settings.now) }
+{
+    let mut processes = Processes::new(alloc);
+    for _member in settings.members.as_slice() {
+        processes.push(bare(alloc, settings)?)?;
+    }
+    Ok(processes)
+}
+
+impl Dif {
+    /// A DIF of these settings, whose clock is that of the rank below, without links, names and flows. It stands on
+    /// every kept rank where no end has a member as its application or its peer.
+    pub fn new(alloc: Global, settings: Settings, clock: Tick) -> Result<Dif, Memory>
+        ensures settings { IfOk result (λ d. d.settings ≡ settings) }
+        ensures clock { IfOk result (λ d. d.clock ≡ clock) }
+        ensures alive { IfOk result (λ d. d.failed ≡ false) }
+        ensures bare { IfOk result IsBareDif }
+        ensures holds { IfOk result (λ d. (below : Seen) → AreKept below → IsConfig (config_of settings) → AreMembers (config_of settings) → clock ≡ below.now → IsFree (config_of settings) below → Holds d [] below) }
+    {
+        let processes = all_bare(alloc, &settings)?;
+        Ok(Dif {
+            settings,
+            clock,
+            processes,
+            laid: Layout::none(alloc),
+            flows: Flows::new(alloc),
+            waiting: Vec::new(alloc),
+            names: Seq::new(alloc),
+            failed: false,
+        })
+    }
+}

@@ -1,0 +1,129 @@
+//! The laws of one DIF over any facility, each as the contract of a function that does nothing.
+//! A DIF stands on the rank below where delta-t's law holds of each of its flows, whatever is queued, sent, relayed,
+//! lost, repeated or delayed. Of the rank below they use the laws of a facility, and of its cubes that each SDU that
+//! came was sent, and came in time.
+ghost use Rattle.rina_dif_law.specs.Partners.{EachIsMet};
+ghost use Rattle.rina_dif_law.specs.Laws.{StartStands, SendsStand, PassesStand, OutStepsStand, InStepsStand, AcknowledgingStands, ResendingStands, ForgettingStands, EndingStands, LosingStands, FailingStands, StartCarries, SendsCarry, PassesCarry, OutStepsCarry, InStepsCarry, AcknowledgingCarries, ResendingCarries, ForgettingCarries, EndingCarries, LosingCarries, FailingCarries, TimeCarries, BesideCarries, SendsOfOthersCarry, PassesOfOthersCarry, TimeStands, BesideStands, SendsOfOthersStand, OutStepsOfOthersStand, InStepsOfOthersStand, CloudIsCovered, CloudLaw, StandingKeeps, SendsAreLater, PassesAreLater, OutStepsAreSilent, InStepsAreSilent, AcknowledgingIsSilent, ResendingIsSilent, ForgettingIsSilent, EndingIsSilent, LosingIsSilent, FailingIsSilent, TimeIsSilent, SendsAreSends, PassesArePasses, RelayingSettles, WritingOffSettles, StandingCanGo};
+ghost use Rattle.rina_dif_law.specs.NumberLaws.{SendsNumber, PassesNumber, OutStepsNumber, InStepsNumber, AcknowledgingNumbers, ResendingNumbers, ForgettingNumbers, EndingNumbers, LosingNumbers, FailingNumbers, TimeNumbers, BesideNumbers, SendsOfOthersNumber, BindingStands, BindingCarries, BindingNumbers, BindingIsLater};
+
+/// Whatever an end of a kept facility got has a sender: its partner, of whose entries it is born.
+pub fn each_entry_has_a_sender()
+    ensures { EachIsMet }
+{}
+
+/// A DIF stands before anything was sent, and after each of its calls, whatever that answers.
+pub fn calls_keep_standing()
+    ensures start { StartStands }
+    ensures send { SendsStand }
+    ensures pass { PassesStand }
+    ensures out { OutStepsStand }
+    ensures in_ { InStepsStand }
+    ensures acknowledge { AcknowledgingStands }
+    ensures resend { ResendingStands }
+    ensures forget { ForgettingStands }
+    ensures end { EndingStands }
+    ensures lose { LosingStands }
+    ensures fail { FailingStands }
+{}
+
+/// Whatever an end got has come to its IPC process from the rank below, piece by piece, by the tick at which it was
+/// delivered.
+pub fn what_was_got_has_come()
+    ensures start { StartCarries }
+    ensures send { SendsCarry }
+    ensures pass { PassesCarry }
+    ensures out { OutStepsCarry }
+    ensures in_ { InStepsCarry }
+    ensures acknowledge { AcknowledgingCarries }
+    ensures resend { ResendingCarries }
+    ensures forget { ForgettingCarries }
+    ensures end { EndingCarries }
+    ensures lose { LosingCarries }
+    ensures fail { FailingCarries }
+    ensures time { TimeCarries }
+    ensures beside { BesideCarries }
+    ensures others_send { SendsOfOthersCarry }
+    ensures others_pass { PassesOfOthersCarry }
+{}
+
+/// A DIF goes on to stand as time goes on with the rank below, and as others use that rank: applications, and other
+/// DIFs.
+pub fn the_rank_below_keeps_standing()
+    ensures time { TimeStands }
+    ensures beside { BesideStands }
+    ensures send { SendsOfOthersStand }
+    ensures out { OutStepsOfOthersStand }
+    ensures in_ { InStepsOfOthersStand }
+{}
+
+/// The copies that came are covered by what waits and what was sent, and what goes on below adds nothing: each PDU that
+/// may still come could come before, as late.
+pub fn the_cloud_only_shrinks()
+    ensures covered { CloudIsCovered }
+    ensures later { CloudLaw }
+{}
+
+/// A DIF that stands is a facility: each flow keeps what its cube promises, so that the next rank can stand on it.
+pub fn what_stands_is_a_facility()
+    ensures { StandingKeeps }
+{}
+
+/// What the rank above sees: a call makes the journal later, and a step of the DIF sends and passes nothing there.
+pub fn calls_are_later()
+    ensures send { SendsAreLater }
+    ensures pass { PassesAreLater }
+    ensures out { OutStepsAreSilent }
+    ensures in_ { InStepsAreSilent }
+    ensures acknowledge { AcknowledgingIsSilent }
+    ensures resend { ResendingIsSilent }
+    ensures forget { ForgettingIsSilent }
+    ensures end { EndingIsSilent }
+    ensures lose { LosingIsSilent }
+    ensures fail { FailingIsSilent }
+    ensures time { TimeIsSilent }
+{}
+
+/// At a rank that shows the DIF as one of its facilities, a send and a pass are what they are on every facility: with
+/// the same refusals, in the same order.
+pub fn calls_are_those_of_a_facility()
+    ensures send { SendsAreSends }
+    ensures pass { PassesArePasses }
+{}
+
+/// What an IPC process decides on a PDU by what it knows itself is what becomes of that PDU in its DIF.
+pub fn decisions_are_what_becomes()
+    ensures relayed { RelayingSettles }
+    ensures off { WritingOffSettles }
+{}
+
+/// An IPC process of a DIF that stands can take a step at each of its links: the flow below promises something, and
+/// takes whatever waits.
+pub fn what_stands_can_step()
+    ensures { StandingCanGo }
+{}
+
+/// A DIF stays numbered: whatever is sent, relayed or lost, each PDU that may still come names a connection that
+/// stands.
+pub fn names_stay()
+    ensures send { SendsNumber }
+    ensures pass { PassesNumber }
+    ensures out { OutStepsNumber }
+    ensures in_ { InStepsNumber }
+    ensures acknowledge { AcknowledgingNumbers }
+    ensures resend { ResendingNumbers }
+    ensures forget { ForgettingNumbers }
+    ensures end { EndingNumbers }
+    ensures lose { LosingNumbers }
+    ensures fail { FailingNumbers }
+    ensures time { TimeNumbers }
+    ensures beside { BesideNumbers }
+    ensures others_send { SendsOfOthersNumber }
+{}
+
+/// A DIF that is numbered goes on to stand as both ends of a fixed flow are made with the names that are next.
+pub fn fixed_flows_may_be_made()
+    ensures stands { BindingStands }
+    ensures carries { BindingCarries }
+    ensures numbers { BindingNumbers }
+    ensures later { BindingIsLater }
+{}

@@ -1,0 +1,13 @@
+//! The laws of one DIF over any facility, each the contract of a function that does nothing.
+#![tactic(auto)]
+
+mod account;
+mod laws;
+
+pub use account::processes_stay_in_account;
+pub use laws::{
+    calls_are_later, calls_are_those_of_a_facility, calls_keep_standing,
+    decisions_are_what_becomes, each_entry_has_a_sender, fixed_flows_may_be_made, names_stay,
+    the_cloud_only_shrinks, the_rank_below_keeps_standing, what_stands_can_step,
+    what_stands_is_a_facility, what_was_got_has_come,
+};

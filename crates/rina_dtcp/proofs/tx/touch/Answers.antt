@@ -1,5 +1,0 @@
-use Rattle.rina_dtcp.proofs.Touching.{touched_set}
-use Rattle.rina_dtcp.proofs.tx.touch.Goals as goal
-
-pub returns : goal.returns
-returns c = touched_set c.args.unacked.now.items c.args.at c.args.now c.index_mut.result.now c.requires c.index_mut.ensures.value

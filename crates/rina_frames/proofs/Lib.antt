@@ -1,9 +1,0 @@
-pub mod FramesAt
-pub mod FramesCalls
-pub mod FramesEvents
-pub mod FramesKept
-pub mod FramesLists
-pub mod FramesOpening
-pub mod FramesRun
-pub mod FramesTick
-pub mod FramesWords

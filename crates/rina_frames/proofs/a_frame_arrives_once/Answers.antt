@@ -1,6 +1,0 @@
--- A frame that nothing touched arrives once.
-use Rattle.rina_frames.proofs.FramesRun.{frames_arrive_once}
-use Rattle.rina_frames.proofs.a_frame_arrives_once.Goals as goal
-
-pub returns : goal.returns
-returns c = frames_arrive_once

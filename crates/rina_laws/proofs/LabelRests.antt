@@ -1,0 +1,125 @@
+-- What sends and passes nothing at the ends of a rank: it lets them rest.
+use Rattle.std.proofs.Common.{arith, ◌≡◌, ◌≢◌, ℕ, List, [], ◌++◌, append_assoc, get_or, length, length-set, slice_get, slice_set, Some, refl, sym, ◌∙◌, ap, subst, inl, inr, ◌⊎◌}
+use Rattle.std.proofs.lemmas.List.{append-nil}
+use Rattle.std.proofs.lemmas.Option.{same_Some, slice_get-get_or, slice_get_within}
+use Rattle.rina_law.specs.declared.entry.Entry.{Entry}
+use Rattle.rina_iface.specs.declared.ends.End.{End}
+use Rattle.rina_iface.specs.Journal.{At}
+use Rattle.rina_iface.specs.Seen.{Fac}
+use Rattle.rina_iface.proofs.Changed.{set_at, slice_get-set_same, slice_get-set_other}
+use Rattle.rina_tower.specs.Bystanders.{IsIpc}
+use Rattle.rina_laws.proofs.LabelEnds.{number_tells}
+
+-- the end sent and passed nothing; it may have got more, and its state may be another
+pub record IsStill (e e' : End) : Type 0 where
+  pub sent : e'.sent ≡ e.sent
+  pub taken : e'.taken ≡ e.taken
+  pub more : List Entry
+  pub got : e'.got ≡ e.got ++ more
+
+-- the same, or it is the end of an IPC process
+pub record Rests (e e' : End) : Type 0 where
+  pub port : e'.port ≡ e.port
+  pub app : e'.app ≡ e.app
+  pub rests : IsIpc e.app ⊎ IsStill e e'
+
+pub rests_still : (e e' : End) → e'.port ≡ e.port → e'.app ≡ e.app → e'.sent ≡ e.sent → e'.taken ≡ e.taken → (more : List Entry) → e'.got ≡ e.got ++ more → Rests e e'
+rests_still e e' port app sent taken more got = record { port = port; app = app; rests = inr (record { sent = sent; taken = taken; more = more; got = got }) }
+
+pub rests_refl : (e : End) → Rests e e
+rests_refl e = rests_still e e refl refl refl refl [] (sym (append-nil e.got))
+
+still_on : (x y z : End) → IsStill x y → IsStill y z → IsStill x z
+still_on x y z p q = record {
+  sent = q.sent ∙ p.sent;
+  taken = q.taken ∙ p.taken;
+  more = p.more ++ q.more;
+  got = q.got ∙ ap (λ (es : List Entry). es ++ q.more) p.got ∙ append_assoc x.got p.more q.more;
+}
+
+pub rests_on : (x y z : End) → Rests x y → Rests y z → Rests x z
+rests_on x y z p q = record {
+  port = q.port ∙ p.port;
+  app = q.app ∙ p.app;
+  rests = elim p.rests [
+    | inl ipc ↦ inl ipc
+    | inr s ↦ elim q.rests [ inl ipc ↦ inl (subst IsIpc p.app ipc) | inr t ↦ inr (still_on x y z s t) ]
+  ];
+}
+
+-- ---- the ends of a facility
+
+pub record RestEnds (es es' : List End) : Type 0 where
+  pub size : length es' ≡ length es
+  pub each : (i : ℕ) (e e' : End) → At es i e → At es' i e' → Rests e e'
+
+pub ends_same : (es es' : List End) → es' ≡ es → RestEnds es es'
+ends_same es es' is = record {
+  size = ap (λ (xs : List End). length xs) is;
+  each = λ i e e' x y. (let one : e' ≡ e = same_Some e' e (sym (subst (λ (xs : List End). At xs i e') is y) ∙ x) in subst (Rests e) (sym one) (rests_refl e));
+}
+
+pub ends_set : (es : List End) (i : ℕ) (e e' : End) → At es i e → Rests e e' → RestEnds es (slice_set es i e')
+ends_set es i e e' h rests = record {
+  size = length-set es i e';
+  each = λ k a b x y. elim (set_at es i k e e' b h y) [
+    | inl t ↦
+        let one : a ≡ e = same_Some a e (sym x ∙ subst (λ (m : ℕ). slice_get es m ≡ Some e) (sym t.0) h) in
+        subst (λ (z : End). Rests z b) (sym one) (subst (Rests e) (sym t.1) rests)
+    | inr o ↦ let one : b ≡ a = same_Some b a (sym o.1 ∙ x) in subst (Rests a) (sym one) (rests_refl a)
+  ];
+}
+
+pub ends_on : (xs ys zs : List End) → RestEnds xs ys → RestEnds ys zs → RestEnds xs zs
+ends_on xs ys zs p q = record {
+  size = q.size ∙ p.size;
+  each = λ i e e' x z.
+      let size = p.size in
+      let y : At ys i (get_or ys i e) = slice_get-get_or ys i e (omega (arith, size, slice_get_within xs i e x)) in
+      rests_on e (get_or ys i e) e' (p.each i e (get_or ys i e) x y) (q.each i (get_or ys i e) e' y z);
+}
+
+-- the ends of a facility rest, and the same far ends wait
+pub record RestFac (f f' : Fac) : Type 0 where
+  pub ends : RestEnds f.ends f'.ends
+  pub waiting : f'.waiting ≡ f.waiting
+
+pub fac_same : (f f' : Fac) → f'.ends ≡ f.ends → f'.waiting ≡ f.waiting → RestFac f f'
+fac_same f f' ends waiting = record { ends = ends_same f.ends f'.ends ends; waiting = waiting }
+
+-- ---- the facilities of a rank
+
+-- each facility has become one of which this holds
+pub record Each (R : Fac → Fac → Type 0) (fs fs' : List Fac) : Type 0 where
+  pub on : (n : ℕ) (f : Fac) → slice_get fs n ≡ Some f → (f' : Fac) × (slice_get fs' n ≡ Some f') × R f f'
+  pub from : (n : ℕ) (f' : Fac) → slice_get fs' n ≡ Some f' → (f : Fac) × (slice_get fs n ≡ Some f) × R f f'
+
+pub each_same : (R : Fac → Fac → Type 0) (fs fs' : List Fac) → fs' ≡ fs → ((n : ℕ) (f : Fac) → slice_get fs n ≡ Some f → R f f) → Each R fs fs'
+each_same R fs fs' is same = record {
+  on = λ n f h. (f, ap (λ (xs : List Fac). slice_get xs n) is ∙ h, same n f h);
+  from = λ n f' h. (let there : slice_get fs n ≡ Some f' = sym (ap (λ (xs : List Fac). slice_get xs n) is) ∙ h in (f', there, same n f' there));
+}
+
+pub each_set : (R : Fac → Fac → Type 0) (fs : List Fac) (n : ℕ) (f f' : Fac) → slice_get fs n ≡ Some f → R f f' → ((m : ℕ) (g : Fac) → m ≢ n → slice_get fs m ≡ Some g → R g g) → Each R fs (slice_set fs n f')
+each_set R fs n f f' h here others = record {
+  on = λ m g x. elim (number_tells m n) [
+    | inl t ↦
+        let one : f ≡ g = same_Some f g (sym h ∙ subst (λ (k : ℕ). slice_get fs k ≡ Some g) t x) in
+        (f', subst (λ (k : ℕ). slice_get (slice_set fs n f') k ≡ Some f') (sym t) (slice_get-set_same fs n f f' h), subst (λ (z : Fac). R z f') one here)
+    | inr o ↦ (g, slice_get-set_other fs n m f' o ∙ x, others m g o x)
+  ];
+  from = λ m g x. elim (set_at fs n m f f' g h x) [
+    | inl t ↦ (f, subst (λ (k : ℕ). slice_get fs k ≡ Some f) (sym t.0) h, subst (R f) (sym t.1) here)
+    | inr o ↦ (g, o.1, others m g o.0 o.1)
+  ];
+}
+
+-- the ends of a rank rest
+abbrev pub Rest : List Fac → List Fac → Type 0
+Rest fs fs' = Each RestFac fs fs'
+
+pub rest_same : (fs fs' : List Fac) → fs' ≡ fs → Rest fs fs'
+rest_same fs fs' is = each_same RestFac fs fs' is (λ n f h. fac_same f f refl refl)
+
+pub rest_set : (fs : List Fac) (n : ℕ) (f f' : Fac) → slice_get fs n ≡ Some f → RestFac f f' → Rest fs (slice_set fs n f')
+rest_set fs n f f' h here = each_set RestFac fs n f f' h here (λ m g ne at. fac_same g g refl refl)

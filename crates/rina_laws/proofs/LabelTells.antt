@@ -1,0 +1,183 @@
+-- What is kept from one line to the next: labels have names and ports of their own, and tell the journals of their ends.
+use Rattle.std.proofs.Common.{◌≡◌, ◌≢◌, ℕ, false, List, [], ◌++◌, slice_get, Some, sym, ◌∙◌, ap, subst}
+use Rattle.std.proofs.lemmas.Option.{slice_get-get_or, slice_get_within}
+use Rattle.std.proofs.Common.{get_or, arith}
+use Rattle.rina_base.specs.declared.number.Port.{Port}
+use Rattle.rina_iface.specs.declared.ends.End.{End}
+use Rattle.rina_iface.specs.Seen.{Fac}
+use Rattle.rina_tower.specs.Bystanders.{is_ipc}
+use Rattle.rina_notes.specs.declared.label.Label.{Label}
+use Rattle.rina_laws.proofs.LabelEnds.{ArePorts, Holds, Waits}
+use Rattle.rina_laws.proofs.LabelMoves.{FacMoves, Fits, IsOn, MovesIn}
+use Rattle.rina_laws.proofs.LabelRanks.{AllPorts, AtAll, Shown, both_from, both_on}
+
+-- an end stands at a place of a facility of a rank
+pub record HoldsAt (g : Shown) (r n i : ℕ) (e : End) : Type 0 where
+  pub facs : List Fac
+  pub is_rank : g r ≡ Some facs
+  pub holds : Holds facs n i e
+
+-- a far end waits there to be claimed
+pub record WaitsAt (g : Shown) (r n at place : ℕ) : Type 0 where
+  pub facs : List Fac
+  pub is_rank : g r ≡ Some facs
+  pub waits : Waits facs n at place
+
+abbrev pub Is : List Label → ℕ → Label → Type 0
+Is ls k l = slice_get ls k ≡ Some l
+
+-- no label has this port of this rank, or this name
+abbrev pub IsBare : List Label → ℕ → Port → Type 0
+IsBare ls r port = (k : ℕ) (l : Label) → Is ls k l → l.rank ≡ r → l.port ≢ port
+
+abbrev pub IsUnknown : List Label → List ℕ → Type 0
+IsUnknown ls name = (k : ℕ) (l : Label) → Is ls k l → l.name ≢ name
+
+-- the end of this port of a rank is that of an application, and has this view
+pub record Has {X : Type 0} (V : End → List X) (g : Shown) (r : ℕ) (port : Port) (xs : List X) : Type 0 where
+  pub place : ℕ
+  pub end : End
+  pub holds : HoldsAt g r port.fac place end
+  pub its : end.port ≡ port
+  pub plain : is_ipc end.app ≡ false
+  pub view : V end ≡ xs
+
+-- labels have names and ports of their own, and none has the port of a far end that waits; none waits twice
+pub record AreNamed (g : Shown) (ls : List Label) : Type 0 where
+  pub names : (j k : ℕ) (l m : Label) → Is ls j l → Is ls k m → l.name ≡ m.name → (l.rank ≡ m.rank) × (l.port ≡ m.port)
+  pub ports : (j k : ℕ) (l m : Label) → Is ls j l → Is ls k m → l.rank ≡ m.rank → l.port ≡ m.port → l.name ≡ m.name
+  pub waits : (r n at place : ℕ) (e : End) → WaitsAt g r n at place → HoldsAt g r n place e → IsBare ls r e.port
+  pub once : (r n j k place : ℕ) → WaitsAt g r n j place → WaitsAt g r n k place → j ≡ k
+
+-- the end of each label has the view that is told for the label; an end without a label has nothing, and nothing is told for other names
+pub record Tells {X : Type 0} (V : End → List X) (told : List ℕ → List X) (g : Shown) (ls : List Label) : Type 0 where
+  pub stands : (k : ℕ) (l : Label) → Is ls k l → Has V g l.rank l.port (told l.name)
+  pub fresh : (r n i : ℕ) (e : End) → HoldsAt g r n i e → IsBare ls r e.port → V e ≡ []
+  pub silent : (name : List ℕ) → IsUnknown ls name → told name ≡ []
+
+-- no end of an application passed more than came
+pub record AllFit (g : Shown) : Type 0 where
+  pub of : (r n i : ℕ) (e : End) → HoldsAt g r n i e → Fits e
+
+-- ---- a call that makes no end and gives no label
+
+-- the views at all ranks have more behind them
+abbrev pub AllMoves : {X : Type 0} → (End → List X) → (ℕ → Port → List X) → Shown → Shown → Type 0
+AllMoves V more g g' = AtAll (λ r. MovesIn V (more r)) g g'
+
+pub moves_on : {X : Type 0} (V : End → List X) (more : ℕ → Port → List X) (g g' : Shown) (r n i : ℕ) (e : End) → AllMoves V more g g' → HoldsAt g r n i e → (e' : End) × HoldsAt g' r n i e' × IsOn V (more r) e e'
+moves_on V more g g' r n i e mv h =
+    let b = both_on (MovesIn V (more r)) (g r) (g' r) h.facs (mv.rank r) h.is_rank in
+    let f = b.2.on n h.holds.facility h.holds.stands in
+    let size = f.2.size in
+    let there : slice_get f.0.ends i ≡ Some (get_or f.0.ends i e) = slice_get-get_or f.0.ends i e (omega (arith, size, slice_get_within h.holds.facility.ends i e h.holds.is)) in
+    (get_or f.0.ends i e, record { facs = b.0; is_rank = b.1; holds = record { facility = f.0; stands = f.1; is = there } }, f.2.each i e (get_or f.0.ends i e) h.holds.is there)
+
+pub moves_from : {X : Type 0} (V : End → List X) (more : ℕ → Port → List X) (g g' : Shown) (r n i : ℕ) (e' : End) → AllMoves V more g g' → HoldsAt g' r n i e' → (e : End) × HoldsAt g r n i e × IsOn V (more r) e e'
+moves_from V more g g' r n i e' mv h =
+    let b = both_from (MovesIn V (more r)) (g r) (g' r) h.facs (mv.rank r) h.is_rank in
+    let f = b.2.from n h.holds.facility h.holds.stands in
+    let size = f.2.size in
+    let there : slice_get f.0.ends i ≡ Some (get_or f.0.ends i e') = slice_get-get_or f.0.ends i e' (omega (arith, size, slice_get_within h.holds.facility.ends i e' h.holds.is)) in
+    (get_or f.0.ends i e', record { facs = b.0; is_rank = b.1; holds = record { facility = f.0; stands = f.1; is = there } }, f.2.each i (get_or f.0.ends i e') e' there h.holds.is)
+
+moves_wait : {X : Type 0} (V : End → List X) (more : ℕ → Port → List X) (g g' : Shown) (r n at place : ℕ) → AllMoves V more g g' → WaitsAt g' r n at place → WaitsAt g r n at place
+moves_wait V more g g' r n at place mv w =
+    let b = both_from (MovesIn V (more r)) (g r) (g' r) w.facs (mv.rank r) w.is_rank in
+    let f = b.2.from n w.waits.facility w.waits.stands in
+    record { facs = b.0; is_rank = b.1; waits = record { facility = f.0; stands = f.1; is = subst (λ (xs : List ℕ). slice_get xs at ≡ Some place) f.2.waiting w.waits.is } }
+
+pub fit_moves : {X : Type 0} (V : End → List X) (more : ℕ → Port → List X) (g g' : Shown) → AllMoves V more g g' → AllFit g → AllFit g'
+fit_moves V more g g' mv fits = record { of = λ r n i e h. (let b = moves_from V more g g' r n i e mv h in (b.2.goes (fits.of r n i b.0 b.1)).0) }
+
+fac_ports : {X : Type 0} (V : End → List X) (more : Port → List X) (n : ℕ) (f f' : Fac) → FacMoves V more f f' → ArePorts n f → ArePorts n f'
+fac_ports V more n f f' mv p = record {
+  own = λ i e h. (let b = was i e h in ap (λ (q : Port). q.fac) b.2.port ∙ p.own i b.0 b.1);
+  apart = λ i k a b x y same. (let c = was i a x in let d = was k b y in p.apart i k c.0 d.0 c.1 d.1 (sym c.2.port ∙ same ∙ d.2.port));
+}
+  where
+    was : (i : ℕ) (e' : End) → slice_get f'.ends i ≡ Some e' → (e : End) × (slice_get f.ends i ≡ Some e) × IsOn V more e e'
+    was i e' h =
+        let size = mv.size in
+        let there : slice_get f.ends i ≡ Some (get_or f.ends i e') = slice_get-get_or f.ends i e' (omega (arith, size, slice_get_within f'.ends i e' h)) in
+        (get_or f.ends i e', there, mv.each i (get_or f.ends i e') e' there h)
+
+pub ports_move : {X : Type 0} (V : End → List X) (more : ℕ → Port → List X) (g g' : Shown) → AllMoves V more g g' → AllPorts g → AllPorts g'
+ports_move V more g g' mv ports = record {
+  of = λ r fs h.
+      let b = both_from (MovesIn V (more r)) (g r) (g' r) fs (mv.rank r) h in
+      record { of = λ n f at. (let x = b.2.from n f at in fac_ports V (more r) n x.0 f x.2 ((ports.of r b.0 b.1).of n x.0 x.1)) };
+}
+
+pub named_moves : {X : Type 0} (V : End → List X) (more : ℕ → Port → List X) (g g' : Shown) (ls : List Label) → AllMoves V more g g' → AreNamed g ls → AreNamed g' ls
+named_moves V more g g' ls mv a = record {
+  names = a.names;
+  ports = a.ports;
+  waits = λ r n at place e w h.
+      let b = moves_from V more g g' r n place e mv h in
+      λ j l is rank same. a.waits r n at place b.0 (moves_wait V more g g' r n at place mv w) b.1 j l is rank (same ∙ b.2.port);
+  once = λ r n j k place v w. a.once r n j k place (moves_wait V more g g' r n j place mv v) (moves_wait V more g g' r n k place mv w);
+}
+
+pub tells_moves : {X : Type 0} (V : End → List X) (more : ℕ → Port → List X) (told new : List ℕ → List X) (g g' : Shown) (ls : List Label) → AllMoves V more g g' → AllFit g → Tells V told g ls
+    → ((k : ℕ) (l : Label) → Is ls k l → more l.rank l.port ≡ new l.name) → ((r : ℕ) (p : Port) → IsBare ls r p → more r p ≡ []) → ((name : List ℕ) → IsUnknown ls name → new name ≡ [])
+    → Tells V (λ name. told name ++ new name) g' ls
+tells_moves V more told new g g' ls mv fits t labels bare unknown = record {
+  stands = λ k l is.
+      let h = t.stands k l is in
+      let b = moves_on V more g g' l.rank l.port.fac h.place h.end mv h.holds in
+      record {
+        place = h.place;
+        end = b.0;
+        holds = b.1;
+        its = b.2.port ∙ h.its;
+        plain = ap is_ipc b.2.app ∙ h.plain;
+        view = (b.2.goes (fits.of l.rank l.port.fac h.place h.end h.holds)).1 ∙ ap (λ xs. xs ++ more l.rank h.end.port) h.view ∙ ap (λ xs. told l.name ++ xs) (ap (more l.rank) h.its ∙ labels k l is);
+      };
+  fresh = λ r n i e h no.
+      let b = moves_from V more g g' r n i e mv h in
+      let no' : IsBare ls r b.0.port = λ k l is rank same. no k l is rank (same ∙ sym b.2.port) in
+      (b.2.goes (fits.of r n i b.0 b.1)).1 ∙ ap (λ xs. xs ++ more r b.0.port) (t.fresh r n i b.0 b.1 no') ∙ bare r b.0.port no';
+  silent = λ name no. ap (λ xs. xs ++ new name) (t.silent name no) ∙ unknown name no;
+}
+
+-- ---- the labels have told their states
+
+-- these labels have the names and ports of those
+pub record AreSame (ls ls' : List Label) : Type 0 where
+  pub of : (k : ℕ) (l : Label) → Is ls' k l → (m : Label) × Is ls k m × (l.name ≡ m.name) × (l.rank ≡ m.rank) × (l.port ≡ m.port)
+  pub to : (k : ℕ) (m : Label) → Is ls k m → (l : Label) × Is ls' k l × (l.name ≡ m.name) × (l.rank ≡ m.rank) × (l.port ≡ m.port)
+
+pub named_same : (g : Shown) (ls ls' : List Label) → AreSame ls ls' → AreNamed g ls → AreNamed g ls'
+named_same g ls ls' s n = record {
+  names = λ j k l m hl hm same.
+      let x = s.of j l hl in
+      let y = s.of k m hm in
+      let both = n.names j k x.0 y.0 x.1 y.1 (sym x.2 ∙ same ∙ y.2) in
+      (x.3 ∙ both.0 ∙ sym y.3, x.4 ∙ both.1 ∙ sym y.4);
+  ports = λ j k l m hl hm rank same.
+      let x = s.of j l hl in
+      let y = s.of k m hm in
+      x.2 ∙ n.ports j k x.0 y.0 x.1 y.1 (sym x.3 ∙ rank ∙ y.3) (sym x.4 ∙ same ∙ y.4) ∙ sym y.2;
+  waits = λ r m at place e w h j l is rank same.
+      let x = s.of j l is in
+      n.waits r m at place e w h j x.0 x.1 (sym x.3 ∙ rank) (sym x.4 ∙ same);
+  once = n.once;
+}
+
+pub tells_same_labels : {X : Type 0} (V : End → List X) (told : List ℕ → List X) (g : Shown) (ls ls' : List Label) → AreSame ls ls' → Tells V told g ls → Tells V told g ls'
+tells_same_labels V told g ls ls' s t = record {
+  stands = λ k l is.
+      let x = s.of k l is in
+      subst (λ (q : Port). Has V g l.rank q (told l.name)) (sym x.4) (subst (λ (r : ℕ). Has V g r x.0.port (told l.name)) (sym x.3) (subst (λ (name : List ℕ). Has V g x.0.rank x.0.port (told name)) (sym x.2) (t.stands k x.0 x.1)));
+  fresh = λ r n i e h no. t.fresh r n i e h (λ k m is rank same. (let x = s.to k m is in no k x.0 x.1 (x.3 ∙ rank) (x.4 ∙ same)));
+  silent = λ name no. t.silent name (λ k m is same. (let x = s.to k m is in no k x.0 x.1 (x.2 ∙ same)));
+}
+
+-- what is told is only said otherwise
+pub tells_same : {X : Type 0} (V : End → List X) (told told' : List ℕ → List X) (g : Shown) (ls : List Label) → ((name : List ℕ) → told' name ≡ told name) → Tells V told g ls → Tells V told' g ls
+tells_same V told told' g ls same t = record {
+  stands = λ k l is. (let h = t.stands k l is in record { place = h.place; end = h.end; holds = h.holds; its = h.its; plain = h.plain; view = h.view ∙ sym (same l.name) });
+  fresh = t.fresh;
+  silent = λ name no. same name ∙ t.silent name no;
+}

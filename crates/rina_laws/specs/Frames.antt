@@ -1,0 +1,88 @@
+-- What becomes of the frames of a run over wires alone: each that no event touched arrives once, when the delay of its wire has gone by.
+use Rattle.std.specs.Prelude.{◌≡◌, ◌≢◌, ℕ, ◌+◌, ◌<◌, ◌≤◌, ◌==◌, List, [], ◌∷◌, filter, take, slice_get, Option, Some, None, Ok}
+use Rattle.rina_base.specs.declared.number.Num.{Num}
+use Rattle.rina_base.specs.declared.number.Port.{Port}
+use Rattle.rina_iface.specs.declared.state.PortState.TheVariants.{Allocated}
+use Rattle.rina_law.specs.declared.entry.Entry.{Entry}
+use Rattle.rina_iface.specs.declared.ends.End.{End}
+use Rattle.rina_iface.specs.Journal.{At}
+use Rattle.rina_policy.specs.Slots.{Slot}
+use Rattle.rina_report.specs.declared.note.Note.{Note}
+use Rattle.rina_schedule.specs.declared.event.Event.{Event}
+use Rattle.rina_schedule.specs.declared.event.Event.TheVariants as events
+use Rattle.rina_stack.specs.declared.plan.Plan.{Plan}
+use Rattle.rina_wire.specs.Air.{Air, Line, wire_at}
+use Rattle.rina_wire.specs.Send.{mate}
+use Rattle.rina_wire.specs.declared.flight.Flight.{Flight}
+use Rattle.rina_tower.specs.declared.tower.Tower.{Tower, Wires, Rank'}
+use Rattle.rina_tower.specs.Ranks.{now_of}
+use Rattle.rina_words.specs.declared.run.Run.{Run}
+use Rattle.rina_words.specs.Built.{event_at}
+use Rattle.rina_notes.specs.Look.{same_num, state_at}
+use Rattle.rina_run.specs.Opening.{IsOpening}
+use Rattle.rina_run.specs.Run.{Runs}
+use Rattle.rina_notes.specs.Sites.{port_in}
+use Rattle.rina_words.specs.Step.{Stage, wire_of}
+
+-- the entries of this number, in their order
+abbrev pub of_number : Num → List Entry → List Entry
+of_number num entries = filter (λ (x : Entry). same_num x.num num) entries
+
+-- the copies of this frame, in their order
+abbrev pub copies_of : ℕ → List Flight → List Flight
+copies_of frame flights = filter (λ (f : Flight). f.frame == frame) flights
+
+-- exactly one of these entries has the number of the frame: it came so many ticks after the frame was sent, with its bytes
+abbrev pub CameOnce : ℕ → Entry → List Entry → Type 0
+CameOnce delay frame got = of_number frame.num got ≡ record { tick = frame.tick + delay; num = frame.num; bytes = frame.bytes } ∷ []
+
+-- exactly one copy of the frame is in flight: it goes to the end at this place, arrives so many ticks after the frame was sent, and has its bytes
+abbrev pub FliesOnce : ℕ → ℕ → Entry → List Flight → Type 0
+FliesOnce delay to frame flights = copies_of frame.num.seq flights ≡ record { to = to; frame = frame.num.seq; sent = frame.tick; due = frame.tick + delay; bytes = frame.bytes } ∷ []
+
+-- a frame that the end at place i sent: where the clock has reached its tick the other end got it once, and else it is in flight and did not come yet
+pub record IsCarried (now : ℕ) (l : Line) (i : ℕ) (frame : Entry) : Type 0 where
+  pub other : End
+  pub stands : At l.ends (mate i) other
+  pub came : frame.tick + l.delay ≤ now → CameOnce l.delay frame other.got
+  pub landed : frame.tick + l.delay ≤ now → copies_of frame.num.seq l.flights ≡ []
+  pub flies : now < frame.tick + l.delay → FliesOnce l.delay (mate i) frame l.flights
+  pub not_come : now < frame.tick + l.delay → of_number frame.num other.got ≡ []
+
+-- the wires that a tower stands on
+abbrev pub wires_of : Tower → Air
+wires_of (Wires a) = a
+wires_of (Rank' p difs below) = wires_of below
+
+-- a copy of the frame is in flight on this wire
+pub record IsInFlight (t : Tower) (fac frame : ℕ) : Type 0 where
+  pub line : Line
+  pub wire : wire_at (wires_of t) fac ≡ Some line
+  pub flies : copies_of frame line.flights ≢ []
+
+-- the port is one of this wire, and allocated; the wires are at rank 0
+abbrev pub IsOpenPort : Option (ℕ × Port) → ℕ → Tower → Type 0
+IsOpenPort None fac t = ⊥
+IsOpenPort (Some p) fac t = (p.0 ≡ 0) × (p.1.fac ≡ fac) × (state_at t 0 p.1 ≡ Some Allocated)
+
+-- what is done in this run touches frame `frame` of wire `fac`: an event of that wire names the frame, or while it is in flight the wire is cut, or the flow that it carries is freed
+abbrev pub Touches : Plan → ℕ → ℕ → Run → Event → Type 0
+Touches plan fac frame w (events.Lose wire k) = (wire_of plan wire ≡ Some fac) × (k ≡ frame)
+Touches plan fac frame w (events.Repeat wire k at) = (wire_of plan wire ≡ Some fac) × (k ≡ frame)
+Touches plan fac frame w (events.Hold wire k at) = (wire_of plan wire ≡ Some fac) × (k ≡ frame)
+Touches plan fac frame w (events.Cut wire) = (wire_of plan wire ≡ Some fac) × IsInFlight w.tower fac frame
+Touches plan fac frame w (events.Free label) = IsOpenPort (port_in w.labels label) fac w.tower × IsInFlight w.tower fac frame
+Touches plan fac frame w event = ⊥
+
+-- no line touches the frame in the run to which the lines before it led from the start
+abbrev pub IsSpared : Plan → Stage → ℕ → ℕ → List (List ℕ) → Type 0
+IsSpared plan start fac frame lines =
+    (before : ℕ) (line : List ℕ) (event : Event) (ns : List Note) (s : Stage) → slice_get lines before ≡ Some line → event_at line ≡ Ok (Some event)
+    → Runs plan 1 start (take before lines) ns s → Touches plan fac frame s.run event → ⊥
+
+-- in every run of a stack without DIFs, every frame that any end of any wire sent is carried, unless a line touched it
+abbrev pub FramesArriveOnce : Type 0
+FramesArriveOnce =
+    (plan : Plan) (shelf : List Slot) (start : Stage) (lines : List (List ℕ)) (ns : List Note) (s : Stage) → plan.difs ≡ [] → IsOpening plan shelf start → Runs plan 1 start lines ns s
+    → (fac : ℕ) (l : Line) → wire_at (wires_of s.run.tower) fac ≡ Some l → (i j : ℕ) (e : End) (frame : Entry) → At l.ends i e → slice_get e.sent j ≡ Some frame
+    → IsSpared plan start fac frame.num.seq lines → IsCarried (now_of s.run.tower) l i frame

@@ -1,0 +1,9 @@
+use Rattle.std.proofs.Common.{◌≡◌, ◌++◌, take, drop}
+use Rattle.rina_notes.specs.Look.{state_notes, looked}
+use Rattle.rina_notes.proofs.label_note.tell_labels.Given as goal
+
+abbrev pub invariant-labels : goal.invariant-labels
+invariant-labels l = record {
+  notes : l.trace ≡ l.fn.trace ++ state_notes l.plan l.line l.tower (take l.at l.fn.labels);
+  labels : l.labels ≡ looked l.tower (take l.at l.fn.labels) ++ drop l.at l.fn.labels;
+}

@@ -1,0 +1,4 @@
+pub mod Sites
+pub mod Told
+pub mod StepTold
+pub mod Look

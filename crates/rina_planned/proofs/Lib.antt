@@ -1,3 +1,0 @@
-pub mod PlannedAt
-pub mod PlannedWords
-pub mod PlannedRun

@@ -1,0 +1,123 @@
+//! What a note tells behind the number of a line and the tick.
+use crate::cause::CauseNote;
+use crate::refusal::Refusal;
+use crate::state::{MemberNote, PortNote, StateNote};
+use crate::step::{ClockNote, TookNote};
+use rina_base::{AppName, Bytes, FlowName, Key, Name, Num, Tick};
+use rina_iface::Role;
+use rina_schedule::ObjectName;
+
+/// The class of an object.
+#[derive(Clone, Copy, Debug, PartialEq, Eq)]
+pub enum ClassNote {
+    Folder,
+    Value,
+    Cube,
+    Flow,
+    Service,
+}
+
+/// One end of a flow in a journal.
+#[derive(Drop)]
+pub struct FlowNote {
+    pub flow: FlowName,
+    pub role: Role,
+    pub port: PortNote,
+    /// The application at this end.
+    pub app: AppName,
+    /// The application at the other end.
+    pub peer: AppName,
+    /// The QoS-id of the flow's cube, 0 on a wire.
+    pub cube: u8,
+    /// How many SDUs were passed to the application.
+    pub taken: u64,
+    pub state: StateNote,
+}
+
+/// What a line answers or brings about.
+#[derive(Drop)]
+pub enum Answer {
+    /// It was done.
+    Done,
+    /// It was done; the port has this state.
+    Port {
+        state: StateNote,
+    },
+    /// The member has this state.
+    Member {
+        state: MemberNote,
+    },
+    /// There is nothing to show.
+    Nothing,
+    /// An SDU was accepted, under this number.
+    Sent {
+        num: Num,
+    },
+    /// An SDU was read, which arrived at this tick.
+    Got {
+        at: Tick,
+        bytes: Bytes,
+    },
+    /// A step took a PDU from a link.
+    In {
+        key: Key,
+        end: TookNote,
+    },
+    /// A step gave a PDU to a link.
+    Out {
+        key: Key,
+    },
+    /// A step wrote off the PDU that it was to give to a link.
+    OutOff {
+        key: Key,
+        cause: CauseNote,
+    },
+    /// A step could not give a PDU to a link, which keeps it.
+    Held {
+        why: Refusal,
+    },
+    /// A step of the clock.
+    Clock {
+        step: ClockNote,
+    },
+    /// A step had nothing to do.
+    Idle,
+    /// The answer of a RIB, a CDAP message.
+    Cdap {
+        bytes: Bytes,
+    },
+    /// An object of a RIB.
+    Object {
+        name: ObjectName,
+        class: ClassNote,
+        value: Bytes,
+    },
+    /// A write-off of a ledger.
+    Off {
+        key: Key,
+        cause: CauseNote,
+    },
+    /// An end of a flow in a journal.
+    Flow(FlowNote),
+    /// An SDU that the end before it in a journal sent.
+    SentEntry {
+        at: Tick,
+        num: Num,
+        bytes: Bytes,
+    },
+    /// An SDU that was delivered to the end before it in a journal.
+    GotEntry {
+        at: Tick,
+        num: Num,
+        bytes: Bytes,
+    },
+    /// The line was refused.
+    Refused {
+        why: Refusal,
+    },
+    /// The state of a labelled port became this one.
+    Label {
+        label: Name,
+        state: StateNote,
+    },
+}

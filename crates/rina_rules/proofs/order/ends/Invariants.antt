@@ -1,6 +1,0 @@
-use Rattle.std.proofs.Common.{◌≡◌, map, take}
-use Rattle.rina_rules.specs.Order.{ends_of}
-use Rattle.rina_rules.proofs.order.ends.Given as goal
-
-abbrev pub invariant-wires : goal.invariant-wires
-invariant-wires l = l.ends.items ≡ map ends_of (take l.wire-index l.wires)

@@ -1,5 +1,0 @@
-use Rattle.std.proofs.Common.{◌≡◌, map, take}
-use Rattle.rina_rules.proofs.twins.texts_of.Given as goal
-
-abbrev pub invariant-names : goal.invariant-names
-invariant-names l = map (λ t. t.now) l.texts.items ≡ take l.name-index (l.names)

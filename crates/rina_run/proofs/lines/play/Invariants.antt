@@ -1,0 +1,18 @@
+use Rattle.std.proofs.Common.{◌≡◌, ◌≤◌, take}
+use Rattle.std.specs.Io.KnownBytes.{Appends}
+use Rattle.rina_report.specs.Notes.{text_of}
+use Rattle.rina_tower.specs.Stands.{IsTower}
+use Rattle.rina_run.specs.Run.{Runs}
+use Rattle.rina_words.specs.Step.{HasNames, stage}
+use Rattle.rina_run.proofs.Playing.{texts_of}
+use Rattle.rina_run.proofs.lines.play.Given as goal
+
+abbrev pub invariant-lines : goal.invariant-lines
+invariant-lines g l = record {
+  number : l.number ≡ l.line-index;
+  sound : IsTower l.run.tower;
+  runs : Runs l.plan 1 (stage l.fn.run (g.P.Picks.slots l.fn.shelf)) (take l.line-index (texts_of l.lines)) l.trace (stage l.run (g.P.Picks.slots l.shelf));
+  names : HasNames (g.P.Picks.slots l.fn.shelf) (g.P.Picks.slots l.shelf);
+  wrote : Appends (g.K.Sink.took l.fn.out) (g.K.Sink.took l.out) (text_of l.trace);
+  later : g.K.Sink.faults l.fn.out ≤ g.K.Sink.faults l.out;
+}

@@ -1,9 +1,0 @@
-use Rattle.std.proofs.Common.{◌≡◌, ◌++◌, take, drop}
-use Rattle.rina_run.specs.Look.{state_notes, looked}
-use Rattle.rina_run.proofs.look.look.Given as goal
-
-abbrev pub invariant-labels : goal.invariant-labels
-invariant-labels l = record {
-  notes : l.trace ≡ l.fn.trace ++ state_notes l.plan l.line l.tower (take l.at l.fn.labels);
-  labels : l.labels ≡ looked l.tower (take l.at l.fn.labels) ++ drop l.at l.fn.labels;
-}

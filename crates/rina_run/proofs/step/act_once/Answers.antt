@@ -1,6 +1,0 @@
-use Rattle.rina_run.specs.Step.{Answering}
-use Rattle.rina_run.proofs.Leading.{told_leads}
-use Rattle.rina_run.proofs.step.act_once.Goals as goal
-
-pub returns-clause-does : goal.returns-clause-does
-returns-clause-does c = told_leads (Answering c.args.plan.now c.args.event.now c.args.world.now) _ _ _ _ _ _ _ c.in_ok-says.ensures.does c.tick_of.ensures c.tell.ensures.ok

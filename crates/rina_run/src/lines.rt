@@ -1,0 +1,129 @@
+//! The lines of a schedule, one after the other.
+ghost use Rattle.std.specs.Prelude.{◌≡◌, ◌≤◌, ◌<◌, ◌^◌, ℕ, List, [], length, map, true, Option, OnOk, OnErr, IsErrOf};
+ghost use Rattle.std.specs.Io.KnownBytes.{Appends};
+ghost use Rattle.bstr.specs.Text.{without_terminator};
+ghost use Rattle.rina_io.specs.Causes.{Rose};
+ghost use Rattle.rina_report.specs.Notes.{text_of};
+ghost use Rattle.rina_stack.specs.Plan.{IsPlan};
+ghost use Rattle.rina_tower.specs.Stands.{IsTower};
+ghost use Rattle.rina_words.specs.Built.{is_built};
+ghost use Rattle.rina_run.specs.Written.{IsFront};
+ghost use Rattle.rina_words.specs.Step.{HasNames, Steps, stage};
+ghost use Rattle.rina_run.specs.Run.{Ran, LineRan, LinesRan};
+
+use crate::input::without_end;
+use crate::output::{Stop, emit};
+use rina_base::Memory;
+use rina_io::Sink;
+use rina_policy::Retires;
+use rina_report::Notes;
+use rina_schedule::{Event, LineError};
+use rina_stack::Plan;
+use rina_words::{Run, read_event, step};
+use std::alloc::Global;
+
+/// Runs what a line asks for, and writes its notes.
+#[tactic(auto, using(crate::proofs::Playing::front_is))]
+fn run_event<K: Sink, P: Retires>(
+    alloc: Global,
+    plan: &Plan,
+    run: &mut Run,
+    shelf: &mut P,
+    number: u32,
+    event: &Event,
+    out: &mut K,
+    trace: &mut Notes,
+) -> Result<(), Stop>
+    requires plan { IsPlan plan.now }
+    requires built { is_built event.now ≡ true }
+    requires sound { IsTower run.old.tower }
+    ensures does { Ran (λ ns. Steps plan.now number event.now (stage run.old (P.slots shelf.old)) ns (stage run.new (P.slots shelf.new))) trace.old trace.new result }
+    ensures ok { OnOk result ((base : Option (List ℕ)) → Appends base (K.took out.old) (text_of trace.old) → Appends base (K.took out.new) (text_of trace.new)) }
+    ensures err { OnErr result ((base : Option (List ℕ)) → Appends base (K.took out.old) (text_of trace.old) → IsFront base (K.took out.new) (text_of trace.new)) }
+    ensures fault { IsErrOf result Stop.WriteFault → Rose (K.faults out.old) (K.faults out.new) }
+    ensures later { K.faults out.old ≤ K.faults out.new }
+    ensures sound { IsTower run.new.tower }
+    ensures names { HasNames (P.slots shelf.old) (P.slots shelf.new) }
+{
+    let from = trace.len();
+    let stepped = step(alloc, plan, run, shelf, number, event, trace);
+    let written = emit(alloc, out, trace, from);
+    match stepped {
+        Ok(()) => written,
+        Err(Memory) => Err(Stop::Memory),
+    }
+}
+
+/// Runs a line and writes its notes. The fault of a line outside the grammar is answered, and then
+/// nothing was run.
+#[tactic(auto, using(crate::proofs::Texts::wrote_all))]
+fn run_line<K: Sink, P: Retires>(
+    alloc: Global,
+    plan: &Plan,
+    run: &mut Run,
+    shelf: &mut P,
+    number: u32,
+    line: &[u8],
+    out: &mut K,
+    trace: &mut Notes,
+) -> Result<Option<LineError>, Stop>
+    requires plan { IsPlan plan.now }
+    requires sound { IsTower run.old.tower }
+    ensures does { LineRan plan.now number line.now (stage run.old (P.slots shelf.old)) trace.old (stage run.new (P.slots shelf.new)) trace.new result }
+    ensures ok { OnOk result ((base : Option (List ℕ)) → Appends base (K.took out.old) (text_of trace.old) → Appends base (K.took out.new) (text_of trace.new)) }
+    ensures err { OnErr result ((base : Option (List ℕ)) → Appends base (K.took out.old) (text_of trace.old) → IsFront base (K.took out.new) (text_of trace.new)) }
+    ensures fault { IsErrOf result Stop.WriteFault → Rose (K.faults out.old) (K.faults out.new) }
+    ensures later { K.faults out.old ≤ K.faults out.new }
+    ensures sound { IsTower run.new.tower }
+    ensures names { HasNames (P.slots shelf.old) (P.slots shelf.new) }
+{
+    match read_event(alloc, line) {
+        Ok(Some(event)) => {
+            run_event(alloc, plan, run, shelf, number, &event, out, trace)?;
+            Ok(None)
+        }
+        Ok(None) => Ok(None),
+        Err(LineError::Memory) => Err(Stop::Memory),
+        Err(error) => Ok(Some(error)),
+    }
+}
+
+/// A line outside the grammar.
+#[derive(Clone, Copy, Debug)]
+pub struct BadLine {
+    pub number: u32,
+    pub error: LineError,
+}
+
+/// Runs lines in their order, and answers the first that is outside the grammar.
+pub fn play<K: Sink, P: Retires>(
+    alloc: Global,
+    plan: &Plan,
+    run: &mut Run,
+    shelf: &mut P,
+    lines: &[&[u8]],
+    out: &mut K,
+    trace: &mut Notes,
+) -> Result<Option<BadLine>, Stop>
+    requires plan { IsPlan plan.now }
+    requires sound { IsTower run.old.tower }
+    requires few { length lines.now < 2 ^ 32 }
+    requires none { trace.old ≡ [] }
+    ensures does { LinesRan plan.now (stage run.old (P.slots shelf.old)) (map (λ l. without_terminator l.now) lines.now) trace.new (stage run.new (P.slots shelf.new)) result }
+    ensures ok { OnOk result (Appends (K.took out.old) (K.took out.new) (text_of trace.new)) }
+    ensures err { OnErr result (IsFront (K.took out.old) (K.took out.new) (text_of trace.new)) }
+    ensures fault { IsErrOf result Stop.WriteFault → Rose (K.faults out.old) (K.faults out.new) }
+    ensures later { K.faults out.old ≤ K.faults out.new }
+    ensures sound { IsTower run.new.tower }
+    ensures names { HasNames (P.slots shelf.old) (P.slots shelf.new) }
+{
+    let mut number = 0u32;
+    'lines: for line in lines {
+        number += 1;
+        let line = without_end(line);
+        if let Some(error) = run_line(alloc, plan, run, shelf, number, line, out, trace)? {
+            return Ok(Some(BadLine { number, error }));
+        }
+    }
+    Ok(None)
+}

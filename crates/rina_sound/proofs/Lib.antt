@@ -1,9 +1,0 @@
-pub mod Inversion
-pub mod SoundDif
-pub mod SoundWire
-pub mod Reading
-pub mod SameNames
-pub mod LabelsOfFlows
-pub mod Unbroken
-pub mod Distinct
-pub mod Tried

@@ -1,0 +1,181 @@
+//! What the program runs so far: the one place that refuses what it does not.
+ghost use Rattle.std.specs.Prelude.{◌≡◌, ◌<◌, Ok, length, map, position, IfOk, IfSome};
+ghost use Rattle.toml.specs.View.{view};
+ghost use Rattle.rina_table.specs.Faults.{Gives};
+ghost use Rattle.rina_table.specs.Items.{sketch_at};
+ghost use Rattle.rina_stack.specs.Scopes.{unresolved_scope};
+ghost use Rattle.rina_stack.specs.Plan.{IsPlan};
+ghost use Rattle.rina_stack.specs.Runnable.{is_stormy, is_ruled, is_dynamic, unready_item, unready_key, first_dynamic, item_of, unready_type, runnable_at, ReadsRunnable, IsRunnable};
+
+use crate::duplicates::earlier;
+use crate::plan::Plan;
+use crate::policies::Policies;
+use crate::read::stack_of;
+use crate::references::read_unresolved;
+use rina_table::{StackError, check, first_dif_item, items_at, key_fault};
+use std::alloc::Global;
+use toml::Value;
+
+fn is_stormy(wire: &Value) -> bool
+    ensures { result ≡ is_stormy (view wire.now) }
+{
+    wire.get("storm").is_some()
+}
+
+fn first_stormy_in(wires: &[Value]) -> Option<usize>
+    ensures place { result ≡ position (λ v. is_stormy (view v)) wires.now }
+    ensures within { IfSome result (λ i. i < length wires.now) }
+{
+    wires.iter().position(|wire| is_stormy(wire))
+}
+
+/// The first wire with a storm.
+fn first_stormy(wires: &[Value]) -> Option<usize>
+    ensures place { result ≡ position is_stormy (map view wires.now) }
+    ensures within { IfSome result (λ i. i < length wires.now) }
+{
+    first_stormy_in(wires)
+}
+
+fn is_ruled(dif: &Value) -> bool
+    ensures { result ≡ is_ruled (view dif.now) }
+{
+    dif.get("rule").is_some() || dif.get("default").is_some()
+}
+
+fn first_ruled_in(difs: &[Value]) -> Option<usize>
+    ensures place { result ≡ position (λ v. is_ruled (view v)) difs.now }
+    ensures within { IfSome result (λ i. i < length difs.now) }
+{
+    difs.iter().position(|dif| is_ruled(dif))
+}
+
+fn first_ruled(difs: &[Value]) -> Option<usize>
+    ensures place { result ≡ position is_ruled (map view difs.now) }
+    ensures within { IfSome result (λ i. i < length difs.now) }
+{
+    first_ruled_in(difs)
+}
+
+/// The first item with a key that does not run.
+#[tactic(auto, unfolding(crate::specs::Runnable::unready_item))]
+fn unready_item(stack: &Value) -> Result<Option<usize>, StackError>
+    ensures { Gives (λ f. f) result (Ok (unready_item (view stack.now))) }
+{
+    let wires = items_at(stack, "wire");
+    if let Some(at) = first_stormy(wires) {
+        return Ok(Some(1 + at));
+    }
+    let difs = items_at(stack, "dif");
+    let first = first_dif_item(wires.len(), difs.len())?;
+    match first_ruled(difs) {
+        Some(at) => Ok(Some(first + at)),
+        None => Ok(None),
+    }
+}
+
+/// The first item with a key that is not listed or does not run.
+#[tactic(auto, unfolding(crate::specs::Runnable::unready_key))]
+fn unready_key(stack: &Value) -> Result<Option<usize>, StackError>
+    ensures { Gives (λ f. f) result (Ok (unready_key (view stack.now))) }
+{
+    let fault = key_fault(stack)?;
+    let unready = unready_item(stack)?;
+    Ok(earlier(fault, unready))
+}
+
+fn is_dynamic(dif: &Value) -> bool
+    ensures { result ≡ is_dynamic (view dif.now) }
+{
+    match dif.get("static") {
+        Some(value) => match value.as_bool() {
+            Some(is_static) => !is_static,
+            None => true,
+        },
+        None => true,
+    }
+}
+
+fn first_dynamic_in(difs: &[Value]) -> Option<usize>
+    ensures place { result ≡ position (λ v. is_dynamic (view v)) difs.now }
+    ensures within { IfSome result (λ i. i < length difs.now) }
+{
+    difs.iter().position(|dif| is_dynamic(dif))
+}
+
+fn first_dynamic_of(difs: &[Value]) -> Option<usize>
+    ensures place { result ≡ position is_dynamic (map view difs.now) }
+    ensures within { IfSome result (λ i. i < length difs.now) }
+{
+    first_dynamic_in(difs)
+}
+
+/// The first DIF that is not static.
+#[tactic(auto, unfolding(crate::specs::Runnable::first_dynamic))]
+fn first_dynamic(stack: &Value) -> Result<Option<usize>, StackError>
+    ensures { Gives (λ f. f) result (Ok (first_dynamic (view stack.now))) }
+{
+    let wires = items_at(stack, "wire");
+    let difs = items_at(stack, "dif");
+    let first = first_dif_item(wires.len(), difs.len())?;
+    match first_dynamic_of(difs) {
+        Some(at) => Ok(Some(first + at)),
+        None => Ok(None),
+    }
+}
+
+/// The first item that breaks rule 3.
+fn type_fault(alloc: Global, stack: &Value) -> Result<Option<usize>, StackError>
+    ensures { Gives (λ f. f) result (Ok (item_of (sketch_at (unresolved_scope 3) (view stack.now)))) }
+{
+    match read_unresolved(alloc, 3, stack) {
+        Ok(_) => Ok(None),
+        Err(StackError::StackRule { item, .. }) => Ok(Some(item as usize)),
+        Err(_) => Err(StackError::Memory),
+    }
+}
+
+/// The first item that breaks rule 3, or is a DIF that is not static.
+#[tactic(auto, unfolding(crate::specs::Runnable::unready_type))]
+fn unready_type(alloc: Global, stack: &Value) -> Result<Option<usize>, StackError>
+    ensures { Gives (λ f. f) result (Ok (unready_type (view stack.now))) }
+{
+    let fault = type_fault(alloc, stack)?;
+    let dynamic = first_dynamic(stack)?;
+    Ok(earlier(fault, dynamic))
+}
+
+#[tactic(auto, unfolding(crate::specs::Runnable::runnable_at))]
+fn runnable_of<P: Policies>(alloc: Global, policies: &P, stack: &Value) -> Result<Plan, StackError>
+    ensures { Gives (λ p. p) result (runnable_at (P.knows policies.now) (view stack.now)) }
+{
+    let key = unready_key(stack)?;
+    check(2, key)?;
+    let value = unready_type(alloc, stack)?;
+    check(3, value)?;
+    stack_of(alloc, policies, stack)
+}
+
+/// The stack that a text describes, as far as stacks run, or the first rule that it breaks. What does not
+/// run yet breaks a rule: a wire's `storm` and a DIF's `rule` and `default` count as keys that are not
+/// listed (rule 2), and a DIF that is not static lacks `static = true` (rule 3).
+pub fn read_runnable<P: Policies>(
+    alloc: Global,
+    text: &[u8],
+    policies: &P,
+) -> Result<Plan, StackError>
+    ensures reads { ReadsRunnable (P.knows policies.now) result text.now }
+    ensures plan { IfOk result IsPlan }
+    ensures runs { IfOk result IsRunnable }
+{
+    match toml::table_from_slice(alloc, text) {
+        Ok(table) => runnable_of(alloc, policies, &Value::Table(table)),
+        Err(error) => {
+            if error.is_memory() {
+                Err(StackError::Memory)
+            } else {
+                Err(StackError::NotToml)
+            }
+        }
+    }
+}

@@ -1,0 +1,51 @@
+use Rattle.std.proofs.Common.{◌≡◌, Err, false, refl}
+use Rattle.rina_iface.proofs.LaterCalls.{later_frees}
+use Rattle.rina_tower.specs.Ranks.{now_of, seen_of_difs}
+use Rattle.rina_tower.proofs.Failed.{rank_failed, wires_failed}
+use Rattle.rina_tower.proofs.Serving.{rank_frees, frees_seen}
+use Rattle.rina_iface.specs.declared.error.FreeError.TheVariants.{NoPort}
+use Rattle.rina_iface.specs.declared.error.FreeError.TheVariants as free
+use Rattle.rina_wire.specs.Free.{FreesOn}
+use Rattle.rina_tower.proofs.Staying.{any_stays, serves_stays}
+use Rattle.rina_tower.proofs.tower.Tower.free_at_top.Goals as goal
+
+pub returns-in-Rank-clause-valid : goal.returns-in-Rank-clause-valid
+returns-in-Rank-clause-valid c =
+    let v = rw c.in-Rank.is at c.requires in
+    let h = rw c.deref_mut.ensures.value at c.free-in-Rank.ensures.does in
+    let old = c.in-Rank.rank.value in
+    let new = c.free-in-Rank.new.self in
+    let r = c.free-in-Rank.result in
+    rw c.deref_mut.ensures.value (rank_frees c.args.port r (r ≡ Err NoPort) old.difs new old.below v.0 v.1 h, v.1)
+
+pub returns-in-Rank-clause-later : goal.returns-in-Rank-clause-later
+returns-in-Rank-clause-later c =
+    let v = rw c.in-Rank.is at c.requires in
+    let h = rw c.deref_mut.ensures.value at c.free-in-Rank.ensures.does in
+    let old = c.in-Rank.rank.value in
+    let new = c.free-in-Rank.new.self in
+    let r = c.free-in-Rank.result in
+    let d = frees_seen c.args.port r old.difs new old.below v.0 h in
+    rw (c.in-Rank.is, c.deref_mut.ensures.value) (later_frees false (seen_of_difs (now_of old.below) old.difs) c.args.port r (seen_of_difs (now_of old.below) new) d)
+
+pub returns-in-Rank-clause-does : goal.returns-in-Rank-clause-does
+returns-in-Rank-clause-does c =
+    let v = rw c.in-Rank.is at c.requires in
+    let h = rw c.deref_mut.ensures.value at c.free-in-Rank.ensures.does in
+    let old = c.in-Rank.rank.value in
+    let new = c.free-in-Rank.new.self in
+    let r = c.free-in-Rank.result in
+    rw (c.in-Rank.is, c.deref_mut.ensures.value) (frees_seen c.args.port r old.difs new old.below v.0 h)
+
+pub returns-in-Rank-clause-fails : goal.returns-in-Rank-clause-fails
+returns-in-Rank-clause-fails c = λ h. rw c.deref_mut.ensures.value (rank_failed c.free-in-Rank.new.self c.in-Rank.rank.value.below (c.free-in-Rank.ensures.fails h))
+
+pub returns-in-Wires-clause-fails : goal.returns-in-Wires-clause-fails
+returns-in-Wires-clause-fails c = λ h. wires_failed (λ z. FreesOn c.in-Wires.wires c.args.port z c.free.new.self) c.free.result (Err free.Memory) c.in-Wires.wires c.free.new.self c.free.ensures.exact h (λ x. x)
+
+pub returns-in-Rank-clause-below : goal.returns-in-Rank-clause-below
+returns-in-Rank-clause-below c =
+    let h = rw c.deref_mut.ensures.value at c.free-in-Rank.ensures.does in
+    let old = c.in-Rank.rank.value in
+    let new = c.free-in-Rank.new.self in
+    rw (c.in-Rank.is, c.deref_mut.ensures.value) (any_stays _ _ _ old.difs new (λ d d' x. serves_stays _ _ d d' x.serves) h, refl)

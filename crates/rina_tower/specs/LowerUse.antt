@@ -1,0 +1,23 @@
+-- What a step of a DIF does at the rank below.
+use Rattle.std.specs.Prelude.{◌≡◌, ◌⊎◌, ℕ}
+use Rattle.rina_base.specs.declared.number.Port.{Port}
+use Rattle.rina_iface.specs.declared.ends.End.{End}
+use Rattle.rina_iface.specs.Seen.{Fac, Seen, Stands, with_end, with_fac}
+use Rattle.rina_tower.specs.Bystanders.{IsIpc}
+
+-- one end did something, which is that of an IPC process, and nothing else changed
+pub record UsesEnd (old new : Seen) : Type 0 where
+  pub port : Port
+  pub facility : Fac
+  pub place : ℕ
+  pub end : End
+  pub end' : End
+  pub stands : Stands old port facility place end
+  pub ipc : IsIpc end.app
+  pub its_port : end'.port ≡ end.port
+  pub its_app : end'.app ≡ end.app
+  pub new_is : new ≡ with_fac old port.fac (with_end facility place end')
+
+-- or none did
+abbrev pub MayUse : Seen → Seen → Type 0
+MayUse old new = (new ≡ old) ⊎ UsesEnd old new

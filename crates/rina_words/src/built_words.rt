@@ -1,0 +1,96 @@
+//! Which words of a schedule are built. The others are words outside the grammar until they are.
+ghost use Rattle.std.specs.Prelude.{◌≡◌, true, IfOk, IfSome};
+ghost use Rattle.rina_schedule.specs.Gives.{Gives};
+ghost use Rattle.rina_schedule.specs.Fields.{next_of};
+ghost use Rattle.rina_words.specs.Built.{is_built_word, is_built, begins_built, event_at};
+
+use rina_schedule::{Event, LineError, next_field, read_line};
+use std::alloc::Global;
+
+#[tactic(auto, unfolding(crate::specs::Built::is_built_word))]
+fn word_is_built(word: &[u8]) -> bool
+    ensures { result ≡ is_built_word word.now }
+{
+    word == b"register".as_slice()
+        || word == b"alloc".as_slice()
+        || word == b"accept".as_slice()
+        || word == b"send".as_slice()
+        || word == b"read".as_slice()
+        || word == b"tick".as_slice()
+        || word == b"lose".as_slice()
+        || word == b"repeat".as_slice()
+        || word == b"hold".as_slice()
+        || word == b"cut".as_slice()
+        || word == b"mend".as_slice()
+        || word == b"unregister".as_slice()
+        || word == b"free".as_slice()
+        || word == b"state".as_slice()
+        || word == b"journal".as_slice()
+        || word == b"retire".as_slice()
+        || word == b"in".as_slice()
+        || word == b"out".as_slice()
+        || word == b"clock".as_slice()
+        || word == b"round".as_slice()
+        || word == b"ledger".as_slice()
+        || word == b"rib".as_slice()
+        || word == b"cdap".as_slice()
+}
+
+fn event_is_built(event: &Event) -> bool
+    ensures { result ≡ is_built event.now }
+{
+    matches!(
+        event,
+        Event::Register { .. }
+            | Event::Alloc { .. }
+            | Event::Accept { .. }
+            | Event::Send { .. }
+            | Event::Read { .. }
+            | Event::Tick { .. }
+            | Event::Lose { .. }
+            | Event::Repeat { .. }
+            | Event::Hold { .. }
+            | Event::Cut { .. }
+            | Event::Mend { .. }
+            | Event::Unregister { .. }
+            | Event::Free { .. }
+            | Event::State { .. }
+            | Event::Journal { .. }
+            | Event::Retire { .. }
+            | Event::In { .. }
+            | Event::Out { .. }
+            | Event::Clock { .. }
+            | Event::Round
+            | Event::Ledger { .. }
+            | Event::Rib { .. }
+            | Event::Cdap { .. }
+    )
+}
+
+fn line_begins_built(line: &[u8]) -> bool
+    ensures { result ≡ begins_built (next_of line.now) }
+{
+    match next_field(line) {
+        None => true,
+        Some((word, _)) => word.first() == Some(&b'#') || word_is_built(word),
+    }
+}
+
+/// What a line of a schedule asks for; None where it is blank or a comment. Ok comes exactly where
+/// the line is in the grammar, as far as its words are built.
+#[tactic(auto, unfolding(crate::specs::Built::event_at))]
+pub fn read_event(alloc: Global, line: &[u8]) -> Result<Option<Event>, LineError>
+    ensures read { Gives (λ e. e) result (event_at line.now) }
+    ensures built { IfOk result (λ o. IfSome o (λ e. is_built e ≡ true)) }
+{
+    if !line_begins_built(line) {
+        return Err(LineError::UnknownWord);
+    }
+    let Some(event) = read_line(alloc, line)? else {
+        return Ok(None);
+    };
+    if !event_is_built(&event) {
+        return Err(LineError::UnknownWord);
+    }
+    Ok(Some(event))
+}

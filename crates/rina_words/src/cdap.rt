@@ -1,0 +1,53 @@
+//! The word `cdap`.
+ghost use Rattle.std.specs.Prelude.{◌≡◌, IfOk};
+ghost use Rattle.rina_stack.specs.Plan.{IsPlan};
+ghost use Rattle.rina_tower.specs.Stands.{IsTower};
+ghost use Rattle.rina_words.specs.Step.{Asking, CallsCdap};
+
+use crate::run::Run;
+use rina_base::{Bytes, Memory, Name, Seq};
+use rina_dif::CdapCallError;
+use rina_notes::{Site, find_dif_site, refused, tell_cdap};
+use rina_report::{Answer, Refusal};
+use rina_stack::Plan;
+use std::alloc::Global;
+
+/// The word `cdap`.
+pub fn cdap(
+    alloc: Global,
+    plan: &Plan,
+    run: &mut Run,
+    dif: &Name,
+    node: &Name,
+    bytes: &Bytes,
+) -> Result<Option<Answer>, Memory>
+    requires plan { IsPlan plan.now }
+    requires tower { IsTower run.old.tower }
+    ensures does { IfOk result (λ says. Asking plan.now dif.now node.now bytes.now run.old says run.new) }
+    ensures tower { IsTower run.new.tower }
+{
+    let site = match find_dif_site(plan, dif, node) {
+        Ok(site) => site,
+        Err(field) => return Ok(refused(Some(Refusal::Unknown { field }))),
+    };
+    call_cdap(alloc, run, site, bytes.as_slice())
+}
+
+fn call_cdap(
+    alloc: Global,
+    run: &mut Run,
+    site: Site,
+    bytes: &[u8],
+) -> Result<Option<Answer>, Memory>
+    requires { IsTower run.old.tower }
+    ensures does { IfOk result (λ says. CallsCdap bytes.now run.old site says run.new) }
+    ensures tower { IsTower run.new.tower }
+{
+    match run.tower.cdap(alloc, site.rank, site.fac, site.node, bytes) {
+        Ok(answer) => Ok(Some(Answer::Cdap {
+            bytes: Seq::from_vec(answer),
+        })),
+        Err(CdapCallError::Memory) => Err(Memory),
+        Err(error) => Ok(refused(tell_cdap(error))),
+    }
+}

@@ -1,0 +1,251 @@
+//! The words on flows: each calls the tower, and says what it answered.
+ghost use Rattle.std.specs.Prelude.{◌≡◌, ◌∷◌, ◌++◌, [], option_map, IfOk, OnOk};
+ghost use Rattle.rina_words.specs.Step.{Registering, Allocating, Accepting, Sending, CallsRegister, CallsAllocate, CallsIncoming, CallsSend, port_answer, label_of, asked};
+ghost use Rattle.rina_stack.specs.Plan.{IsPlan};
+ghost use Rattle.rina_tower.specs.Stands.{IsTower};
+
+use crate::run::Run;
+use rina_base::{AppName, Bytes, Memory, Name, Port};
+use rina_cube::Want;
+use rina_iface::{AllocateError, Ask, Facility, RegisterError, SendError};
+use rina_notes::{
+    Label, Site, find_site, refused, state_at, tell_allocate, tell_app_send, tell_drawn,
+    tell_register,
+};
+use rina_report::{Answer, Refusal};
+use rina_stack::Plan;
+use rina_tower::{AppError, Tower};
+use std::alloc::Global;
+
+/// The state of a port of a rank, as it is said.
+pub fn say_port(
+    alloc: Global,
+    plan: &Plan,
+    tower: &Tower,
+    rank: u16,
+    port: Port,
+) -> Result<Option<Answer>, Memory>
+    requires { IsTower tower.now }
+    ensures { IfOk result (λ o. o ≡ port_answer plan.now tower.now rank port) }
+{
+    match tell_drawn(alloc, plan, rank, state_at(tower, rank, port))? {
+        Some(state) => Ok(Some(Answer::Port { state })),
+        None => Ok(None),
+    }
+}
+
+/// The word `register`.
+pub fn register(
+    alloc: Global,
+    plan: &Plan,
+    run: &mut Run,
+    fac: &Name,
+    node: &Name,
+    app: &AppName,
+) -> Result<Option<Answer>, Memory>
+    requires plan { IsPlan plan.now }
+    requires sound { IsTower run.old.tower }
+    ensures does { IfOk result (λ says. Registering plan.now fac.now node.now app.now run.old says run.new) }
+    ensures sound { IsTower run.new.tower }
+{
+    let site = match find_site(plan, 1, fac, node) {
+        Ok(site) => site,
+        Err(field) => return Ok(refused(Some(Refusal::Unknown { field }))),
+    };
+    call_register(alloc, run, site, app)
+}
+
+fn call_register(
+    alloc: Global,
+    run: &mut Run,
+    site: Site,
+    app: &AppName,
+) -> Result<Option<Answer>, Memory>
+    requires { IsTower run.old.tower }
+    ensures does { IfOk result (λ says. CallsRegister app.now run.old site says run.new) }
+    ensures sound { IsTower run.new.tower }
+{
+    match run
+        .tower
+        .app_register(alloc, site.rank, site.fac, site.node, app)
+    {
+        Ok(()) => Ok(Some(Answer::Done)),
+        Err(AppError::Call(RegisterError::Memory)) => Err(Memory),
+        Err(error) => Ok(refused(tell_register(error))),
+    }
+}
+
+/// The word `alloc`.
+pub fn allocate(
+    alloc: Global,
+    plan: &Plan,
+    run: &mut Run,
+    label: &Name,
+    fac: &Name,
+    node: &Name,
+    app: &AppName,
+    to: &AppName,
+    want: Want,
+) -> Result<Option<Answer>, Memory>
+    requires plan { IsPlan plan.now }
+    requires sound { IsTower run.old.tower }
+    ensures does { IfOk result (λ says. Allocating plan.now label.now fac.now node.now app.now to.now want run.old says run.new) }
+    ensures sound { IsTower run.new.tower }
+{
+    let site = match find_site(plan, 2, fac, node) {
+        Ok(site) => site,
+        Err(field) => return Ok(refused(Some(Refusal::Unknown { field }))),
+    };
+    if run.labels.has(label) {
+        return Ok(refused(Some(Refusal::LabelUsed)));
+    }
+    let ask = make_ask(alloc, site, app, to, want)?;
+    call_allocate(alloc, plan, run, label, fac, node, site.rank, &ask)
+}
+
+fn make_ask(
+    alloc: Global,
+    site: Site,
+    app: &AppName,
+    to: &AppName,
+    want: Want,
+) -> Result<Ask, Memory>
+    ensures { IfOk result (λ ask. ask ≡ asked site app.now to.now want) }
+{
+    Ok(Ask {
+        fac: site.fac,
+        node: site.node,
+        app: app.copy(alloc)?,
+        to: to.copy(alloc)?,
+        want,
+    })
+}
+
+fn call_allocate(
+    alloc: Global,
+    plan: &Plan,
+    run: &mut Run,
+    label: &Name,
+    fac: &Name,
+    node: &Name,
+    rank: u16,
+    ask: &Ask,
+) -> Result<Option<Answer>, Memory>
+    requires { IsTower run.old.tower }
+    ensures does { IfOk result (λ says. CallsAllocate plan.now label.now fac.now node.now rank run.old ask.now says run.new) }
+    ensures sound { IsTower run.new.tower }
+{
+    match run.tower.app_allocate(alloc, rank, ask) {
+        Ok(port) => {
+            give_label(alloc, run, label, rank, port)?;
+            say_port(alloc, plan, &run.tower, rank, port)
+        }
+        Err(AppError::Call(AllocateError::Memory)) => Err(Memory),
+        Err(error) => Ok(refused(tell_allocate(alloc, fac, node, error)?)),
+    }
+}
+
+/// Gives a label to a port of a rank, whose state is told now.
+fn give_label(
+    alloc: Global,
+    run: &mut Run,
+    name: &Name,
+    rank: u16,
+    port: Port,
+) -> Result<(), Memory>
+    requires { IsTower run.old.tower }
+    ensures tower { run.new.tower ≡ run.old.tower }
+    ensures labels { OnOk result (run.new.labels ≡ run.old.labels ++ label_of name.now run.old.tower rank port ∷ []) }
+{
+    let label = Label {
+        name: name.copy(alloc)?,
+        rank,
+        port,
+        shown: state_at(&run.tower, rank, port),
+    };
+    run.labels.push(label)?;
+    Ok(())
+}
+
+/// The word `accept`.
+pub fn accept(
+    alloc: Global,
+    plan: &Plan,
+    run: &mut Run,
+    label: &Name,
+    fac: &Name,
+    node: &Name,
+    app: &AppName,
+) -> Result<Option<Answer>, Memory>
+    requires plan { IsPlan plan.now }
+    requires sound { IsTower run.old.tower }
+    ensures does { IfOk result (λ says. Accepting plan.now label.now fac.now node.now app.now run.old says run.new) }
+    ensures sound { IsTower run.new.tower }
+{
+    let site = match find_site(plan, 2, fac, node) {
+        Ok(site) => site,
+        Err(field) => return Ok(refused(Some(Refusal::Unknown { field }))),
+    };
+    if run.labels.has(label) {
+        return Ok(refused(Some(Refusal::LabelUsed)));
+    }
+    call_incoming(alloc, plan, run, label, site, app)
+}
+
+fn call_incoming(
+    alloc: Global,
+    plan: &Plan,
+    run: &mut Run,
+    label: &Name,
+    site: Site,
+    app: &AppName,
+) -> Result<Option<Answer>, Memory>
+    requires { IsTower run.old.tower }
+    ensures does { IfOk result (λ says. CallsIncoming plan.now label.now app.now run.old site says run.new) }
+    ensures sound { IsTower run.new.tower }
+{
+    match run.tower.app_incoming(site.rank, site.fac, site.node, app) {
+        Some(port) => {
+            give_label(alloc, run, label, site.rank, port)?;
+            say_port(alloc, plan, &run.tower, site.rank, port)
+        }
+        None => Ok(Some(Answer::Nothing)),
+    }
+}
+
+/// The word `send`.
+pub fn send(
+    alloc: Global,
+    plan: &Plan,
+    run: &mut Run,
+    label: &Name,
+    bytes: &Bytes,
+) -> Result<Option<Answer>, Memory>
+    requires { IsTower run.old.tower }
+    ensures does { IfOk result (λ says. Sending plan.now label.now bytes.now run.old says run.new) }
+    ensures sound { IsTower run.new.tower }
+{
+    let Some((rank, port)) = run.labels.port(label) else {
+        return Ok(refused(Some(Refusal::Unknown { field: 1 })));
+    };
+    call_send(alloc, plan, run, rank, port, bytes)
+}
+
+fn call_send(
+    alloc: Global,
+    plan: &Plan,
+    run: &mut Run,
+    rank: u16,
+    port: Port,
+    bytes: &Bytes,
+) -> Result<Option<Answer>, Memory>
+    requires { IsTower run.old.tower }
+    ensures does { IfOk result (λ says. CallsSend plan.now bytes.now run.old rank port says run.new) }
+    ensures sound { IsTower run.new.tower }
+{
+    match run.tower.app_send(alloc, rank, port, bytes.as_slice()) {
+        Ok(num) => Ok(Some(Answer::Sent { num })),
+        Err(AppError::Call(SendError::Memory)) => Err(Memory),
+        Err(error) => Ok(refused(tell_app_send(alloc, plan, rank, error)?)),
+    }
+}

@@ -1,0 +1,97 @@
+//! The word `read`.
+ghost use Rattle.std.specs.Prelude.{◌≡◌, None, MatchOption, OnOk, OnErr};
+ghost use Rattle.rina_notes.specs.Look.{Leads, Extends};
+ghost use Rattle.rina_notes.specs.Sites.{port_in};
+ghost use Rattle.rina_words.specs.Step.{IsWaiting, Reading, ReadsAll, waiting};
+ghost use Rattle.rina_tower.specs.Applications.{is_ipc_at};
+ghost use Rattle.rina_tower.specs.Ranks.{seen_of};
+ghost use Rattle.rina_tower.specs.Stands.{IsTower};
+
+use crate::run::Run;
+use rina_base::{Memory, Name, Port, Seq};
+use rina_iface::{Facility, Lent};
+use rina_notes::{tell, tick_of};
+use rina_report::{Answer, Notes, Refusal};
+use rina_tower::Tower;
+use std::alloc::Global;
+
+/// Whether the application at a port of the own rank of a tower is an IPC process.
+fn is_ipc_port(tower: &Tower, port: Port) -> bool
+    requires { IsTower tower.now }
+    ensures { result ≡ is_ipc_at (seen_of tower.now) port }
+{
+    match tower.journal(port.fac) {
+        None => false,
+        Some(journal) => match journal.ends.find(port) {
+            None => false,
+            Some(end) => end.app.is_ipc(),
+        },
+    }
+}
+
+/// The oldest SDU that waits for an application at a port of a rank.
+fn oldest(tower: &Tower, rank: u16, port: Port) -> Option<Lent<'_>>
+    requires { IsTower tower.now }
+    ensures { MatchOption result (waiting tower.now rank port ≡ None) (λ l. IsWaiting tower.now rank port l.at l.bytes.now) }
+{
+    let at = tower.rank(rank)?;
+    if is_ipc_port(at, port) {
+        return None;
+    }
+    at.peek(port)
+}
+
+/// Reads all SDUs that wait at the port of a label, each with a note.
+pub fn read(
+    alloc: Global,
+    run: &mut Run,
+    line: u32,
+    label: &Name,
+    trace: &mut Notes,
+) -> Result<(), Memory>
+    requires { IsTower run.old.tower }
+    ensures does { OnOk result (Leads (λ ns. Reading line (port_in run.old.labels label.now) run.old ns run.new) trace.old trace.new) }
+    ensures more { OnErr result (Extends trace.old trace.new) }
+    ensures sound { IsTower run.new.tower }
+{
+    let Some((rank, port)) = run.labels.port(label) else {
+        let why = Refusal::Unknown { field: 1 };
+        return tell(
+            trace,
+            line,
+            tick_of(&run.tower),
+            Some(Answer::Refused { why }),
+        );
+    };
+    if oldest(&run.tower, rank, port).is_none() {
+        return tell(trace, line, tick_of(&run.tower), Some(Answer::Nothing));
+    }
+    read_all(alloc, run, line, rank, port, trace)
+}
+
+/// Reads all SDUs that wait at a port, each with a note.
+fn read_all(
+    alloc: Global,
+    run: &mut Run,
+    line: u32,
+    rank: u16,
+    port: Port,
+    trace: &mut Notes,
+) -> Result<(), Memory>
+    requires { IsTower run.old.tower }
+    ensures does { OnOk result (ReadsAll line rank port run.old trace.old run.new trace.new) }
+    ensures more { OnErr result (Extends trace.old trace.new) }
+    ensures sound { IsTower run.new.tower }
+{
+    'entries: for _ in 0..u64::MAX {
+        let Some(lent) = oldest(&run.tower, rank, port) else {
+            return Ok(());
+        };
+        let bytes = Seq::copy_of(alloc, lent.bytes)?;
+        let got = Answer::Got { at: lent.at, bytes };
+        tell(trace, line, tick_of(&run.tower), Some(got))?;
+        run.tower.app_pass(rank, port);
+    }
+    // So many notes fit into no memory.
+    Err(Memory)
+}

@@ -1,0 +1,91 @@
+//! The words that end something, and the one that tells a state.
+ghost use Rattle.std.specs.Prelude.{◌≡◌, IfOk};
+ghost use Rattle.rina_words.specs.Step.{CallsFree, CallsUnregister, Freeing, Stating, Unregistering};
+ghost use Rattle.rina_stack.specs.Plan.{IsPlan};
+ghost use Rattle.rina_tower.specs.Stands.{IsTower};
+
+use crate::flow::say_port;
+use crate::run::Run;
+use rina_base::{AppName, Memory, Name, Port};
+use rina_iface::{Facility, FreeError, UnregisterError};
+use rina_notes::{Site, find_site, refused, tell_free, tell_unregister};
+use rina_report::{Answer, Refusal};
+use rina_stack::Plan;
+use rina_tower::AppError;
+use std::alloc::Global;
+
+/// The word `unregister`.
+pub fn unregister(
+    alloc: Global,
+    plan: &Plan,
+    run: &mut Run,
+    fac: &Name,
+    node: &Name,
+    app: &AppName,
+) -> Result<Option<Answer>, Memory>
+    requires plan { IsPlan plan.now }
+    requires sound { IsTower run.old.tower }
+    ensures does { IfOk result (λ says. Unregistering plan.now fac.now node.now app.now run.old says run.new) }
+    ensures sound { IsTower run.new.tower }
+{
+    let site = match find_site(plan, 1, fac, node) {
+        Ok(site) => site,
+        Err(field) => return Ok(refused(Some(Refusal::Unknown { field }))),
+    };
+    call_unregister(alloc, run, site, app)
+}
+
+fn call_unregister(
+    alloc: Global,
+    run: &mut Run,
+    site: Site,
+    app: &AppName,
+) -> Result<Option<Answer>, Memory>
+    requires { IsTower run.old.tower }
+    ensures does { IfOk result (λ says. CallsUnregister app.now run.old site says run.new) }
+    ensures sound { IsTower run.new.tower }
+{
+    match run
+        .tower
+        .app_unregister(alloc, site.rank, site.fac, site.node, app)
+    {
+        Ok(()) => Ok(Some(Answer::Done)),
+        Err(AppError::Call(UnregisterError::Memory)) => Err(Memory),
+        Err(error) => Ok(refused(tell_unregister(error))),
+    }
+}
+
+/// The word `free`.
+pub fn free(alloc: Global, run: &mut Run, label: &Name) -> Result<Option<Answer>, Memory>
+    requires { IsTower run.old.tower }
+    ensures does { IfOk result (λ says. Freeing label.now run.old says run.new) }
+    ensures sound { IsTower run.new.tower }
+{
+    let Some((rank, port)) = run.labels.port(label) else {
+        return Ok(refused(Some(Refusal::Unknown { field: 1 })));
+    };
+    call_free(alloc, run, rank, port)
+}
+
+fn call_free(alloc: Global, run: &mut Run, rank: u16, port: Port) -> Result<Option<Answer>, Memory>
+    requires { IsTower run.old.tower }
+    ensures does { IfOk result (λ says. CallsFree run.old rank port says run.new) }
+    ensures sound { IsTower run.new.tower }
+{
+    match run.tower.app_free(alloc, rank, port) {
+        Ok(()) => Ok(Some(Answer::Done)),
+        Err(AppError::Call(FreeError::Memory)) => Err(Memory),
+        Err(error) => Ok(refused(tell_free(error))),
+    }
+}
+
+/// The word `state`.
+pub fn state(alloc: Global, plan: &Plan, run: &Run, label: &Name) -> Result<Option<Answer>, Memory>
+    requires { IsTower run.now.tower }
+    ensures { IfOk result (λ says. Stating plan.now label.now run.now says run.now) }
+{
+    let Some((rank, port)) = run.labels.port(label) else {
+        return Ok(refused(Some(Refusal::Unknown { field: 1 })));
+    };
+    say_port(alloc, plan, &run.tower, rank, port)
+}

@@ -1,0 +1,158 @@
+//! The words on wires: each calls the tower, and says what it answered.
+ghost use Rattle.std.specs.Prelude.{◌≡◌, IfOk};
+ghost use Rattle.rina_stack.specs.Plan.{IsPlan};
+ghost use Rattle.rina_tower.specs.Events.{Cuts, HoldsBack, Loses, Mends, Repeats};
+ghost use Rattle.rina_tower.specs.Stands.{IsTower};
+ghost use Rattle.rina_words.specs.Step.{CallsWire, Cutting, Holding, Losing, Mending, Repeating};
+
+use crate::run::Run;
+use rina_base::{Memory, Name, Tick};
+use rina_notes::{refused, tell_wire};
+use rina_report::{Answer, Refusal};
+use rina_stack::Plan;
+use rina_wire::WireError;
+use std::alloc::Global;
+
+/// The word `lose`.
+pub fn lose(plan: &Plan, run: &mut Run, wire: &Name, frame: u32) -> Result<Option<Answer>, Memory>
+    requires plan { IsPlan plan.now }
+    requires sound { IsTower run.old.tower }
+    ensures does { IfOk result (λ says. Losing plan.now wire.now frame run.old says run.new) }
+    ensures sound { IsTower run.new.tower }
+{
+    let Some(wire) = plan.wire(wire) else {
+        return Ok(refused(Some(Refusal::NoWire)));
+    };
+    call_lose(run, wire, frame)
+}
+
+fn call_lose(run: &mut Run, wire: u16, frame: u32) -> Result<Option<Answer>, Memory>
+    requires { IsTower run.old.tower }
+    ensures does { IfOk result (λ says. CallsWire (Loses wire frame) run.old says run.new) }
+    ensures sound { IsTower run.new.tower }
+{
+    match run.tower.lose(wire, u64::from(frame)) {
+        Ok(()) => Ok(Some(Answer::Done)),
+        Err(WireError::Memory) => Err(Memory),
+        Err(error) => Ok(refused(tell_wire(error))),
+    }
+}
+
+/// The word `repeat`.
+pub fn repeat(
+    alloc: Global,
+    plan: &Plan,
+    run: &mut Run,
+    wire: &Name,
+    frame: u32,
+    at: Tick,
+) -> Result<Option<Answer>, Memory>
+    requires plan { IsPlan plan.now }
+    requires sound { IsTower run.old.tower }
+    ensures does { IfOk result (λ says. Repeating plan.now wire.now frame at run.old says run.new) }
+    ensures sound { IsTower run.new.tower }
+{
+    let Some(wire) = plan.wire(wire) else {
+        return Ok(refused(Some(Refusal::NoWire)));
+    };
+    call_repeat(alloc, run, wire, frame, at)
+}
+
+fn call_repeat(
+    alloc: Global,
+    run: &mut Run,
+    wire: u16,
+    frame: u32,
+    at: Tick,
+) -> Result<Option<Answer>, Memory>
+    requires { IsTower run.old.tower }
+    ensures does { IfOk result (λ says. CallsWire (Repeats wire frame at) run.old says run.new) }
+    ensures sound { IsTower run.new.tower }
+{
+    match run.tower.repeat(alloc, wire, u64::from(frame), at) {
+        Ok(()) => Ok(Some(Answer::Done)),
+        Err(WireError::Memory) => Err(Memory),
+        Err(error) => Ok(refused(tell_wire(error))),
+    }
+}
+
+/// The word `hold`.
+pub fn hold(
+    plan: &Plan,
+    run: &mut Run,
+    wire: &Name,
+    frame: u32,
+    at: Tick,
+) -> Result<Option<Answer>, Memory>
+    requires plan { IsPlan plan.now }
+    requires sound { IsTower run.old.tower }
+    ensures does { IfOk result (λ says. Holding plan.now wire.now frame at run.old says run.new) }
+    ensures sound { IsTower run.new.tower }
+{
+    let Some(wire) = plan.wire(wire) else {
+        return Ok(refused(Some(Refusal::NoWire)));
+    };
+    call_hold(run, wire, frame, at)
+}
+
+fn call_hold(run: &mut Run, wire: u16, frame: u32, at: Tick) -> Result<Option<Answer>, Memory>
+    requires { IsTower run.old.tower }
+    ensures does { IfOk result (λ says. CallsWire (HoldsBack wire frame at) run.old says run.new) }
+    ensures sound { IsTower run.new.tower }
+{
+    match run.tower.hold(wire, u64::from(frame), at) {
+        Ok(()) => Ok(Some(Answer::Done)),
+        Err(WireError::Memory) => Err(Memory),
+        Err(error) => Ok(refused(tell_wire(error))),
+    }
+}
+
+/// The word `cut`.
+pub fn cut(plan: &Plan, run: &mut Run, wire: &Name) -> Result<Option<Answer>, Memory>
+    requires plan { IsPlan plan.now }
+    requires sound { IsTower run.old.tower }
+    ensures does { IfOk result (λ says. Cutting plan.now wire.now run.old says run.new) }
+    ensures sound { IsTower run.new.tower }
+{
+    let Some(wire) = plan.wire(wire) else {
+        return Ok(refused(Some(Refusal::NoWire)));
+    };
+    call_cut(run, wire)
+}
+
+fn call_cut(run: &mut Run, wire: u16) -> Result<Option<Answer>, Memory>
+    requires { IsTower run.old.tower }
+    ensures does { IfOk result (λ says. CallsWire (Cuts wire) run.old says run.new) }
+    ensures sound { IsTower run.new.tower }
+{
+    match run.tower.cut(wire) {
+        Ok(()) => Ok(Some(Answer::Done)),
+        Err(WireError::Memory) => Err(Memory),
+        Err(error) => Ok(refused(tell_wire(error))),
+    }
+}
+
+/// The word `mend`.
+pub fn mend(plan: &Plan, run: &mut Run, wire: &Name) -> Result<Option<Answer>, Memory>
+    requires plan { IsPlan plan.now }
+    requires sound { IsTower run.old.tower }
+    ensures does { IfOk result (λ says. Mending plan.now wire.now run.old says run.new) }
+    ensures sound { IsTower run.new.tower }
+{
+    let Some(wire) = plan.wire(wire) else {
+        return Ok(refused(Some(Refusal::NoWire)));
+    };
+    call_mend(run, wire)
+}
+
+fn call_mend(run: &mut Run, wire: u16) -> Result<Option<Answer>, Memory>
+    requires { IsTower run.old.tower }
+    ensures does { IfOk result (λ says. CallsWire (Mends wire) run.old says run.new) }
+    ensures sound { IsTower run.new.tower }
+{
+    match run.tower.mend(wire) {
+        Ok(()) => Ok(Some(Answer::Done)),
+        Err(WireError::Memory) => Err(Memory),
+        Err(error) => Ok(refused(tell_wire(error))),
+    }
+}
