@@ -63,7 +63,7 @@ fn number_of(difs: &[DifPlan], place: usize) -> u16
     ensures { result ≡ number_of difs.now place }
 {
     let rank = difs[place].rank;
-    count_of(&difs[..at], rank) as u16
+    count_of(&difs[..place], rank) as u16
 }
 
 /// A flow of the DIF at a place of the stack, as a fixed flow of that DIF.

@@ -14,7 +14,7 @@ overflow_cast-count c =
     let few = c.in_ok-parts.ensures.ok.few in
     search (rules, len, few)
 
-pub take_numbers-requires-clause-count : goal.number-requires-clause-count
+pub take_numbers-requires-clause-count : goal.take_numbers-requires-clause-count
 take_numbers-requires-clause-count c =
     let len : c.len-count.result ≡ length c.in_ok-parts.parts.items = search rules in
     let some = c.in_ok-parts.ensures.ok.some in
