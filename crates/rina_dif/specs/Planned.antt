@@ -1,27 +1,16 @@
 -- What the plan of a stack says of a DIF.
-use Rattle.std.specs.Prelude.{ℕ, ◌+◌, ◌-◌, ◌*◌, ◌^◌, ◌==◌, List, [], ◌∷◌, ◌++◌, count_by, flat_map, length, map, slice_get, slice_index_or, take, Option, Some, None}
+use Rattle.std.specs.Prelude.{ℕ, ◌+◌, ◌-◌, ◌*◌, ◌^◌, List, [], ◌∷◌, ◌++◌, flat_map, length, map, slice_get, slice_index_or, take, Option, Some, None}
 use Rattle.rina_plan.specs.declared.dif.DifPlan.{DifPlan}
 use Rattle.rina_plan.specs.declared.dif.FlowPlan.{FlowPlan}
 use Rattle.rina_plan.specs.declared.dif.LinkPlan.{LinkPlan}
-use Rattle.rina_plan.specs.declared.dif.Lower.{Lower}
-use Rattle.rina_plan.specs.declared.dif.Lower.TheVariants.{Wire, Dif}
 use Rattle.rina_plan.specs.declared.dif.MemberPlan.{MemberPlan}
-use Rattle.rina_plan.specs.Links.{rank_of}
+use Rattle.rina_plan.specs.Numbers.{facility_number, number_in_rank}
 use Rattle.rina_stack.specs.declared.plan.Plan.{Plan}
 use Rattle.rina_iface.specs.declared.ask.Fixed.{Fixed}
 use Rattle.rina_data.specs.declared.settings.Member.{Member}
 use Rattle.rina_data.specs.declared.settings.Settings.{Settings}
 
 -- Numbers
-
--- the number of the i-th DIF of the stack among those of its rank: how many before it have that rank
-abbrev pub number_of : List DifPlan → ℕ → ℕ
-number_of difs i = count_by (λ (d : DifPlan). d.rank == rank_of difs (Dif i)) (take i difs)
-
--- the number of a facility in its rank; wires stand in stack order
-abbrev pub lower_fac : List DifPlan → Lower → ℕ
-lower_fac difs (Wire i) = i
-lower_fac difs (Dif i) = number_of difs i
 
 -- how many IPC processes the DIFs before the i-th have
 abbrev pub processes_before : List DifPlan → ℕ → ℕ
@@ -41,7 +30,7 @@ ipc_name plan d node = d.name ++ 47 ∷ node_name plan node
 -- a link of a DIF as a fixed flow of the facility below; the IPC process at its end `a` is the asker
 abbrev pub link_fixed : Plan → DifPlan → LinkPlan → Fixed
 link_fixed plan d l = record {
-  fac = lower_fac plan.difs l.on;
+  fac = facility_number plan.difs l.on;
   cube = l.cube;
   a = l.a;
   a_app = ipc_name plan d l.a;
@@ -52,7 +41,7 @@ link_fixed plan d l = record {
 -- a flow of the i-th DIF as a fixed flow of that DIF; the application at its end `from` is the asker
 abbrev pub flow_fixed : Plan → ℕ → FlowPlan → Fixed
 flow_fixed plan i f = record {
-  fac = number_of plan.difs i;
+  fac = number_in_rank plan.difs i;
   cube = f.cube;
   a = f.from.node;
   a_app = f.from.app;
@@ -90,7 +79,7 @@ members_from plan d number (m ∷ ms) = member_of plan d number m ∷ members_fr
 -- the settings of a DIF that is the i-th of the stack
 abbrev pub settings_by : Plan → ℕ → DifPlan → Settings
 settings_by plan i d = record {
-  fac = number_of plan.difs i;
+  fac = number_in_rank plan.difs i;
   members = members_from plan d (processes_before plan.difs i) d.members;
   cubes = d.cubes;
   widths = d.widths;

@@ -1,49 +1,19 @@
 //! What the plan of a stack says of a DIF.
-ghost use Rattle.std.specs.Prelude.{◌≡◌, ◌+◌, ◌-◌, ◌*◌, ◌^◌, ◌==◌, ◌<◌, ◌≤◌, All, ◌∷◌, ◌++◌, count_by, flat_map, length, slice_get, Some, IfOk};
+ghost use Rattle.std.specs.Prelude.{◌≡◌, ◌+◌, ◌-◌, ◌*◌, ◌^◌, ◌<◌, ◌≤◌, All, ◌∷◌, ◌++◌, flat_map, length, slice_get, Some, IfOk};
 ghost use Rattle.rina_pci.specs.Spelling.{IsWidth};
 ghost use Rattle.rina_plan.specs.declared.dif.DifPlan.{DifPlan};
 ghost use Rattle.rina_plan.specs.declared.dif.MemberPlan.{MemberPlan};
-ghost use Rattle.rina_stack.specs.Ranges.{IsLower};
+ghost use Rattle.rina_plan.specs.Numbers.{IsLower};
 ghost use Rattle.rina_stack.specs.Plan.{IsPlan};
-ghost use Rattle.rina_dif.specs.Planned.{ipc_name, link_fixed, lower_fac, member_of, members_from, number_of, settings_by};
+ghost use Rattle.rina_dif.specs.Planned.{ipc_name, link_fixed, member_of, members_from, settings_by};
 
 use rina_base::{AppName, Memory, Seq};
 use rina_cube::Cube;
 use rina_data::{Member, Settings};
 use rina_iface::Fixed;
-use rina_plan::{DifPlan, LinkPlan, Lower, MemberPlan};
+use rina_plan::{DifPlan, LinkPlan, MemberPlan, facility_number, number_in_rank};
 use rina_stack::Plan;
 use std::alloc::{AllocError, Global};
-
-/// How many DIFs have a rank.
-fn count_of(difs: &[DifPlan], rank: u8) -> usize
-    ensures count { result ≡ count_by (λ (d : DifPlan). d.rank == rank) difs.now }
-    ensures most { result ≤ length difs.now }
-{
-    difs.iter().filter(|dif| dif.rank == rank).count()
-}
-
-/// The number of the DIF at a place among those of its rank.
-fn number_of(difs: &[DifPlan], at: usize) -> u16
-    requires few { length difs.now ≤ 16 }
-    requires at { at < length difs.now }
-    ensures { result ≡ number_of difs.now at }
-{
-    let rank = difs[at].rank;
-    count_of(&difs[..at], rank) as u16
-}
-
-/// The number in its rank of the facility that a link is on.
-fn lower_fac(difs: &[DifPlan], on: Lower) -> u16
-    requires few { length difs.now ≤ 16 }
-    requires there { IsLower 128 (length difs.now) on }
-    ensures { result ≡ lower_fac difs.now on }
-{
-    match on {
-        Lower::Wire(wire) => wire as u16,
-        Lower::Dif(dif) => number_of(difs, dif),
-    }
-}
 
 /// How many IPC processes these DIFs have.
 fn processes_of(difs: &[DifPlan]) -> u32
@@ -154,7 +124,7 @@ pub(crate) fn settings_of(
 {
     let difs = plan.difs.as_slice();
     Ok(Settings {
-        fac: number_of(difs, at),
+        fac: number_in_rank(difs, at),
         members: members_of(alloc, plan, dif, processes_of(&difs[..at]))?,
         cubes: copy_of(alloc, dif.cubes.as_slice())?,
         widths: dif.widths,
@@ -180,7 +150,7 @@ pub(crate) fn link_fixed(
     ensures { IfOk result (λ f. f ≡ link_fixed plan.now dif.now link.now) }
 {
     Ok(Fixed {
-        fac: lower_fac(plan.difs.as_slice(), link.on),
+        fac: facility_number(plan.difs.as_slice(), link.on),
         cube: link.cube,
         a: link.a as u16,
         a_app: ipc_name(alloc, plan, dif, link.a)?,

@@ -6,9 +6,9 @@ use Rattle.std.proofs.lemmas.Option.{same_Some}
 use Rattle.rina_plan.specs.declared.dif.DifPlan.{DifPlan}
 use Rattle.rina_plan.specs.declared.dif.EndPlan.{EndPlan}
 use Rattle.rina_plan.specs.declared.dif.FlowPlan.{FlowPlan}
+use Rattle.rina_plan.specs.Numbers.{number_in_rank}
 use Rattle.rina_stack.specs.declared.plan.Plan.{Plan}
 use Rattle.rina_stack.specs.Rules.{flow_labels, labels}
-use Rattle.rina_dif.specs.Planned.{number_of}
 use Rattle.rina_tower.specs.declared.tower.Tower.{Tower}
 use Rattle.rina_tower.specs.Flows.{links_on}
 use Rattle.rina_notes.specs.declared.label.Label.{Label}
@@ -53,11 +53,11 @@ pub record IsSpot (plan : Plan) (t : Tower) (l : Label) : Type 0 where
   pub flow : FlowPlan
   pub is_flow : slice_get dif.flows k ≡ Some flow
   pub far : Bool
-  pub names : NamesEnd t dif.rank (number_of plan.difs i) (2 * (links_on plan i dif + k) + behind far) (side_of far flow) l
+  pub names : NamesEnd t dif.rank (number_in_rank plan.difs i) (2 * (links_on plan i dif + k) + behind far) (side_of far flow) l
 
 dif_spot : (plan : Plan) (t : Tower) (i : ℕ) (ls : List Label) (j : ℕ) (l : Label) → AreDifLabels plan t i ls → slice_get ls j ≡ Some l → IsSpot plan t l
 dif_spot plan t i ls j l are h =
-    let r = flow_label t are.dif.rank (number_of plan.difs i) (2 * links_on plan i are.dif) are.dif.flows ls j l are.flows h in
+    let r = flow_label t are.dif.rank (number_in_rank plan.difs i) (2 * links_on plan i are.dif) are.dif.flows ls j l are.flows h in
     record {
       i = i;
       dif = are.dif;
@@ -66,7 +66,7 @@ dif_spot plan t i ls j l are h =
       flow = r.flow;
       is_flow = r.is_flow;
       far = r.far;
-      names = at_place t are.dif.rank (number_of plan.difs i) (2 * links_on plan i are.dif + 2 * r.k + behind r.far) (2 * (links_on plan i are.dif + r.k) + behind r.far) (side_of r.far r.flow) l (omega arith) r.names;
+      names = at_place t are.dif.rank (number_in_rank plan.difs i) (2 * links_on plan i are.dif + 2 * r.k + behind r.far) (2 * (links_on plan i are.dif + r.k) + behind r.far) (side_of r.far r.flow) l (omega arith) r.names;
     }
 
 in_either : {X : Type 0} (xs ys : List X) (j : ℕ) (x : X) → slice_get (xs ++ ys) j ≡ Some x → (slice_get xs j ≡ Some x) ⊎ ((k : ℕ) × (slice_get ys k ≡ Some x))

@@ -10,12 +10,12 @@ use Rattle.rina_plan.specs.declared.dif.DifPlan.{DifPlan}
 use Rattle.rina_plan.specs.declared.dif.FlowPlan.{FlowPlan}
 use Rattle.rina_plan.specs.declared.dif.Lower.TheVariants.{Dif}
 use Rattle.rina_plan.specs.Links.{rank_in, rank_of as rank_in_stack}
+use Rattle.rina_plan.specs.Numbers.{number_in_rank}
 use Rattle.rina_policy.specs.Slots.{Slot}
 use Rattle.rina_stack.specs.declared.plan.Plan.{Plan}
 use Rattle.rina_stack.specs.Unbroken.{AreDistinct}
 use Rattle.rina_stack.specs.Plan.{IsPlan}
 use Rattle.rina_stack.specs.Rules.{labels}
-use Rattle.rina_dif.specs.Planned.{number_of}
 use Rattle.rina_wire.proofs.Kept.{is_mapped}
 use Rattle.rina_tower.specs.declared.tower.Tower.{Tower}
 use Rattle.rina_tower.specs.Bystanders.{IsIpc, is_ipc}
@@ -62,7 +62,7 @@ record HasSpot (plan : Plan) (t : Tower) (l : Label) : Type 0 where
   spot : IsSpot plan t l
   rank_is : l.rank ≡ spot.dif.rank
   name_is : l.name ≡ (side_of spot.far spot.flow).label
-  fac_is : l.port.fac ≡ number_of plan.difs spot.i
+  fac_is : l.port.fac ≡ number_in_rank plan.difs spot.i
   end : End
   holds : HoldsAt (shown t) l.rank l.port.fac (2 * (links_on plan spot.i spot.dif + spot.k) + behind spot.far) end
   its : end.port ≡ l.port
@@ -90,14 +90,14 @@ ends_are t u r n f is at = ap (λ (o : Option Tower). or_no_ends (option_and_the
 has_spot : (plan : Plan) (t : Tower) (l : Label) → IsPlan plan → IsBuilt plan t → IsHighest plan.difs (height_of t) → IsSpot plan t l → HasSpot plan t l
 has_spot plan t l p built high s =
     let o = opened plan t p built high s.i s.k s.dif s.flow s.is_dif s.is_flow in
-    let side = side_at (number_of plan.difs s.i) s.flow o.facility.ends (2 * (links_on plan s.i s.dif + s.k)) s.far o.flow in
-    let ends : ends_at t s.dif.rank (number_of plan.difs s.i) ≡ o.facility.ends = ends_are t o.tower s.dif.rank (number_of plan.difs s.i) o.facility o.is_rank o.stands in
+    let side = side_at (number_in_rank plan.difs s.i) s.flow o.facility.ends (2 * (links_on plan s.i s.dif + s.k)) s.far o.flow in
+    let ends : ends_at t s.dif.rank (number_in_rank plan.difs s.i) ≡ o.facility.ends = ends_are t o.tower s.dif.rank (number_in_rank plan.difs s.i) o.facility o.is_rank o.stands in
     let there : slice_get o.facility.ends (2 * (links_on plan s.i s.dif + s.k) + behind s.far) ≡ Some s.names.end = subst (λ (es : List End). slice_get es (2 * (links_on plan s.i s.dif + s.k) + behind s.far) ≡ Some s.names.end) ends s.names.stands in
     let one : side.end ≡ s.names.end = same_Some side.end s.names.end (sym side.at ∙ there) in
     let rank : l.rank ≡ s.dif.rank = ap (λ (x : Label). x.rank) s.names.is in
     let port : l.port ≡ s.names.end.port = ap (λ (x : Label). x.port) s.names.is in
-    let fac : l.port.fac ≡ number_of plan.difs s.i = ap (λ (q : Port). q.fac) port ∙ (ap (λ (e : End). e.port.fac) (sym one) ∙ side.fac) in
-    let holds : HoldsAt (shown t) s.dif.rank (number_of plan.difs s.i) (2 * (links_on plan s.i s.dif + s.k) + behind s.far) s.names.end = record { facs = facs_of o.tower; is_rank = ap (option_map facs_of) o.is_rank; holds = record { facility = o.facility; stands = o.stands; is = there } } in
+    let fac : l.port.fac ≡ number_in_rank plan.difs s.i = ap (λ (q : Port). q.fac) port ∙ (ap (λ (e : End). e.port.fac) (sym one) ∙ side.fac) in
+    let holds : HoldsAt (shown t) s.dif.rank (number_in_rank plan.difs s.i) (2 * (links_on plan s.i s.dif + s.k) + behind s.far) s.names.end = record { facs = facs_of o.tower; is_rank = ap (option_map facs_of) o.is_rank; holds = record { facility = o.facility; stands = o.stands; is = there } } in
     record {
       spot = s;
       rank_is = rank;
@@ -115,11 +115,11 @@ same_is : (n : ℕ) → n == n ≡ true
 same_is n = elim (eqb_tells n n) [ inl t ↦ t.0 | inr f ↦ absurd (f.1 refl) ]
 
 -- the number of a DIF of this rank
-numbered : (difs : List DifPlan) (i r : ℕ) (d : DifPlan) → slice_get difs i ≡ Some d → d.rank ≡ r → number_of difs i ≡ count_by (λ (z : DifPlan). z.rank == r) (take i difs)
+numbered : (difs : List DifPlan) (i r : ℕ) (d : DifPlan) → slice_get difs i ≡ Some d → d.rank ≡ r → number_in_rank difs i ≡ count_by (λ (z : DifPlan). z.rank == r) (take i difs)
 numbered difs i r d at is = let rank : rank_in_stack difs (Dif i) ≡ r = ap rank_in at ∙ is in ap (λ (m : ℕ). count_by (λ (z : DifPlan). z.rank == m) (take i difs)) rank
 
 -- it tells its place
-one_dif : (difs : List DifPlan) (i k : ℕ) (d e : DifPlan) → slice_get difs i ≡ Some d → slice_get difs k ≡ Some e → d.rank ≡ e.rank → number_of difs i ≡ number_of difs k → i ≡ k
+one_dif : (difs : List DifPlan) (i k : ℕ) (d e : DifPlan) → slice_get difs i ≡ Some d → slice_get difs k ≡ Some e → d.rank ≡ e.rank → number_in_rank difs i ≡ number_in_rank difs k → i ≡ k
 one_dif difs i k d e at_i at_k rank same =
     same_place (λ (z : DifPlan). z.rank == e.rank) difs i k d e at_i at_k (ap (λ (m : ℕ). m == e.rank) rank ∙ same_is e.rank) (same_is e.rank) (sym (numbered difs i e.rank d at_i rank) ∙ (same ∙ numbered difs k e.rank e at_k refl))
 

@@ -4,3 +4,4 @@ pub mod Walks
 pub mod Parts
 pub mod Nets
 pub mod Counts
+pub mod Numbers

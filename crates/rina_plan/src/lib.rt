@@ -7,9 +7,8 @@ mod difs;
 mod joined;
 mod links;
 mod nets;
+mod numbers;
 mod once;
-#[cfg(test)]
-mod tests;
 
 pub use counts::{first_full, first_loaded};
 pub use dif::{DifPlan, EndPlan, FlowPlan, LinkPlan, Lower, MemberPlan, WireEnds};
@@ -17,4 +16,5 @@ pub use difs::{first_mistimed, first_oversized, first_with_unfit_pdu, first_with
 pub use joined::first_unjoined;
 pub use links::{first_misused, first_uncarried, first_with_unfit_link};
 pub use nets::are_joined;
+pub use numbers::{facility_number, number_in_rank};
 pub use once::{first_misplaced, first_without_cubes};

@@ -13,10 +13,11 @@ use Rattle.rina_plan.specs.declared.dif.FlowPlan.{FlowPlan}
 use Rattle.rina_plan.specs.declared.dif.LinkPlan.{LinkPlan}
 use Rattle.rina_plan.specs.declared.dif.Lower.{Lower}
 use Rattle.rina_plan.specs.declared.dif.Lower.TheVariants.{Wire, Dif}
+use Rattle.rina_plan.specs.Numbers.{IsLower, number_in_rank}
 use Rattle.rina_stack.specs.declared.plan.Plan.{Plan}
-use Rattle.rina_stack.specs.Ranges.{IsLower, IsRangedDif, IsSoundLink}
+use Rattle.rina_stack.specs.Ranges.{IsRangedDif, IsSoundLink}
 use Rattle.rina_stack.specs.Plan.{IsPlan}
-use Rattle.rina_dif.specs.Planned.{link_fixed, number_of}
+use Rattle.rina_dif.specs.Planned.{link_fixed}
 use Rattle.rina_tower.specs.declared.tower.Tower.{Tower}
 use Rattle.rina_tower.specs.Built.{IsBuilt}
 use Rattle.rina_tower.specs.Fits.{links_at}
@@ -125,13 +126,13 @@ pub links_counted : (p : Fixed → Bool) (plan : Plan) (rank at count there afte
 links_counted p plan rank at count there after so_far is sum = omega (arith, links_more p plan rank at, so_far, is, sum)
 
 -- the place behind the links on a DIF
-pub first_is : (plan : Plan) (at : ℕ) (d : DifPlan) (fac links n : ℕ) → fac ≡ number_of plan.difs at → links ≡ count_by (λ (f : Fixed). f.fac == fac) (links_at plan (d.rank + 1)) → n ≡ links * 2 → n ≡ 2 * links_on plan at d
+pub first_is : (plan : Plan) (at : ℕ) (d : DifPlan) (fac links n : ℕ) → fac ≡ number_in_rank plan.difs at → links ≡ count_by (λ (f : Fixed). f.fac == fac) (links_at plan (d.rank + 1)) → n ≡ links * 2 → n ≡ 2 * links_on plan at d
 first_is plan at d fac links n is count twice =
     let all : links ≡ links_on plan at d = rw is at count in
     omega (arith, all, twice)
 
 -- the ends of each flow of a DIF stand in its journal
-pub open_there : (plan : Plan) (t : Tower) (at : ℕ) (d : DifPlan) (rank fac first : ℕ) (ends : List End) → IsPlan plan → IsBuilt plan t → IsHighest plan.difs (height_of t) → slice_get plan.difs at ≡ Some d → rank ≡ d.rank → fac ≡ number_of plan.difs at → first ≡ 2 * links_on plan at d → ends ≡ ends_at t rank fac
+pub open_there : (plan : Plan) (t : Tower) (at : ℕ) (d : DifPlan) (rank fac first : ℕ) (ends : List End) → IsPlan plan → IsBuilt plan t → IsHighest plan.difs (height_of t) → slice_get plan.difs at ≡ Some d → rank ≡ d.rank → fac ≡ number_in_rank plan.difs at → first ≡ 2 * links_on plan at d → ends ≡ ends_at t rank fac
     → (k : ℕ) → k < length d.flows → first + 2 * k + 1 < length ends
 open_there plan t at d rank fac first ends p built high here rank_is fac_is first_is ends_are k lt =
     let (f, there) = all_there d.flows k lt in

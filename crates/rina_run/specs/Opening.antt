@@ -9,9 +9,10 @@ use Rattle.rina_plan.specs.declared.dif.EndPlan.{EndPlan}
 use Rattle.rina_plan.specs.declared.dif.FlowPlan.{FlowPlan}
 use Rattle.rina_plan.specs.declared.dif.Lower.TheVariants.{Dif}
 use Rattle.rina_plan.specs.Links.{rank_of}
+use Rattle.rina_plan.specs.Numbers.{number_in_rank}
 use Rattle.rina_policy.specs.Slots.{Slot}
 use Rattle.rina_stack.specs.declared.plan.Plan.{Plan}
-use Rattle.rina_dif.specs.Planned.{links_of, number_of}
+use Rattle.rina_dif.specs.Planned.{links_of}
 use Rattle.rina_tower.specs.declared.tower.Tower.{Tower}
 use Rattle.rina_tower.specs.Built.{IsBuilt}
 use Rattle.rina_tower.specs.Flows.{links_on}
@@ -42,7 +43,7 @@ AreFlowLabels t rank fac place (f ∷ fs) labels = (from : Label) × (to : Label
 pub record AreDifLabels (plan : Plan) (t : Tower) (i : ℕ) (labels : List Label) : Type 0 where
   pub dif : DifPlan
   pub is_dif : slice_get plan.difs i ≡ Some dif
-  pub flows : AreFlowLabels t dif.rank (number_of plan.difs i) (2 * links_on plan i dif) dif.flows labels
+  pub flows : AreFlowLabels t dif.rank (number_in_rank plan.difs i) (2 * links_on plan i dif) dif.flows labels
 
 -- those of the DIFs at these places of the stack, one after the other
 abbrev pub AreLabelsOf : Plan → Tower → List ℕ → List Label → Type 0

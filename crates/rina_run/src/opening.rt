@@ -1,12 +1,10 @@
 //! Where a run begins: the tower of a plan, and a label for each end of each flow of the stack.
-ghost use Rattle.std.specs.Prelude.{◌≡◌, ◌<◌, ◌≤◌, ◌+◌, ◌*◌, ◌==◌, ℕ, List, [], ◌∷◌, count_by, length, map, slice_get, Some, IfOk, IfSome, OnOk};
+ghost use Rattle.std.specs.Prelude.{◌≡◌, ◌<◌, ◌+◌, ◌*◌, ◌==◌, ℕ, List, [], ◌∷◌, count_by, length, map, slice_get, Some, IfOk, IfSome, OnOk};
 ghost use Rattle.std.specs.List.{range_with_len};
 ghost use Rattle.rina_iface.specs.declared.ask.Fixed.{Fixed};
-ghost use Rattle.rina_plan.specs.declared.dif.DifPlan.{DifPlan};
 ghost use Rattle.rina_policy.specs.Slots.{Slot};
-ghost use Rattle.rina_stack.specs.Ranges.{IsLower};
 ghost use Rattle.rina_stack.specs.Plan.{IsPlan};
-ghost use Rattle.rina_dif.specs.Planned.{link_fixed, lower_fac, number_of};
+ghost use Rattle.rina_dif.specs.Planned.{link_fixed};
 ghost use Rattle.rina_tower.specs.declared.tower.Tower.{Tower};
 ghost use Rattle.rina_tower.specs.Built.{IsBuilt};
 ghost use Rattle.rina_tower.specs.Fits.{links_at};
@@ -21,41 +19,11 @@ ghost use Rattle.rina_words.specs.Step.{stage};
 use rina_base::Memory;
 use rina_iface::{End, PortState};
 use rina_notes::{Label, Labels, ends_at};
-use rina_plan::{DifPlan, EndPlan, FlowPlan, Lower};
+use rina_plan::{DifPlan, EndPlan, FlowPlan, facility_number, number_in_rank};
 use rina_stack::Plan;
 use rina_tower::Tower;
 use rina_words::Run;
 use std::alloc::Global;
-
-/// How many DIFs have a rank.
-fn count_of(difs: &[DifPlan], rank: u8) -> usize
-    ensures count { result ≡ count_by (λ (d : DifPlan). d.rank == rank) difs.now }
-    ensures most { result ≤ length difs.now }
-{
-    difs.iter().filter(|dif| dif.rank == rank).count()
-}
-
-/// The number of the DIF at a place of the stack among those of its rank.
-fn number_of(difs: &[DifPlan], at: usize) -> u16
-    requires few { length difs.now ≤ 16 }
-    requires at { at < length difs.now }
-    ensures { result ≡ number_of difs.now at }
-{
-    let rank = difs[at].rank;
-    count_of(&difs[..at], rank) as u16
-}
-
-/// The number in its rank of the facility that a link is on.
-fn lower_fac(difs: &[DifPlan], on: Lower) -> u16
-    requires few { length difs.now ≤ 16 }
-    requires there { IsLower 128 (length difs.now) on }
-    ensures { result ≡ lower_fac difs.now on }
-{
-    match on {
-        Lower::Wire(wire) => wire as u16,
-        Lower::Dif(dif) => number_of(difs, dif),
-    }
-}
 
 /// How many links of the DIF at a place of the stack are on the facility of a number.
 fn links_with(plan: &Plan, at: usize, dif: &DifPlan, fac: u16) -> usize
@@ -65,7 +33,7 @@ fn links_with(plan: &Plan, at: usize, dif: &DifPlan, fac: u16) -> usize
 {
     let mut count = 0;
     'links: for link in dif.links.as_slice() {
-        if lower_fac(plan.difs.as_slice(), link.on) == fac {
+        if facility_number(plan.difs.as_slice(), link.on) == fac {
             count += 1;
         }
     }
@@ -106,7 +74,7 @@ fn first_end(plan: &Plan, at: usize, dif: &DifPlan) -> Option<usize>
     requires at { slice_get plan.now.difs at ≡ Some dif.now }
     ensures { IfSome result (λ n. n ≡ 2 * links_on plan.now at dif.now) }
 {
-    let fac = number_of(plan.difs.as_slice(), at);
+    let fac = number_in_rank(plan.difs.as_slice(), at);
     let links = links_at(plan, dif.rank + 1, fac)?;
     let ends = links.checked_mul(2)?;
     Some(ends)
@@ -192,7 +160,7 @@ fn open_dif(
         return Err(Memory);
     };
     let rank = u16::from(dif.rank);
-    let fac = number_of(plan.difs.as_slice(), at);
+    let fac = number_in_rank(plan.difs.as_slice(), at);
     let ends = ends_at(tower, rank, fac);
     open_flows(alloc, ends, rank, first, dif.flows.as_slice(), labels)
 }

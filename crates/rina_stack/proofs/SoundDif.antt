@@ -22,6 +22,7 @@ use Rattle.rina_plan.specs.declared.dif.EndPlan.{EndPlan}
 use Rattle.rina_plan.specs.declared.dif.FlowPlan.{FlowPlan}
 use Rattle.rina_plan.specs.declared.dif.DifPlan.{DifPlan}
 use Rattle.rina_plan.specs.Difs.{is_mistimed_by, is_mistimed}
+use Rattle.rina_plan.specs.Numbers.{IsLower}
 use Rattle.rina_table.specs.declared.error.StackError.{StackError}
 use Rattle.rina_table.specs.declared.scope.Scope.{Scope}
 use Rattle.rina_table.specs.declared.sketch.WireSketch.{WireSketch}
@@ -35,7 +36,7 @@ use Rattle.rina_table.specs.Rows.{kind_in, widths_at, manage_at, cube_at, member
 use Rattle.rina_table.specs.Items.{unknown_at, widths_in, manage_in, dif_at}
 use Rattle.rina_stack.specs.Scopes.{resolved_scope}
 use Rattle.rina_stack.specs.Rules.{wire_names, dif_names}
-use Rattle.rina_stack.specs.Ranges.{IsLower, IsSoundLink, IsRangedCube, IsRangedDif, HasNames, IsNamed}
+use Rattle.rina_stack.specs.Ranges.{IsSoundLink, IsRangedCube, IsRangedDif, HasNames, IsNamed}
 use Rattle.rina_stack.proofs.Inversion.{bind_ok, ok_is, all_read, found_6, found_7, number_7, number_or_7, node_in_7, if_some, name_7}
 
 -- all rows of a list

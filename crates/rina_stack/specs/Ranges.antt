@@ -4,11 +4,10 @@ use Rattle.rina_base.specs.Names.{name_at}
 use Rattle.rina_cube.specs.declared.Cube.{Cube}
 use Rattle.rina_pci.specs.Spelling.{AreWidths}
 use Rattle.rina_plan.specs.declared.dif.MemberPlan.{MemberPlan}
-use Rattle.rina_plan.specs.declared.dif.Lower.{Lower}
-use Rattle.rina_plan.specs.declared.dif.Lower.TheVariants.{Wire, Dif}
 use Rattle.rina_plan.specs.declared.dif.LinkPlan.{LinkPlan}
 use Rattle.rina_plan.specs.declared.dif.FlowPlan.{FlowPlan}
 use Rattle.rina_plan.specs.declared.dif.DifPlan.{DifPlan}
+use Rattle.rina_plan.specs.Numbers.{IsLower}
 use Rattle.rina_table.specs.declared.sketch.WireSketch.{WireSketch}
 use Rattle.rina_table.specs.declared.sketch.Sketch.{Sketch}
 
@@ -20,11 +19,6 @@ pub record IsRangedWire (nodes : ℕ) (w : WireSketch) : Type 0 where
   pub life : w.life ≤ 100000
   pub least_largest : 1 ≤ w.largest
   pub largest : w.largest ≤ 65535
-
--- a link is on a wire or DIF that is there
-abbrev pub IsLower : ℕ → ℕ → Lower → Type 0
-IsLower wires difs (Wire i) = i < wires
-IsLower wires difs (Dif i) = i < difs
 
 -- a link among so many nodes, wires and DIFs
 pub record IsSoundLink (nodes wires difs : ℕ) (l : LinkPlan) : Type 0 where

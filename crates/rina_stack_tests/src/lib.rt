@@ -13,3 +13,5 @@ mod rules;
 mod tops;
 #[cfg(test)]
 mod values;
+#[cfg(test)]
+mod walks;

@@ -20,13 +20,14 @@ use Rattle.rina_plan.specs.Counts.{IsRoomy, has_flow_end, has_link_end, is_on_di
 use Rattle.rina_plan.specs.Difs.{greatest_of}
 use Rattle.rina_plan.specs.Links.{carries, is_member as has_node, is_there, rank_in, rank_of}
 use Rattle.rina_plan.specs.Walks.{IsCarriedFlow}
+use Rattle.rina_plan.specs.Numbers.{facility_number, number_in_rank}
 use Rattle.rina_pci.specs.Spelling.{IsWidth}
 use Rattle.rina_stack.specs.declared.plan.Plan.{Plan}
 use Rattle.rina_stack.specs.Ranges.{IsRangedDif}
 use Rattle.rina_stack.specs.Plan.{IsPlan, wire_ends}
 use Rattle.rina_tower.specs.Rooms.{ArePlaced, HasRoom, IsPlaced, ends_there}
 use Rattle.rina_tower.specs.Fits.{DifsFit, IsFreshRank, flows_at, fresh_dif, links_at}
-use Rattle.rina_dif.specs.Planned.{flow_fixed, flows_in, flows_of, ipc_name, link_fixed, links_in, links_of, lower_fac, number_of}
+use Rattle.rina_dif.specs.Planned.{flow_fixed, flows_in, flows_of, ipc_name, link_fixed, links_in, links_of}
 use Rattle.rina_tower.proofs.FitRooms.{binds_fit}
 use Rattle.rina_tower.proofs.FitCounts.{count_append, count_cons, count_flat, count_map, count_none, over_places, same_place, sum_only}
 use Rattle.rina_tower.proofs.FitFacts.{any_element, carries_cube, lacks_member, link_facts, shows_cube, shows_member}
@@ -67,19 +68,19 @@ below_in difs k r None at h least = absurd (omega (arith, h, least))
 below_in difs k r (Some d) at h least = record { dif = d; at = at; rank = omega (arith, h) }
 
 -- its number tells its place
-one_place : (difs : List DifPlan) (r i k : ℕ) (d e : DifPlan) → slice_get difs i ≡ Some d → slice_get difs k ≡ Some e → d.rank ≡ r → e.rank ≡ r → number_of difs k ≡ number_of difs i → k ≡ i
+one_place : (difs : List DifPlan) (r i k : ℕ) (d e : DifPlan) → slice_get difs i ≡ Some d → slice_get difs k ≡ Some e → d.rank ≡ r → e.rank ≡ r → number_in_rank difs k ≡ number_in_rank difs i → k ≡ i
 one_place difs r i k d e at_i at_k rank_i rank_k h =
     let i_is : rank_of difs (Dif i) ≡ r = ap rank_in at_i ∙ rank_i in
     let k_is : rank_of difs (Dif k) ≡ r = ap rank_in at_k ∙ rank_k in
     let counts : count_by (λ (d' : DifPlan). d'.rank == r) (take k difs) ≡ count_by (λ (d' : DifPlan). d'.rank == r) (take i difs) =
-    subst (λ (m : ℕ). count_by (λ (d' : DifPlan). d'.rank == m) (take k difs) ≡ count_by (λ (d' : DifPlan). d'.rank == r) (take i difs)) k_is (subst (λ (m : ℕ). number_of difs k ≡ count_by (λ (d' : DifPlan). d'.rank == m) (take i difs)) i_is h) in
+    subst (λ (m : ℕ). count_by (λ (d' : DifPlan). d'.rank == m) (take k difs) ≡ count_by (λ (d' : DifPlan). d'.rank == r) (take i difs)) k_is (subst (λ (m : ℕ). number_in_rank difs k ≡ count_by (λ (d' : DifPlan). d'.rank == m) (take i difs)) i_is h) in
     same_place (λ (d' : DifPlan). d'.rank == r) difs k i e d at_k at_i (ap (λ (m : ℕ). m == r) rank_k ∙ same_is r) (ap (λ (m : ℕ). m == r) rank_i ∙ same_is r) counts
 
 -- Links
 
 placed_on : (plan : Plan) (r : ℕ) (s : Seen) (d : DifPlan) (l : LinkPlan) (on : Lower) → IsFreshRank plan r s → d.rank ≡ r + 1
     → rank_of plan.difs on + 1 ≡ d.rank → l.a ≢ l.b → is_there (map wire_ends plan.wires) plan.difs l.a on ≡ true → is_there (map wire_ends plan.wires) plan.difs l.b on ≡ true → carries (map wire_ends plan.wires) plan.difs d.pdu l.cube on ≡ true
-    → IsPlaced s (record { fac = lower_fac plan.difs on; cube = l.cube; a = l.a; a_app = ipc_name plan d l.a; b = l.b; b_app = ipc_name plan d l.b })
+    → IsPlaced s (record { fac = facility_number plan.difs on; cube = l.cube; a = l.a; a_app = ipc_name plan d l.a; b = l.b; b_app = ipc_name plan d l.b })
 placed_on plan r s d l (Wire w) fresh rank above apart a b carried = absurd (let least = fresh.least in omega (arith, rank, above, least))
 placed_on plan r s d l (Dif k) fresh rank above apart a b carried =
     let e = below_in plan.difs k r (slice_get plan.difs k) refl (above ∙ rank) fresh.least in
@@ -130,13 +131,13 @@ all_placed plan r s p fresh = placed_append s (links_at plan (r + 1)) (flows_at 
 
 -- How many ends there are at a node of the i-th DIF
 
-counts_on : (plan : Plan) (r i n node a b : ℕ) (d e : DifPlan) (on : Lower) → slice_get plan.difs i ≡ Some d → d.rank ≡ r → number_of plan.difs i ≡ n → 1 ≤ r → e.rank ≡ r + 1 → rank_of plan.difs on + 1 ≡ e.rank
-    → ((lower_fac plan.difs on == n) && ((a == node) || (b == node))) ≡ true → (is_on_dif i on && ((a == node) || (b == node))) ≡ true
+counts_on : (plan : Plan) (r i n node a b : ℕ) (d e : DifPlan) (on : Lower) → slice_get plan.difs i ≡ Some d → d.rank ≡ r → number_in_rank plan.difs i ≡ n → 1 ≤ r → e.rank ≡ r + 1 → rank_of plan.difs on + 1 ≡ e.rank
+    → ((facility_number plan.difs on == n) && ((a == node) || (b == node))) ≡ true → (is_on_dif i on && ((a == node) || (b == node))) ≡ true
 counts_on plan r i n node a b d e (Wire w) at rank number least up above h = absurd (omega (arith, least, up, above))
 counts_on plan r i n node a b d e (Dif k) at rank number least up above h =
-    let parts = and_parts (number_of plan.difs k == n) ((a == node) || (b == node)) h in
+    let parts = and_parts (number_in_rank plan.difs k == n) ((a == node) || (b == node)) h in
     let below = below_in plan.difs k r (slice_get plan.difs k) refl (above ∙ up) least in
-    let k_is : k ≡ i = one_place plan.difs r i k d below.dif at below.at rank below.rank (same (number_of plan.difs k) n parts.0 ∙ sym number) in
+    let k_is : k ≡ i = one_place plan.difs r i k d below.dif at below.at rank below.rank (same (number_in_rank plan.difs k) n parts.0 ∙ sym number) in
     and_from (k == i) ((a == node) || (b == node)) (ap (λ (m : ℕ). m == i) k_is ∙ same_is i) parts.1
 
 abbrev its_links : Option DifPlan → List LinkPlan
@@ -151,7 +152,7 @@ pub none_or : (p : Fixed → Bool) (b : Bool) (xs : List Fixed) (m : ℕ) → (b
 none_or p true xs m h = h refl
 none_or p false xs m h = omega arith
 
-links_count : (plan : Plan) (r i n node : ℕ) (d : DifPlan) → IsPlan plan → slice_get plan.difs i ≡ Some d → d.rank ≡ r → number_of plan.difs i ≡ n → 1 ≤ r → (j : ℕ) (o : Option DifPlan) → slice_get plan.difs j ≡ o
+links_count : (plan : Plan) (r i n node : ℕ) (d : DifPlan) → IsPlan plan → slice_get plan.difs i ≡ Some d → d.rank ≡ r → number_in_rank plan.difs i ≡ n → 1 ≤ r → (j : ℕ) (o : Option DifPlan) → slice_get plan.difs j ≡ o
     → count_by (ends_there n node) (cond (rank_in o == r + 1) (links_in plan o) []) ≤ count_by (ends_on i node) (its_links o)
 links_count plan r i n node d p at rank number least j None here = none_or (ends_there n node) (0 == r + 1) [] 0 (λ h. omega arith)
 links_count plan r i n node d p at rank number least j (Some e) here = none_or (ends_there n node) (e.rank == r + 1) (map (link_fixed plan e) e.links) (count_by (ends_on i node) e.links) (λ h.
@@ -159,7 +160,7 @@ links_count plan r i n node d p at rank number least j (Some e) here = none_or (
     let f = link_facts plan p j e here k l link in
     counts_on plan r i n node l.a l.b d e l.on at rank number least (same e.rank (r + 1) h) f.rank g))
 
-all_links_count : (plan : Plan) (r i n node : ℕ) (d : DifPlan) → IsPlan plan → slice_get plan.difs i ≡ Some d → d.rank ≡ r → number_of plan.difs i ≡ n → 1 ≤ r
+all_links_count : (plan : Plan) (r i n node : ℕ) (d : DifPlan) → IsPlan plan → slice_get plan.difs i ≡ Some d → d.rank ≡ r → number_in_rank plan.difs i ≡ n → 1 ≤ r
     → count_by (ends_there n node) (links_at plan (r + 1)) ≤ count_by (ends_on i node) (all_links plan.difs)
 all_links_count plan r i n node d p at rank number least =
     let g : ℕ → List Fixed = λ j. cond (rank_of plan.difs (Dif j) == r + 1) (links_of plan j) [] in
@@ -171,18 +172,18 @@ all_links_count plan r i n node d p at rank number least =
     let whole : count_by (ends_on i node) (flat_map (λ (e : DifPlan). e.links) plan.difs) ≡ sum_by (λ (e : DifPlan). count_by (ends_on i node) e.links) plan.difs = count_flat (ends_on i node) (λ (e : DifPlan). e.links) plan.difs in
     omega (arith, split, each, over, whole)
 
-not_here : (plan : Plan) (r i n node : ℕ) (d : DifPlan) → slice_get plan.difs i ≡ Some d → d.rank ≡ r → number_of plan.difs i ≡ n → (j : ℕ) (o : Option DifPlan) → slice_get plan.difs j ≡ o → j ≢ i
+not_here : (plan : Plan) (r i n node : ℕ) (d : DifPlan) → slice_get plan.difs i ≡ Some d → d.rank ≡ r → number_in_rank plan.difs i ≡ n → (j : ℕ) (o : Option DifPlan) → slice_get plan.difs j ≡ o → j ≢ i
     → count_by (ends_there n node) (cond (rank_in o == r) (flows_in plan j o) []) ≤ 0
 not_here plan r i n node d at rank number j None here apart = none_or (ends_there n node) (0 == r) [] 0 (λ h. omega arith)
 not_here plan r i n node d at rank number j (Some e) here apart = none_or (ends_there n node) (e.rank == r) (map (flow_fixed plan j) e.flows) 0 (λ h.
-    let other : (number_of plan.difs j == n) ≡ false = elim (eqb_tells (number_of plan.difs j) n) [
+    let other : (number_in_rank plan.difs j == n) ≡ false = elim (eqb_tells (number_in_rank plan.difs j) n) [
       | inl t ↦ absurd (apart (one_place plan.difs r i j d e at here rank (same e.rank r h) (t.1 ∙ sym number)))
       | inr u ↦ u.0
     ] in
     let none : count_by (ends_there n node) (map (flow_fixed plan j) e.flows) ≡ 0 = count_none (ends_there n node) (flow_fixed plan j) e.flows (λ f. rw other refl) in
     omega (arith, none))
 
-flows_count : (plan : Plan) (r i n node : ℕ) (d : DifPlan) → slice_get plan.difs i ≡ Some d → d.rank ≡ r → number_of plan.difs i ≡ n
+flows_count : (plan : Plan) (r i n node : ℕ) (d : DifPlan) → slice_get plan.difs i ≡ Some d → d.rank ≡ r → number_in_rank plan.difs i ≡ n
     → count_by (ends_there n node) (flows_at plan r) ≤ count_by (has_flow_end node) d.flows
 flows_count plan r i n node d at rank number =
     let g : ℕ → List Fixed = λ j. cond (rank_of plan.difs (Dif j) == r) (flows_of plan j) [] in
@@ -190,7 +191,7 @@ flows_count plan r i n node d at rank number =
     let split : count_by (ends_there n node) (flat_map g places) ≡ sum_by (λ j. count_by (ends_there n node) (g j)) places = count_flat (ends_there n node) g places in
     let one : sum_by (λ j. count_by (ends_there n node) (g j)) places ≤ count_by (ends_there n node) (g i) = sum_only (λ j. count_by (ends_there n node) (g j)) i 0 (length plan.difs) (λ j apart. let h : count_by (ends_there n node) (g j) ≤ 0 = not_here plan r i n node d at rank number j (slice_get plan.difs j) refl apart in omega (arith, h)) in
     let here : count_by (ends_there n node) (cond (d.rank == r) (flows_in plan i (Some d)) []) ≤ count_by (has_flow_end node) d.flows = none_or (ends_there n node) (d.rank == r) (map (flow_fixed plan i) d.flows) (count_by (has_flow_end node) d.flows) (λ h.
-    count_map (ends_there n node) (has_flow_end node) (flow_fixed plan i) d.flows (λ k f flow e. (and_parts (number_of plan.difs i == n) ((f.from.node == node) || (f.to.node == node)) e).1)) in
+    count_map (ends_there n node) (has_flow_end node) (flow_fixed plan i) d.flows (λ k f flow e. (and_parts (number_in_rank plan.difs i == n) ((f.from.node == node) || (f.to.node == node)) e).1)) in
     let its : g i ≡ cond (d.rank == r) (flows_in plan i (Some d)) [] = ap (λ (o : Option DifPlan). cond (rank_in o == r) (flows_in plan i o) []) at in
     let its_count = ap (count_by (ends_there n node)) its in
     omega (arith, split, one, here, its_count)
@@ -224,7 +225,7 @@ most_is w h = grind arith
 roomy_at : (plan : Plan) → IsPlan plan → (i : ℕ) (d : DifPlan) → slice_get plan.difs i ≡ Some d → IsRoomy (all_links plan.difs) i d
 roomy_at plan p i d at = subst (IsRoomy (all_links plan.difs) i) (get_or_from_slice_get plan.difs i d d at) (p.counts i d (slice_get_within plan.difs i d at))
 
-room_at : (plan : Plan) (r : ℕ) (s : Seen) → IsPlan plan → IsFreshRank plan r s → (n node : ℕ) (i : ℕ) (d : DifPlan) → slice_get plan.difs i ≡ Some d → d.rank ≡ r → number_of plan.difs i ≡ n
+room_at : (plan : Plan) (r : ℕ) (s : Seen) → IsPlan plan → IsFreshRank plan r s → (n node : ℕ) (i : ℕ) (d : DifPlan) → slice_get plan.difs i ≡ Some d → d.rank ≡ r → number_in_rank plan.difs i ≡ n
     → count_by (ends_there n node) (links_at plan (r + 1) ++ flows_at plan r) ≤ 2 ^ (8 * d.widths.cep) - 1
 room_at plan r s p fresh n node i d at rank number = elim (has_node node d) as (λ b. has_node node d ≡ b → count_by (ends_there n node) (links_at plan (r + 1) ++ flows_at plan r) ≤ 2 ^ (8 * d.widths.cep) - 1) [
   | false ↦ λ h.

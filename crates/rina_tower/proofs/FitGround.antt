@@ -14,6 +14,7 @@ use Rattle.rina_plan.specs.declared.dif.DifPlan.{DifPlan}
 use Rattle.rina_plan.specs.declared.dif.MemberPlan.{MemberPlan}
 use Rattle.rina_plan.specs.declared.dif.Lower.TheVariants.{Dif as IsDif}
 use Rattle.rina_plan.specs.Links.{rank_in, rank_of}
+use Rattle.rina_plan.specs.Numbers.{number_in_rank}
 use Rattle.rina_stack.specs.declared.plan.Plan.{Plan}
 use Rattle.rina_stack.specs.declared.plan.WirePlan.{WirePlan}
 use Rattle.rina_stack.specs.Ranges.{IsRangedDif}
@@ -25,7 +26,7 @@ use Rattle.rina_data.specs.Configs.{Member, config_of, member_of as data_member}
 use Rattle.rina_dif_law.specs.Dif.{offer_of}
 use Rattle.rina_dif.specs.declared.dif.Dif.{Dif}
 use Rattle.rina_dif.specs.Laying.{CanBindAll}
-use Rattle.rina_dif.specs.Planned.{flows_in, flows_of, members_from, number_of, processes_before}
+use Rattle.rina_dif.specs.Planned.{flows_in, flows_of, members_from, processes_before}
 use Rattle.rina_wire.specs.Air.{seen_of as seen_of_wires}
 use Rattle.rina_wire.specs.Plan.{air_of}
 use Rattle.rina_tower.specs.Built.{AreMade, has_rank, places_in}
@@ -86,7 +87,7 @@ place_there plan r (suc m) i within before own =
     subst (λ (q : ℕ). slice_get (places_in plan r q) n ≡ Some i) next (ap (λ (xs : List ℕ). slice_get xs n) (places_more plan r m) ∙ goal)
 
 -- the number of a DIF of the rank
-number_is : (plan : Plan) (r i : ℕ) → has_rank plan r i ≡ true → number_of plan.difs i ≡ count_by (ranked r) (take i plan.difs)
+number_is : (plan : Plan) (r i : ℕ) → has_rank plan r i ≡ true → number_in_rank plan.difs i ≡ count_by (ranked r) (take i plan.difs)
 number_is plan r i own = let rank : rank_of plan.difs (IsDif i) ≡ r = same (rank_of plan.difs (IsDif i)) r own in ap (λ (m : ℕ). count_by (λ (z : DifPlan). z.rank == m) (take i plan.difs)) rank
   where
     same : (m n : ℕ) → (m == n) ≡ true → m ≡ n

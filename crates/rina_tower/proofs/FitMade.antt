@@ -18,6 +18,7 @@ use Rattle.rina_plan.specs.declared.dif.DifPlan.{DifPlan}
 use Rattle.rina_plan.specs.declared.dif.LinkPlan.{LinkPlan}
 use Rattle.rina_plan.specs.declared.dif.Lower.TheVariants.{Dif as IsDif}
 use Rattle.rina_plan.specs.Links.{rank_in, rank_of}
+use Rattle.rina_plan.specs.Numbers.{number_in_rank}
 use Rattle.rina_stack.specs.declared.plan.Plan.{Plan}
 use Rattle.rina_dif_law.specs.Cloud.{IsMine}
 use Rattle.rina_data.specs.declared.settings.Settings.{Settings}
@@ -27,7 +28,7 @@ use Rattle.rina_data.proofs.Finding.{there}
 use Rattle.rina_dif.specs.declared.dif.Dif.{Dif}
 use Rattle.rina_dif.specs.Holding.{Stands}
 use Rattle.rina_dif.specs.Laying.{CanBindAll, CanLay, IsLaid, IsNew, Lays, Takes}
-use Rattle.rina_dif.specs.Planned.{link_fixed, links_in, links_of, number_of, settings_by, settings_in, settings_of}
+use Rattle.rina_dif.specs.Planned.{link_fixed, links_in, links_of, settings_by, settings_in, settings_of}
 use Rattle.rina_dif.specs.Shown.{seen_of as seen_of_dif}
 use Rattle.rina_tower.specs.Bystanders.{IsIpc}
 use Rattle.rina_tower.specs.Built.{AreMade, has_rank, places_in}
@@ -273,9 +274,9 @@ laid_on plan k at ground difs s s' d named within own kept kept' h lays stands n
           | inl old ↦ h.standing.number n x old
           | inr last ↦
               let e = in_last d last.place x last.stands in
-              let fac : (config_of d.settings).fac ≡ number_of plan.difs at = ap (λ (t : Settings). t.fac) p.is in
+              let fac : (config_of d.settings).fac ≡ number_in_rank plan.difs at = ap (λ (t : Settings). t.fac) p.is in
               let rank : rank_of plan.difs (IsDif at) ≡ k + 1 = ap rank_in p.at ∙ rank_is plan (k + 1) at p.dif p.at own in
-              let count : number_of plan.difs at ≡ count_by (λ (z : DifPlan). z.rank == k + 1) (take at plan.difs) = ap (λ (m : ℕ). count_by (λ (z : DifPlan). z.rank == m) (take at plan.difs)) rank in
+              let count : number_in_rank plan.difs at ≡ count_by (λ (z : DifPlan). z.rank == k + 1) (take at plan.difs) = ap (λ (m : ℕ). count_by (λ (z : DifPlan). z.rank == m) (take at plan.difs)) rank in
               let places_are = places_count plan (k + 1) at (omega (arith, within)) in
               subst (λ (y : Dif). (config_of y.settings).fac ≡ n) e.0 (let sum = last.sum in let zero_is = e.1 in fac ∙ omega (arith, count, places_are, long, sum, zero_is))
         ];

@@ -15,6 +15,7 @@ use Rattle.rina_plan.specs.declared.dif.Lower.TheVariants.{Wire, Dif}
 use Rattle.rina_plan.specs.declared.dif.WireEnds.{WireEnds}
 use Rattle.rina_plan.specs.Difs.{has_twice, lacks_cubes}
 use Rattle.rina_plan.specs.Links.{carries, has_end, is_there, rank_of, wire_carries}
+use Rattle.rina_plan.specs.Numbers.{facility_number}
 use Rattle.rina_stack.specs.declared.plan.Plan.{Plan}
 use Rattle.rina_stack.specs.declared.plan.WirePlan.{WirePlan}
 use Rattle.rina_stack.specs.Plan.{IsPlan, wire_ends}
@@ -22,7 +23,6 @@ use Rattle.rina_wire.specs.Air.{offer_of as wire_offer, seen_of}
 use Rattle.rina_wire.specs.Plan.{air_of, line_of}
 use Rattle.rina_tower.specs.Rooms.{OffersStay}
 use Rattle.rina_tower.specs.Fits.{DifsTake, IsFreshRank, WiresTake, fresh_dif}
-use Rattle.rina_dif.specs.Planned.{lower_fac}
 use Rattle.rina_tower.proofs.FitFacts.{any_map, any_weaker, link_facts}
 use Rattle.rina_tower.proofs.FitDifs.{below_in}
 use Rattle.rina_tower.proofs.FitWires.{fresh_wire, its_wire, low_dif, shows_wire}
@@ -71,12 +71,12 @@ once_in d h = (or_parts (length d.cubes == 0) (has_twice (map (λ (c : Cube). c.
 
 difs_take_on : (plan : Plan) (r : ℕ) (d : DifPlan) (fresh s : Seen) (l : LinkPlan) (on : Lower) → IsPlan plan → IsFreshRank plan r fresh → d.rank ≡ r + 1 → OffersStay fresh s
     → rank_of plan.difs on + 1 ≡ d.rank → carries (map wire_ends plan.wires) plan.difs d.pdu l.cube on ≡ true
-    → (f : Fac) (o : Offer) → slice_get s.facs (lower_fac plan.difs on) ≡ Some f → cube_in f.cubes l.cube ≡ Some o → d.pdu ≤ o.largest
+    → (f : Fac) (o : Offer) → slice_get s.facs (facility_number plan.difs on) ≡ Some f → cube_in f.cubes l.cube ≡ Some o → d.pdu ≤ o.largest
 difs_take_on plan r d fresh s l (Wire w) p rank up stay above carried f o at cube = absurd (let least = rank.least in omega (arith, up, above, least))
 difs_take_on plan r d fresh s l (Dif k) p rank up stay above carried f o at cube =
     let e = below_in plan.difs k r (slice_get plan.difs k) refl (above ∙ up) rank.least in
     let all : list_any (λ (c : Cube). (c.id == l.cube) && nat_le d.pdu c.largest) e.dif.cubes ≡ true = rw e.at at carried in
-    let was = stay (lower_fac plan.difs (Dif k)) f at in
+    let was = stay (facility_number plan.difs (Dif k)) f at in
     let is : was.0 ≡ fresh_dif e.dif = same_Some was.0 (fresh_dif e.dif) (sym was.1 ∙ rank.each k e.dif e.at e.rank) in
     let cubes : f.cubes ≡ map offer_of e.dif.cubes = was.2 ∙ ap (λ (g : Fac). g.cubes) is in
     found_takes d.pdu l.cube e.dif.cubes o (once_in e.dif (all_at (λ (g : DifPlan). lacks_cubes g ≡ false) plan.difs k e.dif p.cubes e.at)) all (subst (λ (cs : List Offer). cube_in cs l.cube ≡ Some o) cubes cube)
@@ -91,7 +91,7 @@ wire_found w cube o h at = let at' : Some (wire_offer (line_of w)) ≡ Some o = 
 
 wires_take_on : (plan : Plan) (d : DifPlan) (s : Seen) (l : LinkPlan) (on : Lower) → IsPlan plan → OffersStay (seen_of (air_of plan)) s
     → rank_of plan.difs on + 1 ≡ 1 → is_there (map wire_ends plan.wires) plan.difs l.a on ≡ true → carries (map wire_ends plan.wires) plan.difs d.pdu l.cube on ≡ true
-    → (f : Fac) (o : Offer) → slice_get s.facs (lower_fac plan.difs on) ≡ Some f → cube_in f.cubes l.cube ≡ Some o → d.pdu ≤ o.largest
+    → (f : Fac) (o : Offer) → slice_get s.facs (facility_number plan.difs on) ≡ Some f → cube_in f.cubes l.cube ≡ Some o → d.pdu ≤ o.largest
 wires_take_on plan d s l (Dif k) p stay rank there carried f o at cube = absurd (low_dif plan p k l.a (slice_get plan.difs k) refl rank there)
 wires_take_on plan d s l (Wire n) p stay rank there carried f o at cube =
     let ends_at : slice_get (map wire_ends plan.wires) n ≡ option_map wire_ends (slice_get plan.wires n) = slice_get-map wire_ends plan.wires n in

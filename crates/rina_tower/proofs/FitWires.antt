@@ -17,6 +17,7 @@ use Rattle.rina_plan.specs.declared.dif.Lower.TheVariants.{Wire, Dif}
 use Rattle.rina_plan.specs.declared.dif.WireEnds.{WireEnds}
 use Rattle.rina_plan.specs.Counts.{is_on_wire, links_of as all_links, load_of}
 use Rattle.rina_plan.specs.Links.{carries, has_end, has_member, is_there, rank_in, rank_of, wire_carries}
+use Rattle.rina_plan.specs.Numbers.{facility_number}
 use Rattle.rina_stack.specs.declared.plan.Plan.{Plan}
 use Rattle.rina_stack.specs.declared.plan.WirePlan.{WirePlan}
 use Rattle.rina_stack.specs.Ranges.{IsRangedDif}
@@ -25,7 +26,7 @@ use Rattle.rina_wire.specs.Air.{fac_of, offer_of, seen_of}
 use Rattle.rina_wire.specs.Plan.{air_of, line_of}
 use Rattle.rina_tower.specs.Rooms.{ArePlaced, HasRoom, IsPlaced, ends_there}
 use Rattle.rina_tower.specs.Fits.{WiresFit, links_at}
-use Rattle.rina_dif.specs.Planned.{ipc_name, link_fixed, links_in, links_of, lower_fac}
+use Rattle.rina_dif.specs.Planned.{ipc_name, link_fixed, links_in, links_of}
 use Rattle.rina_tower.proofs.FitRooms.{binds_fit}
 use Rattle.rina_tower.proofs.FitCounts.{count_flat, count_map, over_places}
 use Rattle.rina_tower.proofs.FitFacts.{link_facts}
@@ -67,7 +68,7 @@ low_dif plan p k node (Some d) at rank h = let least = (all_at (IsRangedDif (len
 
 placed_on : (plan : Plan) (d : DifPlan) (l : LinkPlan) (on : Lower) → IsPlan plan → rank_of plan.difs on + 1 ≡ 1 → l.a ≢ l.b
     → is_there (map wire_ends plan.wires) plan.difs l.a on ≡ true → is_there (map wire_ends plan.wires) plan.difs l.b on ≡ true → carries (map wire_ends plan.wires) plan.difs d.pdu l.cube on ≡ true
-    → IsPlaced (seen_of (air_of plan)) (record { fac = lower_fac plan.difs on; cube = l.cube; a = l.a; a_app = ipc_name plan d l.a; b = l.b; b_app = ipc_name plan d l.b })
+    → IsPlaced (seen_of (air_of plan)) (record { fac = facility_number plan.difs on; cube = l.cube; a = l.a; a_app = ipc_name plan d l.a; b = l.b; b_app = ipc_name plan d l.b })
 placed_on plan d l (Dif k) p rank apart a b carried = absurd (low_dif plan p k l.a (slice_get plan.difs k) refl rank a)
 placed_on plan d l (Wire n) p rank apart a b carried =
     let ends_at : slice_get (map wire_ends plan.wires) n ≡ option_map wire_ends (slice_get plan.wires n) = slice_get-map wire_ends plan.wires n in
@@ -99,7 +100,7 @@ all_placed plan p = placed_flat (seen_of (air_of plan)) (λ i. cond (rank_of pla
 
 -- How many links there are on a wire
 
-counts_on : (plan : Plan) → IsPlan plan → (n node a b : ℕ) (on : Lower) → rank_of plan.difs on + 1 ≡ 1 → is_there (map wire_ends plan.wires) plan.difs a on ≡ true → ((lower_fac plan.difs on == n) && ((a == node) || (b == node))) ≡ true → is_on_wire n on ≡ true
+counts_on : (plan : Plan) → IsPlan plan → (n node a b : ℕ) (on : Lower) → rank_of plan.difs on + 1 ≡ 1 → is_there (map wire_ends plan.wires) plan.difs a on ≡ true → ((facility_number plan.difs on == n) && ((a == node) || (b == node))) ≡ true → is_on_wire n on ≡ true
 counts_on plan p n node a b (Dif k) rank there h = absurd (low_dif plan p k a (slice_get plan.difs k) refl rank there)
 counts_on plan p n node a b (Wire w) rank there h = (and_parts (w == n) ((a == node) || (b == node)) h).0
 

@@ -16,11 +16,12 @@ use Rattle.rina_iface.specs.Seen.{Fac, Seen}
 use Rattle.rina_iface.proofs.Changed.{all_at, slice_get-set_other, slice_get-set_same}
 use Rattle.rina_plan.specs.declared.dif.DifPlan.{DifPlan}
 use Rattle.rina_plan.specs.declared.dif.FlowPlan.{FlowPlan}
+use Rattle.rina_plan.specs.Numbers.{number_in_rank}
 use Rattle.rina_stack.specs.declared.plan.Plan.{Plan}
 use Rattle.rina_stack.specs.Ranges.{IsRangedDif}
 use Rattle.rina_stack.specs.Plan.{IsPlan}
 use Rattle.rina_dif.specs.Laying.{BindsAll}
-use Rattle.rina_dif.specs.Planned.{flow_fixed, number_of}
+use Rattle.rina_dif.specs.Planned.{flow_fixed}
 use Rattle.rina_tower.specs.declared.tower.Tower.{Tower, Wires, Rank'}
 use Rattle.rina_tower.specs.Built.{AreMade, IsBuilt, IsBuiltFrom, IsUsed, places_in}
 use Rattle.rina_tower.specs.Fits.{IsFreshRank, fresh_dif}
@@ -173,7 +174,7 @@ built_at plan (Rank' p difs below) fresh r b least most = elim (eqb_tells r (hei
       }
 ]
 
-is_flow : (plan : Plan) (i k : ℕ) (d : DifPlan) (f : FlowPlan) (s : Seen) (place : ℕ) → IsPlan plan → slice_get plan.difs i ≡ Some d → slice_get d.flows k ≡ Some f → (h : HasEnds s (flow_fixed plan i f) place) → HasFlow (number_of plan.difs i) f h.facility.ends place
+is_flow : (plan : Plan) (i k : ℕ) (d : DifPlan) (f : FlowPlan) (s : Seen) (place : ℕ) → IsPlan plan → slice_get plan.difs i ≡ Some d → slice_get d.flows k ≡ Some f → (h : HasEnds s (flow_fixed plan i f) place) → HasFlow (number_in_rank plan.difs i) f h.facility.ends place
 is_flow plan i k d f s place p at flow h =
     let names = flow_names plan i k d f p at flow in
     record {
@@ -188,7 +189,7 @@ is_flow plan i k d f s place p at flow h =
 -- the ends of each flow of the stack stand in the tower, in stack order, behind the links on its DIF
 pub opened : (plan : Plan) (t : Tower) → IsPlan plan → IsBuilt plan t → IsHighest plan.difs (height_of t) → (i k : ℕ) (d : DifPlan) (f : FlowPlan) → slice_get plan.difs i ≡ Some d → slice_get d.flows k ≡ Some f → IsOpenAt plan t i k d f
 opened plan t p built high i k d f at flow =
-    let n : ℕ = number_of plan.difs i in
+    let n : ℕ = number_in_rank plan.difs i in
     let least = (all_at (IsRangedDif (length plan.nodes) (length plan.wires) (length plan.difs)) plan.difs i d p.difs at).least_rank in
     let b = built_at plan t built.0 d.rank built.1 least (high.most i d at) in
     let a = among plan i k d f at flow in

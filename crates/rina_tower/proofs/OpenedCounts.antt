@@ -11,8 +11,9 @@ use Rattle.rina_plan.specs.declared.dif.DifPlan.{DifPlan}
 use Rattle.rina_plan.specs.declared.dif.FlowPlan.{FlowPlan}
 use Rattle.rina_plan.specs.declared.dif.Lower.TheVariants.{Dif}
 use Rattle.rina_plan.specs.Links.{rank_in, rank_of}
+use Rattle.rina_plan.specs.Numbers.{number_in_rank}
 use Rattle.rina_stack.specs.declared.plan.Plan.{Plan}
-use Rattle.rina_dif.specs.Planned.{flow_fixed, flows_in, flows_of, number_of}
+use Rattle.rina_dif.specs.Planned.{flow_fixed, flows_in, flows_of}
 use Rattle.rina_tower.specs.Fits.{flows_at, links_at}
 use Rattle.rina_tower.specs.Flows.{links_on}
 use Rattle.rina_tower.proofs.FitCounts.{count_append, count_cons, count_grows, count_none, one_if}
@@ -76,11 +77,11 @@ differs : (m n : ℕ) → m < n → (m == n) ≡ false
 differs m n h = grind (arith, nat_tests)
 
 -- the number of a DIF of this rank
-numbered : (difs : List DifPlan) (i r : ℕ) (d : DifPlan) → slice_get difs i ≡ Some d → d.rank ≡ r → number_of difs i ≡ count_by (λ (z : DifPlan). z.rank == r) (take i difs)
+numbered : (difs : List DifPlan) (i r : ℕ) (d : DifPlan) → slice_get difs i ≡ Some d → d.rank ≡ r → number_in_rank difs i ≡ count_by (λ (z : DifPlan). z.rank == r) (take i difs)
 numbered difs i r d at is = let rank : rank_of difs (Dif i) ≡ r = ap rank_in at ∙ is in ap (λ (m : ℕ). count_by (λ (z : DifPlan). z.rank == m) (take i difs)) rank
 
 -- a DIF of the same rank that stands before it has a smaller one
-less : (difs : List DifPlan) (i j : ℕ) (d e : DifPlan) → slice_get difs i ≡ Some d → slice_get difs j ≡ Some e → e.rank ≡ d.rank → j < i → number_of difs j < number_of difs i
+less : (difs : List DifPlan) (i j : ℕ) (d e : DifPlan) → slice_get difs i ≡ Some d → slice_get difs j ≡ Some e → e.rank ≡ d.rank → j < i → number_in_rank difs j < number_in_rank difs i
 less difs i j d e at here rank before =
     let a = numbered difs i d.rank d at refl in
     let b = numbered difs j d.rank e here rank in
@@ -88,16 +89,16 @@ less difs i j d e at here rank before =
     omega (arith, a, b, up)
 
 -- no flow of a DIF before the i-th is on the i-th
-none_there : (plan : Plan) (i j : ℕ) (d : DifPlan) → slice_get plan.difs i ≡ Some d → j < i → (o : Option DifPlan) → slice_get plan.difs j ≡ o → count_by (is_on (number_of plan.difs i)) (cond (rank_in o == d.rank) (flows_in plan j o) []) ≡ 0
-none_there plan i j d at before None here = elim (0 == d.rank) as (λ b. count_by (is_on (number_of plan.difs i)) (cond b [] []) ≡ 0) [
+none_there : (plan : Plan) (i j : ℕ) (d : DifPlan) → slice_get plan.difs i ≡ Some d → j < i → (o : Option DifPlan) → slice_get plan.difs j ≡ o → count_by (is_on (number_in_rank plan.difs i)) (cond (rank_in o == d.rank) (flows_in plan j o) []) ≡ 0
+none_there plan i j d at before None here = elim (0 == d.rank) as (λ b. count_by (is_on (number_in_rank plan.difs i)) (cond b [] []) ≡ 0) [
   | true ↦ refl
   | false ↦ refl
 ]
-none_there plan i j d at before (Some e) here = elim (e.rank == d.rank) as (λ b. (e.rank == d.rank) ≡ b → count_by (is_on (number_of plan.difs i)) (cond b (map (flow_fixed plan j) e.flows) []) ≡ 0) [
+none_there plan i j d at before (Some e) here = elim (e.rank == d.rank) as (λ b. (e.rank == d.rank) ≡ b → count_by (is_on (number_in_rank plan.difs i)) (cond b (map (flow_fixed plan j) e.flows) []) ≡ 0) [
   | false ↦ λ h. refl
   | true ↦ λ h.
-      let other : (number_of plan.difs j == number_of plan.difs i) ≡ false = differs (number_of plan.difs j) (number_of plan.difs i) (less plan.difs i j d e at here (same e.rank d.rank h) before) in
-      count_none (is_on (number_of plan.difs i)) (flow_fixed plan j) e.flows (λ f. other)
+      let other : (number_in_rank plan.difs j == number_in_rank plan.difs i) ≡ false = differs (number_in_rank plan.difs j) (number_in_rank plan.difs i) (less plan.difs i j d e at here (same e.rank d.rank h) before) in
+      count_none (is_on (number_in_rank plan.difs i)) (flow_fixed plan j) e.flows (λ f. other)
 ] refl
 
 -- The flow
@@ -107,7 +108,7 @@ pub record IsAmong (plan : Plan) (i k : ℕ) (d : DifPlan) (f : FlowPlan) : Type
   pub front : List Fixed
   pub back : List Fixed
   pub is : links_at plan (d.rank + 1) ++ flows_at plan d.rank ≡ front ++ flow_fixed plan i f ∷ back
-  pub count : count_by (is_on (number_of plan.difs i)) front ≡ links_on plan i d + k
+  pub count : count_by (is_on (number_in_rank plan.difs i)) front ≡ links_on plan i d + k
 
 abbrev there : Plan → ℕ → ℕ → List Fixed
 there plan r j = cond (rank_of plan.difs (Dif j) == r) (flows_of plan j) []
@@ -122,7 +123,7 @@ shifted ls ms bs x cs ds =
 
 pub among : (plan : Plan) (i k : ℕ) (d : DifPlan) (f : FlowPlan) → slice_get plan.difs i ≡ Some d → slice_get d.flows k ≡ Some f → IsAmong plan i k d f
 among plan i k d f at flow =
-    let n : ℕ = number_of plan.difs i in
+    let n : ℕ = number_in_rank plan.difs i in
     let g : ℕ → List Fixed = there plan d.rank in
     let fixed : FlowPlan → Fixed = flow_fixed plan i in
     let links : List Fixed = links_at plan (d.rank + 1) in

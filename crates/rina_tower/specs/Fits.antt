@@ -8,6 +8,7 @@ use Rattle.rina_plan.specs.declared.dif.LinkPlan.{LinkPlan}
 use Rattle.rina_plan.specs.declared.dif.Lower.TheVariants.{Dif}
 use Rattle.rina_plan.specs.declared.dif.MemberPlan.{MemberPlan}
 use Rattle.rina_plan.specs.Links.{rank_of}
+use Rattle.rina_plan.specs.Numbers.{number_in_rank}
 use Rattle.rina_dif_law.specs.Dif.{offer_of}
 use Rattle.rina_stack.specs.declared.plan.Plan.{Plan}
 use Rattle.rina_stack.specs.Plan.{IsPlan}
@@ -15,7 +16,7 @@ use Rattle.rina_wire.specs.Air.{seen_of}
 use Rattle.rina_wire.specs.Plan.{air_of}
 use Rattle.rina_dif.specs.Laying.{CanBindAll, Takes}
 use Rattle.rina_tower.specs.Rooms.{OffersStay}
-use Rattle.rina_dif.specs.Planned.{flows_of, link_fixed, links_of, number_of}
+use Rattle.rina_dif.specs.Planned.{flows_of, link_fixed, links_of}
 
 -- the links of the DIFs of a rank, in stack order
 abbrev pub links_at : Plan → ℕ → List Fixed
@@ -42,14 +43,14 @@ pub record IsDifAt (plan : Plan) (r n : ℕ) (f : Fac) : Type 0 where
   pub dif : DifPlan
   pub stands : slice_get plan.difs place ≡ Some dif
   pub rank : dif.rank ≡ r
-  pub number : number_of plan.difs place ≡ n
+  pub number : number_in_rank plan.difs place ≡ n
   pub is : f ≡ fresh_dif dif
 
 -- a rank shows the DIFs of the plan, and nobody has used them yet
 pub record IsFreshRank (plan : Plan) (r : ℕ) (s : Seen) : Type 0 where
   pub start : s.now ≡ 0
   pub least : 1 ≤ r
-  pub each : (i : ℕ) (d : DifPlan) → slice_get plan.difs i ≡ Some d → d.rank ≡ r → slice_get s.facs (number_of plan.difs i) ≡ Some (fresh_dif d)
+  pub each : (i : ℕ) (d : DifPlan) → slice_get plan.difs i ≡ Some d → d.rank ≡ r → slice_get s.facs (number_in_rank plan.difs i) ≡ Some (fresh_dif d)
   pub only : (n : ℕ) (f : Fac) → slice_get s.facs n ≡ Some f → IsDifAt plan r n f
 
 -- the links of the lowest DIFs can be bound on the wires

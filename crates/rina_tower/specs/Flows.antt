@@ -7,8 +7,8 @@ use Rattle.rina_iface.specs.Seen.{Fac}
 use Rattle.rina_plan.specs.declared.dif.DifPlan.{DifPlan}
 use Rattle.rina_plan.specs.declared.dif.EndPlan.{EndPlan}
 use Rattle.rina_plan.specs.declared.dif.FlowPlan.{FlowPlan}
+use Rattle.rina_plan.specs.Numbers.{number_in_rank}
 use Rattle.rina_stack.specs.declared.plan.Plan.{Plan}
-use Rattle.rina_dif.specs.Planned.{number_of}
 use Rattle.rina_tower.specs.declared.tower.Tower.{Tower}
 use Rattle.rina_tower.specs.Bystanders.{IsIpc}
 use Rattle.rina_tower.specs.Fits.{links_at}
@@ -16,7 +16,7 @@ use Rattle.rina_tower.specs.Ranks.{rank_of, seen_of}
 
 -- how many links the DIFs above have on the i-th DIF of the stack, which is this one
 abbrev pub links_on : Plan → ℕ → DifPlan → ℕ
-links_on plan i d = count_by (λ (f : Fixed). f.fac == number_of plan.difs i) (links_at plan (d.rank + 1))
+links_on plan i d = count_by (λ (f : Fixed). f.fac == number_in_rank plan.difs i) (links_at plan (d.rank + 1))
 
 -- an end of a flow of the stack on facility n, as it was bound: allocated, and nothing was sent or got; its application is no IPC process
 pub record IsOpened (n : ℕ) (side other : EndPlan) (e : End) : Type 0 where
@@ -44,5 +44,5 @@ pub record IsOpenAt (plan : Plan) (t : Tower) (i k : ℕ) (d : DifPlan) (f : Flo
   pub tower : Tower
   pub is_rank : rank_of t d.rank ≡ Some tower
   pub facility : Fac
-  pub stands : slice_get (seen_of tower).facs (number_of plan.difs i) ≡ Some facility
-  pub flow : HasFlow (number_of plan.difs i) f facility.ends (2 * (links_on plan i d + k))
+  pub stands : slice_get (seen_of tower).facs (number_in_rank plan.difs i) ≡ Some facility
+  pub flow : HasFlow (number_in_rank plan.difs i) f facility.ends (2 * (links_on plan i d + k))

@@ -1,11 +1,10 @@
 //! A tower is built of a plan: rank by rank, and on each rank links before flows.
-ghost use Rattle.std.specs.Prelude.{◌≡◌, false, ◌≤◌, ◌<◌, ◌==◌, ◌+◌, IfOk, OnOk, count_by, length, map, slice_get, Some, [], ◌∷◌};
+ghost use Rattle.std.specs.Prelude.{◌≡◌, false, ◌<◌, ◌+◌, IfOk, OnOk, length, map, slice_get, Some, [], ◌∷◌};
 ghost use Rattle.rina_iface.specs.Bind.{CanBind};
-ghost use Rattle.rina_plan.specs.declared.dif.DifPlan.{DifPlan};
 ghost use Rattle.rina_stack.specs.Ranges.{HasNames};
 ghost use Rattle.rina_stack.specs.Plan.{IsPlan};
 ghost use Rattle.rina_dif.specs.Laying.{CanBindAll};
-ghost use Rattle.rina_dif.specs.Planned.{flow_fixed, number_of};
+ghost use Rattle.rina_dif.specs.Planned.{flow_fixed};
 ghost use Rattle.rina_tower.specs.Built.{IsBuilt};
 ghost use Rattle.rina_tower.specs.MemoryFailure.{has_failed};
 ghost use Rattle.rina_tower.specs.Fits.{flows_at};
@@ -20,7 +19,7 @@ use crate::tower::{Rank, Tower};
 use rina_base::{AppName, Memory, Name};
 use rina_dif::Dif;
 use rina_iface::{Facility, Fixed};
-use rina_plan::{DifPlan, FlowPlan};
+use rina_plan::{DifPlan, FlowPlan, number_in_rank};
 use rina_stack::Plan;
 use rina_wire::Wires;
 use std::alloc::Global;
@@ -48,24 +47,6 @@ fn app_of(alloc: Global, name: &Name) -> Result<AppName, Memory>
     }
 }
 
-/// How many DIFs have a rank.
-fn count_of(difs: &[DifPlan], rank: u8) -> usize
-    ensures count { result ≡ count_by (λ (d : DifPlan). d.rank == rank) difs.now }
-    ensures most { result ≤ length difs.now }
-{
-    difs.iter().filter(|dif| dif.rank == rank).count()
-}
-
-/// The number of the DIF at a place among those of its rank.
-fn number_of(difs: &[DifPlan], place: usize) -> u16
-    requires few { length difs.now ≤ 16 }
-    requires place { place < length difs.now }
-    ensures { result ≡ number_of difs.now place }
-{
-    let rank = difs[place].rank;
-    count_of(&difs[..place], rank) as u16
-}
-
 /// A flow of the DIF at a place of the stack, as a fixed flow of that DIF.
 fn flow_fixed(alloc: Global, plan: &Plan, place: usize, flow: &FlowPlan) -> Result<Fixed, Memory>
     requires plan { IsPlan plan.now }
@@ -77,7 +58,7 @@ fn flow_fixed(alloc: Global, plan: &Plan, place: usize, flow: &FlowPlan) -> Resu
     ensures plain { IfOk result IsPlain }
 {
     Ok(Fixed {
-        fac: number_of(plan.difs.as_slice(), place),
+        fac: number_in_rank(plan.difs.as_slice(), place),
         cube: flow.cube,
         a: flow.from.node as u16,
         a_app: app_of(alloc, &flow.from.app)?,
