@@ -33,7 +33,7 @@ TOML = """
 
 `bin/rlemu-explain 'fault NotToml' INPUT` does that and shows the line. What is read is TOML 1.1.0, in UTF-8; tomllib reads TOML 1.0, so it
 refuses a few texts that `rlemu` reads (below), and then names a place that is none. Lines end with a line feed, or a carriage return and a line feed. A
-byte order mark may stand at the very beginning. Brackets and braces may stand 79 deep within one another.
+byte order mark may stand at the very beginning. Brackets and braces may stand 80 deep within one another.
 """
 SCHEDULE = """
 ## The lines of a schedule
