@@ -54,7 +54,7 @@ fn first_double(loads: &[usize]) -> Option<usize>
     loads.iter().position(|load| *load > 1)
 }
 
-/// The first of so many wires that has two links.
+/// The first wire with two links or more, of so many wires (rule 16). Fails where memory runs out.
 #[tactic(auto, unfolding(crate::specs::Counts::first_loaded))]
 pub fn first_loaded(
     alloc: Global,
@@ -165,7 +165,8 @@ fn first_of(links: &[LinkPlan], difs: &[DifPlan]) -> Option<usize>
 }
 
 /// The first DIF with more than 64 members, 8 cubes or 256 rules, or with a member that has more than 16
-/// links, or more flows, counted together with the links on it, than there are CEP-ids.
+/// links, or that needs more CEP-ids for its flows and for the links on it than there are (rule 19). Fails
+/// where memory runs out.
 pub fn first_full(alloc: Global, difs: &[DifPlan]) -> Result<Option<usize>, AllocError>
     ensures place { IfOk result (λ f. f ≡ first_full difs.now) }
     ensures within { IfOk result (λ f. IfSome f (λ i. i < length difs.now)) }

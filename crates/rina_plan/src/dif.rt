@@ -20,14 +20,14 @@ pub struct DifPlan {
     pub queue: u32,
     /// The name of the policy that serves its queues.
     pub policy: Name,
-    /// How many ticks an asker waits for an answer, 1 to 1,000,000.
+    /// How many ticks the asker for a flow waits for the answer, 1 to 1,000,000.
     pub wait: u32,
     /// The reliable cube of its management connections, with id 0.
     pub manage: Cube,
     pub cubes: Seq<Cube>,
     /// Its members; where it is not static the first one is enrolled from the start.
     pub members: Seq<MemberPlan>,
-    /// Whether an act is allowed that no rule speaks of.
+    /// Whether an act is allowed where no rule matches.
     pub allow: bool,
     /// The rules of access control, tried from the first on.
     pub rules: Seq<Rule>,
@@ -83,7 +83,7 @@ pub struct FlowPlan {
     pub to: EndPlan,
 }
 
-/// What the rules on DIFs ask of a wire: its two nodes, and its largest SDU in bytes.
+/// What the rules on DIFs read of a wire: its two nodes, and its largest SDU in bytes.
 #[derive(Clone, Copy, Debug, PartialEq, Eq, Drop)]
 pub struct WireEnds {
     pub a: usize,

@@ -26,7 +26,7 @@ fn lacks_lower(difs: &[DifPlan], dif: &DifPlan) -> bool
     dif.rank > 1 && !has_rank_below(difs, dif.rank)
 }
 
-/// A DIF of rank above 1, and none of the rank below.
+/// The first DIF of a rank above 1 where no DIF has the rank below (rule 9).
 pub fn first_without_lower(difs: &[DifPlan]) -> Option<usize>
     ensures place { result ≡ position (lacks_lower difs.now) difs.now }
     ensures within { IfSome result (λ i. i < length difs.now) }
@@ -59,7 +59,8 @@ fn has_mistimed(dif: &DifPlan) -> bool
     is_mistimed(&dif.manage) || any_mistimed(dif.cubes.as_slice())
 }
 
-/// A cube that is reliable and does not send again in time, or that is not and would send again.
+/// The first DIF with a reliable cube that does not send again within `r`, or with another cube that has
+/// `r`, `a` or `retry` (rule 11).
 pub fn first_mistimed(difs: &[DifPlan]) -> Option<usize>
     ensures place { result ≡ position has_mistimed difs.now }
     ensures within { IfSome result (λ i. i < length difs.now) }
@@ -97,8 +98,8 @@ fn has_unfit_pdu(dif: &DifPlan) -> bool
         || dif.pdu < 4 + pci_len(PduKind::Ack, dif.widths)
 }
 
-/// A PDU that is wider than its length field, leaves no byte for a piece, or is too short for an
-/// acknowledgement.
+/// The first DIF whose largest PDU does not fit its length field, leaves no byte for a piece of an SDU, or
+/// is too short for an acknowledgement (rule 13).
 pub fn first_with_unfit_pdu(difs: &[DifPlan]) -> Option<usize>
     ensures place { result ≡ position has_unfit_pdu difs.now }
     ensures within { IfSome result (λ i. i < length difs.now) }
@@ -147,7 +148,8 @@ fn has_oversized(dif: &DifPlan) -> bool
         || any_oversized(piece, dif.queue, dif.cubes.as_slice())
 }
 
-/// An SDU that does not go into one piece of a datagram cube, or into the window or the queue.
+/// The first DIF with a cube whose largest SDU does not fit: into one piece where the cube sends datagrams,
+/// else into as many pieces as the window and as the queue hold (rule 14).
 pub fn first_oversized(difs: &[DifPlan]) -> Option<usize>
     ensures place { result ≡ position has_oversized difs.now }
     ensures within { IfSome result (λ i. i < length difs.now) }

@@ -93,8 +93,9 @@ fn nets_of<'a>(alloc: Global, difs: &'a [DifPlan]) -> Result<Vec<Net<'a>>, Alloc
     Ok(nets)
 }
 
-/// The first DIF with a flow whose cube is missing, whose nodes are equal or no members, or that no walk
-/// of links carries, or with a link on a DIF in which no walk of links carries it.
+/// The first DIF with a flow whose cube is missing, whose nodes are equal or have no member, or whose nodes
+/// no walk of links joins; or with a link on a DIF in which no walk of links joins its ends (rule 18). Fails
+/// where memory runs out.
 pub fn first_unjoined(alloc: Global, difs: &[DifPlan]) -> Result<Option<usize>, AllocError>
     ensures { IfOk result (λ f. f ≡ position (is_unjoined difs.now) difs.now) }
 {

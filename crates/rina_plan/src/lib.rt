@@ -1,4 +1,4 @@
-//! The plan of the DIFs of a stack, and the rules that such a plan meets.
+//! The DIFs of a stack with names resolved, and the rules that they keep (rules 9 to 19).
 #![tactic(auto)]
 
 mod counts;

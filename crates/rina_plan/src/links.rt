@@ -1,4 +1,4 @@
-//! The rules on links, which ask of the facilities below. Each function gives the place of the first
+//! The rules on links, which depend on the facilities below. Each function returns the place of the first
 //! DIF that breaks its rule.
 ghost use Rattle.std.specs.Prelude.{◌≡◌, ◌<◌, ◌==◌, ◌&&◌, not, nat_le, length, position, IfSome};
 ghost use Rattle.std.specs.List.{list_any};
@@ -36,8 +36,8 @@ fn is_misused(difs: &[DifPlan], dif: &DifPlan) -> bool
         || (dif.is_static && dif.rank > 1 && any_on_dynamic(difs, dif.links.as_slice()))
 }
 
-/// A DIF that is not static has links or flows, or a static one above rank 1 has a link on one that is
-/// not.
+/// The first DIF that is not static and has links or flows, or that is static, of a rank above 1, and has a
+/// link on a DIF that is not static (rule 15).
 pub fn first_misused(difs: &[DifPlan]) -> Option<usize>
     ensures place { result ≡ position (is_misused difs.now) difs.now }
     ensures within { IfSome result (λ i. i < length difs.now) }
@@ -111,7 +111,8 @@ fn has_unfit_link(wires: &[WireEnds], difs: &[DifPlan], dif: &DifPlan) -> bool
     any_unfit_link(wires, difs, dif, dif.links.as_slice())
 }
 
-/// A link that is not on the rank just below, or whose ends are equal or no members here and there.
+/// The first DIF with a link that is not on the rank just below, whose ends are equal, or one of whose nodes
+/// has no member of the DIF or is not in the facility below (rule 16).
 pub fn first_with_unfit_link(wires: &[WireEnds], difs: &[DifPlan]) -> Option<usize>
     ensures place { result ≡ position (has_unfit_link wires.now difs.now) difs.now }
     ensures within { IfSome result (λ i. i < length difs.now) }
@@ -157,7 +158,8 @@ fn is_uncarried(wires: &[WireEnds], difs: &[DifPlan], dif: &DifPlan) -> bool
     any_uncarried(wires, difs, dif.pdu, dif.links.as_slice())
 }
 
-/// A link whose cube is not in the facility below, or takes less than a PDU.
+/// The first DIF with a link whose cube is not in the facility below, or carries no SDU as large as a PDU
+/// (rule 17).
 pub fn first_uncarried(wires: &[WireEnds], difs: &[DifPlan]) -> Option<usize>
     ensures place { result ≡ position (is_uncarried wires.now difs.now) difs.now }
     ensures within { IfSome result (λ i. i < length difs.now) }

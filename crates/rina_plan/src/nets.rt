@@ -138,7 +138,7 @@ impl<'a> Net<'a> {
     }
 }
 
-/// Whether a walk of a DIF's links joins two nodes.
+/// Whether a walk of a DIF's links joins two nodes. Fails where memory runs out.
 pub fn are_joined(
     alloc: Global,
     dif: &DifPlan,

@@ -1,5 +1,5 @@
-//! Numbers that stand twice: ids of cubes, and nodes and addresses of members. Each function gives the
-//! place of the first DIF that breaks its rule.
+//! Numbers that stand twice: ids of cubes, and nodes and addresses of members. Each function returns
+//! the place of the first DIF that breaks its rule.
 ghost use Rattle.std.specs.Prelude.{◌≡◌, ◌<◌, ◌==◌, ◌||◌, length, map, position, IfOk, IfSome};
 ghost use Rattle.std.specs.List.{list_any};
 ghost use Rattle.rina_cube.specs.declared.Cube.{Cube};
@@ -13,7 +13,7 @@ use rina_cube::Cube;
 use std::alloc::{AllocError, Global};
 use std::collections::BTreeMap;
 
-/// Whether a number stands there twice.
+/// Whether a list has a number twice.
 pub(crate) fn has_twice(alloc: Global, numbers: &[usize]) -> Result<bool, AllocError>
     ensures { IfOk result (λ b. b ≡ has_twice numbers.now) }
 {
@@ -116,7 +116,7 @@ pub(crate) fn first_flag(flags: &[bool]) -> Option<usize>
     flags.iter().position(|flag| *flag)
 }
 
-/// A DIF without a cube, or with two of one id.
+/// The first DIF without a cube, or with two cubes of one id (rule 10). Fails where memory runs out.
 #[tactic(auto, using(crate::proofs::Places::flag_place))]
 pub fn first_without_cubes(alloc: Global, difs: &[DifPlan]) -> Result<Option<usize>, AllocError>
     ensures { IfOk result (λ f. f ≡ position lacks_cubes difs.now) }
@@ -125,8 +125,8 @@ pub fn first_without_cubes(alloc: Global, difs: &[DifPlan]) -> Result<Option<usi
     Ok(first_flag(flags.as_slice()))
 }
 
-/// A DIF without a member, with two on one node or of one address, or with an address that no member
-/// can have.
+/// The first DIF without a member, with two members on one node or of one address, or with an address that
+/// is 0 or too wide (rule 12). Fails where memory runs out.
 #[tactic(auto, using(crate::proofs::Places::flag_place))]
 pub fn first_misplaced(alloc: Global, difs: &[DifPlan]) -> Result<Option<usize>, AllocError>
     ensures { IfOk result (λ f. f ≡ position is_misplaced difs.now) }

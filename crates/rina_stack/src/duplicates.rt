@@ -9,7 +9,7 @@ use rina_table::{Sketch, StackError, WireSketch, first_dif_item};
 use std::alloc::{AllocError, Global};
 use std::collections::BTreeMap;
 
-/// The place of the first text that stands among those before it.
+/// The place of the first text that equals one before it.
 fn first_duplicate(alloc: Global, texts: &[&[u8]]) -> Result<Option<usize>, AllocError>
     ensures place { IfOk result (λ f. f ≡ duplicate_in (map (λ t. t.now) texts.now)) }
     ensures within { IfOk result (λ f. IfSome f (λ i. i < length texts.now)) }
@@ -26,7 +26,7 @@ fn first_duplicate(alloc: Global, texts: &[&[u8]]) -> Result<Option<usize>, Allo
 }
 
 /// The texts of names.
-pub fn texts_of<'a>(alloc: Global, names: &'a [Name]) -> Result<Vec<&'a [u8]>, AllocError>
+pub(crate) fn texts_of<'a>(alloc: Global, names: &'a [Name]) -> Result<Vec<&'a [u8]>, AllocError>
     ensures { IfOk result (λ v. map (λ t. t.now) v.items ≡ names.now) }
 {
     let mut texts = Vec::new(alloc);
@@ -37,7 +37,7 @@ pub fn texts_of<'a>(alloc: Global, names: &'a [Name]) -> Result<Vec<&'a [u8]>, A
 }
 
 /// The names of wires.
-pub fn names_of_wires<'a>(
+pub(crate) fn names_of_wires<'a>(
     alloc: Global,
     wires: &'a [WireSketch],
 ) -> Result<Vec<&'a [u8]>, AllocError>
@@ -61,7 +61,10 @@ fn add_names_of_difs<'a>(names: &mut Vec<&'a [u8]>, difs: &'a [DifPlan]) -> Resu
 }
 
 /// The names of DIFs.
-pub fn names_of_difs<'a>(alloc: Global, difs: &'a [DifPlan]) -> Result<Vec<&'a [u8]>, AllocError>
+pub(crate) fn names_of_difs<'a>(
+    alloc: Global,
+    difs: &'a [DifPlan],
+) -> Result<Vec<&'a [u8]>, AllocError>
     ensures { IfOk result (λ v. map (λ t. t.now) v.items ≡ dif_names difs.now) }
 {
     let mut names = Vec::new(alloc);
@@ -91,7 +94,7 @@ fn labels_of<'a>(alloc: Global, difs: &'a [DifPlan]) -> Result<Vec<&'a [u8]>, Al
     Ok(texts)
 }
 
-/// The number of the DIF that has the label at a place.
+/// The place of the DIF whose flows have the label at a place, of all labels.
 fn owner(difs: &[DifPlan], at: usize) -> Option<usize>
     ensures place { result ≡ owner_of at difs.now }
     ensures within { IfSome result (λ i. i < length difs.now) }
@@ -109,7 +112,7 @@ fn owner(difs: &[DifPlan], at: usize) -> Option<usize>
     None
 }
 
-/// The place of a wire or DIF whose name stands before it.
+/// The item of the first wire or DIF whose name a wire or DIF before it has.
 fn facility_named_twice(alloc: Global, sketch: &Sketch) -> Result<Option<usize>, AllocError>
     ensures { IfOk result (λ f. f ≡ facility_duplicate sketch.now) }
 {
@@ -133,7 +136,7 @@ fn dif_with_duplicate(alloc: Global, difs: &[DifPlan]) -> Result<Option<usize>, 
 }
 
 /// The earlier of two items.
-pub fn earlier(one: Option<usize>, other: Option<usize>) -> Option<usize>
+pub(crate) fn earlier(one: Option<usize>, other: Option<usize>) -> Option<usize>
     ensures { result ≡ earlier one other }
 {
     match (one, other) {
@@ -150,9 +153,9 @@ fn node_named_twice(alloc: Global, nodes: &[Name]) -> Result<bool, AllocError>
     Ok(first_duplicate(alloc, texts.as_slice())?.is_some())
 }
 
-/// The first item with a name that stands twice.
+/// The first item with a name that stands twice (rule 5).
 #[tactic(auto, unfolding(crate::specs::Rules::duplicate_fault))]
-pub fn named_twice(alloc: Global, sketch: &Sketch) -> Result<Option<usize>, StackError>
+pub(crate) fn named_twice(alloc: Global, sketch: &Sketch) -> Result<Option<usize>, StackError>
     ensures { Gives (λ f. f) result (Ok (duplicate_fault sketch.now)) }
 {
     if node_named_twice(alloc, sketch.nodes.as_slice())? {

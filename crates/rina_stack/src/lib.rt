@@ -1,4 +1,4 @@
-//! The stack that a TOML text describes, or the first rule that it breaks, with the item that breaks it.
+//! The plan of the stack that a TOML text describes, or the first rule that it breaks, with the item that breaks it.
 #![tactic(auto)]
 
 mod duplicates;

@@ -13,7 +13,7 @@ use rina_plan::{
 use rina_table::{Sketch, StackError, WireSketch, check, check_difs, check_wires, first_dif_item};
 use std::alloc::{AllocError, Global};
 
-/// What the rules on DIFs ask of wires.
+/// What the rules on DIFs read of wires.
 fn ends(alloc: Global, wires: &[WireSketch]) -> Result<Vec<WireEnds>, AllocError>
     ensures { IfOk result (λ v. v.items ≡ map ends_of wires.now) }
 {
@@ -28,7 +28,7 @@ fn ends(alloc: Global, wires: &[WireSketch]) -> Result<Vec<WireEnds>, AllocError
     Ok(ends)
 }
 
-/// The rules from 9 to 14. `first` is the number of the first DIF.
+/// The rules from 9 to 14. `first` is the item of the first DIF.
 #[tactic(auto, unfolding(crate::specs::Order::alone_at))]
 fn check_alone(alloc: Global, first: usize, difs: &[DifPlan]) -> Result<(), StackError>
     ensures { Gives (λ t. t) result (alone_at first difs.now) }
@@ -86,7 +86,7 @@ fn check_counts(alloc: Global, sketch: &Sketch) -> Result<(), StackError>
 
 /// The rules from 8 on.
 #[tactic(auto, unfolding(crate::specs::Order::rules_at))]
-pub fn check_rules(alloc: Global, sketch: &Sketch) -> Result<(), StackError>
+pub(crate) fn check_rules(alloc: Global, sketch: &Sketch) -> Result<(), StackError>
     ensures { Gives (λ t. t) result (rules_at sketch.now) }
 {
     check(8, first_unfit_wire(sketch.wires.as_slice()))?;

@@ -5,7 +5,7 @@ ghost use Rattle.rina_stack.specs.Policies.{is_built_in, unknown_policy};
 use rina_base::Name;
 use rina_plan::DifPlan;
 
-/// Who knows policies by their names.
+/// A set of policies that a stack may name.
 pub trait Policies {
     ghost knows: { Self → List ℕ → Bool };
 
@@ -33,7 +33,7 @@ impl Policies for BuiltIn {
     }
 }
 
-/// The first DIF whose policy nobody knows.
+/// The place of the first DIF whose policy is not in the set.
 pub(crate) fn first_unknown<P: Policies>(policies: &P, difs: &[DifPlan]) -> Option<usize>
     ensures place { result ≡ unknown_policy (P.knows policies.now) difs.now }
     ensures within { IfSome result (λ i. i < length difs.now) }

@@ -1,4 +1,4 @@
-//! The stack that a text describes.
+//! A stack is read from a text, rule by rule.
 ghost use Rattle.std.specs.Prelude.{◌≡◌, ◌<◌, ◌^◌, All, Ok, IfOk, map};
 ghost use Rattle.toml.specs.View.{view};
 ghost use Rattle.rina_table.specs.declared.sketch.WireSketch.{WireSketch};
@@ -16,7 +16,7 @@ use rina_table::{Sketch, StackError, WireSketch, check, first_dif_item, key_faul
 use std::alloc::Global;
 use toml::Value;
 
-/// The item of the first DIF whose policy nobody knows.
+/// The item of the first DIF whose policy does not exist.
 fn unknown_of<P: Policies>(policies: &P, named: &Sketch) -> Result<Option<usize>, StackError>
     ensures { Gives (λ f. f) result (Ok (unknown_item (P.knows policies.now) named.now)) }
 {
@@ -85,7 +85,11 @@ fn plan(alloc: Global, sketch: Sketch) -> Result<Plan, Memory>
 
 /// The stack of a table, or the first rule that it breaks.
 #[tactic(auto, unfolding(crate::specs::Stack::stack_at))]
-pub fn stack_of<P: Policies>(alloc: Global, policies: &P, stack: &Value) -> Result<Plan, StackError>
+pub(crate) fn stack_of<P: Policies>(
+    alloc: Global,
+    policies: &P,
+    stack: &Value,
+) -> Result<Plan, StackError>
     ensures { Gives (λ p. p) result (stack_at (P.knows policies.now) (view stack.now)) }
 {
     let unlisted = key_fault(stack)?;

@@ -11,8 +11,8 @@ use rina_table::{Places, Scope, Sketch, StackError, read_sketch};
 use std::alloc::Global;
 use toml::Value;
 
-/// The stack of a table, where what breaks a later rule than `upto` is let through; no reference is resolved.
-pub fn read_unresolved(alloc: Global, upto: u32, stack: &Value) -> Result<Sketch, StackError>
+/// The stack of a table, read with the rules up to `upto`; no reference is resolved.
+pub(crate) fn read_unresolved(alloc: Global, upto: u32, stack: &Value) -> Result<Sketch, StackError>
     ensures { Gives (λ s. s) result (sketch_at (unresolved_scope upto) (view stack.now)) }
 {
     let scope = Scope {
@@ -26,9 +26,9 @@ pub fn read_unresolved(alloc: Global, upto: u32, stack: &Value) -> Result<Sketch
 }
 
 /// The stack of a table with its references, which are looked up among the names of `named`. `unknown` is
-/// the item of the first DIF whose policy nobody knows.
+/// the item of the first DIF whose policy does not exist.
 #[tactic(auto, using(crate::proofs::Reading::sound_where_read))]
-pub fn read_resolved(
+pub(crate) fn read_resolved(
     alloc: Global,
     named: &Sketch,
     unknown: Option<usize>,

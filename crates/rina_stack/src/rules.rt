@@ -29,7 +29,7 @@ fn first_unfit(wires: &[WireSketch]) -> Option<usize>
     wires.iter().position(|wire| is_unfit_wire(wire))
 }
 
-/// The first wire that joins nothing.
+/// The item of the first wire whose ends are equal, or whose frames do not live until they arrive (rule 8).
 pub(crate) fn first_unfit_wire(wires: &[WireSketch]) -> Option<usize>
     ensures { result ≡ first_wire is_unfit_wire wires.now }
 {
@@ -39,7 +39,7 @@ pub(crate) fn first_unfit_wire(wires: &[WireSketch]) -> Option<usize>
 
 // Rule 19: how many there may be.
 
-/// The top, where there are too many nodes, wires or DIFs.
+/// Item 0, where there are more than 64 nodes, 128 wires or 16 DIFs (rule 19).
 #[tactic(auto, unfolding(crate::specs::Rules::top_fault))]
 pub(crate) fn too_many(sketch: &Sketch) -> Option<usize>
     ensures { result ≡ top_fault sketch.now }

@@ -1,4 +1,4 @@
-//! What the program runs so far: the one place that refuses what it does not.
+//! Refuses what the program does not run: storms, access rules, and DIFs that are not static.
 ghost use Rattle.std.specs.Prelude.{◌≡◌, ◌<◌, Ok, length, map, position, IfOk, IfSome};
 ghost use Rattle.toml.specs.View.{view};
 ghost use Rattle.rina_table.specs.Faults.{Gives};
@@ -156,9 +156,9 @@ fn runnable_of<P: Policies>(alloc: Global, policies: &P, stack: &Value) -> Resul
     stack_of(alloc, policies, stack)
 }
 
-/// The stack that a text describes, as far as stacks run, or the first rule that it breaks. What does not
-/// run yet breaks a rule: a wire's `storm` and a DIF's `rule` and `default` count as keys that are not
-/// listed (rule 2), and a DIF that is not static lacks `static = true` (rule 3).
+/// The stack that a text describes, or the first rule that it breaks. What the program does not run breaks a
+/// rule: a wire's `storm` and a DIF's `rule` and `default` count as keys that are not listed (rule 2), and a
+/// DIF that is not static lacks `static = true` (rule 3).
 pub fn read_runnable<P: Policies>(
     alloc: Global,
     text: &[u8],

@@ -1,4 +1,4 @@
-//! A shelf knows the policies that a stack may name: those that were added to it, retired or not.
+//! A stack may name the policies that were added to a shelf, retired or not.
 use crate::policies::Policies;
 use rina_base::Name;
 use rina_policy::Shelf;

@@ -16,7 +16,7 @@ use rina_plan::DifPlan;
 use std::alloc::Global;
 use toml::Value;
 
-/// Rule 7 for a policy.
+/// Refuses the DIF whose policy does not exist (rule 7).
 fn known_policy(scope: &Scope<'_>, item: usize) -> Result<(), StackError>
     ensures { Gives (λ t. t) result (unless 7 (unknown_at scope.now.unknown item)) }
 {

@@ -61,7 +61,7 @@ fn act_at(item: usize, table: &Value) -> Result<Act, StackError>
 
 /// The widths of the fields of a PDU.
 #[tactic(auto, unfolding(crate::specs::Rows::widths_at))]
-pub fn widths(scope: &Scope<'_>, item: usize, table: &Value) -> Result<Widths, StackError>
+pub(crate) fn widths(scope: &Scope<'_>, item: usize, table: &Value) -> Result<Widths, StackError>
     ensures { Gives (λ w. w) result (widths_at scope.now item (view table.now)) }
 {
     let addr = width_of(scope, item, table, "addr")?;
@@ -78,7 +78,7 @@ pub fn widths(scope: &Scope<'_>, item: usize, table: &Value) -> Result<Widths, S
 
 /// The cube of management, which carries messages of up to 325 bytes.
 #[tactic(auto, unfolding(crate::specs::Rows::manage_at))]
-pub fn manage(scope: &Scope<'_>, item: usize, table: &Value) -> Result<Cube, StackError>
+pub(crate) fn manage(scope: &Scope<'_>, item: usize, table: &Value) -> Result<Cube, StackError>
     ensures { Gives (λ c. c) result (manage_at scope.now item (view table.now)) }
 {
     let mpl = number(scope, item, table, "mpl", 1, 1_000_000)?;

@@ -1,4 +1,4 @@
-//! Why a text describes no stack.
+//! The errors of reading a stack.
 ghost use Rattle.std.specs.Prelude.{◌≡◌, ◌+◌, ◌<◌, ◌^◌, Ok, IfOk, option_map};
 ghost use Rattle.rina_table.specs.Faults.{Gives, rule_error, unless};
 
@@ -8,9 +8,9 @@ use std::alloc::AllocError;
 /// Why a text describes no stack.
 #[derive(Clone, Copy, Debug, PartialEq, Eq)]
 pub enum StackError {
-    /// Memory was not found.
+    /// Memory ran out.
     Memory,
-    /// The text is no TOML.
+    /// The text is not TOML.
     NotToml,
     /// Rule `n` is broken, and no rule before it. `item` is the first item that breaks it: 0 for the
     /// top, then 1 for the first wire and so on; places past 4,294,967,295 are given as that.
@@ -40,7 +40,7 @@ impl From<Memory> for StackError {
 }
 
 /// The error for a rule that is broken at an item.
-pub fn rule_error(n: u32, item: usize) -> StackError
+pub(crate) fn rule_error(n: u32, item: usize) -> StackError
     ensures { result ≡ rule_error n item }
 {
     StackError::StackRule {
@@ -49,7 +49,7 @@ pub fn rule_error(n: u32, item: usize) -> StackError
     }
 }
 
-/// The error for a rule, where it has a first item that breaks it.
+/// The error for rule `n`, where `fault` is the first item that breaks it.
 pub fn check(n: u32, fault: Option<usize>) -> Result<(), StackError>
     ensures { Gives (λ t. t) result (unless n fault) }
 {
@@ -59,7 +59,8 @@ pub fn check(n: u32, fault: Option<usize>) -> Result<(), StackError>
     }
 }
 
-/// The number of the first DIF behind so many wires. More items than are counted find no memory.
+/// The item of the first DIF: the top is item 0, wires are items from 1 on, and DIFs follow them. Fails with
+/// `Memory` where items cannot be counted.
 pub fn first_dif_item(wires: usize, difs: usize) -> Result<usize, StackError>
     ensures place { Gives (λ n. n) result (Ok (1 + wires)) }
     ensures wires { IfOk result (λ _. 1 + wires < 2 ^ 64) }
@@ -72,15 +73,15 @@ pub fn first_dif_item(wires: usize, difs: usize) -> Result<usize, StackError>
     }
 }
 
-/// The error for a rule, where it has a first wire that breaks it.
+/// The error for rule `n`, where `fault` is the place of the first wire that breaks it.
 pub fn check_wires(n: u32, fault: Option<usize>) -> Result<(), StackError>
     ensures { Gives (λ t. t) result (unless n (option_map (λ i. 1 + i) fault)) }
 {
     check_difs(n, 1, fault)
 }
 
-/// The error for a rule, where it has a first DIF that breaks it. `first` is the number of the first
-/// DIF.
+/// The error for rule `n`, where `fault` is the place of the first DIF that breaks it. `first` is the item of
+/// the first DIF.
 pub fn check_difs(n: u32, first: usize, fault: Option<usize>) -> Result<(), StackError>
     ensures { Gives (λ t. t) result (unless n (option_map (λ i. first + i) fault)) }
 {

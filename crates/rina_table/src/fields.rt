@@ -16,7 +16,7 @@ use rina_plan::Lower;
 use std::alloc::Global;
 use toml::Value;
 
-/// What has to be there by rule `n`; where only earlier rules are tried, something else stands for it.
+/// What rule `n` requires; where only earlier rules are tried, `instead` is read in its place.
 fn require_by<T: Drop>(
     scope: &Scope<'_>,
     n: u32,
@@ -57,9 +57,14 @@ fn placeholder(alloc: Global) -> Result<Name, StackError>
     }
 }
 
-/// The name that a text has to be.
+/// A text as a name (rule 4).
 #[tactic(auto, unfolding(crate::specs::Fields::named))]
-pub fn name(alloc: Global, scope: &Scope<'_>, item: usize, text: &str) -> Result<Name, StackError>
+pub(crate) fn name(
+    alloc: Global,
+    scope: &Scope<'_>,
+    item: usize,
+    text: &str,
+) -> Result<Name, StackError>
     ensures { Gives (λ n. n) result (named scope.now item text.now) }
 {
     match read_name(alloc, text.as_bytes())? {
@@ -74,9 +79,9 @@ pub fn name(alloc: Global, scope: &Scope<'_>, item: usize, text: &str) -> Result
     }
 }
 
-/// The name at a key of an item.
+/// The name at a key of an item (rule 4).
 #[tactic(auto, unfolding(crate::specs::Fields::name_in))]
-pub fn name_of(
+pub(crate) fn name_of(
     alloc: Global,
     scope: &Scope<'_>,
     item: usize,
@@ -99,7 +104,7 @@ fn read_app(alloc: Global, text: &[u8]) -> Result<Option<AppName>, StackError>
     }
 }
 
-/// Whom a rule speaks of.
+/// The subject of an access rule: `*`, or the name of an application.
 #[tactic(auto, unfolding(crate::specs::Names::as_subject))]
 fn subject(alloc: Global, text: &str) -> Result<Option<Subject>, StackError>
     ensures { Gives (λ s. s) result (Ok (as_subject text.now)) }
@@ -113,9 +118,9 @@ fn subject(alloc: Global, text: &str) -> Result<Option<Subject>, StackError>
     }
 }
 
-/// Whom a rule speaks of, at a key of an item.
+/// The subject of an access rule at a key of an item (rule 4).
 #[tactic(auto, unfolding(crate::specs::Fields::subject_in))]
-pub fn subject_of(
+pub(crate) fn subject_of(
     alloc: Global,
     scope: &Scope<'_>,
     item: usize,
@@ -149,7 +154,7 @@ fn number_between(least: u32, most: u64, number: i64) -> Option<u64>
     }
 }
 
-/// A number that has to be in range.
+/// A number from `least` to `most` (rule 6).
 #[tactic(auto, unfolding(crate::specs::Fields::ranged))]
 fn ranged(
     scope: &Scope<'_>,
@@ -175,9 +180,9 @@ fn ranged(
     }
 }
 
-/// The number at a key of an item.
+/// The number at a key of an item, from `least` to `most` (rule 6).
 #[tactic(auto, unfolding(crate::specs::Fields::number_in))]
-pub fn number(
+pub(crate) fn number(
     scope: &Scope<'_>,
     item: usize,
     table: &Value,
@@ -196,7 +201,7 @@ pub fn number(
 
 /// The number at a key of an item, and `least` where there is no such key.
 #[tactic(auto, unfolding(crate::specs::Fields::number_or))]
-pub fn number_or_else(
+pub(crate) fn number_or_else(
     scope: &Scope<'_>,
     item: usize,
     table: &Value,
@@ -225,27 +230,37 @@ fn width(number: u64) -> Option<u8>
     }
 }
 
-/// The width of a field at a key of an item.
+/// The width of a field at a key of an item: 1, 2 or 4 bytes (rule 6).
 #[tactic(auto, unfolding(crate::specs::Fields::width_in))]
-pub fn width_of(scope: &Scope<'_>, item: usize, table: &Value, key: &str) -> Result<u8, StackError>
+pub(crate) fn width_of(
+    scope: &Scope<'_>,
+    item: usize,
+    table: &Value,
+    key: &str,
+) -> Result<u8, StackError>
     ensures { Gives (λ n. n) result (width_in scope.now item key.now (view table.now)) }
 {
     let number = number(scope, item, table, key, 1, 4)?;
     require_by(scope, 6, item, 1u8, width(number))
 }
 
-/// The node that a text names.
+/// The place of the node that a text names (rule 7).
 #[tactic(auto, unfolding(crate::specs::Fields::node_named))]
-pub fn node(alloc: Global, scope: &Scope<'_>, item: usize, text: &str) -> Result<usize, StackError>
+pub(crate) fn node(
+    alloc: Global,
+    scope: &Scope<'_>,
+    item: usize,
+    text: &str,
+) -> Result<usize, StackError>
     ensures { Gives (λ n. n) result (node_named scope.now item text.now) }
 {
     let name = name(alloc, scope, item, text)?;
     require_by(scope, 7, item, 0usize, scope.nodes.find(name.as_bytes()))
 }
 
-/// The node that is named at a key of an item.
+/// The place of the node that is named at a key of an item (rule 7).
 #[tactic(auto, unfolding(crate::specs::Fields::node_in))]
-pub fn node_of(
+pub(crate) fn node_of(
     alloc: Global,
     scope: &Scope<'_>,
     item: usize,
@@ -268,9 +283,9 @@ fn lower(wires: &Places<'_>, difs: &Places<'_>, name: &[u8]) -> Option<Lower>
     }
 }
 
-/// The wire or DIF that is named at a key of an item.
+/// The wire or DIF that is named at a key of an item (rule 7).
 #[tactic(auto, unfolding(crate::specs::Fields::lower_in))]
-pub fn lower_of(
+pub(crate) fn lower_of(
     alloc: Global,
     scope: &Scope<'_>,
     item: usize,

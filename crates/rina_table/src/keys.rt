@@ -12,7 +12,7 @@ use toml::{Table, Value};
 
 /// A kind of table.
 #[derive(Clone, Copy, Debug, PartialEq, Eq)]
-pub enum Shape {
+pub(crate) enum Shape {
     Top,
     Wire,
     Storm,

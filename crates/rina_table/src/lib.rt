@@ -1,5 +1,5 @@
-//! The tables of a stack, read from TOML: which keys there are, values of their types, and a row for each
-//! wire, DIF and part of a DIF. What is read names the rule that is broken, and the item that breaks it.
+//! The tables of a stack: keys, types, names, ranges and references (rules 2, 3, 4, 6 and 7), each table read
+//! into a row.
 #![tactic(auto)]
 
 mod dif;

@@ -15,11 +15,11 @@ use rina_base::Seq;
 use std::alloc::Global;
 use toml::Value;
 
-/// What a table of a list is read as.
+/// A type that is read from one table of a list.
 pub(crate) trait Row: Drop {
     ghost reads_as: { Scope → ℕ → Data → Result Self StackError };
 
-    /// What a table is, which belongs to an item.
+    /// Reads a table that belongs to an item.
     fn read(
         alloc: Global,
         scope: &Scope<'_>,
@@ -46,7 +46,7 @@ fn all_of<T: Row>(
     Ok(read)
 }
 
-/// Rows that are items of their own, counted on from `first`.
+/// Rows that are items of their own; the first one is item `first`.
 pub(crate) fn items_from<T: Row>(
     alloc: Global,
     scope: &Scope<'_>,

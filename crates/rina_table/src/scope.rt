@@ -1,4 +1,4 @@
-//! How far a stack is read, and what a name may refer to.
+//! Which rules are tried, and which names a reference may have.
 ghost use Rattle.std.specs.Prelude.{◌≡◌, ◌<◌, ℕ, List, length, map, IfOk, IfSome};
 ghost use Rattle.std.specs.BTreeMap.{get_by};
 ghost use Rattle.std.specs.Ordering.{nat_cmp};
@@ -9,7 +9,7 @@ use std::alloc::{AllocError, Global};
 use std::collections::BTreeMap;
 use std::marker::Model;
 
-/// Texts, each of which is found by its place. A contract sees the list of them.
+/// Names with the place of each, found by a map. A contract sees the list of the names.
 #[derive(Drop)]
 pub struct Places<'a> {
     texts: Vec<&'a [u8]>,
@@ -31,8 +31,8 @@ impl<'a> Model for Places<'a> {
     ghost invariant = { λ p. (q : List ℕ) → get_by (λ k. slice_cmp nat_cmp q k.now) p.index ≡ place_in (map (λ t. t.now) p.texts.items) q };
 }
 
-/// How far a stack is read: what breaks a later rule than `upto` is let through. `nodes`, `wires` and
-/// `difs` are the names that are there, and `unknown` is the first item whose policy is not there.
+/// Which rules are tried while a stack is read: those up to `upto`. `nodes`, `wires` and `difs` are the names
+/// that a reference may have, and `unknown` is the first item whose policy does not exist.
 #[derive(Drop)]
 pub struct Scope<'a> {
     pub upto: u32,
@@ -48,7 +48,7 @@ fn index_of<'a>(alloc: Global, texts: &[&'a [u8]]) -> Result<BTreeMap<&'a [u8], 
 {
     let mut index = BTreeMap::new(alloc);
     let mut at = texts.len();
-    // From the last one on, so that of equal texts the first stays.
+    // From the last one on, so that the first of equal texts stays.
     while at > 0 {
         at -= 1;
         index.insert(texts[at], at)?;

@@ -1,9 +1,9 @@
-//! A stack as it is read: places are not counted yet, and rules that were not tried may be broken.
+//! A stack before all its rules are tried.
 
 use rina_base::{Name, Seq};
 use rina_plan::DifPlan;
 
-/// A stack as it is read.
+/// A stack as it was read; rules that were not tried may be broken.
 #[derive(Drop)]
 pub struct Sketch {
     pub nodes: Seq<Name>,
@@ -12,7 +12,7 @@ pub struct Sketch {
     pub difs: Seq<DifPlan>,
 }
 
-/// A wire as it is read.
+/// A wire as it was read.
 #[derive(Drop)]
 pub struct WireSketch {
     pub name: Name,
@@ -26,22 +26,22 @@ pub struct WireSketch {
     pub storm: Option<Storm>,
 }
 
-/// Who moves PDUs: each tick by itself, or the schedule step by step.
+/// Who moves PDUs: the run in each tick (`Auto`), or the words of the schedule (`Manual`).
 #[derive(Clone, Copy, Debug, PartialEq, Eq, Drop)]
 pub enum Rounds {
     Auto,
     Manual,
 }
 
-/// How a wire loses, repeats and delays frames by chance.
+/// How a wire loses, repeats and delays frames by drawn numbers.
 #[derive(Clone, Copy, Debug, PartialEq, Eq, Drop)]
 pub struct Storm {
-    /// Where its random numbers begin, 0 to 2^53 - 1.
+    /// The seed of its random numbers, 0 to 2^53 - 1.
     pub seed: u64,
-    /// How many of 1,000 frames are lost.
+    /// How many of 1,000 frames are lost, 0 to 1,000.
     pub lose: u32,
-    /// How many of 1,000 frames come twice.
+    /// How many of 1,000 frames arrive twice, 0 to 1,000.
     pub repeat: u32,
-    /// How many ticks a frame is late at most, 0 to 100,000.
+    /// The most ticks that a frame is late, 0 to 100,000.
     pub spread: u32,
 }

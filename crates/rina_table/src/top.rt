@@ -36,7 +36,7 @@ fn rounds(value: Option<&Value>) -> Result<Rounds, StackError>
     }
 }
 
-/// The names of the nodes belong to the top.
+/// The names of nodes; a fault in one belongs to item 0.
 impl Row for Name {
     ghost use Rattle.rina_table.specs.Items.{node_row};
 
@@ -56,7 +56,7 @@ impl Row for Name {
     }
 }
 
-/// A stack, read so far as the scope says.
+/// Reads a stack, and tries the rules on single values that the scope names.
 #[tactic(auto, unfolding(crate::specs::Items::sketch_at))]
 pub fn read_sketch(alloc: Global, scope: &Scope<'_>, stack: &Value) -> Result<Sketch, StackError>
     ensures { Gives (λ s. s) result (sketch_at scope.now (view stack.now)) }

@@ -10,8 +10,8 @@ ghost use Rattle.toml.specs.Data.{get, as_array};
 use crate::error::{StackError, rule_error};
 use toml::Value;
 
-/// What has to be there.
-pub fn require<T>(item: usize, found: Option<T>) -> Result<T, StackError>
+/// A value that rule 3 requires.
+pub(crate) fn require<T>(item: usize, found: Option<T>) -> Result<T, StackError>
     ensures { Gives (λ t. t) result (required item found) }
 {
     match found {
@@ -21,14 +21,14 @@ pub fn require<T>(item: usize, found: Option<T>) -> Result<T, StackError>
 }
 
 /// The text at a key.
-pub fn text<'a>(table: &'a Value, key: &str) -> Option<&'a str>
+pub(crate) fn text<'a>(table: &'a Value, key: &str) -> Option<&'a str>
     ensures { option_map (λ s. s.now) result ≡ text_at key.now (view table.now) }
 {
     table.get(key)?.as_str()
 }
 
 /// The text at a key of an item.
-pub fn text_of<'a>(item: usize, table: &'a Value, key: &str) -> Result<&'a str, StackError>
+pub(crate) fn text_of<'a>(item: usize, table: &'a Value, key: &str) -> Result<&'a str, StackError>
     ensures { Gives (λ t. t.now) result (text_in item key.now (view table.now)) }
 {
     match text(table, key) {
@@ -44,14 +44,14 @@ fn integer(table: &Value, key: &str) -> Option<i64>
 }
 
 /// The integer at a key of an item.
-pub fn integer_of(item: usize, table: &Value, key: &str) -> Result<i64, StackError>
+pub(crate) fn integer_of(item: usize, table: &Value, key: &str) -> Result<i64, StackError>
     ensures { Gives (λ t. t) result (integer_in item key.now (view table.now)) }
 {
     require(item, integer(table, key))
 }
 
 /// The integer at a key of an item, or a default where there is no such key.
-pub fn integer_or_else(
+pub(crate) fn integer_or_else(
     item: usize,
     default: u32,
     table: &Value,
@@ -66,7 +66,7 @@ pub fn integer_or_else(
 }
 
 /// The truth value at a key of an item, or a default where there is no such key.
-pub fn truth_or_else(
+pub(crate) fn truth_or_else(
     item: usize,
     default: bool,
     table: &Value,
@@ -81,7 +81,7 @@ pub fn truth_or_else(
 }
 
 /// The truth value at a key of an item.
-pub fn truth_of(item: usize, table: &Value, key: &str) -> Result<bool, StackError>
+pub(crate) fn truth_of(item: usize, table: &Value, key: &str) -> Result<bool, StackError>
     ensures { Gives (λ t. t) result (truth_in item key.now (view table.now)) }
 {
     match table.get(key) {
@@ -91,7 +91,11 @@ pub fn truth_of(item: usize, table: &Value, key: &str) -> Result<bool, StackErro
 }
 
 /// What stands at a key of an item.
-pub fn value_of<'a>(item: usize, table: &'a Value, key: &str) -> Result<&'a Value, StackError>
+pub(crate) fn value_of<'a>(
+    item: usize,
+    table: &'a Value,
+    key: &str,
+) -> Result<&'a Value, StackError>
     ensures { Gives (λ v. view v.now) result (required item (get key.now (view table.now))) }
 {
     match table.get(key) {
@@ -101,14 +105,14 @@ pub fn value_of<'a>(item: usize, table: &'a Value, key: &str) -> Result<&'a Valu
 }
 
 /// The text that stands in the list at a key, at a place.
-pub fn text_among<'a>(table: &'a Value, key: &str, at: usize) -> Option<&'a str>
+pub(crate) fn text_among<'a>(table: &'a Value, key: &str, at: usize) -> Option<&'a str>
     ensures { option_map (λ s. s.now) result ≡ element at key.now (view table.now) }
 {
     table.get(key)?.get(at)?.as_str()
 }
 
 /// Whether the list at a key has more than two elements.
-pub fn has_more_than_two(table: &Value, key: &str) -> bool
+pub(crate) fn has_more_than_two(table: &Value, key: &str) -> bool
     ensures { result ≡ has_third key.now (view table.now) }
 {
     match table.get(key) {
@@ -143,7 +147,7 @@ pub fn items_at<'a>(table: &'a Value, key: &str) -> &'a [Value]
 }
 
 /// The elements of the list at a key of an item.
-pub fn items<'a>(item: usize, table: &'a Value, key: &str) -> Result<&'a [Value], StackError>
+pub(crate) fn items<'a>(item: usize, table: &'a Value, key: &str) -> Result<&'a [Value], StackError>
     ensures { Gives (λ s. map view s.now) result (required item (items_in key.now (view table.now))) }
 {
     match elements_at(table, key) {
@@ -153,7 +157,7 @@ pub fn items<'a>(item: usize, table: &'a Value, key: &str) -> Result<&'a [Value]
 }
 
 /// The elements of the list at a key of an item, none where there is no such key.
-pub fn items_or_none<'a>(
+pub(crate) fn items_or_none<'a>(
     item: usize,
     table: &'a Value,
     key: &str,
@@ -194,7 +198,11 @@ fn tables(value: &Value) -> Option<&[Value]>
 }
 
 /// The list of tables at a key of an item, empty where there is no such key.
-pub fn tables_at<'a>(item: usize, table: &'a Value, key: &str) -> Result<&'a [Value], StackError>
+pub(crate) fn tables_at<'a>(
+    item: usize,
+    table: &'a Value,
+    key: &str,
+) -> Result<&'a [Value], StackError>
     ensures { Gives (λ s. map view s.now) result (tables_in item key.now (view table.now)) }
 {
     match table.get(key) {
