@@ -22,6 +22,3 @@ pub use laws::{
 pub use message::{FlowAsk, FlowMessage, FlowWord};
 pub use reading::read;
 pub use writing::write;
-
-#[cfg(test)]
-mod tests;

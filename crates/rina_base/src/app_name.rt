@@ -28,7 +28,7 @@ impl Model for AppName {
 
 /// The place of the first slash.
 #[tactic(auto, unfolding(crate::specs::Names::slash_in))]
-fn slash(text: &[u8]) -> Option<usize>
+fn first_slash(text: &[u8]) -> Option<usize>
     ensures at { result ≡ slash_in text.now }
     ensures within { IfSome result (λ k. k < length text.now) }
 {
@@ -52,7 +52,7 @@ fn check_app(text: &[u8]) -> Result<(), NameError>
     ensures fault { Gives (λ _. text.now) result (app_at text.now) }
     ensures is { is_ok result ≡ is_ok (app_at text.now) }
 {
-    match slash(text) {
+    match first_slash(text) {
         None => check_name(text),
         Some(at) => {
             let (dif, rest) = text.split_at(at);
@@ -92,7 +92,7 @@ impl AppName {
     pub fn is_ipc(&self) -> bool
         ensures { result ≡ is_some (slash_in self.now) }
     {
-        slash(self.bytes.as_slice()).is_some()
+        first_slash(self.bytes.as_slice()).is_some()
     }
 
     /// Its bytes.

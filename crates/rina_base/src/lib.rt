@@ -24,6 +24,3 @@ pub use object_name::{ObjectName, is_object_name};
 pub use pdu::{Pdu, PduKind, PduView};
 pub use seq::{Bytes, Seq};
 pub use storm::Storm;
-
-#[cfg(test)]
-mod tests;

@@ -15,6 +15,3 @@ pub use message::{Message, operation};
 pub use number::{put_number, take_number};
 pub use reading::read;
 pub use writing::write;
-
-#[cfg(test)]
-mod tests;

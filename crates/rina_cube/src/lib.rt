@@ -104,6 +104,3 @@ pub fn pick(cubes: &[Cube], want: &Want) -> Option<u8>
     let at = first_that_meets(cubes, want)?;
     Some(cubes.get(at)?.id)
 }
-
-#[cfg(test)]
-mod tests;

@@ -2,8 +2,8 @@
 ghost use Rattle.std.specs.Prelude.{◌≡◌, ◌+◌, ◌≤◌, ◌<◌, length, take};
 ghost use Rattle.rina_dir.specs.Directory.{key_byte, key_of};
 
-/// The longest key: `/dir/` and the longest name of an application.
-pub(crate) const LONGEST: usize = 134;
+/// How many bytes the longest key has: `/dir/` and the longest name of an application.
+pub const LONGEST_KEY: usize = 134;
 
 /// A byte of a name as it stands in a key: a slash is written `!`.
 #[tactic(auto, unfolding(crate::specs::Directory::key_byte))]
@@ -13,8 +13,9 @@ fn key_byte(byte: u8) -> u8
     if byte == b'/' { b'!' } else { byte }
 }
 
-/// Writes the key of an application's entry to the front of a row of bytes, and gives its length.
-pub(crate) fn write_key(app: &[u8], key: &mut [u8]) -> usize
+/// Writes the key of an application's entry, `/dir/` and its name with `!` for a slash, to the front of a row of
+/// bytes, and gives its length in bytes. Takes no memory.
+pub fn write_key(app: &[u8], key: &mut [u8]) -> usize
     requires room { length app.now + 5 ≤ length key.old }
     ensures len { result ≡ length app.now + 5 }
     ensures written { take result key.new ≡ key_of app.now }

@@ -5,5 +5,6 @@ mod key;
 mod law;
 mod lookup;
 
+pub use key::{LONGEST_KEY, write_key};
 pub use law::entries_stay;
 pub use lookup::find;

@@ -20,6 +20,3 @@ pub use member::Member;
 pub use message::LinkMessage;
 pub use reading::read;
 pub use writing::write;
-
-#[cfg(test)]
-mod tests;

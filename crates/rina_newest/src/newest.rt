@@ -96,7 +96,7 @@ impl Newest {
     }
 
     /// Whether a version is newer than that of the item that is kept under a key.
-    fn is_news(&self, key: &[u8], version: Version) -> bool
+    fn is_newer(&self, key: &[u8], version: Version) -> bool
         ensures { result ≡ is_newer version (kept_at self.now key.now) }
     {
         match self.kept(key) {
@@ -133,7 +133,7 @@ impl Newest {
         ensures ok { OnOk result (self.new ≡ taken self.old (item_of key.now version (option_copied value.entry))) }
         ensures err { OnErr result (self.new ≡ self.old) }
     {
-        if !self.is_news(key, version) {
+        if !self.is_newer(key, version) {
             return Ok(false);
         }
         let item = Item::new(alloc, key, version, value)?;
@@ -171,58 +171,5 @@ impl Newest {
             }
         }
         Ok(found)
-    }
-}
-
-#[cfg(test)]
-mod tests {
-    use super::*;
-    use std::test::Fail;
-
-    const fn version(tick: u32, count: u32, origin: u32) -> Version {
-        Version {
-            tick,
-            count,
-            origin,
-        }
-    }
-
-    #[test]
-    fn the_greatest_version_is_kept(rt: HostRuntime) -> Result<(), Fail> {
-        let alloc = rt.alloc();
-        let mut newest = Newest::new(alloc);
-        assert!(rt; newest.take(alloc, b"/dir/a", version(3, 1, 2), Some(b"7"))?);
-        assert!(rt; newest.take(alloc, b"/dir/b", version(3, 1, 2), Some(b"8"))?);
-        assert!(rt; !newest.take(alloc, b"/dir/a", version(2, 9, 9), Some(b"6"))?);
-        assert!(rt; !newest.take(alloc, b"/dir/a", version(3, 1, 2), Some(b"7"))?);
-        assert!(rt; newest.get(b"/dir/a") == Some(b"7".as_slice()));
-        assert!(rt; newest.take(alloc, b"/dir/a", version(3, 1, 4), None)?);
-        assert!(rt; newest.get(b"/dir/a").is_none());
-        assert!(rt; !newest.take(alloc, b"/dir/a", version(3, 1, 3), Some(b"9"))?);
-        assert!(rt; newest.take(alloc, b"/dir/a", version(3, 2, 1), Some(b"9"))?);
-        assert!(rt; newest.get(b"/dir/a") == Some(b"9".as_slice()));
-        assert!(rt; newest.get(b"/dir").is_none());
-        Ok(())
-    }
-
-    #[test]
-    fn items_stand_in_the_order_of_their_last_changes(rt: HostRuntime) -> Result<(), Fail> {
-        let alloc = rt.alloc();
-        let mut newest = Newest::new(alloc);
-        for key in [b"/a", b"/b", b"/c"] {
-            let _ = newest.take(alloc, key, version(0, 0, 1), Some(b"x"))?;
-        }
-        let _ = newest.take(alloc, b"/a", version(0, 1, 1), None)?;
-        let all = newest.since(alloc, 0)?;
-        assert_eq!(rt; all.len(), 3);
-        assert_eq!(rt; all.as_slice()[0].key.as_slice(), b"/b".as_slice());
-        assert_eq!(rt; all.as_slice()[2].key.as_slice(), b"/a".as_slice());
-        assert!(rt; all.as_slice()[2].value.is_none());
-        let last = newest.since(alloc, 2)?;
-        assert_eq!(rt; last.len(), 1);
-        assert_eq!(rt; newest.since(alloc, 3)?.len(), 0);
-        assert_eq!(rt; newest.under(alloc, b"/a")?.len(), 1);
-        crate::newest_of_all_takes();
-        Ok(())
     }
 }

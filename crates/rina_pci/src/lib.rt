@@ -14,6 +14,3 @@ pub use life::{read_life, write_life};
 pub use reading::read_pdu;
 pub use widths::{Widths, pci_len};
 pub use writing::write_pdu;
-
-#[cfg(test)]
-mod tests;

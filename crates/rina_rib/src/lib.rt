@@ -15,6 +15,3 @@ pub use object::Object;
 pub use rib::Rib;
 pub use rina_base::Class;
 pub use walk::Walk;
-
-#[cfg(test)]
-mod tests;

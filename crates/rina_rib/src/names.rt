@@ -4,7 +4,7 @@ ghost use Rattle.rina_rib.specs.Names.{last_slash, parent_of, is_child, is_below
 
 /// The place of the last slash, 0 where there is none.
 #[tactic(auto, unfolding(crate::specs::Names::last_slash))]
-fn slash(name: &[u8]) -> usize
+fn last_slash(name: &[u8]) -> usize
     ensures at { result ≡ last_slash 0 0 name.now }
     ensures within { result ≤ length name.now }
 {
@@ -25,7 +25,7 @@ pub(crate) fn parent(name: &[u8]) -> Option<&[u8]>
     if name.len() <= 1 {
         return None;
     }
-    let at = slash(name);
+    let at = last_slash(name);
     let (front, _last) = name.split_at(at.max(1));
     Some(front)
 }

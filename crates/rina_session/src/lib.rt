@@ -4,6 +4,3 @@
 mod session;
 
 pub use session::{Session, SessionError, State};
-
-#[cfg(test)]
-mod tests;
