@@ -1,7 +1,7 @@
-use super::*;
+//! Numbers and receivers.
 use rina_base::{Cause, Key, Num, PduKind, PduView};
 use rina_cube::{Cube, Kind};
-use std::alloc::{AllocError, Global};
+use rina_dtp::{Numbers, NumbersSpent, Rx, Verdict};
 use std::process::Abort;
 use std::test::*;
 
@@ -233,72 +233,5 @@ fn what_is_held_is_given_up_with_its_state(rt: HostRuntime) -> Result<(), Fail> 
         Some((key(3), Cause::NoConnection { cep: 5 }))
     );
     assert_eq!(rt; rx.dropped(146), None);
-    Ok(())
-}
-
-/// The definition of a datagram receiver as a program: the list of the numbers that were accepted.
-#[derive(Drop)]
-struct Listed {
-    made: bool,
-    last_in: u32,
-    accepted: Vec<u32>,
-}
-
-impl Listed {
-    fn judge(&self, now: u32, number: u32) -> Judged {
-        if !self.made || u64::from(now) >= u64::from(self.last_in) + 80 {
-            return Judged::Accepted;
-        }
-        let highest = self.accepted.iter().copied().max().unwrap_or(0);
-        if u64::from(number) + 4096 <= u64::from(highest) {
-            Judged::Behind
-        } else if self.accepted.contains(&number) {
-            Judged::Duplicate
-        } else {
-            Judged::Accepted
-        }
-    }
-
-    fn on_data(&mut self, now: u32, number: u32) -> Result<Judged, AllocError> {
-        let judged = self.judge(now, number);
-        if judged == Judged::Accepted {
-            if !self.made || u64::from(now) >= u64::from(self.last_in) + 80 {
-                self.accepted.clear();
-            }
-            self.accepted.push(number)?;
-            self.made = true;
-        }
-        self.last_in = now;
-        Ok(judged)
-    }
-}
-
-/// What a verdict says of the numbers.
-fn judged(told: Verdict) -> Judged {
-    match told {
-        Verdict::Off(Cause::Duplicate { num: _ }) => Judged::Duplicate,
-        Verdict::Off(Cause::Behind { highest: _ }) => Judged::Behind,
-        _ => Judged::Accepted,
-    }
-}
-
-#[test]
-fn the_ring_tells_what_the_list_tells(rt: HostRuntime) -> Result<(), Fail> {
-    let alloc = rt.alloc();
-    let mut rx = Rx::new(alloc, &DATAGRAM, 80)?;
-    let mut listed = Listed {
-        made: false,
-        last_in: 0,
-        accepted: Vec::new(alloc),
-    };
-    let mut draw: u32 = 7;
-    for turn in 0u32..600 {
-        draw = draw.wrapping_mul(1_664_525).wrapping_add(1_013_904_223);
-        // Every 100 turns the state ends.
-        let now = turn / 4 + turn / 100 * 90;
-        let number = turn * 20 + draw / 65_536 % 6000;
-        let told = rx.on_data(now, &whole(number, false, b""), 0);
-        assert_eq!(rt; judged(told), listed.on_data(now, number)?);
-    }
     Ok(())
 }

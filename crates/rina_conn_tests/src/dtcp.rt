@@ -1,6 +1,7 @@
-use super::*;
+//! Senders, the plan of acknowledgements and the window.
 use rina_base::{Bytes, Pdu, PduKind};
 use rina_cube::{Cube, Kind};
+use rina_dtcp::{AckPlan, Credit, Tx};
 use std::alloc::Global;
 use std::test::*;
 

@@ -2,8 +2,8 @@
 ghost use Rattle.std.specs.Prelude.{◌≤◌};
 ghost use Rattle.rina_cube.specs.Cubes.{IsCube};
 
-use super::*;
 use rina_base::{Cause, Cep, Memory, Num, Pdu, PduKind, PduView, Tick};
+use rina_conn::{Conn, ConnDue, Made, OfferError, Peer};
 use rina_cube::Cube;
 use rina_dtcp::GaveUp;
 use rina_dtp::Verdict;
@@ -57,6 +57,7 @@ pub enum Event {
     GiveUp,
     End,
     Drop,
+    Close,
     Sender,
     Receiver,
 }
@@ -78,6 +79,8 @@ pub enum Answer {
     GivenUp(Option<GaveUp>),
     Gone(bool),
     Dropped(Option<Cause>),
+    /// How many pieces were kept.
+    Kept(u32),
     Next(Option<u64>),
     /// There is no such piece.
     Missing,
@@ -130,8 +133,8 @@ fn acknowledgement(ack: u32, right: u32) -> PduView<'static> {
 }
 
 /// The PDU of a piece of an SDU that was offered.
-fn piece_of(made: &[Made], at: Coming) -> Option<&Pdu> {
-    made.get(at.sdu)?.pdus.get(at.piece)
+fn piece_of(made: &[Made], coming: Coming) -> Option<&Pdu> {
+    made.get(coming.sdu)?.pdus.get(coming.piece)
 }
 
 impl Ends {
@@ -154,21 +157,21 @@ impl Ends {
         }
     }
 
-    fn come(&mut self, now: Tick, at: Coming) -> Answer
+    fn come(&mut self, now: Tick, coming: Coming) -> Answer
         requires { now ≤ 10000000 }
     {
-        match piece_of(self.made.as_slice(), at) {
-            Some(pdu) => Answer::Told(self.far.on_data(now, &view(pdu), at.unpassed)),
+        match piece_of(self.made.as_slice(), coming) {
+            Some(pdu) => Answer::Told(self.far.on_data(now, &view(pdu), coming.unpassed)),
             None => Answer::Missing,
         }
     }
 
-    fn ahead(&self, alloc: Global, now: Tick, at: Coming) -> Result<Answer, Memory>
+    fn ahead(&self, alloc: Global, now: Tick, coming: Coming) -> Result<Answer, Memory>
         requires { now ≤ 10000000 }
     {
-        match piece_of(self.made.as_slice(), at) {
+        match piece_of(self.made.as_slice(), coming) {
             Some(pdu) => {
-                let bodies = self.far.ahead(alloc, now, &view(pdu), at.unpassed)?;
+                let bodies = self.far.ahead(alloc, now, &view(pdu), coming.unpassed)?;
                 Ok(Answer::Count(bodies.len()))
             }
             None => Ok(Answer::Missing),
@@ -238,8 +241,8 @@ impl Ends {
     {
         match event {
             Event::Offer(len) => self.offer(alloc, now, len),
-            Event::Come(at) => Ok(self.come(now, at)),
-            Event::Ahead(at) => self.ahead(alloc, now, at),
+            Event::Come(coming) => Ok(self.come(now, coming)),
+            Event::Ahead(coming) => self.ahead(alloc, now, coming),
             Event::Fetch => Ok(self.fetch()),
             Event::Pass => Ok(self.pass(now)),
             Event::Acknowledge => Ok(self.acknowledge(now)),
@@ -247,6 +250,7 @@ impl Ends {
             Event::GiveUp => Ok(self.give_up(now)),
             Event::End => Ok(self.end(now)),
             Event::Drop => Ok(self.drop_one(now)),
+            Event::Close => Ok(Answer::Kept(self.far.close())),
             Event::Sender => Ok(Answer::Next(self.near.tx_next(now))),
             Event::Receiver => Ok(Answer::Next(self.far.rx_next(now))),
         }

@@ -1,4 +1,5 @@
-use super::*;
+//! Cutting SDUs and joining pieces.
+use rina_delim::{Joined, Joiner, Part, Run, cut};
 use std::process::Abort;
 use std::test::*;
 
@@ -20,23 +21,6 @@ fn an_sdu_is_cut(rt: HostRuntime) -> Result<(), Fail> {
         part(false, true, 160, 40),
     ];
     assert_eq!(rt; parts.as_slice(), wanted.as_slice());
-    Ok(())
-}
-
-#[test]
-fn an_sdu_of_whole_parts_has_no_more(rt: HostRuntime) -> Result<(), Fail> {
-    let parts = cut(rt.alloc(), 160, 80)?;
-    assert_eq!(rt;
-        parts.as_slice(),
-        [part(true, false, 0, 80), part(false, true, 80, 80)].as_slice()
-    );
-    Ok(())
-}
-
-#[test]
-fn an_empty_sdu_is_one_part(rt: HostRuntime) -> Result<(), Fail> {
-    let parts = cut(rt.alloc(), 0, 80)?;
-    assert_eq!(rt; parts.as_slice(), [part(true, true, 0, 0)].as_slice());
     Ok(())
 }
 
@@ -90,15 +74,5 @@ fn a_lost_piece_breaks_an_sdu(rt: HostRuntime) -> Result<(), Fail> {
     assert_eq!(rt; joiner.whole(), b"next".as_slice());
     joiner.reset();
     assert_eq!(rt; joiner.whole(), b"".as_slice());
-    Ok(())
-}
-
-#[test]
-fn a_first_piece_begins_anew(rt: HostRuntime) -> Result<(), Fail> {
-    let mut joiner = Joiner::new(rt.alloc(), 4)?;
-    push(&rt, &mut joiner, (0, true, false, b"old"), Joined::More);
-    push(&rt, &mut joiner, (2, true, false, b"ne"), Joined::More);
-    push(&rt, &mut joiner, (3, false, true, b"w"), Joined::Whole);
-    assert_eq!(rt; joiner.whole(), b"new".as_slice());
     Ok(())
 }

@@ -1,7 +1,7 @@
 //! What two ends of a connection tell each other.
-use super::*;
 use crate::exchange::{Answer, Coming, Event, first_difference, num};
 use rina_base::{Cause, Tick};
+use rina_conn::{Conn, OfferError, Peer};
 use rina_cube::{Cube, Kind};
 use rina_dtcp::GaveUp;
 use rina_dtp::Verdict;
@@ -55,12 +55,12 @@ const fn offer(now: Tick, seq: u64) -> Step {
 
 /// The first piece of an SDU comes, while nothing waits to be passed.
 const fn come(now: Tick, sdu: usize, told: Verdict) -> Step {
-    let at = Coming {
+    let coming = Coming {
         sdu,
         piece: 0,
         unpassed: 0,
     };
-    (now, Event::Come(at), Answer::Told(told))
+    (now, Event::Come(coming), Answer::Told(told))
 }
 
 const WHOLE: Verdict = Verdict::Accept { whole: 1 };
@@ -105,21 +105,21 @@ const fn receiver(now: Tick, next: Option<u64>) -> Step {
 
 /// A piece of an SDU comes, while so many SDUs wait to be passed.
 const fn come_at(now: Tick, sdu: usize, piece: usize, unpassed: u32, told: Verdict) -> Step {
-    let at = Coming {
+    let coming = Coming {
         sdu,
         piece,
         unpassed,
     };
-    (now, Event::Come(at), Answer::Told(told))
+    (now, Event::Come(coming), Answer::Told(told))
 }
 
 const fn ahead(now: Tick, sdu: usize, piece: usize, unpassed: u32, count: usize) -> Step {
-    let at = Coming {
+    let coming = Coming {
         sdu,
         piece,
         unpassed,
     };
-    (now, Event::Ahead(at), Answer::Count(count))
+    (now, Event::Ahead(coming), Answer::Count(count))
 }
 
 const fn refuse(now: Tick, len: usize, why: OfferError) -> Step {
@@ -390,5 +390,21 @@ fn numbers_are_spent(rt: HostRuntime) -> Result<(), Fail> {
     assert_eq!(rt; near.offer(alloc, 119, b"x").err(), Some(spent));
     let made = near.offer(alloc, 120, b"x")?;
     assert_eq!(rt; made.num, num(0));
+    Ok(())
+}
+
+#[test]
+fn an_sdu_is_cut_or_refused_and_a_connection_closed(rt: HostRuntime) -> Result<(), Fail> {
+    let steps = [
+        (0, Event::Offer(200), Answer::Number(0)),
+        sender(0, Some(3)),
+        refuse(0, 241, OfferError::TooLong { len: 241, max: 240 }),
+        sender(119, Some(3)),
+        sender(120, None),
+        come(120, 0, PART),
+        (120, Event::Close, Answer::Kept(1)),
+    ];
+    let different = first_difference(rt.alloc(), &LOOSE, MAX, &steps)?;
+    assert_eq!(rt; different, None);
     Ok(())
 }
