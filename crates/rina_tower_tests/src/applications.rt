@@ -2,11 +2,11 @@
 ghost use Rattle.std.specs.Prelude.{IfOk};
 ghost use Rattle.rina_tower.specs.Stands.{IsTower};
 
-use super::*;
 use rina_base::{AppName, Name, Num, Port, Seq};
 use rina_cube::Want;
 use rina_iface::{Ask, Facility, PortState, RegisterError};
 use rina_stack::{Plan, Rounds, WirePlan};
+use rina_tower::{AppError, Tower};
 use rina_wire::Wires;
 use std::alloc::Global;
 use std::test::Fail;

@@ -2,13 +2,12 @@
 ghost use Rattle.std.specs.Prelude.{◌≡◌, [], IfOk};
 ghost use Rattle.rina_tower.specs.Stands.{IsTower};
 
-use super::*;
-use rina_base::{Memory, Name, Node, Port};
-use rina_data::{InStep, OutStep, StepError, Took};
-use rina_iface::{Facility, SendError};
+use rina_base::{Name, Node, Port};
+use rina_data::{InStep, OutStep, Took};
+use rina_iface::Facility;
 use rina_policy::{Head, Picks};
 use rina_stack::{BuiltIn, read_stack};
-use rina_wire::TickError;
+use rina_tower::Tower;
 use std::alloc::Global;
 use std::test::Fail;
 
@@ -262,28 +261,5 @@ fn rounds_carry_an_sdu_down_four_ranks_and_up_again(rt: HostRuntime) -> Result<(
     };
     assert_eq!(rt; lent.at, 4);
     assert_eq!(rt; lent.bytes, b"one".as_slice());
-    Ok(())
-}
-
-#[test]
-fn a_tower_that_wanted_memory_answers_so(rt: HostRuntime) -> Result<(), Fail> {
-    let alloc = rt.alloc();
-    let mut tower = tower(alloc)?;
-    let from = Port {
-        fac: 0,
-        node: 0,
-        n: 1,
-    };
-    assert!(rt; !tower.has_failed());
-    assert_eq!(rt; tower.remember_memory_failure(), Memory);
-    assert!(rt; tower.has_failed());
-    assert_eq!(rt;
-        tower.app_send(alloc, 4, from, b"one"),
-        Err(AppError::Call(SendError::Memory))
-    );
-    assert_eq!(rt; tower.in_step(alloc, 9, 0, 0, 0), Err(StepError::Memory));
-    assert_eq!(rt; tower.round(alloc, &mut NoPolicies), Err(Memory));
-    assert_eq!(rt; tower.tick(alloc), Err(TickError::Memory));
-    assert_eq!(rt; tower.cut(0), Ok(()));
     Ok(())
 }

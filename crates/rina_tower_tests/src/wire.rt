@@ -2,11 +2,11 @@
 ghost use Rattle.std.specs.Prelude.{IfOk};
 ghost use Rattle.rina_wire.specs.Sound.{IsSound};
 
-use crate::Wires;
 use rina_base::{AppName, Name, Port, Seq};
 use rina_cube::Want;
 use rina_iface::{Ask, Facility};
 use rina_stack::{Plan, Rounds, WirePlan};
+use rina_wire::Wires;
 use std::alloc::Global;
 use std::test::Fail;
 
