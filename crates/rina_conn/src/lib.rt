@@ -14,10 +14,3 @@ pub use laws::connection_receives_on;
 pub use made::{Made, OfferError, Pdus};
 pub use sending::{Admitted, Sending};
 pub use waiting::Waiting;
-
-#[cfg(test)]
-mod exchange;
-#[cfg(test)]
-mod exchanges;
-#[cfg(test)]
-mod tests;

@@ -10,6 +10,3 @@ pub use joiner::{Joined, Joiner, Run};
 pub use laws::{parts_join_again, whole_is_one_sdu};
 pub use memory::Memory;
 pub use part::{Part, cut};
-
-#[cfg(test)]
-mod tests;

@@ -11,6 +11,3 @@ pub use credit::Credit;
 pub use plan::AckPlan;
 pub use sent::{GaveUp, Sent};
 pub use tx::Tx;
-
-#[cfg(test)]
-mod tests;

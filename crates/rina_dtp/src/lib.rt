@@ -28,6 +28,3 @@ pub use shelf::Shelf;
 pub use slot::Slot;
 pub use source::Source;
 pub use verdict::{Judged, Verdict};
-
-#[cfg(test)]
-mod tests;

@@ -6,8 +6,3 @@ mod timers;
 mod wheel;
 
 pub use timers::Timers;
-
-#[cfg(test)]
-mod plain;
-#[cfg(test)]
-mod tests;

@@ -1,4 +1,4 @@
--- Flows that were bound on the own rank of a tower.
+-- Flows that were bound on the top rank of a tower.
 use Rattle.std.proofs.Common.{◌≡◌, ◌≢◌, ◌∙◌, ℕ, zero, suc, ◌+◌, ◌-◌, ◌≤◌, ◌<◌, ◌==◌, cond, Bool, true, false, List, [], ◌∷◌, ◌++◌, length, map, get_or, slice_get, take, Option, Some, Ok, refl, sym, ap, subst, arith}
 use Rattle.std.specs.Prelude.{All, flat_map}
 use Rattle.std.specs.List.{range_with_len}

@@ -27,12 +27,12 @@ rank_valid (Rank' p difs below) r u v at = elim (eqb_tells r (height_of below + 
 none_some : (d : Dif) → None ≡ Some d → ⊥
 none_some d h = cc
 
--- a DIF of the own rank is one
+-- a DIF of the top rank is one
 pub own_valid : (t : Tower) (n : ℕ) (d : Dif) → IsTower t → dif_of t n ≡ Some d → IsDif d
 own_valid (Wires a) n d v at = absurd (none_some d at)
 own_valid (Rank' p difs below) n d v at = rank_difs difs below v.0 n d at
 
--- a DIF of the own rank of a rank is a DIF of that rank
+-- a DIF of the top rank of a rank is a DIF of that rank
 pub dif_there : (t : Tower) (r n : ℕ) (u : Tower) (d : Dif) → rank_of t r ≡ Some u → dif_of u n ≡ Some d → dif_at t r n ≡ Some d
 dif_there t r n u d at own = ap (λ (o : Option Tower). option_and_then (λ (u : Tower). dif_of u n) o) at ∙ own
 

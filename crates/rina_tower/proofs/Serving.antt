@@ -134,7 +134,7 @@ frees_seen port result difs difs' below rank a = elim a [
 
 -- What is done at a rank below
 
--- the height stays where nothing below the own rank changes
+-- the height stays where nothing below the top rank changes
 pub same_height : (t t' : Tower) → SameBelow t t' → height_of t' ≡ height_of t
 same_height (Wires a) (Wires a') h = refl
 same_height (Rank' p difs below) (Rank' p' difs' below') h = rw h.1 refl

@@ -62,7 +62,7 @@ difs_planned plan rank difs difs' s h n d' at =
     let was = there difs n (omega (arith, within, number)) in
     plan_stays plan rank was.0 d' (s.each n was.0 d' was.1 at) (h n was.0 was.1)
 
--- where nothing below the own rank changes
+-- where nothing below the top rank changes
 pub same_planned : (plan : Plan) (t t' : Tower) → SameBelow t t' → IsAsPlanned plan t → IsAsPlanned plan t'
 same_planned plan (Wires a) (Wires a') s h = tt
 same_planned plan (Rank' p difs below) (Rank' p' difs' below') s h =

@@ -22,7 +22,7 @@ use Rattle.rina_tower.specs.Ranks.{height_of, rank_of, seen_of}
 use Rattle.rina_tower.specs.Levels.{AtRank, SameBelow}
 use Rattle.rina_tower.proofs.Calling.{allocates_alone, passes_alone, sends_alone}
 
--- at the own rank
+-- at the top rank
 pub at_own : (r : ℕ) (does : Tower → Tower → Type 0) (none : Type 0) (t t' : Tower) → r ≡ height_of t → SameBelow t t' → does t t' → AtRank r does none t t'
 at_own r does none (Wires a) (Wires a') h same d = inl (h, d)
 at_own r does none (Rank' p difs below) (Rank' p' difs' below') h same d = inl (h, d)

@@ -37,7 +37,7 @@ pub record AreBound (old : Seen) (flows : List Fixed) (new : Seen) : Type 0 wher
   pub ports : List (Port × Port)
   pub bound : BindsAll old flows ports new
 
--- these flows were bound on the own rank of a tower, and none of them is one of an IPC process
+-- these flows were bound on the top rank of a tower, and none of them is one of an IPC process
 pub record HasBound (old : Tower) (flows : List Fixed) (new : Tower) : Type 0 where
   pub valid : IsTower new
   pub below : SameBelow old new

@@ -41,7 +41,7 @@ pub record IsRankOf (plan : Plan) (r : ℕ) (ground fresh : Seen) : Type 0 where
   pub made : AreMade plan (places_in plan r (length plan.difs)) ground difs below
   pub shows : fresh ≡ seen_of_difs 0 difs
 
--- the own rank of a tower showed `fresh` before anything was bound there, and was bound then; and so each rank below
+-- the top rank of a tower showed `fresh` before anything was bound there, and was bound then; and so each rank below
 abbrev pub IsBuiltFrom : Plan → Tower → Seen → Type 0
 IsBuiltFrom plan (Wires a) fresh = (fresh ≡ seen_of_wires (air_of plan)) × IsUsed plan 0 fresh (seen_of_wires a)
 IsBuiltFrom plan (Rank' p difs below) fresh = (ground : Seen) × IsBuiltFrom plan below ground × IsRankOf plan (height_of below + 1) ground fresh × IsUsed plan (height_of below + 1) fresh (seen_of (Rank' p difs below))
@@ -50,7 +50,7 @@ IsBuiltFrom plan (Rank' p difs below) fresh = (ground : Seen) × IsBuiltFrom pla
 abbrev pub IsBuilt : Plan → Tower → Type 0
 IsBuilt plan t = (fresh : Seen) × IsBuiltFrom plan t fresh
 
--- the own rank of a tower that is being built shows what it showed when it was made
+-- the top rank of a tower that is being built shows what it showed when it was made
 abbrev pub IsTop : Plan → Tower → Type 0
 IsTop plan (Wires a) = a ≡ air_of plan
 IsTop plan (Rank' p difs below) = (ground : Seen) × IsBuiltFrom plan below ground × ((new : Seen) × AreMade plan (places_in plan (height_of below + 1) (length plan.difs)) ground difs new)

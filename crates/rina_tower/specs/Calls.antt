@@ -1,4 +1,4 @@
--- What the calls of a facility do at the own rank of a tower.
+-- What the calls of a facility do at the top rank of a tower.
 use Rattle.std.specs.Prelude.{◌≡◌, ℕ, false, List, length, slice_get, Option, Some, None, IsSome, Result, Err}
 use Rattle.rina_base.specs.declared.number.Num.{Num}
 use Rattle.rina_base.specs.declared.number.Port.{Port}

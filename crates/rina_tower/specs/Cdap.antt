@@ -15,7 +15,7 @@ pub record AsksOne (node : ℕ) (bytes : List ℕ) (result : Result (List ℕ) C
   pub goes_on : GoesOn d d'
   pub stands : StaysStanding d d'
 
--- at the own rank: the DIF of that place
+-- at the top rank: the DIF of that place
 abbrev pub AsksAtTop : ℕ → ℕ → List ℕ → Result (List ℕ) CdapCallError → Tower → Tower → Type 0
 AsksAtTop dif node bytes result (Wires a) (Wires a') = (result ≡ Err NoIpc) × (a' ≡ a)
 AsksAtTop dif node bytes result (Rank' p difs below) (Rank' p' difs' below') =

@@ -8,7 +8,7 @@ use Rattle.rina_dif.specs.Facade.{IsLedger}
 use Rattle.rina_tower.specs.declared.tower.Tower.{Tower, Wires, Rank'}
 use Rattle.rina_tower.specs.Ranks.{rank_of}
 
--- the DIF of place n at the own rank; wires have none
+-- the DIF of place n at the top rank; wires have none
 abbrev pub dif_of : Tower → ℕ → Option Dif
 dif_of (Wires a) n = None
 dif_of (Rank' p difs below) n = slice_get difs n

@@ -25,12 +25,12 @@ fac_of_dif d = fac_of (seen_of_dif d)
 abbrev pub seen_of_difs : ℕ → List Dif → Seen
 seen_of_difs now difs = record { now = now; facs = map fac_of_dif difs }
 
--- what the own rank of a tower shows
+-- what the top rank of a tower shows
 abbrev pub seen_of : Tower → Seen
 seen_of (Wires a) = seen_of_wires a
 seen_of (Rank' p difs below) = seen_of_difs (now_of below) difs
 
--- the tower that the own rank stands on; none where these are wires
+-- the tower that the top rank stands on; none where these are wires
 abbrev pub below_of : Tower → Option Tower
 below_of (Wires a) = None
 below_of (Rank' p difs below) = Some below

@@ -1,4 +1,4 @@
--- What a tower refuses at its own rank by what it alone knows.
+-- What a tower refuses at its top rank by what it alone knows.
 use Rattle.std.specs.Prelude.{ℕ, Bool, true, false, List, map, nat_lt, slice_get, Option, Some, None, IfSome, option_and_then, if◌then◌else◌}
 use Rattle.rina_base.specs.declared.number.Port.{Port}
 use Rattle.rina_conn.specs.declared.conn.Conn.{Conn}

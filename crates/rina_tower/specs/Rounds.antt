@@ -49,7 +49,7 @@ AllMove (m ∷ ms) slots t slots' t' = (mid : List Slot) × (between : Tower) ×
 abbrev pub Runs : (List Move → Type 0) → List Slot → Tower → List Slot → Tower → Type 0
 Runs Are slots t slots' t' = (ms : List Move) × Are ms × AllMove ms slots t slots' t'
 
--- after steps the tower stands at the same tick and height, and at its own rank nobody sent or passed anything
+-- after steps the tower stands at the same tick and height, and at its top rank nobody sent or passed anything
 pub record Follows (t t' : Tower) : Type 0 where
   pub valid : IsTower t'
   pub quiet : LeavesNow Anyone (seen_of t) (seen_of t')

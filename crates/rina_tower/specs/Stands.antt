@@ -38,7 +38,7 @@ abbrev pub IsTower : Tower → Type 0
 IsTower (Wires a) = IsSound a
 IsTower (Rank' p difs below) = IsRank difs below × IsTower below
 
--- What follows of the own rank
+-- What follows of the top rank
 
 pub kept_of : (t : Tower) → IsTower t → AreKept (seen_of t)
 kept_of (Wires a) v = v.kept

@@ -30,7 +30,7 @@ pub record TakesOne (below : Seen) (node link : ℕ) (result : Result InStep Ste
   pub does : (lines : List Direction) → Holds d lines below → TakesHome d lines below node link result d' below'
   pub after : StandsAfter below below' d d'
 
--- at the own rank: the DIF of that place, over the rank below, of which nothing else changes
+-- at the top rank: the DIF of that place, over the rank below, of which nothing else changes
 abbrev pub InStepsAtTop : ℕ → ℕ → ℕ → Result InStep StepError → Tower → Tower → Type 0
 InStepsAtTop dif node link result (Wires a) (Wires a') = (result ≡ Err NoIpc) × (a' ≡ a)
 InStepsAtTop dif node link result (Rank' p difs below) (Rank' p' difs' below') =

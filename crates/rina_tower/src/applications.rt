@@ -31,7 +31,7 @@ pub enum AppError<E> {
 }
 
 impl Tower {
-    /// Registers an application at the own rank, where it is no IPC process.
+    /// Registers an application at the top rank, where it is no IPC process.
     fn register_app_at_top(
         &mut self,
         alloc: Global,
@@ -78,7 +78,7 @@ impl Tower {
         self.app_register_at_rank(alloc, r, fac, node, app)
     }
 
-    /// The same, where nobody asks whether memory was wanted before.
+    /// Walks down to rank `r` and registers there.
     fn app_register_at_rank(
         &mut self,
         alloc: Global,
@@ -103,7 +103,7 @@ impl Tower {
         }
     }
 
-    /// Ends the registration of an application at the own rank, where it is no IPC process.
+    /// Ends the registration of an application at the top rank, where it is no IPC process.
     fn unregister_app_at_top(
         &mut self,
         alloc: Global,
@@ -150,7 +150,7 @@ impl Tower {
         self.app_unregister_at_rank(alloc, r, fac, node, app)
     }
 
-    /// The same, where nobody asks whether memory was wanted before.
+    /// Walks down to rank `r` and ends the registration there.
     fn app_unregister_at_rank(
         &mut self,
         alloc: Global,

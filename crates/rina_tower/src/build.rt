@@ -1,4 +1,4 @@
-//! A tower is built of a plan: rank by rank, and on each rank links before flows.
+//! How a tower is built of a plan: rank by rank, and on each rank links before flows.
 ghost use Rattle.std.specs.Prelude.{◌≡◌, false, ◌<◌, ◌+◌, IfOk, OnOk, length, map, slice_get, Some, [], ◌∷◌};
 ghost use Rattle.rina_iface.specs.Bind.{CanBind};
 ghost use Rattle.rina_stack.specs.Ranges.{HasNames};
@@ -67,7 +67,7 @@ fn flow_fixed(alloc: Global, plan: &Plan, place: usize, flow: &FlowPlan) -> Resu
     })
 }
 
-/// Makes a flow on the own rank.
+/// Makes a flow on the top rank.
 fn bind_flow(alloc: Global, tower: &mut Tower, fixed: &Fixed) -> Result<(), Memory>
     requires valid { IsTower tower.old }
     requires can { CanBind (seen_of tower.old) fixed.now }
@@ -80,7 +80,7 @@ fn bind_flow(alloc: Global, tower: &mut Tower, fixed: &Fixed) -> Result<(), Memo
     }
 }
 
-/// Makes the flows of the DIF at a place of the stack, which is of the own rank, in stack order.
+/// Makes the flows of the DIF at a place of the stack, which is of the top rank, in stack order.
 fn bind_flows(
     alloc: Global,
     plan: &Plan,
@@ -101,7 +101,7 @@ fn bind_flows(
     Ok(())
 }
 
-/// The same, where the DIF is of a rank.
+/// Makes the flows of the DIF at a place of the stack, where that DIF is of this rank.
 fn bind_flows_on_rank(
     alloc: Global,
     plan: &Plan,
@@ -124,7 +124,7 @@ fn bind_flows_on_rank(
     bind_flows(alloc, plan, place, dif, tower)
 }
 
-/// Makes the flows of the DIFs of the own rank, in stack order.
+/// Makes the flows of the DIFs of the top rank, in stack order.
 fn bind_rank(alloc: Global, plan: &Plan, rank: u8, tower: &mut Tower) -> Result<(), Memory>
     requires plan { IsPlan plan.now }
     requires valid { IsTower tower.old }
@@ -179,7 +179,7 @@ fn make_rank(alloc: Global, plan: &Plan, rank: u8, below: &mut Tower) -> Result<
     Ok(difs)
 }
 
-/// Makes the rank above a tower of so many ranks, and then the flows of the one that was its own.
+/// Makes the rank above a tower of so many ranks, and then the flows of the rank that was its top.
 fn add_rank(alloc: Global, plan: &Plan, rank: u8, mut below: Tower) -> Result<Tower, Memory>
     requires plan { IsPlan plan.now }
     requires rank { rank < 8 }
@@ -211,7 +211,7 @@ impl Tower {
             tower = add_rank(alloc, plan, rank, tower)?;
         }
         bind_rank(alloc, plan, top, &mut tower)?;
-        // Who wanted memory has answered so; but the trait, by which a rank is used, does not tell that nobody else noted it.
+        // Each call that failed has answered `Memory`; but the trait does not say that no other place has remembered a failure.
         if tower.has_failed() {
             return Err(Memory);
         }

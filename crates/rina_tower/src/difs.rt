@@ -57,7 +57,7 @@ impl Difs {
         self.items.len()
     }
 
-    /// Whether memory was wanted at one of them and not found.
+    /// Whether an allocation has failed at one of them.
     pub fn have_failed(&self) -> bool
         ensures { result ≡ have_failed self.now }
     {

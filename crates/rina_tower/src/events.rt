@@ -43,7 +43,7 @@ impl Tower {
         self.repeat_on_wires(alloc, wire, k, at)
     }
 
-    /// The same, where nobody asks whether memory was wanted before.
+    /// Walks down to the wires and adds the copy there.
     fn repeat_on_wires(
         &mut self,
         alloc: Global,

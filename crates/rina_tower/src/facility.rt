@@ -1,4 +1,5 @@
-//! A tower as the facilities of its own rank. Once memory was wanted at any rank, each call that takes memory answers so.
+//! A tower as the facilities of its top rank. Once an allocation has failed at any rank, each call that allocates fails with
+//! `Memory`.
 ghost use Rattle.std.specs.Prelude.{◌≡◌, true, false, Err, IsSome, length};
 ghost use Rattle.rina_iface.specs.declared.error.AllocateError.TheVariants as allocate;
 ghost use Rattle.rina_iface.specs.declared.error.FreeError.TheVariants as free;

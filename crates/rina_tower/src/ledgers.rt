@@ -9,7 +9,7 @@ use rina_base::Node;
 use rina_dif::Dif;
 
 impl Tower {
-    /// The DIF of a number at the own rank. None exactly where there is none.
+    /// The DIF of a number at the top rank. None exactly where there is none.
     pub(crate) fn top_dif(&self, dif: u16) -> Option<&Dif>
         ensures { MatchOption result (dif_of self.now dif ≡ None) (λ d. dif_of self.now dif ≡ Some d.now) }
     {

@@ -20,8 +20,3 @@ pub use applications::AppError;
 pub use difs::Difs;
 pub use places::{LinkPlace, MemberPlace};
 pub use tower::{Rank, Tower};
-
-#[cfg(test)]
-mod build_tests;
-#[cfg(test)]
-mod tests;

@@ -1,4 +1,4 @@
-//! What a tower keeps after memory was wanted and not found.
+//! Whether an allocation has failed at any rank.
 ghost use Rattle.std.specs.Prelude.{◌≡◌, true};
 ghost use Rattle.rina_tower.specs.MemoryFailure.{Fails, has_failed};
 ghost use Rattle.rina_tower.specs.Rounds.{Follows};
@@ -8,8 +8,8 @@ use crate::tower::Tower;
 use rina_base::Memory;
 
 impl Tower {
-    /// Whether memory was wanted and not found, at the wires or at a DIF of any rank. Each call that takes memory then
-    /// answers so, and changes nothing.
+    /// Whether an allocation has failed, at the wires or at a DIF of any rank. Each call that allocates then fails with
+    /// `Memory` and changes nothing.
     pub fn has_failed(&self) -> bool
         ensures { result ≡ has_failed self.now }
     {
@@ -19,7 +19,7 @@ impl Tower {
         }
     }
 
-    /// Notes at the wires that the tower itself wanted memory and found none, and answers so.
+    /// Remembers at the wires that an allocation of the tower itself has failed, and answers `Memory`.
     pub(crate) fn remember_memory_failure(&mut self) -> Memory
         requires { IsTower self.old }
         ensures follows { Follows self.old self.new }

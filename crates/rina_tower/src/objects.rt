@@ -19,8 +19,8 @@ use std::alloc::Global;
 
 impl Tower {
     /// The object of a name at the member of a node of a DIF of rank `r`, and all under it, in the byte order of names.
-    /// `NoIpc` exactly where there is no such DIF, or it has no member there. Since it only reads, the tower does not note
-    /// that it wanted memory; but after a call that did, it answers `Memory` too.
+    /// `NoIpc` exactly where there is no such DIF, or it has no member there. It only reads: the tower does not remember that
+    /// its allocation failed, but it fails with `Memory` where another has failed before.
     pub fn rib(
         &self,
         alloc: Global,
@@ -70,7 +70,7 @@ impl Tower {
         self.cdap_at_rank(alloc, r, dif, node, bytes)
     }
 
-    /// The same, where nobody asks whether memory was wanted before.
+    /// Walks down to rank `r` and gives the bytes to that IPC process.
     fn cdap_at_rank(
         &mut self,
         alloc: Global,

@@ -15,7 +15,7 @@ use rina_data::{ClockStep, InStep, OutStep, StepError};
 use rina_policy::Picks;
 use std::alloc::Global;
 
-/// Whether a step took something, so that there may be more. Want of memory is passed on.
+/// Whether a step took something, so that there may be more. `Memory` is passed on.
 fn has_taken(answer: Result<InStep, StepError>) -> Result<bool, Memory>
     ensures tells { IfOk result (λ on. (has_taken answer ≡ on) × (takes_no_more answer ≡ not on)) }
     ensures memory { OnErr result (answer ≡ Err errors.Memory) }
@@ -29,7 +29,7 @@ fn has_taken(answer: Result<InStep, StepError>) -> Result<bool, Memory>
     }
 }
 
-/// Whether something was due, so that there may be more. Want of memory is passed on.
+/// Whether something was due, so that there may be more. `Memory` is passed on.
 fn was_due(answer: Result<ClockStep, StepError>) -> Result<bool, Memory>
     ensures tells { IfOk result (λ on. (was_due answer ≡ on) × (none_due answer ≡ not on)) }
     ensures memory { OnErr result (answer ≡ Err errors.Memory) }
@@ -43,7 +43,7 @@ fn was_due(answer: Result<ClockStep, StepError>) -> Result<bool, Memory>
     }
 }
 
-/// Whether a PDU left its queue, so that the next one may. Want of memory is passed on.
+/// Whether a PDU left its queue, so that the next one may. `Memory` is passed on.
 fn has_left(answer: Result<OutStep, StepError>) -> Result<bool, Memory>
     ensures tells { IfOk result (λ on. (has_left answer ≡ on) × (leaves_no_more answer ≡ not on)) }
     ensures memory { OnErr result (answer ≡ Err errors.Memory) }
@@ -60,7 +60,7 @@ fn has_left(answer: Result<OutStep, StepError>) -> Result<bool, Memory>
 }
 
 impl Tower {
-    /// Takes what came at a link, one SDU after the other, until a step takes none.
+    /// Takes in-steps at a link, one SDU after the other, until a step takes none.
     fn in_steps(&mut self, alloc: Global, place: LinkPlace) -> Result<(), Memory>
         requires { IsTower self.old }
         ensures follows { Follows self.old self.new }
@@ -77,7 +77,7 @@ impl Tower {
         Err(self.remember_memory_failure())
     }
 
-    /// Does what is due at an IPC process, one thing after the other, until a step finds none.
+    /// Takes clock steps at an IPC process, one thing after the other, until none is due.
     fn clock_steps(&mut self, alloc: Global, place: MemberPlace) -> Result<(), Memory>
         requires { IsTower self.old }
         ensures follows { Follows self.old self.new }
@@ -94,7 +94,7 @@ impl Tower {
         Err(self.remember_memory_failure())
     }
 
-    /// Lets the PDUs at a link go, one after the other, until none waits or one stays.
+    /// Takes out-steps at a link, one PDU after the other, until none waits or one stays.
     fn out_steps<S: Picks>(
         &mut self,
         alloc: Global,
@@ -119,7 +119,7 @@ impl Tower {
         Err(self.remember_memory_failure())
     }
 
-    /// Takes what came at every link, from the lowest rank up.
+    /// Takes in-steps at every link, from the lowest rank up.
     fn in_steps_everywhere(&mut self, alloc: Global) -> Result<(), Memory>
         requires { IsTower self.old }
         ensures follows { Follows self.old self.new }
@@ -135,7 +135,7 @@ impl Tower {
         Ok(())
     }
 
-    /// Does what is due at every IPC process, from the lowest rank up.
+    /// Takes clock steps at every IPC process, from the lowest rank up.
     fn clock_steps_everywhere(&mut self, alloc: Global) -> Result<(), Memory>
         requires { IsTower self.old }
         ensures follows { Follows self.old self.new }
@@ -151,7 +151,7 @@ impl Tower {
         Ok(())
     }
 
-    /// Lets go what waits at every link, from the highest rank down.
+    /// Takes out-steps at every link, from the highest rank down.
     fn out_steps_everywhere<S: Picks>(&mut self, alloc: Global, shelf: &mut S) -> Result<(), Memory>
         requires { IsTower self.old }
         ensures follows { Follows self.old self.new }
@@ -170,7 +170,7 @@ impl Tower {
 
     /// A round: first all that came is taken, at every link from rank 1 upward; then all that is due is done, at every
     /// IPC process; then all that may leave leaves, at every link from the highest rank down. Each place has its turn
-    /// until a step there does nothing, or is refused. It ends early only where memory is wanted, which the tower notes.
+    /// until a step there does nothing, or is refused. It ends early only where an allocation fails, which the tower remembers.
     pub fn round<S: Picks>(&mut self, alloc: Global, shelf: &mut S) -> Result<(), Memory>
         requires { IsTower self.old }
         ensures valid { IsTower self.new }

@@ -39,7 +39,7 @@ impl Tower {
         self.in_step_at_rank(alloc, r, dif, node, link)
     }
 
-    /// The same, where nobody asks whether memory was wanted before.
+    /// Walks down to rank `r` and takes the step there.
     pub(crate) fn in_step_at_rank(
         &mut self,
         alloc: Global,
@@ -94,7 +94,7 @@ impl Tower {
         self.out_step_at_rank(alloc, r, dif, shelf, node, link)
     }
 
-    /// The same, where nobody asks whether memory was wanted before.
+    /// Walks down to rank `r` and takes the step there.
     pub(crate) fn out_step_at_rank<S: Picks>(
         &mut self,
         alloc: Global,
@@ -150,7 +150,7 @@ impl Tower {
         self.clock_step_at_rank(alloc, r, dif, node)
     }
 
-    /// The same, where nobody asks whether memory was wanted before.
+    /// Walks down to rank `r` and takes the step there.
     pub(crate) fn clock_step_at_rank(
         &mut self,
         alloc: Global,

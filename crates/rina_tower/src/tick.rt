@@ -28,7 +28,7 @@ impl Tower {
         self.tick_ranks(alloc)
     }
 
-    /// The same, where nobody asks whether memory was wanted before.
+    /// Lets the wires tick, and then sets the clock of each rank, from the lowest up.
     fn tick_ranks(&mut self, alloc: Global) -> Result<(), TickError>
         requires { IsTower self.old }
         ensures valid { IsTower self.new }

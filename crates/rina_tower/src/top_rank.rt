@@ -1,4 +1,4 @@
-//! The calls at the own rank, where nobody asks whether memory was wanted before.
+//! The calls of a facility at the top rank, without the test for an earlier failure of an allocation.
 ghost use Rattle.std.specs.Prelude.{◌≡◌, true, Err, length};
 ghost use Rattle.rina_iface.specs.declared.error.AllocateError.TheVariants as allocate;
 ghost use Rattle.rina_iface.specs.declared.error.FreeError.TheVariants as free;

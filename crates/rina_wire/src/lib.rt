@@ -3,8 +3,6 @@
 
 mod event;
 mod flight;
-#[cfg(test)]
-mod tests;
 mod tick;
 mod wire;
 mod wires;

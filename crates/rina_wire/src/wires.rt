@@ -58,14 +58,14 @@ impl Wires {
         })
     }
 
-    /// Whether memory was wanted and not found.
+    /// Whether an allocation has failed.
     pub fn has_failed(&self) -> bool
         ensures { result ≡ self.now.failed }
     {
         self.failed
     }
 
-    /// Notes that memory was wanted and not found by what stands on the wires: each call that takes memory answers so
+    /// Remembers that an allocation has failed of what stands on the wires: each call that allocates fails with `Memory`
     /// from now on.
     #[tactic(auto, using(crate::proofs::Sound::sound_failed))]
     pub fn remember_memory_failure(&mut self)

@@ -24,7 +24,7 @@ fn is_for_ipc(ask: &Ask) -> bool
 }
 
 impl Tower {
-    /// Asks for a flow at the own rank, where neither application is an IPC process.
+    /// Asks for a flow at the top rank, where neither application is an IPC process.
     fn allocate_app_at_top(
         &mut self,
         alloc: Global,
@@ -67,7 +67,7 @@ impl Tower {
         self.app_allocate_at_rank(alloc, r, ask)
     }
 
-    /// The same, where nobody asks whether memory was wanted before.
+    /// Walks down to rank `r` and asks for the flow there.
     fn app_allocate_at_rank(
         &mut self,
         alloc: Global,
@@ -90,7 +90,7 @@ impl Tower {
         }
     }
 
-    /// Claims a far end at the own rank, where the application is no IPC process.
+    /// Claims a far end at the top rank, where the application is no IPC process.
     fn incoming_app_at_top(&mut self, fac: u16, node: Node, app: &AppName) -> Option<Port>
         requires { IsTower self.old }
         ensures valid { IsTower self.new }

@@ -19,7 +19,7 @@ use rina_iface::{Facility, FreeError, SendError};
 use std::alloc::Global;
 
 impl Tower {
-    /// Whether the application at a port of the own rank is an IPC process.
+    /// Whether the application at a port of the top rank is an IPC process.
     fn is_ipc_port(&self, port: Port) -> bool
         requires { IsTower self.now }
         ensures { result ≡ is_ipc_at (seen_of self.now) port }
@@ -33,7 +33,7 @@ impl Tower {
         }
     }
 
-    /// Sends an SDU at the own rank, where the application of the port is no IPC process.
+    /// Sends an SDU at the top rank, where the application of the port is no IPC process.
     fn send_app_at_top(
         &mut self,
         alloc: Global,
@@ -78,7 +78,7 @@ impl Tower {
         self.app_send_at_rank(alloc, r, port, sdu)
     }
 
-    /// The same, where nobody asks whether memory was wanted before.
+    /// Walks down to rank `r` and sends there.
     fn app_send_at_rank(
         &mut self,
         alloc: Global,
@@ -120,7 +120,7 @@ impl Tower {
         }
     }
 
-    /// Gives up a port of the own rank, where its application is no IPC process.
+    /// Gives up a port of the top rank, where its application is no IPC process.
     fn free_app_at_top(&mut self, alloc: Global, port: Port) -> Result<(), AppError<FreeError>>
         requires { IsTower self.old }
         ensures valid { IsTower self.new }
@@ -154,7 +154,7 @@ impl Tower {
         self.app_free_at_rank(alloc, r, port)
     }
 
-    /// The same, where nobody asks whether memory was wanted before.
+    /// Walks down to rank `r` and frees the port there.
     fn app_free_at_rank(
         &mut self,
         alloc: Global,

@@ -33,7 +33,7 @@ fn add_live(
     Ok(())
 }
 
-/// Adds those of the IPC processes of a DIF.
+/// Adds the live links of the IPC processes of a DIF.
 fn add_dif_links(rank: u16, dif: &Dif, places: &mut Seq<LinkPlace>) -> Result<(), Memory>
     ensures { OnOk result (places.new ≡ places.old ++ dif_links rank dif.now.settings.fac dif.now.settings.members dif.now.processes) }
 {
@@ -46,7 +46,7 @@ fn add_dif_links(rank: u16, dif: &Dif, places: &mut Seq<LinkPlace>) -> Result<()
     Ok(())
 }
 
-/// Adds those of the DIFs of a rank.
+/// Adds the live links of the IPC processes of the DIFs of a rank.
 fn add_rank_links(rank: u16, difs: &[Dif], places: &mut Seq<LinkPlace>) -> Result<(), Memory>
     requires { AreNumbered difs.now }
     ensures { OnOk result (places.new ≡ places.old ++ rank_links rank 0 difs.now) }
@@ -72,7 +72,7 @@ fn add_dif_members(rank: u16, dif: &Dif, places: &mut Seq<MemberPlace>) -> Resul
     Ok(())
 }
 
-/// Adds those of the DIFs of a rank.
+/// Adds the IPC processes of the DIFs of a rank.
 fn add_rank_members(rank: u16, difs: &[Dif], places: &mut Seq<MemberPlace>) -> Result<(), Memory>
     requires { AreNumbered difs.now }
     ensures { OnOk result (places.new ≡ places.old ++ rank_members rank 0 difs.now) }

@@ -17,7 +17,7 @@ use rina_policy::Picks;
 use std::alloc::Global;
 
 impl Difs {
-    /// Takes the oldest SDU of a link at a DIF.
+    /// Takes the in-step of one DIF, where there is one of that number.
     fn dif_in_step<F: Facility>(
         &mut self,
         alloc: Global,
@@ -62,7 +62,7 @@ impl Difs {
         self.dif_in_step(alloc, below, dif, node, link)
     }
 
-    /// Lets a PDU go at a link at a DIF.
+    /// Takes the out-step of one DIF, where there is one of that number.
     fn dif_out_step<F: Facility, S: Picks>(
         &mut self,
         alloc: Global,
@@ -112,7 +112,7 @@ impl Difs {
         self.dif_out_step(alloc, below, shelf, dif, node, link)
     }
 
-    /// Does the first thing that is due at a node of a DIF.
+    /// Takes the clock step of one DIF, where there is one of that number.
     fn dif_clock_step<F: Facility>(
         &mut self,
         alloc: Global,
