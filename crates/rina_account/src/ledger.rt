@@ -68,29 +68,3 @@ impl Ledger {
         self.lines.as_slice()
     }
 }
-
-#[cfg(test)]
-mod tests {
-    use super::*;
-    use rina_base::PduKind;
-    use std::test::Fail;
-
-    #[test]
-    fn a_line_for_each_in_order(rt: HostRuntime) -> Result<(), Fail> {
-        let alloc = rt.alloc();
-        let mut ledger = Ledger::new(alloc);
-        let key = Key {
-            kind: PduKind::Piece,
-            src: 1,
-            scep: 2,
-            seq: 7,
-        };
-        let late = Cause::Expired { left: 3, charge: 5 };
-        let full = Cause::QueueFull { cap: 4 };
-        ledger.note(alloc, key, late)?;
-        ledger.note(alloc, key, full)?;
-        let lines = [Off { key, cause: late }, Off { key, cause: full }];
-        assert_eq!(rt; ledger.lines(), lines.as_slice());
-        Ok(())
-    }
-}

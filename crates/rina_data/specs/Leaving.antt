@@ -57,7 +57,7 @@ pub record IsOff (process : Process) (qos link : ℕ) (key : Key) (cause : Cause
   pub is_queue : IsQueue process qos link place queue
   pub new_is : process' ≡ with_offs (with_taken process place queue) (record { key = key; cause = cause } ∷ [])
 
--- the first PDU of a queue is written off by this cause, or memory was wanted
+-- the first PDU of a queue is written off by this cause, or memory was not found
 abbrev pub Drops : Process → First → Cause → Result OutStep StepError → Process → Type 0
 Drops process first cause (Ok (out.Off key why)) process' = (key ≡ first.key) × (why ≡ cause) × IsOff process first.qos first.link first.key cause process'
 Drops process first cause (Err Memory) process' = process' ≡ process
@@ -69,7 +69,7 @@ pub record IsUnder (own : Option SendError) (below : Seen) (port : Port) (len : 
   pub refused : refused below port len own ≡ Some error
   pub over : IsOver error
 
--- what comes of sending the first PDU of a queue below, in these bytes
+-- the answer of sending the first PDU of a queue below, in these bytes
 abbrev pub Tries : Option SendError → Process → Seen → First → List ℕ → Result OutStep StepError → Process → Seen → Type 0
 Tries own process below first bytes (Ok (out.Sent key)) process' below' = (key ≡ first.key) × ((num : Num) × Sends own below first.port bytes (Ok num) below') × IsTaken process first.qos first.link process'
 Tries own process below first bytes (Ok (out.Off key cause)) process' below' = (key ≡ first.key) × (cause ≡ LinkDown first.port) × IsUnder own below first.port (length bytes) × IsOff process first.qos first.link first.key (LinkDown first.port) process' × (below' ≡ below)

@@ -23,7 +23,7 @@ IsNoMore (Some (Failed fail)) = Unit {0}
 IsNoMore (Some Closed) = Unit {0}
 IsNoMore other = ⊥
 
--- a live link, the flow of which is no more
+-- a live link whose flow was refused, has failed, or was closed
 pub record IsLost (links : List Link) (below : Seen) (place : ℕ) (link : Link) : Type 0 where
   pub stands : slice_get links place ≡ Some link
   pub live : link.live ≡ true
@@ -48,7 +48,7 @@ abbrev pub lesser : Option Lost → Lost → Lost
 lesser None other = other
 lesser (Some first) other = if nat_le first.number other.number then first else other
 
--- What becomes of the IPC process
+-- What changes of the IPC process
 
 -- the line of a PDU that waited for the link
 abbrev pub line_down : Port → Queued → Off
@@ -62,7 +62,7 @@ lines_down link q = if q.link == link.number then map (line_down link.port) q.it
 abbrev pub without_items : Link → Queue → Queue
 without_items link q = if q.link == link.number then record q { items = [] } else q
 
--- the link is live no more, its PDUs are written off queue by queue, the first that came first, and there are these
+-- the link is no longer used, its PDUs are written off queue by queue, the first that came first, and there are these
 -- next hops
 abbrev pub without_link : ℕ → Link → List Route → Process → Process
 without_link place link routes p = record {

@@ -16,6 +16,3 @@ pub use loss::{Lost, lost_link};
 pub use process::IpcProcess;
 pub use settings::{Member, Settings};
 pub use step::{ClockStep, Decision, InStep, OutStep, StepError, Took};
-
-#[cfg(test)]
-mod tests;

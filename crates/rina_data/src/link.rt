@@ -11,7 +11,7 @@ pub struct Link {
     pub port: Port,
     /// Its number here.
     pub number: u16,
-    /// A link that was lost is live no more.
+    /// False once the link was lost; a lost link is no longer used.
     pub live: bool,
 }
 

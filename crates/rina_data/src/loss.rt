@@ -1,4 +1,4 @@
-//! How an IPC process loses a link: what waits for it is written off, and it is live no more.
+//! A link that is lost: the PDUs that wait for it are written off, and it is no longer used.
 ghost use Rattle.std.specs.Prelude.{◌≡◌, ◌<◌, ◌↔◌, ◌++◌, ◌+◌, ◌≤◌, IsTrue, length, map, true, IfOk, OnOk, OnErr};
 ghost use Rattle.std.specs.List.{flat_map};
 ghost use Rattle.std.specs.Vec.{vec_capacity};
@@ -32,7 +32,7 @@ fn is_no_more(state: Option<PortState>) -> bool
     )
 }
 
-/// Whether a link is live, and its flow below is no more.
+/// Whether a link is live whose flow below was refused, has failed, or was closed.
 fn is_lost<F: Facility>(below: &F, link: &Link) -> bool
     requires { F.valid below.now }
     ensures { IsTrue result ↔ ((link.now.live ≡ true) × IsNoMore (state_of (F.seen below.now) link.now.port)) }
@@ -138,7 +138,7 @@ impl IpcProcess {
         }
     }
 
-    /// Loses the link at a place as `lose` does, and hands out the lines of the ledger, with room for so many more, until
+    /// Loses the link at a place as `lose_link` does, and hands out the lines of the ledger, with room for so many more, until
     /// they are put back. Without memory nothing changes.
     pub fn lose_link_with_room(
         &mut self,
@@ -171,7 +171,7 @@ impl IpcProcess {
     }
 
     /// Loses the link at a place: the PDUs that wait for it are written off, queue by queue, the first that came first;
-    /// it is live no more, and these are the next hops. Without memory nothing changes.
+    /// it is no longer used, and these are the next hops. Without memory nothing changes.
     pub fn lose_link(&mut self, alloc: Global, at: usize, routes: Seq<Route>) -> Result<(), Memory>
         requires { at < length self.old.links }
         ensures ok { OnOk result (LosesAt at routes (process_of self.old) (process_of self.new)) }

@@ -39,17 +39,17 @@ impl IpcProcess {
         self.ledger.note(alloc, hop.pdu.key(), cause)
     }
 
-    /// Puts a PDU, which came at tick `at`, into the queue of a link, its next hop.
+    /// Puts a PDU, which came at tick `came`, into the queue of a link, its next hop.
     fn queue(
         &mut self,
         alloc: Global,
         link: u16,
-        at: Tick,
+        came: Tick,
         hop: &HopView<'_>,
     ) -> Result<Decision, Memory>
         requires next { next_hop (hop_of hop.now).pdu.dst self.old.routes ≡ Some link }
         requires there { IsSome (queue_place (hop_of hop.now).pdu.qos link self.old.queues.queues.items) }
-        ensures does { Forwards self.old.queues.cap (process_of self.old) at (hop_of hop.now) result (process_of self.new) }
+        ensures does { Forwards self.old.queues.cap (process_of self.old) came (hop_of hop.now) result (process_of self.new) }
         ensures cap { self.new.queues.cap ≡ self.old.queues.cap }
     {
         let cap = self.queues.cap;
@@ -62,7 +62,7 @@ impl IpcProcess {
         let item = Queued {
             pdu,
             left,
-            since: at,
+            since: came,
         };
         match self.queues.push(hop.pdu.qos, link, item) {
             Ok(()) => Ok(Decision::Relayed),
@@ -70,16 +70,16 @@ impl IpcProcess {
         }
     }
 
-    /// Puts a PDU, which came or was made at tick `at`, into the queue of its next hop, or writes it off. Without memory
+    /// Puts a PDU, which came or was made at tick `came`, into the queue of its next hop, or writes it off. Without memory
     /// nothing changes.
     pub fn forward(
         &mut self,
         alloc: Global,
-        at: Tick,
+        came: Tick,
         hop: &HopView<'_>,
     ) -> Result<Decision, Memory>
         requires { IsRouted self.old (hop_of hop.now) }
-        ensures does { Forwards self.old.queues.cap (process_of self.old) at (hop_of hop.now) result (process_of self.new) }
+        ensures does { Forwards self.old.queues.cap (process_of self.old) came (hop_of hop.now) result (process_of self.new) }
         ensures cap { self.new.queues.cap ≡ self.old.queues.cap }
     {
         let dst = hop.pdu.dst;
@@ -87,26 +87,26 @@ impl IpcProcess {
             self.write_off(alloc, hop, Cause::NoRoute { dst })?;
             return Ok(Decision::Off(Cause::NoRoute { dst }));
         };
-        self.queue(alloc, link, at, hop)
+        self.queue(alloc, link, came, hop)
     }
 
-    /// Decides on a PDU that came at tick `at` to this IPC process, which has the address `addr`: whether it is too
+    /// Decides on a PDU that came at tick `came` to this IPC process, which has the address `addr`: whether it is too
     /// old, is for a connection here, or waits for its next hop.
     pub fn route_or_deliver(
         &mut self,
         alloc: Global,
         now: Tick,
         addr: Addr,
-        at: Tick,
+        came: Tick,
         hop: &HopView<'_>,
     ) -> Result<Decision, Memory>
         requires now { now ≤ 10_000_000 }
         requires routed { IsRouted self.old (hop_of hop.now) }
-        ensures does { Decides self.old.queues.cap now addr (process_of self.old) at (hop_of hop.now) result (process_of self.new) }
+        ensures does { Decides self.old.queues.cap now addr (process_of self.old) came (hop_of hop.now) result (process_of self.new) }
         ensures cap { self.new.queues.cap ≡ self.old.queues.cap }
     {
         let left = hop.left;
-        let charge = charge(now, at, 0);
+        let charge = charge(now, came, 0);
         if left_after(left, charge).is_none() {
             self.write_off(alloc, hop, Cause::Expired { left, charge })?;
             return Ok(Decision::Off(Cause::Expired { left, charge }));
@@ -114,6 +114,6 @@ impl IpcProcess {
         if hop.pdu.dst == addr {
             return Ok(Decision::Here);
         }
-        self.forward(alloc, at, hop)
+        self.forward(alloc, came, hop)
     }
 }

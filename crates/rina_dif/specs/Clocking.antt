@@ -150,7 +150,7 @@ pub record HasSteppedFlow (d : Dif) (lines : List Direction) (below : Seen) (nod
   pub does : StepsFlow d lines node done (seen_of d') lines'
   pub holds : Holds d' lines' below
 
--- or memory was wanted
+-- or memory was not found
 abbrev pub StepsFlowHere : Dif → List Direction → Seen → ℕ → Result ClockStep StepError → Dif → Type 0
 StepsFlowHere d lines below node (Ok done) d' = HasSteppedFlow d lines below node done d'
 StepsFlowHere d lines below node (Err Memory) d' = (seen_of d' ≡ seen_of d) × Holds d' lines below
@@ -181,7 +181,7 @@ pub record HasStepped (d : Dif) (lines : List Direction) (below : Seen) (node : 
   pub does : Steps d lines below node done (seen_of d') lines'
   pub holds : Holds d' lines' below
 
--- or memory was wanted
+-- or memory was not found
 abbrev pub StepsHere : Dif → List Direction → Seen → ℕ → Result ClockStep StepError → Dif → Type 0
 StepsHere d lines below node (Ok done) d' = HasStepped d lines below node done d'
 StepsHere d lines below node (Err Memory) d' = (seen_of d' ≡ seen_of d) × Holds d' lines below

@@ -32,7 +32,7 @@ pub record IsKept (d : Dif) (lines : List Direction) (below : Seen) (d' : Dif) :
   pub same : seen_of d' ≡ seen_of d
   pub holds : Holds d' lines below
 
--- what becomes of the end at a place
+-- what changes of the end at a place
 abbrev pub FreesHere : Dif → List Direction → Seen → ℕ → Result (Unit {0}) NoMemory → Dif → Type 0
 FreesHere d lines below at (Ok done) d' = IsFreed d lines below at d'
 FreesHere d lines below at (Err e) d' = IsKept d lines below d'

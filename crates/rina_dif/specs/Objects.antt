@@ -202,7 +202,7 @@ told t s =
 abbrev pub told_all : Tree → List Shown → Tree
 told_all t objects = fold told t objects
 
--- the member deletes the object of a flow that is allocated no more
+-- the member deletes the object of a flow that has ended
 abbrev pub ended : Tree → FlowState → Tree
 ended t f = if f.open then t else (if is_object_name (flow_object f).name then or_same t (deleted t Own (flow_object f).name) else t)
 
@@ -216,7 +216,7 @@ abbrev pub begun_with : Option Tree → List Shown → Tree
 begun_with (Some t) first = t
 begun_with None first = told_all first_tree first
 
--- the RIB now: each object has the value of now, and flows that are allocated no more have none
+-- the RIB now: each object has the value of now, and flows that have ended have none
 abbrev pub rib_of : Option Tree → List Shown → List Shown → List FlowState → Tree
 rib_of kept first lasting flows = fold ended (fold told_open (told_all (begun_with kept first) lasting) flows) flows
 

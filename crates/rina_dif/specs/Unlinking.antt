@@ -53,9 +53,9 @@ TellsNoneLeft links below port (Some told) = (told ≡ port) × NoneLeft links b
 abbrev pub FindsNoneLeft : Dif → Seen → ℕ → ℕ → Option Port → Type 0
 FindsNoneLeft d below at place told = (p : IpcProcess) (link : Link) → slice_get d.processes at ≡ Some p → slice_get p.links place ≡ Some link → TellsNoneLeft (links_without p.links place link) below link.port told
 
--- What becomes of an IPC process
+-- What changes of an IPC process
 
--- it loses the link at a place, or memory was wanted
+-- it loses the link at a place, or memory was not found
 abbrev pub LosesOr : ℕ → List Route → Result (Unit {0}) Memory → Process → Process → Type 0
 LosesOr place routes (Ok done) p p' = LosesAt place routes p p'
 LosesOr place routes (Err e) p p' = p' ≡ p
@@ -72,7 +72,7 @@ pub record LosesThenStops (now node : ℕ) (state : PortState) (place : ℕ) (ro
   pub fits : length ledger + held_before node old.journal.ends old.conns (length old.conns) ≤ room
   pub stops : StopsAll now node state old ledger room new p'.ledger
 
--- or memory was wanted
+-- or memory was not found
 abbrev pub LosesLast : ℕ → ℕ → PortState → ℕ → List Route → Flows → IpcProcess → Result (Unit {0}) Memory → Flows → IpcProcess → Type 0
 LosesLast now node state place routes old p (Ok done) new p' = LosesThenStops now node state place routes old p new p'
 LosesLast now node state place routes old p (Err e) new p' = (new ≡ old) × (process_of p' ≡ process_of p)
@@ -81,7 +81,7 @@ LosesLast now node state place routes old p (Err e) new p' = (new ≡ old) × (p
 abbrev pub LosesLastIn : ℕ → ℕ → PortState → ℕ → List Route → Result (Unit {0}) Memory → ℕ → Flows → List IpcProcess → Flows → List IpcProcess → Type 0
 LosesLastIn now node state place routes result at flows old flows' new = (p : IpcProcess) → slice_get old at ≡ Some p → (p' : IpcProcess) × LosesLast now node state place routes flows p result flows' p' × (p'.queues.cap ≡ p.queues.cap) × (new ≡ slice_set old at p')
 
--- What becomes of the DIF
+-- What changes of the DIF
 
 -- these are the next hops of the IPC process at a place over the links that it knows once the one at a place is lost
 abbrev pub KnowsWithout : Dif → ℕ → ℕ → List Route → Type 0
@@ -105,7 +105,7 @@ pub record LosesWith (d : Dif) (lines : List Direction) (below : Seen) (i node n
   pub loses : LosesLink d below i number between
   pub fails : FailsWith (links_without loses.loses.process.links loses.loses.place loses.loses.link) below loses.loses.link.port lines node between new
 
--- and the DIF holds after it, or memory was wanted
+-- and the DIF holds after it, or memory was not found
 abbrev pub LosesAs : Dif → List Direction → Seen → ℕ → ℕ → ℕ → Result (Unit {0}) Memory → Dif → Type 0
 LosesAs d lines below i node number (Ok done) d' = LosesWith d lines below i node number (seen_of d') × Holds d' lines below
 LosesAs d lines below i node number (Err e) d' = (seen_of d' ≡ seen_of d) × Holds d' lines below

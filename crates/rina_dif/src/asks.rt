@@ -58,8 +58,7 @@ impl Dif {
         AllocateError::Unbuilt
     }
 
-    /// Asks for a flow, which is not built yet: each call is refused, and changes nothing. Once memory was wanted every
-    /// call answers so.
+    /// Asks for a flow, which is not built yet: each call is refused, and changes nothing.
     pub fn allocate(&mut self, _alloc: Global, ask: &Ask) -> Result<Port, AllocateError>
         requires { IsDif self.old }
         ensures valid { IsDif self.new }

@@ -89,9 +89,8 @@ impl Dif {
         }
     }
 
-    /// Gives bytes to the IPC process at a node, which answers the message that they are as its RIB says, in bytes. Where
-    /// the answer has result 0 the RIB is as the request makes it; else nothing changes. Once memory was wanted every call
-    /// answers so.
+    /// Gives bytes to the IPC process at a node, which answers the message that they are as its RIB says, in bytes.
+    /// Where the answer has result 0 the RIB is as the request makes it; else nothing changes.
     pub fn cdap(
         &mut self,
         alloc: Global,

@@ -177,10 +177,9 @@ impl Dif {
 
     /// Takes one step of the IPC process at a node by the clock, the first of these that is due: a link is lost, whose
     /// flow below was refused, has failed, or was closed, the one of the least number first, and where no link is left
-    /// and that flow has failed, all flows of the node fail with it; pieces that are held
-    /// of a state that has ended are written off; a number is given up, and its flow fails; an acknowledgement is made;
-    /// a number is sent again. Of the flows there the one of the least CEP-id goes first. Answers Idle exactly where
-    /// none is due. Once memory was wanted every step answers so.
+    /// and that flow has failed, all flows of the node fail with it; pieces that are held of a state that has ended are
+    /// written off; a number is given up, and its flow fails; an acknowledgement is made; a number is sent again. Of
+    /// the flows there the one of the least CEP-id goes first. Answers Idle exactly where none is due.
     pub fn clock_step<F: Facility>(
         &mut self,
         alloc: Global,

@@ -12,7 +12,8 @@ use rina_data::{Member, Settings, StepError};
 use rina_flows::Flows;
 use rina_iface::Registered;
 
-/// A DIF: IPC processes at its nodes, and the flows between the applications above them.
+/// A DIF: IPC processes at its nodes, and the flows between the applications above them. Once an allocation has failed,
+/// each call that takes `alloc` fails with `Memory` and changes nothing.
 #[derive(Drop)]
 pub struct Dif {
     pub(crate) settings: Settings,
@@ -24,7 +25,7 @@ pub struct Dif {
     /// The places of the far ends that nobody has claimed yet, the oldest first.
     pub(crate) waiting: Vec<usize>,
     pub(crate) names: Seq<Registered>,
-    /// Memory was wanted and not found: no call that takes memory does anything any more.
+    /// Whether an allocation has failed.
     pub(crate) failed: bool,
 }
 
@@ -45,14 +46,14 @@ impl Dif {
         place(self.settings.members.as_slice(), node)
     }
 
-    /// Whether memory was wanted and not found.
+    /// Whether an allocation has failed.
     pub fn has_failed(&self) -> bool
         ensures { result ≡ self.now.failed }
     {
         self.failed
     }
 
-    /// Notes whether a step wanted memory.
+    /// Passes the answer of a step on, and remembers where an allocation failed.
     pub(crate) fn remember_memory_failure<T>(
         failed: &mut bool,
         step: Result<T, StepError>,

@@ -206,7 +206,7 @@ impl Dif {
     }
 
     /// Makes a flow that the stack fixes, both ends of which are allocated and claimed, and registers the application
-    /// of the far end. It answers the ports of both ends. Once memory was wanted every call answers so.
+    /// of the far end. It answers the ports of both ends.
     pub fn bind(&mut self, alloc: Global, fixed: &Fixed) -> Result<(Port, Port), AllocateError>
         requires valid { IsDif self.old }
         requires fac { self.old.settings.fac ≡ fixed.now.fac }

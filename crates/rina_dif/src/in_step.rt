@@ -155,7 +155,7 @@ impl Dif {
     }
 
     /// Takes one step of the IPC process at a node at a link: the oldest SDU that waits there is taken, and the PDU in
-    /// it delivered to its connection, relayed, or written off. Once memory was wanted every step answers so.
+    /// it delivered to its connection, relayed, or written off.
     pub fn in_step<F: Facility>(
         &mut self,
         alloc: Global,

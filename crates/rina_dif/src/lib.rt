@@ -35,6 +35,3 @@ pub use facade::a_rank_shows_its_difs;
 pub use layout::Layout;
 pub use processes::Processes;
 pub use shown::{Objects, Shown};
-
-#[cfg(test)]
-mod tests;

@@ -80,8 +80,8 @@ impl Dif {
         Ok(Seq::from_vec(routes))
     }
 
-    /// Loses the link that was found at the IPC process at a place: what waits for it is written off, it is live no
-    /// more, and the next hops are built anew. Without memory nothing changes.
+    /// Loses the link that was found at the IPC process at a place: what waits for it is written off, it is no longer
+    /// used, and the next hops are built anew. Without memory nothing changes.
     fn lose_link(&mut self, alloc: Global, at: usize, lost: Lost) -> Result<(), Memory>
         requires stands { (below : Seen) × Stands self.old below × FindsLostAt self.old below at (Some lost) }
         requires at { at < length self.old.settings.members }

@@ -65,8 +65,7 @@ impl Dif {
         UnregisterError::NotThere
     }
 
-    /// Registers an application at a node, which is not built yet: each call is refused, and changes nothing. Once
-    /// memory was wanted every call answers so.
+    /// Registers an application at a node, which is not built yet: each call is refused, and changes nothing.
     pub fn register(
         &mut self,
         _alloc: Global,
@@ -90,7 +89,7 @@ impl Dif {
     }
 
     /// Ends the registration of an application at a node, which is not built yet: each call is refused, and changes
-    /// nothing. Once memory was wanted every call answers so.
+    /// nothing.
     pub fn unregister(
         &mut self,
         _alloc: Global,

@@ -48,8 +48,7 @@ impl Dif {
     }
 
     /// Takes one step of the IPC process at a node at a link: the PDU that the policy picks of those that wait is sent
-    /// below with what is left of its lifetime, or written off, or stays first. Once memory was wanted every step
-    /// answers so.
+    /// below with what is left of its lifetime, or written off, or stays first.
     pub fn out_step<F: Facility, S: Picks>(
         &mut self,
         alloc: Global,

@@ -74,8 +74,8 @@ fn add_link(process: &mut IpcProcess, alloc: Global, port: Port) -> Result<(), M
     Ok(())
 }
 
-/// Loses the link at a place of an IPC process, and lets each allocated end at its node be in a state in which it is
-/// allocated no more. Without memory nothing changes.
+/// Loses the link at a place of an IPC process, and ends each allocated end at its node with a state other than
+/// `Allocated`. Without memory nothing changes.
 fn lose_last_link(
     process: &mut IpcProcess,
     alloc: Global,
@@ -167,9 +167,9 @@ impl Processes {
         process.lose_link(alloc, place, routes)
     }
 
-    /// Loses the link at a place of the IPC process at a place, as `lose` does, and lets each allocated end at its node
-    /// be in a state in which it is allocated no more, in the order of the journal; what their connections hold is
-    /// written off behind what waited for the link. Without memory nothing changes.
+    /// Loses the link at a place of the IPC process at a place, as `lose_link` does, and ends each allocated end at its node
+    /// with a state other than `Allocated`, in the order of the journal; what their connections hold is written off
+    /// behind what waited for the link. Without memory nothing changes.
     pub fn lose_last_link(
         &mut self,
         alloc: Global,
@@ -340,8 +340,8 @@ impl Processes {
         flows.give_up(alloc, now, place, &mut process.ledger)
     }
 
-    /// Lets the end at a place of the flows be in a state in which it is allocated no more, and writes off what its
-    /// connection holds in the ledger of the IPC process at a place. Without memory nothing changes.
+    /// Ends the end at a place of the flows with a state other than `Allocated`, and writes off what its connection
+    /// holds in the ledger of the IPC process at a place. Without memory nothing changes.
     pub fn stop(
         &mut self,
         alloc: Global,

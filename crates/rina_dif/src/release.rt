@@ -70,8 +70,7 @@ impl Dif {
     }
 
     /// Gives up a port: an allocated one is closed, at this end alone, and the pieces that its connection holds are
-    /// written off; one that was asked for is withdrawn, and any other stays as it is. Once memory was wanted every call
-    /// answers so.
+    /// written off; one that was asked for is withdrawn, and any other stays as it is.
     pub fn free(&mut self, alloc: Global, port: Port) -> Result<(), FreeError>
         requires { IsDif self.old }
         ensures valid { IsDif self.new }

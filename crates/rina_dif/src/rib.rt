@@ -74,7 +74,7 @@ fn tell_open(alloc: Global, rib: &mut Rib, flows: &[FlowState]) -> Result<(), Me
     Ok(())
 }
 
-/// Deletes the object of a flow that is allocated no more.
+/// Deletes the object of a flow that has ended.
 fn end(alloc: Global, rib: &mut Rib, flow: &FlowState) -> Result<(), Memory>
     ensures { OnOk result (rib.new ≡ ended rib.old flow.now) }
 {
@@ -89,7 +89,7 @@ fn end(alloc: Global, rib: &mut Rib, flow: &FlowState) -> Result<(), Memory>
     unless_memory(rib.delete(Caller::Own, name))
 }
 
-/// Deletes the objects of the flows that are allocated no more.
+/// Deletes the objects of the flows that have ended.
 fn end_flows(alloc: Global, rib: &mut Rib, flows: &[FlowState]) -> Result<(), Memory>
     ensures { OnOk result (rib.new ≡ fold ended rib.old flows.now) }
 {

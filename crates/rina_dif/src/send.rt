@@ -148,7 +148,7 @@ impl Dif {
     }
 
     /// Sends an SDU at a port, and answers its number: all its pieces are made in this call, or none. A refusal changes
-    /// nothing; once memory was wanted every call answers so.
+    /// nothing.
     pub fn send(&mut self, alloc: Global, port: Port, sdu: &[u8]) -> Result<Num, SendError>
         requires { IsDif self.old }
         ensures valid { IsDif self.new }

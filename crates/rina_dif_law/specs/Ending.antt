@@ -21,8 +21,8 @@ use Rattle.rina_dif_law.specs.Incoming.{IsInbound, IsKeptNumber}
 use Rattle.rina_dif_law.specs.Sending.{home}
 use Rattle.rina_dif_law.specs.Standing.{IsConn}
 
--- an allocated end is allocated no more, and the pieces that its connection held are written off. Nothing changes of
--- what was sent and got, and what is still on its way finds no connection
+-- an allocated end ends, and the pieces that its connection held are written off. Nothing changes of what was sent and
+-- got, and what is still on its way finds no connection
 pub record IsEnded (d : DifSeen) (lines : List Direction) (at : ℕ) (state : PortState) (d' : DifSeen) : Type 0 where
   pub end : End
   pub ids : Ids

@@ -25,7 +25,7 @@ pub record Loses (d : DifSeen) (below : Seen) (i number : ℕ) (routes : List Ro
   pub number_is : number ≡ link.number
   pub new_is : d' ≡ with_process d i (without_link place link routes process)
 
--- What becomes of the flows
+-- Which flows fail
 
 -- none of the links is live
 abbrev pub NoneLive : List Link → Type 0

@@ -90,7 +90,7 @@ pub fn calls_are_those_of_a_facility()
     ensures pass { PassesArePasses }
 {}
 
-/// What an IPC process decides on a PDU by what it knows itself is what becomes of that PDU in its DIF.
+/// What an IPC process decides on a PDU by its own state is what the relation of its DIF asks for.
 pub fn decisions_are_what_becomes()
     ensures relayed { RelayingSettles }
     ensures off { WritingOffSettles }

@@ -46,7 +46,7 @@ pub record IsOffer (now : ℕ) (sdu : List ℕ) (result : Result Made OfferError
   pub given_up : new.given_up ≡ old.given_up
   pub waiting : new.waiting ≡ old.waiting
 
--- by one connection, which notes it behind what its end sent, or by none where memory was wanted before
+-- by one connection, which notes it behind what its end sent, or by none where memory was not found
 abbrev pub Offered : ℕ → ℕ → List ℕ → List Conn → List Entry → Result Made OfferError → List Conn → List Entry → Type 0
 Offered now at sdu old sent (Ok made) new sent' = Becomes (IsOffer now sdu (Ok made)) at old new × (sent' ≡ sent ++ record { tick = now; num = made.num; bytes = sdu } ∷ [])
 Offered now at sdu old sent (Err why) new sent' = (((why ≡ Memory) × (new ≡ old)) ⊎ Becomes (IsOffer now sdu (Err why)) at old new) × (sent' ≡ sent)
@@ -70,7 +70,7 @@ pub record IsRefused (g : Config) (sdu : List ℕ) (conn : Conn) (line : Directi
   pub cut : AreParts g sdu parts
   pub refuses : send.Refuses why (offer_refusal (outward g conn) line parts)
 
--- want of memory may come at any time
+-- memory may be missing at any time
 abbrev pub Refuses : Config → ℕ → List ℕ → List Conn → List Direction → OfferError → Type 0
 Refuses g at sdu conns lines why = why ≢ Memory → (conn : Conn) (line : Direction) → slice_get conns at ≡ Some conn → slice_get lines at ≡ Some line → IsRefused g sdu conn line why
 

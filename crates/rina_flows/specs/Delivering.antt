@@ -171,7 +171,7 @@ ForgetsIn now at old ledger (Ok true) new ledger' = Tells (HoldsGone now) at old
 ForgetsIn now at old ledger (Ok false) new ledger' = Tells (λ k. HoldsGone now k → ⊥) at old.conns × (new ≡ old) × (ledger' ≡ ledger)
 ForgetsIn now at old ledger (Err e) new ledger' = (new ≡ old) × (ledger' ≡ ledger)
 
--- an end is allocated no more: what its connection held is given up, and the flows stay tied
+-- an end has ended: what its connection held is given up, and the flows stay tied
 pub record HasStopped (g : Config) (now at : ℕ) (state : PortState) (old : Flows) (ledger : List Off) (lines : List Direction) (new : Flows) (ledger' : List Off) : Type 0 where
   pub offs : List Off
   pub stops : EndsAt old.journal.ends (conns_of old.conns) lines at state offs new.journal.ends

@@ -41,7 +41,7 @@ pub record ForgetsAt (g : Config) (ends : List End) (ids : List Ids) (lines : Li
   pub all : AllOff line offs
   pub lines_are : lines' ≡ slice_set lines from (happens (constants g cube (flipped its_ids)) line Forget)
 
--- an allocated end is allocated no more, and gives up what its connection holds
+-- an allocated end ends, and gives up what its connection holds
 pub record EndsAt (ends : List End) (ids : List Ids) (lines : List Direction) (at : ℕ) (state : PortState) (offs : List Off) (ends' : List End) : Type 0 where
   pub end : End
   pub its_ids : Ids

@@ -15,7 +15,7 @@ use rina_conn::Conn;
 use rina_dtp::{Rx, Verdict};
 use rina_iface::Entry;
 
-/// Where it is noted what comes of a piece: what its end got, and the lines of a ledger, each with room for all.
+/// The lists that a piece may add to: what its end got, and the lines of a ledger, each with room for all.
 #[derive(Drop)]
 pub struct Notes {
     pub got: Vec<Entry>,

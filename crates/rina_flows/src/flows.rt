@@ -122,7 +122,7 @@ impl Flows {
     }
 
     /// Offers an SDU at the end of a place, counted from 0, at a tick of at most 10,000,000: it is noted as sent, and
-    /// all its pieces are made, or none. A refusal, want of memory too, leaves all as before.
+    /// all its pieces are made, or none. A refusal, `Memory` too, changes nothing.
     pub fn offer(
         &mut self,
         alloc: Global,
@@ -290,8 +290,8 @@ impl Flows {
         }
     }
 
-    /// Lets the end at a place be in a state in which it is allocated no more, and writes off what its connection
-    /// holds. Without memory nothing changes.
+    /// Ends the end at a place with a state other than `Allocated`, and writes off what its connection holds. Without
+    /// memory nothing changes.
     pub fn stop(
         &mut self,
         alloc: Global,

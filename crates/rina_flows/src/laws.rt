@@ -6,7 +6,7 @@ pub fn flows_stay_tied()
     ensures { TimeKeepsTies }
 {}
 
-/// What the calls of flows do is what becomes of their DIF.
+/// Each call of the flows does what the relation of their DIF asks for.
 pub fn calls_are_those_of_the_dif()
     ensures offer { OffersAreOffers }
     ensures pass { PassesArePasses }

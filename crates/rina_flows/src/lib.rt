@@ -13,6 +13,3 @@ pub use conns::Conns;
 pub use due::Item;
 pub use flows::Flows;
 pub use laws::{calls_are_those_of_the_dif, flows_stay_tied};
-
-#[cfg(test)]
-mod tests;

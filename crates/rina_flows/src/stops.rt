@@ -42,8 +42,8 @@ impl Flows {
         Some(count)
     }
 
-    /// Lets each allocated end at a node be in a state in which it is allocated no more, in the order of the journal, and
-    /// writes off what their connections hold. Takes memory only where `lines` has no room.
+    /// Ends each allocated end at a node with a state other than `Allocated`, in the order of the journal, and writes
+    /// off what their connections hold. Takes memory only where `lines` has no room.
     pub fn stop_all(&mut self, now: Tick, node: Node, state: PortState, lines: &mut Vec<Off>)
         requires { length self.old.journal.ends ≡ length self.old.conns }
         ensures { StopsAll now node state self.old lines.old.items (vec_capacity lines.old) self.new lines.new.items }

@@ -12,6 +12,3 @@ pub use count::Count;
 pub use picks::{Picks, Retires};
 pub use policy::{Head, Policy};
 pub use shelf::{NoPolicy, Place, Shelf, ShelfError};
-
-#[cfg(test)]
-mod tests;

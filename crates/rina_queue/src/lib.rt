@@ -6,6 +6,3 @@ mod queues;
 
 pub use queue::{Queue, QueueFull, Queued};
 pub use queues::Queues;
-
-#[cfg(test)]
-mod tests;

@@ -9,6 +9,3 @@ mod routes;
 
 pub use link::Link;
 pub use routes::Routes;
-
-#[cfg(test)]
-mod tests;

@@ -9,4 +9,4 @@ returns-then-room-eq0-clause-does c = (refl, full_at c.args.self.now (hop_of c.a
 pub returns-clause-does : goal.returns-clause-does
 returns-clause-does c =
     let some = c.if-room-eq0.false in
-    passed_on c.args.self.now (hop_of c.args.hop.now) c.args.link c.room.result c.args.at c.in_ok-pdu.pdu c.push.new.self.queues.items c.requires.next c.room.ensures (omega arith) c.in_ok-pdu.ensures c.in-Ok.ensures.ok
+    passed_on c.args.self.now (hop_of c.args.hop.now) c.args.link c.room.result c.args.came c.in_ok-pdu.pdu c.push.new.self.queues.items c.requires.next c.room.ensures (omega arith) c.in_ok-pdu.ensures c.in-Ok.ensures.ok

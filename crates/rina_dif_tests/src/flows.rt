@@ -1,9 +1,9 @@
 //! A flow of a datagram cube, both ends of which stand in one DIF.
-use super::*;
 use rina_account::Ledger;
 use rina_base::{AppName, Cause, FlowName, Num, Pdu, PduKind, PduView, Port, Tick};
 use rina_conn::{Made, Peer};
 use rina_cube::{Cube, Kind};
+use rina_flows::{Flows, Item};
 use rina_iface::{End, Entries, PortState, Role};
 use std::alloc::Global;
 use std::process::Abort;

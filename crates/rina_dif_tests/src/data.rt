@@ -1,9 +1,9 @@
 //! A PDU on its way: opened, decided on, and sent on.
 ghost use Rattle.std.specs.Prelude.{◌≡◌, [], IfOk};
 
-use super::*;
 use rina_account::{Ledger, Off};
 use rina_base::{Cause, Key, Pdu, PduKind, Port, Seq};
+use rina_data::{Decision, IpcProcess, Link, charge, left_after, live_link, open, protect};
 use rina_pci::Widths;
 use rina_queue::{Queued, Queues};
 use std::alloc::Global;

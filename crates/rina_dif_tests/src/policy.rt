@@ -1,8 +1,10 @@
 //! The built-in policies on tables of heads, and a shelf with policies of its own.
 ghost use Rattle.std.specs.Prelude.{◌≡◌, ◌-◌, length};
 
-use super::*;
 use rina_base::Name;
+use rina_policy::{
+    Count, First, Head, Last, NoPolicy, Policy, Round, Shelf, ShelfError, Strict, Weighted,
+};
 use std::test::Fail;
 
 /// Answers the last place, and keeps its count.
@@ -83,18 +85,6 @@ fn round_and_weighted_go_by_their_picks(rt: HostRuntime) {
     }
     assert_eq!(rt; (round.picks(), round.last()), (8, 1));
     assert_eq!(rt; (weighted.picks(), weighted.last()), (8, 2));
-}
-
-#[test]
-fn picks_stay_at_the_greatest(rt: HostRuntime) {
-    let mut strict = Strict {
-        count: Count {
-            picks: u64::MAX,
-            last: 0,
-        },
-    };
-    assert_eq!(rt; strict.pick(0, &[head(0, 0)]), 0);
-    assert_eq!(rt; strict.picks(), u64::MAX);
 }
 
 #[test]

@@ -1,9 +1,9 @@
 //! A link with two cubes, served by a policy of a shelf.
 ghost use Rattle.std.specs.Prelude.{◌≡◌, IfOk};
 
-use super::*;
 use rina_base::{Name, Pdu, PduKind, Seq};
 use rina_policy::{Last, Shelf};
+use rina_queue::{Queue, QueueFull, Queued, Queues};
 use std::alloc::Global;
 use std::test::Fail;
 

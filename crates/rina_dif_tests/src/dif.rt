@@ -1,8 +1,8 @@
 //! A DIF of two members is made, and its clock goes on.
-use super::*;
 use rina_base::{AppName, Name, Seq};
 use rina_cube::{Cube, Kind};
 use rina_data::{Member, Settings};
+use rina_dif::Dif;
 use rina_pci::Widths;
 use std::alloc::Global;
 use std::test::Fail;
@@ -52,11 +52,7 @@ fn settings(alloc: Global) -> Result<Settings, Fail> {
 fn a_dif_has_an_ipc_process_for_each_member(rt: HostRuntime) -> Result<(), Fail> {
     let alloc = rt.alloc();
     let dif = Dif::new(alloc, settings(alloc)?, 0)?;
-    assert_eq!(rt; dif.place_at_node(0), Some(0));
-    assert_eq!(rt; dif.place_at_node(1), Some(1));
-    assert_eq!(rt; dif.place_at_node(2), None);
-    assert!(rt; dif.processes.get(1).is_some());
-    assert!(rt; dif.processes.get(2).is_none());
+    assert_eq!(rt; dif.processes().len(), 2);
     assert!(rt; dif.has_member(1) && !dif.has_member(2));
     assert_eq!(rt; dif.settings().pdu, 100);
     Ok(())

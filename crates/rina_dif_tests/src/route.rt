@@ -1,6 +1,6 @@
-//! A few topologies, with their next hops worked out by hand.
-use super::*;
+//! Next hops on a few topologies, worked out by hand.
 use rina_newest::{Newest, Version};
+use rina_route::{Link, Routes};
 use std::alloc::Global;
 use std::test::Fail;
 
