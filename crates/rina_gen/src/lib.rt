@@ -13,6 +13,3 @@ pub use draws::{draw, seeded};
 pub use input::{Flow, Input, Line, Link, Wire, draw_input};
 pub use schedule::make;
 pub use storm::{Fate, Storm, draw_fate};
-
-#[cfg(test)]
-mod tests;

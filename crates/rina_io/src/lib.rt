@@ -6,8 +6,6 @@ mod sink;
 mod source;
 mod std_ends;
 mod sure_ends;
-#[cfg(test)]
-mod tests;
 mod whole;
 
 pub use memory_ends::{MemSink, MemSource};

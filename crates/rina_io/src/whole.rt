@@ -48,6 +48,14 @@ pub fn write_all<K: Sink>(out: &mut K, piece: &[u8]) -> Result<(), Failed>
     Ok(())
 }
 
+/// What was read, and why reading ended.
+fn ended(bytes: Vec<u8>, ending: Ending) -> Taken
+    ensures bytes { result.bytes.items ≡ bytes.items }
+    ensures ending { result.ending ≡ ending }
+{
+    Taken { bytes, ending }
+}
+
 /// Reads a source to its end, or until more than `LIMIT` bytes were read, or a read fails. Each read
 /// takes a byte or ends the reading.
 pub fn take_all<S: Source>(alloc: Global, source: &mut S) -> Taken
@@ -62,34 +70,17 @@ pub fn take_all<S: Source>(alloc: Global, source: &mut S) -> Taken
     'turns: for _ in 0..LIMIT + 1 {
         let count = match source.read(&mut buffer) {
             Ok(count) => count,
-            Err(Failed) => {
-                return Taken {
-                    bytes,
-                    ending: Ending::Fault,
-                };
-            }
+            Err(Failed) => return ended(bytes, Ending::Fault),
         };
         if count == 0 {
-            return Taken {
-                bytes,
-                ending: Ending::Whole,
-            };
+            return ended(bytes, Ending::Whole);
         }
         if bytes.extend_from_slice(&buffer[..count]).is_err() {
-            return Taken {
-                bytes,
-                ending: Ending::Memory,
-            };
+            return ended(bytes, Ending::Memory);
         }
         if bytes.len() > LIMIT {
-            return Taken {
-                bytes,
-                ending: Ending::TooLarge,
-            };
+            return ended(bytes, Ending::TooLarge);
         }
     }
-    Taken {
-        bytes,
-        ending: Ending::TooLarge,
-    }
+    ended(bytes, Ending::TooLarge)
 }

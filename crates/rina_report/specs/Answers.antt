@@ -1,5 +1,5 @@
 -- What a line answers or brings about.
-use Rattle.std.specs.Prelude.{ℕ, List, [], ◌∷◌, ◌++◌, codes}
+use Rattle.std.specs.Prelude.{ℕ, Bool, true, false, List, [], ◌∷◌, ◌++◌, codes}
 use Rattle.std.specs.Fmt.{decimal}
 use Rattle.rina_iface.specs.declared.state.Role.{Role}
 use Rattle.rina_iface.specs.declared.state.Role.TheVariants as roles
@@ -56,3 +56,25 @@ answer_fields (answers.SentEntry at num bytes) = codes "s" ∷ decimal at ∷ nu
 answer_fields (answers.GotEntry at num bytes) = codes "g" ∷ decimal at ∷ num_text num ∷ spelling bytes ∷ []
 answer_fields (answers.Refused why) = codes "no" ∷ refusal_fields why
 answer_fields (answers.Label label state) = codes "state" ∷ label ∷ state_fields state
+
+-- a word shows an object of a RIB, a write-off of a ledger, an end of a journal or an entry of it
+abbrev pub is_shown : Answer → Bool
+is_shown (answers.Object name class value) = true
+is_shown (answers.Off key cause) = true
+is_shown (answers.Flow end) = true
+is_shown (answers.SentEntry at num bytes) = true
+is_shown (answers.GotEntry at num bytes) = true
+is_shown answer = false
+
+-- an IPC process answers a step or a CDAP message, or a word shows what it keeps
+abbrev pub is_of_ipc : Answer → Bool
+is_of_ipc answers.Done = false
+is_of_ipc (answers.Port state) = false
+is_of_ipc (answers.Member state) = false
+is_of_ipc answers.Nothing = false
+is_of_ipc (answers.Sent num) = false
+is_of_ipc (answers.Got at bytes) = false
+is_of_ipc answers.Idle = false
+is_of_ipc (answers.Refused why) = false
+is_of_ipc (answers.Label label state) = false
+is_of_ipc answer = true

@@ -10,8 +10,6 @@ mod read;
 mod refusal;
 mod state;
 mod step;
-#[cfg(test)]
-mod tests;
 
 pub use answer::{Answer, ClassNote, FlowNote};
 pub use cause::CauseNote;

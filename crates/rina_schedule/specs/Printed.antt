@@ -1,5 +1,5 @@
 -- How a line is printed: single spaces, and one spelling of each field.
-use Rattle.std.specs.Prelude.{ℕ, ◌==◌, ◌-◌, ◌^◌, Bool, List, [], ◌∷◌, ◌++◌, codes, Option, Some, None, if◌then◌else◌}
+use Rattle.std.specs.Prelude.{ℕ, ◌==◌, ◌-◌, ◌^◌, Bool, true, false, List, [], ◌∷◌, ◌++◌, codes, Option, Some, None, if◌then◌else◌}
 use Rattle.std.specs.Fmt.{decimal}
 use Rattle.rina_cube.specs.declared.Want.{Want}
 use Rattle.rina_schedule.specs.declared.event.Event.{Event}
@@ -82,6 +82,27 @@ event_fields (events.Cdap dif node bytes) = dif ∷ node ∷ spelling bytes ∷ 
 event_fields (events.Rib dif node path) = dif ∷ node ∷ path_fields path
 event_fields (events.Ledger dif node) = dif ∷ node ∷ []
 event_fields (events.Journal fac) = fac ∷ []
+
+-- the word is on an IPC process of a DIF
+abbrev pub is_dif_word : Event → Bool
+is_dif_word (events.Publish dif node fac) = true
+is_dif_word (events.Enrol dif node fac peer) = true
+is_dif_word (events.Member dif node) = true
+is_dif_word (events.In dif node link) = true
+is_dif_word (events.Out dif node link) = true
+is_dif_word (events.Clock dif node) = true
+is_dif_word (events.Cdap dif node bytes) = true
+is_dif_word (events.Rib dif node path) = true
+is_dif_word (events.Ledger dif node) = true
+is_dif_word event = false
+
+-- no field of the word names an application
+abbrev pub names_no_app : Event → Bool
+names_no_app (events.Register fac node app) = false
+names_no_app (events.Unregister fac node app) = false
+names_no_app (events.Alloc label fac node app to want) = false
+names_no_app (events.Accept label fac node app) = false
+names_no_app event = true
 
 -- the line of an event
 abbrev pub line_text : Event → List ℕ

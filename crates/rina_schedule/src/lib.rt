@@ -9,8 +9,6 @@ mod laws;
 mod line;
 mod number;
 mod print;
-#[cfg(test)]
-mod tests;
 mod text;
 mod words;
 

@@ -1,45 +1,38 @@
 //! Lines as text: single spaces, and one spelling of each field.
-ghost use Rattle.std.specs.Prelude.{◌≡◌, ◌∷◌, ◌++◌, [], IfOk};
+ghost use Rattle.std.specs.Prelude.{◌≡◌, ◌∷◌, ◌++◌, [], true, IfOk};
 ghost use Rattle.std.specs.Fmt.{decimal};
 ghost use Rattle.rina_schedule.specs.Spelling.{Adds, spaced, spelling};
-ghost use Rattle.rina_schedule.specs.Printed.{flag_fields, setting_fields, want_fields, path_fields, event_word, event_fields, line_text};
+ghost use Rattle.rina_schedule.specs.Printed.{flag_fields, setting_fields, want_fields, path_fields, event_word, event_fields, is_dif_word, names_no_app, line_text};
 
 use crate::event::Event;
 use crate::text::Text;
-use rina_base::{Memory, ObjectName};
+use rina_base::{AppName, Memory, Name, ObjectName};
 use rina_cube::Want;
 use std::alloc::Global;
 
-/// Two fields.
-fn two(text: &mut Text, a: &[u8], b: &[u8]) -> Result<(), Memory>
-    ensures { Adds result text.old text.new (spaced (a.now ∷ b.now ∷ [])) }
+/// A DIF and a node.
+fn ipc_at(text: &mut Text, dif: &Name, node: &Name) -> Result<(), Memory>
+    ensures { Adds result text.old text.new (spaced (dif.now ∷ node.now ∷ [])) }
 {
-    text.field(a)?;
-    text.field(b)
+    text.field(dif.as_bytes())?;
+    text.field(node.as_bytes())
 }
 
-/// Three fields.
-fn three(text: &mut Text, a: &[u8], b: &[u8], c: &[u8]) -> Result<(), Memory>
-    ensures { Adds result text.old text.new (spaced (a.now ∷ b.now ∷ c.now ∷ [])) }
+/// A DIF, a node and a facility.
+fn ipc_over(text: &mut Text, dif: &Name, node: &Name, fac: &Name) -> Result<(), Memory>
+    ensures { Adds result text.old text.new (spaced (dif.now ∷ node.now ∷ fac.now ∷ [])) }
 {
-    two(text, a, b)?;
-    text.field(c)
+    ipc_at(text, dif, node)?;
+    text.field(fac.as_bytes())
 }
 
-/// Four fields.
-fn four(text: &mut Text, a: &[u8], b: &[u8], c: &[u8], d: &[u8]) -> Result<(), Memory>
-    ensures { Adds result text.old text.new (spaced (a.now ∷ b.now ∷ c.now ∷ d.now ∷ [])) }
+/// A facility, a node and an application.
+fn app_at(text: &mut Text, fac: &Name, node: &Name, app: &AppName) -> Result<(), Memory>
+    ensures { Adds result text.old text.new (spaced (fac.now ∷ node.now ∷ app.now ∷ [])) }
 {
-    three(text, a, b, c)?;
-    text.field(d)
-}
-
-/// Two fields and a number.
-fn two_and_number(text: &mut Text, a: &[u8], b: &[u8], n: u32) -> Result<(), Memory>
-    ensures { Adds result text.old text.new (spaced (a.now ∷ b.now ∷ decimal n ∷ [])) }
-{
-    two(text, a, b)?;
-    text.number_field(u64::from(n))
+    text.field(fac.as_bytes())?;
+    text.field(node.as_bytes())?;
+    text.field(app.as_bytes())
 }
 
 /// A wire, a frame and a tick.
@@ -128,48 +121,48 @@ fn word(event: &Event) -> &'static [u8]
     }
 }
 
-/// The fields behind the word.
+/// The fields behind a word on an IPC process of a DIF.
 #[tactic(auto, unfolding(crate::specs::Printed::event_fields))]
-fn fields(text: &mut Text, event: &Event) -> Result<(), Memory>
+fn dif_fields(text: &mut Text, event: &Event) -> Result<(), Memory>
+    requires { is_dif_word event.now ≡ true }
     ensures { Adds result text.old text.new (spaced (event_fields event.now)) }
 {
     match event {
-        Event::Register { fac, node, app } | Event::Unregister { fac, node, app } => three(
-            text,
-            fac.as_bytes(),
-            node.as_bytes(),
-            app.as_bytes(),
-        ),
-        Event::Alloc {
-            label,
-            fac,
+        Event::Publish { dif, node, fac } => ipc_over(text, dif, node, fac),
+        Event::Enrol {
+            dif,
             node,
-            app,
-            to,
-            want,
+            fac,
+            peer,
         } => {
-            four(
-                text,
-                label.as_bytes(),
-                fac.as_bytes(),
-                node.as_bytes(),
-                app.as_bytes(),
-            )?;
-            text.field(to.as_bytes())?;
-            options(text, want)
+            ipc_over(text, dif, node, fac)?;
+            text.field(peer.as_bytes())
         }
-        Event::Accept {
-            label,
-            fac,
-            node,
-            app,
-        } => four(
-            text,
-            label.as_bytes(),
-            fac.as_bytes(),
-            node.as_bytes(),
-            app.as_bytes(),
-        ),
+        Event::In { dif, node, link } | Event::Out { dif, node, link } => {
+            ipc_at(text, dif, node)?;
+            text.number_field(u64::from(*link))
+        }
+        Event::Member { dif, node } | Event::Clock { dif, node } | Event::Ledger { dif, node } =>
+            ipc_at(text, dif, node),
+        Event::Cdap { dif, node, bytes } => {
+            ipc_at(text, dif, node)?;
+            text.bytes_field(bytes.as_slice())
+        }
+        Event::Rib { dif, node, path } => {
+            ipc_at(text, dif, node)?;
+            path_if_any(text, path)
+        }
+        _ => unreachable!(),
+    }
+}
+
+/// The fields behind a word on a label, a wire, a policy or the clock, and behind one on an IPC process.
+#[tactic(auto, unfolding(crate::specs::Printed::event_fields))]
+fn few_fields(text: &mut Text, event: &Event) -> Result<(), Memory>
+    requires { names_no_app event.now ≡ true }
+    ensures { Adds result text.old text.new (spaced (event_fields event.now)) }
+{
+    match event {
         Event::Send { label, bytes } => {
             text.field(label.as_bytes())?;
             text.bytes_field(bytes.as_slice())
@@ -189,43 +182,44 @@ fn fields(text: &mut Text, event: &Event) -> Result<(), Memory>
             *at,
         ),
         Event::Cut { wire } | Event::Mend { wire } => text.field(wire.as_bytes()),
-        Event::Publish { dif, node, fac } => three(
-            text,
-            dif.as_bytes(),
-            node.as_bytes(),
-            fac.as_bytes(),
-        ),
-        Event::Enrol {
-            dif,
-            node,
-            fac,
-            peer,
-        } => four(
-            text,
-            dif.as_bytes(),
-            node.as_bytes(),
-            fac.as_bytes(),
-            peer.as_bytes(),
-        ),
-        Event::In { dif, node, link } | Event::Out { dif, node, link } => two_and_number(
-            text,
-            dif.as_bytes(),
-            node.as_bytes(),
-            *link,
-        ),
-        Event::Member { dif, node } | Event::Clock { dif, node } | Event::Ledger { dif, node } =>
-            two(text, dif.as_bytes(), node.as_bytes()),
         Event::Round => Ok(()),
         Event::Retire { policy } => text.field(policy.as_bytes()),
-        Event::Cdap { dif, node, bytes } => {
-            two(text, dif.as_bytes(), node.as_bytes())?;
-            text.bytes_field(bytes.as_slice())
-        }
-        Event::Rib { dif, node, path } => {
-            two(text, dif.as_bytes(), node.as_bytes())?;
-            path_if_any(text, path)
-        }
         Event::Journal { fac } => text.field(fac.as_bytes()),
+        _ => dif_fields(text, event),
+    }
+}
+
+/// The fields behind the word.
+#[tactic(auto, unfolding(crate::specs::Printed::event_fields))]
+fn fields(text: &mut Text, event: &Event) -> Result<(), Memory>
+    ensures { Adds result text.old text.new (spaced (event_fields event.now)) }
+{
+    match event {
+        Event::Register { fac, node, app } => app_at(text, fac, node, app),
+        Event::Unregister { fac, node, app } => app_at(text, fac, node, app),
+        Event::Alloc {
+            label,
+            fac,
+            node,
+            app,
+            to,
+            want,
+        } => {
+            text.field(label.as_bytes())?;
+            app_at(text, fac, node, app)?;
+            text.field(to.as_bytes())?;
+            options(text, want)
+        }
+        Event::Accept {
+            label,
+            fac,
+            node,
+            app,
+        } => {
+            text.field(label.as_bytes())?;
+            app_at(text, fac, node, app)
+        }
+        _ => few_fields(text, event),
     }
 }
 

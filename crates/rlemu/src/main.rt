@@ -2,13 +2,7 @@
 //! standard output. Nothing else is printed.
 #![tactic(auto)]
 
-#[cfg(test)]
-mod drawn;
-#[cfg(test)]
-mod own_policy;
 mod policies;
-#[cfg(test)]
-mod tests;
 
 use policies::{added, name_of};
 use rina_base::Memory;

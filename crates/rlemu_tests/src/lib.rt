@@ -2,6 +2,10 @@
 #![tactic(auto)]
 
 #[cfg(test)]
+mod drawn;
+#[cfg(test)]
+mod ends;
+#[cfg(test)]
 mod examples_a_to_g;
 #[cfg(test)]
 mod examples_h_to_p;
@@ -12,8 +16,12 @@ mod flat_rows;
 #[cfg(test)]
 mod kinds_rows;
 #[cfg(test)]
+mod own_policy;
+#[cfg(test)]
 mod running;
 #[cfg(test)]
 mod spent_rows;
 #[cfg(test)]
 mod tall_rows;
+#[cfg(test)]
+mod wire_rows;

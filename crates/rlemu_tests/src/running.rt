@@ -6,10 +6,11 @@ use crate::flat_rows::FLAT_ROWS;
 use crate::kinds_rows::KINDS_ROWS;
 use crate::spent_rows::SPENT_ROWS;
 use crate::tall_rows::TALL_ROWS;
+use crate::wire_rows::WIRE_ROWS;
 use rina_base::Name;
 use rina_io::{MemSink, MemSource};
 use rina_policy::{First, Last, Round, Shelf, Strict, Weighted};
-use rina_run::run;
+use rina_run::{Outcome, run};
 use std::alloc::Global;
 use std::test::Fail;
 
@@ -29,14 +30,28 @@ fn make_shelf(alloc: Global) -> Result<Shelf, Fail> {
     Ok(shelf)
 }
 
+/// Runs an input with these words; reads and writes fail at the calls that are told.
+pub(crate) fn outcome_of(
+    alloc: Global,
+    words: &[&str],
+    input: &str,
+    reads: &[bool],
+    writes: &[bool],
+) -> Result<(Outcome<Shelf>, MemSink), Fail> {
+    let mut owned = Vec::new(alloc);
+    for word in words {
+        owned.push(String::from_str(alloc, word)?)?;
+    }
+    let mut source = MemSource::new(input.as_bytes().to_vec(alloc)?, reads.to_vec(alloc)?);
+    let mut sink = MemSink::new(Vec::new(alloc), writes.to_vec(alloc)?);
+    let shelf = make_shelf(alloc)?;
+    let outcome = run(alloc, owned.as_slice(), &mut source, &mut sink, shelf);
+    Ok((outcome, sink))
+}
+
 /// What the word `run` writes of an input.
 fn written(alloc: Global, input: &str) -> Result<MemSink, Fail> {
-    let mut words = Vec::new(alloc);
-    words.push(String::from_str(alloc, "run")?)?;
-    let mut source = MemSource::new(input.as_bytes().to_vec(alloc)?, Vec::new(alloc));
-    let mut sink = MemSink::new(Vec::new(alloc), Vec::new(alloc));
-    let shelf = make_shelf(alloc)?;
-    run(alloc, words.as_slice(), &mut source, &mut sink, shelf);
+    let (_, sink) = outcome_of(alloc, &["run"], input, &[], &[])?;
     Ok(sink)
 }
 
@@ -80,6 +95,7 @@ fn each_example_writes_its_output(rt: HostRuntime) -> Result<(), Fail> {
     assert_eq!(rt; other_example(alloc, EXAMPLES_A_TO_G)?, None);
     assert_eq!(rt; other_example(alloc, EXAMPLES_H_TO_P)?, None);
     assert_eq!(rt; other_example(alloc, EXAMPLES_Q_TO_Z)?, None);
+    assert_eq!(rt; other_example(alloc, WIRE_ROWS)?, None);
     Ok(())
 }
 

@@ -1,9 +1,9 @@
 //! What a line answers or brings about.
-ghost use Rattle.std.specs.Prelude.{◌≡◌, ◌∷◌, []};
+ghost use Rattle.std.specs.Prelude.{◌≡◌, ◌∷◌, [], true};
 ghost use Rattle.std.specs.Fmt.{decimal};
 ghost use Rattle.rina_schedule.specs.Spelling.{Adds, spaced, spelling};
 ghost use Rattle.rina_report.specs.Values.{num_text};
-ghost use Rattle.rina_report.specs.Answers.{class_word, role_word, end_fields, flow_fields, answer_fields};
+ghost use Rattle.rina_report.specs.Answers.{class_word, role_word, end_fields, flow_fields, answer_fields, is_of_ipc, is_shown};
 
 use crate::answer::{Answer, ClassNote, FlowNote};
 use crate::print::cause::cause;
@@ -69,7 +69,76 @@ fn entry(text: &mut Text, at: u32, num: Num, bytes: &[u8]) -> Result<(), Memory>
     text.bytes_field(bytes)
 }
 
-/// A space and what was said, with its fields.
+/// What a word shows of a RIB, a ledger or a journal.
+#[tactic(auto, unfolding(crate::specs::Answers::answer_fields))]
+fn shown(text: &mut Text, answer: &Answer) -> Result<(), Memory>
+    requires { is_shown answer.now ≡ true }
+    ensures { Adds result text.old text.new (spaced (answer_fields answer.now)) }
+{
+    match answer {
+        Answer::Object { name, class, value } => {
+            text.field(b"obj")?;
+            text.field(name.as_bytes())?;
+            text.field(class_name(*class))?;
+            text.bytes_field(value.as_slice())
+        }
+        Answer::Off { key, cause: why } => {
+            text.field(b"off")?;
+            value::key(text, *key)?;
+            cause(text, why)
+        }
+        Answer::Flow(end) => flow(text, end),
+        Answer::SentEntry { at, num, bytes } => {
+            text.field(b"s")?;
+            entry(text, *at, *num, bytes.as_slice())
+        }
+        Answer::GotEntry { at, num, bytes } => {
+            text.field(b"g")?;
+            entry(text, *at, *num, bytes.as_slice())
+        }
+        _ => unreachable!(),
+    }
+}
+
+/// What an IPC process answers, or shows.
+#[tactic(auto, unfolding(crate::specs::Answers::answer_fields))]
+fn of_ipc(text: &mut Text, answer: &Answer) -> Result<(), Memory>
+    requires { is_of_ipc answer.now ≡ true }
+    ensures { Adds result text.old text.new (spaced (answer_fields answer.now)) }
+{
+    match answer {
+        Answer::In { key, end } => {
+            text.field(b"in")?;
+            value::key(text, *key)?;
+            took(text, end)
+        }
+        Answer::Out { key } => {
+            text.field(b"out")?;
+            value::key(text, *key)
+        }
+        Answer::OutOff { key, cause: why } => {
+            text.field(b"out")?;
+            value::key(text, *key)?;
+            text.field(b"off")?;
+            cause(text, why)
+        }
+        Answer::Held { why } => {
+            text.field(b"held")?;
+            refusal(text, why)
+        }
+        Answer::Clock { step } => {
+            text.field(b"clock")?;
+            clock(text, step)
+        }
+        Answer::Cdap { bytes } => {
+            text.field(b"cdap")?;
+            text.bytes_field(bytes.as_slice())
+        }
+        _ => shown(text, answer),
+    }
+}
+
+/// A space and an answer's word, with its fields.
 #[tactic(auto, unfolding(crate::specs::Answers::answer_fields))]
 pub(crate) fn answer(text: &mut Text, answer: &Answer) -> Result<(), Memory>
     ensures { Adds result text.old text.new (spaced (answer_fields answer.now)) }
@@ -94,65 +163,16 @@ pub(crate) fn answer(text: &mut Text, answer: &Answer) -> Result<(), Memory>
             text.number_field(u64::from(*at))?;
             text.bytes_field(bytes.as_slice())
         }
-        Answer::In { key, end } => {
-            text.field(b"in")?;
-            value::key(text, *key)?;
-            took(text, end)
-        }
-        Answer::Out { key } => {
-            text.field(b"out")?;
-            value::key(text, *key)
-        }
-        Answer::OutOff { key, cause: why } => {
-            text.field(b"out")?;
-            value::key(text, *key)?;
-            text.field(b"off")?;
-            cause(text, why)
-        }
-        Answer::Held { why } => {
-            text.field(b"held")?;
-            refusal(text, why)
-        }
-        Answer::Clock { step } => {
-            text.field(b"clock")?;
-            clock(text, step)
-        }
         Answer::Idle => text.field(b"idle"),
-        Answer::Cdap { bytes } => {
-            text.field(b"cdap")?;
-            text.bytes_field(bytes.as_slice())
-        }
-        Answer::Object { name, class, value } => {
-            text.field(b"obj")?;
-            text.field(name.as_bytes())?;
-            text.field(class_name(*class))?;
-            text.bytes_field(value.as_slice())
-        }
-        Answer::Off { key, cause: why } => {
-            text.field(b"off")?;
-            value::key(text, *key)?;
-            cause(text, why)
-        }
-        Answer::Flow(end) => flow(text, end),
-        Answer::SentEntry { at, num, bytes } => {
-            text.field(b"s")?;
-            entry(text, *at, *num, bytes.as_slice())
-        }
-        Answer::GotEntry { at, num, bytes } => {
-            text.field(b"g")?;
-            entry(text, *at, *num, bytes.as_slice())
-        }
         Answer::Refused { why } => {
             text.field(b"no")?;
             refusal(text, why)
         }
-        Answer::Label {
-            label,
-            state: shown,
-        } => {
+        Answer::Label { label, state: told } => {
             text.field(b"state")?;
             text.field(label.as_bytes())?;
-            state(text, shown)
+            state(text, told)
         }
+        _ => of_ipc(text, answer),
     }
 }

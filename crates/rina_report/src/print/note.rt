@@ -1,9 +1,11 @@
 //! Whole notes.
-ghost use Rattle.std.specs.Prelude.{◌≡◌, ◌∷◌, [], IfOk, codes};
+ghost use Rattle.std.specs.Prelude.{◌≡◌, ◌∷◌, ◌++◌, [], IfOk, codes};
 ghost use Rattle.std.specs.Fmt.{decimal};
 ghost use Rattle.rina_schedule.specs.Spelling.{Adds, spaced};
+ghost use Rattle.rina_report.specs.Answers.{answer_fields};
 ghost use Rattle.rina_report.specs.Notes.{fault_word, fault_values, told_fields, note_text, line_of};
 
+use crate::answer::Answer;
 use crate::note::{Fault, Note};
 use crate::print::answer::answer;
 use crate::print::value;
@@ -27,8 +29,9 @@ fn fault_name(fault: Fault) -> &'static [u8]
 
 #[tactic(auto, unfolding(crate::specs::Notes::fault_values))]
 fn fault(text: &mut Text, fault: Fault) -> Result<(), Memory>
-    ensures { Adds result text.old text.new (spaced (fault_values fault)) }
+    ensures { Adds result text.old text.new (spaced (fault_word fault ∷ fault_values fault)) }
 {
+    text.field(fault_name(fault))?;
     match fault {
         Fault::Usage { word } => text.number_field(u64::from(word)),
         Fault::StackRule { n, item } => value::two(text, u64::from(n), u64::from(item)),
@@ -46,6 +49,16 @@ fn named(text: &mut Text, word: &[u8], n: u32) -> Result<(), Memory>
 {
     text.field(word)?;
     text.number_field(u64::from(n))
+}
+
+/// The head of the summary of a generated run.
+fn begun(text: &mut Text, n: u32, lines: u32, tick: u32) -> Result<(), Memory>
+    ensures { Adds result text.old text.new (codes "gen" ++ spaced (decimal n ∷ codes "lines" ∷ decimal lines ∷ codes "tick" ∷ decimal tick ∷ [])) }
+{
+    text.add(b"gen")?;
+    text.number_field(u64::from(n))?;
+    named(text, b"lines", lines)?;
+    named(text, b"tick", tick)
 }
 
 /// What a generated run told.
@@ -67,28 +80,28 @@ fn told(
     named(text, b"failed", failed)
 }
 
+/// A line's number, a tick, and what is told.
+fn line_note(text: &mut Text, line: u32, tick: u32, told: &Answer) -> Result<(), Memory>
+    ensures { Adds result text.old text.new (decimal line ++ spaced (decimal tick ∷ answer_fields told.now)) }
+{
+    text.number(u64::from(line))?;
+    text.number_field(u64::from(tick))?;
+    answer(text, told)
+}
+
 /// Adds a note, without the end of its line.
 #[tactic(auto, unfolding(crate::specs::Notes::note_text))]
 fn note(text: &mut Text, note: &Note) -> Result<(), Memory>
     ensures { Adds result text.old text.new (note_text note.now) }
 {
     match note {
-        Note::Line {
-            line,
-            tick,
-            answer: told,
-        } => {
-            text.number(u64::from(*line))?;
-            text.number_field(u64::from(*tick))?;
-            answer(text, told)
-        }
+        Note::Line { line, tick, answer } => line_note(text, *line, *tick, answer),
         Note::End { tick } => {
             text.add(b"end")?;
             text.number_field(u64::from(*tick))
         }
         Note::Fault(why) => {
             text.add(b"fault")?;
-            text.field(fault_name(*why))?;
             fault(text, *why)
         }
         Note::Checked {
@@ -111,10 +124,7 @@ fn note(text: &mut Text, note: &Note) -> Result<(), Memory>
             off,
             failed,
         } => {
-            text.add(b"gen")?;
-            text.number_field(u64::from(*n))?;
-            named(text, b"lines", *lines)?;
-            named(text, b"tick", *tick)?;
+            begun(text, *n, *lines, *tick)?;
             told(text, *sent, *got, *refused, *off, *failed)
         }
     }

@@ -1,7 +1,7 @@
-mod seven;
-
-use crate::make;
+//! The text that number 7 makes.
+use crate::seven;
 use rina_base::Memory;
+use rina_gen::make;
 
 #[test]
 fn seven_makes_its_text(rt: HostRuntime) -> Result<(), Memory> {

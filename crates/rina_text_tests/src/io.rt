@@ -1,5 +1,5 @@
 //! Each end once, through its trait, and ends that fail in mid-stream.
-use crate::{
+use rina_io::{
     Ending, Failed, LIMIT, MemSink, MemSource, Sink, Source, StdSink, StdSource, SureSink,
     SureSource, take_all, write_all,
 };

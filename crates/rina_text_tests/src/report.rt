@@ -1,5 +1,6 @@
-use crate::{Answer, Note, print_note, read_note};
-use rina_schedule::LineError;
+//! Notes: a text of each kind, read and printed, and the first fault of a text that is none.
+use crate::schedule::is_fault;
+use rina_report::{Answer, Note, print_note, read_note};
 use std::alloc::Global;
 
 /// Whether a note is printed so.
@@ -18,11 +19,14 @@ fn returns(alloc: Global, text: &[u8]) -> bool {
     }
 }
 
-/// Whether a text has this fault.
-fn refuses(alloc: Global, text: &[u8], fault: LineError) -> bool {
-    match read_note(alloc, text) {
+/// Whether the text before a bar has the fault that is written behind it.
+fn refuses(alloc: Global, row: &str) -> bool {
+    let Some((text, fault)) = row.split_once("|") else {
+        return false;
+    };
+    match read_note(alloc, text.as_bytes()) {
         Ok(_) => false,
-        Err(first) => first == fault,
+        Err(first) => is_fault(first, fault),
     }
 }
 
@@ -152,38 +156,36 @@ fn each_text_is_read_and_printed(rt: HostRuntime) {
     }
 }
 
+/// Texts that are no notes, a bar, and the first fault, with its field.
+const FAULTS: &str = "\
+|UnknownWord
+ok|UnknownWord
+1 ok|UnknownWord
+1 0|UnknownWord
+01 0 ok|UnknownWord
+1 +0 ok|UnknownWord
+1 0 okay|UnknownWord
+1 0  ok|UnknownWord
+1 0 ok |BadName 1
+1 0 sent|MissingField 1
+1 0 sent 0|BadNumber 1
+1 0 sent 0.01|BadNumber 1
+1 0 sent 0.0 1|Extra 2
+1 0 got 2 hello|BadBytes 2
+1 0 got 2 x68|BadBytes 2
+1 0 got 2 xFF|BadBytes 2
+1 0 got 2 z1|BadBytes 2
+1 0 in date 1.2.3 accepted|BadName 1
+1 0 no Busy W/a/1|BadName 2
+1 0 no Busy w/a|BadNumber 2
+1 0 no CountSpent 4|MissingField 3
+1 0 in data 1.2.3 off NoState 2|BadNumber 5
+end|MissingField 1
+checked 2 1 0 6 0|Extra 5";
+
 #[test]
 fn the_first_fault_of_a_text_is_told(rt: HostRuntime) {
-    let texts: [(&[u8], LineError); 24] = [
-        (b"", LineError::UnknownWord),
-        (b"ok", LineError::UnknownWord),
-        (b"1 ok", LineError::UnknownWord),
-        (b"1 0", LineError::UnknownWord),
-        (b"01 0 ok", LineError::UnknownWord),
-        (b"1 +0 ok", LineError::UnknownWord),
-        (b"1 0 okay", LineError::UnknownWord),
-        (b"1 0  ok", LineError::UnknownWord),
-        (b"1 0 ok ", LineError::BadName { n: 1 }),
-        (b"1 0 sent", LineError::MissingField { n: 1 }),
-        (b"1 0 sent 0", LineError::BadNumber { n: 1 }),
-        (b"1 0 sent 0.01", LineError::BadNumber { n: 1 }),
-        (b"1 0 sent 0.0 1", LineError::Extra { n: 2 }),
-        (b"1 0 got 2 hello", LineError::BadBytes { n: 2 }),
-        (b"1 0 got 2 x68", LineError::BadBytes { n: 2 }),
-        (b"1 0 got 2 xFF", LineError::BadBytes { n: 2 }),
-        (b"1 0 got 2 z1", LineError::BadBytes { n: 2 }),
-        (b"1 0 in date 1.2.3 accepted", LineError::BadName { n: 1 }),
-        (b"1 0 no Busy W/a/1", LineError::BadName { n: 2 }),
-        (b"1 0 no Busy w/a", LineError::BadNumber { n: 2 }),
-        (b"1 0 no CountSpent 4", LineError::MissingField { n: 3 }),
-        (
-            b"1 0 in data 1.2.3 off NoState 2",
-            LineError::BadNumber { n: 5 },
-        ),
-        (b"end", LineError::MissingField { n: 1 }),
-        (b"checked 2 1 0 6 0", LineError::Extra { n: 5 }),
-    ];
-    for (text, fault) in texts {
-        assert!(rt; refuses(rt.alloc(), text, fault));
+    for row in FAULTS.lines() {
+        assert!(rt; refuses(rt.alloc(), row), "{row}");
     }
 }

@@ -1,0 +1,13 @@
+//! Tests of the texts: sources and sinks, lines of a schedule, notes, and what is drawn from a number.
+#![tactic(auto)]
+
+#[cfg(test)]
+mod drawn;
+#[cfg(test)]
+mod io;
+#[cfg(test)]
+mod report;
+#[cfg(test)]
+mod schedule;
+#[cfg(test)]
+mod seven;
