@@ -53,19 +53,19 @@ pub enum ClockStep {
     Idle,
     /// The link of this number was lost: its flow below failed, was closed, or was refused.
     LinkLost { link: u16 },
-    /// A flow that came in below was claimed as the link of this number.
+    /// A flow that came in below was claimed as the link of this number. No step of a static DIF makes it.
     LinkNew { link: u16 },
     /// The pieces were written off that the connection of this CEP-id held of a state that has ended.
     Gone { cep: Cep },
     /// This number was given up, and its flow failed.
     GaveUp { num: Num },
-    /// The ask at this port ran out of its time.
+    /// The ask at this port ran out of its time. No step of a static DIF makes it.
     Timeout { port: Port },
     /// The connection of this CEP-id made an acknowledgement.
     Ack { cep: Cep },
     /// This number was sent again.
     Again { num: Num },
-    /// A message of management was offered to the connection of this link.
+    /// A message of management was offered to the connection of this link. No step of a static DIF makes it.
     Message { link: u16 },
 }
 

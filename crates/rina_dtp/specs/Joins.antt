@@ -73,11 +73,6 @@ taken p s = taken_by (answer s.joining p) p s
 abbrev pub IsJoined : Piece → Joins → Option ℕ → Joins → Type 0
 IsJoined p old missing new = IsRoomFor old.joining p → (missing ≡ missing_in (answer old.joining p)) × (new ≡ taken p old)
 
--- there are places for one SDU and two gaps more
-pub record HasPlaces (s : Joins) : Type 0 where
-  pub slot : s.filled < s.slots
-  pub gap : length s.gaps + 1 < 2 * s.slots
-
 -- at most one SDU and so many gaps came
 pub record Grows (gaps : ℕ) (old new : Joins) : Type 0 where
   pub slots : new.slots ≡ old.slots

@@ -4,7 +4,7 @@ ghost use Rattle.std.specs.Vec.{vec_capacity};
 ghost use Rattle.rina_delim.specs.Joining.{piece, empty, answer, joined, held_after, HasRoom};
 ghost use Rattle.rina_dtp.specs.Slots.{Waiting};
 ghost use Rattle.rina_dtp.specs.Fetching.{first_lost, after_lost};
-ghost use Rattle.rina_dtp.specs.Joins.{gap_if, start_of, taken, missing_in, IsJoined, HasPlaces, Grows, HasRoomOf, IsForward, cleared, bytes_of, first_number};
+ghost use Rattle.rina_dtp.specs.Joins.{gap_if, start_of, taken, missing_in, IsJoined, Grows, HasRoomOf, IsForward, cleared, bytes_of, first_number};
 
 use crate::gap::{Gap, Lost};
 use crate::sdu::{Bodies, Sdu};

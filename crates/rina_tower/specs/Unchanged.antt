@@ -3,7 +3,6 @@ use Rattle.std.specs.Prelude.{◌≡◌, ℕ, List, length, slice_get, Some, ref
 use Rattle.std.proofs.Common.{◌∙◌, sym, subst, arith, get_or}
 use Rattle.std.proofs.lemmas.Option.{same_Some, slice_get-get_or, slice_get_within}
 use Rattle.rina_dif.specs.declared.dif.Dif.{Dif}
-use Rattle.rina_tower.specs.declared.tower.Tower.{Tower, Wires, Rank'}
 
 -- a DIF has the settings that it had, and the links that were laid for it
 pub record IsStaying (d d' : Dif) : Type 0 where
@@ -14,12 +13,6 @@ pub record IsStaying (d d' : Dif) : Type 0 where
 pub record AreStaying (difs difs' : List Dif) : Type 0 where
   pub number : length difs' ≡ length difs
   pub each : (n : ℕ) (d d' : Dif) → slice_get difs n ≡ Some d → slice_get difs' n ≡ Some d' → IsStaying d d'
-
--- and so each of each rank
-abbrev pub Stays : Tower → Tower → Type 0
-Stays (Wires a) (Wires a') = Unit {0}
-Stays (Rank' p difs below) (Rank' p' difs' below') = AreStaying difs difs' × Stays below below'
-Stays t t' = ⊥
 
 -- What follows
 
