@@ -11,8 +11,8 @@ pub fn calls_are_those_of_the_dif()
     ensures offer { OffersAreOffers }
     ensures pass { PassesArePasses }
     ensures taker { TakersAreTakers }
-    ensures arrive { ArrivalsAreArrivals }
-    ensures told { TellingsAreTold }
+    ensures on_data { ArrivalsAreArrivals }
+    ensures on_ack { TellingsAreTold }
     ensures forget { ForgettingIsForgetting }
     ensures stop { EndingsAreEndings }
 {}

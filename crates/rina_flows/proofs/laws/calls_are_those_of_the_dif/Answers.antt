@@ -15,8 +15,8 @@ returns-clause-taker c = takers_are
 pub returns-clause-on_data : goal.returns-clause-on_data
 returns-clause-on_data c = is_arrived
 
-pub returns-clause-told : goal.returns-clause-told
-returns-clause-told c = tellings_are
+pub returns-clause-on_ack : goal.returns-clause-on_ack
+returns-clause-on_ack c = tellings_are
 
 pub returns-clause-forget : goal.returns-clause-forget
 returns-clause-forget c = is_forgotten
