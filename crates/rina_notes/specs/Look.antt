@@ -66,7 +66,7 @@ ends_at t rank fac = or_no_ends (option_and_then (λ (u : Tower). option_map (λ
 abbrev pub state_at : Tower → ℕ → Port → Option PortState
 state_at t rank port = option_and_then (λ u. state_of (seen_of u) port) (rank_of t rank)
 
--- the note of what is said by a line at a tick, if anything is
+-- the note of what a line answers at a tick, if it answers anything
 abbrev pub noted : ℕ → ℕ → Option Answer → List Note
 noted line tick None = []
 noted line tick (Some what) = notes.Line line tick what ∷ []

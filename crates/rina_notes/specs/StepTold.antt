@@ -50,7 +50,7 @@ cause_told plan rank (causes.StateGone last_in) = Some (cause_notes.StateGone la
 cause_told plan rank (causes.Broken missing) = Some (cause_notes.Broken missing)
 cause_told plan rank (causes.LinkDown port) = option_map cause_notes.LinkDown (port_told plan (rank - 1) port)
 
--- what became of a PDU that a step took
+-- what a step did with the PDU that it took
 abbrev pub took_told : Plan → ℕ → Took → Option TookNote
 took_told plan rank tooks.Accepted = Some took_notes.Accepted
 took_told plan rank tooks.Relayed = Some took_notes.Relayed
@@ -84,7 +84,7 @@ abbrev pub clock_told : Plan → ℕ → ClockStep → Option Answer
 clock_told plan rank clocks.Idle = Some answers.Idle
 clock_told plan rank step = option_map answers.Clock (clock_note plan rank step)
 
--- why a step was not taken; want of memory is not told
+-- why a step was not taken; `Memory` is not told
 abbrev pub step_told : StepError → Option Refusal
 step_told errors.Memory = None
 step_told errors.NoIpc = Some refusals.NoIpc
@@ -94,7 +94,7 @@ step_told errors.NoLink = Some refusals.NoLink
 abbrev pub off_told : Plan → ℕ → Off → Option Answer
 off_told plan rank off = option_map (answers.Off off.key) (cause_told plan rank off.cause)
 
--- the first fault of bytes that are no CDAP message; want of memory is not told
+-- the first fault of bytes that are no CDAP message; `Memory` is not told
 abbrev pub fault_told : CdapError → Option Refusal
 fault_told faults.Memory = None
 fault_told (faults.Short at) = Some (refusals.Short at)

@@ -62,7 +62,7 @@ state_told plan rank states.Closed = Some notes.Closed
 abbrev pub drawn_told : Plan → ℕ → Option PortState → Option StateNote
 drawn_told plan rank state = option_and_then (state_told plan rank) state
 
--- what `register` refused; want of memory is not told
+-- what `register` refused; `Memory` is not told
 abbrev pub register_told : RegisterError → Option Refusal
 register_told register.Memory = None
 register_told register.Already = Some refusals.Already
@@ -120,7 +120,7 @@ wire_told (wires.NoFrame frame) = Some (refusals.NoFrame frame)
 wire_told (wires.EarlyHold now) = Some (refusals.EarlyHold now)
 wire_told (wires.LateHold last) = Some (refusals.LateHold last)
 
--- what a call answered: what is said where it was done, or what it refused
+-- what a call answered: the answer where it was done, or its refusal
 abbrev pub answer_told : {A E : Type 0} → (A → Option Answer) → (E → Option Refusal) → Result A E → Option Answer
 answer_told done refused (Ok x) = done x
 answer_told done refused (Err e) = option_map answers.Refused (refused e)

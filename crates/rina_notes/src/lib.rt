@@ -1,5 +1,5 @@
-//! Names and notes: what the names in a line stand for, and how what was answered is told with the
-//! names of the stack.
+//! Between the names of a stack and the numbers of its tower: the names in a line as numbers, and what was
+//! answered as a note with names.
 #![tactic(auto)]
 
 mod facility;

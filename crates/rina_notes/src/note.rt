@@ -32,7 +32,7 @@ pub fn tell(trace: &mut Notes, line: u32, tick: Tick, says: Option<Answer>) -> R
     Ok(())
 }
 
-/// A refusal, as it is said.
+/// The answer that tells a refusal.
 pub fn refused(why: Option<Refusal>) -> Option<Answer>
     ensures { result ≡ option_map Answer.Refused why }
 {

@@ -42,7 +42,7 @@ pub fn tell_cause(
     }
 }
 
-/// What became of a PDU that a step took.
+/// What a step did with the PDU that it took.
 fn tell_took(alloc: Global, plan: &Plan, rank: u16, took: Took) -> Result<Option<TookNote>, Memory>
     ensures { IfOk result (λ o. o ≡ took_told plan.now rank took) }
 {

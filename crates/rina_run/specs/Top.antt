@@ -1,4 +1,4 @@
--- What a run came to: the status, the notes, the tower and the shelf, by what was read.
+-- The outcome of a run: the status, the notes, the tower and the shelf, by what was read.
 use Rattle.std.specs.Prelude.{◌≡◌, slice_get, ℕ, ◌<◌, ◌≤◌, Bool, true, false, List, [], ◌∷◌, ◌++◌, length, take, Option, Some, None, Ok, Err, ◌⊎◌}
 use Rattle.std.specs.Io.KnownBytes.{Consumes, IsAtEnd}
 use Rattle.rina_iface.specs.declared.ends.End.{End}
@@ -73,7 +73,7 @@ pub record PlayedPart (plan : Plan) (lines : List (List ℕ)) (start : Stage) (t
   pub left : tower ≡ Some reached.run.tower
   pub after : shelf' ≡ reached.shelf
 
--- what a run of lines from a stage came to, where `ending` is the fault that reading ended with, if any; without memory, of the shelf only its names are known
+-- the outcome of lines that were run from a stage, where `ending` is the fault that reading ended with, if any; without memory, of the shelf only its names are known
 abbrev pub PlayOutcomes : Plan → Option Fault → List (List ℕ) → Stage → Status → List Note → Option Tower → List Slot → Type 0
 PlayOutcomes plan ending lines start statuses.Done trace tower shelf' = (ending ≡ None) × PlayedTo (Runs plan 1 start lines) (λ s. notes.End (now_of s.run.tower)) trace tower shelf'
 PlayOutcomes plan ending lines start (statuses.Schedule line n field) trace tower shelf' = (bad : BadLine) × (fault_of bad ≡ faults.Schedule line n field) × PlayedTo (StopsAt plan start lines bad) (λ s. notes.Fault (fault_of bad)) trace tower shelf'
@@ -89,7 +89,7 @@ RefusedBy fault statuses.WriteFault trace = trace ≡ told_once fault
 RefusedBy fault statuses.Memory trace = (trace ≡ []) ⊎ (trace ≡ told_once fault)
 RefusedBy fault status trace = (status ≡ status_of fault) × (trace ≡ told_once fault)
 
--- what a stack that was not accepted came to
+-- the outcome of a stack that was not accepted
 abbrev pub StackOutcomes : (List ℕ → Bool) → List ℕ → Status → List Note → Type 0
 StackOutcomes known text statuses.NotToml trace = ReadsRunnable known (Err stack.NotToml) text × (trace ≡ told_once faults.NotToml)
 StackOutcomes known text (statuses.StackRule n item) trace = ReadsRunnable known (Err (stack.StackRule n item)) text × (trace ≡ told_once (faults.StackRule n item))
@@ -97,12 +97,12 @@ StackOutcomes known text statuses.WriteFault trace = (fault : Fault) × (trace �
 StackOutcomes known text statuses.Memory trace = (trace ≡ []) ⊎ ((fault : Fault) × (trace ≡ told_once fault))
 StackOutcomes known text status trace = ⊥
 
--- what a script came to: its lines were run where its stack was accepted, and else the shelf is as it was
+-- the outcome of a script: its lines were run where its stack was accepted, and else the shelf is as it was
 abbrev pub ScriptOutcomes : (List ℕ → Bool) → Option Fault → Script → List Slot → Status → List Note → Option Tower → List Slot → Type 0
 ScriptOutcomes known ending s shelf status trace (Some t) shelf' = (plan : Plan) × ReadsRunnable known (Ok plan) s.stack × (start : Stage) × IsOpening plan shelf start × PlayOutcomes plan ending s.lines start status trace (Some t) shelf'
 ScriptOutcomes known ending s shelf status trace None shelf' = StackOutcomes known s.stack status trace × (shelf' ≡ shelf)
 
--- what an input came to: where no mark was among what was read, the fault is told
+-- the outcome of an input: where no mark was among what was read, the fault is told
 abbrev pub InputOutcomes : (List ℕ → Bool) → Option Fault → Option Script → List Slot → Status → List Note → Option Tower → List Slot → Type 0
 InputOutcomes known ending (Some s) shelf status trace tower shelf' = ScriptOutcomes known ending s shelf status trace tower shelf'
 InputOutcomes known (Some fault) None shelf status trace tower shelf' = (tower ≡ None) × RefusedBy fault status trace × (shelf' ≡ shelf)
@@ -119,7 +119,7 @@ abbrev pub is_whole : Option Fault → Bool
 is_whole None = true
 is_whole (Some fault) = false
 
--- the bytes that were read, and what they came to
+-- the bytes that were read, and their outcome
 pub record InputRan (known : List ℕ → Bool) (left left' : Option (List ℕ)) (shelf : List Slot) (status : Status) (trace : List Note) (tower : Option Tower) (shelf' : List Slot) : Type 0 where
   pub bytes : List ℕ
   pub ending : Option Fault
@@ -127,18 +127,18 @@ pub record InputRan (known : List ℕ → Bool) (left left' : Option (List ℕ))
   pub ended : EndedBy ending left' bytes
   pub outcome : InputOutcomes known ending (script_in (is_whole ending) (take 16777216 bytes)) shelf status trace tower shelf'
 
--- nothing was done, since memory was not found
+-- nothing was done, since an allocation failed
 pub record IsOutOfMemory (status : Status) (trace : List Note) (tower : Option Tower) : Type 0 where
   pub memory : status ≡ statuses.Memory
   pub notes : trace ≡ []
   pub left : tower ≡ None
 
--- what a run came to, by the words of the command line, by what was read, and by the shelf that was handed in
+-- the outcome of a run, by the words of the command line, by what was read, and by the shelf that was handed in
 abbrev pub RunOutcomes : (List ℕ → Bool) → Option ℕ → Option (List ℕ) → Option (List ℕ) → List Slot → Status → List Note → Option Tower → List Slot → Type 0
 RunOutcomes known (Some word) left left' shelf status trace tower shelf' = (tower ≡ None) × RefusedBy (faults.Usage word) status trace × (shelf' ≡ shelf)
 RunOutcomes known None left left' shelf status trace tower shelf' = (IsOutOfMemory status trace tower × (shelf' ≡ shelf)) ⊎ InputRan known left left' shelf status trace tower shelf'
 
--- a closing note was added, unless memory was not found; the run ends with this status, unless it was stopped
+-- a closing note was added, unless an allocation failed; the run ends with this status, unless it was stopped
 abbrev pub ClosedBy : Status → Note → List Note → Status → List Note → Type 0
 ClosedBy wanted note old statuses.WriteFault new = new ≡ old ++ note ∷ []
 ClosedBy wanted note old statuses.Memory new = (new ≡ old) ⊎ (new ≡ old ++ note ∷ [])

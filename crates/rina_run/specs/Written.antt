@@ -9,7 +9,7 @@ pub record IsFront (old new : Option (List ℕ)) (text : List ℕ) : Type 0 wher
   pub len : ℕ
   pub wrote : Appends old new (take len text)
 
--- the whole text was written, and a front of it after a write fault or want of memory
+-- the whole text was written, and a front of it after a write fault or `Memory`
 abbrev pub Written : Option (List ℕ) → Option (List ℕ) → List ℕ → Status → Type 0
 Written old new text statuses.WriteFault = IsFront old new text
 Written old new text statuses.Memory = IsFront old new text

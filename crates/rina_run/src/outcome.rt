@@ -1,4 +1,4 @@
-//! What a run came to.
+//! The outcome of a run.
 use rina_report::Notes;
 use rina_tower::Tower;
 
@@ -22,11 +22,11 @@ pub enum Status {
     ReadFault,
     /// A write failed.
     WriteFault,
-    /// Memory was not found.
+    /// An allocation failed.
     Memory,
 }
 
-/// What a run came to, beside the shelf: its status, the notes in order, and the tower as the run left
+/// The outcome of a run, beside the shelf: its status, the notes in order, and the tower as the run left
 /// it, where a stack was accepted.
 #[derive(Drop)]
 pub struct Finish {
@@ -35,7 +35,7 @@ pub struct Finish {
     pub tower: Option<Tower>,
 }
 
-/// What a run came to: its status, the notes in order, the tower as the run left it, where a stack was
+/// The outcome of a run: its status, the notes in order, the tower as the run left it, where a stack was
 /// accepted, and the shelf that was handed in, as the steps of the run left it.
 #[derive(Drop)]
 pub struct Outcome<P> {

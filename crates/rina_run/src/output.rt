@@ -14,7 +14,7 @@ use std::alloc::Global;
 /// Why a run stopped before its end.
 #[derive(Clone, Copy, Debug, PartialEq, Eq)]
 pub enum Stop {
-    /// Memory was not found.
+    /// An allocation failed.
     Memory,
     /// A write failed.
     WriteFault,

@@ -32,7 +32,7 @@ use rina_tower::Tower;
 use rina_words::Run;
 use std::alloc::Global;
 
-/// Ends a run in which nothing was done, where memory was not found.
+/// Ends a run with `Memory`, with nothing done.
 fn out_of_memory(alloc: Global) -> Finish
     ensures { IsOutOfMemory result.status result.trace result.tower }
 {
@@ -135,6 +135,25 @@ fn seal<K: Sink>(
     }
 }
 
+/// Ends a run with a fault, which is told, and gives the status.
+#[tactic(auto, using(crate::proofs::Ending::is_told))]
+fn end_by_fault<K: Sink>(
+    alloc: Global,
+    fault: Fault,
+    tower: Option<Tower>,
+    out: &mut K,
+    trace: Notes,
+) -> Finish
+    ensures closed { ClosedBy (status_of fault) (Note.Fault fault) trace result.status result.trace }
+    ensures tower { result.tower ≡ tower }
+    ensures written { (base : Option (List ℕ)) → Appends base (K.took out.old) (text_of trace) → Written base (K.took out.new) (text_of result.trace) result.status }
+    ensures fault { result.status ≡ Status.WriteFault → Rose (K.faults out.old) (K.faults out.new) }
+    ensures later { K.faults out.old ≤ K.faults out.new }
+{
+    let note = Note::Fault(fault);
+    seal(alloc, fault_status(fault), note, tower, out, trace)
+}
+
 /// Ends a run before its first line.
 #[tactic(auto, using(crate::proofs::Ending::refused_from, crate::proofs::Ending::wrote_nothing, crate::proofs::Ending::is_told))]
 fn refuse<K: Sink>(alloc: Global, out: &mut K, fault: Fault) -> Finish
@@ -144,14 +163,7 @@ fn refuse<K: Sink>(alloc: Global, out: &mut K, fault: Fault) -> Finish
     ensures fault { result.status ≡ Status.WriteFault → Rose (K.faults out.old) (K.faults out.new) }
     ensures later { K.faults out.old ≤ K.faults out.new }
 {
-    seal(
-        alloc,
-        fault_status(fault),
-        Note::Fault(fault),
-        None,
-        out,
-        Seq::new(alloc),
-    )
+    end_by_fault(alloc, fault, None, out, Seq::new(alloc))
 }
 
 /// Runs the lines of a script whose stack was accepted. `ending` is the fault that reading the
@@ -182,39 +194,12 @@ fn run_lines<K: Sink, P: Retires>(
         Ok(None) => match ending {
             None => {
                 let tick = tick_of(&opened.tower);
-                seal(
-                    alloc,
-                    Status::Done,
-                    Note::End { tick },
-                    Some(opened.tower),
-                    out,
-                    trace,
-                )
+                let note = Note::End { tick };
+                seal(alloc, Status::Done, note, Some(opened.tower), out, trace)
             }
-            Some(fault) => {
-                let status = fault_status(fault);
-                seal(
-                    alloc,
-                    status,
-                    Note::Fault(fault),
-                    Some(opened.tower),
-                    out,
-                    trace,
-                )
-            }
+            Some(fault) => end_by_fault(alloc, fault, Some(opened.tower), out, trace),
         },
-        Ok(Some(bad)) => {
-            let fault = line_fault(bad);
-            let status = fault_status(fault);
-            seal(
-                alloc,
-                status,
-                Note::Fault(fault),
-                Some(opened.tower),
-                out,
-                trace,
-            )
-        }
+        Ok(Some(bad)) => end_by_fault(alloc, line_fault(bad), Some(opened.tower), out, trace),
         Err(stop) => Finish {
             status: stopped(stop),
             trace,
@@ -294,7 +279,7 @@ fn run_over<S: Source, K: Sink, P: Retires + Policies>(
     out: &mut K,
     shelf: &mut P,
 ) -> Finish
-    // What was written is the text of the trace, and a front of it after a write fault or want of memory.
+    // What was written is the text of the trace, and a front of it after a write fault or `Memory`.
     ensures written { Written (K.took out.old) (K.took out.new) (text_of result.trace) result.status }
     // The status, the trace and the tower are what the words and the input make.
     ensures outcome { RunOutcomes (P.knows shelf.old) (word_fault (map (λ w. string_bytes w) words.now)) (S.left input.old) (S.left input.new) (P.slots shelf.old) result.status result.trace result.tower (P.slots shelf.new) }
@@ -308,7 +293,7 @@ fn run_over<S: Source, K: Sink, P: Retires + Policies>(
     ensures accounted { IfSome result.tower AccountsAll }
     // Each next hop of each IPC process is the first link of a least walk over the links that it knows.
     ensures routed { IfSome result.tower RoutesAll }
-    // A flow of a DIF has failed only where an answer to what it sent could come no more, or with the flow below it.
+    // A flow of a DIF has failed only where the acknowledgement of a number was too late to come, or with the flow below it.
     ensures caused { IfSome result.tower CausesAll }
     // A flow of a wire has failed only by a cut of that wire.
     ensures failed { IfSome result.tower FailedByCut }
@@ -345,7 +330,7 @@ pub fn run<S: Source, K: Sink, P: Retires + Policies>(
     out: &mut K,
     shelf: P,
 ) -> Outcome<P>
-    // What was written is the text of the trace, and a front of it after a write fault or want of memory.
+    // What was written is the text of the trace, and a front of it after a write fault or `Memory`.
     ensures written { Written (K.took out.old) (K.took out.new) (text_of result.trace) result.status }
     // The status, the trace, the tower and the shelf are what the words, the input and the shelf make.
     ensures outcome { RunOutcomes (P.knows shelf) (word_fault (map (λ w. string_bytes w) words.now)) (S.left input.old) (S.left input.new) (P.slots shelf) result.status result.trace result.tower (P.slots result.shelf) }
@@ -359,7 +344,7 @@ pub fn run<S: Source, K: Sink, P: Retires + Policies>(
     ensures accounted { IfSome result.tower AccountsAll }
     // Each next hop of each IPC process is the first link of a least walk over the links that it knows.
     ensures routed { IfSome result.tower RoutesAll }
-    // A flow of a DIF has failed only where an answer to what it sent could come no more, or with the flow below it.
+    // A flow of a DIF has failed only where the acknowledgement of a number was too late to come, or with the flow below it.
     ensures caused { IfSome result.tower CausesAll }
     // A flow of a wire has failed only by a cut of that wire.
     ensures failed { IfSome result.tower FailedByCut }

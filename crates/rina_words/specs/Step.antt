@@ -122,7 +122,7 @@ Unregistering plan fac node app w says w' = AtSite (site_at plan 1 fac node) (Ca
 
 -- ---- alloc LABEL FAC NODE APP TO
 
--- the state of a port of a rank, as it is said
+-- the answer that tells the state of a port of a rank
 abbrev pub port_answer : Plan → Tower → ℕ → Port → Option Answer
 port_answer plan t rank port = option_map answers.Port (drawn_told plan rank (state_at t rank port))
 
@@ -181,7 +181,7 @@ Sending plan label bytes w says w' = AtPort (port_in w.labels label) (CallsSend 
 
 -- ---- read LABEL
 
--- the oldest SDU that waits for an application at a port; what waits for an IPC process is none of an application's
+-- the oldest SDU that waits for an application at a port; what waits for an IPC process does not count
 abbrev pub for_app : Bool → Option Entry → Option Entry
 for_app true oldest = None
 for_app false oldest = oldest
@@ -310,7 +310,7 @@ Showing plan line (Some f) w ns w' = ShowsJournal plan line w f ns w'
 
 -- ---- retire POLICY
 
--- what is said where this is the count of the policy, if it is live
+-- the answer to `retire`, by the count of the policy where it is live
 abbrev pub retire_answer : Option Count → Option Answer
 retire_answer None = Some (answers.Refused refusals.NoPolicy)
 retire_answer (Some count) = Some answers.Done
@@ -404,12 +404,12 @@ pub record RoundsOnce (line : ℕ) (s : Stage) (ns : List Note) (s' : Stage) : T
 
 -- ---- ledger DIF NODE
 
--- the write-offs of a member, in order; where nothing was written off, that is said
+-- the write-offs of a member, in order; `none` where nothing was written off
 abbrev pub off_notes : Plan → ℕ → ℕ → ℕ → List Off → List Note
 off_notes plan rank line tick [] = noted line tick (Some answers.Nothing)
 off_notes plan rank line tick (off ∷ offs) = flat_map (λ (x : Off). noted line tick (off_told plan rank x)) (off ∷ offs)
 
--- where the DIF has no member at that node, this is said
+-- the answer where the DIF has no member at that node
 abbrev pub ledger_notes : Plan → ℕ → ℕ → ℕ → Option (List Off) → List Note
 ledger_notes plan rank line tick None = noted line tick (Some (answers.Refused refusals.NoIpc))
 ledger_notes plan rank line tick (Some offs) = off_notes plan rank line tick offs
@@ -437,12 +437,12 @@ abbrev pub path_of : Option (List ℕ) → List ℕ
 path_of None = codes "/"
 path_of (Some path) = path
 
--- objects, in order; where there is none, that is said
+-- objects, in order; `none` where there is none
 abbrev pub object_notes : ℕ → ℕ → List Shown → List Note
 object_notes line tick [] = noted line tick (Some answers.Nothing)
 object_notes line tick (object ∷ objects) = flat_map (λ (x : Shown). noted line tick (object_told x)) (object ∷ objects)
 
--- where the DIF has no member at that node, this is said
+-- the answer where the DIF has no member at that node
 abbrev pub rib_notes : ℕ → ℕ → Result (List Shown) StepError → List Note
 rib_notes line tick (Ok objects) = object_notes line tick objects
 rib_notes line tick (Err error) = noted line tick (option_map answers.Refused (step_told error))
@@ -515,7 +515,7 @@ Acts plan line (events.Out dif node link) s ns s' = SaysBeside line (LettingOut 
 Acts plan line events.Round s ns s' = RoundsOnce line s ns s'
 Acts plan line event s ns s' = ActsOnRun plan line event s.run ns s'.run × (s'.shelf ≡ s.shelf)
 
--- who moves PDUs after a line: after a line of ticks nobody, since each tick had its round
+-- who moves PDUs after a line; no round follows a line `tick`, since each of its ticks had one
 abbrev pub rounds_after : Rounds → Event → Rounds
 rounds_after rounds (events.Tick count) = Manual
 rounds_after rounds event = rounds

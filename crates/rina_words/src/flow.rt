@@ -17,7 +17,7 @@ use rina_stack::Plan;
 use rina_tower::{AppError, Tower};
 use std::alloc::Global;
 
-/// The state of a port of a rank, as it is said.
+/// The answer that tells the state of a port of a rank.
 pub fn say_port(
     alloc: Global,
     plan: &Plan,

@@ -107,7 +107,7 @@ fn tick_all<P: Retires>(
     Ok(())
 }
 
-/// What a line asks for, where its word is on a wire or on an IPC process: it is done, and its answer is said.
+/// Does what a line asks for, where its word is on a wire or on an IPC process, and gives its answer.
 fn answer_below(
     alloc: Global,
     plan: &Plan,
@@ -133,7 +133,7 @@ fn answer_below(
     }
 }
 
-/// What a line asks for, where its word says one thing: it is done, and its answer is said.
+/// Does what a line asks for, where its word has one answer, and gives it.
 fn answer(
     alloc: Global,
     plan: &Plan,
@@ -170,7 +170,7 @@ fn answer(
     }
 }
 
-/// Does what a line asks for, where its word says one thing, and adds the note of its answer.
+/// Does what a line asks for, where its word has one answer, and adds its note.
 fn act_once(
     alloc: Global,
     plan: &Plan,
@@ -230,7 +230,7 @@ fn act<P: Retires>(
     }
 }
 
-/// Who moves PDUs after a line: after a line of ticks nobody, since each tick had its round.
+/// Who moves PDUs after a line. No round follows a line `tick`, since each of its ticks had one.
 fn rounds_after(rounds: Rounds, event: &Event) -> Rounds
     ensures { result ≡ rounds_after rounds event.now }
 {

@@ -9,7 +9,7 @@ use rina_notes::refused;
 use rina_policy::{NoPolicy, Retires};
 use rina_report::{Answer, Refusal};
 
-/// What is said where a policy was retired, or where there was none.
+/// The answer to `retire`: done, or there is no live policy of that name.
 fn say_retired(answer: Result<(), NoPolicy>) -> Option<Answer>
     ensures { result ≡ retired_told answer }
 {

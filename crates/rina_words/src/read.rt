@@ -3,8 +3,6 @@ ghost use Rattle.std.specs.Prelude.{◌≡◌, None, MatchOption, OnOk, OnErr};
 ghost use Rattle.rina_notes.specs.Look.{Leads, Extends};
 ghost use Rattle.rina_notes.specs.Sites.{port_in};
 ghost use Rattle.rina_words.specs.Step.{IsWaiting, Reading, ReadsAll, waiting};
-ghost use Rattle.rina_tower.specs.Applications.{is_ipc_at};
-ghost use Rattle.rina_tower.specs.Ranks.{seen_of};
 ghost use Rattle.rina_tower.specs.Stands.{IsTower};
 
 use crate::run::Run;
@@ -15,27 +13,13 @@ use rina_report::{Answer, Notes, Refusal};
 use rina_tower::Tower;
 use std::alloc::Global;
 
-/// Whether the application at a port of the own rank of a tower is an IPC process.
-fn is_ipc_port(tower: &Tower, port: Port) -> bool
-    requires { IsTower tower.now }
-    ensures { result ≡ is_ipc_at (seen_of tower.now) port }
-{
-    match tower.journal(port.fac) {
-        None => false,
-        Some(journal) => match journal.ends.find(port) {
-            None => false,
-            Some(end) => end.app.is_ipc(),
-        },
-    }
-}
-
 /// The oldest SDU that waits for an application at a port of a rank.
 fn oldest(tower: &Tower, rank: u16, port: Port) -> Option<Lent<'_>>
     requires { IsTower tower.now }
     ensures { MatchOption result (waiting tower.now rank port ≡ None) (λ l. IsWaiting tower.now rank port l.at l.bytes.now) }
 {
     let at = tower.rank(rank)?;
-    if is_ipc_port(at, port) {
+    if at.is_ipc_port(port) {
         return None;
     }
     at.peek(port)

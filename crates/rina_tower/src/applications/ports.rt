@@ -20,7 +20,7 @@ use std::alloc::Global;
 
 impl Tower {
     /// Whether the application at a port of the top rank is an IPC process.
-    fn is_ipc_port(&self, port: Port) -> bool
+    pub fn is_ipc_port(&self, port: Port) -> bool
         requires { IsTower self.now }
         ensures { result ≡ is_ipc_at (seen_of self.now) port }
     {
