@@ -86,6 +86,7 @@ impl Asked {
         Asked { bound: None }
     }
 
+    /// What an event calls for.
     fn answer(&self, event: AskEvent) -> AskDo
         ensures { result ≡ asked_does self.now event }
     {
@@ -103,7 +104,8 @@ impl Asked {
         }
     }
 
-    fn note(&mut self, event: AskEvent, does: AskDo)
+    /// Changes the state as an event says.
+    fn advance(&mut self, event: AskEvent, does: AskDo)
         requires { does ≡ asked_does self.old event }
         ensures { self.new ≡ asked_after self.old event }
     {
@@ -121,7 +123,7 @@ impl Asked {
         ensures after { self.new ≡ asked_after self.old event }
     {
         let does = self.answer(event);
-        self.note(event, does);
+        self.advance(event, does);
         Ok(does)
     }
 }

@@ -48,6 +48,7 @@ impl Asking {
         }
     }
 
+    /// What an event calls for.
     fn answer(&self, event: AskEvent) -> AskDo
         ensures { result ≡ asking_does self.now event }
     {
@@ -63,7 +64,8 @@ impl Asking {
         }
     }
 
-    fn note_answer(&mut self, code: u8, pair: Pair)
+    /// Ends the waiting by an answer.
+    fn take_answer(&mut self, code: u8, pair: Pair)
         ensures { self.new ≡ asking_after self.old (Answer code pair.far pair.own) }
     {
         if self.waits {
@@ -72,7 +74,8 @@ impl Asking {
         }
     }
 
-    fn note(&mut self, event: AskEvent)
+    /// Changes the state as an event says.
+    fn advance(&mut self, event: AskEvent)
         ensures { self.new ≡ asking_after self.old event }
     {
         match event {
@@ -80,7 +83,7 @@ impl Asking {
                 result,
                 dcep,
                 number,
-            } => self.note_answer(
+            } => self.take_answer(
                 result,
                 Pair {
                     far: dcep,
@@ -104,7 +107,7 @@ impl Asking {
         ensures after { self.new ≡ asking_after self.old event }
     {
         let does = self.answer(event);
-        self.note(event);
+        self.advance(event);
         Ok(does)
     }
 }

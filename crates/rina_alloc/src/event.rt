@@ -1,4 +1,4 @@
-//! What comes to an end of an ask, and what it does.
+//! Events at an end of an ask, and what the end does.
 
 use rina_base::Cep;
 
@@ -11,7 +11,7 @@ pub struct Pair {
     pub own: Cep,
 }
 
-/// What comes to an end of an ask.
+/// An event at an end of an ask.
 #[derive(Clone, Copy, Debug, PartialEq, Eq)]
 pub enum AskEvent {
     /// The ask.
@@ -62,13 +62,13 @@ pub enum AskDo {
         /// The asker's CEP-id at result 0, the rule at result 1, 0 at result 2, the used ids at result 3.
         number: u32,
     },
-    /// It tells the far end that the flow is given up.
+    /// It tells the far end that it gave the flow up.
     Delete {
         /// The CEP-id of the far end.
         dcep: Cep,
         /// Its own.
         scep: Cep,
     },
-    /// The ask waited in vain.
+    /// The ask timed out: no answer came while it waited.
     TimedOut,
 }

@@ -17,7 +17,7 @@ pub fn an_ask_is_bound_only_by_yes()
     ensures asked { IsBoundByOwnYes }
 {}
 
-/// An ask that waited in vain, or whose end was freed, is never bound.
+/// An ask that timed out, or whose end was freed, is never bound.
 pub fn an_ask_that_is_over_is_never_bound()
     ensures late { IsNeverBound (Clock true) }
     ensures freed { IsNeverBound Ended }

@@ -213,7 +213,7 @@ fn answer_at(alloc: Global, rib: &mut Rib, m: &Message, name: &[u8]) -> Result<M
 /// What the objects answer to a message, as CDAP may change them. A request to create, delete, read, write, start or
 /// stop is answered by its response, whose result is 0, or the number of the refusal: 1 also where there is no name,
 /// 6 also where create has no class that is known, 5 also where write has an unknown one. At result 0 it shows the
-/// object: as it was after delete. Any other message is answered by result 6. Without memory nothing changes.
+/// object: as it was after delete. Any other message is answered by result 6. A call that fails changes nothing.
 #[tactic(auto, unfolding(crate::specs::Answers::told))]
 pub fn answer(alloc: Global, rib: &mut Rib, m: &Message) -> Result<Message, Memory>
     ensures { Answers result rib.old rib.new (told rib.old m.now) }

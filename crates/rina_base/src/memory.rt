@@ -1,7 +1,7 @@
-//! Want of memory.
+//! Out of memory.
 use std::alloc::AllocError;
 
-/// No memory was found: the one error that any call with an allocator may answer.
+/// An allocation failed. Each call that takes an allocator may fail so.
 #[derive(Clone, Copy, Debug, PartialEq, Eq)]
 pub struct Memory;
 

@@ -10,7 +10,7 @@ use std::marker::Model;
 /// Why a text is no name. The length is tried first.
 #[derive(Clone, Copy, Debug, PartialEq, Eq)]
 pub enum NameError {
-    /// Memory was not found.
+    /// An allocation failed.
     Memory,
     /// A part of the text has not 1 to 64 bytes, but `len`.
     BadLength { len: usize },

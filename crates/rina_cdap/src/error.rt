@@ -4,7 +4,7 @@ use std::alloc::AllocError;
 /// Why bytes are no message, or a message has no bytes. `at` is a place in bytes, counted from 0.
 #[derive(Clone, Copy, Debug, PartialEq, Eq)]
 pub enum CdapError {
-    /// Memory was not found.
+    /// An allocation failed.
     Memory,
     /// The field that begins at `at` does not end within the bytes.
     Short { at: usize },

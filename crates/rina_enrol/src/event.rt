@@ -1,6 +1,6 @@
-//! What comes to an end of an enrolment, and what it does.
+//! Events at an end of an enrolment, and what the end sends.
 
-/// What comes to an end of an enrolment: a message that it handles, or the end of its link.
+/// An event at an end of an enrolment: a message that it handles, or the loss of its link.
 #[derive(Clone, Copy, Debug, PartialEq, Eq)]
 pub enum EnrolEvent {
     /// CONNECT.
@@ -28,7 +28,7 @@ pub enum EnrolEvent {
     LinkLost,
 }
 
-/// What an end of an enrolment puts on its link.
+/// What an end of an enrolment sends over its link.
 #[derive(Clone, Copy, Debug, PartialEq, Eq)]
 pub enum EnrolDo {
     Nothing,

@@ -26,6 +26,7 @@ impl Joiner {
         }
     }
 
+    /// What an event calls for.
     fn answer(&self, event: EnrolEvent) -> EnrolDo
         ensures { result ≡ joiner_does self.now event }
     {
@@ -39,7 +40,8 @@ impl Joiner {
         }
     }
 
-    fn note(&mut self, event: EnrolEvent)
+    /// Changes the state as an event says.
+    fn advance(&mut self, event: EnrolEvent)
         ensures { self.new ≡ joiner_after self.old event }
     {
         match event {
@@ -56,7 +58,7 @@ impl Joiner {
         ensures after { self.new ≡ joiner_after self.old event }
     {
         let does = self.answer(event);
-        self.note(event);
+        self.advance(event);
         Ok(does)
     }
 }

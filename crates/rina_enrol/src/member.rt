@@ -26,6 +26,7 @@ impl Member {
         }
     }
 
+    /// What an event calls for.
     fn answer(&self, event: EnrolEvent) -> EnrolDo
         ensures { result ≡ member_does self.now event }
     {
@@ -39,7 +40,8 @@ impl Member {
         }
     }
 
-    fn note(&mut self, event: EnrolEvent)
+    /// Changes the state as an event says.
+    fn advance(&mut self, event: EnrolEvent)
         ensures { self.new ≡ member_after self.old event }
     {
         match event {
@@ -56,7 +58,7 @@ impl Member {
         ensures after { self.new ≡ member_after self.old event }
     {
         let does = self.answer(event);
-        self.note(event);
+        self.advance(event);
         Ok(does)
     }
 }

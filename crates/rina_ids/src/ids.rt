@@ -10,7 +10,7 @@ use std::marker::Model;
 /// Why no id is drawn.
 #[derive(Clone, Copy, Debug, PartialEq, Eq)]
 pub enum NoIds {
-    /// Memory was not found.
+    /// An allocation failed.
     Memory,
     /// All ids are in use or at rest: `used` is the number of ids of the width.
     Used { used: u32 },

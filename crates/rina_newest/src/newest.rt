@@ -69,7 +69,7 @@ fn replace(
 }
 
 impl Newest {
-    /// Nothing is kept yet.
+    /// A table without items.
     pub fn new(alloc: Global) -> Newest
         ensures { result ≡ [] }
     {
@@ -120,7 +120,7 @@ impl Newest {
     }
 
     /// Takes an item: true exactly where its version is greater than the kept one, or nothing is kept
-    /// under its key; it is then the kept one. No value is a deletion. Without memory nothing changes.
+    /// under its key; it is then the kept one. No value is a deletion. A call that fails changes nothing.
     #[tactic(auto, unfolding(crate::specs::Newest::taken))]
     pub fn take(
         &mut self,

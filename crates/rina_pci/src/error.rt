@@ -4,7 +4,7 @@ use std::alloc::AllocError;
 /// Why a PDU could not be written.
 #[derive(Clone, Copy, Debug, PartialEq, Eq)]
 pub enum PciError {
-    /// Memory was not found.
+    /// An allocation failed.
     Memory,
     /// The first field that does not fit its width, by its place in a PDU: 5 the destination's address, 6 the
     /// source's, 7 the destination's CEP-id, 8 the source's, 9 the length of the PDU, 10 the number of a piece or

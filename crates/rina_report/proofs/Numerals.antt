@@ -7,9 +7,9 @@ use Rattle.std.proofs.lemmas.List.{append-nil}
 use Rattle.std.proofs.lemmas.Option.{same_Some}
 use Rattle.std.proofs.lemmas.Fmt.{decimal_by_steps, decimal_digit, first_decimal, decimal_nonempty, decimal-digits_value}
 use Rattle.std.proofs.lemmas.Str.Parse.{IsDigitsTest, FoldsDigits, numerals_by_fold}
-use Rattle.rina_schedule.specs.Numbers.{is_digit}
-use Rattle.rina_schedule.proofs.Values.{a_digit}
-use Rattle.rina_report.specs.Fields.{is_numeral, value_from, numeral_of}
+use Rattle.rina_base.specs.Decimals.{is_digit, decimal_from, decimal_of}
+use Rattle.rina_base.proofs.Decimals.{decimal_back, decimal_inside}
+use Rattle.rina_report.specs.Fields.{is_numeral, numeral_of}
 
 -- ---- what is printed is read
 
@@ -26,29 +26,9 @@ decimal_numeral n lt =
       | inr large ↦ numeral_first (decimal n) (decimal_nonempty n lt) (first_decimal n (omega arith) lt)
     ]
 
-one_digit : (max n d : ℕ) (rest : List ℕ) → d < 10 → n * 10 + d ≤ max → value_from max n ((48 + d) ∷ rest) ≡ value_from max (n * 10 + d) rest
-unfolding value_from
-one_digit max n d rest small fits =
-    let same : 48 + d - 48 ≡ d = omega arith in
-    rw (same, a_digit d small, le-leb (n * 10 + d) max fits) refl
-
-decimal_value : (max n : ℕ) → n < 2 ^ 64 → n ≤ max → (rest : List ℕ) → value_from max 0 (decimal n ++ rest) ≡ value_from max n rest
-decimal_value max n lt = decimal_by_steps (λ n ds. n ≤ max → (rest : List ℕ) → value_from max 0 (ds ++ rest) ≡ value_from max n rest) one more n lt
-  where
-    one : (n : ℕ) → n < 10 → n ≤ max → (rest : List ℕ) → value_from max 0 (((48 + n) ∷ []) ++ rest) ≡ value_from max n rest
-    one n small fits rest = one_digit max 0 n rest small (omega arith) ∙ ap (λ (k : ℕ). value_from max k rest) (omega arith)
-
-    more : (n : ℕ) (ds : List ℕ) → 10 ≤ n → (n / 10 ≤ max → (rest : List ℕ) → value_from max 0 (ds ++ rest) ≡ value_from max (n / 10) rest) → n ≤ max → (rest : List ℕ) → value_from max 0 ((ds ++ ((48 + n % 10) ∷ [])) ++ rest) ≡ value_from max n rest
-    more n ds le h fits rest =
-        let whole : n / 10 * 10 + n % 10 ≡ n = omega arith in
-        ap (value_from max 0) (append_assoc ds ((48 + n % 10) ∷ []) rest) ∙ h (omega arith) ((48 + n % 10) ∷ rest)
-        ∙ one_digit max (n / 10) (n % 10) rest (omega arith) (omega arith) ∙ ap (λ (k : ℕ). value_from max k rest) whole
-
 pub numeral_back : (max n : ℕ) → n < 2 ^ 64 → n ≤ max → numeral_of max (decimal n) ≡ Some n
-unfolding numeral_of value_from
-numeral_back max n lt fits =
-    let read : value_from max 0 (decimal n ++ []) ≡ Some n = decimal_value max n lt fits [] in
-    rw (decimal_numeral n lt) (rw append-nil at read)
+unfolding numeral_of
+numeral_back max n lt fits = rw (decimal_numeral n lt) (decimal_back max n lt fits)
 
 -- ---- what is read is printed so
 
@@ -76,13 +56,13 @@ record Valued (max n : ℕ) (text : List ℕ) (x : ℕ) : Type 0 where
   same : value n text ≡ x
   fits : x ≤ max
 
-valued : (max n : ℕ) (text : List ℕ) (x : ℕ) → n ≤ max → value_from max n text ≡ Some x → Valued max n text x
-unfolding value_from value
+valued : (max n : ℕ) (text : List ℕ) (x : ℕ) → n ≤ max → decimal_from max n text ≡ Some x → Valued max n text x
+unfolding decimal_from value
 valued max n [] x le e = (let same : n ≡ x = same_Some n x e in record { digits = refl; same = same; fits = omega arith })
 valued max n (b ∷ text) x le e = by_test (λ m le h. valued max m text x le h) (is_digit b && leb (n * 10 + (b - 48)) max) refl e
   where
-    by_test : ((m : ℕ) → m ≤ max → value_from max m text ≡ Some x → Valued max m text x) → (c : Bool) → (is_digit b && leb (n * 10 + (b - 48)) max) ≡ c
-        → cond c (value_from max (n * 10 + (b - 48)) text) None ≡ Some x → Valued max n (b ∷ text) x
+    by_test : ((m : ℕ) → m ≤ max → decimal_from max m text ≡ Some x → Valued max m text x) → (c : Bool) → (is_digit b && leb (n * 10 + (b - 48)) max) ≡ c
+        → cond c (decimal_from max (n * 10 + (b - 48)) text) None ≡ Some x → Valued max n (b ∷ text) x
     by_test again true t e =
         let p = and_parts (is_digit b) (leb (n * 10 + (b - 48)) max) t in
         let v = again (n * 10 + (b - 48)) (leb-true _ _ p.1) e in
@@ -103,9 +83,9 @@ pub numeral_is : (max : ℕ) (text : List ℕ) (x : ℕ) → max < 2 ^ 64 → nu
 unfolding numeral_of
 numeral_is max text x small e = by_test (is_numeral text) refl e
   where
-    by_test : (c : Bool) → is_numeral text ≡ c → cond c (value_from max 0 text) None ≡ Some x → (text ≡ decimal x) × (x ≤ max)
+    by_test : (c : Bool) → is_numeral text ≡ c → cond c (decimal_of max text) None ≡ Some x → (text ≡ decimal x) × (x ≤ max)
     by_test true t e =
-        let v = valued max 0 text x (omega arith) e in
+        let v = valued max 0 text x (omega arith) (decimal_inside max text x e) in
         let a = alone text t in
         let printed : decimal (value 0 text) ≡ text = decimal-digits_value (numerals_by_fold AreDigits tells value folds) text v.digits a.0 a.1 (rw v.same (omega (arith, v.fits))) in
         (sym printed ∙ ap decimal v.same, v.fits)

@@ -9,7 +9,7 @@ use Rattle.std.proofs.lemmas.Fmt.{decimal_nonempty}
 use Rattle.std.proofs.lemmas.List.{length-append, take_at, take-append-drop, drop_more}
 use Rattle.std.proofs.Math.Seq.{drop-append-add}
 use Rattle.std.proofs.lemmas.List.Quantifiers.{position-Some}
-use Rattle.rina_schedule.specs.Numbers.{is_digit}
+use Rattle.rina_base.specs.Decimals.{is_digit}
 use Rattle.rina_schedule.proofs.Values.{decimal_digits}
 use Rattle.rina_report.specs.Fields.{numeral_of, parts_at, parts_of, max32, pair_of, triple_of}
 use Rattle.rina_report.proofs.Numerals.{numeral_back, numeral_is}

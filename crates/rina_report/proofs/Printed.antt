@@ -50,7 +50,7 @@ use Rattle.rina_report.specs.ReadNotes.{schedule_at, fault_of, fault_at, checked
 use Rattle.rina_report.specs.Ranges.{IsNum, IsWhy, IsFail, IsState, IsMember, IsCause, IsTook, IsClock, IsStateOrNone, IsRefusal, IsFlow, IsAnswer, IsFault, IsNote}
 use Rattle.std.specs.List.{list_all}
 use Rattle.std.proofs.lemmas.Bool.{and_parts, eqb-true, false≢true}
-use Rattle.rina_schedule.specs.Numbers.{is_digit}
+use Rattle.rina_base.specs.Decimals.{is_digit}
 use Rattle.rina_schedule.proofs.Values.{decimal_digits}
 use Rattle.rina_report.proofs.Numerals.{numeral_back}
 use Rattle.rina_report.proofs.Readers.{number_back, num_back, flow_back, key_back, port_back, name_back, app_back, object_back, last_number_back, last_two_back, last_num_back, last_port_back, last_truth_back, last_bytes_back}

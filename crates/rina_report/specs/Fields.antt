@@ -14,7 +14,7 @@ use Rattle.rina_schedule.specs.declared.error.LineError.{LineError}
 use Rattle.rina_schedule.specs.declared.error.LineError.TheVariants as errors
 use Rattle.rina_schedule.specs.Gives.{or_bad, guard}
 use Rattle.rina_schedule.specs.Fields.{name_or_bad}
-use Rattle.rina_schedule.specs.Numbers.{is_digit}
+use Rattle.rina_base.specs.Decimals.{decimal_of}
 use Rattle.rina_schedule.specs.Bytes.{printed_of}
 use Rattle.rina_base.specs.ObjectNames.{object_name_of}
 use Rattle.rina_report.specs.declared.state.PortNote.{PortNote}
@@ -40,14 +40,9 @@ unfoldable pub is_numeral : List ℕ → Bool
 is_numeral [] = false
 is_numeral (b ∷ text) = (length text == 0) || not (b == 48)
 
--- the number that the digits of a text write behind those of n, up to max
-unfoldable pub value_from : ℕ → ℕ → List ℕ → Option ℕ
-value_from max n [] = Some n
-value_from max n (b ∷ text) = if is_digit b && nat_le (n * 10 + (b - 48)) max then value_from max (n * 10 + (b - 48)) text else None
-
 -- the number that a numeral writes, up to max
 unfoldable pub numeral_of : ℕ → List ℕ → Option ℕ
-numeral_of max text = if is_numeral text then value_from max 0 text else None
+numeral_of max text = if is_numeral text then decimal_of max text else None
 
 abbrev pub parts_at : Option ℕ → List ℕ → List ℕ × List ℕ
 parts_at None text = (text, [])

@@ -5,7 +5,7 @@ use std::alloc::AllocError;
 /// Why an operation on objects is refused. They are tried in this order.
 #[derive(Clone, Copy, Debug, PartialEq, Eq)]
 pub enum RibError {
-    /// Memory was not found.
+    /// An allocation failed.
     Memory,
     /// There is no object of this name.
     NoObject,

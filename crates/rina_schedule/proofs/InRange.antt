@@ -11,7 +11,7 @@ use Rattle.rina_schedule.specs.declared.error.LineError.TheVariants as errors
 use Rattle.rina_schedule.specs.declared.event.Event.{Event}
 use Rattle.rina_schedule.specs.declared.event.Event.TheVariants as events
 use Rattle.rina_schedule.specs.Gives.{or_bad, guard}
-use Rattle.rina_schedule.specs.Numbers.{number_of}
+use Rattle.rina_base.specs.Decimals.{number_of}
 use Rattle.rina_schedule.specs.Bytes.{bytes_of}
 use Rattle.rina_base.specs.ObjectNames.{is_object_name, object_name_of}
 use Rattle.rina_schedule.specs.Fields.{next_of, field_at, number_at, name_or_bad, name_field_at, app_field_at, bytes_at, path_or_none, path_at, end_at, behind, value_or_default, setting_or_none, setting_at}

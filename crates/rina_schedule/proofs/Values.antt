@@ -13,7 +13,8 @@ use Rattle.rina_base.specs.Names.{is_name_byte, length_at, bad_at, unless_bad, b
 use Rattle.rina_base.specs.Traverse.{◌>>=◌}
 use Rattle.rina_base.specs.declared.name.NameError.{NameError}
 use Rattle.rina_base.specs.declared.name.NameError.TheVariants.{BadLength}
-use Rattle.rina_schedule.specs.Numbers.{is_digit, number_from, number_of}
+use Rattle.rina_base.specs.Decimals.{is_digit, number_of}
+use Rattle.rina_base.proofs.Decimals.{a_digit, decimal_back, decimal_fits}
 use Rattle.rina_schedule.specs.Bytes.{is_plain, are_plain, hex_digit, hex_pair_of, hex_of, plain_of, zeros_of, bytes_of, is_lower, lower_hex_of, printed_of}
 use Rattle.rina_base.specs.ObjectNames.{is_object_byte, are_parts, is_object_name}
 use Rattle.rina_schedule.specs.Spelling.{hex_glyph, hex_pair, spelling}
@@ -169,10 +170,6 @@ IsField-object (b ∷ text) h =
 abbrev AreDigits : ℕ → List ℕ → Type 0
 AreDigits n ds = (list_all is_digit ds ≡ true) × (0 < length ds)
 
-pub a_digit : (n : ℕ) → n < 10 → is_digit (48 + n) ≡ true
-unfolding is_digit
-a_digit n lt = and_from (leb 48 (48 + n)) (leb (48 + n) 57) (le-leb 48 (48 + n) (omega arith)) (le-leb (48 + n) 57 (omega arith))
-
 pub decimal_digits : (n : ℕ) → n < 2 ^ 64 → AreDigits n (decimal n)
 decimal_digits n lt = decimal_by_steps AreDigits one more n lt
   where
@@ -191,50 +188,11 @@ IsField-decimal n lt =
     let d = decimal_digits n lt in
     record { some = d.1; clear = clear_by is_digit (decimal n) refl d.0 }
 
-abbrev Reads : ℕ → List ℕ → Type 0
-Reads n ds = n < 2 ^ 32 → (rest : List ℕ) → number_from 0 (ds ++ rest) ≡ number_from n rest
-
-one_digit : (n d : ℕ) (rest : List ℕ) → d < 10 → n * 10 + d < 2 ^ 32 → number_from n ((48 + d) ∷ rest) ≡ number_from (n * 10 + d) rest
-unfolding number_from
-one_digit n d rest small fits =
-    let same : 48 + d - 48 ≡ d = omega arith in
-    rw (same, a_digit d small, lt-ltb (n * 10 + d) (2 ^ 32) fits) refl
-
-decimal_reads : (n : ℕ) → n < 2 ^ 64 → Reads n (decimal n)
-decimal_reads n lt = decimal_by_steps Reads one more n lt
-  where
-    one : (n : ℕ) → n < 10 → Reads n ((48 + n) ∷ [])
-    one n small fits rest = one_digit 0 n rest small (omega arith) ∙ ap (λ (k : ℕ). number_from k rest) (omega arith)
-
-    more : (n : ℕ) (ds : List ℕ) → 10 ≤ n → Reads (n / 10) ds → Reads n (ds ++ ((48 + n % 10) ∷ []))
-    more n ds le h fits rest =
-        let whole : n / 10 * 10 + n % 10 ≡ n = omega arith in
-        ap (number_from 0) (append_assoc ds ((48 + n % 10) ∷ []) rest) ∙ h (omega arith) ((48 + n % 10) ∷ rest)
-        ∙ one_digit (n / 10) (n % 10) rest (omega arith) (omega arith) ∙ ap (λ (k : ℕ). number_from k rest) whole
-
 pub number_again : (n : ℕ) → IsNumber n → number_of (decimal n) ≡ Some n
-unfolding number_of number_from
-number_again n fits =
-    let some = (decimal_digits n (omega arith)).1 in
-    let read : number_from 0 (decimal n ++ []) ≡ Some n = decimal_reads n (omega arith) fits [] in
-    rw (ne_eqb (length (decimal n)) 0 (λ e. omega arith)) (rw append-nil at read)
-
-number_bound : (m : ℕ) (text : List ℕ) (n : ℕ) → m < 2 ^ 32 → number_from m text ≡ Some n → n < 2 ^ 32
-unfolding number_from
-number_bound m [] n fits e = subst (λ (k : ℕ). k < 2 ^ 32) (same_Some m n e) fits
-number_bound m (b ∷ text) n fits e = by_test (λ k lt h. number_bound k text n lt h) (is_digit b && ltb (m * 10 + (b - 48)) (2 ^ 32)) refl e
-  where
-    by_test : ((k : ℕ) → k < 2 ^ 32 → number_from k text ≡ Some n → n < 2 ^ 32) → (c : Bool) → (is_digit b && ltb (m * 10 + (b - 48)) (2 ^ 32)) ≡ c → cond c (number_from (m * 10 + (b - 48)) text) None ≡ Some n → n < 2 ^ 32
-    by_test again true t e = again (m * 10 + (b - 48)) (ltb-true _ _ (and_parts (is_digit b) (ltb (m * 10 + (b - 48)) (2 ^ 32)) t).1) e
-    by_test again false t e = absurd cc
+number_again n fits = decimal_back (2 ^ 32 - 1) n (omega arith) (omega arith)
 
 pub number_fits : (text : List ℕ) (n : ℕ) → number_of text ≡ Some n → IsNumber n
-unfolding number_of
-number_fits text n e = by_test (eqb (length text) 0) e
-  where
-    by_test : (c : Bool) → cond c None (number_from 0 text) ≡ Some n → n < 2 ^ 32
-    by_test true e = absurd cc
-    by_test false e = number_bound 0 text n (omega arith) e
+number_fits text n e = omega (arith, decimal_fits (2 ^ 32 - 1) text n e)
 
 -- ---- bytes
 

@@ -2,7 +2,7 @@
 use Rattle.std.specs.Prelude.{ℕ, ◌+◌, ◌-◌, ◌*◌, ◌==◌, ◌&&◌, Bool, not, nat_le, List, [], ◌∷◌, length, replicate, Option, Some, None, if◌then◌else◌}
 use Rattle.std.specs.List.{list_all}
 use Rattle.std.specs.Option.{option_and_then, option_map}
-use Rattle.rina_schedule.specs.Numbers.{number_of}
+use Rattle.rina_base.specs.Decimals.{number_of}
 
 -- '!' to '~'
 unfoldable pub is_plain : ℕ → Bool

@@ -7,7 +7,7 @@ use Rattle.rina_base.specs.Traverse.{◌>>=◌}
 use Rattle.rina_schedule.specs.declared.error.LineError.{LineError}
 use Rattle.rina_schedule.specs.declared.error.LineError.TheVariants as errors
 use Rattle.rina_schedule.specs.Gives.{or_bad}
-use Rattle.rina_schedule.specs.Numbers.{number_of}
+use Rattle.rina_base.specs.Decimals.{number_of}
 use Rattle.rina_schedule.specs.Bytes.{bytes_of}
 use Rattle.rina_base.specs.ObjectNames.{object_name_of}
 

@@ -4,7 +4,6 @@ pub mod Fields
 pub mod FlowWords
 pub mod Gives
 pub mod Line
-pub mod Numbers
 pub mod Printed
 pub mod Ranges
 pub mod Spelling

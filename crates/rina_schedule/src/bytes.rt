@@ -5,8 +5,7 @@ ghost use Rattle.rina_schedule.specs.Bytes.{is_plain, are_plain, hex_digit, hex_
 ghost use Rattle.rina_schedule.specs.Gives.{Gives, or_bad};
 
 use crate::error::LineError;
-use crate::number::read_number;
-use rina_base::{Bytes, Seq};
+use rina_base::{Bytes, Seq, read_number};
 use std::alloc::Global;
 
 /// The greatest number of zeros that the form with `z` may have.

@@ -7,8 +7,7 @@ ghost use Rattle.rina_schedule.specs.Fields.{without_blanks, next_of, field_at, 
 
 use crate::bytes::read_bytes;
 use crate::error::LineError;
-use crate::number::read_number;
-use rina_base::{AppName, Bytes, Name, NameError, ObjectName};
+use rina_base::{AppName, Bytes, Name, NameError, ObjectName, read_number};
 use std::alloc::Global;
 
 fn first_letter(text: &[u8]) -> Option<usize>

@@ -12,7 +12,7 @@ use std::marker::Model;
 /// How far two are connected.
 #[derive(Clone, Copy, Debug, PartialEq, Eq)]
 pub enum State {
-    /// Nothing was said yet, or the last connection is over.
+    /// No connection was asked for, or the last one is over.
     Idle,
     /// Connect was sent, and its response was not got.
     Calling,
@@ -24,7 +24,7 @@ pub enum State {
 /// Why a message may not be sent or got. They are tried in this order.
 #[derive(Clone, Copy, Debug, PartialEq, Eq)]
 pub enum SessionError {
-    /// Memory was not found.
+    /// An allocation failed.
     Memory,
     /// No such message may come in this state.
     WrongState { state: State },
@@ -131,7 +131,7 @@ impl Session {
     ghost use Rattle.rina_session.specs.declared.session.SessionError.TheVariants.{Memory, UnknownInvoke};
     ghost use Rattle.rina_session.specs.Sessions.{sent, got, Steps};
 
-    /// Nothing was said yet.
+    /// A session in state `Idle`.
     pub fn new(alloc: Global) -> Session
         ensures { result ≡ record { state = Idle; waiting = [] } }
     {
@@ -141,8 +141,8 @@ impl Session {
         }
     }
 
-    /// Takes notice of a message that is sent. Connect is sent where nothing is between the two, its response where
-    /// it was got, and anything else within a connection; a release ends it at once. Never `UnknownInvoke`.
+    /// Records a message that is sent: connect in state `Idle`, its response in `Called`, any other in `Connected`. A
+    /// release ends the connection at once. Fails with `WrongState` or `Memory`, and then changes nothing.
     #[tactic(auto, unfolding(crate::specs::Sessions::sent))]
     pub fn on_sent(&mut self, alloc: Global, m: &Message) -> Result<(), SessionError>
         ensures exact { Steps result self.old self.new (sent self.old m.now) }
@@ -159,8 +159,9 @@ impl Session {
         Ok(())
     }
 
-    /// Takes notice of a message that was got. Connect is got where nothing is between the two, its response where
-    /// it was sent, and anything else within a connection; a release ends it at once. Takes no memory.
+    /// Records a message that was got: connect in state `Idle`, its response in `Calling`, any other in `Connected`. A
+    /// release ends the connection at once. Fails with `WrongState` or `UnknownInvoke`, and then changes nothing. Takes
+    /// no memory.
     #[tactic(auto, unfolding(crate::specs::Sessions::got))]
     pub fn on_got(&mut self, m: &Message) -> Result<(), SessionError>
         ensures exact { Steps result self.old self.new (got self.old m.now) }

@@ -4,6 +4,7 @@ ghost use Rattle.std.specs.Str.{bytes_eq};
 ghost use Rattle.rina_schedule.specs.Gives.{Gives};
 ghost use Rattle.rina_report.specs.Fields.{fields_of, behind, is_numeral, numeral_of, max8, max32, max64, field_at, end_at, number_at, word_at};
 
+use rina_base::read_decimal;
 use rina_schedule::LineError;
 
 pub(crate) fn is(word: &[u8], other: &[u8]) -> bool
@@ -74,7 +75,7 @@ fn is_numeral(text: &[u8]) -> bool
 
 /// The number that a text writes in decimal, with no sign and no needless zero; None where it is none,
 /// or exceeds `max`.
-#[tactic(auto, unfolding(crate::specs::Fields::numeral_of, crate::specs::Fields::value_from, rina_schedule::specs::Numbers::is_digit))]
+#[tactic(auto, unfolding(crate::specs::Fields::numeral_of))]
 pub(crate) fn read_numeral(max: u64, text: &[u8]) -> Option<u64>
     ensures value { result ≡ numeral_of max text.now }
     ensures small { IfSome result (λ x. x ≤ max) }
@@ -82,18 +83,7 @@ pub(crate) fn read_numeral(max: u64, text: &[u8]) -> Option<u64>
     if !is_numeral(text) {
         return None;
     }
-    let mut n = 0u64;
-    'digits: for b in text {
-        if !b.is_ascii_digit() {
-            return None;
-        }
-        let more = u128::from(n) * 10 + u128::from(*b - b'0');
-        if more > u128::from(max) {
-            return None;
-        }
-        n = more as u64;
-    }
-    Some(n)
+    read_decimal(max, text)
 }
 
 /// Field `n`, which is a number up to `max`.
