@@ -18,15 +18,11 @@ use Rattle.rina_cdap.specs.declared.error.CdapError.TheVariants as faults
 use Rattle.rina_dif.specs.declared.cdap.CdapCallError.{CdapCallError}
 use Rattle.rina_dif.specs.declared.cdap.CdapCallError.TheVariants as calls
 use Rattle.rina_dif.specs.declared.shown.Shown.{Shown}
-use Rattle.rina_base.specs.declared.class.Class.{Class}
-use Rattle.rina_base.specs.declared.class.Class.TheVariants as classes
 use Rattle.rina_base.specs.ObjectNames.{object_name_of}
 use Rattle.rina_report.specs.declared.cause.CauseNote.{CauseNote}
 use Rattle.rina_report.specs.declared.cause.CauseNote.TheVariants as cause_notes
 use Rattle.rina_report.specs.declared.refusal.Refusal.{Refusal}
 use Rattle.rina_report.specs.declared.refusal.Refusal.TheVariants as refusals
-use Rattle.rina_report.specs.declared.answer.ClassNote.{ClassNote}
-use Rattle.rina_report.specs.declared.answer.ClassNote.TheVariants as class_notes
 use Rattle.rina_report.specs.declared.answer.Answer.{Answer}
 use Rattle.rina_report.specs.declared.answer.Answer.TheVariants as answers
 use Rattle.rina_report.specs.declared.step.ClockNote.{ClockNote}
@@ -110,14 +106,6 @@ cdap_told calls.Memory = None
 cdap_told calls.NoIpc = Some refusals.NoIpc
 cdap_told (calls.Cdap error) = fault_told error
 
--- the class of an object
-abbrev pub class_note : Class → ClassNote
-class_note classes.Folder = class_notes.Folder
-class_note classes.Value = class_notes.Value
-class_note classes.Cube = class_notes.Cube
-class_note classes.Flow = class_notes.Flow
-class_note classes.Service = class_notes.Service
-
 -- an object of a RIB
 abbrev pub object_told : Shown → Option Answer
-object_told x = option_map (λ name. answers.Object name (class_note x.class) x.value) (object_name_of x.name)
+object_told x = option_map (λ name. answers.Object name x.class x.value) (object_name_of x.name)

@@ -1,6 +1,6 @@
 //! How a run tells single steps of a DIF of a rank, the write-offs of its ledgers, and the objects of its RIBs.
 ghost use Rattle.std.specs.Prelude.{◌≡◌, IfOk};
-ghost use Rattle.rina_notes.specs.StepTold.{cause_told, cdap_told, class_note, clock_note, clock_told, fault_told, in_told, object_told, off_told, out_told, step_told, took_told};
+ghost use Rattle.rina_notes.specs.StepTold.{cause_told, cdap_told, clock_note, clock_told, fault_told, in_told, object_told, off_told, out_told, step_told, took_told};
 
 use crate::refusal::tell_send;
 use crate::state::tell_port;
@@ -9,8 +9,7 @@ use rina_base::{Bytes, Cause, Memory};
 use rina_cdap::CdapError;
 use rina_data::{ClockStep, InStep, OutStep, StepError, Took};
 use rina_dif::{CdapCallError, Shown};
-use rina_report::{Answer, CauseNote, ClassNote, ClockNote, Refusal, TookNote};
-use rina_rib::Class;
+use rina_report::{Answer, CauseNote, ClockNote, Refusal, TookNote};
 use rina_schedule::ObjectName;
 use rina_stack::Plan;
 use std::alloc::Global;
@@ -200,19 +199,6 @@ pub fn tell_cdap(error: CdapCallError) -> Option<Refusal>
     }
 }
 
-/// The class of an object.
-fn note_class(class: Class) -> ClassNote
-    ensures { result ≡ class_note class }
-{
-    match class {
-        Class::Folder => ClassNote::Folder,
-        Class::Value => ClassNote::Value,
-        Class::Cube => ClassNote::Cube,
-        Class::Flow => ClassNote::Flow,
-        Class::Service => ClassNote::Service,
-    }
-}
-
 /// An object of a RIB.
 pub fn tell_object(alloc: Global, shown: &Shown) -> Result<Option<Answer>, Memory>
     ensures { IfOk result (λ o. o ≡ object_told shown.now) }
@@ -221,7 +207,7 @@ pub fn tell_object(alloc: Global, shown: &Shown) -> Result<Option<Answer>, Memor
     match ObjectName::read(alloc, shown.name.as_slice())? {
         Some(name) => Ok(Some(Answer::Object {
             name,
-            class: note_class(shown.class),
+            class: shown.class,
             value,
         })),
         None => Ok(None),

@@ -25,8 +25,9 @@ use Rattle.rina_report.specs.declared.step.ClockNote.{ClockNote}
 use Rattle.rina_report.specs.declared.step.ClockNote.TheVariants as clocks
 use Rattle.rina_report.specs.declared.refusal.Refusal.{Refusal}
 use Rattle.rina_report.specs.declared.refusal.Refusal.TheVariants as refusals
-use Rattle.rina_report.specs.declared.answer.ClassNote.{ClassNote}
-use Rattle.rina_report.specs.declared.answer.ClassNote.TheVariants as classes
+use Rattle.rina_base.specs.declared.class.Class.{Class}
+use Rattle.rina_base.specs.declared.class.Class.TheVariants as classes
+use Rattle.rina_base.specs.Classes.{class_text}
 use Rattle.rina_report.specs.declared.answer.FlowNote.{FlowNote}
 use Rattle.rina_report.specs.declared.answer.Answer.{Answer}
 use Rattle.rina_report.specs.declared.answer.Answer.TheVariants as answers
@@ -39,7 +40,7 @@ use Rattle.rina_report.specs.States.{why_fields, fail_fields, state_fields, memb
 use Rattle.rina_report.specs.Causes.{cause_word, cause_values, cause_fields}
 use Rattle.rina_report.specs.Steps.{took_fields, clock_fields}
 use Rattle.rina_report.specs.Refusals.{state_or_none, refusal_word, refusal_values, refusal_fields}
-use Rattle.rina_report.specs.Answers.{class_word, role_word, end_fields, flow_fields, answer_fields}
+use Rattle.rina_report.specs.Answers.{role_word, end_fields, flow_fields, answer_fields}
 use Rattle.rina_report.specs.Notes.{fault_word, fault_values, told_fields}
 use Rattle.rina_report.specs.Fields.{max32, max64}
 use Rattle.rina_report.specs.Ranges.{IsNum, IsFlowName, IsKey, IsPort, IsWhy, IsFail, IsState, IsMember, IsCause, IsTook, IsClock, IsStateOrNone, IsRefusal, IsFlow, IsAnswer, IsFault, IsNote}
@@ -197,8 +198,7 @@ refusal_clear (refusals.Busy port) h = rw (port_clear port h) refl
 refusal_clear (refusals.NotAllocated state) h = state_or_none_clear state h
 refusal_clear (refusals.Failed fail) h = fail_clear fail h
 
-class_clear : (class : ClassNote) → is_clear (class_word class) ≡ true
-unfolding class_word
+class_clear : (class : Class) → is_clear (class_text class) ≡ true
 class_clear classes.Folder = refl
 class_clear classes.Value = refl
 class_clear classes.Cube = refl

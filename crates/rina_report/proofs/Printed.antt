@@ -25,8 +25,8 @@ use Rattle.rina_report.specs.declared.step.ClockNote.{ClockNote}
 use Rattle.rina_report.specs.declared.step.ClockNote.TheVariants as clocks
 use Rattle.rina_report.specs.declared.refusal.Refusal.{Refusal}
 use Rattle.rina_report.specs.declared.refusal.Refusal.TheVariants as refusals
-use Rattle.rina_report.specs.declared.answer.ClassNote.{ClassNote}
-use Rattle.rina_report.specs.declared.answer.ClassNote.TheVariants as classes
+use Rattle.rina_base.specs.declared.class.Class.{Class}
+use Rattle.rina_base.specs.declared.class.Class.TheVariants as classes
 use Rattle.rina_report.specs.declared.answer.FlowNote.{FlowNote}
 use Rattle.rina_report.specs.declared.answer.Answer.{Answer}
 use Rattle.rina_report.specs.declared.answer.Answer.TheVariants as answers
@@ -39,18 +39,19 @@ use Rattle.rina_report.specs.States.{why_fields, fail_fields, state_fields, memb
 use Rattle.rina_report.specs.Causes.{cause_word, cause_values, cause_fields}
 use Rattle.rina_report.specs.Steps.{took_fields, clock_fields}
 use Rattle.rina_report.specs.Refusals.{state_or_none, refusal_word, refusal_values, refusal_fields}
-use Rattle.rina_report.specs.Answers.{class_word, role_word, end_fields, flow_fields, answer_fields}
+use Rattle.rina_report.specs.Answers.{role_word, end_fields, flow_fields, answer_fields}
 use Rattle.rina_report.specs.Notes.{fault_word, fault_values, told_fields}
 use Rattle.rina_report.specs.Fields.{max8, max32, max64, word_at}
 use Rattle.rina_report.specs.ReadStates.{why_of, why_at, gave_up_at, fail_of, fail_at, state_of, state_at}
 use Rattle.rina_report.specs.ReadCauses.{pdu_cause_of, cause_of, cause_at, took_of, took_at, clock_of, clock_at}
 use Rattle.rina_report.specs.ReadRefusals.{bare_of, state_or_none_of, state_or_none_at, shaped_of, numbered_of, counted_of, refusal_of, refusal_at}
-use Rattle.rina_report.specs.ReadAnswers.{class_of, role_of, ok_state_of, ok_at, got_at, in_at, out_off_of, out_at, off_at, object_note_at, flow_note_at, entry_at, label_at, journal_word_at, step_word_at, answer_at}
+use Rattle.rina_report.specs.ReadAnswers.{role_of, ok_state_of, ok_at, got_at, in_at, out_off_of, out_at, off_at, object_note_at, flow_note_at, entry_at, label_at, journal_word_at, step_word_at, answer_at}
 use Rattle.rina_report.specs.ReadNotes.{schedule_at, fault_of, fault_at, checked_at, named_at, gen_at, counter_at, told_at, line_note_at, whole_at, fields_note}
 use Rattle.rina_report.specs.Ranges.{IsNum, IsWhy, IsFail, IsState, IsMember, IsCause, IsTook, IsClock, IsStateOrNone, IsRefusal, IsFlow, IsAnswer, IsFault, IsNote}
 use Rattle.std.specs.List.{list_all}
 use Rattle.std.proofs.lemmas.Bool.{and_parts, eqb-true, false≢true}
 use Rattle.rina_base.specs.Decimals.{is_digit}
+use Rattle.rina_base.specs.Classes.{class_of, class_text}
 use Rattle.rina_schedule.proofs.Values.{decimal_digits}
 use Rattle.rina_report.proofs.Numerals.{numeral_back}
 use Rattle.rina_report.proofs.Readers.{number_back, num_back, flow_back, key_back, port_back, name_back, app_back, object_back, last_number_back, last_two_back, last_num_back, last_port_back, last_truth_back, last_bytes_back}
@@ -158,8 +159,8 @@ refusal_back m (refusals.Busy port) h = rw (last_port_back (m + 1) port h) refl
 refusal_back m (refusals.NotAllocated state) h = rw (state_or_none_back (m + 1) state h) refl
 refusal_back m (refusals.Failed fail) h = rw (fail_back (m + 1) fail h) refl
 
-class_back : (class : ClassNote) → class_of (class_word class) ≡ Some class
-unfolding class_of class_word
+class_back : (class : Class) → class_of (class_text class) ≡ Some class
+unfolding class_of
 class_back classes.Folder = refl
 class_back classes.Value = refl
 class_back classes.Cube = refl
@@ -225,7 +226,7 @@ answer_back (answers.Held why) h = rw (refusal_back 1 why h) refl
 answer_back (answers.Clock step) h = rw (clock_back 1 step h) refl
 answer_back answers.Idle h = refl
 answer_back (answers.Cdap bytes) h = rw (last_bytes_back 1 bytes h) refl
-answer_back (answers.Object name class value) h = rw (object_back 1 name (class_word class ∷ spelling value ∷ []) h.0, class_back class, last_bytes_back 3 value h.1) refl
+answer_back (answers.Object name class value) h = rw (object_back 1 name (class_text class ∷ spelling value ∷ []) h.0, class_back class, last_bytes_back 3 value h.1) refl
 answer_back (answers.Off key cause) h = rw (key_back 1 key (cause_fields cause) h.0, cause_back 3 cause h.1) refl
 answer_back (answers.Flow end) h = rw (flow_note_back end h) refl
 answer_back (answers.SentEntry at num bytes) h = rw (entry_back at num bytes h) refl

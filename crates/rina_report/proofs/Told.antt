@@ -11,6 +11,7 @@ use Rattle.rina_schedule.specs.declared.error.LineError.TheVariants as errors
 use Rattle.rina_schedule.specs.Gives.{guard}
 use Rattle.rina_schedule.specs.Spelling.{spelling}
 use Rattle.rina_base.specs.ObjectNames.{is_object_name}
+use Rattle.rina_base.specs.Classes.{class_of, class_text}
 use Rattle.rina_schedule.specs.Ranges.{IsName, IsApp, IsBytes}
 use Rattle.rina_report.specs.declared.answer.FlowNote.{FlowNote}
 use Rattle.rina_report.specs.declared.answer.Answer.{Answer}
@@ -18,13 +19,13 @@ use Rattle.rina_report.specs.declared.note.Fault.{Fault}
 use Rattle.rina_report.specs.declared.note.Note.{Note}
 use Rattle.rina_report.specs.Values.{num_text, flow_text, port_text, kind_word, key_text}
 use Rattle.rina_report.specs.States.{member_fields}
-use Rattle.rina_report.specs.Answers.{class_word, role_word, end_fields, flow_fields, answer_fields}
+use Rattle.rina_report.specs.Answers.{role_word, end_fields, flow_fields, answer_fields}
 use Rattle.rina_report.specs.Notes.{fault_word, fault_values, told_fields}
 use Rattle.rina_report.specs.Fields.{max8, max32, max64, numeral_of, field_at, number_at, num_at, flow_at, key_at, port_at, name_field_at, app_field_at, object_at, word_at, last_number_at, last_two_at, last_num_at, last_bytes_at}
 use Rattle.rina_report.specs.ReadStates.{state_of, state_at}
 use Rattle.rina_report.specs.ReadCauses.{cause_at, took_at, clock_at}
 use Rattle.rina_report.specs.ReadRefusals.{refusal_at}
-use Rattle.rina_report.specs.ReadAnswers.{class_of, role_of, ok_state_of, ok_at, got_at, in_at, out_off_of, out_end_at, out_at, off_at, object_note_at, flow_note_at, entry_at, label_at, journal_word_at, step_word_at, answer_at}
+use Rattle.rina_report.specs.ReadAnswers.{role_of, ok_state_of, ok_at, got_at, in_at, out_off_of, out_end_at, out_at, off_at, object_note_at, flow_note_at, entry_at, label_at, journal_word_at, step_word_at, answer_at}
 use Rattle.rina_report.specs.ReadNotes.{schedule_at, fault_of, fault_at, checked_at, named_at, gen_at, counter_at, told_at, line_note_at, whole_at, fields_note}
 use Rattle.rina_report.specs.Ranges.{IsNum, IsFlowName, IsKey, IsPort, IsFlow, IsAnswer, IsFault, IsNote}
 use Rattle.rina_report.proofs.Numerals.{numeral_is}
@@ -33,8 +34,8 @@ use Rattle.rina_report.proofs.Printed.{note_fields}
 use Rattle.rina_report.proofs.Branches.{Holds, word_then, failed, step, weaken, cons, HoldsSome, word_some, none, some_at}
 use Rattle.rina_report.proofs.Spelled.{SpellsState, SpellsCause, SpellsTook, SpellsClock, SpellsRefusal, state_of_is, state_is, cause_is, took_is, clock_is, refusal_is}
 
-class_is : (word : List ℕ) → HoldsSome (λ x. word ≡ class_word x) (class_of word)
-unfolding class_of class_word
+class_is : (word : List ℕ) → HoldsSome (λ x. word ≡ class_text x) (class_of word)
+unfolding class_of
 class_is word =
     word_some word (codes "folder") _ _ (λ e. e) (
     word_some word (codes "value") _ _ (λ e. e) (
@@ -153,7 +154,7 @@ object_note_is n fs =
     step P (last_bytes_at (n + 2) word.1) _ (ReadsLast spelling IsBytes word.1) (last_bytes_is (n + 2) word.1) (λ bytes h.
     let a = at_ok (object_at n fs) (Reads itself (λ x. is_object_name x ≡ true) fs) (object_is n fs) name e in
     let b = field_read (n + 1) name.1 word d in
-    let c = some_at (class_of word.0) (λ x. word.0 ≡ class_word x) (class_is word.0) class g in
+    let c = some_at (class_of word.0) (λ x. word.0 ≡ class_text x) (class_is word.0) class g in
     (cons refl (a.0 ∙ cons refl (b ∙ cons c h.0)), (a.1, h.1))))))
 
 flow_note_is : (n : ℕ) (fs : List (List ℕ)) → IfOk (flow_note_at n fs) (λ x. (codes "flow" ∷ fs ≡ flow_fields x) × IsFlow x)

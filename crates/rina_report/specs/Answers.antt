@@ -4,8 +4,9 @@ use Rattle.std.specs.Fmt.{decimal}
 use Rattle.rina_iface.specs.declared.state.Role.{Role}
 use Rattle.rina_iface.specs.declared.state.Role.TheVariants as roles
 use Rattle.rina_schedule.specs.Spelling.{spelling}
-use Rattle.rina_report.specs.declared.answer.ClassNote.{ClassNote}
-use Rattle.rina_report.specs.declared.answer.ClassNote.TheVariants as classes
+use Rattle.rina_base.specs.declared.class.Class.{Class}
+use Rattle.rina_base.specs.declared.class.Class.TheVariants as classes
+use Rattle.rina_base.specs.Classes.{class_text}
 use Rattle.rina_report.specs.declared.answer.FlowNote.{FlowNote}
 use Rattle.rina_report.specs.declared.answer.Answer.{Answer}
 use Rattle.rina_report.specs.declared.answer.Answer.TheVariants as answers
@@ -14,13 +15,6 @@ use Rattle.rina_report.specs.States.{state_fields, member_fields}
 use Rattle.rina_report.specs.Causes.{cause_fields}
 use Rattle.rina_report.specs.Refusals.{refusal_fields}
 use Rattle.rina_report.specs.Steps.{took_fields, clock_fields}
-
-unfoldable pub class_word : ClassNote → List ℕ
-class_word classes.Folder = codes "folder"
-class_word classes.Value = codes "value"
-class_word classes.Cube = codes "cube"
-class_word classes.Flow = codes "flow"
-class_word classes.Service = codes "service"
 
 unfoldable pub role_word : Role → List ℕ
 role_word roles.Asker = codes "asker"
@@ -49,7 +43,7 @@ answer_fields (answers.Held why) = codes "held" ∷ refusal_fields why
 answer_fields (answers.Clock step) = codes "clock" ∷ clock_fields step
 answer_fields answers.Idle = codes "idle" ∷ []
 answer_fields (answers.Cdap bytes) = codes "cdap" ∷ spelling bytes ∷ []
-answer_fields (answers.Object name class value) = codes "obj" ∷ name ∷ class_word class ∷ spelling value ∷ []
+answer_fields (answers.Object name class value) = codes "obj" ∷ name ∷ class_text class ∷ spelling value ∷ []
 answer_fields (answers.Off key cause) = codes "off" ∷ key_fields key ++ cause_fields cause
 answer_fields (answers.Flow end) = flow_fields end
 answer_fields (answers.SentEntry at num bytes) = codes "s" ∷ decimal at ∷ num_text num ∷ spelling bytes ∷ []

@@ -9,8 +9,9 @@ use Rattle.rina_iface.specs.declared.state.Role.TheVariants as roles
 use Rattle.rina_schedule.specs.declared.error.LineError.{LineError}
 use Rattle.rina_schedule.specs.declared.error.LineError.TheVariants as errors
 use Rattle.rina_schedule.specs.Gives.{or_bad}
-use Rattle.rina_report.specs.declared.answer.ClassNote.{ClassNote}
-use Rattle.rina_report.specs.declared.answer.ClassNote.TheVariants as classes
+use Rattle.rina_base.specs.declared.class.Class.{Class}
+use Rattle.rina_base.specs.declared.class.Class.TheVariants as classes
+use Rattle.rina_base.specs.Classes.{class_of}
 use Rattle.rina_report.specs.declared.answer.FlowNote.{FlowNote}
 use Rattle.rina_report.specs.declared.answer.Answer.{Answer}
 use Rattle.rina_report.specs.declared.answer.Answer.TheVariants as answers
@@ -19,15 +20,6 @@ use Rattle.rina_report.specs.Fields.{max8, max32, max64, field_at, end_at, numbe
 use Rattle.rina_report.specs.ReadStates.{state_of, state_at}
 use Rattle.rina_report.specs.ReadCauses.{cause_at, took_at, clock_at}
 use Rattle.rina_report.specs.ReadRefusals.{refusal_at}
-
-unfoldable pub class_of : List ℕ → Option ClassNote
-class_of word =
-    if bytes_eq word (codes "folder") then Some classes.Folder
-    else (if bytes_eq word (codes "value") then Some classes.Value
-    else (if bytes_eq word (codes "cube") then Some classes.Cube
-    else (if bytes_eq word (codes "flow") then Some classes.Flow
-    else (if bytes_eq word (codes "service") then Some classes.Service
-    else None))))
 
 unfoldable pub role_of : List ℕ → Option Role
 role_of word = if bytes_eq word (codes "asker") then Some roles.Asker else (if bytes_eq word (codes "far") then Some roles.Far else None)

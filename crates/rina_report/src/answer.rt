@@ -3,19 +3,9 @@ use crate::cause::CauseNote;
 use crate::refusal::Refusal;
 use crate::state::{MemberNote, PortNote, StateNote};
 use crate::step::{ClockNote, TookNote};
-use rina_base::{AppName, Bytes, FlowName, Key, Name, Num, Tick};
+use rina_base::{AppName, Bytes, Class, FlowName, Key, Name, Num, Tick};
 use rina_iface::Role;
 use rina_schedule::ObjectName;
-
-/// The class of an object.
-#[derive(Clone, Copy, Debug, PartialEq, Eq)]
-pub enum ClassNote {
-    Folder,
-    Value,
-    Cube,
-    Flow,
-    Service,
-}
 
 /// One end of a flow in a journal.
 #[derive(Drop)]
@@ -89,7 +79,7 @@ pub enum Answer {
     /// An object of a RIB.
     Object {
         name: ObjectName,
-        class: ClassNote,
+        class: Class,
         value: Bytes,
     },
     /// A write-off of a ledger.

@@ -11,7 +11,7 @@ mod refusal;
 mod state;
 mod step;
 
-pub use answer::{Answer, ClassNote, FlowNote};
+pub use answer::{Answer, FlowNote};
 pub use cause::CauseNote;
 pub use laws::{what_is_printed_is_read, what_is_read_is_printed};
 pub use note::{Fault, Note, Notes};

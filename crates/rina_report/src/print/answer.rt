@@ -3,9 +3,9 @@ ghost use Rattle.std.specs.Prelude.{◌≡◌, ◌∷◌, [], true};
 ghost use Rattle.std.specs.Fmt.{decimal};
 ghost use Rattle.rina_schedule.specs.Spelling.{Adds, spaced, spelling};
 ghost use Rattle.rina_report.specs.Values.{num_text};
-ghost use Rattle.rina_report.specs.Answers.{class_word, role_word, end_fields, flow_fields, answer_fields, is_of_ipc, is_shown};
+ghost use Rattle.rina_report.specs.Answers.{role_word, end_fields, flow_fields, answer_fields, is_of_ipc, is_shown};
 
-use crate::answer::{Answer, ClassNote, FlowNote};
+use crate::answer::{Answer, FlowNote};
 use crate::print::cause::cause;
 use crate::print::refusal::refusal;
 use crate::print::state::{member, state};
@@ -14,19 +14,6 @@ use crate::print::value;
 use rina_base::{Memory, Num};
 use rina_iface::Role;
 use rina_schedule::Text;
-
-#[tactic(auto, unfolding(crate::specs::Answers::class_word))]
-fn class_name(class: ClassNote) -> &'static [u8]
-    ensures { result.now ≡ class_word class }
-{
-    match class {
-        ClassNote::Folder => b"folder",
-        ClassNote::Value => b"value",
-        ClassNote::Cube => b"cube",
-        ClassNote::Flow => b"flow",
-        ClassNote::Service => b"service",
-    }
-}
 
 #[tactic(auto, unfolding(crate::specs::Answers::role_word))]
 fn role_name(role: Role) -> &'static [u8]
@@ -79,7 +66,7 @@ fn shown(text: &mut Text, answer: &Answer) -> Result<(), Memory>
         Answer::Object { name, class, value } => {
             text.field(b"obj")?;
             text.field(name.as_bytes())?;
-            text.field(class_name(*class))?;
+            text.field(class.name())?;
             text.bytes_field(value.as_slice())
         }
         Answer::Off { key, cause: why } => {

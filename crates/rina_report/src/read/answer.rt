@@ -2,9 +2,9 @@
 ghost use Rattle.std.specs.Prelude.{◌≡◌, ◌<◌, ◌+◌};
 ghost use Rattle.rina_schedule.specs.Gives.{Gives};
 ghost use Rattle.rina_report.specs.Fields.{behind};
-ghost use Rattle.rina_report.specs.ReadAnswers.{class_of, role_of, ok_state_of, ok_at, got_at, in_at, out_off_of, out_end_at, out_at, off_at, object_note_at, flow_note_at, entry_at, label_at, journal_word_at, step_word_at, answer_at};
+ghost use Rattle.rina_report.specs.ReadAnswers.{role_of, ok_state_of, ok_at, got_at, in_at, out_off_of, out_end_at, out_at, off_at, object_note_at, flow_note_at, entry_at, label_at, journal_word_at, step_word_at, answer_at};
 
-use crate::answer::{Answer, ClassNote, FlowNote};
+use crate::answer::{Answer, FlowNote};
 use crate::read::cause::{cause, clock, took};
 use crate::read::field::{byte, end, field, is, long, next_field, number};
 use crate::read::last::{last_bytes, last_num, last_number};
@@ -12,29 +12,10 @@ use crate::read::refusal::refusal;
 use crate::read::state::{state, state_of};
 use crate::read::value::{app, flow, key, name, num, object, port};
 use crate::state::MemberNote;
-use rina_base::{Bytes, Key, Num, Tick};
+use rina_base::{Bytes, Class, Key, Num, Tick};
 use rina_iface::Role;
 use rina_schedule::LineError;
 use std::alloc::Global;
-
-#[tactic(auto, unfolding(crate::specs::ReadAnswers::class_of))]
-fn class_of(word: &[u8]) -> Option<ClassNote>
-    ensures { result ≡ class_of word.now }
-{
-    if is(word, b"folder") {
-        Some(ClassNote::Folder)
-    } else if is(word, b"value") {
-        Some(ClassNote::Value)
-    } else if is(word, b"cube") {
-        Some(ClassNote::Cube)
-    } else if is(word, b"flow") {
-        Some(ClassNote::Flow)
-    } else if is(word, b"service") {
-        Some(ClassNote::Service)
-    } else {
-        None
-    }
-}
 
 #[tactic(auto, unfolding(crate::specs::ReadAnswers::role_of))]
 fn role_of(word: &[u8]) -> Option<Role>
@@ -165,7 +146,7 @@ fn object_note(alloc: Global, n: u32, rest: &[u8]) -> Result<Answer, LineError>
 {
     let (name, rest) = object(alloc, n, rest)?;
     let (word, rest) = field(n + 1, rest)?;
-    let Some(class) = class_of(word) else {
+    let Some(class) = Class::read(word) else {
         return Err(LineError::BadName { n: n + 1 });
     };
     let value = last_bytes(alloc, n + 2, rest)?;
