@@ -4,8 +4,6 @@ use Rattle.std.specs.Fmt.{decimal}
 use Rattle.rina_iface.specs.declared.state.Role.{Role}
 use Rattle.rina_iface.specs.declared.state.Role.TheVariants as roles
 use Rattle.rina_schedule.specs.Spelling.{spelling}
-use Rattle.rina_base.specs.declared.class.Class.{Class}
-use Rattle.rina_base.specs.declared.class.Class.TheVariants as classes
 use Rattle.rina_base.specs.Classes.{class_text}
 use Rattle.rina_report.specs.declared.answer.FlowNote.{FlowNote}
 use Rattle.rina_report.specs.declared.answer.Answer.{Answer}

@@ -9,8 +9,6 @@ use Rattle.rina_iface.specs.declared.state.Role.TheVariants as roles
 use Rattle.rina_schedule.specs.declared.error.LineError.{LineError}
 use Rattle.rina_schedule.specs.declared.error.LineError.TheVariants as errors
 use Rattle.rina_schedule.specs.Gives.{or_bad}
-use Rattle.rina_base.specs.declared.class.Class.{Class}
-use Rattle.rina_base.specs.declared.class.Class.TheVariants as classes
 use Rattle.rina_base.specs.Classes.{class_of}
 use Rattle.rina_report.specs.declared.answer.FlowNote.{FlowNote}
 use Rattle.rina_report.specs.declared.answer.Answer.{Answer}
