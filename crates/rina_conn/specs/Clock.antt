@@ -13,7 +13,7 @@ use Rattle.rina_conn.specs.declared.conn.Conn.{Conn}
 use Rattle.rina_conn.specs.declared.conn.ConnDue.{ConnDue}
 use Rattle.rina_conn.specs.declared.conn.DueAck.{DueAck}
 use Rattle.rina_conn.specs.declared.conn.ConnDue.TheVariants as due
-use Rattle.rina_conn.specs.Conns.{drops_of, IsGone, StandsStill}
+use Rattle.rina_conn.specs.Conns.{IsGone}
 use Rattle.rina_conn.specs.Sending.{TellsGivenUp, TellsAgain, SendsAgain}
 use Rattle.rina_conn.specs.Standing.{IsReceiver}
 use Rattle.rina_conn.specs.contracts.conn.Conn as conn
@@ -76,8 +76,8 @@ pub record IsClockDue (now item : ℕ) (k : Conn) (answer : ConnDue) : Type 0 wh
 -- What the connection is after it
 
 abbrev pub IsAfter : ℕ → Conn → ConnDue → Conn → Type 0
-IsAfter now old due.Idle new = StandsStill now old new × (drops_of now new ≡ drops_of now old)
-IsAfter now old due.Gone new = StandsStill now old new × (drops_of now new ≡ drops_of now old)
+IsAfter now old due.Idle new = new ≡ old
+IsAfter now old due.Gone new = new ≡ old
 IsAfter now old (due.GaveUp told) new = new ≡ old
 IsAfter now old (due.Ack ack right) new = new ≡ record old { plan = without old.plan }
 IsAfter now old (due.Again pdu) new = (new ≡ record old { sending = new.sending }) × SendsAgain now old.sending new.sending

@@ -1,8 +1,6 @@
 -- A connection: a sender and a receiver of the machine, the mark of the next acknowledgement, and pieces that are given up.
-use Rattle.std.specs.Prelude.{◌≡◌, ◌≢◌, ℕ, ◌*◌, Bool, true, false, not, ◌&&◌, if◌then◌else◌, List, [], ◌∷◌, Option, Some, None}
-use Rattle.rina_base.specs.declared.cause.Cause.{Cause}
+use Rattle.std.specs.Prelude.{◌≡◌, ◌≢◌, ℕ, ◌*◌, Bool, true, false, not, ◌&&◌, if◌then◌else◌, [], Option, None}
 use Rattle.rina_base.specs.declared.cause.Cause.TheVariants as cause
-use Rattle.rina_base.specs.declared.number.Key.{Key}
 use Rattle.rina_base.specs.declared.pdu.Pdu.{Pdu}
 use Rattle.rina_cube.specs.declared.Cube.{Cube}
 use Rattle.rina_cube.specs.Cubes.{delta_of}
@@ -31,7 +29,6 @@ pub record IsNewConn (cube : Cube) (piece max : ℕ) (peer : Peer) (k : Conn) : 
   pub sends : IsNewSender k.sending.form max k.sending
   pub receives : IsNew cube piece k.rx
   pub plan_is : k.plan ≡ record { a = cube.a; delta = delta_of cube; mark = None }
-  pub none_given_up : k.given_up ≡ None
   pub none_waits : k.waiting ≡ record { room = 2 * cube.window; earlier = 0; firsts = [] }
 
 -- a piece that was accepted, also where its SDU is broken, held, or a duplicate wants an acknowledgement
@@ -62,17 +59,10 @@ Passes now old new = (c : Constants) (m : Receiver) (j : Joiner) (mark : Option 
 
 -- The pieces that are given up
 
-abbrev pub with_first : Option (Key × Cause) → List (Key × Cause) → List (Key × Cause)
-with_first None pieces = pieces
-with_first (Some piece) pieces = piece ∷ pieces
-
-abbrev pub drops_of : ℕ → Conn → List (Key × Cause)
-drops_of now k = with_first k.given_up (drops now k.rx)
-
 -- no state stands, and pieces of one are left
 abbrev pub IsGone : ℕ → Conn → Bool → Type 0
-IsGone now k true = (present_at now k.rx ≡ false) × (drops_of now k ≢ [])
-IsGone now k false = (present_at now k.rx ≡ false) → drops_of now k ≡ []
+IsGone now k true = (present_at now k.rx ≡ false) × (drops now k.rx ≢ [])
+IsGone now k false = (present_at now k.rx ≡ false) → drops now k.rx ≡ []
 
 -- all but what is given up is as before
 pub record StandsStill (now : ℕ) (old new : Conn) : Type 0 where

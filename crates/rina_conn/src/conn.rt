@@ -1,27 +1,27 @@
 //! A connection.
-ghost use Rattle.std.specs.Prelude.{◌≡◌, ◌≤◌, ◌+◌, ◌-◌, ◌^◌, min, length, true, [], None, IfOk, option_copied, option_map};
+ghost use Rattle.std.specs.Prelude.{◌≡◌, ◌≤◌, ◌-◌, ◌^◌, min, length, true, IfOk};
 ghost use Rattle.std.specs.Borrow.{sem};
 ghost use Rattle.rina_base.specs.Pdus.{pdu_of};
 ghost use Rattle.rina_cube.specs.Cubes.{IsCube};
-ghost use Rattle.rina_dtcp.specs.Plans.{without};
 ghost use Rattle.rina_dtp.specs.Fetching.{TakesFirst};
 ghost use Rattle.rina_dtp.specs.Lending.{IsFirst};
 ghost use Rattle.rina_dtp.specs.Observed.{TellsNext};
-ghost use Rattle.rina_dtp.specs.Receiving.{kept_numbers};
+ghost use Rattle.rina_dtp.specs.Receiving.{drops, kept_numbers};
 ghost use Rattle.rina_dtp.specs.Stands.{IsRow, IsAhead};
-ghost use Rattle.rina_conn.specs.Clock.{IsClockDue, AnswersGone, AnswersGaveUp, AnswersAck, AnswersAgain, IsAfter, LendsDue, TellsAck, ack_of, plan_is_due, first_open};
-ghost use Rattle.rina_conn.specs.Conns.{Marks, Passes, marks, IsNewConn, drops_of, IsGone, StandsStill, PassesOn, notes_next, is_accepted, waits_after};
+ghost use Rattle.rina_conn.specs.Conns.{Marks, Passes, marks, IsNewConn, StandsStill, PassesOn, notes_next, is_accepted, waits_after};
 ghost use Rattle.rina_conn.specs.Lending.{LendsWhole};
 ghost use Rattle.rina_conn.specs.Sending as send;
 ghost use Rattle.rina_conn.specs.Standing.{Arrives, PassesFirst};
+
+mod clock;
 
 use crate::form::{Form, Peer};
 use crate::made::{Made, OfferError};
 use crate::sending::Sending;
 use crate::waiting::Waiting;
 use rina_base::{Cause, Key, Memory, Pdu, PduView, Tick};
-use rina_cube::{Cube, Kind};
-use rina_dtcp::{AckPlan, Credit, GaveUp};
+use rina_cube::Cube;
+use rina_dtcp::{AckPlan, GaveUp};
 use rina_dtp::{Bodies, Rx, Sdu, Verdict};
 use std::alloc::Global;
 
@@ -33,8 +33,6 @@ pub struct Conn {
     pub rx: Rx,
     pub plan: AckPlan,
     pub waiting: Waiting,
-    /// The first of the pieces that were given up because the receiver's state ended, where it was taken out.
-    pub given_up: Option<(Key, Cause)>,
 }
 
 /// What a clock step does for a connection.
@@ -96,7 +94,6 @@ impl Conn {
             rx: Rx::new(alloc, cube, piece)?,
             plan: AckPlan::new(cube.a, delta),
             waiting: Waiting::new(alloc, cube.window)?,
-            given_up: None,
         })
     }
 
@@ -105,7 +102,7 @@ impl Conn {
     pub fn offer(&mut self, alloc: Global, now: Tick, sdu: &[u8]) -> Result<Made, OfferError>
         requires { now ≤ 10000000 }
         ensures offers { send.Offers now sdu.now self.old.sending result self.new.sending }
-        ensures same { (self.new.rx ≡ self.old.rx) × (self.new.plan ≡ self.old.plan) × (self.new.given_up ≡ self.old.given_up) × (self.new.waiting ≡ self.old.waiting) }
+        ensures same { (self.new.rx ≡ self.old.rx) × (self.new.plan ≡ self.old.plan) × (self.new.waiting ≡ self.old.waiting) }
     {
         self.sending.offer(alloc, now, sdu)
     }
@@ -116,7 +113,7 @@ impl Conn {
         requires { now ≤ 10000000 }
         ensures arrives { IsRow now (pdu_of pdu.now) unpassed self.old.rx result self.new.rx }
         ensures marks { Marks now (pdu_of pdu.now) unpassed self.old result self.new }
-        ensures same { (self.new.sending ≡ self.old.sending) × (self.new.given_up ≡ self.old.given_up) }
+        ensures same { self.new.sending ≡ self.old.sending }
         ensures receives { Arrives now (pdu_of pdu.now) unpassed self.old self.new }
     {
         let present = self.rx.present(now);
@@ -129,7 +126,7 @@ impl Conn {
 
     fn plan_ack(&mut self, now: Tick, last_in: Option<Tick>, verdict: Verdict)
         ensures marks { PassesOn now last_in (marks verdict) self.old.plan self.new.plan }
-        ensures same { (self.new.rx ≡ self.old.rx) × (self.new.sending ≡ self.old.sending) × (self.new.given_up ≡ self.old.given_up) × (self.new.waiting ≡ self.old.waiting) }
+        ensures same { (self.new.rx ≡ self.old.rx) × (self.new.sending ≡ self.old.sending) × (self.new.waiting ≡ self.old.waiting) }
     {
         if wants_ack(verdict) {
             self.plan.note(now, last_in);
@@ -182,7 +179,7 @@ impl Conn {
     pub fn on_control(&mut self, pdu: &PduView<'_>)
         ensures told { send.IsToldBy pdu.now.ack pdu.now.right self.old.sending self.new.sending }
         ensures form { self.new.sending.form ≡ self.old.sending.form }
-        ensures same { (self.new.rx ≡ self.old.rx) × (self.new.plan ≡ self.old.plan) × (self.new.given_up ≡ self.old.given_up) × (self.new.waiting ≡ self.old.waiting) }
+        ensures same { (self.new.rx ≡ self.old.rx) × (self.new.plan ≡ self.old.plan) × (self.new.waiting ≡ self.old.waiting) }
     {
         self.sending.on_control(pdu.ack, pdu.right);
     }
@@ -191,7 +188,7 @@ impl Conn {
     /// number and its pieces are known from when it became whole. Takes no memory.
     pub fn passed(&mut self, now: Tick, _first: u32, _pieces: u32)
         ensures marks { Passes now self.old self.new }
-        ensures same { (self.new.rx ≡ self.old.rx) × (self.new.sending ≡ self.old.sending) × (self.new.given_up ≡ self.old.given_up) }
+        ensures same { (self.new.rx ≡ self.old.rx) × (self.new.sending ≡ self.old.sending) }
         ensures receives { PassesFirst now self.old self.new }
     {
         let last_in = self.rx.last_in();
@@ -199,171 +196,13 @@ impl Conn {
         self.waiting.pass();
     }
 
-    /// Does one item of a clock step, and answers Idle exactly where it is not due; then nothing changes. In item
-    /// 3, pieces are given up that were held by a receiver's state that has ended: `dropped` then gives them. In
-    /// item 4, a number is given up; in item 6, an acknowledgement is made; in item 7, a number is sent again. No
-    /// other item is ever due. Takes no memory.
-    pub fn on_clock(&mut self, now: Tick, item: u8) -> ConnDue<'_>
-        requires { now ≤ 10000000 }
-        ensures* rest { sem 𝓛 (LendsDue now self.entry result) }
-        ensures due { IsClockDue now item self.old result }
-    {
-        match item {
-            3 => self.end_state(now),
-            4 => self.give_up(now),
-            6 => self.acknowledge(now),
-            7 => self.send_again(now),
-            _ => ConnDue::Idle,
-        }
-    }
-
-    fn end_state(&mut self, now: Tick) -> ConnDue<'static>
-        ensures due { AnswersGone now self.old result }
-        ensures after { IsAfter now self.old result self.new }
-    {
-        if self.is_gone(now) {
-            ConnDue::Gone
-        } else {
-            ConnDue::Idle
-        }
-    }
-
-    fn give_up(&self, now: Tick) -> ConnDue<'static>
-        ensures { AnswersGaveUp now self.now result }
-    {
-        match self.sending.gave_up(now) {
-            Some(told) => ConnDue::GaveUp(told),
-            None => ConnDue::Idle,
-        }
-    }
-
-    fn acknowledge(&mut self, now: Tick) -> ConnDue<'static>
-        ensures due { AnswersAck now self.old result }
-        ensures after { IsAfter now self.old result self.new }
-    {
-        let Some(due) = self.ack_due(now) else {
-            return ConnDue::Idle;
-        };
-        self.acknowledged();
-        ConnDue::Ack {
-            ack: due.ack,
-            right: due.right,
-        }
-    }
-
-    /// The acknowledgement that item 6 of a clock step would make now; nothing changes. Takes no memory.
-    pub fn ack_due(&self, now: Tick) -> Option<DueAck>
-        ensures { TellsAck now self.now (option_map ack_of result) }
-    {
-        let next = self.rx.next(now)?;
-        if !self.is_ack_due(now) {
-            return None;
-        }
-        Some(DueAck {
-            ack: next.saturating_sub(1) as u32,
-            right: self.right(next),
-        })
-    }
-
-    /// Notes that the acknowledgement that is due was made: none is planned any more. Takes no memory.
-    pub fn acknowledged(&mut self)
-        ensures { self.new ≡ record self.old { plan = without self.old.plan } }
-    {
-        self.plan.forget();
-    }
-
-    /// Whether an acknowledgement is made now, where the receiver has state.
-    fn is_ack_due(&self, now: Tick) -> bool
-        ensures { result ≡ plan_is_due now self.now }
-    {
-        match (self.sending.form.cube.kind, self.rx.last_in()) {
-            (Kind::Reliable, Some(last_in)) => self.plan.is_due(now, last_in),
-            _ => false,
-        }
-    }
-
-    /// The first number that the application has still to take, where `next` is the one after all that were
-    /// accepted.
-    fn first_open(&self, next: u64) -> u64
-        ensures { result ≡ first_open next self.now }
-    {
-        match (self.waiting.first(), self.rx.joining()) {
-            (Some(first), _) => u64::from(first),
-            (None, Some(from)) => u64::from(from),
-            (None, None) => next,
-        }
-    }
-
-    /// The greatest number that may be sent.
-    fn right(&self, next: u64) -> u32
-        ensures { result ≡ min (first_open next self.now + self.now.sending.form.cube.window - 1) self.now.sending.numbers.max }
-    {
-        let credit = Credit::new(self.sending.form.cube.window);
-        credit.right(self.first_open(next), self.sending.numbers.max)
-    }
-
-    fn send_again(&mut self, now: Tick) -> ConnDue<'_>
-        requires { now ≤ 10000000 }
-        ensures* rest { sem 𝓛 (LendsDue now self.entry result) }
-        ensures due { AnswersAgain now self.old result }
-    {
-        match self.sending.again(now) {
-            Some(pdu) => ConnDue::Again(pdu),
-            None => ConnDue::Idle,
-        }
-    }
-
-    /// The PDU that item 7 of a clock step would send again now; nothing changes. Takes no memory.
-    pub fn again_due(&self, now: Tick) -> Option<&Pdu>
-        ensures { send.TellsAgain now self.now.sending (option_copied result) }
-    {
-        self.sending.again_due(now)
-    }
-
-    /// Notes that the number that is due was sent again, where one is. Takes no memory.
-    pub fn sent_again(&mut self, now: Tick)
-        requires { now ≤ 10000000 }
-        ensures sends { send.SendsAgain now self.old.sending self.new.sending }
-        ensures same { self.new ≡ record self.old { sending = self.new.sending } }
-    {
-        let _ = self.sending.again(now);
-    }
-
-    /// Takes out the first of the pieces that are given up, where none was.
-    fn take_first(&mut self, now: Tick)
-        ensures drops { drops_of now self.new ≡ drops_of now self.old }
-        ensures stands { StandsStill now self.old self.new }
-        ensures none { self.new.given_up ≡ None → drops_of now self.old ≡ [] }
-    {
-        if self.given_up.is_some() {
-            return;
-        }
-        self.given_up = self.rx.dropped(now);
-    }
-
-    /// Whether pieces are held of a receiver's state that has ended; `dropped` then gives them.
-    fn is_gone(&mut self, now: Tick) -> bool
-        ensures gone { IsGone now self.old result }
-        ensures drops { drops_of now self.new ≡ drops_of now self.old }
-        ensures stands { StandsStill now self.old self.new }
-    {
-        if self.rx.present(now) {
-            return false;
-        }
-        self.take_first(now);
-        self.given_up.is_some()
-    }
-
     /// The next piece that was held and given up, with its cause; None exactly where there is none. Takes no
     /// memory.
     pub fn dropped(&mut self, now: Tick) -> Option<(Key, Cause)>
-        ensures taken { TakesFirst result (drops_of now self.old) (drops_of now self.new) }
+        ensures taken { TakesFirst result (drops now self.old.rx) (drops now self.new.rx) }
         ensures stands { StandsStill now self.old self.new }
     {
-        match self.given_up.take() {
-            Some(piece) => Some(piece),
-            None => self.rx.dropped(now),
-        }
+        self.rx.dropped(now)
     }
 
     /// Closes the connection, and answers how many pieces are held, which `dropped` gives after that. Takes no
@@ -371,7 +210,7 @@ impl Conn {
     pub fn close(&mut self) -> u32
         ensures count { result ≡ min (length (kept_numbers self.old.rx)) (2 ^ 32 - 1) }
         ensures closed { self.new.rx ≡ record self.old.rx { closed = true } }
-        ensures same { (self.new.sending ≡ self.old.sending) × (self.new.plan ≡ self.old.plan) × (self.new.given_up ≡ self.old.given_up) × (self.new.waiting ≡ self.old.waiting) }
+        ensures same { (self.new.sending ≡ self.old.sending) × (self.new.plan ≡ self.old.plan) × (self.new.waiting ≡ self.old.waiting) }
     {
         self.rx.close()
     }

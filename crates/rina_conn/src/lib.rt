@@ -1,4 +1,4 @@
-//! A connection of a DIF: it only passes on, to the numbers, the sender and the receiver of its two halves.
+//! One end of a connection: each call is passed on to its numbers, sender, receiver and acknowledgement plan.
 #![tactic(auto)]
 
 mod conn;

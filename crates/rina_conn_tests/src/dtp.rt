@@ -6,18 +6,6 @@ use std::process::Abort;
 use std::test::*;
 
 /// Delta is 40.
-const DATAGRAM: Cube = Cube {
-    id: 1,
-    kind: Kind::Datagram,
-    mpl: 40,
-    r: 0,
-    a: 0,
-    retry: 0,
-    window: 4,
-    largest: 200,
-};
-
-/// Delta is 40.
 const LOOSE: Cube = Cube {
     id: 2,
     kind: Kind::Loose,
@@ -124,28 +112,6 @@ fn numbers_begin_again_after_three_delta(rt: HostRuntime) {
 }
 
 #[test]
-fn a_datagram_comes_once_in_any_order(rt: HostRuntime) -> Result<(), Fail> {
-    let mut rx = Rx::new(rt.alloc(), &DATAGRAM, 80)?;
-    came(&rt, &mut rx, 2, &whole(2, false, b"c"), ONE);
-    fetched(&rt, &mut rx, 2, 1, b"c");
-    came(&rt, &mut rx, 3, &whole(0, true, b"a"), ONE);
-    fetched(&rt, &mut rx, 0, 1, b"a");
-    came(&rt, &mut rx, 4, &whole(0, true, b"a"), duplicate(0));
-    came(&rt, &mut rx, 4, &whole(5000, false, b"e"), ONE);
-    came(
-        &rt,
-        &mut rx,
-        4,
-        &whole(904, false, b"d"),
-        Verdict::Off(Cause::Behind { highest: 5000 }),
-    );
-    assert_eq!(rt; rx.next(4), Some(5001));
-    assert!(rt; rx.present(83));
-    assert!(rt; !rx.present(84));
-    Ok(())
-}
-
-#[test]
 fn a_lost_piece_breaks_its_sdu(rt: HostRuntime) -> Result<(), Fail> {
     let mut rx = Rx::new(rt.alloc(), &LOOSE, 80)?;
     came(&rt, &mut rx, 2, &piece(0, true, true, false, b"zz"), NONE);
@@ -209,29 +175,5 @@ fn a_reliable_flow_begins_with_the_flag_and_has_no_gap(rt: HostRuntime) -> Resul
     assert!(rt; rx.next_whole().is_none());
     assert_eq!(rt; rx.next(6), Some(4));
     assert_eq!(rt; rx.last_in(), Some(6));
-    Ok(())
-}
-
-#[test]
-fn what_is_held_is_given_up_with_its_state(rt: HostRuntime) -> Result<(), Fail> {
-    let mut rx = Rx::new(rt.alloc(), &RELIABLE, 80)?;
-    came(&rt, &mut rx, 2, &piece(0, true, true, false, b"a"), NONE);
-    came(&rt, &mut rx, 2, &whole(3, false, b"d"), Verdict::Hold);
-    came(&rt, &mut rx, 2, &whole(2, false, b"c"), Verdict::Hold);
-    assert_eq!(rt;
-        rx.on_data(2, &whole(1, false, b"b"), 4),
-        Verdict::Off(Cause::NoRoom { cap: 4 })
-    );
-    assert_eq!(rt; rx.kept(), 3);
-    assert_eq!(rt; rx.dropped(145), None);
-    let gone = Cause::StateGone { last_in: 2 };
-    assert_eq!(rt; rx.dropped(146), Some((key(0), gone)));
-    assert_eq!(rt; rx.dropped(146), Some((key(2), gone)));
-    assert_eq!(rt; rx.close(), 1);
-    assert_eq!(rt;
-        rx.dropped(146),
-        Some((key(3), Cause::NoConnection { cep: 5 }))
-    );
-    assert_eq!(rt; rx.dropped(146), None);
     Ok(())
 }

@@ -1,5 +1,4 @@
-//! The sender's half of data transfer control (DTCP): what is sent again, the window, and when an
-//! acknowledgement is made (Watson's delta-t).
+//! Data transfer control (DTCP): what is sent again or given up, the window, and when an acknowledgement is made.
 #![tactic(auto)]
 
 mod credit;

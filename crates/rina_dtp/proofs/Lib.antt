@@ -9,6 +9,7 @@ pub mod Lasting
 pub mod Observing
 pub mod Placed
 pub mod Recalling
+pub mod Remaining
 pub mod Senders
 pub mod Settled
 pub mod Shelved

@@ -1,5 +1,5 @@
 -- Pieces that were given up, and how they are fetched.
-use Rattle.std.specs.Prelude.{◌≡◌, ℕ, ◌+◌, ◌<◌, ◌≤◌, true, false, nat_lt, List, [], ◌∷◌, length, Option, Some, None, if◌then◌else◌}
+use Rattle.std.specs.Prelude.{◌≡◌, ◌≢◌, ℕ, ◌+◌, ◌<◌, ◌≤◌, Bool, true, false, nat_lt, List, [], ◌∷◌, length, Option, Some, None, if◌then◌else◌}
 use Rattle.rina_delim.specs.declared.joiner.Run.{Run}
 use Rattle.rina_delim.specs.Joining.{empty}
 use Rattle.rina_dtp.specs.declared.accepted.Accepted.{Accepted}
@@ -18,6 +18,11 @@ use Rattle.rina_law.specs.Receiver.{Receiver}
 abbrev pub TakesFirst : {X : Type 0} → Option X → List X → List X → Type 0
 TakesFirst None old new = (old ≡ []) × (new ≡ [])
 TakesFirst (Some x) old new = old ≡ x ∷ new
+
+-- whether a list has anything
+abbrev pub HasSome : {X : Type 0} → List X → Bool → Type 0
+HasSome xs true = xs ≢ []
+HasSome xs false = xs ≡ []
 
 -- the gaps when one piece was taken from the first
 abbrev pub first_lost : List Gap → Option Lost

@@ -341,6 +341,13 @@ impl Join {
         bodies_of(alloc, &self.slots[self.fetched..self.filled])
     }
 
+    /// Whether a piece was given up that `next_lost` did not give yet.
+    pub fn has_lost(&self) -> bool
+        ensures { IsTrue result ↔ 1 ≤ length self.now.gaps }
+    {
+        !self.gaps.is_empty()
+    }
+
     /// The next piece that was given up; None exactly where there is none.
     pub fn next_lost(&mut self) -> Option<Lost>
         ensures lost { result ≡ first_lost self.old.gaps }

@@ -1,4 +1,4 @@
-//! The data transfer protocol (DTP): the numbers of a sender, and the receiver of a connection.
+//! Data transfer (DTP): the sequence numbers of a sender, and the receiver that accepts, holds and joins pieces.
 #![tactic(auto)]
 
 mod accepted;

@@ -5,7 +5,7 @@ ghost use Rattle.rina_cube.specs.Cubes.{IsCube};
 ghost use Rattle.rina_law.specs.Receiver as law;
 ghost use Rattle.rina_dtp.specs.Accepted.{known_verdict, number_verdict, judged_as, is_accepted, is_held};
 ghost use Rattle.rina_dtp.specs.Receiving.{present_at, cleared, IsAccepted, IsHeldIn, IsStep, Steps, slots_of, StartsFresh, run_numbers, kept_numbers, end_cause, ended_with, broken_with, lost_in, drops};
-ghost use Rattle.rina_dtp.specs.Fetching.{TakesFirst, after_first, gathered, GoesOn, ChangesKept, KeepsNoMore, StandsAsBefore};
+ghost use Rattle.rina_dtp.specs.Fetching.{HasSome, TakesFirst, after_first, gathered, GoesOn, ChangesKept, KeepsNoMore, StandsAsBefore};
 ghost use Rattle.rina_dtp.specs.Observed.{IsNew, TellsPresence, TellsNext, TellsJoining, TellsLastIn, from_kept};
 ghost use Rattle.rina_dtp.specs.Joins.{IsForward, first_number};
 ghost use Rattle.rina_dtp.specs.Stands.{IsRow, IsAhead};
@@ -413,6 +413,25 @@ impl Rx {
             Some(broken) => Some(broken),
             None => self.next_ended(now),
         }
+    }
+
+    /// Whether pieces are kept that are given up because state or connection ended.
+    #[tactic(auto, using(crate::proofs::Remaining::ended_some, crate::proofs::Remaining::ended_none, crate::proofs::Remaining::ended_kept))]
+    fn has_ended(&self, now: Tick) -> bool
+        ensures { HasSome (ended_with self.now.source (end_cause now self.now) (kept_numbers self.now)) result }
+    {
+        self.end_cause(now).is_some() && self.kept() > 0
+    }
+
+    /// Whether `dropped` would give a piece now; nothing changes. Takes no memory.
+    #[tactic(auto, using(crate::proofs::Remaining::drops_lost, crate::proofs::Remaining::drops_ended))]
+    pub fn has_dropped(&self, now: Tick) -> bool
+        ensures { HasSome (drops now self.now) result }
+    {
+        if self.join.has_lost() {
+            return true;
+        }
+        self.has_ended(now)
     }
 
     /// How many pieces are kept: those that wait for the rest of their SDU, and those that are held. No piece that comes

@@ -127,11 +127,11 @@ found_now c ids line pdu unpassed conn last result offs whole coming room h coun
     let line' : Direction = found c line in
     let now : ℕ = line.line.clock in
     let clock : line'.line.clock ≡ now = found_clock c line in
-    let found' = receiving_found c ids conn a.ready line a.before h a.drained a.none_before a.plan_before (a.given_up_before ∙ h.none_given_up) a.waiting_before in
+    let found' = receiving_found c ids conn a.ready line a.before h a.drained a.none_before a.plan_before a.waiting_before in
     let room' : ltb unpassed c.cube.window ≡ has_room c line' = by_presence (λ l. ltb unpassed c.cube.window ≡ has_room c l) c line (λ stands. room) (λ gone. room) in
     let count' : unpassed ≡ length line'.inbox.got - line'.passed = by_presence (λ l. unpassed ≡ length l.inbox.got - l.passed) c line (λ stands. count) (λ gone. count) in
     let noting : IsNoting c now line' pdu unpassed a.ready a.ready a.heard last = record { cube = cube; max = max; count = count'; hears = a.hears; before = refl; after = a.waiting_after } in
-    let x = arrives c ids now line' pdu unpassed a.ready a.ready a.heard last [] a.after result clock (found_coming c ids line pdu coming) room' (found_clean c line) found' (drained_none now a.ready.rx) a.none_before refl a.row a.marks a.given a.none_after a.plan_after a.none_given_up noting in
+    let x = arrives c ids now line' pdu unpassed a.ready a.ready a.heard last [] a.after result clock (found_coming c ids line pdu coming) room' (found_clean c line) found' (drained_none now a.ready.rx) a.none_before refl a.row a.marks a.given a.none_after a.plan_after noting in
     let dropped : (off : Off) → In off (offs_of (a.before ++ a.after)) → IsDropped c (piece_in pdu) line ids off = λ off i. elim (in_append (offs_of a.before) (offs_of a.after) off (subst (In off) (offs_of-append a.before a.after) i)) [
       | inl gone ↦ gone_dropped c ids line (piece_in pdu) conn.rx h.stands h.broken h.kept off (subst (λ (ds : List (Key × Cause)). In off (offs_of ds)) (sym (drained_all now conn.rx a.before a.ready.rx a.drained a.none_before)) gone)
       | inr lost ↦ found_dropped c (piece_in pdu) ids line off (x.dropped off lost)

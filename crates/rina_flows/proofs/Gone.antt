@@ -88,8 +88,8 @@ pub record HasForgotten (g : Config) (now : ℕ) (ends : List End) (conns : List
   pub tied : IsTied g now (slice_set ends at end) (slice_set conns at new) lines'
 
 pub forgets_at : (g : Config) (now : ℕ) (ends : List End) (conns : List Conn) (lines : List Direction) (at from : ℕ) (end : End) (conn new : Conn) (line : Direction) (taken : List (Key × Cause)) → IsJournal now ends → IsTied g now ends conns lines → IsAt ends conns at end conn → end.state ≡ Allocated → IsInboundAt ends lines end from line → line.line.clock ≡ now → present_at now conn.rx ≡ false →
-    IsDrained now conn.rx taken new.rx → drops now new.rx ≡ [] → new.plan ≡ conn.plan → new.given_up ≡ None → new.waiting ≡ conn.waiting → new.sending ≡ conn.sending → HasForgotten g now ends conns lines at end (offs_of taken) new
-forgets_at g now ends conns lines at from end conn new line taken journal tied is_at allocated inbound clock absent drained none plan given_up waiting sending =
+    IsDrained now conn.rx taken new.rx → drops now new.rx ≡ [] → new.plan ≡ conn.plan → new.waiting ≡ conn.waiting → new.sending ≡ conn.sending → HasForgotten g now ends conns lines at end (offs_of taken) new
+forgets_at g now ends conns lines at from end conn new line taken journal tied is_at allocated inbound clock absent drained none plan waiting sending =
     let c : Constants = inward g conn in
     let h = tied.receives at from end conn line is_at allocated inbound in
     let gone : is_present c now line.line.receiver ≡ false = present_same c now line.line.receiver line.inbox.joiner conn.rx h.stands ∙ absent in
@@ -112,7 +112,7 @@ forgets_at g now ends conns lines at from end conn new line taken journal tied i
         all = λ n. ap (λ (ds : List (Key × Cause)). times n (off_numbers (offs_of ds))) (sym all) ∙ gone_all c now (ids_of conn) conn line h gone n;
         lines_are = refl;
       };
-      tied = tied_after g now ends conns lines at from end end conn new line line' journal tied (record { is_at = is_at; inbound = inbound; const = record { flow = refl; role = refl; port = refl; app = refl; peer = refl; cube = refl }; sending = sending; sender = refl; clock = refl }) (λ still. subst R (sym sending) (receiving_forgot c now (ids_of conn) conn new line taken h gone drained none plan given_up waiting));
+      tied = tied_after g now ends conns lines at from end end conn new line line' journal tied (record { is_at = is_at; inbound = inbound; const = record { flow = refl; role = refl; port = refl; app = refl; peer = refl; cube = refl }; sending = sending; sender = refl; clock = refl }) (λ still. subst R (sym sending) (receiving_forgot c now (ids_of conn) conn new line taken h gone drained none plan waiting));
     }
 
 -- an end is closed: what its connection held is written off, and it is tied to its sender alone

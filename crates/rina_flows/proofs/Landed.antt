@@ -101,7 +101,7 @@ arrives_from now at pdu ends mid ends' conns conns' ledger ledger' unpassed bodi
     let room = ap (λ n. ltb n seen.sending.form.cube.window) all in
     let room' = room ∙ room_is g now cloud end ids seen.sending.form.cube line flow in
     let bodies_are : bodies ≡ bytes_of L.receives.heard.rx.join.whole = ahead_at (inward g seen) ids now line pdu unpassed seen L.receives.heard L.receives.ready L.receives.before.taken L.verdict bodies flow.backed.clock coming room' receiving L.receives.before.drained L.receives.before.none L.receives.row ahead in
-    let R = received now pdu unpassed seen bodies got L.got_room lines L.lines_room L.verdict new got' L.between L.receives receiving.none_given_up bodies_are in
+    let R = received now pdu unpassed seen bodies got L.got_room lines L.lines_room L.verdict new got' L.between L.receives bodies_are in
     let X = arrives_at g now cloud ends conns ls S.config S.journal S.own S.tied at end seen is_at allocated pdu C.death unpassed L.verdict R.offs R.whole new names C.piece C.here C.alive all R.arrival in
     let most : length R.offs ≤ length (kept_numbers seen.rx) = X.count in
     let fits = L.fits_lines in

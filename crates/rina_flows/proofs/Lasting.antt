@@ -43,7 +43,6 @@ receiving_later c now later ids conn line le h = record {
   whole = h.whole;
   broken = h.broken;
   forward = h.forward;
-  none_given_up = h.none_given_up;
   waiting = waiting_same c line (ticked (later - now) line) [] conn.waiting refl refl refl h.waiting;
   early = h.early;
   kept = λ n i. (let k = h.kept n i in record { made = k.made; source = k.source; number = k.number });
@@ -84,7 +83,6 @@ receiving_new g now cube peer max conn new =
       whole = fetched.whole;
       broken = none_broken now conn.rx fetched.dropped;
       forward = fetched_forward c now no_state empty_joiner conn.rx st fetched.dropped;
-      none_given_up = new.none_given_up;
       waiting = subst (λ (w : Waits). AreWaiting c (ticked now (start c)) [] w) (sym (new.none_waits ∙ ap (λ (x : Cube). record { room = 2 * x.window; earlier = 0; firsts = [] }) (sym new.cube_is))) (record { room = refl; earlier = refl; firsts = refl; within = omega arith; few = (let one = st.of.cube.least_window in omega arith) });
       early = (let one = st.of.cube.least_window in omega arith);
       kept = λ n i. absurd (new_kept c now conn.rx n st none i);

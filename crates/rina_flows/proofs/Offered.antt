@@ -54,7 +54,7 @@ elsewhere ends lines at i end l is h e =
     not_itself end (subst (λ (x : End). IsPartner x end) same h.partners)
 
 -- the tie after an SDU was accepted
-module _ (g : Config) (now at : ℕ) (ends : List End) (conns : List Conn) (lines : List Direction) (end : End) (conn conn' : Conn) (line : Direction) (parts : List Part) (made : Made) (t : IsTied g now ends conns lines) (is : IsAt ends conns at end conn) (is_line : slice_get lines at ≡ Some line) (m : IsMade (outward g conn) now parts line.line.sender conn.sending made conn'.sending) (rx : conn'.rx ≡ conn.rx) (plan : conn'.plan ≡ conn.plan) (given_up : conn'.given_up ≡ conn.given_up) (waiting : conn'.waiting ≡ conn.waiting) where
+module _ (g : Config) (now at : ℕ) (ends : List End) (conns : List Conn) (lines : List Direction) (end : End) (conn conn' : Conn) (line : Direction) (parts : List Part) (made : Made) (t : IsTied g now ends conns lines) (is : IsAt ends conns at end conn) (is_line : slice_get lines at ≡ Some line) (m : IsMade (outward g conn) now parts line.line.sender conn.sending made conn'.sending) (rx : conn'.rx ≡ conn.rx) (plan : conn'.plan ≡ conn.plan) (waiting : conn'.waiting ≡ conn.waiting) where
   sending : IsSending g now conn line
   sending = t.sends at conn line is.conn_is is_line
 
@@ -83,7 +83,7 @@ module _ (g : Config) (now at : ℕ) (ends : List End) (conns : List Conn) (line
         let i_is : i ≢ at = elsewhere ends (slice_set lines at (offered (outward g conn) parts line)) at i end l is.end_is h in
         elim (set_at lines at i line (offered (outward g conn) parts line) l is_line h.is_line) [
           | inl u ↦ absurd (i_is u.0)
-          | inr u ↦ receiving_conn g now conn conn' l m.form rx plan given_up waiting (t.receives at i end conn l is state (record { partner = h.partner; is_partner = h.is_partner; partners = h.partners; is_line = u.1 }))
+          | inr u ↦ receiving_conn g now conn conn' l m.form rx plan waiting (t.receives at i end conn l is state (record { partner = h.partner; is_partner = h.is_partner; partners = h.partners; is_line = u.1 }))
         ];
     receives_there = λ i e k other is' inb h. receiving_same (inward g k) now (ids_of k) k line (offered (outward g conn) parts line) (offered_receiver (outward g conn) parts line.line) refl refl refl refl h;
   })
@@ -105,9 +105,9 @@ entry_is : (c : Constants) (now : ℕ) (sdu : List ℕ) (line : Direction) (part
 entry_is c now sdu line parts num clock is joins =
     ap (λ (n : Num). record { tick = now; num = n; bytes = sdu }) is ∙ ap (λ (bytes : List ℕ). record { tick = now; num = record { cep = c.cep; seq = length (ready c now line.line.sender).run }; bytes = bytes }) (sym joins) ∙ ap (λ (n : ℕ). record { tick = n; num = record { cep = c.cep; seq = length (ready c n line.line.sender).run }; bytes = join parts }) (sym clock)
 
-pub conn_same : (k k' : Conn) → k'.sending ≡ k.sending → k'.rx ≡ k.rx → k'.plan ≡ k.plan → k'.given_up ≡ k.given_up → k'.waiting ≡ k.waiting → k' ≡ k
-conn_same k k' a b c d e =
-    ap (λ s. record k' { sending = s }) a ∙ ap (λ r. record k' { sending = k.sending; rx = r }) b ∙ ap (λ p. record k' { sending = k.sending; rx = k.rx; plan = p }) c ∙ ap (λ d. record k' { sending = k.sending; rx = k.rx; plan = k.plan; given_up = d }) d ∙ ap (λ w. record k { waiting = w }) e
+pub conn_same : (k k' : Conn) → k'.sending ≡ k.sending → k'.rx ≡ k.rx → k'.plan ≡ k.plan → k'.waiting ≡ k.waiting → k' ≡ k
+conn_same k k' a b c d =
+    ap (λ s. record k' { sending = s }) a ∙ ap (λ r. record k' { sending = k.sending; rx = r }) b ∙ ap (λ p. record k' { sending = k.sending; rx = k.rx; plan = p }) c ∙ ap (λ w. record k { waiting = w }) d
 
 abbrev pub flows_of : List End → List Conn → Flows
 flows_of ends conns = record { journal = record { ends = ends }; conns = conns }
@@ -144,13 +144,13 @@ offers_from now at sdu ends mid ends' conns conns' sent sent' (Ok made) lt lt' s
     let entry = entry_is (outward g conn) now sdu line parts made.num sends.clock made'.2.num made'.1.1 in
     let are : ends' ≡ slice_set ends at (with_sent end (offered_entry (outward g conn) parts line)) =
     whole at ends mid ends' end sent' e.1 out back ∙ ap (λ (xs : List Entry). slice_set ends at (record end { sent = xs })) (o.1 ∙ ap (λ (xs : List Entry). xs ++ record { tick = now; num = made.num; bytes = sdu } ∷ []) (sent_is end e.1) ∙ ap (λ (x : Entry). end.sent ++ x ∷ []) entry) in
-    let tied = tied_offered g now at ends conns lines end conn b.0 line parts made t is l.1 made'.2 b.1.rx b.1.plan b.1.given_up b.1.waiting in
+    let tied = tied_offered g now at ends conns lines end conn b.0 line parts made t is l.1 made'.2 b.1.rx b.1.plan b.1.waiting in
     let tied' = subst (λ (xs : List End). IsTied g now xs (slice_set conns at b.0) (slice_set lines at (offered (outward g conn) parts line))) (sym are) tied in
     record {
       parts = parts;
       cut = (made'.1.0, made'.1.1);
       lines' = slice_set lines at (offered (outward g conn) parts line);
-      offers = offers_at g now at ends conns lines end conn b.0 line parts made t is l.1 made'.2 b.1.rx b.1.plan b.1.given_up b.1.waiting ends' are;
+      offers = offers_at g now at ends conns lines end conn b.0 line parts made t is l.1 made'.2 b.1.rx b.1.plan b.1.waiting ends' are;
       tied = subst (λ (xs : List Conn). IsTied g now ends' xs (slice_set lines at (offered (outward g conn) parts line))) (sym b.2) tied';
       ids = ap conns_of b.2 ∙ same_ids conns at conn b.0 k.1 (ap (λ (f : Form). ids_by f.peer f.cube.id) made'.2.form);
     }
@@ -169,7 +169,7 @@ offers_from now at sdu ends mid ends' conns conns' sent sent' (Err why) lt lt' s
       | inr become ↦
           let b = become conn k.1 in
           let refused = b.1.offers (outward g conn) line.line.sender sends.sender in
-          let same : b.0 ≡ conn = conn_same conn b.0 refused.2.1 b.1.rx b.1.plan b.1.given_up b.1.waiting in
+          let same : b.0 ≡ conn = conn_same conn b.0 refused.2.1 b.1.rx b.1.plan b.1.waiting in
           let ready_is = ap (λ (n : ℕ). refusal (outward g conn) (ready (outward g conn) n line.line.sender) refused.0) (sym sends.clock) in (
             λ other conn' line' hk hl.
                 let k_is : conn ≡ conn' = cc in

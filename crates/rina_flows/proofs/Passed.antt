@@ -58,7 +58,7 @@ tied_passed g now at from ends conns lines end conn conn' line journal t is inb 
     let before : IsReceiver (inward g conn) line conn = record { cube = refl; max = max; rx = subst S (sym clock) h.stands; last = h.last; plan = h.plan; waiting = subst W (sym h.whole) h.waiting } in
     let after = p.receives (inward g conn) line clock waits before h.whole in
     let R : Form → Type 0 = λ f. IsReceiving (constants g f.cube (flipped (ids_by f.peer f.cube.id))) now (ids_by f.peer f.cube.id) conn' line' in
-    subst R (sym form) (receiving_passed (inward g conn) now (ids_of conn) conn conn' line p.rx p.given_up after h)) in
+    subst R (sym form) (receiving_passed (inward g conn) now (ids_of conn) conn conn' line p.rx after h)) in
     tied_set g now ends conns lines at from end (with_passed end) conn conn' line line' t (record {
       is_at = is;
       is_line = inb.is_line;

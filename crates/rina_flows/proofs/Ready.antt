@@ -32,8 +32,8 @@ by_presence P c line here gone = go (is_present c line.line.clock line.line.rece
     go false e = gone e
 
 -- all that was left of a state that is gone was fetched
-pub receiving_forgot : (c : Constants) (now : ℕ) (ids : Ids) (conn new : Conn) (line : Direction) (taken : List (Key × Cause)) → IsReceiving c now ids conn line → is_present c now line.line.receiver ≡ false → IsDrained now conn.rx taken new.rx → drops now new.rx ≡ [] → new.plan ≡ conn.plan → new.given_up ≡ None → new.waiting ≡ conn.waiting → IsReceiving c now ids new (happens c line Forget)
-receiving_forgot c now ids conn new line taken h gone drained none plan given_up waiting =
+pub receiving_forgot : (c : Constants) (now : ℕ) (ids : Ids) (conn new : Conn) (line : Direction) (taken : List (Key × Cause)) → IsReceiving c now ids conn line → is_present c now line.line.receiver ≡ false → IsDrained now conn.rx taken new.rx → drops now new.rx ≡ [] → new.plan ≡ conn.plan → new.waiting ≡ conn.waiting → IsReceiving c now ids new (happens c line Forget)
+receiving_forgot c now ids conn new line taken h gone drained none plan waiting =
     let st = drained.stands c line.line.receiver line.inbox.joiner h.stands in
     let absent : present_at now new.rx ≡ false = sym (present_same c now line.line.receiver line.inbox.joiner new.rx st) ∙ gone in
     let nothing = kept_none now new.rx st.not_closed absent none in
@@ -44,7 +44,6 @@ receiving_forgot c now ids conn new line taken h gone drained none plan given_up
       whole = drained.whole ∙ h.whole;
       broken = none_broken now new.rx none;
       forward = fetched_forward c now line.line.receiver line.inbox.joiner new.rx st none;
-      none_given_up = given_up;
       waiting = subst (λ (w : Waits). AreWaiting c (happens c line Forget) [] w) (sym waiting) (waiting_same c line (happens c line Forget) [] conn.waiting refl refl refl h.waiting);
       early = h.early;
       kept = λ n i. absurd (subst (In n) nothing i);
@@ -53,8 +52,8 @@ receiving_forgot c now ids conn new line taken h gone drained none plan given_up
     }
 
 -- nothing was there to be fetched while state stands
-receiving_drained : (c : Constants) (now : ℕ) (ids : Ids) (conn new : Conn) (line : Direction) (taken : List (Key × Cause)) → IsReceiving c now ids conn line → is_present c now line.line.receiver ≡ true → IsDrained now conn.rx taken new.rx → drops now new.rx ≡ [] → new.plan ≡ conn.plan → new.given_up ≡ None → new.waiting ≡ conn.waiting → IsReceiving c now ids new line
-receiving_drained c now ids conn new line taken h stands drained none plan given_up waiting =
+receiving_drained : (c : Constants) (now : ℕ) (ids : Ids) (conn new : Conn) (line : Direction) (taken : List (Key × Cause)) → IsReceiving c now ids conn line → is_present c now line.line.receiver ≡ true → IsDrained now conn.rx taken new.rx → drops now new.rx ≡ [] → new.plan ≡ conn.plan → new.waiting ≡ conn.waiting → IsReceiving c now ids new line
+receiving_drained c now ids conn new line taken h stands drained none plan waiting =
     let st = drained.stands c line.line.receiver line.inbox.joiner h.stands in
     let present : present_at now conn.rx ≡ true = sym (present_same c now line.line.receiver line.inbox.joiner conn.rx h.stands) ∙ stands in
     let same : kept_numbers new.rx ≡ kept_numbers conn.rx = drained.kept.all (cause_none now conn.rx h.stands.not_closed present) in
@@ -65,7 +64,6 @@ receiving_drained c now ids conn new line taken h stands drained none plan given
       whole = drained.whole ∙ h.whole;
       broken = none_broken now new.rx none;
       forward = fetched_forward c now line.line.receiver line.inbox.joiner new.rx st none;
-      none_given_up = given_up;
       waiting = subst (λ (w : Waits). AreWaiting c line [] w) (sym waiting) h.waiting;
       early = h.early;
       kept = kept_drained ids line now conn.rx taken new.rx drained h.kept;
@@ -74,8 +72,8 @@ receiving_drained c now ids conn new line taken h stands drained none plan given
     }
 
 -- the connection that is to receive a piece stands for what the piece finds
-pub receiving_found : (c : Constants) (ids : Ids) (conn new : Conn) (line : Direction) (taken : List (Key × Cause)) → IsReceiving c line.line.clock ids conn line → IsDrained line.line.clock conn.rx taken new.rx → drops line.line.clock new.rx ≡ [] → new.plan ≡ conn.plan → new.given_up ≡ None → new.waiting ≡ conn.waiting → IsReceiving c line.line.clock ids new (found c line)
-receiving_found c ids conn new line taken h drained none plan given_up waiting =
+pub receiving_found : (c : Constants) (ids : Ids) (conn new : Conn) (line : Direction) (taken : List (Key × Cause)) → IsReceiving c line.line.clock ids conn line → IsDrained line.line.clock conn.rx taken new.rx → drops line.line.clock new.rx ≡ [] → new.plan ≡ conn.plan → new.waiting ≡ conn.waiting → IsReceiving c line.line.clock ids new (found c line)
+receiving_found c ids conn new line taken h drained none plan waiting =
     by_presence (IsReceiving c line.line.clock ids new) c line
-    (λ stands. receiving_drained c line.line.clock ids conn new line taken h stands drained none plan given_up waiting)
-    (λ gone. receiving_forgot c line.line.clock ids conn new line taken h gone drained none plan given_up waiting)
+    (λ stands. receiving_drained c line.line.clock ids conn new line taken h stands drained none plan waiting)
+    (λ gone. receiving_forgot c line.line.clock ids conn new line taken h gone drained none plan waiting)

@@ -28,8 +28,8 @@ pub record HasReceived (now : ℕ) (pdu : Pdu) (unpassed : ℕ) (old : Conn) (bo
   pub got_is : length got + length whole ≤ got_room → got' ≡ got ++ map (entry_from (ids_of old) now) whole
   pub lines_are : length lines + length offs ≤ lines_room → lines' ≡ lines ++ offs
 
-pub received : (now : ℕ) (pdu : Pdu) (unpassed : ℕ) (old : Conn) (bodies : List (List ℕ)) (got : List Entry) (got_room : ℕ) (lines : List Off) (lines_room : ℕ) (result : Verdict) (new : Conn) (got' : List Entry) (lines' : List Off) → (r : Receives now pdu unpassed old bodies got got_room lines lines_room result new got' lines') → old.given_up ≡ None → bodies ≡ bytes_of r.heard.rx.join.whole → HasReceived now pdu unpassed old bodies got got_room lines lines_room result new got' lines'
-received now pdu unpassed old bodies got got_room lines lines_room result new got' lines' r none bodies_are =
+pub received : (now : ℕ) (pdu : Pdu) (unpassed : ℕ) (old : Conn) (bodies : List (List ℕ)) (got : List Entry) (got_room : ℕ) (lines : List Off) (lines_room : ℕ) (result : Verdict) (new : Conn) (got' : List Entry) (lines' : List Off) → (r : Receives now pdu unpassed old bodies got got_room lines lines_room result new got' lines') → bodies ≡ bytes_of r.heard.rx.join.whole → HasReceived now pdu unpassed old bodies got got_room lines lines_room result new got' lines'
+received now pdu unpassed old bodies got got_room lines lines_room result new got' lines' r bodies_are =
     let d = r.delivers bodies_are in
     let on : r.passed_on.rx ≡ delivered r.heard.rx = ap (λ (k : Conn). k.rx) d.conn in
     let given : IsDrained now (delivered r.heard.rx) r.after.taken r.last = subst (λ (x : Receiving). IsDrained now x r.after.taken r.last) on r.after.drained in
@@ -47,7 +47,6 @@ received now pdu unpassed old bodies got got_room lines lines_room result new go
         plan_before = refl;
         waiting_before = refl;
         sending_before = refl;
-        given_up_before = refl;
         heard = r.heard;
         row = r.row;
         marks = r.marks;
@@ -58,7 +57,6 @@ received now pdu unpassed old bodies got got_room lines lines_room result new go
         none_after = subst (λ (x : Receiving). drops now x ≡ []) (sym last_is) r.after.none;
         plan_after = ap (λ (k : Conn). k.plan) r.new_is ∙ ap (λ (k : Conn). k.plan) d.conn;
         waiting_after = ap (λ (k : Conn). k.waiting) r.new_is ∙ ap (λ (k : Conn). k.waiting) d.conn;
-        none_given_up = ap (λ (k : Conn). k.given_up) r.new_is ∙ ap (λ (k : Conn). k.given_up) d.conn ∙ r.given_up ∙ none;
         offs_are = refl;
         sending = ap (λ (k : Conn). k.sending) r.new_is ∙ ap (λ (k : Conn). k.sending) d.conn ∙ r.sending;
       };

@@ -269,8 +269,8 @@ module _ (c : Constants) (ids : Ids) (line : Direction) (pdu : Pdu) (unpassed : 
           let heard_is = n.hears c line refl n.count (receiver_ready plan n) fetched_ready (welcome c ids line pdu unpassed coming room) in
           subst (λ (w : Waits). AreWaiting c (landed c (piece_in pdu) line) [] w) (sym n.after) (noted_waiting c (landed c (piece_in pdu) line) heard.rx.join.whole heard.waiting heard_is.waiting)
 
-      arrives_now : IsClean c line → Marks line.line.clock pdu unpassed ready result heard → ready.plan ≡ first.plan → last.plan ≡ heard.plan → last.given_up ≡ None → IsNoting c line.line.clock line pdu unpassed first ready heard last → Arrives c ids line.line.clock line pdu result first heard.rx before after last
-      arrives_now clean marks plan plan_last none_given noting =
+      arrives_now : IsClean c line → Marks line.line.clock pdu unpassed ready result heard → ready.plan ≡ first.plan → last.plan ≡ heard.plan → IsNoting c line.line.clock line pdu unpassed first ready heard last → Arrives c ids line.line.clock line pdu result first heard.rx before after last
+      arrives_now clean marks plan plan_last noting =
           let P : law.Verdict → Type 0 = λ v. IsPlanOf c (mark_after v c line.line.clock line.line.receiver line.mark) heard.plan in
           let planned = marks c line.line.receiver line.inbox.joiner line.mark stands_ready fetched_ready (welcome c ids line pdu unpassed coming room) receives.last (plan ∙ receives.plan) in
           let befores = drained_all line.line.clock first.rx before ready.rx drained none in
@@ -293,7 +293,6 @@ module _ (c : Constants) (ids : Ids) (line : Direction) (pdu : Pdu) (unpassed : 
               whole = given.whole;
               broken = none_broken line.line.clock last.rx end;
               forward = fetched_forward c line.line.clock (landed c (piece_in pdu) line).line.receiver (landed c (piece_in pdu) line).inbox.joiner last.rx stands_last end;
-              none_given_up = none_given;
               waiting = waiting_last plan noting;
               early = early_after c line (piece_in pdu) receives.early;
               kept = kept_last;
@@ -306,8 +305,8 @@ module _ (c : Constants) (ids : Ids) (line : Direction) (pdu : Pdu) (unpassed : 
 pub arrives : (c : Constants) (ids : Ids) (now : ℕ) (line : Direction) (pdu : Pdu) (unpassed : ℕ) (first ready heard last : Conn) (before after : List (Key × Cause)) (result : Verdict) → line.line.clock ≡ now → IsComing c ids line pdu → ltb unpassed c.cube.window ≡ has_room c line → IsClean c line →
     IsReceiving c now ids first line → IsDrained now first.rx before ready.rx → drops now ready.rx ≡ [] → ready.plan ≡ first.plan →
     IsRow now pdu unpassed ready.rx result heard.rx → Marks now pdu unpassed ready result heard →
-    IsDrained now (delivered heard.rx) after last.rx → drops now last.rx ≡ [] → last.plan ≡ heard.plan → last.given_up ≡ None → IsNoting c now line pdu unpassed first ready heard last →
+    IsDrained now (delivered heard.rx) after last.rx → drops now last.rx ≡ [] → last.plan ≡ heard.plan → IsNoting c now line pdu unpassed first ready heard last →
     Arrives c ids now line pdu result first heard.rx before after last
 arrives c ids now line pdu unpassed first ready heard last before after result clock coming room clean =
-    let A : ℕ → Type 0 = λ t. IsReceiving c t ids first line → IsDrained t first.rx before ready.rx → drops t ready.rx ≡ [] → ready.plan ≡ first.plan → IsRow t pdu unpassed ready.rx result heard.rx → Marks t pdu unpassed ready result heard → IsDrained t (delivered heard.rx) after last.rx → drops t last.rx ≡ [] → last.plan ≡ heard.plan → last.given_up ≡ None → IsNoting c t line pdu unpassed first ready heard last → Arrives c ids t line pdu result first heard.rx before after last in
-    subst A clock (λ receives drained none plan row marks given end plan_last none_given noting. arrives_now c ids line pdu unpassed coming room first ready before receives drained none result heard row last after given end clean marks plan plan_last none_given noting)
+    let A : ℕ → Type 0 = λ t. IsReceiving c t ids first line → IsDrained t first.rx before ready.rx → drops t ready.rx ≡ [] → ready.plan ≡ first.plan → IsRow t pdu unpassed ready.rx result heard.rx → Marks t pdu unpassed ready result heard → IsDrained t (delivered heard.rx) after last.rx → drops t last.rx ≡ [] → last.plan ≡ heard.plan → IsNoting c t line pdu unpassed first ready heard last → Arrives c ids t line pdu result first heard.rx before after last in
+    subst A clock (λ receives drained none plan row marks given end plan_last noting. arrives_now c ids line pdu unpassed coming room first ready before receives drained none result heard row last after given end clean marks plan plan_last noting)

@@ -44,7 +44,6 @@ receiving_same c now ids k line line' er ei ep es em h =
       whole = h.whole;
       broken = h.broken;
       forward = h.forward;
-      none_given_up = h.none_given_up;
       waiting = waiting_same c line line' [] k.waiting eg ep es h.waiting;
       early = (let early = h.early in omega arith);
       kept = λ n i. (let q = h.kept n i in record {
@@ -60,8 +59,8 @@ receiving_same c now ids k line line' er ei ep es em h =
     }
 
 -- the connection stays in what it receives
-pub receiving_conn : (g : Config) (now : ℕ) (k k' : Conn) (line : Direction) → k'.sending.form ≡ k.sending.form → k'.rx ≡ k.rx → k'.plan ≡ k.plan → k'.given_up ≡ k.given_up → k'.waiting ≡ k.waiting → IsReceiving (inward g k) now (ids_of k) k line → IsReceiving (inward g k') now (ids_of k') k' line
-receiving_conn g now k k' line form rx plan given_up waiting h =
+pub receiving_conn : (g : Config) (now : ℕ) (k k' : Conn) (line : Direction) → k'.sending.form ≡ k.sending.form → k'.rx ≡ k.rx → k'.plan ≡ k.plan → k'.waiting ≡ k.waiting → IsReceiving (inward g k) now (ids_of k) k line → IsReceiving (inward g k') now (ids_of k') k' line
+receiving_conn g now k k' line form rx plan waiting h =
     let c : Form → Constants = λ f. constants g f.cube (flipped (ids_by f.peer f.cube.id)) in
     let ids : Form → Ids = λ f. ids_by f.peer f.cube.id in
     let stands = subst (λ (f : Form). Stands (c f) now line.line.receiver line.inbox.joiner k.rx) (sym form) h.stands in
@@ -74,7 +73,6 @@ receiving_conn g now k k' line form rx plan given_up waiting h =
       whole = ap (λ (r : Receiving). r.join.whole) rx ∙ h.whole;
       broken = ap (λ (r : Receiving). lost_in r.join.gaps) rx ∙ h.broken;
       forward = subst (λ (r : Receiving). IsForward r.join.joining.held) (sym rx) h.forward;
-      none_given_up = given_up ∙ h.none_given_up;
       waiting = subst (λ (w : Waits). AreWaiting (c k'.sending.form) line [] w) (sym waiting) (subst (λ (f : Form). AreWaiting (c f) line [] k.waiting) (sym form) h.waiting);
       early = subst (λ (f : Form). line.state_from - line.passed < f.cube.window) (sym form) h.early;
       kept = subst (λ (r : Receiving). (n : ℕ) → In n (kept_numbers r) → IsKeptBy (ids_of k') line r n) (sym rx) kept;
@@ -99,8 +97,8 @@ sending_conn g now k k' line e h = record {
 }
 
 -- an SDU is passed: the plan, and what waits to be passed, change
-pub receiving_passed : (c : Constants) (now : ℕ) (ids : Ids) (k k' : Conn) (line : Direction) → k'.rx ≡ k.rx → k'.given_up ≡ k.given_up → IsReceiver c (happens c line Pass) k' → IsReceiving c now ids k line → IsReceiving c now ids k' (happens c line Pass)
-receiving_passed c now ids k k' line rx given_up is h =
+pub receiving_passed : (c : Constants) (now : ℕ) (ids : Ids) (k k' : Conn) (line : Direction) → k'.rx ≡ k.rx → IsReceiver c (happens c line Pass) k' → IsReceiving c now ids k line → IsReceiving c now ids k' (happens c line Pass)
+receiving_passed c now ids k k' line rx is h =
     let kept = λ (n : ℕ) (i : In n (kept_numbers k.rx)). (let q = h.kept n i in let K : IsKeptBy ids (happens c line Pass) k.rx n = record { made = q.made; source = q.source; number = q.number } in K) in
     let whole : k'.rx.join.whole ≡ [] = ap (λ (r : Receiving). r.join.whole) rx ∙ h.whole in
     record {
@@ -110,7 +108,6 @@ receiving_passed c now ids k k' line rx given_up is h =
       whole = whole;
       broken = ap (λ (r : Receiving). lost_in r.join.gaps) rx ∙ h.broken;
       forward = subst (λ (r : Receiving). IsForward r.join.joining.held) (sym rx) h.forward;
-      none_given_up = given_up ∙ h.none_given_up;
       waiting = subst (λ (ws : List Sdu). AreWaiting c (happens c line Pass) ws k'.waiting) whole is.waiting;
       early = (let early = h.early in omega arith);
       kept = subst (λ (r : Receiving). (n : ℕ) → In n (kept_numbers r) → IsKeptBy ids (happens c line Pass) r n) (sym rx) kept;

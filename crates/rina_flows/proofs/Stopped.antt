@@ -54,7 +54,7 @@ forgets_from now at ends conns conns' ledger ledger' lines lines' room kept seen
       let r = reached g now at ends conns ls end journal t is state in
       let is_at : IsAt ends conns at end seen = record { end_is = is; conn_is = here } in
       let h = t.receives at r.from end seen r.line is_at state r.inbound in
-      let H = forgets_at g now ends conns ls at r.from end seen new r.line G.writes.taken journal t is_at state r.inbound (clock_of g now ends conns ls end r.from r.line t r.inbound) absent G.writes.drained G.writes.none (ap (λ (x : Conn). x.plan) G.new_is) (ap (λ (x : Conn). x.given_up) G.new_is ∙ h.none_given_up) (ap (λ (x : Conn). x.waiting) G.new_is) (ap (λ (x : Conn). x.sending) G.new_is) in
+      let H = forgets_at g now ends conns ls at r.from end seen new r.line G.writes.taken journal t is_at state r.inbound (clock_of g now ends conns ls end r.from r.line t r.inbound) absent G.writes.drained G.writes.none (ap (λ (x : Conn). x.plan) G.new_is) (ap (λ (x : Conn). x.waiting) G.new_is) (ap (λ (x : Conn). x.sending) G.new_is) in
       let all : drops now seen.rx ≡ G.writes.taken = drained_all now seen.rx G.writes.taken new.rx G.writes.drained G.writes.none in
       let most = drops_count now seen.rx h.broken in
       let taken : length G.writes.taken ≤ length (kept_numbers seen.rx) = (let e = ap (λ (ds : List (Key × Cause)). length ds) all in omega arith) in

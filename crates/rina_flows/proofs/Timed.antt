@@ -51,7 +51,6 @@ receiving_acknowledged c now ids k line h = record {
   whole = h.whole;
   broken = h.broken;
   forward = h.forward;
-  none_given_up = h.none_given_up;
   waiting = record { room = h.waiting.room; earlier = h.waiting.earlier; firsts = h.waiting.firsts; within = h.waiting.within; few = h.waiting.few };
   early = h.early;
   kept = λ n i. (let q = h.kept n i in record { made = q.made; source = q.source; number = q.number });
@@ -128,7 +127,7 @@ tied_again g now at ends conns lines end conn conn' line t is is_line k =
       sends_there = λ x other. absurd (other refl);
       receives_here = λ i l state h. elim (set_at lines at i line line' l is_line h.is_line) [
         | inl u ↦ absurd (elsewhere ends (slice_set lines at line') at i end l is.end_is h u.0)
-        | inr u ↦ receiving_conn g now conn conn' l k.sends.form (ap (λ (x : Conn). x.rx) k.same) (ap (λ (x : Conn). x.plan) k.same) (ap (λ (x : Conn). x.given_up) k.same) (ap (λ (x : Conn). x.waiting) k.same) (t.receives at i end conn l is state (record { partner = h.partner; is_partner = h.is_partner; partners = h.partners; is_line = u.1 }))
+        | inr u ↦ receiving_conn g now conn conn' l k.sends.form (ap (λ (x : Conn). x.rx) k.same) (ap (λ (x : Conn). x.plan) k.same) (ap (λ (x : Conn). x.waiting) k.same) (t.receives at i end conn l is state (record { partner = h.partner; is_partner = h.is_partner; partners = h.partners; is_line = u.1 }))
       ];
       receives_there = λ i e x other is' inb h. receiving_same (inward g x) now (ids_of x) x line line' keeps.receiver keeps.inbox keeps.passed keeps.state_from keeps.mark h;
     }) in

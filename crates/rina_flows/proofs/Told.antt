@@ -38,7 +38,7 @@ tied_told g now at pdu ends conns lines end conn conn' line t is is_line k =
       sends_there = λ x other. absurd (other refl);
       receives_here = λ i l state h. elim (set_at lines at i line line' l is_line h.is_line) [
         | inl u ↦ absurd (elsewhere ends (slice_set lines at line') at i end l is.end_is h u.0)
-        | inr u ↦ receiving_conn g now conn conn' l k.form k.rx k.plan k.given_up k.waiting (t.receives at i end conn l is state (record { partner = h.partner; is_partner = h.is_partner; partners = h.partners; is_line = u.1 }))
+        | inr u ↦ receiving_conn g now conn conn' l k.form k.rx k.plan k.waiting (t.receives at i end conn l is state (record { partner = h.partner; is_partner = h.is_partner; partners = h.partners; is_line = u.1 }))
       ];
       receives_there = λ i e x other is' inb h. receiving_same (inward g x) now (ids_of x) x line line' refl refl refl refl refl h;
     }) in

@@ -72,7 +72,6 @@ pub record IsArrival (now : ℕ) (pdu : Pdu) (unpassed : ℕ) (old : Conn) (resu
   pub plan_before : ready.plan ≡ old.plan
   pub waiting_before : ready.waiting ≡ old.waiting
   pub sending_before : ready.sending ≡ old.sending
-  pub given_up_before : ready.given_up ≡ old.given_up
   pub heard : Conn
   pub row : IsRow now pdu unpassed ready.rx result heard.rx
   pub marks : Marks now pdu unpassed ready result heard
@@ -83,7 +82,6 @@ pub record IsArrival (now : ℕ) (pdu : Pdu) (unpassed : ℕ) (old : Conn) (resu
   pub none_after : drops now new.rx ≡ []
   pub plan_after : new.plan ≡ heard.plan
   pub waiting_after : new.waiting ≡ noted heard.rx.join.whole heard.waiting
-  pub none_given_up : new.given_up ≡ None
   pub offs_are : offs ≡ offs_of (before ++ after)
   pub sending : new.sending ≡ old.sending
 

@@ -43,7 +43,6 @@ pub record IsOffer (now : ℕ) (sdu : List ℕ) (result : Result Made OfferError
   pub offers : send.Offers now sdu old.sending result new.sending
   pub rx : new.rx ≡ old.rx
   pub plan : new.plan ≡ old.plan
-  pub given_up : new.given_up ≡ old.given_up
   pub waiting : new.waiting ≡ old.waiting
 
 -- by one connection, which notes it behind what its end sent, or by none where memory was not found
@@ -97,7 +96,6 @@ pub record IsPass (now : ℕ) (old new : Conn) : Type 0 where
   pub receives : PassesFirst now old new
   pub sending : new.sending ≡ old.sending
   pub rx : new.rx ≡ old.rx
-  pub given_up : new.given_up ≡ old.given_up
 
 -- the oldest SDU of the end at a place is passed, and the flows stay tied
 pub record IsPassed (g : Config) (now at : ℕ) (old : Flows) (lines : List Direction) (new : Flows) : Type 0 where
@@ -117,7 +115,6 @@ pub record IsTold (pdu : Pdu) (old new : Conn) : Type 0 where
   pub form : new.sending.form ≡ old.sending.form
   pub rx : new.rx ≡ old.rx
   pub plan : new.plan ≡ old.plan
-  pub given_up : new.given_up ≡ old.given_up
   pub waiting : new.waiting ≡ old.waiting
 
 -- it comes to the connection at a place, and the flows stay tied

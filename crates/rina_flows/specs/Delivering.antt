@@ -83,7 +83,6 @@ pub record Receives (now : ℕ) (pdu : Pdu) (unpassed : ℕ) (old : Conn) (bodie
   pub marks : Marks now pdu unpassed (record old { rx = ready }) result heard
   pub hears : Arrives now pdu unpassed (record old { rx = ready }) heard
   pub sending : heard.sending ≡ old.sending
-  pub given_up : heard.given_up ≡ old.given_up
   pub passed_on : Conn
   pub delivers : bodies ≡ bytes_of heard.rx.join.whole → Delivers now heard got got_room passed_on got'
   pub last : Receiving

@@ -91,7 +91,6 @@ pub record IsReceiving (c : Constants) (now : ℕ) (ids : Ids) (conn : Conn) (li
   pub whole : conn.rx.join.whole ≡ []
   pub broken : lost_in conn.rx.join.gaps ≡ []
   pub forward : IsForward conn.rx.join.joining.held
-  pub none_given_up : conn.given_up ≡ None
   pub waiting : AreWaiting c line [] conn.waiting
   pub early : line.state_from - line.passed < c.cube.window
   pub kept : (n : ℕ) → In n (kept_numbers conn.rx) → IsKeptBy ids line conn.rx n

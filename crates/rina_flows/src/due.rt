@@ -33,7 +33,7 @@ impl Flows {
         requires { at < length self.now.conns }
         ensures { Tells (λ k. TellsGivenUp now k.sending result) at self.now.conns }
     {
-        self.conns.at(at).sending.gave_up(now)
+        self.conns.at(at).gave_up(now)
     }
 
     /// The acknowledgement that the connection at a place makes now. Takes no memory.

@@ -1,4 +1,4 @@
-//! What a facility shows, and the trait that every layer stands on.
+//! The trait `Facility` that every layer meets, and what a layer shows of its flows.
 #![tactic(auto)]
 
 mod ask;

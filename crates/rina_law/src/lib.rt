@@ -1,4 +1,4 @@
-//! What a flow keeps: entries of a journal, and the laws of one direction of a connection that every layer stands on.
+//! One direction of a connection by delta-t: its rows, and the laws by which its two journals keep the promise of a cube.
 #![tactic(auto)]
 
 mod entry;

@@ -4,4 +4,4 @@ use Rattle.rina_flows.proofs.Offered.{become_one}
 use Rattle.rina_flows.proofs.conns.Conns.on_ack.Goals as goal
 
 pub returns : goal.returns
-returns c = rw (← c.self.view_is) (become_one (IsTold (pdu_of c.args.pdu.now)) c.self.inside.items.items c.args.at c.index_mut-conn.result.now c.on_control.new.self c.index_mut-conn.ensures.value (record { told = c.on_control.ensures.told; form = c.on_control.ensures.form; rx = c.on_control.ensures.same.0; plan = c.on_control.ensures.same.1; given_up = c.on_control.ensures.same.2; waiting = c.on_control.ensures.same.3 }))
+returns c = rw (← c.self.view_is) (become_one (IsTold (pdu_of c.args.pdu.now)) c.self.inside.items.items c.args.at c.index_mut-conn.result.now c.on_control.new.self c.index_mut-conn.ensures.value (record { told = c.on_control.ensures.told; form = c.on_control.ensures.form; rx = c.on_control.ensures.same.0; plan = c.on_control.ensures.same.1; waiting = c.on_control.ensures.same.2 }))
