@@ -12,8 +12,8 @@ returns-clause-pass c = passes_are
 pub returns-clause-taker : goal.returns-clause-taker
 returns-clause-taker c = takers_are
 
-pub returns-clause-on_data : goal.returns-clause-on_data
-returns-clause-on_data c = is_arrived
+pub returns-clause-arrive : goal.returns-clause-arrive
+returns-clause-arrive c = is_arrived
 
 pub returns-clause-told : goal.returns-clause-told
 returns-clause-told c = tellings_are
