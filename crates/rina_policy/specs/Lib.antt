@@ -1,3 +1,4 @@
+pub mod BuiltIn
 pub mod Count
 pub mod Heads
 pub mod Slots
