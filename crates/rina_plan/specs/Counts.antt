@@ -28,7 +28,7 @@ is_on_dif i (Dif j) = j == i
 abbrev pub load_of : List LinkPlan → ℕ → ℕ
 load_of links i = count_by (λ (l : LinkPlan). is_on_wire i l.on) links
 
--- the first of so many wires that has two links
+-- rule 16: the first of so many wires that has two links
 unfoldable pub first_loaded : ℕ → List DifPlan → Option ℕ
 first_loaded wires difs = position (λ i. nat_lt 1 (load_of (links_of difs) i)) (range_with_len 0 wires)
 
@@ -40,7 +40,8 @@ has_link_end node l = (l.a == node) || (l.b == node)
 abbrev pub has_flow_end : ℕ → FlowPlan → Bool
 has_flow_end node f = (f.from.node == node) || (f.to.node == node)
 
--- how many CEP-ids the member of a DIF on a node needs from the start: one for each of its flows, and for each link that is on it. `at` is the place of the DIF.
+-- how many CEP-ids the member of a DIF on a node needs from the start: one for each of its flows, and one for each link of a DIF above that is on it.
+-- `at` is the place of the DIF.
 abbrev pub cep_ids_needed : List LinkPlan → ℕ → DifPlan → ℕ → ℕ
 cep_ids_needed links at d node = count_by (has_flow_end node) d.flows + count_by (λ (l : LinkPlan). is_on_dif at l.on && has_link_end node l) links
 
@@ -57,11 +58,11 @@ unfoldable pub full_from : List LinkPlan → ℕ → List DifPlan → Option ℕ
 full_from links at [] = None
 full_from links at (d ∷ ds) = if is_full links at d then Some at else full_from links (at + 1) ds
 
--- the first DIF of which there is too much
+-- rule 19: the first DIF with too many members, cubes, rules, links or flows
 abbrev pub first_full : List DifPlan → Option ℕ
 first_full difs = full_from (links_of difs) 0 difs
 
--- what there is of the DIF at a place is not too much: its members, cubes and rules, and for each member its links and the CEP-ids that it needs
+-- the DIF at a place has not too many members, cubes or rules, and each member has not too many links and needs not too many CEP-ids
 pub record IsRoomy (all : List LinkPlan) (at : ℕ) (d : DifPlan) : Type 0 where
   pub members : length d.members ≤ 64
   pub cubes : length d.cubes ≤ 8

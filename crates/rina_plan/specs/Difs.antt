@@ -9,16 +9,16 @@ use Rattle.rina_pci.specs.Spelling.{pci_size}
 use Rattle.rina_plan.specs.declared.dif.MemberPlan.{MemberPlan}
 use Rattle.rina_plan.specs.declared.dif.DifPlan.{DifPlan}
 
--- a DIF of rank above 1, and none of the rank below
+-- rule 9: a DIF of a rank above 1 where no DIF has the rank below
 unfoldable pub lacks_lower : List DifPlan → DifPlan → Bool
 lacks_lower difs d = nat_lt 1 d.rank && not (list_any (λ (e : DifPlan). e.rank + 1 == d.rank) difs)
 
--- a number stands there twice
+-- a list has a number twice
 unfoldable pub has_twice : List ℕ → Bool
 has_twice [] = false
 has_twice (x ∷ xs) = list_any (λ y. y == x) xs || has_twice xs
 
--- no cube, or an id twice
+-- rule 10: no cube, or two cubes of one id
 unfoldable pub lacks_cubes : DifPlan → Bool
 lacks_cubes d = (length d.cubes == 0) || has_twice (map (λ (c : Cube). c.id) d.cubes)
 
@@ -26,7 +26,7 @@ abbrev pub is_mistimed_by : Kind → Cube → Bool
 is_mistimed_by Reliable c = (c.retry == 0) || (c.r == 0) || nat_lt c.r c.retry
 is_mistimed_by _ c = not ((c.r == 0) && (c.a == 0) && (c.retry == 0))
 
--- a reliable cube sends again, and in time; no other has `r`, `a` or `retry`
+-- rule 11: a reliable cube sends again, and within `r`; no other cube has `r`, `a` or `retry`
 unfoldable pub is_mistimed : Cube → Bool
 is_mistimed c = is_mistimed_by c.kind c
 
@@ -41,7 +41,7 @@ greatest_of width = if width == 1 then 255 else (if width == 2 then 65535 else 4
 unfoldable pub is_misaddressed : ℕ → MemberPlan → Bool
 is_misaddressed width m = (m.addr == 0) || nat_lt (greatest_of width) m.addr
 
--- no member, a node or an address twice, or an address that no member can have
+-- rule 12: no member, two members on one node or of one address, or an address that is 0 or too wide
 unfoldable pub is_misplaced : DifPlan → Bool
 is_misplaced d = (length d.members == 0) || has_twice (map (λ (m : MemberPlan). m.node) d.members) || has_twice (map (λ (m : MemberPlan). m.addr) d.members) || list_any (is_misaddressed d.widths.addr) d.members
 
@@ -49,7 +49,7 @@ is_misplaced d = (length d.members == 0) || has_twice (map (λ (m : MemberPlan).
 abbrev pub head_of : DifPlan → ℕ
 head_of d = 4 + pci_size Piece d.widths
 
--- a PDU is wider than its length field, leaves no byte for a piece, or is too short for an acknowledgement
+-- rule 13: the largest PDU does not fit its length field, leaves no byte for a piece, or is too short for an acknowledgement
 unfoldable pub has_unfit_pdu : DifPlan → Bool
 has_unfit_pdu d = nat_lt (greatest_of d.widths.len) d.pdu || nat_le d.pdu (head_of d) || nat_lt d.pdu (4 + pci_size Ack d.widths)
 
@@ -57,7 +57,7 @@ has_unfit_pdu d = nat_lt (greatest_of d.widths.len) d.pdu || nat_le d.pdu (head_
 abbrev pub piece_of : DifPlan → ℕ
 piece_of d = d.pdu - head_of d
 
--- so many bytes do not go into so many pieces
+-- so many bytes do not fit into so many pieces
 abbrev pub is_over : ℕ → ℕ → ℕ → Bool
 is_over piece pieces bytes = nat_lt (pieces * piece) bytes
 
@@ -65,7 +65,7 @@ abbrev pub is_oversized_by : Kind → ℕ → ℕ → Cube → Bool
 is_oversized_by Datagram piece queue c = nat_lt piece c.largest
 is_oversized_by _ piece queue c = is_over piece c.window c.largest || is_over piece queue c.largest
 
--- an SDU of a datagram cube has one piece; that of another goes into the window and the queue
+-- rule 14: the largest SDU of a datagram cube fits into one piece; that of another cube into as many pieces as the window and as the queue hold
 unfoldable pub is_oversized : ℕ → ℕ → Cube → Bool
 is_oversized piece queue c = is_oversized_by c.kind piece queue c
 

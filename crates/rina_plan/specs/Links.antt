@@ -1,4 +1,4 @@
--- The rules on links and flows, which ask of the facilities below.
+-- The rules on links, which depend on the facilities below.
 use Rattle.std.specs.Prelude.{ℕ, ◌+◌, ◌==◌, ◌&&◌, ◌||◌, not, Bool, false, nat_lt, nat_le, List, length, slice_get, Option, Some, None}
 use Rattle.std.specs.List.{list_any}
 use Rattle.rina_cube.specs.declared.Cube.{Cube}
@@ -9,7 +9,7 @@ use Rattle.rina_plan.specs.declared.dif.LinkPlan.{LinkPlan}
 use Rattle.rina_plan.specs.declared.dif.DifPlan.{DifPlan}
 use Rattle.rina_plan.specs.declared.dif.WireEnds.{WireEnds}
 
--- ---- what is asked of the facility that a link is on
+-- ---- the facility that a link is on
 
 abbrev pub is_dynamic_in : Option DifPlan → Bool
 is_dynamic_in (Some d) = not d.is_static
@@ -54,20 +54,20 @@ abbrev pub dif_carries : ℕ → ℕ → Option DifPlan → Bool
 dif_carries pdu cube (Some d) = list_any (λ (c : Cube). (c.id == cube) && nat_le pdu c.largest) d.cubes
 dif_carries pdu cube None = false
 
--- the facility has the cube, which is 0 for a wire, and it takes SDUs of so many bytes
+-- the facility has the cube, which is 0 for a wire, and the cube carries SDUs of so many bytes
 abbrev pub carries : List WireEnds → List DifPlan → ℕ → ℕ → Lower → Bool
 carries wires difs pdu cube (Wire i) = wire_carries pdu cube (slice_get wires i)
 carries wires difs pdu cube (Dif i) = dif_carries pdu cube (slice_get difs i)
 
 -- ---- the rules
 
--- a DIF that is not static has links or flows, or a static one above rank 1 has a link on one that is not
+-- rule 15: a DIF that is not static has links or flows, or a static one above rank 1 has a link on one that is not static
 unfoldable pub is_misused : List DifPlan → DifPlan → Bool
 is_misused difs d =
     (not d.is_static && (nat_lt 0 (length d.links) || nat_lt 0 (length d.flows)))
     || (d.is_static && nat_lt 1 d.rank && list_any (λ (l : LinkPlan). is_dynamic difs l.on) d.links)
 
--- a link is not on the rank just below, or its ends are equal, or one of them is no member here or there
+-- a link is not on the rank just below, its ends are equal, or one of its nodes has no member of the DIF or is not in the facility below (rule 16)
 unfoldable pub is_unfit_link : List WireEnds → List DifPlan → DifPlan → LinkPlan → Bool
 is_unfit_link wires difs d l =
     not (rank_of difs l.on + 1 == d.rank) || (l.a == l.b) || not (is_member l.a d && is_member l.b d && is_there wires difs l.a l.on && is_there wires difs l.b l.on)
@@ -75,6 +75,6 @@ is_unfit_link wires difs d l =
 unfoldable pub has_unfit_link : List WireEnds → List DifPlan → DifPlan → Bool
 has_unfit_link wires difs d = list_any (is_unfit_link wires difs d) d.links
 
--- a link's cube is not in the facility below, or takes less than a PDU
+-- rule 17: a link's cube is not in the facility below, or carries no SDU as large as a PDU
 unfoldable pub is_uncarried : List WireEnds → List DifPlan → DifPlan → Bool
 is_uncarried wires difs d = list_any (λ (l : LinkPlan). not (carries wires difs d.pdu l.cube l.on)) d.links

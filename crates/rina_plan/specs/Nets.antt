@@ -1,4 +1,4 @@
--- What DIFs nets are of.
+-- The DIFs whose parts were made.
 use Rattle.std.specs.Prelude.{List, map}
 use Rattle.rina_plan.specs.declared.dif.DifPlan.{DifPlan}
 use Rattle.rina_plan.specs.declared.nets.Net.{Net}

@@ -9,7 +9,7 @@ use Rattle.rina_plan.specs.declared.dif.FlowPlan.{FlowPlan}
 use Rattle.rina_plan.specs.declared.dif.DifPlan.{DifPlan}
 use Rattle.rina_plan.specs.Links.{is_member}
 
--- a link has one end here and the other there
+-- a link joins two nodes
 abbrev pub Joins : LinkPlan → ℕ → ℕ → Type 0
 Joins l m n = ((l.a ≡ m) × (l.b ≡ n)) ⊎ ((l.b ≡ m) × (l.a ≡ n))
 
@@ -32,7 +32,7 @@ is_joined (l ∷ ls) m n = is_joined ls m n || (is_joined ls m l.a && is_joined 
 abbrev pub has_cube : ℕ → DifPlan → Bool
 has_cube id d = list_any (λ (c : Cube). c.id == id) d.cubes
 
--- a flow's cube is missing, its nodes are equal or no members, or no walk of links joins them
+-- a flow's cube is missing, its nodes are equal or have no member, or no walk of links joins them
 unfoldable pub is_unfit_flow : DifPlan → FlowPlan → Bool
 is_unfit_flow d f = not (has_cube f.cube d) || (f.from.node == f.to.node) || not (is_member f.from.node d && is_member f.to.node d) || not (is_joined d.links f.from.node f.to.node)
 
@@ -49,7 +49,7 @@ joins_on difs m n (Dif i) = joins_in m n (slice_get difs i)
 abbrev pub is_unjoined_link : List DifPlan → LinkPlan → Bool
 is_unjoined_link difs l = not (joins_on difs l.a l.b l.on)
 
--- a DIF has an unfit flow, or a link whose ends no walk joins on the DIF below
+-- rule 18: a DIF has an unfit flow, or a link whose ends no walk joins on the DIF below
 unfoldable pub is_unjoined : List DifPlan → DifPlan → Bool
 is_unjoined difs d = list_any (is_unfit_flow d) d.flows || list_any (is_unjoined_link difs) d.links
 

@@ -13,11 +13,11 @@ use Rattle.rina_table.specs.declared.sketch.WireSketch.{WireSketch}
 use Rattle.rina_table.specs.declared.sketch.Sketch.{Sketch}
 use Rattle.rina_stack.specs.Rules.{first_wire, is_unfit_wire, top_fault}
 
--- what the rules on DIFs ask of a wire
+-- what the rules on DIFs read of a wire
 abbrev pub ends_of : WireSketch → WireEnds
 ends_of w = record { a = w.a; b = w.b; largest = w.largest }
 
--- the rules from 9 to 14, each over all DIFs, where `first` is the number of the first DIF
+-- the rules from 9 to 14, each over all DIFs, where `first` is the item of the first DIF
 unfoldable pub alone_at : ℕ → List DifPlan → Result (Unit {0}) StackError
 alone_at first difs = do
   _ ← unless 9 (option_map (λ i. first + i) (position (lacks_lower difs) difs))

@@ -28,7 +28,7 @@ pub record IsSoundWire (nodes : ℕ) (w : WirePlan) : Type 0 where
 abbrev pub names_of : List WirePlan → List (List ℕ)
 names_of wires = map (λ (w : WirePlan). w.name) wires
 
--- what the rules on DIFs ask of a wire
+-- what the rules on DIFs read of a wire
 abbrev pub wire_ends : WirePlan → WireEnds
 wire_ends w = record { a = w.a; b = w.b; largest = w.largest }
 
@@ -39,7 +39,7 @@ wire_ends w = record { a = w.a; b = w.b; largest = w.largest }
 -- (cubes), are in range, and their times fit their kinds (times); its members stand on different nodes and have different addresses that fit (members);
 -- its PDUs fit their length field, and have room for a piece and for an acknowledgement (pdus); its SDUs fit a piece, or a window and a queue (sdus);
 -- where it is not static it has no links and flows, and no link of a static one is on it (uses); its links are on the rank just below, between two
--- members here and there (links), and on a cube that takes its PDUs (carried); no wire has two links (single); each flow has its cube, and a walk of
+-- nodes of members that are in the facility below (links), and on a cube that carries its PDUs (carried); no wire has two links (single); each flow has its cube, and a walk of
 -- links joins its two members (flows); where a link is on a DIF, a walk of that DIF's links joins its ends (joined); there are not too many members,
 -- cubes or rules, and no member has too many links, or more flows and links on it than CEP-ids (counts).
 pub record IsPlan (p : Plan) : Type 0 where

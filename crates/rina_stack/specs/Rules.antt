@@ -1,4 +1,4 @@
--- The rules over a stack as it is read, each with the first item that breaks it.
+-- Rules 5, 8 and 19 over a whole stack, each with the first item that breaks it.
 use Rattle.std.specs.Prelude.{ℕ, ◌+◌, ◌-◌, ◌*◌, ◌/◌, ◌++◌, ◌==◌, ◌||◌, min, Bool, nat_lt, List, [], ◌∷◌, length, map, Option, Some, None, is_some, if◌then◌else◌, option_map, option_and_then, position}
 use Rattle.std.specs.List.{list_any}
 use Rattle.std.specs.Str.{bytes_eq}
@@ -19,7 +19,7 @@ earlier None other = other
 abbrev pub has_text : List (List ℕ) → List ℕ → Bool
 has_text ts t = list_any (λ u. bytes_eq u t) ts
 
--- the place of the first text that stands among those before it
+-- the place of the first text that equals one before it
 unfoldable pub duplicate_after : List (List ℕ) → List (List ℕ) → Option ℕ
 duplicate_after before [] = None
 duplicate_after before (t ∷ ts) = if has_text before t then Some (length before) else duplicate_after (before ++ t ∷ []) ts
@@ -48,11 +48,11 @@ unfoldable pub owner_of : ℕ → List DifPlan → Option ℕ
 owner_of k [] = None
 owner_of k (d ∷ ds) = if nat_lt (k / 2) (length d.flows) then Some 0 else option_map (λ i. i + 1) (owner_of (k - length d.flows * 2) ds)
 
--- a wire or DIF whose name stands before it
+-- the first wire or DIF whose name a wire or DIF before it has
 abbrev pub facility_duplicate : Sketch → Option ℕ
 facility_duplicate s = option_map (λ i. 1 + i) (duplicate_in (wire_names s.wires ++ dif_names s.difs))
 
--- the DIF with a label that stands before
+-- the DIF of the first label that equals one before it
 abbrev pub label_duplicate : List DifPlan → Option ℕ
 label_duplicate difs = option_and_then (λ k. owner_of k difs) (duplicate_in (labels difs))
 

@@ -1,4 +1,4 @@
--- What the program runs, and what a stack is refused as that has more.
+-- What the program runs, and the rules by which it refuses the rest.
 use Rattle.std.specs.Prelude.{◌≡◌, ℕ, ◌+◌, ◌||◌, not, Bool, true, false, All, List, [], length, codes, Option, Some, None, Result, Ok, Err, is_some, option_and_then}
 use Rattle.toml.specs.Data.{Data, get, as_bool}
 use Rattle.rina_base.specs.Traverse.{◌>>=◌}
@@ -27,7 +27,7 @@ unready_item d =
     let wires = items_at (codes "wire") d in
     or_next (first_item 1 is_stormy wires) (first_item (1 + length wires) is_ruled (items_at (codes "dif") d))
 
--- storms and rules do not run yet: they are refused as keys that are not listed
+-- the program runs no storms and no access rules: they are refused as keys that are not listed
 unfoldable pub unready_key : Data → Option ℕ
 unready_key d = earlier (keys_fault d) (unready_item d)
 
@@ -49,7 +49,7 @@ item_of (Err Memory) = None
 item_of (Err NotToml) = None
 item_of (Err (StackRule n k)) = Some k
 
--- DIFs that are not static do not run yet: they are refused as if the key `static` had to be there, and to be true
+-- the program runs static DIFs alone: others are refused as if rule 3 required `static = true`
 unfoldable pub unready_type : Data → Option ℕ
 unready_type d = earlier (item_of (sketch_at (unresolved_scope 3) d)) (first_dynamic d)
 

@@ -1,9 +1,9 @@
--- How it is said that a rule is not broken.
+-- Forms of facts that no rule is broken.
 use Rattle.std.specs.Prelude.{◌≡◌, ◌≢◌, ℕ, Bool, false, List, All}
 use Rattle.std.specs.List.{AllPairs}
 use Rattle.rina_plan.specs.declared.dif.DifPlan.{DifPlan}
 
--- no text stands there twice
+-- no text stands twice in a list
 abbrev pub AreDistinct : List (List ℕ) → Type 0
 AreDistinct ts = AllPairs (λ t u. t ≢ u) ts
 

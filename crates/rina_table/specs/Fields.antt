@@ -1,5 +1,5 @@
 -- Names, numbers and references at the keys of a table.
--- A scope says how far the stack is read: what breaks a later rule than `upto` is let through, and something else stands for it.
+-- A scope says which rules are tried: those up to `upto`. What breaks a later rule is read as a value that breaks none.
 use Rattle.std.specs.Prelude.{ℕ, ◌==◌, ◌||◌, Bool, ℤ, pos, int_le, ◌&&◌, unsigned_abs, List, codes, Option, Some, None, Result, if◌then◌else◌}
 use Rattle.toml.specs.Data.{Data, get}
 use Rattle.rina_base.specs.Traverse.{◌>>=◌}
@@ -15,7 +15,7 @@ use Rattle.rina_table.specs.Values.{text_in, integer_in, integer_or}
 
 -- ---- names: rule 4
 
--- a text that has to be a name
+-- a text as a name
 unfoldable pub named : Scope → ℕ → List ℕ → Result (List ℕ) StackError
 named s n t = required_by s.upto 4 n (codes "-") (as_name t)
 
@@ -33,7 +33,7 @@ is_between least most z = int_le least z && int_le z most
 unfoldable pub as_number : ℕ → ℕ → ℤ → Option ℕ
 as_number least most z = if is_between (pos least) (pos most) z then Some (unsigned_abs z) else None
 
--- a number from a range, else its least one
+-- a number from a range; where rule 6 is not tried, the least one is read in place of one outside
 unfoldable pub ranged : Scope → ℕ → ℕ → ℕ → ℤ → Result ℕ StackError
 ranged s n least most z = required_by s.upto 6 n least (as_number least most z)
 
@@ -54,7 +54,7 @@ as_width w = if is_width w then Some w else None
 unfoldable pub width_in : Scope → ℕ → List ℕ → Data → Result ℕ StackError
 width_in s n k d = number_in s n k d 1 4 >>= λ w. required_by s.upto 6 n 1 (as_width w)
 
--- ---- what is named is there: rule 7
+-- ---- references: rule 7
 
 unfoldable pub node_named : Scope → ℕ → List ℕ → Result ℕ StackError
 node_named s n t = named s n t >>= λ name. required_by s.upto 7 n 0 (place_in s.nodes name)

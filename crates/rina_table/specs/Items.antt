@@ -16,7 +16,7 @@ use Rattle.rina_table.specs.Values.{truth_or, rows_in, rows_or, tables_in}
 use Rattle.rina_table.specs.Fields.{named, name_in, number_in}
 use Rattle.rina_table.specs.Rows.{widths_at, manage_at, cube_at, member_at, rule_at, link_at, flow_at, wire_at}
 
--- the item has the first policy that is not there
+-- the item has the first policy that does not exist
 abbrev pub unknown_at : Option ℕ → ℕ → Option ℕ
 unknown_at None n = None
 unknown_at (Some m) n = if m == n then Some n else None
@@ -60,7 +60,7 @@ rounds_or (Some d) = required 0 (option_and_then rounds_of (as_str d))
 unfoldable pub node_row : Scope → ℕ → Data → Result (List ℕ) StackError
 node_row s n d = required n (as_str d) >>= named s n
 
--- the stack, read so far as the scope says; the wires are the items from 1 on, and the DIFs those behind them
+-- the stack, read with the rules of the scope; wires are the items from 1 on, and DIFs follow them
 unfoldable pub sketch_at : Scope → Data → Result Sketch StackError
 sketch_at s d = do
   nodes ← rows_in (node_row s 0) 0 (codes "nodes") d

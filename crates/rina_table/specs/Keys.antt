@@ -109,7 +109,7 @@ dif_has_unlisted d =
     has_unlisted shape.Dif d || has_unlisted_at shape.Widths (codes "widths") d || has_unlisted_at shape.Manage (codes "manage") d || has_unlisted_among shape.Cube (codes "cube") d || has_unlisted_among shape.Member (codes "member") d
     || has_unlisted_among shape.Rule (codes "rule") d || has_unlisted_among shape.Link (codes "link") d || list_any flow_has_unlisted (items_at (codes "flow") d)
 
--- the first of these items that passes, where their numbers count on from `first`
+-- the first item that passes, where the first one is item `first`
 abbrev pub first_item : ℕ → (Data → Bool) → List Data → Option ℕ
 first_item first p ds = option_map (λ i. first + i) (position p ds)
 
@@ -117,7 +117,7 @@ abbrev pub or_next : Option ℕ → Option ℕ → Option ℕ
 or_next (Some n) next = Some n
 or_next None next = next
 
--- the first item with a key that is not listed: the top, then the wires, then the DIFs
+-- rule 2: the first item with a key that is not listed: the top, then the wires, then the DIFs
 unfoldable pub keys_fault : Data → Option ℕ
 keys_fault d =
     let wires = items_at (codes "wire") d in

@@ -17,7 +17,7 @@ place_in ts t = position (λ u. bytes_eq u t) ts
 abbrev pub as_name : List ℕ → Option (List ℕ)
 as_name text = result_ok (name_at text)
 
--- whom a rule speaks of: everyone, or an application or IPC process
+-- the subject of an access rule: everyone, or an application or IPC process
 unfoldable pub as_subject : List ℕ → Option Subject
 as_subject text = if bytes_eq text (codes "*") then Some All else option_map App (result_ok (app_at text))
 

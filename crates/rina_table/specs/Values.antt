@@ -1,4 +1,4 @@
--- What stands at the keys of a table: all that has to be there, each value of its type.
+-- The values at the keys of a table: rule 3 requires keys, and values of their types.
 use Rattle.std.specs.Prelude.{ℕ, Bool, ℤ, List, [], Option, Some, None, Result, Ok, is_some, if◌then◌else◌, option_map, option_and_then}
 use Rattle.std.specs.List.{list_all}
 use Rattle.toml.specs.Data.{Data, get, at, as_str, as_integer, as_bool, as_array, as_table}
@@ -40,7 +40,7 @@ items_or n (Some d) = required n (option_map list_of (as_array d))
 abbrev pub rows : {A : Type 0} → (Data → Result A StackError) → List Data → Result (List A) StackError
 rows f ds = traverse (λ _. f) 0 ds
 
--- a list that has to be there
+-- a list that rule 3 requires
 unfoldable pub rows_in : {A : Type 0} → (Data → Result A StackError) → ℕ → List ℕ → Data → Result (List A) StackError
 rows_in f n k d = required n (items_in k d) >>= rows f
 
