@@ -271,6 +271,7 @@ fn run_input<K: Sink, P: Retires + Policies>(
 
 /// A run over any shelf: the words of the command line without the program's name, the input, and where the
 /// notes are written. Each line's notes are written before the next line runs.
+/// Its clauses are those of `run`, which says what each of them means.
 #[tactic(auto, using(crate::proofs::Ending::kept_if, crate::proofs::Ending::failed_by_cut, crate::proofs::Promised::carried_if, crate::proofs::Promised::accounted_if, crate::proofs::Promised::caused_if, crate::proofs::Promised::routed_if))]
 fn run_over<S: Source, K: Sink, P: Retires + Policies>(
     alloc: Global,
@@ -279,23 +280,14 @@ fn run_over<S: Source, K: Sink, P: Retires + Policies>(
     out: &mut K,
     shelf: &mut P,
 ) -> Finish
-    // What was written is the text of the trace, and a front of it after a write fault or `Memory`.
     ensures written { Written (K.took out.old) (K.took out.new) (text_of result.trace) result.status }
-    // The status, the trace and the tower are what the words and the input make.
     ensures outcome { RunOutcomes (P.knows shelf.old) (word_fault (map (λ w. string_bytes w) words.now)) (S.left input.old) (S.left input.new) (P.slots shelf.old) result.status result.trace result.tower (P.slots shelf.new) }
-    // Every DIF of every rank stands on the rank below.
     ensures stands { IfSome result.tower IsTower }
-    // Every facility of every rank keeps what its flows promise, and names its partners.
     ensures kept { IfSome result.tower KeepsAll }
-    // Whatever an end of a DIF got has come to its IPC process from the rank below, piece by piece.
     ensures carried { IfSome result.tower CarriesAll }
-    // Of each PDU each IPC process can tell where it is: what came in or was made is out, waits, was written off, or is kept.
     ensures accounted { IfSome result.tower AccountsAll }
-    // Each next hop of each IPC process is the first link of a least walk over the links that it knows.
     ensures routed { IfSome result.tower RoutesAll }
-    // A flow of a DIF has failed only where the acknowledgement of a number was too late to come, or with the flow below it.
     ensures caused { IfSome result.tower CausesAll }
-    // A flow of a wire has failed only by a cut of that wire.
     ensures failed { IfSome result.tower FailedByCut }
     ensures read { result.status ≡ Status.ReadFault → Rose (S.faults input.old) (S.faults input.new) }
     ensures write { result.status ≡ Status.WriteFault → Rose (K.faults out.old) (K.faults out.new) }
@@ -310,13 +302,10 @@ fn run_over<S: Source, K: Sink, P: Retires + Policies>(
             let (used, _) = taken.bytes.as_slice().split_at(LIMIT);
             run_input(alloc, Some(Fault::TooLarge), used, out, shelf)
         }
-        Ending::Fault => run_input(
-            alloc,
-            Some(Fault::ReadFault),
-            taken.bytes.as_slice(),
-            out,
-            shelf,
-        ),
+        Ending::Fault => {
+            let fault = Some(Fault::ReadFault);
+            run_input(alloc, fault, taken.bytes.as_slice(), out, shelf)
+        }
         Ending::Memory => out_of_memory(alloc),
     }
 }

@@ -90,21 +90,49 @@ fn other_of_all<'a>(alloc: Global, text: &'a str) -> Result<Option<&'a str>, Fai
 }
 
 #[test]
-fn each_example_writes_its_output(rt: HostRuntime) -> Result<(), Fail> {
-    let alloc = rt.alloc();
-    assert_eq!(rt; other_example(alloc, EXAMPLES_A_TO_G)?, None);
-    assert_eq!(rt; other_example(alloc, EXAMPLES_H_TO_P)?, None);
-    assert_eq!(rt; other_example(alloc, EXAMPLES_Q_TO_Z)?, None);
-    assert_eq!(rt; other_example(alloc, WIRE_ROWS)?, None);
+fn the_examples_from_a_to_g_write_their_outputs(rt: HostRuntime) -> Result<(), Fail> {
+    assert_eq!(rt; other_example(rt.alloc(), EXAMPLES_A_TO_G)?, None);
     Ok(())
 }
 
 #[test]
-fn each_row_writes_its_output(rt: HostRuntime) -> Result<(), Fail> {
-    let alloc = rt.alloc();
-    assert_eq!(rt; other_of_all(alloc, FLAT_ROWS)?, None);
-    assert_eq!(rt; other_of_all(alloc, KINDS_ROWS)?, None);
-    assert_eq!(rt; other_of_all(alloc, SPENT_ROWS)?, None);
-    assert_eq!(rt; other_of_all(alloc, TALL_ROWS)?, None);
+fn the_examples_from_h_to_p_write_their_outputs(rt: HostRuntime) -> Result<(), Fail> {
+    assert_eq!(rt; other_example(rt.alloc(), EXAMPLES_H_TO_P)?, None);
+    Ok(())
+}
+
+#[test]
+fn the_examples_from_q_to_z_write_their_outputs(rt: HostRuntime) -> Result<(), Fail> {
+    assert_eq!(rt; other_example(rt.alloc(), EXAMPLES_Q_TO_Z)?, None);
+    Ok(())
+}
+
+#[test]
+fn the_rows_of_one_wire_write_their_outputs(rt: HostRuntime) -> Result<(), Fail> {
+    assert_eq!(rt; other_example(rt.alloc(), WIRE_ROWS)?, None);
+    Ok(())
+}
+
+#[test]
+fn the_rows_of_one_dif_write_their_outputs(rt: HostRuntime) -> Result<(), Fail> {
+    assert_eq!(rt; other_of_all(rt.alloc(), FLAT_ROWS)?, None);
+    Ok(())
+}
+
+#[test]
+fn the_rows_of_each_kind_write_their_outputs(rt: HostRuntime) -> Result<(), Fail> {
+    assert_eq!(rt; other_of_all(rt.alloc(), KINDS_ROWS)?, None);
+    Ok(())
+}
+
+#[test]
+fn the_rows_of_spent_numbers_write_their_outputs(rt: HostRuntime) -> Result<(), Fail> {
+    assert_eq!(rt; other_of_all(rt.alloc(), SPENT_ROWS)?, None);
+    Ok(())
+}
+
+#[test]
+fn the_rows_of_ranks_write_their_outputs(rt: HostRuntime) -> Result<(), Fail> {
+    assert_eq!(rt; other_of_all(rt.alloc(), TALL_ROWS)?, None);
     Ok(())
 }
