@@ -59,14 +59,14 @@ same_some o a b h g = cc
 
 -- One IPC process of those that are kept
 
-pub forwards_one : (now : ℕ) (hop : Hop) (r : Result Settled Memory) (at : ℕ) (ps : List IpcProcess) (x x' : IpcProcess) → at < length ps → x ≡ get_or ps at x → Forwards x.queues.cap (process_of x) now hop r (process_of x') → x'.queues.cap ≡ x.queues.cap → ForwardsAt now hop r at ps (slice_set ps at x')
+pub forwards_one : (now : ℕ) (hop : Hop) (r : Result Decision Memory) (at : ℕ) (ps : List IpcProcess) (x x' : IpcProcess) → at < length ps → x ≡ get_or ps at x → Forwards x.queues.cap (process_of x) now hop r (process_of x') → x'.queues.cap ≡ x.queues.cap → ForwardsAt now hop r at ps (slice_set ps at x')
 forwards_one now hop r at ps x x' lt read forwards cap p is =
     let here : slice_get ps at ≡ Some x = slice_get_read ps (length ps) at x refl lt read in
     let same : x ≡ p = same_some (slice_get ps at) x p here is in
     (x', subst (λ (z : IpcProcess). Forwards z.queues.cap (process_of z) now hop r (process_of x')) same forwards, subst (λ (z : IpcProcess). x'.queues.cap ≡ z.queues.cap) same cap, refl)
 
 -- its queues keep their places
-forwards_same : (cap : ℕ) (p : Process) (now : ℕ) (hop : Hop) (r : Result Settled Memory) (p' : Process) → Forwards cap p now hop r p' → IsSameHouse p p'
+forwards_same : (cap : ℕ) (p : Process) (now : ℕ) (hop : Hop) (r : Result Decision Memory) (p' : Process) → Forwards cap p now hop r p' → IsSameHouse p p'
 forwards_same cap p now hop (Ok decision.Here) p' s = absurd s
 forwards_same cap p now hop (Ok decision.Relayed) p' s = house_is p _ p' s.new_is (record { links = refl; routes = refl; places = λ qos link. same_places qos link p.queues s.place s.queue (s.queue.items ++ record { pdu = hop.pdu; left = hop.left; since = now } ∷ []) s.is_queue.is_queue })
 forwards_same cap p now hop (Ok (decision.Off (causes.NoRoute dst))) p' s = house_is p _ p' s.2 (off_house p _)
@@ -83,7 +83,7 @@ forwards_same cap p now hop (Ok (decision.Off (causes.LinkDown port))) p' s = ab
 forwards_same cap p now hop (Err e) p' s = house_is p p p' s (same_house p)
 
 -- it is posted, or written off
-posts_of : (g : Config) (cap now mpl : ℕ) (p : Process) (pdu : Pdu) (s : Settled) (p' : Process) → cap ≡ g.cap → Forwards cap p now (record { left = mpl; pdu = pdu }) (Ok s) p' → (cause : Option Cause) × Posts g now mpl p pdu cause p'
+posts_of : (g : Config) (cap now mpl : ℕ) (p : Process) (pdu : Pdu) (s : Decision) (p' : Process) → cap ≡ g.cap → Forwards cap p now (record { left = mpl; pdu = pdu }) (Ok s) p' → (cause : Option Cause) × Posts g now mpl p pdu cause p'
 posts_of g cap now mpl p pdu decision.Here p' same f = absurd f
 posts_of g cap now mpl p pdu decision.Relayed p' same f = (None, subst (λ (n : ℕ). IsPassedOn n p now (record { left = mpl; pdu = pdu }) p') same f)
 posts_of g cap now mpl p pdu (decision.Off (causes.NoRoute dst)) p' same f = (Some (causes.NoRoute dst), (f.0, subst (λ (n : ℕ). next_hop n p.routes ≡ None) f.0 f.1, f.2))
@@ -109,7 +109,7 @@ record HasPosted (d : Dif) (i mpl : ℕ) (pdu : Pdu) (ps : List IpcProcess) : Ty
   seen : seen_of (record d { processes = ps }) ≡ with_process (seen_of d) i process'
   house : AreHome d ps
 
-posted_at : (d : Dif) (lines : List Direction) (below : Seen) (i mpl : ℕ) (pdu : Pdu) (s : Settled) (ps : List IpcProcess) → i < length d.settings.members → Holds d lines below → ForwardsAt d.clock (record { left = mpl; pdu = pdu }) (Ok s) i d.processes ps → HasPosted d i mpl pdu ps
+posted_at : (d : Dif) (lines : List Direction) (below : Seen) (i mpl : ℕ) (pdu : Pdu) (s : Decision) (ps : List IpcProcess) → i < length d.settings.members → Holds d lines below → ForwardsAt d.clock (record { left = mpl; pdu = pdu }) (Ok s) i d.processes ps → HasPosted d i mpl pdu ps
 posted_at d lines below i mpl pdu s ps lt h forwards =
     let p = has_process d below i (lines, h) lt in
     let x = forwards p.0 p.1 in
@@ -167,7 +167,7 @@ ack_parts : (b : Bool) (a k : AnAck) → Some k ≡ cond b (Some a) None → (b 
 ack_parts true a k e = (refl, cc)
 ack_parts false a k e = absurd cc
 
-pub acknowledges : (d : Dif) (lines : List Direction) (below : Seen) (i at : ℕ) (conn : Conn) (due : DueAck) (s : Settled) (flows : Flows) (ps : List IpcProcess) → i < length d.settings.members → IsHomeEnd d i at → slice_get d.flows.conns at ≡ Some conn → Tells (λ k. TellsAck d.clock k (Some (ack_of due))) at d.flows.conns → ForwardsAt d.clock (record { left = conn.sending.form.cube.mpl; pdu = pdu_of_ack (ids_of conn) (ack_of due) }) (Ok s) i d.processes ps → AcknowledgesIn at d.flows flows → Holds d lines below → Acknowledges d lines below at (record d { flows = flows; processes = ps })
+pub acknowledges : (d : Dif) (lines : List Direction) (below : Seen) (i at : ℕ) (conn : Conn) (due : DueAck) (s : Decision) (flows : Flows) (ps : List IpcProcess) → i < length d.settings.members → IsHomeEnd d i at → slice_get d.flows.conns at ≡ Some conn → Tells (λ k. TellsAck d.clock k (Some (ack_of due))) at d.flows.conns → ForwardsAt d.clock (record { left = conn.sending.form.cube.mpl; pdu = pdu_of_ack (ids_of conn) (ack_of due) }) (Ok s) i d.processes ps → AcknowledgesIn at d.flows flows → Holds d lines below → Acknowledges d lines below at (record d { flows = flows; processes = ps })
 acknowledges d lines below i at conn due s flows ps lt here is tells forwards does h =
     let g : Config = config_of d.settings in
     let d' : Dif = record d { flows = flows; processes = ps } in
@@ -237,7 +237,7 @@ again_qos d lines below at conn pdu h is tells =
     let f = some_mapped (λ n. carry conn.sending.form.peer conn.sending.form.cube.id (piece_again n line.line.sender)) (again_due c d.clock line.line.sender) pdu told in
     ap (λ (q : Pdu). q.qos) f.2
 
-pub sends_again : (d : Dif) (lines : List Direction) (below : Seen) (i at : ℕ) (conn : Conn) (pdu : Pdu) (s : Settled) (flows : Flows) (ps : List IpcProcess) → i < length d.settings.members → IsHomeEnd d i at → slice_get d.flows.conns at ≡ Some conn → Tells (λ k. TellsAgain d.clock k.sending (Some pdu)) at d.flows.conns → ForwardsAt d.clock (record { left = conn.sending.form.cube.mpl; pdu = pdu }) (Ok s) i d.processes ps → SendsAgainIn d.clock at d.flows flows → Holds d lines below → SendsAgain d lines below at (record { cep = pdu.scep; seq = pdu.seq }) (record d { flows = flows; processes = ps })
+pub sends_again : (d : Dif) (lines : List Direction) (below : Seen) (i at : ℕ) (conn : Conn) (pdu : Pdu) (s : Decision) (flows : Flows) (ps : List IpcProcess) → i < length d.settings.members → IsHomeEnd d i at → slice_get d.flows.conns at ≡ Some conn → Tells (λ k. TellsAgain d.clock k.sending (Some pdu)) at d.flows.conns → ForwardsAt d.clock (record { left = conn.sending.form.cube.mpl; pdu = pdu }) (Ok s) i d.processes ps → SendsAgainIn d.clock at d.flows flows → Holds d lines below → SendsAgain d lines below at (record { cep = pdu.scep; seq = pdu.seq }) (record d { flows = flows; processes = ps })
 sends_again d lines below i at conn pdu s flows ps lt here is tells forwards does h =
     let g : Config = config_of d.settings in
     let d' : Dif = record d { flows = flows; processes = ps } in

@@ -43,7 +43,7 @@ same_some o a b h g = cc
 
 -- One IPC process of those that are kept
 
-pub decides_one : (now addr since : ℕ) (hop : Hop) (r : Result Settled NoMemory) (at : ℕ) (ps : List IpcProcess) (x x' : IpcProcess) → at < length ps → x ≡ get_or ps at x → Decides x.queues.cap now addr (process_of x) since hop r (process_of x') → x'.queues.cap ≡ x.queues.cap → DecidesAt now addr since hop r at ps (slice_set ps at x')
+pub decides_one : (now addr since : ℕ) (hop : Hop) (r : Result Decision NoMemory) (at : ℕ) (ps : List IpcProcess) (x x' : IpcProcess) → at < length ps → x ≡ get_or ps at x → Decides x.queues.cap now addr (process_of x) since hop r (process_of x') → x'.queues.cap ≡ x.queues.cap → DecidesAt now addr since hop r at ps (slice_set ps at x')
 decides_one now addr since hop r at ps x x' lt read decides cap p is =
     let here : slice_get ps at ≡ Some x = slice_get_read ps (length ps) at x refl lt read in
     let same : x ≡ p = same_some (slice_get ps at) x p here is in
@@ -73,7 +73,7 @@ arrives_one now place pdu at flows flows' r ps x ledger lt read arrives p is =
 pub off_house : (p : Process) (lines : List Off) → IsSameHouse p (with_offs p lines)
 off_house p lines = record { links = refl; routes = refl; places = λ qos link. refl }
 
-pub decides_same : (cap now addr : ℕ) (p : Process) (since : ℕ) (hop : Hop) (r : Result Settled NoMemory) (p' : Process) → Decides cap now addr p since hop r p' → IsSameHouse p p'
+pub decides_same : (cap now addr : ℕ) (p : Process) (since : ℕ) (hop : Hop) (r : Result Decision NoMemory) (p' : Process) → Decides cap now addr p since hop r p' → IsSameHouse p p'
 decides_same cap now addr p since hop (Ok decision.Here) p' s = house_is p p p' s.2 (same_house p)
 decides_same cap now addr p since hop (Ok decision.Relayed) p' s =
     let q = s.2 in
@@ -135,7 +135,7 @@ decided_err d addr at since hop e ps lt decides lines below h there =
 decided_there : (d : Dif) (at : ℕ) (p : IpcProcess) (member : Member) (process : Process) → slice_get d.processes at ≡ Some p → IsProcess (seen_of d) at member process → process_of p ≡ process
 decided_there d at p member process is q = same_some (slice_get (seen_of d).processes at) (process_of p) process (shown_at d at p is) q.is_process
 
-pub decided : (d : Dif) (addr at since : ℕ) (hop : Hop) (s : Settled) (end : Took) (ps : List IpcProcess) → at < length d.settings.members → ((member : Member) → slice_get (seen_of d).config.members at ≡ Some member → addr ≡ member.addr) →
+pub decided : (d : Dif) (addr at since : ℕ) (hop : Hop) (s : Decision) (end : Took) (ps : List IpcProcess) → at < length d.settings.members → ((member : Member) → slice_get (seen_of d).config.members at ≡ Some member → addr ≡ member.addr) →
     ((p p' : Process) (lines : List Direction) (member : Member) → Decides d.settings.cap d.clock member.addr p since hop (Ok s) p' → Settles (seen_of d) lines at member p since hop end (with_process (seen_of d) at p') lines) →
     DecidesAt d.clock addr since hop (Ok s) at d.processes ps → SettlesFor d at since hop (Ok end) (record d { processes = ps })
 decided d addr at since hop s end ps lt is_addr settles decides lines below h there =

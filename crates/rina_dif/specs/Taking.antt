@@ -35,7 +35,7 @@ use Rattle.rina_dif.specs.Steps.{AtHome}
 -- One IPC process of those that are kept
 
 -- it decides on a PDU that came at tick `since`
-abbrev pub DecidesAt : ℕ → ℕ → ℕ → Hop → Result Settled NoMemory → ℕ → List IpcProcess → List IpcProcess → Type 0
+abbrev pub DecidesAt : ℕ → ℕ → ℕ → Hop → Result Decision NoMemory → ℕ → List IpcProcess → List IpcProcess → Type 0
 DecidesAt now addr since hop result at old new =
     (p : IpcProcess) → slice_get old at ≡ Some p → (p' : IpcProcess) × Decides p.queues.cap now addr (process_of p) since hop result (process_of p') × (p'.queues.cap ≡ p.queues.cap) × (new ≡ slice_set old at p')
 

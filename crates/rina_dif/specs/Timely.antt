@@ -66,7 +66,7 @@ GivesUpAs d lines below at (Err e) d' = d' ≡ d
 -- A PDU that is made beside a send
 
 -- the IPC process at a place puts it into the queue of its next hop, or writes it off
-abbrev pub ForwardsAt : ℕ → Hop → Result Settled Memory → ℕ → List IpcProcess → List IpcProcess → Type 0
+abbrev pub ForwardsAt : ℕ → Hop → Result Decision Memory → ℕ → List IpcProcess → List IpcProcess → Type 0
 ForwardsAt now hop result at old new = (p : IpcProcess) → slice_get old at ≡ Some p → (p' : IpcProcess) × Forwards p.queues.cap (process_of p) now hop result (process_of p') × (p'.queues.cap ≡ p.queues.cap) × (new ≡ slice_set old at p')
 
 -- An acknowledgement that is made
