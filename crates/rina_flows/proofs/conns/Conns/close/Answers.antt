@@ -10,4 +10,4 @@ returns-clause-becomes c =
     let old = c.index_mut-conn.result.now in
     let new = record c.close.new.self { rx = c.write_off.new.rx } in
     let W : Receiving → Type 0 = λ r. WritesOff c.args.now r c.args.lines.now.items (vec_capacity c.args.lines.now) c.write_off.new.rx c.write_off.new.lines.items in
-    rw (← c.self.view_is) (become_one (GivesUpAll c.args.now closed c.args.lines.now.items (vec_capacity c.args.lines.now) c.write_off.new.lines.items) c.self.inside.items.items c.args.at old new c.index_mut-conn.ensures.value (record { writes = subst W c.close.ensures.closed c.write_off.ensures.writes; new_is = conn_same (record old { rx = c.write_off.new.rx }) new c.close.ensures.same.0 refl c.close.ensures.same.1 c.close.ensures.same.2 c.close.ensures.same.3 }))
+    rw (← c.self.view_is) (become_one (GivesUpAll c.args.now closed c.args.lines.now.items (vec_capacity c.args.lines.now) c.write_off.new.lines.items) c.self.inside.items.items c.args.at old new c.index_mut-conn.ensures.value (record { writes = subst W c.close.ensures.closed c.write_off.ensures.writes; new_is = conn_same (record old { rx = c.write_off.new.rx }) new c.close.ensures.same.0 refl c.close.ensures.same.1 c.close.ensures.same.2 }))
