@@ -12,8 +12,8 @@ returns-clause-pass c = passes_are
 pub returns-clause-taker : goal.returns-clause-taker
 returns-clause-taker c = takers_are
 
-pub returns-clause-arrive : goal.returns-clause-arrive
-returns-clause-arrive c = is_arrived
+pub returns-clause-on_data : goal.returns-clause-on_data
+returns-clause-on_data c = is_arrived
 
 pub returns-clause-on_ack : goal.returns-clause-on_ack
 returns-clause-on_ack c = tellings_are
