@@ -97,8 +97,8 @@ impl Conn {
         })
     }
 
-    /// Offers an SDU to be sent: all its pieces are made now, or none. A refusal, want of memory too, leaves
-    /// all as before.
+    /// Offers an SDU to be sent: all its pieces are made now, or none. Where it is refused, or an allocation fails,
+    /// nothing changes.
     pub fn offer(&mut self, alloc: Global, now: Tick, sdu: &[u8]) -> Result<Made, OfferError>
         requires { now ≤ 10000000 }
         ensures offers { send.Offers now sdu.now self.old.sending result self.new.sending }
@@ -107,8 +107,8 @@ impl Conn {
         self.sending.offer(alloc, now, sdu)
     }
 
-    /// Receives a piece at a tick of at most 10,000,000, while `unpassed` SDUs wait to be passed; what came of
-    /// earlier pieces is fetched before. Takes no memory.
+    /// Receives a piece at a tick of at most 10,000,000, while `unpassed` SDUs wait to be passed; the
+    /// SDUs and dropped pieces of earlier calls are fetched before. Takes no memory.
     pub fn on_data(&mut self, now: Tick, pdu: &PduView<'_>, unpassed: u32) -> Verdict
         requires { now ≤ 10000000 }
         ensures arrives { IsRow now (pdu_of pdu.now) unpassed self.old.rx result self.new.rx }
@@ -184,8 +184,8 @@ impl Conn {
         self.sending.on_control(pdu.ack, pdu.right);
     }
 
-    /// Notes that the next SDU was passed to the application, once what came of earlier pieces is fetched. Its
-    /// number and its pieces are known from when it became whole. Takes no memory.
+    /// Notes that the next SDU was passed to the application, once the SDUs of earlier pieces are
+    /// fetched. Its number and its pieces are known from when it became whole. Takes no memory.
     pub fn passed(&mut self, now: Tick, _first: u32, _pieces: u32)
         ensures marks { Passes now self.old self.new }
         ensures same { (self.new.rx ≡ self.old.rx) × (self.new.sending ≡ self.old.sending) }

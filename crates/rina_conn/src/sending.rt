@@ -186,8 +186,8 @@ impl Sending {
         })
     }
 
-    /// Accepts an SDU for sending: all its pieces are made now, or none. Want of memory, a refusal too, leaves
-    /// all as before.
+    /// Accepts an SDU for sending: all its pieces are made now, or none. Where it is refused, or an allocation fails,
+    /// nothing changes.
     pub fn offer(&mut self, alloc: Global, now: Tick, sdu: &[u8]) -> Result<Made, OfferError>
         requires { now ≤ 10000000 }
         ensures { Offers now sdu.now self.old result self.new }

@@ -1,4 +1,4 @@
-//! Want of memory.
+//! The error of an allocation that failed.
 use std::alloc::{AllocError, AllocFailed};
 
 /// No memory was found.

@@ -13,7 +13,7 @@ use std::marker::Model;
 pub struct AckPlan {
     a: u32,
     delta: u32,
-    /// The tick of what wanted it first.
+    /// The tick of the first piece, or SDU passed, since the last acknowledgement.
     since: Option<Tick>,
 }
 

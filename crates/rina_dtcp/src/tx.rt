@@ -242,8 +242,8 @@ impl Tx {
         Ok(())
     }
 
-    /// Notes that the sender's next number `seq` is sent now, by this PDU. Room for what may be sent again is
-    /// taken here; after want of memory all is as before.
+    /// Notes that the sender's next number `seq` is sent now, by this PDU. Memory for what may be sent again is
+    /// taken here; where the allocation fails, nothing changes.
     pub fn note_sent(&mut self, alloc: Global, now: Tick, seq: u32, pdu: &Pdu) -> Result<(), Memory>
         ensures ok { OnOk result (Notes now seq pdu.now self.old self.new) }
         ensures err { OnErr result (self.new ≡ self.old) }
@@ -258,7 +258,7 @@ impl Tx {
         if begins { 0 } else { self.acked }
     }
 
-    /// Keeps copies of those PDUs of pieces that are to be acknowledged; `seq` is the number of the first.
+    /// Keeps copies of the PDUs whose pieces the far end acknowledges; `seq` is the number of the first PDU.
     fn keep_copies(
         &mut self,
         alloc: Global,
@@ -297,7 +297,7 @@ impl Tx {
     }
 
     /// Notes that the sender's next numbers, from `seq` on, are sent now, one after the other by these PDUs.
-    /// Room for what may be sent again is taken here; after want of memory all is as before.
+    /// Memory for what may be sent again is taken here; where the allocation fails, nothing changes.
     pub fn note_all(
         &mut self,
         alloc: Global,

@@ -18,7 +18,7 @@ use rina_base::Memory;
 use rina_cube::{Cube, Kind};
 use std::alloc::Global;
 
-/// What is kept of the numbers.
+/// What a receiver remembers of the sequence numbers that it accepted.
 #[derive(Drop)]
 pub enum Accepted {
     /// The last 4,096 numbers, in any order.
@@ -165,7 +165,7 @@ impl Accepted {
         }
     }
 
-    /// What is said of a piece where no state stands: a reliable flow begins with a piece that has the data run flag.
+    /// The verdict on a piece where no state stands: a reliable flow begins with a piece that has the data run flag.
     fn absent_verdict(&self, drf: bool) -> Judged
         ensures { result ≡ judged_as (absent_verdict (kind_of self.now) drf) }
     {
@@ -237,7 +237,7 @@ impl Accepted {
         }
     }
 
-    /// Lets go of the first piece that is held, and tells its number; None exactly where none is held.
+    /// Drops the first held piece, and answers its number; None exactly where none is held.
     pub fn next_held(&mut self) -> Option<u32>
         ensures taken { TakesFirst result (held_numbers self.old) (held_numbers self.new) }
         ensures shape { SameShape self.old self.new }

@@ -14,7 +14,7 @@ use rina_delim::{Joined, Joiner, Run};
 use std::alloc::Global;
 use std::marker::Model;
 
-/// The pieces of the SDU that is being joined, and what came of others: whole SDUs, in slots that are
+/// The pieces of the SDU that is being joined, and the outcome of earlier ones: whole SDUs, in slots that are
 /// filled one after the other, and gaps.
 #[derive(Drop)]
 pub struct Join {
@@ -251,7 +251,7 @@ impl Join {
         self.joiner.has_room(number, first, len)
     }
 
-    /// Gives up the pieces that wait, for want of room: no lawful piece comes here.
+    /// Gives up the pieces that wait, since a piece does not fit: no lawful sender makes such a piece.
     fn overflow(&mut self)
         requires { length self.old.gaps < 2 * self.old.slots }
         ensures { Grows 1 self.old self.new }

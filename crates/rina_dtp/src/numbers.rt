@@ -56,7 +56,7 @@ impl Numbers {
         if absent { 0 } else { self.next }
     }
 
-    /// Takes numbers, of which the first is told.
+    /// Takes numbers, and answers the first of them.
     fn take_from(
         &mut self,
         now: Tick,

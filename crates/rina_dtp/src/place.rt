@@ -76,7 +76,7 @@ impl Place {
         }
     }
 
-    /// Lets go of the piece.
+    /// Drops the piece; the room for its body stays.
     pub fn free(&mut self)
         ensures { self.new ≡ record self.old { used = false } }
     {

@@ -6,7 +6,7 @@ use rina_base::Memory;
 use std::alloc::Global;
 use std::marker::Model;
 
-/// How many numbers are told apart, up to the highest one.
+/// How many numbers, up to the highest one, the ring remembers.
 pub const RECENT: u32 = 4096;
 
 /// The greatest number of a state, and which of the last 4,096 numbers up to it were accepted.
@@ -108,7 +108,7 @@ impl Ring {
         self.top
     }
 
-    /// Whether a number is too old to be told.
+    /// Whether a number is older than all that the ring remembers.
     pub fn is_behind(&self, number: u32) -> bool
         ensures { result ≡ nat_le (number + 4096) self.now.top }
     {

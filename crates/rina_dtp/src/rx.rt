@@ -167,7 +167,7 @@ impl Rx {
         self.join.clear();
     }
 
-    /// What the numbers say of a piece.
+    /// The verdict of the sequence numbers on a piece, with room or without.
     fn judge(&self, present: bool, room: bool, number: u32, drf: bool) -> Judged
         ensures { result ≡ judged_as (law.with_room room (number_verdict present self.now.accepted number drf)) }
     {
@@ -199,7 +199,7 @@ impl Rx {
         }
     }
 
-    /// Holds a piece. One that has no place is refused for want of room: no lawful piece comes here.
+    /// Holds a piece. One that has no place is refused with `NoRoom`: no lawful sender makes such a piece.
     fn hold(&mut self, now: Tick, pdu: &PduView<'_>) -> Verdict
         requires { now ≤ 10000000 }
         ensures { IsHeldIn self.old.accepted now (pdu_of pdu.now) self.old result self.new }
@@ -215,7 +215,7 @@ impl Rx {
         Verdict::Hold
     }
 
-    /// Writes off a piece that was there before. It counts for how long state stands.
+    /// Writes off a piece whose number is known already. It counts for how long state stands.
     fn reject_known(&mut self, now: Tick, cause: Cause) -> Verdict
         requires { now ≤ 10000000 }
         ensures told { result ≡ Verdict.Off cause }
@@ -225,7 +225,7 @@ impl Rx {
         Verdict::Off(cause)
     }
 
-    /// Acts by what the numbers say of a piece.
+    /// Accepts, holds or writes off a piece, by the verdict of the sequence numbers.
     fn step(&mut self, now: Tick, present: bool, room: bool, pdu: &PduView<'_>) -> Verdict
         requires now { now ≤ 10000000 }
         requires filled { self.old.join.filled ≡ 0 }
@@ -264,10 +264,10 @@ impl Rx {
         self.step(now, present, room, pdu)
     }
 
-    /// A piece came, at a tick of at most 10,000,000, while `unpassed` SDUs wait to be passed: the row of the
-    /// connection machine, for every state of the machine for which this one stands. Takes no memory. All that
-    /// came of earlier pieces is to be fetched before: what was not is forgotten. Of a piece that the sender of
-    /// a cube does not make, because it is too long, or does not lie in the window, nothing is told.
+    /// Receives a piece at a tick of at most 10,000,000, while `unpassed` SDUs wait to be passed: the row of the
+    /// connection machine, for every state of the machine for which this one stands. Takes no memory. The
+    /// caller fetches the SDUs and the dropped pieces of earlier calls first: those that it did not fetch are forgotten.
+    /// Nothing is said of a piece that no lawful sender makes: one that is too long, or lies outside of the window.
     pub fn on_data(&mut self, now: Tick, pdu: &PduView<'_>, unpassed: u32) -> Verdict
         requires { now ≤ 10000000 }
         ensures { IsRow now (pdu_of pdu.now) unpassed self.old result self.new }
@@ -323,7 +323,7 @@ impl Rx {
         self.join.next_whole()
     }
 
-    /// Why what is kept is given up, where it is.
+    /// Why the pieces that are kept are given up; None where they are not.
     fn end_cause(&self, now: Tick) -> Option<Cause>
         ensures { result ≡ end_cause now self.now }
     {
@@ -340,7 +340,7 @@ impl Rx {
         })
     }
 
-    /// Takes the pieces out of the joiner, once those that were taken before are given up.
+    /// Takes the pieces out of the joiner, where no earlier ones are left to be given up.
     fn empty_joiner(&mut self)
         ensures { self.new ≡ gathered self.old }
     {
@@ -350,7 +350,7 @@ impl Rx {
         }
     }
 
-    /// Takes the first piece of those that were in the joiner, or else of those that are held.
+    /// Takes the first piece that was in the joiner, or else the first one that is held.
     fn next_leftover(&mut self) -> Option<u32>
         ensures { GoesOn self.old.going self.old result self.new }
     {

@@ -8,7 +8,7 @@ pub type Bodies = Seq<Bytes>;
 #[derive(Clone, Copy)]
 pub struct Sdu<'a> {
     pub first: u32,
-    /// At most 2^32 - 1; an SDU of more pieces, which no cube allows, is told to have as many.
+    /// At most 2^32 - 1; an SDU of more pieces, which no cube allows, is counted as one of so many.
     pub pieces: u32,
     pub bytes: &'a [u8],
 }

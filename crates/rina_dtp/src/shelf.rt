@@ -58,7 +58,7 @@ fn copy_places(alloc: Global, places: &[Place]) -> Result<Vec<Place>, Memory>
     Ok(copies)
 }
 
-/// Lets go of all pieces.
+/// Drops all pieces.
 fn free_all(places: &mut Vec<Place>, piece: u32)
     requires { All (HasRoomOf piece) places.old.items }
     ensures count { length places.new.items ≡ length places.old.items }
@@ -145,7 +145,7 @@ impl Shelf {
         self.places[at as usize].put(number, first, last, body);
     }
 
-    /// Lets go of the piece of a number.
+    /// Drops the piece of a number.
     pub fn free(&mut self, number: u64)
         ensures { self.new ≡ record self.old { places = without number self.old.places } }
     {
@@ -186,7 +186,7 @@ impl Shelf {
         None
     }
 
-    /// Lets go of the first piece that is held, and tells its number; None exactly where none is held.
+    /// Drops the first held piece, and answers its number; None exactly where none is held.
     pub fn next_held(&mut self) -> Option<u32>
         ensures taken { TakesFirst result (held_in self.old) (held_in self.new) }
         ensures next { self.new.next ≡ self.old.next }

@@ -1,7 +1,7 @@
-//! What becomes of a piece that came.
+//! The verdict on a piece that arrived.
 use rina_base::Cause;
 
-/// What a receiver tells of a piece.
+/// What a receiver does with a piece that arrived.
 #[derive(Clone, Copy, Debug, PartialEq, Eq)]
 pub enum Verdict {
     /// It was accepted, and `whole` SDUs became whole with it.
@@ -12,7 +12,7 @@ pub enum Verdict {
     Off(Cause),
 }
 
-/// What the numbers say of a piece.
+/// The verdict of the sequence numbers alone.
 #[derive(Clone, Copy, Debug, PartialEq, Eq)]
 pub enum Judged {
     Accepted,

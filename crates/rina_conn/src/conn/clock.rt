@@ -1,4 +1,4 @@
-//! What comes with time at a connection: what is due, item by item, and what each item does.
+//! The clock of a connection: what is due, item by item, and what each item does.
 ghost use Rattle.std.specs.Prelude.{◌≡◌, ◌≤◌, ◌+◌, ◌-◌, min, option_copied, option_map};
 ghost use Rattle.std.specs.Borrow.{sem};
 ghost use Rattle.rina_dtcp.specs.Plans.{without};
