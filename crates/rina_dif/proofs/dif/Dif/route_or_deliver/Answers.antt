@@ -23,7 +23,7 @@ returns-in_err-route_or_deliver-clause-does c =
     settles_err d at since hop e err.0 c.from_residual.result _ (decided_err d c.in-Some.member.now.addr at since hop e c.route_or_deliver.new.self c.requires.at c.in_err-route_or_deliver.ensures) err.1
 
 pub deliver_here-requires-clause-comes : goal.deliver_here-requires-clause-comes
-own-requires-clause-comes c =
+deliver_here-requires-clause-comes c =
     let d = c.args.self.now in
     let at = c.args.at in
     let since = c.args.came.now.since in
@@ -33,7 +33,7 @@ own-requires-clause-comes c =
     comes_on d at since hop c.route_or_deliver.new.self me c.requires.comes
 
 pub deliver_here-requires-clause-own : goal.deliver_here-requires-clause-own
-own-requires-clause-own c =
+deliver_here-requires-clause-own c =
     let d = c.args.self.now in
     let at = c.args.at in
     let since = c.args.came.now.since in
