@@ -1,10 +1,10 @@
 //! How flows are asked of a DIF, and how their far ends are claimed.
-ghost use Rattle.std.specs.Prelude.{◌≡◌, ◌≢◌, ◌↔◌, ◌<◌, ℕ, Some, Err, IfSome, length, map, slice_get, true};
+ghost use Rattle.std.specs.Prelude.{◌≡◌, ◌≢◌, ◌↔◌, ℕ, Some, Err, map, true};
 ghost use Rattle.std.specs.Option.{is_some};
 ghost use Rattle.rina_iface.specs.declared.error.AllocateError.TheVariants.{Memory, Unbuilt};
 ghost use Rattle.rina_iface.specs.Allocate.{Allocates, refused_in};
 ghost use Rattle.rina_iface.specs.Claim.{Claims};
-ghost use Rattle.rina_iface.specs.Seen.{Seen, is_of, offered, oldest_in};
+ghost use Rattle.rina_iface.specs.Seen.{Seen, offered};
 ghost use Rattle.rina_dif_law.specs.Dif.{fac_of, offer_of};
 ghost use Rattle.rina_dif.specs.Facade.{GoesOn, IsShownAs, StaysStanding, shown_as};
 ghost use Rattle.rina_dif.specs.Shown.{seen_of};
@@ -13,7 +13,7 @@ ghost use Rattle.rina_dif.specs.Whole.{IsDif};
 use crate::dif::Dif;
 use rina_base::{AppName, Node, Port};
 use rina_cube::{Cube, Want, pick};
-use rina_iface::{AllocateError, Ask, Ends};
+use rina_iface::{AllocateError, Ask};
 use std::alloc::Global;
 
 /// Whether a cube meets a wish.
@@ -21,26 +21,6 @@ fn is_met(cubes: &[Cube], want: &Want) -> bool
     ensures { result ≡ is_some (offered (map offer_of cubes.now) want.now) }
 {
     pick(cubes, want).is_some()
-}
-
-/// Whether the end at a place is one of an application at a node.
-fn is_of(ends: &Ends, place: usize, node: Node, app: &AppName) -> bool
-    ensures { result ≡ is_of node app.now (slice_get ends.now place) }
-{
-    match ends.get(place) {
-        None => false,
-        Some(end) => end.port.node == node && end.app.is(app),
-    }
-}
-
-/// Where the oldest far end of an application at a node stands among those that wait.
-fn oldest(ends: &Ends, waiting: &[usize], node: Node, app: &AppName) -> Option<usize>
-    ensures at { result ≡ oldest_in ends.now waiting.now node app.now }
-    ensures within { IfSome result (λ i. i < length waiting.now) }
-{
-    waiting
-        .iter()
-        .position(|place| is_of(ends, *place, node, app))
 }
 
 impl Dif {
@@ -87,7 +67,11 @@ impl Dif {
         ensures laid { self.new.laid ≡ self.old.laid }
         ensures failed { self.new.failed ≡ self.old.failed }
     {
-        let at = oldest(&self.flows.journal.ends, self.waiting.as_slice(), node, app)?;
+        let at = self
+            .flows
+            .journal
+            .ends
+            .oldest(self.waiting.as_slice(), node, app)?;
         let place = self.waiting.remove(at);
         let Some(end) = self.flows.journal.ends.get(place) else {
             unreachable!()

@@ -1,10 +1,11 @@
 //! The ends of flows, and a facility's journal of them.
 ghost use Rattle.std.specs.Prelude.{◌≡◌, ◌≤◌, ◌<◌, ◌^◌, ◌++◌, ◌∷◌, [], length, slice_get, slice_set, map, OnOk, OnErr, IfSome, MatchOption};
 ghost use Rattle.rina_iface.specs.Ends.{place_in, end_in, with_sent, with_got, with_passed};
+ghost use Rattle.rina_iface.specs.Seen.{is_of, oldest_in};
 ghost use Rattle.rina_iface.specs.State.{with_state, cut_state, cut_off};
 
 use crate::state::{Fail, PortState, Role};
-use rina_base::{AppName, FlowName, Port, Tick};
+use rina_base::{AppName, FlowName, Node, Port, Tick};
 use rina_law::{Entries, Entry};
 use std::alloc::{AllocError, Global};
 use std::marker::Model;
@@ -67,6 +68,27 @@ impl Ends {
         ensures bound { result < 2 ^ 63 }
     {
         self.items.len()
+    }
+
+    /// Whether the end at a place is one of an application at a node.
+    fn is_of(&self, place: usize, node: Node, app: &AppName) -> bool
+        ensures { result ≡ is_of node app.now (slice_get self.now place) }
+    {
+        match self.get(place) {
+            None => false,
+            Some(end) => end.port.node == node && end.app.is(app),
+        }
+    }
+
+    /// Where the oldest end of an application at a node stands in a list of places, which has the oldest first. None
+    /// exactly where no end of these places is one. Takes no memory.
+    pub fn oldest(&self, waiting: &[usize], node: Node, app: &AppName) -> Option<usize>
+        ensures at { result ≡ oldest_in self.now waiting.now node app.now }
+        ensures within { IfSome result (λ i. i < length waiting.now) }
+    {
+        waiting
+            .iter()
+            .position(|place| self.is_of(*place, node, app))
     }
 
     /// All ends, in the order in which they were made.

@@ -9,7 +9,7 @@ use Rattle.rina_data.proofs.Finding.{there}
 use Rattle.rina_plan.specs.declared.dif.DifPlan.{DifPlan}
 use Rattle.rina_stack.specs.declared.plan.Plan.{Plan}
 use Rattle.rina_dif.specs.declared.dif.Dif.{Dif}
-use Rattle.rina_dif.specs.declared.rerouting.Layout.{Layout}
+use Rattle.rina_dif.specs.declared.layout.Layout.{Layout}
 use Rattle.rina_dif.specs.Laying.{IsNew}
 use Rattle.rina_tower.specs.declared.tower.Tower.{Tower, Rank', Wires}
 use Rattle.rina_tower.specs.Calls.{Serves}

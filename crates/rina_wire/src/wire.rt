@@ -3,7 +3,7 @@ ghost use Rattle.std.specs.Prelude.{◌≡◌, ◌+◌, ◌<◌, ◌≤◌, ◌�
 ghost use Rattle.rina_iface.specs.declared.ends.End.{End};
 ghost use Rattle.rina_iface.specs.declared.state.PortState.TheVariants.{Allocated};
 ghost use Rattle.rina_iface.specs.Ends.{end_in, place_in};
-ghost use Rattle.rina_iface.specs.Seen.{is_member, is_of, is_registered, meets, oldest_in};
+ghost use Rattle.rina_iface.specs.Seen.{is_member, is_registered, meets, oldest_in};
 ghost use Rattle.rina_wire.specs.Air.{offer_of};
 ghost use Rattle.rina_wire.specs.Allocate.{flow_made, flow_on, is_allocated, is_busy, other_node, port_on};
 ghost use Rattle.rina_wire.specs.Claim.{claim_in, without};
@@ -68,26 +68,6 @@ fn name_place(names: &[Registered], node: Node, app: &AppName) -> Option<usize>
     names
         .iter()
         .position(|one| one.node == node && one.app.is(app))
-}
-
-/// Whether the end at this place is one of an application at a node.
-fn is_of(ends: &Ends, place: usize, node: Node, app: &AppName) -> bool
-    ensures { result ≡ is_of node app.now (slice_get ends.now place) }
-{
-    match ends.get(place) {
-        None => false,
-        Some(end) => end.port.node == node && end.app.is(app),
-    }
-}
-
-/// Where the oldest far end of an application at a node stands among those that wait.
-fn oldest(ends: &Ends, waiting: &[usize], node: Node, app: &AppName) -> Option<usize>
-    ensures at { result ≡ oldest_in ends.now waiting.now node app.now }
-    ensures within { IfSome result (λ i. i < length waiting.now) }
-{
-    waiting
-        .iter()
-        .position(|place| is_of(ends, *place, node, app))
 }
 
 /// The port of the flow that the wire carries now, at a node.
@@ -256,7 +236,10 @@ impl Wire {
         ensures answers { result ≡ option_map (λ (e : End). e.port) (claim_in self.old node app.now) }
         ensures line { self.new ≡ without self.old (oldest_in self.old.ends self.old.waiting node app.now) }
     {
-        let at = oldest(&self.journal.ends, self.waiting.as_slice(), node, app)?;
+        let at = self
+            .journal
+            .ends
+            .oldest(self.waiting.as_slice(), node, app)?;
         let place = self.waiting.remove(at);
         let end = self.journal.ends.get(place)?;
         Some(end.port)

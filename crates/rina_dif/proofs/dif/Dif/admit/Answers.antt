@@ -14,10 +14,10 @@ returns-in_err-check_window-clause-err c =
     rw (p.1, p.2) (barred_by_window c.args.self.now c.args.at c.args.sdu.now c.in-Some-Some.end.now conn c.need-need.result c.room.result c.in_err-check_window.field-0.0 (record { end_is = c.in-Some-Some.ensures; conn_is = c.in-Some-Some.ensures' }) c.in_ok-check_end.ensures.ok.0 c.in_ok-check_end.ensures.ok.1 (c.need-need.ensures conn c.in-Some-Some.ensures') (c.room.ensures conn c.in-Some-Some.ensures') c.need-need.type_inv c.in_err-check_window.ensures.err.0 c.in_err-check_window.ensures.err.1)
 
 pub first_hop-requires-clause-qos : goal.first_hop-requires-clause-qos
-way-requires-clause-qos c = (is_ready c.args.self.now c.requires.valid.below c.args.at c.args.sdu.now c.in-Some-Some.end.now c.in-Some-Some.conn.now c.requires.valid.stands (record { end_is = c.in-Some-Some.ensures; conn_is = c.in-Some-Some.ensures' })).qos
+first_hop-requires-clause-qos c = (is_ready c.args.self.now c.requires.valid.below c.args.at c.args.sdu.now c.in-Some-Some.end.now c.in-Some-Some.conn.now c.requires.valid.stands (record { end_is = c.in-Some-Some.ensures; conn_is = c.in-Some-Some.ensures' })).qos
 
 pub first_hop-requires-clause-some : goal.first_hop-requires-clause-some
-way-requires-clause-some c =
+first_hop-requires-clause-some c =
     let conn = c.in-Some-Some.conn.now in
     (is_ready c.args.self.now c.requires.valid.below c.args.at c.args.sdu.now c.in-Some-Some.end.now conn c.requires.valid.stands (record { end_is = c.in-Some-Some.ensures; conn_is = c.in-Some-Some.ensures' })).some c.need-need.result (c.need-need.ensures conn c.in-Some-Some.ensures')
 

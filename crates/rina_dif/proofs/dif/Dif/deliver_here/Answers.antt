@@ -24,7 +24,7 @@ returns-in_default-clause-does c =
     own_none d at since hop c.write_off.new.self c.requires.at c.requires.own c.in_default.ensures c.in_ok-write_off.ensures
 
 pub on_ack-requires : goal.on_ack-requires
-told-requires c =
+on_ack-requires c =
     let d = c.args.self.now in
     let at = c.args.at in
     let since = c.args.came.now.since in

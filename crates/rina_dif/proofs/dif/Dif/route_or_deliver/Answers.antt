@@ -23,23 +23,23 @@ returns-in_err-route_or_deliver-clause-does c =
     settles_err d at since hop e err.0 c.from_residual.result _ (decided_err d c.in-Some.member.now.addr at since hop e c.route_or_deliver.new.self c.requires.at c.in_err-route_or_deliver.ensures) err.1
 
 pub deliver_here-requires-clause-comes : goal.deliver_here-requires-clause-comes
-own-requires-clause-comes c =
+deliver_here-requires-clause-comes c =
     let d = c.args.self.now in
     let at = c.args.at in
     let since = c.args.came.now.since in
     let hop = hop_of c.args.came.now.hop in
     let m = c.in-Some.member.now in
-    let me = decided_own d m.addr at since hop c.route_or_deliver.new.self c.requires.comes c.requires.at (its_addr d at m c.in-Some.ensures) (rw c.in-Own.is at c.in_ok-route_or_deliver.ensures) in
+    let me = decided_own d m.addr at since hop c.route_or_deliver.new.self c.requires.comes c.requires.at (its_addr d at m c.in-Some.ensures) (rw c.in-Here.is at c.in_ok-route_or_deliver.ensures) in
     comes_on d at since hop c.route_or_deliver.new.self me c.requires.comes
 
 pub deliver_here-requires-clause-own : goal.deliver_here-requires-clause-own
-own-requires-clause-own c =
+deliver_here-requires-clause-own c =
     let d = c.args.self.now in
     let at = c.args.at in
     let since = c.args.came.now.since in
     let hop = hop_of c.args.came.now.hop in
     let m = c.in-Some.member.now in
-    (decided_own d m.addr at since hop c.route_or_deliver.new.self c.requires.comes c.requires.at (its_addr d at m c.in-Some.ensures) (rw c.in-Own.is at c.in_ok-route_or_deliver.ensures)).own
+    (decided_own d m.addr at since hop c.route_or_deliver.new.self c.requires.comes c.requires.at (its_addr d at m c.in-Some.ensures) (rw c.in-Here.is at c.in_ok-route_or_deliver.ensures)).own
 
 pub returns-in-Relayed-clause-does : goal.returns-in-Relayed-clause-does
 returns-in-Relayed-clause-does c =
@@ -59,12 +59,12 @@ returns-in-Off-clause-does c =
     let m = c.in-Some.member.now in
     decided_off d m.addr at since hop c.in-Off.cause c.route_or_deliver.new.self c.requires.at (its_addr d at m c.in-Some.ensures) (rw c.in-Off.is at c.in_ok-route_or_deliver.ensures)
 
-pub returns-in-Own-clause-does : goal.returns-in-Own-clause-does
-returns-in-Own-clause-does c =
+pub returns-in-Here-clause-does : goal.returns-in-Here-clause-does
+returns-in-Here-clause-does c =
     let d = c.args.self.now in
     let at = c.args.at in
     let since = c.args.came.now.since in
     let hop = hop_of c.args.came.now.hop in
     let m = c.in-Some.member.now in
-    let me = decided_own d m.addr at since hop c.route_or_deliver.new.self c.requires.comes c.requires.at (its_addr d at m c.in-Some.ensures) (rw c.in-Own.is at c.in_ok-route_or_deliver.ensures) in
+    let me = decided_own d m.addr at since hop c.route_or_deliver.new.self c.requires.comes c.requires.at (its_addr d at m c.in-Some.ensures) (rw c.in-Here.is at c.in_ok-route_or_deliver.ensures) in
     settles_on d at since hop c.route_or_deliver.new.self c.deliver_here.result c.deliver_here.new.self me c.deliver_here.ensures.does

@@ -2,7 +2,7 @@ use Rattle.std.proofs.Common.{refl}
 use Rattle.rina_tower.specs.Bystanders.{Anyone}
 use Rattle.rina_tower.proofs.Alone.{same_alone}
 use Rattle.rina_tower.proofs.Failed.{below_failed, rank_follows}
-use Rattle.rina_tower.proofs.tower.Tower.+fail.Goals as goal
+use Rattle.rina_tower.proofs.tower.Tower.+remember_memory_failure.Goals as goal
 
 pub returns-in-Wires-clause-follows : goal.returns-in-Wires-clause-follows
 returns-in-Wires-clause-follows t c = rw c.in-Wires.is (record { valid = c.remember_memory_failure.ensures.valid; quiet = same_alone Anyone _ _ c.remember_memory_failure.ensures.journals; height = refl })
