@@ -1,5 +1,5 @@
 //! Notes: a text of each kind, read and printed, and the first fault of a text that is none.
-use crate::schedule::is_fault;
+use crate::schedule::{is_fault, parts};
 use rina_report::{Answer, Note, print_note, read_note};
 use std::alloc::Global;
 
@@ -20,11 +20,11 @@ fn returns(alloc: Global, text: &[u8]) -> bool {
 }
 
 /// Whether the text before a bar has the fault that is written behind it.
-fn refuses(alloc: Global, row: &str) -> bool {
-    let Some((text, fault)) = row.split_once("|") else {
+fn refuses(alloc: Global, row: &[u8]) -> bool {
+    let Some((text, fault)) = parts(row) else {
         return false;
     };
-    match read_note(alloc, text.as_bytes()) {
+    match read_note(alloc, text) {
         Ok(_) => false,
         Err(first) => is_fault(first, fault),
     }
@@ -158,14 +158,14 @@ fn each_text_is_read_and_printed(rt: HostRuntime) {
 
 /// Texts that are no notes, a bar, and the first fault, with its field.
 const FAULTS: &str = "\
-|UnknownWord
-ok|UnknownWord
-1 ok|UnknownWord
-1 0|UnknownWord
-01 0 ok|UnknownWord
-1 +0 ok|UnknownWord
-1 0 okay|UnknownWord
-1 0  ok|UnknownWord
+|UnknownWord 0
+ok|UnknownWord 0
+1 ok|UnknownWord 0
+1 0|UnknownWord 0
+01 0 ok|UnknownWord 0
+1 +0 ok|UnknownWord 0
+1 0 okay|UnknownWord 0
+1 0  ok|UnknownWord 0
 1 0 ok |BadName 1
 1 0 sent|MissingField 1
 1 0 sent 0|BadNumber 1
@@ -186,6 +186,6 @@ checked 2 1 0 6 0|Extra 5";
 #[test]
 fn the_first_fault_of_a_text_is_told(rt: HostRuntime) {
     for row in FAULTS.lines() {
-        assert!(rt; refuses(rt.alloc(), row), "{row}");
+        assert!(rt; refuses(rt.alloc(), row.as_bytes()), "{row}");
     }
 }

@@ -13,35 +13,52 @@ fn prints(alloc: Global, line: &[u8], printed: &[u8]) -> bool {
     }
 }
 
+/// What stands before and behind the bar of a row.
+pub(crate) fn parts(row: &[u8]) -> Option<(&[u8], &[u8])> {
+    let at = row.iter().position(|byte| *byte == b'|')?;
+    let (text, rest) = row.split_at(at);
+    match rest {
+        [_, written @ ..] => Some((text, written)),
+        [] => None,
+    }
+}
+
 /// Whether the text before a bar is read, and printed as the text behind it.
-fn prints_as(alloc: Global, row: &str) -> bool {
-    match row.split_once("|") {
-        Some((line, printed)) => prints(alloc, line.as_bytes(), printed.as_bytes()),
+fn prints_as(alloc: Global, row: &[u8]) -> bool {
+    match parts(row) {
+        Some((line, printed)) => prints(alloc, line, printed),
         None => false,
     }
 }
 
-/// A fault by its name and its field, as the tables of these tests write it.
-pub(crate) fn is_fault(fault: LineError, written: &str) -> bool {
-    let (word, field) = written.split_once(" ").unwrap_or((written, "0"));
-    let (name, n) = match fault {
-        LineError::Memory => ("Memory", 0),
-        LineError::UnknownWord => ("UnknownWord", 0),
-        LineError::MissingField { n } => ("MissingField", n),
-        LineError::BadNumber { n } => ("BadNumber", n),
-        LineError::BadName { n } => ("BadName", n),
-        LineError::Extra { n } => ("Extra", n),
-        LineError::BadBytes { n } => ("BadBytes", n),
-    };
-    word == name && field.parse::<u32>() == Ok(n)
+/// The name of a fault, and its field.
+fn named(fault: LineError) -> (&'static [u8], u32) {
+    match fault {
+        LineError::Memory => (b"Memory", 0),
+        LineError::UnknownWord => (b"UnknownWord", 0),
+        LineError::MissingField { n } => (b"MissingField", n),
+        LineError::BadNumber { n } => (b"BadNumber", n),
+        LineError::BadName { n } => (b"BadName", n),
+        LineError::Extra { n } => (b"Extra", n),
+        LineError::BadBytes { n } => (b"BadBytes", n),
+    }
+}
+
+/// Whether this is how a row writes a fault: its name, a space, and the digit of its field.
+pub(crate) fn is_fault(fault: LineError, written: &[u8]) -> bool {
+    let (name, n) = named(fault);
+    match written {
+        [word @ .., b' ', digit] => word == name && u64::from(*digit) == u64::from(n) + 48,
+        _ => false,
+    }
 }
 
 /// Whether the text before a bar has the fault that is written behind it.
-fn refuses(alloc: Global, row: &str) -> bool {
-    let Some((line, fault)) = row.split_once("|") else {
+fn refuses(alloc: Global, row: &[u8]) -> bool {
+    let Some((line, fault)) = parts(row) else {
         return false;
     };
-    match read_line(alloc, line.as_bytes()) {
+    match read_line(alloc, line) {
         Ok(_) => false,
         Err(first) => is_fault(first, fault),
     }
@@ -108,14 +125,14 @@ rib d a /dif/flow/1!2|rib d a /dif/flow/1!2";
 #[test]
 fn other_spellings_are_printed_in_one(rt: HostRuntime) {
     for row in SPELLINGS.lines() {
-        assert!(rt; prints_as(rt.alloc(), row), "{row}");
+        assert!(rt; prints_as(rt.alloc(), row.as_bytes()), "{row}");
     }
 }
 
 /// Lines, a bar, and the first fault from the left, with its field.
 const FAULTS: &str = "\
-Register w b echo|UnknownWord
-\tregister w b echo|UnknownWord
+Register w b echo|UnknownWord 0
+\tregister w b echo|UnknownWord 0
 register w b|MissingField 3
 register W b|BadName 1
 register w b echo x|Extra 4
@@ -142,13 +159,20 @@ round 1|Extra 1";
 #[test]
 fn the_first_fault_from_the_left_is_told(rt: HostRuntime) {
     for row in FAULTS.lines() {
-        assert!(rt; refuses(rt.alloc(), row), "{row}");
+        assert!(rt; refuses(rt.alloc(), row.as_bytes()), "{row}");
     }
 }
 
+/// Lines that are blank or remarks.
+const REMARKS: &str = "\
+#
+
+   
+  # send p";
+
 #[test]
 fn blank_lines_and_remarks_ask_for_nothing(rt: HostRuntime) {
-    for line in "|   |#|  # send p".split("|") {
+    for line in REMARKS.lines() {
         assert!(rt; is_silent(rt.alloc(), line.as_bytes()), "{line}");
     }
 }
