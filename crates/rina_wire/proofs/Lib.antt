@@ -12,6 +12,7 @@ pub mod Later
 pub mod LaterTick
 pub mod Left
 pub mod Mates
+pub mod Refused
 pub mod Restated
 pub mod Seen
 pub mod Sound

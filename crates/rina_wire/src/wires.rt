@@ -44,7 +44,7 @@ fn lay(alloc: Global, plans: &[WirePlan]) -> Result<Vec<Wire>, AllocError>
 }
 
 impl Wires {
-    /// The wires of a plan at tick 0. Nobody has used them yet.
+    /// The wires of a plan at tick 0. No flow was made on them yet.
     #[tactic(auto, using(crate::proofs::Start::sound_start))]
     pub fn new(alloc: Global, plan: &Plan) -> Result<Wires, Memory>
         requires { IsSoundPlan plan.now }

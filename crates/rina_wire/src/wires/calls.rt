@@ -7,17 +7,32 @@ ghost use Rattle.rina_wire.specs.Bind.{BindsOn};
 ghost use Rattle.rina_wire.specs.Claim.{ClaimsOn};
 ghost use Rattle.rina_wire.specs.Free.{FreesOn};
 ghost use Rattle.rina_wire.specs.Register.{RegistersOn};
-ghost use Rattle.rina_wire.specs.Send.{SendsOn, passed, unpassed_at};
+ghost use Rattle.rina_iface.specs.Send.{by_length};
+ghost use Rattle.rina_wire.specs.Send.{SendsOn, frame_refusal, passed, unpassed_at};
 ghost use Rattle.rina_wire.specs.Sound.{IsSoundLine};
 ghost use Rattle.rina_wire.specs.Unregister.{UnregistersOn};
 
 use super::Wires;
-use crate::wire::frame_number;
+use crate::wire::{Wire, frame_number};
 use rina_base::{AppName, Node, Num, Port};
 use rina_iface::{
     AllocateError, Ask, Fixed, FreeError, PortState, RegisterError, SendError, UnregisterError,
 };
 use std::alloc::Global;
+
+/// Why a wire refuses a frame of so many bytes: it is too long, or the wire's numbers are spent.
+fn frame_refusal(wire: &Wire, len: usize) -> Option<SendError>
+    ensures { result ≡ by_length len (Some wire.now.largest) (frame_refusal wire.now) }
+{
+    let max = wire.largest();
+    if len > max as usize {
+        return Some(SendError::TooLong { len, max });
+    }
+    if wire.is_spent() {
+        return Some(SendError::NumbersSpent { until: u32::MAX });
+    }
+    None
+}
 
 impl Wires {
     /// Registers an application at a node.
@@ -152,6 +167,7 @@ impl Wires {
     }
 
     /// Sends a frame.
+    #[tactic(auto, using(crate::proofs::Refused::sends_refused))]
     pub(super) fn send_frame(
         &mut self,
         alloc: Global,
@@ -179,14 +195,8 @@ impl Wires {
             PortState::Failed(fail) => return Err(SendError::Failed { fail }),
             state => return Err(SendError::NotAllocated { state: Some(state) }),
         }
-        if sdu.len() > wire.largest() as usize {
-            return Err(SendError::TooLong {
-                len: sdu.len(),
-                max: wire.largest(),
-            });
-        }
-        if wire.is_spent() {
-            return Err(SendError::NumbersSpent { until: u32::MAX });
+        if let Some(error) = frame_refusal(wire, sdu.len()) {
+            return Err(error);
         }
         let num = frame_number(wire.frames());
         if self.wires[port.fac as usize]
