@@ -10,9 +10,7 @@ use std::test::*;
 /// 64 bytes, each of which may stand in a name.
 const LONG: &[u8] = b"abcdefghijklmnopqrstuvwxyz0123456789.-_abcdefghijklmnopqrstuvwxy";
 
-fn is_space(b: &u8) -> bool
-    ensures { result ≡ (b.now == 32) }
-{
+fn is_space(b: &u8) -> bool {
     *b == b' '
 }
 

@@ -1,16 +1,12 @@
-//! Sessions, objects, ids, versioned items, enrolments and asks: worked steps, and bytes from outside. Tests alone.
+//! Sessions, objects, access rules, ids, versioned items and the directory: worked steps. Tests alone.
 #![tactic(auto)]
 
 #[cfg(test)]
 mod access;
 #[cfg(test)]
-mod alloc;
-#[cfg(test)]
 mod answer;
 #[cfg(test)]
 mod dir;
-#[cfg(test)]
-mod enrol;
 #[cfg(test)]
 mod ids;
 #[cfg(test)]
