@@ -1,6 +1,6 @@
 -- How the steps of a round are put together.
 use Rattle.std.proofs.Common.{◌≡◌, ◌∙◌, ℕ, ◌+◌, ◌<◌, ◌≤◌, Bool, true, zero, suc, List, [], ◌∷◌, ◌++◌, get_or, length, map, take, slice_get, Some, Result, Ok, Err, refl, sym, ap, subst, append_assoc}
-use Rattle.std.proofs.lemmas.List.{append-nil, map-append, in_steps, take_more}
+use Rattle.std.proofs.lemmas.List.{append-nil, map-append, take_all, take_more}
 use Rattle.rina_policy.specs.Slots.{Slot}
 use Rattle.rina_tower.specs.declared.tower.Tower.{Tower}
 use Rattle.rina_tower.specs.Bystanders.{Anyone, LeavesNow}
@@ -80,7 +80,7 @@ pub runs_next : {P : Type 0} (At : P → List Move → Type 0) (ps : List P) (k 
 runs_next {P = P} At ps k d a b c t u v lt x y = subst (λ (qs : List P). Runs (InTurn At qs) a t c v) (sym (take_more ps k d lt)) (runs_more At (take k ps) (get_or ps k d) a b c t u v x y)
 
 pub runs_all : {P : Type 0} (At : P → List Move → Type 0) (ps qs : List P) (k : ℕ) (a c : List Slot) (t v : Tower) → ps ≡ qs → length ps ≤ k → Runs (InTurn At (take k ps)) a t c v → Runs (InTurn At qs) a t c v
-runs_all {P = P} At ps qs k a c t v is past x = subst (λ (rs : List P). Runs (InTurn At rs) a t c v) (in_steps k ps past ∙ is) x
+runs_all {P = P} At ps qs k a c t v is past x = subst (λ (rs : List P). Runs (InTurn At rs) a t c v) (take_all k ps past ∙ is) x
 
 -- A round
 
