@@ -2,9 +2,12 @@
 //! standard output. Nothing else is printed.
 #![tactic(auto)]
 
+mod policies;
+
+use policies::{added, name_of};
 use rina_base::Memory;
 use rina_io::{StdSink, StdSource};
-use rina_policy::Shelf;
+use rina_policy::{First, Last, Round, Shelf, Strict, Weighted};
 use rina_run::{Status, run};
 use std::process::ExitCode;
 use std::{env, io};
@@ -25,7 +28,27 @@ fn exit_code(status: Status) -> u8 {
 /// Runs the words over standard input and output, with the five built-in policies.
 fn run_words(rt: &HostRuntime, words: &[String]) -> Result<Status, Memory> {
     let alloc = rt.alloc();
-    let shelf = Shelf::built_in(alloc)?;
+    let mut shelf = Shelf::new(alloc)?;
+    let Ok(strict) = Box::new(alloc, Strict::new()) else {
+        return Err(Memory);
+    };
+    added(shelf.add(alloc, name_of(alloc, "strict")?, strict))?;
+    let Ok(last) = Box::new(alloc, Last::new()) else {
+        return Err(Memory);
+    };
+    added(shelf.add(alloc, name_of(alloc, "last")?, last))?;
+    let Ok(first) = Box::new(alloc, First::new()) else {
+        return Err(Memory);
+    };
+    added(shelf.add(alloc, name_of(alloc, "first")?, first))?;
+    let Ok(round) = Box::new(alloc, Round::new()) else {
+        return Err(Memory);
+    };
+    added(shelf.add(alloc, name_of(alloc, "round")?, round))?;
+    let Ok(weighted) = Box::new(alloc, Weighted::new()) else {
+        return Err(Memory);
+    };
+    added(shelf.add(alloc, name_of(alloc, "weighted")?, weighted))?;
     let mut input = StdSource::new(rt.reader());
     let mut out = StdSink::new(io::writer(rt));
     let outcome = run(alloc, words, &mut input, &mut out, shelf);

@@ -7,11 +7,28 @@ use crate::kinds_rows::KINDS_ROWS;
 use crate::spent_rows::SPENT_ROWS;
 use crate::tall_rows::TALL_ROWS;
 use crate::wire_rows::WIRE_ROWS;
+use rina_base::Name;
 use rina_io::{MemSink, MemSource};
-use rina_policy::Shelf;
+use rina_policy::{First, Last, Round, Shelf, Strict, Weighted};
 use rina_run::{Outcome, run};
 use std::alloc::Global;
 use std::test::Fail;
+
+/// A shelf with the five built-in policies.
+fn make_shelf(alloc: Global) -> Result<Shelf, Fail> {
+    let mut shelf = Shelf::new(alloc)?;
+    let name = Name::read(alloc, b"strict")?;
+    shelf.add(alloc, name, Box::new(alloc, Strict::new())?)?;
+    let name = Name::read(alloc, b"last")?;
+    shelf.add(alloc, name, Box::new(alloc, Last::new())?)?;
+    let name = Name::read(alloc, b"first")?;
+    shelf.add(alloc, name, Box::new(alloc, First::new())?)?;
+    let name = Name::read(alloc, b"round")?;
+    shelf.add(alloc, name, Box::new(alloc, Round::new())?)?;
+    let name = Name::read(alloc, b"weighted")?;
+    shelf.add(alloc, name, Box::new(alloc, Weighted::new())?)?;
+    Ok(shelf)
+}
 
 /// Runs an input with these words; reads and writes fail at the calls that are told.
 pub(crate) fn outcome_of(
@@ -27,7 +44,7 @@ pub(crate) fn outcome_of(
     }
     let mut source = MemSource::new(input.as_bytes().to_vec(alloc)?, reads.to_vec(alloc)?);
     let mut sink = MemSink::new(Vec::new(alloc), writes.to_vec(alloc)?);
-    let shelf = Shelf::built_in(alloc)?;
+    let shelf = make_shelf(alloc)?;
     let outcome = run(alloc, owned.as_slice(), &mut source, &mut sink, shelf);
     Ok((outcome, sink))
 }
