@@ -1,3 +1,1 @@
-mod Appended
-mod Names
 mod Places

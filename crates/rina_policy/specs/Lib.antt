@@ -1,4 +1,3 @@
-pub mod BuiltIn
 pub mod Count
 pub mod Heads
 pub mod Slots

@@ -6,7 +6,6 @@ mod count;
 mod picks;
 mod policy;
 mod shelf;
-mod standard;
 
 pub use built_in::{First, Last, Round, Strict, Weighted};
 pub use count::Count;
