@@ -145,20 +145,3 @@ fn a_retired_policy_is_not_asked(rt: HostRuntime) -> Result<(), Fail> {
     assert_eq!(rt; shelf.add(alloc, back, again), Err(ShelfError::Twice));
     Ok(())
 }
-
-#[test]
-fn the_first_shelf_has_the_built_in_policies(rt: HostRuntime) -> Result<(), Fail> {
-    let alloc = rt.alloc();
-    let shelf = Shelf::built_in(alloc)?;
-    for name in [
-        b"strict".as_slice(),
-        b"last",
-        b"first",
-        b"round",
-        b"weighted",
-    ] {
-        assert!(rt; shelf.has(&Name::read(alloc, name)?));
-    }
-    assert!(rt; !shelf.has(&Name::read(alloc, b"fair")?));
-    Ok(())
-}
