@@ -1,4 +1,4 @@
-pub mod Lines
+pub mod InputLines
 pub mod Texts
 pub mod Playing
 pub mod Ending

@@ -122,7 +122,7 @@ fn behind_first<'a, 'b>(lines: &'b [&'a [u8]]) -> &'b [&'a [u8]]
 
 /// The text of the stack before the mark, and the lines of the schedule behind it. Where there is no
 /// mark, the whole input is the stack, and None is answered if it was not read whole.
-#[tactic(auto, using(crate::proofs::Lines::marked, crate::proofs::Lines::unmarked, crate::proofs::Lines::nothing_read))]
+#[tactic(auto, using(crate::proofs::InputLines::marked, crate::proofs::InputLines::unmarked, crate::proofs::InputLines::nothing_read))]
 pub fn split_input<'a, 'b>(
     alloc: Global,
     whole: bool,

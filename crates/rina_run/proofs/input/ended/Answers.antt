@@ -1,5 +1,5 @@
 use Rattle.std.proofs.Common.{sym, ◌∙◌, ap}
-use Rattle.rina_run.proofs.Lines.{bytes_of, ended_short, ended_whole}
+use Rattle.rina_run.proofs.InputLines.{bytes_of, ended_short, ended_whole}
 use Rattle.rina_run.proofs.input.ended.Goals as goal
 
 pub returns-then-last_is_open-clause-value : goal.returns-then-last_is_open-clause-value

@@ -1,4 +1,4 @@
-use Rattle.rina_run.proofs.Lines.{joined_more}
+use Rattle.rina_run.proofs.InputLines.{joined_more}
 use Rattle.rina_run.proofs.input.joined.Goals as goal
 
 pub loop-line-preserved : goal.loop-line-preserved

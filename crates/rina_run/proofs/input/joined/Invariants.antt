@@ -1,6 +1,6 @@
 use Rattle.std.proofs.Common.{◌≡◌, ◌++◌, drop}
 use Rattle.std.specs.List.{flat_map}
-use Rattle.rina_run.proofs.Lines.{bytes_of}
+use Rattle.rina_run.proofs.InputLines.{bytes_of}
 use Rattle.rina_run.proofs.input.joined.Given as goal
 
 abbrev pub invariant-loop-line : goal.invariant-loop-line

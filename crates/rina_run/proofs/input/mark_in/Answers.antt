@@ -1,6 +1,6 @@
 use Rattle.std.proofs.Common.{sym, ◌∙◌}
 use Rattle.rina_run.specs.Script.{is_mark}
-use Rattle.rina_run.proofs.Lines.{position_seen}
+use Rattle.rina_run.proofs.InputLines.{position_seen}
 use Rattle.rina_run.proofs.input.mark_in.Goals as goal
 
 pub returns-clause-place : goal.returns-clause-place
