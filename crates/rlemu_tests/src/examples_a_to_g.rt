@@ -303,6 +303,48 @@ read q
 10 23 none
 end 23
 ====
+# The wire is cut under a flow, which fails at both ends; once it is mended it may be asked for again.
+nodes = [\"a\", \"b\"]
+[[wire]]
+name = \"w\"
+ends = [\"a\", \"b\"]
+delay = 2
+life = 10
+largest = 1500
+%%
+register w b echo
+alloc p w a ping echo
+accept q w b echo
+send p 'hello
+cut w
+tick 2
+read q
+send p 'again
+mend w
+alloc p2 w a ping echo
+accept q2 w b echo
+send p2 'hello
+tick 2
+read q2
+----
+1 0 ok
+2 0 ok allocated
+3 0 ok allocated
+4 0 sent 0.0
+5 0 ok
+5 0 state p failed Cut 0
+5 0 state q failed Cut 0
+6 2 ok
+7 2 none
+8 2 no Failed Cut 0
+9 2 ok
+10 2 ok allocated
+11 2 ok allocated
+12 2 sent 0.1
+13 4 ok
+14 4 got 4 'hello
+end 4
+====
 # Nothing was sent for 216 ticks: the sender has forgotten its connection, and begins again at number 0.
 nodes = [\"a\", \"b\"]
 [[wire]]

@@ -2,6 +2,155 @@
 //! `bin/examples-as-tests` from the folder examples/.
 
 pub(crate) static EXAMPLES_H_TO_P: &str = "\
+# A PDU stays first in its queue while the window of the reliable flow below is shut.
+rounds = \"manual\"
+nodes = [\"a\", \"b\", \"c\"]
+
+[[wire]]
+name = \"w1\"
+ends = [\"a\", \"b\"]
+delay = 2
+life = 10
+largest = 1500
+
+[[wire]]
+name = \"w2\"
+ends = [\"b\", \"c\"]
+delay = 3
+life = 12
+largest = 1400
+
+[[dif]]
+name = \"d1\"
+rank = 1
+static = true
+pdu = 96
+widths = { addr = 1, cep = 1, len = 2, seq = 2 }
+queue = 32
+policy = \"strict\"
+wait = 500
+manage = { mpl = 40, r = 30, a = 2, retry = 10, window = 8 }
+cube = [
+  { id = 1, kind = \"datagram\", mpl = 44, window = 16, largest = 80 },
+  { id = 2, kind = \"reliable\", mpl = 44, window = 4, largest = 240, r = 60, a = 3, retry = 20 },
+]
+member = [
+  { node = \"a\", addr = 1 },
+  { node = \"b\", addr = 2 },
+  { node = \"c\", addr = 3 },
+]
+link = [
+  { on = \"w1\", a = \"a\", b = \"b\" },
+  { on = \"w2\", a = \"b\", b = \"c\" },
+]
+flow = [
+  { cube = 2, from = { node = \"a\", app = \"s1\", label = \"p1\" }, to = { node = \"b\", app = \"t1\", label = \"q1\" } },
+]
+
+[[dif]]
+name = \"d2\"
+rank = 2
+static = true
+pdu = 80
+widths = { addr = 1, cep = 1, len = 2, seq = 2 }
+queue = 64
+policy = \"round\"
+wait = 501
+manage = { mpl = 64, r = 31, a = 4, retry = 11, window = 9 }
+cube = [
+  { id = 3, kind = \"datagram\", mpl = 150, window = 16, largest = 64 },
+]
+member = [
+  { node = \"a\", addr = 11 },
+  { node = \"c\", addr = 13 },
+]
+link = [
+  { on = \"d1\", a = \"a\", b = \"c\", cube = 2 },
+]
+flow = [
+  { cube = 3, from = { node = \"a\", app = \"s2\", label = \"p2\" }, to = { node = \"c\", app = \"t2\", label = \"q2\" } },
+]
+%%
+send p2 'a
+send p2 'b
+send p2 'c
+send p2 'd
+send p2 'e
+out d2 a 0
+out d2 a 0
+out d2 a 0
+out d2 a 0
+out d2 a 0
+ledger d2 a
+----
+1 0 sent 1.0
+2 0 sent 1.1
+3 0 sent 1.2
+4 0 sent 1.3
+5 0 sent 1.4
+6 0 out data 11.1.0
+7 0 out data 11.1.1
+8 0 out data 11.1.2
+9 0 out data 11.1.3
+10 0 held WindowShut 1 0
+11 0 none
+end 0
+====
+# A frame is lost on the way of a reliable flow: what came behind it is held, until the number that is missing was sent again.
+nodes = [\"a\", \"b\"]
+[[wire]]
+name = \"w\"
+ends = [\"a\", \"b\"]
+delay = 2
+life = 10
+largest = 1500
+[[dif]]
+name = \"d\"
+rank = 1
+static = true
+pdu = 96
+widths = { addr = 1, cep = 1, len = 2, seq = 2 }
+queue = 64
+policy = \"strict\"
+wait = 500
+manage = { mpl = 40, r = 30, a = 2, retry = 10, window = 8 }
+cube = [
+  { id = 1, kind = \"datagram\", mpl = 40, window = 16, largest = 80 },
+  { id = 2, kind = \"loose\", mpl = 40, window = 16, largest = 240 },
+  { id = 3, kind = \"reliable\", mpl = 40, r = 30, a = 2, retry = 10, window = 4, largest = 240 },
+]
+member = [ { node = \"a\", addr = 1 }, { node = \"b\", addr = 2 } ]
+link = [ { on = \"w\", a = \"a\", b = \"b\" } ]
+flow = [
+  { cube = 1, from = { node = \"a\", app = \"s1\", label = \"p1\" }, to = { node = \"b\", app = \"t1\", label = \"q1\" } },
+  { cube = 2, from = { node = \"a\", app = \"s2\", label = \"p2\" }, to = { node = \"b\", app = \"t2\", label = \"q2\" } },
+  { cube = 3, from = { node = \"a\", app = \"s3\", label = \"p3\" }, to = { node = \"b\", app = \"t3\", label = \"q3\" } },
+]
+%%
+send p3 'a
+tick 2
+send p3 'b
+send p3 'c
+lose w 1
+tick 2
+read q3
+ledger d b
+tick 10
+read q3
+----
+1 0 sent 3.0
+2 2 ok
+3 2 sent 3.1
+4 2 sent 3.2
+5 2 ok
+6 4 ok
+7 4 got 2 'a
+8 4 none
+9 14 ok
+10 14 got 14 'b
+10 14 got 14 'c
+end 14
+====
 # A frame is held back until its life ends, and no longer.
 nodes = [\"a\", \"b\"]
 [[wire]]
@@ -181,6 +330,56 @@ ledger d c
 4 10 off data 1.1.0 Expired 5 10
 end 10
 ====
+# A frame is lost on the wire: no ledger has it, and the journal of the wire has its sending alone.
+nodes = [\"a\", \"b\"]
+[[wire]]
+name = \"w\"
+ends = [\"a\", \"b\"]
+delay = 2
+life = 10
+largest = 1500
+[[dif]]
+name = \"d\"
+rank = 1
+static = true
+pdu = 96
+widths = { addr = 1, cep = 1, len = 2, seq = 2 }
+queue = 64
+policy = \"strict\"
+wait = 500
+manage = { mpl = 40, r = 30, a = 2, retry = 10, window = 8 }
+cube = [
+  { id = 1, kind = \"datagram\", mpl = 40, window = 16, largest = 80 },
+  { id = 2, kind = \"loose\", mpl = 40, window = 16, largest = 240 },
+  { id = 3, kind = \"reliable\", mpl = 40, r = 30, a = 2, retry = 10, window = 4, largest = 240 },
+]
+member = [ { node = \"a\", addr = 1 }, { node = \"b\", addr = 2 } ]
+link = [ { on = \"w\", a = \"a\", b = \"b\" } ]
+flow = [
+  { cube = 1, from = { node = \"a\", app = \"s1\", label = \"p1\" }, to = { node = \"b\", app = \"t1\", label = \"q1\" } },
+  { cube = 2, from = { node = \"a\", app = \"s2\", label = \"p2\" }, to = { node = \"b\", app = \"t2\", label = \"q2\" } },
+  { cube = 3, from = { node = \"a\", app = \"s3\", label = \"p3\" }, to = { node = \"b\", app = \"t3\", label = \"q3\" } },
+]
+%%
+send p1 'hello
+lose w 0
+tick 10
+read q1
+ledger d a
+ledger d b
+journal w
+----
+1 0 sent 1.0
+2 0 ok
+3 10 ok
+4 10 none
+5 10 none
+6 10 none
+7 10 flow 1.0.0 asker w/a/1 d/a d/b 0 0 allocated
+7 10 s 0 0.0 x0000001e01070101020101010011000068656c6c6f
+7 10 flow 1.0.0 far w/b/1 d/b d/a 0 0 allocated
+end 10
+====
 # A stack with a mistake. docs/stacks.md says what rule 8 is; item 2 is the second wire.
 nodes = [\"a\", \"b\", \"c\"]
 [[wire]]
@@ -251,6 +450,257 @@ rib d b /link
 5 2 obj /link/1 value '2:1
 5 2 obj /link/2 value '1:1
 end 2
+====
+# A wire carries a frame twice: the copy is written off, and the SDU comes once.
+nodes = [\"a\", \"b\"]
+[[wire]]
+name = \"w\"
+ends = [\"a\", \"b\"]
+delay = 2
+life = 10
+largest = 1500
+[[dif]]
+name = \"d\"
+rank = 1
+static = true
+pdu = 96
+widths = { addr = 1, cep = 1, len = 2, seq = 2 }
+queue = 64
+policy = \"strict\"
+wait = 500
+manage = { mpl = 40, r = 30, a = 2, retry = 10, window = 8 }
+cube = [
+  { id = 1, kind = \"datagram\", mpl = 40, window = 16, largest = 80 },
+  { id = 2, kind = \"loose\", mpl = 40, window = 16, largest = 240 },
+  { id = 3, kind = \"reliable\", mpl = 40, r = 30, a = 2, retry = 10, window = 4, largest = 240 },
+]
+member = [ { node = \"a\", addr = 1 }, { node = \"b\", addr = 2 } ]
+link = [ { on = \"w\", a = \"a\", b = \"b\" } ]
+flow = [
+  { cube = 1, from = { node = \"a\", app = \"s1\", label = \"p1\" }, to = { node = \"b\", app = \"t1\", label = \"q1\" } },
+  { cube = 2, from = { node = \"a\", app = \"s2\", label = \"p2\" }, to = { node = \"b\", app = \"t2\", label = \"q2\" } },
+  { cube = 3, from = { node = \"a\", app = \"s3\", label = \"p3\" }, to = { node = \"b\", app = \"t3\", label = \"q3\" } },
+]
+%%
+send p1 'hello
+repeat w 0 3
+tick 3
+read q1
+ledger d b
+----
+1 0 sent 1.0
+2 0 ok
+3 3 ok
+4 3 got 2 'hello
+5 3 off data 1.1.0 Duplicate 1.0
+end 3
+====
+# The other end was freed: what comes for it is written off.
+nodes = [\"a\", \"b\"]
+[[wire]]
+name = \"w\"
+ends = [\"a\", \"b\"]
+delay = 2
+life = 10
+largest = 1500
+[[dif]]
+name = \"d\"
+rank = 1
+static = true
+pdu = 96
+widths = { addr = 1, cep = 1, len = 2, seq = 2 }
+queue = 64
+policy = \"strict\"
+wait = 500
+manage = { mpl = 40, r = 30, a = 2, retry = 10, window = 8 }
+cube = [
+  { id = 1, kind = \"datagram\", mpl = 40, window = 16, largest = 80 },
+  { id = 2, kind = \"loose\", mpl = 40, window = 16, largest = 240 },
+  { id = 3, kind = \"reliable\", mpl = 40, r = 30, a = 2, retry = 10, window = 4, largest = 240 },
+]
+member = [ { node = \"a\", addr = 1 }, { node = \"b\", addr = 2 } ]
+link = [ { on = \"w\", a = \"a\", b = \"b\" } ]
+flow = [
+  { cube = 1, from = { node = \"a\", app = \"s1\", label = \"p1\" }, to = { node = \"b\", app = \"t1\", label = \"q1\" } },
+  { cube = 2, from = { node = \"a\", app = \"s2\", label = \"p2\" }, to = { node = \"b\", app = \"t2\", label = \"q2\" } },
+  { cube = 3, from = { node = \"a\", app = \"s3\", label = \"p3\" }, to = { node = \"b\", app = \"t3\", label = \"q3\" } },
+]
+%%
+free q1
+send p1 'hello
+tick 2
+ledger d b
+----
+1 0 ok
+1 0 state q1 closed
+2 0 sent 1.0
+3 2 ok
+4 2 off data 1.1.0 NoConnection 1
+end 2
+====
+# Nobody reads: as many SDUs as the window wait, and the next one is written off.
+nodes = [\"a\", \"b\"]
+[[wire]]
+name = \"w\"
+ends = [\"a\", \"b\"]
+delay = 2
+life = 10
+largest = 1500
+[[dif]]
+name = \"d\"
+rank = 1
+static = true
+pdu = 96
+widths = { addr = 1, cep = 1, len = 2, seq = 2 }
+queue = 64
+policy = \"strict\"
+wait = 500
+manage = { mpl = 40, r = 30, a = 2, retry = 10, window = 8 }
+cube = [
+  { id = 1, kind = \"datagram\", mpl = 40, window = 1, largest = 80 },
+  { id = 2, kind = \"loose\", mpl = 40, window = 16, largest = 240 },
+  { id = 3, kind = \"reliable\", mpl = 40, r = 30, a = 2, retry = 10, window = 4, largest = 240 },
+]
+member = [ { node = \"a\", addr = 1 }, { node = \"b\", addr = 2 } ]
+link = [ { on = \"w\", a = \"a\", b = \"b\" } ]
+flow = [
+  { cube = 1, from = { node = \"a\", app = \"s1\", label = \"p1\" }, to = { node = \"b\", app = \"t1\", label = \"q1\" } },
+  { cube = 2, from = { node = \"a\", app = \"s2\", label = \"p2\" }, to = { node = \"b\", app = \"t2\", label = \"q2\" } },
+  { cube = 3, from = { node = \"a\", app = \"s3\", label = \"p3\" }, to = { node = \"b\", app = \"t3\", label = \"q3\" } },
+]
+%%
+send p1 'a
+send p1 'b
+tick 2
+ledger d b
+read q1
+send p1 'c
+tick 2
+read q1
+----
+1 0 sent 1.0
+2 0 sent 1.1
+3 2 ok
+4 2 off data 1.1.1 NoRoom 1
+5 2 got 2 'a
+6 2 sent 1.2
+7 4 ok
+8 4 got 4 'c
+end 4
+====
+# The queue of a relay is full: two PDUs come to b in one tick, and one place waits for the link to c.
+rounds = \"manual\"
+nodes = [\"a\", \"b\", \"c\"]
+[[wire]]
+name = \"w\"
+ends = [\"a\", \"b\"]
+delay = 2
+life = 10
+largest = 1500
+[[wire]]
+name = \"v\"
+ends = [\"b\", \"c\"]
+delay = 2
+life = 10
+largest = 1500
+[[dif]]
+name = \"d\"
+rank = 1
+static = true
+pdu = 400
+widths = { addr = 1, cep = 1, len = 2, seq = 2 }
+queue = 1
+policy = \"strict\"
+wait = 500
+manage = { mpl = 40, r = 30, a = 2, retry = 10, window = 8 }
+cube = [
+  { id = 1, kind = \"datagram\", mpl = 40, window = 16, largest = 80 },
+  { id = 2, kind = \"loose\", mpl = 40, window = 16, largest = 240 },
+  { id = 3, kind = \"reliable\", mpl = 40, r = 30, a = 2, retry = 10, window = 4, largest = 240 },
+]
+member = [ { node = \"a\", addr = 1 }, { node = \"b\", addr = 2 }, { node = \"c\", addr = 3 } ]
+link = [ { on = \"w\", a = \"a\", b = \"b\" }, { on = \"v\", a = \"b\", b = \"c\" } ]
+flow = [
+  { cube = 1, from = { node = \"a\", app = \"s1\", label = \"p1\" }, to = { node = \"c\", app = \"t1\", label = \"q1\" } },
+]
+%%
+send p1 'a
+out d a 0
+send p1 'b
+out d a 0
+tick 2
+in d b 0
+in d b 0
+ledger d b
+out d b 1
+tick 2
+in d c 0
+read q1
+----
+1 0 sent 1.0
+2 0 out data 1.1.0
+3 0 sent 1.1
+4 0 out data 1.1.1
+5 2 ok
+6 2 in data 1.1.0 relayed
+7 2 in data 1.1.1 off QueueFull 1
+8 2 off data 1.1.1 QueueFull 1
+9 2 out data 1.1.0
+10 4 ok
+11 4 in data 1.1.0 accepted
+12 4 got 4 'a
+end 4
+====
+# The last piece of an SDU is lost: the others are held until the state of the receiver ends, 2 * mpl ticks after the last one came.
+nodes = [\"a\", \"b\"]
+[[wire]]
+name = \"w\"
+ends = [\"a\", \"b\"]
+delay = 2
+life = 10
+largest = 1500
+[[dif]]
+name = \"d\"
+rank = 1
+static = true
+pdu = 96
+widths = { addr = 1, cep = 1, len = 2, seq = 2 }
+queue = 64
+policy = \"strict\"
+wait = 500
+manage = { mpl = 40, r = 30, a = 2, retry = 10, window = 8 }
+cube = [
+  { id = 1, kind = \"datagram\", mpl = 40, window = 16, largest = 80 },
+  { id = 2, kind = \"loose\", mpl = 40, window = 16, largest = 240 },
+  { id = 3, kind = \"reliable\", mpl = 40, r = 30, a = 2, retry = 10, window = 4, largest = 240 },
+]
+member = [ { node = \"a\", addr = 1 }, { node = \"b\", addr = 2 } ]
+link = [ { on = \"w\", a = \"a\", b = \"b\" } ]
+flow = [
+  { cube = 1, from = { node = \"a\", app = \"s1\", label = \"p1\" }, to = { node = \"b\", app = \"t1\", label = \"q1\" } },
+  { cube = 2, from = { node = \"a\", app = \"s2\", label = \"p2\" }, to = { node = \"b\", app = \"t2\", label = \"q2\" } },
+  { cube = 3, from = { node = \"a\", app = \"s3\", label = \"p3\" }, to = { node = \"b\", app = \"t3\", label = \"q3\" } },
+]
+%%
+send p2 z200
+lose w 2
+tick 2
+ledger d b
+tick 79
+ledger d b
+tick 1
+ledger d b
+----
+1 0 sent 2.0
+2 0 ok
+3 2 ok
+4 2 none
+5 81 ok
+6 81 none
+7 82 ok
+8 82 off data 1.2.0 StateGone 2
+8 82 off data 1.2.1 StateGone 2
+end 82
 ====
 # Two of three SDUs are late. The cube is loose, in order with gaps: what comes behind a later SDU is written off,
 # and the ledger of b says so.

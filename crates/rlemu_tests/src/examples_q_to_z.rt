@@ -80,6 +80,70 @@ send p 'x
 8 0 no NotAllocated closed
 end 0
 ====
+# An SDU that was refused was not sent: too long, a window that is shut, an end that was freed.
+nodes = [\"a\", \"b\"]
+[[wire]]
+name = \"w\"
+ends = [\"a\", \"b\"]
+delay = 2
+life = 10
+largest = 1500
+[[dif]]
+name = \"d\"
+rank = 1
+static = true
+pdu = 96
+widths = { addr = 1, cep = 1, len = 2, seq = 2 }
+queue = 64
+policy = \"strict\"
+wait = 500
+manage = { mpl = 40, r = 30, a = 2, retry = 10, window = 8 }
+cube = [
+  { id = 1, kind = \"datagram\", mpl = 40, window = 16, largest = 80 },
+  { id = 2, kind = \"loose\", mpl = 40, window = 16, largest = 240 },
+  { id = 3, kind = \"reliable\", mpl = 40, r = 30, a = 2, retry = 10, window = 4, largest = 240 },
+]
+member = [ { node = \"a\", addr = 1 }, { node = \"b\", addr = 2 } ]
+link = [ { on = \"w\", a = \"a\", b = \"b\" } ]
+flow = [
+  { cube = 1, from = { node = \"a\", app = \"s1\", label = \"p1\" }, to = { node = \"b\", app = \"t1\", label = \"q1\" } },
+  { cube = 2, from = { node = \"a\", app = \"s2\", label = \"p2\" }, to = { node = \"b\", app = \"t2\", label = \"q2\" } },
+  { cube = 3, from = { node = \"a\", app = \"s3\", label = \"p3\" }, to = { node = \"b\", app = \"t3\", label = \"q3\" } },
+]
+%%
+send p1 z81
+send p3 'a
+send p3 'b
+send p3 'c
+send p3 z160
+send p3 'd
+tick 6
+send p3 'e
+read q3
+tick 4
+send p3 'e
+free p1
+send p1 'x
+----
+1 0 no TooLong 81 80
+2 0 sent 3.0
+3 0 sent 3.1
+4 0 sent 3.2
+5 0 no WindowShut 2 1
+6 0 sent 3.3
+7 6 ok
+8 6 no WindowShut 1 0
+9 6 got 2 'a
+9 6 got 2 'b
+9 6 got 2 'c
+9 6 got 2 'd
+10 10 ok
+11 10 sent 3.4
+12 10 ok
+12 10 state p1 closed
+13 10 no NotAllocated closed
+end 10
+====
 # The same three SDUs and the same delays. The cube is reliable: all come, in order. What came first without the flag
 # that begins a run is written off, and is sent again at tick 10.
 nodes = [\"a\", \"b\"]
@@ -263,6 +327,106 @@ read q
 7 8 got 8 'two
 end 8
 ====
+# The schedule writes every step: until each is written the SDU waits, at one rank or another.
+rounds = \"manual\"
+nodes = [\"a\", \"b\", \"c\"]
+
+[[wire]]
+name = \"w1\"
+ends = [\"a\", \"b\"]
+delay = 2
+life = 10
+largest = 1500
+
+[[wire]]
+name = \"w2\"
+ends = [\"b\", \"c\"]
+delay = 3
+life = 12
+largest = 1400
+
+[[dif]]
+name = \"d1\"
+rank = 1
+static = true
+pdu = 96
+widths = { addr = 1, cep = 1, len = 2, seq = 2 }
+queue = 32
+policy = \"strict\"
+wait = 500
+manage = { mpl = 40, r = 30, a = 2, retry = 10, window = 8 }
+cube = [
+  { id = 1, kind = \"datagram\", mpl = 44, window = 16, largest = 80 },
+  { id = 2, kind = \"reliable\", mpl = 44, window = 4, largest = 240, r = 60, a = 3, retry = 20 },
+]
+member = [
+  { node = \"a\", addr = 1 },
+  { node = \"b\", addr = 2 },
+  { node = \"c\", addr = 3 },
+]
+link = [
+  { on = \"w1\", a = \"a\", b = \"b\" },
+  { on = \"w2\", a = \"b\", b = \"c\" },
+]
+flow = [
+  { cube = 2, from = { node = \"a\", app = \"s1\", label = \"p1\" }, to = { node = \"b\", app = \"t1\", label = \"q1\" } },
+]
+
+[[dif]]
+name = \"d2\"
+rank = 2
+static = true
+pdu = 80
+widths = { addr = 1, cep = 1, len = 2, seq = 2 }
+queue = 64
+policy = \"round\"
+wait = 501
+manage = { mpl = 64, r = 31, a = 4, retry = 11, window = 9 }
+cube = [
+  { id = 3, kind = \"datagram\", mpl = 64, window = 16, largest = 64 },
+]
+member = [
+  { node = \"a\", addr = 11 },
+  { node = \"c\", addr = 13 },
+]
+link = [
+  { on = \"d1\", a = \"a\", b = \"c\", cube = 1 },
+]
+flow = [
+  { cube = 3, from = { node = \"a\", app = \"s2\", label = \"p2\" }, to = { node = \"c\", app = \"t2\", label = \"q2\" } },
+]
+%%
+send p2 'hello
+read q2
+ledger d2 a
+out d2 a 0
+out d2 a 0
+read q2
+out d1 a 0
+tick 2
+in d1 b 0
+out d1 b 1
+tick 3
+in d1 c 0
+in d2 c 0
+read q2
+----
+1 0 sent 1.0
+2 0 none
+3 0 none
+4 0 out data 11.1.0
+5 0 idle
+6 0 none
+7 0 out data 1.1.0
+8 2 ok
+9 2 in data 1.1.0 relayed
+10 2 out data 1.1.0
+11 5 ok
+12 5 in data 1.1.0 accepted
+13 5 in data 11.1.0 accepted
+14 5 got 5 'hello
+end 5
+====
 # Three ranks of DIFs on one wire: an SDU goes down all three and up again, in the ticks of the wire alone.
 nodes = [\"a\", \"b\"]
 [[wire]]
@@ -320,6 +484,83 @@ read q
 2 2 ok
 3 2 got 2 'up
 end 2
+====
+# Three systems in a row, a DIF over both wires, and a second DIF on a flow of the first.
+nodes = [\"a\", \"b\", \"c\"]
+
+[[wire]]
+name = \"w1\"
+ends = [\"a\", \"b\"]
+delay = 2
+life = 10
+largest = 1500
+
+[[wire]]
+name = \"w2\"
+ends = [\"b\", \"c\"]
+delay = 3
+life = 12
+largest = 1400
+
+[[dif]]
+name = \"d1\"
+rank = 1
+static = true
+pdu = 96
+widths = { addr = 1, cep = 1, len = 2, seq = 2 }
+queue = 32
+policy = \"strict\"
+wait = 500
+manage = { mpl = 40, r = 30, a = 2, retry = 10, window = 8 }
+cube = [
+  { id = 1, kind = \"datagram\", mpl = 44, window = 16, largest = 80 },
+  { id = 2, kind = \"reliable\", mpl = 44, window = 4, largest = 240, r = 60, a = 3, retry = 20 },
+]
+member = [
+  { node = \"a\", addr = 1 },
+  { node = \"b\", addr = 2 },
+  { node = \"c\", addr = 3 },
+]
+link = [
+  { on = \"w1\", a = \"a\", b = \"b\" },
+  { on = \"w2\", a = \"b\", b = \"c\" },
+]
+flow = [
+  { cube = 2, from = { node = \"a\", app = \"s1\", label = \"p1\" }, to = { node = \"b\", app = \"t1\", label = \"q1\" } },
+]
+
+[[dif]]
+name = \"d2\"
+rank = 2
+static = true
+pdu = 80
+widths = { addr = 1, cep = 1, len = 2, seq = 2 }
+queue = 64
+policy = \"round\"
+wait = 501
+manage = { mpl = 64, r = 31, a = 4, retry = 11, window = 9 }
+cube = [
+  { id = 3, kind = \"datagram\", mpl = 64, window = 16, largest = 64 },
+]
+member = [
+  { node = \"a\", addr = 11 },
+  { node = \"c\", addr = 13 },
+]
+link = [
+  { on = \"d1\", a = \"a\", b = \"c\", cube = 1 },
+]
+flow = [
+  { cube = 3, from = { node = \"a\", app = \"s2\", label = \"p2\" }, to = { node = \"c\", app = \"t2\", label = \"q2\" } },
+]
+%%
+send p2 'hello
+tick 5
+read q2
+----
+1 0 sent 1.0
+2 5 ok
+3 5 got 5 'hello
+end 5
 ====
 # Four numbers fit into the window; the fifth SDU is refused until an acknowledgement opens it.
 nodes = [\"a\", \"b\"]
