@@ -8,9 +8,11 @@ mod ends;
 #[cfg(test)]
 mod examples_a_to_g;
 #[cfg(test)]
-mod examples_h_to_p;
+mod examples_h_to_l;
 #[cfg(test)]
-mod examples_q_to_z;
+mod examples_m_to_q;
+#[cfg(test)]
+mod examples_r_to_z;
 #[cfg(test)]
 mod flat_rows;
 #[cfg(test)]

@@ -1,7 +1,8 @@
 //! How a text of inputs and outputs is run.
 use crate::examples_a_to_g::EXAMPLES_A_TO_G;
-use crate::examples_h_to_p::EXAMPLES_H_TO_P;
-use crate::examples_q_to_z::EXAMPLES_Q_TO_Z;
+use crate::examples_h_to_l::EXAMPLES_H_TO_L;
+use crate::examples_m_to_q::EXAMPLES_M_TO_Q;
+use crate::examples_r_to_z::EXAMPLES_R_TO_Z;
 use crate::flat_rows::FLAT_ROWS;
 use crate::kinds_rows::KINDS_ROWS;
 use crate::spent_rows::SPENT_ROWS;
@@ -96,14 +97,20 @@ fn the_examples_from_a_to_g_write_their_outputs(rt: HostRuntime) -> Result<(), F
 }
 
 #[test]
-fn the_examples_from_h_to_p_write_their_outputs(rt: HostRuntime) -> Result<(), Fail> {
-    assert_eq!(rt; other_example(rt.alloc(), EXAMPLES_H_TO_P)?, None);
+fn the_examples_from_h_to_l_write_their_outputs(rt: HostRuntime) -> Result<(), Fail> {
+    assert_eq!(rt; other_example(rt.alloc(), EXAMPLES_H_TO_L)?, None);
     Ok(())
 }
 
 #[test]
-fn the_examples_from_q_to_z_write_their_outputs(rt: HostRuntime) -> Result<(), Fail> {
-    assert_eq!(rt; other_example(rt.alloc(), EXAMPLES_Q_TO_Z)?, None);
+fn the_examples_from_m_to_q_write_their_outputs(rt: HostRuntime) -> Result<(), Fail> {
+    assert_eq!(rt; other_example(rt.alloc(), EXAMPLES_M_TO_Q)?, None);
+    Ok(())
+}
+
+#[test]
+fn the_examples_from_r_to_z_write_their_outputs(rt: HostRuntime) -> Result<(), Fail> {
+    assert_eq!(rt; other_example(rt.alloc(), EXAMPLES_R_TO_Z)?, None);
     Ok(())
 }
 

@@ -1,56 +1,7 @@
-//! The examples from q to z, each an input, a line `----`, and what it writes; a line `====` parts them. Written by
+//! The examples from r to z, each an input, a line `----`, and what it writes; a line `====` parts them. Written by
 //! `bin/examples-as-tests` from the folder examples/.
 
-pub(crate) static EXAMPLES_Q_TO_Z: &str = "\
-# Six SDUs for a queue of five. A step says that nothing waits, or that there is no such link.
-nodes = [\"a\", \"b\"]
-rounds = \"manual\"
-[[wire]]
-name = \"w\"
-ends = [\"a\", \"b\"]
-delay = 2
-life = 10
-largest = 1500
-[[dif]]
-name = \"d\"
-rank = 1
-static = true
-pdu = 96
-widths = { addr = 1, cep = 1, len = 2, seq = 2 }
-queue = 5
-policy = \"strict\"
-wait = 500
-manage = { mpl = 40, r = 30, a = 2, retry = 10, window = 8 }
-cube = [
-  { id = 1, kind = \"datagram\", mpl = 40, window = 16, largest = 80 },
-]
-member = [ { node = \"a\", addr = 1 }, { node = \"b\", addr = 2 } ]
-link = [ { on = \"w\", a = \"a\", b = \"b\" } ]
-flow = [
-  { cube = 1, from = { node = \"a\", app = \"s1\", label = \"p1\" }, to = { node = \"b\", app = \"t1\", label = \"q1\" } },
-]
-%%
-send p1 'a
-send p1 'a
-send p1 'a
-send p1 'a
-send p1 'a
-send p1 'a
-in d b 0
-in d b 1
-clock d a
-----
-1 0 sent 1.0
-2 0 sent 1.1
-3 0 sent 1.2
-4 0 sent 1.3
-5 0 sent 1.4
-6 0 no QueueFull 1 0
-7 0 idle
-8 0 no NoLink
-9 0 idle
-end 0
-====
+pub(crate) static EXAMPLES_R_TO_Z: &str = "\
 # What a wire refuses, and how a flow is closed.
 nodes = [\"a\", \"b\"]
 [[wire]]

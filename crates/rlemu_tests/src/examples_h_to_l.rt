@@ -1,0 +1,382 @@
+//! The examples from h to l, each an input, a line `----`, and what it writes; a line `====` parts them. Written by
+//! `bin/examples-as-tests` from the folder examples/.
+
+pub(crate) static EXAMPLES_H_TO_L: &str = "\
+# A PDU stays first in its queue while the window of the reliable flow below is shut.
+rounds = \"manual\"
+nodes = [\"a\", \"b\", \"c\"]
+
+[[wire]]
+name = \"w1\"
+ends = [\"a\", \"b\"]
+delay = 2
+life = 10
+largest = 1500
+
+[[wire]]
+name = \"w2\"
+ends = [\"b\", \"c\"]
+delay = 3
+life = 12
+largest = 1400
+
+[[dif]]
+name = \"d1\"
+rank = 1
+static = true
+pdu = 96
+widths = { addr = 1, cep = 1, len = 2, seq = 2 }
+queue = 32
+policy = \"strict\"
+wait = 500
+manage = { mpl = 40, r = 30, a = 2, retry = 10, window = 8 }
+cube = [
+  { id = 1, kind = \"datagram\", mpl = 44, window = 16, largest = 80 },
+  { id = 2, kind = \"reliable\", mpl = 44, window = 4, largest = 240, r = 60, a = 3, retry = 20 },
+]
+member = [
+  { node = \"a\", addr = 1 },
+  { node = \"b\", addr = 2 },
+  { node = \"c\", addr = 3 },
+]
+link = [
+  { on = \"w1\", a = \"a\", b = \"b\" },
+  { on = \"w2\", a = \"b\", b = \"c\" },
+]
+flow = [
+  { cube = 2, from = { node = \"a\", app = \"s1\", label = \"p1\" }, to = { node = \"b\", app = \"t1\", label = \"q1\" } },
+]
+
+[[dif]]
+name = \"d2\"
+rank = 2
+static = true
+pdu = 80
+widths = { addr = 1, cep = 1, len = 2, seq = 2 }
+queue = 64
+policy = \"round\"
+wait = 501
+manage = { mpl = 64, r = 31, a = 4, retry = 11, window = 9 }
+cube = [
+  { id = 3, kind = \"datagram\", mpl = 150, window = 16, largest = 64 },
+]
+member = [
+  { node = \"a\", addr = 11 },
+  { node = \"c\", addr = 13 },
+]
+link = [
+  { on = \"d1\", a = \"a\", b = \"c\", cube = 2 },
+]
+flow = [
+  { cube = 3, from = { node = \"a\", app = \"s2\", label = \"p2\" }, to = { node = \"c\", app = \"t2\", label = \"q2\" } },
+]
+%%
+send p2 'a
+send p2 'b
+send p2 'c
+send p2 'd
+send p2 'e
+out d2 a 0
+out d2 a 0
+out d2 a 0
+out d2 a 0
+out d2 a 0
+ledger d2 a
+----
+1 0 sent 1.0
+2 0 sent 1.1
+3 0 sent 1.2
+4 0 sent 1.3
+5 0 sent 1.4
+6 0 out data 11.1.0
+7 0 out data 11.1.1
+8 0 out data 11.1.2
+9 0 out data 11.1.3
+10 0 held WindowShut 1 0
+11 0 none
+end 0
+====
+# A frame is lost on the way of a reliable flow: what came behind it is held, until the number that is missing was sent again.
+nodes = [\"a\", \"b\"]
+[[wire]]
+name = \"w\"
+ends = [\"a\", \"b\"]
+delay = 2
+life = 10
+largest = 1500
+[[dif]]
+name = \"d\"
+rank = 1
+static = true
+pdu = 96
+widths = { addr = 1, cep = 1, len = 2, seq = 2 }
+queue = 64
+policy = \"strict\"
+wait = 500
+manage = { mpl = 40, r = 30, a = 2, retry = 10, window = 8 }
+cube = [
+  { id = 1, kind = \"datagram\", mpl = 40, window = 16, largest = 80 },
+  { id = 2, kind = \"loose\", mpl = 40, window = 16, largest = 240 },
+  { id = 3, kind = \"reliable\", mpl = 40, r = 30, a = 2, retry = 10, window = 4, largest = 240 },
+]
+member = [ { node = \"a\", addr = 1 }, { node = \"b\", addr = 2 } ]
+link = [ { on = \"w\", a = \"a\", b = \"b\" } ]
+flow = [
+  { cube = 1, from = { node = \"a\", app = \"s1\", label = \"p1\" }, to = { node = \"b\", app = \"t1\", label = \"q1\" } },
+  { cube = 2, from = { node = \"a\", app = \"s2\", label = \"p2\" }, to = { node = \"b\", app = \"t2\", label = \"q2\" } },
+  { cube = 3, from = { node = \"a\", app = \"s3\", label = \"p3\" }, to = { node = \"b\", app = \"t3\", label = \"q3\" } },
+]
+%%
+send p3 'a
+tick 2
+send p3 'b
+send p3 'c
+lose w 1
+tick 2
+read q3
+ledger d b
+tick 10
+read q3
+----
+1 0 sent 3.0
+2 2 ok
+3 2 sent 3.1
+4 2 sent 3.2
+5 2 ok
+6 4 ok
+7 4 got 2 'a
+8 4 none
+9 14 ok
+10 14 got 14 'b
+10 14 got 14 'c
+end 14
+====
+# A frame is held back until its life ends, and no longer.
+nodes = [\"a\", \"b\"]
+[[wire]]
+name = \"w\"
+ends = [\"a\", \"b\"]
+delay = 2
+life = 10
+largest = 1500
+%%
+register w b echo
+alloc p w a ping echo
+accept q w b echo
+send p 'hello
+hold w 0 10
+hold w 0 11
+tick 9
+read q
+tick 1
+read q
+----
+1 0 ok
+2 0 ok allocated
+3 0 ok allocated
+4 0 sent 0.0
+5 0 ok
+6 0 no LateHold 10
+7 9 ok
+8 9 none
+9 10 ok
+10 10 got 10 'hello
+end 10
+====
+nodes = [\"a\", \"b\"]
+[[wire]]
+name = \"w\"
+ends = [\"a\", \"b\"]
+delay = 2
+life = 10
+largest = 1500
+%%
+register w b echo
+alloc p w a ping echo
+accept q w b echo
+send p 'hello
+tick 2
+read q
+----
+1 0 ok
+2 0 ok allocated
+3 0 ok allocated
+4 0 sent 0.0
+5 2 ok
+6 2 got 2 'hello
+end 2
+====
+# What both ends of a flow sent and got.
+nodes = [\"a\", \"b\"]
+[[wire]]
+name = \"w\"
+ends = [\"a\", \"b\"]
+delay = 2
+life = 10
+largest = 1500
+%%
+register w b echo
+alloc p w a ping echo
+accept q w b echo
+send p 'hello
+tick 2
+read q
+journal w
+----
+1 0 ok
+2 0 ok allocated
+3 0 ok allocated
+4 0 sent 0.0
+5 2 ok
+6 2 got 2 'hello
+7 2 flow 1.0.0 asker w/a/1 ping echo 0 0 allocated
+7 2 s 0 0.0 'hello
+7 2 flow 1.0.0 far w/b/1 echo ping 0 1 allocated
+7 2 g 2 0.0 'hello
+end 2
+====
+# The one link of d is cut: its flow fails, and says for which flow below. What a still sends finds no way on at c, and is written off there.
+nodes = [\"a\", \"b\", \"c\", \"d\"]
+[[wire]]
+name = \"w1\"
+ends = [\"a\", \"b\"]
+delay = 2
+life = 10
+largest = 1500
+[[wire]]
+name = \"w2\"
+ends = [\"b\", \"c\"]
+delay = 2
+life = 10
+largest = 1500
+[[wire]]
+name = \"w3\"
+ends = [\"c\", \"d\"]
+delay = 2
+life = 10
+largest = 1500
+[[dif]]
+name = \"d\"
+rank = 1
+static = true
+pdu = 96
+widths = { addr = 1, cep = 1, len = 2, seq = 2 }
+queue = 64
+policy = \"strict\"
+wait = 500
+manage = { mpl = 40, r = 30, a = 2, retry = 10, window = 8 }
+cube = [ { id = 1, kind = \"datagram\", mpl = 25, window = 16, largest = 80 } ]
+member = [ { node = \"a\", addr = 1 }, { node = \"b\", addr = 2 }, { node = \"c\", addr = 3 }, { node = \"d\", addr = 4 } ]
+link = [ { on = \"w1\", a = \"a\", b = \"b\" }, { on = \"w2\", a = \"b\", b = \"c\" }, { on = \"w3\", a = \"c\", b = \"d\" } ]
+flow = [ { cube = 1, from = { node = \"a\", app = \"s\", label = \"p\" }, to = { node = \"d\", app = \"t\", label = \"q\" } } ]
+%%
+cut w3
+tick 4
+send p 'x
+tick 4
+ledger d c
+----
+1 0 ok
+1 0 state q failed Below w3/d/1
+2 4 ok
+3 4 sent 1.0
+4 8 ok
+5 8 off data 1.1.0 NoRoute 4
+end 8
+====
+# Three wires, and a lifetime that is too short for them: at the third hop 5 ticks are left, and 10 are charged.
+nodes = [\"a\", \"b\", \"c\", \"d\"]
+[[wire]]
+name = \"w1\"
+ends = [\"a\", \"b\"]
+delay = 2
+life = 10
+largest = 1500
+[[wire]]
+name = \"w2\"
+ends = [\"b\", \"c\"]
+delay = 2
+life = 10
+largest = 1500
+[[wire]]
+name = \"w3\"
+ends = [\"c\", \"d\"]
+delay = 2
+life = 10
+largest = 1500
+[[dif]]
+name = \"d\"
+rank = 1
+static = true
+pdu = 96
+widths = { addr = 1, cep = 1, len = 2, seq = 2 }
+queue = 64
+policy = \"strict\"
+wait = 500
+manage = { mpl = 40, r = 30, a = 2, retry = 10, window = 8 }
+cube = [ { id = 1, kind = \"datagram\", mpl = 25, window = 16, largest = 80 } ]
+member = [ { node = \"a\", addr = 1 }, { node = \"b\", addr = 2 }, { node = \"c\", addr = 3 }, { node = \"d\", addr = 4 } ]
+link = [ { on = \"w1\", a = \"a\", b = \"b\" }, { on = \"w2\", a = \"b\", b = \"c\" }, { on = \"w3\", a = \"c\", b = \"d\" } ]
+flow = [ { cube = 1, from = { node = \"a\", app = \"s\", label = \"p\" }, to = { node = \"d\", app = \"t\", label = \"q\" } } ]
+%%
+send p 'a
+tick 10
+read q
+ledger d c
+----
+1 0 sent 1.0
+2 10 ok
+3 10 none
+4 10 off data 1.1.0 Expired 5 10
+end 10
+====
+# A frame is lost on the wire: no ledger has it, and the journal of the wire has its sending alone.
+nodes = [\"a\", \"b\"]
+[[wire]]
+name = \"w\"
+ends = [\"a\", \"b\"]
+delay = 2
+life = 10
+largest = 1500
+[[dif]]
+name = \"d\"
+rank = 1
+static = true
+pdu = 96
+widths = { addr = 1, cep = 1, len = 2, seq = 2 }
+queue = 64
+policy = \"strict\"
+wait = 500
+manage = { mpl = 40, r = 30, a = 2, retry = 10, window = 8 }
+cube = [
+  { id = 1, kind = \"datagram\", mpl = 40, window = 16, largest = 80 },
+  { id = 2, kind = \"loose\", mpl = 40, window = 16, largest = 240 },
+  { id = 3, kind = \"reliable\", mpl = 40, r = 30, a = 2, retry = 10, window = 4, largest = 240 },
+]
+member = [ { node = \"a\", addr = 1 }, { node = \"b\", addr = 2 } ]
+link = [ { on = \"w\", a = \"a\", b = \"b\" } ]
+flow = [
+  { cube = 1, from = { node = \"a\", app = \"s1\", label = \"p1\" }, to = { node = \"b\", app = \"t1\", label = \"q1\" } },
+  { cube = 2, from = { node = \"a\", app = \"s2\", label = \"p2\" }, to = { node = \"b\", app = \"t2\", label = \"q2\" } },
+  { cube = 3, from = { node = \"a\", app = \"s3\", label = \"p3\" }, to = { node = \"b\", app = \"t3\", label = \"q3\" } },
+]
+%%
+send p1 'hello
+lose w 0
+tick 10
+read q1
+ledger d a
+ledger d b
+journal w
+----
+1 0 sent 1.0
+2 0 ok
+3 10 ok
+4 10 none
+5 10 none
+6 10 none
+7 10 flow 1.0.0 asker w/a/1 d/a d/b 0 0 allocated
+7 10 s 0 0.0 x0000001e01070101020101010011000068656c6c6f
+7 10 flow 1.0.0 far w/b/1 d/b d/a 0 0 allocated
+end 10
+";
