@@ -1,5 +1,5 @@
-//! A source and a sink in memory, which fail at the calls that they are told.
-ghost use Rattle.std.specs.Prelude.{Some};
+//! A source and a sink in memory, whose maker says which calls fail.
+ghost use Rattle.std.specs.Prelude.{◌≡◌, Some};
 
 use crate::sink::Sink;
 use crate::source::{Failed, Source};
@@ -15,8 +15,12 @@ pub struct MemSource {
 }
 
 impl MemSource {
-    /// A source of these bytes. Call number n, counted from 0, fails where `fails` has true there.
-    pub fn new(bytes: Vec<u8>, fails: Vec<bool>) -> Self {
+    /// A source of these bytes, with no fault counted. Its read number n, counted from 0, fails where
+    /// `fails` has true at place n.
+    pub fn new(bytes: Vec<u8>, fails: Vec<bool>) -> Self
+        ensures left { ⟦<MemSource as Source>⟧.left result ≡ Some bytes.items }
+        ensures faults { ⟦<MemSource as Source>⟧.faults result ≡ 0 }
+    {
         MemSource {
             inner: Cursor::new(bytes),
             fails,
@@ -48,7 +52,7 @@ impl Source for MemSource {
     }
 }
 
-/// A sink into memory.
+/// A sink that keeps in memory what it takes.
 #[derive(Drop)]
 pub struct MemSink {
     bytes: Vec<u8>,
@@ -58,9 +62,12 @@ pub struct MemSink {
 }
 
 impl MemSink {
-    /// A sink that holds these bytes already. Call number n, counted from 0, fails where `fails` has
-    /// true there.
-    pub fn new(bytes: Vec<u8>, fails: Vec<bool>) -> Self {
+    /// A sink that holds these bytes already, with no fault counted. Its write number n, counted from
+    /// 0, fails where `fails` has true at place n.
+    pub fn new(bytes: Vec<u8>, fails: Vec<bool>) -> Self
+        ensures took { ⟦<MemSink as Sink>⟧.took result ≡ Some bytes.items }
+        ensures faults { ⟦<MemSink as Sink>⟧.faults result ≡ 0 }
+    {
         MemSink {
             bytes,
             fails,
@@ -70,7 +77,9 @@ impl MemSink {
     }
 
     /// All bytes that it holds.
-    pub fn bytes(&self) -> &[u8] {
+    pub fn bytes(&self) -> &[u8]
+        ensures { ⟦<MemSink as Sink>⟧.took self.now ≡ Some result.now }
+    {
         self.bytes.as_slice()
     }
 }

@@ -1,8 +1,8 @@
 //! Where output goes.
-ghost use Rattle.std.specs.Prelude.{◌≡◌, ◌<◌, ℕ, List, length, Option, IfOk};
+ghost use Rattle.std.specs.Prelude.{◌≡◌, ◌<◌, ℕ, List, length, Option, IfOk, OnOk};
 ghost use Rattle.std.specs.Io.{WritesAtMost};
 ghost use Rattle.std.specs.Io.KnownBytes.{WriteAppends};
-ghost use Rattle.rina_io.specs.Causes.{Rose, HasCause};
+ghost use Rattle.rina_io.specs.Causes.{RoseOnce, HasCause};
 
 use crate::source::Failed;
 
@@ -11,15 +11,17 @@ pub trait Sink {
     /// The bytes that it took, where it tells them.
     ghost took: { Self → Option (List ℕ) };
 
-    /// How often it failed, or took nothing of a piece that is not empty; the count never falls, and
-    /// stands still at the greatest u64.
+    /// How many writes failed, or took nothing of a piece that is not empty. The count never falls,
+    /// and stays at the greatest u64 once it is there.
     ghost faults: { Self → ℕ };
 
-    /// Takes bytes from the front of a piece, and answers how many. It fails only where the count of
-    /// faults rises.
+    /// Takes bytes from the front of a piece, and answers how many. The count of faults rises by one
+    /// where the write fails or takes nothing of a piece that is not empty, and else stays as it is.
     fn write(&mut self, piece: &[u8]) -> Result<usize, Failed>
         ensures bound { WritesAtMost result piece.now }
         ensures bytes { WriteAppends (took self.old) (took self.new) result piece.now }
-        ensures none { IfOk result (λ n. n ≡ 0 → 0 < length piece.now → Rose (faults self.old) (faults self.new)) }
+        ensures some { IfOk result (λ n. 0 < n → faults self.new ≡ faults self.old) }
+        ensures none { IfOk result (λ n. n ≡ 0 → 0 < length piece.now → RoseOnce (faults self.old) (faults self.new)) }
+        ensures empty { OnOk result (length piece.now ≡ 0 → faults self.new ≡ faults self.old) }
         ensures cause { HasCause (faults self.old) (faults self.new) result };
 }

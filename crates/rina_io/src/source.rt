@@ -1,5 +1,5 @@
 //! Where input comes from.
-ghost use Rattle.std.specs.Prelude.{ℕ, List, Option};
+ghost use Rattle.std.specs.Prelude.{◌≡◌, ℕ, List, Option, OnOk};
 ghost use Rattle.std.specs.Io.{ReadsAtMost};
 ghost use Rattle.std.specs.Io.KnownBytes.{ReadConsumes};
 ghost use Rattle.rina_io.specs.Causes.{HasCause};
@@ -13,13 +13,15 @@ pub trait Source {
     /// The bytes that are left, where it tells them.
     ghost left: { Self → Option (List ℕ) };
 
-    /// How often it failed; the count never falls, and stands still at the greatest u64.
+    /// How many reads failed. The count never falls, and stays at the greatest u64 once it is there.
     ghost faults: { Self → ℕ };
 
-    /// Reads bytes into the front of a buffer, and answers how many. None are read into a buffer with
-    /// room only at the end of input. It fails only where the count of faults rises.
+    /// Reads bytes into the front of a buffer, and answers how many. A buffer that is not empty gets
+    /// none only at the end of the input. The count of faults rises by one where the read fails, and
+    /// else stays as it is.
     fn read(&mut self, buf: &mut [u8]) -> Result<usize, Failed>
         ensures bound { ReadsAtMost result buf.new }
         ensures bytes { ReadConsumes (left self.old) (left self.new) result buf.new }
+        ensures fine { OnOk result (faults self.new ≡ faults self.old) }
         ensures cause { HasCause (faults self.old) (faults self.new) result };
 }

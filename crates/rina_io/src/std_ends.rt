@@ -1,4 +1,7 @@
-//! Any reader and any writer of std as a source and a sink: the trusted edge of a program.
+//! Any reader and any writer of std as a source and a sink. What the reader gives and the writer takes
+//! is trusted.
+ghost use Rattle.std.specs.Prelude.{◌≡◌};
+
 use crate::sink::Sink;
 use crate::source::{Failed, Source};
 use std::io::{Read, Write};
@@ -11,8 +14,11 @@ pub struct StdSource<R> {
 }
 
 impl<R: Read> StdSource<R> {
-    /// A source that has not failed yet.
-    pub fn new(inner: R) -> Self {
+    /// A source over a reader, with no fault counted.
+    pub fn new(inner: R) -> Self
+        ensures left { ⟦<StdSource<R> as Source>⟧.left result ≡ R.remaining inner }
+        ensures faults { ⟦<StdSource<R> as Source>⟧.faults result ≡ 0 }
+    {
         StdSource { inner, faults: 0 }
     }
 }
@@ -41,8 +47,11 @@ pub struct StdSink<W> {
 }
 
 impl<W: Write> StdSink<W> {
-    /// A sink that has not failed yet.
-    pub fn new(inner: W) -> Self {
+    /// A sink over a writer, with no fault counted.
+    pub fn new(inner: W) -> Self
+        ensures took { ⟦<StdSink<W> as Sink>⟧.took result ≡ W.contents inner }
+        ensures faults { ⟦<StdSink<W> as Sink>⟧.faults result ≡ 0 }
+    {
         StdSink { inner, faults: 0 }
     }
 }
@@ -55,7 +64,7 @@ impl<W: Write> Sink for StdSink<W> {
     fn write(&mut self, piece: &[u8]) -> Result<usize, Failed> {
         match self.inner.write(piece) {
             Ok(count) => {
-                if count == 0 {
+                if count == 0 && !piece.is_empty() {
                     self.faults = self.faults.saturating_add(1);
                 }
                 Ok(count)

@@ -1,10 +1,11 @@
 //! A source and a sink that never fail.
-ghost use Rattle.std.specs.Prelude.{Some, None};
+ghost use Rattle.std.specs.Prelude.{◌≡◌, ◌+◌, ◌-◌, ◌^◌, Some, None, min, length};
 
 use crate::sink::Sink;
 use crate::source::{Failed, Source};
+use std::marker::Model;
 
-/// A source over bytes that are there; its count of faults is always 0.
+/// A source over bytes in memory. Its count of faults is always 0.
 #[derive(Clone, Copy)]
 pub struct SureSource<'a> {
     left: &'a [u8],
@@ -12,7 +13,9 @@ pub struct SureSource<'a> {
 
 impl<'a> SureSource<'a> {
     /// A source of these bytes.
-    pub fn new(bytes: &'a [u8]) -> Self {
+    pub fn new(bytes: &'a [u8]) -> Self
+        ensures { ⟦<SureSource<'a> as Source>⟧.left result ≡ Some bytes.now }
+    {
         SureSource { left: bytes }
     }
 }
@@ -31,21 +34,35 @@ impl Source for SureSource<'_> {
     }
 }
 
-/// A sink that takes everything and keeps nothing but the number of bytes, up to the greatest u64;
-/// its count of faults is always 0.
+/// A sink that takes every byte and keeps only their number, up to the greatest u64, which is what a
+/// contract sees of it. Its count of faults is always 0.
 #[derive(Clone, Copy, Default)]
 pub struct SureSink {
     taken: u64,
 }
 
+impl Model for SureSink {
+    ghost use Rattle.std.specs.Prelude.{ℕ};
+
+    ghost Value = { ℕ };
+
+    ghost view = { λ s. s.taken };
+
+    ghost inverse = { λ n. record { taken = n } };
+}
+
 impl SureSink {
-    /// A sink that has taken nothing yet.
-    pub fn new() -> Self {
+    /// A sink that has taken no byte.
+    pub fn new() -> Self
+        ensures { result ≡ 0 }
+    {
         SureSink { taken: 0 }
     }
 
     /// How many bytes it took.
-    pub fn taken(&self) -> u64 {
+    pub fn taken(&self) -> u64
+        ensures { result ≡ self.now }
+    {
         self.taken
     }
 }
@@ -55,7 +72,10 @@ impl Sink for SureSink {
 
     ghost faults = { λ s. 0 };
 
-    fn write(&mut self, piece: &[u8]) -> Result<usize, Failed> {
+    fn write(&mut self, piece: &[u8]) -> Result<usize, Failed>
+        ensures all { result ≡ Ok (length piece.now) }
+        ensures taken { self.new ≡ min (self.old + length piece.now) (2 ^ 64 - 1) }
+    {
         self.taken = self.taken.saturating_add(piece.len() as u64);
         Ok(piece.len())
     }

@@ -1,7 +1,7 @@
 //! Reading all of a source, and writing all of a piece.
 ghost use Rattle.std.specs.Prelude.{◌≡◌, ◌<◌, ◌≤◌, ℕ, length, take, OnOk, OnErr};
 ghost use Rattle.std.specs.Io.KnownBytes.{Appends, Consumes, IsAtEnd};
-ghost use Rattle.rina_io.specs.Causes.{Rose, HasCause};
+ghost use Rattle.rina_io.specs.Causes.{one_more, Rose, HasCause};
 
 use crate::sink::Sink;
 use crate::source::{Failed, Source};
@@ -13,13 +13,13 @@ pub const LIMIT: usize = 16_777_216;
 /// Why reading a source ended.
 #[derive(Clone, Copy, Debug, PartialEq, Eq)]
 pub enum Ending {
-    /// The input was read to its end.
+    /// The whole input was read.
     Whole,
     /// More than `LIMIT` bytes were read.
     TooLarge,
     /// A read failed.
     Fault,
-    /// Memory was not found.
+    /// An allocation failed.
     Memory,
 }
 
@@ -30,11 +30,12 @@ pub struct Taken {
     pub ending: Ending,
 }
 
-/// Writes all of a piece, in as many writes as the sink wants. Where it fails, a front of the piece
-/// was taken.
+/// Writes all of a piece, in as many writes as the sink needs. Where a write fails or takes nothing,
+/// this fails, and the sink took a front of the piece. Such a write is counted as a fault, and no other.
 pub fn write_all<K: Sink>(out: &mut K, piece: &[u8]) -> Result<(), Failed>
     ensures ok { OnOk result (Appends (K.took out.old) (K.took out.new) piece.now) }
     ensures err { OnErr result ((k : ℕ) × Appends (K.took out.old) (K.took out.new) (take k piece.now)) }
+    ensures fine { OnOk result (K.faults out.new ≡ K.faults out.old) }
     ensures cause { HasCause (K.faults out.old) (K.faults out.new) result }
 {
     let mut done = 0usize;
@@ -56,14 +57,16 @@ fn ended(bytes: Vec<u8>, ending: Ending) -> Taken
     Taken { bytes, ending }
 }
 
-/// Reads a source to its end, or until more than `LIMIT` bytes were read, or a read fails. Each read
-/// takes a byte or ends the reading.
+/// Reads a source to its end, or until more than `LIMIT` bytes were read, a read fails or an allocation
+/// fails. A read that fails is counted as a fault, and no other.
 pub fn take_all<S: Source>(alloc: Global, source: &mut S) -> Taken
     ensures bytes { ¬ (result.ending ≡ Ending.Memory) → Consumes (S.left source.old) (S.left source.new) result.bytes.items }
     ensures whole { result.ending ≡ Ending.Whole → IsAtEnd (S.left source.new) × (length result.bytes.items ≤ LIMIT) }
     ensures large { result.ending ≡ Ending.TooLarge → LIMIT < length result.bytes.items }
     ensures fault { result.ending ≡ Ending.Fault → Rose (S.faults source.old) (S.faults source.new) × (length result.bytes.items ≤ LIMIT) }
+    ensures fine { ¬ (result.ending ≡ Ending.Fault) → S.faults source.new ≡ S.faults source.old }
     ensures later { S.faults source.old ≤ S.faults source.new }
+    ensures once { result.ending ≡ Ending.Fault → S.faults source.new ≤ one_more (S.faults source.old) }
 {
     let mut bytes = Vec::new(alloc);
     let mut buffer = [0u8; 16384];

@@ -1,4 +1,4 @@
-use Rattle.std.proofs.Common.{◌≤◌, length}
+use Rattle.std.proofs.Common.{◌≡◌, ◌≤◌, length}
 use Rattle.std.specs.Io.KnownBytes.{Consumes}
 use Rattle.rina_io.proofs.whole.take_all.Given as goal
 
@@ -7,5 +7,5 @@ invariant-turns g l = record {
   read : Consumes (g.S.Source.left l.fn.source) (g.S.Source.left l.source) l.bytes.items;
   small : length l.bytes.items ≤ 16777216;
   turns : l.counter ≤ length l.bytes.items;
-  later : g.S.Source.faults l.fn.source ≤ g.S.Source.faults l.source;
+  fine : g.S.Source.faults l.source ≡ g.S.Source.faults l.fn.source;
 }

@@ -1,4 +1,4 @@
-use Rattle.std.proofs.Common.{◌≡◌, ℕ, ◌-◌, ◌++◌, List, length, take, drop, arith, subst, length-drop}
+use Rattle.std.proofs.Common.{◌≡◌, ◌∙◌, ℕ, ◌-◌, ◌++◌, List, length, take, drop, arith, subst, length-drop}
 use Rattle.std.proofs.KnownBytes.{Appends-trans}
 use Rattle.std.proofs.Math.Seq.{take-add}
 use Rattle.std.specs.Io.KnownBytes.{Appends}
@@ -21,5 +21,5 @@ pieces-preserved g c =
     record {
       within = omega (arith, c.in_ok-count.ensures.bound, length-take (length piece - done) (drop done piece), length-drop done piece);
       wrote = rw (take-add done count piece) (subst (λ bs. Appends (took c.args.out.now) (took c.write.new.self) (take done piece ++ take count bs)) (whole_rest piece done) joined);
-      later = omega (arith, c.in_ok-count.ensures.cause.later);
+      fine = c.in_ok-count.ensures.some (omega arith) ∙ c.pieces.invariant.fine;
     }

@@ -1,4 +1,4 @@
-use Rattle.std.proofs.Common.{◌≤◌, ◌-◌, length, take}
+use Rattle.std.proofs.Common.{◌≡◌, ◌≤◌, ◌-◌, length, take}
 use Rattle.std.specs.Io.KnownBytes.{Appends}
 use Rattle.rina_io.proofs.whole.write_all.Given as goal
 
@@ -6,7 +6,7 @@ abbrev pub invariant-pieces : goal.invariant-pieces
 invariant-pieces g l = record {
   within : l.done ≤ length l.piece;
   wrote : Appends (g.K.Sink.took l.fn.out) (g.K.Sink.took l.out) (take l.done l.piece);
-  later : g.K.Sink.faults l.fn.out ≤ g.K.Sink.faults l.out;
+  fine : g.K.Sink.faults l.out ≡ g.K.Sink.faults l.fn.out;
 }
 
 abbrev pub decreases-pieces : goal.decreases-pieces
