@@ -1,4 +1,4 @@
--- What is drawn for a stack and its schedule, in this order.
+-- Drawing a stack and its schedule, in this order.
 use Rattle.std.specs.Prelude.{ℕ, ◌+◌, ◌-◌, ◌%◌, nat_le, if◌then◌else◌}
 use Rattle.rand_pcg.specs.Lcg.{Lcg}
 use Rattle.rina_gen.specs.declared.input.Wire.{Wire}
@@ -9,7 +9,7 @@ use Rattle.rina_gen.specs.declared.input.Line.TheVariants as lines
 use Rattle.rina_gen.specs.declared.input.Input.{Input}
 use Rattle.rina_gen.specs.Draws.{drawn, seeded, several}
 
--- the node after a node of a ring of so many
+-- the next node of a ring of this many nodes
 abbrev pub next_node : ℕ → ℕ → ℕ
 next_node nodes i = (i + 1) % nodes
 
@@ -35,7 +35,7 @@ flow_drawn nodes i g =
     let step = drawn (nodes - 1) from.1 in
     (record { number = i; cube = 1 + cube.0; from = from.0; to = (from.0 + 1 + step.0) % nodes }, step.1)
 
--- how many zero bytes are sent on which flow
+-- the flow on which zero bytes are sent, and their number
 unfoldable pub send_drawn : Lcg → Line × Lcg
 send_drawn g =
     let flow = drawn 6 g in
@@ -52,17 +52,17 @@ tick_drawn g =
     let ticks = drawn 40 g in
     (lines.Tick (1 + ticks.0), ticks.1)
 
--- a line of the schedule: of ten, six send, two read, and two let time go on
+-- a line of the schedule: of ten, six send, two read and two let ticks pass
 unfoldable pub line_drawn : Lcg → Line × Lcg
 line_drawn g =
     let die = drawn 10 g in
     if nat_le die.0 5 then send_drawn die.1 else (if nat_le die.0 7 then read_drawn die.1 else tick_drawn die.1)
 
--- how many lines of the schedule are drawn
+-- the number of lines of the schedule that are drawn
 unfoldable pub line_count : ℕ
 line_count = 300
 
--- all of it, where the number of nodes was drawn before
+-- a stack and its schedule, for a number of nodes that was drawn before
 unfoldable pub input_of : ℕ → ℕ → Lcg → Input
 input_of seed nodes g =
     let wires = several (wire_drawn seed nodes) nodes g in
@@ -71,7 +71,7 @@ input_of seed nodes g =
     let lines = several (λ i. line_drawn) line_count flows.1 in
     record { wires = wires.0; links = links.0; flows = flows.0; lines = lines.0 }
 
--- all of it
+-- a stack and its schedule
 abbrev pub input : ℕ → Input
 input seed =
     let nodes = drawn 4 (seeded seed) in

@@ -1,4 +1,4 @@
--- The text of a stack and its schedule.
+-- The printed text of a stack and its schedule.
 use Rattle.std.specs.Prelude.{ℕ, ◌+◌, List, [], ◌∷◌, ◌++◌, codes}
 use Rattle.std.specs.Fmt.{decimal}
 use Rattle.std.specs.List.{flat_map}
@@ -19,12 +19,12 @@ led words n = words ++ decimal n
 unfoldable pub quoted : List ℕ → ℕ → List ℕ
 quoted letter n = 34 ∷ led letter n ++ 34 ∷ []
 
--- parts, divided by a comma and a space
+-- elements, separated by a comma and a space
 abbrev pub divided : {X : Type 0} → (X → List ℕ) → List X → List ℕ
 divided text [] = []
 divided text (x ∷ xs) = text x ++ flat_map (λ y. codes ", " ++ text y) xs
 
--- a key, and a list of tables on its line
+-- a line with a key and a list of tables
 abbrev pub list_of : {X : Type 0} → List ℕ → (X → List ℕ) → List X → List ℕ
 list_of key text xs = key ++ codes " = [ " ++ divided text xs ++ codes " ]\n"
 
@@ -45,7 +45,7 @@ storm_text w = led (codes "storm = { seed = ") w.seed ++ led (codes ", lose = ")
 unfoldable pub wire_head : List ℕ
 wire_head = codes "[[wire]]\nname = \"w"
 
--- its life and its longest frame
+-- its lifetime and its longest frame
 unfoldable pub wire_limits : List ℕ
 wire_limits = codes "\nlife = 12\nlargest = 1500\n"
 
@@ -56,7 +56,7 @@ delay_text w = led (codes "]\ndelay = ") w.delay ++ wire_limits
 unfoldable pub wire_text : Wire → List ℕ
 wire_text w = led wire_head w.number ++ codes "\"\nends = [" ++ ends_text w.number w.to ++ delay_text w ++ storm_text w
 
--- Parts of lists
+-- Elements of lists
 
 -- the two nodes of a link
 unfoldable pub link_ends : ℕ → ℕ → List ℕ
@@ -88,7 +88,7 @@ flow_text f =
     led (codes "{ cube = ") f.cube ++ codes ", from = " ++ end_text f.from (codes "a") (codes "p") f.number
     ++ codes ", to = " ++ end_text f.to (codes "b") (codes "q") f.number ++ codes " }"
 
--- what a list shows of a wire
+-- what a list shows of each wire
 abbrev pub column_text : Column → Wire → List ℕ
 column_text columns.Node w = node_text w.number
 column_text columns.Member w = member_text w
@@ -122,7 +122,7 @@ line_text (lines.Send flow zeros) = led (codes "send p") flow ++ led (codes " z"
 line_text (lines.Read flow) = led (codes "read q") flow ++ 10 ∷ []
 line_text (lines.Tick ticks) = led (codes "tick ") ticks ++ 10 ∷ []
 
--- what each schedule ends with: time for all that is in flight, and a read on each flow
+-- the end of each schedule: time for all that is in flight to arrive, and a read on each flow
 unfoldable pub last_lines : List ℕ
 last_lines = codes "tick 2000\nread q0\nread q1\nread q2\nread q3\nread q4\nread q5\n"
 

@@ -1,4 +1,4 @@
-//! Numbers that are drawn, one after the other.
+//! The random generator.
 ghost use Rattle.std.specs.Prelude.{◌≡◌, ◌<◌};
 ghost use Rattle.rina_gen.specs.Draws.{drawn, seeded};
 
@@ -6,14 +6,14 @@ use rand_core::SeedableRng;
 use rand_core::utils::NextWord;
 use rand_pcg::Lcg64Xsh32;
 
-/// The generator that a number seeds.
+/// The generator with this seed.
 pub fn seeded(seed: u64) -> Lcg64Xsh32
     ensures { result ≡ seeded seed }
 {
     Lcg64Xsh32::seed_from_u64(seed)
 }
 
-/// A number below `limit`: the generator's next word modulo `limit`.
+/// Draws a number below `limit`, the next output of the generator modulo `limit`.
 pub fn draw(generator: &mut Lcg64Xsh32, limit: u32) -> u32
     requires { 0 < limit }
     ensures number { result ≡ (drawn limit generator.old).0 }

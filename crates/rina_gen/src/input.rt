@@ -1,4 +1,4 @@
-//! What is drawn for a stack and its schedule.
+//! Drawing a stack and its schedule.
 ghost use Rattle.std.specs.Prelude.{◌≡◌, ◌+◌, ◌%◌, ◌^◌, ◌<◌, ◌≤◌, IfOk};
 ghost use Rattle.rina_gen.specs.Draws.{several};
 ghost use Rattle.rina_gen.specs.Input.{wire_drawn, link_drawn, flow_drawn, send_drawn, read_drawn, tick_drawn, line_drawn, line_count, input_of, input};
@@ -11,26 +11,26 @@ use std::alloc::Global;
 /// A wire from a node to the next one.
 #[derive(Clone, Copy, Debug, PartialEq, Eq)]
 pub struct Wire {
-    /// Its number, which is that of its first node.
+    /// The number of the wire, which is that of its first node.
     pub number: u32,
-    /// Its second node.
+    /// The second node.
     pub to: u32,
-    /// Ticks, 1 to 3.
+    /// The delay in ticks, 1 to 3.
     pub delay: u32,
     /// The seed of its storm.
     pub seed: u64,
-    /// How many of 1,000 frames the storm loses.
+    /// How many of 1,000 frames the storm loses, 0 to 59.
     pub lose: u32,
-    /// How many of 1,000 frames the storm repeats.
+    /// How many of 1,000 frames that are not lost the storm repeats, 0 to 59.
     pub repeat: u32,
 }
 
 /// A link of the upper DIF.
 #[derive(Clone, Copy, Debug, PartialEq, Eq)]
 pub struct Link {
-    /// Its first node.
+    /// The first node.
     pub from: u32,
-    /// Its second node.
+    /// The second node.
     pub to: u32,
     /// The lower cube that carries it, 1 or 2.
     pub cube: u32,
@@ -39,44 +39,44 @@ pub struct Link {
 /// A flow of the upper DIF.
 #[derive(Clone, Copy, Debug, PartialEq, Eq)]
 pub struct Flow {
-    /// Its number, from 0.
+    /// The number of the flow, counted from 0.
     pub number: u32,
-    /// Its cube, 1 or 2.
+    /// The QoS cube, 1 or 2.
     pub cube: u32,
-    /// The node of its asker.
+    /// The node that requests the flow.
     pub from: u32,
-    /// The node of its far end, another one.
+    /// The node of the other end, which differs from `from`.
     pub to: u32,
 }
 
-/// A line of the schedule.
+/// A line of the schedule that is drawn.
 #[derive(Clone, Copy, Debug, PartialEq, Eq)]
 pub enum Line {
-    /// So many zero bytes are sent on a flow.
+    /// Sends zero bytes on a flow.
     Send {
         /// The flow, 0 to 5.
         flow: u32,
-        /// Bytes, up to 1,000.
+        /// The number of zero bytes, 0 to 1,000.
         zeros: u32,
     },
-    /// What a flow delivered is read.
+    /// Reads what a flow delivered.
     Read {
         /// The flow, 0 to 5.
         flow: u32,
     },
-    /// Time goes on.
+    /// Lets ticks pass.
     Tick {
-        /// Ticks, 1 to 40.
+        /// The number of ticks, 1 to 40.
         ticks: u32,
     },
 }
 
-/// All that is drawn.
+/// A stack and a schedule as drawn.
 #[derive(Drop)]
 pub struct Input {
-    /// One wire for each node, in a ring: 3 to 6.
+    /// The 3 to 6 wires of a ring, one from each node.
     pub wires: Seq<Wire>,
-    /// One link of the upper DIF for each node, in a ring.
+    /// The links of the upper DIF, a ring too, one from each node.
     pub links: Seq<Link>,
     /// The six flows of the upper DIF.
     pub flows: Seq<Flow>,
@@ -84,7 +84,7 @@ pub struct Input {
     pub lines: Seq<Line>,
 }
 
-/// The node after a node of a ring.
+/// The next node of the ring.
 fn next_node(nodes: u32, i: u32) -> u32
     requires { i < nodes }
     ensures { result ≡ (i + 1) % nodes }
@@ -223,7 +223,7 @@ fn draw_flows(alloc: Global, nodes: u32, generator: &mut Lcg64Xsh32) -> Result<S
     Ok(flows)
 }
 
-/// How many lines of the schedule are drawn.
+/// The number of lines of the schedule that are drawn.
 #[tactic(auto, unfolding(crate::specs::Input::line_count))]
 fn line_count() -> u32
     ensures { result ≡ line_count }
@@ -264,7 +264,7 @@ fn draw_all(
     })
 }
 
-/// Draws a stack and its schedule from a number.
+/// Draws a stack and its schedule with a generator of this seed. Fails once an allocation fails.
 pub fn draw_input(alloc: Global, seed: u32) -> Result<Input, Memory>
     ensures { IfOk result (λ i. i ≡ input seed) }
 {

@@ -1,5 +1,6 @@
-//! What is drawn: a stack and a schedule from a number, as text, which `show N` prints and `gen N` runs; and
-//! what a storm does to the frames of a wire. The words come from PCG's generator of 64 bits with 32-bit words.
+//! Random inputs and storms. A number seeds the generator of an input, a stack and a schedule, which `show N`
+//! prints and `gen N` runs. A storm draws what a wire does with each frame. The generator is PCG's with a state
+//! of 64 bits and an output of 32.
 #![tactic(auto)]
 
 mod draws;

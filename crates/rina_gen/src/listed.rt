@@ -1,4 +1,4 @@
-//! Lists of parts, divided by commas.
+//! Printing lists.
 ghost use Rattle.std.specs.Prelude.{◌≡◌, ◌++◌, codes};
 ghost use Rattle.std.specs.List.{flat_map};
 ghost use Rattle.rina_schedule.specs.Spelling.{Adds};
@@ -8,7 +8,7 @@ ghost use Rattle.rina_gen.specs.declared.listed.Column.{Column};
 use rina_base::Memory;
 use rina_schedule::Text;
 
-/// What a list shows of a wire.
+/// What a list of the stack shows of each wire.
 #[derive(Clone, Copy, Debug, PartialEq, Eq)]
 pub(crate) enum Column {
     /// The name of its first node.
@@ -19,18 +19,18 @@ pub(crate) enum Column {
     Link,
 }
 
-/// A part of a list.
+/// An element of a list.
 pub(crate) trait Listed {
     ghost use Rattle.std.specs.Prelude.{List, ℕ};
 
-    /// Its text, where lists show it in this way.
+    /// The text of the element in such a list.
     ghost shown: { Column → Self → List ℕ };
 
     fn add_to(&self, column: Column, text: &mut Text) -> Result<(), Memory>
         ensures { Adds result text.old text.new (shown column self.now) };
 }
 
-/// Adds parts, with a comma and a space before each.
+/// Appends elements, with a comma and a space before each.
 fn add_others<T: Listed>(text: &mut Text, column: Column, parts: &[T]) -> Result<(), Memory>
     ensures { Adds result text.old text.new (flat_map (λ y. codes ", " ++ T.shown column y) parts.now) }
 {
@@ -44,7 +44,7 @@ fn add_others<T: Listed>(text: &mut Text, column: Column, parts: &[T]) -> Result
     }
 }
 
-/// Adds parts, divided by a comma and a space.
+/// Appends elements, separated by a comma and a space.
 pub(crate) fn add_divided<T: Listed>(
     text: &mut Text,
     column: Column,
@@ -61,7 +61,7 @@ pub(crate) fn add_divided<T: Listed>(
     }
 }
 
-/// Adds a key, and a list of tables on its line.
+/// Appends a line with a key and a list of tables.
 pub(crate) fn add_list<T: Listed>(
     text: &mut Text,
     key: &[u8],

@@ -1,4 +1,4 @@
-//! The text of a schedule, and of stack and schedule.
+//! Printing a schedule, and a stack with its schedule.
 ghost use Rattle.std.specs.Prelude.{◌≡◌, ◌++◌, codes, IfOk};
 ghost use Rattle.std.specs.List.{flat_map};
 ghost use Rattle.rina_schedule.specs.Spelling.{Adds};
@@ -61,7 +61,8 @@ fn add_input(text: &mut Text, input: &Input) -> Result<(), Memory>
     add_last_lines(text)
 }
 
-/// A stack and its schedule, as they are drawn from a number: what `show N` prints.
+/// Draws a stack and its schedule with a generator of this seed, and prints both, as `show N` does. Fails once
+/// an allocation fails.
 pub fn make(alloc: Global, n: u32) -> Result<Vec<u8>, Memory>
     ensures { IfOk result (λ text. text.items ≡ input_text (input n)) }
 {

@@ -1,4 +1,4 @@
-//! The text of a stack.
+//! Printing a stack.
 ghost use Rattle.std.specs.Prelude.{◌≡◌, ◌∷◌, ◌++◌, [], codes};
 ghost use Rattle.std.specs.List.{flat_map};
 ghost use Rattle.rina_schedule.specs.Spelling.{Adds};
@@ -9,7 +9,7 @@ use crate::listed::{Column, Listed, add_divided, add_list};
 use rina_base::Memory;
 use rina_schedule::Text;
 
-/// Adds words and a number.
+/// Appends words and a number.
 #[tactic(auto, unfolding(crate::specs::Text::led))]
 pub(crate) fn add_led(text: &mut Text, words: &[u8], n: u64) -> Result<(), Memory>
     ensures { Adds result text.old text.new (led words.now n) }
@@ -197,7 +197,7 @@ impl Listed for Flow {
     }
 }
 
-/// How the lower DIF begins: all but its members and links.
+/// The keys of the lower DIF before its members and links.
 const LOW_HEAD: &[u8] = b"[[dif]]
 name = \"low\"
 rank = 1
@@ -211,7 +211,7 @@ manage = { mpl = 200, r = 60, a = 2, retry = 15, window = 16 }
 cube = [ { id = 1, kind = \"datagram\", mpl = 200, window = 64, largest = 250 }, { id = 2, kind = \"reliable\", mpl = 200, window = 16, largest = 250, r = 60, a = 2, retry = 15 } ]
 ";
 
-/// How the upper DIF begins: all but its members, links and flows.
+/// The keys of the upper DIF before its members, links and flows.
 const HIGH_HEAD: &[u8] = b"[[dif]]
 name = \"high\"
 rank = 2
@@ -258,7 +258,7 @@ fn add_high(text: &mut Text, input: &Input) -> Result<(), Memory>
     add_list(text, b"flow", Column::Link, input.flows.as_slice())
 }
 
-/// Adds the text of a stack.
+/// Appends the text of a stack.
 #[tactic(auto, unfolding(crate::specs::Text::stack_text))]
 pub(crate) fn add_stack(text: &mut Text, input: &Input) -> Result<(), Memory>
     ensures { Adds result text.old text.new (stack_text input.now) }

@@ -1,31 +1,31 @@
-//! What a storm does to a frame.
+//! Storms: which frames a wire loses, repeats and delays.
 ghost use Rattle.std.specs.Prelude.{◌≡◌, ◌+◌, ◌^◌, ◌<◌};
 ghost use Rattle.rina_gen.specs.Storm.{copy_drawn, sent_drawn, fate_drawn};
 
 use crate::draws::draw;
 use rand_pcg::Lcg64Xsh32;
 
-/// The odds of a storm on a wire.
+/// The odds by which a wire loses, repeats and delays frames.
 #[derive(Clone, Copy, Debug, PartialEq, Eq)]
 pub struct Storm {
-    /// How many of 1,000 frames it loses.
+    /// How many of 1,000 frames are lost.
     pub lose: u32,
-    /// How many of 1,000 frames that are not lost it repeats.
+    /// How many of 1,000 frames that are not lost are repeated.
     pub repeat: u32,
-    /// By how many ticks it delays a frame or a copy at most.
+    /// The greatest additional delay of a frame or a copy, in ticks.
     pub spread: u32,
 }
 
-/// What becomes of a frame.
+/// What a storm does with a frame.
 #[derive(Clone, Copy, Debug, PartialEq, Eq)]
 pub enum Fate {
-    /// It is lost.
+    /// The frame is lost.
     Lost,
-    /// It arrives.
+    /// The frame arrives.
     Sent {
-        /// By how many ticks it comes late.
+        /// Its additional delay, in ticks.
         late: u32,
-        /// By how many ticks a copy of it comes late, where one is made.
+        /// The additional delay of a copy, where there is one, in ticks.
         copy: Option<u32>,
     },
 }
@@ -54,8 +54,8 @@ fn draw_sent(storm: Storm, generator: &mut Lcg64Xsh32) -> Fate
     Fate::Sent { late, copy }
 }
 
-/// What becomes of a frame that a wire accepts. Of a lost frame one number is drawn, of one that is not
-/// repeated three, and of a repeated one four.
+/// Draws what the storm does with a frame that the wire accepts: one number for a frame that is lost, three for
+/// one that arrives once, and four for one that is repeated.
 #[tactic(auto, unfolding(crate::specs::Storm::fate_drawn))]
 pub fn draw_fate(storm: Storm, generator: &mut Lcg64Xsh32) -> Fate
     requires { storm.spread + 1 < 2 ^ 32 }

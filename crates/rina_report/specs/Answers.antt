@@ -1,4 +1,4 @@
--- What a line answers or brings about.
+-- Printed answers.
 use Rattle.std.specs.Prelude.{ℕ, Bool, true, false, List, [], ◌∷◌, ◌++◌, codes}
 use Rattle.std.specs.Fmt.{decimal}
 use Rattle.rina_iface.specs.declared.state.Role.{Role}
@@ -49,7 +49,7 @@ answer_fields (answers.GotEntry at num bytes) = codes "g" ∷ decimal at ∷ num
 answer_fields (answers.Refused why) = codes "no" ∷ refusal_fields why
 answer_fields (answers.Label label state) = codes "state" ∷ label ∷ state_fields state
 
--- a word shows an object of a RIB, a write-off of a ledger, an end of a journal or an entry of it
+-- the answer is about a RIB, a ledger or a journal
 abbrev pub is_shown : Answer → Bool
 is_shown (answers.Object name class value) = true
 is_shown (answers.Off key cause) = true
@@ -58,7 +58,7 @@ is_shown (answers.SentEntry at num bytes) = true
 is_shown (answers.GotEntry at num bytes) = true
 is_shown answer = false
 
--- an IPC process answers a step or a CDAP message, or a word shows what it keeps
+-- the answer is about an IPC process, a RIB, a ledger or a journal
 abbrev pub is_of_ipc : Answer → Bool
 is_of_ipc answers.Done = false
 is_of_ipc (answers.Port state) = false

@@ -1,4 +1,4 @@
--- The causes of write-offs.
+-- Printed causes of write-offs.
 use Rattle.std.specs.Prelude.{ℕ, List, [], ◌∷◌, codes}
 use Rattle.std.specs.Fmt.{decimal}
 use Rattle.rina_report.specs.declared.cause.CauseNote.{CauseNote}
@@ -19,7 +19,7 @@ cause_word (causes.StateGone _) = codes "StateGone"
 cause_word (causes.Broken _) = codes "Broken"
 cause_word (causes.LinkDown _) = codes "LinkDown"
 
--- the values that show a cause
+-- the fields of a cause
 unfoldable pub cause_values : CauseNote → List (List ℕ)
 cause_values (causes.Expired left charge) = decimal left ∷ decimal charge ∷ []
 cause_values (causes.NoRoute dst) = decimal dst ∷ []

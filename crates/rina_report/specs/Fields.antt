@@ -1,5 +1,5 @@
--- The fields of a note, which single spaces part. A reader takes the fields that are left, and gives a
--- value and those behind it. The word of a note is its field 0.
+-- The fields of a note, which single spaces separate. Each definition reads from the remaining fields of a
+-- note, and gives a value and the fields after it. The word of a note is field 0.
 use Rattle.std.specs.Prelude.{ℕ, ◌+◌, ◌-◌, ◌^◌, ◌==◌, ◌||◌, not, Bool, true, false, List, [], ◌∷◌, codes, length, position, take, drop, Option, Some, None, Result, Ok, Err, if◌then◌else◌}
 use Rattle.std.specs.Str.{bytes_eq}
 use Rattle.std.specs.Option.{option_and_then, option_map}
@@ -35,12 +35,12 @@ behind (_ ∷ text) = fields_of text
 
 -- ---- the forms of fields
 
--- a numeral has no needless zero before it
+-- a numeral has no leading zero
 unfoldable pub is_numeral : List ℕ → Bool
 is_numeral [] = false
 is_numeral (b ∷ text) = (length text == 0) || not (b == 48)
 
--- the number that a numeral writes, up to max
+-- the number that a numeral is, up to max
 unfoldable pub numeral_of : ℕ → List ℕ → Option ℕ
 numeral_of max text = if is_numeral text then decimal_of max text else None
 
@@ -48,7 +48,7 @@ abbrev pub parts_at : Option ℕ → List ℕ → List ℕ × List ℕ
 parts_at None text = (text, [])
 parts_at (Some k) text = (take k text, drop (k + 1) text)
 
--- what stands before the first byte b of a text, and what behind it
+-- the text before the first byte b, and the text after it
 unfoldable pub parts_of : ℕ → List ℕ → List ℕ × List ℕ
 parts_of b text = parts_at (position (λ x. x == b) text) text
 
@@ -84,13 +84,13 @@ kind_of text = if bytes_eq text (codes "data") then Some Piece else (if bytes_eq
 unfoldable pub truth_of : List ℕ → Option Bool
 truth_of text = if bytes_eq text (codes "0") then Some false else (if bytes_eq text (codes "1") then Some true else None)
 
--- ---- field n of those that are left
+-- ---- field n, the first of the remaining fields
 
 abbrev pub field_at : ℕ → List (List ℕ) → Result (List ℕ × List (List ℕ)) LineError
 field_at n [] = Err (errors.MissingField n)
 field_at n (f ∷ fs) = Ok (f, fs)
 
--- no field n stands there
+-- the note ends before field n
 abbrev pub end_at : ℕ → List (List ℕ) → Result (Unit {0}) LineError
 end_at n [] = Ok tt
 end_at n (_ ∷ _) = Err (errors.Extra n)
@@ -146,21 +146,21 @@ name_field_at n fs = do
   x ← name_or_bad n (name_at f.0)
   Ok (x, f.1)
 
--- the name of an application
+-- an application name
 unfoldable pub app_field_at : ℕ → List (List ℕ) → Result (List ℕ × List (List ℕ)) LineError
 app_field_at n fs = do
   f ← field_at n fs
   x ← name_or_bad n (app_at f.0)
   Ok (x, f.1)
 
--- the name of an object
+-- an object name
 unfoldable pub object_at : ℕ → List (List ℕ) → Result (List ℕ × List (List ℕ)) LineError
 object_at n fs = do
   f ← field_at n fs
   x ← or_bad (errors.BadName n) (object_name_of f.0)
   Ok (x, f.1)
 
--- bytes in the spelling in which they are printed
+-- bytes, spelled as they are printed
 unfoldable pub bytes_at : ℕ → List (List ℕ) → Result (List ℕ × List (List ℕ)) LineError
 bytes_at n fs = do
   f ← field_at n fs

@@ -1,4 +1,4 @@
--- The text of notes.
+-- Printed notes.
 use Rattle.std.specs.Prelude.{ℕ, List, [], ◌∷◌, ◌++◌, codes}
 use Rattle.std.specs.Fmt.{decimal}
 use Rattle.std.specs.List.{flat_map}
@@ -25,7 +25,7 @@ fault_values (faults.StackRule n item) = decimal n ∷ decimal item ∷ []
 fault_values (faults.Schedule line n field) = decimal line ∷ decimal n ∷ decimal field ∷ []
 fault_values _ = []
 
--- what a generated run told
+-- the last fields of the summary of a generated run
 unfoldable pub told_fields : ℕ → ℕ → ℕ → ℕ → ℕ → List (List ℕ)
 told_fields sent got refused off failed =
     codes "sent" ∷ decimal sent ∷ codes "got" ∷ decimal got ∷ codes "refused" ∷ decimal refused
@@ -40,10 +40,10 @@ note_text (notes.Checked nodes wires difs lines) = codes "checked" ++ spaced (de
 note_text (notes.Gen n lines tick sent got refused off failed) =
     codes "gen" ++ spaced (decimal n ∷ codes "lines" ∷ decimal lines ∷ codes "tick" ∷ decimal tick ∷ told_fields sent got refused off failed)
 
--- a note as a line of its own
+-- a note and the end of its line
 abbrev pub line_of : Note → List ℕ
 line_of note = note_text note ++ 10 ∷ []
 
--- what a run writes: each note's text with LF behind it
+-- the output of a run: the text of each note and an LF
 abbrev pub text_of : List Note → List ℕ
 text_of notes = flat_map line_of notes

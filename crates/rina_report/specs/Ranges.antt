@@ -1,4 +1,4 @@
--- The ranges of the values of a note: each number fits its type, and each name is one.
+-- The values of a note are in range: each number fits its type, and each name is a name.
 use Rattle.std.specs.Prelude.{◌≡◌, ◌≤◌, Option, Some, None, true}
 use Rattle.rina_base.specs.declared.number.Num.{Num}
 use Rattle.rina_base.specs.declared.number.FlowName.{FlowName}

@@ -1,4 +1,4 @@
--- What a line answers or brings about, as it is read: its word is field 0.
+-- Reading answers, whose word is field 0.
 use Rattle.std.specs.Prelude.{ℕ, ◌+◌, List, [], ◌∷◌, codes, Option, Some, None, Result, Ok, Err, if◌then◌else◌}
 use Rattle.std.specs.Str.{bytes_eq}
 use Rattle.rina_base.specs.Traverse.{◌>>=◌}
@@ -43,7 +43,7 @@ got_at n fs = do
   bytes ← last_bytes_at (n + 1) at.1
   Ok (answers.Got at.0 bytes)
 
--- KEY and what became of the PDU
+-- KEY and what a step did with the PDU
 unfoldable pub in_at : ℕ → List (List ℕ) → Result Answer LineError
 in_at n fs = do
   key ← key_at n fs
@@ -110,7 +110,7 @@ label_at n fs = do
   state ← state_at (n + 1) label.1
   Ok (answers.Label label.0 state)
 
--- the words of a journal and of a RIB, or no word
+-- an answer with a word about journals or RIBs
 unfoldable pub journal_word_at : List ℕ → List (List ℕ) → Result Answer LineError
 journal_word_at word fs =
     if bytes_eq word (codes "cdap") then (last_bytes_at 1 fs >>= λ bytes. Ok (answers.Cdap bytes))
@@ -120,7 +120,7 @@ journal_word_at word fs =
     else (if bytes_eq word (codes "g") then (entry_at 1 fs >>= λ x. Ok (answers.GotEntry x.0 x.1 x.2))
     else Err errors.UnknownWord))))
 
--- the words of steps, or one of those above
+-- an answer with a word about steps, or with one of those above
 unfoldable pub step_word_at : List ℕ → List (List ℕ) → Result Answer LineError
 step_word_at word fs =
     if bytes_eq word (codes "in") then in_at 1 fs
@@ -131,7 +131,7 @@ step_word_at word fs =
     else (if bytes_eq word (codes "off") then off_at 1 fs
     else journal_word_at word fs)))))
 
--- what a word and the fields behind it say
+-- an answer with this word
 unfoldable pub answer_at : List ℕ → List (List ℕ) → Result Answer LineError
 answer_at word fs =
     if bytes_eq word (codes "ok") then ok_at 1 fs

@@ -1,4 +1,4 @@
--- The causes and the single steps that are read, from field n on to the end of the note.
+-- Reading causes and the results of single steps, from field n to the end of the note.
 use Rattle.std.specs.Prelude.{ℕ, ◌+◌, List, codes, Result, Ok, Err, if◌then◌else◌}
 use Rattle.std.specs.Str.{bytes_eq}
 use Rattle.rina_base.specs.Traverse.{◌>>=◌}
@@ -12,7 +12,7 @@ use Rattle.rina_report.specs.declared.step.ClockNote.{ClockNote}
 use Rattle.rina_report.specs.declared.step.ClockNote.TheVariants as clocks
 use Rattle.rina_report.specs.Fields.{max32, field_at, end_at, last_number_at, last_two_at, last_num_at, last_port_at, last_truth_at}
 
--- a cause that a PDU itself shows, by the word in field n
+-- a cause that lies in the PDU itself, by the word in field n
 unfoldable pub pdu_cause_of : List ℕ → ℕ → List (List ℕ) → Result CauseNote LineError
 pdu_cause_of word n fs =
     if bytes_eq word (codes "Duplicate") then (last_num_at (n + 1) fs >>= λ num. Ok (causes.Duplicate num))
@@ -38,7 +38,7 @@ cause_at n fs = do
   f ← field_at n fs
   cause_of f.0 n f.1
 
--- what became of a PDU that a step took
+-- what a step did with a PDU
 unfoldable pub took_of : List ℕ → ℕ → List (List ℕ) → Result TookNote LineError
 took_of word n fs =
     if bytes_eq word (codes "accepted") then (end_at (n + 1) fs >>= λ _. Ok tooks.Accepted)
@@ -51,7 +51,7 @@ took_at n fs = do
   f ← field_at n fs
   took_of f.0 n f.1
 
--- what a step of the clock did
+-- the result of a step of the clock
 unfoldable pub clock_of : List ℕ → ℕ → List (List ℕ) → Result ClockNote LineError
 clock_of word n fs =
     if bytes_eq word (codes "link-lost") then (last_number_at max32 (n + 1) fs >>= λ x. Ok (clocks.LinkLost x))

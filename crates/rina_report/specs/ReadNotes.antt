@@ -1,4 +1,4 @@
--- The notes that are read. The word of a note is the field behind its two numbers, where it has them.
+-- Reading notes. The word of a note that begins with two numbers is the field after them.
 use Rattle.std.specs.Prelude.{ℕ, ◌+◌, List, [], ◌∷◌, codes, Result, Ok, Err, if◌then◌else◌}
 use Rattle.std.specs.Str.{bytes_eq}
 use Rattle.rina_base.specs.Traverse.{◌>>=◌}
@@ -63,7 +63,7 @@ gen_at n fs = do
   _ ← end_at (n + 15) failed.1
   Ok (notes.Gen x.0 lines.0 tick.0 sent.0 got.0 refused.0 off.0 failed.0)
 
--- a field that has to be a number for the note to have a word
+-- the number of a line or a tick, without which the note has no word
 unfoldable pub counter_at : List (List ℕ) → Result (ℕ × List (List ℕ)) LineError
 counter_at [] = Err errors.UnknownWord
 counter_at (f ∷ fs) = or_bad errors.UnknownWord (numeral_of max32 f) >>= λ x. Ok (x, fs)
@@ -92,6 +92,6 @@ abbrev pub fields_note : List (List ℕ) → Result Note LineError
 fields_note [] = Err errors.UnknownWord
 fields_note (word ∷ fs) = whole_at word fs
 
--- the note that a text is, or its first fault from the left
+-- the note that a text is, or the first error from the left
 unfoldable pub note_at : List ℕ → Result Note LineError
 note_at text = fields_note (fields_of text)

@@ -1,4 +1,4 @@
--- The refusals that are read, from field n on to the end of the note.
+-- Reading refusals, from field n to the end of the note.
 use Rattle.std.specs.Prelude.{ℕ, ◌+◌, List, codes, Option, Some, None, Result, Ok, Err, if◌then◌else◌}
 use Rattle.std.specs.Str.{bytes_eq}
 use Rattle.rina_base.specs.Traverse.{◌>>=◌}
@@ -10,7 +10,7 @@ use Rattle.rina_report.specs.declared.refusal.Refusal.TheVariants as refusals
 use Rattle.rina_report.specs.Fields.{max32, max64, field_at, end_at, last_number_at, last_two_at, last_port_at}
 use Rattle.rina_report.specs.ReadStates.{fail_at, state_of}
 
--- the refusal of this name, where it has no fields
+-- the refusal with this name, where it has no fields
 unfoldable pub bare_of : List ℕ → Option Refusal
 bare_of word =
     if bytes_eq word (codes "NoWire") then Some refusals.NoWire
@@ -41,7 +41,7 @@ state_or_none_at n fs = do
   f ← field_at n fs
   state_or_none_of f.0 n f.1
 
--- the refusal of the word in field n, where it has other fields than one number of 32 bits
+-- the refusal with the name in field n, where its fields are others than one number of 32 bits
 unfoldable pub shaped_of : List ℕ → ℕ → List (List ℕ) → Result Refusal LineError
 shaped_of word n fs =
     if bytes_eq word (codes "CountSpent") then (last_two_at max32 (n + 1) fs >>= λ x. Ok (refusals.CountSpent x.0 x.1))

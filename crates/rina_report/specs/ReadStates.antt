@@ -1,5 +1,5 @@
--- The states that are read. Each takes the number of its own field, n, and what stands from there on
--- to the end of the note.
+-- Reading states. Each definition takes the number n of the field where the state begins, and the fields
+-- from there to the end of the note.
 use Rattle.std.specs.Prelude.{ℕ, ◌+◌, List, codes, Result, Ok, Err, if◌then◌else◌}
 use Rattle.std.specs.Str.{bytes_eq}
 use Rattle.rina_base.specs.Traverse.{◌>>=◌}
@@ -28,7 +28,7 @@ why_at n fs = do
   f ← field_at n fs
   why_of f.0 n f.1
 
--- a piece that was given up, and when
+-- the PDU that was not acknowledged in time, and the ticks
 unfoldable pub gave_up_at : ℕ → List (List ℕ) → Result FailNote LineError
 gave_up_at n fs = do
   num ← num_at n fs

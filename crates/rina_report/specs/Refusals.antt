@@ -1,5 +1,5 @@
--- The refusals.
-use Rattle.std.specs.Prelude.{ℕ, List, [], ◌∷◌, codes, Option, Some, None}
+-- Printed refusals.
+use Rattle.std.specs.Prelude.{ℕ, Bool, true, false, List, [], ◌∷◌, codes, Option, Some, None}
 use Rattle.std.specs.Fmt.{decimal}
 use Rattle.rina_report.specs.declared.state.StateNote.{StateNote}
 use Rattle.rina_report.specs.declared.refusal.Refusal.{Refusal}
@@ -52,6 +52,16 @@ refusal_word (refusals.BadValue _) = codes "BadValue"
 refusal_word refusals.NoRank = codes "NoRank"
 refusal_word refusals.NotYours = codes "NotYours"
 refusal_word refusals.Unbuilt = codes "Unbuilt"
+
+-- the refusal is for bytes that are no CDAP message
+abbrev pub is_of_message : Refusal → Bool
+is_of_message (refusals.Short _) = true
+is_of_message (refusals.BadTag _) = true
+is_of_message (refusals.BadOp _) = true
+is_of_message (refusals.Twice _) = true
+is_of_message (refusals.Missing _) = true
+is_of_message (refusals.BadValue _) = true
+is_of_message _ = false
 
 -- the fields of a refusal
 unfoldable pub refusal_values : Refusal → List (List ℕ)

@@ -1,4 +1,4 @@
--- The states of ports and members.
+-- Printed states of ports and members.
 use Rattle.std.specs.Prelude.{ℕ, List, [], ◌∷◌, codes}
 use Rattle.std.specs.Fmt.{decimal}
 use Rattle.rina_iface.specs.declared.state.Why.{Why}

@@ -1,4 +1,4 @@
--- What single steps did.
+-- Printed results of single steps.
 use Rattle.std.specs.Prelude.{ℕ, List, [], ◌∷◌, codes}
 use Rattle.std.specs.Fmt.{decimal}
 use Rattle.rina_report.specs.declared.step.TookNote.{TookNote}
@@ -8,13 +8,13 @@ use Rattle.rina_report.specs.declared.step.ClockNote.TheVariants as clocks
 use Rattle.rina_report.specs.Values.{num_text, port_text}
 use Rattle.rina_report.specs.Causes.{cause_fields}
 
--- what became of a PDU that a step took
+-- what a step did with a PDU
 unfoldable pub took_fields : TookNote → List (List ℕ)
 took_fields tooks.Accepted = codes "accepted" ∷ []
 took_fields tooks.Relayed = codes "relayed" ∷ []
 took_fields (tooks.Off cause) = codes "off" ∷ cause_fields cause
 
--- what a step of the clock did
+-- the result of a step of the clock
 unfoldable pub clock_fields : ClockNote → List (List ℕ)
 clock_fields (clocks.LinkLost link) = codes "link-lost" ∷ decimal link ∷ []
 clock_fields (clocks.LinkNew link) = codes "link-new" ∷ decimal link ∷ []

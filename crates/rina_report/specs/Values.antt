@@ -1,4 +1,4 @@
--- How values of more than one part are written.
+-- Printed values of more than one part.
 use Rattle.std.specs.Prelude.{ℕ, Bool, true, false, List, [], ◌∷◌, ◌++◌, codes}
 use Rattle.std.specs.Fmt.{decimal}
 use Rattle.rina_base.specs.declared.number.Num.{Num}

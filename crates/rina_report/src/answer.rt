@@ -1,4 +1,4 @@
-//! What a note tells behind the number of a line and the tick.
+//! The answers that notes show behind the number of a line and the tick.
 use crate::cause::CauseNote;
 use crate::refusal::Refusal;
 use crate::state::{MemberNote, PortNote, StateNote};
@@ -19,17 +19,17 @@ pub struct FlowNote {
     pub peer: AppName,
     /// The QoS-id of the flow's cube, 0 on a wire.
     pub cube: u8,
-    /// How many SDUs were passed to the application.
+    /// The number of SDUs that were passed to the application.
     pub taken: u64,
     pub state: StateNote,
 }
 
-/// What a line answers or brings about.
+/// The answer to a line, or an effect of it.
 #[derive(Drop)]
 pub enum Answer {
-    /// It was done.
+    /// The line was carried out.
     Done,
-    /// It was done; the port has this state.
+    /// The line was carried out; the port has this state.
     Port {
         state: StateNote,
     },
@@ -62,17 +62,17 @@ pub enum Answer {
         key: Key,
         cause: CauseNote,
     },
-    /// A step could not give a PDU to a link, which keeps it.
+    /// A step could not give a PDU to a link, and keeps it.
     Held {
         why: Refusal,
     },
-    /// A step of the clock.
+    /// The result of a step of the clock.
     Clock {
         step: ClockNote,
     },
     /// A step had nothing to do.
     Idle,
-    /// The answer of a RIB, a CDAP message.
+    /// The CDAP message with which a RIB answered.
     Cdap {
         bytes: Bytes,
     },
@@ -82,20 +82,20 @@ pub enum Answer {
         class: Class,
         value: Bytes,
     },
-    /// A write-off of a ledger.
+    /// A write-off in a ledger.
     Off {
         key: Key,
         cause: CauseNote,
     },
     /// An end of a flow in a journal.
     Flow(FlowNote),
-    /// An SDU that the end before it in a journal sent.
+    /// An SDU that was sent at the end that a journal shows before it.
     SentEntry {
         at: Tick,
         num: Num,
         bytes: Bytes,
     },
-    /// An SDU that was delivered to the end before it in a journal.
+    /// An SDU that was delivered at the end that a journal shows before it.
     GotEntry {
         at: Tick,
         num: Num,
@@ -105,7 +105,7 @@ pub enum Answer {
     Refused {
         why: Refusal,
     },
-    /// The state of a labelled port became this one.
+    /// The port with this label changed to this state.
     Label {
         label: Name,
         state: StateNote,

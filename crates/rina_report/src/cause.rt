@@ -1,30 +1,30 @@
-//! Causes of write-offs, as a note shows them.
+//! Causes of write-offs, as notes show them.
 use crate::state::PortNote;
 use rina_base::{Addr, Cep, Num, Tick};
 
-/// Why a PDU was written off, with the values that show it.
+/// Why a PDU was written off, with the values that led to it.
 #[derive(Drop)]
 pub enum CauseNote {
-    /// The lifetime that was left, in ticks, is less than the charge of this hop.
+    /// The remaining lifetime, in ticks, is less than the charge of this hop.
     Expired { left: u32, charge: u32 },
-    /// The next-hop table has no row for this address.
+    /// The forwarding table has no next hop for this address.
     NoRoute { dst: Addr },
-    /// The queue held `cap` PDUs.
+    /// The queue was full, with `cap` PDUs.
     QueueFull { cap: u32 },
-    /// No allocated connection has this CEP-id with that source and QoS-id, or it closed.
+    /// No open connection has this CEP-id, source and QoS-id.
     NoConnection { cep: Cep },
-    /// The piece was received before.
+    /// The PDU was received before.
     Duplicate { num: Num },
-    /// The piece is too old, by the highest number received.
+    /// The PDU is too old: `highest` is the highest sequence number received.
     Behind { highest: u32 },
-    /// The receiver has no state, and the piece does not begin a run.
+    /// The receiver has no state, and the PDU does not begin a run of PDUs.
     NoState { drf: bool },
-    /// At least `cap` SDUs, the window, wait to be read.
+    /// At least `cap` SDUs, the size of the window, wait to be read.
     NoRoom { cap: u32 },
-    /// The receiver's state ended, by the tick of the last piece that counted.
+    /// The receiver's state expired; `last_in` is the tick of the last PDU that renewed it.
     StateGone { last_in: Tick },
-    /// Its SDU cannot be joined: this number is missing.
+    /// Its SDU cannot be reassembled: the PDU with this number is missing.
     Broken { missing: u32 },
-    /// The lower flow's port is not allocated any more.
+    /// The port of the flow below is no longer allocated.
     LinkDown { port: PortNote },
 }

@@ -1,4 +1,4 @@
-//! Notes: what a run tells, each of them one line of text.
+//! Notes: the output of a run, one line of text each. This crate defines, prints and reads them.
 #![tactic(auto)]
 
 mod answer;

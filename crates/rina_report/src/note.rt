@@ -5,13 +5,13 @@ use rina_base::{Seq, Tick};
 /// Why a run ended before its last line.
 #[derive(Clone, Copy, Debug, PartialEq, Eq)]
 pub enum Fault {
-    /// The word of the command line at this place, counted from 0, cannot stand there, or is missing.
+    /// The word at this place of the command line, counted from 0, is not allowed there or is missing.
     Usage { word: u32 },
     /// The input has more than 16,777,216 bytes.
     TooLarge,
-    /// The stack is no TOML.
+    /// The stack is not TOML.
     NotToml,
-    /// The stack breaks rule `n`, first at item `item`.
+    /// The stack breaks rule `n`; `item` is the first item that does.
     StackRule { n: u32, item: u32 },
     /// The line is outside the grammar: it has error `n` at field `field`.
     Schedule { line: u32, n: u32, field: u32 },
@@ -22,7 +22,7 @@ pub enum Fault {
 /// A note, which is one line of text.
 #[derive(Drop)]
 pub enum Note {
-    /// What a line of the schedule, counted from 1, answered or brought about at this tick.
+    /// The answer to line number `line` of the schedule, counted from 1, or an effect of it, at this tick.
     Line {
         line: u32,
         tick: Tick,
@@ -34,16 +34,15 @@ pub enum Note {
     },
     /// The run ended before its last line.
     Fault(Fault),
-    /// The counts of an input that was checked and not run. `lines` counts the lines that ask for something.
+    /// The counts of an input that was checked and not run. `lines` is the number of lines with an event.
     Checked {
         nodes: u32,
         wires: u32,
         difs: u32,
         lines: u32,
     },
-    /// The summary of a generated run: its number, its lines, its last tick, and how many SDUs were
-    /// sent, how many were read, how many lines were refused, how many PDUs were written off, and how
-    /// many ends of applications failed.
+    /// The summary of a generated run: its number, its lines, its last tick, and how many SDUs were sent,
+    /// SDUs were read, lines were refused, PDUs were written off, and ends of applications failed.
     Gen {
         n: u32,
         lines: u32,
@@ -56,5 +55,5 @@ pub enum Note {
     },
 }
 
-/// Notes in the order in which they were made.
+/// Notes in the order in which a run made them.
 pub type Notes = Seq<Note>;

@@ -1,4 +1,4 @@
-//! Notes as text: exact spelling, one function for each kind of value.
+//! Printing notes, with one function for each kind of value.
 
 mod answer;
 mod cause;

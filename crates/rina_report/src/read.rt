@@ -1,5 +1,6 @@
-//! Notes from text: one function for each kind of value. A reader takes what is left of a note, which
-//! begins with the space before its next field, and gives a value and what is left behind it.
+//! Reading notes, with one function for each kind of value. A function reads from the rest of a note, which
+//! begins with the space before its next field, and gives a value and the rest of the note after it.
+//! `LineError` counts the fields of a note from its word, which is field 0.
 
 mod answer;
 mod cause;

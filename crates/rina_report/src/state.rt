@@ -1,4 +1,4 @@
-//! Ports and states, as a note shows them.
+//! Ports and states, as notes show them.
 use rina_base::{Name, Num, Tick};
 use rina_iface::Why;
 
@@ -13,9 +13,9 @@ pub struct PortNote {
 /// Why a flow failed.
 #[derive(Drop)]
 pub enum FailNote {
-    /// The piece `num`, first sent at `first`, was never acknowledged, and is not sent again.
+    /// The PDU `num`, first sent at `first`, was not acknowledged in time.
     GaveUp { num: Num, first: Tick, now: Tick },
-    /// The last link of the IPC process failed, which is this port of the rank below.
+    /// The last link of the IPC process failed; the link is this port of the rank below.
     Below { port: PortNote },
     /// The wire was cut.
     Cut { at: Tick },
@@ -34,11 +34,11 @@ pub enum StateNote {
 /// The state of a member of a DIF.
 #[derive(Clone, Copy, Debug, PartialEq, Eq)]
 pub enum MemberNote {
-    /// It has not joined.
+    /// It is not enrolled.
     Outside,
-    /// It joins by this link.
+    /// It is enrolling over this link.
     Joining { link: u32 },
     Enrolled,
-    /// The access rule of this number denied it.
+    /// The access rule with this number denied its enrolment.
     Denied { rule: u32 },
 }

@@ -1,4 +1,4 @@
--- The words on the members of a DIF: what stands behind each.
+-- The words about members of a DIF, and the fields behind each.
 use Rattle.std.specs.Prelude.{ℕ, List, Result, Ok}
 use Rattle.rina_base.specs.Traverse.{◌>>=◌}
 use Rattle.rina_schedule.specs.declared.error.LineError.{LineError}

@@ -1,4 +1,4 @@
--- The words on flows: what stands behind each.
+-- The words about flows, and the fields behind each.
 use Rattle.std.specs.Prelude.{ℕ, ◌^◌, ◌-◌, List, codes, Result, Ok}
 use Rattle.rina_base.specs.Traverse.{◌>>=◌}
 use Rattle.rina_cube.specs.declared.Want.{Want}

@@ -1,16 +1,16 @@
--- The lines of a schedule.
-use Rattle.std.specs.Prelude.{ℕ, ◌==◌, List, codes, slice_index, Option, Some, None, Result, Ok, Err, if◌then◌else◌}
+-- Reading a line of a schedule.
+use Rattle.std.specs.Prelude.{ℕ, ◌==◌, List, codes, slice_index, Option, Some, None, IsSomeAnd, IsOk, Result, Ok, Err, if◌then◌else◌}
 use Rattle.std.specs.Str.{bytes_eq}
 use Rattle.rina_base.specs.Traverse.{◌>>=◌}
 use Rattle.rina_schedule.specs.declared.error.LineError.{LineError}
 use Rattle.rina_schedule.specs.declared.error.LineError.TheVariants as errors
 use Rattle.rina_schedule.specs.declared.event.Event.{Event}
-use Rattle.rina_schedule.specs.Fields.{next_of}
+use Rattle.rina_schedule.specs.Fields.{next_of, field_at}
 use Rattle.rina_schedule.specs.FlowWords.{register_at, unregister_at, alloc_at, accept_at, send_at, read_at, state_at, free_at}
 use Rattle.rina_schedule.specs.WireWords.{lose_at, repeat_at, hold_at, cut_at, mend_at, tick_at, round_at, retire_at, journal_at}
 use Rattle.rina_schedule.specs.DifWords.{publish_at, enrol_at, member_at, in_at, out_at, clock_at, cdap_at, rib_at, ledger_at}
 
--- the words of steps, or no word
+-- the event of a line with a word about the clock, policies or journals
 unfoldable pub step_word_at : List ℕ → List ℕ → Result Event LineError
 step_word_at word text =
     if bytes_eq word (codes "tick") then tick_at text
@@ -19,7 +19,7 @@ step_word_at word text =
     else (if bytes_eq word (codes "journal") then journal_at text
     else Err errors.UnknownWord)))
 
--- the words on members, or one of those above
+-- the event of a line with a word about members of a DIF, or with one of those above
 unfoldable pub dif_word_at : List ℕ → List ℕ → Result Event LineError
 dif_word_at word text =
     if bytes_eq word (codes "publish") then publish_at text
@@ -33,7 +33,7 @@ dif_word_at word text =
     else (if bytes_eq word (codes "ledger") then ledger_at text
     else step_word_at word text))))))))
 
--- the words on wires, or one of those above
+-- the event of a line with a word about wires, or with one of those above
 unfoldable pub wire_word_at : List ℕ → List ℕ → Result Event LineError
 wire_word_at word text =
     if bytes_eq word (codes "lose") then lose_at text
@@ -43,7 +43,7 @@ wire_word_at word text =
     else (if bytes_eq word (codes "mend") then mend_at text
     else dif_word_at word text))))
 
--- the event of a word and what stands behind it
+-- the event of a line with this word and this text behind it
 unfoldable pub word_at : List ℕ → List ℕ → Result Event LineError
 word_at word text =
     if bytes_eq word (codes "register") then register_at text
@@ -60,6 +60,10 @@ abbrev pub event_or_none : Option (List ℕ × List ℕ) → Result (Option Even
 event_or_none None = Ok None
 event_or_none (Some f) = if slice_index f.0 0 == 35 then Ok None else (word_at f.0 f.1 >>= λ event. Ok (Some event))
 
--- what a line asks for; nothing where it is blank, or its first field begins with '#'
+-- a field stands behind the word of a line
+abbrev pub HasOperand : List ℕ → Type 0
+HasOperand text = IsSomeAnd (next_of text) (λ f. IsOk (field_at 1 f.1))
+
+-- the event that a line asks for; none where it is blank or a comment, whose first field begins with '#'
 unfoldable pub line_at : List ℕ → Result (Option Event) LineError
 line_at text = event_or_none (next_of text)

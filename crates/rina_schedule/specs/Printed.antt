@@ -1,4 +1,4 @@
--- How a line is printed: single spaces, and one spelling of each field.
+-- Printed lines: single spaces, and one spelling of each field.
 use Rattle.std.specs.Prelude.{ℕ, ◌==◌, ◌-◌, ◌^◌, Bool, true, false, List, [], ◌∷◌, ◌++◌, codes, Option, Some, None, if◌then◌else◌}
 use Rattle.std.specs.Fmt.{decimal}
 use Rattle.rina_cube.specs.declared.Want.{Want}
@@ -6,11 +6,11 @@ use Rattle.rina_schedule.specs.declared.event.Event.{Event}
 use Rattle.rina_schedule.specs.declared.event.Event.TheVariants as events
 use Rattle.rina_schedule.specs.Spelling.{spelling, spaced}
 
--- an option that is a word, where it is given
+-- an option that is a word, where it is set
 unfoldable pub flag_fields : List ℕ → Bool → List (List ℕ)
 flag_fields word given = if given then word ∷ [] else []
 
--- an option with a number, left out where that is the default
+-- an option that is a word with a number behind it, left out where the number is the default
 unfoldable pub setting_fields : List ℕ → ℕ → ℕ → List (List ℕ)
 setting_fields word default n = if n == default then [] else (word ++ decimal n) ∷ []
 
@@ -83,7 +83,7 @@ event_fields (events.Rib dif node path) = dif ∷ node ∷ path_fields path
 event_fields (events.Ledger dif node) = dif ∷ node ∷ []
 event_fields (events.Journal fac) = fac ∷ []
 
--- the word is on an IPC process of a DIF
+-- the event is about an IPC process of a DIF
 abbrev pub is_dif_word : Event → Bool
 is_dif_word (events.Publish dif node fac) = true
 is_dif_word (events.Enrol dif node fac peer) = true
@@ -96,7 +96,7 @@ is_dif_word (events.Rib dif node path) = true
 is_dif_word (events.Ledger dif node) = true
 is_dif_word event = false
 
--- no field of the word names an application
+-- the event names no application
 abbrev pub names_no_app : Event → Bool
 names_no_app (events.Register fac node app) = false
 names_no_app (events.Unregister fac node app) = false

@@ -1,4 +1,4 @@
--- The words on wires, and those that stand alone: what stands behind each.
+-- The words about wires, the clock, policies and journals, and the fields behind each.
 use Rattle.std.specs.Prelude.{ℕ, ◌&&◌, nat_le, List, Result, Ok}
 use Rattle.rina_base.specs.Traverse.{◌>>=◌}
 use Rattle.rina_schedule.specs.declared.error.LineError.{LineError}

@@ -1,5 +1,5 @@
-//! Bytes in a line: as they are, in hexadecimal, or so many zeros.
-ghost use Rattle.std.specs.Prelude.{◌≡◌, ◌<◌, IfSome, Ok, replicate};
+//! Bytes in a line: as text, in hexadecimal, or as a count of zeros.
+ghost use Rattle.std.specs.Prelude.{◌≡◌, ◌<◌, true, IsSome, IfSome, IfErr, Ok, replicate};
 ghost use Rattle.std.specs.List.{list_all};
 ghost use Rattle.rina_schedule.specs.Bytes.{is_plain, are_plain, hex_digit, hex_pair_of, hex_of, plain_of, zeros_of, bytes_of, is_lower, lower_hex_of, printed_of};
 ghost use Rattle.rina_schedule.specs.Gives.{Gives, or_bad};
@@ -8,7 +8,7 @@ use crate::error::LineError;
 use rina_base::{Bytes, Seq, read_number};
 use std::alloc::Global;
 
-/// The greatest number of zeros that the form with `z` may have.
+/// The greatest count that may stand behind `z`.
 const ZEROS: u32 = 65_535;
 
 #[tactic(auto, unfolding(crate::specs::Bytes::is_plain))]
@@ -55,7 +55,8 @@ fn pair_value(high: u8, low: u8) -> Option<u8>
 
 #[tactic(auto, unfolding(crate::specs::Bytes::plain_of))]
 fn read_plain(alloc: Global, n: u32, text: &[u8]) -> Result<Bytes, LineError>
-    ensures { Gives (λ b. b) result (or_bad (LineError.BadBytes n) (plain_of text.now)) }
+    ensures read { Gives (λ b. b) result (or_bad (LineError.BadBytes n) (plain_of text.now)) }
+    ensures memory { IfErr result (λ e. e ≡ LineError.Memory → are_plain text.now ≡ true) }
 {
     if !is_plain_text(text) {
         return Err(LineError::BadBytes { n });
@@ -92,7 +93,8 @@ fn zeros(alloc: Global, count: u32) -> Result<Bytes, LineError>
 
 #[tactic(auto, unfolding(crate::specs::Bytes::zeros_of))]
 fn read_zeros(alloc: Global, n: u32, text: &[u8]) -> Result<Bytes, LineError>
-    ensures { Gives (λ b. b) result (or_bad (LineError.BadBytes n) (zeros_of text.now)) }
+    ensures read { Gives (λ b. b) result (or_bad (LineError.BadBytes n) (zeros_of text.now)) }
+    ensures memory { IfErr result (λ e. e ≡ LineError.Memory → IsSome (zeros_of text.now)) }
 {
     match read_number(text) {
         Some(count) => {
@@ -105,8 +107,9 @@ fn read_zeros(alloc: Global, n: u32, text: &[u8]) -> Result<Bytes, LineError>
     }
 }
 
-/// The bytes that a text spells: one or more from `!` to `~` behind `'`, pairs of hexadecimal digits
-/// behind `x`, or up to 65,535 zeros, whose number stands behind `z`. Field `n` is blamed.
+/// Reads the bytes that a text spells: one or more from `!` to `~` behind `'`, pairs of hexadecimal
+/// digits behind `x`, or a count of up to 65,535 zeros behind `z`. Fails with `BadBytes` of field `n`
+/// where the text is none of these, and with `Memory` once an allocation fails.
 #[tactic(auto, unfolding(crate::specs::Bytes::bytes_of))]
 pub fn read_bytes(alloc: Global, n: u32, text: &[u8]) -> Result<Bytes, LineError>
     ensures { Gives (λ b. b) result (or_bad (LineError.BadBytes n) (bytes_of text.now)) }
@@ -146,8 +149,9 @@ fn read_lower_hex(alloc: Global, n: u32, text: &[u8]) -> Result<Bytes, LineError
     Ok(bytes)
 }
 
-/// The bytes of which a text is the spelling that is printed: one or more from `!` to `~` behind `'`,
-/// or else pairs of hexadecimal digits without capitals behind `x`. Field `n` is blamed.
+/// Reads the bytes that a text spells as they are printed: `'` and one or more bytes from `!` to `~`, or
+/// `x` and pairs of lower-case hexadecimal digits for all others. Fails with `BadBytes` of field `n`
+/// where the text is neither, and with `Memory` once an allocation fails.
 #[tactic(auto, unfolding(crate::specs::Bytes::printed_of))]
 pub fn read_printed(alloc: Global, n: u32, text: &[u8]) -> Result<Bytes, LineError>
     ensures { Gives (λ b. b) result (or_bad (LineError.BadBytes n) (printed_of text.now)) }

@@ -1,22 +1,22 @@
-//! Why a text is no line.
+//! Errors of reading a line.
 use std::alloc::AllocError;
 
-/// The first fault of a line, from the left, with the number of the field; the word is field 0.
+/// The first error of a line, from the left. `n` is the number of a field; the word is field 0.
 #[derive(Clone, Copy, Debug, PartialEq, Eq)]
 pub enum LineError {
-    /// Memory was not found.
+    /// An allocation failed.
     Memory,
-    /// The line begins with no word that the grammar has.
+    /// The grammar has no such word.
     UnknownWord,
     /// The line ends before field `n`.
     MissingField { n: u32 },
-    /// Field `n` is no number, or one that may not stand there.
+    /// Field `n` is not a number, or is out of range.
     BadNumber { n: u32 },
-    /// Field `n` is no name.
+    /// Field `n` is not a name.
     BadName { n: u32 },
-    /// Field `n` stands where the line has to end.
+    /// The line has a field `n`, and has to end before it.
     Extra { n: u32 },
-    /// Field `n` spells no bytes.
+    /// Field `n` does not spell bytes.
     BadBytes { n: u32 },
 }
 

@@ -1,24 +1,24 @@
-//! What a line of a schedule asks for.
+//! The events that the lines of a schedule ask for.
 use rina_base::{AppName, Bytes, Name, ObjectName, Tick};
 use rina_cube::Want;
 
-/// An event, one variant for each word of a schedule, with the fields of its line in their order.
-/// A facility `fac` is named by the wire or the DIF that it is; its rank follows from that name.
+/// An event. There is one variant for each word of a schedule, with the fields of its line in order.
+/// `fac` is the name of a facility, which is a wire or a DIF; the name determines its rank.
 #[derive(Drop)]
 pub enum Event {
-    /// An application is registered at a node.
+    /// Registers an application at a node.
     Register {
         fac: Name,
         node: Name,
         app: AppName,
     },
-    /// A registration ends.
+    /// Unregisters an application at a node.
     Unregister {
         fac: Name,
         node: Name,
         app: AppName,
     },
-    /// A flow to the application `to` is asked for; its port gets the label.
+    /// Requests a flow to the application `to`, and gives its port the label.
     Alloc {
         label: Name,
         fac: Name,
@@ -27,118 +27,118 @@ pub enum Event {
         to: AppName,
         want: Want,
     },
-    /// The oldest flow that was asked for by others is taken; its port gets the label.
+    /// Accepts the oldest flow that others requested to an application, and gives its port the label.
     Accept {
         label: Name,
         fac: Name,
         node: Name,
         app: AppName,
     },
-    /// An SDU is sent.
+    /// Sends an SDU on a flow.
     Send {
         label: Name,
         bytes: Bytes,
     },
-    /// All SDUs that have arrived are read.
+    /// Reads all SDUs that have arrived on a flow.
     Read {
         label: Name,
     },
-    /// The state of a port is asked for.
+    /// Shows the state of a port.
     State {
         label: Name,
     },
-    /// A flow is given up.
+    /// Deallocates a flow.
     Free {
         label: Name,
     },
-    /// So many ticks pass, 1 to 100,000.
+    /// Lets `count` ticks pass, 1 to 100,000.
     Tick {
         count: u32,
     },
-    /// The first copy in flight of frame `frame` is lost.
+    /// Loses the first copy of frame `frame` that is in flight.
     Lose {
         wire: Name,
         frame: u32,
     },
-    /// One more copy of frame `frame` arrives at a tick.
+    /// Adds a copy of frame `frame`, which arrives at tick `at`.
     Repeat {
         wire: Name,
         frame: u32,
         at: Tick,
     },
-    /// The first copy in flight of frame `frame` arrives at this tick instead.
+    /// Delays the first copy of frame `frame` that is in flight until tick `at`.
     Hold {
         wire: Name,
         frame: u32,
         at: Tick,
     },
-    /// A wire is cut.
+    /// Cuts a wire.
     Cut {
         wire: Name,
     },
-    /// A wire is mended.
+    /// Mends a wire.
     Mend {
         wire: Name,
     },
-    /// The IPC process at a node is registered in a facility of the rank below.
+    /// Registers the IPC process at a node in a facility of the rank below.
     Publish {
         dif: Name,
         node: Name,
         fac: Name,
     },
-    /// The IPC process at a node joins its DIF by a member at the node `peer`.
+    /// Enrols the IPC process at a node in its DIF, with the member at the node `peer`.
     Enrol {
         dif: Name,
         node: Name,
         fac: Name,
         peer: Name,
     },
-    /// The state of a member is asked for.
+    /// Shows the state of a member.
     Member {
         dif: Name,
         node: Name,
     },
-    /// One step that takes a PDU from a link.
+    /// Runs one step of an IPC process, which takes a PDU from a link.
     In {
         dif: Name,
         node: Name,
         link: u32,
     },
-    /// One step that gives a PDU to a link.
+    /// Runs one step of an IPC process, which gives a PDU to a link.
     Out {
         dif: Name,
         node: Name,
         link: u32,
     },
-    /// One step of the clock.
+    /// Runs one step of the clock of an IPC process.
     Clock {
         dif: Name,
         node: Name,
     },
-    /// One round of all steps.
+    /// Runs one round of all steps.
     Round,
-    /// A policy is withdrawn.
+    /// Withdraws a policy.
     Retire {
         policy: Name,
     },
-    /// A CDAP message is given to the RIB of a member.
+    /// Gives a CDAP message to the RIB of a member.
     Cdap {
         dif: Name,
         node: Name,
         bytes: Bytes,
     },
-    /// The objects of a member's RIB from this name on are shown, or all of them.
+    /// Shows the objects of a member's RIB, from the name `path` on where it is given.
     Rib {
         dif: Name,
         node: Name,
         path: Option<ObjectName>,
     },
-    /// The write-offs of a member are shown.
+    /// Shows the write-offs of a member.
     Ledger {
         dif: Name,
         node: Name,
     },
-    /// The journal of a facility is shown.
+    /// Shows the journal of a facility.
     Journal {
         fac: Name,
     },

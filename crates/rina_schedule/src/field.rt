@@ -1,6 +1,6 @@
-//! The fields of a line. A reader takes what is left of the line, and gives a value and what is left
-//! behind it.
-ghost use Rattle.std.specs.Prelude.{◌≡◌, ◌+◌, ◌<◌, ◌≤◌, ◌==◌, not, length, position, IfSome, IfOk};
+//! The fields of a line. Each function reads one field from the rest of the line, and gives its value
+//! and the rest of the line after it.
+ghost use Rattle.std.specs.Prelude.{◌≡◌, ◌≢◌, ◌+◌, ◌<◌, ◌≤◌, ◌==◌, not, length, position, IsSome, IfSome, IsOk, IfOk, IfErr, OnOk};
 ghost use Rattle.std.specs.Option.{option_map};
 ghost use Rattle.rina_schedule.specs.Gives.{Gives};
 ghost use Rattle.rina_schedule.specs.Fields.{without_blanks, next_of, field_at, number_at, name_field_at, app_field_at, bytes_at, path_at, end_at, flag_at, behind, setting_at};
@@ -34,7 +34,7 @@ fn skip_blanks(text: &[u8]) -> &[u8]
     }
 }
 
-/// The first field of a text, and what stands behind it.
+/// Splits off the first field of a text; gives it and the rest, or None where the text has no field.
 #[tactic(auto, unfolding(crate::specs::Fields::next_of))]
 pub fn next_field(text: &[u8]) -> Option<(&[u8], &[u8])>
     ensures { option_map (λ x. (x.0.now, x.1.now)) result ≡ next_of text.now }
@@ -51,7 +51,8 @@ pub fn next_field(text: &[u8]) -> Option<(&[u8], &[u8])>
 
 #[tactic(auto, unfolding(crate::specs::Fields::field_at))]
 fn field(n: u32, text: &[u8]) -> Result<(&[u8], &[u8]), LineError>
-    ensures { Gives (λ x. (x.0.now, x.1.now)) result (field_at n text.now) }
+    ensures read { Gives (λ x. (x.0.now, x.1.now)) result (field_at n text.now) }
+    ensures memory { IfErr result (λ e. e ≢ LineError.Memory) }
 {
     match next_field(text) {
         Some(found) => Ok(found),
@@ -59,10 +60,11 @@ fn field(n: u32, text: &[u8]) -> Result<(&[u8], &[u8]), LineError>
     }
 }
 
-/// Field `n`, which is a number.
+/// Reads field `n`, a number.
 #[tactic(auto, unfolding(crate::specs::Fields::number_at))]
 pub(crate) fn number<'a>(n: u32, text: &'a [u8]) -> Result<(u32, &'a [u8]), LineError>
-    ensures { Gives (λ x. (x.0, x.1.now)) result (number_at n text.now) }
+    ensures read { Gives (λ x. (x.0, x.1.now)) result (number_at n text.now) }
+    ensures memory { IfErr result (λ e. e ≢ LineError.Memory) }
 {
     let (digits, rest) = field(n, text)?;
     match read_number(digits) {
@@ -71,10 +73,12 @@ pub(crate) fn number<'a>(n: u32, text: &'a [u8]) -> Result<(u32, &'a [u8]), Line
     }
 }
 
-/// Field `n`, which is a name.
+/// Reads field `n`, a name. Fails with `Memory` once an allocation fails.
 #[tactic(auto, unfolding(crate::specs::Fields::name_field_at))]
 pub(crate) fn name<'a>(alloc: Global, n: u32, text: &'a [u8]) -> Result<(Name, &'a [u8]), LineError>
-    ensures { Gives (λ x. (x.0, x.1.now)) result (name_field_at n text.now) }
+    ensures read { Gives (λ x. (x.0, x.1.now)) result (name_field_at n text.now) }
+    ensures memory { IfErr result (λ e. e ≡ LineError.Memory → IsOk (field_at n text.now)) }
+    ensures there { OnOk result (IsOk (field_at n text.now)) }
 {
     let (name, rest) = field(n, text)?;
     match Name::read(alloc, name) {
@@ -84,14 +88,15 @@ pub(crate) fn name<'a>(alloc: Global, n: u32, text: &'a [u8]) -> Result<(Name, &
     }
 }
 
-/// Field `n`, which is the name of an application.
+/// Reads field `n`, an application name. Fails with `Memory` once an allocation fails.
 #[tactic(auto, unfolding(crate::specs::Fields::app_field_at))]
 pub(crate) fn app<'a>(
     alloc: Global,
     n: u32,
     text: &'a [u8],
 ) -> Result<(AppName, &'a [u8]), LineError>
-    ensures { Gives (λ x. (x.0, x.1.now)) result (app_field_at n text.now) }
+    ensures read { Gives (λ x. (x.0, x.1.now)) result (app_field_at n text.now) }
+    ensures memory { IfErr result (λ e. e ≡ LineError.Memory → IsOk (field_at n text.now)) }
 {
     let (app, rest) = field(n, text)?;
     match AppName::read(alloc, app) {
@@ -101,28 +106,30 @@ pub(crate) fn app<'a>(
     }
 }
 
-/// Field `n`, which spells bytes.
+/// Reads field `n`, which spells bytes. Fails with `Memory` once an allocation fails.
 #[tactic(auto, unfolding(crate::specs::Fields::bytes_at))]
 pub(crate) fn bytes<'a>(
     alloc: Global,
     n: u32,
     text: &'a [u8],
 ) -> Result<(Bytes, &'a [u8]), LineError>
-    ensures { Gives (λ x. (x.0, x.1.now)) result (bytes_at n text.now) }
+    ensures read { Gives (λ x. (x.0, x.1.now)) result (bytes_at n text.now) }
+    ensures memory { IfErr result (λ e. e ≡ LineError.Memory → IsOk (field_at n text.now)) }
 {
     let (spelled, rest) = field(n, text)?;
     let bytes = read_bytes(alloc, n, spelled)?;
     Ok((bytes, rest))
 }
 
-/// Field `n`, which is the name of an object; it may be left out.
+/// Reads field `n`, an optional object name. Fails with `Memory` once an allocation fails.
 #[tactic(auto, unfolding(crate::specs::Fields::path_at))]
 pub(crate) fn path<'a>(
     alloc: Global,
     n: u32,
     text: &'a [u8],
 ) -> Result<(Option<ObjectName>, &'a [u8]), LineError>
-    ensures { Gives (λ x. (x.0, x.1.now)) result (path_at n text.now) }
+    ensures read { Gives (λ x. (x.0, x.1.now)) result (path_at n text.now) }
+    ensures memory { IfErr result (λ e. e ≡ LineError.Memory → IsSome (next_of text.now)) }
 {
     let Some((path, rest)) = next_field(text) else {
         return Ok((None, &[]));
@@ -134,10 +141,11 @@ pub(crate) fn path<'a>(
     }
 }
 
-/// Whether the line ends before field `n`.
+/// Checks that the line ends before field `n`.
 #[tactic(auto, unfolding(crate::specs::Fields::end_at))]
 pub(crate) fn end(n: u32, text: &[u8]) -> Result<(), LineError>
-    ensures { Gives (λ x. x) result (end_at n text.now) }
+    ensures read { Gives (λ x. x) result (end_at n text.now) }
+    ensures memory { IfErr result (λ e. e ≢ LineError.Memory) }
 {
     match next_field(text) {
         None => Ok(()),
@@ -145,7 +153,8 @@ pub(crate) fn end(n: u32, text: &[u8]) -> Result<(), LineError>
     }
 }
 
-/// Whether field `n` is this word; then the number of the next field, and what is left of the line.
+/// Reads this word as an optional field `n`. Gives whether it is there, the number of the next field, and
+/// the rest of the line.
 #[tactic(auto, unfolding(crate::specs::Fields::flag_at))]
 pub(crate) fn flag<'a>(word: &[u8], n: u32, text: &'a [u8]) -> (bool, u32, &'a [u8])
     requires { n < 100 }
@@ -164,7 +173,7 @@ pub(crate) fn flag<'a>(word: &[u8], n: u32, text: &'a [u8]) -> (bool, u32, &'a [
     }
 }
 
-/// What stands behind a word that a text begins with.
+/// The text after this prefix, or None where the text does not begin with it.
 #[tactic(auto, unfolding(crate::specs::Fields::behind))]
 fn after<'a>(word: &[u8], text: &'a [u8]) -> Option<&'a [u8]>
     ensures { option_map (λ x. x.now) result ≡ behind word.now text.now }
@@ -172,8 +181,8 @@ fn after<'a>(word: &[u8], text: &'a [u8]) -> Option<&'a [u8]>
     text.strip_prefix(word)
 }
 
-/// The number behind this word in field `n`, or the default where the field begins otherwise; then the
-/// number of the next field, and what is left of the line.
+/// Reads an optional field `n`, this word with a number behind it. Gives the number, or the default
+/// where the field is not there, then the number of the next field and the rest of the line.
 #[tactic(auto, unfolding(crate::specs::Fields::setting_at))]
 pub(crate) fn setting<'a>(
     word: &[u8],
@@ -184,6 +193,7 @@ pub(crate) fn setting<'a>(
     requires { n < 100 }
     ensures found { Gives (λ x. (x.0, x.1, x.2.now)) result (setting_at word.now default n text.now) }
     ensures next { IfOk result (λ x. x.1 ≤ n + 1) }
+    ensures memory { IfErr result (λ e. e ≢ LineError.Memory) }
 {
     let Some((field, rest)) = next_field(text) else {
         return Ok((default, n, text));

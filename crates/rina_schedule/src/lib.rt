@@ -1,4 +1,4 @@
-//! Lines of a schedule: what each asks for, and the first fault of a text that is none.
+//! The lines of a schedule: the event that a line asks for, or the first error of a line outside the grammar.
 #![tactic(auto)]
 
 mod bytes;

@@ -1,8 +1,9 @@
-//! The lines of a schedule.
-ghost use Rattle.std.specs.Prelude.{◌≡◌};
+//! Reading a line of a schedule.
+ghost use Rattle.std.specs.Prelude.{◌≡◌, IfErr, IsOk};
 ghost use Rattle.std.specs.Str.{bytes_eq};
 ghost use Rattle.rina_schedule.specs.Gives.{Gives};
-ghost use Rattle.rina_schedule.specs.Line.{step_word_at, dif_word_at, wire_word_at, word_at, line_at};
+ghost use Rattle.rina_schedule.specs.Fields.{field_at};
+ghost use Rattle.rina_schedule.specs.Line.{step_word_at, dif_word_at, wire_word_at, word_at, line_at, HasOperand};
 
 use crate::error::LineError;
 use crate::event::Event;
@@ -18,7 +19,8 @@ fn is(word: &[u8], other: &[u8]) -> bool
 
 #[tactic(auto, unfolding(crate::specs::Line::step_word_at))]
 fn read_step_word(alloc: Global, word: &[u8], text: &[u8]) -> Result<Event, LineError>
-    ensures { Gives (λ x. x) result (step_word_at word.now text.now) }
+    ensures read { Gives (λ x. x) result (step_word_at word.now text.now) }
+    ensures memory { IfErr result (λ e. e ≡ LineError.Memory → IsOk (field_at 1 text.now)) }
 {
     if is(word, b"tick") {
         step::tick(text)
@@ -35,7 +37,8 @@ fn read_step_word(alloc: Global, word: &[u8], text: &[u8]) -> Result<Event, Line
 
 #[tactic(auto, unfolding(crate::specs::Line::dif_word_at))]
 fn read_dif_word(alloc: Global, word: &[u8], text: &[u8]) -> Result<Event, LineError>
-    ensures { Gives (λ x. x) result (dif_word_at word.now text.now) }
+    ensures read { Gives (λ x. x) result (dif_word_at word.now text.now) }
+    ensures memory { IfErr result (λ e. e ≡ LineError.Memory → IsOk (field_at 1 text.now)) }
 {
     if is(word, b"publish") {
         dif::publish(alloc, text)
@@ -62,7 +65,8 @@ fn read_dif_word(alloc: Global, word: &[u8], text: &[u8]) -> Result<Event, LineE
 
 #[tactic(auto, unfolding(crate::specs::Line::wire_word_at))]
 fn read_wire_word(alloc: Global, word: &[u8], text: &[u8]) -> Result<Event, LineError>
-    ensures { Gives (λ x. x) result (wire_word_at word.now text.now) }
+    ensures read { Gives (λ x. x) result (wire_word_at word.now text.now) }
+    ensures memory { IfErr result (λ e. e ≡ LineError.Memory → IsOk (field_at 1 text.now)) }
 {
     if is(word, b"lose") {
         wire::lose(alloc, text)
@@ -81,7 +85,8 @@ fn read_wire_word(alloc: Global, word: &[u8], text: &[u8]) -> Result<Event, Line
 
 #[tactic(auto, unfolding(crate::specs::Line::word_at))]
 fn read_word(alloc: Global, word: &[u8], text: &[u8]) -> Result<Event, LineError>
-    ensures { Gives (λ x. x) result (word_at word.now text.now) }
+    ensures read { Gives (λ x. x) result (word_at word.now text.now) }
+    ensures memory { IfErr result (λ e. e ≡ LineError.Memory → IsOk (field_at 1 text.now)) }
 {
     if is(word, b"register") {
         flow::register(alloc, text)
@@ -104,11 +109,14 @@ fn read_word(alloc: Global, word: &[u8], text: &[u8]) -> Result<Event, LineError
     }
 }
 
-/// What a line asks for; None where it is blank, or its first field begins with `#`. The fields stand
-/// between spaces, and the first fault from the left is told.
+/// Reads a line into the event that it asks for. Gives None for a blank line and for a comment, whose
+/// first field begins with `#`. Fields are separated by spaces. Fails with the first error from the
+/// left, or with `Memory` once an allocation fails.
 #[tactic(auto, unfolding(crate::specs::Line::line_at))]
 pub fn read_line(alloc: Global, text: &[u8]) -> Result<Option<Event>, LineError>
-    ensures { Gives (λ x. x) result (line_at text.now) }
+    ensures read { Gives (λ x. x) result (line_at text.now) }
+    // Only the fields behind the word are copied, so a line without any never fails with `Memory`.
+    ensures memory { IfErr result (λ e. e ≡ LineError.Memory → HasOperand text.now) }
 {
     let Some((word, rest)) = next_field(text) else {
         return Ok(None);

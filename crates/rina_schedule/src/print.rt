@@ -1,4 +1,4 @@
-//! Lines as text: single spaces, and one spelling of each field.
+//! Printing lines: single spaces, and one spelling of each field.
 ghost use Rattle.std.specs.Prelude.{◌≡◌, ◌∷◌, ◌++◌, [], true, IfOk};
 ghost use Rattle.std.specs.Fmt.{decimal};
 ghost use Rattle.rina_schedule.specs.Spelling.{Adds, spaced, spelling};
@@ -10,7 +10,7 @@ use rina_base::{AppName, Memory, Name, ObjectName};
 use rina_cube::Want;
 use std::alloc::Global;
 
-/// A DIF and a node.
+/// Appends the fields of a DIF and a node.
 fn ipc_at(text: &mut Text, dif: &Name, node: &Name) -> Result<(), Memory>
     ensures { Adds result text.old text.new (spaced (dif.now ∷ node.now ∷ [])) }
 {
@@ -18,7 +18,7 @@ fn ipc_at(text: &mut Text, dif: &Name, node: &Name) -> Result<(), Memory>
     text.field(node.as_bytes())
 }
 
-/// A DIF, a node and a facility.
+/// Appends the fields of a DIF, a node and a facility.
 fn ipc_over(text: &mut Text, dif: &Name, node: &Name, fac: &Name) -> Result<(), Memory>
     ensures { Adds result text.old text.new (spaced (dif.now ∷ node.now ∷ fac.now ∷ [])) }
 {
@@ -26,7 +26,7 @@ fn ipc_over(text: &mut Text, dif: &Name, node: &Name, fac: &Name) -> Result<(), 
     text.field(fac.as_bytes())
 }
 
-/// A facility, a node and an application.
+/// Appends the fields of a facility, a node and an application.
 fn app_at(text: &mut Text, fac: &Name, node: &Name, app: &AppName) -> Result<(), Memory>
     ensures { Adds result text.old text.new (spaced (fac.now ∷ node.now ∷ app.now ∷ [])) }
 {
@@ -35,7 +35,7 @@ fn app_at(text: &mut Text, fac: &Name, node: &Name, app: &AppName) -> Result<(),
     text.field(app.as_bytes())
 }
 
-/// A wire, a frame and a tick.
+/// Appends the fields of a wire, a frame and a tick.
 fn frame_at(text: &mut Text, wire: &[u8], frame: u32, at: u32) -> Result<(), Memory>
     ensures { Adds result text.old text.new (spaced (wire.now ∷ decimal frame ∷ decimal at ∷ [])) }
 {
@@ -44,7 +44,7 @@ fn frame_at(text: &mut Text, wire: &[u8], frame: u32, at: u32) -> Result<(), Mem
     text.number_field(u64::from(at))
 }
 
-/// A word, where it is given.
+/// Appends an option that is a word, where it is set.
 #[tactic(auto, unfolding(crate::specs::Printed::flag_fields))]
 fn flag(text: &mut Text, word: &[u8], given: bool) -> Result<(), Memory>
     ensures { Adds result text.old text.new (spaced (flag_fields word.now given)) }
@@ -52,7 +52,7 @@ fn flag(text: &mut Text, word: &[u8], given: bool) -> Result<(), Memory>
     if given { text.field(word) } else { Ok(()) }
 }
 
-/// A word with a number behind it, left out where that is the default.
+/// Appends an option that is a word with a number behind it, unless the number is the default.
 #[tactic(auto, unfolding(crate::specs::Printed::setting_fields))]
 fn setting(text: &mut Text, word: &[u8], default: u32, n: u32) -> Result<(), Memory>
     ensures { Adds result text.old text.new (spaced (setting_fields word.now default n)) }
@@ -64,7 +64,7 @@ fn setting(text: &mut Text, word: &[u8], default: u32, n: u32) -> Result<(), Mem
     text.number(u64::from(n))
 }
 
-/// The options of a flow that is asked for.
+/// Appends the options of a flow request.
 #[tactic(auto, unfolding(crate::specs::Printed::want_fields))]
 fn options(text: &mut Text, want: &Want) -> Result<(), Memory>
     ensures { Adds result text.old text.new (spaced (want_fields want.now)) }
@@ -75,7 +75,7 @@ fn options(text: &mut Text, want: &Want) -> Result<(), Memory>
     setting(text, b"size=", 0, want.size)
 }
 
-/// The name of an object, where there is one.
+/// Appends the name of an object, where there is one.
 #[tactic(auto, unfolding(crate::specs::Printed::path_fields))]
 fn path_if_any(text: &mut Text, path: &Option<ObjectName>) -> Result<(), Memory>
     ensures { Adds result text.old text.new (spaced (path_fields path.now)) }
@@ -121,7 +121,7 @@ fn word(event: &Event) -> &'static [u8]
     }
 }
 
-/// The fields behind a word on an IPC process of a DIF.
+/// Appends the fields of an event about an IPC process of a DIF.
 #[tactic(auto, unfolding(crate::specs::Printed::event_fields))]
 fn dif_fields(text: &mut Text, event: &Event) -> Result<(), Memory>
     requires { is_dif_word event.now ≡ true }
@@ -156,7 +156,7 @@ fn dif_fields(text: &mut Text, event: &Event) -> Result<(), Memory>
     }
 }
 
-/// The fields behind a word on a label, a wire, a policy or the clock, and behind one on an IPC process.
+/// Appends the fields of an event that names no application.
 #[tactic(auto, unfolding(crate::specs::Printed::event_fields))]
 fn few_fields(text: &mut Text, event: &Event) -> Result<(), Memory>
     requires { names_no_app event.now ≡ true }
@@ -189,7 +189,7 @@ fn few_fields(text: &mut Text, event: &Event) -> Result<(), Memory>
     }
 }
 
-/// The fields behind the word.
+/// Appends the fields of an event.
 #[tactic(auto, unfolding(crate::specs::Printed::event_fields))]
 fn fields(text: &mut Text, event: &Event) -> Result<(), Memory>
     ensures { Adds result text.old text.new (spaced (event_fields event.now)) }
@@ -223,9 +223,8 @@ fn fields(text: &mut Text, event: &Event) -> Result<(), Memory>
     }
 }
 
-/// The line of an event, with single spaces and without the end of the line. Bytes stand behind `'`
-/// where all are from `!` to `~` and there are some, else in lower-case hexadecimal behind `x`; an
-/// option that has its default is left out.
+/// Prints the line of an event, with single spaces and without the end of the line. Bytes are printed
+/// as `Text::spell` does; an option that has its default is left out. Fails once an allocation fails.
 pub fn print_line(alloc: Global, e: &Event) -> Result<Vec<u8>, Memory>
     ensures { IfOk result (λ text. text.items ≡ line_text e.now) }
 {

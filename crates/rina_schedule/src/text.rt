@@ -1,15 +1,16 @@
-//! A text that is written, field by field.
+//! A text that is built field by field.
 ghost use Rattle.std.specs.Prelude.{◌≡◌, ◌<◌, ◌∷◌, []};
 ghost use Rattle.std.specs.Fmt.{decimal};
 ghost use Rattle.std.specs.List.{flat_map};
 ghost use Rattle.rina_schedule.specs.Spelling.{hex_glyph, hex_pair, spelling, Adds};
 
 use crate::bytes::is_plain_text;
+use itoa::Buffer;
 use rina_base::Memory;
 use std::alloc::Global;
 use std::marker::Model;
 
-/// A text that grows at its end. A contract sees its bytes.
+/// A text to which bytes are appended. A contract sees its bytes.
 #[derive(Drop)]
 pub struct Text {
     bytes: Vec<u8>,
@@ -35,7 +36,7 @@ fn glyph(digit: u8) -> u8
 }
 
 impl Text {
-    /// An empty text.
+    /// Makes an empty text; does not allocate.
     pub fn new(alloc: Global) -> Text
         ensures { result ≡ [] }
     {
@@ -44,14 +45,14 @@ impl Text {
         }
     }
 
-    /// Its bytes; no memory is taken.
+    /// Gives its bytes; does not allocate.
     pub fn into_vec(self) -> Vec<u8>
         ensures { result.items ≡ self }
     {
         self.bytes
     }
 
-    /// Adds one byte.
+    /// Appends one byte.
     pub fn push(&mut self, byte: u8) -> Result<(), Memory>
         ensures { Adds result self.old self.new (byte ∷ []) }
     {
@@ -61,7 +62,7 @@ impl Text {
         }
     }
 
-    /// Adds bytes as they are.
+    /// Appends bytes as they are.
     pub fn add(&mut self, bytes: &[u8]) -> Result<(), Memory>
         ensures { Adds result self.old self.new bytes.now }
     {
@@ -69,19 +70,15 @@ impl Text {
         Ok(())
     }
 
-    /// Adds a number in decimal.
-    #[tactic(auto, using(std::proofs::lemmas::Fmt::decimal_digit, crate::proofs::Decimal::last_digit))]
+    /// Appends a number in decimal.
     pub fn number(&mut self, n: u64) -> Result<(), Memory>
         ensures { Adds result self.old self.new (decimal n) }
     {
-        if n < 10 {
-            return self.push(b'0' + n as u8);
-        }
-        self.number(n / 10)?;
-        self.push(b'0' + (n % 10) as u8)
+        let mut buffer = Buffer::new();
+        self.add(buffer.format(n).as_bytes())
     }
 
-    /// Adds a byte in hexadecimal.
+    /// Appends a byte as two lower-case hexadecimal digits.
     #[tactic(auto, unfolding(crate::specs::Spelling::hex_pair))]
     fn pair(&mut self, byte: u8) -> Result<(), Memory>
         ensures { Adds result self.old self.new (hex_pair byte) }
@@ -90,7 +87,7 @@ impl Text {
         self.push(glyph(byte % 16))
     }
 
-    /// Adds bytes in hexadecimal.
+    /// Appends bytes in lower-case hexadecimal.
     #[tactic(auto, using(std::proofs::lemmas::List::drop_more))]
     fn pairs(&mut self, bytes: &[u8]) -> Result<(), Memory>
         ensures { Adds result self.old self.new (flat_map hex_pair bytes.now) }
@@ -101,8 +98,8 @@ impl Text {
         Ok(())
     }
 
-    /// Adds the spelling of bytes: as they are behind `'` where all are from `!` to `~` and there are
-    /// some, else in hexadecimal behind `x`.
+    /// Appends the spelling of bytes: `'` and the bytes, where there is at least one and all are from
+    /// `!` to `~`; otherwise `x` and the bytes in lower-case hexadecimal.
     #[tactic(auto, unfolding(crate::specs::Spelling::spelling))]
     pub fn spell(&mut self, bytes: &[u8]) -> Result<(), Memory>
         ensures { Adds result self.old self.new (spelling bytes.now) }
@@ -116,7 +113,7 @@ impl Text {
         }
     }
 
-    /// Adds a space and a field.
+    /// Appends a space and a field.
     pub fn field(&mut self, bytes: &[u8]) -> Result<(), Memory>
         ensures { Adds result self.old self.new (32 ∷ bytes.now) }
     {
@@ -124,7 +121,7 @@ impl Text {
         self.add(bytes)
     }
 
-    /// Adds a space and a number.
+    /// Appends a space and a number in decimal.
     pub fn number_field(&mut self, n: u64) -> Result<(), Memory>
         ensures { Adds result self.old self.new (32 ∷ decimal n) }
     {
@@ -132,7 +129,7 @@ impl Text {
         self.number(n)
     }
 
-    /// Adds a space and the spelling of bytes.
+    /// Appends a space and the spelling of bytes.
     pub fn bytes_field(&mut self, bytes: &[u8]) -> Result<(), Memory>
         ensures { Adds result self.old self.new (32 ∷ spelling bytes.now) }
     {

@@ -1,4 +1,4 @@
-//! The words of a schedule, each of which reads what stands behind it.
+//! Reading the fields behind each word of a schedule.
 
 pub(crate) mod dif;
 pub(crate) mod flow;

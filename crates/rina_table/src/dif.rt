@@ -1,5 +1,5 @@
 //! The table of a DIF.
-ghost use Rattle.std.specs.Prelude.{◌≡◌};
+ghost use Rattle.std.specs.Prelude.{◌≡◌, ◌≢◌, IfErr};
 ghost use Rattle.toml.specs.View.{view};
 ghost use Rattle.rina_table.specs.Faults.{Gives, unless};
 ghost use Rattle.rina_table.specs.Items.{unknown_at, widths_in, manage_in};
@@ -18,7 +18,8 @@ use toml::Value;
 
 /// Refuses the DIF whose policy does not exist (rule 7).
 fn known_policy(scope: &Scope<'_>, item: usize) -> Result<(), StackError>
-    ensures { Gives (λ t. t) result (unless 7 (unknown_at scope.now.unknown item)) }
+    ensures read { Gives (λ t. t) result (unless 7 (unknown_at scope.now.unknown item)) }
+    ensures memory { IfErr result (λ e. e ≢ StackError.Memory) }
 {
     match scope.unknown {
         Some(at) if at == item => Err(rule_error(7, item)),
@@ -28,7 +29,8 @@ fn known_policy(scope: &Scope<'_>, item: usize) -> Result<(), StackError>
 
 #[tactic(auto, unfolding(crate::specs::Items::widths_in))]
 fn widths_of(scope: &Scope<'_>, item: usize, table: &Value) -> Result<Widths, StackError>
-    ensures { Gives (λ w. w) result (widths_in scope.now item (view table.now)) }
+    ensures read { Gives (λ w. w) result (widths_in scope.now item (view table.now)) }
+    ensures memory { IfErr result (λ e. e ≢ StackError.Memory) }
 {
     let part = value_of(item, table, "widths")?;
     widths(scope, item, part)
@@ -36,7 +38,8 @@ fn widths_of(scope: &Scope<'_>, item: usize, table: &Value) -> Result<Widths, St
 
 #[tactic(auto, unfolding(crate::specs::Items::manage_in))]
 fn manage_of(scope: &Scope<'_>, item: usize, table: &Value) -> Result<Cube, StackError>
-    ensures { Gives (λ c. c) result (manage_in scope.now item (view table.now)) }
+    ensures read { Gives (λ c. c) result (manage_in scope.now item (view table.now)) }
+    ensures memory { IfErr result (λ e. e ≢ StackError.Memory) }
 {
     let part = value_of(item, table, "manage")?;
     manage(scope, item, part)

@@ -1,5 +1,5 @@
 //! The tables within a DIF.
-ghost use Rattle.std.specs.Prelude.{◌≡◌};
+ghost use Rattle.std.specs.Prelude.{◌≡◌, ◌≢◌, IfErr};
 ghost use Rattle.toml.specs.View.{view};
 ghost use Rattle.rina_table.specs.Faults.{Gives};
 ghost use Rattle.rina_table.specs.Rows.{kind_of, act_of, kind_in, act_in, widths_at, manage_at, end_at};
@@ -41,7 +41,8 @@ fn act(word: &str) -> Option<Act>
 
 #[tactic(auto, unfolding(crate::specs::Rows::kind_in))]
 fn kind_at(item: usize, table: &Value) -> Result<Kind, StackError>
-    ensures { Gives (λ k. k) result (kind_in item (view table.now)) }
+    ensures read { Gives (λ k. k) result (kind_in item (view table.now)) }
+    ensures memory { IfErr result (λ e. e ≢ StackError.Memory) }
 {
     match text(table, "kind") {
         Some(word) => require(item, kind(word)),
@@ -51,7 +52,8 @@ fn kind_at(item: usize, table: &Value) -> Result<Kind, StackError>
 
 #[tactic(auto, unfolding(crate::specs::Rows::act_in))]
 fn act_at(item: usize, table: &Value) -> Result<Act, StackError>
-    ensures { Gives (λ k. k) result (act_in item (view table.now)) }
+    ensures read { Gives (λ k. k) result (act_in item (view table.now)) }
+    ensures memory { IfErr result (λ e. e ≢ StackError.Memory) }
 {
     match text(table, "act") {
         Some(word) => require(item, act(word)),
@@ -62,7 +64,8 @@ fn act_at(item: usize, table: &Value) -> Result<Act, StackError>
 /// The widths of the fields of a PDU.
 #[tactic(auto, unfolding(crate::specs::Rows::widths_at))]
 pub(crate) fn widths(scope: &Scope<'_>, item: usize, table: &Value) -> Result<Widths, StackError>
-    ensures { Gives (λ w. w) result (widths_at scope.now item (view table.now)) }
+    ensures read { Gives (λ w. w) result (widths_at scope.now item (view table.now)) }
+    ensures memory { IfErr result (λ e. e ≢ StackError.Memory) }
 {
     let addr = width_of(scope, item, table, "addr")?;
     let cep = width_of(scope, item, table, "cep")?;
@@ -79,7 +82,8 @@ pub(crate) fn widths(scope: &Scope<'_>, item: usize, table: &Value) -> Result<Wi
 /// The cube of management, which carries messages of up to 325 bytes.
 #[tactic(auto, unfolding(crate::specs::Rows::manage_at))]
 pub(crate) fn manage(scope: &Scope<'_>, item: usize, table: &Value) -> Result<Cube, StackError>
-    ensures { Gives (λ c. c) result (manage_at scope.now item (view table.now)) }
+    ensures read { Gives (λ c. c) result (manage_at scope.now item (view table.now)) }
+    ensures memory { IfErr result (λ e. e ≢ StackError.Memory) }
 {
     let mpl = number(scope, item, table, "mpl", 1, 1_000_000)?;
     let r = number(scope, item, table, "r", 0, 1_000_000)?;

@@ -1,5 +1,5 @@
 //! The errors of reading a stack.
-ghost use Rattle.std.specs.Prelude.{◌≡◌, ◌+◌, ◌<◌, ◌^◌, Ok, IfOk, option_map};
+ghost use Rattle.std.specs.Prelude.{◌≡◌, ◌+◌, ◌<◌, ◌^◌, Ok, IfOk, IsOk, ◌-◌, option_map, ◌≢◌, IfErr};
 ghost use Rattle.rina_table.specs.Faults.{Gives, rule_error, unless};
 
 use rina_base::Memory;
@@ -51,7 +51,8 @@ pub(crate) fn rule_error(n: u32, item: usize) -> StackError
 
 /// The error for rule `n`, where `fault` is the first item that breaks it.
 pub fn check(n: u32, fault: Option<usize>) -> Result<(), StackError>
-    ensures { Gives (λ t. t) result (unless n fault) }
+    ensures read { Gives (λ t. t) result (unless n fault) }
+    ensures memory { IfErr result (λ e. e ≢ StackError.Memory) }
 {
     match fault {
         None => Ok(()),
@@ -65,6 +66,7 @@ pub fn first_dif_item(wires: usize, difs: usize) -> Result<usize, StackError>
     ensures place { Gives (λ n. n) result (Ok (1 + wires)) }
     ensures wires { IfOk result (λ _. 1 + wires < 2 ^ 64) }
     ensures room { IfOk result (λ n. n + difs < 2 ^ 64) }
+    ensures counted { wires < 2 ^ 63 - 1 → difs < 2 ^ 63 - 1 → IsOk result }
 {
     if wires < usize::MAX / 2 && difs < usize::MAX / 2 {
         Ok(1 + wires)
@@ -75,7 +77,8 @@ pub fn first_dif_item(wires: usize, difs: usize) -> Result<usize, StackError>
 
 /// The error for rule `n`, where `fault` is the place of the first wire that breaks it.
 pub fn check_wires(n: u32, fault: Option<usize>) -> Result<(), StackError>
-    ensures { Gives (λ t. t) result (unless n (option_map (λ i. 1 + i) fault)) }
+    ensures read { Gives (λ t. t) result (unless n (option_map (λ i. 1 + i) fault)) }
+    ensures memory { IfErr result (λ e. e ≢ StackError.Memory) }
 {
     check_difs(n, 1, fault)
 }
@@ -83,7 +86,8 @@ pub fn check_wires(n: u32, fault: Option<usize>) -> Result<(), StackError>
 /// The error for rule `n`, where `fault` is the place of the first DIF that breaks it. `first` is the item of
 /// the first DIF.
 pub fn check_difs(n: u32, first: usize, fault: Option<usize>) -> Result<(), StackError>
-    ensures { Gives (λ t. t) result (unless n (option_map (λ i. first + i) fault)) }
+    ensures read { Gives (λ t. t) result (unless n (option_map (λ i. first + i) fault)) }
+    ensures memory { IfErr result (λ e. e ≢ StackError.Memory) }
 {
     match fault {
         None => Ok(()),

@@ -1,5 +1,5 @@
 //! Names, numbers and references at the keys of a table (rules 4, 6 and 7).
-ghost use Rattle.std.specs.Prelude.{◌≡◌, ◌≤◌, ◌<◌, ◌^◌, Ok, codes, IfOk, IfSome};
+ghost use Rattle.std.specs.Prelude.{◌≡◌, ◌≤◌, ◌<◌, ◌^◌, Ok, codes, IfOk, IfSome, ◌≢◌, IfErr};
 ghost use Rattle.std.specs.Result.{result_ok};
 ghost use Rattle.rina_base.specs.Names.{app_at};
 ghost use Rattle.toml.specs.View.{view};
@@ -24,7 +24,8 @@ fn require_by<T: Drop>(
     instead: T,
     found: Option<T>,
 ) -> Result<T, StackError>
-    ensures { Gives (λ t. t) result (required_by scope.now.upto n item instead found) }
+    ensures read { Gives (λ t. t) result (required_by scope.now.upto n item instead found) }
+    ensures memory { IfErr result (λ e. e ≢ StackError.Memory) }
 {
     match found {
         Some(found) => Ok(found),
@@ -167,6 +168,7 @@ fn ranged(
     requires order { least ≤ most }
     ensures gives { Gives (λ n. n) result (ranged scope.now item least most number) }
     ensures within { IfOk result (λ n. n ≤ most) }
+    ensures memory { IfErr result (λ e. e ≢ StackError.Memory) }
 {
     match number_between(least, most, number) {
         Some(number) => Ok(number),
@@ -194,6 +196,7 @@ pub(crate) fn number(
     requires order { least ≤ most }
     ensures gives { Gives (λ n. n) result (number_in scope.now item key.now (view table.now) least most) }
     ensures within { IfOk result (λ n. n ≤ most) }
+    ensures memory { IfErr result (λ e. e ≢ StackError.Memory) }
 {
     let number = integer_of(item, table, key)?;
     ranged(scope, item, least, most, number)
@@ -213,6 +216,7 @@ pub(crate) fn number_or_else(
     requires order { least ≤ most }
     ensures gives { Gives (λ n. n) result (number_or scope.now item key.now (view table.now) least most) }
     ensures within { IfOk result (λ n. n ≤ most) }
+    ensures memory { IfErr result (λ e. e ≢ StackError.Memory) }
 {
     let number = integer_or_else(item, least, table, key)?;
     ranged(scope, item, least, most, number)
@@ -238,7 +242,8 @@ pub(crate) fn width_of(
     table: &Value,
     key: &str,
 ) -> Result<u8, StackError>
-    ensures { Gives (λ n. n) result (width_in scope.now item key.now (view table.now)) }
+    ensures read { Gives (λ n. n) result (width_in scope.now item key.now (view table.now)) }
+    ensures memory { IfErr result (λ e. e ≢ StackError.Memory) }
 {
     let number = number(scope, item, table, key, 1, 4)?;
     require_by(scope, 6, item, 1u8, width(number))

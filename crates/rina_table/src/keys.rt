@@ -1,5 +1,5 @@
 //! Rule 2: a table has no key but those that are listed.
-ghost use Rattle.std.specs.Prelude.{◌≡◌, ◌+◌, ◌<◌, map, not, Ok, length, position, string_bytes, IfSome};
+ghost use Rattle.std.specs.Prelude.{◌≡◌, ◌+◌, ◌<◌, map, not, Ok, length, position, string_bytes, IfSome, IsOk};
 ghost use Rattle.std.specs.List.{list_all, list_any};
 ghost use Rattle.std.specs.BTreeMap.{keys};
 ghost use Rattle.toml.specs.View.{view, table_view};
@@ -279,7 +279,8 @@ fn first_unlisted_dif(values: &[Value]) -> Option<usize>
 /// The first item with a key that is not listed.
 #[tactic(auto, unfolding(crate::specs::Keys::keys_fault))]
 pub fn key_fault(stack: &Value) -> Result<Option<usize>, StackError>
-    ensures { Gives (λ f. f) result (Ok (keys_fault (view stack.now))) }
+    ensures read { Gives (λ f. f) result (Ok (keys_fault (view stack.now))) }
+    ensures counted { IsOk result }
 {
     if has_unlisted(Shape::Top, stack) {
         return Ok(Some(0));

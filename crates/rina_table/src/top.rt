@@ -1,5 +1,5 @@
 //! The whole table of a stack.
-ghost use Rattle.std.specs.Prelude.{◌≡◌, option_map};
+ghost use Rattle.std.specs.Prelude.{◌≡◌, option_map, ◌≢◌, IfErr};
 ghost use Rattle.toml.specs.View.{view};
 ghost use Rattle.rina_table.specs.Faults.{Gives};
 ghost use Rattle.rina_table.specs.Items.{rounds_of, rounds_or, sketch_at};
@@ -25,7 +25,8 @@ fn rounds_named(word: &str) -> Option<Rounds>
 }
 
 fn rounds(value: Option<&Value>) -> Result<Rounds, StackError>
-    ensures { Gives (λ r. r) result (rounds_or (option_map (λ v. view v.now) value.entry)) }
+    ensures read { Gives (λ r. r) result (rounds_or (option_map (λ v. view v.now) value.entry)) }
+    ensures memory { IfErr result (λ e. e ≢ StackError.Memory) }
 {
     match value {
         None => Ok(Rounds::Auto),

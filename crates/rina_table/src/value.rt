@@ -1,5 +1,5 @@
 //! What stands at the keys of a table, each value of its type (rule 3).
-ghost use Rattle.std.specs.Prelude.{◌≡◌, Ok, pos, map, option_map};
+ghost use Rattle.std.specs.Prelude.{◌≡◌, Ok, pos, map, option_map, ◌≢◌, IfErr};
 ghost use Rattle.std.specs.List.{list_all};
 ghost use Rattle.toml.specs.View.{view, array_view};
 ghost use Rattle.rina_table.specs.Faults.{Gives, required};
@@ -12,7 +12,8 @@ use toml::Value;
 
 /// A value that rule 3 requires.
 pub(crate) fn require<T>(item: usize, found: Option<T>) -> Result<T, StackError>
-    ensures { Gives (λ t. t) result (required item found) }
+    ensures read { Gives (λ t. t) result (required item found) }
+    ensures memory { IfErr result (λ e. e ≢ StackError.Memory) }
 {
     match found {
         Some(found) => Ok(found),
@@ -29,7 +30,8 @@ pub(crate) fn text<'a>(table: &'a Value, key: &str) -> Option<&'a str>
 
 /// The text at a key of an item.
 pub(crate) fn text_of<'a>(item: usize, table: &'a Value, key: &str) -> Result<&'a str, StackError>
-    ensures { Gives (λ t. t.now) result (text_in item key.now (view table.now)) }
+    ensures read { Gives (λ t. t.now) result (text_in item key.now (view table.now)) }
+    ensures memory { IfErr result (λ e. e ≢ StackError.Memory) }
 {
     match text(table, key) {
         Some(text) => Ok(text),
@@ -45,7 +47,8 @@ fn integer(table: &Value, key: &str) -> Option<i64>
 
 /// The integer at a key of an item.
 pub(crate) fn integer_of(item: usize, table: &Value, key: &str) -> Result<i64, StackError>
-    ensures { Gives (λ t. t) result (integer_in item key.now (view table.now)) }
+    ensures read { Gives (λ t. t) result (integer_in item key.now (view table.now)) }
+    ensures memory { IfErr result (λ e. e ≢ StackError.Memory) }
 {
     require(item, integer(table, key))
 }
@@ -57,7 +60,8 @@ pub(crate) fn integer_or_else(
     table: &Value,
     key: &str,
 ) -> Result<i64, StackError>
-    ensures { Gives (λ t. t) result (integer_or item (pos default) (get key.now (view table.now))) }
+    ensures read { Gives (λ t. t) result (integer_or item (pos default) (get key.now (view table.now))) }
+    ensures memory { IfErr result (λ e. e ≢ StackError.Memory) }
 {
     match table.get(key) {
         None => Ok(i64::from(default)),
@@ -72,7 +76,8 @@ pub(crate) fn truth_or_else(
     table: &Value,
     key: &str,
 ) -> Result<bool, StackError>
-    ensures { Gives (λ t. t) result (truth_or item default (get key.now (view table.now))) }
+    ensures read { Gives (λ t. t) result (truth_or item default (get key.now (view table.now))) }
+    ensures memory { IfErr result (λ e. e ≢ StackError.Memory) }
 {
     match table.get(key) {
         None => Ok(default),
@@ -82,7 +87,8 @@ pub(crate) fn truth_or_else(
 
 /// The truth value at a key of an item.
 pub(crate) fn truth_of(item: usize, table: &Value, key: &str) -> Result<bool, StackError>
-    ensures { Gives (λ t. t) result (truth_in item key.now (view table.now)) }
+    ensures read { Gives (λ t. t) result (truth_in item key.now (view table.now)) }
+    ensures memory { IfErr result (λ e. e ≢ StackError.Memory) }
 {
     match table.get(key) {
         None => Err(rule_error(3, item)),
@@ -96,7 +102,8 @@ pub(crate) fn value_of<'a>(
     table: &'a Value,
     key: &str,
 ) -> Result<&'a Value, StackError>
-    ensures { Gives (λ v. view v.now) result (required item (get key.now (view table.now))) }
+    ensures read { Gives (λ v. view v.now) result (required item (get key.now (view table.now))) }
+    ensures memory { IfErr result (λ e. e ≢ StackError.Memory) }
 {
     match table.get(key) {
         Some(value) => Ok(value),
@@ -148,7 +155,8 @@ pub fn items_at<'a>(table: &'a Value, key: &str) -> &'a [Value]
 
 /// The elements of the list at a key of an item.
 pub(crate) fn items<'a>(item: usize, table: &'a Value, key: &str) -> Result<&'a [Value], StackError>
-    ensures { Gives (λ s. map view s.now) result (required item (items_in key.now (view table.now))) }
+    ensures read { Gives (λ s. map view s.now) result (required item (items_in key.now (view table.now))) }
+    ensures memory { IfErr result (λ e. e ≢ StackError.Memory) }
 {
     match elements_at(table, key) {
         Some(values) => Ok(values),
@@ -162,7 +170,8 @@ pub(crate) fn items_or_none<'a>(
     table: &'a Value,
     key: &str,
 ) -> Result<&'a [Value], StackError>
-    ensures { Gives (λ s. map view s.now) result (items_or item (get key.now (view table.now))) }
+    ensures read { Gives (λ s. map view s.now) result (items_or item (get key.now (view table.now))) }
+    ensures memory { IfErr result (λ e. e ≢ StackError.Memory) }
 {
     match table.get(key) {
         None => Ok(&[]),
@@ -203,7 +212,8 @@ pub(crate) fn tables_at<'a>(
     table: &'a Value,
     key: &str,
 ) -> Result<&'a [Value], StackError>
-    ensures { Gives (λ s. map view s.now) result (tables_in item key.now (view table.now)) }
+    ensures read { Gives (λ s. map view s.now) result (tables_in item key.now (view table.now)) }
+    ensures memory { IfErr result (λ e. e ≢ StackError.Memory) }
 {
     match table.get(key) {
         None => Ok(&[]),

@@ -1,5 +1,5 @@
 //! The table of a wire.
-ghost use Rattle.std.specs.Prelude.{◌≡◌, codes, option_map};
+ghost use Rattle.std.specs.Prelude.{◌≡◌, codes, option_map, ◌≢◌, IfErr};
 ghost use Rattle.toml.specs.View.{view};
 ghost use Rattle.rina_table.specs.Faults.{Gives, required};
 ghost use Rattle.rina_table.specs.Values.{element};
@@ -16,7 +16,8 @@ use toml::Value;
 
 #[tactic(auto, unfolding(crate::specs::Rows::storm_at))]
 fn storm(scope: &Scope<'_>, item: usize, table: &Value) -> Result<Storm, StackError>
-    ensures { Gives (λ s. s) result (storm_at scope.now item (view table.now)) }
+    ensures read { Gives (λ s. s) result (storm_at scope.now item (view table.now)) }
+    ensures memory { IfErr result (λ e. e ≢ StackError.Memory) }
 {
     let seed = number(scope, item, table, "seed", 0, 9_007_199_254_740_991)?;
     let lose = number(scope, item, table, "lose", 0, 1000)?;
@@ -35,7 +36,8 @@ fn storm_of(
     item: usize,
     table: Option<&Value>,
 ) -> Result<Option<Storm>, StackError>
-    ensures { Gives (λ s. s) result (storm_or scope.now item (option_map (λ v. view v.now) table.entry)) }
+    ensures read { Gives (λ s. s) result (storm_or scope.now item (option_map (λ v. view v.now) table.entry)) }
+    ensures memory { IfErr result (λ e. e ≢ StackError.Memory) }
 {
     match table {
         None => Ok(None),
@@ -47,7 +49,8 @@ fn storm_of(
 }
 
 fn end_text(item: usize, table: &Value, at: usize) -> Result<&str, StackError>
-    ensures { Gives (λ t. t.now) result (required item (element at (codes "ends") (view table.now))) }
+    ensures read { Gives (λ t. t.now) result (required item (element at (codes "ends") (view table.now))) }
+    ensures memory { IfErr result (λ e. e ≢ StackError.Memory) }
 {
     match text_among(table, "ends", at) {
         Some(text) => Ok(text),

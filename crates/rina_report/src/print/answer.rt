@@ -1,4 +1,4 @@
-//! What a line answers or brings about.
+//! Printing answers.
 ghost use Rattle.std.specs.Prelude.{◌≡◌, ◌∷◌, [], true};
 ghost use Rattle.std.specs.Fmt.{decimal};
 ghost use Rattle.rina_schedule.specs.Spelling.{Adds, spaced, spelling};
@@ -35,7 +35,7 @@ fn end(text: &mut Text, end: &FlowNote) -> Result<(), Memory>
     state(text, &end.state)
 }
 
-/// An end of a flow in a journal.
+/// Appends the fields of an end of a flow in a journal.
 #[tactic(auto, unfolding(crate::specs::Answers::flow_fields))]
 fn flow(text: &mut Text, shown: &FlowNote) -> Result<(), Memory>
     ensures { Adds result text.old text.new (spaced (flow_fields shown.now)) }
@@ -47,7 +47,7 @@ fn flow(text: &mut Text, shown: &FlowNote) -> Result<(), Memory>
     end(text, shown)
 }
 
-/// An entry of a journal.
+/// Appends the fields of an entry of a journal.
 fn entry(text: &mut Text, at: u32, num: Num, bytes: &[u8]) -> Result<(), Memory>
     ensures { Adds result text.old text.new (spaced (decimal at ∷ num_text num ∷ spelling bytes.now ∷ [])) }
 {
@@ -56,7 +56,7 @@ fn entry(text: &mut Text, at: u32, num: Num, bytes: &[u8]) -> Result<(), Memory>
     text.bytes_field(bytes)
 }
 
-/// What a word shows of a RIB, a ledger or a journal.
+/// Appends an answer about a RIB, a ledger or a journal.
 #[tactic(auto, unfolding(crate::specs::Answers::answer_fields))]
 fn shown(text: &mut Text, answer: &Answer) -> Result<(), Memory>
     requires { is_shown answer.now ≡ true }
@@ -87,7 +87,7 @@ fn shown(text: &mut Text, answer: &Answer) -> Result<(), Memory>
     }
 }
 
-/// What an IPC process answers, or shows.
+/// Appends an answer about an IPC process, a RIB, a ledger or a journal.
 #[tactic(auto, unfolding(crate::specs::Answers::answer_fields))]
 fn of_ipc(text: &mut Text, answer: &Answer) -> Result<(), Memory>
     requires { is_of_ipc answer.now ≡ true }
@@ -125,7 +125,7 @@ fn of_ipc(text: &mut Text, answer: &Answer) -> Result<(), Memory>
     }
 }
 
-/// A space and an answer's word, with its fields.
+/// Appends an answer: its word and its fields.
 #[tactic(auto, unfolding(crate::specs::Answers::answer_fields))]
 pub(crate) fn answer(text: &mut Text, answer: &Answer) -> Result<(), Memory>
     ensures { Adds result text.old text.new (spaced (answer_fields answer.now)) }

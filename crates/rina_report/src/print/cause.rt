@@ -1,4 +1,4 @@
-//! The causes of write-offs.
+//! Printing the causes of write-offs.
 ghost use Rattle.std.specs.Prelude.{◌≡◌};
 ghost use Rattle.rina_schedule.specs.Spelling.{Adds, spaced};
 ghost use Rattle.rina_report.specs.Causes.{cause_word, cause_values, cause_fields};
@@ -28,7 +28,7 @@ fn word(cause: &CauseNote) -> &'static [u8]
     }
 }
 
-/// The values that show a cause.
+/// Appends the fields of a cause.
 #[tactic(auto, unfolding(crate::specs::Causes::cause_values))]
 fn values(text: &mut Text, cause: &CauseNote) -> Result<(), Memory>
     ensures { Adds result text.old text.new (spaced (cause_values cause.now)) }
@@ -52,7 +52,7 @@ fn values(text: &mut Text, cause: &CauseNote) -> Result<(), Memory>
     }
 }
 
-/// A space and the name of a cause, then its fields.
+/// Appends a cause: its name and its fields.
 pub(crate) fn cause(text: &mut Text, cause: &CauseNote) -> Result<(), Memory>
     ensures { Adds result text.old text.new (spaced (cause_fields cause.now)) }
 {

@@ -1,4 +1,4 @@
-//! Whole notes.
+//! Printing whole notes.
 ghost use Rattle.std.specs.Prelude.{◌≡◌, ◌∷◌, ◌++◌, [], IfOk, codes};
 ghost use Rattle.std.specs.Fmt.{decimal};
 ghost use Rattle.rina_schedule.specs.Spelling.{Adds, spaced};
@@ -43,7 +43,7 @@ fn fault(text: &mut Text, fault: Fault) -> Result<(), Memory>
     }
 }
 
-/// A space and a word, then a space and a number.
+/// Appends a word and a number as two fields.
 fn named(text: &mut Text, word: &[u8], n: u32) -> Result<(), Memory>
     ensures { Adds result text.old text.new (spaced (word.now ∷ decimal n ∷ [])) }
 {
@@ -51,7 +51,7 @@ fn named(text: &mut Text, word: &[u8], n: u32) -> Result<(), Memory>
     text.number_field(u64::from(n))
 }
 
-/// The head of the summary of a generated run.
+/// Appends the first fields of the summary of a generated run.
 fn begun(text: &mut Text, n: u32, lines: u32, tick: u32) -> Result<(), Memory>
     ensures { Adds result text.old text.new (codes "gen" ++ spaced (decimal n ∷ codes "lines" ∷ decimal lines ∷ codes "tick" ∷ decimal tick ∷ [])) }
 {
@@ -61,7 +61,7 @@ fn begun(text: &mut Text, n: u32, lines: u32, tick: u32) -> Result<(), Memory>
     named(text, b"tick", tick)
 }
 
-/// What a generated run told.
+/// Appends the last fields of the summary of a generated run.
 #[tactic(auto, unfolding(crate::specs::Notes::told_fields))]
 fn told(
     text: &mut Text,
@@ -80,7 +80,7 @@ fn told(
     named(text, b"failed", failed)
 }
 
-/// A line's number, a tick, and what is told.
+/// Appends the number of a line, a tick and an answer.
 fn line_note(text: &mut Text, line: u32, tick: u32, told: &Answer) -> Result<(), Memory>
     ensures { Adds result text.old text.new (decimal line ++ spaced (decimal tick ∷ answer_fields told.now)) }
 {
@@ -89,7 +89,7 @@ fn line_note(text: &mut Text, line: u32, tick: u32, told: &Answer) -> Result<(),
     answer(text, told)
 }
 
-/// Adds a note, without the end of its line.
+/// Appends a note, without the end of its line.
 #[tactic(auto, unfolding(crate::specs::Notes::note_text))]
 fn note(text: &mut Text, note: &Note) -> Result<(), Memory>
     ensures { Adds result text.old text.new (note_text note.now) }
@@ -130,7 +130,7 @@ fn note(text: &mut Text, note: &Note) -> Result<(), Memory>
     }
 }
 
-/// The text of a note, without the end of its line.
+/// Prints a note, without the end of its line. Fails once an allocation fails.
 pub fn print_note(alloc: Global, n: &Note) -> Result<Vec<u8>, Memory>
     ensures { IfOk result (λ text. text.items ≡ note_text n.now) }
 {
@@ -139,7 +139,7 @@ pub fn print_note(alloc: Global, n: &Note) -> Result<Vec<u8>, Memory>
     Ok(text.into_vec())
 }
 
-/// Adds a note as a line of its own.
+/// Appends a note and the end of its line. Fails once an allocation fails.
 pub fn add_line(text: &mut Text, n: &Note) -> Result<(), Memory>
     ensures { Adds result text.old text.new (line_of n.now) }
 {

@@ -1,7 +1,7 @@
-//! The refusals.
-ghost use Rattle.std.specs.Prelude.{◌≡◌};
+//! Printing refusals.
+ghost use Rattle.std.specs.Prelude.{◌≡◌, true};
 ghost use Rattle.rina_schedule.specs.Spelling.{Adds, spaced};
-ghost use Rattle.rina_report.specs.Refusals.{state_or_none, refusal_word, refusal_values, refusal_fields};
+ghost use Rattle.rina_report.specs.Refusals.{state_or_none, is_of_message, refusal_word, refusal_values, refusal_fields};
 
 use crate::print::state::{fail, state};
 use crate::print::value;
@@ -9,6 +9,23 @@ use crate::refusal::Refusal;
 use crate::state::StateNote;
 use rina_base::Memory;
 use rina_schedule::Text;
+
+/// The name of a refusal for the bytes of a CDAP message.
+#[tactic(auto, unfolding(crate::specs::Refusals::refusal_word))]
+fn message_word(why: &Refusal) -> &'static [u8]
+    requires { is_of_message why.now ≡ true }
+    ensures { result.now ≡ refusal_word why.now }
+{
+    match why {
+        Refusal::Short { .. } => b"Short",
+        Refusal::BadTag { .. } => b"BadTag",
+        Refusal::BadOp { .. } => b"BadOp",
+        Refusal::Twice { .. } => b"Twice",
+        Refusal::Missing { .. } => b"Missing",
+        Refusal::BadValue { .. } => b"BadValue",
+        _ => unreachable!(),
+    }
+}
 
 /// The name of a refusal.
 #[tactic(auto, unfolding(crate::specs::Refusals::refusal_word))]
@@ -45,15 +62,10 @@ fn word(why: &Refusal) -> &'static [u8]
         Refusal::NoLink => b"NoLink",
         Refusal::Enrolling { .. } => b"Enrolling",
         Refusal::LinksFull { .. } => b"LinksFull",
-        Refusal::Short { .. } => b"Short",
-        Refusal::BadTag { .. } => b"BadTag",
-        Refusal::BadOp { .. } => b"BadOp",
-        Refusal::Twice { .. } => b"Twice",
-        Refusal::Missing { .. } => b"Missing",
-        Refusal::BadValue { .. } => b"BadValue",
         Refusal::NoRank => b"NoRank",
         Refusal::NotYours => b"NotYours",
         Refusal::Unbuilt => b"Unbuilt",
+        _ => message_word(why),
     }
 }
 
@@ -67,7 +79,7 @@ fn state_if_any(text: &mut Text, shown: &Option<StateNote>) -> Result<(), Memory
     }
 }
 
-/// The fields of a refusal.
+/// Appends the fields of a refusal.
 #[tactic(auto, unfolding(crate::specs::Refusals::refusal_values))]
 fn values(text: &mut Text, why: &Refusal) -> Result<(), Memory>
     ensures { Adds result text.old text.new (spaced (refusal_values why.now)) }
@@ -99,7 +111,7 @@ fn values(text: &mut Text, why: &Refusal) -> Result<(), Memory>
     }
 }
 
-/// A space and the name of a refusal, then its fields.
+/// Appends a refusal: its name and its fields.
 pub(crate) fn refusal(text: &mut Text, why: &Refusal) -> Result<(), Memory>
     ensures { Adds result text.old text.new (spaced (refusal_fields why.now)) }
 {

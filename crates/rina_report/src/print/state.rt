@@ -1,4 +1,4 @@
-//! The states of ports and members.
+//! Printing the states of ports and members.
 ghost use Rattle.std.specs.Prelude.{◌≡◌};
 ghost use Rattle.rina_schedule.specs.Spelling.{Adds, spaced};
 ghost use Rattle.rina_report.specs.States.{why_fields, fail_fields, state_fields, member_fields};
@@ -31,7 +31,7 @@ fn why(text: &mut Text, why: Why) -> Result<(), Memory>
     }
 }
 
-/// A space and the name of a failure, then its fields.
+/// Appends a failure: its name and its fields.
 #[tactic(auto, unfolding(crate::specs::States::fail_fields))]
 pub(crate) fn fail(text: &mut Text, fail: &FailNote) -> Result<(), Memory>
     ensures { Adds result text.old text.new (spaced (fail_fields fail.now)) }
@@ -53,7 +53,7 @@ pub(crate) fn fail(text: &mut Text, fail: &FailNote) -> Result<(), Memory>
     }
 }
 
-/// A space and a state, then its fields.
+/// Appends the state of a port: its name and its fields.
 #[tactic(auto, unfolding(crate::specs::States::state_fields))]
 pub(crate) fn state(text: &mut Text, state: &StateNote) -> Result<(), Memory>
     ensures { Adds result text.old text.new (spaced (state_fields state.now)) }
@@ -73,7 +73,7 @@ pub(crate) fn state(text: &mut Text, state: &StateNote) -> Result<(), Memory>
     }
 }
 
-/// A space and the state of a member, then its fields.
+/// Appends the state of a member: its name and its fields.
 #[tactic(auto, unfolding(crate::specs::States::member_fields))]
 pub(crate) fn member(text: &mut Text, state: MemberNote) -> Result<(), Memory>
     ensures { Adds result text.old text.new (spaced (member_fields state)) }

@@ -1,4 +1,4 @@
-//! What single steps did.
+//! Printing the results of single steps.
 ghost use Rattle.std.specs.Prelude.{◌≡◌};
 ghost use Rattle.rina_schedule.specs.Spelling.{Adds, spaced};
 ghost use Rattle.rina_report.specs.Steps.{took_fields, clock_fields};
@@ -9,7 +9,7 @@ use crate::step::{ClockNote, TookNote};
 use rina_base::Memory;
 use rina_schedule::Text;
 
-/// A space and what became of a PDU.
+/// Appends what a step did with a PDU.
 #[tactic(auto, unfolding(crate::specs::Steps::took_fields))]
 pub(crate) fn took(text: &mut Text, end: &TookNote) -> Result<(), Memory>
     ensures { Adds result text.old text.new (spaced (took_fields end.now)) }
@@ -24,7 +24,7 @@ pub(crate) fn took(text: &mut Text, end: &TookNote) -> Result<(), Memory>
     }
 }
 
-/// A space and what a step of the clock did, then its field.
+/// Appends the result of a step of the clock: its name and its field.
 #[tactic(auto, unfolding(crate::specs::Steps::clock_fields))]
 pub(crate) fn clock(text: &mut Text, step: &ClockNote) -> Result<(), Memory>
     ensures { Adds result text.old text.new (spaced (clock_fields step.now)) }

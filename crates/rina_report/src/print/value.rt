@@ -1,4 +1,4 @@
-//! Values of more than one part.
+//! Printing values of more than one part.
 ghost use Rattle.std.specs.Prelude.{◌≡◌, ◌∷◌, []};
 ghost use Rattle.std.specs.Fmt.{decimal};
 ghost use Rattle.rina_schedule.specs.Spelling.{Adds, spaced};
@@ -8,7 +8,7 @@ use crate::state::PortNote;
 use rina_base::{FlowName, Key, Memory, Num, PduKind};
 use rina_schedule::Text;
 
-/// A space, and CEP.SEQ.
+/// Appends a field CEP.SEQ.
 #[tactic(auto, unfolding(crate::specs::Values::num_text))]
 pub(crate) fn num(text: &mut Text, num: Num) -> Result<(), Memory>
     ensures { Adds result text.old text.new (32 ∷ num_text num) }
@@ -18,7 +18,7 @@ pub(crate) fn num(text: &mut Text, num: Num) -> Result<(), Memory>
     text.number(num.seq)
 }
 
-/// A space, and SRC.TICK.COUNT.
+/// Appends a field SRC.TICK.COUNT.
 #[tactic(auto, unfolding(crate::specs::Values::flow_text))]
 pub(crate) fn flow(text: &mut Text, flow: FlowName) -> Result<(), Memory>
     ensures { Adds result text.old text.new (32 ∷ flow_text flow) }
@@ -30,7 +30,7 @@ pub(crate) fn flow(text: &mut Text, flow: FlowName) -> Result<(), Memory>
     text.number(u64::from(flow.count))
 }
 
-/// A space, and FAC/NODE/N.
+/// Appends a field FAC/NODE/N.
 #[tactic(auto, unfolding(crate::specs::Values::port_text))]
 pub(crate) fn port(text: &mut Text, port: &PortNote) -> Result<(), Memory>
     ensures { Adds result text.old text.new (32 ∷ port_text port.now) }
@@ -52,7 +52,7 @@ fn kind(kind: PduKind) -> &'static [u8]
     }
 }
 
-/// A space, and SRC.SCEP.SEQ.
+/// Appends a field SRC.SCEP.SEQ.
 #[tactic(auto, unfolding(crate::specs::Values::key_text))]
 fn key_numbers(text: &mut Text, key: Key) -> Result<(), Memory>
     ensures { Adds result text.old text.new (32 ∷ key_text key) }
@@ -64,7 +64,7 @@ fn key_numbers(text: &mut Text, key: Key) -> Result<(), Memory>
     text.number(u64::from(key.seq))
 }
 
-/// A space, the kind, and SRC.SCEP.SEQ.
+/// Appends the kind of a PDU and SRC.SCEP.SEQ as two fields.
 pub(crate) fn key(text: &mut Text, key: Key) -> Result<(), Memory>
     ensures { Adds result text.old text.new (spaced (key_fields key)) }
 {
@@ -72,7 +72,7 @@ pub(crate) fn key(text: &mut Text, key: Key) -> Result<(), Memory>
     key_numbers(text, key)
 }
 
-/// A space, and 0 or 1.
+/// Appends a field 0 or 1.
 #[tactic(auto, unfolding(crate::specs::Values::truth_text))]
 pub(crate) fn truth(text: &mut Text, truth: bool) -> Result<(), Memory>
     ensures { Adds result text.old text.new (32 ∷ truth_text truth) }
@@ -80,7 +80,7 @@ pub(crate) fn truth(text: &mut Text, truth: bool) -> Result<(), Memory>
     text.field(if truth { b"1" } else { b"0" })
 }
 
-/// Two spaces with a number behind each.
+/// Appends two numbers as two fields.
 pub(crate) fn two(text: &mut Text, a: u64, b: u64) -> Result<(), Memory>
     ensures { Adds result text.old text.new (spaced (decimal a ∷ decimal b ∷ [])) }
 {

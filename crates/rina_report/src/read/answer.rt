@@ -1,4 +1,4 @@
-//! What a line answers or brings about, behind its word.
+//! Reading answers.
 ghost use Rattle.std.specs.Prelude.{◌≡◌, ◌<◌, ◌+◌};
 ghost use Rattle.rina_schedule.specs.Gives.{Gives};
 ghost use Rattle.rina_report.specs.Fields.{behind};
@@ -30,7 +30,7 @@ fn role_of(word: &[u8]) -> Option<Role>
     }
 }
 
-/// The state of a member or a port.
+/// Reads the state of a member or a port.
 #[tactic(auto, unfolding(crate::specs::ReadAnswers::ok_state_of))]
 fn ok_state(alloc: Global, word: &[u8], n: u32, rest: &[u8]) -> Result<Answer, LineError>
     requires { n < 100 }
@@ -62,7 +62,7 @@ fn ok_state(alloc: Global, word: &[u8], n: u32, rest: &[u8]) -> Result<Answer, L
     }
 }
 
-/// Nothing, or a state.
+/// Reads `nothing`, or a state.
 fn ok(alloc: Global, n: u32, rest: &[u8]) -> Result<Answer, LineError>
     requires { n < 100 }
     ensures { Gives (λ x. x) result (ok_at n (behind rest.now)) }
@@ -73,7 +73,7 @@ fn ok(alloc: Global, n: u32, rest: &[u8]) -> Result<Answer, LineError>
     }
 }
 
-/// An SDU that was read.
+/// Reads an SDU that was read.
 #[tactic(auto, unfolding(crate::specs::ReadAnswers::got_at))]
 fn got(alloc: Global, n: u32, rest: &[u8]) -> Result<Answer, LineError>
     requires { n < 100 }
@@ -84,7 +84,7 @@ fn got(alloc: Global, n: u32, rest: &[u8]) -> Result<Answer, LineError>
     Ok(Answer::Got { at, bytes })
 }
 
-/// A PDU that a step took.
+/// Reads a PDU that a step took.
 #[tactic(auto, unfolding(crate::specs::ReadAnswers::in_at))]
 fn in_step(alloc: Global, n: u32, rest: &[u8]) -> Result<Answer, LineError>
     requires { n < 100 }
@@ -117,7 +117,7 @@ fn out_end(alloc: Global, key: Key, n: u32, rest: &[u8]) -> Result<Answer, LineE
     }
 }
 
-/// A PDU that a step gave to a link or wrote off.
+/// Reads a PDU that a step gave to a link or wrote off.
 #[tactic(auto, unfolding(crate::specs::ReadAnswers::out_at))]
 fn out_step(alloc: Global, n: u32, rest: &[u8]) -> Result<Answer, LineError>
     requires { n < 100 }
@@ -127,7 +127,7 @@ fn out_step(alloc: Global, n: u32, rest: &[u8]) -> Result<Answer, LineError>
     out_end(alloc, key, n + 2, rest)
 }
 
-/// A write-off.
+/// Reads a write-off.
 #[tactic(auto, unfolding(crate::specs::ReadAnswers::off_at))]
 fn off(alloc: Global, n: u32, rest: &[u8]) -> Result<Answer, LineError>
     requires { n < 100 }
@@ -138,7 +138,7 @@ fn off(alloc: Global, n: u32, rest: &[u8]) -> Result<Answer, LineError>
     Ok(Answer::Off { key, cause })
 }
 
-/// An object of a RIB.
+/// Reads an object of a RIB.
 #[tactic(auto, unfolding(crate::specs::ReadAnswers::object_note_at))]
 fn object_note(alloc: Global, n: u32, rest: &[u8]) -> Result<Answer, LineError>
     requires { n < 100 }
@@ -153,7 +153,7 @@ fn object_note(alloc: Global, n: u32, rest: &[u8]) -> Result<Answer, LineError>
     Ok(Answer::Object { name, class, value })
 }
 
-/// An end of a flow.
+/// Reads an end of a flow.
 #[tactic(auto, unfolding(crate::specs::ReadAnswers::flow_note_at))]
 fn flow_note(alloc: Global, n: u32, rest: &[u8]) -> Result<FlowNote, LineError>
     requires { n < 100 }
@@ -182,7 +182,7 @@ fn flow_note(alloc: Global, n: u32, rest: &[u8]) -> Result<FlowNote, LineError>
     })
 }
 
-/// An entry of a journal.
+/// Reads an entry of a journal.
 #[tactic(auto, unfolding(crate::specs::ReadAnswers::entry_at))]
 fn entry(alloc: Global, n: u32, rest: &[u8]) -> Result<(Tick, Num, Bytes), LineError>
     requires { n < 100 }
@@ -194,7 +194,7 @@ fn entry(alloc: Global, n: u32, rest: &[u8]) -> Result<(Tick, Num, Bytes), LineE
     Ok((at, num, bytes))
 }
 
-/// A label, and the state of its port.
+/// Reads a label and the state of its port.
 #[tactic(auto, unfolding(crate::specs::ReadAnswers::label_at))]
 fn label(alloc: Global, n: u32, rest: &[u8]) -> Result<Answer, LineError>
     requires { n < 100 }
@@ -205,7 +205,7 @@ fn label(alloc: Global, n: u32, rest: &[u8]) -> Result<Answer, LineError>
     Ok(Answer::Label { label, state })
 }
 
-/// A word of a journal or a RIB.
+/// Reads an answer about a journal or a RIB, whose word was read.
 #[tactic(auto, unfolding(crate::specs::ReadAnswers::journal_word_at))]
 fn journal_word(alloc: Global, word: &[u8], rest: &[u8]) -> Result<Answer, LineError>
     ensures { Gives (λ x. x) result (journal_word_at word.now (behind rest.now)) }
@@ -229,7 +229,7 @@ fn journal_word(alloc: Global, word: &[u8], rest: &[u8]) -> Result<Answer, LineE
     }
 }
 
-/// A word of a step, or one of those above.
+/// Reads an answer about a step, a journal or a RIB, whose word was read.
 #[tactic(auto, unfolding(crate::specs::ReadAnswers::step_word_at))]
 fn step_word(alloc: Global, word: &[u8], rest: &[u8]) -> Result<Answer, LineError>
     ensures { Gives (λ x. x) result (step_word_at word.now (behind rest.now)) }
@@ -254,7 +254,7 @@ fn step_word(alloc: Global, word: &[u8], rest: &[u8]) -> Result<Answer, LineErro
     }
 }
 
-/// What a word and the fields behind it say.
+/// Reads an answer, whose word was read.
 #[tactic(auto, unfolding(crate::specs::ReadAnswers::answer_at))]
 pub(crate) fn answer(alloc: Global, word: &[u8], rest: &[u8]) -> Result<Answer, LineError>
     ensures { Gives (λ x. x) result (answer_at word.now (behind rest.now)) }

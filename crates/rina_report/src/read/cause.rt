@@ -1,4 +1,4 @@
-//! The causes of write-offs and single steps, from field `n` on to the end of the note.
+//! Reading the causes of write-offs and the results of single steps, from field `n` to the end of the note.
 ghost use Rattle.std.specs.Prelude.{◌<◌, ◌+◌};
 ghost use Rattle.rina_schedule.specs.Gives.{Gives};
 ghost use Rattle.rina_report.specs.Fields.{behind};
@@ -11,7 +11,7 @@ use crate::step::{ClockNote, TookNote};
 use rina_schedule::LineError;
 use std::alloc::Global;
 
-/// A cause that a PDU itself shows.
+/// Reads a cause that lies in the PDU itself.
 #[tactic(auto, unfolding(crate::specs::ReadCauses::pdu_cause_of))]
 fn pdu_cause(word: &[u8], n: u32, rest: &[u8]) -> Result<CauseNote, LineError>
     requires { n < 800 }
@@ -65,7 +65,7 @@ fn cause_of(alloc: Global, word: &[u8], n: u32, rest: &[u8]) -> Result<CauseNote
     }
 }
 
-/// A cause.
+/// Reads a cause.
 #[tactic(auto, unfolding(crate::specs::ReadCauses::cause_at))]
 pub(crate) fn cause(alloc: Global, n: u32, rest: &[u8]) -> Result<CauseNote, LineError>
     requires { n < 800 }
@@ -94,7 +94,7 @@ fn took_of(alloc: Global, word: &[u8], n: u32, rest: &[u8]) -> Result<TookNote, 
     }
 }
 
-/// What became of a PDU.
+/// Reads what a step did with a PDU.
 #[tactic(auto, unfolding(crate::specs::ReadCauses::took_at))]
 pub(crate) fn took(alloc: Global, n: u32, rest: &[u8]) -> Result<TookNote, LineError>
     requires { n < 700 }
@@ -138,7 +138,7 @@ fn clock_of(alloc: Global, word: &[u8], n: u32, rest: &[u8]) -> Result<ClockNote
     }
 }
 
-/// What a step of the clock did.
+/// Reads the result of a step of the clock.
 #[tactic(auto, unfolding(crate::specs::ReadCauses::clock_at))]
 pub(crate) fn clock(alloc: Global, n: u32, rest: &[u8]) -> Result<ClockNote, LineError>
     requires { n < 800 }

@@ -1,4 +1,4 @@
-//! The fields of a note, and numbers in them.
+//! Reading the fields of a note, and numbers in them.
 ghost use Rattle.std.specs.Prelude.{◌≡◌, ◌∷◌, [], ◌<◌, ◌≤◌, ◌==◌, length, position, IfSome, IfOk, MatchOption};
 ghost use Rattle.std.specs.Str.{bytes_eq};
 ghost use Rattle.rina_schedule.specs.Gives.{Gives};
@@ -13,7 +13,7 @@ pub(crate) fn is(word: &[u8], other: &[u8]) -> bool
     word == other
 }
 
-/// The place of a byte.
+/// The place of the first such byte, or None where the text has none.
 pub(crate) fn place_of(byte: u8, text: &[u8]) -> Option<usize>
     ensures at { result ≡ position (λ x. x == byte) text.now }
     ensures within { IfSome result (λ k. k < length text.now) }
@@ -21,7 +21,7 @@ pub(crate) fn place_of(byte: u8, text: &[u8]) -> Option<usize>
     text.iter().position(|x| *x == byte)
 }
 
-/// The first field of a text, and what stands behind it.
+/// Splits off the first field of a text; gives it and the rest.
 #[tactic(auto, unfolding(crate::specs::Fields::behind), using(crate::proofs::Split::cut_some, crate::proofs::Split::cut_none))]
 pub(crate) fn first_field(text: &[u8]) -> (&[u8], &[u8])
     ensures { fields_of text.now ≡ result.0.now ∷ behind result.1.now }
@@ -32,7 +32,7 @@ pub(crate) fn first_field(text: &[u8]) -> (&[u8], &[u8])
     }
 }
 
-/// The next field, and what stands behind it.
+/// Splits off the next field; gives it and the rest, or None at the end of the note.
 #[tactic(auto, unfolding(crate::specs::Fields::behind))]
 pub(crate) fn next_field(rest: &[u8]) -> Option<(&[u8], &[u8])>
     ensures { MatchOption result (behind rest.now ≡ []) (λ x. behind rest.now ≡ x.0.now ∷ behind x.1.now) }
@@ -43,7 +43,7 @@ pub(crate) fn next_field(rest: &[u8]) -> Option<(&[u8], &[u8])>
     }
 }
 
-/// Field `n`.
+/// Reads field `n`, whatever it is.
 pub(crate) fn field(n: u32, rest: &[u8]) -> Result<(&[u8], &[u8]), LineError>
     ensures { Gives (λ x. (x.0.now, behind x.1.now)) result (field_at n (behind rest.now)) }
 {
@@ -53,7 +53,7 @@ pub(crate) fn field(n: u32, rest: &[u8]) -> Result<(&[u8], &[u8]), LineError>
     }
 }
 
-/// Whether the note ends before field `n`.
+/// Checks that the note ends before field `n`.
 pub(crate) fn end(n: u32, rest: &[u8]) -> Result<(), LineError>
     ensures { Gives (λ x. x) result (end_at n (behind rest.now)) }
 {
@@ -73,8 +73,8 @@ fn is_numeral(text: &[u8]) -> bool
     }
 }
 
-/// The number that a text writes in decimal, with no sign and no needless zero; None where it is none,
-/// or exceeds `max`.
+/// The number that a text is in decimal, without a sign and without a leading zero. None where the text
+/// is no such number, or one above `max`.
 #[tactic(auto, unfolding(crate::specs::Fields::numeral_of))]
 pub(crate) fn read_numeral(max: u64, text: &[u8]) -> Option<u64>
     ensures value { result ≡ numeral_of max text.now }
@@ -86,7 +86,7 @@ pub(crate) fn read_numeral(max: u64, text: &[u8]) -> Option<u64>
     read_decimal(max, text)
 }
 
-/// Field `n`, which is a number up to `max`.
+/// Reads field `n`, a number up to `max`.
 #[tactic(auto, unfolding(crate::specs::Fields::number_at))]
 pub(crate) fn number_up_to(max: u64, n: u32, rest: &[u8]) -> Result<(u64, &[u8]), LineError>
     ensures value { Gives (λ x. (x.0, behind x.1.now)) result (number_at max n (behind rest.now)) }
@@ -99,7 +99,7 @@ pub(crate) fn number_up_to(max: u64, n: u32, rest: &[u8]) -> Result<(u64, &[u8])
     }
 }
 
-/// Field `n`, which is a number of 32 bits.
+/// Reads field `n`, a number of 32 bits.
 pub(crate) fn number(n: u32, rest: &[u8]) -> Result<(u32, &[u8]), LineError>
     ensures { Gives (λ x. (x.0, behind x.1.now)) result (number_at max32 n (behind rest.now)) }
 {
@@ -107,7 +107,7 @@ pub(crate) fn number(n: u32, rest: &[u8]) -> Result<(u32, &[u8]), LineError>
     Ok((value as u32, rest))
 }
 
-/// Field `n`, which is a number of 8 bits.
+/// Reads field `n`, a number of 8 bits.
 pub(crate) fn byte(n: u32, rest: &[u8]) -> Result<(u8, &[u8]), LineError>
     ensures { Gives (λ x. (x.0, behind x.1.now)) result (number_at max8 n (behind rest.now)) }
 {
@@ -115,14 +115,14 @@ pub(crate) fn byte(n: u32, rest: &[u8]) -> Result<(u8, &[u8]), LineError>
     Ok((value as u8, rest))
 }
 
-/// Field `n`, which is a number of 64 bits.
+/// Reads field `n`, a number of 64 bits.
 pub(crate) fn long(n: u32, rest: &[u8]) -> Result<(u64, &[u8]), LineError>
     ensures { Gives (λ x. (x.0, behind x.1.now)) result (number_at max64 n (behind rest.now)) }
 {
     number_up_to(u64::MAX, n, rest)
 }
 
-/// Field `n`, which has to be this word; what stands behind it.
+/// Reads field `n`, which has to be this word.
 #[tactic(auto, unfolding(crate::specs::Fields::word_at))]
 pub(crate) fn word<'a>(expected: &[u8], n: u32, rest: &'a [u8]) -> Result<((), &'a [u8]), LineError>
     ensures { Gives (λ x. (x.0, behind x.1.now)) result (word_at expected.now n (behind rest.now)) }

@@ -1,4 +1,4 @@
-//! The last fields of a note.
+//! Reading the last fields of a note.
 ghost use Rattle.std.specs.Prelude.{◌<◌, ◌+◌};
 ghost use Rattle.rina_schedule.specs.Gives.{Gives};
 ghost use Rattle.rina_report.specs.Fields.{behind, max32, max64, last_number_at, last_two_at, last_num_at, last_port_at, last_truth_at, last_bytes_at};
@@ -10,7 +10,7 @@ use rina_base::{Bytes, Num};
 use rina_schedule::LineError;
 use std::alloc::Global;
 
-/// A number of 32 bits in field `n`, and the end of the note.
+/// Reads field `n`, a number of 32 bits, and the end of the note.
 #[tactic(auto, unfolding(crate::specs::Fields::last_number_at))]
 pub(crate) fn last_number(n: u32, rest: &[u8]) -> Result<u32, LineError>
     requires { n < 1000 }
@@ -21,7 +21,7 @@ pub(crate) fn last_number(n: u32, rest: &[u8]) -> Result<u32, LineError>
     Ok(value)
 }
 
-/// A number of 64 bits in field `n`, and the end of the note.
+/// Reads field `n`, a number of 64 bits, and the end of the note.
 #[tactic(auto, unfolding(crate::specs::Fields::last_number_at))]
 pub(crate) fn last_long(n: u32, rest: &[u8]) -> Result<u64, LineError>
     requires { n < 1000 }
@@ -32,7 +32,7 @@ pub(crate) fn last_long(n: u32, rest: &[u8]) -> Result<u64, LineError>
     Ok(value)
 }
 
-/// Two numbers of 32 bits from field `n` on, and the end of the note.
+/// Reads fields `n` and `n + 1`, numbers of 32 bits, and the end of the note.
 #[tactic(auto, unfolding(crate::specs::Fields::last_two_at))]
 pub(crate) fn last_two(n: u32, rest: &[u8]) -> Result<(u32, u32), LineError>
     requires { n < 900 }
@@ -43,7 +43,7 @@ pub(crate) fn last_two(n: u32, rest: &[u8]) -> Result<(u32, u32), LineError>
     Ok((first, second))
 }
 
-/// A number of 64 bits in field `n`, one of 32 bits behind it, and the end of the note.
+/// Reads field `n`, a number of 64 bits, the next one, a number of 32 bits, and the end of the note.
 #[tactic(auto, unfolding(crate::specs::Fields::last_two_at))]
 pub(crate) fn last_long_and_number(n: u32, rest: &[u8]) -> Result<(u64, u32), LineError>
     requires { n < 900 }
@@ -54,7 +54,7 @@ pub(crate) fn last_long_and_number(n: u32, rest: &[u8]) -> Result<(u64, u32), Li
     Ok((first, second))
 }
 
-/// CEP.SEQ in field `n`, and the end of the note.
+/// Reads field `n`, CEP.SEQ, and the end of the note.
 #[tactic(auto, unfolding(crate::specs::Fields::last_num_at))]
 pub(crate) fn last_num(n: u32, rest: &[u8]) -> Result<Num, LineError>
     requires { n < 1000 }
@@ -65,7 +65,7 @@ pub(crate) fn last_num(n: u32, rest: &[u8]) -> Result<Num, LineError>
     Ok(value)
 }
 
-/// FAC/NODE/N in field `n`, and the end of the note.
+/// Reads field `n`, FAC/NODE/N, and the end of the note.
 #[tactic(auto, unfolding(crate::specs::Fields::last_port_at))]
 pub(crate) fn last_port(alloc: Global, n: u32, rest: &[u8]) -> Result<PortNote, LineError>
     requires { n < 1000 }
@@ -76,7 +76,7 @@ pub(crate) fn last_port(alloc: Global, n: u32, rest: &[u8]) -> Result<PortNote, 
     Ok(value)
 }
 
-/// 0 or 1 in field `n`, and the end of the note.
+/// Reads field `n`, 0 or 1, and the end of the note.
 #[tactic(auto, unfolding(crate::specs::Fields::last_truth_at))]
 pub(crate) fn last_truth(n: u32, rest: &[u8]) -> Result<bool, LineError>
     requires { n < 1000 }
@@ -87,7 +87,7 @@ pub(crate) fn last_truth(n: u32, rest: &[u8]) -> Result<bool, LineError>
     Ok(value)
 }
 
-/// Bytes in field `n`, and the end of the note.
+/// Reads field `n`, which spells bytes, and the end of the note.
 #[tactic(auto, unfolding(crate::specs::Fields::last_bytes_at))]
 pub(crate) fn last_bytes(alloc: Global, n: u32, rest: &[u8]) -> Result<Bytes, LineError>
     requires { n < 1000 }

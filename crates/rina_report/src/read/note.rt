@@ -1,4 +1,4 @@
-//! Whole notes.
+//! Reading whole notes.
 ghost use Rattle.std.specs.Prelude.{◌<◌, ◌+◌, ◌∷◌};
 ghost use Rattle.rina_schedule.specs.Gives.{Gives, or_bad};
 ghost use Rattle.rina_report.specs.Fields.{fields_of, behind, max32, numeral_of};
@@ -12,7 +12,7 @@ use rina_base::Tick;
 use rina_schedule::LineError;
 use std::alloc::Global;
 
-/// A line of the schedule that is outside the grammar.
+/// Reads the fields of a line that is outside the grammar.
 #[tactic(auto, unfolding(crate::specs::ReadNotes::schedule_at))]
 fn schedule(n: u32, rest: &[u8]) -> Result<Fault, LineError>
     requires { n < 100 }
@@ -54,7 +54,7 @@ fn fault_of(word: &[u8], n: u32, rest: &[u8]) -> Result<Fault, LineError>
     }
 }
 
-/// Why a run ended before its last line.
+/// Reads why a run ended before its last line.
 #[tactic(auto, unfolding(crate::specs::ReadNotes::fault_at))]
 fn fault(n: u32, rest: &[u8]) -> Result<Fault, LineError>
     requires { n < 90 }
@@ -64,7 +64,7 @@ fn fault(n: u32, rest: &[u8]) -> Result<Fault, LineError>
     fault_of(word, n, rest)
 }
 
-/// The counts of an input that was checked.
+/// Reads the counts of an input that was checked.
 #[tactic(auto, unfolding(crate::specs::ReadNotes::checked_at))]
 fn checked(n: u32, rest: &[u8]) -> Result<Note, LineError>
     requires { n < 90 }
@@ -81,7 +81,7 @@ fn checked(n: u32, rest: &[u8]) -> Result<Note, LineError>
     })
 }
 
-/// A word in field `n`, and the number behind it.
+/// Reads this word in field `n`, and a number in the next one.
 #[tactic(auto, unfolding(crate::specs::ReadNotes::named_at))]
 fn named<'a>(expected: &[u8], n: u32, rest: &'a [u8]) -> Result<(u32, &'a [u8]), LineError>
     requires { n < 100 }
@@ -91,7 +91,7 @@ fn named<'a>(expected: &[u8], n: u32, rest: &'a [u8]) -> Result<(u32, &'a [u8]),
     number(n + 1, rest)
 }
 
-/// The summary of a generated run.
+/// Reads the summary of a generated run.
 #[tactic(auto, unfolding(crate::specs::ReadNotes::gen_at))]
 fn summary(at: u32, rest: &[u8]) -> Result<Note, LineError>
     requires { at < 80 }
@@ -118,7 +118,7 @@ fn summary(at: u32, rest: &[u8]) -> Result<Note, LineError>
     })
 }
 
-/// A number without which the note has no word.
+/// Reads the number of a line or a tick. Fails with `UnknownWord` where the text is no number of 32 bits.
 fn counter_of(text: &[u8]) -> Result<u32, LineError>
     ensures { Gives (λ x. x) result (or_bad LineError.UnknownWord (numeral_of max32 text.now)) }
 {
@@ -128,7 +128,7 @@ fn counter_of(text: &[u8]) -> Result<u32, LineError>
     }
 }
 
-/// What a line told, behind its number and the tick.
+/// Reads the answer behind the number of a line and the tick.
 fn told(alloc: Global, line: u32, tick: Tick, rest: &[u8]) -> Result<Note, LineError>
     ensures { Gives (λ x. x) result (told_at line tick (behind rest.now)) }
 {
@@ -139,7 +139,7 @@ fn told(alloc: Global, line: u32, tick: Tick, rest: &[u8]) -> Result<Note, LineE
     Ok(Note::Line { line, tick, answer })
 }
 
-/// The tick of a line, and what it told.
+/// Reads the tick behind the number of a line.
 #[tactic(auto, unfolding(crate::specs::ReadNotes::counter_at))]
 fn tick(rest: &[u8]) -> Result<(Tick, &[u8]), LineError>
     ensures { Gives (λ x. (x.0, behind x.1.now)) result (counter_at (behind rest.now)) }
@@ -151,7 +151,7 @@ fn tick(rest: &[u8]) -> Result<(Tick, &[u8]), LineError>
     Ok((tick, rest))
 }
 
-/// A note with two numbers.
+/// Reads a note that begins with the number of a line and a tick.
 #[tactic(auto, unfolding(crate::specs::ReadNotes::line_note_at, crate::specs::ReadNotes::counter_at))]
 fn line_note(alloc: Global, first: &[u8], rest: &[u8]) -> Result<Note, LineError>
     ensures { Gives (λ x. x) result (line_note_at (first.now ∷ behind rest.now)) }
@@ -180,11 +180,10 @@ fn whole(alloc: Global, word: &[u8], rest: &[u8]) -> Result<Note, LineError>
     }
 }
 
-/// The note that a text is, without the end of its line; takes no memory but for what it gives. A note
-/// is read in the one spelling in which it is printed: single spaces, numbers without a sign or a
-/// needless zero, one form of bytes. Else the first fault from the left is told with the number of its
-/// field, counted from the word as 0; where the note has no word, or one of the two numbers before it is
-/// missing or no number, that is UnknownWord.
+/// Reads a note from a text without the end of its line, only as it is printed: with single spaces,
+/// numbers without a sign or a leading zero, and one form of bytes. Fails with the first error from the
+/// left, where the word of the note is field 0; with `UnknownWord` where the note has no word, or one of
+/// the two numbers before it is missing or not a number; and with `Memory` once an allocation fails.
 #[tactic(auto, unfolding(crate::specs::ReadNotes::note_at))]
 pub fn read_note(alloc: Global, text: &[u8]) -> Result<Note, LineError>
     ensures { Gives (λ x. x) result (note_at text.now) }

@@ -1,4 +1,4 @@
-//! The refusals.
+//! Reading refusals.
 ghost use Rattle.std.specs.Prelude.{◌≡◌, ◌<◌};
 ghost use Rattle.rina_schedule.specs.Gives.{Gives};
 ghost use Rattle.rina_report.specs.Fields.{behind};
@@ -12,7 +12,7 @@ use crate::state::StateNote;
 use rina_schedule::LineError;
 use std::alloc::Global;
 
-/// The refusal of a name, where it has no fields.
+/// The refusal with this name, where it has no fields.
 #[tactic(auto, unfolding(crate::specs::ReadRefusals::bare_of))]
 fn bare(word: &[u8]) -> Option<Refusal>
     ensures { result ≡ bare_of word.now }
@@ -71,7 +71,7 @@ fn state_or_none_of(
     Ok(Some(state_of(alloc, word, n, rest)?))
 }
 
-/// A state, or none.
+/// Reads a state, or `none`.
 #[tactic(auto, unfolding(crate::specs::ReadRefusals::state_or_none_at))]
 fn state_or_none(alloc: Global, n: u32, rest: &[u8]) -> Result<Option<StateNote>, LineError>
     requires { n < 500 }
@@ -81,7 +81,7 @@ fn state_or_none(alloc: Global, n: u32, rest: &[u8]) -> Result<Option<StateNote>
     state_or_none_of(alloc, word, n, rest)
 }
 
-/// One with other fields than one number of 32 bits.
+/// Reads a refusal whose fields are others than one number of 32 bits.
 #[tactic(auto, unfolding(crate::specs::ReadRefusals::shaped_of))]
 fn shaped(alloc: Global, word: &[u8], n: u32, rest: &[u8]) -> Result<Refusal, LineError>
     requires { n < 400 }
@@ -150,7 +150,7 @@ fn numbered(alloc: Global, word: &[u8], n: u32, rest: &[u8]) -> Result<Refusal, 
     }
 }
 
-/// One with fields.
+/// Reads a refusal that has fields.
 #[tactic(auto, unfolding(crate::specs::ReadRefusals::counted_of))]
 fn counted(alloc: Global, word: &[u8], n: u32, rest: &[u8]) -> Result<Refusal, LineError>
     requires { n < 400 }
@@ -193,7 +193,7 @@ fn refusal_of(alloc: Global, word: &[u8], n: u32, rest: &[u8]) -> Result<Refusal
     }
 }
 
-/// A refusal, from field `n` on to the end of the note.
+/// Reads a refusal, from field `n` to the end of the note.
 #[tactic(auto, unfolding(crate::specs::ReadRefusals::refusal_at))]
 pub(crate) fn refusal(alloc: Global, n: u32, rest: &[u8]) -> Result<Refusal, LineError>
     requires { n < 400 }

@@ -1,4 +1,4 @@
-//! The states of ports, from field `n` on to the end of the note.
+//! Reading the states of ports, from field `n` to the end of the note.
 ghost use Rattle.std.specs.Prelude.{◌<◌, ◌+◌};
 ghost use Rattle.rina_schedule.specs.Gives.{Gives};
 ghost use Rattle.rina_report.specs.Fields.{behind};
@@ -37,7 +37,7 @@ fn why_of(word: &[u8], n: u32, rest: &[u8]) -> Result<Why, LineError>
     }
 }
 
-/// Why a flow was refused.
+/// Reads why a flow was refused.
 #[tactic(auto, unfolding(crate::specs::ReadStates::why_at))]
 fn why(n: u32, rest: &[u8]) -> Result<Why, LineError>
     requires { n < 800 }
@@ -47,7 +47,7 @@ fn why(n: u32, rest: &[u8]) -> Result<Why, LineError>
     why_of(word, n, rest)
 }
 
-/// A piece that was given up, and when.
+/// Reads which PDU was not acknowledged in time, and the ticks.
 #[tactic(auto, unfolding(crate::specs::ReadStates::gave_up_at))]
 fn gave_up(n: u32, rest: &[u8]) -> Result<FailNote, LineError>
     requires { n < 800 }
@@ -76,7 +76,7 @@ fn fail_of(alloc: Global, word: &[u8], n: u32, rest: &[u8]) -> Result<FailNote, 
     }
 }
 
-/// Why a flow failed.
+/// Reads why a flow failed.
 #[tactic(auto, unfolding(crate::specs::ReadStates::fail_at))]
 pub(crate) fn fail(alloc: Global, n: u32, rest: &[u8]) -> Result<FailNote, LineError>
     requires { n < 700 }
@@ -86,7 +86,7 @@ pub(crate) fn fail(alloc: Global, n: u32, rest: &[u8]) -> Result<FailNote, LineE
     fail_of(alloc, word, n, rest)
 }
 
-/// The state of a port, whose word in field `n` was read.
+/// Reads the state of a port, whose word in field `n` was read.
 #[tactic(auto, unfolding(crate::specs::ReadStates::state_of))]
 pub(crate) fn state_of(
     alloc: Global,
@@ -117,7 +117,7 @@ pub(crate) fn state_of(
     }
 }
 
-/// The state of a port.
+/// Reads the state of a port.
 #[tactic(auto, unfolding(crate::specs::ReadStates::state_at))]
 pub(crate) fn state(alloc: Global, n: u32, rest: &[u8]) -> Result<StateNote, LineError>
     requires { n < 600 }

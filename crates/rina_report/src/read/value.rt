@@ -1,4 +1,4 @@
-//! Values of more than one part, names and bytes.
+//! Reading values of more than one part, names and bytes.
 ghost use Rattle.std.specs.Prelude.{◌≡◌, ◌+◌, ◌<◌, ◌≤◌, IfSome};
 ghost use Rattle.rina_base.specs.Names.{name_at};
 ghost use Rattle.rina_schedule.specs.Fields.{name_or_bad};
@@ -11,7 +11,7 @@ use rina_base::{AppName, Bytes, FlowName, Key, Name, NameError, Num, PduKind};
 use rina_schedule::{LineError, ObjectName, read_printed};
 use std::alloc::Global;
 
-/// What stands before the first such byte of a text, and what behind it.
+/// The text before the first such byte, and the text after it.
 #[tactic(auto, unfolding(crate::specs::Fields::parts_of))]
 fn parts(byte: u8, text: &[u8]) -> (&[u8], &[u8])
     ensures { (result.0.now, result.1.now) ≡ parts_of byte text.now }
@@ -22,7 +22,7 @@ fn parts(byte: u8, text: &[u8]) -> (&[u8], &[u8])
     }
 }
 
-/// A number of 32 bits.
+/// The number of 32 bits that a text is.
 fn small(text: &[u8]) -> Option<u32>
     ensures { result ≡ numeral_of max32 text.now }
 {
@@ -30,7 +30,7 @@ fn small(text: &[u8]) -> Option<u32>
     Some(n as u32)
 }
 
-/// Two numbers with a dot between them, of which the second goes up to `max`.
+/// The two numbers on the sides of the dot in a text, of which the second is up to `max`.
 #[tactic(auto, unfolding(crate::specs::Fields::pair_of))]
 fn pair(max: u64, text: &[u8]) -> Option<(u32, u64)>
     ensures value { result ≡ pair_of max text.now }
@@ -42,7 +42,7 @@ fn pair(max: u64, text: &[u8]) -> Option<(u32, u64)>
     Some((a, b))
 }
 
-/// Three numbers of 32 bits with dots between them.
+/// The three numbers of 32 bits between the dots of a text.
 #[tactic(auto, unfolding(crate::specs::Fields::triple_of))]
 fn triple(text: &[u8]) -> Option<(u32, u32, u32)>
     ensures { result ≡ triple_of text.now }
@@ -53,7 +53,7 @@ fn triple(text: &[u8]) -> Option<(u32, u32, u32)>
     Some((a, b, c as u32))
 }
 
-/// Field `n`, which is CEP.SEQ.
+/// Reads field `n`, CEP.SEQ.
 #[tactic(auto, unfolding(crate::specs::Fields::num_at))]
 pub(crate) fn num(n: u32, rest: &[u8]) -> Result<(Num, &[u8]), LineError>
     ensures { Gives (λ x. (x.0, behind x.1.now)) result (num_at n (behind rest.now)) }
@@ -65,7 +65,7 @@ pub(crate) fn num(n: u32, rest: &[u8]) -> Result<(Num, &[u8]), LineError>
     }
 }
 
-/// Field `n`, which is SRC.TICK.COUNT.
+/// Reads field `n`, SRC.TICK.COUNT.
 #[tactic(auto, unfolding(crate::specs::Fields::flow_at))]
 pub(crate) fn flow(n: u32, rest: &[u8]) -> Result<(FlowName, &[u8]), LineError>
     ensures { Gives (λ x. (x.0, behind x.1.now)) result (flow_at n (behind rest.now)) }
@@ -90,7 +90,7 @@ fn kind(word: &[u8]) -> Option<PduKind>
     }
 }
 
-/// Fields `n` and `n + 1`, which are a kind and SRC.SCEP.SEQ.
+/// Reads fields `n` and `n + 1`, the kind of a PDU and SRC.SCEP.SEQ.
 #[tactic(auto, unfolding(crate::specs::Fields::key_at))]
 pub(crate) fn key(n: u32, rest: &[u8]) -> Result<(Key, &[u8]), LineError>
     requires { n < 1000 }
@@ -115,7 +115,7 @@ pub(crate) fn key(n: u32, rest: &[u8]) -> Result<(Key, &[u8]), LineError>
     }
 }
 
-/// A name, which stands in field `n`.
+/// Reads the name that a text is, which is part of field `n`.
 fn name_of(alloc: Global, n: u32, text: &[u8]) -> Result<Name, LineError>
     ensures { Gives (λ x. x) result (name_or_bad n (name_at text.now)) }
 {
@@ -140,7 +140,7 @@ fn port_of(alloc: Global, n: u32, text: &[u8]) -> Result<PortNote, LineError>
     }
 }
 
-/// Field `n`, which is FAC/NODE/N.
+/// Reads field `n`, FAC/NODE/N.
 #[tactic(auto, unfolding(crate::specs::Fields::port_at))]
 pub(crate) fn port<'a>(
     alloc: Global,
@@ -167,7 +167,7 @@ fn truth_of(text: &[u8]) -> Option<bool>
     }
 }
 
-/// Field `n`, which is 0 or 1.
+/// Reads field `n`, 0 or 1.
 #[tactic(auto, unfolding(crate::specs::Fields::truth_at))]
 pub(crate) fn truth(n: u32, rest: &[u8]) -> Result<(bool, &[u8]), LineError>
     ensures { Gives (λ x. (x.0, behind x.1.now)) result (truth_at n (behind rest.now)) }
@@ -179,7 +179,7 @@ pub(crate) fn truth(n: u32, rest: &[u8]) -> Result<(bool, &[u8]), LineError>
     }
 }
 
-/// Field `n`, which is a name.
+/// Reads field `n`, a name.
 #[tactic(auto, unfolding(crate::specs::Fields::name_field_at))]
 pub(crate) fn name<'a>(alloc: Global, n: u32, rest: &'a [u8]) -> Result<(Name, &'a [u8]), LineError>
     ensures { Gives (λ x. (x.0, behind x.1.now)) result (name_field_at n (behind rest.now)) }
@@ -189,7 +189,7 @@ pub(crate) fn name<'a>(alloc: Global, n: u32, rest: &'a [u8]) -> Result<(Name, &
     Ok((name, rest))
 }
 
-/// Field `n`, which is the name of an application.
+/// Reads field `n`, an application name.
 #[tactic(auto, unfolding(crate::specs::Fields::app_field_at))]
 pub(crate) fn app<'a>(
     alloc: Global,
@@ -206,7 +206,7 @@ pub(crate) fn app<'a>(
     }
 }
 
-/// Field `n`, which is the name of an object.
+/// Reads field `n`, an object name.
 #[tactic(auto, unfolding(crate::specs::Fields::object_at))]
 pub(crate) fn object<'a>(
     alloc: Global,
@@ -223,7 +223,7 @@ pub(crate) fn object<'a>(
     }
 }
 
-/// Field `n`, which spells bytes as they are printed.
+/// Reads field `n`, which spells bytes as they are printed.
 #[tactic(auto, unfolding(crate::specs::Fields::bytes_at))]
 pub(crate) fn bytes<'a>(
     alloc: Global,

@@ -1,6 +1,7 @@
-//! The words on members of a DIF.
-ghost use Rattle.std.specs.Prelude.{◌≡◌};
+//! Reading the words about members of a DIF.
+ghost use Rattle.std.specs.Prelude.{◌≡◌, IfErr, IsOk};
 ghost use Rattle.rina_schedule.specs.Gives.{Gives};
+ghost use Rattle.rina_schedule.specs.Fields.{field_at};
 ghost use Rattle.rina_schedule.specs.DifWords.{publish_at, enrol_at, member_at, in_at, out_at, clock_at, cdap_at, rib_at, ledger_at};
 
 use crate::error::LineError;
@@ -10,7 +11,8 @@ use std::alloc::Global;
 
 #[tactic(auto, unfolding(crate::specs::DifWords::publish_at))]
 pub(crate) fn publish(alloc: Global, text: &[u8]) -> Result<Event, LineError>
-    ensures { Gives (λ x. x) result (publish_at text.now) }
+    ensures read { Gives (λ x. x) result (publish_at text.now) }
+    ensures memory { IfErr result (λ e. e ≡ LineError.Memory → IsOk (field_at 1 text.now)) }
 {
     let (dif, text) = name(alloc, 1, text)?;
     let (node, text) = name(alloc, 2, text)?;
@@ -21,7 +23,8 @@ pub(crate) fn publish(alloc: Global, text: &[u8]) -> Result<Event, LineError>
 
 #[tactic(auto, unfolding(crate::specs::DifWords::enrol_at))]
 pub(crate) fn enrol(alloc: Global, text: &[u8]) -> Result<Event, LineError>
-    ensures { Gives (λ x. x) result (enrol_at text.now) }
+    ensures read { Gives (λ x. x) result (enrol_at text.now) }
+    ensures memory { IfErr result (λ e. e ≡ LineError.Memory → IsOk (field_at 1 text.now)) }
 {
     let (dif, text) = name(alloc, 1, text)?;
     let (node, text) = name(alloc, 2, text)?;
@@ -38,7 +41,8 @@ pub(crate) fn enrol(alloc: Global, text: &[u8]) -> Result<Event, LineError>
 
 #[tactic(auto, unfolding(crate::specs::DifWords::member_at))]
 pub(crate) fn member(alloc: Global, text: &[u8]) -> Result<Event, LineError>
-    ensures { Gives (λ x. x) result (member_at text.now) }
+    ensures read { Gives (λ x. x) result (member_at text.now) }
+    ensures memory { IfErr result (λ e. e ≡ LineError.Memory → IsOk (field_at 1 text.now)) }
 {
     let (dif, text) = name(alloc, 1, text)?;
     let (node, text) = name(alloc, 2, text)?;
@@ -48,7 +52,8 @@ pub(crate) fn member(alloc: Global, text: &[u8]) -> Result<Event, LineError>
 
 #[tactic(auto, unfolding(crate::specs::DifWords::in_at))]
 pub(crate) fn in_step(alloc: Global, text: &[u8]) -> Result<Event, LineError>
-    ensures { Gives (λ x. x) result (in_at text.now) }
+    ensures read { Gives (λ x. x) result (in_at text.now) }
+    ensures memory { IfErr result (λ e. e ≡ LineError.Memory → IsOk (field_at 1 text.now)) }
 {
     let (dif, text) = name(alloc, 1, text)?;
     let (node, text) = name(alloc, 2, text)?;
@@ -59,7 +64,8 @@ pub(crate) fn in_step(alloc: Global, text: &[u8]) -> Result<Event, LineError>
 
 #[tactic(auto, unfolding(crate::specs::DifWords::out_at))]
 pub(crate) fn out_step(alloc: Global, text: &[u8]) -> Result<Event, LineError>
-    ensures { Gives (λ x. x) result (out_at text.now) }
+    ensures read { Gives (λ x. x) result (out_at text.now) }
+    ensures memory { IfErr result (λ e. e ≡ LineError.Memory → IsOk (field_at 1 text.now)) }
 {
     let (dif, text) = name(alloc, 1, text)?;
     let (node, text) = name(alloc, 2, text)?;
@@ -70,7 +76,8 @@ pub(crate) fn out_step(alloc: Global, text: &[u8]) -> Result<Event, LineError>
 
 #[tactic(auto, unfolding(crate::specs::DifWords::clock_at))]
 pub(crate) fn clock(alloc: Global, text: &[u8]) -> Result<Event, LineError>
-    ensures { Gives (λ x. x) result (clock_at text.now) }
+    ensures read { Gives (λ x. x) result (clock_at text.now) }
+    ensures memory { IfErr result (λ e. e ≡ LineError.Memory → IsOk (field_at 1 text.now)) }
 {
     let (dif, text) = name(alloc, 1, text)?;
     let (node, text) = name(alloc, 2, text)?;
@@ -80,7 +87,8 @@ pub(crate) fn clock(alloc: Global, text: &[u8]) -> Result<Event, LineError>
 
 #[tactic(auto, unfolding(crate::specs::DifWords::cdap_at))]
 pub(crate) fn cdap(alloc: Global, text: &[u8]) -> Result<Event, LineError>
-    ensures { Gives (λ x. x) result (cdap_at text.now) }
+    ensures read { Gives (λ x. x) result (cdap_at text.now) }
+    ensures memory { IfErr result (λ e. e ≡ LineError.Memory → IsOk (field_at 1 text.now)) }
 {
     let (dif, text) = name(alloc, 1, text)?;
     let (node, text) = name(alloc, 2, text)?;
@@ -91,7 +99,8 @@ pub(crate) fn cdap(alloc: Global, text: &[u8]) -> Result<Event, LineError>
 
 #[tactic(auto, unfolding(crate::specs::DifWords::rib_at))]
 pub(crate) fn rib(alloc: Global, text: &[u8]) -> Result<Event, LineError>
-    ensures { Gives (λ x. x) result (rib_at text.now) }
+    ensures read { Gives (λ x. x) result (rib_at text.now) }
+    ensures memory { IfErr result (λ e. e ≡ LineError.Memory → IsOk (field_at 1 text.now)) }
 {
     let (dif, text) = name(alloc, 1, text)?;
     let (node, text) = name(alloc, 2, text)?;
@@ -102,7 +111,8 @@ pub(crate) fn rib(alloc: Global, text: &[u8]) -> Result<Event, LineError>
 
 #[tactic(auto, unfolding(crate::specs::DifWords::ledger_at))]
 pub(crate) fn ledger(alloc: Global, text: &[u8]) -> Result<Event, LineError>
-    ensures { Gives (λ x. x) result (ledger_at text.now) }
+    ensures read { Gives (λ x. x) result (ledger_at text.now) }
+    ensures memory { IfErr result (λ e. e ≡ LineError.Memory → IsOk (field_at 1 text.now)) }
 {
     let (dif, text) = name(alloc, 1, text)?;
     let (node, text) = name(alloc, 2, text)?;

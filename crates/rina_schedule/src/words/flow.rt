@@ -1,6 +1,7 @@
-//! The words on flows.
-ghost use Rattle.std.specs.Prelude.{◌≡◌};
+//! Reading the words about flows.
+ghost use Rattle.std.specs.Prelude.{◌≡◌, ◌≢◌, IfErr, IsOk};
 ghost use Rattle.rina_schedule.specs.Gives.{Gives};
+ghost use Rattle.rina_schedule.specs.Fields.{field_at};
 ghost use Rattle.rina_schedule.specs.FlowWords.{register_at, unregister_at, want_at, alloc_at, accept_at, send_at, read_at, state_at, free_at};
 
 use crate::error::LineError;
@@ -11,7 +12,8 @@ use std::alloc::Global;
 
 #[tactic(auto, unfolding(crate::specs::FlowWords::register_at))]
 pub(crate) fn register(alloc: Global, text: &[u8]) -> Result<Event, LineError>
-    ensures { Gives (λ x. x) result (register_at text.now) }
+    ensures read { Gives (λ x. x) result (register_at text.now) }
+    ensures memory { IfErr result (λ e. e ≡ LineError.Memory → IsOk (field_at 1 text.now)) }
 {
     let (fac, text) = name(alloc, 1, text)?;
     let (node, text) = name(alloc, 2, text)?;
@@ -22,7 +24,8 @@ pub(crate) fn register(alloc: Global, text: &[u8]) -> Result<Event, LineError>
 
 #[tactic(auto, unfolding(crate::specs::FlowWords::unregister_at))]
 pub(crate) fn unregister(alloc: Global, text: &[u8]) -> Result<Event, LineError>
-    ensures { Gives (λ x. x) result (unregister_at text.now) }
+    ensures read { Gives (λ x. x) result (unregister_at text.now) }
+    ensures memory { IfErr result (λ e. e ≡ LineError.Memory → IsOk (field_at 1 text.now)) }
 {
     let (fac, text) = name(alloc, 1, text)?;
     let (node, text) = name(alloc, 2, text)?;
@@ -31,10 +34,11 @@ pub(crate) fn unregister(alloc: Global, text: &[u8]) -> Result<Event, LineError>
     Ok(Event::Unregister { fac, node, app })
 }
 
-/// The options of a flow that is asked for, from field 6 on.
+/// Reads the options of a flow request, which begin at field 6.
 #[tactic(auto, unfolding(crate::specs::FlowWords::want_at))]
 fn want(text: &[u8]) -> Result<Want, LineError>
-    ensures { Gives (λ x. x) result (want_at text.now) }
+    ensures read { Gives (λ x. x) result (want_at text.now) }
+    ensures memory { IfErr result (λ e. e ≢ LineError.Memory) }
 {
     let (ordered, n, text) = flag(b"ordered", 6, text);
     let (reliable, n, text) = flag(b"reliable", n, text);
@@ -51,7 +55,8 @@ fn want(text: &[u8]) -> Result<Want, LineError>
 
 #[tactic(auto, unfolding(crate::specs::FlowWords::alloc_at))]
 pub(crate) fn allocate(alloc: Global, text: &[u8]) -> Result<Event, LineError>
-    ensures { Gives (λ x. x) result (alloc_at text.now) }
+    ensures read { Gives (λ x. x) result (alloc_at text.now) }
+    ensures memory { IfErr result (λ e. e ≡ LineError.Memory → IsOk (field_at 1 text.now)) }
 {
     let (label, text) = name(alloc, 1, text)?;
     let (fac, text) = name(alloc, 2, text)?;
@@ -71,7 +76,8 @@ pub(crate) fn allocate(alloc: Global, text: &[u8]) -> Result<Event, LineError>
 
 #[tactic(auto, unfolding(crate::specs::FlowWords::accept_at))]
 pub(crate) fn accept(alloc: Global, text: &[u8]) -> Result<Event, LineError>
-    ensures { Gives (λ x. x) result (accept_at text.now) }
+    ensures read { Gives (λ x. x) result (accept_at text.now) }
+    ensures memory { IfErr result (λ e. e ≡ LineError.Memory → IsOk (field_at 1 text.now)) }
 {
     let (label, text) = name(alloc, 1, text)?;
     let (fac, text) = name(alloc, 2, text)?;
@@ -88,7 +94,8 @@ pub(crate) fn accept(alloc: Global, text: &[u8]) -> Result<Event, LineError>
 
 #[tactic(auto, unfolding(crate::specs::FlowWords::send_at))]
 pub(crate) fn send(alloc: Global, text: &[u8]) -> Result<Event, LineError>
-    ensures { Gives (λ x. x) result (send_at text.now) }
+    ensures read { Gives (λ x. x) result (send_at text.now) }
+    ensures memory { IfErr result (λ e. e ≡ LineError.Memory → IsOk (field_at 1 text.now)) }
 {
     let (label, text) = name(alloc, 1, text)?;
     let (bytes, text) = bytes(alloc, 2, text)?;
@@ -98,7 +105,8 @@ pub(crate) fn send(alloc: Global, text: &[u8]) -> Result<Event, LineError>
 
 #[tactic(auto, unfolding(crate::specs::FlowWords::read_at))]
 pub(crate) fn read(alloc: Global, text: &[u8]) -> Result<Event, LineError>
-    ensures { Gives (λ x. x) result (read_at text.now) }
+    ensures read { Gives (λ x. x) result (read_at text.now) }
+    ensures memory { IfErr result (λ e. e ≡ LineError.Memory → IsOk (field_at 1 text.now)) }
 {
     let (label, text) = name(alloc, 1, text)?;
     end(2, text)?;
@@ -107,7 +115,8 @@ pub(crate) fn read(alloc: Global, text: &[u8]) -> Result<Event, LineError>
 
 #[tactic(auto, unfolding(crate::specs::FlowWords::state_at))]
 pub(crate) fn state(alloc: Global, text: &[u8]) -> Result<Event, LineError>
-    ensures { Gives (λ x. x) result (state_at text.now) }
+    ensures read { Gives (λ x. x) result (state_at text.now) }
+    ensures memory { IfErr result (λ e. e ≡ LineError.Memory → IsOk (field_at 1 text.now)) }
 {
     let (label, text) = name(alloc, 1, text)?;
     end(2, text)?;
@@ -116,7 +125,8 @@ pub(crate) fn state(alloc: Global, text: &[u8]) -> Result<Event, LineError>
 
 #[tactic(auto, unfolding(crate::specs::FlowWords::free_at))]
 pub(crate) fn free(alloc: Global, text: &[u8]) -> Result<Event, LineError>
-    ensures { Gives (λ x. x) result (free_at text.now) }
+    ensures read { Gives (λ x. x) result (free_at text.now) }
+    ensures memory { IfErr result (λ e. e ≡ LineError.Memory → IsOk (field_at 1 text.now)) }
 {
     let (label, text) = name(alloc, 1, text)?;
     end(2, text)?;

@@ -1,6 +1,7 @@
-//! The words on wires.
-ghost use Rattle.std.specs.Prelude.{◌≡◌};
+//! Reading the words about wires.
+ghost use Rattle.std.specs.Prelude.{◌≡◌, IfErr, IsOk};
 ghost use Rattle.rina_schedule.specs.Gives.{Gives};
+ghost use Rattle.rina_schedule.specs.Fields.{field_at};
 ghost use Rattle.rina_schedule.specs.WireWords.{lose_at, repeat_at, hold_at, cut_at, mend_at};
 
 use crate::error::LineError;
@@ -10,7 +11,8 @@ use std::alloc::Global;
 
 #[tactic(auto, unfolding(crate::specs::WireWords::lose_at))]
 pub(crate) fn lose(alloc: Global, text: &[u8]) -> Result<Event, LineError>
-    ensures { Gives (λ x. x) result (lose_at text.now) }
+    ensures read { Gives (λ x. x) result (lose_at text.now) }
+    ensures memory { IfErr result (λ e. e ≡ LineError.Memory → IsOk (field_at 1 text.now)) }
 {
     let (wire, text) = name(alloc, 1, text)?;
     let (frame, text) = number(2, text)?;
@@ -20,7 +22,8 @@ pub(crate) fn lose(alloc: Global, text: &[u8]) -> Result<Event, LineError>
 
 #[tactic(auto, unfolding(crate::specs::WireWords::repeat_at))]
 pub(crate) fn repeat(alloc: Global, text: &[u8]) -> Result<Event, LineError>
-    ensures { Gives (λ x. x) result (repeat_at text.now) }
+    ensures read { Gives (λ x. x) result (repeat_at text.now) }
+    ensures memory { IfErr result (λ e. e ≡ LineError.Memory → IsOk (field_at 1 text.now)) }
 {
     let (wire, text) = name(alloc, 1, text)?;
     let (frame, text) = number(2, text)?;
@@ -31,7 +34,8 @@ pub(crate) fn repeat(alloc: Global, text: &[u8]) -> Result<Event, LineError>
 
 #[tactic(auto, unfolding(crate::specs::WireWords::hold_at))]
 pub(crate) fn hold(alloc: Global, text: &[u8]) -> Result<Event, LineError>
-    ensures { Gives (λ x. x) result (hold_at text.now) }
+    ensures read { Gives (λ x. x) result (hold_at text.now) }
+    ensures memory { IfErr result (λ e. e ≡ LineError.Memory → IsOk (field_at 1 text.now)) }
 {
     let (wire, text) = name(alloc, 1, text)?;
     let (frame, text) = number(2, text)?;
@@ -42,7 +46,8 @@ pub(crate) fn hold(alloc: Global, text: &[u8]) -> Result<Event, LineError>
 
 #[tactic(auto, unfolding(crate::specs::WireWords::cut_at))]
 pub(crate) fn cut(alloc: Global, text: &[u8]) -> Result<Event, LineError>
-    ensures { Gives (λ x. x) result (cut_at text.now) }
+    ensures read { Gives (λ x. x) result (cut_at text.now) }
+    ensures memory { IfErr result (λ e. e ≡ LineError.Memory → IsOk (field_at 1 text.now)) }
 {
     let (wire, text) = name(alloc, 1, text)?;
     end(2, text)?;
@@ -51,7 +56,8 @@ pub(crate) fn cut(alloc: Global, text: &[u8]) -> Result<Event, LineError>
 
 #[tactic(auto, unfolding(crate::specs::WireWords::mend_at))]
 pub(crate) fn mend(alloc: Global, text: &[u8]) -> Result<Event, LineError>
-    ensures { Gives (λ x. x) result (mend_at text.now) }
+    ensures read { Gives (λ x. x) result (mend_at text.now) }
+    ensures memory { IfErr result (λ e. e ≡ LineError.Memory → IsOk (field_at 1 text.now)) }
 {
     let (wire, text) = name(alloc, 1, text)?;
     end(2, text)?;
