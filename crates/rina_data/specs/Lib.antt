@@ -4,6 +4,7 @@ pub mod Fitting
 pub mod Hops
 pub mod Leaving
 pub mod Losing
+pub mod Lower
 pub mod Outgoing
 pub mod Process
 pub mod Queueing

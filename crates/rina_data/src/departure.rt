@@ -3,11 +3,13 @@
 ghost use Rattle.std.specs.Prelude.{◌≡◌, ◌≤◌, IsSome, length};
 ghost use Rattle.rina_iface.specs.Later.{IsLater};
 ghost use Rattle.rina_iface.specs.Seen.{largest_at};
+ghost use Rattle.rina_iface.specs.Send.{SendsAsSeen};
 ghost use Rattle.rina_policy.specs.Slots.{asked, count_of};
 ghost use Rattle.rina_queue.specs.Queues.{heads_of, queue_place};
 ghost use Rattle.rina_data.specs.Configs.{config_of};
 ghost use Rattle.rina_data.specs.Deciding.{process_of};
 ghost use Rattle.rina_data.specs.Leaving.{Asks, CanGo, Drops, IsAsked, IsRoomy, IsTaken, Tries};
+ghost use Rattle.rina_data.specs.Lower.{SendsBelow};
 ghost use Rattle.rina_data.specs.Outgoing.{Goes};
 
 use crate::hop::{charge, left_after, protect};
@@ -76,6 +78,7 @@ impl IpcProcess {
         ensures below { F.same_below below.old below.new }
         ensures later { IsLater (F.seen below.old) (F.seen below.new) }
         ensures does { Tries (F.refuses_send below.old first.port (length bytes.now)) (process_of self.old) (F.seen below.old) first bytes.now result (process_of self.new) (F.seen below.new) }
+        ensures lower { SendsBelow (below.new ≡ below.old) (SendsAsSeen F.seen F.refuses_send F.does_send below.old below.new) result }
         ensures cap { self.new.queues.cap ≡ self.old.queues.cap }
     {
         match below.send(alloc, first.port, bytes) {
@@ -111,6 +114,7 @@ impl IpcProcess {
         ensures below { F.same_below below.old below.new }
         ensures later { IsLater (F.seen below.old) (F.seen below.new) }
         ensures does { Goes (F.refuses_send below.old) (config_of settings.now) now (process_of self.old) (F.seen below.old) link result (process_of self.new) (F.seen below.new) }
+        ensures lower { SendsBelow (below.new ≡ below.old) (SendsAsSeen F.seen F.refuses_send F.does_send below.old below.new) result }
         ensures shelf { Asks (S.slots shelf.new ≡ S.slots shelf.old)
             (IsAsked (S.may_answer shelf.old settings.now.policy who) settings.now.policy self.old.queues.queues.items link (S.slots shelf.old) (S.slots shelf.new)
             (process_of self.old) result (process_of self.new)) result }

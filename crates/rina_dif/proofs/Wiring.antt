@@ -29,7 +29,7 @@ use Rattle.rina_dif_law.specs.Standing.{IsLinked}
 use Rattle.rina_dif_law.specs.Numbered.{AreMembers}
 use Rattle.rina_data.proofs.Finding.{there}
 use Rattle.rina_dif.specs.Building.{AreBare}
-use Rattle.rina_dif.specs.Laying.{AddsLinkAt, AreLaid, AreLinkedUp, AreSettings, BindsAll, CanBindAll, IsBoundSo, IsLaidIn, IsLinkedUp, LaysLink, LaysPort, LaysPortAt, MayBind, Takes, ends_of}
+use Rattle.rina_dif.specs.Laying.{AddsLinkAt, AreLaid, AreLinkedUp, AreSettings, BindsAll, BindsInTurn, CanBindAll, IsBoundSo, IsLaidIn, IsLinkedUp, LaysLink, LaysPort, LaysPortAt, MayBind, Takes, ends_of}
 use Rattle.rina_dif.specs.Planned.{ipc_name, link_fixed}
 use Rattle.rina_dif.proofs.Below.{asker_of, asker_there, far_of, far_there, stays}
 use Rattle.rina_dif.proofs.Laid.{bind_laid, laid_on}
@@ -221,3 +221,16 @@ turn_done plan d s i f old mid new ps ps' t sound are kept laid lays = next_done
 
 pub turn_can : (plan : Plan) (d : DifPlan) (i : ℕ) (f : Fixed) (mid : Seen) → IsTurn plan d i f → CanBindAll mid (map (link_fixed plan d) (drop i d.links)) → CanBind mid f
 turn_can plan d i f mid t can = subst (λ (z : Fixed). CanBind mid z) (sym t.fixed) (can_next (link_fixed plan d) mid d.links i t.link t.is can).0
+
+-- on the whole of the rank below
+whole_next : {F : Type 0} (does : F → Fixed → Result (Port × Port) AllocateError → F → Type 0) (fixed : LinkPlan → Fixed) (old mid new : F) (links : List LinkPlan) (i : ℕ) (l : LinkPlan) (ports : Port × Port) → slice_get links i ≡ Some l → BindsInTurn does old (map fixed (take i links)) mid → does mid (fixed l) (Ok ports) new → BindsInTurn does old (map fixed (take (suc i) links)) new
+whole_next does fixed old mid new [] i l ports at all one = absurd cc
+whole_next does fixed old mid new (x ∷ xs) zero l ports at all one =
+    let same : x ≡ l = cc in
+    (ports, new, subst (λ s. does s (fixed x) (Ok ports) new) all (subst (λ (z : LinkPlan). does mid (fixed z) (Ok ports) new) (sym same) one), refl)
+whole_next does fixed old mid new (x ∷ xs) (suc i) l ports at all one = (all.0, all.1, all.2, whole_next does fixed all.1 mid new xs i l ports at all.3 one)
+
+pub turn_bound : {F : Type 0} (does : F → Fixed → Result (Port × Port) AllocateError → F → Type 0) (plan : Plan) (d : DifPlan) (i : ℕ) (f : Fixed) (old mid new : F) → IsTurn plan d i f → BindsInTurn does old (map (link_fixed plan d) (take i d.links)) mid → (ports : Port × Port) × does mid f (Ok ports) new → BindsInTurn does old (map (link_fixed plan d) (take (i + 1) d.links)) new
+turn_bound does plan d i f old mid new t done one =
+    let so = subst (λ (z : Fixed). does mid z (Ok one.0) new) t.fixed one.1 in
+    subst (λ (n : ℕ). BindsInTurn does old (map (link_fixed plan d) (take n d.links)) new) (sym (add-one i)) (whole_next does (link_fixed plan d) old mid new d.links i t.link one.0 t.is done so)

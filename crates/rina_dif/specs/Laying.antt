@@ -1,8 +1,9 @@
 -- How the links of a DIF are laid, and what a new DIF is.
-use Rattle.std.specs.Prelude.{◌≡◌, ℕ, ◌+◌, ◌≤◌, ◌==◌, true, false, List, [], ◌∷◌, ◌++◌, filter, length, map, position, slice_get, slice_set, Option, Some, None, IsSome, All, Contains, ◌<◌, ◌⊎◌}
+use Rattle.std.specs.Prelude.{◌≡◌, ℕ, ◌+◌, ◌≤◌, ◌==◌, true, false, List, [], ◌∷◌, ◌++◌, filter, length, map, position, slice_get, slice_set, Option, Some, None, IsSome, Result, Ok, All, Contains, ◌<◌, ◌⊎◌}
 use Rattle.rina_base.specs.declared.number.Port.{Port}
 use Rattle.rina_iface.specs.declared.ask.Fixed.{Fixed}
 use Rattle.rina_iface.specs.declared.ends.End.{End}
+use Rattle.rina_iface.specs.declared.error.AllocateError.{AllocateError}
 use Rattle.rina_iface.specs.Bind.{CanBind, IsBound}
 use Rattle.rina_iface.specs.Later.{IsLater}
 use Rattle.rina_iface.specs.Seen.{Fac, Offer, Seen, cube_in, end_of}
@@ -42,6 +43,11 @@ abbrev pub BindsAll : Seen → List Fixed → List (Port × Port) → Seen → T
 BindsAll old [] [] new = new ≡ old
 BindsAll old (f ∷ fs) (p ∷ ps) new = (s : Seen) × IsBound old f p.0 p.1 s × BindsAll s fs ps new
 BindsAll old fs ps new = ⊥
+
+-- the same on the whole of the rank below, where `does` says what making one of them does
+abbrev pub BindsInTurn : {F : Type 0} → (F → Fixed → Result (Port × Port) AllocateError → F → Type 0) → F → List Fixed → F → Type 0
+BindsInTurn {F} does old [] new = new ≡ old
+BindsInTurn {F} does old (f ∷ fs) new = (ports : Port × Port) × (mid : F) × does old f (Ok ports) mid × BindsInTurn does mid fs new
 
 -- a new end has members as its application and its peer, and sent and passed nothing
 pub record IsNewEnd (members : List Member) (e : End) : Type 0 where

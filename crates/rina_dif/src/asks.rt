@@ -47,6 +47,7 @@ impl Dif {
         ensures stands { StaysStanding self.old self.new }
         ensures settings { self.new.settings ≡ self.old.settings }
         ensures laid { self.new.laid ≡ self.old.laid }
+        ensures whole { self.new ≡ self.old }
         ensures failed { self.old.failed ≡ true → result ≡ Err Memory }
         ensures fails { self.new.failed ≡ true ↔ (result ≡ Err Memory) }
     {
@@ -65,6 +66,7 @@ impl Dif {
         ensures stands { StaysStanding self.old self.new }
         ensures settings { self.new.settings ≡ self.old.settings }
         ensures laid { self.new.laid ≡ self.old.laid }
+        ensures whole { self.new ≡ record self.old { waiting = self.new.waiting } }
         ensures failed { self.new.failed ≡ self.old.failed }
     {
         let at = self

@@ -20,6 +20,7 @@ impl Dif {
         ensures ticks { (lines : List Direction) → IsTicked (seen_of self.old) lines now (seen_of self.new) (map (ticked (now - self.old.clock)) lines) }
         ensures keeps { (lines : List Direction) (below below' : Seen) → AreKept below' → IsLifted (config_of self.old.settings) below below' → below'.now ≡ now → Holds self.old lines below → Holds self.new (map (ticked (now - self.old.clock)) lines) below' }
         ensures silent { IsSilent (seen_of self.old) (seen_of self.new) }
+        ensures whole { self.new ≡ record self.old { clock = now } }
         ensures settings { self.new.settings ≡ self.old.settings }
         ensures laid { self.new.laid ≡ self.old.laid }
         ensures failed { self.new.failed ≡ self.old.failed }

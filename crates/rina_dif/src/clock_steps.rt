@@ -123,6 +123,7 @@ impl Dif {
         ensures does { (lines : List Direction) (below : Seen) → Holds self.old lines below → StepsFlowHere self.old lines below node result self.new }
         ensures same { (self.new.settings ≡ self.old.settings) × (self.new.failed ≡ self.old.failed) }
         ensures laid { self.new.laid ≡ self.old.laid }
+        ensures whole { self.new ≡ record self.old { processes = self.new.processes; flows = self.new.flows } }
     {
         let Some(Next { item, turn }) = self.next_due(node) else {
             return Ok(ClockStep::Idle);
@@ -165,6 +166,7 @@ impl Dif {
         ensures does { (lines : List Direction) → Holds self.old lines (F.seen below.now) → StepsHere self.old lines (F.seen below.now) node result self.new }
         ensures same { (self.new.settings ≡ self.old.settings) × (self.new.failed ≡ self.old.failed) }
         ensures laid { self.new.laid ≡ self.old.laid }
+        ensures whole { self.new ≡ record self.old { processes = self.new.processes; flows = self.new.flows } }
     {
         match self.lost_link_at(below, at) {
             Some(lost) => {
@@ -192,12 +194,14 @@ impl Dif {
         ensures below { F.same_below below.old below.new }
         ensures later { IsLater (F.seen below.old) (F.seen below.new) }
         ensures does { (lines : List Direction) → Holds self.old lines (F.seen below.old) → ClockSteps self.old lines (F.seen below.old) node result self.new (F.seen below.new) }
+        ensures lower { below.new ≡ below.old }
         ensures fails_late { (lines : List Direction) → Holds self.old lines (F.seen below.old) → FailsLate self.old lines (F.seen below.old) self.new }
         ensures goes_on { GoesOn self.old self.new }
         ensures silent { IsSilent (seen_of self.old) (seen_of self.new) }
         ensures others { OthersStand self.old (F.seen below.old) (F.seen below.new) }
         ensures settings { self.new.settings ≡ self.old.settings }
         ensures laid { self.new.laid ≡ self.old.laid }
+        ensures whole { self.new ≡ record self.old { processes = self.new.processes; flows = self.new.flows; failed = self.new.failed } }
         ensures failed { self.old.failed ≡ true → result ≡ Err MemoryWanted }
         ensures fails { self.new.failed ≡ true ↔ (result ≡ Err MemoryWanted) }
     {

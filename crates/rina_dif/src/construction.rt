@@ -1,12 +1,13 @@
 //! A DIF is made as the plan of a stack says, with its links laid on the rank below.
-ghost use Rattle.std.specs.Prelude.{◌≡◌, ◌<◌, [], All, length, map, IfOk, OnOk, slice_get, Some};
+ghost use Rattle.std.specs.Prelude.{◌≡◌, ◌<◌, [], All, length, map, IfOk, Ok, OnOk, slice_get, Some};
+ghost use Rattle.rina_base.specs.declared.number.Port.{Port};
 ghost use Rattle.rina_iface.specs.Bind.{CanBind};
 ghost use Rattle.rina_plan.specs.declared.dif.DifPlan.{DifPlan};
 ghost use Rattle.rina_stack.specs.Plan.{IsPlan};
 ghost use Rattle.rina_data.specs.Configs.{config_of};
 ghost use Rattle.rina_dif.specs.Holding.{Stands};
-ghost use Rattle.rina_dif.specs.Laying.{AreLaid, AreLinkedUp, AreSettings, CanBindAll, CanLay, IsLaidIn, IsNew, Lays, LaysLink, LaysPort, MayBind, Takes};
-ghost use Rattle.rina_dif.specs.Planned.{link_fixed};
+ghost use Rattle.rina_dif.specs.Laying.{AreLaid, AreLinkedUp, AreSettings, BindsInTurn, CanBindAll, CanLay, IsLaidIn, IsNew, Lays, LaysLink, LaysPort, MayBind, Takes};
+ghost use Rattle.rina_dif.specs.Planned.{link_fixed, links_of};
 
 use crate::dif::{Dif, place};
 use crate::layout::Layout;
@@ -51,6 +52,7 @@ fn lay_link<F: Facility>(
     ensures below { F.same_below below.old below.new }
     ensures may { MayBind fixed.now (F.seen below.old) (F.seen below.new) }
     ensures ok { OnOk result (LaysLink settings.now fixed.now (F.seen below.old) (F.seen below.new) processes.old processes.new) }
+    ensures whole { OnOk result ((ports : Port × Port) × F.does_bind below.old fixed.now (Ok ports) below.new) }
 {
     let Ok((a, b)) = below.bind(alloc, fixed) else {
         return Err(Memory);
@@ -78,6 +80,7 @@ fn lay_links<F: Facility>(
     ensures below { F.same_below below.old below.new }
     ensures laid { IsLaidIn (config_of settings.now) (F.seen below.old) (F.seen below.new) }
     ensures ok { OnOk result (AreLaid plan.now dif.now settings.now dif.now.links (F.seen below.old) (F.seen below.new) processes.new) }
+    ensures whole { OnOk result (BindsInTurn F.does_bind below.old (map (link_fixed plan.now dif.now) dif.now.links) below.new) }
 {
     for link in dif.links.as_slice() {
         let fixed = link_fixed(alloc, plan, dif, link)?;
@@ -104,6 +107,7 @@ impl Dif {
         ensures laid { Lays plan.now at (F.seen below.old) (F.seen below.new) }
         ensures stands { IfOk result (λ d. Stands d (F.seen below.new)) }
         ensures exact { IfOk result (λ d. IsNew plan.now at d (F.seen below.old) (F.seen below.new)) }
+        ensures whole { OnOk result (BindsInTurn F.does_bind below.old (links_of plan.now at) below.new) }
         ensures laid_so { IfOk result (λ d. (dif : DifPlan) → slice_get plan.now.difs at ≡ Some dif → d.laid.links ≡ dif.links) }
     {
         let Some(dif) = plan.difs.get(at) else {

@@ -131,6 +131,7 @@ impl Dif {
         ensures stands { StaysStanding self.old self.new }
         ensures settings { self.new.settings ≡ self.old.settings }
         ensures laid { self.new.laid ≡ self.old.laid }
+        ensures whole { self.new ≡ record self.old { flows = self.new.flows } }
         ensures failed { self.new.failed ≡ self.old.failed }
     {
         let Some(at) = self.flows.journal.ends.place(port) else {

@@ -2,8 +2,10 @@
 ghost use Rattle.std.specs.Prelude.{◌≡◌, ◌<◌, ◌≤◌, List, Some, length, true, ◌↔◌, Err};
 ghost use Rattle.rina_base.specs.declared.pdu.PduKind.TheVariants.{Piece};
 ghost use Rattle.rina_iface.specs.Later.{IsLater};
+ghost use Rattle.rina_iface.specs.Pass.{PassesAsSeen};
 ghost use Rattle.rina_law.specs.Direction.{Direction};
 ghost use Rattle.rina_data.specs.Hops.{hop_of};
+ghost use Rattle.rina_data.specs.Lower.{PassesBelow};
 ghost use Rattle.rina_data.specs.declared.step.StepError.TheVariants.{Memory as MemoryWanted};
 ghost use Rattle.rina_dif_law.specs.Upward.{IsSilent};
 ghost use Rattle.rina_flows.specs.Calls.{TakenBy};
@@ -44,6 +46,7 @@ impl Dif {
         ensures does { SettlesFor self.old at came.now.since (hop_of came.now.hop) result self.new }
         ensures settings { self.new.settings ≡ self.old.settings }
         ensures laid { self.new.laid ≡ self.old.laid }
+        ensures whole { self.new ≡ record self.old { processes = self.new.processes; flows = self.new.flows } }
         ensures failed { self.new.failed ≡ self.old.failed }
     {
         let clock = self.clock;
@@ -65,6 +68,7 @@ impl Dif {
         ensures does { SettlesFor self.old at came.now.since (hop_of came.now.hop) result self.new }
         ensures settings { self.new.settings ≡ self.old.settings }
         ensures laid { self.new.laid ≡ self.old.laid }
+        ensures whole { self.new ≡ record self.old { processes = self.new.processes; flows = self.new.flows } }
         ensures failed { self.new.failed ≡ self.old.failed }
     {
         let pdu = &came.hop.pdu;
@@ -96,6 +100,7 @@ impl Dif {
         ensures does { SettlesFor self.old at came.now.since (hop_of came.now.hop) result self.new }
         ensures settings { self.new.settings ≡ self.old.settings }
         ensures laid { self.new.laid ≡ self.old.laid }
+        ensures whole { self.new ≡ record self.old { processes = self.new.processes; flows = self.new.flows } }
         ensures failed { self.new.failed ≡ self.old.failed }
     {
         let Some(member) = self.settings.members.get(at) else {
@@ -127,8 +132,10 @@ impl Dif {
         ensures below { F.same_below below.old below.new }
         ensures later { IsLater (F.seen below.old) (F.seen below.new) }
         ensures does { (lines : List Direction) → Holds self.old lines (F.seen below.old) → TakesIn self.old lines (F.seen below.old) at link result self.new (F.seen below.new) }
+        ensures lower { PassesBelow (below.new ≡ below.old) (PassesAsSeen F.seen F.does_pass below.old below.new) result }
         ensures settings { self.new.settings ≡ self.old.settings }
         ensures laid { self.new.laid ≡ self.old.laid }
+        ensures whole { self.new ≡ record self.old { processes = self.new.processes; flows = self.new.flows } }
         ensures failed { self.new.failed ≡ self.old.failed }
     {
         let Some(process) = self.processes.get(at) else {
@@ -169,11 +176,13 @@ impl Dif {
         ensures below { F.same_below below.old below.new }
         ensures later { IsLater (F.seen below.old) (F.seen below.new) }
         ensures does { (lines : List Direction) → Holds self.old lines (F.seen below.old) → TakesHome self.old lines (F.seen below.old) node link result self.new (F.seen below.new) }
+        ensures lower { PassesBelow (below.new ≡ below.old) (PassesAsSeen F.seen F.does_pass below.old below.new) result }
         ensures goes_on { GoesOn self.old self.new }
         ensures silent { IsSilent (seen_of self.old) (seen_of self.new) }
         ensures others { OthersStand self.old (F.seen below.old) (F.seen below.new) }
         ensures settings { self.new.settings ≡ self.old.settings }
         ensures laid { self.new.laid ≡ self.old.laid }
+        ensures whole { self.new ≡ record self.old { processes = self.new.processes; flows = self.new.flows; failed = self.new.failed } }
         ensures failed { self.old.failed ≡ true → result ≡ Err MemoryWanted }
         ensures fails { self.new.failed ≡ true ↔ (result ≡ Err MemoryWanted) }
     {

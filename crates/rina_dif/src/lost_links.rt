@@ -88,6 +88,7 @@ impl Dif {
         ensures does { (node : ℕ) (lines : List Direction) (below : Seen) → Holds self.old lines below → FindsLostAt self.old below at (Some lost) → FindsNoneLeft self.old below at lost.place None → LosesAs self.old lines below at node lost.number result self.new }
         ensures same { (self.new.settings ≡ self.old.settings) × (self.new.failed ≡ self.old.failed) }
         ensures laid { self.new.laid ≡ self.old.laid }
+        ensures whole { self.new ≡ record self.old { processes = self.new.processes; flows = self.new.flows } }
     {
         let routes = self.routes_left(alloc, at, lost.place)?;
         self.processes.lose_link(alloc, at, lost.place, routes)
@@ -109,6 +110,7 @@ impl Dif {
         ensures does { (lines : List Direction) (below : Seen) → Holds self.old lines below → FindsLostAt self.old below at (Some lost) → FindsNoneLeft self.old below at lost.place (Some port) → LosesAs self.old lines below at node lost.number result self.new }
         ensures same { (self.new.settings ≡ self.old.settings) × (self.new.failed ≡ self.old.failed) }
         ensures laid { self.new.laid ≡ self.old.laid }
+        ensures whole { self.new ≡ record self.old { processes = self.new.processes; flows = self.new.flows } }
     {
         let routes = self.routes_left(alloc, at, lost.place)?;
         let state = PortState::Failed(Fail::Below { port });
@@ -136,6 +138,7 @@ impl Dif {
         ensures does { (lines : List Direction) → Holds self.old lines (F.seen below.now) → LosesAs self.old lines (F.seen below.now) at node lost.number result self.new }
         ensures same { (self.new.settings ≡ self.old.settings) × (self.new.failed ≡ self.old.failed) }
         ensures laid { self.new.laid ≡ self.old.laid }
+        ensures whole { self.new ≡ record self.old { processes = self.new.processes; flows = self.new.flows } }
     {
         let Some(process) = self.processes.get(at) else {
             unreachable!()

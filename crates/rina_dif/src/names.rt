@@ -79,6 +79,7 @@ impl Dif {
         ensures stands { StaysStanding self.old self.new }
         ensures settings { self.new.settings ≡ self.old.settings }
         ensures laid { self.new.laid ≡ self.old.laid }
+        ensures whole { self.new ≡ self.old }
         ensures failed { self.old.failed ≡ true → result ≡ Err register.Memory }
         ensures fails { self.new.failed ≡ true ↔ (result ≡ Err register.Memory) }
     {
@@ -103,6 +104,7 @@ impl Dif {
         ensures stands { StaysStanding self.old self.new }
         ensures settings { self.new.settings ≡ self.old.settings }
         ensures laid { self.new.laid ≡ self.old.laid }
+        ensures whole { self.new ≡ self.old }
         ensures failed { self.old.failed ≡ true → result ≡ Err unregister.Memory }
         ensures fails { self.new.failed ≡ true ↔ (result ≡ Err unregister.Memory) }
     {

@@ -1,12 +1,14 @@
 //! What leaves a DIF on its links.
 ghost use Rattle.std.specs.Prelude.{◌≡◌, ◌<◌, List, length, map, true, false, ◌↔◌, Err, slice_get, Some};
 ghost use Rattle.rina_iface.specs.Later.{IsLater};
+ghost use Rattle.rina_iface.specs.Send.{SendsAsSeen};
 ghost use Rattle.rina_law.specs.Direction.{Direction};
 ghost use Rattle.rina_policy.specs.Slots.{Slot};
 ghost use Rattle.rina_dif_law.specs.Outgoing.{Outs};
 ghost use Rattle.rina_dif_law.specs.Sending.{home};
 ghost use Rattle.rina_dif_law.specs.Upward.{IsSilent};
 ghost use Rattle.rina_data.specs.declared.step.StepError.TheVariants.{Memory};
+ghost use Rattle.rina_data.specs.Lower.{SendsBelow};
 ghost use Rattle.rina_dif.specs.Facade.{GoesOn, OthersStand};
 ghost use Rattle.rina_dif.specs.Holding.{Holds, Stands};
 ghost use Rattle.rina_dif.specs.Shown.{seen_of};
@@ -36,11 +38,13 @@ impl Dif {
         ensures below { F.same_below below.old below.new }
         ensures later { IsLater (F.seen below.old) (F.seen below.new) }
         ensures does { Outs (F.refuses_send below.old) (seen_of self.old) (F.seen below.old) at link result (seen_of self.new) (F.seen below.new) }
+        ensures lower { SendsBelow (below.new ≡ below.old) (SendsAsSeen F.seen F.refuses_send F.does_send below.old below.new) result }
         ensures keeps { (lines : List Direction) → Holds self.old lines (F.seen below.old) → Holds self.new lines (F.seen below.new) }
         ensures shelf { AsksAt (S.may_answer shelf.old self.old.settings.policy) self.old.settings link at (S.slots shelf.old) (S.slots shelf.new) self.old.processes result self.new.processes }
         ensures names { map (λ (x : Slot). x.name) (S.slots shelf.new) ≡ map (λ (x : Slot). x.name) (S.slots shelf.old) }
         ensures settings { self.new.settings ≡ self.old.settings }
         ensures laid { self.new.laid ≡ self.old.laid }
+        ensures whole { self.new ≡ record self.old { processes = self.new.processes } }
         ensures failed { self.new.failed ≡ self.old.failed }
     {
         self.processes
@@ -63,12 +67,14 @@ impl Dif {
         ensures below { F.same_below below.old below.new }
         ensures later { IsLater (F.seen below.old) (F.seen below.new) }
         ensures does { OutsAt (F.refuses_send below.old) (seen_of self.old) (F.seen below.old) node link result (seen_of self.new) (F.seen below.new) }
+        ensures lower { SendsBelow (below.new ≡ below.old) (SendsAsSeen F.seen F.refuses_send F.does_send below.old below.new) result }
         ensures keeps { (lines : List Direction) → Holds self.old lines (F.seen below.old) → Holds self.new lines (F.seen below.new) }
         ensures goes_on { GoesOn self.old self.new }
         ensures silent { IsSilent (seen_of self.old) (seen_of self.new) }
         ensures others { OthersStand self.old (F.seen below.old) (F.seen below.new) }
         ensures settings { self.new.settings ≡ self.old.settings }
         ensures laid { self.new.laid ≡ self.old.laid }
+        ensures whole { self.new ≡ record self.old { processes = self.new.processes; failed = self.new.failed } }
         ensures shelf { self.old.failed ≡ false → AsksHome (S.may_answer shelf.old self.old.settings.policy) self.old.settings node link (S.slots shelf.old) (S.slots shelf.new) self.old.processes result self.new.processes }
         ensures names { map (λ (x : Slot). x.name) (S.slots shelf.new) ≡ map (λ (x : Slot). x.name) (S.slots shelf.old) }
         ensures failed { self.old.failed ≡ true → result ≡ Err Memory }

@@ -17,6 +17,7 @@ impl Dif {
         ensures does { (lines : List Direction) (below : Seen) → Holds self.old lines below → Passes self.old lines at self.new below }
         ensures same { (self.new.settings ≡ self.old.settings) × (self.new.failed ≡ self.old.failed) }
         ensures laid { self.new.laid ≡ self.old.laid }
+        ensures whole { self.new ≡ record self.old { flows = self.new.flows } }
     {
         self.flows.pass(self.clock, at);
     }

@@ -1,6 +1,7 @@
 //! The IPC processes of a DIF.
 ghost use Rattle.std.specs.Prelude.{◌≡◌, ◌<◌, ◌≤◌, [], ◌∷◌, ◌++◌, length, map, slice_get, Some, MatchOption, OnOk, OnErr, ◌+◌, IsSome};
 ghost use Rattle.rina_iface.specs.Later.{IsLater};
+ghost use Rattle.rina_iface.specs.Send.{SendsAsSeen};
 ghost use Rattle.rina_base.specs.Pdus.{pdu_of};
 ghost use Rattle.rina_policy.specs.Slots.{Slot};
 ghost use Rattle.rina_queue.specs.declared.queue.Queue.{Queue};
@@ -8,6 +9,7 @@ ghost use Rattle.rina_queue.specs.Queues.{Changes, queue_place, waiting, with_it
 ghost use Rattle.rina_data.specs.declared.process.IpcProcess.{IpcProcess};
 ghost use Rattle.rina_data.specs.Configs.{config_of};
 ghost use Rattle.rina_data.specs.Hops.{hop_of};
+ghost use Rattle.rina_data.specs.Lower.{SendsBelow};
 ghost use Rattle.rina_dif.specs.Laying.{AddsLink, AddsLinkAt};
 ghost use Rattle.rina_dif.specs.Routing.{SetsRoutes};
 ghost use Rattle.rina_dif.specs.Sending.{AreOf, HasRoomFor, Puts, queued};
@@ -209,6 +211,7 @@ impl Processes {
         ensures below { F.same_below below.old below.new }
         ensures later { IsLater (F.seen below.old) (F.seen below.new) }
         ensures does { Leaves (F.refuses_send below.old) (config_of settings.now) now (F.seen below.old) link result (F.seen below.new) at self.old self.new }
+        ensures lower { SendsBelow (below.new ≡ below.old) (SendsAsSeen F.seen F.refuses_send F.does_send below.old below.new) result }
         ensures shelf { AsksAt (S.may_answer shelf.old settings.now.policy) settings.now link at (S.slots shelf.old) (S.slots shelf.new) self.old result self.new }
         ensures names { map (λ (x : Slot). x.name) (S.slots shelf.new) ≡ map (λ (x : Slot). x.name) (S.slots shelf.old) }
     {

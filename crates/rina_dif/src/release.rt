@@ -39,6 +39,7 @@ impl Dif {
         ensures does { (lines : List Direction) (below : Seen) → Holds self.old lines below → FreesHere self.old lines below at result self.new }
         ensures same { (self.new.settings ≡ self.old.settings) × (self.new.clock ≡ self.old.clock) × (self.new.failed ≡ self.old.failed) }
         ensures laid { self.new.laid ≡ self.old.laid }
+        ensures whole { self.new ≡ record self.old { processes = self.new.processes; flows = self.new.flows } }
     {
         let Some(home) = self.place_at_node(node) else {
             unreachable!()
@@ -55,6 +56,7 @@ impl Dif {
         ensures does { (lines : List Direction) (below : Seen) → Holds self.old lines below → FreesHere self.old lines below at result self.new }
         ensures same { (self.new.settings ≡ self.old.settings) × (self.new.clock ≡ self.old.clock) × (self.new.failed ≡ self.old.failed) }
         ensures laid { self.new.laid ≡ self.old.laid }
+        ensures whole { self.new ≡ record self.old { processes = self.new.processes; flows = self.new.flows } }
     {
         let Some(end) = self.flows.journal.ends.get(at) else {
             unreachable!()
@@ -80,6 +82,7 @@ impl Dif {
         ensures stands { StaysStanding self.old self.new }
         ensures settings { self.new.settings ≡ self.old.settings }
         ensures laid { self.new.laid ≡ self.old.laid }
+        ensures whole { self.new ≡ record self.old { processes = self.new.processes; flows = self.new.flows; failed = self.new.failed } }
         ensures failed { self.old.failed ≡ true → result ≡ Err NoneFound }
         ensures fails { self.new.failed ≡ true ↔ (result ≡ Err NoneFound) }
     {

@@ -135,6 +135,7 @@ impl Dif {
         ensures does { (lines : List Direction) (below : Seen) → Holds self.old lines below → Sends self.old lines below at sdu.now result self.new }
         ensures same { (self.new.settings ≡ self.old.settings) × (self.new.clock ≡ self.old.clock) × (self.new.failed ≡ self.old.failed) }
         ensures laid { self.new.laid ≡ self.old.laid }
+        ensures whole { self.new ≡ record self.old { processes = self.new.processes; flows = self.new.flows } }
     {
         let way = self.admit(at, sdu)?;
         let made = match self.flows.offer(alloc, self.clock, at, sdu) {
@@ -158,6 +159,7 @@ impl Dif {
         ensures stands { StaysStanding self.old self.new }
         ensures settings { self.new.settings ≡ self.old.settings }
         ensures laid { self.new.laid ≡ self.old.laid }
+        ensures whole { self.new ≡ record self.old { processes = self.new.processes; flows = self.new.flows; failed = self.new.failed } }
         ensures failed { self.old.failed ≡ true → result ≡ Err Memory }
         ensures fails { self.new.failed ≡ true ↔ (result ≡ Err Memory) }
     {

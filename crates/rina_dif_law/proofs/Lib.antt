@@ -25,6 +25,7 @@ pub mod Keys
 pub mod Landing
 pub mod Lifted
 pub mod Linkless
+pub mod Lawfully
 pub mod Making
 pub mod Numbering
 pub mod Others

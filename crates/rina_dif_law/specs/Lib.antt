@@ -10,6 +10,7 @@ pub mod Ending
 pub mod Facade
 pub mod Ids
 pub mod Incoming
+pub mod Lawful
 pub mod Laws
 pub mod Lifting
 pub mod Losing

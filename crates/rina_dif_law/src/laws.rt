@@ -4,6 +4,7 @@
 //! came was sent, and came in time.
 ghost use Rattle.rina_dif_law.specs.Partners.{EachIsMet};
 ghost use Rattle.rina_dif_law.specs.Laws.{StartStands, SendsStand, PassesStand, OutStepsStand, InStepsStand, AcknowledgingStands, ResendingStands, ForgettingStands, EndingStands, LosingStands, FailingStands, StartCarries, SendsCarry, PassesCarry, OutStepsCarry, InStepsCarry, AcknowledgingCarries, ResendingCarries, ForgettingCarries, EndingCarries, LosingCarries, FailingCarries, TimeCarries, BesideCarries, SendsOfOthersCarry, PassesOfOthersCarry, TimeStands, BesideStands, SendsOfOthersStand, OutStepsOfOthersStand, InStepsOfOthersStand, CloudIsCovered, CloudLaw, StandingKeeps, SendsAreLater, PassesAreLater, OutStepsAreSilent, InStepsAreSilent, AcknowledgingIsSilent, ResendingIsSilent, ForgettingIsSilent, EndingIsSilent, LosingIsSilent, FailingIsSilent, TimeIsSilent, SendsAreSends, PassesArePasses, RelayingSettles, WritingOffSettles, StandingCanGo};
+ghost use Rattle.rina_dif_law.specs.Lawful.{StandingIsLawful};
 ghost use Rattle.rina_dif_law.specs.NumberLaws.{SendsNumber, PassesNumber, OutStepsNumber, InStepsNumber, AcknowledgingNumbers, ResendingNumbers, ForgettingNumbers, EndingNumbers, LosingNumbers, FailingNumbers, TimeNumbers, BesideNumbers, SendsOfOthersNumber, BindingStands, BindingCarries, BindingNumbers, BindingIsLater};
 
 /// Whatever an end of a kept facility got has a sender: its partner, of whose entries it is born.
@@ -24,6 +25,12 @@ pub fn calls_keep_standing()
     ensures end { EndingStands }
     ensures lose { LosingStands }
     ensures fail { FailingStands }
+{}
+
+/// A DIF that stands is lawful: each piece and each acknowledgement that is under way is one that its connection may still
+/// take, and both ends agree on what was accepted.
+pub fn a_dif_that_stands_is_lawful()
+    ensures { StandingIsLawful }
 {}
 
 /// Whatever an end got has come to its IPC process from the rank below, piece by piece, by the tick at which it was

@@ -47,3 +47,7 @@ abbrev pub Sends : Option SendError → Seen → Port → List ℕ → Result Nu
 Sends own old port bytes (Ok num) new = (refused old port (length bytes) own ≡ None) × IsSent old port bytes num new
 Sends own old port bytes (Err Memory) new = new ≡ old
 Sends own old port bytes (Err e) new = (refused old port (length bytes) own ≡ Some e) × (new ≡ old)
+
+-- what `send` does, by what is shown and on the whole, where a facility shows itself by `seen`, refuses `refuses` by what it alone knows, and does `does`
+abbrev pub SendsAsSeen : {F : Type 0} → (F → Seen) → (F → Port → ℕ → Option SendError) → (F → Port → List ℕ → Result Num SendError → F → Type 0) → F → F → Port → List ℕ → Result Num SendError → Type 0
+SendsAsSeen seen refuses does old new port bytes result = Sends (refuses old port (length bytes)) (seen old) port bytes result (seen new) × does old port bytes result new

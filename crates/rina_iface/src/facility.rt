@@ -1,7 +1,9 @@
 //! The trait that every layer stands on.
-ghost use Rattle.std.specs.Prelude.{◌≡◌, ◌≤◌, ℕ, Bool, Option, Some, None, IfSome, IsSome, MatchOption, List, length, slice_get, option_map};
+ghost use Rattle.std.specs.Prelude.{◌≡◌, ◌≤◌, ℕ, Bool, Option, Some, None, IfSome, IsSome, MatchOption, List, Result, length, slice_get, option_map};
+ghost use Rattle.rina_base.specs.declared.number.Num.{Num};
 ghost use Rattle.rina_base.specs.declared.number.Port.{Port};
 ghost use Rattle.rina_iface.specs.declared.ask.Ask.{Ask};
+ghost use Rattle.rina_iface.specs.declared.ask.Fixed.{Fixed};
 ghost use Rattle.rina_iface.specs.declared.error.RegisterError.{RegisterError};
 ghost use Rattle.rina_iface.specs.declared.error.AllocateError.{AllocateError};
 ghost use Rattle.rina_iface.specs.declared.error.SendError.{SendError};
@@ -51,6 +53,15 @@ pub trait Facility {
 
     /// Whether `free` frees the other end of the flow at once.
     ghost frees_both: { Self → Bool };
+
+    /// What `bind` does with what it answers, to the whole: what is not shown included.
+    ghost does_bind: { Self → Fixed → Result (Port × Port) AllocateError → Self → Type 0 };
+
+    /// What `send` does with what it answers, to the whole.
+    ghost does_send: { Self → Port → List ℕ → Result Num SendError → Self → Type 0 };
+
+    /// What `pass` does to the whole.
+    ghost does_pass: { Self → Port → Self → Type 0 };
 
     /// The clock, at most 10,000,000.
     fn now(&self) -> Tick
@@ -123,7 +134,8 @@ pub trait Facility {
         ensures valid { valid self.new }
         ensures below { same_below self.old self.new }
         ensures later { IsLater (seen self.old) (seen self.new) }
-        ensures does { Binds (seen self.old) fixed.now result (seen self.new) };
+        ensures does { Binds (seen self.old) fixed.now result (seen self.new) }
+        ensures whole { does_bind self.old fixed.now result self.new };
 
     /// Claims the oldest far end of an application at a node that nobody claimed yet.
     fn incoming(&mut self, fac: u16, node: Node, app: &AppName) -> Option<Port>
@@ -140,7 +152,8 @@ pub trait Facility {
         ensures below { same_below self.old self.new }
         ensures later { IsLater (seen self.old) (seen self.new) }
         ensures does { Sends (refuses_send self.old port (length sdu.now))
-            (seen self.old) port sdu.now result (seen self.new) };
+            (seen self.old) port sdu.now result (seen self.new) }
+        ensures whole { does_send self.old port sdu.now result self.new };
 
     /// Lends the oldest SDU that was not passed yet. None exactly where there is none.
     fn peek(&self, port: Port) -> Option<Lent<'_>>
@@ -155,7 +168,8 @@ pub trait Facility {
         ensures valid { valid self.new }
         ensures below { same_below self.old self.new }
         ensures later { IsLater (seen self.old) (seen self.new) }
-        ensures does { IsPassed (seen self.old) port (seen self.new) };
+        ensures does { IsPassed (seen self.old) port (seen self.new) }
+        ensures whole { does_pass self.old port self.new };
 
     /// Gives up a port: a flow that is allocated is closed, and one that was asked for is withdrawn.
     fn free(&mut self, alloc: Global, port: Port) -> Result<(), FreeError>

@@ -1,4 +1,4 @@
--- The frames of whole runs over wires alone.
+-- The frames of whole runs.
 use Rattle.std.proofs.Common.{◌≡◌, ℕ, suc, ◌+◌, List, [], ◌∷◌, ◌++◌, append_assoc, length, length-append, slice_get, take, Some, None, Option, Result, Ok, Err, refl, sym, ◌∙◌, ap, subst, arith}
 use Rattle.std.proofs.lemmas.List.{append-nil}
 use Rattle.rina_report.specs.declared.note.Note.{Note}
@@ -59,13 +59,13 @@ runs fac k plan start number done before w (l ∷ ls) ns w' at ran spared h (mid
     let spared' : IsSpared plan start fac k ((done ++ l ∷ []) ++ ls) = subst (IsSpared plan start fac k) (sym (append_assoc done (l ∷ []) ls)) spared in
     runs fac k plan start (number + 1) (done ++ l ∷ []) (before ++ first) mid ls rest w' at' ran' spared' next others
 
--- what holds of wires alone holds of each of them
+-- what holds of the wires of a tower holds of each of them
 each_wire : (fac k : ℕ) (t : Tower) (l : Line) → Holds fac k t → wire_at (wires_of t) fac ≡ Some l → Carries k (now_of t) l
 each_wire fac k (Wires a) l h wire = h.frame l wire
-each_wire fac k (Rank' p difs below) l h wire = absurd h
+each_wire fac k (Rank' p difs below) l h wire = each_wire fac k below l h wire
 
 pub frames_arrive_once : FramesArriveOnce
-frames_arrive_once plan shelf start lines ns s none o d fac l wire i j e frame at is spared =
-    let begins = opening_holds fac frame.num.seq plan shelf start none o in
+frames_arrive_once plan shelf start lines ns s o d fac l wire i j e frame at is spared =
+    let begins = opening_holds fac frame.num.seq plan shelf start o in
     let h = runs fac frame.num.seq plan start 1 [] [] start lines ns s refl (refl, refl) spared begins d in
     (each_wire fac frame.num.seq s.run.tower l h wire i j e frame at is refl).carried

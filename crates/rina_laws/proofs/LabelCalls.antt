@@ -77,7 +77,7 @@ frees both s port (Err free.NoPort) s' w = idle s s' w.1
 -- ---- at the own rank
 
 -- what is done at the DIF of a place is seen at its rank
-pub served : (call : Seen → Seen → Type 0) (n : ℕ) (d d' : Dif) (difs difs' : List Dif) → slice_get difs n ≡ Some d → difs' ≡ slice_set difs n d' → Serves call n d d' → call (seen_of_difs d.clock difs) (seen_of_difs d.clock difs')
+pub served : {changes : Dif → Dif → Type 0} (call : Seen → Seen → Type 0) (n : ℕ) (d d' : Dif) (difs difs' : List Dif) → slice_get difs n ≡ Some d → difs' ≡ slice_set difs n d' → Serves call changes n d d' → call (seen_of_difs d.clock difs) (seen_of_difs d.clock difs')
 served call n d d' difs difs' at is w =
     let here = w.shown (seen_of_difs d.clock difs) (record { clock = refl; here = slice_get-map fac_of_dif difs n ∙ ap (option_map fac_of_dif) at }) in
     subst (call (seen_of_difs d.clock difs)) (sym (ap (seen_of_difs d.clock) is ∙ shown_after difs n d' d.clock)) here

@@ -127,11 +127,11 @@ pub record DoesAll (P : ℕ → List Fac → List Fac → Type 0) (u u' : Tower)
   pub level : height_of u' ≡ height_of u
   pub all : AtAll P (shown u) (shown u')
 
-own_rank : (t : Tower) → rank_of t (height_of t) ≡ Some t
+pub own_rank : (t : Tower) → rank_of t (height_of t) ≡ Some t
 own_rank (Wires a) = refl
 own_rank (Rank' p difs below) = elim (eqb_tells (height_of below + 1) (height_of below + 1)) [ inl t ↦ rw t.0 refl | inr f ↦ absurd (f.1 refl) ]
 
-rank_below : (p : _) (difs : List Dif) (below : Tower) (r : ℕ) → r ≢ height_of below + 1 → rank_of (Rank' p difs below) r ≡ rank_of below r
+pub rank_below : (p : _) (difs : List Dif) (below : Tower) (r : ℕ) → r ≢ height_of below + 1 → rank_of (Rank' p difs below) r ≡ rank_of below r
 rank_below p difs below r ne = elim (eqb_tells r (height_of below + 1)) [ inl t ↦ absurd (ne t.1) | inr f ↦ rw f.0 refl ]
 
 -- told what stands at that rank

@@ -1,7 +1,6 @@
 -- What ticks and the events of wires do to the ends of all ranks: they rest.
 use Rattle.std.proofs.Common.{◌≡◌, ◌∙◌, ℕ, ◌+◌, List, [], ◌∷◌, fold, get_or, map, slice_get, Option, Some, None, option_map, Result, Ok, Err, refl, sym, ap, subst, arith, inl, inr}
 use Rattle.std.proofs.lemmas.Option.{same_Some, slice_get-get_or, slice_get-map, slice_get_within}
-use Rattle.rina_dif_law.specs.Dif.{DifSeen}
 use Rattle.rina_dif_law.proofs.Own.{map_at}
 use Rattle.rina_dif.specs.declared.dif.Dif.{Dif}
 use Rattle.rina_iface.specs.declared.ends.End.{End}
@@ -75,8 +74,8 @@ clocked_rests now difs difs' c = record {
   where
     same_dif : (n : ℕ) (d d' : Dif) → slice_get difs n ≡ Some d → slice_get difs' n ≡ Some d' → RestFac (fac_of_dif d) (fac_of_dif d')
     same_dif n d d' x y =
-        let seen = (c.each n d d' x y).seen in
-        fac_same (fac_of_dif d) (fac_of_dif d') (ap (λ (s : DifSeen). s.ends) seen) (ap (λ (s : DifSeen). s.waiting) seen)
+        let rest = (c.each n d d' x y).rest in
+        fac_same (fac_of_dif d) (fac_of_dif d') (ap (λ (x : Dif). x.flows.journal.ends) rest) (ap (λ (x : Dif). x.waiting.items) rest)
 
 tick_does : (t t' : Tower) → Ticks (Ok tt) t t' → DoesAll (λ r. Rest) t t'
 tick_does (Wires a) (Wires a') g = record { level = refl; all = at_wires (λ r. Rest) a a' (subst (λ (x : Air). Rest (facs_of (Wires a)) (facs_of (Wires x))) (sym g.air) (wires_rest a)) }

@@ -1,4 +1,4 @@
--- What becomes of the frames of a run over wires alone: each that no event touched arrives once, when the delay of its wire has gone by.
+-- What becomes of the frames of a run: each that no event touched arrives once, when the delay of its wire has gone by.
 use Rattle.std.specs.Prelude.{◌≡◌, ◌≢◌, ℕ, ◌+◌, ◌<◌, ◌≤◌, ◌==◌, List, [], ◌∷◌, filter, take, slice_get, Option, Some, None, Ok}
 use Rattle.rina_base.specs.declared.number.Num.{Num}
 use Rattle.rina_base.specs.declared.number.Port.{Port}
@@ -80,9 +80,9 @@ IsSpared plan start fac frame lines =
     (before : ℕ) (line : List ℕ) (event : Event) (ns : List Note) (s : Stage) → slice_get lines before ≡ Some line → event_at line ≡ Ok (Some event)
     → Runs plan 1 start (take before lines) ns s → Touches plan fac frame s.run event → ⊥
 
--- in every run of a stack without DIFs, every frame that any end of any wire sent is carried, unless a line touched it
+-- in every run of a stack, every frame that any end of any wire sent, be it an application's or a DIF's, is carried, unless a line touched it
 abbrev pub FramesArriveOnce : Type 0
 FramesArriveOnce =
-    (plan : Plan) (shelf : List Slot) (start : Stage) (lines : List (List ℕ)) (ns : List Note) (s : Stage) → plan.difs ≡ [] → IsOpening plan shelf start → Runs plan 1 start lines ns s
+    (plan : Plan) (shelf : List Slot) (start : Stage) (lines : List (List ℕ)) (ns : List Note) (s : Stage) → IsOpening plan shelf start → Runs plan 1 start lines ns s
     → (fac : ℕ) (l : Line) → wire_at (wires_of s.run.tower) fac ≡ Some l → (i j : ℕ) (e : End) (frame : Entry) → At l.ends i e → slice_get e.sent j ≡ Some frame
     → IsSpared plan start fac frame.num.seq lines → IsCarried (now_of s.run.tower) l i frame

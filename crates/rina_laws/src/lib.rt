@@ -24,8 +24,8 @@ pub fn next_hops_go_by_the_plan()
 /// a line `lose`, `repeat` or `hold` of its wire that names it, a `cut` of its wire while it is in flight, and a
 /// `free` of a port of the flow that the wire carries while it is in flight.
 ///
-/// The law is of stacks without DIFs. A DIF of rank 1 uses the wires as any facility, and what is known of its steps
-/// is what the wires show of them, which does not say what is in flight.
+/// The law is of every stack, whatever ranks of DIFs stand on the wires: the frames are those of applications and of
+/// DIFs alike.
 pub fn a_frame_arrives_once()
     ensures { FramesArriveOnce }
 {}

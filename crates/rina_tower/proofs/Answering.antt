@@ -57,6 +57,7 @@ sends_any refuses may slots slots' below node link r below' d d' s = record {
   after = s.after;
   shelf = λ alive. asks_home_any (may d.settings.policy) d.settings.policy d.settings node link slots slots' d.processes r d'.processes (s.shelf alive);
   failed = s.failed;
+  rest = s.rest;
 }
 
 -- Walks
@@ -79,7 +80,7 @@ at_rank r does does' none (Rank' p difs below) (Wires a') f x = absurd x
 here_any : (may : List ℕ → ℕ → List Head → ℕ → Type 0) (slots slots' : List Slot) (dif node link : ℕ) (r : Result OutStep StepError) (t t' : Tower) → OutStepsAtTop may slots slots' dif node link r t t' → OutStepsAtTop Anything slots slots' dif node link r t t'
 here_any may slots slots' dif node link r (Wires a) (Wires a') x = x
 here_any may slots slots' dif node link r (Rank' p difs below) (Rank' p' difs' below') x =
-    (at_dif (SendsOne (refuses_send below) may slots slots' (seen_of below) node link r (seen_of below')) (SendsOne (refuses_send below) Anything slots slots' (seen_of below) node link r (seen_of below')) dif ((r ≡ Err NoIpc) × (slots' ≡ slots) × (below' ≡ below)) difs difs' (sends_any (refuses_send below) may slots slots' (seen_of below) node link r (seen_of below')) x.0, x.1)
+    (at_dif (SendsOne (refuses_send below) may slots slots' (seen_of below) node link r (seen_of below')) (SendsOne (refuses_send below) Anything slots slots' (seen_of below) node link r (seen_of below')) dif ((r ≡ Err NoIpc) × (slots' ≡ slots) × (below' ≡ below)) difs difs' (sends_any (refuses_send below) may slots slots' (seen_of below) node link r (seen_of below')) x.0, x.1, x.2)
 here_any may slots slots' dif node link r (Wires a) (Rank' p' difs' below') x = absurd x
 here_any may slots slots' dif node link r (Rank' p difs below) (Wires a') x = absurd x
 

@@ -67,8 +67,8 @@ clock_step d lines below node (Err NoLink) d' lines' s = clock_at d lines below 
 
 -- For the rank
 
-pub clocked_after : (d d' : Dif) (below : Seen) (node : ℕ) (r : Result ClockStep StepError) (below' : Seen) → Stands d below → d'.settings ≡ d.settings → d'.laid.links ≡ d.laid.links → ((lines : List Direction) → Holds d lines below → ClockSteps d lines below node r d' below') → StandsAfter below below' d d'
-clocked_after d d' below node r below' st settings links does =
+pub clocked_after : (d d' : Dif) (below : Seen) (node : ℕ) (r : Result ClockStep StepError) (below' : Seen) → Stands d below → d'.settings ≡ d.settings → d'.laid ≡ d.laid → ((lines : List Direction) → Holds d lines below → ClockSteps d lines below node r d' below') → StandsAfter below below' d d'
+clocked_after d d' below node r below' st settings laid does =
     let t = does st.0 st.1 in
     let silent = clock_step d st.0 below node r d' t.lines' t.does in
     record {
@@ -83,7 +83,7 @@ clocked_after d d' below node r below' st settings links does =
       waiting = clock_waits d st.0 below node r d' t.lines' t.does;
       others = λ other lines apart h. subst (Holds other lines) (sym t.same_below) h;
       settings = settings;
-      links = links;
+      laid = laid;
     }
 
 pub taken_stands : (d d' : Dif) (below : Seen) (node n : ℕ) (r : Result InStep StepError) (below' : Seen) → Stands d below → ((lines : List Direction) → Holds d lines below → TakesHome d lines below node n r d' below') → Stands d' below'

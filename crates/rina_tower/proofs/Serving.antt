@@ -37,6 +37,7 @@ use Rattle.rina_tower.specs.Calls.{AreDifs, BindsFrom, MayBind, FreesFrom, Passe
 use Rattle.rina_tower.specs.Ranks.{fac_of_dif, height_of, now_of, seen_now, seen_of, seen_of_difs}
 use Rattle.rina_tower.specs.Stands.{AreStanding, At, IsRank, IsTower, kept_of}
 use Rattle.rina_tower.specs.Levels.{AtDif, IsAtDif, SameBelow}
+use Rattle.rina_tower.specs.Unchanged.{ChangesClaims, ChangesNothing}
 use Rattle.rina_tower.proofs.Alone.{fewer_now, same_alone}
 use Rattle.rina_tower.proofs.Ranking.{is_rank, shown_after, shows, standing_after, standing_beside}
 
@@ -57,7 +58,7 @@ rank_after difs difs' below n d d' rank v at stays settings is =
     let after = standing_after difs (seen_of below) (seen_of below) n d d' rank.standing at settings (stays (seen_of below) s) (λ other lines apart h. h) in
     is_rank difs' below v rank.low (subst (λ (ds : List Dif). AreStanding ds (seen_of below)) (sym is) after)
 
-pub rank_serves : (call : Seen → Seen → Type 0) (n : ℕ) (none : Type 0) (difs difs' : List Dif) (below : Tower) → IsRank difs below → IsTower below → AtDif n (Serves call n) none difs difs' → IsRank difs' below
+pub rank_serves : {changes : Dif → Dif → Type 0} (call : Seen → Seen → Type 0) (n : ℕ) (none : Type 0) (difs difs' : List Dif) (below : Tower) → IsRank difs below → IsTower below → AtDif n (Serves call changes n) none difs difs' → IsRank difs' below
 rank_serves call n none difs difs' below rank v a = elim a [
   | inl h ↦ rank_after difs difs' below n h.dif h.dif' rank v h.is_dif h.done.stands h.done.settings h.new_is
   | inr h ↦ subst (λ (ds : List Dif). IsRank ds below) (sym h.2) rank
@@ -80,7 +81,7 @@ rank_frees port result none difs difs' below rank v a = elim a [
 
 -- What the rank shows
 
-pub call_seen : (call : Seen → Seen → Type 0) (n : ℕ) (difs difs' : List Dif) (below : Tower) (d d' : Dif) → IsRank difs below → At difs n d → Serves call n d d' → difs' ≡ slice_set difs n d' → call (seen_of_difs (now_of below) difs) (seen_of_difs (now_of below) difs')
+pub call_seen : {changes : Dif → Dif → Type 0} (call : Seen → Seen → Type 0) (n : ℕ) (difs difs' : List Dif) (below : Tower) (d d' : Dif) → IsRank difs below → At difs n d → Serves call changes n d d' → difs' ≡ slice_set difs n d' → call (seen_of_difs (now_of below) difs) (seen_of_difs (now_of below) difs')
 call_seen call n difs difs' below d d' rank at serves is =
     let now = now_of below in
     let there = serves.shown (seen_of_difs now difs) (shows difs (seen_of below) n d now (seen_now below) rank.standing at) in
@@ -90,25 +91,25 @@ call_seen call n difs difs' below d d' rank at serves is =
 none_there : (difs : List Dif) (n now : ℕ) → slice_get difs n ≡ None → slice_get (seen_of_difs now difs).facs n ≡ None
 none_there difs n now none = slice_get-map fac_of_dif difs n ∙ ap (option_map fac_of_dif) none
 
-pub registers_seen : (fac node : ℕ) (app : List ℕ) (result : Result (Unit {0}) RegisterError) (difs difs' : List Dif) (below : Tower) → IsRank difs below → AtDif fac (Serves (λ s s'. Registers (Some register.Unbuilt) s fac node app result s') fac) (result ≡ Err register.NoMember) difs difs' → Registers (Some register.Unbuilt) (seen_of_difs (now_of below) difs) fac node app result (seen_of_difs (now_of below) difs')
+pub registers_seen : (fac node : ℕ) (app : List ℕ) (result : Result (Unit {0}) RegisterError) (difs difs' : List Dif) (below : Tower) → IsRank difs below → AtDif fac (Serves (λ s s'. Registers (Some register.Unbuilt) s fac node app result s') ChangesNothing fac) (result ≡ Err register.NoMember) difs difs' → Registers (Some register.Unbuilt) (seen_of_difs (now_of below) difs) fac node app result (seen_of_difs (now_of below) difs')
 registers_seen fac node app result difs difs' below rank a = elim a [
   | inl h ↦ call_seen (λ s s'. Registers (Some register.Unbuilt) s fac node app result s') fac difs difs' below h.dif h.dif' rank h.is_dif h.done h.new_is
   | inr h ↦ subst (λ (r : Result (Unit {0}) RegisterError). Registers (Some register.Unbuilt) (seen_of_difs (now_of below) difs) fac node app r (seen_of_difs (now_of below) difs')) (sym h.1) (rw (none_there difs fac (now_of below) h.0) refl, ap (seen_of_difs (now_of below)) h.2)
 ]
 
-pub unregisters_seen : (fac node : ℕ) (app : List ℕ) (result : Result (Unit {0}) UnregisterError) (difs difs' : List Dif) (below : Tower) → IsRank difs below → AtDif fac (Serves (λ s s'. Unregisters (Some unregister.Unbuilt) s fac node app result s') fac) (result ≡ Err unregister.NotThere) difs difs' → Unregisters (Some unregister.Unbuilt) (seen_of_difs (now_of below) difs) fac node app result (seen_of_difs (now_of below) difs')
+pub unregisters_seen : (fac node : ℕ) (app : List ℕ) (result : Result (Unit {0}) UnregisterError) (difs difs' : List Dif) (below : Tower) → IsRank difs below → AtDif fac (Serves (λ s s'. Unregisters (Some unregister.Unbuilt) s fac node app result s') ChangesNothing fac) (result ≡ Err unregister.NotThere) difs difs' → Unregisters (Some unregister.Unbuilt) (seen_of_difs (now_of below) difs) fac node app result (seen_of_difs (now_of below) difs')
 unregisters_seen fac node app result difs difs' below rank a = elim a [
   | inl h ↦ call_seen (λ s s'. Unregisters (Some unregister.Unbuilt) s fac node app result s') fac difs difs' below h.dif h.dif' rank h.is_dif h.done h.new_is
   | inr h ↦ subst (λ (r : Result (Unit {0}) UnregisterError). Unregisters (Some unregister.Unbuilt) (seen_of_difs (now_of below) difs) fac node app r (seen_of_difs (now_of below) difs')) (sym h.1) (rw (none_there difs fac (now_of below) h.0) refl, ap (seen_of_difs (now_of below)) h.2)
 ]
 
-pub allocates_seen : (ask : Ask) (result : Result Port AllocateError) (difs difs' : List Dif) (below : Tower) → IsRank difs below → AtDif ask.fac (Serves (λ s s'. Allocates (Some allocate.Unbuilt) s ask result s') ask.fac) (result ≡ Err allocate.NoMember) difs difs' → Allocates (Some allocate.Unbuilt) (seen_of_difs (now_of below) difs) ask result (seen_of_difs (now_of below) difs')
+pub allocates_seen : (ask : Ask) (result : Result Port AllocateError) (difs difs' : List Dif) (below : Tower) → IsRank difs below → AtDif ask.fac (Serves (λ s s'. Allocates (Some allocate.Unbuilt) s ask result s') ChangesNothing ask.fac) (result ≡ Err allocate.NoMember) difs difs' → Allocates (Some allocate.Unbuilt) (seen_of_difs (now_of below) difs) ask result (seen_of_difs (now_of below) difs')
 allocates_seen ask result difs difs' below rank a = elim a [
   | inl h ↦ call_seen (λ s s'. Allocates (Some allocate.Unbuilt) s ask result s') ask.fac difs difs' below h.dif h.dif' rank h.is_dif h.done h.new_is
   | inr h ↦ subst (λ (r : Result Port AllocateError). Allocates (Some allocate.Unbuilt) (seen_of_difs (now_of below) difs) ask r (seen_of_difs (now_of below) difs')) (sym h.1) (rw (none_there difs ask.fac (now_of below) h.0) refl, ap (seen_of_difs (now_of below)) h.2)
 ]
 
-pub claims_seen : (fac node : ℕ) (app : List ℕ) (result : Option Port) (difs difs' : List Dif) (below : Tower) → IsRank difs below → AtDif fac (Serves (λ s s'. Claims s fac node app result s') fac) (result ≡ None) difs difs' → Claims (seen_of_difs (now_of below) difs) fac node app result (seen_of_difs (now_of below) difs')
+pub claims_seen : (fac node : ℕ) (app : List ℕ) (result : Option Port) (difs difs' : List Dif) (below : Tower) → IsRank difs below → AtDif fac (Serves (λ s s'. Claims s fac node app result s') ChangesClaims fac) (result ≡ None) difs difs' → Claims (seen_of_difs (now_of below) difs) fac node app result (seen_of_difs (now_of below) difs')
 claims_seen fac node app result difs difs' below rank a = elim a [
   | inl h ↦ call_seen (λ s s'. Claims s fac node app result s') fac difs difs' below h.dif h.dif' rank h.is_dif h.done h.new_is
   | inr h ↦ subst (λ (r : Option Port). Claims (seen_of_difs (now_of below) difs) fac node app r (seen_of_difs (now_of below) difs')) (sym h.1) (rw (none_there difs fac (now_of below) h.0) tt, ap (seen_of_difs (now_of below)) h.2)

@@ -47,8 +47,8 @@ any_stays does n none difs difs' stays a = elim a [
   | inr h ↦ subst (AreStaying difs) (sym h.2) (difs_refl difs)
 ]
 
-pub serves_stays : (call : Seen → Seen → Type 0) (n : ℕ) (d d' : Dif) → Serves call n d d' → IsStaying d d'
-serves_stays call n d d' s = record { settings = s.settings; links = s.links }
+pub serves_stays : {changes : Dif → Dif → Type 0} (call : Seen → Seen → Type 0) (n : ℕ) (d d' : Dif) → Serves call changes n d d' → IsStaying d d'
+serves_stays call n d d' s = record { settings = s.settings; links = same_links _ _ s.laid }
 
 -- As planned
 

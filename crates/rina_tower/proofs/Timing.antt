@@ -9,29 +9,25 @@ use Rattle.rina_iface.proofs.Later.{fac_refl}
 use Rattle.rina_law.specs.Direction.{Direction}
 use Rattle.rina_dif_law.specs.Cloud.{IsMine}
 use Rattle.rina_data.specs.Configs.{Config, config_of}
-use Rattle.rina_dif_law.specs.Dif.{DifSeen, fac_of}
 use Rattle.rina_dif_law.specs.Lifting.{IsLifted, ticked}
-use Rattle.rina_dif_law.specs.Passing.{IsTicked}
 use Rattle.rina_data.proofs.Finding.{there}
 use Rattle.rina_dif_law.proofs.Own.{map_at}
 use Rattle.rina_dif.specs.declared.dif.Dif.{Dif}
 use Rattle.rina_dif.specs.Holding.{Holds}
-use Rattle.rina_dif.specs.Shown.{seen_of as seen_of_dif}
 use Rattle.rina_tower.specs.declared.tower.Tower.{Tower}
 use Rattle.rina_tower.specs.Bystanders.{Anyone, Leaves, LeavesEnds}
 use Rattle.rina_tower.specs.Ranks.{fac_of_dif, height_of, now_of, seen_now, seen_of, seen_of_difs}
 use Rattle.rina_tower.specs.Stands.{At, IsRank, IsTower, kept_of}
-use Rattle.rina_tower.specs.Unchanged.{IsStaying}
+use Rattle.rina_tower.specs.Unchanged.{ChangesClock}
 use Rattle.rina_tower.specs.ClockTick.{AreClocked, IsClocked}
 use Rattle.rina_tower.proofs.Alone.{ends_alone, lifted}
 use Rattle.rina_tower.proofs.Ranking.{is_rank}
 
 -- One DIF
 
-pub is_clocked : (d d' : Dif) (now : ℕ) → IsStaying d d' → ((lines : List Direction) → IsTicked (seen_of_dif d) lines now (seen_of_dif d') (map (ticked (now - d.clock)) lines)) → ((lines : List Direction) (below below' : Seen) → AreKept below' → IsLifted (config_of d.settings) below below' → below'.now ≡ now → Holds d lines below → Holds d' (map (ticked (now - d.clock)) lines) below') → IsClocked now d d'
-is_clocked d d' now stays ticks keeps = record {
-  seen = (ticks []).new_is;
-  stays = stays;
+pub is_clocked : (d d' : Dif) (now : ℕ) → ChangesClock now d d' → ((lines : List Direction) (below below' : Seen) → AreKept below' → IsLifted (config_of d.settings) below below' → below'.now ≡ now → Holds d lines below → Holds d' (map (ticked (now - d.clock)) lines) below') → IsClocked now d d'
+is_clocked d d' now whole keeps = record {
+  rest = whole;
   stands = λ below below' kept up clock st. (map (ticked (now - d.clock)) st.0, keeps st.0 below below' kept up clock st.1);
 }
 
@@ -77,7 +73,7 @@ all_clocked at now old new past h = record {
 -- A rank
 
 fac_same : (now : ℕ) (d d' : Dif) → IsClocked now d d' → fac_of_dif d' ≡ fac_of_dif d
-fac_same now d d' c = ap fac_of c.seen
+fac_same now d d' c = ap fac_of_dif c.rest
 
 pub rank_ticked : (difs difs' : List Dif) (below below' : Tower) → IsRank difs below → IsTower below → IsTower below' → height_of below' ≡ height_of below → Leaves Anyone (seen_of below) (seen_of below') → AreClocked (now_of below') difs difs' → IsRank difs' below'
 rank_ticked difs difs' below below' rank v v' height alone clocked = is_rank difs' below' v' (let low = rank.low in omega (arith, low, height)) (record {
@@ -100,7 +96,7 @@ rank_ticked difs difs' below below' rank v v' height alone clocked = is_rank dif
         (d.0, d.1, clocked.each n d.0 d' d.1 at)
 
     config : (n : ℕ) (d' : Dif) (at : At difs' n d') → config_of d'.settings ≡ config_of (was n d' at).0.settings
-    config n d' at = ap (λ (z : DifSeen). z.config) (was n d' at).2.seen
+    config n d' at = ap (λ (z : Dif). config_of z.settings) (was n d' at).2.rest
 
 pub ticked_alone : (difs difs' : List Dif) (below below' : Tower) → Leaves Anyone (seen_of below) (seen_of below') → AreClocked (now_of below') difs difs' → Leaves Anyone (seen_of_difs (now_of below) difs) (seen_of_difs (now_of below') difs')
 ticked_alone difs difs' below below' alone clocked = record {

@@ -1,5 +1,5 @@
 -- What the calls of a facility do at the top rank of a tower.
-use Rattle.std.specs.Prelude.{◌≡◌, ℕ, false, List, length, slice_get, Option, Some, None, IsSome, Result, Err}
+use Rattle.std.specs.Prelude.{◌≡◌, ℕ, true, false, List, length, slice_get, Option, Some, None, IsSome, Result, Err}
 use Rattle.rina_base.specs.declared.number.Num.{Num}
 use Rattle.rina_base.specs.declared.number.Port.{Port}
 use Rattle.rina_iface.specs.declared.ask.Ask.{Ask}
@@ -41,6 +41,8 @@ use Rattle.rina_wire.specs.Send.{SendsOn, passed}
 use Rattle.rina_wire.specs.Unregister.{UnregistersOn}
 use Rattle.rina_tower.specs.declared.tower.Tower.{Tower, Wires, Rank'}
 use Rattle.rina_tower.specs.Levels.{AtDif, IsAtDif}
+use Rattle.rina_tower.specs.Unchanged.{ChangesClaims, ChangesFlows, ChangesNames, ChangesNothing, ChangesTraffic}
+use Rattle.rina_tower.specs.MemoryFailure.{has_failed}
 
 -- all of these are DIFs
 abbrev pub AreDifs : List Dif → Type 0
@@ -62,37 +64,38 @@ pub record MayBind (difs : List Dif) (fixed : Fixed) : Type 0 where
   pub can : CanBind rank fixed
 
 -- a call at the DIF of place n is this at every rank that shows the DIF there; the DIF goes on as a facility, stands
--- wherever it stood, and what never changes in it stays
-pub record Serves (call : Seen → Seen → Type 0) (n : ℕ) (d d' : Dif) : Type 0 where
+-- wherever it stood, keeps its settings and what was laid, and changes in these parts alone
+pub record Serves (call : Seen → Seen → Type 0) (changes : Dif → Dif → Type 0) (n : ℕ) (d d' : Dif) : Type 0 where
   pub shown : (s : Seen) → IsShownAs s n d → call s (shown_as s n d')
   pub goes_on : GoesOn d d'
   pub stands : StaysStanding d d'
   pub settings : d'.settings ≡ d.settings
-  pub links : d'.laid.links ≡ d.laid.links
+  pub laid : d'.laid ≡ d.laid
+  pub rest : changes d d'
 
 -- Names and asks
 
 abbrev pub RegistersAtTop : ℕ → ℕ → List ℕ → Result (Unit {0}) RegisterError → Tower → Tower → Type 0
 RegistersAtTop fac node app result (Wires a) (Wires a') = RegistersOn a fac node app result a'
 RegistersAtTop fac node app result (Rank' p difs below) (Rank' p' difs' below') =
-    AtDif fac (Serves (λ s s'. Registers (Some register.Unbuilt) s fac node app result s') fac) (result ≡ Err register.NoMember) difs difs' × (below' ≡ below)
+    AtDif fac (Serves (λ s s'. Registers (Some register.Unbuilt) s fac node app result s') ChangesNothing fac) (result ≡ Err register.NoMember) difs difs' × (below' ≡ below)
 RegistersAtTop fac node app result t t' = ⊥
 
 abbrev pub UnregistersAtTop : ℕ → ℕ → List ℕ → Result (Unit {0}) UnregisterError → Tower → Tower → Type 0
 UnregistersAtTop fac node app result (Wires a) (Wires a') = UnregistersOn a fac node app result a'
 UnregistersAtTop fac node app result (Rank' p difs below) (Rank' p' difs' below') =
-    AtDif fac (Serves (λ s s'. Unregisters (Some unregister.Unbuilt) s fac node app result s') fac) (result ≡ Err unregister.NotThere) difs difs' × (below' ≡ below)
+    AtDif fac (Serves (λ s s'. Unregisters (Some unregister.Unbuilt) s fac node app result s') ChangesNothing fac) (result ≡ Err unregister.NotThere) difs difs' × (below' ≡ below)
 UnregistersAtTop fac node app result t t' = ⊥
 
 abbrev pub AllocatesAtTop : Ask → Result Port AllocateError → Tower → Tower → Type 0
 AllocatesAtTop ask result (Wires a) (Wires a') = AllocatesOn a ask result a'
 AllocatesAtTop ask result (Rank' p difs below) (Rank' p' difs' below') =
-    AtDif ask.fac (Serves (λ s s'. Allocates (Some allocate.Unbuilt) s ask result s') ask.fac) (result ≡ Err allocate.NoMember) difs difs' × (below' ≡ below)
+    AtDif ask.fac (Serves (λ s s'. Allocates (Some allocate.Unbuilt) s ask result s') ChangesNothing ask.fac) (result ≡ Err allocate.NoMember) difs difs' × (below' ≡ below)
 AllocatesAtTop ask result t t' = ⊥
 
 -- what `bind` does at the DIF of a fixed flow
 pub record BindsFrom (fixed : Fixed) (result : Result (Port × Port) AllocateError) (d d' : Dif) : Type 0 where
-  pub serves : Serves (λ s s'. Binds s fixed result s') fixed.fac d d'
+  pub serves : Serves (λ s s'. Binds s fixed result s') ChangesNames fixed.fac d d'
   pub does : (lines : List Direction) (below : Seen) → Holds d lines below → BindsTo d lines below fixed result d'
 
 -- under the condition of `bind` there is such a DIF
@@ -102,17 +105,21 @@ BindsAtTop fixed result (Rank' p difs below) (Rank' p' difs' below') =
     IsAtDif (BindsFrom fixed result) fixed.fac difs difs' × (below' ≡ below)
 BindsAtTop fixed result t t' = ⊥
 
+-- the same, whether or not memory was wanted and not found before
+abbrev pub BindsWhole : Tower → Fixed → Result (Port × Port) AllocateError → Tower → Type 0
+BindsWhole t fixed result t' = (has_failed t ≡ false → BindsAtTop fixed result t t') × (has_failed t ≡ true → (result ≡ Err allocate.Memory) × (t' ≡ t))
+
 abbrev pub ClaimsAtTop : ℕ → ℕ → List ℕ → Option Port → Tower → Tower → Type 0
 ClaimsAtTop fac node app result (Wires a) (Wires a') = ClaimsOn a fac node app result a'
 ClaimsAtTop fac node app result (Rank' p difs below) (Rank' p' difs' below') =
-    AtDif fac (Serves (λ s s'. Claims s fac node app result s') fac) (result ≡ None) difs difs' × (below' ≡ below)
+    AtDif fac (Serves (λ s s'. Claims s fac node app result s') ChangesClaims fac) (result ≡ None) difs difs' × (below' ≡ below)
 ClaimsAtTop fac node app result t t' = ⊥
 
 -- SDUs
 
 -- what `send` does at the DIF of a port
 pub record SendsFrom (port : Port) (bytes : List ℕ) (result : Result Num SendError) (d d' : Dif) : Type 0 where
-  pub serves : Serves (λ s s'. Sends (own_refusal d port (length bytes)) s port bytes result s') port.fac d d'
+  pub serves : Serves (λ s s'. Sends (own_refusal d port (length bytes)) s port bytes result s') ChangesTraffic port.fac d d'
   pub does : (lines : List Direction) (below : Seen) → Holds d lines below → SendsAt (place_in port d.flows.journal.ends) d lines below bytes result d'
 
 abbrev pub SendsAtTop : Port → List ℕ → Result Num SendError → Tower → Tower → Type 0
@@ -121,9 +128,13 @@ SendsAtTop port bytes result (Rank' p difs below) (Rank' p' difs' below') =
     AtDif port.fac (SendsFrom port bytes result) (result ≡ Err (send.NotAllocated None)) difs difs' × (below' ≡ below)
 SendsAtTop port bytes result t t' = ⊥
 
+-- the same, whether or not memory was wanted and not found before
+abbrev pub SendsWhole : Tower → Port → List ℕ → Result Num SendError → Tower → Type 0
+SendsWhole t port bytes result t' = (has_failed t ≡ false → SendsAtTop port bytes result t t') × (has_failed t ≡ true → (result ≡ Err send.Memory) × (t' ≡ t))
+
 -- what `pass` does at the DIF of a port
 pub record PassesFrom (port : Port) (d d' : Dif) : Type 0 where
-  pub serves : Serves (λ s s'. IsPassed s port s') port.fac d d'
+  pub serves : Serves (λ s s'. IsPassed s port s') ChangesFlows port.fac d d'
   pub does : (lines : List Direction) (below : Seen) → Holds d lines below → PassesAt d lines port d' below
 
 -- where an SDU waits there is such a DIF
@@ -136,7 +147,7 @@ PassesAtTop port t t' = ⊥
 
 -- what `free` does at the DIF of a port
 pub record FreesFrom (port : Port) (result : Result (Unit {0}) FreeError) (d d' : Dif) : Type 0 where
-  pub serves : Serves (λ s s'. Frees false s port result s') port.fac d d'
+  pub serves : Serves (λ s s'. Frees false s port result s') ChangesTraffic port.fac d d'
   pub does : (lines : List Direction) (below : Seen) → Holds d lines below → FreesAt (place_in port d.flows.journal.ends) d lines below result d'
 
 abbrev pub FreesAtTop : Port → Result (Unit {0}) FreeError → Tower → Tower → Type 0

@@ -6,17 +6,15 @@ use Rattle.rina_data.specs.Configs.{config_of}
 use Rattle.rina_dif_law.specs.Lifting.{IsLifted}
 use Rattle.rina_dif.specs.declared.dif.Dif.{Dif}
 use Rattle.rina_dif.specs.Holding.{Stands}
-use Rattle.rina_dif.specs.Shown.{seen_of as seen_of_dif}
 use Rattle.rina_wire.specs.declared.tick.TickError.{TickError}
 use Rattle.rina_wire.specs.Tick.{TicksOn}
 use Rattle.rina_tower.specs.declared.tower.Tower.{Tower, Wires, Rank'}
 use Rattle.rina_tower.specs.Ranks.{now_of}
-use Rattle.rina_tower.specs.Unchanged.{IsStaying}
+use Rattle.rina_tower.specs.Unchanged.{ChangesClock}
 
--- the clock of a DIF was set, and nothing else changed; it stands on the rank below that has gone on with the clock
+-- the clock of a DIF was set, and nothing else of it changed; it stands on the rank below that has gone on with the clock
 pub record IsClocked (now : ℕ) (d d' : Dif) : Type 0 where
-  pub seen : seen_of_dif d' ≡ record (seen_of_dif d) { clock = now }
-  pub stays : IsStaying d d'
+  pub rest : ChangesClock now d d'
   pub stands : (below below' : Seen) → AreKept below' → IsLifted (config_of d.settings) below below' → below'.now ≡ now → Stands d below → Stands d' below'
 
 -- and so that of each

@@ -2,7 +2,9 @@
 use Rattle.std.specs.Prelude.{◌≡◌, ℕ, true, false, List, Option, Result, Err}
 use Rattle.rina_base.specs.declared.number.Port.{Port}
 use Rattle.rina_iface.specs.declared.error.SendError.{SendError}
+use Rattle.rina_iface.specs.Pass.{PassesAsSeen}
 use Rattle.rina_iface.specs.Seen.{Seen}
+use Rattle.rina_iface.specs.Send.{SendsAsSeen}
 use Rattle.rina_law.specs.Direction.{Direction}
 use Rattle.rina_policy.specs.declared.policy.Head.{Head}
 use Rattle.rina_policy.specs.Slots.{Slot}
@@ -11,6 +13,7 @@ use Rattle.rina_data.specs.declared.step.InStep.{InStep}
 use Rattle.rina_data.specs.declared.step.OutStep.{OutStep}
 use Rattle.rina_data.specs.declared.step.StepError.{StepError}
 use Rattle.rina_data.specs.declared.step.StepError.TheVariants.{Memory, NoIpc}
+use Rattle.rina_data.specs.Lower.{PassesBelow, SendsBelow}
 use Rattle.rina_dif.specs.declared.dif.Dif.{Dif}
 use Rattle.rina_dif.specs.Clocking.{ClockSteps, FailsLate}
 use Rattle.rina_dif.specs.Holding.{Holds}
@@ -18,10 +21,12 @@ use Rattle.rina_dif.specs.Shown.{seen_of as seen_of_dif}
 use Rattle.rina_dif.specs.Steps.{AsksHome, OutsAt}
 use Rattle.rina_dif.specs.Taking.{TakesHome}
 use Rattle.rina_tower.specs.declared.tower.Tower.{Tower, Wires, Rank'}
+use Rattle.rina_tower.specs.Calls.{PassesAtTop, SendsWhole}
 use Rattle.rina_tower.specs.StepEffect.{StandsAfter}
 use Rattle.rina_tower.specs.Ranks.{seen_of}
 use Rattle.rina_tower.specs.Refusals.{refuses_send}
 use Rattle.rina_tower.specs.Levels.{AtDif, AtRank, SameBelow}
+use Rattle.rina_tower.specs.Unchanged.{ChangesProcesses, ChangesTraffic}
 
 -- What comes
 
@@ -29,12 +34,14 @@ use Rattle.rina_tower.specs.Levels.{AtDif, AtRank, SameBelow}
 pub record TakesOne (below : Seen) (node link : ℕ) (result : Result InStep StepError) (below' : Seen) (d d' : Dif) : Type 0 where
   pub does : (lines : List Direction) → Holds d lines below → TakesHome d lines below node link result d' below'
   pub after : StandsAfter below below' d d'
+  pub rest : ChangesTraffic d d'
 
--- at the top rank: the DIF of that place, over the rank below, of which nothing else changes
+-- at the top rank: the DIF of that place, over the rank below, where one SDU is passed at most and nothing else changes
 abbrev pub InStepsAtTop : ℕ → ℕ → ℕ → Result InStep StepError → Tower → Tower → Type 0
 InStepsAtTop dif node link result (Wires a) (Wires a') = (result ≡ Err NoIpc) × (a' ≡ a)
 InStepsAtTop dif node link result (Rank' p difs below) (Rank' p' difs' below') =
     AtDif dif (TakesOne (seen_of below) node link result (seen_of below')) ((result ≡ Err NoIpc) × (below' ≡ below)) difs difs' × SameBelow below below'
+    × PassesBelow (below' ≡ below) (PassesAsSeen seen_of (λ t port t'. PassesAtTop port t t') below below') result
 InStepsAtTop dif node link result t t' = ⊥
 
 -- at rank r
@@ -47,13 +54,16 @@ InSteps r dif node link result t t' = AtRank r (InStepsAtTop dif node link resul
 pub record SendsOne (refuses : Port → ℕ → Option SendError) (may : List ℕ → ℕ → List Head → ℕ → Type 0) (slots slots' : List Slot) (below : Seen) (node link : ℕ) (result : Result OutStep StepError) (below' : Seen) (d d' : Dif) : Type 0 where
   pub does : OutsAt refuses (seen_of_dif d) below node link result (seen_of_dif d') below'
   pub after : StandsAfter below below' d d'
+  pub rest : ChangesProcesses d d'
   pub shelf : d.failed ≡ false → AsksHome (may d.settings.policy) d.settings node link slots slots' d.processes result d'.processes
   pub failed : d.failed ≡ true → result ≡ Err Memory
 
+-- over the rank below, where one SDU is sent at most, or refused, and nothing else changes
 abbrev pub OutStepsAtTop : (List ℕ → ℕ → List Head → ℕ → Type 0) → List Slot → List Slot → ℕ → ℕ → ℕ → Result OutStep StepError → Tower → Tower → Type 0
 OutStepsAtTop may slots slots' dif node link result (Wires a) (Wires a') = (result ≡ Err NoIpc) × (slots' ≡ slots) × (a' ≡ a)
 OutStepsAtTop may slots slots' dif node link result (Rank' p difs below) (Rank' p' difs' below') =
     AtDif dif (SendsOne (refuses_send below) may slots slots' (seen_of below) node link result (seen_of below')) ((result ≡ Err NoIpc) × (slots' ≡ slots) × (below' ≡ below)) difs difs' × SameBelow below below'
+    × SendsBelow (below' ≡ below) (SendsAsSeen seen_of refuses_send SendsWhole below below') result
 OutStepsAtTop may slots slots' dif node link result t t' = ⊥
 
 abbrev pub OutSteps : (List ℕ → ℕ → List Head → ℕ → Type 0) → List Slot → List Slot → ℕ → ℕ → ℕ → ℕ → Result OutStep StepError → Tower → Tower → Type 0
@@ -67,11 +77,13 @@ pub record ClocksOne (below : Seen) (node : ℕ) (result : Result ClockStep Step
   pub does : (lines : List Direction) → Holds d lines below → ClockSteps d lines below node result d' below'
   pub fails : (lines : List Direction) → Holds d lines below → FailsLate d lines below d'
   pub after : StandsAfter below below' d d'
+  pub rest : ChangesTraffic d d'
 
+-- over the rank below, where nothing changes
 abbrev pub ClocksAtTop : ℕ → ℕ → Result ClockStep StepError → Tower → Tower → Type 0
 ClocksAtTop dif node result (Wires a) (Wires a') = (result ≡ Err NoIpc) × (a' ≡ a)
 ClocksAtTop dif node result (Rank' p difs below) (Rank' p' difs' below') =
-    AtDif dif (ClocksOne (seen_of below) node result (seen_of below')) ((result ≡ Err NoIpc) × (below' ≡ below)) difs difs' × SameBelow below below'
+    AtDif dif (ClocksOne (seen_of below) node result (seen_of below')) ((result ≡ Err NoIpc) × (below' ≡ below)) difs difs' × SameBelow below below' × (below' ≡ below)
 ClocksAtTop dif node result t t' = ⊥
 
 abbrev pub ClocksAt : ℕ → ℕ → ℕ → Result ClockStep StepError → Tower → Tower → Type 0

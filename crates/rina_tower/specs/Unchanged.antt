@@ -14,6 +14,36 @@ pub record AreStaying (difs difs' : List Dif) : Type 0 where
   pub number : length difs' ≡ length difs
   pub each : (n : ℕ) (d d' : Dif) → slice_get difs n ≡ Some d → slice_get difs' n ≡ Some d' → IsStaying d d'
 
+-- Parts of a DIF
+
+-- nothing of the DIF changed
+abbrev pub ChangesNothing : Dif → Dif → Type 0
+ChangesNothing d d' = d' ≡ d
+
+-- nothing but its clock, which is this now
+abbrev pub ChangesClock : ℕ → Dif → Dif → Type 0
+ChangesClock now d d' = d' ≡ record d { clock = now }
+
+-- nothing but its far ends that wait to be claimed
+abbrev pub ChangesClaims : Dif → Dif → Type 0
+ChangesClaims d d' = d' ≡ record d { waiting = d'.waiting }
+
+-- nothing but its flows
+abbrev pub ChangesFlows : Dif → Dif → Type 0
+ChangesFlows d d' = d' ≡ record d { flows = d'.flows }
+
+-- nothing but its flows and names, and whether an allocation has failed
+abbrev pub ChangesNames : Dif → Dif → Type 0
+ChangesNames d d' = d' ≡ record d { flows = d'.flows; names = d'.names; failed = d'.failed }
+
+-- nothing but its IPC processes, and whether an allocation has failed
+abbrev pub ChangesProcesses : Dif → Dif → Type 0
+ChangesProcesses d d' = d' ≡ record d { processes = d'.processes; failed = d'.failed }
+
+-- nothing but its IPC processes and flows, and whether an allocation has failed
+abbrev pub ChangesTraffic : Dif → Dif → Type 0
+ChangesTraffic d d' = d' ≡ record d { processes = d'.processes; flows = d'.flows; failed = d'.failed }
+
 -- What follows
 
 pub dif_refl : (d : Dif) → IsStaying d d

@@ -16,7 +16,7 @@ ghost use Rattle.rina_iface.specs.Register.{Registers};
 ghost use Rattle.rina_iface.specs.Seen.{unpassed};
 ghost use Rattle.rina_iface.specs.Send.{Sends};
 ghost use Rattle.rina_iface.specs.Unregister.{Unregisters};
-ghost use Rattle.rina_tower.specs.Calls.{AllocatesAtTop, BindsAtTop, ClaimsAtTop, FreesAtTop, PassesAtTop, RegistersAtTop, SendsAtTop, UnregistersAtTop};
+ghost use Rattle.rina_tower.specs.Calls.{AllocatesAtTop, BindsAtTop, BindsWhole, ClaimsAtTop, FreesAtTop, PassesAtTop, RegistersAtTop, SendsAtTop, SendsWhole, UnregistersAtTop};
 ghost use Rattle.rina_tower.specs.MemoryFailure.{has_failed};
 ghost use Rattle.rina_tower.specs.Ranks.{seen_of};
 ghost use Rattle.rina_tower.specs.Refusals.{frees_both, refuses_allocate, refuses_own, refuses_register, refuses_send, refuses_unregister};
@@ -47,6 +47,12 @@ impl Facility for Tower {
     ghost refuses_send = { refuses_send };
 
     ghost frees_both = { frees_both };
+
+    ghost does_bind = { BindsWhole };
+
+    ghost does_send = { SendsWhole };
+
+    ghost does_pass = { λ t port t'. PassesAtTop port t t' };
 
     fn now(&self) -> Tick {
         self.clock()

@@ -12,6 +12,7 @@ ghost use Rattle.rina_iface.specs.Unregister.{Unregisters};
 ghost use Rattle.rina_tower.specs.Calls.{AreDifs, BindsFrom, MayBind, FreesFrom, PassesFrom, SendsFrom, Serves, WaitsThere};
 ghost use Rattle.rina_tower.specs.MemoryFailure.{have_failed};
 ghost use Rattle.rina_tower.specs.Levels.{AtDif, IsAtDif};
+ghost use Rattle.rina_tower.specs.Unchanged.{ChangesClaims, ChangesNothing};
 
 use super::Difs;
 use rina_base::{AppName, Node, Num, Port};
@@ -28,7 +29,7 @@ impl Difs {
         app: &AppName,
     ) -> Result<(), RegisterError>
         requires { AreDifs self.old }
-        ensures does { AtDif fac (Serves (λ s s'. Registers (Some register.Unbuilt) s fac node app.now result s') fac) (result ≡ Err register.NoMember) self.old self.new }
+        ensures does { AtDif fac (Serves (λ s s'. Registers (Some register.Unbuilt) s fac node app.now result s') ChangesNothing fac) (result ≡ Err register.NoMember) self.old self.new }
         ensures fails { result ≡ Err register.Memory → have_failed self.new ≡ true }
     {
         let Some(_dif) = self.get(fac) else {
@@ -47,7 +48,7 @@ impl Difs {
         app: &AppName,
     ) -> Result<(), UnregisterError>
         requires { AreDifs self.old }
-        ensures does { AtDif fac (Serves (λ s s'. Unregisters (Some unregister.Unbuilt) s fac node app.now result s') fac) (result ≡ Err unregister.NotThere) self.old self.new }
+        ensures does { AtDif fac (Serves (λ s s'. Unregisters (Some unregister.Unbuilt) s fac node app.now result s') ChangesNothing fac) (result ≡ Err unregister.NotThere) self.old self.new }
         ensures fails { result ≡ Err unregister.Memory → have_failed self.new ≡ true }
     {
         let Some(_dif) = self.get(fac) else {
@@ -60,7 +61,7 @@ impl Difs {
     /// Asks for a flow.
     pub fn allocate(&mut self, alloc: Global, ask: &Ask) -> Result<Port, AllocateError>
         requires { AreDifs self.old }
-        ensures does { AtDif ask.now.fac (Serves (λ s s'. Allocates (Some allocate.Unbuilt) s ask.now result s') ask.now.fac) (result ≡ Err allocate.NoMember) self.old self.new }
+        ensures does { AtDif ask.now.fac (Serves (λ s s'. Allocates (Some allocate.Unbuilt) s ask.now result s') ChangesNothing ask.now.fac) (result ≡ Err allocate.NoMember) self.old self.new }
         ensures fails { result ≡ Err allocate.Memory → have_failed self.new ≡ true }
     {
         let Some(_dif) = self.get(ask.fac) else {
@@ -87,7 +88,7 @@ impl Difs {
     /// Claims the oldest far end of an application at a node that nobody claimed yet.
     pub fn incoming(&mut self, fac: u16, node: Node, app: &AppName) -> Option<Port>
         requires { AreDifs self.old }
-        ensures { AtDif fac (Serves (λ s s'. Claims s fac node app.now result s') fac) (result ≡ None) self.old self.new }
+        ensures { AtDif fac (Serves (λ s s'. Claims s fac node app.now result s') ChangesClaims fac) (result ≡ None) self.old self.new }
     {
         let Some(_dif) = self.get(fac) else {
             return None;

@@ -1,7 +1,10 @@
 //! The steps of the DIFs of a rank, over any facility below.
 ghost use Rattle.std.specs.Prelude.{◌≡◌, length, map, slice_get, true, Some, Err};
+ghost use Rattle.rina_iface.specs.Pass.{PassesAsSeen};
+ghost use Rattle.rina_iface.specs.Send.{SendsAsSeen};
 ghost use Rattle.rina_policy.specs.Slots.{Slot};
 ghost use Rattle.rina_data.specs.declared.step.StepError.TheVariants.{Memory, NoIpc};
+ghost use Rattle.rina_data.specs.Lower.{PassesBelow, SendsBelow};
 ghost use Rattle.rina_tower.specs.Bystanders.{Anyone, LeavesNow};
 ghost use Rattle.rina_tower.specs.MemoryFailure.{have_failed};
 ghost use Rattle.rina_tower.specs.Ranks.{seen_of_difs};
@@ -31,6 +34,7 @@ impl Difs {
         ensures valid { F.valid below.new }
         ensures below { F.same_below below.old below.new }
         ensures does { AtDif dif (TakesOne (F.seen below.old) node link result (F.seen below.new)) ((result ≡ Err NoIpc) × (below.new ≡ below.old)) self.old self.new }
+        ensures lower { PassesBelow (below.new ≡ below.old) (PassesAsSeen F.seen F.does_pass below.old below.new) result }
         ensures fails { result ≡ Err Memory → have_failed self.new ≡ true }
     {
         let Some(_dif) = self.get(dif) else {
@@ -54,6 +58,7 @@ impl Difs {
         ensures valid { F.valid below.new }
         ensures below { F.same_below below.old below.new }
         ensures does { AtDif dif (TakesOne (F.seen below.old) node link result (F.seen below.new)) ((result ≡ Err NoIpc) × (below.new ≡ below.old)) self.old self.new }
+        ensures lower { PassesBelow (below.new ≡ below.old) (PassesAsSeen F.seen F.does_pass below.old below.new) result }
         ensures fails { result ≡ Err Memory → have_failed self.new ≡ true }
         ensures stand { AreStanding self.new (F.seen below.new) }
         ensures clock { (F.seen below.new).now ≡ (F.seen below.old).now }
@@ -77,6 +82,7 @@ impl Difs {
         ensures valid { F.valid below.new }
         ensures below { F.same_below below.old below.new }
         ensures does { AtDif dif (SendsOne (F.refuses_send below.old) (S.may_answer shelf.old) (S.slots shelf.old) (S.slots shelf.new) (F.seen below.old) node link result (F.seen below.new)) ((result ≡ Err NoIpc) × (S.slots shelf.new ≡ S.slots shelf.old) × (below.new ≡ below.old)) self.old self.new }
+        ensures lower { SendsBelow (below.new ≡ below.old) (SendsAsSeen F.seen F.refuses_send F.does_send below.old below.new) result }
         ensures fails { result ≡ Err Memory → have_failed self.new ≡ true }
         ensures names { map (λ (x : Slot). x.name) (S.slots shelf.new) ≡ map (λ (x : Slot). x.name) (S.slots shelf.old) }
     {
@@ -103,6 +109,7 @@ impl Difs {
         ensures valid { F.valid below.new }
         ensures below { F.same_below below.old below.new }
         ensures does { AtDif dif (SendsOne (F.refuses_send below.old) (S.may_answer shelf.old) (S.slots shelf.old) (S.slots shelf.new) (F.seen below.old) node link result (F.seen below.new)) ((result ≡ Err NoIpc) × (S.slots shelf.new ≡ S.slots shelf.old) × (below.new ≡ below.old)) self.old self.new }
+        ensures lower { SendsBelow (below.new ≡ below.old) (SendsAsSeen F.seen F.refuses_send F.does_send below.old below.new) result }
         ensures fails { result ≡ Err Memory → have_failed self.new ≡ true }
         ensures stand { AreStanding self.new (F.seen below.new) }
         ensures clock { (F.seen below.new).now ≡ (F.seen below.old).now }
@@ -125,6 +132,7 @@ impl Difs {
         ensures valid { F.valid below.new }
         ensures below { F.same_below below.old below.new }
         ensures does { AtDif dif (ClocksOne (F.seen below.old) node result (F.seen below.new)) ((result ≡ Err NoIpc) × (below.new ≡ below.old)) self.old self.new }
+        ensures lower { below.new ≡ below.old }
         ensures fails { result ≡ Err Memory → have_failed self.new ≡ true }
     {
         let Some(_dif) = self.get(dif) else {
@@ -147,6 +155,7 @@ impl Difs {
         ensures valid { F.valid below.new }
         ensures below { F.same_below below.old below.new }
         ensures does { AtDif dif (ClocksOne (F.seen below.old) node result (F.seen below.new)) ((result ≡ Err NoIpc) × (below.new ≡ below.old)) self.old self.new }
+        ensures lower { below.new ≡ below.old }
         ensures fails { result ≡ Err Memory → have_failed self.new ≡ true }
         ensures stand { AreStanding self.new (F.seen below.new) }
         ensures clock { (F.seen below.new).now ≡ (F.seen below.old).now }

@@ -45,6 +45,12 @@ impl Facility for Wires {
 
     ghost frees_both = { λ a. true };
 
+    ghost does_bind = { BindsOn };
+
+    ghost does_send = { SendsOn };
+
+    ghost does_pass = { λ a port a'. a' ≡ passed a port };
+
     fn now(&self) -> Tick {
         self.clock
     }

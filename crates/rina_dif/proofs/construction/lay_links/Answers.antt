@@ -1,4 +1,4 @@
-use Rattle.rina_dif.proofs.Wiring.{its_turn, turn_done, turn_laid, turn_rest}
+use Rattle.rina_dif.proofs.Wiring.{its_turn, turn_bound, turn_done, turn_laid, turn_rest}
 use Rattle.rina_dif.proofs.construction.lay_links.Goals as goal
 
 pub returns-in_err-lay_link-clause-laid : goal.returns-in_err-lay_link-clause-laid
@@ -30,4 +30,5 @@ loop-link-preserved g c =
       laid = turn_laid plan d s i c.in_ok-fixed.fixed (seen c.args.below.now) (seen c.loop-link.below) (seen c.lay_link.new.below) turn c.requires.plan c.requires.settings (g.met.F.Facility.kept c.loop-link.below held.valid) kept held.laid held.rest c.requires.takes c.lay_link.ensures.may;
       rest = turn_rest plan d s i c.in_ok-fixed.fixed (seen c.loop-link.below) (seen c.lay_link.new.below) c.loop-link.processes c.lay_link.new.processes turn held.rest lays;
       done = turn_done plan d s i c.in_ok-fixed.fixed (seen c.args.below.now) (seen c.loop-link.below) (seen c.lay_link.new.below) c.loop-link.processes c.lay_link.new.processes turn c.requires.plan c.requires.settings kept held.done lays;
+      whole = turn_bound g.F.Facility.does_bind plan d i c.in_ok-fixed.fixed c.args.below.now c.loop-link.below c.lay_link.new.below turn held.whole c.in_ok-lay_link.ensures.whole;
     }

@@ -34,7 +34,8 @@ returns-then-r-height-clause-does t c =
     let height = rw c.deref_mut-rank.ensures.value at c.height.ensures in
     let same = rw c.deref_mut-rank.ensures.value at c.in_step.ensures.below in
     let does = rw c.deref_mut-rank.ensures.value at c.in_step.ensures.does in
-    rw c.in-Rank.is (inl (c.if-r-height.true ∙ ap (λ (n : ℕ). n + 1) height, (does, same)))
+    let lower = rw c.deref_mut-rank.ensures.value at c.in_step.ensures.lower in
+    rw c.in-Rank.is (inl (c.if-r-height.true ∙ ap (λ (n : ℕ). n + 1) height, (does, same, lower)))
 
 pub returns-else-r-height-clause-valid : goal.returns-else-r-height-clause-valid
 returns-else-r-height-clause-valid t c =
