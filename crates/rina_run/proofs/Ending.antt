@@ -1,6 +1,6 @@
 -- How a run ends.
-use Rattle.std.proofs.Common.{◌≡◌, ℕ, ◌+◌, List, [], ◌∷◌, ◌++◌, Option, Some, None, Ok, Err, ◌⊎◌, inl, inr, refl, sym, ◌∙◌, IsSome, IfSome, Bool, slice_get, length, take, true, false, ◌<◌, ◌≤◌, arith, subst}
-use Rattle.std.proofs.lemmas.List.{append-nil, take_all}
+use Rattle.std.proofs.Common.{◌≡◌, ℕ, ◌+◌, List, [], ◌∷◌, ◌++◌, Option, Some, None, Ok, Err, ◌⊎◌, inl, inr, refl, sym, ◌∙◌, IsSome, IfSome, Bool, slice_get, length, take, true, false, ◌<◌, ◌≤◌, arith, subst, ap}
+use Rattle.std.proofs.lemmas.List.{take_all}
 use Rattle.std.proofs.KnownBytes.{Appends-nil}
 use Rattle.std.specs.Io.KnownBytes.{Appends, Consumes, IsAtEnd}
 use Rattle.rina_policy.specs.Slots.{Slot}
@@ -29,18 +29,17 @@ use Rattle.rina_run.specs.declared.output.Stop.TheVariants as stops
 use Rattle.rina_run.specs.declared.lines.BadLine.{BadLine}
 use Rattle.rina_run.specs.declared.outcome.Status.{Status}
 use Rattle.rina_run.specs.declared.outcome.Status.TheVariants as statuses
-use Rattle.rina_notes.specs.Look.{Extends}
 use Rattle.rina_tower.specs.declared.tower.Tower.{Tower, Rank', Wires}
 use Rattle.rina_tower.specs.Ranks.{height_of, now_of, seen_of}
 use Rattle.rina_tower.specs.Stands.{IsTower, kept_of}
 use Rattle.rina_tower.proofs.Owned.{rank_valid}
 use Rattle.rina_words.specs.declared.run.Run.{Run}
 use Rattle.rina_run.specs.Opening.{IsOpening}
-use Rattle.rina_run.specs.Run.{Runs, StopsAt, RanFirst, RanPart, LinesRan}
+use Rattle.rina_run.specs.Run.{Runs, StopsAt, RanFirst, LinesRan}
 use Rattle.rina_run.specs.Script.{Script, script_in}
 use Rattle.rina_words.specs.Step.{HasNames, Stage, stage}
 use Rattle.rina_run.specs.Written.{IsFront, Written}
-use Rattle.rina_run.specs.Top.{status_of, fault_at, fault_of, PlayOutcomes, RefusedBy, StackOutcomes, ScriptOutcomes, InputOutcomes, IsOutOfMemory, ClosedBy, IsEnding, EndedBy, RunOutcomes, is_whole, status_stopped, AreCut, FailedByCut, IsCutBy, KeepsAll}
+use Rattle.rina_run.specs.Top.{status_of, fault_at, fault_of, closing_of, stack_fault, IsRefusedStack, IsStopped, PlayOutcomes, RefusedBy, ScriptOutcomes, InputOutcomes, IsOutOfMemory, ClosedBy, IsEnding, EndedBy, RunOutcomes, is_whole, status_stopped, AreCut, FailedByCut, IsCutBy, KeepsAll}
 use Rattle.rina_run.proofs.Texts.{wrote_all}
 
 pub wrote_nothing : (base : Option (List ℕ)) (ns : List Note) → ns ≡ [] → Appends base base (text_of ns)
@@ -64,37 +63,46 @@ closed_ok s note old new p = (refl, p)
 pub refused_from : (fault : Fault) (s : Status) (t : List Note) → ClosedBy (status_of fault) (notes.Fault fault) [] s t → RefusedBy fault s t
 refused_from fault s t c = c
 
-extends_one : (old new : List Note) (note : Note) → new ≡ old ++ note ∷ [] → Extends old new
-extends_one old new note p = record { notes = note ∷ []; trace = p }
-
-part_from : (plan : Plan) (w : Stage) (lines : List (List ℕ)) (told t : List Note) (u : Stage) (note : Note) → RanFirst plan w lines told u → (t ≡ told) ⊎ (t ≡ told ++ note ∷ []) → RanPart plan w lines t
-part_from plan w lines told t u note first (inl p) = record { reached = u; told = told; first = first; more = record { notes = []; trace = p ∙ sym (append-nil told) } }
-part_from plan w lines told t u note first (inr p) = record { reached = u; told = told; first = first; more = extends_one told t note p }
-
 all_first : (plan : Plan) (w : Stage) (lines : List (List ℕ)) (told : List Note) (u : Stage) → Runs plan 1 w lines told u → RanFirst plan w lines told u
 all_first plan w lines told u runs = record { count = length lines; runs = rw (take_all (length lines) lines (omega arith)) runs }
 
 stop_first : (plan : Plan) (w : Stage) (lines : List (List ℕ)) (bad : BadLine) (told : List Note) (u : Stage) → StopsAt plan w lines bad told u → RanFirst plan w lines told u
 stop_first plan w lines bad told u stops = record { count = stops.before; runs = stops.runs }
 
+-- a run that was stopped at its close, whose note is told
+closed_whole : (plan : Plan) (ending : Option Fault) (lines : List (List ℕ)) (start : Stage) (told t : List Note) (u : Stage) → Runs plan 1 start lines told u → t ≡ told ++ closing_of ending u ∷ [] → IsStopped plan ending lines start t u
+closed_whole plan ending lines start told t u runs is = inr (inl (record { told = told; ran = runs; notes = is }))
+
+closed_bad : (plan : Plan) (ending : Option Fault) (lines : List (List ℕ)) (start : Stage) (told t : List Note) (u : Stage) (bad : BadLine) → StopsAt plan start lines bad told u → t ≡ told ++ notes.Fault (fault_of bad) ∷ [] → IsStopped plan ending lines start t u
+closed_bad plan ending lines start told t u bad stops is = inr (inr (bad, record { told = told; ran = stops; notes = is }))
+
+-- and whose note may be told
+may_close : (plan : Plan) (ending : Option Fault) (lines : List (List ℕ)) (start : Stage) (told t : List Note) (u : Stage) → Runs plan 1 start lines told u → (t ≡ told) ⊎ (t ≡ told ++ closing_of ending u ∷ []) → IsStopped plan ending lines start t u
+may_close plan ending lines start told t u runs (inl p) = inl (rw p (all_first plan start lines told u runs))
+may_close plan ending lines start told t u runs (inr p) = closed_whole plan ending lines start told t u runs p
+
+may_close_bad : (plan : Plan) (ending : Option Fault) (lines : List (List ℕ)) (start : Stage) (told t : List Note) (u : Stage) (bad : BadLine) → StopsAt plan start lines bad told u → (t ≡ told) ⊎ (t ≡ told ++ notes.Fault (fault_of bad) ∷ []) → IsStopped plan ending lines start t u
+may_close_bad plan ending lines start told t u bad stops (inl p) = inl (rw p (stop_first plan start lines bad told u stops))
+may_close_bad plan ending lines start told t u bad stops (inr p) = closed_bad plan ending lines start told t u bad stops p
+
 -- all lines were run, and the run was closed
 pub done_from : (plan : Plan) (lines : List (List ℕ)) (start : Stage) (told t : List Note) (u : Stage) (tower : Option Tower) (shelf' : List Slot) (s : Status) → Runs plan 1 start lines told u → tower ≡ Some u.run.tower → shelf' ≡ u.shelf → HasNames start.shelf shelf' → ClosedBy statuses.Done (notes.End (now_of u.run.tower)) told s t → PlayOutcomes plan None lines start s t tower shelf'
 done_from plan lines start told t u tower shelf' statuses.Done runs left after names c = (refl, record { told = told; reached = u; ran = runs; notes = c.1; left = left; shelf = after })
-done_from plan lines start told t u tower shelf' statuses.WriteFault runs left after names c = record { told = told; reached = u; first = all_first plan start lines told u runs; closing = extends_one told t (notes.End (now_of u.run.tower)) c; left = left; after = after }
-done_from plan lines start told t u tower shelf' statuses.Memory runs left after names c = (part_from plan start lines told t u (notes.End (now_of u.run.tower)) (all_first plan start lines told u runs) c, names)
+done_from plan lines start told t u tower shelf' statuses.WriteFault runs left after names c = record { reached = u; stopped = closed_whole plan None lines start told t u runs c; left = left; after = after }
+done_from plan lines start told t u tower shelf' statuses.Memory runs left after names c = (u, may_close plan None lines start told t u runs c, names)
 done_from plan lines start told t u tower shelf' s runs left after names c = cc
 
 -- all lines were run, and the fault that reading ended with was told
 read_fault_from : (plan : Plan) (lines : List (List ℕ)) (start : Stage) (told t : List Note) (u : Stage) (tower : Option Tower) (shelf' : List Slot) (s : Status) → Runs plan 1 start lines told u → tower ≡ Some u.run.tower → shelf' ≡ u.shelf → HasNames start.shelf shelf' → ClosedBy statuses.ReadFault (notes.Fault faults.ReadFault) told s t → PlayOutcomes plan (Some faults.ReadFault) lines start s t tower shelf'
 read_fault_from plan lines start told t u tower shelf' statuses.ReadFault runs left after names c = (refl, record { told = told; reached = u; ran = runs; notes = c.1; left = left; shelf = after })
-read_fault_from plan lines start told t u tower shelf' statuses.WriteFault runs left after names c = record { told = told; reached = u; first = all_first plan start lines told u runs; closing = extends_one told t (notes.Fault faults.ReadFault) c; left = left; after = after }
-read_fault_from plan lines start told t u tower shelf' statuses.Memory runs left after names c = (part_from plan start lines told t u (notes.Fault faults.ReadFault) (all_first plan start lines told u runs) c, names)
+read_fault_from plan lines start told t u tower shelf' statuses.WriteFault runs left after names c = record { reached = u; stopped = closed_whole plan (Some faults.ReadFault) lines start told t u runs c; left = left; after = after }
+read_fault_from plan lines start told t u tower shelf' statuses.Memory runs left after names c = (u, may_close plan (Some faults.ReadFault) lines start told t u runs c, names)
 read_fault_from plan lines start told t u tower shelf' s runs left after names c = cc
 
 too_large_from : (plan : Plan) (lines : List (List ℕ)) (start : Stage) (told t : List Note) (u : Stage) (tower : Option Tower) (shelf' : List Slot) (s : Status) → Runs plan 1 start lines told u → tower ≡ Some u.run.tower → shelf' ≡ u.shelf → HasNames start.shelf shelf' → ClosedBy statuses.TooLarge (notes.Fault faults.TooLarge) told s t → PlayOutcomes plan (Some faults.TooLarge) lines start s t tower shelf'
 too_large_from plan lines start told t u tower shelf' statuses.TooLarge runs left after names c = (refl, record { told = told; reached = u; ran = runs; notes = c.1; left = left; shelf = after })
-too_large_from plan lines start told t u tower shelf' statuses.WriteFault runs left after names c = record { told = told; reached = u; first = all_first plan start lines told u runs; closing = extends_one told t (notes.Fault faults.TooLarge) c; left = left; after = after }
-too_large_from plan lines start told t u tower shelf' statuses.Memory runs left after names c = (part_from plan start lines told t u (notes.Fault faults.TooLarge) (all_first plan start lines told u runs) c, names)
+too_large_from plan lines start told t u tower shelf' statuses.WriteFault runs left after names c = record { reached = u; stopped = closed_whole plan (Some faults.TooLarge) lines start told t u runs c; left = left; after = after }
+too_large_from plan lines start told t u tower shelf' statuses.Memory runs left after names c = (u, may_close plan (Some faults.TooLarge) lines start told t u runs c, names)
 too_large_from plan lines start told t u tower shelf' s runs left after names c = cc
 
 pub ended_from : (plan : Plan) (lines : List (List ℕ)) (start : Stage) (told t : List Note) (u : Stage) (tower : Option Tower) (shelf' : List Slot) (s : Status) (fault : Fault) → IsEnding (Some fault) → Runs plan 1 start lines told u → tower ≡ Some u.run.tower → shelf' ≡ u.shelf → HasNames start.shelf shelf' → ClosedBy (status_of fault) (notes.Fault fault) told s t → PlayOutcomes plan (Some fault) lines start s t tower shelf'
@@ -105,8 +113,8 @@ ended_from plan lines start told t u tower shelf' s fault is runs left after nam
 -- a line was outside the grammar, and its fault was told
 bad_closed : (plan : Plan) (ending : Option Fault) (lines : List (List ℕ)) (start : Stage) (told t : List Note) (u : Stage) (tower : Option Tower) (shelf' : List Slot) (s : Status) (bad : BadLine) (line n field : ℕ) → fault_of bad ≡ faults.Schedule line n field → StopsAt plan start lines bad told u → tower ≡ Some u.run.tower → shelf' ≡ u.shelf → HasNames start.shelf shelf' → ClosedBy (statuses.Schedule line n field) (notes.Fault (fault_of bad)) told s t → PlayOutcomes plan ending lines start s t tower shelf'
 bad_closed plan ending lines start told t u tower shelf' (statuses.Schedule l m f) bad line n field is stops left after names c = (bad, is ∙ cc, record { told = told; reached = u; ran = stops; notes = c.1; left = left; shelf = after })
-bad_closed plan ending lines start told t u tower shelf' statuses.WriteFault bad line n field is stops left after names c = record { told = told; reached = u; first = stop_first plan start lines bad told u stops; closing = extends_one told t (notes.Fault (fault_of bad)) c; left = left; after = after }
-bad_closed plan ending lines start told t u tower shelf' statuses.Memory bad line n field is stops left after names c = (part_from plan start lines told t u (notes.Fault (fault_of bad)) (stop_first plan start lines bad told u stops) c, names)
+bad_closed plan ending lines start told t u tower shelf' statuses.WriteFault bad line n field is stops left after names c = record { reached = u; stopped = closed_bad plan ending lines start told t u bad stops c; left = left; after = after }
+bad_closed plan ending lines start told t u tower shelf' statuses.Memory bad line n field is stops left after names c = (u, may_close_bad plan ending lines start told t u bad stops c, names)
 bad_closed plan ending lines start told t u tower shelf' s bad line n field is stops left after names c = cc
 
 schedule_is : (line : ℕ) (e : LineError) → (n : ℕ) × (field : ℕ) × (fault_at line e ≡ faults.Schedule line n field)
@@ -126,25 +134,24 @@ bad_from plan ending lines start told t u tower shelf' s bad stops left after na
 
 -- the run was stopped
 pub stop_from : (plan : Plan) (ending : Option Fault) (lines : List (List ℕ)) (start : Stage) (t : List Note) (u : Stage) (tower : Option Tower) (shelf' : List Slot) (stop : Stop) → LinesRan plan start lines t u (Err stop) → tower ≡ Some u.run.tower → shelf' ≡ u.shelf → HasNames start.shelf shelf' → PlayOutcomes plan ending lines start (status_stopped stop) t tower shelf'
-stop_from plan ending lines start t u tower shelf' stops.Memory ran left after names = (ran, names)
-stop_from plan ending lines start t u tower shelf' stops.WriteFault ran left after names = record { told = t; reached = u; first = ran; closing = record { notes = []; trace = sym (append-nil t) }; left = left; after = after }
+stop_from plan ending lines start t u tower shelf' stops.Memory ran left after names = (ran.0, inl ran.1, names)
+stop_from plan ending lines start t u tower shelf' stops.WriteFault ran left after names = record { reached = u; stopped = inl ran; left = left; after = after }
 
 -- a stack that is no TOML, or breaks a rule
-pub not_toml_from : (known : List ℕ → Bool) (text : List ℕ) (s : Status) (t : List Note) → ReadsRunnable known (Err stack.NotToml) text → RefusedBy faults.NotToml s t → StackOutcomes known text s t
-not_toml_from known text statuses.NotToml t reads r = (reads, r.1)
-not_toml_from known text statuses.WriteFault t reads r = (faults.NotToml, r)
-not_toml_from known text statuses.Memory t reads (inl p) = inl p
-not_toml_from known text statuses.Memory t reads (inr p) = inr (faults.NotToml, p)
-not_toml_from known text s t reads r = cc
+refused_stack : (known : List ℕ → Bool) (ending : Option Fault) (s : Script) (shelf : List Slot) (status : Status) (t : List Note) (tower : Option Tower) (shelf' : List Slot) (error : StackError) (fault : Fault) → ReadsRunnable known (Err error) s.stack → stack_fault error ≡ Some fault → RefusedBy fault status t → tower ≡ None → shelf' ≡ shelf → ScriptOutcomes known ending s shelf status t tower shelf'
+refused_stack known ending s shelf status t None shelf' error fault reads is refused left same = (inr (record { error = error; reads = reads; fault = fault; is_its = is; refused = refused }), same)
+refused_stack known ending s shelf status t (Some a) shelf' error fault reads is refused left same = cc
 
-pub rule_from : (known : List ℕ → Bool) (text : List ℕ) (s : Status) (t : List Note) (n item : ℕ) → ReadsRunnable known (Err (stack.StackRule n item)) text → RefusedBy (faults.StackRule n item) s t → StackOutcomes known text s t
-rule_from known text (statuses.StackRule m k) t n item reads r =
-    let same : stack.StackRule n item ≡ stack.StackRule m k = cc in
-    (subst (λ (e : StackError). ReadsRunnable known (Err e) text) same reads, r.1 ∙ cc)
-rule_from known text statuses.WriteFault t n item reads r = (faults.StackRule n item, r)
-rule_from known text statuses.Memory t n item reads (inl p) = inl p
-rule_from known text statuses.Memory t n item reads (inr p) = inr (faults.StackRule n item, p)
-rule_from known text s t n item reads r = cc
+pub not_toml_from : (known : List ℕ → Bool) (ending : Option Fault) (s : Script) (shelf : List Slot) (status : Status) (t : List Note) (tower : Option Tower) (shelf' : List Slot) → ReadsRunnable known (Err stack.NotToml) s.stack → RefusedBy faults.NotToml status t → tower ≡ None → shelf' ≡ shelf → ScriptOutcomes known ending s shelf status t tower shelf'
+not_toml_from known ending s shelf status t tower shelf' reads refused left same = refused_stack known ending s shelf status t tower shelf' stack.NotToml faults.NotToml reads refl refused left same
+
+pub rule_from : (known : List ℕ → Bool) (ending : Option Fault) (s : Script) (shelf : List Slot) (status : Status) (t : List Note) (tower : Option Tower) (shelf' : List Slot) (n item : ℕ) → ReadsRunnable known (Err (stack.StackRule n item)) s.stack → RefusedBy (faults.StackRule n item) status t → tower ≡ None → shelf' ≡ shelf → ScriptOutcomes known ending s shelf status t tower shelf'
+rule_from known ending s shelf status t tower shelf' n item reads refused left same = refused_stack known ending s shelf status t tower shelf' (stack.StackRule n item) (faults.StackRule n item) reads refl refused left same
+
+-- memory was not found for the stack
+pub no_memory_from : (known : List ℕ → Bool) (ending : Option Fault) (s : Script) (shelf : List Slot) (status : Status) (t : List Note) (tower : Option Tower) (shelf' : List Slot) → IsOutOfMemory status t tower → shelf' ≡ shelf → ScriptOutcomes known ending s shelf status t tower shelf'
+no_memory_from known ending s shelf status t None shelf' m same = (inl m, same)
+no_memory_from known ending s shelf status t (Some a) shelf' m same = let no : Some a ≡ None = m.left in cc
 
 -- a stack that was accepted
 pub script_from : (known : List ℕ → Bool) (ending : Option Fault) (s : Script) (shelf : List Slot) (w : Run) (status : Status) (t : List Note) (tower : Option Tower) (shelf' : List Slot) (plan : Plan) → ReadsRunnable known (Ok plan) s.stack → ((slots : List Slot) → IsOpening plan slots (stage w slots)) → IsSome tower → PlayOutcomes plan ending s.lines (stage w shelf) status t tower shelf' → ScriptOutcomes known ending s shelf status t tower shelf'
@@ -179,10 +186,20 @@ ran_fault known words left left' bytes shelf s t tower shelf' none read small o 
 pub ran_large : (known : List ℕ → Bool) (words : Option ℕ) (left left' : Option (List ℕ)) (bytes used : List ℕ) (shelf : List Slot) (s : Status) (t : List Note) (tower : Option Tower) (shelf' : List Slot) → words ≡ None → Consumes left left' bytes → 16777216 < length bytes → used ≡ take 16777216 bytes → ((IsOutOfMemory s t tower × (shelf' ≡ shelf)) ⊎ InputOutcomes known (Some faults.TooLarge) (script_in false used) shelf s t tower shelf') → RunOutcomes known words left left' shelf s t tower shelf'
 ran_large known words left left' bytes used shelf s t tower shelf' none read large is o = rw none (ran known left left' bytes used (Some faults.TooLarge) shelf s t tower shelf' is read large o)
 
+-- no stack is refused by a read fault
+stack_not_read : (error : StackError) (fault : Fault) → stack_fault error ≡ Some fault → statuses.ReadFault ≡ status_of fault → ⊥
+stack_not_read stack.Memory fault is h = cc
+stack_not_read stack.NotToml fault is h = let no : statuses.ReadFault ≡ statuses.NotToml = h ∙ ap status_of (sym (same_Some faults.NotToml fault is)) in cc
+stack_not_read (stack.StackRule n item) fault is h = let no : statuses.ReadFault ≡ statuses.StackRule n item = h ∙ ap status_of (sym (same_Some (faults.StackRule n item) fault is)) in cc
+
+script_not_read : (known : List ℕ → Bool) (text : List ℕ) (t : List Note) → IsOutOfMemory statuses.ReadFault t None ⊎ IsRefusedStack known text statuses.ReadFault t → ⊥
+script_not_read known text t (inl m) = let no : statuses.ReadFault ≡ statuses.Memory = m.memory in cc
+script_not_read known text t (inr r) = stack_not_read r.error r.fault r.is_its r.refused.0
+
 -- a read fault is told only where a read failed
 no_read_fault : (known : List ℕ → Bool) (script : Option Script) (shelf : List Slot) (t : List Note) (tower : Option Tower) (shelf' : List Slot) → InputOutcomes known (Some faults.TooLarge) script shelf statuses.ReadFault t tower shelf' → ⊥
 no_read_fault known None shelf t tower shelf' (left, r, same) = cc
-no_read_fault known (Some s) shelf t None shelf' o = o.0
+no_read_fault known (Some s) shelf t None shelf' o = script_not_read known s.stack t o.0
 no_read_fault known (Some s) shelf t (Some a) shelf' (plan, reads, start, opens, played) = cc
 
 pub not_read : (known : List ℕ → Bool) (script : Option Script) (shelf : List Slot) (s : Status) (t : List Note) (tower : Option Tower) (shelf' : List Slot) → ((IsOutOfMemory s t tower × (shelf' ≡ shelf)) ⊎ InputOutcomes known (Some faults.TooLarge) script shelf s t tower shelf') → s ≡ statuses.ReadFault → ⊥

@@ -1,5 +1,5 @@
 -- Lines that are run one after the other.
-use Rattle.std.proofs.Common.{◌≡◌, ℕ, zero, suc, ◌+◌, ◌<◌, List, [], ◌∷◌, ◌++◌, length, map, take, get_or, slice_get, Option, Some, Result, Err, Bor, refl, sym, ap, ◌∙◌, arith, append_assoc, add-one, add-zero, subst}
+use Rattle.std.proofs.Common.{◌≡◌, ℕ, zero, suc, ◌+◌, ◌<◌, List, [], ◌∷◌, ◌++◌, length, map, take, get_or, slice_get, Option, Some, Result, Err, ◌⊎◌, inl, inr, Bor, refl, sym, ap, ◌∙◌, arith, append_assoc, add-one, add-zero, subst}
 use Rattle.std.proofs.lemmas.List.{append-nil, length-map, length-take}
 use Rattle.std.proofs.Math.Seq.{take-append_seam}
 use Rattle.bstr.specs.Text.{without_terminator}
@@ -12,11 +12,14 @@ use Rattle.rina_run.specs.declared.output.Stop.TheVariants as stops
 use Rattle.rina_words.specs.Built.{event_at}
 use Rattle.rina_notes.specs.Look.{Leads, Extends}
 use Rattle.rina_words.specs.Step.{Stage}
-use Rattle.rina_run.specs.Run.{LineDoes, LineRan, LinesRan, IsBad, Runs, RanPart, StopsAt}
+use Rattle.rina_run.specs.Run.{LineDoes, LineRan, LinesRan, IsBad, Runs, StopsAt}
 
 -- the notes before, where the trace went on
 pub front_is : (old new : List Note) → Extends old new → take (length old) new ≡ old
 front_is old new p = rw p.trace (take-append_seam old p.notes)
+
+pub front_of : (P : List Note → Type 0) (old new : List Note) → Leads P old new → take (length old) new ≡ old
+front_of P old new p = rw p.trace (take-append_seam old p.notes)
 
 -- the line of this number follows those that were run
 runs_more : (plan : Plan) (number : ℕ) (w u v : Stage) (ls : List (List ℕ)) (l : List ℕ) (ns more : List Note) → Runs plan number w ls ns u → LineDoes plan (number + length ls) (event_at l) u more v → Runs plan number w (ls ++ l ∷ []) (ns ++ more) v
@@ -56,10 +59,6 @@ line_on plan w u v ls i d number line ns after lt number_is line_is runs p =
     let does' : LineDoes plan (1 + length (take i (texts_of ls))) (event_at (f (get_or ls i d))) u p.notes v = subst (λ (l : List ℕ). LineDoes plan (1 + length (take i (texts_of ls))) (event_at l) u p.notes v) line_is does in
     rw (taken_more f ls i d lt, p.trace) (runs_more plan 1 w u v (take i (texts_of ls)) (f (get_or ls i d)) ns p.notes runs does')
 
--- the lines so far, and some notes of the next one
-pub part_of : (plan : Plan) (w u : Stage) (ls : List (List ℕ)) (i : ℕ) (ns after : List Note) → Runs plan 1 w (take i ls) ns u → Extends ns after → RanPart plan w ls after
-part_of plan w u ls i ns after runs more = record { reached = u; told = ns; first = record { count = i; runs = runs }; more = more }
-
 -- the next line is outside the grammar
 pub stops_at : (plan : Plan) (w u v : Stage) (ls : List (Bor (List ℕ))) (i : ℕ) (d : Bor (List ℕ)) (number : ℕ) (line : List ℕ) (e : LineError) (ns after : List Note) → i < length ls → number ≡ i → line ≡ without_terminator (get_or ls i d).now
     → Runs plan 1 w (take i (texts_of ls)) ns u → IsBad line e u ns v after → StopsAt plan w (texts_of ls) (record { number = number + 1; error = e }) after v
@@ -74,10 +73,16 @@ stops_at plan w u v ls i d number line e ns after lt number_is line_is runs bad 
       runs = rw (bad.same, bad.trace) runs;
     }
 
+-- memory was not found in the next line, which told nothing or all of its notes
+memory_in : (plan : Plan) (w u v : Stage) (ls : List (Bor (List ℕ))) (i : ℕ) (d : Bor (List ℕ)) (number : ℕ) (line : List ℕ) (ns after : List Note) → i < length ls → number ≡ i → line ≡ without_terminator (get_or ls i d).now
+    → Runs plan 1 w (take i (texts_of ls)) ns u → (after ≡ ns) ⊎ Leads (λ ms. LineDoes plan (number + 1) (event_at line) u ms v) ns after → LinesRan plan w (texts_of ls) after v (Err stops.Memory)
+memory_in plan w u v ls i d number line ns after lt number_is line_is runs (inl same) = (u, record { count = i; runs = rw same runs })
+memory_in plan w u v ls i d number line ns after lt number_is line_is runs (inr leads) = (v, record { count = i + 1; runs = line_on plan w u v ls i d number line ns after lt number_is line_is runs leads })
+
 -- the run stopped in the next line
 pub stopped_in : (plan : Plan) (w u v : Stage) (ls : List (Bor (List ℕ))) (i : ℕ) (d : Bor (List ℕ)) (number : ℕ) (line : List ℕ) (ns after : List Note) (e : Stop) (r : Result (Option BadLine) Stop) → i < length ls → number ≡ i → line ≡ without_terminator (get_or ls i d).now
     → Runs plan 1 w (take i (texts_of ls)) ns u → LineRan plan (number + 1) line u ns v after (Err e) → r ≡ Err e → LinesRan plan w (texts_of ls) after v r
-stopped_in plan w u v ls i d number line ns after stops.Memory r lt number_is line_is runs ran is = rw is (part_of plan w u (texts_of ls) i ns after runs ran)
+stopped_in plan w u v ls i d number line ns after stops.Memory r lt number_is line_is runs ran is = rw is (memory_in plan w u v ls i d number line ns after lt number_is line_is runs ran)
 stopped_in plan w u v ls i d number line ns after stops.WriteFault r lt number_is line_is runs ran is = rw is (record { count = i + 1; runs = line_on plan w u v ls i d number line ns after lt number_is line_is runs ran })
 
 pub front_push : (old new : List Note) (note : Note) → new ≡ old ++ note ∷ [] → take (length old) new ≡ old

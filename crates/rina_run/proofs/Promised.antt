@@ -1,11 +1,13 @@
 -- What a tower that stands promises of each of its DIFs.
 use Rattle.std.proofs.Common.{Option, Some, None, IfSome}
 use Rattle.rina_iface.specs.Seen.{Seen}
+use Rattle.rina_dif_law.proofs.Lawfully.{are_lawful}
 use Rattle.rina_dif.specs.declared.dif.Dif.{Dif}
+use Rattle.rina_dif.specs.Shown.{seen_of as seen_of_dif}
 use Rattle.rina_dif.specs.Holding.{Stands}
 use Rattle.rina_tower.specs.declared.tower.Tower.{Tower, Rank', Wires}
 use Rattle.rina_tower.specs.Stands.{IsTower}
-use Rattle.rina_run.specs.Promises.{AccountsAll, CarriesAll, CausesAll, IsCarriedBy, IsCausedIn, IsInAccount, IsRoutedIn, OfEachDif, RoutesAll}
+use Rattle.rina_run.specs.Promises.{AccountsAll, CarriesAll, CausesAll, IsCarriedBy, IsCausedIn, IsInAccount, IsLawfulIn, IsRoutedIn, LawfulAll, OfEachDif, RoutesAll}
 
 -- what follows of a DIF that stands holds of each
 of_each : (Promise : Dif → Seen → Type 0) → ((d : Dif) (below : Seen) → Stands d below → Promise d below) → (t : Tower) → IsTower t → OfEachDif Promise t
@@ -21,6 +23,12 @@ carried d below stands = stands.1.carrying.entries
 
 pub carried_if : (tower : Option Tower) → IfSome tower IsTower → IfSome tower CarriesAll
 carried_if = of_each_if IsCarriedBy carried
+
+lawful_in : (d : Dif) (below : Seen) → Stands d below → IsLawfulIn d below
+lawful_in d below stands = (stands.0, stands.1.tied, are_lawful (seen_of_dif d) stands.0 below stands.1.standing)
+
+pub lawful_if : (tower : Option Tower) → IfSome tower IsTower → IfSome tower LawfulAll
+lawful_if = of_each_if IsLawfulIn lawful_in
 
 in_account : (d : Dif) (below : Seen) → Stands d below → IsInAccount d below
 in_account d below stands = (stands.0, stands.1.standing, stands.1.accounted)

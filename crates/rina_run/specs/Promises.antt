@@ -5,7 +5,10 @@ use Rattle.rina_law.specs.Direction.{Direction}
 use Rattle.rina_dif_law.specs.Accounted.{IsAccounted}
 use Rattle.rina_dif_law.specs.Carried.{AreCarried}
 use Rattle.rina_dif_law.specs.Caused.{AreCaused}
+use Rattle.rina_dif_law.specs.Lawful.{AreLawful}
 use Rattle.rina_dif_law.specs.Standing.{IsStanding}
+use Rattle.rina_data.specs.Configs.{config_of}
+use Rattle.rina_flows.specs.Calls.{AreTied}
 use Rattle.rina_dif.specs.declared.dif.Dif.{Dif}
 use Rattle.rina_dif.specs.Routing.{HaveRoutes}
 use Rattle.rina_dif.specs.Shown.{seen_of as seen_of_dif}
@@ -24,6 +27,13 @@ IsCarriedBy d below = AreCarried (seen_of_dif d) below
 -- and so at every rank
 abbrev pub CarriesAll : Tower → Type 0
 CarriesAll = OfEachDif IsCarriedBy
+
+-- each connection has the state of the direction in which its end sends, and each of these directions is lawful
+abbrev pub IsLawfulIn : Dif → Seen → Type 0
+IsLawfulIn d below = (lines : List Direction) × AreTied (config_of d.settings) d.clock d.flows lines × AreLawful (seen_of_dif d) lines below
+
+abbrev pub LawfulAll : Tower → Type 0
+LawfulAll = OfEachDif IsLawfulIn
 
 -- each IPC process is in account for each key of a PDU, where these are the directions that stand behind its flows
 abbrev pub IsInAccount : Dif → Seen → Type 0

@@ -1,5 +1,5 @@
 -- A run: the lines of a schedule one after the other, from a tower that was just built.
-use Rattle.std.specs.Prelude.{◌≡◌, ℕ, ◌+◌, List, [], ◌∷◌, ◌++◌, take, slice_get, Option, Some, None, Result, Ok, Err}
+use Rattle.std.specs.Prelude.{◌≡◌, ℕ, ◌+◌, List, [], ◌∷◌, ◌++◌, take, slice_get, Option, Some, None, Result, Ok, Err, ◌⊎◌}
 use Rattle.rina_report.specs.declared.note.Note.{Note}
 use Rattle.rina_schedule.specs.declared.error.LineError.{LineError}
 use Rattle.rina_schedule.specs.declared.event.Event.{Event}
@@ -8,7 +8,7 @@ use Rattle.rina_words.specs.Built.{event_at}
 use Rattle.rina_run.specs.declared.output.Stop.{Stop}
 use Rattle.rina_run.specs.declared.output.Stop.TheVariants as stops
 use Rattle.rina_run.specs.declared.lines.BadLine.{BadLine}
-use Rattle.rina_notes.specs.Look.{Leads, Extends}
+use Rattle.rina_notes.specs.Look.{Leads}
 use Rattle.rina_words.specs.Step.{Stage, Steps}
 
 -- what a line of this number does, by what it asks for: nothing where it is blank or a comment
@@ -22,10 +22,10 @@ abbrev pub Runs : Plan → ℕ → Stage → List (List ℕ) → List Note → S
 Runs plan number s [] ns s' = (ns ≡ []) × (s' ≡ s)
 Runs plan number s (l ∷ ls) ns s' = (mid : Stage) × (first : List Note) × (rest : List Note) × LineDoes plan number (event_at l) s first mid × Runs plan (number + 1) mid ls rest s' × (ns ≡ first ++ rest)
 
--- what is known after a line was run and its notes were written, by how that ended
+-- what is known after a line was run and its notes were written, by how that ended; without memory it told nothing, or all of its notes
 abbrev pub Ran : {A : Type 0} → (List Note → Type 0) → List Note → List Note → Result A Stop → Type 0
 Ran Does old new (Ok done) = Leads Does old new
-Ran Does old new (Err stops.Memory) = Extends old new
+Ran Does old new (Err stops.Memory) = (new ≡ old) ⊎ Leads Does old new
 Ran Does old new (Err stops.WriteFault) = Leads Does old new
 
 -- the line is outside the grammar, and nothing was done
@@ -38,10 +38,10 @@ pub record IsBad (line : List ℕ) (e : LineError) (s : Stage) (old : List Note)
 abbrev pub LineRan : Plan → ℕ → List ℕ → Stage → List Note → Stage → List Note → Result (Option LineError) Stop → Type 0
 LineRan plan number line s old s' new (Ok (Some e)) = IsBad line e s old s' new
 LineRan plan number line s old s' new (Ok None) = Leads (λ ns. LineDoes plan number (event_at line) s ns s') old new
-LineRan plan number line s old s' new (Err stops.Memory) = Extends old new
+LineRan plan number line s old s' new (Err stops.Memory) = (new ≡ old) ⊎ Leads (λ ns. LineDoes plan number (event_at line) s ns s') old new
 LineRan plan number line s old s' new (Err stops.WriteFault) = Leads (λ ns. LineDoes plan number (event_at line) s ns s') old new
 
--- the first lines were run
+-- the first lines were run, each with all of its notes
 pub record RanFirst (plan : Plan) (s : Stage) (lines : List (List ℕ)) (trace : List Note) (s' : Stage) : Type 0 where
   pub count : ℕ
   pub runs : Runs plan 1 s (take count lines) trace s'
@@ -55,16 +55,9 @@ pub record StopsAt (plan : Plan) (s : Stage) (lines : List (List ℕ)) (bad : Ba
   pub read : event_at line ≡ Err bad.error
   pub runs : Runs plan 1 s (take before lines) trace s'
 
--- the first lines were run, and some notes of the next one were made
-pub record RanPart (plan : Plan) (s : Stage) (lines : List (List ℕ)) (trace : List Note) : Type 0 where
-  pub reached : Stage
-  pub told : List Note
-  pub first : RanFirst plan s lines told reached
-  pub more : Extends told trace
-
 -- what is known after lines were run
 abbrev pub LinesRan : Plan → Stage → List (List ℕ) → List Note → Stage → Result (Option BadLine) Stop → Type 0
 LinesRan plan s lines trace s' (Ok None) = Runs plan 1 s lines trace s'
 LinesRan plan s lines trace s' (Ok (Some bad)) = StopsAt plan s lines bad trace s'
-LinesRan plan s lines trace s' (Err stops.Memory) = RanPart plan s lines trace
+LinesRan plan s lines trace s' (Err stops.Memory) = (reached : Stage) × RanFirst plan s lines trace reached
 LinesRan plan s lines trace s' (Err stops.WriteFault) = RanFirst plan s lines trace s'

@@ -15,6 +15,7 @@ use Rattle.rina_report.specs.declared.note.Fault.TheVariants as faults
 use Rattle.rina_schedule.specs.declared.error.LineError.{LineError}
 use Rattle.rina_schedule.specs.declared.error.LineError.TheVariants as errors
 use Rattle.rina_stack.specs.declared.plan.Plan.{Plan}
+use Rattle.rina_table.specs.declared.error.StackError.{StackError}
 use Rattle.rina_table.specs.declared.error.StackError.TheVariants as stack
 use Rattle.rina_stack.specs.Runnable.{ReadsRunnable}
 use Rattle.rina_tower.specs.declared.tower.Tower.{Tower}
@@ -24,9 +25,8 @@ use Rattle.rina_run.specs.declared.output.Stop.{Stop}
 use Rattle.rina_run.specs.declared.output.Stop.TheVariants as stops
 use Rattle.rina_run.specs.declared.outcome.Status.{Status}
 use Rattle.rina_run.specs.declared.outcome.Status.TheVariants as statuses
-use Rattle.rina_notes.specs.Look.{Extends}
 use Rattle.rina_run.specs.Opening.{IsOpening}
-use Rattle.rina_run.specs.Run.{Runs, StopsAt, RanFirst, RanPart}
+use Rattle.rina_run.specs.Run.{Runs, StopsAt, RanFirst}
 use Rattle.rina_run.specs.Script.{Script, script_in}
 use Rattle.rina_words.specs.Step.{HasNames, Stage}
 
@@ -64,12 +64,28 @@ pub record PlayedTo (Ran : List Note → Stage → Type 0) (closing : Stage → 
   pub left : tower ≡ Some reached.run.tower
   pub shelf : shelf' ≡ reached.shelf
 
--- the first lines led to this stage, and a closing note may have been added
-pub record PlayedPart (plan : Plan) (lines : List (List ℕ)) (start : Stage) (trace : List Note) (tower : Option Tower) (shelf' : List Slot) : Type 0 where
+-- what closes a run of all its lines: its end, or the fault that reading ended with
+abbrev pub closing_of : Option Fault → Stage → Note
+closing_of None s = notes.End (now_of s.run.tower)
+closing_of (Some fault) s = notes.Fault fault
+
+-- the notes of the lines that led to this stage, and the closing note behind them
+pub record IsClosed (Ran : List Note → Stage → Type 0) (closing : Stage → Note) (trace : List Note) (reached : Stage) : Type 0 where
   pub told : List Note
+  pub ran : Ran told reached
+  pub notes : trace ≡ told ++ closing reached ∷ []
+
+-- the notes of a run that was stopped at this stage: those of its first lines, each with all of its notes; or it was stopped at its close,
+-- behind all lines or at the first that is outside the grammar
+abbrev pub IsStopped : Plan → Option Fault → List (List ℕ) → Stage → List Note → Stage → Type 0
+IsStopped plan ending lines start trace reached =
+    RanFirst plan start lines trace reached
+    ⊎ (IsClosed (Runs plan 1 start lines) (closing_of ending) trace reached ⊎ ((bad : BadLine) × IsClosed (StopsAt plan start lines bad) (λ s. notes.Fault (fault_of bad)) trace reached))
+
+-- the run was stopped at this stage, and left its tower and its shelf
+pub record PlayedPart (plan : Plan) (ending : Option Fault) (lines : List (List ℕ)) (start : Stage) (trace : List Note) (tower : Option Tower) (shelf' : List Slot) : Type 0 where
   pub reached : Stage
-  pub first : RanFirst plan start lines told reached
-  pub closing : Extends told trace
+  pub stopped : IsStopped plan ending lines start trace reached
   pub left : tower ≡ Some reached.run.tower
   pub after : shelf' ≡ reached.shelf
 
@@ -79,8 +95,8 @@ PlayOutcomes plan ending lines start statuses.Done trace tower shelf' = (ending 
 PlayOutcomes plan ending lines start (statuses.Schedule line n field) trace tower shelf' = (bad : BadLine) × (fault_of bad ≡ faults.Schedule line n field) × PlayedTo (StopsAt plan start lines bad) (λ s. notes.Fault (fault_of bad)) trace tower shelf'
 PlayOutcomes plan ending lines start statuses.ReadFault trace tower shelf' = (ending ≡ Some faults.ReadFault) × PlayedTo (Runs plan 1 start lines) (λ s. notes.Fault faults.ReadFault) trace tower shelf'
 PlayOutcomes plan ending lines start statuses.TooLarge trace tower shelf' = (ending ≡ Some faults.TooLarge) × PlayedTo (Runs plan 1 start lines) (λ s. notes.Fault faults.TooLarge) trace tower shelf'
-PlayOutcomes plan ending lines start statuses.WriteFault trace tower shelf' = PlayedPart plan lines start trace tower shelf'
-PlayOutcomes plan ending lines start statuses.Memory trace tower shelf' = RanPart plan start lines trace × HasNames start.shelf shelf'
+PlayOutcomes plan ending lines start statuses.WriteFault trace tower shelf' = PlayedPart plan ending lines start trace tower shelf'
+PlayOutcomes plan ending lines start statuses.Memory trace tower shelf' = (reached : Stage) × IsStopped plan ending lines start trace reached × HasNames start.shelf shelf'
 PlayOutcomes plan ending lines start status trace tower shelf' = ⊥
 
 -- the run was refused before its first line: the fault is told, and nothing else
@@ -89,18 +105,30 @@ RefusedBy fault statuses.WriteFault trace = trace ≡ told_once fault
 RefusedBy fault statuses.Memory trace = (trace ≡ []) ⊎ (trace ≡ told_once fault)
 RefusedBy fault status trace = (status ≡ status_of fault) × (trace ≡ told_once fault)
 
--- the outcome of a stack that was not accepted
-abbrev pub StackOutcomes : (List ℕ → Bool) → List ℕ → Status → List Note → Type 0
-StackOutcomes known text statuses.NotToml trace = ReadsRunnable known (Err stack.NotToml) text × (trace ≡ told_once faults.NotToml)
-StackOutcomes known text (statuses.StackRule n item) trace = ReadsRunnable known (Err (stack.StackRule n item)) text × (trace ≡ told_once (faults.StackRule n item))
-StackOutcomes known text statuses.WriteFault trace = (fault : Fault) × (trace ≡ told_once fault)
-StackOutcomes known text statuses.Memory trace = (trace ≡ []) ⊎ ((fault : Fault) × (trace ≡ told_once fault))
-StackOutcomes known text status trace = ⊥
+-- nothing was done, since an allocation failed
+pub record IsOutOfMemory (status : Status) (trace : List Note) (tower : Option Tower) : Type 0 where
+  pub memory : status ≡ statuses.Memory
+  pub notes : trace ≡ []
+  pub left : tower ≡ None
 
--- the outcome of a script: its lines were run where its stack was accepted, and else the shelf is as it was
+-- the fault of a stack that is no TOML, or breaks a rule
+abbrev pub stack_fault : StackError → Option Fault
+stack_fault stack.Memory = None
+stack_fault stack.NotToml = Some faults.NotToml
+stack_fault (stack.StackRule n item) = Some (faults.StackRule n item)
+
+-- the stack was not accepted, and its fault is told
+pub record IsRefusedStack (known : List ℕ → Bool) (text : List ℕ) (status : Status) (trace : List Note) : Type 0 where
+  pub error : StackError
+  pub reads : ReadsRunnable known (Err error) text
+  pub fault : Fault
+  pub is_its : stack_fault error ≡ Some fault
+  pub refused : RefusedBy fault status trace
+
+-- the outcome of a script: its lines were run where its stack was accepted and memory was found for it, and else the shelf is as it was
 abbrev pub ScriptOutcomes : (List ℕ → Bool) → Option Fault → Script → List Slot → Status → List Note → Option Tower → List Slot → Type 0
 ScriptOutcomes known ending s shelf status trace (Some t) shelf' = (plan : Plan) × ReadsRunnable known (Ok plan) s.stack × (start : Stage) × IsOpening plan shelf start × PlayOutcomes plan ending s.lines start status trace (Some t) shelf'
-ScriptOutcomes known ending s shelf status trace None shelf' = StackOutcomes known s.stack status trace × (shelf' ≡ shelf)
+ScriptOutcomes known ending s shelf status trace None shelf' = (IsOutOfMemory status trace None ⊎ IsRefusedStack known s.stack status trace) × (shelf' ≡ shelf)
 
 -- the outcome of an input: where no mark was among what was read, the fault is told
 abbrev pub InputOutcomes : (List ℕ → Bool) → Option Fault → Option Script → List Slot → Status → List Note → Option Tower → List Slot → Type 0
@@ -126,12 +154,6 @@ pub record InputRan (known : List ℕ → Bool) (left left' : Option (List ℕ))
   pub read : Consumes left left' bytes
   pub ended : EndedBy ending left' bytes
   pub outcome : InputOutcomes known ending (script_in (is_whole ending) (take 16777216 bytes)) shelf status trace tower shelf'
-
--- nothing was done, since an allocation failed
-pub record IsOutOfMemory (status : Status) (trace : List Note) (tower : Option Tower) : Type 0 where
-  pub memory : status ≡ statuses.Memory
-  pub notes : trace ≡ []
-  pub left : tower ≡ None
 
 -- the outcome of a run, by the words of the command line, by what was read, and by the shelf that was handed in
 abbrev pub RunOutcomes : (List ℕ → Bool) → Option ℕ → Option (List ℕ) → Option (List ℕ) → List Slot → Status → List Note → Option Tower → List Slot → Type 0

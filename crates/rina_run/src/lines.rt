@@ -1,5 +1,5 @@
 //! The lines of a schedule, one after the other.
-ghost use Rattle.std.specs.Prelude.{◌≡◌, ◌≤◌, ◌<◌, ◌^◌, ℕ, List, [], length, map, true, Option, OnOk, OnErr, IsErrOf};
+ghost use Rattle.std.specs.Prelude.{◌≡◌, ◌≤◌, ◌<◌, ◌^◌, ℕ, List, [], length, map, take, true, Option, OnOk, OnErr, IsErrOf};
 ghost use Rattle.std.specs.Io.KnownBytes.{Appends};
 ghost use Rattle.bstr.specs.Text.{without_terminator};
 ghost use Rattle.rina_io.specs.Causes.{Rose};
@@ -13,7 +13,7 @@ ghost use Rattle.rina_run.specs.Run.{Ran, LineRan, LinesRan};
 
 use crate::input::without_end;
 use crate::output::{Stop, emit};
-use rina_base::Memory;
+use rina_base::{Memory, Seq};
 use rina_io::Sink;
 use rina_policy::Retires;
 use rina_report::Notes;
@@ -21,9 +21,19 @@ use rina_schedule::{Event, LineError};
 use rina_stack::Plan;
 use rina_words::{Run, read_event, step};
 use std::alloc::Global;
+use std::mem;
 
-/// Runs what a line asks for, and writes its notes.
-#[tactic(auto, using(crate::proofs::Playing::front_is))]
+/// Takes back the notes from a place on. Takes no memory.
+fn take_back(alloc: Global, trace: &mut Notes, from: usize)
+    ensures { trace.new ≡ take from trace.old }
+{
+    let mut notes = mem::replace(trace, Seq::new(alloc)).into_vec();
+    notes.truncate(from);
+    *trace = Seq::from_vec(notes);
+}
+
+/// Runs what a line asks for, and writes its notes. Without memory for all of them the line tells none.
+#[tactic(auto, using(crate::proofs::Playing::front_is, crate::proofs::Playing::front_of, crate::proofs::Texts::wrote_all))]
 fn run_event<K: Sink, P: Retires>(
     alloc: Global,
     plan: &Plan,
@@ -46,11 +56,12 @@ fn run_event<K: Sink, P: Retires>(
     ensures names { HasNames (P.slots shelf.old) (P.slots shelf.new) }
 {
     let from = trace.len();
-    let stepped = step(alloc, plan, run, shelf, number, event, trace);
-    let written = emit(alloc, out, trace, from);
-    match stepped {
-        Ok(()) => written,
-        Err(Memory) => Err(Stop::Memory),
+    match step(alloc, plan, run, shelf, number, event, trace) {
+        Ok(()) => emit(alloc, out, trace, from),
+        Err(Memory) => {
+            take_back(alloc, trace, from);
+            Err(Stop::Memory)
+        }
     }
 }
 

@@ -7,7 +7,7 @@ ghost use Rattle.rina_report.specs.Notes.{text_of};
 ghost use Rattle.rina_stack.specs.Plan.{IsPlan};
 ghost use Rattle.rina_tower.specs.Stands.{IsTower};
 ghost use Rattle.rina_run.specs.Opening.{IsOpening};
-ghost use Rattle.rina_run.specs.Promises.{AccountsAll, CarriesAll, CausesAll, RoutesAll};
+ghost use Rattle.rina_run.specs.Promises.{AccountsAll, CarriesAll, CausesAll, LawfulAll, RoutesAll};
 ghost use Rattle.rina_run.specs.Script.{script, script_in};
 ghost use Rattle.rina_words.specs.Step.{stage};
 ghost use Rattle.rina_run.specs.Command.{word_fault};
@@ -209,7 +209,7 @@ fn run_lines<K: Sink, P: Retires>(
 }
 
 /// Runs a script.
-#[tactic(auto, using(crate::proofs::Ending::not_toml_from, crate::proofs::Ending::rule_from, crate::proofs::Ending::script_from, crate::proofs::Ending::wrote_nothing))]
+#[tactic(auto, using(crate::proofs::Ending::not_toml_from, crate::proofs::Ending::rule_from, crate::proofs::Ending::no_memory_from, crate::proofs::Ending::script_from, crate::proofs::Ending::wrote_nothing))]
 fn run_script<K: Sink, P: Retires + Policies>(
     alloc: Global,
     ending: Option<Fault>,
@@ -272,7 +272,7 @@ fn run_input<K: Sink, P: Retires + Policies>(
 /// A run over any shelf: the words of the command line without the program's name, the input, and where the
 /// notes are written. Each line's notes are written before the next line runs.
 /// Its clauses are those of `run`, which says what each of them means.
-#[tactic(auto, using(crate::proofs::Ending::kept_if, crate::proofs::Ending::failed_by_cut, crate::proofs::Promised::carried_if, crate::proofs::Promised::accounted_if, crate::proofs::Promised::caused_if, crate::proofs::Promised::routed_if))]
+#[tactic(auto, using(crate::proofs::Ending::kept_if, crate::proofs::Ending::failed_by_cut, crate::proofs::Promised::carried_if, crate::proofs::Promised::lawful_if, crate::proofs::Promised::accounted_if, crate::proofs::Promised::caused_if, crate::proofs::Promised::routed_if))]
 fn run_over<S: Source, K: Sink, P: Retires + Policies>(
     alloc: Global,
     words: &[String],
@@ -285,6 +285,7 @@ fn run_over<S: Source, K: Sink, P: Retires + Policies>(
     ensures stands { IfSome result.tower IsTower }
     ensures kept { IfSome result.tower KeepsAll }
     ensures carried { IfSome result.tower CarriesAll }
+    ensures lawful { IfSome result.tower LawfulAll }
     ensures accounted { IfSome result.tower AccountsAll }
     ensures routed { IfSome result.tower RoutesAll }
     ensures caused { IfSome result.tower CausesAll }
@@ -329,6 +330,8 @@ pub fn run<S: Source, K: Sink, P: Retires + Policies>(
     ensures kept { IfSome result.tower KeepsAll }
     // Whatever an end of a DIF got has come to its IPC process from the rank below, piece by piece.
     ensures carried { IfSome result.tower CarriesAll }
+    // Of each flow of a DIF, all that is under way is what its connection may still take, and both ends agree on what was accepted.
+    ensures lawful { IfSome result.tower LawfulAll }
     // Of each PDU each IPC process can tell where it is: what came in or was made is out, waits, was written off, or is kept.
     ensures accounted { IfSome result.tower AccountsAll }
     // Each next hop of each IPC process is the first link of a least walk over the links that it knows.

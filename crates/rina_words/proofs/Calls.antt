@@ -1,10 +1,12 @@
 -- Single steps of a DIF, as a line does them.
-use Rattle.std.proofs.Common.{◌≡◌, ℕ, List, Option, Some, Result, Ok, Err, IfOk, refl, subst}
+use Rattle.std.proofs.Common.{◌≡◌, ◌≢◌, ℕ, List, Option, Some, Result, Ok, Err, IfOk, refl, subst}
 use Rattle.rina_base.specs.declared.memory.Memory.{Memory}
 use Rattle.rina_data.specs.declared.step.InStep.{InStep}
 use Rattle.rina_data.specs.declared.step.OutStep.{OutStep}
 use Rattle.rina_data.specs.declared.step.StepError.{StepError}
+use Rattle.rina_data.specs.declared.step.StepError.TheVariants.{Memory as NoMemory}
 use Rattle.rina_dif.specs.declared.cdap.CdapCallError.{CdapCallError}
+use Rattle.rina_dif.specs.declared.cdap.CdapCallError.TheVariants as calls
 use Rattle.rina_policy.specs.declared.policy.Head.{Head}
 use Rattle.rina_policy.specs.Slots.{Slot}
 use Rattle.rina_report.specs.declared.answer.Answer.{Answer}
@@ -25,16 +27,16 @@ abbrev moved : Run → Tower → Run
 moved w t = record { tower = t; labels = w.labels }
 
 -- a step that takes from a link
-pub calls_in : (plan : Plan) (link n : ℕ) (w : Run) (site : Site) (result : Result InStep StepError) (t : Tower) (r : Result (Option Answer) Memory) → n ≡ link_of link → InSteps site.rank site.fac site.node n result w.tower t → IfOk r (λ says. says ≡ answer_told (in_told plan site.rank) step_told result) → IfOk r (λ says. CallsIn plan link w site says (moved w t))
-calls_in plan link n w site result t (Err e) is does told = tt
-calls_in plan link n w site result t (Ok says) is does told = record { result = result; does = subst (λ (k : ℕ). InSteps site.rank site.fac site.node k result w.tower t) is does; labels = refl; told = told }
+pub calls_in : (plan : Plan) (link n : ℕ) (w : Run) (site : Site) (result : Result InStep StepError) (t : Tower) (r : Result (Option Answer) Memory) → n ≡ link_of link → result ≢ Err NoMemory → InSteps site.rank site.fac site.node n result w.tower t → IfOk r (λ says. says ≡ answer_told (in_told plan site.rank) step_told result) → IfOk r (λ says. CallsIn plan link w site says (moved w t))
+calls_in plan link n w site result t (Err e) is memory does told = tt
+calls_in plan link n w site result t (Ok says) is memory does told = record { result = result; memory = memory; does = subst (λ (k : ℕ). InSteps site.rank site.fac site.node k result w.tower t) is does; labels = refl; told = told }
 
 -- a step that gives to a link
-pub calls_out : (may : List ℕ → ℕ → List Head → ℕ → Type 0) (plan : Plan) (link n : ℕ) (w : Run) (slots slots' : List Slot) (site : Site) (result : Result OutStep StepError) (t : Tower) (r : Result (Option Answer) Memory) → n ≡ link_of link → OutSteps may slots slots' site.rank site.fac site.node n result w.tower t → IfOk r (λ says. says ≡ answer_told (out_told plan site.rank) step_told result) → IfOk r (λ says. CallsOut plan link (stage w slots) site says (stage (moved w t) slots'))
-calls_out may plan link n w slots slots' site result t (Err e) is does told = tt
-calls_out may plan link n w slots slots' site result t (Ok says) is does told = record { result = result; does = subst (λ (k : ℕ). OutSteps Anything slots slots' site.rank site.fac site.node k result w.tower t) is (any_place may slots slots' site.rank site.fac site.node n result w.tower t does); labels = refl; told = told }
+pub calls_out : (may : List ℕ → ℕ → List Head → ℕ → Type 0) (plan : Plan) (link n : ℕ) (w : Run) (slots slots' : List Slot) (site : Site) (result : Result OutStep StepError) (t : Tower) (r : Result (Option Answer) Memory) → n ≡ link_of link → result ≢ Err NoMemory → OutSteps may slots slots' site.rank site.fac site.node n result w.tower t → IfOk r (λ says. says ≡ answer_told (out_told plan site.rank) step_told result) → IfOk r (λ says. CallsOut plan link (stage w slots) site says (stage (moved w t) slots'))
+calls_out may plan link n w slots slots' site result t (Err e) is memory does told = tt
+calls_out may plan link n w slots slots' site result t (Ok says) is memory does told = record { result = result; memory = memory; does = subst (λ (k : ℕ). OutSteps Anything slots slots' site.rank site.fac site.node k result w.tower t) is (any_place may slots slots' site.rank site.fac site.node n result w.tower t does); labels = refl; told = told }
 
 -- bytes for an IPC process
-pub calls_cdap : (bytes : List ℕ) (w : Run) (site : Site) (result : Result (List ℕ) CdapCallError) (t : Tower) (r : Result (Option Answer) Memory) → AsksAt site.rank site.fac site.node bytes result w.tower t → IfOk r (λ says. says ≡ answer_told (λ answer. Some (answers.Cdap answer)) cdap_told result) → IfOk r (λ says. CallsCdap bytes w site says (moved w t))
-calls_cdap bytes w site result t (Err e) does told = tt
-calls_cdap bytes w site result t (Ok says) does told = record { result = result; does = does; labels = refl; told = told }
+pub calls_cdap : (bytes : List ℕ) (w : Run) (site : Site) (result : Result (List ℕ) CdapCallError) (t : Tower) (r : Result (Option Answer) Memory) → result ≢ Err calls.Memory → AsksAt site.rank site.fac site.node bytes result w.tower t → IfOk r (λ says. says ≡ answer_told (λ answer. Some (answers.Cdap answer)) cdap_told result) → IfOk r (λ says. CallsCdap bytes w site says (moved w t))
+calls_cdap bytes w site result t (Err e) memory does told = tt
+calls_cdap bytes w site result t (Ok says) memory does told = record { result = result; memory = memory; does = does; labels = refl; told = told }

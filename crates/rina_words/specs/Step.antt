@@ -11,14 +11,20 @@ use Rattle.rina_data.specs.declared.step.OutStep.{OutStep}
 use Rattle.rina_data.specs.declared.step.StepError.{StepError}
 use Rattle.rina_data.specs.declared.step.StepError.TheVariants.{Memory as NoMemory}
 use Rattle.rina_dif.specs.declared.cdap.CdapCallError.{CdapCallError}
+use Rattle.rina_dif.specs.declared.cdap.CdapCallError.TheVariants as calls
 use Rattle.rina_dif.specs.declared.shown.Shown.{Shown}
 use Rattle.rina_law.specs.declared.entry.Entry.{Entry}
 use Rattle.rina_iface.specs.declared.ask.Ask.{Ask}
 use Rattle.rina_iface.specs.declared.error.RegisterError.{RegisterError}
+use Rattle.rina_iface.specs.declared.error.RegisterError.TheVariants as register
 use Rattle.rina_iface.specs.declared.error.UnregisterError.{UnregisterError}
+use Rattle.rina_iface.specs.declared.error.UnregisterError.TheVariants as unregister
 use Rattle.rina_iface.specs.declared.error.FreeError.{FreeError}
+use Rattle.rina_iface.specs.declared.error.FreeError.TheVariants as free
 use Rattle.rina_iface.specs.declared.error.AllocateError.{AllocateError}
+use Rattle.rina_iface.specs.declared.error.AllocateError.TheVariants as allocate
 use Rattle.rina_iface.specs.declared.error.SendError.{SendError}
+use Rattle.rina_iface.specs.declared.error.SendError.TheVariants as send
 use Rattle.rina_iface.specs.declared.ends.End.{End}
 use Rattle.rina_iface.specs.Seen.{unpassed}
 use Rattle.rina_policy.specs.declared.count.Count.{Count}
@@ -38,6 +44,7 @@ use Rattle.rina_table.specs.declared.sketch.Rounds.TheVariants.{Auto, Manual}
 use Rattle.rina_stack.specs.Plan.{names_of}
 use Rattle.rina_stack.specs.Names.{place_in}
 use Rattle.rina_tower.specs.declared.applications.AppError.{AppError}
+use Rattle.rina_tower.specs.declared.applications.AppError.TheVariants as apps
 use Rattle.rina_tower.specs.declared.tower.Tower.{Tower}
 use Rattle.rina_tower.specs.Applications.{AppAllocates, AppClaims, AppFrees, AppPasses, AppRegisters, AppSends, AppUnregisters, is_ipc_at}
 use Rattle.rina_tower.specs.Cdap.{AsksAt}
@@ -50,6 +57,7 @@ use Rattle.rina_tower.specs.Rounds.{Anything, IsRound}
 use Rattle.rina_tower.specs.Stands.{IsTower}
 use Rattle.rina_tower.specs.ClockTick.{Ticks as TowerTicks}
 use Rattle.rina_wire.specs.declared.event.WireError.{WireError}
+use Rattle.rina_wire.specs.declared.event.WireError.TheVariants as wires
 use Rattle.rina_notes.specs.declared.facility.RankedFac.{RankedFac}
 use Rattle.rina_words.specs.declared.run.Run.{Run}
 use Rattle.rina_notes.specs.declared.label.Label.{Label}
@@ -102,6 +110,7 @@ AtWire (Some wire) Call w says w' = Call wire says w'
 
 pub record CallsRegister (app : List ℕ) (w : Run) (site : Site) (says : Option Answer) (w' : Run) : Type 0 where
   pub result : Result (Unit {0}) (AppError RegisterError)
+  pub memory : result ≢ Err (apps.Call register.Memory)
   pub does : AppRegisters site.rank site.fac site.node app result w.tower w'.tower
   pub labels : w'.labels ≡ w.labels
   pub told : says ≡ answer_told (λ done. Some answers.Done) (app_told register_told) result
@@ -113,6 +122,7 @@ Registering plan fac node app w says w' = AtSite (site_at plan 1 fac node) (Call
 
 pub record CallsUnregister (app : List ℕ) (w : Run) (site : Site) (says : Option Answer) (w' : Run) : Type 0 where
   pub result : Result (Unit {0}) (AppError UnregisterError)
+  pub memory : result ≢ Err (apps.Call unregister.Memory)
   pub does : AppUnregisters site.rank site.fac site.node app result w.tower w'.tower
   pub labels : w'.labels ≡ w.labels
   pub told : says ≡ answer_told (λ done. Some answers.Done) (app_told unregister_told) result
@@ -140,6 +150,7 @@ labelled name t rank (Err e) labels = labels
 
 pub record CallsAllocate (plan : Plan) (label fac node : List ℕ) (rank : ℕ) (w : Run) (ask : Ask) (says : Option Answer) (w' : Run) : Type 0 where
   pub result : Result Port (AppError AllocateError)
+  pub memory : result ≢ Err (apps.Call allocate.Memory)
   pub does : AppAllocates rank ask result w.tower w'.tower
   pub labels : w'.labels ≡ labelled label w'.tower rank result w.labels
   pub told : says ≡ answer_told (port_answer plan w'.tower rank) (app_told (allocate_told fac node)) result
@@ -172,6 +183,7 @@ Accepting plan label fac node app w says w' =
 
 pub record CallsSend (plan : Plan) (bytes : List ℕ) (w : Run) (rank : ℕ) (port : Port) (says : Option Answer) (w' : Run) : Type 0 where
   pub result : Result Num (AppError SendError)
+  pub memory : result ≢ Err (apps.Call send.Memory)
   pub does : AppSends rank port bytes result w.tower w'.tower
   pub labels : w'.labels ≡ w.labels
   pub told : says ≡ answer_told (λ num. Some (answers.Sent num)) (app_told (send_told plan rank)) result
@@ -233,6 +245,7 @@ Reading line (Some p) w ns w' = IsRead line w p.0 p.1 ns w'
 
 pub record CallsFree (w : Run) (rank : ℕ) (port : Port) (says : Option Answer) (w' : Run) : Type 0 where
   pub result : Result (Unit {0}) (AppError FreeError)
+  pub memory : result ≢ Err (apps.Call free.Memory)
   pub does : AppFrees rank port result w.tower w'.tower
   pub labels : w'.labels ≡ w.labels
   pub told : says ≡ answer_told (λ done. Some answers.Done) (app_told free_told) result
@@ -259,6 +272,7 @@ wire_of plan name = place_in (names_of plan.wires) name
 -- an event of a wire, by what it does to the tower
 pub record CallsWire (Does : Result (Unit {0}) WireError → Tower → Tower → Type 0) (w : Run) (says : Option Answer) (w' : Run) : Type 0 where
   pub result : Result (Unit {0}) WireError
+  pub memory : result ≢ Err wires.Memory
   pub does : Does result w.tower w'.tower
   pub labels : w'.labels ≡ w.labels
   pub told : says ≡ answer_told (λ done. Some answers.Done) wire_told result
@@ -364,6 +378,7 @@ link_of link = min link 65535
 
 pub record CallsIn (plan : Plan) (link : ℕ) (w : Run) (site : Site) (says : Option Answer) (w' : Run) : Type 0 where
   pub result : Result InStep StepError
+  pub memory : result ≢ Err NoMemory
   pub does : InSteps site.rank site.fac site.node (link_of link) result w.tower w'.tower
   pub labels : w'.labels ≡ w.labels
   pub told : says ≡ answer_told (in_told plan site.rank) step_told result
@@ -373,6 +388,7 @@ TakingIn plan dif node link w says w' = AtSite (dif_site_at plan dif node) (Call
 
 pub record CallsClock (plan : Plan) (w : Run) (site : Site) (says : Option Answer) (w' : Run) : Type 0 where
   pub result : Result ClockStep StepError
+  pub memory : result ≢ Err NoMemory
   pub does : ClocksAt site.rank site.fac site.node result w.tower w'.tower
   pub labels : w'.labels ≡ w.labels
   pub told : says ≡ answer_told (clock_told plan site.rank) step_told result
@@ -383,6 +399,7 @@ Clocking plan dif node w says w' = AtSite (dif_site_at plan dif node) (CallsCloc
 -- the step lets a PDU go that the shelf picks: any place among the heads is lawful
 pub record CallsOut (plan : Plan) (link : ℕ) (s : Stage) (site : Site) (says : Option Answer) (s' : Stage) : Type 0 where
   pub result : Result OutStep StepError
+  pub memory : result ≢ Err NoMemory
   pub does : OutSteps Anything s.shelf s'.shelf site.rank site.fac site.node (link_of link) result s.run.tower s'.run.tower
   pub labels : s'.run.labels ≡ s.run.labels
   pub told : says ≡ answer_told (out_told plan site.rank) step_told result
@@ -463,6 +480,7 @@ ShowingRib line path (Ok site) w ns w' = ShowsObjects line path w site ns w'
 
 pub record CallsCdap (bytes : List ℕ) (w : Run) (site : Site) (says : Option Answer) (w' : Run) : Type 0 where
   pub result : Result (List ℕ) CdapCallError
+  pub memory : result ≢ Err calls.Memory
   pub does : AsksAt site.rank site.fac site.node bytes result w.tower w'.tower
   pub labels : w'.labels ≡ w.labels
   pub told : says ≡ answer_told (λ answer. Some (answers.Cdap answer)) cdap_told result

@@ -5,10 +5,10 @@ use Rattle.rina_words.proofs.Calls.{calls_cdap}
 use Rattle.rina_words.proofs.cdap.call_cdap.Goals as goal
 
 pub returns-in-Ok-clause-does : goal.returns-in-Ok-clause-does
-returns-in-Ok-clause-does c = calls_cdap c.args.bytes.now c.args.run.now c.args.site (Ok c.in-Ok.answer.items) _ (Ok (Some (answers.Cdap c.from_vec.result))) (c.in-Ok.ensures.does (alive _ c.in-Ok.ensures.failed (λ h. answered _ _ h.0))) (ap (λ (x : List ℕ). Some (answers.Cdap x)) c.from_vec.ensures)
+returns-in-Ok-clause-does c = calls_cdap c.args.bytes.now c.args.run.now c.args.site (Ok c.in-Ok.answer.items) _ (Ok (Some (answers.Cdap c.from_vec.result))) (answered _ _) (c.in-Ok.ensures.does (alive _ c.in-Ok.ensures.failed (λ h. answered _ _ h.0))) (ap (λ (x : List ℕ). Some (answers.Cdap x)) c.from_vec.ensures)
 
 pub returns-in-Err : goal.returns-in-Err
 returns-in-Err c = record {
-  does = calls_cdap c.args.bytes.now c.args.run.now c.args.site (Err c.in-Err.error) _ (Ok c.refused.result) (c.in-Err.ensures.does (alive _ c.in-Err.ensures.failed (λ h. grind arith))) (c.refused.ensures ∙ ap (option_map answers.Refused) c.tell_cdap.ensures);
+  does = calls_cdap c.args.bytes.now c.args.run.now c.args.site (Err c.in-Err.error) _ (Ok c.refused.result) (λ h. grind arith) (c.in-Err.ensures.does (alive _ c.in-Err.ensures.failed (λ h. grind arith))) (c.refused.ensures ∙ ap (option_map answers.Refused) c.tell_cdap.ensures);
   tower = c.cdap.ensures.valid;
 }
