@@ -1,14 +1,6 @@
-//! Public calls of the crates of a DIF, from write-offs to the DIF itself, on their happy paths. Tests alone.
+//! Policies and their shelf, queues, least walks and next hops, on tables worked out by hand. Tests alone.
 #![tactic(auto)]
 
-#[cfg(test)]
-mod account;
-#[cfg(test)]
-mod data;
-#[cfg(test)]
-mod dif;
-#[cfg(test)]
-mod flows;
 #[cfg(test)]
 mod graph;
 #[cfg(test)]

@@ -1,4 +1,4 @@
-//! Where input comes from and output goes to: sources and sinks that count their faults.
+//! What comes in and goes out: sources and sinks that count their faults, and the words of the command line.
 #![tactic(auto)]
 
 mod memory_ends;
@@ -7,6 +7,7 @@ mod source;
 mod std_ends;
 mod sure_ends;
 mod whole;
+mod words;
 
 pub use memory_ends::{MemSink, MemSource};
 pub use sink::Sink;
@@ -14,3 +15,4 @@ pub use source::{Failed, Source};
 pub use std_ends::{StdSink, StdSource};
 pub use sure_ends::{SureSink, SureSource};
 pub use whole::{Ending, LIMIT, Taken, take_all, write_all};
+pub use words::read_words;

@@ -1,4 +1,4 @@
-//! Tests of the texts: sources and sinks, lines of a schedule, notes, and what is drawn from a number.
+//! Tests of the texts: words of the command line, sources and sinks, lines of a schedule, notes, and what is drawn from a number.
 #![tactic(auto)]
 
 #[cfg(test)]
@@ -11,3 +11,5 @@ mod report;
 mod schedule;
 #[cfg(test)]
 mod seven;
+#[cfg(test)]
+mod words;

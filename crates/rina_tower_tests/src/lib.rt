@@ -1,9 +1,7 @@
-//! Wires, towers and their rounds, and the calls of applications. Tests alone.
+//! Towers and their rounds, and the calls of applications. Tests alone.
 #![tactic(auto)]
 
 #[cfg(test)]
 mod applications;
 #[cfg(test)]
 mod ranks;
-#[cfg(test)]
-mod wire;

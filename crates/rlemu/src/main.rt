@@ -4,17 +4,13 @@
 
 mod exit;
 mod policies;
-#[cfg(test)]
-mod tests;
-mod words;
 
 use exit::exit_code;
 use policies::run_with_built_in;
-use rina_io::{StdSink, StdSource};
+use rina_io::{StdSink, StdSource, read_words};
 use rina_run::Status;
 use std::io;
 use std::process::ExitCode;
-use words::read_words;
 
 fn main(rt: HostRuntime) -> ExitCode {
     let alloc = rt.alloc();
