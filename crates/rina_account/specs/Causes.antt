@@ -1,7 +1,5 @@
 -- When a PDU may be written off, cause by cause, said of plain numbers: those that the cause carries, and those beside them that it speaks of.
 use Rattle.std.specs.Prelude.{◌≡◌, ℕ, ◌+◌, ◌-◌, ◌*◌, ◌^◌, ◌%◌, ◌<◌, ◌≤◌, ◌⊎◌, Bool, false, List, Option, Some, None, Contains}
-use Rattle.rina_base.specs.declared.cause.Cause.{Cause}
-use Rattle.rina_base.specs.declared.cause.Cause.TheVariants.{Expired, NoState}
 
 -- the lifetime that was left is less than the charge of this hop
 abbrev pub IsExpired : ℕ → ℕ → Type 0
@@ -11,9 +9,9 @@ IsExpired left charge = left < charge
 abbrev pub IsUnrouted : List ℕ → ℕ → Type 0
 IsUnrouted rows dst = Contains rows dst → ⊥
 
--- the queue held as many PDUs as it may
+-- the queue has room for no more: it holds as many PDUs as it may
 abbrev pub IsFull : ℕ → ℕ → Type 0
-IsFull cap waiting = waiting ≡ cap
+IsFull cap waiting = cap ≤ waiting
 
 -- the piece was received before: its number was accepted, or is held, or is below the next one
 abbrev pub IsRepeated : List ℕ → List ℕ → ℕ → ℕ → Type 0
@@ -43,9 +41,3 @@ IsGone tick delta last_in = last_in + 2 * delta ≤ tick
 abbrev pub missing_at : Option ℕ → ℕ → ℕ
 missing_at (Some last) n = (last + 1) % 2 ^ 32
 missing_at None n = (n + 2 ^ 32 - 1) % 2 ^ 32
-
--- what a cause says of its own values alone
-abbrev pub IsLawful : Cause → Type 0
-IsLawful (Expired left charge) = IsExpired left charge
-IsLawful (NoState drf) = drf ≡ false
-IsLawful _ = Unit {0}

@@ -27,6 +27,7 @@ use Rattle.rina_dif_law.proofs.Carries.{start_carries}
 use Rattle.rina_dif_law.proofs.Founding.{start_accounted}
 use Rattle.rina_dif_law.proofs.Numbering.{start_numbered}
 use Rattle.rina_dif_law.proofs.Starting.{start_stands}
+use Rattle.rina_dif_law.proofs.Warranted.{blank_written}
 use Rattle.rina_dif.specs.declared.dif.Dif.{Dif}
 use Rattle.rina_dif.specs.Building.{AreBare, IsBare, IsFree}
 use Rattle.rina_dif.specs.Holding.{AreHoused, Holds}
@@ -114,6 +115,7 @@ pub start_holds : (d : Dif) (below : Seen) → AreKept below → d.flows.journal
 start_holds d below kept ends conns s untouched members housed routed =
     let no_ends : length d.flows.journal.ends ≡ 0 = ap (λ (es : List End). length es) ends in
     let no_conns : length d.flows.conns ≡ 0 = ap (λ (ks : List Conn). length ks) conns in
+    let clean : (i : ℕ) (process : Process) → slice_get (seen_of d).processes i ≡ Some process → process.ledger ≡ [] = λ i process is. (let p = map_at process_of d.processes i process is in ap (λ (z : Process). z.ledger) (sym p.2) ∙ untouched.clean i p.0 p.1) in
     record {
       tied = record {
         alike = omega (arith, no_ends, no_conns);
@@ -126,10 +128,11 @@ start_holds d below kept ends conns s untouched members housed routed =
       numbered = start_numbered (seen_of d) [] below s members (λ i e ids conn. absurd (none_in i e d.flows.journal.ends ends conn.end)) (λ i e is. absurd (none_in i e d.flows.journal.ends ends is));
       accounted = start_accounted (seen_of d) [] below kept s (record {
         unread = untouched.unread;
-        clean = λ i process is. (let p = map_at process_of d.processes i process is in ap (λ (z : Process). z.ledger) (sym p.2) ∙ untouched.clean i p.0 p.1);
+        clean = clean;
         apart = λ i ids is. absurd (none_in i ids (seen_of d).conns (ap (map ids_of) conns) is);
       });
       caused = none_caused (seen_of d) below ends;
+      written_off = blank_written (seen_of d) clean;
       housed = housed;
       routed = routed;
     }

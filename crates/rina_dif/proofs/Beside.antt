@@ -147,6 +147,7 @@ holds_aside d lines below below' a h = record {
   numbered = beside_after (seen_of d) below below' h.numbered a.after;
   accounted = a.accounts (seen_of d) lines refl h.accounted;
   caused = caused_on (seen_of d) (seen_of d) below below' (none_is (seen_of d) (seen_of d) refl) a.lower h.caused;
+  written_off = h.written_off;
   housed = h.housed;
   routed = h.routed;
 }

@@ -39,6 +39,7 @@ use Rattle.rina_data.proofs.Finding.{there}
 use Rattle.rina_dif_law.proofs.Founding.{bound_accounted}
 use Rattle.rina_dif_law.proofs.Keepers.{facility, offered_by}
 use Rattle.rina_dif_law.proofs.Numbering.{counts}
+use Rattle.rina_dif_law.proofs.Warranted.{bound_written}
 use Rattle.rina_flows.specs.declared.flows.Flows.{Flows}
 use Rattle.rina_flows.specs.Adding.{Adds, IsNewFlow, begun_now, turned}
 use Rattle.rina_flows.specs.Tied.{conns_of, ids_by}
@@ -207,6 +208,7 @@ module _ (d : Dif) (fixed : Fixed) (may : MayBind d fixed) (near other : NextEnd
           numbered = bound_numbers seen lines below fixed (seen_of d') lines' h.standing h.numbered bound;
           accounted = bound_accounted seen lines below fixed (seen_of d') lines' h.standing h.numbered h.accounted bound;
           caused = bound_caused seen lines below fixed (seen_of d') lines' h.standing bound h.caused;
+          written_off = bound_written seen lines fixed (seen_of d') lines' h.written_off bound;
           housed = h.housed;
           routed = h.routed;
         };
@@ -322,6 +324,6 @@ pub binds_noted : (d : Dif) (lines : List Direction) (below : Seen) (fixed : Fix
 binds_noted d lines below fixed (Ok ports) d' failed x = record { lines' = x.lines'; bound = x.bound; a_port = x.a_port; b_port = x.b_port; holds = still x.lines' x.holds }
   where
     still : (ls : List Direction) → Holds d' ls below → Holds (record d' { failed = failed }) ls below
-    still ls h = record { tied = h.tied; standing = h.standing; carrying = h.carrying; numbered = h.numbered; accounted = h.accounted; caused = h.caused; housed = h.housed; routed = h.routed }
-binds_noted d lines below fixed (Err Memory) d' failed x = (x.0, record { tied = x.1.tied; standing = x.1.standing; carrying = x.1.carrying; numbered = x.1.numbered; accounted = x.1.accounted; caused = x.1.caused; housed = x.1.housed; routed = x.1.routed })
+    still ls h = record { tied = h.tied; standing = h.standing; carrying = h.carrying; numbered = h.numbered; accounted = h.accounted; caused = h.caused; written_off = h.written_off; housed = h.housed; routed = h.routed }
+binds_noted d lines below fixed (Err Memory) d' failed x = (x.0, record { tied = x.1.tied; standing = x.1.standing; carrying = x.1.carrying; numbered = x.1.numbered; accounted = x.1.accounted; caused = x.1.caused; written_off = x.1.written_off; housed = x.1.housed; routed = x.1.routed })
 binds_noted d lines below fixed (Err e) d' failed x = absurd x

@@ -90,6 +90,7 @@ holds_claimed d waiting lines below h = (let st = h.standing in record {
   numbered = (let n = h.numbered in record { members = n.members; addressed = n.addressed; counted = n.counted; named = n.named });
   accounted = accounted_on (seen_of d) (seen_of (with_waiting d waiting)) lines lines below below h.accounted h.accounted.passed h.accounted.apart (λ i m p k is. still_before d waiting lines below i m p k is);
   caused = h.caused;
+  written_off = λ i m p off is. h.written_off i m p off (record { is_member = is.is_member; is_process = is.is_process });
   housed = h.housed;
   routed = h.routed;
 })

@@ -25,6 +25,7 @@ use Rattle.rina_dif_law.specs.Sending.{home}
 use Rattle.rina_dif_law.specs.Upward.{IsSilent}
 use Rattle.rina_dif_law.proofs.Founding.{failed_accounted}
 use Rattle.rina_dif_law.proofs.Linkless.{failed_carries, failed_numbered, failed_silent, failed_stands, first_stay, lost_silent, silent_on}
+use Rattle.rina_dif_law.proofs.Warranted.{failed_written}
 use Rattle.rina_flows.specs.declared.flows.Flows.{Flows}
 use Rattle.rina_flows.specs.Delivering.{HasStopped}
 use Rattle.rina_flows.specs.Stopping.{MayStop, StopFirst}
@@ -106,6 +107,7 @@ last_fails d at node lost port routes flows p p' lt here is knows s cap lines be
         numbered = failed_numbered (seen_of mid) lines below node l.link.port (seen_of d') l.holds.numbered by;
         accounted = failed_accounted (seen_of mid) lines below node l.link.port (seen_of d') l.holds.standing l.holds.numbered l.holds.accounted by;
         caused = failed_caused (seen_of mid) lines below node l.link.port (seen_of d') (failed_below (seen_of d) lines below at node lost.place (process_of l.process) l.link h.standing here (shown_at d at l.process l.is_process) l.stands told.1.failed) l.holds.caused by;
+        written_off = failed_written (seen_of mid) lines below node l.link.port (seen_of d') l.holds.standing l.holds.numbered l.holds.written_off by;
         housed = house.housed;
         routed = house.routed;
       },

@@ -188,7 +188,7 @@ not_home o P Q is q = subst (λ (z : Option ℕ). AtHome z P Q) (sym is) q
 
 -- whether memory was wanted is not seen
 noted : (d : Dif) (lines : List Direction) (below : Seen) (failed : Bool) → Holds d lines below → Holds (record d { failed = failed }) lines below
-noted d lines below failed h = record { tied = h.tied; standing = h.standing; carrying = h.carrying; numbered = h.numbered; accounted = h.accounted; caused = h.caused; housed = h.housed; routed = h.routed }
+noted d lines below failed h = record { tied = h.tied; standing = h.standing; carrying = h.carrying; numbered = h.numbered; accounted = h.accounted; caused = h.caused; written_off = h.written_off; housed = h.housed; routed = h.routed }
 
 steps_by : (d : Dif) (lines : List Direction) (below : Seen) (node i : ℕ) (r : Result ClockStep StepError) (d' : Dif) (failed : Bool) → home node (config_of d.settings).members ≡ Some i → StepsHere d lines below node r d' → ClockSteps d lines below node r (record d' { failed = failed }) below
 steps_by d lines below node i (Ok done) d' failed here s = record {

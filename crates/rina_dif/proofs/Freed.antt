@@ -43,6 +43,8 @@ use Rattle.rina_dif_law.proofs.Keepers.{facility}
 use Rattle.rina_dif_law.proofs.Numbering.{ended_numbered, numbered_with}
 use Rattle.rina_dif_law.proofs.Own.{own_restated}
 use Rattle.rina_dif_law.proofs.Receiving.{ended_accounted, restated_accounted}
+use Rattle.rina_dif_law.specs.Written.{AreWrittenOff}
+use Rattle.rina_dif_law.proofs.Warranted.{ended_written}
 use Rattle.rina_flows.specs.declared.flows.Flows.{Flows}
 use Rattle.rina_flows.specs.Delivering.{StopsIn}
 use Rattle.rina_flows.specs.Tied.{IsTied, ids_of}
@@ -60,7 +62,7 @@ use Rattle.rina_dif.proofs.Keeping.{home_set}
 use Rattle.rina_dif.proofs.Leaves.{has_process, shown_at}
 use Rattle.rina_dif.proofs.Owning.{arrived_seen}
 
-same_end : (o : Option End) (a b : End) → o ≡ Some a → o ≡ Some b → a ≡ b
+pub same_end : (o : Option End) (a b : End) → o ≡ Some a → o ≡ Some b → a ≡ b
 same_end o a b h g = cc
 
 -- An allocated end is closed
@@ -91,6 +93,7 @@ closes d i at end (Ok done) flows ps lt here is allocated stops lines below h =
         numbered = ended_numbered (seen_of d) lines below at Closed (seen_of d') h.numbered ended;
         accounted = ended_accounted (seen_of d) lines below at Closed (seen_of d') h.standing h.numbered h.accounted ended;
         caused = closed_caused (seen_of d) lines below at (seen_of d') ended h.caused;
+        written_off = ended_written (seen_of d) lines below at Closed (seen_of d') h.standing h.numbered h.written_off ended;
         housed = house.housed;
         routed = house.routed;
       };
@@ -201,6 +204,7 @@ withdraws d at end flows is not conns ends lines below h =
         numbered = subst (λ (z : DifSeen). IsNumbered z below) (sym seen) (restated_numbered (seen_of d) below at end h.numbered is);
         accounted = subst (λ (z : DifSeen). IsAccounted z lines below) (sym seen) (restated_accounted (seen_of d) lines below at end (freed_state end.state) h.accounted is not gone);
         caused = subst (λ (z : DifSeen). AreCaused z below) (sym seen) (freed_caused (seen_of d) below at end is h.caused);
+        written_off = subst AreWrittenOff (sym seen) (λ i m p off it stands. h.written_off i m p off (record { is_member = it.is_member; is_process = it.is_process }) stands);
         housed = h.housed;
         routed = h.routed;
       };
@@ -210,7 +214,7 @@ withdraws d at end flows is not conns ends lines below h =
 
 -- whether memory was wanted is noted
 holds_noted : (d : Dif) (failed : Bool) (lines : List Direction) (below : Seen) → Holds d lines below → Holds (record d { failed = failed }) lines below
-holds_noted d failed lines below h = record { tied = h.tied; standing = h.standing; carrying = h.carrying; numbered = h.numbered; accounted = h.accounted; caused = h.caused; housed = h.housed; routed = h.routed }
+holds_noted d failed lines below h = record { tied = h.tied; standing = h.standing; carrying = h.carrying; numbered = h.numbered; accounted = h.accounted; caused = h.caused; written_off = h.written_off; housed = h.housed; routed = h.routed }
 
 -- what `free` does, whatever it stands on
 abbrev pub FreesFor : Dif → Port → Result (Unit {0}) FreeError → Dif → Type 0

@@ -20,6 +20,7 @@ use Rattle.rina_dif_law.proofs.Finishing.{ended_carries, ended_stands}
 use Rattle.rina_dif_law.proofs.Numbering.{ended_numbered, forgotten_numbered}
 use Rattle.rina_dif_law.proofs.Receiving.{ended_accounted, forgotten_accounted}
 use Rattle.rina_dif_law.proofs.Rows.{forgotten_stands}
+use Rattle.rina_dif_law.proofs.Warranted.{ended_written, forgotten_written}
 use Rattle.rina_flows.specs.declared.flows.Flows.{Flows}
 use Rattle.rina_flows.specs.Delivering.{ForgetsIn}
 use Rattle.rina_flows.specs.Timely.{GivesUpIn}
@@ -84,6 +85,7 @@ forgets d i at (Ok true) flows ps lt here does lines below h =
           numbered = forgotten_numbered (seen_of d) lines below at (seen_of d') f.lines' h.numbered forgotten;
           accounted = forgotten_accounted (seen_of d) lines below at (seen_of d') f.lines' h.standing h.numbered h.accounted forgotten;
           caused = process_caused (seen_of d) (seen_of d') below forgotten.i _ forgotten.new_is h.caused;
+          written_off = forgotten_written (seen_of d) lines below at (seen_of d') f.lines' h.standing h.numbered h.written_off forgotten;
           housed = house.housed;
           routed = house.routed;
         };
@@ -120,6 +122,7 @@ gives_up d i at (Ok (Some num)) flows ps lt here does lines below h =
         numbered = ended_numbered (seen_of d) lines below at _ (seen_of d') h.numbered ended;
         accounted = ended_accounted (seen_of d) lines below at _ (seen_of d') h.standing h.numbered h.accounted ended;
         caused = given_up_caused (seen_of d) lines below at num.seq (seen_of d') h.standing given h.caused;
+        written_off = ended_written (seen_of d) lines below at _ (seen_of d') h.standing h.numbered h.written_off ended;
         housed = house.housed;
         routed = house.routed;
       };

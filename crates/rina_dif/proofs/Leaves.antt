@@ -34,6 +34,7 @@ use Rattle.rina_data.proofs.Finding.{there}
 use Rattle.rina_dif_law.proofs.Going.{no_step, outs_stand}
 use Rattle.rina_dif_law.proofs.Relaying.{outs_accounted}
 use Rattle.rina_dif_law.proofs.Stepping.{can_go}
+use Rattle.rina_dif_law.proofs.Warranted.{outs_written}
 use Rattle.rina_dif.specs.declared.dif.Dif.{Dif}
 use Rattle.rina_dif.specs.Holding.{Holds, Stands}
 use Rattle.rina_dif.specs.Shown.{seen_of}
@@ -132,6 +133,7 @@ leaves_hold refuses d below at n r ps below' kept kept' lt leaves lines h =
       numbered = outs_numbered refuses (seen_of d) lines below at n r (seen_of d') below' kept kept' h.standing h.numbered outs;
       accounted = outs_accounted refuses (seen_of d) lines below at n r (seen_of d') below' kept kept' h.standing h.numbered h.accounted outs;
       caused = outs_caused refuses (seen_of d) below at n r (seen_of d') below' kept' h.caused outs;
+      written_off = outs_written refuses (seen_of d) lines below at n r (seen_of d') below' h.standing h.written_off outs;
       housed = house.housed;
       routed = house.routed;
     }

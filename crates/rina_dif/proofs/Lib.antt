@@ -8,6 +8,7 @@ pub mod Causing
 pub mod Claimed
 pub mod Clocked
 pub mod Cutting
+pub mod Elsewhere
 pub mod Facing
 pub mod Failing
 pub mod Freed
@@ -38,3 +39,4 @@ pub mod Unlinked
 pub mod Ways
 pub mod Wiring
 pub mod Written
+pub mod Warrants

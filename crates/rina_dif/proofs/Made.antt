@@ -166,8 +166,8 @@ new_process s node ports p up = record {
   ledger = up.ledger;
 }
 
-pub made_new : (plan : Plan) (i : ℕ) (dif : DifPlan) (d : Dif) (old new : Seen) → slice_get plan.difs i ≡ Some dif → d.settings ≡ settings_by plan i dif → d.clock ≡ old.now → d.failed ≡ false → d.flows.journal.ends ≡ [] → d.flows.conns ≡ [] → d.waiting.items ≡ [] → d.names ≡ [] → (bare : List IpcProcess) → AreLaid plan dif d.settings dif.links old new bare → AreRouted d.settings.members dif.links (length d.settings.members) bare d.processes → IsNew plan i d old new
-made_new plan i dif d old new at are clock alive ends conns waiting names bare was routed =
+pub made_new : (plan : Plan) (i : ℕ) (dif : DifPlan) (d : Dif) (old new : Seen) → slice_get plan.difs i ≡ Some dif → d.settings ≡ settings_by plan i dif → d.clock ≡ old.now → d.failed ≡ false → d.flows.journal.ends ≡ [] → d.flows.conns ≡ [] → d.waiting.items ≡ [] → d.names ≡ [] → d.laid.ribs.entries ≡ [] → (bare : List IpcProcess) → AreLaid plan dif d.settings dif.links old new bare → AreRouted d.settings.members dif.links (length d.settings.members) bare d.processes → IsNew plan i d old new
+made_new plan i dif d old new at are clock alive ends conns waiting names kept bare was routed =
     let laid = laid_still plan dif d.settings dif.links old new (length d.settings.members) bare d.processes was routed in record {
       settings = its_settings plan i dif d.settings at are;
       clock = clock;
@@ -180,6 +180,7 @@ made_new plan i dif d old new at are clock alive ends conns waiting names bare w
       conns = conns;
       waiting = waiting;
       names = names;
+      kept = kept;
     }
 
 pub made_takes : (plan : Plan) (i : ℕ) (dif : DifPlan) (s : Settings) (below : Seen) → slice_get plan.difs i ≡ Some dif → s ≡ settings_by plan i dif → CanLay plan i below → All (Takes below s.pdu) (map (link_fixed plan dif) dif.links)

@@ -12,6 +12,7 @@ use Rattle.rina_dif_law.specs.Upward.{IsSilent}
 use Rattle.rina_dif_law.proofs.Numbering.{time_numbered}
 use Rattle.rina_dif_law.proofs.Taking.{lifted_stands}
 use Rattle.rina_dif_law.proofs.Upper.{ticked_silent}
+use Rattle.rina_dif_law.proofs.Warranted.{ticked_written}
 use Rattle.rina_flows.proofs.Lasting.{tied_later}
 use Rattle.rina_dif.specs.declared.dif.Dif.{Dif}
 use Rattle.rina_dif.specs.Holding.{Holds}
@@ -31,6 +32,7 @@ holds_later d now lines below below' le kept' lifted clock h =
       numbered = time_numbered (seen_of d) lines below below' (seen_of d') lines' kept' h.numbered lifted there;
       accounted = time_accounted (seen_of d) lines below below' (seen_of d') lines' kept' h.accounted lifted there;
       caused = caused_on (seen_of d) (seen_of d') below below' (none_same (seen_of d) (seen_of d') refl refl refl le) (lower_later (config_of d.settings) below below' kept' lifted.later) h.caused;
+      written_off = ticked_written (seen_of d) lines now (seen_of d') lines' h.written_off ticks;
       housed = h.housed;
       routed = h.routed;
     }

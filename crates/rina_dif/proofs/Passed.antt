@@ -14,6 +14,7 @@ use Rattle.rina_dif_law.proofs.Accounting.{passed_accounted}
 use Rattle.rina_dif_law.proofs.Carries.{passed_carries}
 use Rattle.rina_dif_law.proofs.Numbering.{passed_numbered}
 use Rattle.rina_dif_law.proofs.Taking.{passed_stands}
+use Rattle.rina_dif_law.proofs.Warranted.{passed_written}
 use Rattle.rina_flows.specs.declared.flows.Flows.{Flows}
 use Rattle.rina_flows.specs.Calls.{PassesOne, SameIds}
 use Rattle.rina_flows.specs.Tied.{IsInboundAt}
@@ -62,6 +63,7 @@ passes d at flows p lines below h =
         numbered = passed_numbered (seen_of d) lines below at (seen_of d') o.lines' h.numbered passed;
         accounted = passed_accounted (seen_of d) lines below at (seen_of d') o.lines' h.accounted passed;
         caused = passed_caused (seen_of d) lines below at (seen_of d') o.lines' passed h.caused;
+        written_off = passed_written (seen_of d) lines at (seen_of d') o.lines' h.written_off passed;
         housed = h.housed;
         routed = h.routed;
       };

@@ -35,6 +35,7 @@ use Rattle.rina_dif_law.proofs.Carries.{acknowledged_carries, resent_carries}
 use Rattle.rina_dif_law.proofs.Finding.{beside}
 use Rattle.rina_dif_law.proofs.Numbering.{acknowledged_numbered, resent_numbered}
 use Rattle.rina_dif_law.proofs.Rows.{acknowledged_stands, resent_stands}
+use Rattle.rina_dif_law.proofs.Warranted.{acknowledged_written, resent_written}
 use Rattle.rina_flows.specs.declared.flows.Flows.{Flows}
 use Rattle.rina_flows.specs.Calls.{Tells}
 use Rattle.rina_flows.specs.Tied.{IsAt, conns_of, ids_of, inward, outward}
@@ -211,6 +212,7 @@ acknowledges d lines below i at conn due s flows ps lt here is tells forwards do
         numbered = acknowledged_numbered (seen_of d) lines below at p.cause (seen_of d') a.lines' h.numbered acknowledged;
         accounted = acknowledged_accounted (seen_of d) lines below at p.cause (seen_of d') a.lines' h.numbered h.accounted acknowledged;
         caused = process_caused (seen_of d) (seen_of d') below acknowledged.i acknowledged.process' acknowledged.new_is h.caused;
+        written_off = acknowledged_written (seen_of d) lines below at p.cause (seen_of d') a.lines' h.standing h.numbered h.accounted h.written_off acknowledged;
         housed = p.house.housed;
         routed = p.house.routed;
       };
@@ -283,6 +285,7 @@ sends_again d lines below i at conn pdu s flows ps lt here is tells forwards doe
         numbered = resent_numbered (seen_of d) lines below at p.cause (seen_of d') a.lines' h.numbered resent;
         accounted = resent_accounted (seen_of d) lines below at p.cause (seen_of d') a.lines' h.numbered h.accounted resent;
         caused = process_caused (seen_of d) (seen_of d') below resent.i resent.process' resent.new_is h.caused;
+        written_off = resent_written (seen_of d) lines below at p.cause (seen_of d') a.lines' h.standing h.numbered h.accounted h.written_off resent;
         housed = p.house.housed;
         routed = p.house.routed;
       };

@@ -33,6 +33,7 @@ use Rattle.rina_dif_law.proofs.Carries.{offers_carry}
 use Rattle.rina_dif_law.proofs.Numbering.{offers_numbered}
 use Rattle.rina_dif_law.proofs.Giving.{offers_stand}
 use Rattle.rina_dif_law.proofs.Making.{offers_accounted}
+use Rattle.rina_dif_law.proofs.Warranted.{offers_written}
 use Rattle.rina_data.proofs.Plain.{same_place}
 use Rattle.rina_flows.specs.declared.flows.Flows.{Flows}
 use Rattle.rina_flows.specs.Calls.{Accepts, Offers as FlowsOffer}
@@ -284,6 +285,7 @@ sends_made d at sdu way made flows ps a offers puts lines below h =
         numbered = offers_numbered (seen_of d) lines below at o.parts (Ok made.num) (seen_of d') o.lines' h.standing h.numbered offer;
         accounted = offers_accounted (seen_of d) lines below at o.parts (Ok made.num) (seen_of d') o.lines' h.standing h.numbered h.accounted offer;
         caused = offered_caused (seen_of d) lines below at o.parts made.num (seen_of d') o.lines' offer.2 h.caused;
+        written_off = offers_written (seen_of d) lines at o.parts (Ok made.num) (seen_of d') o.lines' h.written_off offer;
         housed = kept.housed;
         routed = kept.routed;
       };
@@ -297,7 +299,7 @@ refailed d lines below at sdu r d' failed s = record {
   cut = s.cut;
   lines' = s.lines';
   offers = s.offers;
-  holds = record { tied = s.holds.tied; standing = s.holds.standing; carrying = s.holds.carrying; numbered = s.holds.numbered; accounted = s.holds.accounted; caused = s.holds.caused; housed = s.holds.housed; routed = s.holds.routed };
+  holds = record { tied = s.holds.tied; standing = s.holds.standing; carrying = s.holds.carrying; numbered = s.holds.numbered; accounted = s.holds.accounted; caused = s.holds.caused; written_off = s.holds.written_off; housed = s.holds.housed; routed = s.holds.routed };
 }
 
 pub sends_at : (o : Option ℕ) (d : Dif) (lines : List Direction) (below : Seen) (at : ℕ) (sdu : List ℕ) (r : Result Num SendError) (d' : Dif) → o ≡ Some at → Sends d lines below at sdu r d' → SendsAt o d lines below sdu r d'

@@ -28,6 +28,7 @@ use Rattle.rina_dif_law.specs.Caused.{AreCaused}
 use Rattle.rina_dif_law.specs.Numbered.{IsNumbered}
 use Rattle.rina_dif_law.specs.Standing.{IsStanding}
 use Rattle.rina_dif_law.proofs.Decided.{off_settles, relayed_settles}
+use Rattle.rina_dif_law.specs.Written.{AreWrittenOff}
 use Rattle.rina_data.proofs.Plain.{same_place}
 use Rattle.rina_flows.specs.declared.flows.Flows.{Flows}
 use Rattle.rina_flows.specs.Delivering.{ArrivesIn}
@@ -110,6 +111,7 @@ holds_unseen d ps lines below same house h = record {
   numbered = subst (λ (z : DifSeen). IsNumbered z below) (sym same) h.numbered;
   accounted = subst (λ (z : DifSeen). IsAccounted z lines below) (sym same) h.accounted;
   caused = subst (λ (z : DifSeen). AreCaused z below) (sym same) h.caused;
+  written_off = subst AreWrittenOff (sym same) h.written_off;
   housed = house.housed;
   routed = house.routed;
 }

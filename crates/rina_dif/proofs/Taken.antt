@@ -35,6 +35,7 @@ use Rattle.rina_data.proofs.Finding.{there}
 use Rattle.rina_dif_law.proofs.Landing.{ins_accounted}
 use Rattle.rina_dif_law.proofs.Partnered.{met}
 use Rattle.rina_dif_law.proofs.Spelled.{opened_spelling}
+use Rattle.rina_dif_law.proofs.Warranted.{ins_written}
 use Rattle.rina_dif.specs.declared.dif.Dif.{Dif}
 use Rattle.rina_dif.specs.Holding.{Holds}
 use Rattle.rina_dif.specs.Shown.{seen_of}
@@ -132,6 +133,7 @@ took_it d lines below at n p link tick bytes hop key end d' below' kept kept' lt
         numbered = ins_numbered (seen_of d) lines below at n (Ok (in_.Took key end)) (seen_of d') s.lines' below' kept kept' h.standing h.numbered does;
         accounted = ins_accounted (seen_of d) lines below at n (Ok (in_.Took key end)) (seen_of d') s.lines' below' kept kept' h.standing h.numbered h.carrying h.accounted does;
         caused = ins_caused (seen_of d) lines below at n (Ok (in_.Took key end)) (seen_of d') s.lines' below' kept' h.caused does;
+        written_off = ins_written (seen_of d) lines below at n (Ok (in_.Took key end)) (seen_of d') s.lines' below' h.standing h.written_off does;
         housed = s.housed;
         routed = s.routed;
       };
@@ -158,7 +160,7 @@ takes_home d lines below node n at r r' d' failed below' here same t =
     record {
       lines' = t.lines';
       does = subst (λ (v : Result InStep StepError). InsAt (seen_of d) lines below node n v (seen_of d') t.lines' below') (sym same) does;
-      holds = record { tied = t.holds.tied; standing = t.holds.standing; carrying = t.holds.carrying; numbered = t.holds.numbered; accounted = t.holds.accounted; caused = t.holds.caused; housed = t.holds.housed; routed = t.holds.routed };
+      holds = record { tied = t.holds.tied; standing = t.holds.standing; carrying = t.holds.carrying; numbered = t.holds.numbered; accounted = t.holds.accounted; caused = t.holds.caused; written_off = t.holds.written_off; housed = t.holds.housed; routed = t.holds.routed };
     }
 
 pub takes_none : (d : Dif) (lines : List Direction) (below : Seen) (node n : ℕ) → Holds d lines below → TakesHome d lines below node n (Err Memory) d below

@@ -23,6 +23,7 @@ use Rattle.rina_data.specs.Losing.{LosesAt, without_items, without_link}
 use Rattle.rina_dif_law.proofs.Accounting.{lost_accounted}
 use Rattle.rina_data.proofs.Finding.{there}
 use Rattle.rina_dif_law.proofs.Linkless.{lost_carries, lost_numbered, lost_stands}
+use Rattle.rina_dif_law.proofs.Warranted.{lost_written}
 use Rattle.rina_dif.specs.declared.dif.Dif.{Dif}
 use Rattle.rina_dif.specs.Holding.{AreHoused, HasQueues, HaveQueues, Holds, IsHoused, Stands}
 use Rattle.rina_dif.specs.Routing.{HaveRoutes, KnowsLive}
@@ -137,6 +138,7 @@ link_lost d lines below at lost routes member p p' is_member is knows loses cap 
         numbered = lost_numbered (seen_of d) below at lost.number routes d' h.numbered gone;
         accounted = lost_accounted (seen_of d) lines below at lost.number routes d' h.accounted gone;
         caused = process_caused (seen_of d) d' below at _ gone.new_is h.caused;
+        written_off = lost_written (seen_of d) lines below at lost.number routes d' h.standing h.written_off gone;
         housed = housed_after (config_of d.settings) d.processes at p p' lost.place link routes d.settings.members d.laid.links member h.housed is cap there new known;
         routed = routed_after d.settings.members d.laid.links d.processes at p p' lost.place link routes member h.routed is is_member new known;
       };

@@ -14,6 +14,7 @@ use Rattle.rina_dif_law.specs.Numbered.{IsNumbered}
 use Rattle.rina_dif_law.specs.Passing.{IsPassed}
 use Rattle.rina_data.specs.Fitting.{IsQos}
 use Rattle.rina_dif_law.specs.Standing.{IsStanding}
+use Rattle.rina_dif_law.specs.Written.{AreWrittenOff}
 use Rattle.rina_flows.specs.Calls.{AreTied}
 use Rattle.rina_dif.specs.declared.dif.Dif.{Dif}
 use Rattle.rina_dif.specs.Routing.{HaveRoutes}
@@ -39,7 +40,7 @@ AreHoused g processes = (i : ℕ) (p : IpcProcess) → slice_get processes i ≡
 
 -- the DIF stands on the rank below, where these directions stand behind its flows, whatever an end got has come, its
 -- names are those of its members and ports, each IPC process is in account for each PDU, each end that has failed did so
--- for its cause, and each next hop is the least number of a link on a least walk over the links that its IPC process knows
+-- for its cause, each line of a ledger says what is true, and each next hop is the least number of a link on a least walk over the links that its IPC process knows
 pub record Holds (d : Dif) (lines : List Direction) (below : Seen) : Type 0 where
   pub tied : AreTied (config_of d.settings) d.clock d.flows lines
   pub standing : IsStanding (seen_of d) lines below
@@ -47,6 +48,7 @@ pub record Holds (d : Dif) (lines : List Direction) (below : Seen) : Type 0 wher
   pub numbered : IsNumbered (seen_of d) below
   pub accounted : IsAccounted (seen_of d) lines below
   pub caused : AreCaused (seen_of d) below
+  pub written_off : AreWrittenOff (seen_of d)
   pub housed : AreHoused (config_of d.settings) d.processes
   pub routed : HaveRoutes d.settings.members d.laid.links d.processes
 

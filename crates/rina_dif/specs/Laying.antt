@@ -103,7 +103,7 @@ pub record IsNewProcess (g : Config) (node : ℕ) (ports : List Port) (process :
   pub ledger : process.ledger ≡ []
 
 -- the i-th DIF of the stack when it was made: the settings of the plan, its links bound below in stack order, the
--- next hops over them, and no flows and names
+-- next hops over them, and no flows, names and objects that requests left
 pub record IsNew (plan : Plan) (i : ℕ) (d : Dif) (old new : Seen) : Type 0 where
   pub settings : settings_of plan i ≡ Some d.settings
   pub clock : d.clock ≡ old.now
@@ -116,6 +116,7 @@ pub record IsNew (plan : Plan) (i : ℕ) (d : Dif) (old new : Seen) : Type 0 whe
   pub conns : d.flows.conns ≡ []
   pub waiting : d.waiting.items ≡ []
   pub names : d.names ≡ []
+  pub kept : d.laid.ribs.entries ≡ []
 
 -- One link more
 

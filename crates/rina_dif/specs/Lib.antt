@@ -2,6 +2,7 @@ pub mod Asking
 pub mod Binding
 pub mod Building
 pub mod Clocking
+pub mod Elsewhere
 pub mod Facade
 pub mod Freeing
 pub mod Holding
@@ -16,3 +17,4 @@ pub mod Taking
 pub mod Timely
 pub mod Unlinking
 pub mod Whole
+pub mod WriteOffs

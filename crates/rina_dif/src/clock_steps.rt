@@ -8,6 +8,7 @@ ghost use Rattle.rina_dif_law.specs.Sending.{home};
 ghost use Rattle.rina_dif_law.specs.Upward.{IsSilent};
 ghost use Rattle.rina_data.specs.declared.step.StepError.TheVariants.{Memory as MemoryWanted};
 ghost use Rattle.rina_dif.specs.Clocking.{ClockSteps, FailsLate, FindsFirst, FindsNext, IsDueAt, IsHere, IsIn, StepsFlowHere, StepsHere, earlier};
+ghost use Rattle.rina_dif.specs.Elsewhere.{ChangesOnly, MayClock, home_of};
 ghost use Rattle.rina_dif.specs.Facade.{GoesOn, OthersStand};
 ghost use Rattle.rina_dif.specs.Holding.{Holds, Stands};
 ghost use Rattle.rina_dif.specs.Shown.{seen_of};
@@ -124,6 +125,7 @@ impl Dif {
         ensures same { (self.new.settings ≡ self.old.settings) × (self.new.failed ≡ self.old.failed) }
         ensures laid { self.new.laid ≡ self.old.laid }
         ensures whole { self.new ≡ record self.old { processes = self.new.processes; flows = self.new.flows } }
+        ensures leaves { ChangesOnly (MayClock result self.old (Some at)) (Some at) self.old self.new }
     {
         let Some(Next { item, turn }) = self.next_due(node) else {
             return Ok(ClockStep::Idle);
@@ -167,6 +169,7 @@ impl Dif {
         ensures same { (self.new.settings ≡ self.old.settings) × (self.new.failed ≡ self.old.failed) }
         ensures laid { self.new.laid ≡ self.old.laid }
         ensures whole { self.new ≡ record self.old { processes = self.new.processes; flows = self.new.flows } }
+        ensures leaves { ChangesOnly (MayClock result self.old (Some at)) (Some at) self.old self.new }
     {
         match self.lost_link_at(below, at) {
             Some(lost) => {
@@ -202,6 +205,7 @@ impl Dif {
         ensures settings { self.new.settings ≡ self.old.settings }
         ensures laid { self.new.laid ≡ self.old.laid }
         ensures whole { self.new ≡ record self.old { processes = self.new.processes; flows = self.new.flows; failed = self.new.failed } }
+        ensures leaves { ChangesOnly (MayClock result self.old (home_of self.old node)) (home_of self.old node) self.old self.new }
         ensures failed { self.old.failed ≡ true → result ≡ Err MemoryWanted }
         ensures fails { self.new.failed ≡ true ↔ (result ≡ Err MemoryWanted) }
     {

@@ -1,11 +1,12 @@
 //! What comes with time to a DIF.
-ghost use Rattle.std.specs.Prelude.{◌≡◌, ◌<◌, ◌≤◌, List, length};
+ghost use Rattle.std.specs.Prelude.{◌≡◌, ◌<◌, ◌≤◌, List, Some, length};
 ghost use Rattle.rina_base.specs.Pdus.{pdu_of};
 ghost use Rattle.rina_conn.specs.Clock.{ack_of};
 ghost use Rattle.rina_iface.specs.Seen.{Seen};
 ghost use Rattle.rina_law.specs.Direction.{Direction};
 ghost use Rattle.rina_dif_law.specs.Ids.{pdu_of_ack};
 ghost use Rattle.rina_flows.specs.Tied.{ids_by};
+ghost use Rattle.rina_dif.specs.Elsewhere.{ChangesOnly, WhenOk};
 ghost use Rattle.rina_dif.specs.Holding.{Holds, Stands};
 ghost use Rattle.rina_dif.specs.Timely.{AcknowledgesAs, ForgetsAs, GivesUpAs, IsHomeEnd, SendsAgainAs};
 
@@ -74,6 +75,7 @@ impl Dif {
         ensures same { (self.new.settings ≡ self.old.settings) × (self.new.failed ≡ self.old.failed) }
         ensures laid { self.new.laid ≡ self.old.laid }
         ensures whole { self.new ≡ record self.old { processes = self.new.processes; flows = self.new.flows } }
+        ensures leaves { ChangesOnly (λ i. i ≡ place) (Some at) self.old self.new }
     {
         let clock = self.clock;
         self.processes
@@ -95,6 +97,7 @@ impl Dif {
         ensures same { (self.new.settings ≡ self.old.settings) × (self.new.failed ≡ self.old.failed) }
         ensures laid { self.new.laid ≡ self.old.laid }
         ensures whole { self.new ≡ record self.old { processes = self.new.processes; flows = self.new.flows } }
+        ensures leaves { ChangesOnly (λ i. i ≡ place) (Some at) self.old self.new }
     {
         let clock = self.clock;
         self.processes
@@ -116,6 +119,7 @@ impl Dif {
         ensures same { (self.new.settings ≡ self.old.settings) × (self.new.failed ≡ self.old.failed) }
         ensures laid { self.new.laid ≡ self.old.laid }
         ensures whole { self.new ≡ record self.old { processes = self.new.processes; flows = self.new.flows } }
+        ensures leaves { ChangesOnly (λ i. WhenOk result (i ≡ place)) (Some at) self.old self.new }
     {
         let clock = self.clock;
         let Some(due) = self.flows.ack_due(clock, place) else {
@@ -146,6 +150,7 @@ impl Dif {
         ensures same { (self.new.settings ≡ self.old.settings) × (self.new.failed ≡ self.old.failed) }
         ensures laid { self.new.laid ≡ self.old.laid }
         ensures whole { self.new ≡ record self.old { processes = self.new.processes; flows = self.new.flows } }
+        ensures leaves { ChangesOnly (λ i. WhenOk result (i ≡ place)) (Some at) self.old self.new }
     {
         let clock = self.clock;
         let left = self.flows.conns.at(place).sending.form.cube.mpl;

@@ -8,6 +8,7 @@ ghost use Rattle.rina_law.specs.declared.entry.Entry.{Entry};
 ghost use Rattle.rina_law.specs.Direction.{Direction};
 ghost use Rattle.rina_data.specs.Configs.{config_of, cube_by};
 ghost use Rattle.rina_dif_law.specs.Sending.{home};
+ghost use Rattle.rina_dif.specs.Elsewhere.{ChangesOnly, IsPortAt};
 ghost use Rattle.rina_dif.specs.Facade.{GoesOn, IsLedger, IsShownAs, PassesAt, RankShows, StaysStanding, cube_there, its_cube, its_end, its_oldest, shown_as};
 ghost use Rattle.rina_dif.specs.Holding.{Holds};
 ghost use Rattle.rina_dif.specs.Whole.{IsDif};
@@ -132,6 +133,7 @@ impl Dif {
         ensures settings { self.new.settings ≡ self.old.settings }
         ensures laid { self.new.laid ≡ self.old.laid }
         ensures whole { self.new ≡ record self.old { flows = self.new.flows } }
+        ensures leaves { ChangesOnly (IsPortAt self.old port) None self.old self.new }
         ensures failed { self.new.failed ≡ self.old.failed }
     {
         let Some(at) = self.flows.journal.ends.place(port) else {

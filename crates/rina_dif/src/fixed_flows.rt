@@ -1,5 +1,5 @@
 //! Flows that the stack fixes.
-ghost use Rattle.std.specs.Prelude.{◌≡◌, ◌*◌, ◌+◌, ◌-◌, ◌<◌, ◌^◌, ◌==◌, ◌&&◌, List, IsSome, OnOk, OnErr, IfOk, Err, Some, count_by, true, ◌↔◌};
+ghost use Rattle.std.specs.Prelude.{◌≡◌, ◌*◌, ◌+◌, ◌-◌, ◌<◌, ◌^◌, ◌==◌, ◌&&◌, List, IsSome, OnOk, OnErr, IfOk, Err, Some, count_by, true, ◌↔◌, ◌≤◌, length};
 ghost use Rattle.rina_cube.specs.declared.Cube.{Cube};
 ghost use Rattle.rina_iface.specs.declared.error.AllocateError.TheVariants.{Memory as MemoryWanted};
 ghost use Rattle.rina_iface.specs.declared.state.PortState.TheVariants.{Allocated};
@@ -12,6 +12,7 @@ ghost use Rattle.rina_pci.specs.Spelling.{AreWidths, pci_size};
 ghost use Rattle.rina_data.specs.Configs.{config_of, cube_by, greatest, piece_size};
 ghost use Rattle.rina_dif_law.specs.Numbered.{asked_at, is_asker};
 ghost use Rattle.rina_dif_law.specs.Standing.{IsConfig};
+ghost use Rattle.rina_flows.specs.Elsewhere.{SameBut};
 ghost use Rattle.rina_dif.specs.Binding.{AddsFlow, BindsTo, Draws, MayBind, SomeDraws};
 ghost use Rattle.rina_dif.specs.Facade.{GoesOn, IsShownAs, StaysStanding, shown_as};
 ghost use Rattle.rina_dif.specs.Holding.{Holds};
@@ -117,6 +118,7 @@ fn add_flow(
     requires valid { IsConfig (config_of settings.now) }
     requires cube { IsSome (cube_by asker.cube settings.now.cubes) }
     ensures ok { OnOk result (AddsFlow settings.now asker.cube peer asker far flows.old flows.new) }
+    ensures keeps { OnOk result (SameBut (λ i. length flows.old.conns ≤ i) flows.old.conns flows.new.conns) }
     ensures err { OnErr result (flows.new ≡ flows.old) }
 {
     let piece = piece(settings);
@@ -156,6 +158,7 @@ impl Dif {
         requires valid { IsConfig (config_of self.old.settings) }
         requires cube { IsSome (cube_by asker.cube self.old.settings.cubes) }
         ensures ok { OnOk result (AddsFlow self.old.settings asker.cube peer asker far self.old.flows self.new.flows) }
+        ensures keeps { OnOk result (SameBut (λ i. length self.old.flows.conns ≤ i) self.old.flows.conns self.new.flows.conns) }
         ensures rest { OnOk result (self.new ≡ record self.old { flows = self.new.flows; names = with_name_once self.old.names far.port.node far.app }) }
         ensures err { OnErr result (self.new ≡ self.old) }
         ensures laid { self.new.laid ≡ self.old.laid }
@@ -185,6 +188,7 @@ impl Dif {
         ensures same { (self.new.settings ≡ self.old.settings) × (self.new.clock ≡ self.old.clock) × (self.new.failed ≡ self.old.failed) }
         ensures laid { self.new.laid ≡ self.old.laid }
         ensures whole { self.new ≡ record self.old { flows = self.new.flows; names = self.new.names } }
+        ensures keeps { SameBut (λ i. length self.old.flows.conns ≤ i) self.old.flows.conns self.new.flows.conns }
     {
         let near = self.draw(fixed.a);
         let other = self.draw(fixed.b);
@@ -220,6 +224,7 @@ impl Dif {
         ensures settings { self.new.settings ≡ self.old.settings }
         ensures laid { self.new.laid ≡ self.old.laid }
         ensures whole { self.new ≡ record self.old { flows = self.new.flows; names = self.new.names; failed = self.new.failed } }
+        ensures keeps { SameBut (λ i. length self.old.flows.conns ≤ i) self.old.flows.conns self.new.flows.conns }
         ensures failed { self.old.failed ≡ true → result ≡ Err MemoryWanted }
         ensures fails { self.new.failed ≡ true ↔ (result ≡ Err MemoryWanted) }
     {

@@ -1,5 +1,6 @@
 //! What comes to a DIF on its links.
 ghost use Rattle.std.specs.Prelude.{◌≡◌, ◌<◌, ◌≤◌, List, Some, length, true, ◌↔◌, Err};
+ghost use Rattle.rina_base.specs.Pdus.{key_of};
 ghost use Rattle.rina_base.specs.declared.pdu.PduKind.TheVariants.{Piece};
 ghost use Rattle.rina_iface.specs.Later.{IsLater};
 ghost use Rattle.rina_iface.specs.Pass.{PassesAsSeen};
@@ -10,6 +11,7 @@ ghost use Rattle.rina_data.specs.declared.step.StepError.TheVariants.{Memory as 
 ghost use Rattle.rina_dif_law.specs.Upward.{IsSilent};
 ghost use Rattle.rina_flows.specs.Calls.{TakenBy};
 ghost use Rattle.rina_flows.specs.Tied.{conns_of};
+ghost use Rattle.rina_dif.specs.Elsewhere.{ChangesOnly, IsTaker, MayTake, WhenOk, home_of};
 ghost use Rattle.rina_dif.specs.Facade.{GoesOn, OthersStand};
 ghost use Rattle.rina_dif.specs.Holding.{Holds, Stands};
 ghost use Rattle.rina_dif.specs.Shown.{seen_of};
@@ -47,6 +49,7 @@ impl Dif {
         ensures settings { self.new.settings ≡ self.old.settings }
         ensures laid { self.new.laid ≡ self.old.laid }
         ensures whole { self.new ≡ record self.old { processes = self.new.processes; flows = self.new.flows } }
+        ensures leaves { ChangesOnly (λ i. WhenOk result (i ≡ place)) (Some at) self.old self.new }
         ensures failed { self.new.failed ≡ self.old.failed }
     {
         let clock = self.clock;
@@ -69,6 +72,7 @@ impl Dif {
         ensures settings { self.new.settings ≡ self.old.settings }
         ensures laid { self.new.laid ≡ self.old.laid }
         ensures whole { self.new ≡ record self.old { processes = self.new.processes; flows = self.new.flows } }
+        ensures leaves { ChangesOnly (λ i. WhenOk result (IsTaker self.old (Some at) (key_of (hop_of came.now.hop).pdu) i)) (Some at) self.old self.new }
         ensures failed { self.new.failed ≡ self.old.failed }
     {
         let pdu = &came.hop.pdu;
@@ -101,6 +105,7 @@ impl Dif {
         ensures settings { self.new.settings ≡ self.old.settings }
         ensures laid { self.new.laid ≡ self.old.laid }
         ensures whole { self.new ≡ record self.old { processes = self.new.processes; flows = self.new.flows } }
+        ensures leaves { ChangesOnly (λ i. WhenOk result (IsTaker self.old (Some at) (key_of (hop_of came.now.hop).pdu) i)) (Some at) self.old self.new }
         ensures failed { self.new.failed ≡ self.old.failed }
     {
         let Some(member) = self.settings.members.get(at) else {
@@ -136,6 +141,7 @@ impl Dif {
         ensures settings { self.new.settings ≡ self.old.settings }
         ensures laid { self.new.laid ≡ self.old.laid }
         ensures whole { self.new ≡ record self.old { processes = self.new.processes; flows = self.new.flows } }
+        ensures leaves { ChangesOnly (MayTake result self.old (Some at)) (Some at) self.old self.new }
         ensures failed { self.new.failed ≡ self.old.failed }
     {
         let Some(process) = self.processes.get(at) else {
@@ -183,6 +189,7 @@ impl Dif {
         ensures settings { self.new.settings ≡ self.old.settings }
         ensures laid { self.new.laid ≡ self.old.laid }
         ensures whole { self.new ≡ record self.old { processes = self.new.processes; flows = self.new.flows; failed = self.new.failed } }
+        ensures leaves { ChangesOnly (MayTake result self.old (home_of self.old node)) (home_of self.old node) self.old self.new }
         ensures failed { self.old.failed ≡ true → result ≡ Err MemoryWanted }
         ensures fails { self.new.failed ≡ true ↔ (result ≡ Err MemoryWanted) }
     {

@@ -28,6 +28,7 @@ mod send;
 mod shown;
 mod start;
 mod text;
+mod write_offs;
 
 pub use cdap::CdapCallError;
 pub use dif::Dif;
@@ -35,3 +36,4 @@ pub use facade::a_rank_shows_its_difs;
 pub use layout::Layout;
 pub use processes::Processes;
 pub use shown::{Objects, Shown};
+pub use write_offs::each_call_writes_off_with_cause;

@@ -8,6 +8,8 @@ ghost use Rattle.rina_data.specs.Configs.{config_of};
 ghost use Rattle.rina_data.specs.Losing.{FindsLost};
 ghost use Rattle.rina_dif_law.specs.Losing.{NoneLive};
 ghost use Rattle.rina_dif_law.specs.Sending.{home};
+ghost use Rattle.rina_flows.specs.Elsewhere.{SameBut};
+ghost use Rattle.rina_dif.specs.Elsewhere.{ChangesOnly, IsEndOf, WhenOk};
 ghost use Rattle.rina_dif.specs.Holding.{Holds, Stands};
 ghost use Rattle.rina_dif.specs.Unlinking.{FindsLostAt, FindsNoneLeft, HasFailed, KnowsWithout, LosesAs, TellsNoneLeft, links_without};
 
@@ -89,6 +91,8 @@ impl Dif {
         ensures same { (self.new.settings ≡ self.old.settings) × (self.new.failed ≡ self.old.failed) }
         ensures laid { self.new.laid ≡ self.old.laid }
         ensures whole { self.new ≡ record self.old { processes = self.new.processes; flows = self.new.flows } }
+        ensures leaves { SameBut (λ i. Some at ≡ Some i) self.old.processes self.new.processes }
+        ensures flows { self.new.flows ≡ self.old.flows }
     {
         let routes = self.routes_left(alloc, at, lost.place)?;
         self.processes.lose_link(alloc, at, lost.place, routes)
@@ -111,6 +115,7 @@ impl Dif {
         ensures same { (self.new.settings ≡ self.old.settings) × (self.new.failed ≡ self.old.failed) }
         ensures laid { self.new.laid ≡ self.old.laid }
         ensures whole { self.new ≡ record self.old { processes = self.new.processes; flows = self.new.flows } }
+        ensures leaves { ChangesOnly (λ i. WhenOk result (IsEndOf self.old (Some at) i)) (Some at) self.old self.new }
     {
         let routes = self.routes_left(alloc, at, lost.place)?;
         let state = PortState::Failed(Fail::Below { port });
@@ -139,6 +144,7 @@ impl Dif {
         ensures same { (self.new.settings ≡ self.old.settings) × (self.new.failed ≡ self.old.failed) }
         ensures laid { self.new.laid ≡ self.old.laid }
         ensures whole { self.new ≡ record self.old { processes = self.new.processes; flows = self.new.flows } }
+        ensures leaves { ChangesOnly (λ i. WhenOk result (IsEndOf self.old (Some at) i)) (Some at) self.old self.new }
     {
         let Some(process) = self.processes.get(at) else {
             unreachable!()

@@ -9,6 +9,8 @@ ghost use Rattle.rina_dif_law.specs.Sending.{home};
 ghost use Rattle.rina_dif_law.specs.Upward.{IsSilent};
 ghost use Rattle.rina_data.specs.declared.step.StepError.TheVariants.{Memory};
 ghost use Rattle.rina_data.specs.Lower.{SendsBelow};
+ghost use Rattle.rina_flows.specs.Elsewhere.{SameBut};
+ghost use Rattle.rina_dif.specs.Elsewhere.{home_of};
 ghost use Rattle.rina_dif.specs.Facade.{GoesOn, OthersStand};
 ghost use Rattle.rina_dif.specs.Holding.{Holds, Stands};
 ghost use Rattle.rina_dif.specs.Shown.{seen_of};
@@ -45,6 +47,7 @@ impl Dif {
         ensures settings { self.new.settings ≡ self.old.settings }
         ensures laid { self.new.laid ≡ self.old.laid }
         ensures whole { self.new ≡ record self.old { processes = self.new.processes } }
+        ensures leaves { SameBut (λ i. Some at ≡ Some i) self.old.processes self.new.processes }
         ensures failed { self.new.failed ≡ self.old.failed }
     {
         self.processes
@@ -75,6 +78,7 @@ impl Dif {
         ensures settings { self.new.settings ≡ self.old.settings }
         ensures laid { self.new.laid ≡ self.old.laid }
         ensures whole { self.new ≡ record self.old { processes = self.new.processes; failed = self.new.failed } }
+        ensures leaves { SameBut (λ i. home_of self.old node ≡ Some i) self.old.processes self.new.processes }
         ensures shelf { self.old.failed ≡ false → AsksHome (S.may_answer shelf.old self.old.settings.policy) self.old.settings node link (S.slots shelf.old) (S.slots shelf.new) self.old.processes result self.new.processes }
         ensures names { map (λ (x : Slot). x.name) (S.slots shelf.new) ≡ map (λ (x : Slot). x.name) (S.slots shelf.old) }
         ensures failed { self.old.failed ≡ true → result ≡ Err Memory }

@@ -3,6 +3,7 @@ ghost use Rattle.std.specs.Prelude.{◌≡◌, ◌<◌, List, length, slice_get,
 ghost use Rattle.rina_iface.specs.Seen.{Seen};
 ghost use Rattle.rina_iface.specs.declared.ends.End.{End};
 ghost use Rattle.rina_law.specs.Direction.{Direction};
+ghost use Rattle.rina_flows.specs.Elsewhere.{ChangesAt};
 ghost use Rattle.rina_dif.specs.Holding.{Holds, Passes, Stands};
 ghost use Rattle.rina_dif.specs.Shown.{seen_of};
 
@@ -18,6 +19,7 @@ impl Dif {
         ensures same { (self.new.settings ≡ self.old.settings) × (self.new.failed ≡ self.old.failed) }
         ensures laid { self.new.laid ≡ self.old.laid }
         ensures whole { self.new ≡ record self.old { flows = self.new.flows } }
+        ensures leaves { ChangesAt (λ i. i ≡ at) self.old.flows self.new.flows }
     {
         self.flows.pass(self.clock, at);
     }

@@ -10,6 +10,8 @@ ghost use Rattle.rina_data.specs.declared.process.IpcProcess.{IpcProcess};
 ghost use Rattle.rina_data.specs.Configs.{config_of};
 ghost use Rattle.rina_data.specs.Hops.{hop_of};
 ghost use Rattle.rina_data.specs.Lower.{SendsBelow};
+ghost use Rattle.rina_dif_law.specs.Losing.{IsAllocatedAt};
+ghost use Rattle.rina_dif.specs.Elsewhere.{WhenOk};
 ghost use Rattle.rina_dif.specs.Laying.{AddsLink, AddsLinkAt};
 ghost use Rattle.rina_dif.specs.Routing.{SetsRoutes};
 ghost use Rattle.rina_dif.specs.Sending.{AreOf, HasRoomFor, Puts, queued};
@@ -18,6 +20,7 @@ ghost use Rattle.rina_dif.specs.Taking.{ArrivesTo, DecidesAt, NotesAt, RoutesAt}
 ghost use Rattle.rina_dif.specs.Timely.{ForwardsAt, WithLedger};
 ghost use Rattle.rina_dif.specs.Unlinking.{LosesIn, LosesLast, LosesLastIn};
 ghost use Rattle.rina_flows.specs.Delivering.{ForgetsIn, StopsIn};
+ghost use Rattle.rina_flows.specs.Elsewhere.{ChangesAt};
 ghost use Rattle.rina_flows.specs.Timely.{GivesUpIn};
 
 use rina_base::{Addr, Cause, Memory, Node, Num, Pdu, PduView, Port, Seq, Tick};
@@ -92,6 +95,7 @@ fn lose_last_link(
     requires alike { length flows.old.journal.ends ≡ length flows.old.conns }
     ensures does { LosesLast now node state place routes flows.old process.old result flows.new process.new }
     ensures cap { process.new.queues.cap ≡ process.old.queues.cap }
+    ensures leaves { ChangesAt (λ i. WhenOk result (IsAllocatedAt flows.old.journal.ends node i)) flows.old flows.new }
 {
     let Some(held) = flows.held_at(node) else {
         return Err(Memory);
@@ -186,7 +190,8 @@ impl Processes {
         requires at { at < length self.old }
         requires place { (p : IpcProcess) → slice_get self.old at ≡ Some p → place < length p.links }
         requires alike { length flows.old.journal.ends ≡ length flows.old.conns }
-        ensures { LosesLastIn now node state place routes result at flows.old self.old flows.new self.new }
+        ensures loses { LosesLastIn now node state place routes result at flows.old self.old flows.new self.new }
+        ensures leaves { ChangesAt (λ i. WhenOk result (IsAllocatedAt flows.old.journal.ends node i)) flows.old flows.new }
     {
         let process = &mut self.items[at];
         lose_last_link(process, alloc, place, routes, flows, now, node, state)
@@ -300,7 +305,8 @@ impl Processes {
         requires at { at < length self.old }
         requires end { place < length flows.old.journal.ends }
         requires conn { place < length flows.old.conns }
-        ensures { ArrivesTo now place (pdu_of pdu.now) at flows.old self.old result flows.new self.new }
+        ensures arrives { ArrivesTo now place (pdu_of pdu.now) at flows.old self.old result flows.new self.new }
+        ensures leaves { ChangesAt (λ i. i ≡ place) flows.old flows.new }
     {
         let process = &mut self.items[at];
         flows.on_data(alloc, now, place, pdu, &mut process.ledger)
@@ -318,7 +324,8 @@ impl Processes {
     ) -> Result<bool, Memory>
         requires at { at < length self.old }
         requires conn { place < length flows.old.conns }
-        ensures { WithLedger (λ flows ledger flows' ledger'. ForgetsIn now place flows ledger result flows' ledger') at flows.old self.old flows.new self.new }
+        ensures forgets { WithLedger (λ flows ledger flows' ledger'. ForgetsIn now place flows ledger result flows' ledger') at flows.old self.old flows.new self.new }
+        ensures leaves { ChangesAt (λ i. i ≡ place) flows.old flows.new }
     {
         let process = &mut self.items[at];
         flows.forget(alloc, now, place, &mut process.ledger)
@@ -337,7 +344,8 @@ impl Processes {
         requires at { at < length self.old }
         requires end { place < length flows.old.journal.ends }
         requires conn { place < length flows.old.conns }
-        ensures { WithLedger (λ flows ledger flows' ledger'. GivesUpIn now place flows ledger result flows' ledger') at flows.old self.old flows.new self.new }
+        ensures gives_up { WithLedger (λ flows ledger flows' ledger'. GivesUpIn now place flows ledger result flows' ledger') at flows.old self.old flows.new self.new }
+        ensures leaves { ChangesAt (λ i. i ≡ place) flows.old flows.new }
     {
         let process = &mut self.items[at];
         flows.give_up(alloc, now, place, &mut process.ledger)
@@ -357,7 +365,8 @@ impl Processes {
         requires at { at < length self.old }
         requires end { place < length flows.old.journal.ends }
         requires conn { place < length flows.old.conns }
-        ensures { WithLedger (λ flows ledger flows' ledger'. StopsIn now place state flows ledger result flows' ledger') at flows.old self.old flows.new self.new }
+        ensures stops { WithLedger (λ flows ledger flows' ledger'. StopsIn now place state flows ledger result flows' ledger') at flows.old self.old flows.new self.new }
+        ensures leaves { ChangesAt (λ i. i ≡ place) flows.old flows.new }
     {
         let process = &mut self.items[at];
         flows.stop(alloc, now, place, state, &mut process.ledger)

@@ -8,6 +8,7 @@ ghost use Rattle.rina_iface.specs.Free.{Frees};
 ghost use Rattle.rina_iface.specs.Seen.{Seen};
 ghost use Rattle.rina_iface.specs.State.{freed_state};
 ghost use Rattle.rina_law.specs.Direction.{Direction};
+ghost use Rattle.rina_dif.specs.Elsewhere.{ChangesOnly, IsPortAt, WhenOk, home_of};
 ghost use Rattle.rina_dif.specs.Facade.{GoesOn, IsShownAs, StaysStanding, shown_as};
 ghost use Rattle.rina_dif.specs.Freeing.{FreesAt, FreesHere};
 ghost use Rattle.rina_dif.specs.Holding.{Holds};
@@ -40,6 +41,7 @@ impl Dif {
         ensures same { (self.new.settings ≡ self.old.settings) × (self.new.clock ≡ self.old.clock) × (self.new.failed ≡ self.old.failed) }
         ensures laid { self.new.laid ≡ self.old.laid }
         ensures whole { self.new ≡ record self.old { processes = self.new.processes; flows = self.new.flows } }
+        ensures leaves { ChangesOnly (λ i. WhenOk result (i ≡ at)) (home_of self.old node) self.old self.new }
     {
         let Some(home) = self.place_at_node(node) else {
             unreachable!()
@@ -57,6 +59,7 @@ impl Dif {
         ensures same { (self.new.settings ≡ self.old.settings) × (self.new.clock ≡ self.old.clock) × (self.new.failed ≡ self.old.failed) }
         ensures laid { self.new.laid ≡ self.old.laid }
         ensures whole { self.new ≡ record self.old { processes = self.new.processes; flows = self.new.flows } }
+        ensures leaves { (end : End) → slice_get self.old.flows.journal.ends at ≡ Some end → ChangesOnly (λ i. WhenOk result (i ≡ at)) (home_of self.old end.port.node) self.old self.new }
     {
         let Some(end) = self.flows.journal.ends.get(at) else {
             unreachable!()
@@ -83,6 +86,7 @@ impl Dif {
         ensures settings { self.new.settings ≡ self.old.settings }
         ensures laid { self.new.laid ≡ self.old.laid }
         ensures whole { self.new ≡ record self.old { processes = self.new.processes; flows = self.new.flows; failed = self.new.failed } }
+        ensures leaves { ChangesOnly (λ i. WhenOk result (IsPortAt self.old port i)) (home_of self.old port.node) self.old self.new }
         ensures failed { self.old.failed ≡ true → result ≡ Err NoneFound }
         ensures fails { self.new.failed ≡ true ↔ (result ≡ Err NoneFound) }
     {

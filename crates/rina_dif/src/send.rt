@@ -14,6 +14,7 @@ ghost use Rattle.rina_data.specs.Deciding.{process_of};
 ghost use Rattle.rina_dif_law.specs.Sending.{by_process, home, process_at};
 ghost use Rattle.rina_data.specs.Fitting.{IsQos};
 ghost use Rattle.rina_flows.specs.Tied.{ids_of};
+ghost use Rattle.rina_dif.specs.Elsewhere.{ChangesOnly, IsPortAt, WhenOk, home_of};
 ghost use Rattle.rina_dif.specs.Facade.{GoesOn, IsShownAs, StaysStanding, own_refusal, shown_as};
 ghost use Rattle.rina_dif.specs.Holding.{AreHoused, Holds};
 ghost use Rattle.rina_dif.specs.Sending.{IsAdmitted, IsBarred, IsWay, SendsAt, Sends, told_as};
@@ -136,6 +137,7 @@ impl Dif {
         ensures same { (self.new.settings ≡ self.old.settings) × (self.new.clock ≡ self.old.clock) × (self.new.failed ≡ self.old.failed) }
         ensures laid { self.new.laid ≡ self.old.laid }
         ensures whole { self.new ≡ record self.old { processes = self.new.processes; flows = self.new.flows } }
+        ensures leaves { (end : End) → slice_get self.old.flows.journal.ends at ≡ Some end → ChangesOnly (λ i. WhenOk result (i ≡ at)) (home_of self.old end.port.node) self.old self.new }
     {
         let way = self.admit(at, sdu)?;
         let made = match self.flows.offer(alloc, self.clock, at, sdu) {
@@ -160,6 +162,7 @@ impl Dif {
         ensures settings { self.new.settings ≡ self.old.settings }
         ensures laid { self.new.laid ≡ self.old.laid }
         ensures whole { self.new ≡ record self.old { processes = self.new.processes; flows = self.new.flows; failed = self.new.failed } }
+        ensures leaves { ChangesOnly (λ i. WhenOk result (IsPortAt self.old port i)) (home_of self.old port.node) self.old self.new }
         ensures failed { self.old.failed ≡ true → result ≡ Err Memory }
         ensures fails { self.new.failed ≡ true ↔ (result ≡ Err Memory) }
     {

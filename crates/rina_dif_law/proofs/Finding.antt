@@ -17,7 +17,8 @@ use Rattle.rina_data.proofs.Finding.{found_in, there}
 pub cube_limits : (g : Config) (id : ℕ) (cube : Cube) → IsConfig g → cube_by id g.cubes ≡ Some cube → IsCube cube
 cube_limits g id cube config h = (let f = found_in _ g.cubes cube h in config.cubes f.0 cube f.1)
 
-at_place : {X : Type 0} → (xs : List X) (o : Option ℕ) (x : X) → option_and_then (λ i. slice_get xs i) o ≡ Some x → (k : ℕ) × (slice_get xs k ≡ Some x)
+-- the element at a place that was found
+pub at_place : {X : Type 0} → (xs : List X) (o : Option ℕ) (x : X) → option_and_then (λ i. slice_get xs i) o ≡ Some x → (k : ℕ) × (slice_get xs k ≡ Some x)
 at_place xs None x h = cc
 at_place xs (Some k) x h = (k, h)
 

@@ -44,3 +44,6 @@ pub mod Taking
 pub mod Tallies
 pub mod Totals
 pub mod Upper
+pub mod Verdicts
+pub mod Warranted
+pub mod Writing

@@ -25,3 +25,6 @@ pub mod Standing
 pub mod Start
 pub mod Timely
 pub mod Upward
+pub mod WriteOffLaws
+pub mod WriteOffs
+pub mod Written

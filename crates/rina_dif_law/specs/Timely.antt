@@ -91,6 +91,7 @@ pub record IsForgotten (d : DifSeen) (lines : List Direction) (at : ℕ) (d' : D
   pub gone : is_present (constants d.config cube (flipped ids)) line.line.clock line.line.receiver ≡ false
   pub dropped : List Off
   pub all_dropped : (off : Off) → In off dropped → (off.key.kind ≡ APiece) × (off.key.src ≡ ids.far) × (off.key.scep ≡ ids.dcep) × IsKeptNumber line off.key.seq × (off.cause ≡ causes.StateGone line.line.receiver.last_in)
+  pub made : (off : Off) → In off dropped → line.line.receiver.made ≡ true
   pub all : AllOff line dropped
   pub lines_are : lines' ≡ slice_set lines from (happens (constants d.config cube (flipped ids)) line Forget)
   pub new_is : d' ≡ with_process d i (with_offs process dropped)

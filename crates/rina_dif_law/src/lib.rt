@@ -3,6 +3,7 @@
 
 mod account;
 mod laws;
+mod write_offs;
 
 pub use account::processes_stay_in_account;
 pub use laws::{
@@ -11,3 +12,4 @@ pub use laws::{
     the_cloud_only_shrinks, the_rank_below_keeps_standing, what_stands_can_step,
     what_stands_is_a_facility, what_was_got_has_come,
 };
+pub use write_offs::each_write_off_has_its_cause;

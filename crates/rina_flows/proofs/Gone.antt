@@ -46,14 +46,28 @@ held_off ids line r why off kept i =
     let is : IsHeldOff ids line why (record { key = key_at r.source f.0; cause = why }) = (refl, ap (λ s. s.src) k.source, ap (λ s. s.scep) k.source, k.number, refl) in
     subst (IsHeldOff ids line why) (sym f.2) is
 
--- of a state that is gone
+-- what is given up of a state that is gone
+gone_drops : (now : ℕ) (r : Receiving) → lost_in r.join.gaps ≡ [] → r.closed ≡ false → present_at now r ≡ false → drops now r ≡ ended_with r.source (Some (causes.StateGone r.last_in)) (kept_numbers r)
+gone_drops now r broken open_ absent =
+    let why : end_cause now r ≡ Some (causes.StateGone r.last_in) = (let E : end_cause now r ≡ cond false (Some (causes.NoConnection r.source.dcep)) (cond false None (Some (causes.StateGone r.last_in))) = rw (open_, absent) refl in E) in
+    drops_ended now r broken ∙ ap (λ (o : Option Cause). ended_with r.source o (kept_numbers r)) why
+
+-- the lines of a state that is gone
 pub gone_off : (c : Constants) (now : ℕ) (ids : Ids) (conn : Conn) (line : Direction) → IsReceiving c now ids conn line → is_present c now line.line.receiver ≡ false → (off : Off) → In off (offs_of (drops now conn.rx)) → IsHeldOff ids line (causes.StateGone line.line.receiver.last_in) off
 gone_off c now ids conn line h gone off i =
     let r : Receiving = conn.rx in
     let absent : present_at now r ≡ false = sym (present_same c now line.line.receiver line.inbox.joiner r h.stands) ∙ gone in
-    let why : end_cause now r ≡ Some (causes.StateGone r.last_in) = (let E : end_cause now r ≡ cond false (Some (causes.NoConnection r.source.dcep)) (cond false None (Some (causes.StateGone r.last_in))) = rw (h.stands.not_closed, absent) refl in E) in
-    let all : drops now r ≡ ended_with r.source (Some (causes.StateGone r.last_in)) (kept_numbers r) = drops_ended now r h.broken ∙ ap (λ (o : Option Cause). ended_with r.source o (kept_numbers r)) why in
+    let all : drops now r ≡ ended_with r.source (Some (causes.StateGone r.last_in)) (kept_numbers r) = gone_drops now r h.broken h.stands.not_closed absent in
     subst (λ (n : ℕ). IsHeldOff ids line (causes.StateGone n) off) (sym h.stands.last_in) (held_off ids line r (causes.StateGone r.last_in) off h.kept (subst (λ (ds : List (Key × Cause)). In off (offs_of ds)) all i))
+
+-- which was made
+gone_made : (c : Constants) (now : ℕ) (ids : Ids) (conn : Conn) (line : Direction) → IsReceiving c now ids conn line → is_present c now line.line.receiver ≡ false → (off : Off) → In off (offs_of (drops now conn.rx)) → line.line.receiver.made ≡ true
+gone_made c now ids conn line h gone off i =
+    let r : Receiving = conn.rx in
+    let absent : present_at now r ≡ false = sym (present_same c now line.line.receiver line.inbox.joiner r h.stands) ∙ gone in
+    let all : drops now r ≡ ended_with r.source (Some (causes.StateGone r.last_in)) (kept_numbers r) = gone_drops now r h.broken h.stands.not_closed absent in
+    let f = ended_in r.source (causes.StateGone r.last_in) (kept_numbers r) off (subst (λ (ds : List (Key × Cause)). In off (offs_of ds)) all i) in
+    (h.kept f.0 f.1).made
 
 -- of a connection that was closed
 closed_in : (now : ℕ) (r : Receiving) (off : Off) → lost_in r.join.gaps ≡ [] → In off (offs_of (drops now (record r { closed = true }))) → (n : ℕ) × In n (kept_numbers r) × (off ≡ record { key = key_at r.source n; cause = causes.NoConnection r.source.dcep })
@@ -109,6 +123,7 @@ forgets_at g now ends conns lines at from end conn new line taken journal tied i
         inbound = inbound;
         gone = ap (λ n. is_present c n line.line.receiver) clock ∙ gone;
         offs_are = λ off i. gone_off c now (ids_of conn) conn line h gone off (subst (λ (ds : List (Key × Cause)). In off (offs_of ds)) (sym all) i);
+        made = λ off i. gone_made c now (ids_of conn) conn line h gone off (subst (λ (ds : List (Key × Cause)). In off (offs_of ds)) (sym all) i);
         all = λ n. ap (λ (ds : List (Key × Cause)). times n (off_numbers (offs_of ds))) (sym all) ∙ gone_all c now (ids_of conn) conn line h gone n;
         lines_are = refl;
       };
@@ -157,6 +172,7 @@ is_forgotten d lines at i process offs lines' d' f at_home is_process is = recor
   gone = f.gone;
   dropped = offs;
   all_dropped = f.offs_are;
+  made = f.made;
   all = f.all;
   lines_are = f.lines_are;
   new_is = is;

@@ -30,6 +30,7 @@ use Rattle.rina_flows.proofs.Framed.{same_ids}
 use Rattle.rina_flows.proofs.Given.{drained_all}
 use Rattle.rina_flows.proofs.Gone.{ends_at}
 use Rattle.rina_flows.proofs.Kept.{drops_count}
+use Rattle.rina_flows.specs.Elsewhere.{ChangesAt}
 use Rattle.rina_flows.proofs.Offered.{flows_of}
 use Rattle.rina_flows.proofs.Stopped.{reached}
 
@@ -137,6 +138,7 @@ pub record AreStopping (now node : ℕ) (state : PortState) (n : ℕ) (old : Flo
   pub conns_count : length new.conns ≡ length old.conns
   pub ends_after : (k : ℕ) → n ≤ k → slice_get new.journal.ends k ≡ slice_get old.journal.ends k
   pub conns_after : (k : ℕ) → n ≤ k → slice_get new.conns k ≡ slice_get old.conns k
+  pub others : ChangesAt (IsAllocatedAt old.journal.ends node) old new
   pub stops : (g : Config) (ls : List Direction) → IsJournal now old.journal.ends → AreTied g now old ls → Moves Allocated state → state ≢ Allocated → length l0 + held_before node old.journal.ends old.conns (length old.conns) ≤ room0 → AreStopped g now node state ls n old l0 new l
 
 pub none_stopped : (now node : ℕ) (state : PortState) (old : Flows) (l : List Off) (room : ℕ) → AreStopping now node state 0 old l room old l room
@@ -146,6 +148,7 @@ none_stopped now node state old l room = record {
   conns_count = refl;
   ends_after = λ k le. refl;
   conns_after = λ k le. refl;
+  others = (λ k other. refl, λ k other. refl);
   stops = λ g ls journal tied moves other fits. record { chain = (refl, refl); journal = journal; tied = tied; few = omega arith };
 }
 
@@ -165,12 +168,18 @@ one_stops now node state n old mid l0 l l' room0 room room' e ends' conns' s lt 
     let at = here_is node n mid.journal.ends e is here in
     let alloc : e.state ≡ Allocated = ap (λ (z : End). z.state) (same_some (slice_get mid.journal.ends n) e at.end is at.is_end) ∙ at.allocated in
     let wider = s.wider in
+    let was : IsAllocatedAt old.journal.ends node n = record { end = at.end; is_end = sym (s.ends_after n (omega arith)) ∙ at.is_end; allocated = at.allocated; node_is = at.node_is } in
+    let not_this : (j : ℕ) → (IsAllocatedAt old.journal.ends node j → ⊥) → j ≢ n = λ j other same. other (subst (IsAllocatedAt old.journal.ends node) (sym same) was) in
     record {
       wider = omega (arith, wider, wide);
       ends_count = ap (λ (xs : List End). length xs) ends_are ∙ length-set mid.journal.ends n e' ∙ s.ends_count;
       conns_count = ap (λ (xs : List Conn). length xs) b.2 ∙ length-set mid.conns n b.0 ∙ s.conns_count;
       ends_after = λ j le. ap (λ (xs : List End). slice_get xs j) ends_are ∙ slice_get-set_other mid.journal.ends n j e' (after_one n j le) ∙ s.ends_after j (omega (arith, le));
       conns_after = λ j le. ap (λ (xs : List Conn). slice_get xs j) b.2 ∙ slice_get-set_other mid.conns n j b.0 (after_one n j le) ∙ s.conns_after j (omega (arith, le));
+      others = (
+        λ j other. (let o = s.others.0 j other in ap (λ (xs : List End). slice_get xs j) ends_are ∙ slice_get-set_other mid.journal.ends n j e' (not_this j other) ∙ o),
+        λ j other. (let o = s.others.1 j other in ap (λ (xs : List Conn). slice_get xs j) b.2 ∙ slice_get-set_other mid.conns n j b.0 (not_this j other) ∙ o),
+      );
       stops = λ g ls journal tied moves other fits. suc_is (λ (m : ℕ). AreStopped g now node state ls m old l0 (flows_of ends' conns') l') n (
           let w = s.stops g ls journal tied moves other fits in
           let end_was : slice_get old.journal.ends n ≡ Some e = sym (s.ends_after n (omega arith)) ∙ is in
@@ -201,6 +210,7 @@ none_stops now node state n old mid l0 l room0 room e s is none = record {
   conns_count = s.conns_count;
   ends_after = λ j le. s.ends_after j (omega (arith, le));
   conns_after = λ j le. s.conns_after j (omega (arith, le));
+  others = s.others;
   stops = λ g ls journal tied moves other fits. suc_is (λ (m : ℕ). AreStopped g now node state ls m old l0 mid l) n (
       let w = s.stops g ls journal tied moves other fits in
       let few = w.few in

@@ -5,6 +5,7 @@ pub mod ArrivesAt
 pub mod Coming
 pub mod Counted
 pub mod Delivered
+pub mod Elsewhere
 pub mod Finds
 pub mod Framed
 pub mod Given

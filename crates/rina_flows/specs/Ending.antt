@@ -1,5 +1,5 @@
 -- How what a connection still holds is given up: with a state that is gone, and with its end.
-use Rattle.std.specs.Prelude.{◌≡◌, ◌≢◌, ℕ, false, List, slice_set}
+use Rattle.std.specs.Prelude.{◌≡◌, ◌≢◌, ℕ, true, false, List, slice_set}
 use Rattle.rina_account.specs.declared.ledger.Off.{Off}
 use Rattle.rina_base.specs.declared.cause.Cause.{Cause}
 use Rattle.rina_base.specs.declared.cause.Cause.TheVariants as causes
@@ -38,6 +38,7 @@ pub record ForgetsAt (g : Config) (ends : List End) (ids : List Ids) (lines : Li
   pub inbound : IsInboundAt ends lines end from line
   pub gone : is_present (constants g cube (flipped its_ids)) line.line.clock line.line.receiver ≡ false
   pub offs_are : (off : Off) → In off offs → IsHeldOff its_ids line (causes.StateGone line.line.receiver.last_in) off
+  pub made : (off : Off) → In off offs → line.line.receiver.made ≡ true
   pub all : AllOff line offs
   pub lines_are : lines' ≡ slice_set lines from (happens (constants g cube (flipped its_ids)) line Forget)
 

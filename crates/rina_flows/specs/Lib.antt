@@ -2,6 +2,7 @@ pub mod Adding
 pub mod Arriving
 pub mod Calls
 pub mod Delivering
+pub mod Elsewhere
 pub mod Ending
 pub mod Laws
 pub mod Rows

@@ -1,9 +1,10 @@
 //! What comes with time.
-ghost use Rattle.std.specs.Prelude.{◌<◌, ◌≤◌, ◌↔◌, IsTrue, length, option_copied, option_map};
+ghost use Rattle.std.specs.Prelude.{◌≡◌, ◌<◌, ◌≤◌, ◌↔◌, IsTrue, length, option_copied, option_map};
 ghost use Rattle.rina_conn.specs.Clock.{TellsAck, ack_of};
 ghost use Rattle.rina_conn.specs.Sending.{TellsAgain, TellsGivenUp};
 ghost use Rattle.rina_flows.specs.Calls.{Tells};
 ghost use Rattle.rina_flows.specs.Delivering.{HoldsGone};
+ghost use Rattle.rina_flows.specs.Elsewhere.{ChangesAt};
 ghost use Rattle.rina_flows.specs.Timely.{AcknowledgesIn, DueIn, GivesUpIn, SendsAgainIn};
 
 use crate::flows::Flows;
@@ -77,7 +78,8 @@ impl Flows {
     /// Notes that the acknowledgement that is due at the connection of a place was made. Takes no memory.
     pub fn acknowledged(&mut self, at: usize)
         requires { at < length self.old.conns }
-        ensures { AcknowledgesIn at self.old self.new }
+        ensures acknowledges { AcknowledgesIn at self.old self.new }
+        ensures leaves { ChangesAt (λ i. i ≡ at) self.old self.new }
     {
         self.conns.acknowledged(at);
     }
@@ -87,7 +89,8 @@ impl Flows {
     pub fn sent_again(&mut self, now: Tick, at: usize)
         requires now { now ≤ 10000000 }
         requires at { at < length self.old.conns }
-        ensures { SendsAgainIn now at self.old self.new }
+        ensures sends { SendsAgainIn now at self.old self.new }
+        ensures leaves { ChangesAt (λ i. i ≡ at) self.old self.new }
     {
         self.conns.sent_again(now, at);
     }
@@ -104,7 +107,8 @@ impl Flows {
     ) -> Result<Option<Num>, Memory>
         requires end { at < length self.old.journal.ends }
         requires conn { at < length self.old.conns }
-        ensures { GivesUpIn now at self.old ledger.old result self.new ledger.new }
+        ensures gives_up { GivesUpIn now at self.old ledger.old result self.new ledger.new }
+        ensures leaves { ChangesAt (λ i. i ≡ at) self.old self.new }
     {
         let Some(told) = self.gave_up(now, at) else {
             return Ok(None);

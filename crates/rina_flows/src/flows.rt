@@ -7,6 +7,7 @@ ghost use Rattle.rina_dif_law.specs.Ids.{IsFrom, flipped};
 ghost use Rattle.rina_flows.specs.Adding.{Adds, turned};
 ghost use Rattle.rina_flows.specs.Calls.{Offered, Offers, PassesOne, TakenBy, Takes, TakesHere, Tells, TellsNeed, TellsNext, TellsOne};
 ghost use Rattle.rina_flows.specs.Delivering.{ArrivesIn, ForgetsIn, StopsIn};
+ghost use Rattle.rina_flows.specs.Elsewhere.{ChangesAt, SameBut};
 ghost use Rattle.rina_flows.specs.Tied.{IsAt, conns_of, ids_of};
 
 use crate::arrival::Notes;
@@ -133,7 +134,8 @@ impl Flows {
         requires now { now ≤ 10000000 }
         requires end { at < length self.old.journal.ends }
         requires conn { at < length self.old.conns }
-        ensures { Offers now at sdu.now self.old result self.new }
+        ensures offers { Offers now at sdu.now self.old result self.new }
+        ensures leaves { ChangesAt (λ i. i ≡ at) self.old self.new }
     {
         let mut sent = self.journal.ends.take_sent(alloc, at);
         let result = offer_noted(&mut self.conns, alloc, now, at, sdu, &mut sent);
@@ -175,7 +177,8 @@ impl Flows {
         requires end { at < length self.old.journal.ends }
         requires conn { at < length self.old.conns }
         requires waits { (e : End) → slice_get self.old.journal.ends at ≡ Some e → e.taken < length e.got }
-        ensures { PassesOne now at self.old self.new }
+        ensures passes { PassesOne now at self.old self.new }
+        ensures leaves { ChangesAt (λ i. i ≡ at) self.old self.new }
     {
         let (first, pieces) = self.next_passed(at);
         self.conns.pass(now, at, first, pieces);
@@ -187,6 +190,7 @@ impl Flows {
         requires { at < length self.old.conns }
         ensures told { TellsOne at (pdu_of pdu.now) self.old self.new }
         ensures ends { self.new.journal.ends ≡ self.old.journal.ends }
+        ensures leaves { ChangesAt (λ i. i ≡ at) self.old self.new }
     {
         self.conns.on_ack(at, pdu);
     }
@@ -242,7 +246,8 @@ impl Flows {
         requires now { now ≤ 10000000 }
         requires end { at < length self.old.journal.ends }
         requires conn { at < length self.old.conns }
-        ensures { ArrivesIn now at (pdu_of pdu.now) self.old ledger.old result self.new ledger.new }
+        ensures arrives { ArrivesIn now at (pdu_of pdu.now) self.old ledger.old result self.new ledger.new }
+        ensures leaves { ChangesAt (λ i. i ≡ at) self.old self.new }
     {
         let unpassed = self.unpassed(at);
         let bodies = self.conns.at(at).rx.ahead(alloc, now, pdu, unpassed)?;
@@ -269,7 +274,8 @@ impl Flows {
         ledger: &mut Ledger,
     ) -> Result<bool, Memory>
         requires { at < length self.old.conns }
-        ensures { ForgetsIn now at self.old ledger.old result self.new ledger.new }
+        ensures forgets { ForgetsIn now at self.old ledger.old result self.new ledger.new }
+        ensures leaves { ChangesAt (λ i. i ≡ at) self.old self.new }
     {
         let rx = &self.conns.at(at).rx;
         let kept = rx.kept();
@@ -302,7 +308,8 @@ impl Flows {
     ) -> Result<(), Memory>
         requires end { at < length self.old.journal.ends }
         requires conn { at < length self.old.conns }
-        ensures { StopsIn now at state self.old ledger.old result self.new ledger.new }
+        ensures stops { StopsIn now at state self.old ledger.old result self.new ledger.new }
+        ensures leaves { ChangesAt (λ i. i ≡ at) self.old self.new }
     {
         let kept = self.conns.at(at).rx.kept();
         let mut lines = ledger.take(alloc);
@@ -336,6 +343,7 @@ impl Flows {
         requires piece { 1 ≤ piece }
         ensures ends { OnOk result (self.new.journal.ends ≡ self.old.journal.ends ++ asker ∷ far ∷ []) }
         ensures adds { OnOk result (Adds cube.now piece max peer asker far self.old self.new) }
+        ensures keeps { OnOk result (SameBut (λ i. length self.old.conns ≤ i) self.old.conns self.new.conns) }
         ensures err { OnErr result (self.new ≡ self.old) }
     {
         let conn = Conn::new(alloc, cube, piece, max, peer)?;

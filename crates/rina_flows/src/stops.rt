@@ -4,7 +4,9 @@ ghost use Rattle.std.specs.Vec.{vec_capacity};
 ghost use Rattle.rina_conn.specs.declared.conn.Conn.{Conn};
 ghost use Rattle.rina_iface.specs.declared.ends.End.{End};
 ghost use Rattle.rina_flows.specs.Calls.{Becomes};
+ghost use Rattle.rina_dif_law.specs.Losing.{IsAllocatedAt};
 ghost use Rattle.rina_flows.specs.Delivering.{GivesUpAll, closed};
+ghost use Rattle.rina_flows.specs.Elsewhere.{ChangesAt};
 ghost use Rattle.rina_flows.specs.Stopping.{StopsAll, held_before, held_by, is_here};
 
 use crate::flows::Flows;
@@ -46,7 +48,8 @@ impl Flows {
     /// off what their connections hold. Takes memory only where `lines` has no room.
     pub fn stop_all(&mut self, now: Tick, node: Node, state: PortState, lines: &mut Vec<Off>)
         requires { length self.old.journal.ends ≡ length self.old.conns }
-        ensures { StopsAll now node state self.old lines.old.items (vec_capacity lines.old) self.new lines.new.items }
+        ensures stops { StopsAll now node state self.old lines.old.items (vec_capacity lines.old) self.new lines.new.items }
+        ensures leaves { ChangesAt (IsAllocatedAt self.old.journal.ends node) self.old self.new }
     {
         for at in 0..self.conns.len() {
             let Some(end) = self.journal.ends.get(at) else {

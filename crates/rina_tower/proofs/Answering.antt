@@ -58,6 +58,7 @@ sends_any refuses may slots slots' below node link r below' d d' s = record {
   shelf = λ alive. asks_home_any (may d.settings.policy) d.settings.policy d.settings node link slots slots' d.processes r d'.processes (s.shelf alive);
   failed = s.failed;
   rest = s.rest;
+  leaves = s.leaves;
 }
 
 -- Walks

@@ -24,6 +24,7 @@ use Rattle.rina_dif.specs.Planned.{flows_in, flows_of}
 use Rattle.rina_tower.specs.declared.tower.Tower.{Tower}
 use Rattle.rina_tower.specs.Bystanders.{IsIpc}
 use Rattle.rina_tower.specs.Built.{has_rank}
+use Rattle.rina_tower.specs.Calls.{BindsWhole}
 use Rattle.rina_tower.specs.Fits.{flows_at}
 use Rattle.rina_tower.specs.BuildSteps.{AreBound, HasBound, IsPlain, flows_before, flows_there}
 use Rattle.rina_tower.specs.Ranks.{seen_of}
@@ -34,6 +35,7 @@ use Rattle.rina_tower.proofs.Calling.{binds_alone}
 use Rattle.rina_tower.proofs.FitChains.{front_can, rest_can}
 use Rattle.rina_tower.proofs.FitNames.{plain_name}
 use Rattle.rina_tower.proofs.FitMade.{append_nil, range_more}
+use Rattle.rina_tower.proofs.FitWhole.{turn_on}
 
 -- In parts
 
@@ -52,6 +54,7 @@ has_none t valid = record {
   below = same_refl t;
   alone = all_alone IsIpc (seen_of t);
   bound = record { ports = []; bound = refl };
+  whole = refl;
 }
 
 pub has_more : (t u v : Tower) (xs ys : List Fixed) → HasBound t xs u → HasBound u ys v → HasBound t (xs ++ ys) v
@@ -60,14 +63,16 @@ has_more t u v xs ys a b = record {
   below = same_trans t u v a.below b.below;
   alone = now_on IsIpc (seen_of t) (seen_of u) (seen_of v) a.alone b.alone;
   bound = bound_on (seen_of t) (seen_of u) (seen_of v) xs ys a.bound b.bound;
+  whole = turn_on t u v xs ys a.whole b.whole;
 }
 
-pub has_one : (t t' : Tower) (fixed : Fixed) (ports : Port × Port) → IsTower t' → SameBelow t t' → IsPlain fixed → Binds (seen_of t) fixed (Ok ports) (seen_of t') → HasBound t (fixed ∷ []) t'
-has_one t t' fixed ports valid same plain w = record {
+pub has_one : (t t' : Tower) (fixed : Fixed) (ports : Port × Port) → IsTower t' → SameBelow t t' → IsPlain fixed → Binds (seen_of t) fixed (Ok ports) (seen_of t') → BindsWhole t fixed (Ok ports) t' → HasBound t (fixed ∷ []) t'
+has_one t t' fixed ports valid same plain w does = record {
   valid = valid;
   below = same;
   alone = binds_alone IsIpc (seen_of t) fixed (Ok ports) (seen_of t') plain.a plain.b w;
   bound = record { ports = ports ∷ []; bound = (seen_of t', w, refl) };
+  whole = (ports, t', does, refl);
 }
 
 -- what can be bound after the first of them

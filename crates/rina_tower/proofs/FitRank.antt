@@ -15,13 +15,15 @@ use Rattle.rina_stack.specs.declared.plan.Plan.{Plan}
 use Rattle.rina_stack.specs.Plan.{IsPlan}
 use Rattle.rina_dif.specs.declared.dif.Dif.{Dif}
 use Rattle.rina_dif.specs.Holding.{Stands}
-use Rattle.rina_dif.specs.Laying.{BindsAll, CanBindAll, CanLay, IsNew, Lays}
+use Rattle.rina_dif.specs.Laying.{BindsAll, BindsInTurn, CanBindAll, CanLay, IsNew, Lays}
 use Rattle.rina_dif.specs.Planned.{links_in, links_of}
 use Rattle.rina_wire.specs.Air.{Air, seen_of as seen_of_wires}
 use Rattle.rina_wire.specs.Plan.{air_of}
 use Rattle.rina_wire.specs.Sound.{IsSound}
 use Rattle.rina_tower.specs.declared.tower.Tower.{Tower, Rank', Wires}
 use Rattle.rina_tower.specs.Built.{AreMade, IsBuilt, IsBuiltFrom, IsRankOf, IsTop, IsUsed, has_rank, places_in}
+use Rattle.rina_tower.specs.BuiltWhole.{AreMadeOver, IsBuiltWhole}
+use Rattle.rina_tower.specs.Calls.{BindsWhole}
 use Rattle.rina_tower.specs.Fits.{flows_at, links_at}
 use Rattle.rina_tower.specs.Layout.{IsGround, IsLaying}
 use Rattle.rina_tower.specs.BuildSteps.{AreBound, AreLaid, HasBound, IsHalfMade, IsHighest, IsRaised, LaysNext}
@@ -33,6 +35,7 @@ use Rattle.rina_tower.proofs.FitBound.{bound_on, rank_no, rank_yes}
 use Rattle.rina_tower.proofs.FitGround.{none_flat, rank_ground, wires_ground}
 use Rattle.rina_tower.proofs.FitMade.{all_made, begun, can_lay, laid_on, passed_over}
 use Rattle.rina_tower.proofs.FitNames.{are_named}
+use Rattle.rina_tower.proofs.FitWhole.{built_whole, fresh_up, fresh_wires, over_next, over_same}
 use Rattle.rina_tower.proofs.Ranking.{is_rank, standing_beside}
 use Rattle.rina_tower.proofs.Serving.{same_height}
 use Rattle.rina_tower.proofs.Staying.{next_planned, none_planned, same_planned}
@@ -93,7 +96,7 @@ top_used plan (Rank' p difs below) (Rank' p' difs' below') top same b =
 -- A rank more
 
 pub start_raised : (plan : Plan) (a : Air) → IsSound a → a ≡ air_of plan → IsRaised plan 0 (Wires a)
-start_raised plan a sound is = record { valid = sound; top = is; height = refl; planned = tt }
+start_raised plan a sound is = record { valid = sound; top = is; height = refl; planned = tt; fresh = fresh_wires plan a is }
 
 pub raised_ground : (plan : Plan) (k : ℕ) (t : Tower) → IsPlan plan → IsRaised plan k t → IsGround plan k (seen_of t)
 raised_ground plan k t p h = subst (λ (n : ℕ). IsGround plan n (seen_of t)) h.height (top_ground plan t p h.top)
@@ -116,6 +119,7 @@ raised plan k p t u v difs low h laid flows =
       top = (seen_of t, below_built plan k t u v difs h laid flows, (seen_of u, subst (λ (n : ℕ). AreMade plan (places_in plan (n + 1) (length plan.difs)) (seen_of t) difs (seen_of u)) (sym height) laid.laying.made));
       height = ap (λ (n : ℕ). n + 1) height;
       planned = (subst (λ (n : ℕ). AreOfPlan plan (n + 1) difs) (sym height) laid.planned, same_planned plan t v (same_trans t u v laid.below flows.below) h.planned);
+      fresh = fresh_up plan k p t u v difs h.fresh laid.made flows.whole;
     }
 
 -- The highest rank
@@ -180,6 +184,9 @@ last_planned plan r t t' h flows = same_planned plan t t' flows.below h.planned
 pub last_height : (plan : Plan) (r : ℕ) (t t' : Tower) → IsRaised plan r t → HasBound t (flows_at plan r) t' → height_of t' ≡ r
 last_height plan r t t' h flows = same_height t t' flows.below ∙ h.height
 
+pub last_whole : (plan : Plan) (r : ℕ) (t t' : Tower) → IsRaised plan r t → HasBound t (flows_at plan r) t' → IsBuiltWhole plan t'
+last_whole plan r t t' h flows = built_whole plan r t t' (last_height plan r t t' h flows) h.fresh flows.whole
+
 -- The DIFs of a rank, one after the other
 
 pub laid_none : (plan : Plan) (k : ℕ) (t : Tower) (difs : List Dif) → IsTower t → IsGround plan k (seen_of t) → difs ≡ [] → AreLaid plan k 0 t difs t
@@ -188,6 +195,7 @@ laid_none plan k t difs valid ground none = record {
   below = same_refl t;
   laying = subst (λ (ds : List Dif). IsLaying plan k 0 (seen_of t) ds (seen_of t)) (sym none) (begun plan k (seen_of t) ground);
   planned = subst (AreOfPlan plan (k + 1)) (sym none) (none_planned plan (k + 1));
+  made = subst (λ (ds : List Dif). AreMadeOver plan (places_in plan (k + 1) 0) t ds t) (sym none) refl;
 }
 
 pub laid_more : (plan : Plan) (k at : ℕ) (t u v : Tower) (difs difs' : List Dif) → IsGround plan k (seen_of t) → AreLaid plan k at t difs u → LaysNext plan k at difs u difs' v → AreLaid plan k (at + 1) t difs' v
@@ -196,6 +204,7 @@ laid_more plan k at t u v difs difs' ground a b = record {
   below = same_trans t u v a.below b.below;
   laying = b.laying (seen_of t) ground a.laying;
   planned = b.planned a.planned;
+  made = b.made t a.made;
 }
 
 pub laid_over : (plan : Plan) (k at : ℕ) (d : DifPlan) (difs : List Dif) (t : Tower) → slice_get plan.difs at ≡ Some d → d.rank ≢ k + 1 → at < length plan.difs → IsTower t → LaysNext plan k at difs t difs t
@@ -204,17 +213,19 @@ laid_over plan k at d difs t is other within valid = record {
   below = same_refl t;
   laying = λ ground g h. passed_over plan k at ground difs (seen_of t) within (rank_no plan (k + 1) at d is other) h;
   planned = λ h. h;
+  made = λ start m. over_same plan (k + 1) at difs start t (rank_no plan (k + 1) at d is other) m;
 }
 
 pub may_lay : (plan : Plan) (k at : ℕ) (d : DifPlan) (difs : List Dif) (t : Tower) → slice_get plan.difs at ≡ Some d → d.rank ≡ k + 1 → at < length plan.difs → IsPlan plan → IsHalfMade plan k at difs (seen_of t) → CanLay plan at (seen_of t)
 may_lay plan k at d difs t is own within p half = can_lay plan k at half.0 difs (seen_of t) (are_named plan p) half.1 within (rank_yes plan (k + 1) at d is own) half.2
 
-pub laid_next : (plan : Plan) (k at : ℕ) (d : DifPlan) (difs difs' : List Dif) (made : Dif) (t u : Tower) → slice_get plan.difs at ≡ Some d → d.rank ≡ k + 1 → at < length plan.difs → IsPlan plan → IsTower t → IsTower u → SameBelow t u → Lays plan at (seen_of t) (seen_of u) → Stands made (seen_of u) → IsNew plan at made (seen_of t) (seen_of u) → made.laid.links ≡ d.links → difs' ≡ difs ++ made ∷ [] → LaysNext plan k at difs t difs' u
-laid_next plan k at d difs difs' made t u is own within p valid valid' same lays stands new links more = record {
+pub laid_next : (plan : Plan) (k at : ℕ) (d : DifPlan) (difs difs' : List Dif) (made : Dif) (t u : Tower) → slice_get plan.difs at ≡ Some d → d.rank ≡ k + 1 → at < length plan.difs → IsPlan plan → IsTower t → IsTower u → SameBelow t u → Lays plan at (seen_of t) (seen_of u) → Stands made (seen_of u) → IsNew plan at made (seen_of t) (seen_of u) → BindsInTurn BindsWhole t (links_of plan at) u → made.laid.links ≡ d.links → difs' ≡ difs ++ made ∷ [] → LaysNext plan k at difs t difs' u
+laid_next plan k at d difs difs' made t u is own within p valid valid' same lays stands new turn links more = record {
   valid = valid';
   below = same;
   laying = λ ground g h. subst (λ (ds : List Dif). IsLaying plan k (at + 1) ground ds (seen_of u)) (sym more) (laid_on plan k at ground difs (seen_of t) (seen_of u) made (are_named plan p) within (rank_yes plan (k + 1) at d is own) (kept_of t valid) (kept_of u valid') h lays stands new);
   planned = next_planned plan at (k + 1) d difs difs' made (seen_of t) (seen_of u) is own new links more;
+  made = λ start m. over_next plan (k + 1) at difs difs' made start t u (rank_yes plan (k + 1) at d is own) new turn more m;
 }
 
 pub all_laid : (plan : Plan) (k at n : ℕ) (t u : Tower) (difs : List Dif) → at ≤ n → n ≤ at → n ≡ length plan.difs → AreLaid plan k at t difs u → AreLaid plan k (length plan.difs) t difs u

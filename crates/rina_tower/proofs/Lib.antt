@@ -15,6 +15,7 @@ pub mod FitNames
 pub mod FitRank
 pub mod FitRooms
 pub mod FitTakes
+pub mod FitWhole
 pub mod FitWires
 pub mod Lasting
 pub mod Shows

@@ -40,6 +40,7 @@ holds_beside who d lines below below' kept kept' mine alone h =
       numbered = beside_numbered (seen_of_dif d) below below' kept' h.numbered up;
       accounted = beside_accounted (seen_of_dif d) lines below below' kept' h.accounted up;
       caused = caused_on (seen_of_dif d) (seen_of_dif d) below below' (none_is (seen_of_dif d) (seen_of_dif d) refl) (lower_later (config_of d.settings) below below' kept' up.later) h.caused;
+      written_off = h.written_off;
       housed = h.housed;
       routed = h.routed;
     }

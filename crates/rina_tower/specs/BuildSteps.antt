@@ -7,11 +7,13 @@ use Rattle.rina_iface.specs.Seen.{Seen}
 use Rattle.rina_plan.specs.declared.dif.DifPlan.{DifPlan}
 use Rattle.rina_stack.specs.declared.plan.Plan.{Plan}
 use Rattle.rina_dif.specs.declared.dif.Dif.{Dif}
-use Rattle.rina_dif.specs.Laying.{BindsAll}
+use Rattle.rina_dif.specs.Laying.{BindsAll, BindsInTurn}
 use Rattle.rina_dif.specs.Planned.{flows_of}
 use Rattle.rina_tower.specs.declared.tower.Tower.{Tower}
 use Rattle.rina_tower.specs.Bystanders.{IsIpc, LeavesNow}
-use Rattle.rina_tower.specs.Built.{IsTop, has_rank}
+use Rattle.rina_tower.specs.Built.{IsTop, has_rank, places_in}
+use Rattle.rina_tower.specs.BuiltWhole.{AreMadeOver, IsFresh}
+use Rattle.rina_tower.specs.Calls.{BindsWhole}
 use Rattle.rina_tower.specs.Layout.{IsGround, IsLaying}
 use Rattle.rina_tower.specs.PlanSettings.{AreOfPlan, IsAsPlanned}
 use Rattle.rina_tower.specs.Ranks.{height_of, seen_of}
@@ -37,12 +39,13 @@ pub record AreBound (old : Seen) (flows : List Fixed) (new : Seen) : Type 0 wher
   pub ports : List (Port × Port)
   pub bound : BindsAll old flows ports new
 
--- these flows were bound on the top rank of a tower, and none of them is one of an IPC process
+-- these flows were bound on the top rank of a tower, and nothing else was done there; none of them is one of an IPC process
 pub record HasBound (old : Tower) (flows : List Fixed) (new : Tower) : Type 0 where
   pub valid : IsTower new
   pub below : SameBelow old new
   pub alone : LeavesNow IsIpc (seen_of old) (seen_of new)
   pub bound : AreBound (seen_of old) flows (seen_of new)
+  pub whole : BindsInTurn BindsWhole old flows new
 
 -- the flows of the DIF of a place of the stack, where it is one of this rank
 abbrev pub flows_there : Plan → ℕ → ℕ → List Fixed
@@ -64,6 +67,7 @@ pub record LaysNext (plan : Plan) (k at : ℕ) (difs : List Dif) (old : Tower) (
   pub below : SameBelow old new
   pub laying : (ground : Seen) → IsGround plan k ground → IsLaying plan k at ground difs (seen_of old) → IsLaying plan k (at + 1) ground difs' (seen_of new)
   pub planned : AreOfPlan plan (k + 1) difs → AreOfPlan plan (k + 1) difs'
+  pub made : (start : Tower) → AreMadeOver plan (places_in plan (k + 1) at) start difs old → AreMadeOver plan (places_in plan (k + 1) (at + 1)) start difs' new
 
 -- the DIFs of the rank above were made over a tower, as far as a place of the stack
 pub record AreLaid (plan : Plan) (k at : ℕ) (old : Tower) (difs : List Dif) (new : Tower) : Type 0 where
@@ -71,6 +75,7 @@ pub record AreLaid (plan : Plan) (k at : ℕ) (old : Tower) (difs : List Dif) (n
   pub below : SameBelow old new
   pub laying : IsLaying plan k at (seen_of old) difs (seen_of new)
   pub planned : AreOfPlan plan (k + 1) difs
+  pub made : AreMadeOver plan (places_in plan (k + 1) at) old difs new
 
 -- a tower of so many ranks, of which nobody has used the own one
 pub record IsRaised (plan : Plan) (r : ℕ) (t : Tower) : Type 0 where
@@ -78,3 +83,4 @@ pub record IsRaised (plan : Plan) (r : ℕ) (t : Tower) : Type 0 where
   pub top : IsTop plan t
   pub height : height_of t ≡ r
   pub planned : IsAsPlanned plan t
+  pub fresh : IsFresh plan r t

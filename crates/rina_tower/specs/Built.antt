@@ -1,4 +1,4 @@
--- What a tower is when it has been built of a plan.
+-- What a tower shows when it has been built of a plan.
 use Rattle.std.specs.Prelude.{◌≡◌, ℕ, ◌+◌, ◌==◌, Bool, List, [], ◌∷◌, ◌++◌, filter, length}
 use Rattle.std.specs.List.{range_with_len}
 use Rattle.rina_base.specs.declared.number.Port.{Port}

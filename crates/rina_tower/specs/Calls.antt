@@ -1,5 +1,5 @@
 -- What the calls of a facility do at the top rank of a tower.
-use Rattle.std.specs.Prelude.{◌≡◌, ℕ, true, false, List, length, slice_get, Option, Some, None, IsSome, Result, Err}
+use Rattle.std.specs.Prelude.{◌≡◌, ◌≤◌, ℕ, true, false, List, length, slice_get, Option, Some, None, IsSome, Result, Err}
 use Rattle.rina_base.specs.declared.number.Num.{Num}
 use Rattle.rina_base.specs.declared.number.Port.{Port}
 use Rattle.rina_iface.specs.declared.ask.Ask.{Ask}
@@ -27,6 +27,8 @@ use Rattle.rina_iface.specs.Unregister.{Unregisters}
 use Rattle.rina_law.specs.Direction.{Direction}
 use Rattle.rina_dif.specs.declared.dif.Dif.{Dif}
 use Rattle.rina_dif.specs.Binding.{BindsTo}
+use Rattle.rina_flows.specs.Elsewhere.{SameBut}
+use Rattle.rina_dif.specs.Elsewhere.{ChangesOnly, IsPortAt, WhenOk, home_of}
 use Rattle.rina_dif.specs.Facade.{GoesOn, IsShownAs, PassesAt, StaysStanding, its_oldest, own_refusal, shown_as}
 use Rattle.rina_dif.specs.Freeing.{FreesAt}
 use Rattle.rina_dif.specs.Holding.{Holds}
@@ -93,10 +95,11 @@ AllocatesAtTop ask result (Rank' p difs below) (Rank' p' difs' below') =
     AtDif ask.fac (Serves (λ s s'. Allocates (Some allocate.Unbuilt) s ask result s') ChangesNothing ask.fac) (result ≡ Err allocate.NoMember) difs difs' × (below' ≡ below)
 AllocatesAtTop ask result t t' = ⊥
 
--- what `bind` does at the DIF of a fixed flow
+-- what `bind` does at the DIF of a fixed flow, where each connection that was there stays as it was
 pub record BindsFrom (fixed : Fixed) (result : Result (Port × Port) AllocateError) (d d' : Dif) : Type 0 where
   pub serves : Serves (λ s s'. Binds s fixed result s') ChangesNames fixed.fac d d'
   pub does : (lines : List Direction) (below : Seen) → Holds d lines below → BindsTo d lines below fixed result d'
+  pub leaves : SameBut (λ i. length d.flows.conns ≤ i) d.flows.conns d'.flows.conns
 
 -- under the condition of `bind` there is such a DIF
 abbrev pub BindsAtTop : Fixed → Result (Port × Port) AllocateError → Tower → Tower → Type 0
@@ -117,10 +120,12 @@ ClaimsAtTop fac node app result t t' = ⊥
 
 -- SDUs
 
--- what `send` does at the DIF of a port
+-- what `send` does at the DIF of a port: an accepted one changes that end, its connection and the IPC process of its node,
+-- and no other, and a refused one no end and no connection
 pub record SendsFrom (port : Port) (bytes : List ℕ) (result : Result Num SendError) (d d' : Dif) : Type 0 where
   pub serves : Serves (λ s s'. Sends (own_refusal d port (length bytes)) s port bytes result s') ChangesTraffic port.fac d d'
   pub does : (lines : List Direction) (below : Seen) → Holds d lines below → SendsAt (place_in port d.flows.journal.ends) d lines below bytes result d'
+  pub leaves : ChangesOnly (λ i. WhenOk result (IsPortAt d port i)) (home_of d port.node) d d'
 
 abbrev pub SendsAtTop : Port → List ℕ → Result Num SendError → Tower → Tower → Type 0
 SendsAtTop port bytes result (Wires a) (Wires a') = SendsOn a port bytes result a'
@@ -132,10 +137,11 @@ SendsAtTop port bytes result t t' = ⊥
 abbrev pub SendsWhole : Tower → Port → List ℕ → Result Num SendError → Tower → Type 0
 SendsWhole t port bytes result t' = (has_failed t ≡ false → SendsAtTop port bytes result t t') × (has_failed t ≡ true → (result ≡ Err send.Memory) × (t' ≡ t))
 
--- what `pass` does at the DIF of a port
+-- what `pass` does at the DIF of a port, where no other end, no other connection and no IPC process changes
 pub record PassesFrom (port : Port) (d d' : Dif) : Type 0 where
   pub serves : Serves (λ s s'. IsPassed s port s') ChangesFlows port.fac d d'
   pub does : (lines : List Direction) (below : Seen) → Holds d lines below → PassesAt d lines port d' below
+  pub leaves : ChangesOnly (IsPortAt d port) None d d'
 
 -- where an SDU waits there is such a DIF
 abbrev pub PassesAtTop : Port → Tower → Tower → Type 0
@@ -145,10 +151,11 @@ PassesAtTop port t t' = ⊥
 
 -- The end of a flow
 
--- what `free` does at the DIF of a port
+-- what `free` does at the DIF of a port, where no other end, no other connection and no IPC process of another node changes
 pub record FreesFrom (port : Port) (result : Result (Unit {0}) FreeError) (d d' : Dif) : Type 0 where
   pub serves : Serves (λ s s'. Frees false s port result s') ChangesTraffic port.fac d d'
   pub does : (lines : List Direction) (below : Seen) → Holds d lines below → FreesAt (place_in port d.flows.journal.ends) d lines below result d'
+  pub leaves : ChangesOnly (λ i. WhenOk result (IsPortAt d port i)) (home_of d port.node) d d'
 
 abbrev pub FreesAtTop : Port → Result (Unit {0}) FreeError → Tower → Tower → Type 0
 FreesAtTop port result (Wires a) (Wires a') = FreesOn a port result a'

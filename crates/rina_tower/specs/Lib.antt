@@ -1,6 +1,7 @@
 pub mod Applications
 pub mod BuildSteps
 pub mod Built
+pub mod BuiltWhole
 pub mod Bystanders
 pub mod Calls
 pub mod Cdap

@@ -1,5 +1,5 @@
 -- What the steps of the DIFs do at rank r of a tower.
-use Rattle.std.specs.Prelude.{◌≡◌, ℕ, true, false, List, Option, Result, Err}
+use Rattle.std.specs.Prelude.{◌≡◌, ℕ, true, false, List, Option, Some, Result, Err}
 use Rattle.rina_base.specs.declared.number.Port.{Port}
 use Rattle.rina_iface.specs.declared.error.SendError.{SendError}
 use Rattle.rina_iface.specs.Pass.{PassesAsSeen}
@@ -16,6 +16,8 @@ use Rattle.rina_data.specs.declared.step.StepError.TheVariants.{Memory, NoIpc}
 use Rattle.rina_data.specs.Lower.{PassesBelow, SendsBelow}
 use Rattle.rina_dif.specs.declared.dif.Dif.{Dif}
 use Rattle.rina_dif.specs.Clocking.{ClockSteps, FailsLate}
+use Rattle.rina_flows.specs.Elsewhere.{SameBut}
+use Rattle.rina_dif.specs.Elsewhere.{ChangesOnly, MayClock, MayTake, home_of}
 use Rattle.rina_dif.specs.Holding.{Holds}
 use Rattle.rina_dif.specs.Shown.{seen_of as seen_of_dif}
 use Rattle.rina_dif.specs.Steps.{AsksHome, OutsAt}
@@ -30,11 +32,13 @@ use Rattle.rina_tower.specs.Unchanged.{ChangesProcesses, ChangesTraffic}
 
 -- What comes
 
--- a DIF takes the oldest SDU of a link
+-- a DIF takes the oldest SDU of a link; of the ends, with their connections, it changes at most the one to which the PDU came
+-- that it tells, and it changes no IPC process of another node
 pub record TakesOne (below : Seen) (node link : ℕ) (result : Result InStep StepError) (below' : Seen) (d d' : Dif) : Type 0 where
   pub does : (lines : List Direction) → Holds d lines below → TakesHome d lines below node link result d' below'
   pub after : StandsAfter below below' d d'
   pub rest : ChangesTraffic d d'
+  pub leaves : ChangesOnly (MayTake result d (home_of d node)) (home_of d node) d d'
 
 -- at the top rank: the DIF of that place, over the rank below, where one SDU is passed at most and nothing else changes
 abbrev pub InStepsAtTop : ℕ → ℕ → ℕ → Result InStep StepError → Tower → Tower → Type 0
@@ -50,11 +54,12 @@ InSteps r dif node link result t t' = AtRank r (InStepsAtTop dif node link resul
 
 -- What leaves
 
--- a DIF lets a PDU go that the shelf picks; `may` is what the policies may answer
+-- a DIF lets a PDU go that the shelf picks, and no IPC process of another node changes; `may` is what the policies may answer
 pub record SendsOne (refuses : Port → ℕ → Option SendError) (may : List ℕ → ℕ → List Head → ℕ → Type 0) (slots slots' : List Slot) (below : Seen) (node link : ℕ) (result : Result OutStep StepError) (below' : Seen) (d d' : Dif) : Type 0 where
   pub does : OutsAt refuses (seen_of_dif d) below node link result (seen_of_dif d') below'
   pub after : StandsAfter below below' d d'
   pub rest : ChangesProcesses d d'
+  pub leaves : SameBut (λ i. home_of d node ≡ Some i) d.processes d'.processes
   pub shelf : d.failed ≡ false → AsksHome (may d.settings.policy) d.settings node link slots slots' d.processes result d'.processes
   pub failed : d.failed ≡ true → result ≡ Err Memory
 
@@ -72,12 +77,15 @@ OutSteps may slots slots' r dif node link result t t' =
 
 -- What comes with time
 
--- a DIF does the first thing that is due at a node; a flow fails only for its causes
+-- a DIF does the first thing that is due at a node; a flow fails only for its causes. Of the ends, with their connections,
+-- it changes at most the one whose CEP-id it tells, or, where a link is lost, those of the node; and no IPC process of
+-- another node
 pub record ClocksOne (below : Seen) (node : ℕ) (result : Result ClockStep StepError) (below' : Seen) (d d' : Dif) : Type 0 where
   pub does : (lines : List Direction) → Holds d lines below → ClockSteps d lines below node result d' below'
   pub fails : (lines : List Direction) → Holds d lines below → FailsLate d lines below d'
   pub after : StandsAfter below below' d d'
   pub rest : ChangesTraffic d d'
+  pub leaves : ChangesOnly (MayClock result d (home_of d node)) (home_of d node) d d'
 
 -- over the rank below, where nothing changes
 abbrev pub ClocksAtTop : ℕ → ℕ → Result ClockStep StepError → Tower → Tower → Type 0

@@ -6,6 +6,7 @@ ghost use Rattle.rina_stack.specs.Plan.{IsPlan};
 ghost use Rattle.rina_dif.specs.Laying.{CanBindAll};
 ghost use Rattle.rina_dif.specs.Planned.{flow_fixed};
 ghost use Rattle.rina_tower.specs.Built.{IsBuilt};
+ghost use Rattle.rina_tower.specs.BuiltWhole.{IsBuiltWhole};
 ghost use Rattle.rina_tower.specs.MemoryFailure.{has_failed};
 ghost use Rattle.rina_tower.specs.Fits.{flows_at};
 ghost use Rattle.rina_tower.specs.Layout.{IsGround};
@@ -201,6 +202,7 @@ impl Tower {
         requires plan { IsPlan plan.now }
         ensures stands { IfOk result IsTower }
         ensures built { IfOk result (IsBuilt plan.now) }
+        ensures whole { IfOk result (IsBuiltWhole plan.now) }
         ensures height { IfOk result (λ t. IsHighest plan.now.difs (height_of t)) }
         ensures planned { IfOk result (IsAsPlanned plan.now) }
         ensures alive { IfOk result (λ t. has_failed t ≡ false) }

@@ -13,5 +13,5 @@ returns-clause-does c =
       loses = ok.0;
       room = vec_capacity lines;
       fits = subst (λ (n : ℕ). length lines.items + n ≤ vec_capacity lines) c.in-Some.ensures ok.1;
-      stops = subst (λ (l : List Off). StopsAll c.args.now c.args.node c.args.state c.args.flows.now lines.items (vec_capacity lines) c.stop_all.new.self l) (sym c.put.ensures) c.stop_all.ensures;
+      stops = subst (λ (l : List Off). StopsAll c.args.now c.args.node c.args.state c.args.flows.now lines.items (vec_capacity lines) c.stop_all.new.self l) (sym c.put.ensures) c.stop_all.ensures.stops;
     }

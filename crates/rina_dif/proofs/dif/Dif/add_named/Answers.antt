@@ -6,3 +6,9 @@ returns-clause-ok c = elim c.match-reserve.branch [
   | in-Ok w ↦ rw (w.added-is, w.self-is) w.add_flow-added.ensures.ok
   | in-Err w ↦ rw w.added-is tt
 ]
+
+pub returns-clause-keeps : goal.returns-clause-keeps
+returns-clause-keeps c = elim c.match-reserve.branch [
+  | in-Ok w ↦ rw (w.added-is, w.self-is) w.add_flow-added.ensures.keeps
+  | in-Err w ↦ rw w.added-is tt
+]

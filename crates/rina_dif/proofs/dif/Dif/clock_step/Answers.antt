@@ -1,6 +1,7 @@
 use Rattle.std.proofs.Common.{◌∙◌, sym}
 use Rattle.rina_dif.proofs.Beside.{clock_is_step, no_step, step_noted}
 use Rattle.rina_dif.proofs.Failing.{fails_late, steps_home}
+use Rattle.rina_dif.proofs.Elsewhere.{clock_noted}
 use Rattle.rina_dif.proofs.dif.Dif.clock_step.Goals as goal
 
 pub returns-clause-does : goal.returns-clause-does
@@ -28,3 +29,6 @@ returns-clause-goes_on g c = (step_noted c.args.self.now (g.F.Facility.seen c.ar
 
 pub returns-clause-silent : goal.returns-clause-silent
 returns-clause-silent g c = (step_noted c.args.self.now (g.F.Facility.seen c.args.below.now) c.step_at-step.new.self c.remember_memory_failure.new.failed (g.F.Facility.seen c.args.below.now) (clock_is_step c.args.self.now (g.F.Facility.seen c.args.below.now) c.args.node c.step_at-step.result c.step_at-step.new.self c.requires.stands (c.step_at-step.ensures.does c.requires.stands.0 c.requires.stands.1))).silent
+
+pub returns-clause-leaves : goal.returns-clause-leaves
+returns-clause-leaves g c = clock_noted c.step_at-step.result c.remember_memory_failure.result c.args.self.now (record c.step_at-step.new.self { failed = c.remember_memory_failure.new.failed }) c.args.node c.in-Some.at (sym c.place_at_node.ensures.place ∙ c.in-Some.is) c.remember_memory_failure.ensures.same c.step_at-step.ensures.leaves

@@ -1,6 +1,7 @@
 use Rattle.std.proofs.Common.{◌∙◌, sym, true, Ok, Err}
 use Rattle.rina_iface.specs.declared.error.FreeError.TheVariants.{Memory, NoPort}
 use Rattle.rina_dif.proofs.Freed.{fails_for, freed_goes_on, freed_shown, freed_stays, freed_whole, frees_for, nowhere_for, wants_for}
+use Rattle.rina_dif.proofs.Elsewhere.{at_port, done_at, failed_at}
 use Rattle.rina_dif.proofs.dif.Dif.free.Goals as goal
 
 pub returns-then-self-clause-does : goal.returns-then-self-clause-does
@@ -50,3 +51,12 @@ returns-clause-goes_on c = freed_goes_on c.args.self.now c.args.port (Ok tt) c.f
 
 pub returns-clause-stands : goal.returns-clause-stands
 returns-clause-stands c = freed_stays c.args.self.now c.args.port (Ok tt) c.free_at.new.self (frees_for c.args.self.now c.args.port c.in-Some.at c.free_at.result c.free_at.new.self (sym c.place.ensures.at ∙ c.in-Some.is) (sym c.is_err.ensures.value ∙ c.if-is_err.false) c.free_at.ensures.does)
+
+pub returns-then-is_err-clause-leaves : goal.returns-then-is_err-clause-leaves
+returns-then-is_err-clause-leaves c =
+    let d' = record c.free_at.new.self { failed = true } in
+    failed_at c.free_at.result c.args.self.now d' c.args.port (sym c.is_err.ensures.value ∙ c.if-is_err.true) (at_port c.free_at.result c.args.self.now d' c.args.port c.in-Some.at (sym c.place.ensures.at ∙ c.in-Some.is) c.free_at.ensures.leaves)
+
+pub returns-clause-leaves : goal.returns-clause-leaves
+returns-clause-leaves c =
+    done_at c.free_at.result c.args.self.now c.free_at.new.self c.args.port (at_port c.free_at.result c.args.self.now c.free_at.new.self c.args.port c.in-Some.at (sym c.place.ensures.at ∙ c.in-Some.is) c.free_at.ensures.leaves)

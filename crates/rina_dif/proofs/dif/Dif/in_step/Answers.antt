@@ -1,6 +1,7 @@
 use Rattle.std.proofs.Common.{◌∙◌, sym}
 use Rattle.rina_dif.proofs.Beside.{in_is_step, no_step, step_noted}
 use Rattle.rina_dif.proofs.Taken.{takes_home}
+use Rattle.rina_dif.proofs.Elsewhere.{in_noted}
 use Rattle.rina_dif.proofs.dif.Dif.in_step.Goals as goal
 
 pub returns-clause-does : goal.returns-clause-does
@@ -27,3 +28,6 @@ returns-clause-silent g c = (step_noted c.args.self.now (g.F.Facility.seen c.arg
 
 pub returns-clause-others : goal.returns-clause-others
 returns-clause-others g c = (step_noted c.args.self.now (g.F.Facility.seen c.args.below.now) c.in_step_at-step.new.self c.remember_memory_failure.new.failed (g.F.Facility.seen c.in_step_at-step.new.below) (in_is_step c.args.self.now (g.F.Facility.seen c.args.below.now) c.in-Some.at c.args.link c.in_step_at-step.result c.in_step_at-step.new.self (g.F.Facility.seen c.in_step_at-step.new.below) (g.met.F.Facility.kept c.args.below.now c.requires.valid) (g.met.F.Facility.kept c.in_step_at-step.new.below c.in_step_at-step.ensures.valid) c.requires.stands (c.in_step_at-step.ensures.does c.requires.stands.0 c.requires.stands.1))).others
+
+pub returns-clause-leaves : goal.returns-clause-leaves
+returns-clause-leaves g c = in_noted c.in_step_at-step.result c.remember_memory_failure.result c.args.self.now (record c.in_step_at-step.new.self { failed = c.remember_memory_failure.new.failed }) c.args.node c.in-Some.at (sym c.place_at_node.ensures.place ∙ c.in-Some.is) c.remember_memory_failure.ensures.same c.in_step_at-step.ensures.leaves

@@ -1,7 +1,9 @@
-use Rattle.std.proofs.Common.{◌∙◌, sym, ap, option_map}
+use Rattle.std.proofs.Common.{◌∙◌, sym, ap, option_map, Some}
 use Rattle.std.proofs.lemmas.Result.{err_from_is_err_and}
 use Rattle.rina_data.specs.Hops.{hop_of}
 use Rattle.rina_dif.proofs.Taken.{comes_there, link_at, never_closed, no_link, none_waits, took_it, took_none}
+use Rattle.rina_base.specs.Pdus.{key_of}
+use Rattle.rina_dif.proofs.Elsewhere.{in_failed, in_took}
 use Rattle.rina_dif.proofs.dif.Dif.in_step_at.Goals as goal
 
 pub returns-in_default-live_link-clause-does : goal.returns-in_default-live_link-clause-does
@@ -91,3 +93,11 @@ returns-clause-does g c = λ lines h.
     let there = comes_there d lines below at n p link lent.at lent.bytes.now hop kept c.requires.at h c.in-Some.ensures is_link c.in-Some-peek.ensures opens in
     let kept' = g.met.F.Facility.kept c.pass.new.self c.pass.ensures.valid in
     took_it d lines below at n p link lent.at lent.bytes.now hop c.key-key.result c.in_ok-end.end c.route_or_deliver.new.self (g.F.Facility.seen c.pass.new.self) kept kept' c.requires.at h c.in-Some.ensures is_link c.in-Some-peek.ensures opens c.key-key.ensures (c.in_ok-end.ensures.does lines below h there) c.pass.ensures.does
+
+pub returns-in_err-end-clause-leaves : goal.returns-in_err-end-clause-leaves
+returns-in_err-end-clause-leaves g c =
+    let err = err_from_is_err_and c.from_residual.result c.from_residual.ensures.1 in
+    in_failed c.from_residual.result err.0 c.args.self.now c.route_or_deliver.new.self (Some c.args.at) err.1 c.in_err-end.ensures.leaves
+
+pub returns-clause-leaves : goal.returns-clause-leaves
+returns-clause-leaves g c = in_took (key_of (hop_of c.in-Some-open.hop).pdu) c.key-key.result c.in_ok-end.end c.args.self.now c.route_or_deliver.new.self (Some c.args.at) c.key-key.ensures c.in_ok-end.ensures.leaves

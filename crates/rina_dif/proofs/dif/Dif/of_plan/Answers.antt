@@ -37,7 +37,7 @@ returns-clause-exact g c =
     let dif = c.in-Some.dif.now in
     let seen = g.F.Facility.seen in
     let routed = same_routed c.as_slice-members.result.now made.settings.members c.as_slice.result.now dif.links c.lay_links.new.processes c.route_all.new.processes c.as_slice-members.ensures c.as_slice.ensures c.in_ok-route_all.ensures in
-    made_new c.args.plan.now c.args.at dif (record made { processes = c.route_all.new.processes; laid = c.in_ok-made-2.field-0 }) (seen c.args.below.now) (seen c.lay_links.new.below) c.in-Some.ensures (c.in_ok-made.ensures.settings ∙ c.in_ok-settings.ensures) (c.in_ok-made.ensures.clock ∙ c.now.ensures) c.in_ok-made.ensures.alive bare.ends bare.conns bare.waiting bare.names c.lay_links.new.processes c.in_ok-lay_links.ensures.ok routed
+    made_new c.args.plan.now c.args.at dif (record made { processes = c.route_all.new.processes; laid = c.in_ok-made-2.field-0 }) (seen c.args.below.now) (seen c.lay_links.new.below) c.in-Some.ensures (c.in_ok-made.ensures.settings ∙ c.in_ok-settings.ensures) (c.in_ok-made.ensures.clock ∙ c.now.ensures) c.in_ok-made.ensures.alive bare.ends bare.conns bare.waiting bare.names c.in_ok-made-2.ensures.ribs c.lay_links.new.processes c.in_ok-lay_links.ensures.ok routed
 
 pub returns-clause-whole : goal.returns-clause-whole
 returns-clause-whole g c = subst (λ (fs : List Fixed). BindsInTurn g.F.Facility.does_bind c.args.below.now fs c.lay_links.new.below) (sym (its_links c.args.plan.now c.args.at c.in-Some.dif.now c.in-Some.ensures)) c.in_ok-lay_links.ensures.whole

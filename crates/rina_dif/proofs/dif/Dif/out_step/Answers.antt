@@ -1,7 +1,8 @@
-use Rattle.std.proofs.Common.{◌∙◌, sym}
+use Rattle.std.proofs.Common.{◌∙◌, sym, ◌≡◌, ℕ, Option, Some, subst}
 use Rattle.rina_dif.specs.Shown.{seen_of}
 use Rattle.rina_dif.proofs.Beside.{no_step, out_is_step, step_noted}
 use Rattle.rina_dif.proofs.Leaves.{asks_home, outs_at}
+use Rattle.rina_flows.specs.Elsewhere.{SameBut}
 use Rattle.rina_dif.proofs.dif.Dif.out_step.Goals as goal
 
 pub returns-clause-does : goal.returns-clause-does
@@ -12,7 +13,7 @@ returns-clause-does g c =
 pub returns-clause-keeps : goal.returns-clause-keeps
 returns-clause-keeps g c = λ lines h.
     let k = c.out_step_at-step.ensures.keeps lines h in
-    record { tied = k.tied; standing = k.standing; carrying = k.carrying; numbered = k.numbered; accounted = k.accounted; caused = k.caused; housed = k.housed; routed = k.routed }
+    record { tied = k.tied; standing = k.standing; carrying = k.carrying; numbered = k.numbered; accounted = k.accounted; caused = k.caused; written_off = k.written_off; housed = k.housed; routed = k.routed }
 
 pub returns-clause-shelf : goal.returns-clause-shelf
 returns-clause-shelf g c = λ alive.
@@ -39,3 +40,8 @@ returns-clause-silent g c = (step_noted c.args.self.now (g.F.Facility.seen c.arg
 
 pub returns-clause-others : goal.returns-clause-others
 returns-clause-others g c = (step_noted c.args.self.now (g.F.Facility.seen c.args.below.now) c.out_step_at-step.new.self c.remember_memory_failure.new.failed (g.F.Facility.seen c.out_step_at-step.new.below) (out_is_step (g.F.Facility.refuses_send c.args.below.now) c.args.self.now (g.F.Facility.seen c.args.below.now) c.in-Some.at c.args.link c.out_step_at-step.result c.out_step_at-step.new.self (g.F.Facility.seen c.out_step_at-step.new.below) (g.met.F.Facility.kept c.args.below.now c.requires.valid) (g.met.F.Facility.kept c.out_step_at-step.new.below c.out_step_at-step.ensures.valid) c.requires.stands c.out_step_at-step.ensures.does c.out_step_at-step.ensures.keeps)).others
+
+pub returns-clause-leaves : goal.returns-clause-leaves
+returns-clause-leaves g c =
+    let here = sym c.place_at_node.ensures.place ∙ c.in-Some.is in
+    subst (λ (o : Option ℕ). SameBut (λ i. o ≡ Some i) c.args.self.now.processes c.out_step_at-step.new.self.processes) (sym here) c.out_step_at-step.ensures.leaves

@@ -1,6 +1,7 @@
 use Rattle.std.proofs.Common.{rules, ◌≡◌, ◌∙◌, None, sym}
 use Rattle.rina_iface.specs.Ends.{place_in}
 use Rattle.rina_dif.proofs.Facing.{passed_goes_on, passed_shown, passed_stays, passed_whole, waits_somewhere, waits_there}
+use Rattle.rina_dif.proofs.Elsewhere.{passed_port}
 use Rattle.rina_dif.proofs.dif.Dif.pass.Goals as goal
 
 pub unreachable-requires : goal.unreachable-requires
@@ -28,3 +29,6 @@ returns-clause-goes_on c = passed_goes_on c.args.self.now c.in-Some.at c.pass_at
 
 pub returns-clause-stands : goal.returns-clause-stands
 returns-clause-stands c = passed_stays c.args.self.now c.in-Some.at c.pass_at.new.self c.pass_at.ensures.does
+
+pub returns-clause-leaves : goal.returns-clause-leaves
+returns-clause-leaves c = passed_port c.args.self.now c.pass_at.new.self c.args.port c.in-Some.at (sym c.place.ensures.at ∙ c.in-Some.is) c.pass_at.ensures.leaves c.pass_at.ensures.whole

@@ -3,6 +3,7 @@ use Rattle.rina_iface.specs.declared.error.SendError.TheVariants.{Memory, NotAll
 use Rattle.rina_iface.specs.Ends.{place_in}
 use Rattle.rina_dif.proofs.Sent.{failed_sends, refailed, sends_at, sent_whole}
 use Rattle.rina_dif.proofs.Facing.{nowhere_sends, sends_go_on, sends_shown, sends_stay}
+use Rattle.rina_dif.proofs.Elsewhere.{at_port}
 use Rattle.rina_dif.proofs.dif.Dif.send.Goals as goal
 
 pub returns-then-self-clause-does : goal.returns-then-self-clause-does
@@ -52,3 +53,8 @@ returns-clause-stands c =
     let d' = c.send_at-result.new.self in
     let here = sym c.place.ensures.at ∙ c.in-Some.is in
     sends_stay c.args.self.now c.args.port c.args.sdu.now c.send_at-result.result (record d' { failed = c.match-matches.self }) (λ lines below h. sends_at (place_in c.args.port c.args.self.now.flows.journal.ends) c.args.self.now lines below c.in-Some.at c.args.sdu.now c.send_at-result.result (record d' { failed = c.match-matches.self }) here (refailed c.args.self.now lines below c.in-Some.at c.args.sdu.now c.send_at-result.result d' c.match-matches.self (c.send_at-result.ensures.does lines below h)))
+
+pub returns-clause-leaves : goal.returns-clause-leaves
+returns-clause-leaves c =
+    let d' = c.send_at-result.new.self in
+    at_port c.send_at-result.result c.args.self.now (record d' { failed = c.match-matches.self }) c.args.port c.in-Some.at (sym c.place.ensures.at ∙ c.in-Some.is) c.send_at-result.ensures.leaves

@@ -19,10 +19,13 @@ loop-at-preserved c =
       | else-is_here w ↦ rw (w.self-is, w.lines-is) (none_stops c.args.now c.args.node c.args.state n old mid l0.items l.items (vec_capacity l0) (vec_capacity l) e c.loop-at.invariant c.in-Some.ensures (sym c.is_here.ensures ∙ w.if-is_here.false))
     ]
 
-pub returns : goal.returns
-returns c =
+pub returns-clause-stops : goal.returns-clause-stops
+returns-clause-stops c =
     let count = c.len-at-end.ensures in
     let after = c.loop-at-test.false in
     let alike = c.requires in
     let end = c.loop-at.auto.at-end in
     all_stopped c.args.now c.args.node c.args.state c.loop-at.at c.args.self.now c.loop-at.self c.args.lines.now.items c.loop-at.lines.items (vec_capacity c.args.lines.now) (vec_capacity c.loop-at.lines) (omega (arith, count, after, alike, end)) c.loop-at.invariant
+
+pub returns-clause-leaves : goal.returns-clause-leaves
+returns-clause-leaves c = c.loop-at.invariant.others

@@ -1,0 +1,179 @@
+-- Whatever a call of a DIF writes off, it may write off.
+use Rattle.std.proofs.Common.{◌≡◌, ℕ, List, [], slice_set, Option, Some, None, Result, Ok, Err, refl, sym, ap, subst, arith, inl, inr, ◌⊎◌}
+use Rattle.rina_account.specs.declared.ledger.Off.{Off}
+use Rattle.rina_base.specs.declared.cause.Cause.{Cause}
+use Rattle.rina_base.specs.declared.cause.Cause.TheVariants as causes
+use Rattle.rina_base.specs.declared.number.Key.{Key}
+use Rattle.rina_base.specs.declared.number.Num.{Num}
+use Rattle.rina_base.specs.declared.number.Port.{Port}
+use Rattle.rina_iface.specs.declared.ends.End.{End}
+use Rattle.rina_iface.specs.declared.error.FreeError.{FreeError}
+use Rattle.rina_iface.specs.declared.error.FreeError.TheVariants as free
+use Rattle.rina_iface.specs.declared.error.SendError.{SendError}
+use Rattle.rina_iface.specs.declared.error.SendError.TheVariants as send
+use Rattle.rina_iface.specs.declared.state.PortState.{PortState}
+use Rattle.rina_iface.specs.declared.state.PortState.TheVariants.{Allocated, Closed, Failed, Pending, Refused}
+use Rattle.rina_iface.specs.Seen.{Seen}
+use Rattle.rina_law.specs.Direction.{Direction}
+use Rattle.rina_data.specs.declared.step.ClockStep.{ClockStep}
+use Rattle.rina_data.specs.declared.step.ClockStep.TheVariants as step
+use Rattle.rina_data.specs.declared.step.InStep.{InStep}
+use Rattle.rina_data.specs.declared.step.OutStep.{OutStep}
+use Rattle.rina_data.specs.declared.step.StepError.{StepError}
+use Rattle.rina_data.specs.declared.step.StepError.TheVariants.{Memory, NoIpc, NoLink}
+use Rattle.rina_data.specs.Configs.{config_of}
+use Rattle.rina_data.specs.Process.{Process}
+use Rattle.rina_dif_law.specs.Dif.{DifSeen}
+use Rattle.rina_dif_law.specs.Incoming.{Ins}
+use Rattle.rina_dif_law.specs.Numbered.{IsNumbered}
+use Rattle.rina_dif_law.specs.Outgoing.{Outs}
+use Rattle.rina_dif_law.specs.Sending.{home}
+use Rattle.rina_dif_law.specs.Standing.{IsStanding}
+use Rattle.rina_dif_law.specs.WriteOffLaws.{MayFailOff, Nothing}
+use Rattle.rina_dif_law.specs.WriteOffs.{IsOverNow, MayBy, MayWriteOff, NoPort, RefusesOver, Writes}
+use Rattle.rina_dif_law.proofs.Linkless.{lost_numbered, lost_stands}
+use Rattle.rina_dif_law.proofs.Warranted.{acknowledged_noted, ended_noted, failed_noted, forgotten_noted, ins_noted, lost_noted, offers_noted, outs_noted, passed_noted, resent_noted}
+use Rattle.rina_dif_law.proofs.Writing.{IsNoted, noted_as, noted_on, quiet_noted, same_noted, writes}
+use Rattle.rina_dif.specs.declared.dif.Dif.{Dif}
+use Rattle.rina_dif.specs.Clocking.{ClockSteps, ClockStepsAt, Steps, StepsFlow, StepsLost, StepsOk}
+use Rattle.rina_dif.specs.Facade.{PassesAt}
+use Rattle.rina_dif.specs.Freeing.{FreesAt, FreesEnd, IsFreed}
+use Rattle.rina_dif.specs.Holding.{Holds}
+use Rattle.rina_dif.specs.Sending.{SendsAt}
+use Rattle.rina_dif.specs.Shown.{seen_of}
+use Rattle.rina_dif.specs.Steps.{AtHome, OutsAt}
+use Rattle.rina_dif.specs.Taking.{InsAt, TakesHome}
+use Rattle.rina_dif.specs.WriteOffs.{MayByClock, MayFailWith}
+
+-- at the IPC process of a node, or nothing is done
+by_home : (P : Type 0) (o : Option ℕ) (does : ℕ → Type 0) (refuses : Type 0) → ((i : ℕ) → does i → P) → (refuses → P) → AtHome o does refuses → P
+by_home P (Some i) does refuses here none x = here i x
+by_home P None does refuses here none x = none x
+
+-- ---- what leaves, and what comes
+
+outs_at_noted : (refuses : Port → ℕ → Option SendError) (d : DifSeen) (lines : List Direction) (below : Seen) (node n : ℕ) (r : Result OutStep StepError) (d' : DifSeen) (below' : Seen) → IsStanding d lines below → OutsAt refuses d below node n r d' below' → IsNoted (MayWriteOff d lines below (RefusesOver refuses below)) d d'
+outs_at_noted refuses d lines below node n (Err Memory) d' below' st s = same_noted _ d d' s.0
+outs_at_noted refuses d lines below node n (Ok x) d' below' st s = by_home _ (home node d.config.members) (λ i. Outs refuses d below i n (Ok x) d' below') _ (λ i o. outs_noted refuses d lines below i n (Ok x) d' below' st o) (λ o. same_noted _ d d' o.1) s
+outs_at_noted refuses d lines below node n (Err NoIpc) d' below' st s = by_home _ (home node d.config.members) (λ i. Outs refuses d below i n (Err NoIpc) d' below') _ (λ i o. outs_noted refuses d lines below i n (Err NoIpc) d' below' st o) (λ o. same_noted _ d d' o.1) s
+outs_at_noted refuses d lines below node n (Err NoLink) d' below' st s = by_home _ (home node d.config.members) (λ i. Outs refuses d below i n (Err NoLink) d' below') _ (λ i o. outs_noted refuses d lines below i n (Err NoLink) d' below' st o) (λ o. same_noted _ d d' o.1) s
+
+pub outs_at_write : (refuses : Port → ℕ → Option SendError) (d : Dif) (lines : List Direction) (below : Seen) (node n : ℕ) (r : Result OutStep StepError) (d' : Dif) (below' : Seen) → Holds d lines below → OutsAt refuses (seen_of d) below node n r (seen_of d') below' → Writes (MayWriteOff (seen_of d) lines below (RefusesOver refuses below)) (seen_of d) (seen_of d')
+outs_at_write refuses d lines below node n r d' below' h s = writes _ (seen_of d) (seen_of d') (outs_at_noted refuses (seen_of d) lines below node n r (seen_of d') below' h.standing s)
+
+ins_at_noted : (d : DifSeen) (lines : List Direction) (below : Seen) (node n : ℕ) (r : Result InStep StepError) (d' : DifSeen) (lines' : List Direction) (below' : Seen) → IsStanding d lines below → InsAt d lines below node n r d' lines' below' → IsNoted (MayWriteOff d lines below NoPort) d d'
+ins_at_noted d lines below node n (Err Memory) d' lines' below' st s = same_noted _ d d' s.0
+ins_at_noted d lines below node n (Ok x) d' lines' below' st s = by_home _ (home node d.config.members) (λ i. Ins d lines below i n (Ok x) d' lines' below') _ (λ i o. ins_noted d lines below i n (Ok x) d' lines' below' st o) (λ o. same_noted _ d d' o.1) s
+ins_at_noted d lines below node n (Err NoIpc) d' lines' below' st s = by_home _ (home node d.config.members) (λ i. Ins d lines below i n (Err NoIpc) d' lines' below') _ (λ i o. ins_noted d lines below i n (Err NoIpc) d' lines' below' st o) (λ o. same_noted _ d d' o.1) s
+ins_at_noted d lines below node n (Err NoLink) d' lines' below' st s = by_home _ (home node d.config.members) (λ i. Ins d lines below i n (Err NoLink) d' lines' below') _ (λ i o. ins_noted d lines below i n (Err NoLink) d' lines' below' st o) (λ o. same_noted _ d d' o.1) s
+
+pub ins_at_write : (d : Dif) (lines : List Direction) (below : Seen) (node n : ℕ) (r : Result InStep StepError) (d' : Dif) (below' : Seen) → Holds d lines below → TakesHome d lines below node n r d' below' → Writes (MayWriteOff (seen_of d) lines below NoPort) (seen_of d) (seen_of d')
+ins_at_write d lines below node n r d' below' h s = writes _ (seen_of d) (seen_of d') (ins_at_noted (seen_of d) lines below node n r (seen_of d') s.lines' below' h.standing s.does)
+
+-- ---- what comes with time
+
+-- what needs no port needs none that is over
+may_port : (d : DifSeen) (lines : List Direction) (below : Seen) (down : Port → Type 0) (addr : ℕ) (process : Process) (key : Key) (cause : Cause) → MayBy d lines below NoPort addr process key cause → MayBy d lines below down addr process key cause
+may_port d lines below down addr process key (causes.LinkDown port) m = absurd m.is_down
+may_port d lines below down addr process key (causes.Expired left charge) m = m
+may_port d lines below down addr process key (causes.NoRoute dst) m = m
+may_port d lines below down addr process key (causes.QueueFull most) m = m
+may_port d lines below down addr process key (causes.NoConnection cep) m = m
+may_port d lines below down addr process key (causes.Duplicate num) m = m
+may_port d lines below down addr process key (causes.Behind top) m = m
+may_port d lines below down addr process key (causes.NoState drf) m = m
+may_port d lines below down addr process key (causes.NoRoom most) m = m
+may_port d lines below down addr process key (causes.StateGone last_in) m = m
+may_port d lines below down addr process key (causes.Broken missing) m = m
+
+-- what a row writes, a clock step may write
+by_row : (d : Dif) (lines : List Direction) (below : Seen) (node : ℕ) (new : DifSeen) → IsNoted (MayWriteOff (seen_of d) lines below NoPort) (seen_of d) new → IsNoted (MayByClock d lines below node) (seen_of d) new
+by_row d lines below node new n = noted_as (MayWriteOff (seen_of d) lines below NoPort) (MayByClock d lines below node) (seen_of d) new (λ i off m. inl (record {
+  member = m.member;
+  process = m.process;
+  is_process = m.is_process;
+  may = may_port (seen_of d) lines below (IsOverNow below) m.member.addr m.process off.key off.cause m.may;
+})) n
+
+lost_with_noted : (d : Dif) (lines : List Direction) (below : Seen) (node number : ℕ) (new : DifSeen) → Holds d lines below → StepsLost d lines below node number new → IsNoted (MayByClock d lines below node) (seen_of d) new
+lost_with_noted d lines below node number new h s =
+    let w = s.loses in
+    let gone = w.loses.loses in
+    let routes = w.loses.routes in
+    let holds : ℕ → Off → Type 0 = MayByClock d lines below node in
+    let port : Port = gone.link.port in
+    let st = lost_stands (seen_of d) lines below s.i number routes w.between h.standing gone in
+    let numbered = lost_numbered (seen_of d) below s.i number routes w.between h.numbered gone in
+    let first : IsNoted holds (seen_of d) w.between = noted_as (MayWriteOff (seen_of d) lines below (IsOverNow below)) holds (seen_of d) w.between (λ i off m. inl m) (lost_noted (seen_of d) lines below s.i number routes w.between h.standing gone) in
+    noted_on holds (seen_of d) w.between new first (elim w.fails [
+      | inl f ↦ noted_as (MayFailOff w.between lines below node port) holds w.between new (λ i off m. inr (record { place = s.i; number = number; between = w.between; loses = w.loses; may = m })) (failed_noted w.between lines below node port new st numbered f.1)
+      | inr k ↦ same_noted holds w.between new k.1
+    ])
+
+flow_noted : (d : Dif) (lines : List Direction) (below : Seen) (node : ℕ) (done : ClockStep) (new : DifSeen) (lines' : List Direction) → Holds d lines below → StepsFlow d lines node done new lines' → IsNoted (MayByClock d lines below node) (seen_of d) new
+flow_noted d lines below node step.Idle new lines' h s = same_noted _ (seen_of d) new s.1
+flow_noted d lines below node (step.Gone cep) new lines' h s = by_row d lines below node new (forgotten_noted (seen_of d) lines below s.at new lines' h.standing h.numbered s.forgotten)
+flow_noted d lines below node (step.GaveUp num) new lines' h s = by_row d lines below node new (ended_noted (seen_of d) lines below s.at _ new h.standing h.numbered s.given_up.ended)
+flow_noted d lines below node (step.Ack cep) new lines' h s = by_row d lines below node new (acknowledged_noted (seen_of d) lines below s.at s.cause new lines' h.standing h.numbered h.accounted s.acknowledged)
+flow_noted d lines below node (step.Again num) new lines' h s = by_row d lines below node new (resent_noted (seen_of d) lines below s.at s.cause new lines' h.standing h.numbered h.accounted s.resent)
+flow_noted d lines below node (step.LinkLost link) new lines' h s = absurd s
+flow_noted d lines below node (step.LinkNew link) new lines' h s = absurd s
+flow_noted d lines below node (step.Timeout port) new lines' h s = absurd s
+flow_noted d lines below node (step.Message link) new lines' h s = absurd s
+
+steps_noted : (d : Dif) (lines : List Direction) (below : Seen) (node : ℕ) (done : ClockStep) (new : DifSeen) (lines' : List Direction) → Holds d lines below → Steps d lines below node done new lines' → IsNoted (MayByClock d lines below node) (seen_of d) new
+steps_noted d lines below node (step.LinkLost link) new lines' h s = lost_with_noted d lines below node link new h s.0
+steps_noted d lines below node step.Idle new lines' h s = flow_noted d lines below node step.Idle new lines' h s.1
+steps_noted d lines below node (step.Gone cep) new lines' h s = flow_noted d lines below node (step.Gone cep) new lines' h s.1
+steps_noted d lines below node (step.GaveUp num) new lines' h s = flow_noted d lines below node (step.GaveUp num) new lines' h s.1
+steps_noted d lines below node (step.Ack cep) new lines' h s = flow_noted d lines below node (step.Ack cep) new lines' h s.1
+steps_noted d lines below node (step.Again num) new lines' h s = flow_noted d lines below node (step.Again num) new lines' h s.1
+steps_noted d lines below node (step.LinkNew link) new lines' h s = absurd s.1
+steps_noted d lines below node (step.Timeout port) new lines' h s = absurd s.1
+steps_noted d lines below node (step.Message link) new lines' h s = absurd s.1
+
+clocks_noted : (d : Dif) (lines : List Direction) (below : Seen) (node : ℕ) (r : Result ClockStep StepError) (d' : Dif) (lines' : List Direction) → Holds d lines below → ClockStepsAt d lines below node r d' lines' → IsNoted (MayByClock d lines below node) (seen_of d) (seen_of d')
+clocks_noted d lines below node (Err Memory) d' lines' h s = same_noted _ (seen_of d) (seen_of d') s.0
+clocks_noted d lines below node (Ok done) d' lines' h s = by_home _ (home node (config_of d.settings).members) (λ i. StepsOk d lines below node (Ok done) d' lines') _ (λ i o. steps_noted d lines below node done (seen_of d') lines' h o) (λ o. same_noted _ (seen_of d) (seen_of d') o.1) s
+clocks_noted d lines below node (Err NoIpc) d' lines' h s = by_home _ (home node (config_of d.settings).members) (λ i. StepsOk d lines below node (Err NoIpc) d' lines') _ (λ i o. absurd o) (λ o. same_noted _ (seen_of d) (seen_of d') o.1) s
+clocks_noted d lines below node (Err NoLink) d' lines' h s = by_home _ (home node (config_of d.settings).members) (λ i. StepsOk d lines below node (Err NoLink) d' lines') _ (λ i o. absurd o) (λ o. same_noted _ (seen_of d) (seen_of d') o.1) s
+
+pub clocks_write : (d : Dif) (lines : List Direction) (below : Seen) (node : ℕ) (r : Result ClockStep StepError) (d' : Dif) (below' : Seen) → Holds d lines below → ClockSteps d lines below node r d' below' → Writes (MayByClock d lines below node) (seen_of d) (seen_of d')
+clocks_write d lines below node r d' below' h s = writes _ (seen_of d) (seen_of d') (clocks_noted d lines below node r d' s.lines' h s.does)
+
+-- ---- a flow is freed
+
+restated : (d d' : DifSeen) (lines : List Direction) (below : Seen) (ends : List End) → d' ≡ record d { ends = ends } → IsNoted (MayWriteOff d lines below NoPort) d d'
+restated d d' lines below ends is = subst (IsNoted (MayWriteOff d lines below NoPort) d) (sym is) (quiet_noted _ d (record d { ends = ends }) refl (omega arith) (λ k ids at. at) refl)
+
+frees_end : (state : PortState) (d : DifSeen) (lines : List Direction) (below : Seen) (at : ℕ) (end : End) (d' : DifSeen) → IsStanding d lines below → IsNumbered d below → FreesEnd state d lines at end d' → IsNoted (MayWriteOff d lines below NoPort) d d'
+frees_end Allocated d lines below at end d' st numbered s = ended_noted d lines below at Closed d' st numbered s
+frees_end Pending d lines below at end d' st numbered s = restated d d' lines below _ s
+frees_end (Refused why) d lines below at end d' st numbered s = restated d d' lines below _ s
+frees_end (Failed fail) d lines below at end d' st numbered s = restated d d' lines below _ s
+frees_end Closed d lines below at end d' st numbered s = restated d d' lines below _ s
+
+frees_noted : (d : Dif) (lines : List Direction) (below : Seen) (at : Option ℕ) (r : Result (Unit {0}) FreeError) (d' : Dif) → Holds d lines below → FreesAt at d lines below r d' → IsNoted (MayWriteOff (seen_of d) lines below NoPort) (seen_of d) (seen_of d')
+frees_noted d lines below (Some at) (Ok done) d' h s = frees_end s.end.state (seen_of d) lines below at s.end (seen_of d') h.standing h.numbered s.frees
+frees_noted d lines below None (Ok done) d' h s = absurd s
+frees_noted d lines below (Some at) (Err free.Memory) d' h s = same_noted _ (seen_of d) (seen_of d') s.same
+frees_noted d lines below None (Err free.Memory) d' h s = same_noted _ (seen_of d) (seen_of d') s.same
+frees_noted d lines below (Some at) (Err free.NoPort) d' h s = same_noted _ (seen_of d) (seen_of d') s.1.same
+frees_noted d lines below None (Err free.NoPort) d' h s = same_noted _ (seen_of d) (seen_of d') s.1.same
+
+pub frees_write : (d : Dif) (lines : List Direction) (below : Seen) (at : Option ℕ) (r : Result (Unit {0}) FreeError) (d' : Dif) → Holds d lines below → FreesAt at d lines below r d' → Writes (MayWriteOff (seen_of d) lines below NoPort) (seen_of d) (seen_of d')
+frees_write d lines below at r d' h s = writes _ (seen_of d) (seen_of d') (frees_noted d lines below at r d' h s)
+
+-- ---- calls that write nothing
+
+nowhere_noted : (d : Dif) (lines : List Direction) (below : Seen) (r : Result Num SendError) (d' : Dif) → SendsAt None d lines below [] r d' → IsNoted Nothing (seen_of d) (seen_of d')
+nowhere_noted d lines below (Ok num) d' s = same_noted Nothing (seen_of d) (seen_of d') s.1
+nowhere_noted d lines below (Err send.Memory) d' s = same_noted Nothing (seen_of d) (seen_of d') s.0
+nowhere_noted d lines below (Err why) d' s = same_noted Nothing (seen_of d) (seen_of d') s.1
+
+pub sends_write : (d : Dif) (lines : List Direction) (below : Seen) (at : Option ℕ) (sdu : List ℕ) (r : Result Num SendError) (d' : Dif) → SendsAt at d lines below sdu r d' → Writes Nothing (seen_of d) (seen_of d')
+sends_write d lines below (Some at) sdu r d' s = writes Nothing (seen_of d) (seen_of d') (offers_noted Nothing (seen_of d) lines at s.parts r (seen_of d') s.lines' s.offers)
+sends_write d lines below None sdu r d' s = writes Nothing (seen_of d) (seen_of d') (nowhere_noted d lines below r d' s)
+
+pub passes_write : (d : Dif) (lines : List Direction) (port : Port) (d' : Dif) (below : Seen) → PassesAt d lines port d' below → Writes Nothing (seen_of d) (seen_of d')
+passes_write d lines port d' below s = writes Nothing (seen_of d) (seen_of d') (passed_noted Nothing (seen_of d) lines s.at (seen_of d') s.passes.lines' s.passes.passed)

@@ -1,0 +1,60 @@
+-- What the calls of a DIF write off: whatever a call writes into a ledger, the condition of its cause held before it.
+use Rattle.std.specs.Prelude.{◌⊎◌, ℕ, List, Option, Result}
+use Rattle.rina_account.specs.declared.ledger.Off.{Off}
+use Rattle.rina_base.specs.declared.number.Num.{Num}
+use Rattle.rina_base.specs.declared.number.Port.{Port}
+use Rattle.rina_iface.specs.declared.error.FreeError.{FreeError}
+use Rattle.rina_iface.specs.declared.error.SendError.{SendError}
+use Rattle.rina_iface.specs.Seen.{Seen}
+use Rattle.rina_law.specs.Direction.{Direction}
+use Rattle.rina_data.specs.declared.step.ClockStep.{ClockStep}
+use Rattle.rina_data.specs.declared.step.InStep.{InStep}
+use Rattle.rina_data.specs.declared.step.OutStep.{OutStep}
+use Rattle.rina_data.specs.declared.step.StepError.{StepError}
+use Rattle.rina_dif_law.specs.Dif.{DifSeen}
+use Rattle.rina_dif_law.specs.WriteOffLaws.{MayFailOff, Nothing}
+use Rattle.rina_dif_law.specs.WriteOffs.{IsOverNow, MayWriteOff, NoPort, RefusesOver, Writes}
+use Rattle.rina_dif.specs.declared.dif.Dif.{Dif}
+use Rattle.rina_dif.specs.Clocking.{ClockSteps}
+use Rattle.rina_dif.specs.Facade.{PassesAt}
+use Rattle.rina_dif.specs.Freeing.{FreesAt}
+use Rattle.rina_dif.specs.Holding.{Holds}
+use Rattle.rina_dif.specs.Sending.{SendsAt}
+use Rattle.rina_dif.specs.Shown.{seen_of}
+use Rattle.rina_dif.specs.Steps.{OutsAt}
+use Rattle.rina_dif.specs.Taking.{TakesHome}
+use Rattle.rina_dif.specs.Unlinking.{LosesLink}
+
+-- a link is lost, the flows of the node fail with it, and the condition holds once those before have failed
+pub record MayFailWith (d : Dif) (lines : List Direction) (below : Seen) (node : ℕ) (i : ℕ) (off : Off) : Type 0 where
+  pub place : ℕ
+  pub number : ℕ
+  pub between : DifSeen
+  pub loses : LosesLink d below place number between
+  pub may : MayFailOff between lines below node loses.loses.link.port i off
+
+-- what a clock step at a node may write
+abbrev pub MayByClock : Dif → List Direction → Seen → ℕ → ℕ → Off → Type 0
+MayByClock d lines below node i off = MayWriteOff (seen_of d) lines below (IsOverNow below) i off ⊎ MayFailWith d lines below node i off
+
+abbrev pub OutStepsOfDifsWrite : Type 0
+OutStepsOfDifsWrite = (refuses : Port → ℕ → Option SendError) (d : Dif) (lines : List Direction) (below : Seen) (node n : ℕ) (result : Result OutStep StepError) (d' : Dif) (below' : Seen) →
+    Holds d lines below → OutsAt refuses (seen_of d) below node n result (seen_of d') below' → Writes (MayWriteOff (seen_of d) lines below (RefusesOver refuses below)) (seen_of d) (seen_of d')
+
+abbrev pub InStepsOfDifsWrite : Type 0
+InStepsOfDifsWrite = (d : Dif) (lines : List Direction) (below : Seen) (node n : ℕ) (result : Result InStep StepError) (d' : Dif) (below' : Seen) →
+    Holds d lines below → TakesHome d lines below node n result d' below' → Writes (MayWriteOff (seen_of d) lines below NoPort) (seen_of d) (seen_of d')
+
+abbrev pub ClockStepsOfDifsWrite : Type 0
+ClockStepsOfDifsWrite = (d : Dif) (lines : List Direction) (below : Seen) (node : ℕ) (result : Result ClockStep StepError) (d' : Dif) (below' : Seen) →
+    Holds d lines below → ClockSteps d lines below node result d' below' → Writes (MayByClock d lines below node) (seen_of d) (seen_of d')
+
+abbrev pub FreesOfDifsWrite : Type 0
+FreesOfDifsWrite = (d : Dif) (lines : List Direction) (below : Seen) (at : Option ℕ) (result : Result (Unit {0}) FreeError) (d' : Dif) →
+    Holds d lines below → FreesAt at d lines below result d' → Writes (MayWriteOff (seen_of d) lines below NoPort) (seen_of d) (seen_of d')
+
+abbrev pub SendsOfDifsWriteNothing : Type 0
+SendsOfDifsWriteNothing = (d : Dif) (lines : List Direction) (below : Seen) (at : Option ℕ) (sdu : List ℕ) (result : Result Num SendError) (d' : Dif) → SendsAt at d lines below sdu result d' → Writes Nothing (seen_of d) (seen_of d')
+
+abbrev pub PassesOfDifsWriteNothing : Type 0
+PassesOfDifsWriteNothing = (d : Dif) (lines : List Direction) (port : Port) (d' : Dif) (below : Seen) → PassesAt d lines port d' below → Writes Nothing (seen_of d) (seen_of d')
