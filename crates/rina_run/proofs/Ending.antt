@@ -1,8 +1,8 @@
 -- How a run ends.
-use Rattle.std.proofs.Common.{◌≡◌, ℕ, ◌+◌, List, [], ◌∷◌, ◌++◌, Option, Some, None, Ok, Err, ◌⊎◌, inl, inr, refl, sym, ◌∙◌, IsSome, IfSome, Bool, slice_get, length, take, true, false, ◌<◌, ◌≤◌, arith, subst, ap}
+use Rattle.std.proofs.Common.{◌≡◌, ℕ, ◌+◌, List, [], ◌∷◌, ◌++◌, Option, Some, None, Ok, Err, ◌⊎◌, inl, inr, refl, sym, ◌∙◌, IsSome, IfSome, Bool, slice_get, length, arith, subst, ap}
 use Rattle.std.proofs.lemmas.List.{take_all}
 use Rattle.std.proofs.KnownBytes.{Appends-nil}
-use Rattle.std.specs.Io.KnownBytes.{Appends, Consumes, IsAtEnd}
+use Rattle.std.specs.Io.KnownBytes.{Appends}
 use Rattle.rina_policy.specs.Slots.{Slot}
 use Rattle.rina_report.specs.declared.note.Note.{Note}
 use Rattle.rina_report.specs.declared.note.Note.TheVariants as notes
@@ -39,7 +39,8 @@ use Rattle.rina_run.specs.Run.{Runs, StopsAt, RanFirst, LinesRan}
 use Rattle.rina_run.specs.Script.{Script, script_in}
 use Rattle.rina_words.specs.Step.{HasNames, Stage, stage}
 use Rattle.rina_run.specs.Written.{IsFront, Written}
-use Rattle.rina_run.specs.Top.{status_of, fault_at, fault_of, closing_of, stack_fault, IsRefusedStack, IsStopped, PlayOutcomes, RefusedBy, ScriptOutcomes, InputOutcomes, IsOutOfMemory, ClosedBy, IsEnding, EndedBy, RunOutcomes, is_whole, status_stopped, AreCut, FailedByCut, IsCutBy, KeepsAll}
+use Rattle.rina_run.specs.Top.{status_of, fault_at, fault_of, closing_of, stack_fault, IsRefusedStack, IsStopped, PlayOutcomes, RefusedBy, ScriptOutcomes, InputOutcomes, IsOutOfMemory, ClosedBy, IsEnding, IsReadTo, is_whole, status_stopped, AreCut, FailedByCut, IsCutBy, KeepsAll}
+use Rattle.rina_run.specs.Outcomes.{IsRan}
 use Rattle.rina_run.proofs.Texts.{wrote_all}
 
 pub wrote_nothing : (base : Option (List ℕ)) (ns : List Note) → ns ≡ [] → Appends base base (text_of ns)
@@ -117,7 +118,7 @@ bad_closed plan ending lines start told t u tower shelf' statuses.WriteFault bad
 bad_closed plan ending lines start told t u tower shelf' statuses.Memory bad line n field is stops left after names c = (u, may_close_bad plan ending lines start told t u bad stops c, names)
 bad_closed plan ending lines start told t u tower shelf' s bad line n field is stops left after names c = cc
 
-schedule_is : (line : ℕ) (e : LineError) → (n : ℕ) × (field : ℕ) × (fault_at line e ≡ faults.Schedule line n field)
+pub schedule_is : (line : ℕ) (e : LineError) → (n : ℕ) × (field : ℕ) × (fault_at line e ≡ faults.Schedule line n field)
 schedule_is line errors.Memory = (1, 0, refl)
 schedule_is line errors.UnknownWord = (1, 0, refl)
 schedule_is line (errors.MissingField n) = (2, n, refl)
@@ -170,24 +171,13 @@ is_told faults.ReadFault h = cc
 pub front_same : (base took : Option (List ℕ)) (old new : List Note) → new ≡ old → Appends base took (text_of old) → IsFront base took (text_of new)
 front_same base took old new is p = rw is (wrote_all base took old p)
 
-ran : (known : List ℕ → Bool) (left left' : Option (List ℕ)) (bytes used : List ℕ) (ending : Option Fault) (shelf : List Slot) (s : Status) (t : List Note) (tower : Option Tower) (shelf' : List Slot) → used ≡ take 16777216 bytes → Consumes left left' bytes → EndedBy ending left' bytes → ((IsOutOfMemory s t tower × (shelf' ≡ shelf)) ⊎ InputOutcomes known ending (script_in (is_whole ending) used) shelf s t tower shelf') → RunOutcomes known None left left' shelf s t tower shelf'
-ran known left left' bytes used ending shelf s t tower shelf' is read ended (inl n) = inl n
-ran known left left' bytes used ending shelf s t tower shelf' is read ended (inr o) = inr (record { bytes = bytes; ending = ending; read = read; ended = ended; outcome = subst (λ (bs : List ℕ). InputOutcomes known ending (script_in (is_whole ending) bs) shelf s t tower shelf') is o })
-
--- the input was read to its end
-pub ran_whole : (known : List ℕ → Bool) (words : Option ℕ) (left left' : Option (List ℕ)) (bytes : List ℕ) (shelf : List Slot) (s : Status) (t : List Note) (tower : Option Tower) (shelf' : List Slot) → words ≡ None → Consumes left left' bytes → IsAtEnd left' → length bytes ≤ 16777216 → ((IsOutOfMemory s t tower × (shelf' ≡ shelf)) ⊎ InputOutcomes known None (script_in true bytes) shelf s t tower shelf') → RunOutcomes known words left left' shelf s t tower shelf'
-ran_whole known words left left' bytes shelf s t tower shelf' none read end small o = rw none (ran known left left' bytes bytes None shelf s t tower shelf' (sym (take_all 16777216 bytes small)) read (end, small) o)
-
--- a read failed
-pub ran_fault : (known : List ℕ → Bool) (words : Option ℕ) (left left' : Option (List ℕ)) (bytes : List ℕ) (shelf : List Slot) (s : Status) (t : List Note) (tower : Option Tower) (shelf' : List Slot) → words ≡ None → Consumes left left' bytes → length bytes ≤ 16777216 → ((IsOutOfMemory s t tower × (shelf' ≡ shelf)) ⊎ InputOutcomes known (Some faults.ReadFault) (script_in false bytes) shelf s t tower shelf') → RunOutcomes known words left left' shelf s t tower shelf'
-ran_fault known words left left' bytes shelf s t tower shelf' none read small o = rw none (ran known left left' bytes bytes (Some faults.ReadFault) shelf s t tower shelf' (sym (take_all 16777216 bytes small)) read small o)
-
--- the input was too large
-pub ran_large : (known : List ℕ → Bool) (words : Option ℕ) (left left' : Option (List ℕ)) (bytes used : List ℕ) (shelf : List Slot) (s : Status) (t : List Note) (tower : Option Tower) (shelf' : List Slot) → words ≡ None → Consumes left left' bytes → 16777216 < length bytes → used ≡ take 16777216 bytes → ((IsOutOfMemory s t tower × (shelf' ≡ shelf)) ⊎ InputOutcomes known (Some faults.TooLarge) (script_in false used) shelf s t tower shelf') → RunOutcomes known words left left' shelf s t tower shelf'
-ran_large known words left left' bytes used shelf s t tower shelf' none read large is o = rw none (ran known left left' bytes used (Some faults.TooLarge) shelf s t tower shelf' is read large o)
+-- an input that was read, and its outcome
+pub was_ran : (known : List ℕ → Bool) (left left' : Option (List ℕ)) (ending : Option Fault) (used : List ℕ) (shelf : List Slot) (s : Status) (t : List Note) (tower : Option Tower) (shelf' : List Slot) → IsReadTo left left' ending used → ((IsOutOfMemory s t tower × (shelf' ≡ shelf)) ⊎ InputOutcomes known ending (script_in (is_whole ending) used) shelf s t tower shelf') → IsRan known left left' shelf s t tower shelf'
+was_ran known left left' ending used shelf s t tower shelf' read (inl n) = inl n
+was_ran known left left' ending used shelf s t tower shelf' read (inr o) = inr (record { ending = ending; used = used; read = read; outcome = o })
 
 -- no stack is refused by a read fault
-stack_not_read : (error : StackError) (fault : Fault) → stack_fault error ≡ Some fault → statuses.ReadFault ≡ status_of fault → ⊥
+pub stack_not_read : (error : StackError) (fault : Fault) → stack_fault error ≡ Some fault → statuses.ReadFault ≡ status_of fault → ⊥
 stack_not_read stack.Memory fault is h = cc
 stack_not_read stack.NotToml fault is h = let no : statuses.ReadFault ≡ statuses.NotToml = h ∙ ap status_of (sym (same_Some faults.NotToml fault is)) in cc
 stack_not_read (stack.StackRule n item) fault is h = let no : statuses.ReadFault ≡ statuses.StackRule n item = h ∙ ap status_of (sym (same_Some (faults.StackRule n item) fault is)) in cc
@@ -196,15 +186,26 @@ script_not_read : (known : List ℕ → Bool) (text : List ℕ) (t : List Note) 
 script_not_read known text t (inl m) = let no : statuses.ReadFault ≡ statuses.Memory = m.memory in cc
 script_not_read known text t (inr r) = stack_not_read r.error r.fault r.is_its r.refused.0
 
--- a read fault is told only where a read failed
-no_read_fault : (known : List ℕ → Bool) (script : Option Script) (shelf : List Slot) (t : List Note) (tower : Option Tower) (shelf' : List Slot) → InputOutcomes known (Some faults.TooLarge) script shelf statuses.ReadFault t tower shelf' → ⊥
-no_read_fault known None shelf t tower shelf' (left, r, same) = cc
-no_read_fault known (Some s) shelf t None shelf' o = script_not_read known s.stack t o.0
-no_read_fault known (Some s) shelf t (Some a) shelf' (plan, reads, start, opens, played) = cc
+-- a read fault is told only where reading ended with one
+pub fault_is_read : (fault : Fault) → statuses.ReadFault ≡ status_of fault → fault ≡ faults.ReadFault
+fault_is_read (faults.Usage word) h = cc
+fault_is_read faults.TooLarge h = cc
+fault_is_read faults.NotToml h = cc
+fault_is_read (faults.StackRule n item) h = cc
+fault_is_read (faults.Schedule line n field) h = cc
+fault_is_read faults.ReadFault h = refl
 
-pub not_read : (known : List ℕ → Bool) (script : Option Script) (shelf : List Slot) (s : Status) (t : List Note) (tower : Option Tower) (shelf' : List Slot) → ((IsOutOfMemory s t tower × (shelf' ≡ shelf)) ⊎ InputOutcomes known (Some faults.TooLarge) script shelf s t tower shelf') → s ≡ statuses.ReadFault → ⊥
-not_read known script shelf s t tower shelf' (inl n) is = let e : statuses.Memory ≡ statuses.ReadFault = sym n.0.memory ∙ is in cc
-not_read known script shelf s t tower shelf' (inr o) is = no_read_fault known script shelf t tower shelf' (subst (λ (u : Status). InputOutcomes known (Some faults.TooLarge) script shelf u t tower shelf') is o)
+read_fault_told : (known : List ℕ → Bool) (ending : Option Fault) (script : Option Script) (shelf : List Slot) (t : List Note) (tower : Option Tower) (shelf' : List Slot) → InputOutcomes known ending script shelf statuses.ReadFault t tower shelf' → ending ≡ Some faults.ReadFault
+read_fault_told known None None shelf t tower shelf' o = absurd o
+read_fault_told known (Some fault) None shelf t tower shelf' (left, r, same) = ap Some (fault_is_read fault r.0)
+read_fault_told known None (Some s) shelf t None shelf' o = absurd (script_not_read known s.stack t o.0)
+read_fault_told known (Some fault) (Some s) shelf t None shelf' o = absurd (script_not_read known s.stack t o.0)
+read_fault_told known None (Some s) shelf t (Some a) shelf' (plan, reads, start, opens, played) = played.0
+read_fault_told known (Some fault) (Some s) shelf t (Some a) shelf' (plan, reads, start, opens, played) = played.0
+
+pub ran_by_fault : (known : List ℕ → Bool) (ending : Option Fault) (script : Option Script) (shelf : List Slot) (s : Status) (t : List Note) (tower : Option Tower) (shelf' : List Slot) → ((IsOutOfMemory s t tower × (shelf' ≡ shelf)) ⊎ InputOutcomes known ending script shelf s t tower shelf') → s ≡ statuses.ReadFault → ending ≡ Some faults.ReadFault
+ran_by_fault known ending script shelf s t tower shelf' (inl n) is = let e : statuses.Memory ≡ statuses.ReadFault = sym n.0.memory ∙ is in cc
+ran_by_fault known ending script shelf s t tower shelf' (inr o) is = read_fault_told known ending script shelf t tower shelf' (subst (λ (u : Status). InputOutcomes known ending script shelf u t tower shelf') is o)
 
 -- the ranks of a tower that stands keep their flows
 kept_all : (t : Tower) → IsTower t → KeepsAll t

@@ -7,7 +7,7 @@ use Rattle.rina_dif.specs.Shown.{seen_of as seen_of_dif}
 use Rattle.rina_dif.specs.Holding.{Stands}
 use Rattle.rina_tower.specs.declared.tower.Tower.{Tower, Rank', Wires}
 use Rattle.rina_tower.specs.Stands.{IsTower}
-use Rattle.rina_run.specs.Promises.{AccountsAll, CarriesAll, CausesAll, IsCarriedBy, IsCausedIn, IsInAccount, IsLawfulIn, IsRoutedIn, LawfulAll, OfEachDif, RoutesAll}
+use Rattle.rina_run.specs.Promises.{AccountsAll, CarriesAll, CausesAll, IsCarriedBy, IsCausedIn, IsInAccount, IsLawfulIn, IsRoutedIn, IsWrittenOffIn, LawfulAll, OfEachDif, RoutesAll, WriteOffsAll}
 
 -- what follows of a DIF that stands holds of each
 of_each : (Promise : Dif → Seen → Type 0) → ((d : Dif) (below : Seen) → Stands d below → Promise d below) → (t : Tower) → IsTower t → OfEachDif Promise t
@@ -41,6 +41,12 @@ caused_in d below stands = stands.1.caused
 
 pub caused_if : (tower : Option Tower) → IfSome tower IsTower → IfSome tower CausesAll
 caused_if = of_each_if IsCausedIn caused_in
+
+written_off_in : (d : Dif) (below : Seen) → Stands d below → IsWrittenOffIn d below
+written_off_in d below stands = stands.1.written_off
+
+pub written_off_if : (tower : Option Tower) → IfSome tower IsTower → IfSome tower WriteOffsAll
+written_off_if = of_each_if IsWrittenOffIn written_off_in
 
 routed_in : (d : Dif) (below : Seen) → Stands d below → IsRoutedIn d below
 routed_in d below stands = stands.1.routed

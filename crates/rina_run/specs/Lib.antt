@@ -4,4 +4,6 @@ pub mod Opening
 pub mod Run
 pub mod Written
 pub mod Top
+pub mod Check
+pub mod Outcomes
 pub mod Promises

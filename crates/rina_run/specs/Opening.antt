@@ -15,6 +15,7 @@ use Rattle.rina_stack.specs.declared.plan.Plan.{Plan}
 use Rattle.rina_dif.specs.Planned.{links_of}
 use Rattle.rina_tower.specs.declared.tower.Tower.{Tower}
 use Rattle.rina_tower.specs.Built.{IsBuilt}
+use Rattle.rina_tower.specs.BuiltWhole.{IsBuiltWhole}
 use Rattle.rina_tower.specs.Flows.{links_on}
 use Rattle.rina_tower.specs.BuildSteps.{IsHighest}
 use Rattle.rina_tower.specs.PlanSettings.{IsAsPlanned}
@@ -50,11 +51,12 @@ abbrev pub AreLabelsOf : Plan → Tower → List ℕ → List Label → Type 0
 AreLabelsOf plan t [] labels = labels ≡ []
 AreLabelsOf plan t (i ∷ is) labels = (first : List Label) × (rest : List Label) × AreDifLabels plan t i first × AreLabelsOf plan t is rest × (labels ≡ first ++ rest)
 
--- the stage before the first line: the tower of the plan as it was built, each DIF with its settings and links, the labels of
--- the stack's flows in stack order, and the shelf that was handed in
+-- the stage before the first line: the tower of the plan as it was built, with what it shows and what it does not, each DIF with
+-- its settings and links, the labels of the stack's flows in stack order, and the shelf that was handed in
 pub record IsOpening (plan : Plan) (slots : List Slot) (s : Stage) : Type 0 where
   pub stands : IsTower s.run.tower
   pub built : IsBuilt plan s.run.tower
+  pub whole : IsBuiltWhole plan s.run.tower
   pub height : IsHighest plan.difs (height_of s.run.tower)
   pub planned : IsAsPlanned plan s.run.tower
   pub labels : AreLabelsOf plan s.run.tower (range_with_len 0 (length plan.difs)) s.run.labels

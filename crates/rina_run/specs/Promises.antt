@@ -7,6 +7,7 @@ use Rattle.rina_dif_law.specs.Carried.{AreCarried}
 use Rattle.rina_dif_law.specs.Caused.{AreCaused}
 use Rattle.rina_dif_law.specs.Lawful.{AreLawful}
 use Rattle.rina_dif_law.specs.Standing.{IsStanding}
+use Rattle.rina_dif_law.specs.Written.{AreWrittenOff}
 use Rattle.rina_data.specs.Configs.{config_of}
 use Rattle.rina_flows.specs.Calls.{AreTied}
 use Rattle.rina_dif.specs.declared.dif.Dif.{Dif}
@@ -49,6 +50,14 @@ IsCausedIn d below = AreCaused (seen_of_dif d) below
 
 abbrev pub CausesAll : Tower → Type 0
 CausesAll = OfEachDif IsCausedIn
+
+-- each line of each ledger says what is true of it: its cause is one that its own values, the settings of the DIF, its
+-- connections, its links and its clock bear out
+abbrev pub IsWrittenOffIn : Dif → Seen → Type 0
+IsWrittenOffIn d below = AreWrittenOff (seen_of_dif d)
+
+abbrev pub WriteOffsAll : Tower → Type 0
+WriteOffsAll = OfEachDif IsWrittenOffIn
 
 -- the next hop of each IPC process to each other member is the least number of a link on a least walk, over its live links
 -- and those that the others had from the start

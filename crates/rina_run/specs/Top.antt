@@ -147,18 +147,19 @@ abbrev pub is_whole : Option Fault → Bool
 is_whole None = true
 is_whole (Some fault) = false
 
--- the bytes that were read, and their outcome
-pub record InputRan (known : List ℕ → Bool) (left left' : Option (List ℕ)) (shelf : List Slot) (status : Status) (trace : List Note) (tower : Option Tower) (shelf' : List Slot) : Type 0 where
+-- reading ended so; the bytes that are used are those that were read, up to the limit
+pub record IsReadTo (left left' : Option (List ℕ)) (ending : Option Fault) (used : List ℕ) : Type 0 where
   pub bytes : List ℕ
-  pub ending : Option Fault
   pub read : Consumes left left' bytes
   pub ended : EndedBy ending left' bytes
-  pub outcome : InputOutcomes known ending (script_in (is_whole ending) (take 16777216 bytes)) shelf status trace tower shelf'
+  pub are : used ≡ take 16777216 bytes
 
--- the outcome of a run, by the words of the command line, by what was read, and by the shelf that was handed in
-abbrev pub RunOutcomes : (List ℕ → Bool) → Option ℕ → Option (List ℕ) → Option (List ℕ) → List Slot → Status → List Note → Option Tower → List Slot → Type 0
-RunOutcomes known (Some word) left left' shelf status trace tower shelf' = (tower ≡ None) × RefusedBy (faults.Usage word) status trace × (shelf' ≡ shelf)
-RunOutcomes known None left left' shelf status trace tower shelf' = (IsOutOfMemory status trace tower × (shelf' ≡ shelf)) ⊎ InputRan known left left' shelf status trace tower shelf'
+-- an input was read, with this outcome by how reading ended and by the script that was read
+pub record WasRead (left left' : Option (List ℕ)) (Outcome : Option Fault → Option Script → Type 0) : Type 0 where
+  pub ending : Option Fault
+  pub used : List ℕ
+  pub read : IsReadTo left left' ending used
+  pub outcome : Outcome ending (script_in (is_whole ending) used)
 
 -- a closing note was added, unless an allocation failed; the run ends with this status, unless it was stopped
 abbrev pub ClosedBy : Status → Note → List Note → Status → List Note → Type 0

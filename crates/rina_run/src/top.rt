@@ -1,170 +1,37 @@
 //! The top call.
-ghost use Rattle.std.specs.Prelude.{◌≡◌, ◌<◌, ◌≤◌, ◌^◌, ◌++◌, ◌∷◌, [], ℕ, List, length, map, take, Option, Some, None, OnOk, IsErrOf, IsSome, IfSome, string_bytes, ◌⊎◌};
-ghost use Rattle.std.specs.Io.KnownBytes.{Appends};
+ghost use Rattle.std.specs.Prelude.{◌≡◌, ◌<◌, ◌≤◌, ◌^◌, length, map, IsSome, IfSome, string_bytes, ◌⊎◌};
 ghost use Rattle.bstr.specs.Text.{without_terminator};
 ghost use Rattle.rina_io.specs.Causes.{Rose};
 ghost use Rattle.rina_report.specs.Notes.{text_of};
 ghost use Rattle.rina_stack.specs.Plan.{IsPlan};
 ghost use Rattle.rina_tower.specs.Stands.{IsTower};
 ghost use Rattle.rina_run.specs.Opening.{IsOpening};
-ghost use Rattle.rina_run.specs.Promises.{AccountsAll, CarriesAll, CausesAll, LawfulAll, RoutesAll};
+ghost use Rattle.rina_run.specs.Promises.{AccountsAll, CarriesAll, CausesAll, LawfulAll, RoutesAll, WriteOffsAll};
 ghost use Rattle.rina_run.specs.Script.{script, script_in};
 ghost use Rattle.rina_words.specs.Step.{stage};
-ghost use Rattle.rina_run.specs.Command.{word_fault};
-ghost use Rattle.rina_run.specs.Written.{IsFront, Written};
-ghost use Rattle.rina_run.specs.Top.{status_of, status_stopped, fault_of, is_whole, ClosedBy, RefusedBy, PlayOutcomes, ScriptOutcomes, InputOutcomes, RunOutcomes, IsEnding, IsOutOfMemory, FailedByCut, KeepsAll};
+ghost use Rattle.rina_run.specs.Command.{command_of};
+ghost use Rattle.rina_run.specs.Written.{Written};
+ghost use Rattle.rina_run.specs.Outcomes.{IsRan, RunOutcomes, text_written};
+ghost use Rattle.rina_run.specs.Top.{is_whole, PlayOutcomes, ScriptOutcomes, InputOutcomes, IsEnding, IsOutOfMemory, FailedByCut, KeepsAll};
 
-use crate::command::fault_in;
+use crate::check::check_input;
+use crate::closing::{end_by_fault, line_fault, out_of_memory, refuse, seal, stopped};
+use crate::command::{Command, command_in};
 use crate::input::{Parts, all_lines, split_input};
-use crate::lines::{BadLine, play};
+use crate::lines::play;
 use crate::opening::open_run;
 use crate::outcome::{Finish, Outcome, Status};
-use crate::output::{Stop, emit};
+use crate::reading::read_input;
+use crate::show::show_input;
 use rina_base::Seq;
 use rina_iface::Facility;
-use rina_io::{Ending, LIMIT, Sink, Source, take_all};
+use rina_io::{Sink, Source};
 use rina_notes::tick_of;
 use rina_policy::Retires;
-use rina_report::{Fault, Note, Notes};
-use rina_schedule::LineError;
+use rina_report::{Fault, Note};
 use rina_stack::{Plan, Policies, StackError, read_runnable};
-use rina_tower::Tower;
 use rina_words::Run;
 use std::alloc::Global;
-
-/// Ends a run with `Memory`, with nothing done.
-fn out_of_memory(alloc: Global) -> Finish
-    ensures { IsOutOfMemory result.status result.trace result.tower }
-{
-    Finish {
-        status: Status::Memory,
-        trace: Seq::new(alloc),
-        tower: None,
-    }
-}
-
-/// Adds a closing note and writes it.
-#[tactic(auto, using(crate::proofs::Playing::front_push, crate::proofs::Ending::front_same))]
-fn close<K: Sink>(alloc: Global, out: &mut K, trace: &mut Notes, note: Note) -> Result<(), Stop>
-    ensures memory { IsErrOf result Stop.Memory → (trace.new ≡ trace.old) ⊎ (trace.new ≡ trace.old ++ note ∷ []) }
-    ensures noted { OnOk result (trace.new ≡ trace.old ++ note ∷ []) }
-    ensures stopped { IsErrOf result Stop.WriteFault → trace.new ≡ trace.old ++ note ∷ [] }
-    ensures ok { OnOk result ((base : Option (List ℕ)) → Appends base (K.took out.old) (text_of trace.old) → Appends base (K.took out.new) (text_of trace.new)) }
-    ensures front { (base : Option (List ℕ)) → Appends base (K.took out.old) (text_of trace.old) → IsFront base (K.took out.new) (text_of trace.new) }
-    ensures fault { IsErrOf result Stop.WriteFault → Rose (K.faults out.old) (K.faults out.new) }
-    ensures later { K.faults out.old ≤ K.faults out.new }
-{
-    let from = trace.len();
-    if trace.push(note).is_err() {
-        return Err(Stop::Memory);
-    }
-    emit(alloc, out, trace, from)
-}
-
-/// The status of a run that stopped.
-fn stopped(stop: Stop) -> Status
-    ensures { result ≡ status_stopped stop }
-{
-    match stop {
-        Stop::Memory => Status::Memory,
-        Stop::WriteFault => Status::WriteFault,
-    }
-}
-
-/// The status that a fault is told beside.
-fn fault_status(fault: Fault) -> Status
-    ensures { result ≡ status_of fault }
-{
-    match fault {
-        Fault::Usage { word } => Status::Usage { word },
-        Fault::TooLarge => Status::TooLarge,
-        Fault::NotToml => Status::NotToml,
-        Fault::StackRule { n, item } => Status::StackRule { n, item },
-        Fault::Schedule { line, n, field } => Status::Schedule { line, n, field },
-        Fault::ReadFault => Status::ReadFault,
-    }
-}
-
-/// The fault of a line outside the grammar: the number of its error, and the field.
-fn line_fault(bad: BadLine) -> Fault
-    ensures { result ≡ fault_of bad }
-{
-    let (n, field) = match bad.error {
-        LineError::Memory | LineError::UnknownWord => (1, 0),
-        LineError::MissingField { n } => (2, n),
-        LineError::BadNumber { n } => (3, n),
-        LineError::BadName { n } => (4, n),
-        LineError::Extra { n } => (5, n),
-        LineError::BadBytes { n } => (6, n),
-    };
-    Fault::Schedule {
-        line: bad.number,
-        n,
-        field,
-    }
-}
-
-/// Ends a run with a closing note. The status is this one, unless the run is stopped.
-#[tactic(auto, using(crate::proofs::Ending::written_any, crate::proofs::Ending::written_stop, crate::proofs::Ending::closed_ok))]
-fn seal<K: Sink>(
-    alloc: Global,
-    status: Status,
-    note: Note,
-    tower: Option<Tower>,
-    out: &mut K,
-    trace: Notes,
-) -> Finish
-    ensures closed { ClosedBy status note trace result.status result.trace }
-    ensures tower { result.tower ≡ tower }
-    ensures written { (base : Option (List ℕ)) → Appends base (K.took out.old) (text_of trace) → Written base (K.took out.new) (text_of result.trace) result.status }
-    ensures fault { result.status ≡ Status.WriteFault → ¬ (status ≡ Status.WriteFault) → Rose (K.faults out.old) (K.faults out.new) }
-    ensures later { K.faults out.old ≤ K.faults out.new }
-{
-    let mut trace = trace;
-    match close(alloc, out, &mut trace, note) {
-        Ok(()) => Finish {
-            status,
-            trace,
-            tower,
-        },
-        Err(stop) => Finish {
-            status: stopped(stop),
-            trace,
-            tower,
-        },
-    }
-}
-
-/// Ends a run with a fault, which is told, and gives the status.
-#[tactic(auto, using(crate::proofs::Ending::is_told))]
-fn end_by_fault<K: Sink>(
-    alloc: Global,
-    fault: Fault,
-    tower: Option<Tower>,
-    out: &mut K,
-    trace: Notes,
-) -> Finish
-    ensures closed { ClosedBy (status_of fault) (Note.Fault fault) trace result.status result.trace }
-    ensures tower { result.tower ≡ tower }
-    ensures written { (base : Option (List ℕ)) → Appends base (K.took out.old) (text_of trace) → Written base (K.took out.new) (text_of result.trace) result.status }
-    ensures fault { result.status ≡ Status.WriteFault → Rose (K.faults out.old) (K.faults out.new) }
-    ensures later { K.faults out.old ≤ K.faults out.new }
-{
-    let note = Note::Fault(fault);
-    seal(alloc, fault_status(fault), note, tower, out, trace)
-}
-
-/// Ends a run before its first line.
-#[tactic(auto, using(crate::proofs::Ending::refused_from, crate::proofs::Ending::wrote_nothing, crate::proofs::Ending::is_told))]
-fn refuse<K: Sink>(alloc: Global, out: &mut K, fault: Fault) -> Finish
-    ensures refused { RefusedBy fault result.status result.trace }
-    ensures tower { result.tower ≡ None }
-    ensures written { Written (K.took out.old) (K.took out.new) (text_of result.trace) result.status }
-    ensures fault { result.status ≡ Status.WriteFault → Rose (K.faults out.old) (K.faults out.new) }
-    ensures later { K.faults out.old ≤ K.faults out.new }
-{
-    end_by_fault(alloc, fault, None, out, Seq::new(alloc))
-}
 
 /// Runs the lines of a script whose stack was accepted. `ending` is the fault that reading the
 /// input ended with, if it was not read to its end.
@@ -269,10 +136,30 @@ fn run_input<K: Sink, P: Retires + Policies>(
     }
 }
 
+/// Reads an input, and runs it.
+#[tactic(auto, using(crate::proofs::Ending::was_ran))]
+fn run_read<S: Source, K: Sink, P: Retires + Policies>(
+    alloc: Global,
+    input: &mut S,
+    out: &mut K,
+    shelf: &mut P,
+) -> Finish
+    ensures outcome { IsRan (P.knows shelf.old) (S.left input.old) (S.left input.new) (P.slots shelf.old) result.status result.trace result.tower (P.slots shelf.new) }
+    ensures sound { IfSome result.tower IsTower }
+    ensures written { Written (K.took out.old) (K.took out.new) (text_of result.trace) result.status }
+    ensures read { result.status ≡ Status.ReadFault → Rose (S.faults input.old) (S.faults input.new) }
+    ensures write { result.status ≡ Status.WriteFault → Rose (K.faults out.old) (K.faults out.new) }
+{
+    let Ok(read) = read_input(alloc, input) else {
+        return out_of_memory(alloc);
+    };
+    run_input(alloc, read.ending, read.bytes.as_slice(), out, shelf)
+}
+
 /// A run over any shelf: the words of the command line without the program's name, the input, and where the
 /// notes are written. Each line's notes are written before the next line runs.
 /// Its clauses are those of `run`, which says what each of them means.
-#[tactic(auto, using(crate::proofs::Ending::kept_if, crate::proofs::Ending::failed_by_cut, crate::proofs::Promised::carried_if, crate::proofs::Promised::lawful_if, crate::proofs::Promised::accounted_if, crate::proofs::Promised::caused_if, crate::proofs::Promised::routed_if))]
+#[tactic(auto, using(crate::proofs::Ending::kept_if, crate::proofs::Ending::failed_by_cut, crate::proofs::Promised::carried_if, crate::proofs::Promised::lawful_if, crate::proofs::Promised::accounted_if, crate::proofs::Promised::caused_if, crate::proofs::Promised::routed_if, crate::proofs::Promised::written_off_if))]
 fn run_over<S: Source, K: Sink, P: Retires + Policies>(
     alloc: Global,
     words: &[String],
@@ -280,8 +167,8 @@ fn run_over<S: Source, K: Sink, P: Retires + Policies>(
     out: &mut K,
     shelf: &mut P,
 ) -> Finish
-    ensures written { Written (K.took out.old) (K.took out.new) (text_of result.trace) result.status }
-    ensures outcome { RunOutcomes (P.knows shelf.old) (word_fault (map (λ w. string_bytes w) words.now)) (S.left input.old) (S.left input.new) (P.slots shelf.old) result.status result.trace result.tower (P.slots shelf.new) }
+    ensures written { Written (K.took out.old) (K.took out.new) (text_written (command_of (map (λ w. string_bytes w) words.now)) result.trace) result.status }
+    ensures outcome { RunOutcomes (P.knows shelf.old) (command_of (map (λ w. string_bytes w) words.now)) (S.left input.old) (S.left input.new) (P.slots shelf.old) result.status result.trace result.tower (P.slots shelf.new) }
     ensures stands { IfSome result.tower IsTower }
     ensures kept { IfSome result.tower KeepsAll }
     ensures carried { IfSome result.tower CarriesAll }
@@ -289,25 +176,16 @@ fn run_over<S: Source, K: Sink, P: Retires + Policies>(
     ensures accounted { IfSome result.tower AccountsAll }
     ensures routed { IfSome result.tower RoutesAll }
     ensures caused { IfSome result.tower CausesAll }
+    ensures written_off { IfSome result.tower WriteOffsAll }
     ensures failed { IfSome result.tower FailedByCut }
     ensures read { result.status ≡ Status.ReadFault → Rose (S.faults input.old) (S.faults input.new) }
     ensures write { result.status ≡ Status.WriteFault → Rose (K.faults out.old) (K.faults out.new) }
 {
-    if let Some(word) = fault_in(words) {
-        return refuse(alloc, out, Fault::Usage { word });
-    }
-    let taken = take_all(alloc, input);
-    match taken.ending {
-        Ending::Whole => run_input(alloc, None, taken.bytes.as_slice(), out, shelf),
-        Ending::TooLarge => {
-            let (used, _) = taken.bytes.as_slice().split_at(LIMIT);
-            run_input(alloc, Some(Fault::TooLarge), used, out, shelf)
-        }
-        Ending::Fault => {
-            let fault = Some(Fault::ReadFault);
-            run_input(alloc, fault, taken.bytes.as_slice(), out, shelf)
-        }
-        Ending::Memory => out_of_memory(alloc),
+    match command_in(words) {
+        Err(word) => refuse(alloc, out, Fault::Usage { word }),
+        Ok(Command::Run) => run_read(alloc, input, out, shelf),
+        Ok(Command::Check) => check_input(alloc, input, out, shelf),
+        Ok(Command::Show { n }) => show_input(alloc, n, out),
     }
 }
 
@@ -320,10 +198,10 @@ pub fn run<S: Source, K: Sink, P: Retires + Policies>(
     out: &mut K,
     shelf: P,
 ) -> Outcome<P>
-    // What was written is the text of the trace, and a front of it after a write fault or `Memory`.
-    ensures written { Written (K.took out.old) (K.took out.new) (text_of result.trace) result.status }
+    // What was written is the text of the trace, for `show` that of the input which is drawn from its number, and a front of it after a write fault or `Memory`.
+    ensures written { Written (K.took out.old) (K.took out.new) (text_written (command_of (map (λ w. string_bytes w) words.now)) result.trace) result.status }
     // The status, the trace, the tower and the shelf are what the words, the input and the shelf make.
-    ensures outcome { RunOutcomes (P.knows shelf) (word_fault (map (λ w. string_bytes w) words.now)) (S.left input.old) (S.left input.new) (P.slots shelf) result.status result.trace result.tower (P.slots result.shelf) }
+    ensures outcome { RunOutcomes (P.knows shelf) (command_of (map (λ w. string_bytes w) words.now)) (S.left input.old) (S.left input.new) (P.slots shelf) result.status result.trace result.tower (P.slots result.shelf) }
     // Every DIF of every rank stands on the rank below.
     ensures stands { IfSome result.tower IsTower }
     // Every facility of every rank keeps what its flows promise, and names its partners.
@@ -338,6 +216,8 @@ pub fn run<S: Source, K: Sink, P: Retires + Policies>(
     ensures routed { IfSome result.tower RoutesAll }
     // A flow of a DIF has failed only where the acknowledgement of a number was too late to come, or with the flow below it.
     ensures caused { IfSome result.tower CausesAll }
+    // A PDU was written off only for a cause that holds of the values in its line, by the settings, connections, links and clock of the DIF.
+    ensures written_off { IfSome result.tower WriteOffsAll }
     // A flow of a wire has failed only by a cut of that wire.
     ensures failed { IfSome result.tower FailedByCut }
     ensures read { result.status ≡ Status.ReadFault → Rose (S.faults input.old) (S.faults input.new) }

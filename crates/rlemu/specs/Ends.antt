@@ -2,15 +2,14 @@
 use Rattle.std.specs.Prelude.{ℕ, Bool, List, Option}
 use Rattle.rina_policy.specs.Slots.{Slot}
 use Rattle.rina_report.specs.declared.note.Note.{Note}
-use Rattle.rina_report.specs.Notes.{text_of}
-use Rattle.rina_run.specs.Command.{word_fault}
-use Rattle.rina_run.specs.Top.{RunOutcomes}
+use Rattle.rina_run.specs.Command.{command_of}
+use Rattle.rina_run.specs.Outcomes.{RunOutcomes, text_written}
 use Rattle.rina_run.specs.Written.{Written}
 use Rattle.rina_run.specs.declared.outcome.Status.{Status}
 use Rattle.rina_run.specs.declared.outcome.Status.TheVariants as statuses
 use Rattle.rina_tower.specs.declared.tower.Tower.{Tower}
 
--- the exit status that stands for a status: 0 where all lines ran, 1 for words that are no command, 2 for an input
+-- the exit status that stands for a status: 0 where all was done, 1 for words that are no command, 2 for an input
 -- that is refused, 3 for reading, 4 for writing, 5 for memory
 abbrev pub exit_of : Status → ℕ
 exit_of statuses.Done = 0
@@ -30,5 +29,5 @@ pub record IsRun (words : List (List ℕ)) (left left' took took' : Option (List
   pub shelf' : List Slot
   pub trace : List Note
   pub tower : Option Tower
-  pub outcome : RunOutcomes known (word_fault words) left left' shelf status trace tower shelf'
-  pub written : Written took took' (text_of trace) status
+  pub outcome : RunOutcomes known (command_of words) left left' shelf status trace tower shelf'
+  pub written : Written took took' (text_written (command_of words) trace) status

@@ -1,4 +1,4 @@
-//! The top call once on its happy path, words that are no command, and ends that fail.
+//! The top call once on its happy path, and ends that fail.
 use crate::running::outcome_of;
 use rina_run::Status;
 use std::test::Fail;
@@ -35,18 +35,6 @@ fn hello_arrives_after_two_ticks(rt: HostRuntime) -> Result<(), Fail> {
     assert_eq!(rt; outcome.status, Status::Done);
     assert_eq!(rt; sink.bytes(), HELLO_NOTES.as_bytes());
     assert!(rt; outcome.tower.is_some());
-    Ok(())
-}
-
-#[test]
-fn words_that_are_no_command_are_told(rt: HostRuntime) -> Result<(), Fail> {
-    let (outcome, sink) = outcome_of(rt.alloc(), &[], "", &[], &[])?;
-    assert_eq!(rt; outcome.status, Status::Usage { word: 0 });
-    assert_eq!(rt; sink.bytes(), b"fault Usage 0\n".as_slice());
-    let (outcome, _) = outcome_of(rt.alloc(), &["go"], "", &[], &[])?;
-    assert_eq!(rt; outcome.status, Status::Usage { word: 0 });
-    let (outcome, _) = outcome_of(rt.alloc(), &["run", "x"], "", &[], &[])?;
-    assert_eq!(rt; outcome.status, Status::Usage { word: 1 });
     Ok(())
 }
 

@@ -2,6 +2,10 @@
 #![tactic(auto)]
 
 #[cfg(test)]
+mod check_rows;
+#[cfg(test)]
+mod commands;
+#[cfg(test)]
 mod drawn;
 #[cfg(test)]
 mod ends;

@@ -1,4 +1,5 @@
 //! How a text of inputs and outputs is run.
+use crate::check_rows::CHECK_ROWS;
 use crate::examples_a_to_g::EXAMPLES_A_TO_G;
 use crate::examples_h_to_l::EXAMPLES_H_TO_L;
 use crate::examples_m_to_q::EXAMPLES_M_TO_Q;
@@ -50,17 +51,17 @@ pub(crate) fn outcome_of(
     Ok((outcome, sink))
 }
 
-/// What the word `run` writes of an input.
-fn written(alloc: Global, input: &str) -> Result<MemSink, Fail> {
-    let (_, sink) = outcome_of(alloc, &["run"], input, &[], &[])?;
+/// What a command writes of an input.
+fn written(alloc: Global, command: &str, input: &str) -> Result<MemSink, Fail> {
+    let (_, sink) = outcome_of(alloc, &[command], input, &[], &[])?;
     Ok(sink)
 }
 
 /// The first example of a text that writes something else than its output, where there is one.
-fn other_example<'a>(alloc: Global, text: &'a str) -> Result<Option<&'a str>, Fail> {
+fn other_example<'a>(alloc: Global, command: &str, text: &'a str) -> Result<Option<&'a str>, Fail> {
     for example in text.split("====\n") {
         let (input, output) = example.split_once("----\n").ok_or("no output")?;
-        if written(alloc, input)?.bytes() != output.as_bytes() {
+        if written(alloc, command, input)?.bytes() != output.as_bytes() {
             return Ok(Some(example));
         }
     }
@@ -72,7 +73,7 @@ fn other_row<'a>(alloc: Global, stack: &str, rows: &'a str) -> Result<Option<&'a
     for row in rows.split("====\n") {
         let (lines, output) = row.split_once("----\n").ok_or("no output")?;
         let input = format!(in alloc; "{stack}%%\n{lines}")?;
-        if written(alloc, input.as_str())?.bytes() != output.as_bytes() {
+        if written(alloc, "run", input.as_str())?.bytes() != output.as_bytes() {
             return Ok(Some(row));
         }
     }
@@ -92,31 +93,37 @@ fn other_of_all<'a>(alloc: Global, text: &'a str) -> Result<Option<&'a str>, Fai
 
 #[test]
 fn the_examples_from_a_to_g_write_their_outputs(rt: HostRuntime) -> Result<(), Fail> {
-    assert_eq!(rt; other_example(rt.alloc(), EXAMPLES_A_TO_G)?, None);
+    assert_eq!(rt; other_example(rt.alloc(), "run", EXAMPLES_A_TO_G)?, None);
     Ok(())
 }
 
 #[test]
 fn the_examples_from_h_to_l_write_their_outputs(rt: HostRuntime) -> Result<(), Fail> {
-    assert_eq!(rt; other_example(rt.alloc(), EXAMPLES_H_TO_L)?, None);
+    assert_eq!(rt; other_example(rt.alloc(), "run", EXAMPLES_H_TO_L)?, None);
     Ok(())
 }
 
 #[test]
 fn the_examples_from_m_to_q_write_their_outputs(rt: HostRuntime) -> Result<(), Fail> {
-    assert_eq!(rt; other_example(rt.alloc(), EXAMPLES_M_TO_Q)?, None);
+    assert_eq!(rt; other_example(rt.alloc(), "run", EXAMPLES_M_TO_Q)?, None);
     Ok(())
 }
 
 #[test]
 fn the_examples_from_r_to_z_write_their_outputs(rt: HostRuntime) -> Result<(), Fail> {
-    assert_eq!(rt; other_example(rt.alloc(), EXAMPLES_R_TO_Z)?, None);
+    assert_eq!(rt; other_example(rt.alloc(), "run", EXAMPLES_R_TO_Z)?, None);
     Ok(())
 }
 
 #[test]
 fn the_rows_of_one_wire_write_their_outputs(rt: HostRuntime) -> Result<(), Fail> {
-    assert_eq!(rt; other_example(rt.alloc(), WIRE_ROWS)?, None);
+    assert_eq!(rt; other_example(rt.alloc(), "run", WIRE_ROWS)?, None);
+    Ok(())
+}
+
+#[test]
+fn the_rows_of_a_check_write_their_outputs(rt: HostRuntime) -> Result<(), Fail> {
+    assert_eq!(rt; other_example(rt.alloc(), "check", CHECK_ROWS)?, None);
     Ok(())
 }
 

@@ -1,0 +1,50 @@
+-- The outcome of each command.
+use Rattle.std.specs.Prelude.{◌≡◌, ℕ, Bool, List, [], Option, None, Result, Ok, Err, ◌⊎◌}
+use Rattle.rina_gen.specs.Input.{input}
+use Rattle.rina_gen.specs.Text.{input_text}
+use Rattle.rina_policy.specs.Slots.{Slot}
+use Rattle.rina_report.specs.declared.note.Note.{Note}
+use Rattle.rina_report.specs.declared.note.Fault.TheVariants as faults
+use Rattle.rina_report.specs.Notes.{text_of}
+use Rattle.rina_tower.specs.declared.tower.Tower.{Tower}
+use Rattle.rina_run.specs.declared.command.Command.{Command}
+use Rattle.rina_run.specs.declared.command.Command.TheVariants as commands
+use Rattle.rina_run.specs.declared.outcome.Status.{Status}
+use Rattle.rina_run.specs.declared.outcome.Status.TheVariants as statuses
+use Rattle.rina_run.specs.Check.{CheckOutcomes}
+use Rattle.rina_run.specs.Top.{InputOutcomes, IsOutOfMemory, RefusedBy, WasRead}
+
+-- the text that a command writes: that of its notes, and for `show` the input that is drawn from the number
+abbrev pub text_written : Result Command ℕ → List Note → List ℕ
+text_written (Ok (commands.Show n)) trace = input_text (input n)
+text_written command trace = text_of trace
+
+-- the outcome of `run`
+abbrev pub IsRan : (List ℕ → Bool) → Option (List ℕ) → Option (List ℕ) → List Slot → Status → List Note → Option Tower → List Slot → Type 0
+IsRan known left left' shelf status trace tower shelf' = (IsOutOfMemory status trace tower × (shelf' ≡ shelf)) ⊎ WasRead left left' (λ ending script. InputOutcomes known ending script shelf status trace tower shelf')
+
+-- the outcome of `check`, which runs nothing
+pub record IsChecked (known : List ℕ → Bool) (left left' : Option (List ℕ)) (status : Status) (trace : List Note) (tower : Option Tower) : Type 0 where
+  pub outcome : IsOutOfMemory status trace tower ⊎ WasRead left left' (λ ending script. CheckOutcomes known ending script status trace)
+  pub no_tower : tower ≡ None
+
+-- `show` is done, unless a write or an allocation failed
+abbrev pub EndsShow : Status → Type 0
+EndsShow statuses.Done = Unit {0}
+EndsShow statuses.WriteFault = Unit {0}
+EndsShow statuses.Memory = Unit {0}
+EndsShow status = ⊥
+
+-- the outcome of `show`, which reads nothing and tells no note
+pub record IsShown (status : Status) (trace : List Note) (tower : Option Tower) : Type 0 where
+  pub ends : EndsShow status
+  pub notes : trace ≡ []
+  pub left : tower ≡ None
+
+-- the outcome of a run, by the words of the command line, by what was read, and by the shelf that was handed in; a place is that of
+-- the word which can't stand there, and is told
+abbrev pub RunOutcomes : (List ℕ → Bool) → Result Command ℕ → Option (List ℕ) → Option (List ℕ) → List Slot → Status → List Note → Option Tower → List Slot → Type 0
+RunOutcomes known (Ok commands.Run) left left' shelf status trace tower shelf' = IsRan known left left' shelf status trace tower shelf'
+RunOutcomes known (Ok commands.Check) left left' shelf status trace tower shelf' = IsChecked known left left' status trace tower × (shelf' ≡ shelf)
+RunOutcomes known (Ok (commands.Show n)) left left' shelf status trace tower shelf' = IsShown status trace tower × (left' ≡ left) × (shelf' ≡ shelf)
+RunOutcomes known (Err word) left left' shelf status trace tower shelf' = (tower ≡ None) × RefusedBy (faults.Usage word) status trace × (shelf' ≡ shelf)
