@@ -16,19 +16,20 @@ use Rattle.rina_wire.specs.declared.event.WireError.TheVariants as wires
 use Rattle.rina_wire.specs.declared.flight.Flight.{Flight}
 use Rattle.rina_wire.specs.Air.{Air, Line, seen_of, wire_at}
 use Rattle.rina_wire.specs.Allocate.{is_allocated}
-use Rattle.rina_wire.specs.Cut.{CutsOn, MendsOn, cut_line, mended}
+use Rattle.rina_wire.specs.Cut.{CutsOn, cut_line}
 use Rattle.rina_wire.specs.Disturb.{HoldsOn, LosesOn, RepeatsOn, copy_place, due_at, held, lost, moved, repeated, with_copy, without_copy}
 use Rattle.rina_wire.specs.Free.{FreesOn, closed_both, freed_at}
 use Rattle.rina_wire.specs.Sound.{IsSound, KeepsFlows}
 use Rattle.rina_wire.proofs.Carried.{end_is}
 use Rattle.rina_wire.proofs.SoundDisturb.{sound_holds, sound_loses, sound_repeats}
-use Rattle.rina_wire.proofs.SoundCut.{OnlyStates, cut_states, sound_cuts, sound_mends}
+use Rattle.rina_wire.proofs.SoundCut.{OnlyStates, cut_states, sound_cuts}
 use Rattle.rina_wire.proofs.SoundFree.{freed_states, sound_frees}
 use Rattle.rina_wire.proofs.SoundSend.{stands_at}
 use Rattle.rina_laws.specs.Frames.{copies_of}
 use Rattle.rina_laws.proofs.FramesKept.{Carries, alike_ends, carry_on}
 use Rattle.rina_laws.proofs.FramesLists.{differ, first_at, push_no, remove_no, set_no}
-use Rattle.rina_laws.proofs.FramesCalls.{Frame, IsCarrying, carry_end, carry_wire}
+use Rattle.rina_laws.proofs.FramesCalls.{IsCarrying}
+use Rattle.rina_laws.proofs.WiresCalls.{OnWire, carry_end, carry_wire}
 
 -- ---- events of wires
 
@@ -42,12 +43,12 @@ carry_lost k now frame l (Some place) ne h c =
     let first = first_at frame l.flights place h in
     copies_alike k now l _ (remove_no (λ (f : Flight). f.frame == k) l.flights place first.copy first.stands (differ first.copy.frame k (λ same. ne (sym first.its ∙ same)))) c
 
-carry_loses : (fac k : ℕ) (a : Air) (wire frame : ℕ) (r : Result (Unit {0}) WireError) (a' : Air) → (wire ≡ fac → frame ≢ k) → Frame fac k a → LosesOn a wire frame r a' → Frame fac k a'
-carry_loses fac k a wire frame (Ok done) a' ne c g = subst (Frame fac k) (sym g.air) (carry_wire fac k a wire (lost frame) c (λ l same h d. carry_lost k a.now frame l (copy_place frame l.flights) (ne same) refl d))
-carry_loses fac k a wire frame (Err e) a' ne c g = subst (Frame fac k) (sym g.air) c
+carry_loses : (fac k : ℕ) (a : Air) (wire frame : ℕ) (r : Result (Unit {0}) WireError) (a' : Air) → (wire ≡ fac → frame ≢ k) → OnWire (Carries k) fac a → LosesOn a wire frame r a' → OnWire (Carries k) fac a'
+carry_loses fac k a wire frame (Ok done) a' ne c g = subst (OnWire (Carries k) fac) (sym g.air) (carry_wire (Carries k) fac a wire (lost frame) c (λ l same h d. carry_lost k a.now frame l (copy_place frame l.flights) (ne same) refl d))
+carry_loses fac k a wire frame (Err e) a' ne c g = subst (OnWire (Carries k) fac) (sym g.air) c
 
 pub keeps_loses : (fac k : ℕ) (a : Air) (wire frame : ℕ) (r : Result (Unit {0}) WireError) (a' : Air) → (wire ≡ fac → frame ≢ k) → IsCarrying fac k a → LosesOn a wire frame r a' → IsCarrying fac k a'
-keeps_loses fac k a wire frame r a' ne c g = record { sound = sound_loses a wire frame r a' c.sound g; frame = carry_loses fac k a wire frame r a' ne c.frame g }
+keeps_loses fac k a wire frame r a' ne c g = record { sound = sound_loses a wire frame r a' c.sound g; holds = carry_loses fac k a wire frame r a' ne c.holds g }
 
 carry_held : (k now frame at : ℕ) (l : Line) (o : Option ℕ) → frame ≢ k → copy_place frame l.flights ≡ o → Carries k now l → Carries k now (moved at l o)
 carry_held k now frame at l None ne h c = c
@@ -56,12 +57,12 @@ carry_held k now frame at l (Some place) ne h c =
     let other : (first.copy.frame == k) ≡ false = differ first.copy.frame k (λ same. ne (sym first.its ∙ same)) in
     rw first.stands (copies_alike k now l _ (set_no (λ (f : Flight). f.frame == k) l.flights place first.copy (due_at at first.copy) first.stands other other) c)
 
-carry_holds : (fac k : ℕ) (a : Air) (wire frame at : ℕ) (r : Result (Unit {0}) WireError) (a' : Air) → (wire ≡ fac → frame ≢ k) → Frame fac k a → HoldsOn a wire frame at r a' → Frame fac k a'
-carry_holds fac k a wire frame at (Ok done) a' ne c g = subst (Frame fac k) (sym g.air) (carry_wire fac k a wire (held frame at) c (λ l same h d. carry_held k a.now frame at l (copy_place frame l.flights) (ne same) refl d))
-carry_holds fac k a wire frame at (Err e) a' ne c g = subst (Frame fac k) (sym g.air) c
+carry_holds : (fac k : ℕ) (a : Air) (wire frame at : ℕ) (r : Result (Unit {0}) WireError) (a' : Air) → (wire ≡ fac → frame ≢ k) → OnWire (Carries k) fac a → HoldsOn a wire frame at r a' → OnWire (Carries k) fac a'
+carry_holds fac k a wire frame at (Ok done) a' ne c g = subst (OnWire (Carries k) fac) (sym g.air) (carry_wire (Carries k) fac a wire (held frame at) c (λ l same h d. carry_held k a.now frame at l (copy_place frame l.flights) (ne same) refl d))
+carry_holds fac k a wire frame at (Err e) a' ne c g = subst (OnWire (Carries k) fac) (sym g.air) c
 
 pub keeps_holds : (fac k : ℕ) (a : Air) (wire frame at : ℕ) (r : Result (Unit {0}) WireError) (a' : Air) → (wire ≡ fac → frame ≢ k) → IsCarrying fac k a → HoldsOn a wire frame at r a' → IsCarrying fac k a'
-keeps_holds fac k a wire frame at r a' ne c g = record { sound = sound_holds a wire frame at r a' c.sound g; frame = carry_holds fac k a wire frame at r a' ne c.frame g }
+keeps_holds fac k a wire frame at r a' ne c g = record { sound = sound_holds a wire frame at r a' c.sound g; holds = carry_holds fac k a wire frame at r a' ne c.holds g }
 
 carry_repeated : (k now frame at : ℕ) (l : Line) (o : Option ℕ) → frame ≢ k → copy_place frame l.flights ≡ o → Carries k now l → Carries k now (with_copy at l (option_and_then (λ i. slice_get l.flights i) o))
 carry_repeated k now frame at l None ne h c = c
@@ -69,18 +70,18 @@ carry_repeated k now frame at l (Some place) ne h c =
     let first = first_at frame l.flights place h in
     rw first.stands (copies_alike k now l _ (push_no (λ (f : Flight). f.frame == k) l.flights (due_at at first.copy) (differ first.copy.frame k (λ same. ne (sym first.its ∙ same)))) c)
 
-carry_repeats : (fac k : ℕ) (a : Air) (wire frame at : ℕ) (r : Result (Unit {0}) WireError) (a' : Air) → (wire ≡ fac → frame ≢ k) → Frame fac k a → RepeatsOn a wire frame at r a' → Frame fac k a'
-carry_repeats fac k a wire frame at (Ok done) a' ne c g = subst (Frame fac k) (sym g.air) (carry_wire fac k a wire (repeated frame at) c (λ l same h d. carry_repeated k a.now frame at l (copy_place frame l.flights) (ne same) refl d))
-carry_repeats fac k a wire frame at (Err wires.Memory) a' ne c g = subst (Frame fac k) (sym g) c
-carry_repeats fac k a wire frame at (Err wires.NoWire) a' ne c g = subst (Frame fac k) (sym g.air) c
-carry_repeats fac k a wire frame at (Err (wires.NoFrame n)) a' ne c g = subst (Frame fac k) (sym g.air) c
-carry_repeats fac k a wire frame at (Err (wires.EarlyHold now)) a' ne c g = subst (Frame fac k) (sym g.air) c
-carry_repeats fac k a wire frame at (Err (wires.LateHold last)) a' ne c g = subst (Frame fac k) (sym g.air) c
+carry_repeats : (fac k : ℕ) (a : Air) (wire frame at : ℕ) (r : Result (Unit {0}) WireError) (a' : Air) → (wire ≡ fac → frame ≢ k) → OnWire (Carries k) fac a → RepeatsOn a wire frame at r a' → OnWire (Carries k) fac a'
+carry_repeats fac k a wire frame at (Ok done) a' ne c g = subst (OnWire (Carries k) fac) (sym g.air) (carry_wire (Carries k) fac a wire (repeated frame at) c (λ l same h d. carry_repeated k a.now frame at l (copy_place frame l.flights) (ne same) refl d))
+carry_repeats fac k a wire frame at (Err wires.Memory) a' ne c g = subst (OnWire (Carries k) fac) (sym g) c
+carry_repeats fac k a wire frame at (Err wires.NoWire) a' ne c g = subst (OnWire (Carries k) fac) (sym g.air) c
+carry_repeats fac k a wire frame at (Err (wires.NoFrame n)) a' ne c g = subst (OnWire (Carries k) fac) (sym g.air) c
+carry_repeats fac k a wire frame at (Err (wires.EarlyHold now)) a' ne c g = subst (OnWire (Carries k) fac) (sym g.air) c
+carry_repeats fac k a wire frame at (Err (wires.LateHold last)) a' ne c g = subst (OnWire (Carries k) fac) (sym g.air) c
 
 pub keeps_repeats : (fac k : ℕ) (a : Air) (wire frame at : ℕ) (r : Result (Unit {0}) WireError) (a' : Air) → (wire ≡ fac → frame ≢ k) → IsCarrying fac k a → RepeatsOn a wire frame at r a' → IsCarrying fac k a'
-keeps_repeats fac k a wire frame at r a' ne c g = record { sound = sound_repeats a wire frame at r a' c.sound g; frame = carry_repeats fac k a wire frame at r a' ne c.frame g }
+keeps_repeats fac k a wire frame at r a' ne c g = record { sound = sound_repeats a wire frame at r a' c.sound g; holds = carry_repeats fac k a wire frame at r a' ne c.holds g }
 
--- ---- cut and mend
+-- ---- cut
 
 -- only states changed, and no copy of the frame was in flight or is
 states_alike : (k now : ℕ) (l l' : Line) → l'.delay ≡ l.delay → OnlyStates l l' → copies_of k l'.flights ≡ copies_of k l.flights → Carries k now l → Carries k now l'
@@ -106,19 +107,12 @@ cut_copies k now l none = elim l.cut as (λ b. copies_of k (cond b l (record l {
 carry_cut : (k now : ℕ) (l : Line) → copies_of k l.flights ≡ [] → Carries k now l → Carries k now (cut_line now l)
 carry_cut k now l none c = states_alike k now l (cut_line now l) (cut_delay now l) (cut_states now l) (cut_copies k now l none) c
 
-carry_cuts : (fac k : ℕ) (a : Air) (wire : ℕ) (r : Result (Unit {0}) WireError) (a' : Air) → ((l : Line) → wire ≡ fac → wire_at a fac ≡ Some l → copies_of k l.flights ≡ []) → Frame fac k a → CutsOn a wire r a' → Frame fac k a'
-carry_cuts fac k a wire (Ok done) a' none c g = subst (Frame fac k) (sym g.air) (carry_wire fac k a wire (cut_line a.now) c (λ l same h d. carry_cut k a.now l (none l same (rw (← same) h)) d))
-carry_cuts fac k a wire (Err e) a' none c g = subst (Frame fac k) (sym g.air) c
+carry_cuts : (fac k : ℕ) (a : Air) (wire : ℕ) (r : Result (Unit {0}) WireError) (a' : Air) → ((l : Line) → wire ≡ fac → wire_at a fac ≡ Some l → copies_of k l.flights ≡ []) → OnWire (Carries k) fac a → CutsOn a wire r a' → OnWire (Carries k) fac a'
+carry_cuts fac k a wire (Ok done) a' none c g = subst (OnWire (Carries k) fac) (sym g.air) (carry_wire (Carries k) fac a wire (cut_line a.now) c (λ l same h d. carry_cut k a.now l (none l same (rw (← same) h)) d))
+carry_cuts fac k a wire (Err e) a' none c g = subst (OnWire (Carries k) fac) (sym g.air) c
 
 pub keeps_cuts : (fac k : ℕ) (a : Air) (wire : ℕ) (r : Result (Unit {0}) WireError) (a' : Air) → ((l : Line) → wire ≡ fac → wire_at a fac ≡ Some l → copies_of k l.flights ≡ []) → IsCarrying fac k a → CutsOn a wire r a' → IsCarrying fac k a'
-keeps_cuts fac k a wire r a' none c g = record { sound = sound_cuts a wire r a' c.sound g; frame = carry_cuts fac k a wire r a' none c.frame g }
-
-carry_mends : (fac k : ℕ) (a : Air) (wire : ℕ) (r : Result (Unit {0}) WireError) (a' : Air) → Frame fac k a → MendsOn a wire r a' → Frame fac k a'
-carry_mends fac k a wire (Ok done) a' c g = subst (Frame fac k) (sym g.air) (carry_wire fac k a wire mended c (λ l same h d. carry_on k a.now l (mended l) (alike_ends k l (mended l) refl refl refl) d))
-carry_mends fac k a wire (Err e) a' c g = subst (Frame fac k) (sym g.air) c
-
-pub keeps_mends : (fac k : ℕ) (a : Air) (wire : ℕ) (r : Result (Unit {0}) WireError) (a' : Air) → IsCarrying fac k a → MendsOn a wire r a' → IsCarrying fac k a'
-keeps_mends fac k a wire r a' c g = record { sound = sound_mends a wire r a' c.sound g; frame = carry_mends fac k a wire r a' c.frame g }
+keeps_cuts fac k a wire r a' none c g = record { sound = sound_cuts a wire r a' c.sound g; holds = carry_cuts fac k a wire r a' none c.holds g }
 
 -- ---- free
 
@@ -147,10 +141,10 @@ carry_freed fac k a port l i e none same h place at flows c =
     let state : state_of (seen_of a) port ≡ Some Allocated = ap (option_map (λ (z : End). z.state)) is ∙ ap (λ s. Some s) (allocated_by e.state is_open) in
     none l same state (rw (← same) h))) c
 
-carry_frees : (fac k : ℕ) (a : Air) (port : Port) (r : Result (Unit {0}) FreeError) (a' : Air) → NoneWith fac k a port → IsSound a → Frame fac k a → FreesOn a port r a' → Frame fac k a'
-carry_frees fac k a port (Ok done) a' none s c g = subst (Frame fac k) (sym g.air) (carry_end fac k a port freed_at c (λ l i e same h place at d. carry_freed fac k a port l i e none same h place at (s.flows port.fac l h) d))
-carry_frees fac k a port (Err frees.Memory) a' none s c g = subst (Frame fac k) (sym g) c
-carry_frees fac k a port (Err frees.NoPort) a' none s c g = subst (Frame fac k) (sym g.air) c
+carry_frees : (fac k : ℕ) (a : Air) (port : Port) (r : Result (Unit {0}) FreeError) (a' : Air) → NoneWith fac k a port → IsSound a → OnWire (Carries k) fac a → FreesOn a port r a' → OnWire (Carries k) fac a'
+carry_frees fac k a port (Ok done) a' none s c g = subst (OnWire (Carries k) fac) (sym g.air) (carry_end (Carries k) fac a port freed_at c (λ l i e same h place at d. carry_freed fac k a port l i e none same h place at (s.flows port.fac l h) d))
+carry_frees fac k a port (Err frees.Memory) a' none s c g = subst (OnWire (Carries k) fac) (sym g) c
+carry_frees fac k a port (Err frees.NoPort) a' none s c g = subst (OnWire (Carries k) fac) (sym g.air) c
 
 pub keeps_frees : (fac k : ℕ) (a : Air) (port : Port) (r : Result (Unit {0}) FreeError) (a' : Air) → NoneWith fac k a port → IsCarrying fac k a → FreesOn a port r a' → IsCarrying fac k a'
-keeps_frees fac k a port r a' none c g = record { sound = sound_frees a port r a' c.sound g; frame = carry_frees fac k a port r a' none c.sound c.frame g }
+keeps_frees fac k a port r a' none c g = record { sound = sound_frees a port r a' c.sound g; holds = carry_frees fac k a port r a' none c.sound c.holds g }

@@ -5,26 +5,16 @@ use Rattle.rina_law.specs.declared.entry.Entry.{Entry}
 use Rattle.rina_policy.specs.Slots.{Slot}
 use Rattle.rina_stack.specs.declared.plan.Plan.{Plan}
 use Rattle.rina_tower.specs.declared.tower.Tower.{Tower, Wires, Rank'}
-use Rattle.rina_tower.specs.Ranks.{rank_of}
-use Rattle.rina_tower.specs.Stands.{IsTower}
 use Rattle.rina_wire.specs.Air.{Air, Line, fac_of, wire_at}
-use Rattle.rina_wire.specs.Sound.{IsSound}
 use Rattle.rina_run.specs.Opening.{IsOpening}
 use Rattle.rina_words.specs.Step.{Stage}
 use Rattle.rina_laws.specs.Frames.{wires_of}
-use Rattle.rina_laws.proofs.FramesAt.{Holds}
+use Rattle.rina_laws.proofs.FramesCalls.{IsCarrying}
 use Rattle.rina_laws.proofs.FramesKept.{Carries}
 use Rattle.rina_laws.proofs.LabelBuilt.{IsBlank, built_blank}
-use Rattle.rina_laws.proofs.LabelRanks.{facs_of, rank_below}
-
--- the wires of a tower are its rank 0, and sound
-wires_rank : (t : Tower) → rank_of t 0 ≡ Some (Wires (wires_of t))
-wires_rank (Wires a) = refl
-wires_rank (Rank' p difs below) = rank_below p difs below 0 (λ is. omega (arith, is)) ∙ wires_rank below
-
-wires_sound : (t : Tower) → IsTower t → IsSound (wires_of t)
-wires_sound (Wires a) s = s
-wires_sound (Rank' p difs below) s = wires_sound below s.1
+use Rattle.rina_laws.proofs.LabelRanks.{facs_of}
+use Rattle.rina_laws.proofs.WiresAt.{Holds}
+use Rattle.rina_laws.proofs.WiresOf.{wires_rank, wires_sound}
 
 -- no end of a wire sent anything
 none_sent : (k now fac : ℕ) (a : Air) (l : Line) → IsBlank (facs_of (Wires a)) → wire_at a fac ≡ Some l → Carries k now l
@@ -34,8 +24,8 @@ none_sent k now fac a l blank wire i j e x at is n =
     let nowhere : slice_get [] j ≡ Some x = subst (λ (xs : List Entry). slice_get xs j ≡ Some x) none is in
     cc
 
-pub opening_holds : (fac k : ℕ) (plan : Plan) (shelf : List Slot) (s : Stage) → IsOpening plan shelf s → Holds fac k s.run.tower
+pub opening_holds : (fac k : ℕ) (plan : Plan) (shelf : List Slot) (s : Stage) → IsOpening plan shelf s → Holds (IsCarrying fac k) s.run.tower
 opening_holds fac k plan shelf s o =
     let a = wires_of s.run.tower in
     let blank = built_blank plan s.run.tower 0 (Wires a) o.built (wires_rank s.run.tower) in
-    record { sound = wires_sound s.run.tower o.stands; frame = λ l h. none_sent k a.now fac a l blank h }
+    record { sound = wires_sound s.run.tower o.stands; holds = λ l h. none_sent k a.now fac a l blank h }

@@ -12,18 +12,19 @@ use Rattle.rina_words.specs.Built.{event_at}
 use Rattle.rina_run.specs.Run.{LineDoes, Runs}
 use Rattle.rina_words.specs.Step.{Stage, rounds_after}
 use Rattle.rina_laws.specs.Frames.{FramesArriveOnce, IsSpared, Touches, wires_of}
-use Rattle.rina_laws.proofs.FramesAt.{Holds, rounds_by}
+use Rattle.rina_laws.proofs.FramesCalls.{IsCarrying}
 use Rattle.rina_laws.proofs.FramesKept.{Carries}
 use Rattle.rina_laws.proofs.FramesOpening.{opening_holds}
-use Rattle.rina_laws.proofs.FramesWords.{acts}
+use Rattle.rina_laws.proofs.FramesWords.{frame_acts, frame_keeps}
+use Rattle.rina_laws.proofs.WiresAt.{Holds, rounds_by}
 
 -- ---- lines
 
-line_does : (fac k : ℕ) (plan : Plan) (number : ℕ) (r : Result (Option Event) LineError) (s : Stage) (ns : List Note) (s' : Stage) → ((event : Event) → r ≡ Ok (Some event) → Touches plan fac k s.run event → ⊥) → Holds fac k s.run.tower → LineDoes plan number r s ns s' → Holds fac k s'.run.tower
-line_does fac k plan number (Ok None) s ns s' spared h d = subst (λ (v : Stage). Holds fac k v.run.tower) (sym d.1) h
+line_does : (fac k : ℕ) (plan : Plan) (number : ℕ) (r : Result (Option Event) LineError) (s : Stage) (ns : List Note) (s' : Stage) → ((event : Event) → r ≡ Ok (Some event) → Touches plan fac k s.run event → ⊥) → Holds (IsCarrying fac k) s.run.tower → LineDoes plan number r s ns s' → Holds (IsCarrying fac k) s'.run.tower
+line_does fac k plan number (Ok None) s ns s' spared h d = subst (λ (v : Stage). Holds (IsCarrying fac k) v.run.tower) (sym d.1) h
 line_does fac k plan number (Ok (Some event)) s ns s' spared h d =
-    let acted = acts fac k plan number event s d.answer d.mid (spared event refl) h d.acts in
-    rounds_by fac k (rounds_after plan.rounds event) d.mid.shelf s'.shelf d.mid.run.tower s'.run.tower acted d.rounds
+    let acted = frame_acts fac k plan number event s d.answer d.mid (spared event refl) h d.acts in
+    rounds_by (IsCarrying fac k) (frame_keeps fac k) (rounds_after plan.rounds event) d.mid.shelf s'.shelf d.mid.run.tower s'.run.tower acted d.rounds
 line_does fac k plan number (Err e) s ns s' spared h d = absurd d
 
 -- one line more
@@ -48,8 +49,8 @@ before_middle [] ys = refl
 before_middle (x ∷ xs) ys = ap (λ (zs : List (List ℕ)). x ∷ zs) (before_middle xs ys)
 
 -- the lines that were run, and those that are left
-runs : (fac k : ℕ) (plan : Plan) (start : Stage) (number : ℕ) (done : List (List ℕ)) (before : List Note) (w : Stage) (ls : List (List ℕ)) (ns : List Note) (w' : Stage) → number ≡ 1 + length done → Runs plan 1 start done before w → IsSpared plan start fac k (done ++ ls) → Holds fac k w.run.tower → Runs plan number w ls ns w' → Holds fac k w'.run.tower
-runs fac k plan start number done before w [] ns w' at ran spared h d = subst (λ (v : Stage). Holds fac k v.run.tower) (sym d.1) h
+runs : (fac k : ℕ) (plan : Plan) (start : Stage) (number : ℕ) (done : List (List ℕ)) (before : List Note) (w : Stage) (ls : List (List ℕ)) (ns : List Note) (w' : Stage) → number ≡ 1 + length done → Runs plan 1 start done before w → IsSpared plan start fac k (done ++ ls) → Holds (IsCarrying fac k) w.run.tower → Runs plan number w ls ns w' → Holds (IsCarrying fac k) w'.run.tower
+runs fac k plan start number done before w [] ns w' at ran spared h d = subst (λ (v : Stage). Holds (IsCarrying fac k) v.run.tower) (sym d.1) h
 runs fac k plan start number done before w (l ∷ ls) ns w' at ran spared h (mid, first, rest, does, others, is) =
     let here : (event : Event) → event_at l ≡ Ok (Some event) → Touches plan fac k w.run event → ⊥ = λ event read touches.
     spared (length done) l event before w (at_middle done ls l) read (subst (λ (xs : List (List ℕ)). Runs plan 1 start xs before w) (sym (before_middle done (l ∷ ls))) ran) touches in
@@ -60,8 +61,8 @@ runs fac k plan start number done before w (l ∷ ls) ns w' at ran spared h (mid
     runs fac k plan start (number + 1) (done ++ l ∷ []) (before ++ first) mid ls rest w' at' ran' spared' next others
 
 -- what holds of the wires of a tower holds of each of them
-each_wire : (fac k : ℕ) (t : Tower) (l : Line) → Holds fac k t → wire_at (wires_of t) fac ≡ Some l → Carries k (now_of t) l
-each_wire fac k (Wires a) l h wire = h.frame l wire
+each_wire : (fac k : ℕ) (t : Tower) (l : Line) → Holds (IsCarrying fac k) t → wire_at (wires_of t) fac ≡ Some l → Carries k (now_of t) l
+each_wire fac k (Wires a) l h wire = h.holds l wire
 each_wire fac k (Rank' p difs below) l h wire = each_wire fac k below l h wire
 
 pub frames_arrive_once : FramesArriveOnce

@@ -1,7 +1,6 @@
 pub mod PlannedAt
 pub mod PlannedWords
 pub mod PlannedRun
-pub mod FramesAt
 pub mod FramesCalls
 pub mod FramesEvents
 pub mod FramesKept
@@ -34,3 +33,14 @@ pub mod LabelStart
 pub mod LabelTells
 pub mod LabelTicks
 pub mod LabelWords
+pub mod WiresAt
+pub mod WiresOf
+pub mod WiresWords
+pub mod WiresCalls
+pub mod CutsLine
+pub mod CutsOpening
+pub mod CutsRun
+pub mod StartsAt
+pub mod WiresEvents
+pub mod WiresLaid
+pub mod WiresRun

@@ -1,3 +1,6 @@
 pub mod Planned
 pub mod Frames
 pub mod Labels
+pub mod Cuts
+pub mod Starts
+pub mod WiresPlanned

@@ -2,8 +2,25 @@
 #![tactic(auto)]
 
 ghost use Rattle.rina_laws.specs.Planned.{RoutesAsPlanned, StaysAsPlanned};
+ghost use Rattle.rina_laws.specs.Cuts.{FailuresAreCuts};
 ghost use Rattle.rina_laws.specs.Frames.{FramesArriveOnce};
 ghost use Rattle.rina_laws.specs.Labels.{GotIsTold, SentIsTold};
+ghost use Rattle.rina_laws.specs.Starts.{DifsStartUntouched, WiresStartAsPlanned};
+ghost use Rattle.rina_laws.specs.WiresPlanned.{WiresStayAsPlanned};
+
+/// Before the first line of a run its wires are those of the stack, with their delays, none of them cut and no frame sent, but
+/// for the flows that the stack fixes; and each IPC process of each rank did nothing yet: its links are live and numbered
+/// from 0, its queues and its ledger are empty, and no request left objects.
+pub fn a_run_starts_as_planned()
+    ensures wires { WiresStartAsPlanned }
+    ensures difs { DifsStartUntouched }
+{}
+
+/// After any run from its opening each wire joins the systems that the stack says, with the delay, the life and the largest SDU
+/// that it says. So the delay after which a frame arrives (`a_frame_arrives_once`) is that of the stack.
+pub fn each_wire_stays_as_planned()
+    ensures { WiresStayAsPlanned }
+{}
 
 /// After any run from its opening each DIF of each rank is as its plan says: it has the settings of one of the DIFs of the
 /// stack, which has this rank, and the links of that one. So a policy, a cube, a member or a link that the stack names
@@ -28,6 +45,12 @@ pub fn next_hops_go_by_the_plan()
 /// DIFs alike.
 pub fn a_frame_arrives_once()
     ensures { FramesArriveOnce }
+{}
+
+/// An end of a wire that has failed did so by a line `cut` of that wire, whose `ok` stands among the notes of the run with
+/// the tick of the failure. So no flow of a wire fails for free.
+pub fn wires_fail_by_cuts()
+    ensures { FailuresAreCuts }
 {}
 
 /// After any run from its opening, the end of each label, at whatever rank and those of the stack's
