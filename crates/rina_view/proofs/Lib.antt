@@ -1,0 +1,3 @@
+pub mod LinesLent
+pub mod RowsLaw
+pub mod Shows
