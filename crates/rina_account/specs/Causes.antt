@@ -9,9 +9,9 @@ IsExpired left charge = left < charge
 abbrev pub IsUnrouted : List ℕ → ℕ → Type 0
 IsUnrouted rows dst = Contains rows dst → ⊥
 
--- the queue has room for no more: it holds as many PDUs as it may
+-- the queue has room for no more: it holds exactly as many PDUs as it may
 abbrev pub IsFull : ℕ → ℕ → Type 0
-IsFull cap waiting = cap ≤ waiting
+IsFull cap waiting = waiting ≡ cap
 
 -- the piece was received before: its number was accepted, or is held, or is below the next one
 abbrev pub IsRepeated : List ℕ → List ℕ → ℕ → ℕ → Type 0

@@ -14,6 +14,7 @@ use Rattle.rina_iface.specs.declared.error.SendError.{SendError}
 use Rattle.rina_iface.specs.Ends.{end_in}
 use Rattle.rina_iface.specs.Journal.{AreKept}
 use Rattle.rina_iface.specs.Seen.{Fac, Offer, Seen, cube_at, cube_in, promise_at}
+use Rattle.rina_iface.specs.Send.{refused}
 use Rattle.rina_iface.proofs.Changed.{all_at}
 use Rattle.rina_pci.specs.Life.{protected}
 use Rattle.rina_pci.specs.Spelling.{spelling}
@@ -34,7 +35,7 @@ use Rattle.rina_data.specs.Deciding.{plain, process_of}
 use Rattle.rina_data.specs.Configs.{Config}
 use Rattle.rina_data.specs.Process.{IsQueue, Process, Queue, link_by, queue_place}
 use Rattle.rina_data.specs.Leaving.{Asks, CanGo, Deals, Drops, IsOff, IsRoomy, IsTaken, Tries}
-use Rattle.rina_data.specs.Outgoing.{Goes, IsHead, charge_of, sent_bytes}
+use Rattle.rina_data.specs.Outgoing.{Goes, IsHead, IsHeld, IsOver, charge_of, refused_below, sent_bytes}
 use Rattle.rina_data.specs.Fitting.{IsFit}
 use Rattle.rina_data.proofs.Finding.{found_in}
 use Rattle.rina_data.proofs.Plain.{same_place}
@@ -195,6 +196,23 @@ goes_late refuses g now p below n link item promise key left charge (Err Memory)
 goes_late refuses g now p below n link item promise key left charge (Err NoIpc) process' h k l c less d = absurd d
 goes_late refuses g now p below n link item promise key left charge (Err NoLink) process' h k l c less d = absurd d
 
+-- it is held: it was in time, and the flow below refuses it for now
+pub held_back : (refuses : Port → ℕ → Option SendError) (g : Config) (now : ℕ) (p : IpcProcess) (below : Seen) (n : ℕ) (link : Link) (item : Queued) (promise : ℕ) (why : SendError) → IsAtHand p below n link item promise → charge_of now item promise ≤ item.left → refused_below refuses g now below link item promise ≡ Some why → (IsOver why → ⊥) → IsHeld refuses g now below n (process_of p) item why
+held_back refuses g now p below n link item promise why h c said not_over =
+    let s = h.served in
+    let there : IsQueue (process_of p) item.pdu.qos n s.place (plain s.queue) = record { found = same_place item.pdu.qos n p.queues.queues.items ∙ s.found; is_queue = slice_get-map plain p.queues.queues.items s.place ∙ ap (option_map plain) s.is_queue } in
+    record {
+      link = link;
+      place = s.place;
+      queue = plain s.queue;
+      head = served_head p n h.pick link item s.place (plain s.queue) h.is_link h.served there;
+      promise = promise;
+      promised = h.promised;
+      in_time = c;
+      refused = said;
+      not_over = not_over;
+    }
+
 -- it is sent, or not
 pub goes_tried : (refuses : Port → ℕ → Option SendError) (g : Config) (now : ℕ) (p : IpcProcess) (below : Seen) (n : ℕ) (link : Link) (item : Queued) (promise : ℕ) (key : Key) (r : Result OutStep StepError) (process' : Process) (below' : Seen) → IsAtHand p below n link item promise → key ≡ key_of item.pdu → charge_of now item promise ≤ item.left → Tries (refuses link.port (length (sent_bytes g now item promise))) (process_of p) below (first_of key item n link) (sent_bytes g now item promise) r process' below' → Goes refuses g now (process_of p) below n r process' below'
 goes_tried refuses g now p below n link item promise key (Ok out.Idle) process' below' h k c d = absurd d
@@ -230,12 +248,7 @@ goes_tried refuses g now p below n link item promise key (Ok (out.Off other caus
     } in
     subst (λ (z : Key). Goes refuses g now (process_of p) below n (Ok (out.Off z cause)) process' below') (sym d.0) (subst (λ (z : Cause). Goes refuses g now (process_of p) below n (Ok (out.Off key z)) process' below') (sym d.1) line)
 goes_tried refuses g now p below n link item promise key (Ok (out.Held why)) process' below' h k c d =
-    let s = h.served in
-    let there : IsQueue (process_of p) item.pdu.qos n s.place (plain s.queue) = record { found = same_place item.pdu.qos n p.queues.queues.items ∙ s.found; is_queue = slice_get-map plain p.queues.queues.items s.place ∙ ap (option_map plain) s.is_queue } in (
-      record { link = link; place = s.place; queue = plain s.queue; item = item; head = served_head p n h.pick link item s.place (plain s.queue) h.is_link h.served there; promise = promise; promised = h.promised; in_time = c; refused = d.0; not_over = d.1 },
-      d.2,
-      d.3,
-    )
+    ((item, held_back refuses g now p below n link item promise why h c d.0 d.1), d.2, d.3)
 goes_tried refuses g now p below n link item promise key (Err Memory) process' below' h k c d = d
 goes_tried refuses g now p below n link item promise key (Err NoIpc) process' below' h k c d = absurd d
 goes_tried refuses g now p below n link item promise key (Err NoLink) process' below' h k c d = absurd d
@@ -263,37 +276,37 @@ asks_for quiet asks (Err NoIpc) h a = absurd h
 asks_for quiet asks (Err NoLink) h a = absurd h
 
 -- what was done is done with this PDU
-pub record IsDealt (process : Process) (n : ℕ) (item : Queued) (r : Result OutStep StepError) (process' : Process) : Type 0 where
+pub record IsDealt (held : Queued → SendError → Type 0) (process : Process) (n : ℕ) (item : Queued) (r : Result OutStep StepError) (process' : Process) : Type 0 where
   pub answer : IsAnswer r
-  pub deals : Deals process n item r process'
+  pub deals : Deals held process n item r process'
 
-pub dealt_late : (process : Process) (n : ℕ) (link : Link) (item : Queued) (key : Key) (cause : Cause) (r : Result OutStep StepError) (process' : Process) → key ≡ key_of item.pdu → Drops process (first_of key item n link) cause r process' → IsDealt process n item r process'
-dealt_late process n link item key cause (Ok out.Idle) process' k d = absurd d
-dealt_late process n link item key cause (Ok (out.Sent other)) process' k d = absurd d
-dealt_late process n link item key cause (Ok (out.Off other why)) process' k d =
+pub dealt_late : (held : Queued → SendError → Type 0) (process : Process) (n : ℕ) (link : Link) (item : Queued) (key : Key) (cause : Cause) (r : Result OutStep StepError) (process' : Process) → key ≡ key_of item.pdu → Drops process (first_of key item n link) cause r process' → IsDealt held process n item r process'
+dealt_late held process n link item key cause (Ok out.Idle) process' k d = absurd d
+dealt_late held process n link item key cause (Ok (out.Sent other)) process' k d = absurd d
+dealt_late held process n link item key cause (Ok (out.Off other why)) process' k d =
     let off = d.2 in
     record {
       answer = tt;
       deals = (d.0 ∙ k, subst (λ (z : Key). IsOff process item.pdu.qos n z why process') (sym d.0) (subst (λ (z : Cause). IsOff process item.pdu.qos n key z process') (sym d.1) off));
     }
-dealt_late process n link item key cause (Ok (out.Held why)) process' k d = absurd d
-dealt_late process n link item key cause (Err Memory) process' k d = record { answer = tt; deals = tt }
-dealt_late process n link item key cause (Err NoIpc) process' k d = absurd d
-dealt_late process n link item key cause (Err NoLink) process' k d = absurd d
+dealt_late held process n link item key cause (Ok (out.Held why)) process' k d = absurd d
+dealt_late held process n link item key cause (Err Memory) process' k d = record { answer = tt; deals = tt }
+dealt_late held process n link item key cause (Err NoIpc) process' k d = absurd d
+dealt_late held process n link item key cause (Err NoLink) process' k d = absurd d
 
-pub dealt_none : (process : Process) (n : ℕ) (item : Queued) (e : StepError) (r : Result OutStep StepError) → e ≡ Memory → r ≡ Err e → IsDealt process n item r process
-dealt_none process n item e r is err = subst (λ (v : Result OutStep StepError). IsDealt process n item v process) (sym (err ∙ ap (λ (z : StepError). Err z) is)) (record { answer = tt; deals = tt })
+pub dealt_none : (held : Queued → SendError → Type 0) (process : Process) (n : ℕ) (item : Queued) (e : StepError) (r : Result OutStep StepError) → e ≡ Memory → r ≡ Err e → IsDealt held process n item r process
+dealt_none held process n item e r is err = subst (λ (v : Result OutStep StepError). IsDealt held process n item v process) (sym (err ∙ ap (λ (z : StepError). Err z) is)) (record { answer = tt; deals = tt })
 
-pub dealt_tried : (own : Option SendError) (process : Process) (below : Seen) (n : ℕ) (link : Link) (item : Queued) (key : Key) (bytes : List ℕ) (r : Result OutStep StepError) (process' : Process) (below' : Seen) → key ≡ key_of item.pdu → Tries own process below (first_of key item n link) bytes r process' below' → IsDealt process n item r process'
-dealt_tried own process below n link item key bytes (Ok out.Idle) process' below' k d = absurd d
-dealt_tried own process below n link item key bytes (Ok (out.Sent other)) process' below' k d = record { answer = tt; deals = (d.0 ∙ k, d.2) }
-dealt_tried own process below n link item key bytes (Ok (out.Off other why)) process' below' k d =
+pub dealt_tried : (held : Queued → SendError → Type 0) (own : Option SendError) (process : Process) (below : Seen) (n : ℕ) (link : Link) (item : Queued) (key : Key) (bytes : List ℕ) (r : Result OutStep StepError) (process' : Process) (below' : Seen) → key ≡ key_of item.pdu → ((why : SendError) → refused below link.port (length bytes) own ≡ Some why → (IsOver why → ⊥) → held item why) → Tries own process below (first_of key item n link) bytes r process' below' → IsDealt held process n item r process'
+dealt_tried held own process below n link item key bytes (Ok out.Idle) process' below' k back d = absurd d
+dealt_tried held own process below n link item key bytes (Ok (out.Sent other)) process' below' k back d = record { answer = tt; deals = (d.0 ∙ k, d.2) }
+dealt_tried held own process below n link item key bytes (Ok (out.Off other why)) process' below' k back d =
     let off = d.3 in
     record {
       answer = tt;
       deals = (d.0 ∙ k, subst (λ (z : Key). IsOff process item.pdu.qos n z why process') (sym d.0) (subst (λ (z : Cause). IsOff process item.pdu.qos n key z process') (sym d.1) off));
     }
-dealt_tried own process below n link item key bytes (Ok (out.Held why)) process' below' k d = record { answer = tt; deals = tt }
-dealt_tried own process below n link item key bytes (Err Memory) process' below' k d = record { answer = tt; deals = tt }
-dealt_tried own process below n link item key bytes (Err NoIpc) process' below' k d = absurd d
-dealt_tried own process below n link item key bytes (Err NoLink) process' below' k d = absurd d
+dealt_tried held own process below n link item key bytes (Ok (out.Held why)) process' below' k back d = record { answer = tt; deals = back why d.0 d.1 }
+dealt_tried held own process below n link item key bytes (Err Memory) process' below' k back d = record { answer = tt; deals = tt }
+dealt_tried held own process below n link item key bytes (Err NoIpc) process' below' k back d = absurd d
+dealt_tried held own process below n link item key bytes (Err NoLink) process' below' k back d = absurd d

@@ -1,5 +1,5 @@
 -- Queues as a DIF sees them.
-use Rattle.std.proofs.Common.{◌≡◌, ℕ, ◌+◌, ◌-◌, ◌<◌, List, [], ◌∷◌, ◌++◌, length, map, slice_get, slice_set, Some, None, Option, Bool, true, false, cond, ltb, option_map, refl, sym, ◌∙◌, ap, subst, arith}
+use Rattle.std.proofs.Common.{◌≡◌, ℕ, ◌+◌, ◌-◌, ◌<◌, ◌≤◌, List, [], ◌∷◌, ◌++◌, length, map, slice_get, slice_set, Some, None, Option, Bool, true, false, cond, ltb, option_map, refl, sym, ◌∙◌, ap, subst, arith}
 use Rattle.std.specs.Prelude.{IsSome, position, not}
 use Rattle.std.proofs.lemmas.Bool.{false≢true, ltb-true}
 use Rattle.std.specs.List.{position_or_len}
@@ -50,8 +50,8 @@ is_plain : (p : IpcProcess) (qos link k : ℕ) (q : Waiting) → place_there qos
 is_plain p qos link k q found is = record { found = same_place qos link p.queues.queues.items ∙ found; is_queue = slice_get-map plain p.queues.queues.items k ∙ ap (option_map plain) is }
 
 -- a queue without room is full
-pub full_at : (p : IpcProcess) (hop : Hop) (link room : ℕ) → next_hop hop.pdu.dst p.routes ≡ Some link → IsSome (place_there hop.pdu.qos link p.queues.queues.items) → room ≡ p.queues.cap - length (waiting hop.pdu.qos link p.queues.queues.items) → room ≡ 0 → IsFull p.queues.cap (process_of p) hop.pdu
-full_at p hop link room next some is none =
+pub full_at : (p : IpcProcess) (hop : Hop) (link room : ℕ) → next_hop hop.pdu.dst p.routes ≡ Some link → IsSome (place_there hop.pdu.qos link p.queues.queues.items) → room ≡ p.queues.cap - length (waiting hop.pdu.qos link p.queues.queues.items) → length (waiting hop.pdu.qos link p.queues.queues.items) ≤ p.queues.cap → room ≡ 0 → IsFull p.queues.cap (process_of p) hop.pdu
+full_at p hop link room next some is most none =
     let k = some_there (place_there hop.pdu.qos link p.queues.queues.items) some in
     let q = there p.queues.queues.items k.0 (within _ _ k.0 k.1) in
     let at = at_place hop.pdu.qos link p.queues.queues.items k.0 q.0 k.1 q.1 in

@@ -1,5 +1,5 @@
 -- What an IPC process decides on a PDU that came, by what it knows itself.
-use Rattle.std.specs.Prelude.{◌≡◌, ◌≢◌, ℕ, ◌-◌, ◌<◌, ◌≤◌, map, Some, None, IsSome, Result, Ok, Err}
+use Rattle.std.specs.Prelude.{◌≡◌, ◌≢◌, ℕ, ◌-◌, ◌<◌, ◌≤◌, List, map, Some, None, IsSome, Result, Ok, Err}
 use Rattle.rina_base.specs.declared.cause.Cause.TheVariants as causes
 use Rattle.rina_base.specs.declared.memory.Memory.{Memory}
 use Rattle.rina_queue.specs.declared.queue.Queue.{Queue as Waiting}
@@ -18,6 +18,14 @@ plain q = record { link = q.link; qos = q.qos; items = q.ring.items }
 -- an IPC process as a DIF sees it
 abbrev pub process_of : IpcProcess → Process
 process_of p = record { links = p.links; routes = p.routes; queues = map plain p.queues.queues.items; ledger = p.ledger }
+
+-- how many PDUs each of its queues holds, and the ids of the cubes for which it makes queues when a link is added
+pub record QueueSettings : Type 0 where
+  pub cap : ℕ
+  pub cubes : List ℕ
+
+abbrev pub queue_settings : IpcProcess → QueueSettings
+queue_settings p = record { cap = p.queues.cap; cubes = p.queues.cubes }
 
 -- the queue of the next hop of a PDU is there
 abbrev pub IsRouted : IpcProcess → Hop → Type 0

@@ -79,23 +79,23 @@ Tries own process below first bytes result process' below' = ⊥
 
 -- What is asked of the shelf
 
--- the PDU that was served is the one that is sent, or written off
-abbrev pub Deals : Process → ℕ → Queued → Result OutStep StepError → Process → Type 0
-Deals process n item (Ok (out.Sent key)) process' = (key ≡ key_of item.pdu) × IsTaken process item.pdu.qos n process'
-Deals process n item (Ok (out.Off key cause)) process' = (key ≡ key_of item.pdu) × IsOff process item.pdu.qos n key cause process'
-Deals process n item (Ok (out.Held why)) process' = Unit {0}
-Deals process n item (Ok out.Idle) process' = ⊥
-Deals process n item (Err why) process' = Unit {0}
+-- the PDU that was served is the one that is sent, written off, or held; `held` is what is said of one that is held
+abbrev pub Deals : (Queued → SendError → Type 0) → Process → ℕ → Queued → Result OutStep StepError → Process → Type 0
+Deals held process n item (Ok (out.Sent key)) process' = (key ≡ key_of item.pdu) × IsTaken process item.pdu.qos n process'
+Deals held process n item (Ok (out.Off key cause)) process' = (key ≡ key_of item.pdu) × IsOff process item.pdu.qos n key cause process'
+Deals held process n item (Ok (out.Held why)) process' = held item why
+Deals held process n item (Ok out.Idle) process' = ⊥
+Deals held process n item (Err why) process' = Unit {0}
 
 -- the shelf was asked once, and its answer followed
-pub record IsAsked (may : List Head → ℕ → Type 0) (policy : List ℕ) (queues : List Waiting) (n : ℕ) (slots slots' : List Slot) (process : Process) (result : Result OutStep StepError) (process' : Process) : Type 0 where
+pub record IsAsked (may : List Head → ℕ → Type 0) (held : Queued → SendError → Type 0) (policy : List ℕ) (queues : List Waiting) (n : ℕ) (slots slots' : List Slot) (process : Process) (result : Result OutStep StepError) (process' : Process) : Type 0 where
   pub pick : ℕ
   pub lawful : may (heads_of n queues) pick
   pub once : slots' ≡ asked_once policy pick slots
   pub dead : count_of policy slots ≡ None → pick ≡ 0
   pub item : Queued
   pub served : IsServed queues n pick item
-  pub dealt : Deals process n item result process'
+  pub dealt : Deals held process n item result process'
 
 -- where no PDU waits, and where there is no such link, it was not asked
 abbrev pub Asks : (quiet asks : Type 0) → Result OutStep StepError → Type 0

@@ -93,12 +93,11 @@ pub record IsDown (refuses : Port → ℕ → Option SendError) (g : Config) (no
   pub refused : refused_below refuses g now below link item promise ≡ Some error
   pub over : IsOver error
 
--- the flow below refuses the PDU for now
-pub record IsHeld (refuses : Port → ℕ → Option SendError) (g : Config) (now : ℕ) (process : Process) (below : Seen) (n : ℕ) (why : SendError) : Type 0 where
+-- the flow below refuses this PDU for now, which was in time
+pub record IsHeld (refuses : Port → ℕ → Option SendError) (g : Config) (now : ℕ) (below : Seen) (n : ℕ) (process : Process) (item : Queued) (why : SendError) : Type 0 where
   pub link : Link
   pub place : ℕ
   pub queue : Queue
-  pub item : Queued
   pub head : IsHead process n link place queue item
   pub promise : ℕ
   pub promised : promise_at below link.port ≡ Some promise
@@ -121,7 +120,7 @@ abbrev pub Goes : (Port → ℕ → Option SendError) → Config → ℕ → Pro
 Goes refuses g now process below n (Ok out.Idle) process' below' = IsLive process n × NoneWait process n × (process' ≡ process) × (below' ≡ below)
 Goes refuses g now process below n (Ok (out.Sent key)) process' below' = IsForwarded refuses g now process below n key process' below'
 Goes refuses g now process below n (Ok (out.Off key cause)) process' below' = Offs refuses g now process below n key cause process' below'
-Goes refuses g now process below n (Ok (out.Held why)) process' below' = IsHeld refuses g now process below n why × (process' ≡ process) × (below' ≡ below)
+Goes refuses g now process below n (Ok (out.Held why)) process' below' = ((item : Queued) × IsHeld refuses g now below n process item why) × (process' ≡ process) × (below' ≡ below)
 Goes refuses g now process below n (Err Memory) process' below' = (process' ≡ process) × (below' ≡ below)
 Goes refuses g now process below n (Err NoIpc) process' below' = ⊥
 Goes refuses g now process below n (Err NoLink) process' below' = (link_by n process.links ≡ None) × (process' ≡ process) × (below' ≡ below)

@@ -1,5 +1,5 @@
 -- How a PDU goes into the queue of its next hop, or into the ledger.
-use Rattle.std.specs.Prelude.{◌≡◌, ℕ, ◌<◌, ◌≤◌, [], ◌∷◌, length, Some}
+use Rattle.std.specs.Prelude.{◌≡◌, ℕ, ◌<◌, [], ◌∷◌, length, Some}
 use Rattle.rina_account.specs.declared.ledger.Off.{Off}
 use Rattle.rina_base.specs.declared.cause.Cause.{Cause}
 use Rattle.rina_base.specs.declared.pdu.Pdu.{Pdu}
@@ -24,11 +24,11 @@ pub record IsPassedOn (cap : ℕ) (process : Process) (at : ℕ) (hop : Hop) (pr
   pub room : length queue.items < cap
   pub new_is : process' ≡ with_put process place queue (record { pdu = hop.pdu; left = hop.left; since = at } ∷ [])
 
--- the queue of its next hop is full
+-- the queue of its next hop is full: it holds exactly as many PDUs as it may
 pub record IsFull (cap : ℕ) (process : Process) (pdu : Pdu) : Type 0 where
   pub link : ℕ
   pub next : next_hop pdu.dst process.routes ≡ Some link
   pub place : ℕ
   pub queue : Queue
   pub is_queue : IsQueue process pdu.qos link place queue
-  pub full : cap ≤ length queue.items
+  pub full : length queue.items ≡ cap

@@ -7,10 +7,10 @@ ghost use Rattle.rina_iface.specs.Send.{SendsAsSeen};
 ghost use Rattle.rina_policy.specs.Slots.{asked, count_of};
 ghost use Rattle.rina_queue.specs.Queues.{heads_of, queue_place};
 ghost use Rattle.rina_data.specs.Configs.{config_of};
-ghost use Rattle.rina_data.specs.Deciding.{process_of};
+ghost use Rattle.rina_data.specs.Deciding.{process_of, queue_settings};
 ghost use Rattle.rina_data.specs.Leaving.{Asks, CanGo, Drops, IsAsked, IsRoomy, IsTaken, Tries};
 ghost use Rattle.rina_data.specs.Lower.{SendsBelow};
-ghost use Rattle.rina_data.specs.Outgoing.{Goes};
+ghost use Rattle.rina_data.specs.Outgoing.{Goes, IsHeld};
 
 use crate::hop::{charge, left_after, protect};
 use crate::link::live_link;
@@ -39,7 +39,7 @@ impl IpcProcess {
     fn take_first(&mut self, first: First)
         requires { IsSome (queue_place first.qos first.link self.old.queues.queues.items) }
         ensures taken { IsTaken (process_of self.old) first.qos first.link (process_of self.new) }
-        ensures cap { self.new.queues.cap ≡ self.old.queues.cap }
+        ensures kept { queue_settings self.new ≡ queue_settings self.old }
     {
         self.queues.take(first.qos, first.link);
     }
@@ -53,7 +53,7 @@ impl IpcProcess {
     ) -> Result<OutStep, StepError>
         requires { IsSome (queue_place first.qos first.link self.old.queues.queues.items) }
         ensures does { Drops (process_of self.old) first cause result (process_of self.new) }
-        ensures cap { self.new.queues.cap ≡ self.old.queues.cap }
+        ensures kept { queue_settings self.new ≡ queue_settings self.old }
     {
         self.ledger.note(alloc, first.key, cause)?;
         self.take_first(first);
@@ -79,7 +79,7 @@ impl IpcProcess {
         ensures later { IsLater (F.seen below.old) (F.seen below.new) }
         ensures does { Tries (F.refuses_send below.old first.port (length bytes.now)) (process_of self.old) (F.seen below.old) first bytes.now result (process_of self.new) (F.seen below.new) }
         ensures lower { SendsBelow (below.new ≡ below.old) (SendsAsSeen F.seen F.refuses_send F.does_send below.old below.new) result }
-        ensures cap { self.new.queues.cap ≡ self.old.queues.cap }
+        ensures kept { queue_settings self.new ≡ queue_settings self.old }
     {
         match below.send(alloc, first.port, bytes) {
             Ok(_num) => {
@@ -116,9 +116,9 @@ impl IpcProcess {
         ensures does { Goes (F.refuses_send below.old) (config_of settings.now) now (process_of self.old) (F.seen below.old) link result (process_of self.new) (F.seen below.new) }
         ensures lower { SendsBelow (below.new ≡ below.old) (SendsAsSeen F.seen F.refuses_send F.does_send below.old below.new) result }
         ensures shelf { Asks (S.slots shelf.new ≡ S.slots shelf.old)
-            (IsAsked (S.may_answer shelf.old settings.now.policy who) settings.now.policy self.old.queues.queues.items link (S.slots shelf.old) (S.slots shelf.new)
-            (process_of self.old) result (process_of self.new)) result }
-        ensures cap { self.new.queues.cap ≡ self.old.queues.cap }
+            (IsAsked (S.may_answer shelf.old settings.now.policy who) (IsHeld (F.refuses_send below.old) (config_of settings.now) now (F.seen below.old) link (process_of self.old))
+            settings.now.policy self.old.queues.queues.items link (S.slots shelf.old) (S.slots shelf.new) (process_of self.old) result (process_of self.new)) result }
+        ensures kept { queue_settings self.new ≡ queue_settings self.old }
     {
         let Some(live) = live_link(self.links.as_slice(), link) else {
             return Err(StepError::NoLink);

@@ -3,7 +3,7 @@ ghost use Rattle.std.specs.Prelude.{◌≡◌, ◌<◌, ◌↔◌, ◌++◌, ◌
 ghost use Rattle.std.specs.List.{flat_map};
 ghost use Rattle.std.specs.Vec.{vec_capacity};
 ghost use Rattle.rina_iface.specs.Seen.{state_of};
-ghost use Rattle.rina_data.specs.Deciding.{plain, process_of};
+ghost use Rattle.rina_data.specs.Deciding.{plain, process_of, queue_settings};
 ghost use Rattle.rina_data.specs.Losing.{FindsLost, IsNoMore, LosesAt, lesser, line_down, lines_down};
 
 use crate::link::{Link, Route};
@@ -150,7 +150,7 @@ impl IpcProcess {
         requires { at < length self.old.links }
         ensures ok { IfOk result (λ v. LosesAt at routes (process_of self.old) (record (process_of self.new) { ledger = v.items }) × (length v.items + room ≤ vec_capacity v)) }
         ensures err { OnErr result (process_of self.new ≡ process_of self.old) }
-        ensures cap { self.new.queues.cap ≡ self.old.queues.cap }
+        ensures kept { queue_settings self.new ≡ queue_settings self.old }
     {
         let Some(link) = self.links.get(at) else {
             unreachable!()
@@ -176,7 +176,7 @@ impl IpcProcess {
         requires { at < length self.old.links }
         ensures ok { OnOk result (LosesAt at routes (process_of self.old) (process_of self.new)) }
         ensures err { OnErr result (process_of self.new ≡ process_of self.old) }
-        ensures cap { self.new.queues.cap ≡ self.old.queues.cap }
+        ensures kept { queue_settings self.new ≡ queue_settings self.old }
     {
         let lines = self.lose_link_with_room(alloc, at, routes, 0)?;
         self.ledger.put(lines);

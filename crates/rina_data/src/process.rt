@@ -1,7 +1,7 @@
 //! One IPC process: its links, next hops, queues and ledger.
 ghost use Rattle.std.specs.Prelude.{◌≡◌, ◌≢◌, ◌-◌, ◌<◌, ◌≤◌, OnOk, OnErr, Some, IsSome};
 ghost use Rattle.rina_queue.specs.Queues.{queue_place};
-ghost use Rattle.rina_data.specs.Deciding.{process_of, IsRouted, Forwards, Decides};
+ghost use Rattle.rina_data.specs.Deciding.{process_of, queue_settings, IsRouted, Forwards, Decides};
 ghost use Rattle.rina_data.specs.Process.{next_hop};
 ghost use Rattle.rina_data.specs.Hops.{hop_of};
 ghost use Rattle.rina_data.specs.Queueing.{Notes};
@@ -34,7 +34,7 @@ impl IpcProcess {
     ) -> Result<(), Memory>
         ensures ok { OnOk result (Notes (process_of self.old) (hop_of hop.now).pdu cause (process_of self.new)) }
         ensures err { OnErr result (process_of self.new ≡ process_of self.old) }
-        ensures cap { self.new.queues.cap ≡ self.old.queues.cap }
+        ensures kept { queue_settings self.new ≡ queue_settings self.old }
     {
         self.ledger.note(alloc, hop.pdu.key(), cause)
     }
@@ -50,7 +50,7 @@ impl IpcProcess {
         requires next { next_hop (hop_of hop.now).pdu.dst self.old.routes ≡ Some link }
         requires there { IsSome (queue_place (hop_of hop.now).pdu.qos link self.old.queues.queues.items) }
         ensures does { Forwards self.old.queues.cap (process_of self.old) came (hop_of hop.now) result (process_of self.new) }
-        ensures cap { self.new.queues.cap ≡ self.old.queues.cap }
+        ensures kept { queue_settings self.new ≡ queue_settings self.old }
     {
         let cap = self.queues.cap;
         if self.queues.room(hop.pdu.qos, link) == 0 {
@@ -80,7 +80,7 @@ impl IpcProcess {
     ) -> Result<Decision, Memory>
         requires { IsRouted self.old (hop_of hop.now) }
         ensures does { Forwards self.old.queues.cap (process_of self.old) came (hop_of hop.now) result (process_of self.new) }
-        ensures cap { self.new.queues.cap ≡ self.old.queues.cap }
+        ensures kept { queue_settings self.new ≡ queue_settings self.old }
     {
         let dst = hop.pdu.dst;
         let Some(link) = next_link(self.routes.as_slice(), dst) else {
@@ -103,7 +103,7 @@ impl IpcProcess {
         requires now { now ≤ 10_000_000 }
         requires routed { IsRouted self.old (hop_of hop.now) }
         ensures does { Decides self.old.queues.cap now addr (process_of self.old) came (hop_of hop.now) result (process_of self.new) }
-        ensures cap { self.new.queues.cap ≡ self.old.queues.cap }
+        ensures kept { queue_settings self.new ≡ queue_settings self.old }
     {
         let left = hop.left;
         let charge = charge(now, came, 0);

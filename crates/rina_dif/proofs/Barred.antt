@@ -27,10 +27,10 @@ use Rattle.rina_flows.specs.Calls.{AreParts, AreTied, TellsNeed}
 use Rattle.rina_flows.specs.Tied.{IsAt, IsSending, ids_of, outward}
 use Rattle.rina_flows.proofs.Framed.{ids_at}
 use Rattle.rina_dif.specs.declared.dif.Dif.{Dif}
-use Rattle.rina_dif.specs.declared.send.Way.{Way}
+use Rattle.rina_dif.specs.declared.send.FirstHop.{FirstHop}
 use Rattle.rina_dif.specs.Facade.{way_refusal}
 use Rattle.rina_dif.specs.Holding.{Stands}
-use Rattle.rina_dif.specs.Sending.{IsAdmitted, IsBarred, IsWay}
+use Rattle.rina_dif.specs.Sending.{IsAdmitted, IsBarred, IsFirstHop}
 use Rattle.rina_dif.specs.Shown.{seen_of}
 
 -- what is refused by the sender
@@ -152,11 +152,11 @@ is_ready d below at sdu end conn st is =
       some = λ need told. subst (λ (n : ℕ). 1 ≤ n) (told parts.0 (subst (λ (n : ℕ). IsCut n true parts.0) (sym size) parts.1.0) (ap length parts.1.1)) (nonempty (piece_size (config_of d.settings)) parts.0 parts.1.0);
     }
 
-pub bars_by_way : (d : Dif) (at : ℕ) (sdu : List ℕ) (end : End) (conn : Conn) (need room : ℕ) (result : Result Way SendError) → IsAt d.flows.journal.ends d.flows.conns at end conn → end.state ≡ Allocated → length sdu ≤ conn.sending.form.cube.largest → TellsNeed (length sdu) conn.sending.form.piece need → TellsRoom d.clock conn.sending room → need ≤ room → IfErr result (λ e. way_refusal d end conn need ≡ Some e) → IfErr result (λ e. IsBarred d at sdu e)
+pub bars_by_way : (d : Dif) (at : ℕ) (sdu : List ℕ) (end : End) (conn : Conn) (need room : ℕ) (result : Result FirstHop SendError) → IsAt d.flows.journal.ends d.flows.conns at end conn → end.state ≡ Allocated → length sdu ≤ conn.sending.form.cube.largest → TellsNeed (length sdu) conn.sending.form.piece need → TellsRoom d.clock conn.sending room → need ≤ room → IfErr result (λ e. way_refusal d end conn need ≡ Some e) → IfErr result (λ e. IsBarred d at sdu e)
 bars_by_way d at sdu end conn need room (Ok way) is state short told_need told_room le refuses = refuses
 bars_by_way d at sdu end conn need room (Err e) is state short told_need told_room le refuses = barred_by_way d at sdu end conn need room e is state short told_need told_room le refuses
 
-pub admits_by_way : (d : Dif) (at : ℕ) (sdu : List ℕ) (end : End) (conn : Conn) (need room : ℕ) (result : Result Way SendError) → IsAt d.flows.journal.ends d.flows.conns at end conn → end.state ≡ Allocated → length sdu ≤ conn.sending.form.cube.largest → TellsNeed (length sdu) conn.sending.form.piece need → TellsRoom d.clock conn.sending room → need ≤ room → IfOk result (λ way. IsWay d end.port.node (ids_of conn) need way.home way.link) → IfOk result (λ way. (way.qos ≡ (ids_of conn).qos) × (way.left ≡ conn.sending.form.cube.mpl)) → IfOk result (λ way. IsAdmitted d at sdu way)
+pub admits_by_way : (d : Dif) (at : ℕ) (sdu : List ℕ) (end : End) (conn : Conn) (need room : ℕ) (result : Result FirstHop SendError) → IsAt d.flows.journal.ends d.flows.conns at end conn → end.state ≡ Allocated → length sdu ≤ conn.sending.form.cube.largest → TellsNeed (length sdu) conn.sending.form.piece need → TellsRoom d.clock conn.sending room → need ≤ room → IfOk result (λ way. IsFirstHop d end.port.node (ids_of conn) need way.home way.link) → IfOk result (λ way. (way.qos ≡ (ids_of conn).qos) × (way.left ≡ conn.sending.form.cube.mpl)) → IfOk result (λ way. IsAdmitted d at sdu way)
 admits_by_way d at sdu end conn need room (Err e) is state short told_need told_room le goes form = goes
 admits_by_way d at sdu end conn need room (Ok way) is state short told_need told_room le goes form = record {
   end = end;

@@ -17,7 +17,7 @@ use Rattle.rina_data.specs.declared.link.Route.{Route}
 use Rattle.rina_data.specs.declared.loss.Lost.{Lost}
 use Rattle.rina_data.specs.declared.process.IpcProcess.{IpcProcess}
 use Rattle.rina_data.specs.Configs.{Config, config_of}
-use Rattle.rina_data.specs.Deciding.{process_of}
+use Rattle.rina_data.specs.Deciding.{process_of, queue_settings}
 use Rattle.rina_dif_law.specs.Dif.{DifSeen}
 use Rattle.rina_dif_law.specs.Ending.{IsEnded}
 use Rattle.rina_dif_law.specs.Losing.{FailFirst, IsAllocatedAt, MayFail}
@@ -45,11 +45,11 @@ same_some o a b h g = cc
 
 -- One IPC process of those that are kept
 
-pub last_one : (now node : ℕ) (state : PortState) (place : ℕ) (routes : List Route) (r : Result (Unit {0}) Memory) (at : ℕ) (flows flows' : Flows) (ps : List IpcProcess) (x x' : IpcProcess) → at < length ps → x ≡ get_or ps at x → LosesLast now node state place routes flows x r flows' x' → x'.queues.cap ≡ x.queues.cap → LosesLastIn now node state place routes r at flows ps flows' (slice_set ps at x')
-last_one now node state place routes r at flows flows' ps x x' lt read loses cap p is =
+pub last_one : (now node : ℕ) (state : PortState) (place : ℕ) (routes : List Route) (r : Result (Unit {0}) Memory) (at : ℕ) (flows flows' : Flows) (ps : List IpcProcess) (x x' : IpcProcess) → at < length ps → x ≡ get_or ps at x → LosesLast now node state place routes flows x r flows' x' → queue_settings x' ≡ queue_settings x → LosesLastIn now node state place routes r at flows ps flows' (slice_set ps at x')
+last_one now node state place routes r at flows flows' ps x x' lt read loses room p is =
     let here : slice_get ps at ≡ Some x = slice_get_read ps (length ps) at x refl lt read in
     let same : x ≡ p = same_some (slice_get ps at) x p here is in
-    (x', subst (λ (z : IpcProcess). LosesLast now node state place routes flows z r flows' x') same loses, subst (λ (z : IpcProcess). x'.queues.cap ≡ z.queues.cap) same cap, refl)
+    (x', subst (λ (z : IpcProcess). LosesLast now node state place routes flows z r flows' x') same loses, subst (λ (z : IpcProcess). queue_settings x' ≡ queue_settings z) same room, refl)
 
 -- The flows of a node end one after the other
 
@@ -83,15 +83,15 @@ stages_fail d i (suc n) node p q fail lines f f' l l' is here s = (seen_of (stag
 failed_other : (fail : Fail) → Failed fail ≢ Allocated
 failed_other fail e = absurd cc
 
-last_fails : (d : Dif) (at node : ℕ) (lost : Lost) (port : Port) (routes : List Route) (flows : Flows) (p p' : IpcProcess) → at < length d.settings.members → home node (config_of d.settings).members ≡ Some at → slice_get d.processes at ≡ Some p → KnowsWithout d at lost.place routes → LosesThenStops d.clock node (Failed (Below port)) lost.place routes d.flows p flows p' → p'.queues.cap ≡ p.queues.cap
+last_fails : (d : Dif) (at node : ℕ) (lost : Lost) (port : Port) (routes : List Route) (flows : Flows) (p p' : IpcProcess) → at < length d.settings.members → home node (config_of d.settings).members ≡ Some at → slice_get d.processes at ≡ Some p → KnowsWithout d at lost.place routes → LosesThenStops d.clock node (Failed (Below port)) lost.place routes d.flows p flows p' → queue_settings p' ≡ queue_settings p
     → (lines : List Direction) (below : Seen) → Holds d lines below → FindsLostAt d below at (Some lost) → FindsNoneLeft d below at lost.place (Some port) → LosesAs d lines below at node lost.number (Ok tt) (record d { flows = flows; processes = slice_set d.processes at p' })
-last_fails d at node lost port routes flows p p' lt here is knows s cap lines below h finds left =
+last_fails d at node lost port routes flows p p' lt here is knows s room lines below h finds left =
     let g : Config = config_of d.settings in
     let m = has_member d at lt in
     let p1 : IpcProcess = record p' { ledger = s.ledger } in
     let mid : Dif = record d { processes = slice_set d.processes at p1 } in
     let d' : Dif = record d { flows = flows; processes = slice_set d.processes at p' } in
-    let l = link_lost d lines below at lost routes m.0 p p1 m.1 is knows s.loses cap h finds in
+    let l = link_lost d lines below at lost routes m.0 p p1 m.1 is knows s.loses room h finds in
     let told = left l.process l.link l.is_process l.stands in
     let all = s.stops g lines l.holds.standing.journal l.holds.tied tt (failed_other (Below port)) s.fits in
     let fails = stages_fail d at (length d.flows.journal.ends) node p' p (Below port) lines d.flows flows s.ledger p'.ledger is here all.0 in

@@ -1,9 +1,9 @@
 -- What a call at a DIF leaves as it was.
-use Rattle.std.proofs.Common.{◌≡◌, ◌∙◌, ℕ, ◌<◌, Bool, true, false, List, [], ◌∷◌, length, get_or, slice_get, slice_set, Result, Ok, Err, Option, Some, None, refl, sym, ap, subst, arith, inl, inr}
+use Rattle.std.proofs.Common.{◌≡◌, ◌∙◌, ℕ, ◌<◌, true, List, [], ◌∷◌, length, get_or, map, option_map, slice_get, slice_set, Result, Ok, Err, Option, Some, None, refl, sym, ap, subst, arith}
 use Rattle.std.specs.Prelude.{is_err}
-use Rattle.std.proofs.lemmas.List.{length-map}
+use Rattle.std.proofs.lemmas.List.{length-map, map-set}
 use Rattle.std.proofs.lemmas.List.Quantifiers.{position-Some}
-use Rattle.std.proofs.lemmas.Option.{same_Some, slice_get-get_or, slice_get_within}
+use Rattle.std.proofs.lemmas.Option.{slice_get-get_or, slice_get-map}
 use Rattle.rina_account.specs.declared.ledger.Off.{Off}
 use Rattle.rina_base.specs.declared.cause.Cause.{Cause}
 use Rattle.rina_base.specs.declared.memory.Memory.{Memory}
@@ -13,40 +13,36 @@ use Rattle.rina_base.specs.declared.number.Port.{Port}
 use Rattle.rina_base.specs.declared.pdu.Pdu.{Pdu}
 use Rattle.rina_base.specs.Pdus.{key_of}
 use Rattle.rina_iface.specs.declared.ends.End.{End}
-use Rattle.rina_iface.specs.declared.error.SendError.{SendError}
 use Rattle.rina_iface.specs.declared.state.PortState.{PortState}
 use Rattle.rina_iface.specs.Ends.{has_port, place_in}
 use Rattle.rina_iface.specs.Seen.{Seen}
 use Rattle.rina_iface.specs.State.{with_state}
+use Rattle.rina_iface.proofs.Changed.{slice_set-same}
 use Rattle.rina_law.specs.Direction.{Direction}
 use Rattle.rina_data.specs.declared.link.Route.{Route}
 use Rattle.rina_data.specs.declared.process.IpcProcess.{IpcProcess}
 use Rattle.rina_data.specs.declared.step.ClockStep.{ClockStep}
-use Rattle.rina_data.specs.declared.step.ClockStep.TheVariants as clock
 use Rattle.rina_data.specs.declared.step.Decision.{Decision}
 use Rattle.rina_data.specs.declared.step.InStep.{InStep}
 use Rattle.rina_data.specs.declared.step.InStep.TheVariants as ins
 use Rattle.rina_data.specs.declared.step.StepError.{StepError}
 use Rattle.rina_data.specs.declared.step.Took.{Took}
 use Rattle.rina_data.specs.Configs.{config_of, member_of}
+use Rattle.rina_data.specs.Deciding.{queue_settings}
 use Rattle.rina_data.specs.Hops.{Hop}
-use Rattle.rina_data.specs.Process.{Process}
 use Rattle.rina_data.proofs.Finding.{there}
-use Rattle.rina_dif_law.specs.Ids.{Ids}
 use Rattle.rina_dif_law.specs.Losing.{IsAllocatedAt}
-use Rattle.rina_dif_law.specs.Sending.{home}
 use Rattle.rina_flows.specs.declared.flows.Flows.{Flows}
 use Rattle.rina_flows.specs.declared.due.Item.{Item}
 use Rattle.rina_flows.specs.Calls.{TakenBy}
 use Rattle.rina_flows.specs.Delivering.{StopsIn}
-use Rattle.rina_flows.specs.Elsewhere.{ChangesAt, SameBut}
+use Rattle.rina_flows.specs.Elsewhere.{ChangesAt}
 use Rattle.rina_flows.specs.Tied.{conns_of}
 use Rattle.rina_flows.proofs.Elsewhere.{by_change, by_more, by_none, by_set}
 use Rattle.rina_dif.specs.declared.dif.Dif.{Dif}
 use Rattle.rina_dif.specs.Clocking.{IsTurn}
-use Rattle.rina_dif.specs.Elsewhere.{ChangesOnly, IsEndOf, IsOfCep, IsPortAt, IsTaker, MayClock, MayTake, WhenOk, home_of}
-use Rattle.rina_dif.specs.Holding.{Holds, Stands}
-use Rattle.rina_dif.specs.Steps.{Leaves}
+use Rattle.rina_dif.specs.Elsewhere.{ChangesOnly, ChangesProcess, IsEndOf, IsOfCep, IsPortAt, IsTaker, MayClock, MayTake, WhenOk, home_of}
+use Rattle.rina_dif.specs.Holding.{Stands}
 use Rattle.rina_dif.specs.Taking.{ArrivesTo, Comes, DecidesAt, IsOwn, NotesAt}
 use Rattle.rina_dif.specs.Timely.{ForwardsAt, GivesUp, IsHomeEnd, SendsAgain, WithLedger}
 use Rattle.rina_dif.specs.Unlinking.{LosesIn, LosesLastIn}
@@ -81,50 +77,56 @@ only_more Few Many o d d' all h = (flows_more Few Many d.flows d'.flows all h.0,
 
 -- One IPC process was changed
 
-pub by_process : (old new : List IpcProcess) (at : ℕ) (p : IpcProcess) → new ≡ slice_set old at p → SameBut (λ i. Some at ≡ Some i) old new
-by_process old new at p is = by_more (λ i. i ≡ at) (λ i. Some at ≡ Some i) old new (λ i same. ap (λ (k : ℕ). Some k) (sym same)) (by_set old new at p is)
+pub by_process : (old new : List IpcProcess) (at : ℕ) (p p' : IpcProcess) → slice_get old at ≡ Some p → queue_settings p' ≡ queue_settings p → new ≡ slice_set old at p' → ChangesProcess (Some at) old new
+by_process old new at p p' there kept is =
+    let there' : slice_get (map queue_settings old) at ≡ Some (queue_settings p) = slice_get-map queue_settings old at ∙ ap (option_map queue_settings) there in
+    let settings : map queue_settings new ≡ map queue_settings old = ap (map queue_settings) is ∙ map-set queue_settings old at p' ∙ ap (slice_set (map queue_settings old) at) kept ∙ slice_set-same (map queue_settings old) at (queue_settings p) there' in
+    (by_more (λ i. i ≡ at) (λ i. Some at ≡ Some i) old new (λ i same. ap (λ (k : ℕ). Some k) (sym same)) (by_set old new at p' is), settings)
 
-pub forwards_leave : (d : Dif) (below : Seen) (hop : Hop) (r : Result Decision Memory) (at : ℕ) (ps : List IpcProcess) → Stands d below → at < length d.settings.members → ForwardsAt d.clock hop r at d.processes ps → SameBut (λ i. Some at ≡ Some i) d.processes ps
+pub none_process : (o : Option ℕ) (old new : List IpcProcess) → new ≡ old → ChangesProcess o old new
+none_process o old new same = (by_none (λ i. o ≡ Some i) old new same, ap (map queue_settings) same)
+
+pub forwards_leave : (d : Dif) (below : Seen) (hop : Hop) (r : Result Decision Memory) (at : ℕ) (ps : List IpcProcess) → Stands d below → at < length d.settings.members → ForwardsAt d.clock hop r at d.processes ps → ChangesProcess (Some at) d.processes ps
 forwards_leave d below hop r at ps st lt does =
     let p = has_process d below at st lt in
     let x = does p.0 p.1 in
-    by_process d.processes ps at x.0 x.3
+    by_process d.processes ps at p.0 x.0 p.1 x.2 x.3
 
-pub decides_leave : (d : Dif) (below : Seen) (addr since : ℕ) (hop : Hop) (r : Result Decision Memory) (at : ℕ) (ps : List IpcProcess) → Stands d below → at < length d.settings.members → DecidesAt d.clock addr since hop r at d.processes ps → SameBut (λ i. Some at ≡ Some i) d.processes ps
+pub decides_leave : (d : Dif) (below : Seen) (addr since : ℕ) (hop : Hop) (r : Result Decision Memory) (at : ℕ) (ps : List IpcProcess) → Stands d below → at < length d.settings.members → DecidesAt d.clock addr since hop r at d.processes ps → ChangesProcess (Some at) d.processes ps
 decides_leave d below addr since hop r at ps st lt does =
     let p = has_process d below at st lt in
     let x = does p.0 p.1 in
-    by_process d.processes ps at x.0 x.3
+    by_process d.processes ps at p.0 x.0 p.1 x.2 x.3
 
-pub notes_leave : (d : Dif) (below : Seen) (pdu : Pdu) (cause : Cause) (r : Result (Unit {0}) Memory) (at : ℕ) (ps : List IpcProcess) → Stands d below → at < length d.settings.members → NotesAt pdu cause r at d.processes ps → SameBut (λ i. Some at ≡ Some i) d.processes ps
+pub notes_leave : (d : Dif) (below : Seen) (pdu : Pdu) (cause : Cause) (r : Result (Unit {0}) Memory) (at : ℕ) (ps : List IpcProcess) → Stands d below → at < length d.settings.members → NotesAt pdu cause r at d.processes ps → ChangesProcess (Some at) d.processes ps
 notes_leave d below pdu cause r at ps st lt does =
     let p = has_process d below at st lt in
     let x = does p.0 p.1 in
-    by_process d.processes ps at x.0 x.3
+    by_process d.processes ps at p.0 x.0 p.1 x.2 x.3
 
-pub arrives_leave : (d : Dif) (below : Seen) (place : ℕ) (pdu : Pdu) (at : ℕ) (r : Result (Option Cause) Memory) (flows : Flows) (ps : List IpcProcess) → Stands d below → at < length d.settings.members → ArrivesTo d.clock place pdu at d.flows d.processes r flows ps → SameBut (λ i. Some at ≡ Some i) d.processes ps
+pub arrives_leave : (d : Dif) (below : Seen) (place : ℕ) (pdu : Pdu) (at : ℕ) (r : Result (Option Cause) Memory) (flows : Flows) (ps : List IpcProcess) → Stands d below → at < length d.settings.members → ArrivesTo d.clock place pdu at d.flows d.processes r flows ps → ChangesProcess (Some at) d.processes ps
 arrives_leave d below place pdu at r flows ps st lt does =
     let p = has_process d below at st lt in
     let x = does p.0 p.1 in
-    by_process d.processes ps at (record p.0 { ledger = x.0 }) x.2
+    by_process d.processes ps at p.0 (record p.0 { ledger = x.0 }) p.1 refl x.2
 
-pub ledger_leaves : (R : Flows → List Off → Flows → List Off → Type 0) (d : Dif) (below : Seen) (at : ℕ) (flows : Flows) (ps : List IpcProcess) → Stands d below → at < length d.settings.members → WithLedger R at d.flows d.processes flows ps → SameBut (λ i. Some at ≡ Some i) d.processes ps
+pub ledger_leaves : (R : Flows → List Off → Flows → List Off → Type 0) (d : Dif) (below : Seen) (at : ℕ) (flows : Flows) (ps : List IpcProcess) → Stands d below → at < length d.settings.members → WithLedger R at d.flows d.processes flows ps → ChangesProcess (Some at) d.processes ps
 ledger_leaves R d below at flows ps st lt does =
     let p = has_process d below at st lt in
     let x = does p.0 p.1 in
-    by_process d.processes ps at (record p.0 { ledger = x.0 }) x.2
+    by_process d.processes ps at p.0 (record p.0 { ledger = x.0 }) p.1 refl x.2
 
-pub loses_leave : (d : Dif) (below : Seen) (place : ℕ) (routes : List Route) (r : Result (Unit {0}) Memory) (at : ℕ) (ps : List IpcProcess) → Stands d below → at < length d.settings.members → LosesIn place routes r at d.processes ps → SameBut (λ i. Some at ≡ Some i) d.processes ps
+pub loses_leave : (d : Dif) (below : Seen) (place : ℕ) (routes : List Route) (r : Result (Unit {0}) Memory) (at : ℕ) (ps : List IpcProcess) → Stands d below → at < length d.settings.members → LosesIn place routes r at d.processes ps → ChangesProcess (Some at) d.processes ps
 loses_leave d below place routes r at ps st lt does =
     let p = has_process d below at st lt in
     let x = does p.0 p.1 in
-    by_process d.processes ps at x.0 x.3
+    by_process d.processes ps at p.0 x.0 p.1 x.2 x.3
 
-pub last_leaves : (d : Dif) (below : Seen) (node : ℕ) (state : PortState) (place : ℕ) (routes : List Route) (r : Result (Unit {0}) Memory) (at : ℕ) (flows : Flows) (ps : List IpcProcess) → Stands d below → at < length d.settings.members → LosesLastIn d.clock node state place routes r at d.flows d.processes flows ps → SameBut (λ i. Some at ≡ Some i) d.processes ps
+pub last_leaves : (d : Dif) (below : Seen) (node : ℕ) (state : PortState) (place : ℕ) (routes : List Route) (r : Result (Unit {0}) Memory) (at : ℕ) (flows : Flows) (ps : List IpcProcess) → Stands d below → at < length d.settings.members → LosesLastIn d.clock node state place routes r at d.flows d.processes flows ps → ChangesProcess (Some at) d.processes ps
 last_leaves d below node state place routes r at flows ps st lt does =
     let p = has_process d below at st lt in
     let x = does p.0 p.1 in
-    by_process d.processes ps at x.0 x.3
+    by_process d.processes ps at p.0 x.0 p.1 x.2 x.3
 
 -- Memory was not found, and no end changed
 
@@ -196,11 +198,11 @@ taken_alone r d d' at key place taker h =
     only_more (λ i. WhenOk r (i ≡ place)) (λ i. WhenOk r (IsTaker d (Some at) key i)) (Some at) d d' (λ i. when_more r (i ≡ place) (IsTaker d (Some at) key i) (λ same. subst (IsTaker d (Some at) key) (sym same) taker)) h
 
 -- after the IPC process decided on it
-pub after_deciding : (r : Result Took Memory) (d : Dif) (ps : List IpcProcess) (d' : Dif) (at : ℕ) (key : Key) → SameBut (λ i. Some at ≡ Some i) d.processes ps → ChangesOnly (λ i. WhenOk r (IsTaker (record d { processes = ps }) (Some at) key i)) (Some at) (record d { processes = ps }) d' → ChangesOnly (λ i. WhenOk r (IsTaker d (Some at) key i)) (Some at) d d'
+pub after_deciding : (r : Result Took Memory) (d : Dif) (ps : List IpcProcess) (d' : Dif) (at : ℕ) (key : Key) → ChangesProcess (Some at) d.processes ps → ChangesOnly (λ i. WhenOk r (IsTaker (record d { processes = ps }) (Some at) key i)) (Some at) (record d { processes = ps }) d' → ChangesOnly (λ i. WhenOk r (IsTaker d (Some at) key i)) (Some at) d d'
 after_deciding r d ps d' at key before h =
     let all : (i : ℕ) → IsTaker (record d { processes = ps }) (Some at) key i → IsTaker d (Some at) key i = λ i t. record { end_of = record { end = t.end_of.end; is_end = t.end_of.is_end; at_home = t.end_of.at_home }; ids = t.ids; ids_are = t.ids_are; src = t.src; scep = t.scep } in (
       flows_more (λ i. WhenOk r (IsTaker (record d { processes = ps }) (Some at) key i)) (λ i. WhenOk r (IsTaker d (Some at) key i)) d.flows d'.flows (λ i. when_more r (IsTaker (record d { processes = ps }) (Some at) key i) (IsTaker d (Some at) key i) (all i)) h.0,
-      λ i other. h.1 i other ∙ before i other,
+      (λ i other. h.1.0 i other ∙ before.0 i other, h.1.1 ∙ before.1),
     )
 
 -- memory was not found for it
@@ -224,7 +226,7 @@ clock_noted r r' d d' node at here same h =
     subst (λ (o : Option ℕ). ChangesOnly (MayClock r' d o) o d d') (sym here) (subst (λ (z : Result ClockStep StepError). ChangesOnly (MayClock z d (Some at)) (Some at) d d') (sym same) h)
 
 pub none_changed : (o : Option ℕ) (d d' : Dif) → d' ≡ d → ChangesOnly (λ i. ⊥) o d d'
-none_changed o d d' same = (flows_none (λ i. ⊥) d.flows d'.flows (ap (λ (z : Dif). z.flows) same), by_none (λ i. o ≡ Some i) d.processes d'.processes (ap (λ (z : Dif). z.processes) same))
+none_changed o d d' same = (flows_none (λ i. ⊥) d.flows d'.flows (ap (λ (z : Dif). z.flows) same), none_process o d.processes d'.processes (ap (λ (z : Dif). z.processes) same))
 
 -- the end whose turn it is has that CEP-id
 pub turn_of : (item : Item) (d : Dif) (lines : List Direction) (node i at cep : ℕ) → home_of d node ≡ Some i → IsTurn item d lines node at cep → IsOfCep d (Some i) cep at
@@ -255,15 +257,15 @@ pub allocated_of : {T E : Type 0} (r : Result T E) (d : Dif) (flows : Flows) (no
 allocated_of r d flows node i is h =
     flows_more (λ k. WhenOk r (IsAllocatedAt d.flows.journal.ends node k)) (λ k. WhenOk r (IsEndOf d (Some i) k)) d.flows flows (λ k. when_more r (IsAllocatedAt d.flows.journal.ends node k) (IsEndOf d (Some i) k) (λ a. record { end = a.end; is_end = a.is_end; at_home = ap (home_of d) a.node_is ∙ is })) h
 
-pub lost_alone : (d d' : Dif) (o : Option ℕ) (Ends : ℕ → Type 0) → SameBut (λ i. o ≡ Some i) d.processes d'.processes → d'.flows ≡ d.flows → ChangesOnly Ends o d d'
+pub lost_alone : (d d' : Dif) (o : Option ℕ) (Ends : ℕ → Type 0) → ChangesProcess o d.processes d'.processes → d'.flows ≡ d.flows → ChangesOnly Ends o d d'
 lost_alone d d' o Ends h same = (flows_none Ends d.flows d'.flows same, h)
 
 -- What is passed
 
 pub passed_port : (d d' : Dif) (port : Port) (at : ℕ) → place_in port d.flows.journal.ends ≡ Some at → ChangesAt (λ i. i ≡ at) d.flows d'.flows → d' ≡ record d { flows = d'.flows } → ChangesOnly (IsPortAt d port) None d d'
-passed_port d d' port at place h whole = (flows_more (λ i. i ≡ at) (IsPortAt d port) d.flows d'.flows (λ i same. place ∙ ap (λ (k : ℕ). Some k) (sym same)) h, by_none (λ i. None ≡ Some i) d.processes d'.processes (ap (λ (z : Dif). z.processes) whole))
+passed_port d d' port at place h whole = (flows_more (λ i. i ≡ at) (IsPortAt d port) d.flows d'.flows (λ i same. place ∙ ap (λ (k : ℕ). Some k) (sym same)) h, none_process None d.processes d'.processes (ap (λ (z : Dif). z.processes) whole))
 
 -- What is freed
 
 pub withdrawn_at : (d : Dif) (at : ℕ) (state : PortState) (ends : List End) (o : Option ℕ) → at < length d.flows.journal.ends → ((e : End) → slice_get d.flows.journal.ends at ≡ Some e → ends ≡ slice_set d.flows.journal.ends at (with_state e state)) → ChangesOnly (λ i. i ≡ at) o d (record d { flows = record d.flows { journal = record { ends = ends } } })
-withdrawn_at d at state ends o lt set = ((by_change (λ (e : End). with_state e state) d.flows.journal.ends ends at lt set, λ i other. refl), λ i other. refl)
+withdrawn_at d at state ends o lt set = ((by_change (λ (e : End). with_state e state) d.flows.journal.ends ends at lt set, λ i other. refl), none_process o d.processes d.processes refl)

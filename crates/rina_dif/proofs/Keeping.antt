@@ -14,7 +14,7 @@ use Rattle.rina_data.specs.declared.link.Route.{Route}
 use Rattle.rina_data.specs.declared.process.IpcProcess.{IpcProcess}
 use Rattle.rina_data.specs.declared.settings.Member.{Member as Kept}
 use Rattle.rina_data.specs.Configs.{Config, config_of, member_of}
-use Rattle.rina_data.specs.Deciding.{process_of}
+use Rattle.rina_data.specs.Deciding.{process_of, queue_settings, QueueSettings}
 use Rattle.rina_data.specs.Process.{Process, Queue, next_hop, queue_place}
 use Rattle.rina_dif_law.specs.Sending.{home}
 use Rattle.rina_dif.specs.declared.dif.Dif.{Dif}
@@ -108,8 +108,8 @@ pub record AreHome (d : Dif) (ps : List IpcProcess) : Type 0 where
   pub housed : AreHoused (config_of d.settings) ps
   pub routed : HaveRoutes d.settings.members d.laid.links ps
 
-pub home_set : (d : Dif) (lines : List Direction) (below : Seen) (at : ℕ) (p p' : IpcProcess) (ps : List IpcProcess) → Holds d lines below → slice_get d.processes at ≡ Some p → p'.queues.cap ≡ p.queues.cap → IsSameHouse (process_of p) (process_of p') → ps ≡ slice_set d.processes at p' → AreHome d ps
-home_set d lines below at p p' ps h is cap same new = record {
-  housed = subst (AreHoused (config_of d.settings)) (sym new) (housed_set (config_of d.settings) d.processes at p p' h.housed is cap same);
+pub home_set : (d : Dif) (lines : List Direction) (below : Seen) (at : ℕ) (p p' : IpcProcess) (ps : List IpcProcess) → Holds d lines below → slice_get d.processes at ≡ Some p → queue_settings p' ≡ queue_settings p → IsSameHouse (process_of p) (process_of p') → ps ≡ slice_set d.processes at p' → AreHome d ps
+home_set d lines below at p p' ps h is room same new = record {
+  housed = subst (AreHoused (config_of d.settings)) (sym new) (housed_set (config_of d.settings) d.processes at p p' h.housed is (ap (λ (s : QueueSettings). s.cap) room) same);
   routed = subst (HaveRoutes d.settings.members d.laid.links) (sym new) (routed_set d.settings.members d.laid.links d.processes at p p' h.routed is same);
 }

@@ -13,6 +13,7 @@ use Rattle.rina_iface.proofs.Changed.{slice_get-set_same}
 use Rattle.rina_law.specs.Direction.{Direction}
 use Rattle.rina_policy.specs.declared.policy.Head.{Head}
 use Rattle.rina_policy.specs.Slots.{Slot}
+use Rattle.rina_queue.specs.declared.queue.Queued.{Queued}
 use Rattle.rina_data.specs.declared.process.IpcProcess.{IpcProcess}
 use Rattle.rina_data.specs.declared.settings.Member.{Member}
 use Rattle.rina_data.specs.declared.settings.Settings.{Settings}
@@ -21,7 +22,7 @@ use Rattle.rina_data.specs.declared.step.OutStep.TheVariants as out
 use Rattle.rina_data.specs.declared.step.StepError.{StepError}
 use Rattle.rina_data.specs.declared.step.StepError.TheVariants.{Memory, NoIpc, NoLink}
 use Rattle.rina_data.specs.Configs.{Config, config_of, member_of}
-use Rattle.rina_data.specs.Deciding.{process_of}
+use Rattle.rina_data.specs.Deciding.{process_of, queue_settings}
 use Rattle.rina_dif_law.specs.Dif.{DifSeen, with_process}
 use Rattle.rina_data.specs.Process.{Process}
 use Rattle.rina_data.specs.Leaving.{Asks, IsAsked}
@@ -47,19 +48,19 @@ same_some o a b h g = cc
 
 -- One IPC process of those that are kept takes a step
 
-pub leaves_one : (refuses : Port → ℕ → Option SendError) (g : Config) (now : ℕ) (below : Seen) (n : ℕ) (r : Result OutStep StepError) (below' : Seen) (at : ℕ) (ps : List IpcProcess) (x x' : IpcProcess) → at < length ps → x ≡ get_or ps at x → Goes refuses g now (process_of x) below n r (process_of x') below' → x'.queues.cap ≡ x.queues.cap → Leaves refuses g now below n r below' at ps (slice_set ps at x')
-leaves_one refuses g now below n r below' at ps x x' lt read goes cap p is =
+pub leaves_one : (refuses : Port → ℕ → Option SendError) (g : Config) (now : ℕ) (below : Seen) (n : ℕ) (r : Result OutStep StepError) (below' : Seen) (at : ℕ) (ps : List IpcProcess) (x x' : IpcProcess) → at < length ps → x ≡ get_or ps at x → Goes refuses g now (process_of x) below n r (process_of x') below' → queue_settings x' ≡ queue_settings x → Leaves refuses g now below n r below' at ps (slice_set ps at x')
+leaves_one refuses g now below n r below' at ps x x' lt read goes room p is =
     let here : slice_get ps at ≡ Some x = slice_get_read ps (length ps) at x refl lt read in
     let same : x ≡ p = same_some (slice_get ps at) x p here is in
-    (x', subst (λ (z : IpcProcess). Goes refuses g now (process_of z) below n r (process_of x') below') same goes, subst (λ (z : IpcProcess). x'.queues.cap ≡ z.queues.cap) same cap, refl)
+    (x', subst (λ (z : IpcProcess). Goes refuses g now (process_of z) below n r (process_of x') below') same goes, subst (λ (z : IpcProcess). queue_settings x' ≡ queue_settings z) same room, refl)
 
-pub asks_one : (may : ℕ → List Head → ℕ → Type 0) (settings : Settings) (n at : ℕ) (slots slots' : List Slot) (ps : List IpcProcess) (r : Result OutStep StepError) (x x' : IpcProcess) (m : Member) → at < length ps → x ≡ get_or ps at x → slice_get settings.members at ≡ Some m → Asks (slots' ≡ slots) (IsAsked (may m.number) settings.policy x.queues.queues.items n slots slots' (process_of x) r (process_of x')) r → AsksAt may settings n at slots slots' ps r (slice_set ps at x')
-asks_one may settings n at slots slots' ps r x x' m lt read is_m asks member p p' is_member is is' =
+pub asks_one : (may : ℕ → List Head → ℕ → Type 0) (held : Process → Queued → SendError → Type 0) (settings : Settings) (n at : ℕ) (slots slots' : List Slot) (ps : List IpcProcess) (r : Result OutStep StepError) (x x' : IpcProcess) (m : Member) → at < length ps → x ≡ get_or ps at x → slice_get settings.members at ≡ Some m → Asks (slots' ≡ slots) (IsAsked (may m.number) (held (process_of x)) settings.policy x.queues.queues.items n slots slots' (process_of x) r (process_of x')) r → AsksAt may held settings n at slots slots' ps r (slice_set ps at x')
+asks_one may held settings n at slots slots' ps r x x' m lt read is_m asks member p p' is_member is is' =
     let here : slice_get ps at ≡ Some x = slice_get_read ps (length ps) at x refl lt read in
     let same : x ≡ p = same_some (slice_get ps at) x p here is in
     let new : x' ≡ p' = same_some (slice_get (slice_set ps at x') at) x' p' (slice_get-set_same ps at x x' here) is' in
     let number : m.number ≡ member.number = ap (λ (z : Member). z.number) (same_some (slice_get settings.members at) m member is_m is_member) in
-    let P : ℕ → IpcProcess → IpcProcess → Type 0 = λ k a b. Asks (slots' ≡ slots) (IsAsked (may k) settings.policy a.queues.queues.items n slots slots' (process_of a) r (process_of b)) r in
+    let P : ℕ → IpcProcess → IpcProcess → Type 0 = λ k a b. Asks (slots' ≡ slots) (IsAsked (may k) (held (process_of a)) settings.policy a.queues.queues.items n slots slots' (process_of a) r (process_of b)) r in
     subst (λ (k : ℕ). P k p p') number (subst (λ (a : IpcProcess). P m.number a p') same (subst (λ (b : IpcProcess). P m.number x b) new asks))
 
 -- The DIF
@@ -149,5 +150,5 @@ outs_at refuses d below node n at (Err Memory) d' below' here outs = (outs.new_i
 outs_at refuses d below node n at (Err NoIpc) d' below' here outs = at_home (home node d.config.members) at (λ k. Outs refuses d below k n (Err NoIpc) d' below') _ here outs
 outs_at refuses d below node n at (Err NoLink) d' below' here outs = at_home (home node d.config.members) at (λ k. Outs refuses d below k n (Err NoLink) d' below') _ here outs
 
-pub asks_home : (may : ℕ → List Head → ℕ → Type 0) (settings : Settings) (node n at : ℕ) (slots slots' : List Slot) (old : List IpcProcess) (r : Result OutStep StepError) (new : List IpcProcess) → home node (config_of settings).members ≡ Some at → AsksAt may settings n at slots slots' old r new → AsksHome may settings node n slots slots' old r new
-asks_home may settings node n at slots slots' old r new here asks = at_home (home node (config_of settings).members) at (λ k. AsksAt may settings n k slots slots' old r new) (slots' ≡ slots) here asks
+pub asks_home : (may : ℕ → List Head → ℕ → Type 0) (held : Process → Queued → SendError → Type 0) (settings : Settings) (node n at : ℕ) (slots slots' : List Slot) (old : List IpcProcess) (r : Result OutStep StepError) (new : List IpcProcess) → home node (config_of settings).members ≡ Some at → AsksAt may held settings n at slots slots' old r new → AsksHome may held settings node n slots slots' old r new
+asks_home may held settings node n at slots slots' old r new here asks = at_home (home node (config_of settings).members) at (λ k. AsksAt may held settings n k slots slots' old r new) (slots' ≡ slots) here asks

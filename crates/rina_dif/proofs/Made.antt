@@ -175,6 +175,11 @@ made_new plan i dif d old new at are clock alive ends conns waiting names kept b
       ports = laid.ports;
       bound = subst (λ (fs : List Fixed). BindsAll old fs laid.ports new) (sym (its_links plan i dif at)) laid.bound;
       processes = λ k member p is here. new_process d.settings member.node (ends_of laid.ports) p (laid.up.each k member p is here);
+      queues = λ k p is.
+          let within = slice_get_within d.processes k p is in
+          let m = there d.settings.members k (let e = laid.up.aligned in omega (arith, within, e)) in
+          let up = laid.up.each k m.0 p m.1 is in
+          record { cap = up.room; cubes = up.ids };
       routed = λ dif' at'. (let same : dif ≡ dif' = (let both : Some dif ≡ Some dif' = sym at ∙ at' in cc) in subst (λ (x : DifPlan). HaveRoutes d.settings.members x.links d.processes) same (all_know d.settings.members dif.links bare d.processes routed));
       ends = ends;
       conns = conns;

@@ -23,7 +23,7 @@ use Rattle.rina_data.specs.declared.step.Decision.{Decision}
 use Rattle.rina_data.specs.declared.step.Decision.TheVariants as decision
 use Rattle.rina_data.specs.Hops.{Hop}
 use Rattle.rina_data.specs.Configs.{Config, config_of}
-use Rattle.rina_data.specs.Deciding.{Forwards, process_of}
+use Rattle.rina_data.specs.Deciding.{Forwards, process_of, queue_settings}
 use Rattle.rina_dif_law.specs.Dif.{DifSeen, with_process}
 use Rattle.rina_data.specs.Process.{Process, next_hop}
 use Rattle.rina_dif_law.specs.Ids.{Ids, pdu_of_ack, pdu_of_piece}
@@ -60,11 +60,11 @@ same_some o a b h g = cc
 
 -- One IPC process of those that are kept
 
-pub forwards_one : (now : ℕ) (hop : Hop) (r : Result Decision Memory) (at : ℕ) (ps : List IpcProcess) (x x' : IpcProcess) → at < length ps → x ≡ get_or ps at x → Forwards x.queues.cap (process_of x) now hop r (process_of x') → x'.queues.cap ≡ x.queues.cap → ForwardsAt now hop r at ps (slice_set ps at x')
-forwards_one now hop r at ps x x' lt read forwards cap p is =
+pub forwards_one : (now : ℕ) (hop : Hop) (r : Result Decision Memory) (at : ℕ) (ps : List IpcProcess) (x x' : IpcProcess) → at < length ps → x ≡ get_or ps at x → Forwards x.queues.cap (process_of x) now hop r (process_of x') → queue_settings x' ≡ queue_settings x → ForwardsAt now hop r at ps (slice_set ps at x')
+forwards_one now hop r at ps x x' lt read forwards room p is =
     let here : slice_get ps at ≡ Some x = slice_get_read ps (length ps) at x refl lt read in
     let same : x ≡ p = same_some (slice_get ps at) x p here is in
-    (x', subst (λ (z : IpcProcess). Forwards z.queues.cap (process_of z) now hop r (process_of x')) same forwards, subst (λ (z : IpcProcess). x'.queues.cap ≡ z.queues.cap) same cap, refl)
+    (x', subst (λ (z : IpcProcess). Forwards z.queues.cap (process_of z) now hop r (process_of x')) same forwards, subst (λ (z : IpcProcess). queue_settings x' ≡ queue_settings z) same room, refl)
 
 -- its queues keep their places
 forwards_same : (cap : ℕ) (p : Process) (now : ℕ) (hop : Hop) (r : Result Decision Memory) (p' : Process) → Forwards cap p now hop r p' → IsSameHouse p p'

@@ -12,7 +12,7 @@ use Rattle.rina_queue.specs.declared.queues.Queues.{Queues}
 use Rattle.rina_queue.specs.Queues.{Changes, is_queue, items_at, items_in, queue_place as place_there, waiting, with_items}
 use Rattle.rina_queue.proofs.Places.{first_passes}
 use Rattle.rina_data.specs.declared.process.IpcProcess.{IpcProcess}
-use Rattle.rina_data.specs.Deciding.{plain}
+use Rattle.rina_data.specs.Deciding.{plain, queue_settings}
 use Rattle.rina_data.specs.Configs.{Config}
 use Rattle.rina_data.specs.Process.{next_hop, queue_place}
 use Rattle.rina_dif_law.specs.Sending.{queue_in, room_in}
@@ -133,9 +133,10 @@ still_room qos link left since limit old mid pdus seen rest rest' pdu a whole is
     let one = ap length is in
     omega (arith, more, made, sum, all, one, room)
 
-pub puts_one : (qos link : ℕ) (items : List Queued) (at : ℕ) (ps : List IpcProcess) (x : IpcProcess) (queues : Queues) → at < length ps → x ≡ get_or ps at x → Changes qos link (λ (q : Waiting). with_items (q.ring.items ++ items) q) x.queues.queues.items queues.queues.items → queues.cap ≡ x.queues.cap → Puts qos link items at ps (slice_set ps at (record x { queues = queues }))
-puts_one qos link items at ps x queues lt read put cap p is =
+pub puts_one : (qos link : ℕ) (items : List Queued) (at : ℕ) (ps : List IpcProcess) (x : IpcProcess) (queues : Queues) → at < length ps → x ≡ get_or ps at x → Changes qos link (λ (q : Waiting). with_items (q.ring.items ++ items) q) x.queues.queues.items queues.queues.items → (queues.cap ≡ x.queues.cap) × (queues.cubes ≡ x.queues.cubes) → Puts qos link items at ps (slice_set ps at (record x { queues = queues }))
+puts_one qos link items at ps x queues lt read put kept p is =
     let here : slice_get ps at ≡ Some x = slice_get_read ps (length ps) at x refl lt read in
     let same : x ≡ p = same_Some x p (sym here ∙ is) in
     let x' : IpcProcess = record x { queues = queues } in
-    (x', subst (λ (z : IpcProcess). HasPut qos link items z x') same (record { queues = put; cap = cap; links = refl; routes = refl; ledger = refl }), refl)
+    let same_settings : queue_settings x' ≡ queue_settings x = ap (λ (n : ℕ). record { cap = n; cubes = queues.cubes }) kept.0 ∙ ap (λ (ids : List ℕ). record { cap = x.queues.cap; cubes = ids }) kept.1 in
+    (x', subst (λ (z : IpcProcess). HasPut qos link items z x') same (record { queues = put; kept = same_settings; links = refl; routes = refl; ledger = refl }), refl)

@@ -40,10 +40,10 @@ use Rattle.rina_flows.specs.Calls.{Accepts, Offers as FlowsOffer}
 use Rattle.rina_flows.specs.Tied.{conns_of, ids_of, outward}
 use Rattle.rina_flows.proofs.Framed.{ids_at}
 use Rattle.rina_dif.specs.declared.dif.Dif.{Dif}
-use Rattle.rina_dif.specs.declared.send.Way.{Way}
+use Rattle.rina_dif.specs.declared.send.FirstHop.{FirstHop}
 use Rattle.rina_dif.specs.Facade.{way_refusal}
 use Rattle.rina_dif.specs.Holding.{AreHoused, Holds}
-use Rattle.rina_dif.specs.Sending.{AreOf, HasPut, HasRoomFor, IsAdmitted, IsBarred, Puts, Sends, SendsAt, queued, told_as}
+use Rattle.rina_dif.specs.Sending.{AreOf, HasPut, HasRoomFor, IsAdmitted, IsBarred, Puts, Sends, SendsAt, queued, send_error}
 use Rattle.rina_dif.specs.Shown.{seen_of}
 use Rattle.rina_dif.specs.Whole.{IsDif}
 use Rattle.rina_dif.proofs.Causing.{offered_caused}
@@ -79,7 +79,7 @@ sends_memory d at sdu lines below h =
 in_room : (cap size need : ℕ) → size + need ≤ cap → by_room need (cap - size) ≡ None
 in_room cap size need le = (let less : need ≤ cap - size = omega (arith, le) in grind (arith, nat_tests, less))
 
-way_none : (d : Dif) (at : ℕ) (sdu : List ℕ) (way : Way) → AreHoused (config_of d.settings) d.processes → (a : IsAdmitted d at sdu way) → way_refusal d a.end a.conn a.need ≡ None
+way_none : (d : Dif) (at : ℕ) (sdu : List ℕ) (way : FirstHop) → AreHoused (config_of d.settings) d.processes → (a : IsAdmitted d at sdu way) → way_refusal d a.end a.conn a.need ≡ None
 way_none d at sdu way housed a =
     let w = a.goes in
     let cap = (housed way.home w.process w.is_process).cap in
@@ -87,41 +87,41 @@ way_none d at sdu way housed a =
     let room : size + a.need ≤ d.settings.cap = (let r = w.room.room in omega (arith, r, cap)) in
     by_queue d.settings.cap a.need (ids_of a.conn) d.processes (home a.end.port.node (config_of d.settings).members) way.home w.process way.link w.at_home w.is_process w.hop w.room.there ∙ in_room d.settings.cap size a.need room
 
-count_is : (d : Dif) (lines : List Direction) (below : Seen) (at : ℕ) (sdu : List ℕ) (way : Way) (line : Direction) (parts : List Part) → Holds d lines below → (a : IsAdmitted d at sdu way) → slice_get lines at ≡ Some line → IsCut (piece_size (config_of d.settings)) true parts → join parts ≡ sdu → length parts ≡ a.need
+count_is : (d : Dif) (lines : List Direction) (below : Seen) (at : ℕ) (sdu : List ℕ) (way : FirstHop) (line : Direction) (parts : List Part) → Holds d lines below → (a : IsAdmitted d at sdu way) → slice_get lines at ≡ Some line → IsCut (piece_size (config_of d.settings)) true parts → join parts ≡ sdu → length parts ≡ a.need
 count_is d lines below at sdu way line parts h a is_line cut joins =
     let size = (h.tied.sends at a.conn line a.is_at.conn_is is_line).sender.piece in
     a.told_need parts (subst (λ (n : ℕ). IsCut n true parts) (sym size) cut) (ap length joins)
 
 -- nothing is refused but by the sender
-past_all : (d : Dif) (lines : List Direction) (below : Seen) (at : ℕ) (sdu : List ℕ) (way : Way) (line : Direction) (parts : List Part) → Holds d lines below → (a : IsAdmitted d at sdu way) → slice_get lines at ≡ Some line → IsCut (piece_size (config_of d.settings)) true parts → join parts ≡ sdu
+past_all : (d : Dif) (lines : List Direction) (below : Seen) (at : ℕ) (sdu : List ℕ) (way : FirstHop) (line : Direction) (parts : List Part) → Holds d lines below → (a : IsAdmitted d at sdu way) → slice_get lines at ≡ Some line → IsCut (piece_size (config_of d.settings)) true parts → join parts ≡ sdu
     → refused_at (seen_of d) lines at parts ≡ by_sender (sender_refusal d a.conn line parts) None
 past_all d lines below at sdu way line parts h a is_line cut joins =
     let count = count_is d lines below at sdu way line parts h a is_line cut joins in
     past d lines at sdu a.end a.conn line parts h.tied a.is_at is_line a.allocated a.short joins ∙ ap (λ (w : Option SendError). by_sender (sender_refusal d a.conn line parts) w) (ap (way_refusal d a.end a.conn) count ∙ way_none d at sdu way h.housed a)
 
-told : (why : OfferError) (r : Option Refusal) → why ≢ offer.Memory → Refuses why r → by_sender r None ≡ Some (told_as why)
+told : (why : OfferError) (r : Option Refusal) → why ≢ offer.Memory → Refuses why r → by_sender r None ≡ Some (send_error why)
 told offer.Memory r other refuses = absurd (other refl)
 told (offer.TooLong len max) r other refuses = ap (λ (x : Option Refusal). by_sender x None) refuses
 told (offer.WindowShut need room) r other refuses = ap (λ (x : Option Refusal). by_sender x None) refuses
 told (offer.NumbersSpent until) r other refuses = ap (λ (x : Option Refusal). by_sender x None) refuses
 
-refused_here : (d : Dif) (at : ℕ) (sdu : List ℕ) (way : Way) (why : OfferError) (flows : Flows) → why ≢ offer.Memory → IsAdmitted d at sdu way → FlowsOffer d.clock at sdu d.flows (Err why) flows → (lines : List Direction) (below : Seen) → Holds d lines below → Sends d lines below at sdu (Err (told_as why)) d
+refused_here : (d : Dif) (at : ℕ) (sdu : List ℕ) (way : FirstHop) (why : OfferError) (flows : Flows) → why ≢ offer.Memory → IsAdmitted d at sdu way → FlowsOffer d.clock at sdu d.flows (Err why) flows → (lines : List Direction) (below : Seen) → Holds d lines below → Sends d lines below at sdu (Err (send_error why)) d
 refused_here d at sdu way why flows other a offers lines below h =
     let line = line_there d lines at a.end h.tied a.is_at.end_is in
     let o = offers (config_of d.settings) lines h.tied in
     let r = o.0 other a.conn line.0 a.is_at.conn_is line.1 in
-    record { parts = r.parts; cut = r.cut; lines' = lines; offers = offers_err (seen_of d) lines at r.parts (told_as why) (past_all d lines below at sdu way line.0 r.parts h a line.1 r.cut.0 r.cut.1 ∙ told why (sender_refusal d a.conn line.0 r.parts) other r.refuses); holds = h }
+    record { parts = r.parts; cut = r.cut; lines' = lines; offers = offers_err (seen_of d) lines at r.parts (send_error why) (past_all d lines below at sdu way line.0 r.parts h a line.1 r.cut.0 r.cut.1 ∙ told why (sender_refusal d a.conn line.0 r.parts) other r.refuses); holds = h }
 
-refused_by : (d : Dif) (at : ℕ) (sdu : List ℕ) (way : Way) (why : OfferError) (flows : Flows) → IsAdmitted d at sdu way → FlowsOffer d.clock at sdu d.flows (Err why) flows → (lines : List Direction) (below : Seen) → Holds d lines below → Sends d lines below at sdu (Err (told_as why)) d
+refused_by : (d : Dif) (at : ℕ) (sdu : List ℕ) (way : FirstHop) (why : OfferError) (flows : Flows) → IsAdmitted d at sdu way → FlowsOffer d.clock at sdu d.flows (Err why) flows → (lines : List Direction) (below : Seen) → Holds d lines below → Sends d lines below at sdu (Err (send_error why)) d
 refused_by d at sdu way offer.Memory flows a offers lines below h = sends_memory d at sdu lines below h
 refused_by d at sdu way (offer.TooLong len max) flows a offers lines below h = refused_here d at sdu way (offer.TooLong len max) flows (λ e. absurd cc) a offers lines below h
 refused_by d at sdu way (offer.WindowShut need room) flows a offers lines below h = refused_here d at sdu way (offer.WindowShut need room) flows (λ e. absurd cc) a offers lines below h
 refused_by d at sdu way (offer.NumbersSpent until) flows a offers lines below h = refused_here d at sdu way (offer.NumbersSpent until) flows (λ e. absurd cc) a offers lines below h
 
-pub sends_refused : (d : Dif) (at : ℕ) (sdu : List ℕ) (way : Way) (why : OfferError) (flows : Flows) → IsAdmitted d at sdu way → FlowsOffer d.clock at sdu d.flows (Err why) flows → (lines : List Direction) (below : Seen) → Holds d lines below → Sends d lines below at sdu (Err (told_as why)) (record d { flows = flows })
+pub sends_refused : (d : Dif) (at : ℕ) (sdu : List ℕ) (way : FirstHop) (why : OfferError) (flows : Flows) → IsAdmitted d at sdu way → FlowsOffer d.clock at sdu d.flows (Err why) flows → (lines : List Direction) (below : Seen) → Holds d lines below → Sends d lines below at sdu (Err (send_error why)) (record d { flows = flows })
 sends_refused d at sdu way why flows a offers lines below h =
     let same = (offers (config_of d.settings) lines h.tied).1 in
-    subst (λ (f : Flows). Sends d lines below at sdu (Err (told_as why)) (record d { flows = f })) (sym same) (refused_by d at sdu way why flows a offers lines below h)
+    subst (λ (f : Flows). Sends d lines below at sdu (Err (send_error why)) (record d { flows = f })) (sym same) (refused_by d at sdu way why flows a offers lines below h)
 
 -- The pieces
 
@@ -146,12 +146,12 @@ all_of ids qos pdus ps are same k pdu is = from (slice_get ps k) refl
 
 -- What was admitted, in the terms of the offer
 
-pub record IsSame (d : Dif) (at : ℕ) (sdu : List ℕ) (way : Way) (a : IsAdmitted d at sdu way) (end : End) (ids : Ids) (cube : Cube) : Type 0 where
+pub record IsSame (d : Dif) (at : ℕ) (sdu : List ℕ) (way : FirstHop) (a : IsAdmitted d at sdu way) (end : End) (ids : Ids) (cube : Cube) : Type 0 where
   pub end_is : a.end ≡ end
   pub ids_are : ids_of a.conn ≡ ids
   pub cube_is : a.conn.sending.form.cube ≡ cube
 
-same_there : (d : Dif) (lines : List Direction) (below : Seen) (at : ℕ) (sdu : List ℕ) (way : Way) (made : Made) (flows : Flows) → Holds d lines below → (a : IsAdmitted d at sdu way) → (o : Accepts (config_of d.settings) d.clock at sdu d.flows lines made flows) → IsSame d at sdu way a o.offers.end o.offers.its_ids o.offers.cube
+same_there : (d : Dif) (lines : List Direction) (below : Seen) (at : ℕ) (sdu : List ℕ) (way : FirstHop) (made : Made) (flows : Flows) → Holds d lines below → (a : IsAdmitted d at sdu way) → (o : Accepts (config_of d.settings) d.clock at sdu d.flows lines made flows) → IsSame d at sdu way a o.offers.end o.offers.its_ids o.offers.cube
 same_there d lines below at sdu way made flows h a o =
     let q = o.offers in
     let conn = q.place.is_conn in
@@ -165,11 +165,11 @@ same_there d lines below at sdu way made flows h a o =
     }
 
 -- the PDUs that are made have room in their queue
-pub record CanPut (d : Dif) (way : Way) (pdus : List Pdu) : Type 0 where
+pub record CanPut (d : Dif) (way : FirstHop) (pdus : List Pdu) : Type 0 where
   pub cube : AreOf way.qos pdus
   pub room : (p : IpcProcess) → slice_get d.processes way.home ≡ Some p → HasRoomFor way.qos way.link (length pdus) p
 
-pub can_put : (d : Dif) (at : ℕ) (sdu : List ℕ) (way : Way) (made : Made) (flows : Flows) → IsDif d → IsAdmitted d at sdu way → FlowsOffer d.clock at sdu d.flows (Ok made) flows → CanPut d way made.pdus
+pub can_put : (d : Dif) (at : ℕ) (sdu : List ℕ) (way : FirstHop) (made : Made) (flows : Flows) → IsDif d → IsAdmitted d at sdu way → FlowsOffer d.clock at sdu d.flows (Ok made) flows → CanPut d way made.pdus
 can_put d at sdu way made flows is a offers =
     let lines : List Direction = is.stands.0 in
     let h = is.stands.1 in
@@ -188,14 +188,14 @@ can_put d at sdu way made flows is a offers =
     }
 
 -- what was put, as the DIF sees it
-pub record IsPut (d : Dif) (ids : Ids) (way : Way) (items : List Queued) (p p' : IpcProcess) : Type 0 where
+pub record IsPut (d : Dif) (ids : Ids) (way : FirstHop) (items : List Queued) (p p' : IpcProcess) : Type 0 where
   pub place : ℕ
   pub queue : Waiting
   pub is_queue : IsQueue (process_of p) ids.qos way.link place (plain queue)
   pub waits : waiting ids.qos way.link p.queues.queues.items ≡ queue.ring.items
   pub new_is : process_of p' ≡ with_put (process_of p) place (plain queue) items
 
-is_put : (d : Dif) (ids : Ids) (way : Way) (items : List Queued) (p p' : IpcProcess) → way.qos ≡ ids.qos → HasPut way.qos way.link items p p' → IsPut d ids way items p p'
+is_put : (d : Dif) (ids : Ids) (way : FirstHop) (items : List Queued) (p p' : IpcProcess) → way.qos ≡ ids.qos → HasPut way.qos way.link items p p' → IsPut d ids way items p p'
 is_put d ids way items p p' qos h =
     let k = h.queues.0 in
     let q = h.queues.1 in
@@ -215,7 +215,7 @@ is_put d ids way items p p' qos h =
 seen_sent : (d : Dif) (flows : Flows) (ps : List IpcProcess) (ends : List End) (processes : List Process) → flows.journal.ends ≡ ends → conns_of flows.conns ≡ conns_of d.flows.conns → map process_of ps ≡ processes → seen_of (record d { processes = ps; flows = flows }) ≡ record (seen_of d) { ends = ends; processes = processes }
 seen_sent d flows ps ends processes es cs is = λ i. record { config = config_of d.settings; clock = d.clock; processes = is i; ends = es i; conns = cs i; waiting = d.waiting.items; names = d.names }
 
-accepted : (d : Dif) (lines : List Direction) (below : Seen) (at : ℕ) (sdu : List ℕ) (way : Way) (made : Made) (flows : Flows) (p' : IpcProcess) (ps : List IpcProcess) → Holds d lines below → (a : IsAdmitted d at sdu way) → (o : Accepts (config_of d.settings) d.clock at sdu d.flows lines made flows) → HasPut way.qos way.link (queued way.left d.clock made.pdus) a.goes.process p' → ps ≡ slice_set d.processes way.home p' → IsOffered (seen_of d) lines at o.parts made.num (seen_of (record d { processes = ps; flows = flows })) o.lines'
+accepted : (d : Dif) (lines : List Direction) (below : Seen) (at : ℕ) (sdu : List ℕ) (way : FirstHop) (made : Made) (flows : Flows) (p' : IpcProcess) (ps : List IpcProcess) → Holds d lines below → (a : IsAdmitted d at sdu way) → (o : Accepts (config_of d.settings) d.clock at sdu d.flows lines made flows) → HasPut way.qos way.link (queued way.left d.clock made.pdus) a.goes.process p' → ps ≡ slice_set d.processes way.home p' → IsOffered (seen_of d) lines at o.parts made.num (seen_of (record d { processes = ps; flows = flows })) o.lines'
 accepted d lines below at sdu way made flows p' ps h a o put new =
     let g = config_of d.settings in
     let q = o.offers in
@@ -258,7 +258,7 @@ accepted d lines below at sdu way made flows p' ps h a o put new =
       new_is = seen_sent d flows ps _ _ q.offered.3 o.ids processes;
     }
 
-pub sends_made : (d : Dif) (at : ℕ) (sdu : List ℕ) (way : Way) (made : Made) (flows : Flows) (ps : List IpcProcess) → IsAdmitted d at sdu way → FlowsOffer d.clock at sdu d.flows (Ok made) flows → Puts way.qos way.link (queued way.left d.clock made.pdus) way.home d.processes ps → (lines : List Direction) (below : Seen) → Holds d lines below → Sends d lines below at sdu (Ok made.num) (record d { processes = ps; flows = flows })
+pub sends_made : (d : Dif) (at : ℕ) (sdu : List ℕ) (way : FirstHop) (made : Made) (flows : Flows) (ps : List IpcProcess) → IsAdmitted d at sdu way → FlowsOffer d.clock at sdu d.flows (Ok made) flows → Puts way.qos way.link (queued way.left d.clock made.pdus) way.home d.processes ps → (lines : List Direction) (below : Seen) → Holds d lines below → Sends d lines below at sdu (Ok made.num) (record d { processes = ps; flows = flows })
 sends_made d at sdu way made flows ps a offers puts lines below h =
     let g = config_of d.settings in
     let o = offers g lines h.tied in
@@ -272,7 +272,7 @@ sends_made d at sdu way made flows ps a offers puts lines below h =
     let offer : Offers (seen_of d) lines at o.parts (Ok made.num) (seen_of d') o.lines' = (refused, o.cut.0, accepted d lines below at sdu way made flows put.0 ps h a o put.1 put.2) in
     let i = is_put d q.its_ids way (queued way.left d.clock made.pdus) a.goes.process put.0 (a.qos ∙ ap (λ (x : Ids). x.qos) s.ids_are) put.1 in
     let house = house_is (process_of a.goes.process) _ (process_of put.0) i.new_is (record { links = refl; routes = refl; places = λ qos link. same_places qos link (process_of a.goes.process).queues i.place (plain i.queue) (i.queue.ring.items ++ queued way.left d.clock made.pdus) i.is_queue.is_queue }) in
-    let kept = home_set d lines below way.home a.goes.process put.0 ps h a.goes.is_process put.1.cap house put.2 in
+    let kept = home_set d lines below way.home a.goes.process put.0 ps h a.goes.is_process put.1.kept house put.2 in
     record {
       parts = o.parts;
       cut = o.cut;

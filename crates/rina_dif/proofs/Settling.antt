@@ -17,7 +17,7 @@ use Rattle.rina_data.specs.declared.step.Decision.TheVariants as decision
 use Rattle.rina_data.specs.declared.step.Took.{Took}
 use Rattle.rina_data.specs.declared.step.Took.TheVariants as took
 use Rattle.rina_data.specs.Hops.{Hop}
-use Rattle.rina_data.specs.Deciding.{Decides, IsRouted, process_of}
+use Rattle.rina_data.specs.Deciding.{Decides, IsRouted, process_of, queue_settings}
 use Rattle.rina_dif_law.specs.Dif.{DifSeen, IsProcess, with_process}
 use Rattle.rina_data.specs.Configs.{Member}
 use Rattle.rina_data.specs.Process.{Process, with_offs}
@@ -44,20 +44,20 @@ same_some o a b h g = cc
 
 -- One IPC process of those that are kept
 
-pub decides_one : (now addr since : ℕ) (hop : Hop) (r : Result Decision NoMemory) (at : ℕ) (ps : List IpcProcess) (x x' : IpcProcess) → at < length ps → x ≡ get_or ps at x → Decides x.queues.cap now addr (process_of x) since hop r (process_of x') → x'.queues.cap ≡ x.queues.cap → DecidesAt now addr since hop r at ps (slice_set ps at x')
-decides_one now addr since hop r at ps x x' lt read decides cap p is =
+pub decides_one : (now addr since : ℕ) (hop : Hop) (r : Result Decision NoMemory) (at : ℕ) (ps : List IpcProcess) (x x' : IpcProcess) → at < length ps → x ≡ get_or ps at x → Decides x.queues.cap now addr (process_of x) since hop r (process_of x') → queue_settings x' ≡ queue_settings x → DecidesAt now addr since hop r at ps (slice_set ps at x')
+decides_one now addr since hop r at ps x x' lt read decides room p is =
     let here : slice_get ps at ≡ Some x = slice_get_read ps (length ps) at x refl lt read in
     let same : x ≡ p = same_some (slice_get ps at) x p here is in
-    (x', subst (λ (z : IpcProcess). Decides z.queues.cap now addr (process_of z) since hop r (process_of x')) same decides, subst (λ (z : IpcProcess). x'.queues.cap ≡ z.queues.cap) same cap, refl)
+    (x', subst (λ (z : IpcProcess). Decides z.queues.cap now addr (process_of z) since hop r (process_of x')) same decides, subst (λ (z : IpcProcess). queue_settings x' ≡ queue_settings z) same room, refl)
 
 pub routes_one : (hop : Hop) (at : ℕ) (ps : List IpcProcess) (x : IpcProcess) → at < length ps → x ≡ get_or ps at x → RoutesAt hop at ps → IsRouted x hop
 routes_one hop at ps x lt read routes = routes x (slice_get_read ps (length ps) at x refl lt read)
 
-pub notes_one : (pdu : Pdu) (cause : Cause) (r : Result (Unit {0}) NoMemory) (at : ℕ) (ps : List IpcProcess) (x x' : IpcProcess) → at < length ps → x ≡ get_or ps at x → IsNoted (process_of x) pdu cause r (process_of x') → x'.queues.cap ≡ x.queues.cap → NotesAt pdu cause r at ps (slice_set ps at x')
-notes_one pdu cause r at ps x x' lt read noted cap p is =
+pub notes_one : (pdu : Pdu) (cause : Cause) (r : Result (Unit {0}) NoMemory) (at : ℕ) (ps : List IpcProcess) (x x' : IpcProcess) → at < length ps → x ≡ get_or ps at x → IsNoted (process_of x) pdu cause r (process_of x') → queue_settings x' ≡ queue_settings x → NotesAt pdu cause r at ps (slice_set ps at x')
+notes_one pdu cause r at ps x x' lt read noted room p is =
     let here : slice_get ps at ≡ Some x = slice_get_read ps (length ps) at x refl lt read in
     let same : x ≡ p = same_some (slice_get ps at) x p here is in
-    (x', subst (λ (z : IpcProcess). IsNoted (process_of z) pdu cause r (process_of x')) same noted, subst (λ (z : IpcProcess). x'.queues.cap ≡ z.queues.cap) same cap, refl)
+    (x', subst (λ (z : IpcProcess). IsNoted (process_of z) pdu cause r (process_of x')) same noted, subst (λ (z : IpcProcess). queue_settings x' ≡ queue_settings z) same room, refl)
 
 pub noted_by : (process : Process) (pdu : Pdu) (cause : Cause) (r : Result (Unit {0}) NoMemory) (process' : Process) → OnOk r (Notes process pdu cause process') → OnErr r (process' ≡ process) → IsNoted process pdu cause r process'
 noted_by process pdu cause (Ok u) process' ok err = ok

@@ -4,11 +4,13 @@ use Rattle.std.specs.Str.{bytes_eq}
 use Rattle.std.proofs.Math.Seq.{map-set_same}
 use Rattle.std.proofs.lemmas.List.Quantifiers.{position-Some}
 use Rattle.std.proofs.lemmas.Slice.Eq.{bytes_eq-Decides}
+use Rattle.rina_iface.specs.declared.error.SendError.{SendError}
 use Rattle.rina_policy.specs.declared.count.Count.{Count}
 use Rattle.rina_policy.specs.declared.policy.Head.{Head}
 use Rattle.rina_policy.specs.Count.{counted}
 use Rattle.rina_policy.specs.Slots.{Slot, asked, count_of, place_of, put_at, slot}
 use Rattle.rina_queue.specs.declared.queue.Queue.{Queue}
+use Rattle.rina_queue.specs.declared.queue.Queued.{Queued}
 use Rattle.rina_data.specs.declared.step.OutStep.{OutStep}
 use Rattle.rina_data.specs.declared.step.OutStep.TheVariants as out
 use Rattle.rina_data.specs.declared.step.StepError.{StepError}
@@ -29,15 +31,15 @@ put_names name live slots (Some k) h =
 pub names_asked : (name : List ℕ) (pick : ℕ) (slots : List Slot) → names (asked name pick slots) ≡ names slots
 names_asked name pick slots = put_names name (option_map (λ c. counted c pick) (count_of name slots)) slots (place_of name slots) refl
 
-once : (may : List Head → ℕ → Type 0) (policy : List ℕ) (queues : List Queue) (n : ℕ) (slots slots' : List Slot) (p : Process) (r : Result OutStep StepError) (p' : Process) → IsAsked may policy queues n slots slots' p r p' → names slots' ≡ names slots
-once may policy queues n slots slots' p r p' a = ap names a.once ∙ names_asked policy a.pick slots
+once : (may : List Head → ℕ → Type 0) (held : Queued → SendError → Type 0) (policy : List ℕ) (queues : List Queue) (n : ℕ) (slots slots' : List Slot) (p : Process) (r : Result OutStep StepError) (p' : Process) → IsAsked may held policy queues n slots slots' p r p' → names slots' ≡ names slots
+once may held policy queues n slots slots' p r p' a = ap names a.once ∙ names_asked policy a.pick slots
 
 -- whatever a step answers, the shelf keeps its names
-pub names_stay : (may : List Head → ℕ → Type 0) (policy : List ℕ) (queues : List Queue) (n : ℕ) (slots slots' : List Slot) (p : Process) (r : Result OutStep StepError) (p' : Process) → Asks (slots' ≡ slots) (IsAsked may policy queues n slots slots' p r p') r → names slots' ≡ names slots
-names_stay may policy queues n slots slots' p (Ok out.Idle) p' a = ap names a
-names_stay may policy queues n slots slots' p (Ok (out.Sent key)) p' a = once may policy queues n slots slots' p (Ok (out.Sent key)) p' a
-names_stay may policy queues n slots slots' p (Ok (out.Off key cause)) p' a = once may policy queues n slots slots' p (Ok (out.Off key cause)) p' a
-names_stay may policy queues n slots slots' p (Ok (out.Held why)) p' a = once may policy queues n slots slots' p (Ok (out.Held why)) p' a
-names_stay may policy queues n slots slots' p (Err NoLink) p' a = ap names a
-names_stay may policy queues n slots slots' p (Err NoIpc) p' a = absurd a
-names_stay may policy queues n slots slots' p (Err Memory) p' a = once may policy queues n slots slots' p (Err Memory) p' a
+pub names_stay : (may : List Head → ℕ → Type 0) (held : Queued → SendError → Type 0) (policy : List ℕ) (queues : List Queue) (n : ℕ) (slots slots' : List Slot) (p : Process) (r : Result OutStep StepError) (p' : Process) → Asks (slots' ≡ slots) (IsAsked may held policy queues n slots slots' p r p') r → names slots' ≡ names slots
+names_stay may held policy queues n slots slots' p (Ok out.Idle) p' a = ap names a
+names_stay may held policy queues n slots slots' p (Ok (out.Sent key)) p' a = once may held policy queues n slots slots' p (Ok (out.Sent key)) p' a
+names_stay may held policy queues n slots slots' p (Ok (out.Off key cause)) p' a = once may held policy queues n slots slots' p (Ok (out.Off key cause)) p' a
+names_stay may held policy queues n slots slots' p (Ok (out.Held why)) p' a = once may held policy queues n slots slots' p (Ok (out.Held why)) p' a
+names_stay may held policy queues n slots slots' p (Err NoLink) p' a = ap names a
+names_stay may held policy queues n slots slots' p (Err NoIpc) p' a = absurd a
+names_stay may held policy queues n slots slots' p (Err Memory) p' a = once may held policy queues n slots slots' p (Err Memory) p' a

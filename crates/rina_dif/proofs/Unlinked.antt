@@ -15,7 +15,7 @@ use Rattle.rina_data.specs.declared.loss.Lost.{Lost}
 use Rattle.rina_data.specs.declared.process.IpcProcess.{IpcProcess}
 use Rattle.rina_data.specs.declared.settings.Member.{Member}
 use Rattle.rina_data.specs.Configs.{Config, config_of}
-use Rattle.rina_data.specs.Deciding.{process_of}
+use Rattle.rina_data.specs.Deciding.{process_of, queue_settings, QueueSettings}
 use Rattle.rina_dif_law.specs.Dif.{DifSeen, with_process}
 use Rattle.rina_data.specs.Process.{Process, Queue, queue_place}
 use Rattle.rina_dif_law.specs.Losing.{Loses}
@@ -42,11 +42,11 @@ pub loses_or : (place : ℕ) (routes : List Route) (r : Result (Unit {0}) Memory
 loses_or place routes (Ok done) x x' ok err = ok
 loses_or place routes (Err e) x x' ok err = err
 
-pub loses_one : (place : ℕ) (routes : List Route) (r : Result (Unit {0}) Memory) (at : ℕ) (ps : List IpcProcess) (x x' : IpcProcess) → at < length ps → x ≡ get_or ps at x → LosesOr place routes r (process_of x) (process_of x') → x'.queues.cap ≡ x.queues.cap → LosesIn place routes r at ps (slice_set ps at x')
-loses_one place routes r at ps x x' lt read loses cap p is =
+pub loses_one : (place : ℕ) (routes : List Route) (r : Result (Unit {0}) Memory) (at : ℕ) (ps : List IpcProcess) (x x' : IpcProcess) → at < length ps → x ≡ get_or ps at x → LosesOr place routes r (process_of x) (process_of x') → queue_settings x' ≡ queue_settings x → LosesIn place routes r at ps (slice_set ps at x')
+loses_one place routes r at ps x x' lt read loses room p is =
     let here : slice_get ps at ≡ Some x = slice_get_read ps (length ps) at x refl lt read in
     let same : x ≡ p = same_some (slice_get ps at) x p here is in
-    (x', subst (λ (z : IpcProcess). LosesOr place routes r (process_of z) (process_of x')) same loses, subst (λ (z : IpcProcess). x'.queues.cap ≡ z.queues.cap) same cap, refl)
+    (x', subst (λ (z : IpcProcess). LosesOr place routes r (process_of z) (process_of x')) same loses, subst (λ (z : IpcProcess). queue_settings x' ≡ queue_settings z) same room, refl)
 
 -- Its queues keep their places
 
@@ -84,13 +84,13 @@ hop_after g members plans member p have knows dst n qos hop known =
     let l = live_hop members plans member p.links p.routes dst n knows hop in
     subst (λ (m : ℕ). IsSome (queue_place qos m p.queues)) l.4 (have l.0 qos l.1 l.2 l.3 known)
 
-housed_after : (g : Config) (ps : List IpcProcess) (at : ℕ) (p p' : IpcProcess) (place : ℕ) (link : Link) (routes : List Route) (members : List Member) (plans : List LinkPlan) (member : Member) → AreHoused g ps → slice_get ps at ≡ Some p → p'.queues.cap ≡ p.queues.cap → slice_get p.links place ≡ Some link → process_of p' ≡ without_link place link routes (process_of p)
+housed_after : (g : Config) (ps : List IpcProcess) (at : ℕ) (p p' : IpcProcess) (place : ℕ) (link : Link) (routes : List Route) (members : List Member) (plans : List LinkPlan) (member : Member) → AreHoused g ps → slice_get ps at ≡ Some p → queue_settings p' ≡ queue_settings p → slice_get p.links place ≡ Some link → process_of p' ≡ without_link place link routes (process_of p)
     → KnowsLive members plans member (slice_set p.links place (record link { live = false })) routes → AreHoused g (slice_set ps at p')
-housed_after g ps at p p' place link routes members plans member housed is cap there new knows =
+housed_after g ps at p p' place link routes members plans member housed is room there new knows =
     let old = housed at p is in
     let have = have_after g (process_of p) place link routes there old.links in
     let has = hop_after g members plans member (without_link place link routes (process_of p)) have knows in
-    set_cases (IsHoused g) ps at p' (record { cap = cap ∙ old.cap; links = subst (HaveQueues g) (sym new) have; queues = subst (HasQueues g) (sym new) has }) housed
+    set_cases (IsHoused g) ps at p' (record { cap = ap (λ (s : QueueSettings). s.cap) room ∙ old.cap; links = subst (HaveQueues g) (sym new) have; queues = subst (HasQueues g) (sym new) has }) housed
 
 routed_after : (members : List Member) (plans : List LinkPlan) (ps : List IpcProcess) (at : ℕ) (p p' : IpcProcess) (place : ℕ) (link : Link) (routes : List Route) (member : Member) → HaveRoutes members plans ps → slice_get ps at ≡ Some p → slice_get members at ≡ Some member → process_of p' ≡ without_link place link routes (process_of p)
     → KnowsLive members plans member (slice_set p.links place (record link { live = false })) routes → HaveRoutes members plans (slice_set ps at p')
@@ -113,8 +113,8 @@ pub record HasLost (d : Dif) (lines : List Direction) (below : Seen) (at place n
   pub holds : Holds d' lines below
 
 pub link_lost : (d : Dif) (lines : List Direction) (below : Seen) (at : ℕ) (lost : Lost) (routes : List Route) (member : Member) (p p' : IpcProcess) → slice_get d.settings.members at ≡ Some member → slice_get d.processes at ≡ Some p → KnowsWithout d at lost.place routes
-    → LosesAt lost.place routes (process_of p) (process_of p') → p'.queues.cap ≡ p.queues.cap → Holds d lines below → FindsLostAt d below at (Some lost) → HasLost d lines below at lost.place lost.number (record d { processes = slice_set d.processes at p' })
-link_lost d lines below at lost routes member p p' is_member is knows loses cap h finds =
+    → LosesAt lost.place routes (process_of p) (process_of p') → queue_settings p' ≡ queue_settings p → Holds d lines below → FindsLostAt d below at (Some lost) → HasLost d lines below at lost.place lost.number (record d { processes = slice_set d.processes at p' })
+link_lost d lines below at lost routes member p p' is_member is knows loses room h finds =
     let f = finds p is in
     let link : Link = f.0 in
     let there = f.1.lost.stands in
@@ -139,7 +139,7 @@ link_lost d lines below at lost routes member p p' is_member is knows loses cap 
         accounted = lost_accounted (seen_of d) lines below at lost.number routes d' h.accounted gone;
         caused = process_caused (seen_of d) d' below at _ gone.new_is h.caused;
         written_off = lost_written (seen_of d) lines below at lost.number routes d' h.standing h.written_off gone;
-        housed = housed_after (config_of d.settings) d.processes at p p' lost.place link routes d.settings.members d.laid.links member h.housed is cap there new known;
+        housed = housed_after (config_of d.settings) d.processes at p p' lost.place link routes d.settings.members d.laid.links member h.housed is room there new known;
         routed = routed_after d.settings.members d.laid.links d.processes at p p' lost.place link routes member h.routed is is_member new known;
       };
     }
@@ -153,10 +153,10 @@ lost_with d lines below at node place number mid new l fails = record {
 }
 
 -- memory was wanted
-pub keeps_links : (d : Dif) (lines : List Direction) (below : Seen) (at : ℕ) (p p' : IpcProcess) (ps : List IpcProcess) → slice_get d.processes at ≡ Some p → process_of p' ≡ process_of p → p'.queues.cap ≡ p.queues.cap → ps ≡ slice_set d.processes at p' → Holds d lines below → (seen_of (record d { processes = ps }) ≡ seen_of d) × Holds (record d { processes = ps }) lines below
-keeps_links d lines below at p p' ps is same cap new h =
+pub keeps_links : (d : Dif) (lines : List Direction) (below : Seen) (at : ℕ) (p p' : IpcProcess) (ps : List IpcProcess) → slice_get d.processes at ≡ Some p → process_of p' ≡ process_of p → queue_settings p' ≡ queue_settings p → ps ≡ slice_set d.processes at p' → Holds d lines below → (seen_of (record d { processes = ps }) ≡ seen_of d) × Holds (record d { processes = ps }) lines below
+keeps_links d lines below at p p' ps is same room new h =
     let seen = unseen d at p p' ps is same new in
-    let house = home_set d lines below at p p' ps h is cap (house_is (process_of p) (process_of p) (process_of p') same (same_house (process_of p))) new in
+    let house = home_set d lines below at p p' ps h is room (house_is (process_of p) (process_of p) (process_of p') same (same_house (process_of p))) new in
     (seen, holds_unseen d ps lines below seen house h)
 
 pub has_member : (d : Dif) (at : ℕ) → at < length d.settings.members → (m : Member) × (slice_get d.settings.members at ≡ Some m)

@@ -1,5 +1,5 @@
 -- Whatever a call of a DIF writes off, it may write off.
-use Rattle.std.proofs.Common.{◌≡◌, ℕ, List, [], slice_set, Option, Some, None, Result, Ok, Err, refl, sym, ap, subst, arith, inl, inr, ◌⊎◌}
+use Rattle.std.proofs.Common.{◌≡◌, ℕ, List, [], Option, Some, None, Result, Ok, Err, refl, sym, subst, arith, inl, inr}
 use Rattle.rina_account.specs.declared.ledger.Off.{Off}
 use Rattle.rina_base.specs.declared.cause.Cause.{Cause}
 use Rattle.rina_base.specs.declared.cause.Cause.TheVariants as causes
@@ -37,13 +37,13 @@ use Rattle.rina_dif_law.proofs.Writing.{IsNoted, noted_as, noted_on, quiet_noted
 use Rattle.rina_dif.specs.declared.dif.Dif.{Dif}
 use Rattle.rina_dif.specs.Clocking.{ClockSteps, ClockStepsAt, Steps, StepsFlow, StepsLost, StepsOk}
 use Rattle.rina_dif.specs.Facade.{PassesAt}
-use Rattle.rina_dif.specs.Freeing.{FreesAt, FreesEnd, IsFreed}
+use Rattle.rina_dif.specs.Freeing.{FreesAt, FreesEnd}
 use Rattle.rina_dif.specs.Holding.{Holds}
 use Rattle.rina_dif.specs.Sending.{SendsAt}
 use Rattle.rina_dif.specs.Shown.{seen_of}
 use Rattle.rina_dif.specs.Steps.{AtHome, OutsAt}
 use Rattle.rina_dif.specs.Taking.{InsAt, TakesHome}
-use Rattle.rina_dif.specs.WriteOffs.{MayByClock, MayFailWith}
+use Rattle.rina_dif.specs.WriteOffs.{MayByClock}
 
 -- at the IPC process of a node, or nothing is done
 by_home : (P : Type 0) (o : Option ℕ) (does : ℕ → Type 0) (refuses : Type 0) → ((i : ℕ) → does i → P) → (refuses → P) → AtHome o does refuses → P

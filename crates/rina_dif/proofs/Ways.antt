@@ -16,7 +16,7 @@ use Rattle.rina_data.specs.Fitting.{IsQos}
 use Rattle.rina_flows.specs.Tied.{ids_of}
 use Rattle.rina_dif.specs.declared.dif.Dif.{Dif}
 use Rattle.rina_dif.specs.Holding.{AreHoused}
-use Rattle.rina_dif.specs.Sending.{IsWay}
+use Rattle.rina_dif.specs.Sending.{IsFirstHop}
 use Rattle.rina_dif.proofs.Putting.{is_there, room_there}
 
 -- what the queue of a next hop refuses
@@ -35,7 +35,7 @@ no_room d node conn need i p link room housed known here is hop tells lt =
     let room_is : d.settings.cap - length (waiting (ids_of conn).qos link p.queues.queues.items) ≡ room = ap (λ (n : ℕ). n - length (waiting (ids_of conn).qos link p.queues.queues.items)) (sym h.cap) ∙ sym tells in
     by_queue d.settings.cap need (ids_of conn) d.processes (home node (config_of d.settings).members) i p link here is hop there ∙ ap (by_room need) room_is ∙ over need room lt
 
-pub way_is : (d : Dif) (node : ℕ) (conn : Conn) (need i : ℕ) (p : IpcProcess) (link room : ℕ) → AreHoused (config_of d.settings) d.processes → IsQos (config_of d.settings) (ids_of conn).qos → home node (config_of d.settings).members ≡ Some i → slice_get d.processes i ≡ Some p → next_hop (ids_of conn).far p.routes ≡ Some link → room ≡ p.queues.cap - length (waiting (ids_of conn).qos link p.queues.queues.items) → need ≤ room → 1 ≤ need → IsWay d node (ids_of conn) need i link
+pub way_is : (d : Dif) (node : ℕ) (conn : Conn) (need i : ℕ) (p : IpcProcess) (link room : ℕ) → AreHoused (config_of d.settings) d.processes → IsQos (config_of d.settings) (ids_of conn).qos → home node (config_of d.settings).members ≡ Some i → slice_get d.processes i ≡ Some p → next_hop (ids_of conn).far p.routes ≡ Some link → room ≡ p.queues.cap - length (waiting (ids_of conn).qos link p.queues.queues.items) → need ≤ room → 1 ≤ need → IsFirstHop d node (ids_of conn) need i link
 way_is d node conn need i p link room housed known here is hop tells le some =
     let h = housed i p is in
     record {

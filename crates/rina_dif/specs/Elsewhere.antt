@@ -1,26 +1,33 @@
 -- What a call at a DIF leaves as it was.
-use Rattle.std.specs.Prelude.{◌≡◌, ℕ, List, slice_get, Option, Some, Result, Ok, Err}
+use Rattle.std.specs.Prelude.{◌≡◌, ℕ, List, map, slice_get, Option, Some, Result, Ok, Err}
 use Rattle.rina_base.specs.declared.number.Key.{Key}
 use Rattle.rina_base.specs.declared.number.Port.{Port}
 use Rattle.rina_iface.specs.declared.ends.End.{End}
 use Rattle.rina_iface.specs.Ends.{place_in}
 use Rattle.rina_iface.specs.Journal.{At}
+use Rattle.rina_data.specs.declared.process.IpcProcess.{IpcProcess}
 use Rattle.rina_data.specs.declared.step.ClockStep.{ClockStep}
 use Rattle.rina_data.specs.declared.step.ClockStep.TheVariants as clock
 use Rattle.rina_data.specs.declared.step.InStep.{InStep}
 use Rattle.rina_data.specs.declared.step.InStep.TheVariants.{Took}
 use Rattle.rina_data.specs.declared.step.StepError.{StepError}
 use Rattle.rina_data.specs.Configs.{config_of}
+use Rattle.rina_data.specs.Deciding.{queue_settings}
 use Rattle.rina_dif_law.specs.Ids.{Ids}
 use Rattle.rina_dif_law.specs.Sending.{home}
 use Rattle.rina_flows.specs.Elsewhere.{ChangesAt, SameBut}
 use Rattle.rina_flows.specs.Tied.{conns_of}
 use Rattle.rina_dif.specs.declared.dif.Dif.{Dif}
 
+-- the IPC process at this place may change, where there is one, and no other does; and of each, that one too, a queue
+-- holds as many PDUs as before, and the cubes for which it makes queues when a link is added are the same
+abbrev pub ChangesProcess : Option ℕ → List IpcProcess → List IpcProcess → Type 0
+ChangesProcess process old new = SameBut (λ i. process ≡ Some i) old new × (map queue_settings new ≡ map queue_settings old)
+
 -- the ends at these places may change, with their connections, and the IPC process at this place, where there is one; no
 -- other end, no other connection and no other IPC process does
 abbrev pub ChangesOnly : (ℕ → Type 0) → Option ℕ → Dif → Dif → Type 0
-ChangesOnly Ends process d d' = ChangesAt Ends d.flows d'.flows × SameBut (λ i. process ≡ Some i) d.processes d'.processes
+ChangesOnly Ends process d d' = ChangesAt Ends d.flows d'.flows × ChangesProcess process d.processes d'.processes
 
 -- the place of the IPC process at a node
 abbrev pub home_of : Dif → ℕ → Option ℕ

@@ -102,6 +102,12 @@ pub record IsNewProcess (g : Config) (node : ℕ) (ports : List Port) (process :
   pub queues : HasEmptyQueues g process
   pub ledger : process.ledger ≡ []
 
+-- a queue of an IPC process holds as many PDUs as its DIF says; when a link is added it makes one queue for management, and
+-- one for each cube of the DIF
+pub record HasQueuesOf (s : Settings) (p : IpcProcess) : Type 0 where
+  pub cap : p.queues.cap ≡ s.cap
+  pub cubes : AreIds (queue_ids s.cubes) p.queues.cubes
+
 -- the i-th DIF of the stack when it was made: the settings of the plan, its links bound below in stack order, the
 -- next hops over them, and no flows, names and objects that requests left
 pub record IsNew (plan : Plan) (i : ℕ) (d : Dif) (old new : Seen) : Type 0 where
@@ -111,6 +117,7 @@ pub record IsNew (plan : Plan) (i : ℕ) (d : Dif) (old new : Seen) : Type 0 whe
   pub ports : List (Port × Port)
   pub bound : BindsAll old (links_of plan i) ports new
   pub processes : (k : ℕ) (member : Kept) (p : IpcProcess) → slice_get d.settings.members k ≡ Some member → slice_get d.processes k ≡ Some p → IsNewProcess (config_of d.settings) member.node (ends_of ports) (process_of p)
+  pub queues : (k : ℕ) (p : IpcProcess) → slice_get d.processes k ≡ Some p → HasQueuesOf d.settings p
   pub routed : (dif : DifPlan) → slice_get plan.difs i ≡ Some dif → HaveRoutes d.settings.members dif.links d.processes
   pub ends : d.flows.journal.ends ≡ []
   pub conns : d.flows.conns ≡ []

@@ -17,6 +17,7 @@ use Rattle.rina_queue.specs.declared.queue.Queue.{Queue}
 use Rattle.rina_queue.specs.declared.queue.Queued.{Queued}
 use Rattle.rina_queue.specs.Queues.{Changes, queue_place, waiting, with_items}
 use Rattle.rina_data.specs.declared.process.IpcProcess.{IpcProcess}
+use Rattle.rina_data.specs.Deciding.{queue_settings}
 use Rattle.rina_data.specs.Configs.{config_of}
 use Rattle.rina_data.specs.Process.{next_hop}
 use Rattle.rina_dif_law.specs.Ids.{Ids}
@@ -24,16 +25,16 @@ use Rattle.rina_dif_law.specs.Sending.{Offers, home, refused_at}
 use Rattle.rina_flows.specs.Calls.{AreParts, AreTied, TellsNeed}
 use Rattle.rina_flows.specs.Tied.{IsAt, ids_of}
 use Rattle.rina_dif.specs.declared.dif.Dif.{Dif}
-use Rattle.rina_dif.specs.declared.send.Way.{Way}
+use Rattle.rina_dif.specs.declared.send.FirstHop.{FirstHop}
 use Rattle.rina_dif.specs.Holding.{Holds}
 use Rattle.rina_dif.specs.Shown.{seen_of}
 
 -- the refusal of a sender, as the DIF tells it
-abbrev pub told_as : OfferError → SendError
-told_as offer.Memory = Memory
-told_as (offer.TooLong len max) = TooLong len max
-told_as (offer.WindowShut need room) = WindowShut need room
-told_as (offer.NumbersSpent until) = NumbersSpent until
+abbrev pub send_error : OfferError → SendError
+send_error offer.Memory = Memory
+send_error (offer.TooLong len max) = TooLong len max
+send_error (offer.WindowShut need room) = WindowShut need room
+send_error (offer.NumbersSpent until) = NumbersSpent until
 
 -- PDUs that are made at a tick, as they wait
 abbrev pub queued : ℕ → ℕ → List Pdu → List Queued
@@ -51,7 +52,7 @@ AreOf qos pdus = (k : ℕ) (pdu : Pdu) → slice_get pdus k ≡ Some pdu → pdu
 -- more PDUs wait in the queue of a cube and link, and nothing else changes
 pub record HasPut (qos link : ℕ) (items : List Queued) (p p' : IpcProcess) : Type 0 where
   pub queues : Changes qos link (λ (q : Queue). with_items (q.ring.items ++ items) q) p.queues.queues.items p'.queues.queues.items
-  pub cap : p'.queues.cap ≡ p.queues.cap
+  pub kept : queue_settings p' ≡ queue_settings p
   pub links : p'.links ≡ p.links
   pub routes : p'.routes ≡ p.routes
   pub ledger : p'.ledger ≡ p.ledger
@@ -61,7 +62,7 @@ abbrev pub Puts : ℕ → ℕ → List Queued → ℕ → List IpcProcess → Li
 Puts qos link items at old new = (p : IpcProcess) → slice_get old at ≡ Some p → (p' : IpcProcess) × HasPut qos link items p p' × (new ≡ slice_set old at p')
 
 -- the IPC process at a node has a next hop to the far end, link n, whose queue has room for so many pieces
-pub record IsWay (d : Dif) (node : ℕ) (ids : Ids) (count i n : ℕ) : Type 0 where
+pub record IsFirstHop (d : Dif) (node : ℕ) (ids : Ids) (count i n : ℕ) : Type 0 where
   pub at_home : home node (config_of d.settings).members ≡ Some i
   pub process : IpcProcess
   pub is_process : slice_get d.processes i ≡ Some process
@@ -74,7 +75,7 @@ IsBarred d at sdu e = (lines : List Direction) (parts : List Part) → AreTied (
 
 -- it refuses this SDU at most because its numbers are spent: it is allocated, the SDU is not too long, the window has
 -- room for its pieces, and so has the queue of their next hop
-pub record IsAdmitted (d : Dif) (at : ℕ) (sdu : List ℕ) (way : Way) : Type 0 where
+pub record IsAdmitted (d : Dif) (at : ℕ) (sdu : List ℕ) (way : FirstHop) : Type 0 where
   pub end : End
   pub conn : Conn
   pub is_at : IsAt d.flows.journal.ends d.flows.conns at end conn
@@ -85,7 +86,7 @@ pub record IsAdmitted (d : Dif) (at : ℕ) (sdu : List ℕ) (way : Way) : Type 0
   pub room : ℕ
   pub told_room : TellsRoom d.clock conn.sending room
   pub within : need ≤ room
-  pub goes : IsWay d end.port.node (ids_of conn) need way.home way.link
+  pub goes : IsFirstHop d end.port.node (ids_of conn) need way.home way.link
   pub qos : way.qos ≡ (ids_of conn).qos
   pub left : way.left ≡ conn.sending.form.cube.mpl
 

@@ -5,6 +5,7 @@ use Rattle.rina_iface.specs.declared.error.SendError.{SendError}
 use Rattle.rina_iface.specs.Seen.{Seen}
 use Rattle.rina_policy.specs.declared.policy.Head.{Head}
 use Rattle.rina_policy.specs.Slots.{Slot}
+use Rattle.rina_queue.specs.declared.queue.Queued.{Queued}
 use Rattle.rina_data.specs.declared.process.IpcProcess.{IpcProcess}
 use Rattle.rina_data.specs.declared.settings.Member.{Member}
 use Rattle.rina_data.specs.declared.settings.Settings.{Settings}
@@ -12,10 +13,11 @@ use Rattle.rina_data.specs.declared.step.OutStep.{OutStep}
 use Rattle.rina_data.specs.declared.step.StepError.{StepError}
 use Rattle.rina_data.specs.declared.step.StepError.TheVariants.{Memory, NoIpc}
 use Rattle.rina_data.specs.Configs.{Config, config_of}
-use Rattle.rina_data.specs.Deciding.{process_of}
+use Rattle.rina_data.specs.Deciding.{process_of, queue_settings}
 use Rattle.rina_dif_law.specs.Dif.{DifSeen}
 use Rattle.rina_data.specs.Leaving.{Asks, CanGo, IsAsked}
 use Rattle.rina_data.specs.Outgoing.{Goes}
+use Rattle.rina_data.specs.Process.{Process}
 use Rattle.rina_dif_law.specs.Outgoing.{Outs}
 use Rattle.rina_dif_law.specs.Sending.{home}
 
@@ -33,17 +35,18 @@ WillGo g now below n at processes = (p : IpcProcess) → slice_get processes at 
 -- it takes one, and no other does anything
 abbrev pub Leaves : (Port → ℕ → Option SendError) → Config → ℕ → Seen → ℕ → Result OutStep StepError → Seen → ℕ → List IpcProcess → List IpcProcess → Type 0
 Leaves refuses g now below n result below' at old new =
-    (p : IpcProcess) → slice_get old at ≡ Some p → (p' : IpcProcess) × Goes refuses g now (process_of p) below n result (process_of p') below' × (p'.queues.cap ≡ p.queues.cap) × (new ≡ slice_set old at p')
+    (p : IpcProcess) → slice_get old at ≡ Some p → (p' : IpcProcess) × Goes refuses g now (process_of p) below n result (process_of p') below' × (queue_settings p' ≡ queue_settings p) × (new ≡ slice_set old at p')
 
--- the shelf is asked by the number of that IPC process, once where a PDU waits, and its answer is followed
-abbrev pub AsksAt : (ℕ → List Head → ℕ → Type 0) → Settings → ℕ → ℕ → List Slot → List Slot → List IpcProcess → Result OutStep StepError → List IpcProcess → Type 0
-AsksAt may settings n at slots slots' old result new =
+-- the shelf is asked by the number of that IPC process, once where a PDU waits, and its answer is followed; `held` is
+-- what is said of a PDU that is held
+abbrev pub AsksAt : (ℕ → List Head → ℕ → Type 0) → (Process → Queued → SendError → Type 0) → Settings → ℕ → ℕ → List Slot → List Slot → List IpcProcess → Result OutStep StepError → List IpcProcess → Type 0
+AsksAt may held settings n at slots slots' old result new =
     (member : Member) (p p' : IpcProcess) → slice_get settings.members at ≡ Some member → slice_get old at ≡ Some p → slice_get new at ≡ Some p' →
-    Asks (slots' ≡ slots) (IsAsked (may member.number) settings.policy p.queues.queues.items n slots slots' (process_of p) result (process_of p')) result
+    Asks (slots' ≡ slots) (IsAsked (may member.number) (held (process_of p)) settings.policy p.queues.queues.items n slots slots' (process_of p) result (process_of p')) result
 
-abbrev pub AsksHome : (ℕ → List Head → ℕ → Type 0) → Settings → ℕ → ℕ → List Slot → List Slot → List IpcProcess → Result OutStep StepError → List IpcProcess → Type 0
-AsksHome may settings node n slots slots' old result new =
-    AtHome (home node (config_of settings).members) (λ at. AsksAt may settings n at slots slots' old result new) (slots' ≡ slots)
+abbrev pub AsksHome : (ℕ → List Head → ℕ → Type 0) → (Process → Queued → SendError → Type 0) → Settings → ℕ → ℕ → List Slot → List Slot → List IpcProcess → Result OutStep StepError → List IpcProcess → Type 0
+AsksHome may held settings node n slots slots' old result new =
+    AtHome (home node (config_of settings).members) (λ at. AsksAt may held settings n at slots slots' old result new) (slots' ≡ slots)
 
 -- what `out_step` does at link n of the IPC process at a node, where `refuses` is what the facility below refuses by
 -- what it alone knows

@@ -16,7 +16,7 @@ use Rattle.rina_data.specs.declared.step.Took.TheVariants as took
 use Rattle.rina_dif_law.specs.Cloud.{Everywhere, IsOnWay}
 use Rattle.rina_data.specs.Hops.{Hop}
 use Rattle.rina_data.specs.Configs.{Member, config_of}
-use Rattle.rina_data.specs.Deciding.{Decides, IsRouted, process_of}
+use Rattle.rina_data.specs.Deciding.{Decides, IsRouted, process_of, queue_settings}
 use Rattle.rina_dif_law.specs.Dif.{DifSeen, IsProcess}
 use Rattle.rina_data.specs.Process.{Process}
 use Rattle.rina_dif_law.specs.Incoming.{Ins, Settles}
@@ -37,7 +37,7 @@ use Rattle.rina_dif.specs.Steps.{AtHome}
 -- it decides on a PDU that came at tick `since`
 abbrev pub DecidesAt : ℕ → ℕ → ℕ → Hop → Result Decision NoMemory → ℕ → List IpcProcess → List IpcProcess → Type 0
 DecidesAt now addr since hop result at old new =
-    (p : IpcProcess) → slice_get old at ≡ Some p → (p' : IpcProcess) × Decides p.queues.cap now addr (process_of p) since hop result (process_of p') × (p'.queues.cap ≡ p.queues.cap) × (new ≡ slice_set old at p')
+    (p : IpcProcess) → slice_get old at ≡ Some p → (p' : IpcProcess) × Decides p.queues.cap now addr (process_of p) since hop result (process_of p') × (queue_settings p' ≡ queue_settings p) × (new ≡ slice_set old at p')
 
 -- which has a queue for it
 abbrev pub RoutesAt : Hop → ℕ → List IpcProcess → Type 0
@@ -50,7 +50,7 @@ IsNoted process pdu cause (Err e) process' = process' ≡ process
 
 abbrev pub NotesAt : Pdu → Cause → Result (Unit {0}) NoMemory → ℕ → List IpcProcess → List IpcProcess → Type 0
 NotesAt pdu cause result at old new =
-    (p : IpcProcess) → slice_get old at ≡ Some p → (p' : IpcProcess) × IsNoted (process_of p) pdu cause result (process_of p') × (p'.queues.cap ≡ p.queues.cap) × (new ≡ slice_set old at p')
+    (p : IpcProcess) → slice_get old at ≡ Some p → (p' : IpcProcess) × IsNoted (process_of p) pdu cause result (process_of p') × (queue_settings p' ≡ queue_settings p) × (new ≡ slice_set old at p')
 
 -- a piece comes to a connection, and what is written off stands in its ledger
 abbrev pub ArrivesTo : ℕ → ℕ → Pdu → ℕ → Flows → List IpcProcess → Result (Option Cause) NoMemory → Flows → List IpcProcess → Type 0

@@ -13,7 +13,7 @@ use Rattle.rina_data.specs.declared.process.IpcProcess.{IpcProcess}
 use Rattle.rina_data.specs.declared.step.Decision.{Decision}
 use Rattle.rina_data.specs.Hops.{Hop}
 use Rattle.rina_data.specs.Configs.{config_of}
-use Rattle.rina_data.specs.Deciding.{Forwards, process_of}
+use Rattle.rina_data.specs.Deciding.{Forwards, process_of, queue_settings}
 use Rattle.rina_dif_law.specs.Ending.{IsGivenUp}
 use Rattle.rina_dif_law.specs.Sending.{home}
 use Rattle.rina_dif_law.specs.Timely.{IsAcknowledged, IsForgotten, IsResent}
@@ -67,7 +67,7 @@ GivesUpAs d lines below at (Err e) d' = d' ≡ d
 
 -- the IPC process at a place puts it into the queue of its next hop, or writes it off
 abbrev pub ForwardsAt : ℕ → Hop → Result Decision Memory → ℕ → List IpcProcess → List IpcProcess → Type 0
-ForwardsAt now hop result at old new = (p : IpcProcess) → slice_get old at ≡ Some p → (p' : IpcProcess) × Forwards p.queues.cap (process_of p) now hop result (process_of p') × (p'.queues.cap ≡ p.queues.cap) × (new ≡ slice_set old at p')
+ForwardsAt now hop result at old new = (p : IpcProcess) → slice_get old at ≡ Some p → (p' : IpcProcess) × Forwards p.queues.cap (process_of p) now hop result (process_of p') × (queue_settings p' ≡ queue_settings p) × (new ≡ slice_set old at p')
 
 -- An acknowledgement that is made
 

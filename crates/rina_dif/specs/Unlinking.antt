@@ -12,7 +12,7 @@ use Rattle.rina_data.specs.declared.link.Route.{Route}
 use Rattle.rina_data.specs.declared.loss.Lost.{Lost}
 use Rattle.rina_data.specs.declared.process.IpcProcess.{IpcProcess}
 use Rattle.rina_data.specs.declared.settings.Member.{Member}
-use Rattle.rina_data.specs.Deciding.{process_of}
+use Rattle.rina_data.specs.Deciding.{process_of, queue_settings}
 use Rattle.rina_dif_law.specs.Dif.{DifSeen}
 use Rattle.rina_data.specs.Process.{Process}
 use Rattle.rina_dif_law.specs.Losing.{FailAll, Loses, NoneLive}
@@ -62,7 +62,7 @@ LosesOr place routes (Err e) p p' = p' ≡ p
 
 -- and no other does anything
 abbrev pub LosesIn : ℕ → List Route → Result (Unit {0}) Memory → ℕ → List IpcProcess → List IpcProcess → Type 0
-LosesIn place routes result at old new = (p : IpcProcess) → slice_get old at ≡ Some p → (p' : IpcProcess) × LosesOr place routes result (process_of p) (process_of p') × (p'.queues.cap ≡ p.queues.cap) × (new ≡ slice_set old at p')
+LosesIn place routes result at old new = (p : IpcProcess) → slice_get old at ≡ Some p → (p' : IpcProcess) × LosesOr place routes result (process_of p) (process_of p') × (queue_settings p' ≡ queue_settings p) × (new ≡ slice_set old at p')
 
 -- it loses the link at a place, and then all allocated ends at a node are in another state, with their lines behind
 pub record LosesThenStops (now node : ℕ) (state : PortState) (place : ℕ) (routes : List Route) (old : Flows) (p : IpcProcess) (new : Flows) (p' : IpcProcess) : Type 0 where
@@ -79,7 +79,7 @@ LosesLast now node state place routes old p (Err e) new p' = (new ≡ old) × (p
 
 -- and no other does anything
 abbrev pub LosesLastIn : ℕ → ℕ → PortState → ℕ → List Route → Result (Unit {0}) Memory → ℕ → Flows → List IpcProcess → Flows → List IpcProcess → Type 0
-LosesLastIn now node state place routes result at flows old flows' new = (p : IpcProcess) → slice_get old at ≡ Some p → (p' : IpcProcess) × LosesLast now node state place routes flows p result flows' p' × (p'.queues.cap ≡ p.queues.cap) × (new ≡ slice_set old at p')
+LosesLastIn now node state place routes result at flows old flows' new = (p : IpcProcess) → slice_get old at ≡ Some p → (p' : IpcProcess) × LosesLast now node state place routes flows p result flows' p' × (queue_settings p' ≡ queue_settings p) × (new ≡ slice_set old at p')
 
 -- What changes of the DIF
 

@@ -9,7 +9,7 @@ ghost use Rattle.rina_data.specs.Losing.{FindsLost};
 ghost use Rattle.rina_dif_law.specs.Losing.{NoneLive};
 ghost use Rattle.rina_dif_law.specs.Sending.{home};
 ghost use Rattle.rina_flows.specs.Elsewhere.{SameBut};
-ghost use Rattle.rina_dif.specs.Elsewhere.{ChangesOnly, IsEndOf, WhenOk};
+ghost use Rattle.rina_dif.specs.Elsewhere.{ChangesOnly, ChangesProcess, IsEndOf, WhenOk};
 ghost use Rattle.rina_dif.specs.Holding.{Holds, Stands};
 ghost use Rattle.rina_dif.specs.Unlinking.{FindsLostAt, FindsNoneLeft, HasFailed, KnowsWithout, LosesAs, TellsNoneLeft, links_without};
 
@@ -91,7 +91,7 @@ impl Dif {
         ensures same { (self.new.settings ≡ self.old.settings) × (self.new.failed ≡ self.old.failed) }
         ensures laid { self.new.laid ≡ self.old.laid }
         ensures whole { self.new ≡ record self.old { processes = self.new.processes; flows = self.new.flows } }
-        ensures leaves { SameBut (λ i. Some at ≡ Some i) self.old.processes self.new.processes }
+        ensures leaves { ChangesProcess (Some at) self.old.processes self.new.processes }
         ensures flows { self.new.flows ≡ self.old.flows }
     {
         let routes = self.routes_left(alloc, at, lost.place)?;

@@ -8,9 +8,10 @@ ghost use Rattle.rina_dif_law.specs.Outgoing.{Outs};
 ghost use Rattle.rina_dif_law.specs.Sending.{home};
 ghost use Rattle.rina_dif_law.specs.Upward.{IsSilent};
 ghost use Rattle.rina_data.specs.declared.step.StepError.TheVariants.{Memory};
+ghost use Rattle.rina_data.specs.Configs.{config_of};
 ghost use Rattle.rina_data.specs.Lower.{SendsBelow};
-ghost use Rattle.rina_flows.specs.Elsewhere.{SameBut};
-ghost use Rattle.rina_dif.specs.Elsewhere.{home_of};
+ghost use Rattle.rina_data.specs.Outgoing.{IsHeld};
+ghost use Rattle.rina_dif.specs.Elsewhere.{ChangesProcess, home_of};
 ghost use Rattle.rina_dif.specs.Facade.{GoesOn, OthersStand};
 ghost use Rattle.rina_dif.specs.Holding.{Holds, Stands};
 ghost use Rattle.rina_dif.specs.Shown.{seen_of};
@@ -42,12 +43,12 @@ impl Dif {
         ensures does { Outs (F.refuses_send below.old) (seen_of self.old) (F.seen below.old) at link result (seen_of self.new) (F.seen below.new) }
         ensures lower { SendsBelow (below.new ≡ below.old) (SendsAsSeen F.seen F.refuses_send F.does_send below.old below.new) result }
         ensures keeps { (lines : List Direction) → Holds self.old lines (F.seen below.old) → Holds self.new lines (F.seen below.new) }
-        ensures shelf { AsksAt (S.may_answer shelf.old self.old.settings.policy) self.old.settings link at (S.slots shelf.old) (S.slots shelf.new) self.old.processes result self.new.processes }
+        ensures shelf { AsksAt (S.may_answer shelf.old self.old.settings.policy) (IsHeld (F.refuses_send below.old) (config_of self.old.settings) self.old.clock (F.seen below.old) link) self.old.settings link at (S.slots shelf.old) (S.slots shelf.new) self.old.processes result self.new.processes }
         ensures names { map (λ (x : Slot). x.name) (S.slots shelf.new) ≡ map (λ (x : Slot). x.name) (S.slots shelf.old) }
         ensures settings { self.new.settings ≡ self.old.settings }
         ensures laid { self.new.laid ≡ self.old.laid }
         ensures whole { self.new ≡ record self.old { processes = self.new.processes } }
-        ensures leaves { SameBut (λ i. Some at ≡ Some i) self.old.processes self.new.processes }
+        ensures leaves { ChangesProcess (Some at) self.old.processes self.new.processes }
         ensures failed { self.new.failed ≡ self.old.failed }
     {
         self.processes
@@ -78,8 +79,8 @@ impl Dif {
         ensures settings { self.new.settings ≡ self.old.settings }
         ensures laid { self.new.laid ≡ self.old.laid }
         ensures whole { self.new ≡ record self.old { processes = self.new.processes; failed = self.new.failed } }
-        ensures leaves { SameBut (λ i. home_of self.old node ≡ Some i) self.old.processes self.new.processes }
-        ensures shelf { self.old.failed ≡ false → AsksHome (S.may_answer shelf.old self.old.settings.policy) self.old.settings node link (S.slots shelf.old) (S.slots shelf.new) self.old.processes result self.new.processes }
+        ensures leaves { ChangesProcess (home_of self.old node) self.old.processes self.new.processes }
+        ensures shelf { self.old.failed ≡ false → AsksHome (S.may_answer shelf.old self.old.settings.policy) (IsHeld (F.refuses_send below.old) (config_of self.old.settings) self.old.clock (F.seen below.old) link) self.old.settings node link (S.slots shelf.old) (S.slots shelf.new) self.old.processes result self.new.processes }
         ensures names { map (λ (x : Slot). x.name) (S.slots shelf.new) ≡ map (λ (x : Slot). x.name) (S.slots shelf.old) }
         ensures failed { self.old.failed ≡ true → result ≡ Err Memory }
         ensures fails { self.new.failed ≡ true ↔ (result ≡ Err Memory) }

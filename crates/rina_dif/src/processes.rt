@@ -8,8 +8,10 @@ ghost use Rattle.rina_queue.specs.declared.queue.Queue.{Queue};
 ghost use Rattle.rina_queue.specs.Queues.{Changes, queue_place, waiting, with_items};
 ghost use Rattle.rina_data.specs.declared.process.IpcProcess.{IpcProcess};
 ghost use Rattle.rina_data.specs.Configs.{config_of};
+ghost use Rattle.rina_data.specs.Deciding.{queue_settings};
 ghost use Rattle.rina_data.specs.Hops.{hop_of};
 ghost use Rattle.rina_data.specs.Lower.{SendsBelow};
+ghost use Rattle.rina_data.specs.Outgoing.{IsHeld};
 ghost use Rattle.rina_dif_law.specs.Losing.{IsAllocatedAt};
 ghost use Rattle.rina_dif.specs.Elsewhere.{WhenOk};
 ghost use Rattle.rina_dif.specs.Laying.{AddsLink, AddsLinkAt};
@@ -53,7 +55,7 @@ fn put_all(queues: &mut Queues, qos: u8, link: u16, left: u32, since: Tick, pdus
     requires cube { AreOf qos pdus.items }
     requires room { length (waiting qos link queues.old.queues.items) + length pdus.items ≤ queues.old.cap }
     ensures put { Changes qos link (λ (q : Queue). with_items (q.ring.items ++ queued left since pdus.items) q) queues.old.queues.items queues.new.queues.items }
-    ensures cap { queues.new.cap ≡ queues.old.cap }
+    ensures same { (queues.new.cap ≡ queues.old.cap) × (queues.new.cubes ≡ queues.old.cubes) }
 {
     for pdu in pdus {
         match queues.push(qos, link, Queued { pdu, left, since }) {
@@ -94,7 +96,7 @@ fn lose_last_link(
     requires place { place < length process.old.links }
     requires alike { length flows.old.journal.ends ≡ length flows.old.conns }
     ensures does { LosesLast now node state place routes flows.old process.old result flows.new process.new }
-    ensures cap { process.new.queues.cap ≡ process.old.queues.cap }
+    ensures kept { queue_settings process.new ≡ queue_settings process.old }
     ensures leaves { ChangesAt (λ i. WhenOk result (IsAllocatedAt flows.old.journal.ends node i)) flows.old flows.new }
 {
     let Some(held) = flows.held_at(node) else {
@@ -217,7 +219,7 @@ impl Processes {
         ensures later { IsLater (F.seen below.old) (F.seen below.new) }
         ensures does { Leaves (F.refuses_send below.old) (config_of settings.now) now (F.seen below.old) link result (F.seen below.new) at self.old self.new }
         ensures lower { SendsBelow (below.new ≡ below.old) (SendsAsSeen F.seen F.refuses_send F.does_send below.old below.new) result }
-        ensures shelf { AsksAt (S.may_answer shelf.old settings.now.policy) settings.now link at (S.slots shelf.old) (S.slots shelf.new) self.old result self.new }
+        ensures shelf { AsksAt (S.may_answer shelf.old settings.now.policy) (IsHeld (F.refuses_send below.old) (config_of settings.now) now (F.seen below.old) link) settings.now link at (S.slots shelf.old) (S.slots shelf.new) self.old result self.new }
         ensures names { map (λ (x : Slot). x.name) (S.slots shelf.new) ≡ map (λ (x : Slot). x.name) (S.slots shelf.old) }
     {
         let Some(member) = settings.members.get(at) else {

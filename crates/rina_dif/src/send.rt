@@ -17,7 +17,7 @@ ghost use Rattle.rina_flows.specs.Tied.{ids_of};
 ghost use Rattle.rina_dif.specs.Elsewhere.{ChangesOnly, IsPortAt, WhenOk, home_of};
 ghost use Rattle.rina_dif.specs.Facade.{GoesOn, IsShownAs, StaysStanding, own_refusal, shown_as};
 ghost use Rattle.rina_dif.specs.Holding.{AreHoused, Holds};
-ghost use Rattle.rina_dif.specs.Sending.{IsAdmitted, IsBarred, IsWay, SendsAt, Sends, told_as};
+ghost use Rattle.rina_dif.specs.Sending.{IsAdmitted, IsBarred, IsFirstHop, SendsAt, Sends, send_error};
 ghost use Rattle.rina_dif.specs.Whole.{IsDif};
 
 use crate::dif::Dif;
@@ -29,7 +29,7 @@ use std::alloc::Global;
 
 /// Where and how the pieces of an SDU wait for their first hop.
 #[derive(Clone, Copy)]
-struct Way {
+struct FirstHop {
     /// The place of the IPC process.
     home: usize,
     /// The number of its link.
@@ -67,9 +67,9 @@ fn check_window(need: u32, room: u32) -> Result<(), SendError>
     Ok(())
 }
 
-/// A sender's refusal, as the DIF tells it.
-fn told_as(error: OfferError) -> SendError
-    ensures { result ≡ told_as error }
+/// What `send` answers where the sender refuses.
+fn send_error(error: OfferError) -> SendError
+    ensures { result ≡ send_error error }
 {
     match error {
         OfferError::Memory => SendError::Memory,
@@ -81,11 +81,11 @@ fn told_as(error: OfferError) -> SendError
 
 impl Dif {
     /// Where so many pieces of a connection wait that are sent at a node.
-    fn first_hop(&self, node: Node, conn: &Conn, need: u32) -> Result<Way, SendError>
+    fn first_hop(&self, node: Node, conn: &Conn, need: u32) -> Result<FirstHop, SendError>
         requires housed { AreHoused (config_of self.now.settings) self.now.processes }
         requires qos { IsQos (config_of self.now.settings) (ids_of conn.now).qos }
         requires some { 1 ≤ need }
-        ensures ok { IfOk result (λ way. IsWay self.now node (ids_of conn.now) need way.home way.link) }
+        ensures ok { IfOk result (λ way. IsFirstHop self.now node (ids_of conn.now) need way.home way.link) }
         ensures form { IfOk result (λ way. (way.qos ≡ (ids_of conn.now).qos) × (way.left ≡ conn.now.sending.form.cube.mpl)) }
         ensures err { IfErr result (λ e. by_process self.now.settings.cap need (ids_of conn.now) (process_at (map process_of self.now.processes) (home node (config_of self.now.settings).members)) ≡ Some e) }
     {
@@ -104,7 +104,7 @@ impl Dif {
         if need > room {
             return Err(SendError::QueueFull { need, room });
         }
-        Ok(Way {
+        Ok(FirstHop {
             home,
             link,
             qos: conn.sending.form.cube.id,
@@ -113,7 +113,7 @@ impl Dif {
     }
 
     /// Tries what the end at a place refuses to an SDU, but that its numbers are spent.
-    fn admit(&self, at: usize, sdu: &[u8]) -> Result<Way, SendError>
+    fn admit(&self, at: usize, sdu: &[u8]) -> Result<FirstHop, SendError>
         requires valid { IsDif self.now }
         requires at { at < length self.now.flows.journal.ends }
         ensures ok { IfOk result (λ way. IsAdmitted self.now at sdu.now way) }
@@ -142,7 +142,7 @@ impl Dif {
         let way = self.admit(at, sdu)?;
         let made = match self.flows.offer(alloc, self.clock, at, sdu) {
             Ok(made) => made,
-            Err(error) => return Err(told_as(error)),
+            Err(error) => return Err(send_error(error)),
         };
         let pdus = made.pdus.into_vec();
         self.processes

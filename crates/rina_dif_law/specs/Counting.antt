@@ -1,5 +1,6 @@
 -- Counting pieces by their numbers.
 use Rattle.std.specs.Prelude.{◌≡◌, ℕ, zero, suc, ◌+◌, ◌==◌, if◌then◌else◌, List, [], ◌∷◌, ◌++◌}
+use Rattle.std.specs.List.Sorted.{IsStrictlyIncreasing}
 use Rattle.rina_account.specs.declared.ledger.Off.{Off}
 use Rattle.rina_law.specs.Direction.{Direction}
 use Rattle.rina_law.specs.Pieces.{Joiner, Sdu}
@@ -32,6 +33,10 @@ whole_numbers (sdu ∷ sdus) = numbers_from sdu.first sdu.pieces ++ whole_number
 abbrev pub off_numbers : List Off → List ℕ
 off_numbers [] = []
 off_numbers (off ∷ offs) = off.key.seq ∷ off_numbers offs
+
+-- these lines stand in the order of the numbers of their PDUs, which rise
+abbrev pub InOrder : List Off → Type 0
+InOrder offs = IsStrictlyIncreasing (off_numbers offs)
 
 -- these lines write off each piece that the receiver of a direction holds, once
 abbrev pub AllOff : Direction → List Off → Type 0

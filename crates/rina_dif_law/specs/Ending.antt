@@ -12,7 +12,7 @@ use Rattle.rina_iface.specs.Later.{Moves}
 use Rattle.rina_law.specs.Direction.{Direction}
 use Rattle.rina_law.specs.Lists.{In}
 use Rattle.rina_law.specs.Sender.{given_up, member}
-use Rattle.rina_dif_law.specs.Counting.{AllOff}
+use Rattle.rina_dif_law.specs.Counting.{AllOff, InOrder}
 use Rattle.rina_data.specs.Process.{Process, with_offs}
 use Rattle.rina_dif_law.specs.Dif.{DifSeen, constants}
 use Rattle.rina_data.specs.Configs.{cube_by}
@@ -21,7 +21,7 @@ use Rattle.rina_dif_law.specs.Incoming.{IsInbound, IsKeptNumber}
 use Rattle.rina_dif_law.specs.Sending.{home}
 use Rattle.rina_dif_law.specs.Standing.{IsConn}
 
--- an allocated end ends, and the pieces that its connection held are written off. Nothing changes of what was sent and
+-- an allocated end ends, and the pieces that its connection held are written off, in the order of their numbers. Nothing changes of what was sent and
 -- got, and what is still on its way finds no connection
 pub record IsEnded (d : DifSeen) (lines : List Direction) (at : ℕ) (state : PortState) (d' : DifSeen) : Type 0 where
   pub end : End
@@ -37,6 +37,7 @@ pub record IsEnded (d : DifSeen) (lines : List Direction) (at : ℕ) (state : Po
   pub dropped : List Off
   pub all_dropped : (off : Off) (from : ℕ) (line : Direction) → In off dropped → IsInbound d lines end from line → (off.key.kind ≡ APiece) × (off.key.src ≡ ids.far) × (off.key.scep ≡ ids.dcep) × IsKeptNumber line off.key.seq × (off.cause ≡ causes.NoConnection ids.scep)
   pub all : (from : ℕ) (line : Direction) → IsInbound d lines end from line → AllOff line dropped
+  pub in_order : InOrder dropped
   pub new_is : d' ≡ record d { ends = slice_set d.ends at (record end { state = state }); processes = slice_set d.processes i (with_offs process dropped) }
 
 -- a reliable sender gives a number up: the flow has failed

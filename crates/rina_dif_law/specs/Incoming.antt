@@ -29,7 +29,7 @@ use Rattle.rina_data.specs.declared.step.Took.{Took}
 use Rattle.rina_data.specs.declared.step.Took.TheVariants as took
 use Rattle.rina_data.specs.Hops.{Hop, opened}
 use Rattle.rina_data.specs.declared.link.Link.{Link}
-use Rattle.rina_dif_law.specs.Counting.{held_numbers, off_numbers, times, whole_numbers}
+use Rattle.rina_dif_law.specs.Counting.{InOrder, held_numbers, off_numbers, times, whole_numbers}
 use Rattle.rina_data.specs.Configs.{Member, cube_by}
 use Rattle.rina_data.specs.Process.{Process, link_by, next_hop, with_offs}
 use Rattle.rina_dif_law.specs.Dif.{DifSeen, IsProcess, constants, with_process}
@@ -139,7 +139,8 @@ lines_for pdu (Some cause) = line_for pdu cause ∷ []
 abbrev pub AllSettled : Constants → Piece → Direction → List Off → Type 0
 AllSettled c p line offs = (n : ℕ) → times n (p.number ∷ held_numbers line) ≡ times n (off_numbers offs) + times n (held_numbers (arrived c p line)) + times n (whole_numbers (joined_by c p line))
 
--- a piece comes to its connection; what is whole is delivered
+-- a piece comes to its connection; what is whole is delivered. The pieces that were held and are given up get their lines
+-- in the order of their numbers, and the piece itself gets its line after them
 pub record IsArrived (d : DifSeen) (lines : List Direction) (i : ℕ) (process : Process) (pdu : Pdu) (cause : Option Cause) (d' : DifSeen) (lines' : List Direction) : Type 0 where
   pub piece : pdu.kind ≡ APiece
   pub place : ℕ
@@ -155,6 +156,7 @@ pub record IsArrived (d : DifSeen) (lines : List Direction) (i : ℕ) (process :
   pub dropped : List Off
   pub all_dropped : (off : Off) → In off dropped → IsDropped (constants d.config cube (flipped ids)) (piece_in pdu) line ids off
   pub settled : AllSettled (constants d.config cube (flipped ids)) (piece_in pdu) line (dropped ++ lines_for pdu cause)
+  pub in_order : InOrder dropped
   pub lines_are : lines' ≡ slice_set lines from (arrived (constants d.config cube (flipped ids)) (piece_in pdu) line)
   pub new_is : d' ≡ record d {
     ends = slice_set d.ends place (record end { got = (arrived (constants d.config cube (flipped ids)) (piece_in pdu) line).inbox.got });

@@ -14,7 +14,7 @@ use Rattle.rina_law.specs.Line.{again}
 use Rattle.rina_law.specs.Lists.{In}
 use Rattle.rina_law.specs.Receiver.{is_present, next_of}
 use Rattle.rina_law.specs.Sender.{again_due, piece_again}
-use Rattle.rina_dif_law.specs.Counting.{AllOff}
+use Rattle.rina_dif_law.specs.Counting.{AllOff, InOrder}
 use Rattle.rina_data.specs.Configs.{Config, cube_by}
 use Rattle.rina_data.specs.Process.{Process, next_hop, with_offs}
 use Rattle.rina_dif_law.specs.Dif.{DifSeen, constants, with_process}
@@ -77,7 +77,7 @@ pub record IsResent (d : DifSeen) (lines : List Direction) (at : ℕ) (cause : O
   pub lines_are : lines' ≡ slice_set lines at (record line { line = again (constants d.config cube ids) number line.line })
   pub new_is : d' ≡ with_process d i process'
 
--- the receiver gives up what it holds of a state that is gone
+-- the receiver gives up what it holds of a state that is gone, in the order of the numbers
 pub record IsForgotten (d : DifSeen) (lines : List Direction) (at : ℕ) (d' : DifSeen) (lines' : List Direction) : Type 0 where
   pub end : End
   pub ids : Ids
@@ -93,5 +93,6 @@ pub record IsForgotten (d : DifSeen) (lines : List Direction) (at : ℕ) (d' : D
   pub all_dropped : (off : Off) → In off dropped → (off.key.kind ≡ APiece) × (off.key.src ≡ ids.far) × (off.key.scep ≡ ids.dcep) × IsKeptNumber line off.key.seq × (off.cause ≡ causes.StateGone line.line.receiver.last_in)
   pub made : (off : Off) → In off dropped → line.line.receiver.made ≡ true
   pub all : AllOff line dropped
+  pub in_order : InOrder dropped
   pub lines_are : lines' ≡ slice_set lines from (happens (constants d.config cube (flipped ids)) line Forget)
   pub new_is : d' ≡ with_process d i (with_offs process dropped)

@@ -86,7 +86,7 @@ module _ (g : Config) (now : ℕ) (cloud : ℕ → Pdu → Type 0) (ends : List 
           from = from;
           line = line;
           inbound = inbound;
-          arrived = (x.cause, x.dropped, ap (λ (es : List Entry). slice_set ends at (record end { got = es })) (sym got), refl, x.settled);
+          arrived = (x.cause, x.dropped, ap (λ (es : List Entry). slice_set ends at (record end { got = es })) (sym got), refl, x.settled, x.in_order);
         };
         tied = tied_after g now ends conns lines at from end end' conn new line line' journal tied (record { is_at = is_at; inbound = inbound; const = record { flow = refl; role = refl; port = refl; app = refl; peer = refl; cube = refl }; sending = a.sending; sender = found_sender c line; clock = found_clock c line }) (λ still. subst R (sym a.sending) x.receives);
         count = x.count;
@@ -118,6 +118,7 @@ is_arrived d lines i process pdu at cause offs ends' lines' d' kind a allocated 
   dropped = offs;
   all_dropped = a.arrived.1;
   settled = a.arrived.4;
+  in_order = a.arrived.5;
   lines_are = a.arrived.3;
   new_is = is ∙ ap (λ (es : List End). record d { ends = es; processes = slice_set d.processes i (with_offs process (offs ++ lines_for pdu cause)) }) (a.arrived.2);
 }

@@ -1,15 +1,19 @@
 -- The whole of an arrival, from what the piece finds on.
-use Rattle.std.proofs.Common.{◌≡◌, ℕ, ◌+◌, ◌-◌, ◌≤◌, List, [], ◌++◌, length, map, length-append, Bool, true, false, cond, ltb, refl, sym, ◌∙◌, ap, subst, arith, inl, inr}
+use Rattle.std.proofs.Common.{◌≡◌, ℕ, ◌+◌, ◌-◌, ◌≤◌, List, [], ◌++◌, append-nil, length, map, length-append, Bool, true, false, cond, ltb, refl, sym, ◌∙◌, ap, subst, arith, inl, inr}
 use Rattle.std.proofs.lemmas.Bool.{false≢true}
+use Rattle.std.specs.List.Sorted.{IsStrictlyIncreasing}
 use Rattle.rina_account.specs.declared.ledger.Off.{Off}
 use Rattle.rina_base.specs.declared.cause.Cause.{Cause}
 use Rattle.rina_base.specs.declared.number.Key.{Key}
 use Rattle.rina_base.specs.declared.pdu.Pdu.{Pdu}
 use Rattle.rina_conn.specs.declared.conn.Conn.{Conn}
-use Rattle.rina_dif_law.specs.Counting.{held_numbers, off_numbers, times}
+use Rattle.rina_cube.specs.declared.Kind.{Kind}
+use Rattle.rina_dif_law.specs.Counting.{InOrder, held_numbers, off_numbers, times}
 use Rattle.rina_dif_law.specs.Ids.{Ids}
 use Rattle.rina_dif_law.specs.Incoming.{AllSettled, IsDropped, arrived, by_joiner, cause_by, cause_for, found, lines_for}
+use Rattle.rina_dtp.specs.declared.gap.Lost.{Lost}
 use Rattle.rina_dtp.specs.declared.verdict.Verdict.{Verdict}
+use Rattle.rina_dtp.specs.Lost.{lost_after}
 use Rattle.rina_dtp.specs.Receiving.{Receiving, broken_with, drops, kept_numbers, lost_in, present_at}
 use Rattle.rina_dtp.proofs.Came.{drops_standing, kept_none, present_same}
 use Rattle.rina_dif_law.proofs.Forgot.{found_clock, found_got}
@@ -19,19 +23,20 @@ use Rattle.rina_law.specs.Direction.{Direction, Forget, entry_for, happens, has_
 use Rattle.rina_law.specs.Line.{arrival_verdict}
 use Rattle.rina_law.specs.Lists.{In}
 use Rattle.rina_law.specs.Pdus.{piece_in}
-use Rattle.rina_law.specs.Pieces.{Sdu, empty_joiner}
+use Rattle.rina_law.specs.Pieces.{Joiner, Sdu, empty_joiner}
 use Rattle.rina_law.specs.Receiver as law
 use Rattle.rina_law.specs.Receiver.{Piece, is_present, verdict_by_state, with_room}
 use Rattle.rina_law.proofs.Suffices.{row_holds}
 use Rattle.rina_flows.specs.Arriving.{IsArrival, IsComing, IsDrained, cause_of, offs_of}
-use Rattle.rina_flows.specs.Tied.{IsReceiving}
+use Rattle.rina_flows.specs.Tied.{IsReceiving, source_from}
 use Rattle.rina_flows.proofs.Arrived.{gone_dropped}
 use Rattle.rina_flows.proofs.Given.{drained_all, drained_none, in_append, offs_of-append, offs_of-length}
 use Rattle.rina_flows.proofs.Kept.{drops_count}
-use Rattle.rina_flows.proofs.KeptOnce.{cause_gone, cause_none, ended_all}
+use Rattle.rina_flows.proofs.KeptOnce.{broken_numbers, cause_gone, cause_none, ended_all}
+use Rattle.rina_flows.proofs.Ordered.{lost_rise}
 use Rattle.rina_flows.proofs.Ready.{by_presence, receiving_found}
 use Rattle.rina_flows.proofs.Receives.{IsClean, IsNoting, arrives}
-use Rattle.rina_flows.proofs.Settled.{off-append}
+use Rattle.rina_flows.proofs.Settled.{lost_numbers, off-append}
 use Rattle.rina_flows.proofs.Times.{times-append}
 
 -- What a piece finds
@@ -110,6 +115,39 @@ module _ (c : Constants) (ids : Ids) (line : Direction) (conn ready : Conn) (bef
           let first = befores in
           omega arith
 
+-- In the order of the numbers
+
+-- where no state stands, a piece gives nothing up
+lost_absent : (v : law.Verdict) (kind : Kind) (b : Bool) (p : Piece) (held : List Piece) (j : Joiner) → b ≡ false → lost_after v kind b p held j ≡ []
+lost_absent law.Accepted kind true p held j e = absurd (false≢true (sym e))
+lost_absent law.Accepted kind false p held j e = refl
+lost_absent law.Held kind b p held j e = refl
+lost_absent law.Duplicate kind b p held j e = refl
+lost_absent law.Behind kind b p held j e = refl
+lost_absent law.NoState kind b p held j e = refl
+lost_absent law.NoRoom kind b p held j e = refl
+
+-- what an arrival of this piece gives up of what such a direction holds
+abbrev lost_of : Constants → Piece → Direction → List Lost
+lost_of c p line = lost_after (arrival_verdict c line.line p (has_room c line)) c.cube.kind (is_present c line.line.clock line.line.receiver) p line.line.receiver.held line.inbox.joiner
+
+-- either what was left of a state that is gone, or what the piece breaks
+in_order_found : (c : Constants) (ids : Ids) (line : Direction) (pdu : Pdu) (conn ready : Conn) (before after : List (Key × Cause)) → IsReceiving c line.line.clock ids conn line → IsComing c ids line pdu → IsDrained line.line.clock conn.rx before ready.rx → drops line.line.clock ready.rx ≡ [] → after ≡ broken_with (source_from ids) (lost_of c (piece_in pdu) (found c line)) → InOrder (offs_of (before ++ after))
+in_order_found c ids line pdu conn ready before after h coming drained none = by_presence (λ l. after ≡ broken_with (source_from ids) (lost_of c (piece_in pdu) l) → InOrder (offs_of (before ++ after))) c line
+    (λ stands lost.
+    let now : present_at line.line.clock conn.rx ≡ true = sym (present_same c line.line.clock line.line.receiver line.inbox.joiner conn.rx h.stands) ∙ stands in
+    let nothing : before ≡ [] = sym (drained_all line.line.clock conn.rx before ready.rx drained none) ∙ nothing_drops line.line.clock conn.rx h.stands.not_closed h.broken now in
+    let ls : List Lost = lost_of c (piece_in pdu) line in
+    let is : off_numbers (offs_of (before ++ after)) ≡ lost_numbers ls = ap (λ (ds : List (Key × Cause)). off_numbers (offs_of (ds ++ after))) nothing ∙ ap (λ (ds : List (Key × Cause)). off_numbers (offs_of ds)) lost ∙ broken_numbers (source_from ids) ls in
+    subst IsStrictlyIncreasing (sym is) (lost_rise c ids line pdu (arrival_verdict c line.line (piece_in pdu) (has_room c line)) c.cube.kind (is_present c line.line.clock line.line.receiver) coming refl refl refl))
+    (λ gone lost.
+    let now : present_at line.line.clock conn.rx ≡ false = sym (present_same c line.line.clock line.line.receiver line.inbox.joiner conn.rx h.stands) ∙ gone in
+    let l : Direction = happens c line Forget in
+    let nothing : after ≡ [] = lost ∙ ap (broken_with (source_from ids)) (lost_absent (arrival_verdict c l.line (piece_in pdu) (has_room c l)) c.cube.kind (is_present c l.line.clock l.line.receiver) (piece_in pdu) l.line.receiver.held l.inbox.joiner gone) in
+    let first : before ++ after ≡ drops line.line.clock conn.rx = ap (λ (ds : List (Key × Cause)). before ++ ds) nothing ∙ append-nil before ∙ sym (drained_all line.line.clock conn.rx before ready.rx drained none) in
+    let is : off_numbers (offs_of (before ++ after)) ≡ kept_numbers conn.rx = ap (λ (ds : List (Key × Cause)). off_numbers (offs_of ds)) first ∙ ended_all line.line.clock conn.rx _ h.broken (cause_gone line.line.clock conn.rx h.stands.not_closed now) in
+    subst IsStrictlyIncreasing (sym is) h.rising)
+
 -- The whole
 
 pub record ArrivesFound (c : Constants) (ids : Ids) (now : ℕ) (line : Direction) (pdu : Pdu) (result : Verdict) (conn : Conn) (offs : List Off) (came : List Sdu) (last : Conn) : Type 0 where
@@ -117,6 +155,7 @@ pub record ArrivesFound (c : Constants) (ids : Ids) (now : ℕ) (line : Directio
   pub got : (arrived c (piece_in pdu) line).inbox.got ≡ line.inbox.got ++ map (entry_for c now) came
   pub dropped : (off : Off) → In off offs → IsDropped c (piece_in pdu) line ids off
   pub settled : AllSettled c (piece_in pdu) line (offs ++ lines_for pdu (cause_of result))
+  pub in_order : InOrder offs
   pub count : length offs ≤ length (kept_numbers conn.rx)
   pub receives : IsReceiving c now ids last (arrived c (piece_in pdu) line)
 
@@ -148,6 +187,7 @@ found_now c ids line pdu unpassed conn last result offs whole coming room h coun
     let u = ap (times n) (off-append (offs_of a.after) own) in
     let v = times-append n (off_numbers (offs_of a.after)) (off_numbers own) in
     omega arith) in
+    let order : InOrder (offs_of (a.before ++ a.after)) = in_order_found c ids line pdu conn a.ready a.before a.after h coming a.drained a.none_before x.lost in
     let D : List Off → Type 0 = λ os. (off : Off) → In off os → IsDropped c (piece_in pdu) line ids off in
     let S : List Off → Type 0 = λ os. AllSettled c (piece_in pdu) line (os ++ lines_for pdu (cause_of result)) in
     record {
@@ -155,6 +195,7 @@ found_now c ids line pdu unpassed conn last result offs whole coming room h coun
       got = x.got ∙ ap (λ (es : List Entry). es ++ map (entry_for c now) a.heard.rx.join.whole) (found_got c line);
       dropped = subst D (sym a.offs_are) dropped;
       settled = subst S (sym a.offs_are) settled;
+      in_order = subst InOrder (sym a.offs_are) order;
       count = (let most = left_count c ids line conn a.ready a.before h a.drained a.none_before (length a.after) (let le = x.count in omega arith) in let e = ap (λ (os : List Off). length os) a.offs_are in let f = offs_of-length (a.before ++ a.after) in let sum = length-append a.before a.after in omega arith);
       receives = x.receives;
     }

@@ -1,12 +1,13 @@
 -- What a connection still holds is given up, with a state that is gone or with its end, and the flows stay tied.
 use Rattle.std.proofs.Common.{◌≡◌, ◌≢◌, ℕ, List, [], true, false, cond, slice_get, slice_set, Option, Some, None, refl, sym, ◌∙◌, ap, subst}
+use Rattle.std.specs.List.Sorted.{IsStrictlyIncreasing}
 use Rattle.rina_account.specs.declared.ledger.Off.{Off}
 use Rattle.rina_base.specs.declared.cause.Cause.{Cause}
 use Rattle.rina_base.specs.declared.cause.Cause.TheVariants as causes
 use Rattle.rina_base.specs.declared.number.Key.{Key}
 use Rattle.rina_conn.specs.declared.conn.Conn.{Conn}
 use Rattle.rina_conn.specs.declared.sending.Sending.{Sending}
-use Rattle.rina_dif_law.specs.Counting.{AllOff, off_numbers, times}
+use Rattle.rina_dif_law.specs.Counting.{AllOff, InOrder, off_numbers, times}
 use Rattle.rina_data.specs.Configs.{Config}
 use Rattle.rina_dif_law.specs.Dif.{DifSeen, constants, with_process}
 use Rattle.rina_data.specs.Process.{Process, with_offs}
@@ -93,6 +94,16 @@ gone_all c now ids conn line h gone n =
 closed_all : (c : Constants) (now : ℕ) (ids : Ids) (conn : Conn) (line : Direction) → IsReceiving c now ids conn line → AllOff line (offs_of (drops now (record conn.rx { closed = true })))
 closed_all c now ids conn line h n = ap (times n) (ended_all now (record conn.rx { closed = true }) _ h.broken refl) ∙ h.all n
 
+-- in the order of the numbers
+
+gone_order : (c : Constants) (now : ℕ) (ids : Ids) (conn : Conn) (line : Direction) → IsReceiving c now ids conn line → is_present c now line.line.receiver ≡ false → InOrder (offs_of (drops now conn.rx))
+gone_order c now ids conn line h gone =
+    let absent : present_at now conn.rx ≡ false = sym (present_same c now line.line.receiver line.inbox.joiner conn.rx h.stands) ∙ gone in
+    subst IsStrictlyIncreasing (sym (ended_all now conn.rx _ h.broken (cause_gone now conn.rx h.stands.not_closed absent))) h.rising
+
+closed_order : (c : Constants) (now : ℕ) (ids : Ids) (conn : Conn) (line : Direction) → IsReceiving c now ids conn line → InOrder (offs_of (drops now (record conn.rx { closed = true })))
+closed_order c now ids conn line h = subst IsStrictlyIncreasing (sym (ended_all now (record conn.rx { closed = true }) _ h.broken refl)) h.rising
+
 -- The tie
 
 -- a state that is gone is forgotten
@@ -125,6 +136,7 @@ forgets_at g now ends conns lines at from end conn new line taken journal tied i
         offs_are = λ off i. gone_off c now (ids_of conn) conn line h gone off (subst (λ (ds : List (Key × Cause)). In off (offs_of ds)) (sym all) i);
         made = λ off i. gone_made c now (ids_of conn) conn line h gone off (subst (λ (ds : List (Key × Cause)). In off (offs_of ds)) (sym all) i);
         all = λ n. ap (λ (ds : List (Key × Cause)). times n (off_numbers (offs_of ds))) (sym all) ∙ gone_all c now (ids_of conn) conn line h gone n;
+        in_order = subst (λ (ds : List (Key × Cause)). InOrder (offs_of ds)) all (gone_order c now (ids_of conn) conn line h gone);
         lines_are = refl;
       };
       tied = tied_after g now ends conns lines at from end end conn new line line' journal tied (record { is_at = is_at; inbound = inbound; const = record { flow = refl; role = refl; port = refl; app = refl; peer = refl; cube = refl }; sending = sending; sender = refl; clock = refl }) (λ still. subst R (sym sending) (receiving_forgot c now (ids_of conn) conn new line taken h gone drained none plan waiting));
@@ -151,6 +163,7 @@ ends_at g now ends conns lines at from end conn new line state taken journal tie
         stops = stops;
         offs_are = λ off m l i inb. closed_off (inward g conn) now (ids_of conn) conn l (tied.receives at m end conn l is_at allocated inb) off (subst (λ (ds : List (Key × Cause)). In off (offs_of ds)) (sym all) i);
         all = λ m l inb n. ap (λ (ds : List (Key × Cause)). times n (off_numbers (offs_of ds))) (sym all) ∙ closed_all (inward g conn) now (ids_of conn) conn l (tied.receives at m end conn l is_at allocated inb) n;
+        in_order = subst (λ (ds : List (Key × Cause)). InOrder (offs_of ds)) all (closed_order (inward g conn) now (ids_of conn) conn line (tied.receives at from end conn line is_at allocated inbound));
         ends_are = refl;
       };
       tied = subst (λ (ls : List Direction). IsTied g now (slice_set ends at end') (slice_set conns at new) ls) (slice_set-same lines from line inbound.is_line) again;
@@ -174,6 +187,7 @@ is_forgotten d lines at i process offs lines' d' f at_home is_process is = recor
   all_dropped = f.offs_are;
   made = f.made;
   all = f.all;
+  in_order = f.in_order;
   lines_are = f.lines_are;
   new_is = is;
 }
@@ -193,5 +207,6 @@ is_ended d lines at i state process offs ends' d' e at_home is_process is = reco
   dropped = offs;
   all_dropped = λ off from line here inb. e.offs_are off from line here (record { partner = inb.partner; is_partner = inb.is_partner; partners = inb.partners; is_line = inb.is_line });
   all = λ from line inb. e.all from line (record { partner = inb.partner; is_partner = inb.is_partner; partners = inb.partners; is_line = inb.is_line });
+  in_order = e.in_order;
   new_is = is ∙ ap (λ (es : List End). record d { ends = es; processes = slice_set d.processes i (with_offs process offs) }) e.ends_are;
 }

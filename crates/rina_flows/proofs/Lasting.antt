@@ -1,6 +1,7 @@
 -- Flows stay tied as time goes on, and new connections are tied to directions that start.
 use Rattle.std.proofs.Common.{◌≡◌, ◌≢◌, ℕ, ◌+◌, ◌-◌, ◌*◌, ◌≤◌, List, [], map, false, Some, None, refl, sym, ◌∙◌, ap, subst, arith}
 use Rattle.std.proofs.lemmas.List.{length-map}
+use Rattle.std.specs.List.Sorted.{IsStrictlyIncreasing}
 use Rattle.rina_conn.specs.declared.conn.Conn.{Conn}
 use Rattle.rina_conn.specs.declared.form.Peer.{Peer}
 use Rattle.rina_conn.specs.Conns.{IsNewConn}
@@ -27,6 +28,7 @@ use Rattle.rina_law.specs.Pieces.{empty_joiner}
 use Rattle.rina_law.specs.Receiver.{no_state}
 use Rattle.rina_flows.specs.Tied.{IsInboundAt, IsReceiving, IsSending, IsTied, ids_of, inward, outward}
 use Rattle.rina_flows.proofs.Added.{AreNewEnds}
+use Rattle.rina_flows.proofs.Ordered.{rise_none}
 use Rattle.rina_flows.proofs.Receives.{none_broken}
 use Rattle.rina_flows.proofs.Waiting.{waiting_same}
 
@@ -48,6 +50,7 @@ receiving_later c now later ids conn line le h = record {
   kept = λ n i. (let k = h.kept n i in record { made = k.made; source = k.source; number = k.number });
   once = h.once;
   all = h.all;
+  rising = h.rising;
 }
 
 pub tied_later : (g : Config) (now later : ℕ) (ends : List End) (conns : List Conn) (lines : List Direction) → now ≤ later → IsTied g now ends conns lines → IsTied g later ends conns (map (ticked (later - now)) lines)
@@ -88,6 +91,7 @@ receiving_new g now cube peer max conn new =
       kept = λ n i. absurd (new_kept c now conn.rx n st none i);
       once = record { once = λ n. omega arith; only = λ other. refl };
       all = λ n. ap (times n) none;
+      rising = subst IsStrictlyIncreasing (sym none) rise_none;
     }
 
 pub sending_new : (g : Config) (now : ℕ) (cube : Cube) (peer : Peer) (conn : Conn) → IsNewConn cube (piece_size g) (greatest g) peer conn → cube_by cube.id g.cubes ≡ Some cube → IsSending g now conn (ticked now (start (outward g conn)))

@@ -16,6 +16,7 @@ pub mod KeptOnce
 pub mod Landed
 pub mod Lasting
 pub mod Offered
+pub mod Ordered
 pub mod Passed
 pub mod Plain
 pub mod Ready

@@ -1,5 +1,6 @@
 -- What is left of a state that is gone is given up, before a piece is received or by the clock.
-use Rattle.std.proofs.Common.{◌≡◌, ℕ, List, [], Bool, true, false, cond, None, refl, sym, ◌∙◌, ap, subst, arith}
+use Rattle.std.proofs.Common.{◌≡◌, ℕ, List, [], Bool, true, false, cond, refl, sym, ◌∙◌, ap, subst, arith}
+use Rattle.std.specs.List.Sorted.{IsStrictlyIncreasing}
 use Rattle.rina_base.specs.declared.cause.Cause.{Cause}
 use Rattle.rina_base.specs.declared.number.Key.{Key}
 use Rattle.rina_conn.specs.declared.conn.Conn.{Conn}
@@ -19,6 +20,7 @@ use Rattle.rina_law.specs.Receiver.{is_present}
 use Rattle.rina_flows.specs.Arriving.{IsDrained}
 use Rattle.rina_flows.specs.Tied.{IsReceiving}
 use Rattle.rina_flows.proofs.KeptOnce.{cause_none}
+use Rattle.rina_flows.proofs.Ordered.{rise_none}
 use Rattle.rina_flows.proofs.Receives.{kept_drained, none_broken}
 use Rattle.rina_flows.proofs.Waiting.{waiting_same}
 
@@ -49,6 +51,7 @@ receiving_forgot c now ids conn new line taken h gone drained none plan waiting 
       kept = λ n i. absurd (subst (In n) nothing i);
       once = record { once = λ n. omega arith; only = λ other. refl };
       all = λ n. ap (times n) nothing;
+      rising = subst IsStrictlyIncreasing (sym nothing) rise_none;
     }
 
 -- nothing was there to be fetched while state stands
@@ -69,6 +72,7 @@ receiving_drained c now ids conn new line taken h stands drained none plan waiti
       kept = kept_drained ids line now conn.rx taken new.rx drained h.kept;
       once = h.once;
       all = λ n. ap (times n) same ∙ h.all n;
+      rising = subst IsStrictlyIncreasing (sym same) h.rising;
     }
 
 -- the connection that is to receive a piece stands for what the piece finds

@@ -1,6 +1,7 @@
 -- After a piece came, the connection stands for the direction that it made.
-use Rattle.std.proofs.Common.{◌≡◌, ℕ, ◌+◌, ◌-◌, ◌*◌, ◌≤◌, List, [], ◌∷◌, ◌++◌, length, map, Bool, true, false, cond, ◌&&◌, ltb, None, refl, sym, ◌∙◌, ap, subst, arith, inl, inr}
+use Rattle.std.proofs.Common.{◌≡◌, ℕ, ◌+◌, ◌-◌, ◌*◌, ◌≤◌, List, [], ◌∷◌, ◌++◌, length, map, Bool, true, false, cond, ◌&&◌, ltb, refl, sym, ◌∙◌, ap, subst, arith, inl, inr}
 use Rattle.std.proofs.lemmas.Bool.{and_from, false≢true, lt-ltb}
+use Rattle.std.specs.List.Sorted.{IsStrictlyIncreasing}
 use Rattle.rina_account.specs.declared.ledger.Off.{Off}
 use Rattle.rina_base.specs.declared.cause.Cause.{Cause}
 use Rattle.rina_base.specs.declared.number.Key.{Key}
@@ -35,6 +36,7 @@ use Rattle.rina_law.proofs.Arrived.{absent_cases, never}
 use Rattle.rina_law.proofs.Standing.{present_made}
 use Rattle.rina_flows.specs.Arriving.{IsComing, IsDrained, cause_of, delivered, noted, offs_of}
 use Rattle.rina_flows.specs.Tied.{HoldsOnce, IsKeptBy, IsReceiving, source_from}
+use Rattle.rina_flows.proofs.Ordered.{kept_rise, rise_none}
 use Rattle.rina_flows.proofs.Arrived.{came_cause, came_dropped, came_got, came_of, drops_within, gone_dropped}
 use Rattle.rina_flows.proofs.Given.{drained_all, in_append, offs_of-append}
 use Rattle.rina_flows.proofs.Kept.{kept_before, kept_number}
@@ -224,6 +226,18 @@ module _ (c : Constants) (ids : Ids) (line : Direction) (pdu : Pdu) (unpassed : 
               let nothing = none_after c line.line.clock (arrival_verdict c line.line (piece_in pdu) (has_room c line)) (is_present c line.line.clock line.line.receiver) (has_room c line) (piece_in pdu) line.line.receiver line.inbox.joiner n coming.limits refl refl clean.joiner clean.held gone in
               omega arith
 
+      rising_last : IsStrictlyIncreasing (kept_numbers last.rx)
+      rising_last = go (is_present c line.line.clock (landed c (piece_in pdu) line).line.receiver) refl
+        where
+          go : (b : Bool) → is_present c line.line.clock (landed c (piece_in pdu) line).line.receiver ≡ b → IsStrictlyIncreasing (kept_numbers last.rx)
+          go true stands =
+              let present : present_at line.line.clock heard.rx ≡ true = sym (present_same c line.line.clock (landed c (piece_in pdu) line).line.receiver (landed c (piece_in pdu) line).inbox.joiner heard.rx came_heard.stands) ∙ stands in
+              let same : kept_numbers last.rx ≡ kept_numbers heard.rx = given.kept.all (cause_none line.line.clock (delivered heard.rx) came_heard.stands.not_closed present) in
+              subst IsStrictlyIncreasing (sym same) (kept_rise c line.line.clock (landed c (piece_in pdu) line).line.receiver (landed c (piece_in pdu) line).inbox.joiner heard.rx came_heard.stands stands came_heard.going)
+          go false gone =
+              let absent : present_at line.line.clock last.rx ≡ false = sym (present_same c line.line.clock (landed c (piece_in pdu) line).line.receiver (landed c (piece_in pdu) line).inbox.joiner last.rx stands_last) ∙ gone in
+              subst IsStrictlyIncreasing (sym (kept_none line.line.clock last.rx stands_last.not_closed absent end)) rise_none
+
       is_ready : IsClean c line → IsReady c.cube.kind (is_present c line.line.clock line.line.receiver) line.line.receiver line.inbox.joiner
       is_ready clean = record {
         holds = receives.once;
@@ -298,6 +312,7 @@ module _ (c : Constants) (ids : Ids) (line : Direction) (pdu : Pdu) (unpassed : 
               kept = kept_last;
               once = once_last;
               all = all_last clean;
+              rising = rising_last;
             };
           }
 

@@ -1,5 +1,6 @@
 -- What stays of the tie where a direction, or a connection, stays in what the tie speaks of.
 use Rattle.std.proofs.Common.{◌≡◌, ℕ, ◌+◌, ◌-◌, ◌<◌, ◌≤◌, ◌⊎◌, List, [], ◌++◌, Option, Some, sym, ◌∙◌, ap, subst, arith}
+use Rattle.std.specs.List.Sorted.{IsStrictlyIncreasing}
 use Rattle.rina_conn.specs.declared.conn.Conn.{Conn}
 use Rattle.rina_conn.specs.declared.form.Form.{Form}
 use Rattle.rina_conn.specs.declared.sending.Sending.{Sending}
@@ -56,6 +57,7 @@ receiving_same c now ids k line line' er ei ep es em h =
           let J : Joiner → Type 0 = λ j. times n (kept_numbers k.rx) ≡ times n (joiner_numbers j ++ numbers line'.line.receiver.held) in
           let M : Receiver → Type 0 = λ m. times n (kept_numbers k.rx) ≡ times n (joiner_numbers line.inbox.joiner ++ numbers m.held) in
           subst J (sym ej) (subst M (sym er) (h.all n));
+      rising = h.rising;
     }
 
 -- the connection stays in what it receives
@@ -78,6 +80,7 @@ receiving_conn g now k k' line form rx plan waiting h =
       kept = subst (λ (r : Receiving). (n : ℕ) → In n (kept_numbers r) → IsKeptBy (ids_of k') line r n) (sym rx) kept;
       once = subst (λ (f : Form). HoldsOnce f.cube.kind line.line.receiver) (sym form) h.once;
       all = λ n. ap (λ (r : Receiving). times n (kept_numbers r)) rx ∙ h.all n;
+      rising = subst (λ (r : Receiving). IsStrictlyIncreasing (kept_numbers r)) (sym rx) h.rising;
     }
 
 -- the direction stays in what its sender sees
@@ -113,4 +116,5 @@ receiving_passed c now ids k k' line rx is h =
       kept = subst (λ (r : Receiving). (n : ℕ) → In n (kept_numbers r) → IsKeptBy ids (happens c line Pass) r n) (sym rx) kept;
       once = h.once;
       all = λ n. ap (λ (r : Receiving). times n (kept_numbers r)) rx ∙ h.all n;
+      rising = subst (λ (r : Receiving). IsStrictlyIncreasing (kept_numbers r)) (sym rx) h.rising;
     }

@@ -39,7 +39,7 @@ pub off-append : (xs ys : List Off) → off_numbers (xs ++ ys) ≡ off_numbers x
 off-append [] ys = refl
 off-append (x ∷ xs) ys = ap (λ ns. x.key.seq ∷ ns) (off-append xs ys)
 
-lost_with_numbers : (missing : ℕ) (ns : List ℕ) → lost_numbers (lost_with missing ns) ≡ ns
+pub lost_with_numbers : (missing : ℕ) (ns : List ℕ) → lost_numbers (lost_with missing ns) ≡ ns
 lost_with_numbers missing [] = refl
 lost_with_numbers missing (n ∷ ns) = ap (λ xs. n ∷ xs) (lost_with_numbers missing ns)
 

@@ -56,6 +56,7 @@ receiving_acknowledged c now ids k line h = record {
   kept = λ n i. (let q = h.kept n i in record { made = q.made; source = q.source; number = q.number });
   once = h.once;
   all = h.all;
+  rising = h.rising;
 }
 
 pub acknowledges_from : (at : ℕ) (ends : List End) (conns conns' : List Conn) → Becomes IsAcknowledged at conns conns' → AcknowledgesIn at (flows_of ends conns) (flows_of ends conns')

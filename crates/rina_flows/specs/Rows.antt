@@ -8,6 +8,7 @@ use Rattle.rina_cube.specs.declared.Cube.{Cube}
 use Rattle.rina_data.specs.Configs.{Config, cube_by}
 use Rattle.rina_dif_law.specs.Dif.{constants}
 use Rattle.rina_dif_law.specs.Ids.{Ids, IsFrom, flipped, pdu_of_piece}
+use Rattle.rina_dif_law.specs.Counting.{InOrder}
 use Rattle.rina_dif_law.specs.Incoming.{AllSettled, IsDropped, arrived, cause_for, lines_for}
 use Rattle.rina_dif_law.specs.Sending.{offered, offered_entry, offered_pieces}
 use Rattle.rina_dif_law.specs.Standing.{IsConn}
@@ -69,12 +70,13 @@ pub record TakesAt (ends : List End) (ids : List Ids) (pdu : Pdu) (at : ℕ) (en
   pub names : IsFrom (flipped its_ids) pdu
 
 -- what comes of a piece: the cause for which it is written off, where it is; the lines of pieces that were held and are
--- given up; the SDUs that are whole are delivered; and each piece is written off, held or delivered once
+-- given up, in the order of their numbers; the SDUs that are whole are delivered; and each piece is written off, held or
+-- delivered once
 abbrev pub IsArrivedBy : Constants → Ids → ℕ → End → ℕ → Direction → Pdu → Option Cause → List Off → List End → List Direction → List End → List Direction → Type 0
 IsArrivedBy c ids at end from line pdu cause offs ends lines ends' lines' =
     (cause ≡ cause_for c (piece_in pdu) line) × ((off : Off) → In off offs → IsDropped c (piece_in pdu) line ids off) ×
     (ends' ≡ slice_set ends at (record end { got = (arrived c (piece_in pdu) line).inbox.got })) × (lines' ≡ slice_set lines from (arrived c (piece_in pdu) line)) ×
-    AllSettled c (piece_in pdu) line (offs ++ lines_for pdu cause)
+    AllSettled c (piece_in pdu) line (offs ++ lines_for pdu cause) × InOrder offs
 
 -- a piece comes to the connection at a place. `offs` are the lines before its own
 pub record ArrivesAt (g : Config) (ends : List End) (ids : List Ids) (lines : List Direction) (at : ℕ) (pdu : Pdu) (cause : Option Cause) (offs : List Off) (ends' : List End) (lines' : List Direction) : Type 0 where

@@ -1,5 +1,6 @@
 -- What ties the connections of a DIF to the directions of the law, one at the place of each end.
-use Rattle.std.specs.Prelude.{◌≡◌, ◌≢◌, ℕ, ◌-◌, ◌<◌, ◌≤◌, true, List, [], length, map, slice_get, Some, None}
+use Rattle.std.specs.Prelude.{◌≡◌, ◌≢◌, ℕ, ◌-◌, ◌<◌, ◌≤◌, true, List, [], length, map, slice_get, Some}
+use Rattle.std.specs.List.Sorted.{IsStrictlyIncreasing}
 use Rattle.rina_conn.specs.declared.conn.Conn.{Conn}
 use Rattle.rina_conn.specs.declared.form.Peer.{Peer}
 use Rattle.rina_conn.specs.Conns.{HasNoLast}
@@ -83,7 +84,7 @@ pub record HoldsOnce (kind : Kind) (m : Receiver) : Type 0 where
 
 -- the connection stands for the receiver and the joiner of a direction with these constants. All that came is fetched,
 -- but for what is held of a state that has ended. It has noted which SDUs wait to be passed; those of earlier states are
--- fewer than a window. It keeps exactly the pieces that the direction holds, each once
+-- fewer than a window. It keeps exactly the pieces that the direction holds, each once, in the order of their numbers
 pub record IsReceiving (c : Constants) (now : ℕ) (ids : Ids) (conn : Conn) (line : Direction) : Type 0 where
   pub stands : Stands c now line.line.receiver line.inbox.joiner conn.rx
   pub plan : IsPlanOf c line.mark conn.plan
@@ -96,6 +97,7 @@ pub record IsReceiving (c : Constants) (now : ℕ) (ids : Ids) (conn : Conn) (li
   pub kept : (n : ℕ) → In n (kept_numbers conn.rx) → IsKeptBy ids line conn.rx n
   pub once : HoldsOnce c.cube.kind line.line.receiver
   pub all : (n : ℕ) → times n (kept_numbers conn.rx) ≡ times n (held_numbers line)
+  pub rising : IsStrictlyIncreasing (kept_numbers conn.rx)
 
 -- the connection of each place stands for the sender of the direction there, and, while its end is allocated, for the
 -- receiver of the direction from its partner

@@ -50,12 +50,15 @@ impl Queue {
     pub fn push(&mut self, cap: u32, item: Queued) -> Result<(), QueueFull>
         ensures ok { OnOk result (self.new ≡ with_items (self.old.ring.items ++ item ∷ []) self.old) }
         ensures full { IsOk result ↔ (length self.old.ring.items < self.old.ring.capacity) }
+        // It is refused exactly where the queue holds as many as it can, and not more.
+        ensures refused { IfErr result (λ _. length self.old.ring.items ≡ self.old.ring.capacity) }
         ensures capacity { self.new.ring.capacity ≡ self.old.ring.capacity }
         ensures link { self.new.link ≡ self.old.link }
         ensures qos { self.new.qos ≡ self.old.qos }
         ensures cap { IfErr result (λ e. e.cap ≡ cap) }
         ensures err { OnErr result (self.new ≡ self.old) }
     {
+        prove!(self.ring.len() <= self.ring.capacity());
         match self.ring.try_push_back(item) {
             Ok(()) => Ok(()),
             Err(_item) => Err(QueueFull { cap }),

@@ -220,6 +220,8 @@ impl Queues {
         requires cube { item.pdu.qos ≡ qos }
         ensures ok { OnOk result (Changes qos link (λ q. with_items (q.ring.items ++ item ∷ []) q) self.old.queues.items self.new.queues.items) }
         ensures full { IsOk result ↔ (length (waiting qos link self.old.queues.items) < self.old.cap) }
+        // It is refused exactly where the queue holds `cap` PDUs, and not more.
+        ensures refused { IfErr result (λ _. length (waiting qos link self.old.queues.items) ≡ self.old.cap) }
         ensures cap { IfErr result (λ e. e.cap ≡ self.old.cap) }
         ensures err { OnErr result (self.new.queues.items ≡ self.old.queues.items) }
         ensures same { (self.new.cap ≡ self.old.cap) × (self.new.cubes ≡ self.old.cubes) }
@@ -256,7 +258,9 @@ impl Queues {
     /// How many more PDUs the queue of a cube and link can take, which has one. Takes no memory.
     pub fn room(&self, qos: u8, link: u16) -> u32
         requires { IsSome (queue_place qos link self.now.queues.items) }
-        ensures { result ≡ self.now.cap - length (waiting qos link self.now.queues.items) }
+        ensures room { result ≡ self.now.cap - length (waiting qos link self.now.queues.items) }
+        // The queue holds as many PDUs as it can, or fewer.
+        ensures within { length (waiting qos link self.now.queues.items) ≤ self.now.cap }
     {
         match place(self.queues.as_slice(), qos, link) {
             Some(at) => (self.cap as usize).saturating_sub(self.queues[at].ring.len()) as u32,

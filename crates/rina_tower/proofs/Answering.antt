@@ -6,6 +6,7 @@ use Rattle.rina_iface.specs.Seen.{Seen}
 use Rattle.rina_policy.specs.declared.policy.Head.{Head}
 use Rattle.rina_policy.specs.Slots.{Slot}
 use Rattle.rina_queue.specs.declared.queue.Queue.{Queue}
+use Rattle.rina_queue.specs.declared.queue.Queued.{Queued}
 use Rattle.rina_data.specs.declared.process.IpcProcess.{IpcProcess}
 use Rattle.rina_data.specs.declared.settings.Settings.{Settings}
 use Rattle.rina_data.specs.declared.step.OutStep.{OutStep}
@@ -16,6 +17,7 @@ use Rattle.rina_data.specs.Configs.{config_of}
 use Rattle.rina_data.specs.Deciding.{process_of}
 use Rattle.rina_data.specs.Process.{Process}
 use Rattle.rina_data.specs.Leaving.{Asks, IsAsked}
+use Rattle.rina_data.specs.Outgoing.{IsHeld}
 use Rattle.rina_dif_law.specs.Sending.{home}
 use Rattle.rina_dif.specs.declared.dif.Dif.{Dif}
 use Rattle.rina_dif.specs.Steps.{AsksAt, AsksHome, AtHome}
@@ -26,8 +28,8 @@ use Rattle.rina_tower.specs.Rounds.{Anything}
 use Rattle.rina_tower.specs.Steps.{OutStepsAtTop, OutSteps, SendsOne}
 use Rattle.rina_tower.specs.Levels.{AtDif, AtRank}
 
-asked_any : (may : List Head → ℕ → Type 0) (name policy : List ℕ) (who : ℕ) (queues : List Queue) (n : ℕ) (slots slots' : List Slot) (p : Process) (r : Result OutStep StepError) (p' : Process) → IsAsked may policy queues n slots slots' p r p' → IsAsked (Anything name who) policy queues n slots slots' p r p'
-asked_any may name policy who queues n slots slots' p r p' a = record { pick = a.pick; lawful = tt; once = a.once; dead = a.dead; item = a.item; served = a.served; dealt = a.dealt }
+asked_any : (may : List Head → ℕ → Type 0) (held : Queued → SendError → Type 0) (name policy : List ℕ) (who : ℕ) (queues : List Queue) (n : ℕ) (slots slots' : List Slot) (p : Process) (r : Result OutStep StepError) (p' : Process) → IsAsked may held policy queues n slots slots' p r p' → IsAsked (Anything name who) held policy queues n slots slots' p r p'
+asked_any may held name policy who queues n slots slots' p r p' a = record { pick = a.pick; lawful = tt; once = a.once; dead = a.dead; item = a.item; served = a.served; dealt = a.dealt }
 
 asks_any : (quiet asks asks' : Type 0) (r : Result OutStep StepError) → (asks → asks') → Asks quiet asks r → Asks quiet asks' r
 asks_any quiet asks asks' (Ok out.Idle) f a = a
@@ -38,24 +40,24 @@ asks_any quiet asks asks' (Err NoLink) f a = a
 asks_any quiet asks asks' (Err NoIpc) f a = a
 asks_any quiet asks asks' (Err Memory) f a = f a
 
-at_any : (may : ℕ → List Head → ℕ → Type 0) (name : List ℕ) (settings : Settings) (n at : ℕ) (slots slots' : List Slot) (old : List IpcProcess) (r : Result OutStep StepError) (new : List IpcProcess) → AsksAt may settings n at slots slots' old r new → AsksAt (Anything name) settings n at slots slots' old r new
-at_any may name settings n at slots slots' old r new a = λ member p p' x y z.
-    asks_any (slots' ≡ slots) (IsAsked (may member.number) settings.policy p.queues.queues.items n slots slots' (process_of p) r (process_of p')) (IsAsked (Anything name member.number) settings.policy p.queues.queues.items n slots slots' (process_of p) r (process_of p')) r
-    (asked_any (may member.number) name settings.policy member.number p.queues.queues.items n slots slots' (process_of p) r (process_of p')) (a member p p' x y z)
+at_any : (may : ℕ → List Head → ℕ → Type 0) (held : Process → Queued → SendError → Type 0) (name : List ℕ) (settings : Settings) (n at : ℕ) (slots slots' : List Slot) (old : List IpcProcess) (r : Result OutStep StepError) (new : List IpcProcess) → AsksAt may held settings n at slots slots' old r new → AsksAt (Anything name) held settings n at slots slots' old r new
+at_any may held name settings n at slots slots' old r new a = λ member p p' x y z.
+    asks_any (slots' ≡ slots) (IsAsked (may member.number) (held (process_of p)) settings.policy p.queues.queues.items n slots slots' (process_of p) r (process_of p')) (IsAsked (Anything name member.number) (held (process_of p)) settings.policy p.queues.queues.items n slots slots' (process_of p) r (process_of p')) r
+    (asked_any (may member.number) (held (process_of p)) name settings.policy member.number p.queues.queues.items n slots slots' (process_of p) r (process_of p')) (a member p p' x y z)
 
 home_any : (does does' : ℕ → Type 0) (refuses : Type 0) (o : Option ℕ) → ((i : ℕ) → does i → does' i) → AtHome o does refuses → AtHome o does' refuses
 home_any does does' refuses (Some i) f a = f i a
 home_any does does' refuses None f a = a
 
-asks_home_any : (may : ℕ → List Head → ℕ → Type 0) (name : List ℕ) (settings : Settings) (node n : ℕ) (slots slots' : List Slot) (old : List IpcProcess) (r : Result OutStep StepError) (new : List IpcProcess) → AsksHome may settings node n slots slots' old r new → AsksHome (Anything name) settings node n slots slots' old r new
-asks_home_any may name settings node n slots slots' old r new a =
-    home_any (λ at. AsksAt may settings n at slots slots' old r new) (λ at. AsksAt (Anything name) settings n at slots slots' old r new) (slots' ≡ slots) (home node (config_of settings).members) (λ at. at_any may name settings n at slots slots' old r new) a
+asks_home_any : (may : ℕ → List Head → ℕ → Type 0) (held : Process → Queued → SendError → Type 0) (name : List ℕ) (settings : Settings) (node n : ℕ) (slots slots' : List Slot) (old : List IpcProcess) (r : Result OutStep StepError) (new : List IpcProcess) → AsksHome may held settings node n slots slots' old r new → AsksHome (Anything name) held settings node n slots slots' old r new
+asks_home_any may held name settings node n slots slots' old r new a =
+    home_any (λ at. AsksAt may held settings n at slots slots' old r new) (λ at. AsksAt (Anything name) held settings n at slots slots' old r new) (slots' ≡ slots) (home node (config_of settings).members) (λ at. at_any may held name settings n at slots slots' old r new) a
 
 sends_any : (refuses : Port → ℕ → Option SendError) (may : List ℕ → ℕ → List Head → ℕ → Type 0) (slots slots' : List Slot) (below : Seen) (node link : ℕ) (r : Result OutStep StepError) (below' : Seen) (d d' : Dif) → SendsOne refuses may slots slots' below node link r below' d d' → SendsOne refuses Anything slots slots' below node link r below' d d'
 sends_any refuses may slots slots' below node link r below' d d' s = record {
   does = s.does;
   after = s.after;
-  shelf = λ alive. asks_home_any (may d.settings.policy) d.settings.policy d.settings node link slots slots' d.processes r d'.processes (s.shelf alive);
+  shelf = λ alive. asks_home_any (may d.settings.policy) (IsHeld refuses (config_of d.settings) d.clock below link) d.settings.policy d.settings node link slots slots' d.processes r d'.processes (s.shelf alive);
   failed = s.failed;
   rest = s.rest;
   leaves = s.leaves;

@@ -1,17 +1,16 @@
 -- A rank after an IPC process of one of its DIFs was asked.
-use Rattle.std.proofs.Common.{◌≡◌, ◌∙◌, ℕ, List, map, slice_get, slice_set, Option, Some, option_map, Result, Err, refl, sym, ap, subst, inl, inr}
+use Rattle.std.proofs.Common.{◌≡◌, ◌∙◌, ℕ, List, map, slice_get, slice_set, Some, option_map, Result, sym, ap, subst, inl, inr}
 use Rattle.std.proofs.lemmas.List.{map-set}
 use Rattle.std.proofs.lemmas.Option.{slice_get-map}
 use Rattle.rina_iface.proofs.Changed.{slice_set-same}
 use Rattle.rina_iface.specs.Seen.{Fac}
 use Rattle.rina_dif.specs.declared.cdap.CdapCallError.{CdapCallError}
-use Rattle.rina_dif.specs.declared.cdap.CdapCallError.TheVariants.{NoIpc}
 use Rattle.rina_dif.specs.declared.dif.Dif.{Dif}
 use Rattle.rina_dif.specs.Asking.{KeepsAll}
 use Rattle.rina_tower.specs.declared.tower.Tower.{Tower}
 use Rattle.rina_tower.specs.Cdap.{AsksOne}
 use Rattle.rina_tower.specs.Bystanders.{Anyone, LeavesNow}
-use Rattle.rina_tower.specs.Ranks.{fac_of_dif, now_of, seen_of_difs}
+use Rattle.rina_tower.specs.Ranks.{fac_of_dif, seen_of_difs}
 use Rattle.rina_tower.specs.Stands.{IsRank, IsTower}
 use Rattle.rina_tower.specs.Levels.{AtDif}
 use Rattle.rina_tower.proofs.Alone.{same_alone}

@@ -1,8 +1,7 @@
 -- What never changes stays.
-use Rattle.std.proofs.Common.{◌≡◌, ◌∙◌, ℕ, ◌+◌, List, [], ◌∷◌, ◌++◌, length, slice_get, slice_set, Some, refl, sym, ap, subst, arith, inl, inr, zero, suc}
+use Rattle.std.proofs.Common.{◌≡◌, ◌∙◌, ℕ, ◌+◌, List, [], ◌∷◌, ◌++◌, slice_get, slice_set, Some, refl, sym, ap, subst, arith, inl, inr, zero, suc}
 use Rattle.std.proofs.lemmas.List.{length-set}
 use Rattle.std.proofs.lemmas.Option.{same_Some, slice_get_within}
-use Rattle.rina_iface.specs.declared.ask.Fixed.{Fixed}
 use Rattle.rina_iface.specs.Seen.{Seen}
 use Rattle.rina_iface.proofs.Changed.{set_at}
 use Rattle.rina_data.proofs.Finding.{there}

@@ -1,5 +1,5 @@
 -- What the steps of the DIFs do at rank r of a tower.
-use Rattle.std.specs.Prelude.{◌≡◌, ℕ, true, false, List, Option, Some, Result, Err}
+use Rattle.std.specs.Prelude.{◌≡◌, ℕ, true, false, List, Option, Result, Err}
 use Rattle.rina_base.specs.declared.number.Port.{Port}
 use Rattle.rina_iface.specs.declared.error.SendError.{SendError}
 use Rattle.rina_iface.specs.Pass.{PassesAsSeen}
@@ -13,11 +13,12 @@ use Rattle.rina_data.specs.declared.step.InStep.{InStep}
 use Rattle.rina_data.specs.declared.step.OutStep.{OutStep}
 use Rattle.rina_data.specs.declared.step.StepError.{StepError}
 use Rattle.rina_data.specs.declared.step.StepError.TheVariants.{Memory, NoIpc}
+use Rattle.rina_data.specs.Configs.{config_of}
 use Rattle.rina_data.specs.Lower.{PassesBelow, SendsBelow}
+use Rattle.rina_data.specs.Outgoing.{IsHeld}
 use Rattle.rina_dif.specs.declared.dif.Dif.{Dif}
 use Rattle.rina_dif.specs.Clocking.{ClockSteps, FailsLate}
-use Rattle.rina_flows.specs.Elsewhere.{SameBut}
-use Rattle.rina_dif.specs.Elsewhere.{ChangesOnly, MayClock, MayTake, home_of}
+use Rattle.rina_dif.specs.Elsewhere.{ChangesOnly, ChangesProcess, MayClock, MayTake, home_of}
 use Rattle.rina_dif.specs.Holding.{Holds}
 use Rattle.rina_dif.specs.Shown.{seen_of as seen_of_dif}
 use Rattle.rina_dif.specs.Steps.{AsksHome, OutsAt}
@@ -54,13 +55,13 @@ InSteps r dif node link result t t' = AtRank r (InStepsAtTop dif node link resul
 
 -- What leaves
 
--- a DIF lets a PDU go that the shelf picks, and no IPC process of another node changes; `may` is what the policies may answer
+-- a DIF lets a PDU go that the shelf picks, or holds it where the flow below refuses it for now, and no IPC process of another node changes; `may` is what the policies may answer
 pub record SendsOne (refuses : Port → ℕ → Option SendError) (may : List ℕ → ℕ → List Head → ℕ → Type 0) (slots slots' : List Slot) (below : Seen) (node link : ℕ) (result : Result OutStep StepError) (below' : Seen) (d d' : Dif) : Type 0 where
   pub does : OutsAt refuses (seen_of_dif d) below node link result (seen_of_dif d') below'
   pub after : StandsAfter below below' d d'
   pub rest : ChangesProcesses d d'
-  pub leaves : SameBut (λ i. home_of d node ≡ Some i) d.processes d'.processes
-  pub shelf : d.failed ≡ false → AsksHome (may d.settings.policy) d.settings node link slots slots' d.processes result d'.processes
+  pub leaves : ChangesProcess (home_of d node) d.processes d'.processes
+  pub shelf : d.failed ≡ false → AsksHome (may d.settings.policy) (IsHeld refuses (config_of d.settings) d.clock below link) d.settings node link slots slots' d.processes result d'.processes
   pub failed : d.failed ≡ true → result ≡ Err Memory
 
 -- over the rank below, where one SDU is sent at most, or refused, and nothing else changes

@@ -64,6 +64,13 @@ impl Difs {
         self.items.iter().any(|dif| dif.has_failed())
     }
 
+    /// All of them, each at the place of its number.
+    pub fn as_slice(&self) -> &[Dif]
+        ensures { result.now ≡ self.now }
+    {
+        self.items.as_slice()
+    }
+
     /// The DIF of a number. None exactly where there is none.
     pub fn get(&self, fac: u16) -> Option<&Dif>
         ensures { MatchOption result (slice_get self.now fac ≡ None) (λ d. slice_get self.now fac ≡ Some d.now) }

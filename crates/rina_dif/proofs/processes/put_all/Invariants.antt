@@ -10,4 +10,5 @@ invariant-loop-pdu l = record {
   put : Changes l.qos l.link (λ (q : Queue). with_items (q.ring.items ++ queued l.left l.since l.yielded) q) l.fn.queues.queues.items l.queues.queues.items;
   all : l.yielded ++ l.pdu-iterator.rest.items ≡ l.fn.pdus.items;
   cap : l.queues.cap ≡ l.fn.queues.cap;
+  cubes : l.queues.cubes ≡ l.fn.queues.cubes;
 }

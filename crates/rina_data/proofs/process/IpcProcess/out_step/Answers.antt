@@ -4,7 +4,8 @@ use Rattle.std.proofs.lemmas.Result.{err_from_is_err_and}
 use Rattle.rina_base.specs.declared.cause.Cause.TheVariants.{Expired}
 use Rattle.rina_data.specs.Configs.{config_of}
 use Rattle.rina_data.specs.Deciding.{process_of}
-use Rattle.rina_data.proofs.Leaves.{asks_for, at_hand, dealt_late, dealt_none, dealt_tried, found_link, goes_late, goes_tried, none_wait, promise_bound, promises, served_fit, served_room, some_waits}
+use Rattle.rina_data.specs.Outgoing.{IsHeld, sent_bytes}
+use Rattle.rina_data.proofs.Leaves.{asks_for, at_hand, dealt_late, dealt_none, dealt_tried, found_link, goes_late, goes_tried, held_back, none_wait, promise_bound, promises, served_fit, served_room, some_waits}
 use Rattle.rina_data.proofs.process.IpcProcess.out_step.Goals as goal
 
 pub returns-in_default-serve-clause-does : goal.returns-in_default-serve-clause-does
@@ -76,7 +77,7 @@ returns-in_default-left_after-clause-shelf g c =
     let is_link = found_link p.links c.as_slice.result.now n c.live_link.result live c.as_slice.ensures c.live_link.ensures c.in-Some.is in
     let s = c.serve.ensures.served (some_waits c.serve.result item c.serve.ensures.none c.in-Some-serve.is) in
     let hand = at_hand p below n live promise s.0 c.serve.result item is_link s.5 c.in-Some-serve.is (sym c.promise.ensures ∙ c.in-Some-promise.is) in
-    let dealt = dealt_late (process_of p) n live item.now key (Expired item.now.left c.charge-charge.result) c.drop_first.result (process_of c.drop_first.new.self) c.key.ensures c.drop_first.ensures.does in
+    let dealt = dealt_late (IsHeld (g.F.Facility.refuses_send c.args.below.now) (config_of c.args.settings.now) c.args.now below n (process_of p)) (process_of p) n live item.now key (Expired item.now.left c.charge-charge.result) c.drop_first.result (process_of c.drop_first.new.self) c.key.ensures c.drop_first.ensures.does in
     asks_for _ _ c.drop_first.result dealt.answer (record { pick = s.0; lawful = s.2; once = s.3; dead = s.4; item = item.now; served = hand.served; dealt = dealt.deals })
 
 pub returns-in_err-bytes-clause-shelf : goal.returns-in_err-bytes-clause-shelf
@@ -92,7 +93,7 @@ returns-in_err-bytes-clause-shelf g c =
     let s = c.serve.ensures.served (some_waits c.serve.result item c.serve.ensures.none c.in-Some-serve.is) in
     let hand = at_hand p below n live promise s.0 c.serve.result item is_link s.5 c.in-Some-serve.is (sym c.promise.ensures ∙ c.in-Some-promise.is) in
     let err = err_from_is_err_and c.from_residual.result c.from_residual.ensures.1 in
-    let dealt = dealt_none (process_of p) n item.now err.0 c.from_residual.result err.2 err.1 in
+    let dealt = dealt_none (IsHeld (g.F.Facility.refuses_send c.args.below.now) (config_of c.args.settings.now) c.args.now below n (process_of p)) (process_of p) n item.now err.0 c.from_residual.result err.2 err.1 in
     asks_for _ _ c.from_residual.result dealt.answer (record { pick = s.0; lawful = s.2; once = s.3; dead = s.4; item = item.now; served = hand.served; dealt = dealt.deals })
 
 pub returns-clause-does : goal.returns-clause-does
@@ -123,5 +124,10 @@ returns-clause-shelf g c =
     let is_link = found_link p.links c.as_slice.result.now n c.live_link.result live c.as_slice.ensures c.live_link.ensures c.in-Some.is in
     let s = c.serve.ensures.served (some_waits c.serve.result item c.serve.ensures.none c.in-Some-serve.is) in
     let hand = at_hand p below n live promise s.0 c.serve.result item is_link s.5 c.in-Some-serve.is (sym c.promise.ensures ∙ c.in-Some-promise.is) in
-    let dealt = dealt_tried (g.F.Facility.refuses_send c.args.below.now live.port (length c.as_slice-2.result.now)) (process_of p) below n live item.now key c.as_slice-2.result.now c.send_first.result (process_of c.send_first.new.self) (g.F.Facility.seen c.send_first.new.below) c.key.ensures c.send_first.ensures.does in
+    let refuses = g.F.Facility.refuses_send c.args.below.now in
+    let config = config_of c.args.settings.now in
+    let in_time = c.in-Some-left_after.ensures.0 in
+    let bytes = c.as_slice-2.ensures.value ∙ c.in_ok-bytes.ensures in
+    let sent = sent_bytes config c.args.now item.now promise in
+    let dealt = dealt_tried (IsHeld refuses config c.args.now below n (process_of p)) (refuses live.port (length sent)) (process_of p) below n live item.now key sent c.send_first.result (process_of c.send_first.new.self) (g.F.Facility.seen c.send_first.new.below) c.key.ensures (λ why said not_over. held_back refuses config c.args.now p below n live item.now promise why hand (rw c.charge-charge.ensures at in_time) said not_over) (rw (bytes, c.in-Some-left_after.ensures.1, c.charge-charge.ensures) at c.send_first.ensures.does) in
     asks_for _ _ c.send_first.result dealt.answer (record { pick = s.0; lawful = s.2; once = s.3; dead = s.4; item = item.now; served = hand.served; dealt = dealt.deals })

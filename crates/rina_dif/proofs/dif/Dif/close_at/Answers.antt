@@ -1,8 +1,8 @@
-use Rattle.std.proofs.Common.{◌∙◌, sym, ◌≡◌, ℕ, Option, Some, subst}
+use Rattle.std.proofs.Common.{◌∙◌, sym, ℕ, Option, subst}
 use Rattle.rina_dif.proofs.Freed.{closes_at, never_homeless}
 use Rattle.rina_iface.specs.declared.state.PortState.TheVariants.{Closed}
 use Rattle.rina_flows.specs.Delivering.{StopsIn}
-use Rattle.rina_flows.specs.Elsewhere.{SameBut}
+use Rattle.rina_dif.specs.Elsewhere.{ChangesProcess}
 use Rattle.rina_dif.proofs.Elsewhere.{ledger_leaves, stopped_when}
 use Rattle.rina_dif.proofs.dif.Dif.close_at.Goals as goal
 
@@ -20,5 +20,5 @@ returns-clause-leaves c =
     let s = c.stop in
     let here = sym c.place_at_node.ensures.place ∙ c.in-Some.is in (
       stopped_when d valid.below c.args.at Closed home s.result s.new.flows s.new.self valid.stands c.in-Some.ensures.within s.ensures.stops s.ensures.leaves,
-      subst (λ (o : Option ℕ). SameBut (λ i. o ≡ Some i) d.processes s.new.self) (sym here) (ledger_leaves (λ f l f' l'. StopsIn d.clock c.args.at Closed f l s.result f' l') d valid.below home s.new.flows s.new.self valid.stands c.in-Some.ensures.within s.ensures.stops),
+      subst (λ (o : Option ℕ). ChangesProcess o d.processes s.new.self) (sym here) (ledger_leaves (λ f l f' l'. StopsIn d.clock c.args.at Closed f l s.result f' l') d valid.below home s.new.flows s.new.self valid.stands c.in-Some.ensures.within s.ensures.stops),
     )

@@ -1,4 +1,4 @@
-use Rattle.std.proofs.Common.{Ok, Err, refl}
+use Rattle.std.proofs.Common.{Ok, Err, Some, refl}
 use Rattle.std.proofs.lemmas.Result.{err_from_is_err_and}
 use Rattle.rina_base.specs.declared.cause.Cause.TheVariants.{NoConnection}
 use Rattle.rina_base.specs.Pdus.{key_of}
@@ -7,7 +7,7 @@ use Rattle.rina_data.specs.declared.step.Took.TheVariants.{Accepted}
 use Rattle.rina_dif.proofs.Owning.{noted_err, own_none, own_told, taken_within}
 use Rattle.rina_dif.proofs.Settling.{settles_err}
 use Rattle.rina_dif.specs.Holding.{Stands}
-use Rattle.rina_dif.proofs.Elsewhere.{notes_leave, taken_alone, taker_of}
+use Rattle.rina_dif.proofs.Elsewhere.{none_process, notes_leave, taken_alone, taker_of}
 use Rattle.rina_dif.proofs.dif.Dif.deliver_here.Goals as goal
 
 pub returns-in_err-write_off-clause-does : goal.returns-in_err-write_off-clause-does
@@ -68,4 +68,4 @@ pub returns-in-Ack-clause-leaves : goal.returns-in-Ack-clause-leaves
 returns-in-Ack-clause-leaves c =
     let d = c.args.self.now in
     let hop = hop_of c.args.came.now.hop in
-    taken_alone (Ok Accepted) d (record d { flows = c.on_ack.new.self }) c.args.at (key_of hop.pdu) c.in-Some.place (taker_of d c.args.at c.args.came.now.since hop c.in-Some.place c.requires.comes c.requires.at c.requires.own c.in-Some.ensures) (c.on_ack.ensures.leaves, λ i other. refl)
+    taken_alone (Ok Accepted) d (record d { flows = c.on_ack.new.self }) c.args.at (key_of hop.pdu) c.in-Some.place (taker_of d c.args.at c.args.came.now.since hop c.in-Some.place c.requires.comes c.requires.at c.requires.own c.in-Some.ensures) (c.on_ack.ensures.leaves, none_process (Some c.args.at) d.processes d.processes refl)

@@ -1,4 +1,4 @@
-use Rattle.std.proofs.Common.{◌∙◌, slice_set, refl, ap, slice_get, sym, subst, ◌≡◌}
+use Rattle.std.proofs.Common.{◌∙◌, slice_set, refl, ap, slice_get, subst, ◌≡◌}
 use Rattle.rina_iface.specs.declared.state.PortState.{PortState}
 use Rattle.rina_iface.specs.State.{with_state}
 use Rattle.rina_dif.proofs.Freed.{same_end, withdraws}

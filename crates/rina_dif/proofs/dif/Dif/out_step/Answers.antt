@@ -1,8 +1,10 @@
-use Rattle.std.proofs.Common.{◌∙◌, sym, ◌≡◌, ℕ, Option, Some, subst}
+use Rattle.std.proofs.Common.{◌∙◌, sym, ℕ, Option, subst}
+use Rattle.rina_data.specs.Configs.{config_of}
+use Rattle.rina_data.specs.Outgoing.{IsHeld}
 use Rattle.rina_dif.specs.Shown.{seen_of}
 use Rattle.rina_dif.proofs.Beside.{no_step, out_is_step, step_noted}
 use Rattle.rina_dif.proofs.Leaves.{asks_home, outs_at}
-use Rattle.rina_flows.specs.Elsewhere.{SameBut}
+use Rattle.rina_dif.specs.Elsewhere.{ChangesProcess}
 use Rattle.rina_dif.proofs.dif.Dif.out_step.Goals as goal
 
 pub returns-clause-does : goal.returns-clause-does
@@ -18,7 +20,7 @@ returns-clause-keeps g c = λ lines h.
 pub returns-clause-shelf : goal.returns-clause-shelf
 returns-clause-shelf g c = λ alive.
     let here = sym c.place_at_node.ensures.place ∙ c.in-Some.is in
-    rw c.remember_memory_failure.ensures.same (asks_home (g.S.Picks.may_answer c.args.shelf.now c.args.self.now.settings.policy) c.args.self.now.settings c.args.node c.args.link c.in-Some.at (g.S.Picks.slots c.args.shelf.now) (g.S.Picks.slots c.out_step_at-step.new.shelf) c.args.self.now.processes c.out_step_at-step.result c.out_step_at-step.new.self.processes here c.out_step_at-step.ensures.shelf)
+    rw c.remember_memory_failure.ensures.same (asks_home (g.S.Picks.may_answer c.args.shelf.now c.args.self.now.settings.policy) (IsHeld (g.F.Facility.refuses_send c.args.below.now) (config_of c.args.self.now.settings) c.args.self.now.clock (g.F.Facility.seen c.args.below.now) c.args.link) c.args.self.now.settings c.args.node c.args.link c.in-Some.at (g.S.Picks.slots c.args.shelf.now) (g.S.Picks.slots c.out_step_at-step.new.shelf) c.args.self.now.processes c.out_step_at-step.result c.out_step_at-step.new.self.processes here c.out_step_at-step.ensures.shelf)
 
 pub returns-then-self-clause-goes_on : goal.returns-then-self-clause-goes_on
 returns-then-self-clause-goes_on g c = (no_step c.args.self.now (g.F.Facility.seen c.args.below.now) c.requires.stands).goes_on
@@ -44,4 +46,4 @@ returns-clause-others g c = (step_noted c.args.self.now (g.F.Facility.seen c.arg
 pub returns-clause-leaves : goal.returns-clause-leaves
 returns-clause-leaves g c =
     let here = sym c.place_at_node.ensures.place ∙ c.in-Some.is in
-    subst (λ (o : Option ℕ). SameBut (λ i. o ≡ Some i) c.args.self.now.processes c.out_step_at-step.new.self.processes) (sym here) c.out_step_at-step.ensures.leaves
+    subst (λ (o : Option ℕ). ChangesProcess o c.args.self.now.processes c.out_step_at-step.new.self.processes) (sym here) c.out_step_at-step.ensures.leaves

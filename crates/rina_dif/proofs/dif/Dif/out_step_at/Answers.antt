@@ -16,4 +16,4 @@ returns-clause-leaves g c =
     let d = c.args.self.now in
     let p = has_process d (g.F.Facility.seen c.args.below.now) c.args.at c.requires.stands c.requires.at in
     let x = c.out_step.ensures.does p.0 p.1 in
-    by_process d.processes c.out_step.new.self c.args.at x.0 x.3
+    by_process d.processes c.out_step.new.self c.args.at p.0 x.0 p.1 x.2 x.3
