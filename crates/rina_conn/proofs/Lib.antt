@@ -1,9 +1,10 @@
+pub mod Acknowledging
+pub mod Arriving
+pub mod Carried
 pub mod Cutting
 pub mod Making
-pub mod Offering
 pub mod Marking
-pub mod Resending
-pub mod Arriving
+pub mod Offering
 pub mod Passing
-pub mod Acknowledging
-pub mod Carried
+pub mod Resending
+pub mod Spent

@@ -1,14 +1,18 @@
--- How a layer above keeps what the receiving half of a connection stands for.
-use Rattle.std.specs.Prelude.{◌≡◌, ℕ, ◌≤◌, true, false}
+-- How a layer above keeps what the receiving half of a connection stands for, and when numbers are spent.
+use Rattle.std.specs.Prelude.{◌≡◌, ℕ, ◌+◌, ◌*◌, ◌≤◌, true, false, List, length, Err}
 use Rattle.rina_dtcp.specs.Plans.{without}
 use Rattle.rina_dtp.specs.Lending.{fetched}
-use Rattle.rina_law.specs.Constants.{Constants}
+use Rattle.rina_law.specs.Constants.{Constants, delta}
 use Rattle.rina_law.specs.Direction.{Direction, start, Forget, after_ack, happens}
+use Rattle.rina_law.specs.Pieces.{Part}
 use Rattle.rina_law.specs.Receiver.{is_present}
+use Rattle.rina_law.specs.Sender.{Sender, is_absent}
 use Rattle.rina_conn.specs.declared.conn.Conn.{Conn}
 use Rattle.rina_conn.specs.declared.form.Peer.{Peer}
+use Rattle.rina_conn.specs.declared.made.OfferError.TheVariants.{NumbersSpent}
 use Rattle.rina_conn.specs.declared.sending.Sending.{Sending}
 use Rattle.rina_conn.specs.Conns.{IsNewConn, StandsStill, notes_next}
+use Rattle.rina_conn.specs.Sending.{IsSender, IsCutOf, Offers}
 use Rattle.rina_conn.specs.Standing.{IsReceiver}
 
 -- a new connection receives what a new direction does
@@ -38,3 +42,9 @@ AcknowledgedReceives = (c : Constants) (d : Direction) (k : Conn) → IsReceiver
 -- when its other half sends, of which the form and the greatest number stay
 abbrev pub SendingReceives : Type 0
 SendingReceives = (c : Constants) (d : Direction) (k : Conn) (sending : Sending) → sending.form ≡ k.sending.form → sending.numbers.max ≡ k.sending.numbers.max → IsReceiver c d k → IsReceiver c d (record k { sending = sending })
+
+-- an SDU of no more pieces than there are numbers is refused for want of them only while the sender has state, and until
+-- that ends
+abbrev pub SpentHasState : Type 0
+SpentHasState = (c : Constants) (m : Sender) (now until : ℕ) (sdu : List ℕ) (old new : Sending) → Offers now sdu old (Err (NumbersSpent until)) new → IsSender c m old → ((parts : List Part) → IsCutOf c sdu parts → length parts ≤ c.max + 1) →
+    (is_absent c now m ≡ false) × (until ≡ m.last_out + 3 * delta c)

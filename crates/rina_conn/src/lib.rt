@@ -10,7 +10,7 @@ mod waiting;
 
 pub use conn::{Conn, ConnDue, DueAck};
 pub use form::{Form, Peer};
-pub use laws::connection_receives_on;
+pub use laws::{connection_receives_on, spent_numbers_have_state};
 pub use made::{Made, OfferError, Pdus};
 pub use sending::{Admitted, Sending};
 pub use waiting::Waiting;

@@ -62,7 +62,7 @@ pub enum Event {
     Receiver,
 }
 
-/// What comes of it.
+/// What a step answers.
 #[derive(Clone, Copy, Debug, PartialEq, Eq)]
 pub enum Answer {
     Done,

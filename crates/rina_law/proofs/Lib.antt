@@ -3,6 +3,7 @@ pub mod Arrived
 pub mod Arriving
 pub mod Backing
 pub mod Beginning
+pub mod Broken
 pub mod Coming
 pub mod Cuts
 pub mod Due
@@ -13,6 +14,7 @@ pub mod Lists
 pub mod Making
 pub mod Offering
 pub mod Quiet
+pub mod Reusing
 pub mod Runs
 pub mod Sample
 pub mod Sdus

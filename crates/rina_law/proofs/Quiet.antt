@@ -39,7 +39,7 @@ none_done : (c : Constants) (now : ℕ) (tx : Sender) (rx : Receiver) (done : Li
 none_done c now tx rx [] h e = refl
 none_done c now tx rx (n ∷ done) h e = (let w = (h n (inl refl)).within in absurd (omega arith))
 
-quiet_after : (c : Constants) (line : Line) → IsCube c.cube → LineHolds c line → line.sender.last_out + 3 * delta c ≤ line.clock → IsQuiet c line
+pub quiet_after : (c : Constants) (line : Line) → IsCube c.cube → LineHolds c line → line.sender.last_out + 3 * delta c ≤ line.clock → IsQuiet c line
 quiet_after c line cube h late =
     let lives = cube.least_mpl in
     record {

@@ -1,5 +1,7 @@
 pub mod Backed
+pub mod Bounds
 pub mod Constants
+pub mod Counterexamples
 pub mod Direction
 pub mod DirectionHolds
 pub mod Journal
@@ -12,3 +14,4 @@ pub mod Pdus
 pub mod Pieces
 pub mod Receiver
 pub mod Sender
+pub mod Suffices

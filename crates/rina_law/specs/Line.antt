@@ -2,11 +2,12 @@
 use Rattle.std.specs.Prelude.{◌≡◌, ℕ, ◌+◌, ◌-◌, ◌<◌, ◌≤◌, Bool, true, false, List, [], ◌∷◌, length}
 use Rattle.rina_cube.specs.declared.Kind.{Kind}
 use Rattle.rina_cube.specs.declared.Kind.TheVariants.{Reliable}
+use Rattle.rina_law.specs.Bounds.{Bounds, bounds_of}
 use Rattle.rina_law.specs.Constants.{Constants, delta}
 use Rattle.rina_law.specs.Lists.{In}
 use Rattle.rina_law.specs.Pieces.{Part}
-use Rattle.rina_law.specs.Receiver.{Piece, Receiver, no_state, is_present, next_of, numbers, Verdict, Accepted, verdict, with_accepted, receiver_after}
-use Rattle.rina_law.specs.Sender.{Sender, Ack, member, is_absent, fresh, piece_for, sender_with, sender_again, piece_again, sender_told}
+use Rattle.rina_law.specs.Receiver.{Piece, Receiver, no_state, is_present, is_present_by, next_of, numbers, Verdict, Accepted, verdict, with_accepted, receiver_after}
+use Rattle.rina_law.specs.Sender.{Sender, Ack, member, is_absent_by, fresh, piece_for, sender_with, sender_again, piece_again, sender_told}
 
 -- a PDU in flight, and the last tick at which it is anywhere
 pub record InFlight (P : Type 0) : Type 0 where
@@ -57,8 +58,11 @@ begun true c line = record line { sender = fresh c line.sender; done = [] }
 begun false c line = line
 
 -- the parts of an SDU that was not refused
+abbrev pub offer_by : Bounds → Constants → List Part → Line → Line
+offer_by b c parts line = put_all c parts (begun (is_absent_by b c line.clock line.sender) c line)
+
 abbrev pub offer : Constants → List Part → Line → Line
-offer c parts line = put_all c parts (begun (is_absent c line.clock line.sender) c line)
+offer c parts line = offer_by (bounds_of c) c parts line
 
 abbrev pub again : Constants → ℕ → Line → Line
 again c n line = record line {
@@ -76,14 +80,20 @@ done_after Accepted kind true n rx done = with_accepted kind (numbers rx.held) n
 done_after Accepted kind false n rx done = n ∷ done
 done_after v kind present n rx done = done
 
+abbrev pub arrival_verdict_by : Bounds → Constants → Line → Piece → Bool → Verdict
+arrival_verdict_by b c line p room = verdict c.cube.kind (is_present_by b line.clock line.receiver) line.receiver p room
+
+abbrev pub arrive_by : Bounds → Constants → Piece → Bool → Line → Line
+arrive_by b c p room line = record line {
+  receiver = receiver_after (arrival_verdict_by b c line p room) c.cube.kind (is_present_by b line.clock line.receiver) line.clock p line.receiver;
+  done = done_after (arrival_verdict_by b c line p room) c.cube.kind (is_present_by b line.clock line.receiver) p.number line.receiver line.done;
+}
+
 abbrev pub arrival_verdict : Constants → Line → Piece → Bool → Verdict
-arrival_verdict c line p room = verdict c.cube.kind (is_present c line.clock line.receiver) line.receiver p room
+arrival_verdict c line p room = arrival_verdict_by (bounds_of c) c line p room
 
 abbrev pub arrive : Constants → Piece → Bool → Line → Line
-arrive c p room line = record line {
-  receiver = receiver_after (arrival_verdict c line p room) c.cube.kind (is_present c line.clock line.receiver) line.clock p line.receiver;
-  done = done_after (arrival_verdict c line p room) c.cube.kind (is_present c line.clock line.receiver) p.number line.receiver line.done;
-}
+arrive c p room line = arrive_by (bounds_of c) c p room line
 
 -- an acknowledgement is made, with this right edge
 abbrev pub acknowledge : Constants → ℕ → Line → Line

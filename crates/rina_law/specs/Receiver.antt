@@ -1,8 +1,9 @@
 -- The receiver of the connection machine, and what each row makes of it, by kind.
-use Rattle.std.specs.Prelude.{◌≡◌, ℕ, zero, suc, ◌+◌, ◌*◌, Bool, true, false, ◌&&◌, ◌||◌, nat_lt, nat_le, ◌==◌, if◌then◌else◌, List, [], ◌∷◌, length, Option, Some, None}
+use Rattle.std.specs.Prelude.{◌≡◌, ℕ, zero, suc, ◌+◌, Bool, true, false, ◌&&◌, ◌||◌, nat_lt, nat_le, ◌==◌, if◌then◌else◌, List, [], ◌∷◌, length, Option, Some, None}
 use Rattle.rina_cube.specs.declared.Kind.{Kind}
 use Rattle.rina_cube.specs.declared.Kind.TheVariants.{Datagram, Loose, Reliable}
-use Rattle.rina_law.specs.Constants.{Constants, delta}
+use Rattle.rina_law.specs.Bounds.{Bounds, bounds_of}
+use Rattle.rina_law.specs.Constants.{Constants}
 use Rattle.rina_law.specs.Lists.{has, highest}
 use Rattle.rina_law.specs.Pieces.{Part, Joiner, empty_joiner, Joined, joined_with, HasRoomFor}
 
@@ -24,10 +25,13 @@ pub record Receiver : Type 0 where
 abbrev pub no_state : Receiver
 no_state = record { made = false; base = 0; accepted = []; held = []; last_in = 0 }
 
--- state stands for `2 * delta` ticks after the last piece that counted; it is absent from then on, and before any
--- was made
+-- state stands for its bound after the last piece that counted; it is absent from then on, and before any was made
+abbrev pub is_present_by : Bounds → ℕ → Receiver → Bool
+is_present_by b now rx = rx.made && nat_lt now (rx.last_in + b.stands)
+
+-- by delta-t for `2 * delta` ticks
 abbrev pub is_present : Constants → ℕ → Receiver → Bool
-is_present c now rx = rx.made && nat_lt now (rx.last_in + 2 * delta c)
+is_present c now rx = is_present_by (bounds_of c) now rx
 
 -- on a reliable flow the accepted numbers follow each other from `base` on, and this is the number after them
 abbrev pub next_of : Receiver → ℕ
@@ -150,17 +154,28 @@ abbrev pub or_mark : Option ℕ → ℕ → Option ℕ
 or_mark None at = Some at
 or_mark (Some mark) at = Some mark
 
--- a mark is forgotten when `delta` has gone by since the last piece that counted
-abbrev pub kept_mark : Constants → ℕ → Receiver → Option ℕ → Option ℕ
-kept_mark c now rx mark = if nat_lt (rx.last_in + delta c) now then None else mark
+-- a mark is forgotten when the bound of acknowledgements has gone by since the last piece that counted
+abbrev pub kept_mark_by : Bounds → ℕ → Receiver → Option ℕ → Option ℕ
+kept_mark_by b now rx mark = if nat_lt (rx.last_in + b.acks) now then None else mark
 
 -- a piece that is accepted, held or a duplicate makes an acknowledgement due `a` ticks on, where none is yet
-abbrev pub mark_after : Verdict → Constants → ℕ → Receiver → Option ℕ → Option ℕ
-mark_after Accepted c now rx mark = or_mark (kept_mark c now rx mark) (now + c.cube.a)
-mark_after Held c now rx mark = or_mark (kept_mark c now rx mark) (now + c.cube.a)
-mark_after Duplicate c now rx mark = or_mark (kept_mark c now rx mark) (now + c.cube.a)
-mark_after v c now rx mark = mark
+abbrev pub mark_after_by : Verdict → Bounds → Constants → ℕ → Receiver → Option ℕ → Option ℕ
+mark_after_by Accepted b c now rx mark = or_mark (kept_mark_by b now rx mark) (now + c.cube.a)
+mark_after_by Held b c now rx mark = or_mark (kept_mark_by b now rx mark) (now + c.cube.a)
+mark_after_by Duplicate b c now rx mark = or_mark (kept_mark_by b now rx mark) (now + c.cube.a)
+mark_after_by v b c now rx mark = mark
 
--- and so does an SDU that is passed, while `delta` has not gone by
+-- and so does an SDU that is passed, while that bound has not gone by
+abbrev pub mark_passed_by : Bounds → Constants → ℕ → Receiver → Option ℕ → Option ℕ
+mark_passed_by b c now rx mark = if rx.made && nat_le now (rx.last_in + b.acks) then or_mark mark (now + c.cube.a) else None
+
+-- by delta-t acknowledgements are made for `delta` ticks
+
+abbrev pub kept_mark : Constants → ℕ → Receiver → Option ℕ → Option ℕ
+kept_mark c now rx mark = kept_mark_by (bounds_of c) now rx mark
+
+abbrev pub mark_after : Verdict → Constants → ℕ → Receiver → Option ℕ → Option ℕ
+mark_after v c now rx mark = mark_after_by v (bounds_of c) c now rx mark
+
 abbrev pub mark_passed : Constants → ℕ → Receiver → Option ℕ → Option ℕ
-mark_passed c now rx mark = if rx.made && nat_le now (rx.last_in + delta c) then or_mark mark (now + c.cube.a) else None
+mark_passed c now rx mark = mark_passed_by (bounds_of c) c now rx mark

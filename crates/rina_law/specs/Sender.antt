@@ -3,7 +3,8 @@ use Rattle.std.specs.Prelude.{ℕ, zero, suc, ◌+◌, ◌-◌, ◌*◌, max, Bo
 use Rattle.rina_cube.specs.declared.Kind.{Kind}
 use Rattle.rina_cube.specs.declared.Kind.TheVariants.{Reliable}
 use Rattle.rina_cube.specs.Cubes.{is_reliable}
-use Rattle.rina_law.specs.Constants.{Constants, delta}
+use Rattle.rina_law.specs.Bounds.{Bounds, bounds_of}
+use Rattle.rina_law.specs.Constants.{Constants}
 use Rattle.rina_law.specs.Pieces.{Part, join}
 use Rattle.rina_law.specs.Receiver.{Piece}
 
@@ -46,10 +47,14 @@ abbrev pub is_idle : Kind → Sender → Bool
 is_idle Reliable tx = nat_le (length tx.run) tx.acked
 is_idle _ tx = true
 
--- a sender has no state where nothing was sent, or where it is idle and `3 * delta` have gone by since it last made
--- a piece
+-- a sender has no state where nothing was sent, or where it is idle and its bound has gone by since it last made a
+-- piece
+abbrev pub is_absent_by : Bounds → Constants → ℕ → Sender → Bool
+is_absent_by b c now tx = is_empty tx.run || (is_idle c.cube.kind tx && nat_le (tx.last_out + b.begins) now)
+
+-- by delta-t, `3 * delta` ticks
 abbrev pub is_absent : Constants → ℕ → Sender → Bool
-is_absent c now tx = is_empty tx.run || (is_idle c.cube.kind tx && nat_le (tx.last_out + 3 * delta c) now)
+is_absent c now tx = is_absent_by (bounds_of c) c now tx
 
 -- then it begins again at number 0, with a fresh window
 abbrev pub fresh : Constants → Sender → Sender
@@ -71,11 +76,14 @@ abbrev pub room_of : Sender → ℕ
 room_of tx = tx.right + 1 - length tx.run
 
 -- the first refusal that applies to the parts of an SDU, by a sender that has begun
-abbrev pub refusal : Constants → Sender → List Part → Option Refusal
-refusal c tx parts =
+abbrev pub refusal_by : Bounds → Constants → Sender → List Part → Option Refusal
+refusal_by b c tx parts =
     if nat_lt c.cube.largest (length (join parts)) then Some (TooLong (length (join parts)) c.cube.largest)
     else (if is_reliable c.cube.kind && nat_lt (room_of tx) (length parts) then Some (WindowShut (length parts) (room_of tx))
-    else (if nat_lt (c.max + 1) (length tx.run + length parts) then Some (NumbersSpent (tx.last_out + 3 * delta c)) else None))
+    else (if nat_lt (c.max + 1) (length tx.run + length parts) then Some (NumbersSpent (tx.last_out + b.begins)) else None))
+
+abbrev pub refusal : Constants → Sender → List Part → Option Refusal
+refusal c tx parts = refusal_by (bounds_of c) c tx parts
 
 -- the data run flag says that no earlier number of the run is unacknowledged; without acknowledgements number 0
 -- alone has it
@@ -106,11 +114,15 @@ pieces_for c now (part ∷ parts) tx = piece_for c part tx ∷ pieces_for c now 
 -- A number that is sent again, or given up
 
 -- from the number n on, the least one that is unacknowledged, was made `retry` ticks ago or more, and was first made
--- at most `r` ticks ago
+-- at most its bound ago
+abbrev pub due_from_by : Bounds → Constants → ℕ → ℕ → ℕ → List Member → Option ℕ
+due_from_by b c now acked n [] = None
+due_from_by b c now acked n (m ∷ ms) =
+    if nat_le acked n && (nat_le (m.last + c.cube.retry) now && nat_le now (m.first + b.again)) then Some n else due_from_by b c now acked (n + 1) ms
+
+-- by delta-t, `r` ticks
 abbrev pub due_from : Constants → ℕ → ℕ → ℕ → List Member → Option ℕ
-due_from c now acked n [] = None
-due_from c now acked n (m ∷ ms) =
-    if nat_le acked n && (nat_le (m.last + c.cube.retry) now && nat_le now (m.first + c.cube.r)) then Some n else due_from c now acked (n + 1) ms
+due_from c now acked n ms = due_from_by (bounds_of c) c now acked n ms
 
 -- from the number n on, the least one that is unacknowledged and was first made `r + a + 2 * mpl` ticks ago or more:
 -- an acknowledgement that was made as soon as it was due has come by then, or is lost
@@ -124,8 +136,11 @@ if_reliable Reliable n = n
 if_reliable _ n = None
 
 -- the number that is sent again now
+abbrev pub again_due_by : Bounds → Constants → ℕ → Sender → Option ℕ
+again_due_by b c now tx = if_reliable c.cube.kind (due_from_by b c now tx.acked 0 tx.run)
+
 abbrev pub again_due : Constants → ℕ → Sender → Option ℕ
-again_due c now tx = if_reliable c.cube.kind (due_from c now tx.acked 0 tx.run)
+again_due c now tx = again_due_by (bounds_of c) c now tx
 
 -- the number that is given up now
 abbrev pub given_up : Constants → ℕ → Sender → Option ℕ
