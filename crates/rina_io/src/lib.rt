@@ -1,6 +1,8 @@
-//! What comes in and goes out: sources and sinks that count their faults, and the words of the command line.
+//! What comes in and goes out: sources and sinks that count their faults, the lines of an input, and the words of the
+//! command line.
 #![tactic(auto)]
 
+mod lines;
 mod memory_ends;
 mod sink;
 mod source;
@@ -9,6 +11,7 @@ mod sure_ends;
 mod whole;
 mod words;
 
+pub use lines::{all_lines, without_end};
 pub use memory_ends::{MemSink, MemSource};
 pub use sink::Sink;
 pub use source::{Failed, Source};

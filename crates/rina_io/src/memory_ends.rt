@@ -1,5 +1,5 @@
 //! A source and a sink in memory, whose maker says which calls fail.
-ghost use Rattle.std.specs.Prelude.{◌≡◌, Some};
+ghost use Rattle.std.specs.Prelude.{◌≡◌, false, Some};
 
 use crate::sink::Sink;
 use crate::source::{Failed, Source};
@@ -12,6 +12,7 @@ pub struct MemSource {
     fails: Vec<bool>,
     calls: usize,
     faults: u64,
+    odd: bool,
 }
 
 impl MemSource {
@@ -20,12 +21,14 @@ impl MemSource {
     pub fn new(bytes: Vec<u8>, fails: Vec<bool>) -> Self
         ensures left { ⟦<MemSource as Source>⟧.left result ≡ Some bytes.items }
         ensures faults { ⟦<MemSource as Source>⟧.faults result ≡ 0 }
+        ensures even { ⟦<MemSource as Source>⟧.odd result ≡ false }
     {
         MemSource {
             inner: Cursor::new(bytes),
             fails,
             calls: 0,
             faults: 0,
+            odd: false,
         }
     }
 }
@@ -35,17 +38,21 @@ impl Source for MemSource {
 
     ghost faults = { λ s. s.faults };
 
+    ghost odd = { λ s. s.odd };
+
     fn read(&mut self, buf: &mut [u8]) -> Result<usize, Failed> {
         let fails = self.fails.get(self.calls).copied().unwrap_or(false);
         self.calls = self.calls.saturating_add(1);
         if fails {
             self.faults = self.faults.saturating_add(1);
+            self.odd = !self.odd;
             return Err(Failed);
         }
         match self.inner.read(buf) {
             Ok(count) => Ok(count),
             Err(_) => {
                 self.faults = self.faults.saturating_add(1);
+                self.odd = !self.odd;
                 Err(Failed)
             }
         }
@@ -59,6 +66,7 @@ pub struct MemSink {
     fails: Vec<bool>,
     calls: usize,
     faults: u64,
+    odd: bool,
 }
 
 impl MemSink {
@@ -67,12 +75,14 @@ impl MemSink {
     pub fn new(bytes: Vec<u8>, fails: Vec<bool>) -> Self
         ensures took { ⟦<MemSink as Sink>⟧.took result ≡ Some bytes.items }
         ensures faults { ⟦<MemSink as Sink>⟧.faults result ≡ 0 }
+        ensures even { ⟦<MemSink as Sink>⟧.odd result ≡ false }
     {
         MemSink {
             bytes,
             fails,
             calls: 0,
             faults: 0,
+            odd: false,
         }
     }
 
@@ -89,11 +99,14 @@ impl Sink for MemSink {
 
     ghost faults = { λ s. s.faults };
 
+    ghost odd = { λ s. s.odd };
+
     fn write(&mut self, piece: &[u8]) -> Result<usize, Failed> {
         let fails = self.fails.get(self.calls).copied().unwrap_or(false);
         self.calls = self.calls.saturating_add(1);
         if fails || self.bytes.extend_from_slice(piece).is_err() {
             self.faults = self.faults.saturating_add(1);
+            self.odd = !self.odd;
             return Err(Failed);
         }
         Ok(piece.len())

@@ -1,5 +1,5 @@
 //! A source and a sink that never fail.
-ghost use Rattle.std.specs.Prelude.{◌≡◌, ◌+◌, ◌-◌, ◌^◌, Some, None, min, length};
+ghost use Rattle.std.specs.Prelude.{◌≡◌, false, ◌+◌, ◌-◌, ◌^◌, Some, None, min, length};
 
 use crate::sink::Sink;
 use crate::source::{Failed, Source};
@@ -24,6 +24,8 @@ impl Source for SureSource<'_> {
     ghost left = { λ s. Some s.left.now };
 
     ghost faults = { λ s. 0 };
+
+    ghost odd = { λ s. false };
 
     fn read(&mut self, buf: &mut [u8]) -> Result<usize, Failed> {
         let count = self.left.len().min(buf.len());
@@ -71,6 +73,8 @@ impl Sink for SureSink {
     ghost took = { λ s. None };
 
     ghost faults = { λ s. 0 };
+
+    ghost odd = { λ s. false };
 
     fn write(&mut self, piece: &[u8]) -> Result<usize, Failed>
         ensures all { result ≡ Ok (length piece.now) }

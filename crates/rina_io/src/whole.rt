@@ -1,7 +1,7 @@
 //! Reading all of a source, and writing all of a piece.
-ghost use Rattle.std.specs.Prelude.{◌≡◌, ◌<◌, ◌≤◌, ℕ, length, take, OnOk, OnErr};
+ghost use Rattle.std.specs.Prelude.{◌≡◌, ◌<◌, ◌≤◌, ℕ, not, length, take, OnOk, OnErr};
 ghost use Rattle.std.specs.Io.KnownBytes.{Appends, Consumes, IsAtEnd};
-ghost use Rattle.rina_io.specs.Causes.{one_more, Rose, HasCause};
+ghost use Rattle.rina_io.specs.Causes.{one_more, Rose, HasCause, Turns};
 
 use crate::sink::Sink;
 use crate::source::{Failed, Source};
@@ -37,6 +37,7 @@ pub fn write_all<K: Sink>(out: &mut K, piece: &[u8]) -> Result<(), Failed>
     ensures err { OnErr result ((k : ℕ) × Appends (K.took out.old) (K.took out.new) (take k piece.now)) }
     ensures fine { OnOk result (K.faults out.new ≡ K.faults out.old) }
     ensures cause { HasCause (K.faults out.old) (K.faults out.new) result }
+    ensures turns { Turns (K.odd out.old) (K.odd out.new) result }
 {
     let mut done = 0usize;
     'pieces: while done < piece.len() {
@@ -67,6 +68,8 @@ pub fn take_all<S: Source>(alloc: Global, source: &mut S) -> Taken
     ensures fine { ¬ (result.ending ≡ Ending.Fault) → S.faults source.new ≡ S.faults source.old }
     ensures later { S.faults source.old ≤ S.faults source.new }
     ensures once { result.ending ≡ Ending.Fault → S.faults source.new ≤ one_more (S.faults source.old) }
+    ensures turned { result.ending ≡ Ending.Fault → S.odd source.new ≡ not (S.odd source.old) }
+    ensures steady { ¬ (result.ending ≡ Ending.Fault) → S.odd source.new ≡ S.odd source.old }
 {
     let mut bytes = Vec::new(alloc);
     let mut buffer = [0u8; 16384];

@@ -4,3 +4,4 @@ pub mod Merging
 pub mod Walking
 pub mod Counting
 pub mod Carried
+pub mod Kept

@@ -5,3 +5,4 @@ pub mod Parts
 pub mod Nets
 pub mod Counts
 pub mod Numbers
+pub mod Kept

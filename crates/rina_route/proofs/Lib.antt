@@ -5,3 +5,4 @@ mod Numbers
 mod Rows
 mod Texts
 mod Walks
+mod Written

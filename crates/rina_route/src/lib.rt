@@ -3,9 +3,11 @@
 
 mod claims;
 mod hop;
+mod laws;
 mod link;
 mod nodes;
 mod routes;
 
+pub use laws::what_is_written_is_claimed;
 pub use link::Link;
 pub use routes::Routes;

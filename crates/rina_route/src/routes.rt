@@ -1,5 +1,5 @@
 //! The table of next hops.
-ghost use Rattle.std.specs.Prelude.{◌≡◌, ◌<◌, ◌≤◌, ℕ, [], length, map, slice_index, IfOk, OnOk, OnErr};
+ghost use Rattle.std.specs.Prelude.{◌≡◌, ◌<◌, ◌≤◌, ◌↔◌, ℕ, [], length, map, slice_index, IfOk, IsTrue, OnOk, OnErr};
 ghost use Rattle.std.specs.List.Sorted.{IsStrictlyIncreasing};
 ghost use Rattle.rina_graph.specs.Walks.{IsTree};
 ghost use Rattle.rina_route.specs.Nodes.{AreNodes, HaveWeights, lifted};
@@ -18,6 +18,13 @@ use std::marker::Model;
 
 /// How many addresses a table can tell apart.
 const MOST_NODES: usize = 65_536;
+
+/// Whether a table can tell so many addresses apart.
+fn are_few(nodes: &[Addr]) -> bool
+    ensures { IsTrue result ↔ (length nodes.now ≤ 65536) }
+{
+    nodes.len() <= MOST_NODES
+}
 
 /// By which of the own links a PDU leaves for an address. A contract sees the addresses that are
 /// reached, each with the number of that link.
@@ -110,7 +117,7 @@ impl Routes {
     {
         let edges = counted(alloc, own, links, claimed)?;
         let nodes = nodes_of(alloc, own, &edges)?;
-        if nodes.len() > MOST_NODES {
+        if !are_few(nodes.as_slice()) {
             return Err(Memory);
         }
         let graph = graph_of(alloc, own, &nodes, &edges)?;

@@ -1,5 +1,7 @@
 pub mod Bytes
 pub mod DifWords
+pub mod Errors
+pub mod Faults
 pub mod Fields
 pub mod FlowWords
 pub mod Gives

@@ -1,4 +1,7 @@
 //! Errors of reading a line.
+ghost use Rattle.std.specs.Prelude.{◌≡◌};
+ghost use Rattle.rina_schedule.specs.Errors.{number_of, field_of};
+
 use std::alloc::AllocError;
 
 /// The first error of a line, from the left. `n` is the number of a field; the word is field 0.
@@ -28,5 +31,37 @@ impl From<AllocError> for LineError {
 
     fn from(_error: AllocError) -> LineError {
         LineError::Memory
+    }
+}
+
+impl LineError {
+    /// The number by which a fault tells the error: 1 to 6, in the order of the variants. Want of memory is told of no
+    /// line, and has 0.
+    pub fn number(self) -> u32
+        ensures { result ≡ number_of self }
+    {
+        match self {
+            LineError::Memory => 0,
+            LineError::UnknownWord => 1,
+            LineError::MissingField { .. } => 2,
+            LineError::BadNumber { .. } => 3,
+            LineError::BadName { .. } => 4,
+            LineError::Extra { .. } => 5,
+            LineError::BadBytes { .. } => 6,
+        }
+    }
+
+    /// The field at which the line fails. An unknown word is field 0.
+    pub fn field(self) -> u32
+        ensures { result ≡ field_of self }
+    {
+        match self {
+            LineError::Memory | LineError::UnknownWord => 0,
+            LineError::MissingField { n }
+            | LineError::BadNumber { n }
+            | LineError::BadName { n }
+            | LineError::Extra { n }
+            | LineError::BadBytes { n } => n,
+        }
     }
 }

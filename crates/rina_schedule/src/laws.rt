@@ -1,6 +1,8 @@
 //! Laws of reading and printing lines. The functions are empty; their contracts are the laws.
-ghost use Rattle.std.specs.Prelude.{◌≡◌, ℕ, List, Some, Ok};
+ghost use Rattle.std.specs.Prelude.{◌≡◌, ℕ, List, Some, Ok, Err};
 ghost use Rattle.rina_schedule.specs.declared.event.Event.{Event};
+ghost use Rattle.rina_schedule.specs.declared.error.LineError.{LineError};
+ghost use Rattle.rina_schedule.specs.Faults.{IsTrueOf};
 ghost use Rattle.rina_schedule.specs.Line.{line_at};
 ghost use Rattle.rina_schedule.specs.Printed.{line_text};
 ghost use Rattle.rina_schedule.specs.Ranges.{IsEvent};
@@ -15,4 +17,10 @@ pub fn what_is_printed_is_read()
 pub fn what_is_read_is_printed()
     ensures ranges { (text : List ℕ) (e : Event) → line_at text ≡ Ok (Some e) → IsEvent e }
     ensures again { (text : List ℕ) (e : Event) → line_at text ≡ Ok (Some e) → line_at (line_text e) ≡ Ok (Some e) }
+{}
+
+/// The error of a line is true of the field that it names: a field that is missing is the one behind the last, an
+/// extra one is there, and any other is there and is no number, no name, or no bytes.
+pub fn what_is_told_of_a_line_is_so()
+    ensures { (text : List ℕ) (e : LineError) → line_at text ≡ Err e → IsTrueOf text e }
 {}

@@ -6,7 +6,7 @@ ghost use Rattle.rina_session.specs.Sessions.{may_send, may_get, state_after, se
 
 use indexmap::IndexSet;
 use rina_cdap::{Message, operation};
-use std::alloc::{AllocFailed, Global};
+use std::alloc::{AllocError, AllocFailed, Global};
 use std::marker::Model;
 
 /// How far two are connected.
@@ -127,7 +127,7 @@ fn has_no_request(waiting: &IndexSet<u32>, m: &Message) -> bool
 }
 
 impl Session {
-    ghost use Rattle.std.specs.Prelude.{ℕ, IfErr};
+    ghost use Rattle.std.specs.Prelude.{ℕ, IfErr, IfOk};
     ghost use Rattle.rina_session.specs.declared.session.SessionError.TheVariants.{Memory, UnknownInvoke};
     ghost use Rattle.rina_session.specs.Sessions.{sent, got, Steps};
 
@@ -176,6 +176,17 @@ impl Session {
         end_wait(&mut self.waiting, m);
         self.state = next_state(State::Called, self.state, m.operation, m.result);
         Ok(())
+    }
+
+    /// A copy.
+    pub fn copy(&self) -> Result<Session, AllocError>
+        ensures { IfOk result (λ s. s ≡ self.now) }
+    {
+        let waiting = self.waiting.clone()?;
+        Ok(Session {
+            state: self.state,
+            waiting,
+        })
     }
 
     /// How far the two are connected.

@@ -2,6 +2,7 @@
 use Rattle.std.specs.Prelude.{ℕ, ◌==◌, ◌^◌, ◌-◌, ◌||◌, Bool, true, false, ℤ, pos, List, codes, Option, Some, None, Result, Ok, if◌then◌else◌, option_and_then, option_map}
 use Rattle.std.specs.Str.{bytes_eq}
 use Rattle.toml.specs.Data.{Data, get, as_bool}
+use Rattle.rina_base.specs.declared.storm.Storm.{Storm}
 use Rattle.rina_base.specs.Traverse.{◌>>=◌}
 use Rattle.rina_access.specs.declared.rules.Act.{Act}
 use Rattle.rina_access.specs.declared.rules.Act.TheVariants.{Allocate, Enrol}
@@ -16,7 +17,6 @@ use Rattle.rina_plan.specs.declared.dif.EndPlan.{EndPlan}
 use Rattle.rina_plan.specs.declared.dif.FlowPlan.{FlowPlan}
 use Rattle.rina_plan.specs.declared.dif.DifPlan.{DifPlan}
 use Rattle.rina_table.specs.declared.error.StackError.{StackError}
-use Rattle.rina_table.specs.declared.sketch.Storm.{Storm}
 use Rattle.rina_table.specs.declared.scope.Scope.{Scope}
 use Rattle.rina_table.specs.declared.sketch.WireSketch.{WireSketch}
 use Rattle.rina_table.specs.Faults.{required, unless}

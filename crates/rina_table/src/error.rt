@@ -1,5 +1,5 @@
 //! The errors of reading a stack.
-ghost use Rattle.std.specs.Prelude.{◌≡◌, ◌+◌, ◌<◌, ◌^◌, Ok, IfOk, IsOk, ◌-◌, option_map, ◌≢◌, IfErr};
+ghost use Rattle.std.specs.Prelude.{◌≡◌, ◌+◌, ◌<◌, ◌^◌, Ok, None, IfOk, OnOk, IsOk, ◌-◌, option_map, ◌≢◌, IfErr};
 ghost use Rattle.rina_table.specs.Faults.{Gives, rule_error, unless};
 
 use rina_base::Memory;
@@ -52,6 +52,7 @@ pub(crate) fn rule_error(n: u32, item: usize) -> StackError
 /// The error for rule `n`, where `fault` is the first item that breaks it.
 pub fn check(n: u32, fault: Option<usize>) -> Result<(), StackError>
     ensures read { Gives (λ t. t) result (unless n fault) }
+    ensures passes { OnOk result (fault ≡ None) }
     ensures memory { IfErr result (λ e. e ≢ StackError.Memory) }
 {
     match fault {
@@ -78,6 +79,7 @@ pub fn first_dif_item(wires: usize, difs: usize) -> Result<usize, StackError>
 /// The error for rule `n`, where `fault` is the place of the first wire that breaks it.
 pub fn check_wires(n: u32, fault: Option<usize>) -> Result<(), StackError>
     ensures read { Gives (λ t. t) result (unless n (option_map (λ i. 1 + i) fault)) }
+    ensures passes { OnOk result (fault ≡ None) }
     ensures memory { IfErr result (λ e. e ≢ StackError.Memory) }
 {
     check_difs(n, 1, fault)
@@ -87,6 +89,7 @@ pub fn check_wires(n: u32, fault: Option<usize>) -> Result<(), StackError>
 /// the first DIF.
 pub fn check_difs(n: u32, first: usize, fault: Option<usize>) -> Result<(), StackError>
     ensures read { Gives (λ t. t) result (unless n (option_map (λ i. first + i) fault)) }
+    ensures passes { OnOk result (fault ≡ None) }
     ensures memory { IfErr result (λ e. e ≢ StackError.Memory) }
 {
     match fault {

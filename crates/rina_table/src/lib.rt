@@ -17,6 +17,6 @@ mod wire_rows;
 pub use error::{StackError, check, check_difs, check_wires, first_dif_item};
 pub use keys::key_fault;
 pub use scope::{Places, Scope};
-pub use sketch::{Rounds, Sketch, Storm, WireSketch};
+pub use sketch::{Rounds, Sketch, WireSketch};
 pub use top::read_sketch;
 pub use value::items_at;

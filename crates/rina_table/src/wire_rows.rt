@@ -9,8 +9,9 @@ use crate::error::{StackError, rule_error};
 use crate::fields::{name_of, node, number};
 use crate::rows::Row;
 use crate::scope::Scope;
-use crate::sketch::{Storm, WireSketch};
+use crate::sketch::WireSketch;
 use crate::value::{has_more_than_two, text_among};
+use rina_base::Storm;
 use std::alloc::Global;
 use toml::Value;
 

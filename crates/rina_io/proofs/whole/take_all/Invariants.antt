@@ -8,4 +8,5 @@ invariant-turns g l = record {
   small : length l.bytes.items ≤ 16777216;
   turns : l.counter ≤ length l.bytes.items;
   fine : g.S.Source.faults l.source ≡ g.S.Source.faults l.fn.source;
+  steady : g.S.Source.odd l.source ≡ g.S.Source.odd l.fn.source;
 }

@@ -22,4 +22,5 @@ pieces-preserved g c =
       within = omega (arith, c.in_ok-count.ensures.bound, length-take (length piece - done) (drop done piece), length-drop done piece);
       wrote = rw (take-add done count piece) (subst (λ bs. Appends (took c.args.out.now) (took c.write.new.self) (take done piece ++ take count bs)) (whole_rest piece done) joined);
       fine = c.in_ok-count.ensures.some (omega arith) ∙ c.pieces.invariant.fine;
+      steady = c.in_ok-count.ensures.turns.0 (omega arith) ∙ c.pieces.invariant.steady;
     }
