@@ -7,7 +7,8 @@ use Rattle.rina_gen.specs.declared.input.Flow.{Flow}
 use Rattle.rina_gen.specs.declared.input.Line.{Line}
 use Rattle.rina_gen.specs.declared.input.Line.TheVariants as lines
 use Rattle.rina_gen.specs.declared.input.Input.{Input}
-use Rattle.rina_gen.specs.Draws.{drawn, seeded, several}
+use Rattle.rina_draws.specs.Draws.{drawn, seeded}
+use Rattle.rina_gen.specs.Several.{several}
 
 -- the next node of a ring of this many nodes
 abbrev pub next_node : ℕ → ℕ → ℕ

@@ -1,4 +1,3 @@
-pub mod Draws
 pub mod Input
-pub mod Storm
+pub mod Several
 pub mod Text

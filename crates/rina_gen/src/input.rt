@@ -1,11 +1,11 @@
 //! Drawing a stack and its schedule.
 ghost use Rattle.std.specs.Prelude.{◌≡◌, ◌+◌, ◌%◌, ◌^◌, ◌<◌, ◌≤◌, IfOk};
-ghost use Rattle.rina_gen.specs.Draws.{several};
+ghost use Rattle.rina_gen.specs.Several.{several};
 ghost use Rattle.rina_gen.specs.Input.{wire_drawn, link_drawn, flow_drawn, send_drawn, read_drawn, tick_drawn, line_drawn, line_count, input_of, input};
 
-use crate::draws::{draw, seeded};
 use rand_pcg::Lcg64Xsh32;
 use rina_base::{Memory, Seq};
+use rina_draws::{draw, seeded};
 use std::alloc::Global;
 
 /// A wire from a node to the next one.

@@ -10,7 +10,7 @@ use Rattle.rina_plan.specs.declared.dif.DifPlan.{DifPlan}
 use Rattle.rina_plan.proofs.Places.{nowhere}
 use Rattle.rina_table.specs.declared.error.StackError.{StackError}
 use Rattle.rina_table.specs.Faults.{Gives, required, unless}
-use Rattle.rina_table.specs.Keys.{list_of, or_empty, items_at, first_item, or_next, keys_fault}
+use Rattle.rina_table.specs.Keys.{list_of, or_empty, items_at, first_item, keys_fault}
 use Rattle.rina_table.specs.Values.{truth_or, rows_in, rows_or, is_table, if_tables, tables_or_none, tables_in}
 use Rattle.rina_table.specs.Fields.{name_in, number_in}
 use Rattle.rina_table.specs.declared.sketch.Sketch.{Sketch}
@@ -21,7 +21,7 @@ use Rattle.rina_stack.specs.Rules.{duplicate_fault}
 use Rattle.rina_stack.specs.Order.{rules_at}
 use Rattle.rina_stack.specs.Scopes.{unresolved_scope, resolved_scope}
 use Rattle.rina_stack.specs.Stack.{plan_of, unknown_item, resolved_at, stack_at}
-use Rattle.rina_stack.specs.Runnable.{is_stormy, is_ruled, unready_item, unready_key, is_yes, is_dynamic, first_dynamic, item_of, unready_type, runnable_at, IsRunnableDif, IsRunnable}
+use Rattle.rina_stack.specs.Runnable.{is_ruled, unready_item, unready_key, is_yes, is_dynamic, first_dynamic, item_of, unready_type, runnable_at, IsRunnableDif, IsRunnable}
 use Rattle.rina_stack.proofs.Inversion.{bind_ok, ok_is, unbroken}
 use Rattle.rina_stack.proofs.SoundDif.{over4}
 use Rattle.rina_stack.proofs.Reading.{parts}
@@ -112,17 +112,13 @@ runs known u n d x ready h =
 
 -- ---- the stack
 
-after : (first next : Option ℕ) → or_next first next ≡ None → next ≡ None
-after None next h = h
-after (Some n) next h = cc
-
 unruled : (d : Data) → unready_key d ≡ None → All (λ x. is_ruled x ≡ false) (items_at (codes "dif") d)
 unfolding unready_key unready_item
 unruled d h =
     let wires = items_at (codes "wire") d in
     let difs = items_at (codes "dif") d in
-    let none = (neither (keys_fault d) (or_next (first_item 1 is_stormy wires) (first_item (1 + length wires) is_ruled difs)) h).1 in
-    nowhere is_ruled difs (no_more (λ i. 1 + length wires + i) (position is_ruled difs) (after (first_item 1 is_stormy wires) (first_item (1 + length wires) is_ruled difs) none))
+    let none = (neither (keys_fault d) (first_item (1 + length wires) is_ruled difs) h).1 in
+    nowhere is_ruled difs (no_more (λ i. 1 + length wires + i) (position is_ruled difs) none)
 
 all_static : (d : Data) → unready_type d ≡ None → All (λ x. is_dynamic x ≡ false) (items_at (codes "dif") d)
 unfolding unready_type first_dynamic

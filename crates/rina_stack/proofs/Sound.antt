@@ -5,6 +5,9 @@ use Rattle.std.proofs.lemmas.List.{length-map}
 use Rattle.std.proofs.lemmas.List.Elements.{All-map}
 use Rattle.toml.specs.Data.{Data}
 use Rattle.rina_plan.proofs.Carried.{carried}
+use Rattle.rina_plan.proofs.Kept.{has_lower, has_cubes, has_members, has_roomy_pdu, has_fit_sdus, is_standing, fit_links, are_taken}
+use Rattle.rina_plan.specs.declared.dif.DifPlan.{DifPlan}
+use Rattle.rina_plan.specs.declared.dif.WireEnds.{WireEnds}
 use Rattle.rina_stack.specs.declared.plan.Plan.{Plan}
 use Rattle.rina_table.specs.declared.sketch.WireSketch.{WireSketch}
 use Rattle.rina_table.specs.declared.sketch.Sketch.{Sketch}
@@ -49,9 +52,11 @@ wire_planned nodes w s h = record {
   apart = h.0;
   least_delay = s.least_delay;
   delay = omega (arith, h.1);
+  arrives = h.1;
   life = s.life;
   least_largest = s.least_largest;
   largest = s.largest;
+  storm = s.storm;
 }
 
 same_ends : (ws : List WireSketch) → map ends_of ws ≡ map wire_ends (map narrow ws)
@@ -61,6 +66,8 @@ same_ends (w ∷ ws) = ap (λ es. ends_of w ∷ es) (same_ends ws)
 planned : (s : Sketch) → IsTried s → IsPlan (plan_of s)
 planned s r =
     let by : NoneBrokenBy (map wire_ends (map narrow s.wires)) s.difs = subst (λ es. NoneBrokenBy es s.difs) (same_ends s.wires) r.unbroken_rules.difs in
+    let ends : List WireEnds = map wire_ends (map narrow s.wires) in
+    let ranked : All (λ (e : DifPlan). 1 ≤ e.rank) s.difs = λ k e within. (r.difs k e within).least_rank in
     record {
       few_nodes = r.unbroken_rules.few_nodes;
       few_wires = omega (arith, r.unbroken_rules.few_wires, length-map s.wires narrow);
@@ -73,14 +80,19 @@ planned s r =
       dif_names = λ k e within. (r.named k e within).name;
       app_names = λ k e within. (r.named k e within).flows;
       difs = subst (λ (m : ℕ). All (IsRangedDif (length s.nodes) m (length s.difs)) s.difs) (sym (length-map s.wires narrow)) r.difs;
-      ranks = by.ranks;
+      ranks = λ k e within. has_lower s.difs (get_or s.difs k e) (by.ranks k e within);
+      ids = λ k e within. has_cubes (get_or s.difs k e) (by.cubes k e within);
       cubes = by.cubes;
       times = λ k e within. let d = get_or s.difs k e in let ranged = r.difs k e within in whole_cubes d ranged.manage ranged.cubes (by.times k e within);
+      places = λ k e within. has_members (get_or s.difs k e) (r.difs k e within).widths.addr (by.members k e within);
       members = by.members;
+      sizes = λ k e within. has_roomy_pdu (get_or s.difs k e) (r.difs k e within).widths.len (by.pdus k e within);
       pdus = by.pdus;
-      sdus = by.sdus;
-      uses = by.uses;
+      sdus = λ k e within. has_fit_sdus (get_or s.difs k e) (by.sdus k e within);
+      uses = λ k e within. is_standing ends s.difs (get_or s.difs k e) ranked (by.links k e within) (by.uses k e within);
+      joints = λ k e within. fit_links ends s.difs (get_or s.difs k e) (by.links k e within);
       links = by.links;
+      taken = λ k e within. are_taken ends s.difs (get_or s.difs k e) (by.carried k e within);
       carried = by.carried;
       single = λ i within. by.single i (omega (arith, length-map s.wires narrow, length-map (map narrow s.wires) wire_ends));
       flows = λ k e within. (carried s.difs (get_or s.difs k e) (by.joined k e within)).0;

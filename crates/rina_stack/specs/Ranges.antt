@@ -1,5 +1,6 @@
 -- What holds of the wires and DIFs of a stack that was read with its references.
-use Rattle.std.specs.Prelude.{◌≡◌, ℕ, ◌<◌, ◌≤◌, All, length, Ok}
+use Rattle.std.specs.Prelude.{◌≡◌, ℕ, ◌^◌, ◌<◌, ◌≤◌, All, length, Option, Some, None, Ok}
+use Rattle.rina_base.specs.declared.storm.Storm.{Storm}
 use Rattle.rina_base.specs.Names.{name_at}
 use Rattle.rina_cube.specs.declared.Cube.{Cube}
 use Rattle.rina_pci.specs.Spelling.{AreWidths}
@@ -11,6 +12,11 @@ use Rattle.rina_plan.specs.Numbers.{IsLower}
 use Rattle.rina_table.specs.declared.sketch.WireSketch.{WireSketch}
 use Rattle.rina_table.specs.declared.sketch.Sketch.{Sketch}
 
+-- the numbers of a storm are in range: its seed has 53 bits, and it loses and repeats so many of 1,000 frames
+abbrev pub IsRangedStorm : Option Storm → Type 0
+IsRangedStorm None = Unit {0}
+IsRangedStorm (Some s) = (s.seed < 2 ^ 53) × (s.lose ≤ 1000) × (s.repeat ≤ 1000) × (s.spread ≤ 100000)
+
 -- a wire among so many nodes: its ends are there, and its numbers are in range
 pub record IsRangedWire (nodes : ℕ) (w : WireSketch) : Type 0 where
   pub a : w.a < nodes
@@ -19,6 +25,7 @@ pub record IsRangedWire (nodes : ℕ) (w : WireSketch) : Type 0 where
   pub life : w.life ≤ 100000
   pub least_largest : 1 ≤ w.largest
   pub largest : w.largest ≤ 65535
+  pub storm : IsRangedStorm w.storm
 
 -- a link among so many nodes, wires and DIFs
 pub record IsSoundLink (nodes wires difs : ℕ) (l : LinkPlan) : Type 0 where

@@ -4,7 +4,7 @@ use Rattle.std.specs.List.{list_any}
 use Rattle.std.specs.Str.{bytes_eq}
 use Rattle.rina_plan.specs.declared.dif.FlowPlan.{FlowPlan}
 use Rattle.rina_plan.specs.declared.dif.DifPlan.{DifPlan}
-use Rattle.rina_table.specs.declared.sketch.Storm.{Storm}
+use Rattle.rina_base.specs.declared.storm.Storm.{Storm}
 use Rattle.rina_table.specs.declared.sketch.WireSketch.{WireSketch}
 use Rattle.rina_table.specs.declared.sketch.Sketch.{Sketch}
 

@@ -6,7 +6,7 @@ use Rattle.rina_plan.specs.declared.dif.DifPlan.{DifPlan}
 use Rattle.rina_table.specs.declared.error.StackError.{StackError}
 use Rattle.rina_table.specs.declared.error.StackError.TheVariants.{Memory, NotToml, StackRule}
 use Rattle.rina_table.specs.Faults.{unless}
-use Rattle.rina_table.specs.Keys.{items_at, first_item, or_next, keys_fault}
+use Rattle.rina_table.specs.Keys.{items_at, first_item, keys_fault}
 use Rattle.rina_table.specs.declared.sketch.Sketch.{Sketch}
 use Rattle.rina_table.specs.Items.{sketch_at}
 use Rattle.rina_stack.specs.declared.plan.Plan.{Plan}
@@ -14,20 +14,15 @@ use Rattle.rina_stack.specs.Rules.{earlier}
 use Rattle.rina_stack.specs.Scopes.{unresolved_scope}
 use Rattle.rina_stack.specs.Stack.{stack_at, ReadsBy}
 
-abbrev pub is_stormy : Data → Bool
-is_stormy d = is_some (get (codes "storm") d)
-
 -- rules of access control, or what is allowed without one
 abbrev pub is_ruled : Data → Bool
 is_ruled d = is_some (get (codes "rule") d) || is_some (get (codes "default") d)
 
--- the first wire with a storm, else the first DIF with rules
+-- the first DIF with rules
 unfoldable pub unready_item : Data → Option ℕ
-unready_item d =
-    let wires = items_at (codes "wire") d in
-    or_next (first_item 1 is_stormy wires) (first_item (1 + length wires) is_ruled (items_at (codes "dif") d))
+unready_item d = first_item (1 + length (items_at (codes "wire") d)) is_ruled (items_at (codes "dif") d)
 
--- the program runs no storms and no access rules: they are refused as keys that are not listed
+-- the program runs no access rules: they are refused as keys that are not listed
 unfoldable pub unready_key : Data → Option ℕ
 unready_key d = earlier (keys_fault d) (unready_item d)
 

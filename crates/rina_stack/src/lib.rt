@@ -14,5 +14,5 @@ mod shelf;
 pub use plan::{Plan, WirePlan};
 pub use policies::{BuiltIn, Policies};
 pub use read::read_stack;
-pub use rina_table::{Rounds, StackError, Storm};
+pub use rina_table::{Rounds, StackError};
 pub use runnable::read_runnable;

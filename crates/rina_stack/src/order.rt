@@ -1,7 +1,10 @@
 //! The rules from 8 on in their order, over a stack in which names are resolved.
-ghost use Rattle.std.specs.Prelude.{◌≡◌, ◌+◌, IfOk, length, map, option_map};
+ghost use Rattle.std.specs.Prelude.{◌≡◌, ◌+◌, None, IfOk, IfErr, length, map, option_map, position};
+ghost use Rattle.rina_plan.specs.Difs.{lacks_lower};
+ghost use Rattle.rina_plan.specs.Links.{is_misused};
 ghost use Rattle.rina_plan.specs.Counts.{first_full};
 ghost use Rattle.rina_table.specs.Faults.{Gives, unless};
+ghost use Rattle.rina_stack.specs.Rules.{first_wire, is_unfit_wire};
 ghost use Rattle.rina_stack.specs.Order.{ends_of, alone_at, linked_at, difs_at, rules_at};
 
 use crate::rules::{first_unfit_wire, too_many};
@@ -28,10 +31,11 @@ fn ends(alloc: Global, wires: &[WireSketch]) -> Result<Vec<WireEnds>, AllocError
     Ok(ends)
 }
 
-/// The rules from 9 to 14. `first` is the item of the first DIF.
+/// The rules from 9 to 14. `first` is the item of the first DIF. Rule 9 wants no memory.
 #[tactic(auto, unfolding(crate::specs::Order::alone_at))]
 fn check_alone(alloc: Global, first: usize, difs: &[DifPlan]) -> Result<(), StackError>
-    ensures { Gives (λ t. t) result (alone_at first difs.now) }
+    ensures read { Gives (λ t. t) result (alone_at first difs.now) }
+    ensures memory { IfErr result (λ e. e ≡ StackError.Memory → position (lacks_lower difs.now) difs.now ≡ None) }
 {
     check_difs(9, first, first_without_lower(difs))?;
     let cubes = first_without_cubes(alloc, difs)?;
@@ -43,7 +47,7 @@ fn check_alone(alloc: Global, first: usize, difs: &[DifPlan]) -> Result<(), Stac
     check_difs(14, first, first_oversized(difs))
 }
 
-/// The rules from 15 to 18, on links and flows.
+/// The rules from 15 to 18, on links and flows. Rule 15 wants no memory.
 #[tactic(auto, unfolding(crate::specs::Order::linked_at))]
 fn check_linked(
     alloc: Global,
@@ -51,7 +55,8 @@ fn check_linked(
     wires: &[WireEnds],
     difs: &[DifPlan],
 ) -> Result<(), StackError>
-    ensures { Gives (λ t. t) result (linked_at first wires.now difs.now) }
+    ensures read { Gives (λ t. t) result (linked_at first wires.now difs.now) }
+    ensures memory { IfErr result (λ e. e ≡ StackError.Memory → position (is_misused difs.now) difs.now ≡ None) }
 {
     check_difs(15, first, first_misused(difs))?;
     let loaded = first_loaded(alloc, wires.len(), difs)?;
@@ -84,10 +89,11 @@ fn check_counts(alloc: Global, sketch: &Sketch) -> Result<(), StackError>
     check_difs(19, first, full)
 }
 
-/// The rules from 8 on.
+/// The rules from 8 on. Rule 8 wants no memory.
 #[tactic(auto, unfolding(crate::specs::Order::rules_at))]
 pub(crate) fn check_rules(alloc: Global, sketch: &Sketch) -> Result<(), StackError>
-    ensures { Gives (λ t. t) result (rules_at sketch.now) }
+    ensures read { Gives (λ t. t) result (rules_at sketch.now) }
+    ensures memory { IfErr result (λ e. e ≡ StackError.Memory → first_wire is_unfit_wire sketch.now.wires ≡ None) }
 {
     check(8, first_unfit_wire(sketch.wires.as_slice()))?;
     check_all_difs(alloc, sketch)?;

@@ -5,9 +5,9 @@ ghost use Rattle.rina_stack.specs.declared.plan.WirePlan.{WirePlan};
 ghost use Rattle.rina_table.specs.Names.{place_in};
 ghost use Rattle.rina_stack.specs.Plan.{names_of, IsPlan};
 
-use rina_base::{Name, Node, Seq};
+use rina_base::{Name, Node, Seq, Storm};
 use rina_plan::DifPlan;
-use rina_table::{Rounds, Storm};
+use rina_table::Rounds;
 
 /// A stack: its systems, the wires between them, and the DIFs above.
 #[derive(Drop)]

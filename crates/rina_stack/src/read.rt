@@ -1,8 +1,10 @@
 //! A stack is read from a text, rule by rule.
-ghost use Rattle.std.specs.Prelude.{◌≡◌, ◌<◌, ◌^◌, All, Ok, IfOk, map};
+ghost use Rattle.std.specs.Prelude.{◌≡◌, ◌<◌, ◌^◌, ◌↔◌, All, Ok, None, IfOk, IfErr, IsOk, map};
 ghost use Rattle.toml.specs.View.{view};
+ghost use Rattle.toml.specs.Errors.{IsMemory};
 ghost use Rattle.rina_table.specs.declared.sketch.WireSketch.{WireSketch};
 ghost use Rattle.rina_table.specs.Faults.{Gives};
+ghost use Rattle.rina_table.specs.Keys.{keys_fault};
 ghost use Rattle.rina_stack.specs.Stack.{narrow, plan_of, unknown_item, resolved_at, stack_at, Reads};
 ghost use Rattle.rina_stack.specs.Plan.{IsPlan};
 
@@ -18,10 +20,11 @@ use toml::Value;
 
 /// The item of the first DIF whose policy does not exist.
 fn unknown_of<P: Policies>(policies: &P, named: &Sketch) -> Result<Option<usize>, StackError>
-    ensures { Gives (λ f. f) result (Ok (unknown_item (P.knows policies.now) named.now)) }
+    ensures read { Gives (λ f. f) result (Ok (unknown_item (P.knows policies.now) named.now)) }
+    ensures counted { IsOk result }
 {
     let difs = named.difs.as_slice();
-    let first = first_dif_item(named.wires.len(), difs.len())?;
+    let first = first_dif_item(named.wires.as_slice().len(), difs.len())?;
     match first_unknown(policies, difs) {
         Some(at) => Ok(Some(first + at)),
         None => Ok(None),
@@ -83,14 +86,15 @@ fn plan(alloc: Global, sketch: Sketch) -> Result<Plan, Memory>
     })
 }
 
-/// The stack of a table, or the first rule that it breaks.
+/// The stack of a table, or the first rule that it breaks. A key that is not listed is told also where memory ran out.
 #[tactic(auto, unfolding(crate::specs::Stack::stack_at))]
 pub(crate) fn stack_of<P: Policies>(
     alloc: Global,
     policies: &P,
     stack: &Value,
 ) -> Result<Plan, StackError>
-    ensures { Gives (λ p. p) result (stack_at (P.knows policies.now) (view stack.now)) }
+    ensures read { Gives (λ p. p) result (stack_at (P.knows policies.now) (view stack.now)) }
+    ensures memory { IfErr result (λ e. e ≡ StackError.Memory → keys_fault (view stack.now) ≡ None) }
 {
     let unlisted = key_fault(stack)?;
     check(2, unlisted)?;
@@ -104,6 +108,18 @@ pub(crate) fn stack_of<P: Policies>(
     Ok(plan(alloc, sketch)?)
 }
 
+/// Why a text was not read as TOML: memory ran out, or it is none.
+pub(crate) fn unread(error: &toml::de::Error) -> StackError
+    ensures memory { (result ≡ StackError.Memory) ↔ IsMemory error.now }
+    ensures other { (result ≡ StackError.NotToml) ↔ ¬ (IsMemory error.now) }
+{
+    if error.is_memory() {
+        StackError::Memory
+    } else {
+        StackError::NotToml
+    }
+}
+
 /// The stack that a text describes, or the first rule that it breaks.
 pub fn read_stack<P: Policies>(alloc: Global, text: &[u8], policies: &P) -> Result<Plan, StackError>
     ensures reads { Reads (P.knows policies.now) result text.now }
@@ -111,12 +127,6 @@ pub fn read_stack<P: Policies>(alloc: Global, text: &[u8], policies: &P) -> Resu
 {
     match toml::table_from_slice(alloc, text) {
         Ok(table) => stack_of(alloc, policies, &Value::Table(table)),
-        Err(error) => {
-            if error.is_memory() {
-                Err(StackError::Memory)
-            } else {
-                Err(StackError::NotToml)
-            }
-        }
+        Err(error) => Err(unread(&error)),
     }
 }

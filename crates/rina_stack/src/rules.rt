@@ -2,7 +2,8 @@
 ghost use Rattle.std.specs.Prelude.{◌≡◌, ◌<◌, length, IfSome, position};
 ghost use Rattle.rina_stack.specs.Rules.{spread_of, is_unfit_wire, first_wire, top_fault};
 
-use rina_table::{Sketch, Storm, WireSketch};
+use rina_base::Storm;
+use rina_table::{Sketch, WireSketch};
 
 fn spread(storm: Option<Storm>) -> u32
     ensures { result ≡ spread_of storm }

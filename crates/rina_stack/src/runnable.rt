@@ -1,41 +1,20 @@
-//! Refuses what the program does not run: storms, access rules, and DIFs that are not static.
-ghost use Rattle.std.specs.Prelude.{◌≡◌, ◌<◌, Ok, length, map, position, IfOk, IfSome};
+//! Refuses what the program does not run: access rules, and DIFs that are not static.
+ghost use Rattle.std.specs.Prelude.{◌≡◌, ◌<◌, Ok, None, length, map, position, IfOk, IfErr, IsOk, IfSome};
 ghost use Rattle.toml.specs.View.{view};
 ghost use Rattle.rina_table.specs.Faults.{Gives};
 ghost use Rattle.rina_table.specs.Items.{sketch_at};
 ghost use Rattle.rina_stack.specs.Scopes.{unresolved_scope};
 ghost use Rattle.rina_stack.specs.Plan.{IsPlan};
-ghost use Rattle.rina_stack.specs.Runnable.{is_stormy, is_ruled, is_dynamic, unready_item, unready_key, first_dynamic, item_of, unready_type, runnable_at, ReadsRunnable, IsRunnable};
+ghost use Rattle.rina_stack.specs.Runnable.{is_ruled, is_dynamic, unready_item, unready_key, first_dynamic, item_of, unready_type, runnable_at, ReadsRunnable, IsRunnable};
 
 use crate::duplicates::earlier;
 use crate::plan::Plan;
 use crate::policies::Policies;
-use crate::read::stack_of;
+use crate::read::{stack_of, unread};
 use crate::references::read_unresolved;
 use rina_table::{StackError, check, first_dif_item, items_at, key_fault};
 use std::alloc::Global;
 use toml::Value;
-
-fn is_stormy(wire: &Value) -> bool
-    ensures { result ≡ is_stormy (view wire.now) }
-{
-    wire.get("storm").is_some()
-}
-
-fn first_stormy_in(wires: &[Value]) -> Option<usize>
-    ensures place { result ≡ position (λ v. is_stormy (view v)) wires.now }
-    ensures within { IfSome result (λ i. i < length wires.now) }
-{
-    wires.iter().position(|wire| is_stormy(wire))
-}
-
-/// The first wire with a storm.
-fn first_stormy(wires: &[Value]) -> Option<usize>
-    ensures place { result ≡ position is_stormy (map view wires.now) }
-    ensures within { IfSome result (λ i. i < length wires.now) }
-{
-    first_stormy_in(wires)
-}
 
 fn is_ruled(dif: &Value) -> bool
     ensures { result ≡ is_ruled (view dif.now) }
@@ -57,15 +36,13 @@ fn first_ruled(difs: &[Value]) -> Option<usize>
     first_ruled_in(difs)
 }
 
-/// The first item with a key that does not run.
+/// The first DIF with a key that does not run.
 #[tactic(auto, unfolding(crate::specs::Runnable::unready_item))]
 fn unready_item(stack: &Value) -> Result<Option<usize>, StackError>
-    ensures { Gives (λ f. f) result (Ok (unready_item (view stack.now))) }
+    ensures read { Gives (λ f. f) result (Ok (unready_item (view stack.now))) }
+    ensures counted { IsOk result }
 {
     let wires = items_at(stack, "wire");
-    if let Some(at) = first_stormy(wires) {
-        return Ok(Some(1 + at));
-    }
     let difs = items_at(stack, "dif");
     let first = first_dif_item(wires.len(), difs.len())?;
     match first_ruled(difs) {
@@ -77,7 +54,8 @@ fn unready_item(stack: &Value) -> Result<Option<usize>, StackError>
 /// The first item with a key that is not listed or does not run.
 #[tactic(auto, unfolding(crate::specs::Runnable::unready_key))]
 fn unready_key(stack: &Value) -> Result<Option<usize>, StackError>
-    ensures { Gives (λ f. f) result (Ok (unready_key (view stack.now))) }
+    ensures read { Gives (λ f. f) result (Ok (unready_key (view stack.now))) }
+    ensures counted { IsOk result }
 {
     let fault = key_fault(stack)?;
     let unready = unready_item(stack)?;
@@ -113,7 +91,8 @@ fn first_dynamic_of(difs: &[Value]) -> Option<usize>
 /// The first DIF that is not static.
 #[tactic(auto, unfolding(crate::specs::Runnable::first_dynamic))]
 fn first_dynamic(stack: &Value) -> Result<Option<usize>, StackError>
-    ensures { Gives (λ f. f) result (Ok (first_dynamic (view stack.now))) }
+    ensures read { Gives (λ f. f) result (Ok (first_dynamic (view stack.now))) }
+    ensures counted { IsOk result }
 {
     let wires = items_at(stack, "wire");
     let difs = items_at(stack, "dif");
@@ -145,9 +124,11 @@ fn unready_type(alloc: Global, stack: &Value) -> Result<Option<usize>, StackErro
     Ok(earlier(fault, dynamic))
 }
 
+/// The stack of a table that runs, or the first rule that it breaks. A key that is not listed or does not run is told also where memory ran out.
 #[tactic(auto, unfolding(crate::specs::Runnable::runnable_at))]
 fn runnable_of<P: Policies>(alloc: Global, policies: &P, stack: &Value) -> Result<Plan, StackError>
-    ensures { Gives (λ p. p) result (runnable_at (P.knows policies.now) (view stack.now)) }
+    ensures read { Gives (λ p. p) result (runnable_at (P.knows policies.now) (view stack.now)) }
+    ensures memory { IfErr result (λ e. e ≡ StackError.Memory → unready_key (view stack.now) ≡ None) }
 {
     let key = unready_key(stack)?;
     check(2, key)?;
@@ -157,8 +138,8 @@ fn runnable_of<P: Policies>(alloc: Global, policies: &P, stack: &Value) -> Resul
 }
 
 /// The stack that a text describes, or the first rule that it breaks. What the program does not run breaks a
-/// rule: a wire's `storm` and a DIF's `rule` and `default` count as keys that are not listed (rule 2), and a
-/// DIF that is not static lacks `static = true` (rule 3).
+/// rule: a DIF's `rule` and `default` count as keys that are not listed (rule 2), and a DIF that is not static
+/// lacks `static = true` (rule 3).
 pub fn read_runnable<P: Policies>(
     alloc: Global,
     text: &[u8],
@@ -170,12 +151,6 @@ pub fn read_runnable<P: Policies>(
 {
     match toml::table_from_slice(alloc, text) {
         Ok(table) => runnable_of(alloc, policies, &Value::Table(table)),
-        Err(error) => {
-            if error.is_memory() {
-                Err(StackError::Memory)
-            } else {
-                Err(StackError::NotToml)
-            }
-        }
+        Err(error) => Err(unread(&error)),
     }
 }

@@ -1,8 +1,8 @@
 //! What a plan says of a stack.
 use crate::cases::WHOLE;
-use rina_base::Name;
+use rina_base::{Name, Storm};
 use rina_plan::Lower;
-use rina_stack::{BuiltIn, Rounds, Storm, read_stack};
+use rina_stack::{BuiltIn, Rounds, read_stack};
 use std::test::Fail;
 
 #[test]

@@ -1,9 +1,12 @@
 -- Copies in flight stay copies of frames that were sent.
-use Rattle.std.proofs.Common.{◌≡◌, ℕ, ◌<◌, ◌≤◌, cond, true, false, List, [], ◌∷◌, ◌++◌, length, slice_get, slice_set, filter, nat_lt, Some, All, refl, sym, ◌∙◌, ap, inl, inr, arith}
+use Rattle.std.proofs.Common.{◌≡◌, ℕ, ◌<◌, ◌≤◌, cond, true, false, List, [], ◌∷◌, ◌++◌, length, slice_get, slice_set, filter, nat_lt, Some, None, All, refl, sym, ◌∙◌, ap, inl, inr, arith}
 use Rattle.std.proofs.lemmas.Bool.{ltb-true}
 use Rattle.std.proofs.lemmas.Bool.Decides.{eqb_tells}
 use Rattle.std.proofs.lemmas.List.Elements.{All-cons, All-head, All-nil, All-tail, All-weaker}
 use Rattle.std.proofs.lemmas.Option.{same_Some}
+use Rattle.rina_draws.specs.declared.storm.Fate.{Fate}
+use Rattle.rina_draws.specs.declared.storm.Fate.TheVariants.{Lost, Sent}
+use Rattle.rina_draws.specs.Storm.{IsWithin}
 use Rattle.rina_law.specs.declared.entry.Entry.{Entry}
 use Rattle.rina_iface.specs.declared.ends.End.{End}
 use Rattle.rina_iface.specs.declared.state.PortState.TheVariants.{Allocated}
@@ -11,9 +14,10 @@ use Rattle.rina_iface.specs.Ends.{with_sent}
 use Rattle.rina_iface.specs.Journal.{At}
 use Rattle.rina_iface.proofs.Changed.{slice_get-set_other, slice_get-set_same}
 use Rattle.rina_iface.proofs.Grown.{last_at, still_at}
+use Rattle.rina_stack.specs.Rules.{spread_of}
 use Rattle.rina_wire.specs.declared.flight.Flight.{Flight}
 use Rattle.rina_wire.specs.Air.{Line}
-use Rattle.rina_wire.specs.Send.{flight_of, frame_number, mate}
+use Rattle.rina_wire.specs.Send.{flight_of, flights_of, mate, next_entry}
 use Rattle.rina_wire.specs.Sound.{IsCopy, IsSoundLine}
 use Rattle.rina_wire.proofs.Mates.{mate_mate}
 
@@ -57,10 +61,10 @@ copies_set life now ends i e e' fs at state still cs = All-weaker (IsCopy life n
 pub copies_more : (life now : ℕ) (ends more : List End) (fs : List Flight) → All (IsCopy life now ends) fs → All (IsCopy life now (ends ++ more)) fs
 copies_more life now ends more fs cs = All-weaker (IsCopy life now ends) (IsCopy life now (ends ++ more)) (λ f c. copy_by life now ends (ends ++ more) f c (record { sender = c.sender; stands = still_at ends more (mate f.to) c.sender c.stands; allocated = c.allocated; still = λ j x h. h })) fs cs
 
--- the copy of a frame that is sent now
-pub copy_new : (now : ℕ) (bytes : List ℕ) (l : Line) (i : ℕ) (e : End) → IsSoundLine l → e.state ≡ Allocated → At l.ends i e → IsCopy l.life now (slice_set l.ends i (with_sent e (record { tick = now; num = frame_number l.frames; bytes = bytes }))) (flight_of now bytes l i)
-copy_new now bytes l i e line allocated at =
-    let x : Entry = record { tick = now; num = frame_number l.frames; bytes = bytes } in
+-- a copy of a frame that is sent now
+copy_new : (now : ℕ) (bytes : List ℕ) (l : Line) (i : ℕ) (e : End) (late : ℕ) → IsSoundLine l → late ≤ spread_of l.storm → e.state ≡ Allocated → At l.ends i e → IsCopy l.life now (slice_set l.ends i (with_sent e (next_entry now bytes l))) (flight_of now bytes l i late)
+copy_new now bytes l i e late line short allocated at =
+    let x : Entry = next_entry now bytes l in
     record {
       sender = with_sent e x;
       stands = rw (mate_mate i) (slice_get-set_same l.ends i e (with_sent e x) at);
@@ -73,8 +77,20 @@ copy_new now bytes l i e line allocated at =
       since = refl;
       sent = omega arith;
       waits = omega (arith, line.least_delay);
-      in_time = omega (arith, line.delay);
+      in_time = omega (arith, line.arrives, short);
     }
+
+-- the copies of a frame that is sent now
+pub copies_new : (now : ℕ) (bytes : List ℕ) (l : Line) (i : ℕ) (e : End) (fate : Fate) → IsSoundLine l → IsWithin (spread_of l.storm) fate → e.state ≡ Allocated → At l.ends i e → All (IsCopy l.life now (slice_set l.ends i (with_sent e (next_entry now bytes l)))) (flights_of now bytes l i fate)
+unfolding flights_of
+copies_new now bytes l i e Lost line short allocated at = All-nil (IsCopy l.life now (slice_set l.ends i (with_sent e (next_entry now bytes l))))
+copies_new now bytes l i e (Sent late None) line short allocated at =
+    let P : Flight → Type 0 = IsCopy l.life now (slice_set l.ends i (with_sent e (next_entry now bytes l))) in
+    All-cons P (flight_of now bytes l i late) [] (copy_new now bytes l i e late line short.0 allocated at) (All-nil P)
+copies_new now bytes l i e (Sent late (Some again)) line short allocated at =
+    let P : Flight → Type 0 = IsCopy l.life now (slice_set l.ends i (with_sent e (next_entry now bytes l))) in
+    let copy : Flight = flight_of now bytes l i again in
+    All-cons P (flight_of now bytes l i late) (copy ∷ []) (copy_new now bytes l i e late line short.0 allocated at) (All-cons P copy [] (copy_new now bytes l i e again line short.1 allocated at) (All-nil P))
 
 copy_waits : (life before now : ℕ) (ends : List End) (f : Flight) → before ≤ now → now < f.due → IsCopy life before ends f → IsCopy life now ends f
 copy_waits life before now ends f le lt c = record {

@@ -1,15 +1,21 @@
 -- A change of one wire keeps all wires sound.
 use Rattle.std.proofs.Common.{◌≡◌, ℕ, ◌+◌, ◌==◌, cond, List, [], ◌∷◌, ◌++◌, slice_get, slice_set, Some, None, Option, option_map, All, refl, sym, ap, ◌∙◌, arith, subst}
 use Rattle.std.proofs.Common.{◌<◌, Bool, true, IsSome, inl, inr, length, length-set, drop, rules, suc, take}
-use Rattle.std.proofs.lemmas.List.Elements.{All-append, All-cons, All-drop, All-nil, All-set, All-take}
+use Rattle.std.proofs.lemmas.List.Elements.{All-append, All-drop, All-set, All-take}
 use Rattle.rina_iface.proofs.Changed.{set_at}
 use Rattle.rina_iface.proofs.Grown.{still_at}
 use Rattle.rina_wire.specs.Send.{unpassed_at}
 use Rattle.rina_wire.specs.Sound.{IsCopy, IsFarPlace, KeepsFlows, site_of}
 use Rattle.rina_wire.proofs.Changes.{ends_passed, ends_sent}
-use Rattle.rina_wire.proofs.Copies.{copies_set, copy_new}
+use Rattle.rina_wire.proofs.Copies.{copies_new, copies_set}
 use Rattle.rina_wire.proofs.Kept.{sound_of}
+use Rattle.rand_pcg.specs.Lcg.{Lcg}
 use Rattle.rina_base.specs.declared.number.Port.{Port}
+use Rattle.rina_base.specs.declared.storm.Storm.{Storm}
+use Rattle.rina_draws.specs.Storm.{IsWithin, after_frames, fate_drawn}
+use Rattle.rina_draws.proofs.Within.{fate_within}
+use Rattle.rina_stack.specs.Rules.{spread_of}
+use Rattle.rina_wire.specs.Storm.{draws_at, fate_under}
 use Rattle.rina_law.specs.declared.entry.Entry.{Entry}
 use Rattle.rina_iface.specs.declared.ends.End.{End}
 use Rattle.rina_iface.specs.declared.state.PortState.TheVariants.{Allocated}
@@ -24,9 +30,9 @@ use Rattle.rina_wire.specs.Sound.{IsSound, IsSoundLine}
 use Rattle.rina_iface.proofs.Changed.{all_at}
 use Rattle.rina_iface.specs.declared.ask.Registered.{Registered}
 use Rattle.rina_wire.specs.Air.{put}
-use Rattle.rina_wire.specs.Send.{flight_of, frame_number}
+use Rattle.rina_wire.specs.Send.{flights_of, next_entry, next_fate}
 use Rattle.rina_iface.specs.Register.{with_name}
-use Rattle.std.proofs.Common.{remove}
+use Rattle.std.proofs.Common.{add-one, remove}
 use Rattle.std.proofs.Common.{get_or}
 use Rattle.std.proofs.lemmas.Option.{get_or_from_slice_get, slice_get_within}
 use Rattle.std.proofs.lemmas.List.Sums.{sum_by-set}
@@ -67,13 +73,15 @@ like_set es i e e' h port cube = record {
 }
 
 -- only the ends of a sound wire matter, beside what never changes
-pub keeps : (l : Line) (es : List End) (ws : List ℕ) (ns : List Registered) (fr : ℕ) (fs : List Flight) → IsSoundLine l → IsLike l.ends es → IsSoundLine (record l { ends = es; waiting = ws; names = ns; frames = fr; flights = fs })
-keeps l es ws ns fr fs s like = record {
+pub keeps : (l : Line) (es : List End) (ws : List ℕ) (ns : List Registered) (fs : List Flight) → IsSoundLine l → IsLike l.ends es → IsSoundLine (record l { ends = es; waiting = ws; names = ns; flights = fs })
+keeps l es ws ns fs s like = record {
   apart = s.apart;
   least_delay = s.least_delay;
-  delay = s.delay;
+  arrives = s.arrives;
   life = s.life;
   largest = s.largest;
+  storm = s.storm;
+  draws = s.draws;
   cubes = like.cubes s.cubes;
   drawn_a = like.drawn l.a ∙ s.drawn_a;
   drawn_b = like.drawn l.b ∙ s.drawn_b;
@@ -111,11 +119,11 @@ pub named_flows : (now : ℕ) (failed : Bool) (fac node : ℕ) (app : List ℕ) 
 named_flows now failed fac node app l k = flows_of now failed fac l l.waiting (with_name l.names node app) k k.waiting
 
 pub named_stays : (node : ℕ) (app : List ℕ) (l : Line) → IsSoundLine l → IsSoundLine (named node app l)
-named_stays node app l s = keeps l l.ends l.waiting (with_name l.names node app) l.frames l.flights s (like_refl l.ends)
+named_stays node app l s = keeps l l.ends l.waiting (with_name l.names node app) l.flights s (like_refl l.ends)
 
 without_stays : (l : Line) (o : Option ℕ) → IsSoundLine l → IsSoundLine (without l o)
 without_stays l None s = s
-without_stays l (Some at) s = keeps l l.ends (remove l.waiting at) l.names l.frames l.flights s (like_refl l.ends)
+without_stays l (Some at) s = keeps l l.ends (remove l.waiting at) l.names l.flights s (like_refl l.ends)
 
 pub all_remove : {X : Type 0} (P : X → Type 0) (xs : List X) (i : ℕ) → All P xs → All P (remove xs i)
 all_remove P xs i all = All-append P (take i xs) (drop (suc i) xs) (All-take P i xs all) (All-drop P (suc i) xs all)
@@ -136,7 +144,7 @@ pub sound_on_end : (a : Air) (port : Port) (change : Line → ℕ → End → Li
 sound_on_end a port change s keep keep_flows = sound_on_wire a port.fac (λ (l : Line). put_end change l (place_in port l.ends)) s (λ l h k. put_end_keeps IsSoundLine l change (place_in port l.ends) (λ i e at g. keep l i e k g) k) (λ l h k f. put_end_keeps (KeepsFlows a.now a.failed port.fac) l change (place_in port l.ends) (λ i e at g. keep_flows l i e h at g k f) f)
 
 passed_stays : (l : Line) (i : ℕ) (e : End) → IsSoundLine l → slice_get l.ends i ≡ Some e → IsSoundLine (passed_at l i e)
-passed_stays l i e s h = keeps l (slice_set l.ends i (with_passed e)) l.waiting l.names l.frames l.flights s (like_set l.ends i e (with_passed e) h refl refl)
+passed_stays l i e s h = keeps l (slice_set l.ends i (with_passed e)) l.waiting l.names l.flights s (like_set l.ends i e (with_passed e) h refl refl)
 
 -- what waits to be passed was got
 some_within : (xs : List Entry) (i : ℕ) → IsSome (slice_get xs i) → i < length xs
@@ -159,19 +167,41 @@ waits_here a port l i e wire place at w = some_within e.got e.taken (rw (wire, p
 pub sound_passed : (a : Air) (port : Port) → IsSound a → IsSome (unpassed_at a port) → IsSound (passed a port)
 sound_passed a port s w = sound_on_end a port passed_at s passed_stays (λ l i e wire place at line k. passed_flows a.now a.failed port.fac l i e k at (waits_here a port l i e wire place at w))
 
+-- the generator after one more frame
+draws_next : (storm : Option Storm) (g : Lcg) (frames : ℕ) → g ≡ draws_at storm frames → (fate_under storm g).1 ≡ draws_at storm (frames + 1)
+draws_next None g frames is = is
+draws_next (Some storm) g frames is = ap (λ (h : Lcg). (fate_drawn storm h).1) is ∙ ap (after_frames storm) (sym (add-one frames))
+
 pub sent_stays : (now : ℕ) (bytes : List ℕ) (l : Line) (i : ℕ) (e : End) → IsSoundLine l → slice_get l.ends i ≡ Some e → IsSoundLine (sent_from now bytes l i e)
 sent_stays now bytes l i e s h =
-    let x : Entry = record { tick = now; num = frame_number l.frames; bytes = bytes } in
-    keeps l (slice_set l.ends i (with_sent e x)) l.waiting l.names (l.frames + 1) (l.flights ++ flight_of now bytes l i ∷ []) s (like_set l.ends i e (with_sent e x) h refl refl)
+    let like = like_set l.ends i e (with_sent e (next_entry now bytes l)) h refl refl in
+    record {
+      apart = s.apart;
+      least_delay = s.least_delay;
+      arrives = s.arrives;
+      life = s.life;
+      largest = s.largest;
+      storm = s.storm;
+      draws = draws_next l.storm l.draws l.frames s.draws;
+      cubes = like.cubes s.cubes;
+      drawn_a = like.drawn l.a ∙ s.drawn_a;
+      drawn_b = like.drawn l.b ∙ s.drawn_b;
+    }
+
+-- no storm delays a frame by more than its spread
+fate_short : (storm : Option Storm) (g : Lcg) → IsWithin (spread_of storm) (fate_under storm g).0
+fate_short None g = (omega arith, tt)
+fate_short (Some storm) g = fate_within storm g
 
 pub sent_flows : (now : ℕ) (failed : Bool) (fac : ℕ) (bytes : List ℕ) (l : Line) (i : ℕ) (e : End) → IsSoundLine l → KeepsFlows now failed fac l → e.state ≡ Allocated → slice_get l.ends i ≡ Some e → KeepsFlows now failed fac (sent_from now bytes l i e)
 sent_flows now failed fac bytes l i e line k allocated at =
-    let x : Entry = record { tick = now; num = frame_number l.frames; bytes = bytes } in
+    let x : Entry = next_entry now bytes l in
+    let fate = (next_fate l).0 in
     let size = length-set l.ends i (with_sent e x) in
     let P : Flight → Type 0 = IsCopy l.life now (slice_set l.ends i (with_sent e x)) in
     record {
       pairs = size ∙ k.pairs;
       sound = ends_sent (site_of fac l) now l.frames l.ends i e x k.sound at refl refl;
       waiting = subst (λ (n : ℕ). All (IsFarPlace n) l.waiting) (sym size) k.waiting;
-      copies = λ alive. All-append P l.flights (flight_of now bytes l i ∷ []) (copies_set l.life now l.ends i e (with_sent e x) l.flights at refl (λ j y h. still_at e.sent (x ∷ []) j y h) (k.copies alive)) (All-cons P (flight_of now bytes l i) [] (copy_new now bytes l i e line allocated at) (All-nil P));
+      copies = λ alive. All-append P l.flights (flights_of now bytes l i fate) (copies_set l.life now l.ends i e (with_sent e x) l.flights at refl (λ j y h. still_at e.sent (x ∷ []) j y h) (k.copies alive)) (copies_new now bytes l i e fate line (fate_short l.storm l.draws) allocated at);
     }

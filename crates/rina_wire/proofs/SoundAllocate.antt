@@ -45,9 +45,11 @@ flow_stays l now ask s m =
     record {
       apart = s.apart;
       least_delay = s.least_delay;
-      delay = s.delay;
+      arrives = s.arrives;
       life = s.life;
       largest = s.largest;
+      storm = s.storm;
+      draws = s.draws;
       cubes = All-append C l.ends (x ∷ y ∷ []) s.cubes (All-cons C x (y ∷ []) refl (All-cons C y [] refl (All-nil C)));
       drawn_a = drawn_two l.a l.ends x y ∙ omega (arith, one.0, s.drawn_a);
       drawn_b = drawn_two l.b l.ends x y ∙ omega (arith, one.1, s.drawn_b);

@@ -37,7 +37,7 @@ bound_stays now fixed l a m same s =
     let a_in = subst (λ (k : Line). is_at k fixed.a) same m.a_in in
     let other = subst (λ (k : Line). other_node k fixed.a ≡ fixed.b) same (other_is m.line fixed.a fixed.b m.a_in m.b_in m.apart) in
     let made = flow_made now (ask_of fixed) l in
-    subst IsSoundLine (sym (bound_is now fixed l other)) (keeps made made.ends l.waiting (with_name_once l.names fixed.b fixed.b_app) made.frames made.flights (flow_stays l now (ask_of fixed) s a_in) (like_refl made.ends))
+    subst IsSoundLine (sym (bound_is now fixed l other)) (keeps made made.ends l.waiting (with_name_once l.names fixed.b fixed.b_app) made.flights (flow_stays l now (ask_of fixed) s a_in) (like_refl made.ends))
 
 bound_flows : (now : ℕ) (failed : Bool) (fixed : Fixed) (l : Line) (a : Air) → (m : MayBind a fixed) → m.line ≡ l → IsSoundLine l → KeepsFlows now failed fixed.fac l → KeepsFlows now failed fixed.fac (bound_on now fixed l)
 bound_flows now failed fixed l a m same s k =

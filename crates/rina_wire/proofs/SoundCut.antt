@@ -18,7 +18,7 @@ use Rattle.rina_wire.proofs.SoundDisturb.{unseen}
 
 -- whether a wire is cut does not matter
 as_cut : (l : Line) (cut : Bool) → IsSoundLine l → IsSoundLine (record l { cut = cut })
-as_cut l cut s = record { apart = s.apart; least_delay = s.least_delay; delay = s.delay; life = s.life; largest = s.largest; cubes = s.cubes; drawn_a = s.drawn_a; drawn_b = s.drawn_b }
+as_cut l cut s = record { apart = s.apart; least_delay = s.least_delay; arrives = s.arrives; life = s.life; largest = s.largest; storm = s.storm; draws = s.draws; cubes = s.cubes; drawn_a = s.drawn_a; drawn_b = s.drawn_b }
 
 flows_as_cut : (now : ℕ) (failed : Bool) (fac : ℕ) (l : Line) (cut : Bool) → KeepsFlows now failed fac l → KeepsFlows now failed fac (record l { cut = cut })
 flows_as_cut now failed fac l cut k = record { pairs = k.pairs; sound = k.sound; waiting = k.waiting; copies = k.copies }
@@ -30,7 +30,7 @@ cut_now now l = record l { ends = map (cut_off now) l.ends; flights = []; cut = 
 cut_stays : (now : ℕ) (l : Line) → IsSoundLine l → IsSoundLine (cut_line now l)
 cut_stays now l s = elim l.cut as (λ b. IsSoundLine (cond b l (cut_now now l))) [
   | true ↦ s
-  | false ↦ as_cut (record l { ends = map (cut_off now) l.ends; flights = [] }) true (keeps l (map (cut_off now) l.ends) l.waiting l.names l.frames [] s (like_cut now l.ends))
+  | false ↦ as_cut (record l { ends = map (cut_off now) l.ends; flights = [] }) true (keeps l (map (cut_off now) l.ends) l.waiting l.names [] s (like_cut now l.ends))
 ]
 
 cut_flows : (now : ℕ) (failed : Bool) (fac : ℕ) (l : Line) → KeepsFlows now failed fac l → KeepsFlows now failed fac (cut_line now l)

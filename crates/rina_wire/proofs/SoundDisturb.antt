@@ -94,7 +94,7 @@ pub copies_flows : (now : ℕ) (failed : Bool) (fac : ℕ) (l : Line) (fs : List
 copies_flows now failed fac l fs k copies = record { pairs = k.pairs; sound = k.sound; waiting = k.waiting; copies = copies }
 
 pub copies_stay : (l : Line) (fs : List Flight) → IsSoundLine l → IsSoundLine (record l { flights = fs })
-copies_stay l fs s = keeps l l.ends l.waiting l.names l.frames fs s (like_refl l.ends)
+copies_stay l fs s = keeps l l.ends l.waiting l.names fs s (like_refl l.ends)
 
 -- ---- lose
 

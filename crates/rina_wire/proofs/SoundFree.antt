@@ -46,7 +46,7 @@ both_is ends p e other he ho =
 
 freed_stays : (l : Line) (p : ℕ) (e : End) → IsSoundLine l → slice_get l.ends p ≡ Some e → IsSoundLine (freed_at l p e)
 freed_stays l p e s at = elim (is_allocated e.state) as (λ b. IsSoundLine (cond b (record l { ends = closed_both l.ends p; flights = [] }) l)) [
-  | true ↦ keeps l (closed_both l.ends p) l.waiting l.names l.frames [] s (like_closed l.ends p)
+  | true ↦ keeps l (closed_both l.ends p) l.waiting l.names [] s (like_closed l.ends p)
   | false ↦ s
 ]
 

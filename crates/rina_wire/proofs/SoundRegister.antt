@@ -20,7 +20,7 @@ sound_registers a fac node app (Err (CountSpent n k)) a' s g = subst IsSound (sy
 sound_registers a fac node app (Err Unbuilt) a' s g = subst IsSound (sym g.air) s
 
 unnamed_stays : (node : ℕ) (app : List ℕ) (l : Line) → IsSoundLine l → IsSoundLine (unnamed node app l)
-unnamed_stays node app l s = keeps l l.ends l.waiting (without_name l.names node app) l.frames l.flights s (like_refl l.ends)
+unnamed_stays node app l s = keeps l l.ends l.waiting (without_name l.names node app) l.flights s (like_refl l.ends)
 
 unnamed_flows : (now : ℕ) (failed : Bool) (fac node : ℕ) (app : List ℕ) (l : Line) → KeepsFlows now failed fac l → KeepsFlows now failed fac (unnamed node app l)
 unnamed_flows now failed fac node app l k = flows_of now failed fac l l.waiting (without_name l.names node app) k k.waiting

@@ -34,10 +34,10 @@ like_fold now es [] = like_refl es
 like_fold now es (f ∷ fs) = like_trans es (looked_at now es f) (fold (looked_at now) (looked_at now es f) fs) (like_looked now es f) (like_fold now (looked_at now es f) fs)
 
 ticked_stays : (now : ℕ) (l : Line) → IsSoundLine l → IsSoundLine (line_ticked now l)
-ticked_stays now l s = keeps l (fold (looked_at now) l.ends l.flights) l.waiting l.names l.frames (filter (λ (f : Flight). nat_lt now f.due) l.flights) s (like_fold now l.ends l.flights)
+ticked_stays now l s = keeps l (fold (looked_at now) l.ends l.flights) l.waiting l.names (filter (λ (f : Flight). nat_lt now f.due) l.flights) s (like_fold now l.ends l.flights)
 
 part_stays : (now : ℕ) (l l' : Line) → IsSoundLine l → IsPart now l l' → IsSoundLine l'
-part_stays now l l' s p = subst IsSoundLine (sym p.is) (keeps l (fold (looked_at now) l.ends (take p.count l.flights)) l.waiting l.names l.frames l'.flights s (like_fold now l.ends (take p.count l.flights)))
+part_stays now l l' s p = subst IsSoundLine (sym p.is) (keeps l (fold (looked_at now) l.ends (take p.count l.flights)) l.waiting l.names l'.flights s (like_fold now l.ends (take p.count l.flights)))
 
 parts_stay : (now : ℕ) (ls ls' : List Line) → All IsSoundLine ls → AllPart now ls ls' → All IsSoundLine ls'
 parts_stay now [] [] s p = s

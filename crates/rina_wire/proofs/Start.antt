@@ -1,5 +1,5 @@
 -- Wires that nobody has used yet.
-use Rattle.std.proofs.Common.{◌≡◌, ℕ, false, List, [], All, map, length, slice_get, Some, sym, ◌∙◌, subst, arith}
+use Rattle.std.proofs.Common.{◌≡◌, ℕ, false, List, [], All, map, length, slice_get, Some, refl, sym, ◌∙◌, subst, arith}
 use Rattle.std.proofs.lemmas.Option.{slice_get-map}
 use Rattle.std.proofs.lemmas.List.Elements.{All-map, All-nil, All-weaker}
 use Rattle.rina_iface.specs.declared.ends.End.{End}
@@ -15,9 +15,11 @@ sound_line : (nodes : ℕ) (w : WirePlan) → IsSoundWire nodes w → IsSoundLin
 sound_line nodes w s = record {
   apart = s.apart;
   least_delay = s.least_delay;
-  delay = s.delay;
+  arrives = s.arrives;
   life = s.life;
   largest = s.largest;
+  storm = s.storm;
+  draws = refl;
   cubes = All-nil (λ (e : End). e.cube ≡ 0);
   drawn_a = omega arith;
   drawn_b = omega arith;

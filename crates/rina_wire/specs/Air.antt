@@ -1,6 +1,8 @@
 -- What a contract sees of wires.
 use Rattle.std.specs.Prelude.{◌≡◌, ℕ, Bool, true, false, List, [], ◌∷◌, map, slice_get, slice_set, Option, Some, None, option_and_then, option_map}
+use Rattle.rand_pcg.specs.Lcg.{Lcg}
 use Rattle.rina_base.specs.declared.number.Port.{Port}
+use Rattle.rina_base.specs.declared.storm.Storm.{Storm}
 use Rattle.rina_iface.specs.declared.ask.Registered.{Registered}
 use Rattle.rina_iface.specs.declared.ends.End.{End}
 use Rattle.rina_iface.specs.Ends.{end_in, place_in}
@@ -11,7 +13,7 @@ use Rattle.rina_wire.specs.declared.flight.Flight.{Flight}
 pub record Line : Type 0 where
   pub a : ℕ  -- the node at its first end
   pub b : ℕ  -- the node at its second end
-  pub delay : ℕ  -- ticks from the acceptance of a frame to its arrival
+  pub delay : ℕ  -- ticks from the acceptance of a frame to its arrival, where no storm makes it late
   pub life : ℕ  -- ticks that a frame lives at most
   pub largest : ℕ  -- bytes of an SDU, at most
   pub ends : List End  -- its journal
@@ -21,6 +23,8 @@ pub record Line : Type 0 where
   pub frames : ℕ  -- how many frames were sent, over both directions
   pub flights : List Flight  -- the copies of frames in flight, in the order in which they were made
   pub cut : Bool  -- it is cut, and may not be asked for
+  pub storm : Option Storm  -- what loses, repeats and delays its frames
+  pub draws : Lcg  -- the generator that the storm draws from for the next frame
 
 -- all wires, and the clock
 pub record Air : Type 0 where

@@ -2,6 +2,7 @@ pub mod Air
 pub mod Allocate
 pub mod Bind
 pub mod Claim
+pub mod Copies
 pub mod Cut
 pub mod Disturb
 pub mod Free
@@ -9,5 +10,6 @@ pub mod Plan
 pub mod Register
 pub mod Send
 pub mod Sound
+pub mod Storm
 pub mod Tick
 pub mod Unregister

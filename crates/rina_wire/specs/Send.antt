@@ -1,8 +1,11 @@
 -- `send` and `pass` on wires.
 use Rattle.std.specs.Prelude.{◌≡◌, ℕ, ◌+◌, ◌-◌, ◌%◌, ◌^◌, ◌==◌, nat_le, List, [], ◌∷◌, ◌++◌, length, slice_get, slice_set, Option, Some, None, IfSome, Result, Ok, Err, true, false, option_and_then, option_map, if◌then◌else◌}
 use Rattle.std.specs.Option.{option_map_or}
+use Rattle.rand_pcg.specs.Lcg.{Lcg}
 use Rattle.rina_base.specs.declared.number.Num.{Num}
 use Rattle.rina_base.specs.declared.number.Port.{Port}
+use Rattle.rina_draws.specs.declared.storm.Fate.{Fate}
+use Rattle.rina_draws.specs.declared.storm.Fate.TheVariants.{Lost, Sent}
 use Rattle.rina_law.specs.declared.entry.Entry.{Entry}
 use Rattle.rina_iface.specs.declared.ends.End.{End}
 use Rattle.rina_iface.specs.declared.error.SendError.{SendError}
@@ -11,6 +14,7 @@ use Rattle.rina_iface.specs.Ends.{with_passed, with_sent}
 use Rattle.rina_iface.specs.Send.{IsOwnRefusal, by_length, by_state}
 use Rattle.rina_wire.specs.declared.flight.Flight.{Flight}
 use Rattle.rina_wire.specs.Air.{Air, Line, Goes, end_at, failed_air, on_end, wire_at}
+use Rattle.rina_wire.specs.Storm.{fate_under}
 
 -- what a wire refuses beside what every facility does: its numbers are spent
 abbrev pub frame_refusal : Line → Option SendError
@@ -40,17 +44,32 @@ frame_number frames = record { cep = 0; seq = frames }
 abbrev pub mate : ℕ → ℕ
 mate place = if place % 2 == 0 then place + 1 else place - 1
 
--- the copy of the next frame, from the end at this place
-abbrev pub flight_of : ℕ → List ℕ → Line → ℕ → Flight
-flight_of now bytes l place = record { to = mate place; frame = l.frames; sent = now; due = now + l.delay; bytes = bytes }
+-- a copy of the next frame, from the end at this place, which arrives so many ticks after the wire's delay
+abbrev pub flight_of : ℕ → List ℕ → Line → ℕ → ℕ → Flight
+flight_of now bytes l place late = record { to = mate place; frame = l.frames; sent = now; due = now + (l.delay + late); bytes = bytes }
 
--- the wire with this copy in flight, and this entry noted by the end that sent it
-abbrev pub launched : Line → ℕ → End → Flight → Entry → Line
-launched l place e flight x = record l { ends = slice_set l.ends place (with_sent e x); frames = l.frames + 1; flights = l.flights ++ flight ∷ [] }
+-- the copies of the next frame: none of a frame that is lost, and two of one that is repeated
+unfoldable pub flights_of : ℕ → List ℕ → Line → ℕ → Fate → List Flight
+flights_of now bytes l place Lost = []
+flights_of now bytes l place (Sent late None) = flight_of now bytes l place late ∷ []
+flights_of now bytes l place (Sent late (Some again)) = flight_of now bytes l place late ∷ flight_of now bytes l place again ∷ []
 
--- the wire after the end at this place sent a frame
+-- what becomes of the next frame of the wire, and the generator after it
+abbrev pub next_fate : Line → Fate × Lcg
+next_fate l = fate_under l.storm l.draws
+
+-- the wire with these copies in flight, this entry noted by the end that sent the frame, and the generator gone on to this one
+abbrev pub launched : Line → ℕ → End → List Flight → Entry → Lcg → Line
+launched l place e flights x draws =
+    record l { ends = slice_set l.ends place (with_sent e x); frames = l.frames + 1; flights = l.flights ++ flights; draws = draws }
+
+-- the entry of the next frame
+abbrev pub next_entry : ℕ → List ℕ → Line → Entry
+next_entry now bytes l = record { tick = now; num = frame_number l.frames; bytes = bytes }
+
+-- the wire after the end at this place sent a frame, whatever became of it: it is noted, and its copies are in flight
 abbrev pub sent_from : ℕ → List ℕ → Line → ℕ → End → Line
-sent_from now bytes l place e = launched l place e (flight_of now bytes l place) (record { tick = now; num = frame_number l.frames; bytes = bytes })
+sent_from now bytes l place e = launched l place e (flights_of now bytes l place (next_fate l).0) (next_entry now bytes l) (next_fate l).1
 
 -- the wires after the SDU was sent
 abbrev pub frame_sent : Air → Port → List ℕ → Air

@@ -11,17 +11,22 @@ use Rattle.rina_iface.specs.declared.state.Role.TheVariants.{Asker, Far}
 use Rattle.rina_iface.specs.Ends.{drawn_at}
 use Rattle.rina_iface.specs.Journal.{AreKept, At, IsWhole}
 use Rattle.rina_iface.specs.Seen.{is_member}
+use Rattle.rina_stack.specs.Ranges.{IsRangedStorm}
+use Rattle.rina_stack.specs.Rules.{spread_of}
 use Rattle.rina_wire.specs.declared.flight.Flight.{Flight}
 use Rattle.rina_wire.specs.Air.{Air, Line, seen_of, wire_at}
 use Rattle.rina_wire.specs.Send.{frame_number, mate}
+use Rattle.rina_wire.specs.Storm.{draws_at}
 
--- what holds of a wire
+-- what holds of a wire: no storm delays a frame beyond its life, and its generator has drawn for the frames that were sent, and for nothing else
 pub record IsSoundLine (l : Line) : Type 0 where
   pub apart : l.a ≢ l.b
   pub least_delay : 1 ≤ l.delay
-  pub delay : l.delay ≤ l.life
+  pub arrives : l.delay + spread_of l.storm ≤ l.life
   pub life : l.life ≤ 100000
   pub largest : l.largest ≤ 65535
+  pub storm : IsRangedStorm l.storm
+  pub draws : l.draws ≡ draws_at l.storm l.frames
   pub cubes : All (λ (e : End). e.cube ≡ 0) l.ends
   pub drawn_a : drawn_at l.a l.ends ≡ l.flows
   pub drawn_b : drawn_at l.b l.ends ≡ l.flows

@@ -11,22 +11,25 @@ ghost use Rattle.rina_wire.specs.Plan.{line_of};
 ghost use Rattle.rina_wire.specs.Register.{named};
 ghost use Rattle.rina_iface.specs.Unregister.{name_place};
 ghost use Rattle.rina_wire.specs.Unregister.{unnamed};
-ghost use Rattle.rina_wire.specs.Send.{flight_of, mate, passed_at, sent_from};
+ghost use Rattle.rina_wire.specs.Send.{mate, passed_at, sent_from};
 
 mod cut;
 mod disturb;
 mod flow;
 mod frame;
+mod storm;
 mod tick;
 
 use crate::flight::Flight;
 pub use frame::frame_number;
-use rina_base::{AppName, FlowName, Memory, Node, Port, Tick};
+use rand_pcg::Lcg64Xsh32;
+use rina_base::{AppName, FlowName, Memory, Node, Port, Storm, Tick};
 use rina_cube::Want;
 use rina_iface::{Ask, End, Ends, Entries, Journal, PortState, Registered, Role};
 use rina_stack::WirePlan;
 use std::alloc::{AllocError, Global};
 use std::marker::Model;
+use storm::first_draws;
 
 /// A wire between two systems.
 #[derive(Drop)]
@@ -43,6 +46,8 @@ pub struct Wire {
     frames: u64,
     flights: Vec<Flight>,
     cut: bool,
+    storm: Option<Storm>,
+    draws: Lcg64Xsh32,
 }
 
 impl Model for Wire {
@@ -50,7 +55,7 @@ impl Model for Wire {
 
     ghost Value = { Line };
 
-    ghost view = { λ w. record { a = w.a; b = w.b; delay = w.delay; life = w.life; largest = w.largest; ends = w.journal.ends; waiting = w.waiting.items; names = w.names.items; flows = w.flows; frames = w.frames; flights = w.flights.items; cut = w.cut } };
+    ghost view = { λ w. record { a = w.a; b = w.b; delay = w.delay; life = w.life; largest = w.largest; ends = w.journal.ends; waiting = w.waiting.items; names = w.names.items; flows = w.flows; frames = w.frames; flights = w.flights.items; cut = w.cut; storm = w.storm; draws = w.draws } };
 }
 
 /// Whether an application is registered at a node.
@@ -104,6 +109,8 @@ impl Wire {
             frames: 0,
             flights: Vec::new(alloc),
             cut: false,
+            storm: plan.storm,
+            draws: first_draws(plan.storm),
         }
     }
 

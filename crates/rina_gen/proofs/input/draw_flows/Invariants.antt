@@ -1,5 +1,5 @@
 use Rattle.std.proofs.Common.{◌≡◌}
-use Rattle.rina_gen.specs.Draws.{several}
+use Rattle.rina_gen.specs.Several.{several}
 use Rattle.rina_gen.specs.Input.{flow_drawn}
 use Rattle.rina_gen.proofs.input.draw_flows.Given as goal
 

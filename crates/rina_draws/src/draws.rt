@@ -1,12 +1,13 @@
 //! The random generator.
 ghost use Rattle.std.specs.Prelude.{◌≡◌, ◌<◌};
-ghost use Rattle.rina_gen.specs.Draws.{drawn, seeded};
+ghost use Rattle.rina_draws.specs.Draws.{drawn, seeded};
 
 use rand_core::SeedableRng;
 use rand_core::utils::NextWord;
 use rand_pcg::Lcg64Xsh32;
 
 /// The generator with this seed.
+#[tactic(auto, unfolding(crate::specs::Draws::seeded))]
 pub fn seeded(seed: u64) -> Lcg64Xsh32
     ensures { result ≡ seeded seed }
 {
