@@ -30,7 +30,7 @@ fn a_request_waits_until_its_response(rt: HostRuntime) -> Result<(), Fail> {
     session.on_sent(rt.alloc(), &message(operation::READ, 7, None))?;
     let unknown = Some(SessionError::UnknownInvoke { id: 8 });
     assert!(rt; got(&mut session, operation::READ + 1, 8) == unknown);
-    assert!(rt; session.waits(7) && !session.waits(1));
+    assert!(rt; session.waits(7) && !session.waits(1) && session.copy()?.waits(7));
     assert!(rt; got(&mut session, operation::READ + 1, 7).is_none() && !session.waits(7));
     Ok(())
 }

@@ -1,0 +1,5 @@
+pub mod Keeping
+pub mod Links
+pub mod Lists
+pub mod Taking
+pub mod Texts
