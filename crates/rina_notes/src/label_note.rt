@@ -7,6 +7,7 @@ ghost use Rattle.rina_notes.specs.Told.{drawn_told};
 ghost use Rattle.rina_notes.specs.Look.{same_num, same_port, same_why, same_fail, same_state, same_drawn, ends_at, label_notes, state_at, state_notes, shown_now, looked, Extends};
 
 use crate::label::{Label, Labels};
+use crate::line::Line;
 use crate::note::{tell, tick_of};
 use crate::state::tell_drawn;
 use rina_base::{Memory, Port};
@@ -114,43 +115,39 @@ fn say_label(
 /// Tells the state of a label's port, where that is not the one that was told last.
 #[tactic(auto, using(crate::proofs::Looking::told_before, crate::proofs::Looking::told_now))]
 fn tell_label(
-    alloc: Global,
-    plan: &Plan,
+    line: &Line<'_>,
     tower: &Tower,
     label: &Label,
-    line: u32,
     trace: &mut Notes,
 ) -> Result<(), Memory>
     requires { IsTower tower.now }
-    ensures ok { OnOk result (trace.new ≡ trace.old ++ label_notes plan.now line tower.now label.now) }
+    ensures ok { OnOk result (trace.new ≡ trace.old ++ label_notes line.now.plan.now line.now.number tower.now label.now) }
     ensures err { OnErr result (trace.new ≡ trace.old) }
 {
     let state = state_at(tower, label.rank, label.port);
     if is_same(state, label.shown) {
         return Ok(());
     }
-    let says = say_label(alloc, plan, label, state)?;
-    tell(trace, line, tick_of(tower), says)
+    let says = say_label(line.alloc, line.plan, label, state)?;
+    tell(trace, line.number, tick_of(tower), says)
 }
 
 /// Looks at the label at this place.
 fn tell_label_at(
-    alloc: Global,
-    plan: &Plan,
+    line: &Line<'_>,
     tower: &Tower,
     labels: &mut Labels,
     at: usize,
-    line: u32,
     trace: &mut Notes,
 ) -> Result<(), Memory>
     requires place { at < length labels.old }
     requires sound { IsTower tower.now }
-    ensures notes { OnOk result ((l : Label) → slice_get labels.old at ≡ Some l → trace.new ≡ trace.old ++ label_notes plan.now line tower.now l) }
+    ensures notes { OnOk result ((l : Label) → slice_get labels.old at ≡ Some l → trace.new ≡ trace.old ++ label_notes line.now.plan.now line.now.number tower.now l) }
     ensures labels { OnOk result ((l : Label) → slice_get labels.old at ≡ Some l → labels.new ≡ slice_set labels.old at (shown_now tower.now l)) }
     ensures err { OnErr result (trace.new ≡ trace.old) }
 {
     let label = &labels.as_slice()[at];
-    tell_label(alloc, plan, tower, label, line, trace)?;
+    tell_label(line, tower, label, trace)?;
     let state = state_at(tower, label.rank, label.port);
     labels.show(at, state);
     Ok(())
@@ -158,20 +155,18 @@ fn tell_label_at(
 
 /// Tells the states of all labelled ports that changed since they were told last.
 pub fn tell_labels(
-    alloc: Global,
-    plan: &Plan,
+    line: &Line<'_>,
     tower: &Tower,
     labels: &mut Labels,
-    line: u32,
     trace: &mut Notes,
 ) -> Result<(), Memory>
     requires { IsTower tower.now }
-    ensures notes { OnOk result (trace.new ≡ trace.old ++ state_notes plan.now line tower.now labels.old) }
+    ensures notes { OnOk result (trace.new ≡ trace.old ++ state_notes line.now.plan.now line.now.number tower.now labels.old) }
     ensures labels { OnOk result (labels.new ≡ looked tower.now labels.old) }
     ensures more { OnErr result (Extends trace.old trace.new) }
 {
     'labels: for at in 0..labels.len() {
-        tell_label_at(alloc, plan, tower, labels, at, line, trace)?;
+        tell_label_at(line, tower, labels, at, trace)?;
     }
     Ok(())
 }

@@ -1,10 +1,11 @@
-//! Between the names of a stack and the numbers of its tower: the names in a line as numbers, and what was
-//! answered as a note with names.
+//! Names and notes: the numbers that the names in a line stand for, and what calls answered, as notes with the names of
+//! the stack.
 #![tactic(auto)]
 
 mod facility;
 mod label;
 mod label_note;
+mod line;
 mod note;
 mod refusal;
 mod site;
@@ -14,6 +15,7 @@ mod step;
 pub use facility::{RankedFac, find_fac};
 pub use label::{Label, Labels};
 pub use label_note::{ends_at, state_at, tell_labels};
+pub use line::Line;
 pub use note::{refused, tell, tick_of};
 pub use refusal::{
     tell_allocate, tell_app_send, tell_free, tell_register, tell_unregister, tell_wire,

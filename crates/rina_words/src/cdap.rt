@@ -7,30 +7,28 @@ ghost use Rattle.rina_words.specs.Step.{Asking, CallsCdap};
 use crate::run::Run;
 use rina_base::{Bytes, Memory, Name, Seq};
 use rina_dif::CdapCallError;
-use rina_notes::{Site, find_dif_site, refused, tell_cdap};
+use rina_notes::{Line, Site, find_dif_site, refused, tell_cdap};
 use rina_report::{Answer, Refusal};
-use rina_stack::Plan;
 use std::alloc::Global;
 
 /// The word `cdap`.
 pub fn cdap(
-    alloc: Global,
-    plan: &Plan,
+    line: &Line<'_>,
     run: &mut Run,
     dif: &Name,
     node: &Name,
     bytes: &Bytes,
 ) -> Result<Option<Answer>, Memory>
-    requires plan { IsPlan plan.now }
+    requires plan { IsPlan line.now.plan.now }
     requires tower { IsTower run.old.tower }
-    ensures does { IfOk result (λ says. Asking plan.now dif.now node.now bytes.now run.old says run.new) }
+    ensures does { IfOk result (λ says. Asking line.now.plan.now dif.now node.now bytes.now run.old says run.new) }
     ensures tower { IsTower run.new.tower }
 {
-    let site = match find_dif_site(plan, dif, node) {
+    let site = match find_dif_site(line.plan, dif, node) {
         Ok(site) => site,
         Err(field) => return Ok(refused(Some(Refusal::Unknown { field }))),
     };
-    call_cdap(alloc, run, site, bytes.as_slice())
+    call_cdap(line.alloc, run, site, bytes.as_slice())
 }
 
 fn call_cdap(

@@ -7,10 +7,8 @@ ghost use Rattle.rina_words.specs.Step.{CallsClock, CallsIn, Clocking, TakingIn,
 use crate::run::Run;
 use rina_base::{Memory, Name};
 use rina_data::StepError;
-use rina_notes::{Site, find_dif_site, refused, tell_clock, tell_in, tell_step};
+use rina_notes::{Line, Site, find_dif_site, refused, tell_clock, tell_in, tell_step};
 use rina_report::{Answer, Refusal};
-use rina_stack::Plan;
-use std::alloc::Global;
 
 /// The number of a link, which is at most 65,535.
 pub fn link_number(link: u32) -> u16
@@ -21,42 +19,35 @@ pub fn link_number(link: u32) -> u16
 
 /// The word `in`.
 pub fn in_step(
-    alloc: Global,
-    plan: &Plan,
+    line: &Line<'_>,
     run: &mut Run,
     dif: &Name,
     node: &Name,
     link: u32,
 ) -> Result<Option<Answer>, Memory>
-    requires plan { IsPlan plan.now }
+    requires plan { IsPlan line.now.plan.now }
     requires tower { IsTower run.old.tower }
-    ensures does { IfOk result (λ says. TakingIn plan.now dif.now node.now link run.old says run.new) }
+    ensures does { IfOk result (λ says. TakingIn line.now.plan.now dif.now node.now link run.old says run.new) }
     ensures tower { IsTower run.new.tower }
 {
-    let site = match find_dif_site(plan, dif, node) {
+    let site = match find_dif_site(line.plan, dif, node) {
         Ok(site) => site,
         Err(field) => return Ok(refused(Some(Refusal::Unknown { field }))),
     };
-    call_in(alloc, plan, run, site, link)
+    call_in(line, run, site, link)
 }
 
-fn call_in(
-    alloc: Global,
-    plan: &Plan,
-    run: &mut Run,
-    site: Site,
-    link: u32,
-) -> Result<Option<Answer>, Memory>
+fn call_in(line: &Line<'_>, run: &mut Run, site: Site, link: u32) -> Result<Option<Answer>, Memory>
     requires { IsTower run.old.tower }
-    ensures does { IfOk result (λ says. CallsIn plan.now link run.old site says run.new) }
+    ensures does { IfOk result (λ says. CallsIn line.now.plan.now link run.old site says run.new) }
     ensures tower { IsTower run.new.tower }
 {
     let link = link_number(link);
     match run
         .tower
-        .in_step(alloc, site.rank, site.fac, site.node, link)
+        .in_step(line.alloc, site.rank, site.fac, site.node, link)
     {
-        Ok(step) => tell_in(alloc, plan, site.rank, step),
+        Ok(step) => tell_in(line.alloc, line.plan, site.rank, step),
         Err(StepError::Memory) => Err(Memory),
         Err(error) => Ok(refused(tell_step(error))),
     }
@@ -64,36 +55,33 @@ fn call_in(
 
 /// The word `clock`.
 pub fn clock(
-    alloc: Global,
-    plan: &Plan,
+    line: &Line<'_>,
     run: &mut Run,
     dif: &Name,
     node: &Name,
 ) -> Result<Option<Answer>, Memory>
-    requires plan { IsPlan plan.now }
+    requires plan { IsPlan line.now.plan.now }
     requires tower { IsTower run.old.tower }
-    ensures does { IfOk result (λ says. Clocking plan.now dif.now node.now run.old says run.new) }
+    ensures does { IfOk result (λ says. Clocking line.now.plan.now dif.now node.now run.old says run.new) }
     ensures tower { IsTower run.new.tower }
 {
-    let site = match find_dif_site(plan, dif, node) {
+    let site = match find_dif_site(line.plan, dif, node) {
         Ok(site) => site,
         Err(field) => return Ok(refused(Some(Refusal::Unknown { field }))),
     };
-    call_clock(alloc, plan, run, site)
+    call_clock(line, run, site)
 }
 
-fn call_clock(
-    alloc: Global,
-    plan: &Plan,
-    run: &mut Run,
-    site: Site,
-) -> Result<Option<Answer>, Memory>
+fn call_clock(line: &Line<'_>, run: &mut Run, site: Site) -> Result<Option<Answer>, Memory>
     requires { IsTower run.old.tower }
-    ensures does { IfOk result (λ says. CallsClock plan.now run.old site says run.new) }
+    ensures does { IfOk result (λ says. CallsClock line.now.plan.now run.old site says run.new) }
     ensures tower { IsTower run.new.tower }
 {
-    match run.tower.clock_step(alloc, site.rank, site.fac, site.node) {
-        Ok(step) => tell_clock(alloc, plan, site.rank, step),
+    match run
+        .tower
+        .clock_step(line.alloc, site.rank, site.fac, site.node)
+    {
+        Ok(step) => tell_clock(line.alloc, line.plan, site.rank, step),
         Err(StepError::Memory) => Err(Memory),
         Err(error) => Ok(refused(tell_step(error))),
     }

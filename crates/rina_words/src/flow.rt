@@ -9,7 +9,7 @@ use rina_base::{AppName, Bytes, Memory, Name, Port};
 use rina_cube::Want;
 use rina_iface::{AllocateError, Ask, Facility, RegisterError, SendError};
 use rina_notes::{
-    Label, Site, find_site, refused, state_at, tell_allocate, tell_app_send, tell_drawn,
+    Label, Line, Site, find_site, refused, state_at, tell_allocate, tell_app_send, tell_drawn,
     tell_register,
 };
 use rina_report::{Answer, Refusal};
@@ -36,23 +36,22 @@ pub fn say_port(
 
 /// The word `register`.
 pub fn register(
-    alloc: Global,
-    plan: &Plan,
+    line: &Line<'_>,
     run: &mut Run,
     fac: &Name,
     node: &Name,
     app: &AppName,
 ) -> Result<Option<Answer>, Memory>
-    requires plan { IsPlan plan.now }
+    requires plan { IsPlan line.now.plan.now }
     requires sound { IsTower run.old.tower }
-    ensures does { IfOk result (λ says. Registering plan.now fac.now node.now app.now run.old says run.new) }
+    ensures does { IfOk result (λ says. Registering line.now.plan.now fac.now node.now app.now run.old says run.new) }
     ensures sound { IsTower run.new.tower }
 {
-    let site = match find_site(plan, 1, fac, node) {
+    let site = match find_site(line.plan, 1, fac, node) {
         Ok(site) => site,
         Err(field) => return Ok(refused(Some(Refusal::Unknown { field }))),
     };
-    call_register(alloc, run, site, app)
+    call_register(line.alloc, run, site, app)
 }
 
 fn call_register(
@@ -75,32 +74,37 @@ fn call_register(
     }
 }
 
+/// What a line `alloc` asks for: a label, the facility and the node, the two applications, and the wish.
+#[derive(Drop)]
+pub struct FlowRequest<'a> {
+    pub label: &'a Name,
+    pub fac: &'a Name,
+    pub node: &'a Name,
+    pub app: &'a AppName,
+    pub to: &'a AppName,
+    pub want: Want,
+}
+
 /// The word `alloc`.
 pub fn allocate(
-    alloc: Global,
-    plan: &Plan,
+    line: &Line<'_>,
     run: &mut Run,
-    label: &Name,
-    fac: &Name,
-    node: &Name,
-    app: &AppName,
-    to: &AppName,
-    want: Want,
+    asks: &FlowRequest<'_>,
 ) -> Result<Option<Answer>, Memory>
-    requires plan { IsPlan plan.now }
+    requires plan { IsPlan line.now.plan.now }
     requires sound { IsTower run.old.tower }
-    ensures does { IfOk result (λ says. Allocating plan.now label.now fac.now node.now app.now to.now want run.old says run.new) }
+    ensures does { IfOk result (λ says. Allocating line.now.plan.now asks.now.label.now asks.now.fac.now asks.now.node.now asks.now.app.now asks.now.to.now asks.now.want run.old says run.new) }
     ensures sound { IsTower run.new.tower }
 {
-    let site = match find_site(plan, 2, fac, node) {
+    let site = match find_site(line.plan, 2, asks.fac, asks.node) {
         Ok(site) => site,
         Err(field) => return Ok(refused(Some(Refusal::Unknown { field }))),
     };
-    if run.labels.has(label) {
+    if run.labels.has(asks.label) {
         return Ok(refused(Some(Refusal::LabelUsed)));
     }
-    let ask = make_ask(alloc, site, app, to, want)?;
-    call_allocate(alloc, plan, run, label, fac, node, site.rank, &ask)
+    let ask = make_ask(line.alloc, site, asks.app, asks.to, asks.want)?;
+    call_allocate(line, run, asks, site.rank, &ask)
 }
 
 fn make_ask(
@@ -122,26 +126,23 @@ fn make_ask(
 }
 
 fn call_allocate(
-    alloc: Global,
-    plan: &Plan,
+    line: &Line<'_>,
     run: &mut Run,
-    label: &Name,
-    fac: &Name,
-    node: &Name,
+    asks: &FlowRequest<'_>,
     rank: u16,
     ask: &Ask,
 ) -> Result<Option<Answer>, Memory>
     requires { IsTower run.old.tower }
-    ensures does { IfOk result (λ says. CallsAllocate plan.now label.now fac.now node.now rank run.old ask.now says run.new) }
+    ensures does { IfOk result (λ says. CallsAllocate line.now.plan.now asks.now.label.now asks.now.fac.now asks.now.node.now rank run.old ask.now says run.new) }
     ensures sound { IsTower run.new.tower }
 {
-    match run.tower.app_allocate(alloc, rank, ask) {
+    match run.tower.app_allocate(line.alloc, rank, ask) {
         Ok(port) => {
-            give_label(alloc, run, label, rank, port)?;
-            say_port(alloc, plan, &run.tower, rank, port)
+            give_label(line.alloc, run, asks.label, rank, port)?;
+            say_port(line.alloc, line.plan, &run.tower, rank, port)
         }
         Err(AppError::Call(AllocateError::Memory)) => Err(Memory),
-        Err(error) => Ok(refused(tell_allocate(alloc, fac, node, error)?)),
+        Err(error) => Ok(refused(tell_allocate(line.alloc, asks.fac, asks.node, error)?)),
     }
 }
 
@@ -169,45 +170,43 @@ fn give_label(
 
 /// The word `accept`.
 pub fn accept(
-    alloc: Global,
-    plan: &Plan,
+    line: &Line<'_>,
     run: &mut Run,
     label: &Name,
     fac: &Name,
     node: &Name,
     app: &AppName,
 ) -> Result<Option<Answer>, Memory>
-    requires plan { IsPlan plan.now }
+    requires plan { IsPlan line.now.plan.now }
     requires sound { IsTower run.old.tower }
-    ensures does { IfOk result (λ says. Accepting plan.now label.now fac.now node.now app.now run.old says run.new) }
+    ensures does { IfOk result (λ says. Accepting line.now.plan.now label.now fac.now node.now app.now run.old says run.new) }
     ensures sound { IsTower run.new.tower }
 {
-    let site = match find_site(plan, 2, fac, node) {
+    let site = match find_site(line.plan, 2, fac, node) {
         Ok(site) => site,
         Err(field) => return Ok(refused(Some(Refusal::Unknown { field }))),
     };
     if run.labels.has(label) {
         return Ok(refused(Some(Refusal::LabelUsed)));
     }
-    call_incoming(alloc, plan, run, label, site, app)
+    call_incoming(line, run, label, site, app)
 }
 
 fn call_incoming(
-    alloc: Global,
-    plan: &Plan,
+    line: &Line<'_>,
     run: &mut Run,
     label: &Name,
     site: Site,
     app: &AppName,
 ) -> Result<Option<Answer>, Memory>
     requires { IsTower run.old.tower }
-    ensures does { IfOk result (λ says. CallsIncoming plan.now label.now app.now run.old site says run.new) }
+    ensures does { IfOk result (λ says. CallsIncoming line.now.plan.now label.now app.now run.old site says run.new) }
     ensures sound { IsTower run.new.tower }
 {
     match run.tower.app_incoming(site.rank, site.fac, site.node, app) {
         Some(port) => {
-            give_label(alloc, run, label, site.rank, port)?;
-            say_port(alloc, plan, &run.tower, site.rank, port)
+            give_label(line.alloc, run, label, site.rank, port)?;
+            say_port(line.alloc, line.plan, &run.tower, site.rank, port)
         }
         None => Ok(Some(Answer::Nothing)),
     }
@@ -215,37 +214,35 @@ fn call_incoming(
 
 /// The word `send`.
 pub fn send(
-    alloc: Global,
-    plan: &Plan,
+    line: &Line<'_>,
     run: &mut Run,
     label: &Name,
     bytes: &Bytes,
 ) -> Result<Option<Answer>, Memory>
     requires { IsTower run.old.tower }
-    ensures does { IfOk result (λ says. Sending plan.now label.now bytes.now run.old says run.new) }
+    ensures does { IfOk result (λ says. Sending line.now.plan.now label.now bytes.now run.old says run.new) }
     ensures sound { IsTower run.new.tower }
 {
     let Some((rank, port)) = run.labels.port(label) else {
         return Ok(refused(Some(Refusal::Unknown { field: 1 })));
     };
-    call_send(alloc, plan, run, rank, port, bytes)
+    call_send(line, run, rank, port, bytes)
 }
 
 fn call_send(
-    alloc: Global,
-    plan: &Plan,
+    line: &Line<'_>,
     run: &mut Run,
     rank: u16,
     port: Port,
     bytes: &Bytes,
 ) -> Result<Option<Answer>, Memory>
     requires { IsTower run.old.tower }
-    ensures does { IfOk result (λ says. CallsSend plan.now bytes.now run.old rank port says run.new) }
+    ensures does { IfOk result (λ says. CallsSend line.now.plan.now bytes.now run.old rank port says run.new) }
     ensures sound { IsTower run.new.tower }
 {
-    match run.tower.app_send(alloc, rank, port, bytes.as_slice()) {
+    match run.tower.app_send(line.alloc, rank, port, bytes.as_slice()) {
         Ok(num) => Ok(Some(Answer::Sent { num })),
         Err(AppError::Call(SendError::Memory)) => Err(Memory),
-        Err(error) => Ok(refused(tell_app_send(alloc, plan, rank, error)?)),
+        Err(error) => Ok(refused(tell_app_send(line.alloc, line.plan, rank, error)?)),
     }
 }

@@ -11,7 +11,7 @@ ghost use Rattle.rina_words.specs.Step.{Showing, end_notes, entry_note, flow_not
 use crate::run::Run;
 use rina_base::{Memory, Name, Seq, Tick};
 use rina_iface::{End, Entry, Facility};
-use rina_notes::{ends_at, find_fac, tell, tell_port, tell_state, tick_of};
+use rina_notes::{Line, ends_at, find_fac, tell, tell_port, tell_state, tick_of};
 use rina_report::{Answer, FlowNote, Notes, Refusal};
 use rina_stack::Plan;
 use std::alloc::Global;
@@ -114,80 +114,67 @@ fn tell_all_got(
 
 /// One end with its journal.
 fn tell_end(
-    alloc: Global,
-    plan: &Plan,
+    line: &Line<'_>,
     rank: u16,
     end: &End,
-    line: u32,
     tick: Tick,
     trace: &mut Notes,
 ) -> Result<(), Memory>
-    ensures ok { OnOk result (trace.new ≡ trace.old ++ end_notes plan.now rank line tick end.now) }
+    ensures ok { OnOk result (trace.new ≡ trace.old ++ end_notes line.now.plan.now rank line.now.number tick end.now) }
     ensures err { OnErr result (Extends trace.old trace.new) }
 {
-    let says = say_end(alloc, plan, rank, end)?;
-    tell(trace, line, tick, says)?;
-    tell_all_sent(alloc, end.sent.as_slice(), line, tick, trace)?;
-    tell_all_got(alloc, end.got.as_slice(), line, tick, trace)
+    let says = say_end(line.alloc, line.plan, rank, end)?;
+    tell(trace, line.number, tick, says)?;
+    tell_all_sent(line.alloc, end.sent.as_slice(), line.number, tick, trace)?;
+    tell_all_got(line.alloc, end.got.as_slice(), line.number, tick, trace)
 }
 
 /// All ends, each with its journal.
 fn tell_ends(
-    alloc: Global,
-    plan: &Plan,
+    line: &Line<'_>,
     rank: u16,
     ends: &[End],
-    line: u32,
     tick: Tick,
     trace: &mut Notes,
 ) -> Result<(), Memory>
-    ensures ok { OnOk result (trace.new ≡ trace.old ++ flat_map (end_notes plan.now rank line tick) ends.now) }
+    ensures ok { OnOk result (trace.new ≡ trace.old ++ flat_map (end_notes line.now.plan.now rank line.now.number tick) ends.now) }
     ensures err { OnErr result (Extends trace.old trace.new) }
 {
     'ends: for end in ends {
-        tell_end(alloc, plan, rank, end, line, tick, trace)?;
+        tell_end(line, rank, end, tick, trace)?;
     }
     Ok(())
 }
 
 /// Shows all ends of a facility, or that there is none.
 fn tell_journal(
-    alloc: Global,
-    plan: &Plan,
+    line: &Line<'_>,
     rank: u16,
     ends: &[End],
-    line: u32,
     tick: Tick,
     trace: &mut Notes,
 ) -> Result<(), Memory>
-    ensures ok { OnOk result (trace.new ≡ trace.old ++ journal_notes plan.now rank line tick ends.now) }
+    ensures ok { OnOk result (trace.new ≡ trace.old ++ journal_notes line.now.plan.now rank line.now.number tick ends.now) }
     ensures err { OnErr result (Extends trace.old trace.new) }
 {
     if ends.is_empty() {
-        return tell(trace, line, tick, Some(Answer::Nothing));
+        return tell(trace, line.number, tick, Some(Answer::Nothing));
     }
-    tell_ends(alloc, plan, rank, ends, line, tick, trace)
+    tell_ends(line, rank, ends, tick, trace)
 }
 
 /// The word `journal`.
-pub fn journal(
-    alloc: Global,
-    plan: &Plan,
-    run: &Run,
-    line: u32,
-    fac: &Name,
-    trace: &mut Notes,
-) -> Result<(), Memory>
-    requires plan { IsPlan plan.now }
+pub fn journal(line: &Line<'_>, run: &Run, fac: &Name, trace: &mut Notes) -> Result<(), Memory>
+    requires plan { IsPlan line.now.plan.now }
     requires tower { IsTower run.now.tower }
-    ensures does { OnOk result (Leads (λ ns. Showing plan.now line (fac_named plan.now fac.now) run.now ns run.now) trace.old trace.new) }
+    ensures does { OnOk result (Leads (λ ns. Showing line.now.plan.now line.now.number (fac_named line.now.plan.now fac.now) run.now ns run.now) trace.old trace.new) }
     ensures more { OnErr result (Extends trace.old trace.new) }
 {
     let tick = tick_of(&run.tower);
-    let Some(at) = find_fac(plan, fac) else {
+    let Some(at) = find_fac(line.plan, fac) else {
         let why = Refusal::Unknown { field: 1 };
-        return tell(trace, line, tick, Some(Answer::Refused { why }));
+        return tell(trace, line.number, tick, Some(Answer::Refused { why }));
     };
     let ends = ends_at(&run.tower, at.rank, at.fac);
-    tell_journal(alloc, plan, at.rank, ends, line, tick, trace)
+    tell_journal(line, at.rank, ends, tick, trace)
 }

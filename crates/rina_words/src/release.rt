@@ -8,31 +8,29 @@ use crate::flow::say_port;
 use crate::run::Run;
 use rina_base::{AppName, Memory, Name, Port};
 use rina_iface::{Facility, FreeError, UnregisterError};
-use rina_notes::{Site, find_site, refused, tell_free, tell_unregister};
+use rina_notes::{Line, Site, find_site, refused, tell_free, tell_unregister};
 use rina_report::{Answer, Refusal};
-use rina_stack::Plan;
 use rina_tower::AppError;
 use std::alloc::Global;
 
 /// The word `unregister`.
 pub fn unregister(
-    alloc: Global,
-    plan: &Plan,
+    line: &Line<'_>,
     run: &mut Run,
     fac: &Name,
     node: &Name,
     app: &AppName,
 ) -> Result<Option<Answer>, Memory>
-    requires plan { IsPlan plan.now }
+    requires plan { IsPlan line.now.plan.now }
     requires sound { IsTower run.old.tower }
-    ensures does { IfOk result (λ says. Unregistering plan.now fac.now node.now app.now run.old says run.new) }
+    ensures does { IfOk result (λ says. Unregistering line.now.plan.now fac.now node.now app.now run.old says run.new) }
     ensures sound { IsTower run.new.tower }
 {
-    let site = match find_site(plan, 1, fac, node) {
+    let site = match find_site(line.plan, 1, fac, node) {
         Ok(site) => site,
         Err(field) => return Ok(refused(Some(Refusal::Unknown { field }))),
     };
-    call_unregister(alloc, run, site, app)
+    call_unregister(line.alloc, run, site, app)
 }
 
 fn call_unregister(
@@ -80,12 +78,12 @@ fn call_free(alloc: Global, run: &mut Run, rank: u16, port: Port) -> Result<Opti
 }
 
 /// The word `state`.
-pub fn state(alloc: Global, plan: &Plan, run: &Run, label: &Name) -> Result<Option<Answer>, Memory>
+pub fn state(line: &Line<'_>, run: &Run, label: &Name) -> Result<Option<Answer>, Memory>
     requires { IsTower run.now.tower }
-    ensures { IfOk result (λ says. Stating plan.now label.now run.now says run.now) }
+    ensures { IfOk result (λ says. Stating line.now.plan.now label.now run.now says run.now) }
 {
     let Some((rank, port)) = run.labels.port(label) else {
         return Ok(refused(Some(Refusal::Unknown { field: 1 })));
     };
-    say_port(alloc, plan, &run.tower, rank, port)
+    say_port(line.alloc, line.plan, &run.tower, rank, port)
 }

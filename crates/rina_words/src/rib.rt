@@ -14,10 +14,9 @@ use crate::run::Run;
 use rina_base::{Memory, Name, Tick};
 use rina_data::StepError;
 use rina_dif::Shown;
-use rina_notes::{find_dif_site, refused, tell, tell_object, tell_step, tick_of};
+use rina_notes::{Line, find_dif_site, refused, tell, tell_object, tell_step, tick_of};
 use rina_report::{Answer, Notes, Refusal};
 use rina_schedule::ObjectName;
-use rina_stack::Plan;
 use std::alloc::Global;
 
 /// The name that is asked for; all objects where none is given.
@@ -69,37 +68,35 @@ fn tell_objects(
 
 /// The word `rib`.
 pub fn rib(
-    alloc: Global,
-    plan: &Plan,
+    line: &Line<'_>,
     run: &Run,
-    line: u32,
     dif: &Name,
     node: &Name,
     path: &Option<ObjectName>,
     trace: &mut Notes,
 ) -> Result<(), Memory>
-    requires plan { IsPlan plan.now }
+    requires plan { IsPlan line.now.plan.now }
     requires tower { IsTower run.now.tower }
-    ensures does { OnOk result (Leads (λ ns. ShowingRib line path.now (dif_site_at plan.now dif.now node.now) run.now ns run.now) trace.old trace.new) }
+    ensures does { OnOk result (Leads (λ ns. ShowingRib line.now.number path.now (dif_site_at line.now.plan.now dif.now node.now) run.now ns run.now) trace.old trace.new) }
     ensures more { OnErr result (Extends trace.old trace.new) }
 {
     let tick = tick_of(&run.tower);
-    let site = match find_dif_site(plan, dif, node) {
+    let site = match find_dif_site(line.plan, dif, node) {
         Ok(site) => site,
         Err(field) => {
             let why = Refusal::Unknown { field };
-            return tell(trace, line, tick, Some(Answer::Refused { why }));
+            return tell(trace, line.number, tick, Some(Answer::Refused { why }));
         }
     };
     match run
         .tower
-        .rib(alloc, site.rank, site.fac, site.node, path_of(path))
+        .rib(line.alloc, site.rank, site.fac, site.node, path_of(path))
     {
-        Ok(objects) => tell_objects(alloc, objects.as_slice(), line, tick, trace),
+        Ok(objects) => tell_objects(line.alloc, objects.as_slice(), line.number, tick, trace),
         Err(StepError::Memory) => Err(Memory),
         Err(error) => {
             let says = refused(tell_step(error));
-            tell(trace, line, tick, says)
+            tell(trace, line.number, tick, says)
         }
     }
 }

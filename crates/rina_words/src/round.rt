@@ -12,31 +12,30 @@ use crate::run::Run;
 use rina_base::{Memory, Name};
 use rina_data::StepError;
 use rina_iface::Facility;
-use rina_notes::{Site, find_dif_site, refused, tell, tell_out, tell_step};
+use rina_notes::{Line, Site, find_dif_site, refused, tell, tell_out, tell_step};
 use rina_policy::Retires;
 use rina_report::{Answer, Notes, Refusal};
-use rina_stack::{Plan, Rounds};
+use rina_stack::Rounds;
 use std::alloc::Global;
 
 fn call_out<P: Retires>(
-    alloc: Global,
-    plan: &Plan,
+    line: &Line<'_>,
     run: &mut Run,
     shelf: &mut P,
     site: Site,
     link: u32,
 ) -> Result<Option<Answer>, Memory>
     requires { IsTower run.old.tower }
-    ensures does { IfOk result (λ says. CallsOut plan.now link (stage run.old (P.slots shelf.old)) site says (stage run.new (P.slots shelf.new))) }
+    ensures does { IfOk result (λ says. CallsOut line.now.plan.now link (stage run.old (P.slots shelf.old)) site says (stage run.new (P.slots shelf.new))) }
     ensures tower { IsTower run.new.tower }
     ensures names { HasNames (P.slots shelf.old) (P.slots shelf.new) }
 {
     let link = link_number(link);
     match run
         .tower
-        .out_step(alloc, site.rank, site.fac, shelf, site.node, link)
+        .out_step(line.alloc, site.rank, site.fac, shelf, site.node, link)
     {
-        Ok(step) => tell_out(alloc, plan, site.rank, step),
+        Ok(step) => tell_out(line.alloc, line.plan, site.rank, step),
         Err(StepError::Memory) => Err(Memory),
         Err(error) => Ok(refused(tell_step(error))),
     }
@@ -44,25 +43,24 @@ fn call_out<P: Retires>(
 
 /// The word `out`.
 pub fn out_step<P: Retires>(
-    alloc: Global,
-    plan: &Plan,
+    line: &Line<'_>,
     run: &mut Run,
     shelf: &mut P,
     dif: &Name,
     node: &Name,
     link: u32,
 ) -> Result<Option<Answer>, Memory>
-    requires plan { IsPlan plan.now }
+    requires plan { IsPlan line.now.plan.now }
     requires tower { IsTower run.old.tower }
-    ensures does { IfOk result (λ says. LettingOut plan.now (dif_site_at plan.now dif.now node.now) link (stage run.old (P.slots shelf.old)) says (stage run.new (P.slots shelf.new))) }
+    ensures does { IfOk result (λ says. LettingOut line.now.plan.now (dif_site_at line.now.plan.now dif.now node.now) link (stage run.old (P.slots shelf.old)) says (stage run.new (P.slots shelf.new))) }
     ensures tower { IsTower run.new.tower }
     ensures names { HasNames (P.slots shelf.old) (P.slots shelf.new) }
 {
-    let site = match find_dif_site(plan, dif, node) {
+    let site = match find_dif_site(line.plan, dif, node) {
         Ok(site) => site,
         Err(field) => return Ok(refused(Some(Refusal::Unknown { field }))),
     };
-    call_out(alloc, plan, run, shelf, site, link)
+    call_out(line, run, shelf, site, link)
 }
 
 /// The round that follows by itself, where one does.

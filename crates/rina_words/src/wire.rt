@@ -7,7 +7,7 @@ ghost use Rattle.rina_words.specs.Step.{CallsWire, Cutting, Holding, Losing, Men
 
 use crate::run::Run;
 use rina_base::{Memory, Name, Tick};
-use rina_notes::{refused, tell_wire};
+use rina_notes::{Line, refused, tell_wire};
 use rina_report::{Answer, Refusal};
 use rina_stack::Plan;
 use rina_wire::WireError;
@@ -40,22 +40,21 @@ fn call_lose(run: &mut Run, wire: u16, frame: u32) -> Result<Option<Answer>, Mem
 
 /// The word `repeat`.
 pub fn repeat(
-    alloc: Global,
-    plan: &Plan,
+    line: &Line<'_>,
     run: &mut Run,
     wire: &Name,
     frame: u32,
     at: Tick,
 ) -> Result<Option<Answer>, Memory>
-    requires plan { IsPlan plan.now }
+    requires plan { IsPlan line.now.plan.now }
     requires sound { IsTower run.old.tower }
-    ensures does { IfOk result (λ says. Repeating plan.now wire.now frame at run.old says run.new) }
+    ensures does { IfOk result (λ says. Repeating line.now.plan.now wire.now frame at run.old says run.new) }
     ensures sound { IsTower run.new.tower }
 {
-    let Some(wire) = plan.wire(wire) else {
+    let Some(wire) = line.plan.wire(wire) else {
         return Ok(refused(Some(Refusal::NoWire)));
     };
-    call_repeat(alloc, run, wire, frame, at)
+    call_repeat(line.alloc, run, wire, frame, at)
 }
 
 fn call_repeat(

@@ -4,6 +4,6 @@ use Rattle.rina_notes.proofs.label_note.tell_labels.Given as goal
 
 abbrev pub invariant-labels : goal.invariant-labels
 invariant-labels l = record {
-  notes : l.trace ≡ l.fn.trace ++ state_notes l.plan l.line l.tower (take l.at l.fn.labels);
+  notes : l.trace ≡ l.fn.trace ++ state_notes l.line.plan.now l.line.number l.tower (take l.at l.fn.labels);
   labels : l.labels ≡ looked l.tower (take l.at l.fn.labels) ++ drop l.at l.fn.labels;
 }

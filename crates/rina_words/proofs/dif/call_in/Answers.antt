@@ -5,10 +5,10 @@ use Rattle.rina_words.proofs.Calls.{calls_in}
 use Rattle.rina_words.proofs.dif.call_in.Goals as goal
 
 pub returns-in-Ok-clause-does : goal.returns-in-Ok-clause-does
-returns-in-Ok-clause-does c = calls_in c.args.plan.now c.args.link c.link_number-link.result c.args.run.now c.args.site (Ok c.in-Ok.step) _ c.tell_in.result c.link_number-link.ensures (answered _ _) (c.in-Ok.ensures.does (alive _ c.in-Ok.ensures.failed (λ h. answered _ _ h.0))) c.tell_in.ensures
+returns-in-Ok-clause-does c = calls_in c.args.line.now.plan.now c.args.link c.link_number-link.result c.args.run.now c.args.site (Ok c.in-Ok.step) _ c.tell_in.result c.link_number-link.ensures (answered _ _) (c.in-Ok.ensures.does (alive _ c.in-Ok.ensures.failed (λ h. answered _ _ h.0))) c.tell_in.ensures
 
 pub returns-in-Err : goal.returns-in-Err
 returns-in-Err c = record {
-  does = calls_in c.args.plan.now c.args.link c.link_number-link.result c.args.run.now c.args.site (Err c.in-Err.error) _ (Ok c.refused.result) c.link_number-link.ensures (λ h. grind arith) (c.in-Err.ensures.does (alive _ c.in-Err.ensures.failed (λ h. grind arith))) (c.refused.ensures ∙ ap (option_map answers.Refused) c.tell_step.ensures);
+  does = calls_in c.args.line.now.plan.now c.args.link c.link_number-link.result c.args.run.now c.args.site (Err c.in-Err.error) _ (Ok c.refused.result) c.link_number-link.ensures (λ h. grind arith) (c.in-Err.ensures.does (alive _ c.in-Err.ensures.failed (λ h. grind arith))) (c.refused.ensures ∙ ap (option_map answers.Refused) c.tell_step.ensures);
   tower = c.in_step.ensures.valid;
 }

@@ -5,4 +5,4 @@ use Rattle.rina_words.proofs.journal.tell_ends.Given as goal
 
 -- the ends so far were told
 abbrev pub invariant-ends : goal.invariant-ends
-invariant-ends l = l.trace ≡ l.fn.trace ++ flat_map (end_notes l.plan l.rank l.line l.tick) (take l.end-index l.ends)
+invariant-ends l = l.trace ≡ l.fn.trace ++ flat_map (end_notes l.line.plan.now l.rank l.line.number l.tick) (take l.end-index l.ends)

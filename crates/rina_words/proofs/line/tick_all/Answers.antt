@@ -4,7 +4,7 @@ use Rattle.rina_words.proofs.Leading.{ticks_none, ticks_on}
 use Rattle.rina_words.proofs.line.tick_all.Goals as goal
 
 pub ticks-init : goal.ticks-init
-ticks-init g c = record { tower = c.requires.tower; clock = sym (add-zero _); ticks = ticks_none c.args.plan.now c.args.line (stage c.args.run.now (g.P.Picks.slots c.args.shelf.now)) c.args.trace.now; names = refl }
+ticks-init g c = record { tower = c.requires.tower; clock = sym (add-zero _); ticks = ticks_none c.args.line.now.plan.now c.args.line.now.number (stage c.args.run.now (g.P.Picks.slots c.args.shelf.now)) c.args.trace.now; names = refl }
 
 pub ticks-preserved : goal.ticks-preserved
 ticks-preserved g c = record {

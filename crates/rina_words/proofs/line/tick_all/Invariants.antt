@@ -9,6 +9,6 @@ abbrev pub invariant-ticks : goal.invariant-ticks
 invariant-ticks g l = record {
   tower : IsTower l.run.tower;
   clock : now_of l.run.tower ≡ now_of l.fn.run.tower + l.counter;
-  ticks : Leads (λ ns. Ticks l.plan l.line l.counter (stage l.fn.run (g.P.Picks.slots l.fn.shelf)) ns (stage l.run (g.P.Picks.slots l.shelf))) l.fn.trace l.trace;
+  ticks : Leads (λ ns. Ticks l.line.plan.now l.line.number l.counter (stage l.fn.run (g.P.Picks.slots l.fn.shelf)) ns (stage l.run (g.P.Picks.slots l.shelf))) l.fn.trace l.trace;
   names : HasNames (g.P.Picks.slots l.fn.shelf) (g.P.Picks.slots l.shelf);
 }

@@ -5,11 +5,11 @@ use Rattle.rina_words.proofs.Calls.{calls_out}
 use Rattle.rina_words.proofs.round.call_out.Goals as goal
 
 pub returns-in-Ok-clause-does : goal.returns-in-Ok-clause-does
-returns-in-Ok-clause-does g c = calls_out (g.P.Picks.may_answer c.args.shelf.now) c.args.plan.now c.args.link c.link_number-link.result c.args.run.now _ _ c.args.site (Ok c.in-Ok.step) _ c.tell_out.result c.link_number-link.ensures (answered _ _) (c.in-Ok.ensures.does (alive _ c.in-Ok.ensures.failed (λ h. answered _ _ h.0))) c.tell_out.ensures
+returns-in-Ok-clause-does g c = calls_out (g.P.Picks.may_answer c.args.shelf.now) c.args.line.now.plan.now c.args.link c.link_number-link.result c.args.run.now _ _ c.args.site (Ok c.in-Ok.step) _ c.tell_out.result c.link_number-link.ensures (answered _ _) (c.in-Ok.ensures.does (alive _ c.in-Ok.ensures.failed (λ h. answered _ _ h.0))) c.tell_out.ensures
 
 pub returns-in-Err : goal.returns-in-Err
 returns-in-Err g c = record {
-  does = calls_out (g.P.Picks.may_answer c.args.shelf.now) c.args.plan.now c.args.link c.link_number-link.result c.args.run.now _ _ c.args.site (Err c.in-Err.error) _ (Ok c.refused.result) c.link_number-link.ensures (λ h. grind arith) (c.in-Err.ensures.does (alive _ c.in-Err.ensures.failed (λ h. grind arith))) (c.refused.ensures ∙ ap (option_map answers.Refused) c.tell_step.ensures);
+  does = calls_out (g.P.Picks.may_answer c.args.shelf.now) c.args.line.now.plan.now c.args.link c.link_number-link.result c.args.run.now _ _ c.args.site (Err c.in-Err.error) _ (Ok c.refused.result) c.link_number-link.ensures (λ h. grind arith) (c.in-Err.ensures.does (alive _ c.in-Err.ensures.failed (λ h. grind arith))) (c.refused.ensures ∙ ap (option_map answers.Refused) c.tell_step.ensures);
   tower = c.out_step.ensures.valid;
   names = c.out_step.ensures.names;
 }
