@@ -22,7 +22,7 @@ use Rattle.rina_run.specs.Check.{InputTells, IsFirstBad, IsRead, IsReadAs, Lines
 use Rattle.rina_run.specs.Outcomes.{IsChecked}
 use Rattle.rina_run.specs.Script.{Script, script, script_in}
 use Rattle.rina_run.specs.Top.{ClosedBy, IsOutOfMemory, IsReadTo, fault_of, is_whole, stack_fault, status_of}
-use Rattle.rina_run.proofs.Ending.{fault_is_read, schedule_is, stack_not_read}
+use Rattle.rina_run.proofs.Ending.{fault_is_read, stack_not_read}
 use Rattle.rina_run.proofs.Playing.{line_got, texts_of}
 
 text_at : (ls : List (Bor (List ℕ))) (i : ℕ) (d : Bor (List ℕ)) → i < length ls → get_or (texts_of ls) i [] ≡ without_terminator (get_or ls i d).now
@@ -80,7 +80,7 @@ told_of_stack : (known : List ℕ → Bool) (text : List ℕ) (note : Note) → 
 told_of_stack known text note (error, reads, fault, is, note_is) h = stack_not_read error fault is (h ∙ ap status_beside note_is)
 
 told_of_line : (bad : BadLine) → statuses.ReadFault ≡ status_of (fault_of bad) → ⊥
-told_of_line bad h = let k = schedule_is bad.number bad.error in let no : statuses.ReadFault ≡ statuses.Schedule bad.number k.0 k.1 = h ∙ ap status_of k.2 in cc
+told_of_line bad h = cc
 
 told_last : (ending : Option Fault) (plan : Plan) (events : ℕ) → statuses.ReadFault ≡ status_beside (last_note ending plan events) → ending ≡ Some faults.ReadFault
 told_last None plan events h = cc

@@ -9,8 +9,7 @@ use Rattle.rina_report.specs.declared.note.Note.TheVariants as notes
 use Rattle.rina_report.specs.declared.note.Fault.{Fault}
 use Rattle.rina_report.specs.declared.note.Fault.TheVariants as faults
 use Rattle.rina_report.specs.Notes.{text_of}
-use Rattle.rina_schedule.specs.declared.error.LineError.{LineError}
-use Rattle.rina_schedule.specs.declared.error.LineError.TheVariants as errors
+use Rattle.rina_schedule.specs.Errors.{number_of, field_of}
 use Rattle.rina_stack.specs.declared.plan.Plan.{Plan}
 use Rattle.rina_table.specs.declared.error.StackError.{StackError}
 use Rattle.rina_table.specs.declared.error.StackError.TheVariants as stack
@@ -39,7 +38,7 @@ use Rattle.rina_run.specs.Run.{Runs, StopsAt, RanFirst, LinesRan}
 use Rattle.rina_run.specs.Script.{Script, script_in}
 use Rattle.rina_words.specs.Step.{HasNames, Stage, stage}
 use Rattle.rina_run.specs.Written.{IsFront, Written}
-use Rattle.rina_run.specs.Top.{status_of, fault_at, fault_of, closing_of, stack_fault, IsRefusedStack, IsStopped, PlayOutcomes, RefusedBy, ScriptOutcomes, InputOutcomes, IsOutOfMemory, ClosedBy, IsEnding, IsReadTo, is_whole, status_stopped, AreCut, FailedByCut, IsCutBy, KeepsAll}
+use Rattle.rina_run.specs.Top.{status_of, fault_of, closing_of, stack_fault, IsRefusedStack, IsStopped, PlayOutcomes, RefusedBy, ScriptOutcomes, InputOutcomes, IsOutOfMemory, ClosedBy, IsEnding, IsReadTo, is_whole, status_stopped, AreCut, FailedByCut, IsCutBy, KeepsAll}
 use Rattle.rina_run.specs.Outcomes.{IsRan}
 use Rattle.rina_run.proofs.Texts.{wrote_all}
 
@@ -118,20 +117,9 @@ bad_closed plan ending lines start told t u tower shelf' statuses.WriteFault bad
 bad_closed plan ending lines start told t u tower shelf' statuses.Memory bad line n field is stops left after names c = (u, may_close_bad plan ending lines start told t u bad stops c, names)
 bad_closed plan ending lines start told t u tower shelf' s bad line n field is stops left after names c = cc
 
-pub schedule_is : (line : ℕ) (e : LineError) → (n : ℕ) × (field : ℕ) × (fault_at line e ≡ faults.Schedule line n field)
-schedule_is line errors.Memory = (1, 0, refl)
-schedule_is line errors.UnknownWord = (1, 0, refl)
-schedule_is line (errors.MissingField n) = (2, n, refl)
-schedule_is line (errors.BadNumber n) = (3, n, refl)
-schedule_is line (errors.BadName n) = (4, n, refl)
-schedule_is line (errors.Extra n) = (5, n, refl)
-schedule_is line (errors.BadBytes n) = (6, n, refl)
-
 pub bad_from : (plan : Plan) (ending : Option Fault) (lines : List (List ℕ)) (start : Stage) (told t : List Note) (u : Stage) (tower : Option Tower) (shelf' : List Slot) (s : Status) (bad : BadLine) → StopsAt plan start lines bad told u → tower ≡ Some u.run.tower → shelf' ≡ u.shelf → HasNames start.shelf shelf' → ClosedBy (status_of (fault_of bad)) (notes.Fault (fault_of bad)) told s t → PlayOutcomes plan ending lines start s t tower shelf'
 bad_from plan ending lines start told t u tower shelf' s bad stops left after names c =
-    let k = schedule_is bad.number bad.error in
-    let c' : ClosedBy (statuses.Schedule bad.number k.0 k.1) (notes.Fault (fault_of bad)) told s t = subst (λ (f : Fault). ClosedBy (status_of f) (notes.Fault (fault_of bad)) told s t) k.2 c in
-    bad_closed plan ending lines start told t u tower shelf' s bad bad.number k.0 k.1 k.2 stops left after names c'
+    bad_closed plan ending lines start told t u tower shelf' s bad bad.number (number_of bad.error) (field_of bad.error) refl stops left after names c
 
 -- the run was stopped
 pub stop_from : (plan : Plan) (ending : Option Fault) (lines : List (List ℕ)) (start : Stage) (t : List Note) (u : Stage) (tower : Option Tower) (shelf' : List Slot) (stop : Stop) → LinesRan plan start lines t u (Err stop) → tower ≡ Some u.run.tower → shelf' ≡ u.shelf → HasNames start.shelf shelf' → PlayOutcomes plan ending lines start (status_stopped stop) t tower shelf'

@@ -6,3 +6,4 @@ pub mod Checks
 pub mod Shows
 pub mod Promised
 pub mod Opens
+pub mod Drawing

@@ -5,5 +5,6 @@ pub mod Run
 pub mod Written
 pub mod Top
 pub mod Check
+pub mod Drawn
 pub mod Outcomes
 pub mod Promises

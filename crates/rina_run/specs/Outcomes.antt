@@ -1,5 +1,5 @@
 -- The outcome of each command.
-use Rattle.std.specs.Prelude.{◌≡◌, ℕ, Bool, List, [], Option, None, Result, Ok, Err, ◌⊎◌}
+use Rattle.std.specs.Prelude.{◌≡◌, ℕ, Bool, List, [], Option, Some, None, Result, Ok, Err, ◌⊎◌}
 use Rattle.rina_gen.specs.Input.{input}
 use Rattle.rina_gen.specs.Text.{input_text}
 use Rattle.rina_policy.specs.Slots.{Slot}
@@ -12,6 +12,7 @@ use Rattle.rina_run.specs.declared.command.Command.TheVariants as commands
 use Rattle.rina_run.specs.declared.outcome.Status.{Status}
 use Rattle.rina_run.specs.declared.outcome.Status.TheVariants as statuses
 use Rattle.rina_run.specs.Check.{CheckOutcomes}
+use Rattle.rina_run.specs.Drawn.{Tells}
 use Rattle.rina_run.specs.Top.{InputOutcomes, IsOutOfMemory, RefusedBy, WasRead}
 
 -- the text that a command writes: that of its notes, and for `show` the input that is drawn from the number
@@ -41,10 +42,18 @@ pub record IsShown (status : Status) (trace : List Note) (tower : Option Tower) 
   pub notes : trace ≡ []
   pub left : tower ≡ None
 
+-- the outcome of `gen`: the input that is drawn from the number is run as `run` would, with notes that are not written, and what that came to is told
+pub record IsGenerated (known : List ℕ → Bool) (n : ℕ) (shelf : List Slot) (status : Status) (trace : List Note) (tower : Option Tower) (unwritten : List Note) (shelf' : List Slot) : Type 0 where
+  pub ended : Status
+  pub left : Option (List ℕ)
+  pub ran : IsRan known (Some (input_text (input n))) left shelf ended unwritten tower shelf'
+  pub told : Tells n ended unwritten tower status trace
+
 -- the outcome of a run, by the words of the command line, by what was read, and by the shelf that was handed in; a place is that of
 -- the word which can't stand there, and is told
-abbrev pub RunOutcomes : (List ℕ → Bool) → Result Command ℕ → Option (List ℕ) → Option (List ℕ) → List Slot → Status → List Note → Option Tower → List Slot → Type 0
-RunOutcomes known (Ok commands.Run) left left' shelf status trace tower shelf' = IsRan known left left' shelf status trace tower shelf'
-RunOutcomes known (Ok commands.Check) left left' shelf status trace tower shelf' = IsChecked known left left' status trace tower × (shelf' ≡ shelf)
-RunOutcomes known (Ok (commands.Show n)) left left' shelf status trace tower shelf' = IsShown status trace tower × (left' ≡ left) × (shelf' ≡ shelf)
-RunOutcomes known (Err word) left left' shelf status trace tower shelf' = (tower ≡ None) × RefusedBy (faults.Usage word) status trace × (shelf' ≡ shelf)
+abbrev pub RunOutcomes : (List ℕ → Bool) → Result Command ℕ → Option (List ℕ) → Option (List ℕ) → List Slot → Status → List Note → Option Tower → List Note → List Slot → Type 0
+RunOutcomes known (Ok commands.Run) left left' shelf status trace tower unwritten shelf' = IsRan known left left' shelf status trace tower shelf' × (unwritten ≡ [])
+RunOutcomes known (Ok commands.Check) left left' shelf status trace tower unwritten shelf' = IsChecked known left left' status trace tower × (shelf' ≡ shelf) × (unwritten ≡ [])
+RunOutcomes known (Ok (commands.Gen n)) left left' shelf status trace tower unwritten shelf' = IsGenerated known n shelf status trace tower unwritten shelf' × (left' ≡ left)
+RunOutcomes known (Ok (commands.Show n)) left left' shelf status trace tower unwritten shelf' = IsShown status trace tower × (left' ≡ left) × (shelf' ≡ shelf) × (unwritten ≡ [])
+RunOutcomes known (Err word) left left' shelf status trace tower unwritten shelf' = (tower ≡ None) × RefusedBy (faults.Usage word) status trace × (shelf' ≡ shelf) × (unwritten ≡ [])

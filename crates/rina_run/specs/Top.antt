@@ -12,8 +12,7 @@ use Rattle.rina_report.specs.declared.note.Note.{Note}
 use Rattle.rina_report.specs.declared.note.Note.TheVariants as notes
 use Rattle.rina_report.specs.declared.note.Fault.{Fault}
 use Rattle.rina_report.specs.declared.note.Fault.TheVariants as faults
-use Rattle.rina_schedule.specs.declared.error.LineError.{LineError}
-use Rattle.rina_schedule.specs.declared.error.LineError.TheVariants as errors
+use Rattle.rina_schedule.specs.Errors.{number_of, field_of}
 use Rattle.rina_stack.specs.declared.plan.Plan.{Plan}
 use Rattle.rina_table.specs.declared.error.StackError.{StackError}
 use Rattle.rina_table.specs.declared.error.StackError.TheVariants as stack
@@ -40,17 +39,8 @@ status_of (faults.Schedule line n field) = statuses.Schedule line n field
 status_of faults.ReadFault = statuses.ReadFault
 
 -- the fault of a line: the number of its error, and the field
-abbrev pub fault_at : ℕ → LineError → Fault
-fault_at line errors.Memory = faults.Schedule line 1 0
-fault_at line errors.UnknownWord = faults.Schedule line 1 0
-fault_at line (errors.MissingField n) = faults.Schedule line 2 n
-fault_at line (errors.BadNumber n) = faults.Schedule line 3 n
-fault_at line (errors.BadName n) = faults.Schedule line 4 n
-fault_at line (errors.Extra n) = faults.Schedule line 5 n
-fault_at line (errors.BadBytes n) = faults.Schedule line 6 n
-
 abbrev pub fault_of : BadLine → Fault
-fault_of bad = fault_at bad.number bad.error
+fault_of bad = faults.Schedule bad.number (number_of bad.error) (field_of bad.error)
 
 abbrev pub told_once : Fault → List Note
 told_once fault = notes.Fault fault ∷ []

@@ -11,12 +11,12 @@ ghost use Rattle.rina_run.specs.Top.{ClosedBy, is_whole};
 ghost use Rattle.rina_run.specs.Written.{Written};
 
 use crate::closing::{fault_status, line_fault, out_of_memory, seal};
-use crate::input::{Parts, all_lines, split_input, without_end};
+use crate::input::{Parts, split_input};
 use crate::lines::BadLine;
 use crate::outcome::{Finish, Status};
 use crate::reading::read_input;
 use rina_base::{Memory, Seq};
-use rina_io::{Sink, Source};
+use rina_io::{Sink, Source, all_lines, without_end};
 use rina_report::{Fault, Note};
 use rina_schedule::LineError;
 use rina_stack::{Plan, Policies, StackError, read_runnable};

@@ -12,7 +12,6 @@ use crate::output::{Stop, emit};
 use rina_base::Seq;
 use rina_io::Sink;
 use rina_report::{Fault, Note, Notes};
-use rina_schedule::LineError;
 use rina_tower::Tower;
 use std::alloc::Global;
 
@@ -73,18 +72,10 @@ pub fn fault_status(fault: Fault) -> Status
 pub fn line_fault(bad: BadLine) -> Fault
     ensures { result ≡ fault_of bad }
 {
-    let (n, field) = match bad.error {
-        LineError::Memory | LineError::UnknownWord => (1, 0),
-        LineError::MissingField { n } => (2, n),
-        LineError::BadNumber { n } => (3, n),
-        LineError::BadName { n } => (4, n),
-        LineError::Extra { n } => (5, n),
-        LineError::BadBytes { n } => (6, n),
-    };
     Fault::Schedule {
         line: bad.number,
-        n,
-        field,
+        n: bad.error.number(),
+        field: bad.error.field(),
     }
 }
 

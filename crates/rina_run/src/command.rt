@@ -1,7 +1,7 @@
 //! The words of the command line.
 ghost use Rattle.std.specs.Prelude.{◌≡◌, map, string_bytes};
 ghost use Rattle.rina_report.specs.Fields.{max32, numeral_of};
-ghost use Rattle.rina_run.specs.Command.{alone, command_of, show_by, show_of};
+ghost use Rattle.rina_run.specs.Command.{alone, command_of, number_by, number_of};
 
 use rina_base::read_number;
 
@@ -12,6 +12,8 @@ pub enum Command {
     Run,
     /// The input is read, and nothing of it is run.
     Check,
+    /// The input that is drawn from a number is run.
+    Gen { n: u32 },
     /// The input that is drawn from a number is written.
     Show { n: u32 },
 }
@@ -37,24 +39,24 @@ fn alone(command: Command, others: &[String]) -> Result<Command, u32>
     }
 }
 
-/// The command `show` with its number, if it has one, and what follows.
-fn show_by(number: Option<u32>, others: &[String]) -> Result<Command, u32>
-    ensures { result ≡ show_by number (map (λ w. string_bytes w) others.now) }
+/// The number behind a command that takes one, if it is one, and no word follows.
+fn number_by(number: Option<u32>, others: &[String]) -> Result<u32, u32>
+    ensures { result ≡ number_by number (map (λ w. string_bytes w) others.now) }
 {
     match (number, others) {
         (None, _) => Err(1),
-        (Some(n), []) => Ok(Command::Show { n }),
+        (Some(n), []) => Ok(n),
         (Some(_), [_, ..]) => Err(2),
     }
 }
 
-/// The command `show` with the words behind it.
-fn show_in(others: &[String]) -> Result<Command, u32>
-    ensures { result ≡ show_of (map (λ w. string_bytes w) others.now) }
+/// The number that the words behind a command are, which takes one.
+fn number_in(others: &[String]) -> Result<u32, u32>
+    ensures { result ≡ number_of (map (λ w. string_bytes w) others.now) }
 {
     match others {
         [] => Err(1),
-        [number, more @ ..] => show_by(numeral_in(number.as_bytes()), more),
+        [number, more @ ..] => number_by(numeral_in(number.as_bytes()), more),
     }
 }
 
@@ -71,8 +73,12 @@ pub fn command_in(words: &[String]) -> Result<Command, u32>
                 alone(Command::Run, others)
             } else if first.as_str() == "check" {
                 alone(Command::Check, others)
+            } else if first.as_str() == "gen" {
+                let n = number_in(others)?;
+                Ok(Command::Gen { n })
             } else if first.as_str() == "show" {
-                show_in(others)
+                let n = number_in(others)?;
+                Ok(Command::Show { n })
             } else {
                 Err(0)
             }

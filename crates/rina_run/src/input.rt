@@ -1,10 +1,10 @@
 //! The parts of an input: the text of the stack, and the lines of the schedule behind a mark.
 ghost use Rattle.std.specs.Prelude.{◌≡◌, ◌<◌, ◌≤◌, ◌-◌, length, map, position, slice_get, take, drop, IfOk, IfSome, option_map};
 ghost use Rattle.std.specs.List.{flat_map};
-ghost use Rattle.bstr.specs.Text.{lines_of, without_terminator};
+ghost use Rattle.bstr.specs.Text.{without_terminator};
 ghost use Rattle.rina_run.specs.Script.{has_end, is_open, ended_lines, counted_lines, is_mark, script, script_of};
 
-use bstr::ByteSlice;
+use rina_io::without_end;
 use std::alloc::{AllocError, Global};
 
 /// A stack's text, and the lines of a schedule, each with its end if it has one.
@@ -12,17 +12,6 @@ use std::alloc::{AllocError, Global};
 pub struct Parts<'a, 'b> {
     pub stack: Vec<u8>,
     pub lines: &'b [&'a [u8]],
-}
-
-/// A line without its line feed and one carriage return before it.
-pub fn without_end(line: &[u8]) -> &[u8]
-    ensures { result.now ≡ without_terminator line.now }
-{
-    match line {
-        [front @ .., b'\r', b'\n'] => front,
-        [front @ .., b'\n'] => front,
-        _ => line,
-    }
 }
 
 #[tactic(auto, unfolding(crate::specs::Script::has_end))]
@@ -40,14 +29,6 @@ fn is_mark_line(line: &[u8]) -> bool
     ensures { result ≡ is_mark line.now }
 {
     without_end(line) == b"%%".as_slice()
-}
-
-/// The lines of an input, each with its end if it has one.
-pub fn all_lines(alloc: Global, bytes: &[u8]) -> Result<Vec<&[u8]>, AllocError>
-    ensures value { IfOk result (λ v. map (λ s. s.now) v.items ≡ lines_of bytes.now) }
-    ensures few { IfOk result (λ v. length v.items ≤ length bytes.now) }
-{
-    bytes.lines_with_terminator().collect(alloc)
 }
 
 fn first_mark(lines: &[&[u8]]) -> Option<usize>

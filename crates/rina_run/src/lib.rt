@@ -4,6 +4,7 @@
 mod check;
 mod closing;
 mod command;
+mod drawn;
 mod input;
 mod lines;
 mod opening;
@@ -11,6 +12,7 @@ mod outcome;
 mod output;
 mod reading;
 mod show;
+mod summary;
 mod top;
 
 pub use outcome::{Outcome, Status};

@@ -11,10 +11,10 @@ ghost use Rattle.rina_run.specs.Written.{IsFront};
 ghost use Rattle.rina_words.specs.Step.{HasNames, Steps, stage};
 ghost use Rattle.rina_run.specs.Run.{Ran, LineRan, LinesRan};
 
-use crate::input::without_end;
 use crate::output::{Stop, emit};
 use rina_base::{Memory, Seq};
-use rina_io::Sink;
+use rina_io::{Sink, without_end};
+use rina_notes::Line;
 use rina_policy::Retires;
 use rina_report::Notes;
 use rina_schedule::{Event, LineError};
@@ -35,19 +35,17 @@ fn take_back(alloc: Global, trace: &mut Notes, from: usize)
 /// Runs what a line asks for, and writes its notes. Without memory for all of them the line tells none.
 #[tactic(auto, using(crate::proofs::Playing::front_is, crate::proofs::Playing::front_of, crate::proofs::Texts::wrote_all))]
 fn run_event<K: Sink, P: Retires>(
-    alloc: Global,
-    plan: &Plan,
+    line: &Line<'_>,
     run: &mut Run,
     shelf: &mut P,
-    number: u32,
     event: &Event,
     out: &mut K,
     trace: &mut Notes,
 ) -> Result<(), Stop>
-    requires plan { IsPlan plan.now }
+    requires plan { IsPlan line.now.plan.now }
     requires built { is_built event.now ≡ true }
     requires sound { IsTower run.old.tower }
-    ensures does { Ran (λ ns. Steps plan.now number event.now (stage run.old (P.slots shelf.old)) ns (stage run.new (P.slots shelf.new))) trace.old trace.new result }
+    ensures does { Ran (λ ns. Steps line.now.plan.now line.now.number event.now (stage run.old (P.slots shelf.old)) ns (stage run.new (P.slots shelf.new))) trace.old trace.new result }
     ensures ok { OnOk result ((base : Option (List ℕ)) → Appends base (K.took out.old) (text_of trace.old) → Appends base (K.took out.new) (text_of trace.new)) }
     ensures err { OnErr result ((base : Option (List ℕ)) → Appends base (K.took out.old) (text_of trace.old) → IsFront base (K.took out.new) (text_of trace.new)) }
     ensures fault { IsErrOf result Stop.WriteFault → Rose (K.faults out.old) (K.faults out.new) }
@@ -56,10 +54,10 @@ fn run_event<K: Sink, P: Retires>(
     ensures names { HasNames (P.slots shelf.old) (P.slots shelf.new) }
 {
     let from = trace.len();
-    match step(alloc, plan, run, shelf, number, event, trace) {
-        Ok(()) => emit(alloc, out, trace, from),
+    match step(line, run, shelf, event, trace) {
+        Ok(()) => emit(line.alloc, out, trace, from),
         Err(Memory) => {
-            take_back(alloc, trace, from);
+            take_back(line.alloc, trace, from);
             Err(Stop::Memory)
         }
     }
@@ -69,18 +67,16 @@ fn run_event<K: Sink, P: Retires>(
 /// nothing was run.
 #[tactic(auto, using(crate::proofs::Texts::wrote_all))]
 fn run_line<K: Sink, P: Retires>(
-    alloc: Global,
-    plan: &Plan,
+    line: &Line<'_>,
     run: &mut Run,
     shelf: &mut P,
-    number: u32,
-    line: &[u8],
+    text: &[u8],
     out: &mut K,
     trace: &mut Notes,
 ) -> Result<Option<LineError>, Stop>
-    requires plan { IsPlan plan.now }
+    requires plan { IsPlan line.now.plan.now }
     requires sound { IsTower run.old.tower }
-    ensures does { LineRan plan.now number line.now (stage run.old (P.slots shelf.old)) trace.old (stage run.new (P.slots shelf.new)) trace.new result }
+    ensures does { LineRan line.now.plan.now line.now.number text.now (stage run.old (P.slots shelf.old)) trace.old (stage run.new (P.slots shelf.new)) trace.new result }
     ensures ok { OnOk result ((base : Option (List ℕ)) → Appends base (K.took out.old) (text_of trace.old) → Appends base (K.took out.new) (text_of trace.new)) }
     ensures err { OnErr result ((base : Option (List ℕ)) → Appends base (K.took out.old) (text_of trace.old) → IsFront base (K.took out.new) (text_of trace.new)) }
     ensures fault { IsErrOf result Stop.WriteFault → Rose (K.faults out.old) (K.faults out.new) }
@@ -88,9 +84,9 @@ fn run_line<K: Sink, P: Retires>(
     ensures sound { IsTower run.new.tower }
     ensures names { HasNames (P.slots shelf.old) (P.slots shelf.new) }
 {
-    match read_event(alloc, line) {
+    match read_event(line.alloc, text) {
         Ok(Some(event)) => {
-            run_event(alloc, plan, run, shelf, number, &event, out, trace)?;
+            run_event(line, run, shelf, &event, out, trace)?;
             Ok(None)
         }
         Ok(None) => Ok(None),
@@ -106,21 +102,27 @@ pub struct BadLine {
     pub error: LineError,
 }
 
+/// The lines of a schedule, each with its end if it has one, and the plan of the stack that they are run on.
+#[derive(Drop)]
+pub struct Schedule<'a, 'b> {
+    pub plan: &'b Plan,
+    pub lines: &'b [&'a [u8]],
+}
+
 /// Runs lines in their order, and answers the first that is outside the grammar.
 pub fn play<K: Sink, P: Retires>(
     alloc: Global,
-    plan: &Plan,
+    schedule: &Schedule<'_, '_>,
     run: &mut Run,
     shelf: &mut P,
-    lines: &[&[u8]],
     out: &mut K,
     trace: &mut Notes,
 ) -> Result<Option<BadLine>, Stop>
-    requires plan { IsPlan plan.now }
+    requires plan { IsPlan schedule.now.plan.now }
     requires sound { IsTower run.old.tower }
-    requires few { length lines.now < 2 ^ 32 }
+    requires few { length schedule.now.lines.now < 2 ^ 32 }
     requires none { trace.old ≡ [] }
-    ensures does { LinesRan plan.now (stage run.old (P.slots shelf.old)) (map (λ l. without_terminator l.now) lines.now) trace.new (stage run.new (P.slots shelf.new)) result }
+    ensures does { LinesRan schedule.now.plan.now (stage run.old (P.slots shelf.old)) (map (λ l. without_terminator l.now) schedule.now.lines.now) trace.new (stage run.new (P.slots shelf.new)) result }
     ensures ok { OnOk result (Appends (K.took out.old) (K.took out.new) (text_of trace.new)) }
     ensures err { OnErr result (IsFront (K.took out.old) (K.took out.new) (text_of trace.new)) }
     ensures fault { IsErrOf result Stop.WriteFault → Rose (K.faults out.old) (K.faults out.new) }
@@ -129,10 +131,15 @@ pub fn play<K: Sink, P: Retires>(
     ensures names { HasNames (P.slots shelf.old) (P.slots shelf.new) }
 {
     let mut number = 0u32;
-    'lines: for line in lines {
+    'lines: for text in schedule.lines {
         number += 1;
-        let line = without_end(line);
-        if let Some(error) = run_line(alloc, plan, run, shelf, number, line, out, trace)? {
+        let line = Line {
+            alloc,
+            plan: schedule.plan,
+            number,
+        };
+        let text = without_end(text);
+        if let Some(error) = run_line(&line, run, shelf, text, out, trace)? {
             return Ok(Some(BadLine { number, error }));
         }
     }

@@ -35,12 +35,21 @@ pub struct Finish {
     pub tower: Option<Tower>,
 }
 
+/// The outcome of a command, beside the shelf: how it finished, and the notes of a run that are not written.
+#[derive(Drop)]
+pub struct Ended {
+    pub finish: Finish,
+    pub unwritten: Notes,
+}
+
 /// The outcome of a run: its status, the notes in order, the tower as the run left it, where a stack was
-/// accepted, and the shelf that was handed in, as the steps of the run left it.
+/// accepted, and the shelf that was handed in, as the steps of the run left it. For `gen` the tower is that of
+/// the run of the drawn input, and `unwritten` has the notes of that run, which are not written.
 #[derive(Drop)]
 pub struct Outcome<P> {
     pub status: Status,
     pub trace: Notes,
     pub tower: Option<Tower>,
+    pub unwritten: Notes,
     pub shelf: P,
 }

@@ -1,5 +1,5 @@
 //! The top call.
-ghost use Rattle.std.specs.Prelude.{◌≡◌, ◌<◌, ◌≤◌, ◌^◌, length, map, IsSome, IfSome, string_bytes, ◌⊎◌};
+ghost use Rattle.std.specs.Prelude.{◌≡◌, ◌<◌, ◌≤◌, ◌^◌, [], length, map, IsSome, IfSome, string_bytes, ◌⊎◌};
 ghost use Rattle.bstr.specs.Text.{without_terminator};
 ghost use Rattle.rina_io.specs.Causes.{Rose};
 ghost use Rattle.rina_report.specs.Notes.{text_of};
@@ -17,19 +17,20 @@ ghost use Rattle.rina_run.specs.Top.{is_whole, PlayOutcomes, ScriptOutcomes, Inp
 use crate::check::check_input;
 use crate::closing::{end_by_fault, line_fault, out_of_memory, refuse, seal, stopped};
 use crate::command::{Command, command_in};
-use crate::input::{Parts, all_lines, split_input};
-use crate::lines::play;
+use crate::drawn::gen_input;
+use crate::input::{Parts, split_input};
+use crate::lines::{Schedule, play};
 use crate::opening::open_run;
-use crate::outcome::{Finish, Outcome, Status};
+use crate::outcome::{Ended, Finish, Outcome, Status};
 use crate::reading::read_input;
 use crate::show::show_input;
 use rina_base::Seq;
 use rina_iface::Facility;
-use rina_io::{Sink, Source};
+use rina_io::{Sink, Source, all_lines};
 use rina_notes::tick_of;
 use rina_policy::Retires;
 use rina_report::{Fault, Note};
-use rina_stack::{Plan, Policies, StackError, read_runnable};
+use rina_stack::{Policies, StackError, read_runnable};
 use rina_words::Run;
 use std::alloc::Global;
 
@@ -39,17 +40,16 @@ use std::alloc::Global;
 fn run_lines<K: Sink, P: Retires>(
     alloc: Global,
     ending: Option<Fault>,
-    plan: &Plan,
+    schedule: &Schedule<'_, '_>,
     mut opened: Run,
-    lines: &[&[u8]],
     out: &mut K,
     shelf: &mut P,
 ) -> Finish
-    requires plan { IsPlan plan.now }
+    requires plan { IsPlan schedule.now.plan.now }
     requires ending { IsEnding ending }
     requires sound { IsTower opened.tower }
-    requires few { length lines.now < 2 ^ 32 }
-    ensures outcome { PlayOutcomes plan.now ending (map (λ l. without_terminator l.now) lines.now) (stage opened (P.slots shelf.old)) result.status result.trace result.tower (P.slots shelf.new) }
+    requires few { length schedule.now.lines.now < 2 ^ 32 }
+    ensures outcome { PlayOutcomes schedule.now.plan.now ending (map (λ l. without_terminator l.now) schedule.now.lines.now) (stage opened (P.slots shelf.old)) result.status result.trace result.tower (P.slots shelf.new) }
     ensures tower { IsSome result.tower }
     ensures sound { IfSome result.tower IsTower }
     ensures written { Written (K.took out.old) (K.took out.new) (text_of result.trace) result.status }
@@ -57,7 +57,7 @@ fn run_lines<K: Sink, P: Retires>(
     ensures later { K.faults out.old ≤ K.faults out.new }
 {
     let mut trace = Seq::new(alloc);
-    match play(alloc, plan, &mut opened, shelf, lines, out, &mut trace) {
+    match play(alloc, schedule, &mut opened, shelf, out, &mut trace) {
         Ok(None) => match ending {
             None => {
                 let tick = tick_of(&opened.tower);
@@ -103,7 +103,11 @@ fn run_script<K: Sink, P: Retires + Policies>(
     let Ok(opened) = open_run(alloc, &plan) else {
         return out_of_memory(alloc);
     };
-    run_lines(alloc, ending, &plan, opened, parts.lines, out, shelf)
+    let schedule = Schedule {
+        plan: &plan,
+        lines: parts.lines,
+    };
+    run_lines(alloc, ending, &schedule, opened, out, shelf)
 }
 
 /// Runs an input, as far as it was read.
@@ -138,7 +142,7 @@ fn run_input<K: Sink, P: Retires + Policies>(
 
 /// Reads an input, and runs it.
 #[tactic(auto, using(crate::proofs::Ending::was_ran))]
-fn run_read<S: Source, K: Sink, P: Retires + Policies>(
+pub fn run_read<S: Source, K: Sink, P: Retires + Policies>(
     alloc: Global,
     input: &mut S,
     out: &mut K,
@@ -156,6 +160,17 @@ fn run_read<S: Source, K: Sink, P: Retires + Policies>(
     run_input(alloc, read.ending, read.bytes.as_slice(), out, shelf)
 }
 
+/// The outcome of a command that leaves no notes unwritten.
+fn all_written(alloc: Global, finish: Finish) -> Ended
+    ensures finish { result.finish ≡ finish }
+    ensures unwritten { result.unwritten ≡ [] }
+{
+    Ended {
+        finish,
+        unwritten: Seq::new(alloc),
+    }
+}
+
 /// A run over any shelf: the words of the command line without the program's name, the input, and where the
 /// notes are written. Each line's notes are written before the next line runs.
 /// Its clauses are those of `run`, which says what each of them means.
@@ -166,26 +181,27 @@ fn run_over<S: Source, K: Sink, P: Retires + Policies>(
     input: &mut S,
     out: &mut K,
     shelf: &mut P,
-) -> Finish
-    ensures written { Written (K.took out.old) (K.took out.new) (text_written (command_of (map (λ w. string_bytes w) words.now)) result.trace) result.status }
-    ensures outcome { RunOutcomes (P.knows shelf.old) (command_of (map (λ w. string_bytes w) words.now)) (S.left input.old) (S.left input.new) (P.slots shelf.old) result.status result.trace result.tower (P.slots shelf.new) }
-    ensures stands { IfSome result.tower IsTower }
-    ensures kept { IfSome result.tower KeepsAll }
-    ensures carried { IfSome result.tower CarriesAll }
-    ensures lawful { IfSome result.tower LawfulAll }
-    ensures accounted { IfSome result.tower AccountsAll }
-    ensures routed { IfSome result.tower RoutesAll }
-    ensures caused { IfSome result.tower CausesAll }
-    ensures written_off { IfSome result.tower WriteOffsAll }
-    ensures failed { IfSome result.tower FailedByCut }
-    ensures read { result.status ≡ Status.ReadFault → Rose (S.faults input.old) (S.faults input.new) }
-    ensures write { result.status ≡ Status.WriteFault → Rose (K.faults out.old) (K.faults out.new) }
+) -> Ended
+    ensures written { Written (K.took out.old) (K.took out.new) (text_written (command_of (map (λ w. string_bytes w) words.now)) result.finish.trace) result.finish.status }
+    ensures outcome { RunOutcomes (P.knows shelf.old) (command_of (map (λ w. string_bytes w) words.now)) (S.left input.old) (S.left input.new) (P.slots shelf.old) result.finish.status result.finish.trace result.finish.tower result.unwritten (P.slots shelf.new) }
+    ensures stands { IfSome result.finish.tower IsTower }
+    ensures kept { IfSome result.finish.tower KeepsAll }
+    ensures carried { IfSome result.finish.tower CarriesAll }
+    ensures lawful { IfSome result.finish.tower LawfulAll }
+    ensures accounted { IfSome result.finish.tower AccountsAll }
+    ensures routed { IfSome result.finish.tower RoutesAll }
+    ensures caused { IfSome result.finish.tower CausesAll }
+    ensures written_off { IfSome result.finish.tower WriteOffsAll }
+    ensures failed { IfSome result.finish.tower FailedByCut }
+    ensures read { result.finish.status ≡ Status.ReadFault → Rose (S.faults input.old) (S.faults input.new) }
+    ensures write { result.finish.status ≡ Status.WriteFault → Rose (K.faults out.old) (K.faults out.new) }
 {
     match command_in(words) {
-        Err(word) => refuse(alloc, out, Fault::Usage { word }),
-        Ok(Command::Run) => run_read(alloc, input, out, shelf),
-        Ok(Command::Check) => check_input(alloc, input, out, shelf),
-        Ok(Command::Show { n }) => show_input(alloc, n, out),
+        Err(word) => all_written(alloc, refuse(alloc, out, Fault::Usage { word })),
+        Ok(Command::Run) => all_written(alloc, run_read(alloc, input, out, shelf)),
+        Ok(Command::Check) => all_written(alloc, check_input(alloc, input, out, shelf)),
+        Ok(Command::Gen { n }) => gen_input(alloc, n, out, shelf),
+        Ok(Command::Show { n }) => all_written(alloc, show_input(alloc, n, out)),
     }
 }
 
@@ -200,8 +216,8 @@ pub fn run<S: Source, K: Sink, P: Retires + Policies>(
 ) -> Outcome<P>
     // What was written is the text of the trace, for `show` that of the input which is drawn from its number, and a front of it after a write fault or `Memory`.
     ensures written { Written (K.took out.old) (K.took out.new) (text_written (command_of (map (λ w. string_bytes w) words.now)) result.trace) result.status }
-    // The status, the trace, the tower and the shelf are what the words, the input and the shelf make.
-    ensures outcome { RunOutcomes (P.knows shelf) (command_of (map (λ w. string_bytes w) words.now)) (S.left input.old) (S.left input.new) (P.slots shelf) result.status result.trace result.tower (P.slots result.shelf) }
+    // The status, the trace, the tower, the notes of a drawn run and the shelf are what the words, the input and the shelf make.
+    ensures outcome { RunOutcomes (P.knows shelf) (command_of (map (λ w. string_bytes w) words.now)) (S.left input.old) (S.left input.new) (P.slots shelf) result.status result.trace result.tower result.unwritten (P.slots result.shelf) }
     // Every DIF of every rank stands on the rank below.
     ensures stands { IfSome result.tower IsTower }
     // Every facility of every rank keeps what its flows promise, and names its partners.
@@ -224,11 +240,12 @@ pub fn run<S: Source, K: Sink, P: Retires + Policies>(
     ensures write { result.status ≡ Status.WriteFault → Rose (K.faults out.old) (K.faults out.new) }
 {
     let mut shelf = shelf;
-    let finish = run_over(alloc, words, input, out, &mut shelf);
+    let Ended { finish, unwritten } = run_over(alloc, words, input, out, &mut shelf);
     Outcome {
         status: finish.status,
         trace: finish.trace,
         tower: finish.tower,
+        unwritten,
         shelf,
     }
 }

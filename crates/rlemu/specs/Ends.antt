@@ -29,5 +29,6 @@ pub record IsRun (words : List (List ℕ)) (left left' took took' : Option (List
   pub shelf' : List Slot
   pub trace : List Note
   pub tower : Option Tower
-  pub outcome : RunOutcomes known (command_of words) left left' shelf status trace tower shelf'
+  pub unwritten : List Note
+  pub outcome : RunOutcomes known (command_of words) left left' shelf status trace tower unwritten shelf'
   pub written : Written took took' (text_written (command_of words) trace) status

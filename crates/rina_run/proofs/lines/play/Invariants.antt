@@ -9,9 +9,9 @@ use Rattle.rina_run.proofs.lines.play.Given as goal
 
 abbrev pub invariant-lines : goal.invariant-lines
 invariant-lines g l = record {
-  number : l.number ≡ l.line-index;
+  number : l.number ≡ l.text-index;
   sound : IsTower l.run.tower;
-  runs : Runs l.plan 1 (stage l.fn.run (g.P.Picks.slots l.fn.shelf)) (take l.line-index (texts_of l.lines)) l.trace (stage l.run (g.P.Picks.slots l.shelf));
+  runs : Runs l.schedule.plan.now 1 (stage l.fn.run (g.P.Picks.slots l.fn.shelf)) (take l.text-index (texts_of l.schedule.lines.now)) l.trace (stage l.run (g.P.Picks.slots l.shelf));
   names : HasNames (g.P.Picks.slots l.fn.shelf) (g.P.Picks.slots l.shelf);
   wrote : Appends (g.K.Sink.took l.fn.out) (g.K.Sink.took l.out) (text_of l.trace);
   later : g.K.Sink.faults l.fn.out ≤ g.K.Sink.faults l.out;
