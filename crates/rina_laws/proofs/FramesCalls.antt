@@ -34,6 +34,7 @@ carry_flow k now ask l c =
     let y = far_end flow (port_on l ask.fac (other_node l ask.node)) ask 0 in
     carry_on k now l (flow_made now ask l) (record {
       delay = refl;
+      storm = refl;
       back = λ i j e z h is n. let old = sent_before l.ends x y i j e z refl refl h is in record { end = e; stands = old; place = j; is = is };
       on = λ i e h. record { end = e; stands = still_at l.ends (x ∷ y ∷ []) i e h; its = refl };
       copies = refl;
@@ -41,11 +42,12 @@ carry_flow k now ask l c =
 
 carry_without : (k now : ℕ) (l : Line) (o : Option ℕ) → Carries k now l → Carries k now (without l o)
 carry_without k now l None c = c
-carry_without k now l (Some at) c = carry_on k now l (without l (Some at)) (alike_ends k l (without l (Some at)) refl refl refl) c
+carry_without k now l (Some at) c = carry_on k now l (without l (Some at)) (alike_ends k l (without l (Some at)) refl refl refl refl) c
 
 carry_pass : (k now : ℕ) (l : Line) (i : ℕ) (e : End) → At l.ends i e → Carries k now l → Carries k now (passed_at l i e)
 carry_pass k now l i e there c = carry_on k now l (passed_at l i e) (record {
   delay = refl;
+  storm = refl;
   back = λ p j d x h is n. set_back l.ends i e (with_passed e) k p j d x there refl h is;
   on = λ p d h. set_on l.ends i e (with_passed e) p d there refl h;
   copies = refl;
@@ -58,12 +60,12 @@ opens k now failed fac l alive flows c other one stands =
 
 pub frame_line : (k : ℕ) → KeepsLine (Carries k)
 frame_line k = record {
-  named = λ now node app l c. carry_on k now l (named node app l) (alike_ends k l (named node app l) refl refl refl) c;
-  unnamed = λ now node app l c. carry_on k now l (unnamed node app l) (alike_ends k l (unnamed node app l) refl refl refl) c;
+  named = λ now node app l c. carry_on k now l (named node app l) (alike_ends k l (named node app l) refl refl refl refl) c;
+  unnamed = λ now node app l c. carry_on k now l (unnamed node app l) (alike_ends k l (unnamed node app l) refl refl refl refl) c;
   flow = carry_flow k;
   claimed = carry_without k;
   sent = carry_sent k;
   passed = carry_pass k;
   ticked = λ before failed fac l alive flows c. carry_ticked k before (before + 1) l refl (opens k before failed fac l alive flows) c;
-  mended = λ now l c. carry_on k now l (mended l) (alike_ends k l (mended l) refl refl refl) c;
+  mended = λ now l c. carry_on k now l (mended l) (alike_ends k l (mended l) refl refl refl refl) c;
 }

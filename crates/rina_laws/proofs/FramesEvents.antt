@@ -35,7 +35,7 @@ use Rattle.rina_laws.proofs.WiresCalls.{OnWire, carry_end, carry_wire}
 
 -- other copies of the frame than before, of which none is another's
 copies_alike : (k now : ℕ) (l : Line) (fs : List Flight) → copies_of k fs ≡ copies_of k l.flights → Carries k now l → Carries k now (record l { flights = fs })
-copies_alike k now l fs same c = carry_on k now l (record l { flights = fs }) (alike_ends k l (record l { flights = fs }) refl refl same) c
+copies_alike k now l fs same c = carry_on k now l (record l { flights = fs }) (alike_ends k l (record l { flights = fs }) refl refl refl same) c
 
 carry_lost : (k now frame : ℕ) (l : Line) (o : Option ℕ) → frame ≢ k → copy_place frame l.flights ≡ o → Carries k now l → Carries k now (without_copy l o)
 carry_lost k now frame l None ne h c = c
@@ -84,9 +84,10 @@ keeps_repeats fac k a wire frame at r a' ne c g = record { sound = sound_repeats
 -- ---- cut
 
 -- only states changed, and no copy of the frame was in flight or is
-states_alike : (k now : ℕ) (l l' : Line) → l'.delay ≡ l.delay → OnlyStates l l' → copies_of k l'.flights ≡ copies_of k l.flights → Carries k now l → Carries k now l'
-states_alike k now l l' delay states copies c = carry_on k now l l' (record {
+states_alike : (k now : ℕ) (l l' : Line) → l'.delay ≡ l.delay → l'.storm ≡ l.storm → OnlyStates l l' → copies_of k l'.flights ≡ copies_of k l.flights → Carries k now l → Carries k now l'
+states_alike k now l l' delay storm states copies c = carry_on k now l l' (record {
   delay = delay;
+  storm = storm;
   back = λ i j e x h is n.
       let w = states.was i e h in
       record { end = w.0; stands = w.1; place = j; is = subst (λ (z : End). slice_get z.sent j ≡ Some x) w.2 is };
@@ -101,11 +102,14 @@ states_alike k now l l' delay states copies c = carry_on k now l l' (record {
 cut_delay : (now : ℕ) (l : Line) → (cut_line now l).delay ≡ l.delay
 cut_delay now l = elim l.cut as (λ b. (cond b l (record l { ends = map (cut_off now) l.ends; flights = []; cut = true })).delay ≡ l.delay) [ true ↦ refl | false ↦ refl ]
 
+cut_storm : (now : ℕ) (l : Line) → (cut_line now l).storm ≡ l.storm
+cut_storm now l = elim l.cut as (λ b. (cond b l (record l { ends = map (cut_off now) l.ends; flights = []; cut = true })).storm ≡ l.storm) [ true ↦ refl | false ↦ refl ]
+
 cut_copies : (k now : ℕ) (l : Line) → copies_of k l.flights ≡ [] → copies_of k (cut_line now l).flights ≡ copies_of k l.flights
 cut_copies k now l none = elim l.cut as (λ b. copies_of k (cond b l (record l { ends = map (cut_off now) l.ends; flights = []; cut = true })).flights ≡ copies_of k l.flights) [ true ↦ refl | false ↦ sym none ]
 
 carry_cut : (k now : ℕ) (l : Line) → copies_of k l.flights ≡ [] → Carries k now l → Carries k now (cut_line now l)
-carry_cut k now l none c = states_alike k now l (cut_line now l) (cut_delay now l) (cut_states now l) (cut_copies k now l none) c
+carry_cut k now l none c = states_alike k now l (cut_line now l) (cut_delay now l) (cut_storm now l) (cut_states now l) (cut_copies k now l none) c
 
 carry_cuts : (fac k : ℕ) (a : Air) (wire : ℕ) (r : Result (Unit {0}) WireError) (a' : Air) → ((l : Line) → wire ≡ fac → wire_at a fac ≡ Some l → copies_of k l.flights ≡ []) → OnWire (Carries k) fac a → CutsOn a wire r a' → OnWire (Carries k) fac a'
 carry_cuts fac k a wire (Ok done) a' none c g = subst (OnWire (Carries k) fac) (sym g.air) (carry_wire (Carries k) fac a wire (cut_line a.now) c (λ l same h d. carry_cut k a.now l (none l same (rw (← same) h)) d))
@@ -126,6 +130,9 @@ allocated_by Closed h = cc
 freed_delay : (l : Line) (i : ℕ) (e : End) → (freed_at l i e).delay ≡ l.delay
 freed_delay l i e = elim (is_allocated e.state) as (λ b. (cond b (record l { ends = closed_both l.ends i; flights = [] }) l).delay ≡ l.delay) [ true ↦ refl | false ↦ refl ]
 
+freed_storm : (l : Line) (i : ℕ) (e : End) → (freed_at l i e).storm ≡ l.storm
+freed_storm l i e = elim (is_allocated e.state) as (λ b. (cond b (record l { ends = closed_both l.ends i; flights = [] }) l).storm ≡ l.storm) [ true ↦ refl | false ↦ refl ]
+
 freed_copies : (k : ℕ) (l : Line) (i : ℕ) (e : End) → (is_allocated e.state ≡ true → copies_of k l.flights ≡ []) → copies_of k (freed_at l i e).flights ≡ copies_of k l.flights
 freed_copies k l i e none = elim (is_allocated e.state) as (λ b. (b ≡ true → copies_of k l.flights ≡ []) → copies_of k (cond b (record l { ends = closed_both l.ends i; flights = [] }) l).flights ≡ copies_of k l.flights) [ true ↦ λ n. sym (n refl) | false ↦ λ n. refl ] none
 
@@ -136,7 +143,7 @@ NoneWith fac k a port = (l : Line) → port.fac ≡ fac → state_of (seen_of a)
 carry_freed : (fac k : ℕ) (a : Air) (port : Port) (l : Line) (i : ℕ) (e : End) → NoneWith fac k a port → port.fac ≡ fac → wire_at a port.fac ≡ Some l → place_in port l.ends ≡ Some i → slice_get l.ends i ≡ Some e → KeepsFlows a.now a.failed port.fac l → Carries k a.now l → Carries k a.now (freed_at l i e)
 carry_freed fac k a port l i e none same h place at flows c =
     let states = freed_states a.now a.failed port.fac l i e flows at in
-    states_alike k a.now l (freed_at l i e) (freed_delay l i e) states (freed_copies k l i e (λ is_open.
+    states_alike k a.now l (freed_at l i e) (freed_delay l i e) (freed_storm l i e) states (freed_copies k l i e (λ is_open.
     let is : end_of (seen_of a) port ≡ Some e = end_is a port ∙ stands_at a port l i e h place at in
     let state : state_of (seen_of a) port ≡ Some Allocated = ap (option_map (λ (z : End). z.state)) is ∙ ap (λ s. Some s) (allocated_by e.state is_open) in
     none l same state (rw (← same) h))) c

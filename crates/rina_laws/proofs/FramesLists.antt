@@ -51,6 +51,10 @@ push_no p xs x h = filter-append p xs (x ∷ []) ∙ ap (λ ys. filter p xs ++ y
 pub push_yes : {X : Type 0} (p : X → Bool) (xs : List X) (x : X) → p x ≡ true → filter p (xs ++ x ∷ []) ≡ filter p xs ++ x ∷ []
 push_yes p xs x h = filter-append p xs (x ∷ []) ∙ ap (λ ys. filter p xs ++ ys) (yes p x [] h)
 
+-- none of those behind
+pub append_none : {X : Type 0} (p : X → Bool) (xs ys : List X) → filter p ys ≡ [] → filter p (xs ++ ys) ≡ filter p xs
+append_none p xs ys h = filter-append p xs ys ∙ ap (λ zs. filter p xs ++ zs) h ∙ append-nil (filter p xs)
+
 -- the same first element, and tails that pass alike
 same_head : {X : Type 0} (p : X → Bool) (x : X) (xs ys : List X) → filter p xs ≡ filter p ys → filter p (x ∷ xs) ≡ filter p (x ∷ ys)
 same_head p x xs ys h = elim (bool_tells (p x)) [

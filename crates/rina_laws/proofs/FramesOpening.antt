@@ -18,7 +18,7 @@ use Rattle.rina_laws.proofs.WiresOf.{wires_rank, wires_sound}
 
 -- no end of a wire sent anything
 none_sent : (k now fac : ℕ) (a : Air) (l : Line) → IsBlank (facs_of (Wires a)) → wire_at a fac ≡ Some l → Carries k now l
-none_sent k now fac a l blank wire i j e x at is n =
+none_sent k now fac a l blank wire late fate i j e x at is n =
     let shown : slice_get (map fac_of a.wires) fac ≡ Some (fac_of l) = slice_get-map fac_of a.wires fac ∙ ap (option_map fac_of) wire in
     let none = ((blank.of fac (fac_of l) shown).ends i e at).0 in
     let nowhere : slice_get [] j ≡ Some x = subst (λ (xs : List Entry). slice_get xs j ≡ Some x) none is in

@@ -66,7 +66,7 @@ each_wire fac k (Wires a) l h wire = h.holds l wire
 each_wire fac k (Rank' p difs below) l h wire = each_wire fac k below l h wire
 
 pub frames_arrive_once : FramesArriveOnce
-frames_arrive_once plan shelf start lines ns s o d fac l wire i j e frame at is spared =
+frames_arrive_once plan shelf start lines ns s o d fac l wire i j e frame at is late fate spared =
     let begins = opening_holds fac frame.num.seq plan shelf start o in
     let h = runs fac frame.num.seq plan start 1 [] [] start lines ns s refl (refl, refl) spared begins d in
-    (each_wire fac frame.num.seq s.run.tower l h wire i j e frame at is refl).carried
+    (each_wire fac frame.num.seq s.run.tower l h wire late fate i j e frame at is refl).carried

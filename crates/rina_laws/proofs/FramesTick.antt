@@ -128,32 +128,32 @@ left_none now c le = elim (leb_tells (suc now) c.due) [ inl t ↦ absurd (omega 
 -- ---- the whole tick
 
 -- one tick before, and the frame with its number
-record IsNext (k before now : ℕ) (l : Line) (i : ℕ) (x : Entry) : Type 0 where
+record IsNext (k after before now : ℕ) (l : Line) (i : ℕ) (x : Entry) : Type 0 where
   next : now ≡ before + 1
   seq : x.num.seq ≡ k
-  on : IsOn k before l i x
+  on : IsOn k after before l i x
   -- the end to which the one copy in flight goes is allocated
   reaches : (c : Flight) (other : End) → copies_of k l.flights ≡ c ∷ [] → At l.ends (mate i) other → c.to ≡ mate i → other.state ≡ Allocated
 
 -- the copy of the frame
 abbrev copy_of : ℕ → ℕ → Entry → Flight
-copy_of delay to x = record { to = to; frame = x.num.seq; sent = x.tick; due = x.tick + delay; bytes = x.bytes }
+copy_of after to x = record { to = to; frame = x.num.seq; sent = x.tick; due = x.tick + after; bytes = x.bytes }
 
 -- what the other end got of it
-there_now : (k before now : ℕ) (l : Line) (i : ℕ) (x : Entry) (n : IsNext k before now l i x) (entries : List Entry) → of_number x.num n.on.carried.other.got ≡ entries → IsThere k (mate i) l.ends n.on.carried.other.state entries
-there_now k before now l i x n entries h = record { end = n.on.carried.other; stands = n.on.carried.stands; state_is = refl; got = ap (λ m. of_number m n.on.carried.other.got) (sym n.on.number) ∙ h }
+there_now : (k after before now : ℕ) (l : Line) (i : ℕ) (x : Entry) (n : IsNext k after before now l i x) (entries : List Entry) → of_number x.num n.on.carried.other.got ≡ entries → IsThere k (mate i) l.ends n.on.carried.other.state entries
+there_now k after before now l i x n entries h = record { end = n.on.carried.other; stands = n.on.carried.stands; state_is = refl; got = ap (λ m. of_number m n.on.carried.other.got) (sym n.on.number) ∙ h }
 
 got_then : (k p : ℕ) (es : List End) (state : PortState) (entries : List Entry) (x : Entry) (t : IsThere k p es state entries) → x.num ≡ frame_number k → of_number x.num t.end.got ≡ entries
 got_then k p es state entries x t number = ap (λ m. of_number m t.end.got) number ∙ t.got
 
 -- it had come before
-ticked_landed : (k before now : ℕ) (l : Line) (i : ℕ) (x : Entry) → IsNext k before now l i x → x.tick + l.delay ≤ before → IsCarried now (line_ticked now l) i x
-ticked_landed k before now l i x n le =
+ticked_landed : (k after before now : ℕ) (l : Line) (i : ℕ) (x : Entry) → IsNext k after before now l i x → x.tick + after ≤ before → IsCarried after now (line_ticked now l) i x
+ticked_landed k after before now l i x n le =
     let c = n.on.carried in
     let next = n.next in
     let none : copies_of k l.flights ≡ [] = rw (← n.seq) (c.landed le) in
-    let entries : List Entry = record { tick = x.tick + l.delay; num = x.num; bytes = x.bytes } ∷ [] in
-    let t = none_flies now k (mate i) l.ends l.flights c.other.state entries none (there_now k before now l i x n entries (c.came le)) in
+    let entries : List Entry = record { tick = x.tick + after; num = x.num; bytes = x.bytes } ∷ [] in
+    let t = none_flies now k (mate i) l.ends l.flights c.other.state entries none (there_now k after before now l i x n entries (c.came le)) in
     record {
       other = t.end;
       stands = t.stands;
@@ -164,18 +164,18 @@ ticked_landed k before now l i x n le =
     }
 
 -- it comes now
-ticked_comes : (k before now : ℕ) (l : Line) (i : ℕ) (x : Entry) → IsNext k before now l i x → before < x.tick + l.delay → x.tick + l.delay ≤ now → IsCarried now (line_ticked now l) i x
-ticked_comes k before now l i x n lt le =
+ticked_comes : (k after before now : ℕ) (l : Line) (i : ℕ) (x : Entry) → IsNext k after before now l i x → before < x.tick + after → x.tick + after ≤ now → IsCarried after now (line_ticked now l) i x
+ticked_comes k after before now l i x n lt le =
     let c = n.on.carried in
     let next = n.next in
-    let f : Flight = copy_of l.delay (mate i) x in
+    let f : Flight = copy_of after (mate i) x in
     let one : copies_of k l.flights ≡ f ∷ [] = subst (λ (m : ℕ). copies_of m l.flights ≡ f ∷ []) n.seq (c.flies lt) in
-    let there : IsThere k (mate i) l.ends c.other.state [] = there_now k before now l i x n [] (c.not_come lt) in
+    let there : IsThere k (mate i) l.ends c.other.state [] = there_now k after before now l i x n [] (c.not_come lt) in
     let there_open : IsThere k (mate i) l.ends Allocated [] = subst (λ (s : PortState). IsThere k (mate i) l.ends s []) (n.reaches f c.other one c.stands refl) there in
     let t = one_comes now k (mate i) l.ends l.flights f [] one le refl there_open in
-    let at_due : now ≡ x.tick + l.delay = omega (arith, next, lt, le) in
+    let at_due : now ≡ x.tick + after = omega (arith, next, lt, le) in
     let number : frame_number x.num.seq ≡ x.num = ap frame_number n.seq ∙ sym n.on.number in
-    let is : arrival now f ≡ record { tick = x.tick + l.delay; num = x.num; bytes = x.bytes } = ap (λ (m : ℕ). record { tick = m; num = frame_number x.num.seq; bytes = x.bytes }) at_due ∙ ap (λ m. record { tick = x.tick + l.delay; num = m; bytes = x.bytes }) number in
+    let is : arrival now f ≡ record { tick = x.tick + after; num = x.num; bytes = x.bytes } = ap (λ (m : ℕ). record { tick = m; num = frame_number x.num.seq; bytes = x.bytes }) at_due ∙ ap (λ m. record { tick = x.tick + after; num = m; bytes = x.bytes }) number in
     record {
       other = t.end;
       stands = t.stands;
@@ -186,14 +186,14 @@ ticked_comes k before now l i x n lt le =
     }
 
 -- it is in flight still
-ticked_flies : (k before now : ℕ) (l : Line) (i : ℕ) (x : Entry) → IsNext k before now l i x → now < x.tick + l.delay → IsCarried now (line_ticked now l) i x
-ticked_flies k before now l i x n lt =
+ticked_flies : (k after before now : ℕ) (l : Line) (i : ℕ) (x : Entry) → IsNext k after before now l i x → now < x.tick + after → IsCarried after now (line_ticked now l) i x
+ticked_flies k after before now l i x n lt =
     let c = n.on.carried in
     let next = n.next in
-    let earlier : before < x.tick + l.delay = omega (arith, next, lt) in
-    let f : Flight = copy_of l.delay (mate i) x in
+    let earlier : before < x.tick + after = omega (arith, next, lt) in
+    let f : Flight = copy_of after (mate i) x in
     let one : copies_of k l.flights ≡ f ∷ [] = subst (λ (m : ℕ). copies_of m l.flights ≡ f ∷ []) n.seq (c.flies earlier) in
-    let t = one_waits now k (mate i) l.ends l.flights f c.other.state [] one lt (there_now k before now l i x n [] (c.not_come earlier)) in
+    let t = one_waits now k (mate i) l.ends l.flights f c.other.state [] one lt (there_now k after before now l i x n [] (c.not_come earlier)) in
     record {
       other = t.end;
       stands = t.stands;
@@ -203,12 +203,12 @@ ticked_flies k before now l i x n lt =
       not_come = λ h. got_then k (mate i) _ c.other.state [] x t n.on.number;
     }
 
-carried_ticked : (k before now : ℕ) (l : Line) (i : ℕ) (x : Entry) → IsNext k before now l i x → IsCarried now (line_ticked now l) i x
-carried_ticked k before now l i x n = elim (leb_tells (x.tick + l.delay) before) [
-  | inl t ↦ ticked_landed k before now l i x n t.1
-  | inr u ↦ elim (leb_tells (x.tick + l.delay) now) [
-    | inl t ↦ ticked_comes k before now l i x n (omega (arith, u.1)) t.1
-    | inr v ↦ ticked_flies k before now l i x n (omega (arith, v.1))
+carried_ticked : (k after before now : ℕ) (l : Line) (i : ℕ) (x : Entry) → IsNext k after before now l i x → IsCarried after now (line_ticked now l) i x
+carried_ticked k after before now l i x n = elim (leb_tells (x.tick + after) before) [
+  | inl t ↦ ticked_landed k after before now l i x n t.1
+  | inr u ↦ elim (leb_tells (x.tick + after) now) [
+    | inl t ↦ ticked_comes k after before now l i x n (omega (arith, u.1)) t.1
+    | inr v ↦ ticked_flies k after before now l i x n (omega (arith, v.1))
   ]
 ]
 
@@ -217,10 +217,10 @@ abbrev pub GoesOpen : ℕ → Line → Type 0
 GoesOpen k l = (c : Flight) (other : End) → copies_of k l.flights ≡ c ∷ [] → At l.ends c.to other → other.state ≡ Allocated
 
 pub carry_ticked : (k before now : ℕ) (l : Line) → now ≡ before + 1 → GoesOpen k l → Carries k before l → Carries k now (line_ticked now l)
-carry_ticked k before now l next goes c i j e x h is n =
+carry_ticked k before now l next goes c late fate i j e x h is n =
     let u = sent_fold now l.ends l.flights i e h in
-    let on = c i j u.0 x u.1 (rw u.2 is) n in
+    let on = c late fate i j u.0 x u.1 (rw u.2 is) n in
     record {
       number = on.number;
-      carried = carried_ticked k before now l i x (record { next = next; seq = n; on = on; reaches = λ f other one stands to. goes f other one (rw to stands) });
+      carried = carried_ticked k (l.delay + late) before now l i x (record { next = next; seq = n; on = on; reaches = λ f other one stands to. goes f other one (rw to stands) });
     }

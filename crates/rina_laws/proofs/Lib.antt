@@ -44,3 +44,9 @@ pub mod StartsAt
 pub mod WiresEvents
 pub mod WiresLaid
 pub mod WiresRun
+pub mod WrittenCalls
+pub mod WrittenGoes
+pub mod WrittenGrows
+pub mod WrittenRun
+pub mod WrittenSteps
+pub mod WrittenWords

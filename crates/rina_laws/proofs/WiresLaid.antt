@@ -1,9 +1,11 @@
 -- Each wire stays as it was laid.
 use Rattle.std.proofs.Common.{◌≡◌, ℕ, Bool, true, false, cond, List, [], map, slice_get, Some, None, Option, option_map, sym, ◌∙◌, ap}
 use Rattle.std.proofs.lemmas.Option.{same_Some, slice_get-map}
+use Rattle.rina_base.specs.declared.storm.Storm.{Storm}
 use Rattle.rina_iface.specs.declared.ends.End.{End}
 use Rattle.rina_iface.specs.Journal.{At}
 use Rattle.rina_iface.specs.State.{cut_off}
+use Rattle.rina_iface.proofs.Changed.{all_at}
 use Rattle.rina_policy.specs.Slots.{Slot}
 use Rattle.rina_stack.specs.declared.plan.Plan.{Plan}
 use Rattle.rina_stack.specs.declared.plan.WirePlan.{WirePlan}
@@ -15,11 +17,13 @@ use Rattle.rina_wire.specs.Cut.{cut_line}
 use Rattle.rina_wire.specs.Disturb.{copy_place, first_copy, held, lost, moved, moved_at, repeated, with_copy, without_copy}
 use Rattle.rina_wire.specs.Free.{closed_both, freed_at}
 use Rattle.rina_wire.specs.Plan.{line_of}
+use Rattle.rina_wire.specs.Sound.{IsSound, IsSoundLine}
+use Rattle.rina_wire.specs.Storm.{draws_at}
 use Rattle.rina_words.specs.Step.{Stage}
 use Rattle.rina_run.specs.Opening.{IsOpening}
 use Rattle.rina_laws.specs.Frames.{wires_of}
 use Rattle.rina_laws.specs.Starts.{without_flows}
-use Rattle.rina_laws.specs.WiresPlanned.{IsAsLaid, WiresStayAsPlanned}
+use Rattle.rina_laws.specs.WiresPlanned.{IsAsLaid, WiresDrawByFrames, WiresStayAsPlanned}
 use Rattle.rina_laws.proofs.StartsAt.{wires_start}
 use Rattle.rina_laws.proofs.WiresAt.{Holds}
 use Rattle.rina_laws.proofs.WiresCalls.{HasWire, KeepsLine}
@@ -81,9 +85,16 @@ laid_at plan shelf start fac w o planned l wire =
     let there : slice_get (map without_flows a.wires) fac ≡ Some (without_flows l) = slice_get-map without_flows a.wires fac ∙ ap (option_map without_flows) wire in
     let wanted : slice_get (map line_of plan.wires) fac ≡ Some (line_of w) = slice_get-map line_of plan.wires fac ∙ ap (option_map line_of) planned in
     let same : without_flows l ≡ line_of w = same_Some (without_flows l) (line_of w) (sym there ∙ ap (λ (ls : List Line). slice_get ls fac) lines ∙ wanted) in
-    (ap (λ (x : Line). x.a) same, ap (λ (x : Line). x.b) same, ap (λ (x : Line). x.delay) same, ap (λ (x : Line). x.life) same, ap (λ (x : Line). x.largest) same)
+    (ap (λ (x : Line). x.a) same, ap (λ (x : Line). x.b) same, ap (λ (x : Line). x.delay) same, ap (λ (x : Line). x.life) same, ap (λ (x : Line). x.largest) same, ap (λ (x : Line). x.storm) same)
 
 pub wires_stay : WiresStayAsPlanned
 wires_stay plan shelf start lines ns s o d fac w l planned wire =
     let begins : Holds (HasWire (Laid w) fac) start.run.tower = record { sound = wires_sound start.run.tower o.stands; holds = laid_at plan shelf start fac w o planned } in
     (runs_keep (Laid w) (calls w) (happens w) fac plan 1 start lines ns s d begins).holds l wire
+
+pub wires_draw : WiresDrawByFrames
+wires_draw plan shelf start lines ns s o d fac w l planned wire =
+    let begins : Holds (HasWire (Laid w) fac) start.run.tower = record { sound = wires_sound start.run.tower o.stands; holds = laid_at plan shelf start fac w o planned } in
+    let sound : IsSound (wires_of s.run.tower) = (runs_keep (Laid w) (calls w) (happens w) fac plan 1 start lines ns s d begins).sound in
+    let line : IsSoundLine l = all_at IsSoundLine (wires_of s.run.tower).wires fac l sound.lines wire in
+    line.draws ∙ ap (λ (x : Option Storm). draws_at x l.frames) (wires_stay plan shelf start lines ns s o d fac w l planned wire).5

@@ -1,8 +1,9 @@
--- What becomes of the frames of a run: each that no event touched arrives once, when the delay of its wire has gone by.
+-- What becomes of the frames of a run: each that no event touched, and that its wire's storm neither lost nor repeated, arrives once.
 use Rattle.std.specs.Prelude.{◌≡◌, ◌≢◌, ℕ, ◌+◌, ◌<◌, ◌≤◌, ◌==◌, List, [], ◌∷◌, filter, take, slice_get, Option, Some, None, Ok}
 use Rattle.rina_base.specs.declared.number.Num.{Num}
 use Rattle.rina_base.specs.declared.number.Port.{Port}
 use Rattle.rina_iface.specs.declared.state.PortState.TheVariants.{Allocated}
+use Rattle.rina_draws.specs.declared.storm.Fate.TheVariants.{Sent}
 use Rattle.rina_law.specs.declared.entry.Entry.{Entry}
 use Rattle.rina_iface.specs.declared.ends.End.{End}
 use Rattle.rina_iface.specs.Journal.{At}
@@ -13,6 +14,7 @@ use Rattle.rina_schedule.specs.declared.event.Event.TheVariants as events
 use Rattle.rina_stack.specs.declared.plan.Plan.{Plan}
 use Rattle.rina_wire.specs.Air.{Air, Line, wire_at}
 use Rattle.rina_wire.specs.Send.{mate}
+use Rattle.rina_wire.specs.Storm.{fate_at}
 use Rattle.rina_wire.specs.declared.flight.Flight.{Flight}
 use Rattle.rina_tower.specs.declared.tower.Tower.{Tower, Wires, Rank'}
 use Rattle.rina_tower.specs.Ranks.{now_of}
@@ -34,20 +36,20 @@ copies_of frame flights = filter (λ (f : Flight). f.frame == frame) flights
 
 -- exactly one of these entries has the number of the frame: it came so many ticks after the frame was sent, with its bytes
 abbrev pub CameOnce : ℕ → Entry → List Entry → Type 0
-CameOnce delay frame got = of_number frame.num got ≡ record { tick = frame.tick + delay; num = frame.num; bytes = frame.bytes } ∷ []
+CameOnce after frame got = of_number frame.num got ≡ record { tick = frame.tick + after; num = frame.num; bytes = frame.bytes } ∷ []
 
 -- exactly one copy of the frame is in flight: it goes to the end at this place, arrives so many ticks after the frame was sent, and has its bytes
 abbrev pub FliesOnce : ℕ → ℕ → Entry → List Flight → Type 0
-FliesOnce delay to frame flights = copies_of frame.num.seq flights ≡ record { to = to; frame = frame.num.seq; sent = frame.tick; due = frame.tick + delay; bytes = frame.bytes } ∷ []
+FliesOnce after to frame flights = copies_of frame.num.seq flights ≡ record { to = to; frame = frame.num.seq; sent = frame.tick; due = frame.tick + after; bytes = frame.bytes } ∷ []
 
--- a frame that the end at place i sent: where the clock has reached its tick the other end got it once, and else it is in flight and did not come yet
-pub record IsCarried (now : ℕ) (l : Line) (i : ℕ) (frame : Entry) : Type 0 where
+-- a frame that the end at place i sent, and that arrives so many ticks after: where the clock has reached that tick the other end got it once, and else it is in flight and did not come yet
+pub record IsCarried (after now : ℕ) (l : Line) (i : ℕ) (frame : Entry) : Type 0 where
   pub other : End
   pub stands : At l.ends (mate i) other
-  pub came : frame.tick + l.delay ≤ now → CameOnce l.delay frame other.got
-  pub landed : frame.tick + l.delay ≤ now → copies_of frame.num.seq l.flights ≡ []
-  pub flies : now < frame.tick + l.delay → FliesOnce l.delay (mate i) frame l.flights
-  pub not_come : now < frame.tick + l.delay → of_number frame.num other.got ≡ []
+  pub came : frame.tick + after ≤ now → CameOnce after frame other.got
+  pub landed : frame.tick + after ≤ now → copies_of frame.num.seq l.flights ≡ []
+  pub flies : now < frame.tick + after → FliesOnce after (mate i) frame l.flights
+  pub not_come : now < frame.tick + after → of_number frame.num other.got ≡ []
 
 -- the wires that a tower stands on
 abbrev pub wires_of : Tower → Air
@@ -80,9 +82,10 @@ IsSpared plan start fac frame lines =
     (before : ℕ) (line : List ℕ) (event : Event) (ns : List Note) (s : Stage) → slice_get lines before ≡ Some line → event_at line ≡ Ok (Some event)
     → Runs plan 1 start (take before lines) ns s → Touches plan fac frame s.run event → ⊥
 
--- in every run of a stack, every frame that any end of any wire sent, be it an application's or a DIF's, is carried, unless a line touched it
+-- in every run of a stack, every frame that any end of any wire sent, be it an application's or a DIF's, and that the wire's storm lets arrive once, is carried, unless a line
+-- touched it: it arrives when the delay of the wire has gone by, and the ticks by which the storm makes it late. Without a storm each frame arrives once, and is not late
 abbrev pub FramesArriveOnce : Type 0
 FramesArriveOnce =
     (plan : Plan) (shelf : List Slot) (start : Stage) (lines : List (List ℕ)) (ns : List Note) (s : Stage) → IsOpening plan shelf start → Runs plan 1 start lines ns s
     → (fac : ℕ) (l : Line) → wire_at (wires_of s.run.tower) fac ≡ Some l → (i j : ℕ) (e : End) (frame : Entry) → At l.ends i e → slice_get e.sent j ≡ Some frame
-    → IsSpared plan start fac frame.num.seq lines → IsCarried (now_of s.run.tower) l i frame
+    → (late : ℕ) → fate_at l.storm frame.num.seq ≡ Sent late None → IsSpared plan start fac frame.num.seq lines → IsCarried (l.delay + late) (now_of s.run.tower) l i frame

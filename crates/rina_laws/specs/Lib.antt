@@ -4,3 +4,5 @@ pub mod Labels
 pub mod Cuts
 pub mod Starts
 pub mod WiresPlanned
+pub mod Written
+pub mod SomeStep

@@ -5,8 +5,9 @@ ghost use Rattle.rina_laws.specs.Planned.{RoutesAsPlanned, StaysAsPlanned};
 ghost use Rattle.rina_laws.specs.Cuts.{FailuresAreCuts};
 ghost use Rattle.rina_laws.specs.Frames.{FramesArriveOnce};
 ghost use Rattle.rina_laws.specs.Labels.{GotIsTold, SentIsTold};
+ghost use Rattle.rina_laws.specs.SomeStep.{LinesHaveCauses};
 ghost use Rattle.rina_laws.specs.Starts.{DifsStartUntouched, WiresStartAsPlanned};
-ghost use Rattle.rina_laws.specs.WiresPlanned.{WiresStayAsPlanned};
+ghost use Rattle.rina_laws.specs.WiresPlanned.{WiresDrawByFrames, WiresStayAsPlanned};
 
 /// Before the first line of a run its wires are those of the stack, with their delays, none of them cut and no frame sent, but
 /// for the flows that the stack fixes; and each IPC process of each rank did nothing yet: its links are live and numbered
@@ -16,10 +17,13 @@ pub fn a_run_starts_as_planned()
     ensures difs { DifsStartUntouched }
 {}
 
-/// After any run from its opening each wire joins the systems that the stack says, with the delay, the life and the largest SDU
-/// that it says. So the delay after which a frame arrives (`a_frame_arrives_once`) is that of the stack.
+/// After any run from its opening each wire joins the systems that the stack says, with the delay, the life, the largest SDU
+/// and the storm that it says. So the delay after which a frame arrives (`a_frame_arrives_once`) is that of the stack. Its
+/// storm has drawn from its seed for the frames that the wire accepted, one after the other, and nothing else has drawn: so
+/// what becomes of frame k is what the seed says of it, whatever else the run did.
 pub fn each_wire_stays_as_planned()
-    ensures { WiresStayAsPlanned }
+    ensures laid { WiresStayAsPlanned }
+    ensures draws { WiresDrawByFrames }
 {}
 
 /// After any run from its opening each DIF of each rank is as its plan says: it has the settings of one of the DIFs of the
@@ -37,9 +41,10 @@ pub fn next_hops_go_by_the_plan()
 {}
 
 /// A frame that no event touched is delivered exactly once, at the tick at which its wire's delay has gone
-/// by since it was sent, with its bytes; before that tick it is in flight. What touches a frame is `Touches`:
-/// a line `lose`, `repeat` or `hold` of its wire that names it, a `cut` of its wire while it is in flight, and a
-/// `free` of a port of the flow that the wire carries while it is in flight.
+/// by since it was sent, with its bytes; before that tick it is in flight. So it is without a storm; under a storm so it
+/// is for each frame that the storm neither loses nor repeats, and it comes so many ticks later as the storm says. What
+/// touches a frame is `Touches`: a line `lose`, `repeat` or `hold` of its wire that names it, a `cut` of its wire while it
+/// is in flight, and a `free` of a port of the flow that the wire carries while it is in flight.
 ///
 /// The law is of every stack, whatever ranks of DIFs stand on the wires: the frames are those of applications and of
 /// DIFs alike.
@@ -60,4 +65,11 @@ pub fn wires_fail_by_cuts()
 pub fn labels_tell_their_ends()
     ensures sent { SentIsTold }
     ensures got { GotIsTold }
+{}
+
+/// After any run from its opening each line of each ledger was written in one of the steps of the run: a step of a round, a line
+/// `in`, `out` or `clock`, or a line `free`. It was not in the ledger before that step and is there after it, and the condition
+/// of its cause held of the DIF, and of the rank below, as they were before the step.
+pub fn each_line_has_its_cause()
+    ensures { LinesHaveCauses }
 {}
