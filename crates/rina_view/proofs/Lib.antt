@@ -1,3 +1,4 @@
 pub mod LinesLent
 pub mod RowsLaw
 pub mod Shows
+pub mod Writing

@@ -6,8 +6,8 @@ use Rattle.rina_report.specs.declared.answer.Answer.{Answer}
 use Rattle.rina_report.specs.declared.answer.Answer.TheVariants as answers
 use Rattle.rina_report.specs.declared.note.Note.{Note}
 use Rattle.rina_report.specs.declared.note.Note.TheVariants as notes
-use Rattle.rina_view.specs.declared.gather.Way.{Way}
-use Rattle.rina_view.specs.declared.gather.Way.TheVariants.{Sent, Got}
+use Rattle.rina_view.specs.declared.gather.EntryKind.{EntryKind}
+use Rattle.rina_view.specs.declared.gather.EntryKind.TheVariants.{Sent, Got}
 use Rattle.rina_view.specs.declared.row.Row.{Row}
 use Rattle.rina_view.specs.declared.shown.Entry.{Entry}
 use Rattle.rina_view.specs.declared.shown.End.{End}
@@ -39,19 +39,19 @@ off_on ns i note o front total lt is shows so_far =
     added o front rest ∙ sym (ap (λ (os : List Off). front ++ os) one) ∙ so_far
 
 -- one more note was looked at for SDUs
-pub entry_on : (way : Way) (ns : List Note) (i : ℕ) (note : Note) (o : Option Entry) (front total : List Entry) → i < length ns → note ≡ get_or ns i note → false ≡ is_end note → o ≡ entry_of way note → front ++ entries_in way (drop i ns) ≡ total
-    → (front ++ cons_option o []) ++ entries_in way (drop (i + 1) ns) ≡ total
-entry_on way ns i note o front total lt is goes shows so_far =
-    let rest = entries_in way (drop (i + 1) ns) in
+pub entry_on : (kind : EntryKind) (ns : List Note) (i : ℕ) (note : Note) (o : Option Entry) (front total : List Entry) → i < length ns → note ≡ get_or ns i note → false ≡ is_end note → o ≡ entry_of kind note → front ++ entries_in kind (drop i ns) ≡ total
+    → (front ++ cons_option o []) ++ entries_in kind (drop (i + 1) ns) ≡ total
+entry_on kind ns i note o front total lt is goes shows so_far =
+    let rest = entries_in kind (drop (i + 1) ns) in
     let at : drop i ns ≡ note ∷ drop (i + 1) ns = drop_more ns i note lt ∙ ap (λ (n : Note). n ∷ drop (i + 1) ns) (sym is) in
-    let one : entries_in way (drop i ns) ≡ cons_option o rest = ap (entries_in way) at ∙ ap (λ (b : Bool). cond b [] (cons_option (entry_of way note) rest)) (sym goes) ∙ sym (ap (λ (p : Option Entry). cons_option p rest) shows) in
+    let one : entries_in kind (drop i ns) ≡ cons_option o rest = ap (entries_in kind) at ∙ ap (λ (b : Bool). cond b [] (cons_option (entry_of kind note) rest)) (sym goes) ∙ sym (ap (λ (p : Option Entry). cons_option p rest) shows) in
     added o front rest ∙ sym (ap (λ (es : List Entry). front ++ es) one) ∙ so_far
 
 -- the next end was found
-pub entries_end : (way : Way) (ns : List Note) (i : ℕ) (note : Note) (front total : List Entry) → i < length ns → note ≡ get_or ns i note → true ≡ is_end note → front ++ entries_in way (drop i ns) ≡ total → front ≡ total
-entries_end way ns i note front total lt is ends so_far =
+pub entries_end : (kind : EntryKind) (ns : List Note) (i : ℕ) (note : Note) (front total : List Entry) → i < length ns → note ≡ get_or ns i note → true ≡ is_end note → front ++ entries_in kind (drop i ns) ≡ total → front ≡ total
+entries_end kind ns i note front total lt is ends so_far =
     let at : drop i ns ≡ note ∷ drop (i + 1) ns = drop_more ns i note lt ∙ ap (λ (n : Note). n ∷ drop (i + 1) ns) (sym is) in
-    let one : entries_in way (drop i ns) ≡ [] = ap (entries_in way) at ∙ ap (λ (b : Bool). cond b [] (cons_option (entry_of way note) (entries_in way (drop (i + 1) ns)))) (sym ends) in
+    let one : entries_in kind (drop i ns) ≡ [] = ap (entries_in kind) at ∙ ap (λ (b : Bool). cond b [] (cons_option (entry_of kind note) (entries_in kind (drop (i + 1) ns)))) (sym ends) in
     sym (append-nil front) ∙ sym (ap (λ (es : List Entry). front ++ es) one) ∙ so_far
 
 -- a note shows an end with the SDUs behind it, and none itself, or it shows no end

@@ -6,18 +6,14 @@ use Rattle.rina_report.specs.declared.note.Note.{Note}
 use Rattle.rina_report.specs.ReadNotes.{note_at}
 use Rattle.rina_schedule.specs.declared.error.LineError.{LineError}
 use Rattle.rina_schedule.specs.declared.error.LineError.TheVariants as errors
+use Rattle.rina_schedule.specs.Errors.{number_of, field_of}
 use Rattle.rina_view.specs.declared.read.Unread.{Unread}
 use Rattle.rina_view.specs.declared.read.Unread.TheVariants.{Memory, Line}
 
--- the number of an error of a line, and its field
+-- want of memory, or the number of the line's error and its field
 abbrev pub unread_at : ℕ → LineError → Unread
 unread_at line errors.Memory = Memory
-unread_at line errors.UnknownWord = Line line 1 0
-unread_at line (errors.MissingField n) = Line line 2 n
-unread_at line (errors.BadNumber n) = Line line 3 n
-unread_at line (errors.BadName n) = Line line 4 n
-unread_at line (errors.Extra n) = Line line 5 n
-unread_at line (errors.BadBytes n) = Line line 6 n
+unread_at line error = Line line (number_of error) (field_of error)
 
 abbrev pub told_at : ℕ → Result Note LineError → Result Note Unread
 told_at line (Ok note) = Ok note

@@ -7,8 +7,8 @@ use Rattle.rina_report.specs.declared.answer.Answer.{Answer}
 use Rattle.rina_report.specs.declared.answer.Answer.TheVariants as answers
 use Rattle.rina_report.specs.declared.note.Note.{Note}
 use Rattle.rina_report.specs.declared.note.Note.TheVariants as notes
-use Rattle.rina_view.specs.declared.gather.Way.{Way}
-use Rattle.rina_view.specs.declared.gather.Way.TheVariants.{Sent, Got}
+use Rattle.rina_view.specs.declared.gather.EntryKind.{EntryKind}
+use Rattle.rina_view.specs.declared.gather.EntryKind.TheVariants.{Sent, Got}
 use Rattle.rina_view.specs.declared.shown.Entry.{Entry}
 use Rattle.rina_view.specs.declared.shown.End.{End}
 use Rattle.rina_view.specs.declared.shown.Off.{Off}
@@ -43,15 +43,15 @@ unfoldable pub is_end : Note → Bool
 is_end (notes.Line line tick answer) = is_flow answer
 is_end note = false
 
--- an SDU that a note shows, on its way out or in
-abbrev pub entry_of : Way → Note → Option Entry
+-- an SDU that a note shows as sent, or as got
+abbrev pub entry_of : EntryKind → Note → Option Entry
 entry_of Sent note = sent_entry note
 entry_of Got note = got_entry note
 
 -- the SDUs that notes show as sent, or as got, up to the next end
-abbrev pub entries_in : Way → List Note → List Entry
-entries_in way [] = []
-entries_in way (note ∷ ns) = if is_end note then [] else cons_option (entry_of way note) (entries_in way ns)
+abbrev pub entries_in : EntryKind → List Note → List Entry
+entries_in kind [] = []
+entries_in kind (note ∷ ns) = if is_end note then [] else cons_option (entry_of kind note) (entries_in kind ns)
 
 abbrev pub shown_end : ℕ → FlowNote → List Note → End
 shown_end line flow behind = record {

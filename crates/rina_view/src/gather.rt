@@ -55,32 +55,32 @@ fn is_end(note: &Note) -> bool
     )
 }
 
-/// Whether SDUs are those that were sent, or those that were got.
+/// Which entries of a journal: the SDUs that an end sent, or those that it got.
 #[derive(Clone, Copy, Debug, PartialEq, Eq)]
-pub(crate) enum Way {
+pub(crate) enum EntryKind {
     Sent,
     Got,
 }
 
-fn entry_of(way: Way, note: &Note) -> Option<Entry>
-    ensures { result ≡ entry_of way note.now }
+fn entry_of(kind: EntryKind, note: &Note) -> Option<Entry>
+    ensures { result ≡ entry_of kind note.now }
 {
-    match way {
-        Way::Sent => sent_entry(note),
-        Way::Got => got_entry(note),
+    match kind {
+        EntryKind::Sent => sent_entry(note),
+        EntryKind::Got => got_entry(note),
     }
 }
 
 /// The SDUs that notes show as sent, or as got, up to the next end.
-fn entries_in(alloc: Global, way: Way, notes: &[Note]) -> Result<Seq<Entry>, Memory>
-    ensures { IfOk result (λ entries. entries ≡ entries_in way notes.now) }
+fn entries_in(alloc: Global, kind: EntryKind, notes: &[Note]) -> Result<Seq<Entry>, Memory>
+    ensures { IfOk result (λ entries. entries ≡ entries_in kind notes.now) }
 {
     let mut entries = Seq::new(alloc);
     'notes: for note in notes {
         if is_end(note) {
             return Ok(entries);
         }
-        add(&mut entries, entry_of(way, note))?;
+        add(&mut entries, entry_of(kind, note))?;
     }
     Ok(entries)
 }
@@ -107,8 +107,8 @@ fn end_at(alloc: Global, note: &Note, behind: &[Note]) -> Result<Option<End>, Me
             node: flow.port.node.copy(alloc)?,
             flow: flow.flow,
             role: flow.role,
-            sent: entries_in(alloc, Way::Sent, behind)?,
-            got: entries_in(alloc, Way::Got, behind)?,
+            sent: entries_in(alloc, EntryKind::Sent, behind)?,
+            got: entries_in(alloc, EntryKind::Got, behind)?,
         })),
         _ => Ok(None),
     }

@@ -1,6 +1,7 @@
 //! What the notes of a run say of each SDU that was sent: whether it was got and when, or where it was written off.
 #![tactic(auto)]
 
+mod ending;
 mod fate;
 mod gather;
 mod laws;
@@ -12,9 +13,10 @@ mod shown;
 mod sum;
 mod table;
 
+pub use ending::{Status, refuse, write};
 pub use gather::{ends_in, offs_in};
 pub use laws::each_sdu_sent_has_its_row;
-pub use lost::{Status, view};
+pub use lost::view;
 pub use read::{Unread, read_notes};
 pub use row::{Row, rows_of};
 pub use shown::{End, Entry, Off};

@@ -1,67 +1,20 @@
 //! The program: words, an input and an output.
+ghost use Rattle.std.specs.Prelude.{◌≡◌, ◌≤◌, length, map, string_bytes};
+ghost use Rattle.rina_view.specs.Outcome.{Tells, TellsInput, TellsLost, word_fault};
 
-ghost use Rattle.std.specs.Prelude.{◌≤◌, length};
-
+use crate::ending::{Status, refuse, write};
 use crate::read::{Unread, read_notes};
 use crate::table::lost_table;
 use rina_base::Memory;
-use rina_io::{Ending, Sink, Source, take_all, write_all};
-use rina_report::{Fault, Note, add_line};
-use rina_schedule::Text;
+use rina_io::{Ending, Sink, Source, take_all};
+use rina_report::Fault;
 use std::alloc::Global;
 
-/// How the program ended.
-#[derive(Clone, Copy, Debug, PartialEq, Eq)]
-pub enum Status {
-    /// The table was written.
-    Done,
-    /// The words are no command.
-    Usage,
-    /// The input was refused, and its fault told.
-    Refused,
-    /// A read failed.
-    ReadFault,
-    /// A write failed.
-    WriteFault,
-    /// An allocation failed.
-    Memory,
-}
-
-/// The status that a fault is told beside.
-fn status_of(fault: Fault) -> Status {
-    match fault {
-        Fault::Usage { .. } => Status::Usage,
-        Fault::ReadFault => Status::ReadFault,
-        _ => Status::Refused,
-    }
-}
-
-/// Writes a text, and answers the status behind it.
-fn write<K: Sink>(out: &mut K, text: &[u8], status: Status) -> Status {
-    match write_all(out, text) {
-        Ok(()) => status,
-        Err(_) => Status::WriteFault,
-    }
-}
-
-/// The note of a fault.
-fn fault_line(alloc: Global, fault: Fault) -> Result<Vec<u8>, Memory> {
-    let mut text = Text::new(alloc);
-    add_line(&mut text, &Note::Fault(fault))?;
-    Ok(text.into_vec())
-}
-
-/// Tells a fault.
-fn refuse<K: Sink>(alloc: Global, out: &mut K, fault: Fault) -> Status {
-    match fault_line(alloc, fault) {
-        Ok(text) => write(out, text.as_slice(), status_of(fault)),
-        Err(Memory) => Status::Memory,
-    }
-}
-
 /// Writes the table of an input that was read whole.
+#[tactic(auto, using(crate::proofs::Writing::told_notes, crate::proofs::Writing::told_line, crate::proofs::Writing::told_nothing))]
 fn lost_of<K: Sink>(alloc: Global, bytes: &[u8], out: &mut K) -> Status
     requires { length bytes.now ≤ 16777216 }
+    ensures { TellsLost bytes.now (K.took out.old) (K.took out.new) result }
 {
     match read_notes(alloc, bytes) {
         Ok(notes) => match lost_table(alloc, notes.as_slice()) {
@@ -76,7 +29,9 @@ fn lost_of<K: Sink>(alloc: Global, bytes: &[u8], out: &mut K) -> Status
 }
 
 /// Writes what became of each SDU that the notes of an input show as sent.
-fn lost<S: Source, K: Sink>(alloc: Global, input: &mut S, out: &mut K) -> Status {
+fn lost<S: Source, K: Sink>(alloc: Global, input: &mut S, out: &mut K) -> Status
+    ensures { TellsInput TellsLost (S.left input.old) (S.left input.new) (K.took out.old) (K.took out.new) result }
+{
     let taken = take_all(alloc, input);
     match taken.ending {
         Ending::Whole => lost_of(alloc, taken.bytes.as_slice(), out),
@@ -87,34 +42,34 @@ fn lost<S: Source, K: Sink>(alloc: Global, input: &mut S, out: &mut K) -> Status
 }
 
 /// The place of the first word that cannot stand there, or of one that is missing.
-fn fault_in(words: &[String]) -> Option<u32> {
+fn word_fault(words: &[String]) -> Option<u32>
+    ensures { result ≡ word_fault (map (λ w. string_bytes w) words.now) }
+{
     match words {
-        [only] => {
-            if only.as_str() == "lost" {
+        [] => Some(0),
+        [first, others @ ..] => {
+            if first.as_str() != "lost" {
+                Some(0)
+            } else if others.is_empty() {
                 None
             } else {
-                Some(0)
-            }
-        }
-        [first, ..] => {
-            if first.as_str() == "lost" {
                 Some(1)
-            } else {
-                Some(0)
             }
         }
-        [] => Some(0),
     }
 }
 
-/// The program, given the words of the command line without its name, the input and the output.
+/// The program, given the words of the command line without its name, the input and the output: where the words are `lost` alone the table of the
+/// notes in the input is written, or the fault of the input; else the words are refused.
 pub fn view<S: Source, K: Sink>(
     alloc: Global,
     words: &[String],
     input: &mut S,
     out: &mut K,
-) -> Status {
-    match fault_in(words) {
+) -> Status
+    ensures { Tells (map (λ w. string_bytes w) words.now) (S.left input.old) (S.left input.new) (K.took out.old) (K.took out.new) result }
+{
+    match word_fault(words) {
         Some(word) => refuse(alloc, out, Fault::Usage { word }),
         None => lost(alloc, input, out),
     }

@@ -1,11 +1,10 @@
 //! Reading the notes of a run.
 ghost use Rattle.std.specs.Prelude.{◌≡◌, ◌≤◌, length, map, IfOk};
-ghost use Rattle.bstr.specs.Text.{lines_of, without_terminator};
 ghost use Rattle.rina_base.specs.Traverse.{traverse};
 ghost use Rattle.rina_view.specs.Reading.{unread_at, note_in, notes_in, Gives};
 
-use bstr::ByteSlice;
 use rina_base::Seq;
+use rina_io::{all_lines, without_end};
 use rina_report::{Note, Notes, read_note};
 use rina_schedule::LineError;
 use std::alloc::{AllocError, Global};
@@ -30,39 +29,18 @@ impl From<AllocError> for Unread {
     }
 }
 
-/// A line without its line feed and one carriage return before it.
-fn without_end(line: &[u8]) -> &[u8]
-    ensures { result.now ≡ without_terminator line.now }
-{
-    match line {
-        [front @ .., b'\r', b'\n'] => front,
-        [front @ .., b'\n'] => front,
-        _ => line,
-    }
-}
-
-/// The lines of a text, each with its end if it has one.
-fn all_lines(alloc: Global, bytes: &[u8]) -> Result<Vec<&[u8]>, AllocError>
-    ensures value { IfOk result (λ v. map (λ s. s.now) v.items ≡ lines_of bytes.now) }
-    ensures few { IfOk result (λ v. length v.items ≤ length bytes.now) }
-{
-    bytes.lines_with_terminator().collect(alloc)
-}
-
 /// What a line outside the grammar of notes is told as: the number of its error, and the field.
 fn unread_at(line: u32, error: LineError) -> Unread
     ensures { result ≡ unread_at line error }
 {
-    let (n, field) = match error {
-        LineError::Memory => return Unread::Memory,
-        LineError::UnknownWord => (1, 0),
-        LineError::MissingField { n } => (2, n),
-        LineError::BadNumber { n } => (3, n),
-        LineError::BadName { n } => (4, n),
-        LineError::Extra { n } => (5, n),
-        LineError::BadBytes { n } => (6, n),
-    };
-    Unread::Line { line, n, field }
+    match error {
+        LineError::Memory => Unread::Memory,
+        _ => Unread::Line {
+            line,
+            n: error.number(),
+            field: error.field(),
+        },
+    }
 }
 
 /// Reads the note in a line.

@@ -3,4 +3,4 @@ use Rattle.rina_view.specs.Shown.{entries_in}
 use Rattle.rina_view.proofs.gather.entries_in.Given as goal
 
 abbrev pub invariant-notes : goal.invariant-notes
-invariant-notes l = l.entries ++ entries_in l.way (drop l.note-index l.notes) ≡ entries_in l.way l.notes
+invariant-notes l = l.entries ++ entries_in l.kind (drop l.note-index l.notes) ≡ entries_in l.kind l.notes

@@ -1,0 +1,7 @@
+use Rattle.std.proofs.Common.{◌≡◌, ◌++◌, drop}
+use Rattle.std.specs.List.{flat_map}
+use Rattle.rina_way.specs.Words.{hop_text}
+use Rattle.rina_way.proofs.words.all_hops.Given as goal
+
+abbrev pub invariant-hops : goal.invariant-hops
+invariant-hops l = l.text ++ flat_map (hop_text l.nodes) (drop l.one-index l.hops) ≡ l.initial.text ++ flat_map (hop_text l.nodes) l.hops
