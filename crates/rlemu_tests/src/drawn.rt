@@ -1,8 +1,8 @@
-//! The inputs that are drawn from numbers are read: the stack by its rules, and each line of the schedule.
+//! The inputs that are drawn from numbers are taken: the stack runs, and each line of the schedule is read.
 use bstr::ByteSlice;
 use rina_gen::make;
 use rina_schedule::read_line;
-use rina_stack::{BuiltIn, read_stack};
+use rina_stack::{BuiltIn, read_runnable};
 use std::alloc::Global;
 use std::test::Fail;
 
@@ -22,7 +22,7 @@ fn is_read(alloc: Global, text: &[u8]) -> bool {
     let Some((stack, schedule)) = text.split_once_str(b"\n%%\n".as_slice()) else {
         return false;
     };
-    read_stack(alloc, stack, &BuiltIn).is_ok() && all_read(alloc, schedule)
+    read_runnable(alloc, stack, &BuiltIn).is_ok() && all_read(alloc, schedule)
 }
 
 #[test]

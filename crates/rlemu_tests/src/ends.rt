@@ -1,5 +1,5 @@
 //! The top call once on its happy path, and ends that fail.
-use crate::running::outcome_of;
+use crate::running::ended_of;
 use rina_run::Status;
 use std::test::Fail;
 
@@ -29,28 +29,33 @@ const HELLO_NOTES: &str = "1 0 ok
 end 2
 ";
 
-#[test]
-fn hello_arrives_after_two_ticks(rt: HostRuntime) -> Result<(), Fail> {
-    let (outcome, sink) = outcome_of(rt.alloc(), &["run"], HELLO, &[], &[])?;
-    assert_eq!(rt; outcome.status, Status::Done);
-    assert_eq!(rt; sink.bytes(), HELLO_NOTES.as_bytes());
-    assert!(rt; outcome.tower.is_some());
-    Ok(())
-}
+/// What is written where the second read fails: the lines before it ran.
+const HELLO_CUT: &str = "1 0 ok
+2 0 ok allocated
+3 0 ok allocated
+4 0 sent 0.0
+5 2 ok
+6 2 got 2 'hello
+fault ReadFault
+";
+
+/// Which reads and writes fail, the status, all that is written, and whether the run had a tower.
+type Row = (&'static [bool], &'static [bool], Status, &'static str, bool);
 
 #[test]
-fn ends_that_fail_are_told_by_the_status(rt: HostRuntime) -> Result<(), Fail> {
-    let (outcome, sink) = outcome_of(rt.alloc(), &["run"], HELLO, &[true], &[])?;
-    assert_eq!(rt; outcome.status, Status::ReadFault);
-    assert_eq!(rt; sink.bytes(), b"fault ReadFault\n".as_slice());
-    let (outcome, sink) = outcome_of(rt.alloc(), &["run"], HELLO, &[false, true], &[])?;
-    assert_eq!(rt; outcome.status, Status::ReadFault);
-    assert_eq!(rt; sink.bytes().len(), HELLO_NOTES.len() + 10);
-    let (outcome, sink) = outcome_of(rt.alloc(), &["run"], HELLO, &[], &[true])?;
-    assert_eq!(rt; outcome.status, Status::WriteFault);
-    assert_eq!(rt; sink.bytes().len(), 0);
-    let (outcome, sink) = outcome_of(rt.alloc(), &["run"], HELLO, &[], &[false, true])?;
-    assert_eq!(rt; outcome.status, Status::WriteFault);
-    assert_eq!(rt; sink.bytes(), b"1 0 ok\n".as_slice());
+fn a_run_ends_with_its_status(rt: HostRuntime) -> Result<(), Fail> {
+    let rows: [Row; 5] = [
+        (&[], &[], Status::Done, HELLO_NOTES, true),
+        (&[true], &[], Status::ReadFault, "fault ReadFault\n", false),
+        (&[false, true], &[], Status::ReadFault, HELLO_CUT, true),
+        (&[], &[true], Status::WriteFault, "", true),
+        (&[], &[false, true], Status::WriteFault, "1 0 ok\n", true),
+    ];
+    for (reads, writes, status, text, has_tower) in rows {
+        let ended = ended_of(rt.alloc(), &["run"], HELLO, reads, writes)?;
+        assert_eq!(rt; ended.status, status);
+        assert_eq!(rt; ended.written.as_slice(), text.as_bytes());
+        assert_eq!(rt; ended.has_tower, has_tower);
+    }
     Ok(())
 }

@@ -378,6 +378,56 @@ read q2
 14 5 got 5 'hello
 end 5
 ====
+# A storm loses 5 of 100 frames. From this seed it is the second frame of the wire, with 'b, and none of the next ten. The
+# cube is reliable: 'b is sent again at tick 10, and all come, in order.
+nodes = [\"a\", \"b\"]
+[[wire]]
+name = \"w\"
+ends = [\"a\", \"b\"]
+delay = 2
+life = 10
+largest = 1500
+storm = { seed = 38, lose = 50, repeat = 0, spread = 0 }
+[[dif]]
+name = \"d\"
+rank = 1
+static = true
+pdu = 96
+widths = { addr = 1, cep = 1, len = 2, seq = 2 }
+queue = 64
+policy = \"strict\"
+wait = 500
+manage = { mpl = 40, r = 30, a = 2, retry = 10, window = 8 }
+cube = [
+  { id = 1, kind = \"datagram\", mpl = 40, window = 16, largest = 80 },
+  { id = 2, kind = \"loose\", mpl = 40, window = 16, largest = 240 },
+  { id = 3, kind = \"reliable\", mpl = 40, r = 30, a = 2, retry = 10, window = 4, largest = 240 },
+]
+member = [ { node = \"a\", addr = 1 }, { node = \"b\", addr = 2 } ]
+link = [ { on = \"w\", a = \"a\", b = \"b\" } ]
+flow = [
+  { cube = 1, from = { node = \"a\", app = \"s1\", label = \"p1\" }, to = { node = \"b\", app = \"t1\", label = \"q1\" } },
+  { cube = 2, from = { node = \"a\", app = \"s2\", label = \"p2\" }, to = { node = \"b\", app = \"t2\", label = \"q2\" } },
+  { cube = 3, from = { node = \"a\", app = \"s3\", label = \"p3\" }, to = { node = \"b\", app = \"t3\", label = \"q3\" } },
+]
+%%
+send p3 'a
+send p3 'b
+send p3 'c
+tick 12
+read q3
+ledger d b
+----
+1 0 sent 3.0
+2 0 sent 3.1
+3 0 sent 3.2
+4 12 ok
+5 12 got 2 'a
+5 12 got 12 'b
+5 12 got 12 'c
+6 12 off data 1.3.2 Duplicate 3.2
+end 12
+====
 # Three ranks of DIFs on one wire: an SDU goes down all three and up again, in the ticks of the wire alone.
 nodes = [\"a\", \"b\"]
 [[wire]]

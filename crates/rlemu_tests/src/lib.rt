@@ -28,6 +28,8 @@ mod running;
 #[cfg(test)]
 mod spent_rows;
 #[cfg(test)]
+mod storm_rows;
+#[cfg(test)]
 mod tall_rows;
 #[cfg(test)]
 mod wire_rows;

@@ -7,14 +7,27 @@ use crate::examples_r_to_z::EXAMPLES_R_TO_Z;
 use crate::flat_rows::FLAT_ROWS;
 use crate::kinds_rows::KINDS_ROWS;
 use crate::spent_rows::SPENT_ROWS;
+use crate::storm_rows::STORM_ROWS;
 use crate::tall_rows::TALL_ROWS;
 use crate::wire_rows::WIRE_ROWS;
 use rina_base::Name;
 use rina_io::{MemSink, MemSource};
 use rina_policy::{First, Last, Round, Shelf, Strict, Weighted};
-use rina_run::{Outcome, run};
+use rina_run::{Status, run};
 use std::alloc::Global;
 use std::test::Fail;
+
+/// What a test looks at of a run that has ended.
+#[derive(Drop)]
+pub(crate) struct Ended {
+    pub(crate) status: Status,
+    /// All that was written.
+    pub(crate) written: Vec<u8>,
+    /// How many notes its trace has.
+    pub(crate) notes: usize,
+    /// Whether it had a tower.
+    pub(crate) has_tower: bool,
+}
 
 /// A shelf with the five built-in policies.
 fn make_shelf(alloc: Global) -> Result<Shelf, Fail> {
@@ -33,13 +46,13 @@ fn make_shelf(alloc: Global) -> Result<Shelf, Fail> {
 }
 
 /// Runs an input with these words; reads and writes fail at the calls that are told.
-pub(crate) fn outcome_of(
+pub(crate) fn ended_of(
     alloc: Global,
     words: &[&str],
     input: &str,
     reads: &[bool],
     writes: &[bool],
-) -> Result<(Outcome<Shelf>, MemSink), Fail> {
+) -> Result<Ended, Fail> {
     let mut owned = Vec::new(alloc);
     for word in words {
         owned.push(String::from_str(alloc, word)?)?;
@@ -48,20 +61,24 @@ pub(crate) fn outcome_of(
     let mut sink = MemSink::new(Vec::new(alloc), writes.to_vec(alloc)?);
     let shelf = make_shelf(alloc)?;
     let outcome = run(alloc, owned.as_slice(), &mut source, &mut sink, shelf);
-    Ok((outcome, sink))
+    Ok(Ended {
+        status: outcome.status,
+        written: sink.bytes().to_vec(alloc)?,
+        notes: outcome.trace.len(),
+        has_tower: outcome.tower.is_some(),
+    })
 }
 
 /// What a command writes of an input.
-fn written(alloc: Global, command: &str, input: &str) -> Result<MemSink, Fail> {
-    let (_, sink) = outcome_of(alloc, &[command], input, &[], &[])?;
-    Ok(sink)
+fn written(alloc: Global, command: &str, input: &str) -> Result<Vec<u8>, Fail> {
+    Ok(ended_of(alloc, &[command], input, &[], &[])?.written)
 }
 
 /// The first example of a text that writes something else than its output, where there is one.
 fn other_example<'a>(alloc: Global, command: &str, text: &'a str) -> Result<Option<&'a str>, Fail> {
     for example in text.split("====\n") {
         let (input, output) = example.split_once("----\n").ok_or("no output")?;
-        if written(alloc, command, input)?.bytes() != output.as_bytes() {
+        if written(alloc, command, input)?.as_slice() != output.as_bytes() {
             return Ok(Some(example));
         }
     }
@@ -73,7 +90,7 @@ fn other_row<'a>(alloc: Global, stack: &str, rows: &'a str) -> Result<Option<&'a
     for row in rows.split("====\n") {
         let (lines, output) = row.split_once("----\n").ok_or("no output")?;
         let input = format!(in alloc; "{stack}%%\n{lines}")?;
-        if written(alloc, "run", input.as_str())?.bytes() != output.as_bytes() {
+        if written(alloc, "run", input.as_str())?.as_slice() != output.as_bytes() {
             return Ok(Some(row));
         }
     }
@@ -118,6 +135,12 @@ fn the_examples_from_r_to_z_write_their_outputs(rt: HostRuntime) -> Result<(), F
 #[test]
 fn the_rows_of_one_wire_write_their_outputs(rt: HostRuntime) -> Result<(), Fail> {
     assert_eq!(rt; other_example(rt.alloc(), "run", WIRE_ROWS)?, None);
+    Ok(())
+}
+
+#[test]
+fn the_rows_of_storms_write_their_outputs(rt: HostRuntime) -> Result<(), Fail> {
+    assert_eq!(rt; other_example(rt.alloc(), "run", STORM_ROWS)?, None);
     Ok(())
 }
 
