@@ -2,6 +2,8 @@
 #![tactic(auto)]
 
 mod answering;
+mod laws;
 mod reply;
 
 pub use answering::answer;
+pub use laws::an_answer_shows_what_a_read_gives;

@@ -1,5 +1,5 @@
 -- Directory entries: the key of an application, the address in decimal, and what is found.
-use Rattle.std.specs.Prelude.{◌≡◌, ℕ, ◌≤◌, length, take, Contains, IsSome, ◌+◌, ◌-◌, ◌*◌, ◌^◌, ◌&&◌, ◌==◌, nat_le, nat_lt, List, [], ◌∷◌, ◌++◌, Option, Some, None, option_and_then, map, codes, if◌then◌else◌}
+use Rattle.std.specs.Prelude.{◌≡◌, ℕ, ◌≤◌, length, take, Contains, IsSome, ◌==◌, List, ◌++◌, Option, Some, option_and_then, map, codes, if◌then◌else◌}
 use Rattle.rina_base.specs.Decimals.{number_of}
 use Rattle.rina_newest.specs.declared.item.Item.{Item}
 use Rattle.rina_newest.specs.Newest.{value_at}

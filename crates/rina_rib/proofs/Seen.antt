@@ -1,5 +1,5 @@
 -- What a map shows: each change of it is the same change of what it shows.
-use Rattle.std.proofs.Common.{◌≡◌, ℕ, Bool, true, false, cond, List, [], ◌∷◌, map, Option, Some, None, Result, Ok, Err, ◌||◌, refl, sym, ap, ◌∙◌}
+use Rattle.std.proofs.Common.{◌≡◌, ℕ, Bool, true, false, cond, List, [], ◌∷◌, Option, Some, None, Result, Ok, Err, ◌||◌, refl, sym, ap, ◌∙◌}
 use Rattle.std.specs.List.{AllZip, list_any}
 use Rattle.std.specs.Vec.{vec_len}
 use Rattle.std.specs.Prelude.{IfOk, MatchResult}

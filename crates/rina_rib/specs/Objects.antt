@@ -1,5 +1,5 @@
 -- Objects by name, and what each operation does.
-use Rattle.std.specs.Prelude.{ℕ, ◌-◌, Bool, false, List, map, Option, Some, None}
+use Rattle.std.specs.Prelude.{ℕ, Bool, false, List, map, Option, Some, None}
 use Rattle.std.specs.List.{list_any}
 use Rattle.std.specs.Global.{Vec}
 use Rattle.std.specs.declared.cmp.Ordering.{Ordering}

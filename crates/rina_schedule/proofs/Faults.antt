@@ -1,5 +1,5 @@
 -- The error of a line is true of the field that it names.
-use Rattle.std.proofs.Common.{◌≡◌, ◌&&◌, ◌⊎◌, inl, inr, ℕ, zero, suc, ◌+◌, ◌-◌, ◌^◌, nat_le, Bool, true, false, cond, List, [], slice_index, Option, Some, None, Result, Ok, Err, eqb, refl, sym, ap, ◌∙◌, subst, arith}
+use Rattle.std.proofs.Common.{◌≡◌, ◌&&◌, inl, inr, ℕ, suc, ◌+◌, ◌-◌, ◌^◌, nat_le, Bool, true, false, cond, List, [], slice_index, Option, Some, None, Result, Ok, Err, eqb, refl, sym, subst, arith}
 use Rattle.std.specs.Prelude.{codes}
 use Rattle.std.specs.Str.{bytes_eq}
 use Rattle.rina_base.specs.declared.name.NameError.{NameError}
@@ -19,7 +19,7 @@ use Rattle.rina_schedule.specs.FlowWords.{register_at, unregister_at, want_at, a
 use Rattle.rina_schedule.specs.WireWords.{lose_at, repeat_at, hold_at, cut_at, mend_at, tick_at, round_at, retire_at, journal_at}
 use Rattle.rina_schedule.specs.DifWords.{publish_at, enrol_at, member_at, in_at, out_at, clock_at, cdap_at, rib_at, ledger_at}
 use Rattle.rina_schedule.specs.Line.{step_word_at, dif_word_at, wire_word_at, word_at, event_or_none, line_at}
-use Rattle.rina_schedule.specs.Faults.{Passes, EndsBefore, HasField, IsNoNumber, IsNoName, IsAny, SpellsNone, IsTrueOf}
+use Rattle.rina_schedule.specs.Faults.{EndsBefore, HasField, IsNoNumber, IsNoName, IsAny, SpellsNone, IsTrueOf}
 
 -- ---- what an error says, where the first field of a text has number n
 

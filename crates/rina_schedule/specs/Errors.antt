@@ -3,7 +3,7 @@ use Rattle.std.specs.Prelude.{ℕ}
 use Rattle.rina_schedule.specs.declared.error.LineError.{LineError}
 use Rattle.rina_schedule.specs.declared.error.LineError.TheVariants as errors
 
--- the number of the error; want of memory is told of no line, and has 0
+-- the number of the error; `Memory` is an error of no line, and has 0
 abbrev pub number_of : LineError → ℕ
 number_of errors.Memory = 0
 number_of errors.UnknownWord = 1

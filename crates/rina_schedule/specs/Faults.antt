@@ -1,5 +1,5 @@
 -- What an error of a line says of the field that it names.
-use Rattle.std.specs.Prelude.{◌≡◌, ℕ, zero, suc, ◌⊎◌, ◌&&◌, nat_le, false, List, Option, Some, None, Err}
+use Rattle.std.specs.Prelude.{◌≡◌, ℕ, zero, suc, ◌⊎◌, ◌&&◌, nat_le, false, List, Some, None, Err}
 use Rattle.rina_base.specs.declared.name.NameError.{NameError}
 use Rattle.rina_base.specs.Names.{name_at, app_at}
 use Rattle.rina_base.specs.Decimals.{number_of}

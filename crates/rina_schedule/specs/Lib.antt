@@ -3,6 +3,7 @@ pub mod DifWords
 pub mod Errors
 pub mod Faults
 pub mod Fields
+pub mod Firsts
 pub mod FlowWords
 pub mod Gives
 pub mod Line

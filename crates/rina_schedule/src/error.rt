@@ -35,7 +35,7 @@ impl From<AllocError> for LineError {
 }
 
 impl LineError {
-    /// The number by which a fault tells the error: 1 to 6, in the order of the variants. Want of memory is told of no
+    /// The number by which a fault tells the error: 1 to 6, in the order of the variants. `Memory` is an error of no
     /// line, and has 0.
     pub fn number(self) -> u32
         ensures { result ≡ number_of self }
