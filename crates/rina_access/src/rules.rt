@@ -118,6 +118,17 @@ impl Rules {
         Ok(Rules { rules, default })
     }
 
+    /// A copy: the same rules in their order, and the same default.
+    pub fn copy(&self, alloc: Global) -> Result<Rules, Memory>
+        ensures { IfOk result (λ r. r ≡ self.now) }
+    {
+        let rules = copies(alloc, self.rules.as_slice())?;
+        Ok(Rules {
+            rules,
+            default: self.default,
+        })
+    }
+
     /// What the first rule says that speaks of this act of this subject, else the default. Takes no
     /// memory.
     #[tactic(auto, unfolding(crate::specs::Access::decided))]

@@ -1,5 +1,5 @@
 -- No call of a member makes what it keeps older.
-use Rattle.std.proofs.Common.{◌≡◌, ℕ, Bool, true, false, cond, List, [], ◌∷◌, ◌++◌, Option, Some, None, Result, Ok, Err, refl, sym, ◌∙◌, ap, subst, find, slice_set}
+use Rattle.std.proofs.Common.{◌≡◌, ℕ, Bool, true, false, cond, List, [], ◌∷◌, ◌++◌, Option, Some, None, Result, Ok, refl, sym, subst, slice_set}
 use Rattle.std.specs.Prelude.{Contains}
 use Rattle.rina_newest.specs.declared.item.Item.{Item}
 use Rattle.rina_newest.specs.Newest.{kept_at, is_newer, taken}
@@ -14,7 +14,6 @@ use Rattle.rina_agent.specs.declared.state.MemberState.TheVariants.{Outside, Joi
 use Rattle.rina_agent.specs.declared.state.AgentError.{AgentError}
 use Rattle.rina_agent.specs.Agenda.{floods}
 use Rattle.rina_agent.specs.Counts.{next_of, unless}
-use Rattle.rina_agent.specs.Enrolments.{is_numbered}
 use Rattle.rina_agent.specs.Items.{own_item, made, stated, took}
 use Rattle.rina_agent.specs.Neighbours.{member_key, link_key, link_state}
 use Rattle.rina_agent.specs.Rows

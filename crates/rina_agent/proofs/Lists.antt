@@ -1,5 +1,5 @@
 -- Waiting messages, link by link.
-use Rattle.std.proofs.Common.{◌≡◌, ℕ, Bool, true, false, cond, not, ◌&&◌, ◌==◌, List, [], ◌∷◌, ◌++◌, map, filter, find, slice_get, Option, Some, None, refl, sym, ◌∙◌, ap, inl, inr, arith}
+use Rattle.std.proofs.Common.{◌≡◌, ℕ, false, not, ◌&&◌, ◌==◌, List, [], ◌∷◌, ◌++◌, map, filter, slice_get, Some, refl, sym, ◌∙◌, ap, inl, inr}
 use Rattle.std.specs.Prelude.{option_map}
 use Rattle.std.proofs.lemmas.Bool.{cases_Bool, and_parts, not-true, ne_eqb, eqb-false}
 use Rattle.std.proofs.lemmas.List.{map-append}
@@ -7,7 +7,7 @@ use Rattle.std.proofs.lemmas.List.Elements.{filter-append}
 use Rattle.rina_newest.specs.declared.item.Item.{Item}
 use Rattle.rina_agent.specs.declared.link.Link.{Link}
 use Rattle.rina_agent.specs.declared.message.Waiting.{Waiting}
-use Rattle.rina_agent.specs.Agenda.{waits_on, waiting_on, first_on, floods, is_flooded}
+use Rattle.rina_agent.specs.Agenda.{waits_on, waiting_on, first_on, floods}
 
 pub put_waits_last : (link : ℕ) (agenda more : List Waiting) → waiting_on link (agenda ++ more) ≡ waiting_on link agenda ++ waiting_on link more
 put_waits_last link agenda more =

@@ -1,5 +1,5 @@
 -- Messages that wait for links: in the order in which they were put, each with the number of its link.
-use Rattle.std.specs.Prelude.{ℕ, Bool, true, false, ◌==◌, ◌&&◌, not, List, map, filter, find, position, remove, Option, Some, None, option_map}
+use Rattle.std.specs.Prelude.{ℕ, Bool, false, ◌==◌, ◌&&◌, not, List, map, filter, find, position, remove, Option, Some, None}
 use Rattle.rina_newest.specs.declared.item.Item.{Item}
 use Rattle.rina_enrol.specs.declared.message.LinkMessage.{LinkMessage}
 use Rattle.rina_enrol.specs.declared.message.LinkMessage.TheVariants as messages

@@ -1,5 +1,5 @@
 -- Enrolled: a joiner has, key by key, what the member kept at START, or newer.
-use Rattle.std.specs.Prelude.{◌≡◌, ℕ, ◌⊎◌, false, List, [], ◌∷◌, ◌++◌, Option, Some, None, Contains, Result, Ok, Err}
+use Rattle.std.specs.Prelude.{◌≡◌, ℕ, false, List, [], ◌∷◌, ◌++◌, Option, Some, None, Contains, Result, Ok, Err}
 use Rattle.rina_newest.specs.declared.item.Item.{Item}
 use Rattle.rina_newest.specs.Newest.{is_below, kept_at}
 use Rattle.rina_enrol.specs.declared.message.LinkMessage.{LinkMessage}

@@ -42,7 +42,7 @@ end_after (Joined member) event = Joined (member_after member event)
 abbrev pub stepped : Enrolment → EnrolEvent → Talk → Enrolment
 stepped e event t = record { session = t; end = end_after e.end event }
 
--- what comes of a message on the link at a place: the link after it, and the answer of its machine
+-- a message on the link at a place: the link after it, and the answer of its machine
 abbrev pub heard_as : ℕ → Link → Enrolment → EnrolEvent → Talk → Heard
 heard_as at l e event t = record { at = at; link = record l { enrolment = Some (stepped e event t) }; does = answer_of e.end event }
 
@@ -65,6 +65,6 @@ abbrev pub heard_at : List Link → LinkMessage → List LinkMessage → EnrolEv
 heard_at links m replies event None = None
 heard_at links m replies event (Some at) = option_and_then (heard_on at m replies event) (slice_get links at)
 
--- what comes of a message on the link of a number
+-- a message on the link of a number
 abbrev pub hears : List Link → ℕ → LinkMessage → List LinkMessage → EnrolEvent → Option Heard
 hears links number m replies event = heard_at links m replies event (place_of number links)

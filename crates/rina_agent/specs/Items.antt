@@ -1,5 +1,5 @@
 -- What a member does with items: its own, and those that come on its links.
-use Rattle.std.specs.Prelude.{ℕ, List, ◌++◌, Option, Some, None, if◌then◌else◌}
+use Rattle.std.specs.Prelude.{ℕ, List, ◌++◌, Option, Some, if◌then◌else◌}
 use Rattle.rina_newest.specs.declared.item.Version.{Version}
 use Rattle.rina_newest.specs.declared.item.Item.{Item}
 use Rattle.rina_newest.specs.Newest.{item_of, kept_at, is_newer, taken}

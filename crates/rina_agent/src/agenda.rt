@@ -1,5 +1,5 @@
 //! The agenda of a member: the messages that wait for its links.
-ghost use Rattle.std.specs.Prelude.{◌≡◌, ◌<◌, ◌++◌, ◌∷◌, [], length, position, take, option_copied, IfSome, OnOk, OnErr};
+ghost use Rattle.std.specs.Prelude.{◌≡◌, ◌<◌, ◌++◌, ◌∷◌, [], length, position, take, option_copied, IfOk, IfSome, OnOk, OnErr};
 ghost use Rattle.rina_agent.specs.Agenda.{waits_on, first_on, without_first, without_link};
 
 use crate::message::Waiting;
@@ -45,6 +45,20 @@ fn keep_others(waiting: &mut Vec<Waiting>, link: u16)
     waiting.retain(|w| w.link != link);
 }
 
+/// Copies of messages, in their order.
+fn copies(alloc: Global, waiting: &[Waiting]) -> Result<Vec<Waiting>, Memory>
+    ensures { IfOk result (λ copied. copied.items ≡ waiting.now) }
+{
+    let mut copied = Vec::new(alloc);
+    for w in waiting {
+        let w = w.copy(alloc)?;
+        if copied.push(w).is_err() {
+            return Err(Memory);
+        }
+    }
+    Ok(copied)
+}
+
 impl Agenda {
     /// No messages.
     pub fn new(alloc: Global) -> Agenda
@@ -53,6 +67,14 @@ impl Agenda {
         Agenda {
             waiting: Vec::new(alloc),
         }
+    }
+
+    /// A copy: the same messages in their order.
+    pub fn copy(&self, alloc: Global) -> Result<Agenda, Memory>
+        ensures { IfOk result (λ a. a ≡ self.now) }
+    {
+        let waiting = copies(alloc, self.waiting.as_slice())?;
+        Ok(Agenda { waiting })
     }
 
     /// How many messages wait.

@@ -3,7 +3,7 @@ ghost use Rattle.std.specs.Prelude.{◌≡◌, [], ◌∷◌, ◌++◌, IfOk, On
 ghost use Rattle.rina_agent.specs.Firsts.{first_items};
 
 use crate::agenda::Agenda;
-use crate::link::Link;
+use crate::link::{Link, copies};
 use crate::message::{ManagementMessage, Waiting};
 use crate::state::MemberState;
 use crate::text::numbered;
@@ -101,6 +101,30 @@ impl Agent {
             links,
             agenda: Agenda::new(alloc),
         }
+    }
+
+    /// A copy.
+    pub fn copy(&self, alloc: Global) -> Result<Agent, Memory>
+        ensures { IfOk result (λ agent. agent ≡ self.now) }
+    {
+        let name = self.name.copy(alloc)?;
+        let node = self.node.copy(alloc)?;
+        let rules = self.rules.copy(alloc)?;
+        let items = self.items.copy(alloc)?;
+        let links = copies(alloc, self.links.as_slice())?;
+        let agenda = self.agenda.copy(alloc)?;
+        Ok(Agent {
+            state: self.state,
+            address: self.address,
+            name,
+            node,
+            rules,
+            items,
+            last_count: self.last_count,
+            last_invoke: self.last_invoke,
+            links,
+            agenda,
+        })
     }
 
     /// The first message that waits for a link. None exactly where none does. Takes no memory.

@@ -25,5 +25,6 @@ pub use enrolment::{End, Enrolment};
 pub use laws::{a_joiner_has_what_the_member_told, each_link_has_its_messages_in_order};
 pub use link::Link;
 pub use message::{ManagementMessage, Waiting};
-pub use neighbours::Neighbour;
+pub use neighbours::{Neighbour, link_state};
 pub use state::{AgentError, MemberState};
+pub use text::numbered;

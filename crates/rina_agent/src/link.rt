@@ -22,7 +22,7 @@ pub struct Link {
     pub enrolment: Option<Enrolment>,
 }
 
-/// What comes of a message on a link.
+/// A link after a message on it, and what its enrolment answers.
 #[derive(Drop)]
 pub(crate) struct Heard {
     /// The place of the link among the live ones.
@@ -44,7 +44,21 @@ fn enrolment_copy(enrolment: &Option<Enrolment>, alloc: Global) -> Result<Option
 }
 
 impl Link {
-    /// What comes of a message, if the replies to it are sent. None where no enrolment made the link, or its session refuses
+    /// A copy.
+    pub fn copy(&self, alloc: Global) -> Result<Link, Memory>
+        ensures { IfOk result (λ link. link ≡ self.now) }
+    {
+        let enrolment = enrolment_copy(&self.enrolment, alloc)?;
+        Ok(Link {
+            number: self.number,
+            peer: self.peer,
+            weight: self.weight,
+            up: self.up,
+            enrolment,
+        })
+    }
+
+    /// The link after a message and the replies to it. None where no enrolment made the link, or its session refuses
     /// the message or a reply.
     fn hear(
         &self,
@@ -82,6 +96,17 @@ impl Link {
     }
 }
 
+/// Copies of links, in their order.
+pub(crate) fn copies(alloc: Global, links: &[Link]) -> Result<Seq<Link>, Memory>
+    ensures { IfOk result (λ copied. copied ≡ links.now) }
+{
+    let mut copied = Seq::new(alloc);
+    for link in links {
+        copied.push(link.copy(alloc)?)?;
+    }
+    Ok(copied)
+}
+
 /// Whether a link has a number.
 pub(crate) fn is_numbered(link: &Link, number: u16) -> bool
     ensures { result ≡ is_numbered number link.now }
@@ -97,7 +122,7 @@ pub(crate) fn place(links: &[Link], number: u16) -> Option<usize>
     links.iter().position(|link| is_numbered(link, number))
 }
 
-/// What comes of a message on the link of a number, if the replies to it are sent. None where there is no such link, no
+/// The link of a number after a message and the replies to it. None where there is no such link, no
 /// enrolment made it, or its session refuses the message or a reply.
 pub(crate) fn hear(
     alloc: Global,

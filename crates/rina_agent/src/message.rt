@@ -1,6 +1,10 @@
 //! Messages that wait for a link.
+ghost use Rattle.std.specs.Prelude.{◌≡◌, IfOk};
+
 use rina_alloc::FlowMessage;
+use rina_base::Memory;
 use rina_enrol::LinkMessage;
+use std::alloc::Global;
 
 /// A message between IPC processes of one DIF.
 #[derive(Drop)]
@@ -17,4 +21,31 @@ pub struct Waiting {
     /// The number of the link.
     pub link: u16,
     pub message: ManagementMessage,
+}
+
+impl ManagementMessage {
+    /// A copy.
+    pub fn copy(&self, alloc: Global) -> Result<ManagementMessage, Memory>
+        ensures { IfOk result (λ m. m ≡ self.now) }
+    {
+        match self {
+            ManagementMessage::ToNeighbour(m) => {
+                Ok(ManagementMessage::ToNeighbour(m.copy(alloc)?))
+            }
+            ManagementMessage::ToMember(m) => Ok(ManagementMessage::ToMember(m.copy(alloc)?)),
+        }
+    }
+}
+
+impl Waiting {
+    /// A copy.
+    pub fn copy(&self, alloc: Global) -> Result<Waiting, Memory>
+        ensures { IfOk result (λ w. w ≡ self.now) }
+    {
+        let message = self.message.copy(alloc)?;
+        Ok(Waiting {
+            link: self.link,
+            message,
+        })
+    }
 }

@@ -26,7 +26,7 @@ pub(crate) fn add_decimal(text: &mut Vec<u8>, n: u64) -> Result<(), AllocError>
 }
 
 /// A number in decimal behind a text.
-pub(crate) fn numbered(alloc: Global, text: &[u8], n: u64) -> Result<Bytes, AllocError>
+pub fn numbered(alloc: Global, text: &[u8], n: u64) -> Result<Bytes, AllocError>
     ensures { IfOk result (λ b. b ≡ text.now ++ decimal n) }
 {
     let mut name = Vec::from_slice(alloc, text)?;

@@ -15,7 +15,7 @@ operation_of (words.Ask invoke ask) = 4
 operation_of (words.Answer invoke answer) = 5
 operation_of (words.Delete dcep scep) = 6
 
--- a deletion wants no response
+-- a deletion asks for no response
 abbrev pub invoke_of : FlowWord → ℕ
 invoke_of (words.Ask invoke ask) = invoke
 invoke_of (words.Answer invoke answer) = invoke

@@ -106,7 +106,47 @@ fn class_name(alloc: Global, text: &[u8]) -> Result<Name, Memory>
     }
 }
 
+impl FlowAsk {
+    /// A copy.
+    pub fn copy(&self, alloc: Global) -> Result<FlowAsk, Memory>
+        ensures { IfOk result (λ a. a ≡ self.now) }
+    {
+        let destination = self.destination.copy(alloc)?;
+        let source = self.source.copy(alloc)?;
+        Ok(FlowAsk {
+            flow: self.flow,
+            cube: self.cube,
+            scep: self.scep,
+            destination,
+            source,
+        })
+    }
+}
+
 impl FlowWord {
+    /// A copy.
+    pub fn copy(&self, alloc: Global) -> Result<FlowWord, Memory>
+        ensures { IfOk result (λ w. w ≡ self.now) }
+    {
+        match self {
+            FlowWord::Ask { invoke, ask } => {
+                let ask = ask.copy(alloc)?;
+                Ok(FlowWord::Ask {
+                    invoke: *invoke,
+                    ask,
+                })
+            }
+            FlowWord::Answer { invoke, answer } => Ok(FlowWord::Answer {
+                invoke: *invoke,
+                answer: *answer,
+            }),
+            FlowWord::Delete { dcep, scep } => Ok(FlowWord::Delete {
+                dcep: *dcep,
+                scep: *scep,
+            }),
+        }
+    }
+
     fn operation(&self) -> u8
         ensures { result ≡ operation_of self.now }
     {
@@ -156,6 +196,18 @@ impl FlowWord {
 }
 
 impl FlowMessage {
+    /// A copy.
+    pub fn copy(&self, alloc: Global) -> Result<FlowMessage, Memory>
+        ensures { IfOk result (λ m. m ≡ self.now) }
+    {
+        let word = self.word.copy(alloc)?;
+        Ok(FlowMessage {
+            to: self.to,
+            from: self.from,
+            word,
+        })
+    }
+
     /// The CDAP message that it is.
     #[tactic(auto, unfolding(crate::specs::Messages::message_of))]
     pub fn message(&self, alloc: Global) -> Result<Message, Memory>

@@ -20,7 +20,7 @@ operation_of (messages.Stop invoke) = 16
 operation_of (messages.StopR invoke) = 17
 operation_of (messages.Flood item) = 12
 
--- an item wants no response
+-- an item asks for no response
 abbrev pub invoke_of : LinkMessage → ℕ
 invoke_of (messages.Connect invoke joiner member) = invoke
 invoke_of (messages.ConnectR invoke denied) = invoke

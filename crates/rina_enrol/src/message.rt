@@ -1,6 +1,7 @@
 //! The messages that two neighbours send over their link, each as the CDAP message that it is.
 ghost use Rattle.std.specs.Prelude.{◌≡◌, ◌++◌, IfOk, OnOk, option_copied};
 ghost use Rattle.rina_cdap.specs.Messages.{be4};
+ghost use Rattle.rina_enrol.specs.declared.message.LinkMessage.TheVariants.{Connect};
 ghost use Rattle.rina_enrol.specs.Messages.{operation_of, invoke_of, class_of, name_of, value_of, result_of, joiner_of, member_of, item_text, live_text, message_of};
 
 use rina_base::{Addr, AppName, Bytes, Memory, Name};
@@ -106,7 +107,55 @@ fn class_name(alloc: Global, text: &[u8]) -> Result<Name, Memory>
     }
 }
 
+/// A copy of a CONNECT.
+fn connect_copy(
+    alloc: Global,
+    invoke: u32,
+    joiner: &AppName,
+    member: &AppName,
+) -> Result<LinkMessage, Memory>
+    ensures { IfOk result (λ m. m ≡ Connect invoke joiner.now member.now) }
+{
+    let joiner = joiner.copy(alloc)?;
+    let member = member.copy(alloc)?;
+    Ok(LinkMessage::Connect {
+        invoke,
+        joiner,
+        member,
+    })
+}
+
 impl LinkMessage {
+    /// A copy.
+    pub fn copy(&self, alloc: Global) -> Result<LinkMessage, Memory>
+        ensures { IfOk result (λ m. m ≡ self.now) }
+    {
+        match self {
+            LinkMessage::Connect {
+                invoke,
+                joiner,
+                member,
+            } => connect_copy(alloc, *invoke, joiner, member),
+            LinkMessage::ConnectR { invoke, denied } => Ok(LinkMessage::ConnectR {
+                invoke: *invoke,
+                denied: *denied,
+            }),
+            LinkMessage::Start { invoke, address } => Ok(LinkMessage::Start {
+                invoke: *invoke,
+                address: *address,
+            }),
+            LinkMessage::StartR { invoke } => Ok(LinkMessage::StartR { invoke: *invoke }),
+            LinkMessage::Item { item } => Ok(LinkMessage::Item {
+                item: item.copy(alloc)?,
+            }),
+            LinkMessage::Stop { invoke } => Ok(LinkMessage::Stop { invoke: *invoke }),
+            LinkMessage::StopR { invoke } => Ok(LinkMessage::StopR { invoke: *invoke }),
+            LinkMessage::Flood { item } => Ok(LinkMessage::Flood {
+                item: item.copy(alloc)?,
+            }),
+        }
+    }
+
     fn operation(&self) -> u8
         ensures { result ≡ operation_of self.now }
     {

@@ -1,3 +1,4 @@
+mod Copies
 mod Index
 mod Places
 mod Put

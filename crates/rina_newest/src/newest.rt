@@ -1,5 +1,5 @@
 //! The newest items.
-ghost use Rattle.std.specs.Prelude.{◌≡◌, ◌+◌, [], ◌∷◌, ◌++◌, IfOk, OnOk, OnErr, option_copied, drop, map};
+ghost use Rattle.std.specs.Prelude.{ℕ, List, ◌≡◌, ◌+◌, [], ◌∷◌, ◌++◌, IfOk, OnOk, OnErr, option_copied, drop, map};
 ghost use Rattle.std.specs.BTreeMap.{get_by, values};
 ghost use Rattle.std.specs.Ordering.{nat_cmp};
 ghost use Rattle.std.specs.Cmp.Lexicographic.{slice_cmp};
@@ -7,7 +7,7 @@ ghost use Rattle.rina_newest.specs.Newest.{IsIndexed, kept_at, value_at, is_newe
 
 use crate::item::{Item, Version};
 use rina_base::{Memory, Seq};
-use std::alloc::Global;
+use std::alloc::{AllocError, Global};
 use std::collections::BTreeMap;
 use std::marker::Model;
 
@@ -68,6 +68,27 @@ fn replace(
     Ok(())
 }
 
+/// A copy of the numbers of the keys' last changes.
+fn places_copy(places: &BTreeMap<Vec<u8>, u64>) -> Result<BTreeMap<Vec<u8>, u64>, AllocError>
+    ensures { IfOk result (λ copied. (q : List ℕ) → get_by (λ k. slice_cmp nat_cmp q k.items) copied ≡ get_by (λ k. slice_cmp nat_cmp q k.items) places.now) }
+{
+    places.clone()
+}
+
+/// A copy of items under their numbers.
+fn items_copy(alloc: Global, items: &BTreeMap<u64, Item>) -> Result<BTreeMap<u64, Item>, Memory>
+    ensures { IfOk result (λ copied. copied.entries ≡ items.now.entries) }
+{
+    let mut copied = BTreeMap::new(alloc);
+    for (at, item) in items.iter() {
+        let item = item.copy(alloc)?;
+        let Ok(_) = copied.insert(*at, item) else {
+            return Err(Memory);
+        };
+    }
+    Ok(copied)
+}
+
 impl Newest {
     /// A table without items.
     pub fn new(alloc: Global) -> Newest
@@ -78,6 +99,19 @@ impl Newest {
             items: BTreeMap::new(alloc),
             next: 0,
         }
+    }
+
+    /// A copy: the same items, in the order of their last changes.
+    pub fn copy(&self, alloc: Global) -> Result<Newest, Memory>
+        ensures { IfOk result (λ n. n ≡ self.now) }
+    {
+        let places = places_copy(&self.places)?;
+        let items = items_copy(alloc, &self.items)?;
+        Ok(Newest {
+            places,
+            items,
+            next: self.next,
+        })
     }
 
     /// The item that is kept under a key.
@@ -95,8 +129,9 @@ impl Newest {
         self.kept(key)?.live()
     }
 
-    /// Whether a version is newer than that of the item that is kept under a key.
-    fn is_newer(&self, key: &[u8], version: Version) -> bool
+    /// Whether a version is newer than that of the item that is kept under a key; true where nothing is
+    /// kept. Takes no memory.
+    pub fn is_newer(&self, key: &[u8], version: Version) -> bool
         ensures { result ≡ is_newer version (kept_at self.now key.now) }
     {
         match self.kept(key) {
