@@ -1,8 +1,8 @@
 mod Hops
 mod Least
-mod Lists
+pub mod Lists
 mod Numbers
 mod Rows
 mod Texts
 mod Walks
-mod Written
+pub mod Written

@@ -1,7 +1,7 @@
 -- A link state that is written claims what was written.
 use Rattle.std.proofs.Common.{◌≡◌, ◌==◌, ◌&&◌, ℕ, ◌+◌, ◌-◌, ◌/◌, ◌%◌, ◌^◌, ◌<◌, ◌≤◌, nat_le, Bool, true, false, not, cond, List, [], ◌∷◌, ◌++◌, length, take, drop, get_or, Option, Some, None, option_map, option_and_then, refl, sym, ap, ◌∙◌, arith}
 use Rattle.std.specs.Prelude.{All, codes}
-use Rattle.std.specs.List.{prefix_len, position_or_len, slice_split, filter_map, cons_option}
+use Rattle.std.specs.List.{position_or_len, filter_map, cons_option}
 use Rattle.std.specs.Fmt.{decimal}
 use Rattle.std.proofs.Math.Seq.{take-append_seam, drop-append-add}
 use Rattle.std.proofs.lemmas.Bool.Decides.{nat_tests}
@@ -12,7 +12,7 @@ use Rattle.rina_base.specs.Decimals.{decimal_of, number_of}
 use Rattle.rina_base.proofs.Decimals.{decimal_back}
 use Rattle.rina_graph.specs.declared.graph.Edge.{Edge}
 use Rattle.rina_newest.specs.declared.item.Version.{Version}
-use Rattle.rina_route.specs.Routes.{edge, in_weights, weight_at, edge_at, claim_at, claims_in, claims_by, claims_of}
+use Rattle.rina_route.specs.Routes.{edge, in_weights, weight_at, claim_at, claims_in, claims_by, claims_of}
 use Rattle.rina_route.specs.Written.{claim_text, claims_behind, claims_text, IsClaim}
 
 -- ---- digits

@@ -1,0 +1,10 @@
+mod Hops
+mod Items
+mod Laying
+mod Lists
+mod Losing
+mod Names
+mod Removing
+mod Starting
+mod States
+pub mod Knowing

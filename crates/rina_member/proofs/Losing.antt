@@ -1,0 +1,233 @@
+-- What a member knows once it lost a link.
+use Rattle.std.proofs.Common.{◌≡◌, ◌∙◌, inr, ⊎_elim, ℕ, ◌+◌, ◌-◌, ◌^◌, ◌<◌, ◌≤◌, ◌==◌, Bool, true, false, cond, not, nat_lt, List, ◌++◌, Option, Some, None, Result, Ok, Contains, length, map, filter, slice_get, slice_set, refl, sym, ap, subst, arith}
+use Rattle.std.specs.Prelude.{find}
+use Rattle.std.specs.List.{flat_map}
+use Rattle.std.proofs.lemmas.Bool.{cond-false, le-ltb, true≢false}
+use Rattle.std.proofs.lemmas.Bool.Decides.{nat_tests}
+use Rattle.std.proofs.lemmas.List.{length-map}
+use Rattle.std.proofs.lemmas.List.Elements.{Contains-append_cases, Contains-append_left, Contains-append_right, Contains-push_cases}
+use Rattle.rina_graph.specs.declared.graph.Edge.{Edge}
+use Rattle.rina_newest.specs.declared.item.Item.{Item}
+use Rattle.rina_newest.specs.declared.item.Version.{Version}
+use Rattle.rina_newest.specs.Newest.{has_key, is_below, is_newer, kept_at, taken, without}
+use Rattle.rina_route.specs.declared.link.Link.{Link as Hop}
+use Rattle.rina_route.specs.Routes.{claims_of}
+use Rattle.rina_route.specs.Written.{IsClaim}
+use Rattle.rina_route.proofs.Lists.{contains_filter, contains_unmap}
+use Rattle.rina_agent.specs.declared.agent.Agent.{Agent}
+use Rattle.rina_agent.specs.declared.link.Link.{Link as Managed}
+use Rattle.rina_agent.specs.declared.state.AgentError.{AgentError}
+use Rattle.rina_agent.specs.declared.state.AgentError.TheVariants.{CountSpent}
+use Rattle.rina_agent.specs.Agenda.{without_at}
+use Rattle.rina_agent.specs.Counts.{next_of, spent, unless}
+use Rattle.rina_agent.specs.Enrolments.{is_numbered, place_of}
+use Rattle.rina_agent.specs.Items.{own_item, own_version, stated}
+use Rattle.rina_agent.specs.Neighbours.{link_key, link_state}
+use Rattle.rina_agent.specs.Rows.{dropped, lost, lost_state, was_up}
+use Rattle.rina_plan.specs.declared.dif.LinkPlan.{LinkPlan}
+use Rattle.rina_data.specs.declared.link.Link.{Link}
+use Rattle.rina_data.specs.declared.settings.Member.{Member}
+use Rattle.rina_member.specs.Routing.{claims_with, edge_to, edges_from, edges_of, live_links, live_of}
+use Rattle.rina_member.specs.Start.{managed_link}
+use Rattle.rina_member.specs.Knowing.{IsItemKey, IsLaidOut, Knows, SameEdges}
+use Rattle.rina_member.proofs.Laying.{can_claim, own_within, small_address}
+use Rattle.rina_member.proofs.Hops.{Within}
+use Rattle.rina_member.proofs.Items.{from_taken, is_foreign, key_itself, key_same, not_foreign, restated_within, taken_new, within_restated}
+use Rattle.rina_member.proofs.Lists.{found, kept, shorter}
+use Rattle.rina_member.proofs.Removing.{apart_links, left_links, lost_link, no_number, still_numbered, up_number}
+use Rattle.rina_member.proofs.States.{edges_out, is_other, live_edges, state_of, state_within, within_state}
+
+-- a version count is left
+pub not_spent : (last : ℕ) → last ≤ 65536 → spent 1 last ≡ None
+not_spent last few = cond-false (nat_lt (2 ^ 32 - 1 - last) 1) (Some (CountSpent 1 (2 ^ 32 - 1 - last))) None (le-ltb (2 ^ 32 - 1 - last) 1 (omega arith))
+
+-- the next version is newer than one that was made by now
+newer_than : (now count address : ℕ) (v : Version) → v.tick ≤ now → v.count < count → is_below v (record { tick = now; count = count; origin = address }) ≡ true
+unfolding is_below
+newer_than now count address v tick less = grind (arith, nat_tests, tick, less)
+
+newer_by : (now count address : ℕ) (o : Option Item) → ((it : Item) → o ≡ Some it → (it.version.tick ≤ now) × (it.version.count < count)) → is_newer (record { tick = now; count = count; origin = address }) o ≡ true
+newer_by now count address None h = refl
+newer_by now count address (Some it) h = (let r = h it refl in newer_than now count address it.version r.0 r.1)
+
+same_done : (x y : Agent) → ◌≡◌ {A = Result Agent AgentError} (Ok x) (Ok y) → x ≡ y
+same_done x y h = cc
+
+module _ (members : List Member) (plans : List LinkPlan) (now : ℕ) (m : Member) (links : List Link) (g : Agent) (k : ℕ) (link : Link) (laid : IsLaidOut members plans) (among : Contains members m)
+    (h : Knows members plans now m links g) (stands : slice_get links k ≡ Some link) (alive : link.live ≡ true) where
+  abbrev hops : List Hop
+  hops = live_links members plans m links
+
+  abbrev left : List Hop
+  left = filter (is_other link.number) hops
+
+  abbrev links' : List Link
+  links' = slice_set links k (record link { live = false })
+
+  hops_left : live_links members plans m links' ≡ left
+  hops_left = lost_link (edges_from members m.node plans) links k link h.numbers stands alive
+
+  managed_left : without_at (place_of link.number g.links) g.links ≡ map managed_link (live_links members plans m links')
+  managed_left =
+      ap (λ (ls : List Managed). without_at (place_of link.number ls) ls) h.links_are
+      ∙ left_links link.number hops (apart_links (edges_from members m.node plans) links h.numbers)
+      ∙ ap (λ (hs : List Hop). map managed_link hs) (sym hops_left)
+
+  state_stays : lost_state link.number g.state ≡ g.state
+  state_stays = ap (λ s. lost_state link.number s) h.enrolled ∙ sym h.enrolled
+
+  -- A link over which no PDU could leave
+
+  not_up : was_up (find (is_numbered link.number) g.links) ≡ false → left ≡ hops
+  not_up down = no_number link.number hops (find (is_numbered link.number) (map managed_link hops)) refl (ap (λ (ls : List Managed). was_up (find (is_numbered link.number) ls)) (sym h.links_are) ∙ down)
+
+  pub loses_none : was_up (find (is_numbered link.number) g.links) ≡ false → Knows members plans now m links' (dropped g link.number)
+  loses_none down =
+      let same : live_links members plans m links' ≡ hops = hops_left ∙ not_up down in
+      let managed : without_at (place_of link.number g.links) g.links ≡ g.links = managed_left ∙ ap (λ (hs : List Hop). map managed_link hs) same ∙ sym h.links_are in
+      let size = ap (λ (ls : List Managed). length ls) managed in
+      let room = h.room in
+      record {
+        address = h.address;
+        enrolled = state_stays ∙ h.enrolled;
+        numbers = still_numbered links k link h.numbers stands;
+        links_are = managed_left;
+        claims = subst (λ (hs : List Hop). SameEdges (flat_map claims_of g.items) (claims_with m.addr hs (edges_of members plans))) (sym same) h.claims;
+        keys = h.keys;
+        past = h.past;
+        room = omega (arith, size, room);
+      }
+
+  -- A link that was up
+
+  few : g.last_count ≤ 65536
+  few = (let room = h.room in omega (arith, room))
+
+  next : next_of g.last_count ≡ g.last_count + 1
+  next = (let last = few in omega (arith, last))
+
+  abbrev made : Item
+  made = own_item g now (link_key g.address) (Some (link_state (Some link.number) g.links))
+
+  abbrev items' : List Item
+  items' = taken g.items made
+
+  made_key : made.key ≡ link_key m.addr
+  made_key = ap (λ (a : ℕ). link_key a) h.address
+
+  made_newer : is_newer made.version (kept_at g.items made.key) ≡ true
+  made_newer = newer_by now (next_of g.last_count) g.address (kept_at g.items made.key) (λ it is. (
+      let r = h.past it (ap (λ (key : List ℕ). kept_at g.items key) (sym made_key) ∙ is) in
+      let more = next in
+      (r.0, omega (arith, r.1, more))))
+
+  made_claims : claims_of made ≡ state_of m.addr (own_version g now) (Some link.number) (map managed_link hops)
+  made_claims =
+      ap (λ (a : ℕ). claims_of (record { key = link_key a; version = own_version g now; value = Some (link_state (Some link.number) g.links) })) h.address
+      ∙ ap (λ (ls : List Managed). claims_of (record { key = link_key m.addr; version = own_version g now; value = Some (link_state (Some link.number) ls) })) h.links_are
+
+  out_is : edges_out m.addr (Some link.number) (map managed_link hops) ≡ map (edge_to m.addr) left
+  out_is = live_edges m.addr link.number hops
+
+  out_fits : (e : Edge) → Contains (edges_out m.addr (Some link.number) (map managed_link hops)) e → IsClaim m.addr e
+  out_fits e has =
+      let r = contains_unmap (edge_to m.addr) left e (subst (λ (es : List Edge). Contains es e) out_is has) in
+      let s = contains_filter (is_other link.number) hops r.0 r.1 in
+      let es : List Edge = edges_from members m.node plans in
+      subst (λ (x : Edge). IsClaim m.addr x) r.2
+      (can_claim members plans laid m (edge_to m.addr r.0) among (own_within m.addr es (live_of links) r.0 (λ x there. (can_claim members plans laid m x among there).from) s.0))
+
+  made_within : Within (claims_of made) (map (edge_to m.addr) left)
+  made_within e has = subst (λ (es : List Edge). Contains es e) out_is
+      (state_within m.addr (own_version g now) (Some link.number) (map managed_link hops) (small_address members plans laid m among) out_fits e (subst (λ (es : List Edge). Contains es e) made_claims has))
+
+  within_made : Within (map (edge_to m.addr) left) (claims_of made)
+  within_made e has = subst (λ (es : List Edge). Contains es e) (sym made_claims)
+      (within_state m.addr (own_version g now) (Some link.number) (map managed_link hops) (small_address members plans laid m among) out_fits e (subst (λ (es : List Edge). Contains es e) (sym out_is) has))
+
+  abbrev foreign : List Edge
+  foreign = filter (is_foreign m.addr) (edges_of members plans)
+
+  abbrev foreign_claims : List Edge
+  foreign_claims = filter (is_foreign m.addr) (flat_map claims_of g.items)
+
+  foreign_within : Within foreign_claims foreign
+  foreign_within e has =
+      let r = contains_filter (is_foreign m.addr) (flat_map claims_of g.items) e has in
+      ⊎_elim
+      (λ other. other)
+      (λ own. (let s = contains_unmap (edge_to m.addr) hops e own in absurd (not_foreign m.addr e (sym (ap (λ (x : Edge). x.from) s.2)) r.1)))
+      (Contains-append_cases foreign (map (edge_to m.addr) hops) e ((h.claims e).0 r.0))
+
+  within_foreign : Within foreign foreign_claims
+  within_foreign e has =
+      kept (is_foreign m.addr) (flat_map claims_of g.items) e ((h.claims e).1 (Contains-append_left foreign (map (edge_to m.addr) hops) e has)) (contains_filter (is_foreign m.addr) (edges_of members plans) e has).1
+
+  to_claims : Within (flat_map claims_of items') (foreign ++ map (edge_to m.addr) left)
+  to_claims e has = ⊎_elim
+      (λ other. Contains-append_left foreign (map (edge_to m.addr) left) e (foreign_within e other))
+      (λ own. Contains-append_right foreign (map (edge_to m.addr) left) e (made_within e own))
+      (Contains-append_cases foreign_claims (claims_of made) e (restated_within m.addr g.items made (small_address members plans laid m among) h.keys made_key made_newer e has))
+
+  from_claims : Within (foreign ++ map (edge_to m.addr) left) (flat_map claims_of items')
+  from_claims e has = within_restated m.addr g.items made (small_address members plans laid m among) h.keys made_key made_newer e (⊎_elim
+      (λ other. Contains-append_left foreign_claims (claims_of made) e (within_foreign e other))
+      (λ own. Contains-append_right foreign_claims (claims_of made) e (within_made e own))
+      (Contains-append_cases foreign (map (edge_to m.addr) left) e has))
+
+  made_keys : (z : Item) → Contains items' z → IsItemKey z.key
+  made_keys z has = ⊎_elim
+      (λ old. h.keys z old)
+      (λ same. subst (λ (x : Item). IsItemKey x.key) same (m.addr, small_address members plans laid m among, inr made_key))
+      (from_taken g.items made z has)
+
+  made_past : (z : Item) → kept_at items' (link_key m.addr) ≡ Some z → (z.version.tick ≤ now) × (z.version.count ≤ next_of g.last_count)
+  made_past z is =
+      let r = found (has_key (link_key m.addr)) items' z is in
+      let others : List Item = without made.key g.items in
+      ⊎_elim
+      (λ old. (
+      let test = (contains_filter (λ item. not (has_key made.key item)) g.items z old).1 in
+      let has : has_key made.key z ≡ true = key_itself made.key z.key (made_key ∙ key_same (link_key m.addr) z.key r.1) in
+      absurd (true≢false (sym test ∙ ap not has))))
+      (λ same. subst (λ (x : Item). (x.version.tick ≤ now) × (x.version.count ≤ next_of g.last_count)) same (omega arith, omega arith))
+      (Contains-push_cases others made z (subst (λ (is : List Item). Contains is z) (taken_new g.items made made_newer) r.0))
+
+  fewer : was_up (find (is_numbered link.number) g.links) ≡ true → length left < length hops
+  fewer up =
+      let r = up_number link.number hops (find (is_numbered link.number) (map managed_link hops)) refl (ap (λ (ls : List Managed). was_up (find (is_numbered link.number) ls)) (sym h.links_are) ∙ up) in
+      shorter (is_other link.number) hops r.0 r.1 (ap not (itself link.number r.0.number (sym r.2)))
+    where
+      itself : (a b : ℕ) → a ≡ b → (a == b) ≡ true
+      itself a b same = grind (arith, nat_tests, same)
+
+  pub loses_one : was_up (find (is_numbered link.number) g.links) ≡ true → Knows members plans now m links' (dropped (stated (Some link.number) g now) link.number)
+  loses_one up =
+      let size = length-map hops managed_link in
+      let size' = length-map left managed_link in
+      let before = ap (λ (ls : List Managed). length ls) h.links_are in
+      let after = ap (λ (ls : List Managed). length ls) (managed_left ∙ ap (λ (hs : List Hop). map managed_link hs) hops_left) in
+      let lt = fewer up in
+      let more = next in
+      let room = h.room in
+      record {
+        address = h.address;
+        enrolled = state_stays ∙ h.enrolled;
+        numbers = still_numbered links k link h.numbers stands;
+        links_are = managed_left;
+        claims = subst (λ (hs : List Hop). SameEdges (flat_map claims_of items') (claims_with m.addr hs (edges_of members plans))) (sym hops_left) (λ e. (to_claims e, from_claims e));
+        keys = made_keys;
+        past = made_past;
+        room = omega (arith, size, size', before, after, lt, more, room);
+      }
+
+  lost_by : (g' : Agent) (b : Bool) → was_up (find (is_numbered link.number) g.links) ≡ b
+      → cond b (unless (spent 1 g.last_count) (dropped (stated (Some link.number) g now) link.number)) (Ok (dropped g link.number)) ≡ Ok g' → Knows members plans now m links' g'
+  lost_by g' true up is =
+      let after : Agent = dropped (stated (Some link.number) g now) link.number in
+      let done : ◌≡◌ {A = Result Agent AgentError} (Ok after) (Ok g') = sym (ap (λ (o : Option AgentError). unless o after) (not_spent g.last_count few)) ∙ is in
+      subst (λ (x : Agent). Knows members plans now m links' x) (same_done after g' done) (loses_one up)
+  lost_by g' false down is = subst (λ (x : Agent). Knows members plans now m links' x) (same_done (dropped g link.number) g' is) (loses_none down)
+
+  pub loses : (g' : Agent) → lost g now link.number ≡ Ok g' → Knows members plans now m links' g'
+  loses g' is = lost_by g' (was_up (find (is_numbered link.number) g.links)) refl is

@@ -1,0 +1,8 @@
+-- The link states of the members so far were taken.
+use Rattle.std.proofs.Common.{◌≡◌, map, take}
+use Rattle.rina_newest.specs.Newest.{taken_all}
+use Rattle.rina_member.specs.Start.{state_item}
+use Rattle.rina_member.proofs.texts.take_states.Given as goal
+
+abbrev pub invariant-loop-member : goal.invariant-loop-member
+invariant-loop-member l = l.items ≡ taken_all l.fn.items (map (state_item l.members l.plans) (take l.member-index l.members))

@@ -1,0 +1,74 @@
+-- What the management of a member of a static DIF holds from the start: the member items and the link states of all members, as items
+-- of version (0, 0, address of the member that each is of), and its links.
+use Rattle.std.specs.Prelude.{ℕ, ◌+◌, ◌==◌, true, List, [], ◌++◌, drop, map, position, Option, Some, None}
+use Rattle.rina_access.specs.declared.rules.Rules.{Rules}
+use Rattle.rina_graph.specs.declared.graph.Edge.{Edge}
+use Rattle.rina_newest.specs.declared.item.Item.{Item}
+use Rattle.rina_newest.specs.declared.item.Version.{Version}
+use Rattle.rina_newest.specs.Newest.{item_of, taken_all}
+use Rattle.rina_route.specs.declared.link.Link.{Link as Hop}
+use Rattle.rina_agent.specs.declared.agent.Agent.{Agent}
+use Rattle.rina_agent.specs.declared.link.Link.{Link as Managed}
+use Rattle.rina_agent.specs.declared.state.MemberState.TheVariants.{Enrolled}
+use Rattle.rina_agent.specs.Neighbours.{link_key, link_state, member_key}
+use Rattle.rina_plan.specs.declared.dif.LinkPlan.{LinkPlan}
+use Rattle.rina_data.specs.declared.link.Link.{Link}
+use Rattle.rina_data.specs.declared.settings.Member.{Member}
+use Rattle.rina_member.specs.Routing.{edges_from, live_links}
+
+-- the version of an item of the start
+abbrev pub first_version : ℕ → Version
+first_version address = record { tick = 0; count = 0; origin = address }
+
+-- what stands behind the first slash of a name, or all of it
+abbrev pub behind : Option ℕ → List ℕ → List ℕ
+behind None name = name
+behind (Some at) name = drop (at + 1) name
+
+-- the name of a member's node, which stands behind the slash in the member's own name
+unfoldable pub node_of : Member → List ℕ
+node_of m = behind (position (λ b. b == 47) m.name) m.name
+
+-- a link that is up, to a neighbour, as management keeps it
+abbrev pub managed : ℕ → ℕ → ℕ → Managed
+managed number peer weight = record { number = number; peer = Some peer; weight = weight; up = true; enrolment = None }
+
+abbrev pub managed_link : Hop → Managed
+managed_link h = managed h.number h.peer h.weight
+
+-- a neighbour of a member, whatever the link's number is: a link state names no numbers
+abbrev pub neighbour_link : Edge → Managed
+neighbour_link e = managed 0 e.to e.weight
+
+-- the value of the link state of a member from the start: its neighbours, rising
+abbrev pub state_text : List Member → List LinkPlan → Member → List ℕ
+state_text members plans m = link_state None (map neighbour_link (edges_from members m.node plans))
+
+-- the member item of a member, and its link state
+abbrev pub member_item : Member → Item
+member_item m = item_of (member_key m.addr) (first_version m.addr) (Some (node_of m))
+
+abbrev pub state_item : List Member → List LinkPlan → Member → Item
+state_item members plans m = item_of (link_key m.addr) (first_version m.addr) (Some (state_text members plans m))
+
+-- all items of the start, and what a member holds after it took them in this order
+abbrev pub start_items : List Member → List LinkPlan → List Item
+start_items members plans = map member_item members ++ map (state_item members plans) members
+
+abbrev pub items_held : List Member → List LinkPlan → List Item
+items_held members plans = taken_all [] (start_items members plans)
+
+-- the management of a member from the start: it is enrolled, holds all items, made none since, and nothing waits for its links
+unfoldable pub started : List Member → List LinkPlan → Rules → Member → List Link → Agent
+started members plans rules m links = record {
+  state = Enrolled;
+  address = m.addr;
+  name = m.name;
+  node = node_of m;
+  rules = rules;
+  items = items_held members plans;
+  last_count = 0;
+  last_invoke = 0;
+  links = map managed_link (live_links members plans m links);
+  agenda = [];
+}
