@@ -9,6 +9,7 @@ use Rattle.rina_dif.specs.declared.dif.Dif.{Dif}
 use Rattle.rina_dif.specs.Asking.{Asks, KeepsAll}
 use Rattle.rina_dif.specs.Facade.{GoesOn, StaysStanding}
 use Rattle.rina_dif.specs.Holding.{Holds}
+use Rattle.rina_dif.specs.Managing.{AreManagedBy}
 use Rattle.rina_dif.specs.Routing.{HaveRoutes}
 use Rattle.rina_dif.specs.Shown.{seen_of}
 use Rattle.rina_dif.specs.Whole.{IsDif}
@@ -19,7 +20,7 @@ pub kept_seen : (d d' : Dif) → KeepsAll d d' → seen_of d' ≡ seen_of d
 kept_seen d d' k = ap seen_of k.is
 
 pub kept_holds : (d d' : Dif) (lines : List Direction) (below : Seen) → KeepsAll d d' → Holds d lines below → Holds d' lines below
-kept_holds d d' lines below k h = subst (λ (x : Dif). Holds x lines below) (sym k.is) (record { tied = h.tied; standing = h.standing; carrying = h.carrying; numbered = h.numbered; accounted = h.accounted; caused = h.caused; written_off = h.written_off; housed = h.housed; routed = subst (λ (ls : List LinkPlan). HaveRoutes d.settings.members ls d.processes) (sym k.links) h.routed })
+kept_holds d d' lines below k h = subst (λ (x : Dif). Holds x lines below) (sym k.is) (record { tied = h.tied; standing = h.standing; carrying = h.carrying; numbered = h.numbered; accounted = h.accounted; caused = h.caused; written_off = h.written_off; housed = h.housed; routed = subst (λ (ls : List LinkPlan). HaveRoutes d.settings.members ls d.processes) (sym k.links) h.routed; managed = subst (λ (ls : List LinkPlan). AreManagedBy d.settings.members ls d.clock d.processes d.agents) (sym k.links) h.managed })
 
 pub kept_stands : (d d' : Dif) → KeepsAll d d' → StaysStanding d d'
 kept_stands d d' k = λ below s. (s.0, kept_holds d d' s.0 below k s.1)
@@ -34,7 +35,7 @@ kept_valid d d' v k = record {
 pub kept_goes_on : (d d' : Dif) → IsDif d → KeepsAll d d' → GoesOn d d'
 kept_goes_on d d' v k = same_goes_on d d' v (kept_seen d d' k)
 
--- want of memory is noted beside it
+-- whether an allocation failed is noted beside it
 abbrev pub noted : Dif → Bool → Dif
 noted d failed = record d { failed = failed }
 

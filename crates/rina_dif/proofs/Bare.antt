@@ -1,7 +1,8 @@
 -- A DIF without flows stands.
-use Rattle.std.proofs.Common.{◌≡◌, ◌∙◌, ℕ, ◌+◌, List, [], ◌∷◌, ◌++◌, length, map, slice_get, option_map, Option, Some, None, refl, sym, ap, subst, arith, inl, inr, ◌⊎◌}
+use Rattle.std.proofs.Common.{◌≡◌, ◌∙◌, ℕ, ◌+◌, Bool, List, [], ◌∷◌, ◌++◌, length, map, slice_get, option_map, Option, Some, None, refl, sym, ap, subst, arith, inl, inr, ◌⊎◌}
 use Rattle.std.proofs.lemmas.List.{length-map}
 use Rattle.std.proofs.lemmas.Option.{slice_get-map}
+use Rattle.rina_access.specs.declared.rules.Rule.{Rule}
 use Rattle.rina_base.specs.declared.number.Port.{Port}
 use Rattle.rina_iface.specs.declared.ends.End.{End}
 use Rattle.rina_iface.specs.Journal.{AreKept}
@@ -9,7 +10,6 @@ use Rattle.rina_iface.specs.Seen.{Seen, end_of}
 use Rattle.rina_iface.proofs.Grown.{pushed_at}
 use Rattle.rina_queue.specs.declared.queue.Queued.{Queued}
 use Rattle.rina_conn.specs.declared.conn.Conn.{Conn}
-use Rattle.rina_plan.specs.declared.dif.LinkPlan.{LinkPlan}
 use Rattle.rina_flows.specs.Tied.{ids_of}
 use Rattle.rina_data.specs.declared.link.Link.{Link}
 use Rattle.rina_data.specs.declared.link.Route.{Route}
@@ -31,10 +31,11 @@ use Rattle.rina_dif_law.proofs.Warranted.{blank_written}
 use Rattle.rina_dif.specs.declared.dif.Dif.{Dif}
 use Rattle.rina_dif.specs.Building.{AreBare, IsBare, IsFree}
 use Rattle.rina_dif.specs.Holding.{AreHoused, Holds}
-use Rattle.rina_dif.specs.Routing.{HaveRoutes, KnowsLive}
+use Rattle.rina_dif.specs.Managing.{AreManaged, AreStarted}
 use Rattle.rina_dif.specs.Shown.{seen_of}
 use Rattle.rina_dif.proofs.Causing.{none_caused}
-use Rattle.rina_dif.proofs.Routed.{knows_none}
+use Rattle.rina_dif.proofs.Managed.{managed_routed}
+use Rattle.rina_dif.proofs.Started.{bare_managed}
 
 pub none_in : {X : Type 0} (i : ℕ) (x : X) (xs : List X) → xs ≡ [] → slice_get xs i ≡ Some x → ⊥
 none_in i x xs none is = (let e : slice_get [] i ≡ Some x = subst (λ ys. slice_get ys i ≡ Some x) none is in cc)
@@ -111,8 +112,8 @@ pub record IsUntouched (d : Dif) (below : Seen) : Type 0 where
   pub clean : (i : ℕ) (p : IpcProcess) → slice_get d.processes i ≡ Some p → p.ledger ≡ []
 
 -- and stands
-pub start_holds : (d : Dif) (below : Seen) → AreKept below → d.flows.journal.ends ≡ [] → d.flows.conns ≡ [] → IsStart (seen_of d) [] below → IsUntouched d below → AreMembers (config_of d.settings) → AreHoused (config_of d.settings) d.processes → HaveRoutes d.settings.members d.laid.links d.processes → Holds d [] below
-start_holds d below kept ends conns s untouched members housed routed =
+pub start_holds : (d : Dif) (below : Seen) → AreKept below → d.flows.journal.ends ≡ [] → d.flows.conns ≡ [] → IsStart (seen_of d) [] below → IsUntouched d below → AreMembers (config_of d.settings) → AreHoused (config_of d.settings) d.processes → AreManaged d → Holds d [] below
+start_holds d below kept ends conns s untouched members housed managed =
     let no_ends : length d.flows.journal.ends ≡ 0 = ap (λ (es : List End). length es) ends in
     let no_conns : length d.flows.conns ≡ 0 = ap (λ (ks : List Conn). length ks) conns in
     let clean : (i : ℕ) (process : Process) → slice_get (seen_of d).processes i ≡ Some process → process.ledger ≡ [] = λ i process is. (let p = map_at process_of d.processes i process is in ap (λ (z : Process). z.ledger) (sym p.2) ∙ untouched.clean i p.0 p.1) in
@@ -134,22 +135,16 @@ start_holds d below kept ends conns s untouched members housed routed =
       caused = none_caused (seen_of d) below ends;
       written_off = blank_written (seen_of d) clean;
       housed = housed;
-      routed = routed;
+      routed = managed_routed d.settings.members d.laid.links d.clock d.processes d.agents managed;
+      managed = managed;
     }
 
--- without links there are no next hops
-bare_routed : (settings : Settings) (plans : List LinkPlan) (ps : List IpcProcess) → plans ≡ [] → AreBare settings ps → HaveRoutes settings.members plans ps
-bare_routed settings plans ps none bare k m p is_m is =
-    let b = bare.each k p is in
-    let there : KnowsLive settings.members [] m p.links p.routes = subst (KnowsLive settings.members [] m p.links) (sym b.routes) (subst (λ (ls : List Link). KnowsLive settings.members [] m ls []) (sym b.links) (knows_none settings.members m)) in
-    subst (λ (ls : List LinkPlan). KnowsLive settings.members ls m p.links p.routes) (sym none) there
-
 -- so does a DIF without links
-pub bare_holds : (d : Dif) (below : Seen) → AreKept below → d.flows.journal.ends ≡ [] → d.flows.conns ≡ [] → d.laid.links ≡ [] → AreBare d.settings d.processes → IsConfig (config_of d.settings) → AreMembers (config_of d.settings) → d.clock ≡ below.now → IsFree (config_of d.settings) below → Holds d [] below
-bare_holds d below kept ends conns laid bare config members clock free =
+pub bare_holds : (d : Dif) (below : Seen) → AreKept below → d.flows.journal.ends ≡ [] → d.flows.conns ≡ [] → d.laid.links ≡ [] → AreBare d.settings d.processes → (rules : List Rule) (allow : Bool) → AreStarted d.settings.members d.laid.links rules allow (length d.settings.members) d.processes d.agents → IsConfig (config_of d.settings) → AreMembers (config_of d.settings) → d.clock ≡ below.now → IsFree (config_of d.settings) below → Holds d [] below
+bare_holds d below kept ends conns laid bare rules allow started config members clock free =
     let start = starts d below ends conns config clock bare.aligned (λ i member link is has. absurd (no_link d.settings d.processes i link bare has)) (λ port end here mine. absurd (free port end here mine)) (λ port end here mine. absurd (free port end here (inl mine))) (λ i n item waits. no_item d.settings d.processes i n item bare waits) in
     let untouched : IsUntouched d below = record { unread = λ port e here mine. absurd (free port e here (inl mine)); clean = λ i p is. (bare.each i p is).ledger } in
-    start_holds d below kept ends conns start untouched members (λ i p is. (let b = bare.each i p is in record { cap = b.room; links = λ place qos link stands live known. absurd (none_in place link p.links b.links stands); queues = λ dst link qos hop known. absurd (no_hop dst link p.routes b.routes hop) })) (bare_routed d.settings d.laid.links d.processes laid bare)
+    start_holds d below kept ends conns start untouched members (λ i p is. (let b = bare.each i p is in record { cap = b.room; links = λ place qos link stands live known. absurd (none_in place link p.links b.links stands); queues = λ dst link qos hop known. absurd (no_hop dst link p.routes b.routes hop) })) (bare_managed d.settings d.laid.links rules allow d.clock d.processes d.agents laid bare config members started)
 
 -- One by one
 

@@ -150,6 +150,7 @@ holds_aside d lines below below' a h = record {
   written_off = h.written_off;
   housed = h.housed;
   routed = h.routed;
+  managed = h.managed;
 }
 
 -- What a step is to the rank
@@ -175,7 +176,7 @@ no_step d below st = record {
   others = λ other lines apart h. h;
 }
 
--- whether memory was wanted is noted
+-- whether an allocation failed is noted
 pub step_noted : (d : Dif) (below : Seen) (d' : Dif) (failed : Bool) (below' : Seen) → IsStep d below d' below' → IsStep d below (record d' { failed = failed }) below'
 step_noted d below d' failed below' s = record {
   goes_on = record { later = s.goes_on.later; facility = s.goes_on.facility; clock = s.goes_on.clock };

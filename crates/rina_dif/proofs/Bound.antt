@@ -211,6 +211,7 @@ module _ (d : Dif) (fixed : Fixed) (may : MayBind d fixed) (near other : NextEnd
           written_off = bound_written seen lines fixed (seen_of d') lines' h.written_off bound;
           housed = h.housed;
           routed = h.routed;
+          managed = h.managed;
         };
       }
 
@@ -319,11 +320,11 @@ binds_stay d fixed (Ok ports) d' does below st = (let x = does st.0 below st.1 i
 binds_stay d fixed (Err Memory) d' does below st = (let x = does st.0 below st.1 in (st.0, x.1))
 binds_stay d fixed (Err e) d' does below st = absurd (does st.0 below st.1)
 
--- whether memory was wanted is noted
+-- whether an allocation failed is noted
 pub binds_noted : (d : Dif) (lines : List Direction) (below : Seen) (fixed : Fixed) (r : Result (Port × Port) AllocateError) (d' : Dif) (failed : Bool) → BindsTo d lines below fixed r d' → BindsTo d lines below fixed r (record d' { failed = failed })
 binds_noted d lines below fixed (Ok ports) d' failed x = record { lines' = x.lines'; bound = x.bound; a_port = x.a_port; b_port = x.b_port; holds = still x.lines' x.holds }
   where
     still : (ls : List Direction) → Holds d' ls below → Holds (record d' { failed = failed }) ls below
-    still ls h = record { tied = h.tied; standing = h.standing; carrying = h.carrying; numbered = h.numbered; accounted = h.accounted; caused = h.caused; written_off = h.written_off; housed = h.housed; routed = h.routed }
-binds_noted d lines below fixed (Err Memory) d' failed x = (x.0, record { tied = x.1.tied; standing = x.1.standing; carrying = x.1.carrying; numbered = x.1.numbered; accounted = x.1.accounted; caused = x.1.caused; written_off = x.1.written_off; housed = x.1.housed; routed = x.1.routed })
+    still ls h = record { tied = h.tied; standing = h.standing; carrying = h.carrying; numbered = h.numbered; accounted = h.accounted; caused = h.caused; written_off = h.written_off; housed = h.housed; routed = h.routed; managed = h.managed }
+binds_noted d lines below fixed (Err Memory) d' failed x = (x.0, record { tied = x.1.tied; standing = x.1.standing; carrying = x.1.carrying; numbered = x.1.numbered; accounted = x.1.accounted; caused = x.1.caused; written_off = x.1.written_off; housed = x.1.housed; routed = x.1.routed; managed = x.1.managed })
 binds_noted d lines below fixed (Err e) d' failed x = absurd x

@@ -93,6 +93,7 @@ holds_claimed d waiting lines below h = (let st = h.standing in record {
   written_off = λ i m p off is. h.written_off i m p off (record { is_member = is.is_member; is_process = is.is_process });
   housed = h.housed;
   routed = h.routed;
+  managed = h.managed;
 })
 
 pub claimed_stays : (d : Dif) (waiting : Vec ℕ) → StaysStanding d (with_waiting d waiting)

@@ -3,6 +3,7 @@ use Rattle.std.proofs.Common.{◌≡◌, ◌∙◌, ℕ, ◌+◌, ◌<◌, ◌�
 use Rattle.std.specs.Prelude.{◌↔◌}
 use Rattle.std.proofs.lemmas.Bool.{cases_lt, false≢true}
 use Rattle.std.proofs.lemmas.Option.{slice_get_within}
+use Rattle.rina_agent.specs.declared.agent.Agent.{Agent}
 use Rattle.rina_base.specs.declared.number.Num.{Num}
 use Rattle.rina_iface.specs.Seen.{Seen}
 use Rattle.rina_law.specs.Direction.{Direction}
@@ -24,6 +25,7 @@ use Rattle.rina_dif.specs.declared.clock_steps.Turn.{Turn}
 use Rattle.rina_dif.specs.declared.dif.Dif.{Dif}
 use Rattle.rina_dif.specs.Clocking.{FindsFirst, HasStepped, HasSteppedFlow, IsDueAt, IsIdle, IsIn, IsTurn, NoneLostAt, StepsFlowHere, StepsHere, earlier}
 use Rattle.rina_dif.specs.Holding.{Holds}
+use Rattle.rina_dif.specs.Managing.{ManagesStep}
 use Rattle.rina_dif.specs.Shown.{seen_of}
 use Rattle.rina_dif.specs.Timely.{AcknowledgesAs, ForgetsAs, GivesUpAs, IsHomeEnd, SendsAgainAs}
 use Rattle.rina_dif.specs.Unlinking.{FindsLostAt, LosesAs}
@@ -214,7 +216,7 @@ never_silent d lines below node at cep d' turn (none, same) = none turn.first.du
 pub none_due : (d : Dif) (lines : List Direction) (below : Seen) (node : ℕ) → IsIdle d lines node → Holds d lines below → HasSteppedFlow d lines below node step.Idle d
 none_due d lines below node idle h = record { lines' = lines; does = (idle, refl, refl); holds = h }
 
--- memory was wanted
+-- an allocation failed
 pub steps_err : (d : Dif) (lines : List Direction) (below : Seen) (node : ℕ) (r : Result ClockStep StepError) (e : StepError) (d' : Dif) → e ≡ why.Memory → r ≡ Err e → (seen_of d' ≡ seen_of d) × Holds d' lines below → StepsFlowHere d lines below node r d'
 steps_err d lines below node r e d' is err same = subst (λ (v : Result ClockStep StepError). StepsFlowHere d lines below node v d') (sym (err ∙ ap (λ (z : StepError). Err z) is)) same
 
@@ -242,6 +244,19 @@ flow_first d lines below node (Ok done) d' none s = done_first d lines below nod
 flow_first d lines below node (Err why.Memory) d' none s = s
 flow_first d lines below node (Err why.NoIpc) d' none s = absurd s
 flow_first d lines below node (Err why.NoLink) d' none s = absurd s
+
+-- it does nothing to the managements
+pub flow_manages : (d : Dif) (lines : List Direction) (below : Seen) (node : ℕ) (r : Result ClockStep StepError) (d' : Dif) (home : Option ℕ) (now : ℕ) (old new : List Agent) → StepsFlowHere d lines below node r d' → new ≡ old → ManagesStep r home now old new
+flow_manages d lines below node (Ok step.Idle) d' home now old new s same = same
+flow_manages d lines below node (Ok (step.Gone cep)) d' home now old new s same = same
+flow_manages d lines below node (Ok (step.GaveUp num)) d' home now old new s same = same
+flow_manages d lines below node (Ok (step.Ack cep)) d' home now old new s same = same
+flow_manages d lines below node (Ok (step.Again num)) d' home now old new s same = same
+flow_manages d lines below node (Ok (step.LinkLost link)) d' home now old new s same = absurd s.does
+flow_manages d lines below node (Ok (step.LinkNew link)) d' home now old new s same = absurd s.does
+flow_manages d lines below node (Ok (step.Timeout port)) d' home now old new s same = absurd s.does
+flow_manages d lines below node (Ok (step.Message link)) d' home now old new s same = absurd s.does
+flow_manages d lines below node (Err e) d' home now old new s same = same
 
 pub link_err : (d : Dif) (lines : List Direction) (below : Seen) (node : ℕ) (r : Result ClockStep StepError) (e : StepError) (d' : Dif) → e ≡ why.Memory → r ≡ Err e → (seen_of d' ≡ seen_of d) × Holds d' lines below → StepsHere d lines below node r d'
 link_err d lines below node r e d' is err same = subst (λ (v : Result ClockStep StepError). StepsHere d lines below node v d') (sym (err ∙ ap (λ (z : StepError). Err z) is)) same

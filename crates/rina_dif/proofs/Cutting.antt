@@ -2,6 +2,8 @@
 use Rattle.std.proofs.Common.{◌≡◌, ◌≢◌, ◌∙◌, ℕ, zero, suc, ◌<◌, ◌⊎◌, List, get_or, length, slice_get, slice_set, Option, Some, Result, Ok, Err, refl, sym, ap, subst, arith, inl, inr, set-set}
 use Rattle.std.proofs.lemmas.Option.{slice_get_read}
 use Rattle.rina_account.specs.declared.ledger.Off.{Off}
+use Rattle.rina_agent.specs.declared.agent.Agent.{Agent}
+use Rattle.rina_agent.specs.Rows.{lost as loses_link}
 use Rattle.rina_base.specs.declared.memory.Memory.{Memory}
 use Rattle.rina_base.specs.declared.number.Port.{Port}
 use Rattle.rina_iface.specs.declared.ends.End.{End}
@@ -30,15 +32,17 @@ use Rattle.rina_flows.specs.declared.flows.Flows.{Flows}
 use Rattle.rina_flows.specs.Delivering.{HasStopped}
 use Rattle.rina_flows.specs.Stopping.{MayStop, StopFirst}
 use Rattle.rina_flows.proofs.Gone.{is_ended}
+use Rattle.rina_member.specs.Knowing.{AreRoutesOf}
 use Rattle.rina_dif.specs.declared.dif.Dif.{Dif}
 use Rattle.rina_dif.specs.Holding.{Holds}
+use Rattle.rina_dif.specs.Managing.{IsWithout}
 use Rattle.rina_dif.specs.Shown.{seen_of}
-use Rattle.rina_dif.specs.Unlinking.{FindsLostAt, FindsNoneLeft, KnowsWithout, LosesAs, LosesLast, LosesLastIn, LosesThenStops, LosesWith}
+use Rattle.rina_dif.specs.Unlinking.{FindsLostAt, FindsNoneLeft, LosesAs, LosesLast, LosesLastIn, LosesThenStops, LosesWith}
 use Rattle.rina_dif.proofs.Causing.{failed_below, failed_caused}
 use Rattle.rina_dif.proofs.Keeping.{home_set}
 use Rattle.rina_dif.proofs.Leaves.{has_process, shown_at}
 use Rattle.rina_dif.proofs.Owning.{arrived_seen}
-use Rattle.rina_dif.proofs.Unlinked.{has_member, keeps_links, link_lost, lost_with}
+use Rattle.rina_dif.proofs.Unlinked.{has_agent, has_member, keeps_links, link_lost, lost_with}
 
 same_some : {X : Type 0} (o : Option X) (a b : X) → o ≡ Some a → o ≡ Some b → a ≡ b
 same_some o a b h g = cc
@@ -83,15 +87,16 @@ stages_fail d i (suc n) node p q fail lines f f' l l' is here s = (seen_of (stag
 failed_other : (fail : Fail) → Failed fail ≢ Allocated
 failed_other fail e = absurd cc
 
-last_fails : (d : Dif) (at node : ℕ) (lost : Lost) (port : Port) (routes : List Route) (flows : Flows) (p p' : IpcProcess) → at < length d.settings.members → home node (config_of d.settings).members ≡ Some at → slice_get d.processes at ≡ Some p → KnowsWithout d at lost.place routes → LosesThenStops d.clock node (Failed (Below port)) lost.place routes d.flows p flows p' → queue_settings p' ≡ queue_settings p
-    → (lines : List Direction) (below : Seen) → Holds d lines below → FindsLostAt d below at (Some lost) → FindsNoneLeft d below at lost.place (Some port) → LosesAs d lines below at node lost.number (Ok tt) (record d { flows = flows; processes = slice_set d.processes at p' })
-last_fails d at node lost port routes flows p p' lt here is knows s room lines below h finds left =
+last_fails : (d : Dif) (at node : ℕ) (lost : Lost) (port : Port) (routes : List Route) (flows : Flows) (p p' : IpcProcess) (g' : Agent) → at < length d.settings.members → home node (config_of d.settings).members ≡ Some at → slice_get d.processes at ≡ Some p → IsWithout d at lost.number g' → AreRoutesOf g' d.settings.members routes → LosesThenStops d.clock node (Failed (Below port)) lost.place routes d.flows p flows p' → queue_settings p' ≡ queue_settings p
+    → (lines : List Direction) (below : Seen) → Holds d lines below → FindsLostAt d below at (Some lost) → FindsNoneLeft d below at lost.place (Some port) → LosesAs d lines below at node lost.number (Ok tt) (record d { flows = flows; processes = slice_set d.processes at p'; agents = slice_set d.agents at g' })
+last_fails d at node lost port routes flows p p' g' lt here is goes are s room lines below h finds left =
     let g : Config = config_of d.settings in
     let m = has_member d at lt in
+    let k = has_agent d lines below at lt h in
     let p1 : IpcProcess = record p' { ledger = s.ledger } in
-    let mid : Dif = record d { processes = slice_set d.processes at p1 } in
-    let d' : Dif = record d { flows = flows; processes = slice_set d.processes at p' } in
-    let l = link_lost d lines below at lost routes m.0 p p1 m.1 is knows s.loses room h finds in
+    let mid : Dif = record d { processes = slice_set d.processes at p1; agents = slice_set d.agents at g' } in
+    let d' : Dif = record d { flows = flows; processes = slice_set d.processes at p'; agents = slice_set d.agents at g' } in
+    let l = link_lost d lines below at lost routes m.0 p p1 k.0 g' m.1 is k.1 (goes k.0 k.1) are s.loses room h finds in
     let told = left l.process l.link l.is_process l.stands in
     let all = s.stops g lines l.holds.standing.journal l.holds.tied tt (failed_other (Below port)) s.fits in
     let fails = stages_fail d at (length d.flows.journal.ends) node p' p (Below port) lines d.flows flows s.ledger p'.ledger is here all.0 in
@@ -110,19 +115,28 @@ last_fails d at node lost port routes flows p p' lt here is knows s room lines b
         written_off = failed_written (seen_of mid) lines below node l.link.port (seen_of d') l.holds.standing l.holds.numbered l.holds.written_off by;
         housed = house.housed;
         routed = house.routed;
+        managed = house.managed;
       },
     )
 
-pub last_loses : (d : Dif) (at node : ℕ) (lost : Lost) (port : Port) (routes : List Route) (r : Result (Unit {0}) Memory) (flows : Flows) (ps : List IpcProcess) → at < length d.settings.members → home node (config_of d.settings).members ≡ Some at → KnowsWithout d at lost.place routes → LosesLastIn d.clock node (Failed (Below port)) lost.place routes r at d.flows d.processes flows ps
-    → (lines : List Direction) (below : Seen) → Holds d lines below → FindsLostAt d below at (Some lost) → FindsNoneLeft d below at lost.place (Some port) → LosesAs d lines below at node lost.number r (record d { flows = flows; processes = ps })
-last_loses d at node lost port routes (Ok done) flows ps lt here knows loses lines below h finds left =
+pub last_loses : (d : Dif) (at node : ℕ) (lost : Lost) (port : Port) (g' : Agent) (routes : List Route) (flows : Flows) (ps : List IpcProcess) → at < length d.settings.members → home node (config_of d.settings).members ≡ Some at → IsWithout d at lost.number g' → AreRoutesOf g' d.settings.members routes → LosesLastIn d.clock node (Failed (Below port)) lost.place routes (Ok tt) at d.flows d.processes flows ps
+    → (lines : List Direction) (below : Seen) → Holds d lines below → FindsLostAt d below at (Some lost) → FindsNoneLeft d below at lost.place (Some port) → LosesAs d lines below at node lost.number (Ok tt) (record d { flows = flows; processes = ps; agents = slice_set d.agents at g' })
+last_loses d at node lost port g' routes flows ps lt here goes are loses lines below h finds left =
     let p = has_process d below at (lines, h) lt in
     let x = loses p.0 p.1 in
-    subst (λ (qs : List IpcProcess). LosesAs d lines below at node lost.number (Ok tt) (record d { flows = flows; processes = qs })) (sym x.3) (last_fails d at node lost port routes flows p.0 x.0 lt here p.1 knows x.1 x.2 lines below h finds left)
-last_loses d at node lost port routes (Err e) flows ps lt here knows loses lines below h finds left =
+    subst (λ (qs : List IpcProcess). LosesAs d lines below at node lost.number (Ok tt) (record d { flows = flows; processes = qs; agents = slice_set d.agents at g' })) (sym x.3) (last_fails d at node lost port routes flows p.0 x.0 g' lt here p.1 goes are x.1 x.2 lines below h finds left)
+
+-- the flows are as they were, and so is the IPC process at a place
+abbrev pub StaysWith : ℕ → Flows → List IpcProcess → Flows → List IpcProcess → Type 0
+StaysWith at flows old flows' new = (p : IpcProcess) → slice_get old at ≡ Some p → (p' : IpcProcess) × ((flows' ≡ flows) × (process_of p' ≡ process_of p)) × (queue_settings p' ≡ queue_settings p) × (new ≡ slice_set old at p')
+
+-- an allocation failed, and nothing changes
+pub last_stays : (d : Dif) (at node : ℕ) (lost : Lost) (r : Result (Unit {0}) Memory) (flows : Flows) (ps : List IpcProcess) → at < length d.settings.members → StaysWith at d.flows d.processes flows ps → (e : Memory) → r ≡ Err e
+    → (lines : List Direction) (below : Seen) → Holds d lines below → LosesAs d lines below at node lost.number r (record d { flows = flows; processes = ps })
+last_stays d at node lost r flows ps lt stays e is lines below h =
     let p = has_process d below at (lines, h) lt in
-    let x = loses p.0 p.1 in
-    subst (λ (f : Flows). LosesAs d lines below at node lost.number (Err e) (record d { flows = f; processes = ps })) (sym x.1.0) (keeps_links d lines below at p.0 x.0 ps p.1 x.1.1 x.2 x.3 h)
+    let x = stays p.0 p.1 in
+    subst (λ (v : Result (Unit {0}) Memory). LosesAs d lines below at node lost.number v (record d { flows = flows; processes = ps })) (sym is) (subst (λ (f : Flows). LosesAs d lines below at node lost.number (Err e) (record d { flows = f; processes = ps })) (sym x.1.0) (keeps_links d lines below at p.0 x.0 ps p.1 x.1.1 x.2 x.3 h))
 
 -- What a rank sees of it
 

@@ -46,6 +46,7 @@ use Rattle.rina_dif.specs.Holding.{Stands}
 use Rattle.rina_dif.specs.Taking.{ArrivesTo, Comes, DecidesAt, IsOwn, NotesAt}
 use Rattle.rina_dif.specs.Timely.{ForwardsAt, GivesUp, IsHomeEnd, SendsAgain, WithLedger}
 use Rattle.rina_dif.specs.Unlinking.{LosesIn, LosesLastIn}
+use Rattle.rina_dif.proofs.Cutting.{StaysWith}
 use Rattle.rina_dif.proofs.Leaves.{has_process}
 
 -- Answers
@@ -127,6 +128,13 @@ last_leaves d below node state place routes r at flows ps st lt does =
     let p = has_process d below at st lt in
     let x = does p.0 p.1 in
     by_process d.processes ps at p.0 x.0 p.1 x.2 x.3
+
+-- an allocation failed, and no end changed
+pub last_failed_leaves : (d : Dif) (below : Seen) (r : Result (Unit {0}) Memory) (at : ℕ) (flows : Flows) (ps : List IpcProcess) → Stands d below → at < length d.settings.members → StaysWith at d.flows d.processes flows ps → ChangesOnly (λ i. WhenOk r (IsEndOf d (Some at) i)) (Some at) d (record d { flows = flows; processes = ps })
+last_failed_leaves d below r at flows ps st lt stays =
+    let p = has_process d below at st lt in
+    let x = stays p.0 p.1 in
+    (flows_none (λ i. WhenOk r (IsEndOf d (Some at) i)) d.flows flows x.1.0, by_process d.processes ps at p.0 x.0 p.1 x.2 x.3)
 
 -- Memory was not found, and no end changed
 

@@ -29,7 +29,9 @@ use Rattle.rina_dif_law.specs.Sending.{home}
 use Rattle.rina_dif_law.proofs.Finding.{beside}
 use Rattle.rina_dif.specs.declared.dif.Dif.{Dif}
 use Rattle.rina_dif.specs.Clocking.{ClockSteps, FailsBelow, FailsLate, IsLate, Steps, StepsFlow, StepsHere, StepsLost, StepsOk}
+use Rattle.rina_dif.specs.Elsewhere.{home_of}
 use Rattle.rina_dif.specs.Holding.{Holds}
+use Rattle.rina_dif.specs.Managing.{ManagesStep}
 use Rattle.rina_dif.specs.Shown.{seen_of}
 use Rattle.rina_dif.specs.Steps.{AtHome}
 use Rattle.rina_dif.specs.Unlinking.{NoneLeft, links_without}
@@ -186,26 +188,29 @@ at_home o i P Q is p = subst (λ (z : Option ℕ). AtHome z P Q) (sym is) p
 not_home : (o : Option ℕ) (P : ℕ → Type 0) (Q : Type 0) → o ≡ None → Q → AtHome o P Q
 not_home o P Q is q = subst (λ (z : Option ℕ). AtHome z P Q) (sym is) q
 
--- whether memory was wanted is not seen
+-- whether an allocation failed is not seen
 noted : (d : Dif) (lines : List Direction) (below : Seen) (failed : Bool) → Holds d lines below → Holds (record d { failed = failed }) lines below
-noted d lines below failed h = record { tied = h.tied; standing = h.standing; carrying = h.carrying; numbered = h.numbered; accounted = h.accounted; caused = h.caused; written_off = h.written_off; housed = h.housed; routed = h.routed }
+noted d lines below failed h = record { tied = h.tied; standing = h.standing; carrying = h.carrying; numbered = h.numbered; accounted = h.accounted; caused = h.caused; written_off = h.written_off; housed = h.housed; routed = h.routed; managed = h.managed }
 
-steps_by : (d : Dif) (lines : List Direction) (below : Seen) (node i : ℕ) (r : Result ClockStep StepError) (d' : Dif) (failed : Bool) → home node (config_of d.settings).members ≡ Some i → StepsHere d lines below node r d' → ClockSteps d lines below node r (record d' { failed = failed }) below
-steps_by d lines below node i (Ok done) d' failed here s = record {
+steps_by : (d : Dif) (lines : List Direction) (below : Seen) (node i : ℕ) (r : Result ClockStep StepError) (d' : Dif) (failed : Bool) → home node (config_of d.settings).members ≡ Some i → StepsHere d lines below node r d' → ManagesStep r (home_of d node) d.clock d.agents d'.agents → ClockSteps d lines below node r (record d' { failed = failed }) below
+steps_by d lines below node i (Ok done) d' failed here s managed = record {
   lines' = s.lines';
   does = at_home (home node (config_of d.settings).members) i (λ n. StepsOk d lines below node (Ok done) (record d' { failed = failed }) s.lines') _ here s.does;
+  managed = managed;
   same_below = refl;
   holds = noted d' s.lines' below failed s.holds;
 }
-steps_by d lines below node i (Err why.Memory) d' failed here s = record { lines' = lines; does = (s.0, refl); same_below = refl; holds = noted d' lines below failed s.1 }
-steps_by d lines below node i (Err why.NoIpc) d' failed here s = absurd s
-steps_by d lines below node i (Err why.NoLink) d' failed here s = absurd s
+steps_by d lines below node i (Err why.Memory) d' failed here s managed = record { lines' = lines; does = (s.0, refl); managed = managed; same_below = refl; holds = noted d' lines below failed s.1 }
+steps_by d lines below node i (Err why.NoIpc) d' failed here s managed = absurd s
+steps_by d lines below node i (Err why.NoLink) d' failed here s managed = absurd s
 
-pub steps_home : (d : Dif) (lines : List Direction) (below : Seen) (node i : ℕ) (r r' : Result ClockStep StepError) (d' : Dif) (failed : Bool) → home node (config_of d.settings).members ≡ Some i → r' ≡ r → StepsHere d lines below node r d' → ClockSteps d lines below node r' (record d' { failed = failed }) below
-steps_home d lines below node i r r' d' failed here same s = subst (λ (v : Result ClockStep StepError). ClockSteps d lines below node v (record d' { failed = failed }) below) (sym same) (steps_by d lines below node i r d' failed here s)
+pub steps_home : (d : Dif) (lines : List Direction) (below : Seen) (node i : ℕ) (r r' : Result ClockStep StepError) (d' : Dif) (failed : Bool) → home node (config_of d.settings).members ≡ Some i → r' ≡ r → StepsHere d lines below node r d' → ManagesStep r (Some i) d.clock d.agents d'.agents → ClockSteps d lines below node r' (record d' { failed = failed }) below
+steps_home d lines below node i r r' d' failed here same s managed =
+    let there : ManagesStep r (home_of d node) d.clock d.agents d'.agents = subst (λ (o : Option ℕ). ManagesStep r o d.clock d.agents d'.agents) (sym here) managed in
+    subst (λ (v : Result ClockStep StepError). ClockSteps d lines below node v (record d' { failed = failed }) below) (sym same) (steps_by d lines below node i r d' failed here s there)
 
 pub steps_none : (d : Dif) (lines : List Direction) (below : Seen) (node : ℕ) → Holds d lines below → ClockSteps d lines below node (Err why.Memory) d below
-steps_none d lines below node h = record { lines' = lines; does = (refl, refl); same_below = refl; holds = h }
+steps_none d lines below node h = record { lines' = lines; does = (refl, refl); managed = refl; same_below = refl; holds = h }
 
 pub steps_nowhere : (d : Dif) (lines : List Direction) (below : Seen) (node : ℕ) → home node (config_of d.settings).members ≡ None → Holds d lines below → ClockSteps d lines below node (Err why.NoIpc) d below
-steps_nowhere d lines below node none h = record { lines' = lines; does = not_home (home node (config_of d.settings).members) (λ i. StepsOk d lines below node (Err why.NoIpc) d lines) _ none (refl, refl, refl); same_below = refl; holds = h }
+steps_nowhere d lines below node none h = record { lines' = lines; does = not_home (home node (config_of d.settings).members) (λ i. StepsOk d lines below node (Err why.NoIpc) d lines) _ none (refl, refl, refl); managed = refl; same_below = refl; holds = h }

@@ -96,6 +96,7 @@ closes d i at end (Ok done) flows ps lt here is allocated stops lines below h =
         written_off = ended_written (seen_of d) lines below at Closed (seen_of d') h.standing h.numbered h.written_off ended;
         housed = house.housed;
         routed = house.routed;
+        managed = house.managed;
       };
     }
 closes d i at end (Err e) flows ps lt here is allocated stops lines below h =
@@ -207,14 +208,15 @@ withdraws d at end flows is not conns ends lines below h =
         written_off = subst AreWrittenOff (sym seen) (λ i m p off it stands. h.written_off i m p off (record { is_member = it.is_member; is_process = it.is_process }) stands);
         housed = h.housed;
         routed = h.routed;
+        managed = h.managed;
       };
     }
 
 -- The call
 
--- whether memory was wanted is noted
+-- whether an allocation failed is noted
 holds_noted : (d : Dif) (failed : Bool) (lines : List Direction) (below : Seen) → Holds d lines below → Holds (record d { failed = failed }) lines below
-holds_noted d failed lines below h = record { tied = h.tied; standing = h.standing; carrying = h.carrying; numbered = h.numbered; accounted = h.accounted; caused = h.caused; written_off = h.written_off; housed = h.housed; routed = h.routed }
+holds_noted d failed lines below h = record { tied = h.tied; standing = h.standing; carrying = h.carrying; numbered = h.numbered; accounted = h.accounted; caused = h.caused; written_off = h.written_off; housed = h.housed; routed = h.routed; managed = h.managed }
 
 -- what `free` does, whatever it stands on
 abbrev pub FreesFor : Dif → Port → Result (Unit {0}) FreeError → Dif → Type 0

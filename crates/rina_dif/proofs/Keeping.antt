@@ -19,7 +19,10 @@ use Rattle.rina_data.specs.Process.{Process, Queue, next_hop, queue_place}
 use Rattle.rina_dif_law.specs.Sending.{home}
 use Rattle.rina_dif.specs.declared.dif.Dif.{Dif}
 use Rattle.rina_dif.specs.Holding.{AreHoused, HasQueues, HaveQueues, Holds, IsHoused}
-use Rattle.rina_dif.specs.Routing.{HaveRoutes, KnowsLive}
+use Rattle.rina_member.specs.Routing.{KnowsLive}
+use Rattle.rina_dif.specs.Managing.{AreManagedBy}
+use Rattle.rina_dif.specs.Routing.{HaveRoutes}
+use Rattle.rina_dif.proofs.Managed.{managed_set}
 
 place_map : {X Y : Type 0} → (h : X → Y) (p : Y → Bool) (xs : List X) → position_or_len p (map h xs) ≡ position_or_len (λ x. p (h x)) xs
 place_map h p [] = refl
@@ -103,13 +106,15 @@ routed_set members plans ps at p p' routed is same = routes_set members plans ps
     let moved : KnowsLive members plans m p'.links p.routes = subst (λ (ls : List Link). KnowsLive members plans m ls p.routes) (sym same.links) was in
     subst (λ (rs : List Route). KnowsLive members plans m p'.links rs) (sym same.routes) moved))
 
--- what holds of the IPC processes of a DIF: they are housed, and have their next hops
+-- what holds of the IPC processes of a DIF: they are housed, have their next hops, and are managed
 pub record AreHome (d : Dif) (ps : List IpcProcess) : Type 0 where
   pub housed : AreHoused (config_of d.settings) ps
   pub routed : HaveRoutes d.settings.members d.laid.links ps
+  pub managed : AreManagedBy d.settings.members d.laid.links d.clock ps d.agents
 
 pub home_set : (d : Dif) (lines : List Direction) (below : Seen) (at : ℕ) (p p' : IpcProcess) (ps : List IpcProcess) → Holds d lines below → slice_get d.processes at ≡ Some p → queue_settings p' ≡ queue_settings p → IsSameHouse (process_of p) (process_of p') → ps ≡ slice_set d.processes at p' → AreHome d ps
 home_set d lines below at p p' ps h is room same new = record {
   housed = subst (AreHoused (config_of d.settings)) (sym new) (housed_set (config_of d.settings) d.processes at p p' h.housed is (ap (λ (s : QueueSettings). s.cap) room) same);
   routed = subst (HaveRoutes d.settings.members d.laid.links) (sym new) (routed_set d.settings.members d.laid.links d.processes at p p' h.routed is same);
+  managed = subst (λ (qs : List IpcProcess). AreManagedBy d.settings.members d.laid.links d.clock qs d.agents) (sym new) (managed_set d.settings.members d.laid.links d.clock d.processes d.agents at p p' is same.links same.routes h.managed);
 }

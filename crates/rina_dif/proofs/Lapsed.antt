@@ -88,6 +88,7 @@ forgets d i at (Ok true) flows ps lt here does lines below h =
           written_off = forgotten_written (seen_of d) lines below at (seen_of d') f.lines' h.standing h.numbered h.written_off forgotten;
           housed = house.housed;
           routed = house.routed;
+          managed = house.managed;
         };
       },
       x.1.0,
@@ -125,6 +126,7 @@ gives_up d i at (Ok (Some num)) flows ps lt here does lines below h =
         written_off = ended_written (seen_of d) lines below at _ (seen_of d') h.standing h.numbered h.written_off ended;
         housed = house.housed;
         routed = house.routed;
+        managed = house.managed;
       };
     }
 gives_up d i at (Ok None) flows ps lt here does lines below h =

@@ -137,6 +137,7 @@ leaves_hold refuses d below at n r ps below' kept kept' lt leaves lines h =
       written_off = outs_written refuses (seen_of d) lines below at n r (seen_of d') below' h.standing h.written_off outs;
       housed = house.housed;
       routed = house.routed;
+      managed = house.managed;
     }
 
 -- By node

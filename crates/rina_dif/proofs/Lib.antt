@@ -19,6 +19,7 @@ pub mod Lastly
 pub mod Leaves
 pub mod Linked
 pub mod Made
+pub mod Managed
 pub mod Moves
 pub mod Named
 pub mod Owning
@@ -32,6 +33,7 @@ pub mod Sent
 pub mod Settling
 pub mod Shelves
 pub mod Sound
+pub mod Started
 pub mod Taken
 pub mod Texts
 pub mod Told

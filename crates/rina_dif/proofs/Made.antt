@@ -10,14 +10,12 @@ use Rattle.rina_iface.specs.declared.ask.Fixed.{Fixed}
 use Rattle.rina_iface.specs.declared.ends.End.{End}
 use Rattle.rina_iface.specs.Journal.{AreKept}
 use Rattle.rina_iface.specs.Seen.{Seen, end_of}
-use Rattle.rina_iface.proofs.Changed.{all_at}
 use Rattle.rina_plan.specs.declared.dif.LinkPlan.{LinkPlan}
 use Rattle.rina_plan.specs.declared.dif.DifPlan.{DifPlan}
 use Rattle.rina_plan.specs.declared.dif.MemberPlan.{MemberPlan}
 use Rattle.rina_queue.specs.declared.queue.Queued.{Queued}
 use Rattle.rina_queue.proofs.Places.{kept_at}
 use Rattle.rina_stack.specs.declared.plan.Plan.{Plan}
-use Rattle.rina_stack.specs.Ranges.{IsRangedDif, IsSoundLink}
 use Rattle.rina_stack.specs.Plan.{IsPlan}
 use Rattle.rina_data.specs.declared.link.Link.{Link}
 use Rattle.rina_data.specs.declared.process.IpcProcess.{IpcProcess}
@@ -37,11 +35,15 @@ use Rattle.rina_dif.specs.Building.{IsFree, queue_ids}
 use Rattle.rina_dif.specs.Holding.{Stands}
 use Rattle.rina_dif.specs.Laying.{AreLaid, AreLinkedUp, AreSettings, BindsAll, CanLay, IsLaidIn, IsLinkedUp, IsNew, IsNewProcess, Takes, ends_of, links_from, ports_at}
 use Rattle.rina_dif.specs.Planned.{ipc_name, link_fixed, links_in, links_of, members_from, processes_before, settings_by, settings_in, settings_of}
-use Rattle.rina_dif.specs.Routing.{AreRouted, HaveRoutes, Weigh}
+use Rattle.rina_agent.specs.declared.agent.Agent.{Agent}
+use Rattle.rina_dif.specs.Managing.{AreManagedBy, AreStarted}
+use Rattle.rina_dif.specs.Routing.{AreRouted, HaveRoutes}
 use Rattle.rina_dif.proofs.Bare.{IsUntouched, map_at, none_in, start_holds, starts}
 use Rattle.rina_dif.proofs.Laid.{same_end, stood_there}
-use Rattle.rina_dif.proofs.Routed.{all_know, laid_still, live_hop}
+use Rattle.rina_dif.proofs.Managed.{managed_routed}
+use Rattle.rina_dif.proofs.Routed.{laid_still, live_hop}
 use Rattle.rina_dif.proofs.Sound.{are_members, is_config}
+use Rattle.rina_dif.proofs.Started.{made_managed, started_still}
 
 -- The links
 
@@ -113,9 +115,9 @@ has_place s node ports p place qos link up is known = subst (λ (o : Option ℕ)
 
 -- It stands
 
-pub made_stands : (plan : Plan) (i : ℕ) (dif : DifPlan) (d : Dif) (old new : Seen) → AreKept new → IsPlan plan → slice_get plan.difs i ≡ Some dif → d.settings ≡ settings_by plan i dif → d.clock ≡ old.now → d.flows.journal.ends ≡ [] → d.flows.conns ≡ [] → IsFree (config_of d.settings) old → IsLaidIn (config_of d.settings) old new → (bare : List IpcProcess) → AreLaid plan dif d.settings dif.links old new bare → AreRouted d.settings.members dif.links (length d.settings.members) bare d.processes → d.laid.links ≡ dif.links → Stands d new
-made_stands plan i dif d old new kept sound at are clock ends conns free inside bare was routed same =
-    let laid = laid_still plan dif d.settings dif.links old new (length d.settings.members) bare d.processes was routed in
+pub made_stands : (plan : Plan) (i : ℕ) (dif : DifPlan) (d : Dif) (old new : Seen) → AreKept new → IsPlan plan → slice_get plan.difs i ≡ Some dif → d.settings ≡ settings_by plan i dif → d.clock ≡ old.now → d.flows.journal.ends ≡ [] → d.flows.conns ≡ [] → IsFree (config_of d.settings) old → IsLaidIn (config_of d.settings) old new → (bare : List IpcProcess) → AreLaid plan dif d.settings dif.links old new bare → AreStarted d.settings.members dif.links dif.rules dif.allow (length d.settings.members) bare d.agents → AreRouted d.settings.members d.agents (length d.agents) bare d.processes → d.laid.links ≡ dif.links → Stands d new
+made_stands plan i dif d old new kept sound at are clock ends conns free inside bare was started routed same =
+    let laid = laid_still plan dif d.settings dif.links old new d.agents (length d.agents) bare d.processes was routed in
     let g = config_of d.settings in
     let config : IsConfig g = subst (λ (s : Settings). IsConfig (config_of s)) (sym are) (is_config plan i dif sound at) in
     let fresh = λ (port : Port) (end : End) (here : end_of new port ≡ Some end) (mine : IsMine g.members end.app ⊎ IsMine g.members end.peer) (P : Type 0) (then : end_of old port ≡ None → P).
@@ -133,7 +135,8 @@ made_stands plan i dif d old new kept sound at are clock ends conns free inside 
           (laid.up.each k m.0 p m.1 is).ledger;
     } in
     let members = subst (λ (s : Settings). AreMembers (config_of s)) (sym are) (are_members plan i dif sound at) in
-    let routes = all_know d.settings.members dif.links bare d.processes routed in (
+    let managed : AreManagedBy d.settings.members dif.links d.clock d.processes d.agents = made_managed plan i dif d old new bare sound at are config members was started routed in
+    let routes = managed_routed d.settings.members dif.links d.clock d.processes d.agents managed in (
       [],
       start_holds d new kept ends conns start untouched members (λ k p is.
           let within = slice_get_within d.processes k p is in
@@ -145,7 +148,7 @@ made_stands plan i dif d old new kept sound at are clock ends conns free inside 
             queues = λ dst link qos hop known.
                 let own = live_hop d.settings.members dif.links m.0 p.links p.routes dst link (routes k m.0 p m.1 is) hop in
                 subst (λ (n : ℕ). IsSome (queue_place qos n (process_of p).queues)) own.4 (has_place d.settings m.0.node (ends_of laid.ports) p own.0 qos own.1 up own.2 known);
-          }) (subst (λ (ls : List LinkPlan). HaveRoutes d.settings.members ls d.processes) (sym same) routes),
+          }) (subst (λ (ls : List LinkPlan). AreManagedBy d.settings.members ls d.clock d.processes d.agents) (sym same) managed),
     )
 
 -- What it is
@@ -166,9 +169,16 @@ new_process s node ports p up = record {
   ledger = up.ledger;
 }
 
-pub made_new : (plan : Plan) (i : ℕ) (dif : DifPlan) (d : Dif) (old new : Seen) → slice_get plan.difs i ≡ Some dif → d.settings ≡ settings_by plan i dif → d.clock ≡ old.now → d.failed ≡ false → d.flows.journal.ends ≡ [] → d.flows.conns ≡ [] → d.waiting.items ≡ [] → d.names ≡ [] → d.laid.ribs.entries ≡ [] → (bare : List IpcProcess) → AreLaid plan dif d.settings dif.links old new bare → AreRouted d.settings.members dif.links (length d.settings.members) bare d.processes → IsNew plan i d old new
-made_new plan i dif d old new at are clock alive ends conns waiting names kept bare was routed =
-    let laid = laid_still plan dif d.settings dif.links old new (length d.settings.members) bare d.processes was routed in record {
+one_plan : (x y : DifPlan) → Some x ≡ Some y → x ≡ y
+one_plan x y same = cc
+
+pub made_new : (plan : Plan) (i : ℕ) (dif : DifPlan) (d : Dif) (old new : Seen) → IsPlan plan → slice_get plan.difs i ≡ Some dif → d.settings ≡ settings_by plan i dif → d.clock ≡ old.now → d.failed ≡ false → d.flows.journal.ends ≡ [] → d.flows.conns ≡ [] → d.waiting.items ≡ [] → d.names ≡ [] → d.laid.ribs.entries ≡ [] → (bare : List IpcProcess) → AreLaid plan dif d.settings dif.links old new bare → AreStarted d.settings.members dif.links dif.rules dif.allow (length d.settings.members) bare d.agents → AreRouted d.settings.members d.agents (length d.agents) bare d.processes → IsNew plan i d old new
+made_new plan i dif d old new sound at are clock alive ends conns waiting names kept bare was started routed =
+    let laid = laid_still plan dif d.settings dif.links old new d.agents (length d.agents) bare d.processes was routed in
+    let config : IsConfig (config_of d.settings) = subst (λ (s : Settings). IsConfig (config_of s)) (sym are) (is_config plan i dif sound at) in
+    let members : AreMembers (config_of d.settings) = subst (λ (s : Settings). AreMembers (config_of s)) (sym are) (are_members plan i dif sound at) in
+    let managed : AreManagedBy d.settings.members dif.links d.clock d.processes d.agents = made_managed plan i dif d old new bare sound at are config members was started routed in
+    record {
       settings = its_settings plan i dif d.settings at are;
       clock = clock;
       alive = alive;
@@ -180,7 +190,8 @@ made_new plan i dif d old new at are clock alive ends conns waiting names kept b
           let m = there d.settings.members k (let e = laid.up.aligned in omega (arith, within, e)) in
           let up = laid.up.each k m.0 p m.1 is in
           record { cap = up.room; cubes = up.ids };
-      routed = λ dif' at'. (let same : dif ≡ dif' = (let both : Some dif ≡ Some dif' = sym at ∙ at' in cc) in subst (λ (x : DifPlan). HaveRoutes d.settings.members x.links d.processes) same (all_know d.settings.members dif.links bare d.processes routed));
+      routed = λ dif' at'. subst (λ (x : DifPlan). HaveRoutes d.settings.members x.links d.processes) (one_plan dif dif' (sym at ∙ at')) (managed_routed d.settings.members dif.links d.clock d.processes d.agents managed);
+      managed = λ dif' at'. subst (λ (x : DifPlan). AreStarted d.settings.members x.links x.rules x.allow (length d.settings.members) d.processes d.agents) (one_plan dif dif' (sym at ∙ at')) (started_still d.settings.members dif.links dif.rules dif.allow bare d.processes d.agents started routed);
       ends = ends;
       conns = conns;
       waiting = waiting;
@@ -190,8 +201,3 @@ made_new plan i dif d old new at are clock alive ends conns waiting names kept b
 
 pub made_takes : (plan : Plan) (i : ℕ) (dif : DifPlan) (s : Settings) (below : Seen) → slice_get plan.difs i ≡ Some dif → s ≡ settings_by plan i dif → CanLay plan i below → All (Takes below s.pdu) (map (link_fixed plan dif) dif.links)
 made_takes plan i dif s below at are can = subst (λ (fs : List Fixed). All (Takes below s.pdu) fs) (its_links plan i dif at) (can.takes s (its_settings plan i dif s at are))
-
-pub made_weighs : (plan : Plan) (i : ℕ) (dif : DifPlan) (links : List LinkPlan) → IsPlan plan → slice_get plan.difs i ≡ Some dif → links ≡ dif.links → Weigh links
-made_weighs plan i dif links sound at same k l is =
-    let d = all_at (IsRangedDif (length plan.nodes) (length plan.wires) (length plan.difs)) plan.difs i dif sound.difs at in
-    (all_at (IsSoundLink (length plan.nodes) (length plan.wires) (length plan.difs)) dif.links k l d.links (ap (λ (ls : List LinkPlan). slice_get ls k) (sym same) ∙ is)).least_weight

@@ -1,4 +1,4 @@
--- What becomes of a PDU that came for a connection.
+-- How a PDU for a connection is handled.
 use Rattle.std.proofs.Common.{true, false, if◌then◌else◌, ◌≡◌, ◌∙◌, ℕ, ◌-◌, ◌<◌, ◌≤◌, List, [], ◌∷◌, ◌++◌, length, map, slice_get, slice_set, option_map, append_assoc, Option, Some, None, Result, Ok, Err, refl, sym, ap, subst, arith, inl, inr}
 use Rattle.std.proofs.lemmas.List.{length-map, map-set}
 use Rattle.std.proofs.lemmas.Option.{slice_get-map, slice_get_within}
@@ -78,6 +78,7 @@ own_none d at since hop ps lt own none notes lines below h there =
       tied = h.tied;
       housed = house.housed;
       routed = house.routed;
+      managed = house.managed;
     }
 
 -- without memory for its line nothing changes
@@ -116,6 +117,7 @@ own_told d at since hop place flows own kind taken tells same lines below h ther
       tied = t.tied;
       housed = h.housed;
       routed = h.routed;
+      managed = h.managed;
     }
 
 -- A piece
@@ -213,6 +215,7 @@ own_arrived d at since hop place cause flows ps lt own kind taken arrives lines 
       tied = in_.tied;
       housed = house.housed;
       routed = house.routed;
+      managed = house.managed;
     }
 
 pub arrived_err : (d : Dif) (at since : ℕ) (hop : Hop) (place : ℕ) (e : NoMemory) (flows : Flows) (ps : List IpcProcess) → at < length d.settings.members → ArrivesTo d.clock place hop.pdu at d.flows d.processes (Err e) flows ps → SettlesFor d at since hop (Err e) (record d { flows = flows; processes = ps })
@@ -256,6 +259,7 @@ settles_on d at since hop ps (Ok end) d' me settles lines below h there =
       tied = s.tied;
       housed = s.housed;
       routed = s.routed;
+      managed = s.managed;
     }
 settles_on d at since hop ps (Err e) d' me settles lines below h there =
     let s = settles lines below (holds_unseen d ps lines below me.same (me.house lines below h) h) (subst (λ (z : DifSeen). IsThere z below since hop) (sym me.same) there) in

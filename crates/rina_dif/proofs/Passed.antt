@@ -66,5 +66,6 @@ passes d at flows p lines below h =
         written_off = passed_written (seen_of d) lines at (seen_of d') o.lines' h.written_off passed;
         housed = h.housed;
         routed = h.routed;
+        managed = h.managed;
       };
     }

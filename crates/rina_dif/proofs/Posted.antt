@@ -126,7 +126,7 @@ posted_at d lines below i mpl pdu s ps lt h forwards =
       house = home_set d lines below i p.0 x.0 ps h p.1 x.2 (forwards_same p.0.queues.cap (process_of p.0) d.clock (record { left = mpl; pdu = pdu }) (Ok s) (process_of x.0) x.1) x.3;
     }
 
--- memory was wanted
+-- an allocation failed
 pub forwarded_none : (d : Dif) (lines : List Direction) (below : Seen) (i : ℕ) (hop : Hop) (e : Memory) (ps : List IpcProcess) → i < length d.settings.members → Holds d lines below → ForwardsAt d.clock hop (Err e) i d.processes ps → (seen_of (record d { processes = ps }) ≡ seen_of d) × Holds (record d { processes = ps }) lines below
 forwarded_none d lines below i hop e ps lt h forwards =
     let p = has_process d below i (lines, h) lt in
@@ -215,6 +215,7 @@ acknowledges d lines below i at conn due s flows ps lt here is tells forwards do
         written_off = acknowledged_written (seen_of d) lines below at p.cause (seen_of d') a.lines' h.standing h.numbered h.accounted h.written_off acknowledged;
         housed = p.house.housed;
         routed = p.house.routed;
+        managed = p.house.managed;
       };
     }
 
@@ -288,6 +289,7 @@ sends_again d lines below i at conn pdu s flows ps lt here is tells forwards doe
         written_off = resent_written (seen_of d) lines below at p.cause (seen_of d') a.lines' h.standing h.numbered h.accounted h.written_off resent;
         housed = p.house.housed;
         routed = p.house.routed;
+        managed = p.house.managed;
       };
     }
 
@@ -295,7 +297,7 @@ pub none_again : (d : Dif) (lines : List Direction) (below : Seen) (i at : ℕ) 
 none_again d lines below i at here tells h due =
     false≢true ((again_is_due d.clock at d.flows.journal.ends d.flows.conns None tells (config_of d.settings) lines here.end h.standing.journal h.tied here.is_end here.allocated).1 due)
 
--- want of memory, whatever the error is
+-- `Memory`, whichever error it is
 
 pub ack_err : (d : Dif) (lines : List Direction) (below : Seen) (at : ℕ) (r : Result Bool Memory) (e : Memory) (d' : Dif) → r ≡ Err e → (seen_of d' ≡ seen_of d) × Holds d' lines below → AcknowledgesAs d lines below at r d'
 ack_err d lines below at r e d' is same = subst (λ (v : Result Bool Memory). AcknowledgesAs d lines below at v d') (sym is) same

@@ -1,16 +1,15 @@
 -- The IPC processes of a DIF get their next hops.
-use Rattle.std.proofs.Common.{◌≡◌, ◌≢◌, ◌∙◌, ◌⊎◌, ⊎_elim, ℕ, ◌+◌, ◌<◌, ◌≤◌, ◌==◌, Bool, true, false, cond, get_or, Contains, List, [], ◌∷◌, find, length, length-set, slice_get, Option, Some, None, option_and_then, option_map, refl, sym, ap, subst, arith, inl, inr, zero, suc, filter, map, not}
+use Rattle.std.proofs.Common.{◌≡◌, ◌∙◌, ◌⊎◌, ⊎_elim, ℕ, ◌+◌, ◌<◌, ◌≤◌, ◌==◌, Bool, true, false, cond, get_or, Contains, List, [], ◌∷◌, find, length, length-set, slice_get, Option, Some, None, option_map, refl, sym, ap, subst, arith, inl, inr, zero, suc, filter}
 use Rattle.std.specs.List.{cons_option, filter_map}
 use Rattle.std.proofs.lemmas.Option.{get_or_from_slice_get, slice_get-get_or, slice_get_within}
 use Rattle.std.proofs.lemmas.List.Elements.{Contains-append_cases, Contains-append_left, Contains-append_right, Contains-push, Contains-push_cases}
-use Rattle.rina_base.specs.declared.number.Port.{Port}
+use Rattle.rina_agent.specs.declared.agent.Agent.{Agent}
 use Rattle.rina_iface.proofs.Changed.{set_at}
 use Rattle.rina_iface.specs.Seen.{Seen}
+use Rattle.rina_base.specs.declared.number.Port.{Port}
 use Rattle.rina_graph.specs.declared.graph.Edge.{Edge}
-use Rattle.rina_graph.specs.Walks.{IsWalk}
 use Rattle.rina_route.specs.declared.link.Link.{Link as Hop}
-use Rattle.rina_route.specs.Nodes.{HaveWeights}
-use Rattle.rina_route.specs.Routes.{AreHops, IsHop, counted, edge, hop_at}
+use Rattle.rina_route.specs.Routes.{AreHops, IsHop, counted, hop_at}
 use Rattle.rina_plan.specs.declared.dif.DifPlan.{DifPlan}
 use Rattle.rina_plan.specs.declared.dif.LinkPlan.{LinkPlan}
 use Rattle.rina_stack.specs.declared.plan.Plan.{Plan}
@@ -20,9 +19,11 @@ use Rattle.rina_data.specs.declared.process.IpcProcess.{IpcProcess}
 use Rattle.rina_data.specs.declared.settings.Member.{Member}
 use Rattle.rina_data.specs.declared.settings.Settings.{Settings}
 use Rattle.rina_data.specs.Process.{next_hop}
-use Rattle.rina_data.proofs.Finding.{found_in}
+use Rattle.rina_data.proofs.Finding.{found_in, there}
+use Rattle.rina_member.specs.Knowing.{AreRoutesOf}
+use Rattle.rina_member.specs.Routing.{KnowsLive, claims_with, edges_from, edges_of, live_links, live_of, own_link, own_links, route_to, routes_to}
 use Rattle.rina_dif.specs.Laying.{AreLaid, IsLinkedUp, ends_of}
-use Rattle.rina_dif.specs.Routing.{AreRouted, HaveRoutes, KnowsLive, SetsRoutes, Weigh, addr_at, claims_with, edge_back, edge_between, edge_from, edge_there, edge_to, edges_from, edges_of, live_links, live_of, own_link, own_links, route_to, routes_to, with_routes}
+use Rattle.rina_dif.specs.Routing.{AreRouted, SetsRoutes, with_routes}
 
 -- Lists
 
@@ -52,120 +53,6 @@ at_place {X = X} xs x has = (has.0, slice_get-get_or xs has.0 x has.1 ∙ ap (λ
 
 is_there : {X : Type 0} (xs : List X) (k : ℕ) (x : X) → slice_get xs k ≡ Some x → Contains xs x
 is_there xs k x is = (k, slice_get_within xs k x is, get_or_from_slice_get xs k x x is)
-
--- Weights
-
-weight_to : (from w : ℕ) (to : Option ℕ) (e : Edge) → option_map (λ to. edge from to w) to ≡ Some e → e.weight ≡ w
-weight_to from w None e h = absurd cc
-weight_to from w (Some to) e h = (let same : edge from to w ≡ e = cc in sym (ap (λ (x : Edge). x.weight) same))
-
-weight_by : (w : ℕ) (from to : Option ℕ) (e : Edge) → option_and_then (λ from. option_map (λ to. edge from to w) to) from ≡ Some e → e.weight ≡ w
-weight_by w None to e h = absurd cc
-weight_by w (Some from) to e h = weight_to from w to e h
-
-weight_of : (members : List Member) (a b w : ℕ) (e : Edge) → edge_between members a b w ≡ Some e → e.weight ≡ w
-weight_of members a b w e h = weight_by w (addr_at members a) (addr_at members b) e h
-
-weighs : (links : List LinkPlan) (l : LinkPlan) (e : Edge) → Weigh links → Contains links l → e.weight ≡ l.weight → 1 ≤ e.weight
-weighs links l e all has same =
-    let at = at_place links l has in
-    let least : 1 ≤ l.weight = all at.0 l at.1 in
-    omega (arith, least, same)
-
-pub edges_weigh : (members : List Member) (links : List LinkPlan) → Weigh links → HaveWeights (edges_of members links)
-edges_weigh members links all e among = ⊎_elim
-    (λ first. (let r = made_of (edge_there members) links e first in weighs links r.0 e all r.1 (weight_of members r.0.a r.0.b r.0.weight e r.2)))
-    (λ second. (let r = made_of (edge_back members) links e second in weighs links r.0 e all r.1 (weight_of members r.0.b r.0.a r.0.weight e r.2)))
-    (Contains-append_cases (filter_map (edge_there members) links) (filter_map (edge_back members) links) e among)
-
--- of the edges from a node
-
-weigh_from : (members : List Member) (node : ℕ) (l : LinkPlan) (e : Edge) → edge_from members node l ≡ Some e → e.weight ≡ l.weight
-weigh_from members node l e is = weigh_by (l.a == node) (l.b == node) is
-  where
-    weigh_if : (b : Bool) → cond b (edge_back members l) None ≡ Some e → e.weight ≡ l.weight
-    weigh_if true is = weight_of members l.b l.a l.weight e is
-    weigh_if false is = absurd cc
-
-    weigh_by : (a b : Bool) → cond a (edge_there members l) (cond b (edge_back members l) None) ≡ Some e → e.weight ≡ l.weight
-    weigh_by true b is = weight_of members l.a l.b l.weight e is
-    weigh_by false b is = weigh_if b is
-
-from_weigh : (members : List Member) (node : ℕ) (links : List LinkPlan) → Weigh links → HaveWeights (edges_from members node links)
-from_weigh members node links all e among = (let r = made_of (edge_from members node) links e among in weighs links r.0 e all r.1 (weigh_from members node r.0 e r.2))
-
-own_weight_by : (link : Link) (o : Option Edge) (h : Hop) → option_map (λ (e : Edge). record { number = link.number; peer = e.to; weight = e.weight }) o ≡ Some h → (e : Edge) × (o ≡ Some e) × (e.weight ≡ h.weight)
-own_weight_by link None h is = absurd cc
-own_weight_by link (Some e) h is =
-    let made : Hop = record { number = link.number; peer = e.to; weight = e.weight } in
-    let same : made ≡ h = cc in
-    (e, refl, ap (λ (z : Hop). z.weight) same)
-
-own_weigh : (edges : List Edge) (links : List Link) (h : Hop) → HaveWeights edges → Contains (own_links edges links) h → 1 ≤ h.weight
-own_weigh edges links h all has =
-    let r = made_of (own_link edges) links h has in
-    let e = own_weight_by r.0 (slice_get edges r.0.number) h r.2 in
-    let least : 1 ≤ e.0.weight = all e.0 (is_there edges r.0.number e.0 e.1) in
-    let same : e.0.weight ≡ h.weight = e.2 in
-    omega (arith, least, same)
-
-mapped : {A B : Type 0} (f : A → B) (xs : List A) (y : B) → Contains (map f xs) y → (x : A) × Contains xs x × (f x ≡ y)
-mapped f [] y h = absurd (in_none y h)
-mapped f (x ∷ xs) y h = ⊎_elim (λ same. (x, head x xs, same)) (λ rest. (let r = mapped f xs y rest in (r.0, tail x xs r.0 r.1, r.2))) (cases (f x) (map f xs) y h)
-
-kept_if : {A : Type 0} (f : A → Bool) (y : A) (ys : List A) (x : A) (b : Bool) → (Contains (filter f ys) x → Contains ys x) → Contains (cond b (y ∷ filter f ys) (filter f ys)) x → Contains (y ∷ ys) x
-kept_if f y ys x true rest h = ⊎_elim (λ same. subst (λ (z : _). Contains (y ∷ ys) z) same (head y ys)) (λ more. tail y ys x (rest more)) (cases y (filter f ys) x h)
-kept_if f y ys x false rest h = tail y ys x (rest h)
-
-kept : {A : Type 0} (f : A → Bool) (xs : List A) (x : A) → Contains (filter f xs) x → Contains xs x
-kept f [] x h = h
-kept f (y ∷ ys) x h = kept_if f y ys x (f y) (λ rest. kept f ys x rest) h
-
--- of what the link states name
-pub own_weighs : (members : List Member) (plans : List LinkPlan) (node own : ℕ) (links : List Link) → Weigh plans → HaveWeights (claims_with own (own_links (edges_from members node plans) links) (edges_of members plans))
-own_weighs members plans node own links all e among =
-    let hops = own_links (edges_from members node plans) links in
-    ⊎_elim
-    (λ others. edges_weigh members plans all e (kept (λ (z : Edge). not (z.from == own)) (edges_of members plans) e others))
-    (λ named.
-    let m = mapped (edge_to own) hops e named in
-    let least : 1 ≤ m.0.weight = own_weigh (edges_from members node plans) links m.0 (from_weigh members node plans all) m.1 in
-    let same : m.0.weight ≡ e.weight = ap (λ (z : Edge). z.weight) m.2 in
-    omega (arith, least, same))
-    (Contains-append_cases (filter (λ (z : Edge). not (z.from == own)) (edges_of members plans)) (map (edge_to own) hops) e among)
-
--- What it knows
-
-pub claims_weigh : (members : List Member) (plans : List LinkPlan) (member : Member) (links : List Link) (claimed claims : List Edge) (own : List Hop) → Weigh plans → own ≡ live_links members plans member links → claimed ≡ edges_of members plans → claims ≡ claims_with member.addr own claimed → HaveWeights claims
-claims_weigh members plans member links claimed claims own all o c k =
-    let are : claims ≡ claims_with member.addr (live_links members plans member links) (edges_of members plans) = k ∙ ap (claims_with member.addr own) c ∙ ap (λ (hs : List Hop). claims_with member.addr hs (edges_of members plans)) o in
-    subst HaveWeights (sym are) (own_weighs members plans member.node member.addr (live_of links) all)
-
-pub knows_all : (members : List Member) (plans : List LinkPlan) (member : Member) (links : List Link) (claimed claims : List Edge) (own : List Hop) (rows : List (ℕ × ℕ)) (routes : List Route) → own ≡ live_links members plans member links → claimed ≡ edges_of members plans → claims ≡ claims_with member.addr own claimed → AreHops member.addr own claims rows → routes ≡ routes_to member.addr rows members → KnowsLive members plans member links routes
-knows_all members plans member links claimed claims own rows routes o c k hops are =
-    let live = live_links members plans member links in
-    let claims_are : claims ≡ claims_with member.addr live (edges_of members plans) = k ∙ ap (claims_with member.addr own) c ∙ ap (λ (hs : List Hop). claims_with member.addr hs (edges_of members plans)) o in
-    record {
-      rows = rows;
-      hops = subst (λ (hs : List Hop). AreHops member.addr hs (claims_with member.addr live (edges_of members plans)) rows) o (subst (λ (es : List Edge). AreHops member.addr own es rows) claims_are hops);
-      are = are;
-    }
-
--- without any links
-no_walk : (own dst : ℕ) (walk : List Edge) → own ≢ dst → IsWalk [] own walk dst → ⊥
-no_walk own dst [] other is = other is
-no_walk own dst (e ∷ walk) other is = in_none e is.0
-
-no_route : (b : Bool) (f : ℕ → Route) (rest : List Route) → cons_option (cond b None (option_map f None)) rest ≡ rest
-no_route true f rest = refl
-no_route false f rest = refl
-
-no_routes : (own : ℕ) (members : List Member) → routes_to own [] members ≡ []
-no_routes own [] = refl
-no_routes own (m ∷ members) = no_route (m.addr == own) (λ n. record { dst = m.addr; link = n }) (routes_to own [] members) ∙ no_routes own members
-
-pub knows_none : (members : List Member) (m : Member) → KnowsLive members [] m [] []
-knows_none members m = record { rows = []; hops = λ dst other walk is. no_walk m.addr dst walk other is; are = sym (no_routes m.addr members) }
 
 -- Its own links
 
@@ -240,29 +127,29 @@ live_hop members plans m links routes dst n knows hop =
 
 -- One after the other
 
-pub none_routed : (members : List Member) (plans : List LinkPlan) (ps : List IpcProcess) → AreRouted members plans 0 ps ps
-none_routed members plans ps = record {
+pub none_routed : (members : List Member) (agents : List Agent) (ps : List IpcProcess) → AreRouted members agents 0 ps ps
+none_routed members agents ps = record {
   aligned = refl;
-  knows = λ k m p lt is here. absurd (omega (arith, lt));
+  routes = λ k g p lt is here. absurd (omega (arith, lt));
   same = λ k p here. (p, p.routes, here, refl);
 }
 
-pub next_routed : (members : List Member) (plans : List LinkPlan) (at : ℕ) (old mid new : List IpcProcess) (m : Member) (p : IpcProcess) (routes : List Route) → AreRouted members plans at old mid → slice_get members at ≡ Some m → slice_get mid at ≡ Some p → KnowsLive members plans m p.links routes → SetsRoutes at routes mid new → AreRouted members plans (at + 1) old new
-next_routed members plans at old mid new m p routes so is here knows sets =
+next_routed : (members : List Member) (agents : List Agent) (at : ℕ) (old mid new : List IpcProcess) (g : Agent) (p : IpcProcess) (routes : List Route) → AreRouted members agents at old mid → slice_get agents at ≡ Some g → slice_get mid at ≡ Some p → AreRoutesOf g members routes → SetsRoutes at routes mid new → AreRouted members agents (at + 1) old new
+next_routed members agents at old mid new g p routes so is here are sets =
     let set = sets p here in
     let split = λ (k : ℕ) (q : IpcProcess) (there : slice_get new k ≡ Some q). set_at mid at k p (with_routes p routes) q here (ap (λ (ps : List IpcProcess). slice_get ps k) (sym set) ∙ there) in
     record {
       aligned = ap (λ (ps : List IpcProcess). length ps) set ∙ length-set mid at (with_routes p routes) ∙ so.aligned;
-      knows = λ k x q lt at_k there. elim (split k q there) [
+      routes = λ k x q lt at_k there. elim (split k q there) [
         | inl t ↦
-            let member : x ≡ m = (let both : Some x ≡ Some m = sym at_k ∙ ap (slice_get members) t.0 ∙ is in cc) in
-            subst (λ (z : Member). KnowsLive members plans z q.links q.routes) (sym member) (subst (λ (z : IpcProcess). KnowsLive members plans m z.links z.routes) (sym t.1) knows)
-        | inr u ↦ (let other = u.0 in so.knows k x q (below k at lt other) at_k u.1)
+            (let agent : x ≡ g = (let both : Some x ≡ Some g = sym at_k ∙ ap (slice_get agents) t.0 ∙ is in cc) in
+            subst (λ (z : Agent). AreRoutesOf z members q.routes) (sym agent) (subst (λ (z : IpcProcess). AreRoutesOf g members z.routes) (sym t.1) are))
+        | inr u ↦ (let other = u.0 in so.routes k x q (below k at lt other) at_k u.1)
       ];
       same = λ k q there. elim (split k q there) [
         | inl t ↦
-            let before = so.same at p here in
-            (before.0, routes, ap (slice_get old) t.0 ∙ before.2, t.1 ∙ ap (λ (z : IpcProcess). with_routes z routes) before.3)
+            (let before = so.same at p here in
+            (before.0, routes, ap (slice_get old) t.0 ∙ before.2, t.1 ∙ ap (λ (z : IpcProcess). with_routes z routes) before.3))
         | inr u ↦ so.same k q u.1
       ];
     }
@@ -270,28 +157,30 @@ next_routed members plans at old mid new m p routes so is here knows sets =
     below : (k at : ℕ) → k < at + 1 → (k ≡ at → ⊥) → k < at
     below k at lt other = omega (arith, lt, other)
 
-pub turn_routed : (members : List Member) (plans : List LinkPlan) (at : ℕ) (old mid new : List IpcProcess) (m : Member) (p : IpcProcess) (links : List Link) (routes routes' : List Route) → AreRouted members plans at old mid → at < length members → m ≡ get_or members at m → slice_get mid at ≡ Some p → links ≡ p.links → KnowsLive members plans m links routes → routes' ≡ routes → SetsRoutes at routes' mid new → AreRouted members plans (at + 1) old new
-turn_routed members plans at old mid new m p links routes routes' so lt is here same knows are sets =
-    next_routed members plans at old mid new m p routes' so (slice_get-get_or members at m lt ∙ ap (λ (x : Member). Some x) (sym is)) here (subst (KnowsLive members plans m p.links) (sym are) (subst (λ (ls : List Link). KnowsLive members plans m ls routes) same knows)) sets
+-- as the code sets them
 
-pub all_routed : (members : List Member) (plans : List LinkPlan) (at : ℕ) (old new : List IpcProcess) → length members ≤ at → AreRouted members plans at old new → AreRouted members plans (length members) old new
-all_routed members plans at old new le so = record { aligned = so.aligned; knows = λ k m p lt is here. so.knows k m p (omega (arith, lt, le)) is here; same = so.same }
+pub turn_within : (members : List Member) (agents : List Agent) (at : ℕ) (old mid : List IpcProcess) → AreRouted members agents at old mid → length old ≡ length agents → at < length agents → at < length mid
+turn_within members agents at old mid so aligned lt = (let now = so.aligned in omega (arith, lt, now, aligned))
+
+pub turn_routed : (members : List Member) (agents : List Agent) (at : ℕ) (old mid new : List IpcProcess) (g : Agent) (routes routes' : List Route) → AreRouted members agents at old mid → length old ≡ length agents → at < length agents → g ≡ get_or agents at g → AreRoutesOf g members routes → routes' ≡ routes → SetsRoutes at routes' mid new → AreRouted members agents (at + 1) old new
+turn_routed members agents at old mid new g routes routes' so aligned lt is knows are sets =
+    let p = there mid at (turn_within members agents at old mid so aligned lt) in
+    next_routed members agents at old mid new g p.0 routes' so (slice_get-get_or agents at g lt ∙ ap (λ (x : Agent). Some x) (sym is)) p.1 (subst (AreRoutesOf g members) (sym are) knows) sets
+
+pub all_routed : (members : List Member) (agents : List Agent) (at : ℕ) (old new : List IpcProcess) → length agents ≤ at → AreRouted members agents at old new → AreRouted members agents (length agents) old new
+all_routed members agents at old new le so = record { aligned = so.aligned; routes = λ k g p lt is here. so.routes k g p (omega (arith, lt, le)) is here; same = so.same }
 
 -- seen otherwise
-pub same_routed : (members members' : List Member) (plans plans' : List LinkPlan) (old new : List IpcProcess) → members ≡ members' → plans ≡ plans' → AreRouted members plans (length members) old new → AreRouted members' plans' (length members') old new
-same_routed members members' plans plans' old new same same' so = subst (λ (ms : List Member). AreRouted ms plans' (length ms) old new) same (subst (λ (ls : List LinkPlan). AreRouted members ls (length members) old new) same' so)
-
--- each of them
-pub all_know : (members : List Member) (plans : List LinkPlan) (old new : List IpcProcess) → AreRouted members plans (length members) old new → HaveRoutes members plans new
-all_know members plans old new so k m p is here = so.knows k m p (slice_get_within members k m is) is here
+pub same_routed : (members members' : List Member) (agents agents' : List Agent) (old new : List IpcProcess) → members ≡ members' → agents ≡ agents' → AreRouted members agents (length agents) old new → AreRouted members' agents' (length agents') old new
+same_routed members members' agents agents' old new same same' so = subst (λ (ms : List Member). AreRouted ms agents' (length agents') old new) same (subst (λ (gs : List Agent). AreRouted members gs (length gs) old new) same' so)
 
 -- What was laid is laid still
 
 up_still : (s : Settings) (node : ℕ) (ports : List Port) (p : IpcProcess) (routes : List Route) → IsLinkedUp s node ports p → IsLinkedUp s node ports (with_routes p routes)
 up_still s node ports p routes up = record { links = up.links; ledger = up.ledger; room = up.room; ids = up.ids; empty = up.empty; known = up.known; there = up.there }
 
-pub laid_still : (plan : Plan) (d : DifPlan) (s : Settings) (links : List LinkPlan) (old new : Seen) (count : ℕ) (ps ps' : List IpcProcess) → AreLaid plan d s links old new ps → AreRouted s.members links count ps ps' → AreLaid plan d s links old new ps'
-laid_still plan d s links old new count ps ps' laid routed = record {
+pub laid_still : (plan : Plan) (d : DifPlan) (s : Settings) (links : List LinkPlan) (old new : Seen) (agents : List Agent) (count : ℕ) (ps ps' : List IpcProcess) → AreLaid plan d s links old new ps → AreRouted s.members agents count ps ps' → AreLaid plan d s links old new ps'
+laid_still plan d s links old new agents count ps ps' laid routed = record {
   ports = laid.ports;
   bound = laid.bound;
   up = record {

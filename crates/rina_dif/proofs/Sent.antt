@@ -288,6 +288,7 @@ sends_made d at sdu way made flows ps a offers puts lines below h =
         written_off = offers_written (seen_of d) lines at o.parts (Ok made.num) (seen_of d') o.lines' h.written_off offer;
         housed = kept.housed;
         routed = kept.routed;
+        managed = kept.managed;
       };
     }
 
@@ -299,7 +300,7 @@ refailed d lines below at sdu r d' failed s = record {
   cut = s.cut;
   lines' = s.lines';
   offers = s.offers;
-  holds = record { tied = s.holds.tied; standing = s.holds.standing; carrying = s.holds.carrying; numbered = s.holds.numbered; accounted = s.holds.accounted; caused = s.holds.caused; written_off = s.holds.written_off; housed = s.holds.housed; routed = s.holds.routed };
+  holds = record { tied = s.holds.tied; standing = s.holds.standing; carrying = s.holds.carrying; numbered = s.holds.numbered; accounted = s.holds.accounted; caused = s.holds.caused; written_off = s.holds.written_off; housed = s.holds.housed; routed = s.holds.routed; managed = s.holds.managed };
 }
 
 pub sends_at : (o : Option ℕ) (d : Dif) (lines : List Direction) (below : Seen) (at : ℕ) (sdu : List ℕ) (r : Result Num SendError) (d' : Dif) → o ≡ Some at → Sends d lines below at sdu r d' → SendsAt o d lines below sdu r d'

@@ -1,4 +1,4 @@
--- What becomes of a PDU that came.
+-- How a PDU that arrived is handled.
 use Rattle.std.proofs.Common.{◌≡◌, ◌∙◌, ℕ, ◌<◌, List, [], ◌∷◌, ◌++◌, length, map, get_or, slice_get, slice_set, Option, Some, Result, Ok, Err, refl, sym, ap, subst}
 use Rattle.std.specs.Prelude.{IsSome, OnErr, OnOk}
 use Rattle.std.proofs.lemmas.Option.{slice_get_read}
@@ -114,6 +114,7 @@ holds_unseen d ps lines below same house h = record {
   written_off = subst AreWrittenOff (sym same) h.written_off;
   housed = house.housed;
   routed = house.routed;
+  managed = house.managed;
 }
 
 pub unseen : (d : Dif) (at : ℕ) (p p' : IpcProcess) (ps : List IpcProcess) → slice_get d.processes at ≡ Some p → process_of p' ≡ process_of p → ps ≡ slice_set d.processes at p' → seen_of (record d { processes = ps }) ≡ seen_of d
@@ -156,6 +157,7 @@ decided d addr at since hop s end ps lt is_addr settles decides lines below h th
       tied = h.tied;
       housed = house.housed;
       routed = house.routed;
+      managed = house.managed;
     }
 
 pub decided_relayed : (d : Dif) (addr at since : ℕ) (hop : Hop) (ps : List IpcProcess) → at < length d.settings.members → ((member : Member) → slice_get (seen_of d).config.members at ≡ Some member → addr ≡ member.addr) → DecidesAt d.clock addr since hop (Ok decision.Relayed) at d.processes ps → SettlesFor d at since hop (Ok took.Relayed) (record d { processes = ps })

@@ -71,7 +71,7 @@ first_two false b c d h = absurd cc
 -- Members
 
 -- a member of the plan stands at the place of each
-planned : (plan : Plan) (d : DifPlan) (n : ℕ) (ms : List MemberPlan) (i : ℕ) (a : Member) → slice_get (map config_member (members_from plan d n ms)) i ≡ Some a → (m : MemberPlan) × (slice_get ms i ≡ Some m) × (m.addr ≡ a.addr) × (m.node ≡ a.node) × (ipc_name plan d m.node ≡ a.name)
+pub planned : (plan : Plan) (d : DifPlan) (n : ℕ) (ms : List MemberPlan) (i : ℕ) (a : Member) → slice_get (map config_member (members_from plan d n ms)) i ≡ Some a → (m : MemberPlan) × (slice_get ms i ≡ Some m) × (m.addr ≡ a.addr) × (m.node ≡ a.node) × (ipc_name plan d m.node ≡ a.name)
 planned plan d n [] i a is = absurd cc
 planned plan d n (m ∷ ms) zero a is = (m, refl, (let e = ap (option_map (λ (z : Member). z.addr)) is in cc), (let e = ap (option_map (λ (z : Member). z.node)) is in cc), (let e = ap (option_map (λ (z : Member). z.name)) is in cc))
 planned plan d n (m ∷ ms) (suc i) a is = planned plan d (n + 1) ms i a is

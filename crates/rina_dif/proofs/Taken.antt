@@ -136,6 +136,7 @@ took_it d lines below at n p link tick bytes hop key end d' below' kept kept' lt
         written_off = ins_written (seen_of d) lines below at n (Ok (in_.Took key end)) (seen_of d') s.lines' below' h.standing h.written_off does;
         housed = s.housed;
         routed = s.routed;
+        managed = s.managed;
       };
     }
 
@@ -153,14 +154,14 @@ ins_at d lines below node n at (Err Memory) d' lines' below' here ins = ins
 ins_at d lines below node n at (Err NoIpc) d' lines' below' here ins = at_home (home node d.config.members) at (λ k. Ins d lines below k n (Err NoIpc) d' lines' below') _ here ins
 ins_at d lines below node n at (Err NoLink) d' lines' below' here ins = at_home (home node d.config.members) at (λ k. Ins d lines below k n (Err NoLink) d' lines' below') _ here ins
 
--- and whether memory was wanted is noted
+-- and whether an allocation failed is noted
 pub takes_home : (d : Dif) (lines : List Direction) (below : Seen) (node n at : ℕ) (r r' : Result InStep StepError) (d' : Dif) (failed : Bool) (below' : Seen) → home node (config_of d.settings).members ≡ Some at → r' ≡ r → TakesIn d lines below at n r d' below' → TakesHome d lines below node n r' (record d' { failed = failed }) below'
 takes_home d lines below node n at r r' d' failed below' here same t =
     let does = ins_at (seen_of d) lines below node n at r (seen_of d') t.lines' below' here t.does in
     record {
       lines' = t.lines';
       does = subst (λ (v : Result InStep StepError). InsAt (seen_of d) lines below node n v (seen_of d') t.lines' below') (sym same) does;
-      holds = record { tied = t.holds.tied; standing = t.holds.standing; carrying = t.holds.carrying; numbered = t.holds.numbered; accounted = t.holds.accounted; caused = t.holds.caused; written_off = t.holds.written_off; housed = t.holds.housed; routed = t.holds.routed };
+      holds = record { tied = t.holds.tied; standing = t.holds.standing; carrying = t.holds.carrying; numbered = t.holds.numbered; accounted = t.holds.accounted; caused = t.holds.caused; written_off = t.holds.written_off; housed = t.holds.housed; routed = t.holds.routed; managed = t.holds.managed };
     }
 
 pub takes_none : (d : Dif) (lines : List Direction) (below : Seen) (node n : ℕ) → Holds d lines below → TakesHome d lines below node n (Err Memory) d below

@@ -3,6 +3,9 @@ use Rattle.std.proofs.Common.{◌≡◌, ◌∙◌, ℕ, ◌<◌, ◌==◌, ◌&
 use Rattle.std.specs.Prelude.{IsSome, OnErr, OnOk, position}
 use Rattle.std.proofs.lemmas.Bool.{false≢true}
 use Rattle.std.proofs.lemmas.Option.{slice_get_read, slice_get_within}
+use Rattle.rina_agent.specs.declared.agent.Agent.{Agent}
+use Rattle.rina_agent.specs.Rows.{lost as loses_link}
+use Rattle.rina_agent.specs.Counts.{spent}
 use Rattle.rina_base.specs.declared.memory.Memory.{Memory}
 use Rattle.rina_base.specs.declared.number.Port.{Port}
 use Rattle.rina_iface.specs.Seen.{Seen}
@@ -24,14 +27,19 @@ use Rattle.rina_dif_law.proofs.Accounting.{lost_accounted}
 use Rattle.rina_data.proofs.Finding.{there}
 use Rattle.rina_dif_law.proofs.Linkless.{lost_carries, lost_numbered, lost_stands}
 use Rattle.rina_dif_law.proofs.Warranted.{lost_written}
+use Rattle.rina_member.proofs.Knowing.{may_make}
 use Rattle.rina_dif.specs.declared.dif.Dif.{Dif}
 use Rattle.rina_dif.specs.Holding.{AreHoused, HasQueues, HaveQueues, Holds, IsHoused, Stands}
-use Rattle.rina_dif.specs.Routing.{HaveRoutes, KnowsLive}
+use Rattle.rina_member.specs.Knowing.{AreRoutesOf}
+use Rattle.rina_member.specs.Routing.{KnowsLive}
+use Rattle.rina_dif.specs.Managing.{IsWithout, LosesManaged}
+use Rattle.rina_dif.specs.Routing.{HaveRoutes}
 use Rattle.rina_dif.specs.Shown.{seen_of}
-use Rattle.rina_dif.specs.Unlinking.{FailsWith, FindsLostAt, FindsNoneLeft, KnowsWithout, LosesAs, LosesIn, LosesLink, LosesOr, LosesWith, links_without}
+use Rattle.rina_dif.specs.Unlinking.{FailsWith, FindsLostAt, FindsNoneLeft, LosesAs, LosesIn, LosesLink, LosesOr, LosesWith, links_without}
 use Rattle.rina_dif.proofs.Causing.{process_caused}
 use Rattle.rina_dif.proofs.Keeping.{home_set, house_is, position_map, routes_set, same_house, set_cases}
 use Rattle.rina_dif.proofs.Leaves.{has_process, shown_at, stepped}
+use Rattle.rina_dif.proofs.Managed.{IsLoss, its_agent, loss_known, managed_lost}
 use Rattle.rina_dif.proofs.Routed.{live_hop}
 use Rattle.rina_dif.proofs.Settling.{holds_unseen, unseen}
 
@@ -112,16 +120,20 @@ pub record HasLost (d : Dif) (lines : List Direction) (below : Seen) (at place n
   pub port_is : loses.loses.link.port ≡ link.port
   pub holds : Holds d' lines below
 
-pub link_lost : (d : Dif) (lines : List Direction) (below : Seen) (at : ℕ) (lost : Lost) (routes : List Route) (member : Member) (p p' : IpcProcess) → slice_get d.settings.members at ≡ Some member → slice_get d.processes at ≡ Some p → KnowsWithout d at lost.place routes
-    → LosesAt lost.place routes (process_of p) (process_of p') → queue_settings p' ≡ queue_settings p → Holds d lines below → FindsLostAt d below at (Some lost) → HasLost d lines below at lost.place lost.number (record d { processes = slice_set d.processes at p' })
-link_lost d lines below at lost routes member p p' is_member is knows loses room h finds =
+pub link_lost : (d : Dif) (lines : List Direction) (below : Seen) (at : ℕ) (lost : Lost) (routes : List Route) (member : Member) (p p' : IpcProcess) (g g' : Agent) → slice_get d.settings.members at ≡ Some member → slice_get d.processes at ≡ Some p → slice_get d.agents at ≡ Some g → loses_link g d.clock lost.number ≡ Ok g' → AreRoutesOf g' d.settings.members routes
+    → LosesAt lost.place routes (process_of p) (process_of p') → queue_settings p' ≡ queue_settings p → Holds d lines below → FindsLostAt d below at (Some lost) → HasLost d lines below at lost.place lost.number (record d { processes = slice_set d.processes at p'; agents = slice_set d.agents at g' })
+link_lost d lines below at lost routes member p p' g g' is_member is is_g goes are loses room h finds =
     let f = finds p is in
     let link : Link = f.0 in
     let there = f.1.lost.stands in
     let new = loses link there in
-    let known = knows member p link is_member is there in
+    let members = d.settings.members in
+    let plans = d.laid.links in
+    let loss : IsLoss d.clock members g g' link routes = record { loses = subst (λ (n : ℕ). loses_link g d.clock n ≡ Ok g') f.2 goes; routes = are } in
+    let known : KnowsLive members plans member (links_without p.links lost.place link) routes = loss_known members plans d.clock d.processes d.agents at member p g g' lost.place link routes h.managed is_member is is_g there f.1.lost.live loss in
     let ps : List IpcProcess = slice_set d.processes at p' in
-    let d' : DifSeen = seen_of (record d { processes = ps }) in
+    let mid : Dif = record d { processes = ps; agents = slice_set d.agents at g' } in
+    let d' : DifSeen = seen_of mid in
     let gone : Loses (seen_of d) below at lost.number routes d' = record { process = process_of p; is_process = shown_at d at p is; place = lost.place; link = link; first = f.1; number_is = f.2; new_is = stepped d at p' ps refl ∙ ap (with_process (seen_of d) at) new } in
     record {
       process = p;
@@ -139,8 +151,9 @@ link_lost d lines below at lost routes member p p' is_member is knows loses room
         accounted = lost_accounted (seen_of d) lines below at lost.number routes d' h.accounted gone;
         caused = process_caused (seen_of d) d' below at _ gone.new_is h.caused;
         written_off = lost_written (seen_of d) lines below at lost.number routes d' h.standing h.written_off gone;
-        housed = housed_after (config_of d.settings) d.processes at p p' lost.place link routes d.settings.members d.laid.links member h.housed is room there new known;
-        routed = routed_after d.settings.members d.laid.links d.processes at p p' lost.place link routes member h.routed is is_member new known;
+        housed = housed_after (config_of d.settings) d.processes at p p' lost.place link routes members plans member h.housed is room there new known;
+        routed = routed_after members plans d.processes at p p' lost.place link routes member h.routed is is_member new known;
+        managed = managed_lost members plans d.clock d.processes d.agents at member p p' g g' lost.place link routes h.managed is_member is is_g there f.1.lost.live loss (ap (λ (z : Process). z.links) new) (ap (λ (z : Process). z.routes) new);
       };
     }
 
@@ -152,7 +165,7 @@ lost_with d lines below at node place number mid new l fails = record {
   fails = subst (λ (ls : List Link). FailsWith ls below l.loses.loses.link.port lines node (seen_of mid) new) (sym l.links_are) (subst (λ (port : Port). FailsWith (links_without l.process.links place l.link) below port lines node (seen_of mid) new) (sym l.port_is) fails);
 }
 
--- memory was wanted
+-- an allocation failed
 pub keeps_links : (d : Dif) (lines : List Direction) (below : Seen) (at : ℕ) (p p' : IpcProcess) (ps : List IpcProcess) → slice_get d.processes at ≡ Some p → process_of p' ≡ process_of p → queue_settings p' ≡ queue_settings p → ps ≡ slice_set d.processes at p' → Holds d lines below → (seen_of (record d { processes = ps }) ≡ seen_of d) × Holds (record d { processes = ps }) lines below
 keeps_links d lines below at p p' ps is same room new h =
     let seen = unseen d at p p' ps is same new in
@@ -162,26 +175,53 @@ keeps_links d lines below at p p' ps is same room new h =
 pub has_member : (d : Dif) (at : ℕ) → at < length d.settings.members → (m : Member) × (slice_get d.settings.members at ≡ Some m)
 has_member d at lt = there d.settings.members at lt
 
+-- the management of a member of the DIF
+pub has_agent : (d : Dif) (lines : List Direction) (below : Seen) (at : ℕ) → at < length d.settings.members → Holds d lines below → (g : Agent) × (slice_get d.agents at ≡ Some g)
+has_agent d lines below at lt h = (let m = has_member d at lt in its_agent d.settings.members d.agents at m.0 h.managed.aligned m.1)
+
+-- it is there, and may make an item
+pub agent_within : (d : Dif) (below : Seen) (at : ℕ) → at < length d.settings.members → Stands d below → at < length d.agents
+agent_within d below at lt st = (let g = has_agent d st.0 below at lt st.1 in slice_get_within d.agents at g.0 g.1)
+
+pub may_lose : (d : Dif) (below : Seen) (at : ℕ) (g : Agent) → at < length d.settings.members → Stands d below → slice_get d.agents at ≡ Some g → spent 1 g.last_count ≡ None
+may_lose d below at g lt st is =
+    let m = has_member d at lt in
+    let p = has_process d below at st lt in
+    may_make d.settings.members d.laid.links d.clock m.0 p.0.links g (st.1.managed.each at m.0 p.0 g m.1 p.1 is).knows
+
 -- a link is lost, and no flow fails
-pub link_loses : (d : Dif) (at : ℕ) (lost : Lost) (routes : List Route) (r : Result (Unit {0}) Memory) (ps : List IpcProcess) → at < length d.settings.members → KnowsWithout d at lost.place routes → LosesIn lost.place routes r at d.processes ps
-    → (node : ℕ) (lines : List Direction) (below : Seen) → Holds d lines below → FindsLostAt d below at (Some lost) → FindsNoneLeft d below at lost.place None → LosesAs d lines below at node lost.number r (record d { processes = ps })
-link_loses d at lost routes (Ok done) ps lt knows loses node lines below h finds left =
+pub link_loses : (d : Dif) (at : ℕ) (lost : Lost) (g' : Agent) (routes : List Route) (ps : List IpcProcess) → at < length d.settings.members → IsWithout d at lost.number g' → AreRoutesOf g' d.settings.members routes → LosesIn lost.place routes (Ok tt) at d.processes ps
+    → (node : ℕ) (lines : List Direction) (below : Seen) → Holds d lines below → FindsLostAt d below at (Some lost) → FindsNoneLeft d below at lost.place None → LosesAs d lines below at node lost.number (Ok tt) (record d { processes = ps; agents = slice_set d.agents at g' })
+link_loses d at lost g' routes ps lt goes are loses node lines below h finds left =
     let p = has_process d below at (lines, h) lt in
     let x = loses p.0 p.1 in
     let m = has_member d at lt in
-    let l = link_lost d lines below at lost routes m.0 p.0 x.0 m.1 p.1 knows x.1 x.2 h finds in
-    let mid : Dif = record d { processes = slice_set d.processes at x.0 } in
+    let g = has_agent d lines below at lt h in
+    let l = link_lost d lines below at lost routes m.0 p.0 x.0 g.0 g' m.1 p.1 g.1 (goes g.0 g.1) are x.1 x.2 h finds in
+    let mid : Dif = record d { processes = slice_set d.processes at x.0; agents = slice_set d.agents at g' } in
     let w = lost_with d lines below at node lost.place lost.number mid (seen_of mid) l (inr (left l.process l.link l.is_process l.stands, refl)) in
-    subst (λ (qs : List IpcProcess). LosesAs d lines below at node lost.number (Ok tt) (record d { processes = qs })) (sym x.3) (w, l.holds)
-link_loses d at lost routes (Err e) ps lt knows loses node lines below h finds left =
+    subst (λ (qs : List IpcProcess). LosesAs d lines below at node lost.number (Ok tt) (record d { processes = qs; agents = slice_set d.agents at g' })) (sym x.3) (w, l.holds)
+
+-- the IPC process at a place is as it was, and no other does anything
+abbrev pub StaysIn : ℕ → List IpcProcess → List IpcProcess → Type 0
+StaysIn at old new = (p : IpcProcess) → slice_get old at ≡ Some p → (p' : IpcProcess) × (process_of p' ≡ process_of p) × (queue_settings p' ≡ queue_settings p) × (new ≡ slice_set old at p')
+
+-- an allocation failed, and nothing changes
+pub link_stays : (d : Dif) (at : ℕ) (lost : Lost) (r : Result (Unit {0}) Memory) (ps : List IpcProcess) → at < length d.settings.members → StaysIn at d.processes ps → (e : Memory) → r ≡ Err e
+    → (node : ℕ) (lines : List Direction) (below : Seen) → Holds d lines below → LosesAs d lines below at node lost.number r (record d { processes = ps })
+link_stays d at lost r ps lt stays e is node lines below h =
     let p = has_process d below at (lines, h) lt in
-    let x = loses p.0 p.1 in
-    keeps_links d lines below at p.0 x.0 ps p.1 x.1 x.2 x.3 h
+    let x = stays p.0 p.1 in
+    subst (λ (v : Result (Unit {0}) Memory). LosesAs d lines below at node lost.number v (record d { processes = ps })) (sym is) (keeps_links d lines below at p.0 x.0 ps p.1 x.1 x.2 x.3 h)
+
+-- the management loses it too
+pub agent_loses : (d : Dif) (at number : ℕ) (g' : Agent) → IsWithout d at number g' → LosesManaged d.clock at number d.agents (slice_set d.agents at g')
+agent_loses d at number g' goes g is = (g', goes g is, refl)
 
 -- the link that was found is there
 pub found_within : (d : Dif) (at : ℕ) (lost : Lost) → ((below : Seen) × Stands d below × FindsLostAt d below at (Some lost)) → (p : IpcProcess) → slice_get d.processes at ≡ Some p → lost.place < length p.links
 found_within d at lost f p is = (let x = f.2 p is in slice_get_within p.links lost.place x.0 x.1.lost.stands)
 
--- memory was wanted for the next hops
+-- an allocation for the next hops failed
 pub lost_err : (d : Dif) (lines : List Direction) (below : Seen) (at node number : ℕ) (r : Result (Unit {0}) Memory) (e : Memory) → r ≡ Err e → Holds d lines below → LosesAs d lines below at node number r d
 lost_err d lines below at node number r e is h = subst (λ (v : Result (Unit {0}) Memory). LosesAs d lines below at node number v d) (sym is) (refl, h)

@@ -56,7 +56,7 @@ pub record BindsAt (d : Dif) (lines : List Direction) (below : Seen) (fixed : Fi
   pub b_port : ports.1 ≡ next_port (fac_of (seen_of d)) fixed.fac fixed.b
   pub holds : Holds d' lines' below
 
--- what `bind` does: it refuses nothing, and memory may be wanted
+-- what `bind` does: it refuses nothing, and only an allocation may fail
 abbrev pub BindsTo : Dif → List Direction → Seen → Fixed → Result (Port × Port) AllocateError → Dif → Type 0
 BindsTo d lines below fixed (Ok ports) d' = BindsAt d lines below fixed ports d'
 BindsTo d lines below fixed (Err Memory) d' = (seen_of d' ≡ seen_of d) × Holds d' lines below

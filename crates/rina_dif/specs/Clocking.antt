@@ -35,7 +35,9 @@ use Rattle.rina_flows.specs.Timely.{IsDue}
 use Rattle.rina_dif.specs.declared.clock_steps.Next.{Next}
 use Rattle.rina_dif.specs.declared.clock_steps.Turn.{Turn}
 use Rattle.rina_dif.specs.declared.dif.Dif.{Dif}
+use Rattle.rina_dif.specs.Elsewhere.{home_of}
 use Rattle.rina_dif.specs.Holding.{Holds}
+use Rattle.rina_dif.specs.Managing.{ManagesStep}
 use Rattle.rina_dif.specs.Shown.{seen_of}
 use Rattle.rina_dif.specs.Steps.{AtHome}
 use Rattle.rina_dif.specs.Unlinking.{HasFailed, LosesWith}
@@ -192,7 +194,7 @@ abbrev pub StepsOk : Dif → List Direction → Seen → ℕ → Result ClockSte
 StepsOk d lines below node (Ok done) d' lines' = Steps d lines below node done (seen_of d') lines'
 StepsOk d lines below node (Err e) d' lines' = ⊥
 
--- what `clock_step` does at a node; nothing changes below
+-- what `clock_step` does at a node, to its management too; nothing changes below
 abbrev pub ClockStepsAt : Dif → List Direction → Seen → ℕ → Result ClockStep StepError → Dif → List Direction → Type 0
 ClockStepsAt d lines below node (Err Memory) d' lines' = (seen_of d' ≡ seen_of d) × (lines' ≡ lines)
 ClockStepsAt d lines below node result d' lines' = AtHome (home node (config_of d.settings).members) (λ i. StepsOk d lines below node result d' lines') ((result ≡ Err NoIpc) × (seen_of d' ≡ seen_of d) × (lines' ≡ lines))
@@ -200,6 +202,7 @@ ClockStepsAt d lines below node result d' lines' = AtHome (home node (config_of 
 pub record ClockSteps (d : Dif) (lines : List Direction) (below : Seen) (node : ℕ) (result : Result ClockStep StepError) (d' : Dif) (below' : Seen) : Type 0 where
   pub lines' : List Direction
   pub does : ClockStepsAt d lines below node result d' lines'
+  pub managed : ManagesStep result (home_of d node) d.clock d.agents d'.agents
   pub same_below : below' ≡ below
   pub holds : Holds d' lines' below'
 

@@ -25,6 +25,7 @@ use Rattle.rina_data.specs.Fitting.{IsQos}
 use Rattle.rina_dif.specs.declared.dif.Dif.{Dif}
 use Rattle.rina_dif.specs.Building.{IsFree, queue_ids}
 use Rattle.rina_dif.specs.Planned.{ipc_name, link_fixed, links_of, settings_by, settings_of}
+use Rattle.rina_dif.specs.Managing.{AreStarted}
 use Rattle.rina_dif.specs.Routing.{HaveRoutes}
 
 -- Binding one after the other
@@ -82,7 +83,7 @@ abbrev pub ends_of : List (Port × Port) → List Port
 ends_of [] = []
 ends_of (p ∷ ps) = p.0 ∷ p.1 ∷ ends_of ps
 
--- those at a node
+-- the ports at a node
 abbrev pub ports_at : ℕ → List Port → List Port
 ports_at node ports = filter (λ (p : Port). p.node == node) ports
 
@@ -109,7 +110,7 @@ pub record HasQueuesOf (s : Settings) (p : IpcProcess) : Type 0 where
   pub cubes : AreIds (queue_ids s.cubes) p.queues.cubes
 
 -- the i-th DIF of the stack when it was made: the settings of the plan, its links bound below in stack order, the
--- next hops over them, and no flows, names and objects that requests left
+-- managements of its members as they start, the next hops over them, and no flows, names and objects that requests left
 pub record IsNew (plan : Plan) (i : ℕ) (d : Dif) (old new : Seen) : Type 0 where
   pub settings : settings_of plan i ≡ Some d.settings
   pub clock : d.clock ≡ old.now
@@ -119,6 +120,7 @@ pub record IsNew (plan : Plan) (i : ℕ) (d : Dif) (old new : Seen) : Type 0 whe
   pub processes : (k : ℕ) (member : Kept) (p : IpcProcess) → slice_get d.settings.members k ≡ Some member → slice_get d.processes k ≡ Some p → IsNewProcess (config_of d.settings) member.node (ends_of ports) (process_of p)
   pub queues : (k : ℕ) (p : IpcProcess) → slice_get d.processes k ≡ Some p → HasQueuesOf d.settings p
   pub routed : (dif : DifPlan) → slice_get plan.difs i ≡ Some dif → HaveRoutes d.settings.members dif.links d.processes
+  pub managed : (dif : DifPlan) → slice_get plan.difs i ≡ Some dif → AreStarted d.settings.members dif.links dif.rules dif.allow (length d.settings.members) d.processes d.agents
   pub ends : d.flows.journal.ends ≡ []
   pub conns : d.flows.conns ≡ []
   pub waiting : d.waiting.items ≡ []

@@ -7,6 +7,7 @@ pub mod Facade
 pub mod Freeing
 pub mod Holding
 pub mod Laying
+pub mod Managing
 pub mod Objects
 pub mod Planned
 pub mod Routing

@@ -27,6 +27,7 @@ use Rattle.rina_data.specs.declared.step.StepError.TheVariants.{Memory, NoIpc}
 use Rattle.rina_data.specs.Configs.{config_of}
 use Rattle.rina_dif_law.specs.Numbered.{is_asker}
 use Rattle.rina_dif_law.specs.Sending.{home}
+use Rattle.rina_member.specs.Routing.{addr_at, edge_to, edges_from, live_links}
 use Rattle.rina_rib.specs.declared.caller.Caller.TheVariants.{Own}
 use Rattle.rina_base.specs.declared.class.Class.{Class}
 use Rattle.rina_base.specs.declared.class.Class.TheVariants as classes
@@ -37,7 +38,6 @@ use Rattle.rina_rib.specs.Walks.{within}
 use Rattle.rina_dif.specs.declared.dif.Dif.{Dif}
 use Rattle.rina_dif.specs.declared.flow_state.FlowState.{FlowState}
 use Rattle.rina_dif.specs.declared.shown.Shown.{Shown}
-use Rattle.rina_dif.specs.Routing.{addr_at, edge_to, edges_from, live_links}
 
 -- What one object shows
 

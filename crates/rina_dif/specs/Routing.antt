@@ -1,89 +1,15 @@
 -- The next hops of the IPC processes of a DIF.
-use Rattle.std.specs.Prelude.{◌≡◌, ℕ, ◌<◌, ◌≤◌, ◌==◌, not, List, ◌++◌, filter, find, length, map, slice_get, slice_set, Option, Some, None, option_and_then, option_map, if◌then◌else◌}
-use Rattle.std.specs.List.{filter_map}
-use Rattle.rina_graph.specs.declared.graph.Edge.{Edge}
-use Rattle.rina_route.specs.declared.link.Link.{Link as Hop}
-use Rattle.rina_route.specs.Routes.{AreHops, edge, hop_at}
+use Rattle.std.specs.Prelude.{◌≡◌, ℕ, ◌<◌, List, length, slice_get, slice_set, Some}
+use Rattle.rina_agent.specs.declared.agent.Agent.{Agent}
 use Rattle.rina_plan.specs.declared.dif.LinkPlan.{LinkPlan}
-use Rattle.rina_data.specs.declared.link.Link.{Link}
 use Rattle.rina_data.specs.declared.link.Route.{Route}
 use Rattle.rina_data.specs.declared.process.IpcProcess.{IpcProcess}
 use Rattle.rina_data.specs.declared.settings.Member.{Member}
+use Rattle.rina_member.specs.Knowing.{AreRoutesOf}
+use Rattle.rina_member.specs.Routing.{KnowsLive}
 
--- the address of the member at a node
-abbrev pub addr_at : List Member → ℕ → Option ℕ
-addr_at members node = option_map (λ (m : Member). m.addr) (find (λ (m : Member). m.node == node) members)
-
--- the edge from the member at one node to that at another
-abbrev pub edge_between : List Member → ℕ → ℕ → ℕ → Option Edge
-edge_between members a b weight = option_and_then (λ from. option_map (λ to. edge from to weight) (addr_at members b)) (addr_at members a)
-
--- a link as its first end claims it
-abbrev pub edge_there : List Member → LinkPlan → Option Edge
-edge_there members l = edge_between members l.a l.b l.weight
-
--- and as its second end does
-abbrev pub edge_back : List Member → LinkPlan → Option Edge
-edge_back members l = edge_between members l.b l.a l.weight
-
--- the edges that the ends of links claim
-abbrev pub edges_of : List Member → List LinkPlan → List Edge
-edges_of members links = filter_map (edge_there members) links ++ filter_map (edge_back members) links
-
--- a link as its end at a node claims it
-abbrev pub edge_from : List Member → ℕ → LinkPlan → Option Edge
-edge_from members node l = if l.a == node then edge_there members l else (if l.b == node then edge_back members l else None)
-
--- the edges from the member at a node, in stack order
-abbrev pub edges_from : List Member → ℕ → List LinkPlan → List Edge
-edges_from members node links = filter_map (edge_from members node) links
-
--- a link of an IPC process, the number of which is the place of its edge
-abbrev pub own_link : List Edge → Link → Option Hop
-own_link edges link = option_map (λ (e : Edge). record { number = link.number; peer = e.to; weight = e.weight }) (slice_get edges link.number)
-
-abbrev pub own_links : List Edge → List Link → List Hop
-own_links edges links = filter_map (own_link edges) links
-
--- the next hop to a member
-abbrev pub route_to : ℕ → List (ℕ × ℕ) → Member → Option Route
-route_to own rows m = if m.addr == own then None else option_map (λ n. record { dst = m.addr; link = n }) (hop_at rows m.addr)
-
--- the next hops to the other members
-abbrev pub routes_to : ℕ → List (ℕ × ℕ) → List Member → List Route
-routes_to own rows members = filter_map (route_to own rows) members
-
--- What an IPC process knows
-
--- each link has a weight
-abbrev pub Weigh : List LinkPlan → Type 0
-Weigh links = (k : ℕ) (l : LinkPlan) → slice_get links k ≡ Some l → 1 ≤ l.weight
-
--- the links that are live
-abbrev pub live_of : List Link → List Link
-live_of links = filter (λ (l : Link). l.live) links
-
--- a link of a member as its link state names it
-abbrev pub edge_to : ℕ → Hop → Edge
-edge_to own h = edge own h.peer h.weight
-
--- what the link states name that a member of this address has: those of the others as they were from the start, and its
--- own, which names these links
-abbrev pub claims_with : ℕ → List Hop → List Edge → List Edge
-claims_with own links claimed = filter (λ (e : Edge). not (e.from == own)) claimed ++ map (edge_to own) links
-
--- the live links of a member, with its neighbours
-abbrev pub live_links : List Member → List LinkPlan → Member → List Link → List Hop
-live_links members plans member links = own_links (edges_from members member.node plans) (live_of links)
-
--- an IPC process with these links, some of which may be lost, knows its live ones, and those that the others had from the
--- start: over them, the least number of a link on a least walk is the next hop to each other member
-pub record KnowsLive (members : List Member) (plans : List LinkPlan) (member : Member) (links : List Link) (routes : List Route) : Type 0 where
-  pub rows : List (ℕ × ℕ)
-  pub hops : AreHops member.addr (live_links members plans member links) (claims_with member.addr (live_links members plans member links) (edges_of members plans)) rows
-  pub are : routes ≡ routes_to member.addr rows members
-
--- so each does, where these are the links of the DIF as they were laid
+-- each IPC process knows its live links, and those that the others had from the start, where these are the links of the
+-- DIF as they were laid: its next hops are the first links of least walks over them
 abbrev pub HaveRoutes : List Member → List LinkPlan → List IpcProcess → Type 0
 HaveRoutes members plans processes = (k : ℕ) (m : Member) (p : IpcProcess) → slice_get members k ≡ Some m → slice_get processes k ≡ Some p → KnowsLive members plans m p.links p.routes
 
@@ -97,8 +23,8 @@ with_routes p routes = record p { routes = routes }
 abbrev pub SetsRoutes : ℕ → List Route → List IpcProcess → List IpcProcess → Type 0
 SetsRoutes at routes old new = (p : IpcProcess) → slice_get old at ≡ Some p → new ≡ slice_set old at (with_routes p routes)
 
--- the first of the IPC processes have their next hops, and nothing else changed
-pub record AreRouted (members : List Member) (links : List LinkPlan) (count : ℕ) (old new : List IpcProcess) : Type 0 where
+-- the first of the IPC processes have the next hops over the items that their managements hold, and nothing else changed
+pub record AreRouted (members : List Member) (agents : List Agent) (count : ℕ) (old new : List IpcProcess) : Type 0 where
   pub aligned : length new ≡ length old
-  pub knows : (k : ℕ) (m : Member) (p : IpcProcess) → k < count → slice_get members k ≡ Some m → slice_get new k ≡ Some p → KnowsLive members links m p.links p.routes
+  pub routes : (k : ℕ) (g : Agent) (p : IpcProcess) → k < count → slice_get agents k ≡ Some g → slice_get new k ≡ Some p → AreRoutesOf g members p.routes
   pub same : (k : ℕ) (p : IpcProcess) → slice_get new k ≡ Some p → (q : IpcProcess) × (routes : List Route) × (slice_get old k ≡ Some q) × (p ≡ with_routes q routes)

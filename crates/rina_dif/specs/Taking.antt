@@ -28,6 +28,7 @@ use Rattle.rina_flows.specs.Calls.{AreTied}
 use Rattle.rina_flows.specs.Delivering.{ArrivesIn}
 use Rattle.rina_dif.specs.declared.dif.Dif.{Dif}
 use Rattle.rina_dif.specs.Holding.{AreHoused, Holds}
+use Rattle.rina_dif.specs.Managing.{AreManaged}
 use Rattle.rina_dif.specs.Routing.{HaveRoutes}
 use Rattle.rina_dif.specs.Shown.{seen_of}
 use Rattle.rina_dif.specs.Steps.{AtHome}
@@ -75,13 +76,14 @@ Comes d since hop = (lines : List Direction) × (below : Seen) × Holds d lines 
 abbrev pub IsOwn : Dif → ℕ → ℕ → Hop → Type 0
 IsOwn d at since hop = (d.clock - since ≤ hop.left) × ((member : Member) → slice_get (seen_of d).config.members at ≡ Some member → hop.pdu.dst ≡ member.addr)
 
--- what became of it: the flows stay tied, and the IPC processes are housed and have their next hops
+-- how the PDU was handled: the flows stay tied, and the IPC processes are housed, have their next hops and are managed
 pub record HasSettled (d : Dif) (lines : List Direction) (at since : ℕ) (hop : Hop) (end : Took) (d' : Dif) : Type 0 where
   pub lines' : List Direction
   pub settled : (member : Member) (process : Process) → IsProcess (seen_of d) at member process → Settles (seen_of d) lines at member process since hop end (seen_of d') lines'
   pub tied : AreTied (config_of d'.settings) d'.clock d'.flows lines'
   pub housed : AreHoused (config_of d'.settings) d'.processes
   pub routed : HaveRoutes d'.settings.members d'.laid.links d'.processes
+  pub managed : AreManaged d'
 
 abbrev pub SettlesAs : Dif → List Direction → Seen → ℕ → ℕ → Hop → Result Took NoMemory → Dif → Type 0
 SettlesAs d lines below at since hop (Ok end) d' = HasSettled d lines at since hop end d'

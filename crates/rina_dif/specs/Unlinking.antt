@@ -19,9 +19,9 @@ use Rattle.rina_dif_law.specs.Losing.{FailAll, Loses, NoneLive}
 use Rattle.rina_data.specs.Losing.{FindsLost, LosesAt, without_link}
 use Rattle.rina_flows.specs.declared.flows.Flows.{Flows}
 use Rattle.rina_flows.specs.Stopping.{StopsAll, held_before}
+use Rattle.rina_member.specs.Routing.{KnowsLive}
 use Rattle.rina_dif.specs.declared.dif.Dif.{Dif}
 use Rattle.rina_dif.specs.Holding.{Holds}
-use Rattle.rina_dif.specs.Routing.{KnowsLive}
 use Rattle.rina_dif.specs.Shown.{seen_of}
 
 -- Which link is lost
@@ -82,10 +82,6 @@ abbrev pub LosesLastIn : ℕ → ℕ → PortState → ℕ → List Route → Re
 LosesLastIn now node state place routes result at flows old flows' new = (p : IpcProcess) → slice_get old at ≡ Some p → (p' : IpcProcess) × LosesLast now node state place routes flows p result flows' p' × (queue_settings p' ≡ queue_settings p) × (new ≡ slice_set old at p')
 
 -- What changes of the DIF
-
--- these are the next hops of the IPC process at a place over the links that it knows once the one at a place is lost
-abbrev pub KnowsWithout : Dif → ℕ → ℕ → List Route → Type 0
-KnowsWithout d at place routes = (member : Member) (p : IpcProcess) (link : Link) → slice_get d.settings.members at ≡ Some member → slice_get d.processes at ≡ Some p → slice_get p.links place ≡ Some link → KnowsLive d.settings.members d.laid.links member (links_without p.links place link) routes
 
 -- the IPC process of place i loses its link of this number, and has its next hops over the links that it knows then
 pub record LosesLink (d : Dif) (below : Seen) (i number : ℕ) (new : DifSeen) : Type 0 where

@@ -11,6 +11,7 @@ ghost use Rattle.rina_dif.specs.Clocking.{ClockSteps, FailsLate, FindsFirst, Fin
 ghost use Rattle.rina_dif.specs.Elsewhere.{ChangesOnly, MayClock, home_of};
 ghost use Rattle.rina_dif.specs.Facade.{GoesOn, OthersStand};
 ghost use Rattle.rina_dif.specs.Holding.{Holds, Stands};
+ghost use Rattle.rina_dif.specs.Managing.{ManagesStep};
 ghost use Rattle.rina_dif.specs.Shown.{seen_of};
 
 use crate::dif::Dif;
@@ -168,7 +169,8 @@ impl Dif {
         ensures does { (lines : List Direction) → Holds self.old lines (F.seen below.now) → StepsHere self.old lines (F.seen below.now) node result self.new }
         ensures same { (self.new.settings ≡ self.old.settings) × (self.new.failed ≡ self.old.failed) }
         ensures laid { self.new.laid ≡ self.old.laid }
-        ensures whole { self.new ≡ record self.old { processes = self.new.processes; flows = self.new.flows } }
+        ensures whole { self.new ≡ record self.old { processes = self.new.processes; flows = self.new.flows; agents = self.new.agents } }
+        ensures manages { ManagesStep result (Some at) self.old.clock self.old.agents self.new.agents }
         ensures leaves { ChangesOnly (MayClock result self.old (Some at)) (Some at) self.old self.new }
     {
         match self.lost_link_at(below, at) {
@@ -204,7 +206,7 @@ impl Dif {
         ensures others { OthersStand self.old (F.seen below.old) (F.seen below.new) }
         ensures settings { self.new.settings ≡ self.old.settings }
         ensures laid { self.new.laid ≡ self.old.laid }
-        ensures whole { self.new ≡ record self.old { processes = self.new.processes; flows = self.new.flows; failed = self.new.failed } }
+        ensures whole { self.new ≡ record self.old { processes = self.new.processes; flows = self.new.flows; agents = self.new.agents; failed = self.new.failed } }
         ensures leaves { ChangesOnly (MayClock result self.old (home_of self.old node)) (home_of self.old node) self.old self.new }
         ensures failed { self.old.failed ≡ true → result ≡ Err MemoryWanted }
         ensures fails { self.new.failed ≡ true ↔ (result ≡ Err MemoryWanted) }

@@ -11,7 +11,7 @@ ghost use Rattle.rina_dif.specs.Planned.{link_fixed, links_of};
 
 use crate::dif::{Dif, place};
 use crate::layout::Layout;
-use crate::next_hops::route_all;
+use crate::managements::route_all;
 use crate::plan::{link_fixed, settings_of};
 use crate::processes::Processes;
 use rina_base::{Memory, Port};
@@ -91,7 +91,7 @@ fn lay_links<F: Facility>(
 
 impl Dif {
     /// The DIF at a place of the stack, counted from 0, without its flows: its links are bound on the rank below, in
-    /// stack order. Without memory some of them may have been bound.
+    /// stack order, and each member holds the items of the start. Without memory some of the links may have been bound.
     pub fn of_plan<F: Facility>(
         alloc: Global,
         plan: &Plan,
@@ -116,9 +116,12 @@ impl Dif {
         let settings = settings_of(alloc, plan, at, dif)?;
         let mut made = Dif::new(alloc, settings, below.now())?;
         lay_links(&mut made.processes, alloc, plan, dif, &made.settings, below)?;
+        let plans = dif.links.as_slice();
+        let agents = made.first_managements(alloc, plans, dif.rules.as_slice(), dif.allow)?;
         let members = made.settings.members.as_slice();
-        route_all(&mut made.processes, alloc, members, dif.links.as_slice())?;
-        made.laid = Layout::of(alloc, dif.links.as_slice())?;
+        route_all(&mut made.processes, alloc, members, agents.as_slice())?;
+        made.agents = agents;
+        made.laid = Layout::of(alloc, plans)?;
         Ok(made)
     }
 }

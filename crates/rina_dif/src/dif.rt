@@ -7,6 +7,7 @@ ghost use Rattle.rina_data.specs.declared.step.StepError.TheVariants.{Memory};
 
 use crate::layout::Layout;
 use crate::processes::Processes;
+use rina_agent::Agent;
 use rina_base::{Node, Seq, Tick};
 use rina_data::{Member, Settings, StepError};
 use rina_flows::Flows;
@@ -19,6 +20,9 @@ pub struct Dif {
     pub(crate) settings: Settings,
     pub(crate) clock: Tick,
     pub(crate) processes: Processes,
+    /// The managements of its members, one for each, in their order: the items that a member holds, and what it made of
+    /// them. The next hops of an IPC process are read from them.
+    pub(crate) agents: Seq<Agent>,
     /// Its links as they were laid, which never change, and what CDAP requests left.
     pub(crate) laid: Layout,
     pub(crate) flows: Flows,

@@ -42,7 +42,7 @@ fn flow_state(now: Tick, end: &End, conn: &Conn) -> FlowState
     }
 }
 
-/// Those at a node.
+/// The states of the flows that have an end at a node.
 pub(crate) fn flows_at(
     alloc: Global,
     node: Node,

@@ -1,11 +1,7 @@
-//! The next hops of an IPC process that loses a link.
-ghost use Rattle.std.specs.Prelude.{◌≡◌, ◌<◌, [], false, length, slice_get, slice_set, Some, IfOk};
-ghost use Rattle.rina_data.specs.declared.link.Link.{Link};
-ghost use Rattle.rina_dif.specs.Routing.{KnowsLive, Weigh};
+//! What never changes of a DIF once it is laid out, and what requests left at it.
+ghost use Rattle.std.specs.Prelude.{◌≡◌, [], IfOk};
 
-use crate::next_hops::{edges_of, routes_over};
-use rina_base::{Memory, Seq};
-use rina_data::{Link, Member, Route};
+use rina_base::Seq;
 use rina_plan::LinkPlan;
 use rina_rib::Rib;
 use std::alloc::{AllocError, Global};
@@ -18,7 +14,6 @@ pub struct Layout {
     pub links: Seq<LinkPlan>,
     /// What the last CDAP request that was done left at IPC processes, by the places of their members.
     pub ribs: BTreeMap<usize, Rib>,
-    pub ghost weigh: { Weigh links },
 }
 
 impl Layout {
@@ -35,7 +30,6 @@ impl Layout {
 
     /// These links, and no requests.
     pub(crate) fn of(alloc: Global, links: &[LinkPlan]) -> Result<Layout, AllocError>
-        requires { Weigh links.now }
         ensures links { IfOk result (λ l. l.links ≡ links.now) }
         ensures ribs { IfOk result (λ l. l.ribs.entries ≡ []) }
     {
@@ -44,35 +38,4 @@ impl Layout {
             ribs: BTreeMap::new(alloc),
         })
     }
-}
-
-/// The links once the one at a place is lost.
-fn links_without(alloc: Global, links: &[Link], lost: usize) -> Result<Vec<Link>, AllocError>
-    requires { lost < length links.now }
-    ensures { IfOk result (λ v. (link : Link) → slice_get links.now lost ≡ Some link → v.items ≡ slice_set links.now lost (record link { live = false })) }
-{
-    let mut left = Vec::from_slice(alloc, links)?;
-    left[lost] = Link {
-        live: false,
-        ..links[lost]
-    };
-    Ok(left)
-}
-
-/// The next hops of a member, which has these links, once the one at a place is lost.
-pub(crate) fn routes_without(
-    alloc: Global,
-    member: &Member,
-    members: &[Member],
-    laid: &Layout,
-    links: &[Link],
-    lost: usize,
-) -> Result<Vec<Route>, Memory>
-    requires { lost < length links.now }
-    ensures { IfOk result (λ v. (link : Link) → slice_get links.now lost ≡ Some link → KnowsLive members.now laid.now.links member.now (slice_set links.now lost (record link { live = false })) v.items) }
-{
-    let plans = laid.links.as_slice();
-    let claimed = edges_of(alloc, members, plans)?;
-    let left = links_without(alloc, links, lost)?;
-    routes_over(alloc, member, members, plans, &claimed, &left)
 }

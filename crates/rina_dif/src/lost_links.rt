@@ -11,13 +11,16 @@ ghost use Rattle.rina_dif_law.specs.Sending.{home};
 ghost use Rattle.rina_flows.specs.Elsewhere.{SameBut};
 ghost use Rattle.rina_dif.specs.Elsewhere.{ChangesOnly, ChangesProcess, IsEndOf, WhenOk};
 ghost use Rattle.rina_dif.specs.Holding.{Holds, Stands};
-ghost use Rattle.rina_dif.specs.Unlinking.{FindsLostAt, FindsNoneLeft, HasFailed, KnowsWithout, LosesAs, TellsNoneLeft, links_without};
+ghost use Rattle.rina_dif.specs.Managing.{IsWithout, ManagesLoss};
+ghost use Rattle.rina_member.specs.Knowing.{AreRoutesOf};
+ghost use Rattle.rina_dif.specs.Unlinking.{FindsLostAt, FindsNoneLeft, HasFailed, LosesAs, TellsNoneLeft, links_without};
 
 use crate::dif::Dif;
-use crate::layout::routes_without;
+use rina_agent::Agent;
 use rina_base::{Memory, Node, Port, Seq};
 use rina_data::{Link, Lost, Route, lost_link};
 use rina_iface::{Facility, Fail, PortState};
+use rina_member::{routes_of, without_link};
 use std::alloc::Global;
 
 /// Whether no link is live but the one at a place.
@@ -66,36 +69,45 @@ impl Dif {
         lost_link(process.links.as_slice(), below)
     }
 
-    /// The next hops of the IPC process at a place once the link at a place is lost.
-    fn routes_left(&self, alloc: Global, at: usize, lost: usize) -> Result<Seq<Route>, Memory>
-        requires process { at < length self.now.processes }
-        requires member { at < length self.now.settings.members }
-        requires link { (p : IpcProcess) → slice_get self.now.processes at ≡ Some p → lost < length p.links }
-        ensures { IfOk result (λ routes. KnowsWithout self.now at lost routes) }
+    /// The management of the member at a place after it lost the link that was found there.
+    fn management_without(&self, alloc: Global, at: usize, lost: Lost) -> Result<Agent, Memory>
+        requires stands { (below : Seen) × Stands self.now below × FindsLostAt self.now below at (Some lost) }
+        requires at { at < length self.now.settings.members }
+        ensures { IfOk result (IsWithout self.now at lost.number) }
     {
-        let members = self.settings.members.as_slice();
-        let (Some(member), Some(process)) = (members.get(at), self.processes.get(at)) else {
+        let Some(agent) = self.agents.get(at) else {
             unreachable!()
         };
-        let links = process.links.as_slice();
-        let routes = routes_without(alloc, member, members, &self.laid, links, lost)?;
+        without_link(alloc, agent, self.clock, lost.number)
+    }
+
+    /// The next hops over the items that a management holds.
+    fn routes_over(&self, alloc: Global, management: &Agent) -> Result<Seq<Route>, Memory>
+        ensures { IfOk result (AreRoutesOf management.now self.now.settings.members) }
+    {
+        let routes = routes_of(alloc, management, self.settings.members.as_slice())?;
         Ok(Seq::from_vec(routes))
     }
 
     /// Loses the link that was found at the IPC process at a place: what waits for it is written off, it is no longer
-    /// used, and the next hops are built anew. Without memory nothing changes.
+    /// used, the member makes its link state without it, and the next hops are built anew over the items that it holds then.
+    /// Without memory nothing changes.
     fn lose_link(&mut self, alloc: Global, at: usize, lost: Lost) -> Result<(), Memory>
         requires stands { (below : Seen) × Stands self.old below × FindsLostAt self.old below at (Some lost) }
         requires at { at < length self.old.settings.members }
         ensures does { (node : ℕ) (lines : List Direction) (below : Seen) → Holds self.old lines below → FindsLostAt self.old below at (Some lost) → FindsNoneLeft self.old below at lost.place None → LosesAs self.old lines below at node lost.number result self.new }
         ensures same { (self.new.settings ≡ self.old.settings) × (self.new.failed ≡ self.old.failed) }
         ensures laid { self.new.laid ≡ self.old.laid }
-        ensures whole { self.new ≡ record self.old { processes = self.new.processes; flows = self.new.flows } }
+        ensures whole { self.new ≡ record self.old { processes = self.new.processes; flows = self.new.flows; agents = self.new.agents } }
+        ensures manages { ManagesLoss result self.old.clock at lost.number self.old.agents self.new.agents }
         ensures leaves { ChangesProcess (Some at) self.old.processes self.new.processes }
         ensures flows { self.new.flows ≡ self.old.flows }
     {
-        let routes = self.routes_left(alloc, at, lost.place)?;
-        self.processes.lose_link(alloc, at, lost.place, routes)
+        let after = self.management_without(alloc, at, lost)?;
+        let routes = self.routes_over(alloc, &after)?;
+        self.processes.lose_link(alloc, at, lost.place, routes)?;
+        self.agents.set(at, after);
+        Ok(())
     }
 
     /// Loses the link that was found at the IPC process at a place, the last one of that node, and lets all flows there
@@ -114,15 +126,19 @@ impl Dif {
         ensures does { (lines : List Direction) (below : Seen) → Holds self.old lines below → FindsLostAt self.old below at (Some lost) → FindsNoneLeft self.old below at lost.place (Some port) → LosesAs self.old lines below at node lost.number result self.new }
         ensures same { (self.new.settings ≡ self.old.settings) × (self.new.failed ≡ self.old.failed) }
         ensures laid { self.new.laid ≡ self.old.laid }
-        ensures whole { self.new ≡ record self.old { processes = self.new.processes; flows = self.new.flows } }
+        ensures whole { self.new ≡ record self.old { processes = self.new.processes; flows = self.new.flows; agents = self.new.agents } }
+        ensures manages { ManagesLoss result self.old.clock at lost.number self.old.agents self.new.agents }
         ensures leaves { ChangesOnly (λ i. WhenOk result (IsEndOf self.old (Some at) i)) (Some at) self.old self.new }
     {
-        let routes = self.routes_left(alloc, at, lost.place)?;
+        let management = self.management_without(alloc, at, lost)?;
+        let routes = self.routes_over(alloc, &management)?;
         let state = PortState::Failed(Fail::Below { port });
         let flows = &mut self.flows;
         self.processes.lose_last_link(
             alloc, at, lost.place, routes, flows, self.clock, node, state,
-        )
+        )?;
+        self.agents.set(at, management);
+        Ok(())
     }
 
     /// Loses the link that was found at the IPC process at a place, at a node. Where no other is live, and its flow below
@@ -143,7 +159,8 @@ impl Dif {
         ensures does { (lines : List Direction) → Holds self.old lines (F.seen below.now) → LosesAs self.old lines (F.seen below.now) at node lost.number result self.new }
         ensures same { (self.new.settings ≡ self.old.settings) × (self.new.failed ≡ self.old.failed) }
         ensures laid { self.new.laid ≡ self.old.laid }
-        ensures whole { self.new ≡ record self.old { processes = self.new.processes; flows = self.new.flows } }
+        ensures whole { self.new ≡ record self.old { processes = self.new.processes; flows = self.new.flows; agents = self.new.agents } }
+        ensures manages { ManagesLoss result self.old.clock at lost.number self.old.agents self.new.agents }
         ensures leaves { ChangesOnly (λ i. WhenOk result (IsEndOf self.old (Some at) i)) (Some at) self.old self.new }
     {
         let Some(process) = self.processes.get(at) else {

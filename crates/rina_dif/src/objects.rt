@@ -1,12 +1,11 @@
 //! The objects that a member tells.
 ghost use Rattle.std.specs.Prelude.{◌≡◌, ◌<◌, ◌++◌, length, map, codes, IfOk, IfSome, OnOk};
 ghost use Rattle.rina_dif.specs.Objects.{address_of, behind, cube_object, dir_object, end_objects, far_objects, first_slash, flow_object, key_byte, kind_text, link_object, links_named, member_object, named_object, or_greater, own_objects, state_object};
-ghost use Rattle.rina_dif.specs.Routing.{edge_to, live_links};
+ghost use Rattle.rina_member.specs.Routing.{edge_to, live_links};
 
 use crate::fixed_flows::is_asker;
 use crate::flow_state::FlowState;
 use crate::neighbours::neighbours_text;
-use crate::next_hops::{addr_at, edges_from, edges_to, live_links};
 use crate::shown::{Objects, Shown};
 use crate::text::{add_decimal, add_number, numbered};
 use rina_base::{Addr, AppName, Bytes, Memory, Node, Seq};
@@ -14,8 +13,10 @@ use rina_cube::{Cube, Kind};
 use rina_data::{Link, Member};
 use rina_graph::Edge;
 use rina_iface::{End, Registered};
+use rina_member::{addr_at, edges_from, live_links};
 use rina_plan::LinkPlan;
 use rina_rib::Class;
+use rina_route::Link as Hop;
 use std::alloc::{AllocError, Global};
 
 fn kind_text(kind: Kind) -> &'static [u8]
@@ -166,6 +167,17 @@ pub(crate) fn flow_object(alloc: Global, flow: &FlowState) -> Result<Shown, Memo
     })
 }
 
+/// A link of a member as its link state names it.
+fn edge_to(own: Addr, hop: &Hop) -> Edge
+    ensures { result ≡ edge_to own hop.now }
+{
+    Edge {
+        from: own,
+        to: hop.peer,
+        weight: hop.weight,
+    }
+}
+
 /// The links of a member that are live, as its link state names them.
 fn live_edges(
     alloc: Global,
@@ -177,7 +189,7 @@ fn live_edges(
     ensures { IfOk result (λ v. v.items ≡ map (edge_to own.now.addr) (live_links members.now plans.now own.now links.now)) }
 {
     let hops = live_links(alloc, members, plans, own, links)?;
-    edges_to(alloc, own.addr, &hops)
+    hops.iter().map(|hop| edge_to(own.addr, hop)).collect(alloc)
 }
 
 /// The link state of a member, as another one or itself knows it.

@@ -10,6 +10,7 @@ ghost use Rattle.rina_dif.specs.Holding.{Holds};
 
 use crate::dif::Dif;
 use crate::layout::Layout;
+use crate::managements::start_all;
 use crate::processes::Processes;
 use rina_account::Ledger;
 use rina_base::{Memory, Seq, Tick};
@@ -56,8 +57,8 @@ fn all_bare(alloc: Global, settings: &Settings) -> Result<Processes, Memory>
 }
 
 impl Dif {
-    /// A DIF of these settings, whose clock is that of the rank below, without links, names and flows. It stands on
-    /// every kept rank where no end has a member as its application or its peer.
+    /// A DIF of these settings, whose clock is that of the rank below, without links, names and flows, where everyone may
+    /// enrol. It stands on every kept rank where no end has a member as its application or its peer.
     pub fn new(alloc: Global, settings: Settings, clock: Tick) -> Result<Dif, Memory>
         ensures settings { IfOk result (λ d. d.settings ≡ settings) }
         ensures clock { IfOk result (λ d. d.clock ≡ clock) }
@@ -66,11 +67,23 @@ impl Dif {
         ensures holds { IfOk result (λ d. (below : Seen) → AreKept below → IsConfig (config_of settings) → AreMembers (config_of settings) → clock ≡ below.now → IsFree (config_of settings) below → Holds d [] below) }
     {
         let processes = all_bare(alloc, &settings)?;
+        let laid = Layout::none(alloc);
+        let members = settings.members.as_slice();
+        let rules = Seq::new(alloc);
+        let agents = start_all(
+            alloc,
+            members,
+            laid.links.as_slice(),
+            rules.as_slice(),
+            true,
+            &processes,
+        )?;
         Ok(Dif {
             settings,
             clock,
             processes,
-            laid: Layout::none(alloc),
+            agents,
+            laid,
             flows: Flows::new(alloc),
             waiting: Vec::new(alloc),
             names: Seq::new(alloc),

@@ -1,4 +1,4 @@
--- When memory was wanted and not found.
+-- Once an allocation has failed.
 use Rattle.std.proofs.Common.{◌≡◌, ◌∙◌, ℕ, ◌+◌, zero, suc, Bool, true, false, List, [], ◌∷◌, slice_get, slice_set, Some, Result, Ok, Err, refl, ap, subst}
 use Rattle.std.specs.Prelude.{◌||◌, OnErr}
 use Rattle.rina_wire.specs.Air.{Air, failed_air}
@@ -24,7 +24,7 @@ or_second : (a b : Bool) → b ≡ true → a || b ≡ true
 or_second true b h = refl
 or_second false b h = h
 
--- the DIF that was written wanted memory
+-- the allocation failed in the DIF that was written
 set_failed : (n : ℕ) (items : List Dif) (x d : Dif) → slice_get items n ≡ Some x → d.failed ≡ true → have_failed (slice_set items n d) ≡ true
 set_failed n [] x d at h = cc
 set_failed zero (y ∷ ys) x d at h = or_first d.failed (have_failed ys) h

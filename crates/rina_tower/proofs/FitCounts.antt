@@ -26,7 +26,7 @@ count_flat p g (x ∷ xs) =
     let whole : sum_by (λ y. count_by p (g y)) (x ∷ xs) ≡ count_by p (g x) + sum_by (λ y. count_by p (g y)) xs = sum_by-cons (λ y. count_by p (g y)) x xs in
     front ∙ (ap (λ n. count_by p (g x) + n) rest ∙ sym whole)
 
--- of the images, where each that counts comes of one that counts
+-- of the images, where each that counts is the image of one that counts
 pub count_map : {X Y : Type 0} (p : Y → Bool) (q : X → Bool) (f : X → Y) (xs : List X) → ((k : ℕ) (x : X) → slice_get xs k ≡ Some x → p (f x) ≡ true → q x ≡ true) → count_by p (map f xs) ≤ count_by q xs
 count_map p q f [] each = omega arith
 count_map p q f (x ∷ xs) each =

@@ -43,6 +43,7 @@ holds_beside who d lines below below' kept kept' mine alone h =
       written_off = h.written_off;
       housed = h.housed;
       routed = h.routed;
+      managed = h.managed;
     }
 
 -- where no IPC process sends, takes or is asked for, all DIFs stand on

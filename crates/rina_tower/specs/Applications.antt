@@ -46,7 +46,7 @@ abbrev pub AppAllocates : ℕ → Ask → Result Port (AppError AllocateError) �
 AppAllocates r ask result t t' =
     AtRank r (λ u u'. Answers (is_ipc ask.app || is_ipc ask.to) (λ x. AllocatesAtTop ask x u u') (u' ≡ u) result) (result ≡ Err NoRank) t t'
 
--- nobody waits for an IPC process here
+-- no end waits for an IPC process here
 abbrev pub ClaimsFor : Bool → (Option Port → Type 0) → Type 0 → Option Port → Type 0
 ClaimsFor true call same result = (result ≡ None) × same
 ClaimsFor false call same result = call result

@@ -108,7 +108,7 @@ BindsAtTop fixed result (Rank' p difs below) (Rank' p' difs' below') =
     IsAtDif (BindsFrom fixed result) fixed.fac difs difs' × (below' ≡ below)
 BindsAtTop fixed result t t' = ⊥
 
--- the same, whether or not memory was wanted and not found before
+-- the same, whether or not an allocation had failed before
 abbrev pub BindsWhole : Tower → Fixed → Result (Port × Port) AllocateError → Tower → Type 0
 BindsWhole t fixed result t' = (has_failed t ≡ false → BindsAtTop fixed result t t') × (has_failed t ≡ true → (result ≡ Err allocate.Memory) × (t' ≡ t))
 
@@ -133,7 +133,7 @@ SendsAtTop port bytes result (Rank' p difs below) (Rank' p' difs' below') =
     AtDif port.fac (SendsFrom port bytes result) (result ≡ Err (send.NotAllocated None)) difs difs' × (below' ≡ below)
 SendsAtTop port bytes result t t' = ⊥
 
--- the same, whether or not memory was wanted and not found before
+-- the same, whether or not an allocation had failed before
 abbrev pub SendsWhole : Tower → Port → List ℕ → Result Num SendError → Tower → Type 0
 SendsWhole t port bytes result t' = (has_failed t ≡ false → SendsAtTop port bytes result t t') × (has_failed t ≡ true → (result ≡ Err send.Memory) × (t' ≡ t))
 

@@ -29,7 +29,7 @@ use Rattle.rina_tower.specs.StepEffect.{StandsAfter}
 use Rattle.rina_tower.specs.Ranks.{seen_of}
 use Rattle.rina_tower.specs.Refusals.{refuses_send}
 use Rattle.rina_tower.specs.Levels.{AtDif, AtRank, SameBelow}
-use Rattle.rina_tower.specs.Unchanged.{ChangesProcesses, ChangesTraffic}
+use Rattle.rina_tower.specs.Unchanged.{ChangesMembers, ChangesProcesses, ChangesTraffic}
 
 -- What comes
 
@@ -80,12 +80,12 @@ OutSteps may slots slots' r dif node link result t t' =
 
 -- a DIF does the first thing that is due at a node; a flow fails only for its causes. Of the ends, with their connections,
 -- it changes at most the one whose CEP-id it tells, or, where a link is lost, those of the node; and no IPC process of
--- another node
+-- another node. Where a link is lost, the management of the member there loses it; no other management changes
 pub record ClocksOne (below : Seen) (node : ℕ) (result : Result ClockStep StepError) (below' : Seen) (d d' : Dif) : Type 0 where
   pub does : (lines : List Direction) → Holds d lines below → ClockSteps d lines below node result d' below'
   pub fails : (lines : List Direction) → Holds d lines below → FailsLate d lines below d'
   pub after : StandsAfter below below' d d'
-  pub rest : ChangesTraffic d d'
+  pub rest : ChangesMembers d d'
   pub leaves : ChangesOnly (MayClock result d (home_of d node)) (home_of d node) d d'
 
 -- over the rank below, where nothing changes

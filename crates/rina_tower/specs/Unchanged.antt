@@ -44,6 +44,10 @@ ChangesProcesses d d' = d' ≡ record d { processes = d'.processes; failed = d'.
 abbrev pub ChangesTraffic : Dif → Dif → Type 0
 ChangesTraffic d d' = d' ≡ record d { processes = d'.processes; flows = d'.flows; failed = d'.failed }
 
+-- nothing but its IPC processes, the managements of its members and its flows, and whether an allocation has failed
+abbrev pub ChangesMembers : Dif → Dif → Type 0
+ChangesMembers d d' = d' ≡ record d { processes = d'.processes; agents = d'.agents; flows = d'.flows; failed = d'.failed }
+
 -- What follows
 
 pub dif_refl : (d : Dif) → IsStaying d d

@@ -1,16 +1,35 @@
-use Rattle.rina_dif.proofs.Cutting.{last_loses}
+use Rattle.std.proofs.Common.{List, Ok, subst, sym}
+use Rattle.std.proofs.lemmas.Result.{err_from_is_err_and}
+use Rattle.rina_agent.specs.declared.agent.Agent.{Agent}
+use Rattle.rina_base.specs.declared.memory.Memory.{Memory}
 use Rattle.rina_iface.specs.declared.state.Fail.TheVariants.{Below}
 use Rattle.rina_iface.specs.declared.state.PortState.TheVariants.{Failed}
-use Rattle.rina_dif.proofs.Elsewhere.{allocated_of, last_leaves}
+use Rattle.rina_dif.specs.Unlinking.{LosesAs}
+use Rattle.rina_dif.proofs.Cutting.{last_loses, last_stays}
+use Rattle.rina_dif.proofs.Elsewhere.{allocated_of, last_failed_leaves, last_leaves}
 use Rattle.rina_dif.proofs.dif.Dif.lose_last_link.Goals as goal
 
+pub returns-in_err-lose_last_link-clause-does : goal.returns-in_err-lose_last_link-clause-does
+returns-in_err-lose_last_link-clause-does c = λ lines below h finds left.
+    let err = err_from_is_err_and c.from_residual-in_err-lose_last_link.result c.from_residual-in_err-lose_last_link.ensures.1 in
+    last_stays c.args.self.now c.args.at c.args.node c.args.lost c.from_residual-in_err-lose_last_link.result c.lose_last_link.new.flows c.lose_last_link.new.self c.requires.at c.in_err-lose_last_link.ensures.loses err.0 err.1 lines below h
+
+pub returns-in_err-lose_last_link-clause-leaves : goal.returns-in_err-lose_last_link-clause-leaves
+returns-in_err-lose_last_link-clause-leaves c =
+    let d = c.args.self.now in
+    let l = c.lose_last_link in
+    last_failed_leaves d c.requires.stands.0 c.from_residual-in_err-lose_last_link.result c.args.at l.new.flows l.new.self c.requires.stands.1 c.requires.at c.in_err-lose_last_link.ensures.loses
+
 pub returns-clause-does : goal.returns-clause-does
-returns-clause-does c = last_loses c.args.self.now c.args.at c.args.node c.args.lost c.args.port c.in_ok-routes.routes c.lose_last_link.result c.lose_last_link.new.flows c.lose_last_link.new.self c.requires.at c.requires.home c.in_ok-routes.ensures c.lose_last_link.ensures.loses
+returns-clause-does c = λ lines below h finds left.
+    let d = c.args.self.now in
+    let l = c.lose_last_link in
+    subst (λ (gs : List Agent). LosesAs d lines below c.args.at c.args.node c.args.lost.number (Ok tt) (record d { flows = l.new.flows; processes = l.new.self; agents = gs })) (sym c.set.ensures) (last_loses d c.args.at c.args.node c.args.lost c.args.port c.in_ok-management.management c.in_ok-routes.routes l.new.flows l.new.self c.requires.at c.requires.home c.in_ok-management.ensures c.in_ok-routes.ensures c.in_ok-lose_last_link.ensures.loses lines below h finds left)
 
 pub returns-clause-leaves : goal.returns-clause-leaves
 returns-clause-leaves c =
     let d = c.args.self.now in
     let l = c.lose_last_link in (
-      allocated_of l.result d l.new.flows c.args.node c.args.at c.requires.home l.ensures.leaves,
-      last_leaves d c.requires.stands.0 c.args.node (Failed (Below c.args.port)) c.args.lost.place c.in_ok-routes.routes l.result c.args.at l.new.flows l.new.self c.requires.stands.1 c.requires.at l.ensures.loses,
+      allocated_of {T = Unit {0}} {E = Memory} (Ok tt) d l.new.flows c.args.node c.args.at c.requires.home c.in_ok-lose_last_link.ensures.leaves,
+      last_leaves d c.requires.stands.0 c.args.node (Failed (Below c.args.port)) c.args.lost.place c.in_ok-routes.routes (Ok tt) c.args.at l.new.flows l.new.self c.requires.stands.1 c.requires.at c.in_ok-lose_last_link.ensures.loses,
     )

@@ -1,9 +1,23 @@
-use Rattle.rina_dif.proofs.Unlinked.{link_loses}
+use Rattle.std.proofs.Common.{List, Ok, subst, sym}
+use Rattle.std.proofs.lemmas.Result.{err_from_is_err_and}
+use Rattle.rina_agent.specs.declared.agent.Agent.{Agent}
+use Rattle.rina_dif.specs.Unlinking.{LosesAs}
+use Rattle.rina_dif.proofs.Unlinked.{link_loses, link_stays}
 use Rattle.rina_dif.proofs.Elsewhere.{loses_leave}
 use Rattle.rina_dif.proofs.dif.Dif.lose_link.Goals as goal
 
+pub returns-in_err-lose_link-clause-does : goal.returns-in_err-lose_link-clause-does
+returns-in_err-lose_link-clause-does c = λ node lines below h finds left.
+    let err = err_from_is_err_and c.from_residual-in_err-lose_link.result c.from_residual-in_err-lose_link.ensures.1 in
+    link_stays c.args.self.now c.args.at c.args.lost c.from_residual-in_err-lose_link.result c.lose_link.new.self c.requires.at c.in_err-lose_link.ensures err.0 err.1 node lines below h
+
+pub returns-in_err-lose_link-clause-leaves : goal.returns-in_err-lose_link-clause-leaves
+returns-in_err-lose_link-clause-leaves c = loses_leave c.args.self.now c.requires.stands.0 c.args.lost.place c.in_ok-routes.routes c.lose_link.result c.args.at c.lose_link.new.self c.requires.stands.1 c.requires.at c.lose_link.ensures
+
 pub returns-clause-does : goal.returns-clause-does
-returns-clause-does c = link_loses c.args.self.now c.args.at c.args.lost c.in_ok-routes.routes c.lose_link.result c.lose_link.new.self c.requires.at c.in_ok-routes.ensures c.lose_link.ensures
+returns-clause-does c = λ node lines below h finds left.
+    let d = c.args.self.now in
+    subst (λ (gs : List Agent). LosesAs d lines below c.args.at node c.args.lost.number (Ok tt) (record d { processes = c.lose_link.new.self; agents = gs })) (sym c.set.ensures) (link_loses d c.args.at c.args.lost c.in_ok-after.after c.in_ok-routes.routes c.lose_link.new.self c.requires.at c.in_ok-after.ensures c.in_ok-routes.ensures c.in_ok-lose_link.ensures node lines below h finds left)
 
 pub returns-clause-leaves : goal.returns-clause-leaves
-returns-clause-leaves c = loses_leave c.args.self.now c.requires.stands.0 c.args.lost.place c.in_ok-routes.routes c.lose_link.result c.args.at c.lose_link.new.self c.requires.stands.1 c.requires.at c.lose_link.ensures
+returns-clause-leaves c = loses_leave c.args.self.now c.requires.stands.0 c.args.lost.place c.in_ok-routes.routes (Ok tt) c.args.at c.lose_link.new.self c.requires.stands.1 c.requires.at c.in_ok-lose_link.ensures

@@ -1,7 +1,8 @@
-use Rattle.std.proofs.Common.{false}
+use Rattle.std.proofs.Common.{false, true, refl}
 use Rattle.rina_dif.proofs.Bare.{bare_holds}
+use Rattle.rina_dif.proofs.Started.{same_started}
 use Rattle.rina_dif.proofs.dif.Dif.new.Goals as goal
 
 pub returns-clause-holds : goal.returns-clause-holds
 returns-clause-holds c = λ below kept config members clock free.
-    bare_holds (record { settings = c.args.settings; clock = c.args.clock; processes = c.in_ok-processes.processes; laid = c.none.result; flows = c.new.result; waiting = c.new-2.result; names = c.new-3.result; failed = false }) below kept c.new.ensures.ends c.new.ensures.conns c.none.ensures.links c.in_ok-processes.ensures config members clock free
+    bare_holds (record { settings = c.args.settings; clock = c.args.clock; processes = c.in_ok-processes.processes; agents = c.in_ok-agents.agents; laid = c.none-laid.result; flows = c.new.result; waiting = c.new-2.result; names = c.new-3.result; failed = false }) below kept c.new.ensures.ends c.new.ensures.conns c.none-laid.ensures.links c.in_ok-processes.ensures c.as_slice-2.result.now true (same_started c.as_slice-members.result.now c.args.settings.members c.as_slice.result.now c.none-laid.result.links c.as_slice-2.result.now c.as_slice-2.result.now true c.in_ok-processes.processes c.in_ok-agents.agents c.as_slice-members.ensures c.as_slice.ensures refl c.in_ok-agents.ensures) config members clock free

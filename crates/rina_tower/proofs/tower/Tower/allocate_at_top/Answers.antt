@@ -50,3 +50,8 @@ returns-in-Rank-clause-below c =
     let old = c.in-Rank.rank.value in
     let new = c.allocate-in-Rank.new.self in
     rw (c.in-Rank.is, c.deref_mut.ensures.value) (any_stays _ _ _ old.difs new (λ d d' x. serves_stays _ _ d d' x) h, refl)
+
+pub returns-in-Rank-clause-exact : goal.returns-in-Rank-clause-exact
+returns-in-Rank-clause-exact c =
+    let h = rw c.deref_mut.ensures.value at c.allocate-in-Rank.ensures.does in
+    rw (c.in-Rank.is, c.deref_mut.ensures.value) (h, refl)

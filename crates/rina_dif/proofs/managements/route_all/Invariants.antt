@@ -1,6 +1,6 @@
 -- The first IPC processes have their next hops.
 use Rattle.rina_dif.specs.Routing.{AreRouted}
-use Rattle.rina_dif.proofs.next_hops.route_all.Given as goal
+use Rattle.rina_dif.proofs.managements.route_all.Given as goal
 
 abbrev pub invariant-loop-at : goal.invariant-loop-at
-invariant-loop-at l = AreRouted l.members l.plans l.at l.fn.processes l.processes
+invariant-loop-at l = AreRouted l.members l.agents l.at l.fn.processes l.processes

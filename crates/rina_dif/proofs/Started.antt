@@ -1,0 +1,346 @@
+-- The managements of the members of a DIF as they start.
+use Rattle.std.proofs.Common.{◌≡◌, ◌∙◌, ℕ, zero, suc, ◌+◌, ◌*◌, ◌<◌, ◌≤◌, ◌^◌, ◌==◌, ◌&&◌, ◌||◌, Bool, true, false, cond, All, List, [], ◌∷◌, ◌++◌, get_or, length, map, slice_get, Option, Some, None, option_map, refl, sym, ap, subst, arith, inl, inr}
+use Rattle.std.specs.Prelude.{◌≢◌, Contains, count_by, filter, flat_map}
+use Rattle.std.specs.List.{cons_option, filter_map}
+use Rattle.std.proofs.lemmas.Bool.Decides.{eqb_tells}
+use Rattle.std.proofs.lemmas.Bool.{false≢true}
+use Rattle.std.proofs.lemmas.List.{length-map}
+use Rattle.std.proofs.lemmas.List.Elements.{All-from_get_or}
+use Rattle.std.proofs.lemmas.List.Sums.{sum_by-cons}
+use Rattle.std.proofs.lemmas.Option.{get_or_from_slice_get, slice_get-get_or, slice_get-map, slice_get_within}
+use Rattle.rina_access.specs.declared.rules.Rule.{Rule}
+use Rattle.rina_access.specs.declared.rules.Rules.{Rules}
+use Rattle.rina_agent.specs.declared.agent.Agent.{Agent}
+use Rattle.rina_base.specs.declared.number.Port.{Port}
+use Rattle.rina_graph.specs.declared.graph.Edge.{Edge}
+use Rattle.rina_graph.specs.Walks.{IsWalk}
+use Rattle.rina_iface.specs.declared.ask.Fixed.{Fixed}
+use Rattle.rina_iface.specs.Seen.{Seen}
+use Rattle.rina_iface.proofs.Changed.{all_at}
+use Rattle.rina_iface.proofs.Grown.{pushed_at}
+use Rattle.rina_newest.specs.declared.item.Item.{Item}
+use Rattle.rina_route.specs.declared.link.Link.{Link as Hop}
+use Rattle.rina_route.specs.Routes.{AreHops, AreRoutes, claims_of, counted, counts, has_link, is_claimed, is_up, turned}
+use Rattle.rina_pci.specs.Spelling.{IsWidth}
+use Rattle.rina_plan.specs.declared.dif.DifPlan.{DifPlan}
+use Rattle.rina_plan.specs.declared.dif.LinkPlan.{LinkPlan}
+use Rattle.rina_plan.specs.declared.dif.MemberPlan.{MemberPlan}
+use Rattle.rina_plan.specs.Counts.{IsRoomy, has_link_end, links_of as all_links}
+use Rattle.rina_plan.specs.Kept.{AreApart}
+use Rattle.rina_stack.specs.declared.plan.Plan.{Plan}
+use Rattle.rina_stack.specs.Plan.{IsPlan}
+use Rattle.rina_stack.specs.Ranges.{IsRangedDif, IsSoundLink}
+use Rattle.rina_data.specs.declared.link.Link.{Link}
+use Rattle.rina_data.specs.declared.link.Route.{Route}
+use Rattle.rina_data.specs.declared.process.IpcProcess.{IpcProcess}
+use Rattle.rina_data.specs.declared.settings.Member.{Member as Kept}
+use Rattle.rina_data.specs.declared.settings.Settings.{Settings}
+use Rattle.rina_data.specs.Configs.{Config, Member, config_of, member_of}
+use Rattle.rina_data.proofs.Finding.{there}
+use Rattle.rina_dif_law.specs.Numbered.{AreMembers}
+use Rattle.rina_dif_law.specs.Standing.{IsConfig}
+use Rattle.rina_member.specs.Knowing.{AreLive, AreNumbered, AreRoutesOf, IsLaidOut, Knows, hops_of}
+use Rattle.rina_member.specs.Routing.{edge_back, edge_from, edge_there, edges_from, route_to, routes_to}
+use Rattle.rina_member.specs.Start.{started}
+use Rattle.rina_member.proofs.Knowing.{starts_knowing}
+use Rattle.rina_dif.specs.declared.dif.Dif.{Dif}
+use Rattle.rina_dif.specs.Building.{AreBare}
+use Rattle.rina_dif.specs.Laying.{AreLaid, BindsAll, ends_of, links_from, ports_at}
+use Rattle.rina_dif.specs.Managing.{AreManaged, AreManagedBy, AreStarted, IsManaged, IsStarted}
+use Rattle.rina_dif.specs.Planned.{link_fixed, processes_before, settings_by}
+use Rattle.rina_dif.specs.Routing.{AreRouted}
+use Rattle.rina_dif.proofs.Managed.{is_among}
+use Rattle.rina_dif.proofs.Sound.{planned}
+
+same_some : {X : Type 0} (xs : List X) (k : ℕ) (a b : X) → slice_get xs k ≡ Some a → slice_get xs k ≡ Some b → a ≡ b
+same_some xs k a b h f = cc
+
+-- One after the other
+
+pub none_started : (members : List Kept) (plans : List LinkPlan) (rules : List Rule) (allow : Bool) (processes : List IpcProcess) → AreStarted members plans rules allow 0 processes []
+none_started members plans rules allow processes = record { aligned = refl; each = λ k m p g is here at. absurd (none k g at) }
+  where
+    none : (k : ℕ) (g : Agent) → slice_get [] k ≡ Some g → ⊥
+    none k g at = absurd cc
+
+next_started : (members : List Kept) (plans : List LinkPlan) (rules : List Rule) (allow : Bool) (at : ℕ) (processes : List IpcProcess) (agents : List Agent) (m : Kept) (p : IpcProcess) (access : Rules) (g : Agent) → AreStarted members plans rules allow at processes agents → slice_get members at ≡ Some m → slice_get processes at ≡ Some p → IsStarted members plans rules allow m p.links g
+    → AreStarted members plans rules allow (at + 1) processes (agents ++ g ∷ [])
+next_started members plans rules allow at processes agents m p access g so is_m is_p one = record {
+  aligned = (let e = so.aligned in length_push agents g ∙ omega (arith, e));
+  each = λ k x q y is_x is_q is_y. elim (pushed_at agents g k y is_y) [
+    | inl before ↦ so.each k x q y is_x is_q before
+    | inr last ↦
+        (let k_is : k ≡ at = last.0 ∙ so.aligned in
+        let x_is : x ≡ m = same_some members at x m (ap (slice_get members) (sym k_is) ∙ is_x) is_m in
+        let q_is : q ≡ p = same_some processes at q p (ap (slice_get processes) (sym k_is) ∙ is_q) is_p in
+        subst (λ (z : Agent). IsStarted members plans rules allow x q.links z) (sym last.1) (subst (λ (z : Kept). IsStarted members plans rules allow z q.links g) (sym x_is) (subst (λ (z : IpcProcess). IsStarted members plans rules allow m z.links g) (sym q_is) one)))
+  ];
+}
+  where
+    length_push : (xs : List Agent) (x : Agent) → length (xs ++ x ∷ []) ≡ length xs + 1
+    length_push [] x = refl
+    length_push (y ∷ ys) x = (let rest = length_push ys x in omega (arith, rest))
+
+-- as the code makes them
+pub turn_started : (members : List Kept) (plans : List LinkPlan) (rules : List Rule) (allow : Bool) (at : ℕ) (processes : List IpcProcess) (agents agents' : List Agent) (m : Kept) (p : IpcProcess) (links : List Link) (access : Rules) (g : Agent) → AreStarted members plans rules allow at processes agents → at < length members → m ≡ get_or members at m → slice_get processes at ≡ Some p → links ≡ p.links
+    → access.rules ≡ rules → access.default ≡ allow → g ≡ started members plans access m links → agents' ≡ agents ++ g ∷ [] → AreStarted members plans rules allow (at + 1) processes agents'
+turn_started members plans rules allow at processes agents agents' m p links access g so lt is_m is_p links_are rules_are default_is is new =
+    let here : slice_get members at ≡ Some m = slice_get-get_or members at m lt ∙ ap (λ (x : Kept). Some x) (sym is_m) in
+    let one : IsStarted members plans rules allow m p.links g = record { access = access; rules_are = rules_are; default_is = default_is; is = is ∙ ap (started members plans access m) links_are } in
+    subst (AreStarted members plans rules allow (at + 1) processes) (sym new) (next_started members plans rules allow at processes agents m p access g so here is_p one)
+
+pub all_started : (members : List Kept) (plans : List LinkPlan) (rules : List Rule) (allow : Bool) (at : ℕ) (processes : List IpcProcess) (agents : List Agent) → length members ≤ at → at ≤ length members → AreStarted members plans rules allow at processes agents → AreStarted members plans rules allow (length members) processes agents
+all_started members plans rules allow at processes agents le ge so = (let same : at ≡ length members = omega (arith, le, ge) in subst (λ (n : ℕ). AreStarted members plans rules allow n processes agents) same so)
+
+-- The members and links of a DIF
+
+apart_by : (f : Kept → ℕ) (ms : List Kept) → ((i k : ℕ) (a b : Kept) → slice_get ms i ≡ Some a → slice_get ms k ≡ Some b → f a ≡ f b → i ≡ k) → AreApart (map f ms)
+apart_by f ms one i j d lt within same =
+    let n = length-map ms f in
+    let a = there ms i (omega (arith, lt, within, n)) in
+    let b = there ms j (omega (arith, within, n)) in
+    let first : get_or (map f ms) i d ≡ f a.0 = get_or_from_slice_get (map f ms) i (f a.0) d (slice_get-map f ms i ∙ ap (option_map f) a.1) in
+    let second : get_or (map f ms) j d ≡ f b.0 = get_or_from_slice_get (map f ms) j (f b.0) d (slice_get-map f ms j ∙ ap (option_map f) b.1) in
+    let alike : i ≡ j = one i j a.0 b.0 a.1 b.1 (sym first ∙ same ∙ second) in
+    omega (arith, lt, alike)
+
+seen_at : (ms : List Kept) (i : ℕ) (a : Kept) → slice_get ms i ≡ Some a → slice_get (map member_of ms) i ≡ Some (member_of a)
+seen_at ms i a is = slice_get-map member_of ms i ∙ ap (option_map member_of) is
+
+in_range : (w n : ℕ) → IsWidth w → n < 2 ^ (8 * w) → n < 2 ^ 32
+in_range w n (inl is) lt = (let less : n < 2 ^ (8 * 1) = subst (λ (v : ℕ). n < 2 ^ (8 * v)) is lt in omega (arith, less))
+in_range w n (inr (inl is)) lt = (let less : n < 2 ^ (8 * 2) = subst (λ (v : ℕ). n < 2 ^ (8 * v)) is lt in omega (arith, less))
+in_range w n (inr (inr is)) lt = subst (λ (v : ℕ). n < 2 ^ (8 * v)) is lt
+
+-- they are laid out as a plan may lay them
+pub laid_out : (s : Settings) (plans : List LinkPlan) → IsConfig (config_of s) → AreMembers (config_of s) → All (λ (l : LinkPlan). (1 ≤ l.weight) × (l.weight ≤ 65535)) plans → IsLaidOut s.members plans
+laid_out s plans config members weights = record {
+  addresses = apart_by (λ (m : Kept). m.addr) s.members (λ i k a b x y same. members.addrs i k (member_of a) (member_of b) (seen_at s.members i a x) (seen_at s.members k b y) same);
+  nodes = apart_by (λ (m : Kept). m.node) s.members (λ i k a b x y same. members.nodes i k (member_of a) (member_of b) (seen_at s.members i a x) (seen_at s.members k b y) same);
+  fit = λ i d within. (let at = slice_get-get_or s.members i d within in in_range s.widths.addr (get_or s.members i d).addr config.widths.addr (members.fit i (member_of (get_or s.members i d)) (seen_at s.members i (get_or s.members i d) at)));
+  weights = weights;
+}
+
+-- Without links
+
+in_none : {A : Type 0} (x : A) → Contains [] x → ⊥
+in_none x h = omega (arith, h.1)
+
+-- what was filtered passes
+passes_if : {X : Type 0} (f : X → Bool) (y : X) (ys : List X) (x : X) (k : ℕ) (b : Bool) → f y ≡ b → ((k : ℕ) → slice_get (filter f ys) k ≡ Some x → f x ≡ true) → slice_get (cond b (y ∷ filter f ys) (filter f ys)) k ≡ Some x → f x ≡ true
+passes_if f y ys x zero true is rest at = (let same : y ≡ x = cc in ap f (sym same) ∙ is)
+passes_if f y ys x (suc k) true is rest at = rest k at
+passes_if f y ys x k false is rest at = rest k at
+
+passes : {X : Type 0} (f : X → Bool) (xs : List X) (x : X) (k : ℕ) → slice_get (filter f xs) k ≡ Some x → f x ≡ true
+passes f [] x k at = absurd cc
+passes f (y ∷ ys) x k at = passes_if f y ys x k (f y) refl (λ j h. passes f ys x j h) at
+
+both_true : (a b : Bool) → (a && b) ≡ true → b ≡ true
+both_true true true h = refl
+both_true true false h = absurd cc
+both_true false true h = refl
+both_true false false h = absurd cc
+
+from_own : (b : Bool) (x : Bool) → b ≡ true → cond b false x ≡ true → ⊥
+from_own true x is h = false≢true h
+from_own false x is h = false≢true is
+
+is_equal : (x y : ℕ) → x ≡ y → (x == y) ≡ true
+is_equal x y same = grind arith
+
+-- no edge at the own address counts
+up_then : (own : ℕ) (claimed : List Edge) (e : Edge) → counts own [] claimed e ≡ true → is_up own [] e ≡ true
+unfolding counts
+up_then own claimed e h = both_true (is_claimed claimed (turned e)) (is_up own [] e) h
+
+not_up : (own : ℕ) (e : Edge) → e.from ≡ own → is_up own [] e ≡ true → ⊥
+unfolding is_up
+not_up own e from up = from_own (e.from == own) _ (is_equal e.from own from) up
+
+none_counts : (own : ℕ) (claimed : List Edge) (e : Edge) → Contains (counted own [] claimed) e → e.from ≡ own → ⊥
+none_counts own claimed e has from =
+    let at = slice_get-get_or (counted own [] claimed) has.0 e has.1 ∙ ap (λ (y : Edge). Some y) has.2 in
+    not_up own e from (up_then own claimed e (passes (counts own [] claimed) claimed e has.0 at))
+
+no_walk : (own dst : ℕ) (claimed walk : List Edge) → own ≢ dst → IsWalk (counted own [] claimed) own walk dst → ⊥
+no_walk own dst claimed [] other is = other is
+no_walk own dst claimed (e ∷ walk) other is = none_counts own claimed e is.0 is.1
+
+no_hops : (own : ℕ) (claimed : List Edge) → AreHops own [] claimed []
+no_hops own claimed dst other walk is = no_walk own dst claimed walk other is
+
+no_route : (b : Bool) (f : ℕ → Route) (rest : List Route) → cons_option (cond b None (option_map f None)) rest ≡ rest
+no_route true f rest = refl
+no_route false f rest = refl
+
+no_routes : (own : ℕ) (members : List Kept) → routes_to own [] members ≡ []
+no_routes own [] = refl
+no_routes own (m ∷ members) = no_route (m.addr == own) (λ n. record { dst = m.addr; link = n }) (routes_to own [] members) ∙ no_routes own members
+
+none_of : (g : Agent) (members : List Kept) → hops_of g.links ≡ [] → AreRoutesOf g members []
+none_of g members none = record {
+  rows = [];
+  hops = subst (λ (hs : List Hop). AreRoutes g.address hs g.items []) (sym none) (no_hops g.address (flat_map claims_of g.items));
+  are = sym (no_routes g.address members);
+}
+
+no_links : (members : List Kept) (plans : List LinkPlan) (access : Rules) (m : Kept) → hops_of (started members plans access m []).links ≡ []
+unfolding started
+no_links members plans access m = refl
+
+no_link : (k : ℕ) (link : Link) → slice_get [] k ≡ Some link → ⊥
+no_link k link is = absurd cc
+
+-- a management without links knows all that there is to know of them
+bare_one : (s : Settings) (now : ℕ) (rules : List Rule) (allow : Bool) (m : Kept) (p : IpcProcess) (g : Agent) → IsLaidOut s.members [] → Contains s.members m → p.links ≡ [] → p.routes ≡ [] → IsStarted s.members [] rules allow m p.links g → IsManaged s.members [] now m p g
+bare_one s now rules allow m p g laid among links routes one =
+    let is : g ≡ started s.members [] one.access m [] = one.is ∙ ap (started s.members [] one.access m) links in
+    let knows : Knows s.members [] now m [] (started s.members [] one.access m []) = starts_knowing s.members [] one.access m [] now laid among (λ k link at. absurd (no_link k link at)) (λ k link at. absurd (no_link k link at)) (omega arith) (omega arith) in
+    record {
+      knows = subst (λ (ls : List Link). Knows s.members [] now m ls g) (sym links) (subst (Knows s.members [] now m []) (sym is) knows);
+      routes = subst (AreRoutesOf g s.members) (sym routes) (none_of g s.members (ap (λ (z : Agent). hops_of z.links) is ∙ no_links s.members [] one.access m));
+    }
+
+pub bare_managed : (s : Settings) (plans : List LinkPlan) (rules : List Rule) (allow : Bool) (now : ℕ) (ps : List IpcProcess) (agents : List Agent) → plans ≡ [] → AreBare s ps → IsConfig (config_of s) → AreMembers (config_of s) → AreStarted s.members plans rules allow (length s.members) ps agents → AreManagedBy s.members plans now ps agents
+bare_managed s plans rules allow now ps agents none bare config members so =
+    let laid : IsLaidOut s.members [] = laid_out s [] config members (λ k d lt. absurd (omega (arith, lt))) in
+    let so' : AreStarted s.members [] rules allow (length s.members) ps agents = subst (λ (ls : List LinkPlan). AreStarted s.members ls rules allow (length s.members) ps agents) none so in
+    subst (λ (ls : List LinkPlan). AreManagedBy s.members ls now ps agents) (sym none) (record {
+      laid_out = laid;
+      aligned = so'.aligned;
+      each = λ k m p g is_m is_p is_g. (let b = bare.each k p is_p in bare_one s now rules allow m p g laid (is_among s.members k m is_m) b.links b.routes (so'.each k m p g is_m is_p is_g));
+    })
+
+-- The links of a plan
+
+from_number : (n : ℕ) (ports : List Port) (k : ℕ) (link : Link) → slice_get (links_from n ports) k ≡ Some link → (link.number ≡ n + k) × (link.live ≡ true)
+from_number n [] k link is = absurd cc
+from_number n (p ∷ ps) zero link is =
+    let made : Link = record { port = p; number = n; live = true } in
+    let same : made ≡ link = cc in
+    (let number : n ≡ link.number = ap (λ (z : Link). z.number) same in omega (arith, number), sym (ap (λ (z : Link). z.live) same))
+from_number n (p ∷ ps) (suc k) link is = (let r = from_number (n + 1) ps k link is in (let e = r.0 in omega (arith, e), r.1))
+
+pub are_numbered : (ports : List Port) → AreNumbered (links_from 0 ports)
+are_numbered ports k link is = (let e = (from_number 0 ports k link is).0 in omega (arith, e))
+
+are_live : (ports : List Port) → AreLive (links_from 0 ports)
+are_live ports k link is = (from_number 0 ports k link is).1
+
+length_from : (n : ℕ) (ports : List Port) → length (links_from n ports) ≡ length ports
+length_from n [] = refl
+length_from n (p ∷ ps) = (let e = length_from (n + 1) ps in omega (arith, e))
+
+-- each edge of a member has a port
+enough_by : (a b : Bool) (x y : Option Edge) (es : List Edge) (p q : Port) (ports : List Port) → length es ≤ length ports → length (cons_option (cond a x (cond b y None)) es) ≤ length (cond a (p ∷ cond b (q ∷ ports) ports) (cond b (q ∷ ports) ports))
+enough_by true true None y es p q ports le = omega (arith, le)
+enough_by true true (Some x) y es p q ports le = omega (arith, le)
+enough_by true false None y es p q ports le = omega (arith, le)
+enough_by true false (Some x) y es p q ports le = omega (arith, le)
+enough_by false true x None es p q ports le = omega (arith, le)
+enough_by false true x (Some y) es p q ports le = omega (arith, le)
+enough_by false false x y es p q ports le = le
+
+-- and no member has more ports than two for each link at its node
+few_by : (a b : Bool) (p q : Port) (ports : List Port) (n : ℕ) → length ports ≤ 2 * n → length (cond a (p ∷ cond b (q ∷ ports) ports) (cond b (q ∷ ports) ports)) ≤ 2 * (cond (a || b) 1 0 + n)
+few_by true true p q ports n le = omega (arith, le)
+few_by true false p q ports n le = omega (arith, le)
+few_by false true p q ports n le = omega (arith, le)
+few_by false false p q ports n le = omega (arith, le)
+
+-- the ports that stand at a node, of those of a link and the rest
+here_of : (node a b : ℕ) (p q : Port) (ports : List Port) → p.node ≡ a → q.node ≡ b → ports_at node (p ∷ q ∷ ports) ≡ cond (a == node) (p ∷ cond (b == node) (q ∷ ports_at node ports) (ports_at node ports)) (cond (b == node) (q ∷ ports_at node ports) (ports_at node ports))
+here_of node a b p q ports is_a is_b =
+    ap (λ (c : Bool). cond c (p ∷ ports_at node (q ∷ ports)) (ports_at node (q ∷ ports))) (ap (λ (n : ℕ). n == node) is_a) ∙ ap (λ (c : Bool). cond (a == node) (p ∷ cond c (q ∷ ports_at node ports) (ports_at node ports)) (cond c (q ∷ ports_at node ports) (ports_at node ports))) (ap (λ (n : ℕ). n == node) is_b)
+
+enough : (plan : Plan) (d : DifPlan) (members : List Kept) (node : ℕ) (links : List LinkPlan) (ports : List (Port × Port)) (old new : Seen) → BindsAll old (map (link_fixed plan d) links) ports new → length (edges_from members node links) ≤ length (ports_at node (ends_of ports))
+enough plan d members node [] [] old new b = omega arith
+enough plan d members node [] (p ∷ ps) old new b = absurd b
+enough plan d members node (l ∷ ls) [] old new b = absurd b
+enough plan d members node (l ∷ ls) (p ∷ ps) old new b =
+    let rest = enough plan d members node ls ps b.0 new b.2 in
+    let is_a : p.0.node ≡ l.a = ap (λ (z : Port). z.node) b.1.a_fresh in
+    let is_b : p.1.node ≡ l.b = ap (λ (z : Port). z.node) b.1.b_fresh in
+    let one = enough_by (l.a == node) (l.b == node) (edge_there members l) (edge_back members l) (edges_from members node ls) p.0 p.1 (ports_at node (ends_of ps)) rest in
+    subst (λ (z : List Port). length (edges_from members node (l ∷ ls)) ≤ length z) (sym (here_of node l.a l.b p.0 p.1 (ends_of ps) is_a is_b)) one
+
+few : (plan : Plan) (d : DifPlan) (node : ℕ) (links : List LinkPlan) (ports : List (Port × Port)) (old new : Seen) → BindsAll old (map (link_fixed plan d) links) ports new → length (ports_at node (ends_of ports)) ≤ 2 * count_by (has_link_end node) links
+few plan d node [] [] old new b = omega arith
+few plan d node [] (p ∷ ps) old new b = absurd b
+few plan d node (l ∷ ls) [] old new b = absurd b
+few plan d node (l ∷ ls) (p ∷ ps) old new b =
+    let rest = few plan d node ls ps b.0 new b.2 in
+    let is_a : p.0.node ≡ l.a = ap (λ (z : Port). z.node) b.1.a_fresh in
+    let is_b : p.1.node ≡ l.b = ap (λ (z : Port). z.node) b.1.b_fresh in
+    let one = few_by (l.a == node) (l.b == node) p.0 p.1 (ports_at node (ends_of ps)) (count_by (has_link_end node) ls) rest in
+    let sum : count_by (has_link_end node) (l ∷ ls) ≡ cond ((l.a == node) || (l.b == node)) 1 0 + count_by (has_link_end node) ls = sum_by-cons (λ (x : LinkPlan). cond (has_link_end node x) 1 0) l ls in
+    subst (λ (z : List Port). length z ≤ 2 * count_by (has_link_end node) (l ∷ ls)) (sym (here_of node l.a l.b p.0 p.1 (ends_of ps) is_a is_b)) (subst (λ (n : ℕ). length (cond (l.a == node) (p.0 ∷ cond (l.b == node) (p.1 ∷ ports_at node (ends_of ps)) (ports_at node (ends_of ps))) (cond (l.b == node) (p.1 ∷ ports_at node (ends_of ps)) (ports_at node (ends_of ps)))) ≤ 2 * n) (sym sum) one)
+
+-- its weights and its counts are in range
+
+roomy : (plan : Plan) (i : ℕ) (dif : DifPlan) → IsPlan plan → slice_get plan.difs i ≡ Some dif → IsRoomy (all_links plan.difs) i dif
+roomy plan i dif sound at =
+    let within = slice_get_within plan.difs i dif at in
+    subst (IsRoomy (all_links plan.difs) i) (get_or_from_slice_get plan.difs i dif dif at) (sound.counts i dif within)
+
+pub few_rules : (plan : Plan) (i : ℕ) (dif : DifPlan) → IsPlan plan → slice_get plan.difs i ≡ Some dif → length dif.rules ≤ 256
+few_rules plan i dif sound at = (roomy plan i dif sound at).rules
+
+weighs : (plan : Plan) (i : ℕ) (dif : DifPlan) → IsPlan plan → slice_get plan.difs i ≡ Some dif → All (λ (l : LinkPlan). (1 ≤ l.weight) × (l.weight ≤ 65535)) dif.links
+weighs plan i dif sound at k d within =
+    let ranged = all_at (IsRangedDif (length plan.nodes) (length plan.wires) (length plan.difs)) plan.difs i dif sound.difs at in
+    let one = ranged.links k d within in
+    (one.least_weight, one.weight)
+
+-- a member has few links
+few_links : (plan : Plan) (i : ℕ) (dif : DifPlan) (k : ℕ) (m : Kept) (ports : List (Port × Port)) (old new : Seen) → IsPlan plan → slice_get plan.difs i ≡ Some dif → slice_get (settings_by plan i dif).members k ≡ Some m → BindsAll old (map (link_fixed plan dif) dif.links) ports new → length (ports_at m.node (ends_of ports)) ≤ 32
+few_links plan i dif k m ports old new sound at is b =
+    let x = planned plan dif (processes_before plan.difs i) dif.members k (member_of m) (seen_at (settings_by plan i dif).members k m is) in
+    let most : count_by (has_link_end x.0.node) dif.links ≤ 16 = all_at (λ (z : MemberPlan). count_by (has_link_end z.node) dif.links ≤ 16) dif.members k x.0 (roomy plan i dif sound at).links x.1 in
+    let here : count_by (has_link_end m.node) dif.links ≤ 16 = subst (λ (n : ℕ). count_by (has_link_end n) dif.links ≤ 16) x.3 most in
+    let two = few plan dif m.node dif.links ports old new b in
+    omega (arith, here, two)
+
+-- The managements of a DIF of a plan
+
+-- each was made of the links that were laid, and then the next hops were read from it
+pub made_managed : (plan : Plan) (i : ℕ) (dif : DifPlan) (d : Dif) (old new : Seen) (linked : List IpcProcess) → IsPlan plan → slice_get plan.difs i ≡ Some dif → d.settings ≡ settings_by plan i dif → IsConfig (config_of d.settings) → AreMembers (config_of d.settings) → AreLaid plan dif d.settings dif.links old new linked
+    → AreStarted d.settings.members dif.links dif.rules dif.allow (length d.settings.members) linked d.agents → AreRouted d.settings.members d.agents (length d.agents) linked d.processes → AreManagedBy d.settings.members dif.links d.clock d.processes d.agents
+made_managed plan i dif d old new linked sound at are config members laid so routed =
+    let out : IsLaidOut d.settings.members dif.links = laid_out d.settings dif.links config members (weighs plan i dif sound at) in
+    record {
+      laid_out = out;
+      aligned = so.aligned;
+      each = λ k m p g is_m is_p is_g.
+          let q = routed.same k p is_p in
+          let up = laid.up.each k m q.0 is_m q.2 in
+          let one = so.each k m q.0 g is_m q.2 is_g in
+          let ports = ports_at m.node (ends_of laid.ports) in
+          let links : p.links ≡ links_from 0 ports = ap (λ (z : IpcProcess). z.links) q.3 ∙ up.links in
+          let is : g ≡ started d.settings.members dif.links one.access m (links_from 0 ports) = one.is ∙ ap (started d.settings.members dif.links one.access m) up.links in
+          let count = length_from 0 ports in
+          let all : length (edges_from d.settings.members m.node dif.links) ≤ length ports = enough plan dif d.settings.members m.node dif.links laid.ports old new laid.bound in
+          let most : length ports ≤ 32 = few_links plan i dif k m laid.ports old new sound at (ap (λ (s : Settings). slice_get s.members k) (sym are) ∙ is_m) laid.bound in
+          let knows : Knows d.settings.members dif.links d.clock m (links_from 0 ports) (started d.settings.members dif.links one.access m (links_from 0 ports)) =
+          starts_knowing d.settings.members dif.links one.access m (links_from 0 ports) d.clock out (is_among d.settings.members k m is_m) (are_numbered ports) (are_live ports) (omega (arith, all, count)) (omega (arith, most, count)) in
+          let within = slice_get_within d.agents k g is_g in
+          record {
+            knows = subst (λ (ls : List Link). Knows d.settings.members dif.links d.clock m ls g) (sym links) (subst (Knows d.settings.members dif.links d.clock m (links_from 0 ports)) (sym is) knows);
+            routes = routed.routes k g p within is_g is_p;
+          };
+    }
+
+-- they are as they started
+pub started_still : (members : List Kept) (plans : List LinkPlan) (rules : List Rule) (allow : Bool) (linked ps : List IpcProcess) (agents : List Agent) → AreStarted members plans rules allow (length members) linked agents → AreRouted members agents (length agents) linked ps → AreStarted members plans rules allow (length members) ps agents
+started_still members plans rules allow linked ps agents so routed = record {
+  aligned = so.aligned;
+  each = λ k m p g is_m is_p is_g.
+      let q = routed.same k p is_p in
+      subst (λ (z : IpcProcess). IsStarted members plans rules allow m z.links g) (sym q.3) (so.each k m q.0 g is_m q.2 is_g);
+}
+
+-- seen otherwise
+pub same_started : (members members' : List Kept) (plans plans' : List LinkPlan) (rules rules' : List Rule) (allow : Bool) (processes : List IpcProcess) (agents : List Agent) → members ≡ members' → plans ≡ plans' → rules ≡ rules' → AreStarted members plans rules allow (length members) processes agents → AreStarted members' plans' rules' allow (length members') processes agents
+same_started members members' plans plans' rules rules' allow processes agents m p r so =
+    subst (λ (ms : List Kept). AreStarted ms plans' rules' allow (length ms) processes agents) m (subst (λ (ls : List LinkPlan). AreStarted members ls rules' allow (length members) processes agents) p (subst (λ (rs : List Rule). AreStarted members plans rs allow (length members) processes agents) r so))

@@ -1,0 +1,8 @@
+use Rattle.std.proofs.Common.{List, length, subst}
+use Rattle.std.specs.Prelude.{IfOk}
+use Rattle.rina_data.specs.declared.settings.Member.{Member}
+use Rattle.rina_dif.specs.Managing.{AreStarted}
+use Rattle.rina_dif.proofs.dif.Dif.first_managements.Goals as goal
+
+pub returns : goal.returns
+returns c = subst (λ (ms : List Member). IfOk c.start_all.result (λ agents. AreStarted ms c.args.plans.now c.args.rules.now c.args.allow (length ms) c.args.self.now.processes agents)) c.as_slice-members.ensures c.start_all.ensures
