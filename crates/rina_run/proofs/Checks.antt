@@ -22,7 +22,7 @@ use Rattle.rina_run.specs.Check.{InputTells, IsFirstBad, IsRead, IsReadAs, Lines
 use Rattle.rina_run.specs.Outcomes.{IsChecked}
 use Rattle.rina_run.specs.Script.{Script, script, script_in}
 use Rattle.rina_run.specs.Top.{ClosedBy, IsOutOfMemory, IsReadTo, fault_of, is_whole, stack_fault, status_of}
-use Rattle.rina_run.proofs.Ending.{fault_is_read, stack_not_read}
+use Rattle.rina_run.proofs.Ending.{fault_is_read, is_told, stack_not_read}
 use Rattle.rina_run.proofs.Playing.{line_got, texts_of}
 
 text_at : (ls : List (Bor (List ℕ))) (i : ℕ) (d : Bor (List ℕ)) → i < length ls → get_or (texts_of ls) i [] ≡ without_terminator (get_or ls i d).now
@@ -105,6 +105,11 @@ closed_as wanted s note t c is = (subst (λ (u : Status). ClosedBy wanted note [
 
 pub ends_by_fault : (known : List ℕ → Bool) (ending : Option Fault) (script : Option Script) (note : Note) (s : Status) (t : List Note) → InputTells known ending script note → ClosedBy (status_beside note) note [] s t → s ≡ statuses.ReadFault → ending ≡ Some faults.ReadFault
 ends_by_fault known ending script note s t tells c is = told_of_input known ending script note tells (closed_as (status_beside note) s note t c is)
+
+-- a note is told beside no write fault
+pub is_told_beside : (note : Note) → ¬ (status_beside note ≡ statuses.WriteFault)
+is_told_beside (notes.Fault fault) h = is_told fault h
+is_told_beside note h = cc
 
 -- an input that was read, and the one note that is told of it
 pub was_checked : (known : List ℕ → Bool) (left left' : Option (List ℕ)) (ending : Option Fault) (used : List ℕ) (note : Note) (s : Status) (t : List Note) (tower : Option Tower) → IsReadTo left left' ending used → InputTells known ending (script_in (is_whole ending) used) note → ClosedBy (status_beside note) note [] s t → tower ≡ None → IsChecked known left left' s t tower

@@ -1,5 +1,5 @@
 -- What a run of a drawn input comes to.
-use Rattle.std.proofs.Common.{◌≡◌, ℕ, ◌+◌, ◌≤◌, ◌<◌, Bool, List, [], take, length, slice_get, Option, Some, None, IsSome, ◌⊎◌, inl, inr, refl, sym, ◌∙◌, subst, ap, arith}
+use Rattle.std.proofs.Common.{◌≡◌, ℕ, ◌+◌, ◌≤◌, Bool, List, [], take, length, slice_get, Option, Some, None, IsSome, inl, inr, refl, sym, ◌∙◌, subst, ap, arith}
 use Rattle.std.specs.Prelude.{count_by, option_map}
 use Rattle.std.specs.List.{sum_by}
 use Rattle.std.proofs.lemmas.List.{take_all}
@@ -20,7 +20,7 @@ use Rattle.rina_run.specs.declared.outcome.Status.TheVariants as statuses
 use Rattle.rina_run.specs.Drawn.{Tells, fac_failures, is_failed_app}
 use Rattle.rina_run.specs.Outcomes.{IsGenerated, IsRan}
 use Rattle.rina_run.specs.Script.{Script, script_in}
-use Rattle.rina_run.specs.Top.{InputOutcomes, IsOutOfMemory, RefusedBy, ScriptOutcomes, is_whole, status_of}
+use Rattle.rina_run.specs.Top.{InputOutcomes, IsOutOfMemory, ScriptOutcomes, is_whole, status_of}
 
 -- the ends of the next facility are counted
 pub failures_more : (facs : List Fac) (i count found next : ℕ) (ends : List End) → count ≡ sum_by fac_failures (take i facs) → option_map (λ (f : Fac). f.ends) (slice_get facs i) ≡ Some ends → found ≡ count_by is_failed_app ends → next ≡ count + found → next ≡ sum_by fac_failures (take (i + 1) facs)
@@ -37,7 +37,7 @@ failures_more facs i count found next ends so_far is found_is next_is = elim (sl
 pub failures_all : (facs : List Fac) (i count : ℕ) → count ≡ sum_by fac_failures (take i facs) → length facs ≤ i → count ≡ sum_by fac_failures facs
 failures_all facs i count so_far past = so_far ∙ ap (λ fs. sum_by fac_failures fs) (take_all i facs past)
 
-no_fault_is_done : (fault : Fault) → statuses.Done ≡ status_of fault → ⊥
+pub no_fault_is_done : (fault : Fault) → statuses.Done ≡ status_of fault → ⊥
 no_fault_is_done (faults.Usage word) h = cc
 no_fault_is_done faults.TooLarge h = cc
 no_fault_is_done faults.NotToml h = cc
@@ -45,7 +45,7 @@ no_fault_is_done (faults.StackRule n item) h = cc
 no_fault_is_done (faults.Schedule line n field) h = cc
 no_fault_is_done faults.ReadFault h = cc
 
-script_done : (known : List ℕ → Bool) (ending : Option Fault) (s : Script) (shelf : List Slot) (t : List Note) (shelf' : List Slot) → ScriptOutcomes known ending s shelf statuses.Done t None shelf' → ⊥
+pub script_done : (known : List ℕ → Bool) (ending : Option Fault) (s : Script) (shelf : List Slot) (t : List Note) (shelf' : List Slot) → ScriptOutcomes known ending s shelf statuses.Done t None shelf' → ⊥
 script_done known ending s shelf t shelf' (inl m, same) = let no : statuses.Done ≡ statuses.Memory = m.memory in cc
 script_done known ending s shelf t shelf' (inr r, same) = no_fault_is_done r.fault r.refused.0
 

@@ -45,7 +45,7 @@ use Rattle.rina_run.proofs.Texts.{wrote_all}
 pub wrote_nothing : (base : Option (List ℕ)) (ns : List Note) → ns ≡ [] → Appends base base (text_of ns)
 wrote_nothing base ns h = rw h (Appends-nil base)
 
--- what was written whole is what any status wants
+-- what was written whole is what any status needs
 pub written_any : (old new : Option (List ℕ)) (ns : List Note) (s : Status) → Appends old new (text_of ns) → Written old new (text_of ns) s
 written_any old new ns statuses.WriteFault p = wrote_all old new ns p
 written_any old new ns statuses.Memory p = wrote_all old new ns p

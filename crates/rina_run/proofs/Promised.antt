@@ -7,7 +7,7 @@ use Rattle.rina_dif.specs.Shown.{seen_of as seen_of_dif}
 use Rattle.rina_dif.specs.Holding.{Stands}
 use Rattle.rina_tower.specs.declared.tower.Tower.{Tower, Rank', Wires}
 use Rattle.rina_tower.specs.Stands.{IsTower}
-use Rattle.rina_run.specs.Promises.{AccountsAll, CarriesAll, CausesAll, IsCarriedBy, IsCausedIn, IsInAccount, IsLawfulIn, IsRoutedIn, IsWrittenOffIn, LawfulAll, OfEachDif, RoutesAll, WriteOffsAll}
+use Rattle.rina_run.specs.Promises.{AccountsAll, CarriesAll, CausesAll, IsCarriedBy, IsCausedIn, IsInAccount, IsLawfulIn, IsManagedIn, IsRoutedIn, IsWrittenOffIn, ItemsAll, LawfulAll, OfEachDif, RoutesAll, WriteOffsAll}
 
 -- what follows of a DIF that stands holds of each
 of_each : (Promise : Dif → Seen → Type 0) → ((d : Dif) (below : Seen) → Stands d below → Promise d below) → (t : Tower) → IsTower t → OfEachDif Promise t
@@ -53,3 +53,9 @@ routed_in d below stands = stands.1.routed
 
 pub routed_if : (tower : Option Tower) → IfSome tower IsTower → IfSome tower RoutesAll
 routed_if = of_each_if IsRoutedIn routed_in
+
+managed_in : (d : Dif) (below : Seen) → Stands d below → IsManagedIn d below
+managed_in d below stands = stands.1.managed
+
+pub managed_if : (tower : Option Tower) → IfSome tower IsTower → IfSome tower ItemsAll
+managed_if = of_each_if IsManagedIn managed_in

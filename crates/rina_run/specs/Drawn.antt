@@ -9,7 +9,6 @@ use Rattle.rina_data.specs.declared.process.IpcProcess.{IpcProcess}
 use Rattle.rina_dif.specs.declared.dif.Dif.{Dif}
 use Rattle.rina_gen.specs.Input.{input}
 use Rattle.rina_gen.specs.Text.{input_text}
-use Rattle.rina_report.specs.declared.answer.Answer.{Answer}
 use Rattle.rina_report.specs.declared.answer.Answer.TheVariants as answers
 use Rattle.rina_report.specs.declared.note.Fault.{Fault}
 use Rattle.rina_report.specs.declared.note.Note.{Note}

@@ -4,6 +4,7 @@ pub mod Opening
 pub mod Run
 pub mod Written
 pub mod Top
+pub mod Faults
 pub mod Check
 pub mod Drawn
 pub mod Outcomes

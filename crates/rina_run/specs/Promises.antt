@@ -11,6 +11,7 @@ use Rattle.rina_dif_law.specs.Written.{AreWrittenOff}
 use Rattle.rina_data.specs.Configs.{config_of}
 use Rattle.rina_flows.specs.Calls.{AreTied}
 use Rattle.rina_dif.specs.declared.dif.Dif.{Dif}
+use Rattle.rina_dif.specs.Managing.{AreManaged}
 use Rattle.rina_dif.specs.Routing.{HaveRoutes}
 use Rattle.rina_dif.specs.Shown.{seen_of as seen_of_dif}
 use Rattle.rina_tower.specs.declared.tower.Tower.{Tower, Wires, Rank'}
@@ -66,3 +67,11 @@ IsRoutedIn d below = HaveRoutes d.settings.members d.laid.links d.processes
 
 abbrev pub RoutesAll : Tower → Type 0
 RoutesAll = OfEachDif IsRoutedIn
+
+-- the management of each member knows the live links of its IPC process, and of each other member the links that it had
+-- from the start; and the next hops of the IPC process are the least walks over the items that its management holds
+abbrev pub IsManagedIn : Dif → Seen → Type 0
+IsManagedIn d below = AreManaged d
+
+abbrev pub ItemsAll : Tower → Type 0
+ItemsAll = OfEachDif IsManagedIn

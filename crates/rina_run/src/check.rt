@@ -1,7 +1,6 @@
 //! Checking an input: its stack and its lines are read, and nothing is run.
 ghost use Rattle.std.specs.Prelude.{◌≡◌, ◌<◌, ◌≤◌, ◌^◌, [], length, map, None, IfOk};
 ghost use Rattle.bstr.specs.Text.{without_terminator};
-ghost use Rattle.rina_io.specs.Causes.{Rose};
 ghost use Rattle.rina_report.specs.Notes.{text_of};
 ghost use Rattle.rina_stack.specs.Plan.{IsPlan};
 ghost use Rattle.rina_run.specs.Check.{AreReadAs, InputTells, IsReadAs, LinesTell, ScriptTells, counts_of, last_note, status_beside};
@@ -9,6 +8,7 @@ ghost use Rattle.rina_run.specs.Outcomes.{IsChecked};
 ghost use Rattle.rina_run.specs.Script.{script, script_in};
 ghost use Rattle.rina_run.specs.Top.{ClosedBy, is_whole};
 ghost use Rattle.rina_run.specs.Written.{Written};
+ghost use Rattle.rina_run.specs.Faults.{IsNoneMore, IsOneMore, WriteFaults};
 
 use crate::closing::{fault_status, line_fault, out_of_memory, seal};
 use crate::input::{Parts, split_input};
@@ -155,11 +155,12 @@ fn status_of_note(note: &Note) -> Status
 }
 
 /// Tells one note.
+#[tactic(auto, using(crate::proofs::Checks::is_told_beside))]
 fn tell<K: Sink>(alloc: Global, note: Note, out: &mut K) -> Finish
     ensures closed { ClosedBy (status_beside note) note [] result.status result.trace }
     ensures tower { result.tower ≡ None }
     ensures written { Written (K.took out.old) (K.took out.new) (text_of result.trace) result.status }
-    ensures fault { result.status ≡ Status.WriteFault → Rose (K.faults out.old) (K.faults out.new) }
+    ensures faults { WriteFaults result.status (K.faults out.old) (K.faults out.new) (K.odd out.old) (K.odd out.new) }
 {
     let status = status_of_note(&note);
     seal(alloc, status, note, None, out, Seq::new(alloc))
@@ -176,8 +177,9 @@ pub fn check_input<S: Source, K: Sink, P: Policies>(
     ensures outcome { IsChecked (P.knows shelf.now) (S.left input.old) (S.left input.new) result.status result.trace result.tower }
     ensures left { result.tower ≡ None }
     ensures written { Written (K.took out.old) (K.took out.new) (text_of result.trace) result.status }
-    ensures read { result.status ≡ Status.ReadFault → Rose (S.faults input.old) (S.faults input.new) }
-    ensures write { result.status ≡ Status.WriteFault → Rose (K.faults out.old) (K.faults out.new) }
+    ensures read { result.status ≡ Status.ReadFault → IsOneMore (S.faults input.old) (S.faults input.new) (S.odd input.old) (S.odd input.new) }
+    ensures whole { result.status ≡ Status.Done → IsNoneMore (S.faults input.old) (S.faults input.new) (S.odd input.old) (S.odd input.new) }
+    ensures write { WriteFaults result.status (K.faults out.old) (K.faults out.new) (K.odd out.old) (K.odd out.new) }
 {
     let Ok(read) = read_input(alloc, input) else {
         return out_of_memory(alloc);

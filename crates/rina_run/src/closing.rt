@@ -1,10 +1,10 @@
 //! How a run ends: by a closing note, by a fault that is told, or without memory.
-ghost use Rattle.std.specs.Prelude.{◌≡◌, ◌≤◌, ◌++◌, ◌∷◌, [], ℕ, List, Option, None, OnOk, IsErrOf, ◌⊎◌};
+ghost use Rattle.std.specs.Prelude.{◌≡◌, ◌++◌, ◌∷◌, [], ℕ, List, Option, None, OnOk, IsErrOf, ◌⊎◌};
 ghost use Rattle.std.specs.Io.KnownBytes.{Appends};
-ghost use Rattle.rina_io.specs.Causes.{Rose};
 ghost use Rattle.rina_report.specs.Notes.{text_of};
 ghost use Rattle.rina_run.specs.Written.{IsFront, Written};
 ghost use Rattle.rina_run.specs.Top.{status_of, status_stopped, fault_of, ClosedBy, RefusedBy, IsOutOfMemory};
+ghost use Rattle.rina_run.specs.Faults.{StopFaults, WriteFaults};
 
 use crate::lines::BadLine;
 use crate::outcome::{Finish, Status};
@@ -34,8 +34,7 @@ fn close<K: Sink>(alloc: Global, out: &mut K, trace: &mut Notes, note: Note) -> 
     ensures stopped { IsErrOf result Stop.WriteFault → trace.new ≡ trace.old ++ note ∷ [] }
     ensures ok { OnOk result ((base : Option (List ℕ)) → Appends base (K.took out.old) (text_of trace.old) → Appends base (K.took out.new) (text_of trace.new)) }
     ensures front { (base : Option (List ℕ)) → Appends base (K.took out.old) (text_of trace.old) → IsFront base (K.took out.new) (text_of trace.new) }
-    ensures fault { IsErrOf result Stop.WriteFault → Rose (K.faults out.old) (K.faults out.new) }
-    ensures later { K.faults out.old ≤ K.faults out.new }
+    ensures faults { StopFaults result (K.faults out.old) (K.faults out.new) (K.odd out.old) (K.odd out.new) }
 {
     let from = trace.len();
     if trace.push(note).is_err() {
@@ -80,7 +79,7 @@ pub fn line_fault(bad: BadLine) -> Fault
 }
 
 /// Ends a run with a closing note. The status is this one, unless the run is stopped.
-#[tactic(auto, using(crate::proofs::Ending::written_any, crate::proofs::Ending::written_stop, crate::proofs::Ending::closed_ok))]
+#[tactic(auto, using(crate::proofs::Ending::written_any, crate::proofs::Ending::written_stop, crate::proofs::Ending::closed_ok, crate::proofs::Faulty::none_by))]
 pub fn seal<K: Sink>(
     alloc: Global,
     status: Status,
@@ -92,8 +91,7 @@ pub fn seal<K: Sink>(
     ensures closed { ClosedBy status note trace result.status result.trace }
     ensures tower { result.tower ≡ tower }
     ensures written { (base : Option (List ℕ)) → Appends base (K.took out.old) (text_of trace) → Written base (K.took out.new) (text_of result.trace) result.status }
-    ensures fault { result.status ≡ Status.WriteFault → ¬ (status ≡ Status.WriteFault) → Rose (K.faults out.old) (K.faults out.new) }
-    ensures later { K.faults out.old ≤ K.faults out.new }
+    ensures faults { ¬ (status ≡ Status.WriteFault) → WriteFaults result.status (K.faults out.old) (K.faults out.new) (K.odd out.old) (K.odd out.new) }
 {
     let mut trace = trace;
     match close(alloc, out, &mut trace, note) {
@@ -122,8 +120,7 @@ pub fn end_by_fault<K: Sink>(
     ensures closed { ClosedBy (status_of fault) (Note.Fault fault) trace result.status result.trace }
     ensures tower { result.tower ≡ tower }
     ensures written { (base : Option (List ℕ)) → Appends base (K.took out.old) (text_of trace) → Written base (K.took out.new) (text_of result.trace) result.status }
-    ensures fault { result.status ≡ Status.WriteFault → Rose (K.faults out.old) (K.faults out.new) }
-    ensures later { K.faults out.old ≤ K.faults out.new }
+    ensures faults { WriteFaults result.status (K.faults out.old) (K.faults out.new) (K.odd out.old) (K.odd out.new) }
 {
     let note = Note::Fault(fault);
     seal(alloc, fault_status(fault), note, tower, out, trace)
@@ -135,8 +132,7 @@ pub fn refuse<K: Sink>(alloc: Global, out: &mut K, fault: Fault) -> Finish
     ensures refused { RefusedBy fault result.status result.trace }
     ensures tower { result.tower ≡ None }
     ensures written { Written (K.took out.old) (K.took out.new) (text_of result.trace) result.status }
-    ensures fault { result.status ≡ Status.WriteFault → Rose (K.faults out.old) (K.faults out.new) }
-    ensures later { K.faults out.old ≤ K.faults out.new }
+    ensures faults { WriteFaults result.status (K.faults out.old) (K.faults out.new) (K.odd out.old) (K.odd out.new) }
 {
     end_by_fault(alloc, fault, None, out, Seq::new(alloc))
 }

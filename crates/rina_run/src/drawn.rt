@@ -2,13 +2,13 @@
 ghost use Rattle.std.specs.Prelude.{◌≡◌, ◌≢◌, ℕ, List, [], Option, Some, IfSome, IsSome, ◌⊎◌};
 ghost use Rattle.rina_gen.specs.Input.{input};
 ghost use Rattle.rina_gen.specs.Text.{input_text};
-ghost use Rattle.rina_io.specs.Causes.{Rose};
 ghost use Rattle.rina_report.specs.Notes.{text_of};
 ghost use Rattle.rina_tower.specs.Stands.{IsTower};
 ghost use Rattle.rina_run.specs.Drawn.{SumsUp, Tells, TellsFault, TellsNothing};
 ghost use Rattle.rina_run.specs.Outcomes.{IsGenerated, IsRan};
 ghost use Rattle.rina_run.specs.Top.{status_of};
 ghost use Rattle.rina_run.specs.Written.{Written};
+ghost use Rattle.rina_run.specs.Faults.{WriteFaults};
 
 use crate::closing::{end_by_fault, out_of_memory, seal};
 use crate::outcome::{Ended, Finish, Status};
@@ -60,7 +60,7 @@ fn tell_summary<K: Sink>(
     ensures told { TellsNothing result.status result.trace ⊎ SumsUp n unwritten.now (Some tower) result.status result.trace }
     ensures tower { result.tower ≡ Some tower }
     ensures written { Written (K.took out.old) (K.took out.new) (text_of result.trace) result.status }
-    ensures write { result.status ≡ Status.WriteFault → Rose (K.faults out.old) (K.faults out.new) }
+    ensures write { WriteFaults result.status (K.faults out.old) (K.faults out.new) (K.odd out.old) (K.odd out.new) }
 {
     let Ok(note) = sum_up(alloc, n, text, unwritten.as_slice(), &tower) else {
         return untold(alloc, Some(tower));
@@ -74,7 +74,7 @@ fn tell_fault<K: Sink>(alloc: Global, fault: Fault, tower: Option<Tower>, out: &
     ensures told { TellsFault (status_of fault) result.status result.trace }
     ensures tower { result.tower ≡ tower }
     ensures written { Written (K.took out.old) (K.took out.new) (text_of result.trace) result.status }
-    ensures write { result.status ≡ Status.WriteFault → Rose (K.faults out.old) (K.faults out.new) }
+    ensures write { WriteFaults result.status (K.faults out.old) (K.faults out.new) (K.odd out.old) (K.odd out.new) }
 {
     end_by_fault(alloc, fault, tower, out, Seq::new(alloc))
 }
@@ -96,7 +96,7 @@ fn tell_made<K: Sink>(
     ensures told { Tells n status unwritten.now tower result.status result.trace }
     ensures tower { result.tower ≡ tower }
     ensures written { Written (K.took out.old) (K.took out.new) (text_of result.trace) result.status }
-    ensures write { result.status ≡ Status.WriteFault → Rose (K.faults out.old) (K.faults out.new) }
+    ensures write { WriteFaults result.status (K.faults out.old) (K.faults out.new) (K.odd out.old) (K.odd out.new) }
 {
     match status {
         Status::Done => match tower {
@@ -129,7 +129,7 @@ pub fn gen_input<K: Sink, P: Retires + Policies>(
     ensures outcome { IsGenerated (P.knows shelf.old) n (P.slots shelf.old) result.finish.status result.finish.trace result.finish.tower result.unwritten (P.slots shelf.new) }
     ensures sound { IfSome result.finish.tower IsTower }
     ensures written { Written (K.took out.old) (K.took out.new) (text_of result.finish.trace) result.finish.status }
-    ensures write { result.finish.status ≡ Status.WriteFault → Rose (K.faults out.old) (K.faults out.new) }
+    ensures write { WriteFaults result.finish.status (K.faults out.old) (K.faults out.new) (K.odd out.old) (K.odd out.new) }
 {
     let Ok(text) = make(alloc, n) else {
         return Ended {

@@ -1,8 +1,7 @@
 //! The lines of a schedule, one after the other.
-ghost use Rattle.std.specs.Prelude.{◌≡◌, ◌≤◌, ◌<◌, ◌^◌, ℕ, List, [], length, map, take, true, Option, OnOk, OnErr, IsErrOf};
+ghost use Rattle.std.specs.Prelude.{◌≡◌, ◌<◌, ◌^◌, ℕ, List, [], length, map, take, true, Option, OnOk, OnErr};
 ghost use Rattle.std.specs.Io.KnownBytes.{Appends};
 ghost use Rattle.bstr.specs.Text.{without_terminator};
-ghost use Rattle.rina_io.specs.Causes.{Rose};
 ghost use Rattle.rina_report.specs.Notes.{text_of};
 ghost use Rattle.rina_stack.specs.Plan.{IsPlan};
 ghost use Rattle.rina_tower.specs.Stands.{IsTower};
@@ -10,6 +9,7 @@ ghost use Rattle.rina_words.specs.Built.{is_built};
 ghost use Rattle.rina_run.specs.Written.{IsFront};
 ghost use Rattle.rina_words.specs.Step.{HasNames, Steps, stage};
 ghost use Rattle.rina_run.specs.Run.{Ran, LineRan, LinesRan};
+ghost use Rattle.rina_run.specs.Faults.{StopFaults};
 
 use crate::output::{Stop, emit};
 use rina_base::{Memory, Seq};
@@ -48,8 +48,7 @@ fn run_event<K: Sink, P: Retires>(
     ensures does { Ran (λ ns. Steps line.now.plan.now line.now.number event.now (stage run.old (P.slots shelf.old)) ns (stage run.new (P.slots shelf.new))) trace.old trace.new result }
     ensures ok { OnOk result ((base : Option (List ℕ)) → Appends base (K.took out.old) (text_of trace.old) → Appends base (K.took out.new) (text_of trace.new)) }
     ensures err { OnErr result ((base : Option (List ℕ)) → Appends base (K.took out.old) (text_of trace.old) → IsFront base (K.took out.new) (text_of trace.new)) }
-    ensures fault { IsErrOf result Stop.WriteFault → Rose (K.faults out.old) (K.faults out.new) }
-    ensures later { K.faults out.old ≤ K.faults out.new }
+    ensures faults { StopFaults result (K.faults out.old) (K.faults out.new) (K.odd out.old) (K.odd out.new) }
     ensures sound { IsTower run.new.tower }
     ensures names { HasNames (P.slots shelf.old) (P.slots shelf.new) }
 {
@@ -79,8 +78,7 @@ fn run_line<K: Sink, P: Retires>(
     ensures does { LineRan line.now.plan.now line.now.number text.now (stage run.old (P.slots shelf.old)) trace.old (stage run.new (P.slots shelf.new)) trace.new result }
     ensures ok { OnOk result ((base : Option (List ℕ)) → Appends base (K.took out.old) (text_of trace.old) → Appends base (K.took out.new) (text_of trace.new)) }
     ensures err { OnErr result ((base : Option (List ℕ)) → Appends base (K.took out.old) (text_of trace.old) → IsFront base (K.took out.new) (text_of trace.new)) }
-    ensures fault { IsErrOf result Stop.WriteFault → Rose (K.faults out.old) (K.faults out.new) }
-    ensures later { K.faults out.old ≤ K.faults out.new }
+    ensures faults { StopFaults result (K.faults out.old) (K.faults out.new) (K.odd out.old) (K.odd out.new) }
     ensures sound { IsTower run.new.tower }
     ensures names { HasNames (P.slots shelf.old) (P.slots shelf.new) }
 {
@@ -125,8 +123,7 @@ pub fn play<K: Sink, P: Retires>(
     ensures does { LinesRan schedule.now.plan.now (stage run.old (P.slots shelf.old)) (map (λ l. without_terminator l.now) schedule.now.lines.now) trace.new (stage run.new (P.slots shelf.new)) result }
     ensures ok { OnOk result (Appends (K.took out.old) (K.took out.new) (text_of trace.new)) }
     ensures err { OnErr result (IsFront (K.took out.old) (K.took out.new) (text_of trace.new)) }
-    ensures fault { IsErrOf result Stop.WriteFault → Rose (K.faults out.old) (K.faults out.new) }
-    ensures later { K.faults out.old ≤ K.faults out.new }
+    ensures faults { StopFaults result (K.faults out.old) (K.faults out.new) (K.odd out.old) (K.odd out.new) }
     ensures sound { IsTower run.new.tower }
     ensures names { HasNames (P.slots shelf.old) (P.slots shelf.new) }
 {

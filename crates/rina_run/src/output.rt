@@ -1,9 +1,9 @@
 //! Writing the text of notes.
-ghost use Rattle.std.specs.Prelude.{◌≡◌, ◌≤◌, ℕ, List, Option, length, take, IfOk, OnOk, IsErrOf};
+ghost use Rattle.std.specs.Prelude.{◌≡◌, ◌≤◌, ℕ, List, Option, length, take, IfOk, OnOk};
 ghost use Rattle.std.specs.Io.KnownBytes.{Appends};
-ghost use Rattle.rina_io.specs.Causes.{Rose};
 ghost use Rattle.rina_report.specs.Notes.{text_of};
 ghost use Rattle.rina_run.specs.Written.{IsFront};
+ghost use Rattle.rina_run.specs.Faults.{StopFaults};
 
 use rina_base::Memory;
 use rina_io::{Failed, Sink, write_all};
@@ -38,8 +38,7 @@ pub fn emit<K: Sink>(alloc: Global, out: &mut K, trace: &Notes, from: usize) -> 
     requires { from ≤ length trace.now }
     ensures ok { OnOk result ((base : Option (List ℕ)) → Appends base (K.took out.old) (text_of (take from trace.now)) → Appends base (K.took out.new) (text_of trace.now)) }
     ensures front { (base : Option (List ℕ)) → Appends base (K.took out.old) (text_of (take from trace.now)) → IsFront base (K.took out.new) (text_of trace.now) }
-    ensures fault { IsErrOf result Stop.WriteFault → Rose (K.faults out.old) (K.faults out.new) }
-    ensures later { K.faults out.old ≤ K.faults out.new }
+    ensures faults { StopFaults result (K.faults out.old) (K.faults out.new) (K.odd out.old) (K.odd out.new) }
 {
     let (_, fresh) = trace.as_slice().split_at(from);
     let Ok(piece) = print_all(alloc, fresh) else {

@@ -1,8 +1,8 @@
 //! Reading an input.
-ghost use Rattle.std.specs.Prelude.{◌≡◌, ◌≤◌, length, Some, IfOk};
-ghost use Rattle.rina_io.specs.Causes.{Rose};
+ghost use Rattle.std.specs.Prelude.{◌≡◌, ◌≤◌, length, Some, None, IfOk};
 ghost use Rattle.rina_report.specs.declared.note.Fault.TheVariants as faults;
 ghost use Rattle.rina_run.specs.Top.{IsEnding, IsReadTo};
+ghost use Rattle.rina_run.specs.Faults.{IsNoneMore, IsOneMore};
 
 use rina_base::Memory;
 use rina_io::{Ending, LIMIT, Source, take_all};
@@ -21,7 +21,8 @@ pub fn read_input<S: Source>(alloc: Global, source: &mut S) -> Result<Input, Mem
     ensures read { IfOk result (λ i. IsReadTo (S.left source.old) (S.left source.new) i.ending i.bytes.items) }
     ensures ending { IfOk result (λ i. IsEnding i.ending) }
     ensures few { IfOk result (λ i. length i.bytes.items ≤ 16777216) }
-    ensures fault { IfOk result (λ i. i.ending ≡ Some faults.ReadFault → Rose (S.faults source.old) (S.faults source.new)) }
+    ensures fault { IfOk result (λ i. i.ending ≡ Some faults.ReadFault → IsOneMore (S.faults source.old) (S.faults source.new) (S.odd source.old) (S.odd source.new)) }
+    ensures fine { IfOk result (λ i. i.ending ≡ None → IsNoneMore (S.faults source.old) (S.faults source.new) (S.odd source.old) (S.odd source.new)) }
 {
     let taken = take_all(alloc, source);
     let mut bytes = taken.bytes;

@@ -2,9 +2,9 @@
 ghost use Rattle.std.specs.Prelude.{◌≡◌, None};
 ghost use Rattle.rina_gen.specs.Input.{input};
 ghost use Rattle.rina_gen.specs.Text.{input_text};
-ghost use Rattle.rina_io.specs.Causes.{Rose};
 ghost use Rattle.rina_run.specs.Outcomes.{EndsShow, IsShown};
 ghost use Rattle.rina_run.specs.Written.{Written};
+ghost use Rattle.rina_run.specs.Faults.{WriteFaults};
 
 use crate::outcome::{Finish, Status};
 use rina_base::Seq;
@@ -17,7 +17,7 @@ use std::alloc::Global;
 fn write_input<K: Sink>(alloc: Global, n: u32, out: &mut K) -> Status
     ensures ended { EndsShow result }
     ensures written { Written (K.took out.old) (K.took out.new) (input_text (input n)) result }
-    ensures fault { result ≡ Status.WriteFault → Rose (K.faults out.old) (K.faults out.new) }
+    ensures faults { WriteFaults result (K.faults out.old) (K.faults out.new) (K.odd out.old) (K.odd out.new) }
 {
     let Ok(text) = make(alloc, n) else {
         return Status::Memory;
@@ -33,7 +33,7 @@ pub fn show_input<K: Sink>(alloc: Global, n: u32, out: &mut K) -> Finish
     ensures shown { IsShown result.status result.trace result.tower }
     ensures left { result.tower ≡ None }
     ensures written { Written (K.took out.old) (K.took out.new) (input_text (input n)) result.status }
-    ensures write { result.status ≡ Status.WriteFault → Rose (K.faults out.old) (K.faults out.new) }
+    ensures write { WriteFaults result.status (K.faults out.old) (K.faults out.new) (K.odd out.old) (K.odd out.new) }
 {
     Finish {
         status: write_input(alloc, n, out),

@@ -1,18 +1,18 @@
 //! The top call.
 ghost use Rattle.std.specs.Prelude.{◌≡◌, ◌<◌, ◌≤◌, ◌^◌, [], length, map, IsSome, IfSome, string_bytes, ◌⊎◌};
 ghost use Rattle.bstr.specs.Text.{without_terminator};
-ghost use Rattle.rina_io.specs.Causes.{Rose};
 ghost use Rattle.rina_report.specs.Notes.{text_of};
 ghost use Rattle.rina_stack.specs.Plan.{IsPlan};
 ghost use Rattle.rina_tower.specs.Stands.{IsTower};
 ghost use Rattle.rina_run.specs.Opening.{IsOpening};
-ghost use Rattle.rina_run.specs.Promises.{AccountsAll, CarriesAll, CausesAll, LawfulAll, RoutesAll, WriteOffsAll};
+ghost use Rattle.rina_run.specs.Promises.{AccountsAll, CarriesAll, CausesAll, ItemsAll, LawfulAll, RoutesAll, WriteOffsAll};
 ghost use Rattle.rina_run.specs.Script.{script, script_in};
 ghost use Rattle.rina_words.specs.Step.{stage};
 ghost use Rattle.rina_run.specs.Command.{command_of};
 ghost use Rattle.rina_run.specs.Written.{Written};
 ghost use Rattle.rina_run.specs.Outcomes.{IsRan, RunOutcomes, text_written};
 ghost use Rattle.rina_run.specs.Top.{is_whole, PlayOutcomes, ScriptOutcomes, InputOutcomes, IsEnding, IsOutOfMemory, FailedByCut, KeepsAll};
+ghost use Rattle.rina_run.specs.Faults.{IsNoneMore, IsOneMore, WriteFaults};
 
 use crate::check::check_input;
 use crate::closing::{end_by_fault, line_fault, out_of_memory, refuse, seal, stopped};
@@ -36,7 +36,7 @@ use std::alloc::Global;
 
 /// Runs the lines of a script whose stack was accepted. `ending` is the fault that reading the
 /// input ended with, if it was not read to its end.
-#[tactic(auto, using(crate::proofs::Ending::done_from, crate::proofs::Ending::ended_from, crate::proofs::Ending::bad_from, crate::proofs::Ending::stop_from, crate::proofs::Ending::written_stop, crate::proofs::Ending::is_told))]
+#[tactic(auto, using(crate::proofs::Ending::done_from, crate::proofs::Ending::ended_from, crate::proofs::Ending::bad_from, crate::proofs::Ending::stop_from, crate::proofs::Ending::written_stop, crate::proofs::Ending::is_told, crate::proofs::Faulty::then_by))]
 fn run_lines<K: Sink, P: Retires>(
     alloc: Global,
     ending: Option<Fault>,
@@ -53,8 +53,7 @@ fn run_lines<K: Sink, P: Retires>(
     ensures tower { IsSome result.tower }
     ensures sound { IfSome result.tower IsTower }
     ensures written { Written (K.took out.old) (K.took out.new) (text_of result.trace) result.status }
-    ensures fault { result.status ≡ Status.WriteFault → Rose (K.faults out.old) (K.faults out.new) }
-    ensures later { K.faults out.old ≤ K.faults out.new }
+    ensures faults { WriteFaults result.status (K.faults out.old) (K.faults out.new) (K.odd out.old) (K.odd out.new) }
 {
     let mut trace = Seq::new(alloc);
     match play(alloc, schedule, &mut opened, shelf, out, &mut trace) {
@@ -89,8 +88,7 @@ fn run_script<K: Sink, P: Retires + Policies>(
     ensures outcome { ScriptOutcomes (P.knows shelf.old) ending (script parts.now.stack.items (map (λ l. without_terminator l.now) parts.now.lines.now)) (P.slots shelf.old) result.status result.trace result.tower (P.slots shelf.new) }
     ensures sound { IfSome result.tower IsTower }
     ensures written { Written (K.took out.old) (K.took out.new) (text_of result.trace) result.status }
-    ensures fault { result.status ≡ Status.WriteFault → Rose (K.faults out.old) (K.faults out.new) }
-    ensures later { K.faults out.old ≤ K.faults out.new }
+    ensures faults { WriteFaults result.status (K.faults out.old) (K.faults out.new) (K.odd out.old) (K.odd out.new) }
 {
     let plan = match read_runnable(alloc, parts.stack.as_slice(), shelf) {
         Ok(plan) => plan,
@@ -124,8 +122,7 @@ fn run_input<K: Sink, P: Retires + Policies>(
     ensures outcome { (IsOutOfMemory result.status result.trace result.tower × (P.slots shelf.new ≡ P.slots shelf.old)) ⊎ InputOutcomes (P.knows shelf.old) ending (script_in (is_whole ending) bytes.now) (P.slots shelf.old) result.status result.trace result.tower (P.slots shelf.new) }
     ensures sound { IfSome result.tower IsTower }
     ensures written { Written (K.took out.old) (K.took out.new) (text_of result.trace) result.status }
-    ensures fault { result.status ≡ Status.WriteFault → Rose (K.faults out.old) (K.faults out.new) }
-    ensures later { K.faults out.old ≤ K.faults out.new }
+    ensures faults { WriteFaults result.status (K.faults out.old) (K.faults out.new) (K.odd out.old) (K.odd out.new) }
 {
     let Ok(lines) = all_lines(alloc, bytes) else {
         return out_of_memory(alloc);
@@ -151,8 +148,9 @@ pub fn run_read<S: Source, K: Sink, P: Retires + Policies>(
     ensures outcome { IsRan (P.knows shelf.old) (S.left input.old) (S.left input.new) (P.slots shelf.old) result.status result.trace result.tower (P.slots shelf.new) }
     ensures sound { IfSome result.tower IsTower }
     ensures written { Written (K.took out.old) (K.took out.new) (text_of result.trace) result.status }
-    ensures read { result.status ≡ Status.ReadFault → Rose (S.faults input.old) (S.faults input.new) }
-    ensures write { result.status ≡ Status.WriteFault → Rose (K.faults out.old) (K.faults out.new) }
+    ensures read { result.status ≡ Status.ReadFault → IsOneMore (S.faults input.old) (S.faults input.new) (S.odd input.old) (S.odd input.new) }
+    ensures whole { result.status ≡ Status.Done → IsNoneMore (S.faults input.old) (S.faults input.new) (S.odd input.old) (S.odd input.new) }
+    ensures write { WriteFaults result.status (K.faults out.old) (K.faults out.new) (K.odd out.old) (K.odd out.new) }
 {
     let Ok(read) = read_input(alloc, input) else {
         return out_of_memory(alloc);
@@ -174,7 +172,7 @@ fn all_written(alloc: Global, finish: Finish) -> Ended
 /// A run over any shelf: the words of the command line without the program's name, the input, and where the
 /// notes are written. Each line's notes are written before the next line runs.
 /// Its clauses are those of `run`, which says what each of them means.
-#[tactic(auto, using(crate::proofs::Ending::kept_if, crate::proofs::Ending::failed_by_cut, crate::proofs::Promised::carried_if, crate::proofs::Promised::lawful_if, crate::proofs::Promised::accounted_if, crate::proofs::Promised::caused_if, crate::proofs::Promised::routed_if, crate::proofs::Promised::written_off_if))]
+#[tactic(auto, using(crate::proofs::Ending::kept_if, crate::proofs::Ending::failed_by_cut, crate::proofs::Promised::carried_if, crate::proofs::Promised::lawful_if, crate::proofs::Promised::accounted_if, crate::proofs::Promised::caused_if, crate::proofs::Promised::managed_if, crate::proofs::Promised::routed_if, crate::proofs::Promised::written_off_if))]
 fn run_over<S: Source, K: Sink, P: Retires + Policies>(
     alloc: Global,
     words: &[String],
@@ -190,11 +188,13 @@ fn run_over<S: Source, K: Sink, P: Retires + Policies>(
     ensures lawful { IfSome result.finish.tower LawfulAll }
     ensures accounted { IfSome result.finish.tower AccountsAll }
     ensures routed { IfSome result.finish.tower RoutesAll }
+    ensures managed { IfSome result.finish.tower ItemsAll }
     ensures caused { IfSome result.finish.tower CausesAll }
     ensures written_off { IfSome result.finish.tower WriteOffsAll }
     ensures failed { IfSome result.finish.tower FailedByCut }
-    ensures read { result.finish.status ≡ Status.ReadFault → Rose (S.faults input.old) (S.faults input.new) }
-    ensures write { result.finish.status ≡ Status.WriteFault → Rose (K.faults out.old) (K.faults out.new) }
+    ensures read { result.finish.status ≡ Status.ReadFault → IsOneMore (S.faults input.old) (S.faults input.new) (S.odd input.old) (S.odd input.new) }
+    ensures whole { result.finish.status ≡ Status.Done → IsNoneMore (S.faults input.old) (S.faults input.new) (S.odd input.old) (S.odd input.new) }
+    ensures write { WriteFaults result.finish.status (K.faults out.old) (K.faults out.new) (K.odd out.old) (K.odd out.new) }
 {
     match command_in(words) {
         Err(word) => all_written(alloc, refuse(alloc, out, Fault::Usage { word })),
@@ -230,14 +230,19 @@ pub fn run<S: Source, K: Sink, P: Retires + Policies>(
     ensures accounted { IfSome result.tower AccountsAll }
     // Each next hop of each IPC process is the first link of a least walk over the links that it knows.
     ensures routed { IfSome result.tower RoutesAll }
+    // Each member's management knows its live links, and those of the others from the start, and the next hops are read from the items that it holds.
+    ensures managed { IfSome result.tower ItemsAll }
     // A flow of a DIF has failed only where the acknowledgement of a number was too late to come, or with the flow below it.
     ensures caused { IfSome result.tower CausesAll }
     // A PDU was written off only for a cause that holds of the values in its line, by the settings, connections, links and clock of the DIF.
     ensures written_off { IfSome result.tower WriteOffsAll }
     // A flow of a wire has failed only by a cut of that wire.
     ensures failed { IfSome result.tower FailedByCut }
-    ensures read { result.status ≡ Status.ReadFault → Rose (S.faults input.old) (S.faults input.new) }
-    ensures write { result.status ≡ Status.WriteFault → Rose (K.faults out.old) (K.faults out.new) }
+    // A read fault is told only where one read failed, and what is done only where none did.
+    ensures read { result.status ≡ Status.ReadFault → IsOneMore (S.faults input.old) (S.faults input.new) (S.odd input.old) (S.odd input.new) }
+    ensures whole { result.status ≡ Status.Done → IsNoneMore (S.faults input.old) (S.faults input.new) (S.odd input.old) (S.odd input.new) }
+    // A write fault is told exactly where a write failed; that was one, and the last.
+    ensures write { WriteFaults result.status (K.faults out.old) (K.faults out.new) (K.odd out.old) (K.odd out.new) }
 {
     let mut shelf = shelf;
     let Ended { finish, unwritten } = run_over(alloc, words, input, out, &mut shelf);

@@ -1,4 +1,4 @@
-use Rattle.std.proofs.Common.{ap, ◌+◌, ◌∙◌, arith, Err}
+use Rattle.std.proofs.Common.{ap, ◌+◌, ◌∙◌, Err}
 use Rattle.std.proofs.lemmas.Result.{err_from_is_err_and}
 use Rattle.rina_run.proofs.Playing.{line_on, stops_at, stopped_in}
 use Rattle.rina_words.specs.Step.{stage}
@@ -23,5 +23,5 @@ lines-preserved g c = record {
   runs = line_on c.args.schedule.now.plan.now (stage c.args.run.now (g.P.Picks.slots c.args.shelf.now)) (stage c.lines.run (g.P.Picks.slots c.lines.shelf)) (stage c.run_line.new.run (g.P.Picks.slots c.run_line.new.shelf)) c.args.schedule.now.lines.now c.lines.text-index _ c.lines.number c.without_end-text.result.now c.lines.trace c.run_line.new.trace
       c.lines-test.true c.lines.invariant.number c.without_end-text.ensures c.lines.invariant.runs (rw c.in_default.is at c.in_ok-error.ensures.does);
   wrote = c.in_ok-error.ensures.ok (g.K.Sink.took c.args.out.now) c.lines.invariant.wrote;
-  later = omega (arith, c.lines.invariant.later, c.in_ok-error.ensures.later);
+  fine = (c.in_ok-error.ensures.faults.0 ∙ c.lines.invariant.fine.0, c.in_ok-error.ensures.faults.1 ∙ c.lines.invariant.fine.1);
 }

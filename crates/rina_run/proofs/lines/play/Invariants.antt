@@ -1,7 +1,8 @@
-use Rattle.std.proofs.Common.{◌≡◌, ◌≤◌, take}
+use Rattle.std.proofs.Common.{◌≡◌, take}
 use Rattle.std.specs.Io.KnownBytes.{Appends}
 use Rattle.rina_report.specs.Notes.{text_of}
 use Rattle.rina_tower.specs.Stands.{IsTower}
+use Rattle.rina_run.specs.Faults.{IsNoneMore}
 use Rattle.rina_run.specs.Run.{Runs}
 use Rattle.rina_words.specs.Step.{HasNames, stage}
 use Rattle.rina_run.proofs.Playing.{texts_of}
@@ -14,5 +15,5 @@ invariant-lines g l = record {
   runs : Runs l.schedule.plan.now 1 (stage l.fn.run (g.P.Picks.slots l.fn.shelf)) (take l.text-index (texts_of l.schedule.lines.now)) l.trace (stage l.run (g.P.Picks.slots l.shelf));
   names : HasNames (g.P.Picks.slots l.fn.shelf) (g.P.Picks.slots l.shelf);
   wrote : Appends (g.K.Sink.took l.fn.out) (g.K.Sink.took l.out) (text_of l.trace);
-  later : g.K.Sink.faults l.fn.out ≤ g.K.Sink.faults l.out;
+  fine : IsNoneMore (g.K.Sink.faults l.fn.out) (g.K.Sink.faults l.out) (g.K.Sink.odd l.fn.out) (g.K.Sink.odd l.out);
 }
