@@ -1,14 +1,14 @@
 -- Each SDU that was sent has one row, and is counted once.
-use Rattle.std.proofs.Common.{◌≡◌, ℕ, ◌+◌, ◌<◌, Bool, true, false, not, cond, ◌&&◌, List, [], ◌∷◌, ◌++◌, length, map, drop, get_or, Option, Some, None, Result, Ok, Err, IfOk, is_some, is_none, max, refl, sym, ap, ◌∙◌, append_assoc, arith}
-use Rattle.std.specs.List.{sum_by, count_by}
-use Rattle.std.proofs.lemmas.List.{append-nil, drop_more}
+use Rattle.std.proofs.Common.{◌≡◌, ℕ, ◌+◌, ◌<◌, cond, ◌&&◌, List, [], ◌∷◌, ◌++◌, length, map, drop, get_or, Option, Some, None, Result, Ok, Err, IfOk, is_some, is_none, refl, sym, ap, ◌∙◌, append_assoc, arith}
+use Rattle.std.specs.List.{count_by}
+use Rattle.std.proofs.lemmas.List.{drop_more}
 use Rattle.std.proofs.lemmas.List.Sums.{sum_by-cons}
 use Rattle.rina_view.specs.declared.row.Row.{Row}
 use Rattle.rina_view.specs.declared.shown.Entry.{Entry}
 use Rattle.rina_view.specs.declared.shown.End.{End}
 use Rattle.rina_view.specs.declared.shown.Off.{Off}
 use Rattle.rina_view.specs.Rows.{row_of, rows_from}
-use Rattle.rina_view.specs.Sums.{delay, is_got, is_off, is_unseen, greatest}
+use Rattle.rina_view.specs.Sums.{is_got, is_off, is_unseen}
 
 -- the rows are of the SDUs that were sent, in their order
 pub sent_of_rows : (got : List Entry) (offs : List Off) (end : End) (sent : List Entry) → map (λ (r : Row). r.sent) (rows_from got offs end sent) ≡ sent

@@ -1,5 +1,5 @@
 -- What was written of a text.
-use Rattle.std.proofs.Common.{◌≡◌, ◌<◌, ◌≤◌, ℕ, List, [], length, take, Option, Some, None, Result, Ok, Err, sym, refl, subst, ◌∙◌}
+use Rattle.std.proofs.Common.{◌≡◌, ◌<◌, ◌≤◌, ℕ, List, length, take, Option, Some, None, Result, Ok, Err, sym, refl, subst, ◌∙◌}
 use Rattle.rina_io.specs.declared.whole.Ending.{Ending}
 use Rattle.rina_io.specs.declared.whole.Ending.TheVariants as endings
 use Rattle.std.specs.Io.KnownBytes.{Appends, Consumes, IsAtEnd}
@@ -14,7 +14,7 @@ use Rattle.rina_view.specs.declared.read.Unread.{Unread}
 use Rattle.rina_view.specs.declared.read.Unread.TheVariants.{Memory, Line}
 use Rattle.rina_view.specs.Outcome.{TellsBy, TellsInput, TellsLost, TellsRead, whole, large, failed, unfound}
 use Rattle.rina_view.specs.Texts.{lost_text}
-use Rattle.rina_view.specs.Written.{IsFront, Writes, all_of, front, nothing}
+use Rattle.rina_view.specs.Written.{Writes, all_of, front, nothing}
 
 pub wrote_whole : (text : List ℕ) (status result : Status) (old new : Option (List ℕ)) → result ≡ status → Appends old new text → Writes text status old new result
 wrote_whole text status result old new is wrote = all_of is wrote

@@ -10,7 +10,7 @@ use Rattle.rina_schedule.specs.Errors.{number_of, field_of}
 use Rattle.rina_view.specs.declared.read.Unread.{Unread}
 use Rattle.rina_view.specs.declared.read.Unread.TheVariants.{Memory, Line}
 
--- want of memory, or the number of the line's error and its field
+-- `Memory`, or the number of the line's error and its field
 abbrev pub unread_at : ℕ → LineError → Unread
 unread_at line errors.Memory = Memory
 unread_at line error = Line line (number_of error) (field_of error)

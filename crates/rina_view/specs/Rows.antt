@@ -1,5 +1,5 @@
 -- What became of each SDU that an end of a flow sent, as far as the notes show it.
-use Rattle.std.specs.Prelude.{ℕ, ◌==◌, ◌&&◌, Bool, true, false, nat_lt, nat_le, not, List, [], ◌∷◌, length, find, position, count_by, option_map, Option, Some, None}
+use Rattle.std.specs.Prelude.{ℕ, ◌==◌, ◌&&◌, Bool, true, false, nat_lt, nat_le, not, List, [], ◌∷◌, find, position, count_by, option_map, Option, Some, None}
 use Rattle.std.specs.List.{list_any}
 use Rattle.std.specs.Str.{bytes_eq}
 use Rattle.rina_base.specs.declared.number.FlowName.{FlowName}

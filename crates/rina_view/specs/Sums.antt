@@ -1,5 +1,5 @@
 -- The sum of the rows of an end of a flow.
-use Rattle.std.specs.Prelude.{ℕ, ◌-◌, ◌^◌, ◌&&◌, Bool, true, false, List, [], ◌∷◌, length, min, max, count_by, is_some, is_none, Option, Some, None}
+use Rattle.std.specs.Prelude.{ℕ, ◌-◌, ◌^◌, ◌&&◌, Bool, List, [], ◌∷◌, length, min, max, count_by, is_some, is_none, Option, Some, None}
 use Rattle.std.specs.List.{sum_by}
 use Rattle.rina_view.specs.declared.row.Row.{Row}
 use Rattle.rina_view.specs.declared.sum.Sum.{Sum}

@@ -1,5 +1,5 @@
 -- What the program writes, and the status beside it.
-use Rattle.std.specs.Prelude.{◌≡◌, ◌≤◌, ℕ, List, [], length, take, Option}
+use Rattle.std.specs.Prelude.{◌≡◌, ℕ, List, [], take, Option}
 use Rattle.std.specs.Io.KnownBytes.{Appends}
 use Rattle.rina_report.specs.declared.note.Fault.{Fault}
 use Rattle.rina_report.specs.declared.note.Fault.TheVariants as faults

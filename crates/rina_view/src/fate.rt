@@ -42,7 +42,7 @@ fn is_other_end(end: &End, other: &End) -> bool
 }
 
 /// The other end of a flow, in the same journal.
-fn other_end<'a>(ends: &'a [End], end: &End) -> Option<&'a End>
+pub fn other_end<'a>(ends: &'a [End], end: &End) -> Option<&'a End>
     ensures { option_map (λ e. e.now) result ≡ find (is_other_end end.now) ends.now }
 {
     ends.iter().find(|other| is_other_end(end, other))

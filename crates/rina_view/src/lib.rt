@@ -14,11 +14,13 @@ mod sum;
 mod table;
 
 pub use ending::{Status, refuse, write};
+pub use fate::other_end;
 pub use gather::{ends_in, offs_in};
 pub use laws::each_sdu_sent_has_its_row;
 pub use lost::view;
 pub use read::{Unread, read_notes};
 pub use row::{Row, rows_of};
+pub use sentence::{flow, num};
 pub use shown::{End, Entry, Off};
 pub use sum::{Sum, sum_of};
 pub use table::lost_table;

@@ -14,7 +14,7 @@ use rina_schedule::Text;
 
 /// Appends CEP.SEQ.
 #[tactic(auto, unfolding(rina_report::specs::Values::num_text))]
-pub(crate) fn num(text: &mut Text, num: Num) -> Result<(), Memory>
+pub fn num(text: &mut Text, num: Num) -> Result<(), Memory>
     ensures { Adds result text.old text.new (num_text num) }
 {
     text.number(u64::from(num.cep))?;
@@ -24,7 +24,7 @@ pub(crate) fn num(text: &mut Text, num: Num) -> Result<(), Memory>
 
 /// Appends SRC.TICK.COUNT.
 #[tactic(auto, unfolding(rina_report::specs::Values::flow_text))]
-fn flow(text: &mut Text, flow: FlowName) -> Result<(), Memory>
+pub fn flow(text: &mut Text, flow: FlowName) -> Result<(), Memory>
     ensures { Adds result text.old text.new (flow_text flow) }
 {
     text.number(u64::from(flow.src))?;

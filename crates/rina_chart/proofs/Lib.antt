@@ -1,0 +1,4 @@
+pub mod Drawn
+pub mod EscapesLaw
+pub mod Shaping
+pub mod Writing

@@ -1,0 +1,9 @@
+pub mod Asked
+pub mod Charts
+pub mod Escapes
+pub mod Frames
+pub mod Outcome
+pub mod Sdus
+pub mod Shapes
+pub mod Svg
+pub mod Windows

@@ -1,0 +1,4 @@
+pub mod Standings
+pub mod Texts
+pub mod There
+pub mod Told

@@ -1,0 +1,10 @@
+//! What a designer asks of a stack before it is run: what each of its flows promises, and whether the way of the flow lets an SDU arrive.
+#![tactic(auto)]
+
+mod program;
+mod rows;
+mod standing;
+mod table;
+
+pub use program::look;
+pub use table::promises_table;
