@@ -12,7 +12,7 @@ use Rattle.rina_cdap.specs.Messages.{Field, field, be2, be4, byte, has_form, IsL
 use Rattle.rina_base.specs.ObjectNames.{is_object_name}
 use Rattle.rina_cdap.specs.Writing.{Makes}
 
--- only want of memory stops what can be written
+-- only `Memory` stops what can be written
 pub only_memory : (r : Result (Vec ℕ) CdapError) (bytes : List ℕ) → Makes r (Ok bytes) → IfErr r (λ e. e ≡ Memory)
 only_memory (Ok v) bytes h = tt
 only_memory (Err Memory) bytes h = refl

@@ -1,4 +1,4 @@
--- Any other error than want of memory tells that there is no message, or that a message has no bytes.
+-- Any other error than `Memory` tells that there is no message, or that a message has no bytes.
 use Rattle.std.proofs.Common.{◌≡◌, ℕ, false, List, Ok, Err}
 use Rattle.rina_cdap.specs.declared.error.CdapError.{CdapError}
 use Rattle.rina_cdap.specs.declared.error.CdapError.TheVariants.{Memory, Short, BadTag, BadOp, Twice, Missing, BadValue}

@@ -1,4 +1,4 @@
--- Want of memory among the errors.
+-- `Memory` among the errors.
 use Rattle.std.specs.Prelude.{Bool, true, false}
 use Rattle.rina_cdap.specs.declared.error.CdapError.{CdapError}
 use Rattle.rina_cdap.specs.declared.error.CdapError.TheVariants.{Memory}

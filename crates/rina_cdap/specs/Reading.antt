@@ -39,7 +39,7 @@ pub record IsFault (bytes : List ℕ) (e : CdapError) : Type 0 where
   pub parts : bytes ≡ text front ++ behind
   pub fault : fault_behind front behind ≡ Some e
 
--- an error of reading bytes: their first fault, or want of memory, which may be at any time
+-- an error of reading bytes: their first fault, or `Memory`, which may come at any time
 abbrev pub Faulty : CdapError → List ℕ → Type 0
 Faulty Memory bytes = Unit {0}
 Faulty (Short at) bytes = IsFault bytes (Short at)

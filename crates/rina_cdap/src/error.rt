@@ -36,7 +36,7 @@ impl CdapError {
     ghost use Rattle.std.specs.Prelude.{◌≡◌};
     ghost use Rattle.rina_cdap.specs.Faults.{is_memory};
 
-    /// Whether it is want of memory, and so tells nothing of the bytes or the message.
+    /// Whether it is `Memory`, which tells nothing of the bytes or the message.
     pub fn is_memory(self) -> bool
         ensures { result ≡ is_memory self }
     {

@@ -9,7 +9,7 @@ use Rattle.rina_dtp.specs.Stands.{IsRow}
 use Rattle.rina_law.specs.Constants.{Constants}
 use Rattle.rina_law.specs.Pieces.{Joiner, Sdu}
 use Rattle.rina_law.specs.Receiver as law
-use Rattle.rina_law.specs.Receiver.{Receiver, is_present, mark_after}
+use Rattle.rina_law.specs.Receiver.{Receiver, mark_after}
 use Rattle.rina_conn.specs.declared.conn.Conn.{Conn}
 use Rattle.rina_conn.specs.Conns.{marks, PassesOn, HasNoLast, Marks, Passes}
 

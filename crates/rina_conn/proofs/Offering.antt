@@ -14,7 +14,7 @@ use Rattle.rina_law.specs.Line.{HasRoom}
 use Rattle.rina_law.specs.Pieces.{Part, IsCut, join}
 use Rattle.rina_law.specs.Receiver.{Piece}
 use Rattle.rina_law.specs.Sender as law
-use Rattle.rina_law.specs.Sender.{Sender, Refusal, refusal, room_of, pieces_for, sender_with_all, sender_told}
+use Rattle.rina_law.specs.Sender.{Sender, refusal, room_of, pieces_for, sender_told}
 use Rattle.rina_base.specs.declared.pdu.Pdu.{Pdu}
 use Rattle.rina_conn.specs.declared.made.Made.{Made}
 use Rattle.rina_conn.specs.declared.made.OfferError.{OfferError}

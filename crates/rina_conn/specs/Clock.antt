@@ -82,6 +82,6 @@ IsAfter now old (due.GaveUp told) new = new ≡ old
 IsAfter now old (due.Ack ack right) new = new ≡ record old { plan = without old.plan }
 IsAfter now old (due.Again pdu) new = (new ≡ record old { sending = new.sending }) × SendsAgain now old.sending new.sending
 
--- once the PDU that it lent is let go
+-- once the PDU that it lent is given back
 abbrev pub LendsDue : ℕ → MutBor Conn → ConnDue → Fml
 LendsDue now k answer = follows_so conn.the_row conn.the_row k.ghost_name none (λ _ _. ⊤) (λ last. IsAfter now k.now answer last)

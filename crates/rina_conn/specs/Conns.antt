@@ -31,7 +31,7 @@ pub record IsNewConn (cube : Cube) (piece max : ℕ) (peer : Peer) (k : Conn) : 
   pub plan_is : k.plan ≡ record { a = cube.a; delta = delta_of cube; mark = None }
   pub none_waits : k.waiting ≡ record { room = 2 * cube.window; earlier = 0; firsts = [] }
 
--- a piece that was accepted, also where its SDU is broken, held, or a duplicate wants an acknowledgement
+-- a piece that was accepted, also where its SDU is broken, held, or a duplicate needs an acknowledgement
 abbrev pub marks : Verdict → Bool
 marks (Accept whole) = true
 marks Hold = true

@@ -1,4 +1,4 @@
--- What a connection, or its sending half, is once what it lent is let go.
+-- What a connection, or its sending half, is once what it lent is given back.
 use Rattle.std.specs.Prelude.{◌≡◌, ℕ, Option, option_copied, ⊤}
 use Rattle.std.specs.Borrow.{follows_so, MutBor, Bor, Fml}
 use mathlib.Core.Option.{none}

@@ -45,7 +45,7 @@ pub record IsNewSender (form : Form) (max : ℕ) (s : Sending) : Type 0 where
 
 -- An SDU that is offered
 
--- the refusal that an error tells; want of memory may come at any time
+-- the refusal that an error tells; `Memory` may come at any time
 abbrev pub Refuses : OfferError → Option Refusal → Type 0
 Refuses Memory r = Unit {0}
 Refuses (TooLong len max) r = r ≡ Some (law.TooLong len max)

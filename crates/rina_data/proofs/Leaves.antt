@@ -155,7 +155,7 @@ served_room g now p below n pick link item left bytes can is_link s is =
 pub some_waits : {X P : Type 0} (r : Option X) (x : X) → (IsNone r ↔ P) → r ≡ Some x → P → ⊥
 some_waits r x none is h = let gone : IsNone r = none.1 h in absurd (let e : IsNone (Some x) = subst (λ o. IsNone o) is gone in cc)
 
--- What comes of it
+-- What a PDU that was lent leads to
 
 abbrev pub first_of : Key → Queued → ℕ → Link → First
 first_of key item n link = record { key = key; qos = item.pdu.qos; link = n; port = link.port }

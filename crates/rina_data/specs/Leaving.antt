@@ -41,7 +41,7 @@ pub record CanGo (g : Config) (now : ℕ) (process : Process) (below : Seen) (n 
   pub roomy : (link : Link) → link_by n process.links ≡ Some link → IsRoomy below link.port g.pdu
   pub fit : (k j : ℕ) (queue : Queue) (item : Queued) → slice_get process.queues k ≡ Some queue → queue.link ≡ n → slice_get queue.items j ≡ Some item → IsFit g item.pdu
 
--- What becomes of a PDU
+-- How a PDU is handled
 
 -- the first PDU of the queue of a cube and link was taken away
 pub record IsTaken (process : Process) (qos link : ℕ) (process' : Process) : Type 0 where

@@ -2,7 +2,7 @@
 use rina_base::{Cause, Cep, Key, Memory, Num, Port};
 use rina_iface::SendError;
 
-/// What became of a PDU that an IPC process took from a link.
+/// How a PDU that an IPC process took from a link was handled.
 #[derive(Clone, Copy, Debug, PartialEq, Eq)]
 pub enum Took {
     /// It was for this IPC process.

@@ -103,7 +103,7 @@ offered_sent s d lines below port at end parts num d' lines' st h o =
       new_is = ap (shown s port) o.new_is ∙ ap (λ (x : Entry). with_fac s port.fac (with_end (fac_of d) at (with_sent o.end x))) is;
     }
 
--- an error of a send, whichever it is, but want of memory
+-- an error of a send, whichever it is, but `Memory`
 erred : (own : Option SendError) (s : Seen) (port : Port) (bytes : List ℕ) (e : SendError) (s' : Seen) → refused s port (length bytes) own ≡ Some e → s' ≡ s → Sends own s port bytes (Err e) s'
 erred own s port bytes errors.Memory s' r is = is
 erred own s port bytes (errors.NotAllocated state) s' r is = (r, is)

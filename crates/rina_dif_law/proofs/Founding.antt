@@ -175,7 +175,7 @@ module _ (d : DifSeen) (lines : List Direction) (below : Seen) (kept : AreKept b
 
 -- ---- flows fail
 
--- what the ending of an end wants, and keeps
+-- what the ending of an end needs, and keeps
 record IsKeptOn (lines : List Direction) (below : Seen) (d : DifSeen) : Type 0 where
   standing : IsStanding d lines below
   numbered : IsNumbered d below

@@ -392,7 +392,7 @@ lost_written d lines below i number routes d' st w s = written_on (MayWriteOff d
 
 -- ---- all ends of a node fail
 
--- what the ending of an end wants, and keeps
+-- what the ending of an end needs, and keeps
 record IsOn (lines : List Direction) (below : Seen) (d : DifSeen) : Type 0 where
   standing : IsStanding d lines below
   numbered : IsNumbered d below

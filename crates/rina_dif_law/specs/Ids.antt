@@ -72,7 +72,7 @@ pub record PiecesOf (cloud : ℕ → Pdu → Type 0) (ids : Ids) (death : ℕ) (
   pub from : IsFrom ids pdu
   pub is : piece_in pdu ≡ piece
 
--- and these the acknowledgements that came of them, which the far end sent
+-- and these the acknowledgements of them, which the far end sent
 pub record AcksOf (cloud : ℕ → Pdu → Type 0) (ids : Ids) (death : ℕ) (ack : Ack) : Type 0 where
   pub pdu : Pdu
   pub in_cloud : cloud death pdu

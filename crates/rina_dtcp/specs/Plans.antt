@@ -34,7 +34,7 @@ IsPlanOf c mark p = p ≡ record { a = c.cube.a; delta = delta c; mark = mark }
 abbrev pub IsLastIn : Receiver → Option ℕ → Type 0
 IsLastIn rx last_in = (last_in ≡ (if rx.made then Some rx.last_in else None)) × (unwrap_or last_in 0 ≡ rx.last_in)
 
--- a piece that wants an acknowledgement, and an SDU that is passed, by the machine's rules
+-- a piece that needs an acknowledgement, and an SDU that is passed, by the machine's rules
 
 abbrev pub TellsNote : ℕ → Option ℕ → Plan → Plan → Type 0
 TellsNote now last_in old new =

@@ -14,7 +14,7 @@ use Rattle.rina_dtp.specs.declared.verdict.Verdict.{Verdict}
 use Rattle.rina_dtp.specs.declared.verdict.Verdict.TheVariants.{Off}
 use Rattle.rina_dtp.specs.Accepted.{kind_of, known_verdict, number_verdict, top_of}
 use Rattle.rina_dtp.specs.Joins as joins
-use Rattle.rina_dtp.specs.Joins.{Joins, IsJoined}
+use Rattle.rina_dtp.specs.Joins.{Joins}
 use Rattle.rina_dtp.specs.Lost.{missing_before, is_broken, joiner_for, told_accepted}
 use Rattle.rina_dtp.specs.Receiving.{Receiving, present_at, lost_in, run_numbers, held_numbers, kept_numbers, end_cause, ended_with, broken_with, drops, cleared, start_join, verdict_for, IsAccepted, IsHeldIn, IsStep, Steps}
 use Rattle.rina_dtp.specs.Ring.{has_number}
@@ -30,7 +30,7 @@ use Rattle.rina_law.specs.Lists.{has, highest}
 use Rattle.rina_law.specs.Pdus.{piece_in}
 use Rattle.rina_law.specs.Pieces.{Joiner, Sdu, HasRoomFor}
 use Rattle.rina_law.specs.Receiver as law
-use Rattle.rina_law.specs.Receiver.{Piece, Receiver, is_present, next_of, numbers, present_verdict, absent_verdict, verdict_by_state, with_room, receiver_after, joined_after, AllHaveRoom}
+use Rattle.rina_law.specs.Receiver.{Piece, Receiver, is_present, present_verdict, absent_verdict, verdict_by_state, with_room, receiver_after, AllHaveRoom}
 
 -- The verdict
 

@@ -7,13 +7,13 @@ use Rattle.std.proofs.lemmas.List.{append-nil}
 use Rattle.std.proofs.Math.Nat.{mod-eq_of_lt}
 use Rattle.rina_delim.specs.declared.joiner.Run.{Run}
 use Rattle.rina_delim.specs.Joining as delim
-use Rattle.rina_delim.specs.Joining.{Joining, piece, after, before, missing_after, answer_for, held_after, joined_for, answer, joined}
+use Rattle.rina_delim.specs.Joining.{Joining, piece, after, before, missing_after, answer, joined}
 use Rattle.rina_dtp.specs.Joins.{sdu_in, gap_if, missing_in, is_cut_off, whole_by, made_by}
 use Rattle.rina_dtp.specs.Lost.{numbers_from, missing_before, is_broken, lost_with, given_up}
 use Rattle.rina_dtp.specs.Receiving.{numbers_to, lost_in}
 use Rattle.rina_dtp.specs.Stands.{IsRun, IsJoiner}
 use Rattle.rina_law.specs.Pieces as law
-use Rattle.rina_law.specs.Pieces.{Part, Joiner, empty_joiner, goes_on, with_part, Sdu, joined_with, finished}
+use Rattle.rina_law.specs.Pieces.{Part, Joiner, empty_joiner, goes_on, Sdu, joined_with}
 
 eqb_same : (a b c d : ℕ) → (a ≡ b → c ≡ d) → (c ≡ d → a ≡ b) → eqb a b ≡ eqb c d
 eqb_same a b c d f g = elim (eqb_tells a b) [

@@ -11,7 +11,7 @@ use Rattle.rina_law.specs.Constants.{Constants, delta}
 use Rattle.rina_law.specs.Line.{HasRoom}
 use Rattle.rina_law.specs.Pieces.{Part, join}
 use Rattle.rina_law.specs.Sender as law
-use Rattle.rina_law.specs.Sender.{Member, Sender, Refusal, is_empty, is_idle, refusal, room_of, fresh, started, member_for, sender_with, sender_with_all, sender_again}
+use Rattle.rina_law.specs.Sender.{Member, Sender, is_empty, is_idle, refusal, room_of, started, member_for, sender_with, sender_with_all}
 use Rattle.rina_law.proofs.Lists.{length-push, resent-length}
 
 empty_run : (run : List Member) → is_empty run ≡ eqb (length run) 0

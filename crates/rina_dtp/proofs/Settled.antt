@@ -25,7 +25,7 @@ use Rattle.rina_law.specs.Constants.{Constants}
 use Rattle.rina_law.specs.Lists.{highest}
 use Rattle.rina_law.specs.Pieces.{Part, Joiner, empty_joiner, Joined, joined_with, HasRoomFor}
 use Rattle.rina_law.specs.Receiver as law
-use Rattle.rina_law.specs.Receiver.{Piece, Receiver, next_of, numbers, part_in, from_on, with_held, receiver_after, joined_held, joined_after, AllHaveRoom, HeldHaveRoom}
+use Rattle.rina_law.specs.Receiver.{Piece, Receiver, next_of, numbers, from_on, receiver_after, joined_held, joined_after, AllHaveRoom, HeldHaveRoom}
 
 -- The piece itself, joined
 

@@ -1,6 +1,6 @@
 -- What is kept of the SDUs that are being joined: the pieces that wait, the SDUs that are whole, and the pieces that were
 -- given up.
-use Rattle.std.specs.Prelude.{◌≡◌, ℕ, ◌+◌, ◌-◌, ◌*◌, ◌<◌, ◌≤◌, Bool, true, List, [], ◌∷◌, ◌++◌, length, map, take, drop, Option, Some, None, if◌then◌else◌}
+use Rattle.std.specs.Prelude.{◌≡◌, ℕ, ◌+◌, ◌-◌, ◌≤◌, Bool, true, List, [], ◌∷◌, ◌++◌, length, map, take, drop, Option, Some, None, if◌then◌else◌}
 use Rattle.rina_delim.specs.declared.joiner.Run.{Run}
 use Rattle.rina_delim.specs.declared.joiner.Joined.{Joined}
 use Rattle.rina_delim.specs.declared.joiner.Joined.TheVariants.{Whole, Broken}

@@ -11,7 +11,7 @@ use Rattle.rina_law.specs.Lists.{has, highest}
 use Rattle.rina_law.specs.Pdus.{piece_in}
 use Rattle.rina_law.specs.Pieces.{Part, Joiner, empty_joiner, goes_on, Sdu, Joined, joined_with}
 use Rattle.rina_law.specs.Receiver as law
-use Rattle.rina_law.specs.Receiver.{Piece, Receiver, numbers, part_in, joined_after}
+use Rattle.rina_law.specs.Receiver.{Piece, Receiver, numbers, part_in}
 
 -- so many numbers from n on
 abbrev pub numbers_from : ℕ → ℕ → List ℕ

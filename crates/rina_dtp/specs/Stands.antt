@@ -71,7 +71,7 @@ pub record Stands (c : Constants) (now : ℕ) (m : Receiver) (j : Joiner) (r : R
 
 -- A piece that comes
 
--- all that came of earlier pieces was fetched
+-- all SDUs that earlier pieces completed were fetched
 pub record IsFetched (now : ℕ) (r : Receiving) : Type 0 where
   pub whole : r.join.whole ≡ []
   pub dropped : drops now r ≡ []

@@ -23,7 +23,7 @@ use Rattle.rina_law.specs.Lists.{In}
 use Rattle.rina_law.specs.Pdus.{piece_in}
 use Rattle.rina_law.specs.Pieces.{Joiner, Sdu, empty_joiner, goes_on}
 use Rattle.rina_law.specs.Receiver as law
-use Rattle.rina_law.specs.Receiver.{Piece, Receiver, is_present, receiver_after, verdict}
+use Rattle.rina_law.specs.Receiver.{Piece, is_present}
 use Rattle.rina_flows.specs.Arriving.{IsComing, cause_of, offs_of}
 use Rattle.rina_flows.specs.Tied.{IsKeptBy}
 use Rattle.rina_flows.proofs.Given.{broken_in, broken_with-length, ended_in, given_up_in}

@@ -14,7 +14,7 @@ use Rattle.rina_dif_law.specs.Counting.{joiner_numbers, numbers_from, off_number
 use Rattle.rina_dif_law.specs.Incoming.{by_joiner, lines_for, missing_for}
 use Rattle.rina_dtp.specs.declared.gap.Lost.{Lost}
 use Rattle.rina_dtp.specs.Lost as dtp
-use Rattle.rina_dtp.specs.Lost.{given_up, is_broken, itself, lost_after, lost_held, lost_on, lost_with, missing_before}
+use Rattle.rina_dtp.specs.Lost.{given_up, itself, lost_after, lost_held, lost_with, missing_before}
 use Rattle.rina_law.specs.Lists.{In, has, highest}
 use Rattle.rina_law.specs.Pieces.{Joined, Joiner, Part, Sdu, empty_joiner, finished, goes_on, joined_with, with_part}
 use Rattle.rina_law.specs.Receiver as law

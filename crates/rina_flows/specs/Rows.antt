@@ -69,7 +69,7 @@ pub record TakesAt (ends : List End) (ids : List Ids) (pdu : Pdu) (at : ℕ) (en
   pub allocated : end.state ≡ Allocated
   pub names : IsFrom (flipped its_ids) pdu
 
--- what comes of a piece: the cause for which it is written off, where it is; the lines of pieces that were held and are
+-- how a piece is taken: the cause for which it is written off, where it is; the lines of pieces that were held and are
 -- given up, in the order of their numbers; the SDUs that are whole are delivered; and each piece is written off, held or
 -- delivered once
 abbrev pub IsArrivedBy : Constants → Ids → ℕ → End → ℕ → Direction → Pdu → Option Cause → List Off → List End → List Direction → List End → List Direction → Type 0

@@ -4,7 +4,7 @@ use Rattle.rina_base.specs.declared.number.Port.{Port}
 use Rattle.rina_iface.specs.declared.ends.End.{End}
 use Rattle.rina_iface.specs.Seen.{Fac, Seen, oldest_in, with_fac}
 
--- nobody waits for this application at this node
+-- no end waits for this application at this node
 abbrev pub NoneWaits : Option Fac → ℕ → List ℕ → Type 0
 NoneWaits None node app = Unit {0}
 NoneWaits (Some f) node app = oldest_in f.ends f.waiting node app ≡ None

@@ -51,7 +51,7 @@ pub record Sdu : Type 0 where
   pub pieces : ℕ
   pub bytes : List ℕ
 
--- what comes of pieces that are given to a joiner: the joiner after them, and the SDUs that became whole
+-- pieces are given to a joiner: the joiner after them, and the SDUs that became whole
 pub record Joined : Type 0 where
   pub joiner : Joiner
   pub whole : List Sdu

@@ -1,6 +1,5 @@
 -- No call on wires but `cut` fails an end of a wire.
-use Rattle.std.proofs.Common.{◌≡◌, ℕ, ◌+◌, Bool, true, false, cond, List, [], ◌∷◌, ◌++◌, fold, map, slice_get, slice_set, Some, None, Option, refl, sym, ◌∙◌, ap, subst, inl, inr, ◌⊎◌}
-use Rattle.std.proofs.lemmas.Option.{same_Some}
+use Rattle.std.proofs.Common.{◌≡◌, ℕ, ◌+◌, true, false, cond, List, [], ◌∷◌, ◌++◌, fold, map, slice_get, slice_set, Some, None, Option, refl, sym, ◌∙◌, ap, subst, inl, inr, ◌⊎◌}
 use Rattle.rina_iface.specs.declared.ask.Ask.{Ask}
 use Rattle.rina_iface.specs.declared.ends.End.{End}
 use Rattle.rina_iface.specs.declared.state.Fail.{Fail}

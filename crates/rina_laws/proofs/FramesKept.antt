@@ -121,7 +121,7 @@ sent_back ends p old y i j e x there at is = elim (set_at ends p i old (with_sen
   | inr f ↦ inl (record { end = e; stands = f.1; place = j; is = is })
 ]
 
--- the next frame: nobody got it, and no copy of it is in flight
+-- the next frame: it did not arrive, and no copy of it is in flight
 none_got : (frames : ℕ) (got : List Entry) → AreBelow frames got → of_number (frame_number frames) got ≡ []
 none_got frames got below = filter_none (λ (x : Entry). same_num x.num (frame_number frames)) got (λ j x h. let lt = below j x h in and_no (x.num.cep == 0) (x.num.seq == frames) (differ x.num.seq frames (λ same. omega (arith, lt, same))))
 

@@ -1,10 +1,10 @@
 -- A run begins over wires on which nothing was sent.
-use Rattle.std.proofs.Common.{◌≡◌, ℕ, List, [], arith, map, slice_get, Some, option_map, refl, ◌∙◌, ap, subst}
+use Rattle.std.proofs.Common.{◌≡◌, ℕ, List, [], map, slice_get, Some, option_map, ◌∙◌, ap, subst}
 use Rattle.std.proofs.lemmas.Option.{slice_get-map}
 use Rattle.rina_law.specs.declared.entry.Entry.{Entry}
 use Rattle.rina_policy.specs.Slots.{Slot}
 use Rattle.rina_stack.specs.declared.plan.Plan.{Plan}
-use Rattle.rina_tower.specs.declared.tower.Tower.{Tower, Wires, Rank'}
+use Rattle.rina_tower.specs.declared.tower.Tower.{Wires}
 use Rattle.rina_wire.specs.Air.{Air, Line, fac_of, wire_at}
 use Rattle.rina_run.specs.Opening.{IsOpening}
 use Rattle.rina_words.specs.Step.{Stage}

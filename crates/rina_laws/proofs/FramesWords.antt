@@ -11,7 +11,6 @@ use Rattle.rina_tower.specs.declared.tower.Tower.{Tower}
 use Rattle.rina_tower.specs.Ranks.{seen_of}
 use Rattle.rina_wire.specs.declared.flight.Flight.{Flight}
 use Rattle.rina_wire.specs.Air.{Line, wire_at}
-use Rattle.rina_words.specs.declared.run.Run.{Run}
 use Rattle.rina_notes.specs.Look.{state_at}
 use Rattle.rina_notes.specs.Sites.{port_in}
 use Rattle.rina_words.specs.Step.{Acts, Stage, wire_of}

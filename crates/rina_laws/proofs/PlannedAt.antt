@@ -1,5 +1,5 @@
 -- Each relation of a tower keeps its DIFs as they were planned.
-use Rattle.std.proofs.Common.{◌≡◌, ◌∙◌, ℕ, ◌+◌, Bool, true, false, List, [], ◌∷◌, Option, Some, None, Result, Ok, Err, inl, inr, refl, sym, ap, subst}
+use Rattle.std.proofs.Common.{◌≡◌, ◌∙◌, ℕ, ◌+◌, Bool, true, false, List, [], ◌∷◌, Option, None, Result, Ok, Err, inl, inr, refl, sym, ap, subst}
 use Rattle.rina_base.specs.declared.number.Num.{Num}
 use Rattle.rina_base.specs.declared.number.Port.{Port}
 use Rattle.rina_law.specs.declared.entry.Entry.{Entry}
@@ -25,7 +25,7 @@ use Rattle.rina_wire.specs.Air.{Air}
 use Rattle.rina_tower.specs.declared.applications.AppError.{AppError}
 use Rattle.rina_tower.specs.declared.applications.AppError.TheVariants.{NoRank, NotYours, Call}
 use Rattle.rina_tower.specs.declared.tower.Tower.{Tower, Wires, Rank'}
-use Rattle.rina_tower.specs.Applications.{Answers, AppPasses, ClaimsFor}
+use Rattle.rina_tower.specs.Applications.{Answers, ClaimsFor}
 use Rattle.rina_tower.specs.Cdap.{AsksAtTop, AsksOne}
 use Rattle.rina_tower.specs.Calls.{AllocatesAtTop, ClaimsAtTop, FreesAtTop, PassesAtTop, RegistersAtTop, SendsAtTop, UnregistersAtTop}
 use Rattle.rina_tower.specs.StepEffect.{StandsAfter}
@@ -38,7 +38,7 @@ use Rattle.rina_tower.specs.ClockTick.{AreClocked, Ticks}
 use Rattle.rina_tower.specs.Levels.{AtRank, AtWires, SameBelow}
 use Rattle.rina_tower.proofs.Serving.{same_height}
 use Rattle.rina_tower.proofs.Staying.{any_stays, difs_planned, one_stays, same_links, same_planned, serves_stays}
-use Rattle.rina_words.specs.Step.{Passes, RoundsBy, waiting}
+use Rattle.rina_words.specs.Step.{Passes, RoundsBy}
 
 -- the ranks are as many, and each DIF is as it was planned where it was so before
 abbrev pub Keeps : Plan → Tower → Tower → Type 0

@@ -1,5 +1,5 @@
 -- Each word of a schedule keeps the DIFs as they were planned.
-use Rattle.std.proofs.Common.{◌≡◌, ℕ, zero, suc, ◌+◌, nat_lt, Bool, true, false, ◌||◌, List, [], ◌∷◌, Some, None, Option, Result, Ok, Err, ap}
+use Rattle.std.proofs.Common.{◌≡◌, ℕ, zero, suc, ◌+◌, nat_lt, Bool, true, false, ◌||◌, List, Some, None, Option, Result, Ok, Err, ap}
 use Rattle.rina_base.specs.declared.number.Port.{Port}
 use Rattle.rina_cube.specs.declared.Want.{Want}
 use Rattle.rina_data.specs.declared.step.StepError.TheVariants.{NoIpc}

@@ -1,11 +1,10 @@
 -- A run starts over wires and DIFs of which nothing but the flows of the stack was used.
-use Rattle.std.proofs.Common.{◌≡◌, ◌∙◌, ℕ, zero, suc, ◌+◌, Bool, true, false, List, [], ◌∷◌, map, slice_get, slice_set, Option, Some, None, option_map, Ok, refl, sym, ap, subst, arith, inl, inr}
+use Rattle.std.proofs.Common.{◌≡◌, ◌∙◌, ℕ, zero, suc, ◌+◌, true, false, List, [], ◌∷◌, map, slice_get, slice_set, Option, Some, None, option_map, Ok, refl, sym, ap, subst, arith, inl, inr}
 use Rattle.std.proofs.lemmas.Option.{same_Some, slice_get-map}
 use Rattle.rina_base.specs.declared.number.Port.{Port}
 use Rattle.rina_iface.specs.declared.ask.Fixed.{Fixed}
 use Rattle.rina_iface.specs.Seen.{Seen}
 use Rattle.rina_iface.proofs.Changed.{set_at}
-use Rattle.rina_queue.specs.declared.queue.Queue.{Queue as Waiting}
 use Rattle.rina_stack.specs.declared.plan.Plan.{Plan}
 use Rattle.rina_stack.specs.declared.plan.WirePlan.{WirePlan}
 use Rattle.rina_data.specs.declared.link.Link.{Link}
@@ -19,7 +18,7 @@ use Rattle.rina_wire.specs.Air.{Air, Line, on_wire, put}
 use Rattle.rina_wire.specs.Bind.{bound_on}
 use Rattle.rina_wire.specs.Plan.{air_of, line_of}
 use Rattle.rina_tower.specs.declared.tower.Tower.{Tower, Wires, Rank'}
-use Rattle.rina_tower.specs.BuiltWhole.{AreMadeOver, IsBuiltWhole, IsFresh}
+use Rattle.rina_tower.specs.BuiltWhole.{AreMadeOver, IsFresh}
 use Rattle.rina_tower.specs.Calls.{BindsAtTop, BindsWhole}
 use Rattle.rina_tower.specs.Fits.{flows_at}
 use Rattle.rina_tower.specs.MemoryFailure.{has_failed}

@@ -1,5 +1,5 @@
 -- What the calls do to one wire keeps a property of it; so does each call on wires.
-use Rattle.std.proofs.Common.{◌≡◌, ℕ, ◌+◌, ◌==◌, Bool, false, List, [], ◌∷◌, map, slice_get, Some, None, Option, option_map, IsSome, Result, Ok, Err, refl, sym, ◌∙◌, subst, inl, inr}
+use Rattle.std.proofs.Common.{◌≡◌, ℕ, ◌+◌, Bool, false, List, map, slice_get, Some, None, Option, option_map, IsSome, Result, Ok, Err, refl, sym, ◌∙◌, subst, inl, inr}
 use Rattle.std.proofs.lemmas.Option.{slice_get-map}
 use Rattle.rina_base.specs.declared.number.Num.{Num}
 use Rattle.rina_base.specs.declared.number.Port.{Port}
@@ -13,26 +13,20 @@ use Rattle.rina_iface.specs.declared.error.SendError.{SendError}
 use Rattle.rina_iface.specs.declared.error.SendError.TheVariants as sends
 use Rattle.rina_iface.specs.declared.error.UnregisterError.{UnregisterError}
 use Rattle.rina_iface.specs.declared.error.UnregisterError.TheVariants as unregister
-use Rattle.rina_iface.specs.declared.state.PortState.TheVariants.{Allocated}
-use Rattle.rina_iface.specs.Allocate.{asker_end, far_end}
-use Rattle.rina_iface.specs.Ends.{place_in, with_passed}
+use Rattle.rina_iface.specs.Ends.{place_in}
 use Rattle.rina_iface.specs.Journal.{At}
 use Rattle.rina_iface.specs.Seen.{oldest_in, unpassed}
 use Rattle.rina_iface.proofs.Changed.{all_at, set_at}
-use Rattle.rina_iface.proofs.Grown.{still_at}
-use Rattle.rina_wire.specs.declared.flight.Flight.{Flight}
 use Rattle.rina_wire.specs.Air.{Air, Line, on_end, on_wire, put, put_at, put_end, seen_of, wire_at}
-use Rattle.rina_wire.specs.Allocate.{AllocatesOn, flow_made, flow_on, other_node, port_on}
+use Rattle.rina_wire.specs.Allocate.{AllocatesOn, flow_made}
 use Rattle.rina_wire.specs.Claim.{ClaimsOn, without}
 use Rattle.rina_wire.specs.Register.{RegistersOn, named}
-use Rattle.rina_wire.specs.Send.{SendsOn, mate, passed, passed_at, sent_from}
-use Rattle.rina_wire.specs.Sound.{IsCopy, IsSound, IsSoundLine, KeepsFlows}
+use Rattle.rina_wire.specs.Send.{SendsOn, passed, passed_at, sent_from}
+use Rattle.rina_wire.specs.Sound.{IsSound, IsSoundLine, KeepsFlows}
 use Rattle.rina_wire.specs.Tick.{TicksOn, line_ticked}
 use Rattle.rina_wire.specs.Unregister.{UnregistersOn, unnamed}
 use Rattle.rina_wire.proofs.Carried.{waits_on}
-use Rattle.rina_wire.proofs.FlowMade.{sent_before}
 use Rattle.rina_wire.proofs.Kept.{is_mapped}
-use Rattle.rina_wire.proofs.Mates.{mate_mate}
 use Rattle.rina_wire.proofs.Sound.{sound_claims, sound_passed}
 use Rattle.rina_wire.proofs.SoundAllocate.{sound_allocates}
 use Rattle.rina_wire.proofs.SoundRegister.{sound_registers, sound_unregisters}

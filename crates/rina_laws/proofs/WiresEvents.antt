@@ -1,5 +1,5 @@
 -- What each event of a wire, and the end of a flow, keeps of one wire.
-use Rattle.std.proofs.Common.{◌≡◌, ℕ, Result, Ok, Err, sym, subst}
+use Rattle.std.proofs.Common.{ℕ, Result, Ok, Err, sym, subst}
 use Rattle.rina_base.specs.declared.number.Port.{Port}
 use Rattle.rina_iface.specs.declared.ends.End.{End}
 use Rattle.rina_iface.specs.declared.error.FreeError.{FreeError}

@@ -1,9 +1,8 @@
 -- Each wire stays as it was laid.
-use Rattle.std.proofs.Common.{◌≡◌, ℕ, Bool, true, false, cond, List, [], map, slice_get, Some, None, Option, option_map, sym, ◌∙◌, ap}
+use Rattle.std.proofs.Common.{◌≡◌, ℕ, true, false, cond, List, [], map, slice_get, Some, None, Option, option_map, sym, ◌∙◌, ap}
 use Rattle.std.proofs.lemmas.Option.{same_Some, slice_get-map}
 use Rattle.rina_base.specs.declared.storm.Storm.{Storm}
 use Rattle.rina_iface.specs.declared.ends.End.{End}
-use Rattle.rina_iface.specs.Journal.{At}
 use Rattle.rina_iface.specs.State.{cut_off}
 use Rattle.rina_iface.proofs.Changed.{all_at}
 use Rattle.rina_policy.specs.Slots.{Slot}

@@ -1,5 +1,5 @@
 -- What every call and event keeps of one wire, every run keeps.
-use Rattle.std.proofs.Common.{◌≡◌, ℕ, ◌+◌, List, [], ◌∷◌, Some, None, Option, Result, Ok, Err, sym, subst}
+use Rattle.std.proofs.Common.{ℕ, ◌+◌, List, [], ◌∷◌, Some, None, Option, Result, Ok, Err, sym, subst}
 use Rattle.rina_iface.specs.declared.ends.End.{End}
 use Rattle.rina_iface.specs.Journal.{At}
 use Rattle.rina_report.specs.declared.note.Note.{Note}

@@ -1,5 +1,5 @@
 -- What each call keeps of wires, each word of a schedule keeps, but for those that touch a frame or end a flow.
-use Rattle.std.proofs.Common.{◌≡◌, ◌≢◌, ℕ, zero, suc, ◌+◌, nat_lt, Bool, true, false, ◌||◌, List, [], ◌∷◌, Some, None, Option, option_and_then, Result, Ok, Err, refl, sym, ◌∙◌, ap, subst}
+use Rattle.std.proofs.Common.{◌≡◌, ℕ, zero, suc, ◌+◌, nat_lt, Bool, true, false, ◌||◌, List, Some, None, Option, Result, Ok, Err, refl, sym, subst}
 use Rattle.rina_base.specs.declared.number.Port.{Port}
 use Rattle.rina_cube.specs.declared.Want.{Want}
 use Rattle.rina_data.specs.declared.step.StepError.TheVariants.{NoIpc}
@@ -25,7 +25,7 @@ use Rattle.rina_tower.specs.Bystanders.{is_ipc}
 use Rattle.rina_tower.specs.Calls.{AllocatesAtTop, ClaimsAtTop, FreesAtTop, RegistersAtTop, SendsAtTop, UnregistersAtTop}
 use Rattle.rina_tower.specs.Events.{Cuts, HoldsBack, Loses, Mends, Repeats}
 use Rattle.rina_tower.specs.Levels.{AtWires}
-use Rattle.rina_tower.specs.Ranks.{now_of, rank_of, seen_of}
+use Rattle.rina_tower.specs.Ranks.{now_of, seen_of}
 use Rattle.rina_tower.specs.Rounds.{Anything}
 use Rattle.rina_tower.specs.Steps.{ClocksAtTop, InStepsAtTop, OutStepsAtTop}
 use Rattle.rina_wire.specs.declared.event.WireError.{WireError}

@@ -1,5 +1,5 @@
 -- The calls of applications leave a tower that stands; of these only the freeing of a flow writes PDUs off, and with cause.
-use Rattle.std.proofs.Common.{◌≡◌, ◌∙◌, ℕ, Bool, true, false, List, Option, Some, None, option_and_then, IsSome, Result, Ok, Err, refl, sym, ap, subst, inl, inr, ◌⊎◌}
+use Rattle.std.proofs.Common.{◌≡◌, ℕ, true, false, List, Option, Some, None, IsSome, Result, refl, sym, ap, subst, inl}
 use Rattle.std.specs.Prelude.{◌||◌}
 use Rattle.rina_account.specs.declared.ledger.Off.{Off}
 use Rattle.rina_base.specs.declared.cause.Cause.{Cause}
@@ -18,7 +18,6 @@ use Rattle.rina_iface.specs.declared.error.UnregisterError.{UnregisterError}
 use Rattle.rina_iface.specs.declared.error.UnregisterError.TheVariants as unregister
 use Rattle.rina_iface.specs.Ends.{place_in}
 use Rattle.rina_iface.specs.Seen.{Seen, unpassed}
-use Rattle.rina_law.specs.declared.entry.Entry.{Entry}
 use Rattle.rina_law.specs.Direction.{Direction}
 use Rattle.rina_data.specs.Process.{Process}
 use Rattle.rina_dif_law.specs.Dif.{DifSeen}
@@ -26,7 +25,7 @@ use Rattle.rina_dif_law.specs.WriteOffs.{MayBy, MayWriteOff, NoPort}
 use Rattle.rina_dif_law.specs.WriteOffLaws.{Nothing}
 use Rattle.rina_dif.specs.declared.cdap.CdapCallError.{CdapCallError}
 use Rattle.rina_dif.specs.declared.dif.Dif.{Dif}
-use Rattle.rina_dif.specs.Holding.{Holds, Stands}
+use Rattle.rina_dif.specs.Holding.{Holds}
 use Rattle.rina_dif.specs.Shown.{seen_of as seen_of_dif}
 use Rattle.rina_dif.proofs.Warrants.{frees_write, passes_write, sends_write}
 use Rattle.rina_wire.specs.Air.{Air}
@@ -59,7 +58,7 @@ use Rattle.rina_tower.proofs.Serving.{allocates_seen, claims_seen, frees_seen, p
 use Rattle.rina_tower.proofs.Walks.{asked_beside, passed_beside, sent_beside}
 use Rattle.rina_laws.specs.Written.{MayWrite, TakesNoMore}
 use Rattle.rina_laws.proofs.WrittenGoes.{Goes, goes_same}
-use Rattle.rina_laws.proofs.WrittenGrows.{DifGrows, Grows, MayBeWritten, Never, RankGrows, any_grows, grows_same, one_grows, same_grows, writes_grow}
+use Rattle.rina_laws.proofs.WrittenGrows.{Grows, MayBeWritten, RankGrows, any_grows, grows_same, one_grows, same_grows, writes_grow}
 
 -- ---- what may be written off
 

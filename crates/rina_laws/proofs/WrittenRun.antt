@@ -1,5 +1,5 @@
 -- Each line of each ledger was written in a step of the run, before which its cause held.
-use Rattle.std.proofs.Common.{◌≡◌, ◌∙◌, ℕ, ◌+◌, zero, suc, nat_lt, Bool, true, false, List, [], ◌∷◌, length, slice_get, Option, Some, None, option_and_then, Result, Ok, Err, refl, sym, ap, subst, arith, inl, inr, ◌⊎◌}
+use Rattle.std.proofs.Common.{◌≡◌, ◌∙◌, ℕ, ◌+◌, zero, suc, nat_lt, Bool, true, false, List, [], ◌∷◌, length, slice_get, Option, Some, None, Result, Ok, Err, sym, ap, subst, arith, inl, inr, ◌⊎◌}
 use Rattle.std.proofs.lemmas.Bool.Decides.{eqb_tells}
 use Rattle.std.proofs.lemmas.List.{length-map}
 use Rattle.std.proofs.lemmas.Option.{slice_get_within}
@@ -13,7 +13,6 @@ use Rattle.rina_stack.specs.declared.plan.Plan.{Plan}
 use Rattle.rina_table.specs.declared.sketch.Rounds.{Rounds}
 use Rattle.rina_table.specs.declared.sketch.Rounds.TheVariants.{Auto, Manual}
 use Rattle.rina_data.proofs.Finding.{there}
-use Rattle.rina_data.specs.declared.process.IpcProcess.{IpcProcess}
 use Rattle.rina_data.specs.Configs.{member_of}
 use Rattle.rina_data.specs.Deciding.{process_of}
 use Rattle.rina_dif.specs.declared.dif.Dif.{Dif}
@@ -25,16 +24,15 @@ use Rattle.rina_tower.specs.Stands.{IsTower}
 use Rattle.rina_words.specs.declared.run.Run.{Run}
 use Rattle.rina_words.specs.Built.{event_at}
 use Rattle.rina_words.specs.Step.{Acts, RoundsBy, Stage, Ticking, Ticks, rounds_after}
-use Rattle.rina_run.specs.Opening.{IsOpening}
 use Rattle.rina_run.specs.Run.{LineDoes, Runs}
 use Rattle.rina_laws.specs.SomeStep.{LinesHaveCauses, SomeAfter, SomeMove, SomeOfLine, SomeOfRound, SomeOfTicking, SomeOfTicks, SomeOfWord, SomeStep}
 use Rattle.rina_laws.specs.Starts.{AreUntouched, IsUntouched}
 use Rattle.rina_laws.specs.Written.{IsWritten, MayWrite, line_at, line_of}
 use Rattle.rina_laws.proofs.StartsAt.{difs_start}
 use Rattle.rina_laws.proofs.WrittenGoes.{Goes}
-use Rattle.rina_laws.proofs.WrittenGrows.{Grows, MayBeWritten, Never, NewLine, dif_in, grown_at, line_in, low_line, no_line, own_line}
+use Rattle.rina_laws.proofs.WrittenGrows.{Grows, Never, dif_in, grown_at, line_in, low_line, no_line, own_line}
 use Rattle.rina_laws.proofs.WrittenSteps.{Ticked, moves, ticks}
-use Rattle.rina_laws.proofs.WrittenWords.{GoesIn, lets, words}
+use Rattle.rina_laws.proofs.WrittenWords.{lets, words}
 
 -- a line of a ledger, by its places
 record Spot : Type 0 where

@@ -1,5 +1,5 @@
 -- The steps of DIFs, and ticks, leave a tower that stands; whatever a step writes off, the condition of its cause held before.
-use Rattle.std.proofs.Common.{◌≡◌, ◌∙◌, ℕ, ◌+◌, Bool, true, false, List, slice_get, Some, Result, Ok, Err, refl, sym, ap, subst, arith, inl, inr, ◌⊎◌}
+use Rattle.std.proofs.Common.{◌≡◌, ℕ, ◌+◌, true, false, List, Result, Ok, Err, refl, ap, arith, inl, inr}
 use Rattle.std.proofs.lemmas.Option.{slice_get_within}
 use Rattle.rina_account.specs.declared.ledger.Off.{Off}
 use Rattle.rina_base.specs.declared.cause.Cause.{Cause}
@@ -8,7 +8,6 @@ use Rattle.rina_base.specs.declared.number.Num.{Num}
 use Rattle.rina_base.specs.declared.number.Port.{Port}
 use Rattle.rina_iface.specs.declared.error.SendError.{SendError}
 use Rattle.rina_iface.specs.Pass.{PassesAsSeen}
-use Rattle.rina_iface.specs.Seen.{Seen}
 use Rattle.rina_iface.specs.Send.{SendsAsSeen}
 use Rattle.rina_law.specs.Direction.{Direction}
 use Rattle.rina_policy.specs.declared.policy.Head.{Head}
@@ -49,9 +48,9 @@ use Rattle.rina_tower.proofs.Stepped.{is_stepped}
 use Rattle.rina_tower.proofs.Timing.{rank_ticked, ticked_alone}
 use Rattle.rina_tower.proofs.Wiring.{ticks_alone}
 use Rattle.rina_laws.specs.Written.{MayWrite, TakesNoMore}
-use Rattle.rina_laws.proofs.WrittenCalls.{Stood, may_more, may_write, passes_stood, sends_stood, stood_same}
+use Rattle.rina_laws.proofs.WrittenCalls.{Stood, may_write, passes_stood, sends_stood, stood_same}
 use Rattle.rina_laws.proofs.WrittenGoes.{Goes, at_rank, goes_same}
-use Rattle.rina_laws.proofs.WrittenGrows.{DifGrows, Grows, MayBeWritten, RankGrows, any_grows, same_grows, writes_grow}
+use Rattle.rina_laws.proofs.WrittenGrows.{Grows, MayBeWritten, RankGrows, any_grows, same_grows, writes_grow}
 
 -- ---- what a step does below
 

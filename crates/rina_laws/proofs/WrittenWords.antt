@@ -1,5 +1,5 @@
 -- Each word of a schedule leaves a tower that stands; but for the steps of DIFs and the freeing of a flow none writes PDUs off.
-use Rattle.std.proofs.Common.{◌≡◌, ◌∙◌, ℕ, ◌+◌, Bool, true, false, ◌||◌, List, [], ◌∷◌, Some, None, Option, option_and_then, IsSome, Result, Ok, Err, refl, sym, ap, subst}
+use Rattle.std.proofs.Common.{◌≡◌, ◌∙◌, ℕ, Bool, true, false, ◌||◌, List, [], ◌∷◌, Some, None, Option, option_and_then, IsSome, Result, Ok, Err, refl, sym, ap}
 use Rattle.rina_base.specs.declared.number.Port.{Port}
 use Rattle.rina_cube.specs.declared.Want.{Want}
 use Rattle.rina_law.specs.declared.entry.Entry.{Entry}
@@ -15,7 +15,6 @@ use Rattle.rina_wire.specs.declared.event.WireError.{WireError}
 use Rattle.rina_wire.specs.Air.{Air}
 use Rattle.rina_wire.specs.Cut.{CutsOn, MendsOn}
 use Rattle.rina_wire.specs.Disturb.{HoldsOn, LosesOn, RepeatsOn}
-use Rattle.rina_wire.specs.Sound.{IsSound}
 use Rattle.rina_wire.proofs.SoundCut.{mends_unseen, sound_cuts, sound_mends}
 use Rattle.rina_wire.proofs.SoundDisturb.{holds_unseen, loses_unseen, repeats_unseen, sound_holds, sound_loses, sound_repeats}
 use Rattle.rina_tower.specs.declared.tower.Tower.{Tower, Wires}
@@ -35,11 +34,11 @@ use Rattle.rina_notes.specs.declared.label.Label.{Label}
 use Rattle.rina_notes.specs.declared.site.Site.{Site}
 use Rattle.rina_notes.specs.Sites.{dif_site_at, fac_named, label_in, port_in, site_at}
 use Rattle.rina_words.specs.declared.run.Run.{Run}
-use Rattle.rina_words.specs.Step.{Accounting, ActsOnRun, Answering, AtPort, AtSite, AtWire, CallsAllocate, CallsCdap, CallsClock, CallsFree, CallsIn, CallsIncoming, CallsRegister, CallsSend, CallsUnregister, CallsWire, LettingOut, Passes, Reading, SaysBeside, Showing, ShowingRib, Stage, TellsState, Unlabelled, asked, for_app, link_of, waiting, wire_of}
+use Rattle.rina_words.specs.Step.{Accounting, ActsOnRun, AtPort, AtSite, AtWire, CallsAllocate, CallsCdap, CallsClock, CallsFree, CallsIn, CallsIncoming, CallsRegister, CallsSend, CallsUnregister, CallsWire, LettingOut, Passes, Reading, SaysBeside, Showing, ShowingRib, Stage, TellsState, Unlabelled, asked, for_app, link_of, waiting, wire_of}
 use Rattle.rina_laws.specs.Written.{MayWrite}
 use Rattle.rina_laws.proofs.WrittenCalls as calls
 use Rattle.rina_laws.proofs.WrittenGoes.{Goes, at_app, at_claim, at_rank, at_wires, goes_same}
-use Rattle.rina_laws.proofs.WrittenGrows.{Grows, MayBeWritten, Never, grows_on}
+use Rattle.rina_laws.proofs.WrittenGrows.{MayBeWritten, Never, grows_on}
 use Rattle.rina_laws.proofs.WrittenSteps.{does_due, lets_out, takes}
 
 -- a run after another

@@ -23,7 +23,7 @@ abbrev pub bare : Air → Air
 bare a = record a { wires = map without_flows a.wires }
 
 -- before the first line of a run the wires are those of the stack, but for the flows that it fixes: each has its delay, its life and
--- its largest SDU, none is cut, nobody waits to be claimed, and no frame was sent or is in flight
+-- its largest SDU, none is cut, no end waits to be claimed, and no frame was sent or is in flight
 abbrev pub WiresStartAsPlanned : Type 0
 WiresStartAsPlanned = (plan : Plan) (shelf : List Slot) (s : Stage) → IsOpening plan shelf s → bare (wires_of s.run.tower) ≡ air_of plan
 

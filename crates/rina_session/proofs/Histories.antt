@@ -1,15 +1,14 @@
 -- The messages of a session tell its state, and the ids that wait.
-use Rattle.std.proofs.Common.{◌≡◌, ◌≢◌, ◌==◌, ◌||◌, ◌&&◌, ◌⊎◌, inl, inr, ◌++◌, ℕ, Bool, true, false, not, cond, List, [], ◌∷◌, Option, Some, None, Result, Ok, Err, refl, sym, ap, ◌∙◌, subst, arith}
+use Rattle.std.proofs.Common.{◌≡◌, ◌==◌, ◌||◌, ◌&&◌, ◌⊎◌, inl, inr, ◌++◌, ℕ, Bool, true, false, not, cond, List, [], ◌∷◌, Option, Some, None, Result, Ok, Err, refl, sym, ap, ◌∙◌, subst, arith}
 use Rattle.std.specs.Prelude.{nat_eq, ◌↔◌}
 use Rattle.std.specs.List.{list_any}
-use Rattle.std.proofs.lemmas.Bool.{or_parts, or_cases, and_parts}
+use Rattle.std.proofs.lemmas.Bool.{or_parts, and_parts}
 use Rattle.std.proofs.lemmas.Bool.Decides.{nat_tests}
 use Rattle.indexmap.specs.IndexSet.{insert_key, remove_key}
 use Rattle.rina_cdap.specs.declared.message.Message.{Message}
 use Rattle.rina_cdap.specs.Messages.{is_response}
 use Rattle.rina_session.specs.declared.session.State.{State}
 use Rattle.rina_session.specs.declared.session.State.TheVariants.{Idle, Calling, Called, Connected}
-use Rattle.rina_session.specs.declared.session.SessionError.{SessionError}
 use Rattle.rina_session.specs.declared.session.SessionError.TheVariants.{WrongState, UnknownInvoke}
 use Rattle.rina_session.specs.Sessions.{Talk, is_idle, is_calling, is_called, is_connected, may_send, may_get, answered, state_after, sent_waiting, got_waiting, is_unknown, sent, got}
 use Rattle.rina_session.specs.Histories.{Step, stepped, IsAfter, Since, IsNewest, is_zero, calls, is_call, opens, closes, asks, answers}

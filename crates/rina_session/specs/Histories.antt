@@ -55,7 +55,7 @@ opens s = (s.message.operation == 1) && is_zero s.message.result
 abbrev pub closes : Step → Bool
 closes s = s.message.operation == 2
 
--- a request with this id was sent, which wants a response
+-- a request with this id was sent, which asks for a response
 abbrev pub asks : ℕ → Step → Bool
 asks id s = s.is_sent && not (is_response s.message.operation) && (s.message.invoke == id) && not (id == 0)
 

@@ -47,7 +47,7 @@ answered (Some n) = if n == 0 then Connected else Idle
 unfoldable pub state_after : State → State → ℕ → Option ℕ → State
 state_after calls state op outcome = if op == 0 then calls else (if op == 1 then answered outcome else (if op == 2 then Idle else state))
 
--- the ids that wait after a message was sent: that of a request, where it wants a response, waits as well
+-- the ids that wait after a message was sent: that of a request, where it asks for a response, waits as well
 unfoldable pub sent_waiting : List ℕ → ℕ → ℕ → List ℕ
 sent_waiting ids op id = if is_response op || (id == 0) then ids else insert_key nat_eq ids id
 

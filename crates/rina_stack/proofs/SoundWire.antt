@@ -1,5 +1,5 @@
 -- What is read of a wire is in range, and refers to what is there.
-use Rattle.std.proofs.Common.{◌≡◌, ℕ, ◌^◌, ◌<◌, ◌≤◌, cond, length, Option, Some, None, Ok, arith, subst}
+use Rattle.std.proofs.Common.{◌≡◌, ℕ, ◌<◌, ◌≤◌, cond, length, Option, Some, None, Ok, arith, subst}
 use Rattle.std.specs.Prelude.{codes}
 use Rattle.toml.specs.Data.{Data, get}
 use Rattle.rina_base.specs.declared.storm.Storm.{Storm}

@@ -1,8 +1,7 @@
 -- What a loop or a chain over a table says of its members.
-use Rattle.std.proofs.Common.{◌≡◌, ℕ, zero, suc, ◌+◌, Bool, not, cond, ◌&&◌, ◌||◌, ◌==◌, length, Some, List, [], ◌∷◌, get_or, map, String, Global, string_bytes, Result, Ok, Err, refl, sym, ap, arith}
+use Rattle.std.proofs.Common.{◌≡◌, ℕ, zero, suc, ◌+◌, Bool, not, cond, ◌&&◌, ◌||◌, List, [], ◌∷◌, get_or, map, String, Global, string_bytes, Result, Ok, Err, refl, sym, ap}
 use Rattle.std.specs.Map.{keys_of}
 use Rattle.std.specs.List.{list_all, list_any, prefix_len, position}
-use Rattle.std.proofs.lemmas.Bool.Decides.{nat_tests}
 use Rattle.std.proofs.lemmas.List.{length-map}
 use Rattle.rina_base.specs.Traverse.{◌>>=◌, traverse}
 use Rattle.toml.specs.declared.value.Value.{Value}

@@ -1,5 +1,5 @@
 -- The table of a DIF, and the whole stack.
-use Rattle.std.specs.Prelude.{ℕ, ◌+◌, ◌==◌, true, false, List, codes, length, Option, Some, None, Result, Ok, if◌then◌else◌, option_and_then, option_map}
+use Rattle.std.specs.Prelude.{ℕ, ◌+◌, ◌==◌, true, false, List, codes, length, Option, Some, None, Result, Ok, if◌then◌else◌, option_and_then}
 use Rattle.std.specs.Str.{bytes_eq}
 use Rattle.toml.specs.Data.{Data, get, as_str}
 use Rattle.rina_base.specs.Traverse.{◌>>=◌, traverse}

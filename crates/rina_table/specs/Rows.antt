@@ -1,7 +1,7 @@
 -- The tables of a stack, each with all its keys. The item n is the one that they belong to.
-use Rattle.std.specs.Prelude.{ℕ, ◌==◌, ◌^◌, ◌-◌, ◌||◌, Bool, true, false, ℤ, pos, List, codes, Option, Some, None, Result, Ok, if◌then◌else◌, option_and_then, option_map}
+use Rattle.std.specs.Prelude.{ℕ, List, codes, Option, Some, None, Result, Ok, if◌then◌else◌, option_and_then}
 use Rattle.std.specs.Str.{bytes_eq}
-use Rattle.toml.specs.Data.{Data, get, as_bool}
+use Rattle.toml.specs.Data.{Data, get}
 use Rattle.rina_base.specs.declared.storm.Storm.{Storm}
 use Rattle.rina_base.specs.Traverse.{◌>>=◌}
 use Rattle.rina_access.specs.declared.rules.Act.{Act}
@@ -15,12 +15,11 @@ use Rattle.rina_plan.specs.declared.dif.MemberPlan.{MemberPlan}
 use Rattle.rina_plan.specs.declared.dif.LinkPlan.{LinkPlan}
 use Rattle.rina_plan.specs.declared.dif.EndPlan.{EndPlan}
 use Rattle.rina_plan.specs.declared.dif.FlowPlan.{FlowPlan}
-use Rattle.rina_plan.specs.declared.dif.DifPlan.{DifPlan}
 use Rattle.rina_table.specs.declared.error.StackError.{StackError}
 use Rattle.rina_table.specs.declared.scope.Scope.{Scope}
 use Rattle.rina_table.specs.declared.sketch.WireSketch.{WireSketch}
 use Rattle.rina_table.specs.Faults.{required, unless}
-use Rattle.rina_table.specs.Values.{text_at, truth_in, truth_or, rows_in, rows_or, element, has_third}
+use Rattle.rina_table.specs.Values.{text_at, truth_in, element, has_third}
 use Rattle.rina_table.specs.Fields.{name_in, subject_in, number_in, number_or, width_in, node_named, node_in, lower_in}
 
 -- ---- the words of a key: rule 3

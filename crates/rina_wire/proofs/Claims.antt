@@ -28,7 +28,7 @@ waits_at l node app at h =
     let (e, is) = has_end node app (slice_get l.ends (get_or l.waiting at 0)) p.1 in
     record { place = get_or l.waiting at 0; end = e; stands = slice_get-get_or l.waiting at 0 p.0; is = is }
 
--- nobody waits, and nothing changed
+-- no end waits to be claimed, and nothing changed
 claims_none : (a : Air) (fac node : ℕ) (app : List ℕ) (l : Line) → wire_at a fac ≡ Some l → oldest_in l.ends l.waiting node app ≡ None → Claims (seen_of a) fac node app None (seen_of a)
 claims_none a fac node app l h o = (rw (fac_at a fac, h) o, refl)
 

@@ -7,7 +7,7 @@ use Rattle.rina_iface.specs.Send.{by_length}
 use Rattle.rina_wire.specs.Air.{Air, Line, Goes}
 use Rattle.rina_wire.specs.Send.{SendsOn, frame_refusal, send_refusal}
 
--- a wire does not refuse a frame by want of memory
+-- a wire does not refuse a frame with `Memory`
 not_memory : (len : ℕ) (l : Line) → Some errors.Memory ≡ by_length len (Some l.largest) (frame_refusal l) → ⊥
 not_memory len l = elim (leb len l.largest) as (λ b. Some errors.Memory ≡ cond b (frame_refusal l) (Some (errors.TooLong len l.largest)) → ⊥) [
   | true ↦ elim (leb (2 ^ 63) l.frames) as (λ b. Some errors.Memory ≡ cond b (Some (errors.NumbersSpent 4294967295)) None → ⊥) [ true ↦ (λ h. absurd cc) | false ↦ (λ h. absurd cc) ]

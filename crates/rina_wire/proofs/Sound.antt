@@ -1,5 +1,5 @@
 -- A change of one wire keeps all wires sound.
-use Rattle.std.proofs.Common.{◌≡◌, ℕ, ◌+◌, ◌==◌, cond, List, [], ◌∷◌, ◌++◌, slice_get, slice_set, Some, None, Option, option_map, All, refl, sym, ap, ◌∙◌, arith, subst}
+use Rattle.std.proofs.Common.{◌≡◌, ℕ, ◌+◌, ◌==◌, cond, List, [], ◌∷◌, slice_get, slice_set, Some, None, Option, option_map, All, refl, sym, ap, ◌∙◌, arith, subst}
 use Rattle.std.proofs.Common.{◌<◌, Bool, true, IsSome, inl, inr, length, length-set, drop, rules, suc, take}
 use Rattle.std.proofs.lemmas.List.Elements.{All-append, All-drop, All-set, All-take}
 use Rattle.rina_iface.proofs.Changed.{set_at}
@@ -104,7 +104,7 @@ pub sound_on_wire : (a : Air) (fac : ℕ) (change : Line → Line) → IsSound a
 sound_on_wire a fac change s keep keep_flows =
     sound_of (on_wire a fac change) s.clock (sound_put a.wires fac change (wire_at a fac) refl s.lines keep) (flows_put a fac change (wire_at a fac) refl s.flows (λ l h. keep_flows l h (all_at IsSoundLine a.wires fac l s.lines h) (s.flows fac l h)))
 
--- after want of memory no copy arrives
+-- after an allocation has failed no copy arrives
 flows_failed : (now : ℕ) (failed : Bool) (fac : ℕ) (l : Line) → KeepsFlows now failed fac l → KeepsFlows now true fac l
 flows_failed now failed fac l k = record { pairs = k.pairs; sound = k.sound; waiting = k.waiting; copies = λ h. cc }
 

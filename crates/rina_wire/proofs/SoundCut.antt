@@ -79,7 +79,7 @@ cuts_later a wire (Err e) a' g = subst (λ (x : Air). IsLater (seen_of a) (seen_
 
 -- ---- what the ends were
 
--- only the states of a wire's ends changed, and nobody waits more or less
+-- only the states of a wire's ends changed, and the same ends wait to be claimed
 pub record OnlyStates (l l' : Line) : Type 0 where
   pub was : (i : ℕ) (e' : End) → At l'.ends i e' → (e : End) × At l.ends i e × (e' ≡ with_state e e'.state)
   pub size : length l'.ends ≡ length l.ends

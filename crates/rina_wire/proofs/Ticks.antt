@@ -26,7 +26,7 @@ ticks_more now (suc i) (x ∷ ws) w lt e = ap (λ ys. line_ticked now x ∷ ys) 
 pub whole : (now : ℕ) (l : Line) → IsPart now l (line_ticked now l)
 whole now l = record { count = length l.flights; is = rw (take_all (length l.flights) l.flights (omega arith)) refl }
 
--- a wire that nobody looked at
+-- a wire that was not reached
 untouched : (now : ℕ) (ws : List Line) → AllPart now ws ws
 untouched now [] = tt
 untouched now (w ∷ ws) = (record { count = 0; is = refl }, untouched now ws)

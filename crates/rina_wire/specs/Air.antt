@@ -30,7 +30,7 @@ pub record Line : Type 0 where
 pub record Air : Type 0 where
   pub now : ℕ
   pub wires : List Line
-  pub failed : Bool  -- memory was wanted and not found
+  pub failed : Bool  -- an allocation has failed
 
 -- the one cube of a wire
 abbrev pub offer_of : Line → Offer
@@ -72,12 +72,12 @@ put_end change l (Some place) = put_at change l place (slice_get l.ends place)
 abbrev pub on_end : Air → Port → (Line → ℕ → End → Line) → Air
 on_end a port change = on_wire a port.fac (λ (l : Line). put_end change l (place_in port l.ends))
 
--- the wires after memory was wanted and not found
+-- the wires after an allocation has failed
 abbrev pub failed_air : Air → Air
 failed_air a = record a { failed = true }
 
 -- the wires had not failed, the call had this to refuse or nothing, and the wires became these
-pub record Goes {E : Type 0} (a : Air) (refusal wanted : Option E) (made a' : Air) : Type 0 where
+pub record Goes {E : Type 0} (a : Air) (refusal told : Option E) (made a' : Air) : Type 0 where
   pub alive : a.failed ≡ false
-  pub refused : refusal ≡ wanted
+  pub refused : refusal ≡ told
   pub air : a' ≡ made

@@ -22,12 +22,12 @@ wire_refusal_on (Some l) = None
 abbrev pub wire_refusal : Air → ℕ → Option WireError
 wire_refusal a wire = wire_refusal_on (wire_at a wire)
 
--- what `cut` does; it wants no memory
+-- what `cut` does; it allocates nothing
 abbrev pub CutsOn : Air → ℕ → Result (Unit {0}) WireError → Air → Type 0
 CutsOn a wire (Ok done) a' = Comes (wire_refusal a wire) None (on_wire a wire (cut_line a.now)) a'
 CutsOn a wire (Err e) a' = Comes (wire_refusal a wire) (Some e) a a'
 
--- what `mend` does; it wants no memory
+-- what `mend` does; it allocates nothing
 abbrev pub MendsOn : Air → ℕ → Result (Unit {0}) WireError → Air → Type 0
 MendsOn a wire (Ok done) a' = Comes (wire_refusal a wire) None (on_wire a wire mended) a'
 MendsOn a wire (Err e) a' = Comes (wire_refusal a wire) (Some e) a a'

@@ -77,16 +77,16 @@ held frame at l = moved at l (copy_place frame l.flights)
 -- ---- the calls
 
 -- the call was refused, or the wires became these
-pub record Comes {E : Type 0} (refusal wanted : Option E) (made a' : Air) : Type 0 where
-  pub refused : refusal ≡ wanted
+pub record Comes {E : Type 0} (refusal told : Option E) (made a' : Air) : Type 0 where
+  pub refused : refusal ≡ told
   pub air : a' ≡ made
 
--- what `lose` does; it wants no memory
+-- what `lose` does; it allocates nothing
 abbrev pub LosesOn : Air → ℕ → ℕ → Result (Unit {0}) WireError → Air → Type 0
 LosesOn a wire frame (Ok done) a' = Comes (lose_refusal a wire frame) None (on_wire a wire (lost frame)) a'
 LosesOn a wire frame (Err e) a' = Comes (lose_refusal a wire frame) (Some e) a a'
 
--- what `hold` does; it wants no memory
+-- what `hold` does; it allocates nothing
 abbrev pub HoldsOn : Air → ℕ → ℕ → ℕ → Result (Unit {0}) WireError → Air → Type 0
 HoldsOn a wire frame at (Ok done) a' = Comes (move_refusal a wire frame at) None (on_wire a wire (held frame at)) a'
 HoldsOn a wire frame at (Err e) a' = Comes (move_refusal a wire frame at) (Some e) a a'

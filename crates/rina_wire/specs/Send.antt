@@ -67,7 +67,7 @@ launched l place e flights x draws =
 abbrev pub next_entry : ℕ → List ℕ → Line → Entry
 next_entry now bytes l = record { tick = now; num = frame_number l.frames; bytes = bytes }
 
--- the wire after the end at this place sent a frame, whatever became of it: it is noted, and its copies are in flight
+-- the wire after the end at this place sent a frame, whatever its fate: it is noted, and its copies are in flight
 abbrev pub sent_from : ℕ → List ℕ → Line → ℕ → End → Line
 sent_from now bytes l place e = launched l place e (flights_of now bytes l place (next_fate l).0) (next_entry now bytes l) (next_fate l).1
 

@@ -105,7 +105,7 @@ pub record IsCopy (life now : ℕ) (ends : List End) (f : Flight) : Type 0 where
 abbrev pub IsFarPlace : ℕ → ℕ → Type 0
 IsFarPlace size place = (place % 2 ≡ 1) × (place < size)
 
--- what wire `fac` keeps of its flows; once memory was wanted no copy will arrive
+-- what wire `fac` keeps of its flows; once an allocation has failed no copy will arrive
 pub record KeepsFlows (now : ℕ) (failed : Bool) (fac : ℕ) (l : Line) : Type 0 where
   pub pairs : length l.ends ≡ 2 * l.flows
   pub sound : AreSound (site_of fac l) now l.frames l.ends

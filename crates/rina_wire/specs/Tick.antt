@@ -60,7 +60,7 @@ pub record IsTorn (a a' : Air) : Type 0 where
   pub failed : a'.failed ≡ true
   pub wires : AllPart (a.now + 1) a.wires a'.wires
 
--- memory was wanted before, or ran out now
+-- an allocation had failed before, or fails now
 abbrev pub TornBy : Bool → Air → Air → Type 0
 TornBy true a a' = a' ≡ a
 TornBy false a a' = IsTorn a a'

@@ -161,8 +161,8 @@ impl Wire {
         Ok(())
     }
 
-    /// Sends a frame from the end at this place. What becomes of it is drawn first; where memory is wanted and not
-    /// found, nothing was drawn.
+    /// Sends a frame from the end at this place. Its fate is drawn first; where an allocation fails, nothing was
+    /// drawn.
     pub fn send(
         &mut self,
         alloc: Global,

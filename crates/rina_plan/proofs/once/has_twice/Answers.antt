@@ -1,4 +1,4 @@
-use Rattle.std.proofs.Common.{◌-◌, ◌==◌, ℕ, get_or, length, refl, sym, ap, ◌∙◌, arith}
+use Rattle.std.proofs.Common.{◌-◌, get_or, length, refl, ap, ◌∙◌, arith}
 use Rattle.std.specs.Prelude.{is_some}
 use Rattle.rina_plan.proofs.Known.{known_none, known_step, twice_found, twice_not, none_twice}
 use Rattle.rina_plan.proofs.once.has_twice.Goals as goal

@@ -1,7 +1,6 @@
 use Rattle.std.proofs.Common.{drop, ◌<◌, ◌≤◌, ◌+◌, map, length, ap, ◌∙◌, arith}
 use Rattle.std.proofs.lemmas.Result.{err_from_is_err_and}
 use Rattle.std.proofs.lemmas.List.{length-map}
-use Rattle.rina_base.specs.Traverse.{traverse}
 use Rattle.rina_base.proofs.Loop.{with_front, goes_on, stops, is_done}
 use Rattle.toml.specs.View.{view}
 use Rattle.rina_table.specs.Values.{rows}

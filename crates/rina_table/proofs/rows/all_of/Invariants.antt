@@ -1,5 +1,4 @@
-use Rattle.std.proofs.Common.{◌≡◌, ℕ, map, drop}
-use Rattle.rina_base.specs.Traverse.{traverse}
+use Rattle.std.proofs.Common.{◌≡◌, map, drop}
 use Rattle.rina_base.proofs.Loop.{with_front}
 use Rattle.toml.specs.View.{view}
 use Rattle.rina_table.specs.Values.{rows}
