@@ -29,31 +29,27 @@ static int fails(unsigned long *count, const char *name)
     return ++*count == number_of(name);
 }
 
+static int is_denied(void)
+{
+    if (!fails(&allocations, "RLEMU_FAIL_ALLOCATION"))
+        return 0;
+    errno = ENOMEM;
+    return 1;
+}
+
 void *malloc(size_t size)
 {
-    if (fails(&allocations, "RLEMU_FAIL_ALLOCATION")) {
-        errno = ENOMEM;
-        return NULL;
-    }
-    return __libc_malloc(size);
+    return is_denied() ? NULL : __libc_malloc(size);
 }
 
 void *calloc(size_t count, size_t size)
 {
-    if (fails(&allocations, "RLEMU_FAIL_ALLOCATION")) {
-        errno = ENOMEM;
-        return NULL;
-    }
-    return __libc_calloc(count, size);
+    return is_denied() ? NULL : __libc_calloc(count, size);
 }
 
 void *realloc(void *block, size_t size)
 {
-    if (fails(&allocations, "RLEMU_FAIL_ALLOCATION")) {
-        errno = ENOMEM;
-        return NULL;
-    }
-    return __libc_realloc(block, size);
+    return is_denied() ? NULL : __libc_realloc(block, size);
 }
 
 static size_t shortened(size_t size)
@@ -62,28 +58,26 @@ static size_t shortened(size_t size)
     return most && size > most ? most : size;
 }
 
+static int is_broken(int file, int wanted, unsigned long *count, const char *name)
+{
+    if (file != wanted || !fails(count, name))
+        return 0;
+    errno = EIO;
+    return 1;
+}
+
 ssize_t read(int file, void *bytes, size_t size)
 {
-    if (file == 0) {
-        if (fails(&reads, "RLEMU_FAIL_READ")) {
-            errno = EIO;
-            return -1;
-        }
-        size = shortened(size);
-    }
-    return syscall(SYS_read, file, bytes, size);
+    if (is_broken(file, 0, &reads, "RLEMU_FAIL_READ"))
+        return -1;
+    return syscall(SYS_read, file, bytes, file == 0 ? shortened(size) : size);
 }
 
 ssize_t write(int file, const void *bytes, size_t size)
 {
-    if (file == 1) {
-        if (fails(&writes, "RLEMU_FAIL_WRITE")) {
-            errno = EIO;
-            return -1;
-        }
-        size = shortened(size);
-    }
-    return syscall(SYS_write, file, bytes, size);
+    if (is_broken(file, 1, &writes, "RLEMU_FAIL_WRITE"))
+        return -1;
+    return syscall(SYS_write, file, bytes, file == 1 ? shortened(size) : size);
 }
 
 static void tell(void)
