@@ -1,0 +1,10 @@
+pub mod Broken
+pub mod Fresh
+pub mod Holding
+pub mod Keeping
+pub mod Lists
+pub mod Messages
+pub mod Rows
+pub mod Slots
+pub mod Still
+pub mod While
