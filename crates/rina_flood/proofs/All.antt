@@ -1,0 +1,141 @@
+-- All rows, and the start.
+use Rattle.std.proofs.Common.{◌≡◌, ℕ, ◌⊎◌, List, ◌∷◌, ◌++◌, Contains, Some, None, refl, sym, ◌∙◌, ap, subst, inl, inr, []}
+use Rattle.std.specs.Prelude.{find, flat_map}
+use Rattle.std.proofs.lemmas.Bool.{cases_Bool}
+use Rattle.std.proofs.lemmas.Option.{none-some, same_Some}
+use Rattle.rina_enrol.specs.declared.message.LinkMessage.{LinkMessage}
+use Rattle.rina_enrol.specs.declared.message.LinkMessage.TheVariants as messages
+use Rattle.rina_newest.specs.declared.item.Item.{Item}
+use Rattle.rina_newest.specs.Newest.{has_key, kept_at, taken, taken_all}
+use Rattle.rina_agent.specs.declared.message.ManagementMessage.{ManagementMessage}
+use Rattle.rina_agent.specs.declared.message.ManagementMessage.TheVariants.{ToNeighbour, ToMember}
+use Rattle.rina_agent.specs.declared.message.Waiting.{Waiting}
+use Rattle.rina_agent.specs.Agenda.{waiting_on}
+use Rattle.rina_agent.specs.Counts.{spent}
+use Rattle.rina_agent.specs.Enrolled.{Handles}
+use Rattle.rina_agent.specs.Enrolments.{is_numbered}
+use Rattle.rina_agent.specs.Items.{made}
+use Rattle.rina_agent.specs.Rows.{was_up}
+use Rattle.rina_flood.specs.Network.{Side, other, Network, put_agent, put_sent, unhandled, carried, on_way, Row, Make, Put, Take, Handle, Lose, Drop, Pass, happens, May, IsRun, after_rows, IsStart, with_message, item_in, called, Enrol, Claim, KnowsAll, KnowsNothing}
+use Rattle.rina_flood.proofs.Flow.{key_same, itself_least}
+use Rattle.rina_flood.proofs.Holds.{Holds}
+use Rattle.rina_flood.proofs.Places.{nothing_in}
+use Rattle.rina_flood.proofs.Steps.{make_holds, took_holds}
+use Rattle.rina_flood.proofs.Enrolling.{connect_holds, allow_holds, deny_holds, start_r_holds, stop_r_holds}
+use Rattle.rina_flood.proofs.Entering.{start_holds}
+use Rattle.rina_flood.proofs.NewLinks.{enrol_holds, claim_holds}
+use Rattle.rina_flood.proofs.Runs.{lose_by, moving_holds, put_moving, take_holds, left_moving, passed_moving, pass_holds}
+use Rattle.rina_flood.proofs.Stopping.{stop_holds}
+
+-- A message is handled
+
+near_holds : (n : Network) (i k : ℕ) (m : LinkMessage) → item_in m ≡ [] → Holds n → Holds (called n i (Handles n.now k m))
+near_holds n i k (messages.Connect invoke joiner member) empty h = connect_holds n i k invoke joiner member h
+near_holds n i k (messages.ConnectR invoke None) empty h = allow_holds n i k invoke h
+near_holds n i k (messages.ConnectR invoke (Some rule)) empty h = deny_holds n i k invoke rule h
+near_holds n i k (messages.Start invoke address) empty h = start_holds n i k invoke address h
+near_holds n i k (messages.StartR invoke) empty h = start_r_holds n i k invoke h
+near_holds n i k (messages.Item x) empty h = absurd (cc)
+near_holds n i k (messages.Stop invoke) empty h = stop_holds n i k invoke h
+near_holds n i k (messages.StopR invoke) empty h = stop_r_holds n i k invoke h
+near_holds n i k (messages.Flood x) empty h = absurd (cc)
+
+-- one without an item is taken off first
+popped_holds : (n : Network) (link : ℕ) (side : Side) (m : ManagementMessage) (rest : List ManagementMessage) → Holds n → n.sent link side ≡ m ∷ rest → carried m ≡ [] → Holds (record n { sent = put_sent link side rest n.sent })
+popped_holds n link side m rest h first empty = moving_holds n n.agents (put_sent link side rest n.sent) (passed_moving n link side m rest empty first) h
+
+empty_handled : (n : Network) (link : ℕ) (side : Side) (m : LinkMessage) (rest : List ManagementMessage) → Holds n → n.sent link side ≡ ToNeighbour m ∷ rest → item_in m ≡ [] → Holds (happens n (Handle link side (ToNeighbour m) rest))
+empty_handled n link side m rest h first empty = near_holds (record n { sent = put_sent link side rest n.sent }) (n.ends link (other side)) (n.numbers link (other side)) m empty (popped_holds n link side (ToNeighbour m) rest h first empty)
+
+handle_near : (n : Network) (link : ℕ) (side : Side) (m : LinkMessage) (rest : List ManagementMessage) → Holds n → n.sent link side ≡ ToNeighbour m ∷ rest → Holds (happens n (Handle link side (ToNeighbour m) rest))
+handle_near n link side (messages.Connect invoke joiner member) rest h first = empty_handled n link side (messages.Connect invoke joiner member) rest h first refl
+handle_near n link side (messages.ConnectR invoke denied) rest h first = empty_handled n link side (messages.ConnectR invoke denied) rest h first refl
+handle_near n link side (messages.Start invoke address) rest h first = empty_handled n link side (messages.Start invoke address) rest h first refl
+handle_near n link side (messages.StartR invoke) rest h first = empty_handled n link side (messages.StartR invoke) rest h first refl
+handle_near n link side (messages.Item x) rest h first = took_holds n link side (ToNeighbour (messages.Item x)) rest first x refl h
+handle_near n link side (messages.Stop invoke) rest h first = empty_handled n link side (messages.Stop invoke) rest h first refl
+handle_near n link side (messages.StopR invoke) rest h first = empty_handled n link side (messages.StopR invoke) rest h first refl
+handle_near n link side (messages.Flood x) rest h first = took_holds n link side (ToNeighbour (messages.Flood x)) rest first x refl h
+
+handle_holds : (n : Network) (link : ℕ) (side : Side) (m : ManagementMessage) (rest : List ManagementMessage) → Holds n → n.sent link side ≡ m ∷ rest → Holds (happens n (Handle link side m rest))
+handle_holds n link side (ToNeighbour m) rest h first = handle_near n link side m rest h first
+handle_holds n link side (ToMember m) rest h first = popped_holds n link side (ToMember m) rest h first refl
+
+-- All rows
+
+pub row_holds : (n : Network) (row : Row) → Holds n → May n row → Holds (happens n row)
+row_holds n (Make i key value) h may = make_holds n i key value h may
+row_holds n (Put link side m) h may = moving_holds n (put_agent (n.ends link side) (with_message (n.agents (n.ends link side)) (n.numbers link side) m) n.agents) n.sent (put_moving n link side m) h
+row_holds n (Take link side m) h may = take_holds n link side m h may
+row_holds n (Handle link side m rest) h may = handle_holds n link side m rest h may
+row_holds n (Lose link side) h may =
+    lose_by n (n.ends link side) (n.numbers link side) (was_up (find (is_numbered (n.numbers link side)) (n.agents (n.ends link side)).links)) (spent 1 (n.agents (n.ends link side)).last_count) h may may
+row_holds n (Drop link side left) h may = moving_holds n n.agents (put_sent link side left n.sent) (left_moving n link side left may.0 may.1) h
+row_holds n (Enrol link side member node) h may = enrol_holds n link side member node h may.0 may.1
+row_holds n (Claim link side) h may = claim_holds n link side h may
+row_holds n Pass h may = pass_holds n h
+
+pub rows_hold : (n : Network) (rows : List Row) → Holds n → IsRun n rows → Holds (after_rows n rows)
+rows_hold n [] h run = h
+rows_hold n (row ∷ rows) h run = rows_hold (happens n row) rows (row_holds n row h run.0) run.1
+
+-- The start
+
+pub found_key : (items : List Item) (key : List ℕ) (x : Item) → kept_at items key ≡ Some x → x.key ≡ key
+found_key [] key x e = absurd (none-some x e)
+found_key (i ∷ items) key x e = elim (cases_Bool (has_key key i)) [
+  | inl is ↦
+      (let same : i ≡ x = same_Some i x (rw is at e) in
+      ap (λ (y : Item). y.key) (sym same) ∙ sym (key_same key i.key is))
+  | inr isnt ↦ found_key items key x (rw isnt at e)
+]
+
+pub no_messages : (n : Network) (told : List Item) → IsStart n told → (l : ℕ) (d : Side) → unhandled n l d ≡ []
+no_messages n told s l d =
+    let sent = s.sent l d in
+    let agenda = s.agendas (n.ends l d) in
+    ap (λ (ms : List ManagementMessage). ms ++ waiting_on (n.numbers l d) (n.agents (n.ends l d)).agenda) sent ∙ ap (λ (ws : List Waiting). waiting_on (n.numbers l d) ws) agenda
+
+-- a member that keeps the items of the start, and one that keeps none
+kept_known : (n : Network) (told : List Item) (i : ℕ) (key : List ℕ) (x : Item) → KnowsAll n told i ⊎ KnowsNothing n i → kept_at (n.agents i).items key ≡ Some x → kept_at (taken_all [] told) key ≡ Some x
+kept_known n told i key x (inl all) e = ap (λ (items : List Item). kept_at items key) (sym all.0) ∙ e
+kept_known n told i key x (inr none) e = absurd (none-some x (ap (λ (items : List Item). kept_at items key) (sym none.0) ∙ e))
+
+start_knows : (n : Network) (told : List Item) (i : ℕ) → KnowsAll n told i ⊎ KnowsNothing n i → (n.agents i).items ≡ taken_all [] (n.offered i)
+start_knows n told i (inl all) = all.0 ∙ ap (λ (items : List Item). taken_all [] items) (sym all.1)
+start_knows n told i (inr none) = none.0 ∙ ap (λ (items : List Item). taken_all [] items) (sym none.1)
+
+start_offered : (n : Network) (told : List Item) (i : ℕ) (x : Item) → KnowsAll n told i ⊎ KnowsNothing n i → Contains (n.offered i) x → Contains told x
+start_offered n told i x (inl all) e = (let P : List Item → Type 0 = λ items. Contains items x in subst P all.1 e)
+start_offered n told i x (inr none) e = (let P : List Item → Type 0 = λ items. Contains items x in absurd (nothing_in x (subst P none.1 e)))
+
+pub begin_holds : (n : Network) (told : List Item) → IsStart n told → Holds n
+begin_holds n told s =
+    let none : (l : ℕ) (d : Side) (x : Item) → Contains (on_way n l d) x → ⊥ = λ l d x e. (let P : List ManagementMessage → Type 0 = λ ms. Contains (flat_map carried ms) x in nothing_in x (subst P (no_messages n told s l d) e)) in
+    let made : (x : Item) → Contains n.made x → Contains told x = λ x e. (let P : List Item → Type 0 = λ items. Contains items x in subst P s.made e) in
+    record {
+      laid = record {
+        addresses = s.addresses;
+        laid = s.laid;
+        fit = s.fit;
+        apart = s.apart;
+      };
+      flooded = record {
+        kept = λ l d x e. absurd (none l d x e);
+        owes = λ l d up key x e.
+            (let known = kept_known n told (n.ends l d) key x (s.knows (n.ends l d)) e in
+            let far = s.both l d up in
+            inl (itself_least (n.agents (n.ends l (other d))).items key x (ap (λ (items : List Item). kept_at items key) far.0 ∙ known) (found_key (n.agents (n.ends l d)).items key x e)));
+      };
+      noted = record {
+        knows = λ i. start_knows n told i (s.knows i);
+        offered = λ i x e. (let P : List Item → Type 0 = λ items. Contains items x in subst P (sym s.made) (start_offered n told i x (s.knows i) e));
+        sent = λ l d x e. absurd (none l d x e);
+        one = λ x y a b k v. s.one x y (made x a) (made y b) k v;
+        past = λ x e. s.past x (made x e);
+        counted = λ x e. s.counted x (made x e);
+      };
+    }
+
+pub run_holds : (n : Network) (told : List Item) (rows : List Row) → IsStart n told → IsRun n rows → Holds (after_rows n rows)
+run_holds n told rows s run = rows_hold n rows (begin_holds n told s) run

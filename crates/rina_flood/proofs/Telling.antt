@@ -1,0 +1,142 @@
+-- What a member keeps of its own link state, and what the others keep of it once all is quiet; and lost links.
+use Rattle.std.proofs.Common.{◌≡◌, ℕ, ◌≤◌, ◌<◌, ◌^◌, Bool, true, false, cond, List, ◌∷◌, ◌++◌, Contains, Option, Some, None, refl, sym, ◌∙◌, ap, subst, inl, inr, arith, []}
+use Rattle.std.specs.Prelude.{find}
+use Rattle.std.proofs.lemmas.Bool.{cases_Bool, both_ways}
+use Rattle.std.proofs.lemmas.Fmt.{decimal_injective}
+use Rattle.std.proofs.lemmas.Grind.{common_steps}
+use Rattle.std.proofs.lemmas.List.Elements.{Contains-push_cases}
+use Rattle.rina_newest.specs.declared.item.Version.{Version}
+use Rattle.rina_newest.specs.declared.item.Item.{Item}
+use Rattle.rina_newest.specs.Newest.{is_below, is_newer, has_key, kept_at, taken}
+use Rattle.rina_agent.specs.declared.agent.Agent.{Agent}
+use Rattle.rina_agent.specs.declared.link.Link.{Link}
+use Rattle.rina_agent.specs.declared.state.AgentError.{AgentError}
+use Rattle.rina_agent.specs.Agenda.{floods}
+use Rattle.rina_agent.specs.Counts.{next_of, spent, unless}
+use Rattle.rina_agent.specs.Enrolled.{done}
+use Rattle.rina_agent.specs.Enrolments.{is_numbered}
+use Rattle.rina_agent.specs.Items.{made, stated, own_item}
+use Rattle.rina_agent.specs.Neighbours.{link_key, link_state}
+use Rattle.rina_agent.specs.Rows.{was_up, dropped}
+use Rattle.rina_flood.specs.Network.{Network, put_agent, Make, happens}
+use Rattle.rina_flood.proofs.Calls.{at_place}
+use Rattle.rina_flood.proofs.Flow.{key_same, key_itself, not_below_itself, kept_other, kept_new}
+use Rattle.rina_flood.proofs.Holds.{Holds}
+use Rattle.rina_flood.proofs.LinkStates.{state_without, state_same}
+use Rattle.rina_flood.proofs.All.{found_key}
+use Rattle.rina_flood.proofs.Settles.{Greatest, kept_made}
+use Rattle.rina_flood.proofs.Steps.{room}
+
+-- Of an address: a member keeps its link state as the member's links are, and none newer was made
+pub record Tells (address : ℕ) (a : Agent) (made : List Item) : Type 0 where
+  pub item : Item
+  pub kept : kept_at a.items (link_key address) ≡ Some item
+  pub value : item.value ≡ Some (link_state None a.links)
+  pub newest : (y : Item) → Contains made y → y.key ≡ link_key address → is_below item.version y.version ≡ false
+
+abbrev pub ByItself : ℕ → List Item → Type 0
+ByItself address made = (y : Item) → Contains made y → y.key ≡ link_key address → y.version.origin ≡ address
+
+pub same_address : (i j : ℕ) → i < 2 ^ 32 → j < 2 ^ 32 → link_key i ≡ link_key j → i ≡ j
+same_address i j a b e = decimal_injective i j (omega (arith, a)) (omega (arith, b)) (cc)
+
+-- what else was made changes nothing
+pub tells_more : (address : ℕ) (a : Agent) (made made' : List Item) → ((y : Item) → Contains made' y → y.key ≡ link_key address → Contains made y) → Tells address a made → Tells address a made'
+tells_more address a made made' fewer t = record { item = t.item; kept = t.kept; value = t.value; newest = λ y e k. t.newest y (fewer y e k) k }
+
+-- an item of another key is taken
+tells_other : (address : ℕ) (a b : Agent) (made : List Item) (x : Item) → b.items ≡ taken a.items x → b.links ≡ a.links → has_key (link_key address) x ≡ false → Tells address a made → Tells address b made
+tells_other address a b made x items links lacks t = record {
+  item = t.item;
+  kept = ap (λ (known : List Item). kept_at known (link_key address)) items ∙ kept_other (link_key address) x a.items lacks ∙ t.kept;
+  value = t.value ∙ ap (λ (ls : List Link). Some (link_state None ls)) (sym links);
+  newest = t.newest;
+}
+
+-- an item that came, of any key
+not_newer : (address : ℕ) (a : Agent) (made : List Item) (x : Item) → Contains made x → x.key ≡ link_key address → Tells address a made → is_newer x.version (kept_at a.items x.key) ≡ false
+not_newer address a made x was k t =
+    let is : kept_at a.items x.key ≡ Some t.item = ap (λ (q : List ℕ). kept_at a.items q) k ∙ t.kept in
+    ap (λ (o : Option Item). is_newer x.version o) is ∙ t.newest x was k
+
+pub took_tells : (address : ℕ) (a : Agent) (link : ℕ) (made : List Item) (x : Item) (newer : Bool) → is_newer x.version (kept_at a.items x.key) ≡ newer → Contains made x → Tells address a made
+    → Tells address (cond newer (record a { items = taken a.items x; agenda = a.agenda ++ floods (Some link) x a.links }) a) made
+took_tells address a link made x true e was t = elim (cases_Bool (has_key (link_key address) x)) [
+  | inl has ↦ absurd (both_ways (is_newer x.version (kept_at a.items x.key)) (not_newer address a made x was (sym (key_same (link_key address) x.key has)) t) e)
+  | inr lacks ↦ tells_other address a (record a { items = taken a.items x; agenda = a.agenda ++ floods (Some link) x a.links }) made x refl refl lacks t
+]
+took_tells address a link made x false e was t = t
+
+lacks_key : (address : ℕ) (x : Item) → (x.key ≡ link_key address → ⊥) → has_key (link_key address) x ≡ false
+lacks_key address x apart = elim (cases_Bool (has_key (link_key address) x)) [
+  | inl has ↦ absurd (apart (sym (key_same (link_key address) x.key has)))
+  | inr lacks ↦ lacks
+]
+
+-- An item of another key is made
+pub made_fewer : (made : List Item) (x : Item) (address : ℕ) → (x.key ≡ link_key address → ⊥) → (y : Item) → Contains (made ++ x ∷ []) y → y.key ≡ link_key address → Contains made y
+made_fewer made x address apart y e k = elim (Contains-push_cases made x y e) [
+  | inl old ↦ old
+  | inr is ↦ absurd (apart (ap (λ (z : Item). z.key) is ∙ k))
+]
+
+pub make_tells : (n : Network) (address i : ℕ) (key : List ℕ) (value : Option (List ℕ)) → spent 1 (n.agents i).last_count ≡ None → (key ≡ link_key address → ⊥) → Tells address (n.agents address) n.made
+    → Tells address ((happens n (Make i key value)).agents address) (happens n (Make i key value)).made
+make_tells n address i key value may apart t =
+    let a = n.agents i in
+    let x = own_item a n.now key value in
+    let made' = n.made ++ x ∷ [] in
+    let P : Option AgentError → Type 0 = λ o. Tells address (put_agent i (done a (unless o (made None a n.now key value))) n.agents address) made' in
+    subst P (sym may) (tells_more address (put_agent i (made None a n.now key value) n.agents address) n.made made' (made_fewer n.made x address apart)
+    (at_place (λ c e. Tells address c n.made → Tells address e n.made) i (made None a n.now key value) n.agents address (λ s. tells_other address a (made None a n.now key value) n.made x refl refl (lacks_key address x apart) s) (λ c s. s) t))
+
+-- The member loses a link itself
+
+older : (a b : Version) → a.tick ≤ b.tick → a.count < b.count → is_below a b ≡ true
+unfolding is_below
+older a b tick count = grind (arith, common_steps, tick, count)
+
+not_after : (a b : Version) → is_below a b ≡ true → is_below b a ≡ false
+unfolding is_below
+not_after a b h = grind (arith, common_steps, h)
+
+module _ (n : Network) (address k : ℕ) (h : Holds n) (greatest : Greatest) (alone : ByItself address n.made) (may : spent 1 (n.agents address).last_count ≡ None) where
+  abbrev mine : Agent
+  mine = n.agents address
+
+  abbrev told : Item
+  told = own_item mine n.now (link_key mine.address) (Some (link_state (Some k) mine.links))
+
+  told_key : told.key ≡ link_key address
+  told_key = ap link_key (h.laid.addresses address)
+
+  after_all : (y : Item) → Contains n.made y → y.key ≡ link_key address → is_below y.version told.version ≡ true
+  after_all y e key =
+      let origin = alone y e key in
+      let past = h.noted.past y e in
+      let counted = h.noted.counted y e in
+      let same : (n.agents y.version.origin).last_count ≡ mine.last_count = ap (λ (j : ℕ). (n.agents j).last_count) origin in
+      let more = room mine.last_count may in
+      let lt : y.version.count < next_of mine.last_count = omega (arith, counted, same, more) in
+      older y.version told.version past lt
+
+  told_newer : (o : Option Item) → kept_at mine.items told.key ≡ o → is_newer told.version o ≡ true
+  told_newer None e = refl
+  told_newer (Some y) e = after_all y (kept_made greatest n h address told.key y e) (found_key mine.items told.key y e ∙ told_key)
+
+  told_newest : (y : Item) → Contains (n.made ++ told ∷ []) y → y.key ≡ link_key address → is_below told.version y.version ≡ false
+  told_newest y e key = elim (Contains-push_cases n.made told y e) [
+    | inl old ↦ not_after y.version told.version (after_all y old key)
+    | inr is ↦ (let P : Item → Type 0 = λ z. is_below told.version z.version ≡ false in subst P is (not_below_itself told.version))
+  ]
+
+  pub lost_tells : Tells address (dropped (stated (Some k) mine n.now) k) (n.made ++ told ∷ [])
+  lost_tells = record {
+    item = told;
+    kept = kept_new (link_key address) told mine.items (key_itself (link_key address) told.key (sym told_key)) (told_newer (kept_at mine.items told.key) refl);
+    value = ap Some (state_without k mine.links (h.laid.apart address));
+    newest = told_newest;
+  }
+
+pub down_tells : (address k : ℕ) (a : Agent) (made : List Item) → was_up (find (is_numbered k) a.links) ≡ false → Tells address a made → Tells address (dropped a k) made
+down_tells address k a made down t = record { item = t.item; kept = t.kept; value = t.value ∙ ap Some (sym (state_same k a.links down)); newest = t.newest }

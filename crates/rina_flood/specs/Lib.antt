@@ -1,0 +1,4 @@
+pub mod Gap
+pub mod Laws
+pub mod Network
+pub mod Sample

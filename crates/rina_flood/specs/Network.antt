@@ -1,0 +1,234 @@
+-- A network of members: the management of each, the links between them, and what happens to it, row by row. Each row is one call of
+-- one member, or what the connections between them do.
+use Rattle.std.specs.Prelude.{◌≡◌, ℕ, ◌+◌, ◌≤◌, ◌<◌, ◌^◌, ◌⊎◌, Bool, true, false, ◌&&◌, ◌==◌, List, ◌∷◌, ◌++◌, find, flat_map, Option, Some, None, is_some, Contains, if◌then◌else◌, []}
+use Rattle.rina_alloc.specs.declared.message.FlowMessage.{FlowMessage}
+use Rattle.rina_enrol.specs.declared.message.LinkMessage.{LinkMessage}
+use Rattle.rina_enrol.specs.declared.message.LinkMessage.TheVariants as messages
+use Rattle.rina_newest.specs.declared.item.Item.{Item}
+use Rattle.rina_newest.specs.Newest.{item_of, taken_all, AreTold}
+use Rattle.rina_agent.specs.declared.agent.Agent.{Agent}
+use Rattle.rina_agent.specs.declared.link.Link.{Link}
+use Rattle.rina_agent.specs.declared.message.ManagementMessage.{ManagementMessage}
+use Rattle.rina_agent.specs.declared.message.ManagementMessage.TheVariants.{ToNeighbour, ToMember}
+use Rattle.rina_agent.specs.declared.state.MemberState.{MemberState}
+use Rattle.rina_agent.specs.declared.state.MemberState.TheVariants as states
+use Rattle.rina_agent.specs.Agenda.{first_on, waiting_on}
+use Rattle.rina_agent.specs.Counts.{spent}
+use Rattle.rina_agent.specs.Enrolled.{Event, Handles, Makes, Enrols, Claims, Loses, Takes, after}
+use Rattle.rina_agent.specs.Enrolments.{is_numbered}
+use Rattle.rina_agent.specs.Items.{own_item}
+use Rattle.rina_agent.specs.Neighbours.{link_key, link_state, member_key}
+use Rattle.rina_agent.specs.Rows.{was_up}
+
+-- The two ends of a link. A direction is a link and the end that sends
+pub data Side : Type 0 where
+  Near : Side
+  Far : Side
+
+abbrev pub other : Side → Side
+other Near = Far
+other Far = Near
+
+abbrev pub is_side : Side → Side → Bool
+is_side Near Near = true
+is_side Near Far = false
+is_side Far Near = false
+is_side Far Far = true
+
+abbrev pub is_direction : ℕ → Side → ℕ → Side → Bool
+is_direction link side l d = (l == link) && is_side side d
+
+-- Members are named by their addresses. A link has a member at each end, and each of the two has a number of its own for it. A link whose
+-- number neither of them has is not there.
+pub record Network : Type 0 where
+  -- the tick
+  pub now : ℕ
+  -- the management of the member of each address; at an address that no member has, any, to which nothing happens
+  pub agents : ℕ → Agent
+  -- the member at each end of a link, and the number that the link has there
+  pub ends : ℕ → Side → ℕ
+  pub numbers : ℕ → Side → ℕ
+  -- of each direction, the messages that were taken from the sender's agenda and not handled at the other end, first in first
+  pub sent : ℕ → Side → List ManagementMessage
+  -- two journals: the items that were made, those of the start among them, and of each member the items that it made or was offered
+  pub made : List Item
+  pub offered : ℕ → List Item
+
+-- What is seen of a network
+
+-- one end of a link is up
+abbrev pub is_up : Network → ℕ → Side → Bool
+is_up n l d = was_up (find (is_numbered (n.numbers l d)) (n.agents (n.ends l d)).links)
+
+-- a link is up at both ends
+abbrev pub joins : Network → ℕ → Bool
+joins n l = is_up n l Near && is_up n l Far
+
+-- the member at one end has not lost the link
+abbrev pub has_link : Network → ℕ → Side → Bool
+has_link n l d = is_some (find (is_numbered (n.numbers l d)) (n.agents (n.ends l d)).links)
+
+-- a direction stands: the sender's end is up, and the other end has not lost the link
+abbrev pub stands : Network → ℕ → Side → Bool
+stands n l d = is_up n l d && has_link n l (other d)
+
+-- the messages of a direction that are not handled: those that were taken from the agenda, and behind them those that wait there
+abbrev pub unhandled : Network → ℕ → Side → List ManagementMessage
+unhandled n l d = n.sent l d ++ waiting_on (n.numbers l d) (n.agents (n.ends l d)).agenda
+
+-- the item that a message carries
+abbrev pub item_in : LinkMessage → List Item
+item_in (messages.Item x) = x ∷ []
+item_in (messages.Flood x) = x ∷ []
+item_in other = []
+
+abbrev pub carried : ManagementMessage → List Item
+carried (ToNeighbour m) = item_in m
+carried (ToMember m) = []
+
+-- the items on their way in a direction
+abbrev pub on_way : Network → ℕ → Side → List Item
+on_way n l d = flat_map carried (unhandled n l d)
+
+-- What happens
+
+-- the link state of a member as its links are, in the version of the item that it made last
+abbrev pub last_state : Agent → ℕ → Item
+last_state a now = item_of (link_key a.address) (record { tick = now; count = a.last_count; origin = a.address }) (Some (link_state None a.links))
+
+-- a member that is not enrolled makes its member item in the step in which it enters
+abbrev pub entering : MemberState → Agent → ℕ → List Item
+entering states.Enrolled a now = []
+entering other a now = own_item a now (member_key a.address) (Some a.node) ∷ []
+
+-- nothing is made in a step in which the counter stays
+abbrev pub if_counted : Agent → Agent → List Item → List Item
+if_counted a b items = if b.last_count == a.last_count then [] else items
+
+-- the items that a member makes at a call that is not refused: where it brings a link up, its link state is among them
+abbrev pub news : Agent → Event → List Item
+news a (Makes now key value) = own_item a now key value ∷ []
+news a (Loses now link) = if was_up (find (is_numbered link) a.links) then own_item a now (link_key a.address) (Some (link_state (Some link) a.links)) ∷ [] else []
+news a (Handles now link (messages.Start invoke address)) = if_counted a (after a (Handles now link (messages.Start invoke address))) (last_state (after a (Handles now link (messages.Start invoke address))) now ∷ [])
+news a (Handles now link (messages.Stop invoke)) = if_counted a (after a (Handles now link (messages.Stop invoke))) (entering a.state a now ++ last_state (after a (Handles now link (messages.Stop invoke))) now ∷ [])
+news a other = []
+
+-- the items that a call makes, or that a message offers
+abbrev pub offers : Agent → Event → List Item
+offers a (Handles now link (messages.Item x)) = x ∷ []
+offers a (Handles now link (messages.Flood x)) = x ∷ []
+offers a e = news a e
+
+-- one place changes
+abbrev pub put_agent : ℕ → Agent → (ℕ → Agent) → ℕ → Agent
+put_agent i a agents j = if j == i then a else agents j
+
+abbrev pub put_offers : ℕ → List Item → (ℕ → List Item) → ℕ → List Item
+put_offers i items offered j = if j == i then offered j ++ items else offered j
+
+abbrev pub put_sent : ℕ → Side → List ManagementMessage → (ℕ → Side → List ManagementMessage) → ℕ → Side → List ManagementMessage
+put_sent link side ms sent l d = if is_direction link side l d then ms else sent l d
+
+-- a call of a member
+abbrev pub called : Network → ℕ → Event → Network
+called n i e = record n {
+  agents = put_agent i (after (n.agents i) e) n.agents;
+  made = n.made ++ news (n.agents i) e;
+  offered = put_offers i (offers (n.agents i) e) n.offered;
+}
+
+pub data Row : Type 0 where
+  -- a member makes an item of its own, such as a directory entry
+  Make : (i : ℕ) (key : List ℕ) (value : Option (List ℕ)) → Row
+  -- a message about a flow is put on a link, among the others
+  Put : (link : ℕ) (side : Side) (m : FlowMessage) → Row
+  -- the first message that waits for a link is taken, and sent
+  Take : (link : ℕ) (side : Side) (m : ManagementMessage) → Row
+  -- the first message of a direction is handled at its other end
+  Handle : (link : ℕ) (side : Side) (m : ManagementMessage) (rest : List ManagementMessage) → Row
+  -- the member at one end of a link loses it
+  Lose : (link : ℕ) (side : Side) → Row
+  -- some messages that were sent on a link that an end has lost are lost
+  Drop : (link : ℕ) (side : Side) (left : List ManagementMessage) → Row
+  -- a member asks for an enrolment on a new link, and the member at the other end gets that link
+  Enrol : (link : ℕ) (side : Side) (member node : List ℕ) → Row
+  Claim : (link : ℕ) (side : Side) → Row
+  -- a tick passes
+  Pass : Row
+
+-- a message about a flow is put behind those that wait for a link
+abbrev pub with_message : Agent → ℕ → FlowMessage → Agent
+with_message a link m = record a { agenda = a.agenda ++ record { link = link; message = ToMember m } ∷ [] }
+
+-- a message comes to a member: one for neighbours is handled, one about a flow is none of its items
+abbrev pub comes : ManagementMessage → Network → ℕ → ℕ → Network
+comes (ToNeighbour m) n i number = called n i (Handles n.now number m)
+comes (ToMember m) n i number = n
+
+abbrev pub happens : Network → Row → Network
+happens n (Make i key value) = called n i (Makes n.now key value)
+happens n (Put link side m) = record n { agents = put_agent (n.ends link side) (with_message (n.agents (n.ends link side)) (n.numbers link side) m) n.agents }
+happens n (Take link side m) = called (record n { sent = put_sent link side (n.sent link side ++ m ∷ []) n.sent }) (n.ends link side) (Takes (n.numbers link side))
+happens n (Handle link side m rest) = comes m (record n { sent = put_sent link side rest n.sent }) (n.ends link (other side)) (n.numbers link (other side))
+happens n (Lose link side) = called n (n.ends link side) (Loses n.now (n.numbers link side))
+happens n (Drop link side left) = record n { sent = put_sent link side left n.sent }
+happens n (Enrol link side member node) = called n (n.ends link side) (Enrols (n.numbers link side) member node)
+happens n (Claim link side) = called n (n.ends link side) (Claims (n.numbers link side))
+happens n Pass = record n { now = n.now + 1 }
+
+-- a link is new at an end: no link of that member has its number, and the other end is not up
+abbrev pub IsNewLink : Network → ℕ → Side → Type 0
+IsNewLink n l d = (find (is_numbered (n.numbers l d)) (n.agents (n.ends l d)).links ≡ None) × (is_up n l (other d) ≡ false)
+
+-- When a row may happen: a call is not refused, the message that is taken or handled is the first one, a connection loses messages
+-- only where an end has lost the link, and a new link has a number that no link of its member has
+abbrev pub May : Network → Row → Type 0
+May n (Make i key value) = spent 1 (n.agents i).last_count ≡ None
+May n (Put link side m) = Unit {0}
+May n (Take link side m) = first_on (n.numbers link side) (n.agents (n.ends link side)).agenda ≡ Some (record { link = n.numbers link side; message = m })
+May n (Handle link side m rest) = n.sent link side ≡ m ∷ rest
+May n (Lose link side) = spent 1 (n.agents (n.ends link side)).last_count ≡ None
+May n (Drop link side left) = ((has_link n link Near && has_link n link Far) ≡ false) × ((m : ManagementMessage) → Contains left m → Contains (n.sent link side) m)
+May n (Enrol link side member node) = IsNewLink n link side × (spent 1 (n.agents (n.ends link side)).last_invoke ≡ None)
+May n (Claim link side) = IsNewLink n link side
+May n Pass = Unit {0}
+
+abbrev pub IsRun : Network → List Row → Type 0
+IsRun n [] = Unit {0}
+IsRun n (row ∷ rows) = May n row × IsRun (happens n row) rows
+
+abbrev pub after_rows : Network → List Row → Network
+after_rows n [] = n
+after_rows n (row ∷ rows) = after_rows (happens n row) rows
+
+-- The start
+
+-- no two links of a member have one number
+abbrev pub AreApart : List Link → Type 0
+AreApart [] = Unit {0}
+AreApart (l ∷ links) = (find (is_numbered l.number) links ≡ None) × AreApart links
+
+-- a member keeps the items of the start, which it took in turn
+abbrev pub KnowsAll : Network → List Item → ℕ → Type 0
+KnowsAll n told i = ((n.agents i).items ≡ taken_all [] told) × (n.offered i ≡ told)
+
+-- it is outside, and keeps nothing
+abbrev pub KnowsNothing : Network → ℕ → Type 0
+KnowsNothing n i = ((n.agents i).items ≡ []) × (n.offered i ≡ [])
+
+-- A start: each member keeps the same items or none, those at links that are up keep them, and no message waits or is on its way
+pub record IsStart (n : Network) (told : List Item) : Type 0 where
+  pub addresses : (i : ℕ) → (n.agents i).address ≡ i
+  pub knows : (i : ℕ) → KnowsAll n told i ⊎ KnowsNothing n i
+  pub both : (l : ℕ) (d : Side) → stands n l d ≡ true → KnowsAll n told (n.ends l (other d))
+  pub agendas : (i : ℕ) → (n.agents i).agenda ≡ []
+  pub sent : (l : ℕ) (d : Side) → n.sent l d ≡ []
+  -- the journal has the items of the start, no later than now and no more than their makers have counted
+  pub made : n.made ≡ told
+  pub one : AreTold told
+  pub past : (x : Item) → Contains told x → x.version.tick ≤ n.now
+  pub counted : (x : Item) → Contains told x → x.version.count ≤ (n.agents x.version.origin).last_count
+  -- no two links have one number at one member, and addresses fit in 32 bits
+  pub apart : (i : ℕ) → AreApart (n.agents i).links
+  pub laid : (l : ℕ) (d : Side) (k : ℕ) (e : Side) → n.ends l d ≡ n.ends k e → n.numbers l d ≡ n.numbers k e → (l ≡ k) × (d ≡ e)
+  pub fit : (l : ℕ) (d : Side) → n.ends l d < 2 ^ 32
