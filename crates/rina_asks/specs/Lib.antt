@@ -1,0 +1,5 @@
+pub mod Allocation
+pub mod Counterexamples
+pub mod Holding
+pub mod Laws
+pub mod Machines
