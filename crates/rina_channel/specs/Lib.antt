@@ -1,0 +1,13 @@
+pub mod Adding
+pub mod CallLaws
+pub mod Changes
+pub mod Channels
+pub mod FlowLaws
+pub mod Laws
+pub mod Ledgers
+pub mod LinkCloud
+pub mod Making
+pub mod Names
+pub mod OwnLaws
+pub mod Rows
+pub mod Standing
