@@ -6,3 +6,4 @@ pub mod Standing
 pub mod Clock
 pub mod Lending
 pub mod Laws
+pub mod Quiet

@@ -103,6 +103,16 @@ const fn receiver(now: Tick, next: Option<u64>) -> Step {
     (now, Event::Receiver, Answer::Next(next))
 }
 
+/// Nothing is due at the sender before this tick.
+const fn sender_quiet(now: Tick, until: Tick) -> Step {
+    (now, Event::SenderQuiet, Answer::Quiet(until))
+}
+
+/// Nothing is due at the receiver before this tick.
+const fn receiver_quiet(now: Tick, until: Tick) -> Step {
+    (now, Event::ReceiverQuiet, Answer::Quiet(until))
+}
+
 /// A piece of an SDU comes, while so many SDUs wait to be passed.
 const fn come_at(now: Tick, sdu: usize, piece: usize, unpassed: u32, told: Verdict) -> Step {
     let coming = Coming {
@@ -405,6 +415,96 @@ fn an_sdu_is_cut_or_refused_and_a_connection_closed(rt: HostRuntime) -> Result<(
         (120, Event::Close, Answer::Kept(1)),
     ];
     let different = first_difference(rt.alloc(), &LOOSE, MAX, &steps)?;
+    assert_eq!(rt; different, None);
+    Ok(())
+}
+
+#[test]
+fn a_sender_is_quiet_until_a_number_is_due(rt: HostRuntime) -> Result<(), Fail> {
+    let steps = [
+        sender_quiet(0, Tick::MAX),
+        offer(0, 0),
+        sender_quiet(0, 10),
+        again(10, 0, true),
+        sender_quiet(10, 20),
+        offer(15, 1),
+        sender_quiet(15, 20),
+        again(20, 0, true),
+        again(25, 1, false),
+        again(30, 0, true),
+        again(35, 1, false),
+        again(45, 1, false),
+        sender_quiet(45, 112),
+        not_given_up(111),
+    ];
+    let different = first_difference(rt.alloc(), &RELIABLE, MAX, &steps)?;
+    assert_eq!(rt; different, None);
+    Ok(())
+}
+
+#[test]
+fn a_connection_is_quiet_until_an_acknowledgement_is_due(rt: HostRuntime) -> Result<(), Fail> {
+    let steps = [
+        offer(0, 0),
+        receiver_quiet(1, Tick::MAX),
+        come(2, 0, WHOLE),
+        fetch(2, 0),
+        receiver_quiet(2, 4),
+        no_ack(3),
+        acknowledge(4, 0, 3),
+        receiver_quiet(4, Tick::MAX),
+        sender_quiet(4, Tick::MAX),
+    ];
+    let different = first_difference(rt.alloc(), &RELIABLE, MAX, &steps)?;
+    assert_eq!(rt; different, None);
+    Ok(())
+}
+
+#[test]
+fn a_receiver_is_quiet_until_its_state_ends(rt: HostRuntime) -> Result<(), Fail> {
+    let steps = [
+        (0, Event::Offer(160), Answer::Number(0)),
+        come(2, 0, PART),
+        acknowledge(4, 0, 3),
+        receiver_quiet(4, 146),
+        (145, Event::End, Answer::Gone(false)),
+        (146, Event::End, Answer::Gone(true)),
+        (
+            146,
+            Event::Drop,
+            Answer::Dropped(Some(Cause::StateGone { last_in: 2 })),
+        ),
+        receiver_quiet(146, Tick::MAX),
+    ];
+    let different = first_difference(rt.alloc(), &RELIABLE, MAX, &steps)?;
+    assert_eq!(rt; different, None);
+    Ok(())
+}
+
+#[test]
+fn a_datagram_flow_is_quiet(rt: HostRuntime) -> Result<(), Fail> {
+    let steps = [
+        offer(0, 0),
+        come(2, 0, WHOLE),
+        fetch(2, 0),
+        sender_quiet(2, Tick::MAX),
+        receiver_quiet(2, Tick::MAX),
+    ];
+    let different = first_difference(rt.alloc(), &DATAGRAM, MAX, &steps)?;
+    assert_eq!(rt; different, None);
+    Ok(())
+}
+
+#[test]
+fn a_closed_connection_is_quiet(rt: HostRuntime) -> Result<(), Fail> {
+    let steps = [
+        (0, Event::Offer(160), Answer::Number(0)),
+        come(2, 0, PART),
+        receiver_quiet(2, 4),
+        (3, Event::Close, Answer::Kept(1)),
+        receiver_quiet(3, Tick::MAX),
+    ];
+    let different = first_difference(rt.alloc(), &RELIABLE, MAX, &steps)?;
     assert_eq!(rt; different, None);
     Ok(())
 }

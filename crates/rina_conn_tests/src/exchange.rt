@@ -60,6 +60,10 @@ pub enum Event {
     Close,
     Sender,
     Receiver,
+    /// It is asked until when nothing is due at the near end.
+    SenderQuiet,
+    /// And at the far end.
+    ReceiverQuiet,
 }
 
 /// What a step answers.
@@ -82,6 +86,8 @@ pub enum Answer {
     /// How many pieces were kept.
     Kept(u32),
     Next(Option<u64>),
+    /// Nothing is due before this tick.
+    Quiet(Tick),
     /// There is no such piece.
     Missing,
 }
@@ -253,6 +259,8 @@ impl Ends {
             Event::Close => Ok(Answer::Kept(self.far.close())),
             Event::Sender => Ok(Answer::Next(self.near.tx_next(now))),
             Event::Receiver => Ok(Answer::Next(self.far.rx_next(now))),
+            Event::SenderQuiet => Ok(Answer::Quiet(self.near.quiet_until())),
+            Event::ReceiverQuiet => Ok(Answer::Quiet(self.far.quiet_until())),
         }
     }
 }

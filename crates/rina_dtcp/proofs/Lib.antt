@@ -1,3 +1,4 @@
 pub mod Touching
 pub mod Scanning
 pub mod Standing
+pub mod Still

@@ -1,5 +1,5 @@
 -- What each call of a sender does, whatever sender of the machine it stands for.
-use Rattle.std.specs.Prelude.{◌≡◌, ℕ, ◌+◌, Bool, List, [], ◌∷◌, drop, length, map, position, Option, Some, None, option_map, is_some}
+use Rattle.std.specs.Prelude.{◌≡◌, ℕ, ◌+◌, ◌<◌, Bool, List, [], ◌∷◌, drop, length, map, position, Option, Some, None, option_map, is_some}
 use Rattle.rina_base.specs.declared.pdu.Pdu.{Pdu}
 use Rattle.rina_cube.specs.declared.Cube.{Cube}
 use Rattle.rina_cube.specs.declared.Kind.{Kind}
@@ -96,3 +96,8 @@ gave_up_of carry now m n = record { num = num_in (carry (piece_again n m)); firs
 abbrev pub TellsGivenUp : ℕ → Kept → Option GaveUp → Type 0
 TellsGivenUp now k told =
     (c : Constants) (carry : Piece → Pdu) (m : Sender) → Stands c carry m k → told ≡ option_map (gave_up_of carry now m) (given_up c now m)
+
+-- before this tick no number is sent again or given up
+pub record IsStillUntil (until : ℕ) (k : Kept) : Type 0 where
+  pub again : (t : ℕ) → t < until → TellsAgain t k None
+  pub given_up : (t : ℕ) → t < until → TellsGivenUp t k None

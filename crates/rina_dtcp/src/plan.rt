@@ -1,5 +1,5 @@
 //! When an acknowledgement is made.
-ghost use Rattle.std.specs.Prelude.{◌≡◌, ◌&&◌, if◌then◌else◌, None};
+ghost use Rattle.std.specs.Prelude.{ℕ, ◌<◌, false, ◌≡◌, ◌&&◌, if◌then◌else◌, None};
 ghost use Rattle.rina_dtcp.specs.Plans.{TellsNote, TellsPass, is_young, with_mark, without, noted_plan, passed_plan};
 ghost use Rattle.rina_law.specs.Direction.{has_come};
 
@@ -114,6 +114,17 @@ impl AckPlan {
         ensures { result ≡ (has_come self.now.mark now && is_young now last_in self.now.delta) }
     {
         self.has_come(now) && self.is_young(now, last_in)
+    }
+
+    /// The tick at which the planned acknowledgement is due, at most the greatest u32; the greatest u32 where none is
+    /// planned. Takes no memory.
+    pub fn still_until(&self) -> Tick
+        ensures { (t : ℕ) → t < result → has_come self.now.mark t ≡ false }
+    {
+        match self.since {
+            Some(since) => since.saturating_add(self.a),
+            None => Tick::MAX,
+        }
     }
 
     fn has_come(&self, now: Tick) -> bool

@@ -1,6 +1,6 @@
 //! A piece that waits for its acknowledgement.
 ghost use Rattle.std.specs.Prelude.{◌≡◌, IfOk};
-ghost use Rattle.rina_dtcp.specs.Sents.{is_due, is_late};
+ghost use Rattle.rina_dtcp.specs.Sents.{IsStillUntil, is_due, is_late};
 
 use rina_base::{Bytes, Memory, Num, Pdu, Tick};
 use rina_cube::Cube;
@@ -46,6 +46,19 @@ impl Sent {
     {
         let wait = cube.r as u64 + cube.a as u64 + 2 * cube.mpl as u64;
         self.first as u64 + wait <= now as u64
+    }
+
+    /// The first tick at which it is to be made again, or, where it is not any more, at which it is too late for its
+    /// acknowledgement; at most the greatest u32.
+    #[tactic(auto, unfolding(crate::specs::Sents::is_due, crate::specs::Sents::is_late))]
+    pub(crate) fn still_until(&self, cube: &Cube) -> Tick
+        ensures { IsStillUntil result cube.now self.now }
+    {
+        let again = self.last as u64 + cube.retry as u64;
+        let latest = self.first as u64 + cube.r as u64;
+        let late = latest + cube.a as u64 + 2 * cube.mpl as u64;
+        let first = if again <= latest { again } else { late };
+        first.min(Tick::MAX as u64) as Tick
     }
 }
 

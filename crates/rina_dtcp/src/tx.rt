@@ -1,10 +1,12 @@
 //! The sender of a connection.
-ghost use Rattle.std.specs.Prelude.{◌≡◌, ◌+◌, ◌-◌, ◌==◌, ◌<◌, ◌≤◌, ◌^◌, drop, length, position, is_some, option_copied, IfSome, IfOk, OnOk, OnErr, [], ◌++◌, ◌∷◌};
+ghost use Rattle.std.specs.Prelude.{◌≡◌, ℕ, slice_get, Some, ◌+◌, ◌-◌, ◌==◌, ◌<◌, ◌≤◌, ◌^◌, drop, length, position, is_some, option_copied, IfSome, IfOk, OnOk, OnErr, [], ◌++◌, ◌∷◌};
+ghost use Rattle.rina_dtcp.specs.declared.sent.Sent.{Sent};
+ghost use Rattle.rina_dtcp.specs.Sents as sents;
 ghost use Rattle.rina_dtcp.specs.Sents.{is_due, is_late, touched};
 ghost use Rattle.rina_dtcp.specs.Senders.{Kept, is_gone, left_in, keeps, with_sent, least_from, sents_from, with_all, counted, counted_all, noted, flag_of, settled, raised, resent_at, IsPduAt, late_of, late_in};
 ghost use Rattle.std.specs.Borrow.{sem};
 ghost use Rattle.rina_dtcp.specs.Lending.{LendsDue};
-ghost use Rattle.rina_dtcp.specs.Rows.{IsNew, TellsRoom, TellsIdle, Notes, NotesAll, IsTold, TellsAgain, TellsDue, TellsGivenUp};
+ghost use Rattle.rina_dtcp.specs.Rows.{IsNew, TellsRoom, TellsIdle, Notes, NotesAll, IsTold, TellsAgain, TellsDue, TellsGivenUp, IsStillUntil};
 
 use crate::sent::{GaveUp, Sent, copy_of};
 use rina_base::{Memory, Num, Pdu, Tick};
@@ -112,6 +114,17 @@ fn first_late(unacked: &VecDeque<Sent>, cube: &Cube, now: Tick) -> Option<usize>
     ensures within { IfSome result (λ k. k < length unacked.now.items) }
 {
     unacked.iter().position(|sent| sent.is_late(cube, now))
+}
+
+/// A tick before which none of the pieces is made again or too late; the greatest u32 where there is none.
+fn still_until(unacked: &VecDeque<Sent>, cube: &Cube) -> Tick
+    ensures { (k : ℕ) (s : Sent) → slice_get unacked.now.items k ≡ Some s → sents.IsStillUntil result cube.now s }
+{
+    let mut until = Tick::MAX;
+    for place in 0..unacked.len() {
+        until = until.min(unacked[place].still_until(cube));
+    }
+    until
 }
 
 /// A piece that is given up now.
@@ -412,5 +425,12 @@ impl Tx {
         ensures { TellsGivenUp now self.now result }
     {
         self.least_given_up(now)
+    }
+    /// A tick before which no number is sent again or given up, as long as nothing is sent and no acknowledgement comes;
+    /// the greatest u32 where nothing is unacknowledged. Takes no memory.
+    pub fn still_until(&self) -> Tick
+        ensures { IsStillUntil result self.now }
+    {
+        still_until(&self.unacked, &self.cube)
     }
 }

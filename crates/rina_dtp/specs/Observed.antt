@@ -1,12 +1,12 @@
 -- What a receiver shows, in the terms of the machine's receiver and joiner for which it stands.
-use Rattle.std.specs.Prelude.{◌≡◌, ℕ, ◌+◌, Bool, true, nat_lt, Option, Some, None, if◌then◌else◌}
+use Rattle.std.specs.Prelude.{◌≡◌, ℕ, ◌+◌, ◌<◌, Bool, true, false, nat_lt, List, [], Option, Some, None, if◌then◌else◌}
 use Rattle.rina_cube.specs.declared.Cube.{Cube}
 use Rattle.rina_cube.specs.declared.Kind.{Kind}
 use Rattle.rina_cube.specs.declared.Kind.TheVariants.{Reliable}
 use Rattle.rina_delim.specs.declared.joiner.Run.{Run}
 use Rattle.rina_dtp.specs.declared.accepted.Accepted.{Accepted}
 use Rattle.rina_dtp.specs.declared.accepted.Accepted.TheVariants as accepted
-use Rattle.rina_dtp.specs.Receiving.{Receiving}
+use Rattle.rina_dtp.specs.Receiving.{Receiving, kept_numbers, present_at}
 use Rattle.rina_dtp.specs.Stands.{Stands, IsFetched}
 use Rattle.rina_law.specs.Constants.{Constants}
 use Rattle.rina_law.specs.Lists.{highest}
@@ -37,6 +37,10 @@ TellsJoining r result = (c : Constants) (now : ℕ) (m : Receiver) (j : Joiner) 
 -- when the last piece came that counted, where any did
 abbrev pub TellsLastIn : Receiving → Option ℕ → Type 0
 TellsLastIn r result = (c : Constants) (now : ℕ) (m : Receiver) (j : Joiner) → Stands c now m j r → result ≡ (if m.made then Some m.last_in else None)
+
+-- before this tick no piece is kept of a state that has ended
+abbrev pub KeepsNoneUntil : ℕ → Receiving → Type 0
+KeepsNoneUntil until r = (t : ℕ) → t < until → present_at t r ≡ false → kept_numbers r ≡ []
 
 -- in the terms of what is kept
 abbrev pub next_kept : Accepted → ℕ

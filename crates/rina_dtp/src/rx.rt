@@ -6,7 +6,7 @@ ghost use Rattle.rina_law.specs.Receiver as law;
 ghost use Rattle.rina_dtp.specs.Accepted.{known_verdict, number_verdict, judged_as, is_accepted, is_held};
 ghost use Rattle.rina_dtp.specs.Receiving.{present_at, cleared, IsAccepted, IsHeldIn, IsStep, Steps, slots_of, StartsFresh, run_numbers, kept_numbers, end_cause, ended_with, broken_with, lost_in, drops};
 ghost use Rattle.rina_dtp.specs.Fetching.{HasSome, TakesFirst, after_first, gathered, GoesOn, ChangesKept, KeepsNoMore, StandsAsBefore};
-ghost use Rattle.rina_dtp.specs.Observed.{IsNew, TellsPresence, TellsNext, TellsJoining, TellsLastIn, from_kept};
+ghost use Rattle.rina_dtp.specs.Observed.{IsNew, TellsPresence, TellsNext, TellsJoining, TellsLastIn, KeepsNoneUntil, from_kept};
 ghost use Rattle.rina_dtp.specs.Joins.{IsForward, first_number};
 ghost use Rattle.rina_dtp.specs.Stands.{IsRow, IsAhead};
 
@@ -441,6 +441,28 @@ impl Rx {
         ensures most { result ≤ 2 ^ 34 }
     {
         run_count(self.going) + run_count(self.join.held()) + self.accepted.held_count()
+    }
+
+    /// A tick before which no piece is kept of a state that has ended: the one at which state ends, and the greatest u32
+    /// where no piece is kept. Takes no memory.
+    pub fn keeps_none_until(&self) -> Tick
+        ensures { KeepsNoneUntil result self.now }
+    {
+        if self.kept() == 0 {
+            return Tick::MAX;
+        }
+        if self.made {
+            self.last_in + self.rest
+        } else {
+            0
+        }
+    }
+
+    /// Whether the connection was closed.
+    pub fn is_closed(&self) -> bool
+        ensures { result ≡ self.now.closed }
+    {
+        self.closed
     }
 
     /// Closes the connection, and answers how many pieces are held, 2^32 counted as one less. After that `dropped`

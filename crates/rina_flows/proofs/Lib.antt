@@ -35,3 +35,5 @@ pub mod Unbroken
 pub mod Waiting
 pub mod Welcome
 pub mod Writing
+pub mod Watched
+pub mod Idle

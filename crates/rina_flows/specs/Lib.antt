@@ -9,3 +9,5 @@ pub mod Rows
 pub mod Stopping
 pub mod Tied
 pub mod Timely
+pub mod Quiet
+pub mod Watching

@@ -1,13 +1,15 @@
 //! Connections, each at the place of its end.
-ghost use Rattle.std.specs.Prelude.{◌≡◌, ◌≤◌, ◌<◌, [], ◌∷◌, ◌++◌, length, slice_get, Some, List, MatchOption, OnOk, OnErr};
+ghost use Rattle.std.specs.Prelude.{◌≡◌, ◌≤◌, ◌<◌, [], ◌∷◌, ◌++◌, length, slice_get, Some, List, MatchOption, IfSome, OnOk, OnErr};
 ghost use Rattle.std.specs.Vec.{vec_capacity};
 ghost use Rattle.rina_conn.specs.declared.conn.Conn.{Conn};
 ghost use Rattle.rina_base.specs.Pdus.{pdu_of};
 ghost use Rattle.rina_flows.specs.Delivering.{GivesUpAll, IsLanding, Receives, closed};
 ghost use Rattle.rina_flows.specs.Calls.{Becomes, IsOffer, IsPass, IsTold};
 ghost use Rattle.rina_flows.specs.Timely.{IsAcknowledged, IsSentAgain};
+ghost use Rattle.rina_flows.specs.Watching.{AreIdleBeside};
 
 use crate::arrival::{Notes, cause_of, receive, write_off};
+use crate::watch::Watch;
 use rina_account::Off;
 use rina_base::{Bytes, Cause, Memory, PduView, Tick};
 use rina_conn::{Conn, Made, OfferError};
@@ -19,15 +21,20 @@ use std::marker::Model;
 #[derive(Drop)]
 pub struct Conns {
     items: Vec<Conn>,
+    /// At which of them something may be due soon.
+    watch: Watch,
 }
 
 impl Model for Conns {
     ghost use Rattle.std.specs.Prelude.{List};
     ghost use Rattle.rina_conn.specs.declared.conn.Conn.{Conn};
+    ghost use Rattle.rina_flows.specs.Quiet.{AreQuietBeside};
 
     ghost Value = { List Conn };
 
     ghost view = { λ k. k.items.items };
+
+    ghost invariant = { λ k. AreQuietBeside k.watch.places.items k.watch.until k.items.items };
 }
 
 impl Conns {
@@ -37,6 +44,7 @@ impl Conns {
     {
         Conns {
             items: Vec::new(alloc),
+            watch: Watch::new(alloc),
         }
     }
 
@@ -60,7 +68,10 @@ impl Conns {
         ensures { Becomes (IsOffer now sdu.now result) at self.old self.new }
     {
         let conn = &mut self.items[at];
-        conn.offer(alloc, now, sdu)
+        let result = conn.offer(alloc, now, sdu);
+        let quiet = conn.quiet_until();
+        self.watch.note(at, quiet);
+        result
     }
 
     /// How many connections there are.
@@ -86,6 +97,8 @@ impl Conns {
     {
         let conn = &mut self.items[at];
         conn.passed(now, first, pieces);
+        let quiet = conn.quiet_until();
+        self.watch.note(at, quiet);
     }
 
     /// Lets the connection at this place take an acknowledgement. Takes no memory.
@@ -95,6 +108,8 @@ impl Conns {
     {
         let conn = &mut self.items[at];
         conn.on_control(pdu);
+        let quiet = conn.quiet_until();
+        self.watch.note(at, quiet);
     }
 
     /// Lets the connection at this place receive a piece, while `unpassed` SDUs wait to be passed. `bodies` are the
@@ -114,7 +129,10 @@ impl Conns {
         ensures becomes { Becomes (λ old new. Receives now (pdu_of pdu.now) unpassed old bodies.items notes.old.got.items (vec_capacity notes.old.got) notes.old.lines.items (vec_capacity notes.old.lines) result new notes.new.got.items notes.new.lines.items) at self.old self.new }
     {
         let conn = &mut self.items[at];
-        receive(conn, now, pdu, unpassed, bodies, notes)
+        let verdict = receive(conn, now, pdu, unpassed, bodies, notes);
+        let quiet = conn.quiet_until();
+        self.watch.note(at, quiet);
+        verdict
     }
 
     /// Lets the connection at this place receive a piece, once there is room for all that can come of it.
@@ -146,6 +164,8 @@ impl Conns {
     {
         let conn = &mut self.items[at];
         conn.acknowledged();
+        let quiet = conn.quiet_until();
+        self.watch.note(at, quiet);
     }
 
     /// Notes that the number that is due at the connection of this place was sent again. Takes no memory.
@@ -156,6 +176,8 @@ impl Conns {
     {
         let conn = &mut self.items[at];
         conn.sent_again(now);
+        let quiet = conn.quiet_until();
+        self.watch.note(at, quiet);
     }
 
     /// Writes off what the connection at this place holds of a state that has ended. Takes memory only where `lines`
@@ -166,6 +188,8 @@ impl Conns {
     {
         let conn = &mut self.items[at];
         write_off(&mut conn.rx, now, lines);
+        let quiet = conn.quiet_until();
+        self.watch.note(at, quiet);
     }
 
     /// Closes the connection at this place, and writes off what it holds. Takes memory only where `lines` has no room.
@@ -177,6 +201,8 @@ impl Conns {
         let conn = &mut self.items[at];
         conn.close();
         write_off(&mut conn.rx, now, lines);
+        let quiet = conn.quiet_until();
+        self.watch.note(at, quiet);
     }
 
     /// Adds two connections, or none.
@@ -185,6 +211,10 @@ impl Conns {
         ensures err { OnErr result (self.new ≡ self.old) }
     {
         self.items.reserve(2)?;
+        let at = self.items.len();
+        self.watch.reserve(at.saturating_add(2))?;
+        self.watch.note(at, first.quiet_until());
+        self.watch.note(at + 1, second.quiet_until());
         self.items.push_reserved(first);
         self.items.push_reserved(second);
         Ok(())
@@ -196,5 +226,21 @@ impl Conns {
     {
         let _ = self.items.pop();
         let _ = self.items.pop();
+    }
+
+    /// Looks again at which connections something may be due soon, where that is not known for this tick.
+    pub fn settle(&mut self, now: Tick)
+        ensures { self.new ≡ self.old }
+    {
+        if self.watch.until <= now {
+            self.watch.look(now, self.items.as_slice());
+        }
+    }
+
+    /// The places beside which nothing is due at this tick. None where that is not known.
+    pub fn watched(&self, now: Tick) -> Option<&[usize]>
+        ensures { IfSome result (λ places. AreIdleBeside now places.now self.now) }
+    {
+        self.watch.places_at(now)
     }
 }

@@ -1,11 +1,12 @@
 //! What comes with time.
-ghost use Rattle.std.specs.Prelude.{◌≡◌, ◌<◌, ◌≤◌, ◌↔◌, IsTrue, length, option_copied, option_map};
+ghost use Rattle.std.specs.Prelude.{IfSome, ◌≡◌, ◌<◌, ◌≤◌, ◌↔◌, IsTrue, length, option_copied, option_map};
 ghost use Rattle.rina_conn.specs.Clock.{TellsAck, ack_of};
 ghost use Rattle.rina_conn.specs.Sending.{TellsAgain, TellsGivenUp};
 ghost use Rattle.rina_flows.specs.Calls.{Tells};
 ghost use Rattle.rina_flows.specs.Delivering.{HoldsGone};
 ghost use Rattle.rina_flows.specs.Elsewhere.{ChangesAt};
 ghost use Rattle.rina_flows.specs.Timely.{AcknowledgesIn, DueIn, GivesUpIn, SendsAgainIn};
+ghost use Rattle.rina_flows.specs.Watching.{NoneDueBeside};
 
 use crate::flows::Flows;
 use rina_account::Ledger;
@@ -73,6 +74,22 @@ impl Flows {
             Item::Ack => self.ack_due(now, at).is_some(),
             Item::Again => self.again_due(now, at).is_some(),
         }
+    }
+
+    /// The places beside which no item is due at the end of any place at this tick. None where that is not known. Takes no
+    /// memory.
+    pub fn watched(&self, now: Tick) -> Option<&[usize]>
+        ensures { IfSome result (λ places. NoneDueBeside now places.now self.now) }
+    {
+        self.conns.watched(now)
+    }
+
+    /// Looks again at which ends something may be due soon, where that is not known for this tick, so that `watched` can
+    /// tell. Nothing changes.
+    pub fn settle(&mut self, now: Tick)
+        ensures { self.new ≡ self.old }
+    {
+        self.conns.settle(now);
     }
 
     /// Notes that the acknowledgement that is due at the connection of a place was made. Takes no memory.

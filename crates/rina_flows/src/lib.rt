@@ -7,6 +7,7 @@ mod due;
 mod flows;
 mod laws;
 mod stops;
+mod watch;
 
 pub use arrival::Notes;
 pub use conns::Conns;

@@ -4,6 +4,7 @@ ghost use Rattle.std.specs.Borrow.{sem};
 ghost use Rattle.rina_dtcp.specs.Plans.{without};
 ghost use Rattle.rina_conn.specs.Clock.{IsClockDue, AnswersGone, AnswersGaveUp, AnswersAck, AnswersAgain, IsAfter, LendsDue, TellsAck, ack_of, plan_is_due, first_open};
 ghost use Rattle.rina_conn.specs.Conns.{IsGone};
+ghost use Rattle.rina_conn.specs.Quiet.{IsQuietUntil, PlansNoneUntil};
 ghost use Rattle.rina_conn.specs.Sending as send;
 
 use super::{Conn, ConnDue, DueAck};
@@ -153,5 +154,30 @@ impl Conn {
         ensures same { self.new ≡ record self.old { sending = self.new.sending } }
     {
         let _ = self.sending.again(now);
+    }
+
+    /// The tick at which an acknowledgement may be due first; the greatest u32 where none is planned.
+    fn plans_none_until(&self) -> Tick
+        ensures { PlansNoneUntil result self.now }
+    {
+        match self.sending.form.cube.kind {
+            Kind::Reliable => self.plan.still_until(),
+            Kind::Datagram | Kind::Loose => Tick::MAX,
+        }
+    }
+
+    /// A tick before which nothing is due, as long as no call changes the connection: no number is given up or sent again,
+    /// no acknowledgement is made, and no piece is kept of a state that has ended. The greatest u32 where the connection
+    /// is closed, and where nothing waits for the clock. Takes no memory.
+    pub fn quiet_until(&self) -> Tick
+        ensures { IsQuietUntil result self.now }
+    {
+        if self.rx.is_closed() {
+            return Tick::MAX;
+        }
+        let sends = self.sending.sends_none_until();
+        let plans = self.plans_none_until();
+        let keeps = self.rx.keeps_none_until();
+        sends.min(plans).min(keeps)
     }
 }

@@ -1,6 +1,14 @@
+use Rattle.std.proofs.Common.{◌<◌, length, subst, sym}
 use Rattle.rina_flows.specs.Calls.{IsOffer}
 use Rattle.rina_flows.proofs.Offered.{become_one}
+use Rattle.rina_flows.proofs.Watched.{changed}
 use Rattle.rina_flows.proofs.conns.Conns.offer.Goals as goal
 
 pub returns : goal.returns
-returns c = rw (← c.self.view_is) (become_one (IsOffer c.args.now c.args.sdu.now c.offer.result) c.self.inside.items.items c.args.at c.index_mut-conn.result.now c.offer.new.self c.index_mut-conn.ensures.value (record { offers = c.offer.ensures.offers; rx = c.offer.ensures.same.0; plan = c.offer.ensures.same.1; waiting = c.offer.ensures.same.2 }))
+returns c = rw (← c.self.view_is) (become_one (IsOffer c.args.now c.args.sdu.now c.offer-result.result) c.self.inside.items.items c.args.at c.index_mut-conn.result.now c.offer-result.new.self c.index_mut-conn.ensures.value (record { offers = c.offer-result.ensures.offers; rx = c.offer-result.ensures.same.0; plan = c.offer-result.ensures.same.1; waiting = c.offer-result.ensures.same.2 }))
+
+pub invariant_of-self : goal.invariant_of-self
+invariant_of-self c =
+    let conns = c.self.inside.items.items in
+    let there = subst (λ xs. c.args.at < length xs) (sym c.self.view_is) c.requires.at in
+    changed c.args.at c.quiet_until-quiet.result conns c.self.inside.watch c.note.new.self c.offer-result.new.self there c.self.invariant c.note.ensures c.quiet_until-quiet.ensures

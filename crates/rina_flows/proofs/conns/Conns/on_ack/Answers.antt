@@ -1,7 +1,15 @@
+use Rattle.std.proofs.Common.{◌<◌, length, subst, sym}
 use Rattle.rina_base.specs.Pdus.{pdu_of}
 use Rattle.rina_flows.specs.Calls.{IsTold}
 use Rattle.rina_flows.proofs.Offered.{become_one}
+use Rattle.rina_flows.proofs.Watched.{changed}
 use Rattle.rina_flows.proofs.conns.Conns.on_ack.Goals as goal
 
 pub returns : goal.returns
 returns c = rw (← c.self.view_is) (become_one (IsTold (pdu_of c.args.pdu.now)) c.self.inside.items.items c.args.at c.index_mut-conn.result.now c.on_control.new.self c.index_mut-conn.ensures.value (record { told = c.on_control.ensures.told; form = c.on_control.ensures.form; rx = c.on_control.ensures.same.0; plan = c.on_control.ensures.same.1; waiting = c.on_control.ensures.same.2 }))
+
+pub invariant_of-self : goal.invariant_of-self
+invariant_of-self c =
+    let conns = c.self.inside.items.items in
+    let there = subst (λ xs. c.args.at < length xs) (sym c.self.view_is) c.requires in
+    changed c.args.at c.quiet_until-quiet.result conns c.self.inside.watch c.note.new.self c.on_control.new.self there c.self.invariant c.note.ensures c.quiet_until-quiet.ensures

@@ -1,6 +1,14 @@
+use Rattle.std.proofs.Common.{◌<◌, length, subst, sym}
 use Rattle.rina_flows.specs.Timely.{IsSentAgain}
 use Rattle.rina_flows.proofs.Offered.{become_one}
+use Rattle.rina_flows.proofs.Watched.{changed}
 use Rattle.rina_flows.proofs.conns.Conns.sent_again.Goals as goal
 
 pub returns : goal.returns
 returns c = rw (← c.self.view_is) (become_one (IsSentAgain c.args.now) c.self.inside.items.items c.args.at c.index_mut-conn.result.now c.sent_again.new.self c.index_mut-conn.ensures.value (record { sends = c.sent_again.ensures.sends; same = c.sent_again.ensures.same }))
+
+pub invariant_of-self : goal.invariant_of-self
+invariant_of-self c =
+    let conns = c.self.inside.items.items in
+    let there = subst (λ xs. c.args.at < length xs) (sym c.self.view_is) c.requires.at in
+    changed c.args.at c.quiet_until-quiet.result conns c.self.inside.watch c.note.new.self c.sent_again.new.self there c.self.invariant c.note.ensures c.quiet_until-quiet.ensures
