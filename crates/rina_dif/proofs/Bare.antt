@@ -36,6 +36,8 @@ use Rattle.rina_dif.specs.Shown.{seen_of}
 use Rattle.rina_dif.proofs.Causing.{none_caused}
 use Rattle.rina_dif.proofs.Managed.{managed_routed}
 use Rattle.rina_dif.proofs.Started.{bare_managed}
+use Rattle.rina_dif.specs.Connected.{AreConnected}
+use Rattle.rina_dif.proofs.Connected.{none_connected}
 
 pub none_in : {X : Type 0} (i : ℕ) (x : X) (xs : List X) → xs ≡ [] → slice_get xs i ≡ Some x → ⊥
 none_in i x xs none is = (let e : slice_get [] i ≡ Some x = subst (λ ys. slice_get ys i ≡ Some x) none is in cc)
@@ -112,8 +114,8 @@ pub record IsUntouched (d : Dif) (below : Seen) : Type 0 where
   pub clean : (i : ℕ) (p : IpcProcess) → slice_get d.processes i ≡ Some p → p.ledger ≡ []
 
 -- and stands
-pub start_holds : (d : Dif) (below : Seen) → AreKept below → d.flows.journal.ends ≡ [] → d.flows.conns ≡ [] → IsStart (seen_of d) [] below → IsUntouched d below → AreMembers (config_of d.settings) → AreHoused (config_of d.settings) d.processes → AreManaged d → Holds d [] below
-start_holds d below kept ends conns s untouched members housed managed =
+pub start_holds : (d : Dif) (below : Seen) → AreKept below → d.flows.journal.ends ≡ [] → d.flows.conns ≡ [] → IsStart (seen_of d) [] below → IsUntouched d below → AreMembers (config_of d.settings) → AreHoused (config_of d.settings) d.processes → AreManaged d → AreConnected (config_of d.settings) d.clock d.connections (seen_of d).processes below → Holds d [] below
+start_holds d below kept ends conns s untouched members housed managed connected =
     let no_ends : length d.flows.journal.ends ≡ 0 = ap (λ (es : List End). length es) ends in
     let no_conns : length d.flows.conns ≡ 0 = ap (λ (ks : List Conn). length ks) conns in
     let clean : (i : ℕ) (process : Process) → slice_get (seen_of d).processes i ≡ Some process → process.ledger ≡ [] = λ i process is. (let p = map_at process_of d.processes i process is in ap (λ (z : Process). z.ledger) (sym p.2) ∙ untouched.clean i p.0 p.1) in
@@ -135,16 +137,18 @@ start_holds d below kept ends conns s untouched members housed managed =
       caused = none_caused (seen_of d) below ends;
       written_off = blank_written (seen_of d) clean;
       housed = housed;
-      routed = managed_routed d.settings.members d.laid.links d.clock d.processes d.agents managed;
+      routed = managed_routed d.settings.members d.laid.links d.clock d.processes d.managements managed;
       managed = managed;
+      connected = connected;
     }
 
 -- so does a DIF without links
-pub bare_holds : (d : Dif) (below : Seen) → AreKept below → d.flows.journal.ends ≡ [] → d.flows.conns ≡ [] → d.laid.links ≡ [] → AreBare d.settings d.processes → (rules : List Rule) (allow : Bool) → AreStarted d.settings.members d.laid.links rules allow (length d.settings.members) d.processes d.agents → IsConfig (config_of d.settings) → AreMembers (config_of d.settings) → d.clock ≡ below.now → IsFree (config_of d.settings) below → Holds d [] below
-bare_holds d below kept ends conns laid bare rules allow started config members clock free =
+pub bare_holds : (d : Dif) (below : Seen) → AreKept below → d.flows.journal.ends ≡ [] → d.flows.conns ≡ [] → d.connections.channels ≡ [] → d.connections.flows.journal.ends ≡ [] → d.connections.flows.conns ≡ [] → d.laid.links ≡ [] → AreBare d.settings d.processes → (rules : List Rule) (allow : Bool) → AreStarted d.settings.cubes d.settings.members d.laid.links rules allow (length d.settings.members) d.processes d.managements → IsConfig (config_of d.settings) → AreMembers (config_of d.settings) → d.clock ≡ below.now → IsFree (config_of d.settings) below → Holds d [] below
+bare_holds d below kept ends conns channels link_ends link_conns laid bare rules allow started config members clock free =
     let start = starts d below ends conns config clock bare.aligned (λ i member link is has. absurd (no_link d.settings d.processes i link bare has)) (λ port end here mine. absurd (free port end here mine)) (λ port end here mine. absurd (free port end here (inl mine))) (λ i n item waits. no_item d.settings d.processes i n item bare waits) in
     let untouched : IsUntouched d below = record { unread = λ port e here mine. absurd (free port e here (inl mine)); clean = λ i p is. (bare.each i p is).ledger } in
-    start_holds d below kept ends conns start untouched members (λ i p is. (let b = bare.each i p is in record { cap = b.room; links = λ place qos link stands live known. absurd (none_in place link p.links b.links stands); queues = λ dst link qos hop known. absurd (no_hop dst link p.routes b.routes hop) })) (bare_managed d.settings d.laid.links rules allow d.clock d.processes d.agents laid bare config members started)
+    start_holds d below kept ends conns start untouched members (λ i p is. (let b = bare.each i p is in record { cap = b.room; links = λ place qos link stands live known. absurd (none_in place link p.links b.links stands); queues = λ dst link qos hop known. absurd (no_hop dst link p.routes b.routes hop) })) (bare_managed d.settings d.laid.links rules allow d.clock d.processes d.managements laid bare config members started)
+    (none_connected (config_of d.settings) d.clock d.connections (seen_of d).processes below channels link_ends link_conns clock (λ i n p q x y. absurd (no_link d.settings d.processes i x.link bare (record { process = x.process; is_process = x.is_process; place = x.place; stands = x.stands }))))
 
 -- One by one
 

@@ -50,18 +50,21 @@ use Rattle.rina_dif.specs.Taking.{TakesIn}
 use Rattle.rina_dif.specs.Whole.{IsDif}
 use Rattle.rina_dif.proofs.Causing.{LowerStays, caused_on, lower_later, lower_same, none_is}
 use Rattle.rina_dif.proofs.Cutting.{loses_silent}
+use Rattle.rina_channel.proofs.Frame.{FlowsGoOn, flow_later}
+use Rattle.rina_dif.proofs.Connected.{aside_connected}
 
 -- What another DIF sends or takes below is nothing to a DIF
 
--- no member of it sent or took anything, the clock stayed, and what has failed below has failed
+-- no member of it sent or took anything, the clock stayed, what has failed below has failed, and the flows below go on
 record IsAside (g : Config) (below below' : Seen) : Type 0 where
   after : IsAfter g NoMore below below'
   clock : below'.now ≡ below.now
   accounts : (d : DifSeen) (lines : List Direction) → d.config ≡ g → IsAccounted d lines below → IsAccounted d lines below'
   lower : LowerStays g below below'
+  goes : FlowsGoOn g below below'
 
 aside_same : (g : Config) (below below' : Seen) → below' ≡ below → IsAside g below below'
-aside_same g below below' is = subst (IsAside g below) (sym is) (record { after = after_none g below; clock = refl; accounts = λ d lines same a. a; lower = lower_same g below below refl })
+aside_same g below below' is = subst (IsAside g below) (sym is) (record { after = after_none g below; clock = refl; accounts = λ d lines same a. a; lower = lower_same g below below refl; goes = λ near far f. f })
 
 -- the end of another DIF's link is that of no member
 not_linked : (d o : DifSeen) (below : Seen) (i : ℕ) (member : Member) (port : Port) → AreApart o d → slice_get o.config.members i ≡ Some member → IsLinked below member.name port → (e : End) → end_of below port ≡ Some e → IsMine d.config.members e.app → ⊥
@@ -86,6 +89,7 @@ forwarded_aside refuses d o olines below i n process key process' below' kept ke
       clock = ap (λ (z : Seen). z.now) s.sent.1.new_is;
       accounts = λ z lines same a. sends_of_others_account z lines below s.link.port bytes s.num below' kept' a (not_mine z d below s.link.port same others) s.sent.1;
       lower = lower_later d.config below below' kept' later;
+      goes = λ near far f. flow_later d.config below below' near far later kept' f;
     }
 
 offs_aside : (refuses : Port → ℕ → Option SendError) (d o : DifSeen) (below : Seen) (n : ℕ) (process : Process) (key : Key) (cause : Cause) (process' : Process) (below' : Seen) → Offs refuses o.config o.clock process below n key cause process' below' → IsAside d.config below below'
@@ -126,6 +130,7 @@ ins_aside d o olines below i n (Ok (in_.Took key end)) o' olines' below' kept ke
       clock = ap (λ (x : Seen). x.now) s.passed.new_is;
       accounts = λ z lines same a. passes_of_others_account z lines below s.link.port below' kept' a (not_mine z d below s.link.port same others) s.passed;
       lower = lower_later d.config below below' kept' (later_passes below s.link.port below' s.passed);
+      goes = λ near far f. flow_later d.config below below' near far (later_passes below s.link.port below' s.passed) kept' f;
     }
 ins_aside d o olines below i n (Err Memory) o' olines' below' kept kept' so apart s = aside_same d.config below below' s.2
 ins_aside d o olines below i n (Err NoIpc) o' olines' below' kept kept' so apart s = aside_same d.config below below' s.3
@@ -151,6 +156,7 @@ holds_aside d lines below below' a h = record {
   housed = h.housed;
   routed = h.routed;
   managed = h.managed;
+  connected = aside_connected (config_of d.settings) d.clock d.connections (seen_of d).processes below below' a.after a.goes a.clock h.connected;
 }
 
 -- What a step is to the rank

@@ -212,6 +212,7 @@ module _ (d : Dif) (fixed : Fixed) (may : MayBind d fixed) (near other : NextEnd
           housed = h.housed;
           routed = h.routed;
           managed = h.managed;
+          connected = h.connected;
         };
       }
 
@@ -224,6 +225,11 @@ module _ (d : Dif) (fixed : Fixed) (may : MayBind d fixed) (near other : NextEnd
 
 pub binds_none : (d : Dif) (fixed : Fixed) (lines : List Direction) (below : Seen) → Holds d lines below → BindsTo d lines below fixed (Err Memory) d
 binds_none d fixed lines below h = (refl, h)
+
+-- an allocation failed, and nothing changed
+pub binds_err : (d d' : Dif) (fixed : Fixed) (r : Result (Port × Port) AllocateError) (e : AllocateError) → r ≡ Err e → e ≡ Memory → d' ≡ d → (lines : List Direction) (below : Seen) → Holds d lines below → BindsTo d lines below fixed r d'
+binds_err d d' fixed r e is why same lines below h =
+    subst (λ (v : Result (Port × Port) AllocateError). BindsTo d lines below fixed v d') (sym (is ∙ ap (λ (z : AllocateError). Err z) why)) (ap seen_of same, subst (λ (z : Dif). Holds z lines below) (sym same) h)
 
 -- Under the condition of every facility
 
@@ -325,6 +331,6 @@ pub binds_noted : (d : Dif) (lines : List Direction) (below : Seen) (fixed : Fix
 binds_noted d lines below fixed (Ok ports) d' failed x = record { lines' = x.lines'; bound = x.bound; a_port = x.a_port; b_port = x.b_port; holds = still x.lines' x.holds }
   where
     still : (ls : List Direction) → Holds d' ls below → Holds (record d' { failed = failed }) ls below
-    still ls h = record { tied = h.tied; standing = h.standing; carrying = h.carrying; numbered = h.numbered; accounted = h.accounted; caused = h.caused; written_off = h.written_off; housed = h.housed; routed = h.routed; managed = h.managed }
-binds_noted d lines below fixed (Err Memory) d' failed x = (x.0, record { tied = x.1.tied; standing = x.1.standing; carrying = x.1.carrying; numbered = x.1.numbered; accounted = x.1.accounted; caused = x.1.caused; written_off = x.1.written_off; housed = x.1.housed; routed = x.1.routed; managed = x.1.managed })
+    still ls h = record { tied = h.tied; standing = h.standing; carrying = h.carrying; numbered = h.numbered; accounted = h.accounted; caused = h.caused; written_off = h.written_off; housed = h.housed; routed = h.routed; managed = h.managed; connected = h.connected }
+binds_noted d lines below fixed (Err Memory) d' failed x = (x.0, record { tied = x.1.tied; standing = x.1.standing; carrying = x.1.carrying; numbered = x.1.numbered; accounted = x.1.accounted; caused = x.1.caused; written_off = x.1.written_off; housed = x.1.housed; routed = x.1.routed; managed = x.1.managed; connected = x.1.connected })
 binds_noted d lines below fixed (Err e) d' failed x = absurd x

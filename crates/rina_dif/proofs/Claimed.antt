@@ -94,6 +94,7 @@ holds_claimed d waiting lines below h = (let st = h.standing in record {
   housed = h.housed;
   routed = h.routed;
   managed = h.managed;
+  connected = h.connected;
 })
 
 pub claimed_stays : (d : Dif) (waiting : Vec ℕ) → StaysStanding d (with_waiting d waiting)

@@ -1,9 +1,9 @@
 -- The first item that is due at a node, and what it does.
-use Rattle.std.proofs.Common.{◌≡◌, ◌∙◌, ℕ, ◌+◌, ◌<◌, ◌≤◌, ◌⊎◌, Bool, true, false, cond, leb, leb-true, leb-false, List, length, slice_get, Option, Some, None, Result, Ok, Err, IsTrue, refl, sym, ap, subst, arith, inl, inr}
+use Rattle.std.proofs.Common.{◌≡◌, ◌∙◌, ℕ, ◌+◌, ◌<◌, ◌≤◌, ◌⊎◌, Bool, true, false, cond, leb, leb-true, leb-false, List, length, get_or, slice_get, slice_index_or, Option, Some, None, Result, Ok, Err, IsTrue, refl, sym, ap, subst, arith, inl, inr}
 use Rattle.std.specs.Prelude.{◌↔◌}
 use Rattle.std.proofs.lemmas.Bool.{cases_lt, false≢true}
+use Rattle.std.proofs.lemmas.List.{get_or_default}
 use Rattle.std.proofs.lemmas.Option.{slice_get_within}
-use Rattle.rina_agent.specs.declared.agent.Agent.{Agent}
 use Rattle.rina_base.specs.declared.number.Num.{Num}
 use Rattle.rina_iface.specs.Seen.{Seen}
 use Rattle.rina_law.specs.Direction.{Direction}
@@ -19,13 +19,14 @@ use Rattle.rina_dif_law.specs.Sending.{home}
 use Rattle.rina_data.proofs.Finding.{there}
 use Rattle.rina_flows.specs.declared.due.Item.{Item}
 use Rattle.rina_flows.specs.declared.due.Item.TheVariants.{Ack, Again, GiveUp, Gone}
+use Rattle.rina_flows.specs.Quiet.{IsBeside}
 use Rattle.rina_flows.specs.Tied.{conns_of, ids_of, outward}
+use Rattle.rina_flows.specs.Watching.{NoneDueBeside}
 use Rattle.rina_flows.proofs.Framed.{ids_at}
 use Rattle.rina_dif.specs.declared.clock_steps.Turn.{Turn}
 use Rattle.rina_dif.specs.declared.dif.Dif.{Dif}
 use Rattle.rina_dif.specs.Clocking.{FindsFirst, HasStepped, HasSteppedFlow, IsDueAt, IsIdle, IsIn, IsTurn, NoneLostAt, StepsFlowHere, StepsHere, earlier}
 use Rattle.rina_dif.specs.Holding.{Holds}
-use Rattle.rina_dif.specs.Managing.{ManagesStep}
 use Rattle.rina_dif.specs.Shown.{seen_of}
 use Rattle.rina_dif.specs.Timely.{AcknowledgesAs, ForgetsAs, GivesUpAs, IsHomeEnd, SendsAgainAs}
 use Rattle.rina_dif.specs.Unlinking.{FindsLostAt, LosesAs}
@@ -33,24 +34,41 @@ use Rattle.rina_dif.specs.Unlinking.{FindsLostAt, LosesAs}
 same_some : {X : Type 0} (o : Option X) (a b : X) → o ≡ Some a → o ≡ Some b → a ≡ b
 same_some o a b h g = cc
 
--- The end of the least CEP-id, of those at the places before n
+-- The end of the least CEP-id, of those at the places that were looked at
 
-pub record IsFirstBelow (item : Item) (d : Dif) (lines : List Direction) (node n : ℕ) (turn : Turn) : Type 0 where
+pub record IsFirstOf (item : Item) (d : Dif) (lines : List Direction) (node : ℕ) (Looked : ℕ → Type 0) (turn : Turn) : Type 0 where
   pub due : IsDueAt item d lines node turn.place
   pub ids : Ids
   pub are_ids : slice_get (conns_of d.flows.conns) turn.place ≡ Some ids
   pub cep_is : turn.cep ≡ ids.scep
-  pub least : (other : ℕ) (its : Ids) → other < n → IsDueAt item d lines node other → slice_get (conns_of d.flows.conns) other ≡ Some its → ids.scep ≤ its.scep
+  pub least : (other : ℕ) (its : Ids) → Looked other → IsDueAt item d lines node other → slice_get (conns_of d.flows.conns) other ≡ Some its → ids.scep ≤ its.scep
 
-abbrev pub FindsBelow : Item → Dif → List Direction → ℕ → ℕ → Option Turn → Type 0
-FindsBelow item d lines node n None = (at : ℕ) → at < n → IsDueAt item d lines node at → ⊥
-FindsBelow item d lines node n (Some turn) = IsFirstBelow item d lines node n turn
+abbrev pub FindsOf : Item → Dif → List Direction → ℕ → (ℕ → Type 0) → Option Turn → Type 0
+FindsOf item d lines node Looked None = (at : ℕ) → Looked at → IsDueAt item d lines node at → ⊥
+FindsOf item d lines node Looked (Some turn) = IsFirstOf item d lines node Looked turn
+
+abbrev pub FoundOf : Item → Dif → ℕ → (ℕ → Type 0) → Option Turn → Type 0
+FoundOf item d node Looked first = (lines : List Direction) (below : Seen) → Holds d lines below → FindsOf item d lines node Looked first
+
+-- the places before n
+abbrev pub Before : ℕ → ℕ → Type 0
+Before n at = at < n
 
 abbrev pub Found : Item → Dif → ℕ → ℕ → Option Turn → Type 0
-Found item d node n first = (lines : List Direction) (below : Seen) → Holds d lines below → FindsBelow item d lines node n first
+Found item d node n first = FoundOf item d node (Before n) first
+
+-- the first n of these places
+abbrev pub Among : List ℕ → ℕ → ℕ → Type 0
+Among places n at = (k : ℕ) × (k < n) × (slice_index_or places k at ≡ at)
+
+abbrev pub FoundAmong : Item → Dif → ℕ → List ℕ → ℕ → Option Turn → Type 0
+FoundAmong item d node places n first = FoundOf item d node (Among places n) first
 
 pub none_found : (item : Item) (d : Dif) (node : ℕ) → Found item d node 0 None
 none_found item d node lines below h at lt due = absurd (omega (arith, lt))
+
+pub none_among : (item : Item) (d : Dif) (node : ℕ) (places : List ℕ) → FoundAmong item d node places 0 None
+none_among item d node places lines below h at (k, lt, is) due = absurd (omega (arith, lt))
 
 -- one more place is looked at
 
@@ -60,8 +78,12 @@ the_ids d n turn lt here = (let k = there d.flows.conns n lt in (ids_of k.0, ids
 before_or_at : (other n : ℕ) → other < n + 1 → (other < n) ⊎ (other ≡ n)
 before_or_at other n lt = elim (cases_lt other n) [ inl l ↦ inl l | inr g ↦ inr (omega (arith, lt, g)) ]
 
-lesser : (item : Item) (d : Dif) (lines : List Direction) (node n : ℕ) (first turn : Turn) (b : Bool) → leb first.cep turn.cep ≡ b → IsFirstBelow item d lines node n first → IsDueAt item d lines node n → n < length d.flows.conns → IsIn d.flows.conns n turn → IsFirstBelow item d lines node (n + 1) (cond b first turn)
-lesser item d lines node n first turn true e f due lt here =
+-- the places that were looked at before this one, and this one
+abbrev WithOne : (ℕ → Type 0) → (ℕ → Type 0) → ℕ → Type 0
+WithOne Old New n = (other : ℕ) → New other → Old other ⊎ (other ≡ n)
+
+lesser : (item : Item) (d : Dif) (lines : List Direction) (node n : ℕ) (Old New : ℕ → Type 0) (first turn : Turn) (b : Bool) → WithOne Old New n → leb first.cep turn.cep ≡ b → IsFirstOf item d lines node Old first → IsDueAt item d lines node n → n < length d.flows.conns → IsIn d.flows.conns n turn → IsFirstOf item d lines node New (cond b first turn)
+lesser item d lines node n Old New first turn true one e f due lt here =
     let k = the_ids d n turn lt here in
     let le : first.cep ≤ turn.cep = leb-true first.cep turn.cep e in
     record {
@@ -69,7 +91,7 @@ lesser item d lines node n first turn true e f due lt here =
       ids = f.ids;
       are_ids = f.are_ids;
       cep_is = f.cep_is;
-      least = λ other its before is_due is. elim (before_or_at other n before) [
+      least = λ other its before is_due is. elim (one other before) [
         | inl l ↦ f.least other its l is_due is
         | inr same ↦
             (let its_is : its ≡ k.0 = same_some (slice_get (conns_of d.flows.conns) n) its k.0 (ap (slice_get (conns_of d.flows.conns)) (sym same) ∙ is) k.1 in
@@ -79,7 +101,7 @@ lesser item d lines node n first turn true e f due lt here =
             omega (arith, le, cep, own, far))
       ];
     }
-lesser item d lines node n first turn false e f due lt here =
+lesser item d lines node n Old New first turn false one e f due lt here =
     let k = the_ids d n turn lt here in
     let gt : turn.cep < first.cep = leb-false first.cep turn.cep e in
     record {
@@ -87,7 +109,7 @@ lesser item d lines node n first turn false e f due lt here =
       ids = k.0;
       are_ids = ap (slice_get (conns_of d.flows.conns)) here.place_is ∙ k.1;
       cep_is = k.2;
-      least = λ other its before is_due is. elim (before_or_at other n before) [
+      least = λ other its before is_due is. elim (one other before) [
         | inl l ↦
             (let least = f.least other its l is_due is in
             let own = f.cep_is in
@@ -100,16 +122,16 @@ lesser item d lines node n first turn false e f due lt here =
       ];
     }
 
-found_with : (item : Item) (d : Dif) (lines : List Direction) (node n : ℕ) (first : Option Turn) (turn : Turn) → FindsBelow item d lines node n first → IsDueAt item d lines node n → n < length d.flows.conns → IsIn d.flows.conns n turn → FindsBelow item d lines node (n + 1) (Some (earlier first turn))
-found_with item d lines node n (Some first) turn f due lt here = lesser item d lines node n first turn (leb first.cep turn.cep) refl f due lt here
-found_with item d lines node n None turn f due lt here =
+found_with : (item : Item) (d : Dif) (lines : List Direction) (node n : ℕ) (Old New : ℕ → Type 0) (first : Option Turn) (turn : Turn) → WithOne Old New n → FindsOf item d lines node Old first → IsDueAt item d lines node n → n < length d.flows.conns → IsIn d.flows.conns n turn → FindsOf item d lines node New (Some (earlier first turn))
+found_with item d lines node n Old New (Some first) turn one f due lt here = lesser item d lines node n Old New first turn (leb first.cep turn.cep) one refl f due lt here
+found_with item d lines node n Old New None turn one f due lt here =
     let k = the_ids d n turn lt here in
     record {
       due = subst (IsDueAt item d lines node) (sym here.place_is) due;
       ids = k.0;
       are_ids = ap (slice_get (conns_of d.flows.conns)) here.place_is ∙ k.1;
       cep_is = k.2;
-      least = λ other its before is_due is. elim (before_or_at other n before) [
+      least = λ other its before is_due is. elim (one other before) [
         | inl l ↦ absurd (f other l is_due)
         | inr same ↦
             (let its_is : its ≡ k.0 = same_some (slice_get (conns_of d.flows.conns) n) its k.0 (ap (slice_get (conns_of d.flows.conns)) (sym same) ∙ is) k.1 in
@@ -118,24 +140,39 @@ found_with item d lines node n None turn f due lt here =
       ];
     }
 
-found_without : (item : Item) (d : Dif) (lines : List Direction) (node n : ℕ) (first : Option Turn) → FindsBelow item d lines node n first → (IsDueAt item d lines node n → ⊥) → FindsBelow item d lines node (n + 1) first
-found_without item d lines node n None f none = λ at lt due. elim (before_or_at at n lt) [ inl l ↦ f at l due | inr same ↦ none (subst (IsDueAt item d lines node) same due) ]
-found_without item d lines node n (Some turn) f none = record {
+found_without : (item : Item) (d : Dif) (lines : List Direction) (node n : ℕ) (Old New : ℕ → Type 0) (first : Option Turn) → WithOne Old New n → FindsOf item d lines node Old first → (IsDueAt item d lines node n → ⊥) → FindsOf item d lines node New first
+found_without item d lines node n Old New None one f none = λ at lt due. elim (one at lt) [ inl l ↦ f at l due | inr same ↦ none (subst (IsDueAt item d lines node) same due) ]
+found_without item d lines node n Old New (Some turn) one f none = record {
   due = f.due;
   ids = f.ids;
   are_ids = f.are_ids;
   cep_is = f.cep_is;
-  least = λ other its before is_due is. elim (before_or_at other n before) [ inl l ↦ f.least other its l is_due is | inr same ↦ absurd (none (subst (IsDueAt item d lines node) same is_due)) ];
+  least = λ other its before is_due is. elim (one other before) [ inl l ↦ f.least other its l is_due is | inr same ↦ absurd (none (subst (IsDueAt item d lines node) same is_due)) ];
 }
 
 abbrev pub Tests : Item → Dif → ℕ → ℕ → Bool → Type 0
 Tests item d node at r = (lines : List Direction) (below : Seen) → Holds d lines below → IsTrue r ↔ IsDueAt item d lines node at
 
 pub found_here : (item : Item) (d : Dif) (node n : ℕ) (first : Option Turn) (turn : Turn) (r : Bool) → Found item d node n first → Tests item d node n r → r ≡ true → n < length d.flows.conns → IsIn d.flows.conns n turn → Found item d node (n + 1) (Some (earlier first turn))
-found_here item d node n first turn r f tests meets lt here lines below h = found_with item d lines node n first turn (f lines below h) ((tests lines below h).0 meets) lt here
+found_here item d node n first turn r f tests meets lt here lines below h = found_with item d lines node n (Before n) (Before (n + 1)) first turn (λ other b. before_or_at other n b) (f lines below h) ((tests lines below h).0 meets) lt here
 
 pub found_not_here : (item : Item) (d : Dif) (node n : ℕ) (first : Option Turn) (r : Bool) → Found item d node n first → Tests item d node n r → r ≡ false → Found item d node (n + 1) first
-found_not_here item d node n first r f tests fails lines below h = found_without item d lines node n first (f lines below h) (λ due. false≢true (sym fails ∙ (tests lines below h).1 due))
+found_not_here item d node n first r f tests fails lines below h = found_without item d lines node n (Before n) (Before (n + 1)) first (λ other b. before_or_at other n b) (f lines below h) (λ due. false≢true (sym fails ∙ (tests lines below h).1 due))
+
+-- the same, of the places of a list
+among_or_at : (places : List ℕ) (n place : ℕ) → n < length places → place ≡ get_or places n 0 → WithOne (Among places n) (Among places (n + 1)) place
+among_or_at places n place lt is other (k, before, same) = elim (before_or_at k n before) [
+  | inl l ↦ inl (k, l, same)
+  | inr e ↦
+      (let there' : slice_index_or places n other ≡ other = subst (λ i. slice_index_or places i other ≡ other) e same in
+      inr (sym there' ∙ get_or_default places n other 0 lt ∙ sym is))
+]
+
+pub among_here : (item : Item) (d : Dif) (node n place : ℕ) (places : List ℕ) (first : Option Turn) (turn : Turn) (r : Bool) → n < length places → place ≡ get_or places n 0 → FoundAmong item d node places n first → Tests item d node place r → r ≡ true → place < length d.flows.conns → IsIn d.flows.conns place turn → FoundAmong item d node places (n + 1) (Some (earlier first turn))
+among_here item d node n place places first turn r inside is f tests meets lt here lines below h = found_with item d lines node place (Among places n) (Among places (n + 1)) first turn (among_or_at places n place inside is) (f lines below h) ((tests lines below h).0 meets) lt here
+
+pub among_not_here : (item : Item) (d : Dif) (node n place : ℕ) (places : List ℕ) (first : Option Turn) (r : Bool) → n < length places → place ≡ get_or places n 0 → FoundAmong item d node places n first → Tests item d node place r → r ≡ false → FoundAmong item d node places (n + 1) first
+among_not_here item d node n place places first r inside is f tests fails lines below h = found_without item d lines node place (Among places n) (Among places (n + 1)) first (among_or_at places n place inside is) (f lines below h) (λ due. false≢true (sym fails ∙ (tests lines below h).1 due))
 
 -- all places were looked at
 
@@ -144,6 +181,10 @@ due_within item d lines below node at h due =
     let lt = slice_get_within d.flows.journal.ends at due.here.end due.here.is_end in
     let same = h.tied.alike in
     omega (arith, lt, same)
+
+-- a place that is out of range has no end
+pub none_without : (item : Item) (d : Dif) (node at : ℕ) → length d.flows.conns ≤ at → Tests item d node at false
+none_without item d node at le lines below h = (λ e. absurd (false≢true e), λ due. (let lt = due_within item d lines below node at h due in absurd (omega (arith, lt, le))))
 
 pub found_all : (item : Item) (d : Dif) (node n : ℕ) (first : Option Turn) → length d.flows.conns ≤ n → Found item d node n first → (lines : List Direction) (below : Seen) → Holds d lines below → FindsFirst item d lines node first
 found_all item d node n None le f lines below h = λ at due. (let lt = due_within item d lines below node at h due in f lines below h at (omega (arith, lt, le)) due)
@@ -155,6 +196,26 @@ found_all item d node n (Some turn) le f lines below h =
       are_ids = x.are_ids;
       cep_is = x.cep_is;
       least = λ other its due is. (let lt = due_within item d lines below node other h due in x.least other its (omega (arith, lt, le)) due is);
+    }
+
+-- or all those beside which nothing is due
+none_beside : (item : Item) (d : Dif) (lines : List Direction) (below : Seen) (node at : ℕ) (places : List ℕ) → NoneDueBeside d.clock places d.flows → Holds d lines below → IsBeside places at → IsDueAt item d lines node at → ⊥
+none_beside item d lines below node at places none h beside due = false≢true ((none at beside item (config_of d.settings) lines due.here.end h.standing.journal h.tied due.here.is_end due.here.allocated).1 due.due)
+
+pub among_all : (item : Item) (d : Dif) (node n : ℕ) (places : List ℕ) (first : Option Turn) → NoneDueBeside d.clock places d.flows → n ≡ length places → FoundAmong item d node places n first → (lines : List Direction) (below : Seen) → Holds d lines below → FindsFirst item d lines node first
+among_all item d node n places None none all f lines below h = λ at due.
+    none_beside item d lines below node at places none h (λ c. f lines below h at (c.0, subst (λ m. c.0 < m) (sym all) c.1, c.2) due) due
+among_all item d node n places (Some turn) none all f lines below h =
+    let x = f lines below h in
+    record {
+      due = x.due;
+      ids = x.ids;
+      are_ids = x.are_ids;
+      cep_is = x.cep_is;
+      least = λ other its due is. elim (cases_lt its.scep x.ids.scep) [
+        | inl lt ↦ absurd (none_beside item d lines below node other places none h (λ c. (let le = x.least other its (c.0, subst (λ m. c.0 < m) (sym all) c.1, c.2) due is in absurd (omega (arith, lt, le)))) due)
+        | inr ge ↦ ge
+      ];
     }
 
 -- The first item
@@ -244,19 +305,6 @@ flow_first d lines below node (Ok done) d' none s = done_first d lines below nod
 flow_first d lines below node (Err why.Memory) d' none s = s
 flow_first d lines below node (Err why.NoIpc) d' none s = absurd s
 flow_first d lines below node (Err why.NoLink) d' none s = absurd s
-
--- it does nothing to the managements
-pub flow_manages : (d : Dif) (lines : List Direction) (below : Seen) (node : ℕ) (r : Result ClockStep StepError) (d' : Dif) (home : Option ℕ) (now : ℕ) (old new : List Agent) → StepsFlowHere d lines below node r d' → new ≡ old → ManagesStep r home now old new
-flow_manages d lines below node (Ok step.Idle) d' home now old new s same = same
-flow_manages d lines below node (Ok (step.Gone cep)) d' home now old new s same = same
-flow_manages d lines below node (Ok (step.GaveUp num)) d' home now old new s same = same
-flow_manages d lines below node (Ok (step.Ack cep)) d' home now old new s same = same
-flow_manages d lines below node (Ok (step.Again num)) d' home now old new s same = same
-flow_manages d lines below node (Ok (step.LinkLost link)) d' home now old new s same = absurd s.does
-flow_manages d lines below node (Ok (step.LinkNew link)) d' home now old new s same = absurd s.does
-flow_manages d lines below node (Ok (step.Timeout port)) d' home now old new s same = absurd s.does
-flow_manages d lines below node (Ok (step.Message link)) d' home now old new s same = absurd s.does
-flow_manages d lines below node (Err e) d' home now old new s same = same
 
 pub link_err : (d : Dif) (lines : List Direction) (below : Seen) (node : ℕ) (r : Result ClockStep StepError) (e : StepError) (d' : Dif) → e ≡ why.Memory → r ≡ Err e → (seen_of d' ≡ seen_of d) × Holds d' lines below → StepsHere d lines below node r d'
 link_err d lines below node r e d' is err same = subst (λ (v : Result ClockStep StepError). StepsHere d lines below node v d') (sym (err ∙ ap (λ (z : StepError). Err z) is)) same

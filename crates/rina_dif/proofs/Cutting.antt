@@ -2,8 +2,7 @@
 use Rattle.std.proofs.Common.{◌≡◌, ◌≢◌, ◌∙◌, ℕ, zero, suc, ◌<◌, ◌⊎◌, List, get_or, length, slice_get, slice_set, Option, Some, Result, Ok, Err, refl, sym, ap, subst, arith, inl, inr, set-set}
 use Rattle.std.proofs.lemmas.Option.{slice_get_read}
 use Rattle.rina_account.specs.declared.ledger.Off.{Off}
-use Rattle.rina_agent.specs.declared.agent.Agent.{Agent}
-use Rattle.rina_agent.specs.Rows.{lost as loses_link}
+use Rattle.rina_member.specs.declared.management.Management.{Management}
 use Rattle.rina_base.specs.declared.memory.Memory.{Memory}
 use Rattle.rina_base.specs.declared.number.Port.{Port}
 use Rattle.rina_iface.specs.declared.ends.End.{End}
@@ -35,7 +34,7 @@ use Rattle.rina_flows.proofs.Gone.{is_ended}
 use Rattle.rina_member.specs.Knowing.{AreRoutesOf}
 use Rattle.rina_dif.specs.declared.dif.Dif.{Dif}
 use Rattle.rina_dif.specs.Holding.{Holds}
-use Rattle.rina_dif.specs.Managing.{IsWithout}
+use Rattle.rina_dif.proofs.Managed.{IsWithout}
 use Rattle.rina_dif.specs.Shown.{seen_of}
 use Rattle.rina_dif.specs.Unlinking.{FindsLostAt, FindsNoneLeft, LosesAs, LosesLast, LosesLastIn, LosesThenStops, LosesWith}
 use Rattle.rina_dif.proofs.Causing.{failed_below, failed_caused}
@@ -43,6 +42,8 @@ use Rattle.rina_dif.proofs.Keeping.{home_set}
 use Rattle.rina_dif.proofs.Leaves.{has_process, shown_at}
 use Rattle.rina_dif.proofs.Owning.{arrived_seen}
 use Rattle.rina_dif.proofs.Unlinked.{has_agent, has_member, keeps_links, link_lost, lost_with}
+use Rattle.rina_channel.proofs.Leaving.{failing_leaves}
+use Rattle.rina_dif.proofs.Connected.{kept_by}
 
 same_some : {X : Type 0} (o : Option X) (a b : X) → o ≡ Some a → o ≡ Some b → a ≡ b
 same_some o a b h g = cc
@@ -87,15 +88,15 @@ stages_fail d i (suc n) node p q fail lines f f' l l' is here s = (seen_of (stag
 failed_other : (fail : Fail) → Failed fail ≢ Allocated
 failed_other fail e = absurd cc
 
-last_fails : (d : Dif) (at node : ℕ) (lost : Lost) (port : Port) (routes : List Route) (flows : Flows) (p p' : IpcProcess) (g' : Agent) → at < length d.settings.members → home node (config_of d.settings).members ≡ Some at → slice_get d.processes at ≡ Some p → IsWithout d at lost.number g' → AreRoutesOf g' d.settings.members routes → LosesThenStops d.clock node (Failed (Below port)) lost.place routes d.flows p flows p' → queue_settings p' ≡ queue_settings p
-    → (lines : List Direction) (below : Seen) → Holds d lines below → FindsLostAt d below at (Some lost) → FindsNoneLeft d below at lost.place (Some port) → LosesAs d lines below at node lost.number (Ok tt) (record d { flows = flows; processes = slice_set d.processes at p'; agents = slice_set d.agents at g' })
+last_fails : (d : Dif) (at node : ℕ) (lost : Lost) (port : Port) (routes : List Route) (flows : Flows) (p p' : IpcProcess) (g' : Management) → at < length d.settings.members → home node (config_of d.settings).members ≡ Some at → slice_get d.processes at ≡ Some p → IsWithout d at lost.number g' → AreRoutesOf g'.agent d.settings.members routes → LosesThenStops d.clock node (Failed (Below port)) lost.place routes d.flows p flows p' → queue_settings p' ≡ queue_settings p
+    → (lines : List Direction) (below : Seen) → Holds d lines below → FindsLostAt d below at (Some lost) → FindsNoneLeft d below at lost.place (Some port) → LosesAs d lines below at node lost.number (Ok tt) (record d { flows = flows; processes = slice_set d.processes at p'; managements = slice_set d.managements at g' })
 last_fails d at node lost port routes flows p p' g' lt here is goes are s room lines below h finds left =
     let g : Config = config_of d.settings in
     let m = has_member d at lt in
     let k = has_agent d lines below at lt h in
     let p1 : IpcProcess = record p' { ledger = s.ledger } in
-    let mid : Dif = record d { processes = slice_set d.processes at p1; agents = slice_set d.agents at g' } in
-    let d' : Dif = record d { flows = flows; processes = slice_set d.processes at p'; agents = slice_set d.agents at g' } in
+    let mid : Dif = record d { processes = slice_set d.processes at p1; managements = slice_set d.managements at g' } in
+    let d' : Dif = record d { flows = flows; processes = slice_set d.processes at p'; managements = slice_set d.managements at g' } in
     let l = link_lost d lines below at lost routes m.0 p p1 k.0 g' m.1 is k.1 (goes k.0 k.1) are s.loses room h finds in
     let told = left l.process l.link l.is_process l.stands in
     let all = s.stops g lines l.holds.standing.journal l.holds.tied tt (failed_other (Below port)) s.fits in
@@ -116,15 +117,16 @@ last_fails d at node lost port routes flows p p' g' lt here is goes are s room l
         housed = house.housed;
         routed = house.routed;
         managed = house.managed;
+        connected = kept_by (config_of d.settings) d.clock d.connections (seen_of mid).processes (seen_of d').processes below (λ may. failing_leaves (seen_of mid) lines node l.link.port (seen_of d') by) l.holds.connected;
       },
     )
 
-pub last_loses : (d : Dif) (at node : ℕ) (lost : Lost) (port : Port) (g' : Agent) (routes : List Route) (flows : Flows) (ps : List IpcProcess) → at < length d.settings.members → home node (config_of d.settings).members ≡ Some at → IsWithout d at lost.number g' → AreRoutesOf g' d.settings.members routes → LosesLastIn d.clock node (Failed (Below port)) lost.place routes (Ok tt) at d.flows d.processes flows ps
-    → (lines : List Direction) (below : Seen) → Holds d lines below → FindsLostAt d below at (Some lost) → FindsNoneLeft d below at lost.place (Some port) → LosesAs d lines below at node lost.number (Ok tt) (record d { flows = flows; processes = ps; agents = slice_set d.agents at g' })
+pub last_loses : (d : Dif) (at node : ℕ) (lost : Lost) (port : Port) (g' : Management) (routes : List Route) (flows : Flows) (ps : List IpcProcess) → at < length d.settings.members → home node (config_of d.settings).members ≡ Some at → IsWithout d at lost.number g' → AreRoutesOf g'.agent d.settings.members routes → LosesLastIn d.clock node (Failed (Below port)) lost.place routes (Ok tt) at d.flows d.processes flows ps
+    → (lines : List Direction) (below : Seen) → Holds d lines below → FindsLostAt d below at (Some lost) → FindsNoneLeft d below at lost.place (Some port) → LosesAs d lines below at node lost.number (Ok tt) (record d { flows = flows; processes = ps; managements = slice_set d.managements at g' })
 last_loses d at node lost port g' routes flows ps lt here goes are loses lines below h finds left =
     let p = has_process d below at (lines, h) lt in
     let x = loses p.0 p.1 in
-    subst (λ (qs : List IpcProcess). LosesAs d lines below at node lost.number (Ok tt) (record d { flows = flows; processes = qs; agents = slice_set d.agents at g' })) (sym x.3) (last_fails d at node lost port routes flows p.0 x.0 g' lt here p.1 goes are x.1 x.2 lines below h finds left)
+    subst (λ (qs : List IpcProcess). LosesAs d lines below at node lost.number (Ok tt) (record d { flows = flows; processes = qs; managements = slice_set d.managements at g' })) (sym x.3) (last_fails d at node lost port routes flows p.0 x.0 g' lt here p.1 goes are x.1 x.2 lines below h finds left)
 
 -- the flows are as they were, and so is the IPC process at a place
 abbrev pub StaysWith : ℕ → Flows → List IpcProcess → Flows → List IpcProcess → Type 0

@@ -31,7 +31,7 @@ use Rattle.rina_dif.specs.declared.dif.Dif.{Dif}
 use Rattle.rina_dif.specs.Clocking.{ClockSteps, FailsBelow, FailsLate, IsLate, Steps, StepsFlow, StepsHere, StepsLost, StepsOk}
 use Rattle.rina_dif.specs.Elsewhere.{home_of}
 use Rattle.rina_dif.specs.Holding.{Holds}
-use Rattle.rina_dif.specs.Managing.{ManagesStep}
+use Rattle.rina_dif.specs.Changing.{ManagesStep}
 use Rattle.rina_dif.specs.Shown.{seen_of}
 use Rattle.rina_dif.specs.Steps.{AtHome}
 use Rattle.rina_dif.specs.Unlinking.{NoneLeft, links_without}
@@ -190,9 +190,9 @@ not_home o P Q is q = subst (λ (z : Option ℕ). AtHome z P Q) (sym is) q
 
 -- whether an allocation failed is not seen
 noted : (d : Dif) (lines : List Direction) (below : Seen) (failed : Bool) → Holds d lines below → Holds (record d { failed = failed }) lines below
-noted d lines below failed h = record { tied = h.tied; standing = h.standing; carrying = h.carrying; numbered = h.numbered; accounted = h.accounted; caused = h.caused; written_off = h.written_off; housed = h.housed; routed = h.routed; managed = h.managed }
+noted d lines below failed h = record { tied = h.tied; standing = h.standing; carrying = h.carrying; numbered = h.numbered; accounted = h.accounted; caused = h.caused; written_off = h.written_off; housed = h.housed; routed = h.routed; managed = h.managed; connected = h.connected }
 
-steps_by : (d : Dif) (lines : List Direction) (below : Seen) (node i : ℕ) (r : Result ClockStep StepError) (d' : Dif) (failed : Bool) → home node (config_of d.settings).members ≡ Some i → StepsHere d lines below node r d' → ManagesStep r (home_of d node) d.clock d.agents d'.agents → ClockSteps d lines below node r (record d' { failed = failed }) below
+steps_by : (d : Dif) (lines : List Direction) (below : Seen) (node i : ℕ) (r : Result ClockStep StepError) (d' : Dif) (failed : Bool) → home node (config_of d.settings).members ≡ Some i → StepsHere d lines below node r d' → ManagesStep r (home_of d node) d below node d'.managements → ClockSteps d lines below node r (record d' { failed = failed }) below
 steps_by d lines below node i (Ok done) d' failed here s managed = record {
   lines' = s.lines';
   does = at_home (home node (config_of d.settings).members) i (λ n. StepsOk d lines below node (Ok done) (record d' { failed = failed }) s.lines') _ here s.does;
@@ -204,9 +204,9 @@ steps_by d lines below node i (Err why.Memory) d' failed here s managed = record
 steps_by d lines below node i (Err why.NoIpc) d' failed here s managed = absurd s
 steps_by d lines below node i (Err why.NoLink) d' failed here s managed = absurd s
 
-pub steps_home : (d : Dif) (lines : List Direction) (below : Seen) (node i : ℕ) (r r' : Result ClockStep StepError) (d' : Dif) (failed : Bool) → home node (config_of d.settings).members ≡ Some i → r' ≡ r → StepsHere d lines below node r d' → ManagesStep r (Some i) d.clock d.agents d'.agents → ClockSteps d lines below node r' (record d' { failed = failed }) below
+pub steps_home : (d : Dif) (lines : List Direction) (below : Seen) (node i : ℕ) (r r' : Result ClockStep StepError) (d' : Dif) (failed : Bool) → home node (config_of d.settings).members ≡ Some i → r' ≡ r → StepsHere d lines below node r d' → ManagesStep r (Some i) d below node d'.managements → ClockSteps d lines below node r' (record d' { failed = failed }) below
 steps_home d lines below node i r r' d' failed here same s managed =
-    let there : ManagesStep r (home_of d node) d.clock d.agents d'.agents = subst (λ (o : Option ℕ). ManagesStep r o d.clock d.agents d'.agents) (sym here) managed in
+    let there : ManagesStep r (home_of d node) d below node d'.managements = subst (λ (o : Option ℕ). ManagesStep r o d below node d'.managements) (sym here) managed in
     subst (λ (v : Result ClockStep StepError). ClockSteps d lines below node v (record d' { failed = failed }) below) (sym same) (steps_by d lines below node i r d' failed here s there)
 
 pub steps_none : (d : Dif) (lines : List Direction) (below : Seen) (node : ℕ) → Holds d lines below → ClockSteps d lines below node (Err why.Memory) d below

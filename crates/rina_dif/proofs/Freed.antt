@@ -61,6 +61,8 @@ use Rattle.rina_dif.proofs.Facing.{unchanged}
 use Rattle.rina_dif.proofs.Keeping.{home_set}
 use Rattle.rina_dif.proofs.Leaves.{has_process, shown_at}
 use Rattle.rina_dif.proofs.Owning.{arrived_seen}
+use Rattle.rina_channel.proofs.Leaving.{ending_leaves}
+use Rattle.rina_dif.proofs.Connected.{kept_by}
 
 pub same_end : (o : Option End) (a b : End) → o ≡ Some a → o ≡ Some b → a ≡ b
 same_end o a b h g = cc
@@ -97,6 +99,7 @@ closes d i at end (Ok done) flows ps lt here is allocated stops lines below h =
         housed = house.housed;
         routed = house.routed;
         managed = house.managed;
+        connected = kept_by (config_of d.settings) d.clock d.connections (seen_of d).processes (seen_of d').processes below (λ may. ending_leaves (seen_of d) lines at Closed (seen_of d') ended) h.connected;
       };
     }
 closes d i at end (Err e) flows ps lt here is allocated stops lines below h =
@@ -209,6 +212,7 @@ withdraws d at end flows is not conns ends lines below h =
         housed = h.housed;
         routed = h.routed;
         managed = h.managed;
+        connected = h.connected;
       };
     }
 
@@ -216,7 +220,7 @@ withdraws d at end flows is not conns ends lines below h =
 
 -- whether an allocation failed is noted
 holds_noted : (d : Dif) (failed : Bool) (lines : List Direction) (below : Seen) → Holds d lines below → Holds (record d { failed = failed }) lines below
-holds_noted d failed lines below h = record { tied = h.tied; standing = h.standing; carrying = h.carrying; numbered = h.numbered; accounted = h.accounted; caused = h.caused; written_off = h.written_off; housed = h.housed; routed = h.routed; managed = h.managed }
+holds_noted d failed lines below h = record { tied = h.tied; standing = h.standing; carrying = h.carrying; numbered = h.numbered; accounted = h.accounted; caused = h.caused; written_off = h.written_off; housed = h.housed; routed = h.routed; managed = h.managed; connected = h.connected }
 
 -- what `free` does, whatever it stands on
 abbrev pub FreesFor : Dif → Port → Result (Unit {0}) FreeError → Dif → Type 0

@@ -33,6 +33,8 @@ use Rattle.rina_dif.proofs.Causing.{given_up_caused, process_caused}
 use Rattle.rina_dif.proofs.Keeping.{AreHome, home_set}
 use Rattle.rina_dif.proofs.Leaves.{has_process, shown_at}
 use Rattle.rina_dif.proofs.Owning.{arrived_seen}
+use Rattle.rina_channel.proofs.Leaving.{ending_leaves, forgetting_leaves}
+use Rattle.rina_dif.proofs.Connected.{kept_by}
 
 same_some : {X : Type 0} (o : Option X) (a b : X) → o ≡ Some a → o ≡ Some b → a ≡ b
 same_some o a b h g = cc
@@ -89,6 +91,7 @@ forgets d i at (Ok true) flows ps lt here does lines below h =
           housed = house.housed;
           routed = house.routed;
           managed = house.managed;
+          connected = kept_by (config_of d.settings) d.clock d.connections (seen_of d).processes (seen_of d').processes below (λ may. forgetting_leaves (seen_of d) lines at (seen_of d') f.lines' forgotten) h.connected;
         };
       },
       x.1.0,
@@ -127,6 +130,7 @@ gives_up d i at (Ok (Some num)) flows ps lt here does lines below h =
         housed = house.housed;
         routed = house.routed;
         managed = house.managed;
+        connected = kept_by (config_of d.settings) d.clock d.connections (seen_of d).processes (seen_of d').processes below (λ may. ending_leaves (seen_of d) lines at _ (seen_of d') ended) h.connected;
       };
     }
 gives_up d i at (Ok None) flows ps lt here does lines below h =

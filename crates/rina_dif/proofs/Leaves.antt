@@ -42,6 +42,7 @@ use Rattle.rina_dif.specs.Shown.{seen_of}
 use Rattle.rina_dif.specs.Steps.{AsksAt, AsksHome, AtHome, Leaves, OutsAt, WillGo}
 use Rattle.rina_dif.proofs.Causing.{outs_caused}
 use Rattle.rina_dif.proofs.Keeping.{IsSameHouse, home_set, house_is, same_house, same_places}
+use Rattle.rina_dif.proofs.Connected.{outs_connected}
 
 same_some : {X : Type 0} (o : Option X) (a b : X) → o ≡ Some a → o ≡ Some b → a ≡ b
 same_some o a b h g = cc
@@ -138,6 +139,7 @@ leaves_hold refuses d below at n r ps below' kept kept' lt leaves lines h =
       housed = house.housed;
       routed = house.routed;
       managed = house.managed;
+      connected = outs_connected refuses (seen_of d) lines d.connections below at n r (seen_of d') below' kept kept' h.standing outs h.connected;
     }
 
 -- By node

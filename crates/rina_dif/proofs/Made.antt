@@ -35,7 +35,6 @@ use Rattle.rina_dif.specs.Building.{IsFree, queue_ids}
 use Rattle.rina_dif.specs.Holding.{Stands}
 use Rattle.rina_dif.specs.Laying.{AreLaid, AreLinkedUp, AreSettings, BindsAll, CanLay, IsLaidIn, IsLinkedUp, IsNew, IsNewProcess, Takes, ends_of, links_from, ports_at}
 use Rattle.rina_dif.specs.Planned.{ipc_name, link_fixed, links_in, links_of, members_from, processes_before, settings_by, settings_in, settings_of}
-use Rattle.rina_agent.specs.declared.agent.Agent.{Agent}
 use Rattle.rina_dif.specs.Managing.{AreManagedBy, AreStarted}
 use Rattle.rina_dif.specs.Routing.{AreRouted, HaveRoutes}
 use Rattle.rina_dif.proofs.Bare.{IsUntouched, map_at, none_in, start_holds, starts}
@@ -44,10 +43,12 @@ use Rattle.rina_dif.proofs.Managed.{managed_routed}
 use Rattle.rina_dif.proofs.Routed.{laid_still, live_hop}
 use Rattle.rina_dif.proofs.Sound.{are_members, is_config}
 use Rattle.rina_dif.proofs.Started.{made_managed, started_still}
+use Rattle.rina_dif.specs.Connected.{AreConnected}
+use Rattle.rina_dif.specs.Shown.{seen_of}
 
 -- The links
 
-link_on : (n : ℕ) (ports : List Port) (k : ℕ) (link : Link) → slice_get (links_from n ports) k ≡ Some link → slice_get ports k ≡ Some link.port
+pub link_on : (n : ℕ) (ports : List Port) (k : ℕ) (link : Link) → slice_get (links_from n ports) k ≡ Some link → slice_get ports k ≡ Some link.port
 link_on n [] k link is = absurd cc
 link_on n (p ∷ ps) zero link is = (let e = ap (option_map (λ (l : Link). l.port)) is in e)
 link_on n (p ∷ ps) (suc k) link is = link_on (n + 1) ps k link is
@@ -62,17 +63,17 @@ its_name plan d n (x ∷ ms) zero m is =
     sym name' ∙ ap (ipc_name plan d) node'
 its_name plan d n (x ∷ ms) (suc i) m is = its_name plan d (n + 1) ms i m is
 
-is_node : (node : ℕ) (p : Port) → (p.node == node) ≡ true → p.node ≡ node
+pub is_node : (node : ℕ) (p : Port) → (p.node == node) ≡ true → p.node ≡ node
 is_node node p same = elim (eqb_tells p.node node) [ inl t ↦ t.1 | inr u ↦ absurd (false≢true (sym u.0 ∙ same)) ]
 
-linked : (plan : Plan) (d : DifPlan) (s : Settings) (old new : Seen) (ps : List IpcProcess) (i : ℕ) (member : Member) (link : Link) → AreSettings plan d s → AreLaid plan d s d.links old new ps → slice_get (config_of s).members i ≡ Some member → HasLink (map process_of ps) i link → IsLinked new member.name link.port
-linked plan d s old new ps i member link are laid is has =
+linked : (plan : Plan) (d : DifPlan) (s : Settings) (old new : Seen) (ports : List (Port × Port)) (ps : List IpcProcess) (i : ℕ) (member : Member) (link : Link) → AreSettings plan d s → AreLaid plan d s d.links old new ports ps → slice_get (config_of s).members i ≡ Some member → HasLink (map process_of ps) i link → IsLinked new member.name link.port
+linked plan d s old new ports ps i member link are laid is has =
     let m = map_at member_of s.members i member is in
     let p = map_at process_of ps i has.process has.is_process in
     let up = laid.up.each i m.0 p.0 m.1 p.1 in
-    let links : has.process.links ≡ links_from 0 (ports_at m.0.node (ends_of laid.ports)) = ap (λ (z : Process). z.links) (sym p.2) ∙ up.links in
-    let on = link_on 0 (ports_at m.0.node (ends_of laid.ports)) has.place link (ap (λ (ls : List Link). slice_get ls has.place) (sym links) ∙ has.stands) in
-    let at = kept_at (λ (z : Port). z.node == m.0.node) (ends_of laid.ports) has.place link.port on in
+    let links : has.process.links ≡ links_from 0 (ports_at m.0.node (ends_of ports)) = ap (λ (z : Process). z.links) (sym p.2) ∙ up.links in
+    let on = link_on 0 (ports_at m.0.node (ends_of ports)) has.place link (ap (λ (ls : List Link). slice_get ls has.place) (sym links) ∙ has.stands) in
+    let at = kept_at (λ (z : Port). z.node == m.0.node) (ends_of ports) has.place link.port on in
     let end = laid.named at.0 link.port at.1.stands in
     let node : link.port.node ≡ m.0.node = is_node m.0.node link.port at.1.passes in
     let name : m.0.name ≡ ipc_name plan d m.0.node = its_name plan d (processes_before plan.difs are.place) d.members i m.0 (ap (λ (z : Settings). slice_get z.members i) (sym are.are) ∙ m.1) in
@@ -80,7 +81,7 @@ linked plan d s old new ps i member link are laid is has =
     record { end = end.end; here = end.here; app = end.app ∙ same }
 
 -- no PDU waits
-idle : (s : Settings) (ports : List Port) (ps : List IpcProcess) (i n : ℕ) (item : Queued) → AreLinkedUp s ports ps → Waits (map process_of ps) i n item → ⊥
+pub idle : (s : Settings) (ports : List Port) (ps : List IpcProcess) (i n : ℕ) (item : Queued) → AreLinkedUp s ports ps → Waits (map process_of ps) i n item → ⊥
 idle s ports ps i n item up w =
     let p = map_at process_of ps i w.process w.is_process in
     let within = slice_get_within ps i p.0 p.1 in
@@ -115,18 +116,18 @@ has_place s node ports p place qos link up is known = subst (λ (o : Option ℕ)
 
 -- It stands
 
-pub made_stands : (plan : Plan) (i : ℕ) (dif : DifPlan) (d : Dif) (old new : Seen) → AreKept new → IsPlan plan → slice_get plan.difs i ≡ Some dif → d.settings ≡ settings_by plan i dif → d.clock ≡ old.now → d.flows.journal.ends ≡ [] → d.flows.conns ≡ [] → IsFree (config_of d.settings) old → IsLaidIn (config_of d.settings) old new → (bare : List IpcProcess) → AreLaid plan dif d.settings dif.links old new bare → AreStarted d.settings.members dif.links dif.rules dif.allow (length d.settings.members) bare d.agents → AreRouted d.settings.members d.agents (length d.agents) bare d.processes → d.laid.links ≡ dif.links → Stands d new
-made_stands plan i dif d old new kept sound at are clock ends conns free inside bare was started routed same =
-    let laid = laid_still plan dif d.settings dif.links old new d.agents (length d.agents) bare d.processes was routed in
+pub made_stands : (plan : Plan) (i : ℕ) (dif : DifPlan) (d : Dif) (old new : Seen) → AreKept new → IsPlan plan → slice_get plan.difs i ≡ Some dif → d.settings ≡ settings_by plan i dif → d.clock ≡ old.now → d.flows.journal.ends ≡ [] → d.flows.conns ≡ [] → IsFree (config_of d.settings) old → IsLaidIn (config_of d.settings) old new → (ports : List (Port × Port)) (bare : List IpcProcess) → AreLaid plan dif d.settings dif.links old new ports bare → AreStarted d.settings.cubes d.settings.members dif.links dif.rules dif.allow (length d.settings.members) bare d.managements → AreRouted d.settings.members d.managements (length d.managements) bare d.processes → d.laid.links ≡ dif.links → AreConnected (config_of d.settings) d.clock d.connections (seen_of d).processes new → Stands d new
+made_stands plan i dif d old new kept sound at are clock ends conns free inside ports bare was started routed same connected =
+    let laid = laid_still plan dif d.settings dif.links old new ports d.managements (length d.managements) bare d.processes was routed in
     let g = config_of d.settings in
     let config : IsConfig g = subst (λ (s : Settings). IsConfig (config_of s)) (sym are) (is_config plan i dif sound at) in
     let fresh = λ (port : Port) (end : End) (here : end_of new port ≡ Some end) (mine : IsMine g.members end.app ⊎ IsMine g.members end.peer) (P : Type 0) (then : end_of old port ≡ None → P).
     stood_there old port P (λ e0 was. absurd (let same = same_end new port e0 end (inside.laid.stays port e0 was) here in free port end (was ∙ ap (λ (z : End). Some z) same) mine)) then in
     let start = starts d new ends conns config (clock ∙ sym inside.laid.clock) laid.up.aligned
-    (λ k member link is has. linked plan dif d.settings old new d.processes k member link (record { place = i; stands = at; are = are }) laid is has)
+    (λ k member link is has. linked plan dif d.settings old new ports d.processes k member link (record { place = i; stands = at; are = are }) laid is has)
     (λ port end here mine. fresh port end here mine (IsInside g new port end) (λ none. inside.inside port end here none))
     (λ port end here mine. fresh port end here (inl mine) (end.sent ≡ []) (λ none. (inside.laid.fresh port end here none).sent))
-    (λ k n item waits. idle d.settings (ends_of laid.ports) d.processes k n item laid.up waits) in
+    (λ k n item waits. idle d.settings (ends_of ports) d.processes k n item laid.up waits) in
     let untouched : IsUntouched d new = record {
       unread = λ port end here mine. fresh port end here (inl mine) (end.taken ≡ 0) (λ none. (inside.laid.fresh port end here none).taken);
       clean = λ k p is.
@@ -135,8 +136,8 @@ made_stands plan i dif d old new kept sound at are clock ends conns free inside 
           (laid.up.each k m.0 p m.1 is).ledger;
     } in
     let members = subst (λ (s : Settings). AreMembers (config_of s)) (sym are) (are_members plan i dif sound at) in
-    let managed : AreManagedBy d.settings.members dif.links d.clock d.processes d.agents = made_managed plan i dif d old new bare sound at are config members was started routed in
-    let routes = managed_routed d.settings.members dif.links d.clock d.processes d.agents managed in (
+    let managed : AreManagedBy d.settings.members dif.links d.clock d.processes d.managements = made_managed plan i dif d old new ports bare sound at are config members was started routed in
+    let routes = managed_routed d.settings.members dif.links d.clock d.processes d.managements managed in (
       [],
       start_holds d new kept ends conns start untouched members (λ k p is.
           let within = slice_get_within d.processes k p is in
@@ -144,11 +145,11 @@ made_stands plan i dif d old new kept sound at are clock ends conns free inside 
           let up = laid.up.each k m.0 p m.1 is in
           record {
             cap = up.room;
-            links = λ place qos link stands live known. has_place d.settings m.0.node (ends_of laid.ports) p place qos link up stands known;
+            links = λ place qos link stands live known. has_place d.settings m.0.node (ends_of ports) p place qos link up stands known;
             queues = λ dst link qos hop known.
                 let own = live_hop d.settings.members dif.links m.0 p.links p.routes dst link (routes k m.0 p m.1 is) hop in
-                subst (λ (n : ℕ). IsSome (queue_place qos n (process_of p).queues)) own.4 (has_place d.settings m.0.node (ends_of laid.ports) p own.0 qos own.1 up own.2 known);
-          }) (subst (λ (ls : List LinkPlan). AreManagedBy d.settings.members ls d.clock d.processes d.agents) (sym same) managed),
+                subst (λ (n : ℕ). IsSome (queue_place qos n (process_of p).queues)) own.4 (has_place d.settings m.0.node (ends_of ports) p own.0 qos own.1 up own.2 known);
+          }) (subst (λ (ls : List LinkPlan). AreManagedBy d.settings.members ls d.clock d.processes d.managements) (sym same) managed) connected,
     )
 
 -- What it is
@@ -172,31 +173,30 @@ new_process s node ports p up = record {
 one_plan : (x y : DifPlan) → Some x ≡ Some y → x ≡ y
 one_plan x y same = cc
 
-pub made_new : (plan : Plan) (i : ℕ) (dif : DifPlan) (d : Dif) (old new : Seen) → IsPlan plan → slice_get plan.difs i ≡ Some dif → d.settings ≡ settings_by plan i dif → d.clock ≡ old.now → d.failed ≡ false → d.flows.journal.ends ≡ [] → d.flows.conns ≡ [] → d.waiting.items ≡ [] → d.names ≡ [] → d.laid.ribs.entries ≡ [] → (bare : List IpcProcess) → AreLaid plan dif d.settings dif.links old new bare → AreStarted d.settings.members dif.links dif.rules dif.allow (length d.settings.members) bare d.agents → AreRouted d.settings.members d.agents (length d.agents) bare d.processes → IsNew plan i d old new
-made_new plan i dif d old new sound at are clock alive ends conns waiting names kept bare was started routed =
-    let laid = laid_still plan dif d.settings dif.links old new d.agents (length d.agents) bare d.processes was routed in
+pub made_new : (plan : Plan) (i : ℕ) (dif : DifPlan) (d : Dif) (old new : Seen) → IsPlan plan → slice_get plan.difs i ≡ Some dif → d.settings ≡ settings_by plan i dif → d.clock ≡ old.now → d.failed ≡ false → d.flows.journal.ends ≡ [] → d.flows.conns ≡ [] → d.waiting.items ≡ [] → d.names ≡ [] → (ports : List (Port × Port)) (bare : List IpcProcess) → AreLaid plan dif d.settings dif.links old new ports bare → AreStarted d.settings.cubes d.settings.members dif.links dif.rules dif.allow (length d.settings.members) bare d.managements → AreRouted d.settings.members d.managements (length d.managements) bare d.processes → IsNew plan i d old new
+made_new plan i dif d old new sound at are clock alive ends conns waiting names ports bare was started routed =
+    let laid = laid_still plan dif d.settings dif.links old new ports d.managements (length d.managements) bare d.processes was routed in
     let config : IsConfig (config_of d.settings) = subst (λ (s : Settings). IsConfig (config_of s)) (sym are) (is_config plan i dif sound at) in
     let members : AreMembers (config_of d.settings) = subst (λ (s : Settings). AreMembers (config_of s)) (sym are) (are_members plan i dif sound at) in
-    let managed : AreManagedBy d.settings.members dif.links d.clock d.processes d.agents = made_managed plan i dif d old new bare sound at are config members was started routed in
+    let managed : AreManagedBy d.settings.members dif.links d.clock d.processes d.managements = made_managed plan i dif d old new ports bare sound at are config members was started routed in
     record {
       settings = its_settings plan i dif d.settings at are;
       clock = clock;
       alive = alive;
-      ports = laid.ports;
-      bound = subst (λ (fs : List Fixed). BindsAll old fs laid.ports new) (sym (its_links plan i dif at)) laid.bound;
-      processes = λ k member p is here. new_process d.settings member.node (ends_of laid.ports) p (laid.up.each k member p is here);
+      ports = ports;
+      bound = subst (λ (fs : List Fixed). BindsAll old fs ports new) (sym (its_links plan i dif at)) laid.bound;
+      processes = λ k member p is here. new_process d.settings member.node (ends_of ports) p (laid.up.each k member p is here);
       queues = λ k p is.
           let within = slice_get_within d.processes k p is in
           let m = there d.settings.members k (let e = laid.up.aligned in omega (arith, within, e)) in
           let up = laid.up.each k m.0 p m.1 is in
           record { cap = up.room; cubes = up.ids };
-      routed = λ dif' at'. subst (λ (x : DifPlan). HaveRoutes d.settings.members x.links d.processes) (one_plan dif dif' (sym at ∙ at')) (managed_routed d.settings.members dif.links d.clock d.processes d.agents managed);
-      managed = λ dif' at'. subst (λ (x : DifPlan). AreStarted d.settings.members x.links x.rules x.allow (length d.settings.members) d.processes d.agents) (one_plan dif dif' (sym at ∙ at')) (started_still d.settings.members dif.links dif.rules dif.allow bare d.processes d.agents started routed);
+      routed = λ dif' at'. subst (λ (x : DifPlan). HaveRoutes d.settings.members x.links d.processes) (one_plan dif dif' (sym at ∙ at')) (managed_routed d.settings.members dif.links d.clock d.processes d.managements managed);
+      managed = λ dif' at'. subst (λ (x : DifPlan). AreStarted d.settings.cubes d.settings.members x.links x.rules x.allow (length d.settings.members) d.processes d.managements) (one_plan dif dif' (sym at ∙ at')) (started_still d.settings.cubes d.settings.members dif.links dif.rules dif.allow bare d.processes d.managements started routed);
       ends = ends;
       conns = conns;
       waiting = waiting;
       names = names;
-      kept = kept;
     }
 
 pub made_takes : (plan : Plan) (i : ℕ) (dif : DifPlan) (s : Settings) (below : Seen) → slice_get plan.difs i ≡ Some dif → s ≡ settings_by plan i dif → CanLay plan i below → All (Takes below s.pdu) (map (link_fixed plan dif) dif.links)

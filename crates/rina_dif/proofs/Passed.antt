@@ -67,5 +67,6 @@ passes d at flows p lines below h =
         housed = h.housed;
         routed = h.routed;
         managed = h.managed;
+        connected = h.connected;
       };
     }

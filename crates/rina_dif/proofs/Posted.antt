@@ -54,6 +54,8 @@ use Rattle.rina_dif.proofs.Keeping.{AreHome, IsSameHouse, home_set, house_is, sa
 use Rattle.rina_dif.proofs.Leaves.{has_process, shown_at, stepped}
 use Rattle.rina_dif.proofs.Putting.{is_there}
 use Rattle.rina_dif.proofs.Settling.{holds_unseen, off_house, unseen}
+use Rattle.rina_channel.proofs.Leaving.{acknowledging_leaves, resending_leaves}
+use Rattle.rina_dif.proofs.Connected.{kept_by}
 
 same_some : {X : Type 0} (o : Option X) (a b : X) → o ≡ Some a → o ≡ Some b → a ≡ b
 same_some o a b h g = cc
@@ -216,6 +218,7 @@ acknowledges d lines below i at conn due s flows ps lt here is tells forwards do
         housed = p.house.housed;
         routed = p.house.routed;
         managed = p.house.managed;
+        connected = kept_by (config_of d.settings) d.clock d.connections (seen_of d).processes (seen_of d').processes below (λ may. acknowledging_leaves (seen_of d) lines at p.cause (seen_of d') a.lines' may.managed.only acknowledged) h.connected;
       };
     }
 
@@ -290,6 +293,7 @@ sends_again d lines below i at conn pdu s flows ps lt here is tells forwards doe
         housed = p.house.housed;
         routed = p.house.routed;
         managed = p.house.managed;
+        connected = kept_by (config_of d.settings) d.clock d.connections (seen_of d).processes (seen_of d').processes below (λ may. resending_leaves (seen_of d) lines at p.cause (seen_of d') a.lines' may.managed.only resent) h.connected;
       };
     }
 

@@ -1,9 +1,10 @@
 -- The IPC processes of a DIF get their next hops.
 use Rattle.std.proofs.Common.{◌≡◌, ◌∙◌, ◌⊎◌, ⊎_elim, ℕ, ◌+◌, ◌<◌, ◌≤◌, ◌==◌, Bool, true, false, cond, get_or, Contains, List, [], ◌∷◌, find, length, length-set, slice_get, Option, Some, None, option_map, refl, sym, ap, subst, arith, inl, inr, zero, suc, filter}
 use Rattle.std.specs.List.{cons_option, filter_map}
+use Rattle.std.proofs.lemmas.Bool.Decides.{eqb_tells}
 use Rattle.std.proofs.lemmas.Option.{get_or_from_slice_get, slice_get-get_or, slice_get_within}
 use Rattle.std.proofs.lemmas.List.Elements.{Contains-append_cases, Contains-append_left, Contains-append_right, Contains-push, Contains-push_cases}
-use Rattle.rina_agent.specs.declared.agent.Agent.{Agent}
+use Rattle.rina_member.specs.declared.management.Management.{Management}
 use Rattle.rina_iface.proofs.Changed.{set_at}
 use Rattle.rina_iface.specs.Seen.{Seen}
 use Rattle.rina_base.specs.declared.number.Port.{Port}
@@ -108,6 +109,29 @@ knows_hop members edges links claimed rows routes own dst n hops are hop =
     let one = own_number edges links h.0 h.1 in
     (one.0, one.1, one.2, one.3 ∙ h.2)
 
+-- a next hop leads to the address of a member
+dst_found : (dst : ℕ) (routes : List Route) (r : Route) → find (λ (z : Route). z.dst == dst) routes ≡ Some r → r.dst ≡ dst
+dst_found dst [] r found = absurd cc
+dst_found dst (x ∷ xs) r found = elim (eqb_tells x.dst dst) [
+  | inl t ↦
+      let here : Some x ≡ Some r = rw t.0 at found in
+      let same : x ≡ r = cc in
+      ap (λ (z : Route). z.dst) (sym same) ∙ t.1
+  | inr u ↦ dst_found dst xs r (rw u.0 at found)
+]
+
+to_by : (own dst n : ℕ) (rows : List (ℕ × ℕ)) (members : List Member) (o : Option Route) → find (λ (r : Route). r.dst == dst) (routes_to own rows members) ≡ o → option_map (λ (r : Route). r.link) o ≡ Some n → (k : ℕ) × (m : Member) × (slice_get members k ≡ Some m) × (m.addr ≡ dst)
+to_by own dst n rows members None found is = absurd cc
+to_by own dst n rows members (Some r) found is =
+    let at = found_in (λ (r : Route). r.dst == dst) (routes_to own rows members) r found in
+    let to = made_of (route_to own rows) members r (is_there (routes_to own rows members) at.0 r at.1) in
+    let row = row_of own r.link rows to.0 r to.2 refl in
+    let k = at_place members to.0 to.1 in
+    (k.0, to.0, k.1, row.0 ∙ dst_found dst (routes_to own rows members) r found)
+
+pub to_member : (own dst n : ℕ) (rows : List (ℕ × ℕ)) (members : List Member) → next_hop dst (routes_to own rows members) ≡ Some n → (k : ℕ) × (m : Member) × (slice_get members k ≡ Some m) × (m.addr ≡ dst)
+to_member own dst n rows members hop = to_by own dst n rows members (find (λ (r : Route). r.dst == dst) (routes_to own rows members)) refl hop
+
 -- what was filtered stood there, and passes
 filtered_if : {X : Type 0} (f : X → Bool) (y : X) (ys : List X) (x : X) (k : ℕ) (b : Bool) → f y ≡ b → ((k : ℕ) → slice_get (filter f ys) k ≡ Some x → (j : ℕ) × (slice_get ys j ≡ Some x) × (f x ≡ true)) → slice_get (cond b (y ∷ filter f ys) (filter f ys)) k ≡ Some x → (j : ℕ) × (slice_get (y ∷ ys) j ≡ Some x) × (f x ≡ true)
 filtered_if f y ys x zero true is rest at = (let same : y ≡ x = cc in (0, at, ap f (sym same) ∙ is))
@@ -127,23 +151,23 @@ live_hop members plans m links routes dst n knows hop =
 
 -- One after the other
 
-pub none_routed : (members : List Member) (agents : List Agent) (ps : List IpcProcess) → AreRouted members agents 0 ps ps
-none_routed members agents ps = record {
+pub none_routed : (members : List Member) (managements : List Management) (ps : List IpcProcess) → AreRouted members managements 0 ps ps
+none_routed members managements ps = record {
   aligned = refl;
   routes = λ k g p lt is here. absurd (omega (arith, lt));
   same = λ k p here. (p, p.routes, here, refl);
 }
 
-next_routed : (members : List Member) (agents : List Agent) (at : ℕ) (old mid new : List IpcProcess) (g : Agent) (p : IpcProcess) (routes : List Route) → AreRouted members agents at old mid → slice_get agents at ≡ Some g → slice_get mid at ≡ Some p → AreRoutesOf g members routes → SetsRoutes at routes mid new → AreRouted members agents (at + 1) old new
-next_routed members agents at old mid new g p routes so is here are sets =
+next_routed : (members : List Member) (managements : List Management) (at : ℕ) (old mid new : List IpcProcess) (g : Management) (p : IpcProcess) (routes : List Route) → AreRouted members managements at old mid → slice_get managements at ≡ Some g → slice_get mid at ≡ Some p → AreRoutesOf g.agent members routes → SetsRoutes at routes mid new → AreRouted members managements (at + 1) old new
+next_routed members managements at old mid new g p routes so is here are sets =
     let set = sets p here in
     let split = λ (k : ℕ) (q : IpcProcess) (there : slice_get new k ≡ Some q). set_at mid at k p (with_routes p routes) q here (ap (λ (ps : List IpcProcess). slice_get ps k) (sym set) ∙ there) in
     record {
       aligned = ap (λ (ps : List IpcProcess). length ps) set ∙ length-set mid at (with_routes p routes) ∙ so.aligned;
       routes = λ k x q lt at_k there. elim (split k q there) [
         | inl t ↦
-            (let agent : x ≡ g = (let both : Some x ≡ Some g = sym at_k ∙ ap (slice_get agents) t.0 ∙ is in cc) in
-            subst (λ (z : Agent). AreRoutesOf z members q.routes) (sym agent) (subst (λ (z : IpcProcess). AreRoutesOf g members z.routes) (sym t.1) are))
+            (let agent : x ≡ g = (let both : Some x ≡ Some g = sym at_k ∙ ap (slice_get managements) t.0 ∙ is in cc) in
+            subst (λ (z : Management). AreRoutesOf z.agent members q.routes) (sym agent) (subst (λ (z : IpcProcess). AreRoutesOf g.agent members z.routes) (sym t.1) are))
         | inr u ↦ (let other = u.0 in so.routes k x q (below k at lt other) at_k u.1)
       ];
       same = λ k q there. elim (split k q there) [
@@ -159,33 +183,34 @@ next_routed members agents at old mid new g p routes so is here are sets =
 
 -- as the code sets them
 
-pub turn_within : (members : List Member) (agents : List Agent) (at : ℕ) (old mid : List IpcProcess) → AreRouted members agents at old mid → length old ≡ length agents → at < length agents → at < length mid
-turn_within members agents at old mid so aligned lt = (let now = so.aligned in omega (arith, lt, now, aligned))
+pub turn_within : (members : List Member) (managements : List Management) (at : ℕ) (old mid : List IpcProcess) → AreRouted members managements at old mid → length old ≡ length managements → at < length managements → at < length mid
+turn_within members managements at old mid so aligned lt = (let now = so.aligned in omega (arith, lt, now, aligned))
 
-pub turn_routed : (members : List Member) (agents : List Agent) (at : ℕ) (old mid new : List IpcProcess) (g : Agent) (routes routes' : List Route) → AreRouted members agents at old mid → length old ≡ length agents → at < length agents → g ≡ get_or agents at g → AreRoutesOf g members routes → routes' ≡ routes → SetsRoutes at routes' mid new → AreRouted members agents (at + 1) old new
-turn_routed members agents at old mid new g routes routes' so aligned lt is knows are sets =
-    let p = there mid at (turn_within members agents at old mid so aligned lt) in
-    next_routed members agents at old mid new g p.0 routes' so (slice_get-get_or agents at g lt ∙ ap (λ (x : Agent). Some x) (sym is)) p.1 (subst (AreRoutesOf g members) (sym are) knows) sets
+pub turn_routed : (members : List Member) (managements : List Management) (at : ℕ) (old mid new : List IpcProcess) (g : Management) (routes routes' : List Route) → AreRouted members managements at old mid → length old ≡ length managements → at < length managements → g ≡ get_or managements at g → AreRoutesOf g.agent members routes → routes' ≡ routes → SetsRoutes at routes' mid new → AreRouted members managements (at + 1) old new
+turn_routed members managements at old mid new g routes routes' so aligned lt is knows are sets =
+    let p = there mid at (turn_within members managements at old mid so aligned lt) in
+    next_routed members managements at old mid new g p.0 routes' so (slice_get-get_or managements at g lt ∙ ap (λ (x : Management). Some x) (sym is)) p.1 (subst (AreRoutesOf g.agent members) (sym are) knows) sets
 
-pub all_routed : (members : List Member) (agents : List Agent) (at : ℕ) (old new : List IpcProcess) → length agents ≤ at → AreRouted members agents at old new → AreRouted members agents (length agents) old new
-all_routed members agents at old new le so = record { aligned = so.aligned; routes = λ k g p lt is here. so.routes k g p (omega (arith, lt, le)) is here; same = so.same }
+pub all_routed : (members : List Member) (managements : List Management) (at : ℕ) (old new : List IpcProcess) → length managements ≤ at → AreRouted members managements at old new → AreRouted members managements (length managements) old new
+all_routed members managements at old new le so = record { aligned = so.aligned; routes = λ k g p lt is here. so.routes k g p (omega (arith, lt, le)) is here; same = so.same }
 
 -- seen otherwise
-pub same_routed : (members members' : List Member) (agents agents' : List Agent) (old new : List IpcProcess) → members ≡ members' → agents ≡ agents' → AreRouted members agents (length agents) old new → AreRouted members' agents' (length agents') old new
-same_routed members members' agents agents' old new same same' so = subst (λ (ms : List Member). AreRouted ms agents' (length agents') old new) same (subst (λ (gs : List Agent). AreRouted members gs (length gs) old new) same' so)
+pub same_routed : (members members' : List Member) (managements managements' : List Management) (old new : List IpcProcess) → members ≡ members' → managements ≡ managements' → AreRouted members managements (length managements) old new → AreRouted members' managements' (length managements') old new
+same_routed members members' managements managements' old new same same' so = subst (λ (ms : List Member). AreRouted ms managements' (length managements') old new) same (subst (λ (gs : List Management). AreRouted members gs (length gs) old new) same' so)
 
 -- What was laid is laid still
 
 up_still : (s : Settings) (node : ℕ) (ports : List Port) (p : IpcProcess) (routes : List Route) → IsLinkedUp s node ports p → IsLinkedUp s node ports (with_routes p routes)
 up_still s node ports p routes up = record { links = up.links; ledger = up.ledger; room = up.room; ids = up.ids; empty = up.empty; known = up.known; there = up.there }
 
-pub laid_still : (plan : Plan) (d : DifPlan) (s : Settings) (links : List LinkPlan) (old new : Seen) (agents : List Agent) (count : ℕ) (ps ps' : List IpcProcess) → AreLaid plan d s links old new ps → AreRouted s.members agents count ps ps' → AreLaid plan d s links old new ps'
-laid_still plan d s links old new agents count ps ps' laid routed = record {
-  ports = laid.ports;
+pub laid_still : (plan : Plan) (d : DifPlan) (s : Settings) (links : List LinkPlan) (old new : Seen) (ports : List (Port × Port)) (managements : List Management) (count : ℕ) (ps ps' : List IpcProcess) → AreLaid plan d s links old new ports ps → AreRouted s.members managements count ps ps' → AreLaid plan d s links old new ports ps'
+laid_still plan d s links old new ports managements count ps ps' laid routed = record {
   bound = laid.bound;
   up = record {
     aligned = routed.aligned ∙ laid.up.aligned;
-    each = λ k m p is here. (let q = routed.same k p here in subst (IsLinkedUp s m.node (ends_of laid.ports)) (sym q.3) (up_still s m.node (ends_of laid.ports) q.0 q.1 (laid.up.each k m q.0 is q.2)));
+    each = λ k m p is here. (let q = routed.same k p here in subst (IsLinkedUp s m.node (ends_of ports)) (sym q.3) (up_still s m.node (ends_of ports) q.0 q.1 (laid.up.each k m q.0 is q.2)));
   };
   named = laid.named;
+  flows = laid.flows;
+  apart = laid.apart;
 }

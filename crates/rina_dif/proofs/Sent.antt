@@ -51,6 +51,8 @@ use Rattle.rina_dif.proofs.Barred.{line_there, parts_of, past, sender_refusal}
 use Rattle.rina_dif.proofs.Keeping.{home_set, house_is, same_places}
 use Rattle.rina_dif.proofs.Putting.{waiting_there}
 use Rattle.rina_dif.proofs.Ways.{by_queue}
+use Rattle.rina_channel.proofs.Leaving.{sends_leave}
+use Rattle.rina_dif.proofs.Connected.{kept_by}
 
 -- A refusal
 
@@ -289,6 +291,7 @@ sends_made d at sdu way made flows ps a offers puts lines below h =
         housed = kept.housed;
         routed = kept.routed;
         managed = kept.managed;
+        connected = kept_by (config_of d.settings) d.clock d.connections (seen_of d).processes (seen_of d').processes below (λ may. sends_leave (seen_of d) lines at o.parts (Ok made.num) (seen_of d') o.lines' may.managed.only offer) h.connected;
       };
     }
 
@@ -300,7 +303,7 @@ refailed d lines below at sdu r d' failed s = record {
   cut = s.cut;
   lines' = s.lines';
   offers = s.offers;
-  holds = record { tied = s.holds.tied; standing = s.holds.standing; carrying = s.holds.carrying; numbered = s.holds.numbered; accounted = s.holds.accounted; caused = s.holds.caused; written_off = s.holds.written_off; housed = s.holds.housed; routed = s.holds.routed; managed = s.holds.managed };
+  holds = record { tied = s.holds.tied; standing = s.holds.standing; carrying = s.holds.carrying; numbered = s.holds.numbered; accounted = s.holds.accounted; caused = s.holds.caused; written_off = s.holds.written_off; housed = s.holds.housed; routed = s.holds.routed; managed = s.holds.managed; connected = s.holds.connected };
 }
 
 pub sends_at : (o : Option ℕ) (d : Dif) (lines : List Direction) (below : Seen) (at : ℕ) (sdu : List ℕ) (r : Result Num SendError) (d' : Dif) → o ≡ Some at → Sends d lines below at sdu r d' → SendsAt o d lines below sdu r d'

@@ -19,7 +19,7 @@ use Rattle.rina_data.specs.declared.step.Took.TheVariants as took
 use Rattle.rina_data.specs.Hops.{Hop}
 use Rattle.rina_data.specs.Deciding.{Decides, IsRouted, process_of, queue_settings}
 use Rattle.rina_dif_law.specs.Dif.{DifSeen, IsProcess, with_process}
-use Rattle.rina_data.specs.Configs.{Member}
+use Rattle.rina_data.specs.Configs.{Member, config_of}
 use Rattle.rina_data.specs.Process.{Process, with_offs}
 use Rattle.rina_dif_law.specs.Incoming.{Settles}
 use Rattle.rina_data.specs.Queueing.{Notes}
@@ -38,6 +38,9 @@ use Rattle.rina_dif.specs.Shown.{seen_of}
 use Rattle.rina_dif.specs.Taking.{ArrivesTo, Comes, DecidesAt, IsNoted, NotesAt, RoutesAt, SettlesFor}
 use Rattle.rina_dif.proofs.Keeping.{AreHome, IsSameHouse, home_set, house_is, same_house, same_places}
 use Rattle.rina_dif.proofs.Leaves.{has_process, shown_at, stepped}
+use Rattle.rina_channel.specs.Changes.{LeavesLinks}
+use Rattle.rina_dif.specs.Connected.{AreConnected}
+use Rattle.rina_dif.proofs.Connected.{decides_leave, kept_by, no_hop}
 
 same_some : {X : Type 0} (o : Option X) (a b : X) → o ≡ Some a → o ≡ Some b → a ≡ b
 same_some o a b h g = cc
@@ -115,6 +118,7 @@ holds_unseen d ps lines below same house h = record {
   housed = house.housed;
   routed = house.routed;
   managed = house.managed;
+  connected = subst (λ (z : DifSeen). AreConnected (config_of d.settings) d.clock d.connections z.processes below) (sym same) h.connected;
 }
 
 pub unseen : (d : Dif) (at : ℕ) (p p' : IpcProcess) (ps : List IpcProcess) → slice_get d.processes at ≡ Some p → process_of p' ≡ process_of p → ps ≡ slice_set d.processes at p' → seen_of (record d { processes = ps }) ≡ seen_of d
@@ -158,6 +162,7 @@ decided d addr at since hop s end ps lt is_addr settles decides lines below h th
       housed = house.housed;
       routed = house.routed;
       managed = house.managed;
+      connected = λ down. kept_by (config_of d.settings) d.clock d.connections (seen_of d).processes (map process_of ps) down (λ may. subst (λ (z : DifSeen). LeavesLinks (seen_of d).processes z.processes) (sym (stepped d at x.0 ps x.3)) (decides_leave p.0.queues.cap d.clock addr (seen_of d).processes at (process_of p.0) since hop (Ok s) (process_of x.0) (shown_at d at p.0 p.1) (no_hop (config_of d.settings) d.settings.members d.laid.links d.processes at p.0 refl h.standing.aligned may.zero h.routed p.1) x.1));
     }
 
 pub decided_relayed : (d : Dif) (addr at since : ℕ) (hop : Hop) (ps : List IpcProcess) → at < length d.settings.members → ((member : Member) → slice_get (seen_of d).config.members at ≡ Some member → addr ≡ member.addr) → DecidesAt d.clock addr since hop (Ok decision.Relayed) at d.processes ps → SettlesFor d at since hop (Ok took.Relayed) (record d { processes = ps })

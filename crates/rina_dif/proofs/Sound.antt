@@ -22,7 +22,8 @@ use Rattle.rina_dif_law.specs.Cloud.{IsMine}
 use Rattle.rina_data.specs.Configs.{Member, config_of, member_of as config_member}
 use Rattle.rina_dif_law.specs.Numbered.{AreMembers}
 use Rattle.rina_dif_law.specs.Standing.{IsConfig}
-use Rattle.rina_dif.specs.Planned.{ipc_name, members_from, node_name, processes_before, settings_by}
+use Rattle.rina_data.specs.declared.settings.Member.{Member as Kept}
+use Rattle.rina_dif.specs.Planned.{ipc_name, member_of, members_from, node_name, processes_before, settings_by}
 
 -- Tests
 
@@ -95,6 +96,22 @@ unfolding has_unfit_link
 all_crossed wires difs d k l none is = any_false (is_unfit_link wires difs d) d.links k l none is
 
 -- both ends of a link are IPC processes of the DIF
+-- a member stands at a node
+abbrev pub HasNode : Plan → DifPlan → ℕ → Type 0
+HasNode plan d node = list_any (λ (m : MemberPlan). m.node == node) d.members ≡ true
+
+pub node_there : (plan : Plan) (d : DifPlan) (n node : ℕ) (ms : List MemberPlan) → list_any (λ (m : MemberPlan). m.node == node) ms ≡ true → (k : ℕ) × (m : Kept) × (slice_get (members_from plan d n ms) k ≡ Some m) × (m.node ≡ node)
+node_there plan d n node [] h = absurd cc
+node_there plan d n node (m ∷ ms) h = elim (eqb_tells m.node node) [
+  | inl t ↦ (zero, member_of plan d n m, refl, t.1)
+  | inr u ↦ (let later = node_there plan d (n + 1) node ms (rw u.0 at h) in (suc later.0, later.1, later.2, later.3))
+]
+
+pub link_nodes : (plan : Plan) (i : ℕ) (d : DifPlan) (k : ℕ) (l : LinkPlan) → IsPlan plan → slice_get plan.difs i ≡ Some d → slice_get d.links k ≡ Some l → HasNode plan d l.a × HasNode plan d l.b
+link_nodes plan i d k l sound at is =
+    let none = all_at (λ (z : DifPlan). has_unfit_link (map wire_ends plan.wires) plan.difs z ≡ false) plan.difs i d sound.links at in
+    crossed (map wire_ends plan.wires) plan.difs d l (all_crossed (map wire_ends plan.wires) plan.difs d k l none is)
+
 pub link_mine : (plan : Plan) (i : ℕ) (d : DifPlan) (k : ℕ) (l : LinkPlan) → IsPlan plan → slice_get plan.difs i ≡ Some d → slice_get d.links k ≡ Some l → IsMine (config_of (settings_by plan i d)).members (ipc_name plan d l.a) × IsMine (config_of (settings_by plan i d)).members (ipc_name plan d l.b)
 link_mine plan i d k l sound at is =
     let none = all_at (λ (z : DifPlan). has_unfit_link (map wire_ends plan.wires) plan.difs z ≡ false) plan.difs i d sound.links at in

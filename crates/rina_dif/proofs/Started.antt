@@ -1,26 +1,24 @@
 -- The managements of the members of a DIF as they start.
 use Rattle.std.proofs.Common.{◌≡◌, ◌∙◌, ℕ, zero, suc, ◌+◌, ◌*◌, ◌<◌, ◌≤◌, ◌^◌, ◌==◌, ◌&&◌, ◌||◌, Bool, true, false, cond, All, List, [], ◌∷◌, ◌++◌, get_or, length, map, slice_get, Option, Some, None, option_map, refl, sym, ap, subst, arith, inl, inr}
 use Rattle.std.specs.Prelude.{◌≢◌, Contains, count_by, filter, flat_map}
-use Rattle.std.specs.List.{cons_option, filter_map}
-use Rattle.std.proofs.lemmas.Bool.Decides.{eqb_tells}
+use Rattle.std.specs.List.{cons_option}
 use Rattle.std.proofs.lemmas.Bool.{false≢true}
 use Rattle.std.proofs.lemmas.List.{length-map}
-use Rattle.std.proofs.lemmas.List.Elements.{All-from_get_or}
 use Rattle.std.proofs.lemmas.List.Sums.{sum_by-cons}
 use Rattle.std.proofs.lemmas.Option.{get_or_from_slice_get, slice_get-get_or, slice_get-map, slice_get_within}
 use Rattle.rina_access.specs.declared.rules.Rule.{Rule}
 use Rattle.rina_access.specs.declared.rules.Rules.{Rules}
+use Rattle.rina_member.specs.declared.management.Management.{Management}
 use Rattle.rina_agent.specs.declared.agent.Agent.{Agent}
 use Rattle.rina_base.specs.declared.number.Port.{Port}
+use Rattle.rina_cube.specs.declared.Cube.{Cube}
 use Rattle.rina_graph.specs.declared.graph.Edge.{Edge}
 use Rattle.rina_graph.specs.Walks.{IsWalk}
-use Rattle.rina_iface.specs.declared.ask.Fixed.{Fixed}
 use Rattle.rina_iface.specs.Seen.{Seen}
 use Rattle.rina_iface.proofs.Changed.{all_at}
 use Rattle.rina_iface.proofs.Grown.{pushed_at}
-use Rattle.rina_newest.specs.declared.item.Item.{Item}
 use Rattle.rina_route.specs.declared.link.Link.{Link as Hop}
-use Rattle.rina_route.specs.Routes.{AreHops, AreRoutes, claims_of, counted, counts, has_link, is_claimed, is_up, turned}
+use Rattle.rina_route.specs.Routes.{AreHops, AreRoutes, claims_of, counted, counts, is_claimed, is_up, turned}
 use Rattle.rina_pci.specs.Spelling.{IsWidth}
 use Rattle.rina_plan.specs.declared.dif.DifPlan.{DifPlan}
 use Rattle.rina_plan.specs.declared.dif.LinkPlan.{LinkPlan}
@@ -29,24 +27,25 @@ use Rattle.rina_plan.specs.Counts.{IsRoomy, has_link_end, links_of as all_links}
 use Rattle.rina_plan.specs.Kept.{AreApart}
 use Rattle.rina_stack.specs.declared.plan.Plan.{Plan}
 use Rattle.rina_stack.specs.Plan.{IsPlan}
-use Rattle.rina_stack.specs.Ranges.{IsRangedDif, IsSoundLink}
+use Rattle.rina_stack.specs.Ranges.{IsRangedDif}
 use Rattle.rina_data.specs.declared.link.Link.{Link}
 use Rattle.rina_data.specs.declared.link.Route.{Route}
 use Rattle.rina_data.specs.declared.process.IpcProcess.{IpcProcess}
 use Rattle.rina_data.specs.declared.settings.Member.{Member as Kept}
 use Rattle.rina_data.specs.declared.settings.Settings.{Settings}
-use Rattle.rina_data.specs.Configs.{Config, Member, config_of, member_of}
+use Rattle.rina_data.specs.Configs.{config_of, member_of}
 use Rattle.rina_data.proofs.Finding.{there}
 use Rattle.rina_dif_law.specs.Numbered.{AreMembers}
 use Rattle.rina_dif_law.specs.Standing.{IsConfig}
 use Rattle.rina_member.specs.Knowing.{AreLive, AreNumbered, AreRoutesOf, IsLaidOut, Knows, hops_of}
-use Rattle.rina_member.specs.Routing.{edge_back, edge_from, edge_there, edges_from, route_to, routes_to}
-use Rattle.rina_member.specs.Start.{started}
+use Rattle.rina_member.specs.Routing.{edge_back, edge_there, edges_from, routes_to}
+use Rattle.rina_member.specs.Objects.{first_objects}
+use Rattle.rina_member.specs.Start.{items_held, started}
 use Rattle.rina_member.proofs.Knowing.{starts_knowing}
 use Rattle.rina_dif.specs.declared.dif.Dif.{Dif}
 use Rattle.rina_dif.specs.Building.{AreBare}
 use Rattle.rina_dif.specs.Laying.{AreLaid, BindsAll, ends_of, links_from, ports_at}
-use Rattle.rina_dif.specs.Managing.{AreManaged, AreManagedBy, AreStarted, IsManaged, IsStarted}
+use Rattle.rina_dif.specs.Managing.{AreManagedBy, AreStarted, IsManaged, IsStarted}
 use Rattle.rina_dif.specs.Planned.{link_fixed, processes_before, settings_by}
 use Rattle.rina_dif.specs.Routing.{AreRouted}
 use Rattle.rina_dif.proofs.Managed.{is_among}
@@ -57,40 +56,40 @@ same_some xs k a b h f = cc
 
 -- One after the other
 
-pub none_started : (members : List Kept) (plans : List LinkPlan) (rules : List Rule) (allow : Bool) (processes : List IpcProcess) → AreStarted members plans rules allow 0 processes []
-none_started members plans rules allow processes = record { aligned = refl; each = λ k m p g is here at. absurd (none k g at) }
+pub none_started : (cubes : List Cube) (members : List Kept) (plans : List LinkPlan) (rules : List Rule) (allow : Bool) (processes : List IpcProcess) → AreStarted cubes members plans rules allow 0 processes []
+none_started cubes members plans rules allow processes = record { aligned = refl; each = λ k m p g is here at. absurd (none k g at) }
   where
-    none : (k : ℕ) (g : Agent) → slice_get [] k ≡ Some g → ⊥
+    none : (k : ℕ) (g : Management) → slice_get [] k ≡ Some g → ⊥
     none k g at = absurd cc
 
-next_started : (members : List Kept) (plans : List LinkPlan) (rules : List Rule) (allow : Bool) (at : ℕ) (processes : List IpcProcess) (agents : List Agent) (m : Kept) (p : IpcProcess) (access : Rules) (g : Agent) → AreStarted members plans rules allow at processes agents → slice_get members at ≡ Some m → slice_get processes at ≡ Some p → IsStarted members plans rules allow m p.links g
-    → AreStarted members plans rules allow (at + 1) processes (agents ++ g ∷ [])
-next_started members plans rules allow at processes agents m p access g so is_m is_p one = record {
-  aligned = (let e = so.aligned in length_push agents g ∙ omega (arith, e));
-  each = λ k x q y is_x is_q is_y. elim (pushed_at agents g k y is_y) [
+next_started : (cubes : List Cube) (members : List Kept) (plans : List LinkPlan) (rules : List Rule) (allow : Bool) (at : ℕ) (processes : List IpcProcess) (managements : List Management) (m : Kept) (p : IpcProcess) (access : Rules) (g : Management) → AreStarted cubes members plans rules allow at processes managements → slice_get members at ≡ Some m → slice_get processes at ≡ Some p → IsStarted cubes members plans rules allow m p.links g
+    → AreStarted cubes members plans rules allow (at + 1) processes (managements ++ g ∷ [])
+next_started cubes members plans rules allow at processes managements m p access g so is_m is_p one = record {
+  aligned = (let e = so.aligned in length_push managements g ∙ omega (arith, e));
+  each = λ k x q y is_x is_q is_y. elim (pushed_at managements g k y is_y) [
     | inl before ↦ so.each k x q y is_x is_q before
     | inr last ↦
         (let k_is : k ≡ at = last.0 ∙ so.aligned in
         let x_is : x ≡ m = same_some members at x m (ap (slice_get members) (sym k_is) ∙ is_x) is_m in
         let q_is : q ≡ p = same_some processes at q p (ap (slice_get processes) (sym k_is) ∙ is_q) is_p in
-        subst (λ (z : Agent). IsStarted members plans rules allow x q.links z) (sym last.1) (subst (λ (z : Kept). IsStarted members plans rules allow z q.links g) (sym x_is) (subst (λ (z : IpcProcess). IsStarted members plans rules allow m z.links g) (sym q_is) one)))
+        subst (λ (z : Management). IsStarted cubes members plans rules allow x q.links z) (sym last.1) (subst (λ (z : Kept). IsStarted cubes members plans rules allow z q.links g) (sym x_is) (subst (λ (z : IpcProcess). IsStarted cubes members plans rules allow m z.links g) (sym q_is) one)))
   ];
 }
   where
-    length_push : (xs : List Agent) (x : Agent) → length (xs ++ x ∷ []) ≡ length xs + 1
+    length_push : (xs : List Management) (x : Management) → length (xs ++ x ∷ []) ≡ length xs + 1
     length_push [] x = refl
     length_push (y ∷ ys) x = (let rest = length_push ys x in omega (arith, rest))
 
 -- as the code makes them
-pub turn_started : (members : List Kept) (plans : List LinkPlan) (rules : List Rule) (allow : Bool) (at : ℕ) (processes : List IpcProcess) (agents agents' : List Agent) (m : Kept) (p : IpcProcess) (links : List Link) (access : Rules) (g : Agent) → AreStarted members plans rules allow at processes agents → at < length members → m ≡ get_or members at m → slice_get processes at ≡ Some p → links ≡ p.links
-    → access.rules ≡ rules → access.default ≡ allow → g ≡ started members plans access m links → agents' ≡ agents ++ g ∷ [] → AreStarted members plans rules allow (at + 1) processes agents'
-turn_started members plans rules allow at processes agents agents' m p links access g so lt is_m is_p links_are rules_are default_is is new =
+pub turn_started : (cubes : List Cube) (members : List Kept) (plans : List LinkPlan) (rules : List Rule) (allow : Bool) (at : ℕ) (processes : List IpcProcess) (managements managements' : List Management) (m : Kept) (p : IpcProcess) (links : List Link) (access : Rules) (g : Management) → AreStarted cubes members plans rules allow at processes managements → at < length members → m ≡ get_or members at m → slice_get processes at ≡ Some p → links ≡ p.links
+    → access.rules ≡ rules → access.default ≡ allow → g.agent ≡ started members plans access m links → g.objects ≡ first_objects cubes (items_held members plans) → managements' ≡ managements ++ g ∷ [] → AreStarted cubes members plans rules allow (at + 1) processes managements'
+turn_started cubes members plans rules allow at processes managements managements' m p links access g so lt is_m is_p links_are rules_are default_is is shows new =
     let here : slice_get members at ≡ Some m = slice_get-get_or members at m lt ∙ ap (λ (x : Kept). Some x) (sym is_m) in
-    let one : IsStarted members plans rules allow m p.links g = record { access = access; rules_are = rules_are; default_is = default_is; is = is ∙ ap (started members plans access m) links_are } in
-    subst (AreStarted members plans rules allow (at + 1) processes) (sym new) (next_started members plans rules allow at processes agents m p access g so here is_p one)
+    let one : IsStarted cubes members plans rules allow m p.links g = record { access = access; rules_are = rules_are; default_is = default_is; is = is ∙ ap (started members plans access m) links_are; shows = shows } in
+    subst (AreStarted cubes members plans rules allow (at + 1) processes) (sym new) (next_started cubes members plans rules allow at processes managements m p access g so here is_p one)
 
-pub all_started : (members : List Kept) (plans : List LinkPlan) (rules : List Rule) (allow : Bool) (at : ℕ) (processes : List IpcProcess) (agents : List Agent) → length members ≤ at → at ≤ length members → AreStarted members plans rules allow at processes agents → AreStarted members plans rules allow (length members) processes agents
-all_started members plans rules allow at processes agents le ge so = (let same : at ≡ length members = omega (arith, le, ge) in subst (λ (n : ℕ). AreStarted members plans rules allow n processes agents) same so)
+pub all_started : (cubes : List Cube) (members : List Kept) (plans : List LinkPlan) (rules : List Rule) (allow : Bool) (at : ℕ) (processes : List IpcProcess) (managements : List Management) → length members ≤ at → at ≤ length members → AreStarted cubes members plans rules allow at processes managements → AreStarted cubes members plans rules allow (length members) processes managements
+all_started cubes members plans rules allow at processes managements le ge so = (let same : at ≡ length members = omega (arith, le, ge) in subst (λ (n : ℕ). AreStarted cubes members plans rules allow n processes managements) same so)
 
 -- The members and links of a DIF
 
@@ -193,20 +192,20 @@ no_link : (k : ℕ) (link : Link) → slice_get [] k ≡ Some link → ⊥
 no_link k link is = absurd cc
 
 -- a management without links knows all that there is to know of them
-bare_one : (s : Settings) (now : ℕ) (rules : List Rule) (allow : Bool) (m : Kept) (p : IpcProcess) (g : Agent) → IsLaidOut s.members [] → Contains s.members m → p.links ≡ [] → p.routes ≡ [] → IsStarted s.members [] rules allow m p.links g → IsManaged s.members [] now m p g
+bare_one : (s : Settings) (now : ℕ) (rules : List Rule) (allow : Bool) (m : Kept) (p : IpcProcess) (g : Management) → IsLaidOut s.members [] → Contains s.members m → p.links ≡ [] → p.routes ≡ [] → IsStarted s.cubes s.members [] rules allow m p.links g → IsManaged s.members [] now m p g
 bare_one s now rules allow m p g laid among links routes one =
-    let is : g ≡ started s.members [] one.access m [] = one.is ∙ ap (started s.members [] one.access m) links in
+    let is : g.agent ≡ started s.members [] one.access m [] = one.is ∙ ap (started s.members [] one.access m) links in
     let knows : Knows s.members [] now m [] (started s.members [] one.access m []) = starts_knowing s.members [] one.access m [] now laid among (λ k link at. absurd (no_link k link at)) (λ k link at. absurd (no_link k link at)) (omega arith) (omega arith) in
     record {
-      knows = subst (λ (ls : List Link). Knows s.members [] now m ls g) (sym links) (subst (Knows s.members [] now m []) (sym is) knows);
-      routes = subst (AreRoutesOf g s.members) (sym routes) (none_of g s.members (ap (λ (z : Agent). hops_of z.links) is ∙ no_links s.members [] one.access m));
+      knows = subst (λ (ls : List Link). Knows s.members [] now m ls g.agent) (sym links) (subst (Knows s.members [] now m []) (sym is) knows);
+      routes = subst (AreRoutesOf g.agent s.members) (sym routes) (none_of g.agent s.members (ap (λ (z : Agent). hops_of z.links) is ∙ no_links s.members [] one.access m));
     }
 
-pub bare_managed : (s : Settings) (plans : List LinkPlan) (rules : List Rule) (allow : Bool) (now : ℕ) (ps : List IpcProcess) (agents : List Agent) → plans ≡ [] → AreBare s ps → IsConfig (config_of s) → AreMembers (config_of s) → AreStarted s.members plans rules allow (length s.members) ps agents → AreManagedBy s.members plans now ps agents
-bare_managed s plans rules allow now ps agents none bare config members so =
+pub bare_managed : (s : Settings) (plans : List LinkPlan) (rules : List Rule) (allow : Bool) (now : ℕ) (ps : List IpcProcess) (managements : List Management) → plans ≡ [] → AreBare s ps → IsConfig (config_of s) → AreMembers (config_of s) → AreStarted s.cubes s.members plans rules allow (length s.members) ps managements → AreManagedBy s.members plans now ps managements
+bare_managed s plans rules allow now ps managements none bare config members so =
     let laid : IsLaidOut s.members [] = laid_out s [] config members (λ k d lt. absurd (omega (arith, lt))) in
-    let so' : AreStarted s.members [] rules allow (length s.members) ps agents = subst (λ (ls : List LinkPlan). AreStarted s.members ls rules allow (length s.members) ps agents) none so in
-    subst (λ (ls : List LinkPlan). AreManagedBy s.members ls now ps agents) (sym none) (record {
+    let so' : AreStarted s.cubes s.members [] rules allow (length s.members) ps managements = subst (λ (ls : List LinkPlan). AreStarted s.cubes s.members ls rules allow (length s.members) ps managements) none so in
+    subst (λ (ls : List LinkPlan). AreManagedBy s.members ls now ps managements) (sym none) (record {
       laid_out = laid;
       aligned = so'.aligned;
       each = λ k m p g is_m is_p is_g. (let b = bare.each k p is_p in bare_one s now rules allow m p g laid (is_among s.members k m is_m) b.links b.routes (so'.each k m p g is_m is_p is_g));
@@ -305,9 +304,9 @@ few_links plan i dif k m ports old new sound at is b =
 -- The managements of a DIF of a plan
 
 -- each was made of the links that were laid, and then the next hops were read from it
-pub made_managed : (plan : Plan) (i : ℕ) (dif : DifPlan) (d : Dif) (old new : Seen) (linked : List IpcProcess) → IsPlan plan → slice_get plan.difs i ≡ Some dif → d.settings ≡ settings_by plan i dif → IsConfig (config_of d.settings) → AreMembers (config_of d.settings) → AreLaid plan dif d.settings dif.links old new linked
-    → AreStarted d.settings.members dif.links dif.rules dif.allow (length d.settings.members) linked d.agents → AreRouted d.settings.members d.agents (length d.agents) linked d.processes → AreManagedBy d.settings.members dif.links d.clock d.processes d.agents
-made_managed plan i dif d old new linked sound at are config members laid so routed =
+pub made_managed : (plan : Plan) (i : ℕ) (dif : DifPlan) (d : Dif) (old new : Seen) (laid_ports : List (Port × Port)) (linked : List IpcProcess) → IsPlan plan → slice_get plan.difs i ≡ Some dif → d.settings ≡ settings_by plan i dif → IsConfig (config_of d.settings) → AreMembers (config_of d.settings) → AreLaid plan dif d.settings dif.links old new laid_ports linked
+    → AreStarted d.settings.cubes d.settings.members dif.links dif.rules dif.allow (length d.settings.members) linked d.managements → AreRouted d.settings.members d.managements (length d.managements) linked d.processes → AreManagedBy d.settings.members dif.links d.clock d.processes d.managements
+made_managed plan i dif d old new laid_ports linked sound at are config members laid so routed =
     let out : IsLaidOut d.settings.members dif.links = laid_out d.settings dif.links config members (weighs plan i dif sound at) in
     record {
       laid_out = out;
@@ -316,31 +315,31 @@ made_managed plan i dif d old new linked sound at are config members laid so rou
           let q = routed.same k p is_p in
           let up = laid.up.each k m q.0 is_m q.2 in
           let one = so.each k m q.0 g is_m q.2 is_g in
-          let ports = ports_at m.node (ends_of laid.ports) in
+          let ports = ports_at m.node (ends_of laid_ports) in
           let links : p.links ≡ links_from 0 ports = ap (λ (z : IpcProcess). z.links) q.3 ∙ up.links in
-          let is : g ≡ started d.settings.members dif.links one.access m (links_from 0 ports) = one.is ∙ ap (started d.settings.members dif.links one.access m) up.links in
+          let is : g.agent ≡ started d.settings.members dif.links one.access m (links_from 0 ports) = one.is ∙ ap (started d.settings.members dif.links one.access m) up.links in
           let count = length_from 0 ports in
-          let all : length (edges_from d.settings.members m.node dif.links) ≤ length ports = enough plan dif d.settings.members m.node dif.links laid.ports old new laid.bound in
-          let most : length ports ≤ 32 = few_links plan i dif k m laid.ports old new sound at (ap (λ (s : Settings). slice_get s.members k) (sym are) ∙ is_m) laid.bound in
+          let all : length (edges_from d.settings.members m.node dif.links) ≤ length ports = enough plan dif d.settings.members m.node dif.links laid_ports old new laid.bound in
+          let most : length ports ≤ 32 = few_links plan i dif k m laid_ports old new sound at (ap (λ (s : Settings). slice_get s.members k) (sym are) ∙ is_m) laid.bound in
           let knows : Knows d.settings.members dif.links d.clock m (links_from 0 ports) (started d.settings.members dif.links one.access m (links_from 0 ports)) =
           starts_knowing d.settings.members dif.links one.access m (links_from 0 ports) d.clock out (is_among d.settings.members k m is_m) (are_numbered ports) (are_live ports) (omega (arith, all, count)) (omega (arith, most, count)) in
-          let within = slice_get_within d.agents k g is_g in
+          let within = slice_get_within d.managements k g is_g in
           record {
-            knows = subst (λ (ls : List Link). Knows d.settings.members dif.links d.clock m ls g) (sym links) (subst (Knows d.settings.members dif.links d.clock m (links_from 0 ports)) (sym is) knows);
+            knows = subst (λ (ls : List Link). Knows d.settings.members dif.links d.clock m ls g.agent) (sym links) (subst (Knows d.settings.members dif.links d.clock m (links_from 0 ports)) (sym is) knows);
             routes = routed.routes k g p within is_g is_p;
           };
     }
 
 -- they are as they started
-pub started_still : (members : List Kept) (plans : List LinkPlan) (rules : List Rule) (allow : Bool) (linked ps : List IpcProcess) (agents : List Agent) → AreStarted members plans rules allow (length members) linked agents → AreRouted members agents (length agents) linked ps → AreStarted members plans rules allow (length members) ps agents
-started_still members plans rules allow linked ps agents so routed = record {
+pub started_still : (cubes : List Cube) (members : List Kept) (plans : List LinkPlan) (rules : List Rule) (allow : Bool) (linked ps : List IpcProcess) (managements : List Management) → AreStarted cubes members plans rules allow (length members) linked managements → AreRouted members managements (length managements) linked ps → AreStarted cubes members plans rules allow (length members) ps managements
+started_still cubes members plans rules allow linked ps managements so routed = record {
   aligned = so.aligned;
   each = λ k m p g is_m is_p is_g.
       let q = routed.same k p is_p in
-      subst (λ (z : IpcProcess). IsStarted members plans rules allow m z.links g) (sym q.3) (so.each k m q.0 g is_m q.2 is_g);
+      subst (λ (z : IpcProcess). IsStarted cubes members plans rules allow m z.links g) (sym q.3) (so.each k m q.0 g is_m q.2 is_g);
 }
 
 -- seen otherwise
-pub same_started : (members members' : List Kept) (plans plans' : List LinkPlan) (rules rules' : List Rule) (allow : Bool) (processes : List IpcProcess) (agents : List Agent) → members ≡ members' → plans ≡ plans' → rules ≡ rules' → AreStarted members plans rules allow (length members) processes agents → AreStarted members' plans' rules' allow (length members') processes agents
-same_started members members' plans plans' rules rules' allow processes agents m p r so =
-    subst (λ (ms : List Kept). AreStarted ms plans' rules' allow (length ms) processes agents) m (subst (λ (ls : List LinkPlan). AreStarted members ls rules' allow (length members) processes agents) p (subst (λ (rs : List Rule). AreStarted members plans rs allow (length members) processes agents) r so))
+pub same_started : (cubes cubes' : List Cube) (members members' : List Kept) (plans plans' : List LinkPlan) (rules rules' : List Rule) (allow : Bool) (processes : List IpcProcess) (managements : List Management) → cubes ≡ cubes' → members ≡ members' → plans ≡ plans' → rules ≡ rules' → AreStarted cubes members plans rules allow (length members) processes managements → AreStarted cubes' members' plans' rules' allow (length members') processes managements
+same_started cubes cubes' members members' plans plans' rules rules' allow processes managements c m p r so =
+    subst (λ (cs : List Cube). AreStarted cs members' plans' rules' allow (length members') processes managements) c (subst (λ (ms : List Kept). AreStarted cubes ms plans' rules' allow (length ms) processes managements) m (subst (λ (ls : List LinkPlan). AreStarted cubes members ls rules' allow (length members) processes managements) p (subst (λ (rs : List Rule). AreStarted cubes members plans rs allow (length members) processes managements) r so)))

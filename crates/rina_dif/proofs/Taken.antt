@@ -43,6 +43,7 @@ use Rattle.rina_dif.specs.Steps.{AtHome}
 use Rattle.rina_dif.specs.Taking.{HasSettled, InsAt, IsThere, TakesHome, TakesIn}
 use Rattle.rina_dif.proofs.Causing.{ins_caused}
 use Rattle.rina_dif.proofs.Leaves.{shown_at}
+use Rattle.rina_dif.proofs.Connected.{taking_connected}
 
 -- What waits
 
@@ -137,6 +138,7 @@ took_it d lines below at n p link tick bytes hop key end d' below' kept kept' lt
         housed = s.housed;
         routed = s.routed;
         managed = s.managed;
+        connected = taking_connected (config_of d'.settings) d'.clock d'.connections (seen_of d').processes below link.port below' kept kept' passed (s.connected below h.connected);
       };
     }
 
@@ -161,7 +163,7 @@ takes_home d lines below node n at r r' d' failed below' here same t =
     record {
       lines' = t.lines';
       does = subst (λ (v : Result InStep StepError). InsAt (seen_of d) lines below node n v (seen_of d') t.lines' below') (sym same) does;
-      holds = record { tied = t.holds.tied; standing = t.holds.standing; carrying = t.holds.carrying; numbered = t.holds.numbered; accounted = t.holds.accounted; caused = t.holds.caused; written_off = t.holds.written_off; housed = t.holds.housed; routed = t.holds.routed; managed = t.holds.managed };
+      holds = record { tied = t.holds.tied; standing = t.holds.standing; carrying = t.holds.carrying; numbered = t.holds.numbered; accounted = t.holds.accounted; caused = t.holds.caused; written_off = t.holds.written_off; housed = t.holds.housed; routed = t.holds.routed; managed = t.holds.managed; connected = t.holds.connected };
     }
 
 pub takes_none : (d : Dif) (lines : List Direction) (below : Seen) (node n : ℕ) → Holds d lines below → TakesHome d lines below node n (Err Memory) d below

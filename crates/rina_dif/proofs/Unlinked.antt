@@ -3,7 +3,7 @@ use Rattle.std.proofs.Common.{◌≡◌, ◌∙◌, ℕ, ◌<◌, ◌==◌, ◌&
 use Rattle.std.specs.Prelude.{IsSome, OnErr, OnOk, position}
 use Rattle.std.proofs.lemmas.Bool.{false≢true}
 use Rattle.std.proofs.lemmas.Option.{slice_get_read, slice_get_within}
-use Rattle.rina_agent.specs.declared.agent.Agent.{Agent}
+use Rattle.rina_member.specs.declared.management.Management.{Management}
 use Rattle.rina_agent.specs.Rows.{lost as loses_link}
 use Rattle.rina_agent.specs.Counts.{spent}
 use Rattle.rina_base.specs.declared.memory.Memory.{Memory}
@@ -32,16 +32,17 @@ use Rattle.rina_dif.specs.declared.dif.Dif.{Dif}
 use Rattle.rina_dif.specs.Holding.{AreHoused, HasQueues, HaveQueues, Holds, IsHoused, Stands}
 use Rattle.rina_member.specs.Knowing.{AreRoutesOf}
 use Rattle.rina_member.specs.Routing.{KnowsLive}
-use Rattle.rina_dif.specs.Managing.{IsWithout, LosesManaged}
 use Rattle.rina_dif.specs.Routing.{HaveRoutes}
 use Rattle.rina_dif.specs.Shown.{seen_of}
 use Rattle.rina_dif.specs.Unlinking.{FailsWith, FindsLostAt, FindsNoneLeft, LosesAs, LosesIn, LosesLink, LosesOr, LosesWith, links_without}
 use Rattle.rina_dif.proofs.Causing.{process_caused}
 use Rattle.rina_dif.proofs.Keeping.{home_set, house_is, position_map, routes_set, same_house, set_cases}
 use Rattle.rina_dif.proofs.Leaves.{has_process, shown_at, stepped}
-use Rattle.rina_dif.proofs.Managed.{IsLoss, its_agent, loss_known, managed_lost}
+use Rattle.rina_dif.proofs.Managed.{IsLoss, IsWithout, its_agent, loss_known, managed_lost}
 use Rattle.rina_dif.proofs.Routed.{live_hop}
 use Rattle.rina_dif.proofs.Settling.{holds_unseen, unseen}
+use Rattle.rina_channel.proofs.Leaving.{losing_leaves}
+use Rattle.rina_dif.proofs.Connected.{kept_by}
 
 same_some : {X : Type 0} (o : Option X) (a b : X) → o ≡ Some a → o ≡ Some b → a ≡ b
 same_some o a b h g = cc
@@ -120,8 +121,8 @@ pub record HasLost (d : Dif) (lines : List Direction) (below : Seen) (at place n
   pub port_is : loses.loses.link.port ≡ link.port
   pub holds : Holds d' lines below
 
-pub link_lost : (d : Dif) (lines : List Direction) (below : Seen) (at : ℕ) (lost : Lost) (routes : List Route) (member : Member) (p p' : IpcProcess) (g g' : Agent) → slice_get d.settings.members at ≡ Some member → slice_get d.processes at ≡ Some p → slice_get d.agents at ≡ Some g → loses_link g d.clock lost.number ≡ Ok g' → AreRoutesOf g' d.settings.members routes
-    → LosesAt lost.place routes (process_of p) (process_of p') → queue_settings p' ≡ queue_settings p → Holds d lines below → FindsLostAt d below at (Some lost) → HasLost d lines below at lost.place lost.number (record d { processes = slice_set d.processes at p'; agents = slice_set d.agents at g' })
+pub link_lost : (d : Dif) (lines : List Direction) (below : Seen) (at : ℕ) (lost : Lost) (routes : List Route) (member : Member) (p p' : IpcProcess) (g g' : Management) → slice_get d.settings.members at ≡ Some member → slice_get d.processes at ≡ Some p → slice_get d.managements at ≡ Some g → loses_link g.agent d.clock lost.number ≡ Ok g'.agent → AreRoutesOf g'.agent d.settings.members routes
+    → LosesAt lost.place routes (process_of p) (process_of p') → queue_settings p' ≡ queue_settings p → Holds d lines below → FindsLostAt d below at (Some lost) → HasLost d lines below at lost.place lost.number (record d { processes = slice_set d.processes at p'; managements = slice_set d.managements at g' })
 link_lost d lines below at lost routes member p p' g g' is_member is is_g goes are loses room h finds =
     let f = finds p is in
     let link : Link = f.0 in
@@ -129,10 +130,10 @@ link_lost d lines below at lost routes member p p' g g' is_member is is_g goes a
     let new = loses link there in
     let members = d.settings.members in
     let plans = d.laid.links in
-    let loss : IsLoss d.clock members g g' link routes = record { loses = subst (λ (n : ℕ). loses_link g d.clock n ≡ Ok g') f.2 goes; routes = are } in
-    let known : KnowsLive members plans member (links_without p.links lost.place link) routes = loss_known members plans d.clock d.processes d.agents at member p g g' lost.place link routes h.managed is_member is is_g there f.1.lost.live loss in
+    let loss : IsLoss d.clock members g g' link routes = record { loses = subst (λ (n : ℕ). loses_link g.agent d.clock n ≡ Ok g'.agent) f.2 goes; routes = are } in
+    let known : KnowsLive members plans member (links_without p.links lost.place link) routes = loss_known members plans d.clock d.processes d.managements at member p g g' lost.place link routes h.managed is_member is is_g there f.1.lost.live loss in
     let ps : List IpcProcess = slice_set d.processes at p' in
-    let mid : Dif = record d { processes = ps; agents = slice_set d.agents at g' } in
+    let mid : Dif = record d { processes = ps; managements = slice_set d.managements at g' } in
     let d' : DifSeen = seen_of mid in
     let gone : Loses (seen_of d) below at lost.number routes d' = record { process = process_of p; is_process = shown_at d at p is; place = lost.place; link = link; first = f.1; number_is = f.2; new_is = stepped d at p' ps refl ∙ ap (with_process (seen_of d) at) new } in
     record {
@@ -153,7 +154,8 @@ link_lost d lines below at lost routes member p p' g g' is_member is is_g goes a
         written_off = lost_written (seen_of d) lines below at lost.number routes d' h.standing h.written_off gone;
         housed = housed_after (config_of d.settings) d.processes at p p' lost.place link routes members plans member h.housed is room there new known;
         routed = routed_after members plans d.processes at p p' lost.place link routes member h.routed is is_member new known;
-        managed = managed_lost members plans d.clock d.processes d.agents at member p p' g g' lost.place link routes h.managed is_member is is_g there f.1.lost.live loss (ap (λ (z : Process). z.links) new) (ap (λ (z : Process). z.routes) new);
+        managed = managed_lost members plans d.clock d.processes d.managements at member p p' g g' lost.place link routes h.managed is_member is is_g there f.1.lost.live loss (ap (λ (z : Process). z.links) new) (ap (λ (z : Process). z.routes) new);
+        connected = kept_by (config_of d.settings) d.clock d.connections (seen_of d).processes d'.processes below (λ may. losing_leaves (seen_of d) below at lost.number routes d' gone) h.connected;
       };
     }
 
@@ -176,31 +178,31 @@ pub has_member : (d : Dif) (at : ℕ) → at < length d.settings.members → (m 
 has_member d at lt = there d.settings.members at lt
 
 -- the management of a member of the DIF
-pub has_agent : (d : Dif) (lines : List Direction) (below : Seen) (at : ℕ) → at < length d.settings.members → Holds d lines below → (g : Agent) × (slice_get d.agents at ≡ Some g)
-has_agent d lines below at lt h = (let m = has_member d at lt in its_agent d.settings.members d.agents at m.0 h.managed.aligned m.1)
+pub has_agent : (d : Dif) (lines : List Direction) (below : Seen) (at : ℕ) → at < length d.settings.members → Holds d lines below → (g : Management) × (slice_get d.managements at ≡ Some g)
+has_agent d lines below at lt h = (let m = has_member d at lt in its_agent d.settings.members d.managements at m.0 h.managed.aligned m.1)
 
 -- it is there, and may make an item
-pub agent_within : (d : Dif) (below : Seen) (at : ℕ) → at < length d.settings.members → Stands d below → at < length d.agents
-agent_within d below at lt st = (let g = has_agent d st.0 below at lt st.1 in slice_get_within d.agents at g.0 g.1)
+pub agent_within : (d : Dif) (below : Seen) (at : ℕ) → at < length d.settings.members → Stands d below → at < length d.managements
+agent_within d below at lt st = (let g = has_agent d st.0 below at lt st.1 in slice_get_within d.managements at g.0 g.1)
 
-pub may_lose : (d : Dif) (below : Seen) (at : ℕ) (g : Agent) → at < length d.settings.members → Stands d below → slice_get d.agents at ≡ Some g → spent 1 g.last_count ≡ None
+pub may_lose : (d : Dif) (below : Seen) (at : ℕ) (g : Management) → at < length d.settings.members → Stands d below → slice_get d.managements at ≡ Some g → spent 1 g.agent.last_count ≡ None
 may_lose d below at g lt st is =
     let m = has_member d at lt in
     let p = has_process d below at st lt in
-    may_make d.settings.members d.laid.links d.clock m.0 p.0.links g (st.1.managed.each at m.0 p.0 g m.1 p.1 is).knows
+    may_make d.settings.members d.laid.links d.clock m.0 p.0.links g.agent (st.1.managed.each at m.0 p.0 g m.1 p.1 is).knows
 
 -- a link is lost, and no flow fails
-pub link_loses : (d : Dif) (at : ℕ) (lost : Lost) (g' : Agent) (routes : List Route) (ps : List IpcProcess) → at < length d.settings.members → IsWithout d at lost.number g' → AreRoutesOf g' d.settings.members routes → LosesIn lost.place routes (Ok tt) at d.processes ps
-    → (node : ℕ) (lines : List Direction) (below : Seen) → Holds d lines below → FindsLostAt d below at (Some lost) → FindsNoneLeft d below at lost.place None → LosesAs d lines below at node lost.number (Ok tt) (record d { processes = ps; agents = slice_set d.agents at g' })
+pub link_loses : (d : Dif) (at : ℕ) (lost : Lost) (g' : Management) (routes : List Route) (ps : List IpcProcess) → at < length d.settings.members → IsWithout d at lost.number g' → AreRoutesOf g'.agent d.settings.members routes → LosesIn lost.place routes (Ok tt) at d.processes ps
+    → (node : ℕ) (lines : List Direction) (below : Seen) → Holds d lines below → FindsLostAt d below at (Some lost) → FindsNoneLeft d below at lost.place None → LosesAs d lines below at node lost.number (Ok tt) (record d { processes = ps; managements = slice_set d.managements at g' })
 link_loses d at lost g' routes ps lt goes are loses node lines below h finds left =
     let p = has_process d below at (lines, h) lt in
     let x = loses p.0 p.1 in
     let m = has_member d at lt in
     let g = has_agent d lines below at lt h in
     let l = link_lost d lines below at lost routes m.0 p.0 x.0 g.0 g' m.1 p.1 g.1 (goes g.0 g.1) are x.1 x.2 h finds in
-    let mid : Dif = record d { processes = slice_set d.processes at x.0; agents = slice_set d.agents at g' } in
+    let mid : Dif = record d { processes = slice_set d.processes at x.0; managements = slice_set d.managements at g' } in
     let w = lost_with d lines below at node lost.place lost.number mid (seen_of mid) l (inr (left l.process l.link l.is_process l.stands, refl)) in
-    subst (λ (qs : List IpcProcess). LosesAs d lines below at node lost.number (Ok tt) (record d { processes = qs; agents = slice_set d.agents at g' })) (sym x.3) (w, l.holds)
+    subst (λ (qs : List IpcProcess). LosesAs d lines below at node lost.number (Ok tt) (record d { processes = qs; managements = slice_set d.managements at g' })) (sym x.3) (w, l.holds)
 
 -- the IPC process at a place is as it was, and no other does anything
 abbrev pub StaysIn : ℕ → List IpcProcess → List IpcProcess → Type 0
@@ -213,10 +215,6 @@ link_stays d at lost r ps lt stays e is node lines below h =
     let p = has_process d below at (lines, h) lt in
     let x = stays p.0 p.1 in
     subst (λ (v : Result (Unit {0}) Memory). LosesAs d lines below at node lost.number v (record d { processes = ps })) (sym is) (keeps_links d lines below at p.0 x.0 ps p.1 x.1 x.2 x.3 h)
-
--- the management loses it too
-pub agent_loses : (d : Dif) (at number : ℕ) (g' : Agent) → IsWithout d at number g' → LosesManaged d.clock at number d.agents (slice_set d.agents at g')
-agent_loses d at number g' goes g is = (g', goes g is, refl)
 
 -- the link that was found is there
 pub found_within : (d : Dif) (at : ℕ) (lost : Lost) → ((below : Seen) × Stands d below × FindsLostAt d below at (Some lost)) → (p : IpcProcess) → slice_get d.processes at ≡ Some p → lost.place < length p.links

@@ -29,12 +29,13 @@ use Rattle.rina_dif_law.specs.Standing.{IsLinked}
 use Rattle.rina_dif_law.specs.Numbered.{AreMembers}
 use Rattle.rina_data.proofs.Finding.{there}
 use Rattle.rina_dif.specs.Building.{AreBare}
-use Rattle.rina_dif.specs.Laying.{AddsLinkAt, AreLaid, AreLinkedUp, AreSettings, BindsAll, BindsInTurn, CanBindAll, IsBoundSo, IsLaidIn, IsLinkedUp, LaysLink, LaysPort, LaysPortAt, MayBind, Takes, ends_of}
-use Rattle.rina_dif.specs.Planned.{ipc_name, link_fixed}
+use Rattle.rina_dif.specs.Laying.{AddsLinkAt, AreLaid, AreLinkedUp, AreSettings, BindsAll, BindsInTurn, CanBindAll, IsBoundSo, IsHome, IsLaidIn, IsLinkedUp, LaysLink, LaysPort, LaysPortAt, MayBind, Takes, ends_of}
+use Rattle.rina_dif.specs.Planned.{ipc_name, link_fixed, processes_before}
 use Rattle.rina_dif.proofs.Below.{asker_of, asker_there, far_of, far_there, stays}
 use Rattle.rina_dif.proofs.Laid.{bind_laid, laid_on}
+use Rattle.rina_dif.proofs.LinkFlows.{apart_on, ends_push, flows_on, new_link}
 use Rattle.rina_dif.proofs.Linked.{bare_up, passes_some, up_adds, up_skips}
-use Rattle.rina_dif.proofs.Sound.{are_members, link_mine}
+use Rattle.rina_dif.proofs.Sound.{HasNode, are_members, link_mine, link_nodes, node_there}
 
 -- One port
 
@@ -62,7 +63,7 @@ pub still_aligned : (s : Settings) (port : Port) (old new : List IpcProcess) →
 still_aligned s port old new aligned lays = length_by s port old new (position (λ (m : Kept). m.node == port.node) s.members) refl aligned lays
 
 -- two members of one node are one
-one_member : (s : Settings) (i k : ℕ) (a b : Kept) → AreMembers (config_of s) → slice_get s.members i ≡ Some a → slice_get s.members k ≡ Some b → a.node ≡ b.node → i ≡ k
+pub one_member : (s : Settings) (i k : ℕ) (a b : Kept) → AreMembers (config_of s) → slice_get s.members i ≡ Some a → slice_get s.members k ≡ Some b → a.node ≡ b.node → i ≡ k
 one_member s i k a b members x y same =
     let x' : slice_get (map member_of s.members) i ≡ Some (member_of a) = slice_get-map member_of s.members i ∙ ap (option_map member_of) x in
     let y' : slice_get (map member_of s.members) k ≡ Some (member_of b) = slice_get-map member_of s.members k ∙ ap (option_map member_of) y in
@@ -106,9 +107,8 @@ may_bind f old new (Ok ports) b = inr (record { a = ports.0; b = ports.1; bound 
 may_bind f old new (Err errors.Memory) b = inl b
 may_bind f old new (Err e) b = absurd b
 
-pub lays_link : (s : Settings) (f : Fixed) (old new : Seen) (a b : Port) (ps mid ps' : List IpcProcess) (r : Result (Unit {0}) Memory) → IsBound old f a b new → LaysPort s a ps mid → OnOk r (LaysPort s b mid ps') → OnOk r (LaysLink s f old new ps ps')
-lays_link s f old new a b ps mid ps' (Ok u) bound first second = record { bound = record { a = a; b = b; bound = bound }; between = mid; a = first; b = second }
-lays_link s f old new a b ps mid ps' (Err e) bound first second = tt
+pub lays_link : (s : Settings) (f : Fixed) (old new : Seen) (a b : Port) (ps mid ps' : List IpcProcess) → IsBound old f a b new → LaysPort s a ps mid → LaysPort s b mid ps' → LaysLink s f (a, b) old new ps ps'
+lays_link s f old new a b ps mid ps' bound first second = record { bound = bound; between = mid; a = first; b = second }
 
 pub lays_port : (s : Settings) (port : Port) (at : ℕ) (old new : List IpcProcess) (r : Result (Unit {0}) Memory) → Some at ≡ position (λ (m : Kept). m.node == port.node) s.members → OnOk r (AddsLinkAt port at old new) → OnOk r (LaysPort s port old new)
 lays_port s port at old new (Ok u) found adds = subst (λ (o : Option ℕ). LaysPortAt o port old new) found adds
@@ -129,10 +129,6 @@ pub can_next : (fixed : LinkPlan → Fixed) (s : Seen) (links : List LinkPlan) (
 can_next fixed s [] i l at can = absurd cc
 can_next fixed s (x ∷ xs) zero l at can = (let same : x ≡ l = cc in subst (λ (z : LinkPlan). CanBind s (fixed z) × ((p q : Port) (s' : Seen) → IsBound s (fixed z) p q s' → CanBindAll s' (map fixed xs))) same can)
 can_next fixed s (x ∷ xs) (suc i) l at can = can_next fixed s xs i l at can
-
-pub ends_push : (ports : List (Port × Port)) (a b : Port) → ends_of (ports ++ (a, b) ∷ []) ≡ (ends_of ports ++ a ∷ []) ++ b ∷ []
-ends_push [] a b = refl
-ends_push (p ∷ ps) a b = ap (λ (rest : List Port). p.0 ∷ p.1 ∷ rest) (ends_push ps a b)
 
 -- What was laid
 
@@ -180,18 +176,26 @@ next_named plan d l mid new ports so kept named k port is = elim (two_more (ends
 ]
 
 -- one link more is laid
-pub next_done : (plan : Plan) (d : DifPlan) (s : Settings) (i : ℕ) (l : LinkPlan) (old mid new : Seen) (ps ps' : List IpcProcess) → AreMembers (config_of s) → slice_get d.links i ≡ Some l → AreKept new → AreLaid plan d s (take i d.links) old mid ps → LaysLink s (link_fixed plan d l) mid new ps ps' → AreLaid plan d s (take (i + 1) d.links) old new ps'
-next_done plan d s i l old mid new ps ps' members is kept laid lays =
-    let a = lays.bound.a in
-    let b = lays.bound.b in
-    let first = ports_up s (ends_of laid.ports) a ps lays.between members laid.up lays.a in
-    let second = ports_up s (ends_of laid.ports ++ a ∷ []) b lays.between ps' members first lays.b in
+pub next_done : (plan : Plan) (d : DifPlan) (s : Settings) (i : ℕ) (l : LinkPlan) (old mid new : Seen) (a b : Port) (ports : List (Port × Port)) (ps ps' : List IpcProcess) → AreMembers (config_of s) → slice_get d.links i ≡ Some l → AreKept mid → AreKept new → l.a ≢ l.b → IsMine (config_of s).members (ipc_name plan d l.a) × IsMine (config_of s).members (ipc_name plan d l.b) → IsHome s a × IsHome s b
+    → AreLaid plan d s (take i d.links) old mid ports ps → LaysLink s (link_fixed plan d l) (a, b) mid new ps ps' → AreLaid plan d s (take (i + 1) d.links) old new (ports ++ (a, b) ∷ []) ps'
+next_done plan d s i l old mid new a b ports ps ps' members is kept kept' differ mine homes laid lays =
+    let f = link_fixed plan d l in
+    let first = ports_up s (ends_of ports) a ps lays.between members laid.up lays.a in
+    let second = ports_up s (ends_of ports ++ a ∷ []) b lays.between ps' members first lays.b in
     record {
-      ports = laid.ports ++ (a, b) ∷ [];
-      bound = subst (λ (n : ℕ). BindsAll old (map (link_fixed plan d) (take n d.links)) (laid.ports ++ (a, b) ∷ []) new) (sym (add-one i)) (binds_next (link_fixed plan d) old mid new d.links i l laid.ports a b is laid.bound lays.bound.bound);
-      up = subst (λ (es : List Port). AreLinkedUp s es ps') (sym (ends_push laid.ports a b)) second;
-      named = next_named plan d l mid new laid.ports lays.bound kept laid.named;
+      bound = subst (λ (n : ℕ). BindsAll old (map (link_fixed plan d) (take n d.links)) (ports ++ (a, b) ∷ []) new) (sym (add-one i)) (binds_next (link_fixed plan d) old mid new d.links i l ports a b is laid.bound lays.bound);
+      up = subst (λ (es : List Port). AreLinkedUp s es ps') (sym (ends_push ports a b)) second;
+      named = next_named plan d l mid new ports (record { a = a; b = b; bound = lays.bound }) kept' laid.named;
+      flows = flows_on s mid f a b new ports lays.bound kept' laid.flows (new_link s mid f a b new lays.bound kept' mine.0 mine.1 homes.0 homes.1);
+      apart = apart_on mid f a b new ports lays.bound kept differ (λ k port at. (let e = laid.named k port at in (e.end, e.here))) laid.apart;
     }
+
+-- a member stands at the node of each end
+pub home_at : (plan : Plan) (d : DifPlan) (s : Settings) (node : ℕ) (port : Port) → AreSettings plan d s → port.node ≡ node → HasNode plan d node → IsHome s port
+home_at plan d s node port are same has =
+    let k = node_there plan d (processes_before plan.difs are.place) node d.members has in
+    let is : slice_get s.members k.0 ≡ Some k.1 = ap (λ (z : Settings). slice_get z.members k.0) are.are ∙ k.2 in
+    passes_some (λ (z : Kept). z.node == port.node) s.members k.0 k.1 is (at_node port.node k.1 (k.3 ∙ sym same))
 
 pub settings_members : (plan : Plan) (d : DifPlan) (s : Settings) → IsPlan plan → AreSettings plan d s → AreMembers (config_of s)
 settings_members plan d s sound are = subst (λ (z : Settings). AreMembers (config_of z)) (sym are.are) (are_members plan are.place d sound are.stands)
@@ -211,13 +215,20 @@ pub turn_laid : (plan : Plan) (d : DifPlan) (s : Settings) (i : ℕ) (f : Fixed)
 turn_laid plan d s i f old mid new t sound are kept kept' laid can takes may =
     next_laid plan d s i t.link old mid new sound are t.is kept kept' laid (can_next (link_fixed plan d) mid d.links i t.link t.is can).0 takes (subst (λ (z : Fixed). MayBind z mid new) t.fixed may)
 
-pub turn_rest : (plan : Plan) (d : DifPlan) (s : Settings) (i : ℕ) (f : Fixed) (mid new : Seen) (ps ps' : List IpcProcess) → IsTurn plan d i f → CanBindAll mid (map (link_fixed plan d) (drop i d.links)) → LaysLink s f mid new ps ps' → CanBindAll new (map (link_fixed plan d) (drop (i + 1) d.links))
-turn_rest plan d s i f mid new ps ps' t can lays =
-    let so = subst (λ (z : Fixed). LaysLink s z mid new ps ps') t.fixed lays in
-    subst (λ (n : ℕ). CanBindAll new (map (link_fixed plan d) (drop n d.links))) (sym (add-one i)) ((can_next (link_fixed plan d) mid d.links i t.link t.is can).1 so.bound.a so.bound.b new so.bound.bound)
+pub turn_rest : (plan : Plan) (d : DifPlan) (s : Settings) (i : ℕ) (f : Fixed) (mid new : Seen) (pair : Port × Port) (ps ps' : List IpcProcess) → IsTurn plan d i f → CanBindAll mid (map (link_fixed plan d) (drop i d.links)) → LaysLink s f pair mid new ps ps' → CanBindAll new (map (link_fixed plan d) (drop (i + 1) d.links))
+turn_rest plan d s i f mid new pair ps ps' t can lays =
+    let so = subst (λ (z : Fixed). LaysLink s z pair mid new ps ps') t.fixed lays in
+    subst (λ (n : ℕ). CanBindAll new (map (link_fixed plan d) (drop n d.links))) (sym (add-one i)) ((can_next (link_fixed plan d) mid d.links i t.link t.is can).1 pair.0 pair.1 new so.bound)
 
-pub turn_done : (plan : Plan) (d : DifPlan) (s : Settings) (i : ℕ) (f : Fixed) (old mid new : Seen) (ps ps' : List IpcProcess) → IsTurn plan d i f → IsPlan plan → AreSettings plan d s → AreKept new → AreLaid plan d s (take i d.links) old mid ps → LaysLink s f mid new ps ps' → AreLaid plan d s (take (i + 1) d.links) old new ps'
-turn_done plan d s i f old mid new ps ps' t sound are kept laid lays = next_done plan d s i t.link old mid new ps ps' (settings_members plan d s sound are) t.is kept laid (subst (λ (z : Fixed). LaysLink s z mid new ps ps') t.fixed lays)
+pub turn_done : (plan : Plan) (d : DifPlan) (s : Settings) (i : ℕ) (f : Fixed) (old mid new : Seen) (pair : Port × Port) (ports : List (Port × Port)) (ps ps' : List IpcProcess) → IsTurn plan d i f → IsPlan plan → AreSettings plan d s → AreKept mid → AreKept new → CanBindAll mid (map (link_fixed plan d) (drop i d.links)) → AreLaid plan d s (take i d.links) old mid ports ps → LaysLink s f pair mid new ps ps' → AreLaid plan d s (take (i + 1) d.links) old new (ports ++ pair ∷ []) ps'
+turn_done plan d s i f old mid new pair ports ps ps' t sound are kept kept' can laid lays =
+    let l = t.link in
+    let so = subst (λ (z : Fixed). LaysLink s z pair mid new ps ps') t.fixed lays in
+    let differ = (can_next (link_fixed plan d) mid d.links i l t.is can).0.apart in
+    let mine = subst (λ (z : Settings). IsMine (config_of z).members (ipc_name plan d l.a) × IsMine (config_of z).members (ipc_name plan d l.b)) (sym are.are) (link_mine plan are.place d i l sound are.stands t.is) in
+    let has = link_nodes plan are.place d i l sound are.stands t.is in
+    let homes : IsHome s pair.0 × IsHome s pair.1 = (home_at plan d s l.a pair.0 are (ap (λ (p : Port). p.node) so.bound.a_fresh) has.0, home_at plan d s l.b pair.1 are (ap (λ (p : Port). p.node) so.bound.b_fresh) has.1) in
+    next_done plan d s i l old mid new pair.0 pair.1 ports ps ps' (settings_members plan d s sound are) t.is kept kept' differ mine homes laid so
 
 pub turn_can : (plan : Plan) (d : DifPlan) (i : ℕ) (f : Fixed) (mid : Seen) → IsTurn plan d i f → CanBindAll mid (map (link_fixed plan d) (drop i d.links)) → CanBind mid f
 turn_can plan d i f mid t can = subst (λ (z : Fixed). CanBind mid z) (sym t.fixed) (can_next (link_fixed plan d) mid d.links i t.link t.is can).0

@@ -1,8 +1,6 @@
 -- What an IPC process answers to a CDAP message.
 use Rattle.std.specs.Prelude.{◌≡◌, ℕ, ◌==◌, Bool, false, List, Option, Some, None, Result, Ok, Err, if◌then◌else◌}
 use Rattle.std.specs.Global.{Vec}
-use Rattle.std.specs.Ordering.{nat_cmp}
-use Rattle.std.specs.BTreeMap.{insert_entry}
 use Rattle.rina_cdap.specs.declared.error.CdapError.{CdapError}
 use Rattle.rina_cdap.specs.declared.message.Message.{Message}
 use Rattle.rina_cdap.specs.Faults.{is_memory}
@@ -10,11 +8,15 @@ use Rattle.rina_cdap.specs.Messages.{Spells}
 use Rattle.rina_cdap.specs.Reading.{Faulty}
 use Rattle.rina_rib.specs.Rows.{Tree}
 use Rattle.rina_answer.specs.Answers as answers
+use Rattle.rina_member.specs.declared.management.Management.{Management}
+use Rattle.rina_member.specs.Managements.{with_objects}
 use Rattle.rina_data.specs.Configs.{config_of}
 use Rattle.rina_dif_law.specs.Sending.{home}
 use Rattle.rina_dif.specs.declared.cdap.CdapCallError.{CdapCallError}
 use Rattle.rina_dif.specs.declared.cdap.CdapCallError.TheVariants.{Memory, NoIpc, Cdap}
 use Rattle.rina_dif.specs.declared.dif.Dif.{Dif}
+use Rattle.rina_dif.specs.Changing.{changed_at}
+use Rattle.rina_dif.specs.Managing.{agents_of}
 use Rattle.rina_dif.specs.Objects.{IsRibAt}
 
 -- what was asked is done
@@ -22,11 +24,11 @@ abbrev pub is_done : Option ℕ → Bool
 is_done None = false
 is_done (Some result) = result == 0
 
--- what is kept of requests: where one was done the RIB of that place is this
-abbrev pub kept_after : Bool → ℕ → Tree → List (ℕ × Tree) → List (ℕ × Tree)
-kept_after done at t kept = if done then insert_entry nat_cmp kept at t else kept
+-- where a request was done the member at that place shows these objects from now on
+abbrev pub shown_after : Bool → ℕ → Tree → List Management → List Management
+shown_after done at t ms = if done then changed_at at (λ m. with_objects m t) ms else ms
 
--- the IPC process at a place answers a message as its RIB says, with these bytes, and keeps the RIB where what was asked is done
+-- the IPC process at a place answers a message as its RIB says, with these bytes, and the member shows the objects that come of it where what was asked is done
 pub record IsAnswer (d : Dif) (at : ℕ) (message : Message) (answer : List ℕ) (d' : Dif) : Type 0 where
   pub rib : Tree
   pub is_rib : IsRibAt d at rib
@@ -34,7 +36,7 @@ pub record IsAnswer (d : Dif) (at : ℕ) (message : Message) (answer : List ℕ)
   pub response : Message
   pub told : answers.told rib message ≡ answers.told_as after response
   pub spelled : Spells response answer
-  pub kept : d'.laid.ribs.entries ≡ kept_after (is_done response.result) at after d.laid.ribs.entries
+  pub kept : d'.managements ≡ shown_after (is_done response.result) at after d.managements
 
 -- the bytes that a call answered
 abbrev pub answer_of : Result (Vec ℕ) CdapCallError → Result (List ℕ) CdapCallError
@@ -56,14 +58,14 @@ pub record IsNoMessage (d : Dif) (node : ℕ) (bytes : List ℕ) (error : CdapEr
   pub fault : Faulty error bytes
   pub told : is_memory error ≡ false
 
--- nothing but what is kept of requests may change
+-- nothing but the objects of members may change
 pub record KeepsAll (d d' : Dif) : Type 0 where
-  pub is : d' ≡ record d { laid = d'.laid; failed = d'.failed }
-  pub links : d'.laid.links ≡ d.laid.links
+  pub is : d' ≡ record d { managements = d'.managements; failed = d'.failed }
+  pub agents : agents_of d'.managements ≡ agents_of d.managements
 
 -- bytes are answered, or their first fault is told
 abbrev pub Asks : Dif → ℕ → List ℕ → Result (List ℕ) CdapCallError → Dif → Type 0
 Asks d node bytes (Ok answer) d' = IsAnswered d node bytes answer d'
-Asks d node bytes (Err NoIpc) d' = (home node (config_of d.settings).members ≡ None) × (d'.laid.ribs.entries ≡ d.laid.ribs.entries)
-Asks d node bytes (Err (Cdap error)) d' = IsNoMessage d node bytes error × (d'.laid.ribs.entries ≡ d.laid.ribs.entries)
-Asks d node bytes (Err Memory) d' = d'.laid.ribs.entries ≡ d.laid.ribs.entries
+Asks d node bytes (Err NoIpc) d' = (home node (config_of d.settings).members ≡ None) × (d'.managements ≡ d.managements)
+Asks d node bytes (Err (Cdap error)) d' = IsNoMessage d node bytes error × (d'.managements ≡ d.managements)
+Asks d node bytes (Err Memory) d' = d'.managements ≡ d.managements

@@ -33,10 +33,13 @@ pub record AreBare (settings : Settings) (processes : List IpcProcess) : Type 0 
   pub aligned : length processes ≡ length settings.members
   pub each : (i : ℕ) (p : IpcProcess) → slice_get processes i ≡ Some p → IsBare settings p
 
--- a DIF without links, flows and names
+-- a DIF without links, their management connections, flows and names
 pub record IsBareDif (d : Dif) : Type 0 where
   pub processes : AreBare d.settings d.processes
   pub ends : d.flows.journal.ends ≡ []
   pub conns : d.flows.conns ≡ []
   pub waiting : d.waiting.items ≡ []
   pub names : d.names ≡ []
+  pub channels : d.connections.channels ≡ []
+  pub link_ends : d.connections.flows.journal.ends ≡ []
+  pub link_conns : d.connections.flows.conns ≡ []

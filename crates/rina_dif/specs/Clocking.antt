@@ -32,12 +32,12 @@ use Rattle.rina_flows.specs.declared.due.Item.TheVariants.{Ack, Again, GiveUp, G
 use Rattle.rina_flows.specs.Calls.{Tells}
 use Rattle.rina_flows.specs.Tied.{conns_of}
 use Rattle.rina_flows.specs.Timely.{IsDue}
+use Rattle.rina_dif.specs.Changing.{ManagesStep}
 use Rattle.rina_dif.specs.declared.clock_steps.Next.{Next}
 use Rattle.rina_dif.specs.declared.clock_steps.Turn.{Turn}
 use Rattle.rina_dif.specs.declared.dif.Dif.{Dif}
 use Rattle.rina_dif.specs.Elsewhere.{home_of}
 use Rattle.rina_dif.specs.Holding.{Holds}
-use Rattle.rina_dif.specs.Managing.{ManagesStep}
 use Rattle.rina_dif.specs.Shown.{seen_of}
 use Rattle.rina_dif.specs.Steps.{AtHome}
 use Rattle.rina_dif.specs.Unlinking.{HasFailed, LosesWith}
@@ -202,7 +202,7 @@ ClockStepsAt d lines below node result d' lines' = AtHome (home node (config_of 
 pub record ClockSteps (d : Dif) (lines : List Direction) (below : Seen) (node : ℕ) (result : Result ClockStep StepError) (d' : Dif) (below' : Seen) : Type 0 where
   pub lines' : List Direction
   pub does : ClockStepsAt d lines below node result d' lines'
-  pub managed : ManagesStep result (home_of d node) d.clock d.agents d'.agents
+  pub managed : ManagesStep result (home_of d node) d below node d'.managements
   pub same_below : below' ≡ below
   pub holds : Holds d' lines' below'
 

@@ -17,6 +17,7 @@ use Rattle.rina_dif_law.specs.Standing.{IsStanding}
 use Rattle.rina_dif_law.specs.Written.{AreWrittenOff}
 use Rattle.rina_flows.specs.Calls.{AreTied}
 use Rattle.rina_dif.specs.declared.dif.Dif.{Dif}
+use Rattle.rina_dif.specs.Connected.{AreConnected}
 use Rattle.rina_dif.specs.Managing.{AreManaged}
 use Rattle.rina_dif.specs.Routing.{HaveRoutes}
 use Rattle.rina_dif.specs.Shown.{seen_of}
@@ -42,7 +43,8 @@ AreHoused g processes = (i : ℕ) (p : IpcProcess) → slice_get processes i ≡
 -- the DIF stands on the rank below, where these directions stand behind its flows, whatever an end got has come, its
 -- names are those of its members and ports, each IPC process is in account for each PDU, each end that has failed did so
 -- for its cause, each line of a ledger says what is true, each next hop is the least number of a link on a least walk over the links that its IPC process knows,
--- and each member has a management that knows these links, and over the items of which the next hops are
+-- each member has a management that knows these links, and over the items of which the next hops are, and the management
+-- connections of the links stand
 pub record Holds (d : Dif) (lines : List Direction) (below : Seen) : Type 0 where
   pub tied : AreTied (config_of d.settings) d.clock d.flows lines
   pub standing : IsStanding (seen_of d) lines below
@@ -54,6 +56,7 @@ pub record Holds (d : Dif) (lines : List Direction) (below : Seen) : Type 0 wher
   pub housed : AreHoused (config_of d.settings) d.processes
   pub routed : HaveRoutes d.settings.members d.laid.links d.processes
   pub managed : AreManaged d
+  pub connected : AreConnected (config_of d.settings) d.clock d.connections (seen_of d).processes below
 
 -- some directions stand behind its flows
 abbrev pub Stands : Dif → Seen → Type 0

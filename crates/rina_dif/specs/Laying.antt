@@ -27,6 +27,7 @@ use Rattle.rina_dif.specs.Building.{IsFree, queue_ids}
 use Rattle.rina_dif.specs.Planned.{ipc_name, link_fixed, links_of, settings_by, settings_of}
 use Rattle.rina_dif.specs.Managing.{AreStarted}
 use Rattle.rina_dif.specs.Routing.{HaveRoutes}
+use Rattle.rina_channel.specs.Channels.{IsFlowBelow}
 
 -- Binding one after the other
 
@@ -110,7 +111,7 @@ pub record HasQueuesOf (s : Settings) (p : IpcProcess) : Type 0 where
   pub cubes : AreIds (queue_ids s.cubes) p.queues.cubes
 
 -- the i-th DIF of the stack when it was made: the settings of the plan, its links bound below in stack order, the
--- managements of its members as they start, the next hops over them, and no flows, names and objects that requests left
+-- managements of its members as they start, the next hops over them, and no flows and names
 pub record IsNew (plan : Plan) (i : ℕ) (d : Dif) (old new : Seen) : Type 0 where
   pub settings : settings_of plan i ≡ Some d.settings
   pub clock : d.clock ≡ old.now
@@ -120,12 +121,11 @@ pub record IsNew (plan : Plan) (i : ℕ) (d : Dif) (old new : Seen) : Type 0 whe
   pub processes : (k : ℕ) (member : Kept) (p : IpcProcess) → slice_get d.settings.members k ≡ Some member → slice_get d.processes k ≡ Some p → IsNewProcess (config_of d.settings) member.node (ends_of ports) (process_of p)
   pub queues : (k : ℕ) (p : IpcProcess) → slice_get d.processes k ≡ Some p → HasQueuesOf d.settings p
   pub routed : (dif : DifPlan) → slice_get plan.difs i ≡ Some dif → HaveRoutes d.settings.members dif.links d.processes
-  pub managed : (dif : DifPlan) → slice_get plan.difs i ≡ Some dif → AreStarted d.settings.members dif.links dif.rules dif.allow (length d.settings.members) d.processes d.agents
+  pub managed : (dif : DifPlan) → slice_get plan.difs i ≡ Some dif → AreStarted d.settings.cubes d.settings.members dif.links dif.rules dif.allow (length d.settings.members) d.processes d.managements
   pub ends : d.flows.journal.ends ≡ []
   pub conns : d.flows.conns ≡ []
   pub waiting : d.waiting.items ≡ []
   pub names : d.names ≡ []
-  pub kept : d.laid.ribs.entries ≡ []
 
 -- One link more
 
@@ -160,12 +160,12 @@ pub record IsBoundSo (f : Fixed) (old new : Seen) : Type 0 where
 abbrev pub MayBind : Fixed → Seen → Seen → Type 0
 MayBind f old new = (new ≡ old) ⊎ IsBoundSo f old new
 
--- and both its ends are links of their IPC processes
-pub record LaysLink (s : Settings) (f : Fixed) (old new : Seen) (processes processes' : List IpcProcess) : Type 0 where
-  pub bound : IsBoundSo f old new
+-- it was bound with these ports, and both its ends are links of their IPC processes
+pub record LaysLink (s : Settings) (f : Fixed) (ports : Port × Port) (old new : Seen) (processes processes' : List IpcProcess) : Type 0 where
+  pub bound : IsBound old f ports.0 ports.1 new
   pub between : List IpcProcess
-  pub a : LaysPort s bound.a processes between
-  pub b : LaysPort s bound.b between processes'
+  pub a : LaysPort s ports.0 processes between
+  pub b : LaysPort s ports.1 between processes'
 
 -- All links
 
@@ -195,9 +195,27 @@ pub record AreLinkedUp (s : Settings) (ports : List Port) (processes : List IpcP
   pub aligned : length processes ≡ length s.members
   pub each : (k : ℕ) (m : Kept) (p : IpcProcess) → slice_get s.members k ≡ Some m → slice_get processes k ≡ Some p → IsLinkedUp s m.node ports p
 
--- these links of a DIF are laid: each is bound below, and its ends are links of their IPC processes, which are there
-pub record AreLaid (plan : Plan) (d : DifPlan) (s : Settings) (links : List LinkPlan) (old new : Seen) (processes : List IpcProcess) : Type 0 where
-  pub ports : List (Port × Port)
+-- a member stands at the node of a port
+abbrev pub IsHome : Settings → Port → Type 0
+IsHome s port = IsSome (position (λ (m : Kept). m.node == port.node) s.members)
+
+-- the ports are those of both ends of a flow between two members, at which nothing was sent
+pub record IsNewLink (s : Settings) (below : Seen) (ports : Port × Port) : Type 0 where
+  pub flow : IsFlowBelow (config_of s) below ports.0 ports.1
+  pub unsent : flow.near_end.sent ≡ []
+  pub far_unsent : flow.far_end.sent ≡ []
+  pub home : IsHome s ports.0
+  pub far_home : IsHome s ports.1
+
+-- no two of these ports are equal
+abbrev pub AreApart : List Port → Type 0
+AreApart ports = (j k : ℕ) (port : Port) → slice_get ports j ≡ Some port → slice_get ports k ≡ Some port → j ≡ k
+
+-- these links of a DIF are laid, with these ports: each is bound below, and its ends are links of their IPC processes, which
+-- are there
+pub record AreLaid (plan : Plan) (d : DifPlan) (s : Settings) (links : List LinkPlan) (old new : Seen) (ports : List (Port × Port)) (processes : List IpcProcess) : Type 0 where
   pub bound : BindsAll old (map (link_fixed plan d) links) ports new
   pub up : AreLinkedUp s (ends_of ports) processes
   pub named : (k : ℕ) (port : Port) → slice_get (ends_of ports) k ≡ Some port → IsLinked new (ipc_name plan d port.node) port
+  pub flows : (k : ℕ) (pair : Port × Port) → slice_get ports k ≡ Some pair → IsNewLink s new pair
+  pub apart : AreApart (ends_of ports)

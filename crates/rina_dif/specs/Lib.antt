@@ -1,12 +1,15 @@
 pub mod Asking
 pub mod Binding
 pub mod Building
+pub mod Changing
 pub mod Clocking
+pub mod Connected
 pub mod Elsewhere
 pub mod Facade
 pub mod Freeing
 pub mod Holding
 pub mod Laying
+pub mod Linking
 pub mod Managing
 pub mod Objects
 pub mod Planned

@@ -1,12 +1,12 @@
 -- The next hops of the IPC processes of a DIF.
 use Rattle.std.specs.Prelude.{◌≡◌, ℕ, ◌<◌, List, length, slice_get, slice_set, Some}
-use Rattle.rina_agent.specs.declared.agent.Agent.{Agent}
 use Rattle.rina_plan.specs.declared.dif.LinkPlan.{LinkPlan}
 use Rattle.rina_data.specs.declared.link.Route.{Route}
 use Rattle.rina_data.specs.declared.process.IpcProcess.{IpcProcess}
 use Rattle.rina_data.specs.declared.settings.Member.{Member}
 use Rattle.rina_member.specs.Knowing.{AreRoutesOf}
 use Rattle.rina_member.specs.Routing.{KnowsLive}
+use Rattle.rina_member.specs.declared.management.Management.{Management}
 
 -- each IPC process knows its live links, and those that the others had from the start, where these are the links of the
 -- DIF as they were laid: its next hops are the first links of least walks over them
@@ -24,7 +24,7 @@ abbrev pub SetsRoutes : ℕ → List Route → List IpcProcess → List IpcProce
 SetsRoutes at routes old new = (p : IpcProcess) → slice_get old at ≡ Some p → new ≡ slice_set old at (with_routes p routes)
 
 -- the first of the IPC processes have the next hops over the items that their managements hold, and nothing else changed
-pub record AreRouted (members : List Member) (agents : List Agent) (count : ℕ) (old new : List IpcProcess) : Type 0 where
+pub record AreRouted (members : List Member) (managements : List Management) (count : ℕ) (old new : List IpcProcess) : Type 0 where
   pub aligned : length new ≡ length old
-  pub routes : (k : ℕ) (g : Agent) (p : IpcProcess) → k < count → slice_get agents k ≡ Some g → slice_get new k ≡ Some p → AreRoutesOf g members p.routes
+  pub routes : (k : ℕ) (g : Management) (p : IpcProcess) → k < count → slice_get managements k ≡ Some g → slice_get new k ≡ Some p → AreRoutesOf g.agent members p.routes
   pub same : (k : ℕ) (p : IpcProcess) → slice_get new k ≡ Some p → (q : IpcProcess) × (routes : List Route) × (slice_get old k ≡ Some q) × (p ≡ with_routes q routes)

@@ -32,6 +32,7 @@ use Rattle.rina_dif.specs.Managing.{AreManaged}
 use Rattle.rina_dif.specs.Routing.{HaveRoutes}
 use Rattle.rina_dif.specs.Shown.{seen_of}
 use Rattle.rina_dif.specs.Steps.{AtHome}
+use Rattle.rina_dif.specs.Connected.{AreConnected}
 
 -- One IPC process of those that are kept
 
@@ -76,7 +77,12 @@ Comes d since hop = (lines : List Direction) × (below : Seen) × Holds d lines 
 abbrev pub IsOwn : Dif → ℕ → ℕ → Hop → Type 0
 IsOwn d at since hop = (d.clock - since ≤ hop.left) × ((member : Member) → slice_get (seen_of d).config.members at ≡ Some member → hop.pdu.dst ≡ member.addr)
 
--- how the PDU was handled: the flows stay tied, and the IPC processes are housed, have their next hops and are managed
+-- the management connections of its links stand wherever they stood
+abbrev pub StaysConnected : Dif → Dif → Type 0
+StaysConnected d d' = (below : Seen) → AreConnected (config_of d.settings) d.clock d.connections (seen_of d).processes below → AreConnected (config_of d'.settings) d'.clock d'.connections (seen_of d').processes below
+
+-- how the PDU was handled: the flows stay tied, the IPC processes are housed, have their next hops and are managed, and the
+-- management connections of the links stand on
 pub record HasSettled (d : Dif) (lines : List Direction) (at since : ℕ) (hop : Hop) (end : Took) (d' : Dif) : Type 0 where
   pub lines' : List Direction
   pub settled : (member : Member) (process : Process) → IsProcess (seen_of d) at member process → Settles (seen_of d) lines at member process since hop end (seen_of d') lines'
@@ -84,6 +90,7 @@ pub record HasSettled (d : Dif) (lines : List Direction) (at since : ℕ) (hop :
   pub housed : AreHoused (config_of d'.settings) d'.processes
   pub routed : HaveRoutes d'.settings.members d'.laid.links d'.processes
   pub managed : AreManaged d'
+  pub connected : StaysConnected d d'
 
 abbrev pub SettlesAs : Dif → List Direction → Seen → ℕ → ℕ → Hop → Result Took NoMemory → Dif → Type 0
 SettlesAs d lines below at since hop (Ok end) d' = HasSettled d lines at since hop end d'

@@ -1,7 +1,7 @@
 //! CDAP messages to the IPC processes of a DIF.
 ghost use Rattle.std.specs.Prelude.{◌≡◌, ◌<◌, ◌↔◌, true, Err, length, IfOk, OnOk, OnErr};
 ghost use Rattle.rina_dif.specs.declared.cdap.CdapCallError.TheVariants.{Memory as MemoryWanted};
-ghost use Rattle.rina_dif.specs.Asking.{Asks, IsAnswer, KeepsAll, answer_of, is_done, kept_after};
+ghost use Rattle.rina_dif.specs.Asking.{Asks, IsAnswer, KeepsAll, answer_of, is_done, shown_after};
 ghost use Rattle.rina_dif.specs.Facade.{GoesOn, StaysStanding};
 ghost use Rattle.rina_dif.specs.Whole.{IsDif};
 
@@ -34,28 +34,25 @@ fn is_done(outcome: Option<u8>) -> bool
 }
 
 impl Dif {
-    /// Keeps the RIB of the IPC process at a place, where what was asked is done.
-    fn keep(&mut self, at: usize, done: bool, rib: Rib) -> Result<(), Memory>
-        ensures kept { OnOk result (self.new.laid.ribs.entries ≡ kept_after done at rib self.old.laid.ribs.entries) }
-        ensures err { OnErr result (self.new.laid.ribs.entries ≡ self.old.laid.ribs.entries) }
+    /// Gives the member at a place these objects, where what was asked is done.
+    fn keep(&mut self, at: usize, done: bool, objects: Rib)
+        requires { at < length self.old.managements }
+        ensures kept { self.new.managements ≡ shown_after done at objects self.old.managements }
         ensures same { KeepsAll self.old self.new }
         ensures failed { self.new.failed ≡ self.old.failed }
     {
-        if !done {
-            return Ok(());
-        }
-        match self.laid.ribs.insert(at, rib) {
-            Ok(_) => Ok(()),
-            Err(_) => Err(Memory),
+        if done {
+            self.managements.set_objects(at, objects);
         }
     }
 
-    /// Answers a message as the RIB of the IPC process at a place says, which is kept where what was asked is done.
+    /// Answers a message as the RIB of the IPC process at a place says. The member shows what comes of it where what was
+    /// asked is done.
     fn answer_at(&mut self, alloc: Global, at: usize, message: &Message) -> Result<Vec<u8>, Memory>
         requires valid { IsDif self.old }
         requires at { at < length self.old.settings.members }
         ensures does { IfOk result (λ v. IsAnswer self.old at message.now v.items self.new) }
-        ensures err { OnErr result (self.new.laid.ribs.entries ≡ self.old.laid.ribs.entries) }
+        ensures err { OnErr result (self.new.managements ≡ self.old.managements) }
         ensures same { KeepsAll self.old self.new }
         ensures failed { self.new.failed ≡ self.old.failed }
     {
@@ -64,7 +61,7 @@ impl Dif {
         let Ok(bytes) = write(alloc, &response) else {
             return Err(Memory);
         };
-        self.keep(at, is_done(response.result), rib)?;
+        self.keep(at, is_done(response.result), rib);
         Ok(bytes)
     }
 

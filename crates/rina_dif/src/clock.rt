@@ -25,6 +25,7 @@ impl Dif {
         ensures laid { self.new.laid ≡ self.old.laid }
         ensures failed { self.new.failed ≡ self.old.failed }
     {
+        self.flows.settle(now);
         self.clock = now;
     }
 }

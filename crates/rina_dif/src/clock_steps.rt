@@ -11,8 +11,9 @@ ghost use Rattle.rina_dif.specs.Clocking.{ClockSteps, FailsLate, FindsFirst, Fin
 ghost use Rattle.rina_dif.specs.Elsewhere.{ChangesOnly, MayClock, home_of};
 ghost use Rattle.rina_dif.specs.Facade.{GoesOn, OthersStand};
 ghost use Rattle.rina_dif.specs.Holding.{Holds, Stands};
-ghost use Rattle.rina_dif.specs.Managing.{ManagesStep};
+ghost use Rattle.rina_dif.specs.Changing.{ManagesStep};
 ghost use Rattle.rina_dif.specs.Shown.{seen_of};
+ghost use Rattle.rina_flows.specs.Watching.{NoneDueBeside};
 
 use crate::dif::Dif;
 use rina_base::{Cep, Node};
@@ -81,7 +82,7 @@ impl Dif {
     }
 
     /// Of the ends of a node at which an item is due, the one of the least CEP-id. None exactly where it is due at none.
-    fn first_due(&self, node: Node, item: Item) -> Option<Turn>
+    fn first_of_all(&self, node: Node, item: Item) -> Option<Turn>
         ensures { (lines : List Direction) (below : Seen) → Holds self.now lines below → FindsFirst item self.now lines node result }
     {
         let mut first = None;
@@ -91,6 +92,32 @@ impl Dif {
             }
         }
         first
+    }
+
+    /// The same, where nothing is due beside these places.
+    fn first_among(&self, places: &[usize], node: Node, item: Item) -> Option<Turn>
+        requires { NoneDueBeside self.now.clock places.now self.now.flows }
+        ensures { (lines : List Direction) (below : Seen) → Holds self.now lines below → FindsFirst item self.now lines node result }
+    {
+        let mut first = None;
+        for place in 0..places.len() {
+            let at = places[place];
+            if at < self.flows.conns.len() && self.is_due_at(node, at, item) {
+                first = Some(earlier(first, self.turn(at)));
+            }
+        }
+        first
+    }
+
+    /// Of the ends of a node at which an item is due, the one of the least CEP-id. None exactly where it is due at none.
+    /// Ends at which nothing is due soon are not looked at.
+    fn first_due(&self, node: Node, item: Item) -> Option<Turn>
+        ensures { (lines : List Direction) (below : Seen) → Holds self.now lines below → FindsFirst item self.now lines node result }
+    {
+        match self.flows.watched(self.clock) {
+            Some(places) => self.first_among(places, node, item),
+            None => self.first_of_all(node, item),
+        }
     }
 
     /// The first item that is due at a node. None exactly where none is.
@@ -125,7 +152,8 @@ impl Dif {
         ensures does { (lines : List Direction) (below : Seen) → Holds self.old lines below → StepsFlowHere self.old lines below node result self.new }
         ensures same { (self.new.settings ≡ self.old.settings) × (self.new.failed ≡ self.old.failed) }
         ensures laid { self.new.laid ≡ self.old.laid }
-        ensures whole { self.new ≡ record self.old { processes = self.new.processes; flows = self.new.flows } }
+        ensures whole { self.new ≡ record self.old { processes = self.new.processes; flows = self.new.flows; managements = self.new.managements } }
+        ensures manages { (below : Seen) → ManagesStep result (Some at) self.old below node self.new.managements }
         ensures leaves { ChangesOnly (MayClock result self.old (Some at)) (Some at) self.old self.new }
     {
         let Some(Next { item, turn }) = self.next_due(node) else {
@@ -169,8 +197,8 @@ impl Dif {
         ensures does { (lines : List Direction) → Holds self.old lines (F.seen below.now) → StepsHere self.old lines (F.seen below.now) node result self.new }
         ensures same { (self.new.settings ≡ self.old.settings) × (self.new.failed ≡ self.old.failed) }
         ensures laid { self.new.laid ≡ self.old.laid }
-        ensures whole { self.new ≡ record self.old { processes = self.new.processes; flows = self.new.flows; agents = self.new.agents } }
-        ensures manages { ManagesStep result (Some at) self.old.clock self.old.agents self.new.agents }
+        ensures whole { self.new ≡ record self.old { processes = self.new.processes; flows = self.new.flows; managements = self.new.managements } }
+        ensures manages { ManagesStep result (Some at) self.old (F.seen below.now) node self.new.managements }
         ensures leaves { ChangesOnly (MayClock result self.old (Some at)) (Some at) self.old self.new }
     {
         match self.lost_link_at(below, at) {
@@ -206,7 +234,7 @@ impl Dif {
         ensures others { OthersStand self.old (F.seen below.old) (F.seen below.new) }
         ensures settings { self.new.settings ≡ self.old.settings }
         ensures laid { self.new.laid ≡ self.old.laid }
-        ensures whole { self.new ≡ record self.old { processes = self.new.processes; flows = self.new.flows; agents = self.new.agents; failed = self.new.failed } }
+        ensures whole { self.new ≡ record self.old { processes = self.new.processes; flows = self.new.flows; managements = self.new.managements; failed = self.new.failed } }
         ensures leaves { ChangesOnly (MayClock result self.old (home_of self.old node)) (home_of self.old node) self.old self.new }
         ensures failed { self.old.failed ≡ true → result ≡ Err MemoryWanted }
         ensures fails { self.new.failed ≡ true ↔ (result ≡ Err MemoryWanted) }

@@ -7,14 +7,16 @@ ghost use Rattle.rina_stack.specs.Plan.{IsPlan};
 ghost use Rattle.rina_data.specs.Configs.{config_of};
 ghost use Rattle.rina_dif.specs.Holding.{Stands};
 ghost use Rattle.rina_dif.specs.Laying.{AreLaid, AreLinkedUp, AreSettings, BindsInTurn, CanBindAll, CanLay, IsLaidIn, IsNew, Lays, LaysLink, LaysPort, MayBind, Takes};
+ghost use Rattle.rina_dif.specs.Linking.{IsConnected};
 ghost use Rattle.rina_dif.specs.Planned.{link_fixed, links_of};
 
+use crate::connections::Connections;
 use crate::dif::{Dif, place};
 use crate::layout::Layout;
 use crate::managements::route_all;
 use crate::plan::{link_fixed, settings_of};
 use crate::processes::Processes;
-use rina_base::{Memory, Port};
+use rina_base::{Memory, Port, Seq};
 use rina_data::Settings;
 use rina_iface::{Facility, Fixed};
 use rina_plan::DifPlan;
@@ -37,31 +39,33 @@ fn lay_port(
     }
 }
 
-/// Binds a link below, and gives the IPC processes at its ends one link more.
+/// Binds a link below, and gives the IPC processes at its ends one link more. Answers the ports of its ends.
 fn lay_link<F: Facility>(
     processes: &mut Processes,
     alloc: Global,
     settings: &Settings,
     fixed: &Fixed,
     below: &mut F,
-) -> Result<(), Memory>
+) -> Result<(Port, Port), Memory>
     requires valid { F.valid below.old }
     requires can { CanBind (F.seen below.old) fixed.now }
     requires aligned { length processes.old ≡ length settings.now.members }
     ensures valid { F.valid below.new }
     ensures below { F.same_below below.old below.new }
     ensures may { MayBind fixed.now (F.seen below.old) (F.seen below.new) }
-    ensures ok { OnOk result (LaysLink settings.now fixed.now (F.seen below.old) (F.seen below.new) processes.old processes.new) }
+    ensures ok { IfOk result (λ ports. LaysLink settings.now fixed.now ports (F.seen below.old) (F.seen below.new) processes.old processes.new) }
     ensures whole { OnOk result ((ports : Port × Port) × F.does_bind below.old fixed.now (Ok ports) below.new) }
 {
     let Ok((a, b)) = below.bind(alloc, fixed) else {
         return Err(Memory);
     };
     lay_port(processes, alloc, settings, a)?;
-    lay_port(processes, alloc, settings, b)
+    lay_port(processes, alloc, settings, b)?;
+    Ok((a, b))
 }
 
-/// Binds the links of a DIF below, in stack order, and gives its IPC processes their links.
+/// Binds the links of a DIF below, in stack order, and gives its IPC processes their links. Answers the ports of both ends of
+/// each, in that order.
 fn lay_links<F: Facility>(
     processes: &mut Processes,
     alloc: Global,
@@ -69,7 +73,7 @@ fn lay_links<F: Facility>(
     dif: &DifPlan,
     settings: &Settings,
     below: &mut F,
-) -> Result<(), Memory>
+) -> Result<Seq<(Port, Port)>, Memory>
     requires plan { IsPlan plan.now }
     requires settings { AreSettings plan.now dif.now settings.now }
     requires valid { F.valid below.old }
@@ -79,19 +83,22 @@ fn lay_links<F: Facility>(
     ensures valid { F.valid below.new }
     ensures below { F.same_below below.old below.new }
     ensures laid { IsLaidIn (config_of settings.now) (F.seen below.old) (F.seen below.new) }
-    ensures ok { OnOk result (AreLaid plan.now dif.now settings.now dif.now.links (F.seen below.old) (F.seen below.new) processes.new) }
+    ensures ok { IfOk result (λ ports. AreLaid plan.now dif.now settings.now dif.now.links (F.seen below.old) (F.seen below.new) ports processes.new) }
     ensures whole { OnOk result (BindsInTurn F.does_bind below.old (map (link_fixed plan.now dif.now) dif.now.links) below.new) }
 {
+    let mut ports = Seq::new(alloc);
     for link in dif.links.as_slice() {
         let fixed = link_fixed(alloc, plan, dif, link)?;
-        lay_link(processes, alloc, settings, &fixed, below)?;
+        let pair = lay_link(processes, alloc, settings, &fixed, below)?;
+        ports.push(pair)?;
     }
-    Ok(())
+    Ok(ports)
 }
 
 impl Dif {
     /// The DIF at a place of the stack, counted from 0, without its flows: its links are bound on the rank below, in
-    /// stack order, and each member holds the items of the start. Without memory some of the links may have been bound.
+    /// stack order, each member holds the items of the start, and each link has its management connection. Without memory
+    /// some of the links may have been bound.
     pub fn of_plan<F: Facility>(
         alloc: Global,
         plan: &Plan,
@@ -108,20 +115,33 @@ impl Dif {
         ensures stands { IfOk result (λ d. Stands d (F.seen below.new)) }
         ensures exact { IfOk result (λ d. IsNew plan.now at d (F.seen below.old) (F.seen below.new)) }
         ensures whole { OnOk result (BindsInTurn F.does_bind below.old (links_of plan.now at) below.new) }
+        ensures connected { IfOk result (λ d. (dif : DifPlan) → slice_get plan.now.difs at ≡ Some dif → IsConnected d dif.manage (links_of plan.now at) (F.seen below.old) (F.seen below.new)) }
         ensures laid_so { IfOk result (λ d. (dif : DifPlan) → slice_get plan.now.difs at ≡ Some dif → d.laid.links ≡ dif.links) }
     {
         let Some(dif) = plan.difs.get(at) else {
             unreachable!()
         };
         let settings = settings_of(alloc, plan, at, dif)?;
-        let mut made = Dif::new(alloc, settings, below.now())?;
-        lay_links(&mut made.processes, alloc, plan, dif, &made.settings, below)?;
+        let mut made = Dif::new(alloc, settings, dif.manage, below.now())?;
+        let ports = lay_links(&mut made.processes, alloc, plan, dif, &made.settings, below)?;
         let plans = dif.links.as_slice();
-        let agents = made.first_managements(alloc, plans, dif.rules.as_slice(), dif.allow)?;
+        let managements = made.first_managements(alloc, plans, dif.rules.as_slice(), dif.allow)?;
         let members = made.settings.members.as_slice();
-        route_all(&mut made.processes, alloc, members, agents.as_slice())?;
-        made.agents = agents;
+        route_all(&mut made.processes, alloc, members, managements.as_slice())?;
+        made.managements = managements;
         made.laid = Layout::of(alloc, plans)?;
+        let (settings, clock) = (&made.settings, made.clock);
+        let links = ports.as_slice();
+        let manage = dif.manage;
+        let connections = Connections::of_links(
+            alloc,
+            manage,
+            settings,
+            clock,
+            &made.processes,
+            links,
+        )?;
+        made.connections = connections;
         Ok(made)
     }
 }

@@ -5,9 +5,10 @@ ghost use Rattle.rina_dif_law.specs.Sending.{home};
 ghost use Rattle.rina_data.specs.declared.settings.Member.{Member};
 ghost use Rattle.rina_data.specs.declared.step.StepError.TheVariants.{Memory};
 
+use crate::connections::Connections;
 use crate::layout::Layout;
+use crate::managements::Managements;
 use crate::processes::Processes;
-use rina_agent::Agent;
 use rina_base::{Node, Seq, Tick};
 use rina_data::{Member, Settings, StepError};
 use rina_flows::Flows;
@@ -20,11 +21,13 @@ pub struct Dif {
     pub(crate) settings: Settings,
     pub(crate) clock: Tick,
     pub(crate) processes: Processes,
-    /// The managements of its members, one for each, in their order: the items that a member holds, and what it made of
-    /// them. The next hops of an IPC process are read from them.
-    pub(crate) agents: Seq<Agent>,
-    /// Its links as they were laid, which never change, and what CDAP requests left.
+    /// The managements of its members, one for each, in their order: the items that a member holds, what it made of them, and
+    /// the objects that it shows. The next hops of an IPC process are read from the items.
+    pub(crate) managements: Managements,
+    /// Its links as they were laid, which never change.
     pub(crate) laid: Layout,
+    /// The management connections of its links.
+    pub(crate) connections: Connections,
     pub(crate) flows: Flows,
     /// The places of the far ends that nobody has claimed yet, the oldest first.
     pub(crate) waiting: Vec<usize>,

@@ -6,6 +6,7 @@ ghost use Rattle.rina_iface.specs.Seen.{Seen};
 ghost use Rattle.rina_law.specs.Direction.{Direction};
 ghost use Rattle.rina_dif_law.specs.Ids.{pdu_of_ack};
 ghost use Rattle.rina_flows.specs.Tied.{ids_by};
+ghost use Rattle.rina_dif.specs.Changing.{ManagesGiveUp};
 ghost use Rattle.rina_dif.specs.Elsewhere.{ChangesOnly, WhenOk};
 ghost use Rattle.rina_dif.specs.Holding.{Holds, Stands};
 ghost use Rattle.rina_dif.specs.Timely.{AcknowledgesAs, ForgetsAs, GivesUpAs, IsHomeEnd, SendsAgainAs};
@@ -83,7 +84,7 @@ impl Dif {
     }
 
     /// Lets the flow of an end fail there, at its IPC process, where its connection gives a number up now, and answers
-    /// the number. Without memory nothing changes.
+    /// the number. The object of the flow is deleted with it. Without memory nothing changes.
     pub(crate) fn give_up_at(
         &mut self,
         alloc: Global,
@@ -96,12 +97,20 @@ impl Dif {
         ensures does { (lines : List Direction) (below : Seen) → Holds self.old lines below → GivesUpAs self.old lines below place result self.new }
         ensures same { (self.new.settings ≡ self.old.settings) × (self.new.failed ≡ self.old.failed) }
         ensures laid { self.new.laid ≡ self.old.laid }
-        ensures whole { self.new ≡ record self.old { processes = self.new.processes; flows = self.new.flows } }
+        ensures whole { self.new ≡ record self.old { processes = self.new.processes; flows = self.new.flows; managements = self.new.managements } }
+        ensures manages { ManagesGiveUp result self.old at place self.new.managements }
         ensures leaves { ChangesOnly (λ i. i ≡ place) (Some at) self.old self.new }
     {
+        let name = self.name_of_flow(alloc, place)?;
         let clock = self.clock;
-        self.processes
-            .give_up(alloc, at, &mut self.flows, clock, place)
+        let flows = &mut self.flows;
+        match self.processes.give_up(alloc, at, flows, clock, place)? {
+            Some(num) => {
+                self.managements.remove(at, name.as_slice());
+                Ok(Some(num))
+            }
+            None => Ok(None),
+        }
     }
 
     /// Makes the acknowledgement that is due at an end, at its IPC process, and answers whether one was. Without memory

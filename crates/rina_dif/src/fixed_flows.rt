@@ -14,12 +14,14 @@ ghost use Rattle.rina_dif_law.specs.Numbered.{asked_at, is_asker};
 ghost use Rattle.rina_dif_law.specs.Standing.{IsConfig};
 ghost use Rattle.rina_flows.specs.Elsewhere.{SameBut};
 ghost use Rattle.rina_dif.specs.Binding.{AddsFlow, BindsTo, Draws, MayBind, SomeDraws};
+ghost use Rattle.rina_dif.specs.Changing.{BindsManaged, ManagesBind};
 ghost use Rattle.rina_dif.specs.Facade.{GoesOn, IsShownAs, StaysStanding, shown_as};
 ghost use Rattle.rina_dif.specs.Holding.{Holds};
 ghost use Rattle.rina_dif.specs.Whole.{IsDif};
 
 use crate::dif::Dif;
 use crate::facade::cube_of;
+use crate::managements::Managements;
 use crate::names::is_registered;
 use rina_base::{Addr, AppName, FlowName, Memory, Node, PduKind, Port, Seq};
 use rina_conn::Peer;
@@ -61,7 +63,7 @@ fn asked(ends: &[End], node: Node) -> usize
 }
 
 /// The greatest sequence number.
-fn greatest(widths: Widths) -> u32
+pub(crate) fn greatest(widths: Widths) -> u32
     requires { AreWidths widths }
     ensures { result ≡ 2 ^ (8 * widths.seq) - 1 }
 {
@@ -73,7 +75,7 @@ fn greatest(widths: Widths) -> u32
 }
 
 /// How many bytes a piece has at most.
-fn piece(settings: &Settings) -> u32
+pub(crate) fn piece(settings: &Settings) -> u32
     requires { IsConfig (config_of settings.now) }
     ensures { result ≡ piece_size (config_of settings.now) }
 {
@@ -81,7 +83,7 @@ fn piece(settings: &Settings) -> u32
 }
 
 /// An end of a flow of a cube, which is allocated at once.
-fn new_end(
+pub(crate) fn new_end(
     alloc: Global,
     flow: FlowName,
     role: Role,
@@ -180,6 +182,31 @@ impl Dif {
         added
     }
 
+    /// The managements once a flow is bound whose ends have these addresses and ports: every member takes the directory entry
+    /// of the far application, and the members of the two ends show the flow.
+    fn managements_with_flow(
+        &self,
+        alloc: Global,
+        fixed: &Fixed,
+        near: NextEnd,
+        other: NextEnd,
+    ) -> Result<Managements, Memory>
+        requires valid { IsDif self.now }
+        requires may { MayBind self.now fixed.now }
+        ensures { IfOk result (ManagesBind self.now fixed.now (near.port, other.port)) }
+    {
+        let (Some(a), Some(b)) = (self.place_at_node(fixed.a), self.place_at_node(fixed.b)) else {
+            unreachable!()
+        };
+        let Some(far) = self.settings.members.get(b) else {
+            unreachable!()
+        };
+        let mut managements = self.managements.entered(alloc, &fixed.b_app, far.addr)?;
+        managements.show_flow(alloc, a, near.port.n)?;
+        managements.show_flow(alloc, b, other.port.n)?;
+        Ok(managements)
+    }
+
     /// Makes a fixed flow.
     fn bind_flow(&mut self, alloc: Global, fixed: &Fixed) -> Result<(Port, Port), AllocateError>
         requires valid { IsDif self.old }
@@ -187,7 +214,8 @@ impl Dif {
         ensures does { (lines : List Direction) (below : Seen) → Holds self.old lines below → BindsTo self.old lines below fixed.now result self.new }
         ensures same { (self.new.settings ≡ self.old.settings) × (self.new.clock ≡ self.old.clock) × (self.new.failed ≡ self.old.failed) }
         ensures laid { self.new.laid ≡ self.old.laid }
-        ensures whole { self.new ≡ record self.old { flows = self.new.flows; names = self.new.names } }
+        ensures whole { self.new ≡ record self.old { flows = self.new.flows; names = self.new.names; managements = self.new.managements } }
+        ensures manages { BindsManaged result self.old fixed.now self.new.managements }
         ensures keeps { SameBut (λ i. length self.old.flows.conns ≤ i) self.old.flows.conns self.new.flows.conns }
     {
         let near = self.draw(fixed.a);
@@ -206,12 +234,15 @@ impl Dif {
         let (a_app, b_app, cube) = (&fixed.a_app, &fixed.b_app, fixed.cube);
         let asker = new_end(alloc, flow, Role::Asker, near.port, a_app, b_app, cube)?;
         let far = new_end(alloc, flow, Role::Far, other.port, b_app, a_app, cube)?;
+        let managements = self.managements_with_flow(alloc, fixed, near, other)?;
         self.add_named(alloc, peer, asker, far)?;
+        self.managements = managements;
         Ok((near.port, other.port))
     }
 
     /// Makes a flow that the stack fixes, both ends of which are allocated and claimed, and registers the application
-    /// of the far end. It answers the ports of both ends.
+    /// of the far end: every member takes its directory entry, and the members of both ends show the flow. It answers the
+    /// ports of both ends.
     pub fn bind(&mut self, alloc: Global, fixed: &Fixed) -> Result<(Port, Port), AllocateError>
         requires valid { IsDif self.old }
         requires fac { self.old.settings.fac ≡ fixed.now.fac }
@@ -223,7 +254,8 @@ impl Dif {
         ensures stands { StaysStanding self.old self.new }
         ensures settings { self.new.settings ≡ self.old.settings }
         ensures laid { self.new.laid ≡ self.old.laid }
-        ensures whole { self.new ≡ record self.old { flows = self.new.flows; names = self.new.names; failed = self.new.failed } }
+        ensures whole { self.new ≡ record self.old { flows = self.new.flows; names = self.new.names; managements = self.new.managements; failed = self.new.failed } }
+        ensures manages { BindsManaged result self.old fixed.now self.new.managements }
         ensures keeps { SameBut (λ i. length self.old.flows.conns ≤ i) self.old.flows.conns self.new.flows.conns }
         ensures failed { self.old.failed ≡ true → result ≡ Err MemoryWanted }
         ensures fails { self.new.failed ≡ true ↔ (result ≡ Err MemoryWanted) }

@@ -1,5 +1,5 @@
 //! How a DIF loses a link.
-ghost use Rattle.std.specs.Prelude.{◌≡◌, ◌↔◌, ◌<◌, ℕ, List, None, Some, IfOk, IsTrue, length, slice_get};
+ghost use Rattle.std.specs.Prelude.{◌≡◌, ◌↔◌, ◌<◌, ℕ, List, None, Some, IfOk, IsTrue, OnOk, length, slice_get};
 ghost use Rattle.rina_iface.specs.Seen.{Seen};
 ghost use Rattle.rina_law.specs.Direction.{Direction};
 ghost use Rattle.rina_data.specs.declared.link.Link.{Link};
@@ -9,18 +9,21 @@ ghost use Rattle.rina_data.specs.Losing.{FindsLost};
 ghost use Rattle.rina_dif_law.specs.Losing.{NoneLive};
 ghost use Rattle.rina_dif_law.specs.Sending.{home};
 ghost use Rattle.rina_flows.specs.Elsewhere.{SameBut};
+ghost use Rattle.rina_flows.specs.Stopping.{is_here};
 ghost use Rattle.rina_dif.specs.Elsewhere.{ChangesOnly, ChangesProcess, IsEndOf, WhenOk};
 ghost use Rattle.rina_dif.specs.Holding.{Holds, Stands};
-ghost use Rattle.rina_dif.specs.Managing.{IsWithout, ManagesLoss};
+ghost use Rattle.rina_dif.specs.Changing.{ManagesLoss, allocated_at, cep_here, without_flow_if};
+ghost use Rattle.rina_member.specs.Managements.{LosesLink, without_flows};
+ghost use Rattle.rina_member.specs.declared.management.Management.{Management};
 ghost use Rattle.rina_member.specs.Knowing.{AreRoutesOf};
 ghost use Rattle.rina_dif.specs.Unlinking.{FindsLostAt, FindsNoneLeft, HasFailed, LosesAs, TellsNoneLeft, links_without};
 
 use crate::dif::Dif;
-use rina_agent::Agent;
 use rina_base::{Memory, Node, Port, Seq};
+use rina_conn::Conn;
 use rina_data::{Link, Lost, Route, lost_link};
-use rina_iface::{Facility, Fail, PortState};
-use rina_member::{routes_of, without_link};
+use rina_iface::{End, Facility, Fail, PortState};
+use rina_member::{Management, flow_name, routes_of, without_link};
 use std::alloc::Global;
 
 /// Whether no link is live but the one at a place.
@@ -56,6 +59,31 @@ fn last_failed<F: Facility>(links: &[Link], lost: usize, below: &F) -> Option<Po
     }
 }
 
+/// Whether an end is allocated, and at a node.
+fn is_here(end: &End, node: Node) -> bool
+    ensures { result ≡ is_here node end.now }
+{
+    matches!(end.state, PortState::Allocated) && end.port.node == node
+}
+
+/// Deletes the object of a flow, where its end is an allocated one at a node.
+fn end_flow(
+    alloc: Global,
+    node: Node,
+    end: &End,
+    conn: &Conn,
+    management: &mut Management,
+) -> Result<(), Memory>
+    ensures { OnOk result (management.new ≡ without_flow_if management.old (cep_here node (end.now, conn.now))) }
+{
+    if !is_here(end, node) {
+        return Ok(());
+    }
+    let name = flow_name(alloc, conn.sending.form.peer.scep)?;
+    management.remove(name.as_slice());
+    Ok(())
+}
+
 impl Dif {
     /// The link that the IPC process at a place loses first. None exactly where it loses none.
     pub(crate) fn lost_link_at<F: Facility>(&self, below: &F, at: usize) -> Option<Lost>
@@ -70,23 +98,43 @@ impl Dif {
     }
 
     /// The management of the member at a place after it lost the link that was found there.
-    fn management_without(&self, alloc: Global, at: usize, lost: Lost) -> Result<Agent, Memory>
+    fn management_without(&self, alloc: Global, at: usize, lost: Lost) -> Result<Management, Memory>
         requires stands { (below : Seen) × Stands self.now below × FindsLostAt self.now below at (Some lost) }
         requires at { at < length self.now.settings.members }
-        ensures { IfOk result (IsWithout self.now at lost.number) }
+        ensures { IfOk result (λ after. (m : Management) → slice_get self.now.managements at ≡ Some m → LosesLink self.now.clock lost.number m after) }
     {
-        let Some(agent) = self.agents.get(at) else {
+        let Some(management) = self.managements.get(at) else {
             unreachable!()
         };
-        without_link(alloc, agent, self.clock, lost.number)
+        without_link(alloc, management, self.clock, lost.number)
     }
 
     /// The next hops over the items that a management holds.
-    fn routes_over(&self, alloc: Global, management: &Agent) -> Result<Seq<Route>, Memory>
-        ensures { IfOk result (AreRoutesOf management.now self.now.settings.members) }
+    fn routes_over(&self, alloc: Global, management: &Management) -> Result<Seq<Route>, Memory>
+        ensures { IfOk result (AreRoutesOf management.now.agent self.now.settings.members) }
     {
-        let routes = routes_of(alloc, management, self.settings.members.as_slice())?;
+        let routes = routes_of(alloc, &management.agent, self.settings.members.as_slice())?;
         Ok(Seq::from_vec(routes))
+    }
+
+    /// Deletes the objects of the flows at a node whose ends are allocated.
+    fn end_flows(
+        &self,
+        alloc: Global,
+        node: Node,
+        management: &mut Management,
+    ) -> Result<(), Memory>
+        requires { length self.now.flows.journal.ends ≡ length self.now.flows.conns }
+        ensures { OnOk result (management.new ≡ without_flows management.old (allocated_at node self.now.flows)) }
+    {
+        for at in 0..self.flows.conns.len() {
+            let conn = self.flows.conns.at(at);
+            let Some(end) = self.flows.journal.ends.get(at) else {
+                unreachable!()
+            };
+            end_flow(alloc, node, end, conn, management)?;
+        }
+        Ok(())
     }
 
     /// Loses the link that was found at the IPC process at a place: what waits for it is written off, it is no longer
@@ -98,15 +146,15 @@ impl Dif {
         ensures does { (node : ℕ) (lines : List Direction) (below : Seen) → Holds self.old lines below → FindsLostAt self.old below at (Some lost) → FindsNoneLeft self.old below at lost.place None → LosesAs self.old lines below at node lost.number result self.new }
         ensures same { (self.new.settings ≡ self.old.settings) × (self.new.failed ≡ self.old.failed) }
         ensures laid { self.new.laid ≡ self.old.laid }
-        ensures whole { self.new ≡ record self.old { processes = self.new.processes; flows = self.new.flows; agents = self.new.agents } }
-        ensures manages { ManagesLoss result self.old.clock at lost.number self.old.agents self.new.agents }
+        ensures whole { self.new ≡ record self.old { processes = self.new.processes; flows = self.new.flows; managements = self.new.managements } }
+        ensures manages { (node : ℕ) (below : Seen) → FindsLostAt self.old below at (Some lost) → FindsNoneLeft self.old below at lost.place None → ManagesLoss result self.old below at node lost.number self.new.managements }
         ensures leaves { ChangesProcess (Some at) self.old.processes self.new.processes }
         ensures flows { self.new.flows ≡ self.old.flows }
     {
         let after = self.management_without(alloc, at, lost)?;
         let routes = self.routes_over(alloc, &after)?;
         self.processes.lose_link(alloc, at, lost.place, routes)?;
-        self.agents.set(at, after);
+        self.managements.set(at, after);
         Ok(())
     }
 
@@ -126,18 +174,19 @@ impl Dif {
         ensures does { (lines : List Direction) (below : Seen) → Holds self.old lines below → FindsLostAt self.old below at (Some lost) → FindsNoneLeft self.old below at lost.place (Some port) → LosesAs self.old lines below at node lost.number result self.new }
         ensures same { (self.new.settings ≡ self.old.settings) × (self.new.failed ≡ self.old.failed) }
         ensures laid { self.new.laid ≡ self.old.laid }
-        ensures whole { self.new ≡ record self.old { processes = self.new.processes; flows = self.new.flows; agents = self.new.agents } }
-        ensures manages { ManagesLoss result self.old.clock at lost.number self.old.agents self.new.agents }
+        ensures whole { self.new ≡ record self.old { processes = self.new.processes; flows = self.new.flows; managements = self.new.managements } }
+        ensures manages { (below : Seen) → FindsLostAt self.old below at (Some lost) → FindsNoneLeft self.old below at lost.place (Some port) → ManagesLoss result self.old below at node lost.number self.new.managements }
         ensures leaves { ChangesOnly (λ i. WhenOk result (IsEndOf self.old (Some at) i)) (Some at) self.old self.new }
     {
-        let management = self.management_without(alloc, at, lost)?;
+        let mut management = self.management_without(alloc, at, lost)?;
         let routes = self.routes_over(alloc, &management)?;
+        self.end_flows(alloc, node, &mut management)?;
         let state = PortState::Failed(Fail::Below { port });
         let flows = &mut self.flows;
         self.processes.lose_last_link(
             alloc, at, lost.place, routes, flows, self.clock, node, state,
         )?;
-        self.agents.set(at, management);
+        self.managements.set(at, management);
         Ok(())
     }
 
@@ -159,8 +208,8 @@ impl Dif {
         ensures does { (lines : List Direction) → Holds self.old lines (F.seen below.now) → LosesAs self.old lines (F.seen below.now) at node lost.number result self.new }
         ensures same { (self.new.settings ≡ self.old.settings) × (self.new.failed ≡ self.old.failed) }
         ensures laid { self.new.laid ≡ self.old.laid }
-        ensures whole { self.new ≡ record self.old { processes = self.new.processes; flows = self.new.flows; agents = self.new.agents } }
-        ensures manages { ManagesLoss result self.old.clock at lost.number self.old.agents self.new.agents }
+        ensures whole { self.new ≡ record self.old { processes = self.new.processes; flows = self.new.flows; managements = self.new.managements } }
+        ensures manages { ManagesLoss result self.old (F.seen below.now) at node lost.number self.new.managements }
         ensures leaves { ChangesOnly (λ i. WhenOk result (IsEndOf self.old (Some at) i)) (Some at) self.old self.new }
     {
         let Some(process) = self.processes.get(at) else {

@@ -1,34 +1,141 @@
 //! The managements of the members of a DIF, and the next hops over the items that they hold.
-ghost use Rattle.std.specs.Prelude.{◌≡◌, ◌≤◌, length, IfOk, OnOk};
+ghost use Rattle.std.specs.Prelude.{◌≡◌, ◌<◌, ◌≤◌, [], ◌∷◌, ◌++◌, length, map, slice_get, slice_set, Some, IfOk, OnOk, OnErr, MatchOption};
+ghost use Rattle.rina_dif.specs.Changing.{changed_at, with_flow_at};
 ghost use Rattle.rina_dif.specs.Managing.{AreStarted};
 ghost use Rattle.rina_dif.specs.Routing.{AreRouted};
+ghost use Rattle.rina_member.specs.Managements.{entered, with_objects};
+ghost use Rattle.rina_member.specs.Objects.{removed};
 
 use crate::dif::Dif;
 use crate::processes::Processes;
 use rina_access::{Rule, Rules};
-use rina_agent::Agent;
-use rina_base::{Memory, Seq};
+use rina_base::{Addr, AppName, Cep, Memory, Seq};
+use rina_cube::Cube;
 use rina_data::Member;
-use rina_member::{routes_of, start_items, started};
+use rina_member::{Management, first_objects, routes_of, start_items, started};
 use rina_plan::LinkPlan;
-use std::alloc::Global;
+use rina_rib::Rib;
+use std::alloc::{AllocError, Global};
+use std::marker::Model;
 
-/// The management of each member from the start, at the place of the member, where these are the links of the DIF, and
-/// its IPC processes have theirs. `rules` are tried from the first on; `allow` is what holds where none matches.
+/// The managements of the members of a DIF, each at the place of its member. A contract sees the list of them.
+#[derive(Drop)]
+pub struct Managements {
+    items: Vec<Management>,
+}
+
+impl Model for Managements {
+    ghost use Rattle.std.specs.Prelude.{List};
+    ghost use Rattle.rina_member.specs.declared.management.Management.{Management};
+
+    ghost Value = { List Management };
+
+    ghost view = { λ m. m.items.items };
+}
+
+impl Managements {
+    /// No managements yet.
+    pub fn new(alloc: Global) -> Managements
+        ensures { result ≡ [] }
+    {
+        Managements {
+            items: Vec::new(alloc),
+        }
+    }
+
+    /// Adds a management.
+    pub fn push(&mut self, management: Management) -> Result<(), AllocError>
+        ensures ok { OnOk result (self.new ≡ self.old ++ management ∷ []) }
+        ensures err { OnErr result (self.new ≡ self.old) }
+    {
+        self.items.push(management)?;
+        Ok(())
+    }
+
+    /// All managements, each at the place of its member.
+    pub fn as_slice(&self) -> &[Management]
+        ensures { result.now ≡ self.now }
+    {
+        self.items.as_slice()
+    }
+
+    /// The management of the member at a place, counted from 0. None where the place is out of range.
+    pub fn get(&self, at: usize) -> Option<&Management>
+        ensures { MatchOption result (length self.now ≤ at) (λ m. slice_get self.now at ≡ Some m.now) }
+    {
+        self.items.get(at)
+    }
+
+    /// Gives the member at a place another management. Takes no memory.
+    pub fn set(&mut self, at: usize, management: Management)
+        requires { at < length self.old }
+        ensures { self.new ≡ slice_set self.old at management }
+    {
+        self.items[at] = management;
+    }
+
+    /// The managements once every member took the directory entry of an application that is registered at the member of an
+    /// address. Those that are given stay as they are.
+    pub fn entered(
+        &self,
+        alloc: Global,
+        app: &AppName,
+        address: Addr,
+    ) -> Result<Managements, Memory>
+        ensures { IfOk result (λ ms. ms ≡ map (entered app.now address) self.now) }
+    {
+        let mut all = Managements::new(alloc);
+        for management in self.as_slice() {
+            let mut after = management.copy(alloc)?;
+            after.enter(alloc, app, address)?;
+            all.push(after)?;
+        }
+        Ok(all)
+    }
+
+    /// Shows the object of a flow at the member of a place.
+    pub fn show_flow(&mut self, alloc: Global, at: usize, cep: Cep) -> Result<(), Memory>
+        requires { at < length self.old }
+        ensures { OnOk result (self.new ≡ with_flow_at at cep self.old) }
+    {
+        self.items[at].show_flow(alloc, cep)
+    }
+
+    /// Deletes an object of the member at a place, where it is there. Takes no memory.
+    pub fn remove(&mut self, at: usize, name: &[u8])
+        requires { at < length self.old }
+        ensures { self.new ≡ changed_at at (λ m. with_objects m (removed m.objects name.now)) self.old }
+    {
+        self.items[at].remove(name);
+    }
+
+    /// Gives the member at a place other objects. Takes no memory.
+    pub fn set_objects(&mut self, at: usize, objects: Rib)
+        requires { at < length self.old }
+        ensures { self.new ≡ changed_at at (λ m. with_objects m objects) self.old }
+    {
+        self.items[at].objects = objects;
+    }
+}
+
+/// The management of each member from the start, at the place of the member, where these are the cubes and the links of the
+/// DIF, and its IPC processes have theirs. `rules` are tried from the first on; `allow` is what holds where none matches.
 pub(crate) fn start_all(
     alloc: Global,
+    cubes: &[Cube],
     members: &[Member],
     plans: &[LinkPlan],
     rules: &[Rule],
     allow: bool,
     processes: &Processes,
-) -> Result<Seq<Agent>, Memory>
+) -> Result<Managements, Memory>
     requires aligned { length processes.now ≡ length members.now }
     requires few { length rules.now ≤ 256 }
-    ensures { IfOk result (λ agents. AreStarted members.now plans.now rules.now allow (length members.now) processes.now agents) }
+    ensures { IfOk result (λ managements. AreStarted cubes.now members.now plans.now rules.now allow (length members.now) processes.now managements) }
 {
     let items = start_items(alloc, members, plans)?;
-    let mut agents = Seq::new(alloc);
+    let shown = first_objects(alloc, cubes, &items)?;
+    let mut managements = Managements::new(alloc);
     for at in 0..members.len() {
         let Some(process) = processes.get(at) else {
             unreachable!()
@@ -36,9 +143,11 @@ pub(crate) fn start_all(
         let access = Rules::new(alloc, rules, allow)?;
         let member = &members[at];
         let links = process.links.as_slice();
-        agents.push(started(alloc, members, plans, access, member, links, &items)?)?;
+        let agent = started(alloc, members, plans, access, member, links, &items)?;
+        let objects = shown.copy()?;
+        managements.push(Management { agent, objects })?;
     }
-    Ok(agents)
+    Ok(managements)
 }
 
 impl Dif {
@@ -50,13 +159,14 @@ impl Dif {
         plans: &[LinkPlan],
         rules: &[Rule],
         allow: bool,
-    ) -> Result<Seq<Agent>, Memory>
+    ) -> Result<Managements, Memory>
         requires aligned { length self.now.processes ≡ length self.now.settings.members }
         requires few { length rules.now ≤ 256 }
-        ensures { IfOk result (λ agents. AreStarted self.now.settings.members plans.now rules.now allow (length self.now.settings.members) self.now.processes agents) }
+        ensures { IfOk result (λ managements. AreStarted self.now.settings.cubes self.now.settings.members plans.now rules.now allow (length self.now.settings.members) self.now.processes managements) }
     {
+        let cubes = self.settings.cubes.as_slice();
         let members = self.settings.members.as_slice();
-        start_all(alloc, members, plans, rules, allow, &self.processes)
+        start_all(alloc, cubes, members, plans, rules, allow, &self.processes)
     }
 }
 
@@ -65,13 +175,13 @@ pub(crate) fn route_all(
     processes: &mut Processes,
     alloc: Global,
     members: &[Member],
-    agents: &[Agent],
+    managements: &[Management],
 ) -> Result<(), Memory>
-    requires { length processes.old ≡ length agents.now }
-    ensures { OnOk result (AreRouted members.now agents.now (length agents.now) processes.old processes.new) }
+    requires { length processes.old ≡ length managements.now }
+    ensures { OnOk result (AreRouted members.now managements.now (length managements.now) processes.old processes.new) }
 {
-    for at in 0..agents.len() {
-        let routes = routes_of(alloc, &agents[at], members)?;
+    for at in 0..managements.len() {
+        let routes = routes_of(alloc, &managements[at].agent, members)?;
         processes.set_routes(at, Seq::from_vec(routes));
     }
     Ok(())

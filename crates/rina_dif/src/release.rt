@@ -8,6 +8,7 @@ ghost use Rattle.rina_iface.specs.Free.{Frees};
 ghost use Rattle.rina_iface.specs.Seen.{Seen};
 ghost use Rattle.rina_iface.specs.State.{freed_state};
 ghost use Rattle.rina_law.specs.Direction.{Direction};
+ghost use Rattle.rina_dif.specs.Changing.{FreesManaged};
 ghost use Rattle.rina_dif.specs.Elsewhere.{ChangesOnly, IsPortAt, WhenOk, home_of};
 ghost use Rattle.rina_dif.specs.Facade.{GoesOn, IsShownAs, StaysStanding, shown_as};
 ghost use Rattle.rina_dif.specs.Freeing.{FreesAt, FreesHere};
@@ -31,8 +32,8 @@ fn freed(state: PortState) -> PortState
 }
 
 impl Dif {
-    /// Closes the allocated end at a place, which is at a node, and writes off what its connection holds in the ledger
-    /// of the member there.
+    /// Closes the allocated end at a place, which is at a node, writes off what its connection holds in the ledger of the
+    /// member there, and deletes the object of the flow.
     fn close_at(&mut self, alloc: Global, at: usize, node: Node) -> Result<(), Memory>
         requires valid { IsDif self.old }
         requires at { at < length self.old.flows.journal.ends }
@@ -40,15 +41,19 @@ impl Dif {
         ensures does { (lines : List Direction) (below : Seen) → Holds self.old lines below → FreesHere self.old lines below at result self.new }
         ensures same { (self.new.settings ≡ self.old.settings) × (self.new.clock ≡ self.old.clock) × (self.new.failed ≡ self.old.failed) }
         ensures laid { self.new.laid ≡ self.old.laid }
-        ensures whole { self.new ≡ record self.old { processes = self.new.processes; flows = self.new.flows } }
+        ensures whole { self.new ≡ record self.old { processes = self.new.processes; managements = self.new.managements; flows = self.new.flows } }
+        ensures manages { FreesManaged (Some at) result self.old self.new.managements }
         ensures leaves { ChangesOnly (λ i. WhenOk result (i ≡ at)) (home_of self.old node) self.old self.new }
     {
         let Some(home) = self.place_at_node(node) else {
             unreachable!()
         };
         let clock = self.clock;
+        let name = self.name_of_flow(alloc, at)?;
         self.processes
-            .stop(alloc, home, &mut self.flows, clock, at, PortState::Closed)
+            .stop(alloc, home, &mut self.flows, clock, at, PortState::Closed)?;
+        self.managements.remove(home, name.as_slice());
+        Ok(())
     }
 
     /// Frees the end at a place.
@@ -58,7 +63,8 @@ impl Dif {
         ensures does { (lines : List Direction) (below : Seen) → Holds self.old lines below → FreesHere self.old lines below at result self.new }
         ensures same { (self.new.settings ≡ self.old.settings) × (self.new.clock ≡ self.old.clock) × (self.new.failed ≡ self.old.failed) }
         ensures laid { self.new.laid ≡ self.old.laid }
-        ensures whole { self.new ≡ record self.old { processes = self.new.processes; flows = self.new.flows } }
+        ensures whole { self.new ≡ record self.old { processes = self.new.processes; managements = self.new.managements; flows = self.new.flows } }
+        ensures manages { FreesManaged (Some at) result self.old self.new.managements }
         ensures leaves { (end : End) → slice_get self.old.flows.journal.ends at ≡ Some end → ChangesOnly (λ i. WhenOk result (i ≡ at)) (home_of self.old end.port.node) self.old self.new }
     {
         let Some(end) = self.flows.journal.ends.get(at) else {
@@ -74,8 +80,8 @@ impl Dif {
         }
     }
 
-    /// Gives up a port: an allocated one is closed, at this end alone, and the pieces that its connection holds are
-    /// written off; one that was asked for is withdrawn, and any other stays as it is.
+    /// Gives up a port: an allocated one is closed, at this end alone, the pieces that its connection holds are written
+    /// off, and the object of the flow is deleted; one that was asked for is withdrawn, and any other stays as it is.
     pub fn free(&mut self, alloc: Global, port: Port) -> Result<(), FreeError>
         requires { IsDif self.old }
         ensures valid { IsDif self.new }
@@ -85,7 +91,8 @@ impl Dif {
         ensures stands { StaysStanding self.old self.new }
         ensures settings { self.new.settings ≡ self.old.settings }
         ensures laid { self.new.laid ≡ self.old.laid }
-        ensures whole { self.new ≡ record self.old { processes = self.new.processes; flows = self.new.flows; failed = self.new.failed } }
+        ensures whole { self.new ≡ record self.old { processes = self.new.processes; managements = self.new.managements; flows = self.new.flows; failed = self.new.failed } }
+        ensures manages { FreesManaged (place_in port self.old.flows.journal.ends) result self.old self.new.managements }
         ensures leaves { ChangesOnly (λ i. WhenOk result (IsPortAt self.old port i)) (home_of self.old port.node) self.old self.new }
         ensures failed { self.old.failed ≡ true → result ≡ Err NoneFound }
         ensures fails { self.new.failed ≡ true ↔ (result ≡ Err NoneFound) }

@@ -8,6 +8,7 @@ ghost use Rattle.rina_dif_law.specs.Standing.{IsConfig};
 ghost use Rattle.rina_dif.specs.Building.{AreBare, IsBare, IsBareDif, IsFree, queue_ids};
 ghost use Rattle.rina_dif.specs.Holding.{Holds};
 
+use crate::connections::Connections;
 use crate::dif::Dif;
 use crate::layout::Layout;
 use crate::managements::start_all;
@@ -58,20 +59,24 @@ fn all_bare(alloc: Global, settings: &Settings) -> Result<Processes, Memory>
 
 impl Dif {
     /// A DIF of these settings, whose clock is that of the rank below, without links, names and flows, where everyone may
-    /// enrol. It stands on every kept rank where no end has a member as its application or its peer.
-    pub fn new(alloc: Global, settings: Settings, clock: Tick) -> Result<Dif, Memory>
+    /// enrol. `manage` is the cube of the management connections that its links will have. It stands on every kept rank where
+    /// no end has a member as its application or its peer.
+    pub fn new(alloc: Global, settings: Settings, manage: Cube, clock: Tick) -> Result<Dif, Memory>
         ensures settings { IfOk result (λ d. d.settings ≡ settings) }
         ensures clock { IfOk result (λ d. d.clock ≡ clock) }
+        ensures manage { IfOk result (λ d. d.connections.manage ≡ manage) }
         ensures alive { IfOk result (λ d. d.failed ≡ false) }
         ensures bare { IfOk result IsBareDif }
         ensures holds { IfOk result (λ d. (below : Seen) → AreKept below → IsConfig (config_of settings) → AreMembers (config_of settings) → clock ≡ below.now → IsFree (config_of settings) below → Holds d [] below) }
     {
         let processes = all_bare(alloc, &settings)?;
         let laid = Layout::none(alloc);
+        let connections = Connections::none(alloc, manage);
         let members = settings.members.as_slice();
         let rules = Seq::new(alloc);
-        let agents = start_all(
+        let managements = start_all(
             alloc,
+            settings.cubes.as_slice(),
             members,
             laid.links.as_slice(),
             rules.as_slice(),
@@ -82,8 +87,9 @@ impl Dif {
             settings,
             clock,
             processes,
-            agents,
+            managements,
             laid,
+            connections,
             flows: Flows::new(alloc),
             waiting: Vec::new(alloc),
             names: Seq::new(alloc),

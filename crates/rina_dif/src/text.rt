@@ -1,10 +1,9 @@
 //! Numbers in decimal.
-ghost use Rattle.std.specs.Prelude.{◌≡◌, ◌++◌, IfOk, OnOk};
+ghost use Rattle.std.specs.Prelude.{◌≡◌, ◌++◌, OnOk};
 ghost use Rattle.std.specs.Fmt.{decimal};
 ghost use Rattle.rina_dif.specs.Objects.{number_text};
 
 use itoa::Buffer;
-use rina_base::{Bytes, Seq};
 use std::alloc::{AllocError, Global};
 
 /// Adds a number in decimal.
@@ -14,15 +13,6 @@ pub(crate) fn add_decimal(text: &mut Vec<u8>, n: u64) -> Result<(), AllocError>
     let mut buffer = Buffer::new();
     text.extend_from_slice(buffer.format(n).as_bytes())?;
     Ok(())
-}
-
-/// A number in decimal behind a text.
-pub(crate) fn numbered(alloc: Global, text: &[u8], n: u64) -> Result<Bytes, AllocError>
-    ensures { IfOk result (λ b. b ≡ text.now ++ decimal n) }
-{
-    let mut name = Vec::from_slice(alloc, text)?;
-    add_decimal(&mut name, n)?;
-    Ok(Seq::from_vec(name))
 }
 
 /// Adds a number, or a dash where there is none.

@@ -45,6 +45,7 @@ pub mod WiresEvents
 pub mod WiresLaid
 pub mod WiresRun
 pub mod WrittenCalls
+pub mod UserObjects
 pub mod WrittenGoes
 pub mod WrittenGrows
 pub mod WrittenRun

@@ -169,7 +169,7 @@ outs plan may slots slots' dif node link r (Wires a) (Rank' p difs below) d = ab
 outs plan may slots slots' dif node link r (Rank' p difs below) (Wires a) d = absurd d
 
 asks_stays : (node : ℕ) (bytes : List ℕ) (r : Result (List ℕ) CdapCallError) (d d' : Dif) → AsksOne node bytes r d d' → IsStaying d d'
-asks_stays node bytes r d d' s = record { settings = ap (λ (x : Dif). x.settings) s.keeps.is; links = s.keeps.links }
+asks_stays node bytes r d d' s = record { settings = ap (λ (x : Dif). x.settings) s.keeps.is; links = ap (λ (x : Dif). x.laid.links) s.keeps.is }
 
 pub asks : (plan : Plan) (dif node : ℕ) (bytes : List ℕ) (r : Result (List ℕ) CdapCallError) (t t' : Tower) → AsksAtTop dif node bytes r t t' → Keeps plan t t'
 asks plan dif node bytes r (Wires a) (Wires a') d = (refl, λ h. tt)

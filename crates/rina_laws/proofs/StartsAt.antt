@@ -13,7 +13,12 @@ use Rattle.rina_data.specs.Configs.{Config}
 use Rattle.rina_data.specs.Deciding.{plain, process_of}
 use Rattle.rina_dif.specs.declared.dif.Dif.{Dif}
 use Rattle.rina_dif.specs.Laying.{BindsInTurn, IsNew, IsNewProcess, links_from}
-use Rattle.rina_dif.specs.Planned.{links_of}
+use Rattle.rina_dif.specs.Changing.{ManagesBind}
+use Rattle.rina_dif.specs.Planned.{links_of, settings_in}
+use Rattle.rina_plan.specs.declared.dif.DifPlan.{DifPlan}
+use Rattle.rina_data.specs.declared.settings.Settings.{Settings}
+use Rattle.rina_member.specs.declared.management.Management.{Management}
+use Rattle.rina_laws.proofs.UserObjects.{none_bound, none_started}
 use Rattle.rina_wire.specs.Air.{Air, Line, on_wire, put}
 use Rattle.rina_wire.specs.Bind.{bound_on}
 use Rattle.rina_wire.specs.Plan.{air_of, line_of}
@@ -105,8 +110,17 @@ new_did_nothing g node ports p new = record {
   ledger = new.ledger;
 }
 
+dif_there : (plan : Plan) (i : ℕ) (s : Settings) (o : Option DifPlan) → slice_get plan.difs i ≡ o → settings_in plan i o ≡ Some s → (dif : DifPlan) × (slice_get plan.difs i ≡ Some dif)
+dif_there plan i s None is of = absurd cc
+dif_there plan i s (Some dif) is of = (dif, is)
+
 new_untouched : (plan : Plan) (i : ℕ) (d : Dif) (old new : Seen) → IsNew plan i d old new → IsUntouched d
-new_untouched plan i d old new h = record { processes = λ k member p of at. new_did_nothing _ _ _ p (h.processes k member p of at); kept = h.kept }
+new_untouched plan i d old new h =
+    let dif = dif_there plan i d.settings (slice_get plan.difs i) refl h.settings in
+    record {
+      processes = λ k member p of at. new_did_nothing _ _ _ p (h.processes k member p of at);
+      kept = λ k member p m of at here. none_started d.settings.cubes d.settings.members dif.0.links m.objects ((h.managed dif.0 dif.1).each k member p m of at here).shows;
+    }
 
 made_untouched : (plan : Plan) (is : List ℕ) (t : Tower) (ds : List Dif) (u : Tower) → AreMadeOver plan is t ds u → (n : ℕ) (d : Dif) → slice_get ds n ≡ Some d → IsUntouched d
 made_untouched plan [] t [] u m n d h = cc
@@ -115,15 +129,18 @@ made_untouched plan (i ∷ is) t [] u m n d h = absurd m
 made_untouched plan (i ∷ is) t (x ∷ ds) u m zero d h = subst IsUntouched (same_Some x d h) (new_untouched plan i x (seen_of t) (seen_of m.0) m.1)
 made_untouched plan (i ∷ is) t (x ∷ ds) u m (suc n) d h = made_untouched plan is m.0 ds u m.3 n d h
 
-names_untouched : (d d' : Dif) → ChangesNames d d' → IsUntouched d → IsUntouched d'
-names_untouched d d' is h = subst IsUntouched (sym is) (record { processes = h.processes; kept = h.kept })
+bound_untouched : (d d' : Dif) (f : Fixed) (ports : Port × Port) → ChangesNames d d' → ManagesBind d f ports d'.managements → IsUntouched d → IsUntouched d'
+bound_untouched d d' f ports is m h = subst IsUntouched (sym is) (record {
+  processes = h.processes;
+  kept = λ k member p x of at here. none_bound f.b_app m.far.addr m.a ports.0.n m.b ports.1.n k d.managements (λ y old. h.kept k member p y of at old) x (subst (λ (ms : List Management). slice_get ms k ≡ Some x) m.are here);
+})
 
 binds_untouched : BindsKeep AreUntouched
 binds_untouched (Wires a) (Wires a') f ports h v = tt
 binds_untouched (Rank' p difs below) (Rank' p' difs' below') f ports h v =
     let one = h.0 in
     let each : (n : ℕ) (d : Dif) → slice_get difs' n ≡ Some d → IsUntouched d = λ n d at. elim (set_at difs f.fac n one.dif one.dif' d one.is_dif (subst (λ (ds : List Dif). slice_get ds n ≡ Some d) one.new_is at)) [
-      | inl s ↦ subst IsUntouched (sym s.1) (names_untouched one.dif one.dif' one.done.serves.rest (v.0 f.fac one.dif one.is_dif))
+      | inl s ↦ subst IsUntouched (sym s.1) (bound_untouched one.dif one.dif' f ports one.done.serves.rest one.done.managed (v.0 f.fac one.dif one.is_dif))
       | inr o ↦ v.0 n d o.1
     ] in
     (each, subst AreUntouched (sym h.1) v.1)

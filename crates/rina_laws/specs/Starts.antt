@@ -1,11 +1,15 @@
 -- Where each run starts, in what its ranks do not show.
-use Rattle.std.specs.Prelude.{◌≡◌, ℕ, true, List, [], map, slice_get, Some}
+use Rattle.std.specs.Prelude.{◌≡◌, ℕ, true, List, [], codes, map, slice_get, Some}
 use Rattle.rina_policy.specs.Slots.{Slot}
 use Rattle.rina_queue.specs.declared.queue.Queue.{Queue}
 use Rattle.rina_stack.specs.declared.plan.Plan.{Plan}
 use Rattle.rina_data.specs.declared.link.Link.{Link}
 use Rattle.rina_data.specs.declared.process.IpcProcess.{IpcProcess}
 use Rattle.rina_data.specs.declared.settings.Member.{Member}
+use Rattle.rina_rib.specs.Laws.{Has, LiesBelow}
+use Rattle.rina_rib.specs.Rows.{Tree}
+use Rattle.rina_rib.specs.Things.{Thing}
+use Rattle.rina_member.specs.declared.management.Management.{Management}
 use Rattle.rina_dif.specs.declared.dif.Dif.{Dif}
 use Rattle.rina_wire.specs.Air.{Air, Line}
 use Rattle.rina_wire.specs.Plan.{air_of}
@@ -33,10 +37,14 @@ pub record DidNothing (p : IpcProcess) : Type 0 where
   pub empty : (k : ℕ) (q : Queue) → slice_get p.queues.queues.items k ≡ Some q → q.ring.items ≡ []
   pub ledger : p.ledger ≡ []
 
--- a DIF whose IPC processes did nothing, and where no request left objects
+-- no object lies below `/user`
+abbrev pub NoneOfUser : Tree → Type 0
+NoneOfUser t = (name : List ℕ) (o : Thing) → LiesBelow (codes "/user") name → Has t name o → ⊥
+
+-- a DIF whose IPC processes did nothing, and where no request left an object at a member
 pub record IsUntouched (d : Dif) : Type 0 where
   pub processes : (k : ℕ) (member : Member) (p : IpcProcess) → slice_get d.settings.members k ≡ Some member → slice_get d.processes k ≡ Some p → DidNothing p
-  pub kept : d.laid.ribs.entries ≡ []
+  pub kept : (k : ℕ) (member : Member) (p : IpcProcess) (m : Management) → slice_get d.settings.members k ≡ Some member → slice_get d.processes k ≡ Some p → slice_get d.managements k ≡ Some m → NoneOfUser m.objects
 
 -- and so each of each rank
 abbrev pub AreUntouched : Tower → Type 0

@@ -11,6 +11,7 @@ use Rattle.std.proofs.lemmas.Option.{same_Some}
 use Rattle.std.proofs.lemmas.Slice.Eq.{bytes_eq-Decides}
 use Rattle.rina_base.specs.Decimals.{number_of}
 use Rattle.rina_base.proofs.Decimals.{decimal_back}
+use Rattle.rina_dir.specs.Directory.{key_of}
 use Rattle.rina_graph.specs.declared.graph.Edge.{Edge}
 use Rattle.rina_newest.specs.declared.item.Item.{Item}
 use Rattle.rina_newest.specs.Newest.{has_key, is_newer, kept_at, taken, taken_all, without}
@@ -46,6 +47,15 @@ pub member_claims : (it : Item) (a : ℕ) → it.key ≡ member_key a → claims
 unfolding claims_of
 member_claims it a is = ap (λ (k : List ℕ). cond (starts_with nat_eq k (codes "/link/")) (claims_by (number_of (drop 6 k)) it.value) []) is
 
+-- no directory entry is a link state
+pub entry_not_link : (app : List ℕ) (b : ℕ) → key_of app ≡ link_key b → ⊥
+unfolding key_of
+entry_not_link app b h = false≢true (ap (λ (k : List ℕ). starts_with nat_eq k (codes "/link/")) h)
+
+pub entry_claims : (it : Item) (app : List ℕ) → it.key ≡ key_of app → claims_of it ≡ []
+unfolding claims_of key_of
+entry_claims it app is = ap (λ (k : List ℕ). cond (starts_with nat_eq k (codes "/link/")) (claims_by (number_of (drop 6 k)) it.value) []) is
+
 link_claims : (it : Item) (a : ℕ) → a < 2 ^ 32 → it.key ≡ link_key a → claims_of it ≡ claims_by (Some a) it.value
 unfolding claims_of
 link_claims it a small is =
@@ -70,12 +80,13 @@ value_from a (Some text) e h = (let r = made_of (claim_at a) (slice_split (λ b.
 
 -- only the link state of an address claims edges from it
 pub claimed_from : (it : Item) (e : Edge) → IsItemKey it.key → Contains (claims_of it) e → (it.key ≡ link_key e.from) × (e.from < 2 ^ 32)
-claimed_from it e h has = ⊎_elim
+claimed_from it e (inl h) has = ⊎_elim
     (λ member. absurd (in_none e (subst (λ (es : List Edge). Contains es e) (member_claims it h.0 member) has)))
     (λ link. (
     let from : e.from ≡ h.0 = value_from h.0 it.value e (subst (λ (es : List Edge). Contains es e) (link_claims it h.0 h.1 link) has) in
     (link ∙ ap (λ (a : ℕ). link_key a) (sym from), subst (λ (a : ℕ). a < 2 ^ 32) (sym from) h.1)))
     h.2
+claimed_from it e (inr h) has = absurd (in_none e (subst (λ (es : List Edge). Contains es e) (entry_claims it h.0 h.1) has))
 
 -- Items that were taken
 

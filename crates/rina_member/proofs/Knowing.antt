@@ -1,8 +1,8 @@
--- What the management of a member knows: from the start, as time goes on, and when it loses a link; and that its next hops are those over its live links
+-- What the management of a member knows: from the start, as time goes on, when it takes a directory entry, and when it loses a link; and that its next hops are those over its live links
 -- and the links that the others had from the start.
 --
--- Beside what the fields of `Knows` say of addresses, links and claims, one says that each kept item has the key of a member item or of a link state
--- (`keys`), so that the own link state alone claims links of the own address. A DIF is laid out as a plan may lay it out (`IsLaidOut`).
+-- Beside what the fields of `Knows` say of addresses, links and claims, one says that each kept item has the key of a member item, of a link state or of a
+-- directory entry (`keys`), so that the own link state alone claims links of the own address. A DIF is laid out as a plan may lay it out (`IsLaidOut`).
 use Rattle.std.proofs.Common.{◌≡◌, ◌∙◌, ℕ, ◌≤◌, true, false, List, [], ◌∷◌, Contains, length, map, slice_get, slice_set, Some, None, Ok, refl, ap, subst, arith}
 use Rattle.std.specs.List.{flat_map}
 use Rattle.rina_access.specs.declared.rules.Rules.{Rules}
@@ -19,6 +19,8 @@ use Rattle.rina_data.specs.declared.settings.Member.{Member}
 use Rattle.rina_member.specs.Routing.{KnowsLive, claims_with, edges_from, edges_of, live_links, routes_to}
 use Rattle.rina_member.specs.Start.{managed_link, started}
 use Rattle.rina_member.specs.Knowing.{AreLive, AreNumbered, AreRoutesOf, IsLaidOut, Knows, hops_of}
+use Rattle.rina_member.specs.Managements.{entry_of, takes_item}
+use Rattle.rina_member.proofs.Entering.{enters, routes_stay}
 use Rattle.rina_member.proofs.Hops.{same_hops}
 use Rattle.rina_member.proofs.Losing.{loses, not_spent}
 use Rattle.rina_member.proofs.Starting.{at_start}
@@ -72,3 +74,13 @@ pub loses_knowing : (members : List Member) (plans : List LinkPlan) (now : ℕ) 
     → IsLaidOut members plans → Contains members m → Knows members plans now m links g → slice_get links k ≡ Some link → link.live ≡ true → lost g now link.number ≡ Ok g'
     → Knows members plans now m (slice_set links k (record link { live = false })) g'
 loses_knowing members plans now m links g g' k link laid among h stands live was = loses members plans now m links g k link laid among h stands live g' was
+
+-- when it takes a directory entry
+pub enters_knowing : (members : List Member) (plans : List LinkPlan) (now : ℕ) (m : Member) (links : List Link) (g : Agent) (app : List ℕ) (address : ℕ)
+    → Knows members plans now m links g → Knows members plans now m links (takes_item g (entry_of app address))
+enters_knowing members plans now m links g app address h = enters members plans now m links g app address h
+
+-- and its next hops then
+pub enters_routed : (members : List Member) (plans : List LinkPlan) (now : ℕ) (m : Member) (links : List Link) (g : Agent) (routes : List Route) (app : List ℕ) (address : ℕ)
+    → Knows members plans now m links g → AreRoutesOf g members routes → AreRoutesOf (takes_item g (entry_of app address)) members routes
+enters_routed members plans now m links g routes app address h are = routes_stay members routes g app address h.keys are

@@ -1,3 +1,4 @@
+mod Entering
 mod Hops
 mod Items
 mod Laying
@@ -7,4 +8,5 @@ mod Names
 mod Removing
 mod Starting
 mod States
+pub mod Telling
 pub mod Knowing

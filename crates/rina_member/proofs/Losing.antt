@@ -1,5 +1,5 @@
 -- What a member knows once it lost a link.
-use Rattle.std.proofs.Common.{◌≡◌, ◌∙◌, inr, ⊎_elim, ℕ, ◌+◌, ◌-◌, ◌^◌, ◌<◌, ◌≤◌, ◌==◌, Bool, true, false, cond, not, nat_lt, List, ◌++◌, Option, Some, None, Result, Ok, Contains, length, map, filter, slice_get, slice_set, refl, sym, ap, subst, arith}
+use Rattle.std.proofs.Common.{◌≡◌, ◌∙◌, inl, inr, ⊎_elim, ℕ, ◌+◌, ◌-◌, ◌^◌, ◌<◌, ◌≤◌, ◌==◌, Bool, true, false, cond, not, nat_lt, List, ◌++◌, Option, Some, None, Result, Ok, Contains, length, map, filter, slice_get, slice_set, refl, sym, ap, subst, arith}
 use Rattle.std.specs.Prelude.{find}
 use Rattle.std.specs.List.{flat_map}
 use Rattle.std.proofs.lemmas.Bool.{cond-false, le-ltb, true≢false}
@@ -178,7 +178,7 @@ module _ (members : List Member) (plans : List LinkPlan) (now : ℕ) (m : Member
   made_keys : (z : Item) → Contains items' z → IsItemKey z.key
   made_keys z has = ⊎_elim
       (λ old. h.keys z old)
-      (λ same. subst (λ (x : Item). IsItemKey x.key) same (m.addr, small_address members plans laid m among, inr made_key))
+      (λ same. subst (λ (x : Item). IsItemKey x.key) same (inl (m.addr, small_address members plans laid m among, inr made_key)))
       (from_taken g.items made z has)
 
   made_past : (z : Item) → kept_at items' (link_key m.addr) ≡ Some z → (z.version.tick ≤ now) × (z.version.count ≤ next_of g.last_count)

@@ -49,7 +49,7 @@ module _ (members : List Member) (plans : List LinkPlan) (laid : IsLaidOut membe
   item_keys : (it : Item) → Contains (items_held members plans) it → IsItemKey it.key
   item_keys it h =
       let r = held_of members plans it h in
-      (r.0.addr, small_address members plans laid r.0 r.1, ⊎_elim (λ first. inl (sym (ap (λ (x : Item). x.key) first))) (λ second. inr (sym (ap (λ (x : Item). x.key) second))) r.2)
+      inl (r.0.addr, small_address members plans laid r.0 r.1, ⊎_elim (λ first. inl (sym (ap (λ (x : Item). x.key) first))) (λ second. inr (sym (ap (λ (x : Item). x.key) second))) r.2)
 
   -- a link state of the start claims the edges from its member
   states : (m : Member) → Contains members m → Within (claims_of (state_item members plans m)) (edges_from members m.node plans)

@@ -10,6 +10,7 @@ use Rattle.rina_agent.specs.declared.agent.Agent.{Agent}
 use Rattle.rina_agent.specs.declared.link.Link.{Link as Managed}
 use Rattle.rina_agent.specs.declared.state.MemberState.TheVariants.{Enrolled}
 use Rattle.rina_agent.specs.Neighbours.{link_key, member_key}
+use Rattle.rina_dir.specs.Directory.{key_of}
 use Rattle.rina_plan.specs.declared.dif.LinkPlan.{LinkPlan}
 use Rattle.rina_plan.specs.Kept.{AreApart}
 use Rattle.rina_data.specs.declared.link.Link.{Link}
@@ -49,16 +50,24 @@ abbrev pub AreLive : List Link → Type 0
 AreLive links = (k : ℕ) (link : Link) → slice_get links k ≡ Some link → link.live ≡ true
 
 -- the key of the member item or of the link state of an address
+abbrev pub IsMemberKey : List ℕ → Type 0
+IsMemberKey key = (address : ℕ) × (address < 2 ^ 32) × ((key ≡ member_key address) ⊎ (key ≡ link_key address))
+
+-- the key of the directory entry of an application
+abbrev pub IsEntryKey : List ℕ → Type 0
+IsEntryKey key = (app : List ℕ) × (key ≡ key_of app)
+
+-- one of these
 abbrev pub IsItemKey : List ℕ → Type 0
-IsItemKey key = (address : ℕ) × (address < 2 ^ 32) × ((key ≡ member_key address) ⊎ (key ≡ link_key address))
+IsItemKey key = IsMemberKey key ⊎ IsEntryKey key
 
 -- each link is numbered by its place
 abbrev pub AreNumbered : List Link → Type 0
 AreNumbered links = (k : ℕ) (link : Link) → slice_get links k ≡ Some link → link.number ≡ k
 
 -- what the management of a member knows at a tick, where these are the links of its IPC process, some of which may be lost: its
--- own live links; of the others the links that they had from the start; it keeps member items and link states and nothing else; and
--- it made its own link state no later than now, as the last of its items at the latest. So long as it makes one item for each link
+-- own live links; of the others the links that they had from the start; it keeps member items, link states and directory entries and
+-- nothing else; and it made its own link state no later than now, as the last of its items at the latest. So long as it makes one item for each link
 -- that it loses, its version counts suffice.
 pub record Knows (members : List Member) (plans : List LinkPlan) (now : ℕ) (m : Member) (links : List Link) (g : Agent) : Type 0 where
   pub address : g.address ≡ m.addr

@@ -1,3 +1,5 @@
 pub mod Knowing
+pub mod Managements
+pub mod Objects
 pub mod Routing
 pub mod Start

@@ -13,7 +13,7 @@ use rina_plan::LinkPlan;
 use std::alloc::{AllocError, Global};
 
 /// The version of an item of the start.
-fn first_version(address: Addr) -> Version
+pub(crate) fn first_version(address: Addr) -> Version
     ensures { result ≡ first_version address }
 {
     Version {

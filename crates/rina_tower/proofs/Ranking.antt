@@ -21,6 +21,7 @@ use Rattle.rina_dif.specs.declared.dif.Dif.{Dif}
 use Rattle.rina_dif.specs.Facade.{IsShownAs, OthersStand, shown_as}
 use Rattle.rina_dif.specs.Holding.{Holds, Stands}
 use Rattle.rina_dif.specs.Shown.{seen_of as seen_of_dif}
+use Rattle.rina_dif.proofs.Connected.{beside_connected}
 use Rattle.rina_dif.proofs.Causing.{caused_on, lower_later, none_is}
 use Rattle.rina_tower.specs.declared.tower.Tower.{Tower}
 use Rattle.rina_tower.specs.Bystanders.{Anyone, IsIpc, LeavesEnds, LeavesNow}
@@ -44,6 +45,7 @@ holds_beside who d lines below below' kept kept' mine alone h =
       housed = h.housed;
       routed = h.routed;
       managed = h.managed;
+      connected = beside_connected (config_of d.settings) d.clock d.connections (seen_of_dif d).processes below below' kept' up alone.clock h.connected;
     }
 
 -- where no IPC process sends, takes or is asked for, all DIFs stand on

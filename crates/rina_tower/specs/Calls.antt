@@ -27,6 +27,7 @@ use Rattle.rina_iface.specs.Unregister.{Unregisters}
 use Rattle.rina_law.specs.Direction.{Direction}
 use Rattle.rina_dif.specs.declared.dif.Dif.{Dif}
 use Rattle.rina_dif.specs.Binding.{BindsTo}
+use Rattle.rina_dif.specs.Changing.{BindsManaged, FreesManaged}
 use Rattle.rina_flows.specs.Elsewhere.{SameBut}
 use Rattle.rina_dif.specs.Elsewhere.{ChangesOnly, IsPortAt, WhenOk, home_of}
 use Rattle.rina_dif.specs.Facade.{GoesOn, IsShownAs, PassesAt, StaysStanding, its_oldest, own_refusal, shown_as}
@@ -43,7 +44,7 @@ use Rattle.rina_wire.specs.Send.{SendsOn, passed}
 use Rattle.rina_wire.specs.Unregister.{UnregistersOn}
 use Rattle.rina_tower.specs.declared.tower.Tower.{Tower, Wires, Rank'}
 use Rattle.rina_tower.specs.Levels.{AtDif, IsAtDif}
-use Rattle.rina_tower.specs.Unchanged.{ChangesClaims, ChangesFlows, ChangesNames, ChangesNothing, ChangesTraffic}
+use Rattle.rina_tower.specs.Unchanged.{ChangesClaims, ChangesFlows, ChangesMembers, ChangesNames, ChangesNothing, ChangesTraffic}
 use Rattle.rina_tower.specs.MemoryFailure.{has_failed}
 
 -- all of these are DIFs
@@ -95,10 +96,11 @@ AllocatesAtTop ask result (Rank' p difs below) (Rank' p' difs' below') =
     AtDif ask.fac (Serves (λ s s'. Allocates (Some allocate.Unbuilt) s ask result s') ChangesNothing ask.fac) (result ≡ Err allocate.NoMember) difs difs' × (below' ≡ below)
 AllocatesAtTop ask result t t' = ⊥
 
--- what `bind` does at the DIF of a fixed flow, where each connection that was there stays as it was
+-- what `bind` does at the DIF of a fixed flow, to the managements of its members too, where each connection that was there stays as it was
 pub record BindsFrom (fixed : Fixed) (result : Result (Port × Port) AllocateError) (d d' : Dif) : Type 0 where
   pub serves : Serves (λ s s'. Binds s fixed result s') ChangesNames fixed.fac d d'
   pub does : (lines : List Direction) (below : Seen) → Holds d lines below → BindsTo d lines below fixed result d'
+  pub managed : BindsManaged result d fixed d'.managements
   pub leaves : SameBut (λ i. length d.flows.conns ≤ i) d.flows.conns d'.flows.conns
 
 -- under the condition of `bind` there is such a DIF
@@ -151,10 +153,11 @@ PassesAtTop port t t' = ⊥
 
 -- The end of a flow
 
--- what `free` does at the DIF of a port, where no other end, no other connection and no IPC process of another node changes
+-- what `free` does at the DIF of a port, to the management of the member too, where no other end, no other connection and no IPC process of another node changes
 pub record FreesFrom (port : Port) (result : Result (Unit {0}) FreeError) (d d' : Dif) : Type 0 where
-  pub serves : Serves (λ s s'. Frees false s port result s') ChangesTraffic port.fac d d'
+  pub serves : Serves (λ s s'. Frees false s port result s') ChangesMembers port.fac d d'
   pub does : (lines : List Direction) (below : Seen) → Holds d lines below → FreesAt (place_in port d.flows.journal.ends) d lines below result d'
+  pub managed : FreesManaged (place_in port d.flows.journal.ends) result d d'.managements
   pub leaves : ChangesOnly (λ i. WhenOk result (IsPortAt d port i)) (home_of d port.node) d d'
 
 abbrev pub FreesAtTop : Port → Result (Unit {0}) FreeError → Tower → Tower → Type 0

@@ -32,9 +32,9 @@ ChangesClaims d d' = d' ≡ record d { waiting = d'.waiting }
 abbrev pub ChangesFlows : Dif → Dif → Type 0
 ChangesFlows d d' = d' ≡ record d { flows = d'.flows }
 
--- nothing but its flows and names, and whether an allocation has failed
+-- nothing but its flows and names, the managements of its members, and whether an allocation has failed
 abbrev pub ChangesNames : Dif → Dif → Type 0
-ChangesNames d d' = d' ≡ record d { flows = d'.flows; names = d'.names; failed = d'.failed }
+ChangesNames d d' = d' ≡ record d { flows = d'.flows; names = d'.names; managements = d'.managements; failed = d'.failed }
 
 -- nothing but its IPC processes, and whether an allocation has failed
 abbrev pub ChangesProcesses : Dif → Dif → Type 0
@@ -46,7 +46,7 @@ ChangesTraffic d d' = d' ≡ record d { processes = d'.processes; flows = d'.flo
 
 -- nothing but its IPC processes, the managements of its members and its flows, and whether an allocation has failed
 abbrev pub ChangesMembers : Dif → Dif → Type 0
-ChangesMembers d d' = d' ≡ record d { processes = d'.processes; agents = d'.agents; flows = d'.flows; failed = d'.failed }
+ChangesMembers d d' = d' ≡ record d { processes = d'.processes; managements = d'.managements; flows = d'.flows; failed = d'.failed }
 
 -- What follows
 

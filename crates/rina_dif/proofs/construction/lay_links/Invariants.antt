@@ -11,6 +11,6 @@ invariant-loop-link g l = record {
   same : g.F.Facility.same_below l.fn.below l.below;
   laid : IsLaidIn (config_of l.settings) (g.F.Facility.seen l.fn.below) (g.F.Facility.seen l.below);
   rest : CanBindAll (g.F.Facility.seen l.below) (map (link_fixed l.plan l.dif) (drop l.link-index l.dif.links));
-  done : AreLaid l.plan l.dif l.settings (take l.link-index l.dif.links) (g.F.Facility.seen l.fn.below) (g.F.Facility.seen l.below) l.processes;
+  done : AreLaid l.plan l.dif l.settings (take l.link-index l.dif.links) (g.F.Facility.seen l.fn.below) (g.F.Facility.seen l.below) l.ports l.processes;
   whole : BindsInTurn g.F.Facility.does_bind l.fn.below (map (link_fixed l.plan l.dif) (take l.link-index l.dif.links)) l.below;
 }

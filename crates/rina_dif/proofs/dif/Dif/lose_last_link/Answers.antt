@@ -1,10 +1,15 @@
-use Rattle.std.proofs.Common.{List, Ok, subst, sym}
+use Rattle.std.proofs.Common.{◌≡◌, ◌∙◌, List, Ok, Some, ap, refl, slice_set, subst, sym}
 use Rattle.std.proofs.lemmas.Result.{err_from_is_err_and}
 use Rattle.rina_agent.specs.declared.agent.Agent.{Agent}
+use Rattle.rina_member.specs.Knowing.{AreRoutesOf}
+use Rattle.rina_member.specs.declared.management.Management.{Management}
 use Rattle.rina_base.specs.declared.memory.Memory.{Memory}
 use Rattle.rina_iface.specs.declared.state.Fail.TheVariants.{Below}
 use Rattle.rina_iface.specs.declared.state.PortState.TheVariants.{Failed}
+use Rattle.rina_dif.specs.Changing.{allocated_at}
 use Rattle.rina_dif.specs.Unlinking.{LosesAs}
+use Rattle.rina_dif.proofs.Managed.{ended_agent}
+use Rattle.rina_dif.proofs.Unlinked.{has_agent}
 use Rattle.rina_dif.proofs.Cutting.{last_loses, last_stays}
 use Rattle.rina_dif.proofs.Elsewhere.{allocated_of, last_failed_leaves, last_leaves}
 use Rattle.rina_dif.proofs.dif.Dif.lose_last_link.Goals as goal
@@ -24,7 +29,8 @@ pub returns-clause-does : goal.returns-clause-does
 returns-clause-does c = λ lines below h finds left.
     let d = c.args.self.now in
     let l = c.lose_last_link in
-    subst (λ (gs : List Agent). LosesAs d lines below c.args.at c.args.node c.args.lost.number (Ok tt) (record d { flows = l.new.flows; processes = l.new.self; agents = gs })) (sym c.set.ensures) (last_loses d c.args.at c.args.node c.args.lost c.args.port c.in_ok-management.management c.in_ok-routes.routes l.new.flows l.new.self c.requires.at c.requires.home c.in_ok-management.ensures c.in_ok-routes.ensures c.in_ok-lose_last_link.ensures.loses lines below h finds left)
+    let same : c.end_flows.new.management.agent ≡ c.in_ok-management.management.agent = ap (λ (m : Management). m.agent) c.in_ok-end_flows.ensures ∙ ended_agent c.in_ok-management.management (allocated_at c.args.node d.flows) in
+    subst (λ (gs : List Management). LosesAs d lines below c.args.at c.args.node c.args.lost.number (Ok tt) (record d { flows = l.new.flows; processes = l.new.self; managements = gs })) (sym c.set.ensures) (last_loses d c.args.at c.args.node c.args.lost c.args.port c.end_flows.new.management c.in_ok-routes.routes l.new.flows l.new.self c.requires.at c.requires.home (λ g is. (c.in_ok-management.ensures g is).loses ∙ ap Ok (sym same)) (subst (λ (a : Agent). AreRoutesOf a d.settings.members c.in_ok-routes.routes) (sym same) c.in_ok-routes.ensures) c.in_ok-lose_last_link.ensures.loses lines below h finds left)
 
 pub returns-clause-leaves : goal.returns-clause-leaves
 returns-clause-leaves c =
@@ -33,3 +39,20 @@ returns-clause-leaves c =
       allocated_of {T = Unit {0}} {E = Memory} (Ok tt) d l.new.flows c.args.node c.args.at c.requires.home c.in_ok-lose_last_link.ensures.leaves,
       last_leaves d c.requires.stands.0 c.args.node (Failed (Below c.args.port)) c.args.lost.place c.in_ok-routes.routes (Ok tt) c.args.at l.new.flows l.new.self c.requires.stands.1 c.requires.at c.in_ok-lose_last_link.ensures.loses,
     )
+
+pub returns-clause-manages : goal.returns-clause-manages
+returns-clause-manages c = λ below found left.
+    let d = c.args.self.now in
+    let m = has_agent d c.requires.stands.1.0 c.requires.stands.0 c.args.at c.requires.at c.requires.stands.1.1 in
+    record {
+      lost = c.args.lost;
+      found = found;
+      number_is = refl;
+      last = Some c.args.port;
+      left = left;
+      management = m.0;
+      is_management = m.1;
+      after = c.in_ok-management.management;
+      loses = c.in_ok-management.ensures m.0 m.1;
+      are = c.set.ensures ∙ ap (slice_set d.managements c.args.at) c.in_ok-end_flows.ensures;
+    }

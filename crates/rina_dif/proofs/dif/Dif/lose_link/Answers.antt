@@ -1,8 +1,8 @@
-use Rattle.std.proofs.Common.{List, Ok, subst, sym}
+use Rattle.std.proofs.Common.{List, None, Ok, refl, subst, sym}
 use Rattle.std.proofs.lemmas.Result.{err_from_is_err_and}
-use Rattle.rina_agent.specs.declared.agent.Agent.{Agent}
+use Rattle.rina_member.specs.declared.management.Management.{Management}
 use Rattle.rina_dif.specs.Unlinking.{LosesAs}
-use Rattle.rina_dif.proofs.Unlinked.{link_loses, link_stays}
+use Rattle.rina_dif.proofs.Unlinked.{has_agent, link_loses, link_stays}
 use Rattle.rina_dif.proofs.Elsewhere.{loses_leave}
 use Rattle.rina_dif.proofs.dif.Dif.lose_link.Goals as goal
 
@@ -17,7 +17,24 @@ returns-in_err-lose_link-clause-leaves c = loses_leave c.args.self.now c.require
 pub returns-clause-does : goal.returns-clause-does
 returns-clause-does c = λ node lines below h finds left.
     let d = c.args.self.now in
-    subst (λ (gs : List Agent). LosesAs d lines below c.args.at node c.args.lost.number (Ok tt) (record d { processes = c.lose_link.new.self; agents = gs })) (sym c.set.ensures) (link_loses d c.args.at c.args.lost c.in_ok-after.after c.in_ok-routes.routes c.lose_link.new.self c.requires.at c.in_ok-after.ensures c.in_ok-routes.ensures c.in_ok-lose_link.ensures node lines below h finds left)
+    subst (λ (gs : List Management). LosesAs d lines below c.args.at node c.args.lost.number (Ok tt) (record d { processes = c.lose_link.new.self; managements = gs })) (sym c.set.ensures) (link_loses d c.args.at c.args.lost c.in_ok-after.after c.in_ok-routes.routes c.lose_link.new.self c.requires.at (λ g is. (c.in_ok-after.ensures g is).loses) c.in_ok-routes.ensures c.in_ok-lose_link.ensures node lines below h finds left)
 
 pub returns-clause-leaves : goal.returns-clause-leaves
 returns-clause-leaves c = loses_leave c.args.self.now c.requires.stands.0 c.args.lost.place c.in_ok-routes.routes (Ok tt) c.args.at c.lose_link.new.self c.requires.stands.1 c.requires.at c.in_ok-lose_link.ensures
+
+pub returns-clause-manages : goal.returns-clause-manages
+returns-clause-manages c = λ node below found left.
+    let d = c.args.self.now in
+    let m = has_agent d c.requires.stands.1.0 c.requires.stands.0 c.args.at c.requires.at c.requires.stands.1.1 in
+    record {
+      lost = c.args.lost;
+      found = found;
+      number_is = refl;
+      last = None;
+      left = left;
+      management = m.0;
+      is_management = m.1;
+      after = c.in_ok-after.after;
+      loses = c.in_ok-after.ensures m.0 m.1;
+      are = c.set.ensures;
+    }

@@ -5,4 +5,4 @@ use Rattle.rina_dif.proofs.dif.Dif.new.Goals as goal
 
 pub returns-clause-holds : goal.returns-clause-holds
 returns-clause-holds c = λ below kept config members clock free.
-    bare_holds (record { settings = c.args.settings; clock = c.args.clock; processes = c.in_ok-processes.processes; agents = c.in_ok-agents.agents; laid = c.none-laid.result; flows = c.new.result; waiting = c.new-2.result; names = c.new-3.result; failed = false }) below kept c.new.ensures.ends c.new.ensures.conns c.none-laid.ensures.links c.in_ok-processes.ensures c.as_slice-2.result.now true (same_started c.as_slice-members.result.now c.args.settings.members c.as_slice.result.now c.none-laid.result.links c.as_slice-2.result.now c.as_slice-2.result.now true c.in_ok-processes.processes c.in_ok-agents.agents c.as_slice-members.ensures c.as_slice.ensures refl c.in_ok-agents.ensures) config members clock free
+    bare_holds (record { settings = c.args.settings; clock = c.args.clock; processes = c.in_ok-processes.processes; managements = c.in_ok-managements.managements; laid = c.none-laid.result; connections = c.none-connections.result; flows = c.new.result; waiting = c.new-2.result; names = c.new-3.result; failed = false }) below kept c.new.ensures.ends c.new.ensures.conns c.none-connections.ensures.channels c.none-connections.ensures.ends c.none-connections.ensures.conns c.none-laid.ensures c.in_ok-processes.ensures c.as_slice-3.result.now true (same_started c.as_slice.result.now c.args.settings.cubes c.as_slice-members.result.now c.args.settings.members c.as_slice-2.result.now c.none-laid.result.links c.as_slice-3.result.now c.as_slice-3.result.now true c.in_ok-processes.processes c.in_ok-managements.managements c.as_slice.ensures c.as_slice-members.ensures c.as_slice-2.ensures refl c.in_ok-managements.ensures) config members clock free

@@ -1,9 +1,15 @@
 use Rattle.std.proofs.Common.{◌≡◌, ◌∙◌, ◌≤◌, List, ap, length, refl, subst, sym}
 use Rattle.rina_iface.specs.declared.ask.Fixed.{Fixed}
 use Rattle.rina_access.specs.declared.rules.Rule.{Rule}
-use Rattle.rina_agent.specs.declared.agent.Agent.{Agent}
-use Rattle.rina_data.specs.declared.settings.Member.{Member}
+use Rattle.rina_member.specs.declared.management.Management.{Management}
 use Rattle.rina_dif.specs.Laying.{BindsInTurn}
+use Rattle.rina_base.specs.declared.number.Port.{Port}
+use Rattle.rina_dif.specs.Linking.{AreLinks}
+use Rattle.rina_data.specs.declared.settings.Settings.{Settings}
+use Rattle.rina_data.specs.Configs.{config_of}
+use Rattle.rina_dif_law.specs.Standing.{IsConfig}
+use Rattle.rina_dif.proofs.Sound.{is_config}
+use Rattle.rina_dif.proofs.Joining.{are_links, is_connected, manage_cube}
 use Rattle.rina_dif.proofs.Made.{its_links, its_settings, made_new, made_stands, made_takes}
 use Rattle.rina_dif.proofs.Routed.{same_routed}
 use Rattle.rina_dif.proofs.Started.{few_rules, same_started}
@@ -17,39 +23,63 @@ pub lay_links-requires-clause-up : goal.lay_links-requires-clause-up
 lay_links-requires-clause-up g c = all_bare_up c.in_ok-made.made.settings c.in_ok-made.made.processes c.in_ok-made.ensures.bare.processes
 
 pub first_managements-requires-clause-aligned : goal.first_managements-requires-clause-aligned
-first_managements-requires-clause-aligned g c = c.in_ok-lay_links.ensures.ok.up.aligned
+first_managements-requires-clause-aligned g c = c.in_ok-ports.ensures.ok.up.aligned
 
 pub first_managements-requires-clause-few : goal.first_managements-requires-clause-few
 first_managements-requires-clause-few g c = (let few = few_rules c.args.plan.now c.args.at c.in-Some.dif.now c.requires.plan c.in-Some.ensures in subst (λ (rs : List Rule). length rs ≤ 256) (sym c.as_slice.ensures) few)
 
 pub route_all-requires : goal.route_all-requires
-route_all-requires g c = c.in_ok-lay_links.ensures.ok.up.aligned ∙ sym c.in_ok-agents.ensures.aligned ∙ ap (λ (gs : List Agent). length gs) (sym c.as_slice-2.ensures)
+route_all-requires g c = c.in_ok-ports.ensures.ok.up.aligned ∙ sym c.in_ok-managements.ensures.aligned ∙ ap (λ (gs : List Management). length gs) (sym c.as_slice-2.ensures)
+
+pub of_links-requires-clause-config : goal.of_links-requires-clause-config
+of_links-requires-clause-config g c = subst (λ (s : Settings). IsConfig (config_of s)) (sym (c.in_ok-made.ensures.settings ∙ c.in_ok-settings.ensures)) (is_config c.args.plan.now c.args.at c.in-Some.dif.now c.requires.plan c.in-Some.ensures)
+
+pub of_links-requires-clause-manage : goal.of_links-requires-clause-manage
+of_links-requires-clause-manage g c = manage_cube c.args.plan.now c.args.at c.in-Some.dif.now c.requires.plan c.in-Some.ensures
+
+pub of_links-requires-clause-links : goal.of_links-requires-clause-links
+of_links-requires-clause-links g c =
+    let made = c.in_ok-made.made in
+    let dif = c.in-Some.dif.now in
+    let seen = g.F.Facility.seen in
+    let managements = c.in_ok-managements.managements in
+    let linked = c.lay_links.new.processes in
+    let are : made.settings ≡ _ = c.in_ok-made.ensures.settings ∙ c.in_ok-settings.ensures in
+    let routed = same_routed c.as_slice-members.result.now made.settings.members c.as_slice-2.result.now managements linked c.route_all.new.processes c.as_slice-members.ensures c.as_slice-2.ensures c.in_ok-route_all.ensures in
+    let links = are_links c.args.plan.now c.args.at dif made.settings made.clock (seen c.args.below.now) (seen c.lay_links.new.below) c.in_ok-ports.ports managements linked c.route_all.new.processes c.requires.plan c.in-Some.ensures are (c.in_ok-made.ensures.clock ∙ c.now.ensures) c.lay_links.ensures.laid c.in_ok-ports.ensures.ok routed in
+    (seen c.lay_links.new.below, subst (λ (ps : List (Port × Port)). AreLinks made.settings made.clock ps c.route_all.new.processes (seen c.lay_links.new.below)) (sym c.as_slice-links.ensures) links)
 
 pub returns-clause-stands : goal.returns-clause-stands
 returns-clause-stands g c =
     let made = c.in_ok-made.made in
     let bare = c.in_ok-made.ensures.bare in
     let dif = c.in-Some.dif.now in
-    let agents = c.in_ok-agents.agents in
+    let managements = c.in_ok-managements.managements in
     let linked = c.lay_links.new.processes in
     let seen = g.F.Facility.seen in
     let are : made.settings ≡ _ = c.in_ok-made.ensures.settings ∙ c.in_ok-settings.ensures in
     let free = c.requires.can.free made.settings (its_settings c.args.plan.now c.args.at dif made.settings c.in-Some.ensures are) in
-    let started = same_started made.settings.members made.settings.members c.as_slice-plans.result.now dif.links c.as_slice.result.now dif.rules dif.allow linked agents refl c.as_slice-plans.ensures c.as_slice.ensures c.in_ok-agents.ensures in
-    let routed = same_routed c.as_slice-members.result.now made.settings.members c.as_slice-2.result.now agents linked c.route_all.new.processes c.as_slice-members.ensures c.as_slice-2.ensures c.in_ok-route_all.ensures in
-    made_stands c.args.plan.now c.args.at dif (record made { processes = c.route_all.new.processes; agents = agents; laid = c.in_ok-made-2.field-0 }) (seen c.args.below.now) (seen c.lay_links.new.below) (g.met.F.Facility.kept c.lay_links.new.below c.lay_links.ensures.valid) c.requires.plan c.in-Some.ensures are (c.in_ok-made.ensures.clock ∙ c.now.ensures) bare.ends bare.conns free c.lay_links.ensures.laid linked c.in_ok-lay_links.ensures.ok started routed (c.in_ok-made-2.ensures.links ∙ c.as_slice-plans.ensures)
+    let started = same_started made.settings.cubes made.settings.cubes made.settings.members made.settings.members c.as_slice-plans.result.now dif.links c.as_slice.result.now dif.rules dif.allow linked managements refl refl c.as_slice-plans.ensures c.as_slice.ensures c.in_ok-managements.ensures in
+    let routed = same_routed c.as_slice-members.result.now made.settings.members c.as_slice-2.result.now managements linked c.route_all.new.processes c.as_slice-members.ensures c.as_slice-2.ensures c.in_ok-route_all.ensures in
+    let links = are_links c.args.plan.now c.args.at dif made.settings made.clock (seen c.args.below.now) (seen c.lay_links.new.below) c.in_ok-ports.ports managements linked c.route_all.new.processes c.requires.plan c.in-Some.ensures are (c.in_ok-made.ensures.clock ∙ c.now.ensures) c.lay_links.ensures.laid c.in_ok-ports.ensures.ok routed in
+    let same = c.as_slice-links.ensures in
+    let connected = c.in_ok-connections.ensures.stand (seen c.lay_links.new.below) (subst (λ (ps : List (Port × Port)). AreLinks made.settings made.clock ps c.route_all.new.processes (seen c.lay_links.new.below)) (sym same) links) in
+    made_stands c.args.plan.now c.args.at dif (record made { processes = c.route_all.new.processes; managements = managements; laid = c.in_ok-made-2.field-0; connections = c.in_ok-connections.connections }) (seen c.args.below.now) (seen c.lay_links.new.below) (g.met.F.Facility.kept c.lay_links.new.below c.lay_links.ensures.valid) c.requires.plan c.in-Some.ensures are (c.in_ok-made.ensures.clock ∙ c.now.ensures) bare.ends bare.conns free c.lay_links.ensures.laid c.in_ok-ports.ports linked c.in_ok-ports.ensures.ok started routed (c.in_ok-made-2.ensures ∙ c.as_slice-plans.ensures) connected
 
 pub returns-clause-exact : goal.returns-clause-exact
 returns-clause-exact g c =
     let made = c.in_ok-made.made in
     let bare = c.in_ok-made.ensures.bare in
     let dif = c.in-Some.dif.now in
-    let agents = c.in_ok-agents.agents in
+    let managements = c.in_ok-managements.managements in
     let linked = c.lay_links.new.processes in
     let seen = g.F.Facility.seen in
-    let started = same_started made.settings.members made.settings.members c.as_slice-plans.result.now dif.links c.as_slice.result.now dif.rules dif.allow linked agents refl c.as_slice-plans.ensures c.as_slice.ensures c.in_ok-agents.ensures in
-    let routed = same_routed c.as_slice-members.result.now made.settings.members c.as_slice-2.result.now agents linked c.route_all.new.processes c.as_slice-members.ensures c.as_slice-2.ensures c.in_ok-route_all.ensures in
-    made_new c.args.plan.now c.args.at dif (record made { processes = c.route_all.new.processes; agents = agents; laid = c.in_ok-made-2.field-0 }) (seen c.args.below.now) (seen c.lay_links.new.below) c.requires.plan c.in-Some.ensures (c.in_ok-made.ensures.settings ∙ c.in_ok-settings.ensures) (c.in_ok-made.ensures.clock ∙ c.now.ensures) c.in_ok-made.ensures.alive bare.ends bare.conns bare.waiting bare.names c.in_ok-made-2.ensures.ribs linked c.in_ok-lay_links.ensures.ok started routed
+    let started = same_started made.settings.cubes made.settings.cubes made.settings.members made.settings.members c.as_slice-plans.result.now dif.links c.as_slice.result.now dif.rules dif.allow linked managements refl refl c.as_slice-plans.ensures c.as_slice.ensures c.in_ok-managements.ensures in
+    let routed = same_routed c.as_slice-members.result.now made.settings.members c.as_slice-2.result.now managements linked c.route_all.new.processes c.as_slice-members.ensures c.as_slice-2.ensures c.in_ok-route_all.ensures in
+    made_new c.args.plan.now c.args.at dif (record made { processes = c.route_all.new.processes; managements = managements; laid = c.in_ok-made-2.field-0; connections = c.in_ok-connections.connections }) (seen c.args.below.now) (seen c.lay_links.new.below) c.requires.plan c.in-Some.ensures (c.in_ok-made.ensures.settings ∙ c.in_ok-settings.ensures) (c.in_ok-made.ensures.clock ∙ c.now.ensures) c.in_ok-made.ensures.alive bare.ends bare.conns bare.waiting bare.names c.in_ok-ports.ports linked c.in_ok-ports.ensures.ok started routed
 
 pub returns-clause-whole : goal.returns-clause-whole
-returns-clause-whole g c = subst (λ (fs : List Fixed). BindsInTurn g.F.Facility.does_bind c.args.below.now fs c.lay_links.new.below) (sym (its_links c.args.plan.now c.args.at c.in-Some.dif.now c.in-Some.ensures)) c.in_ok-lay_links.ensures.whole
+returns-clause-whole g c = subst (λ (fs : List Fixed). BindsInTurn g.F.Facility.does_bind c.args.below.now fs c.lay_links.new.below) (sym (its_links c.args.plan.now c.args.at c.in-Some.dif.now c.in-Some.ensures)) c.in_ok-ports.ensures.whole
+
+pub returns-clause-connected : goal.returns-clause-connected
+returns-clause-connected g c = λ dif at. is_connected c.args.plan.now c.args.at c.in-Some.dif.now dif _ (g.F.Facility.seen c.args.below.now) (g.F.Facility.seen c.lay_links.new.below) c.in_ok-ports.ports c.as_slice-links.result.now c.in-Some.ensures at c.as_slice-links.ensures c.in_ok-ports.ensures.ok.bound c.in_ok-connections.ensures.have

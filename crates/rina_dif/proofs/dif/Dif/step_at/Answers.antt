@@ -1,7 +1,6 @@
-use Rattle.std.proofs.Common.{Some, ap}
+use Rattle.std.proofs.Common.{Some}
 use Rattle.std.proofs.lemmas.Result.{err_from_is_err_and}
-use Rattle.rina_dif.specs.declared.dif.Dif.{Dif}
-use Rattle.rina_dif.proofs.Clocked.{flow_first, flow_manages, link_err, link_first, none_first}
+use Rattle.rina_dif.proofs.Clocked.{flow_first, link_err, link_first, none_first}
 use Rattle.rina_dif.proofs.Lapsed.{process_there}
 use Rattle.rina_dif.proofs.Elsewhere.{clock_failed}
 use Rattle.rina_dif.proofs.dif.Dif.step_at.Goals as goal
@@ -29,9 +28,3 @@ pub returns-in_err-lose_at-in-Some-clause-leaves : goal.returns-in_err-lose_at-i
 returns-in_err-lose_at-in-Some-clause-leaves g c =
     let err = err_from_is_err_and c.from_residual.result c.from_residual.ensures.1 in
     clock_failed c.from_residual.result err.0 c.args.self.now c.lose_at.new.self (Some c.args.at) err.1 c.in_err-lose_at-in-Some.ensures.leaves
-
-pub returns-in-None-clause-manages : goal.returns-in-None-clause-manages
-returns-in-None-clause-manages g c =
-    let below = g.F.Facility.seen c.args.below.now in
-    let st = c.requires.stands in
-    flow_manages c.args.self.now st.0 below c.args.node c.do_next.result c.do_next.new.self (Some c.args.at) c.args.self.now.clock c.args.self.now.agents c.do_next.new.self.agents (c.do_next.ensures.does st.0 below st.1) (ap (λ (z : Dif). z.agents) c.do_next.ensures.whole)

@@ -1,0 +1,116 @@
+-- A DIF stands as before where members show other objects.
+use Rattle.std.proofs.Common.{◌≡◌, ◌∙◌, ℕ, ◌+◌, ◌<◌, zero, suc, add-one, arith, take, List, [], ◌∷◌, ◌++◌, length, map, slice_get, Option, Some, None, Result, Ok, Err, refl, sym, ap, subst}
+use Rattle.std.specs.List.{cons_option, filter_map, zip}
+use Rattle.std.proofs.lemmas.Grind.{common_steps}
+use Rattle.std.proofs.lemmas.Option.{same_Some}
+use Rattle.rina_base.specs.declared.memory.Memory.{Memory}
+use Rattle.rina_base.specs.declared.number.Num.{Num}
+use Rattle.rina_base.specs.declared.number.Port.{Port}
+use Rattle.rina_conn.specs.declared.conn.Conn.{Conn}
+use Rattle.rina_iface.specs.declared.ask.Fixed.{Fixed}
+use Rattle.rina_iface.specs.declared.ends.End.{End}
+use Rattle.rina_iface.specs.Seen.{Seen}
+use Rattle.rina_law.specs.Direction.{Direction}
+use Rattle.rina_iface.specs.declared.state.PortState.{PortState}
+use Rattle.rina_iface.specs.declared.state.PortState.TheVariants.{Allocated}
+use Rattle.rina_data.proofs.Finding.{there}
+use Rattle.rina_member.specs.declared.management.Management.{Management}
+use Rattle.rina_member.specs.Objects.{flow_name, removed}
+use Rattle.rina_member.specs.Managements.{entered, with_objects, with_flow, without_flow, without_flows}
+use Rattle.rina_dif.specs.declared.dif.Dif.{Dif}
+use Rattle.rina_dif.specs.Binding.{BindsAt}
+use Rattle.rina_dif.specs.Changing.{EndsFlow, FreesManaged, ManagesFree, changed_at, cep_here, with_flow_at, without_flow_if}
+use Rattle.rina_dif.specs.Elsewhere.{home_of}
+use Rattle.rina_dif.specs.Freeing.{FreesHere}
+use Rattle.rina_dif.specs.Holding.{Holds}
+use Rattle.rina_dif.specs.Managing.{AreManagedBy, agents_of}
+use Rattle.rina_dif.specs.Timely.{GivesUpAs}
+use Rattle.rina_dif.proofs.Managed.{changed_agents, managed_entered, managed_shown}
+
+-- with other managements
+abbrev pub managing : Dif → List Management → Dif
+managing d ms = record d { managements = ms }
+
+pub holds_managed : (d : Dif) (lines : List Direction) (below : Seen) (ms : List Management) → AreManagedBy d.settings.members d.laid.links d.clock d.processes ms → Holds d lines below → Holds (managing d ms) lines below
+holds_managed d lines below ms managed h = record { tied = h.tied; standing = h.standing; carrying = h.carrying; numbered = h.numbered; accounted = h.accounted; caused = h.caused; written_off = h.written_off; housed = h.housed; routed = h.routed; managed = managed; connected = h.connected }
+
+-- with other objects
+pub holds_shown : (d : Dif) (lines : List Direction) (below : Seen) (ms : List Management) → agents_of ms ≡ agents_of d.managements → Holds d lines below → Holds (managing d ms) lines below
+holds_shown d lines below ms same h = holds_managed d lines below ms (managed_shown d.settings.members d.laid.links d.clock d.processes d.managements ms same h.managed) h
+
+-- One member shows other objects
+
+pub objects_agents : (at : ℕ) (f : Management → Management) (ms new : List Management) → ((m : Management) → (f m).agent ≡ m.agent) → new ≡ changed_at at f ms → agents_of new ≡ agents_of ms
+objects_agents at f ms new same is = ap agents_of is ∙ changed_agents at f ms same
+
+-- an end is freed
+pub frees_shown : (d d' : Dif) (lines : List Direction) (below : Seen) (at : ℕ) (r : Result (Unit {0}) Memory) (ms : List Management) → agents_of ms ≡ agents_of d'.managements → FreesHere d lines below at r d' → FreesHere d lines below at r (managing d' ms)
+frees_shown d d' lines below at (Ok done) ms same f = record { end = f.end; is_end = f.is_end; frees = f.frees; holds = holds_shown d' lines below ms same f.holds }
+frees_shown d d' lines below at (Err e) ms same f = record { same = f.same; holds = holds_shown d' lines below ms same f.holds }
+
+-- a flow is given up
+pub gives_up_shown : (d d' : Dif) (lines : List Direction) (below : Seen) (at : ℕ) (num : Num) (ms : List Management) → agents_of ms ≡ agents_of d'.managements → GivesUpAs d lines below at (Ok (Some num)) d' → GivesUpAs d lines below at (Ok (Some num)) (managing d' ms)
+gives_up_shown d d' lines below at num ms same g = record { given_up = g.given_up; cep = g.cep; holds = holds_shown d' lines below ms same g.holds }
+
+-- a flow is bound
+pub binds_shown_all : (d d' : Dif) (lines : List Direction) (below : Seen) (fixed : Fixed) (ports : Port × Port) (a b cep_a cep_b address : ℕ) (app : List ℕ) (ms : List Management) → ms ≡ with_flow_at b cep_b (with_flow_at a cep_a (map (entered app address) d'.managements)) → BindsAt d lines below fixed ports d' → BindsAt d lines below fixed ports (managing d' ms)
+binds_shown_all d d' lines below fixed ports a b cep_a cep_b address app ms is f =
+    let all : List Management = map (entered app address) d'.managements in
+    let one : List Management = with_flow_at a cep_a all in
+    let same : agents_of ms ≡ agents_of all = ap agents_of is ∙ changed_agents b (λ m. with_flow m cep_b) one (λ m. refl) ∙ changed_agents a (λ m. with_flow m cep_a) all (λ m. refl) in
+    let entered_all = managed_entered d'.settings.members d'.laid.links d'.clock d'.processes d'.managements app address f.holds.managed in
+    record {
+      lines' = f.lines';
+      bound = f.bound;
+      a_port = f.a_port;
+      b_port = f.b_port;
+      holds = holds_managed d' f.lines' below ms (managed_shown d'.settings.members d'.laid.links d'.clock d'.processes all ms same entered_all) f.holds;
+    }
+
+-- Two lists side by side
+
+-- one place more of both
+zip_more : {A B : Type 0} (xs : List A) (ys : List B) (at : ℕ) (x : A) (y : B) → slice_get xs at ≡ Some x → slice_get ys at ≡ Some y → zip (take (suc at) xs) (take (suc at) ys) ≡ zip (take at xs) (take at ys) ++ (x, y) ∷ []
+zip_more [] ys at x y is_x is_y = grind (arith, common_steps)
+zip_more (a ∷ xs) [] at x y is_x is_y = grind (arith, common_steps)
+zip_more (a ∷ xs) (b ∷ ys) zero x y is_x is_y = let first : a ≡ x = same_Some a x is_x in let second : b ≡ y = same_Some b y is_y in cc
+zip_more {A = A} {B = B} (a ∷ xs) (b ∷ ys) (suc at) x y is_x is_y = ap (λ (zs : List (A × B)). (a, b) ∷ zs) (zip_more xs ys at x y is_x is_y)
+
+-- All flows of a node end
+
+last_if : (m : Management) (o : Option ℕ) → without_flows m (cons_option o []) ≡ without_flow_if m o
+last_if m None = refl
+last_if m (Some cep) = refl
+
+ended_step : (o q : Option ℕ) (m : Management) (rest more : List ℕ) → ((n : Management) → without_flows n more ≡ without_flow_if (without_flows n rest) q) → without_flows m (cons_option o more) ≡ without_flow_if (without_flows m (cons_option o rest)) q
+ended_step None q m rest more h = h m
+ended_step (Some cep) q m rest more h = h (without_flow m cep)
+
+-- one more ends
+ended_more : (node : ℕ) (m : Management) (zs : List (End × Conn)) (z : End × Conn) → without_flows m (filter_map (cep_here node) (zs ++ z ∷ [])) ≡ without_flow_if (without_flows m (filter_map (cep_here node) zs)) (cep_here node z)
+ended_more node m [] z = last_if m (cep_here node z)
+ended_more node m (y ∷ zs) z = ended_step (cep_here node y) (cep_here node z) m (filter_map (cep_here node) zs) (filter_map (cep_here node) (zs ++ z ∷ [])) (λ n. ended_more node n zs z)
+
+-- the flows of the ends at the first places have ended
+abbrev pub IsEndedFor : ℕ → List End → List Conn → Management → Management → ℕ → Type 0
+IsEndedFor node ends conns old new at = new ≡ without_flows old (filter_map (cep_here node) (zip (take at ends) (take at conns)))
+
+-- and that of one more
+pub ends_more : (node : ℕ) (ends : List End) (conns : List Conn) (old mid new : Management) (at : ℕ) (end : End) (conn : Conn) → slice_get ends at ≡ Some end → slice_get conns at ≡ Some conn → IsEndedFor node ends conns old mid at → new ≡ without_flow_if mid (cep_here node (end, conn)) → IsEndedFor node ends conns old new (at + 1)
+ends_more node ends conns old mid new at end conn is_end is_conn so is =
+    is ∙ ap (λ (m : Management). without_flow_if m (cep_here node (end, conn))) so
+    ∙ sym (ended_more node old (zip (take at ends) (take at conns)) (end, conn))
+    ∙ ap (λ (zs : List (End × Conn)). without_flows old (filter_map (cep_here node) zs)) (sym (zip_more ends conns at end conn is_end is_conn))
+    ∙ ap (λ (n : ℕ). without_flows old (filter_map (cep_here node) (zip (take n ends) (take n conns)))) (sym (add-one at))
+
+-- The object of one flow is deleted
+
+pub ends_flow : (d : Dif) (i at : ℕ) (name : List ℕ) (new : List Management) → ((k : Conn) → slice_get d.flows.conns at ≡ Some k → name ≡ flow_name k.sending.form.peer.scep) → new ≡ changed_at i (λ m. with_objects m (removed m.objects name)) d.managements → EndsFlow d i at new
+ends_flow d i at name new named is k is_k = is ∙ ap (λ (t : List ℕ). changed_at i (λ m. with_objects m (removed m.objects t)) d.managements) (named k is_k)
+
+-- that of an allocated end that is freed
+pub frees_managed : (d : Dif) (i at node : ℕ) (new : List Management) → at < length d.flows.journal.ends → ((e : End) → slice_get d.flows.journal.ends at ≡ Some e → (e.state ≡ Allocated) × (e.port.node ≡ node)) → home_of d node ≡ Some i → EndsFlow d i at new → FreesManaged {E = Memory} (Some at) (Ok tt) d new
+frees_managed d i at node new within ends here flow =
+    let e = there d.flows.journal.ends at within in
+    let end = ends e.0 e.1 in
+    (e.0, e.1, subst (λ (s : PortState). ManagesFree s d at e.0 new) (sym end.0) (i, ap (home_of d) end.1 ∙ here, flow))

@@ -1,0 +1,32 @@
+-- When the management connections of a DIF's links stand.
+use Rattle.std.specs.Prelude.{ℕ, List}
+use Rattle.rina_channel.specs.Channels.{ChannelsSeen, seen_of}
+use Rattle.rina_channel.specs.FlowLaws.{HasNoZero}
+use Rattle.rina_channel.specs.Names.{link_config}
+use Rattle.rina_channel.specs.Standing.{IsManaged, IsStanding}
+use Rattle.rina_cube.specs.declared.Cube.{Cube}
+use Rattle.rina_data.specs.Configs.{Config}
+use Rattle.rina_data.specs.Process.{Process}
+use Rattle.rina_flows.specs.Calls.{AreTied}
+use Rattle.rina_iface.specs.Seen.{Seen}
+use Rattle.rina_law.specs.Direction.{Direction}
+use Rattle.rina_dif.specs.declared.connections.Connections.{Connections}
+
+-- as the laws of management connections see them
+abbrev pub channels_seen : Config → ℕ → Connections → ChannelsSeen
+channels_seen g now c = seen_of g c.manage now c.channels c.flows
+
+-- their cube is reliable and has id 0, no cube of flows has that id, and no member has address 0, which their PDUs bear
+pub record CanManage (g : Config) (manage : Cube) : Type 0 where
+  pub managed : IsManaged g manage
+  pub zero : HasNoZero g
+
+-- directions stand behind them, to which they are tied
+pub record HaveDirections (g : Config) (now : ℕ) (c : Connections) (processes : List Process) (below : Seen) : Type 0 where
+  pub lines : List Direction
+  pub tied : AreTied (link_config g c.manage) now c.flows lines
+  pub standing : IsStanding (channels_seen g now c) lines processes below
+
+-- they stand on the rank below, in a DIF that can have them
+abbrev pub AreConnected : Config → ℕ → Connections → List Process → Seen → Type 0
+AreConnected g now c processes below = CanManage g c.manage → HaveDirections g now c processes below

@@ -1,0 +1,91 @@
+//! The management of a member.
+ghost use Rattle.std.specs.Prelude.{◌≡◌, Some, IfOk, OnOk};
+ghost use Rattle.std.specs.Fmt.{decimal};
+ghost use Rattle.rina_newest.specs.Newest.{item_of, taken};
+ghost use Rattle.rina_member.specs.Managements.{entered, with_flow, with_objects};
+ghost use Rattle.rina_member.specs.Objects.{removed};
+ghost use Rattle.rina_member.specs.Start.{first_version};
+ghost use Rattle.rina_dir.specs.Directory.{key_of};
+
+use crate::objects::{flow_name, remove, show_live, tell};
+use crate::texts::first_version;
+use rina_agent::{Agent, numbered};
+use rina_base::{Addr, AppName, Bytes, Cep, Memory};
+use rina_dir::write_key;
+use rina_newest::Newest;
+use rina_rib::{Class, Rib};
+use std::alloc::{AllocError, Global};
+
+/// The management of a member of a DIF: what it holds, and the objects that it shows.
+#[derive(Drop)]
+pub struct Management {
+    /// Its state in its DIF, the items that it holds, its links, and the messages that wait for them.
+    pub agent: Agent,
+    /// Its objects. Those below `/member`, `/link` and `/dir` are its live items. Below `/flow` stands an object for each
+    /// allocated end at the member. Its value is that of the last request: the numbers of a flow change with each PDU and with
+    /// time, and are read from the connection at each request. Requests alone change what is below `/user`.
+    pub objects: Rib,
+}
+
+/// The key of the directory entry of an application.
+fn entry_key(alloc: Global, app: &AppName) -> Result<Bytes, AllocError>
+    ensures { IfOk result (λ key. key ≡ key_of app.now) }
+{
+    let name = app.as_bytes();
+    let mut key = vec![in alloc; 0u8; name.len() + 5]?;
+    let length = write_key(name, key.as_mut_slice());
+    Bytes::copy_of(alloc, &key[..length])
+}
+
+/// Takes the entry of an application at an address among items.
+fn take_entry(alloc: Global, items: &mut Newest, key: &[u8], address: Addr) -> Result<(), Memory>
+    ensures { OnOk result (items.new ≡ taken items.old (item_of key.now (first_version address) (Some (decimal address)))) }
+{
+    let value = numbered(alloc, b"", u64::from(address))?;
+    let version = first_version(address);
+    let _ = items.take(alloc, key, version, Some(value.as_slice()))?;
+    Ok(())
+}
+
+impl Management {
+    /// A copy.
+    pub fn copy(&self, alloc: Global) -> Result<Management, Memory>
+        ensures { IfOk result (λ m. m ≡ self.now) }
+    {
+        let agent = self.agent.copy(alloc)?;
+        let objects = self.objects.copy()?;
+        Ok(Management { agent, objects })
+    }
+
+    /// Takes the directory entry of an application that is registered at the member of an address from the start. Of two
+    /// entries of one application that of the greater address stays. After a call that fails the management is of no use.
+    #[tactic(auto, unfolding(crate::specs::Managements::entered))]
+    pub fn enter(&mut self, alloc: Global, app: &AppName, address: Addr) -> Result<(), Memory>
+        ensures { OnOk result (self.new ≡ entered app.now address self.old) }
+    {
+        let key = entry_key(alloc, app)?;
+        take_entry(alloc, &mut self.agent.items, key.as_slice(), address)?;
+        show_live(alloc, &mut self.objects, &self.agent.items, key.as_slice())
+    }
+
+    /// Shows the object of a flow from now on, an end of which is allocated at the member. Without memory nothing changes.
+    pub fn show_flow(&mut self, alloc: Global, cep: Cep) -> Result<(), Memory>
+        ensures { OnOk result (self.new ≡ with_flow self.old cep) }
+    {
+        let name = flow_name(alloc, cep)?;
+        tell(
+            alloc,
+            &mut self.objects,
+            name.as_slice(),
+            Class::Flow,
+            b"".as_slice(),
+        )
+    }
+
+    /// Deletes an object of the member, where it is there. Takes no memory.
+    pub fn remove(&mut self, name: &[u8])
+        ensures { self.new ≡ with_objects self.old (removed self.old.objects name.now) }
+    {
+        remove(&mut self.objects, name);
+    }
+}
