@@ -2,6 +2,7 @@
 //! command line.
 #![tactic(auto)]
 
+mod line_reader;
 mod lines;
 mod memory_ends;
 mod sink;
@@ -11,6 +12,7 @@ mod sure_ends;
 mod whole;
 mod words;
 
+pub use line_reader::{CHUNK, LineReader, ReadError};
 pub use lines::{all_lines, without_end};
 pub use memory_ends::{MemSink, MemSource};
 pub use sink::Sink;

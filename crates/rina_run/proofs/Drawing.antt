@@ -11,7 +11,6 @@ use Rattle.rina_iface.specs.declared.ends.End.{End}
 use Rattle.rina_iface.specs.Seen.{Fac}
 use Rattle.rina_policy.specs.Slots.{Slot}
 use Rattle.rina_report.specs.declared.note.Note.{Note}
-use Rattle.rina_report.specs.declared.note.Note.TheVariants as notes
 use Rattle.rina_report.specs.declared.note.Fault.{Fault}
 use Rattle.rina_report.specs.declared.note.Fault.TheVariants as faults
 use Rattle.rina_tower.specs.declared.tower.Tower.{Tower}
@@ -20,7 +19,8 @@ use Rattle.rina_run.specs.declared.outcome.Status.TheVariants as statuses
 use Rattle.rina_run.specs.Drawn.{Tells, fac_failures, is_failed_app}
 use Rattle.rina_run.specs.Outcomes.{IsGenerated, IsRan}
 use Rattle.rina_run.specs.Script.{Script, script_in}
-use Rattle.rina_run.specs.Top.{InputOutcomes, IsOutOfMemory, ScriptOutcomes, is_whole, status_of}
+use Rattle.rina_run.specs.Reading.{Broken, Ending, is_whole}
+use Rattle.rina_run.specs.Top.{InputOutcomes, IsOutOfMemory, ScriptOutcomes, status_of}
 
 -- the ends of the next facility are counted
 pub failures_more : (facs : List Fac) (i count found next : ℕ) (ends : List End) → count ≡ sum_by fac_failures (take i facs) → option_map (λ (f : Fac). f.ends) (slice_get facs i) ≡ Some ends → found ≡ count_by is_failed_app ends → next ≡ count + found → next ≡ sum_by fac_failures (take (i + 1) facs)
@@ -45,14 +45,14 @@ no_fault_is_done (faults.StackRule n item) h = cc
 no_fault_is_done (faults.Schedule line n field) h = cc
 no_fault_is_done faults.ReadFault h = cc
 
-pub script_done : (known : List ℕ → Bool) (ending : Option Fault) (s : Script) (shelf : List Slot) (t : List Note) (shelf' : List Slot) → ScriptOutcomes known ending s shelf statuses.Done t None shelf' → ⊥
+pub script_done : (known : List ℕ → Bool) (ending : Ending) (s : Script) (shelf : List Slot) (t : List Note) (shelf' : List Slot) → ScriptOutcomes known ending s shelf statuses.Done t None shelf' → ⊥
 script_done known ending s shelf t shelf' (inl m, same) = let no : statuses.Done ≡ statuses.Memory = m.memory in cc
 script_done known ending s shelf t shelf' (inr r, same) = no_fault_is_done r.fault r.refused.0
 
-input_done : (known : List ℕ → Bool) (ending : Option Fault) (script : Option Script) (shelf : List Slot) (t : List Note) (shelf' : List Slot) → InputOutcomes known ending script shelf statuses.Done t None shelf' → ⊥
+input_done : (known : List ℕ → Bool) (ending : Ending) (script : Option Script) (shelf : List Slot) (t : List Note) (shelf' : List Slot) → InputOutcomes known ending script shelf statuses.Done t None shelf' → ⊥
 input_done known ending (Some s) shelf t shelf' h = script_done known ending s shelf t shelf' h
-input_done known (Some fault) None shelf t shelf' h = no_fault_is_done fault h.1.0
-input_done known None None shelf t shelf' h = h
+input_done known (Broken fault) None shelf t shelf' h = no_fault_is_done fault h.1.0
+input_done known ending None shelf t shelf' h = h
 
 -- a run of all its lines has a tower
 pub done_has_tower : (known : List ℕ → Bool) (left left' : Option (List ℕ)) (shelf : List Slot) (s : Status) (t : List Note) (tower : Option Tower) (shelf' : List Slot) → IsRan known left left' shelf s t tower shelf' → s ≡ statuses.Done → IsSome tower

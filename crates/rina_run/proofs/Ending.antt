@@ -1,6 +1,6 @@
 -- How a run ends.
-use Rattle.std.proofs.Common.{◌≡◌, ℕ, ◌+◌, List, [], ◌∷◌, ◌++◌, Option, Some, None, Ok, Err, ◌⊎◌, inl, inr, refl, sym, ◌∙◌, IsSome, IfSome, Bool, slice_get, length, arith, subst, ap}
-use Rattle.std.proofs.lemmas.List.{take_all}
+use Rattle.std.proofs.Common.{◌≡◌, ℕ, ◌+◌, List, [], ◌∷◌, ◌++◌, Option, Some, None, Ok, Err, inl, inr, refl, sym, ◌∙◌, IsSome, IfSome, Bool, slice_get, length, take, arith, subst, ap}
+use Rattle.std.proofs.Math.Seq.{take-append_seam}
 use Rattle.std.proofs.KnownBytes.{Appends-nil}
 use Rattle.std.specs.Io.KnownBytes.{Appends}
 use Rattle.rina_policy.specs.Slots.{Slot}
@@ -35,11 +35,14 @@ use Rattle.rina_tower.proofs.Owned.{rank_valid}
 use Rattle.rina_words.specs.declared.run.Run.{Run}
 use Rattle.rina_run.specs.Opening.{IsOpening}
 use Rattle.rina_run.specs.Run.{Runs, StopsAt, RanFirst, LinesRan}
-use Rattle.rina_run.specs.Script.{Script, script_in}
+use Rattle.rina_run.specs.declared.lines.Close.TheVariants as closes
+use Rattle.rina_run.specs.Faults.{BreakFaults, IsNoneMore, IsOneMore}
+use Rattle.rina_run.specs.Reading.{AreRead, Broken, Ending, IsFine}
+use Rattle.rina_run.specs.Script.{Script}
+use Rattle.rina_run.proofs.Playing.{all_ran}
 use Rattle.rina_words.specs.Step.{HasNames, Stage, stage}
 use Rattle.rina_run.specs.Written.{IsFront, Written}
-use Rattle.rina_run.specs.Top.{status_of, fault_of, closing_of, stack_fault, IsRefusedStack, IsStopped, PlayOutcomes, RefusedBy, ScriptOutcomes, InputOutcomes, IsOutOfMemory, ClosedBy, IsEnding, IsReadTo, is_whole, status_stopped, AreCut, FailedByCut, IsCutBy, KeepsAll}
-use Rattle.rina_run.specs.Outcomes.{IsRan}
+use Rattle.rina_run.specs.Top.{status_of, fault_of, stack_fault, PlayOutcomes, RefusedBy, ScriptOutcomes, InputOutcomes, IsOutOfMemory, ClosedBy, status_stopped, AreCut, FailedByCut, IsCutBy, KeepsAll}
 use Rattle.rina_run.proofs.Texts.{wrote_all}
 
 pub wrote_nothing : (base : Option (List ℕ)) (ns : List Note) → ns ≡ [] → Appends base base (text_of ns)
@@ -60,90 +63,91 @@ closed_ok statuses.WriteFault note old new p = p
 closed_ok statuses.Memory note old new p = inr p
 closed_ok s note old new p = (refl, p)
 
+pub refused_as : (fault : Fault) (s : Status) (t : List Note) → RefusedBy fault s t → ClosedBy (status_of fault) (notes.Fault fault) [] s t
+refused_as fault s t c = c
+
 pub refused_from : (fault : Fault) (s : Status) (t : List Note) → ClosedBy (status_of fault) (notes.Fault fault) [] s t → RefusedBy fault s t
 refused_from fault s t c = c
 
-all_first : (plan : Plan) (w : Stage) (lines : List (List ℕ)) (told : List Note) (u : Stage) → Runs plan 1 w lines told u → RanFirst plan w lines told u
-all_first plan w lines told u runs = record { count = length lines; runs = rw (take_all (length lines) lines (omega arith)) runs }
-
 stop_first : (plan : Plan) (w : Stage) (lines : List (List ℕ)) (bad : BadLine) (told : List Note) (u : Stage) → StopsAt plan w lines bad told u → RanFirst plan w lines told u
-stop_first plan w lines bad told u stops = record { count = stops.before; runs = stops.runs }
-
--- a run that was stopped at its close, whose note is told
-closed_whole : (plan : Plan) (ending : Option Fault) (lines : List (List ℕ)) (start : Stage) (told t : List Note) (u : Stage) → Runs plan 1 start lines told u → t ≡ told ++ closing_of ending u ∷ [] → IsStopped plan ending lines start t u
-closed_whole plan ending lines start told t u runs is = inr (inl (record { told = told; ran = runs; notes = is }))
-
-closed_bad : (plan : Plan) (ending : Option Fault) (lines : List (List ℕ)) (start : Stage) (told t : List Note) (u : Stage) (bad : BadLine) → StopsAt plan start lines bad told u → t ≡ told ++ notes.Fault (fault_of bad) ∷ [] → IsStopped plan ending lines start t u
-closed_bad plan ending lines start told t u bad stops is = inr (inr (bad, record { told = told; ran = stops; notes = is }))
-
--- and whose note may be told
-may_close : (plan : Plan) (ending : Option Fault) (lines : List (List ℕ)) (start : Stage) (told t : List Note) (u : Stage) → Runs plan 1 start lines told u → (t ≡ told) ⊎ (t ≡ told ++ closing_of ending u ∷ []) → IsStopped plan ending lines start t u
-may_close plan ending lines start told t u runs (inl p) = inl (rw p (all_first plan start lines told u runs))
-may_close plan ending lines start told t u runs (inr p) = closed_whole plan ending lines start told t u runs p
-
-may_close_bad : (plan : Plan) (ending : Option Fault) (lines : List (List ℕ)) (start : Stage) (told t : List Note) (u : Stage) (bad : BadLine) → StopsAt plan start lines bad told u → (t ≡ told) ⊎ (t ≡ told ++ notes.Fault (fault_of bad) ∷ []) → IsStopped plan ending lines start t u
-may_close_bad plan ending lines start told t u bad stops (inl p) = inl (rw p (stop_first plan start lines bad told u stops))
-may_close_bad plan ending lines start told t u bad stops (inr p) = closed_bad plan ending lines start told t u bad stops p
+stop_first plan w lines bad told u stops =
+    let front : take (length stops.before) lines ≡ stops.before = ap (take (length stops.before)) stops.are ∙ take-append_seam stops.before (stops.line ∷ []) in
+    record { count = length stops.before; runs = rw front stops.runs }
 
 -- all lines were run, and the run was closed
-pub done_from : (plan : Plan) (lines : List (List ℕ)) (start : Stage) (told t : List Note) (u : Stage) (tower : Option Tower) (shelf' : List Slot) (s : Status) → Runs plan 1 start lines told u → tower ≡ Some u.run.tower → shelf' ≡ u.shelf → HasNames start.shelf shelf' → ClosedBy statuses.Done (notes.End (now_of u.run.tower)) told s t → PlayOutcomes plan None lines start s t tower shelf'
-done_from plan lines start told t u tower shelf' statuses.Done runs left after names c = (refl, record { told = told; reached = u; ran = runs; notes = c.1; left = left; shelf = after })
-done_from plan lines start told t u tower shelf' statuses.WriteFault runs left after names c = record { reached = u; stopped = closed_whole plan None lines start told t u runs c; left = left; after = after }
-done_from plan lines start told t u tower shelf' statuses.Memory runs left after names c = (u, may_close plan None lines start told t u runs c, names)
-done_from plan lines start told t u tower shelf' s runs left after names c = cc
+pub done_from : (plan : Plan) (ending : Ending) (lines : List (List ℕ)) (start : Stage) (told t : List Note) (u : Stage) (tower : Option Tower) (shelf' : List Slot) (s : Status) → LinesRan plan start ending lines told u (Ok closes.End) → tower ≡ Some u.run.tower → shelf' ≡ u.shelf → HasNames start.shelf shelf' → ClosedBy statuses.Done (notes.End (now_of u.run.tower)) told s t → PlayOutcomes plan ending lines start s t tower shelf'
+done_from plan ending lines start told t u tower shelf' statuses.Done ran left after names c = (ran.0, record { told = told; reached = u; ran = ran.1; notes = c.1; left = left; shelf = after })
+done_from plan ending lines start told t u tower shelf' statuses.WriteFault ran left after names c = record { reached = u; stopped = inr (inl (rw ran.0 (record { told = told; ran = ran.1; notes = c }))); left = left; after = after }
+done_from plan ending lines start told t u tower shelf' statuses.Memory ran left after names (inl c) = (u, inl (rw c (all_ran plan start lines told u ran.1)), names)
+done_from plan ending lines start told t u tower shelf' statuses.Memory ran left after names (inr c) = (u, inr (inl (rw ran.0 (record { told = told; ran = ran.1; notes = c }))), names)
+done_from plan ending lines start told t u tower shelf' s ran left after names c = cc
 
--- all lines were run, and the fault that reading ended with was told
-read_fault_from : (plan : Plan) (lines : List (List ℕ)) (start : Stage) (told t : List Note) (u : Stage) (tower : Option Tower) (shelf' : List Slot) (s : Status) → Runs plan 1 start lines told u → tower ≡ Some u.run.tower → shelf' ≡ u.shelf → HasNames start.shelf shelf' → ClosedBy statuses.ReadFault (notes.Fault faults.ReadFault) told s t → PlayOutcomes plan (Some faults.ReadFault) lines start s t tower shelf'
-read_fault_from plan lines start told t u tower shelf' statuses.ReadFault runs left after names c = (refl, record { told = told; reached = u; ran = runs; notes = c.1; left = left; shelf = after })
-read_fault_from plan lines start told t u tower shelf' statuses.WriteFault runs left after names c = record { reached = u; stopped = closed_whole plan (Some faults.ReadFault) lines start told t u runs c; left = left; after = after }
-read_fault_from plan lines start told t u tower shelf' statuses.Memory runs left after names c = (u, may_close plan (Some faults.ReadFault) lines start told t u runs c, names)
-read_fault_from plan lines start told t u tower shelf' s runs left after names c = cc
+-- all lines were run, and the fault that reading broke off with was told
+read_fault_from : (plan : Plan) (ending : Ending) (lines : List (List ℕ)) (start : Stage) (told t : List Note) (u : Stage) (tower : Option Tower) (shelf' : List Slot) (s : Status) → ending ≡ Broken faults.ReadFault → Runs plan 1 start lines told u → tower ≡ Some u.run.tower → shelf' ≡ u.shelf → HasNames start.shelf shelf' → ClosedBy statuses.ReadFault (notes.Fault faults.ReadFault) told s t → PlayOutcomes plan ending lines start s t tower shelf'
+read_fault_from plan ending lines start told t u tower shelf' statuses.ReadFault is runs left after names c = (is, record { told = told; reached = u; ran = runs; notes = c.1; left = left; shelf = after })
+read_fault_from plan ending lines start told t u tower shelf' statuses.WriteFault is runs left after names c = record { reached = u; stopped = inr (inl (rw is (record { told = told; ran = runs; notes = c }))); left = left; after = after }
+read_fault_from plan ending lines start told t u tower shelf' statuses.Memory is runs left after names (inl c) = (u, inl (rw c (all_ran plan start lines told u runs)), names)
+read_fault_from plan ending lines start told t u tower shelf' statuses.Memory is runs left after names (inr c) = (u, inr (inl (rw is (record { told = told; ran = runs; notes = c }))), names)
+read_fault_from plan ending lines start told t u tower shelf' s is runs left after names c = cc
 
-too_large_from : (plan : Plan) (lines : List (List ℕ)) (start : Stage) (told t : List Note) (u : Stage) (tower : Option Tower) (shelf' : List Slot) (s : Status) → Runs plan 1 start lines told u → tower ≡ Some u.run.tower → shelf' ≡ u.shelf → HasNames start.shelf shelf' → ClosedBy statuses.TooLarge (notes.Fault faults.TooLarge) told s t → PlayOutcomes plan (Some faults.TooLarge) lines start s t tower shelf'
-too_large_from plan lines start told t u tower shelf' statuses.TooLarge runs left after names c = (refl, record { told = told; reached = u; ran = runs; notes = c.1; left = left; shelf = after })
-too_large_from plan lines start told t u tower shelf' statuses.WriteFault runs left after names c = record { reached = u; stopped = closed_whole plan (Some faults.TooLarge) lines start told t u runs c; left = left; after = after }
-too_large_from plan lines start told t u tower shelf' statuses.Memory runs left after names c = (u, may_close plan (Some faults.TooLarge) lines start told t u runs c, names)
-too_large_from plan lines start told t u tower shelf' s runs left after names c = cc
+too_large_from : (plan : Plan) (ending : Ending) (lines : List (List ℕ)) (start : Stage) (told t : List Note) (u : Stage) (tower : Option Tower) (shelf' : List Slot) (s : Status) → ending ≡ Broken faults.TooLarge → Runs plan 1 start lines told u → tower ≡ Some u.run.tower → shelf' ≡ u.shelf → HasNames start.shelf shelf' → ClosedBy statuses.TooLarge (notes.Fault faults.TooLarge) told s t → PlayOutcomes plan ending lines start s t tower shelf'
+too_large_from plan ending lines start told t u tower shelf' statuses.TooLarge is runs left after names c = (is, record { told = told; reached = u; ran = runs; notes = c.1; left = left; shelf = after })
+too_large_from plan ending lines start told t u tower shelf' statuses.WriteFault is runs left after names c = record { reached = u; stopped = inr (inl (rw is (record { told = told; ran = runs; notes = c }))); left = left; after = after }
+too_large_from plan ending lines start told t u tower shelf' statuses.Memory is runs left after names (inl c) = (u, inl (rw c (all_ran plan start lines told u runs)), names)
+too_large_from plan ending lines start told t u tower shelf' statuses.Memory is runs left after names (inr c) = (u, inr (inl (rw is (record { told = told; ran = runs; notes = c }))), names)
+too_large_from plan ending lines start told t u tower shelf' s is runs left after names c = cc
 
-pub ended_from : (plan : Plan) (lines : List (List ℕ)) (start : Stage) (told t : List Note) (u : Stage) (tower : Option Tower) (shelf' : List Slot) (s : Status) (fault : Fault) → IsEnding (Some fault) → Runs plan 1 start lines told u → tower ≡ Some u.run.tower → shelf' ≡ u.shelf → HasNames start.shelf shelf' → ClosedBy (status_of fault) (notes.Fault fault) told s t → PlayOutcomes plan (Some fault) lines start s t tower shelf'
-ended_from plan lines start told t u tower shelf' s faults.ReadFault is runs left after names c = read_fault_from plan lines start told t u tower shelf' s runs left after names c
-ended_from plan lines start told t u tower shelf' s faults.TooLarge is runs left after names c = too_large_from plan lines start told t u tower shelf' s runs left after names c
-ended_from plan lines start told t u tower shelf' s fault is runs left after names c = absurd is
+-- reading breaks off by no other fault
+abbrev BreaksOff : Fault → Type 0
+BreaksOff faults.ReadFault = Unit {0}
+BreaksOff faults.TooLarge = Unit {0}
+BreaksOff fault = ⊥
+
+breaks_off : (left left' : Option (List ℕ)) (lines : List (List ℕ)) (fault : Fault) → AreRead left left' (Broken fault) lines → BreaksOff fault
+breaks_off left left' lines faults.ReadFault r = tt
+breaks_off left left' lines faults.TooLarge r = tt
+breaks_off left left' lines fault r = r.read.ended
+
+pub ended_from : (plan : Plan) (ending : Ending) (lines all : List (List ℕ)) (left0 left' : Option (List ℕ)) (start : Stage) (told t : List Note) (u : Stage) (tower : Option Tower) (shelf' : List Slot) (s : Status) (fault : Fault) → AreRead left0 left' ending all → LinesRan plan start ending lines told u (Ok (closes.Broken fault)) → tower ≡ Some u.run.tower → shelf' ≡ u.shelf → HasNames start.shelf shelf' → ClosedBy (status_of fault) (notes.Fault fault) told s t → PlayOutcomes plan ending lines start s t tower shelf'
+ended_from plan ending lines all left0 left' start told t u tower shelf' s faults.ReadFault read ran left after names c = read_fault_from plan ending lines start told t u tower shelf' s ran.0 ran.1 left after names c
+ended_from plan ending lines all left0 left' start told t u tower shelf' s faults.TooLarge read ran left after names c = too_large_from plan ending lines start told t u tower shelf' s ran.0 ran.1 left after names c
+ended_from plan ending lines all left0 left' start told t u tower shelf' s fault read ran left after names c = absurd (breaks_off left0 left' all fault (subst (λ (e : Ending). AreRead left0 left' e all) ran.0 read))
 
 -- a line was outside the grammar, and its fault was told
-bad_closed : (plan : Plan) (ending : Option Fault) (lines : List (List ℕ)) (start : Stage) (told t : List Note) (u : Stage) (tower : Option Tower) (shelf' : List Slot) (s : Status) (bad : BadLine) (line n field : ℕ) → fault_of bad ≡ faults.Schedule line n field → StopsAt plan start lines bad told u → tower ≡ Some u.run.tower → shelf' ≡ u.shelf → HasNames start.shelf shelf' → ClosedBy (statuses.Schedule line n field) (notes.Fault (fault_of bad)) told s t → PlayOutcomes plan ending lines start s t tower shelf'
-bad_closed plan ending lines start told t u tower shelf' (statuses.Schedule l m f) bad line n field is stops left after names c = (bad, is ∙ cc, record { told = told; reached = u; ran = stops; notes = c.1; left = left; shelf = after })
-bad_closed plan ending lines start told t u tower shelf' statuses.WriteFault bad line n field is stops left after names c = record { reached = u; stopped = closed_bad plan ending lines start told t u bad stops c; left = left; after = after }
-bad_closed plan ending lines start told t u tower shelf' statuses.Memory bad line n field is stops left after names c = (u, may_close_bad plan ending lines start told t u bad stops c, names)
-bad_closed plan ending lines start told t u tower shelf' s bad line n field is stops left after names c = cc
+bad_closed : (plan : Plan) (ending : Ending) (lines : List (List ℕ)) (start : Stage) (told t : List Note) (u : Stage) (tower : Option Tower) (shelf' : List Slot) (s : Status) (bad : BadLine) (line n field : ℕ) → fault_of bad ≡ faults.Schedule line n field → IsFine ending → StopsAt plan start lines bad told u → tower ≡ Some u.run.tower → shelf' ≡ u.shelf → HasNames start.shelf shelf' → ClosedBy (statuses.Schedule line n field) (notes.Fault (fault_of bad)) told s t → PlayOutcomes plan ending lines start s t tower shelf'
+bad_closed plan ending lines start told t u tower shelf' (statuses.Schedule l m f) bad line n field is fine stops left after names c = (fine, bad, is ∙ cc, record { told = told; reached = u; ran = stops; notes = c.1; left = left; shelf = after })
+bad_closed plan ending lines start told t u tower shelf' statuses.WriteFault bad line n field is fine stops left after names c = record { reached = u; stopped = inr (inr (record { fine = fine; bad = bad; closed = record { told = told; ran = stops; notes = c } })); left = left; after = after }
+bad_closed plan ending lines start told t u tower shelf' statuses.Memory bad line n field is fine stops left after names (inl c) = (u, inl (rw c (stop_first plan start lines bad told u stops)), names)
+bad_closed plan ending lines start told t u tower shelf' statuses.Memory bad line n field is fine stops left after names (inr c) = (u, inr (inr (record { fine = fine; bad = bad; closed = record { told = told; ran = stops; notes = c } })), names)
+bad_closed plan ending lines start told t u tower shelf' s bad line n field is fine stops left after names c = cc
 
-pub bad_from : (plan : Plan) (ending : Option Fault) (lines : List (List ℕ)) (start : Stage) (told t : List Note) (u : Stage) (tower : Option Tower) (shelf' : List Slot) (s : Status) (bad : BadLine) → StopsAt plan start lines bad told u → tower ≡ Some u.run.tower → shelf' ≡ u.shelf → HasNames start.shelf shelf' → ClosedBy (status_of (fault_of bad)) (notes.Fault (fault_of bad)) told s t → PlayOutcomes plan ending lines start s t tower shelf'
-bad_from plan ending lines start told t u tower shelf' s bad stops left after names c =
-    bad_closed plan ending lines start told t u tower shelf' s bad bad.number (number_of bad.error) (field_of bad.error) refl stops left after names c
+pub bad_from : (plan : Plan) (ending : Ending) (lines : List (List ℕ)) (start : Stage) (told t : List Note) (u : Stage) (tower : Option Tower) (shelf' : List Slot) (s : Status) (bad : BadLine) → LinesRan plan start ending lines told u (Ok (closes.Bad bad)) → tower ≡ Some u.run.tower → shelf' ≡ u.shelf → HasNames start.shelf shelf' → ClosedBy (status_of (fault_of bad)) (notes.Fault (fault_of bad)) told s t → PlayOutcomes plan ending lines start s t tower shelf'
+bad_from plan ending lines start told t u tower shelf' s bad ran left after names c =
+    bad_closed plan ending lines start told t u tower shelf' s bad bad.number (number_of bad.error) (field_of bad.error) refl ran.0 ran.1 left after names c
 
 -- the run was stopped
-pub stop_from : (plan : Plan) (ending : Option Fault) (lines : List (List ℕ)) (start : Stage) (t : List Note) (u : Stage) (tower : Option Tower) (shelf' : List Slot) (stop : Stop) → LinesRan plan start lines t u (Err stop) → tower ≡ Some u.run.tower → shelf' ≡ u.shelf → HasNames start.shelf shelf' → PlayOutcomes plan ending lines start (status_stopped stop) t tower shelf'
+pub stop_from : (plan : Plan) (ending : Ending) (lines : List (List ℕ)) (start : Stage) (t : List Note) (u : Stage) (tower : Option Tower) (shelf' : List Slot) (stop : Stop) → LinesRan plan start ending lines t u (Err stop) → tower ≡ Some u.run.tower → shelf' ≡ u.shelf → HasNames start.shelf shelf' → PlayOutcomes plan ending lines start (status_stopped stop) t tower shelf'
 stop_from plan ending lines start t u tower shelf' stops.Memory ran left after names = (ran.0, inl ran.1, names)
 stop_from plan ending lines start t u tower shelf' stops.WriteFault ran left after names = record { reached = u; stopped = inl ran; left = left; after = after }
 
 -- a stack that is no TOML, or breaks a rule
-refused_stack : (known : List ℕ → Bool) (ending : Option Fault) (s : Script) (shelf : List Slot) (status : Status) (t : List Note) (tower : Option Tower) (shelf' : List Slot) (error : StackError) (fault : Fault) → ReadsRunnable known (Err error) s.stack → stack_fault error ≡ Some fault → RefusedBy fault status t → tower ≡ None → shelf' ≡ shelf → ScriptOutcomes known ending s shelf status t tower shelf'
+refused_stack : (known : List ℕ → Bool) (ending : Ending) (s : Script) (shelf : List Slot) (status : Status) (t : List Note) (tower : Option Tower) (shelf' : List Slot) (error : StackError) (fault : Fault) → ReadsRunnable known (Err error) s.stack → stack_fault error ≡ Some fault → RefusedBy fault status t → tower ≡ None → shelf' ≡ shelf → ScriptOutcomes known ending s shelf status t tower shelf'
 refused_stack known ending s shelf status t None shelf' error fault reads is refused left same = (inr (record { error = error; reads = reads; fault = fault; is_its = is; refused = refused }), same)
 refused_stack known ending s shelf status t (Some a) shelf' error fault reads is refused left same = cc
 
-pub not_toml_from : (known : List ℕ → Bool) (ending : Option Fault) (s : Script) (shelf : List Slot) (status : Status) (t : List Note) (tower : Option Tower) (shelf' : List Slot) → ReadsRunnable known (Err stack.NotToml) s.stack → RefusedBy faults.NotToml status t → tower ≡ None → shelf' ≡ shelf → ScriptOutcomes known ending s shelf status t tower shelf'
+pub not_toml_from : (known : List ℕ → Bool) (ending : Ending) (s : Script) (shelf : List Slot) (status : Status) (t : List Note) (tower : Option Tower) (shelf' : List Slot) → ReadsRunnable known (Err stack.NotToml) s.stack → RefusedBy faults.NotToml status t → tower ≡ None → shelf' ≡ shelf → ScriptOutcomes known ending s shelf status t tower shelf'
 not_toml_from known ending s shelf status t tower shelf' reads refused left same = refused_stack known ending s shelf status t tower shelf' stack.NotToml faults.NotToml reads refl refused left same
 
-pub rule_from : (known : List ℕ → Bool) (ending : Option Fault) (s : Script) (shelf : List Slot) (status : Status) (t : List Note) (tower : Option Tower) (shelf' : List Slot) (n item : ℕ) → ReadsRunnable known (Err (stack.StackRule n item)) s.stack → RefusedBy (faults.StackRule n item) status t → tower ≡ None → shelf' ≡ shelf → ScriptOutcomes known ending s shelf status t tower shelf'
+pub rule_from : (known : List ℕ → Bool) (ending : Ending) (s : Script) (shelf : List Slot) (status : Status) (t : List Note) (tower : Option Tower) (shelf' : List Slot) (n item : ℕ) → ReadsRunnable known (Err (stack.StackRule n item)) s.stack → RefusedBy (faults.StackRule n item) status t → tower ≡ None → shelf' ≡ shelf → ScriptOutcomes known ending s shelf status t tower shelf'
 rule_from known ending s shelf status t tower shelf' n item reads refused left same = refused_stack known ending s shelf status t tower shelf' (stack.StackRule n item) (faults.StackRule n item) reads refl refused left same
 
 -- memory was not found for the stack
-pub no_memory_from : (known : List ℕ → Bool) (ending : Option Fault) (s : Script) (shelf : List Slot) (status : Status) (t : List Note) (tower : Option Tower) (shelf' : List Slot) → IsOutOfMemory status t tower → shelf' ≡ shelf → ScriptOutcomes known ending s shelf status t tower shelf'
+pub no_memory_from : (known : List ℕ → Bool) (ending : Ending) (s : Script) (shelf : List Slot) (status : Status) (t : List Note) (tower : Option Tower) (shelf' : List Slot) → IsOutOfMemory status t tower → shelf' ≡ shelf → ScriptOutcomes known ending s shelf status t tower shelf'
 no_memory_from known ending s shelf status t None shelf' m same = (inl m, same)
 no_memory_from known ending s shelf status t (Some a) shelf' m same = let no : Some a ≡ None = m.left in cc
 
 -- a stack that was accepted
-pub script_from : (known : List ℕ → Bool) (ending : Option Fault) (s : Script) (shelf : List Slot) (w : Run) (status : Status) (t : List Note) (tower : Option Tower) (shelf' : List Slot) (plan : Plan) → ReadsRunnable known (Ok plan) s.stack → ((slots : List Slot) → IsOpening plan slots (stage w slots)) → IsSome tower → PlayOutcomes plan ending s.lines (stage w shelf) status t tower shelf' → ScriptOutcomes known ending s shelf status t tower shelf'
+pub script_from : (known : List ℕ → Bool) (ending : Ending) (s : Script) (shelf : List Slot) (w : Run) (status : Status) (t : List Note) (tower : Option Tower) (shelf' : List Slot) (plan : Plan) → ReadsRunnable known (Ok plan) s.stack → ((slots : List Slot) → IsOpening plan slots (stage w slots)) → IsSome tower → PlayOutcomes plan ending s.lines (stage w shelf) status t tower shelf' → ScriptOutcomes known ending s shelf status t tower shelf'
 script_from known ending s shelf w status t (Some a) shelf' plan reads opens is played = (plan, reads, stage w shelf, opens shelf, played)
 script_from known ending s shelf w status t None shelf' plan reads opens is played = cc
 
@@ -159,23 +163,8 @@ is_told faults.ReadFault h = cc
 pub front_same : (base took : Option (List ℕ)) (old new : List Note) → new ≡ old → Appends base took (text_of old) → IsFront base took (text_of new)
 front_same base took old new is p = rw is (wrote_all base took old p)
 
--- an input that was read, and its outcome
-pub was_ran : (known : List ℕ → Bool) (left left' : Option (List ℕ)) (ending : Option Fault) (used : List ℕ) (shelf : List Slot) (s : Status) (t : List Note) (tower : Option Tower) (shelf' : List Slot) → IsReadTo left left' ending used → ((IsOutOfMemory s t tower × (shelf' ≡ shelf)) ⊎ InputOutcomes known ending (script_in (is_whole ending) used) shelf s t tower shelf') → IsRan known left left' shelf s t tower shelf'
-was_ran known left left' ending used shelf s t tower shelf' read (inl n) = inl n
-was_ran known left left' ending used shelf s t tower shelf' read (inr o) = inr (record { ending = ending; used = used; read = read; outcome = o })
-
--- no stack is refused by a read fault
-pub stack_not_read : (error : StackError) (fault : Fault) → stack_fault error ≡ Some fault → statuses.ReadFault ≡ status_of fault → ⊥
-stack_not_read stack.Memory fault is h = cc
-stack_not_read stack.NotToml fault is h = let no : statuses.ReadFault ≡ statuses.NotToml = h ∙ ap status_of (sym (same_Some faults.NotToml fault is)) in cc
-stack_not_read (stack.StackRule n item) fault is h = let no : statuses.ReadFault ≡ statuses.StackRule n item = h ∙ ap status_of (sym (same_Some (faults.StackRule n item) fault is)) in cc
-
-script_not_read : (known : List ℕ → Bool) (text : List ℕ) (t : List Note) → IsOutOfMemory statuses.ReadFault t None ⊎ IsRefusedStack known text statuses.ReadFault t → ⊥
-script_not_read known text t (inl m) = let no : statuses.ReadFault ≡ statuses.Memory = m.memory in cc
-script_not_read known text t (inr r) = stack_not_read r.error r.fault r.is_its r.refused.0
-
--- a read fault is told only where reading ended with one
-pub fault_is_read : (fault : Fault) → statuses.ReadFault ≡ status_of fault → fault ≡ faults.ReadFault
+-- a run that ended by a fault, and what it does to the faults of reading
+fault_is_read : (fault : Fault) → statuses.ReadFault ≡ status_of fault → fault ≡ faults.ReadFault
 fault_is_read (faults.Usage word) h = cc
 fault_is_read faults.TooLarge h = cc
 fault_is_read faults.NotToml h = cc
@@ -183,17 +172,38 @@ fault_is_read (faults.StackRule n item) h = cc
 fault_is_read (faults.Schedule line n field) h = cc
 fault_is_read faults.ReadFault h = refl
 
-read_fault_told : (known : List ℕ → Bool) (ending : Option Fault) (script : Option Script) (shelf : List Slot) (t : List Note) (tower : Option Tower) (shelf' : List Slot) → InputOutcomes known ending script shelf statuses.ReadFault t tower shelf' → ending ≡ Some faults.ReadFault
-read_fault_told known None None shelf t tower shelf' o = absurd o
-read_fault_told known (Some fault) None shelf t tower shelf' (left, r, same) = ap Some (fault_is_read fault r.0)
-read_fault_told known None (Some s) shelf t None shelf' o = absurd (script_not_read known s.stack t o.0)
-read_fault_told known (Some fault) (Some s) shelf t None shelf' o = absurd (script_not_read known s.stack t o.0)
-read_fault_told known None (Some s) shelf t (Some a) shelf' (plan, reads, start, opens, played) = played.0
-read_fault_told known (Some fault) (Some s) shelf t (Some a) shelf' (plan, reads, start, opens, played) = played.0
+closed_as : (wanted s : Status) (note : Note) (old t : List Note) → ClosedBy wanted note old s t → s ≡ statuses.ReadFault → statuses.ReadFault ≡ wanted
+closed_as wanted s note old t c is = (subst (λ (u : Status). ClosedBy wanted note old u t) is c).0
 
-pub ran_by_fault : (known : List ℕ → Bool) (ending : Option Fault) (script : Option Script) (shelf : List Slot) (s : Status) (t : List Note) (tower : Option Tower) (shelf' : List Slot) → ((IsOutOfMemory s t tower × (shelf' ≡ shelf)) ⊎ InputOutcomes known ending script shelf s t tower shelf') → s ≡ statuses.ReadFault → ending ≡ Some faults.ReadFault
-ran_by_fault known ending script shelf s t tower shelf' (inl n) is = let e : statuses.Memory ≡ statuses.ReadFault = sym n.0.memory ∙ is in cc
-ran_by_fault known ending script shelf s t tower shelf' (inr o) is = read_fault_told known ending script shelf t tower shelf' (subst (λ (u : Status). InputOutcomes known ending script shelf u t tower shelf') is o)
+closed_done : (wanted s : Status) (note : Note) (old t : List Note) → ClosedBy wanted note old s t → s ≡ statuses.Done → statuses.Done ≡ wanted
+closed_done wanted s note old t c is = (subst (λ (u : Status). ClosedBy wanted note old u t) is c).0
+
+pub read_by : (fault : Fault) (s : Status) (note : Note) (old t : List Note) (before now : ℕ) (odd odd' : Bool) → ClosedBy (status_of fault) note old s t → BreakFaults fault before now odd odd' → s ≡ statuses.ReadFault → IsOneMore before now odd odd'
+read_by fault s note old t before now odd odd' c b is = subst (λ (f : Fault). BreakFaults f before now odd odd') (fault_is_read fault (closed_as (status_of fault) s note old t c is)) b
+
+fault_not_done : (fault : Fault) → statuses.Done ≡ status_of fault → ⊥
+fault_not_done (faults.Usage word) h = cc
+fault_not_done faults.TooLarge h = cc
+fault_not_done faults.NotToml h = cc
+fault_not_done (faults.StackRule n item) h = cc
+fault_not_done (faults.Schedule line n field) h = cc
+fault_not_done faults.ReadFault h = cc
+
+pub never_done : (fault : Fault) (s : Status) (note : Note) (old t : List Note) (before now : ℕ) (odd odd' : Bool) → ClosedBy (status_of fault) note old s t → s ≡ statuses.Done → IsNoneMore before now odd odd'
+never_done fault s note old t before now odd odd' c is = absurd (fault_not_done fault (closed_done (status_of fault) s note old t c is))
+
+-- and one that ended well
+pub never_read : (s : Status) (note : Note) (old t : List Note) (before now : ℕ) (odd odd' : Bool) → ClosedBy statuses.Done note old s t → s ≡ statuses.ReadFault → IsOneMore before now odd odd'
+never_read s note old t before now odd odd' c is = let no : statuses.ReadFault ≡ statuses.Done = closed_as statuses.Done s note old t c is in cc
+
+-- and one that was stopped
+pub stop_not_read : (stop : Stop) (before now : ℕ) (odd odd' : Bool) → status_stopped stop ≡ statuses.ReadFault → IsOneMore before now odd odd'
+stop_not_read stops.Memory before now odd odd' h = cc
+stop_not_read stops.WriteFault before now odd odd' h = cc
+
+-- the outcome of a run that is refused before its first line
+pub refused_at_once : (known : List ℕ → Bool) (fault : Fault) (shelf : List Slot) (status : Status) (t : List Note) (tower : Option Tower) (shelf' : List Slot) → RefusedBy fault status t → tower ≡ None → shelf' ≡ shelf → InputOutcomes known (Broken fault) None shelf status t tower shelf'
+refused_at_once known fault shelf status t tower shelf' refused left same = (left, refused, same)
 
 -- the ranks of a tower that stands keep their flows
 kept_all : (t : Tower) → IsTower t → KeepsAll t

@@ -1,5 +1,6 @@
 pub mod InputLines
 pub mod Texts
+pub mod ReadOn
 pub mod Playing
 pub mod Ending
 pub mod Faulty
@@ -8,4 +9,3 @@ pub mod Shows
 pub mod Promised
 pub mod Opens
 pub mod Drawing
-pub mod Whole

@@ -1,6 +1,19 @@
 -- The faults of reading and of writing that a run meets: what it does to their count, and to whether their number is odd.
 use Rattle.std.specs.Prelude.{◌≡◌, ℕ, Bool, not, Result, Ok, Err}
+use Rattle.rina_base.specs.declared.memory.Memory.{Memory}
 use Rattle.rina_io.specs.Causes.{RoseOnce}
+use Rattle.rina_report.specs.declared.note.Fault.{Fault}
+use Rattle.rina_report.specs.declared.note.Fault.TheVariants as faults
+use Rattle.rina_report.specs.declared.note.Note.{Note}
+use Rattle.rina_report.specs.declared.note.Note.TheVariants as notes
+use Rattle.rina_run.specs.declared.check.Checked.{Checked}
+use Rattle.rina_run.specs.declared.check.Checked.TheVariants as checks
+use Rattle.rina_run.specs.declared.lines.Close.{Close}
+use Rattle.rina_run.specs.declared.lines.Close.TheVariants as closes
+use Rattle.rina_run.specs.declared.reading.Head.{Head}
+use Rattle.rina_run.specs.declared.reading.Head.TheVariants as heads
+use Rattle.rina_run.specs.declared.reading.Next.{Next}
+use Rattle.rina_run.specs.declared.reading.Next.TheVariants as nexts
 use Rattle.rina_run.specs.declared.output.Stop.{Stop}
 use Rattle.rina_run.specs.declared.outcome.Status.{Status}
 use Rattle.rina_run.specs.declared.outcome.Status.TheVariants as statuses
@@ -23,3 +36,33 @@ WriteFaults status before now odd odd' = IsNoneMore before now odd odd'
 abbrev pub StopFaults : {T : Type 0} → Result T Stop → ℕ → ℕ → Bool → Bool → Type 0
 StopFaults (Ok done) before now odd odd' = IsNoneMore before now odd odd'
 StopFaults (Err stop) before now odd odd' = WriteFaults (status_stopped stop) before now odd odd'
+
+-- what reading that broke off with this fault does to the faults of reading: one read failed where that is the fault, and else none
+abbrev pub BreakFaults : Fault → ℕ → ℕ → Bool → Bool → Type 0
+BreakFaults faults.ReadFault before now odd odd' = IsOneMore before now odd odd'
+BreakFaults fault before now odd odd' = IsNoneMore before now odd odd'
+
+-- what reading one line more does to them
+abbrev pub NextFaults : Result Next Memory → ℕ → ℕ → Bool → Bool → Type 0
+NextFaults (Ok (nexts.Broken fault)) before now odd odd' = BreakFaults fault before now odd odd'
+NextFaults result before now odd odd' = IsNoneMore before now odd odd'
+
+-- what reading the text of the stack does
+abbrev pub HeadFaults : Result Head Memory → ℕ → ℕ → Bool → Bool → Type 0
+HeadFaults (Ok (heads.Broken fault)) before now odd odd' = BreakFaults fault before now odd odd'
+HeadFaults result before now odd odd' = IsNoneMore before now odd odd'
+
+-- and what running the lines of a schedule does
+abbrev pub CloseFaults : Result Close Stop → ℕ → ℕ → Bool → Bool → Type 0
+CloseFaults (Ok (closes.Broken fault)) before now odd odd' = BreakFaults fault before now odd odd'
+CloseFaults result before now odd odd' = IsNoneMore before now odd odd'
+
+-- what reading the lines of a schedule does
+abbrev pub CheckFaults : Result Checked Memory → ℕ → ℕ → Bool → Bool → Type 0
+CheckFaults (Ok (checks.Broken fault)) before now odd odd' = BreakFaults fault before now odd odd'
+CheckFaults result before now odd odd' = IsNoneMore before now odd odd'
+
+-- and what a check does, by the note that it tells
+abbrev pub NoteFaults : Note → ℕ → ℕ → Bool → Bool → Type 0
+NoteFaults (notes.Fault fault) before now odd odd' = BreakFaults fault before now odd odd'
+NoteFaults note before now odd odd' = IsNoneMore before now odd odd'

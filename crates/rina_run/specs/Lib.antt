@@ -1,5 +1,6 @@
 pub mod Command
 pub mod Script
+pub mod Reading
 pub mod Opening
 pub mod Run
 pub mod Written

@@ -1,5 +1,5 @@
 -- A run: the lines of a schedule one after the other, from a tower that was just built.
-use Rattle.std.specs.Prelude.{◌≡◌, ℕ, ◌+◌, List, [], ◌∷◌, ◌++◌, take, slice_get, Option, Some, None, Result, Ok, Err, ◌⊎◌}
+use Rattle.std.specs.Prelude.{◌≡◌, ℕ, ◌+◌, List, [], ◌∷◌, ◌++◌, length, take, Option, Some, None, Result, Ok, Err, ◌⊎◌}
 use Rattle.rina_report.specs.declared.note.Note.{Note}
 use Rattle.rina_schedule.specs.declared.error.LineError.{LineError}
 use Rattle.rina_schedule.specs.declared.event.Event.{Event}
@@ -8,6 +8,9 @@ use Rattle.rina_words.specs.Built.{event_at}
 use Rattle.rina_run.specs.declared.output.Stop.{Stop}
 use Rattle.rina_run.specs.declared.output.Stop.TheVariants as stops
 use Rattle.rina_run.specs.declared.lines.BadLine.{BadLine}
+use Rattle.rina_run.specs.declared.lines.Close.{Close}
+use Rattle.rina_run.specs.declared.lines.Close.TheVariants as closes
+use Rattle.rina_run.specs.Reading.{Broken, Ending, IsFine, Whole}
 use Rattle.rina_notes.specs.Look.{Leads}
 use Rattle.rina_words.specs.Step.{Stage, Steps}
 
@@ -46,18 +49,19 @@ pub record RanFirst (plan : Plan) (s : Stage) (lines : List (List ℕ)) (trace :
   pub count : ℕ
   pub runs : Runs plan 1 s (take count lines) trace s'
 
--- the lines before the one of this number were run, and that one is outside the grammar
+-- the last of the lines is outside the grammar, and those before it were run
 pub record StopsAt (plan : Plan) (s : Stage) (lines : List (List ℕ)) (bad : BadLine) (trace : List Note) (s' : Stage) : Type 0 where
-  pub before : ℕ
-  pub number : bad.number ≡ before + 1
+  pub before : List (List ℕ)
   pub line : List ℕ
-  pub stands : slice_get lines before ≡ Some line
+  pub are : lines ≡ before ++ line ∷ []
+  pub number : bad.number ≡ length lines
   pub read : event_at line ≡ Err bad.error
-  pub runs : Runs plan 1 s (take before lines) trace s'
+  pub runs : Runs plan 1 s before trace s'
 
--- what is known after lines were run
-abbrev pub LinesRan : Plan → Stage → List (List ℕ) → List Note → Stage → Result (Option BadLine) Stop → Type 0
-LinesRan plan s lines trace s' (Ok None) = Runs plan 1 s lines trace s'
-LinesRan plan s lines trace s' (Ok (Some bad)) = StopsAt plan s lines bad trace s'
-LinesRan plan s lines trace s' (Err stops.Memory) = (reached : Stage) × RanFirst plan s lines trace reached
-LinesRan plan s lines trace s' (Err stops.WriteFault) = RanFirst plan s lines trace s'
+-- what is known after lines were run, by how reading them ended; a line that ends the run is the last that was read
+abbrev pub LinesRan : Plan → Stage → Ending → List (List ℕ) → List Note → Stage → Result Close Stop → Type 0
+LinesRan plan s ending lines trace s' (Ok closes.End) = (ending ≡ Whole) × Runs plan 1 s lines trace s'
+LinesRan plan s ending lines trace s' (Ok (closes.Broken fault)) = (ending ≡ Broken fault) × Runs plan 1 s lines trace s'
+LinesRan plan s ending lines trace s' (Ok (closes.Bad bad)) = IsFine ending × StopsAt plan s lines bad trace s'
+LinesRan plan s ending lines trace s' (Err stops.Memory) = (reached : Stage) × RanFirst plan s lines trace reached
+LinesRan plan s ending lines trace s' (Err stops.WriteFault) = IsFine ending × Runs plan 1 s lines trace s'

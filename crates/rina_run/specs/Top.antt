@@ -1,6 +1,5 @@
 -- The outcome of a run: the status, the notes, the tower and the shelf, by what was read.
-use Rattle.std.specs.Prelude.{◌≡◌, slice_get, ℕ, ◌<◌, ◌≤◌, Bool, true, false, List, [], ◌∷◌, ◌++◌, length, take, Option, Some, None, Ok, Err, ◌⊎◌}
-use Rattle.std.specs.Io.KnownBytes.{Consumes, IsAtEnd}
+use Rattle.std.specs.Prelude.{◌≡◌, slice_get, ℕ, ◌≤◌, Bool, List, [], ◌∷◌, ◌++◌, Option, Some, None, Ok, Err, ◌⊎◌}
 use Rattle.rina_iface.specs.declared.ends.End.{End}
 use Rattle.rina_iface.specs.declared.state.Fail.{Fail}
 use Rattle.rina_iface.specs.declared.state.Fail.TheVariants.{Cut}
@@ -26,6 +25,7 @@ use Rattle.rina_run.specs.declared.outcome.Status.{Status}
 use Rattle.rina_run.specs.declared.outcome.Status.TheVariants as statuses
 use Rattle.rina_run.specs.Opening.{IsOpening}
 use Rattle.rina_run.specs.Run.{Runs, StopsAt, RanFirst}
+use Rattle.rina_run.specs.Reading.{Broken, Ending, IsFine, IsReadTo, Whole, is_whole}
 use Rattle.rina_run.specs.Script.{Script, script_in}
 use Rattle.rina_words.specs.Step.{HasNames, Stage}
 
@@ -54,39 +54,49 @@ pub record PlayedTo (Ran : List Note → Stage → Type 0) (closing : Stage → 
   pub left : tower ≡ Some reached.run.tower
   pub shelf : shelf' ≡ reached.shelf
 
--- what closes a run of all its lines: its end, or the fault that reading ended with
-abbrev pub closing_of : Option Fault → Stage → Note
-closing_of None s = notes.End (now_of s.run.tower)
-closing_of (Some fault) s = notes.Fault fault
-
 -- the notes of the lines that led to this stage, and the closing note behind them
 pub record IsClosed (Ran : List Note → Stage → Type 0) (closing : Stage → Note) (trace : List Note) (reached : Stage) : Type 0 where
   pub told : List Note
   pub ran : Ran told reached
   pub notes : trace ≡ told ++ closing reached ∷ []
 
--- the notes of a run that was stopped at this stage: those of its first lines, each with all of its notes; or it was stopped at its close,
--- behind all lines or at the first that is outside the grammar
-abbrev pub IsStopped : Plan → Option Fault → List (List ℕ) → Stage → List Note → Stage → Type 0
-IsStopped plan ending lines start trace reached =
-    RanFirst plan start lines trace reached
-    ⊎ (IsClosed (Runs plan 1 start lines) (closing_of ending) trace reached ⊎ ((bad : BadLine) × IsClosed (StopsAt plan start lines bad) (λ s. notes.Fault (fault_of bad)) trace reached))
+-- the close of a run of all its lines was told: its end, or the fault that reading broke off with
+abbrev pub IsClosedAll : Plan → Ending → List (List ℕ) → Stage → List Note → Stage → Type 0
+IsClosedAll plan Whole lines start trace reached = IsClosed (Runs plan 1 start lines) (λ s. notes.End (now_of s.run.tower)) trace reached
+IsClosedAll plan (Broken fault) lines start trace reached = IsClosed (Runs plan 1 start lines) (λ s. notes.Fault fault) trace reached
+IsClosedAll plan ending lines start trace reached = ⊥
+
+-- the close of a run was told whose last line is outside the grammar
+pub record IsClosedBad (plan : Plan) (ending : Ending) (lines : List (List ℕ)) (start : Stage) (trace : List Note) (reached : Stage) : Type 0 where
+  pub fine : IsFine ending
+  pub bad : BadLine
+  pub closed : IsClosed (StopsAt plan start lines bad) (λ s. notes.Fault (fault_of bad)) trace reached
+
+-- the notes of a run that was stopped by a write: it was stopped at the notes of the last line that was read; or at its close, behind all lines or
+-- at one that is outside the grammar
+abbrev pub IsStopped : Plan → Ending → List (List ℕ) → Stage → List Note → Stage → Type 0
+IsStopped plan ending lines start trace reached = (IsFine ending × Runs plan 1 start lines trace reached) ⊎ (IsClosedAll plan ending lines start trace reached ⊎ IsClosedBad plan ending lines start trace reached)
+
+-- the notes of a run without memory: those of its first lines, each with all of its notes; or it was stopped at its close
+abbrev pub IsShort : Plan → Ending → List (List ℕ) → Stage → List Note → Stage → Type 0
+IsShort plan ending lines start trace reached = RanFirst plan start lines trace reached ⊎ (IsClosedAll plan ending lines start trace reached ⊎ IsClosedBad plan ending lines start trace reached)
 
 -- the run was stopped at this stage, and left its tower and its shelf
-pub record PlayedPart (plan : Plan) (ending : Option Fault) (lines : List (List ℕ)) (start : Stage) (trace : List Note) (tower : Option Tower) (shelf' : List Slot) : Type 0 where
+pub record PlayedPart (plan : Plan) (ending : Ending) (lines : List (List ℕ)) (start : Stage) (trace : List Note) (tower : Option Tower) (shelf' : List Slot) : Type 0 where
   pub reached : Stage
   pub stopped : IsStopped plan ending lines start trace reached
   pub left : tower ≡ Some reached.run.tower
   pub after : shelf' ≡ reached.shelf
 
--- the outcome of lines that were run from a stage, where `ending` is the fault that reading ended with, if any; without memory, of the shelf only its names are known
-abbrev pub PlayOutcomes : Plan → Option Fault → List (List ℕ) → Stage → Status → List Note → Option Tower → List Slot → Type 0
-PlayOutcomes plan ending lines start statuses.Done trace tower shelf' = (ending ≡ None) × PlayedTo (Runs plan 1 start lines) (λ s. notes.End (now_of s.run.tower)) trace tower shelf'
-PlayOutcomes plan ending lines start (statuses.Schedule line n field) trace tower shelf' = (bad : BadLine) × (fault_of bad ≡ faults.Schedule line n field) × PlayedTo (StopsAt plan start lines bad) (λ s. notes.Fault (fault_of bad)) trace tower shelf'
-PlayOutcomes plan ending lines start statuses.ReadFault trace tower shelf' = (ending ≡ Some faults.ReadFault) × PlayedTo (Runs plan 1 start lines) (λ s. notes.Fault faults.ReadFault) trace tower shelf'
-PlayOutcomes plan ending lines start statuses.TooLarge trace tower shelf' = (ending ≡ Some faults.TooLarge) × PlayedTo (Runs plan 1 start lines) (λ s. notes.Fault faults.TooLarge) trace tower shelf'
+-- the outcome of lines that were run from a stage, by how reading ended; a line outside the grammar is the last that was read, and so is one whose
+-- notes could not be written; without memory, of the shelf only its names are known
+abbrev pub PlayOutcomes : Plan → Ending → List (List ℕ) → Stage → Status → List Note → Option Tower → List Slot → Type 0
+PlayOutcomes plan ending lines start statuses.Done trace tower shelf' = (ending ≡ Whole) × PlayedTo (Runs plan 1 start lines) (λ s. notes.End (now_of s.run.tower)) trace tower shelf'
+PlayOutcomes plan ending lines start (statuses.Schedule line n field) trace tower shelf' = IsFine ending × (bad : BadLine) × (fault_of bad ≡ faults.Schedule line n field) × PlayedTo (StopsAt plan start lines bad) (λ s. notes.Fault (fault_of bad)) trace tower shelf'
+PlayOutcomes plan ending lines start statuses.ReadFault trace tower shelf' = (ending ≡ Broken faults.ReadFault) × PlayedTo (Runs plan 1 start lines) (λ s. notes.Fault faults.ReadFault) trace tower shelf'
+PlayOutcomes plan ending lines start statuses.TooLarge trace tower shelf' = (ending ≡ Broken faults.TooLarge) × PlayedTo (Runs plan 1 start lines) (λ s. notes.Fault faults.TooLarge) trace tower shelf'
 PlayOutcomes plan ending lines start statuses.WriteFault trace tower shelf' = PlayedPart plan ending lines start trace tower shelf'
-PlayOutcomes plan ending lines start statuses.Memory trace tower shelf' = (reached : Stage) × IsStopped plan ending lines start trace reached × HasNames start.shelf shelf'
+PlayOutcomes plan ending lines start statuses.Memory trace tower shelf' = (reached : Stage) × IsShort plan ending lines start trace reached × HasNames start.shelf shelf'
 PlayOutcomes plan ending lines start status trace tower shelf' = ⊥
 
 -- the run was refused before its first line: the fault is told, and nothing else
@@ -116,37 +126,19 @@ pub record IsRefusedStack (known : List ℕ → Bool) (text : List ℕ) (status 
   pub refused : RefusedBy fault status trace
 
 -- the outcome of a script: its lines were run where its stack was accepted and memory was found for it, and else the shelf is as it was
-abbrev pub ScriptOutcomes : (List ℕ → Bool) → Option Fault → Script → List Slot → Status → List Note → Option Tower → List Slot → Type 0
+abbrev pub ScriptOutcomes : (List ℕ → Bool) → Ending → Script → List Slot → Status → List Note → Option Tower → List Slot → Type 0
 ScriptOutcomes known ending s shelf status trace (Some t) shelf' = (plan : Plan) × ReadsRunnable known (Ok plan) s.stack × (start : Stage) × IsOpening plan shelf start × PlayOutcomes plan ending s.lines start status trace (Some t) shelf'
 ScriptOutcomes known ending s shelf status trace None shelf' = (IsOutOfMemory status trace None ⊎ IsRefusedStack known s.stack status trace) × (shelf' ≡ shelf)
 
 -- the outcome of an input: where no mark was among what was read, the fault is told
-abbrev pub InputOutcomes : (List ℕ → Bool) → Option Fault → Option Script → List Slot → Status → List Note → Option Tower → List Slot → Type 0
+abbrev pub InputOutcomes : (List ℕ → Bool) → Ending → Option Script → List Slot → Status → List Note → Option Tower → List Slot → Type 0
 InputOutcomes known ending (Some s) shelf status trace tower shelf' = ScriptOutcomes known ending s shelf status trace tower shelf'
-InputOutcomes known (Some fault) None shelf status trace tower shelf' = (tower ≡ None) × RefusedBy fault status trace × (shelf' ≡ shelf)
-InputOutcomes known None None shelf status trace tower shelf' = ⊥
-
--- why reading ended: at the end of the input, past its limit, or by a fault
-abbrev pub EndedBy : Option Fault → Option (List ℕ) → List ℕ → Type 0
-EndedBy None left bytes = IsAtEnd left × (length bytes ≤ 16777216)
-EndedBy (Some faults.TooLarge) left bytes = 16777216 < length bytes
-EndedBy (Some faults.ReadFault) left bytes = length bytes ≤ 16777216
-EndedBy (Some fault) left bytes = ⊥
-
-abbrev pub is_whole : Option Fault → Bool
-is_whole None = true
-is_whole (Some fault) = false
-
--- reading ended so; the bytes that are used are those that were read, up to the limit
-pub record IsReadTo (left left' : Option (List ℕ)) (ending : Option Fault) (used : List ℕ) : Type 0 where
-  pub bytes : List ℕ
-  pub read : Consumes left left' bytes
-  pub ended : EndedBy ending left' bytes
-  pub are : used ≡ take 16777216 bytes
+InputOutcomes known (Broken fault) None shelf status trace tower shelf' = (tower ≡ None) × RefusedBy fault status trace × (shelf' ≡ shelf)
+InputOutcomes known ending None shelf status trace tower shelf' = ⊥
 
 -- an input was read, with this outcome by how reading ended and by the script that was read
-pub record WasRead (left left' : Option (List ℕ)) (Outcome : Option Fault → Option Script → Type 0) : Type 0 where
-  pub ending : Option Fault
+pub record WasRead (left left' : Option (List ℕ)) (Outcome : Ending → Option Script → Type 0) : Type 0 where
+  pub ending : Ending
   pub used : List ℕ
   pub read : IsReadTo left left' ending used
   pub outcome : Outcome ending (script_in (is_whole ending) used)
@@ -156,13 +148,6 @@ abbrev pub ClosedBy : Status → Note → List Note → Status → List Note →
 ClosedBy wanted note old statuses.WriteFault new = new ≡ old ++ note ∷ []
 ClosedBy wanted note old statuses.Memory new = (new ≡ old) ⊎ (new ≡ old ++ note ∷ [])
 ClosedBy wanted note old status new = (status ≡ wanted) × (new ≡ old ++ note ∷ [])
-
--- reading ended by one of the faults that it may end by, if by any
-abbrev pub IsEnding : Option Fault → Type 0
-IsEnding None = Unit {0}
-IsEnding (Some faults.TooLarge) = Unit {0}
-IsEnding (Some faults.ReadFault) = Unit {0}
-IsEnding (Some fault) = ⊥
 
 abbrev pub status_stopped : Stop → Status
 status_stopped stops.Memory = statuses.Memory

@@ -1,32 +1,35 @@
 //! Checking an input: its stack and its lines are read, and nothing is run.
-ghost use Rattle.std.specs.Prelude.{◌≡◌, ◌<◌, ◌≤◌, ◌^◌, [], length, map, None, IfOk};
-ghost use Rattle.bstr.specs.Text.{without_terminator};
+ghost use Rattle.std.specs.Prelude.{◌≡◌, ◌<◌, ◌^◌, ℕ, List, [], None, Option, IfOk};
+ghost use Rattle.rina_io.specs.NextLine.{IsSound};
+ghost use Rattle.rina_io.specs.Reader.{size};
 ghost use Rattle.rina_report.specs.Notes.{text_of};
 ghost use Rattle.rina_stack.specs.Plan.{IsPlan};
-ghost use Rattle.rina_run.specs.Check.{AreReadAs, InputTells, IsReadAs, LinesTell, ScriptTells, counts_of, last_note, status_beside};
+ghost use Rattle.rina_run.specs.Check.{AreReadAs, InputTells, IsReadAs, LinesTell, counts_of, status_beside};
 ghost use Rattle.rina_run.specs.Outcomes.{IsChecked};
-ghost use Rattle.rina_run.specs.Script.{script, script_in};
-ghost use Rattle.rina_run.specs.Top.{ClosedBy, is_whole};
+ghost use Rattle.rina_run.specs.Reading.{HasRead, HasText, ReadBehind};
+ghost use Rattle.rina_run.specs.Top.{ClosedBy, WasRead};
 ghost use Rattle.rina_run.specs.Written.{Written};
-ghost use Rattle.rina_run.specs.Faults.{IsNoneMore, IsOneMore, WriteFaults};
+ghost use Rattle.rina_run.specs.Faults.{CheckFaults, IsNoneMore, IsOneMore, NoteFaults, WriteFaults};
 
 use crate::closing::{fault_status, line_fault, out_of_memory, seal};
-use crate::input::{Parts, split_input};
 use crate::lines::BadLine;
 use crate::outcome::{Finish, Status};
-use crate::reading::read_input;
+use crate::reading::{Head, Next, next_line, plan_of, read_stack};
 use rina_base::{Memory, Seq};
-use rina_io::{Sink, Source, all_lines, without_end};
+use rina_io::{LineReader, Sink, Source, without_end};
 use rina_report::{Fault, Note};
 use rina_schedule::LineError;
-use rina_stack::{Plan, Policies, StackError, read_runnable};
+use rina_stack::{Plan, Policies, StackError};
 use rina_words::read_event;
 use std::alloc::Global;
 
 /// What reading the lines of a schedule gives.
-pub enum Reading {
+#[derive(Clone, Copy)]
+pub enum Checked {
     /// All are inside the grammar, and so many hold an event.
     Events(u32),
+    /// Reading broke off with this fault, behind lines inside the grammar.
+    Broken(Fault),
     /// This one is the first outside the grammar.
     Bad(BadLine),
 }
@@ -43,23 +46,33 @@ fn read_one(alloc: Global, line: &[u8]) -> Result<Result<bool, LineError>, Memor
 }
 
 /// Reads lines in their order, up to the first that is outside the grammar.
-fn read_lines(alloc: Global, lines: &[&[u8]]) -> Result<Reading, Memory>
-    requires few { length lines.now < 2 ^ 32 }
-    ensures { IfOk result (AreReadAs (map (λ l. without_terminator l.now) lines.now)) }
+#[tactic(auto, using(crate::proofs::Checks::none_checked))]
+fn read_lines<S: Source>(
+    alloc: Global,
+    reader: &mut LineReader,
+    source: &mut S,
+) -> Result<Checked, Memory>
+    requires reader { IsSound (S.left source.old) reader.old }
+    requires few { size reader.old < 2 ^ 32 }
+    ensures reads { IfOk result (λ checked. (left : Option (List ℕ)) (before : List (List ℕ)) → HasRead left (S.left source.old) reader.old before → ReadBehind left (S.left source.new) reader.old before (λ ending lines. AreReadAs ending lines checked)) }
+    ensures faults { CheckFaults result (S.faults source.old) (S.faults source.new) (S.odd source.old) (S.odd source.new) }
 {
     let mut number = 0u32;
     let mut events = 0u32;
-    'lines: for line in lines {
-        number += 1;
-        let holds = match read_one(alloc, without_end(line))? {
-            Ok(holds) => holds,
-            Err(error) => return Ok(Reading::Bad(BadLine { number, error })),
+    'lines: loop {
+        let line = match next_line(alloc, reader, source) {
+            Ok(Next::Line(line)) => line,
+            Ok(Next::End) => return Ok(Checked::Events(events)),
+            Ok(Next::Broken(fault)) => return Ok(Checked::Broken(fault)),
+            Err(Memory) => return Err(Memory),
         };
-        if holds {
-            events += 1;
+        number += 1;
+        match read_one(alloc, without_end(line.as_slice())) {
+            Ok(Ok(holds)) => events += u32::from(holds),
+            Ok(Err(error)) => return Ok(Checked::Bad(BadLine { number, error })),
+            Err(Memory) => return Err(Memory),
         }
     }
-    Ok(Reading::Events(events))
 }
 
 /// The counts of an input.
@@ -75,72 +88,69 @@ fn counts(plan: &Plan, events: u32) -> Note
     }
 }
 
-/// What is told where all lines are inside the grammar.
-fn last_note(ending: Option<Fault>, plan: &Plan, events: u32) -> Note
-    requires { IsPlan plan.now }
-    ensures { result ≡ last_note ending plan.now events }
-{
-    match ending {
-        None => counts(plan, events),
-        Some(fault) => Note::Fault(fault),
-    }
-}
-
 /// What is told of the lines behind a stack that was accepted.
-fn tell_lines(
+fn tell_lines<S: Source>(
     alloc: Global,
-    ending: Option<Fault>,
     plan: &Plan,
-    lines: &[&[u8]],
+    reader: &mut LineReader,
+    source: &mut S,
 ) -> Result<Note, Memory>
     requires plan { IsPlan plan.now }
-    requires few { length lines.now < 2 ^ 32 }
-    ensures { IfOk result (LinesTell ending plan.now (map (λ l. without_terminator l.now) lines.now)) }
+    requires reader { IsSound (S.left source.old) reader.old }
+    requires few { size reader.old < 2 ^ 32 }
+    ensures told { IfOk result (λ note. (left : Option (List ℕ)) (before : List (List ℕ)) → HasRead left (S.left source.old) reader.old before → ReadBehind left (S.left source.new) reader.old before (λ ending lines. LinesTell ending plan.now lines note)) }
+    ensures faults { IfOk result (λ note. NoteFaults note (S.faults source.old) (S.faults source.new) (S.odd source.old) (S.odd source.new)) }
 {
-    match read_lines(alloc, lines)? {
-        Reading::Events(events) => Ok(last_note(ending, plan, events)),
-        Reading::Bad(bad) => Ok(Note::Fault(line_fault(bad))),
+    match read_lines(alloc, reader, source) {
+        Ok(Checked::Events(events)) => Ok(counts(plan, events)),
+        Ok(Checked::Broken(fault)) => Ok(Note::Fault(fault)),
+        Ok(Checked::Bad(bad)) => Ok(Note::Fault(line_fault(bad))),
+        Err(Memory) => Err(Memory),
     }
 }
 
-/// What is told of a script.
-fn tell_script<P: Policies>(
+/// What is told of a stack that breaks a rule, first at an item.
+fn rule_note(n: u32, item: u32) -> Note
+    ensures { result ≡ Note.Fault (Fault.StackRule n item) }
+{
+    Note::Fault(Fault::StackRule { n, item })
+}
+
+/// What is told of a script whose stack has this text.
+fn tell_script<S: Source, P: Policies>(
     alloc: Global,
-    ending: Option<Fault>,
-    parts: &Parts<'_, '_>,
+    text: Vec<u8>,
+    reader: &mut LineReader,
+    source: &mut S,
     shelf: &P,
 ) -> Result<Note, Memory>
-    requires few { length parts.now.lines.now < 2 ^ 32 }
-    ensures { IfOk result (ScriptTells (P.knows shelf.now) ending (script parts.now.stack.items (map (λ l. without_terminator l.now) parts.now.lines.now))) }
+    requires reader { IsSound (S.left source.old) reader.old }
+    requires few { size reader.old < 2 ^ 32 }
+    ensures told { IfOk result (λ note. (left : Option (List ℕ)) → HasText left (S.left source.old) reader.old text.items → WasRead left (S.left source.new) (λ ending script. InputTells (P.knows shelf.now) ending script note)) }
+    ensures faults { IfOk result (λ note. NoteFaults note (S.faults source.old) (S.faults source.new) (S.odd source.old) (S.odd source.new)) }
 {
-    match read_runnable(alloc, parts.stack.as_slice(), shelf) {
-        Ok(plan) => tell_lines(alloc, ending, &plan, parts.lines),
+    match plan_of(alloc, text, shelf) {
+        Ok(plan) => tell_lines(alloc, &plan, reader, source),
         Err(StackError::Memory) => Err(Memory),
         Err(StackError::NotToml) => Ok(Note::Fault(Fault::NotToml)),
-        Err(StackError::StackRule { n, item }) => Ok(Note::Fault(Fault::StackRule { n, item })),
+        Err(StackError::StackRule { n, item }) => Ok(rule_note(n, item)),
     }
 }
 
-/// What is told of an input, as far as it was read.
-fn tell_input<P: Policies>(
+/// What is told of an input, which is read line by line.
+fn tell_input<S: Source, P: Policies>(
     alloc: Global,
-    ending: Option<Fault>,
-    bytes: &[u8],
+    input: &mut S,
     shelf: &P,
 ) -> Result<Note, Memory>
-    requires few { length bytes.now ≤ 16777216 }
-    ensures { IfOk result (InputTells (P.knows shelf.now) ending (script_in (is_whole ending) bytes.now)) }
+    ensures told { IfOk result (λ note. WasRead (S.left input.old) (S.left input.new) (λ ending script. InputTells (P.knows shelf.now) ending script note)) }
+    ensures faults { IfOk result (λ note. NoteFaults note (S.faults input.old) (S.faults input.new) (S.odd input.old) (S.odd input.new)) }
 {
-    let Ok(lines) = all_lines(alloc, bytes) else {
-        return Err(Memory);
-    };
-    match split_input(alloc, ending.is_none(), lines.as_slice()) {
-        Ok(Some(parts)) => tell_script(alloc, ending, &parts, shelf),
-        Ok(None) => match ending {
-            Some(fault) => Ok(Note::Fault(fault)),
-            None => Err(Memory),
-        },
-        Err(_) => Err(Memory),
+    let mut reader = LineReader::new(alloc);
+    match read_stack(alloc, &mut reader, input) {
+        Ok(Head::Stack(text)) => tell_script(alloc, text, &mut reader, input, shelf),
+        Ok(Head::Broken(fault)) => Ok(Note::Fault(fault)),
+        Err(Memory) => Err(Memory),
     }
 }
 
@@ -166,7 +176,7 @@ fn tell<K: Sink>(alloc: Global, note: Note, out: &mut K) -> Finish
     seal(alloc, status, note, None, out, Seq::new(alloc))
 }
 
-/// Reads an input, runs nothing of it, and tells its counts or its fault.
+/// Reads an input up to its first line outside the grammar, runs nothing of it, and tells its counts or its fault.
 #[tactic(auto, using(crate::proofs::Checks::was_checked, crate::proofs::Checks::not_checked, crate::proofs::Ending::wrote_nothing))]
 pub fn check_input<S: Source, K: Sink, P: Policies>(
     alloc: Global,
@@ -181,10 +191,7 @@ pub fn check_input<S: Source, K: Sink, P: Policies>(
     ensures whole { result.status ≡ Status.Done → IsNoneMore (S.faults input.old) (S.faults input.new) (S.odd input.old) (S.odd input.new) }
     ensures write { WriteFaults result.status (K.faults out.old) (K.faults out.new) (K.odd out.old) (K.odd out.new) }
 {
-    let Ok(read) = read_input(alloc, input) else {
-        return out_of_memory(alloc);
-    };
-    let Ok(note) = tell_input(alloc, read.ending, read.bytes.as_slice(), shelf) else {
+    let Ok(note) = tell_input(alloc, input, shelf) else {
         return out_of_memory(alloc);
     };
     tell(alloc, note, out)

@@ -1,22 +1,25 @@
 //! The lines of a schedule, one after the other.
-ghost use Rattle.std.specs.Prelude.{◌≡◌, ◌<◌, ◌^◌, ℕ, List, [], length, map, take, true, Option, OnOk, OnErr};
+ghost use Rattle.std.specs.Prelude.{◌≡◌, ◌<◌, ◌^◌, ℕ, List, [], length, take, true, Option, OnOk, OnErr};
 ghost use Rattle.std.specs.Io.KnownBytes.{Appends};
-ghost use Rattle.bstr.specs.Text.{without_terminator};
+ghost use Rattle.rina_io.specs.NextLine.{IsSound};
+ghost use Rattle.rina_io.specs.Reader.{size};
 ghost use Rattle.rina_report.specs.Notes.{text_of};
 ghost use Rattle.rina_stack.specs.Plan.{IsPlan};
 ghost use Rattle.rina_tower.specs.Stands.{IsTower};
 ghost use Rattle.rina_words.specs.Built.{is_built};
 ghost use Rattle.rina_run.specs.Written.{IsFront};
 ghost use Rattle.rina_words.specs.Step.{HasNames, Steps, stage};
+ghost use Rattle.rina_run.specs.Reading.{HasRead, ReadBehind};
 ghost use Rattle.rina_run.specs.Run.{Ran, LineRan, LinesRan};
-ghost use Rattle.rina_run.specs.Faults.{StopFaults};
+ghost use Rattle.rina_run.specs.Faults.{CloseFaults, StopFaults};
 
 use crate::output::{Stop, emit};
+use crate::reading::{Next, next_line};
 use rina_base::{Memory, Seq};
-use rina_io::{Sink, without_end};
+use rina_io::{LineReader, Sink, Source, without_end};
 use rina_notes::Line;
 use rina_policy::Retires;
-use rina_report::Notes;
+use rina_report::{Fault, Notes};
 use rina_schedule::{Event, LineError};
 use rina_stack::Plan;
 use rina_words::{Run, read_event, step};
@@ -100,45 +103,66 @@ pub struct BadLine {
     pub error: LineError,
 }
 
-/// The lines of a schedule, each with its end if it has one, and the plan of the stack that they are run on.
-#[derive(Drop)]
-pub struct Schedule<'a, 'b> {
-    pub plan: &'b Plan,
-    pub lines: &'b [&'a [u8]],
+/// How the lines of a schedule ended that were not stopped.
+#[derive(Clone, Copy)]
+pub enum Close {
+    /// All lines were run.
+    End,
+    /// Reading broke off with this fault, behind the lines that were run.
+    Broken(Fault),
+    /// This line is outside the grammar.
+    Bad(BadLine),
 }
 
-/// Runs lines in their order, and answers the first that is outside the grammar.
-pub fn play<K: Sink, P: Retires>(
-    alloc: Global,
-    schedule: &Schedule<'_, '_>,
+/// What the lines of a schedule are run by: the allocator, and the plan of the stack.
+#[derive(Drop)]
+pub struct Schedule<'a> {
+    pub alloc: Global,
+    pub plan: &'a Plan,
+}
+
+/// Reads lines and runs them in their order, up to the first that is outside the grammar. Each line's notes are
+/// written before the next line is read.
+#[tactic(auto, using(crate::proofs::Playing::none_played, crate::proofs::Texts::wrote_all))]
+pub fn play<S: Source, K: Sink, P: Retires>(
+    schedule: &Schedule<'_>,
+    reader: &mut LineReader,
+    source: &mut S,
     run: &mut Run,
     shelf: &mut P,
     out: &mut K,
     trace: &mut Notes,
-) -> Result<Option<BadLine>, Stop>
+) -> Result<Close, Stop>
     requires plan { IsPlan schedule.now.plan.now }
     requires sound { IsTower run.old.tower }
-    requires few { length schedule.now.lines.now < 2 ^ 32 }
+    requires reader { IsSound (S.left source.old) reader.old }
+    requires few { size reader.old < 2 ^ 32 }
     requires none { trace.old ≡ [] }
-    ensures does { LinesRan schedule.now.plan.now (stage run.old (P.slots shelf.old)) (map (λ l. without_terminator l.now) schedule.now.lines.now) trace.new (stage run.new (P.slots shelf.new)) result }
+    ensures does { (left : Option (List ℕ)) (before : List (List ℕ)) → HasRead left (S.left source.old) reader.old before → ReadBehind left (S.left source.new) reader.old before (λ ending lines. LinesRan schedule.now.plan.now (stage run.old (P.slots shelf.old)) ending lines trace.new (stage run.new (P.slots shelf.new)) result) }
     ensures ok { OnOk result (Appends (K.took out.old) (K.took out.new) (text_of trace.new)) }
     ensures err { OnErr result (IsFront (K.took out.old) (K.took out.new) (text_of trace.new)) }
+    ensures reads { CloseFaults result (S.faults source.old) (S.faults source.new) (S.odd source.old) (S.odd source.new) }
     ensures faults { StopFaults result (K.faults out.old) (K.faults out.new) (K.odd out.old) (K.odd out.new) }
     ensures sound { IsTower run.new.tower }
     ensures names { HasNames (P.slots shelf.old) (P.slots shelf.new) }
 {
     let mut number = 0u32;
-    'lines: for text in schedule.lines {
+    'lines: loop {
+        let text = match next_line(schedule.alloc, reader, source) {
+            Ok(Next::Line(text)) => text,
+            Ok(Next::End) => return Ok(Close::End),
+            Ok(Next::Broken(fault)) => return Ok(Close::Broken(fault)),
+            Err(Memory) => return Err(Stop::Memory),
+        };
         number += 1;
         let line = Line {
-            alloc,
+            alloc: schedule.alloc,
             plan: schedule.plan,
             number,
         };
-        let text = without_end(text);
+        let text = without_end(text.as_slice());
         if let Some(error) = run_line(&line, run, shelf, text, out, trace)? {
-            return Ok(Some(BadLine { number, error }));
+            return Ok(Close::Bad(BadLine { number, error }));
         }
     }
-    Ok(None)
 }

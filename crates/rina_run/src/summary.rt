@@ -9,7 +9,7 @@ ghost use Rattle.rina_tower.specs.Ranks.{seen_of};
 ghost use Rattle.rina_tower.specs.Stands.{IsTower};
 ghost use Rattle.rina_run.specs.Drawn.{IsSummary, dif_offs, fac_failures, failures_in, has_failed, is_failed_app, is_got, is_refused, is_sent, line_total, offs_in};
 
-use crate::input::split_input;
+use crate::input::lines_behind_mark;
 use rina_base::Memory;
 use rina_data::IpcProcess;
 use rina_dif::Dif;
@@ -206,10 +206,7 @@ fn count_script_lines(alloc: Global, text: &[u8]) -> Result<u32, Memory>
     ensures { IfOk result (λ n. line_total text.now ≡ Some n) }
 {
     let lines = all_lines(alloc, text)?;
-    match split_input(alloc, true, lines.as_slice())? {
-        Some(parts) => told(parts.lines.len()),
-        None => Err(Memory),
-    }
+    told(lines_behind_mark(lines.as_slice()))
 }
 
 /// The summary of a run of the input that a number draws, which is this text.

@@ -1,71 +1,80 @@
 //! The top call.
-ghost use Rattle.std.specs.Prelude.{◌≡◌, ◌<◌, ◌≤◌, ◌^◌, [], length, map, IsSome, IfSome, string_bytes, ◌⊎◌};
-ghost use Rattle.bstr.specs.Text.{without_terminator};
+ghost use Rattle.std.specs.Prelude.{◌≡◌, ◌<◌, ◌^◌, ℕ, List, [], map, Option, IsSome, IfSome, string_bytes};
+ghost use Rattle.rina_io.specs.NextLine.{IsSound};
+ghost use Rattle.rina_io.specs.Reader.{size};
 ghost use Rattle.rina_report.specs.Notes.{text_of};
 ghost use Rattle.rina_stack.specs.Plan.{IsPlan};
 ghost use Rattle.rina_tower.specs.Stands.{IsTower};
-ghost use Rattle.rina_run.specs.Opening.{IsOpening};
 ghost use Rattle.rina_run.specs.Promises.{AccountsAll, CarriesAll, CausesAll, ItemsAll, LawfulAll, RoutesAll, WriteOffsAll};
-ghost use Rattle.rina_run.specs.Script.{script, script_in};
+ghost use Rattle.rina_run.specs.Reading.{HasRead, HasText, ReadBehind};
 ghost use Rattle.rina_words.specs.Step.{stage};
 ghost use Rattle.rina_run.specs.Command.{command_of};
 ghost use Rattle.rina_run.specs.Written.{Written};
 ghost use Rattle.rina_run.specs.Outcomes.{IsRan, RunOutcomes, text_written};
-ghost use Rattle.rina_run.specs.Top.{is_whole, PlayOutcomes, ScriptOutcomes, InputOutcomes, IsEnding, IsOutOfMemory, FailedByCut, KeepsAll};
+ghost use Rattle.rina_run.specs.Top.{PlayOutcomes, FailedByCut, KeepsAll};
 ghost use Rattle.rina_run.specs.Faults.{IsNoneMore, IsOneMore, WriteFaults};
 
 use crate::check::check_input;
 use crate::closing::{end_by_fault, line_fault, out_of_memory, refuse, seal, stopped};
 use crate::command::{Command, command_in};
 use crate::drawn::gen_input;
-use crate::input::{Parts, split_input};
-use crate::lines::{Schedule, play};
+use crate::lines::{Close, Schedule, play};
 use crate::opening::open_run;
 use crate::outcome::{Ended, Finish, Outcome, Status};
-use crate::reading::read_input;
+use crate::reading::{Head, plan_of, read_stack};
 use crate::show::show_input;
 use rina_base::Seq;
 use rina_iface::Facility;
-use rina_io::{Sink, Source, all_lines};
+use rina_io::{LineReader, Sink, Source};
 use rina_notes::tick_of;
 use rina_policy::Retires;
 use rina_report::{Fault, Note};
-use rina_stack::{Policies, StackError, read_runnable};
+use rina_stack::{Policies, StackError};
 use rina_words::Run;
 use std::alloc::Global;
 
-/// Runs the lines of a script whose stack was accepted. `ending` is the fault that reading the
-/// input ended with, if it was not read to its end.
-#[tactic(auto, using(crate::proofs::Ending::done_from, crate::proofs::Ending::ended_from, crate::proofs::Ending::bad_from, crate::proofs::Ending::stop_from, crate::proofs::Ending::written_stop, crate::proofs::Ending::is_told, crate::proofs::Faulty::then_by))]
-fn run_lines<K: Sink, P: Retires>(
-    alloc: Global,
-    ending: Option<Fault>,
-    schedule: &Schedule<'_, '_>,
+/// Runs the lines of a schedule whose stack was accepted.
+#[tactic(auto, using(crate::proofs::Ending::stop_not_read, crate::proofs::Ending::written_stop, crate::proofs::Ending::is_told, crate::proofs::Faulty::then_by))]
+fn run_lines<S: Source, K: Sink, P: Retires>(
+    schedule: &Schedule<'_>,
+    reader: &mut LineReader,
+    source: &mut S,
     mut opened: Run,
     out: &mut K,
     shelf: &mut P,
 ) -> Finish
     requires plan { IsPlan schedule.now.plan.now }
-    requires ending { IsEnding ending }
     requires sound { IsTower opened.tower }
-    requires few { length schedule.now.lines.now < 2 ^ 32 }
-    ensures outcome { PlayOutcomes schedule.now.plan.now ending (map (λ l. without_terminator l.now) schedule.now.lines.now) (stage opened (P.slots shelf.old)) result.status result.trace result.tower (P.slots shelf.new) }
+    requires reader { IsSound (S.left source.old) reader.old }
+    requires few { size reader.old < 2 ^ 32 }
+    ensures outcome { (left : Option (List ℕ)) (before : List (List ℕ)) → HasRead left (S.left source.old) reader.old before → ReadBehind left (S.left source.new) reader.old before (λ ending lines. PlayOutcomes schedule.now.plan.now ending lines (stage opened (P.slots shelf.old)) result.status result.trace result.tower (P.slots shelf.new)) }
     ensures tower { IsSome result.tower }
     ensures sound { IfSome result.tower IsTower }
     ensures written { Written (K.took out.old) (K.took out.new) (text_of result.trace) result.status }
+    ensures read { result.status ≡ Status.ReadFault → IsOneMore (S.faults source.old) (S.faults source.new) (S.odd source.old) (S.odd source.new) }
+    ensures whole { result.status ≡ Status.Done → IsNoneMore (S.faults source.old) (S.faults source.new) (S.odd source.old) (S.odd source.new) }
     ensures faults { WriteFaults result.status (K.faults out.old) (K.faults out.new) (K.odd out.old) (K.odd out.new) }
 {
+    let alloc = schedule.alloc;
     let mut trace = Seq::new(alloc);
-    match play(alloc, schedule, &mut opened, shelf, out, &mut trace) {
-        Ok(None) => match ending {
-            None => {
-                let tick = tick_of(&opened.tower);
-                let note = Note::End { tick };
-                seal(alloc, Status::Done, note, Some(opened.tower), out, trace)
-            }
-            Some(fault) => end_by_fault(alloc, fault, Some(opened.tower), out, trace),
-        },
-        Ok(Some(bad)) => end_by_fault(alloc, line_fault(bad), Some(opened.tower), out, trace),
+    match play(
+        schedule,
+        reader,
+        source,
+        &mut opened,
+        shelf,
+        out,
+        &mut trace,
+    ) {
+        Ok(Close::End) => {
+            let tick = tick_of(&opened.tower);
+            let note = Note::End { tick };
+            seal(alloc, Status::Done, note, Some(opened.tower), out, trace)
+        }
+        Ok(Close::Broken(fault)) => end_by_fault(alloc, fault, Some(opened.tower), out, trace),
+        Ok(Close::Bad(bad)) => {
+            end_by_fault(alloc, line_fault(bad), Some(opened.tower), out, trace)
+        }
         Err(stop) => Finish {
             status: stopped(stop),
             trace,
@@ -74,23 +83,25 @@ fn run_lines<K: Sink, P: Retires>(
     }
 }
 
-/// Runs a script.
-#[tactic(auto, using(crate::proofs::Ending::not_toml_from, crate::proofs::Ending::rule_from, crate::proofs::Ending::no_memory_from, crate::proofs::Ending::script_from, crate::proofs::Ending::wrote_nothing))]
-fn run_script<K: Sink, P: Retires + Policies>(
+/// Runs the lines of a schedule behind the text of a stack.
+fn run_script<S: Source, K: Sink, P: Retires + Policies>(
     alloc: Global,
-    ending: Option<Fault>,
-    parts: &Parts<'_, '_>,
+    text: Vec<u8>,
+    reader: &mut LineReader,
+    source: &mut S,
     out: &mut K,
     shelf: &mut P,
 ) -> Finish
-    requires ending { IsEnding ending }
-    requires few { length parts.now.lines.now < 2 ^ 32 }
-    ensures outcome { ScriptOutcomes (P.knows shelf.old) ending (script parts.now.stack.items (map (λ l. without_terminator l.now) parts.now.lines.now)) (P.slots shelf.old) result.status result.trace result.tower (P.slots shelf.new) }
+    requires reader { IsSound (S.left source.old) reader.old }
+    requires few { size reader.old < 2 ^ 32 }
+    ensures outcome { (left : Option (List ℕ)) → HasText left (S.left source.old) reader.old text.items → IsRan (P.knows shelf.old) left (S.left source.new) (P.slots shelf.old) result.status result.trace result.tower (P.slots shelf.new) }
     ensures sound { IfSome result.tower IsTower }
     ensures written { Written (K.took out.old) (K.took out.new) (text_of result.trace) result.status }
+    ensures read { result.status ≡ Status.ReadFault → IsOneMore (S.faults source.old) (S.faults source.new) (S.odd source.old) (S.odd source.new) }
+    ensures whole { result.status ≡ Status.Done → IsNoneMore (S.faults source.old) (S.faults source.new) (S.odd source.old) (S.odd source.new) }
     ensures faults { WriteFaults result.status (K.faults out.old) (K.faults out.new) (K.odd out.old) (K.odd out.new) }
 {
-    let plan = match read_runnable(alloc, parts.stack.as_slice(), shelf) {
+    let plan = match plan_of(alloc, text, shelf) {
         Ok(plan) => plan,
         Err(StackError::Memory) => return out_of_memory(alloc),
         Err(StackError::NotToml) => return refuse(alloc, out, Fault::NotToml),
@@ -101,44 +112,11 @@ fn run_script<K: Sink, P: Retires + Policies>(
     let Ok(opened) = open_run(alloc, &plan) else {
         return out_of_memory(alloc);
     };
-    let schedule = Schedule {
-        plan: &plan,
-        lines: parts.lines,
-    };
-    run_lines(alloc, ending, &schedule, opened, out, shelf)
+    let schedule = Schedule { alloc, plan: &plan };
+    run_lines(&schedule, reader, source, opened, out, shelf)
 }
 
-/// Runs an input, as far as it was read.
-#[tactic(auto, using(crate::proofs::Ending::wrote_nothing))]
-fn run_input<K: Sink, P: Retires + Policies>(
-    alloc: Global,
-    ending: Option<Fault>,
-    bytes: &[u8],
-    out: &mut K,
-    shelf: &mut P,
-) -> Finish
-    requires ending { IsEnding ending }
-    requires few { length bytes.now ≤ 16777216 }
-    ensures outcome { (IsOutOfMemory result.status result.trace result.tower × (P.slots shelf.new ≡ P.slots shelf.old)) ⊎ InputOutcomes (P.knows shelf.old) ending (script_in (is_whole ending) bytes.now) (P.slots shelf.old) result.status result.trace result.tower (P.slots shelf.new) }
-    ensures sound { IfSome result.tower IsTower }
-    ensures written { Written (K.took out.old) (K.took out.new) (text_of result.trace) result.status }
-    ensures faults { WriteFaults result.status (K.faults out.old) (K.faults out.new) (K.odd out.old) (K.odd out.new) }
-{
-    let Ok(lines) = all_lines(alloc, bytes) else {
-        return out_of_memory(alloc);
-    };
-    match split_input(alloc, ending.is_none(), lines.as_slice()) {
-        Ok(Some(parts)) => run_script(alloc, ending, &parts, out, shelf),
-        Ok(None) => match ending {
-            Some(fault) => refuse(alloc, out, fault),
-            None => out_of_memory(alloc),
-        },
-        Err(_) => out_of_memory(alloc),
-    }
-}
-
-/// Reads an input, and runs it.
-#[tactic(auto, using(crate::proofs::Ending::was_ran))]
+/// Reads an input line by line, and runs it.
 pub fn run_read<S: Source, K: Sink, P: Retires + Policies>(
     alloc: Global,
     input: &mut S,
@@ -152,10 +130,12 @@ pub fn run_read<S: Source, K: Sink, P: Retires + Policies>(
     ensures whole { result.status ≡ Status.Done → IsNoneMore (S.faults input.old) (S.faults input.new) (S.odd input.old) (S.odd input.new) }
     ensures write { WriteFaults result.status (K.faults out.old) (K.faults out.new) (K.odd out.old) (K.odd out.new) }
 {
-    let Ok(read) = read_input(alloc, input) else {
-        return out_of_memory(alloc);
-    };
-    run_input(alloc, read.ending, read.bytes.as_slice(), out, shelf)
+    let mut reader = LineReader::new(alloc);
+    match read_stack(alloc, &mut reader, input) {
+        Ok(Head::Stack(text)) => run_script(alloc, text, &mut reader, input, out, shelf),
+        Ok(Head::Broken(fault)) => refuse(alloc, out, fault),
+        Err(_) => out_of_memory(alloc),
+    }
 }
 
 /// The outcome of a command that leaves no notes unwritten.
@@ -216,7 +196,8 @@ pub fn run<S: Source, K: Sink, P: Retires + Policies>(
 ) -> Outcome<P>
     // What was written is the text of the trace, for `show` that of the input which is drawn from its number, and a front of it after a write fault or `Memory`.
     ensures written { Written (K.took out.old) (K.took out.new) (text_written (command_of (map (λ w. string_bytes w) words.now)) result.trace) result.status }
-    // The status, the trace, the tower, the notes of a drawn run and the shelf are what the words, the input and the shelf make.
+    // The status, the trace, the tower, the notes of a drawn run and the shelf are what the words, the input and the shelf make. Behind the line that ended
+    // the run, at most 4,096 bytes of the input were read.
     ensures outcome { RunOutcomes (P.knows shelf) (command_of (map (λ w. string_bytes w) words.now)) (S.left input.old) (S.left input.new) (P.slots shelf) result.status result.trace result.tower result.unwritten (P.slots result.shelf) }
     // Every DIF of every rank stands on the rank below.
     ensures stands { IfSome result.tower IsTower }

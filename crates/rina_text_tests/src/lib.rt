@@ -6,6 +6,8 @@ mod drawn;
 #[cfg(test)]
 mod io;
 #[cfg(test)]
+mod line_reader;
+#[cfg(test)]
 mod report;
 #[cfg(test)]
 mod schedule;

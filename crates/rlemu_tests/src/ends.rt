@@ -59,3 +59,45 @@ fn a_run_ends_with_its_status(rt: HostRuntime) -> Result<(), Fail> {
     }
     Ok(())
 }
+
+/// Two systems and one wire, with lines of which the second is outside the grammar.
+const BAD_SECOND: &str = "nodes = [\"a\", \"b\"]
+[[wire]]
+name = \"w\"
+ends = [\"a\", \"b\"]
+delay = 2
+life = 10
+largest = 1500
+%%
+tick 1
+tick x
+";
+
+/// What is written of them.
+const BAD_SECOND_NOTES: &str = "1 1 ok
+fault Schedule 2 3 1
+";
+
+#[test]
+fn little_is_read_behind_the_line_that_ends_a_run(rt: HostRuntime) -> Result<(), Fail> {
+    let alloc = rt.alloc();
+    let mut input = String::from_str(alloc, BAD_SECOND)?;
+    for _ in 0..10_000 {
+        input.push_str("tick 1\n")?;
+    }
+    let bad = ended_of(alloc, &["run"], input.as_str(), &[], &[])?;
+    assert_eq!(rt;
+        bad.status,
+        Status::Schedule {
+            line: 2,
+            n: 3,
+            field: 1
+        }
+    );
+    assert_eq!(rt; bad.written.as_slice(), BAD_SECOND_NOTES.as_bytes());
+    assert!(rt; bad.left >= 60_000);
+    let unwritten = ended_of(alloc, &["run"], input.as_str(), &[], &[true])?;
+    assert_eq!(rt; unwritten.status, Status::WriteFault);
+    assert!(rt; unwritten.left >= 60_000);
+    Ok(())
+}

@@ -11,7 +11,7 @@ use crate::storm_rows::STORM_ROWS;
 use crate::tall_rows::TALL_ROWS;
 use crate::wire_rows::WIRE_ROWS;
 use rina_base::Name;
-use rina_io::{MemSink, MemSource};
+use rina_io::{MemSink, MemSource, take_all};
 use rina_policy::{First, Last, Round, Shelf, Strict, Weighted};
 use rina_run::{Status, run};
 use std::alloc::Global;
@@ -27,6 +27,8 @@ pub(crate) struct Ended {
     pub(crate) notes: usize,
     /// Whether it had a tower.
     pub(crate) has_tower: bool,
+    /// How many bytes of the input it did not read, where no read fails.
+    pub(crate) left: usize,
 }
 
 /// A shelf with the five built-in policies.
@@ -66,6 +68,7 @@ pub(crate) fn ended_of(
         written: sink.bytes().to_vec(alloc)?,
         notes: outcome.trace.len(),
         has_tower: outcome.tower.is_some(),
+        left: take_all(alloc, &mut source).bytes.len(),
     })
 }
 

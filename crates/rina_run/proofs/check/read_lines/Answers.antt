@@ -1,28 +1,48 @@
-use Rattle.std.proofs.Common.{◌≡◌, ap, cond, subst, ◌+◌, ◌∙◌}
-use Rattle.std.specs.List.{All}
-use Rattle.rina_run.specs.Check.{IsRead, IsReadAs, event_count}
-use Rattle.rina_run.proofs.Checks.{all_taken, counted, event_more, few_more, first_bad, passed_by, read_more}
-use Rattle.rina_run.proofs.check.read_lines.Goals.{else-holds, then-holds}
+use Rattle.std.proofs.Common.{◌≡◌, ap, arith, Bool, true, false, cond, ◌+◌, ◌∙◌, refl}
+use Rattle.std.specs.Int.{from_bool}
+use Rattle.bstr.specs.Text.{without_terminator}
+use Rattle.rina_run.specs.Reading.{Broken}
+use Rattle.rina_run.proofs.Checks.{checked_on, first_bad}
+use Rattle.rina_run.proofs.ReadOn.{all_behind, broken_behind, enough_behind, one_so_far}
 use Rattle.rina_run.proofs.check.read_lines.Goals as goal
 
-pub returns-in-Err : goal.returns-in-Err
-returns-in-Err c = first_bad c.args.lines.now c.lines.line-index _ c.lines.number c.without_end.result.now c.in-Err.error c.lines-test.true c.lines.invariant.number c.without_end.ensures c.lines.invariant.read (subst (IsReadAs c.without_end.result.now) c.in-Err.is c.in_ok-holds.ensures)
+bool_as : (b : Bool) → from_bool b ≡ cond b 1 0
+bool_as true = refl
+bool_as false = refl
+
+pub returns-in-Ok-End-clause-reads : goal.returns-in-Ok-End-clause-reads
+returns-in-Ok-End-clause-reads g c =
+    let so_far = c.lines.invariant.so_far in
+    all_behind _ _ _ _ _ _ so_far.lines _ so_far.read (λ left before h. rw c.in-Ok-End.field-0-is at (c.in-Ok-End.ensures.reads left before h)) (refl, so_far.are, so_far.events)
+
+pub returns-in-Ok-Broken-clause-reads : goal.returns-in-Ok-Broken-clause-reads
+returns-in-Ok-Broken-clause-reads g c =
+    let so_far = c.lines.invariant.so_far in
+    broken_behind _ _ _ _ _ so_far.lines (Broken c.in-Ok-Broken.fault) _ so_far.read (λ left before h. rw c.in-Ok-Broken.field-0-is at (c.in-Ok-Broken.ensures.reads left before h)) (rw c.in-Ok-Broken.field-0-is at c.in-Ok-Broken.ensures.goes_on) (refl, so_far.are)
+
+pub returns-in-Ok-Err-clause-reads : goal.returns-in-Ok-Err-clause-reads
+returns-in-Ok-Err-clause-reads g c =
+    let so_far = c.lines.invariant.so_far in
+    let line = c.in-Ok-Line.line.items in
+    let goes = rw c.in-Ok-Line.field-0-is at c.in-Ok-Line.ensures.goes_on in
+    let text_is = c.without_end.ensures ∙ ap without_terminator c.as_slice.ensures.value in
+    let read = one_so_far _ _ _ _ _ _ so_far.lines line so_far.read (λ left before h. rw c.in-Ok-Line.field-0-is at (c.in-Ok-Line.ensures.reads left before h)) goes.0 in
+    enough_behind _ _ _ _ _ _ read (λ ending fine. (fine, first_bad so_far.lines line _ _ _ so_far.number text_is so_far.are (rw c.in-Ok-Err.field-0-is at c.in-Ok-Err.ensures)))
 
 pub lines-preserved : goal.lines-preserved
-lines-preserved c =
-    let read = subst (IsReadAs c.without_end.result.now) c.in-Ok.is c.in_ok-holds.ensures in
-    let after : c.if-holds.events ≡ c.lines.events + cond c.in-Ok.holds 1 0 = elim c.if-holds.branch [
-      | then-holds w ↦ counted c.lines.events c.if-holds.events c.in-Ok.holds w.if-holds.true w.events-is
-      | else-holds w ↦ passed_by c.lines.events c.if-holds.events c.in-Ok.holds w.if-holds.false w.events-is
-    ] in
+lines-preserved g c =
+    let so_far = c.lines.invariant.so_far in
+    let line = c.in-Ok-Line.line.items in
+    let goes = rw c.in-Ok-Line.field-0-is at c.in-Ok-Line.ensures.goes_on in
+    let faults = rw c.in-Ok-Line.field-0-is at c.in-Ok-Line.ensures.faults in
+    let text_is = c.without_end.ensures ∙ ap without_terminator c.as_slice.ensures.value in
+    let read = one_so_far _ _ _ _ _ _ so_far.lines line so_far.read (λ left before h. rw c.in-Ok-Line.field-0-is at (c.in-Ok-Line.ensures.reads left before h)) goes.0 in
+    let counted : c.lines.events + c.from-events.result ≡ c.lines.events + cond c.in-Ok-Ok.holds 1 0 = ap (λ n. c.lines.events + n) (c.from-events.ensures ∙ bool_as c.in-Ok-Ok.holds) in
+    let on = checked_on _ _ _ _ _ _ line _ c.in-Ok-Ok.holds c.lines.number c.lines.events (c.lines.events + c.from-events.result) so_far read text_is (rw c.in-Ok-Ok.field-0-is at c.in-Ok-Ok.ensures) counted in
     record {
-      number = ap (λ n. n + 1) c.lines.invariant.number;
-      few = few_more c.lines.events c.if-holds.events c.lines.line-index c.in-Ok.holds c.lines.invariant.few after;
-      read = read_more c.args.lines.now c.lines.line-index _ c.without_end.result.now c.in-Ok.holds c.lines-test.true c.without_end.ensures c.lines.invariant.read read;
-      events = event_more c.args.lines.now c.lines.line-index _ c.without_end.result.now c.in-Ok.holds c.lines.events c.if-holds.events c.lines-test.true c.without_end.ensures read c.lines.invariant.events after;
+      so_far = on;
+      reader = goes.1.sound;
+      fewer = omega (arith, goes.1.fewer, c.lines.invariant.fewer);
+      few = on.few;
+      steady = (faults.0 ∙ c.lines.invariant.steady.0, faults.1 ∙ c.lines.invariant.steady.1);
     }
-
-pub returns : goal.returns
-returns c =
-    let all = all_taken c.args.lines.now c.lines.line-index c.lines-test.false in
-    (subst (λ xs. All IsRead xs) all c.lines.invariant.read, c.lines.invariant.events ∙ ap event_count all)

@@ -1,14 +1,19 @@
 -- So far these lines are inside the grammar, and so many of them hold an event.
-use Rattle.std.proofs.Common.{◌≡◌, ◌≤◌, take}
-use Rattle.std.specs.List.{All}
-use Rattle.rina_run.specs.Check.{IsRead, event_count}
-use Rattle.rina_run.proofs.Playing.{texts_of}
+use Rattle.std.proofs.Common.{◌+◌, ◌≤◌}
+use Rattle.rina_io.specs.NextLine.{IsSound}
+use Rattle.rina_io.specs.Reader.{size}
+use Rattle.rina_run.specs.Faults.{IsNoneMore}
+use Rattle.rina_run.proofs.Checks.{CheckedSoFar}
 use Rattle.rina_run.proofs.check.read_lines.Given as goal
 
 abbrev pub invariant-lines : goal.invariant-lines
-invariant-lines l = record {
-  number : l.number ≡ l.line-index;
-  few : l.events ≤ l.line-index;
-  read : All IsRead (take l.line-index (texts_of l.lines));
-  events : l.events ≡ event_count (take l.line-index (texts_of l.lines));
+invariant-lines g l = record {
+  so_far : CheckedSoFar (g.S.Source.left l.fn.source) (g.S.Source.left l.source) l.fn.reader l.reader l.number l.events;
+  reader : IsSound (g.S.Source.left l.source) l.reader;
+  fewer : l.number + size l.reader ≤ size l.fn.reader;
+  few : l.events ≤ l.number;
+  steady : IsNoneMore (g.S.Source.faults l.fn.source) (g.S.Source.faults l.source) (g.S.Source.odd l.fn.source) (g.S.Source.odd l.source);
 }
+
+abbrev pub decreases-lines : goal.decreases-lines
+decreases-lines g l = size l.reader

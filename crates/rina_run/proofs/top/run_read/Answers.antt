@@ -1,9 +1,26 @@
-use Rattle.rina_run.proofs.Ending.{ran_by_fault}
-use Rattle.rina_run.proofs.Whole.{ran_whole}
+use Rattle.std.proofs.Common.{[], inr, refl}
+use Rattle.rina_report.specs.declared.note.Note.TheVariants as notes
+use Rattle.rina_run.proofs.Ending.{never_done, read_by, refused_as, refused_at_once}
+use Rattle.rina_run.proofs.ReadOn.{few_left, read_nothing, was_headless}
 use Rattle.rina_run.proofs.top.run_read.Goals as goal
 
-pub returns-clause-read : goal.returns-clause-read
-returns-clause-read g c = λ is. c.in-Ok.ensures.fault (ran_by_fault _ _ _ _ _ _ _ _ c.run_input.ensures.outcome is)
+pub read_stack-requires : goal.read_stack-requires
+read_stack-requires g c = read_nothing _ _ c.new-reader.ensures.held c.new-reader.ensures.room c.new-reader.ensures.over
 
-pub returns-clause-whole : goal.returns-clause-whole
-returns-clause-whole g c = λ is. c.in-Ok.ensures.fine (ran_whole _ _ _ _ _ _ _ _ c.run_input.ensures.outcome is)
+pub run_script-requires-clause-reader : goal.run_script-requires-clause-reader
+run_script-requires-clause-reader g c = (rw c.in-Ok-Stack.field-0-is at c.in-Ok-Stack.ensures.reads).read.sound
+
+pub run_script-requires-clause-few : goal.run_script-requires-clause-few
+run_script-requires-clause-few g c = few_left _ _ _ _ (rw c.in-Ok-Stack.field-0-is at c.in-Ok-Stack.ensures.reads).read
+
+pub returns-in-Ok-Stack-clause-outcome : goal.returns-in-Ok-Stack-clause-outcome
+returns-in-Ok-Stack-clause-outcome g c = c.run_script.ensures.outcome _ (rw c.in-Ok-Stack.field-0-is at c.in-Ok-Stack.ensures.reads)
+
+pub returns-in-Ok-Broken-clause-outcome : goal.returns-in-Ok-Broken-clause-outcome
+returns-in-Ok-Broken-clause-outcome g c = inr (was_headless _ _ c.in-Ok-Broken.fault _ (rw c.in-Ok-Broken.field-0-is at c.in-Ok-Broken.ensures.reads) (refused_at_once (g.P.Policies.knows c.args.shelf.now) c.in-Ok-Broken.fault _ _ _ _ _ c.refuse.ensures.refused c.refuse.ensures.tower refl))
+
+pub returns-in-Ok-Broken-clause-read : goal.returns-in-Ok-Broken-clause-read
+returns-in-Ok-Broken-clause-read g c = λ is. read_by c.in-Ok-Broken.fault _ (notes.Fault c.in-Ok-Broken.fault) [] _ _ _ _ _ (refused_as c.in-Ok-Broken.fault _ _ c.refuse.ensures.refused) (rw c.in-Ok-Broken.field-0-is at c.in-Ok-Broken.ensures.faults) is
+
+pub returns-in-Ok-Broken-clause-whole : goal.returns-in-Ok-Broken-clause-whole
+returns-in-Ok-Broken-clause-whole g c = λ is. never_done c.in-Ok-Broken.fault _ (notes.Fault c.in-Ok-Broken.fault) [] _ _ _ _ _ (refused_as c.in-Ok-Broken.fault _ _ c.refuse.ensures.refused) is
