@@ -1,7 +1,11 @@
 pub mod Asked
 pub mod Charts
+pub mod Columns
 pub mod Escapes
+pub mod Events
 pub mod Frames
+pub mod Lanes
+pub mod Marks
 pub mod Outcome
 pub mod Sdus
 pub mod Shapes

@@ -15,23 +15,24 @@ use Rattle.rina_view.specs.Written.{Writes}
 use Rattle.rina_chart.specs.declared.window.Window.{Window}
 use Rattle.rina_chart.specs.declared.program.Asked.{Asked}
 use Rattle.rina_chart.specs.declared.program.Asked.TheVariants.{Table, Chart, Bad}
+use Rattle.rina_chart.specs.declared.program.Format.{Format}
 use Rattle.rina_chart.specs.Asked.{asked_of, facility_of}
-use Rattle.rina_chart.specs.Charts.{chart_text}
+use Rattle.rina_chart.specs.Charts.{text_in}
 
 -- notes were read, and their chart was written; or the first line that is none was told
-abbrev pub TellsRead : List ℕ → Option Window → Result (List Note) Unread → Option (List ℕ) → Option (List ℕ) → Status → Type 0
-TellsRead fac window (Ok ns) old new status = Writes (chart_text fac window ns) statuses.Done old new status
-TellsRead fac window (Err (Line line n field)) old new status = Writes (line_of (notes.Fault (faults.Schedule line n field))) statuses.Refused old new status
-TellsRead fac window (Err Memory) old new status = (status ≡ statuses.Memory) × Appends old new []
+abbrev pub TellsRead : Format → List ℕ → Option Window → Result (List Note) Unread → Option (List ℕ) → Option (List ℕ) → Status → Type 0
+TellsRead format fac window (Ok ns) old new status = Writes (text_in format fac window ns) statuses.Done old new status
+TellsRead format fac window (Err (Line line n field)) old new status = Writes (line_of (notes.Fault (faults.Schedule line n field))) statuses.Refused old new status
+TellsRead format fac window (Err Memory) old new status = (status ≡ statuses.Memory) × Appends old new []
 
 -- what is told of an input that was read whole
-abbrev pub TellsDrawn : List ℕ → Option Window → List ℕ → Option (List ℕ) → Option (List ℕ) → Status → Type 0
-TellsDrawn fac window bytes old new status = TellsRead fac window (notes_in bytes) old new status
+abbrev pub TellsDrawn : Format → List ℕ → Option Window → List ℕ → Option (List ℕ) → Option (List ℕ) → Status → Type 0
+TellsDrawn format fac window bytes old new status = TellsRead format fac window (notes_in bytes) old new status
 
 -- what is told by what the words ask for: what the table of SDUs tells; the chart of a facility; or the place of a word, with nothing read
 abbrev pub LooksBy : Asked → List (List ℕ) → Option (List ℕ) → Option (List ℕ) → Option (List ℕ) → Option (List ℕ) → Status → Type 0
 LooksBy Table words left left' old new status = Tells words left left' old new status
-LooksBy (Chart window) words left left' old new status = TellsInput (TellsDrawn (facility_of words) window) left left' old new status
+LooksBy (Chart format window) words left left' old new status = TellsInput (TellsDrawn format (facility_of format words) window) left left' old new status
 LooksBy (Bad word) words left left' old new status = (left' ≡ left) × Writes (line_of (notes.Fault (faults.Usage word))) statuses.Usage old new status
 
 -- what is told by the words

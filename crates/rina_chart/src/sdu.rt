@@ -77,7 +77,7 @@ fn place_among(nodes: &[Name], node: &Name) -> Option<usize>
 
 /// The place of a node among the lifelines, 0 where it has none.
 #[tactic(auto, unfolding(crate::specs::Sdus::place_of))]
-fn place_of(nodes: &[Name], node: &Name) -> usize
+pub(crate) fn place_of(nodes: &[Name], node: &Name) -> usize
     ensures { result ≡ place_of nodes.now node.now }
 {
     match place_among(nodes, node) {
@@ -209,7 +209,7 @@ fn earliest(sdus: &[Sdu]) -> Tick
 
 /// The greatest of a tick and those at which SDUs arrived, or were sent where they did not arrive.
 #[tactic(auto, using(std::proofs::lemmas::List::drop_more))]
-fn latest(first: Tick, sdus: &[Sdu]) -> Tick
+pub(crate) fn latest(first: Tick, sdus: &[Sdu]) -> Tick
     ensures { result ≡ latest first sdus.now }
 {
     let mut last = first;

@@ -1,5 +1,5 @@
 //! The window of ticks that a chart shows, and the words that ask for one.
-ghost use Rattle.std.specs.Prelude.{◌≡◌, map, string_bytes};
+ghost use Rattle.std.specs.Prelude.{◌≡◌, ◌≤◌, map, string_bytes, IfErr};
 ghost use Rattle.rina_report.specs.Fields.{max32, numeral_of};
 ghost use Rattle.rina_chart.specs.Windows.{closed_by, from_by, to_by, to_in, window_in};
 
@@ -25,7 +25,8 @@ fn numeral_in(word: &[u8]) -> Option<u32>
 
 /// The window, where no word is behind it.
 fn closed_by(window: Window, others: &[String]) -> Result<Option<Window>, u32>
-    ensures { result ≡ closed_by window (map (λ w. string_bytes w) others.now) }
+    ensures window { result ≡ closed_by window (map (λ w. string_bytes w) others.now) }
+    ensures place { IfErr result (λ word. word ≤ 4) }
 {
     match others {
         [] => Ok(Some(window)),
@@ -35,7 +36,8 @@ fn closed_by(window: Window, others: &[String]) -> Result<Option<Window>, u32>
 
 /// The window up to a tick, if the word is one and not below the first tick.
 fn to_by(from: Tick, to: Option<Tick>, others: &[String]) -> Result<Option<Window>, u32>
-    ensures { result ≡ to_by from to (map (λ w. string_bytes w) others.now) }
+    ensures window { result ≡ to_by from to (map (λ w. string_bytes w) others.now) }
+    ensures place { IfErr result (λ word. word ≤ 4) }
 {
     match to {
         None => Err(3),
@@ -51,7 +53,8 @@ fn to_by(from: Tick, to: Option<Tick>, others: &[String]) -> Result<Option<Windo
 
 /// The window from a tick up to the next word.
 fn to_in(from: Tick, words: &[String]) -> Result<Option<Window>, u32>
-    ensures { result ≡ to_in from (map (λ w. string_bytes w) words.now) }
+    ensures window { result ≡ to_in from (map (λ w. string_bytes w) words.now) }
+    ensures place { IfErr result (λ word. word ≤ 4) }
 {
     match words {
         [] => Err(3),
@@ -61,7 +64,8 @@ fn to_in(from: Tick, words: &[String]) -> Result<Option<Window>, u32>
 
 /// The window from a tick, if the word is one.
 fn from_by(from: Option<Tick>, others: &[String]) -> Result<Option<Window>, u32>
-    ensures { result ≡ from_by from (map (λ w. string_bytes w) others.now) }
+    ensures window { result ≡ from_by from (map (λ w. string_bytes w) others.now) }
+    ensures place { IfErr result (λ word. word ≤ 4) }
 {
     match from {
         None => Err(2),
@@ -72,7 +76,8 @@ fn from_by(from: Option<Tick>, others: &[String]) -> Result<Option<Window>, u32>
 /// The window that the words behind a facility ask for, none where there are no words; else the place on the command line of the first word that
 /// cannot stand there, or of one that is missing.
 pub fn window_in(words: &[String]) -> Result<Option<Window>, u32>
-    ensures { result ≡ window_in (map (λ w. string_bytes w) words.now) }
+    ensures window { result ≡ window_in (map (λ w. string_bytes w) words.now) }
+    ensures place { IfErr result (λ word. word ≤ 4) }
 {
     match words {
         [] => Ok(None),

@@ -1,3 +1,4 @@
+pub mod Pairing
 pub mod Standings
 pub mod Texts
 pub mod There

@@ -2,7 +2,6 @@
 use Rattle.std.proofs.Common.{◌≡◌, ◌∙◌, ℕ, Option, Some, None, option_and_then, ap, subst}
 use Rattle.std.specs.Prelude.{IfSome, MatchOption}
 use Rattle.std.proofs.lemmas.Option.{same_Some}
-use Rattle.rina_dif.specs.declared.dif.Dif.{Dif}
 use Rattle.rina_tower.specs.declared.tower.Tower.{Tower, Rank', Wires}
 use Rattle.rina_tower.specs.Ledgers.{dif_at, dif_of}
 use Rattle.rina_tower.specs.Ranks.{below_of, rank_of}

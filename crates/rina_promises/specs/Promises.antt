@@ -1,5 +1,5 @@
 -- The table of the promises of a stack: what each flow of each DIF promises, and the way of it by the next hops of the tower of the stack.
-use Rattle.std.specs.Prelude.{◌≡◌, ℕ, List, [], ◌∷◌, ◌++◌, codes, length, slice_get, Option, Some, option_and_then}
+use Rattle.std.specs.Prelude.{◌≡◌, ℕ, List, [], ◌∷◌, ◌++◌, codes, length, slice_get, Some, option_and_then}
 use Rattle.std.specs.List.{range_with_len}
 use Rattle.rina_plan.specs.declared.dif.DifPlan.{DifPlan}
 use Rattle.rina_plan.specs.declared.dif.FlowPlan.{FlowPlan}

@@ -25,7 +25,7 @@ pub struct Rows {
 }
 
 /// The direction of a flow from a node to another.
-fn row(
+pub(crate) fn row(
     alloc: Global,
     below: &Tower,
     dif: &Dif,
@@ -77,7 +77,7 @@ pub fn add_rows(
 ) -> Result<(), Memory>
     ensures { Adds result text.old text.new (flow_text nodes.now fac.now flow.now rows.now) }
 {
-    let (from, to) = (&flow.from.label, &flow.to.label);
+    let (from, to) = (flow.from.label.as_bytes(), flow.to.label.as_bytes());
     add_row(text, fac, from, to, nodes, &rows.there)?;
     add_row(text, fac, to, from, nodes, &rows.back)
 }

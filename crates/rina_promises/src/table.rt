@@ -86,7 +86,7 @@ fn add_difs(alloc: Global, text: &mut Text, plan: &Plan, tower: &Tower) -> Resul
 
 /// Appends the names of the columns.
 #[tactic(auto, unfolding(crate::specs::Promises::columns))]
-fn add_columns(text: &mut Text) -> Result<(), Memory>
+pub(crate) fn add_columns(text: &mut Text) -> Result<(), Memory>
     ensures { Adds result text.old text.new columns }
 {
     text.add(b"facility from to cube way charges slack window pieces trip promise\n")

@@ -2,6 +2,12 @@
 #![tactic(auto)]
 
 #[cfg(test)]
+mod chart_rows;
+#[cfg(test)]
+mod charts;
+#[cfg(test)]
+mod pair_rows;
+#[cfg(test)]
 mod promise_rows;
 #[cfg(test)]
 mod promises;

@@ -1,1 +1,2 @@
+pub mod Travelling
 pub mod Walks

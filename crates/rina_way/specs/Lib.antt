@@ -1,2 +1,3 @@
+pub mod Journeys
 pub mod Ways
 pub mod Words

@@ -14,14 +14,21 @@ use rina_base::{Memory, Name, Node, Seq};
 use rina_cube::{Cube, Kind};
 use rina_schedule::Text;
 
+/// The name of a node, ? where it has none.
+pub fn node_name(nodes: &[Name], node: Node) -> &[u8]
+    ensures { result.now ≡ node_name nodes.now node }
+{
+    match nodes.get(node as usize) {
+        Some(name) => name.as_bytes(),
+        None => b"?",
+    }
+}
+
 /// Appends the name of a node.
 fn node(text: &mut Text, nodes: &[Name], node: Node) -> Result<(), Memory>
     ensures { Adds result text.old text.new (node_name nodes.now node) }
 {
-    match nodes.get(node as usize) {
-        Some(name) => text.add(name.as_bytes()),
-        None => text.add(b"?"),
-    }
+    text.add(node_name(nodes, node))
 }
 
 /// Appends > and the node at the end of a hop.
@@ -199,12 +206,12 @@ fn promise_fields(text: &mut Text, row: &Row) -> Result<(), Memory>
 }
 
 /// Appends the facility, the ports and the cube.
-fn names(text: &mut Text, fac: &Name, from: &Name, to: &Name, id: u8) -> Result<(), Memory>
+fn names(text: &mut Text, fac: &Name, from: &[u8], to: &[u8], id: u8) -> Result<(), Memory>
     ensures { Adds result text.old text.new (fac.now ++ spaced (from.now ∷ to.now ∷ decimal id ∷ [])) }
 {
     text.add(fac.as_bytes())?;
-    text.field(from.as_bytes())?;
-    text.field(to.as_bytes())?;
+    text.field(from)?;
+    text.field(to)?;
     text.number_field(u64::from(id))
 }
 
@@ -213,8 +220,8 @@ fn names(text: &mut Text, fac: &Name, from: &Name, to: &Name, id: u8) -> Result<
 fn way_part(
     text: &mut Text,
     fac: &Name,
-    from: &Name,
-    to: &Name,
+    from: &[u8],
+    to: &[u8],
     nodes: &[Name],
     row: &Row,
 ) -> Result<(), Memory>
@@ -233,13 +240,13 @@ fn promise_part(text: &mut Text, row: &Row) -> Result<(), Memory>
     mark(text, &row.cube, &row.there)
 }
 
-/// Appends the line of a row: the facility, the ports of the sender and the other end, the cube, the way, what its hops charge, the slack, the
+/// Appends the line of a row: the facility, the names of the sender and of the other end, the cube, the way, what its hops charge, the slack, the
 /// window, the pieces of the largest SDU, the round trip, and the promise in words.
 pub fn add_row(
     text: &mut Text,
     fac: &Name,
-    from: &Name,
-    to: &Name,
+    from: &[u8],
+    to: &[u8],
     nodes: &[Name],
     row: &Row,
 ) -> Result<(), Memory>

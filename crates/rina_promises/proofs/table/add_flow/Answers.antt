@@ -5,7 +5,7 @@ use Rattle.rina_promises.proofs.Texts.{flow_added}
 use Rattle.rina_promises.proofs.table.add_flow.Goals as goal
 
 pub unreachable-requires : goal.unreachable-requires
-unreachable-requires c = is_there_by c.args.plan.now c.args.tower.now c.args.at c.args.dif.now c.args.flow.now c.from.result c.number_in_rank-fac.result c.requires.tower c.requires.flow c.from.ensures (c.number_in_rank-fac.ensures ∙ ap (λ ds. number_in_rank ds c.args.at) c.as_slice.ensures) c.in_default.ensures.stands
+unreachable-requires c = is_there_by c.args.plan.now c.args.tower.now c.args.at c.args.dif.now c.from.result c.number_in_rank-fac.result c.requires.tower c.requires.flow.dif c.from.ensures (c.number_in_rank-fac.ensures ∙ ap (λ ds. number_in_rank ds c.args.at) c.as_slice.ensures) c.in_default.ensures.stands
 
 pub rows_of-requires-clause-from : goal.rows_of-requires-clause-from
 rows_of-requires-clause-from c = (nodes_fit c.args.plan.now c.args.tower.now c.args.at c.args.dif.now c.args.flow.now c.requires.tower c.requires.flow).0

@@ -1,0 +1,8 @@
+-- So far the texts of these members were appended.
+use Rattle.std.proofs.Common.{take}
+use Rattle.rina_promises.specs.Pairs.{IsToText}
+use Rattle.rina_promises.specs.Promises.{AddsText, AreTexts}
+use Rattle.rina_promises.proofs.pairs.add_from.Given as goal
+
+abbrev pub invariant-members : goal.invariant-members
+invariant-members l = AddsText (AreTexts (IsToText l.nodes l.fac l.there.below.now l.there.dif.now l.from) (take l.to-index l.there.dif.now.settings.members)) l.fn.text l.text
