@@ -11,7 +11,7 @@ use Rattle.rina_alloc.specs.declared.message.FlowWord.TheVariants as words
 use Rattle.rina_rest.specs.Flows.{Endpoint, HasSameId, Side, Asker, Far, Flow, ended_of, Four}
 use Rattle.rina_rest.specs.Ledger.{put}
 use Rattle.rina_rest.proofs.Holding.{goes_still}
-use Rattle.rina_rest.proofs.Lists.{put_changed, push_changed, same_flow}
+use Rattle.rina_rest.proofs.Messages.{stays_put, stays_push}
 use Rattle.rina_asks.specs.Allocation.{Request, Sent, ask_of_word, ask_of, cut, put_request}
 use Rattle.rina_asks.specs.Holding.{OfAsk, OfYes, Tells, OfAnswer, four_of_delete, OfDelete, SaysOf, SaysIds, IsOfRequest, SaysNames, AreApart}
 use Rattle.rina_asks.proofs.Requests as request_list
@@ -62,23 +62,6 @@ pub record IsKept (f x : Flow) : Type 0 where
 -- no far end is made, and the asker is not told
 abbrev pub IsIdle : Flow → Flow → Type 0
 IsIdle f x = (f.far ≡ None → x.far ≡ None) × (f.told ≡ false → x.told ≡ false)
-
-stays_put : (P : Flow → Type 0) (flows : List Flow) (i j : ℕ) (f x : Flow) → slice_get flows i ≡ Some f → (j ≡ i → P f → P x) → ((g : Flow) × (slice_get flows j ≡ Some g) × P g) → (g : Flow) × (slice_get (put i x flows) j ≡ Some g) × P g
-stays_put P flows i j f x at keeps w =
-    let changed = put_changed flows i f x at in
-    elim (cases_eq j i) [
-      | inl same ↦
-          (let one : w.0 ≡ f = same_flow flows j i (w.0) f same (w.1) at in
-          let Q : ℕ → Type 0 = λ k. slice_get (put i x flows) k ≡ Some x in
-          (x, subst Q (sym same) changed.at, keeps same (subst P one (w.2))))
-      | inr ne ↦ (w.0, changed.others j ne ∙ w.1, w.2)
-    ]
-
-stays_push : (P : Flow → Type 0) (flows : List Flow) (j : ℕ) (x : Flow) → ((g : Flow) × (slice_get flows j ≡ Some g) × P g) → (g : Flow) × (slice_get (flows ++ x ∷ []) j ≡ Some g) × P g
-stays_push P flows j x w =
-    let lt = slice_get_within flows j (w.0) (w.1) in
-    let changed = push_changed flows x in
-    (w.0, changed.others j (λ e. omega arith) ∙ w.1, w.2)
 
 end_kept : (side : Side) (f x : Flow) (far k : Endpoint) (t : ℕ) → IsKept f x → ((t : ℕ) → far.ended ≡ Some t → k.ended ≡ Some t) → ended_of side f far ≡ Some t → ended_of side x k ≡ Some t
 end_kept Asker f x far k t kept ended e = kept.asker_ended t e

@@ -7,8 +7,8 @@ use Rattle.rina_rest.specs.Laws.{IsAsked, Answers, IsAnswered, IsNotMakeOf}
 use Rattle.rina_rest.specs.Ledger.{Ledger, Row, Time, Cloud, Ask, Make, Tell, EndAsker, EndFar, Send, put, asked_flow, made, told_flow, ended_asker, ended_far, entered, IsAllowed}
 use Rattle.rina_rest.proofs.Lists.{put_changed, push_changed, same_flow}
 
--- what holds of a flow stays where the flow changes and keeps it
-stays_put : (P : Flow → Type 0) (flows : List Flow) (i j : ℕ) (f x : Flow) → slice_get flows i ≡ Some f → (j ≡ i → P f → P x) → ((g : Flow) × (slice_get flows j ≡ Some g) × P g) → (g : Flow) × (slice_get (put i x flows) j ≡ Some g) × P g
+-- what holds of a flow stays where a flow changes and keeps it
+pub stays_put : (P : Flow → Type 0) (flows : List Flow) (i j : ℕ) (f x : Flow) → slice_get flows i ≡ Some f → (j ≡ i → P f → P x) → ((g : Flow) × (slice_get flows j ≡ Some g) × P g) → (g : Flow) × (slice_get (put i x flows) j ≡ Some g) × P g
 stays_put P flows i j f x at keeps w =
     let changed = put_changed flows i f x at in
     elim (cases_eq j i) [
@@ -19,7 +19,8 @@ stays_put P flows i j f x at keeps w =
       | inr ne ↦ (w.0, changed.others j ne ∙ w.1, w.2)
     ]
 
-stays_push : (P : Flow → Type 0) (flows : List Flow) (j : ℕ) (x : Flow) → ((g : Flow) × (slice_get flows j ≡ Some g) × P g) → (g : Flow) × (slice_get (flows ++ x ∷ []) j ≡ Some g) × P g
+-- and where a flow comes behind
+pub stays_push : (P : Flow → Type 0) (flows : List Flow) (j : ℕ) (x : Flow) → ((g : Flow) × (slice_get flows j ≡ Some g) × P g) → (g : Flow) × (slice_get (flows ++ x ∷ []) j ≡ Some g) × P g
 stays_push P flows j x w =
     let lt = slice_get_within flows j (w.0) (w.1) in
     let changed = push_changed flows x in
