@@ -6,5 +6,6 @@ pub mod Making
 pub mod Marking
 pub mod Offering
 pub mod Passing
+pub mod Quieting
 pub mod Resending
 pub mod Spent

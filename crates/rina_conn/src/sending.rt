@@ -5,7 +5,7 @@ ghost use Rattle.rina_dtcp.specs.Senders.{flag_of};
 ghost use Rattle.rina_dtcp.specs.Sents.{is_due};
 ghost use Rattle.rina_conn.specs.Lending.{LendsAgain};
 ghost use Rattle.rina_conn.specs.Carrying.{carry, part_in, made_from, LieWithin};
-ghost use Rattle.rina_conn.specs.Quiet.{SendsNoneUntil};
+ghost use Rattle.rina_conn.specs.Quiet.{SendsFrom, SendsNoneUntil};
 ghost use Rattle.rina_conn.specs.Sending.{IsNewSender, Offers, ChecksLength, ChecksWindow, IsPartsOf, Numbered, Admits, IsToldBy, TellsRoom, TellsNext, TellsAgain, TellsGivenUp, NotesIf};
 
 use crate::form::Form;
@@ -266,10 +266,11 @@ impl Sending {
         self.tx.gave_up(now)
     }
 
-    /// A tick before which no number is sent again or given up, as long as nothing is offered and no acknowledgement comes;
-    /// the greatest u32 where nothing is unacknowledged. Takes no memory.
+    /// The first tick at which a number is sent again or given up, as long as nothing is offered and no acknowledgement
+    /// comes; the greatest u32 where nothing is unacknowledged. Takes no memory.
     pub fn sends_none_until(&self) -> Tick
-        ensures { SendsNoneUntil result self.now }
+        ensures before { SendsNoneUntil result self.now }
+        ensures from { SendsFrom result self.now }
     {
         self.tx.still_until()
     }

@@ -1,4 +1,5 @@
 pub mod Touching
+pub mod Rising
 pub mod Scanning
 pub mod Standing
 pub mod Still

@@ -10,7 +10,7 @@ use Rattle.rina_cube.specs.Cubes.{delta_of, is_reliable}
 use Rattle.rina_law.specs.Constants.{Constants, delta}
 use Rattle.rina_law.specs.Pieces.{Part}
 use Rattle.rina_law.specs.Receiver.{Piece}
-use Rattle.rina_law.specs.Sender.{Member, Sender, no_member, is_empty, is_idle, is_absent, started, room_of, drf_for, piece_for, member_for, sender_with, pieces_for, sender_with_all, due_from, late_from, if_reliable, again_due, sender_again, piece_again, sender_told}
+use Rattle.rina_law.specs.Sender.{Member, Sender, no_member, is_empty, is_idle, is_absent, started, room_of, drf_for, piece_for, member_for, sender_with, pieces_for, sender_with_all, due_from, late_from, if_reliable, again_due, given_up, sender_again, piece_again, sender_told}
 use Rattle.rina_dtcp.specs.declared.sent.Sent.{Sent}
 use Rattle.rina_dtcp.specs.declared.sent.GaveUp.{GaveUp}
 use Rattle.rina_dtcp.specs.Sents.{is_due, is_late, touched}
@@ -316,6 +316,12 @@ late_by : (kind : Kind) (carry : Piece → Pdu) (c : Constants) (now : ℕ) (m :
 late_by Datagram carry c now m = refl
 late_by Loose carry c now m = refl
 late_by Reliable carry c now m = late_place carry c now m.acked m.run
+
+late_is : (c : Constants) (carry : Piece → Pdu) (now : ℕ) (m : Sender) (k : Kept) → Stands c carry m k → given_up c now m ≡ option_map (λ i. m.acked + i) (position (is_late k.cube now) k.unacked)
+late_is c carry now m k st = rw (st.cube, st.unacked) (late_by c.cube.kind carry c now m)
+
+pub has_late : (c : Constants) (carry : Piece → Pdu) (now : ℕ) (m : Sender) (k : Kept) → Stands c carry m k → is_some (given_up c now m) ≡ is_some (position (is_late k.cube now) k.unacked)
+has_late c carry now m k st = ap is_some (late_is c carry now m k st) ∙ some_mapped (λ i. m.acked + i) (position (is_late k.cube now) k.unacked)
 
 late_get : (carry : Piece → Pdu) (i now n k : ℕ) (ms : List Member) → i < length (sent_from carry n ms) → k ≡ n + i → late_of now (slice_get (sent_from carry n ms) i) ≡ Some (record { num = num_in (carry (record { number = k; drf = (get_or ms i no_member).drf; part = (get_or ms i no_member).part })); first = (get_or ms i no_member).first; now = now })
 late_get carry i now n k [] h e = absurd (omega arith)

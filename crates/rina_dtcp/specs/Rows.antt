@@ -1,5 +1,5 @@
 -- What each call of a sender does, whatever sender of the machine it stands for.
-use Rattle.std.specs.Prelude.{◌≡◌, ℕ, ◌+◌, ◌<◌, Bool, List, [], ◌∷◌, drop, length, map, position, Option, Some, None, option_map, is_some}
+use Rattle.std.specs.Prelude.{◌≡◌, ℕ, ◌+◌, ◌-◌, ◌^◌, ◌<◌, Bool, true, ◌||◌, List, [], ◌∷◌, drop, length, map, position, Option, Some, None, option_map, is_some}
 use Rattle.rina_base.specs.declared.pdu.Pdu.{Pdu}
 use Rattle.rina_cube.specs.declared.Cube.{Cube}
 use Rattle.rina_cube.specs.declared.Kind.{Kind}
@@ -101,3 +101,7 @@ TellsGivenUp now k told =
 pub record IsStillUntil (until : ℕ) (k : Kept) : Type 0 where
   pub again : (t : ℕ) → t < until → TellsAgain t k None
   pub given_up : (t : ℕ) → t < until → TellsGivenUp t k None
+
+-- at this tick a number is sent again or given up, unless it is the greatest u32
+abbrev pub IsDueFrom : ℕ → Kept → Type 0
+IsDueFrom tick k = (c : Constants) (carry : Piece → Pdu) (m : Sender) → Stands c carry m k → tick < 2 ^ 32 - 1 → (is_some (again_due c tick m) || is_some (given_up c tick m)) ≡ true

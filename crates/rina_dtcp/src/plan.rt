@@ -1,5 +1,5 @@
 //! When an acknowledgement is made.
-ghost use Rattle.std.specs.Prelude.{ℕ, ◌<◌, false, ◌≡◌, ◌&&◌, if◌then◌else◌, None};
+ghost use Rattle.std.specs.Prelude.{ℕ, ◌-◌, ◌^◌, ◌<◌, true, false, ◌≡◌, ◌&&◌, if◌then◌else◌, None};
 ghost use Rattle.rina_dtcp.specs.Plans.{TellsNote, TellsPass, is_young, with_mark, without, noted_plan, passed_plan};
 ghost use Rattle.rina_law.specs.Direction.{has_come};
 
@@ -119,7 +119,8 @@ impl AckPlan {
     /// The tick at which the planned acknowledgement is due, at most the greatest u32; the greatest u32 where none is
     /// planned. Takes no memory.
     pub fn still_until(&self) -> Tick
-        ensures { (t : ℕ) → t < result → has_come self.now.mark t ≡ false }
+        ensures before { (t : ℕ) → t < result → has_come self.now.mark t ≡ false }
+        ensures from { result < 2 ^ 32 - 1 → has_come self.now.mark result ≡ true }
     {
         match self.since {
             Some(since) => since.saturating_add(self.a),

@@ -1,6 +1,7 @@
 //! A piece that waits for its acknowledgement.
 ghost use Rattle.std.specs.Prelude.{◌≡◌, IfOk};
-ghost use Rattle.rina_dtcp.specs.Sents.{IsStillUntil, is_due, is_late};
+ghost use Rattle.rina_dtcp.specs.declared.sent.Sent.{Sent};
+ghost use Rattle.rina_dtcp.specs.Sents.{IsStillUntil, IsDueFrom, is_due, is_late};
 
 use rina_base::{Bytes, Memory, Num, Pdu, Tick};
 use rina_cube::Cube;
@@ -50,16 +51,25 @@ impl Sent {
 
     /// The first tick at which it is to be made again, or, where it is not any more, at which it is too late for its
     /// acknowledgement; at most the greatest u32.
-    #[tactic(auto, unfolding(crate::specs::Sents::is_due, crate::specs::Sents::is_late))]
     pub(crate) fn still_until(&self, cube: &Cube) -> Tick
-        ensures { IsStillUntil result cube.now self.now }
+        ensures before { IsStillUntil result cube.now self.now }
+        ensures from { IsDueFrom result cube.now self.now }
     {
-        let again = self.last as u64 + cube.retry as u64;
-        let latest = self.first as u64 + cube.r as u64;
-        let late = latest + cube.a as u64 + 2 * cube.mpl as u64;
-        let first = if again <= latest { again } else { late };
-        first.min(Tick::MAX as u64) as Tick
+        due_tick(cube, self.first, self.last)
     }
+}
+
+/// The first tick at which a piece that was made first and last at these ticks is to be made again, or, where it is not
+/// any more, at which it is too late for its acknowledgement; at most the greatest u32.
+pub(crate) fn due_tick(cube: &Cube, first: Tick, last: Tick) -> Tick
+    ensures before { (s : Sent) → s.first ≡ first → s.last ≡ last → IsStillUntil result cube.now s }
+    ensures from { (s : Sent) → s.first ≡ first → s.last ≡ last → IsDueFrom result cube.now s }
+{
+    let again = last as u64 + cube.retry as u64;
+    let latest = first as u64 + cube.r as u64;
+    let late = latest + cube.a as u64 + 2 * cube.mpl as u64;
+    let tick = if again <= latest { again } else { late };
+    tick.min(Tick::MAX as u64) as Tick
 }
 
 /// A copy of a PDU.

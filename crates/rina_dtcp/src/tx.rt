@@ -2,13 +2,13 @@
 ghost use Rattle.std.specs.Prelude.{◌≡◌, ℕ, slice_get, Some, ◌+◌, ◌-◌, ◌==◌, ◌<◌, ◌≤◌, ◌^◌, drop, length, position, is_some, option_copied, IfSome, IfOk, OnOk, OnErr, [], ◌++◌, ◌∷◌};
 ghost use Rattle.rina_dtcp.specs.declared.sent.Sent.{Sent};
 ghost use Rattle.rina_dtcp.specs.Sents as sents;
-ghost use Rattle.rina_dtcp.specs.Sents.{is_due, is_late, touched};
+ghost use Rattle.rina_dtcp.specs.Sents.{RiseFrom, RiseTo, is_due, is_late, touched};
 ghost use Rattle.rina_dtcp.specs.Senders.{Kept, is_gone, left_in, keeps, with_sent, least_from, sents_from, with_all, counted, counted_all, noted, flag_of, settled, raised, resent_at, IsPduAt, late_of, late_in};
 ghost use Rattle.std.specs.Borrow.{sem};
 ghost use Rattle.rina_dtcp.specs.Lending.{LendsDue};
-ghost use Rattle.rina_dtcp.specs.Rows.{IsNew, TellsRoom, TellsIdle, Notes, NotesAll, IsTold, TellsAgain, TellsDue, TellsGivenUp, IsStillUntil};
+ghost use Rattle.rina_dtcp.specs.Rows.{IsNew, TellsRoom, TellsIdle, Notes, NotesAll, IsTold, TellsAgain, TellsDue, TellsGivenUp, IsStillUntil, IsDueFrom};
 
-use crate::sent::{GaveUp, Sent, copy_of};
+use crate::sent::{GaveUp, Sent, copy_of, due_tick};
 use rina_base::{Memory, Num, Pdu, Tick};
 use rina_cube::{Cube, Kind};
 use std::alloc::{AllocError, Global};
@@ -30,14 +30,19 @@ pub struct Tx {
     last_out: Tick,
     /// The pieces from number `acked` on; none on a cube that is not reliable.
     unacked: VecDeque<Sent>,
+    /// From this place on in `unacked` no piece is due before an earlier one. Those before it may have been made again.
+    mixed: usize,
 }
 
 impl Model for Tx {
     ghost use Rattle.rina_dtcp.specs.Senders.{Kept};
+    ghost use Rattle.rina_dtcp.specs.Sents.{RiseFrom};
 
     ghost Value = { Kept };
 
     ghost view = { λ t. record { cube = t.cube; count = t.count; acked = t.acked; right = t.right; last_out = t.last_out; unacked = t.unacked.items } };
+
+    ghost invariant = { λ t. RiseFrom t.mixed t.cube t.unacked.items };
 }
 
 /// The greatest number that may be sent when a run begins.
@@ -116,15 +121,40 @@ fn first_late(unacked: &VecDeque<Sent>, cube: &Cube, now: Tick) -> Option<usize>
     unacked.iter().position(|sent| sent.is_late(cube, now))
 }
 
-/// A tick before which none of the pieces is made again or too late; the greatest u32 where there is none.
-fn still_until(unacked: &VecDeque<Sent>, cube: &Cube) -> Tick
-    ensures { (k : ℕ) (s : Sent) → slice_get unacked.now.items k ≡ Some s → sents.IsStillUntil result cube.now s }
+/// The first tick at which one of the pieces is made again or too late; the greatest u32 where there is none. From the
+/// place `mixed` on no piece is due before an earlier one.
+fn still_until(unacked: &VecDeque<Sent>, mixed: usize, cube: &Cube) -> Tick
+    requires { RiseFrom mixed cube.now unacked.now.items }
+    ensures before { (k : ℕ) (s : Sent) → slice_get unacked.now.items k ≡ Some s → sents.IsStillUntil result cube.now s }
+    ensures from { sents.IsSomeDueFrom result cube.now unacked.now.items }
 {
+    let end = if mixed < unacked.len() {
+        mixed + 1
+    } else {
+        unacked.len()
+    };
     let mut until = Tick::MAX;
-    for place in 0..unacked.len() {
+    for place in 0..end {
         until = until.min(unacked[place].still_until(cube));
     }
     until
+}
+
+/// The place from which on no piece is due before an earlier one, nor one that is made now before any of them.
+fn mixed_with(unacked: &VecDeque<Sent>, mixed: usize, cube: &Cube, now: Tick) -> usize
+    requires { RiseFrom mixed cube.now unacked.now.items }
+    ensures among { RiseFrom result cube.now unacked.now.items }
+    ensures then { RiseTo now result cube.now unacked.now.items }
+{
+    let len = unacked.len();
+    if len <= mixed {
+        return len;
+    }
+    if unacked[len - 1].still_until(cube) <= due_tick(cube, now, now) {
+        mixed
+    } else {
+        len
+    }
 }
 
 /// A piece that is given up now.
@@ -154,6 +184,7 @@ impl Tx {
             right: first_edge(cube),
             last_out: 0,
             unacked: VecDeque::with_capacity(alloc, ahead as usize)?,
+            mixed: 0,
         })
     }
 
@@ -227,7 +258,9 @@ impl Tx {
             last: now,
             pdu: copy_of(alloc, pdu)?,
         };
+        let mixed = mixed_with(&self.unacked, self.mixed, &self.cube, now);
         append(&mut self.unacked, sent)?;
+        self.mixed = mixed;
         Ok(())
     }
 
@@ -287,7 +320,9 @@ impl Tx {
             return Ok(());
         }
         let mut sents = copies(alloc, self.first_kept(begins), now, u64::from(seq), pdus)?;
+        let mixed = mixed_with(&self.unacked, self.mixed, &self.cube, now);
         self.unacked.append(&mut sents)?;
+        self.mixed = mixed;
         Ok(())
     }
 
@@ -331,7 +366,9 @@ impl Tx {
     {
         let acked = u64::from(ack) + 1;
         if self.acked < acked {
-            forget(&mut self.unacked, acked - self.acked);
+            let count = acked - self.acked;
+            forget(&mut self.unacked, count);
+            self.mixed = (self.mixed as u64).saturating_sub(count) as usize;
             self.acked = acked;
         }
     }
@@ -360,6 +397,7 @@ impl Tx {
         let place = first_due(&self.unacked, &self.cube, now);
         if let Some(at) = place {
             mark_resent(&mut self.unacked, at, now);
+            self.mixed = self.mixed.max(at + 1);
             self.last_out = now;
         }
         place
@@ -426,11 +464,13 @@ impl Tx {
     {
         self.least_given_up(now)
     }
-    /// A tick before which no number is sent again or given up, as long as nothing is sent and no acknowledgement comes;
+
+    /// The first tick at which a number is sent again or given up, as long as nothing is sent and no acknowledgement comes;
     /// the greatest u32 where nothing is unacknowledged. Takes no memory.
     pub fn still_until(&self) -> Tick
-        ensures { IsStillUntil result self.now }
+        ensures before { IsStillUntil result self.now }
+        ensures from { IsDueFrom result self.now }
     {
-        still_until(&self.unacked, &self.cube)
+        still_until(&self.unacked, self.mixed, &self.cube)
     }
 }

@@ -13,3 +13,4 @@ pub mod Remaining
 pub mod Senders
 pub mod Settled
 pub mod Shelved
+pub mod Used

@@ -1,12 +1,15 @@
 -- Whether any piece is given up.
-use Rattle.std.proofs.Common.{◌≡◌, ◌≢◌, ℕ, suc, ◌<◌, ◌≤◌, List, [], ◌∷◌, ◌++◌, length, Bool, true, false, Option, Some, None, refl, sym, ap, subst, arith}
-use Rattle.std.proofs.lemmas.List.{nil_from_length}
+use Rattle.std.proofs.Common.{◌≡◌, ◌≢◌, ℕ, suc, ◌+◌, ◌-◌, ◌≤◌, ◌&&◌, ltb, List, [], ◌∷◌, ◌++◌, length, Bool, true, false, Option, Some, None, is_some, refl, sym, ◌∙◌, ap, subst, arith}
+use Rattle.std.proofs.lemmas.Bool.{le-ltb}
 use Rattle.rina_base.specs.declared.cause.Cause.{Cause}
 use Rattle.rina_base.specs.declared.number.Key.{Key}
+use Rattle.rina_delim.specs.declared.joiner.Run.{Run}
 use Rattle.rina_dtp.specs.declared.gap.Gap.{Gap}
 use Rattle.rina_dtp.specs.declared.source.Source.{Source}
 use Rattle.rina_dtp.specs.Fetching.{HasSome}
-use Rattle.rina_dtp.specs.Receiving.{Receiving, broken_with, drops, end_cause, ended_with, kept_numbers, lost_in}
+use Rattle.rina_dtp.specs.Lost.{numbers_from}
+use Rattle.rina_dtp.specs.Observed.{KeepsFrom}
+use Rattle.rina_dtp.specs.Receiving.{Receiving, broken_with, drops, end_cause, ended_with, held_numbers, kept_numbers, lost_in, run_numbers}
 
 more_than_none : {X : Type 0} (x : X) (xs : List X) → x ∷ xs ≢ []
 more_than_none x xs = λ h. absurd (let l : suc (length xs) ≡ 0 = ap (λ ys. length ys) h in omega (arith, l))
@@ -29,11 +32,47 @@ drops_ended now r b none h = subst (λ (ls : List (Key × Cause)). HasSome (ls +
 pub ended_none : (source : Source) (why : Option Cause) (ns : List ℕ) → why ≡ None → HasSome (ended_with source why ns) false
 ended_none source why ns is = ap (λ (w : Option Cause). ended_with source w ns) is
 
-pub ended_some : (source : Source) (why : Option Cause) (cause : Cause) (ns : List ℕ) → why ≡ Some cause → 0 < length ns → HasSome (ended_with source why ns) true
-ended_some source None cause ns is some = absurd cc
-ended_some source (Some w) cause [] is some = absurd (omega arith)
-ended_some source (Some w) cause (n ∷ ns) is some = more_than_none _ _
+pub ended_as : (source : Source) (why : Option Cause) (cause : Cause) (ns : List ℕ) (b : Bool) → why ≡ Some cause → HasSome ns b → HasSome (ended_with source why ns) b
+ended_as source None cause ns b is h = absurd cc
+ended_as source (Some w) cause [] true is h = absurd (h refl)
+ended_as source (Some w) cause (n ∷ ns) true is h = more_than_none _ _
+ended_as source (Some w) cause ns false is h = ap (λ (ms : List ℕ). ended_with source (Some w) ms) h
 
-pub ended_kept : (source : Source) (why : Option Cause) (ns : List ℕ) → length ns ≡ 0 → HasSome (ended_with source why ns) false
-ended_kept source None ns none = refl
-ended_kept source (Some w) ns none = ap (λ (ms : List ℕ). ended_with source (Some w) ms) (nil_from_length ns none)
+-- Whether any piece is kept
+
+after_some : (xs : List ℕ) (y : ℕ) (ys zs : List ℕ) → (xs ++ (y ∷ ys)) ++ zs ≢ []
+after_some [] y ys zs = more_than_none y (ys ++ zs)
+after_some (x ∷ xs) y ys zs = more_than_none x ((xs ++ (y ∷ ys)) ++ zs)
+
+some_going : (going joining : Option Run) (held : List ℕ) → is_some going ≡ true → HasSome (run_numbers going ++ run_numbers joining ++ held) true
+some_going None joining held is = absurd cc
+some_going (Some run) joining held is = more_than_none _ _
+
+some_joining : (going joining : Option Run) (held : List ℕ) → is_some joining ≡ true → HasSome (run_numbers going ++ run_numbers joining ++ held) true
+some_joining going None held is = absurd cc
+some_joining going (Some run) held is = after_some (run_numbers going) run.from (numbers_from (run.from + 1) (run.last - run.from)) held
+
+some_held : (going joining : Option Run) (held : List ℕ) (b : Bool) → is_some going ≡ false → is_some joining ≡ false → HasSome held b → HasSome (run_numbers going ++ run_numbers joining ++ held) b
+some_held (Some run) joining held b going_is joining_is h = absurd cc
+some_held None (Some run) held b going_is joining_is h = absurd cc
+some_held None None held b going_is joining_is h = h
+
+pub kept_going : (r : Receiving) → is_some r.going ≡ true → HasSome (kept_numbers r) true
+kept_going r is = some_going r.going r.join.joining.held (held_numbers r.accepted) is
+
+pub kept_joining : (r : Receiving) → is_some r.join.joining.held ≡ true → HasSome (kept_numbers r) true
+kept_joining r is = some_joining r.going r.join.joining.held (held_numbers r.accepted) is
+
+pub kept_held : (r : Receiving) (b : Bool) → is_some r.going ≡ false → is_some r.join.joining.held ≡ false → HasSome (held_numbers r.accepted) b → HasSome (kept_numbers r) b
+kept_held r b going joining h = some_held r.going r.join.joining.held (held_numbers r.accepted) b going joining h
+
+-- the tick from which on pieces are kept of a state that has ended
+
+not_before : (n : ℕ) → ltb n n ≡ false
+not_before n = le-ltb n n (omega arith)
+
+pub keeps_after : (r : Receiving) → r.made ≡ true → HasSome (kept_numbers r) true → KeepsFrom (r.last_in + r.rest) r
+keeps_after r made some = λ low. (ap (λ b. b && ltb (r.last_in + r.rest) (r.last_in + r.rest)) made ∙ not_before (r.last_in + r.rest), some)
+
+pub keeps_at_once : (r : Receiving) → r.made ≡ false → HasSome (kept_numbers r) true → KeepsFrom 0 r
+keeps_at_once r made some = λ low. (ap (λ b. b && ltb 0 (r.last_in + r.rest)) made, some)

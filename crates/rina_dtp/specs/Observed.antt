@@ -1,5 +1,5 @@
 -- What a receiver shows, in the terms of the machine's receiver and joiner for which it stands.
-use Rattle.std.specs.Prelude.{◌≡◌, ℕ, ◌+◌, ◌<◌, Bool, true, false, nat_lt, List, [], Option, Some, None, if◌then◌else◌}
+use Rattle.std.specs.Prelude.{◌≡◌, ◌≢◌, ℕ, ◌+◌, ◌-◌, ◌^◌, ◌<◌, Bool, true, false, nat_lt, List, [], Option, Some, None, if◌then◌else◌}
 use Rattle.rina_cube.specs.declared.Cube.{Cube}
 use Rattle.rina_cube.specs.declared.Kind.{Kind}
 use Rattle.rina_cube.specs.declared.Kind.TheVariants.{Reliable}
@@ -41,6 +41,10 @@ TellsLastIn r result = (c : Constants) (now : ℕ) (m : Receiver) (j : Joiner) �
 -- before this tick no piece is kept of a state that has ended
 abbrev pub KeepsNoneUntil : ℕ → Receiving → Type 0
 KeepsNoneUntil until r = (t : ℕ) → t < until → present_at t r ≡ false → kept_numbers r ≡ []
+
+-- at this tick pieces are kept of a state that has ended, unless it is the greatest u32
+abbrev pub KeepsFrom : ℕ → Receiving → Type 0
+KeepsFrom tick r = tick < 2 ^ 32 - 1 → (present_at tick r ≡ false) × (kept_numbers r ≢ [])
 
 -- in the terms of what is kept
 abbrev pub next_kept : Accepted → ℕ

@@ -48,6 +48,10 @@ HasRoomOf piece p = piece ≤ p.room
 abbrev pub IsUnused : Place → Type 0
 IsUnused p = p.used ≡ false
 
+-- a place has a piece
+abbrev pub is_used : Place → Bool
+is_used p = p.used
+
 -- these are the pieces of a list, and lie in the window behind the next number
 pub record Holds (held : List Piece) (s : Shelved) : Type 0 where
   pub same : (k : ℕ) → has k (numbers held) ≡ holds s.places k

@@ -3,7 +3,7 @@ ghost use Rattle.std.specs.Prelude.{◌≡◌, ◌≤◌, ◌<◌, ◌+◌, ◌-
 ghost use Rattle.rina_law.specs.Receiver.{absent_verdict};
 ghost use Rattle.rina_dtp.specs.Accepted.{kind_of, known_verdict, number_verdict, judged_as, is_held, top_of, MayCount, IsCounted, IsGiven, FollowsOne, FollowsAll, Follows, HasSlotsFor, IsFresh};
 ghost use Rattle.rina_cube.specs.Cubes.{IsCube};
-ghost use Rattle.rina_dtp.specs.Fetching.{TakesFirst, SameShape};
+ghost use Rattle.rina_dtp.specs.Fetching.{HasSome, TakesFirst, SameShape};
 ghost use Rattle.rina_dtp.specs.Joins.{Grows};
 ghost use Rattle.rina_dtp.specs.Receiving.{held_numbers};
 ghost use Rattle.rina_dtp.specs.Observed.{next_kept};
@@ -245,6 +245,16 @@ impl Accepted {
         match self {
             Accepted::Reliable(shelf) => shelf.next_held(),
             _ => None,
+        }
+    }
+
+    /// Whether any piece is held.
+    pub fn holds_any(&self) -> bool
+        ensures { HasSome (held_numbers self.now) result }
+    {
+        match self {
+            Accepted::Reliable(shelf) => shelf.holds_any(),
+            _ => false,
         }
     }
 

@@ -1,5 +1,6 @@
 //! A place for one piece that is held.
 ghost use Rattle.std.specs.Prelude.{◌≡◌, ◌≤◌, ◌<◌, ◌^◌, ◌==◌, ◌&&◌, true, false, length, IfOk};
+ghost use Rattle.rina_dtp.specs.Shelf.{is_used};
 
 use rina_base::Memory;
 use std::alloc::Global;
@@ -81,6 +82,13 @@ impl Place {
         ensures { self.new ≡ record self.old { used = false } }
     {
         self.used = false;
+    }
+
+    /// Whether it holds a piece.
+    pub fn is_used(&self) -> bool
+        ensures { result ≡ is_used self.now }
+    {
+        self.used
     }
 
     /// Whether it holds the piece of a number.

@@ -6,7 +6,7 @@ ghost use Rattle.rina_law.specs.Receiver as law;
 ghost use Rattle.rina_dtp.specs.Accepted.{known_verdict, number_verdict, judged_as, is_accepted, is_held};
 ghost use Rattle.rina_dtp.specs.Receiving.{present_at, cleared, IsAccepted, IsHeldIn, IsStep, Steps, slots_of, StartsFresh, run_numbers, kept_numbers, end_cause, ended_with, broken_with, lost_in, drops};
 ghost use Rattle.rina_dtp.specs.Fetching.{HasSome, TakesFirst, after_first, gathered, GoesOn, ChangesKept, KeepsNoMore, StandsAsBefore};
-ghost use Rattle.rina_dtp.specs.Observed.{IsNew, TellsPresence, TellsNext, TellsJoining, TellsLastIn, KeepsNoneUntil, from_kept};
+ghost use Rattle.rina_dtp.specs.Observed.{IsNew, TellsPresence, TellsNext, TellsJoining, TellsLastIn, KeepsNoneUntil, KeepsFrom, from_kept};
 ghost use Rattle.rina_dtp.specs.Joins.{IsForward, first_number};
 ghost use Rattle.rina_dtp.specs.Stands.{IsRow, IsAhead};
 
@@ -416,11 +416,11 @@ impl Rx {
     }
 
     /// Whether pieces are kept that are given up because state or connection ended.
-    #[tactic(auto, using(crate::proofs::Remaining::ended_some, crate::proofs::Remaining::ended_none, crate::proofs::Remaining::ended_kept))]
+    #[tactic(auto, using(crate::proofs::Remaining::ended_as, crate::proofs::Remaining::ended_none))]
     fn has_ended(&self, now: Tick) -> bool
         ensures { HasSome (ended_with self.now.source (end_cause now self.now) (kept_numbers self.now)) result }
     {
-        self.end_cause(now).is_some() && self.kept() > 0
+        self.end_cause(now).is_some() && self.keeps_any()
     }
 
     /// Whether `dropped` would give a piece now; nothing changes. Takes no memory.
@@ -443,12 +443,25 @@ impl Rx {
         run_count(self.going) + run_count(self.join.held()) + self.accepted.held_count()
     }
 
-    /// A tick before which no piece is kept of a state that has ended: the one at which state ends, and the greatest u32
-    /// where no piece is kept. Takes no memory.
-    pub fn keeps_none_until(&self) -> Tick
-        ensures { KeepsNoneUntil result self.now }
+    /// Whether any piece is kept. Takes no memory.
+    #[tactic(auto, using(crate::proofs::Remaining::kept_going, crate::proofs::Remaining::kept_joining, crate::proofs::Remaining::kept_held))]
+    pub fn keeps_any(&self) -> bool
+        ensures { HasSome (kept_numbers self.now) result }
     {
-        if self.kept() == 0 {
+        if self.going.is_some() || self.join.held().is_some() {
+            return true;
+        }
+        self.accepted.holds_any()
+    }
+
+    /// The tick from which on pieces are kept of a state that has ended: the one at which state ends, and the greatest u32
+    /// where no piece is kept. Takes no memory.
+    #[tactic(auto, using(crate::proofs::Remaining::keeps_after, crate::proofs::Remaining::keeps_at_once))]
+    pub fn keeps_none_until(&self) -> Tick
+        ensures before { KeepsNoneUntil result self.now }
+        ensures from { KeepsFrom result self.now }
+    {
+        if !self.keeps_any() {
             return Tick::MAX;
         }
         if self.made {

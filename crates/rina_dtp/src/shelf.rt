@@ -1,6 +1,6 @@
 //! The pieces that a reliable receiver holds until the gap before them is filled.
 ghost use Rattle.std.specs.Prelude.{◌≡◌, ◌≤◌, ◌<◌, ◌+◌, ◌-◌, ◌%◌, ◌^◌, ℕ, length, All, IfOk, IfSome, IsTrue, ◌↔◌, true, false, slice_index_or};
-ghost use Rattle.rina_dtp.specs.Fetching.{TakesFirst, FindsHeld};
+ghost use Rattle.rina_dtp.specs.Fetching.{HasSome, TakesFirst, FindsHeld};
 ghost use Rattle.rina_dtp.specs.Receiving.{held_in};
 ghost use Rattle.rina_dtp.specs.Shelf.{no_place, place_at, holds, with_piece, without, HasRoomOf, IsUnused};
 
@@ -17,17 +17,20 @@ pub struct Shelf {
     next: u64,
     piece: u32,
     places: Vec<Place>,
+    /// How many of the places are used.
+    used: u64,
 }
 
 impl Model for Shelf {
-    ghost use Rattle.std.specs.Prelude.{◌≤◌, ◌<◌, ◌^◌, length, All};
-    ghost use Rattle.rina_dtp.specs.Shelf.{Shelved, HasRoomOf};
+    ghost use Rattle.std.specs.Prelude.{◌≡◌, ◌≤◌, ◌<◌, ◌^◌, length, All};
+    ghost use Rattle.std.specs.List.{count_by};
+    ghost use Rattle.rina_dtp.specs.Shelf.{Shelved, HasRoomOf, is_used};
 
     ghost Value = { Shelved };
 
     ghost view = { λ s. record { next = s.next; piece = s.piece; places = s.places.items } };
 
-    ghost invariant = { λ s. (1 ≤ length s.places.items) × (s.next ≤ 2 ^ 32) × (length s.places.items ≤ 256) × All (HasRoomOf s.piece) s.places.items };
+    ghost invariant = { λ s. (1 ≤ length s.places.items) × (s.next ≤ 2 ^ 32) × (length s.places.items ≤ 256) × All (HasRoomOf s.piece) s.places.items × (s.used ≡ count_by is_used s.places.items) };
 }
 
 /// Unused places for pieces of at most `piece` bytes.
@@ -84,6 +87,7 @@ impl Shelf {
             next: 0,
             piece,
             places: make_places(alloc, window, piece)?,
+            used: 0,
         })
     }
 
@@ -95,6 +99,7 @@ impl Shelf {
             next: self.next,
             piece: self.piece,
             places: copy_places(alloc, self.places.as_slice())?,
+            used: self.used,
         })
     }
 
@@ -141,16 +146,22 @@ impl Shelf {
         requires { length body.now ≤ self.old.piece }
         ensures { self.new ≡ record self.old { places = with_piece number first last body.now self.old.places } }
     {
-        let at = u64::from(number) % self.places.len() as u64;
-        self.places[at as usize].put(number, first, last, body);
+        let at = (u64::from(number) % self.places.len() as u64) as usize;
+        if !self.places[at].is_used() {
+            self.used += 1;
+        }
+        self.places[at].put(number, first, last, body);
     }
 
     /// Drops the piece of a number.
     pub fn free(&mut self, number: u64)
         ensures { self.new ≡ record self.old { places = without number self.old.places } }
     {
-        let at = number % self.places.len() as u64;
-        self.places[at as usize].free();
+        let at = (number % self.places.len() as u64) as usize;
+        if self.places[at].is_used() {
+            self.used -= 1;
+        }
+        self.places[at].free();
     }
 
     /// Counts the next number as accepted.
@@ -170,6 +181,7 @@ impl Shelf {
     {
         self.next = u64::from(number) + 1;
         free_all(&mut self.places, self.piece);
+        self.used = 0;
     }
 
     /// The first number that is held.
@@ -202,11 +214,24 @@ impl Shelf {
         }
     }
 
+    /// Whether any piece is held.
+    pub fn holds_any(&self) -> bool
+        ensures { HasSome (held_in self.now) result }
+    {
+        if self.used == 0 {
+            return false;
+        }
+        self.first_held().is_some()
+    }
+
     /// How many pieces are held.
     pub fn count(&self) -> u64
         ensures count { result ≡ length (held_in self.now) }
         ensures most { result ≤ 256 }
     {
+        if self.used == 0 {
+            return 0;
+        }
         let next = self.next();
         let end = next + self.window();
         let mut count = 0;

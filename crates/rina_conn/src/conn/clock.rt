@@ -1,10 +1,10 @@
 //! The clock of a connection: what is due, item by item, and what each item does.
-ghost use Rattle.std.specs.Prelude.{◌≡◌, ◌≤◌, ◌+◌, ◌-◌, min, option_copied, option_map};
+ghost use Rattle.std.specs.Prelude.{◌≡◌, ◌≤◌, ◌+◌, ◌-◌, ◌^◌, true, min, option_copied, option_map};
 ghost use Rattle.std.specs.Borrow.{sem};
 ghost use Rattle.rina_dtcp.specs.Plans.{without};
 ghost use Rattle.rina_conn.specs.Clock.{IsClockDue, AnswersGone, AnswersGaveUp, AnswersAck, AnswersAgain, IsAfter, LendsDue, TellsAck, ack_of, plan_is_due, first_open};
 ghost use Rattle.rina_conn.specs.Conns.{IsGone};
-ghost use Rattle.rina_conn.specs.Quiet.{IsQuietUntil, PlansNoneUntil};
+ghost use Rattle.rina_conn.specs.Quiet.{IsDueFrom, IsQuietUntil, PlansFrom, PlansNoneUntil};
 ghost use Rattle.rina_conn.specs.Sending as send;
 
 use super::{Conn, ConnDue, DueAck};
@@ -158,7 +158,8 @@ impl Conn {
 
     /// The tick at which an acknowledgement may be due first; the greatest u32 where none is planned.
     fn plans_none_until(&self) -> Tick
-        ensures { PlansNoneUntil result self.now }
+        ensures before { PlansNoneUntil result self.now }
+        ensures from { PlansFrom result self.now }
     {
         match self.sending.form.cube.kind {
             Kind::Reliable => self.plan.still_until(),
@@ -166,11 +167,13 @@ impl Conn {
         }
     }
 
-    /// A tick before which nothing is due, as long as no call changes the connection: no number is given up or sent again,
-    /// no acknowledgement is made, and no piece is kept of a state that has ended. The greatest u32 where the connection
-    /// is closed, and where nothing waits for the clock. Takes no memory.
+    /// The first tick at which something is due, as long as no call changes the connection: a number is given up or sent
+    /// again, the mark of an acknowledgement comes, or pieces are kept of a state that has ended. The greatest u32 where the
+    /// connection is closed, and where nothing waits for the clock. Takes no memory.
     pub fn quiet_until(&self) -> Tick
-        ensures { IsQuietUntil result self.now }
+        ensures before { IsQuietUntil result self.now }
+        ensures from { IsDueFrom result self.now }
+        ensures closed { self.now.rx.closed ≡ true → result ≡ 2 ^ 32 - 1 }
     {
         if self.rx.is_closed() {
             return Tick::MAX;
