@@ -13,11 +13,12 @@ use Rattle.rina_data.specs.Configs.{Config}
 use Rattle.rina_data.specs.Hops.{Hop, opened}
 use Rattle.rina_data.specs.Process.{Process}
 use Rattle.rina_dif_law.proofs.Finding.{oldest_at}
+use Rattle.rina_dif_law.specs.Ids.{IsOfLink}
 use Rattle.rina_channel.specs.declared.channel.Channel.{Channel}
 use Rattle.rina_channel.specs.Changes.{IsAwaited}
 use Rattle.rina_channel.specs.Channels.{ChannelsSeen, IsFlowBelow}
 use Rattle.rina_channel.specs.LinkCloud.{LinkCloud}
-use Rattle.rina_channel.specs.Names.{IsOfLink, named}
+use Rattle.rina_channel.specs.Names.{named}
 use Rattle.rina_channel.specs.Standing.{IsStanding}
 
 born_by : (kind : Option Kind) (promise : ℕ) (sent got : List Entry) → KeepsBy kind promise sent got → Born promise sent got

@@ -27,17 +27,18 @@ use Rattle.rina_data.specs.Fitting.{IsFit}
 use Rattle.rina_data.specs.Process.{Process}
 use Rattle.rina_data.specs.Queueing.{line_for}
 use Rattle.rina_dif_law.specs.Dif.{constants}
-use Rattle.rina_dif_law.specs.Ids.{Ids, flipped, pdu_of_ack, pdu_of_piece}
+use Rattle.rina_dif_law.specs.Ids.{Ids, IsOfLink, flipped, pdu_of_ack, pdu_of_piece}
 use Rattle.rina_dif_law.specs.Sending.{offered, offered_pieces}
 use Rattle.rina_dif_law.specs.Standing.{IsConfig, IsItem}
-use Rattle.rina_dif_law.proofs.Finding.{beside}
+use Rattle.rina_dif_law.proofs.Own.{direction_in, direction_out}
+use Rattle.rina_channel.specs.LinkCloud.{LinkCloud}
 use Rattle.rina_dif_law.proofs.Giving.{IsSmall, power_positive}
 use Rattle.rina_flows.specs.Laws.{waiting_now}
 use Rattle.rina_channel.specs.declared.channel.Channel.{Channel}
 use Rattle.rina_channel.specs.Changes.{IsFullOn, PostsOn}
 use Rattle.rina_channel.specs.Channels.{ChannelsSeen}
 use Rattle.rina_channel.specs.FlowLaws.{ServesLinks}
-use Rattle.rina_channel.specs.Names.{IsOfLink, link_config, names_at, unnamed}
+use Rattle.rina_channel.specs.Names.{link_config, names_at, unnamed}
 use Rattle.rina_channel.specs.Rows.{IsAcknowledgedOn, IsOfferedOn, IsResentOn, config_of}
 use Rattle.rina_channel.specs.Standing.{IsStanding}
 use Rattle.rina_channel.proofs.Config.{same_size}
@@ -162,8 +163,7 @@ messages_serve_links m lines ps below k parts num m' lines' ps' st s =
     let zero = zero_names k s.channel.partner its names in
     let limits = link_limits m.config m.manage st.managed its.qos o.cube o.place.is_cube in
     let partner = st.journal.allocated k o.end conn.end s.allocated in
-    let far = beside m.ends m.ids partner.place partner.other st.own.alike partner.stands in
-    let flow = st.own.flows k partner.place o.end partner.other its far.0 o.line conn (record { end = partner.stands; ids_are = far.1 }) o.is_line partner.partner in
+    let flow = direction_out (config_of m) m.clock (LinkCloud m.config m.channels ps below) m.ends m.ids lines st.own k partner.place o.end partner.other its o.line conn partner.stands o.is_line partner.partner s.allocated in
     let cube : flow.cube ≡ o.cube = one_cube m.config m.manage flow.cube its.qos flow.is_cube ∙ sym (one_cube m.config m.manage o.cube its.qos o.place.is_cube) in
     let c : Constants = constants (config_of m) o.cube its in
     let holds : DirectionHolds c o.line = subst (λ (x : Cube). DirectionHolds (constants (config_of m) x its) o.line) cube flow.backed.holds in
@@ -200,8 +200,7 @@ resending_serves_links m lines ps below k cause lines' ps' st s =
     let zero = zero_names k s.channel.partner s.ids names in
     let limits = link_limits m.config m.manage st.managed s.ids.qos s.cube e.is_cube in
     let partner = st.journal.allocated k s.end conn.end e.allocated in
-    let far = beside m.ends m.ids partner.place partner.other st.own.alike partner.stands in
-    let flow = st.own.flows k partner.place s.end partner.other s.ids far.0 s.line conn (record { end = partner.stands; ids_are = far.1 }) s.is_line partner.partner in
+    let flow = direction_out (config_of m) m.clock (LinkCloud m.config m.channels ps below) m.ends m.ids lines st.own k partner.place s.end partner.other s.ids s.line conn partner.stands s.is_line partner.partner e.allocated in
     let cube : flow.cube ≡ s.cube = one_cube m.config m.manage flow.cube s.ids.qos flow.is_cube ∙ sym (one_cube m.config m.manage s.cube s.ids.qos e.is_cube) in
     let c : Constants = constants (config_of m) s.cube s.ids in
     let holds : DirectionHolds c s.line = subst (λ (x : Cube). DirectionHolds (constants (config_of m) x s.ids) s.line) cube flow.backed.holds in
@@ -217,12 +216,11 @@ acknowledging_serves_links m lines ps below k cause lines' ps' st s =
     let zero = zero_names k s.channel.partner s.ids names in
     let limits = link_limits m.config m.manage st.managed s.ids.qos s.cube e.is_cube in
     let partner = s.inbound.partner in
-    let near = beside m.ends m.ids s.from partner st.own.alike s.inbound.is_partner in
-    let flow = st.own.flows s.from k partner s.end near.0 s.ids s.line (record { end = s.inbound.is_partner; ids_are = near.1 }) conn s.inbound.is_line s.inbound.partners in
-    let near_is : near.0 ≡ flipped s.ids = sym (ap flipped flow.mirror) in
-    let cube : flow.cube ≡ s.cube = one_cube m.config m.manage flow.cube near.0.qos flow.is_cube ∙ sym (one_cube m.config m.manage s.cube s.ids.qos e.is_cube) in
+    let named = st.journal.named s.from k partner s.end s.inbound.is_partner conn.end s.inbound.partners in
+    let flow = direction_in (config_of m) m.clock (LinkCloud m.config m.channels ps below) m.ends m.ids lines st.own s.from k partner s.end s.ids s.line s.inbound.is_partner conn s.inbound.is_line s.inbound.partners e.allocated named.cube in
+    let cube : flow.cube ≡ s.cube = one_cube m.config m.manage flow.cube s.ids.qos flow.is_cube ∙ sym (one_cube m.config m.manage s.cube s.ids.qos e.is_cube) in
     let c : Constants = constants (config_of m) s.cube (flipped s.ids) in
-    let holds : DirectionHolds c s.line = subst (λ (x : Cube). DirectionHolds (constants (config_of m) x (flipped s.ids)) s.line) cube (subst (λ (z : Ids). DirectionHolds (constants (config_of m) flow.cube z) s.line) near_is flow.backed.holds) in
+    let holds : DirectionHolds c s.line = subst (λ (x : Cube). DirectionHolds (constants (config_of m) x (flipped s.ids)) s.line) cube flow.backed.holds in
     let ack : Ack = record { ack = next_of s.line.line.receiver - 1; right = right_of c s.line } in
     let fit = ack_fits m.config m.manage s.cube (flipped s.ids) s.ids ack st.managed.config zero.scep zero.dcep zero.qos (small_ack c s.line limits holds s.due) in
     let mpl = limits.mpl in

@@ -1,14 +1,10 @@
 -- The flows of a DIF stand whatever the management connections of its links do.
-use Rattle.std.proofs.Common.{◌≡◌, ◌≢◌, ℕ, ◌+◌, ◌^◌, ◌≤◌, ◌&&◌, not, cond, eqb, Bool, true, false, List, [], ◌∷◌, length, length-set, slice_get, slice_set, Some, None, Option, refl, sym, ◌∙◌, ap, subst, arith, inl, inr, ◌⊎◌}
+use Rattle.std.proofs.Common.{◌≡◌, ℕ, ◌+◌, ◌^◌, Bool, List, [], ◌∷◌, length-set, slice_get, slice_set, Some, None, Option, refl, sym, ◌∙◌, ap, subst, arith, inl, inr}
 use Rattle.std.specs.Prelude.{sum_by}
 use Rattle.std.proofs.lemmas.Bool.Decides.{eqb_tells}
 use Rattle.std.proofs.lemmas.List.Sums.{sum_by-cons}
-use Rattle.rina_account.specs.Account.{Counts, key_eq, off_count}
-use Rattle.rina_account.specs.declared.ledger.Off.{Off}
 use Rattle.rina_base.specs.declared.number.Key.{Key}
-use Rattle.rina_base.specs.declared.number.Port.{Port}
 use Rattle.rina_base.specs.declared.pdu.Pdu.{Pdu}
-use Rattle.rina_base.specs.Pdus.{key_of}
 use Rattle.rina_cube.specs.declared.Cube.{Cube}
 use Rattle.rina_iface.specs.declared.ends.End.{End}
 use Rattle.rina_iface.specs.Journal.{AreKept}
@@ -26,29 +22,28 @@ use Rattle.rina_data.specs.declared.link.Link.{Link}
 use Rattle.rina_data.specs.Configs.{Config, Member, cube_by}
 use Rattle.rina_data.specs.Hops.{Hop, opened}
 use Rattle.rina_data.specs.Process.{Process, link_by, with_offs, with_put}
-use Rattle.rina_dif_law.specs.Accounted.{IsAccounted, IsBalanced, Resends, bears, bears_on, counts_of, over_ends, taken_with}
+use Rattle.rina_dif_law.specs.Accounted.{IsAccounted, bears, bears_on, counts_of, over_ends, taken_with}
 use Rattle.rina_dif_law.specs.Carried.{IsCarrying}
-use Rattle.rina_dif_law.specs.Cloud.{Cloud, Everywhere, IsMine}
+use Rattle.rina_dif_law.specs.Cloud.{Cloud, Everywhere}
 use Rattle.rina_dif_law.specs.Dif.{DifSeen, IsProcess}
-use Rattle.rina_dif_law.specs.Ids.{Ids}
+use Rattle.rina_dif_law.specs.Ids.{Ids, IsOfLink}
 use Rattle.rina_dif_law.specs.Numbered.{IsNumbered}
 use Rattle.rina_dif_law.specs.Standing.{IsOwn}
 use Rattle.rina_dif_law.proofs.Accounting.{item_one, left_at, offs_more, put_more}
 use Rattle.rina_dif_law.proofs.After.{NoMore, after_none, after_passed}
 use Rattle.rina_dif_law.proofs.Arrivals.{arrival}
-use Rattle.rina_dif_law.proofs.Balancing.{AreSame, balanced_moved, moved_same}
+use Rattle.rina_dif_law.proofs.Balancing.{AreSame}
 use Rattle.rina_dif_law.proofs.Carries.{passes_of_others_carry}
 use Rattle.rina_dif_law.proofs.Clouds.{cloud_after, covers_less, requeued_none}
 use Rattle.rina_dif_law.proofs.Ends.{same_some}
-use Rattle.rina_dif_law.proofs.Flows.{acks_apart, flow_kept, pieces_apart}
+use Rattle.rina_dif_law.proofs.Own.{own_no_flow}
 use Rattle.rina_dif_law.proofs.Frame.{stands_with}
 use Rattle.rina_dif_law.proofs.Going.{lost_stands}
-use Rattle.rina_dif_law.proofs.Keys.{one, one_not}
+use Rattle.rina_dif_law.proofs.OfLinks.{NotOfLink, accounted_but, none_noted, not_bears, not_bears_on, not_borne, once_if}
 use Rattle.rina_dif_law.proofs.Queues.{JustItems, requeued_put, requeued_same, same_links}
 use Rattle.rina_dif_law.proofs.Relaying.{has_taken, link_named, named_at, within_kept}
 use Rattle.rina_dif_law.proofs.Taking.{still_stands}
-use Rattle.rina_channel.specs.FlowLaws.{AreLinesOfLinks, FlowsStand, HasNoZero, NotesLinks, PutsLinks, ServesLinks}
-use Rattle.rina_channel.specs.Names.{IsOfLink}
+use Rattle.rina_channel.specs.FlowLaws.{FlowsStand, NotesLinks, PutsLinks, ServesLinks}
 use Rattle.rina_channel.specs.OwnLaws.{HasNoManagement}
 
 -- ---- the directions
@@ -58,62 +53,12 @@ none_some o cube n s = cc
 
 -- PDUs of links are of no flow
 own_links : (g : Config) (now life : ℕ) (cloud cloud' : ℕ → Pdu → Type 0) (ends : List End) (conns : List Ids) (lines : List Direction) → HasNoManagement g → IsOwn g now cloud ends conns lines → CoversBut now cloud IsOfLink life cloud' → IsOwn g now cloud' ends conns lines
-own_links g now life cloud cloud' ends conns lines none own covers = record {
-  alike = own.alike;
-  lines_alike = own.lines_alike;
-  apart = own.apart;
-  ids = own.ids;
-  flows = λ i k a b c f line x y z p.
-      let old = own.flows i k a b c f line x y z p in
-      let other : (pdu : Pdu) → IsOfLink pdu → pdu.qos ≡ c.qos → ⊥ = λ pdu of qos. none_some (cube_by 0 g.cubes) old.cube none (subst (λ (q : ℕ). cube_by q g.cubes ≡ Some old.cube) (sym qos ∙ of.qos) old.is_cube) in
-      flow_kept g now cloud cloud' a b a b c f line
-      (pieces_apart now cloud cloud' c IsOfLink life covers (λ pdu of kind from. other pdu of from.qos))
-      (acks_apart now cloud cloud' c IsOfLink life covers (λ pdu of kind from. other pdu of from.qos)) refl refl refl old;
-}
+own_links g now life cloud cloud' ends conns lines none own covers = own_no_flow g now cloud ends conns lines own cloud' IsOfLink life covers (λ pdu of is. elim is [
+  | inl other ↦ other of.scep
+  | inr cube ↦ none_some (cube_by 0 g.cubes) cube.0 none (subst (λ (q : ℕ). cube_by q g.cubes ≡ Some cube.0) of.qos cube.1)
+])
 
 -- ---- the account
-
--- a key that is of no link
-abbrev NotOfLink : Key → Type 0
-NotOfLink k = k.src ≡ 0 → k.scep ≡ 0 → ⊥
-
--- a key of a link is not accounted for at an IPC process whose address is not 0
-unaccounted : (addr : ℕ) (k : Key) (resends : Type 0) (n : Counts) → addr ≢ 0 → k.src ≡ 0 → k.scep ≡ 0 → IsBalanced addr k resends n
-unaccounted addr k resends n positive src scep = record {
-  foreign = λ kind other some. absurd (some scep);
-  own = λ kind own. absurd (positive (sym own ∙ src));
-  once = λ kind own none. absurd (positive (sym own ∙ src));
-  foreign_ack = λ kind other some. absurd (some scep);
-  own_ack = λ kind own. absurd (positive (sym own ∙ src));
-}
-
-key_cases : (k : Key) → ((k.src ≡ 0) × (k.scep ≡ 0)) ⊎ NotOfLink k
-key_cases k = elim (eqb_tells k.src 0) [
-  | inl s ↦ elim (eqb_tells k.scep 0) [
-    | inl t ↦ inl (s.1, t.1)
-    | inr f ↦ inr (λ src scep. f.1 scep)
-  ]
-  | inr f ↦ inr (λ src scep. f.1 src)
-]
-
--- the account goes on where the counts of the other keys stay
-accounted_but : (d d' : DifSeen) (flows : List Direction) (below below' : Seen) → d'.config ≡ d.config → HasNoZero d.config → IsAccounted d flows below → ((port : Port) (e : End) → end_of below' port ≡ Some e → IsMine d'.config.members e.app → e.taken ≤ length e.got) → ((i : ℕ) (ids : Ids) → slice_get d'.conns i ≡ Some ids → ids.own ≢ ids.far)
-    → ((addr cep : ℕ) → Resends d addr cep → Resends d' addr cep)
-    → ((i : ℕ) (m : Member) (p' : Process) (k : Key) → IsProcess d' i m p' → NotOfLink k → (p : Process) × IsProcess d i m p × AreSame (counts_of d flows below m p k) (counts_of d' flows below' m p' k)) → IsAccounted d' flows below'
-accounted_but d d' flows below below' config zero a passed apart resends each = record {
-  passed = passed;
-  apart = apart;
-  balanced = λ i m p' k is. elim (key_cases k) [
-    | inl of ↦ unaccounted m.addr k (Resends d' m.addr k.scep) (counts_of d' flows below' m p' k) (zero.members i m (subst (λ (g : Config). slice_get g.members i ≡ Some m) config is.is_member)) of.0 of.1
-    | inr other ↦
-        let b = each i m p' k is other in
-        balanced_moved m.addr k (Resends d m.addr k.scep) (Resends d' m.addr k.scep) (counts_of d flows below m b.0 k) (counts_of d' flows below' m p' k) (a.balanced i m b.0 k b.1) (resends m.addr k.scep) (moved_same m.addr k (Resends d' m.addr k.scep) (counts_of d flows below m b.0 k) (counts_of d' flows below' m p' k) b.2)
-  ];
-}
-
--- a PDU of a link does not bear another key
-not_borne : (k : Key) (pdu : Pdu) → NotOfLink k → IsOfLink pdu → one k (key_of pdu) ≡ 0
-not_borne k pdu other of = one_not k (key_of pdu) (λ o. other (o.src ∙ of.src) (o.scep ∙ of.scep))
 
 none_put : (k : Key) (items : List Queued) → NotOfLink k → ((item : Queued) → In item items → IsOfLink item.pdu) → sum_by (item_one k) items ≡ 0
 none_put k [] other all = refl
@@ -123,15 +68,6 @@ none_put k (item ∷ items) other all =
     let rest = none_put k items other (λ x one. all x (inr one)) in
     omega (arith, whole, here, rest)
 
-none_noted : (k : Key) (offs : List Off) → NotOfLink k → AreLinesOfLinks offs → off_count offs k ≡ 0
-none_noted k [] other all = refl
-none_noted k (off ∷ offs) other all =
-    let whole : off_count (off ∷ offs) k ≡ one k off.key + off_count offs k = sum_by-cons (λ (line : Off). one k line.key) off offs in
-    let of = all off (inl refl) in
-    let here : one k off.key ≡ 0 = one_not k off.key (λ o. other (o.src ∙ of.0) (o.scep ∙ of.1)) in
-    let rest = none_noted k offs other (λ x one. all x (inr one)) in
-    omega (arith, whole, here, rest)
-
 -- ---- one IPC process changes
 
 module _ (d : DifSeen) (flows : List Direction) (below : Seen) (h : FlowsStand d flows below) (i : ℕ) (process new : Process) (is_process : slice_get d.processes i ≡ Some process) where
@@ -139,7 +75,7 @@ module _ (d : DifSeen) (flows : List Direction) (below : Seen) (h : FlowsStand d
   d' = record d { processes = slice_set d.processes i new }
 
   left_accounted : ((k : Key) → NotOfLink k → left_at new k ≡ left_at process k) → IsAccounted d' flows below
-  left_accounted left = accounted_but d d' flows below below refl h.zero h.accounted h.accounted.passed h.accounted.apart
+  left_accounted left = accounted_but d d' flows below below h.zero.members h.accounted h.accounted.passed h.accounted.apart
       (λ addr cep r. record { place = r.place; ids = r.ids; stands = r.stands; own = r.own; scep = r.scep; cube = r.cube; is_cube = r.is_cube; reliable = r.reliable })
       (λ j m p' k is other. elim (set_at d.processes i j process new p' is_process is.is_process) [
         | inl t ↦
@@ -221,19 +157,6 @@ links_leave_flows d flows below ps' h s = elim (s.1) [
 
 -- ---- a PDU of a link is taken
 
-abbrev once_if : Bool → ℕ
-once_if b = cond b 1 0
-
-not_bears : (k : Key) (hop : Hop) → NotOfLink k → IsOfLink hop.pdu → once_if (bears k (Some hop)) ≡ 0
-not_bears k hop other of = not_borne k hop.pdu other of
-
-not_bears_on : (addr : ℕ) (k : Key) (hop : Hop) → NotOfLink k → IsOfLink hop.pdu → once_if (bears_on addr k (Some hop)) ≡ 0
-not_bears_on addr k hop other of = go (key_eq k (key_of hop.pdu)) (not_borne k hop.pdu other of)
-  where
-    go : (b : Bool) → once_if b ≡ 0 → once_if (b && not (eqb hop.pdu.dst addr)) ≡ 0
-    go false e = refl
-    go true e = absurd (omega (arith, e))
-
 pub taking_leaves_flows : (d : DifSeen) (flows : List Direction) (below : Seen) (i n : ℕ) (member : Member) (process : Process) (link : Link) (entry : Entry) (hop : Hop) (below' : Seen) → AreKept below → AreKept below' → FlowsStand d flows below → IsProcess d i member process → link_by n process.links ≡ Some link → unpassed below link.port ≡ Some entry → opened d.config.widths entry.bytes ≡ Some hop → IsOfLink hop.pdu → PassesBelow below link.port below' → FlowsStand d flows below'
 taking_leaves_flows d flows below i n member process link entry hop below' kept kept' h is is_link oldest opens of w =
     let later = later_passes below link.port below' w in
@@ -260,7 +183,7 @@ taking_leaves_flows d flows below i n member process link entry hop below' kept 
       stands = still_stands d flows below below' h.stands after (ap (λ (s : Seen). s.now) w.new_is);
       numbered = record { members = h.numbered.members; addressed = h.numbered.addressed; counted = h.numbered.counted; named = λ death pdu x. (let o = covers death pdu x (omega arith) in h.numbered.named o.0 pdu o.2) };
       carrying = passes_of_others_carry d flows below link.port below' kept kept' later h.carrying w;
-      accounted = accounted_but d d flows below below' refl h.zero h.accounted (λ port e here mine. within_kept below' kept' port e here) h.accounted.apart (λ addr cep r. r)
+      accounted = accounted_but d d flows below below' h.zero.members h.accounted (λ port e here mine. within_kept below' kept' port e here) h.accounted.apart (λ addr cep r. r)
           (λ j m q k there other. (
             q,
             there,

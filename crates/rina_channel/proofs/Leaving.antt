@@ -32,7 +32,8 @@ use Rattle.rina_data.specs.Queueing.{IsPassedOn, line_for}
 use Rattle.rina_dif_law.specs.Cloud.{Waits}
 use Rattle.rina_dif_law.specs.Dif.{DifSeen, constants}
 use Rattle.rina_dif_law.specs.Ending.{IsEnded}
-use Rattle.rina_dif_law.specs.Incoming.{IsArrived, Settles, SettlesOff, written_off}
+use Rattle.rina_dif_law.specs.Ids.{IsOfLink}
+use Rattle.rina_dif_law.specs.Incoming.{IsArrived, IsInTime, Settles, SettlesFlow, SettlesOff, written_off}
 use Rattle.rina_dif_law.specs.Losing.{FailAll, FailFirst, Loses}
 use Rattle.rina_dif_law.specs.Passing.{IsPassed}
 use Rattle.rina_dif_law.specs.Sending.{IsOffered, Offers, made_items, offered_pieces}
@@ -41,7 +42,6 @@ use Rattle.rina_dif_law.proofs.Own.{map_at}
 use Rattle.rina_dif_law.proofs.Queues.{made_item, requeued_put}
 use Rattle.rina_channel.specs.Changes.{LeavesLinks}
 use Rattle.rina_channel.specs.Channels.{HasLive}
-use Rattle.rina_channel.specs.Names.{IsOfLink}
 use Rattle.rina_channel.specs.OwnLaws.{HasNoManagement}
 use Rattle.rina_channel.proofs.LinkClouds.{leaves_refl}
 use Rattle.rina_channel.proofs.Putting.{leaves_same, live_same}
@@ -156,13 +156,19 @@ module _ (d : DifSeen) (lines : List Direction) (i : ℕ) (member : Member) (pro
   settled_off (causes.Broken missing) s = arrived (Some (causes.Broken missing)) s.2
   settled_off (causes.LinkDown down) s = absurd s
 
-  pub settling_leaves : (end : Took) → (IsOfLink hop.pdu → ⊥) → Settles d lines i member process at hop end d' lines' → LeavesLinks d.processes d'.processes
-  settling_leaves took.Accepted other s = elim (s.2) [
+  flow_leaves : (end : Took) → (IsInTime d at hop → IsOfLink hop.pdu → ⊥) → SettlesFlow d lines i member process at hop end d' lines' → LeavesLinks d.processes d'.processes
+  flow_leaves took.Accepted other s = elim (s.2) [
     | inl x ↦ arrived None x
     | inr x ↦ leaves_is d.processes d'.processes (ap (λ (z : DifSeen). z.processes) x.new_is)
   ]
-  settling_leaves took.Relayed other s = subst (λ (z : DifSeen). LeavesLinks d.processes z.processes) (sym s.2.new_is) (passed_on d.config.cap d.processes i process at hop s.2.process' is_process other s.2.passed)
-  settling_leaves (took.Off cause) other s = settled_off cause s
+  flow_leaves took.Relayed other s = subst (λ (z : DifSeen). LeavesLinks d.processes z.processes) (sym s.2.new_is) (passed_on d.config.cap d.processes i process at hop s.2.process' is_process (other s.0) s.2.passed)
+  flow_leaves (took.Off cause) other s = settled_off cause s
+
+  pub settling_leaves : (end : Took) → Settles d lines i member process at hop end d' lines' → LeavesLinks d.processes d'.processes
+  settling_leaves end s = elim s [
+    | inl flow ↦ flow_leaves end flow.0 flow.1
+    | inr link ↦ subst (λ (z : DifSeen). LeavesLinks d.processes z.processes) (sym link.new_is) (noted d.processes i process _ _ is_process refl)
+  ]
 
 -- ---- a link is lost
 

@@ -15,6 +15,7 @@ pub mod Linking
 pub mod Making
 pub mod Noting
 pub mod Others
-pub mod Pairs
 pub mod Putting
+pub mod Received
 pub mod Rows
+pub mod Unnaming

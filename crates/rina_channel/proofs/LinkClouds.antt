@@ -10,11 +10,12 @@ use Rattle.rina_data.specs.Configs.{Config}
 use Rattle.rina_data.specs.Process.{Process}
 use Rattle.rina_dif_law.proofs.After.{IsAfter, NoMore, after_none}
 use Rattle.rina_dif_law.proofs.Clouds.{IsGiven, IsPut, NoItem, Requeued, cloud_after, requeued_none}
+use Rattle.rina_dif_law.specs.Ids.{IsOfLink}
 use Rattle.rina_channel.specs.declared.channel.Channel.{Channel}
 use Rattle.rina_channel.specs.Changes.{LeavesLinks}
 use Rattle.rina_channel.specs.Channels.{HasLive, IsLive}
 use Rattle.rina_channel.specs.LinkCloud.{IsOn, LinkCloud, scope_of}
-use Rattle.rina_channel.specs.Names.{IsOfLink, named}
+use Rattle.rina_channel.specs.Names.{named}
 
 -- no link becomes live
 abbrev pub LiveBefore : List Process → List Process → Type 0

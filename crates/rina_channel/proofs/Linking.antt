@@ -1,6 +1,7 @@
 -- A DIF gets its first channels, and a channel's link becomes live.
 use Rattle.std.proofs.Common.{◌≡◌, ◌≢◌, ℕ, List, [], length, length-set, slice_get, slice_set, Some, refl, sym, ◌∙◌, ap, subst, arith, inl, inr, ◌⊎◌}
 use Rattle.std.proofs.lemmas.Bool.Decides.{eqb_tells}
+use Rattle.std.proofs.lemmas.Option.{none-some}
 use Rattle.rina_base.specs.declared.number.Port.{Port}
 use Rattle.rina_iface.specs.declared.ends.End.{End}
 use Rattle.rina_iface.specs.Seen.{Seen}
@@ -9,12 +10,12 @@ use Rattle.rina_law.specs.Backed.{Covers}
 use Rattle.rina_law.specs.Direction.{Direction}
 use Rattle.rina_data.specs.Process.{Process}
 use Rattle.rina_dif_law.specs.Cloud.{IsOnWay, OneLink, Waits}
-use Rattle.rina_dif_law.specs.Ids.{Ids}
+use Rattle.rina_dif_law.specs.Ids.{Ids, IsOfLink}
 use Rattle.rina_channel.specs.declared.channel.Channel.{Channel}
 use Rattle.rina_channel.specs.Channels.{AreChannels, ChannelsSeen, HasLive, IsFlowBelow}
 use Rattle.rina_channel.specs.LinkCloud.{LinkCloud}
 use Rattle.rina_channel.specs.Making.{HasNone, IsLinkLive}
-use Rattle.rina_channel.specs.Names.{IsOfLink, link_config, named, names_at}
+use Rattle.rina_channel.specs.Names.{link_config, named, names_at}
 use Rattle.rina_channel.specs.Standing.{IsStanding}
 use Rattle.rina_channel.proofs.Frame.{held, link_limits}
 use Rattle.rina_channel.proofs.Rows.{holds_covered}
@@ -45,9 +46,24 @@ none_stand m lines ps below h = record {
   own = record {
     alike = ap (λ (xs : List Ids). length xs) h.ids ∙ sym (ap (λ (xs : List End). length xs) h.ends);
     lines_alike = ap (λ (xs : List Direction). length xs) h.lines_are ∙ sym (ap (λ (xs : List End). length xs) h.ends);
-    apart = λ i k c f x y own scep. absurd (none_in m.ids i c h.ids x);
+    flows = [];
+    places = [];
+    entered = record {
+      places_alike = sym (ap (λ (xs : List End). length xs) h.ends);
+      each = λ i e c x conn z. absurd (none_in m.ends i e h.ends conn.end);
+      once = λ i k x y z w f t. absurd (none-some x z);
+      named = λ i k a b x y z w f t q. absurd (none_in m.ends i a h.ends z);
+      apart = λ i k a b x y z w f t q. absurd (none_in m.ends i a h.ends z);
+      all = λ n side flow point z is. absurd (none-some flow z);
+    };
+    ledger = record {
+      flow = λ i f e. absurd (none-some f e);
+      ids = λ i j f g t u a b e e' is is' same un un'. absurd (none-some f e);
+      fours = λ i j f g u v e e' same. absurd (none-some f e);
+      alive = λ death four comes alive. absurd (none_in m.channels comes.in_cloud.place comes.in_cloud.channel h.channels comes.in_cloud.stands);
+    };
     ids = λ i e c x. absurd (none_in m.ends i e h.ends x.end);
-    flows = λ i k a b c f line x y z p. absurd (none_in m.ends i a h.ends x.end);
+    flows_are = λ i k a b x flow far line z w p f t q l. absurd (none_in m.ends i a h.ends z);
   };
 }
 

@@ -1,7 +1,7 @@
 -- A flow below between two members gets its channels.
-use Rattle.std.proofs.Common.{◌≡◌, ◌≢◌, ℕ, suc, ◌<◌, ◌≤◌, List, [], ◌∷◌, ◌++◌, cond, eqb, length, slice_get, Some, None, Option, refl, sym, ◌∙◌, ap, subst, arith, inl, inr, ◌⊎◌, true, false, Bool}
+use Rattle.std.proofs.Common.{◌≡◌, ◌≢◌, ℕ, suc, ◌≤◌, List, [], ◌∷◌, ◌++◌, cond, eqb, length, slice_get, Some, None, Option, refl, sym, ◌∙◌, ap, subst, arith, inl, inr, ◌⊎◌, true, false, Bool}
 use Rattle.std.proofs.lemmas.Bool.Decides.{eqb_tells}
-use Rattle.std.proofs.lemmas.Option.{slice_get_within}
+use Rattle.std.proofs.lemmas.Option.{same_Some, slice_get_within}
 use Rattle.rina_base.specs.declared.number.Port.{Port}
 use Rattle.rina_base.specs.declared.pdu.Pdu.{Pdu}
 use Rattle.rina_cube.specs.declared.Cube.{Cube}
@@ -13,16 +13,15 @@ use Rattle.rina_iface.specs.Seen.{Seen, end_of}
 use Rattle.rina_iface.proofs.Grown.{dated_none, still_at}
 use Rattle.rina_law.specs.Backed.{Covers}
 use Rattle.rina_law.specs.Direction.{Direction}
-use Rattle.rina_law.proofs.Backing.{start_backed}
 use Rattle.rina_data.specs.Configs.{Config, cube_by}
 use Rattle.rina_data.specs.Process.{Process}
-use Rattle.rina_dif_law.specs.Dif.{constants}
-use Rattle.rina_dif_law.specs.Ids.{AcksOf, Ids, IsFrom, PiecesOf, flipped}
-use Rattle.rina_dif_law.specs.Standing.{AreIds, IsConn, IsFlow, IsJournal, IsOwn}
-use Rattle.rina_dif_law.proofs.Binding.{two_at}
+use Rattle.rina_dif_law.specs.Ids.{Ids}
+use Rattle.rina_dif_law.specs.Standing.{AreIds, IsJournal, IsOwn}
 use Rattle.rina_dif_law.proofs.Finding.{beside}
-use Rattle.rina_dif_law.proofs.Flows.{flow_kept}
-use Rattle.rina_dif_law.proofs.Own.{covered, partner_back}
+use Rattle.rina_dif_law.specs.Places.{Place}
+use Rattle.rina_dif_law.proofs.Own.{end_of_flow, partner_back}
+use Rattle.rina_dif_law.proofs.OwnMade.{IsBlank, own_made}
+use Rattle.rina_rest.specs.Flows.{Endpoint, IsFree}
 use Rattle.rina_channel.specs.declared.channel.Channel.{Channel}
 use Rattle.rina_channel.specs.Channels.{AreChannels, ChannelsSeen, HasLive, IsFlowBelow}
 use Rattle.rina_channel.specs.LinkCloud.{IsOn, LinkCloud}
@@ -30,7 +29,7 @@ use Rattle.rina_channel.specs.Making.{AreMade, IsNewFlow, IsUnused, begun}
 use Rattle.rina_channel.specs.Names.{link_config, names_at}
 use Rattle.rina_channel.specs.Rows.{config_of}
 use Rattle.rina_channel.specs.Standing.{IsStanding}
-use Rattle.rina_channel.proofs.Pairs.{first_at, first_beside, old_beside, second_at, second_beside, two_long}
+use Rattle.rina_dif_law.proofs.Pairs.{first_at, second_at, two_at, two_long}
 
 -- the cube of management has the id of management
 by_eq : (manage : Cube) (b : Bool) → b ≡ true → cond b (Some manage) None ≡ Some manage
@@ -179,37 +178,6 @@ module _ (m : ChannelsSeen) (lines : List Direction) (ps : List Process) (below 
   made_covers : Covers m.clock cloud cloud'
   made_covers death pdu x alive = (death, omega arith, record { place = x.place; channel = x.channel; stands = none_new death pdu x; plain = x.plain; of_link = x.of_link; here = x.here; is = x.is })
 
-  -- a PDU comes from an old place
-  from_old : (death : ℕ) (pdu : Pdu) → cloud' death pdu → pdu.src < count
-  from_old death pdu x =
-      let lt = slice_get_within m.channels x.place x.channel (none_new death pdu x) in
-      let alike = st.channels.alike in
-      let src : pdu.src ≡ x.place = ap (λ (z : Pdu). z.src) x.is in
-      omega (arith, lt, alike, src)
-
-  none_from : (c : Ids) → count ≤ c.own → (death : ℕ) (pdu : Pdu) → cloud' death pdu → IsFrom c pdu → ⊥
-  none_from c le death pdu x from = (let lt = from_old death pdu x in let is = from.src in omega (arith, lt, is, le))
-
-  -- a direction between them starts
-  new_flow : (a b : End) (from to : ℕ) → IsUnused a → IsUnused b → count ≤ from → count ≤ to → IsFlow g m.clock cloud' a b (names_at from to) (names_at to from) (begun m from to)
-  new_flow a b from to unused its_unused own far_own =
-      let c : Ids = names_at from to in
-      record {
-        mirror = refl;
-        cube = m.manage;
-        is_cube = manage_is m.config m.manage st.managed.id;
-        backed = start_backed (constants g m.manage c) m.clock (PiecesOf cloud' c) (AcksOf cloud' c) st.managed.cube (λ death p x alive. none_from c own death x.pdu x.in_cloud x.from) (λ death p x alive. none_from (flipped c) far_own death x.pdu x.in_cloud x.from);
-        sent = sym unused.sent;
-        got = sym its_unused.got;
-        passed = sym its_unused.taken;
-      }
-
-  flow_there : IsFlow g m.clock cloud' asker end near_ids far_ids there
-  flow_there = new_flow asker end count (suc count) made.unused made.its_unused (omega arith) (omega arith)
-
-  flow_here : IsFlow g m.clock cloud' end asker far_ids near_ids back
-  flow_here = new_flow end asker (suc count) count made.its_unused made.unused (omega arith) (omega arith)
-
   -- ---- the journal
 
   roles_clash : (e f : End) → e.role ≡ Asker → f.role ≡ Far → e.role ≡ f.role → ⊥
@@ -295,13 +263,6 @@ module _ (m : ChannelsSeen) (lines : List Direction) (ps : List Process) (below 
 
   -- ---- the directions
 
-  conn_cases : (i : ℕ) (e : End) (c : Ids) → IsConn ends' ids' i e c → IsConn m.ends m.ids i e c ⊎ (((i ≡ count) × (e ≡ asker) × (c ≡ near_ids)) ⊎ ((i ≡ suc count) × (e ≡ end) × (c ≡ far_ids)))
-  conn_cases i e c x = elim (two_at m.ends asker end i e x.end) [
-    | inl o ↦ inl (record { end = o; ids_are = old_beside m.ends m.ids near_ids far_ids i e c st.own.alike o x.ids_are })
-    | inr (inl t) ↦ inr (inl (t.0, t.1, first_beside m.ends m.ids near_ids far_ids i c st.own.alike t.0 x.ids_are))
-    | inr (inr t) ↦ inr (inr (t.0, t.1, second_beside m.ends m.ids near_ids far_ids i c st.own.alike t.0 x.ids_are))
-  ]
-
   -- the own name of an end is its place
   own_place : (i : ℕ) (c : Ids) → slice_get m.ids i ≡ Some c → c.own ≡ i
   own_place i c h =
@@ -309,52 +270,52 @@ module _ (m : ChannelsSeen) (lines : List Direction) (ps : List Process) (below 
       let is : c ≡ names_at i x.0.partner = ids_same (slice_get m.ids i) c (names_at i x.0.partner) h (st.channels.names i x.0 x.1) in
       ap (λ (z : Ids). z.own) is
 
-  own_place' : (i : ℕ) (c : Ids) → slice_get ids' i ≡ Some c → c.own ≡ i
-  own_place' i c h = elim (two_at m.ids near_ids far_ids i c h) [
-    | inl o ↦ own_place i c o
-    | inr (inl t) ↦ ap (λ (z : Ids). z.own) t.1 ∙ sym st.own.alike ∙ sym t.0
-    | inr (inr t) ↦ ap (λ (z : Ids). z.own) t.1 ∙ ap suc (sym st.own.alike) ∙ sym t.0
-  ]
-
   are_near : AreIds g asker near_ids
   are_near = (let room = made.room in record { own = omega arith; far = omega arith; scep = omega arith; dcep = omega arith; qos = sym made.cube })
 
   are_far : AreIds g end far_ids
   are_far = (let room = made.room in record { own = omega arith; far = omega arith; scep = omega arith; dcep = omega arith; qos = sym made.cube ∙ sym made.named.cube })
 
-  flows_of : (i k : ℕ) (a b : End) (c f : Ids) (l : Direction) → IsConn ends' ids' i a c → IsConn ends' ids' k b f → slice_get (lines ++ there ∷ back ∷ []) i ≡ Some l → IsPartner a b → IsFlow g m.clock cloud' a b c f l
-  flows_of i k a b c f l x y z p = elim (conn_cases i a c x) [
-    | inl o ↦ elim (conn_cases k b f y) [
-      | inl q ↦
-          let all = covered m.clock cloud cloud' c made_covers in
-          flow_kept g m.clock cloud cloud' a b a b c f l all.pieces all.acks refl refl refl (st.own.flows i k a b c f l o q (old_beside m.ends lines there back i a l st.own.lines_alike o.end z) p)
-      | inr (inl t) ↦ absurd (made.fresh i a o.end (sym p.same_flow ∙ ap (λ (e : End). e.flow) t.1))
-      | inr (inr t) ↦ absurd (not_end i a o.end (sym p.same_flow ∙ ap (λ (e : End). e.flow) t.1))
-    ]
-    | inr (inl s) ↦ elim (conn_cases k b f y) [
-      | inl q ↦ absurd (made.fresh k b q.end (p.same_flow ∙ ap (λ (e : End). e.flow) s.1))
-      | inr (inl t) ↦ absurd (p.other_role (ap (λ (e : End). e.role) (t.1 ∙ sym s.1)))
-      | inr (inr t) ↦ rw (s.1, t.1, s.2, t.2, first_beside m.ends lines there back i l st.own.lines_alike s.0 z) flow_there
-    ]
-    | inr (inr s) ↦ elim (conn_cases k b f y) [
-      | inl q ↦ absurd (not_end k b q.end (p.same_flow ∙ ap (λ (e : End). e.flow) s.1))
-      | inr (inl t) ↦ rw (s.1, t.1, s.2, t.2, second_beside m.ends lines there back i l st.own.lines_alike s.0 z) flow_here
-      | inr (inr t) ↦ absurd (p.other_role (ap (λ (e : End). e.role) (t.1 ∙ sym s.1)))
-    ]
-  ]
+  -- the name of a place that is new is free
+  place_free : (place : ℕ) → count ≤ place → IsFree m.clock st.own.flows place 0
+  place_free place le i flow side point at is addr cep =
+      let here : Place = record { flow = i; side = side } in
+      let p = st.own.entered.all i side flow point at is in
+      let e = beside st.own.places m.ends p.0 here (sym st.own.entered.places_alike) p.1 in
+      let c = beside m.ends m.ids p.0 e.0 st.own.alike e.1 in
+      let end = end_of_flow g m.clock cloud m.ends m.ids lines st.own p.0 e.0 c.0 here flow (record { end = e.1; ids_are = c.1 }) p.1 at in
+      let same : end.point ≡ point = same_Some end.point point (sym end.is ∙ is) in
+      let is_place : c.0.own ≡ p.0 = own_place p.0 c.0 c.1 in
+      let lt = slice_get_within m.ends p.0 e.0 e.1 in
+      let own : c.0.own ≡ place = end.own ∙ ap (λ (z : Endpoint). z.addr) same ∙ addr in
+      absurd (omega (arith, lt, is_place, own, le))
+
+  blank : (e : End) → IsUnused e → IsBlank e
+  blank e u = record { sent = u.sent; got = u.got; taken = u.taken }
 
   made_own : IsOwn g m.clock cloud' ends' ids' (lines ++ there ∷ back ∷ [])
-  made_own = record {
-    alike = two_long m.ids m.ends near_ids far_ids asker end st.own.alike;
-    lines_alike = two_long lines m.ends there back asker end st.own.lines_alike;
-    apart = λ i k c f x y own scep. sym (own_place' i c x) ∙ own ∙ own_place' k f y;
-    ids = λ i e c x. elim (conn_cases i e c x) [
-      | inl o ↦ st.own.ids i e c o
-      | inr (inl t) ↦ rw (t.1, t.2) are_near
-      | inr (inr t) ↦ rw (t.1, t.2) are_far
-    ];
-    flows = flows_of;
-  }
+  made_own = own_made g m.clock cloud cloud' m.ends m.ids lines st.own asker end near_ids there back m.manage (record {
+    covers = made_covers;
+    is_cube = manage_is m.config m.manage st.managed.id;
+    limits = st.managed.cube;
+    fresh = made.fresh;
+    same_flow = made.same_flow;
+    asks = made.asks;
+    answers = made.answers;
+    asker_up = made.unused.state;
+    end_up = made.its_unused.state;
+    asker_cube = made.cube;
+    end_cube = made.named.cube ∙ made.cube;
+    apart = λ is. omega arith;
+    free = place_free count (omega arith);
+    far_free = place_free (suc count) (omega arith);
+    asker_blank = blank asker made.unused;
+    end_blank = blank end made.its_unused;
+    asker_ids = are_near;
+    end_ids = are_far;
+    there_is = refl;
+    back_is = refl;
+  })
 
   pub made_stands : IsStanding m' lines' ps below
   made_stands = subst (λ (z : ChannelsSeen). IsStanding z lines' ps below) (sym made.new_is) (subst (λ (ls : List Direction). IsStanding (record m { channels = channels'; ends = ends'; ids = ids' }) ls ps below) (sym made.lines_are)

@@ -35,12 +35,12 @@ unnamed_are offs all off one =
     (ap (λ (z : Off). z.key.src) m.2, ap (λ (z : Off). z.key.scep) m.2 ∙ all m.0 m.1)
 
 -- the far CEP-id of an end of a link is 0
-far_zero : (m : ChannelsSeen) (lines : List Direction) (ps : List Process) (below : Seen) (k : ℕ) (ids : Ids) → IsStanding m lines ps below → slice_get m.ids k ≡ Some ids → ids.dcep ≡ 0
+pub far_zero : (m : ChannelsSeen) (lines : List Direction) (ps : List Process) (below : Seen) (k : ℕ) (ids : Ids) → IsStanding m lines ps below → slice_get m.ids k ≡ Some ids → ids.dcep ≡ 0
 far_zero m lines ps below k ids st is =
     let c = beside m.ids m.channels k ids (st.channels.alike ∙ sym st.own.alike) is in
     ap (λ (z : Ids). z.dcep) (ids_same (slice_get m.ids k) ids (names_at k c.0.partner) is (st.channels.names k c.0 c.1))
 
-in_both : {X : Type 0} (xs ys : List X) (x : X) → In x (xs ++ ys) → In x xs ⊎ In x ys
+pub in_both : {X : Type 0} (xs ys : List X) (x : X) → In x (xs ++ ys) → In x xs ⊎ In x ys
 in_both [] ys x h = inr h
 in_both (z ∷ zs) ys x (inl is) = inl (inl is)
 in_both (z ∷ zs) ys x (inr more) = elim (in_both zs ys x more) [ inl o ↦ inl (inr o) | inr n ↦ inr n ]

@@ -161,7 +161,7 @@ resent_stands m lines ps below k cause lines' ps' st s =
     let covers = posts_cover m ps ps' below st.channels k s.channel e.stands m.config.cap m.clock s.cube.mpl (unnamed pdu) cause (λ p. p ≡ pdu) s.posted (named_piece k s.channel.partner s.ids (piece_again s.number s.line.line.sender) names) in
     subst (λ (ls : List Direction). IsStanding m ls ps' below) (sym s.lines_are)
     (stands_with m lines _ m.clock m.ends ps ps' below below st st.clock refl (posts_live m ps ps' below st.channels k s.channel e.stands m.config.cap m.clock s.cube.mpl (unnamed pdu) cause s.posted) (λ near far f. f)
-    (holds_again (config_of m) m.clock (LinkCloud m.config m.channels ps below) (LinkCloud m.config m.channels ps' below) m.ends m.ids lines (link_limits m.config m.manage st.managed) (held m lines ps below st) k s.number s.end s.ids s.cube s.line e.is_conn e.is_cube s.is_line s.due covers))
+    (holds_again (config_of m) m.clock (LinkCloud m.config m.channels ps below) (LinkCloud m.config m.channels ps' below) m.ends m.ids lines (link_limits m.config m.manage st.managed) (held m lines ps below st) k s.number s.end s.ids s.cube s.line e.is_conn e.allocated e.is_cube s.is_line s.due covers))
 
 -- ---- an acknowledgement is made
 
@@ -174,4 +174,4 @@ acknowledged_stands m lines ps below k cause lines' ps' st s =
     let covers = posts_cover m ps ps' below st.channels k s.channel e.stands m.config.cap m.clock s.cube.mpl (unnamed pdu) cause (λ p. p ≡ pdu) s.posted (named_ack k s.channel.partner s.ids ack names) in
     subst (λ (ls : List Direction). IsStanding m ls ps' below) (sym s.lines_are)
     (stands_with m lines _ m.clock m.ends ps ps' below below st st.clock refl (posts_live m ps ps' below st.channels k s.channel e.stands m.config.cap m.clock s.cube.mpl (unnamed pdu) cause s.posted) (λ near far f. f)
-    (holds_acknowledged (config_of m) m.clock (LinkCloud m.config m.channels ps below) (LinkCloud m.config m.channels ps' below) m.ends m.ids lines (link_limits m.config m.manage st.managed) (held m lines ps below st) k s.end s.ids s.cube e.is_conn e.is_cube s.from s.line s.inbound s.due covers))
+    (holds_acknowledged (config_of m) m.clock (LinkCloud m.config m.channels ps below) (LinkCloud m.config m.channels ps' below) m.ends m.ids lines (link_limits m.config m.manage st.managed) (held m lines ps below st) k s.end s.ids s.cube e.is_conn e.allocated e.is_cube s.from s.line s.inbound s.due covers))

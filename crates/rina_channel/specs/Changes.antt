@@ -9,10 +9,10 @@ use Rattle.rina_queue.specs.declared.queue.Queued.{Queued}
 use Rattle.rina_data.specs.Process.{IsQueue, Process, Queue, with_offs, with_put}
 use Rattle.rina_data.specs.Queueing.{line_for}
 use Rattle.rina_dif_law.specs.Cloud.{Waits}
+use Rattle.rina_dif_law.specs.Ids.{IsOfLink}
 use Rattle.rina_channel.specs.declared.channel.Channel.{Channel}
 use Rattle.rina_channel.specs.Channels.{ChannelsSeen, HasLive, IsLive}
 use Rattle.rina_channel.specs.LinkCloud.{LinkCloud}
-use Rattle.rina_channel.specs.Names.{IsOfLink}
 
 -- no PDU of a management connection begins to wait, and no link becomes live
 pub record LeavesLinks (old new : List Process) : Type 0 where

@@ -22,7 +22,7 @@ use Rattle.rina_data.specs.Process.{Process, Queue, link_by, with_offs, with_put
 use Rattle.rina_dif_law.specs.Accounted.{IsAccounted}
 use Rattle.rina_dif_law.specs.Carried.{IsCarrying}
 use Rattle.rina_dif_law.specs.Dif.{DifSeen, IsProcess}
-use Rattle.rina_dif_law.specs.Ids.{Ids}
+use Rattle.rina_dif_law.specs.Ids.{Ids, IsOfLink}
 use Rattle.rina_dif_law.specs.Incoming.{lines_for}
 use Rattle.rina_dif_law.specs.Numbered.{IsNumbered}
 use Rattle.rina_dif_law.specs.Standing.{IsItem, IsStanding as DifStands}
@@ -31,7 +31,6 @@ use Rattle.rina_flows.specs.Rows.{ArrivesAt, TakesAt}
 use Rattle.rina_channel.specs.Changes.{LeavesLinks}
 use Rattle.rina_channel.specs.Channels.{ChannelsSeen}
 use Rattle.rina_channel.specs.Ledgers.{unnamed_line}
-use Rattle.rina_channel.specs.Names.{IsOfLink}
 use Rattle.rina_channel.specs.OwnLaws.{HasNoManagement}
 use Rattle.rina_channel.specs.Rows.{IsAcknowledgedOn, IsOfferedOn, IsResentOn, config_of}
 use Rattle.rina_channel.specs.Standing.{IsStanding}

@@ -26,19 +26,19 @@ use Rattle.rina_data.specs.Hops.{Hop, opened}
 use Rattle.rina_data.specs.Process.{Process}
 use Rattle.rina_dif_law.specs.Cloud.{IsMine}
 use Rattle.rina_dif_law.specs.Dif.{DifSeen}
-use Rattle.rina_dif_law.specs.Ids.{Ids}
+use Rattle.rina_dif_law.specs.Ids.{Ids, IsOfLink}
 use Rattle.rina_dif_law.specs.Incoming.{Ins}
 use Rattle.rina_dif_law.specs.Lawful.{IsLawfulFlow}
 use Rattle.rina_dif_law.specs.Lifting.{IsLifted, ticked}
 use Rattle.rina_dif_law.specs.Outgoing.{Outs}
-use Rattle.rina_dif_law.specs.Standing.{IsConn, IsStanding as DifStands}
+use Rattle.rina_dif_law.specs.Standing.{IsStanding as DifStands}
 use Rattle.rina_flows.specs.Ending.{EndsAt, ForgetsAt}
 use Rattle.rina_flows.specs.Rows.{ArrivesAt, PassedAt, TakesAt, ToldAt}
 use Rattle.rina_channel.specs.declared.channel.Channel.{Channel}
 use Rattle.rina_channel.specs.Changes.{IsAwaited, LeavesLinks}
 use Rattle.rina_channel.specs.Channels.{ChannelsSeen}
 use Rattle.rina_channel.specs.LinkCloud.{LinkCloud}
-use Rattle.rina_channel.specs.Names.{IsOfLink, link_config, named}
+use Rattle.rina_channel.specs.Names.{link_config, named, names_at}
 use Rattle.rina_channel.specs.Rows.{IsAcknowledgedOn, IsOfferedOn, IsResentOn, config_of}
 use Rattle.rina_channel.specs.Standing.{IsStanding}
 
@@ -153,5 +153,5 @@ MessagesAreKept = (m : ChannelsSeen) (lines : List Direction) (processes : List 
 
 -- and each direction keeps the law of a connection: of its pieces, its acknowledgements and its state
 abbrev pub MessagesAreLawful : Type 0
-MessagesAreLawful = (m : ChannelsSeen) (lines : List Direction) (processes : List Process) (below : Seen) (i k : ℕ) (end partner : End) (ids : Ids) (line : Direction) →
-    IsStanding m lines processes below → IsConn m.ends m.ids i end ids → At m.ends k partner → IsPartner end partner → slice_get lines i ≡ Some line → IsLawfulFlow (config_of m) m.clock (LinkCloud m.config m.channels processes below) end partner ids line
+MessagesAreLawful = (m : ChannelsSeen) (lines : List Direction) (processes : List Process) (below : Seen) (i k : ℕ) (end partner : End) (line : Direction) →
+    IsStanding m lines processes below → At m.ends i end → At m.ends k partner → IsPartner end partner → slice_get lines i ≡ Some line → IsLawfulFlow (config_of m) m.clock (LinkCloud m.config m.channels processes below) (Unit {0}) end partner (names_at i k) line

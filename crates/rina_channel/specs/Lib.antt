@@ -2,6 +2,7 @@ pub mod Adding
 pub mod CallLaws
 pub mod Changes
 pub mod Channels
+pub mod Coming
 pub mod FlowLaws
 pub mod Laws
 pub mod Ledgers

@@ -5,9 +5,10 @@ use Rattle.rina_iface.specs.Seen.{Seen}
 use Rattle.rina_data.specs.Configs.{Config}
 use Rattle.rina_data.specs.Process.{Process}
 use Rattle.rina_dif_law.specs.Cloud.{IsOnWay, IsQueued, OneLink, Scope}
+use Rattle.rina_dif_law.specs.Ids.{IsOfLink}
 use Rattle.rina_channel.specs.declared.channel.Channel.{Channel}
 use Rattle.rina_channel.specs.Channels.{IsLive}
-use Rattle.rina_channel.specs.Names.{IsOfLink, named}
+use Rattle.rina_channel.specs.Names.{named}
 
 -- the link of a channel
 abbrev pub scope_of : Channel → Scope

@@ -4,6 +4,7 @@ use Rattle.std.specs.Prelude.{◌≡◌, ◌≢◌, ℕ, suc, ◌^◌, ◌<◌, 
 use Rattle.rina_base.specs.declared.number.Port.{Port}
 use Rattle.rina_base.specs.declared.pdu.Pdu.{Pdu}
 use Rattle.rina_iface.specs.declared.ends.End.{End}
+use Rattle.rina_iface.specs.declared.state.PortState.TheVariants.{Allocated}
 use Rattle.rina_iface.specs.declared.state.Role.TheVariants.{Asker, Far}
 use Rattle.rina_iface.specs.Journal.{At, IsNamed}
 use Rattle.rina_iface.specs.Seen.{Seen}
@@ -12,11 +13,12 @@ use Rattle.rina_queue.specs.declared.queue.Queued.{Queued}
 use Rattle.rina_data.specs.Process.{Process}
 use Rattle.rina_dif_law.specs.Cloud.{Waits}
 use Rattle.rina_dif_law.specs.Dif.{constants}
+use Rattle.rina_dif_law.specs.Ids.{IsOfLink}
 use Rattle.rina_dif_law.specs.Lifting.{ticked}
 use Rattle.rina_channel.specs.declared.channel.Channel.{Channel}
 use Rattle.rina_channel.specs.Channels.{ChannelsSeen, HasLive, IsFlowBelow}
 use Rattle.rina_channel.specs.LinkCloud.{IsOn}
-use Rattle.rina_channel.specs.Names.{IsOfLink, names_at}
+use Rattle.rina_channel.specs.Names.{names_at}
 use Rattle.rina_channel.specs.Rows.{config_of}
 use Rattle.rina_channel.specs.Standing.{IsManaged, IsStanding}
 
@@ -39,6 +41,7 @@ NoneStand = (m : ChannelsSeen) (lines : List Direction) (processes : List Proces
 
 -- nothing was offered or handled at an end
 pub record IsUnused (e : End) : Type 0 where
+  pub state : e.state ≡ Allocated
   pub sent : e.sent ≡ []
   pub got : e.got ≡ []
   pub taken : e.taken ≡ 0

@@ -1,4 +1,4 @@
--- The names of a management connection: on the wire, where all are 0, and by the places of its two ends.
+-- The names of a management connection between its two ends, by their places. On the wire all are 0.
 use Rattle.std.specs.Prelude.{ℕ, ◌+◌, [], ◌∷◌}
 use Rattle.rina_base.specs.declared.pdu.Pdu.{Pdu}
 use Rattle.rina_base.specs.declared.pdu.PduKind.TheVariants.{Piece}
@@ -6,17 +6,7 @@ use Rattle.rina_cube.specs.declared.Cube.{Cube}
 use Rattle.rina_pci.specs.declared.widths.Widths.{Widths}
 use Rattle.rina_pci.specs.Spelling.{pci_size}
 use Rattle.rina_data.specs.Configs.{Config, piece_size}
-use Rattle.rina_dif_law.specs.Ids.{Ids, IsFrom}
-
--- On the wire
-
--- the names that the PDUs of every link's management connection bear
-abbrev pub link_names : Ids
-link_names = record { own = 0; far = 0; scep = 0; dcep = 0; qos = 0 }
-
--- a PDU is one of a link's management connection
-abbrev pub IsOfLink : Pdu → Type 0
-IsOfLink pdu = IsFrom link_names pdu
+use Rattle.rina_dif_law.specs.Ids.{Ids}
 
 -- Between the ends
 

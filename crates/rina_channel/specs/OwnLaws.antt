@@ -22,7 +22,6 @@ use Rattle.rina_dif_law.specs.Passing.{IsPassed}
 use Rattle.rina_dif_law.specs.Sending.{Offers}
 use Rattle.rina_dif_law.specs.Timely.{IsAcknowledged, IsForgotten, IsResent}
 use Rattle.rina_channel.specs.Changes.{LeavesLinks}
-use Rattle.rina_channel.specs.Names.{IsOfLink}
 
 -- no cube of the DIF has the id of management
 abbrev pub HasNoManagement : Config → Type 0
@@ -35,10 +34,10 @@ SendsLeaveLinks = (d : DifSeen) (lines : List Direction) (at : ℕ) (parts : Lis
 abbrev pub PassesLeaveLinks : Type 0
 PassesLeaveLinks = (d : DifSeen) (lines : List Direction) (at : ℕ) (d' : DifSeen) (lines' : List Direction) → IsPassed d lines at d' lines' → LeavesLinks d.processes d'.processes
 
--- a PDU came that is of no link
+-- a PDU came: one of a flow, or of a link, for which only lines are written
 abbrev pub SettlingLeavesLinks : Type 0
 SettlingLeavesLinks = (d : DifSeen) (lines : List Direction) (i : ℕ) (member : Member) (process : Process) (at : ℕ) (hop : Hop) (end : Took) (d' : DifSeen) (lines' : List Direction) →
-    slice_get d.processes i ≡ Some process → (IsOfLink hop.pdu → ⊥) → Settles d lines i member process at hop end d' lines' → LeavesLinks d.processes d'.processes
+    slice_get d.processes i ≡ Some process → Settles d lines i member process at hop end d' lines' → LeavesLinks d.processes d'.processes
 
 abbrev pub AcknowledgingLeavesLinks : Type 0
 AcknowledgingLeavesLinks = (d : DifSeen) (lines : List Direction) (at : ℕ) (cause : Option Cause) (d' : DifSeen) (lines' : List Direction) →

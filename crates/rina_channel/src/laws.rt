@@ -2,6 +2,7 @@
 //! The connection of each link keeps delta-t's law over what waits for the link and was sent on it, whatever the DIF does
 //! for its flows, and whatever is lost, repeated or delayed below.
 ghost use Rattle.rina_channel.specs.CallLaws.{CallsChangeEnds, CallsForPiecesArrive, CallsThatAcknowledgeDo, CallsThatOfferDo, CallsThatPassDo, CallsThatSendAgainDo};
+ghost use Rattle.rina_channel.specs.Coming.{TakingOnLinksIsLawful, TakingOnLinksStands};
 ghost use Rattle.rina_channel.specs.FlowLaws.{AcknowledgingServesLinks, ArrivalsNoteLinks, EndingNotesLinks, ForgettingNotesLinks, LinksLeaveFlows, MessagesServeLinks, NotingLeavesLinks, ResendingServesLinks, TakingLeavesFlows};
 ghost use Rattle.rina_channel.specs.Laws.{AcknowledgingStands, AcksStand, BesideStands, ComingIsAwaited, ComingIsCovered, EndingStands, ForgettingStands, InStepsOfOthersStand, MessagesAreKept, MessagesAreLawful, MessagesStand, OtherPdusStand, OutStepsOfOthersStand, OutStepsStand, PassingStands, PiecesStand, ResendingStands, SendsOfOthersStand, TakingStands, TimeStands};
 ghost use Rattle.rina_channel.specs.Making.{LinkingStands, MakingStands, NoneStand};
@@ -49,12 +50,15 @@ pub fn flows_leave_channels()
 {}
 
 /// What comes on a link was sent on it, and a PDU that comes in time is one that the channel of the link may still take.
-/// Management connections stand after it arrived, and after a message was passed.
+/// Management connections stand after it arrived, with lawful lines for what they write off, and after a message was
+/// passed.
 pub fn arrivals_keep_channels()
     ensures covered { ComingIsCovered }
     ensures awaited { ComingIsAwaited }
     ensures piece { PiecesStand }
     ensures ack { AcksStand }
+    ensures take { TakingOnLinksStands }
+    ensures lawful { TakingOnLinksIsLawful }
     ensures pass { PassingStands }
 {}
 

@@ -14,5 +14,5 @@ pub use laws::{
     flows_leave_channels, links_get_channels, messages_are_kept, out_steps_keep_channels,
     rows_keep_channels, the_rank_below_keeps_channels,
 };
-pub use ledger::unname_lines;
+pub use ledger::{stop_with_room, unname_lines};
 pub use names::{is_of_link, named, unname, unnamed};

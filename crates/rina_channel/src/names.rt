@@ -1,7 +1,8 @@
 //! The names that the PDUs of a management connection bear: on a link all are 0, and between its ends their places.
 ghost use Rattle.std.specs.Prelude.{◌≡◌, ◌↔◌, map, IsTrue};
 ghost use Rattle.rina_base.specs.Pdus.{pdu_of};
-ghost use Rattle.rina_channel.specs.Names.{IsOfLink, named, unnamed};
+ghost use Rattle.rina_dif_law.specs.Ids.{IsOfLink};
+ghost use Rattle.rina_channel.specs.Names.{named, unnamed};
 
 use rina_base::{Addr, Pdu, PduView};
 

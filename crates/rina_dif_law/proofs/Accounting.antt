@@ -221,7 +221,7 @@ passed_accounted d lines below at d' lines' a s =
     let ends' : List End = slice_set d.ends at (with_passed s.end) in
     let new : DifSeen = record d { ends = ends' } in
     let hold : (n : ℕ) → HoldSame lines (slice_set lines s.from line') n = λ n. hold_set lines s.from s.line line' n s.inbound.is_line refl in
-    let change = end_changed d.ends at s.end (with_passed s.end) s.is_conn.end in
+    let change = end_changed d.ends at s.end (with_passed s.end) s.is_conn.end refl refl in
     subst (λ (z : DifSeen). IsAccounted z lines' below) (sym s.new_is) (subst (λ (ls : List Direction). IsAccounted new ls below) (sym s.lines_are)
     (accounted_on d new lines (slice_set lines s.from line') below below a a.passed a.apart (λ i m p k is. record {
       process = p;

@@ -1,9 +1,9 @@
 -- A DIF that stands goes on to stand as a fixed flow is made.
-use Rattle.std.proofs.Common.{◌≡◌, ◌≢◌, ℕ, zero, suc, ◌+◌, ◌<◌, ◌≤◌, List, [], ◌∷◌, ◌++◌, cond, eqb, get_or, length, length-append, slice_get, Some, refl, sym, ◌∙◌, ap, subst, arith, inl, inr, ◌⊎◌, true, ◌==◌}
+use Rattle.std.proofs.Common.{◌≡◌, ◌≢◌, ℕ, suc, ◌+◌, ◌<◌, ◌≤◌, List, [], ◌∷◌, ◌++◌, cond, eqb, get_or, length, slice_get, Some, refl, sym, ◌∙◌, ap, subst, arith, inl, inr, ◌⊎◌, true, ◌==◌}
 use Rattle.std.proofs.lemmas.Bool.Decides.{eqb_tells}
 use Rattle.std.proofs.lemmas.List.Quantifiers.{position-Some}
 use Rattle.std.proofs.lemmas.List.Sums.{sum_by-append}
-use Rattle.std.proofs.lemmas.Option.{get_or_from_slice_get, slice_get_within}
+use Rattle.std.proofs.lemmas.Option.{get_or_from_slice_get, same_Some}
 use Rattle.rina_base.specs.declared.number.FlowName.{FlowName}
 use Rattle.rina_base.specs.declared.pdu.Pdu.{Pdu}
 use Rattle.rina_iface.specs.declared.ask.Fixed.{Fixed}
@@ -18,68 +18,26 @@ use Rattle.rina_iface.specs.Seen.{Seen}
 use Rattle.rina_iface.proofs.Fresh.{fresh_port}
 use Rattle.rina_iface.proofs.Grown.{dated_none, still_at}
 use Rattle.rina_iface.proofs.Later.{ends_more}
-use Rattle.rina_law.specs.Direction.{Direction}
-use Rattle.rina_law.proofs.Backing.{start_backed}
+use Rattle.rina_cube.specs.declared.Cube.{Cube}
+use Rattle.rina_law.specs.Direction.{Direction, start}
 use Rattle.rina_dif_law.specs.Binding.{IsBound, MayDraw, asker_next, far_next, flow_next, ids_next}
 use Rattle.rina_dif_law.specs.Carried.{HasCome, HoldsCome, IsCarrying}
 use Rattle.rina_dif_law.specs.Cloud.{Cloud, Everywhere}
 use Rattle.rina_dif_law.specs.Dif.{DifSeen, constants, fac_of}
-use Rattle.rina_data.specs.Configs.{Member, piece_size}
-use Rattle.rina_dif_law.specs.Ids.{AcksOf, Ids, IsFrom, PiecesOf, flipped}
+use Rattle.rina_data.specs.Configs.{Member, cube_by, piece_size}
+use Rattle.rina_dif_law.specs.Ids.{Ids, flipped}
 use Rattle.rina_dif_law.specs.Numbered.{IsAddressed, IsCounted, IsNumbered, asked_at}
 use Rattle.rina_dif_law.specs.Sending.{home}
-use Rattle.rina_dif_law.specs.Standing.{AreIds, IsConfig, IsConn, IsFlow, IsJournal, IsOwn, IsStanding}
+use Rattle.rina_dif_law.specs.Standing.{AreIds, IsConn, IsJournal, IsOwn, IsStanding}
 use Rattle.rina_dif_law.specs.Start.{IsFresh}
 use Rattle.rina_dif_law.proofs.Finding.{beside, cube_limits}
 use Rattle.rina_dif_law.proofs.Joined.{none_joined}
 use Rattle.rina_dif_law.proofs.Numbering.{counts}
-use Rattle.rina_dif_law.proofs.Own.{partner_back}
-
--- ---- lists with two elements more
-
-pub two_at : {X : Type 0} → (xs : List X) (y z : X) (i : ℕ) (x : X) → slice_get (xs ++ y ∷ z ∷ []) i ≡ Some x → (slice_get xs i ≡ Some x) ⊎ (((i ≡ length xs) × (x ≡ y)) ⊎ ((i ≡ suc (length xs)) × (x ≡ z)))
-two_at [] y z zero x h = inr (inl (refl, cc))
-two_at [] y z (suc zero) x h = inr (inr (refl, cc))
-two_at [] y z (suc (suc i)) x h = cc
-two_at (w ∷ ws) y z zero x h = inl h
-two_at (w ∷ ws) y z (suc i) x h = elim (two_at ws y z i x h) [
-  | inl o ↦ inl o
-  | inr (inl a) ↦ inr (inl (ap suc a.0, a.1))
-  | inr (inr b) ↦ inr (inr (ap suc b.0, b.1))
-]
-
-first_at : {X : Type 0} → (xs : List X) (y z : X) → slice_get (xs ++ y ∷ z ∷ []) (length xs) ≡ Some y
-first_at [] y z = refl
-first_at (w ∷ ws) y z = first_at ws y z
-
-second_at : {X : Type 0} → (xs : List X) (y z : X) → slice_get (xs ++ y ∷ z ∷ []) (suc (length xs)) ≡ Some z
-second_at [] y z = refl
-second_at (w ∷ ws) y z = second_at ws y z
-
--- lists of one length: where one has an old element, so has the other, and so with the new ones
-old_beside : {X Y : Type 0} → (xs : List X) (ys : List Y) (u v : Y) (i : ℕ) (x : X) (w : Y) → length ys ≡ length xs → slice_get xs i ≡ Some x → slice_get (ys ++ u ∷ v ∷ []) i ≡ Some w → slice_get ys i ≡ Some w
-old_beside xs ys u v i x w same h g = elim (two_at ys u v i w g) [
-  | inl o ↦ o
-  | inr (inl a) ↦ (let lt = slice_get_within xs i x h in let at = a.0 in absurd (omega (arith, lt, at, same)))
-  | inr (inr b) ↦ (let lt = slice_get_within xs i x h in let at = b.0 in absurd (omega (arith, lt, at, same)))
-]
-
-first_beside : {X Y : Type 0} → (xs : List X) (ys : List Y) (u v : Y) (i : ℕ) (w : Y) → length ys ≡ length xs → i ≡ length xs → slice_get (ys ++ u ∷ v ∷ []) i ≡ Some w → w ≡ u
-first_beside xs ys u v i w same at g = elim (two_at ys u v i w g) [
-  | inl o ↦ (let lt = slice_get_within ys i w o in absurd (omega (arith, lt, at, same)))
-  | inr (inl a) ↦ a.1
-  | inr (inr b) ↦ (let is = b.0 in absurd (omega (arith, is, at, same)))
-]
-
-second_beside : {X Y : Type 0} → (xs : List X) (ys : List Y) (u v : Y) (i : ℕ) (w : Y) → length ys ≡ length xs → i ≡ suc (length xs) → slice_get (ys ++ u ∷ v ∷ []) i ≡ Some w → w ≡ v
-second_beside xs ys u v i w same at g = elim (two_at ys u v i w g) [
-  | inl o ↦ (let lt = slice_get_within ys i w o in absurd (omega (arith, lt, at, same)))
-  | inr (inl a) ↦ (let is = a.0 in absurd (omega (arith, is, at, same)))
-  | inr (inr b) ↦ b.1
-]
-
-two_long : {X Y : Type 0} → (xs : List X) (ys : List Y) (u v : X) (w z : Y) → length xs ≡ length ys → length (xs ++ u ∷ v ∷ []) ≡ length (ys ++ w ∷ z ∷ [])
-two_long xs ys u v w z same = length-append xs (u ∷ v ∷ []) ∙ ap (λ (n : ℕ). n + 2) same ∙ sym (length-append ys (w ∷ z ∷ []))
+use Rattle.rina_dif_law.specs.Lifting.{ticked}
+use Rattle.rina_dif_law.proofs.Own.{end_of_flow, partner_back}
+use Rattle.rina_dif_law.proofs.OwnMade.{own_made}
+use Rattle.rina_dif_law.proofs.Pairs.{first_at, first_beside, old_beside, second_at, second_beside, two_at}
+use Rattle.rina_rest.specs.Flows.{Endpoint, IsFree}
 
 -- ---- members and nodes
 
@@ -120,16 +78,6 @@ asked_first node ends x y is role =
     let one : counts node x ≡ 1 = elim (eqb_tells x.port.node node) [ inl t ↦ rw (t.0, role) refl | inr f ↦ absurd (f.1 is) ] in
     omega (arith, more, one)
 
--- ---- a flow that starts
-
--- nothing of the cloud is of its names
-new_flow : (d : DifSeen) (cloud : ℕ → Pdu → Type 0) (a b : End) (c : Ids) (line : Direction) → IsConfig d.config → a.sent ≡ [] → b.got ≡ [] → b.taken ≡ 0 → IsFresh d c line → ((death : ℕ) (pdu : Pdu) → cloud death pdu → IsFrom c pdu → ⊥) → ((death : ℕ) (pdu : Pdu) → cloud death pdu → IsFrom (flipped c) pdu → ⊥)
-    → IsFlow d.config d.clock cloud a b c (flipped c) line
-new_flow d cloud a b c line config sent got taken fresh none none_back =
-    let k = constants d.config fresh.cube c in
-    let backed = start_backed k d.clock (PiecesOf cloud c) (AcksOf cloud c) (cube_limits d.config c.qos fresh.cube config fresh.is_cube) (λ death p x alive. none death x.pdu x.in_cloud x.from) (λ death p x alive. none_back death x.pdu x.in_cloud x.from) in
-    subst (IsFlow d.config d.clock cloud a b c (flipped c)) (sym fresh.is) (record { mirror = refl; cube = fresh.cube; is_cube = fresh.is_cube; backed = backed; sent = sym sent; got = sym got; passed = sym taken })
-
 module _ (d : DifSeen) (lines : List Direction) (below : Seen) (st : IsStanding d lines below) (n : IsNumbered d below) where
   -- a member at its place
   same_member : (i k : ℕ) (a b : Member) → slice_get d.config.members i ≡ Some a → slice_get d.config.members k ≡ Some b → a.addr ≡ b.addr → a ≡ b
@@ -149,12 +97,15 @@ module _ (d : DifSeen) (lines : List Direction) (below : Seen) (st : IsStanding 
       let cep = a.cep in
       omega (arith, drawn', cep, scep)
 
-  -- so no PDU that may still come is from it
-  none_from : (node : ℕ) (member : Member) (c : Ids) → MayDraw d node member → c.own ≡ member.addr → c.scep ≡ drawn_at node d.ends + 1 → (death : ℕ) (pdu : Pdu) → Cloud Everywhere d.config d.processes below death pdu → IsFrom c pdu → ⊥
-  none_from node member c m own scep death pdu x from = elim (n.named death pdu x) [
-    | inl none ↦ (let is = from.scep in omega (arith, none, is, scep))
-    | inr of ↦ unused node member of.at of.ids m of.stands (sym of.src ∙ from.src ∙ own) (sym of.scep ∙ from.scep ∙ scep)
-  ]
+  -- so it is free
+  free : (node : ℕ) (member : Member) → MayDraw d node member → IsFree d.clock st.own.flows member.addr (drawn_at node d.ends + 1)
+  free node member m i flow side point at is addr cep =
+      let place = st.own.entered.all i side flow point at is in
+      let e = beside st.own.places d.ends place.0 (record { flow = i; side = side }) (sym st.own.entered.places_alike) place.1 in
+      let c = beside d.ends d.conns place.0 e.0 st.own.alike e.1 in
+      let end = end_of_flow d.config d.clock (Cloud Everywhere d.config d.processes below) d.ends d.conns lines st.own place.0 e.0 c.0 (record { flow = i; side = side }) flow (record { end = e.1; ids_are = c.1 }) place.1 at in
+      let same : end.point ≡ point = same_Some end.point point (sym end.is ∙ is) in
+      absurd (unused node member place.0 c.0 m c.1 (end.own ∙ ap (λ (z : Endpoint). z.addr) same ∙ addr) (end.scep ∙ ap (λ (z : Endpoint). z.cep) same ∙ cep))
 
   -- the name of the flow that a member asks for next is none that stands
   pub new_name : (node : ℕ) (member : Member) (i : ℕ) (e : End) → MayDraw d node member → At d.ends i e → e.flow ≢ flow_next d node member
@@ -309,25 +260,6 @@ module _ (d : DifSeen) (lines : List Direction) (below : Seen) (st : IsStanding 
       let b_is = test_passes d.config.members fixed.b b_draws.place of_b b_draws.at_home b_draws.stands in
       apart (sym a_is ∙ ap (λ (x : Member). x.node) is ∙ b_is)
 
-  ids_apart : (i k : ℕ) (c f : Ids) → slice_get conns' i ≡ Some c → slice_get conns' k ≡ Some f → c.own ≡ f.own → c.scep ≡ f.scep → i ≡ k
-  ids_apart i k c f x y own scep = elim (two_at d.conns ids (flipped ids) i c x) [
-    | inl o ↦ elim (two_at d.conns ids (flipped ids) k f y) [
-      | inl q ↦ st.own.apart i k c f o q own scep
-      | inr (inl t) ↦ absurd (unused d lines below st n fixed.a of_a i c a_draws o (own ∙ ap (λ (z : Ids). z.own) t.1) (scep ∙ ap (λ (z : Ids). z.scep) t.1))
-      | inr (inr t) ↦ absurd (unused d lines below st n fixed.b of_b i c b_draws o (own ∙ ap (λ (z : Ids). z.own) t.1) (scep ∙ ap (λ (z : Ids). z.scep) t.1))
-    ]
-    | inr (inl s) ↦ elim (two_at d.conns ids (flipped ids) k f y) [
-      | inl q ↦ absurd (unused d lines below st n fixed.a of_a k f a_draws q (sym own ∙ ap (λ (z : Ids). z.own) s.1) (sym scep ∙ ap (λ (z : Ids). z.scep) s.1))
-      | inr (inl t) ↦ s.0 ∙ sym t.0
-      | inr (inr t) ↦ absurd (addrs_apart (ap (λ (z : Ids). z.own) (sym s.1) ∙ own ∙ ap (λ (z : Ids). z.own) t.1))
-    ]
-    | inr (inr s) ↦ elim (two_at d.conns ids (flipped ids) k f y) [
-      | inl q ↦ absurd (unused d lines below st n fixed.b of_b k f b_draws q (sym own ∙ ap (λ (z : Ids). z.own) s.1) (sym scep ∙ ap (λ (z : Ids). z.scep) s.1))
-      | inr (inl t) ↦ absurd (addrs_apart (sym (ap (λ (z : Ids). z.own) (sym s.1) ∙ own ∙ ap (λ (z : Ids). z.own) t.1)))
-      | inr (inr t) ↦ s.0 ∙ sym t.0
-    ]
-  ]
-
   ids_fit : (e : End) → e.cube ≡ fixed.cube → AreIds d.config e ids
   ids_fit e cube =
       let a_room = a_draws.room in
@@ -345,49 +277,32 @@ module _ (d : DifSeen) (lines : List Direction) (below : Seen) (st : IsStanding 
     abbrev cloud : ℕ → Pdu → Type 0
     cloud = Cloud Everywhere d.config d.processes below
 
-    none_of : (death : ℕ) (pdu : Pdu) → cloud death pdu → IsFrom ids pdu → ⊥
-    none_of death pdu x from = none_from d lines below st n fixed.a of_a ids a_draws refl refl death pdu x from
-
-    none_back : (death : ℕ) (pdu : Pdu) → cloud death pdu → IsFrom (flipped ids) pdu → ⊥
-    none_back death pdu x from = none_from d lines below st n fixed.b of_b (flipped ids) b_draws refl refl death pdu x from
-
-    flow_there : IsFlow d.config d.clock cloud asker far ids (flipped ids) line
-    flow_there = new_flow d cloud asker far ids line st.config refl refl refl is_fresh none_of none_back
-
-    flow_back : IsFlow d.config d.clock cloud far asker (flipped ids) ids back
-    flow_back = new_flow d cloud far asker (flipped ids) back st.config refl refl refl is_fresh_back none_back none_of
-
-    flows_of : (i k : ℕ) (a b : End) (c f : Ids) (l : Direction) → IsConn ends' conns' i a c → IsConn ends' conns' k b f → slice_get lines' i ≡ Some l → IsPartner a b → IsFlow d.config d.clock cloud a b c f l
-    flows_of i k a b c f l x y z p = elim (conn_cases i a c x) [
-      | inl o ↦ elim (conn_cases k b f y) [
-        | inl q ↦ st.own.flows i k a b c f l o q (old_beside d.ends lines line back i a l st.own.lines_alike o.end z) p
-        | inr (inl t) ↦ absurd (fresh i a o.end (sym p.same_flow ∙ ap (λ (e : End). e.flow) t.1))
-        | inr (inr t) ↦ absurd (fresh i a o.end (sym p.same_flow ∙ ap (λ (e : End). e.flow) t.1))
-      ]
-      | inr (inl s) ↦ elim (conn_cases k b f y) [
-        | inl q ↦ absurd (fresh k b q.end (p.same_flow ∙ ap (λ (e : End). e.flow) s.1))
-        | inr (inl t) ↦ absurd (p.other_role (ap (λ (e : End). e.role) (t.1 ∙ sym s.1)))
-        | inr (inr t) ↦ rw (s.1, t.1, s.2, t.2, first_beside d.ends lines line back i l st.own.lines_alike s.0 z) flow_there
-      ]
-      | inr (inr s) ↦ elim (conn_cases k b f y) [
-        | inl q ↦ absurd (fresh k b q.end (p.same_flow ∙ ap (λ (e : End). e.flow) s.1))
-        | inr (inl t) ↦ rw (s.1, t.1, s.2, t.2, second_beside d.ends lines line back i l st.own.lines_alike s.0 z) flow_back
-        | inr (inr t) ↦ absurd (p.other_role (ap (λ (e : End). e.role) (t.1 ∙ sym s.1)))
-      ]
-    ]
+    one_cube : (x : Cube) → cube_by ids.qos d.config.cubes ≡ Some x → is_fresh.cube ≡ x
+    one_cube x is = (let here = is_fresh.is_cube in cc)
 
     bound_own : IsOwn d.config d.clock cloud ends' conns' lines'
-    bound_own = record {
-      alike = two_long d.conns d.ends ids (flipped ids) asker far st.own.alike;
-      lines_alike = two_long lines d.ends line back asker far st.own.lines_alike;
-      apart = ids_apart;
-      ids = λ i e c x. elim (conn_cases i e c x) [
-        | inl o ↦ st.own.ids i e c o
-        | inr (inl t) ↦ rw t.2 (ids_fit e (ap (λ (z : End). z.cube) t.1))
-        | inr (inr t) ↦ rw t.2 (ids_fit_back e (ap (λ (z : End). z.cube) t.1))
-      ];
-      flows = flows_of;
-    }
+    bound_own = own_made d.config d.clock cloud cloud d.ends d.conns lines st.own asker far ids line back is_fresh.cube (record {
+      covers = λ death pdu x alive. (death, omega arith, x);
+      is_cube = is_fresh.is_cube;
+      limits = cube_limits d.config ids.qos is_fresh.cube st.config is_fresh.is_cube;
+      fresh = fresh;
+      same_flow = refl;
+      asks = refl;
+      answers = refl;
+      asker_up = refl;
+      end_up = refl;
+      asker_cube = refl;
+      end_cube = refl;
+      apart = λ is. addrs_apart (sym is);
+      free = free d lines below st n fixed.a of_a a_draws;
+      far_free = free d lines below st n fixed.b of_b b_draws;
+      asker_blank = record { sent = refl; got = refl; taken = refl };
+      end_blank = record { sent = refl; got = refl; taken = refl };
+      asker_ids = ids_fit asker refl;
+      end_ids = ids_fit_back far refl;
+      there_is = is_fresh.is;
+      back_is = is_fresh_back.is ∙ ap (λ (x : Cube). ticked d.clock (start (constants d.config x (flipped ids)))) (sym (one_cube is_fresh_back.cube is_fresh_back.is_cube));
+    })
 
     nothing_come : (c : Ids) (l : Direction) → IsFresh d c l → (g : Ids) → HoldsCome d.config d.clock below g l
     nothing_come c l is g = subst (HoldsCome d.config d.clock below g) (sym is.is) (record {

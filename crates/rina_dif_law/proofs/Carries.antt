@@ -32,13 +32,13 @@ use Rattle.rina_data.specs.declared.step.StepError.{StepError}
 use Rattle.rina_data.specs.declared.step.StepError.TheVariants.{Memory, NoIpc, NoLink}
 use Rattle.rina_data.specs.declared.step.Took.{Took}
 use Rattle.rina_data.specs.declared.step.Took.TheVariants as took
-use Rattle.rina_dif_law.specs.Carried.{HasCome, HoldsCome, IsCarrying}
+use Rattle.rina_dif_law.specs.Carried.{HasCome, IsCarrying}
 use Rattle.rina_data.specs.Hops.{Hop, opened}
 use Rattle.rina_dif_law.specs.Dif.{DifSeen, constants}
-use Rattle.rina_data.specs.Configs.{Member, piece_size}
+use Rattle.rina_data.specs.Configs.{Member}
 use Rattle.rina_data.specs.Process.{Process, with_put, with_offs}
 use Rattle.rina_dif_law.specs.Ids.{flipped}
-use Rattle.rina_dif_law.specs.Incoming.{Ins, IsArrived, IsInTime, IsTold, Settles, SettlesOff}
+use Rattle.rina_dif_law.specs.Incoming.{Ins, IsArrived, IsInTime, IsTold, Settles, SettlesFlow, SettlesOff}
 use Rattle.rina_dif_law.specs.Lifting.{IsLifted, ticked}
 use Rattle.rina_data.specs.Outgoing.{Goes, sent_bytes}
 use Rattle.rina_dif_law.specs.Outgoing.{IsStep, Outs}
@@ -47,13 +47,12 @@ use Rattle.rina_dif_law.specs.Sending.{IsOffered, Offers, made_items, offered, o
 use Rattle.rina_dif_law.specs.Standing.{IsStanding}
 use Rattle.rina_dif_law.specs.Timely.{IsAcknowledged, IsForgotten, IsResent}
 use Rattle.rina_dif_law.specs.Start.{IsStart}
+use Rattle.rina_dif_law.proofs.Starting.{no_end}
 use Rattle.rina_dif_law.proofs.After.{IsAfter, Just, NoMore, after_lifted, after_none, after_passed, after_sent}
 use Rattle.rina_dif_law.proofs.Arrivals.{IsArrival, arrival}
 use Rattle.rina_dif_law.proofs.Carrying.{WasLine, arrived_carrying, carrying_same, end_set, end_was, line_set, line_was, passed_end}
 use Rattle.rina_dif_law.proofs.Coming.{alive_arrival}
 use Rattle.rina_dif_law.proofs.Ends.{same_some}
-use Rattle.rina_dif_law.proofs.Finding.{beside}
-use Rattle.rina_dif_law.proofs.Joined.{none_joined}
 use Rattle.rina_dif_law.proofs.Own.{map_at}
 
 none_in : {X : Type 0} (xs : List X) (i : ℕ) (x : X) → xs ≡ [] → slice_get xs i ≡ Some x → ⊥
@@ -64,15 +63,8 @@ none_in (y ∷ ys) i x e h = cc
 
 pub start_carries : (d : DifSeen) (lines : List Direction) (below : Seen) → IsStart d lines below → IsCarrying d lines below
 start_carries d lines below s = record {
-  entries = λ i j e ids x conn h. absurd (none_in e.got j x ((s.empty i e conn.end).1) h);
-  holding = λ i from e ids line conn h.
-      let c = beside d.ends d.conns from h.partner s.alike h.is_partner in
-      let fresh = s.fresh from c.0 line c.1 h.is_line in
-      subst (HoldsCome d.config d.clock below ids) (sym fresh.is) (record {
-        joined = none_joined (piece_size d.config) (HasCome d.config below ids d.clock);
-        held = λ p x. absurd x;
-        sized = λ p x. absurd x;
-      });
+  entries = λ i j e ids x conn h. absurd (no_end d.ends i e s.no_ends conn.end);
+  holding = λ i from e ids line conn h. absurd (no_end d.ends i e s.no_ends conn.end);
 }
 
 -- ---- the own state alone
@@ -232,13 +224,19 @@ module _ (d : DifSeen) (lines : List Direction) (below below' : Seen) (st : IsSt
   settles_off_carries (causes.Broken missing) d' lines' s = arrived_carries (Some (causes.Broken missing)) d' lines' s.0 s.1 s.2
   settles_off_carries (causes.LinkDown down) d' lines' s = absurd s
 
-  settles_carry : (end : Took) (d' : DifSeen) (lines' : List Direction) → Settles d lines i member process entry.tick hop end d' lines' → IsCarrying d' lines' below'
-  settles_carry took.Accepted d' lines' s = elim (s.2) [
+  flow_carries : (end : Took) (d' : DifSeen) (lines' : List Direction) → SettlesFlow d lines i member process entry.tick hop end d' lines' → IsCarrying d' lines' below'
+  flow_carries took.Accepted d' lines' s = elim (s.2) [
     | inl x ↦ arrived_carries None d' lines' s.0 s.1 x
     | inr x ↦ told_carries d' lines' x
   ]
-  settles_carry took.Relayed d' lines' s = noted_carries d' lines' _ s.2.new_is s.3
-  settles_carry (took.Off cause) d' lines' s = settles_off_carries cause d' lines' s
+  flow_carries took.Relayed d' lines' s = noted_carries d' lines' _ s.2.new_is s.3
+  flow_carries (took.Off cause) d' lines' s = settles_off_carries cause d' lines' s
+
+  settles_carry : (end : Took) (d' : DifSeen) (lines' : List Direction) → Settles d lines i member process entry.tick hop end d' lines' → IsCarrying d' lines' below'
+  settles_carry end d' lines' s = elim s [
+    | inl flow ↦ flow_carries end d' lines' flow.1
+    | inr link ↦ noted_carries d' lines' _ link.new_is link.lines_are
+  ]
 
 pub ins_carry : (d : DifSeen) (lines : List Direction) (below : Seen) (i n : ℕ) (r : Result InStep StepError) (d' : DifSeen) (lines' : List Direction) (below' : Seen) → AreKept below → AreKept below' → IsStanding d lines below → IsCarrying d lines below → Ins d lines below i n r d' lines' below' → IsCarrying d' lines' below'
 ins_carry d lines below i n (Ok in_.Idle) d' lines' below' kept kept' st c s = same_carries d lines below d' lines' below' s.1 s.2 s.3 c

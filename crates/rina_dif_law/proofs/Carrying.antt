@@ -25,16 +25,15 @@ use Rattle.rina_dif_law.specs.Cloud.{Cloud, Everywhere, IsMember}
 use Rattle.rina_data.specs.Configs.{Config, piece_size}
 use Rattle.rina_dif_law.specs.Dif.{DifSeen, constants}
 use Rattle.rina_data.specs.Process.{Process, with_offs}
-use Rattle.rina_dif_law.specs.Ids.{Ids, IsFrom, PiecesOf, flipped}
+use Rattle.rina_dif_law.specs.Ids.{Ids, PiecesOf, flipped}
 use Rattle.rina_dif_law.specs.Incoming.{IsArrived, IsInbound, arrived, found, landed, lines_for, whole_by}
-use Rattle.rina_dif_law.specs.Standing.{IsConn, IsFlow, IsJournal, IsStanding}
+use Rattle.rina_dif_law.specs.Standing.{IsConn, IsDirection, IsJournal, IsStanding}
 use Rattle.rina_dif_law.proofs.After.{IsAfter}
 use Rattle.rina_dif_law.proofs.Ends.{IsEndAt, at_end}
-use Rattle.rina_dif_law.proofs.Finding.{beside}
 use Rattle.rina_dif_law.proofs.Forgot.{by_found, found_clock, found_got}
 use Rattle.rina_dif_law.proofs.Joined.{IsWholeOf, after_known, none_joined}
 use Rattle.rina_dif_law.proofs.Journals.{IsConst, const_refl, partner_was, was_end}
-use Rattle.rina_dif_law.proofs.Own.{map_at, one_partner, partner_back}
+use Rattle.rina_dif_law.proofs.Own.{direction_in, map_at, one_partner, partner_back}
 
 -- what has come stays, as time goes on and more is passed
 
@@ -132,9 +131,9 @@ held_after NoState kind present now p rx q i = inl i
 held_after NoRoom kind present now p rx q i = inl i
 
 -- a piece of the cloud is as long as it is to be
-pub arriving_sized : (g : Config) (now : ℕ) (cloud : ℕ → Pdu → Type 0) (a b : End) (c f : Ids) (line : Direction) (death : ℕ) (p : Piece) → IsFlow g now cloud a b c f line → PiecesOf cloud c death p → now ≤ death → IsSized (piece_size g) p.part
-arriving_sized g now cloud a b c f line death p h x alive =
-    let there = h.backed.pieces_in death p x alive in
+pub arriving_sized : (g : Config) (now : ℕ) (cloud : ℕ → Pdu → Type 0) (a b : End) (c : Ids) (line : Direction) (death : ℕ) (p : Piece) → IsDirection g now cloud (Unit {0}) a b c line → PiecesOf cloud c death p → now ≤ death → IsSized (piece_size g) p.part
+arriving_sized g now cloud a b c line death p h x alive =
+    let there = h.backed.pieces_in death p (tt, x) alive in
     let low = there.3 in
     let clock = h.backed.clock in
     let run = h.backed.holds.core.line.pieces there.0 there.1 (omega arith) in
@@ -249,11 +248,10 @@ arrived_carrying d lines more below below' older i process pdu cause d' lines' s
     let line' : Direction = arrived k (piece_in pdu) s.line in
     let end' : End = record s.end { got = line'.inbox.got } in
     let partner = s.inbound.partner in
-    let f = beside d.ends d.conns s.from partner st.own.alike s.inbound.is_partner in
-    let flow = st.own.flows s.from s.place partner s.end f.0 s.ids s.line (record { end = s.inbound.is_partner; ids_are = f.1 }) s.taker.is_conn s.inbound.is_line s.inbound.partners in
-    let c_is : flipped s.ids ≡ f.0 = ap flipped flow.mirror in
-    let piece : PiecesOf (Cloud Everywhere g d.processes below) f.0 older (piece_in pdu) = record { pdu = pdu; in_cloud = has; kind = s.piece; from = subst (λ (z : Ids). IsFrom z pdu) c_is s.taker.names; is = refl } in
-    let sized = arriving_sized g d.clock (Cloud Everywhere g d.processes below) partner s.end f.0 s.ids s.line older (piece_in pdu) flow piece alive in
+    let named = st.journal.named s.from s.place partner s.end s.inbound.is_partner s.taker.is_conn.end s.inbound.partners in
+    let flow = direction_in g d.clock (Cloud Everywhere g d.processes below) d.ends d.conns lines st.own s.from s.place partner s.end s.ids s.line s.inbound.is_partner s.taker.is_conn s.inbound.is_line s.inbound.partners s.taker.allocated named.cube in
+    let piece : PiecesOf (Cloud Everywhere g d.processes below) (flipped s.ids) older (piece_in pdu) = record { pdu = pdu; in_cloud = has; kind = s.piece; from = s.taker.names; is = refl } in
+    let sized = arriving_sized g d.clock (Cloud Everywhere g d.processes below) partner s.end (flipped s.ids) s.line older (piece_in pdu) flow piece alive in
     let holding = found_holds g d.clock below s.ids k s.line (c.holding s.place s.from s.end s.ids s.line s.taker.is_conn s.inbound) in
     let new = delivered_to g more below below' s.ids k d.clock (piece_in pdu) (found k s.line) s.end.got after (found_clock k s.line ∙ flow.backed.clock) (found_got k s.line ∙ flow.got) come sized holding in
     let const : IsConst s.end end' = record { flow = refl; role = refl; port = refl; app = refl; peer = refl; cube = refl } in

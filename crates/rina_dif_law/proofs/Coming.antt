@@ -1,11 +1,10 @@
 -- A step that takes keeps standing.
 use Rattle.std.proofs.Common.{◌≡◌, ℕ, ◌+◌, ◌-◌, ◌≤◌, List, [], ◌∷◌, ◌++◌, length-set, length-append, append-nil, append_assoc, map, slice_get, slice_set, Some, None, Ok, Err, Option, Result, refl, sym, ◌∙◌, ap, subst, arith, inl, inr}
+use Rattle.rina_account.specs.declared.ledger.Off.{Off}
 use Rattle.rina_base.specs.declared.cause.Cause.{Cause}
 use Rattle.rina_base.specs.declared.cause.Cause.TheVariants as causes
 use Rattle.rina_base.specs.declared.number.Port.{Port}
 use Rattle.rina_base.specs.declared.pdu.Pdu.{Pdu}
-use Rattle.rina_base.specs.declared.pdu.PduKind.TheVariants.{Piece as APiece}
-use Rattle.rina_cube.specs.declared.Cube.{Cube}
 use Rattle.rina_iface.specs.declared.ends.End.{End}
 use Rattle.rina_iface.specs.Journal.{AreKept, HasPartner, IsDated, IsWhole}
 use Rattle.rina_iface.specs.Pass.{IsPassed}
@@ -30,22 +29,22 @@ use Rattle.rina_data.specs.declared.step.Took.TheVariants as took
 use Rattle.rina_dif_law.specs.Cloud.{Cloud, Everywhere}
 use Rattle.rina_data.specs.Hops.{Hop}
 use Rattle.rina_dif_law.specs.Dif.{DifSeen, fac_of, constants, with_process}
-use Rattle.rina_data.specs.Configs.{Member, cube_by}
+use Rattle.rina_data.specs.Configs.{Member}
 use Rattle.rina_data.specs.Process.{Process, with_offs, with_put}
-use Rattle.rina_dif_law.specs.Ids.{AcksOf, Ids, IsFrom, PiecesOf, flipped}
-use Rattle.rina_dif_law.specs.Incoming.{Ins, IsArrived, IsInTime, IsRelayed, IsTold, Settles, SettlesOff, arrived, found, joined_by, lines_for, written_off}
+use Rattle.rina_dif_law.specs.Ids.{flipped}
+use Rattle.rina_dif_law.specs.Incoming.{Ins, IsArrived, IsInTime, IsRelayed, IsTold, Settles, SettlesFlow, SettlesOff, arrived, cause_told, found, joined_by, lines_for, written_off}
 use Rattle.rina_data.specs.Queueing.{line_for}
-use Rattle.rina_dif_law.specs.Standing.{IsConn, IsFlow, IsItem, IsStanding}
+use Rattle.rina_dif_law.specs.Standing.{IsItem, IsStanding}
 use Rattle.rina_dif_law.proofs.After.{IsAfter, NoMore, after_passed}
 use Rattle.rina_dif_law.proofs.Arrivals.{IsArrival, arrival}
 use Rattle.rina_dif_law.proofs.Clouds.{NoItem, cloud_after, covers_less, requeued_none}
-use Rattle.rina_dif_law.proofs.Finding.{beside, cube_limits}
-use Rattle.rina_dif_law.proofs.Flows.{flow_arrived, flow_forgot, flow_told}
-use Rattle.rina_dif_law.proofs.Forgot.{by_found, found_clock, found_got}
+use Rattle.rina_dif_law.proofs.Finding.{cube_limits}
+use Rattle.rina_dif_law.proofs.Forgot.{found_clock, found_got}
 use Rattle.rina_dif_law.proofs.Frame.{stands_with}
 use Rattle.rina_dif_law.proofs.Going.{lost_stands, same_stands}
 use Rattle.rina_dif_law.proofs.Journals.{IsConst, journal_set, ports_set}
-use Rattle.rina_dif_law.proofs.Own.{covered, own_covered, own_line, own_received, partner_back}
+use Rattle.rina_dif_law.proofs.Own.{direction_in, direction_out, own_covered, partner_back}
+use Rattle.rina_dif_law.proofs.OwnRows.{own_arrived, own_told}
 use Rattle.rina_dif_law.proofs.Spelled.{IsHopOf}
 use Rattle.rina_dif_law.proofs.Queues.{JustItems, requeued_put, requeued_same, same_links}
 
@@ -69,28 +68,8 @@ arrived_whole k now p line end clock got w =
     let Q : List Entry → Type 0 = λ xs. IsWhole now (record end { got = xs ++ map (entry_for k now) whole }) in
     subst P (sym (found_clock k line ∙ clock)) (subst Q (sym (found_got k line ∙ got)) (more_whole k now end whole w))
 
-ids_same : (o : Option Ids) (a b : Ids) → o ≡ Some a → o ≡ Some b → a ≡ b
-ids_same o a b h g = cc
-
 module _ (d : DifSeen) (lines : List Direction) (below below' : Seen) (st : IsStanding d lines below) (after : IsAfter d.config NoMore below below') (clock : below'.now ≡ below.now) (older : ℕ) (pdu : Pdu) (has : Cloud Everywhere d.config d.processes below older pdu) (alive : d.clock ≤ older) where
   -- what a piece of the cloud makes of its direction
-  main_arrived : (partner end : End) (c ids f : Ids) (line : Direction) (cube : Cube) (processes' : List Process) → cube_by ids.qos d.config.cubes ≡ Some cube → pdu.kind ≡ APiece → IsFrom (flipped ids) pdu → f ≡ ids → Covers d.clock (Cloud Everywhere d.config d.processes below) (Cloud Everywhere d.config processes' below')
-      → IsFlow d.config d.clock (Cloud Everywhere d.config d.processes below) partner end c f line
-      → IsFlow d.config d.clock (Cloud Everywhere d.config processes' below') partner (record end { got = (arrived (constants d.config cube (flipped ids)) (piece_in pdu) line).inbox.got }) c f (arrived (constants d.config cube (flipped ids)) (piece_in pdu) line)
-  main_arrived partner end c ids f line cube processes' is_cube kind names f_is covers h =
-      let k : Constants = constants d.config cube (flipped ids) in
-      let cloud : ℕ → Pdu → Type 0 = Cloud Everywhere d.config d.processes below in
-      let cloud' : ℕ → Pdu → Type 0 = Cloud Everywhere d.config processes' below' in
-      let end' : End = record end { got = (arrived k (piece_in pdu) line).inbox.got } in
-      let c_is : flipped ids ≡ c = ap flipped (sym f_is ∙ h.mirror) in
-      let piece : PiecesOf cloud (flipped ids) older (piece_in pdu) = record { pdu = pdu; in_cloud = has; kind = kind; from = names; is = refl } in
-      let P : Ids → Type 0 = λ x. IsFlow d.config d.clock cloud partner end x f line → IsFlow d.config d.clock cloud' partner end' x f (arrived k (piece_in pdu) line) in
-      let limits = cube_limits d.config ids.qos cube st.config is_cube in
-      let same : Covers d.clock cloud cloud = λ death x there lives. (death, omega arith, there) in
-      let F : Direction → Type 0 = λ l. IsFlow d.config d.clock cloud partner end (flipped ids) f l in
-      subst P c_is (λ flow. flow_arrived d.config d.clock cloud cloud' partner end (flipped ids) f (found k line) cube is_cube limits end' older (piece_in pdu) piece alive covers refl refl
-      (by_found F k line flow (λ gone. flow_forgot d.config d.clock cloud cloud partner end (flipped ids) f line cube is_cube limits gone same flow))) h
-
   arrived_stands : (i : ℕ) (process : Process) (cause : Option Cause) (d' : DifSeen) (lines' : List Direction) → slice_get d.processes i ≡ Some process → IsArrived d lines i process pdu cause d' lines' → IsStanding d' lines' below'
   arrived_stands i process cause d' lines' is_process s =
       let k : Constants = constants d.config s.cube (flipped s.ids) in
@@ -102,14 +81,13 @@ module _ (d : DifSeen) (lines : List Direction) (below below' : Seen) (st : IsSt
       let covers = covers_less Everywhere d.config d.clock d.processes processes' below below' moved after in
       let at = s.taker.is_conn.end in
       let partner = s.inbound.partner in
-      let c = beside d.ends d.conns s.from partner st.own.alike s.inbound.is_partner in
-      let conn : IsConn d.ends d.conns s.from partner c.0 = record { end = s.inbound.is_partner; ids_are = c.1 } in
-      let flow = st.own.flows s.from s.place partner s.end c.0 s.ids s.line conn s.taker.is_conn s.inbound.is_line s.inbound.partners in
+      let named = st.journal.named s.from s.place partner s.end s.inbound.is_partner at s.inbound.partners in
+      let flow = direction_in d.config d.clock (Cloud Everywhere d.config d.processes below) d.ends d.conns lines st.own s.from s.place partner s.end s.ids s.line s.inbound.is_partner s.taker.is_conn s.inbound.is_line s.inbound.partners s.taker.allocated named.cube in
       let has_partner : HasPartner d.ends s.end = record { place = s.from; other = partner; stands = s.inbound.is_partner; partner = partner_back partner s.end s.inbound.partners } in
       let const : IsConst s.end end' = record { flow = refl; role = refl; port = refl; app = refl; peer = refl; cube = refl } in
       let whole = arrived_whole k d.clock (piece_in pdu) s.line s.end flow.backed.clock flow.got (st.journal.whole s.place s.end at) in
-      let own = own_received d.config d.clock (Cloud Everywhere d.config d.processes below) (Cloud Everywhere d.config processes' below') d.ends d.conns lines st.own s.place s.end end' at const st.journal s.from partner s.inbound.is_partner s.inbound.partners s.line line' s.inbound.is_line refl covers
-      (λ x f x_conn f_conn h. main_arrived partner s.end x s.ids f s.line s.cube processes' s.is_cube s.piece s.taker.names (ids_same (slice_get d.conns s.place) f s.ids f_conn.ids_are s.taker.is_conn.ids_are) covers h) in
+      let own = own_arrived d.config d.clock (Cloud Everywhere d.config d.processes below) (Cloud Everywhere d.config processes' below') d.ends d.conns lines st.own st.journal s.place s.end s.ids s.cube s.taker.is_conn s.is_cube (cube_limits d.config s.ids.qos s.cube st.config s.is_cube) s.from partner s.inbound.is_partner s.inbound.partners s.line s.inbound.is_line
+      s.taker.allocated older pdu has alive s.piece s.taker.names covers in
       subst (λ (z : DifSeen). IsStanding z lines' below') (sym s.new_is) (subst (λ (ls : List Direction). IsStanding (record d { ends = slice_set d.ends s.place end'; processes = processes' }) ls below') (sym s.lines_are)
       (stands_with d lines (slice_set lines s.from line') NoMore NoItem below below' d.clock processes' (slice_set d.ends s.place end') st after (st.clock ∙ sym clock) (omega arith) (length-set d.processes i process') moved (same_links d.processes i process process' is_process refl)
       (λ port y none. absurd none) (λ j m item none. absurd none)
@@ -124,12 +102,10 @@ module _ (d : DifSeen) (lines : List Direction) (below below' : Seen) (st : IsSt
       let cloud' : ℕ → Pdu → Type 0 = Cloud Everywhere d.config d.processes below' in
       let line' : Direction = record s.line { line = told (ack_in pdu) s.line.line } in
       let covers = covers_less Everywhere d.config d.clock d.processes d.processes below below' (requeued_none d.processes) after in
-      let own = own_line d.config d.clock cloud cloud' d.ends d.conns lines st.own s.place s.line line' s.is_line
-      (λ k a b c f x y p h.
-      let c_is : s.ids ≡ c = ids_same (slice_get d.conns s.place) s.ids c s.taker.is_conn.ids_are x.ids_are in
-      let ack : AcksOf cloud c older (ack_in pdu) = record { pdu = pdu; in_cloud = has; kind = s.ack; from = subst (λ (z : Ids). IsFrom (flipped z) pdu) c_is s.taker.names; is = refl } in
-      flow_told d.config d.clock cloud cloud' a b c f s.line h.cube h.is_cube (cube_limits d.config c.qos h.cube st.config h.is_cube) older (ack_in pdu) ack alive covers h)
-      (λ j a c ne x k b f y p mirror. covered d.clock cloud cloud' c covers) in
+      let conn = s.taker.is_conn in
+      let partner = st.journal.allocated s.place s.end conn.end s.taker.allocated in
+      let flow = direction_out d.config d.clock cloud d.ends d.conns lines st.own s.place partner.place s.end partner.other s.ids s.line conn partner.stands s.is_line partner.partner s.taker.allocated in
+      let own = own_told d.config d.clock cloud cloud' d.ends d.conns lines st.own s.place s.end s.ids flow.cube conn s.taker.allocated flow.is_cube (cube_limits d.config s.ids.qos flow.cube st.config flow.is_cube) s.line s.is_line partner.place partner.other partner.stands partner.partner older pdu has alive s.ack s.taker.names covers in
       subst (λ (z : DifSeen). IsStanding z lines' below') (sym s.new_is) (subst (λ (ls : List Direction). IsStanding d ls below') (sym s.lines_are)
       (stands_with d lines (slice_set lines s.place line') NoMore NoItem below below' d.clock d.processes d.ends st after (st.clock ∙ sym clock) (omega arith) refl (requeued_none d.processes) (λ j l h. h)
       (λ port y none. absurd none) (λ j m item none. absurd none) st.journal st.ports own))
@@ -176,10 +152,13 @@ module _ (d : DifSeen) (lines : List Direction) (below below' : Seen) (st : IsSt
   off_arrived : (cause : Cause) (d' : DifSeen) (lines' : List Direction) → IsInTime d entry.tick hop → IsArrived d lines i process hop.pdu (Some cause) d' lines' → IsStanding d' lines' below'
   off_arrived cause d' lines' in_time s = arrived_stands d lines below below' st after clock a.older hop.pdu (inr a.on_way) (alive_now in_time) i process (Some cause) d' lines' is_process s
 
-  off_noted : (cause : Cause) (d' : DifSeen) (lines' : List Direction) → d' ≡ written_off d i process hop.pdu cause → lines' ≡ lines → IsStanding d' lines' below'
-  off_noted cause d' lines' d_is lines_are =
-      let process' : Process = with_offs process (line_for hop.pdu cause ∷ []) in
+  offs_noted : (offs : List Off) (d' : DifSeen) (lines' : List Direction) → d' ≡ with_process d i (with_offs process offs) → lines' ≡ lines → IsStanding d' lines' below'
+  offs_noted offs d' lines' d_is lines_are =
+      let process' : Process = with_offs process offs in
       same_stands (with_process d i process') lines below' d' lines' below' d_is lines_are refl (lost_stands d lines below below' i process process' st after clock is_process refl (requeued_same d.processes i process process' is_process refl))
+
+  off_noted : (cause : Cause) (d' : DifSeen) (lines' : List Direction) → d' ≡ written_off d i process hop.pdu cause → lines' ≡ lines → IsStanding d' lines' below'
+  off_noted cause d' lines' d_is lines_are = offs_noted (line_for hop.pdu cause ∷ []) d' lines' d_is lines_are
 
   settles_off : (cause : Cause) (d' : DifSeen) (lines' : List Direction) → SettlesOff d lines i member process entry.tick hop cause d' lines' → IsStanding d' lines' below'
   settles_off (causes.Expired left charge) d' lines' s = off_noted (causes.Expired left charge) d' lines' s.3 s.4
@@ -194,13 +173,19 @@ module _ (d : DifSeen) (lines : List Direction) (below below' : Seen) (st : IsSt
   settles_off (causes.Broken missing) d' lines' s = off_arrived (causes.Broken missing) d' lines' s.0 s.2
   settles_off (causes.LinkDown down) d' lines' s = absurd s
 
-  settles_stand : (end : Took) (d' : DifSeen) (lines' : List Direction) → Settles d lines i member process entry.tick hop end d' lines' → IsStanding d' lines' below'
-  settles_stand took.Accepted d' lines' s = elim (s.2) [
+  flow_stands : (end : Took) (d' : DifSeen) (lines' : List Direction) → SettlesFlow d lines i member process entry.tick hop end d' lines' → IsStanding d' lines' below'
+  flow_stands took.Accepted d' lines' s = elim (s.2) [
     | inl x ↦ arrived_stands d lines below below' st after clock a.older hop.pdu (inr a.on_way) (alive_now s.0) i process None d' lines' is_process x
     | inr x ↦ told_stands d lines below below' st after clock a.older hop.pdu (inr a.on_way) (alive_now s.0) d' lines' x
   ]
-  settles_stand took.Relayed d' lines' s = subst (λ (ls : List Direction). IsStanding d' ls below') (sym s.3) (relayed_stands d lines below below' st after clock a.older hop.pdu (inr a.on_way) (alive_now s.0) i entry.tick process hop d' is_process refl a.later a.past a.fit s.2)
-  settles_stand (took.Off cause) d' lines' s = settles_off cause d' lines' s
+  flow_stands took.Relayed d' lines' s = subst (λ (ls : List Direction). IsStanding d' ls below') (sym s.3) (relayed_stands d lines below below' st after clock a.older hop.pdu (inr a.on_way) (alive_now s.0) i entry.tick process hop d' is_process refl a.later a.past a.fit s.2)
+  flow_stands (took.Off cause) d' lines' s = settles_off cause d' lines' s
+
+  settles_stand : (end : Took) (d' : DifSeen) (lines' : List Direction) → Settles d lines i member process entry.tick hop end d' lines' → IsStanding d' lines' below'
+  settles_stand end d' lines' s = elim s [
+    | inl flow ↦ flow_stands end d' lines' flow.1
+    | inr link ↦ offs_noted (link.dropped ++ lines_for hop.pdu (cause_told end)) d' lines' link.new_is link.lines_are
+  ]
 
 -- `in_step`, whatever it answers
 pub ins_stand : (d : DifSeen) (lines : List Direction) (below : Seen) (i n : ℕ) (r : Result InStep StepError) (d' : DifSeen) (lines' : List Direction) (below' : Seen) → AreKept below → AreKept below' → IsStanding d lines below → Ins d lines below i n r d' lines' below' → IsStanding d' lines' below'

@@ -24,7 +24,9 @@ use Rattle.rina_dif_law.specs.Ids.{Ids}
 use Rattle.rina_dif_law.specs.Passing.{IsPassed}
 use Rattle.rina_dif_law.specs.Sending.{IsOffered, Offers, by_conn, by_end, offered_entry, refused_at}
 use Rattle.rina_dif_law.specs.Standing.{IsConn, IsStanding}
+use Rattle.rina_dif_law.specs.Cloud.{Cloud, Everywhere}
 use Rattle.rina_dif_law.proofs.Finding.{beside}
+use Rattle.rina_dif_law.proofs.Own.{direction_out}
 use Rattle.rina_dif_law.proofs.Keepers.{offered_by}
 
 -- the end, the ids, the direction and the cube at an allocated end
@@ -44,8 +46,7 @@ ready d lines below at end st is allocated =
     let line = beside d.ends lines at end st.own.lines_alike is in
     let conn : IsConn d.ends d.conns at end ids.0 = record { end = is; ids_are = ids.1 } in
     let partner = st.journal.allocated at end is allocated in
-    let far = beside d.ends d.conns partner.place partner.other st.own.alike partner.stands in
-    let flow = st.own.flows at partner.place end partner.other ids.0 far.0 line.0 conn (record { end = partner.stands; ids_are = far.1 }) line.1 partner.partner in
+    let flow = direction_out d.config d.clock (Cloud Everywhere d.config d.processes below) d.ends d.conns lines st.own at partner.place end partner.other ids.0 line.0 conn partner.stands line.1 partner.partner allocated in
     record { ids = ids.0; line = line.0; cube = flow.cube; ids_are = ids.1; is_line = line.1; is_cube = flow.is_cube; qos = (st.own.ids at end ids.0 conn).qos; clock = flow.backed.clock }
 
 largest_shown : (s : Seen) (d : DifSeen) (port : Port) (at : ℕ) (end : End) (id : ℕ) (cube : Cube) → IsShown s d port at end → id ≡ end.cube → cube_by id d.config.cubes ≡ Some cube → largest_at s port ≡ Some cube.largest

@@ -21,7 +21,9 @@ use Rattle.rina_dif_law.proofs.Carrying.{carrying_same, end_set, line_was}
 use Rattle.rina_dif_law.proofs.Clouds.{NoItem, covers_less}
 use Rattle.rina_dif_law.proofs.Frame.{stands_with}
 use Rattle.rina_dif_law.proofs.Journals.{IsConst, journal_set, ports_set}
-use Rattle.rina_dif_law.proofs.Own.{own_restated}
+use Rattle.rina_dif_law.proofs.Own.{own_covered}
+use Rattle.rina_dif_law.proofs.OwnEnds.{ends_down, own_ended}
+use Rattle.rina_dif_law.proofs.Placed.{is_up}
 use Rattle.rina_dif_law.proofs.Queues.{requeued_same, same_links}
 
 pub ended_stands : (d : DifSeen) (lines : List Direction) (below : Seen) (at : ℕ) (state : PortState) (d' : DifSeen) → IsStanding d lines below → IsEnded d lines at state d' → IsStanding d' lines below
@@ -38,7 +40,8 @@ ended_stands d lines below at state d' st s =
     let was = st.journal.whole at s.end is_end in
     let whole : IsWhole d.clock end' = record { sent = was.sent; got = was.got; taken = was.taken } in
     let partner = st.journal.allocated at s.end is_end s.allocated in
-    let own = own_restated d.config d.clock cloud cloud' d.ends d.conns lines st.own at s.end end' is_end const refl refl refl covers in
+    let ended = own_ended d.config d.clock cloud d.ends d.conns lines st.own at s.end s.ids s.is_conn (is_up s.end s.allocated) state (ends_down s.end.state state s.allocated s.moves s.ends) in
+    let own = own_covered d.config d.clock cloud cloud' (slice_set d.ends at end') d.conns lines ended covers in
     subst (λ (z : DifSeen). IsStanding z lines below) (sym s.new_is)
     (stands_with d lines lines NoMore NoItem below below d.clock processes' (slice_set d.ends at end') st (after_none d.config below) st.clock (omega arith) (length-set d.processes s.i process') moved (same_links d.processes s.i s.process process' s.is_process refl)
     (λ port x none. absurd none) (λ j n item none. absurd none)

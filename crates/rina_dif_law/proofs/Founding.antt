@@ -18,7 +18,7 @@ use Rattle.rina_iface.specs.declared.state.Fail.TheVariants.{Below}
 use Rattle.rina_iface.specs.declared.state.PortState.{PortState}
 use Rattle.rina_iface.specs.declared.state.PortState.TheVariants.{Allocated, Closed, Failed, Pending, Refused}
 use Rattle.rina_iface.specs.Bind.{with_name_once}
-use Rattle.rina_iface.specs.Journal.{AreKept, At}
+use Rattle.rina_iface.specs.Journal.{AreKept, At, IsPartner}
 use Rattle.rina_iface.specs.Seen.{Fac, Seen}
 use Rattle.rina_iface.proofs.Found.{end_of_stands, stands_there}
 use Rattle.rina_iface.proofs.Grown.{still_at}
@@ -26,7 +26,7 @@ use Rattle.rina_law.specs.declared.entry.Entry.{Entry}
 use Rattle.rina_law.specs.Direction.{Direction}
 use Rattle.rina_pci.specs.declared.widths.Widths.{Widths}
 use Rattle.rina_queue.specs.declared.queue.Queued.{Queued}
-use Rattle.rina_dif_law.specs.Accounted.{IsAccounted, IsBalanced, Resends, bears, bears_on, counts_of, entries_with, held_by, held_in, inbound_of, is_far, journal_numbers, kept_by, made_by, over_ends, queued_with, sent_with, share, taken_with, total}
+use Rattle.rina_dif_law.specs.Accounted.{IsAccounted, IsBalanced, Resends, bears, bears_on, counts_of, entries_with, held_by, held_in, inbound_of, is_other, journal_numbers, kept_by, made_by, over_ends, queued_with, sent_with, share, taken_with, total}
 use Rattle.rina_dif_law.specs.AccountLaws.{IsUnused}
 use Rattle.rina_dif_law.specs.Binding.{IsBound, asker_next, far_next, ids_next}
 use Rattle.rina_data.specs.Hops.{Hop}
@@ -42,14 +42,16 @@ use Rattle.rina_dif_law.specs.Standing.{IsStanding}
 use Rattle.rina_dif_law.specs.Start.{IsFresh, IsStart}
 use Rattle.rina_dif_law.proofs.Accounting.{resends_on}
 use Rattle.rina_dif_law.proofs.Balancing.{accounted_on, moved_same}
-use Rattle.rina_dif_law.proofs.Binding.{addrs_apart, bound_stands, two_at}
-use Rattle.rina_dif_law.proofs.Finding.{beside}
+use Rattle.rina_dif_law.proofs.Binding.{addrs_apart, bound_stands}
+use Rattle.rina_dif_law.proofs.Pairs.{two_at}
 use Rattle.rina_data.proofs.Finding.{there}
 use Rattle.rina_dif_law.proofs.Finishing.{ended_stands}
 use Rattle.rina_dif_law.proofs.Linkless.{first_stay}
 use Rattle.rina_dif_law.proofs.Numbering.{ended_numbered}
+use Rattle.rina_dif_law.proofs.Own.{partner_back}
+use Rattle.rina_dif_law.proofs.Starting.{no_end}
 use Rattle.rina_dif_law.proofs.Receiving.{ended_accounted}
-use Rattle.rina_dif_law.proofs.Tallies.{AreApartIds, inbound_at, kept_in, made_in}
+use Rattle.rina_dif_law.proofs.Tallies.{inbound_at, kept_in, made_in}
 use Rattle.rina_dif_law.proofs.Totals.{total_same}
 
 -- ---- sums of nothing
@@ -83,12 +85,12 @@ nothing_made size addr k e None none = refl
 nothing_made size addr k e (Some c) none = either_none _ (times k.seq (journal_numbers size e.sent)) (ap (λ (xs : List Entry). times k.seq (journal_numbers size xs)) none)
 
 -- one that got nothing, in a direction that holds nothing, keeps nothing
-nothing_kept : (size : ℕ) (conns : List Ids) (lines : List Direction) (addr : ℕ) (k : Key) (e : End) (o : Option Ids) → e.got ≡ [] → ((c : Ids) → o ≡ Some c → held_in (inbound_of conns lines c) k.seq ≡ 0) → kept_by size conns lines addr k (Some e) o ≡ 0
-nothing_kept size conns lines addr k e None none held = refl
-nothing_kept size conns lines addr k e (Some c) none held =
+nothing_kept : (size : ℕ) (ends : List End) (lines : List Direction) (addr : ℕ) (k : Key) (e : End) (o : Option Ids) → e.got ≡ [] → held_in (inbound_of ends lines e) k.seq ≡ 0 → kept_by size ends lines addr k (Some e) o ≡ 0
+nothing_kept size ends lines addr k e None none held = refl
+nothing_kept size ends lines addr k e (Some c) none held =
     let got : times k.seq (journal_numbers size e.got) ≡ 0 = ap (λ (xs : List Entry). times k.seq (journal_numbers size xs)) none in
-    let by = held_nothing e.state (held_in (inbound_of conns lines c) k.seq) (held c refl) in
-    either_none _ (times k.seq (journal_numbers size e.got) + held_by e.state (held_in (inbound_of conns lines c) k.seq)) (omega (arith, got, by))
+    let by = held_nothing e.state (held_in (inbound_of ends lines e) k.seq) held in
+    either_none _ (times k.seq (journal_numbers size e.got) + held_by e.state (held_in (inbound_of ends lines e) k.seq)) (omega (arith, got, by))
 
 -- ---- the start
 
@@ -117,41 +119,24 @@ module _ (d : DifSeen) (lines : List Direction) (below : Seen) (kept : AreKept b
       empty [] none = refl
       empty (x ∷ xs) none = absurd (none zero x refl)
 
-  fresh_held : (i : ℕ) (line : Direction) (n : ℕ) → slice_get lines i ≡ Some line → times n (held_numbers line) ≡ 0
-  fresh_held i line n at =
-      let c = beside lines d.conns i line (s.alike ∙ sym s.lines_alike) at in
-      let fresh = s.fresh i c.0 line c.1 at in
-      ap (λ (l : Direction). times n (held_numbers l)) fresh.is
-
-  none_held : (c : Ids) (n : ℕ) → held_in (inbound_of d.conns lines c) n ≡ 0
-  none_held c n = go (position (is_far c) d.conns)
-    where
-      at : (i : ℕ) (o : Option Direction) → slice_get lines i ≡ o → held_in o n ≡ 0
-      at i None is = refl
-      at i (Some line) is = fresh_held i line n is
-
-      go : (o : Option ℕ) → held_in (option_and_then (λ i. slice_get lines i) o) n ≡ 0
-      go None = refl
-      go (Some i) = at i (slice_get lines i) refl
-
   none_made : (addr : ℕ) (k : Key) (j : ℕ) → made_in (piece_size d.config) d.conns addr k d.ends j ≡ 0
   none_made addr k j = go (slice_get d.ends j) refl
     where
       go : (o : Option End) → slice_get d.ends j ≡ o → made_by (piece_size d.config) addr k o (slice_get d.conns j) ≡ 0
       go None is = refl
-      go (Some e) is = nothing_made (piece_size d.config) addr k e (slice_get d.conns j) ((s.empty j e is).0)
+      go (Some e) is = absurd (no_end d.ends j e s.no_ends is)
 
   none_kept : (addr : ℕ) (k : Key) (j : ℕ) → kept_in (piece_size d.config) d.conns lines addr k d.ends j ≡ 0
   none_kept addr k j = go (slice_get d.ends j) refl
     where
-      go : (o : Option End) → slice_get d.ends j ≡ o → kept_by (piece_size d.config) d.conns lines addr k o (slice_get d.conns j) ≡ 0
+      go : (o : Option End) → slice_get d.ends j ≡ o → kept_by (piece_size d.config) d.ends lines addr k o (slice_get d.conns j) ≡ 0
       go None is = refl
-      go (Some e) is = nothing_kept (piece_size d.config) d.conns lines addr k e (slice_get d.conns j) ((s.empty j e is).1) (λ c h. none_held c k.seq)
+      go (Some e) is = absurd (no_end d.ends j e s.no_ends is)
 
   pub start_accounted : IsAccounted d lines below
   start_accounted = record {
     passed = λ port e h mine. (let none = u.unread port e h mine in omega arith);
-    apart = u.apart;
+    apart = λ i ids is. absurd (no_conn d.conns i ids s.no_conns is);
     balanced = λ i m p k is.
         let w = d.config.widths in
         let taken = none_below i m (taken_with (bears k) w) is.is_member (none_taken (bears k) w) in
@@ -164,6 +149,10 @@ module _ (d : DifSeen) (lines : List Direction) (below : Seen) (kept : AreKept b
         balanced_zero m.addr k (Resends d m.addr k.scep) (counts_of d lines below m p k) taken relayed sent queued off made keeps;
   }
     where
+      no_conn : (conns : List Ids) (i : ℕ) (ids : Ids) → conns ≡ [] → slice_get conns i ≡ Some ids → ⊥
+      no_conn [] i ids none is = cc
+      no_conn (c ∷ cs) i ids none is = absurd (cc)
+
       balanced_zero : (addr : ℕ) (k : Key) (r : Type 0) (n : Counts) → n.taken ≡ 0 → n.relayed ≡ 0 → n.sent ≡ 0 → n.queued ≡ 0 → n.off ≡ 0 → n.made ≡ 0 → n.kept ≡ 0 → IsBalanced addr k r n
       balanced_zero addr k r n a b c d e f g = record {
         foreign = λ x y z. omega arith;
@@ -258,23 +247,23 @@ old_at : {X : Type 0} (xs ys : List X) (i : ℕ) → i < length xs → slice_get
 old_at xs ys i low = (let t = there xs i low in still_at xs ys i t.0 t.1 ∙ sym t.1)
 
 -- directions that hold nothing are added
-held_more : (conns more : List Ids) (lines news : List Direction) (c : Ids) (n : ℕ) → length lines ≡ length conns → ((i : ℕ) (l : Direction) → slice_get news i ≡ Some l → times n (held_numbers l) ≡ 0) → held_in (inbound_of (conns ++ more) (lines ++ news) c) n ≡ held_in (inbound_of conns lines c) n
-held_more conns more lines news c n alike none = elim (longer (is_far c) conns more) [
+held_more : (ends more : List End) (lines news : List Direction) (e : End) (n : ℕ) → length lines ≡ length ends → ((i : ℕ) (l : Direction) → slice_get news i ≡ Some l → times n (held_numbers l) ≡ 0) → held_in (inbound_of (ends ++ more) (lines ++ news) e) n ≡ held_in (inbound_of ends lines e) n
+held_more ends more lines news e n alike none = elim (longer (is_other e) ends more) [
   | inl t ↦
       let within = t.within in
-      let old : held_in (inbound_of conns lines c) n ≡ held_in (slice_get lines t.place) n = ap (λ (o : Option ℕ). held_in (option_and_then (λ i. slice_get lines i) o) n) t.short in
-      let new : held_in (inbound_of (conns ++ more) (lines ++ news) c) n ≡ held_in (slice_get (lines ++ news) t.place) n = ap (λ (o : Option ℕ). held_in (option_and_then (λ i. slice_get (lines ++ news) i) o) n) t.long in
+      let old : held_in (inbound_of ends lines e) n ≡ held_in (slice_get lines t.place) n = ap (λ (o : Option ℕ). held_in (option_and_then (λ i. slice_get lines i) o) n) t.short in
+      let new : held_in (inbound_of (ends ++ more) (lines ++ news) e) n ≡ held_in (slice_get (lines ++ news) t.place) n = ap (λ (o : Option ℕ). held_in (option_and_then (λ i. slice_get (lines ++ news) i) o) n) t.long in
       new ∙ ap (λ (o : Option Direction). held_in o n) (old_at lines news t.place (omega arith)) ∙ sym old
   | inr t ↦
-      let old : held_in (inbound_of conns lines c) n ≡ 0 = ap (λ (o : Option ℕ). held_in (option_and_then (λ i. slice_get lines i) o) n) t.short in
-      behind (position (is_far c) (conns ++ more)) (λ i h. t.long i h) ∙ sym old
+      let old : held_in (inbound_of ends lines e) n ≡ 0 = ap (λ (o : Option ℕ). held_in (option_and_then (λ i. slice_get lines i) o) n) t.short in
+      behind (position (is_other e) (ends ++ more)) (λ i h. t.long i h) ∙ sym old
 ]
   where
-    at : (i : ℕ) (o : Option Direction) → slice_get (lines ++ news) i ≡ o → length conns ≤ i → held_in o n ≡ 0
+    at : (i : ℕ) (o : Option Direction) → slice_get (lines ++ news) i ≡ o → length ends ≤ i → held_in o n ≡ 0
     at i None is past = refl
     at i (Some l) is past = (let k = past_at lines news i l (omega arith) is in none k.0 l k.1)
 
-    behind : (o : Option ℕ) → ((i : ℕ) → o ≡ Some i → length conns ≤ i) → held_in (option_and_then (λ i. slice_get (lines ++ news) i) o) n ≡ 0
+    behind : (o : Option ℕ) → ((i : ℕ) → o ≡ Some i → length ends ≤ i) → held_in (option_and_then (λ i. slice_get (lines ++ news) i) o) n ≡ 0
     behind None past = refl
     behind (Some i) past = at i (slice_get (lines ++ news) i) refl (past i refl)
 
@@ -304,15 +293,12 @@ bound_accounted d lines below fixed d' lines' st numbered a s =
     let last : ℕ = length d.ends in
     let standing : IsStanding new lines' below = subst (λ (z : DifSeen). IsStanding z lines' below) s.new_is (bound_stands d lines below fixed d' lines' st numbered s) in
     let apart : s.of_a.addr ≢ s.of_b.addr = addrs_apart d lines below st numbered fixed s.of_a s.of_b s.at_a s.at_b s.apart in
-    let alike : length lines ≡ length d.conns = st.own.lines_alike ∙ sym st.own.alike in
-    let conn_a : slice_get conns' last ≡ Some ids = ap (slice_get conns') (sym st.own.alike) ∙ first_new d.conns ids (flipped ids) in
-    let conn_b : slice_get conns' (suc last) ≡ Some (flipped ids) = ap (λ (n : ℕ). slice_get conns' (suc n)) (sym st.own.alike) ∙ second_new d.conns ids (flipped ids) in
     let line_a : slice_get lines'' last ≡ Some s.line = ap (slice_get lines'') (sym st.own.lines_alike) ∙ first_new lines s.line s.back in
     let line_b : slice_get lines'' (suc last) ≡ Some s.back = ap (λ (n : ℕ). slice_get lines'' (suc n)) (sym st.own.lines_alike) ∙ second_new lines s.line s.back in
     let news : (n : ℕ) (i : ℕ) (l : Direction) → slice_get (s.line ∷ s.back ∷ []) i ≡ Some l → times n (held_numbers l) ≡ 0 = λ n i l at. new_held s.line s.back n (fresh_empty d ids s.line n s.fresh) (fresh_empty d (flipped ids) s.back n s.fresh_back) i l at in
-    let conns_apart : AreApartIds conns' = standing.own.apart in
-    let held_a : (n : ℕ) → held_in (inbound_of conns' lines'' ids) n ≡ 0 = λ n. ap (λ (o : Option Direction). held_in o n) (inbound_at conns' lines'' (suc last) ids s.back conns_apart conn_b line_b) ∙ fresh_empty d (flipped ids) s.back n s.fresh_back in
-    let held_b : (n : ℕ) → held_in (inbound_of conns' lines'' (flipped ids)) n ≡ 0 = λ n. ap (λ (o : Option Direction). held_in o n) (inbound_at conns' lines'' last (flipped ids) s.line conns_apart conn_a line_a) ∙ fresh_empty d ids s.line n s.fresh in
+    let partners : IsPartner asker far = record { same_flow = refl; other_role = λ is. cc } in
+    let held_a : (n : ℕ) → held_in (inbound_of ends' lines'' asker) n ≡ 0 = λ n. ap (λ (o : Option Direction). held_in o n) (inbound_at d.clock ends' standing.journal (suc last) far asker (second_new d.ends asker far) (partner_back asker far partners) lines'' s.back line_b) ∙ fresh_empty d (flipped ids) s.back n s.fresh_back in
+    let held_b : (n : ℕ) → held_in (inbound_of ends' lines'' far) n ≡ 0 = λ n. ap (λ (o : Option Direction). held_in o n) (inbound_at d.clock ends' standing.journal last asker far (first_new d.ends asker far) partners lines'' s.line line_a) ∙ fresh_empty d ids s.line n s.fresh in
     subst (λ (z : DifSeen). IsAccounted z lines' below) (sym s.new_is) (subst (λ (ls : List Direction). IsAccounted new ls below) (sym s.lines_are)
     (accounted_on d new lines lines'' below below a a.passed
     (λ i c at. elim (two_at d.conns ids (flipped ids) i c at) [
@@ -333,10 +319,10 @@ bound_accounted d lines below fixed d' lines' st numbered a s =
             (ap (λ (o : Option End). made_by size m.addr k o (slice_get conns' last)) (first_new d.ends asker far) ∙ nothing_made size m.addr k asker (slice_get conns' last) refl)
             (ap (λ (o : Option End). made_by size m.addr k o (slice_get conns' (suc last))) (second_new d.ends asker far) ∙ nothing_made size m.addr k far (slice_get conns' (suc last)) refl);
         kept = total_more d.ends asker far (kept_in size d.conns lines m.addr k d.ends) (kept_in size conns' lines'' m.addr k ends')
-            (λ j low. ap (λ (o : Option End). kept_by size conns' lines'' m.addr k o (slice_get conns' j)) (old_at d.ends (asker ∷ far ∷ []) j low) ∙ ap (kept_by size conns' lines'' m.addr k (slice_get d.ends j)) (old_at d.conns two j (let x = st.own.alike in omega arith))
-            ∙ kept_longer size d.conns two lines (s.line ∷ s.back ∷ []) m.addr k (slice_get d.ends j) (slice_get d.conns j) alike (news k.seq))
-            (ap (λ (o : Option End). kept_by size conns' lines'' m.addr k o (slice_get conns' last)) (first_new d.ends asker far) ∙ nothing_kept size conns' lines'' m.addr k asker (slice_get conns' last) refl (λ c at. same_held conns' lines'' ids c k.seq (slice_get conns' last) conn_a at (held_a k.seq)))
-            (ap (λ (o : Option End). kept_by size conns' lines'' m.addr k o (slice_get conns' (suc last))) (second_new d.ends asker far) ∙ nothing_kept size conns' lines'' m.addr k far (slice_get conns' (suc last)) refl (λ c at. same_held conns' lines'' (flipped ids) c k.seq (slice_get conns' (suc last)) conn_b at (held_b k.seq)));
+            (λ j low. ap (λ (o : Option End). kept_by size ends' lines'' m.addr k o (slice_get conns' j)) (old_at d.ends (asker ∷ far ∷ []) j low) ∙ ap (kept_by size ends' lines'' m.addr k (slice_get d.ends j)) (old_at d.conns two j (let x = st.own.alike in omega arith))
+            ∙ kept_longer size d.ends (asker ∷ far ∷ []) lines (s.line ∷ s.back ∷ []) m.addr k (slice_get d.ends j) (slice_get d.conns j) st.own.lines_alike (news k.seq))
+            (ap (λ (o : Option End). kept_by size ends' lines'' m.addr k o (slice_get conns' last)) (first_new d.ends asker far) ∙ nothing_kept size ends' lines'' m.addr k asker (slice_get conns' last) refl (held_a k.seq))
+            (ap (λ (o : Option End). kept_by size ends' lines'' m.addr k o (slice_get conns' (suc last))) (second_new d.ends asker far) ∙ nothing_kept size ends' lines'' m.addr k far (slice_get conns' (suc last)) refl (held_b k.seq));
       });
     })))
   where
@@ -345,10 +331,7 @@ bound_accounted d lines below fixed d' lines' st numbered a s =
     new_held line back n a b (suc zero) l at = (let is : back ≡ l = cc in ap (λ (z : Direction). times n (held_numbers z)) (sym is) ∙ b)
     new_held line back n a b (suc (suc i)) l at = cc
 
-    same_held : (conns : List Ids) (lines : List Direction) (ids c : Ids) (n : ℕ) (o : Option Ids) → o ≡ Some ids → o ≡ Some c → held_in (inbound_of conns lines ids) n ≡ 0 → held_in (inbound_of conns lines c) n ≡ 0
-    same_held conns lines ids c n o p q none = (let is : ids ≡ c = cc in subst (λ (z : Ids). held_in (inbound_of conns lines z) n ≡ 0) is none)
-
-    kept_longer : (size : ℕ) (conns more : List Ids) (lines news : List Direction) (addr : ℕ) (k : Key) (o : Option End) (i : Option Ids) → length lines ≡ length conns → ((i : ℕ) (l : Direction) → slice_get news i ≡ Some l → times k.seq (held_numbers l) ≡ 0) → kept_by size (conns ++ more) (lines ++ news) addr k o i ≡ kept_by size conns lines addr k o i
-    kept_longer size conns more lines news addr k None i alike none = refl
-    kept_longer size conns more lines news addr k (Some e) None alike none = refl
-    kept_longer size conns more lines news addr k (Some e) (Some c) alike none = ap (λ (n : ℕ). cond ((eqb c.own addr && eqb c.far k.src) && eqb c.dcep k.scep) (times k.seq (journal_numbers size e.got) + held_by e.state n) 0) (held_more conns more lines news c k.seq alike none)
+    kept_longer : (size : ℕ) (ends more : List End) (lines news : List Direction) (addr : ℕ) (k : Key) (o : Option End) (i : Option Ids) → length lines ≡ length ends → ((i : ℕ) (l : Direction) → slice_get news i ≡ Some l → times k.seq (held_numbers l) ≡ 0) → kept_by size (ends ++ more) (lines ++ news) addr k o i ≡ kept_by size ends lines addr k o i
+    kept_longer size ends more lines news addr k None i alike none = refl
+    kept_longer size ends more lines news addr k (Some e) None alike none = refl
+    kept_longer size ends more lines news addr k (Some e) (Some c) alike none = ap (λ (n : ℕ). cond ((eqb c.own addr && eqb c.far k.src) && eqb c.dcep k.scep) (times k.seq (journal_numbers size e.got) + held_by e.state n) 0) (held_more ends more lines news e k.seq alike none)

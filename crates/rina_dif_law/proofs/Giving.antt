@@ -1,8 +1,8 @@
 -- A send keeps standing.
-use Rattle.std.proofs.Common.{◌≡◌, ℕ, zero, suc, ◌+◌, ◌-◌, ◌*◌, ◌^◌, ◌≤◌, List, [], ◌∷◌, ◌++◌, length, length-set, slice_get, slice_set, Some, None, Ok, Err, Option, Result, true, refl, sym, ◌∙◌, ap, subst, arith, inl, inr}
+use Rattle.std.proofs.Common.{◌≡◌, ℕ, zero, suc, ◌+◌, ◌-◌, ◌*◌, ◌^◌, ◌≤◌, List, length, length-set, slice_get, slice_set, Some, None, Ok, Err, Option, Result, true, refl, sym, ◌∙◌, ap, subst, arith, inl, inr}
 use Rattle.rina_base.specs.declared.number.Num.{Num}
 use Rattle.rina_base.specs.declared.pdu.Pdu.{Pdu}
-use Rattle.rina_base.specs.declared.pdu.PduKind.TheVariants.{Piece as APiece, Ack as AnAck}
+use Rattle.rina_base.specs.declared.pdu.PduKind.TheVariants.{Piece as APiece}
 use Rattle.rina_cube.specs.declared.Cube.{Cube}
 use Rattle.rina_cube.specs.Cubes.{IsCube}
 use Rattle.rina_iface.specs.declared.ends.End.{End}
@@ -18,7 +18,6 @@ use Rattle.rina_law.specs.Constants.{Constants}
 use Rattle.rina_law.specs.Direction.{Direction, offer_refusal}
 use Rattle.rina_law.specs.DirectionHolds.{DirectionHolds}
 use Rattle.rina_law.specs.Lists.{In}
-use Rattle.rina_law.specs.Pdus.{piece_in}
 use Rattle.rina_law.specs.Pieces.{Part, IsCut}
 use Rattle.rina_law.specs.Receiver.{Piece}
 use Rattle.rina_law.proofs.Lawfulness.{welcome_from}
@@ -32,21 +31,17 @@ use Rattle.rina_dif_law.specs.Dif.{DifSeen, fac_of, constants}
 use Rattle.rina_data.specs.Process.{Process, Queue, with_put}
 use Rattle.rina_dif_law.specs.Ids.{Ids, pdu_of_piece}
 use Rattle.rina_dif_law.specs.Sending.{IsOffered, Offers, made_items, offered, offered_entry, offered_pieces}
-use Rattle.rina_dif_law.specs.Standing.{AreIds, IsConfig, IsFlow, IsItem, IsStanding}
+use Rattle.rina_dif_law.specs.Standing.{AreIds, IsConfig, IsItem, IsStanding}
 use Rattle.rina_data.specs.Fitting.{IsFit}
 use Rattle.rina_dif_law.proofs.After.{NoMore, after_none}
 use Rattle.rina_dif_law.proofs.Clouds.{cloud_after}
-use Rattle.rina_dif_law.proofs.Finding.{beside, cube_limits}
-use Rattle.rina_dif_law.proofs.Flows.{acks_apart, flow_offered, pieces_apart}
+use Rattle.rina_dif_law.proofs.Finding.{cube_limits}
 use Rattle.rina_dif_law.proofs.Frame.{stands_with}
 use Rattle.rina_dif_law.proofs.Journals.{IsConst, journal_set, ports_set}
 use Rattle.rina_dif_law.proofs.Going.{same_stands}
-use Rattle.rina_dif_law.proofs.Own.{IsCovered, own_sent}
+use Rattle.rina_dif_law.proofs.Own.{direction_out}
+use Rattle.rina_dif_law.proofs.OwnRows.{MadeOf, own_offered}
 use Rattle.rina_dif_law.proofs.Queues.{JustItems, made_item, requeued_put, same_links}
-
--- a PDU is that of one of these pieces
-abbrev MadeOf : Ids → List Piece → Pdu → Type 0
-MadeOf ids pieces pdu = (p : Piece) × In p pieces × (pdu ≡ pdu_of_piece ids p)
 
 -- the numbers of a piece that was just made
 pub record IsSmall (k : Constants) (p : Piece) : Type 0 where
@@ -79,34 +74,8 @@ piece_fit g end ids cube p config are is_cube small =
       qos = inr (cube, is_cube);
     }
 
-ids_same : (o : Option Ids) (a b : Ids) → o ≡ Some a → o ≡ Some b → a ≡ b
-ids_same o a b h g = cc
-
 cubes_same : (o : Option Cube) (a b : Cube) → o ≡ Some a → o ≡ Some b → a ≡ b
 cubes_same o a b h g = cc
-
-kinds_differ : (pdu : Pdu) → pdu.kind ≡ APiece → pdu.kind ≡ AnAck → ⊥
-kinds_differ pdu a b = cc
-
--- pieces that one end made are nothing of the directions from other ends
-others_covered : (now life : ℕ) (cloud cloud' : ℕ → Pdu → Type 0) (ids : Ids) (pieces : List Piece) (c : Ids) → CoversBut now cloud (MadeOf ids pieces) life cloud' → (c.own ≡ ids.own → c.scep ≡ ids.scep → ⊥) → IsCovered now cloud cloud' c
-others_covered now life cloud cloud' ids pieces c covers apart = record {
-  pieces = pieces_apart now cloud cloud' c (MadeOf ids pieces) life covers (λ pdu m kind from. apart (sym from.src ∙ ap (λ (z : Pdu). z.src) m.2) (sym from.scep ∙ ap (λ (z : Pdu). z.scep) m.2));
-  acks = acks_apart now cloud cloud' c (MadeOf ids pieces) life covers (λ pdu m kind from. kinds_differ pdu (ap (λ (z : Pdu). z.kind) m.2) kind);
-}
-
--- the direction of the end that made them
-main_offered : (g : Config) (now : ℕ) (cloud cloud' : ℕ → Pdu → Type 0) (end b : End) (c ids f : Ids) (line : Direction) (cube : Cube) (parts : List Part) → cube_by ids.qos g.cubes ≡ Some cube → IsCube cube → ids ≡ c → IsCut (piece_size g) true parts → offer_refusal (constants g cube ids) line parts ≡ None
-    → CoversBut now cloud (MadeOf ids (offered_pieces (constants g cube ids) parts line)) (now + cube.mpl) cloud'
-    → IsFlow g now cloud end b c f line → IsFlow g now cloud' (with_sent end (offered_entry (constants g cube ids) parts line)) b c f (offered (constants g cube ids) parts line)
-main_offered g now cloud cloud' end b c ids f line cube parts is_cube limits is cut free covers h =
-    let k : Constants = constants g cube ids in
-    let pieces : List Piece = offered_pieces k parts line in
-    let end' : End = with_sent end (offered_entry k parts line) in
-    let P : Ids → Type 0 = λ x. IsFlow g now cloud end b x f line → IsFlow g now cloud' end' b x f (offered k parts line) in
-    subst P is (λ flow. flow_offered g now cloud cloud' end b ids f line cube is_cube limits end' parts (MadeOf ids pieces) cut free covers
-    (λ pdu m. (ap (λ (z : Pdu). z.kind) m.2, subst (λ (z : Pdu). In (piece_in z) pieces) (sym m.2) m.1))
-    (ap (λ (xs : List Entry). xs ++ offered_entry k parts line ∷ []) (sym flow.sent)) flow) h
 
 -- what was made waits, and dies `mpl` later
 made_covers : (d : DifSeen) (below : Seen) (i : ℕ) (process : Process) (place : ℕ) (queue : Queue) (ids : Ids) (mpl : ℕ) (pieces : List Piece) → slice_get d.processes i ≡ Some process → slice_get process.queues place ≡ Some queue
@@ -150,8 +119,7 @@ offered_stands d lines below at parts num d' lines' st cut s =
     let limits = cube_limits g s.ids.qos s.cube st.config s.is_cube in
     let is_end = s.is_conn.end in
     let partner = st.journal.allocated at s.end is_end s.allocated in
-    let far = beside d.ends d.conns partner.place partner.other st.own.alike partner.stands in
-    let flow = st.own.flows at partner.place s.end partner.other s.ids far.0 s.line s.is_conn (record { end = partner.stands; ids_are = far.1 }) s.is_line partner.partner in
+    let flow = direction_out g d.clock cloud d.ends d.conns lines st.own at partner.place s.end partner.other s.ids s.line s.is_conn partner.stands s.is_line partner.partner s.allocated in
     let cube_is : flow.cube ≡ s.cube = cubes_same (cube_by s.ids.qos g.cubes) flow.cube s.cube flow.is_cube s.is_cube in
     let holds : DirectionHolds k s.line = subst (λ (x : Cube). DirectionHolds (constants g x s.ids) s.line) cube_is flow.backed.holds in
     let are = st.own.ids at s.end s.ids s.is_conn in
@@ -159,9 +127,7 @@ offered_stands d lines below at parts num d' lines' st cut s =
     let const : IsConst s.end end' = record { flow = refl; role = refl; port = refl; app = refl; peer = refl; cube = refl } in
     let was = st.journal.whole at s.end is_end in
     let whole : IsWhole d.clock end' = record { sent = dated_push d.clock s.end.sent entry was.sent flow.backed.clock; got = was.got; taken = was.taken } in
-    let own = own_sent g d.clock cloud cloud' d.ends d.conns lines st.own at s.end end' is_end const s.line line' s.is_line refl refl
-    (λ j b c f x y p h. main_offered g d.clock cloud cloud' s.end b c s.ids f s.line s.cube parts s.is_cube limits (ids_same (slice_get d.conns at) s.ids c s.is_conn.ids_are x.ids_are) cut s.free covers h)
-    (λ i a c ne x j b f y p mirror. others_covered d.clock (d.clock + s.cube.mpl) cloud cloud' s.ids pieces c covers (λ own scep. ne (st.own.apart i at c s.ids x.ids_are s.is_conn.ids_are own scep))) in
+    let own = own_offered g d.clock cloud cloud' d.ends d.conns lines st.own at s.end s.ids s.cube s.is_conn s.allocated s.is_cube limits s.line s.is_line partner.place partner.other partner.stands partner.partner parts cut s.free covers in
     subst (λ (z : DifSeen). IsStanding z lines' below) (sym s.new_is) (subst (λ (ls : List Direction). IsStanding (record d { ends = slice_set d.ends at end'; processes = processes' }) ls below) (sym s.lines_are)
     (stands_with d lines (slice_set lines at line') NoMore (JustItems s.i s.queue.link items) below below d.clock processes' (slice_set d.ends at end') st (after_none g below) st.clock (omega arith) (length-set d.processes s.i process')
     (requeued_put d.processes s.i s.place s.process s.queue items s.is_process s.is_queue.is_queue) (same_links d.processes s.i s.process process' s.is_process refl)

@@ -18,14 +18,17 @@ use Rattle.rina_dif_law.specs.Cloud.{Cloud, Everywhere}
 use Rattle.rina_data.specs.Configs.{Config, cube_by}
 use Rattle.rina_dif_law.specs.Dif.{DifSeen, constants, fac_of, offer_of}
 use Rattle.rina_dif_law.specs.Ids.{Ids}
-use Rattle.rina_dif_law.specs.Standing.{IsConfig, IsConn, IsFlow, IsStanding}
+use Rattle.rina_dif_law.specs.Standing.{IsConfig, IsDirection, IsStanding}
 use Rattle.rina_dif_law.specs.Upward.{IsFacility}
 use Rattle.rina_dif_law.proofs.Finding.{beside, cube_limits}
-use Rattle.rina_dif_law.proofs.Own.{partner_back}
+use Rattle.rina_dif_law.proofs.Own.{pair, partner_back}
+use Rattle.rina_dif_law.proofs.Placed.{qos_from}
+use Rattle.rina_dif_law.specs.Places.{ids_from}
+use Rattle.rina_rest.specs.Flows.{IsInUse}
 
 -- what a flow of a cube keeps
-flow_keeps : (g : Config) (now : ℕ) (cloud : ℕ → Pdu → Type 0) (a b : End) (c f : Ids) (line : Direction) → IsConfig g → (h : IsFlow g now cloud a b c f line) → Keeps h.cube.kind (promise_of h.cube) a.sent b.got
-flow_keeps g now cloud a b c f line config h =
+flow_keeps : (g : Config) (now : ℕ) (cloud : ℕ → Pdu → Type 0) (used : Type 0) (a b : End) (c : Ids) (line : Direction) → IsConfig g → (h : IsDirection g now cloud used a b c line) → Keeps h.cube.kind (promise_of h.cube) a.sent b.got
+flow_keeps g now cloud used a b c line config h =
     let k = keeps_from (constants g h.cube c) line (cube_limits g c.qos h.cube config h.is_cube) h.backed.holds in
     subst (λ (xs : List Entry). Keeps h.cube.kind (promise_of h.cube) xs b.got) h.sent (subst (λ (xs : List Entry). Keeps h.cube.kind (promise_of h.cube) line.sent xs) h.got k)
 
@@ -44,17 +47,15 @@ none_got (x ∷ xs) P has none = absurd (none (has 0 x refl))
 
 pub keeps_cube : (d : DifSeen) (lines : List Direction) (below : Seen) (i k : ℕ) (e other : End) → IsStanding d lines below → At d.ends i e → At d.ends k other → IsPartner e other → KeepsCube (fac_of d) e other
 keeps_cube d lines below i k e other st is_e is_other p =
-    let f = beside d.ends d.conns i e st.own.alike is_e in
-    let c = beside d.ends d.conns k other st.own.alike is_other in
     let line = beside d.ends lines k other st.own.lines_alike is_other in
-    let e_conn : IsConn d.ends d.conns i e f.0 = record { end = is_e; ids_are = f.1 } in
-    let o_conn : IsConn d.ends d.conns k other c.0 = record { end = is_other; ids_are = c.1 } in
-    let flow = st.own.flows k i other e c.0 f.0 line.0 o_conn e_conn line.1 (partner_back e other p) in
-    let cube_is : c.0.qos ≡ e.cube = ap (λ (x : Ids). x.qos) (sym flow.mirror) ∙ (st.own.ids i e f.0 e_conn).qos in
+    let back = partner_back e other p in
+    let q = pair d.config d.clock (Cloud Everywhere d.config d.processes below) d.ends d.conns lines st.own k i other e is_other is_e back in
+    let flow = (st.own.flows_are k i other e q.x q.flow q.far line.0 is_other is_e back q.is_x q.stands q.known line.1).direction in
+    let cube_is : (ids_from q.x.side q.flow q.far other.cube).qos ≡ e.cube = qos_from q.x.side q.flow q.far other.cube ∙ (st.journal.named i k e other is_e is_other p).cube in
     record {
       cube = offer_of flow.cube;
-      offer = ap (cube_in (map offer_of d.config.cubes)) (sym cube_is) ∙ offered_by c.0.qos d.config.cubes ∙ ap (option_map offer_of) flow.is_cube;
-      keeps = flow_keeps d.config d.clock (Cloud Everywhere d.config d.processes below) other e c.0 f.0 line.0 st.config flow;
+      offer = ap (cube_in (map offer_of d.config.cubes)) (sym cube_is) ∙ offered_by (ids_from q.x.side q.flow q.far other.cube).qos d.config.cubes ∙ ap (option_map offer_of) flow.is_cube;
+      keeps = flow_keeps d.config d.clock (Cloud Everywhere d.config d.processes below) (IsInUse d.clock q.flow) other e (ids_from q.x.side q.flow q.far other.cube) line.0 st.config flow;
     }
 
 promise_least : (c : Cube) (kind : Kind) → IsCube c → promise_by kind c ≤ 2000000

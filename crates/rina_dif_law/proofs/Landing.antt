@@ -16,7 +16,7 @@ use Rattle.rina_iface.specs.declared.state.PortState.{PortState}
 use Rattle.rina_iface.specs.Journal.{AreKept}
 use Rattle.rina_iface.specs.Pass.{IsPassed as PassesBelow}
 use Rattle.rina_iface.specs.Seen.{Seen, end_of, unpassed}
-use Rattle.rina_iface.proofs.Changed.{slice_get-set_same}
+use Rattle.rina_iface.proofs.Changed.{set_at, slice_get-set_same}
 use Rattle.rina_iface.proofs.Found.{end_of_stands}
 use Rattle.rina_law.specs.declared.entry.Entry.{Entry}
 use Rattle.rina_law.specs.Constants.{Constants}
@@ -43,21 +43,23 @@ use Rattle.rina_data.specs.Configs.{Config, Member, piece_size}
 use Rattle.rina_dif_law.specs.Dif.{DifSeen, IsProcess, constants, with_process}
 use Rattle.rina_data.specs.Process.{Process, link_by, with_offs}
 use Rattle.rina_dif_law.specs.Ids.{Ids, IsFrom, PiecesOf, flipped}
-use Rattle.rina_dif_law.specs.Incoming.{Ins, IsArrived, IsInTime, IsRelayed, IsTold, Settles, SettlesOff, arrived, found, joined_by, lines_for, written_off}
+use Rattle.rina_dif_law.specs.Incoming.{Ins, IsArrived, IsInTime, IsRelayed, IsOnLink, IsTold, Settles, SettlesFlow, SettlesOff, arrived, cause_told, found, joined_by, lines_for, written_off}
 use Rattle.rina_dif_law.specs.Numbered.{IsNumbered}
 use Rattle.rina_data.specs.Queueing.{line_for}
 use Rattle.rina_dif_law.specs.Standing.{IsStanding}
-use Rattle.rina_dif_law.proofs.Accounting.{left_at, one_off, one_process, put_one, renewed}
+use Rattle.rina_dif_law.proofs.Accounting.{left_at, offs_more, one_off, one_process, put_one, renewed}
 use Rattle.rina_dif_law.proofs.Arrivals.{arrival}
-use Rattle.rina_dif_law.proofs.Balancing.{IsMoved, gone, moved_in}
+use Rattle.rina_dif_law.proofs.Balancing.{AreSame, IsMoved, gone, moved_in}
 use Rattle.rina_dif_law.proofs.Carrying.{arriving_sized}
 use Rattle.rina_dif_law.proofs.Coming.{alive_arrival}
 use Rattle.rina_dif_law.proofs.Ends.{same_some}
 use Rattle.rina_dif_law.proofs.Forgot.{by_found, found_got}
 use Rattle.rina_dif_law.proofs.Joined.{after_known, none_joined}
 use Rattle.rina_dif_law.proofs.Keys.{AreOf, IsOneKey, one, one_by_number, one_not, piece_no_ack}
+use Rattle.rina_dif_law.proofs.OfLinks.{accounted_but, none_noted, not_bears, not_bears_on, once_if}
 use Rattle.rina_dif_law.proofs.Pieces.{cut_pieces, journal_more, whole_journal}
-use Rattle.rina_dif_law.proofs.Receiving.{HaveCome, inbound_ids, others_addr, received}
+use Rattle.rina_dif_law.proofs.Receiving.{HaveCome, others_addr, received}
+use Rattle.rina_dif_law.proofs.Own.{direction_in}
 use Rattle.rina_dif_law.proofs.Relaying.{accounted_same, has_taken, link_named, named_at, same_process, within_kept}
 use Rattle.rina_dif_law.proofs.Tallies.{end_changed, hold_elsewhere, hold_set, inbound_at, kept_all_same}
 
@@ -109,9 +111,6 @@ on_less addr k hop = go (key_eq k (key_of hop.pdu))
         small : (c : Bool) → cond c 1 0 ≤ 1
         small true = omega arith
         small false = omega arith
-
-abbrev once_if : Bool → ℕ
-once_if b = cond b 1 0
 
 on_none : (addr : ℕ) (k : Key) (hop : Hop) → hop.pdu.dst ≡ addr → once_if (bears_on addr k (Some hop)) ≡ 0
 on_none addr k hop dst = go (key_eq k (key_of hop.pdu)) (eqb hop.pdu.dst addr) (eq-eqb hop.pdu.dst addr dst)
@@ -239,29 +238,29 @@ module _ (d : DifSeen) (lines : List Direction) (below below' : Seen) (kept' : A
       let offs : List Off = s.dropped ++ lines_for pdu cause in
       let conn = s.taker.is_conn in
       let names = s.taker.names in
-      let far = inbound_ids d lines below s.place s.end s.ids s.from s.line st conn s.inbound in
       let partner = s.inbound.partner in
-      let flow = st.own.flows s.from s.place partner s.end (flipped s.ids) s.ids s.line (record { end = s.inbound.is_partner; ids_are = far }) conn s.inbound.is_line s.inbound.partners in
+      let named = st.journal.named s.from s.place partner s.end s.inbound.is_partner conn.end s.inbound.partners in
+      let flow = direction_in d.config d.clock (Cloud Everywhere d.config d.processes below) d.ends d.conns lines st.own s.from s.place partner s.end s.ids s.line s.inbound.is_partner conn s.inbound.is_line s.inbound.partners s.taker.allocated named.cube in
       let piece : PiecesOf (Cloud Everywhere d.config d.processes below) (flipped s.ids) older p = record { pdu = pdu; in_cloud = has; kind = s.piece; from = names; is = refl } in
-      let sized = arriving_sized d.config d.clock (Cloud Everywhere d.config d.processes below) partner s.end (flipped s.ids) s.ids s.line older p flow piece alive in
+      let sized = arriving_sized d.config d.clock (Cloud Everywhere d.config d.processes below) partner s.end (flipped s.ids) s.line older p flow piece alive in
       let holds = holds_sized d.config d.clock below s.ids s.line (carrying.holding s.place s.from s.end s.ids s.line conn s.inbound) in
       let some : 0 < size = (let big = st.config.piece in omega (arith, big)) in
       let own : (m : Member) → slice_get d.config.members i ≡ Some m → s.ids.own ≡ m.addr = λ m is. sym names.dst ∙ dst ∙ ap (λ (z : Member). z.addr) (same_some (slice_get d.config.members i) t.member m t.is_process.is_member is) in
-      let old : inbound_of d.conns lines s.ids ≡ Some s.line = inbound_at d.conns lines s.from s.ids s.line st.own.apart far s.inbound.is_line in
-      let new : inbound_of d.conns lines'' s.ids ≡ Some line' = inbound_at d.conns lines'' s.from s.ids line' st.own.apart far (slice_get-set_same lines s.from s.line line' s.inbound.is_line) in
+      let old : inbound_of d.ends lines s.end ≡ Some s.line = inbound_at d.clock d.ends st.journal s.from partner s.end s.inbound.is_partner s.inbound.partners lines s.line s.inbound.is_line in
+      let new : inbound_of d.ends lines'' s.end ≡ Some line' = inbound_at d.clock d.ends st.journal s.from partner s.end s.inbound.is_partner s.inbound.partners lines'' line' (slice_get-set_same lines s.from s.line line' s.inbound.is_line) in
       subst (λ (z : DifSeen). IsAccounted z lines' below') (sym s.new_is) (subst (λ (ls : List Direction). IsAccounted (renewed d (slice_set d.ends s.place e') i (with_offs process offs)) ls below') (sym s.lines_are)
-      (received d lines lines'' below below' (slice_set d.ends s.place e') i process s.place s.end e' s.ids offs (λ k. one k (key_of pdu)) (end_changed d.ends s.place s.end e' conn.end) conn.ids_are refl
-      (λ n. hold_elsewhere d.conns lines s.from s.place s.ids line' n st.own.apart far conn.ids_are)
+      (received d lines lines'' below below' (slice_set d.ends s.place e') i process s.place s.end e' s.ids offs (λ k. one k (key_of pdu)) (end_changed d.ends s.place s.end e' conn.end refl refl) conn.ids_are refl
+      (λ n. hold_elsewhere d.clock d.ends st.journal s.from partner s.end s.inbound.is_partner s.inbound.partners s.place lines line' n conn.end)
       (offs_of_arrival s.ids pdu s.dropped cause s.piece names (λ off one. (let h = s.all_dropped off one in (h.kind, h.src, h.scep))))
       (come_here dst)
       (λ k none. one_not k (key_of pdu) (λ o. none (o.kind ∙ s.piece, sym names.src ∙ sym o.src, sym names.scep ∙ sym o.scep)))
       (λ k h.
-      let before : held_by s.end.state (held_in (inbound_of d.conns lines s.ids) k.seq) ≡ times k.seq (held_numbers s.line) = ap (λ (z : PortState). held_by z (held_in (inbound_of d.conns lines s.ids) k.seq)) s.taker.allocated ∙ ap (λ (o : Option Direction). held_in o k.seq) old in
-      let after : held_by s.end.state (held_in (inbound_of d.conns lines'' s.ids) k.seq) ≡ times k.seq (held_numbers line') = ap (λ (z : PortState). held_by z (held_in (inbound_of d.conns lines'' s.ids) k.seq)) s.taker.allocated ∙ ap (λ (o : Option Direction). held_in o k.seq) new in
+      let before : held_by s.end.state (held_in (inbound_of d.ends lines s.end) k.seq) ≡ times k.seq (held_numbers s.line) = ap (λ (z : PortState). held_by z (held_in (inbound_of d.ends lines s.end) k.seq)) s.taker.allocated ∙ ap (λ (o : Option Direction). held_in o k.seq) old in
+      let after : held_by s.end.state (held_in (inbound_of d.ends lines'' s.end) k.seq) ≡ times k.seq (held_numbers line') = ap (λ (z : PortState). held_by z (held_in (inbound_of d.ends lines'' s.end) k.seq)) s.taker.allocated ∙ ap (λ (o : Option Direction). held_in o k.seq) new in
       let number : one k (key_of pdu) ≡ cond (eqb k.seq p.number) 1 0 = one_by_number k (key_of pdu) (h.0 ∙ sym s.piece) (sym h.1 ∙ sym names.src) (sym h.2 ∙ sym names.scep) ∙ ap (λ (n : ℕ). cond (eqb k.seq n) 1 0) (piece_number pdu s.piece) in
       let got = got_more size c p s.line s.end.got k.seq some sized holds flow.got in
       let all : cond (eqb k.seq p.number) 1 0 + times k.seq (held_numbers s.line) ≡ times k.seq (off_numbers offs) + times k.seq (held_numbers line') + times k.seq (whole_numbers (joined_by c p s.line)) = s.settled k.seq in
-      ledger_balance (one k (key_of pdu)) (cond (eqb k.seq p.number) 1 0) (times k.seq (held_numbers s.line)) (times k.seq (held_numbers line')) (times k.seq (off_numbers offs)) (times k.seq (whole_numbers (joined_by c p s.line))) (times k.seq (journal_numbers size s.end.got)) (times k.seq (journal_numbers size e'.got)) (held_by s.end.state (held_in (inbound_of d.conns lines s.ids) k.seq)) (held_by s.end.state (held_in (inbound_of d.conns lines'' s.ids) k.seq)) number before after got all)
+      ledger_balance (one k (key_of pdu)) (cond (eqb k.seq p.number) 1 0) (times k.seq (held_numbers s.line)) (times k.seq (held_numbers line')) (times k.seq (off_numbers offs)) (times k.seq (whole_numbers (joined_by c p s.line))) (times k.seq (journal_numbers size s.end.got)) (times k.seq (journal_numbers size e'.got)) (held_by s.end.state (held_in (inbound_of d.ends lines s.end) k.seq)) (held_by s.end.state (held_in (inbound_of d.ends lines'' s.end) k.seq)) number before after got all)
       a t.is_process.is_process within own (others_addr d below i t.member s.ids numbered t.is_process.is_member (own t.member t.is_process.is_member))))
 
   told_as : (d' : DifSeen) (lines' : List Direction) → hop.pdu.dst ≡ t.member.addr → IsTold d lines hop.pdu d' lines' → IsAccounted d' lines' below'
@@ -299,13 +298,55 @@ module _ (d : DifSeen) (lines : List Direction) (below below' : Seen) (kept' : A
   settled_off older at (causes.Broken missing) d' lines' has alive s = arrived_as older (Some (causes.Broken missing)) d' lines' s.1 has (alive s.0) s.2
   settled_off older at (causes.LinkDown down) d' lines' has alive s = absurd s
 
-  settled_in : (older at : ℕ) (end : Took) (d' : DifSeen) (lines' : List Direction) → Cloud Everywhere d.config d.processes below older hop.pdu → (IsInTime d at hop → d.clock ≤ older) → Settles d lines i t.member process at hop end d' lines' → IsAccounted d' lines' below'
-  settled_in older at took.Accepted d' lines' has alive s = elim (s.2) [
+  flow_accounted : (older at : ℕ) (end : Took) (d' : DifSeen) (lines' : List Direction) → Cloud Everywhere d.config d.processes below older hop.pdu → (IsInTime d at hop → d.clock ≤ older) → SettlesFlow d lines i t.member process at hop end d' lines' → IsAccounted d' lines' below'
+  flow_accounted older at took.Accepted d' lines' has alive s = elim (s.2) [
     | inl x ↦ arrived_as older None d' lines' s.1 has (alive s.0) x
     | inr x ↦ told_as d' lines' s.1 x
   ]
-  settled_in older at took.Relayed d' lines' has alive s = relayed_as at d' lines' s.2 s.3
-  settled_in older at (took.Off cause) d' lines' has alive s = settled_off older at cause d' lines' has alive s
+  flow_accounted older at took.Relayed d' lines' has alive s = relayed_as at d' lines' s.2 s.3
+  flow_accounted older at (took.Off cause) d' lines' has alive s = settled_off older at cause d' lines' has alive s
+
+  -- it is of a link, whose PDUs the account does not count
+  link_accounted : (at : ℕ) (end : Took) (d' : DifSeen) (lines' : List Direction) → IsOnLink d lines i process at hop end d' lines' → IsAccounted d' lines' below'
+  link_accounted at end d' lines' s =
+      let offs : List Off = s.dropped ++ lines_for hop.pdu (cause_told end) in
+      let new : Process = with_offs process offs in
+      let next : DifSeen = with_process d i new in
+      let keys : (off : Off) → In off offs → (off.key.src ≡ 0) × (off.key.scep ≡ 0) = λ off one. (let x = s.each off one in (x.src, x.scep)) in
+      subst (λ (z : DifSeen). IsAccounted z lines' below') (sym s.new_is) (subst (λ (ls : List Direction). IsAccounted next ls below') (sym s.lines_are)
+      (accounted_but d next lines below below' (λ j m is zero. (let least = numbered.members.least j m is in omega (arith, least, zero))) a within a.apart
+      (λ addr cep r. record { place = r.place; ids = r.ids; stands = r.stands; own = r.own; scep = r.scep; cube = r.cube; is_cube = r.is_cube; reliable = r.reliable })
+      (λ j m q k is other. elim (set_at d.processes i j process new q t.is_process.is_process is.is_process) [
+        | inl x ↦
+            let m_is : t.member ≡ m = same_some (slice_get d.config.members i) t.member m t.is_process.is_member (subst (λ (z : ℕ). slice_get d.config.members z ≡ Some m) x.0 is.is_member) in
+            let there : slice_get d.processes j ≡ Some process = ap (slice_get d.processes) x.0 ∙ t.is_process.is_process in
+            let came = t.taken k in
+            let none = not_bears k hop other s.of_link in
+            let on = t.relayed k in
+            let none_on = not_bears_on t.member.addr k hop other s.of_link in
+            let sent = t.sent t.member.name k in
+            let more = offs_more k process offs in
+            let none_more = none_noted k offs other keys in
+            let same : AreSame (counts_of d lines below t.member process k) (counts_of next lines below' t.member new k) = record {
+              taken = omega (arith, came, none);
+              relayed = omega (arith, on, none_on);
+              gone = omega (arith, sent, more, none_more);
+              made = refl;
+              kept = refl;
+            } in
+            (process, record { is_member = is.is_member; is_process = there }, subst (λ (z : Member). AreSame (counts_of d lines below z process k) (counts_of next lines below' z q k)) m_is (subst (λ (z : Process). AreSame (counts_of d lines below t.member process k) (counts_of next lines below' t.member z k)) (sym x.1) same))
+        | inr f ↦
+            let there : IsProcess d j m q = record { is_member = is.is_member; is_process = f.1 } in
+            let o = t.others j m q k f.0 there in
+            let sent = t.sent m.name k in
+            (q, there, record { taken = o.0; relayed = o.1; gone = omega (arith, sent); made = refl; kept = refl })
+      ])))
+
+  settled_in : (older at : ℕ) (end : Took) (d' : DifSeen) (lines' : List Direction) → Cloud Everywhere d.config d.processes below older hop.pdu → (IsInTime d at hop → d.clock ≤ older) → Settles d lines i t.member process at hop end d' lines' → IsAccounted d' lines' below'
+  settled_in older at end d' lines' has alive s = elim s [
+    | inl flow ↦ flow_accounted older at end d' lines' has alive flow.1
+    | inr link ↦ link_accounted at end d' lines' link
+  ]
 
 pub ins_accounted : (d : DifSeen) (lines : List Direction) (below : Seen) (i n : ℕ) (r : Result InStep StepError) (d' : DifSeen) (lines' : List Direction) (below' : Seen) → AreKept below → AreKept below' → IsStanding d lines below → IsNumbered d below → IsCarrying d lines below → IsAccounted d lines below → Ins d lines below i n r d' lines' below' → IsAccounted d' lines' below'
 unfolding taken_from

@@ -28,10 +28,16 @@ pub mod Linkless
 pub mod Lawfully
 pub mod Making
 pub mod Numbering
+pub mod OfLinks
 pub mod Others
 pub mod Own
+pub mod OwnEnds
+pub mod OwnMade
+pub mod OwnRows
+pub mod Pairs
 pub mod Partnered
 pub mod Pieces
+pub mod Placed
 pub mod Queues
 pub mod Receiving
 pub mod Relaying

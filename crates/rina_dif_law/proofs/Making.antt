@@ -92,7 +92,7 @@ offered_accounted d lines below at parts num d' lines' st numbered a cut s =
     let ends' : List End = slice_set d.ends at e' in
     let lines'' : List Direction = slice_set lines at line' in
     let new : Process = with_put s.process s.place s.queue items in
-    let change = end_changed d.ends at s.end e' s.is_conn.end in
+    let change = end_changed d.ends at s.end e' s.is_conn.end refl refl in
     let some : 0 < size = (let big = st.config.piece in omega (arith, big)) in
     let hold : (n : ℕ) → HoldSame lines lines'' n = λ n. hold_set lines at s.line line' n s.is_line (offered_hold c parts s.line n) in
     let kept : (addr : ℕ) (k : Key) → _ = λ addr k. kept_same size d.conns lines lines'' addr k d.ends ends' at s.end e' change refl refl (hold k.seq) in

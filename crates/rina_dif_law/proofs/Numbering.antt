@@ -2,6 +2,7 @@
 use Rattle.std.proofs.Common.{◌≡◌, ℕ, suc, ◌+◌, List, [], ◌∷◌, ◌++◌, ◌&&◌, cond, eqb, length, length-set, slice_get, slice_set, Some, None, Ok, Err, Option, Result, refl, sym, ◌∙◌, ap, subst, arith, inl, inr}
 use Rattle.std.proofs.lemmas.List.Sums.{sum_by-cons}
 use Rattle.std.proofs.lemmas.Option.{slice_get_within}
+use Rattle.rina_account.specs.declared.ledger.Off.{Off}
 use Rattle.rina_base.specs.declared.cause.Cause.{Cause}
 use Rattle.rina_base.specs.declared.cause.Cause.TheVariants as causes
 use Rattle.rina_base.specs.declared.number.Key.{Key}
@@ -39,7 +40,7 @@ use Rattle.rina_data.specs.Configs.{Member}
 use Rattle.rina_data.specs.Process.{Process, with_offs, with_put}
 use Rattle.rina_dif_law.specs.Ending.{IsEnded}
 use Rattle.rina_dif_law.specs.Ids.{Ids}
-use Rattle.rina_dif_law.specs.Incoming.{Ins, IsArrived, IsRelayed, Settles, SettlesOff, lines_for}
+use Rattle.rina_dif_law.specs.Incoming.{Ins, IsArrived, IsRelayed, Settles, SettlesFlow, SettlesOff, cause_told, lines_for}
 use Rattle.rina_dif_law.specs.Lifting.{IsLifted}
 use Rattle.rina_dif_law.specs.Numbered.{AreMembers, IsAddressed, IsCounted, IsFromHere, IsNumbered, asked_at, is_asker}
 use Rattle.rina_data.specs.Outgoing.{Goes, IsForwarded, IsWrittenOff, Offs, sent_bytes}
@@ -253,10 +254,13 @@ module _ (d : DifSeen) (lines : List Direction) (below below' : Seen) (n : IsNum
       let process' : Process = with_offs process (s.dropped ++ lines_for hop.pdu cause) in
       numbered_at d d' d.clock (slice_set d.processes i process') _ below below' s.new_is later number n (none_here d (slice_set d.processes i process') below below' n (requeued_same d.processes i process process' is_process refl) after)
 
-  noted_numbered : (cause : Cause) (d' : DifSeen) → AreLater d.clock d'.clock d.ends d'.ends → length d'.ends ≡ length d.ends → d' ≡ with_process d i (with_offs process (line_for hop.pdu cause ∷ [])) → IsNumbered d' below'
-  noted_numbered cause d' later number is =
-      let process' : Process = with_offs process (line_for hop.pdu cause ∷ []) in
+  offs_numbered : (offs : List Off) (d' : DifSeen) → AreLater d.clock d'.clock d.ends d'.ends → length d'.ends ≡ length d.ends → d' ≡ with_process d i (with_offs process offs) → IsNumbered d' below'
+  offs_numbered offs d' later number is =
+      let process' : Process = with_offs process offs in
       numbered_at d d' d.clock (slice_set d.processes i process') d.ends below below' is later number n (none_here d (slice_set d.processes i process') below below' n (requeued_same d.processes i process process' is_process refl) after)
+
+  noted_numbered : (cause : Cause) (d' : DifSeen) → AreLater d.clock d'.clock d.ends d'.ends → length d'.ends ≡ length d.ends → d' ≡ with_process d i (with_offs process (line_for hop.pdu cause ∷ [])) → IsNumbered d' below'
+  noted_numbered cause d' later number is = offs_numbered (line_for hop.pdu cause ∷ []) d' later number is
 
   relayed_numbered : (d' : DifSeen) → AreLater d.clock d'.clock d.ends d'.ends → length d'.ends ≡ length d.ends → IsRelayed d i process at hop d' → IsNumbered d' below'
   relayed_numbered d' later number s =
@@ -284,13 +288,19 @@ module _ (d : DifSeen) (lines : List Direction) (below below' : Seen) (n : IsNum
   told_numbered : (d' : DifSeen) → d' ≡ d → IsNumbered d' below'
   told_numbered d' is = subst (λ (z : DifSeen). IsNumbered z below') (sym is) (record { members = n.members; addressed = n.addressed; counted = n.counted; named = none_here d d.processes below below' n (requeued_none d.processes) after })
 
-  settles_numbered : (end : Took) (d' : DifSeen) (lines' : List Direction) → AreLater d.clock d'.clock d.ends d'.ends → length d'.ends ≡ length d.ends → Settles d lines i member process at hop end d' lines' → IsNumbered d' below'
-  settles_numbered took.Accepted d' lines' later number s = elim (s.2) [
+  flow_numbered : (end : Took) (d' : DifSeen) (lines' : List Direction) → AreLater d.clock d'.clock d.ends d'.ends → length d'.ends ≡ length d.ends → SettlesFlow d lines i member process at hop end d' lines' → IsNumbered d' below'
+  flow_numbered took.Accepted d' lines' later number s = elim (s.2) [
     | inl x ↦ arrived_numbered None d' lines' later number x
     | inr x ↦ told_numbered d' x.new_is
   ]
-  settles_numbered took.Relayed d' lines' later number s = relayed_numbered d' later number s.2
-  settles_numbered (took.Off cause) d' lines' later number s = settles_off_numbered cause d' lines' later number s
+  flow_numbered took.Relayed d' lines' later number s = relayed_numbered d' later number s.2
+  flow_numbered (took.Off cause) d' lines' later number s = settles_off_numbered cause d' lines' later number s
+
+  settles_numbered : (end : Took) (d' : DifSeen) (lines' : List Direction) → AreLater d.clock d'.clock d.ends d'.ends → length d'.ends ≡ length d.ends → Settles d lines i member process at hop end d' lines' → IsNumbered d' below'
+  settles_numbered end d' lines' later number s = elim s [
+    | inl flow ↦ flow_numbered end d' lines' later number flow.1
+    | inr link ↦ offs_numbered (link.dropped ++ lines_for hop.pdu (cause_told end)) d' later number link.new_is
+  ]
 
 pub ins_numbered : (d : DifSeen) (lines : List Direction) (below : Seen) (i m : ℕ) (r : Result InStep StepError) (d' : DifSeen) (lines' : List Direction) (below' : Seen) → AreKept below → AreKept below' → IsStanding d lines below → IsNumbered d below → Ins d lines below i m r d' lines' below' → IsNumbered d' below'
 ins_numbered d lines below i m (Ok in_.Idle) d' lines' below' kept kept' st n s = same_numbered d d' below below' s.1 s.3 n

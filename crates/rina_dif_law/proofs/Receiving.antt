@@ -22,14 +22,14 @@ use Rattle.rina_dif_law.specs.Ending.{IsEnded}
 use Rattle.rina_dif_law.specs.Ids.{Ids, flipped}
 use Rattle.rina_dif_law.specs.Incoming.{IsInbound}
 use Rattle.rina_dif_law.specs.Numbered.{IsNumbered}
-use Rattle.rina_dif_law.specs.Standing.{IsConn, IsStanding}
+use Rattle.rina_dif_law.specs.Standing.{IsStanding}
 use Rattle.rina_dif_law.specs.Timely.{IsForgotten}
 use Rattle.rina_dif_law.proofs.Accounting.{home_addr, resends_on, offs_more, one_process, renewed}
 use Rattle.rina_dif_law.proofs.Balancing.{accounted_on, gone, moved_same}
 use Rattle.rina_dif_law.proofs.Finding.{beside}
 use Rattle.rina_dif_law.proofs.Keys.{AreOf, offs_of, offs_others, piece_no_ack}
 use Rattle.rina_dif_law.proofs.Own.{partner_back}
-use Rattle.rina_dif_law.proofs.Tallies.{HoldElsewhere, IsEndChanged, end_changed, end_stays, hold_elsewhere, inbound_at, kept_change, kept_in, kept_not, kept_own, kept_restated, made_same}
+use Rattle.rina_dif_law.proofs.Tallies.{HoldElsewhere, IsEndChanged, end_changed, end_stays, hold_elsewhere, inbound_at, inbound_changed, kept_change, kept_in, kept_not, kept_own, kept_restated, made_same}
 
 -- what came to an IPC process from below, by keys, and to no other
 pub record HaveCome (d : DifSeen) (below below' : Seen) (i : ℕ) (came : Key → ℕ) : Type 0 where
@@ -54,9 +54,9 @@ coming_cases ids k kind = elim (eqb_tells ids.far k.src) [
   | inr a ↦ inr (λ h. a.1 h.1)
 ]
 
--- what an end with these ids counts of the pieces of a key: those it got, and those that its receiver holds
-abbrev pub keeps_of : DifSeen → List Direction → End → Ids → ℕ → ℕ
-keeps_of d lines e ids n = times n (journal_numbers (piece_size d.config) e.got) + held_by e.state (held_in (inbound_of d.conns lines ids) n)
+-- what an end counts of the pieces of a key: those it got, and those that its receiver holds
+abbrev pub keeps_of : DifSeen → List Direction → End → ℕ → ℕ
+keeps_of d lines e n = times n (journal_numbers (piece_size d.config) e.got) + held_by e.state (held_in (inbound_of d.ends lines e) n)
 
 moved_kept : (n n' : Counts) (came offs old new : ℕ) → n'.taken ≡ n.taken + came → gone n' ≡ gone n + offs → n'.kept + old ≡ n.kept + new → came + old ≡ offs + new → n'.taken + (gone n + n.kept) ≡ n.taken + (gone n' + n'.kept)
 moved_kept n n' came offs old new a b c d = omega arith
@@ -80,13 +80,13 @@ still_ack : (n n' : Counts) (came offs : ℕ) → n'.taken ≡ n.taken + came �
 still_ack n n' came offs a b c d = omega arith
 
 module _ (d : DifSeen) (lines lines' : List Direction) (below below' : Seen) (ends' : List End) (i : ℕ) (process : Process) (at : ℕ) (e e' : End) (ids : Ids) (offs : List Off) (came : Key → ℕ)
-    (change : IsEndChanged d.ends ends' at e e') (conn : slice_get d.conns at ≡ Some ids) (sent : e'.sent ≡ e.sent) (hold : (n : ℕ) → HoldElsewhere d.conns lines lines' at n) (of : AreOf ids.far ids.dcep offs) (have : HaveCome d below below' i came)
-    (nothing : (k : Key) → (IsComing ids k → ⊥) → came k ≡ 0) (settled : (k : Key) → IsComing ids k → came k + keeps_of d lines e ids k.seq ≡ times k.seq (off_numbers offs) + keeps_of d lines' e' ids k.seq) where
+    (change : IsEndChanged d.ends ends' at e e') (conn : slice_get d.conns at ≡ Some ids) (sent : e'.sent ≡ e.sent) (hold : (n : ℕ) → HoldElsewhere d.ends lines lines' at n) (of : AreOf ids.far ids.dcep offs) (have : HaveCome d below below' i came)
+    (nothing : (k : Key) → (IsComing ids k → ⊥) → came k ≡ 0) (settled : (k : Key) → IsComing ids k → came k + keeps_of d lines e k.seq ≡ times k.seq (off_numbers offs) + keeps_of d lines' e' k.seq) where
   kept_apart : (addr : ℕ) (k : Key) → (ids.own ≡ addr → ids.far ≡ k.src → ids.dcep ≡ k.scep → ⊥) → total (length ends') (kept_in (piece_size d.config) d.conns lines' addr k ends') ≡ total (length d.ends) (kept_in (piece_size d.config) d.conns lines addr k d.ends)
   kept_apart addr k none =
       let all = kept_change (piece_size d.config) d.conns lines lines' addr k d.ends ends' at e e' ids change conn (hold k.seq) in
-      let old = kept_not (piece_size d.config) d.conns lines addr k e ids none in
-      let new = kept_not (piece_size d.config) d.conns lines' addr k e' ids none in
+      let old = kept_not (piece_size d.config) d.ends lines addr k e ids none in
+      let new = kept_not (piece_size d.config) ends' lines' addr k e' ids none in
       omega (arith, all, old, new)
 
   pub received : IsAccounted d lines below → slice_get d.processes i ≡ Some process → ((port : Port) (a : End) → end_of below' port ≡ Some a → IsMine d.config.members a.app → a.taken ≤ length a.got)
@@ -120,12 +120,12 @@ module _ (d : DifSeen) (lines lines' : List Direction) (below below' : Seen) (en
       record {
         foreign = λ kind src. elim (coming_cases ids k kind) [
           | inl h ↦
-              let all : n'.kept + kept_by (piece_size d.config) d.conns lines m.addr k (Some e) (Some ids) ≡ n.kept + kept_by (piece_size d.config) d.conns lines' m.addr k (Some e') (Some ids) = kept_change (piece_size d.config) d.conns lines lines' m.addr k d.ends ends' at e e' ids change conn (hold k.seq) in
-              let old : kept_by (piece_size d.config) d.conns lines m.addr k (Some e) (Some ids) ≡ keeps_of d lines e ids k.seq = kept_own (piece_size d.config) d.conns lines m.addr k e ids own h.1 h.2 in
-              let new : kept_by (piece_size d.config) d.conns lines' m.addr k (Some e') (Some ids) ≡ keeps_of d lines' e' ids k.seq = kept_own (piece_size d.config) d.conns lines' m.addr k e' ids own h.1 h.2 in
+              let all : n'.kept + kept_by (piece_size d.config) d.ends lines m.addr k (Some e) (Some ids) ≡ n.kept + kept_by (piece_size d.config) ends' lines' m.addr k (Some e') (Some ids) = kept_change (piece_size d.config) d.conns lines lines' m.addr k d.ends ends' at e e' ids change conn (hold k.seq) in
+              let old : kept_by (piece_size d.config) d.ends lines m.addr k (Some e) (Some ids) ≡ keeps_of d lines e k.seq = kept_own (piece_size d.config) d.ends lines m.addr k e ids own h.1 h.2 in
+              let new : kept_by (piece_size d.config) ends' lines' m.addr k (Some e') (Some ids) ≡ keeps_of d lines' e' k.seq = kept_own (piece_size d.config) ends' lines' m.addr k e' ids own h.1 h.2 ∙ ap (λ (o : Option Direction). times k.seq (journal_numbers (piece_size d.config) e'.got) + held_by e'.state (held_in o k.seq)) (inbound_changed d.ends ends' at e e' lines' e' change) in
               let balance = settled k h in
               let offs_are = offs_of k ids.far ids.dcep offs of kind (sym h.1) (sym h.2) in
-              moved_kept n n' (came k) (off_count offs k) (keeps_of d lines e ids k.seq) (keeps_of d lines' e' ids k.seq) taken more (ap (λ (x : ℕ). n'.kept + x) (sym old) ∙ all ∙ ap (λ (x : ℕ). n.kept + x) new) (balance ∙ ap (λ (x : ℕ). x + keeps_of d lines' e' ids k.seq) (sym offs_are))
+              moved_kept n n' (came k) (off_count offs k) (keeps_of d lines e k.seq) (keeps_of d lines' e' k.seq) taken more (ap (λ (x : ℕ). n'.kept + x) (sym old) ∙ all ∙ ap (λ (x : ℕ). n.kept + x) new) (balance ∙ ap (λ (x : ℕ). x + keeps_of d lines' e' k.seq) (sym offs_are))
           | inr none ↦ moved_apart n n' (came k) (off_count offs k) taken more (nothing k none) (none_of none) (apart kind none)
         ];
         own = λ kind src. (let none = not_own src in let x = nothing k none in let y = none_of none in still_le n n' (came k) (off_count offs k) taken more made x y);
@@ -136,14 +136,6 @@ module _ (d : DifSeen) (lines lines' : List Direction) (below below' : Seen) (en
       })
 
 -- ---- a receiver gives up what it holds
-
--- the ids of the end from which another receives
-pub inbound_ids : (d : DifSeen) (lines : List Direction) (below : Seen) (at : ℕ) (e : End) (ids : Ids) (from : ℕ) (line : Direction) → IsStanding d lines below → IsConn d.ends d.conns at e ids → IsInbound d lines e from line → slice_get d.conns from ≡ Some (flipped ids)
-inbound_ids d lines below at e ids from line st conn inbound =
-    let f = beside d.ends d.conns from inbound.partner st.own.alike inbound.is_partner in
-    let flow = st.own.flows from at inbound.partner e f.0 ids line (record { end = inbound.is_partner; ids_are = f.1 }) conn inbound.is_line inbound.partners in
-    let is : f.0 ≡ flipped ids = ap flipped (sym flow.mirror) in
-    f.1 ∙ ap (λ (z : Ids). Some z) is
 
 -- the IPC processes that are not that of an end have other addresses
 pub others_addr : (d : DifSeen) (below : Seen) (i : ℕ) (mine : Member) (ids : Ids) → IsNumbered d below → slice_get d.config.members i ≡ Some mine → ids.own ≡ mine.addr → (j : ℕ) (m : Member) → j ≢ i → slice_get d.config.members j ≡ Some m → ids.own ≢ m.addr
@@ -157,18 +149,18 @@ forgotten_accounted d lines below at d' lines' st numbered a s =
     let line' : Direction = happens (constants d.config s.cube (flipped s.ids)) s.line Forget in
     let lines'' : List Direction = slice_set lines s.from line' in
     let conn = s.is_home.is_conn in
-    let far = inbound_ids d lines below at s.end s.ids s.from s.line st conn s.inbound in
+    let partner = s.inbound.partner in
     let m = member_at d lines below s.i s.process st s.is_home.is_process in
     let own : (m : Member) → slice_get d.config.members s.i ≡ Some m → s.ids.own ≡ m.addr = λ m is. home_addr d below at s.end s.ids s.i m numbered conn s.is_home.at_home is in
     let of : AreOf s.ids.far s.ids.dcep s.dropped = record { each = λ off one. (let h = s.all_dropped off one in (h.0, h.1, h.2)) } in
-    let old : inbound_of d.conns lines s.ids ≡ Some s.line = inbound_at d.conns lines s.from s.ids s.line st.own.apart far s.inbound.is_line in
-    let new : inbound_of d.conns lines'' s.ids ≡ Some line' = inbound_at d.conns lines'' s.from s.ids line' st.own.apart far (slice_get-set_same lines s.from s.line line' s.inbound.is_line) in
+    let old : inbound_of d.ends lines s.end ≡ Some s.line = inbound_at d.clock d.ends st.journal s.from partner s.end s.inbound.is_partner s.inbound.partners lines s.line s.inbound.is_line in
+    let new : inbound_of d.ends lines'' s.end ≡ Some line' = inbound_at d.clock d.ends st.journal s.from partner s.end s.inbound.is_partner s.inbound.partners lines'' line' (slice_get-set_same lines s.from s.line line' s.inbound.is_line) in
     subst (λ (z : DifSeen). IsAccounted z lines' below) (sym s.new_is) (subst (λ (ls : List Direction). IsAccounted (renewed d d.ends s.i (with_offs s.process s.dropped)) ls below) (sym s.lines_are)
     (received d lines lines'' below below d.ends s.i s.process at s.end s.end s.ids s.dropped (λ k. 0) (end_stays d.ends at s.end conn.end) conn.ids_are refl
-    (λ n. hold_elsewhere d.conns lines s.from at s.ids line' n st.own.apart far conn.ids_are) of (none_came d below s.i) (λ k none. refl)
+    (λ n. hold_elsewhere d.clock d.ends st.journal s.from partner s.end s.inbound.is_partner s.inbound.partners at lines line' n conn.end) of (none_came d below s.i) (λ k none. refl)
     (λ k h.
-    let before : held_by s.end.state (held_in (inbound_of d.conns lines s.ids) k.seq) ≡ times k.seq (held_numbers s.line) = ap (λ (z : PortState). held_by z (held_in (inbound_of d.conns lines s.ids) k.seq)) s.is_home.allocated ∙ ap (λ (o : Option Direction). held_in o k.seq) old in
-    let after : held_by s.end.state (held_in (inbound_of d.conns lines'' s.ids) k.seq) ≡ 0 = ap (λ (z : PortState). held_by z (held_in (inbound_of d.conns lines'' s.ids) k.seq)) s.is_home.allocated ∙ ap (λ (o : Option Direction). held_in o k.seq) new in
+    let before : held_by s.end.state (held_in (inbound_of d.ends lines s.end) k.seq) ≡ times k.seq (held_numbers s.line) = ap (λ (z : PortState). held_by z (held_in (inbound_of d.ends lines s.end) k.seq)) s.is_home.allocated ∙ ap (λ (o : Option Direction). held_in o k.seq) old in
+    let after : held_by s.end.state (held_in (inbound_of d.ends lines'' s.end) k.seq) ≡ 0 = ap (λ (z : PortState). held_by z (held_in (inbound_of d.ends lines'' s.end) k.seq)) s.is_home.allocated ∙ ap (λ (o : Option Direction). held_in o k.seq) new in
     let all = s.all k.seq in
     omega (arith, before, after, all))
     a s.is_home.is_process a.passed own (others_addr d below s.i m.0 s.ids numbered m.1 (own m.0 m.1))))
@@ -190,17 +182,16 @@ ended_accounted d lines below at state d' st numbered a s =
     let p = st.journal.allocated at s.end conn.end s.allocated in
     let l = beside d.ends lines p.place p.other st.own.lines_alike p.stands in
     let inbound : IsInbound d lines s.end p.place l.0 = record { partner = p.other; is_partner = p.stands; partners = partner_back s.end p.other p.partner; is_line = l.1 } in
-    let far = inbound_ids d lines below at s.end s.ids p.place l.0 st conn inbound in
     let m = member_at d lines below s.i s.process st s.is_process in
     let own : (m : Member) → slice_get d.config.members s.i ≡ Some m → s.ids.own ≡ m.addr = λ m is. home_addr d below at s.end s.ids s.i m numbered conn s.at_home is in
     let of : AreOf s.ids.far s.ids.dcep s.dropped = record { each = λ off one. (let h = s.all_dropped off p.place l.0 one inbound in (h.0, h.1, h.2)) } in
-    let is : inbound_of d.conns lines s.ids ≡ Some l.0 = inbound_at d.conns lines p.place s.ids l.0 st.own.apart far l.1 in
+    let is : inbound_of d.ends lines s.end ≡ Some l.0 = inbound_at d.clock d.ends st.journal p.place p.other s.end p.stands inbound.partners lines l.0 l.1 in
     subst (λ (z : DifSeen). IsAccounted z lines below) (sym s.new_is)
-    (received d lines lines below below ends' s.i s.process at s.end e' s.ids s.dropped (λ k. 0) (end_changed d.ends at s.end e' conn.end) conn.ids_are refl
+    (received d lines lines below below ends' s.i s.process at s.end e' s.ids s.dropped (λ k. 0) (end_changed d.ends at s.end e' conn.end refl refl) conn.ids_are refl
     (λ n j c ne there. refl) of (none_came d below s.i) (λ k none. refl)
     (λ k h.
-    let before : held_by s.end.state (held_in (inbound_of d.conns lines s.ids) k.seq) ≡ times k.seq (held_numbers l.0) = ap (λ (z : PortState). held_by z (held_in (inbound_of d.conns lines s.ids) k.seq)) s.allocated ∙ ap (λ (o : Option Direction). held_in o k.seq) is in
-    let after : held_by state (held_in (inbound_of d.conns lines s.ids) k.seq) ≡ 0 = held_none state (held_in (inbound_of d.conns lines s.ids) k.seq) s.ends in
+    let before : held_by s.end.state (held_in (inbound_of d.ends lines s.end) k.seq) ≡ times k.seq (held_numbers l.0) = ap (λ (z : PortState). held_by z (held_in (inbound_of d.ends lines s.end) k.seq)) s.allocated ∙ ap (λ (o : Option Direction). held_in o k.seq) is in
+    let after : held_by state (held_in (inbound_of d.ends lines s.end) k.seq) ≡ 0 = held_none state (held_in (inbound_of d.ends lines s.end) k.seq) s.ends in
     let all = s.all p.place l.0 inbound k.seq in
     omega (arith, before, after, all))
     a s.is_process a.passed own (others_addr d below s.i m.0 s.ids numbered m.1 (own m.0 m.1)))
@@ -212,7 +203,7 @@ restated_accounted d lines below at end state a is old new =
     let end' : End = record end { state = state } in
     let ends' : List End = slice_set d.ends at end' in
     let d' : DifSeen = record d { ends = ends' } in
-    let change = end_changed d.ends at end end' is in
+    let change = end_changed d.ends at end end' is refl refl in
     accounted_on d d' lines lines below below a a.passed a.apart (λ i m p k here. record {
       process = p;
       is_process = record { is_member = here.is_member; is_process = here.is_process };

@@ -3,19 +3,16 @@ use Rattle.std.proofs.Common.{◌≡◌, ℕ, ◌+◌, ◌-◌, ◌*◌, ◌^◌
 use Rattle.rina_base.specs.declared.cause.Cause.{Cause}
 use Rattle.rina_base.specs.declared.cause.Cause.TheVariants as causes
 use Rattle.rina_base.specs.declared.pdu.Pdu.{Pdu}
-use Rattle.rina_base.specs.declared.pdu.PduKind.TheVariants.{Piece as APiece, Ack as AnAck}
 use Rattle.rina_cube.specs.declared.Cube.{Cube}
 use Rattle.rina_cube.specs.Cubes.{IsCube}
 use Rattle.rina_iface.specs.declared.ends.End.{End}
-use Rattle.rina_iface.specs.Journal.{IsPartner}
 use Rattle.rina_iface.specs.Seen.{Seen}
-use Rattle.rina_law.specs.Backed.{Covers, CoversBut}
+use Rattle.rina_law.specs.Backed.{CoversBut}
 use Rattle.rina_law.specs.Constants.{Constants}
-use Rattle.rina_law.specs.Direction.{Direction, Forget, May, after_ack, happens, is_ack_due, right_of}
+use Rattle.rina_law.specs.Direction.{Direction, Forget, after_ack, happens, is_ack_due, right_of}
 use Rattle.rina_law.specs.DirectionHolds.{DirectionHolds}
 use Rattle.rina_law.specs.Line.{again}
-use Rattle.rina_law.specs.Pdus.{ack_in, piece_in}
-use Rattle.rina_law.specs.Receiver.{Piece, next_of}
+use Rattle.rina_law.specs.Receiver.{next_of}
 use Rattle.rina_law.specs.Sender.{Ack, again_due, piece_again}
 use Rattle.rina_law.proofs.Agreeing.{direction_ack, direction_again}
 use Rattle.rina_law.proofs.Lawfulness.{lawful_from, welcome_from}
@@ -27,29 +24,20 @@ use Rattle.rina_dif_law.specs.Dif.{DifSeen, constants, with_process}
 use Rattle.rina_data.specs.Process.{Process, with_offs, with_put}
 use Rattle.rina_dif_law.specs.Ids.{Ids, flipped, pdu_of_ack, pdu_of_piece}
 use Rattle.rina_data.specs.Queueing.{line_for}
-use Rattle.rina_dif_law.specs.Standing.{AreIds, HasLink, IsConfig, IsFlow, IsItem, IsOwn, IsStanding}
+use Rattle.rina_dif_law.specs.Standing.{AreIds, HasLink, IsConfig, IsItem, IsOwn, IsStanding}
 use Rattle.rina_data.specs.Fitting.{IsFit}
 use Rattle.rina_dif_law.specs.Timely.{IsAcknowledged, IsForgotten, IsResent, Posts}
 use Rattle.rina_dif_law.proofs.After.{NoMore, after_none}
 use Rattle.rina_dif_law.proofs.Clouds.{NoItem, Requeued, cloud_after, covers_less}
-use Rattle.rina_dif_law.proofs.Finding.{beside, cube_limits}
-use Rattle.rina_dif_law.proofs.Flows.{acks_apart, flow_acknowledged, flow_again, flow_forgot, pieces_apart}
+use Rattle.rina_dif_law.proofs.Finding.{cube_limits}
 use Rattle.rina_dif_law.proofs.Frame.{stands_with}
 use Rattle.rina_dif_law.proofs.Giving.{IsSmall, piece_fit, power_positive}
-use Rattle.rina_dif_law.proofs.Own.{IsCovered, covered, one_partner, own_line, partner_back}
+use Rattle.rina_dif_law.proofs.Own.{direction_in, direction_out}
+use Rattle.rina_dif_law.proofs.OwnRows.{own_acknowledged, own_again, own_forgot}
 use Rattle.rina_dif_law.proofs.Queues.{JustItems, requeued_put, requeued_same, same_links}
-
-ids_same : (o : Option Ids) (a b : Ids) → o ≡ Some a → o ≡ Some b → a ≡ b
-ids_same o a b h g = cc
-
-ends_same : (o : Option End) (a b : End) → o ≡ Some a → o ≡ Some b → a ≡ b
-ends_same o a b h g = cc
 
 cubes_same : (o : Option Cube) (a b : Cube) → o ≡ Some a → o ≡ Some b → a ≡ b
 cubes_same o a b h g = cc
-
-kinds_differ : (pdu : Pdu) → pdu.kind ≡ APiece → pdu.kind ≡ AnAck → ⊥
-kinds_differ pdu a b = cc
 
 -- what a posting does to queues, links and the cloud
 record IsPosting (d : DifSeen) (below : Seen) (i mpl : ℕ) (pdu : Pdu) (process' : Process) : Type 0 where
@@ -116,18 +104,6 @@ posted_stands d lines lines' below i mpl pdu process' st p fit bound own =
 
 -- ---- a piece once more
 
-main_again : (g : Config) (now : ℕ) (cloud cloud' : ℕ → Pdu → Type 0) (a b : End) (c ids f : Ids) (line : Direction) (cube : Cube) (n : ℕ) → cube_by ids.qos g.cubes ≡ Some cube → IsCube cube → ids ≡ c → again_due (constants g cube ids) line.line.clock line.line.sender ≡ Some n → CoversBut now cloud (λ p. p ≡ pdu_of_piece ids (piece_again n line.line.sender)) (now + cube.mpl) cloud' → IsFlow g now cloud a b c f line → IsFlow g now cloud' a b c f (record line { line = again (constants g cube ids) n line.line })
-main_again g now cloud cloud' a b c ids f line cube n is_cube limits is due covers h =
-    let line' : Direction = record line { line = again (constants g cube ids) n line.line } in
-    let P : Ids → Type 0 = λ x. IsFlow g now cloud a b x f line → IsFlow g now cloud' a b x f line' in
-    subst P is (λ flow. flow_again g now cloud cloud' a b ids f line cube is_cube limits n (λ p. p ≡ pdu_of_piece ids (piece_again n line.line.sender)) due covers (λ pdu m. (ap (λ (z : Pdu). z.kind) m, ap piece_in m)) flow) h
-
-again_others : (now life : ℕ) (cloud cloud' : ℕ → Pdu → Type 0) (ids : Ids) (piece : Piece) (c : Ids) → CoversBut now cloud (λ p. p ≡ pdu_of_piece ids piece) life cloud' → (c.own ≡ ids.own → c.scep ≡ ids.scep → ⊥) → IsCovered now cloud cloud' c
-again_others now life cloud cloud' ids piece c covers apart = record {
-  pieces = pieces_apart now cloud cloud' c (λ p. p ≡ pdu_of_piece ids piece) life covers (λ pdu m kind from. apart (sym from.src ∙ ap (λ (z : Pdu). z.src) m) (sym from.scep ∙ ap (λ (z : Pdu). z.scep) m));
-  acks = acks_apart now cloud cloud' c (λ p. p ≡ pdu_of_piece ids piece) life covers (λ pdu m kind from. kinds_differ pdu (ap (λ (z : Pdu). z.kind) m) kind);
-}
-
 small_again : (k : Constants) (line : Direction) (n : ℕ) → IsCube k.cube → DirectionHolds k line → again_due k line.line.clock line.line.sender ≡ Some n → IsSmall k (piece_again n line.line.sender)
 small_again k line n limits holds due =
     let after = direction_again k line (Some n) due holds in
@@ -145,33 +121,16 @@ resent_stands d lines below at cause d' lines' st s =
     let limits = cube_limits d.config s.ids.qos s.cube st.config s.is_home.is_cube in
     let conn = s.is_home.is_conn in
     let partner = st.journal.allocated at s.end conn.end s.is_home.allocated in
-    let far = beside d.ends d.conns partner.place partner.other st.own.alike partner.stands in
-    let flow = st.own.flows at partner.place s.end partner.other s.ids far.0 s.line conn (record { end = partner.stands; ids_are = far.1 }) s.is_line partner.partner in
+    let flow = direction_out d.config d.clock cloud d.ends d.conns lines st.own at partner.place s.end partner.other s.ids s.line conn partner.stands s.is_line partner.partner s.is_home.allocated in
     let cube_is : flow.cube ≡ s.cube = cubes_same (cube_by s.ids.qos d.config.cubes) flow.cube s.cube flow.is_cube s.is_home.is_cube in
     let holds : DirectionHolds k s.line = subst (λ (x : Cube). DirectionHolds (constants d.config x s.ids) s.line) cube_is flow.backed.holds in
     let fit = piece_fit d.config s.end s.ids s.cube (piece_again s.number s.line.line.sender) st.config (st.own.ids at s.end s.ids conn) s.is_home.is_cube (small_again k s.line s.number limits holds s.due) in
     let mpl = limits.mpl in
-    let own = own_line d.config d.clock cloud cloud' d.ends d.conns lines st.own at s.line line' s.is_line
-    (λ j a b c f x y q h. main_again d.config d.clock cloud cloud' a b c s.ids f s.line s.cube s.number s.is_home.is_cube limits (ids_same (slice_get d.conns at) s.ids c conn.ids_are x.ids_are) s.due p.covers h)
-    (λ i a c ne x j b f y q mirror. again_others d.clock (d.clock + s.cube.mpl) cloud cloud' s.ids (piece_again s.number s.line.line.sender) c p.covers (λ own scep. ne (st.own.apart i at c s.ids x.ids_are conn.ids_are own scep))) in
+    let own = own_again d.config d.clock cloud cloud' d.ends d.conns lines st.own at s.end s.ids s.cube conn s.is_home.allocated s.is_home.is_cube limits s.line s.is_line partner.place partner.other partner.stands partner.partner s.number s.due p.covers in
     subst (λ (z : DifSeen). IsStanding z lines' below) (sym s.new_is) (subst (λ (ls : List Direction). IsStanding (with_process d s.i s.process') ls below) (sym s.lines_are)
     (posted_stands d lines (slice_set lines at line') below s.i s.cube.mpl pdu s.process' st p fit (omega arith) own))
 
 -- ---- an acknowledgement
-
-main_acknowledged : (g : Config) (now : ℕ) (cloud cloud' : ℕ → Pdu → Type 0) (a b : End) (c ids f : Ids) (line : Direction) (cube : Cube) → cube_by ids.qos g.cubes ≡ Some cube → IsCube cube → f ≡ ids → is_ack_due (constants g cube (flipped ids)) line ≡ true → CoversBut now cloud (λ p. p ≡ pdu_of_ack ids (record { ack = next_of line.line.receiver - 1; right = right_of (constants g cube (flipped ids)) line })) (now + cube.mpl) cloud' → IsFlow g now cloud a b c f line → IsFlow g now cloud' a b c f (after_ack true (constants g cube (flipped ids)) line)
-main_acknowledged g now cloud cloud' a b c ids f line cube is_cube limits is due covers h =
-    let k : Constants = constants g cube (flipped ids) in
-    let ack : Ack = record { ack = next_of line.line.receiver - 1; right = right_of k line } in
-    let c_is : flipped ids ≡ c = ap flipped (sym is ∙ h.mirror) in
-    let P : Ids → Type 0 = λ x. IsFlow g now cloud a b x f line → IsFlow g now cloud' a b x f (after_ack true k line) in
-    subst P c_is (λ flow. flow_acknowledged g now cloud cloud' a b (flipped ids) f line cube is_cube limits (λ p. p ≡ pdu_of_ack ids ack) due covers (λ pdu m. (ap (λ (z : Pdu). z.kind) m, ap ack_in m)) flow) h
-
-ack_others : (now life : ℕ) (cloud cloud' : ℕ → Pdu → Type 0) (ids : Ids) (ack : Ack) (c f : Ids) → f ≡ flipped c → CoversBut now cloud (λ p. p ≡ pdu_of_ack ids ack) life cloud' → (f.own ≡ ids.own → f.scep ≡ ids.scep → ⊥) → IsCovered now cloud cloud' c
-ack_others now life cloud cloud' ids ack c f mirror covers apart = record {
-  pieces = pieces_apart now cloud cloud' c (λ p. p ≡ pdu_of_ack ids ack) life covers (λ pdu m kind from. kinds_differ pdu kind (ap (λ (z : Pdu). z.kind) m));
-  acks = acks_apart now cloud cloud' c (λ p. p ≡ pdu_of_ack ids ack) life covers (λ pdu m kind from. apart (ap (λ (z : Ids). z.own) mirror ∙ sym from.src ∙ ap (λ (z : Pdu). z.src) m) (ap (λ (z : Ids). z.scep) mirror ∙ sym from.scep ∙ ap (λ (z : Pdu). z.scep) m));
-}
 
 -- the numbers of an acknowledgement that is due
 record IsSmallAck (k : Constants) (ack : Ack) : Type 0 where
@@ -209,34 +168,17 @@ acknowledged_stands d lines below at cause d' lines' st s =
     let limits = cube_limits d.config s.ids.qos s.cube st.config s.is_home.is_cube in
     let conn = s.is_home.is_conn in
     let partner = s.inbound.partner in
-    let near = beside d.ends d.conns s.from partner st.own.alike s.inbound.is_partner in
-    let flow = st.own.flows s.from at partner s.end near.0 s.ids s.line (record { end = s.inbound.is_partner; ids_are = near.1 }) conn s.inbound.is_line s.inbound.partners in
-    let near_is : near.0 ≡ flipped s.ids = sym (ap flipped flow.mirror) in
-    let cube_is : flow.cube ≡ s.cube = cubes_same (cube_by s.ids.qos d.config.cubes) flow.cube s.cube (subst (λ (z : Ids). cube_by z.qos d.config.cubes ≡ Some flow.cube) near_is flow.is_cube) s.is_home.is_cube in
-    let holds : DirectionHolds k s.line = subst (λ (x : Cube). DirectionHolds (constants d.config x (flipped s.ids)) s.line) cube_is (subst (λ (z : Ids). DirectionHolds (constants d.config flow.cube z) s.line) near_is flow.backed.holds) in
+    let named = st.journal.named s.from at partner s.end s.inbound.is_partner conn.end s.inbound.partners in
+    let flow = direction_in d.config d.clock cloud d.ends d.conns lines st.own s.from at partner s.end s.ids s.line s.inbound.is_partner conn s.inbound.is_line s.inbound.partners s.is_home.allocated named.cube in
+    let cube_is : flow.cube ≡ s.cube = cubes_same (cube_by s.ids.qos d.config.cubes) flow.cube s.cube flow.is_cube s.is_home.is_cube in
+    let holds : DirectionHolds k s.line = subst (λ (x : Cube). DirectionHolds (constants d.config x (flipped s.ids)) s.line) cube_is flow.backed.holds in
     let fit = ack_fit d.config s.end s.ids s.cube k ack refl st.config (st.own.ids at s.end s.ids conn) s.is_home.is_cube (small_ack k s.line limits holds s.due) in
     let mpl = limits.mpl in
-    let own = own_line d.config d.clock cloud cloud' d.ends d.conns lines st.own s.from s.line line' s.inbound.is_line
-    (λ j a b c f x y q h.
-    let a_is : a ≡ partner = ends_same (slice_get d.ends s.from) a partner x.end s.inbound.is_partner in
-    let j_is : j ≡ at = one_partner d.clock d.ends j at b s.end partner st.journal y.end conn.end (partner_back partner b (subst (λ (z : End). IsPartner z b) a_is q)) (partner_back partner s.end s.inbound.partners) in
-    let f_is : f ≡ s.ids = ids_same (slice_get d.conns at) f s.ids (subst (λ (n : ℕ). slice_get d.conns n ≡ Some f) j_is y.ids_are) conn.ids_are in
-    main_acknowledged d.config d.clock cloud cloud' a b c s.ids f s.line s.cube s.is_home.is_cube limits f_is s.due p.covers h)
-    (λ i a c ne x j b f y q mirror. ack_others d.clock (d.clock + s.cube.mpl) cloud cloud' s.ids ack c f mirror p.covers (λ own scep.
-    let j_is : j ≡ at = st.own.apart j at f s.ids y.ids_are conn.ids_are own scep in
-    let b_is : b ≡ s.end = ends_same (slice_get d.ends at) b s.end (subst (λ (n : ℕ). slice_get d.ends n ≡ Some b) j_is y.end) conn.end in
-    ne (one_partner d.clock d.ends i s.from a partner s.end st.journal x.end s.inbound.is_partner (subst (IsPartner a) b_is q) s.inbound.partners))) in
+    let own = own_acknowledged d.config d.clock cloud cloud' d.ends d.conns lines st.own st.journal at s.end s.ids s.cube conn s.is_home.is_cube limits s.from partner s.inbound.is_partner s.inbound.partners s.line s.inbound.is_line s.is_home.allocated s.due p.covers in
     subst (λ (z : DifSeen). IsStanding z lines' below) (sym s.new_is) (subst (λ (ls : List Direction). IsStanding (with_process d s.i s.process') ls below) (sym s.lines_are)
     (posted_stands d lines (slice_set lines s.from line') below s.i s.cube.mpl pdu s.process' st p fit (omega arith) own))
 
 -- ---- what is given up with a state
-
-main_forgot : (g : Config) (now : ℕ) (cloud cloud' : ℕ → Pdu → Type 0) (a b : End) (c ids f : Ids) (line : Direction) (cube : Cube) → cube_by ids.qos g.cubes ≡ Some cube → IsCube cube → f ≡ ids → May (constants g cube (flipped ids)) line Forget → Covers now cloud cloud' → IsFlow g now cloud a b c f line → IsFlow g now cloud' a b c f (happens (constants g cube (flipped ids)) line Forget)
-main_forgot g now cloud cloud' a b c ids f line cube is_cube limits is may covers h =
-    let k : Constants = constants g cube (flipped ids) in
-    let c_is : flipped ids ≡ c = ap flipped (sym is ∙ h.mirror) in
-    let P : Ids → Type 0 = λ x. IsFlow g now cloud a b x f line → IsFlow g now cloud' a b x f (happens k line Forget) in
-    subst P c_is (λ flow. flow_forgot g now cloud cloud' a b (flipped ids) f line cube is_cube limits may covers flow) h
 
 pub forgotten_stands : (d : DifSeen) (lines : List Direction) (below : Seen) (at : ℕ) (d' : DifSeen) (lines' : List Direction) → IsStanding d lines below → IsForgotten d lines at d' lines' → IsStanding d' lines' below
 forgotten_stands d lines below at d' lines' st s =
@@ -251,13 +193,7 @@ forgotten_stands d lines below at d' lines' st s =
     let limits = cube_limits d.config s.ids.qos s.cube st.config s.is_home.is_cube in
     let conn = s.is_home.is_conn in
     let partner = s.inbound.partner in
-    let own = own_line d.config d.clock cloud cloud' d.ends d.conns lines st.own s.from s.line line' s.inbound.is_line
-    (λ j a b c f x y q h.
-    let a_is : a ≡ partner = ends_same (slice_get d.ends s.from) a partner x.end s.inbound.is_partner in
-    let j_is : j ≡ at = one_partner d.clock d.ends j at b s.end partner st.journal y.end conn.end (partner_back partner b (subst (λ (z : End). IsPartner z b) a_is q)) (partner_back partner s.end s.inbound.partners) in
-    let f_is : f ≡ s.ids = ids_same (slice_get d.conns at) f s.ids (subst (λ (n : ℕ). slice_get d.conns n ≡ Some f) j_is y.ids_are) conn.ids_are in
-    main_forgot d.config d.clock cloud cloud' a b c s.ids f s.line s.cube s.is_home.is_cube limits f_is s.gone covers h)
-    (λ i a c ne x j b f y q mirror. covered d.clock cloud cloud' c covers) in
+    let own = own_forgot d.config d.clock cloud cloud' d.ends d.conns lines st.own st.journal at s.end s.ids s.cube conn s.is_home.is_cube limits s.from partner s.inbound.is_partner s.inbound.partners s.line s.inbound.is_line s.is_home.allocated s.gone covers in
     subst (λ (z : DifSeen). IsStanding z lines' below) (sym s.new_is) (subst (λ (ls : List Direction). IsStanding (with_process d s.i process') ls below) (sym s.lines_are)
     (stands_with d lines (slice_set lines s.from line') NoMore NoItem below below d.clock processes' d.ends st (after_none d.config below) st.clock (omega arith) (length-set d.processes s.i process') moved (same_links d.processes s.i s.process process' s.is_home.is_process refl)
     (λ port x none. absurd none) (λ j n item none. absurd none) st.journal st.ports own))

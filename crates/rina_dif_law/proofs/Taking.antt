@@ -1,47 +1,30 @@
 -- An SDU that is taken from an end of the DIF, time, and what goes on below without it keep standing.
-use Rattle.std.proofs.Common.{◌≡◌, ℕ, ◌-◌, ◌<◌, List, length, map, slice_get, slice_set, Some, Option, refl, sym, ◌∙◌, ap, subst, arith, inl}
+use Rattle.std.proofs.Common.{◌≡◌, ℕ, ◌-◌, List, map, slice_set, Some, refl, sym, ◌∙◌, subst, arith, inl}
 use Rattle.rina_base.specs.declared.pdu.Pdu.{Pdu}
 use Rattle.rina_base.specs.declared.number.Port.{Port}
-use Rattle.rina_cube.specs.declared.Cube.{Cube}
-use Rattle.rina_cube.specs.Cubes.{IsCube}
 use Rattle.rina_iface.specs.declared.ends.End.{End}
 use Rattle.rina_iface.specs.Ends.{with_passed}
 use Rattle.rina_iface.specs.Journal.{AreKept, HasPartner, IsWhole}
 use Rattle.rina_iface.specs.Seen.{Seen, end_of}
-use Rattle.rina_law.specs.declared.entry.Entry.{Entry}
 use Rattle.rina_law.specs.Backed.{Covers}
 use Rattle.rina_law.specs.Constants.{Constants}
 use Rattle.rina_law.specs.Direction.{Direction, Pass, happens}
 use Rattle.rina_dif_law.specs.Cloud.{Cloud, Everywhere, IsMine, WholeCloud}
-use Rattle.rina_data.specs.Configs.{Config, cube_by}
 use Rattle.rina_dif_law.specs.Dif.{DifSeen, fac_of, constants}
-use Rattle.rina_dif_law.specs.Ids.{Ids, flipped}
+use Rattle.rina_dif_law.specs.Ids.{flipped}
 use Rattle.rina_dif_law.specs.Lifting.{IsLifted, ticked}
 use Rattle.rina_dif_law.specs.Passing.{IsPassed, IsTicked}
-use Rattle.rina_dif_law.specs.Standing.{IsFlow, IsStanding}
+use Rattle.rina_dif_law.specs.Standing.{IsStanding}
 use Rattle.rina_dif_law.proofs.After.{IsAfter, NoMore, after_lifted, after_none}
 use Rattle.rina_dif_law.proofs.Clouds.{NoItem, covers_less, requeued_none, whole_covered}
 use Rattle.rina_dif_law.proofs.Finding.{cube_limits}
-use Rattle.rina_dif_law.proofs.Flows.{flow_passed}
 use Rattle.rina_dif_law.proofs.Frame.{inside_kept, stands_with}
 use Rattle.rina_dif_law.proofs.Journals.{IsConst, journal_later, journal_set, ports_set}
-use Rattle.rina_dif_law.proofs.Own.{own_covered, own_received, own_ticked, partner_back}
-
-ids_same : (o : Option Ids) (a b : Ids) → o ≡ Some a → o ≡ Some b → a ≡ b
-ids_same o a b h g = cc
+use Rattle.rina_dif_law.proofs.Own.{own_covered, own_ticked, partner_back}
+use Rattle.rina_dif_law.proofs.OwnRows.{own_passed}
 
 same_cloud : (now : ℕ) (cloud : ℕ → Pdu → Type 0) → Covers now cloud cloud
 same_cloud now cloud death pdu x alive = (death, omega arith, x)
-
-main_passed : (g : Config) (now : ℕ) (cloud : ℕ → Pdu → Type 0) (partner end : End) (c ids f : Ids) (line : Direction) (cube : Cube) → cube_by ids.qos g.cubes ≡ Some cube → IsCube cube → f ≡ ids → end.taken < length end.got
-    → IsFlow g now cloud partner end c f line → IsFlow g now cloud partner (with_passed end) c f (happens (constants g cube (flipped ids)) line Pass)
-main_passed g now cloud partner end c ids f line cube is_cube limits f_is waits h =
-    let c_is : flipped ids ≡ c = ap flipped (sym f_is ∙ h.mirror) in
-    let k : Constants = constants g cube (flipped ids) in
-    let passed = h.passed in
-    let got : length line.inbox.got ≡ length end.got = ap (λ (xs : List Entry). length xs) h.got in
-    let P : Ids → Type 0 = λ x. IsFlow g now cloud partner end x f line → IsFlow g now cloud partner (with_passed end) x f (happens k line Pass) in
-    subst P c_is (λ flow. flow_passed g now cloud cloud partner end (flipped ids) f line cube is_cube limits (with_passed end) (omega arith) (same_cloud now cloud) refl refl flow) h
 
 pub passed_stands : (d : DifSeen) (lines : List Direction) (below : Seen) (at : ℕ) (d' : DifSeen) (lines' : List Direction) → IsStanding d lines below → IsPassed d lines at d' lines' → IsStanding d' lines' below
 passed_stands d lines below at d' lines' st s =
@@ -57,8 +40,7 @@ passed_stands d lines below at d' lines' st s =
     let waits = s.waits in
     let whole : IsWhole d.clock end' = record { sent = was.sent; got = was.got; taken = omega arith } in
     let limits = cube_limits d.config s.ids.qos s.cube st.config s.is_cube in
-    let own = own_received d.config d.clock cloud cloud d.ends d.conns lines st.own at s.end end' is_end const st.journal s.from partner s.inbound.is_partner s.inbound.partners s.line line' s.inbound.is_line refl (same_cloud d.clock cloud)
-    (λ c f x y h. main_passed d.config d.clock cloud partner s.end c s.ids f s.line s.cube s.is_cube limits (ids_same (slice_get d.conns at) f s.ids y.ids_are s.is_conn.ids_are) waits h) in
+    let own = own_passed d.config d.clock cloud cloud d.ends d.conns lines st.own st.journal at s.end s.ids s.cube s.is_conn s.is_cube limits s.from partner s.inbound.is_partner s.inbound.partners s.line s.inbound.is_line waits (same_cloud d.clock cloud) in
     subst (λ (z : DifSeen). IsStanding z lines' below) (sym s.new_is) (subst (λ (ls : List Direction). IsStanding (record d { ends = slice_set d.ends at end' }) ls below) (sym s.lines_are)
     (stands_with d lines (slice_set lines s.from line') NoMore NoItem below below d.clock d.processes (slice_set d.ends at end') st (after_none d.config below) st.clock (omega arith) refl
     (requeued_none d.processes) (λ j l h. h) (λ port y none. absurd none) (λ j m item none. absurd none)

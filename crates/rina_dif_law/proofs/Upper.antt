@@ -34,14 +34,15 @@ use Rattle.rina_dif_law.specs.Dif.{DifSeen, constants, fac_of}
 use Rattle.rina_data.specs.Configs.{Member}
 use Rattle.rina_data.specs.Process.{Process, with_offs}
 use Rattle.rina_dif_law.specs.Ids.{flipped}
-use Rattle.rina_dif_law.specs.Incoming.{Ins, IsArrived, Settles, SettlesOff, arrived, found, joined_by}
+use Rattle.rina_dif_law.specs.Incoming.{Ins, IsArrived, Settles, SettlesFlow, SettlesOff, arrived, found, joined_by}
 use Rattle.rina_dif_law.specs.Outgoing.{Outs}
 use Rattle.rina_dif_law.specs.Passing.{IsPassed, IsTicked}
 use Rattle.rina_dif_law.specs.Sending.{IsOffered, Offers, offered_entry}
 use Rattle.rina_dif_law.specs.Standing.{IsStanding}
 use Rattle.rina_dif_law.specs.Timely.{IsAcknowledged, IsForgotten, IsResent}
 use Rattle.rina_dif_law.specs.Upward.{IsSilent}
-use Rattle.rina_dif_law.proofs.Finding.{beside}
+use Rattle.rina_dif_law.specs.Cloud.{Cloud, Everywhere}
+use Rattle.rina_dif_law.proofs.Own.{direction_in, direction_out}
 use Rattle.rina_dif_law.proofs.Forgot.{found_clock, found_got}
 
 -- nothing of the journal changed
@@ -86,8 +87,8 @@ arrived_silent d lines below i process pdu cause d' lines' st s =
     let k : Constants = constants d.config s.cube (flipped s.ids) in
     let is_end = s.taker.is_conn.end in
     let end' : End = record s.end { got = (arrived k (piece_in pdu) s.line).inbox.got } in
-    let c = beside d.ends d.conns s.from s.inbound.partner st.own.alike s.inbound.is_partner in
-    let flow = st.own.flows s.from s.place s.inbound.partner s.end c.0 s.ids s.line (record { end = s.inbound.is_partner; ids_are = c.1 }) s.taker.is_conn s.inbound.is_line s.inbound.partners in
+    let named = st.journal.named s.from s.place s.inbound.partner s.end s.inbound.is_partner is_end s.inbound.partners in
+    let flow = direction_in d.config d.clock (Cloud Everywhere d.config d.processes below) d.ends d.conns lines st.own s.from s.place s.inbound.partner s.end s.ids s.line s.inbound.is_partner s.taker.is_conn s.inbound.is_line s.inbound.partners s.taker.allocated named.cube in
     let grows = arrived_grows k d.clock (piece_in pdu) s.line s.end flow.backed.clock flow.got in
     subst (IsSilent d) (sym s.new_is) (record {
       later = one_later d s.place s.end end' is_end (got_later d.clock s.end end'.got s.taker.allocated grows);
@@ -117,13 +118,19 @@ settles_off_silent d lines below i member process at hop (causes.StateGone last_
 settles_off_silent d lines below i member process at hop (causes.Broken missing) d' lines' st s = arrived_silent d lines below i process hop.pdu (Some (causes.Broken missing)) d' lines' st s.2
 settles_off_silent d lines below i member process at hop (causes.LinkDown down) d' lines' st s = absurd s
 
-settles_silent : (d : DifSeen) (lines : List Direction) (below : Seen) (i : ℕ) (member : Member) (process : Process) (at : ℕ) (hop : Hop) (end : Took) (d' : DifSeen) (lines' : List Direction) → IsStanding d lines below → Settles d lines i member process at hop end d' lines' → IsSilent d d'
-settles_silent d lines below i member process at hop took.Accepted d' lines' st s = elim (s.2) [
+flow_silent : (d : DifSeen) (lines : List Direction) (below : Seen) (i : ℕ) (member : Member) (process : Process) (at : ℕ) (hop : Hop) (end : Took) (d' : DifSeen) (lines' : List Direction) → IsStanding d lines below → SettlesFlow d lines i member process at hop end d' lines' → IsSilent d d'
+flow_silent d lines below i member process at hop took.Accepted d' lines' st s = elim (s.2) [
   | inl x ↦ arrived_silent d lines below i process hop.pdu None d' lines' st x
   | inr x ↦ noted_silent d d' d.processes x.new_is
 ]
-settles_silent d lines below i member process at hop took.Relayed d' lines' st s = noted_silent d d' _ s.2.new_is
-settles_silent d lines below i member process at hop (took.Off cause) d' lines' st s = settles_off_silent d lines below i member process at hop cause d' lines' st s
+flow_silent d lines below i member process at hop took.Relayed d' lines' st s = noted_silent d d' _ s.2.new_is
+flow_silent d lines below i member process at hop (took.Off cause) d' lines' st s = settles_off_silent d lines below i member process at hop cause d' lines' st s
+
+settles_silent : (d : DifSeen) (lines : List Direction) (below : Seen) (i : ℕ) (member : Member) (process : Process) (at : ℕ) (hop : Hop) (end : Took) (d' : DifSeen) (lines' : List Direction) → IsStanding d lines below → Settles d lines i member process at hop end d' lines' → IsSilent d d'
+settles_silent d lines below i member process at hop end d' lines' st s = elim s [
+  | inl flow ↦ flow_silent d lines below i member process at hop end d' lines' st flow.1
+  | inr link ↦ noted_silent d d' _ link.new_is
+]
 
 pub ins_silent : (d : DifSeen) (lines : List Direction) (below : Seen) (i n : ℕ) (r : Result InStep StepError) (d' : DifSeen) (lines' : List Direction) (below' : Seen) → IsStanding d lines below → Ins d lines below i n r d' lines' below' → IsSilent d d'
 ins_silent d lines below i n (Ok in_.Idle) d' lines' below' st s = noted_silent d d' d.processes s.1
@@ -149,8 +156,7 @@ offered_later d lines below at parts num d' lines' st s =
     let k : Constants = constants d.config s.cube s.ids in
     let is_end = s.is_conn.end in
     let partner = st.journal.allocated at s.end is_end s.allocated in
-    let far = beside d.ends d.conns partner.place partner.other st.own.alike partner.stands in
-    let flow = st.own.flows at partner.place s.end partner.other s.ids far.0 s.line s.is_conn (record { end = partner.stands; ids_are = far.1 }) s.is_line partner.partner in
+    let flow = direction_out d.config d.clock (Cloud Everywhere d.config d.processes below) d.ends d.conns lines st.own at partner.place s.end partner.other s.ids s.line s.is_conn partner.stands s.is_line partner.partner s.allocated in
     let entry : Entry = offered_entry k parts s.line in
     subst (λ (x : DifSeen). IsLaterFac d.clock x.clock (fac_of d) (fac_of x)) (sym s.new_is) (one_later d at s.end (with_sent s.end entry) is_end (end_sent d.clock s.end entry flow.backed.clock))
 

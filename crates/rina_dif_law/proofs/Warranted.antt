@@ -56,7 +56,7 @@ use Rattle.rina_dif_law.specs.Binding.{IsBound}
 use Rattle.rina_dif_law.specs.Dif.{DifSeen, IsProcess, constants, with_process}
 use Rattle.rina_dif_law.specs.Ending.{IsEnded}
 use Rattle.rina_dif_law.specs.Ids.{Ids, flipped, pdu_of_ack, pdu_of_piece}
-use Rattle.rina_dif_law.specs.Incoming.{GivesUp, Ins, IsArrived, IsInbound, IsKeptNumber, Settles, SettlesOff, cause_by, joiner_found, lines_for, missing_for}
+use Rattle.rina_dif_law.specs.Incoming.{GivesUp, Ins, IsArrived, IsInbound, IsKeptNumber, Settles, SettlesFlow, SettlesOff, cause_by, cause_told, joiner_found, lines_for, missing_for}
 use Rattle.rina_dif_law.specs.Losing.{FailAll, FailFirst, Loses}
 use Rattle.rina_dif_law.specs.Numbered.{IsNumbered}
 use Rattle.rina_dif_law.specs.Outgoing.{Outs}
@@ -73,7 +73,11 @@ use Rattle.rina_dif_law.proofs.Finishing.{ended_stands}
 use Rattle.rina_dif_law.proofs.Linkless.{first_stay}
 use Rattle.rina_dif_law.proofs.Numbering.{ended_numbered}
 use Rattle.rina_dif_law.proofs.Own.{partner_back}
-use Rattle.rina_dif_law.proofs.Receiving.{inbound_ids, member_at}
+use Rattle.rina_dif_law.proofs.Receiving.{member_at}
+use Rattle.rina_dif_law.specs.Cloud.{Cloud, Everywhere}
+use Rattle.rina_dif_law.proofs.Own.{pair}
+use Rattle.rina_dif_law.proofs.Placed.{qos_from}
+use Rattle.rina_dif_law.specs.Places.{ids_from}
 use Rattle.rina_dif_law.proofs.Verdicts.{behind_old, duplicate_known, missing_same, roomless, stateless, unrouted}
 use Rattle.rina_dif_law.proofs.Writing.{IsNoted, in_append, in_one, kept_noted, line_noted, noted_as, noted_on, one_noted, ports_lost, ports_same, process_noted, quiet_noted, same_noted, was_lawful, writes, written_on}
 
@@ -92,7 +96,7 @@ goes_noted refuses d lines below i n member process (Ok (out.Off key (causes.Exp
       member = member;
       process = process;
       is_process = is;
-      may = (s.why.2, inl (record { number = n; link = s.link; place = s.place; queue = s.queue; item = s.item; head = s.head; key_is = s.key_is; promise = s.promise; promised = s.promised; left_is = s.why.0; charge_is = s.why.1 }));
+      may = inl (s.why.2, inl (record { number = n; link = s.link; place = s.place; queue = s.queue; item = s.item; head = s.head; key_is = s.key_is; promise = s.promise; promised = s.promised; left_is = s.why.0; charge_is = s.why.1 }));
     })
 goes_noted refuses d lines below i n member process (Ok (out.Off key (causes.LinkDown port))) process' d' below' is new s =
     let at = link_there process.links n s.link s.head.is_link in
@@ -101,7 +105,7 @@ goes_noted refuses d lines below i n member process (Ok (out.Off key (causes.Lin
       member = member;
       process = process;
       is_process = is;
-      may = record { place = at.0; link = s.link; stands = at.1; port_is = s.why.port_is; is_down = subst (RefusesOver refuses below) (sym s.why.port_is) (length (sent_bytes d.config d.clock s.item s.promise), s.why.error, s.why.refused, s.why.over) };
+      may = inl (record { place = at.0; link = s.link; stands = at.1; port_is = s.why.port_is; is_down = subst (RefusesOver refuses below) (sym s.why.port_is) (length (sent_bytes d.config d.clock s.item s.promise), s.why.error, s.why.refused, s.why.over) });
     })
 goes_noted refuses d lines below i n member process (Ok (out.Off key cause)) process' d' below' is new s = absurd s
 goes_noted refuses d lines below i n member process (Ok (out.Held why)) process' d' below' is new s = kept_noted _ d d' i process process' new is.is_process (ap (λ (p : Process). p.ledger) s.1) (ap (λ (p : Process). p.links) s.1)
@@ -140,9 +144,12 @@ record IsReceiving (d : DifSeen) (ids : Ids) (line : Direction) : Type 0 where
 
 receiving : (d : DifSeen) (lines : List Direction) (below : Seen) (at from : ℕ) (e : End) (ids : Ids) (line : Direction) → IsStanding d lines below → IsConn d.ends d.conns at e ids → IsInbound d lines e from line → IsReceiving d ids line
 receiving d lines below at from e ids line st conn inbound =
-    let far = inbound_ids d lines below at e ids from line st conn inbound in
-    let flow = st.own.flows from at inbound.partner e (flipped ids) ids line (record { end = inbound.is_partner; ids_are = far }) conn inbound.is_line inbound.partners in
-    record { clock = flow.backed.clock; cube = flow.cube; is_cube = flow.is_cube }
+    let partner = inbound.partner in
+    let q = pair d.config d.clock (Cloud Everywhere d.config d.processes below) d.ends d.conns lines st.own from at partner e inbound.is_partner conn.end inbound.partners in
+    let flow = (st.own.flows_are from at partner e q.x q.flow q.far line inbound.is_partner conn.end inbound.partners q.is_x q.stands q.known inbound.is_line).direction in
+    let cube = (st.journal.named from at partner e inbound.is_partner conn.end inbound.partners).cube in
+    let qos : (ids_from q.x.side q.flow q.far partner.cube).qos ≡ ids.qos = qos_from q.x.side q.flow q.far partner.cube ∙ sym cube ∙ sym (st.own.ids at e ids conn).qos in
+    record { clock = flow.backed.clock; cube = flow.cube; is_cube = subst (λ (n : ℕ). cube_by n d.config.cubes ≡ Some flow.cube) qos flow.is_cube }
 
 joiner_cause : (b g : Bool) (m : ℕ) (cause : Cause) → Some cause ≡ cond b None (cond g None (Some (causes.Broken m))) → (g ≡ false) × (cause ≡ causes.Broken m)
 joiner_cause true g m cause h = absurd cc
@@ -213,14 +220,14 @@ arrived_noted d lines below i member process pdu cause d' lines' st is dst s =
       | inl old ↦
           (let x = s.all_dropped off old in
           let r : IsReceiver d lines member.addr off.key s.ids s.cube s.line = record { piece = x.kind; place = s.place; end = s.end; is_conn = conn; allocated = s.taker.allocated; own = own; far = x.src; cep = x.scep; is_cube = s.is_cube; from = s.from; inbound = s.inbound } in
-          record { member = member; process = process; is_process = is; may = dropped_may d lines below NoPort member.addr process off.key s.ids s.cube s.line p r known.clock (is_present c s.line.line.clock s.line.line.receiver) refl x.held off.cause x.why })
+          record { member = member; process = process; is_process = is; may = inl (dropped_may d lines below NoPort member.addr process off.key s.ids s.cube s.line p r known.clock (is_present c s.line.line.clock s.line.line.receiver) refl x.held off.cause x.why) })
       | inr new ↦
           (let w = own_line pdu cause off new in
           let key : Key = key_of pdu in
           let r : IsReceiver d lines member.addr key s.ids s.cube s.line = record { piece = s.piece; place = s.place; end = s.end; is_conn = conn; allocated = s.taker.allocated; own = own; far = names.src; cep = names.scep; is_cube = s.is_cube; from = s.from; inbound = s.inbound } in
           let seq : key.seq ≡ p.number = ap (λ (kind : PduKind). number_by kind pdu.seq pdu.ack) s.piece in
           let may = came_may d lines below NoPort member.addr process key s.ids s.cube s.line p r known.clock (arrival_verdict c s.line.line p (has_room c s.line)) seq refl w.0 (sym w.1 ∙ s.cause_is) in
-          subst (holds i) (sym w.2) (record { member = member; process = process; is_process = is; may = may }))
+          subst (holds i) (sym w.2) (record { member = member; process = process; is_process = is; may = inl may }))
     ] in
     subst (IsNoted holds d) (sym s.new_is) (one_noted holds d _ i process (with_offs process offs) offs is.is_process refl each (ports_same process.links process.links refl))
 
@@ -228,7 +235,7 @@ arrived_noted d lines below i member process pdu cause d' lines' st is dst s =
 
 module _ (d : DifSeen) (lines : List Direction) (below : Seen) (st : IsStanding d lines below) (i n : ℕ) (member : Member) (process : Process) (is : IsProcess d i member process) (link : Link) (is_link' : link_by n process.links ≡ Some link) (entry : Entry) (oldest : unpassed below link.port ≡ Some entry) (hop : Hop) (opens : opened d.config.widths entry.bytes ≡ Some hop) where
   one_off : (d' : DifSeen) (cause : Cause) → d' ≡ with_process d i (with_offs process (line_for hop.pdu cause ∷ [])) → MayBy d lines below NoPort member.addr process (key_of hop.pdu) cause → IsNoted (MayWriteOff d lines below NoPort) d d'
-  one_off d' cause new may = line_noted (MayWriteOff d lines below NoPort) d d' i process (with_offs process (line_for hop.pdu cause ∷ [])) (line_for hop.pdu cause) new is.is_process refl refl (record { member = member; process = process; is_process = is; may = may })
+  one_off d' cause new may = line_noted (MayWriteOff d lines below NoPort) d d' i process (with_offs process (line_for hop.pdu cause ∷ [])) (line_for hop.pdu cause) new is.is_process refl refl (record { member = member; process = process; is_process = is; may = inl may })
 
   off_noted : (cause : Cause) (d' : DifSeen) (lines' : List Direction) → SettlesOff d lines i member process entry.tick hop cause d' lines' → IsNoted (MayWriteOff d lines below NoPort) d d'
   off_noted (causes.Expired left charge) d' lines' s = one_off d' (causes.Expired left charge) s.3 (s.2, inr (record { number = n; link = link; is_link = is_link'; entry = entry; oldest = oldest; hop = hop; opens = opens; key_is = refl; left_is = s.0; charge_is = s.1 }))
@@ -245,15 +252,23 @@ module _ (d : DifSeen) (lines : List Direction) (below : Seen) (st : IsStanding 
   off_noted (causes.StateGone last_in) d' lines' s = arrived_noted d lines below i member process hop.pdu (Some (causes.StateGone last_in)) d' lines' st is s.1 s.2
   off_noted (causes.Broken missing) d' lines' s = arrived_noted d lines below i member process hop.pdu (Some (causes.Broken missing)) d' lines' st is s.1 s.2
 
-  settles_noted : (end : Took) (d' : DifSeen) (lines' : List Direction) → Settles d lines i member process entry.tick hop end d' lines' → IsNoted (MayWriteOff d lines below NoPort) d d'
-  settles_noted took.Accepted d' lines' s = elim (s.2) [
+  flow_noted : (end : Took) (d' : DifSeen) (lines' : List Direction) → SettlesFlow d lines i member process entry.tick hop end d' lines' → IsNoted (MayWriteOff d lines below NoPort) d d'
+  flow_noted took.Accepted d' lines' s = elim (s.2) [
     | inl x ↦ arrived_noted d lines below i member process hop.pdu None d' lines' st is s.1 x
     | inr x ↦ same_noted _ d d' x.new_is
   ]
-  settles_noted took.Relayed d' lines' s =
+  flow_noted took.Relayed d' lines' s =
       let put = s.2.passed in
       kept_noted _ d d' i process s.2.process' s.2.new_is is.is_process (ap (λ (p : Process). p.ledger) put.new_is) (ap (λ (p : Process). p.links) put.new_is)
-  settles_noted (took.Off cause) d' lines' s = off_noted cause d' lines' s
+  flow_noted (took.Off cause) d' lines' s = off_noted cause d' lines' s
+
+  settles_noted : (end : Took) (d' : DifSeen) (lines' : List Direction) → Settles d lines i member process entry.tick hop end d' lines' → IsNoted (MayWriteOff d lines below NoPort) d d'
+  settles_noted end d' lines' s = elim s [
+    | inl flow ↦ flow_noted end d' lines' flow.1
+    | inr link ↦
+        let offs : List Off = link.dropped ++ lines_for hop.pdu (cause_told end) in
+        process_noted (MayWriteOff d lines below NoPort) d d' i process (with_offs process offs) offs link.new_is is.is_process refl (λ off one. record { member = member; process = process; is_process = is; may = inr (link.each off one) }) (ports_same process.links process.links refl)
+  ]
 
 pub ins_noted : (d : DifSeen) (lines : List Direction) (below : Seen) (i n : ℕ) (r : Result InStep StepError) (d' : DifSeen) (lines' : List Direction) (below' : Seen) → IsStanding d lines below → Ins d lines below i n r d' lines' below' → IsNoted (MayWriteOff d lines below NoPort) d d'
 ins_noted d lines below i n (Ok in_.Idle) d' lines' below' st s = same_noted _ d d' s.1
@@ -274,11 +289,11 @@ posts_noted : (d : DifSeen) (lines : List Direction) (below : Seen) (i mpl : ℕ
 posts_noted d lines below i mpl member process process' pdu None d' is far new s = kept_noted _ d d' i process process' new is.is_process (ap (λ (p : Process). p.ledger) s.new_is) (ap (λ (p : Process). p.links) s.new_is)
 posts_noted d lines below i mpl member process process' pdu (Some (causes.NoRoute dst)) d' is far new s =
     line_noted (MayWriteOff d lines below NoPort) d d' i process process' (line_for pdu (causes.NoRoute dst)) new is.is_process (ap (λ (p : Process). p.ledger) s.2) (ap (λ (p : Process). p.links) s.2)
-    (record { member = member; process = process; is_process = is; may = (λ e. far (sym s.0 ∙ e), subst (IsUnrouted (map (λ (x : Route). x.dst) process.routes)) (sym s.0) (unrouted process.routes pdu.dst s.1)) })
+    (record { member = member; process = process; is_process = is; may = inl (λ e. far (sym s.0 ∙ e), subst (IsUnrouted (map (λ (x : Route). x.dst) process.routes)) (sym s.0) (unrouted process.routes pdu.dst s.1)) })
 posts_noted d lines below i mpl member process process' pdu (Some (causes.QueueFull most)) d' is far new s =
     let full : HasFullQueue d.config.cap process (key_of pdu) = record { pdu = pdu; key_is = refl; link = s.1.link; next = s.1.next; place = s.1.place; queue = s.1.queue; is_queue = s.1.is_queue; full = s.1.full } in
     line_noted (MayWriteOff d lines below NoPort) d d' i process process' (line_for pdu (causes.QueueFull most)) new is.is_process (ap (λ (p : Process). p.ledger) s.2) (ap (λ (p : Process). p.links) s.2)
-    (record { member = member; process = process; is_process = is; may = (s.0, subst (λ (c : ℕ). HasFullQueue c process (key_of pdu)) (sym s.0) full) })
+    (record { member = member; process = process; is_process = is; may = inl (s.0, subst (λ (c : ℕ). HasFullQueue c process (key_of pdu)) (sym s.0) full) })
 posts_noted d lines below i mpl member process process' pdu (Some cause) d' is far new s = absurd s
 
 -- the far end of a connection is not at the address of its own IPC process
@@ -323,7 +338,7 @@ forgotten_noted d lines below at d' lines' st numbered s =
     let gone : s.line.line.receiver.last_in + 2 * delta_of s.cube ≤ s.line.line.clock = absent_after c s.line.line.clock s.line.line.receiver s.gone (s.made off here) in
     let now = known.clock in
     let may : MayBy d lines below NoPort m.0.addr s.process off.key (causes.StateGone s.line.line.receiver.last_in) = (s.ids, s.cube, s.line, r, (refl, omega (arith, gone, now), x.3)) in
-    record { member = m.0; process = s.process; is_process = m.1; may = subst (λ (z : Cause). MayBy d lines below NoPort m.0.addr s.process off.key z) (sym x.4) may } in
+    record { member = m.0; process = s.process; is_process = m.1; may = inl (subst (λ (z : Cause). MayBy d lines below NoPort m.0.addr s.process off.key z) (sym x.4) may) } in
     process_noted holds d d' s.i s.process (with_offs s.process s.dropped) s.dropped s.new_is s.is_home.is_process refl each (ports_same s.process.links s.process.links refl)
 
 pub forgotten_write : (d : DifSeen) (lines : List Direction) (below : Seen) (at : ℕ) (d' : DifSeen) (lines' : List Direction) → IsStanding d lines below → IsNumbered d below → IsForgotten d lines at d' lines' → Writes (MayWriteOff d lines below NoPort) d d'
@@ -346,7 +361,7 @@ ended_noted d lines below at state d' st numbered s =
     let x = s.all_dropped off p.place l.0 here inbound in
     let r : IsReceiver d lines m.0.addr off.key s.ids known.cube l.0 = record { piece = x.0; place = at; end = s.end; is_conn = conn; allocated = s.allocated; own = own; far = x.1; cep = x.2; is_cube = known.is_cube; from = p.place; inbound = inbound } in
     let may : MayBy d lines below NoPort m.0.addr s.process off.key (causes.NoConnection s.ids.scep) = inr (s.ids, known.cube, l.0, r, (refl, x.3)) in
-    record { member = m.0; process = s.process; is_process = m.1; may = subst (λ (z : Cause). MayBy d lines below NoPort m.0.addr s.process off.key z) (sym x.4) may } in
+    record { member = m.0; process = s.process; is_process = m.1; may = inl (subst (λ (z : Cause). MayBy d lines below NoPort m.0.addr s.process off.key z) (sym x.4) may) } in
     subst (IsNoted holds d) (sym s.new_is) (one_noted holds d (slice_set d.ends at (record s.end { state = state })) s.i s.process (with_offs s.process s.dropped) s.dropped s.is_process refl each (ports_same s.process.links s.process.links refl))
 
 pub ended_write : (d : DifSeen) (lines : List Direction) (below : Seen) (at : ℕ) (state : PortState) (d' : DifSeen) → IsStanding d lines below → IsNumbered d below → IsEnded d lines at state d' → Writes (MayWriteOff d lines below NoPort) d d'
@@ -381,7 +396,7 @@ lost_noted d lines below i number routes d' st s =
     let offs : List Off = flat_map (lines_down s.link) s.process.queues in
     let each : (off : Off) → In off offs → holds i off = λ off here.
     let may : MayBy d lines below (IsOverNow below) m.0.addr s.process off.key (causes.LinkDown s.link.port) = record { place = s.place; link = s.link; stands = lost.stands; port_is = refl; is_down = lost.no_more } in
-    record { member = m.0; process = s.process; is_process = m.1; may = subst (λ (z : Cause). MayBy d lines below (IsOverNow below) m.0.addr s.process off.key z) (sym (down_queues s.link s.process.queues off here)) may } in
+    record { member = m.0; process = s.process; is_process = m.1; may = inl (subst (λ (z : Cause). MayBy d lines below (IsOverNow below) m.0.addr s.process off.key z) (sym (down_queues s.link s.process.queues off here)) may) } in
     process_noted holds d d' i s.process (without_link s.place s.link routes s.process) offs s.new_is s.is_process refl each (ports_lost s.process.links s.place s.link lost.stands)
 
 pub lost_write : (d : DifSeen) (lines : List Direction) (below : Seen) (i number : ℕ) (routes : List Route) (d' : DifSeen) → IsStanding d lines below → Loses d below i number routes d' → Writes (MayWriteOff d lines below (IsOverNow below)) d d'
@@ -445,13 +460,13 @@ offers_noted holds d lines at parts (Err send.Memory) d' lines' s = same_noted h
 offers_noted holds d lines at parts (Err why) d' lines' s = same_noted holds d d' s.1
 
 pub passed_noted : (holds : ℕ → Off → Type 0) (d : DifSeen) (lines : List Direction) (at : ℕ) (d' : DifSeen) (lines' : List Direction) → IsPassed d lines at d' lines' → IsNoted holds d d'
-passed_noted holds d lines at d' lines' s = subst (IsNoted holds d) (sym s.new_is) (quiet_noted holds d _ refl (omega arith) (λ k ids is. is) refl)
+passed_noted holds d lines at d' lines' s = subst (IsNoted holds d) (sym s.new_is) (quiet_noted holds d _ refl refl (omega arith) (λ k ids is. is) refl)
 
 pub bound_noted : (holds : ℕ → Off → Type 0) (d : DifSeen) (lines : List Direction) (fixed : Fixed) (d' : DifSeen) (lines' : List Direction) → IsBound d lines fixed d' lines' → IsNoted holds d d'
-bound_noted holds d lines fixed d' lines' s = subst (IsNoted holds d) (sym s.new_is) (quiet_noted holds d _ refl (omega arith) (λ k ids is. still_at d.conns _ k ids is) refl)
+bound_noted holds d lines fixed d' lines' s = subst (IsNoted holds d) (sym s.new_is) (quiet_noted holds d _ refl refl (omega arith) (λ k ids is. still_at d.conns _ k ids is) refl)
 
 pub ticked_noted : (holds : ℕ → Off → Type 0) (d : DifSeen) (lines : List Direction) (now : ℕ) (d' : DifSeen) (lines' : List Direction) → IsTicked d lines now d' lines' → IsNoted holds d d'
-ticked_noted holds d lines now d' lines' s = subst (IsNoted holds d) (sym s.new_is) (quiet_noted holds d _ refl s.later (λ k ids is. is) refl)
+ticked_noted holds d lines now d' lines' s = subst (IsNoted holds d) (sym s.new_is) (quiet_noted holds d _ refl refl s.later (λ k ids is. is) refl)
 
 -- what the ledgers say stays true where nothing is written
 quiet_written : (d d' : DifSeen) → IsNoted Nothing d d' → AreWrittenOff d → AreWrittenOff d'

@@ -23,8 +23,9 @@ use Rattle.rina_data.specs.Configs.{Config, Member}
 use Rattle.rina_data.specs.Process.{Process}
 use Rattle.rina_dif_law.specs.Dif.{DifSeen, IsProcess, with_process}
 use Rattle.rina_dif_law.specs.Ids.{Ids}
+use Rattle.rina_dif_law.specs.OnLinks.{IsLinkCause, IsLinkLine}
 use Rattle.rina_dif_law.specs.WriteOffs.{HasWritten, IsKnown, IsReceiver, MayBy, MayWriteOff, Writes}
-use Rattle.rina_dif_law.specs.Written.{AreWrittenOff, Receives, WasLawful}
+use Rattle.rina_dif_law.specs.Written.{AreWrittenOff, IsLawfulLine, Receives, WasLawful}
 use Rattle.rina_dif_law.proofs.Ends.{same_some}
 
 -- ---- lists
@@ -79,6 +80,23 @@ lawful_on g now now' conns conns' addr links links' key (causes.StateGone last_i
 lawful_on g now now' conns conns' addr links links' key (causes.Broken missing) le stay ports h = (h.0, (h.1.0, receives_on g conns conns' addr key h.1.0 stay h.1.1, h.1.2))
 lawful_on g now now' conns conns' addr links links' key (causes.LinkDown port) le stay ports h = (let p = ports h.place h.link h.stands in record { place = h.place; link = p.0; stands = p.1; port_is = h.port_is ∙ sym p.2 })
 
+-- a line of a link says so ever after
+link_cause_on : (manage : Cube) (now now' : ℕ) (key : Key) (cause : Cause) → now ≤ now' → IsLinkCause manage now key cause → IsLinkCause manage now' key cause
+link_cause_on manage now now' key (causes.NoConnection cep) le h = h
+link_cause_on manage now now' key (causes.Duplicate num) le h = h
+link_cause_on manage now now' key (causes.NoState drf) le h = h
+link_cause_on manage now now' key (causes.NoRoom cap) le h = h
+link_cause_on manage now now' key (causes.StateGone last_in) le h = (let gone : last_in + 2 * delta_of manage ≤ now = h.1 in (h.0, omega (arith, gone, le)))
+link_cause_on manage now now' key (causes.Broken missing) le h = h
+link_cause_on manage now now' key (causes.Expired left charge) le h = h
+link_cause_on manage now now' key (causes.NoRoute dst) le h = h
+link_cause_on manage now now' key (causes.QueueFull cap) le h = h
+link_cause_on manage now now' key (causes.Behind highest) le h = h
+link_cause_on manage now now' key (causes.LinkDown port) le h = h
+
+link_line_on : (manage : Cube) (now now' : ℕ) (off : Off) → now ≤ now' → IsLinkLine manage now off → IsLinkLine manage now' off
+link_line_on manage now now' off le h = record { src = h.src; scep = h.scep; why = link_cause_on manage now now' off.key off.cause le h.why }
+
 -- ---- what may be written off says what is true
 
 receives : (d : DifSeen) (lines : List Direction) (addr : ℕ) (key : Key) (ids : Ids) (cube : Cube) (line : Direction) → IsReceiver d lines addr key ids cube line → Receives d.config d.conns addr key cube
@@ -107,12 +125,15 @@ may_lawful d lines below down addr process key (causes.StateGone last_in) h = (h
 may_lawful d lines below down addr process key (causes.Broken missing) h = (subst (λ (n : ℕ). n < 2 ^ 32) (sym h.4.missing_is) (missing_small _ h.4.came), (h.1, receives d lines addr key h.0 h.1 h.2 h.3, tt))
 may_lawful d lines below down addr process key (causes.LinkDown port) h = record { place = h.place; link = h.link; stands = h.stands; port_is = h.port_is }
 
-pub was_lawful : (d : DifSeen) (lines : List Direction) (below : Seen) (down : Port → Type 0) (i : ℕ) (off : Off) → MayWriteOff d lines below down i off → (member : Member) (process : Process) → IsProcess d i member process → WasLawful d.config d.clock d.conns member.addr process.links off.key off.cause
+pub was_lawful : (d : DifSeen) (lines : List Direction) (below : Seen) (down : Port → Type 0) (i : ℕ) (off : Off) → MayWriteOff d lines below down i off → (member : Member) (process : Process) → IsProcess d i member process → IsLawfulLine d member process off
 was_lawful d lines below down i off m member process is =
     let a : m.member ≡ member = same_some (slice_get d.config.members i) m.member member m.is_process.is_member is.is_member in
     let b : m.process ≡ process = same_some (slice_get d.processes i) m.process process m.is_process.is_process is.is_process in
-    subst (λ (z : Member). WasLawful d.config d.clock d.conns z.addr process.links off.key off.cause) a
-    (subst (λ (z : Process). WasLawful d.config d.clock d.conns m.member.addr z.links off.key off.cause) b (may_lawful d lines below down m.member.addr m.process off.key off.cause m.may))
+    subst (λ (z : Member). IsLawfulLine d z process off) a
+    (subst (λ (z : Process). IsLawfulLine d m.member z off) b (elim (m.may) [
+      | inl may ↦ inl (may_lawful d lines below down m.member.addr m.process off.key off.cause may)
+      | inr link ↦ inr link
+    ]))
 
 -- ---- ledgers that grow
 
@@ -123,6 +144,7 @@ pub record IsGrown (holds : Off → Type 0) (d : DifSeen) (i : ℕ) (process' : 
 -- the ledgers grew by lines of which this holds, and what the others rest on stayed
 pub record IsNoted (holds : ℕ → Off → Type 0) (d d' : DifSeen) : Type 0 where
   pub config : d'.config ≡ d.config
+  pub manage : d'.manage ≡ d.manage
   pub clock : d.clock ≤ d'.clock
   pub conns : ConnsStay d.conns d'.conns
   pub each : (i : ℕ) (process' : Process) → slice_get d'.processes i ≡ Some process' → IsGrown (holds i) d i process'
@@ -130,17 +152,20 @@ pub record IsNoted (holds : ℕ → Off → Type 0) (d d' : DifSeen) : Type 0 wh
 pub writes : (holds : ℕ → Off → Type 0) (d d' : DifSeen) → IsNoted holds d d' → Writes holds d d'
 writes holds d d' n i process' is = (n.each i process' is).written
 
-pub written_on : (holds : ℕ → Off → Type 0) (d d' : DifSeen) → IsNoted holds d d' → ((i : ℕ) (off : Off) → holds i off → (member : Member) (process : Process) → IsProcess d i member process → WasLawful d.config d.clock d.conns member.addr process.links off.key off.cause) → AreWrittenOff d → AreWrittenOff d'
+pub written_on : (holds : ℕ → Off → Type 0) (d d' : DifSeen) → IsNoted holds d d' → ((i : ℕ) (off : Off) → holds i off → (member : Member) (process : Process) → IsProcess d i member process → IsLawfulLine d member process off) → AreWrittenOff d → AreWrittenOff d'
 written_on holds d d' n lawful w i member process' off is stands =
     let g = n.each i process' is.is_process in
     let h = g.written in
     let there : IsProcess d i member h.process = record { is_member = ap (λ (c : Config). slice_get c.members i) (sym n.config) ∙ is.is_member; is_process = h.is_process } in
-    let was : WasLawful d.config d.clock d.conns member.addr h.process.links off.key off.cause = elim (in_append h.process.ledger h.offs off (subst (In off) h.ledger stands)) [
+    let was : IsLawfulLine d member h.process off = elim (in_append h.process.ledger h.offs off (subst (In off) h.ledger stands)) [
       | inl old ↦ w i member h.process off there old
       | inr new ↦ lawful i off (h.each off new) member h.process there
     ] in
-    subst (λ (c : Config). WasLawful c d'.clock d'.conns member.addr process'.links off.key off.cause) (sym n.config)
-    (lawful_on d.config d.clock d'.clock d.conns d'.conns member.addr h.process.links process'.links off.key off.cause n.clock n.conns g.ports was)
+    elim was [
+      | inl own ↦ inl (subst (λ (c : Config). WasLawful c d'.clock d'.conns member.addr process'.links off.key off.cause) (sym n.config)
+          (lawful_on d.config d.clock d'.clock d.conns d'.conns member.addr h.process.links process'.links off.key off.cause n.clock n.conns g.ports own))
+      | inr link ↦ inr (subst (λ (c : Cube). IsLinkLine c d'.clock off) (sym n.manage) (link_line_on d.manage d.clock d'.clock off n.clock link))
+    ]
 
 -- an IPC process that writes nothing
 still : (holds : Off → Type 0) (d : DifSeen) (i : ℕ) (p : Process) → slice_get d.processes i ≡ Some p → IsGrown holds d i p
@@ -150,21 +175,23 @@ still holds d i p is = record {
 }
 
 -- none writes anything
-pub quiet_noted : (holds : ℕ → Off → Type 0) (d d' : DifSeen) → d'.config ≡ d.config → d.clock ≤ d'.clock → ConnsStay d.conns d'.conns → d'.processes ≡ d.processes → IsNoted holds d d'
-quiet_noted holds d d' config clock conns same = record {
+pub quiet_noted : (holds : ℕ → Off → Type 0) (d d' : DifSeen) → d'.config ≡ d.config → d'.manage ≡ d.manage → d.clock ≤ d'.clock → ConnsStay d.conns d'.conns → d'.processes ≡ d.processes → IsNoted holds d d'
+quiet_noted holds d d' config manage clock conns same = record {
   config = config;
+  manage = manage;
   clock = clock;
   conns = conns;
   each = λ i p is. still (holds i) d i p (ap (λ (ps : List Process). slice_get ps i) (sym same) ∙ is);
 }
 
 pub same_noted : (holds : ℕ → Off → Type 0) (d d' : DifSeen) → d' ≡ d → IsNoted holds d d'
-same_noted holds d d' is = subst (IsNoted holds d) (sym is) (quiet_noted holds d d refl (omega arith) (λ k ids at. at) refl)
+same_noted holds d d' is = subst (IsNoted holds d) (sym is) (quiet_noted holds d d refl refl (omega arith) (λ k ids at. at) refl)
 
 -- one does
 pub one_noted : (holds : ℕ → Off → Type 0) (d : DifSeen) (ends' : List End) (i : ℕ) (p new : Process) (offs : List Off) → slice_get d.processes i ≡ Some p → new.ledger ≡ p.ledger ++ offs → ((off : Off) → In off offs → holds i off) → PortsStay p.links new.links → IsNoted holds d (record d { ends = ends'; processes = slice_set d.processes i new })
 one_noted holds d ends' i p new offs is ledger each ports = record {
   config = refl;
+  manage = refl;
   clock = omega arith;
   conns = λ k ids at. at;
   each = λ j q at. elim (set_at d.processes i j p new q is at) [
@@ -191,6 +218,7 @@ line_noted holds d d' i p new off new_is is ledger links h = process_noted holds
 pub noted_as : (holds holds' : ℕ → Off → Type 0) (a b : DifSeen) → ((i : ℕ) (off : Off) → holds i off → holds' i off) → IsNoted holds a b → IsNoted holds' a b
 noted_as holds holds' a b turn n = record {
   config = n.config;
+  manage = n.manage;
   clock = n.clock;
   conns = n.conns;
   each = λ i p is.
@@ -202,6 +230,7 @@ noted_as holds holds' a b turn n = record {
 pub noted_on : (holds : ℕ → Off → Type 0) (a b c : DifSeen) → IsNoted holds a b → IsNoted holds b c → IsNoted holds a c
 noted_on holds a b c x y = record {
   config = y.config ∙ x.config;
+  manage = y.manage ∙ x.manage;
   clock = (let le = x.clock in let more = y.clock in omega (arith, le, more));
   conns = λ k ids is. y.conns k ids (x.conns k ids is);
   each = λ i p is.

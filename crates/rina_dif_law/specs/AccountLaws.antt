@@ -1,5 +1,5 @@
 -- The laws of the account: in the manner of the laws of standing.
-use Rattle.std.specs.Prelude.{◌≡◌, ◌≢◌, ℕ, List, [], Option, Some, Result, slice_get}
+use Rattle.std.specs.Prelude.{◌≡◌, ℕ, List, [], Option, Some, Result, slice_get}
 use Rattle.rina_base.specs.declared.cause.Cause.{Cause}
 use Rattle.rina_base.specs.declared.number.Num.{Num}
 use Rattle.rina_base.specs.declared.number.Port.{Port}
@@ -24,7 +24,6 @@ use Rattle.rina_dif_law.specs.Cloud.{IsMine}
 use Rattle.rina_dif_law.specs.Dif.{DifSeen}
 use Rattle.rina_data.specs.Process.{Process}
 use Rattle.rina_dif_law.specs.Ending.{IsEnded}
-use Rattle.rina_dif_law.specs.Ids.{Ids}
 use Rattle.rina_dif_law.specs.Incoming.{Ins}
 use Rattle.rina_dif_law.specs.Lifting.{IsLifted}
 use Rattle.rina_dif_law.specs.Losing.{FailAll, Loses}
@@ -40,7 +39,6 @@ use Rattle.rina_dif_law.specs.Timely.{IsAcknowledged, IsForgotten, IsResent}
 pub record IsUnused (d : DifSeen) (below : Seen) : Type 0 where
   pub unread : (port : Port) (e : End) → end_of below port ≡ Some e → IsMine d.config.members e.app → e.taken ≡ 0
   pub clean : (i : ℕ) (process : Process) → slice_get d.processes i ≡ Some process → process.ledger ≡ []
-  pub apart : (i : ℕ) (ids : Ids) → slice_get d.conns i ≡ Some ids → ids.own ≢ ids.far
 
 abbrev pub StartAccounts : Type 0
 StartAccounts = (d : DifSeen) (lines : List Direction) (below : Seen) → AreKept below → IsStart d lines below → IsUnused d below → IsAccounted d lines below

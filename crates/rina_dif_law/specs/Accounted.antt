@@ -3,6 +3,7 @@
 use Rattle.std.specs.Prelude.{◌≡◌, ◌≢◌, ℕ, zero, suc, ◌+◌, ◌-◌, ◌/◌, ◌≤◌, ◌==◌, ◌&&◌, not, Bool, true, false, List, count_by, flat_map, length, position, slice_get, sum_by, take, Option, Some, None, option_and_then, if◌then◌else◌}
 use Rattle.std.specs.Str.{bytes_eq}
 use Rattle.rina_account.specs.Account.{Counts, IsForeign, IsForeignAck, IsOwn, IsOwnAck, IsOwnOnce, key_eq, off_count}
+use Rattle.rina_base.specs.declared.number.FlowName.{FlowName}
 use Rattle.rina_base.specs.declared.number.Key.{Key}
 use Rattle.rina_base.specs.declared.number.Port.{Port}
 use Rattle.rina_base.specs.declared.pdu.PduKind.TheVariants.{Piece, Ack}
@@ -12,6 +13,8 @@ use Rattle.rina_cube.specs.Cubes.{is_reliable}
 use Rattle.rina_iface.specs.declared.ends.End.{End}
 use Rattle.rina_iface.specs.declared.state.PortState.{PortState}
 use Rattle.rina_iface.specs.declared.state.PortState.TheVariants.{Allocated}
+use Rattle.rina_iface.specs.declared.state.Role.{Role}
+use Rattle.rina_iface.specs.declared.state.Role.TheVariants.{Asker, Far}
 use Rattle.rina_iface.specs.Seen.{Fac, Seen, end_of}
 use Rattle.rina_law.specs.declared.entry.Entry.{Entry}
 use Rattle.rina_law.specs.Direction.{Direction}
@@ -84,13 +87,22 @@ abbrev pub made_by : ℕ → ℕ → Key → Option End → Option Ids → ℕ
 made_by size addr k (Some e) (Some c) = if (c.own == addr) && (c.scep == k.scep) then times k.seq (journal_numbers size e.sent) else 0
 made_by size addr k e c = 0
 
--- the far end of a connection
-abbrev pub is_far : Ids → Ids → Bool
-is_far c f = (f.own == c.far) && (f.far == c.own) && (f.scep == c.dcep) && (f.dcep == c.scep)
+abbrev pub is_other_role : Role → Role → Bool
+is_other_role Asker Far = true
+is_other_role Far Asker = true
+is_other_role Asker Asker = false
+is_other_role Far Far = false
 
--- the direction in which an end receives: that of the far end
-abbrev pub inbound_of : List Ids → List Direction → Ids → Option Direction
-inbound_of conns lines c = option_and_then (λ i. slice_get lines i) (position (is_far c) conns)
+-- the other end of a flow: it has the same flow name and the other role
+abbrev pub is_other_of : FlowName → Role → End → Bool
+is_other_of name role e = ((e.flow.src == name.src) && (e.flow.tick == name.tick)) && ((e.flow.count == name.count) && is_other_role role e.role)
+
+abbrev pub is_other : End → End → Bool
+is_other e other = is_other_of e.flow e.role other
+
+-- the direction in which an end receives: that of the other end of its flow
+abbrev pub inbound_of : List End → List Direction → End → Option Direction
+inbound_of ends lines e = option_and_then (λ i. slice_get lines i) (position (is_other e) ends)
 
 -- how often a number stands among those that its receiver holds
 abbrev pub held_in : Option Direction → ℕ → ℕ
@@ -103,10 +115,10 @@ held_by Allocated count = count
 held_by state count = 0
 
 -- the pieces that an end of the IPC process of this address got or holds
-abbrev pub kept_by : ℕ → List Ids → List Direction → ℕ → Key → Option End → Option Ids → ℕ
-kept_by size conns lines addr k (Some e) (Some c) =
-    if (c.own == addr) && (c.far == k.src) && (c.dcep == k.scep) then times k.seq (journal_numbers size e.got) + held_by e.state (held_in (inbound_of conns lines c) k.seq) else 0
-kept_by size conns lines addr k e c = 0
+abbrev pub kept_by : ℕ → List End → List Direction → ℕ → Key → Option End → Option Ids → ℕ
+kept_by size ends lines addr k (Some e) (Some c) =
+    if (c.own == addr) && (c.far == k.src) && (c.dcep == k.scep) then times k.seq (journal_numbers size e.got) + held_by e.state (held_in (inbound_of ends lines e) k.seq) else 0
+kept_by size ends lines addr k e c = 0
 
 -- The account
 
@@ -119,7 +131,7 @@ counts_of d lines below member process k = record {
   queued = sum_by (queued_with k) process.queues;
   off = off_count process.ledger k;
   made = total (length d.ends) (λ j. made_by (piece_size d.config) member.addr k (slice_get d.ends j) (slice_get d.conns j));
-  kept = total (length d.ends) (λ j. kept_by (piece_size d.config) d.conns lines member.addr k (slice_get d.ends j) (slice_get d.conns j));
+  kept = total (length d.ends) (λ j. kept_by (piece_size d.config) d.ends lines member.addr k (slice_get d.ends j) (slice_get d.conns j));
 }
 
 -- a reliable flow of the IPC process of this address has this CEP-id

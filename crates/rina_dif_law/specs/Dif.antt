@@ -13,6 +13,7 @@ use Rattle.rina_data.specs.Process.{Process}
 -- a DIF
 pub record DifSeen : Type 0 where
   pub config : Config
+  pub manage : Cube  -- of the management connections of its links
   pub clock : ℕ
   pub processes : List Process  -- each at the place of its member
   pub ends : List End  -- its journal

@@ -27,6 +27,14 @@ pub record IsFrom (ids : Ids) (pdu : Pdu) : Type 0 where
   pub dcep : pdu.dcep ≡ ids.dcep
   pub qos : pdu.qos ≡ ids.qos
 
+-- the names that the PDUs of every link's management connection bear
+abbrev pub link_names : Ids
+link_names = record { own = 0; far = 0; scep = 0; dcep = 0; qos = 0 }
+
+-- a PDU is one of a link's management connection
+abbrev pub IsOfLink : Pdu → Type 0
+IsOfLink pdu = IsFrom link_names pdu
+
 -- the PDU that carries a piece to the far end
 abbrev pub pdu_of_piece : Ids → Piece → Pdu
 pdu_of_piece ids p = record {

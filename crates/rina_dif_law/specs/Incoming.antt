@@ -33,7 +33,8 @@ use Rattle.rina_dif_law.specs.Counting.{InOrder, held_numbers, off_numbers, time
 use Rattle.rina_data.specs.Configs.{Member, cube_by}
 use Rattle.rina_data.specs.Process.{Process, link_by, next_hop, with_offs}
 use Rattle.rina_dif_law.specs.Dif.{DifSeen, IsProcess, constants, with_process}
-use Rattle.rina_dif_law.specs.Ids.{Ids, IsFrom, flipped}
+use Rattle.rina_dif_law.specs.Ids.{Ids, IsFrom, IsOfLink, flipped}
+use Rattle.rina_dif_law.specs.OnLinks.{IsLinkLine}
 use Rattle.rina_data.specs.Queueing.{IsFull, IsPassedOn, line_for}
 use Rattle.rina_dif_law.specs.Standing.{IsConn}
 
@@ -190,11 +191,32 @@ SettlesOff d lines i member process at hop (causes.NoConnection cep) d' lines' =
 SettlesOff d lines i member process at hop (causes.LinkDown port) d' lines' = ⊥
 SettlesOff d lines i member process at hop cause d' lines' = IsInTime d at hop × (hop.pdu.dst ≡ member.addr) × IsArrived d lines i process hop.pdu (Some cause) d' lines'
 
--- what becomes of a PDU, by what the DIF itself knows
+-- what becomes of a PDU that is too old, or of a flow
+abbrev pub SettlesFlow : DifSeen → List Direction → ℕ → Member → Process → ℕ → Hop → Took → DifSeen → List Direction → Type 0
+SettlesFlow d lines i member process at hop took.Accepted d' lines' = IsInTime d at hop × (hop.pdu.dst ≡ member.addr) × (IsArrived d lines i process hop.pdu None d' lines' ⊎ IsTold d lines hop.pdu d' lines')
+SettlesFlow d lines i member process at hop took.Relayed d' lines' = IsInTime d at hop × (hop.pdu.dst ≢ member.addr) × IsRelayed d i process at hop d' × (lines' ≡ lines)
+SettlesFlow d lines i member process at hop (took.Off cause) d' lines' = SettlesOff d lines i member process at hop cause d' lines'
+
+-- the cause for which a PDU was written off, if it was
+abbrev pub cause_told : Took → Option Cause
+cause_told (took.Off cause) = Some cause
+cause_told end = None
+
+-- The management connection of the link takes a PDU that is in time, or no such connection is allocated. In the ledger are the
+-- lines of pieces that the connection held and gives up, and behind them the PDU's own line, if it has one. Nothing else
+-- changes of the DIF, as it is seen without those connections.
+pub record IsOnLink (d : DifSeen) (lines : List Direction) (i : ℕ) (process : Process) (at : ℕ) (hop : Hop) (end : Took) (d' : DifSeen) (lines' : List Direction) : Type 0 where
+  pub in_time : IsInTime d at hop
+  pub of_link : IsOfLink hop.pdu
+  pub stays : end ≢ took.Relayed
+  pub dropped : List Off
+  pub each : (off : Off) → In off (dropped ++ lines_for hop.pdu (cause_told end)) → IsLinkLine d.manage d.clock off
+  pub lines_are : lines' ≡ lines
+  pub new_is : d' ≡ with_process d i (with_offs process (dropped ++ lines_for hop.pdu (cause_told end)))
+
+-- what becomes of a PDU, by what the DIF itself knows: a PDU of a link is the link's own, unless it is too old
 abbrev pub Settles : DifSeen → List Direction → ℕ → Member → Process → ℕ → Hop → Took → DifSeen → List Direction → Type 0
-Settles d lines i member process at hop took.Accepted d' lines' = IsInTime d at hop × (hop.pdu.dst ≡ member.addr) × (IsArrived d lines i process hop.pdu None d' lines' ⊎ IsTold d lines hop.pdu d' lines')
-Settles d lines i member process at hop took.Relayed d' lines' = IsInTime d at hop × (hop.pdu.dst ≢ member.addr) × IsRelayed d i process at hop d' × (lines' ≡ lines)
-Settles d lines i member process at hop (took.Off cause) d' lines' = SettlesOff d lines i member process at hop cause d' lines'
+Settles d lines i member process at hop end d' lines' = ((IsInTime d at hop → IsOfLink hop.pdu → ⊥) × SettlesFlow d lines i member process at hop end d' lines') ⊎ IsOnLink d lines i process at hop end d' lines'
 
 -- the oldest SDU of a link is taken
 pub record IsTaken (d : DifSeen) (lines : List Direction) (below : Seen) (i n : ℕ) (key : Key) (end : Took) (d' : DifSeen) (lines' : List Direction) (below' : Seen) : Type 0 where

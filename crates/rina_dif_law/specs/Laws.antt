@@ -30,7 +30,8 @@ use Rattle.rina_data.specs.Configs.{Member}
 use Rattle.rina_data.specs.Process.{Process}
 use Rattle.rina_dif_law.specs.Ending.{IsEnded}
 use Rattle.rina_dif_law.specs.Facade.{IsShown, own_refusal, shown}
-use Rattle.rina_dif_law.specs.Incoming.{Ins, Settles}
+use Rattle.rina_dif_law.specs.Ids.{IsOfLink}
+use Rattle.rina_dif_law.specs.Incoming.{Ins, IsInTime, Settles}
 use Rattle.rina_data.specs.Leaving.{CanGo}
 use Rattle.rina_dif_law.specs.Lifting.{IsLifted}
 use Rattle.rina_dif_law.specs.Losing.{FailAll, Loses}
@@ -43,7 +44,7 @@ use Rattle.rina_dif_law.specs.Start.{IsStart}
 use Rattle.rina_dif_law.specs.Timely.{IsAcknowledged, IsForgotten, IsResent}
 use Rattle.rina_dif_law.specs.Upward.{IsFacility, IsSilent}
 
--- Standing: it holds before anything was sent, and after each call
+-- Standing: it holds before the first flow, and after each call
 
 abbrev pub StartStands : Type 0
 StartStands = (d : DifSeen) (lines : List Direction) (below : Seen) → IsStart d lines below → IsStanding d lines below
@@ -238,11 +239,11 @@ PassesArePasses = (s : Seen) (d : DifSeen) (lines : List Direction) (port : Port
 
 abbrev pub RelayingSettles : Type 0
 RelayingSettles = (d : DifSeen) (lines : List Direction) (i : ℕ) (member : Member) (process process' : Process) (at : ℕ) (hop : Hop) →
-    Decides d.config.cap d.clock member.addr process at hop (Ok decision.Relayed) process' → Settles d lines i member process at hop took.Relayed (with_process d i process') lines
+    (IsInTime d at hop → IsOfLink hop.pdu → ⊥) → Decides d.config.cap d.clock member.addr process at hop (Ok decision.Relayed) process' → Settles d lines i member process at hop took.Relayed (with_process d i process') lines
 
 abbrev pub WritingOffSettles : Type 0
 WritingOffSettles = (d : DifSeen) (lines : List Direction) (i : ℕ) (member : Member) (process process' : Process) (at : ℕ) (hop : Hop) (cause : Cause) →
-    Decides d.config.cap d.clock member.addr process at hop (Ok (decision.Off cause)) process' → Settles d lines i member process at hop (took.Off cause) (with_process d i process') lines
+    (IsInTime d at hop → IsOfLink hop.pdu → ⊥) → Decides d.config.cap d.clock member.addr process at hop (Ok (decision.Off cause)) process' → Settles d lines i member process at hop (took.Off cause) (with_process d i process') lines
 
 -- What stands is ready for a step at each of its links: the flow below takes whatever waits
 

@@ -16,10 +16,12 @@ pub mod Lifting
 pub mod Losing
 pub mod NumberLaws
 pub mod Numbered
+pub mod OnLinks
 pub mod Others
 pub mod Outgoing
 pub mod Partners
 pub mod Passing
+pub mod Places
 pub mod Sending
 pub mod Standing
 pub mod Start

@@ -1,5 +1,5 @@
 -- The names that a DIF gives: addresses, CEP-ids, and the names of its flows.
-use Rattle.std.specs.Prelude.{◌≡◌, ℕ, ◌^◌, ◌*◌, ◌<◌, ◌⊎◌, ◌==◌, ◌&&◌, Bool, true, false, List, count_by, slice_get, Some}
+use Rattle.std.specs.Prelude.{◌≡◌, ℕ, ◌^◌, ◌*◌, ◌<◌, ◌≤◌, ◌⊎◌, ◌==◌, ◌&&◌, Bool, true, false, List, count_by, slice_get, Some}
 use Rattle.rina_base.specs.declared.pdu.Pdu.{Pdu}
 use Rattle.rina_iface.specs.declared.ends.End.{End}
 use Rattle.rina_iface.specs.declared.state.Role.{Role}
@@ -13,12 +13,13 @@ use Rattle.rina_dif_law.specs.Ids.{Ids}
 use Rattle.rina_dif_law.specs.Sending.{home}
 use Rattle.rina_dif_law.specs.Standing.{IsConn}
 
--- no two members have one address, one node or one name, each address fits its field, and so does the CEP-id of each
--- port that a node may draw for a fixed flow
+-- no two members have one address, one node or one name, each address is above 0 and fits its field, and so does the
+-- CEP-id of each port that a node may draw for a fixed flow
 pub record AreMembers (g : Config) : Type 0 where
   pub addrs : (i k : ℕ) (a b : Member) → slice_get g.members i ≡ Some a → slice_get g.members k ≡ Some b → a.addr ≡ b.addr → i ≡ k
   pub nodes : (i k : ℕ) (a b : Member) → slice_get g.members i ≡ Some a → slice_get g.members k ≡ Some b → a.node ≡ b.node → i ≡ k
   pub names : (i k : ℕ) (a b : Member) → slice_get g.members i ≡ Some a → slice_get g.members k ≡ Some b → a.name ≡ b.name → i ≡ k
+  pub least : (i : ℕ) (a : Member) → slice_get g.members i ≡ Some a → 1 ≤ a.addr
   pub fit : (i : ℕ) (a : Member) → slice_get g.members i ≡ Some a → a.addr < 2 ^ (8 * g.widths.addr)
   pub ceps : g.admits < 2 ^ (8 * g.widths.cep)
 

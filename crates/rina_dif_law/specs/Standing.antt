@@ -1,5 +1,5 @@
 -- When a DIF stands on the rank below.
-use Rattle.std.specs.Prelude.{◌≡◌, ℕ, ◌+◌, ◌*◌, ◌^◌, ◌<◌, ◌≤◌, ◌⊎◌, List, length, slice_get, Some}
+use Rattle.std.specs.Prelude.{◌≡◌, ◌≢◌, ℕ, ◌+◌, ◌*◌, ◌^◌, ◌<◌, ◌≤◌, ◌⊎◌, false, List, [], length, slice_get, Some}
 use Rattle.rina_base.specs.declared.number.Port.{Port}
 use Rattle.rina_base.specs.declared.pdu.Pdu.{Pdu}
 use Rattle.rina_base.specs.declared.pdu.PduKind.TheVariants.{Piece, Ack}
@@ -7,21 +7,27 @@ use Rattle.rina_cube.specs.declared.Cube.{Cube}
 use Rattle.rina_cube.specs.Cubes.{IsCube}
 use Rattle.rina_iface.specs.declared.ends.End.{End}
 use Rattle.rina_iface.specs.declared.state.PortState.TheVariants.{Allocated}
-use Rattle.rina_iface.specs.declared.state.Role.TheVariants.{Far}
+use Rattle.rina_iface.specs.declared.state.Role.TheVariants as roles
 use Rattle.rina_iface.specs.Journal.{At, HasPartner, HasPorts, IsNamed, IsPartner, IsWhole}
 use Rattle.rina_iface.specs.Seen.{Seen, end_of, largest_at}
 use Rattle.rina_law.specs.declared.entry.Entry.{Entry}
-use Rattle.rina_law.specs.Backed.{IsBacked}
+use Rattle.rina_law.specs.Constants.{Constants}
 use Rattle.rina_law.specs.Direction.{Direction}
 use Rattle.rina_pci.specs.Life.{protected}
 use Rattle.rina_pci.specs.Spelling.{AreWidths, pci_size, spelling}
 use Rattle.rina_queue.specs.declared.queue.Queued.{Queued}
+use Rattle.rina_rest.specs.Flows.{Asker, Endpoint, Far, Flow, IsInUse, Side, end_at}
+use Rattle.rina_rest.specs.Ledger.{LedgerHolds}
+use Rattle.rina_rest.specs.Naming.{Naming}
+use Rattle.rina_rest.specs.Still.{IsUntaken}
+use Rattle.rina_rest.specs.While.{IsBackedIf, IsDirectionFrom}
 use Rattle.rina_dif_law.specs.Cloud.{Cloud, Everywhere, IsMine, Waits}
 use Rattle.rina_data.specs.declared.link.Link.{Link}
 use Rattle.rina_data.specs.Configs.{Config, Member, cube_by}
 use Rattle.rina_data.specs.Process.{Process}
 use Rattle.rina_dif_law.specs.Dif.{DifSeen, fac_of, constants}
-use Rattle.rina_dif_law.specs.Ids.{Ids, flipped, PiecesOf, AcksOf}
+use Rattle.rina_dif_law.specs.Ids.{Ids, PiecesOf, AcksOf}
+use Rattle.rina_dif_law.specs.Places.{IsEntered, Place, ids_from}
 use Rattle.rina_data.specs.Fitting.{IsFit}
 
 -- What never changes
@@ -80,7 +86,7 @@ pub record IsInside (g : Config) (below : Seen) (port : Port) (end : End) : Type
 -- that got something has a partner
 pub record IsJournal (now : ℕ) (ends : List End) : Type 0 where
   pub distinct : (i k : ℕ) (a b : End) → At ends i a → At ends k b → a.flow ≡ b.flow → a.role ≡ b.role → i ≡ k
-  pub far : (i : ℕ) (e : End) → At ends i e → e.role ≡ Far → HasPartner ends e
+  pub far : (i : ℕ) (e : End) → At ends i e → e.role ≡ roles.Far → HasPartner ends e
   pub named : (i k : ℕ) (e other : End) → At ends i e → At ends k other → IsPartner e other → IsNamed e other
   pub allocated : (i : ℕ) (e : End) → At ends i e → e.state ≡ Allocated → HasPartner ends e
   pub met : (i j : ℕ) (e : End) (x : Entry) → At ends i e → slice_get e.got j ≡ Some x → HasPartner ends e
@@ -99,25 +105,54 @@ pub record AreIds (g : Config) (e : End) (ids : Ids) : Type 0 where
   pub dcep : ids.dcep < 2 ^ (8 * g.widths.cep)
   pub qos : ids.qos ≡ e.cube
 
--- the direction of a flow from the end a with ids c to the end b with ids f. A direction of the laws stands behind
--- its part of the cloud, and has its journals
-pub record IsFlow (g : Config) (now : ℕ) (cloud : ℕ → Pdu → Type 0) (a b : End) (c f : Ids) (line : Direction) : Type 0 where
-  pub mirror : f ≡ flipped c
+-- each end of the journal has a place of its own in the ledger of flows, and each end of the ledger stands in the journal.
+-- Ends of one flow, and no others, have one flow name
+pub record AreEntered (ends : List End) (conns : List Ids) (flows : List Flow) (places : List Place) : Type 0 where
+  pub places_alike : length places ≡ length ends
+  pub each : (i : ℕ) (e : End) (ids : Ids) (at : Place) → IsConn ends conns i e ids → slice_get places i ≡ Some at → IsEntered flows at e ids
+  pub once : (i k : ℕ) (x y : Place) → slice_get places i ≡ Some x → slice_get places k ≡ Some y → x.flow ≡ y.flow → x.side ≡ y.side → i ≡ k
+  pub named : (i k : ℕ) (a b : End) (x y : Place) → At ends i a → At ends k b → slice_get places i ≡ Some x → slice_get places k ≡ Some y → x.flow ≡ y.flow → a.flow ≡ b.flow
+  pub apart : (i k : ℕ) (a b : End) (x y : Place) → At ends i a → At ends k b → slice_get places i ≡ Some x → slice_get places k ≡ Some y → a.flow ≡ b.flow → x.flow ≡ y.flow
+  pub all : (n : ℕ) (side : Side) (flow : Flow) (point : Endpoint) → slice_get flows n ≡ Some flow → end_at side flow ≡ Some point → (i : ℕ) × (slice_get places i ≡ Some (record { flow = n; side = side }))
+
+-- a direction from the end a with ids c to the end b. A direction of the laws stands behind its part of the cloud, while the
+-- connection is used, and has the journals of both ends
+pub record IsDirection (g : Config) (now : ℕ) (cloud : ℕ → Pdu → Type 0) (used : Type 0) (a b : End) (c : Ids) (line : Direction) : Type 0 where
   pub cube : Cube
   pub is_cube : cube_by c.qos g.cubes ≡ Some cube
-  pub backed : IsBacked (constants g cube c) now (PiecesOf cloud c) (AcksOf cloud c) line
+  pub backed : IsBackedIf used (constants g cube c) now (PiecesOf cloud c) (AcksOf cloud c) line
   pub sent : line.sent ≡ a.sent
   pub got : line.inbox.got ≡ b.got
   pub passed : line.passed ≡ b.taken
 
--- `lines` has at the place of each end the direction in which it sends. No two ends of an IPC process have one
--- CEP-id
+-- until the asker was told it has sent nothing, and has taken nothing of what the far end sent
+abbrev pub IsUntold : Constants → Side → Flow → Direction → Type 0
+IsUntold c Asker flow line = flow.told ≡ false → line.line.sender.run ≡ []
+IsUntold c Far flow line = flow.told ≡ false → IsUntaken c line
+
+-- the direction of a flow from its end a at a side, with ids c, to the end b. It stands behind its part of the cloud while the connection
+-- is in use: until both ids have rested
+pub record IsFlow (g : Config) (now : ℕ) (cloud : ℕ → Pdu → Type 0) (flow : Flow) (far : Endpoint) (side : Side) (a b : End) (c : Ids) (line : Direction) : Type 0 where
+  pub direction : IsDirection g now cloud (IsInUse now flow) a b c line
+  pub from : IsDirectionFrom (constants g direction.cube c) side flow far line
+  pub untold : IsUntold (constants g direction.cube c) side flow line
+
+-- a PDU is of a flow: its CEP-id is not the 0 of management, or a cube of these flows has its QoS-id
+abbrev pub IsOfFlow : Config → Pdu → Type 0
+IsOfFlow g pdu = (pdu.scep ≢ 0) ⊎ ((cube : Cube) × (cube_by pdu.qos g.cubes ≡ Some cube))
+
+-- the own flows have a ledger, in which each end has its place. No two ends that stand have one address and one CEP-id, nor
+-- has one that stands those of one that rests. Each PDU that may still come is of a connection in use. `lines` has at the place
+-- of each end the direction in which it sends
 pub record IsOwn (g : Config) (now : ℕ) (cloud : ℕ → Pdu → Type 0) (ends : List End) (conns : List Ids) (lines : List Direction) : Type 0 where
   pub alike : length conns ≡ length ends
   pub lines_alike : length lines ≡ length ends
-  pub apart : (i k : ℕ) (c f : Ids) → slice_get conns i ≡ Some c → slice_get conns k ≡ Some f → c.own ≡ f.own → c.scep ≡ f.scep → i ≡ k
+  pub flows : List Flow
+  pub places : List Place
+  pub entered : AreEntered ends conns flows places
+  pub ledger : LedgerHolds now flows (Naming (IsOfFlow g) cloud)
   pub ids : (i : ℕ) (e : End) (c : Ids) → IsConn ends conns i e c → AreIds g e c
-  pub flows : (i k : ℕ) (a b : End) (c f : Ids) (line : Direction) → IsConn ends conns i a c → IsConn ends conns k b f → slice_get lines i ≡ Some line → IsPartner a b → IsFlow g now cloud a b c f line
+  pub flows_are : (i k : ℕ) (a b : End) (x : Place) (flow : Flow) (far : Endpoint) (line : Direction) → At ends i a → At ends k b → IsPartner a b → slice_get places i ≡ Some x → slice_get flows x.flow ≡ Some flow → flow.far ≡ Some far → slice_get lines i ≡ Some line → IsFlow g now cloud flow far x.side a b (ids_from x.side flow far a.cube) line
 
 -- A DIF stands on the rank below
 

@@ -1,19 +1,18 @@
--- A DIF before anything was sent.
+-- A DIF before its first flow, and a direction that starts.
 use Rattle.std.specs.Prelude.{◌≡◌, ℕ, ◌⊎◌, List, [], length, slice_get, Some}
 use Rattle.rina_base.specs.declared.number.Port.{Port}
 use Rattle.rina_cube.specs.declared.Cube.{Cube}
 use Rattle.rina_iface.specs.declared.ends.End.{End}
-use Rattle.rina_iface.specs.Journal.{At, HasPorts, IsPartner}
 use Rattle.rina_iface.specs.Seen.{Seen, end_of}
 use Rattle.rina_law.specs.Direction.{Direction, start}
 use Rattle.rina_queue.specs.declared.queue.Queued.{Queued}
 use Rattle.rina_dif_law.specs.Cloud.{IsMine, Waits}
 use Rattle.rina_data.specs.declared.link.Link.{Link}
 use Rattle.rina_data.specs.Configs.{Member, cube_by}
-use Rattle.rina_dif_law.specs.Dif.{DifSeen, fac_of, constants}
-use Rattle.rina_dif_law.specs.Ids.{Ids, flipped}
+use Rattle.rina_dif_law.specs.Dif.{DifSeen, constants}
+use Rattle.rina_dif_law.specs.Ids.{Ids}
 use Rattle.rina_dif_law.specs.Lifting.{ticked}
-use Rattle.rina_dif_law.specs.Standing.{AreIds, HasLink, IsConfig, IsConn, IsInside, IsJournal, IsLinked}
+use Rattle.rina_dif_law.specs.Standing.{HasLink, IsConfig, IsInside, IsLinked}
 
 -- a direction starts now
 pub record IsFresh (d : DifSeen) (ids : Ids) (line : Direction) : Type 0 where
@@ -21,6 +20,7 @@ pub record IsFresh (d : DifSeen) (ids : Ids) (line : Direction) : Type 0 where
   pub is_cube : cube_by ids.qos d.config.cubes ≡ Some cube
   pub is : line ≡ ticked d.clock (start (constants d.config cube ids))
 
+-- it has no flow yet, its links are those of its members below, and nothing was sent on them
 pub record IsStart (d : DifSeen) (lines : List Direction) (below : Seen) : Type 0 where
   pub config : IsConfig d.config
   pub clock : d.clock ≡ below.now
@@ -29,12 +29,6 @@ pub record IsStart (d : DifSeen) (lines : List Direction) (below : Seen) : Type 
   pub inside : (port : Port) (end : End) → end_of below port ≡ Some end → IsMine d.config.members end.app ⊎ IsMine d.config.members end.peer → IsInside d.config below port end
   pub silent : (port : Port) (end : End) → end_of below port ≡ Some end → IsMine d.config.members end.app → end.sent ≡ []
   pub idle : (i n : ℕ) (item : Queued) → Waits d.processes i n item → ⊥
-  pub journal : IsJournal d.clock d.ends
-  pub empty : (i : ℕ) (e : End) → At d.ends i e → (e.sent ≡ []) × (e.got ≡ []) × (e.taken ≡ 0)
-  pub ports : HasPorts d.config.fac (fac_of d)
-  pub alike : length d.conns ≡ length d.ends
-  pub lines_alike : length lines ≡ length d.ends
-  pub apart : (i k : ℕ) (c f : Ids) → slice_get d.conns i ≡ Some c → slice_get d.conns k ≡ Some f → c.own ≡ f.own → c.scep ≡ f.scep → i ≡ k
-  pub ids : (i : ℕ) (e : End) (c : Ids) → IsConn d.ends d.conns i e c → AreIds d.config e c
-  pub named : (i k : ℕ) (a b : End) (c f : Ids) → IsConn d.ends d.conns i a c → IsConn d.ends d.conns k b f → IsPartner a b → f ≡ flipped c
-  pub fresh : (i : ℕ) (c : Ids) (line : Direction) → slice_get d.conns i ≡ Some c → slice_get lines i ≡ Some line → IsFresh d c line
+  pub no_ends : d.ends ≡ []
+  pub no_conns : d.conns ≡ []
+  pub no_lines : lines ≡ []

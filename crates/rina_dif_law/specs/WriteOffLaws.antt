@@ -31,7 +31,7 @@ use Rattle.rina_dif_law.specs.Sending.{Offers}
 use Rattle.rina_dif_law.specs.Standing.{IsStanding}
 use Rattle.rina_dif_law.specs.Timely.{IsAcknowledged, IsForgotten, IsResent}
 use Rattle.rina_dif_law.specs.WriteOffs.{AnyPort, IsOverNow, MayWriteOff, NoPort, RefusesOver, Writes}
-use Rattle.rina_dif_law.specs.Written.{WasLawful}
+use Rattle.rina_dif_law.specs.Written.{IsLawfulLine}
 
 -- Steps and rows that write
 
@@ -78,7 +78,7 @@ FailingWrites = (d : DifSeen) (lines : List Direction) (below : Seen) (node : �
 
 abbrev pub MayWriteOffIsLawful : Type 0
 MayWriteOffIsLawful = (d : DifSeen) (lines : List Direction) (below : Seen) (i : ℕ) (off : Off) → MayWriteOff d lines below AnyPort i off
-    → (member : Member) (process : Process) → IsProcess d i member process → WasLawful d.config d.clock d.conns member.addr process.links off.key off.cause
+    → (member : Member) (process : Process) → IsProcess d i member process → IsLawfulLine d member process off
 
 -- Calls that write nothing
 

@@ -35,6 +35,7 @@ use Rattle.rina_data.specs.Process.{IsQueue, Process, Queue, link_by, next_hop}
 use Rattle.rina_dif_law.specs.Dif.{DifSeen, IsProcess, constants}
 use Rattle.rina_dif_law.specs.Ids.{Ids, flipped}
 use Rattle.rina_dif_law.specs.Incoming.{IsInbound, IsKeptNumber, IsTaker, joiner_found}
+use Rattle.rina_dif_law.specs.OnLinks.{IsLinkLine}
 use Rattle.rina_dif_law.specs.Standing.{IsConn}
 
 -- A hop that charges more than is left
@@ -161,12 +162,12 @@ MayBy d lines below down addr process key (causes.StateGone last_in) =
 MayBy d lines below down addr process key (causes.Broken missing) = SomeReceiver d lines addr key (λ ids cube line. IsBroken (constants d.config cube (flipped ids)) line key.seq missing)
 MayBy d lines below down addr process key (causes.LinkDown port) = IsLinkWith down process port
 
--- the IPC process of place i may write this line
+-- the IPC process of place i may write this line, by what the DIF that is seen knows, or as one of a link's management connection
 pub record MayWriteOff (d : DifSeen) (lines : List Direction) (below : Seen) (down : Port → Type 0) (i : ℕ) (off : Off) : Type 0 where
   pub member : Member
   pub process : Process
   pub is_process : IsProcess d i member process
-  pub may : MayBy d lines below down member.addr process off.key off.cause
+  pub may : MayBy d lines below down member.addr process off.key off.cause ⊎ IsLinkLine d.manage d.clock off
 
 -- Which ports take no more
 

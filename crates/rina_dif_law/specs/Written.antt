@@ -1,6 +1,6 @@
 -- What each line of a ledger says for good: a cause that the settings of the DIF, its connections, its links and its clock
 -- bear out.
-use Rattle.std.specs.Prelude.{◌≡◌, ◌≢◌, ℕ, ◌^◌, ◌<◌, false, List, slice_get, Some}
+use Rattle.std.specs.Prelude.{◌≡◌, ◌≢◌, ℕ, ◌^◌, ◌<◌, ◌⊎◌, false, List, slice_get, Some}
 use Rattle.rina_account.specs.Causes.{IsExpired, IsGone}
 use Rattle.rina_account.specs.declared.ledger.Off.{Off}
 use Rattle.rina_base.specs.declared.cause.Cause.{Cause}
@@ -17,6 +17,7 @@ use Rattle.rina_data.specs.Configs.{Config, Member, cube_by}
 use Rattle.rina_data.specs.Process.{Process}
 use Rattle.rina_dif_law.specs.Dif.{DifSeen, IsProcess}
 use Rattle.rina_dif_law.specs.Ids.{Ids}
+use Rattle.rina_dif_law.specs.OnLinks.{IsLinkLine}
 use Rattle.rina_dif_law.specs.WriteOffs.{IsTooOld}
 
 -- a connection of the IPC process with this address, of this cube, receives the pieces with this source and CEP-id
@@ -55,6 +56,10 @@ WasLawful g now conns addr links key (causes.StateGone last_in) = ReceivesWith g
 WasLawful g now conns addr links key (causes.Broken missing) = (missing < 2 ^ 32) × ReceivesWith g conns addr key (λ cube. Unit {0})
 WasLawful g now conns addr links key (causes.LinkDown port) = HasPort links port
 
+-- a line of an IPC process says so, or is one of a link's management connection
+abbrev pub IsLawfulLine : DifSeen → Member → Process → Off → Type 0
+IsLawfulLine d member process off = WasLawful d.config d.clock d.conns member.addr process.links off.key off.cause ⊎ IsLinkLine d.manage d.clock off
+
 -- and so of each line of each ledger
 abbrev pub AreWrittenOff : DifSeen → Type 0
-AreWrittenOff d = (i : ℕ) (member : Member) (process : Process) (off : Off) → IsProcess d i member process → In off process.ledger → WasLawful d.config d.clock d.conns member.addr process.links off.key off.cause
+AreWrittenOff d = (i : ℕ) (member : Member) (process : Process) (off : Off) → IsProcess d i member process → In off process.ledger → IsLawfulLine d member process off

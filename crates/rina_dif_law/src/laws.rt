@@ -12,7 +12,7 @@ pub fn each_entry_has_a_sender()
     ensures { EachIsMet }
 {}
 
-/// A DIF stands before anything was sent, and after each of its calls, whatever that answers.
+/// A DIF stands before its first flow, and after each of its calls, whatever that answers.
 pub fn calls_keep_standing()
     ensures start { StartStands }
     ensures send { SendsStand }
@@ -27,8 +27,8 @@ pub fn calls_keep_standing()
     ensures fail { FailingStands }
 {}
 
-/// A DIF that stands is lawful: each piece and each acknowledgement that is under way is one that its connection may still
-/// take, and both ends agree on what was accepted.
+/// A DIF that stands is lawful: each piece and each acknowledgement that is under way of a connection in use is one that it
+/// may still take, and both ends agree on what was accepted.
 pub fn a_dif_that_stands_is_lawful()
     ensures { StandingIsLawful }
 {}

@@ -51,7 +51,7 @@ module _ (g : Config) (now : ℕ) (cloud : ℕ → Pdu → Type 0) (ends : List 
   pub the_flow : (from : ℕ) (line : Direction) → IsInboundAt ends lines end from line → IsInFlow g now cloud end (ids_of conn) conn.sending.form.cube line
   the_flow from line inbound =
       let place = place_of g now ends conns lines at end conn tied is_at in
-      inflow g now cloud ends (conns_of conns) lines at end (ids_of conn) conn.sending.form.cube from line own place.is_conn place.is_cube inbound
+      inflow g now cloud ends (conns_of conns) lines at end (ids_of conn) conn.sending.form.cube from line journal own place.is_conn allocated place.is_cube inbound
 
   -- the piece is one of the direction from the partner
   pub is_coming : (pdu : Pdu) (death from : ℕ) (line : Direction) → IsFrom (flipped (ids_of conn)) pdu → pdu.kind ≡ APiece → cloud death pdu → now ≤ death → IsInboundAt ends lines end from line → IsComing (inward g conn) (ids_of conn) line pdu

@@ -1,5 +1,5 @@
 -- A piece of the cloud that comes to an allocated end is one of the direction from its partner.
-use Rattle.std.proofs.Common.{◌≡◌, ℕ, ◌-◌, ◌≤◌, List, length, ltb, Some, refl, sym, ◌∙◌, ap, subst, arith}
+use Rattle.std.proofs.Common.{◌≡◌, ℕ, ◌-◌, ◌≤◌, List, length, ltb, Some, refl, ap, subst, arith}
 use Rattle.rina_base.specs.declared.pdu.Pdu.{Pdu}
 use Rattle.rina_base.specs.declared.pdu.PduKind.TheVariants.{Piece as APiece}
 use Rattle.rina_cube.specs.declared.Cube.{Cube}
@@ -8,7 +8,8 @@ use Rattle.rina_dif_law.specs.Dif.{constants}
 use Rattle.rina_dif_law.specs.Ids.{AcksOf, Ids, PiecesOf, flipped}
 use Rattle.rina_dif_law.specs.Standing.{IsConfig, IsConn, IsJournal, IsOwn}
 use Rattle.rina_dif_law.proofs.Finding.{beside, cube_limits}
-use Rattle.rina_dif_law.proofs.Own.{partner_back}
+use Rattle.rina_dif_law.proofs.Own.{direction_in, partner_back}
+use Rattle.rina_rest.specs.While.{IsBackedIf}
 use Rattle.rina_iface.specs.declared.ends.End.{End}
 use Rattle.rina_iface.specs.declared.state.PortState.TheVariants.{Allocated}
 use Rattle.rina_iface.specs.Journal.{At}
@@ -35,16 +36,14 @@ pub record IsInFlow (g : Config) (now : ℕ) (cloud : ℕ → Pdu → Type 0) (e
   pub got : line.inbox.got ≡ end.got
   pub passed : line.passed ≡ end.taken
 
-pub inflow : (g : Config) (now : ℕ) (cloud : ℕ → Pdu → Type 0) (ends : List End) (ids : List Ids) (lines : List Direction) (at : ℕ) (end : End) (its_ids : Ids) (cube : Cube) (from : ℕ) (line : Direction) → IsOwn g now cloud ends ids lines → IsConn ends ids at end its_ids → cube_by its_ids.qos g.cubes ≡ Some cube → IsInboundAt ends lines end from line → IsInFlow g now cloud end its_ids cube line
-inflow g now cloud ends ids lines at end its_ids cube from line own is_conn is_cube inbound =
-    let c = beside ends ids from inbound.partner own.alike inbound.is_partner in
-    let conn : IsConn ends ids from inbound.partner c.0 = record { end = inbound.is_partner; ids_are = c.1 } in
-    let flow = own.flows from at inbound.partner end c.0 its_ids line conn is_conn inbound.is_line inbound.partners in
-    let B : Cube → Ids → Type 0 = λ x z. IsBacked (constants g x z) now (PiecesOf cloud z) (AcksOf cloud z) line in
-    let back : c.0 ≡ flipped its_ids = sym (ap flipped flow.mirror) in
-    let same : cube_by its_ids.qos g.cubes ≡ Some flow.cube = ap (λ (z : Ids). cube_by z.qos g.cubes) flow.mirror ∙ flow.is_cube in
+pub inflow : (g : Config) (now : ℕ) (cloud : ℕ → Pdu → Type 0) (ends : List End) (ids : List Ids) (lines : List Direction) (at : ℕ) (end : End) (its_ids : Ids) (cube : Cube) (from : ℕ) (line : Direction) → IsJournal now ends → IsOwn g now cloud ends ids lines → IsConn ends ids at end its_ids → end.state ≡ Allocated → cube_by its_ids.qos g.cubes ≡ Some cube → IsInboundAt ends lines end from line → IsInFlow g now cloud end its_ids cube line
+inflow g now cloud ends ids lines at end its_ids cube from line journal own is_conn allocated is_cube inbound =
+    let named = journal.named from at inbound.partner end inbound.is_partner is_conn.end inbound.partners in
+    let flow = direction_in g now cloud ends ids lines own from at inbound.partner end its_ids line inbound.is_partner is_conn inbound.is_line inbound.partners allocated named.cube in
+    let B : Cube → Type 0 = λ x. IsBackedIf (Unit {0}) (constants g x (flipped its_ids)) now (PiecesOf cloud (flipped its_ids)) (AcksOf cloud (flipped its_ids)) line in
+    let b = subst B (some_cube g its_ids.qos flow.cube cube flow.is_cube is_cube) flow.backed in
     record {
-      backed = subst (λ (x : Cube). B x (flipped its_ids)) (some_cube g its_ids.qos flow.cube cube same is_cube) (subst (B flow.cube) back flow.backed);
+      backed = record { holds = b.holds; clock = b.clock; pieces_in = λ death p x alive. b.pieces_in death p (tt, x) alive; acks_in = λ death k x alive. b.acks_in death k (tt, x) alive };
       got = flow.got;
       passed = flow.passed;
     }

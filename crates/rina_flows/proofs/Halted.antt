@@ -22,7 +22,7 @@ use Rattle.rina_law.specs.Direction.{Direction}
 use Rattle.rina_flows.specs.declared.flows.Flows.{Flows}
 use Rattle.rina_flows.specs.Arriving.{offs_of}
 use Rattle.rina_flows.specs.Calls.{AreTied, Becomes}
-use Rattle.rina_flows.specs.Delivering.{GivesUpAll, HasStopped, closed}
+use Rattle.rina_flows.specs.Delivering.{GivesUpAll, HasStoppedWithin, StopsWithin, closed}
 use Rattle.rina_flows.specs.Ending.{EndsAt}
 use Rattle.rina_flows.specs.Stopping.{StopFirst, StopsAll, held_before, held_by, is_allocated, is_here}
 use Rattle.rina_flows.specs.Tied.{IsAt, IsTied, conns_of, ids_of}
@@ -93,12 +93,8 @@ length_offs (d ∷ ds) = (let rest = length_offs ds in omega (arith, rest))
 
 -- One end
 
-pub record IsOneStopped (g : Config) (now at : ℕ) (state : PortState) (old : Flows) (lines : List Off) (ls : List Direction) (new : Flows) (lines' : List Off) (kept : ℕ) : Type 0 where
-  pub stopped : HasStopped g now at state old lines ls new lines'
-  pub few : length lines' ≤ length lines + kept
-
 one_stopped : (now at : ℕ) (state : PortState) (ends ends' : List End) (conns conns' : List Conn) (lines lines' : List Off) (room : ℕ) (seen : Conn) (g : Config) (ls : List Direction) (end : End) → slice_get conns at ≡ Some seen → length lines + length (kept_numbers seen.rx) ≤ room → Becomes (GivesUpAll now closed lines room lines') at conns conns' → ends' ≡ slice_set ends at (record end { state = state })
-    → IsJournal now ends → IsTied g now ends conns ls → At ends at end → end.state ≡ Allocated → Moves end.state state → state ≢ Allocated → IsOneStopped g now at state (flows_of ends conns) lines ls (flows_of ends' conns') lines' (length (kept_numbers seen.rx))
+    → IsJournal now ends → IsTied g now ends conns ls → At ends at end → end.state ≡ Allocated → Moves end.state state → state ≢ Allocated → HasStoppedWithin g now at state (flows_of ends conns) lines ls (flows_of ends' conns') lines' (length (kept_numbers seen.rx))
 one_stopped now at state ends ends' conns conns' lines lines' room seen g ls end here fits become ends_are journal t is allocated moves other =
     let b = become seen here in
     let new : Conn = b.0 in
@@ -123,6 +119,9 @@ one_stopped now at state ends ends' conns conns' lines lines' room seen g ls end
       };
       few = omega (arith, count, offs, taken);
     }
+
+pub stops_within : (now at : ℕ) (state : PortState) (ends ends' : List End) (conns conns' : List Conn) (lines lines' : List Off) (room : ℕ) → Becomes (GivesUpAll now closed lines room lines') at conns conns' → ((e : End) → slice_get ends at ≡ Some e → ends' ≡ slice_set ends at (record e { state = state })) → StopsWithin now at state (flows_of ends conns) lines room (flows_of ends' conns') lines'
+stops_within now at state ends ends' conns conns' lines lines' room become set g ls end conn journal t is allocated moves other here fits = one_stopped now at state ends ends' conns conns' lines lines' room conn g ls end here fits become (set end is) journal t is allocated moves other
 
 -- All of them
 

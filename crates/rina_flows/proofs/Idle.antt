@@ -29,7 +29,7 @@ not_closed g now at ends conns lines end k journal t is state stands =
     (t.receives at i.from end k i.line (record { end_is = is; conn_is = stands }) state i.inbound).stands.not_closed
 
 -- no item is due where nothing is due at the connection, unless that is closed
-idle_item : (item : Item) (now at : ℕ) (ends : List End) (conns : List Conn) → ((k : Conn) → slice_get conns at ≡ Some k → k.rx.closed ≡ false → IsIdleAt now k) → DueIn item now at (flows_of ends conns) false
+pub idle_item : (item : Item) (now at : ℕ) (ends : List End) (conns : List Conn) → ((k : Conn) → slice_get conns at ≡ Some k → k.rx.closed ≡ false → IsIdleAt now k) → DueIn item now at (flows_of ends conns) false
 idle_item Gone now at ends conns idle = λ g lines end journal t is state.
     gone_due now at ends conns false (λ k stands. (λ e. absurd (false≢true e), λ gone. absurd (gone.1 ((idle k stands (not_closed g now at ends conns lines end k journal t is state stands)).kept gone.0)))) g lines end journal t is state
 idle_item GiveUp now at ends conns idle = λ g lines end journal t is state.

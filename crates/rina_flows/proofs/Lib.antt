@@ -36,4 +36,5 @@ pub mod Waiting
 pub mod Welcome
 pub mod Writing
 pub mod Watched
+pub mod Rested
 pub mod Idle

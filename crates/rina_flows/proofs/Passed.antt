@@ -12,7 +12,7 @@ use Rattle.rina_dif_law.specs.Ids.{flipped}
 use Rattle.rina_dif_law.specs.Standing.{IsConn, IsJournal}
 use Rattle.rina_dif_law.proofs.Finding.{beside}
 use Rattle.rina_data.proofs.Finding.{there}
-use Rattle.rina_dif_law.proofs.Own.{one_partner, partner_back}
+use Rattle.rina_dif_law.proofs.Own.{journals, one_partner, partner_back}
 use Rattle.rina_dtp.specs.Stands.{Stands}
 use Rattle.rina_iface.specs.declared.ends.End.{End}
 use Rattle.rina_iface.specs.declared.state.PortState.TheVariants.{Allocated}
@@ -24,7 +24,6 @@ use Rattle.rina_law.specs.Direction.{Direction, Pass, happens}
 use Rattle.rina_law.specs.Pieces.{Sdu}
 use Rattle.rina_flows.specs.Calls.{Becomes, IsPass, PassesOne}
 use Rattle.rina_flows.specs.Tied.{IsAt, IsInboundAt, IsReceiving, IsTied, conns_of, ids_by, ids_of, inward}
-use Rattle.rina_flows.proofs.Coming.{inflow}
 use Rattle.rina_flows.proofs.Framed.{ids_at, same_ids, tied_set}
 use Rattle.rina_flows.proofs.Offered.{elsewhere, flows_of}
 use Rattle.rina_flows.proofs.Restated.{receiving_passed, sending_conn, sending_same}
@@ -94,7 +93,7 @@ passes_from now at ends ends' conns conns' lt lt' waits become passed = λ g lin
     let here = beside ends lines at end t.lines_alike e.1 in
     let cube = (t.sends at conn here.0 k.1 here.1).cube in
     let is_conn : IsConn ends (conns_of conns) at end (ids_of conn) = record { end = e.1; ids_are = ids_at conns at conn k.1 } in
-    let flow = inflow g now cloud ends (conns_of conns) lines at end (ids_of conn) conn.sending.form.cube from line own is_conn cube inb in
+    let flow = journals g now cloud ends (conns_of conns) lines own from at partner.other end line partner.stands e.1 l.1 inb.partners in
     let some : line.passed < length line.inbox.got = (let lt = waits end e.1 in let a = flow.passed in let b = ap (λ (es : List Entry). length es) flow.got in omega arith) in
     let tied = tied_passed g now at from ends conns lines end conn b.0 line journal t is inb some b.1 in
     let tied' = subst (λ (xs : List End). IsTied g now xs (slice_set conns at b.0) lines') (sym (passed end e.1)) tied in

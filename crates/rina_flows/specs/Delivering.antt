@@ -1,6 +1,6 @@
 -- What a connection does with a piece that comes: what it gives up is noted behind the lines of a ledger, and what
 -- becomes whole behind what its end got, where there is room for all of it.
-use Rattle.std.specs.Prelude.{◌≡◌, ◌≢◌, ℕ, ◌+◌, ◌≤◌, Bool, true, false, List, [], ◌∷◌, ◌++◌, length, map, Option, Some, None, Result, Ok, Err}
+use Rattle.std.specs.Prelude.{◌≡◌, ◌≢◌, ℕ, ◌+◌, ◌≤◌, Bool, true, false, List, [], ◌∷◌, ◌++◌, length, map, slice_get, Option, Some, None, Result, Ok, Err}
 use Rattle.rina_account.specs.declared.ledger.Off.{Off}
 use Rattle.rina_base.specs.declared.cause.Cause.{Cause}
 use Rattle.rina_base.specs.declared.memory.Memory.{Memory}
@@ -182,3 +182,13 @@ abbrev pub StopsIn : ℕ → ℕ → PortState → Flows → List Off → Result
 StopsIn now at state old ledger (Ok u) new ledger' =
     (g : Config) (lines : List Direction) (end : End) → IsJournal now old.journal.ends → AreTied g now old lines → At old.journal.ends at end → end.state ≡ Allocated → Moves end.state state → state ≢ Allocated → HasStopped g now at state old ledger lines new ledger'
 StopsIn now at state old ledger (Err e) new ledger' = (new ≡ old) × (ledger' ≡ ledger)
+
+-- so with room for that: its lines are so many more at most
+pub record HasStoppedWithin (g : Config) (now at : ℕ) (state : PortState) (old : Flows) (ledger : List Off) (lines : List Direction) (new : Flows) (ledger' : List Off) (held : ℕ) : Type 0 where
+  pub stopped : HasStopped g now at state old ledger lines new ledger'
+  pub few : length ledger' ≤ length ledger + held
+
+abbrev pub StopsWithin : ℕ → ℕ → PortState → Flows → List Off → ℕ → Flows → List Off → Type 0
+StopsWithin now at state old ledger room new ledger' =
+    (g : Config) (lines : List Direction) (end : End) (conn : Conn) → IsJournal now old.journal.ends → AreTied g now old lines → At old.journal.ends at end → end.state ≡ Allocated → Moves end.state state → state ≢ Allocated → slice_get old.conns at ≡ Some conn → length ledger + length (kept_numbers conn.rx) ≤ room →
+    HasStoppedWithin g now at state old ledger lines new ledger' (length (kept_numbers conn.rx))

@@ -10,4 +10,5 @@ pub mod Stopping
 pub mod Tied
 pub mod Timely
 pub mod Quiet
+pub mod Resting
 pub mod Watching

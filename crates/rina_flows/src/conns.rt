@@ -6,6 +6,7 @@ ghost use Rattle.rina_base.specs.Pdus.{pdu_of};
 ghost use Rattle.rina_flows.specs.Delivering.{GivesUpAll, IsLanding, Receives, closed};
 ghost use Rattle.rina_flows.specs.Calls.{Becomes, IsOffer, IsPass, IsTold};
 ghost use Rattle.rina_flows.specs.Timely.{IsAcknowledged, IsSentAgain};
+ghost use Rattle.rina_flows.specs.Quiet.{AreQuiet};
 ghost use Rattle.rina_flows.specs.Watching.{AreIdleBeside};
 
 use crate::arrival::{Notes, cause_of, receive, write_off};
@@ -242,5 +243,12 @@ impl Conns {
         ensures { IfSome result (λ places. AreIdleBeside now places.now self.now) }
     {
         self.watch.places_at(now)
+    }
+
+    /// A tick before which nothing is due at any connection.
+    pub fn quiet_until(&self) -> Tick
+        ensures { AreQuiet result self.now }
+    {
+        self.watch.quiet_until(self.items.as_slice())
     }
 }

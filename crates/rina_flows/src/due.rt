@@ -5,6 +5,7 @@ ghost use Rattle.rina_conn.specs.Sending.{TellsAgain, TellsGivenUp};
 ghost use Rattle.rina_flows.specs.Calls.{Tells};
 ghost use Rattle.rina_flows.specs.Delivering.{HoldsGone};
 ghost use Rattle.rina_flows.specs.Elsewhere.{ChangesAt};
+ghost use Rattle.rina_flows.specs.Resting.{NoneDueUntil};
 ghost use Rattle.rina_flows.specs.Timely.{AcknowledgesIn, DueIn, GivesUpIn, SendsAgainIn};
 ghost use Rattle.rina_flows.specs.Watching.{NoneDueBeside};
 
@@ -82,6 +83,13 @@ impl Flows {
         ensures { IfSome result (λ places. NoneDueBeside now places.now self.now) }
     {
         self.conns.watched(now)
+    }
+
+    /// A tick before which no item is due at any end. It may have gone by. Takes no memory.
+    pub fn quiet_until(&self) -> Tick
+        ensures { NoneDueUntil result self.now }
+    {
+        self.conns.quiet_until()
     }
 
     /// Looks again at which ends something may be due soon, where that is not known for this tick, so that `watched` can

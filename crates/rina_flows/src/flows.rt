@@ -1,18 +1,20 @@
 //! The flows of a DIF.
 ghost use Rattle.std.specs.Prelude.{◌≡◌, ◌≤◌, ◌<◌, ◌-◌, ◌^◌, min, [], ◌∷◌, ◌++◌, length, slice_get, Some, IsTrue, ◌↔◌, OnOk, OnErr};
+ghost use Rattle.std.specs.Vec.{vec_capacity};
 ghost use Rattle.rina_base.specs.Pdus.{pdu_of};
 ghost use Rattle.rina_conn.specs.Sending.{TellsRoom};
 ghost use Rattle.rina_cube.specs.Cubes.{IsCube};
 ghost use Rattle.rina_dif_law.specs.Ids.{IsFrom, flipped};
 ghost use Rattle.rina_flows.specs.Adding.{Adds, turned};
 ghost use Rattle.rina_flows.specs.Calls.{Offered, Offers, PassesOne, TakenBy, Takes, TakesHere, Tells, TellsNeed, TellsNext, TellsOne};
-ghost use Rattle.rina_flows.specs.Delivering.{ArrivesIn, ForgetsIn, StopsIn};
+ghost use Rattle.rina_dtp.specs.Receiving.{kept_numbers};
+ghost use Rattle.rina_flows.specs.Delivering.{ArrivesIn, ForgetsIn, StopsIn, StopsWithin};
 ghost use Rattle.rina_flows.specs.Elsewhere.{ChangesAt, SameBut};
 ghost use Rattle.rina_flows.specs.Tied.{IsAt, conns_of, ids_of};
 
 use crate::arrival::Notes;
 use crate::conns::Conns;
-use rina_account::Ledger;
+use rina_account::{Ledger, Off};
 use rina_base::{Bytes, Cause, Memory, PduView, Tick};
 use rina_conn::{Conn, Form, Made, OfferError, Peer};
 use rina_cube::Cube;
@@ -195,8 +197,9 @@ impl Flows {
         self.conns.on_ack(at, pdu);
     }
 
-    /// Whether the end at a place, and its connection, take the PDU.
-    fn takes(&self, at: usize, pdu: &PduView<'_>) -> bool
+    /// Whether an allocated end stands at a place, and its connection has the two addresses, the two CEP-ids and the QoS-id of
+    /// a PDU. Takes no memory.
+    pub fn takes(&self, at: usize, pdu: &PduView<'_>) -> bool
         ensures { IsTrue result ↔ TakesHere self.now.journal.ends self.now.conns at (pdu_of pdu.now) }
     {
         match (self.journal.ends.get(at), self.conns.get(at)) {
@@ -294,6 +297,27 @@ impl Flows {
                 Err(Memory)
             }
         }
+    }
+
+    /// How many pieces the connection at a place holds. Takes no memory.
+    pub fn kept(&self, at: usize) -> u64
+        requires { at < length self.now.conns }
+        ensures { Tells (λ k. result ≡ length (kept_numbers k.rx)) at self.now.conns }
+    {
+        self.conns.at(at).rx.kept()
+    }
+
+    /// Ends the end at a place with a state other than `Allocated`, and writes off what its connection holds behind
+    /// these lines. Takes memory only where they have no room.
+    pub fn stop_with_room(&mut self, now: Tick, at: usize, state: PortState, lines: &mut Vec<Off>)
+        requires end { at < length self.old.journal.ends }
+        requires conn { at < length self.old.conns }
+        ensures stops { StopsWithin now at state self.old lines.old.items (vec_capacity lines.old) self.new lines.new.items }
+        ensures leaves { ChangesAt (λ i. i ≡ at) self.old self.new }
+        ensures capacity { vec_capacity lines.old ≤ vec_capacity lines.new }
+    {
+        self.conns.close(now, at, lines);
+        self.journal.ends.set_state(at, state);
     }
 
     /// Ends the end at a place with a state other than `Allocated`, and writes off what its connection holds. Without

@@ -113,4 +113,19 @@ impl Watch {
             None
         }
     }
+
+    /// A tick before which nothing is due at any of the connections. Only the places that are watched are looked at.
+    pub fn quiet_until(&self, conns: &[Conn]) -> Tick
+        requires { AreQuietBeside self.now.places.items self.now.until conns.now }
+        ensures { AreQuiet result conns.now }
+    {
+        let mut until = self.until;
+        for place in 0..self.places.len() {
+            let at = self.places[place];
+            if at < conns.len() {
+                until = until.min(conns[at].quiet_until());
+            }
+        }
+        until
+    }
 }

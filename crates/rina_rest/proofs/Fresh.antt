@@ -83,7 +83,7 @@ pub fours_apart : (s : Ledger) (i k : ℕ) (f g : Flow) (u : IsInUse s.now f) (v
 fours_apart s i k f g u v h x y same = h.fours i k f g u v x y same
 
 -- the ends of one flow are at two addresses
-one_side : (now : ℕ) (f : Flow) (side other : Side) (a b : Endpoint) → FlowHolds now f → end_at side f ≡ Some a → end_at other f ≡ Some b → a.addr ≡ b.addr → side ≡ other
+pub one_side : (now : ℕ) (f : Flow) (side other : Side) (a b : Endpoint) → FlowHolds now f → end_at side f ≡ Some a → end_at other f ≡ Some b → a.addr ≡ b.addr → side ≡ other
 one_side now f Asker Asker a b flow x y same = refl
 one_side now f Far Far a b flow x y same = refl
 one_side now f Asker Far a b flow x y same = absurd (flow.elsewhere (sym (flow.there b y) ∙ sym same ∙ sym (ap (λ (z : Endpoint). z.addr) (same_Some f.asker a x))))

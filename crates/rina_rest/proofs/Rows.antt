@@ -5,8 +5,8 @@ use Rattle.rina_law.specs.Backed.{Covers, CoversBut}
 use Rattle.rina_law.specs.Line.{InFlight, IsCovered}
 use Rattle.rina_law.specs.Lists.{In}
 use Rattle.rina_rest.specs.Flows.{Endpoint, RestedBy, HasRested, HasSameId, Side, Asker, Far, Flow, end_at, IsFree, IsInUse, IsSameFour, both_ended, Four, GoesFrom, IsOf}
-use Rattle.rina_rest.specs.Ledger.{Ledger, empty, Row, Time, Cloud, Ask, Make, Tell, EndAsker, EndFar, Send, put, asked_flow, made, told_flow, ended_asker, ended_far, entered, Stands, IsAllowed, IsHistory, ledger_after, FlowHolds, LedgerHolds, Listed, Holds}
-use Rattle.rina_rest.proofs.Lists.{put_changed, push_changed, past_none, same_flow}
+use Rattle.rina_rest.specs.Ledger.{Ledger, empty, Row, Time, Cloud, Ask, Make, Tell, EndAsker, EndFar, Send, put, asked_flow, bound_flow, made, told_flow, ended_asker, ended_far, entered, Stands, IsAllowed, IsHistory, ledger_after, FlowHolds, LedgerHolds, Listed, Holds}
+use Rattle.rina_rest.proofs.Lists.{put_changed, push_changed, past_none, same_flow, new_or_old}
 use Rattle.rina_rest.proofs.Holding.{rested_later, unended, both_later, both_asker, both_far, both_asker_now, both_far_now, same_to, goes_still, IsKnownOrFree, change_holds}
 
 -- an end that was there
@@ -151,6 +151,37 @@ make_holds now flows cloud i f cep h at none young free =
     (let is = same_to u.far end (sym (same_Some end u.far u.known)) in
     make_alone now flows cloud i f cep h at none young free j g u.far v e is.0 is.1 same))
     (λ g death four e of. (let o = of_at now flows i f g death four at e of in absurd (none-some o.far (sym none ∙ o.known))))
+
+-- all three at once
+
+put_last : (flows : List Flow) (f x : Flow) → put (length flows) x (flows ++ f ∷ []) ≡ flows ++ x ∷ []
+put_last [] f x = refl
+put_last (g ∷ flows) f x = ap (λ (l : List Flow). g ∷ l) (put_last flows f x)
+
+-- an id of another address stays free
+free_beside : (now : ℕ) (flows : List Flow) (rest peer addr cep far_cep : ℕ) → (peer ≡ addr → ⊥) → IsFree now flows peer far_cep → IsFree now (flows ++ asked_flow now rest peer addr cep ∷ []) peer far_cep
+free_beside now flows rest peer addr cep far_cep ne free i f side e at is x y =
+    let new = asked_flow now rest peer addr cep in
+    elim (new_or_old flows (flows ++ new ∷ []) (length flows) new i f (push_changed flows new) at) [
+      | inl same ↦
+          (let P : Flow → Type 0 = λ z. end_at side z ≡ Some e in
+          absurd (none_asked side (subst P (sym same.1) is)))
+      | inr old ↦ free i f side e old.1 is x y
+    ]
+  where
+    none_asked : (s : Side) → end_at s (asked_flow now rest peer addr cep) ≡ Some e → ⊥
+    none_asked Asker is' = ne (sym x ∙ sym (ap (λ (z : Endpoint). z.addr) (same_Some (asked_flow now rest peer addr cep).asker e is')))
+    none_asked Far is' = none-some e is'
+
+pub bound_holds : (now : ℕ) (flows : List Flow) (cloud : ℕ → Four → Type 0) (rest peer addr cep far_cep : ℕ) → LedgerHolds now flows cloud → 1 ≤ rest → (peer ≡ addr → ⊥) → IsFree now flows addr cep → IsFree now flows peer far_cep →
+    LedgerHolds now (flows ++ bound_flow now rest peer addr cep far_cep ∷ []) cloud
+bound_holds now flows cloud rest peer addr cep far_cep h some ne free far_free =
+    let f = asked_flow now rest peer addr cep in
+    let asked = ask_holds now flows cloud rest peer addr cep h some ne free in
+    let made_one = make_holds now (flows ++ f ∷ []) cloud (length flows) f far_cep asked (push_changed flows f).at refl (omega arith) (free_beside now flows rest peer addr cep far_cep ne far_free) in
+    let P : List Flow → Type 0 = λ l. LedgerHolds now l cloud in
+    let there = subst P (put_last flows f (made f far_cep)) made_one in
+    subst P (put_last flows (made f far_cep) (told_flow (made f far_cep))) (tell_holds now (flows ++ made f far_cep ∷ []) cloud (length flows) (made f far_cep) there (push_changed flows (made f far_cep)).at)
 
 -- time goes on
 

@@ -154,11 +154,11 @@ put_receiver : (c : Constants) (parts : List Part) (line : Line) → (put_all c 
 put_receiver c [] line = refl
 put_receiver c (part ∷ parts) line = put_receiver c parts (put c part line)
 
-offer_untaken : (c : Constants) (d : Direction) (parts : List Part) (r : Option Refusal) → IsUntaken c d → IsUntaken c (after_offer r c parts d)
+pub offer_untaken : (c : Constants) (d : Direction) (parts : List Part) (r : Option Refusal) → IsUntaken c d → IsUntaken c (after_offer r c parts d)
 offer_untaken c d parts (Some r) u = u
 offer_untaken c d parts None u = record { receiver = put_receiver c parts (begun (is_absent c d.line.clock d.line.sender) c d.line) ∙ begun_receiver (is_absent c d.line.clock d.line.sender) c d.line ∙ u.receiver; inbox = u.inbox; passed = u.passed; mark = u.mark }
 
-again_untaken : (c : Constants) (d : Direction) (n : Option ℕ) → IsUntaken c d → IsUntaken c (after_again n c d)
+pub again_untaken : (c : Constants) (d : Direction) (n : Option ℕ) → IsUntaken c d → IsUntaken c (after_again n c d)
 again_untaken c d None u = u
 again_untaken c d (Some n) u = record { receiver = u.receiver; inbox = u.inbox; passed = u.passed; mark = u.mark }
 

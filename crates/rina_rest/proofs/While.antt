@@ -188,15 +188,15 @@ module _ (c : Constants) (side : Side) (f : Flow) (far : Endpoint) (pieces : ℕ
 
 -- What the PDUs of a cloud say is covered where they are
 
-pub naming_covers : (now : ℕ) (cloud cloud' : ℕ → Pdu → Type 0) → Covers now cloud cloud' → Covers now (Naming cloud) (Naming cloud')
-naming_covers now cloud cloud' covers death four x alive =
+pub naming_covers : (of_flow : Pdu → Type 0) (now : ℕ) (cloud cloud' : ℕ → Pdu → Type 0) → Covers now cloud cloud' → Covers now (Naming of_flow cloud) (Naming of_flow cloud')
+naming_covers of_flow now cloud cloud' covers death four x alive =
     let old = covers death x.pdu x.in_cloud alive in
     (old.0, old.1, record { pdu = x.pdu; in_cloud = old.2; flow = x.flow; is = x.is })
 
-pub naming_covers_but : (now : ℕ) (cloud cloud' : ℕ → Pdu → Type 0) (made : Pdu → Type 0) (sent : Four → Type 0) (life : ℕ) → ((pdu : Pdu) → made pdu → sent (four_in pdu)) → CoversBut now cloud made life cloud' → CoversBut now (Naming cloud) sent life (Naming cloud')
-naming_covers_but now cloud cloud' made sent life goes covers death four x alive = elim (covers death x.pdu x.in_cloud alive) [
+pub naming_covers_but : (of_flow : Pdu → Type 0) (now : ℕ) (cloud cloud' : ℕ → Pdu → Type 0) (made : Pdu → Type 0) (sent : Four → Type 0) (life : ℕ) → ((pdu : Pdu) → of_flow pdu → made pdu → sent (four_in pdu)) → CoversBut now cloud made life cloud' → CoversBut now (Naming of_flow cloud) sent life (Naming of_flow cloud')
+naming_covers_but of_flow now cloud cloud' made sent life goes covers death four x alive = elim (covers death x.pdu x.in_cloud alive) [
   | inl old ↦ inl (old.0, old.1, record { pdu = x.pdu; in_cloud = old.2; flow = x.flow; is = x.is })
   | inr new ↦
       (let P : Four → Type 0 = λ z. sent z in
-      inr (subst P x.is (goes x.pdu new.0), new.1))
+      inr (subst P x.is (goes x.pdu x.flow new.0), new.1))
 ]

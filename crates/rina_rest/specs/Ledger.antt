@@ -49,6 +49,10 @@ made f cep = record f { far = Some (record { addr = f.peer; cep = cep; ended = N
 abbrev pub told_flow : Flow → Flow
 told_flow f = record f { told = true }
 
+-- a flow that is asked for, made and told at once
+abbrev pub bound_flow : ℕ → ℕ → ℕ → ℕ → ℕ → ℕ → Flow
+bound_flow now rest peer addr cep far_cep = told_flow (made (asked_flow now rest peer addr cep) far_cep)
+
 abbrev pub ended_asker : ℕ → Flow → Flow
 ended_asker now f = record f { asker = record f.asker { ended = Some now } }
 

@@ -13,7 +13,7 @@ pub returns-clause-pass : goal.returns-clause-pass
 returns-clause-pass c = passes_leave
 
 pub returns-clause-settle : goal.returns-clause-settle
-returns-clause-settle c = λ d lines i member process at hop end d' lines' is apart s. settling_leaves d lines i member process at hop d' lines' is end apart s
+returns-clause-settle c = λ d lines i member process at hop end d' lines' is s. settling_leaves d lines i member process at hop d' lines' is end s
 
 pub returns-clause-acknowledge : goal.returns-clause-acknowledge
 returns-clause-acknowledge c = acknowledging_leaves

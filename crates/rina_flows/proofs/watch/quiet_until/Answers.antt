@@ -6,7 +6,7 @@ use Rattle.rina_flows.proofs.watch.quiet_until.Goals as goal
 pub loop-place-preserved : goal.loop-place-preserved
 loop-place-preserved c =
     let least = c.min-until.ensures in
-    next_quiet c.args.conns.now c.loop-place.place c.loop-place.until c.quiet_until.result c.min-until.result c.index-conns-place.result c.index-conns-place.is (omega (arith, least)) (omega (arith, least)) c.quiet_until.ensures c.loop-place.invariant
+    next_quiet c.args.conns.now c.loop-place.place c.loop-place.until c.quiet_until.result c.min-until.result c.index-conns-place.result c.index-conns-place.is (omega (arith, least)) (omega (arith, least)) c.quiet_until.ensures.before c.loop-place.invariant
 
 pub returns : goal.returns
 returns c = λ at k stands.

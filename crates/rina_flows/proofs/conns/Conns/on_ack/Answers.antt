@@ -12,4 +12,4 @@ pub invariant_of-self : goal.invariant_of-self
 invariant_of-self c =
     let conns = c.self.inside.items.items in
     let there = subst (λ xs. c.args.at < length xs) (sym c.self.view_is) c.requires in
-    changed c.args.at c.quiet_until-quiet.result conns c.self.inside.watch c.note.new.self c.on_control.new.self there c.self.invariant c.note.ensures c.quiet_until-quiet.ensures
+    changed c.args.at c.quiet_until-quiet.result conns c.self.inside.watch c.note.new.self c.on_control.new.self there c.self.invariant c.note.ensures c.quiet_until-quiet.ensures.before

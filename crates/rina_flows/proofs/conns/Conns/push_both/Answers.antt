@@ -20,4 +20,4 @@ invariant_of-self-2 c =
     let one = subst (λ n. Notes n c.quiet_until.result c.reserve-2.new.self c.note.new.self) at c.note.ensures in
     let two = subst (λ n. Notes (n + 1) c.quiet_until-2.result c.note.new.self c.note-2.new.self) at c.note-2.ensures in
     let all : c.push_reserved-2.new.self.items ≡ conns ++ c.args.first ∷ c.args.second ∷ [] = c.push_reserved-2.ensures.items ∙ ap (λ (xs : List Conn). xs ++ c.args.second ∷ []) c.push_reserved.ensures.items ∙ append_assoc conns (c.args.first ∷ []) (c.args.second ∷ []) in
-    subst (λ (ks : List Conn). AreQuietBeside c.note-2.new.self.places.items c.note-2.new.self.until ks) (sym all) (both_added c.quiet_until.result c.quiet_until-2.result conns c.reserve-2.new.self c.note.new.self c.note-2.new.self c.args.first c.args.second quiet one two c.quiet_until.ensures c.quiet_until-2.ensures)
+    subst (λ (ks : List Conn). AreQuietBeside c.note-2.new.self.places.items c.note-2.new.self.until ks) (sym all) (both_added c.quiet_until.result c.quiet_until-2.result conns c.reserve-2.new.self c.note.new.self c.note-2.new.self c.args.first c.args.second quiet one two c.quiet_until.ensures.before c.quiet_until-2.ensures.before)
