@@ -1,5 +1,5 @@
 -- What each event makes of the management of a member: of its items, and of the objects that it shows.
-use Rattle.std.specs.Prelude.{◌≡◌, ℕ, List, [], Some, Ok}
+use Rattle.std.specs.Prelude.{◌≡◌, ℕ, ◌⊎◌, List, [], Some, Ok}
 use Rattle.std.specs.List.{fold}
 use Rattle.std.specs.Fmt.{decimal}
 use Rattle.rina_base.specs.declared.class.Class.TheVariants as classes
@@ -35,6 +35,10 @@ entered app address m = record {
   agent = takes_item m.agent (entry_of app address);
   objects = with_live m.objects (taken m.agent.items (entry_of app address)) (key_of app);
 }
+
+-- the agent of a member is as before, or took the entry of an application at an address
+abbrev pub MayHoldEntry : List ℕ → ℕ → Management → Management → Type 0
+MayHoldEntry app address old new = (new.agent ≡ old.agent) ⊎ (new.agent ≡ takes_item old.agent (entry_of app address))
 
 -- Links
 

@@ -1,8 +1,8 @@
 //! The management of a member.
-ghost use Rattle.std.specs.Prelude.{◌≡◌, Some, IfOk, OnOk};
+ghost use Rattle.std.specs.Prelude.{◌≡◌, Some, IfOk, OnErr, OnOk};
 ghost use Rattle.std.specs.Fmt.{decimal};
 ghost use Rattle.rina_newest.specs.Newest.{item_of, taken};
-ghost use Rattle.rina_member.specs.Managements.{entered, with_flow, with_objects};
+ghost use Rattle.rina_member.specs.Managements.{MayHoldEntry, entered, with_flow, with_objects};
 ghost use Rattle.rina_member.specs.Objects.{removed};
 ghost use Rattle.rina_member.specs.Start.{first_version};
 ghost use Rattle.rina_dir.specs.Directory.{key_of};
@@ -22,8 +22,9 @@ pub struct Management {
     /// Its state in its DIF, the items that it holds, its links, and the messages that wait for them.
     pub agent: Agent,
     /// Its objects. Those below `/member`, `/link` and `/dir` are its live items. Below `/flow` stands an object for each
-    /// allocated end at the member. Its value is that of the last request: the numbers of a flow change with each PDU and with
-    /// time, and are read from the connection at each request. Requests alone change what is below `/user`.
+    /// allocated end at the member. What is kept of its value is empty before the first request, and then that of the last one:
+    /// the numbers of a flow change with each PDU and with time, and are read from the connection at each request. Requests
+    /// alone change what is below `/user`.
     pub objects: Rib,
 }
 
@@ -37,9 +38,10 @@ fn entry_key(alloc: Global, app: &AppName) -> Result<Bytes, AllocError>
     Bytes::copy_of(alloc, &key[..length])
 }
 
-/// Takes the entry of an application at an address among items.
+/// Takes the entry of an application at an address among items. Where an allocation fails nothing changes.
 fn take_entry(alloc: Global, items: &mut Newest, key: &[u8], address: Addr) -> Result<(), Memory>
-    ensures { OnOk result (items.new ≡ taken items.old (item_of key.now (first_version address) (Some (decimal address)))) }
+    ensures ok { OnOk result (items.new ≡ taken items.old (item_of key.now (first_version address) (Some (decimal address)))) }
+    ensures err { OnErr result (items.new ≡ items.old) }
 {
     let value = numbered(alloc, b"", u64::from(address))?;
     let version = first_version(address);
@@ -58,19 +60,23 @@ impl Management {
     }
 
     /// Takes the directory entry of an application that is registered at the member of an address from the start. Of two
-    /// entries of one application that of the greater address stays. After a call that fails the management is of no use.
+    /// entries of one application that of the greater address stays. Where an allocation fails, its agent is as before, or
+    /// holds the entry.
     #[tactic(auto, unfolding(crate::specs::Managements::entered))]
     pub fn enter(&mut self, alloc: Global, app: &AppName, address: Addr) -> Result<(), Memory>
-        ensures { OnOk result (self.new ≡ entered app.now address self.old) }
+        ensures ok { OnOk result (self.new ≡ entered app.now address self.old) }
+        ensures err { OnErr result (MayHoldEntry app.now address self.old self.new) }
     {
         let key = entry_key(alloc, app)?;
         take_entry(alloc, &mut self.agent.items, key.as_slice(), address)?;
         show_live(alloc, &mut self.objects, &self.agent.items, key.as_slice())
     }
 
-    /// Shows the object of a flow from now on, an end of which is allocated at the member. Without memory nothing changes.
+    /// Shows the object of a flow from now on, an end of which is allocated at the member. What is kept of its value is empty.
+    /// Where an allocation fails nothing changes: neither what the member holds nor its objects.
     pub fn show_flow(&mut self, alloc: Global, cep: Cep) -> Result<(), Memory>
-        ensures { OnOk result (self.new ≡ with_flow self.old cep) }
+        ensures ok { OnOk result (self.new ≡ with_flow self.old cep) }
+        ensures err { OnErr result (self.new ≡ self.old) }
     {
         let name = flow_name(alloc, cep)?;
         tell(

@@ -36,7 +36,7 @@ use Rattle.rina_table.specs.Rows.{kind_in, widths_at, manage_at, cube_at, member
 use Rattle.rina_table.specs.Items.{unknown_at, widths_in, manage_in, dif_at}
 use Rattle.rina_stack.specs.Scopes.{resolved_scope}
 use Rattle.rina_stack.specs.Rules.{wire_names, dif_names}
-use Rattle.rina_stack.specs.Ranges.{IsSoundLink, IsRangedCube, IsRangedDif, HasNames, IsNamed}
+use Rattle.rina_stack.specs.Ranges.{IsSoundLink, IsRangedCube, IsManageCube, IsFlowCube, IsRangedDif, HasNames, IsNamed}
 use Rattle.rina_stack.proofs.Inversion.{bind_ok, ok_is, all_read, found_6, found_7, number_7, number_or_7, node_in_7, if_some, name_7}
 
 -- all rows of a list
@@ -80,7 +80,7 @@ widths_7 known u n d w h =
 
 -- ---- cubes
 
-cube_7 : (known : Sketch) (u : Option ℕ) (n : ℕ) (d : Data) (c : Cube) → cube_at (resolved_scope known u) n d ≡ Ok c → IsRangedCube c
+cube_7 : (known : Sketch) (u : Option ℕ) (n : ℕ) (d : Data) (c : Cube) → cube_at (resolved_scope known u) n d ≡ Ok c → IsFlowCube c
 unfolding cube_at
 cube_7 known u n d c h =
     let s = resolved_scope known u in
@@ -93,20 +93,23 @@ cube_7 known u n d c h =
     let (window, is_window, h7) = bind_ok (number_in s n (codes "window") d 1 256) _ c h6 in
     let (largest, is_largest, h8) = bind_ok (number_in s n (codes "largest") d 1 65535) _ c h7 in
     let whole : record { id = id; kind = kind; mpl = mpl; r = r; a = a; retry = retry; window = window; largest = largest } ≡ c = ok_is _ _ h8 in
-    subst IsRangedCube whole
+    subst IsFlowCube whole
     (record {
-      least_mpl = (number_7 known u n (codes "mpl") d 1 1000000 mpl is_mpl).0;
-      mpl = (number_7 known u n (codes "mpl") d 1 1000000 mpl is_mpl).1;
-      r = (number_or_7 known u n (codes "r") d 0 1000000 r is_r).1;
-      a = (number_or_7 known u n (codes "a") d 0 1000000 a is_a).1;
-      retry = (number_or_7 known u n (codes "retry") d 0 1000000 retry is_retry).1;
-      least_window = (number_7 known u n (codes "window") d 1 256 window is_window).0;
-      window = (number_7 known u n (codes "window") d 1 256 window is_window).1;
-      least_largest = (number_7 known u n (codes "largest") d 1 65535 largest is_largest).0;
-      largest = (number_7 known u n (codes "largest") d 1 65535 largest is_largest).1;
+      ranged = record {
+        least_mpl = (number_7 known u n (codes "mpl") d 1 1000000 mpl is_mpl).0;
+        mpl = (number_7 known u n (codes "mpl") d 1 1000000 mpl is_mpl).1;
+        r = (number_or_7 known u n (codes "r") d 0 1000000 r is_r).1;
+        a = (number_or_7 known u n (codes "a") d 0 1000000 a is_a).1;
+        retry = (number_or_7 known u n (codes "retry") d 0 1000000 retry is_retry).1;
+        least_window = (number_7 known u n (codes "window") d 1 256 window is_window).0;
+        window = (number_7 known u n (codes "window") d 1 256 window is_window).1;
+        least_largest = (number_7 known u n (codes "largest") d 1 65535 largest is_largest).0;
+        largest = (number_7 known u n (codes "largest") d 1 65535 largest is_largest).1;
+      };
+      id = (number_7 known u n (codes "id") d 1 255 id is_id).0;
     })
 
-manage_7 : (known : Sketch) (u : Option ℕ) (n : ℕ) (d : Data) (c : Cube) → manage_at (resolved_scope known u) n d ≡ Ok c → IsRangedCube c
+manage_7 : (known : Sketch) (u : Option ℕ) (n : ℕ) (d : Data) (c : Cube) → manage_at (resolved_scope known u) n d ≡ Ok c → IsManageCube c
 unfolding manage_at
 manage_7 known u n d c h =
     let s = resolved_scope known u in
@@ -116,17 +119,21 @@ manage_7 known u n d c h =
     let (retry, is_retry, h4) = bind_ok (number_in s n (codes "retry") d 0 1000000) _ c h3 in
     let (window, is_window, h5) = bind_ok (number_in s n (codes "window") d 1 256) _ c h4 in
     let whole : record { id = 0; kind = Reliable; mpl = mpl; r = r; a = a; retry = retry; window = window; largest = 325 } ≡ c = ok_is _ _ h5 in
-    subst IsRangedCube whole
+    subst IsManageCube whole
     (record {
-      least_mpl = (number_7 known u n (codes "mpl") d 1 1000000 mpl is_mpl).0;
-      mpl = (number_7 known u n (codes "mpl") d 1 1000000 mpl is_mpl).1;
-      r = (number_7 known u n (codes "r") d 0 1000000 r is_r).1;
-      a = (number_7 known u n (codes "a") d 0 1000000 a is_a).1;
-      retry = (number_7 known u n (codes "retry") d 0 1000000 retry is_retry).1;
-      least_window = (number_7 known u n (codes "window") d 1 256 window is_window).0;
-      window = (number_7 known u n (codes "window") d 1 256 window is_window).1;
-      least_largest = omega arith;
-      largest = omega arith;
+      ranged = record {
+        least_mpl = (number_7 known u n (codes "mpl") d 1 1000000 mpl is_mpl).0;
+        mpl = (number_7 known u n (codes "mpl") d 1 1000000 mpl is_mpl).1;
+        r = (number_7 known u n (codes "r") d 0 1000000 r is_r).1;
+        a = (number_7 known u n (codes "a") d 0 1000000 a is_a).1;
+        retry = (number_7 known u n (codes "retry") d 0 1000000 retry is_retry).1;
+        least_window = (number_7 known u n (codes "window") d 1 256 window is_window).0;
+        window = (number_7 known u n (codes "window") d 1 256 window is_window).1;
+        least_largest = omega arith;
+        largest = omega arith;
+      };
+      id = refl;
+      kind = refl;
     })
 
 timed_by : (k : Kind) (c : Cube) → is_mistimed_by k c ≡ false → IsTimed k c
@@ -251,7 +258,7 @@ widths_part known u n d w h =
     let (t, _, read) = bind_ok (required n (get (codes "widths") d)) _ w h in
     widths_7 known u n t w read
 
-manage_part : (known : Sketch) (u : Option ℕ) (n : ℕ) (d : Data) (c : Cube) → manage_in (resolved_scope known u) n d ≡ Ok c → IsRangedCube c
+manage_part : (known : Sketch) (u : Option ℕ) (n : ℕ) (d : Data) (c : Cube) → manage_in (resolved_scope known u) n d ≡ Ok c → IsManageCube c
 unfolding manage_in
 manage_part known u n d c h =
     let (t, _, read) = bind_ok (required n (get (codes "manage") d)) _ c h in
@@ -294,7 +301,7 @@ dif_7 known u n d x h =
       least_wait = (number_7 known u n (codes "wait") d 1 1000000 wait is_wait).0;
       wait = (number_7 known u n (codes "wait") d 1 1000000 wait is_wait).1;
       manage = manage_part known u n d manage is_manage;
-      cubes = all_rows IsRangedCube (cube_at s n) n (codes "cube") d cubes (λ t c. cube_7 known u n t c) are_cubes;
+      cubes = all_rows IsFlowCube (cube_at s n) n (codes "cube") d cubes (λ t c. cube_7 known u n t c) are_cubes;
       members = all_rows (λ (m : MemberPlan). m.node < nodes) (member_at s n) n (codes "member") d members (λ t m. member_7 known u n t m) are_members;
       links = all_rows_or (IsSoundLink nodes (length known.wires) (length known.difs)) (link_at s n) n (codes "link") d links (λ t l. link_7 known u n t l) are_links;
       flows = all_rows_or (λ (f : FlowPlan). (f.from.node < nodes) × (f.to.node < nodes)) (flow_at s n) n (codes "flow") d flows (λ t f. flow_7 known u n t f) are_flows;

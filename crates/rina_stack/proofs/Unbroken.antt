@@ -19,7 +19,7 @@ use Rattle.rina_table.specs.declared.sketch.Sketch.{Sketch}
 use Rattle.rina_table.specs.Faults.{unless}
 use Rattle.rina_stack.specs.Rules.{first_wire, is_unfit_wire, spread_of, top_fault}
 use Rattle.rina_stack.specs.Order.{ends_of, alone_at, linked_at, difs_at, rules_at}
-use Rattle.rina_stack.specs.Ranges.{IsRangedCube}
+use Rattle.rina_stack.specs.Ranges.{IsFlowCube, IsManageCube}
 use Rattle.rina_stack.specs.Unbroken.{NoDif}
 use Rattle.rina_stack.proofs.Inversion.{bind_ok, unbroken}
 use Rattle.rina_stack.proofs.SoundDif.{whole_cube}
@@ -139,8 +139,8 @@ unbroken_all s t h =
     }
 
 -- the cubes of a DIF, with the times of their kinds
-pub whole_cubes : (d : DifPlan) → IsRangedCube d.manage → All IsRangedCube d.cubes → has_mistimed d ≡ false → IsCube d.manage × All IsCube d.cubes
+pub whole_cubes : (d : DifPlan) → IsManageCube d.manage → All IsFlowCube d.cubes → has_mistimed d ≡ false → IsCube d.manage × All IsCube d.cubes
 unfolding has_mistimed
 whole_cubes d manage cubes h =
     let (one, others) = or_parts (is_mistimed d.manage) (list_any is_mistimed d.cubes) h in
-    (whole_cube d.manage manage one, λ k e within. whole_cube (get_or d.cubes k e) (cubes k e within) (none_pass is_mistimed d.cubes others k e within))
+    (whole_cube d.manage manage.ranged one, λ k e within. whole_cube (get_or d.cubes k e) (cubes k e within).ranged (none_pass is_mistimed d.cubes others k e within))

@@ -3,6 +3,7 @@ use Rattle.std.specs.Prelude.{◌≡◌, ℕ, ◌^◌, ◌<◌, ◌≤◌, All, 
 use Rattle.rina_base.specs.declared.storm.Storm.{Storm}
 use Rattle.rina_base.specs.Names.{name_at}
 use Rattle.rina_cube.specs.declared.Cube.{Cube}
+use Rattle.rina_cube.specs.declared.Kind.TheVariants.{Reliable}
 use Rattle.rina_pci.specs.Spelling.{AreWidths}
 use Rattle.rina_plan.specs.declared.dif.MemberPlan.{MemberPlan}
 use Rattle.rina_plan.specs.declared.dif.LinkPlan.{LinkPlan}
@@ -47,6 +48,17 @@ pub record IsRangedCube (c : Cube) : Type 0 where
   pub least_largest : 1 ≤ c.largest
   pub largest : c.largest ≤ 65535
 
+-- the cube of management connections is reliable, has id 0, and is in range
+pub record IsManageCube (c : Cube) : Type 0 where
+  pub ranged : IsRangedCube c
+  pub id : c.id ≡ 0
+  pub kind : c.kind ≡ Reliable
+
+-- a cube of flows has an id of its own, which is not that of management, and is in range
+pub record IsFlowCube (c : Cube) : Type 0 where
+  pub ranged : IsRangedCube c
+  pub id : 1 ≤ c.id
+
 -- a DIF among so many nodes, wires and DIFs: its numbers are in range, and what it refers to is there
 pub record IsRangedDif (nodes wires difs : ℕ) (d : DifPlan) : Type 0 where
   pub least_rank : 1 ≤ d.rank
@@ -58,8 +70,8 @@ pub record IsRangedDif (nodes wires difs : ℕ) (d : DifPlan) : Type 0 where
   pub queue : d.queue ≤ 256
   pub least_wait : 1 ≤ d.wait
   pub wait : d.wait ≤ 1000000
-  pub manage : IsRangedCube d.manage
-  pub cubes : All IsRangedCube d.cubes
+  pub manage : IsManageCube d.manage
+  pub cubes : All IsFlowCube d.cubes
   pub members : All (λ (m : MemberPlan). m.node < nodes) d.members
   pub links : All (IsSoundLink nodes wires difs) d.links
   pub flows : All (λ (f : FlowPlan). (f.from.node < nodes) × (f.to.node < nodes)) d.flows

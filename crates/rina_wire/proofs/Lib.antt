@@ -14,6 +14,7 @@ pub mod Left
 pub mod Mates
 pub mod Refused
 pub mod Restated
+pub mod Rested
 pub mod Seams
 pub mod Seen
 pub mod Sound

@@ -8,6 +8,7 @@ pub mod Disturb
 pub mod Free
 pub mod Plan
 pub mod Register
+pub mod Resting
 pub mod Send
 pub mod Sound
 pub mod Storm

@@ -17,6 +17,7 @@ mod cut;
 mod disturb;
 mod flow;
 mod frame;
+mod rest;
 mod storm;
 mod tick;
 

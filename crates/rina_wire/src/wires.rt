@@ -7,6 +7,7 @@ ghost use Rattle.rina_wire.specs.Sound.{IsSound};
 mod calls;
 mod events;
 mod facility;
+mod rest;
 mod tick;
 
 use crate::wire::Wire;
