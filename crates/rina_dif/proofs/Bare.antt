@@ -19,7 +19,6 @@ use Rattle.rina_dif_law.specs.Cloud.{IsMine, Waits}
 use Rattle.rina_data.specs.Configs.{Member, config_of, member_of}
 use Rattle.rina_data.specs.Deciding.{plain, process_of}
 use Rattle.rina_data.specs.Process.{Process, next_hop}
-use Rattle.rina_dif_law.specs.Ids.{Ids}
 use Rattle.rina_dif_law.specs.Numbered.{AreMembers}
 use Rattle.rina_dif_law.specs.Standing.{HasLink, IsConfig, IsInside, IsLinked}
 use Rattle.rina_dif_law.specs.Start.{IsStart}
@@ -36,7 +35,7 @@ use Rattle.rina_dif.specs.Shown.{seen_of}
 use Rattle.rina_dif.proofs.Causing.{none_caused}
 use Rattle.rina_dif.proofs.Managed.{managed_routed}
 use Rattle.rina_dif.proofs.Started.{bare_managed}
-use Rattle.rina_dif.specs.Connected.{AreConnected}
+use Rattle.rina_dif.specs.Connected.{AreConnected, CanManage}
 use Rattle.rina_dif.proofs.Connected.{none_connected}
 
 pub none_in : {X : Type 0} (i : ℕ) (x : X) (xs : List X) → xs ≡ [] → slice_get xs i ≡ Some x → ⊥
@@ -72,12 +71,8 @@ pub starts : (d : Dif) (below : Seen) → d.flows.journal.ends ≡ [] → d.flow
     → ((i n : ℕ) (item : Queued) → Waits (map process_of d.processes) i n item → ⊥)
     → IsStart (seen_of d) [] below
 starts d below ends conns config clock same linked inside silent idle =
-    let E = λ (i : ℕ) (e : End) (is : slice_get d.flows.journal.ends i ≡ Some e). none_in i e d.flows.journal.ends ends is in
-    let C = λ (i : ℕ) (c : Ids) (is : slice_get (seen_of d).conns i ≡ Some c). none_in i c (seen_of d).conns (ap (map ids_of) conns) is in
     let ps = length-map d.processes process_of in
     let ms = length-map d.settings.members member_of in
-    let no_ends : length d.flows.journal.ends ≡ 0 = ap (λ (es : List End). length es) ends in
-    let no_conns : length (seen_of d).conns ≡ 0 = ap (λ (cs : List Ids). length cs) (ap (map ids_of) conns) in
     record {
       config = config;
       clock = clock;
@@ -86,26 +81,9 @@ starts d below ends conns config clock same linked inside silent idle =
       inside = inside;
       silent = silent;
       idle = idle;
-      journal = record {
-        distinct = λ i k a b x y same role. absurd (E i a x);
-        far = λ i e x role. absurd (E i e x);
-        named = λ i k e other x y p. absurd (E i e x);
-        allocated = λ i e x s. absurd (E i e x);
-        met = λ i j e y x got. absurd (E i e x);
-        whole = λ i e x. absurd (E i e x);
-      };
-      empty = λ i e x. absurd (E i e x);
-      ports = record {
-        own = λ i e x. absurd (E i e x);
-        apart = λ i k a b x y same. absurd (E i a x);
-        drawn = λ i e x. absurd (E i e x);
-      };
-      alike = omega (arith, no_ends, no_conns);
-      lines_alike = omega (arith, no_ends);
-      apart = λ i k c f x y own scep. absurd (C i c x);
-      ids = λ i e c x. absurd (E i e x.end);
-      named = λ i k a b c f x y p. absurd (E i a x.end);
-      fresh = λ i c line x y. absurd (C i c x);
+      no_ends = ends;
+      no_conns = ap (map ids_of) conns;
+      no_lines = refl;
     }
 
 -- nothing was taken from below or written off yet
@@ -132,7 +110,6 @@ start_holds d below kept ends conns s untouched members housed managed connected
       accounted = start_accounted (seen_of d) [] below kept s (record {
         unread = untouched.unread;
         clean = clean;
-        apart = λ i ids is. absurd (none_in i ids (seen_of d).conns (ap (map ids_of) conns) is);
       });
       caused = none_caused (seen_of d) below ends;
       written_off = blank_written (seen_of d) clean;
@@ -143,12 +120,13 @@ start_holds d below kept ends conns s untouched members housed managed connected
     }
 
 -- so does a DIF without links
-pub bare_holds : (d : Dif) (below : Seen) → AreKept below → d.flows.journal.ends ≡ [] → d.flows.conns ≡ [] → d.connections.channels ≡ [] → d.connections.flows.journal.ends ≡ [] → d.connections.flows.conns ≡ [] → d.laid.links ≡ [] → AreBare d.settings d.processes → (rules : List Rule) (allow : Bool) → AreStarted d.settings.cubes d.settings.members d.laid.links rules allow (length d.settings.members) d.processes d.managements → IsConfig (config_of d.settings) → AreMembers (config_of d.settings) → d.clock ≡ below.now → IsFree (config_of d.settings) below → Holds d [] below
-bare_holds d below kept ends conns channels link_ends link_conns laid bare rules allow started config members clock free =
+pub bare_holds : (d : Dif) (below : Seen) → AreKept below → d.flows.journal.ends ≡ [] → d.flows.conns ≡ [] → d.connections.channels ≡ [] → d.connections.flows.journal.ends ≡ [] → d.connections.flows.conns ≡ [] → d.laid.links ≡ [] → AreBare d.settings d.processes → (rules : List Rule) (allow : Bool) → AreStarted d.settings.cubes d.settings.members d.laid.links rules allow (length d.settings.members) d.processes d.managements → CanManage (config_of d.settings) d.connections.manage → AreMembers (config_of d.settings) → d.clock ≡ below.now → IsFree (config_of d.settings) below → Holds d [] below
+bare_holds d below kept ends conns channels link_ends link_conns laid bare rules allow started can members clock free =
+    let config : IsConfig (config_of d.settings) = can.managed.config in
     let start = starts d below ends conns config clock bare.aligned (λ i member link is has. absurd (no_link d.settings d.processes i link bare has)) (λ port end here mine. absurd (free port end here mine)) (λ port end here mine. absurd (free port end here (inl mine))) (λ i n item waits. no_item d.settings d.processes i n item bare waits) in
     let untouched : IsUntouched d below = record { unread = λ port e here mine. absurd (free port e here (inl mine)); clean = λ i p is. (bare.each i p is).ledger } in
     start_holds d below kept ends conns start untouched members (λ i p is. (let b = bare.each i p is in record { cap = b.room; links = λ place qos link stands live known. absurd (none_in place link p.links b.links stands); queues = λ dst link qos hop known. absurd (no_hop dst link p.routes b.routes hop) })) (bare_managed d.settings d.laid.links rules allow d.clock d.processes d.managements laid bare config members started)
-    (none_connected (config_of d.settings) d.clock d.connections (seen_of d).processes below channels link_ends link_conns clock (λ i n p q x y. absurd (no_link d.settings d.processes i x.link bare (record { process = x.process; is_process = x.is_process; place = x.place; stands = x.stands }))))
+    (none_connected (config_of d.settings) d.clock d.connections (seen_of d).processes below channels link_ends link_conns clock can (λ i n p q x y. absurd (no_link d.settings d.processes i x.link bare (record { process = x.process; is_process = x.is_process; place = x.place; stands = x.stands }))))
 
 -- One by one
 

@@ -227,16 +227,16 @@ flow_silent d lines node (step.LinkNew link) new lines' s = absurd s
 flow_silent d lines node (step.Timeout port) new lines' s = absurd s
 flow_silent d lines node (step.Message link) new lines' s = absurd s
 
-pub steps_silent : (d : Dif) (lines : List Direction) (below : Seen) (node : ℕ) (done : ClockStep) (new : DifSeen) (lines' : List Direction) → Steps d lines below node done new lines' → IsSilent (seen_of d) new
-steps_silent d lines below node step.Idle new lines' s = flow_silent d lines node step.Idle new lines' s.1
-steps_silent d lines below node (step.Gone cep) new lines' s = flow_silent d lines node (step.Gone cep) new lines' s.1
-steps_silent d lines below node (step.GaveUp num) new lines' s = flow_silent d lines node (step.GaveUp num) new lines' s.1
-steps_silent d lines below node (step.Ack cep) new lines' s = flow_silent d lines node (step.Ack cep) new lines' s.1
-steps_silent d lines below node (step.Again num) new lines' s = flow_silent d lines node (step.Again num) new lines' s.1
-steps_silent d lines below node (step.LinkLost link) new lines' s = loses_silent d lines below s.0.i node link new s.0.loses
-steps_silent d lines below node (step.LinkNew link) new lines' s = absurd s.1
-steps_silent d lines below node (step.Timeout port) new lines' s = absurd s.1
-steps_silent d lines below node (step.Message link) new lines' s = absurd s.1
+pub steps_silent : (d : Dif) (lines : List Direction) (below : Seen) (node : ℕ) (done : ClockStep) (d' : Dif) (lines' : List Direction) → Steps d lines below node done d' lines' → IsSilent (seen_of d) (seen_of d')
+steps_silent d lines below node step.Idle d' lines' s = flow_silent d lines node step.Idle (seen_of d') lines' s.1
+steps_silent d lines below node (step.Gone cep) d' lines' s = flow_silent d lines node (step.Gone cep) (seen_of d') lines' s.1
+steps_silent d lines below node (step.GaveUp num) d' lines' s = flow_silent d lines node (step.GaveUp num) (seen_of d') lines' s.1
+steps_silent d lines below node (step.Ack cep) d' lines' s = flow_silent d lines node (step.Ack cep) (seen_of d') lines' s.1
+steps_silent d lines below node (step.Again num) d' lines' s = flow_silent d lines node (step.Again num) (seen_of d') lines' s.1
+steps_silent d lines below node (step.LinkLost link) d' lines' s = loses_silent d lines below s.0.i node link d' s.0.loses
+steps_silent d lines below node (step.LinkNew link) d' lines' s = absurd s.1
+steps_silent d lines below node (step.Timeout port) d' lines' s = absurd s.1
+steps_silent d lines below node (step.Message link) d' lines' s = absurd s.1
 
 clock_on : (d : Dif) (below : Seen) (d' : Dif) (lines' : List Direction) → Stands d below → IsSilent (seen_of d) (seen_of d') → Holds d' lines' below → IsStep d below d' below
 clock_on d below d' lines' st silent h = record {
@@ -246,7 +246,7 @@ clock_on d below d' lines' st silent h = record {
 }
 
 pub clock_is_step : (d : Dif) (below : Seen) (node : ℕ) (r : Result ClockStep StepError) (d' : Dif) → (st : Stands d below) → StepsHere d st.0 below node r d' → IsStep d below d' below
-clock_is_step d below node (Ok done) d' st s = clock_on d below d' s.lines' st (steps_silent d st.0 below node done (seen_of d') s.lines' s.does) s.holds
+clock_is_step d below node (Ok done) d' st s = clock_on d below d' s.lines' st (steps_silent d st.0 below node done d' s.lines' s.does) s.holds
 clock_is_step d below node (Err Memory) d' st s = clock_on d below d' st.0 st (subst (IsSilent (seen_of d)) (sym s.0) (silent_refl (seen_of d))) s.1
 clock_is_step d below node (Err NoIpc) d' st s = absurd s
 clock_is_step d below node (Err NoLink) d' st s = absurd s

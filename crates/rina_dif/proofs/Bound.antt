@@ -226,11 +226,6 @@ module _ (d : Dif) (fixed : Fixed) (may : MayBind d fixed) (near other : NextEnd
 pub binds_none : (d : Dif) (fixed : Fixed) (lines : List Direction) (below : Seen) → Holds d lines below → BindsTo d lines below fixed (Err Memory) d
 binds_none d fixed lines below h = (refl, h)
 
--- an allocation failed, and nothing changed
-pub binds_err : (d d' : Dif) (fixed : Fixed) (r : Result (Port × Port) AllocateError) (e : AllocateError) → r ≡ Err e → e ≡ Memory → d' ≡ d → (lines : List Direction) (below : Seen) → Holds d lines below → BindsTo d lines below fixed r d'
-binds_err d d' fixed r e is why same lines below h =
-    subst (λ (v : Result (Port × Port) AllocateError). BindsTo d lines below fixed v d') (sym (is ∙ ap (λ (z : AllocateError). Err z) why)) (ap seen_of same, subst (λ (z : Dif). Holds z lines below) (sym same) h)
-
 -- Under the condition of every facility
 
 any_place : (node : ℕ) (ms : List Member) → list_any (λ (k : ℕ). k == node) (map (λ (m : Member). m.node) ms) ≡ true → position_or_len (λ (m : Member). m.node == node) ms < length ms

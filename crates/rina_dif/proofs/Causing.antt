@@ -47,15 +47,17 @@ use Rattle.rina_dif_law.specs.Dif.{DifSeen, constants}
 use Rattle.rina_data.specs.Process.{Process}
 use Rattle.rina_dif_law.specs.Ending.{IsEnded, IsGivenUp}
 use Rattle.rina_dif_law.specs.Ids.{Ids}
-use Rattle.rina_dif_law.specs.Incoming.{Ins, IsArrived, IsTold, Settles, SettlesOff}
+use Rattle.rina_dif_law.specs.Incoming.{Ins, IsArrived, IsTold, Settles, SettlesFlow, SettlesOff}
 use Rattle.rina_dif_law.specs.Losing.{FailAll, FailFirst}
 use Rattle.rina_data.specs.Outgoing.{Goes, sent_bytes}
 use Rattle.rina_dif_law.specs.Outgoing.{Outs}
 use Rattle.rina_dif_law.specs.Passing.{IsPassed}
 use Rattle.rina_dif_law.specs.Sending.{IsOffered, home}
 use Rattle.rina_dif_law.specs.Standing.{IsStanding}
-use Rattle.rina_dif_law.proofs.Binding.{two_at}
+use Rattle.rina_dif_law.proofs.Pairs.{two_at}
 use Rattle.rina_dif_law.proofs.Finding.{beside}
+use Rattle.rina_dif_law.specs.Cloud.{Cloud, Everywhere}
+use Rattle.rina_dif_law.proofs.Own.{direction_out}
 use Rattle.rina_dif.specs.Unlinking.{HasFailed}
 use Rattle.rina_dif.proofs.Pieced.{number_of}
 
@@ -240,10 +242,16 @@ own_none : (d : DifSeen) (lines : List Direction) (i : ℕ) (process : Process) 
 own_none d lines i process hop d' lines' (inl a) = none_arrived d lines i process hop None d' lines' a
 own_none d lines i process hop d' lines' (inr t) = none_is d d' t.new_is
 
+flow_none : (d : DifSeen) (lines : List Direction) (i : ℕ) (member : Member) (process : Process) (at : ℕ) (hop : Hop) (end : Took) (d' : DifSeen) (lines' : List Direction) → SettlesFlow d lines i member process at hop end d' lines' → NoneFails d d'
+flow_none d lines i member process at hop took.Accepted d' lines' s = own_none d lines i process hop d' lines' s.2
+flow_none d lines i member process at hop took.Relayed d' lines' s = none_process d d' i s.2.process' s.2.new_is
+flow_none d lines i member process at hop (took.Off cause) d' lines' s = off_none d lines i member process at hop cause d' lines' s
+
 settles_none : (d : DifSeen) (lines : List Direction) (i : ℕ) (member : Member) (process : Process) (at : ℕ) (hop : Hop) (end : Took) (d' : DifSeen) (lines' : List Direction) → Settles d lines i member process at hop end d' lines' → NoneFails d d'
-settles_none d lines i member process at hop took.Accepted d' lines' s = own_none d lines i process hop d' lines' s.2
-settles_none d lines i member process at hop took.Relayed d' lines' s = none_process d d' i s.2.process' s.2.new_is
-settles_none d lines i member process at hop (took.Off cause) d' lines' s = off_none d lines i member process at hop cause d' lines' s
+settles_none d lines i member process at hop end d' lines' s = elim s [
+  | inl flow ↦ flow_none d lines i member process at hop end d' lines' flow.1
+  | inr link ↦ none_process d d' i _ link.new_is
+]
 
 ins_none : (d : DifSeen) (lines : List Direction) (below : Seen) (i n : ℕ) (r : Result InStep StepError) (d' : DifSeen) (lines' : List Direction) (below' : Seen) → Ins d lines below i n r d' lines' below' → NoneFails d d'
 ins_none d lines below i n (Ok in_.Idle) d' lines' below' s = none_is d d' s.1
@@ -322,8 +330,7 @@ gave_up d lines below at number new st g =
     let end : End = g.ended.end in
     let is_end = g.ended.is_conn.end in
     let partner = st.journal.allocated at end is_end g.ended.allocated in
-    let far = beside d.ends d.conns partner.place partner.other st.own.alike partner.stands in
-    let flow = st.own.flows at partner.place end partner.other g.ids far.0 g.line (record { end = is_end; ids_are = g.ids_are }) (record { end = partner.stands; ids_are = far.1 }) g.is_line partner.partner in
+    let flow = direction_out d.config d.clock (Cloud Everywhere d.config d.processes below) d.ends d.conns lines st.own at partner.place end partner.other g.ids g.line (record { end = is_end; ids_are = g.ids_are }) partner.stands g.is_line partner.partner g.ended.allocated in
     let cube_is : flow.cube ≡ g.cube = same_some (cube_by g.ids.qos d.config.cubes) flow.cube g.cube flow.is_cube g.is_cube in
     let holds : DirectionHolds k g.line = subst (λ (x : Cube). DirectionHolds (constants d.config x g.ids) g.line) cube_is flow.backed.holds in
     let run = g.line.line.sender.run in

@@ -1,6 +1,6 @@
 -- The first item that is due at a node, and what it does.
 use Rattle.std.proofs.Common.{◌≡◌, ◌∙◌, ℕ, ◌+◌, ◌<◌, ◌≤◌, ◌⊎◌, Bool, true, false, cond, leb, leb-true, leb-false, List, length, get_or, slice_get, slice_index_or, Option, Some, None, Result, Ok, Err, IsTrue, refl, sym, ap, subst, arith, inl, inr}
-use Rattle.std.specs.Prelude.{◌↔◌}
+use Rattle.std.specs.Prelude.{OnErr, ◌↔◌}
 use Rattle.std.proofs.lemmas.Bool.{cases_lt, false≢true}
 use Rattle.std.proofs.lemmas.List.{get_or_default}
 use Rattle.std.proofs.lemmas.Option.{slice_get_within}
@@ -24,11 +24,14 @@ use Rattle.rina_flows.specs.Tied.{conns_of, ids_of, outward}
 use Rattle.rina_flows.specs.Watching.{NoneDueBeside}
 use Rattle.rina_flows.proofs.Framed.{ids_at}
 use Rattle.rina_dif.specs.declared.clock_steps.Turn.{Turn}
+use Rattle.rina_dif.specs.declared.connections.Connections.{Connections}
 use Rattle.rina_dif.specs.declared.dif.Dif.{Dif}
 use Rattle.rina_dif.specs.Clocking.{FindsFirst, HasStepped, HasSteppedFlow, IsDueAt, IsIdle, IsIn, IsTurn, NoneLostAt, StepsFlowHere, StepsHere, earlier}
 use Rattle.rina_dif.specs.Holding.{Holds}
 use Rattle.rina_dif.specs.Shown.{seen_of}
-use Rattle.rina_dif.specs.Timely.{AcknowledgesAs, ForgetsAs, GivesUpAs, IsHomeEnd, SendsAgainAs}
+use Rattle.rina_dif.specs.Changing.{EndsFlow, without_flow_at}
+use Rattle.rina_dif.specs.Timely.{AcknowledgesAs, ForgetsAs, GivesUp, GivesUpAs, IsHomeEnd, SendsAgainAs}
+use Rattle.rina_member.specs.declared.management.Management.{Management}
 use Rattle.rina_dif.specs.Unlinking.{FindsLostAt, LosesAs}
 
 same_some : {X : Type 0} (o : Option X) (a b : X) → o ≡ Some a → o ≡ Some b → a ≡ b
@@ -261,6 +264,13 @@ never_kept d lines below node at cep d' turn (none, same) =
     let due = turn.first.due.due in
     some_none (given_up (outward (config_of d.settings) due.conn) due.line.line.clock due.line.line.sender) due.number due.is_due (none due.conn due.line due.is_conn due.is_line)
 
+-- the object of its flow is deleted
+pub gave_up_managed : (d : Dif) (lines : List Direction) (below : Seen) (i at : ℕ) (num : Num) (d' : Dif) (new : List Management) → at < length d.flows.conns → GivesUp d lines below at num d' → EndsFlow d i at new → new ≡ without_flow_at i num.cep d.managements
+gave_up_managed d lines below i at num d' new lt g ends =
+    let k = there d.flows.conns at lt in
+    let ids = same_some (slice_get (conns_of d.flows.conns) at) (ids_of k.0) g.given_up.ids (ids_at d.flows.conns at k.0 k.1) g.given_up.ids_are in
+    ends k.0 k.1 ∙ ap (λ (n : ℕ). without_flow_at i n d.managements) (ap (λ (z : Ids). z.scep) ids ∙ sym g.cep)
+
 pub does_ack : (d : Dif) (lines : List Direction) (below : Seen) (node at cep : ℕ) (b : Bool) (d' : Dif) → IsTurn Ack d lines node at cep → AcknowledgesAs d lines below at (Ok b) d' → HasSteppedFlow d lines below node (step.Ack cep) d'
 does_ack d lines below node at cep true d' turn a = record { lines' = a.lines'; does = record { at = at; turn = turn; cause = a.cause; acknowledged = a.acknowledged }; holds = a.holds }
 does_ack d lines below node at cep false d' turn (none, same) = absurd (none turn.first.due.due)
@@ -289,25 +299,39 @@ link_first d lines below node i lost d' here l = record { lines' = lines; does =
 pub none_first : (d : Dif) (below : Seen) (node i : ℕ) → home node (config_of d.settings).members ≡ Some i → FindsLostAt d below i None → NoneLostAt d below node
 none_first d below node i here none k p at_home is = (let same : k ≡ i = same_some (home node (config_of d.settings).members) k i at_home here in none p (ap (slice_get d.processes) (sym same) ∙ is))
 
-done_first : (d : Dif) (lines : List Direction) (below : Seen) (node : ℕ) (done : ClockStep) (d' : Dif) → NoneLostAt d below node → HasSteppedFlow d lines below node done d' → HasStepped d lines below node done d'
-done_first d lines below node step.Idle d' none s = record { lines' = s.lines'; does = (none, s.does); holds = s.holds }
-done_first d lines below node (step.Gone cep) d' none s = record { lines' = s.lines'; does = (none, s.does); holds = s.holds }
-done_first d lines below node (step.GaveUp num) d' none s = record { lines' = s.lines'; does = (none, s.does); holds = s.holds }
-done_first d lines below node (step.Ack cep) d' none s = record { lines' = s.lines'; does = (none, s.does); holds = s.holds }
-done_first d lines below node (step.Again num) d' none s = record { lines' = s.lines'; does = (none, s.does); holds = s.holds }
-done_first d lines below node (step.LinkLost link) d' none s = absurd s.does
-done_first d lines below node (step.LinkNew link) d' none s = absurd s.does
-done_first d lines below node (step.Timeout port) d' none s = absurd s.does
-done_first d lines below node (step.Message link) d' none s = absurd s.does
+done_first : (d : Dif) (lines : List Direction) (below : Seen) (node : ℕ) (done : ClockStep) (d' : Dif) → NoneLostAt d below node → d'.connections ≡ d.connections → HasSteppedFlow d lines below node done d' → HasStepped d lines below node done d'
+done_first d lines below node step.Idle d' none same s = record { lines' = s.lines'; does = (none, s.does, same); holds = s.holds }
+done_first d lines below node (step.Gone cep) d' none same s = record { lines' = s.lines'; does = (none, s.does, same); holds = s.holds }
+done_first d lines below node (step.GaveUp num) d' none same s = record { lines' = s.lines'; does = (none, s.does, same); holds = s.holds }
+done_first d lines below node (step.Ack cep) d' none same s = record { lines' = s.lines'; does = (none, s.does, same); holds = s.holds }
+done_first d lines below node (step.Again num) d' none same s = record { lines' = s.lines'; does = (none, s.does, same); holds = s.holds }
+done_first d lines below node (step.LinkLost link) d' none same s = absurd s.does
+done_first d lines below node (step.LinkNew link) d' none same s = absurd s.does
+done_first d lines below node (step.Timeout port) d' none same s = absurd s.does
+done_first d lines below node (step.Message link) d' none same s = absurd s.does
 
-pub flow_first : (d : Dif) (lines : List Direction) (below : Seen) (node : ℕ) (r : Result ClockStep StepError) (d' : Dif) → NoneLostAt d below node → StepsFlowHere d lines below node r d' → StepsHere d lines below node r d'
-flow_first d lines below node (Ok done) d' none s = done_first d lines below node done d' none s
-flow_first d lines below node (Err why.Memory) d' none s = s
-flow_first d lines below node (Err why.NoIpc) d' none s = absurd s
-flow_first d lines below node (Err why.NoLink) d' none s = absurd s
+pub flow_first : (d : Dif) (lines : List Direction) (below : Seen) (node : ℕ) (r : Result ClockStep StepError) (d' : Dif) → NoneLostAt d below node → d'.connections ≡ d.connections → StepsFlowHere d lines below node r d' → StepsHere d lines below node r d'
+flow_first d lines below node (Ok done) d' none same s = done_first d lines below node done d' none same s
+flow_first d lines below node (Err why.Memory) d' none same s = s
+flow_first d lines below node (Err why.NoIpc) d' none same s = absurd s
+flow_first d lines below node (Err why.NoLink) d' none same s = absurd s
 
 pub link_err : (d : Dif) (lines : List Direction) (below : Seen) (node : ℕ) (r : Result ClockStep StepError) (e : StepError) (d' : Dif) → e ≡ why.Memory → r ≡ Err e → (seen_of d' ≡ seen_of d) × Holds d' lines below → StepsHere d lines below node r d'
 link_err d lines below node r e d' is err same = subst (λ (v : Result ClockStep StepError). StepsHere d lines below node v d') (sym (err ∙ ap (λ (z : StepError). Err z) is)) same
+
+-- the management connections stay where only the flows are served
+pub same_links : (d x : Dif) → x ≡ record d { processes = x.processes; flows = x.flows; managements = x.managements } → x.connections ≡ d.connections
+same_links d x whole = ap (λ (z : Dif). z.connections) whole
+
+pub whole_links : (d x : Dif) → x ≡ record d { processes = x.processes; flows = x.flows; managements = x.managements } → x ≡ record d { processes = x.processes; connections = x.connections; flows = x.flows; managements = x.managements }
+whole_links d x whole = whole ∙ ap (λ (c : Connections). record d { processes = x.processes; connections = c; flows = x.flows; managements = x.managements }) (sym (same_links d x whole))
+
+pub stays_so : (r : Result ClockStep StepError) (P : Type 0) → P → OnErr r P
+stays_so (Ok done) P p = tt
+stays_so (Err e) P p = p
+
+pub stays_by : (r r' : Result ClockStep StepError) (P : Type 0) → r' ≡ r → OnErr r P → OnErr r' P
+stays_by r r' P same h = subst (λ (v : Result ClockStep StepError). OnErr v P) (sym same) h
 
 -- nothing changed
 pub same_holds : (d : Dif) (lines : List Direction) (below : Seen) (d' : Dif) → d' ≡ d → Holds d lines below → (seen_of d' ≡ seen_of d) × Holds d' lines below

@@ -27,6 +27,7 @@ use Rattle.rina_data.specs.Process.{Process, next_hop, with_offs, with_put}
 use Rattle.rina_data.specs.Queueing.{IsPassedOn, line_for}
 use Rattle.rina_data.proofs.Finding.{there}
 use Rattle.rina_dif_law.specs.Dif.{DifSeen}
+use Rattle.rina_dif_law.specs.Ids.{IsOfLink}
 use Rattle.rina_dif_law.specs.Lifting.{IsLifted, ticked}
 use Rattle.rina_dif_law.specs.Outgoing.{Outs}
 use Rattle.rina_dif_law.specs.Standing.{IsStanding as DifStands}
@@ -35,7 +36,7 @@ use Rattle.rina_dif_law.proofs.Queues.{requeued_put}
 use Rattle.rina_channel.specs.Changes.{LeavesLinks}
 use Rattle.rina_channel.specs.Channels.{HasLive}
 use Rattle.rina_channel.specs.FlowLaws.{HasNoZero}
-use Rattle.rina_channel.specs.Names.{IsOfLink, link_config}
+use Rattle.rina_channel.specs.Names.{link_config}
 use Rattle.rina_channel.specs.Standing.{IsStanding}
 use Rattle.rina_channel.proofs.Frame.{FlowsGoOn, beside_stands, other_pdus_stand, still_stands, taking_stands, time_stands}
 use Rattle.rina_channel.proofs.Going.{outs_stand}
@@ -52,53 +53,48 @@ use Rattle.rina_dif.proofs.Routed.{to_member}
 -- While the DIF serves its flows
 
 pub kept_by : (g : Config) (now : ℕ) (c : Connections) (ps ps' : List Process) (below : Seen) → (CanManage g c.manage → LeavesLinks ps ps') → AreConnected g now c ps below → AreConnected g now c ps' below
-kept_by g now c ps ps' below leaves h = λ may. (
-    let was = h may in
-    record { lines = was.lines; tied = was.tied; standing = other_pdus_stand (channels_seen g now c) was.lines ps ps' below was.standing (leaves may) })
+kept_by g now c ps ps' below leaves h = record {
+  may = h.may;
+  lines = h.lines;
+  tied = h.tied;
+  standing = other_pdus_stand (channels_seen g now c) h.lines ps ps' below h.standing (leaves h.may);
+}
 
 -- As the rank below goes on
 
 pub later_connected : (g : Config) (now now' : ℕ) (c : Connections) (ps : List Process) (below below' : Seen) → now ≤ now' → AreKept below' → IsLifted g below below' → below'.now ≡ now' → AreConnected g now c ps below → AreConnected g now' c ps below'
-later_connected g now now' c ps below below' le kept lifted clock h = λ may. (
-    let was = h may in
-    record {
-      lines = map (ticked (now' - now)) was.lines;
-      tied = tied_later (link_config g c.manage) now now' c.flows.journal.ends c.flows.conns was.lines le was.tied;
-      standing = subst (λ (t : ℕ). IsStanding (channels_seen g t c) (map (ticked (t - now)) was.lines) ps below') clock (time_stands (channels_seen g now c) was.lines ps below below' kept was.standing lifted);
-    })
+later_connected g now now' c ps below below' le kept lifted clock h = record {
+  may = h.may;
+  lines = map (ticked (now' - now)) h.lines;
+  tied = tied_later (link_config g c.manage) now now' c.flows.journal.ends c.flows.conns h.lines le h.tied;
+  standing = subst (λ (t : ℕ). IsStanding (channels_seen g t c) (map (ticked (t - now)) h.lines) ps below') clock (time_stands (channels_seen g now c) h.lines ps below below' kept h.standing lifted);
+}
 
 pub beside_connected : (g : Config) (now : ℕ) (c : Connections) (ps : List Process) (below below' : Seen) → AreKept below' → IsLifted g below below' → below'.now ≡ below.now → AreConnected g now c ps below → AreConnected g now c ps below'
-beside_connected g now c ps below below' kept lifted clock h = λ may. (
-    let was = h may in
-    record { lines = was.lines; tied = was.tied; standing = beside_stands (channels_seen g now c) was.lines ps below below' kept was.standing lifted clock })
+beside_connected g now c ps below below' kept lifted clock h = record { may = h.may; lines = h.lines; tied = h.tied; standing = beside_stands (channels_seen g now c) h.lines ps below below' kept h.standing lifted clock }
 
 pub aside_connected : (g : Config) (now : ℕ) (c : Connections) (ps : List Process) (below below' : Seen) → IsAfter g NoMore below below' → FlowsGoOn g below below' → below'.now ≡ below.now → AreConnected g now c ps below → AreConnected g now c ps below'
-aside_connected g now c ps below below' after go clock h = λ may. (
-    let was = h may in
-    record { lines = was.lines; tied = was.tied; standing = still_stands (channels_seen g now c) was.lines ps ps below below' was.standing (leaves_refl ps) after go clock })
+aside_connected g now c ps below below' after go clock h = record { may = h.may; lines = h.lines; tied = h.tied; standing = still_stands (channels_seen g now c) h.lines ps ps below below' h.standing (leaves_refl ps) after go clock }
 
 -- an SDU is taken from there
 pub taking_connected : (g : Config) (now : ℕ) (c : Connections) (ps : List Process) (below : Seen) (port : Port) (below' : Seen) → AreKept below → AreKept below' → PassesBelow below port below' → AreConnected g now c ps below → AreConnected g now c ps below'
-taking_connected g now c ps below port below' kept kept' passed h = λ may. (
-    let was = h may in
-    record { lines = was.lines; tied = was.tied; standing = taking_stands (channels_seen g now c) was.lines ps below port below' kept kept' was.standing passed })
+taking_connected g now c ps below port below' kept kept' passed h = record { may = h.may; lines = h.lines; tied = h.tied; standing = taking_stands (channels_seen g now c) h.lines ps below port below' kept kept' h.standing passed }
 
 -- a PDU goes out
 pub outs_connected : (refuses : Port → ℕ → Option SendError) (d : DifSeen) (flows : List Direction) (c : Connections) (below : Seen) (i n : ℕ) (r : Result OutStep StepError) (d' : DifSeen) (below' : Seen) → AreKept below → AreKept below' → DifStands d flows below → Outs refuses d below i n r d' below' → AreConnected d.config d.clock c d.processes below → AreConnected d.config d.clock c d'.processes below'
-outs_connected refuses d flows c below i n r d' below' kept kept' stands outs h = λ may. (
-    let was = h may in
-    record { lines = was.lines; tied = was.tied; standing = outs_stand refuses (channels_seen d.config d.clock c) was.lines d flows below i n r d' below' kept kept' stands refl refl was.standing outs })
+outs_connected refuses d flows c below i n r d' below' kept kept' stands outs h = record { may = h.may; lines = h.lines; tied = h.tied; standing = outs_stand refuses (channels_seen d.config d.clock c) h.lines d flows below i n r d' below' kept kept' stands refl refl h.standing outs }
 
 -- Before the first link
 
 none_in : {X : Type 0} (xs : List X) (i : ℕ) (x : X) → xs ≡ [] → slice_get xs i ≡ Some x → ⊥
 none_in xs i x e h = cc
 
-pub none_connected : (g : Config) (now : ℕ) (c : Connections) (ps : List Process) (below : Seen) → c.channels ≡ [] → c.flows.journal.ends ≡ [] → c.flows.conns ≡ [] → now ≡ below.now → ((i n : ℕ) (p q : Port) → HasLive ps i n p → HasLive ps i n q → p ≡ q) → AreConnected g now c ps below
-none_connected g now c ps below channels ends conns clock numbered = λ may. (
+pub none_connected : (g : Config) (now : ℕ) (c : Connections) (ps : List Process) (below : Seen) → c.channels ≡ [] → c.flows.journal.ends ≡ [] → c.flows.conns ≡ [] → now ≡ below.now → CanManage g c.manage → ((i n : ℕ) (p q : Port) → HasLive ps i n p → HasLive ps i n q → p ≡ q) → AreConnected g now c ps below
+none_connected g now c ps below channels ends conns clock may numbered =
     let no_ends : length c.flows.journal.ends ≡ 0 = ap (λ es. length es) ends in
     let no_conns : length c.flows.conns ≡ 0 = ap (λ ks. length ks) conns in
     record {
+      may = may;
       lines = [];
       tied = record {
         alike = omega (arith, no_ends, no_conns);
@@ -107,7 +103,7 @@ none_connected g now c ps below channels ends conns clock numbered = λ may. (
         receives = λ at from end conn line is allocated inbound. absurd (none_in c.flows.conns at conn conns is.conn_is);
       };
       standing = none_stand (channels_seen g now c) [] ps below (record { managed = may.managed; clock = clock; channels = channels; ends = ends; ids = ap conns_of conns; lines_are = refl; numbered = numbered });
-    })
+    }
 
 -- As an IPC process decides on a PDU that came
 

@@ -1,5 +1,5 @@
 -- All flows of a node fail with the last link of their IPC process.
-use Rattle.std.proofs.Common.{◌≡◌, ◌≢◌, ◌∙◌, ℕ, zero, suc, ◌<◌, ◌⊎◌, List, get_or, length, slice_get, slice_set, Option, Some, Result, Ok, Err, refl, sym, ap, subst, arith, inl, inr, set-set}
+use Rattle.std.proofs.Common.{◌≡◌, ◌≢◌, ◌∙◌, ℕ, zero, suc, ◌+◌, ◌<◌, ◌≤◌, ◌⊎◌, List, get_or, length, slice_get, slice_set, Option, Some, Result, Ok, Err, refl, sym, ap, subst, arith, inl, inr, set-set}
 use Rattle.std.proofs.lemmas.Option.{slice_get_read}
 use Rattle.rina_account.specs.declared.ledger.Off.{Off}
 use Rattle.rina_member.specs.declared.management.Management.{Management}
@@ -14,7 +14,6 @@ use Rattle.rina_iface.specs.Journal.{At}
 use Rattle.rina_iface.specs.Seen.{Seen}
 use Rattle.rina_iface.proofs.Changed.{set_at, slice_get-set_same}
 use Rattle.rina_law.specs.Direction.{Direction}
-use Rattle.rina_data.specs.declared.link.Route.{Route}
 use Rattle.rina_data.specs.declared.loss.Lost.{Lost}
 use Rattle.rina_data.specs.declared.process.IpcProcess.{IpcProcess}
 use Rattle.rina_data.specs.Configs.{Config, config_of}
@@ -25,23 +24,25 @@ use Rattle.rina_dif_law.specs.Losing.{FailFirst, IsAllocatedAt, MayFail}
 use Rattle.rina_dif_law.specs.Sending.{home}
 use Rattle.rina_dif_law.specs.Upward.{IsSilent}
 use Rattle.rina_dif_law.proofs.Founding.{failed_accounted}
-use Rattle.rina_dif_law.proofs.Linkless.{failed_carries, failed_numbered, failed_silent, failed_stands, first_stay, lost_silent, silent_on}
+use Rattle.rina_dif_law.proofs.Linkless.{failed_carries, failed_numbered, failed_silent, failed_stands, first_stay, silent_on}
+use Rattle.rina_dif_law.proofs.Upper.{silent_same}
 use Rattle.rina_dif_law.proofs.Warranted.{failed_written}
 use Rattle.rina_flows.specs.declared.flows.Flows.{Flows}
 use Rattle.rina_flows.specs.Delivering.{HasStopped}
-use Rattle.rina_flows.specs.Stopping.{MayStop, StopFirst}
+use Rattle.rina_flows.specs.Stopping.{MayStop, StopFirst, StopsAll}
 use Rattle.rina_flows.proofs.Gone.{is_ended}
 use Rattle.rina_member.specs.Knowing.{AreRoutesOf}
 use Rattle.rina_dif.specs.declared.dif.Dif.{Dif}
-use Rattle.rina_dif.specs.Holding.{Holds}
+use Rattle.rina_dif.specs.Holding.{Holds, Stands}
 use Rattle.rina_dif.proofs.Managed.{IsWithout}
 use Rattle.rina_dif.specs.Shown.{seen_of}
-use Rattle.rina_dif.specs.Unlinking.{FindsLostAt, FindsNoneLeft, LosesAs, LosesLast, LosesLastIn, LosesThenStops, LosesWith}
+use Rattle.rina_dif.specs.declared.processes.LinkLoss.{LinkLoss}
+use Rattle.rina_dif.specs.Unlinking.{FindsEnd, FindsLostAt, FindsNoneLeft, LosesAs, LosesLast, LosesLastIn, LosesThenStops, LosesWith, held_here, with_lost}
 use Rattle.rina_dif.proofs.Causing.{failed_below, failed_caused}
 use Rattle.rina_dif.proofs.Keeping.{home_set}
 use Rattle.rina_dif.proofs.Leaves.{has_process, shown_at}
 use Rattle.rina_dif.proofs.Owning.{arrived_seen}
-use Rattle.rina_dif.proofs.Unlinked.{has_agent, has_member, keeps_links, link_lost, lost_with}
+use Rattle.rina_dif.proofs.Unlinked.{after, after_holds, first_lost, has_agent, has_member, keeps_links, lost_with, then_closed}
 use Rattle.rina_channel.proofs.Leaving.{failing_leaves}
 use Rattle.rina_dif.proofs.Connected.{kept_by}
 
@@ -50,11 +51,11 @@ same_some o a b h g = cc
 
 -- One IPC process of those that are kept
 
-pub last_one : (now node : ℕ) (state : PortState) (place : ℕ) (routes : List Route) (r : Result (Unit {0}) Memory) (at : ℕ) (flows flows' : Flows) (ps : List IpcProcess) (x x' : IpcProcess) → at < length ps → x ≡ get_or ps at x → LosesLast now node state place routes flows x r flows' x' → queue_settings x' ≡ queue_settings x → LosesLastIn now node state place routes r at flows ps flows' (slice_set ps at x')
-last_one now node state place routes r at flows flows' ps x x' lt read loses room p is =
+pub last_one : (node : ℕ) (state : PortState) (loss : LinkLoss) (r : Result (Unit {0}) Memory) (at : ℕ) (links links' flows flows' : Flows) (ps : List IpcProcess) (x x' : IpcProcess) → at < length ps → x ≡ get_or ps at x → LosesLast node state loss links flows x r links' flows' x' → queue_settings x' ≡ queue_settings x → LosesLastIn node state loss r at links flows ps links' flows' (slice_set ps at x')
+last_one node state loss r at links links' flows flows' ps x x' lt read loses room p is =
     let here : slice_get ps at ≡ Some x = slice_get_read ps (length ps) at x refl lt read in
     let same : x ≡ p = same_some (slice_get ps at) x p here is in
-    (x', subst (λ (z : IpcProcess). LosesLast now node state place routes flows z r flows' x') same loses, subst (λ (z : IpcProcess). queue_settings x' ≡ queue_settings z) same room, refl)
+    (x', subst (λ (z : IpcProcess). LosesLast node state loss links flows z r links' flows' x') same loses, subst (λ (z : IpcProcess). queue_settings x' ≡ queue_settings z) same room, refl)
 
 -- The flows of a node end one after the other
 
@@ -88,57 +89,73 @@ stages_fail d i (suc n) node p q fail lines f f' l l' is here s = (seen_of (stag
 failed_other : (fail : Fail) → Failed fail ≢ Allocated
 failed_other fail e = absurd cc
 
-last_fails : (d : Dif) (at node : ℕ) (lost : Lost) (port : Port) (routes : List Route) (flows : Flows) (p p' : IpcProcess) (g' : Management) → at < length d.settings.members → home node (config_of d.settings).members ≡ Some at → slice_get d.processes at ≡ Some p → IsWithout d at lost.number g' → AreRoutesOf g'.agent d.settings.members routes → LosesThenStops d.clock node (Failed (Below port)) lost.place routes d.flows p flows p' → queue_settings p' ≡ queue_settings p
-    → (lines : List Direction) (below : Seen) → Holds d lines below → FindsLostAt d below at (Some lost) → FindsNoneLeft d below at lost.place (Some port) → LosesAs d lines below at node lost.number (Ok tt) (record d { flows = flows; processes = slice_set d.processes at p'; managements = slice_set d.managements at g' })
-last_fails d at node lost port routes flows p p' g' lt here is goes are s room lines below h finds left =
+last_fails : (d : Dif) (at node : ℕ) (lost : Lost) (port : Port) (loss : LinkLoss) (links flows : Flows) (p p' : IpcProcess) (g' : Management) → loss.place ≡ lost.place → loss.now ≡ d.clock → at < length d.settings.members → home node (config_of d.settings).members ≡ Some at → slice_get d.processes at ≡ Some p → IsWithout d at lost.number g' → AreRoutesOf g'.agent d.settings.members loss.routes → FindsEnd d at lost.place loss.end
+    → LosesThenStops node (Failed (Below port)) loss d.connections.flows d.flows p links flows p' → queue_settings p' ≡ queue_settings p
+    → (lines : List Direction) (below : Seen) → Holds d lines below → FindsLostAt d below at (Some lost) → FindsNoneLeft d below at lost.place (Some port) → LosesAs d lines below at node lost.number (Ok tt) (record d { connections = record d.connections { flows = links }; flows = flows; processes = slice_set d.processes at p'; managements = slice_set d.managements at g' })
+last_fails d at node lost port loss links flows p p' g' place_is clock_is lt here is goes are ends s room lines below h finds left =
     let g : Config = config_of d.settings in
     let m = has_member d at lt in
     let k = has_agent d lines below at lt h in
     let p1 : IpcProcess = record p' { ledger = s.ledger } in
-    let mid : Dif = record d { processes = slice_set d.processes at p1; managements = slice_set d.managements at g' } in
-    let d' : Dif = record d { flows = flows; processes = slice_set d.processes at p'; managements = slice_set d.managements at g' } in
-    let l = link_lost d lines below at lost routes m.0 p p1 k.0 g' m.1 is k.1 (goes k.0 k.1) are s.loses room h finds in
+    let more : ℕ = held_here node d.flows in
+    let mid : Dif = after d lines below at lost loss more m.0 p p1 links k.0 g' place_is clock_is m.1 is k.1 (goes k.0 k.1) are s.loses room ends h finds in
+    let d' : Dif = record d { connections = record d.connections { flows = links }; flows = flows; processes = slice_set d.processes at p'; managements = slice_set d.managements at g' } in
+    let l = first_lost d lines below at lost loss more m.0 p p1 links k.0 g' place_is clock_is m.1 is k.1 (goes k.0 k.1) are s.loses room ends h finds in
+    let c = then_closed d lines below at lost loss more m.0 p p1 links k.0 g' place_is clock_is m.1 is k.1 (goes k.0 k.1) are s.loses room ends h finds in
+    let holds : Holds mid lines below = after_holds d lines below at lost loss more m.0 p p1 links k.0 g' place_is clock_is m.1 is k.1 (goes k.0 k.1) are s.loses room ends h finds in
     let told = left l.process l.link l.is_process l.stands in
-    let all = s.stops g lines l.holds.standing.journal l.holds.tied tt (failed_other (Below port)) s.fits in
+    let few = c.few in
+    let fits = s.loses.fits in
+    let wide = s.wide in
+    let stops : StopsAll d.clock node (Failed (Below port)) d.flows s.ledger s.room flows p'.ledger = subst (λ (now : ℕ). StopsAll now node (Failed (Below port)) d.flows s.ledger s.room flows p'.ledger) clock_is s.stops in
+    let all = stops g lines holds.standing.journal holds.tied tt (failed_other (Below port)) (omega (arith, few, fits, wide)) in
     let fails = stages_fail d at (length d.flows.journal.ends) node p' p (Below port) lines d.flows flows s.ledger p'.ledger is here all.0 in
     let by : FailFirst lines node (Below l.link.port) (length d.flows.journal.ends) (seen_of mid) (seen_of d') = subst (λ (z : Port). FailFirst lines node (Below z) (length d.flows.journal.ends) (seen_of mid) (seen_of d')) told.0 fails in
     let there : slice_get mid.processes at ≡ Some p1 = slice_get-set_same d.processes at p p1 is in
     let twice : slice_set mid.processes at p' ≡ slice_set d.processes at p' = set-set d.processes at p1 p' in
-    let house = home_set mid lines below at p1 p' (slice_set d.processes at p') l.holds there refl (record { links = refl; routes = refl; places = λ qos link. refl }) (sym twice) in (
-      lost_with d lines below at node lost.place lost.number mid (seen_of d') l (inl (told.1, by)),
+    let house = home_set mid lines below at p1 p' (slice_set d.processes at p') holds there refl (record { links = refl; routes = refl; places = λ qos link. refl }) (sym twice) in (
+      lost_with d lines below at lost loss more m.0 p p1 links k.0 g' place_is clock_is m.1 is k.1 (goes k.0 k.1) are s.loses room ends h finds node d' refl (inl (told.1, by)),
       record {
         tied = all.1;
-        standing = failed_stands (seen_of mid) lines below node l.link.port (seen_of d') l.holds.standing by;
-        carrying = failed_carries (seen_of mid) lines below node l.link.port (seen_of d') l.holds.carrying by;
-        numbered = failed_numbered (seen_of mid) lines below node l.link.port (seen_of d') l.holds.numbered by;
-        accounted = failed_accounted (seen_of mid) lines below node l.link.port (seen_of d') l.holds.standing l.holds.numbered l.holds.accounted by;
-        caused = failed_caused (seen_of mid) lines below node l.link.port (seen_of d') (failed_below (seen_of d) lines below at node lost.place (process_of l.process) l.link h.standing here (shown_at d at l.process l.is_process) l.stands told.1.failed) l.holds.caused by;
-        written_off = failed_written (seen_of mid) lines below node l.link.port (seen_of d') l.holds.standing l.holds.numbered l.holds.written_off by;
+        standing = failed_stands (seen_of mid) lines below node l.link.port (seen_of d') holds.standing by;
+        carrying = failed_carries (seen_of mid) lines below node l.link.port (seen_of d') holds.carrying by;
+        numbered = failed_numbered (seen_of mid) lines below node l.link.port (seen_of d') holds.numbered by;
+        accounted = failed_accounted (seen_of mid) lines below node l.link.port (seen_of d') holds.standing holds.numbered holds.accounted by;
+        caused = failed_caused (seen_of mid) lines below node l.link.port (seen_of d') (failed_below (seen_of d) lines below at node lost.place (process_of l.process) l.link h.standing here (shown_at d at l.process l.is_process) l.stands told.1.failed) holds.caused by;
+        written_off = failed_written (seen_of mid) lines below node l.link.port (seen_of d') holds.standing holds.numbered holds.written_off by;
         housed = house.housed;
         routed = house.routed;
         managed = house.managed;
-        connected = kept_by (config_of d.settings) d.clock d.connections (seen_of mid).processes (seen_of d').processes below (λ may. failing_leaves (seen_of mid) lines node l.link.port (seen_of d') by) l.holds.connected;
+        connected = kept_by (config_of d.settings) d.clock mid.connections (seen_of mid).processes (seen_of d').processes below (λ may. failing_leaves (seen_of mid) lines node l.link.port (seen_of d') by) holds.connected;
       },
     )
 
-pub last_loses : (d : Dif) (at node : ℕ) (lost : Lost) (port : Port) (g' : Management) (routes : List Route) (flows : Flows) (ps : List IpcProcess) → at < length d.settings.members → home node (config_of d.settings).members ≡ Some at → IsWithout d at lost.number g' → AreRoutesOf g'.agent d.settings.members routes → LosesLastIn d.clock node (Failed (Below port)) lost.place routes (Ok tt) at d.flows d.processes flows ps
-    → (lines : List Direction) (below : Seen) → Holds d lines below → FindsLostAt d below at (Some lost) → FindsNoneLeft d below at lost.place (Some port) → LosesAs d lines below at node lost.number (Ok tt) (record d { flows = flows; processes = ps; managements = slice_set d.managements at g' })
-last_loses d at node lost port g' routes flows ps lt here goes are loses lines below h finds left =
+pub last_loses : (d : Dif) (at node : ℕ) (lost : Lost) (port : Port) (loss : LinkLoss) (g' : Management) (links flows : Flows) (ps : List IpcProcess) → loss.place ≡ lost.place → loss.now ≡ d.clock → at < length d.settings.members → home node (config_of d.settings).members ≡ Some at → IsWithout d at lost.number g' → AreRoutesOf g'.agent d.settings.members loss.routes → FindsEnd d at lost.place loss.end
+    → LosesLastIn node (Failed (Below port)) loss (Ok tt) at d.connections.flows d.flows d.processes links flows ps
+    → (lines : List Direction) (below : Seen) → Holds d lines below → FindsLostAt d below at (Some lost) → FindsNoneLeft d below at lost.place (Some port) → LosesAs d lines below at node lost.number (Ok tt) (record d { connections = record d.connections { flows = links }; flows = flows; processes = ps; managements = slice_set d.managements at g' })
+last_loses d at node lost port loss g' links flows ps place_is clock_is lt here goes are ends loses lines below h finds left =
     let p = has_process d below at (lines, h) lt in
     let x = loses p.0 p.1 in
-    subst (λ (qs : List IpcProcess). LosesAs d lines below at node lost.number (Ok tt) (record d { flows = flows; processes = qs; managements = slice_set d.managements at g' })) (sym x.3) (last_fails d at node lost port routes flows p.0 x.0 g' lt here p.1 goes are x.1 x.2 lines below h finds left)
+    subst (λ (qs : List IpcProcess). LosesAs d lines below at node lost.number (Ok tt) (record d { connections = record d.connections { flows = links }; flows = flows; processes = qs; managements = slice_set d.managements at g' })) (sym x.3) (last_fails d at node lost port loss links flows p.0 x.0 g' place_is clock_is lt here p.1 goes are ends x.1 x.2 lines below h finds left)
 
--- the flows are as they were, and so is the IPC process at a place
-abbrev pub StaysWith : ℕ → Flows → List IpcProcess → Flows → List IpcProcess → Type 0
-StaysWith at flows old flows' new = (p : IpcProcess) → slice_get old at ≡ Some p → (p' : IpcProcess) × ((flows' ≡ flows) × (process_of p' ≡ process_of p)) × (queue_settings p' ≡ queue_settings p) × (new ≡ slice_set old at p')
+-- the connections and the flows are as they were, and so is the IPC process at a place
+abbrev pub StaysWith : ℕ → Flows → Flows → List IpcProcess → Flows → Flows → List IpcProcess → Type 0
+StaysWith at links flows old links' flows' new = (p : IpcProcess) → slice_get old at ≡ Some p → (p' : IpcProcess) × (((links' ≡ links) × (flows' ≡ flows)) × (process_of p' ≡ process_of p)) × (queue_settings p' ≡ queue_settings p) × (new ≡ slice_set old at p')
 
 -- an allocation failed, and nothing changes
-pub last_stays : (d : Dif) (at node : ℕ) (lost : Lost) (r : Result (Unit {0}) Memory) (flows : Flows) (ps : List IpcProcess) → at < length d.settings.members → StaysWith at d.flows d.processes flows ps → (e : Memory) → r ≡ Err e
-    → (lines : List Direction) (below : Seen) → Holds d lines below → LosesAs d lines below at node lost.number r (record d { flows = flows; processes = ps })
-last_stays d at node lost r flows ps lt stays e is lines below h =
+pub last_stays : (d : Dif) (at node : ℕ) (lost : Lost) (r : Result (Unit {0}) Memory) (links flows : Flows) (ps : List IpcProcess) → at < length d.settings.members → StaysWith at d.connections.flows d.flows d.processes links flows ps → (e : Memory) → r ≡ Err e
+    → (lines : List Direction) (below : Seen) → Holds d lines below → LosesAs d lines below at node lost.number r (record d { connections = record d.connections { flows = links }; flows = flows; processes = ps })
+last_stays d at node lost r links flows ps lt stays e is lines below h =
     let p = has_process d below at (lines, h) lt in
     let x = stays p.0 p.1 in
-    subst (λ (v : Result (Unit {0}) Memory). LosesAs d lines below at node lost.number v (record d { flows = flows; processes = ps })) (sym is) (subst (λ (f : Flows). LosesAs d lines below at node lost.number (Err e) (record d { flows = f; processes = ps })) (sym x.1.0) (keeps_links d lines below at p.0 x.0 ps p.1 x.1.1 x.2 x.3 h))
+    subst (λ (v : Result (Unit {0}) Memory). LosesAs d lines below at node lost.number v (record d { connections = record d.connections { flows = links }; flows = flows; processes = ps })) (sym is)
+    (subst (λ (f : Flows). LosesAs d lines below at node lost.number (Err e) (record d { connections = record d.connections { flows = f }; flows = flows; processes = ps })) (sym x.1.0.0)
+    (subst (λ (f : Flows). LosesAs d lines below at node lost.number (Err e) (record d { flows = f; processes = ps })) (sym x.1.0.1) (keeps_links d lines below at p.0 x.0 ps p.1 x.1.1 x.2 x.3 h)))
+
+pub last_same : (d : Dif) (below : Seen) (at : ℕ) (links flows : Flows) (ps : List IpcProcess) → Stands d below → at < length d.settings.members → StaysWith at d.connections.flows d.flows d.processes links flows ps → record d.connections { flows = links } ≡ d.connections
+last_same d below at links flows ps st lt stays =
+    let p = has_process d below at st lt in
+    ap (λ (f : Flows). record d.connections { flows = f }) (stays p.0 p.1).1.0.0
 
 -- What a rank sees of it
 
@@ -150,26 +167,30 @@ record IsFramed (d z : DifSeen) : Type 0 where
 fails_frame : (lines : List Direction) (node : ℕ) (port : Port) (n : ℕ) (d d' : DifSeen) → FailFirst lines node (Below port) n d d' → IsFramed d d'
 fails_frame lines node port n d d' f = first_stay (IsFramed d) lines node (Below port) (λ at a b x e. record { clock = ap (λ (z : DifSeen). z.clock) e.new_is ∙ x.clock; waiting = ap (λ (z : DifSeen). z.waiting) e.new_is ∙ x.waiting }) n d d' (record { clock = refl; waiting = refl }) f
 
-pub loses_silent : (d : Dif) (lines : List Direction) (below : Seen) (i node number : ℕ) (new : DifSeen) → LosesWith d lines below i node number new → IsSilent (seen_of d) new
-loses_silent d lines below i node number new w =
+-- what is left once a link is lost, before flows fail with it
+abbrev pub after_loss : (d : Dif) (lines : List Direction) (below : Seen) (i node number : ℕ) (d' : Dif) → LosesWith d lines below i node number d' → DifSeen
+after_loss d lines below i node number d' w = (let l = w.loses in with_lost (seen_of d) i l.loses.place l.loses.link l.routes l.loses.process w.offs)
+
+pub loses_silent : (d : Dif) (lines : List Direction) (below : Seen) (i node number : ℕ) (d' : Dif) → LosesWith d lines below i node number d' → IsSilent (seen_of d) (seen_of d')
+loses_silent d lines below i node number d' w =
     let l = w.loses in
-    let lost = lost_silent (seen_of d) below i number l.routes w.between l.loses in
-    let first : w.between.clock ≡ d.clock = ap (λ (x : DifSeen). x.clock) l.loses.new_is in
+    let between : DifSeen = after_loss d lines below i node number d' w in
+    let lost = silent_same (seen_of d) between refl refl refl in
     elim w.fails [
       | inl f ↦
-          (let then = (fails_frame lines node l.loses.link.port (length w.between.ends) w.between new f.1).clock in
-          silent_on (seen_of d) w.between new (omega (arith, first)) (omega (arith, then)) lost (failed_silent w.between lines node l.loses.link.port new f.1))
+          (let then = (fails_frame lines node l.loses.link.port (length between.ends) between (seen_of d') f.1).clock in
+          silent_on (seen_of d) between (seen_of d') (omega arith) (omega (arith, then)) lost (failed_silent between lines node l.loses.link.port (seen_of d') f.1))
       | inr k ↦ subst (IsSilent (seen_of d)) (sym k.1) lost
     ]
 
 -- the far ends that wait are the same
-pub loses_waits : (d : Dif) (lines : List Direction) (below : Seen) (i node number : ℕ) (new : DifSeen) → LosesWith d lines below i node number new → new.waiting ≡ d.waiting.items
-loses_waits d lines below i node number new w =
+pub loses_waits : (d : Dif) (lines : List Direction) (below : Seen) (i node number : ℕ) (d' : Dif) → LosesWith d lines below i node number d' → (seen_of d').waiting ≡ d.waiting.items
+loses_waits d lines below i node number d' w =
     let l = w.loses in
-    let first : w.between.waiting ≡ d.waiting.items = ap (λ (x : DifSeen). x.waiting) l.loses.new_is in
+    let between : DifSeen = after_loss d lines below i node number d' w in
     elim w.fails [
-      | inl f ↦ (fails_frame lines node l.loses.link.port (length w.between.ends) w.between new f.1).waiting ∙ first
-      | inr k ↦ ap (λ (x : DifSeen). x.waiting) k.1 ∙ first
+      | inl f ↦ (fails_frame lines node l.loses.link.port (length between.ends) between (seen_of d') f.1).waiting
+      | inr k ↦ ap (λ (x : DifSeen). x.waiting) k.1
     ]
 
 -- Which ends failed

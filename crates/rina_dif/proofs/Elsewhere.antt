@@ -19,7 +19,6 @@ use Rattle.rina_iface.specs.Seen.{Seen}
 use Rattle.rina_iface.specs.State.{with_state}
 use Rattle.rina_iface.proofs.Changed.{slice_set-same}
 use Rattle.rina_law.specs.Direction.{Direction}
-use Rattle.rina_data.specs.declared.link.Route.{Route}
 use Rattle.rina_data.specs.declared.process.IpcProcess.{IpcProcess}
 use Rattle.rina_data.specs.declared.step.ClockStep.{ClockStep}
 use Rattle.rina_data.specs.declared.step.Decision.{Decision}
@@ -40,6 +39,7 @@ use Rattle.rina_flows.specs.Elsewhere.{ChangesAt}
 use Rattle.rina_flows.specs.Tied.{conns_of}
 use Rattle.rina_flows.proofs.Elsewhere.{by_change, by_more, by_none, by_set}
 use Rattle.rina_dif.specs.declared.dif.Dif.{Dif}
+use Rattle.rina_dif.specs.declared.processes.LinkLoss.{LinkLoss}
 use Rattle.rina_dif.specs.Clocking.{IsTurn}
 use Rattle.rina_dif.specs.Elsewhere.{ChangesOnly, ChangesProcess, IsEndOf, IsOfCep, IsPortAt, IsTaker, MayClock, MayTake, WhenOk, home_of}
 use Rattle.rina_dif.specs.Holding.{Stands}
@@ -117,24 +117,24 @@ ledger_leaves R d below at flows ps st lt does =
     let x = does p.0 p.1 in
     by_process d.processes ps at p.0 (record p.0 { ledger = x.0 }) p.1 refl x.2
 
-pub loses_leave : (d : Dif) (below : Seen) (place : ℕ) (routes : List Route) (r : Result (Unit {0}) Memory) (at : ℕ) (ps : List IpcProcess) → Stands d below → at < length d.settings.members → LosesIn place routes r at d.processes ps → ChangesProcess (Some at) d.processes ps
-loses_leave d below place routes r at ps st lt does =
+pub loses_leave : (d : Dif) (below : Seen) (loss : LinkLoss) (r : Result (Unit {0}) Memory) (at : ℕ) (links : Flows) (ps : List IpcProcess) → Stands d below → at < length d.settings.members → LosesIn loss r at d.connections.flows d.processes links ps → ChangesProcess (Some at) d.processes ps
+loses_leave d below loss r at links ps st lt does =
     let p = has_process d below at st lt in
     let x = does p.0 p.1 in
     by_process d.processes ps at p.0 x.0 p.1 x.2 x.3
 
-pub last_leaves : (d : Dif) (below : Seen) (node : ℕ) (state : PortState) (place : ℕ) (routes : List Route) (r : Result (Unit {0}) Memory) (at : ℕ) (flows : Flows) (ps : List IpcProcess) → Stands d below → at < length d.settings.members → LosesLastIn d.clock node state place routes r at d.flows d.processes flows ps → ChangesProcess (Some at) d.processes ps
-last_leaves d below node state place routes r at flows ps st lt does =
+pub last_leaves : (d : Dif) (below : Seen) (node : ℕ) (state : PortState) (loss : LinkLoss) (r : Result (Unit {0}) Memory) (at : ℕ) (links flows : Flows) (ps : List IpcProcess) → Stands d below → at < length d.settings.members → LosesLastIn node state loss r at d.connections.flows d.flows d.processes links flows ps → ChangesProcess (Some at) d.processes ps
+last_leaves d below node state loss r at links flows ps st lt does =
     let p = has_process d below at st lt in
     let x = does p.0 p.1 in
     by_process d.processes ps at p.0 x.0 p.1 x.2 x.3
 
 -- an allocation failed, and no end changed
-pub last_failed_leaves : (d : Dif) (below : Seen) (r : Result (Unit {0}) Memory) (at : ℕ) (flows : Flows) (ps : List IpcProcess) → Stands d below → at < length d.settings.members → StaysWith at d.flows d.processes flows ps → ChangesOnly (λ i. WhenOk r (IsEndOf d (Some at) i)) (Some at) d (record d { flows = flows; processes = ps })
-last_failed_leaves d below r at flows ps st lt stays =
+pub last_failed_leaves : (d : Dif) (below : Seen) (r : Result (Unit {0}) Memory) (at : ℕ) (links flows : Flows) (ps : List IpcProcess) → Stands d below → at < length d.settings.members → StaysWith at d.connections.flows d.flows d.processes links flows ps → ChangesOnly (λ i. WhenOk r (IsEndOf d (Some at) i)) (Some at) d (record d { connections = record d.connections { flows = links }; flows = flows; processes = ps })
+last_failed_leaves d below r at links flows ps st lt stays =
     let p = has_process d below at st lt in
     let x = stays p.0 p.1 in
-    (flows_none (λ i. WhenOk r (IsEndOf d (Some at) i)) d.flows flows x.1.0, by_process d.processes ps at p.0 x.0 p.1 x.2 x.3)
+    (flows_none (λ i. WhenOk r (IsEndOf d (Some at) i)) d.flows flows x.1.0.1, by_process d.processes ps at p.0 x.0 p.1 x.2 x.3)
 
 -- Memory was not found, and no end changed
 

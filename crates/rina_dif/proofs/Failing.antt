@@ -26,7 +26,8 @@ use Rattle.rina_dif_law.specs.Dif.{DifSeen, constants}
 use Rattle.rina_dif_law.specs.Ending.{IsGivenUp}
 use Rattle.rina_dif_law.specs.Losing.{IsAllocatedAt}
 use Rattle.rina_dif_law.specs.Sending.{home}
-use Rattle.rina_dif_law.proofs.Finding.{beside}
+use Rattle.rina_dif_law.specs.Cloud.{Cloud, Everywhere}
+use Rattle.rina_dif_law.proofs.Own.{direction_out}
 use Rattle.rina_dif.specs.declared.dif.Dif.{Dif}
 use Rattle.rina_dif.specs.Clocking.{ClockSteps, FailsBelow, FailsLate, IsLate, Steps, StepsFlow, StepsHere, StepsLost, StepsOk}
 use Rattle.rina_dif.specs.Elsewhere.{home_of}
@@ -35,7 +36,7 @@ use Rattle.rina_dif.specs.Changing.{ManagesStep}
 use Rattle.rina_dif.specs.Shown.{seen_of}
 use Rattle.rina_dif.specs.Steps.{AtHome}
 use Rattle.rina_dif.specs.Unlinking.{NoneLeft, links_without}
-use Rattle.rina_dif.proofs.Cutting.{failed_ends}
+use Rattle.rina_dif.proofs.Cutting.{after_loss, failed_ends}
 
 same_some : {X : Type 0} (o : Option X) (a b : X) → o ≡ Some a → o ≡ Some b → a ≡ b
 same_some o a b h g = cc
@@ -48,8 +49,7 @@ late_one d lines below at number new h g =
     let end : End = g.ended.end in
     let is_end = g.ended.is_conn.end in
     let partner = st.journal.allocated at end is_end g.ended.allocated in
-    let far = beside (seen_of d).ends (seen_of d).conns partner.place partner.other st.own.alike partner.stands in
-    let flow = st.own.flows at partner.place end partner.other g.ids far.0 g.line (record { end = is_end; ids_are = g.ids_are }) (record { end = partner.stands; ids_are = far.1 }) g.is_line partner.partner in
+    let flow = direction_out (config_of d.settings) d.clock (Cloud Everywhere (config_of d.settings) (seen_of d).processes below) (seen_of d).ends (seen_of d).conns lines st.own at partner.place end partner.other g.ids g.line (record { end = is_end; ids_are = g.ids_are }) partner.stands g.is_line partner.partner g.ended.allocated in
     let cube_is : flow.cube ≡ g.cube = same_some (cube_by g.ids.qos (config_of d.settings).cubes) flow.cube g.cube flow.is_cube g.is_cube in
     let holds : DirectionHolds k g.line = subst (λ (x : Cube). DirectionHolds (constants (config_of d.settings) x g.ids) g.line) cube_is flow.backed.holds in
     let run = g.line.line.sender.run in
@@ -121,8 +121,8 @@ late_flow d lines below node (step.Timeout port) new lines' h s = absurd s
 late_flow d lines below node (step.Message link) new lines' h s = absurd s
 
 -- all of a node have failed
-below_one : (d : Dif) (lines : List Direction) (below : Seen) (node number : ℕ) (new : DifSeen) (s : StepsLost d lines below node number new) (at : ℕ) (fail : Fail) → NoneLeft (links_without s.loses.loses.loses.process.links s.loses.loses.loses.place s.loses.loses.loses.link) below s.loses.loses.loses.link.port → IsAllocatedAt d.flows.journal.ends node at → fail ≡ Below s.loses.loses.loses.link.port → FailsBelow d below at fail
-below_one d lines below node number new s at fail left a is =
+below_one : (d : Dif) (lines : List Direction) (below : Seen) (node number : ℕ) (d' : Dif) (s : StepsLost d lines below node number d') (at : ℕ) (fail : Fail) → NoneLeft (links_without s.loses.loses.loses.process.links s.loses.loses.loses.place s.loses.loses.loses.link) below s.loses.loses.loses.link.port → IsAllocatedAt d.flows.journal.ends node at → fail ≡ Below s.loses.loses.loses.link.port → FailsBelow d below at fail
+below_one d lines below node number d' s at fail left a is =
     let l = s.loses.loses.loses in
     record {
       end = a.end;
@@ -141,36 +141,35 @@ below_one d lines below node number new s at fail left a is =
       failed = left.failed;
     }
 
-late_lost : (d : Dif) (lines : List Direction) (below : Seen) (node number : ℕ) (new : DifSeen) → StepsLost d lines below node number new → Late d lines below new.ends
+late_lost : (d : Dif) (lines : List Direction) (below : Seen) (node number : ℕ) (d' : Dif) → StepsLost d lines below node number d' → Late d lines below d'.flows.journal.ends
 unfolding Late
-late_lost d lines below node number new s at end end' fail old is failed =
+late_lost d lines below node number d' s at end end' fail old is failed =
     let l = s.loses.loses.loses in
-    let mid : DifSeen = s.loses.between in
+    let mid : DifSeen = after_loss d lines below s.i node number d' s.loses in
     let by : Fail = Below l.link.port in
-    let ends : mid.ends ≡ d.flows.journal.ends = ap (λ (z : DifSeen). z.ends) l.new_is in
-    let kept : slice_get mid.ends at ≡ Some end' → end.state ≡ Failed fail = λ there. ap (λ (e : End). e.state) (same_some (slice_get d.flows.journal.ends at) end end' old (ap (λ (es : List End). slice_get es at) (sym ends) ∙ there)) ∙ failed in
+    let kept : slice_get d.flows.journal.ends at ≡ Some end' → end.state ≡ Failed fail = λ there. ap (λ (e : End). e.state) (same_some (slice_get d.flows.journal.ends at) end end' old there) ∙ failed in
     elim s.loses.fails [
-      | inl f ↦ elim (failed_ends lines node by (length mid.ends) mid new f.1 at end' is) [
+      | inl f ↦ elim (failed_ends lines node by (length mid.ends) mid (seen_of d') f.1 at end' is) [
         | inl there ↦ inl (kept there)
-        | inr x ↦ inr (inr (below_one d lines below node number new s at fail f.0 (subst (λ (es : List End). IsAllocatedAt es node at) ends x.0) (failed_so by fail end'.state failed x.1)))
+        | inr x ↦ inr (inr (below_one d lines below node number d' s at fail f.0 x.0 (failed_so by fail end'.state failed x.1)))
       ]
       | inr k ↦ inl (kept (subst (λ (z : DifSeen). slice_get z.ends at ≡ Some end') k.1 is))
     ]
 
-late_step : (d : Dif) (lines : List Direction) (below : Seen) (node : ℕ) (done : ClockStep) (new : DifSeen) (lines' : List Direction) → Holds d lines below → Steps d lines below node done new lines' → Late d lines below new.ends
-late_step d lines below node step.Idle new lines' h s = late_flow d lines below node step.Idle new lines' h s.1
-late_step d lines below node (step.Gone cep) new lines' h s = late_flow d lines below node (step.Gone cep) new lines' h s.1
-late_step d lines below node (step.GaveUp num) new lines' h s = late_flow d lines below node (step.GaveUp num) new lines' h s.1
-late_step d lines below node (step.Ack cep) new lines' h s = late_flow d lines below node (step.Ack cep) new lines' h s.1
-late_step d lines below node (step.Again num) new lines' h s = late_flow d lines below node (step.Again num) new lines' h s.1
-late_step d lines below node (step.LinkLost link) new lines' h s = late_lost d lines below node link new s.0
-late_step d lines below node (step.LinkNew link) new lines' h s = absurd s.1
-late_step d lines below node (step.Timeout port) new lines' h s = absurd s.1
-late_step d lines below node (step.Message link) new lines' h s = absurd s.1
+late_step : (d : Dif) (lines : List Direction) (below : Seen) (node : ℕ) (done : ClockStep) (d' : Dif) (lines' : List Direction) → Holds d lines below → Steps d lines below node done d' lines' → Late d lines below d'.flows.journal.ends
+late_step d lines below node step.Idle d' lines' h s = late_flow d lines below node step.Idle (seen_of d') lines' h s.1
+late_step d lines below node (step.Gone cep) d' lines' h s = late_flow d lines below node (step.Gone cep) (seen_of d') lines' h s.1
+late_step d lines below node (step.GaveUp num) d' lines' h s = late_flow d lines below node (step.GaveUp num) (seen_of d') lines' h s.1
+late_step d lines below node (step.Ack cep) d' lines' h s = late_flow d lines below node (step.Ack cep) (seen_of d') lines' h s.1
+late_step d lines below node (step.Again num) d' lines' h s = late_flow d lines below node (step.Again num) (seen_of d') lines' h s.1
+late_step d lines below node (step.LinkLost link) d' lines' h s = late_lost d lines below node link d' s.0
+late_step d lines below node (step.LinkNew link) d' lines' h s = absurd s.1
+late_step d lines below node (step.Timeout port) d' lines' h s = absurd s.1
+late_step d lines below node (step.Message link) d' lines' h s = absurd s.1
 
 pub fails_late : (d : Dif) (lines : List Direction) (below : Seen) (node : ℕ) (r : Result ClockStep StepError) (d' : Dif) → Holds d lines below → StepsHere d lines below node r d' → FailsLate d lines below d'
 unfolding Late
-fails_late d lines below node (Ok done) d' h s = late_step d lines below node done (seen_of d') s.lines' h s.does
+fails_late d lines below node (Ok done) d' h s = late_step d lines below node done d' s.lines' h s.does
 fails_late d lines below node (Err why.Memory) d' h s = late_same d lines below d'.flows.journal.ends (ap (λ (z : DifSeen). z.ends) s.0)
 fails_late d lines below node (Err why.NoIpc) d' h s = absurd s
 fails_late d lines below node (Err why.NoLink) d' h s = absurd s
@@ -192,10 +191,25 @@ not_home o P Q is q = subst (λ (z : Option ℕ). AtHome z P Q) (sym is) q
 noted : (d : Dif) (lines : List Direction) (below : Seen) (failed : Bool) → Holds d lines below → Holds (record d { failed = failed }) lines below
 noted d lines below failed h = record { tied = h.tied; standing = h.standing; carrying = h.carrying; numbered = h.numbered; accounted = h.accounted; caused = h.caused; written_off = h.written_off; housed = h.housed; routed = h.routed; managed = h.managed; connected = h.connected }
 
+-- so for a step
+lost_noted : (d : Dif) (lines : List Direction) (below : Seen) (node number : ℕ) (d' : Dif) (failed : Bool) → StepsLost d lines below node number d' → StepsLost d lines below node number (record d' { failed = failed })
+lost_noted d lines below node number d' failed s = record { i = s.i; at_home = s.at_home; loses = record { between = s.loses.between; loses = s.loses.loses; offs = s.loses.offs; closes = s.loses.closes; fails = s.loses.fails } }
+
+step_noted : (d : Dif) (lines : List Direction) (below : Seen) (node : ℕ) (done : ClockStep) (d' : Dif) (lines' : List Direction) (failed : Bool) → Steps d lines below node done d' lines' → Steps d lines below node done (record d' { failed = failed }) lines'
+step_noted d lines below node (step.LinkLost link) d' lines' failed s = (lost_noted d lines below node link d' failed s.0, s.1)
+step_noted d lines below node step.Idle d' lines' failed s = s
+step_noted d lines below node (step.Gone cep) d' lines' failed s = s
+step_noted d lines below node (step.GaveUp num) d' lines' failed s = s
+step_noted d lines below node (step.Ack cep) d' lines' failed s = s
+step_noted d lines below node (step.Again num) d' lines' failed s = s
+step_noted d lines below node (step.LinkNew link) d' lines' failed s = s
+step_noted d lines below node (step.Timeout port) d' lines' failed s = s
+step_noted d lines below node (step.Message link) d' lines' failed s = s
+
 steps_by : (d : Dif) (lines : List Direction) (below : Seen) (node i : ℕ) (r : Result ClockStep StepError) (d' : Dif) (failed : Bool) → home node (config_of d.settings).members ≡ Some i → StepsHere d lines below node r d' → ManagesStep r (home_of d node) d below node d'.managements → ClockSteps d lines below node r (record d' { failed = failed }) below
 steps_by d lines below node i (Ok done) d' failed here s managed = record {
   lines' = s.lines';
-  does = at_home (home node (config_of d.settings).members) i (λ n. StepsOk d lines below node (Ok done) (record d' { failed = failed }) s.lines') _ here s.does;
+  does = at_home (home node (config_of d.settings).members) i (λ n. StepsOk d lines below node (Ok done) (record d' { failed = failed }) s.lines') _ here (step_noted d lines below node done d' s.lines' failed s.does);
   managed = managed;
   same_below = refl;
   holds = noted d' s.lines' below failed s.holds;

@@ -41,7 +41,8 @@ use Rattle.rina_dif_law.proofs.Finishing.{ended_carries, ended_stands}
 use Rattle.rina_dif_law.proofs.Journals.{IsConst, const_refl, journal_set, partner_was, ports_set, was_end}
 use Rattle.rina_dif_law.proofs.Keepers.{facility}
 use Rattle.rina_dif_law.proofs.Numbering.{ended_numbered, numbered_with}
-use Rattle.rina_dif_law.proofs.Own.{own_restated}
+use Rattle.rina_dif_law.specs.Places.{IsUp}
+use Rattle.rina_dif_law.proofs.OwnEnds.{own_freed}
 use Rattle.rina_dif_law.proofs.Receiving.{ended_accounted, restated_accounted}
 use Rattle.rina_dif_law.specs.Written.{AreWrittenOff}
 use Rattle.rina_dif_law.proofs.Warranted.{ended_written}
@@ -144,8 +145,8 @@ restated_tied g now at ends conns lines end end' t is const not = record {
       ];
 }
 
-restated_stands : (d : DifSeen) (lines : List Direction) (below : Seen) (at : ℕ) (end : End) (state : PortState) → IsStanding d lines below → At d.ends at end → state ≢ Allocated → IsStanding (record d { ends = slice_set d.ends at (with_state end state) }) lines below
-restated_stands d lines below at end state st is not =
+restated_stands : (d : DifSeen) (lines : List Direction) (below : Seen) (at : ℕ) (end : End) (state : PortState) → IsStanding d lines below → At d.ends at end → end.state ≢ Allocated → (IsUp state → ⊥) → state ≢ Allocated → IsStanding (record d { ends = slice_set d.ends at (with_state end state) }) lines below
+restated_stands d lines below at end state st is old down not =
     let end' : End = with_state end state in
     let const : IsConst end end' = record { flow = refl; role = refl; port = refl; app = refl; peer = refl; cube = refl } in
     let cloud : ℕ → Pdu → Type 0 = Cloud Everywhere d.config d.processes below in
@@ -161,7 +162,7 @@ restated_stands d lines below at end state st is not =
       items = st.items;
       journal = journal_set d.ends at end end' is const d.clock st.journal whole (λ a. absurd (not a)) (λ j x h. st.journal.met at j end x is h);
       ports = ports_set d.ends at end end' is const d.config.fac (fac_of d) (fac_of (record d { ends = slice_set d.ends at end' })) refl refl st.ports;
-      own = own_restated d.config d.clock cloud cloud d.ends d.conns lines st.own at end end' is const refl refl refl (λ death pdu has alive. (death, omega arith, has));
+      own = own_freed d.config d.clock cloud d.ends d.conns lines st.own at end is end.state refl old state down;
     }
 
 restated_carries : (d : DifSeen) (lines : List Direction) (below : Seen) (at : ℕ) (end : End) (state : PortState) → IsCarrying d lines below → At d.ends at end → IsCarrying (record d { ends = slice_set d.ends at (with_state end state) }) lines below
@@ -183,6 +184,13 @@ freed_not (Refused why) e = absurd cc
 freed_not (Failed fail) e = absurd cc
 freed_not Closed e = absurd cc
 
+freed_down : (state : PortState) → IsUp (freed_state state) → ⊥
+freed_down Pending up = up
+freed_down Allocated up = up
+freed_down (Refused why) up = up
+freed_down (Failed fail) up = up
+freed_down Closed up = up
+
 frees_end : (state : PortState) (d : DifSeen) (lines : List Direction) (at : ℕ) (end : End) (d' : DifSeen) → state ≢ Allocated → d' ≡ record d { ends = slice_set d.ends at (freed end) } → FreesEnd state d lines at end d'
 frees_end Pending d lines at end d' not is = is
 frees_end Allocated d lines at end d' not is = absurd (not refl)
@@ -203,7 +211,7 @@ withdraws d at end flows is not conns ends lines below h =
       frees = frees_end end.state (seen_of d) lines at end (seen_of d') not seen;
       holds = record {
         tied = subst (λ (xs : List End). IsTied g d.clock xs flows.conns lines) (sym ends) (subst (λ (ks : List Conn). IsTied g d.clock es ks lines) (sym conns) (restated_tied g d.clock at d.flows.journal.ends d.flows.conns lines end (freed end) h.tied is (record { flow = refl; role = refl; port = refl; app = refl; peer = refl; cube = refl }) gone));
-        standing = subst (λ (z : DifSeen). IsStanding z lines below) (sym seen) (restated_stands (seen_of d) lines below at end (freed_state end.state) h.standing is gone);
+        standing = subst (λ (z : DifSeen). IsStanding z lines below) (sym seen) (restated_stands (seen_of d) lines below at end (freed_state end.state) h.standing is not (freed_down end.state) gone);
         carrying = subst (λ (z : DifSeen). IsCarrying z lines below) (sym seen) (restated_carries (seen_of d) lines below at end (freed_state end.state) h.carrying is);
         numbered = subst (λ (z : DifSeen). IsNumbered z below) (sym seen) (restated_numbered (seen_of d) below at end h.numbered is);
         accounted = subst (λ (z : DifSeen). IsAccounted z lines below) (sym seen) (restated_accounted (seen_of d) lines below at end (freed_state end.state) h.accounted is not gone);

@@ -10,7 +10,6 @@ use Rattle.rina_channel.specs.Making.{AreMade, IsNewFlow, begun}
 use Rattle.rina_channel.specs.Names.{link_config, names_at}
 use Rattle.rina_channel.proofs.Config.{same_size}
 use Rattle.rina_channel.proofs.Making.{made_stands}
-use Rattle.rina_channel.proofs.Pairs.{two_long}
 use Rattle.rina_conn.specs.declared.form.Peer.{Peer}
 use Rattle.rina_cube.specs.declared.Cube.{Cube}
 use Rattle.rina_iface.specs.declared.ends.End.{End}
@@ -26,12 +25,12 @@ use Rattle.rina_data.specs.Deciding.{process_of}
 use Rattle.rina_dif_law.specs.Dif.{constants}
 use Rattle.rina_dif_law.specs.Ids.{Ids}
 use Rattle.rina_dif_law.specs.Lifting.{ticked}
-use Rattle.rina_dif_law.proofs.Binding.{two_at}
+use Rattle.rina_dif_law.proofs.Pairs.{two_at, two_long}
 use Rattle.rina_flows.specs.Adding.{IsNewFlow as IsNewPair, begun_now, turned}
 use Rattle.rina_flows.specs.Calls.{AreTied}
 use Rattle.rina_flows.specs.Tied.{conns_of, ids_by}
 use Rattle.rina_dif.specs.declared.connections.Connections.{Connections}
-use Rattle.rina_dif.specs.Connected.{CanManage, HaveDirections, channels_seen}
+use Rattle.rina_dif.specs.Connected.{AreConnected, CanManage, channels_seen}
 use Rattle.rina_dif.specs.Laying.{AreApart, AreLaid, BindsAll, IsLaidIn, ends_of}
 use Rattle.rina_dif.specs.declared.dif.Dif.{Dif}
 use Rattle.rina_iface.specs.declared.ask.Fixed.{Fixed}
@@ -86,8 +85,8 @@ pub record AreMadeOf (s : Settings) (manage : Cube) (clock : ℕ) (ports : List 
 none_at : {X : Type 0} (xs : List X) (i : ℕ) (x : X) → xs ≡ [] → slice_get xs i ≡ Some x → ⊥
 none_at xs i x e h = cc
 
-pub none_made : (s : Settings) (manage : Cube) (clock : ℕ) (ports : List (Port × Port)) (ps : List IpcProcess) (c : Connections) → c.manage ≡ manage → c.channels ≡ [] → c.flows.journal.ends ≡ [] → c.flows.conns ≡ [] → AreMadeOf s manage clock ports ps 0 c
-none_made s manage clock ports ps c manage_is channels ends conns = record {
+pub none_made : (s : Settings) (manage : Cube) (clock : ℕ) (ports : List (Port × Port)) (ps : List IpcProcess) (c : Connections) → c.manage ≡ manage → c.channels ≡ [] → c.flows.journal.ends ≡ [] → c.flows.conns ≡ [] → CanManage (config_of s) manage → AreMadeOf s manage clock ports ps 0 c
+none_made s manage clock ports ps c manage_is channels ends conns can = record {
   have = record {
     manage_is = manage_is;
     ports_are = ap (map (λ (x : Channel). x.port)) channels;
@@ -96,7 +95,7 @@ none_made s manage clock ports ps c manage_is channels ends conns = record {
     unused = λ k e is. absurd (none_at c.flows.journal.ends k e ends is);
   };
   named = λ k e is. absurd (none_at c.flows.journal.ends k e ends is);
-  stand = λ below links. none_connected (config_of s) clock c (map process_of ps) below channels ends conns links.clock_is (numbered_up s (ends_of ports) ps links.up);
+  stand = λ below links. none_connected (config_of s) clock c (map process_of ps) below channels ends conns links.clock_is (subst (CanManage (config_of s)) (sym manage_is) can) (numbered_up s (ends_of ports) ps links.up);
 }
 
 -- The next one
@@ -114,7 +113,7 @@ manage_there g manage = elim (eqb_tells manage.id manage.id) [
   | inr f ↦ absurd (f.1 refl)
 ]
 
-module _ (s : Settings) (manage : Cube) (clock : ℕ) (ports : List (Port × Port)) (ps : List IpcProcess) (i : ℕ) (pair : Port × Port) (c c' : Connections) (is : slice_get ports i ≡ Some pair) (made : AreMadeOf s manage clock ports ps i c) (x : Connects s ps clock pair c c') where
+module _ (s : Settings) (manage : Cube) (clock : ℕ) (ports : List (Port × Port)) (ps : List IpcProcess) (i : ℕ) (pair : Port × Port) (c c' : Connections) (is : slice_get ports i ≡ Some pair) (can : CanManage (config_of s) manage) (made : AreMadeOf s manage clock ports ps i c) (x : Connects s ps clock pair c c') where
   abbrev g : Config
   g = config_of s
 
@@ -166,7 +165,10 @@ module _ (s : Settings) (manage : Cube) (clock : ℕ) (ports : List (Port × Por
       let low = made.named k e h in
       omega (arith, src, own, at, within, low)
 
-  module _ (below : Seen) (links : AreLinks s clock ports ps below) (may : CanManage g c.manage) where
+  module _ (below : Seen) (links : AreLinks s clock ports ps below) where
+    may : CanManage g c.manage
+    may = subst (CanManage g) (sym made.have.manage_is) can
+
     abbrev m : ChannelsSeen
     m = channels_seen g clock c
 
@@ -224,9 +226,9 @@ module _ (s : Settings) (manage : Cube) (clock : ℕ) (ports : List (Port × Por
     abbrev begins : Ids → Direction
     begins ids = ticked clock (start (constants (link_config g c.manage) c.manage ids))
 
-    next_stand : HaveDirections g clock c' (map process_of ps) below
+    next_stand : AreConnected g clock c' (map process_of ps) below
     next_stand =
-        let was = made.stand below links may in
+        let was = made.stand below links in
         let has = x.adds (link_config g c.manage) clock was.lines was.tied new_pair in
         let lines' : List Direction = was.lines ++ begun_now (link_config g c.manage) clock c.manage peer ∷ begun_now (link_config g c.manage) clock c.manage (turned peer) ∷ [] in
         let ids : conns_of c'.flows.conns ≡ conns_of c.flows.conns ++ names_at (length ends) (suc (length ends)) ∷ names_at (suc (length ends)) (length ends) ∷ [] = has.ids ∙ (λ j. conns_of c.flows.conns ++ there_ids j ∷ back_ids j ∷ []) in
@@ -243,13 +245,14 @@ module _ (s : Settings) (manage : Cube) (clock : ℕ) (ports : List (Port × Por
           same_flow = ap (λ (e : End). e.flow) end ∙ sym (ap (λ (e : End). e.flow) asker);
           named = record { peer = ap (λ (e : End). e.peer) asker ∙ sym (ap (λ (e : End). e.app) end); its_peer = ap (λ (e : End). e.peer) end ∙ sym (ap (λ (e : End). e.app) asker); cube = ap (λ (e : End). e.cube) end ∙ sym (ap (λ (e : End). e.cube) asker) };
           cube = ap (λ (e : End). e.cube) asker;
-          unused = record { sent = ap (λ (e : End). e.sent) asker; got = ap (λ (e : End). e.got) asker; taken = ap (λ (e : End). e.taken) asker };
-          its_unused = record { sent = ap (λ (e : End). e.sent) end; got = ap (λ (e : End). e.got) end; taken = ap (λ (e : End). e.taken) end };
+          unused = record { state = ap (λ (e : End). e.state) asker; sent = ap (λ (e : End). e.sent) asker; got = ap (λ (e : End). e.got) asker; taken = ap (λ (e : End). e.taken) asker };
+          its_unused = record { state = ap (λ (e : End). e.state) end; sent = ap (λ (e : End). e.sent) end; got = ap (λ (e : End). e.got) end; taken = ap (λ (e : End). e.taken) end };
           fresh = fresh;
           lines_are = (λ j. was.lines ++ begins (there_ids j) ∷ begins (back_ids j) ∷ []);
           new_is = (λ j. record { config = g; manage = x.manage_is j; clock = clock; channels = x.channels_are j; ends = x.ends_are j; ids = ids j });
         } in
         record {
+          may = subst (CanManage g) (sym x.manage_is) may;
           lines = lines';
           tied = subst (λ (z : Cube). AreTied (link_config g z) clock c'.flows lines') (sym x.manage_is) has.tied;
           standing = made_stands m was.lines (map process_of ps) below x.near x.far x.asker x.end (channels_seen g clock c') lines' was.standing new_flow are;
@@ -259,7 +262,7 @@ module _ (s : Settings) (manage : Cube) (clock : ℕ) (ports : List (Port × Por
   connects_next = record {
     have = next_have;
     named = next_named;
-    stand = λ below links may. next_stand below links (subst (CanManage g) x.manage_is may);
+    stand = next_stand;
   }
 
 -- The links of a DIF that was made
@@ -274,10 +277,6 @@ are_links plan i dif s clock old new ports managements linked ps sound at are st
       flows = laid.flows;
       apart = laid.apart;
     }
-
--- the cube of management is in range
-pub manage_cube : (plan : Plan) (i : ℕ) (dif : DifPlan) → IsPlan plan → slice_get plan.difs i ≡ Some dif → IsCube dif.manage
-manage_cube plan i dif sound at = (all_at (λ (d : DifPlan). IsCube d.manage × All IsCube d.cubes) plan.difs i dif sound.times at).0
 
 -- each link has its connection
 pub is_connected : (plan : Plan) (i : ℕ) (dif dif' : DifPlan) (d : Dif) (old new : Seen) (ports slice : List (Port × Port)) → slice_get plan.difs i ≡ Some dif → slice_get plan.difs i ≡ Some dif' → slice ≡ ports → BindsAll old (map (link_fixed plan dif) dif.links) ports new → HaveConnections d.settings dif.manage slice d.processes d.connections → IsConnected d dif'.manage (links_of plan i) old new

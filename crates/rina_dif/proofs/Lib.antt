@@ -8,10 +8,12 @@ pub mod Causing
 pub mod Channels
 pub mod Claimed
 pub mod Clocked
+pub mod Closing
 pub mod Connected
 pub mod Connecting
 pub mod Cutting
 pub mod Elsewhere
+pub mod Entered
 pub mod Facing
 pub mod Failing
 pub mod Freed
@@ -27,12 +29,14 @@ pub mod Made
 pub mod Managed
 pub mod Moves
 pub mod Named
+pub mod OnLinks
 pub mod Owning
 pub mod Passed
 pub mod Pieced
 pub mod Posted
 pub mod Putting
 pub mod Refused
+pub mod Rested
 pub mod Routed
 pub mod Sent
 pub mod Settling

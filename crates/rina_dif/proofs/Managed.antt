@@ -1,5 +1,5 @@
 -- What holds of the managements of a DIF stays as it takes a step, and what follows of its next hops.
-use Rattle.std.proofs.Common.{◌≡◌, ◌∙◌, ℕ, ◌≤◌, true, false, List, [], ◌∷◌, length, map, slice_get, slice_set, Option, Some, None, option_map, Ok, refl, sym, ap, subst, arith, inl, inr, length-set}
+use Rattle.std.proofs.Common.{◌≡◌, ◌∙◌, ℕ, ◌≤◌, true, false, List, [], ◌∷◌, length, slice_get, slice_set, Option, Some, None, option_map, Ok, refl, sym, ap, subst, arith, inl, inr, length-set}
 use Rattle.std.specs.Prelude.{Contains}
 use Rattle.std.proofs.lemmas.List.{length-map, map-set}
 use Rattle.std.proofs.lemmas.Option.{get_or_from_slice_get, same_Some, slice_get-map, slice_get_within}
@@ -14,9 +14,9 @@ use Rattle.rina_data.specs.declared.settings.Member.{Member}
 use Rattle.rina_data.proofs.Finding.{there}
 use Rattle.rina_member.specs.Knowing.{AreRoutesOf, Knows}
 use Rattle.rina_member.specs.Routing.{KnowsLive}
-use Rattle.rina_member.proofs.Knowing.{enters_knowing, enters_routed, knows_later, knows_routes, loses_knowing}
+use Rattle.rina_member.proofs.Knowing.{knows_later, knows_routes, loses_knowing}
 use Rattle.rina_agent.specs.declared.agent.Agent.{Agent}
-use Rattle.rina_member.specs.Managements.{entered, entry_of, takes_item, without_flow, without_flows}
+use Rattle.rina_member.specs.Managements.{without_flow, without_flows}
 use Rattle.rina_dif.specs.declared.dif.Dif.{Dif}
 use Rattle.rina_dif.specs.Changing.{changed_at, changed_if}
 use Rattle.rina_dif.specs.Managing.{AreManagedBy, IsManaged, agents_of}
@@ -101,28 +101,6 @@ pub ended_agent : (m : Management) (ceps : List ℕ) → (without_flows m ceps).
 ended_agent m [] = refl
 ended_agent m (cep ∷ ceps) = ended_agent (without_flow m cep) ceps
 
--- A directory entry is taken
-
-entered_agent : (app : List ℕ) (address : ℕ) (m : Management) → takes_item m.agent (entry_of app address) ≡ (entered app address m).agent
-unfolding entered
-entered_agent app address m = refl
-
-pub managed_entered : (members : List Member) (plans : List LinkPlan) (now : ℕ) (ps : List IpcProcess) (ms : List Management) (app : List ℕ) (address : ℕ) → AreManagedBy members plans now ps ms → AreManagedBy members plans now ps (map (entered app address) ms)
-managed_entered members plans now ps ms app address h = record {
-  laid_out = h.laid_out;
-  aligned = length-map ms (entered app address) ∙ h.aligned;
-  each = λ k m p g is_m is_p is_g.
-      let was = its_agent members ms k m h.aligned is_m in
-      let after : slice_get (map (entered app address) ms) k ≡ Some (entered app address was.0) = slice_get-map (entered app address) ms k ∙ ap (option_map (entered app address)) was.1 in
-      let same : entered app address was.0 ≡ g = same_Some (entered app address was.0) g (sym after ∙ is_g) in
-      let agent : takes_item was.0.agent (entry_of app address) ≡ g.agent = entered_agent app address was.0 ∙ ap (λ (z : Management). z.agent) same in
-      let one = h.each k m p was.0 is_m is_p was.1 in
-      record {
-        knows = subst (λ (a : Agent). Knows members plans now m p.links a) agent (enters_knowing members plans now m p.links was.0.agent app address one.knows);
-        routes = subst (λ (a : Agent). AreRoutesOf a members p.routes) agent (enters_routed members plans now m p.links was.0.agent p.routes app address one.knows one.routes);
-      };
-}
-
 -- A link is lost
 
 -- the management of the member at a place after it lost its link of a number now, whatever became of its objects
@@ -146,7 +124,7 @@ pub loss_known : (members : List Member) (plans : List LinkPlan) (now : ℕ) (ps
 loss_known members plans now ps managements at m p g g' place link routes h is_m is_p is_g stands live loss =
     knows_routes members plans now m (slice_set p.links place (record link { live = false })) g'.agent routes (loses_managed members plans now ps managements at m p g g' place link routes h is_m is_p is_g stands live loss) loss.routes
 
-same_some : {X : Type 0} (xs : List X) (k : ℕ) (a b : X) → slice_get xs k ≡ Some a → slice_get xs k ≡ Some b → a ≡ b
+pub same_some : {X : Type 0} (xs : List X) (k : ℕ) (a b : X) → slice_get xs k ≡ Some a → slice_get xs k ≡ Some b → a ≡ b
 same_some xs k a b h f = cc
 
 -- and the others are managed as before

@@ -30,8 +30,8 @@ use Rattle.rina_data.specs.Configs.{Member, config_of, member_of}
 use Rattle.rina_data.specs.Deciding.{process_of}
 use Rattle.rina_dif_law.specs.Dif.{DifSeen, constants, IsProcess, with_process}
 use Rattle.rina_data.specs.Process.{Process, with_offs}
-use Rattle.rina_dif_law.specs.Ids.{Ids, IsFrom, flipped}
-use Rattle.rina_dif_law.specs.Incoming.{IsArrived, Settles, SettlesOff, by_joiner, cause_by, joiner_found, lines_for, missing_for}
+use Rattle.rina_dif_law.specs.Ids.{Ids, IsFrom, IsOfLink, flipped}
+use Rattle.rina_dif_law.specs.Incoming.{IsArrived, Settles, SettlesFlow, SettlesOff, by_joiner, cause_by, joiner_found, lines_for, missing_for}
 use Rattle.rina_data.specs.Queueing.{line_for}
 use Rattle.rina_dif_law.proofs.Coming.{alive_arrival}
 use Rattle.rina_flows.specs.declared.flows.Flows.{Flows}
@@ -65,6 +65,14 @@ taken_within ends conns pdu place t =
     let same = length-map conns ids_of in
     (at_place ends place t.0 c.end, omega (arith, lt, same))
 
+-- it is of no link, since no IPC process has the address 0
+of_flow : (d : Dif) (lines : List Direction) (below : Seen) (at since : ℕ) (hop : Hop) (member : Member) → Holds d lines below → IsOwn d at since hop → slice_get (seen_of d).config.members at ≡ Some member → d.clock - since ≤ hop.left → IsOfLink hop.pdu → ⊥
+of_flow d lines below at since hop member h own is time of =
+    let least = h.numbered.members.least at member is in
+    let here = own.1 member is in
+    let zero = of.dst in
+    omega (arith, least, here, zero)
+
 -- No connection takes it
 
 pub own_none : (d : Dif) (at since : ℕ) (hop : Hop) (ps : List IpcProcess) → at < length d.settings.members → IsOwn d at since hop → TakenBy d.flows.journal.ends (conns_of d.flows.conns) hop.pdu None → NotesAt hop.pdu (causes.NoConnection hop.pdu.dcep) (Ok tt) at d.processes ps → SettlesFor d at since hop (Ok (took.Off (causes.NoConnection hop.pdu.dcep))) (record d { processes = ps })
@@ -78,7 +86,7 @@ own_none d at since hop ps lt own none notes lines below h there =
       settled = λ member process q.
           let same = same_some (slice_get (seen_of d).processes at) (process_of p.0) process (shown_at d at p.0 p.1) q.is_process in
           let new : seen_of (record d { processes = ps }) ≡ with_process (seen_of d) at (with_offs (process_of p.0) (line_for hop.pdu (causes.NoConnection hop.pdu.dcep) ∷ [])) = stepped d at x.0 ps x.3 ∙ ap (with_process (seen_of d) at) x.1 in
-          (own.0, own.1 member q.is_member, refl, (λ k end ids t. none k end ids (record { is_conn = t.is_conn; allocated = t.allocated; names = t.names })), new ∙ ap (λ (z : Process). with_process (seen_of d) at (with_offs z (line_for hop.pdu (causes.NoConnection hop.pdu.dcep) ∷ []))) same, refl);
+          inl (of_flow d lines below at since hop member h own q.is_member, (own.0, own.1 member q.is_member, refl, (λ k end ids t. none k end ids (record { is_conn = t.is_conn; allocated = t.allocated; names = t.names })), new ∙ ap (λ (z : Process). with_process (seen_of d) at (with_offs z (line_for hop.pdu (causes.NoConnection hop.pdu.dcep) ∷ []))) same, refl));
       tied = h.tied;
       housed = house.housed;
       routed = house.routed;
@@ -104,20 +112,23 @@ own_told d at since hop place flows own kind taken tells same lines below h ther
     let seen : seen_of (record d { flows = flows }) ≡ seen_of d = seen_flows d flows d.flows.journal.ends same t.ids in
     record {
       lines' = t.lines';
-      settled = λ member process q. (
-        own.0,
-        own.1 member q.is_member,
-        inr (record {
-          ack = kind;
-          place = place;
-          end = taken.0;
-          ids = taken.1;
-          taker = record { is_conn = taken.2.is_conn; allocated = taken.2.allocated; names = taken.2.names };
-          line = t.told.line;
-          is_line = t.told.is_line;
-          lines_are = t.told.lines_are;
-          new_is = seen;
-        }),
+      settled = λ member process q. inl (
+        of_flow d lines below at since hop member h own q.is_member,
+        (
+          own.0,
+          own.1 member q.is_member,
+          inr (record {
+            ack = kind;
+            place = place;
+            end = taken.0;
+            ids = taken.1;
+            taker = record { is_conn = taken.2.is_conn; allocated = taken.2.allocated; names = taken.2.names };
+            line = t.told.line;
+            is_line = t.told.is_line;
+            lines_are = t.told.lines_are;
+            new_is = seen;
+          }),
+        ),
       );
       tied = t.tied;
       housed = h.housed;
@@ -129,7 +140,7 @@ own_told d at since hop place flows own kind taken tells same lines below h ther
 -- A piece
 
 -- what a receiver says of a piece
-OfReceiver : Cause → Type 0
+unfoldable pub OfReceiver : Cause → Type 0
 OfReceiver (causes.Duplicate num) = Unit {0}
 OfReceiver (causes.Behind highest) = Unit {0}
 OfReceiver (causes.NoState drf) = Unit {0}
@@ -152,7 +163,7 @@ of_joiner p j cause e =
           ] h
     ] e
 
-of_verdict : (v : Verdict) (c : Constants) (p : Piece) (line : Direction) (cause : Cause) → Some cause ≡ cause_by v c p line → OfReceiver cause
+pub of_verdict : (v : Verdict) (c : Constants) (p : Piece) (line : Direction) (cause : Cause) → Some cause ≡ cause_by v c p line → OfReceiver cause
 unfolding OfReceiver
 of_verdict Accepted c p line cause e = of_joiner p (joiner_found c line) cause e
 of_verdict Held c p line cause e = absurd cc
@@ -175,9 +186,9 @@ settles_by d lines i member process at hop (causes.StateGone last_in) d' lines' 
 settles_by d lines i member process at hop (causes.Broken missing) d' lines' time dst of a = (time, dst, a)
 settles_by d lines i member process at hop (causes.LinkDown port) d' lines' time dst of a = absurd of
 
-settles_arrived : (d : DifSeen) (lines : List Direction) (i : ℕ) (member : Member) (process : Process) (at : ℕ) (hop : Hop) (cause : Option Cause) (d' : DifSeen) (lines' : List Direction) → d.clock - at ≤ hop.left → hop.pdu.dst ≡ member.addr → IsArrived d lines i process hop.pdu cause d' lines' → Settles d lines i member process at hop (took_of cause) d' lines'
-settles_arrived d lines i member process at hop None d' lines' time dst a = (time, dst, inl a)
-settles_arrived d lines i member process at hop (Some cause) d' lines' time dst a =
+flow_arrived : (d : DifSeen) (lines : List Direction) (i : ℕ) (member : Member) (process : Process) (at : ℕ) (hop : Hop) (cause : Option Cause) (d' : DifSeen) (lines' : List Direction) → d.clock - at ≤ hop.left → hop.pdu.dst ≡ member.addr → IsArrived d lines i process hop.pdu cause d' lines' → SettlesFlow d lines i member process at hop (took_of cause) d' lines'
+flow_arrived d lines i member process at hop None d' lines' time dst a = (time, dst, inl a)
+flow_arrived d lines i member process at hop (Some cause) d' lines' time dst a =
     let c : Constants = constants d.config a.cube (flipped a.ids) in
     settles_by d lines i member process at hop cause d' lines' time dst (of_verdict (arrival_verdict c a.line.line (piece_in hop.pdu) (has_room c a.line)) c (piece_in hop.pdu) a.line cause a.cause_is) a
 
@@ -217,7 +228,7 @@ own_arrived d at since hop place cause flows ps lt own kind taken arrives lines 
       lines' = in_.lines';
       settled = λ member process q.
           let same = same_some (slice_get (seen_of d).processes at) (process_of p.0) process (shown_at d at p.0 p.1) q.is_process in
-          settles_arrived (seen_of d) lines at member process since hop cause (seen_of d') in_.lines' own.0 (own.1 member q.is_member) (subst (λ (z : Process). IsArrived (seen_of d) lines at z hop.pdu cause (seen_of d') in_.lines') same whole);
+          inl (of_flow d lines below at since hop member h own q.is_member, flow_arrived (seen_of d) lines at member process since hop cause (seen_of d') in_.lines' own.0 (own.1 member q.is_member) (subst (λ (z : Process). IsArrived (seen_of d) lines at z hop.pdu cause (seen_of d') in_.lines') same whole));
       tied = in_.tied;
       housed = house.housed;
       routed = house.routed;

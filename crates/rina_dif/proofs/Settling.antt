@@ -35,10 +35,11 @@ use Rattle.rina_flows.specs.Delivering.{ArrivesIn}
 use Rattle.rina_dif.specs.declared.dif.Dif.{Dif}
 use Rattle.rina_dif.specs.Holding.{Holds, Stands}
 use Rattle.rina_dif.specs.Shown.{seen_of}
-use Rattle.rina_dif.specs.Taking.{ArrivesTo, Comes, DecidesAt, IsNoted, NotesAt, RoutesAt, SettlesFor}
+use Rattle.rina_dif.specs.Taking.{ArrivesOnLink, ArrivesTo, Comes, DecidesAt, IsForLink, IsNoted, NotesAt, RoutesAt, SettlesFor}
 use Rattle.rina_dif.proofs.Keeping.{AreHome, IsSameHouse, home_set, house_is, same_house, same_places}
 use Rattle.rina_dif.proofs.Leaves.{has_process, shown_at, stepped}
 use Rattle.rina_channel.specs.Changes.{LeavesLinks}
+use Rattle.rina_channel.specs.Ledgers.{unnamed_from}
 use Rattle.rina_dif.specs.Connected.{AreConnected}
 use Rattle.rina_dif.proofs.Connected.{decides_leave, kept_by, no_hop}
 
@@ -71,6 +72,13 @@ arrives_one now place pdu at flows flows' r ps x ledger lt read arrives p is =
     let here : slice_get ps at ≡ Some x = slice_get_read ps (length ps) at x refl lt read in
     let same : x ≡ p = same_some (slice_get ps at) x p here is in
     (ledger, subst (λ (z : IpcProcess). ArrivesIn now place pdu flows z.ledger r flows' ledger) same arrives, ap (λ (z : IpcProcess). slice_set ps at (record z { ledger = ledger })) same)
+
+-- and at a management connection
+pub arrives_one_on_link : (now place : ℕ) (pdu : Pdu) (at : ℕ) (flows flows' : Flows) (cause : Option Cause) (ps : List IpcProcess) (x : IpcProcess) (ledger ledger' : List Off) → ledger' ≡ unnamed_from (length x.ledger) ledger → at < length ps → x ≡ get_or ps at x → ArrivesIn now place pdu flows x.ledger (Ok cause) flows' ledger → ArrivesOnLink now place pdu at flows ps (Ok cause) flows' (slice_set ps at (record x { ledger = ledger' }))
+arrives_one_on_link now place pdu at flows flows' cause ps x ledger ledger' are lt read arrives p is =
+    let here : slice_get ps at ≡ Some x = slice_get_read ps (length ps) at x refl lt read in
+    let same : x ≡ p = same_some (slice_get ps at) x p here is in
+    (ledger, subst (λ (z : IpcProcess). ArrivesIn now place pdu flows z.ledger (Ok cause) flows' ledger) same arrives, ap (λ (zs : List Off). slice_set ps at (record x { ledger = zs })) are ∙ ap (λ (z : IpcProcess). slice_set ps at (record z { ledger = unnamed_from (length z.ledger) ledger })) same)
 
 -- The queues keep their places
 
@@ -165,10 +173,10 @@ decided d addr at since hop s end ps lt is_addr settles decides lines below h th
       connected = λ down. kept_by (config_of d.settings) d.clock d.connections (seen_of d).processes (map process_of ps) down (λ may. subst (λ (z : DifSeen). LeavesLinks (seen_of d).processes z.processes) (sym (stepped d at x.0 ps x.3)) (decides_leave p.0.queues.cap d.clock addr (seen_of d).processes at (process_of p.0) since hop (Ok s) (process_of x.0) (shown_at d at p.0 p.1) (no_hop (config_of d.settings) d.settings.members d.laid.links d.processes at p.0 refl h.standing.aligned may.zero h.routed p.1) x.1));
     }
 
-pub decided_relayed : (d : Dif) (addr at since : ℕ) (hop : Hop) (ps : List IpcProcess) → at < length d.settings.members → ((member : Member) → slice_get (seen_of d).config.members at ≡ Some member → addr ≡ member.addr) → DecidesAt d.clock addr since hop (Ok decision.Relayed) at d.processes ps → SettlesFor d at since hop (Ok took.Relayed) (record d { processes = ps })
-decided_relayed d addr at since hop ps lt is_addr decides =
-    decided d addr at since hop decision.Relayed took.Relayed ps lt is_addr (λ p p' lines member s. relayed_settles (seen_of d) lines at member p p' since hop s) decides
+pub decided_relayed : (d : Dif) (addr at since : ℕ) (hop : Hop) (ps : List IpcProcess) → at < length d.settings.members → (IsForLink d since hop → ⊥) → ((member : Member) → slice_get (seen_of d).config.members at ≡ Some member → addr ≡ member.addr) → DecidesAt d.clock addr since hop (Ok decision.Relayed) at d.processes ps → SettlesFor d at since hop (Ok took.Relayed) (record d { processes = ps })
+decided_relayed d addr at since hop ps lt flow is_addr decides =
+    decided d addr at since hop decision.Relayed took.Relayed ps lt is_addr (λ p p' lines member s. relayed_settles (seen_of d) lines at member p p' since hop (λ time of. flow (time, of)) s) decides
 
-pub decided_off : (d : Dif) (addr at since : ℕ) (hop : Hop) (cause : Cause) (ps : List IpcProcess) → at < length d.settings.members → ((member : Member) → slice_get (seen_of d).config.members at ≡ Some member → addr ≡ member.addr) → DecidesAt d.clock addr since hop (Ok (decision.Off cause)) at d.processes ps → SettlesFor d at since hop (Ok (took.Off cause)) (record d { processes = ps })
-decided_off d addr at since hop cause ps lt is_addr decides =
-    decided d addr at since hop (decision.Off cause) (took.Off cause) ps lt is_addr (λ p p' lines member s. off_settles (seen_of d) lines at member p p' since hop cause s) decides
+pub decided_off : (d : Dif) (addr at since : ℕ) (hop : Hop) (cause : Cause) (ps : List IpcProcess) → at < length d.settings.members → (IsForLink d since hop → ⊥) → ((member : Member) → slice_get (seen_of d).config.members at ≡ Some member → addr ≡ member.addr) → DecidesAt d.clock addr since hop (Ok (decision.Off cause)) at d.processes ps → SettlesFor d at since hop (Ok (took.Off cause)) (record d { processes = ps })
+decided_off d addr at since hop cause ps lt flow is_addr decides =
+    decided d addr at since hop (decision.Off cause) (took.Off cause) ps lt is_addr (λ p p' lines member s. off_settles (seen_of d) lines at member p p' since hop cause (λ time of. flow (time, of)) s) decides

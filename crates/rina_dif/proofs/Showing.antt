@@ -2,30 +2,37 @@
 use Rattle.std.proofs.Common.{◌≡◌, ◌∙◌, ℕ, ◌+◌, ◌<◌, zero, suc, add-one, arith, take, List, [], ◌∷◌, ◌++◌, length, map, slice_get, Option, Some, None, Result, Ok, Err, refl, sym, ap, subst}
 use Rattle.std.specs.List.{cons_option, filter_map, zip}
 use Rattle.std.proofs.lemmas.Grind.{common_steps}
-use Rattle.std.proofs.lemmas.Option.{same_Some}
+use Rattle.std.proofs.lemmas.List.{length-map}
+use Rattle.std.proofs.lemmas.Option.{same_Some, slice_get_within}
 use Rattle.rina_base.specs.declared.memory.Memory.{Memory}
 use Rattle.rina_base.specs.declared.number.Num.{Num}
 use Rattle.rina_base.specs.declared.number.Port.{Port}
 use Rattle.rina_conn.specs.declared.conn.Conn.{Conn}
 use Rattle.rina_iface.specs.declared.ask.Fixed.{Fixed}
 use Rattle.rina_iface.specs.declared.ends.End.{End}
+use Rattle.rina_iface.specs.declared.ask.Registered.{Registered}
+use Rattle.rina_iface.specs.declared.error.AllocateError.{AllocateError}
+use Rattle.rina_iface.specs.declared.error.AllocateError.TheVariants.{Memory as MemoryWanted}
 use Rattle.rina_iface.specs.Seen.{Seen}
 use Rattle.rina_law.specs.Direction.{Direction}
 use Rattle.rina_iface.specs.declared.state.PortState.{PortState}
 use Rattle.rina_iface.specs.declared.state.PortState.TheVariants.{Allocated}
+use Rattle.rina_data.specs.Configs.{member_of}
 use Rattle.rina_data.proofs.Finding.{there}
 use Rattle.rina_member.specs.declared.management.Management.{Management}
 use Rattle.rina_member.specs.Objects.{flow_name, removed}
-use Rattle.rina_member.specs.Managements.{entered, with_objects, with_flow, without_flow, without_flows}
+use Rattle.rina_member.specs.Managements.{with_objects, without_flow, without_flows}
 use Rattle.rina_dif.specs.declared.dif.Dif.{Dif}
-use Rattle.rina_dif.specs.Binding.{BindsAt}
-use Rattle.rina_dif.specs.Changing.{EndsFlow, FreesManaged, ManagesFree, changed_at, cep_here, with_flow_at, without_flow_if}
+use Rattle.rina_dif.specs.Binding.{BindsAt, BindsTo, MayBind}
+use Rattle.rina_dif.specs.Changing.{EndsFlow, FreesManaged, ManagesFree, MayHaveEntered, MayHoldFar, changed_at, cep_here, without_flow_if}
 use Rattle.rina_dif.specs.Elsewhere.{home_of}
 use Rattle.rina_dif.specs.Freeing.{FreesHere}
 use Rattle.rina_dif.specs.Holding.{Holds}
 use Rattle.rina_dif.specs.Managing.{AreManagedBy, agents_of}
+use Rattle.rina_dif.specs.Shown.{seen_of}
 use Rattle.rina_dif.specs.Timely.{GivesUpAs}
-use Rattle.rina_dif.proofs.Managed.{changed_agents, managed_entered, managed_shown}
+use Rattle.rina_dif.proofs.Entered.{managed_entered}
+use Rattle.rina_dif.proofs.Managed.{changed_agents, managed_shown}
 
 -- with other managements
 abbrev pub managing : Dif → List Management → Dif
@@ -52,20 +59,32 @@ frees_shown d d' lines below at (Err e) ms same f = record { same = f.same; hold
 pub gives_up_shown : (d d' : Dif) (lines : List Direction) (below : Seen) (at : ℕ) (num : Num) (ms : List Management) → agents_of ms ≡ agents_of d'.managements → GivesUpAs d lines below at (Ok (Some num)) d' → GivesUpAs d lines below at (Ok (Some num)) (managing d' ms)
 gives_up_shown d d' lines below at num ms same g = record { given_up = g.given_up; cep = g.cep; holds = holds_shown d' lines below ms same g.holds }
 
--- a flow is bound
-pub binds_shown_all : (d d' : Dif) (lines : List Direction) (below : Seen) (fixed : Fixed) (ports : Port × Port) (a b cep_a cep_b address : ℕ) (app : List ℕ) (ms : List Management) → ms ≡ with_flow_at b cep_b (with_flow_at a cep_a (map (entered app address) d'.managements)) → BindsAt d lines below fixed ports d' → BindsAt d lines below fixed ports (managing d' ms)
-binds_shown_all d d' lines below fixed ports a b cep_a cep_b address app ms is f =
-    let all : List Management = map (entered app address) d'.managements in
-    let one : List Management = with_flow_at a cep_a all in
-    let same : agents_of ms ≡ agents_of all = ap agents_of is ∙ changed_agents b (λ m. with_flow m cep_b) one (λ m. refl) ∙ changed_agents a (λ m. with_flow m cep_a) all (λ m. refl) in
-    let entered_all = managed_entered d'.settings.members d'.laid.links d'.clock d'.processes d'.managements app address f.holds.managed in
-    record {
-      lines' = f.lines';
-      bound = f.bound;
-      a_port = f.a_port;
-      b_port = f.b_port;
-      holds = holds_managed d' f.lines' below ms (managed_shown d'.settings.members d'.laid.links d'.clock d'.processes all ms same entered_all) f.holds;
-    }
+-- a flow is bound: each member took the entry of its far application
+pub binds_shown_all : (d d' : Dif) (lines : List Direction) (below : Seen) (fixed : Fixed) (ports : Port × Port) (app : List ℕ) (address : ℕ) (ms : List Management) → MayHaveEntered app address d'.managements ms → BindsAt d lines below fixed ports d' → BindsAt d lines below fixed ports (managing d' ms)
+binds_shown_all d d' lines below fixed ports app address ms may f = record {
+  lines' = f.lines';
+  bound = f.bound;
+  a_port = f.a_port;
+  b_port = f.b_port;
+  holds = holds_managed d' f.lines' below ms (managed_entered d'.settings.members d'.laid.links d'.clock d'.processes d'.managements ms app address f.holds.managed may) f.holds;
+}
+
+-- the managements were changed first, and then the flow was added
+pub binds_managed : (d d1 d2 : Dif) (lines : List Direction) (below : Seen) (fixed : Fixed) (ports : Port × Port) (app : List ℕ) (address : ℕ) (names : List Registered) → d1 ≡ managing d d1.managements → d2 ≡ record d1 { flows = d2.flows; names = names } → MayHaveEntered app address d.managements d1.managements → BindsAt d lines below fixed ports (record d { flows = d2.flows; names = names }) → BindsAt d lines below fixed ports d2
+binds_managed d d1 d2 lines below fixed ports app address names whole rest may f =
+    let is : d2 ≡ managing (record d { flows = d2.flows; names = names }) d1.managements = rest ∙ ap (λ (z : Dif). record z { flows = d2.flows; names = names }) whole in
+    subst (BindsAt d lines below fixed ports) (sym is) (binds_shown_all d (record d { flows = d2.flows; names = names }) lines below fixed ports app address d1.managements may f)
+
+-- an allocation failed, and the managements alone may have changed
+pub binds_failed : (d d1 d' : Dif) (fixed : Fixed) (r : Result (Port × Port) AllocateError) (e : AllocateError) → MayBind d fixed → r ≡ Err e → e ≡ MemoryWanted → d1 ≡ managing d d1.managements → MayHoldFar d fixed d1.managements → d' ≡ d1 → (lines : List Direction) (below : Seen) → Holds d lines below → BindsTo d lines below fixed r d'
+binds_failed d d1 d' fixed r e may is why whole far same lines below h =
+    let members = d.settings.members in
+    let within = slice_get_within (map member_of members) may.at_b.place may.of_b may.at_b.stands in
+    let member = there members may.at_b.place (omega (arith, within, length-map members member_of)) in
+    let took = far may.at_b.place member.0 may.at_b.at_home member.1 in
+    let holds : Holds (managing d d1.managements) lines below = holds_managed d lines below d1.managements (managed_entered members d.laid.links d.clock d.processes d.managements d1.managements fixed.b_app member.0.addr h.managed took) h in
+    let all : d' ≡ managing d d1.managements = same ∙ whole in
+    subst (λ (v : Result (Port × Port) AllocateError). BindsTo d lines below fixed v d') (sym (is ∙ ap (λ (z : AllocateError). Err z) why)) (ap seen_of all, subst (λ (z : Dif). Holds z lines below) (sym all) holds)
 
 -- Two lists side by side
 

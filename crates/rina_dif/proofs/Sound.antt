@@ -1,10 +1,11 @@
 -- The settings of a DIF whose plan is sound.
-use Rattle.std.proofs.Common.{◌≡◌, ◌∙◌, ℕ, zero, suc, ◌+◌, ◌<◌, ◌≤◌, ◌*◌, ◌^◌, ◌-◌, ◌==◌, ◌&&◌, ◌||◌, not, All, Bool, true, false, List, [], ◌∷◌, ◌++◌, length, map, nat_lt, slice_get, option_map, Some, refl, sym, ap, subst, arith, inl, inr}
+use Rattle.std.proofs.Common.{◌≡◌, ◌∙◌, ℕ, zero, suc, ◌+◌, ◌<◌, ◌≤◌, ◌*◌, ◌^◌, ◌-◌, ◌==◌, ◌&&◌, ◌||◌, not, All, Bool, true, false, cond, List, [], ◌∷◌, ◌++◌, length, map, nat_lt, slice_get, option_map, Some, None, refl, sym, ap, subst, arith, inl, inr}
 use Rattle.std.specs.List.{list_any}
 use Rattle.std.proofs.lemmas.Bool.{cases_lt, false≢true, leb-false, ltb-false}
 use Rattle.std.proofs.lemmas.Bool.Decides.{eqb_tells}
 use Rattle.std.proofs.lemmas.Option.{slice_get-map}
 use Rattle.rina_base.specs.declared.pdu.PduKind.TheVariants.{Piece, Ack}
+use Rattle.rina_cube.specs.declared.Cube.{Cube}
 use Rattle.rina_cube.specs.Cubes.{IsCube}
 use Rattle.rina_iface.proofs.Changed.{all_at}
 use Rattle.rina_pci.specs.Spelling.{IsWidth, pci_size}
@@ -13,16 +14,18 @@ use Rattle.rina_plan.specs.declared.dif.LinkPlan.{LinkPlan}
 use Rattle.rina_plan.specs.declared.dif.MemberPlan.{MemberPlan}
 use Rattle.rina_plan.specs.declared.dif.WireEnds.{WireEnds}
 use Rattle.rina_plan.specs.Difs.{has_twice, is_misaddressed, has_unfit_pdu, is_misplaced, greatest_of}
+use Rattle.rina_plan.specs.Kept.{HasMembers}
 use Rattle.rina_plan.specs.Links.{has_unfit_link, is_unfit_link, is_member, is_there, rank_of}
 use Rattle.rina_stack.specs.declared.plan.Plan.{Plan}
-use Rattle.rina_stack.specs.Ranges.{IsRangedDif}
+use Rattle.rina_stack.specs.Ranges.{IsFlowCube, IsRangedDif}
 use Rattle.rina_stack.specs.Unbroken.{AreDistinct}
 use Rattle.rina_stack.specs.Plan.{IsPlan, wire_ends}
 use Rattle.rina_dif_law.specs.Cloud.{IsMine}
-use Rattle.rina_data.specs.Configs.{Member, config_of, member_of as config_member}
+use Rattle.rina_data.specs.Configs.{Member, config_of, cube_by, member_of as config_member}
 use Rattle.rina_dif_law.specs.Numbered.{AreMembers}
 use Rattle.rina_dif_law.specs.Standing.{IsConfig}
 use Rattle.rina_data.specs.declared.settings.Member.{Member as Kept}
+use Rattle.rina_dif.specs.Connected.{CanManage}
 use Rattle.rina_dif.specs.Planned.{ipc_name, member_of, members_from, node_name, processes_before, settings_by}
 
 -- Tests
@@ -204,6 +207,10 @@ are_members plan i d sound at =
           let in_b = all_at (λ (m : MemberPlan). m.node < length plan.nodes) d.members k q.0 ranged.members q.1 in
           let node = one_named plan d p.0.node q.0.node sound.nodes_differ in_a in_b (p.4 ∙ same ∙ sym q.4) in
           once (map (λ (m : MemberPlan). m.node) d.members) j k p.0.node placed.nodes (slice_get-map _ d.members j ∙ ap (option_map (λ (m : MemberPlan). m.node)) p.1) (slice_get-map _ d.members k ∙ ap (option_map (λ (m : MemberPlan). m.node)) q.1 ∙ ap (λ (z : ℕ). Some z) (sym node));
+      least = λ j a x.
+          let p = planned plan d n d.members j a x in
+          let least = (all_at (λ (m : MemberPlan). (1 ≤ m.addr) × (m.addr < 2 ^ (8 * d.widths.addr))) d.members j p.0 (all_at HasMembers plan.difs i d sound.places at).fit p.1).0 in
+          subst (λ (z : ℕ). 1 ≤ z) p.2 least;
       fit = λ j a x.
           let p = planned plan d n d.members j a x in
           subst (λ (z : ℕ). z < 2 ^ (8 * d.widths.addr)) p.2 (most_fits d.widths.addr p.0.addr widths.addr (addressed d.widths.addr p.0 (any_false (is_misaddressed d.widths.addr) d.members j p.0 placed.fit p.1)));
@@ -225,3 +232,38 @@ is_config plan i d sound at =
     let times : IsCube d.manage × All IsCube d.cubes = all_at (λ (z : DifPlan). IsCube z.manage × All IsCube z.cubes) plan.difs i d sound.times at in
     let cubes = times.1 in
     record { widths = widths; cubes = λ k cube is. all_at IsCube d.cubes k cube cubes is; long = most_fits d.widths.len d.pdu widths.len fit.0; piece = fit.1; ack = fit.2 }
+
+-- its management connections
+
+no_cube : (cubes : List Cube) → ((k : ℕ) (c : Cube) → slice_get cubes k ≡ Some c → 1 ≤ c.id) → cube_by 0 cubes ≡ None
+no_cube [] least = refl
+no_cube (c ∷ cs) least = elim (eqb_tells c.id 0) [
+  | inl t ↦ (let low = least 0 c refl in let zero = t.1 in absurd (omega (arith, low, zero)))
+  | inr u ↦ ap (λ (b : Bool). cond b (Some c) (cube_by 0 cs)) u.0 ∙ no_cube cs (λ k x is. least (suc k) x is)
+]
+
+pub can_manage : (plan : Plan) (i : ℕ) (d : DifPlan) → IsPlan plan → slice_get plan.difs i ≡ Some d → CanManage (config_of (settings_by plan i d)) d.manage
+can_manage plan i d sound at =
+    let ranged : IsRangedDif (length plan.nodes) (length plan.wires) (length plan.difs) d = all_at (IsRangedDif (length plan.nodes) (length plan.wires) (length plan.difs)) plan.difs i d sound.difs at in
+    let times : IsCube d.manage × All IsCube d.cubes = all_at (λ (z : DifPlan). IsCube z.manage × All IsCube z.cubes) plan.difs i d sound.times at in
+    let places : HasMembers d = all_at HasMembers plan.difs i d sound.places at in
+    let only = no_cube d.cubes (λ k c is. (all_at IsFlowCube d.cubes k c ranged.cubes is).id) in
+    let most = ranged.pdu in
+    record {
+      managed = record {
+        config = is_config plan i d sound at;
+        cube = times.0;
+        kind = ranged.manage.kind;
+        id = ranged.manage.id;
+        only = only;
+        pdu = omega (arith, most);
+      };
+      zero = record {
+        members = λ j a is zero.
+            let p = planned plan d (processes_before plan.difs i) d.members j a is in
+            let least = (all_at (λ (m : MemberPlan). (1 ≤ m.addr) × (m.addr < 2 ^ (8 * d.widths.addr))) d.members j p.0 places.fit p.1).0 in
+            let same = p.2 in
+            omega (arith, least, same, zero);
+        cubes = only;
+      };
+    }

@@ -40,7 +40,7 @@ use Rattle.rina_dif.specs.declared.dif.Dif.{Dif}
 use Rattle.rina_dif.specs.Holding.{Holds}
 use Rattle.rina_dif.specs.Shown.{seen_of}
 use Rattle.rina_dif.specs.Steps.{AtHome}
-use Rattle.rina_dif.specs.Taking.{HasSettled, InsAt, IsThere, TakesHome, TakesIn}
+use Rattle.rina_dif.specs.Taking.{HasTaken, InsAt, IsOldest, IsThere, TakesHome, TakesIn}
 use Rattle.rina_dif.proofs.Causing.{ins_caused}
 use Rattle.rina_dif.proofs.Leaves.{shown_at}
 use Rattle.rina_dif.proofs.Connected.{taking_connected}
@@ -92,6 +92,10 @@ comes_there d lines below at n p link tick bytes hop kept lt h is is_link lent o
     let its : IsThere (seen_of d) below lent.entry.tick hop = record { fit = a.fit.fit; past = a.past; older = a.older; later = a.later; on_way = a.on_way } in
     subst (λ (t : ℕ). IsThere (seen_of d) below t hop) (sym lent.its_tick) its
 
+-- and is the oldest that waits at the port of the link
+pub oldest_there : (d : Dif) (below : Seen) (port : Port) (tick : ℕ) (bytes : List ℕ) (hop : Hop) → IsLent below port tick bytes → Some hop ≡ opened d.settings.widths bytes → IsOldest (config_of d.settings) below port tick hop
+oldest_there d below port tick bytes hop lent opened_ = record { entry = lent.entry; oldest = lent.oldest; tick = sym lent.its_tick; opens = ap (opened d.settings.widths) (sym lent.its_bytes) ∙ sym opened_ }
+
 pub waits_there : (below : Seen) (port : Port) (tick : ℕ) (bytes : List ℕ) → IsLent below port tick bytes → IsSome (unpassed below port)
 waits_there below port tick bytes lent = subst (λ (o : Option Entry). IsSome o) (sym lent.oldest) refl
 
@@ -107,7 +111,7 @@ pub took_none : (d : Dif) (lines : List Direction) (below : Seen) (at n : ℕ) (
 took_none d lines below at n d' e r is err same =
     subst (λ (v : Result InStep StepError). TakesIn d lines below at n v d' below) (sym (err ∙ ap (λ (z : StepError). Err z) is)) (record { lines' = lines; does = (same.0, refl, refl); holds = same.1 })
 
-pub took_it : (d : Dif) (lines : List Direction) (below : Seen) (at n : ℕ) (p : IpcProcess) (link : Link) (tick : ℕ) (bytes : List ℕ) (hop : Hop) (key : Key) (end : Took) (d' : Dif) (below' : Seen) → AreKept below → AreKept below' → at < length d.settings.members → Holds d lines below → slice_get d.processes at ≡ Some p → link_by n p.links ≡ Some link → IsLent below link.port tick bytes → Some hop ≡ opened d.settings.widths bytes → key ≡ key_of hop.pdu → HasSettled d lines at tick hop end d' → IsPassed below link.port below' → TakesIn d lines below at n (Ok (in_.Took key end)) d' below'
+pub took_it : (d : Dif) (lines : List Direction) (below : Seen) (at n : ℕ) (p : IpcProcess) (link : Link) (tick : ℕ) (bytes : List ℕ) (hop : Hop) (key : Key) (end : Took) (d' : Dif) (below' : Seen) → AreKept below → AreKept below' → at < length d.settings.members → (h : Holds d lines below) → slice_get d.processes at ≡ Some p → link_by n p.links ≡ Some link → IsLent below link.port tick bytes → Some hop ≡ opened d.settings.widths bytes → key ≡ key_of hop.pdu → HasTaken d lines h.connected.lines below at tick link.port hop end d' → IsPassed below link.port below' → TakesIn d lines below at n (Ok (in_.Took key end)) d' below'
 took_it d lines below at n p link tick bytes hop key end d' below' kept kept' lt h is is_link lent opened_ key_is s passed =
     let here = is_here d at p lt is in
     let does : Ins (seen_of d) lines below at n (Ok (in_.Took key end)) (seen_of d') s.lines' below' = record {
@@ -138,7 +142,7 @@ took_it d lines below at n p link tick bytes hop key end d' below' kept kept' lt
         housed = s.housed;
         routed = s.routed;
         managed = s.managed;
-        connected = taking_connected (config_of d'.settings) d'.clock d'.connections (seen_of d').processes below link.port below' kept kept' passed (s.connected below h.connected);
+        connected = taking_connected (config_of d'.settings) d'.clock d'.connections (seen_of d').processes below link.port below' kept kept' passed s.connected;
       };
     }
 

@@ -1,5 +1,5 @@
 -- Whatever a call of a DIF writes off, it may write off.
-use Rattle.std.proofs.Common.{◌≡◌, ℕ, List, [], Option, Some, None, Result, Ok, Err, refl, sym, subst, arith, inl, inr}
+use Rattle.std.proofs.Common.{◌≡◌, ◌∙◌, ℕ, List, [], slice_get, slice_set, set-set, Option, Some, None, Result, Ok, Err, refl, sym, ap, subst, arith, inl, inr}
 use Rattle.rina_account.specs.declared.ledger.Off.{Off}
 use Rattle.rina_base.specs.declared.cause.Cause.{Cause}
 use Rattle.rina_base.specs.declared.cause.Cause.TheVariants as causes
@@ -21,9 +21,10 @@ use Rattle.rina_data.specs.declared.step.InStep.{InStep}
 use Rattle.rina_data.specs.declared.step.OutStep.{OutStep}
 use Rattle.rina_data.specs.declared.step.StepError.{StepError}
 use Rattle.rina_data.specs.declared.step.StepError.TheVariants.{Memory, NoIpc, NoLink}
-use Rattle.rina_data.specs.Configs.{config_of}
-use Rattle.rina_data.specs.Process.{Process}
-use Rattle.rina_dif_law.specs.Dif.{DifSeen}
+use Rattle.rina_data.specs.Configs.{Config, config_of}
+use Rattle.rina_data.specs.Losing.{without_link}
+use Rattle.rina_data.specs.Process.{Process, with_offs}
+use Rattle.rina_dif_law.specs.Dif.{DifSeen, with_process}
 use Rattle.rina_dif_law.specs.Incoming.{Ins}
 use Rattle.rina_dif_law.specs.Numbered.{IsNumbered}
 use Rattle.rina_dif_law.specs.Outgoing.{Outs}
@@ -31,9 +32,15 @@ use Rattle.rina_dif_law.specs.Sending.{home}
 use Rattle.rina_dif_law.specs.Standing.{IsStanding}
 use Rattle.rina_dif_law.specs.WriteOffLaws.{MayFailOff, Nothing}
 use Rattle.rina_dif_law.specs.WriteOffs.{IsOverNow, MayBy, MayWriteOff, NoPort, RefusesOver, Writes}
-use Rattle.rina_dif_law.proofs.Linkless.{lost_numbered, lost_stands}
+use Rattle.rina_iface.proofs.Changed.{slice_get-set_same}
+use Rattle.rina_law.specs.Lists.{In}
+use Rattle.rina_dif_law.proofs.Accounting.{lost_accounted}
+use Rattle.rina_dif_law.proofs.Linkless.{lost_carries, lost_numbered, lost_stands}
 use Rattle.rina_dif_law.proofs.Warranted.{acknowledged_noted, ended_noted, failed_noted, forgotten_noted, ins_noted, lost_noted, offers_noted, outs_noted, passed_noted, resent_noted}
-use Rattle.rina_dif_law.proofs.Writing.{IsNoted, noted_as, noted_on, quiet_noted, same_noted, writes}
+use Rattle.rina_dif_law.proofs.Writing.{IsNoted, noted_as, noted_on, ports_same, process_noted, quiet_noted, same_noted, writes}
+use Rattle.rina_channel.specs.FlowLaws.{FlowsStand, HasNoZero}
+use Rattle.rina_dif.proofs.Closing.{closes_held, closes_lines, noted_stand}
+use Rattle.rina_dif.proofs.Cutting.{after_loss}
 use Rattle.rina_dif.specs.declared.dif.Dif.{Dif}
 use Rattle.rina_dif.specs.Clocking.{ClockSteps, ClockStepsAt, Steps, StepsFlow, StepsLost, StepsOk}
 use Rattle.rina_dif.specs.Facade.{PassesAt}
@@ -92,22 +99,38 @@ by_row d lines below node new n = noted_as (MayWriteOff (seen_of d) lines below 
   member = m.member;
   process = m.process;
   is_process = m.is_process;
-  may = may_port (seen_of d) lines below (IsOverNow below) m.member.addr m.process off.key off.cause m.may;
+  may = elim (m.may) [
+    | inl may ↦ inl (may_port (seen_of d) lines below (IsOverNow below) m.member.addr m.process off.key off.cause may)
+    | inr link ↦ inr link
+  ];
 })) n
 
-lost_with_noted : (d : Dif) (lines : List Direction) (below : Seen) (node number : ℕ) (new : DifSeen) → Holds d lines below → StepsLost d lines below node number new → IsNoted (MayByClock d lines below node) (seen_of d) new
-lost_with_noted d lines below node number new h s =
+lost_with_noted : (d : Dif) (lines : List Direction) (below : Seen) (node number : ℕ) (d' : Dif) → Holds d lines below → StepsLost d lines below node number d' → IsNoted (MayByClock d lines below node) (seen_of d) (seen_of d')
+lost_with_noted d lines below node number d' h s =
     let w = s.loses in
     let gone = w.loses.loses in
     let routes = w.loses.routes in
     let holds : ℕ → Off → Type 0 = MayByClock d lines below node in
     let port : Port = gone.link.port in
+    let process : Process = without_link gone.place gone.link routes gone.process in
+    let lost : DifSeen = after_loss d lines below s.i node number d' w in
     let st = lost_stands (seen_of d) lines below s.i number routes w.between h.standing gone in
     let numbered = lost_numbered (seen_of d) below s.i number routes w.between h.numbered gone in
     let first : IsNoted holds (seen_of d) w.between = noted_as (MayWriteOff (seen_of d) lines below (IsOverNow below)) holds (seen_of d) w.between (λ i off m. inl m) (lost_noted (seen_of d) lines below s.i number routes w.between h.standing gone) in
-    noted_on holds (seen_of d) w.between new first (elim w.fails [
-      | inl f ↦ noted_as (MayFailOff w.between lines below node port) holds w.between new (λ i off m. inr (record { place = s.i; number = number; between = w.between; loses = w.loses; may = m })) (failed_noted w.between lines below node port new st numbered f.1)
-      | inr k ↦ same_noted holds w.between new k.1
+    let there : slice_get w.between.processes s.i ≡ Some process = ap (λ (z : DifSeen). slice_get z.processes s.i) gone.new_is ∙ slice_get-set_same (seen_of d).processes s.i gone.process process gone.is_process in
+    let written : Process = with_offs process w.offs in
+    let new : with_process w.between s.i written ≡ lost = ap (λ (z : DifSeen). with_process z s.i written) gone.new_is ∙ ap (λ (ps : List Process). record (seen_of d) { processes = ps }) (set-set (seen_of d).processes s.i process written) in
+    let links = h.connected in
+    let closes = w.closes links in
+    let may : (off : Off) → In off w.offs → holds s.i off = λ off one. (
+    let x = closes_held (config_of d.settings) d.clock d.connections d'.connections (seen_of d).processes below links port w.offs closes off one in
+    inr (inl (record { number = number; between = w.between; loses = w.loses; place = x.place; is_open = x.is_open; links = links; held = x.held }))) in
+    let closed : IsNoted holds w.between lost = process_noted holds w.between lost s.i process written w.offs (sym new) there refl may (ports_same process.links process.links refl) in
+    let mid : FlowsStand w.between lines below = record { zero = subst (λ (g : Config). HasNoZero g) (ap (λ (z : DifSeen). z.config) (sym gone.new_is)) links.may.zero; stands = st; numbered = numbered; carrying = lost_carries (seen_of d) lines below s.i number routes w.between h.carrying gone; accounted = lost_accounted (seen_of d) lines below s.i number routes w.between h.accounted gone } in
+    let n : FlowsStand lost lines below = subst (λ (z : DifSeen). FlowsStand z lines below) new (noted_stand w.between lines below s.i process w.offs there (closes_lines (config_of d.settings) d.clock d.connections d'.connections (seen_of d).processes below links port w.offs closes) mid) in
+    noted_on holds (seen_of d) lost (seen_of d') (noted_on holds (seen_of d) w.between lost first closed) (elim w.fails [
+      | inl f ↦ noted_as (MayFailOff lost lines below node port) holds lost (seen_of d') (λ i off m. inr (inr (record { place = s.i; number = number; d' = d'; loses = w; may = m }))) (failed_noted lost lines below node port (seen_of d') n.stands n.numbered f.1)
+      | inr k ↦ same_noted holds lost (seen_of d') k.1
     ])
 
 flow_noted : (d : Dif) (lines : List Direction) (below : Seen) (node : ℕ) (done : ClockStep) (new : DifSeen) (lines' : List Direction) → Holds d lines below → StepsFlow d lines node done new lines' → IsNoted (MayByClock d lines below node) (seen_of d) new
@@ -121,20 +144,20 @@ flow_noted d lines below node (step.LinkNew link) new lines' h s = absurd s
 flow_noted d lines below node (step.Timeout port) new lines' h s = absurd s
 flow_noted d lines below node (step.Message link) new lines' h s = absurd s
 
-steps_noted : (d : Dif) (lines : List Direction) (below : Seen) (node : ℕ) (done : ClockStep) (new : DifSeen) (lines' : List Direction) → Holds d lines below → Steps d lines below node done new lines' → IsNoted (MayByClock d lines below node) (seen_of d) new
-steps_noted d lines below node (step.LinkLost link) new lines' h s = lost_with_noted d lines below node link new h s.0
-steps_noted d lines below node step.Idle new lines' h s = flow_noted d lines below node step.Idle new lines' h s.1
-steps_noted d lines below node (step.Gone cep) new lines' h s = flow_noted d lines below node (step.Gone cep) new lines' h s.1
-steps_noted d lines below node (step.GaveUp num) new lines' h s = flow_noted d lines below node (step.GaveUp num) new lines' h s.1
-steps_noted d lines below node (step.Ack cep) new lines' h s = flow_noted d lines below node (step.Ack cep) new lines' h s.1
-steps_noted d lines below node (step.Again num) new lines' h s = flow_noted d lines below node (step.Again num) new lines' h s.1
-steps_noted d lines below node (step.LinkNew link) new lines' h s = absurd s.1
-steps_noted d lines below node (step.Timeout port) new lines' h s = absurd s.1
-steps_noted d lines below node (step.Message link) new lines' h s = absurd s.1
+steps_noted : (d : Dif) (lines : List Direction) (below : Seen) (node : ℕ) (done : ClockStep) (d' : Dif) (lines' : List Direction) → Holds d lines below → Steps d lines below node done d' lines' → IsNoted (MayByClock d lines below node) (seen_of d) (seen_of d')
+steps_noted d lines below node (step.LinkLost link) d' lines' h s = lost_with_noted d lines below node link d' h s.0
+steps_noted d lines below node step.Idle d' lines' h s = flow_noted d lines below node step.Idle (seen_of d') lines' h s.1
+steps_noted d lines below node (step.Gone cep) d' lines' h s = flow_noted d lines below node (step.Gone cep) (seen_of d') lines' h s.1
+steps_noted d lines below node (step.GaveUp num) d' lines' h s = flow_noted d lines below node (step.GaveUp num) (seen_of d') lines' h s.1
+steps_noted d lines below node (step.Ack cep) d' lines' h s = flow_noted d lines below node (step.Ack cep) (seen_of d') lines' h s.1
+steps_noted d lines below node (step.Again num) d' lines' h s = flow_noted d lines below node (step.Again num) (seen_of d') lines' h s.1
+steps_noted d lines below node (step.LinkNew link) d' lines' h s = absurd s.1
+steps_noted d lines below node (step.Timeout port) d' lines' h s = absurd s.1
+steps_noted d lines below node (step.Message link) d' lines' h s = absurd s.1
 
 clocks_noted : (d : Dif) (lines : List Direction) (below : Seen) (node : ℕ) (r : Result ClockStep StepError) (d' : Dif) (lines' : List Direction) → Holds d lines below → ClockStepsAt d lines below node r d' lines' → IsNoted (MayByClock d lines below node) (seen_of d) (seen_of d')
 clocks_noted d lines below node (Err Memory) d' lines' h s = same_noted _ (seen_of d) (seen_of d') s.0
-clocks_noted d lines below node (Ok done) d' lines' h s = by_home _ (home node (config_of d.settings).members) (λ i. StepsOk d lines below node (Ok done) d' lines') _ (λ i o. steps_noted d lines below node done (seen_of d') lines' h o) (λ o. same_noted _ (seen_of d) (seen_of d') o.1) s
+clocks_noted d lines below node (Ok done) d' lines' h s = by_home _ (home node (config_of d.settings).members) (λ i. StepsOk d lines below node (Ok done) d' lines') _ (λ i o. steps_noted d lines below node done d' lines' h o) (λ o. same_noted _ (seen_of d) (seen_of d') o.1) s
 clocks_noted d lines below node (Err NoIpc) d' lines' h s = by_home _ (home node (config_of d.settings).members) (λ i. StepsOk d lines below node (Err NoIpc) d' lines') _ (λ i o. absurd o) (λ o. same_noted _ (seen_of d) (seen_of d') o.1) s
 clocks_noted d lines below node (Err NoLink) d' lines' h s = by_home _ (home node (config_of d.settings).members) (λ i. StepsOk d lines below node (Err NoLink) d' lines') _ (λ i o. absurd o) (λ o. same_noted _ (seen_of d) (seen_of d') o.1) s
 
@@ -144,7 +167,7 @@ clocks_write d lines below node r d' below' h s = writes _ (seen_of d) (seen_of 
 -- ---- a flow is freed
 
 restated : (d d' : DifSeen) (lines : List Direction) (below : Seen) (ends : List End) → d' ≡ record d { ends = ends } → IsNoted (MayWriteOff d lines below NoPort) d d'
-restated d d' lines below ends is = subst (IsNoted (MayWriteOff d lines below NoPort) d) (sym is) (quiet_noted _ d (record d { ends = ends }) refl (omega arith) (λ k ids at. at) refl)
+restated d d' lines below ends is = subst (IsNoted (MayWriteOff d lines below NoPort) d) (sym is) (quiet_noted _ d (record d { ends = ends }) refl refl (omega arith) (λ k ids at. at) refl)
 
 frees_end : (state : PortState) (d : DifSeen) (lines : List Direction) (below : Seen) (at : ℕ) (end : End) (d' : DifSeen) → IsStanding d lines below → IsNumbered d below → FreesEnd state d lines at end d' → IsNoted (MayWriteOff d lines below NoPort) d d'
 frees_end Allocated d lines below at end d' st numbered s = ended_noted d lines below at Closed d' st numbered s

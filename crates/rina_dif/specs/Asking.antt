@@ -1,5 +1,5 @@
 -- What an IPC process answers to a CDAP message.
-use Rattle.std.specs.Prelude.{◌≡◌, ℕ, ◌==◌, Bool, false, List, Option, Some, None, Result, Ok, Err, if◌then◌else◌}
+use Rattle.std.specs.Prelude.{◌≡◌, ℕ, ◌⊎◌, ◌==◌, Bool, true, false, List, Option, Some, None, Result, Ok, Err, if◌then◌else◌}
 use Rattle.std.specs.Global.{Vec}
 use Rattle.rina_cdap.specs.declared.error.CdapError.{CdapError}
 use Rattle.rina_cdap.specs.declared.message.Message.{Message}
@@ -17,7 +17,7 @@ use Rattle.rina_dif.specs.declared.cdap.CdapCallError.TheVariants.{Memory, NoIpc
 use Rattle.rina_dif.specs.declared.dif.Dif.{Dif}
 use Rattle.rina_dif.specs.Changing.{changed_at}
 use Rattle.rina_dif.specs.Managing.{agents_of}
-use Rattle.rina_dif.specs.Objects.{IsRibAt}
+use Rattle.rina_dif.specs.Objects.{HasMember, IsRibAt}
 
 -- what was asked is done
 abbrev pub is_done : Option ℕ → Bool
@@ -63,9 +63,10 @@ pub record KeepsAll (d d' : Dif) : Type 0 where
   pub is : d' ≡ record d { managements = d'.managements; failed = d'.failed }
   pub agents : agents_of d'.managements ≡ agents_of d.managements
 
--- bytes are answered, or their first fault is told
+-- bytes are answered, or their first fault is told; memory can be missing where an allocation failed before, or there is a
+-- member that answers
 abbrev pub Asks : Dif → ℕ → List ℕ → Result (List ℕ) CdapCallError → Dif → Type 0
 Asks d node bytes (Ok answer) d' = IsAnswered d node bytes answer d'
 Asks d node bytes (Err NoIpc) d' = (home node (config_of d.settings).members ≡ None) × (d'.managements ≡ d.managements)
 Asks d node bytes (Err (Cdap error)) d' = IsNoMessage d node bytes error × (d'.managements ≡ d.managements)
-Asks d node bytes (Err Memory) d' = d'.managements ≡ d.managements
+Asks d node bytes (Err Memory) d' = (d.failed ≡ true ⊎ HasMember d node) × (d'.managements ≡ d.managements)

@@ -1,5 +1,5 @@
 -- What the events of a DIF make of the managements of its members: of their items, and of the objects that they show.
-use Rattle.std.specs.Prelude.{◌≡◌, ℕ, List, [], map, slice_get, slice_set, if◌then◌else◌, Option, Some, None, Result, Ok, Err}
+use Rattle.std.specs.Prelude.{◌≡◌, ℕ, List, [], length, map, slice_get, slice_set, if◌then◌else◌, Option, Some, None, Result, Ok, Err}
 use Rattle.std.specs.List.{filter_map, zip}
 use Rattle.rina_base.specs.declared.memory.Memory.{Memory}
 use Rattle.rina_base.specs.declared.number.Num.{Num}
@@ -19,7 +19,7 @@ use Rattle.rina_iface.specs.declared.state.PortState.{PortState}
 use Rattle.rina_iface.specs.declared.state.PortState.TheVariants.{Allocated}
 use Rattle.rina_iface.specs.Seen.{Seen}
 use Rattle.rina_member.specs.declared.management.Management.{Management}
-use Rattle.rina_member.specs.Managements.{LosesLink, entered, with_flow, without_flow, without_flows}
+use Rattle.rina_member.specs.Managements.{LosesLink, MayHoldEntry, entered, with_flow, without_flow, without_flows}
 use Rattle.rina_dif.specs.declared.dif.Dif.{Dif}
 use Rattle.rina_dif.specs.Elsewhere.{home_of}
 use Rattle.rina_dif.specs.Unlinking.{FindsLostAt, FindsNoneLeft}
@@ -55,10 +55,20 @@ pub record ManagesBind (d : Dif) (fixed : Fixed) (ports : Port × Port) (new : L
   pub is_far : slice_get d.settings.members b ≡ Some far
   pub are : new ≡ with_flow_at b ports.1.n (with_flow_at a ports.0.n (map (entered fixed.b_app far.addr) d.managements))
 
--- or an allocation failed, and none changes
+-- each member has its management still, whatever objects it shows; its agent is as before, or took the entry of an application at an
+-- address
+pub record MayHaveEntered (app : List ℕ) (address : ℕ) (old new : List Management) : Type 0 where
+  pub aligned : length new ≡ length old
+  pub each : (k : ℕ) (m m' : Management) → slice_get old k ≡ Some m → slice_get new k ≡ Some m' → MayHoldEntry app address m m'
+
+-- so is that of each member of a DIF, for the entry of the far application of a flow
+abbrev pub MayHoldFar : Dif → Fixed → List Management → Type 0
+MayHoldFar d fixed new = (b : ℕ) (far : Member) → home_of d fixed.b ≡ Some b → slice_get d.settings.members b ≡ Some far → MayHaveEntered fixed.b_app far.addr d.managements new
+
+-- what `bind` does; where an allocation failed, the agent of each member is as before, or holds the entry of the far application
 abbrev pub BindsManaged : Result (Port × Port) AllocateError → Dif → Fixed → List Management → Type 0
 BindsManaged (Ok ports) d fixed new = ManagesBind d fixed ports new
-BindsManaged (Err e) d fixed new = new ≡ d.managements
+BindsManaged (Err e) d fixed new = MayHoldFar d fixed new
 
 -- An end is allocated no more
 

@@ -165,22 +165,22 @@ abbrev pub NoneLostAt : Dif → Seen → ℕ → Type 0
 NoneLostAt d below node = (i : ℕ) (p : IpcProcess) → home node (config_of d.settings).members ≡ Some i → slice_get d.processes i ≡ Some p → NoneLost p.links below
 
 -- it loses its link of this number, and the flows of the node may fail with it
-pub record StepsLost (d : Dif) (lines : List Direction) (below : Seen) (node number : ℕ) (new : DifSeen) : Type 0 where
+pub record StepsLost (d : Dif) (lines : List Direction) (below : Seen) (node number : ℕ) (d' : Dif) : Type 0 where
   pub i : ℕ
   pub at_home : home node (config_of d.settings).members ≡ Some i
-  pub loses : LosesWith d lines below i node number new
+  pub loses : LosesWith d lines below i node number d'
 
 -- What is done first
 
 -- a link that is lost comes before all that is due at the flows
-abbrev pub Steps : Dif → List Direction → Seen → ℕ → ClockStep → DifSeen → List Direction → Type 0
-Steps d lines below node (step.LinkLost link) new lines' = StepsLost d lines below node link new × (lines' ≡ lines)
-Steps d lines below node done new lines' = NoneLostAt d below node × StepsFlow d lines node done new lines'
+abbrev pub Steps : Dif → List Direction → Seen → ℕ → ClockStep → Dif → List Direction → Type 0
+Steps d lines below node (step.LinkLost link) d' lines' = StepsLost d lines below node link d' × (lines' ≡ lines)
+Steps d lines below node done d' lines' = NoneLostAt d below node × StepsFlow d lines node done (seen_of d') lines' × (d'.connections ≡ d.connections)
 
 -- and the DIF holds after it
 pub record HasStepped (d : Dif) (lines : List Direction) (below : Seen) (node : ℕ) (done : ClockStep) (d' : Dif) : Type 0 where
   pub lines' : List Direction
-  pub does : Steps d lines below node done (seen_of d') lines'
+  pub does : Steps d lines below node done d' lines'
   pub holds : Holds d' lines' below
 
 -- or memory was not found
@@ -191,7 +191,7 @@ StepsHere d lines below node (Err other) d' = ⊥
 
 -- at the IPC process of this node
 abbrev pub StepsOk : Dif → List Direction → Seen → ℕ → Result ClockStep StepError → Dif → List Direction → Type 0
-StepsOk d lines below node (Ok done) d' lines' = Steps d lines below node done (seen_of d') lines'
+StepsOk d lines below node (Ok done) d' lines' = Steps d lines below node done d' lines'
 StepsOk d lines below node (Err e) d' lines' = ⊥
 
 -- what `clock_step` does at a node, to its management too; nothing changes below

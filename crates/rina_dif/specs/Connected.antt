@@ -21,12 +21,9 @@ pub record CanManage (g : Config) (manage : Cube) : Type 0 where
   pub managed : IsManaged g manage
   pub zero : HasNoZero g
 
--- directions stand behind them, to which they are tied
-pub record HaveDirections (g : Config) (now : ℕ) (c : Connections) (processes : List Process) (below : Seen) : Type 0 where
+-- they stand on the rank below: the DIF can have them, and directions stand behind them, to which they are tied
+pub record AreConnected (g : Config) (now : ℕ) (c : Connections) (processes : List Process) (below : Seen) : Type 0 where
+  pub may : CanManage g c.manage
   pub lines : List Direction
   pub tied : AreTied (link_config g c.manage) now c.flows lines
   pub standing : IsStanding (channels_seen g now c) lines processes below
-
--- they stand on the rank below, in a DIF that can have them
-abbrev pub AreConnected : Config → ℕ → Connections → List Process → Seen → Type 0
-AreConnected g now c processes below = CanManage g c.manage → HaveDirections g now c processes below

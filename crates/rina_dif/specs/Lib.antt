@@ -3,6 +3,7 @@ pub mod Binding
 pub mod Building
 pub mod Changing
 pub mod Clocking
+pub mod Closing
 pub mod Connected
 pub mod Elsewhere
 pub mod Facade
@@ -13,6 +14,7 @@ pub mod Linking
 pub mod Managing
 pub mod Objects
 pub mod Planned
+pub mod Resting
 pub mod Routing
 pub mod Sending
 pub mod Shown

@@ -98,9 +98,14 @@ pub record IsShownUnder (d : Dif) (node : ℕ) (under : List ℕ) (objects : Lis
   pub is_rib : IsRib d node rib
   pub are : objects ≡ map shown_of (within under rib.objects)
 
--- nothing else is refused but a node without a member
+-- the DIF has a member at the node
+pub record HasMember (d : Dif) (node : ℕ) : Type 0 where
+  pub place : ℕ
+  pub at_home : home node (config_of d.settings).members ≡ Some place
+
+-- a node without a member is refused; memory can be missing where there is one
 abbrev pub ShowsUnder : Dif → ℕ → List ℕ → Result (List Shown) StepError → Type 0
 ShowsUnder d node under (Ok objects) = IsShownUnder d node under objects
-ShowsUnder d node under (Err Memory) = Unit {0}
+ShowsUnder d node under (Err Memory) = HasMember d node
 ShowsUnder d node under (Err NoIpc) = home node (config_of d.settings).members ≡ None
 ShowsUnder d node under (Err other) = ⊥

@@ -9,6 +9,7 @@ use Rattle.rina_dif.specs.declared.dif.Dif.{Dif}
 abbrev pub seen_of : Dif → DifSeen
 seen_of d = record {
   config = config_of d.settings;
+  manage = d.connections.manage;
   clock = d.clock;
   processes = map process_of d.processes;
   ends = d.flows.journal.ends;

@@ -1,10 +1,16 @@
 -- What comes to a DIF on its links.
-use Rattle.std.specs.Prelude.{◌≡◌, ℕ, ◌+◌, ◌-◌, ◌≤◌, List, slice_get, slice_set, Option, Some, None, Result, Ok, Err}
+use Rattle.std.specs.Prelude.{◌≡◌, ℕ, ◌+◌, ◌-◌, ◌≤◌, ◌⊎◌, List, length, position, slice_get, slice_set, Option, Some, None, Result, Ok, Err}
 use Rattle.rina_account.specs.declared.ledger.Off.{Off}
 use Rattle.rina_base.specs.declared.cause.Cause.{Cause}
 use Rattle.rina_base.specs.declared.memory.Memory.{Memory as NoMemory}
+use Rattle.rina_base.specs.declared.number.Port.{Port}
 use Rattle.rina_base.specs.declared.pdu.Pdu.{Pdu}
-use Rattle.rina_iface.specs.Seen.{Seen}
+use Rattle.rina_base.specs.declared.pdu.PduView.{PduView}
+use Rattle.rina_base.specs.Pdus.{pdu_of}
+use Rattle.rina_conn.specs.declared.conn.Conn.{Conn}
+use Rattle.rina_iface.specs.Journal.{AreKept}
+use Rattle.rina_iface.specs.Seen.{Seen, unpassed}
+use Rattle.rina_law.specs.declared.entry.Entry.{Entry}
 use Rattle.rina_law.specs.Direction.{Direction}
 use Rattle.rina_data.specs.declared.process.IpcProcess.{IpcProcess}
 use Rattle.rina_data.specs.declared.step.InStep.{InStep}
@@ -14,17 +20,22 @@ use Rattle.rina_data.specs.declared.step.StepError.TheVariants.{Memory, NoIpc}
 use Rattle.rina_data.specs.declared.step.Took.{Took}
 use Rattle.rina_data.specs.declared.step.Took.TheVariants as took
 use Rattle.rina_dif_law.specs.Cloud.{Everywhere, IsOnWay}
-use Rattle.rina_data.specs.Hops.{Hop}
-use Rattle.rina_data.specs.Configs.{Member, config_of}
+use Rattle.rina_data.specs.Hops.{Hop, opened}
+use Rattle.rina_data.specs.Configs.{Config, Member, config_of}
 use Rattle.rina_data.specs.Deciding.{Decides, IsRouted, process_of, queue_settings}
 use Rattle.rina_dif_law.specs.Dif.{DifSeen, IsProcess}
 use Rattle.rina_data.specs.Process.{Process}
+use Rattle.rina_dif_law.specs.Ids.{IsOfLink}
 use Rattle.rina_dif_law.specs.Incoming.{Ins, Settles}
 use Rattle.rina_data.specs.Queueing.{Notes}
 use Rattle.rina_dif_law.specs.Sending.{home}
 use Rattle.rina_data.specs.Fitting.{IsFit}
 use Rattle.rina_flows.specs.declared.flows.Flows.{Flows}
-use Rattle.rina_flows.specs.Calls.{AreTied}
+use Rattle.rina_channel.specs.Channels.{has_port}
+use Rattle.rina_channel.specs.Coming.{TakesOnLink}
+use Rattle.rina_channel.specs.Ledgers.{unnamed_from}
+use Rattle.rina_channel.specs.Names.{named}
+use Rattle.rina_flows.specs.Calls.{AreTied, TakesHere}
 use Rattle.rina_flows.specs.Delivering.{ArrivesIn}
 use Rattle.rina_dif.specs.declared.dif.Dif.{Dif}
 use Rattle.rina_dif.specs.Holding.{AreHoused, Holds}
@@ -32,7 +43,8 @@ use Rattle.rina_dif.specs.Managing.{AreManaged}
 use Rattle.rina_dif.specs.Routing.{HaveRoutes}
 use Rattle.rina_dif.specs.Shown.{seen_of}
 use Rattle.rina_dif.specs.Steps.{AtHome}
-use Rattle.rina_dif.specs.Connected.{AreConnected}
+use Rattle.rina_dif.specs.declared.connections.Connections.{Connections}
+use Rattle.rina_dif.specs.Connected.{AreConnected, channels_seen}
 
 -- One IPC process of those that are kept
 
@@ -59,6 +71,12 @@ abbrev pub ArrivesTo : ℕ → ℕ → Pdu → ℕ → Flows → List IpcProcess
 ArrivesTo now place pdu at flows old result flows' new =
     (p : IpcProcess) → slice_get old at ≡ Some p → (ledger : List Off) × ArrivesIn now place pdu flows p.ledger result flows' ledger × (new ≡ slice_set old at (record p { ledger = ledger }))
 
+-- and so of a management connection, whose lines name no source there
+abbrev pub ArrivesOnLink : ℕ → ℕ → Pdu → ℕ → Flows → List IpcProcess → Result (Option Cause) NoMemory → Flows → List IpcProcess → Type 0
+ArrivesOnLink now place pdu at flows old (Ok cause) flows' new =
+    (p : IpcProcess) → slice_get old at ≡ Some p → (ledger : List Off) × ArrivesIn now place pdu flows p.ledger (Ok cause) flows' ledger × (new ≡ slice_set old at (record p { ledger = unnamed_from (length p.ledger) ledger }))
+ArrivesOnLink now place pdu at flows old (Err e) flows' new = (flows' ≡ flows) × (new ≡ old)
+
 -- A PDU that came at tick `since`
 
 -- it may be sent on, and a member sent it below, from where it may come for so long
@@ -76,6 +94,17 @@ Comes d since hop = (lines : List Direction) × (below : Seen) × Holds d lines 
 -- and is not too old, and for this IPC process
 abbrev pub IsOwn : Dif → ℕ → ℕ → Hop → Type 0
 IsOwn d at since hop = (d.clock - since ≤ hop.left) × ((member : Member) → slice_get (seen_of d).config.members at ≡ Some member → hop.pdu.dst ≡ member.addr)
+
+-- it is one of a link's management connection, and in time
+abbrev pub IsForLink : Dif → ℕ → Hop → Type 0
+IsForLink d since hop = (d.clock - since ≤ hop.left) × IsOfLink hop.pdu
+
+-- it is the oldest SDU that waits at a port below
+pub record IsOldest (g : Config) (below : Seen) (port : Port) (since : ℕ) (hop : Hop) : Type 0 where
+  pub entry : Entry
+  pub oldest : unpassed below port ≡ Some entry
+  pub tick : entry.tick ≡ since
+  pub opens : opened g.widths entry.bytes ≡ Some hop
 
 -- the management connections of its links stand wherever they stood
 abbrev pub StaysConnected : Dif → Dif → Type 0
@@ -99,6 +128,50 @@ SettlesAs d lines below at since hop (Err e) d' = (seen_of d' ≡ seen_of d) × 
 -- by the DIF as it stands, whatever directions it is tied to
 abbrev pub SettlesFor : Dif → ℕ → ℕ → Hop → Result Took NoMemory → Dif → Type 0
 SettlesFor d at since hop result d' = (lines : List Direction) (below : Seen) → Holds d lines below → IsThere (seen_of d) below since hop → SettlesAs d lines below at since hop result d'
+
+-- A PDU that came on a link with this port
+
+-- the end of a management connection that takes it is that of the first channel with this port, and `its` is the PDU by the
+-- places of the two ends
+pub record IsLinkTaker (c : Connections) (port : Port) (pdu : Pdu) (place : ℕ) (its : Pdu) : Type 0 where
+  pub at : position (has_port port) c.channels ≡ Some place
+  pub conn : Conn
+  pub is_conn : slice_get c.flows.conns place ≡ Some conn
+  pub its_is : its ≡ named conn.sending.form.peer.far conn.sending.form.peer.own pdu
+  pub takes : TakesHere c.flows.journal.ends c.flows.conns place its
+
+-- there is none, or it is this one
+abbrev pub LinkTakenBy : Connections → Port → Pdu → Option (ℕ × PduView) → Type 0
+LinkTakenBy c port pdu None = (place : ℕ) (its : Pdu) → IsLinkTaker c port pdu place its → ⊥
+LinkTakenBy c port pdu (Some taker) = IsLinkTaker c port pdu taker.0 (pdu_of taker.1)
+
+-- what the management connection of the link made of it, of which `links` are the directions, before and after
+pub record IsTakenOnLink (d : Dif) (links : List Direction) (since : ℕ) (port : Port) (hop : Hop) (end : Took) (d' : Dif) (links' : List Direction) : Type 0 where
+  pub for_link : IsForLink d since hop
+  pub dropped : List Off
+  pub takes : TakesOnLink (channels_seen (config_of d.settings) d.clock d.connections) links port hop.pdu end dropped (channels_seen (config_of d'.settings) d'.clock d'.connections) links'
+
+-- a PDU of a flow leaves those connections as they are, and so does one that is too old
+abbrev pub SettlesLinks : Dif → List Direction → ℕ → Port → Hop → Took → Dif → List Direction → Type 0
+SettlesLinks d links since port hop end d' links' = ((IsForLink d since hop → ⊥) × (d'.connections ≡ d.connections)) ⊎ IsTakenOnLink d links since port hop end d' links'
+
+-- how it was handled, be it of a flow or of a link: what holds of the DIF beside its flows goes on to hold
+pub record HasTaken (d : Dif) (lines links : List Direction) (below : Seen) (at since : ℕ) (port : Port) (hop : Hop) (end : Took) (d' : Dif) : Type 0 where
+  pub lines' : List Direction
+  pub settled : (member : Member) (process : Process) → IsProcess (seen_of d) at member process → Settles (seen_of d) lines at member process since hop end (seen_of d') lines'
+  pub tied : AreTied (config_of d'.settings) d'.clock d'.flows lines'
+  pub housed : AreHoused (config_of d'.settings) d'.processes
+  pub routed : HaveRoutes d'.settings.members d'.laid.links d'.processes
+  pub managed : AreManaged d'
+  pub connected : AreConnected (config_of d'.settings) d'.clock d'.connections (seen_of d').processes below
+  pub channels : SettlesLinks d links since port hop end d' connected.lines
+
+abbrev pub TakesAs : Dif → List Direction → List Direction → Seen → ℕ → ℕ → Port → Hop → Result Took NoMemory → Dif → Type 0
+TakesAs d lines links below at since port hop (Ok end) d' = HasTaken d lines links below at since port hop end d'
+TakesAs d lines links below at since port hop (Err e) d' = (seen_of d' ≡ seen_of d) × Holds d' lines below
+
+abbrev pub TakesFor : Dif → ℕ → ℕ → Port → Hop → Result Took NoMemory → Dif → Type 0
+TakesFor d at since port hop result d' = (lines : List Direction) (below : Seen) (h : Holds d lines below) → AreKept below → IsThere (seen_of d) below since hop → IsOldest (config_of d.settings) below port since hop → TakesAs d lines h.connected.lines below at since port hop result d'
 
 -- what it is told
 abbrev pub took_of : Option Cause → Took

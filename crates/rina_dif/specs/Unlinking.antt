@@ -13,14 +13,18 @@ use Rattle.rina_data.specs.declared.loss.Lost.{Lost}
 use Rattle.rina_data.specs.declared.process.IpcProcess.{IpcProcess}
 use Rattle.rina_data.specs.declared.settings.Member.{Member}
 use Rattle.rina_data.specs.Deciding.{process_of, queue_settings}
-use Rattle.rina_dif_law.specs.Dif.{DifSeen}
-use Rattle.rina_data.specs.Process.{Process}
+use Rattle.rina_data.specs.Configs.{config_of}
+use Rattle.rina_dif_law.specs.Dif.{DifSeen, with_process}
+use Rattle.rina_data.specs.Process.{Process, with_offs}
 use Rattle.rina_dif_law.specs.Losing.{FailAll, Loses, NoneLive}
 use Rattle.rina_data.specs.Losing.{FindsLost, LosesAt, without_link}
 use Rattle.rina_flows.specs.declared.flows.Flows.{Flows}
 use Rattle.rina_flows.specs.Stopping.{StopsAll, held_before}
 use Rattle.rina_member.specs.Routing.{KnowsLive}
 use Rattle.rina_dif.specs.declared.dif.Dif.{Dif}
+use Rattle.rina_dif.specs.declared.processes.LinkLoss.{LinkLoss}
+use Rattle.rina_dif.specs.Closing.{ClosesIn, ClosesOn, FindsOpen, held_at}
+use Rattle.rina_dif.specs.Connected.{AreConnected}
 use Rattle.rina_dif.specs.Holding.{Holds}
 use Rattle.rina_dif.specs.Shown.{seen_of}
 
@@ -53,33 +57,51 @@ TellsNoneLeft links below port (Some told) = (told ≡ port) × NoneLeft links b
 abbrev pub FindsNoneLeft : Dif → Seen → ℕ → ℕ → Option Port → Type 0
 FindsNoneLeft d below at place told = (p : IpcProcess) (link : Link) → slice_get d.processes at ≡ Some p → slice_get p.links place ≡ Some link → TellsNoneLeft (links_without p.links place link) below link.port told
 
+-- the open end of the management connection of the link at a place, or that none is open
+abbrev pub FindsEnd : Dif → ℕ → ℕ → Option ℕ → Type 0
+FindsEnd d at place end = (p : IpcProcess) (link : Link) → slice_get d.processes at ≡ Some p → slice_get p.links place ≡ Some link → FindsOpen d.connections link.port end
+
 -- What changes of an IPC process
 
--- it loses the link at a place, or memory was not found
-abbrev pub LosesOr : ℕ → List Route → Result (Unit {0}) Memory → Process → Process → Type 0
-LosesOr place routes (Ok done) p p' = LosesAt place routes p p'
-LosesOr place routes (Err e) p p' = p' ≡ p
+-- it loses a link, and the open end of that closes with its lines behind what waited for the link. There is room for so many
+-- lines more
+pub record LosesThenCloses (loss : LinkLoss) (more : ℕ) (links : Flows) (p : Process) (links' : Flows) (p' : Process) : Type 0 where
+  pub ledger : List Off
+  pub loses : LosesAt loss.place loss.routes p (record p' { ledger = ledger })
+  pub room : ℕ
+  pub fits : length ledger + (held_at loss.end links + more) ≤ room
+  pub closes : ClosesIn loss.now loss.end links ledger room links' p'.ledger
+
+-- so, or memory was not found
+abbrev pub LosesOr : LinkLoss → Result (Unit {0}) Memory → Flows → Process → Flows → Process → Type 0
+LosesOr loss (Ok done) links p links' p' = LosesThenCloses loss 0 links p links' p'
+LosesOr loss (Err e) links p links' p' = (links' ≡ links) × (p' ≡ p)
 
 -- and no other does anything
-abbrev pub LosesIn : ℕ → List Route → Result (Unit {0}) Memory → ℕ → List IpcProcess → List IpcProcess → Type 0
-LosesIn place routes result at old new = (p : IpcProcess) → slice_get old at ≡ Some p → (p' : IpcProcess) × LosesOr place routes result (process_of p) (process_of p') × (queue_settings p' ≡ queue_settings p) × (new ≡ slice_set old at p')
+abbrev pub LosesIn : LinkLoss → Result (Unit {0}) Memory → ℕ → Flows → List IpcProcess → Flows → List IpcProcess → Type 0
+LosesIn loss result at links old links' new = (p : IpcProcess) → slice_get old at ≡ Some p → (p' : IpcProcess) × LosesOr loss result links (process_of p) links' (process_of p') × (queue_settings p' ≡ queue_settings p) × (new ≡ slice_set old at p')
 
--- it loses the link at a place, and then all allocated ends at a node are in another state, with their lines behind
-pub record LosesThenStops (now node : ℕ) (state : PortState) (place : ℕ) (routes : List Route) (old : Flows) (p : IpcProcess) (new : Flows) (p' : IpcProcess) : Type 0 where
+-- how many pieces the allocated ends at a node hold
+abbrev pub held_here : ℕ → Flows → ℕ
+held_here node flows = held_before node flows.journal.ends flows.conns (length flows.conns)
+
+-- it loses a link, the open end of that closes, and then all allocated ends at a node are in another state, with their lines
+-- behind
+pub record LosesThenStops (node : ℕ) (state : PortState) (loss : LinkLoss) (links old : Flows) (p : IpcProcess) (links' new : Flows) (p' : IpcProcess) : Type 0 where
   pub ledger : List Off
-  pub loses : LosesAt place routes (process_of p) (record (process_of p') { ledger = ledger })
+  pub loses : LosesThenCloses loss (held_here node old) links (process_of p) links' (record (process_of p') { ledger = ledger })
   pub room : ℕ
-  pub fits : length ledger + held_before node old.journal.ends old.conns (length old.conns) ≤ room
-  pub stops : StopsAll now node state old ledger room new p'.ledger
+  pub wide : loses.room ≤ room
+  pub stops : StopsAll loss.now node state old ledger room new p'.ledger
 
 -- or memory was not found
-abbrev pub LosesLast : ℕ → ℕ → PortState → ℕ → List Route → Flows → IpcProcess → Result (Unit {0}) Memory → Flows → IpcProcess → Type 0
-LosesLast now node state place routes old p (Ok done) new p' = LosesThenStops now node state place routes old p new p'
-LosesLast now node state place routes old p (Err e) new p' = (new ≡ old) × (process_of p' ≡ process_of p)
+abbrev pub LosesLast : ℕ → PortState → LinkLoss → Flows → Flows → IpcProcess → Result (Unit {0}) Memory → Flows → Flows → IpcProcess → Type 0
+LosesLast node state loss links old p (Ok done) links' new p' = LosesThenStops node state loss links old p links' new p'
+LosesLast node state loss links old p (Err e) links' new p' = ((links' ≡ links) × (new ≡ old)) × (process_of p' ≡ process_of p)
 
 -- and no other does anything
-abbrev pub LosesLastIn : ℕ → ℕ → PortState → ℕ → List Route → Result (Unit {0}) Memory → ℕ → Flows → List IpcProcess → Flows → List IpcProcess → Type 0
-LosesLastIn now node state place routes result at flows old flows' new = (p : IpcProcess) → slice_get old at ≡ Some p → (p' : IpcProcess) × LosesLast now node state place routes flows p result flows' p' × (queue_settings p' ≡ queue_settings p) × (new ≡ slice_set old at p')
+abbrev pub LosesLastIn : ℕ → PortState → LinkLoss → Result (Unit {0}) Memory → ℕ → Flows → Flows → List IpcProcess → Flows → Flows → List IpcProcess → Type 0
+LosesLastIn node state loss result at links flows old links' flows' new = (p : IpcProcess) → slice_get old at ≡ Some p → (p' : IpcProcess) × LosesLast node state loss links flows p result links' flows' p' × (queue_settings p' ≡ queue_settings p) × (new ≡ slice_set old at p')
 
 -- What changes of the DIF
 
@@ -91,17 +113,24 @@ pub record LosesLink (d : Dif) (below : Seen) (i number : ℕ) (new : DifSeen) :
   pub is_member : slice_get d.settings.members i ≡ Some member
   pub knows : KnowsLive d.settings.members d.laid.links member (without_link loses.place loses.link routes loses.process).links routes
 
+-- the DIF after that, with these lines behind those of what waited for the link
+abbrev pub with_lost : DifSeen → ℕ → ℕ → Link → List Route → Process → List Off → DifSeen
+with_lost d i place link routes process offs = with_process d i (with_offs (without_link place link routes process) offs)
+
 -- where no link is left, and the flow of the last one has failed, all flows at the node fail with it; else nothing more is done
 abbrev pub FailsWith : List Link → Seen → Port → List Direction → ℕ → DifSeen → DifSeen → Type 0
 FailsWith links below port lines node d d' = (NoneLeft links below port × FailAll lines node port d d') ⊎ ((NoneLeft links below port → ⊥) × (d' ≡ d))
 
--- the IPC process of place i, at this node, loses its link of this number, and the flows there may fail with it
-pub record LosesWith (d : Dif) (lines : List Direction) (below : Seen) (i node number : ℕ) (new : DifSeen) : Type 0 where
+-- the IPC process of place i, at this node, loses its link of this number. The open end of the management connection of that
+-- closes, by whatever directions stand behind the connections. And the flows at the node may fail
+pub record LosesWith (d : Dif) (lines : List Direction) (below : Seen) (i node number : ℕ) (d' : Dif) : Type 0 where
   pub between : DifSeen
   pub loses : LosesLink d below i number between
-  pub fails : FailsWith (links_without loses.loses.process.links loses.loses.place loses.loses.link) below loses.loses.link.port lines node between new
+  pub offs : List Off
+  pub closes : (links : AreConnected (config_of d.settings) d.clock d.connections (seen_of d).processes below) → ClosesOn (config_of d.settings) d.clock links.lines loses.loses.link.port offs d.connections d'.connections
+  pub fails : FailsWith (links_without loses.loses.process.links loses.loses.place loses.loses.link) below loses.loses.link.port lines node (with_lost (seen_of d) i loses.loses.place loses.loses.link loses.routes loses.loses.process offs) (seen_of d')
 
 -- and the DIF holds after it, or memory was not found
 abbrev pub LosesAs : Dif → List Direction → Seen → ℕ → ℕ → ℕ → Result (Unit {0}) Memory → Dif → Type 0
-LosesAs d lines below i node number (Ok done) d' = LosesWith d lines below i node number (seen_of d') × Holds d' lines below
+LosesAs d lines below i node number (Ok done) d' = LosesWith d lines below i node number d' × Holds d' lines below
 LosesAs d lines below i node number (Err e) d' = (seen_of d' ≡ seen_of d) × Holds d' lines below

@@ -23,19 +23,32 @@ use Rattle.rina_dif.specs.Sending.{SendsAt}
 use Rattle.rina_dif.specs.Shown.{seen_of}
 use Rattle.rina_dif.specs.Steps.{OutsAt}
 use Rattle.rina_dif.specs.Taking.{TakesHome}
-use Rattle.rina_dif.specs.Unlinking.{LosesLink}
+use Rattle.rina_dif.specs.Unlinking.{LosesLink, LosesWith, with_lost}
+use Rattle.rina_dif.specs.Closing.{IsHeldThere, IsOpenOn}
+use Rattle.rina_dif.specs.Connected.{AreConnected}
+use Rattle.rina_data.specs.Configs.{config_of}
+
+-- a link is lost, and the connection of its open end held the piece
+pub record MayCloseOff (d : Dif) (below : Seen) (i : ℕ) (off : Off) : Type 0 where
+  pub number : ℕ
+  pub between : DifSeen
+  pub loses : LosesLink d below i number between
+  pub place : ℕ
+  pub is_open : IsOpenOn d.connections loses.loses.link.port place
+  pub links : AreConnected (config_of d.settings) d.clock d.connections (seen_of d).processes below
+  pub held : IsHeldThere d.connections links.lines place off
 
 -- a link is lost, the flows of the node fail with it, and the condition holds once those before have failed
 pub record MayFailWith (d : Dif) (lines : List Direction) (below : Seen) (node : ℕ) (i : ℕ) (off : Off) : Type 0 where
   pub place : ℕ
   pub number : ℕ
-  pub between : DifSeen
-  pub loses : LosesLink d below place number between
-  pub may : MayFailOff between lines below node loses.loses.link.port i off
+  pub d' : Dif
+  pub loses : LosesWith d lines below place node number d'
+  pub may : MayFailOff (with_lost (seen_of d) place loses.loses.loses.place loses.loses.loses.link loses.loses.routes loses.loses.loses.process loses.offs) lines below node loses.loses.loses.link.port i off
 
 -- what a clock step at a node may write
 abbrev pub MayByClock : Dif → List Direction → Seen → ℕ → ℕ → Off → Type 0
-MayByClock d lines below node i off = MayWriteOff (seen_of d) lines below (IsOverNow below) i off ⊎ MayFailWith d lines below node i off
+MayByClock d lines below node i off = MayWriteOff (seen_of d) lines below (IsOverNow below) i off ⊎ (MayCloseOff d below i off ⊎ MayFailWith d lines below node i off)
 
 abbrev pub OutStepsOfDifsWrite : Type 0
 OutStepsOfDifsWrite = (refuses : Port → ℕ → Option SendError) (d : Dif) (lines : List Direction) (below : Seen) (node n : ℕ) (result : Result OutStep StepError) (d' : Dif) (below' : Seen) →

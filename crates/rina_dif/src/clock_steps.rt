@@ -1,5 +1,5 @@
 //! The clock steps of a DIF.
-ghost use Rattle.std.specs.Prelude.{◌≡◌, ◌<◌, ◌≤◌, ◌↔◌, List, Some, IsTrue, length, true, Err};
+ghost use Rattle.std.specs.Prelude.{◌≡◌, ◌<◌, ◌≤◌, ◌↔◌, List, Some, IsTrue, OnErr, length, true, Err};
 ghost use Rattle.rina_iface.specs.Later.{IsLater};
 ghost use Rattle.rina_iface.specs.Seen.{Seen};
 ghost use Rattle.rina_law.specs.Direction.{Direction};
@@ -197,7 +197,8 @@ impl Dif {
         ensures does { (lines : List Direction) → Holds self.old lines (F.seen below.now) → StepsHere self.old lines (F.seen below.now) node result self.new }
         ensures same { (self.new.settings ≡ self.old.settings) × (self.new.failed ≡ self.old.failed) }
         ensures laid { self.new.laid ≡ self.old.laid }
-        ensures whole { self.new ≡ record self.old { processes = self.new.processes; flows = self.new.flows; managements = self.new.managements } }
+        ensures whole { self.new ≡ record self.old { processes = self.new.processes; connections = self.new.connections; flows = self.new.flows; managements = self.new.managements } }
+        ensures stays { OnErr result (self.new.connections ≡ self.old.connections) }
         ensures manages { ManagesStep result (Some at) self.old (F.seen below.now) node self.new.managements }
         ensures leaves { ChangesOnly (MayClock result self.old (Some at)) (Some at) self.old self.new }
     {
@@ -211,7 +212,8 @@ impl Dif {
     }
 
     /// Takes one step of the IPC process at a node by the clock, the first of these that is due: a link is lost, whose
-    /// flow below was refused, has failed, or was closed, the one of the least number first, and where no link is left
+    /// flow below was refused, has failed, or was closed, the one of the least number first, the end of its management
+    /// connection closes with it, and where no link is left
     /// and that flow has failed, all flows of the node fail with it; pieces that are held of a state that has ended are
     /// written off; a number is given up, and its flow fails; an acknowledgement is made; a number is sent again. Of
     /// the flows there the one of the least CEP-id goes first. Answers Idle exactly where none is due.
@@ -234,7 +236,8 @@ impl Dif {
         ensures others { OthersStand self.old (F.seen below.old) (F.seen below.new) }
         ensures settings { self.new.settings ≡ self.old.settings }
         ensures laid { self.new.laid ≡ self.old.laid }
-        ensures whole { self.new ≡ record self.old { processes = self.new.processes; flows = self.new.flows; managements = self.new.managements; failed = self.new.failed } }
+        ensures whole { self.new ≡ record self.old { processes = self.new.processes; connections = self.new.connections; flows = self.new.flows; managements = self.new.managements; failed = self.new.failed } }
+        ensures stays { OnErr result (self.new.connections ≡ self.old.connections) }
         ensures leaves { ChangesOnly (MayClock result self.old (home_of self.old node)) (home_of self.old node) self.old self.new }
         ensures failed { self.old.failed ≡ true → result ≡ Err MemoryWanted }
         ensures fails { self.new.failed ≡ true ↔ (result ≡ Err MemoryWanted) }

@@ -1,21 +1,25 @@
 //! The management connections of the links of a DIF.
 ghost use Rattle.std.specs.Prelude.{◌≡◌, ◌<◌, ◌^◌, [], suc, IfOk, IfSome, OnOk, length, position};
 ghost use Rattle.rina_base.specs.declared.number.Port.{Port};
+ghost use Rattle.rina_base.specs.Pdus.{pdu_of};
 ghost use Rattle.rina_cube.specs.Cubes.{IsCube};
 ghost use Rattle.rina_data.specs.Configs.{config_of};
 ghost use Rattle.rina_dif_law.specs.Standing.{IsConfig};
 ghost use Rattle.rina_iface.specs.Seen.{Seen};
+ghost use Rattle.rina_dif.specs.Closing.{FindsOpen};
+ghost use Rattle.rina_dif.specs.Connected.{CanManage};
+ghost use Rattle.rina_dif.specs.Taking.{LinkTakenBy};
 ghost use Rattle.rina_dif.specs.Linking.{AreLinks, Connects, HasChannel, HaveConnections, IsChannelOf, StandOnLinks, is_on};
 
 use crate::dif::place;
 use crate::fixed_flows::{greatest, new_end, piece};
 use crate::processes::Processes;
-use rina_base::{Addr, FlowName, Memory, Port, Seq, Tick};
-use rina_channel::{Channel, peer_at};
+use rina_base::{Addr, FlowName, Memory, PduView, Port, Seq, Tick};
+use rina_channel::{Channel, channel_at, named, peer_at};
 use rina_cube::Cube;
 use rina_data::{Link, Settings};
 use rina_flows::Flows;
-use rina_iface::Role;
+use rina_iface::{PortState, Role};
 use std::alloc::Global;
 
 /// The management connections of the links of a DIF: one at each link, between the two IPC processes at its ends.
@@ -78,6 +82,18 @@ fn next_places(made: usize) -> Option<(Addr, Addr)>
 }
 
 impl Connections {
+    /// The place of the end of the link that has a port below, where it is allocated. None exactly where none is.
+    pub(crate) fn open_on(&self, port: Port) -> Option<usize>
+        ensures { FindsOpen self.now port result }
+    {
+        let place = channel_at(self.channels.as_slice(), port)?;
+        let end = self.flows.journal.ends.get(place)?;
+        match end.state {
+            PortState::Allocated => Some(place),
+            _ => None,
+        }
+    }
+
     /// No management connections yet, of this cube.
     pub fn none(alloc: Global, manage: Cube) -> Connections
         ensures manage { result.manage ≡ manage }
@@ -89,6 +105,21 @@ impl Connections {
             manage,
             channels: Seq::new(alloc),
             flows: Flows::new(alloc),
+        }
+    }
+
+    /// The place of the allocated end that takes a PDU which came on the link with a port below, and the PDU by the places of
+    /// the two ends. None exactly where no end takes it. Takes no memory.
+    pub fn taker<'a>(&self, port: Port, pdu: &PduView<'a>) -> Option<(usize, PduView<'a>)>
+        ensures { LinkTakenBy self.now port (pdu_of pdu.now) result }
+    {
+        let place = channel_at(self.channels.as_slice(), port)?;
+        let peer = self.flows.conns.get(place)?.sending.form.peer;
+        let pdu = named(pdu, peer.far, peer.own);
+        if self.flows.takes(place, &pdu) {
+            Some((place, pdu))
+        } else {
+            None
         }
     }
 
@@ -145,8 +176,7 @@ impl Connections {
         processes: &Processes,
         ports: &[(Port, Port)],
     ) -> Result<Connections, Memory>
-        requires config { IsConfig (config_of settings.now) }
-        requires manage { IsCube manage }
+        requires manage { CanManage (config_of settings.now) manage }
         requires links { (below : Seen) × AreLinks settings.now clock ports.now processes.now below }
         ensures have { IfOk result (HaveConnections settings.now manage ports.now processes.now) }
         ensures stand { IfOk result (StandOnLinks settings.now clock ports.now processes.now) }

@@ -14,14 +14,13 @@ ghost use Rattle.rina_dif_law.specs.Numbered.{asked_at, is_asker};
 ghost use Rattle.rina_dif_law.specs.Standing.{IsConfig};
 ghost use Rattle.rina_flows.specs.Elsewhere.{SameBut};
 ghost use Rattle.rina_dif.specs.Binding.{AddsFlow, BindsTo, Draws, MayBind, SomeDraws};
-ghost use Rattle.rina_dif.specs.Changing.{BindsManaged, ManagesBind};
+ghost use Rattle.rina_dif.specs.Changing.{BindsManaged, ManagesBind, MayHoldFar};
 ghost use Rattle.rina_dif.specs.Facade.{GoesOn, IsShownAs, StaysStanding, shown_as};
 ghost use Rattle.rina_dif.specs.Holding.{Holds};
 ghost use Rattle.rina_dif.specs.Whole.{IsDif};
 
 use crate::dif::Dif;
 use crate::facade::cube_of;
-use crate::managements::Managements;
 use crate::names::is_registered;
 use rina_base::{Addr, AppName, FlowName, Memory, Node, PduKind, Port, Seq};
 use rina_conn::Peer;
@@ -131,6 +130,13 @@ fn add_flow(
     flows.add(alloc, cube, piece, max, peer, asker, far)
 }
 
+/// Whether a flow was not made for want of memory.
+fn wants_memory(bound: &Result<(Port, Port), AllocateError>) -> bool
+    ensures { result ≡ true ↔ (bound.now ≡ Err MemoryWanted) }
+{
+    matches!(bound, Err(AllocateError::Memory))
+}
+
 impl Dif {
     /// What a member at a node draws next.
     fn draw(&self, node: Node) -> NextEnd
@@ -182,18 +188,21 @@ impl Dif {
         added
     }
 
-    /// The managements once a flow is bound whose ends have these addresses and ports: every member takes the directory entry
-    /// of the far application, and the members of the two ends show the flow.
-    fn managements_with_flow(
-        &self,
+    /// Every member takes the directory entry of the far application of a flow whose ends have these addresses and ports, and
+    /// the members of the two ends show the flow. Where an allocation fails, the agent of each member is as before, or holds
+    /// the entry.
+    fn manage_flow(
+        &mut self,
         alloc: Global,
         fixed: &Fixed,
         near: NextEnd,
         other: NextEnd,
-    ) -> Result<Managements, Memory>
-        requires valid { IsDif self.now }
-        requires may { MayBind self.now fixed.now }
-        ensures { IfOk result (ManagesBind self.now fixed.now (near.port, other.port)) }
+    ) -> Result<(), Memory>
+        requires valid { IsDif self.old }
+        requires may { MayBind self.old fixed.now }
+        ensures ok { OnOk result (ManagesBind self.old fixed.now (near.port, other.port) self.new.managements) }
+        ensures err { OnErr result (MayHoldFar self.old fixed.now self.new.managements) }
+        ensures whole { self.new ≡ record self.old { managements = self.new.managements } }
     {
         let (Some(a), Some(b)) = (self.place_at_node(fixed.a), self.place_at_node(fixed.b)) else {
             unreachable!()
@@ -201,10 +210,9 @@ impl Dif {
         let Some(far) = self.settings.members.get(b) else {
             unreachable!()
         };
-        let mut managements = self.managements.entered(alloc, &fixed.b_app, far.addr)?;
-        managements.show_flow(alloc, a, near.port.n)?;
-        managements.show_flow(alloc, b, other.port.n)?;
-        Ok(managements)
+        self.managements.enter_all(alloc, &fixed.b_app, far.addr)?;
+        self.managements.show_flow(alloc, a, near.port.n)?;
+        self.managements.show_flow(alloc, b, other.port.n)
     }
 
     /// Makes a fixed flow.
@@ -234,9 +242,8 @@ impl Dif {
         let (a_app, b_app, cube) = (&fixed.a_app, &fixed.b_app, fixed.cube);
         let asker = new_end(alloc, flow, Role::Asker, near.port, a_app, b_app, cube)?;
         let far = new_end(alloc, flow, Role::Far, other.port, b_app, a_app, cube)?;
-        let managements = self.managements_with_flow(alloc, fixed, near, other)?;
+        self.manage_flow(alloc, fixed, near, other)?;
         self.add_named(alloc, peer, asker, far)?;
-        self.managements = managements;
         Ok((near.port, other.port))
     }
 
@@ -264,7 +271,7 @@ impl Dif {
             return Err(AllocateError::Memory);
         }
         let result = self.bind_flow(alloc, fixed);
-        self.failed = matches!(result, Err(AllocateError::Memory));
+        self.failed = wants_memory(&result);
         result
     }
 }

@@ -1,5 +1,5 @@
 //! What comes to a DIF on its links.
-ghost use Rattle.std.specs.Prelude.{◌≡◌, ◌<◌, ◌≤◌, List, Some, length, true, ◌↔◌, Err};
+ghost use Rattle.std.specs.Prelude.{◌≡◌, ◌<◌, ◌≤◌, List, Some, length, true, ◌↔◌, IsTrue, Err};
 ghost use Rattle.rina_base.specs.Pdus.{key_of};
 ghost use Rattle.rina_base.specs.declared.pdu.PduKind.TheVariants.{Piece};
 ghost use Rattle.rina_iface.specs.Later.{IsLater};
@@ -11,14 +11,15 @@ ghost use Rattle.rina_data.specs.declared.step.StepError.TheVariants.{Memory as 
 ghost use Rattle.rina_dif_law.specs.Upward.{IsSilent};
 ghost use Rattle.rina_flows.specs.Calls.{TakenBy};
 ghost use Rattle.rina_flows.specs.Tied.{conns_of};
-ghost use Rattle.rina_dif.specs.Elsewhere.{ChangesOnly, IsTaker, MayTake, WhenOk, home_of};
+ghost use Rattle.rina_dif.specs.Elsewhere.{ChangesOnly, ChangesProcess, IsTaker, MayTake, WhenOk, home_of};
 ghost use Rattle.rina_dif.specs.Facade.{GoesOn, OthersStand};
 ghost use Rattle.rina_dif.specs.Holding.{Holds, Stands};
 ghost use Rattle.rina_dif.specs.Shown.{seen_of};
-ghost use Rattle.rina_dif.specs.Taking.{Comes, IsOwn, SettlesFor, TakesHome, TakesIn};
+ghost use Rattle.rina_dif.specs.Taking.{Comes, IsForLink, IsOwn, SettlesFor, TakesFor, TakesHome, TakesIn};
 
 use crate::dif::Dif;
-use rina_base::{Cause, Memory, Node, PduKind, Tick};
+use rina_base::{Cause, Memory, Node, PduKind, Port, Tick};
+use rina_channel::is_of_link;
 use rina_data::{Decision, HopView, InStep, StepError, Took, live_link, open};
 use rina_iface::Facility;
 use std::alloc::Global;
@@ -90,8 +91,8 @@ impl Dif {
         }
     }
 
-    /// Settles a PDU that came to the IPC process at a place: it is too old, or for a connection there, or waits for
-    /// its next hop.
+    /// Settles a PDU that came to the IPC process at a place, and is of a flow or too old: it is written off, or for a
+    /// connection there, or waits for its next hop.
     fn route_or_deliver(
         &mut self,
         alloc: Global,
@@ -101,6 +102,7 @@ impl Dif {
         requires clock { self.old.clock ≤ 10_000_000 }
         requires at { at < length self.old.settings.members }
         requires comes { Comes self.old came.now.since (hop_of came.now.hop) }
+        requires flow { IsForLink self.old came.now.since (hop_of came.now.hop) → ⊥ }
         ensures does { SettlesFor self.old at came.now.since (hop_of came.now.hop) result self.new }
         ensures settings { self.new.settings ≡ self.old.settings }
         ensures laid { self.new.laid ≡ self.old.laid }
@@ -122,6 +124,82 @@ impl Dif {
         }
     }
 
+    /// Whether a PDU is one of a link's management connection, and not too old.
+    fn is_for_link(&self, came: &Came<'_>) -> bool
+        ensures { IsTrue result ↔ IsForLink self.now came.now.since (hop_of came.now.hop) }
+    {
+        let age = self.clock.saturating_sub(came.since);
+        is_of_link(&came.hop.pdu) && age <= came.hop.left
+    }
+
+    /// Lets the management connection of the link with a port below take a PDU that came there in time, and is for it.
+    fn deliver_on_link(
+        &mut self,
+        alloc: Global,
+        at: usize,
+        port: Port,
+        came: &Came<'_>,
+    ) -> Result<Took, Memory>
+        requires clock { self.old.clock ≤ 10_000_000 }
+        requires at { at < length self.old.settings.members }
+        requires comes { Comes self.old came.now.since (hop_of came.now.hop) }
+        requires link { IsForLink self.old came.now.since (hop_of came.now.hop) }
+        ensures does { TakesFor self.old at came.now.since port (hop_of came.now.hop) result self.new }
+        ensures settings { self.new.settings ≡ self.old.settings }
+        ensures laid { self.new.laid ≡ self.old.laid }
+        ensures whole { self.new ≡ record self.old { processes = self.new.processes; connections = self.new.connections } }
+        ensures leaves { ChangesProcess (Some at) self.old.processes self.new.processes }
+        ensures failed { self.new.failed ≡ self.old.failed }
+    {
+        let clock = self.clock;
+        let Some((place, pdu)) = self.connections.taker(port, &came.hop.pdu) else {
+            let cep = came.hop.pdu.dcep;
+            let cause = Cause::NoConnection { cep };
+            self.processes.write_off(alloc, at, &came.hop, cause)?;
+            return Ok(Took::Off(cause));
+        };
+        let flows = &mut self.connections.flows;
+        match pdu.kind {
+            PduKind::Piece => match self
+                .processes
+                .on_link_data(alloc, at, flows, clock, place, &pdu)?
+            {
+                Some(cause) => Ok(Took::Off(cause)),
+                None => Ok(Took::Accepted),
+            },
+            PduKind::Ack => {
+                flows.on_ack(place, &pdu);
+                Ok(Took::Accepted)
+            }
+        }
+    }
+
+    /// Settles a PDU that came on the link with a port below: the link's management connection takes it, or it is settled as
+    /// one of a flow.
+    fn settle(
+        &mut self,
+        alloc: Global,
+        at: usize,
+        port: Port,
+        came: &Came<'_>,
+    ) -> Result<Took, Memory>
+        requires clock { self.old.clock ≤ 10_000_000 }
+        requires at { at < length self.old.settings.members }
+        requires comes { Comes self.old came.now.since (hop_of came.now.hop) }
+        ensures does { TakesFor self.old at came.now.since port (hop_of came.now.hop) result self.new }
+        ensures settings { self.new.settings ≡ self.old.settings }
+        ensures laid { self.new.laid ≡ self.old.laid }
+        ensures whole { self.new ≡ record self.old { processes = self.new.processes; flows = self.new.flows; connections = self.new.connections } }
+        ensures leaves { ChangesOnly (λ i. WhenOk result (IsTaker self.old (Some at) (key_of (hop_of came.now.hop).pdu) i)) (Some at) self.old self.new }
+        ensures failed { self.new.failed ≡ self.old.failed }
+    {
+        if self.is_for_link(came) {
+            self.deliver_on_link(alloc, at, port, came)
+        } else {
+            self.route_or_deliver(alloc, at, came)
+        }
+    }
+
     /// Takes the oldest SDU of a link of the IPC process at a place.
     fn in_step_at<F: Facility>(
         &mut self,
@@ -140,7 +218,7 @@ impl Dif {
         ensures lower { PassesBelow (below.new ≡ below.old) (PassesAsSeen F.seen F.does_pass below.old below.new) result }
         ensures settings { self.new.settings ≡ self.old.settings }
         ensures laid { self.new.laid ≡ self.old.laid }
-        ensures whole { self.new ≡ record self.old { processes = self.new.processes; flows = self.new.flows } }
+        ensures whole { self.new ≡ record self.old { processes = self.new.processes; flows = self.new.flows; connections = self.new.connections } }
         ensures leaves { ChangesOnly (MayTake result self.old (Some at)) (Some at) self.old self.new }
         ensures failed { self.new.failed ≡ self.old.failed }
     {
@@ -162,13 +240,13 @@ impl Dif {
             since: lent.at,
             hop,
         };
-        let end = self.route_or_deliver(alloc, at, &came)?;
+        let end = self.settle(alloc, at, port, &came)?;
         below.pass(port);
         Ok(InStep::Took { key, end })
     }
 
     /// Takes one step of the IPC process at a node at a link: the oldest SDU that waits there is taken, and the PDU in
-    /// it delivered to its connection, relayed, or written off.
+    /// it delivered to its connection or to that of the link, relayed, or written off.
     pub fn in_step<F: Facility>(
         &mut self,
         alloc: Global,
@@ -188,7 +266,7 @@ impl Dif {
         ensures others { OthersStand self.old (F.seen below.old) (F.seen below.new) }
         ensures settings { self.new.settings ≡ self.old.settings }
         ensures laid { self.new.laid ≡ self.old.laid }
-        ensures whole { self.new ≡ record self.old { processes = self.new.processes; flows = self.new.flows; failed = self.new.failed } }
+        ensures whole { self.new ≡ record self.old { processes = self.new.processes; flows = self.new.flows; connections = self.new.connections; failed = self.new.failed } }
         ensures leaves { ChangesOnly (MayTake result self.old (home_of self.old node)) (home_of self.old node) self.old self.new }
         ensures failed { self.old.failed ≡ true → result ≡ Err MemoryWanted }
         ensures fails { self.new.failed ≡ true ↔ (result ≡ Err MemoryWanted) }

@@ -23,6 +23,7 @@ mod pass;
 mod plan;
 mod processes;
 mod release;
+mod rest;
 mod rib;
 mod send;
 mod shown;

@@ -1,5 +1,5 @@
 //! How a DIF loses a link.
-ghost use Rattle.std.specs.Prelude.{◌≡◌, ◌↔◌, ◌<◌, ℕ, List, None, Some, IfOk, IsTrue, OnOk, length, slice_get};
+ghost use Rattle.std.specs.Prelude.{◌≡◌, ◌↔◌, ◌<◌, ℕ, List, None, Some, IfOk, IsTrue, OnErr, OnOk, length, slice_get};
 ghost use Rattle.rina_iface.specs.Seen.{Seen};
 ghost use Rattle.rina_law.specs.Direction.{Direction};
 ghost use Rattle.rina_data.specs.declared.link.Link.{Link};
@@ -16,9 +16,10 @@ ghost use Rattle.rina_dif.specs.Changing.{ManagesLoss, allocated_at, cep_here, w
 ghost use Rattle.rina_member.specs.Managements.{LosesLink, without_flows};
 ghost use Rattle.rina_member.specs.declared.management.Management.{Management};
 ghost use Rattle.rina_member.specs.Knowing.{AreRoutesOf};
-ghost use Rattle.rina_dif.specs.Unlinking.{FindsLostAt, FindsNoneLeft, HasFailed, LosesAs, TellsNoneLeft, links_without};
+ghost use Rattle.rina_dif.specs.Unlinking.{FindsEnd, FindsLostAt, FindsNoneLeft, HasFailed, LosesAs, TellsNoneLeft, links_without};
 
 use crate::dif::Dif;
+use crate::processes::LinkLoss;
 use rina_base::{Memory, Node, Port, Seq};
 use rina_conn::Conn;
 use rina_data::{Link, Lost, Route, lost_link};
@@ -137,61 +138,86 @@ impl Dif {
         Ok(())
     }
 
-    /// Loses the link that was found at the IPC process at a place: what waits for it is written off, it is no longer
-    /// used, the member makes its link state without it, and the next hops are built anew over the items that it holds then.
-    /// Without memory nothing changes.
-    fn lose_link(&mut self, alloc: Global, at: usize, lost: Lost) -> Result<(), Memory>
+    /// Loses the link that was found at the IPC process at a place, whose management connection has this open end, if it has
+    /// one: what waits for it is written off, it is no longer used, that end closes, the member makes its link state without
+    /// the link, and the next hops are built anew over the items that it holds then. Without memory nothing changes.
+    fn lose_link(
+        &mut self,
+        alloc: Global,
+        at: usize,
+        lost: Lost,
+        end: Option<usize>,
+    ) -> Result<(), Memory>
         requires stands { (below : Seen) × Stands self.old below × FindsLostAt self.old below at (Some lost) }
         requires at { at < length self.old.settings.members }
+        requires end { FindsEnd self.old at lost.place end }
         ensures does { (node : ℕ) (lines : List Direction) (below : Seen) → Holds self.old lines below → FindsLostAt self.old below at (Some lost) → FindsNoneLeft self.old below at lost.place None → LosesAs self.old lines below at node lost.number result self.new }
         ensures same { (self.new.settings ≡ self.old.settings) × (self.new.failed ≡ self.old.failed) }
         ensures laid { self.new.laid ≡ self.old.laid }
-        ensures whole { self.new ≡ record self.old { processes = self.new.processes; flows = self.new.flows; managements = self.new.managements } }
+        ensures whole { self.new ≡ record self.old { processes = self.new.processes; connections = self.new.connections; flows = self.new.flows; managements = self.new.managements } }
+        ensures stays { OnErr result (self.new.connections ≡ self.old.connections) }
         ensures manages { (node : ℕ) (below : Seen) → FindsLostAt self.old below at (Some lost) → FindsNoneLeft self.old below at lost.place None → ManagesLoss result self.old below at node lost.number self.new.managements }
         ensures leaves { ChangesProcess (Some at) self.old.processes self.new.processes }
         ensures flows { self.new.flows ≡ self.old.flows }
     {
         let after = self.management_without(alloc, at, lost)?;
         let routes = self.routes_over(alloc, &after)?;
-        self.processes.lose_link(alloc, at, lost.place, routes)?;
+        let loss = LinkLoss {
+            place: lost.place,
+            routes,
+            end,
+            now: self.clock,
+        };
+        let links = &mut self.connections.flows;
+        self.processes.lose_link(alloc, at, loss, links)?;
         self.managements.set(at, after);
         Ok(())
     }
 
-    /// Loses the link that was found at the IPC process at a place, the last one of that node, and lets all flows there
-    /// fail with it, since the flow of its port below has failed. Without memory nothing changes.
+    /// Loses the link that was found at the IPC process at a place, the last one of that node, as `lose_link` does, and lets
+    /// all flows there fail with it, since the flow of its port below has failed. Without memory nothing changes.
     fn lose_last_link(
         &mut self,
         alloc: Global,
         at: usize,
         node: Node,
         lost: Lost,
+        end: Option<usize>,
         port: Port,
     ) -> Result<(), Memory>
         requires stands { (below : Seen) × Stands self.old below × FindsLostAt self.old below at (Some lost) }
         requires at { at < length self.old.settings.members }
         requires home { home node (config_of self.old.settings).members ≡ Some at }
+        requires end { FindsEnd self.old at lost.place end }
         ensures does { (lines : List Direction) (below : Seen) → Holds self.old lines below → FindsLostAt self.old below at (Some lost) → FindsNoneLeft self.old below at lost.place (Some port) → LosesAs self.old lines below at node lost.number result self.new }
         ensures same { (self.new.settings ≡ self.old.settings) × (self.new.failed ≡ self.old.failed) }
         ensures laid { self.new.laid ≡ self.old.laid }
-        ensures whole { self.new ≡ record self.old { processes = self.new.processes; flows = self.new.flows; managements = self.new.managements } }
+        ensures whole { self.new ≡ record self.old { processes = self.new.processes; connections = self.new.connections; flows = self.new.flows; managements = self.new.managements } }
+        ensures stays { OnErr result (self.new.connections ≡ self.old.connections) }
         ensures manages { (below : Seen) → FindsLostAt self.old below at (Some lost) → FindsNoneLeft self.old below at lost.place (Some port) → ManagesLoss result self.old below at node lost.number self.new.managements }
         ensures leaves { ChangesOnly (λ i. WhenOk result (IsEndOf self.old (Some at) i)) (Some at) self.old self.new }
     {
         let mut management = self.management_without(alloc, at, lost)?;
         let routes = self.routes_over(alloc, &management)?;
         self.end_flows(alloc, node, &mut management)?;
+        let loss = LinkLoss {
+            place: lost.place,
+            routes,
+            end,
+            now: self.clock,
+        };
         let state = PortState::Failed(Fail::Below { port });
+        let links = &mut self.connections.flows;
         let flows = &mut self.flows;
-        self.processes.lose_last_link(
-            alloc, at, lost.place, routes, flows, self.clock, node, state,
-        )?;
+        self.processes
+            .lose_last_link(alloc, at, loss, links, flows, node, state)?;
         self.managements.set(at, management);
         Ok(())
     }
 
-    /// Loses the link that was found at the IPC process at a place, at a node. Where no other is live, and its flow below
-    /// has failed, all flows at the node fail with it. Without memory nothing changes.
+    /// Loses the link that was found at the IPC process at a place, at a node, and closes the end of its management connection
+    /// there. Where no other link is live, and its flow below has failed, all flows at the node fail with it. Without memory
+    /// nothing changes.
     pub(crate) fn lose_at<F: Facility>(
         &mut self,
         alloc: Global,
@@ -208,16 +234,19 @@ impl Dif {
         ensures does { (lines : List Direction) → Holds self.old lines (F.seen below.now) → LosesAs self.old lines (F.seen below.now) at node lost.number result self.new }
         ensures same { (self.new.settings ≡ self.old.settings) × (self.new.failed ≡ self.old.failed) }
         ensures laid { self.new.laid ≡ self.old.laid }
-        ensures whole { self.new ≡ record self.old { processes = self.new.processes; flows = self.new.flows; managements = self.new.managements } }
+        ensures whole { self.new ≡ record self.old { processes = self.new.processes; connections = self.new.connections; flows = self.new.flows; managements = self.new.managements } }
+        ensures stays { OnErr result (self.new.connections ≡ self.old.connections) }
         ensures manages { ManagesLoss result self.old (F.seen below.now) at node lost.number self.new.managements }
         ensures leaves { ChangesOnly (λ i. WhenOk result (IsEndOf self.old (Some at) i)) (Some at) self.old self.new }
     {
         let Some(process) = self.processes.get(at) else {
             unreachable!()
         };
-        match last_failed(process.links.as_slice(), lost.place, below) {
-            Some(port) => self.lose_last_link(alloc, at, node, lost, port),
-            None => self.lose_link(alloc, at, lost),
+        let links = process.links.as_slice();
+        let end = self.connections.open_on(links[lost.place].port);
+        match last_failed(links, lost.place, below) {
+            Some(port) => self.lose_last_link(alloc, at, node, lost, end, port),
+            None => self.lose_link(alloc, at, lost, end),
         }
     }
 }

@@ -1,6 +1,6 @@
 //! The managements of the members of a DIF, and the next hops over the items that they hold.
 ghost use Rattle.std.specs.Prelude.{◌≡◌, ◌<◌, ◌≤◌, [], ◌∷◌, ◌++◌, length, map, slice_get, slice_set, Some, IfOk, OnOk, OnErr, MatchOption};
-ghost use Rattle.rina_dif.specs.Changing.{changed_at, with_flow_at};
+ghost use Rattle.rina_dif.specs.Changing.{MayHaveEntered, changed_at, with_flow_at};
 ghost use Rattle.rina_dif.specs.Managing.{AreStarted};
 ghost use Rattle.rina_dif.specs.Routing.{AreRouted};
 ghost use Rattle.rina_member.specs.Managements.{entered, with_objects};
@@ -74,29 +74,23 @@ impl Managements {
         self.items[at] = management;
     }
 
-    /// The managements once every member took the directory entry of an application that is registered at the member of an
-    /// address. Those that are given stay as they are.
-    pub fn entered(
-        &self,
-        alloc: Global,
-        app: &AppName,
-        address: Addr,
-    ) -> Result<Managements, Memory>
-        ensures { IfOk result (λ ms. ms ≡ map (entered app.now address) self.now) }
+    /// Every member takes the directory entry of an application that is registered at the member of an address. Where an
+    /// allocation fails, the agent of each member is as before, or holds the entry.
+    pub fn enter_all(&mut self, alloc: Global, app: &AppName, address: Addr) -> Result<(), Memory>
+        ensures ok { OnOk result (self.new ≡ map (entered app.now address) self.old) }
+        ensures err { OnErr result (MayHaveEntered app.now address self.old self.new) }
     {
-        let mut all = Managements::new(alloc);
-        for management in self.as_slice() {
-            let mut after = management.copy(alloc)?;
-            after.enter(alloc, app, address)?;
-            all.push(after)?;
+        for at in 0..self.items.len() {
+            self.items[at].enter(alloc, app, address)?;
         }
-        Ok(all)
+        Ok(())
     }
 
-    /// Shows the object of a flow at the member of a place.
+    /// Shows the object of a flow at the member of a place. Where an allocation fails nothing changes.
     pub fn show_flow(&mut self, alloc: Global, at: usize, cep: Cep) -> Result<(), Memory>
         requires { at < length self.old }
-        ensures { OnOk result (self.new ≡ with_flow_at at cep self.old) }
+        ensures ok { OnOk result (self.new ≡ with_flow_at at cep self.old) }
+        ensures err { OnErr result (self.new ≡ self.old) }
     {
         self.items[at].show_flow(alloc, cep)
     }

@@ -1,5 +1,6 @@
 //! The IPC processes of a DIF.
-ghost use Rattle.std.specs.Prelude.{◌≡◌, ◌<◌, ◌≤◌, [], ◌∷◌, ◌++◌, length, map, slice_get, Some, MatchOption, OnOk, OnErr, ◌+◌, IsSome};
+ghost use Rattle.std.specs.Prelude.{◌≡◌, ◌<◌, ◌≤◌, [], ◌∷◌, ◌++◌, length, map, slice_get, Some, MatchOption, IfOk, IfSome, OnOk, OnErr, ◌+◌, IsSome};
+ghost use Rattle.std.specs.Vec.{vec_capacity};
 ghost use Rattle.rina_iface.specs.Later.{IsLater};
 ghost use Rattle.rina_iface.specs.Send.{SendsAsSeen};
 ghost use Rattle.rina_base.specs.Pdus.{pdu_of};
@@ -8,24 +9,27 @@ ghost use Rattle.rina_queue.specs.declared.queue.Queue.{Queue};
 ghost use Rattle.rina_queue.specs.Queues.{Changes, queue_place, waiting, with_items};
 ghost use Rattle.rina_data.specs.declared.process.IpcProcess.{IpcProcess};
 ghost use Rattle.rina_data.specs.Configs.{config_of};
-ghost use Rattle.rina_data.specs.Deciding.{queue_settings};
+ghost use Rattle.rina_data.specs.Deciding.{process_of, queue_settings};
 ghost use Rattle.rina_data.specs.Hops.{hop_of};
 ghost use Rattle.rina_data.specs.Lower.{SendsBelow};
 ghost use Rattle.rina_data.specs.Outgoing.{IsHeld};
 ghost use Rattle.rina_dif_law.specs.Losing.{IsAllocatedAt};
+ghost use Rattle.rina_dif.specs.Closing.{ClosesIn, held_at};
 ghost use Rattle.rina_dif.specs.Elsewhere.{WhenOk};
 ghost use Rattle.rina_dif.specs.Laying.{AddsLink, AddsLinkAt};
 ghost use Rattle.rina_dif.specs.Routing.{SetsRoutes};
 ghost use Rattle.rina_dif.specs.Sending.{AreOf, HasRoomFor, Puts, queued};
 ghost use Rattle.rina_dif.specs.Steps.{AsksAt, Leaves, WillGo};
-ghost use Rattle.rina_dif.specs.Taking.{ArrivesTo, DecidesAt, NotesAt, RoutesAt};
+ghost use Rattle.rina_dif.specs.Taking.{ArrivesOnLink, ArrivesTo, DecidesAt, NotesAt, RoutesAt};
 ghost use Rattle.rina_dif.specs.Timely.{ForwardsAt, WithLedger};
-ghost use Rattle.rina_dif.specs.Unlinking.{LosesIn, LosesLast, LosesLastIn};
+ghost use Rattle.rina_dif.specs.Unlinking.{LosesIn, LosesLast, LosesLastIn, LosesOr, LosesThenCloses};
 ghost use Rattle.rina_flows.specs.Delivering.{ForgetsIn, StopsIn};
 ghost use Rattle.rina_flows.specs.Elsewhere.{ChangesAt};
 ghost use Rattle.rina_flows.specs.Timely.{GivesUpIn};
 
+use rina_account::Off;
 use rina_base::{Addr, Cause, Memory, Node, Num, Pdu, PduView, Port, Seq, Tick};
+use rina_channel::{stop_with_room, unname_lines};
 use rina_data::{Decision, HopView, IpcProcess, Link, OutStep, Route, Settings, StepError};
 use rina_flows::Flows;
 use rina_iface::{Facility, PortState};
@@ -81,28 +85,110 @@ fn add_link(process: &mut IpcProcess, alloc: Global, port: Port) -> Result<(), M
     Ok(())
 }
 
-/// Loses the link at a place of an IPC process, and ends each allocated end at its node with a state other than
-/// `Allocated`. Without memory nothing changes.
+/// A link that an IPC process loses.
+#[derive(Drop)]
+pub struct LinkLoss {
+    /// Its place among the links.
+    pub place: usize,
+    /// The next hops without it.
+    pub routes: Seq<Route>,
+    /// The place of the end of its management connection, where that is allocated.
+    pub end: Option<usize>,
+    pub now: Tick,
+}
+
+/// How many pieces the end of a management connection holds, where one is given.
+fn held_at(links: &Flows, end: Option<usize>) -> u64
+    requires { IfSome end (λ place. place < length links.now.conns) }
+    ensures { result ≡ held_at end links.now }
+{
+    match end {
+        Some(place) => links.kept(place),
+        None => 0,
+    }
+}
+
+/// Closes the end of a management connection, where one is given, and writes off what it holds behind these lines. Takes
+/// memory only where they have no room.
+fn close_end(links: &mut Flows, now: Tick, end: Option<usize>, lines: &mut Vec<Off>)
+    requires end { IfSome end (λ place. place < length links.old.journal.ends) }
+    requires conn { IfSome end (λ place. place < length links.old.conns) }
+    ensures closes { ClosesIn now end links.old lines.old.items (vec_capacity lines.old) links.new lines.new.items }
+    ensures capacity { vec_capacity lines.old ≤ vec_capacity lines.new }
+{
+    if let Some(place) = end {
+        stop_with_room(links, now, place, PortState::Closed, lines);
+    }
+}
+
+/// Loses a link of an IPC process, and closes the end of its management connection, where one is open. Hands out the lines
+/// of the ledger, with room for so many more, until they are put back. Without memory nothing changes.
+fn lose_with_room(
+    process: &mut IpcProcess,
+    alloc: Global,
+    loss: LinkLoss,
+    links: &mut Flows,
+    more: usize,
+) -> Result<Vec<Off>, Memory>
+    requires place { loss.place < length process.old.links }
+    requires end { IfSome loss.end (λ place. place < length links.old.journal.ends) }
+    requires conn { IfSome loss.end (λ place. place < length links.old.conns) }
+    ensures ok { IfOk result (λ v. (l : LosesThenCloses loss more links.old (process_of process.old) links.new (record (process_of process.new) { ledger = v.items })) × (l.room ≤ vec_capacity v)) }
+    ensures err { OnErr result ((links.new ≡ links.old) × (process_of process.new ≡ process_of process.old)) }
+    ensures kept { queue_settings process.new ≡ queue_settings process.old }
+{
+    let held = held_at(links, loss.end);
+    let Some(room) = (held as usize).checked_add(more) else {
+        return Err(Memory);
+    };
+    let mut lines = process.lose_link_with_room(alloc, loss.place, loss.routes, room)?;
+    close_end(links, loss.now, loss.end, &mut lines);
+    Ok(lines)
+}
+
+/// Loses a link of an IPC process, and closes the end of its management connection, where one is open. Without memory nothing
+/// changes.
+fn lose_link(
+    process: &mut IpcProcess,
+    alloc: Global,
+    loss: LinkLoss,
+    links: &mut Flows,
+) -> Result<(), Memory>
+    requires place { loss.place < length process.old.links }
+    requires end { IfSome loss.end (λ place. place < length links.old.journal.ends) }
+    requires conn { IfSome loss.end (λ place. place < length links.old.conns) }
+    ensures does { LosesOr loss result links.old (process_of process.old) links.new (process_of process.new) }
+    ensures kept { queue_settings process.new ≡ queue_settings process.old }
+{
+    let lines = lose_with_room(process, alloc, loss, links, 0)?;
+    process.ledger.put(lines);
+    Ok(())
+}
+
+/// Loses a link of an IPC process, closes the end of its management connection, where one is open, and ends each allocated
+/// end at its node with a state other than `Allocated`. Without memory nothing changes.
 fn lose_last_link(
     process: &mut IpcProcess,
     alloc: Global,
-    place: usize,
-    routes: Seq<Route>,
+    loss: LinkLoss,
+    links: &mut Flows,
     flows: &mut Flows,
-    now: Tick,
     node: Node,
     state: PortState,
 ) -> Result<(), Memory>
-    requires place { place < length process.old.links }
+    requires place { loss.place < length process.old.links }
+    requires end { IfSome loss.end (λ place. place < length links.old.journal.ends) }
+    requires conn { IfSome loss.end (λ place. place < length links.old.conns) }
     requires alike { length flows.old.journal.ends ≡ length flows.old.conns }
-    ensures does { LosesLast now node state place routes flows.old process.old result flows.new process.new }
+    ensures does { LosesLast node state loss links.old flows.old process.old result links.new flows.new process.new }
     ensures kept { queue_settings process.new ≡ queue_settings process.old }
     ensures leaves { ChangesAt (λ i. WhenOk result (IsAllocatedAt flows.old.journal.ends node i)) flows.old flows.new }
 {
+    let now = loss.now;
     let Some(held) = flows.held_at(node) else {
         return Err(Memory);
     };
-    let mut lines = process.lose_link_with_room(alloc, place, routes, held)?;
+    let mut lines = lose_with_room(process, alloc, loss, links, held)?;
     flows.stop_all(now, node, state, &mut lines);
     process.ledger.put(lines);
     Ok(())
@@ -158,45 +244,48 @@ impl Processes {
         process.routes = routes;
     }
 
-    /// Loses the link at a place of the IPC process at a place, which gets these next hops. Without memory nothing
-    /// changes.
+    /// Loses a link of the IPC process at a place, and closes the end of its management connection, where one is open.
+    /// Without memory nothing changes.
     pub fn lose_link(
         &mut self,
         alloc: Global,
         at: usize,
-        place: usize,
-        routes: Seq<Route>,
+        loss: LinkLoss,
+        links: &mut Flows,
     ) -> Result<(), Memory>
         requires at { at < length self.old }
-        requires place { (p : IpcProcess) → slice_get self.old at ≡ Some p → place < length p.links }
-        ensures { LosesIn place routes result at self.old self.new }
+        requires place { (p : IpcProcess) → slice_get self.old at ≡ Some p → loss.place < length p.links }
+        requires end { IfSome loss.end (λ place. place < length links.old.journal.ends) }
+        requires conn { IfSome loss.end (λ place. place < length links.old.conns) }
+        ensures { LosesIn loss result at links.old self.old links.new self.new }
     {
         let process = &mut self.items[at];
-        process.lose_link(alloc, place, routes)
+        lose_link(process, alloc, loss, links)
     }
 
-    /// Loses the link at a place of the IPC process at a place, as `lose_link` does, and ends each allocated end at its node
-    /// with a state other than `Allocated`, in the order of the journal; what their connections hold is written off
-    /// behind what waited for the link. Without memory nothing changes.
+    /// Loses a link of the IPC process at a place, as `lose_link` does, and ends each allocated end at its node with a state
+    /// other than `Allocated`, in the order of the journal; what their connections hold is written off behind what the
+    /// link and its management connection had. Without memory nothing changes.
     pub fn lose_last_link(
         &mut self,
         alloc: Global,
         at: usize,
-        place: usize,
-        routes: Seq<Route>,
+        loss: LinkLoss,
+        links: &mut Flows,
         flows: &mut Flows,
-        now: Tick,
         node: Node,
         state: PortState,
     ) -> Result<(), Memory>
         requires at { at < length self.old }
-        requires place { (p : IpcProcess) → slice_get self.old at ≡ Some p → place < length p.links }
+        requires place { (p : IpcProcess) → slice_get self.old at ≡ Some p → loss.place < length p.links }
+        requires end { IfSome loss.end (λ place. place < length links.old.journal.ends) }
+        requires conn { IfSome loss.end (λ place. place < length links.old.conns) }
         requires alike { length flows.old.journal.ends ≡ length flows.old.conns }
-        ensures loses { LosesLastIn now node state place routes result at flows.old self.old flows.new self.new }
+        ensures loses { LosesLastIn node state loss result at links.old flows.old self.old links.new flows.new self.new }
         ensures leaves { ChangesAt (λ i. WhenOk result (IsAllocatedAt flows.old.journal.ends node i)) flows.old flows.new }
     {
         let process = &mut self.items[at];
-        lose_last_link(process, alloc, place, routes, flows, now, node, state)
+        lose_last_link(process, alloc, loss, links, flows, node, state)
     }
 
     /// Takes one step of the IPC process at a place at a link: a PDU that waits is sent below, or written off, or stays.
@@ -312,6 +401,30 @@ impl Processes {
     {
         let process = &mut self.items[at];
         flows.on_data(alloc, now, place, pdu, &mut process.ledger)
+    }
+
+    /// Lets the management connection at a place of these flows take a piece that came on the link of an IPC process. What
+    /// it writes off has source 0 in the ledger, as on the link.
+    pub fn on_link_data(
+        &mut self,
+        alloc: Global,
+        at: usize,
+        flows: &mut Flows,
+        now: Tick,
+        place: usize,
+        pdu: &PduView<'_>,
+    ) -> Result<Option<Cause>, Memory>
+        requires now { now ≤ 10_000_000 }
+        requires at { at < length self.old }
+        requires end { place < length flows.old.journal.ends }
+        requires conn { place < length flows.old.conns }
+        ensures { ArrivesOnLink now place (pdu_of pdu.now) at flows.old self.old result flows.new self.new }
+    {
+        let process = &mut self.items[at];
+        let from = process.ledger.lines().len();
+        let cause = flows.on_data(alloc, now, place, pdu, &mut process.ledger)?;
+        unname_lines(&mut process.ledger, alloc, from);
+        Ok(cause)
     }
 
     /// Writes off what the connection at a place of the flows holds of a state that has ended, in the ledger of the IPC

@@ -4,8 +4,8 @@ ghost use Rattle.rina_iface.specs.Journal.{AreKept};
 ghost use Rattle.rina_iface.specs.Seen.{Seen};
 ghost use Rattle.rina_data.specs.Configs.{config_of};
 ghost use Rattle.rina_dif_law.specs.Numbered.{AreMembers};
-ghost use Rattle.rina_dif_law.specs.Standing.{IsConfig};
 ghost use Rattle.rina_dif.specs.Building.{AreBare, IsBare, IsBareDif, IsFree, queue_ids};
+ghost use Rattle.rina_dif.specs.Connected.{CanManage};
 ghost use Rattle.rina_dif.specs.Holding.{Holds};
 
 use crate::connections::Connections;
@@ -60,14 +60,14 @@ fn all_bare(alloc: Global, settings: &Settings) -> Result<Processes, Memory>
 impl Dif {
     /// A DIF of these settings, whose clock is that of the rank below, without links, names and flows, where everyone may
     /// enrol. `manage` is the cube of the management connections that its links will have. It stands on every kept rank where
-    /// no end has a member as its application or its peer.
+    /// no end has a member as its application or its peer, if it can have such connections.
     pub fn new(alloc: Global, settings: Settings, manage: Cube, clock: Tick) -> Result<Dif, Memory>
         ensures settings { IfOk result (λ d. d.settings ≡ settings) }
         ensures clock { IfOk result (λ d. d.clock ≡ clock) }
         ensures manage { IfOk result (λ d. d.connections.manage ≡ manage) }
         ensures alive { IfOk result (λ d. d.failed ≡ false) }
         ensures bare { IfOk result IsBareDif }
-        ensures holds { IfOk result (λ d. (below : Seen) → AreKept below → IsConfig (config_of settings) → AreMembers (config_of settings) → clock ≡ below.now → IsFree (config_of settings) below → Holds d [] below) }
+        ensures holds { IfOk result (λ d. (below : Seen) → AreKept below → CanManage (config_of settings) manage → AreMembers (config_of settings) → clock ≡ below.now → IsFree (config_of settings) below → Holds d [] below) }
     {
         let processes = all_bare(alloc, &settings)?;
         let laid = Layout::none(alloc);

@@ -1,4 +1,4 @@
-use Rattle.std.proofs.Common.{◌≡◌, ◌∙◌, List, Ok, Some, ap, refl, slice_set, subst, sym}
+use Rattle.std.proofs.Common.{◌≡◌, ◌∙◌, List, None, Ok, Some, ap, refl, slice_set, subst, sym}
 use Rattle.std.proofs.lemmas.Result.{err_from_is_err_and}
 use Rattle.rina_agent.specs.declared.agent.Agent.{Agent}
 use Rattle.rina_member.specs.Knowing.{AreRoutesOf}
@@ -6,38 +6,48 @@ use Rattle.rina_member.specs.declared.management.Management.{Management}
 use Rattle.rina_base.specs.declared.memory.Memory.{Memory}
 use Rattle.rina_iface.specs.declared.state.Fail.TheVariants.{Below}
 use Rattle.rina_iface.specs.declared.state.PortState.TheVariants.{Failed}
+use Rattle.rina_dif.specs.declared.processes.LinkLoss.{LinkLoss}
 use Rattle.rina_dif.specs.Changing.{allocated_at}
 use Rattle.rina_dif.specs.Unlinking.{LosesAs}
 use Rattle.rina_dif.proofs.Managed.{ended_agent}
-use Rattle.rina_dif.proofs.Unlinked.{has_agent}
-use Rattle.rina_dif.proofs.Cutting.{last_loses, last_stays}
+use Rattle.rina_dif.proofs.Unlinked.{has_agent, lost_conn, lost_end, on_err}
+use Rattle.rina_dif.proofs.Cutting.{last_loses, last_same, last_stays}
 use Rattle.rina_dif.proofs.Elsewhere.{allocated_of, last_failed_leaves, last_leaves}
 use Rattle.rina_dif.proofs.dif.Dif.lose_last_link.Goals as goal
+
+pub lose_last_link-requires-clause-end : goal.lose_last_link-requires-clause-end
+lose_last_link-requires-clause-end c = lost_end c.args.self.now c.args.at c.args.lost c.args.end c.requires.stands c.requires.at c.requires.end
+
+pub lose_last_link-requires-clause-conn : goal.lose_last_link-requires-clause-conn
+lose_last_link-requires-clause-conn c = lost_conn c.args.self.now c.args.at c.args.lost c.args.end c.requires.stands c.requires.at c.requires.end
 
 pub returns-in_err-lose_last_link-clause-does : goal.returns-in_err-lose_last_link-clause-does
 returns-in_err-lose_last_link-clause-does c = λ lines below h finds left.
     let err = err_from_is_err_and c.from_residual-in_err-lose_last_link.result c.from_residual-in_err-lose_last_link.ensures.1 in
-    last_stays c.args.self.now c.args.at c.args.node c.args.lost c.from_residual-in_err-lose_last_link.result c.lose_last_link.new.flows c.lose_last_link.new.self c.requires.at c.in_err-lose_last_link.ensures.loses err.0 err.1 lines below h
+    last_stays c.args.self.now c.args.at c.args.node c.args.lost c.from_residual-in_err-lose_last_link.result c.lose_last_link.new.links c.lose_last_link.new.flows c.lose_last_link.new.self c.requires.at c.in_err-lose_last_link.ensures.loses err.0 err.1 lines below h
 
 pub returns-in_err-lose_last_link-clause-leaves : goal.returns-in_err-lose_last_link-clause-leaves
 returns-in_err-lose_last_link-clause-leaves c =
     let d = c.args.self.now in
     let l = c.lose_last_link in
-    last_failed_leaves d c.requires.stands.0 c.from_residual-in_err-lose_last_link.result c.args.at l.new.flows l.new.self c.requires.stands.1 c.requires.at c.in_err-lose_last_link.ensures.loses
+    last_failed_leaves d c.requires.stands.0 c.from_residual-in_err-lose_last_link.result c.args.at l.new.links l.new.flows l.new.self c.requires.stands.1 c.requires.at c.in_err-lose_last_link.ensures.loses
 
 pub returns-clause-does : goal.returns-clause-does
 returns-clause-does c = λ lines below h finds left.
     let d = c.args.self.now in
     let l = c.lose_last_link in
+    let loss : LinkLoss = record { place = c.args.lost.place; routes = c.in_ok-routes.routes; end = c.args.end; now = d.clock } in
     let same : c.end_flows.new.management.agent ≡ c.in_ok-management.management.agent = ap (λ (m : Management). m.agent) c.in_ok-end_flows.ensures ∙ ended_agent c.in_ok-management.management (allocated_at c.args.node d.flows) in
-    subst (λ (gs : List Management). LosesAs d lines below c.args.at c.args.node c.args.lost.number (Ok tt) (record d { flows = l.new.flows; processes = l.new.self; managements = gs })) (sym c.set.ensures) (last_loses d c.args.at c.args.node c.args.lost c.args.port c.end_flows.new.management c.in_ok-routes.routes l.new.flows l.new.self c.requires.at c.requires.home (λ g is. (c.in_ok-management.ensures g is).loses ∙ ap Ok (sym same)) (subst (λ (a : Agent). AreRoutesOf a d.settings.members c.in_ok-routes.routes) (sym same) c.in_ok-routes.ensures) c.in_ok-lose_last_link.ensures.loses lines below h finds left)
+    subst (λ (gs : List Management). LosesAs d lines below c.args.at c.args.node c.args.lost.number (Ok tt) (record d { connections = record d.connections { flows = l.new.links }; flows = l.new.flows; processes = l.new.self; managements = gs })) (sym c.set.ensures)
+    (last_loses d c.args.at c.args.node c.args.lost c.args.port loss c.end_flows.new.management l.new.links l.new.flows l.new.self refl refl c.requires.at c.requires.home (λ g is. (c.in_ok-management.ensures g is).loses ∙ ap Ok (sym same)) (subst (λ (a : Agent). AreRoutesOf a d.settings.members c.in_ok-routes.routes) (sym same) c.in_ok-routes.ensures) c.requires.end c.in_ok-lose_last_link.ensures.loses lines below h finds left)
 
 pub returns-clause-leaves : goal.returns-clause-leaves
 returns-clause-leaves c =
     let d = c.args.self.now in
-    let l = c.lose_last_link in (
+    let l = c.lose_last_link in
+    let loss : LinkLoss = record { place = c.args.lost.place; routes = c.in_ok-routes.routes; end = c.args.end; now = d.clock } in (
       allocated_of {T = Unit {0}} {E = Memory} (Ok tt) d l.new.flows c.args.node c.args.at c.requires.home c.in_ok-lose_last_link.ensures.leaves,
-      last_leaves d c.requires.stands.0 c.args.node (Failed (Below c.args.port)) c.args.lost.place c.in_ok-routes.routes (Ok tt) c.args.at l.new.flows l.new.self c.requires.stands.1 c.requires.at c.in_ok-lose_last_link.ensures.loses,
+      last_leaves d c.requires.stands.0 c.args.node (Failed (Below c.args.port)) loss (Ok tt) c.args.at l.new.links l.new.flows l.new.self c.requires.stands.1 c.requires.at c.in_ok-lose_last_link.ensures.loses,
     )
 
 pub returns-clause-manages : goal.returns-clause-manages
@@ -56,3 +66,6 @@ returns-clause-manages c = λ below found left.
       loses = c.in_ok-management.ensures m.0 m.1;
       are = c.set.ensures ∙ ap (slice_set d.managements c.args.at) c.in_ok-end_flows.ensures;
     }
+
+pub returns-in_err-lose_last_link-clause-stays : goal.returns-in_err-lose_last_link-clause-stays
+returns-in_err-lose_last_link-clause-stays c = on_err c.from_residual-in_err-lose_last_link.result _ (last_same c.args.self.now c.requires.stands.0 c.args.at c.lose_last_link.new.links c.lose_last_link.new.flows c.lose_last_link.new.self c.requires.stands.1 c.requires.at c.in_err-lose_last_link.ensures.loses)

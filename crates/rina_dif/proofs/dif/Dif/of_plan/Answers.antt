@@ -7,9 +7,9 @@ use Rattle.rina_base.specs.declared.number.Port.{Port}
 use Rattle.rina_dif.specs.Linking.{AreLinks}
 use Rattle.rina_data.specs.declared.settings.Settings.{Settings}
 use Rattle.rina_data.specs.Configs.{config_of}
-use Rattle.rina_dif_law.specs.Standing.{IsConfig}
-use Rattle.rina_dif.proofs.Sound.{is_config}
-use Rattle.rina_dif.proofs.Joining.{are_links, is_connected, manage_cube}
+use Rattle.rina_dif.specs.Connected.{CanManage}
+use Rattle.rina_dif.proofs.Sound.{can_manage}
+use Rattle.rina_dif.proofs.Joining.{are_links, is_connected}
 use Rattle.rina_dif.proofs.Made.{its_links, its_settings, made_new, made_stands, made_takes}
 use Rattle.rina_dif.proofs.Routed.{same_routed}
 use Rattle.rina_dif.proofs.Started.{few_rules, same_started}
@@ -31,11 +31,8 @@ first_managements-requires-clause-few g c = (let few = few_rules c.args.plan.now
 pub route_all-requires : goal.route_all-requires
 route_all-requires g c = c.in_ok-ports.ensures.ok.up.aligned ∙ sym c.in_ok-managements.ensures.aligned ∙ ap (λ (gs : List Management). length gs) (sym c.as_slice-2.ensures)
 
-pub of_links-requires-clause-config : goal.of_links-requires-clause-config
-of_links-requires-clause-config g c = subst (λ (s : Settings). IsConfig (config_of s)) (sym (c.in_ok-made.ensures.settings ∙ c.in_ok-settings.ensures)) (is_config c.args.plan.now c.args.at c.in-Some.dif.now c.requires.plan c.in-Some.ensures)
-
 pub of_links-requires-clause-manage : goal.of_links-requires-clause-manage
-of_links-requires-clause-manage g c = manage_cube c.args.plan.now c.args.at c.in-Some.dif.now c.requires.plan c.in-Some.ensures
+of_links-requires-clause-manage g c = subst (λ (s : Settings). CanManage (config_of s) c.in-Some.dif.now.manage) (sym (c.in_ok-made.ensures.settings ∙ c.in_ok-settings.ensures)) (can_manage c.args.plan.now c.args.at c.in-Some.dif.now c.requires.plan c.in-Some.ensures)
 
 pub of_links-requires-clause-links : goal.of_links-requires-clause-links
 of_links-requires-clause-links g c =

@@ -52,7 +52,7 @@ returns-in-Relayed-clause-does c =
     let since = c.args.came.now.since in
     let hop = hop_of c.args.came.now.hop in
     let m = c.in-Some.member.now in
-    decided_relayed d m.addr at since hop c.route_or_deliver.new.self c.requires.at (its_addr d at m c.in-Some.ensures) (rw c.in-Relayed.is at c.in_ok-route_or_deliver.ensures)
+    decided_relayed d m.addr at since hop c.route_or_deliver.new.self c.requires.at c.requires.flow (its_addr d at m c.in-Some.ensures) (rw c.in-Relayed.is at c.in_ok-route_or_deliver.ensures)
 
 pub returns-in-Off-clause-does : goal.returns-in-Off-clause-does
 returns-in-Off-clause-does c =
@@ -61,7 +61,7 @@ returns-in-Off-clause-does c =
     let since = c.args.came.now.since in
     let hop = hop_of c.args.came.now.hop in
     let m = c.in-Some.member.now in
-    decided_off d m.addr at since hop c.in-Off.cause c.route_or_deliver.new.self c.requires.at (its_addr d at m c.in-Some.ensures) (rw c.in-Off.is at c.in_ok-route_or_deliver.ensures)
+    decided_off d m.addr at since hop c.in-Off.cause c.route_or_deliver.new.self c.requires.at c.requires.flow (its_addr d at m c.in-Some.ensures) (rw c.in-Off.is at c.in_ok-route_or_deliver.ensures)
 
 pub returns-in-Here-clause-does : goal.returns-in-Here-clause-does
 returns-in-Here-clause-does c =
