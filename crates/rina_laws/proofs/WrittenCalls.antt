@@ -1,5 +1,5 @@
 -- The calls of applications leave a tower that stands; of these only the freeing of a flow writes PDUs off, and with cause.
-use Rattle.std.proofs.Common.{◌≡◌, ℕ, true, false, List, Option, Some, None, IsSome, Result, refl, sym, ap, subst, inl}
+use Rattle.std.proofs.Common.{◌≡◌, ℕ, true, false, List, Option, Some, None, IsSome, Result, refl, sym, ap, subst, inl, inr}
 use Rattle.std.specs.Prelude.{◌||◌}
 use Rattle.rina_account.specs.declared.ledger.Off.{Off}
 use Rattle.rina_base.specs.declared.cause.Cause.{Cause}
@@ -81,7 +81,10 @@ may_more d lines below down more i off all m = record {
   member = m.member;
   process = m.process;
   is_process = m.is_process;
-  may = may_by_more d lines below down more m.member.addr m.process off.key off.cause all m.may;
+  may = elim (m.may) [
+    | inl may ↦ inl (may_by_more d lines below down more m.member.addr m.process off.key off.cause all may)
+    | inr link ↦ inr link
+  ];
 }
 
 -- of a DIF that stands

@@ -40,19 +40,19 @@ clock_flow d lines node (step.LinkNew link) new lines' s = absurd s
 clock_flow d lines node (step.Timeout port) new lines' s = absurd s
 clock_flow d lines node (step.Message link) new lines' s = absurd s
 
-clock_done : (d : Dif) (lines : List Direction) (below : Seen) (node : ℕ) (done : ClockStep) (new : DifSeen) (lines' : List Direction) → Steps d lines below node done new lines' → IsSilent (seen_of d) new
-clock_done d lines below node (step.LinkLost link) new lines' s = loses_silent d lines below s.0.i node link new s.0.loses
-clock_done d lines below node step.Idle new lines' s = clock_flow d lines node step.Idle new lines' s.1
-clock_done d lines below node (step.Gone cep) new lines' s = clock_flow d lines node (step.Gone cep) new lines' s.1
-clock_done d lines below node (step.GaveUp num) new lines' s = clock_flow d lines node (step.GaveUp num) new lines' s.1
-clock_done d lines below node (step.Ack cep) new lines' s = clock_flow d lines node (step.Ack cep) new lines' s.1
-clock_done d lines below node (step.Again num) new lines' s = clock_flow d lines node (step.Again num) new lines' s.1
-clock_done d lines below node (step.LinkNew link) new lines' s = clock_flow d lines node (step.LinkNew link) new lines' s.1
-clock_done d lines below node (step.Timeout port) new lines' s = clock_flow d lines node (step.Timeout port) new lines' s.1
-clock_done d lines below node (step.Message link) new lines' s = clock_flow d lines node (step.Message link) new lines' s.1
+clock_done : (d : Dif) (lines : List Direction) (below : Seen) (node : ℕ) (done : ClockStep) (d' : Dif) (lines' : List Direction) → Steps d lines below node done d' lines' → IsSilent (seen_of d) (seen_of d')
+clock_done d lines below node (step.LinkLost link) d' lines' s = loses_silent d lines below s.0.i node link d' s.0.loses
+clock_done d lines below node step.Idle d' lines' s = clock_flow d lines node step.Idle (seen_of d') lines' s.1
+clock_done d lines below node (step.Gone cep) d' lines' s = clock_flow d lines node (step.Gone cep) (seen_of d') lines' s.1
+clock_done d lines below node (step.GaveUp num) d' lines' s = clock_flow d lines node (step.GaveUp num) (seen_of d') lines' s.1
+clock_done d lines below node (step.Ack cep) d' lines' s = clock_flow d lines node (step.Ack cep) (seen_of d') lines' s.1
+clock_done d lines below node (step.Again num) d' lines' s = clock_flow d lines node (step.Again num) (seen_of d') lines' s.1
+clock_done d lines below node (step.LinkNew link) d' lines' s = clock_flow d lines node (step.LinkNew link) (seen_of d') lines' s.1
+clock_done d lines below node (step.Timeout port) d' lines' s = clock_flow d lines node (step.Timeout port) (seen_of d') lines' s.1
+clock_done d lines below node (step.Message link) d' lines' s = clock_flow d lines node (step.Message link) (seen_of d') lines' s.1
 
 clock_ok : (d : Dif) (lines : List Direction) (below : Seen) (node : ℕ) (r : Result ClockStep StepError) (d' : Dif) (lines' : List Direction) → StepsOk d lines below node r d' lines' → IsSilent (seen_of d) (seen_of d')
-clock_ok d lines below node (Ok done) d' lines' s = clock_done d lines below node done (seen_of d') lines' s
+clock_ok d lines below node (Ok done) d' lines' s = clock_done d lines below node done d' lines' s
 clock_ok d lines below node (Err e) d' lines' s = absurd s
 
 clock_at : (d : Dif) (lines : List Direction) (below : Seen) (node : ℕ) (r : Result ClockStep StepError) (d' : Dif) (lines' : List Direction) (o : Option ℕ) → AtHome o (λ i. StepsOk d lines below node r d' lines') ((r ≡ Err NoIpc) × (seen_of d' ≡ seen_of d) × (lines' ≡ lines)) → IsSilent (seen_of d) (seen_of d')

@@ -1,5 +1,5 @@
 -- The objects of a member of a DIF of a rank.
-use Rattle.std.proofs.Common.{◌≡◌, ◌∙◌, ℕ, List, Some, Result, Ok, Err}
+use Rattle.std.proofs.Common.{◌≡◌, ◌∙◌, ℕ, List, Some, Result, Ok, Err, inr}
 use Rattle.rina_data.specs.declared.step.StepError.{StepError}
 use Rattle.rina_data.specs.declared.step.StepError.TheVariants.{Memory, NoIpc, NoLink}
 use Rattle.rina_data.specs.Configs.{config_of}
@@ -14,6 +14,6 @@ use Rattle.rina_tower.specs.Objects.{ShowsUnderAt}
 -- what the DIF of that place shows
 pub shows_there : (t : Tower) (r n node : ℕ) (under : List ℕ) (d : Dif) (found : Result (List Shown) StepError) → dif_at t r n ≡ Some d → member_at t r n node ≡ home node (config_of d.settings).members → ShowsUnder d node under found → ShowsUnderAt t r n node under found
 shows_there t r n node under d (Ok objects) there member is = record { dif = d; is_dif = there; shown = is }
-shows_there t r n node under d (Err Memory) there member is = tt
+shows_there t r n node under d (Err Memory) there member is = inr (record { place = is.place; at_home = member ∙ is.at_home })
 shows_there t r n node under d (Err NoIpc) there member is = member ∙ is
 shows_there t r n node under d (Err NoLink) there member is = absurd is

@@ -19,7 +19,7 @@ use Rattle.rina_data.specs.Hops.{Hop}
 use Rattle.rina_data.specs.Configs.{Member, config_of}
 use Rattle.rina_dif_law.specs.Dif.{DifSeen}
 use Rattle.rina_data.specs.Process.{Process}
-use Rattle.rina_dif_law.specs.Incoming.{Ins, IsArrived, IsTold, Settles, SettlesOff}
+use Rattle.rina_dif_law.specs.Incoming.{Ins, IsArrived, IsTold, Settles, SettlesFlow, SettlesOff}
 use Rattle.rina_dif_law.specs.Outgoing.{Outs}
 use Rattle.rina_dif_law.specs.Sending.{home}
 use Rattle.rina_dif.specs.declared.dif.Dif.{Dif}
@@ -48,10 +48,16 @@ own_waits : (d : DifSeen) (lines : List Direction) (i : ℕ) (process : Process)
 own_waits d lines i process hop d' lines' (inl a) = ap (λ (x : DifSeen). x.waiting) a.new_is
 own_waits d lines i process hop d' lines' (inr t) = ap (λ (x : DifSeen). x.waiting) t.new_is
 
+flow_waits : (d : DifSeen) (lines : List Direction) (i : ℕ) (member : Member) (process : Process) (at : ℕ) (hop : Hop) (end : Took) (d' : DifSeen) (lines' : List Direction) → SettlesFlow d lines i member process at hop end d' lines' → SameWait d d'
+flow_waits d lines i member process at hop took.Accepted d' lines' s = own_waits d lines i process hop d' lines' s.2
+flow_waits d lines i member process at hop took.Relayed d' lines' s = ap (λ (x : DifSeen). x.waiting) s.2.new_is
+flow_waits d lines i member process at hop (took.Off cause) d' lines' s = off_waits d lines i member process at hop cause d' lines' s
+
 settles_waits : (d : DifSeen) (lines : List Direction) (i : ℕ) (member : Member) (process : Process) (at : ℕ) (hop : Hop) (end : Took) (d' : DifSeen) (lines' : List Direction) → Settles d lines i member process at hop end d' lines' → SameWait d d'
-settles_waits d lines i member process at hop took.Accepted d' lines' s = own_waits d lines i process hop d' lines' s.2
-settles_waits d lines i member process at hop took.Relayed d' lines' s = ap (λ (x : DifSeen). x.waiting) s.2.new_is
-settles_waits d lines i member process at hop (took.Off cause) d' lines' s = off_waits d lines i member process at hop cause d' lines' s
+settles_waits d lines i member process at hop end d' lines' s = elim s [
+  | inl flow ↦ flow_waits d lines i member process at hop end d' lines' flow.1
+  | inr link ↦ ap (λ (x : DifSeen). x.waiting) link.new_is
+]
 
 ins_wait : (d : DifSeen) (lines : List Direction) (below : Seen) (i n : ℕ) (r : Result InStep StepError) (d' : DifSeen) (lines' : List Direction) (below' : Seen) → Ins d lines below i n r d' lines' below' → SameWait d d'
 ins_wait d lines below i n (Ok ins.Idle) d' lines' below' h = ap (λ (x : DifSeen). x.waiting) h.1
@@ -108,19 +114,19 @@ clock_flow d lines node (clocks.LinkNew link) new lines' s = absurd s
 clock_flow d lines node (clocks.Timeout port) new lines' s = absurd s
 clock_flow d lines node (clocks.Message link) new lines' s = absurd s
 
-clock_done : (d : Dif) (lines : List Direction) (below : Seen) (node : ℕ) (done : ClockStep) (new : DifSeen) (lines' : List Direction) → Steps d lines below node done new lines' → SameWait (seen_of d) new
-clock_done d lines below node (clocks.LinkLost link) new lines' s = loses_waits d lines below s.0.i node link new s.0.loses
-clock_done d lines below node clocks.Idle new lines' s = clock_flow d lines node clocks.Idle new lines' s.1
-clock_done d lines below node (clocks.Gone cep) new lines' s = clock_flow d lines node (clocks.Gone cep) new lines' s.1
-clock_done d lines below node (clocks.GaveUp num) new lines' s = clock_flow d lines node (clocks.GaveUp num) new lines' s.1
-clock_done d lines below node (clocks.Ack cep) new lines' s = clock_flow d lines node (clocks.Ack cep) new lines' s.1
-clock_done d lines below node (clocks.Again num) new lines' s = clock_flow d lines node (clocks.Again num) new lines' s.1
-clock_done d lines below node (clocks.LinkNew link) new lines' s = clock_flow d lines node (clocks.LinkNew link) new lines' s.1
-clock_done d lines below node (clocks.Timeout port) new lines' s = clock_flow d lines node (clocks.Timeout port) new lines' s.1
-clock_done d lines below node (clocks.Message link) new lines' s = clock_flow d lines node (clocks.Message link) new lines' s.1
+clock_done : (d : Dif) (lines : List Direction) (below : Seen) (node : ℕ) (done : ClockStep) (d' : Dif) (lines' : List Direction) → Steps d lines below node done d' lines' → SameWait (seen_of d) (seen_of d')
+clock_done d lines below node (clocks.LinkLost link) d' lines' s = loses_waits d lines below s.0.i node link d' s.0.loses
+clock_done d lines below node clocks.Idle d' lines' s = clock_flow d lines node clocks.Idle (seen_of d') lines' s.1
+clock_done d lines below node (clocks.Gone cep) d' lines' s = clock_flow d lines node (clocks.Gone cep) (seen_of d') lines' s.1
+clock_done d lines below node (clocks.GaveUp num) d' lines' s = clock_flow d lines node (clocks.GaveUp num) (seen_of d') lines' s.1
+clock_done d lines below node (clocks.Ack cep) d' lines' s = clock_flow d lines node (clocks.Ack cep) (seen_of d') lines' s.1
+clock_done d lines below node (clocks.Again num) d' lines' s = clock_flow d lines node (clocks.Again num) (seen_of d') lines' s.1
+clock_done d lines below node (clocks.LinkNew link) d' lines' s = clock_flow d lines node (clocks.LinkNew link) (seen_of d') lines' s.1
+clock_done d lines below node (clocks.Timeout port) d' lines' s = clock_flow d lines node (clocks.Timeout port) (seen_of d') lines' s.1
+clock_done d lines below node (clocks.Message link) d' lines' s = clock_flow d lines node (clocks.Message link) (seen_of d') lines' s.1
 
 clock_ok : (d : Dif) (lines : List Direction) (below : Seen) (node : ℕ) (r : Result ClockStep StepError) (d' : Dif) (lines' : List Direction) → StepsOk d lines below node r d' lines' → SameWait (seen_of d) (seen_of d')
-clock_ok d lines below node (Ok done) d' lines' s = clock_done d lines below node done (seen_of d') lines' s
+clock_ok d lines below node (Ok done) d' lines' s = clock_done d lines below node done d' lines' s
 clock_ok d lines below node (Err e) d' lines' s = absurd s
 
 clock_at : (d : Dif) (lines : List Direction) (below : Seen) (node : ℕ) (r : Result ClockStep StepError) (d' : Dif) (lines' : List Direction) (o : Option ℕ) → AtHome o (λ i. StepsOk d lines below node r d' lines') ((r ≡ Err errors.NoIpc) × (seen_of d' ≡ seen_of d) × (lines' ≡ lines)) → SameWait (seen_of d) (seen_of d')

@@ -29,7 +29,7 @@ use Rattle.rina_tower.specs.StepEffect.{StandsAfter}
 use Rattle.rina_tower.specs.Ranks.{seen_of}
 use Rattle.rina_tower.specs.Refusals.{refuses_send}
 use Rattle.rina_tower.specs.Levels.{AtDif, AtRank, SameBelow}
-use Rattle.rina_tower.specs.Unchanged.{ChangesMembers, ChangesProcesses, ChangesTraffic}
+use Rattle.rina_tower.specs.Unchanged.{ChangesByClock, ChangesConnections, ChangesProcesses}
 
 -- What comes
 
@@ -38,7 +38,7 @@ use Rattle.rina_tower.specs.Unchanged.{ChangesMembers, ChangesProcesses, Changes
 pub record TakesOne (below : Seen) (node link : ℕ) (result : Result InStep StepError) (below' : Seen) (d d' : Dif) : Type 0 where
   pub does : (lines : List Direction) → Holds d lines below → TakesHome d lines below node link result d' below'
   pub after : StandsAfter below below' d d'
-  pub rest : ChangesTraffic d d'
+  pub rest : ChangesConnections d d'
   pub leaves : ChangesOnly (MayTake result d (home_of d node)) (home_of d node) d d'
 
 -- at the top rank: the DIF of that place, over the rank below, where one SDU is passed at most and nothing else changes
@@ -85,7 +85,7 @@ pub record ClocksOne (below : Seen) (node : ℕ) (result : Result ClockStep Step
   pub does : (lines : List Direction) → Holds d lines below → ClockSteps d lines below node result d' below'
   pub fails : (lines : List Direction) → Holds d lines below → FailsLate d lines below d'
   pub after : StandsAfter below below' d d'
-  pub rest : ChangesMembers d d'
+  pub rest : ChangesByClock d d'
   pub leaves : ChangesOnly (MayClock result d (home_of d node)) (home_of d node) d d'
 
 -- over the rank below, where nothing changes

@@ -44,9 +44,18 @@ ChangesProcesses d d' = d' ≡ record d { processes = d'.processes; failed = d'.
 abbrev pub ChangesTraffic : Dif → Dif → Type 0
 ChangesTraffic d d' = d' ≡ record d { processes = d'.processes; flows = d'.flows; failed = d'.failed }
 
+-- nothing but its IPC processes, its flows and the management connections of its links, and whether an allocation has failed
+abbrev pub ChangesConnections : Dif → Dif → Type 0
+ChangesConnections d d' = d' ≡ record d { processes = d'.processes; flows = d'.flows; connections = d'.connections; failed = d'.failed }
+
 -- nothing but its IPC processes, the managements of its members and its flows, and whether an allocation has failed
 abbrev pub ChangesMembers : Dif → Dif → Type 0
 ChangesMembers d d' = d' ≡ record d { processes = d'.processes; managements = d'.managements; flows = d'.flows; failed = d'.failed }
+
+-- nothing but its IPC processes, the managements of its members, the management connections of its links and its flows, and
+-- whether an allocation has failed
+abbrev pub ChangesByClock : Dif → Dif → Type 0
+ChangesByClock d d' = d' ≡ record d { processes = d'.processes; connections = d'.connections; managements = d'.managements; flows = d'.flows; failed = d'.failed }
 
 -- What follows
 
