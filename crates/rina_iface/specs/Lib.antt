@@ -3,6 +3,7 @@ pub mod Bind
 pub mod Claim
 pub mod Ends
 pub mod Free
+pub mod Index
 pub mod Journal
 pub mod Later
 pub mod Pass

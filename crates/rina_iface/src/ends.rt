@@ -4,6 +4,7 @@ ghost use Rattle.rina_iface.specs.Ends.{place_in, end_in, with_sent, with_got, w
 ghost use Rattle.rina_iface.specs.Seen.{is_of, oldest_in};
 ghost use Rattle.rina_iface.specs.State.{with_state, cut_state, cut_off};
 
+use crate::places::{Places, add, place_of, take_back};
 use crate::state::{Fail, PortState, Role};
 use rina_base::{AppName, FlowName, Node, Port, Tick};
 use rina_law::{Entries, Entry};
@@ -35,6 +36,8 @@ pub struct End {
 #[derive(Drop)]
 pub struct Ends {
     items: Vec<End>,
+    /// Where the end of each port stands, so that no look-up walks over all ends.
+    places: Places,
 }
 
 /// What a facility tells of all its flows.
@@ -46,10 +49,13 @@ pub struct Journal {
 impl Model for Ends {
     ghost use Rattle.std.specs.Prelude.{List};
     ghost use Rattle.rina_iface.specs.declared.ends.End.{End};
+    ghost use Rattle.rina_iface.specs.Index.{IsIndex};
 
     ghost Value = { List End };
 
     ghost view = { λ e. e.items.items };
+
+    ghost invariant = { λ e. IsIndex e.places e.items.items };
 }
 
 impl Ends {
@@ -59,6 +65,7 @@ impl Ends {
     {
         Ends {
             items: Vec::new(alloc),
+            places: Places::new(alloc),
         }
     }
 
@@ -111,7 +118,7 @@ impl Ends {
         ensures within { IfSome result (λ i. i < length self.now) }
         ensures bound { IfSome result (λ i. i < 2 ^ 63) }
     {
-        self.items.iter().position(|end| end.port == port)
+        place_of(&self.places, port)
     }
 
     /// The end of a port.
@@ -127,8 +134,7 @@ impl Ends {
         ensures ok { OnOk result (self.new ≡ self.old ++ end ∷ []) }
         ensures err { OnErr result (self.new ≡ self.old) }
     {
-        self.items.push(end)?;
-        Ok(())
+        add(&mut self.items, &mut self.places, end)
     }
 
     /// Adds both ends of a flow.
@@ -136,9 +142,9 @@ impl Ends {
         ensures ok { OnOk result (self.new ≡ self.old ++ asker ∷ far ∷ []) }
         ensures err { OnErr result (self.new ≡ self.old) }
     {
-        self.items.push(asker)?;
-        if self.items.push(far).is_err() {
-            let _ = self.items.pop();
+        add(&mut self.items, &mut self.places, asker)?;
+        if add(&mut self.items, &mut self.places, far).is_err() {
+            take_back(&mut self.items, &mut self.places);
             return Err(AllocError);
         }
         Ok(())

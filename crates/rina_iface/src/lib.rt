@@ -5,6 +5,7 @@ mod ask;
 mod ends;
 mod error;
 mod facility;
+mod places;
 mod state;
 
 pub use ask::{Ask, Fixed, Lent, Registered};
