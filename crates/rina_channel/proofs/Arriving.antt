@@ -117,7 +117,7 @@ calls_for_pieces_arrive g manage now channels lines ps below old new at end its_
     let link : Config = link_config g manage in
     let covers = only_covered link now (LinkCloud g channels ps below) w.death pdu w.here in
     call link lines (only w.death pdu) nothing_below
-    (record { config = link_is_config g manage st.managed; journal = st.journal; own = own_covered link now (LinkCloud g channels ps below) (Cloud Everywhere link (only w.death pdu) nothing_below) old.journal.ends (conns_of old.conns) lines st.own covers; tied = tied })
+    (record { config = link_is_config g manage st.managed; journal = st.journal; held = []; own = own_covered link now (LinkCloud g channels ps below) (Cloud Everywhere link (only w.death pdu) nothing_below) [] old.journal.ends (conns_of old.conns) lines st.own covers; tied = tied })
     (record { end = end; its_ids = its_ids; taker = takes; piece = kind; death = w.death; here = inl (is_queued w.death pdu); alive = w.alive })
 
 -- a cloud without PDUs is covered by each
@@ -129,4 +129,4 @@ none_covered g now cloud when x (inr w) alive = absurd (no_fac (λ (f : Fac). en
 pub calls_that_pass_do : (g : Config) (manage : Cube) (now : ℕ) (channels : List Channel) (lines : List Direction) (ps : List Process) (below : Seen) (old new : Flows) (at : ℕ) → IsStanding (seen_of g manage now channels old) lines ps below → AreTied (link_config g manage) now old lines → PassesOne now at old new → PassesOf (link_config g manage) now at old lines new
 calls_that_pass_do g manage now channels lines ps below old new at st tied call =
     let link : Config = link_config g manage in
-    call link lines [] nothing_below st.journal (own_covered link now (LinkCloud g channels ps below) (Cloud Everywhere link [] nothing_below) old.journal.ends (conns_of old.conns) lines st.own (none_covered link now (LinkCloud g channels ps below))) tied
+    call link lines [] nothing_below [] st.journal (own_covered link now (LinkCloud g channels ps below) (Cloud Everywhere link [] nothing_below) [] old.journal.ends (conns_of old.conns) lines st.own (none_covered link now (LinkCloud g channels ps below))) tied

@@ -25,6 +25,7 @@ use Rattle.rina_data.specs.Process.{Process, link_by, with_offs, with_put}
 use Rattle.rina_dif_law.specs.Accounted.{IsAccounted, bears, bears_on, counts_of, over_ends, taken_with}
 use Rattle.rina_dif_law.specs.Carried.{IsCarrying}
 use Rattle.rina_dif_law.specs.Cloud.{Cloud, Everywhere}
+use Rattle.rina_ids.specs.Members.{CepIds}
 use Rattle.rina_dif_law.specs.Dif.{DifSeen, IsProcess}
 use Rattle.rina_dif_law.specs.Ids.{Ids, IsOfLink}
 use Rattle.rina_dif_law.specs.Numbered.{IsNumbered}
@@ -52,8 +53,8 @@ none_some : (o : Option Cube) (cube : Cube) → o ≡ None → o ≡ Some cube �
 none_some o cube n s = cc
 
 -- PDUs of links are of no flow
-own_links : (g : Config) (now life : ℕ) (cloud cloud' : ℕ → Pdu → Type 0) (ends : List End) (conns : List Ids) (lines : List Direction) → HasNoManagement g → IsOwn g now cloud ends conns lines → CoversBut now cloud IsOfLink life cloud' → IsOwn g now cloud' ends conns lines
-own_links g now life cloud cloud' ends conns lines none own covers = own_no_flow g now cloud ends conns lines own cloud' IsOfLink life covers (λ pdu of is. elim is [
+own_links : (g : Config) (now life : ℕ) (cloud cloud' : ℕ → Pdu → Type 0) (held : List CepIds) (ends : List End) (conns : List Ids) (lines : List Direction) → HasNoManagement g → IsOwn g now cloud held ends conns lines → CoversBut now cloud IsOfLink life cloud' → IsOwn g now cloud' held ends conns lines
+own_links g now life cloud cloud' held ends conns lines none own covers = own_no_flow g now cloud held ends conns lines own cloud' IsOfLink life covers (λ pdu of is. elim is [
   | inl other ↦ other of.scep
   | inr cube ↦ none_some (cube_by 0 g.cubes) cube.0 none (subst (λ (q : ℕ). cube_by q g.cubes ≡ Some cube.0) of.qos cube.1)
 ])
@@ -113,6 +114,7 @@ puts_leave d flows below i ps' h s =
       members = h.numbered.members;
       addressed = h.numbered.addressed;
       counted = h.numbered.counted;
+      drawn = h.numbered.drawn;
       named = λ death pdu x. elim (cloud_after Everywhere g (JustItems i s.queue.link s.items) NoMore d.processes new_ps below below death pdu moved (after_none g below) x) [
         | inl o ↦ h.numbered.named death pdu o
         | inr (inl put) ↦ inl (subst IsOfLink put.is (s.of_links put.item put.new.2).1).scep
@@ -123,7 +125,7 @@ puts_leave d flows below i ps' h s =
       zero = h.zero;
       stands = stands_with d flows flows NoMore (JustItems i s.queue.link s.items) below below d.clock new_ps d.ends h.stands (after_none g below) h.stands.clock (omega arith) (length-set d.processes i new) moved (same_links d.processes i s.process new s.is_process refl)
           (λ port x none. absurd none) (λ j n item one. (s.of_links item one.2).0) h.stands.journal h.stands.ports
-          (own_links g d.clock (d.clock + 2 ^ 32) cloud cloud' d.ends d.conns flows h.zero.cubes h.stands.own covers);
+          (own_links g d.clock (d.clock + 2 ^ 32) cloud cloud' d.ids d.ends d.conns flows h.zero.cubes h.stands.own covers);
       numbered = numbered;
       carrying = carried d flows below h i s.process new s.is_process;
       accounted = left_accounted d flows below h i s.process new s.is_process (λ k other.
@@ -141,7 +143,7 @@ notes_leave d flows below i ps' h s =
     subst (λ (ps : List Process). FlowsStand (record d { processes = ps }) flows below) (sym s.new_is) (record {
       zero = h.zero;
       stands = lost_stands d flows below below i s.process new h.stands (after_none d.config below) refl s.is_process refl moved;
-      numbered = record { members = h.numbered.members; addressed = h.numbered.addressed; counted = h.numbered.counted; named = λ death pdu x. (let o = covers death pdu x (omega arith) in h.numbered.named o.0 pdu o.2) };
+      numbered = record { members = h.numbered.members; addressed = h.numbered.addressed; counted = h.numbered.counted; drawn = h.numbered.drawn; named = λ death pdu x. (let o = covers death pdu x (omega arith) in h.numbered.named o.0 pdu o.2) };
       carrying = carried d flows below h i s.process new s.is_process;
       accounted = left_accounted d flows below h i s.process new s.is_process (λ k other.
           let all = offs_more k s.process s.offs in
@@ -181,7 +183,7 @@ taking_leaves_flows d flows below i n member process link entry hop below' kept 
     record {
       zero = h.zero;
       stands = still_stands d flows below below' h.stands after (ap (λ (s : Seen). s.now) w.new_is);
-      numbered = record { members = h.numbered.members; addressed = h.numbered.addressed; counted = h.numbered.counted; named = λ death pdu x. (let o = covers death pdu x (omega arith) in h.numbered.named o.0 pdu o.2) };
+      numbered = record { members = h.numbered.members; addressed = h.numbered.addressed; counted = h.numbered.counted; drawn = h.numbered.drawn; named = λ death pdu x. (let o = covers death pdu x (omega arith) in h.numbered.named o.0 pdu o.2) };
       carrying = passes_of_others_carry d flows below link.port below' kept kept' later h.carrying w;
       accounted = accounted_but d d flows below below' h.zero.members h.accounted (λ port e here mine. within_kept below' kept' port e here) h.accounted.apart (λ addr cep r. r)
           (λ j m q k there other. (

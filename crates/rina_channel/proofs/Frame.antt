@@ -1,5 +1,5 @@
 -- What of the channels a call keeps whatever it does.
-use Rattle.std.proofs.Common.{◌≡◌, ℕ, ◌-◌, ◌≤◌, List, length, map, Some, None, refl, sym, ◌∙◌, ap, subst, arith, cond, eqb, Bool, true, false}
+use Rattle.std.proofs.Common.{◌≡◌, ℕ, ◌-◌, ◌≤◌, List, [], length, map, Some, None, refl, sym, ◌∙◌, ap, subst, arith, cond, eqb, Bool, true, false}
 use Rattle.rina_base.specs.declared.number.Num.{Num}
 use Rattle.rina_base.specs.declared.number.Port.{Port}
 use Rattle.rina_cube.specs.declared.Cube.{Cube}
@@ -132,7 +132,7 @@ time_stands m lines ps below below' kept st lifted =
     stands_with m lines (map (ticked (below'.now - m.clock)) lines) below'.now m.ends ps ps below below' st refl refl (λ i n port l. l) (λ near far f. flow_later m.config below below' near far lifted.later kept f)
     (record {
       journal = journal_later m.clock below'.now m.ends le st.journal;
-      own = own_ticked (link_config m.config m.manage) m.clock below'.now (LinkCloud m.config m.channels ps below) (LinkCloud m.config m.channels ps below') m.ends m.ids lines le covers st.own;
+      own = own_ticked (link_config m.config m.manage) m.clock below'.now (LinkCloud m.config m.channels ps below) (LinkCloud m.config m.channels ps below') [] m.ends m.ids lines le covers st.own;
     })
 
 pub sends_of_others_stand : (m : ChannelsSeen) (lines : List Direction) (ps : List Process) (below : Seen) (port : Port) (bytes : List ℕ) (num : Num) (below' : Seen) → AreKept below → AreKept below' → IsLater below below' → IsStanding m lines ps below → ((e : End) → end_of below port ≡ Some e → IsMine m.config.members e.app → ⊥) → IsSent below port bytes num below' → IsStanding m lines ps below'

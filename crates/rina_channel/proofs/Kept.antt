@@ -1,5 +1,5 @@
 -- What an end of a link handled is a front of what its partner offered.
-use Rattle.std.proofs.Common.{◌≡◌, ℕ, ◌≤◌, ◌⊎◌, List, slice_get, slice_set, length-set, Option, Some, refl, sym, ◌∙◌, ap, subst, arith, inl, inr}
+use Rattle.std.proofs.Common.{◌≡◌, ℕ, ◌≤◌, ◌⊎◌, List, [], slice_get, slice_set, length-set, Option, Some, refl, sym, ◌∙◌, ap, subst, arith, inl, inr}
 use Rattle.rina_account.specs.declared.ledger.Off.{Off}
 use Rattle.rina_cube.specs.declared.Cube.{Cube}
 use Rattle.rina_cube.specs.declared.Kind.{Kind}
@@ -54,7 +54,7 @@ front_of promise sent got keeps i e is =
 pub messages_are_kept : (m : ChannelsSeen) (lines : List Direction) (ps : List Process) (below : Seen) (i k : ℕ) (end partner : End) → IsStanding m lines ps below → At m.ends i end → At m.ends k partner → IsPartner partner end → IsFront (promise_of m.manage) partner.sent end.got
 messages_are_kept m lines ps below i k end partner st is_end is_partner partners =
     let l = beside m.ends lines k partner st.own.lines_alike is_partner in
-    let q = pair (config_of m) m.clock (LinkCloud m.config m.channels ps below) m.ends m.ids lines st.own k i partner end is_partner is_end partners in
+    let q = pair (config_of m) m.clock (LinkCloud m.config m.channels ps below) [] m.ends m.ids lines st.own k i partner end is_partner is_end partners in
     let c = ids_from q.x.side q.flow q.far partner.cube in
     let flow = (st.own.flows_are k i partner end q.x q.flow q.far l.0 is_partner is_end partners q.is_x q.stands q.known l.1).direction in
     let cube : flow.cube ≡ m.manage = one_cube m.config m.manage flow.cube c.qos flow.is_cube in
@@ -99,16 +99,16 @@ messages_are_lawful m lines ps below i k end partner line st is_end is_partner p
     let f = beside m.ends m.ids k partner st.own.alike is_partner in
     let conn : IsConn m.ends m.ids i end c.0 = record { end = is_end; ids_are = c.1 } in
     let far_conn : IsConn m.ends m.ids k partner f.0 = record { end = is_partner; ids_are = f.1 } in
-    let q = pair g m.clock cloud m.ends m.ids lines st.own i k end partner is_end is_partner partners in
-    let a = end_of_flow g m.clock cloud m.ends m.ids lines st.own i end c.0 q.x q.flow conn q.is_x q.stands in
-    let b = far_end_of_flow g m.clock cloud m.ends m.ids lines st.own i k end partner f.0 q.x q.flow is_end far_conn partners q.is_x q.stands in
+    let q = pair g m.clock cloud [] m.ends m.ids lines st.own i k end partner is_end is_partner partners in
+    let a = end_of_flow g m.clock cloud [] m.ends m.ids lines st.own i end c.0 q.x q.flow conn q.is_x q.stands in
+    let b = far_end_of_flow g m.clock cloud [] m.ends m.ids lines st.own i k end partner f.0 q.x q.flow is_end far_conn partners q.is_x q.stands in
     let near = place_named m lines ps below i c.0 st c.1 in
     let other = place_named m lines ps below k f.0 st f.1 in
     let cube_is : end.cube ≡ 0 = sym (st.own.ids i end c.0 conn).qos ∙ near.2 in
     let is : ids_from q.x.side q.flow q.far end.cube ≡ names_at i k = names_from q.x.side q.flow q.far a.point b.point end.cube i k q.known a.is b.is (sym a.own ∙ near.0) (sym a.scep ∙ near.1) (sym b.own ∙ other.0) (sym b.scep ∙ other.1) cube_is in
     let h : IsDirection g m.clock cloud (IsInUse m.clock q.flow) end partner (names_at i k) line = subst (λ (z : Ids). IsDirection g m.clock cloud (IsInUse m.clock q.flow) end partner z line) is (st.own.flows_are i k end partner q.x q.flow q.far line is_end is_partner partners q.is_x q.stands q.known is_line).direction in
     let used : (death : ℕ) (pdu : Pdu) → cloud death pdu → m.clock ≤ death → pdu.qos ≡ 0 → ((pdu.src ≡ c.0.own) × (pdu.scep ≡ c.0.scep)) ⊎ ((pdu.dst ≡ c.0.own) × (pdu.dcep ≡ c.0.scep)) → IsInUse m.clock q.flow = λ death pdu comes alive qos names.
-    named_used g m.clock cloud m.ends m.ids lines st.own i end c.0 conn q.x q.flow q.is_x q.stands
+    named_used g m.clock cloud [] m.ends m.ids lines st.own i end c.0 conn q.x q.flow q.is_x q.stands
     (λ j e z its own scep. sym (place_named m lines ps below j z st its.ids_are).0 ∙ own ∙ near.0)
     death pdu comes alive (inr (h.cube, subst (λ (n : ℕ). cube_by n g.cubes ≡ Some h.cube) (sym qos) h.is_cube)) names in
     record {

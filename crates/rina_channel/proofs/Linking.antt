@@ -62,6 +62,8 @@ none_stand m lines ps below h = record {
       fours = λ i j f g u v e e' same. absurd (none-some f e);
       alive = λ death four comes alive. absurd (none_in m.channels comes.in_cloud.place comes.in_cloud.channel h.channels comes.in_cloud.stands);
     };
+    rests = λ i e x flow h is stands. absurd (none-some flow stands);
+    kept = λ i member ids is_member are_ids. absurd (none-some ids are_ids);
     ids = λ i e c x. absurd (none_in m.ends i e h.ends x.end);
     flows_are = λ i k a b x flow far line z w p f t q l. absurd (none_in m.ends i a h.ends z);
   };

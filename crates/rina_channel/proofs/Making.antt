@@ -1,7 +1,7 @@
 -- A flow below between two members gets its channels.
 use Rattle.std.proofs.Common.{◌≡◌, ◌≢◌, ℕ, suc, ◌≤◌, List, [], ◌∷◌, ◌++◌, cond, eqb, length, slice_get, Some, None, Option, refl, sym, ◌∙◌, ap, subst, arith, inl, inr, ◌⊎◌, true, false, Bool}
 use Rattle.std.proofs.lemmas.Bool.Decides.{eqb_tells}
-use Rattle.std.proofs.lemmas.Option.{same_Some, slice_get_within}
+use Rattle.std.proofs.lemmas.Option.{none-some, same_Some, slice_get_within}
 use Rattle.rina_base.specs.declared.number.Port.{Port}
 use Rattle.rina_base.specs.declared.pdu.Pdu.{Pdu}
 use Rattle.rina_cube.specs.declared.Cube.{Cube}
@@ -283,7 +283,7 @@ module _ (m : ChannelsSeen) (lines : List Direction) (ps : List Process) (below 
       let p = st.own.entered.all i side flow point at is in
       let e = beside st.own.places m.ends p.0 here (sym st.own.entered.places_alike) p.1 in
       let c = beside m.ends m.ids p.0 e.0 st.own.alike e.1 in
-      let end = end_of_flow g m.clock cloud m.ends m.ids lines st.own p.0 e.0 c.0 here flow (record { end = e.1; ids_are = c.1 }) p.1 at in
+      let end = end_of_flow g m.clock cloud [] m.ends m.ids lines st.own p.0 e.0 c.0 here flow (record { end = e.1; ids_are = c.1 }) p.1 at in
       let same : end.point ≡ point = same_Some end.point point (sym end.is ∙ is) in
       let is_place : c.0.own ≡ p.0 = own_place p.0 c.0 c.1 in
       let lt = slice_get_within m.ends p.0 e.0 e.1 in
@@ -293,8 +293,8 @@ module _ (m : ChannelsSeen) (lines : List Direction) (ps : List Process) (below 
   blank : (e : End) → IsUnused e → IsBlank e
   blank e u = record { sent = u.sent; got = u.got; taken = u.taken }
 
-  made_own : IsOwn g m.clock cloud' ends' ids' (lines ++ there ∷ back ∷ [])
-  made_own = own_made g m.clock cloud cloud' m.ends m.ids lines st.own asker end near_ids there back m.manage (record {
+  made_own : IsOwn g m.clock cloud' [] ends' ids' (lines ++ there ∷ back ∷ [])
+  made_own = own_made g m.clock cloud cloud' [] m.ends m.ids lines st.own asker end near_ids there back m.manage (record {
     covers = made_covers;
     is_cube = manage_is m.config m.manage st.managed.id;
     limits = st.managed.cube;
@@ -315,7 +315,7 @@ module _ (m : ChannelsSeen) (lines : List Direction) (ps : List Process) (below 
     end_ids = are_far;
     there_is = refl;
     back_is = refl;
-  })
+  }) [] (λ i member its is_member are_its. absurd (none-some its are_its))
 
   pub made_stands : IsStanding m' lines' ps below
   made_stands = subst (λ (z : ChannelsSeen). IsStanding z lines' ps below) (sym made.new_is) (subst (λ (ls : List Direction). IsStanding (record m { channels = channels'; ends = ends'; ids = ids' }) ls ps below) (sym made.lines_are)

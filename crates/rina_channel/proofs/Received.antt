@@ -154,7 +154,7 @@ piece_lines m lines ps below port pdu cause dropped m' lines' st of s off one =
     let p : Piece = piece_in its in
     let zero = far_zero m lines ps below s.place a.its_ids st a.place.is_conn.ids_are in
     let cube_is : a.cube ≡ m.manage = cube_there _ m.manage a.cube a.place.is_cube in
-    let clock : a.line.line.clock ≡ m.clock = (journals (config_of m) m.clock _ m.ends m.ids lines st.own a.from s.place a.inbound.partner a.end a.line a.inbound.is_partner a.place.is_conn.end a.inbound.is_line a.inbound.partners).clock in
+    let clock : a.line.line.clock ≡ m.clock = (journals (config_of m) m.clock _ [] m.ends m.ids lines st.own a.from s.place a.inbound.partner a.end a.line a.inbound.is_partner a.place.is_conn.end a.inbound.is_line a.inbound.partners).clock in
     elim (in_both dropped (lines_for pdu cause) off one) [
       | inl old ↦
           let x = in_map unnamed_line s.held off (subst (In off) s.dropped_are old) in

@@ -1,5 +1,5 @@
 -- When the management connections of a DIF's links stand on the rank below.
-use Rattle.std.specs.Prelude.{◌≡◌, ◌≤◌, List, None}
+use Rattle.std.specs.Prelude.{◌≡◌, ◌≤◌, List, [], None}
 use Rattle.rina_cube.specs.declared.Cube.{Cube}
 use Rattle.rina_cube.specs.declared.Kind.TheVariants.{Reliable}
 use Rattle.rina_cube.specs.Cubes.{IsCube}
@@ -28,4 +28,4 @@ pub record IsStanding (m : ChannelsSeen) (lines : List Direction) (processes : L
   pub clock : m.clock ≡ below.now
   pub channels : AreChannels m processes below
   pub journal : IsJournal m.clock m.ends
-  pub own : IsOwn (link_config m.config m.manage) m.clock (LinkCloud m.config m.channels processes below) m.ends m.ids lines
+  pub own : IsOwn (link_config m.config m.manage) m.clock (LinkCloud m.config m.channels processes below) [] m.ends m.ids lines

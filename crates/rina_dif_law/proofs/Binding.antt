@@ -1,5 +1,5 @@
 -- A DIF that stands goes on to stand as a fixed flow is made.
-use Rattle.std.proofs.Common.{◌≡◌, ◌≢◌, ℕ, suc, ◌+◌, ◌<◌, ◌≤◌, List, [], ◌∷◌, ◌++◌, cond, eqb, get_or, length, slice_get, Some, refl, sym, ◌∙◌, ap, subst, arith, inl, inr, ◌⊎◌, true, ◌==◌}
+use Rattle.std.proofs.Common.{◌≡◌, ◌≢◌, ℕ, suc, ◌+◌, ◌*◌, ◌^◌, ◌<◌, ◌≤◌, List, [], ◌∷◌, ◌++◌, cond, eqb, get_or, length, slice_get, Some, refl, sym, ◌∙◌, ap, subst, arith, inl, inr, ◌⊎◌, true, ◌==◌}
 use Rattle.std.proofs.lemmas.Bool.Decides.{eqb_tells}
 use Rattle.std.proofs.lemmas.List.Quantifiers.{position-Some}
 use Rattle.std.proofs.lemmas.List.Sums.{sum_by-append}
@@ -22,6 +22,7 @@ use Rattle.rina_cube.specs.declared.Cube.{Cube}
 use Rattle.rina_law.specs.Direction.{Direction, start}
 use Rattle.rina_dif_law.specs.Binding.{IsBound, MayDraw, asker_next, far_next, flow_next, ids_next}
 use Rattle.rina_dif_law.specs.Carried.{HasCome, HoldsCome, IsCarrying}
+use Rattle.rina_ids.specs.Members.{CepIds, DrawsAt}
 use Rattle.rina_dif_law.specs.Cloud.{Cloud, Everywhere}
 use Rattle.rina_dif_law.specs.Dif.{DifSeen, constants, fac_of}
 use Rattle.rina_data.specs.Configs.{Member, cube_by, piece_size}
@@ -31,13 +32,15 @@ use Rattle.rina_dif_law.specs.Sending.{home}
 use Rattle.rina_dif_law.specs.Standing.{AreIds, IsConn, IsJournal, IsOwn, IsStanding}
 use Rattle.rina_dif_law.specs.Start.{IsFresh}
 use Rattle.rina_dif_law.proofs.Finding.{beside, cube_limits}
+use Rattle.rina_dif_law.proofs.HeldIds.{both_are_drawn, both_drawn, both_held, free_a, free_b}
 use Rattle.rina_dif_law.proofs.Joined.{none_joined}
 use Rattle.rina_dif_law.proofs.Numbering.{counts}
 use Rattle.rina_dif_law.specs.Lifting.{ticked}
 use Rattle.rina_dif_law.proofs.Own.{end_of_flow, partner_back}
 use Rattle.rina_dif_law.proofs.OwnMade.{own_made}
 use Rattle.rina_dif_law.proofs.Pairs.{first_at, first_beside, old_beside, second_at, second_beside, two_at}
-use Rattle.rina_rest.specs.Flows.{Endpoint, IsFree}
+use Rattle.rina_rest.specs.Still.{rest_of}
+use Rattle.rina_rest.proofs.Slots.{drawn_small}
 
 -- ---- members and nodes
 
@@ -83,30 +86,6 @@ module _ (d : DifSeen) (lines : List Direction) (below : Seen) (st : IsStanding 
   same_member : (i k : ℕ) (a b : Member) → slice_get d.config.members i ≡ Some a → slice_get d.config.members k ≡ Some b → a.addr ≡ b.addr → a ≡ b
   same_member i k a b x y addr = (let place = n.members.addrs i k a b x y addr in cc)
 
-  -- the CEP-id of the port that is drawn next is none that stands
-  unused : (node : ℕ) (member : Member) (k : ℕ) (f : Ids) → MayDraw d node member → slice_get d.conns k ≡ Some f → f.own ≡ member.addr → f.scep ≡ drawn_at node d.ends + 1 → ⊥
-  unused node member k f m is own scep =
-      let e = beside d.conns d.ends k f (sym st.own.alike) is in
-      let a = n.addressed k e.0 f (record { end = e.1; ids_are = is }) in
-      let same : a.member ≡ member = same_member a.place m.place a.member member a.stands m.stands (sym a.addr ∙ own) in
-      let its_node : a.member.node ≡ e.0.port.node = test_passes d.config.members e.0.port.node a.place a.member a.at_home a.stands in
-      let node_is : member.node ≡ node = test_passes d.config.members node m.place member m.at_home m.stands in
-      let there : e.0.port.node ≡ node = sym its_node ∙ ap (λ (x : Member). x.node) same ∙ node_is in
-      let drawn : e.0.port.n ≤ drawn_at e.0.port.node d.ends = st.ports.drawn k e.0 e.1 in
-      let drawn' : e.0.port.n ≤ drawn_at node d.ends = subst (λ (z : ℕ). e.0.port.n ≤ drawn_at z d.ends) there drawn in
-      let cep = a.cep in
-      omega (arith, drawn', cep, scep)
-
-  -- so it is free
-  free : (node : ℕ) (member : Member) → MayDraw d node member → IsFree d.clock st.own.flows member.addr (drawn_at node d.ends + 1)
-  free node member m i flow side point at is addr cep =
-      let place = st.own.entered.all i side flow point at is in
-      let e = beside st.own.places d.ends place.0 (record { flow = i; side = side }) (sym st.own.entered.places_alike) place.1 in
-      let c = beside d.ends d.conns place.0 e.0 st.own.alike e.1 in
-      let end = end_of_flow d.config d.clock (Cloud Everywhere d.config d.processes below) d.ends d.conns lines st.own place.0 e.0 c.0 (record { flow = i; side = side }) flow (record { end = e.1; ids_are = c.1 }) place.1 at in
-      let same : end.point ≡ point = same_Some end.point point (sym end.is ∙ is) in
-      absurd (unused node member place.0 c.0 m c.1 (end.own ∙ ap (λ (z : Endpoint). z.addr) same ∙ addr) (end.scep ∙ ap (λ (z : Endpoint). z.cep) same ∙ cep))
-
   -- the name of the flow that a member asks for next is none that stands
   pub new_name : (node : ℕ) (member : Member) (i : ℕ) (e : End) → MayDraw d node member → At d.ends i e → e.flow ≢ flow_next d node member
   new_name node member i e m is same =
@@ -120,7 +99,7 @@ module _ (d : DifSeen) (lines : List Direction) (below : Seen) (st : IsStanding 
 
 -- ---- both ends
 
-module _ (d : DifSeen) (lines : List Direction) (below : Seen) (st : IsStanding d lines below) (n : IsNumbered d below) (fixed : Fixed) (of_a of_b : Member) (a_draws : MayDraw d fixed.a of_a) (b_draws : MayDraw d fixed.b of_b) (apart : fixed.a ≢ fixed.b) where
+module _ (d : DifSeen) (lines : List Direction) (below : Seen) (st : IsStanding d lines below) (n : IsNumbered d below) (fixed : Fixed) (of_a of_b : Member) (a_draws : MayDraw d fixed.a of_a) (b_draws : MayDraw d fixed.b of_b) (apart : fixed.a ≢ fixed.b) (scep dcep : ℕ) (draws : DrawsAt d.ids d.clock a_draws.place scep) (draws' : DrawsAt d.ids d.clock b_draws.place dcep) where
   abbrev asker : End
   asker = asker_next d fixed of_a
 
@@ -131,7 +110,7 @@ module _ (d : DifSeen) (lines : List Direction) (below : Seen) (st : IsStanding 
   ends' = d.ends ++ asker ∷ far ∷ []
 
   abbrev ids : Ids
-  ids = ids_next d fixed of_a of_b
+  ids = ids_next fixed of_a of_b scep dcep
 
   abbrev conns' : List Ids
   conns' = d.conns ++ ids ∷ flipped ids ∷ []
@@ -260,12 +239,25 @@ module _ (d : DifSeen) (lines : List Direction) (below : Seen) (st : IsStanding 
       let b_is = test_passes d.config.members fixed.b b_draws.place of_b b_draws.at_home b_draws.stands in
       apart (sym a_is ∙ ap (λ (x : Member). x.node) is ∙ b_is)
 
+  -- what a member draws fits its field
+  cep_fits : (node : ℕ) (member : Member) (may : MayDraw d node member) (cep : ℕ) → DrawsAt d.ids d.clock may.place cep → cep < 2 ^ (8 * d.config.widths.cep)
+  cep_fits node member may cep drawn =
+      let room = may.room in
+      let ceps = n.members.ceps in
+      let few : length drawn.ids.1 ≤ drawn_at member.node d.ends = n.drawn.few may.place member drawn.ids may.stands drawn.are_ids in
+      let few' : length drawn.ids.1 ≤ drawn_at node d.ends = subst (λ (z : ℕ). length drawn.ids.1 ≤ drawn_at z d.ends) (test_passes d.config.members node may.place member may.at_home may.stands) few in
+      let small = drawn_small drawn.ids.0 d.clock drawn.ids.1 cep drawn.least in
+      omega (arith, room, ceps, few', small)
+
+  -- the CEP-ids of the members after it
+  abbrev pub held' : List CepIds
+  held' = both_drawn d.config d.clock d.ids a_draws.place b_draws.place scep dcep of_a of_b n.members.addrs a_draws.stands b_draws.stands (λ is. addrs_apart (sym is)) draws draws'
+
   ids_fit : (e : End) → e.cube ≡ fixed.cube → AreIds d.config e ids
   ids_fit e cube =
-      let a_room = a_draws.room in
-      let b_room = b_draws.room in
-      let ceps = n.members.ceps in
-      record { own = n.members.fit a_draws.place of_a a_draws.stands; far = n.members.fit b_draws.place of_b b_draws.stands; scep = omega (arith, a_room, ceps); dcep = omega (arith, b_room, ceps); qos = sym cube }
+      let small = cep_fits fixed.a of_a a_draws scep draws in
+      let small' = cep_fits fixed.b of_b b_draws dcep draws' in
+      record { own = n.members.fit a_draws.place of_a a_draws.stands; far = n.members.fit b_draws.place of_b b_draws.stands; scep = small; dcep = small'; qos = sym cube }
 
   ids_fit_back : (e : End) → e.cube ≡ fixed.cube → AreIds d.config e (flipped ids)
   ids_fit_back e cube = (let are = ids_fit e cube in record { own = are.far; far = are.own; scep = are.dcep; dcep = are.scep; qos = are.qos })
@@ -280,8 +272,8 @@ module _ (d : DifSeen) (lines : List Direction) (below : Seen) (st : IsStanding 
     one_cube : (x : Cube) → cube_by ids.qos d.config.cubes ≡ Some x → is_fresh.cube ≡ x
     one_cube x is = (let here = is_fresh.is_cube in cc)
 
-    bound_own : IsOwn d.config d.clock cloud ends' conns' lines'
-    bound_own = own_made d.config d.clock cloud cloud d.ends d.conns lines st.own asker far ids line back is_fresh.cube (record {
+    bound_own : IsOwn d.config d.clock cloud held' ends' conns' lines'
+    bound_own = own_made d.config d.clock cloud cloud d.ids d.ends d.conns lines st.own asker far ids line back is_fresh.cube (record {
       covers = λ death pdu x alive. (death, omega arith, x);
       is_cube = is_fresh.is_cube;
       limits = cube_limits d.config ids.qos is_fresh.cube st.config is_fresh.is_cube;
@@ -294,15 +286,15 @@ module _ (d : DifSeen) (lines : List Direction) (below : Seen) (st : IsStanding 
       asker_cube = refl;
       end_cube = refl;
       apart = λ is. addrs_apart (sym is);
-      free = free d lines below st n fixed.a of_a a_draws;
-      far_free = free d lines below st n fixed.b of_b b_draws;
+      free = free_a d.config d.clock d.ids a_draws.place b_draws.place scep dcep of_a of_b n.members.addrs a_draws.stands b_draws.stands (λ is. addrs_apart (sym is)) draws draws' st.own.flows st.own.kept;
+      far_free = free_b d.config d.clock d.ids a_draws.place b_draws.place scep dcep of_a of_b n.members.addrs a_draws.stands b_draws.stands (λ is. addrs_apart (sym is)) draws draws' st.own.flows st.own.kept;
       asker_blank = record { sent = refl; got = refl; taken = refl };
       end_blank = record { sent = refl; got = refl; taken = refl };
       asker_ids = ids_fit asker refl;
       end_ids = ids_fit_back far refl;
       there_is = is_fresh.is;
       back_is = is_fresh_back.is ∙ ap (λ (x : Cube). ticked d.clock (start (constants d.config x (flipped ids)))) (sym (one_cube is_fresh_back.cube is_fresh_back.is_cube));
-    })
+    }) held' (both_held d.config d.clock d.ids a_draws.place b_draws.place scep dcep of_a of_b n.members.addrs a_draws.stands b_draws.stands (λ is. addrs_apart (sym is)) draws draws' st.own.flows (rest_of (constants d.config is_fresh.cube ids)) st.own.kept)
 
     nothing_come : (c : Ids) (l : Direction) → IsFresh d c l → (g : Ids) → HoldsCome d.config d.clock below g l
     nothing_come c l is g = subst (HoldsCome d.config d.clock below g) (sym is.is) (record {
@@ -313,7 +305,7 @@ module _ (d : DifSeen) (lines : List Direction) (below : Seen) (st : IsStanding 
 
     module _ (names : List Registered) where
       abbrev d' : DifSeen
-      d' = record d { ends = ends'; conns = conns'; names = names }
+      d' = record d { ends = ends'; conns = conns'; ids = held'; names = names }
 
       bound_standing : IsStanding d' lines' below
       bound_standing = record {
@@ -353,10 +345,10 @@ module _ (d : DifSeen) (lines : List Direction) (below : Seen) (st : IsStanding 
           flow_of_new e (inr t) = ap (λ (z : End). z.flow) t.1
 
       addressed_a : (e : End) → e ≡ asker → IsAddressed d.config e ids
-      addressed_a e is = rw is (record { place = a_draws.place; member = of_a; at_home = a_draws.at_home; stands = a_draws.stands; addr = refl; cep = refl })
+      addressed_a e is = rw is (record { place = a_draws.place; member = of_a; at_home = a_draws.at_home; stands = a_draws.stands; addr = refl })
 
       addressed_b : (e : End) → e ≡ far → IsAddressed d.config e (flipped ids)
-      addressed_b e is = rw is (record { place = b_draws.place; member = of_b; at_home = b_draws.at_home; stands = b_draws.stands; addr = refl; cep = refl })
+      addressed_b e is = rw is (record { place = b_draws.place; member = of_b; at_home = b_draws.at_home; stands = b_draws.stands; addr = refl })
 
       counted_new : (e : End) → e.flow ≡ flow_next d fixed.a of_a → IsCounted d.config ends' e
       counted_new e is =
@@ -375,6 +367,7 @@ module _ (d : DifSeen) (lines : List Direction) (below : Seen) (st : IsStanding 
           | inr (inr t) ↦ rw t.2 (addressed_b e t.1)
         ];
         counted = λ i e is. by_end (IsCounted d.config ends') (λ k z h. still_counted z (n.counted k z h)) (counted_new asker refl) (counted_new far refl) i e is;
+        drawn = both_are_drawn d.config d.clock d.ids a_draws.place b_draws.place scep dcep of_a of_b n.members.addrs a_draws.stands b_draws.stands (λ is. addrs_apart (sym is)) draws draws' d.ends ends' n.drawn (λ node. drawn_no_less node d.ends asker far) (drawn_first of_a.node d.ends asker far (sym (test_passes d.config.members fixed.a a_draws.place of_a a_draws.at_home a_draws.stands))) (drawn_second of_b.node d.ends asker far (sym (test_passes d.config.members fixed.b b_draws.place of_b b_draws.at_home b_draws.stands)));
         named = λ death pdu x. elim (n.named death pdu x) [
           | inl none ↦ inl none
           | inr of ↦ inr (record { at = of.at; ids = of.ids; stands = still_at d.conns (ids ∷ flipped ids ∷ []) of.at of.ids of.stands; src = of.src; scep = of.scep })
@@ -387,13 +380,13 @@ module _ (d : DifSeen) (lines : List Direction) (below : Seen) (st : IsStanding 
 -- ---- what a fixed flow keeps
 
 pub bound_stands : (d : DifSeen) (lines : List Direction) (below : Seen) (fixed : Fixed) (d' : DifSeen) (lines' : List Direction) → IsStanding d lines below → IsNumbered d below → IsBound d lines fixed d' lines' → IsStanding d' lines' below
-bound_stands d lines below fixed d' lines' st n s = rw (s.new_is, s.lines_are) (bound_standing d lines below st n fixed s.of_a s.of_b s.at_a s.at_b s.apart s.line s.back s.fresh s.fresh_back _)
+bound_stands d lines below fixed d' lines' st n s = rw (s.new_is, s.lines_are) (bound_standing d lines below st n fixed s.of_a s.of_b s.at_a s.at_b s.apart s.scep s.dcep s.draws_a s.draws_b s.line s.back s.fresh s.fresh_back _)
 
 pub bound_carries : (d : DifSeen) (lines : List Direction) (below : Seen) (fixed : Fixed) (d' : DifSeen) (lines' : List Direction) → IsStanding d lines below → IsNumbered d below → IsCarrying d lines below → IsBound d lines fixed d' lines' → IsCarrying d' lines' below
-bound_carries d lines below fixed d' lines' st n c s = rw (s.new_is, s.lines_are) (bound_carrying d lines below st n fixed s.of_a s.of_b s.at_a s.at_b s.apart s.line s.back s.fresh s.fresh_back _ c)
+bound_carries d lines below fixed d' lines' st n c s = rw (s.new_is, s.lines_are) (bound_carrying d lines below st n fixed s.of_a s.of_b s.at_a s.at_b s.apart s.scep s.dcep s.draws_a s.draws_b s.line s.back s.fresh s.fresh_back _ c)
 
 pub bound_numbers : (d : DifSeen) (lines : List Direction) (below : Seen) (fixed : Fixed) (d' : DifSeen) (lines' : List Direction) → IsStanding d lines below → IsNumbered d below → IsBound d lines fixed d' lines' → IsNumbered d' below
-bound_numbers d lines below fixed d' lines' st n s = rw s.new_is (bound_numbered d lines below st n fixed s.of_a s.of_b s.at_a s.at_b s.apart s.line s.back s.fresh s.fresh_back _)
+bound_numbers d lines below fixed d' lines' st n s = rw s.new_is (bound_numbered d lines below st n fixed s.of_a s.of_b s.at_a s.at_b s.apart s.scep s.dcep s.draws_a s.draws_b s.line s.back s.fresh s.fresh_back _)
 
 pub bound_later : (d : DifSeen) (lines : List Direction) (fixed : Fixed) (d' : DifSeen) (lines' : List Direction) → IsBound d lines fixed d' lines' → IsLaterFac d.clock d'.clock (fac_of d) (fac_of d')
 bound_later d lines fixed d' lines' s = rw s.new_is (record { ends = ends_more d.clock d.clock d.ends _; cubes = refl })

@@ -249,7 +249,7 @@ arrived_carrying d lines more below below' older i process pdu cause d' lines' s
     let end' : End = record s.end { got = line'.inbox.got } in
     let partner = s.inbound.partner in
     let named = st.journal.named s.from s.place partner s.end s.inbound.is_partner s.taker.is_conn.end s.inbound.partners in
-    let flow = direction_in g d.clock (Cloud Everywhere g d.processes below) d.ends d.conns lines st.own s.from s.place partner s.end s.ids s.line s.inbound.is_partner s.taker.is_conn s.inbound.is_line s.inbound.partners s.taker.allocated named.cube in
+    let flow = direction_in g d.clock (Cloud Everywhere g d.processes below) d.ids d.ends d.conns lines st.own s.from s.place partner s.end s.ids s.line s.inbound.is_partner s.taker.is_conn s.inbound.is_line s.inbound.partners s.taker.allocated named.cube in
     let piece : PiecesOf (Cloud Everywhere g d.processes below) (flipped s.ids) older (piece_in pdu) = record { pdu = pdu; in_cloud = has; kind = s.piece; from = s.taker.names; is = refl } in
     let sized = arriving_sized g d.clock (Cloud Everywhere g d.processes below) partner s.end (flipped s.ids) s.line older (piece_in pdu) flow piece alive in
     let holding = found_holds g d.clock below s.ids k s.line (c.holding s.place s.from s.end s.ids s.line s.taker.is_conn s.inbound) in

@@ -82,11 +82,11 @@ module _ (d : DifSeen) (lines : List Direction) (below below' : Seen) (st : IsSt
       let at = s.taker.is_conn.end in
       let partner = s.inbound.partner in
       let named = st.journal.named s.from s.place partner s.end s.inbound.is_partner at s.inbound.partners in
-      let flow = direction_in d.config d.clock (Cloud Everywhere d.config d.processes below) d.ends d.conns lines st.own s.from s.place partner s.end s.ids s.line s.inbound.is_partner s.taker.is_conn s.inbound.is_line s.inbound.partners s.taker.allocated named.cube in
+      let flow = direction_in d.config d.clock (Cloud Everywhere d.config d.processes below) d.ids d.ends d.conns lines st.own s.from s.place partner s.end s.ids s.line s.inbound.is_partner s.taker.is_conn s.inbound.is_line s.inbound.partners s.taker.allocated named.cube in
       let has_partner : HasPartner d.ends s.end = record { place = s.from; other = partner; stands = s.inbound.is_partner; partner = partner_back partner s.end s.inbound.partners } in
       let const : IsConst s.end end' = record { flow = refl; role = refl; port = refl; app = refl; peer = refl; cube = refl } in
       let whole = arrived_whole k d.clock (piece_in pdu) s.line s.end flow.backed.clock flow.got (st.journal.whole s.place s.end at) in
-      let own = own_arrived d.config d.clock (Cloud Everywhere d.config d.processes below) (Cloud Everywhere d.config processes' below') d.ends d.conns lines st.own st.journal s.place s.end s.ids s.cube s.taker.is_conn s.is_cube (cube_limits d.config s.ids.qos s.cube st.config s.is_cube) s.from partner s.inbound.is_partner s.inbound.partners s.line s.inbound.is_line
+      let own = own_arrived d.config d.clock (Cloud Everywhere d.config d.processes below) (Cloud Everywhere d.config processes' below') d.ids d.ends d.conns lines st.own st.journal s.place s.end s.ids s.cube s.taker.is_conn s.is_cube (cube_limits d.config s.ids.qos s.cube st.config s.is_cube) s.from partner s.inbound.is_partner s.inbound.partners s.line s.inbound.is_line
       s.taker.allocated older pdu has alive s.piece s.taker.names covers in
       subst (λ (z : DifSeen). IsStanding z lines' below') (sym s.new_is) (subst (λ (ls : List Direction). IsStanding (record d { ends = slice_set d.ends s.place end'; processes = processes' }) ls below') (sym s.lines_are)
       (stands_with d lines (slice_set lines s.from line') NoMore NoItem below below' d.clock processes' (slice_set d.ends s.place end') st after (st.clock ∙ sym clock) (omega arith) (length-set d.processes i process') moved (same_links d.processes i process process' is_process refl)
@@ -104,8 +104,8 @@ module _ (d : DifSeen) (lines : List Direction) (below below' : Seen) (st : IsSt
       let covers = covers_less Everywhere d.config d.clock d.processes d.processes below below' (requeued_none d.processes) after in
       let conn = s.taker.is_conn in
       let partner = st.journal.allocated s.place s.end conn.end s.taker.allocated in
-      let flow = direction_out d.config d.clock cloud d.ends d.conns lines st.own s.place partner.place s.end partner.other s.ids s.line conn partner.stands s.is_line partner.partner s.taker.allocated in
-      let own = own_told d.config d.clock cloud cloud' d.ends d.conns lines st.own s.place s.end s.ids flow.cube conn s.taker.allocated flow.is_cube (cube_limits d.config s.ids.qos flow.cube st.config flow.is_cube) s.line s.is_line partner.place partner.other partner.stands partner.partner older pdu has alive s.ack s.taker.names covers in
+      let flow = direction_out d.config d.clock cloud d.ids d.ends d.conns lines st.own s.place partner.place s.end partner.other s.ids s.line conn partner.stands s.is_line partner.partner s.taker.allocated in
+      let own = own_told d.config d.clock cloud cloud' d.ids d.ends d.conns lines st.own s.place s.end s.ids flow.cube conn s.taker.allocated flow.is_cube (cube_limits d.config s.ids.qos flow.cube st.config flow.is_cube) s.line s.is_line partner.place partner.other partner.stands partner.partner older pdu has alive s.ack s.taker.names covers in
       subst (λ (z : DifSeen). IsStanding z lines' below') (sym s.new_is) (subst (λ (ls : List Direction). IsStanding d ls below') (sym s.lines_are)
       (stands_with d lines (slice_set lines s.place line') NoMore NoItem below below' d.clock d.processes d.ends st after (st.clock ∙ sym clock) (omega arith) refl (requeued_none d.processes) (λ j l h. h)
       (λ port y none. absurd none) (λ j m item none. absurd none) st.journal st.ports own))
@@ -136,7 +136,7 @@ module _ (d : DifSeen) (lines : List Direction) (below below' : Seen) (st : IsSt
       (λ port y none. absurd none)
       (λ j m x new. elim (new.2) [ inl is ↦ subst (IsItem d.config d.clock) (sym is) fits | inr none ↦ absurd none ])
       st.journal st.ports
-      (own_covered d.config d.clock (Cloud Everywhere d.config d.processes below) (Cloud Everywhere d.config processes' below') d.ends d.conns lines st.own covers)))
+      (own_covered d.config d.clock (Cloud Everywhere d.config d.processes below) (Cloud Everywhere d.config processes' below') d.ids d.ends d.conns lines st.own covers)))
 
 -- the PDU of an arrival that is in time is in the cloud still
 pub alive_arrival : (d : DifSeen) (at left older : ℕ) → d.clock - at ≤ left → at ≤ d.clock → at + left ≤ older → d.clock ≤ older

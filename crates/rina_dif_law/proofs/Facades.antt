@@ -46,7 +46,7 @@ ready d lines below at end st is allocated =
     let line = beside d.ends lines at end st.own.lines_alike is in
     let conn : IsConn d.ends d.conns at end ids.0 = record { end = is; ids_are = ids.1 } in
     let partner = st.journal.allocated at end is allocated in
-    let flow = direction_out d.config d.clock (Cloud Everywhere d.config d.processes below) d.ends d.conns lines st.own at partner.place end partner.other ids.0 line.0 conn partner.stands line.1 partner.partner allocated in
+    let flow = direction_out d.config d.clock (Cloud Everywhere d.config d.processes below) d.ids d.ends d.conns lines st.own at partner.place end partner.other ids.0 line.0 conn partner.stands line.1 partner.partner allocated in
     record { ids = ids.0; line = line.0; cube = flow.cube; ids_are = ids.1; is_line = line.1; is_cube = flow.is_cube; qos = (st.own.ids at end ids.0 conn).qos; clock = flow.backed.clock }
 
 largest_shown : (s : Seen) (d : DifSeen) (port : Port) (at : ℕ) (end : End) (id : ℕ) (cube : Cube) → IsShown s d port at end → id ≡ end.cube → cube_by id d.config.cubes ≡ Some cube → largest_at s port ≡ Some cube.largest

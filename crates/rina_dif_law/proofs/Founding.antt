@@ -32,6 +32,7 @@ use Rattle.rina_dif_law.specs.Binding.{IsBound, asker_next, far_next, ids_next}
 use Rattle.rina_data.specs.Hops.{Hop}
 use Rattle.rina_dif_law.specs.Cloud.{IsMine}
 use Rattle.rina_dif_law.specs.Counting.{held_numbers, times}
+use Rattle.rina_ids.specs.Members.{with_drawn}
 use Rattle.rina_dif_law.specs.Dif.{DifSeen}
 use Rattle.rina_data.specs.Configs.{Member, piece_size}
 use Rattle.rina_data.specs.Process.{Process}
@@ -174,7 +175,7 @@ pub failed_accounted : (d : DifSeen) (lines : List Direction) (below : Seen) (no
 failed_accounted d lines below node port d' st n a f =
     let start : IsKeptOn lines below d = record { standing = st; numbered = n; accounted = a } in
     (first_stay (IsKeptOn lines below) lines node (Below port) (λ at x y h e. record {
-      standing = ended_stands x lines below at (Failed (Below port)) y h.standing e;
+      standing = ended_stands x lines below at (Failed (Below port)) y h.standing h.numbered e;
       numbered = ended_numbered x lines below at (Failed (Below port)) y h.numbered e;
       accounted = ended_accounted x lines below at (Failed (Below port)) y h.standing h.numbered h.accounted e;
     }) (length d.ends) d d' start f).accounted
@@ -281,18 +282,18 @@ fresh_empty d ids line n fresh = ap (λ (l : Direction). times n (held_numbers l
 
 pub bound_accounted : (d : DifSeen) (lines : List Direction) (below : Seen) (fixed : Fixed) (d' : DifSeen) (lines' : List Direction) → IsStanding d lines below → IsNumbered d below → IsAccounted d lines below → IsBound d lines fixed d' lines' → IsAccounted d' lines' below
 bound_accounted d lines below fixed d' lines' st numbered a s =
-    let ids : Ids = ids_next d fixed s.of_a s.of_b in
+    let ids : Ids = ids_next fixed s.of_a s.of_b s.scep s.dcep in
     let asker : End = asker_next d fixed s.of_a in
     let far : End = far_next d fixed s.of_a in
     let ends' : List End = d.ends ++ asker ∷ far ∷ [] in
     let two : List Ids = ids ∷ flipped ids ∷ [] in
     let conns' : List Ids = d.conns ++ two in
     let lines'' : List Direction = lines ++ s.line ∷ s.back ∷ [] in
-    let new : DifSeen = record d { ends = ends'; conns = conns'; names = with_name_once d.names fixed.b fixed.b_app } in
+    let new : DifSeen = record d { ends = ends'; conns = conns'; ids = with_drawn s.at_b.place s.draws_b.ids s.dcep (with_drawn s.at_a.place s.draws_a.ids s.scep d.ids); names = with_name_once d.names fixed.b fixed.b_app } in
     let size : ℕ = piece_size d.config in
     let last : ℕ = length d.ends in
     let standing : IsStanding new lines' below = subst (λ (z : DifSeen). IsStanding z lines' below) s.new_is (bound_stands d lines below fixed d' lines' st numbered s) in
-    let apart : s.of_a.addr ≢ s.of_b.addr = addrs_apart d lines below st numbered fixed s.of_a s.of_b s.at_a s.at_b s.apart in
+    let apart : s.of_a.addr ≢ s.of_b.addr = addrs_apart d lines below st numbered fixed s.of_a s.of_b s.at_a s.at_b s.apart s.scep s.dcep s.draws_a s.draws_b in
     let line_a : slice_get lines'' last ≡ Some s.line = ap (slice_get lines'') (sym st.own.lines_alike) ∙ first_new lines s.line s.back in
     let line_b : slice_get lines'' (suc last) ≡ Some s.back = ap (λ (n : ℕ). slice_get lines'' (suc n)) (sym st.own.lines_alike) ∙ second_new lines s.line s.back in
     let news : (n : ℕ) (i : ℕ) (l : Direction) → slice_get (s.line ∷ s.back ∷ []) i ≡ Some l → times n (held_numbers l) ≡ 0 = λ n i l at. new_held s.line s.back n (fresh_empty d ids s.line n s.fresh) (fresh_empty d (flipped ids) s.back n s.fresh_back) i l at in

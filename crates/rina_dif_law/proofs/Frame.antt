@@ -7,6 +7,7 @@ use Rattle.rina_iface.specs.Seen.{Seen, end_of}
 use Rattle.rina_law.specs.declared.entry.Entry.{Entry}
 use Rattle.rina_law.specs.Direction.{Direction}
 use Rattle.rina_queue.specs.declared.queue.Queued.{Queued}
+use Rattle.rina_ids.specs.Members.{CepIds}
 use Rattle.rina_dif_law.specs.Cloud.{Cloud, Everywhere, IsMine}
 use Rattle.rina_data.specs.declared.link.Link.{Link}
 use Rattle.rina_data.specs.Configs.{Config}
@@ -50,13 +51,13 @@ module _ (d : DifSeen) (lines : List Direction) (more : Port → Entry → Type 
 item_later : (g : Config) (now later : ℕ) (item : Queued) → now ≤ later → IsItem g now item → IsItem g later item
 item_later g now later item le h = (let past = h.past in record { fit = h.fit; past = omega arith; left = h.left })
 
--- a DIF stands after a call, where its clock, its IPC processes and its journal changed
-pub stands_with : (d : DifSeen) (lines lines' : List Direction) (more : Port → Entry → Type 0) (items : ℕ → ℕ → Queued → Type 0) (below below' : Seen) (clock : ℕ) (processes : List Process) (ends : List End) → IsStanding d lines below → IsAfter d.config more below below'
+-- a DIF stands after a call, where its clock, its IPC processes, its journal and the CEP-ids of its members changed
+pub stands_held : (d : DifSeen) (lines lines' : List Direction) (more : Port → Entry → Type 0) (items : ℕ → ℕ → Queued → Type 0) (below below' : Seen) (clock : ℕ) (processes : List Process) (ends : List End) (held : List CepIds) → IsStanding d lines below → IsAfter d.config more below below'
     → clock ≡ below'.now → d.clock ≤ clock → length processes ≡ length d.processes → Requeued items d.processes processes → ((i : ℕ) (l : Link) → HasLink processes i l → HasLink d.processes i l)
     → ((port : Port) (x : Entry) → more port x → IsSpelled d.config x.bytes) → ((i n : ℕ) (item : Queued) → items i n item → IsItem d.config clock item)
-    → IsJournal clock ends → HasPorts d.config.fac (fac_of (record d { clock = clock; processes = processes; ends = ends })) → IsOwn d.config clock (Cloud Everywhere d.config processes below') ends d.conns lines'
-    → IsStanding (record d { clock = clock; processes = processes; ends = ends }) lines' below'
-stands_with d lines lines' more items below below' clock processes ends st after is le alike moved links spelled fit journal ports own = record {
+    → IsJournal clock ends → HasPorts d.config.fac (fac_of (record d { clock = clock; processes = processes; ends = ends })) → IsOwn d.config clock (Cloud Everywhere d.config processes below') held ends d.conns lines'
+    → IsStanding (record d { clock = clock; processes = processes; ends = ends; ids = held }) lines' below'
+stands_held d lines lines' more items below below' clock processes ends held st after is le alike moved links spelled fit journal ports own = record {
   config = st.config;
   clock = is;
   aligned = alike ∙ st.aligned;
@@ -71,3 +72,11 @@ stands_with d lines lines' more items below below' clock processes ends st after
   ports = ports;
   own = own;
 }
+
+-- where the CEP-ids did not change
+pub stands_with : (d : DifSeen) (lines lines' : List Direction) (more : Port → Entry → Type 0) (items : ℕ → ℕ → Queued → Type 0) (below below' : Seen) (clock : ℕ) (processes : List Process) (ends : List End) → IsStanding d lines below → IsAfter d.config more below below'
+    → clock ≡ below'.now → d.clock ≤ clock → length processes ≡ length d.processes → Requeued items d.processes processes → ((i : ℕ) (l : Link) → HasLink processes i l → HasLink d.processes i l)
+    → ((port : Port) (x : Entry) → more port x → IsSpelled d.config x.bytes) → ((i n : ℕ) (item : Queued) → items i n item → IsItem d.config clock item)
+    → IsJournal clock ends → HasPorts d.config.fac (fac_of (record d { clock = clock; processes = processes; ends = ends })) → IsOwn d.config clock (Cloud Everywhere d.config processes below') d.ids ends d.conns lines'
+    → IsStanding (record d { clock = clock; processes = processes; ends = ends }) lines' below'
+stands_with d lines lines' more items below below' clock processes ends st after is le alike moved links spelled fit journal ports own = stands_held d lines lines' more items below below' clock processes ends d.ids st after is le alike moved links spelled fit journal ports own

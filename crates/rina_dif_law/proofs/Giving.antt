@@ -119,7 +119,7 @@ offered_stands d lines below at parts num d' lines' st cut s =
     let limits = cube_limits g s.ids.qos s.cube st.config s.is_cube in
     let is_end = s.is_conn.end in
     let partner = st.journal.allocated at s.end is_end s.allocated in
-    let flow = direction_out g d.clock cloud d.ends d.conns lines st.own at partner.place s.end partner.other s.ids s.line s.is_conn partner.stands s.is_line partner.partner s.allocated in
+    let flow = direction_out g d.clock cloud d.ids d.ends d.conns lines st.own at partner.place s.end partner.other s.ids s.line s.is_conn partner.stands s.is_line partner.partner s.allocated in
     let cube_is : flow.cube ≡ s.cube = cubes_same (cube_by s.ids.qos g.cubes) flow.cube s.cube flow.is_cube s.is_cube in
     let holds : DirectionHolds k s.line = subst (λ (x : Cube). DirectionHolds (constants g x s.ids) s.line) cube_is flow.backed.holds in
     let are = st.own.ids at s.end s.ids s.is_conn in
@@ -127,7 +127,7 @@ offered_stands d lines below at parts num d' lines' st cut s =
     let const : IsConst s.end end' = record { flow = refl; role = refl; port = refl; app = refl; peer = refl; cube = refl } in
     let was = st.journal.whole at s.end is_end in
     let whole : IsWhole d.clock end' = record { sent = dated_push d.clock s.end.sent entry was.sent flow.backed.clock; got = was.got; taken = was.taken } in
-    let own = own_offered g d.clock cloud cloud' d.ends d.conns lines st.own at s.end s.ids s.cube s.is_conn s.allocated s.is_cube limits s.line s.is_line partner.place partner.other partner.stands partner.partner parts cut s.free covers in
+    let own = own_offered g d.clock cloud cloud' d.ids d.ends d.conns lines st.own at s.end s.ids s.cube s.is_conn s.allocated s.is_cube limits s.line s.is_line partner.place partner.other partner.stands partner.partner parts cut s.free covers in
     subst (λ (z : DifSeen). IsStanding z lines' below) (sym s.new_is) (subst (λ (ls : List Direction). IsStanding (record d { ends = slice_set d.ends at end'; processes = processes' }) ls below) (sym s.lines_are)
     (stands_with d lines (slice_set lines at line') NoMore (JustItems s.i s.queue.link items) below below d.clock processes' (slice_set d.ends at end') st (after_none g below) st.clock (omega arith) (length-set d.processes s.i process')
     (requeued_put d.processes s.i s.place s.process s.queue items s.is_process s.is_queue.is_queue) (same_links d.processes s.i s.process process' s.is_process refl)

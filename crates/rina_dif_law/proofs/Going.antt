@@ -103,14 +103,14 @@ forwarded_stands refuses d lines below i n process key process' below' kept kept
     (λ port y is. subst (IsSpelled d.config) (ap (λ (e : Entry). e.bytes) (sym is.1)) (item_spelled d.config d.clock (charge_of d.clock s.item s.promise) s.item fit))
     (λ j m item none. absurd none)
     st.journal st.ports
-    (own_covered d.config d.clock (Cloud Everywhere d.config d.processes below) (Cloud Everywhere d.config (slice_set d.processes i taken) below') d.ends d.conns lines st.own covers))
+    (own_covered d.config d.clock (Cloud Everywhere d.config d.processes below) (Cloud Everywhere d.config (slice_set d.processes i taken) below') d.ids d.ends d.conns lines st.own covers))
 
 -- an IPC process whose links stay, and whose queues at most lose PDUs, while nothing happens below but passes
 pub lost_stands : (d : DifSeen) (lines : List Direction) (below below' : Seen) (i : ℕ) (process process' : Process) → IsStanding d lines below → IsAfter d.config NoMore below below' → below'.now ≡ below.now → slice_get d.processes i ≡ Some process → process'.links ≡ process.links → Requeued NoItem d.processes (slice_set d.processes i process') → IsStanding (with_process d i process') lines below'
 lost_stands d lines below below' i process process' st after clock is links moved =
     stands_with d lines lines NoMore NoItem below below' d.clock (slice_set d.processes i process') d.ends st after (st.clock ∙ sym clock) (omega arith) (length-set d.processes i process') moved (same_links d.processes i process process' is links)
     (λ port y none. absurd none) (λ j m item none. absurd none) st.journal st.ports
-    (own_covered d.config d.clock (Cloud Everywhere d.config d.processes below) (Cloud Everywhere d.config (slice_set d.processes i process') below') d.ends d.conns lines st.own (covers_less Everywhere d.config d.clock d.processes (slice_set d.processes i process') below below' moved after))
+    (own_covered d.config d.clock (Cloud Everywhere d.config d.processes below) (Cloud Everywhere d.config (slice_set d.processes i process') below') d.ids d.ends d.conns lines st.own (covers_less Everywhere d.config d.clock d.processes (slice_set d.processes i process') below below' moved after))
 
 written_off_stands : (holds : Link → Queued → ℕ → Type 0) (cause : Cause) (d : DifSeen) (lines : List Direction) (below : Seen) (i n : ℕ) (process : Process) (key : Key) (process' : Process) (below' : Seen) → IsStanding d lines below → slice_get d.processes i ≡ Some process → IsWrittenOff holds cause process below n key process' below' → IsStanding (with_process d i process') lines below'
 written_off_stands holds cause d lines below i n process key process' below' st is_process s =

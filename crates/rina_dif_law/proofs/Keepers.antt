@@ -49,7 +49,7 @@ pub keeps_cube : (d : DifSeen) (lines : List Direction) (below : Seen) (i k : �
 keeps_cube d lines below i k e other st is_e is_other p =
     let line = beside d.ends lines k other st.own.lines_alike is_other in
     let back = partner_back e other p in
-    let q = pair d.config d.clock (Cloud Everywhere d.config d.processes below) d.ends d.conns lines st.own k i other e is_other is_e back in
+    let q = pair d.config d.clock (Cloud Everywhere d.config d.processes below) d.ids d.ends d.conns lines st.own k i other e is_other is_e back in
     let flow = (st.own.flows_are k i other e q.x q.flow q.far line.0 is_other is_e back q.is_x q.stands q.known line.1).direction in
     let cube_is : (ids_from q.x.side q.flow q.far other.cube).qos ≡ e.cube = qos_from q.x.side q.flow q.far other.cube ∙ (st.journal.named i k e other is_e is_other p).cube in
     record {

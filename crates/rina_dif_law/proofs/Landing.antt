@@ -240,7 +240,7 @@ module _ (d : DifSeen) (lines : List Direction) (below below' : Seen) (kept' : A
       let names = s.taker.names in
       let partner = s.inbound.partner in
       let named = st.journal.named s.from s.place partner s.end s.inbound.is_partner conn.end s.inbound.partners in
-      let flow = direction_in d.config d.clock (Cloud Everywhere d.config d.processes below) d.ends d.conns lines st.own s.from s.place partner s.end s.ids s.line s.inbound.is_partner conn s.inbound.is_line s.inbound.partners s.taker.allocated named.cube in
+      let flow = direction_in d.config d.clock (Cloud Everywhere d.config d.processes below) d.ids d.ends d.conns lines st.own s.from s.place partner s.end s.ids s.line s.inbound.is_partner conn s.inbound.is_line s.inbound.partners s.taker.allocated named.cube in
       let piece : PiecesOf (Cloud Everywhere d.config d.processes below) (flipped s.ids) older p = record { pdu = pdu; in_cloud = has; kind = s.piece; from = names; is = refl } in
       let sized = arriving_sized d.config d.clock (Cloud Everywhere d.config d.processes below) partner s.end (flipped s.ids) s.line older p flow piece alive in
       let holds = holds_sized d.config d.clock below s.ids s.line (carrying.holding s.place s.from s.end s.ids s.line conn s.inbound) in

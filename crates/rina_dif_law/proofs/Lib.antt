@@ -18,6 +18,7 @@ pub mod Founding
 pub mod Frame
 pub mod Giving
 pub mod Going
+pub mod HeldIds
 pub mod Joined
 pub mod Journals
 pub mod Keepers

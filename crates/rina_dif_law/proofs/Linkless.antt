@@ -102,7 +102,7 @@ lost_stands d lines below i number routes d' st s =
       items = λ j n item w. elim (moved j n item w) [ inl o ↦ st.items j n item o | inr none ↦ absurd none ];
       journal = st.journal;
       ports = st.ports;
-      own = own_covered d.config d.clock (Cloud Everywhere d.config d.processes below) (Cloud Everywhere d.config processes' below) d.ends d.conns lines st.own covers;
+      own = own_covered d.config d.clock (Cloud Everywhere d.config d.processes below) (Cloud Everywhere d.config processes' below) d.ids d.ends d.conns lines st.own covers;
     })
 
 pub lost_carries : (d : DifSeen) (lines : List Direction) (below : Seen) (i number : ℕ) (routes : List Route) (d' : DifSeen) → IsCarrying d lines below → Loses d below i number routes d' → IsCarrying d' lines below
@@ -146,8 +146,14 @@ module _ (P : DifSeen → Type 0) (lines : List Direction) (node : ℕ) (fail : 
   first_stay zero d d' p f = subst P (sym f) p
   first_stay (suc n) d d' p f = one_stays n f.0 d' (first_stay n d f.0 p f.1) f.2
 
-pub failed_stands : (d : DifSeen) (lines : List Direction) (below : Seen) (node : ℕ) (port : Port) (d' : DifSeen) → IsStanding d lines below → FailAll lines node port d d' → IsStanding d' lines below
-failed_stands d lines below node port d' st f = first_stay (λ (z : DifSeen). IsStanding z lines below) lines node (Below port) (λ at a b s e. ended_stands a lines below at (Failed (Below port)) b s e) (length d.ends) d d' st f
+-- it stands, and is numbered
+record StandsNumbered (lines : List Direction) (below : Seen) (z : DifSeen) : Type 0 where
+  standing : IsStanding z lines below
+  numbered : IsNumbered z below
+
+pub failed_stands : (d : DifSeen) (lines : List Direction) (below : Seen) (node : ℕ) (port : Port) (d' : DifSeen) → IsStanding d lines below → IsNumbered d below → FailAll lines node port d d' → IsStanding d' lines below
+failed_stands d lines below node port d' st n f =
+    (first_stay (StandsNumbered lines below) lines node (Below port) (λ at a b s e. record { standing = ended_stands a lines below at (Failed (Below port)) b s.standing s.numbered e; numbered = ended_numbered a lines below at (Failed (Below port)) b s.numbered e }) (length d.ends) d d' (record { standing = st; numbered = n }) f).standing
 
 pub failed_carries : (d : DifSeen) (lines : List Direction) (below : Seen) (node : ℕ) (port : Port) (d' : DifSeen) → IsCarrying d lines below → FailAll lines node port d d' → IsCarrying d' lines below
 failed_carries d lines below node port d' c f = first_stay (λ (z : DifSeen). IsCarrying z lines below) lines node (Below port) (λ at a b s e. ended_carries a lines below at (Failed (Below port)) b s e) (length d.ends) d d' c f

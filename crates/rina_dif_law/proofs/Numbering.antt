@@ -1,5 +1,5 @@
 -- Each call keeps a DIF numbered.
-use Rattle.std.proofs.Common.{◌≡◌, ℕ, suc, ◌+◌, List, [], ◌∷◌, ◌++◌, ◌&&◌, cond, eqb, length, length-set, slice_get, slice_set, Some, None, Ok, Err, Option, Result, refl, sym, ◌∙◌, ap, subst, arith, inl, inr}
+use Rattle.std.proofs.Common.{◌≡◌, ℕ, suc, ◌+◌, List, [], ◌∷◌, ◌++◌, ◌&&◌, ◌*◌, cond, eqb, length, length-set, slice_get, slice_set, Some, None, Ok, Err, Option, Result, refl, sym, ◌∙◌, ap, subst, arith, inl, inr}
 use Rattle.std.proofs.lemmas.List.Sums.{sum_by-cons}
 use Rattle.std.proofs.lemmas.Option.{slice_get_within}
 use Rattle.rina_account.specs.declared.ledger.Off.{Off}
@@ -14,7 +14,7 @@ use Rattle.rina_iface.specs.declared.error.SendError.{SendError}
 use Rattle.rina_iface.specs.declared.error.SendError.TheVariants as errors
 use Rattle.rina_iface.specs.declared.state.PortState.{PortState}
 use Rattle.rina_iface.specs.declared.state.Role.{Role}
-use Rattle.rina_iface.specs.Ends.{with_passed, with_sent}
+use Rattle.rina_iface.specs.Ends.{drawn_at, with_passed, with_sent}
 use Rattle.rina_iface.specs.Journal.{AreKept, At}
 use Rattle.rina_iface.specs.Later.{AreLater, IsLater, IsLaterEnd}
 use Rattle.rina_iface.specs.Seen.{Seen, end_of}
@@ -42,7 +42,7 @@ use Rattle.rina_dif_law.specs.Ending.{IsEnded}
 use Rattle.rina_dif_law.specs.Ids.{Ids}
 use Rattle.rina_dif_law.specs.Incoming.{Ins, IsArrived, IsRelayed, Settles, SettlesFlow, SettlesOff, cause_told, lines_for}
 use Rattle.rina_dif_law.specs.Lifting.{IsLifted}
-use Rattle.rina_dif_law.specs.Numbered.{AreMembers, IsAddressed, IsCounted, IsFromHere, IsNumbered, asked_at, is_asker}
+use Rattle.rina_dif_law.specs.Numbered.{AreDrawn, AreMembers, IsAddressed, IsCounted, IsFromHere, IsNumbered, asked_at, is_asker}
 use Rattle.rina_data.specs.Outgoing.{Goes, IsForwarded, IsWrittenOff, Offs, sent_bytes}
 use Rattle.rina_dif_law.specs.Outgoing.{Outs}
 use Rattle.rina_dif_law.specs.Passing.{IsPassed, IsTicked}
@@ -55,7 +55,9 @@ use Rattle.rina_dif_law.proofs.After.{IsAfter, Just, NoMore, after_lifted, after
 use Rattle.rina_dif_law.proofs.Arrivals.{arrival}
 use Rattle.rina_dif_law.proofs.Clouds.{IsGiven, NoItem, Requeued, cloud_after, requeued_none}
 use Rattle.rina_data.proofs.Finding.{there}
+use Rattle.rina_cube.specs.Cubes.{delta_of}
 use Rattle.rina_dif_law.proofs.Finishing.{ended_silent}
+use Rattle.rina_dif_law.proofs.HeldIds.{rest_drawn}
 use Rattle.rina_dif_law.proofs.Going.{given_dies, head_waits}
 use Rattle.rina_dif_law.proofs.Queues.{JustItems, made_item, requeued_put, requeued_same, requeued_taken}
 use Rattle.rina_dif_law.proofs.Starting.{no_cloud}
@@ -82,6 +84,21 @@ asked_same before now node (a ∷ xs) (b ∷ bs) same later =
     let old_is : asked_at node (a ∷ xs) ≡ counts node a + asked_at node xs = sum_by-cons (counts node) a xs in
     new_is ∙ ap (λ (k : ℕ). k + asked_at node bs) one ∙ ap (λ (k : ℕ). counts node a + k) rest ∙ sym old_is
 
+-- as many ports were drawn
+drawn_same : (before now node : ℕ) (old new : List End) → length new ≡ length old → AreLater before now old new → drawn_at node new ≡ drawn_at node old
+drawn_same before now node [] [] same later = refl
+drawn_same before now node [] (b ∷ bs) same later = absurd (omega arith)
+drawn_same before now node (a ∷ xs) [] same later = absurd (omega arith)
+drawn_same before now node (a ∷ xs) (b ∷ bs) same later =
+    let h = later 0 a refl in
+    let is : b ≡ h.0 = cc in
+    let counted : End → ℕ = λ e. cond (eqb e.port.node node) 1 0 in
+    let one : counted b ≡ counted a = ap (λ (p : Port). cond (eqb p.node node) 1 0) (ap (λ (z : End). z.port) is ∙ h.2.port) in
+    let rest = drawn_same before now node xs bs (omega (arith, same)) (λ i e x. later (suc i) e x) in
+    let new_is : drawn_at node (b ∷ bs) ≡ counted b + drawn_at node bs = sum_by-cons counted b bs in
+    let old_is : drawn_at node (a ∷ xs) ≡ counted a + drawn_at node xs = sum_by-cons counted a xs in
+    new_is ∙ ap (λ (k : ℕ). k + drawn_at node bs) one ∙ ap (λ (k : ℕ). counted a + k) rest ∙ sym old_is
+
 -- an end was there before
 was_there : (before now : ℕ) (old new : List End) (i : ℕ) (e : End) → length new ≡ length old → AreLater before now old new → At new i e → (o : End) × At old i o × IsLaterEnd before now o e
 was_there before now old new i e same later is =
@@ -104,7 +121,6 @@ numbered_with d clock processes ends below below' n later same cloud = record {
         at_home = subst (λ (p : Port). home p.node d.config.members ≡ Some a.place) (sym o.2.port) a.at_home;
         stands = a.stands;
         addr = a.addr;
-        cep = a.cep ∙ ap (λ (p : Port). p.n) (sym o.2.port);
       };
   counted = λ i e is.
       let o = was_there d.clock clock d.ends ends i e same later is in
@@ -119,6 +135,11 @@ numbered_with d clock processes ends below below' n later same cloud = record {
         addr = c.addr ∙ ap (λ (f : _). f.src) (sym o.2.flow);
         count = omega (arith, count, asked, flow);
       };
+  drawn = record {
+    aligned = n.drawn.aligned;
+    greatest = n.drawn.greatest;
+    few = λ i m ids is_member are_ids. (let few = n.drawn.few i m ids is_member are_ids in let same = drawn_same d.clock clock m.node d.ends ends same later in omega (arith, few, same));
+  };
   named = cloud;
 }
 
@@ -286,7 +307,7 @@ module _ (d : DifSeen) (lines : List Direction) (below below' : Seen) (n : IsNum
   settles_off_numbered (causes.LinkDown down) d' lines' later number s = absurd s
 
   told_numbered : (d' : DifSeen) → d' ≡ d → IsNumbered d' below'
-  told_numbered d' is = subst (λ (z : DifSeen). IsNumbered z below') (sym is) (record { members = n.members; addressed = n.addressed; counted = n.counted; named = none_here d d.processes below below' n (requeued_none d.processes) after })
+  told_numbered d' is = subst (λ (z : DifSeen). IsNumbered z below') (sym is) (record { members = n.members; addressed = n.addressed; counted = n.counted; drawn = n.drawn; named = none_here d d.processes below below' n (requeued_none d.processes) after })
 
   flow_numbered : (end : Took) (d' : DifSeen) (lines' : List Direction) → AreLater d.clock d'.clock d.ends d'.ends → length d'.ends ≡ length d.ends → SettlesFlow d lines i member process at hop end d' lines' → IsNumbered d' below'
   flow_numbered took.Accepted d' lines' later number s = elim (s.2) [
@@ -362,17 +383,26 @@ pub ended_numbered : (d : DifSeen) (lines : List Direction) (below : Seen) (at :
 ended_numbered d lines below at state d' n s =
     let silent = ended_silent d lines at state d' s in
     let process' : Process = with_offs s.process s.dropped in
-    numbered_at d d' d.clock (slice_set d.processes s.i process') _ below below s.new_is silent.later.ends silent.number n (none_here d (slice_set d.processes s.i process') below below n (requeued_same d.processes s.i s.process process' s.is_process refl) (after_none d.config below))
+    let g = s.gives_back in
+    let held : DifSeen = record d { ids = s.held } in
+    let n' : IsNumbered held below = record {
+      members = n.members;
+      addressed = n.addressed;
+      counted = n.counted;
+      drawn = subst (AreDrawn d.config d.ends) (sym g.held_is) (rest_drawn d.config d.ends d.ids g.place g.old g.ids.scep (d.clock + 3 * delta_of g.cube) g.is_old n.drawn);
+      named = n.named;
+    } in
+    numbered_at held d' d.clock (slice_set d.processes s.i process') _ below below s.new_is silent.later.ends silent.number n' (none_here held (slice_set d.processes s.i process') below below n' (requeued_same d.processes s.i s.process process' s.is_process refl) (after_none d.config below))
 
 -- ---- the start
 
-pub start_numbered : (d : DifSeen) (lines : List Direction) (below : Seen) → IsStart d lines below → AreMembers d.config → ((i : ℕ) (e : End) (ids : Ids) → IsConn d.ends d.conns i e ids → IsAddressed d.config e ids) → ((i : ℕ) (e : End) → At d.ends i e → IsCounted d.config d.ends e) → IsNumbered d below
-start_numbered d lines below s members addressed counted = record { members = members; addressed = addressed; counted = counted; named = λ death pdu x. absurd (no_cloud d lines below death pdu s x) }
+pub start_numbered : (d : DifSeen) (lines : List Direction) (below : Seen) → IsStart d lines below → AreMembers d.config → ((i : ℕ) (e : End) (ids : Ids) → IsConn d.ends d.conns i e ids → IsAddressed d.config e ids) → ((i : ℕ) (e : End) → At d.ends i e → IsCounted d.config d.ends e) → AreDrawn d.config d.ends d.ids → IsNumbered d below
+start_numbered d lines below s members addressed counted drawn = record { members = members; addressed = addressed; counted = counted; drawn = drawn; named = λ death pdu x. absurd (no_cloud d lines below death pdu s x) }
 
 -- ---- the rank below goes on
 
 pub beside_after : (d : DifSeen) (below below' : Seen) → IsNumbered d below → IsAfter d.config NoMore below below' → IsNumbered d below'
-beside_after d below below' n after = record { members = n.members; addressed = n.addressed; counted = n.counted; named = none_here d d.processes below below' n (requeued_none d.processes) after }
+beside_after d below below' n after = record { members = n.members; addressed = n.addressed; counted = n.counted; drawn = n.drawn; named = none_here d d.processes below below' n (requeued_none d.processes) after }
 
 pub beside_numbered : (d : DifSeen) (below below' : Seen) → AreKept below' → IsNumbered d below → IsLifted d.config below below' → IsNumbered d below'
 beside_numbered d below below' kept n lifted = beside_after d below below' n (after_lifted d.config below below' kept lifted)

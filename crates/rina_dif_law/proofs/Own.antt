@@ -18,16 +18,18 @@ use Rattle.rina_rest.specs.Ledger.{LedgerHolds, Stands}
 use Rattle.rina_rest.specs.Naming.{Naming, four_in}
 use Rattle.rina_rest.specs.While.{IsDirectionFrom}
 use Rattle.rina_rest.proofs.Fresh.{one_flow_and_side, one_side}
+use Rattle.rina_rest.proofs.Keeping.{time_keeps_slots}
 use Rattle.rina_rest.proofs.Holding.{unended, used_by}
 use Rattle.rina_rest.proofs.Lists.{same_flow}
 use Rattle.rina_rest.proofs.Rows.{cloud_holds, send_holds, time_holds, used_before}
 use Rattle.rina_rest.proofs.While.{full_backed, guard_backed, if_backed, naming_covers, naming_covers_but}
 use Rattle.rina_data.specs.Configs.{Config, cube_by}
+use Rattle.rina_ids.specs.Members.{CepIds}
 use Rattle.rina_dif_law.specs.Dif.{constants}
 use Rattle.rina_dif_law.specs.Ids.{AcksOf, Ids, PiecesOf, flipped}
 use Rattle.rina_dif_law.specs.Lifting.{ticked}
 use Rattle.rina_dif_law.specs.Places.{IsEndOf, IsUp, Knows, Place, ids_from, role_of}
-use Rattle.rina_dif_law.specs.Standing.{AreEntered, AreIds, IsConn, IsDirection, IsFlow, IsJournal, IsOfFlow, IsOwn, IsUntold}
+use Rattle.rina_dif_law.specs.Standing.{AreEntered, AreIds, IsConn, IsDirection, IsFlow, IsJournal, IsOfFlow, IsOwn, IsUntold, RestsBy}
 use Rattle.rina_dif_law.proofs.Finding.{beside}
 use Rattle.rina_dif_law.proofs.Flows.{acks_apart, flow_kept, flow_moved, flow_recovered, flow_redirected, flow_ticked, from_still, guarded_covers, pieces_apart, ticked_untold}
 use Rattle.rina_dif_law.proofs.Journals.{IsConst, const_refl, partner_was, was_end}
@@ -103,6 +105,13 @@ module _ (ends : List End) (conns : List Ids) (flows : List Flow) (places : List
       let r = was_end ends at e e' is const k b hb in
       entered.apart i k o.0 r.0 x y o.1 r.1 is_x is_y (sym o.2.flow ∙ same ∙ r.2.flow)
 
+-- the ids of each flow rest as long as before
+pub rests_set : (g : Config) (ends : List End) (flows : List Flow) (places : List Place) (at : ℕ) (e e' : End) → At ends at e → IsConst e e' → ((i : ℕ) (a : End) (x : Place) (flow : Flow) → At ends i a → slice_get places i ≡ Some x → slice_get flows x.flow ≡ Some flow → RestsBy g a.cube flow.rest)
+    → (i : ℕ) (a : End) (x : Place) (flow : Flow) → At (slice_set ends at e') i a → slice_get places i ≡ Some x → slice_get flows x.flow ≡ Some flow → RestsBy g a.cube flow.rest
+rests_set g ends flows places at e e' is const rests i a x flow ha is_x stands =
+    let o = was_end ends at e e' is const i a ha in
+    subst (λ (q : ℕ). RestsBy g q flow.rest) (sym o.2.cube) (rests i o.0 x flow o.1 is_x stands)
+
 -- ids fit as before
 pub ids_set : (g : Config) (ends : List End) (conns : List Ids) (at : ℕ) (e e' : End) → At ends at e → IsConst e e' → ((i : ℕ) (a : End) (c : Ids) → IsConn ends conns i a c → AreIds g a c) → (i : ℕ) (a : End) (c : Ids) → IsConn (slice_set ends at e') conns i a c → AreIds g a c
 ids_set g ends conns at e e' is const fit i a c conn =
@@ -110,7 +119,7 @@ ids_set g ends conns at e e' is const fit i a c conn =
     let ids = fit i o.0 c (record { end = o.1; ids_are = conn.ids_are }) in
     record { own = ids.own; far = ids.far; scep = ids.scep; dcep = ids.dcep; qos = ids.qos ∙ sym o.2.cube }
 
-module _ (g : Config) (now : ℕ) (cloud : ℕ → Pdu → Type 0) (ends : List End) (conns : List Ids) (lines : List Direction) (own : IsOwn g now cloud ends conns lines) where
+module _ (g : Config) (now : ℕ) (cloud : ℕ → Pdu → Type 0) (held : List CepIds) (ends : List End) (conns : List Ids) (lines : List Direction) (own : IsOwn g now cloud held ends conns lines) where
   -- an end is that of its flow
   pub end_of_flow : (i : ℕ) (e : End) (c : Ids) (x : Place) (flow : Flow) → IsConn ends conns i e c → slice_get own.places i ≡ Some x → slice_get own.flows x.flow ≡ Some flow → IsEndOf flow x.side e c
   end_of_flow i e c x flow conn is_x stands =
@@ -285,7 +294,7 @@ module _ (g : Config) (now : ℕ) (cloud : ℕ → Pdu → Type 0) (ends : List 
     ledger_covered covers = cloud_holds now own.flows (Naming (IsOfFlow g) cloud) (Naming (IsOfFlow g) cloud') (naming_covers (IsOfFlow g) now cloud cloud' covers) own.ledger
 
     -- nothing of the own journal changes
-    pub own_recovered : Covers now cloud cloud' → IsOwn g now cloud' ends conns lines
+    pub own_recovered : Covers now cloud cloud' → IsOwn g now cloud' held ends conns lines
     own_recovered covers = record {
       alike = own.alike;
       lines_alike = own.lines_alike;
@@ -293,12 +302,14 @@ module _ (g : Config) (now : ℕ) (cloud : ℕ → Pdu → Type 0) (ends : List 
       places = own.places;
       entered = own.entered;
       ledger = ledger_covered covers;
+      rests = own.rests;
+      kept = own.kept;
       ids = own.ids;
       flows_are = λ i k a b x flow far line ha hb p is_x stands known z. carries_covered covers i a b x flow far line is_x stands known (own.flows_are i k a b x flow far line ha hb p is_x stands known z);
     }
 
     -- PDUs are made that are of no flow
-    pub own_no_flow : (made : Pdu → Type 0) (life : ℕ) → CoversBut now cloud made life cloud' → ((pdu : Pdu) → made pdu → IsOfFlow g pdu → ⊥) → IsOwn g now cloud' ends conns lines
+    pub own_no_flow : (made : Pdu → Type 0) (life : ℕ) → CoversBut now cloud made life cloud' → ((pdu : Pdu) → made pdu → IsOfFlow g pdu → ⊥) → IsOwn g now cloud' held ends conns lines
     own_no_flow made life covers none = record {
       alike = own.alike;
       lines_alike = own.lines_alike;
@@ -309,6 +320,8 @@ module _ (g : Config) (now : ℕ) (cloud : ℕ → Pdu → Type 0) (ends : List 
         | inl o ↦ (o.0, o.1, record { pdu = x.pdu; in_cloud = o.2; flow = x.flow; is = x.is })
         | inr n ↦ absurd (none x.pdu n.0 x.flow)
       ]) own.ledger;
+      rests = own.rests;
+      kept = own.kept;
       ids = own.ids;
       flows_are = λ i k a b x flow far line ha hb p is_x stands known z.
           (let h = own.flows_are i k a b x flow far line ha hb p is_x stands known z in
@@ -363,7 +376,7 @@ module _ (g : Config) (now : ℕ) (cloud : ℕ → Pdu → Type 0) (ends : List 
     pub own_line : (from : ℕ) (line line' : Direction) → slice_get lines from ≡ Some line → LedgerHolds now own.flows (Naming (IsOfFlow g) cloud')
         → ((k : ℕ) (a b : End) (x : Place) (flow : Flow) (far : Endpoint) → At ends from a → At ends k b → IsPartner a b → slice_get own.places from ≡ Some x → slice_get own.flows x.flow ≡ Some flow → flow.far ≡ Some far → IsFlow g now cloud flow far x.side a b (ids_from x.side flow far a.cube) line → IsFlow g now cloud' flow far x.side a b (ids_from x.side flow far a.cube) line')
         → ((i : ℕ) → i ≢ from → Carries i)
-        → IsOwn g now cloud' ends conns (slice_set lines from line')
+        → IsOwn g now cloud' held ends conns (slice_set lines from line')
     own_line from line line' is_line ledger main other = record {
       alike = own.alike;
       lines_alike = length-set lines from line' ∙ own.lines_alike;
@@ -371,6 +384,8 @@ module _ (g : Config) (now : ℕ) (cloud : ℕ → Pdu → Type 0) (ends : List 
       places = own.places;
       entered = own.entered;
       ledger = ledger;
+      rests = own.rests;
+      kept = own.kept;
       ids = own.ids;
       flows_are = λ i k a b x flow far m ha hb p is_x stands known z. elim (set_at lines from i line line' m is_line z) [
         | inl u ↦
@@ -407,7 +422,7 @@ module _ (g : Config) (now : ℕ) (cloud : ℕ → Pdu → Type 0) (ends : List 
 
       own_set : (lines' : List Direction) → length lines' ≡ length lines → LedgerHolds now own.flows (Naming (IsOfFlow g) cloud')
           → ((i k : ℕ) (a b : End) (x : Place) (flow : Flow) (far : Endpoint) (line : Direction) → At (slice_set ends at e') i a → At (slice_set ends at e') k b → IsPartner a b → slice_get own.places i ≡ Some x → slice_get own.flows x.flow ≡ Some flow → flow.far ≡ Some far → slice_get lines' i ≡ Some line → IsFlow g now cloud' flow far x.side a b (ids_from x.side flow far a.cube) line)
-          → IsOwn g now cloud' (slice_set ends at e') conns lines'
+          → IsOwn g now cloud' held (slice_set ends at e') conns lines'
       own_set lines' alike ledger flows_are = record {
         alike = own.alike ∙ sym (length-set ends at e');
         lines_alike = alike ∙ own.lines_alike ∙ sym (length-set ends at e');
@@ -415,6 +430,8 @@ module _ (g : Config) (now : ℕ) (cloud : ℕ → Pdu → Type 0) (ends : List 
         places = own.places;
         entered = entered_set;
         ledger = ledger;
+        rests = rests_set g ends own.flows own.places at e e' is const own.rests;
+        kept = own.kept;
         ids = ids_set g ends conns at e e' is const own.ids;
         flows_are = flows_are;
       }
@@ -436,7 +453,7 @@ module _ (g : Config) (now : ℕ) (cloud : ℕ → Pdu → Type 0) (ends : List 
       pub own_sent : (line line' : Direction) → slice_get lines at ≡ Some line → e'.got ≡ e.got → e'.taken ≡ e.taken → LedgerHolds now own.flows (Naming (IsOfFlow g) cloud')
           → ((k : ℕ) (b : End) (x : Place) (flow : Flow) (far : Endpoint) → At ends k b → IsPartner e b → slice_get own.places at ≡ Some x → slice_get own.flows x.flow ≡ Some flow → flow.far ≡ Some far → IsFlow g now cloud flow far x.side e b (ids_from x.side flow far e.cube) line → IsFlow g now cloud' flow far x.side e' b (ids_from x.side flow far e.cube) line')
           → ((i : ℕ) → i ≢ at → Carries i)
-          → IsOwn g now cloud' (slice_set ends at e') conns (slice_set lines at line')
+          → IsOwn g now cloud' held (slice_set ends at e') conns (slice_set lines at line')
       own_sent line line' is_line got taken ledger main other = own_set (slice_set lines at line') (length-set lines at line') ledger (λ i k a b x flow far m ha hb p is_x stands known z.
           let r = was_got got taken k b hb in
           elim (set_at ends at i e e' a is ha) [
@@ -460,7 +477,7 @@ module _ (g : Config) (now : ℕ) (cloud : ℕ → Pdu → Type 0) (ends : List 
       -- the end and the direction in which it receives, which is that of its partner
       pub own_received : IsJournal now ends → (from : ℕ) (partner : End) → At ends from partner → IsPartner partner e → (line line' : Direction) → slice_get lines from ≡ Some line → e'.sent ≡ e.sent → Covers now cloud cloud'
           → ((x : Place) (flow : Flow) (far : Endpoint) → slice_get own.places from ≡ Some x → slice_get own.flows x.flow ≡ Some flow → flow.far ≡ Some far → IsFlow g now cloud flow far x.side partner e (ids_from x.side flow far partner.cube) line → IsFlow g now cloud' flow far x.side partner e' (ids_from x.side flow far partner.cube) line')
-          → IsOwn g now cloud' (slice_set ends at e') conns (slice_set lines from line')
+          → IsOwn g now cloud' held (slice_set ends at e') conns (slice_set lines from line')
       own_received journal from partner is_partner partners line line' is_line sent covers main = own_set (slice_set lines from line') (length-set lines from line') (ledger_covered covers) (λ i k a b x flow far m ha hb p is_x stands known z.
           let l = was_sent sent i a ha in
           let r = was_end ends at e e' is const k b hb in
@@ -489,8 +506,8 @@ module _ (g : Config) (now : ℕ) (cloud : ℕ → Pdu → Type 0) (ends : List 
             ]
           ])
 
-pub own_covered : (g : Config) (now : ℕ) (cloud cloud' : ℕ → Pdu → Type 0) (ends : List End) (conns : List Ids) (lines : List Direction) → IsOwn g now cloud ends conns lines → Covers now cloud cloud' → IsOwn g now cloud' ends conns lines
-own_covered g now cloud cloud' ends conns lines own covers = own_recovered g now cloud ends conns lines own cloud' covers
+pub own_covered : (g : Config) (now : ℕ) (cloud cloud' : ℕ → Pdu → Type 0) (held : List CepIds) (ends : List End) (conns : List Ids) (lines : List Direction) → IsOwn g now cloud held ends conns lines → Covers now cloud cloud' → IsOwn g now cloud' held ends conns lines
+own_covered g now cloud cloud' held ends conns lines own covers = own_recovered g now cloud held ends conns lines own cloud' covers
 
 mapped : {X Y : Type 0} → (h : X → Y) (o : Option X) (y : Y) → option_map h o ≡ Some y → (x : X) × (o ≡ Some x) × (y ≡ h x)
 mapped h None y e = cc
@@ -512,14 +529,16 @@ flow_later g now later cloud cloud' flow far side a b c line le covers h =
     }
 
 -- time goes on in each direction
-pub own_ticked : (g : Config) (now later : ℕ) (cloud cloud' : ℕ → Pdu → Type 0) (ends : List End) (conns : List Ids) (lines : List Direction) → now ≤ later → Covers later cloud cloud' → IsOwn g now cloud ends conns lines → IsOwn g later cloud' ends conns (map (ticked (later - now)) lines)
-own_ticked g now later cloud cloud' ends conns lines le covers own = record {
+pub own_ticked : (g : Config) (now later : ℕ) (cloud cloud' : ℕ → Pdu → Type 0) (held : List CepIds) (ends : List End) (conns : List Ids) (lines : List Direction) → now ≤ later → Covers later cloud cloud' → IsOwn g now cloud held ends conns lines → IsOwn g later cloud' held ends conns (map (ticked (later - now)) lines)
+own_ticked g now later cloud cloud' held ends conns lines le covers own = record {
   alike = own.alike;
   lines_alike = length-map lines (ticked (later - now)) ∙ own.lines_alike;
   flows = own.flows;
   places = own.places;
   entered = own.entered;
   ledger = cloud_holds later own.flows (Naming (IsOfFlow g) cloud) (Naming (IsOfFlow g) cloud') (naming_covers (IsOfFlow g) later cloud cloud' covers) (time_holds now later own.flows (Naming (IsOfFlow g) cloud) le own.ledger);
+  rests = own.rests;
+  kept = λ i member its is_member are_its. time_keeps_slots now later own.flows member.addr its.1 le (own.kept i member its is_member are_its);
   ids = own.ids;
   flows_are = λ i k a b x flow far m ha hb p is_x stands known z.
       let o = map_at (ticked (later - now)) lines i m z in

@@ -20,14 +20,16 @@ use Rattle.rina_rest.proofs.Lists.{IsChanged, new_or_old, put_changed}
 use Rattle.rina_rest.proofs.Rows.{end_asker_holds, end_far_holds}
 use Rattle.rina_rest.proofs.While.{ended_now, from_ended_asker, from_ended_far, guard_backed}
 use Rattle.rina_data.specs.Configs.{Config}
+use Rattle.rina_ids.specs.Members.{CepIds}
+use Rattle.rina_dif_law.specs.CepIds.{AreHeld}
 use Rattle.rina_dif_law.specs.Dif.{constants}
 use Rattle.rina_dif_law.specs.Ids.{AcksOf, Ids, PiecesOf}
 use Rattle.rina_dif_law.specs.Places.{IsEndOf, IsEntered, IsUp, Knows, Place, ids_from}
-use Rattle.rina_dif_law.specs.Standing.{AreEntered, IsConn, IsFlow, IsOfFlow, IsOwn, IsUntold}
+use Rattle.rina_dif_law.specs.Standing.{AreEntered, IsConn, IsFlow, IsOfFlow, IsOwn, IsUntold, RestsBy}
 use Rattle.rina_dif_law.proofs.Finding.{beside}
 use Rattle.rina_dif_law.proofs.Flows.{flow_moved}
 use Rattle.rina_dif_law.proofs.Journals.{IsConst, was_end}
-use Rattle.rina_dif_law.proofs.Own.{apart_set, end_of_flow, ids_set, named_set}
+use Rattle.rina_dif_law.proofs.Own.{apart_set, end_of_flow, ids_set, named_set, rests_set}
 use Rattle.rina_dif_law.proofs.Placed.{opposite, unrested_up}
 
 -- an allocated end that moves on has ended
@@ -41,7 +43,7 @@ ends_down old Closed is moves ne up = up
 -- ---- a flow one of whose ends ends
 
 -- the flow after it, and its far end
-abbrev ended_at : ℕ → Side → Flow → Endpoint → Flow
+abbrev pub ended_at : ℕ → Side → Flow → Endpoint → Flow
 ended_at now Asker f far = ended_asker now f
 ended_at now Far f far = ended_far now f far
 
@@ -213,13 +215,13 @@ record IsPlaced (flows : List Flow) (places : List Place) (i : ℕ) (e : End) (c
   stands : slice_get flows x.flow ≡ Some flow
   end : IsEndOf flow x.side e c
 
-placed : (g : Config) (now : ℕ) (cloud : ℕ → Pdu → Type 0) (ends : List End) (conns : List Ids) (lines : List Direction) (own : IsOwn g now cloud ends conns lines) (i : ℕ) (e : End) (c : Ids) → IsConn ends conns i e c → IsPlaced own.flows own.places i e c
-placed g now cloud ends conns lines own i e c conn =
+placed : (g : Config) (now : ℕ) (cloud : ℕ → Pdu → Type 0) (held : List CepIds) (ends : List End) (conns : List Ids) (lines : List Direction) (own : IsOwn g now cloud held ends conns lines) (i : ℕ) (e : End) (c : Ids) → IsConn ends conns i e c → IsPlaced own.flows own.places i e c
+placed g now cloud held ends conns lines own i e c conn =
     let x = beside ends own.places i e own.entered.places_alike conn.end in
     let m = own.entered.each i e c x.0 conn x.1 in
     record { x = x.0; is_x = x.1; flow = m.flow; stands = m.stands; end = m.end }
 
-module _ (g : Config) (now : ℕ) (cloud : ℕ → Pdu → Type 0) (ends : List End) (conns : List Ids) (lines : List Direction) (own : IsOwn g now cloud ends conns lines) (at : ℕ) (e : End) (c : Ids) (conn : IsConn ends conns at e c) (stood : IsUp e.state) (state : PortState) (down : IsUp state → ⊥) where
+module _ (g : Config) (now : ℕ) (cloud : ℕ → Pdu → Type 0) (held : List CepIds) (ends : List End) (conns : List Ids) (lines : List Direction) (own : IsOwn g now cloud held ends conns lines) (at : ℕ) (e : End) (c : Ids) (conn : IsConn ends conns at e c) (stood : IsUp e.state) (state : PortState) (down : IsUp state → ⊥) where
   abbrev e' : End
   e' = record e { state = state }
 
@@ -227,7 +229,7 @@ module _ (g : Config) (now : ℕ) (cloud : ℕ → Pdu → Type 0) (ends : List 
   ends' = slice_set ends at e'
 
   abbrev q : IsPlaced own.flows own.places at e c
-  q = placed g now cloud ends conns lines own at e c conn
+  q = placed g now cloud held ends conns lines own at e c conn
 
   abbrev point : Endpoint
   point = q.end.point
@@ -276,7 +278,7 @@ module _ (g : Config) (now : ℕ) (cloud : ℕ → Pdu → Type 0) (ends : List 
           | inl same ↦ elim (place_cases i x is_x same) [
             | inl here ↦ absurd (o.0 here)
             | inr side ↦
-                (let m = end_of_flow g now cloud ends conns lines own i a f x q.flow conn' is_x (subst (λ (n : ℕ). slice_get own.flows n ≡ Some q.flow) (sym same) q.stands) in
+                (let m = end_of_flow g now cloud held ends conns lines own i a f x q.flow conn' is_x (subst (λ (n : ℕ). slice_get own.flows n ≡ Some q.flow) (sym same) q.stands) in
                 let m' : IsEndOf q.flow (opposite q.x.side) a f = subst (λ (z : Side). IsEndOf q.flow z a f) side m in
                 record {
                   flow = f';
@@ -321,20 +323,35 @@ module _ (g : Config) (now : ℕ) (cloud : ℕ → Pdu → Type 0) (ends : List 
         | inr old ↦ flow_moved g now cloud flow far x.side l.0 r.0 a b (ids_from x.side flow far l.0.cube) (ids_from x.side flow far a.cube) line cube l.5 r.6 r.7 (own.flows_are i k l.0 r.0 x flow far line l.1 r.1 p' is_x old.1 known z)
       ]
 
-  pub own_ended : IsOwn g now cloud ends' conns lines
-  own_ended = record {
+  rest_same : (s : Side) (f : Flow) (far : Endpoint) → f.rest ≡ (ended_at now s f far).rest
+  rest_same Asker f far = refl
+  rest_same Far f far = refl
+
+  rests_ended : (i : ℕ) (a : End) (x : Place) (flow : Flow) → At ends' i a → slice_get own.places i ≡ Some x → slice_get flows' x.flow ≡ Some flow → RestsBy g a.cube flow.rest
+  rests_ended i a x flow ha is_x stands =
+      let o = was_end ends at e e' conn.end const i a ha in
+      subst (λ (n : ℕ). RestsBy g n flow.rest) (sym o.2.cube) (elim (new_or_old own.flows flows' q.x.flow f' x.flow flow changed stands) [
+        | inl new ↦ subst (RestsBy g o.0.cube) (rest_same q.x.side q.flow point ∙ ap (λ (z : Flow). z.rest) new.1) (own.rests i o.0 x q.flow o.1 is_x (subst (λ (n : ℕ). slice_get own.flows n ≡ Some q.flow) (sym new.0) q.stands))
+        | inr old ↦ own.rests i o.0 x flow o.1 is_x old.1
+      ])
+
+  -- the member of the end holds its ids so from then on
+  pub own_ended : (held' : List CepIds) → ((n : ℕ) (flow : Flow) (side : Side) (its : Endpoint) → slice_get own.flows n ≡ Some flow → end_at side flow ≡ Some its → its.ended ≡ None → c.own ≡ its.addr → c.scep ≡ its.cep → RestsBy g e.cube flow.rest → AreHeld g now (put n (ended_at now side flow its) own.flows) held') → IsOwn g now cloud held' ends' conns lines
+  own_ended held' rest = record {
     alike = own.alike ∙ sym (length-set ends at e');
     lines_alike = own.lines_alike ∙ sym (length-set ends at e');
     flows = flows';
     places = own.places;
     entered = entered_after;
     ledger = ledger_after now own.flows (Naming (IsOfFlow g) cloud) q.x.flow q.x.side q.flow point own.ledger q.stands given up;
+    rests = rests_ended;
+    kept = rest q.x.flow q.flow q.x.side point q.stands q.end.is (q.end.up stood) q.end.own q.end.scep (own.rests at e q.x q.flow conn.end q.is_x q.stands);
     ids = ids_set g ends conns at e e' conn.end const own.ids;
     flows_are = ended_flows;
   }
 
 -- an end that has ended changes its state, and has ended still
-module _ (g : Config) (now : ℕ) (cloud : ℕ → Pdu → Type 0) (ends : List End) (conns : List Ids) (lines : List Direction) (own : IsOwn g now cloud ends conns lines) (at : ℕ) (e : End) (is : At ends at e) (state : PortState) (was : IsUp e.state → ⊥) (down : IsUp state → ⊥) where
+module _ (g : Config) (now : ℕ) (cloud : ℕ → Pdu → Type 0) (held : List CepIds) (ends : List End) (conns : List Ids) (lines : List Direction) (own : IsOwn g now cloud held ends conns lines) (at : ℕ) (e : End) (is : At ends at e) (state : PortState) (was : IsUp e.state → ⊥) (down : IsUp state → ⊥) where
   abbrev after : End
   after = record e { state = state }
 
@@ -354,7 +371,7 @@ module _ (g : Config) (now : ℕ) (cloud : ℕ → Pdu → Type 0) (ends : List 
     known = h.known;
   }
 
-  pub own_restated : IsOwn g now cloud (slice_set ends at after) conns lines
+  pub own_restated : IsOwn g now cloud held (slice_set ends at after) conns lines
   own_restated = record {
     alike = own.alike ∙ sym (length-set ends at after);
     lines_alike = own.lines_alike ∙ sym (length-set ends at after);
@@ -374,6 +391,8 @@ module _ (g : Config) (now : ℕ) (cloud : ℕ → Pdu → Type 0) (ends : List 
       all = own.entered.all;
     };
     ledger = own.ledger;
+    rests = rests_set g ends own.flows own.places at e after is still_const own.rests;
+    kept = own.kept;
     ids = ids_set g ends conns at e after is still_const own.ids;
     flows_are = λ i k a b x flow far line ha hb p is_x stands known z.
         (let l = same_whole ends at e state is i a ha in
@@ -381,13 +400,3 @@ module _ (g : Config) (now : ℕ) (cloud : ℕ → Pdu → Type 0) (ends : List 
         let p' : IsPartner l.0 r.0 = record { same_flow = sym r.2 ∙ p.same_flow ∙ l.2; other_role = λ s. p.other_role (r.3 ∙ s ∙ sym l.3) } in
         flow_moved g now cloud flow far x.side l.0 r.0 a b (ids_from x.side flow far l.0.cube) (ids_from x.side flow far a.cube) line (ap (λ (n : ℕ). ids_from x.side flow far n) (sym l.4)) l.5 r.6 r.7 (own.flows_are i k l.0 r.0 x flow far line l.1 r.1 p' is_x stands known z));
   }
-
--- an end that is not allocated is freed, whether it waited or had ended
-pub own_freed : (g : Config) (now : ℕ) (cloud : ℕ → Pdu → Type 0) (ends : List End) (conns : List Ids) (lines : List Direction) → IsOwn g now cloud ends conns lines → (at : ℕ) (e : End) → At ends at e → (old : PortState) → e.state ≡ old → old ≢ Allocated → (state : PortState) → (IsUp state → ⊥) → IsOwn g now cloud (slice_set ends at (record e { state = state })) conns lines
-own_freed g now cloud ends conns lines own at e is Pending old ne state down =
-    let c = beside ends conns at e own.alike is in
-    own_ended g now cloud ends conns lines own at e c.0 (record { end = is; ids_are = c.1 }) (subst IsUp (sym old) tt) state down
-own_freed g now cloud ends conns lines own at e is Allocated old ne state down = absurd (ne refl)
-own_freed g now cloud ends conns lines own at e is (Refused why) old ne state down = own_restated g now cloud ends conns lines own at e is state (λ up. subst IsUp old up) down
-own_freed g now cloud ends conns lines own at e is (Failed fail) old ne state down = own_restated g now cloud ends conns lines own at e is state (λ up. subst IsUp old up) down
-own_freed g now cloud ends conns lines own at e is Closed old ne state down = own_restated g now cloud ends conns lines own at e is state (λ up. subst IsUp old up) down

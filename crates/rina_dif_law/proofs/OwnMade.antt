@@ -22,11 +22,13 @@ use Rattle.rina_rest.proofs.Lists.{new_or_old, push_changed}
 use Rattle.rina_rest.proofs.Rows.{bound_holds, cloud_holds}
 use Rattle.rina_rest.proofs.While.{from_standing, if_backed, naming_covers}
 use Rattle.rina_data.specs.Configs.{Config, cube_by}
+use Rattle.rina_ids.specs.Members.{CepIds}
+use Rattle.rina_dif_law.specs.CepIds.{AreHeld}
 use Rattle.rina_dif_law.specs.Dif.{constants}
 use Rattle.rina_dif_law.specs.Ids.{AcksOf, Ids, IsFrom, PiecesOf, flipped}
 use Rattle.rina_dif_law.specs.Lifting.{ticked}
 use Rattle.rina_dif_law.specs.Places.{IsEndOf, IsEntered, IsUp, Place, ids_from}
-use Rattle.rina_dif_law.specs.Standing.{AreEntered, AreIds, IsConn, IsFlow, IsOfFlow, IsOwn, IsUntold}
+use Rattle.rina_dif_law.specs.Standing.{AreEntered, AreIds, IsConn, IsFlow, IsOfFlow, IsOwn, IsUntold, RestsBy}
 use Rattle.rina_dif_law.proofs.Finding.{beside}
 use Rattle.rina_dif_law.proofs.Flows.{flow_recovered}
 use Rattle.rina_dif_law.proofs.Pairs.{first_at, first_beside, old_beside, second_at, second_beside, two_at, two_long}
@@ -68,7 +70,7 @@ none_in_use now flows a c b d free free' n f far stands known used Far four goes
 some_rest : (k : Constants) → IsCube k.cube → 1 ≤ rest_of k
 some_rest k limits = (let least = limits.least_mpl in omega arith)
 
-module _ (g : Config) (now : ℕ) (cloud cloud' : ℕ → Pdu → Type 0) (ends : List End) (conns : List Ids) (lines : List Direction) (own : IsOwn g now cloud ends conns lines) (asker end : End) (ids : Ids) (there back : Direction) (cube : Cube) (new : AreNew g now cloud cloud' ends own.flows asker end ids there back cube) where
+module _ (g : Config) (now : ℕ) (cloud cloud' : ℕ → Pdu → Type 0) (held : List CepIds) (ends : List End) (conns : List Ids) (lines : List Direction) (own : IsOwn g now cloud held ends conns lines) (asker end : End) (ids : Ids) (there back : Direction) (cube : Cube) (new : AreNew g now cloud cloud' ends own.flows asker end ids there back cube) where
   abbrev ends' : List End
   ends' = ends ++ asker ∷ end ∷ []
 
@@ -317,14 +319,39 @@ module _ (g : Config) (now : ℕ) (cloud cloud' : ℕ → Pdu → Type 0) (ends 
         ])
   ]
 
-  pub own_made : IsOwn g now cloud' ends' conns' lines'
-  own_made = record {
+  old_stands : (i : ℕ) (x : Place) (f : Flow) → slice_get own.places i ≡ Some x → slice_get flows' x.flow ≡ Some f → slice_get own.flows x.flow ≡ Some f
+  old_stands i x f is_x stands = elim (new_or_old own.flows flows' (length own.flows) flow x.flow f (push_changed own.flows flow) stands) [
+    | inl made ↦ absurd (not_last i x is_x made.0)
+    | inr old ↦ old.1
+  ]
+
+  new_rests : (qos : ℕ) → qos ≡ ids.qos → RestsBy g qos flow.rest
+  new_rests qos same other is = (let is_cube = new.is_cube in let one : cube ≡ other = cc in ap (λ (z : Cube). rest_of (constants g z ids)) one)
+
+  rests_made : (i : ℕ) (a : End) (x : Place) (f : Flow) → At ends' i a → slice_get places' i ≡ Some x → slice_get flows' x.flow ≡ Some f → RestsBy g a.cube f.rest
+  rests_made i a x f ha is_x stands = elim (two_at ends asker end i a ha) [
+    | inl o ↦
+        (let x_is = old_beside ends own.places here other i a x own.entered.places_alike o is_x in
+        own.rests i a x f o x_is (old_stands i x f x_is stands))
+    | inr (inl s) ↦
+        (let f_is = last_is x.flow f (ap (λ (v : Place). v.flow) (first_beside ends own.places here other i x own.entered.places_alike s.0 is_x)) stands in
+        subst (λ (v : Flow). RestsBy g a.cube v.rest) (sym f_is) (new_rests a.cube (ap (λ (v : End). v.cube) s.1 ∙ new.asker_cube)))
+    | inr (inr s) ↦
+        (let f_is = last_is x.flow f (ap (λ (v : Place). v.flow) (second_beside ends own.places here other i x own.entered.places_alike s.0 is_x)) stands in
+        subst (λ (v : Flow). RestsBy g a.cube v.rest) (sym f_is) (new_rests a.cube (ap (λ (v : End). v.cube) s.1 ∙ new.end_cube)))
+  ]
+
+  -- the members of both ends hold their ids so from then on
+  pub own_made : (held' : List CepIds) → AreHeld g now flows' held' → IsOwn g now cloud' held' ends' conns' lines'
+  own_made held' kept = record {
     alike = two_long conns ends ids (flipped ids) asker end own.alike;
     lines_alike = two_long lines ends there back asker end own.lines_alike;
     flows = flows';
     places = places';
     entered = entered_made;
     ledger = ledger_made;
+    rests = rests_made;
+    kept = kept;
     ids = λ i e c conn. elim (two_at ends asker end i e conn.end) [
       | inl o ↦ own.ids i e c (record { end = o; ids_are = old_beside ends conns ids (flipped ids) i e c own.alike o conn.ids_are })
       | inr (inl t) ↦ rw (t.1, first_beside ends conns ids (flipped ids) i c own.alike t.0 conn.ids_are) new.asker_ids

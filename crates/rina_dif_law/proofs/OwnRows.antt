@@ -23,6 +23,7 @@ use Rattle.rina_rest.specs.Ledger.{LedgerHolds, Stands}
 use Rattle.rina_rest.specs.Naming.{Naming, four_in}
 use Rattle.rina_rest.specs.Still.{rest_of}
 use Rattle.rina_data.specs.Configs.{Config, cube_by, piece_size}
+use Rattle.rina_ids.specs.Members.{CepIds}
 use Rattle.rina_dif_law.specs.Dif.{constants}
 use Rattle.rina_dif_law.specs.Ids.{AcksOf, Ids, IsFrom, PiecesOf, flipped, pdu_of_ack, pdu_of_piece}
 use Rattle.rina_dif_law.specs.Incoming.{arrived, found}
@@ -66,7 +67,7 @@ untaken_none : (k : Constants) (side : Side) (flow : Flow) (line : Direction) �
 untaken_none k Asker flow line is waiting u = absurd (let clash : Asker ≡ Far = is in cc)
 untaken_none k Far flow line is waiting u = ap (λ (z : Inbox). length z.got) (u waiting).inbox
 
-module _ (g : Config) (now : ℕ) (cloud cloud' : ℕ → Pdu → Type 0) (ends : List End) (conns : List Ids) (lines : List Direction) (own : IsOwn g now cloud ends conns lines) where
+module _ (g : Config) (now : ℕ) (cloud cloud' : ℕ → Pdu → Type 0) (held : List CepIds) (ends : List End) (conns : List Ids) (lines : List Direction) (own : IsOwn g now cloud held ends conns lines) where
   -- the ticks for which a flow's ids rest, by the cube of a direction
   short_life : (flow : Flow) (far : Endpoint) (side : Side) (a b : End) (c : Ids) (line : Direction) (cube : Cube) → cube_by c.qos g.cubes ≡ Some cube → IsFlow g now cloud flow far side a b c line → now + cube.mpl < now + flow.rest
   short_life flow far side a b c line cube is_cube h =
@@ -80,37 +81,37 @@ module _ (g : Config) (now : ℕ) (cloud cloud' : ℕ → Pdu → Type 0) (ends 
     k = constants g cube c
 
     abbrev q : IsPair own.flows own.places at
-    q = pair g now cloud ends conns lines own at to e other conn.end is_other partners
+    q = pair g now cloud held ends conns lines own at to e other conn.end is_other partners
 
     -- the flow of the direction by the ids of its sender
     by_sender : (b : End) (x : Place) (flow : Flow) (far : Endpoint) → slice_get own.places at ≡ Some x → slice_get own.flows x.flow ≡ Some flow → flow.far ≡ Some far → IsFlow g now cloud flow far x.side e b (ids_from x.side flow far e.cube) line → IsFlow g now cloud flow far x.side e b c line
-    by_sender b x flow far is_x stands known h = subst (λ (z : Ids). IsFlow g now cloud flow far x.side e b z line) (out_ids g now cloud ends conns lines own at e c x flow far conn allocated is_x stands known) h
+    by_sender b x flow far is_x stands known h = subst (λ (z : Ids). IsFlow g now cloud flow far x.side e b z line) (out_ids g now cloud held ends conns lines own at e c x flow far conn allocated is_x stands known) h
 
     back_sender : (b e' : End) (line' : Direction) (x : Place) (flow : Flow) (far : Endpoint) → slice_get own.places at ≡ Some x → slice_get own.flows x.flow ≡ Some flow → flow.far ≡ Some far → IsFlow g now cloud' flow far x.side e' b c line' → IsFlow g now cloud' flow far x.side e' b (ids_from x.side flow far e.cube) line'
-    back_sender b e' line' x flow far is_x stands known h = subst (λ (z : Ids). IsFlow g now cloud' flow far x.side e' b z line') (sym (out_ids g now cloud ends conns lines own at e c x flow far conn allocated is_x stands known)) h
+    back_sender b e' line' x flow far is_x stands known h = subst (λ (z : Ids). IsFlow g now cloud' flow far x.side e' b z line') (sym (out_ids g now cloud held ends conns lines own at e c x flow far conn allocated is_x stands known)) h
 
     -- pieces are made
     module _ (made : Pdu → Type 0) (covers : CoversBut now cloud made (now + cube.mpl) cloud') (means : (pdu : Pdu) → made pdu → (pdu.kind ≡ APiece) × IsFrom c pdu) where
       up : Stands q.x.side q.flow q.far
-      up = out_used g now cloud ends conns lines own at e c q.x q.flow q.far conn allocated q.is_x q.stands q.known
+      up = out_used g now cloud held ends conns lines own at e c q.x q.flow q.far conn allocated q.is_x q.stands q.known
 
       made_goes : (pdu : Pdu) → made pdu → GoesFrom q.x.side q.flow.asker q.far (four_in pdu)
       made_goes pdu m =
-          let is = out_ids g now cloud ends conns lines own at e c q.x q.flow q.far conn allocated q.is_x q.stands q.known in
+          let is = out_ids g now cloud held ends conns lines own at e c q.x q.flow q.far conn allocated q.is_x q.stands q.known in
           goes_from q.x.side q.flow q.far e.cube pdu (subst (λ (z : Ids). IsFrom z pdu) (sym is) (means pdu m).1)
 
       ledger_pieces : LedgerHolds now own.flows (Naming (IsOfFlow g) cloud')
       ledger_pieces =
           let h = by_sender other q.x q.flow q.far q.is_x q.stands q.known (own.flows_are at to e other q.x q.flow q.far line conn.end is_other partners q.is_x q.stands q.known is_line) in
-          let knows = (end_of_flow g now cloud ends conns lines own at e c q.x q.flow conn q.is_x q.stands).knows allocated in
-          ledger_made g now cloud ends conns lines own cloud' at q.x q.flow q.far q.is_x q.stands q.known q.x.side up made (now + cube.mpl) covers (knows_told q.x.side q.flow knows) (short_life q.flow q.far q.x.side e other c line cube is_cube h) made_goes
+          let knows = (end_of_flow g now cloud held ends conns lines own at e c q.x q.flow conn q.is_x q.stands).knows allocated in
+          ledger_made g now cloud held ends conns lines own cloud' at q.x q.flow q.far q.is_x q.stands q.known q.x.side up made (now + cube.mpl) covers (knows_told q.x.side q.flow knows) (short_life q.flow q.far q.x.side e other c line cube is_cube h) made_goes
 
-      other_pieces : (i : ℕ) → i ≢ at → Carries g now cloud ends conns lines own cloud' i
-      other_pieces i ne = carries_made g now cloud ends conns lines own cloud' at q.x q.flow q.far q.is_x q.stands q.known q.x.side up made (now + cube.mpl) covers (λ pdu m. inl ((means pdu m).0, made_goes pdu m)) i ne
+      other_pieces : (i : ℕ) → i ≢ at → Carries g now cloud held ends conns lines own cloud' i
+      other_pieces i ne = carries_made g now cloud held ends conns lines own cloud' at q.x q.flow q.far q.is_x q.stands q.known q.x.side up made (now + cube.mpl) covers (λ pdu m. inl ((means pdu m).0, made_goes pdu m)) i ne
 
     -- an SDU is offered
     pub own_offered : (parts : List Part) → IsCut (piece_size g) true parts → offer_refusal k line parts ≡ None → CoversBut now cloud (MadeOf c (offered_pieces k parts line)) (now + cube.mpl) cloud'
-        → IsOwn g now cloud' (slice_set ends at (with_sent e (offered_entry k parts line))) conns (slice_set lines at (offered k parts line))
+        → IsOwn g now cloud' held (slice_set ends at (with_sent e (offered_entry k parts line))) conns (slice_set lines at (offered k parts line))
     own_offered parts cut free covers =
         let e' : End = with_sent e (offered_entry k parts line) in
         let line' : Direction = offered k parts line in
@@ -118,48 +119,48 @@ module _ (g : Config) (now : ℕ) (cloud cloud' : ℕ → Pdu → Type 0) (ends 
         let made : Pdu → Type 0 = MadeOf c pieces in
         let means : (pdu : Pdu) → made pdu → (pdu.kind ≡ APiece) × IsFrom c pdu = λ pdu m. (ap (λ (z : Pdu). z.kind) m.2, piece_from c m.0 pdu m.2) in
         let const : IsConst e e' = record { flow = refl; role = refl; port = refl; app = refl; peer = refl; cube = refl } in
-        own_sent g now cloud ends conns lines own cloud' at e e' conn.end const refl line line' is_line refl refl (ledger_pieces made covers means)
+        own_sent g now cloud held ends conns lines own cloud' at e e' conn.end const refl line line' is_line refl refl (ledger_pieces made covers means)
         (λ j b x flow far is_b p is_x stands known h.
         let z = by_sender b x flow far is_x stands known h in
-        let m = end_of_flow g now cloud ends conns lines own at e c x flow conn is_x stands in
+        let m = end_of_flow g now cloud held ends conns lines own at e c x flow conn is_x stands in
         back_sender b e' line' x flow far is_x stands known (row_offered g now cloud cloud' flow far x.side e b c line cube is_cube limits e' parts made
-        (out_used g now cloud ends conns lines own at e c x flow far conn allocated is_x stands known) (m.knows allocated) cut free covers
+        (out_used g now cloud held ends conns lines own at e c x flow far conn allocated is_x stands known) (m.knows allocated) cut free covers
         (λ pdu made_of. (ap (λ (v : Pdu). v.kind) made_of.2, subst (λ (v : Pdu). In (piece_in v) pieces) (sym made_of.2) made_of.1))
         (ap (λ (xs : List Entry). xs ++ offered_entry k parts line ∷ []) (sym z.direction.sent)) z))
         (other_pieces made covers means)
 
     -- a number is sent again
     pub own_again : (n : ℕ) → again_due k line.line.clock line.line.sender ≡ Some n → CoversBut now cloud (λ p. p ≡ pdu_of_piece c (piece_again n line.line.sender)) (now + cube.mpl) cloud'
-        → IsOwn g now cloud' ends conns (slice_set lines at (record line { line = again k n line.line }))
+        → IsOwn g now cloud' held ends conns (slice_set lines at (record line { line = again k n line.line }))
     own_again n due covers =
         let line' : Direction = record line { line = again k n line.line } in
         let piece : Piece = piece_again n line.line.sender in
         let made : Pdu → Type 0 = λ p. p ≡ pdu_of_piece c piece in
         let means : (pdu : Pdu) → made pdu → (pdu.kind ≡ APiece) × IsFrom c pdu = λ pdu m. (ap (λ (z : Pdu). z.kind) m, piece_from c piece pdu m) in
-        own_line g now cloud ends conns lines own cloud' at line line' is_line (ledger_pieces made covers means)
+        own_line g now cloud held ends conns lines own cloud' at line line' is_line (ledger_pieces made covers means)
         (λ j a b x flow far is_a is_b p is_x stands known h.
         let a_is : a ≡ e = (let here = conn.end in cc) in
-        let m = end_of_flow g now cloud ends conns lines own at e c x flow conn is_x stands in
+        let m = end_of_flow g now cloud held ends conns lines own at e c x flow conn is_x stands in
         let h' : IsFlow g now cloud flow far x.side e b (ids_from x.side flow far e.cube) line = subst (λ (v : End). IsFlow g now cloud flow far x.side v b (ids_from x.side flow far v.cube) line) a_is h in
         let new = back_sender b e line' x flow far is_x stands known (row_again g now cloud cloud' flow far x.side e b c line cube is_cube limits n made
-        (out_used g now cloud ends conns lines own at e c x flow far conn allocated is_x stands known) (m.knows allocated) due covers (λ pdu v. (ap (λ (z : Pdu). z.kind) v, ap piece_in v)) (by_sender b x flow far is_x stands known h')) in
+        (out_used g now cloud held ends conns lines own at e c x flow far conn allocated is_x stands known) (m.knows allocated) due covers (λ pdu v. (ap (λ (z : Pdu). z.kind) v, ap piece_in v)) (by_sender b x flow far is_x stands known h')) in
         subst (λ (v : End). IsFlow g now cloud' flow far x.side v b (ids_from x.side flow far v.cube) line') (sym a_is) new)
         (other_pieces made covers means)
 
     -- an acknowledgement comes
-    pub own_told : (older : ℕ) (pdu : Pdu) → cloud older pdu → now ≤ older → pdu.kind ≡ AnAck → IsFrom (flipped c) pdu → Covers now cloud cloud' → IsOwn g now cloud' ends conns (slice_set lines at (record line { line = told (ack_in pdu) line.line }))
+    pub own_told : (older : ℕ) (pdu : Pdu) → cloud older pdu → now ≤ older → pdu.kind ≡ AnAck → IsFrom (flipped c) pdu → Covers now cloud cloud' → IsOwn g now cloud' held ends conns (slice_set lines at (record line { line = told (ack_in pdu) line.line }))
     own_told older pdu has alive kind names covers =
         let line' : Direction = record line { line = told (ack_in pdu) line.line } in
-        own_line g now cloud ends conns lines own cloud' at line line' is_line (ledger_covered g now cloud ends conns lines own cloud' covers)
+        own_line g now cloud held ends conns lines own cloud' at line line' is_line (ledger_covered g now cloud held ends conns lines own cloud' covers)
         (λ j a b x flow far is_a is_b p is_x stands known h.
         let a_is : a ≡ e = (let here = conn.end in cc) in
-        let m = end_of_flow g now cloud ends conns lines own at e c x flow conn is_x stands in
+        let m = end_of_flow g now cloud held ends conns lines own at e c x flow conn is_x stands in
         let h' : IsFlow g now cloud flow far x.side e b (ids_from x.side flow far e.cube) line = subst (λ (v : End). IsFlow g now cloud flow far x.side v b (ids_from x.side flow far v.cube) line) a_is h in
-        let here = out_used g now cloud ends conns lines own at e c x flow far conn allocated is_x stands known in
+        let here = out_used g now cloud held ends conns lines own at e c x flow far conn allocated is_x stands known in
         let ack : AcksOf cloud c older (ack_in pdu) = record { pdu = pdu; in_cloud = has; kind = kind; from = names; is = refl } in
         let new = back_sender b e line' x flow far is_x stands known (row_told g now cloud cloud' flow far x.side e b c line cube is_cube limits older (ack_in pdu) (used_up now x.side flow far known here) here (m.knows allocated) ack alive covers (by_sender b x flow far is_x stands known h')) in
         subst (λ (v : End). IsFlow g now cloud' flow far x.side v b (ids_from x.side flow far v.cube) line') (sym a_is) new)
-        (λ i ne. carries_covered g now cloud ends conns lines own cloud' covers i)
+        (λ i ne. carries_covered g now cloud held ends conns lines own cloud' covers i)
 
   -- ---- an end receives in the direction of its partner
 
@@ -171,13 +172,13 @@ module _ (g : Config) (now : ℕ) (cloud cloud' : ℕ → Pdu → Type 0) (ends 
     cube_same = (journal.named from at partner e is_partner conn.end partners).cube
 
     abbrev joined : IsPair own.flows own.places from
-    joined = pair g now cloud ends conns lines own from at partner e is_partner conn.end partners
+    joined = pair g now cloud held ends conns lines own from at partner e is_partner conn.end partners
 
     ids_are : e.state ≡ Allocated → (x : Place) (flow : Flow) (far : Endpoint) → slice_get own.places from ≡ Some x → slice_get own.flows x.flow ≡ Some flow → flow.far ≡ Some far → ids_from x.side flow far partner.cube ≡ flipped c
-    ids_are allocated x flow far is_x stands known = in_ids g now cloud ends conns lines own from at partner e c x flow far is_partner conn partners allocated cube_same is_x stands known
+    ids_are allocated x flow far is_x stands known = in_ids g now cloud held ends conns lines own from at partner e c x flow far is_partner conn partners allocated cube_same is_x stands known
 
     here : e.state ≡ Allocated → (x : Place) (flow : Flow) (far : Endpoint) → slice_get own.places from ≡ Some x → slice_get own.flows x.flow ≡ Some flow → flow.far ≡ Some far → Stands (opposite x.side) flow far
-    here allocated x flow far is_x stands known = in_used g now cloud ends conns lines own from at partner e c x flow far is_partner conn partners allocated is_x stands known
+    here allocated x flow far is_x stands known = in_used g now cloud held ends conns lines own from at partner e c x flow far is_partner conn partners allocated is_x stands known
 
     -- whoever stands at its place is the partner, and whoever receives from it is this end
     partner_is : (a : End) → At ends from a → a ≡ partner
@@ -192,7 +193,7 @@ module _ (g : Config) (now : ℕ) (cloud cloud' : ℕ → Pdu → Type 0) (ends 
 
     -- the end knows its partner
     knows_here : e.state ≡ Allocated → (x : Place) (flow : Flow) → slice_get own.places from ≡ Some x → slice_get own.flows x.flow ≡ Some flow → Knows (opposite x.side) flow
-    knows_here allocated x flow is_x stands = (far_end_of_flow g now cloud ends conns lines own from at partner e c x flow is_partner conn partners is_x stands).knows allocated
+    knows_here allocated x flow is_x stands = (far_end_of_flow g now cloud held ends conns lines own from at partner e c x flow is_partner conn partners is_x stands).knows allocated
 
     -- what holds of the direction by the ids of its receiver, which is allocated, holds of whoever the two ends are
     by_receiver : e.state ≡ Allocated → (line' : Direction) (x : Place) (flow : Flow) (far : Endpoint) → slice_get own.places from ≡ Some x → slice_get own.flows x.flow ≡ Some flow → flow.far ≡ Some far
@@ -210,15 +211,15 @@ module _ (g : Config) (now : ℕ) (cloud cloud' : ℕ → Pdu → Type 0) (ends 
 
     -- a piece arrives
     pub own_arrived : e.state ≡ Allocated → (older : ℕ) (pdu : Pdu) → cloud older pdu → now ≤ older → pdu.kind ≡ APiece → IsFrom (flipped c) pdu → Covers now cloud cloud'
-        → IsOwn g now cloud' (slice_set ends at (record e { got = (arrived inward (piece_in pdu) line).inbox.got })) conns (slice_set lines from (arrived inward (piece_in pdu) line))
+        → IsOwn g now cloud' held (slice_set ends at (record e { got = (arrived inward (piece_in pdu) line).inbox.got })) conns (slice_set lines from (arrived inward (piece_in pdu) line))
     own_arrived allocated older pdu has alive kind names covers =
         let line' : Direction = arrived inward (piece_in pdu) line in
         let e' : End = record e { got = line'.inbox.got } in
         let const : IsConst e e' = record { flow = refl; role = refl; port = refl; app = refl; peer = refl; cube = refl } in
-        own_received g now cloud ends conns lines own cloud' at e e' conn.end const refl journal from partner is_partner partners line line' is_line refl covers
+        own_received g now cloud held ends conns lines own cloud' at e e' conn.end const refl journal from partner is_partner partners line line' is_line refl covers
         (λ x flow far is_x stands known h.
         let is = ids_are allocated x flow far is_x stands known in
-        let n = far_end_of_flow g now cloud ends conns lines own from at partner e c x flow is_partner conn partners is_x stands in
+        let n = far_end_of_flow g now cloud held ends conns lines own from at partner e c x flow is_partner conn partners is_x stands in
         let knows = n.knows allocated in
         let used = used_up now (opposite x.side) flow far known (here allocated x flow far is_x stands known) in
         let piece : PiecesOf cloud (flipped c) older (piece_in pdu) = record { pdu = pdu; in_cloud = has; kind = kind; from = names; is = refl } in
@@ -229,18 +230,18 @@ module _ (g : Config) (now : ℕ) (cloud cloud' : ℕ → Pdu → Type 0) (ends 
         (by_found F inward line h' (λ gone. row_forgot g now cloud cloud flow far x.side partner e (flipped c) line cube is_cube limits knows gone (same_cloud now cloud) h'))))
 
     -- the application takes an SDU, whatever became of the end
-    pub own_passed : e.taken < length e.got → Covers now cloud cloud' → IsOwn g now cloud' (slice_set ends at (with_passed e)) conns (slice_set lines from (happens inward line Pass))
+    pub own_passed : e.taken < length e.got → Covers now cloud cloud' → IsOwn g now cloud' held (slice_set ends at (with_passed e)) conns (slice_set lines from (happens inward line Pass))
     own_passed waits covers =
         let line' : Direction = happens inward line Pass in
         let e' : End = with_passed e in
         let const : IsConst e e' = record { flow = refl; role = refl; port = refl; app = refl; peer = refl; cube = refl } in
-        own_received g now cloud ends conns lines own cloud' at e e' conn.end const refl journal from partner is_partner partners line line' is_line refl covers
+        own_received g now cloud held ends conns lines own cloud' at e e' conn.end const refl journal from partner is_partner partners line line' is_line refl covers
         (λ x flow far is_x stands known h.
         let got : length line.inbox.got ≡ length e.got = ap (λ (xs : List Entry). length xs) h.direction.got in
         let passed = h.direction.passed in
         elim (knows_or x.side flow) [
           | inl knows ↦
-              (let is = known_ids g now cloud ends conns lines own from at partner e c x flow far is_partner conn partners knows cube_same is_x stands known in
+              (let is = known_ids g now cloud held ends conns lines own from at partner e c x flow far is_partner conn partners knows cube_same is_x stands known in
               subst (λ (z : Ids). IsFlow g now cloud' flow far x.side partner e' z line') (sym is)
               (row_passed g now cloud cloud' flow far x.side partner e (flipped c) line cube is_cube limits e' (omega (arith, waits, got, passed)) covers refl refl (subst (λ (z : Ids). IsFlow g now cloud flow far x.side partner e z line) is h)))
           | inr untold ↦
@@ -249,28 +250,28 @@ module _ (g : Config) (now : ℕ) (cloud cloud' : ℕ → Pdu → Type 0) (ends 
         ])
 
     -- an acknowledgement is made
-    pub own_acknowledged : e.state ≡ Allocated → is_ack_due inward line ≡ true → CoversBut now cloud (λ p. p ≡ pdu_of_ack c (record { ack = next_of line.line.receiver - 1; right = right_of inward line })) (now + cube.mpl) cloud' → IsOwn g now cloud' ends conns (slice_set lines from (after_ack true inward line))
+    pub own_acknowledged : e.state ≡ Allocated → is_ack_due inward line ≡ true → CoversBut now cloud (λ p. p ≡ pdu_of_ack c (record { ack = next_of line.line.receiver - 1; right = right_of inward line })) (now + cube.mpl) cloud' → IsOwn g now cloud' held ends conns (slice_set lines from (after_ack true inward line))
     own_acknowledged allocated due covers =
         let line' : Direction = after_ack true inward line in
         let ack : Ack = record { ack = next_of line.line.receiver - 1; right = right_of inward line } in
         let made : Pdu → Type 0 = λ p. p ≡ pdu_of_ack c ack in
         let is = ids_are allocated joined.x joined.flow joined.far joined.is_x joined.stands joined.known in
         let up = here allocated joined.x joined.flow joined.far joined.is_x joined.stands joined.known in
-        let n = far_end_of_flow g now cloud ends conns lines own from at partner e c joined.x joined.flow is_partner conn partners joined.is_x joined.stands in
+        let n = far_end_of_flow g now cloud held ends conns lines own from at partner e c joined.x joined.flow is_partner conn partners joined.is_x joined.stands in
         let goes : (pdu : Pdu) → made pdu → GoesFrom (opposite joined.x.side) joined.flow.asker joined.far (four_in pdu) = λ pdu m.
         goes_back joined.x.side joined.flow joined.far partner.cube pdu (subst (λ (z : Ids). IsFrom (flipped z) pdu) (sym is) (ack_from c ack pdu m)) in
         let flow = subst (λ (z : Ids). IsFlow g now cloud joined.flow joined.far joined.x.side partner e z line) is (own.flows_are from at partner e joined.x joined.flow joined.far line is_partner conn.end partners joined.is_x joined.stands joined.known is_line) in
-        let ledger = ledger_made g now cloud ends conns lines own cloud' from joined.x joined.flow joined.far joined.is_x joined.stands joined.known (opposite joined.x.side) up made (now + cube.mpl) covers (knows_told (opposite joined.x.side) joined.flow (n.knows allocated)) (short_life joined.flow joined.far joined.x.side partner e (flipped c) line cube is_cube flow) goes in
-        own_line g now cloud ends conns lines own cloud' from line line' is_line ledger
+        let ledger = ledger_made g now cloud held ends conns lines own cloud' from joined.x joined.flow joined.far joined.is_x joined.stands joined.known (opposite joined.x.side) up made (now + cube.mpl) covers (knows_told (opposite joined.x.side) joined.flow (n.knows allocated)) (short_life joined.flow joined.far joined.x.side partner e (flipped c) line cube is_cube flow) goes in
+        own_line g now cloud held ends conns lines own cloud' from line line' is_line ledger
         (λ j a b x flow far is_a is_b p is_x stands known h.
         by_receiver allocated line' x flow far is_x stands known (row_acknowledged g now cloud cloud' flow far x.side partner e (flipped c) line cube is_cube limits made (knows_here allocated x flow is_x stands) due covers (λ pdu m. (ap (λ (z : Pdu). z.kind) m, ap ack_in m))) j a b is_a is_b p h)
-        (λ i ne. carries_made g now cloud ends conns lines own cloud' from joined.x joined.flow joined.far joined.is_x joined.stands joined.known (opposite joined.x.side) up made (now + cube.mpl) covers (λ pdu m. inr (ap (λ (z : Pdu). z.kind) m, goes pdu m)) i ne)
+        (λ i ne. carries_made g now cloud held ends conns lines own cloud' from joined.x joined.flow joined.far joined.is_x joined.stands joined.known (opposite joined.x.side) up made (now + cube.mpl) covers (λ pdu m. inr (ap (λ (z : Pdu). z.kind) m, goes pdu m)) i ne)
 
     -- what is held of a state that is gone is given up
-    pub own_forgot : e.state ≡ Allocated → is_present inward line.line.clock line.line.receiver ≡ false → Covers now cloud cloud' → IsOwn g now cloud' ends conns (slice_set lines from (happens inward line Forget))
+    pub own_forgot : e.state ≡ Allocated → is_present inward line.line.clock line.line.receiver ≡ false → Covers now cloud cloud' → IsOwn g now cloud' held ends conns (slice_set lines from (happens inward line Forget))
     own_forgot allocated gone covers =
         let line' : Direction = happens inward line Forget in
-        own_line g now cloud ends conns lines own cloud' from line line' is_line (ledger_covered g now cloud ends conns lines own cloud' covers)
+        own_line g now cloud held ends conns lines own cloud' from line line' is_line (ledger_covered g now cloud held ends conns lines own cloud' covers)
         (λ j a b x flow far is_a is_b p is_x stands known h.
         by_receiver allocated line' x flow far is_x stands known (row_forgot g now cloud cloud' flow far x.side partner e (flipped c) line cube is_cube limits (knows_here allocated x flow is_x stands) gone covers) j a b is_a is_b p h)
-        (λ i ne. carries_covered g now cloud ends conns lines own cloud' covers i)
+        (λ i ne. carries_covered g now cloud held ends conns lines own cloud' covers i)

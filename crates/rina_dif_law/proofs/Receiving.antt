@@ -15,6 +15,7 @@ use Rattle.rina_law.specs.Direction.{Direction, Forget, happens}
 use Rattle.rina_dif_law.specs.Accounted.{IsAccounted, Resends, bears, bears_on, counts_of, held_by, held_in, inbound_of, journal_numbers, kept_by, over_ends, sent_with, taken_with, total}
 use Rattle.rina_dif_law.specs.Cloud.{IsMine}
 use Rattle.rina_dif_law.specs.Counting.{held_numbers, off_numbers, times}
+use Rattle.rina_ids.specs.Members.{CepIds}
 use Rattle.rina_dif_law.specs.Dif.{DifSeen, IsProcess, constants}
 use Rattle.rina_data.specs.Configs.{Member, piece_size}
 use Rattle.rina_data.specs.Process.{Process, with_offs}
@@ -174,6 +175,17 @@ held_none (Refused why) n other = refl
 held_none (Failed fail) n other = refl
 held_none Closed n other = refl
 
+-- the account is the same whatever CEP-ids the members hold
+pub reheld_accounted : (d : DifSeen) (lines : List Direction) (below : Seen) (held : List CepIds) → IsAccounted d lines below → IsAccounted (record d { ids = held }) lines below
+reheld_accounted d lines below held a =
+    let d' : DifSeen = record d { ids = held } in
+    accounted_on d d' lines lines below below a a.passed a.apart (λ i m p k here. record {
+      process = p;
+      is_process = record { is_member = here.is_member; is_process = here.is_process };
+      resends = resends_on d d' m.addr k.scep refl (λ n ids x. x);
+      moved = moved_same m.addr k (Resends d' m.addr k.scep) (counts_of d lines below m p k) (counts_of d' lines below m p k) (record { taken = refl; relayed = refl; gone = refl; made = refl; kept = refl });
+    })
+
 pub ended_accounted : (d : DifSeen) (lines : List Direction) (below : Seen) (at : ℕ) (state : PortState) (d' : DifSeen) → IsStanding d lines below → IsNumbered d below → IsAccounted d lines below → IsEnded d lines at state d' → IsAccounted d' lines below
 ended_accounted d lines below at state d' st numbered a s =
     let e' : End = record s.end { state = state } in
@@ -187,14 +199,14 @@ ended_accounted d lines below at state d' st numbered a s =
     let of : AreOf s.ids.far s.ids.dcep s.dropped = record { each = λ off one. (let h = s.all_dropped off p.place l.0 one inbound in (h.0, h.1, h.2)) } in
     let is : inbound_of d.ends lines s.end ≡ Some l.0 = inbound_at d.clock d.ends st.journal p.place p.other s.end p.stands inbound.partners lines l.0 l.1 in
     subst (λ (z : DifSeen). IsAccounted z lines below) (sym s.new_is)
-    (received d lines lines below below ends' s.i s.process at s.end e' s.ids s.dropped (λ k. 0) (end_changed d.ends at s.end e' conn.end refl refl) conn.ids_are refl
+    (reheld_accounted (record d { ends = ends'; processes = slice_set d.processes s.i (with_offs s.process s.dropped) }) lines below s.held (received d lines lines below below ends' s.i s.process at s.end e' s.ids s.dropped (λ k. 0) (end_changed d.ends at s.end e' conn.end refl refl) conn.ids_are refl
     (λ n j c ne there. refl) of (none_came d below s.i) (λ k none. refl)
     (λ k h.
     let before : held_by s.end.state (held_in (inbound_of d.ends lines s.end) k.seq) ≡ times k.seq (held_numbers l.0) = ap (λ (z : PortState). held_by z (held_in (inbound_of d.ends lines s.end) k.seq)) s.allocated ∙ ap (λ (o : Option Direction). held_in o k.seq) is in
     let after : held_by state (held_in (inbound_of d.ends lines s.end) k.seq) ≡ 0 = held_none state (held_in (inbound_of d.ends lines s.end) k.seq) s.ends in
     let all = s.all p.place l.0 inbound k.seq in
     omega (arith, before, after, all))
-    a s.is_process a.passed own (others_addr d below s.i m.0 s.ids numbered m.1 (own m.0 m.1)))
+    a s.is_process a.passed own (others_addr d below s.i m.0 s.ids numbered m.1 (own m.0 m.1))))
 
 -- an end that is not allocated moves on
 

@@ -98,7 +98,7 @@ posting d below i mpl process pdu (Some (causes.Broken missing)) process' is_pro
 posting d below i mpl process pdu (Some (causes.LinkDown port)) process' is_process s = absurd s
 
 -- a direction alone changes, and a PDU is posted
-posted_stands : (d : DifSeen) (lines lines' : List Direction) (below : Seen) (i mpl : ℕ) (pdu : Pdu) (process' : Process) → IsStanding d lines below → (p : IsPosting d below i mpl pdu process') → IsFit d.config pdu → mpl < 2 ^ 32 → IsOwn d.config d.clock (Cloud Everywhere d.config (slice_set d.processes i process') below) d.ends d.conns lines' → IsStanding (with_process d i process') lines' below
+posted_stands : (d : DifSeen) (lines lines' : List Direction) (below : Seen) (i mpl : ℕ) (pdu : Pdu) (process' : Process) → IsStanding d lines below → (p : IsPosting d below i mpl pdu process') → IsFit d.config pdu → mpl < 2 ^ 32 → IsOwn d.config d.clock (Cloud Everywhere d.config (slice_set d.processes i process') below) d.ids d.ends d.conns lines' → IsStanding (with_process d i process') lines' below
 posted_stands d lines lines' below i mpl pdu process' st p fit bound own =
     stands_with d lines lines' NoMore (JustItems i p.link p.items) below below d.clock (slice_set d.processes i process') d.ends st (after_none d.config below) st.clock (omega arith) (length-set d.processes i process') p.moved p.links (λ port x none. absurd none) (p.fits fit bound) st.journal st.ports own
 
@@ -121,12 +121,12 @@ resent_stands d lines below at cause d' lines' st s =
     let limits = cube_limits d.config s.ids.qos s.cube st.config s.is_home.is_cube in
     let conn = s.is_home.is_conn in
     let partner = st.journal.allocated at s.end conn.end s.is_home.allocated in
-    let flow = direction_out d.config d.clock cloud d.ends d.conns lines st.own at partner.place s.end partner.other s.ids s.line conn partner.stands s.is_line partner.partner s.is_home.allocated in
+    let flow = direction_out d.config d.clock cloud d.ids d.ends d.conns lines st.own at partner.place s.end partner.other s.ids s.line conn partner.stands s.is_line partner.partner s.is_home.allocated in
     let cube_is : flow.cube ≡ s.cube = cubes_same (cube_by s.ids.qos d.config.cubes) flow.cube s.cube flow.is_cube s.is_home.is_cube in
     let holds : DirectionHolds k s.line = subst (λ (x : Cube). DirectionHolds (constants d.config x s.ids) s.line) cube_is flow.backed.holds in
     let fit = piece_fit d.config s.end s.ids s.cube (piece_again s.number s.line.line.sender) st.config (st.own.ids at s.end s.ids conn) s.is_home.is_cube (small_again k s.line s.number limits holds s.due) in
     let mpl = limits.mpl in
-    let own = own_again d.config d.clock cloud cloud' d.ends d.conns lines st.own at s.end s.ids s.cube conn s.is_home.allocated s.is_home.is_cube limits s.line s.is_line partner.place partner.other partner.stands partner.partner s.number s.due p.covers in
+    let own = own_again d.config d.clock cloud cloud' d.ids d.ends d.conns lines st.own at s.end s.ids s.cube conn s.is_home.allocated s.is_home.is_cube limits s.line s.is_line partner.place partner.other partner.stands partner.partner s.number s.due p.covers in
     subst (λ (z : DifSeen). IsStanding z lines' below) (sym s.new_is) (subst (λ (ls : List Direction). IsStanding (with_process d s.i s.process') ls below) (sym s.lines_are)
     (posted_stands d lines (slice_set lines at line') below s.i s.cube.mpl pdu s.process' st p fit (omega arith) own))
 
@@ -169,12 +169,12 @@ acknowledged_stands d lines below at cause d' lines' st s =
     let conn = s.is_home.is_conn in
     let partner = s.inbound.partner in
     let named = st.journal.named s.from at partner s.end s.inbound.is_partner conn.end s.inbound.partners in
-    let flow = direction_in d.config d.clock cloud d.ends d.conns lines st.own s.from at partner s.end s.ids s.line s.inbound.is_partner conn s.inbound.is_line s.inbound.partners s.is_home.allocated named.cube in
+    let flow = direction_in d.config d.clock cloud d.ids d.ends d.conns lines st.own s.from at partner s.end s.ids s.line s.inbound.is_partner conn s.inbound.is_line s.inbound.partners s.is_home.allocated named.cube in
     let cube_is : flow.cube ≡ s.cube = cubes_same (cube_by s.ids.qos d.config.cubes) flow.cube s.cube flow.is_cube s.is_home.is_cube in
     let holds : DirectionHolds k s.line = subst (λ (x : Cube). DirectionHolds (constants d.config x (flipped s.ids)) s.line) cube_is flow.backed.holds in
     let fit = ack_fit d.config s.end s.ids s.cube k ack refl st.config (st.own.ids at s.end s.ids conn) s.is_home.is_cube (small_ack k s.line limits holds s.due) in
     let mpl = limits.mpl in
-    let own = own_acknowledged d.config d.clock cloud cloud' d.ends d.conns lines st.own st.journal at s.end s.ids s.cube conn s.is_home.is_cube limits s.from partner s.inbound.is_partner s.inbound.partners s.line s.inbound.is_line s.is_home.allocated s.due p.covers in
+    let own = own_acknowledged d.config d.clock cloud cloud' d.ids d.ends d.conns lines st.own st.journal at s.end s.ids s.cube conn s.is_home.is_cube limits s.from partner s.inbound.is_partner s.inbound.partners s.line s.inbound.is_line s.is_home.allocated s.due p.covers in
     subst (λ (z : DifSeen). IsStanding z lines' below) (sym s.new_is) (subst (λ (ls : List Direction). IsStanding (with_process d s.i s.process') ls below) (sym s.lines_are)
     (posted_stands d lines (slice_set lines s.from line') below s.i s.cube.mpl pdu s.process' st p fit (omega arith) own))
 
@@ -193,7 +193,7 @@ forgotten_stands d lines below at d' lines' st s =
     let limits = cube_limits d.config s.ids.qos s.cube st.config s.is_home.is_cube in
     let conn = s.is_home.is_conn in
     let partner = s.inbound.partner in
-    let own = own_forgot d.config d.clock cloud cloud' d.ends d.conns lines st.own st.journal at s.end s.ids s.cube conn s.is_home.is_cube limits s.from partner s.inbound.is_partner s.inbound.partners s.line s.inbound.is_line s.is_home.allocated s.gone covers in
+    let own = own_forgot d.config d.clock cloud cloud' d.ids d.ends d.conns lines st.own st.journal at s.end s.ids s.cube conn s.is_home.is_cube limits s.from partner s.inbound.is_partner s.inbound.partners s.line s.inbound.is_line s.is_home.allocated s.gone covers in
     subst (λ (z : DifSeen). IsStanding z lines' below) (sym s.new_is) (subst (λ (ls : List Direction). IsStanding (with_process d s.i process') ls below) (sym s.lines_are)
     (stands_with d lines (slice_set lines s.from line') NoMore NoItem below below d.clock processes' d.ends st (after_none d.config below) st.clock (omega arith) (length-set d.processes s.i process') moved (same_links d.processes s.i s.process process' s.is_home.is_process refl)
     (λ port x none. absurd none) (λ j n item none. absurd none) st.journal st.ports own))

@@ -26,7 +26,7 @@ no_end ends i e none is = none_in ends i e none is
 no_line : (lines : List Direction) (i : ℕ) (line : Direction) → lines ≡ [] → slice_get lines i ≡ Some line → ⊥
 no_line lines i line none is = none_in lines i line none is
 
-start_own : (d : DifSeen) (lines : List Direction) (below : Seen) → IsStart d lines below → IsOwn d.config d.clock (Cloud Everywhere d.config d.processes below) d.ends d.conns lines
+start_own : (d : DifSeen) (lines : List Direction) (below : Seen) → IsStart d lines below → IsOwn d.config d.clock (Cloud Everywhere d.config d.processes below) d.ids d.ends d.conns lines
 start_own d lines below s =
     let E = λ (i : ℕ) (e : End) (is : slice_get d.ends i ≡ Some e). no_end d.ends i e s.no_ends is in
     let ends : length d.ends ≡ 0 = ap (λ (es : List End). length es) s.no_ends in
@@ -51,6 +51,8 @@ start_own d lines below s =
         fours = λ i j f g u v e e' same. absurd (none-some f e);
         alive = λ death four comes alive. absurd (no_cloud d lines below death comes.pdu s comes.in_cloud);
       };
+      rests = λ i e x flow h is stands. absurd (E i e h);
+      kept = λ i member ids is_member are_ids k flow side point stands is there. absurd (none-some flow stands);
       ids = λ i e c x. absurd (E i e x.end);
       flows_are = λ i k a b x flow far line h g p z w f l. absurd (E i a h);
     }

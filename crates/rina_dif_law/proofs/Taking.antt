@@ -40,7 +40,7 @@ passed_stands d lines below at d' lines' st s =
     let waits = s.waits in
     let whole : IsWhole d.clock end' = record { sent = was.sent; got = was.got; taken = omega arith } in
     let limits = cube_limits d.config s.ids.qos s.cube st.config s.is_cube in
-    let own = own_passed d.config d.clock cloud cloud d.ends d.conns lines st.own st.journal at s.end s.ids s.cube s.is_conn s.is_cube limits s.from partner s.inbound.is_partner s.inbound.partners s.line s.inbound.is_line waits (same_cloud d.clock cloud) in
+    let own = own_passed d.config d.clock cloud cloud d.ids d.ends d.conns lines st.own st.journal at s.end s.ids s.cube s.is_conn s.is_cube limits s.from partner s.inbound.is_partner s.inbound.partners s.line s.inbound.is_line waits (same_cloud d.clock cloud) in
     subst (λ (z : DifSeen). IsStanding z lines' below) (sym s.new_is) (subst (λ (ls : List Direction). IsStanding (record d { ends = slice_set d.ends at end' }) ls below) (sym s.lines_are)
     (stands_with d lines (slice_set lines s.from line') NoMore NoItem below below d.clock d.processes (slice_set d.ends at end') st (after_none d.config below) st.clock (omega arith) refl
     (requeued_none d.processes) (λ j l h. h) (λ port y none. absurd none) (λ j m item none. absurd none)
@@ -53,7 +53,7 @@ pub lifted_stands : (d : DifSeen) (lines : List Direction) (below below' : Seen)
 lifted_stands d lines below below' d' lines' kept st lifted s =
     let after = after_lifted d.config below below' kept lifted in
     let covers = covers_less Everywhere d.config below'.now d.processes d.processes below below' (requeued_none d.processes) after in
-    let own = own_ticked d.config d.clock below'.now (Cloud Everywhere d.config d.processes below) (Cloud Everywhere d.config d.processes below') d.ends d.conns lines s.later covers st.own in
+    let own = own_ticked d.config d.clock below'.now (Cloud Everywhere d.config d.processes below) (Cloud Everywhere d.config d.processes below') d.ids d.ends d.conns lines s.later covers st.own in
     subst (λ (z : DifSeen). IsStanding z lines' below') (sym s.new_is) (subst (λ (ls : List Direction). IsStanding (record d { clock = below'.now }) ls below') (sym s.lines_are)
     (stands_with d lines (map (ticked (below'.now - d.clock)) lines) NoMore NoItem below below' below'.now d.processes d.ends st after refl s.later refl
     (requeued_none d.processes) (λ j l h. h) (λ port y none. absurd none) (λ j m item none. absurd none)
@@ -76,5 +76,5 @@ cloud_lifted d lines below below' kept st lifted death pdu x alive =
 -- without the DIF: the clock stays, and nothing of its members changes
 pub still_stands : (d : DifSeen) (lines : List Direction) (below below' : Seen) → IsStanding d lines below → IsAfter d.config NoMore below below' → below'.now ≡ below.now → IsStanding d lines below'
 still_stands d lines below below' st after clock =
-    let own = own_covered d.config d.clock (Cloud Everywhere d.config d.processes below) (Cloud Everywhere d.config d.processes below') d.ends d.conns lines st.own (covers_less Everywhere d.config d.clock d.processes d.processes below below' (requeued_none d.processes) after) in
+    let own = own_covered d.config d.clock (Cloud Everywhere d.config d.processes below) (Cloud Everywhere d.config d.processes below') d.ids d.ends d.conns lines st.own (covers_less Everywhere d.config d.clock d.processes d.processes below below' (requeued_none d.processes) after) in
     stands_with d lines lines NoMore NoItem below below' d.clock d.processes d.ends st after (st.clock ∙ sym clock) (omega arith) refl (requeued_none d.processes) (λ j l h. h) (λ port y none. absurd none) (λ j m item none. absurd none) st.journal st.ports own

@@ -88,7 +88,7 @@ arrived_silent d lines below i process pdu cause d' lines' st s =
     let is_end = s.taker.is_conn.end in
     let end' : End = record s.end { got = (arrived k (piece_in pdu) s.line).inbox.got } in
     let named = st.journal.named s.from s.place s.inbound.partner s.end s.inbound.is_partner is_end s.inbound.partners in
-    let flow = direction_in d.config d.clock (Cloud Everywhere d.config d.processes below) d.ends d.conns lines st.own s.from s.place s.inbound.partner s.end s.ids s.line s.inbound.is_partner s.taker.is_conn s.inbound.is_line s.inbound.partners s.taker.allocated named.cube in
+    let flow = direction_in d.config d.clock (Cloud Everywhere d.config d.processes below) d.ids d.ends d.conns lines st.own s.from s.place s.inbound.partner s.end s.ids s.line s.inbound.is_partner s.taker.is_conn s.inbound.is_line s.inbound.partners s.taker.allocated named.cube in
     let grows = arrived_grows k d.clock (piece_in pdu) s.line s.end flow.backed.clock flow.got in
     subst (IsSilent d) (sym s.new_is) (record {
       later = one_later d s.place s.end end' is_end (got_later d.clock s.end end'.got s.taker.allocated grows);
@@ -156,7 +156,7 @@ offered_later d lines below at parts num d' lines' st s =
     let k : Constants = constants d.config s.cube s.ids in
     let is_end = s.is_conn.end in
     let partner = st.journal.allocated at s.end is_end s.allocated in
-    let flow = direction_out d.config d.clock (Cloud Everywhere d.config d.processes below) d.ends d.conns lines st.own at partner.place s.end partner.other s.ids s.line s.is_conn partner.stands s.is_line partner.partner s.allocated in
+    let flow = direction_out d.config d.clock (Cloud Everywhere d.config d.processes below) d.ids d.ends d.conns lines st.own at partner.place s.end partner.other s.ids s.line s.is_conn partner.stands s.is_line partner.partner s.allocated in
     let entry : Entry = offered_entry k parts s.line in
     subst (λ (x : DifSeen). IsLaterFac d.clock x.clock (fac_of d) (fac_of x)) (sym s.new_is) (one_later d at s.end (with_sent s.end entry) is_end (end_sent d.clock s.end entry flow.backed.clock))
 

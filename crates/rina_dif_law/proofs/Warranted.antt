@@ -53,6 +53,7 @@ use Rattle.rina_data.specs.Process.{Process, Queue, is_link, link_by, with_offs,
 use Rattle.rina_data.specs.Queueing.{line_for}
 use Rattle.rina_dif_law.specs.Accounted.{IsAccounted}
 use Rattle.rina_dif_law.specs.Binding.{IsBound}
+use Rattle.rina_ids.specs.Members.{CepIds}
 use Rattle.rina_dif_law.specs.Dif.{DifSeen, IsProcess, constants, with_process}
 use Rattle.rina_dif_law.specs.Ending.{IsEnded}
 use Rattle.rina_dif_law.specs.Ids.{Ids, flipped, pdu_of_ack, pdu_of_piece}
@@ -145,7 +146,7 @@ record IsReceiving (d : DifSeen) (ids : Ids) (line : Direction) : Type 0 where
 receiving : (d : DifSeen) (lines : List Direction) (below : Seen) (at from : ℕ) (e : End) (ids : Ids) (line : Direction) → IsStanding d lines below → IsConn d.ends d.conns at e ids → IsInbound d lines e from line → IsReceiving d ids line
 receiving d lines below at from e ids line st conn inbound =
     let partner = inbound.partner in
-    let q = pair d.config d.clock (Cloud Everywhere d.config d.processes below) d.ends d.conns lines st.own from at partner e inbound.is_partner conn.end inbound.partners in
+    let q = pair d.config d.clock (Cloud Everywhere d.config d.processes below) d.ids d.ends d.conns lines st.own from at partner e inbound.is_partner conn.end inbound.partners in
     let flow = (st.own.flows_are from at partner e q.x q.flow q.far line inbound.is_partner conn.end inbound.partners q.is_x q.stands q.known inbound.is_line).direction in
     let cube = (st.journal.named from at partner e inbound.is_partner conn.end inbound.partners).cube in
     let qos : (ids_from q.x.side q.flow q.far partner.cube).qos ≡ ids.qos = qos_from q.x.side q.flow q.far partner.cube ∙ sym cube ∙ sym (st.own.ids at e ids conn).qos in
@@ -347,6 +348,10 @@ forgotten_write d lines below at d' lines' st numbered s = writes _ d d' (forgot
 pub forgotten_written : (d : DifSeen) (lines : List Direction) (below : Seen) (at : ℕ) (d' : DifSeen) (lines' : List Direction) → IsStanding d lines below → IsNumbered d below → AreWrittenOff d → IsForgotten d lines at d' lines' → AreWrittenOff d'
 forgotten_written d lines below at d' lines' st numbered w s = written_on (MayWriteOff d lines below NoPort) d d' (forgotten_noted d lines below at d' lines' st numbered s) (was_lawful d lines below NoPort) w
 
+-- whatever CEP-ids the members hold
+reheld_noted : (holds : ℕ → Off → Type 0) (d d' : DifSeen) (held : List CepIds) → IsNoted holds d d' → IsNoted holds d (record d' { ids = held })
+reheld_noted holds d d' held n = record { config = n.config; manage = n.manage; clock = n.clock; conns = n.conns; each = n.each }
+
 pub ended_noted : (d : DifSeen) (lines : List Direction) (below : Seen) (at : ℕ) (state : PortState) (d' : DifSeen) → IsStanding d lines below → IsNumbered d below → IsEnded d lines at state d' → IsNoted (MayWriteOff d lines below NoPort) d d'
 ended_noted d lines below at state d' st numbered s =
     let m = there d lines below s.i s.process st s.is_process in
@@ -362,7 +367,7 @@ ended_noted d lines below at state d' st numbered s =
     let r : IsReceiver d lines m.0.addr off.key s.ids known.cube l.0 = record { piece = x.0; place = at; end = s.end; is_conn = conn; allocated = s.allocated; own = own; far = x.1; cep = x.2; is_cube = known.is_cube; from = p.place; inbound = inbound } in
     let may : MayBy d lines below NoPort m.0.addr s.process off.key (causes.NoConnection s.ids.scep) = inr (s.ids, known.cube, l.0, r, (refl, x.3)) in
     record { member = m.0; process = s.process; is_process = m.1; may = inl (subst (λ (z : Cause). MayBy d lines below NoPort m.0.addr s.process off.key z) (sym x.4) may) } in
-    subst (IsNoted holds d) (sym s.new_is) (one_noted holds d (slice_set d.ends at (record s.end { state = state })) s.i s.process (with_offs s.process s.dropped) s.dropped s.is_process refl each (ports_same s.process.links s.process.links refl))
+    subst (IsNoted holds d) (sym s.new_is) (reheld_noted holds d (record d { ends = slice_set d.ends at (record s.end { state = state }); processes = slice_set d.processes s.i (with_offs s.process s.dropped) }) s.held (one_noted holds d (slice_set d.ends at (record s.end { state = state })) s.i s.process (with_offs s.process s.dropped) s.dropped s.is_process refl each (ports_same s.process.links s.process.links refl)))
 
 pub ended_write : (d : DifSeen) (lines : List Direction) (below : Seen) (at : ℕ) (state : PortState) (d' : DifSeen) → IsStanding d lines below → IsNumbered d below → IsEnded d lines at state d' → Writes (MayWriteOff d lines below NoPort) d d'
 ended_write d lines below at state d' st numbered s = writes _ d d' (ended_noted d lines below at state d' st numbered s)
@@ -413,7 +418,7 @@ record IsOn (lines : List Direction) (below : Seen) (d : DifSeen) : Type 0 where
   numbered : IsNumbered d below
 
 on_ended : (lines : List Direction) (below : Seen) (at : ℕ) (port : Port) (a b : DifSeen) → IsOn lines below a → IsEnded a lines at (Failed (Below port)) b → IsOn lines below b
-on_ended lines below at port a b s e = record { standing = ended_stands a lines below at (Failed (Below port)) b s.standing e; numbered = ended_numbered a lines below at (Failed (Below port)) b s.numbered e }
+on_ended lines below at port a b s e = record { standing = ended_stands a lines below at (Failed (Below port)) b s.standing s.numbered e; numbered = ended_numbered a lines below at (Failed (Below port)) b s.numbered e }
 
 -- and the ledgers with it
 record IsOnWith (lines : List Direction) (below : Seen) (d : DifSeen) : Type 0 where

@@ -6,6 +6,7 @@ use Rattle.rina_iface.specs.declared.ask.Registered.{Registered}
 use Rattle.rina_iface.specs.declared.ends.End.{End}
 use Rattle.rina_iface.specs.Seen.{Fac, Offer}
 use Rattle.rina_law.specs.Constants.{Constants}
+use Rattle.rina_ids.specs.Members.{CepIds}
 use Rattle.rina_dif_law.specs.Ids.{Ids}
 use Rattle.rina_data.specs.Configs.{Config, Member, greatest, piece_size}
 use Rattle.rina_data.specs.Process.{Process}
@@ -18,6 +19,7 @@ pub record DifSeen : Type 0 where
   pub processes : List Process  -- each at the place of its member
   pub ends : List End  -- its journal
   pub conns : List Ids  -- the ids of each end's connection, at the place of the end
+  pub ids : List CepIds  -- the CEP-ids of each member, at its place
   pub waiting : List ℕ  -- the places of the far ends that nobody claimed yet
   pub names : List Registered
 

@@ -36,6 +36,7 @@ use Rattle.rina_data.specs.Leaving.{CanGo}
 use Rattle.rina_dif_law.specs.Lifting.{IsLifted}
 use Rattle.rina_dif_law.specs.Losing.{FailAll, Loses}
 use Rattle.rina_dif_law.specs.Others.{AreApart}
+use Rattle.rina_dif_law.specs.Numbered.{IsNumbered}
 use Rattle.rina_dif_law.specs.Outgoing.{Outs}
 use Rattle.rina_dif_law.specs.Passing.{IsPassed, IsTicked}
 use Rattle.rina_dif_law.specs.Sending.{Offers}
@@ -81,7 +82,7 @@ ForgettingStands = (d : DifSeen) (lines : List Direction) (below : Seen) (at : �
 -- and after a flow ended at one of its ends
 abbrev pub EndingStands : Type 0
 EndingStands = (d : DifSeen) (lines : List Direction) (below : Seen) (at : ℕ) (state : PortState) (d' : DifSeen) →
-    IsStanding d lines below → IsEnded d lines at state d' → IsStanding d' lines below
+    IsStanding d lines below → IsNumbered d below → IsEnded d lines at state d' → IsStanding d' lines below
 
 abbrev pub LosingStands : Type 0
 LosingStands = (d : DifSeen) (lines : List Direction) (below : Seen) (i number : ℕ) (routes : List Route) (d' : DifSeen) →
@@ -89,7 +90,7 @@ LosingStands = (d : DifSeen) (lines : List Direction) (below : Seen) (i number :
 
 abbrev pub FailingStands : Type 0
 FailingStands = (d : DifSeen) (lines : List Direction) (below : Seen) (node : ℕ) (port : Port) (d' : DifSeen) →
-    IsStanding d lines below → FailAll lines node port d d' → IsStanding d' lines below
+    IsStanding d lines below → IsNumbered d below → FailAll lines node port d d' → IsStanding d' lines below
 
 -- What the ends got has come, piece by piece: at the start, and after each call
 

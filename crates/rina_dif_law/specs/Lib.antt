@@ -3,6 +3,7 @@ pub mod Accounted
 pub mod Binding
 pub mod Carried
 pub mod Caused
+pub mod CepIds
 pub mod Cloud
 pub mod Counting
 pub mod Dif

@@ -4,7 +4,7 @@ use Rattle.rina_base.specs.declared.number.Port.{Port}
 use Rattle.rina_base.specs.declared.pdu.Pdu.{Pdu}
 use Rattle.rina_base.specs.declared.pdu.PduKind.TheVariants.{Piece, Ack}
 use Rattle.rina_cube.specs.declared.Cube.{Cube}
-use Rattle.rina_cube.specs.Cubes.{IsCube}
+use Rattle.rina_cube.specs.Cubes.{IsCube, delta_of}
 use Rattle.rina_iface.specs.declared.ends.End.{End}
 use Rattle.rina_iface.specs.declared.state.PortState.TheVariants.{Allocated}
 use Rattle.rina_iface.specs.declared.state.Role.TheVariants as roles
@@ -21,6 +21,8 @@ use Rattle.rina_rest.specs.Ledger.{LedgerHolds}
 use Rattle.rina_rest.specs.Naming.{Naming}
 use Rattle.rina_rest.specs.Still.{IsUntaken}
 use Rattle.rina_rest.specs.While.{IsBackedIf, IsDirectionFrom}
+use Rattle.rina_ids.specs.Members.{CepIds}
+use Rattle.rina_dif_law.specs.CepIds.{AreHeld}
 use Rattle.rina_dif_law.specs.Cloud.{Cloud, Everywhere, IsMine, Waits}
 use Rattle.rina_data.specs.declared.link.Link.{Link}
 use Rattle.rina_data.specs.Configs.{Config, Member, cube_by}
@@ -141,16 +143,23 @@ pub record IsFlow (g : Config) (now : ℕ) (cloud : ℕ → Pdu → Type 0) (flo
 abbrev pub IsOfFlow : Config → Pdu → Type 0
 IsOfFlow g pdu = (pdu.scep ≢ 0) ⊎ ((cube : Cube) × (cube_by pdu.qos g.cubes ≡ Some cube))
 
+-- for so many ticks rest the CEP-ids of a flow of the cube with this id
+abbrev pub RestsBy : Config → ℕ → ℕ → Type 0
+RestsBy g qos rest = (cube : Cube) → cube_by qos g.cubes ≡ Some cube → rest ≡ 3 * delta_of cube
+
 -- the own flows have a ledger, in which each end has its place. No two ends that stand have one address and one CEP-id, nor
--- has one that stands those of one that rests. Each PDU that may still come is of a connection in use. `lines` has at the place
--- of each end the direction in which it sends
-pub record IsOwn (g : Config) (now : ℕ) (cloud : ℕ → Pdu → Type 0) (ends : List End) (conns : List Ids) (lines : List Direction) : Type 0 where
+-- has one that stands those of one that rests: the ids of a flow rest for `3 * delta` of its cube, and the members hold their
+-- ids so. Each PDU that may still come is of a connection in use. `lines` has at the place of each end the direction in which it
+-- sends
+pub record IsOwn (g : Config) (now : ℕ) (cloud : ℕ → Pdu → Type 0) (held : List CepIds) (ends : List End) (conns : List Ids) (lines : List Direction) : Type 0 where
   pub alike : length conns ≡ length ends
   pub lines_alike : length lines ≡ length ends
   pub flows : List Flow
   pub places : List Place
   pub entered : AreEntered ends conns flows places
   pub ledger : LedgerHolds now flows (Naming (IsOfFlow g) cloud)
+  pub rests : (i : ℕ) (e : End) (x : Place) (flow : Flow) → At ends i e → slice_get places i ≡ Some x → slice_get flows x.flow ≡ Some flow → RestsBy g e.cube flow.rest
+  pub kept : AreHeld g now flows held
   pub ids : (i : ℕ) (e : End) (c : Ids) → IsConn ends conns i e c → AreIds g e c
   pub flows_are : (i k : ℕ) (a b : End) (x : Place) (flow : Flow) (far : Endpoint) (line : Direction) → At ends i a → At ends k b → IsPartner a b → slice_get places i ≡ Some x → slice_get flows x.flow ≡ Some flow → flow.far ≡ Some far → slice_get lines i ≡ Some line → IsFlow g now cloud flow far x.side a b (ids_from x.side flow far a.cube) line
 
@@ -166,4 +175,4 @@ pub record IsStanding (d : DifSeen) (lines : List Direction) (below : Seen) : Ty
   pub items : (i n : ℕ) (item : Queued) → Waits d.processes i n item → IsItem d.config d.clock item
   pub journal : IsJournal d.clock d.ends
   pub ports : HasPorts d.config.fac (fac_of d)
-  pub own : IsOwn d.config d.clock (Cloud Everywhere d.config d.processes below) d.ends d.conns lines
+  pub own : IsOwn d.config d.clock (Cloud Everywhere d.config d.processes below) d.ids d.ends d.conns lines

@@ -8,6 +8,7 @@ use Rattle.rina_base.specs.declared.pdu.PduKind.TheVariants.{Piece as APiece}
 use Rattle.rina_conn.specs.declared.conn.Conn.{Conn}
 use Rattle.rina_conn.specs.declared.sending.Sending.{Sending}
 use Rattle.rina_data.specs.Configs.{Config}
+use Rattle.rina_ids.specs.Members.{CepIds}
 use Rattle.rina_dif_law.specs.Dif.{DifSeen, constants}
 use Rattle.rina_data.specs.Process.{Process, with_offs}
 use Rattle.rina_dif_law.specs.Ids.{Ids, IsFrom, flipped}
@@ -47,11 +48,11 @@ place_of g now ends conns lines at end conn tied is_at =
       is_cube = (tied.sends at conn line.0 is_at.conn_is line.1).cube;
     }
 
-module _ (g : Config) (now : ℕ) (cloud : ℕ → Pdu → Type 0) (ends : List End) (conns : List Conn) (lines : List Direction) (config : IsConfig g) (journal : IsJournal now ends) (own : IsOwn g now cloud ends (conns_of conns) lines) (tied : IsTied g now ends conns lines) (at : ℕ) (end : End) (conn : Conn) (is_at : IsAt ends conns at end conn) (allocated : end.state ≡ Allocated) where
+module _ (g : Config) (now : ℕ) (cloud : ℕ → Pdu → Type 0) (held : List CepIds) (ends : List End) (conns : List Conn) (lines : List Direction) (config : IsConfig g) (journal : IsJournal now ends) (own : IsOwn g now cloud held ends (conns_of conns) lines) (tied : IsTied g now ends conns lines) (at : ℕ) (end : End) (conn : Conn) (is_at : IsAt ends conns at end conn) (allocated : end.state ≡ Allocated) where
   pub the_flow : (from : ℕ) (line : Direction) → IsInboundAt ends lines end from line → IsInFlow g now cloud end (ids_of conn) conn.sending.form.cube line
   the_flow from line inbound =
       let place = place_of g now ends conns lines at end conn tied is_at in
-      inflow g now cloud ends (conns_of conns) lines at end (ids_of conn) conn.sending.form.cube from line journal own place.is_conn allocated place.is_cube inbound
+      inflow g now cloud held ends (conns_of conns) lines at end (ids_of conn) conn.sending.form.cube from line journal own place.is_conn allocated place.is_cube inbound
 
   -- the piece is one of the direction from the partner
   pub is_coming : (pdu : Pdu) (death from : ℕ) (line : Direction) → IsFrom (flipped (ids_of conn)) pdu → pdu.kind ≡ APiece → cloud death pdu → now ≤ death → IsInboundAt ends lines end from line → IsComing (inward g conn) (ids_of conn) line pdu
@@ -96,7 +97,7 @@ module _ (g : Config) (now : ℕ) (cloud : ℕ → Pdu → Type 0) (ends : List 
   pub arrives_at : (pdu : Pdu) (death unpassed : ℕ) (result : Verdict) (offs : List Off) (whole : List Sdu) (new : Conn) → IsFrom (flipped (ids_of conn)) pdu → pdu.kind ≡ APiece → cloud death pdu → now ≤ death → unpassed ≡ length end.got - end.taken → IsArrival now pdu unpassed conn result offs whole new →
       HasArrived g now ends conns lines at end conn pdu result offs whole new
   arrives_at pdu death unpassed result offs whole new names kind here alive count a =
-      let inb = inbound_of g now cloud ends (conns_of conns) lines at end journal own is_at.end_is allocated in
+      let inb = inbound_of g now cloud held ends (conns_of conns) lines at end journal own is_at.end_is allocated in
       arrived_to pdu inb.0 inb.1 unpassed result offs whole new inb.2 (is_coming pdu death inb.0 inb.1 names kind here alive inb.2) count a
 
 -- For the DIF of which these are the flows

@@ -4,6 +4,7 @@ use Rattle.rina_base.specs.declared.pdu.Pdu.{Pdu}
 use Rattle.rina_base.specs.declared.pdu.PduKind.TheVariants.{Piece as APiece}
 use Rattle.rina_cube.specs.declared.Cube.{Cube}
 use Rattle.rina_data.specs.Configs.{Config, cube_by}
+use Rattle.rina_ids.specs.Members.{CepIds}
 use Rattle.rina_dif_law.specs.Dif.{constants}
 use Rattle.rina_dif_law.specs.Ids.{AcksOf, Ids, PiecesOf, flipped}
 use Rattle.rina_dif_law.specs.Standing.{IsConfig, IsConn, IsJournal, IsOwn}
@@ -21,8 +22,8 @@ use Rattle.rina_flows.specs.Rows.{TakesAt}
 use Rattle.rina_flows.specs.Tied.{IsInboundAt}
 
 -- an allocated end receives from its partner
-pub inbound_of : (g : Config) (now : ℕ) (cloud : ℕ → Pdu → Type 0) (ends : List End) (ids : List Ids) (lines : List Direction) (at : ℕ) (end : End) → IsJournal now ends → IsOwn g now cloud ends ids lines → At ends at end → end.state ≡ Allocated → (from : ℕ) × (line : Direction) × IsInboundAt ends lines end from line
-inbound_of g now cloud ends ids lines at end journal own is allocated =
+pub inbound_of : (g : Config) (now : ℕ) (cloud : ℕ → Pdu → Type 0) (held : List CepIds) (ends : List End) (ids : List Ids) (lines : List Direction) (at : ℕ) (end : End) → IsJournal now ends → IsOwn g now cloud held ends ids lines → At ends at end → end.state ≡ Allocated → (from : ℕ) × (line : Direction) × IsInboundAt ends lines end from line
+inbound_of g now cloud held ends ids lines at end journal own is allocated =
     let p = journal.allocated at end is allocated in
     let line = beside ends lines p.place p.other own.lines_alike p.stands in
     (p.place, line.0, record { partner = p.other; is_partner = p.stands; partners = partner_back end p.other p.partner; is_line = line.1 })
@@ -36,10 +37,10 @@ pub record IsInFlow (g : Config) (now : ℕ) (cloud : ℕ → Pdu → Type 0) (e
   pub got : line.inbox.got ≡ end.got
   pub passed : line.passed ≡ end.taken
 
-pub inflow : (g : Config) (now : ℕ) (cloud : ℕ → Pdu → Type 0) (ends : List End) (ids : List Ids) (lines : List Direction) (at : ℕ) (end : End) (its_ids : Ids) (cube : Cube) (from : ℕ) (line : Direction) → IsJournal now ends → IsOwn g now cloud ends ids lines → IsConn ends ids at end its_ids → end.state ≡ Allocated → cube_by its_ids.qos g.cubes ≡ Some cube → IsInboundAt ends lines end from line → IsInFlow g now cloud end its_ids cube line
-inflow g now cloud ends ids lines at end its_ids cube from line journal own is_conn allocated is_cube inbound =
+pub inflow : (g : Config) (now : ℕ) (cloud : ℕ → Pdu → Type 0) (held : List CepIds) (ends : List End) (ids : List Ids) (lines : List Direction) (at : ℕ) (end : End) (its_ids : Ids) (cube : Cube) (from : ℕ) (line : Direction) → IsJournal now ends → IsOwn g now cloud held ends ids lines → IsConn ends ids at end its_ids → end.state ≡ Allocated → cube_by its_ids.qos g.cubes ≡ Some cube → IsInboundAt ends lines end from line → IsInFlow g now cloud end its_ids cube line
+inflow g now cloud held ends ids lines at end its_ids cube from line journal own is_conn allocated is_cube inbound =
     let named = journal.named from at inbound.partner end inbound.is_partner is_conn.end inbound.partners in
-    let flow = direction_in g now cloud ends ids lines own from at inbound.partner end its_ids line inbound.is_partner is_conn inbound.is_line inbound.partners allocated named.cube in
+    let flow = direction_in g now cloud held ends ids lines own from at inbound.partner end its_ids line inbound.is_partner is_conn inbound.is_line inbound.partners allocated named.cube in
     let B : Cube → Type 0 = λ x. IsBackedIf (Unit {0}) (constants g x (flipped its_ids)) now (PiecesOf cloud (flipped its_ids)) (AcksOf cloud (flipped its_ids)) line in
     let b = subst B (some_cube g its_ids.qos flow.cube cube flow.is_cube is_cube) flow.backed in
     record {

@@ -9,9 +9,10 @@ use Rattle.rina_conn.specs.declared.conn.Conn.{Conn}
 use Rattle.rina_conn.specs.declared.sending.Sending.{Sending}
 use Rattle.rina_dif_law.specs.Counting.{AllOff, InOrder, off_numbers, times}
 use Rattle.rina_data.specs.Configs.{Config}
+use Rattle.rina_ids.specs.Members.{CepIds}
 use Rattle.rina_dif_law.specs.Dif.{DifSeen, constants, with_process}
 use Rattle.rina_data.specs.Process.{Process, with_offs}
-use Rattle.rina_dif_law.specs.Ending.{IsEnded}
+use Rattle.rina_dif_law.specs.Ending.{GivesBack, IsEnded}
 use Rattle.rina_dif_law.specs.Ids.{Ids, flipped}
 use Rattle.rina_dif_law.specs.Sending.{home}
 use Rattle.rina_dif_law.specs.Standing.{IsJournal}
@@ -192,8 +193,8 @@ is_forgotten d lines at i process offs lines' d' f at_home is_process is = recor
   new_is = is;
 }
 
-pub is_ended : (d : DifSeen) (lines : List Direction) (at i : ℕ) (state : PortState) (process : Process) (offs : List Off) (ends' : List End) (d' : DifSeen) → (e : EndsAt d.ends d.conns lines at state offs ends') → home e.end.port.node d.config.members ≡ Some i → slice_get d.processes i ≡ Some process → d' ≡ record d { ends = ends'; processes = slice_set d.processes i (with_offs process offs) } → IsEnded d lines at state d'
-is_ended d lines at i state process offs ends' d' e at_home is_process is = record {
+pub is_ended : (d : DifSeen) (lines : List Direction) (at i : ℕ) (state : PortState) (process : Process) (offs : List Off) (ends' : List End) (held : List CepIds) (d' : DifSeen) → (e : EndsAt d.ends d.conns lines at state offs ends') → home e.end.port.node d.config.members ≡ Some i → slice_get d.processes i ≡ Some process → GivesBack d at e.end held → d' ≡ record d { ends = ends'; processes = slice_set d.processes i (with_offs process offs); ids = held } → IsEnded d lines at state d'
+is_ended d lines at i state process offs ends' held d' e at_home is_process gives is = record {
   end = e.end;
   ids = e.its_ids;
   is_conn = e.is_conn;
@@ -208,5 +209,7 @@ is_ended d lines at i state process offs ends' d' e at_home is_process is = reco
   all_dropped = λ off from line here inb. e.offs_are off from line here (record { partner = inb.partner; is_partner = inb.is_partner; partners = inb.partners; is_line = inb.is_line });
   all = λ from line inb. e.all from line (record { partner = inb.partner; is_partner = inb.is_partner; partners = inb.partners; is_line = inb.is_line });
   in_order = e.in_order;
-  new_is = is ∙ ap (λ (es : List End). record d { ends = es; processes = slice_set d.processes i (with_offs process offs) }) e.ends_are;
+  held = held;
+  gives_back = gives;
+  new_is = is ∙ ap (λ (es : List End). record d { ends = es; processes = slice_set d.processes i (with_offs process offs); ids = held }) e.ends_are;
 }

@@ -90,19 +90,19 @@ arrives_from now at pdu ends mid ends' conns conns' ledger ledger' unpassed bodi
     let b = landing seen here in
     let new : Conn = b.0 in
     let L = b.1 in
-    let inb = inbound_of g now cloud ends (conns_of conns) ls at end S.journal S.own e.1 allocated in
+    let inb = inbound_of g now cloud S.held ends (conns_of conns) ls at end S.journal S.own e.1 allocated in
     let from : ℕ = inb.0 in
     let line : Direction = inb.1 in
-    let coming = is_coming g now cloud ends conns ls S.config S.journal S.own S.tied at end seen is_at allocated pdu C.death from line names C.piece C.here C.alive inb.2 in
+    let coming = is_coming g now cloud S.held ends conns ls S.config S.journal S.own S.tied at end seen is_at allocated pdu C.death from line names C.piece C.here C.alive inb.2 in
     let receiving = S.tied.receives at from end seen line is_at allocated inb.2 in
-    let flow = the_flow g now cloud ends conns ls S.config S.journal S.own S.tied at end seen is_at allocated from line inb.2 in
+    let flow = the_flow g now cloud S.held ends conns ls S.config S.journal S.own S.tied at end seen is_at allocated from line inb.2 in
     let few = few_wait (inward g seen) line seen.waiting receiving.waiting receiving.early in
     let all : unpassed ≡ length end.got - end.taken = (let a = flow.passed in let b = ap (λ (es : List Entry). length es) flow.got in let w = coming.limits.window in counted unpassed (length end.got - end.taken) (2 ^ 32 - 1) (omega arith) (count end e.1)) in
     let room = ap (λ n. ltb n seen.sending.form.cube.window) all in
     let room' = room ∙ room_is g now cloud end ids seen.sending.form.cube line flow in
     let bodies_are : bodies ≡ bytes_of L.receives.heard.rx.join.whole = ahead_at (inward g seen) ids now line pdu unpassed seen L.receives.heard L.receives.ready L.receives.before.taken L.verdict bodies flow.backed.clock coming room' receiving L.receives.before.drained L.receives.before.none L.receives.row ahead in
     let R = received now pdu unpassed seen bodies got L.got_room lines L.lines_room L.verdict new got' L.between L.receives bodies_are in
-    let X = arrives_at g now cloud ends conns ls S.config S.journal S.own S.tied at end seen is_at allocated pdu C.death unpassed L.verdict R.offs R.whole new names C.piece C.here C.alive all R.arrival in
+    let X = arrives_at g now cloud S.held ends conns ls S.config S.journal S.own S.tied at end seen is_at allocated pdu C.death unpassed L.verdict R.offs R.whole new names C.piece C.here C.alive all R.arrival in
     let most : length R.offs ≤ length (kept_numbers seen.rx) = X.count in
     let fits = L.fits_lines in
     let between_is : L.between ≡ lines ++ R.offs = R.lines_are (omega arith) in

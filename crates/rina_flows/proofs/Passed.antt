@@ -75,7 +75,7 @@ tied_passed g now at from ends conns lines end conn conn' line journal t is inb 
     })
 
 pub passes_from : (now at : ℕ) (ends ends' : List End) (conns conns' : List Conn) → at < length ends → at < length conns → ((e : End) → slice_get ends at ≡ Some e → e.taken < length e.got) → Becomes (IsPass now) at conns conns' → ((e : End) → slice_get ends at ≡ Some e → ends' ≡ slice_set ends at (with_passed e)) → PassesOne now at (flows_of ends conns) (flows_of ends' conns')
-passes_from now at ends ends' conns conns' lt lt' waits become passed = λ g lines processes below journal own t.
+passes_from now at ends ends' conns conns' lt lt' waits become passed = λ g lines processes below held journal own t.
     let cloud : ℕ → Pdu → Type 0 = Cloud Everywhere g processes below in
     let e = there ends at lt in
     let end : End = e.0 in
@@ -93,7 +93,7 @@ passes_from now at ends ends' conns conns' lt lt' waits become passed = λ g lin
     let here = beside ends lines at end t.lines_alike e.1 in
     let cube = (t.sends at conn here.0 k.1 here.1).cube in
     let is_conn : IsConn ends (conns_of conns) at end (ids_of conn) = record { end = e.1; ids_are = ids_at conns at conn k.1 } in
-    let flow = journals g now cloud ends (conns_of conns) lines own from at partner.other end line partner.stands e.1 l.1 inb.partners in
+    let flow = journals g now cloud held ends (conns_of conns) lines own from at partner.other end line partner.stands e.1 l.1 inb.partners in
     let some : line.passed < length line.inbox.got = (let lt = waits end e.1 in let a = flow.passed in let b = ap (λ (es : List Entry). length es) flow.got in omega arith) in
     let tied = tied_passed g now at from ends conns lines end conn b.0 line journal t is inb some b.1 in
     let tied' = subst (λ (xs : List End). IsTied g now xs (slice_set conns at b.0) lines') (sym (passed end e.1)) tied in

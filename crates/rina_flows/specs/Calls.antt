@@ -9,6 +9,7 @@ use Rattle.rina_base.specs.declared.pdu.Pdu.{Pdu}
 use Rattle.rina_conn.specs.Conns.{Passes}
 use Rattle.rina_conn.specs.Sending as send
 use Rattle.rina_conn.specs.Standing.{PassesFirst}
+use Rattle.rina_ids.specs.Members.{CepIds}
 use Rattle.rina_dif_law.specs.Cloud.{Cloud, Everywhere}
 use Rattle.rina_data.specs.Configs.{Config, piece_size}
 use Rattle.rina_data.specs.Process.{Process}
@@ -106,7 +107,7 @@ pub record IsPassed (g : Config) (now at : ℕ) (old : Flows) (lines : List Dire
 
 abbrev pub PassesOne : ℕ → ℕ → Flows → Flows → Type 0
 PassesOne now at old new =
-    (g : Config) (lines : List Direction) (processes : List Process) (below : Seen) → IsJournal now old.journal.ends → IsOwn g now (Cloud Everywhere g processes below) old.journal.ends (conns_of old.conns) lines → AreTied g now old lines → IsPassed g now at old lines new
+    (g : Config) (lines : List Direction) (processes : List Process) (below : Seen) (held : List CepIds) → IsJournal now old.journal.ends → IsOwn g now (Cloud Everywhere g processes below) held old.journal.ends (conns_of old.conns) lines → AreTied g now old lines → IsPassed g now at old lines new
 
 -- An acknowledgement
 

@@ -11,6 +11,7 @@ use Rattle.rina_base.specs.declared.pdu.PduKind.TheVariants.{Piece as APiece}
 use Rattle.rina_conn.specs.declared.conn.Conn.{Conn}
 use Rattle.rina_conn.specs.Conns.{Marks}
 use Rattle.rina_conn.specs.Standing.{Arrives}
+use Rattle.rina_ids.specs.Members.{CepIds}
 use Rattle.rina_dif_law.specs.Cloud.{Cloud, Everywhere}
 use Rattle.rina_data.specs.Configs.{Config}
 use Rattle.rina_data.specs.Process.{Process}
@@ -121,7 +122,8 @@ pub record Comes (now : ℕ) (cloud : ℕ → Pdu → Type 0) (flows : Flows) (a
 pub record AreStanding (g : Config) (now : ℕ) (cloud : ℕ → Pdu → Type 0) (flows : Flows) (lines : List Direction) : Type 0 where
   pub config : IsConfig g
   pub journal : IsJournal now flows.journal.ends
-  pub own : IsOwn g now cloud flows.journal.ends (conns_of flows.conns) lines
+  pub held : List CepIds
+  pub own : IsOwn g now cloud held flows.journal.ends (conns_of flows.conns) lines
   pub tied : AreTied g now flows lines
 
 -- the piece has arrived, the ledger has the lines of what was given up before its own, and the flows stay tied

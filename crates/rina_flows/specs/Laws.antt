@@ -7,9 +7,10 @@ use Rattle.rina_base.specs.declared.pdu.Pdu.{Pdu}
 use Rattle.rina_base.specs.declared.pdu.PduKind.TheVariants.{Piece as APiece, Ack as AnAck}
 use Rattle.rina_conn.specs.declared.conn.Conn.{Conn}
 use Rattle.rina_data.specs.Configs.{Config}
+use Rattle.rina_ids.specs.Members.{CepIds}
 use Rattle.rina_dif_law.specs.Dif.{DifSeen, with_process}
 use Rattle.rina_data.specs.Process.{Process, Queue, IsQueue, next_hop, with_offs, with_put}
-use Rattle.rina_dif_law.specs.Ending.{IsEnded}
+use Rattle.rina_dif_law.specs.Ending.{GivesBack, IsEnded}
 use Rattle.rina_dif_law.specs.Ids.{Ids, IsFrom, flipped}
 use Rattle.rina_dif_law.specs.Incoming.{IsArrived, IsTaker, IsTold, lines_for}
 use Rattle.rina_dif_law.specs.Lifting.{ticked}
@@ -63,5 +64,5 @@ ForgettingIsForgetting =
 
 abbrev pub EndingsAreEndings : Type 0
 EndingsAreEndings =
-    (d : DifSeen) (lines : List Direction) (at i : ℕ) (state : PortState) (process : Process) (offs : List Off) (ends' : List End) (d' : DifSeen) → (e : EndsAt d.ends d.conns lines at state offs ends') → home e.end.port.node d.config.members ≡ Some i → slice_get d.processes i ≡ Some process →
-    d' ≡ record d { ends = ends'; processes = slice_set d.processes i (with_offs process offs) } → IsEnded d lines at state d'
+    (d : DifSeen) (lines : List Direction) (at i : ℕ) (state : PortState) (process : Process) (offs : List Off) (ends' : List End) (held : List CepIds) (d' : DifSeen) → (e : EndsAt d.ends d.conns lines at state offs ends') → home e.end.port.node d.config.members ≡ Some i → slice_get d.processes i ≡ Some process → GivesBack d at e.end held →
+    d' ≡ record d { ends = ends'; processes = slice_set d.processes i (with_offs process offs); ids = held } → IsEnded d lines at state d'

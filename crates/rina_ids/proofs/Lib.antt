@@ -1,2 +1,4 @@
 mod InUse
+mod Drawing
 mod Places
+mod Undone

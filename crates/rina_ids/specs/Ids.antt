@@ -58,3 +58,10 @@ Refuses greatest free (Used n) = (free ≡ None) × (n ≡ greatest)
 -- a tick is at most the end of every rest at the places from one to before another
 abbrev pub IsLowest : ℕ → List Slot → ℕ → ℕ → Type 0
 IsLowest bound slots from to = (k until : ℕ) → from ≤ k → k < to → slice_get slots k ≡ Some (Resting until) → bound ≤ until
+
+-- an id was drawn, of which this was known before: nothing, where it was never drawn
+pub record HasDrawn (before : List Slot) (id : ℕ) (was : Option Slot) (after : List Slot) : Type 0 where
+  pub some : 1 ≤ id
+  pub next : id ≤ length before + 1
+  pub was_is : slice_get before (id - 1) ≡ was
+  pub after_is : after ≡ drawn before id

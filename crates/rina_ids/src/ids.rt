@@ -1,11 +1,12 @@
 //! The ids of one IPC process.
 ghost use Rattle.std.specs.Prelude.{◌≡◌, ℕ, ◌+◌, ◌-◌, ◌*◌, ◌^◌, ◌<◌, ◌≤◌, ◌⊎◌, [], ◌∷◌, ◌++◌, List, length, slice_get, slice_set, IfSome, IfOk, OnOk, OnErr, IfErr, position};
-ghost use Rattle.rina_ids.specs.Ids.{is_free, free_id, drawn, given_back, IsInUse, Refuses};
+ghost use Rattle.rina_ids.specs.Ids.{is_free, free_id, drawn, given_back, HasDrawn, IsInUse, Refuses};
 
 use crate::slot::{BLOCK, Slot, bound_of, free_place};
 use rina_base::{Cep, Seq, Tick};
 use std::alloc::{AllocError, Global};
 use std::marker::Model;
+use std::mem;
 
 /// Why no id is drawn.
 #[derive(Clone, Copy, Debug, PartialEq, Eq)]
@@ -156,5 +157,50 @@ impl Ids {
         let block = at / BLOCK;
         let bound = self.bounds.as_slice()[block];
         self.bounds.set(block, bound.min(until));
+    }
+
+    /// What is known of an id. None exactly where it was never drawn.
+    pub fn known(&self, id: Cep) -> Option<Slot>
+        requires { 1 ≤ id }
+        ensures { result ≡ slice_get self.now.1 (id - 1) }
+    {
+        self.slots.get(id as usize - 1).copied()
+    }
+
+    /// Puts an id back as it was before it was drawn again.
+    fn put_back(&mut self, at: usize, was: Slot)
+        requires { at < length self.old.1 }
+        ensures { self.new ≡ (self.old.0, slice_set self.old.1 at was) }
+    {
+        self.slots.set(at, was);
+        let block = at / BLOCK;
+        self.bounds
+            .set(block, bound_of(self.slots.as_slice(), block));
+    }
+
+    /// Takes the last id out.
+    fn take_out(&mut self, alloc: Global)
+        requires { 1 ≤ length self.old.1 }
+        ensures { (slots : List Slot) (last : Slot) → self.old.1 ≡ slots ++ last ∷ [] → self.new ≡ (self.old.0, slots) }
+    {
+        let mut slots = mem::replace(&mut self.slots, Seq::new(alloc)).into_vec();
+        slots.pop();
+        let mut bounds = mem::replace(&mut self.bounds, Seq::new(alloc)).into_vec();
+        if bounds.len() * BLOCK > slots.len() + BLOCK {
+            bounds.pop();
+        }
+        self.slots = Seq::from_vec(slots);
+        self.bounds = Seq::from_vec(bounds);
+    }
+
+    /// Takes a draw back: of the id is known what was known before. Takes no memory.
+    pub fn undo_draw(&mut self, alloc: Global, id: Cep, was: Option<Slot>)
+        requires { (slots : List Slot) × HasDrawn slots id was self.old.1 }
+        ensures { (slots : List Slot) → HasDrawn slots id was self.old.1 → self.new ≡ (self.old.0, slots) }
+    {
+        match was {
+            Some(slot) => self.put_back(id as usize - 1, slot),
+            None => self.take_out(alloc),
+        }
     }
 }

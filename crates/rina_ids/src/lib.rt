@@ -2,7 +2,9 @@
 #![tactic(auto)]
 
 mod ids;
+mod members;
 mod slot;
 
 pub use ids::{Ids, NoIds};
+pub use members::{Draw, MemberIds};
 pub use slot::Slot;

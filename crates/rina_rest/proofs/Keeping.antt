@@ -1,14 +1,15 @@
 -- Each row keeps what an IPC process knows of its ids.
-use Rattle.std.proofs.Common.{◌≡◌, ℕ, ◌+◌, List, [], ◌∷◌, ◌++◌, length, slice_get, Option, Some, None, refl, sym, ◌∙◌, ap, subst, arith, inl, inr}
+use Rattle.std.proofs.Common.{◌≡◌, ℕ, ◌+◌, ◌≤◌, List, [], ◌∷◌, ◌++◌, length, slice_get, Option, Some, None, refl, sym, ◌∙◌, ap, subst, arith, inl, inr}
 use Rattle.std.proofs.lemmas.Bool.{cases_eq}
 use Rattle.std.proofs.lemmas.Option.{none-some, same_Some}
 use Rattle.rina_ids.specs.declared.slot.Slot.{Slot}
 use Rattle.rina_ids.specs.Ids.{free_id, drawn, given_back, IsInUse as HasInUse, IsResting}
 use Rattle.rina_rest.specs.Drawn.{IsKept, AreKept, Draws, GivesBack, SlotsAfter}
-use Rattle.rina_rest.specs.Flows.{Endpoint, HasSameId, Side, Asker, Far, Flow, end_at}
-use Rattle.rina_rest.specs.Ledger.{Ledger, Row, Time, Cloud, Ask, Make, Tell, EndAsker, EndFar, Send, put, asked_flow, made, told_flow, ended_asker, ended_far, entered, IsAllowed, Holds}
+use Rattle.rina_rest.specs.Flows.{Endpoint, HasSameId, Side, Asker, Far, Flow, Four, end_at}
+use Rattle.rina_rest.specs.Ledger.{Ledger, Row, Time, Cloud, Ask, Make, Tell, EndAsker, EndFar, Send, put, asked_flow, made, told_flow, bound_flow, ended_asker, ended_far, entered, IsAllowed, LedgerHolds, Listed, Holds}
 use Rattle.rina_rest.proofs.Holding.{unended}
 use Rattle.rina_rest.proofs.Lists.{IsChanged, put_changed, push_changed, new_or_old}
+use Rattle.rina_rest.proofs.Rows.{cloud_holds}
 use Rattle.rina_rest.proofs.Slots.{drawn_free, drawn_in_use, given_back_rests, given_back_same, kept_end_later, kept_rested, kept_other, kept_past}
 
 -- One flow changes: its ends are kept, and so are those of all others
@@ -164,3 +165,42 @@ rows_keep_slots greatest s (Tell i f) addr before after h may same kept =
 rows_keep_slots greatest s (EndAsker i f) addr before after h may gives kept = end_asker_kept s addr before after i f h may.0 may.1 gives kept
 rows_keep_slots greatest s (EndFar i f far) addr before after h may gives kept = end_far_kept s addr before after i f far h may.0 may.1 may.2 gives kept
 rows_keep_slots greatest s (Send i f far side p) addr before after h may same kept = same_kept s.now s.flows addr before after same kept
+
+-- A flow is asked for, made and told at once: both IPC processes draw
+
+pub bound_keeps_slots : (near far now : ℕ) (flows : List Flow) (rest peer from cep far_cep addr : ℕ) (before between after : List Slot) → (peer ≡ from → ⊥) → Draws near now addr from cep before between → Draws far now addr peer far_cep between after → AreKept now flows addr before →
+    AreKept now (flows ++ bound_flow now rest peer from cep far_cep ∷ []) addr after
+bound_keeps_slots near far now flows rest peer from cep far_cep addr before between after apart draws draws' kept =
+    let x = bound_flow now rest peer from cep far_cep in
+    let was = draws_kept far now flows addr peer far_cep between after draws' (draws_kept near now flows addr from cep before between draws kept) in
+    change_kept now flows (flows ++ x ∷ []) (length flows) x addr after (push_changed flows x) mine (λ k g side e ne at is there. was k g side e at is there)
+  where
+    asker_used : from ≡ addr → HasInUse after cep
+    asker_used here =
+        let P : List Slot → Type 0 = λ z. HasInUse z cep in
+        subst P (sym (draws'.elsewhere (λ there. apart (there ∙ sym here)))) (draws_used near now addr from cep before between draws here)
+
+    mine : (side : Side) (e : Endpoint) → end_at side (bound_flow now rest peer from cep far_cep) ≡ Some e → e.addr ≡ addr → IsKept rest now after e.cep e.ended
+    mine Asker e is there = new_kept rest now after (record { addr = from; cep = cep; ended = None }) e addr refl (same_Some (record { addr = from; cep = cep; ended = None }) e is) asker_used there
+    mine Far e is there = new_kept rest now after (record { addr = peer; cep = far_cep; ended = None }) e addr refl (same_Some (record { addr = peer; cep = far_cep; ended = None }) e is) (draws_used far now addr peer far_cep between after draws') there
+
+-- An end ends, whatever the cloud is
+
+abbrev listless : ℕ → List Flow → Ledger
+listless now flows = record { now = now; flows = flows; pdus = [] }
+
+listless_holds : (now : ℕ) (flows : List Flow) (cloud : ℕ → Four → Type 0) → LedgerHolds now flows cloud → Holds (listless now flows)
+listless_holds now flows cloud h = cloud_holds now flows cloud (Listed []) (λ death four x alive. absurd x) h
+
+pub asker_keeps_slots : (now : ℕ) (flows : List Flow) (cloud : ℕ → Four → Type 0) (i : ℕ) (f : Flow) (addr : ℕ) (before after : List Slot) → LedgerHolds now flows cloud → slice_get flows i ≡ Some f → f.asker.ended ≡ None → GivesBack f.rest now addr f.asker before after → AreKept now flows addr before → AreKept now (put i (ended_asker now f) flows) addr after
+asker_keeps_slots now flows cloud i f addr before after h at stands gives kept = end_asker_kept (listless now flows) addr before after i f (listless_holds now flows cloud h) at stands gives kept
+
+pub far_keeps_slots : (now : ℕ) (flows : List Flow) (cloud : ℕ → Four → Type 0) (i : ℕ) (f : Flow) (far : Endpoint) (addr : ℕ) (before after : List Slot) → LedgerHolds now flows cloud → slice_get flows i ≡ Some f → f.far ≡ Some far → far.ended ≡ None → GivesBack f.rest now addr far before after → AreKept now flows addr before → AreKept now (put i (ended_far now f far) flows) addr after
+far_keeps_slots now flows cloud i f far addr before after h at known stands gives kept = end_far_kept (listless now flows) addr before after i f far (listless_holds now flows cloud h) at known stands gives kept
+
+pub time_keeps_slots : (now later : ℕ) (flows : List Flow) (addr : ℕ) (slots : List Slot) → now ≤ later → AreKept now flows addr slots → AreKept later flows addr slots
+time_keeps_slots now later flows addr slots le kept i f side e at is there = kept_end_later f.rest now later slots e.cep e.ended le (kept i f side e at is there)
+
+-- what stands has its id in use
+pub standing_used : (now : ℕ) (flows : List Flow) (addr : ℕ) (slots : List Slot) (i : ℕ) (f : Flow) (side : Side) (e : Endpoint) → AreKept now flows addr slots → slice_get flows i ≡ Some f → end_at side f ≡ Some e → e.addr ≡ addr → e.ended ≡ None → HasInUse slots e.cep
+standing_used now flows addr slots i f side e kept at is there stands = stands_used f.rest now slots e.cep e.ended stands (kept i f side e at is there)

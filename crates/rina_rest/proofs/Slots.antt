@@ -158,3 +158,32 @@ drawn_in_use greatest now slots cep e =
 
 pub drawn_some : (greatest now : ℕ) (slots : List Slot) (cep : ℕ) → free_id greatest now slots ≡ Some cep → 1 ≤ cep
 drawn_some greatest now slots cep e = (let used = (drawn_in_use greatest now slots cep e).0 in used.0)
+
+-- how far it goes
+pub drawn_small : (greatest now : ℕ) (slots : List Slot) (cep : ℕ) → free_id greatest now slots ≡ Some cep → cep ≤ length slots + 1
+unfolding free_id
+drawn_small greatest now slots cep e = (let at = free_place greatest now slots cep (position (is_free now) slots) refl e in at.1)
+
+pub drawn_long : (slots : List Slot) (cep : ℕ) → length (drawn slots cep) ≤ length slots + 1
+unfolding drawn
+drawn_long slots cep = go (leb cep (length slots))
+  where
+    pushed_long : (xs : List Slot) → length (xs ++ InUse ∷ []) ≡ length xs + 1
+    pushed_long [] = refl
+    pushed_long (x ∷ xs) = (let is = pushed_long xs in omega (arith, is))
+
+    go : (b : Bool) → length (if b then slice_set slots (cep - 1) InUse else slots ++ InUse ∷ []) ≤ length slots + 1
+    go true = omega (arith, length-set slots (cep - 1) InUse)
+    go false = omega (arith, pushed_long slots)
+
+-- where not all were drawn there is a free one
+pub free_there : (greatest now : ℕ) (slots : List Slot) → length slots < greatest → (cep : ℕ) × (free_id greatest now slots ≡ Some cep)
+unfolding free_id
+free_there greatest now slots lt = go (position (is_free now) slots)
+  where
+    fresh_there : fresh_id greatest slots ≡ Some (length slots + 1)
+    fresh_there = grind (arith, lt)
+
+    go : (o : Option ℕ) → (cep : ℕ) × (free_or o (fresh_id greatest slots) ≡ Some cep)
+    go (Some k) = (k + 1, refl)
+    go None = (length slots + 1, fresh_there)
