@@ -1,3 +1,3 @@
-mod Apart
+pub mod Apart
 mod Keys
 mod Stay

@@ -6,7 +6,7 @@ use Rattle.std.proofs.lemmas.Option.{none-some, same_Some}
 use Rattle.rina_enrol.specs.declared.message.LinkMessage.{LinkMessage}
 use Rattle.rina_enrol.specs.declared.message.LinkMessage.TheVariants as messages
 use Rattle.rina_newest.specs.declared.item.Item.{Item}
-use Rattle.rina_newest.specs.Newest.{has_key, kept_at, taken, taken_all}
+use Rattle.rina_newest.specs.Newest.{has_key, kept_at, taken_all}
 use Rattle.rina_agent.specs.declared.message.ManagementMessage.{ManagementMessage}
 use Rattle.rina_agent.specs.declared.message.ManagementMessage.TheVariants.{ToNeighbour, ToMember}
 use Rattle.rina_agent.specs.declared.message.Waiting.{Waiting}
@@ -14,15 +14,15 @@ use Rattle.rina_agent.specs.Agenda.{waiting_on}
 use Rattle.rina_agent.specs.Counts.{spent}
 use Rattle.rina_agent.specs.Enrolled.{Handles}
 use Rattle.rina_agent.specs.Enrolments.{is_numbered}
-use Rattle.rina_agent.specs.Items.{made}
 use Rattle.rina_agent.specs.Rows.{was_up}
-use Rattle.rina_flood.specs.Network.{Side, other, Network, put_agent, put_sent, unhandled, carried, on_way, Row, Make, Put, Take, Handle, Lose, Drop, Pass, happens, May, IsRun, after_rows, IsStart, with_message, item_in, called, Enrol, Claim, KnowsAll, KnowsNothing}
+use Rattle.rina_flood.specs.Network.{Side, other, Network, put_agent, put_sent, unhandled, carried, on_way, Row, Make, Put, Take, Handle, Lose, Drop, Know, Pass, happens, May, IsRun, after_rows, IsStart, with_message, item_in, called, Enrol, Claim, KnowsAll, KnowsNothing}
 use Rattle.rina_flood.proofs.Flow.{key_same, itself_least}
 use Rattle.rina_flood.proofs.Holds.{Holds}
 use Rattle.rina_flood.proofs.Places.{nothing_in}
 use Rattle.rina_flood.proofs.Steps.{make_holds, took_holds}
 use Rattle.rina_flood.proofs.Enrolling.{connect_holds, allow_holds, deny_holds, start_r_holds, stop_r_holds}
 use Rattle.rina_flood.proofs.Entering.{start_holds}
+use Rattle.rina_flood.proofs.Known.{know_holds}
 use Rattle.rina_flood.proofs.NewLinks.{enrol_holds, claim_holds}
 use Rattle.rina_flood.proofs.Runs.{lose_by, moving_holds, put_moving, take_holds, left_moving, passed_moving, pass_holds}
 use Rattle.rina_flood.proofs.Stopping.{stop_holds}
@@ -73,6 +73,7 @@ row_holds n (Lose link side) h may =
 row_holds n (Drop link side left) h may = moving_holds n n.agents (put_sent link side left n.sent) (left_moving n link side left may.0 may.1) h
 row_holds n (Enrol link side member node) h may = enrol_holds n link side member node h may.0 may.1
 row_holds n (Claim link side) h may = claim_holds n link side h may
+row_holds n (Know x) h may = know_holds n x h may
 row_holds n Pass h may = pass_holds n h
 
 pub rows_hold : (n : Network) (rows : List Row) → Holds n → IsRun n rows → Holds (after_rows n rows)

@@ -57,7 +57,7 @@ laid_on n i b sent h address fewer = record {
 
 -- Journals
 
-taken_last : (items xs : List Item) (x : Item) → taken_all items (xs ++ x ∷ []) ≡ taken (taken_all items xs) x
+pub taken_last : (items xs : List Item) (x : Item) → taken_all items (xs ++ x ∷ []) ≡ taken (taken_all items xs) x
 taken_last items [] x = refl
 taken_last items (y ∷ xs) x = taken_last (taken items y) xs x
 

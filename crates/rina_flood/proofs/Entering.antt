@@ -18,7 +18,7 @@ use Rattle.rina_agent.specs.Agenda.{near, item_on, waiting_on}
 use Rattle.rina_agent.specs.Counts.{next_of, spent, unless}
 use Rattle.rina_agent.specs.Enrolled.{Handles, done}
 use Rattle.rina_agent.specs.Enrolments.{hears, is_numbered, place_of}
-use Rattle.rina_agent.specs.Items.{made, stated}
+use Rattle.rina_agent.specs.Items.{stated}
 use Rattle.rina_agent.specs.Neighbours.{link_key, link_state}
 use Rattle.rina_agent.specs.Rows.{either, start_batch, started, started_as, started_by, stop_batch, up_link, was_up}
 use Rattle.rina_flood.specs.Network.{Network, put_agent, put_offers, carried, called, AreApart, if_counted, last_state}

@@ -1,8 +1,9 @@
 -- What stands in lists, and one place of a map.
-use Rattle.std.proofs.Common.{◌≡◌, ℕ, suc, ◌⊎◌, Bool, true, false, ◌==◌, cond, List, ◌∷◌, Contains, length, arith, refl, sym, ◌∙◌, ap, subst, inl, inr, []}
+use Rattle.std.proofs.Common.{◌≡◌, ℕ, suc, ◌⊎◌, Bool, true, false, ◌==◌, cond, List, ◌∷◌, Contains, length, arith, refl, sym, ◌∙◌, ap, subst, inl, inr, [], ◌≤◌, drop, zero, slice_get}
 use Rattle.std.specs.Prelude.{flat_map, position, nat_lt, Option, Some, None, option_map, ◌+◌}
 use Rattle.std.specs.List.{position_or_len}
 use Rattle.std.proofs.lemmas.Bool.{cases_Bool, and_parts, eqb-true, eq-eqb, both_ways}
+use Rattle.std.proofs.lemmas.Option.{none-some, same_Some}
 use Rattle.std.proofs.lemmas.List.Elements.{Contains-append_left, Contains-append_right, Contains-append_cases, Contains-push, Contains-push_cases}
 use Rattle.rina_agent.specs.Agenda.{without_at}
 use Rattle.rina_flood.specs.Network.{Side, Near, Far, other, is_side, is_direction}
@@ -109,3 +110,16 @@ position_cons p x xs = elim (cases_Bool (p x)) [
   | inl is ↦ (let there = some_there (length xs) in rw (is, there) refl)
   | inr isnt ↦ rw isnt (step_up (position_or_len p xs) (length xs))
 ]
+
+-- What stands from a place on
+
+pub past_all : {X : Type 0} (xs : List X) (k : ℕ) → length xs ≤ k → drop k xs ≡ []
+past_all [] zero le = refl
+past_all [] (suc k) le = refl
+past_all (x ∷ xs) zero le = absurd (omega (arith, le))
+past_all (x ∷ xs) (suc k) le = past_all xs k (omega (arith, le))
+
+pub drop_at : {X : Type 0} (xs : List X) (k : ℕ) (x : X) → slice_get xs k ≡ Some x → drop k xs ≡ x ∷ drop (suc k) xs
+drop_at [] k x is = absurd (none-some x is)
+drop_at (y ∷ xs) zero x is = ap (λ z. z ∷ xs) (same_Some y x is)
+drop_at (y ∷ xs) (suc k) x is = drop_at xs k x is

@@ -17,8 +17,9 @@ use Rattle.rina_agent.specs.Enrolments.{is_numbered}
 use Rattle.rina_agent.specs.Items.{made, stated, took, own_item}
 use Rattle.rina_agent.specs.Neighbours.{link_key, link_state}
 use Rattle.rina_agent.specs.Rows.{was_up, dropped}
-use Rattle.rina_flood.specs.Network.{Side, other, Network, put_agent, put_offers, put_sent, carried, Row, Make, Put, Take, Handle, Lose, Drop, Pass, happens, May, IsRun, after_rows, IsStart, Enrol, Claim}
+use Rattle.rina_flood.specs.Network.{Side, other, Network, put_agent, put_offers, put_sent, carried, Row, Make, Put, Take, Handle, Lose, Drop, Know, Pass, happens, May, IsRun, after_rows, IsStart, Enrol, Claim}
 use Rattle.rina_flood.proofs.Holds.{is_plain, ArePlain, Holds}
+use Rattle.rina_flood.proofs.Known.{know_plain}
 use Rattle.rina_flood.proofs.Places.{nothing_in, in_first}
 use Rattle.rina_flood.proofs.Rows.{sound_plain}
 use Rattle.rina_flood.proofs.Steps.{made_sound, taker_sound, lost_sound}
@@ -71,6 +72,7 @@ row_plain n (Lose link side) h p may static =
 row_plain n (Drop link side left) h p may static = moving_plain n n.agents _ (left_moving n link side left may.0 may.1) (left_is_plain n link side left may.0 may.1) p
 row_plain n (Enrol link side member node) h p may static = absurd static
 row_plain n (Claim link side) h p may static = absurd static
+row_plain n (Know x) h p may static = know_plain n x p
 row_plain n Pass h p may static = p
 
 pub rows_plain : (n : Network) (rows : List Row) → Holds n → ArePlain n → IsRun n rows → IsStatic rows → ArePlain (after_rows n rows)

@@ -10,13 +10,13 @@ use Rattle.rina_newest.specs.Newest.{is_newer, kept_at, taken}
 use Rattle.rina_agent.specs.declared.agent.Agent.{Agent}
 use Rattle.rina_agent.specs.declared.message.ManagementMessage.{ManagementMessage}
 use Rattle.rina_agent.specs.declared.message.ManagementMessage.TheVariants.{ToNeighbour}
-use Rattle.rina_agent.specs.Agenda.{waiting_on, floods}
+use Rattle.rina_agent.specs.Agenda.{waiting_on}
 use Rattle.rina_agent.specs.Enrolled.{IsAtLeast}
 use Rattle.rina_agent.specs.Enrolments.{is_numbered}
 use Rattle.rina_agent.specs.Items.{made}
 use Rattle.rina_agent.specs.Rows.{was_up}
 use Rattle.rina_agent.proofs.Taking.{taken_keeps}
-use Rattle.rina_flood.specs.Network.{Side, other, Network, put_agent, put_offers, stands, is_up, unhandled, carried, on_way}
+use Rattle.rina_flood.specs.Network.{Side, other, Network, put_agent, put_offers, stands, unhandled, carried, on_way}
 use Rattle.rina_flood.proofs.Agendas.{AreFlooded}
 use Rattle.rina_flood.proofs.Calls.{AreFewer, at_itself, at_others, at_place, fewer_stand, laid_on, knows_more, offers_from, new_by_count, told_more}
 use Rattle.rina_flood.proofs.Flow.{IsTaken, taken_flooded}

@@ -5,7 +5,7 @@ use Rattle.rina_access.specs.declared.rules.Rules.{Rules}
 use Rattle.rina_newest.specs.Newest.{kept_at, taken}
 use Rattle.rina_flood.specs.Network.{Side, Near, Far, IsRun, after_rows, IsStart}
 use Rattle.rina_flood.specs.Laws.{IsQuietWalk}
-use Rattle.rina_flood.specs.Sample.{sample, sample_end, sample_item, sample_rows, SampleSettles}
+use Rattle.rina_flood.specs.Sample.{sample, sample_end, sample_entry, sample_item, sample_rows, SampleSettles}
 use Rattle.rina_flood.proofs.Places.{nothing_in}
 
 laid : (l : ℕ) (d : Side) (k : ℕ) (e : Side) → sample_end l d ≡ sample_end k e → l ≡ k → (l ≡ k) × (d ≡ e)
@@ -35,14 +35,19 @@ start rules = record {
 }
 
 run : (rules : Rules) → IsRun (sample rules) sample_rows
-run rules = (refl, (refl, (refl, tt)))
+run rules = (record { both = λ l d up first. refl; one = λ y e k v. absurd (nothing_in y e); past = omega arith; counted = omega arith }, (refl, (refl, (refl, tt))))
 
 quiet : (rules : Rules) → IsQuietWalk (after_rows (sample rules) sample_rows) 1 ((0, Near) ∷ []) 2
+unfolding taken
 quiet rules = (refl, refl, refl, refl, refl)
 
 kept : (rules : Rules) → kept_at ((after_rows (sample rules) sample_rows).agents 2).items (codes "/dir/echo") ≡ Some sample_item
 unfolding taken
 kept rules = refl
 
+knows : (rules : Rules) → kept_at ((after_rows (sample rules) sample_rows).agents 2).items (codes "/dir/sink") ≡ Some sample_entry
+unfolding taken
+knows rules = refl
+
 pub settles : (rules : Rules) → SampleSettles rules
-settles rules = record { start = start rules; run = run rules; quiet = quiet rules; kept = kept rules }
+settles rules = record { start = start rules; run = run rules; quiet = quiet rules; kept = kept rules; knows = knows rules }

@@ -22,6 +22,7 @@ use Rattle.rina_flood.specs.Network.{Network, put_agent, Make, happens}
 use Rattle.rina_flood.proofs.Calls.{at_place}
 use Rattle.rina_flood.proofs.Flow.{key_same, key_itself, not_below_itself, kept_other, kept_new}
 use Rattle.rina_flood.proofs.Holds.{Holds}
+use Rattle.rina_flood.proofs.Known.{knower}
 use Rattle.rina_flood.proofs.LinkStates.{state_without, state_same}
 use Rattle.rina_flood.proofs.All.{found_key}
 use Rattle.rina_flood.proofs.Settles.{Greatest, kept_made}
@@ -89,6 +90,11 @@ make_tells n address i key value may apart t =
     let P : Option AgentError → Type 0 = λ o. Tells address (put_agent i (done a (unless o (made None a n.now key value))) n.agents address) made' in
     subst P (sym may) (tells_more address (put_agent i (made None a n.now key value) n.agents address) n.made made' (made_fewer n.made x address apart)
     (at_place (λ c e. Tells address c n.made → Tells address e n.made) i (made None a n.now key value) n.agents address (λ s. tells_other address a (made None a n.now key value) n.made x refl refl (lacks_key address x apart) s) (λ c s. s) t))
+
+-- an item of another key is known at once
+pub known_tells : (address : ℕ) (taking : Bool) (a : Agent) (made : List Item) (x : Item) → (x.key ≡ link_key address → ⊥) → Tells address a made → Tells address (knower taking x a) (made ++ x ∷ [])
+known_tells address true a made x apart t = tells_other address a (knower true x a) (made ++ x ∷ []) x refl refl (lacks_key address x apart) (tells_more address a made (made ++ x ∷ []) (made_fewer made x address apart) t)
+known_tells address false a made x apart t = tells_more address a made (made ++ x ∷ []) (made_fewer made x address apart) t
 
 -- The member loses a link itself
 

@@ -21,17 +21,18 @@ use Rattle.rina_agent.specs.Enrolments.{is_numbered}
 use Rattle.rina_agent.specs.Items.{made, stated, took, own_item}
 use Rattle.rina_agent.specs.Neighbours.{link_key, link_state}
 use Rattle.rina_agent.specs.Rows.{was_up, dropped}
-use Rattle.rina_flood.specs.Network.{Side, other, Network, put_agent, carried, AreApart, Row, Make, Put, Take, Handle, Lose, Drop, Pass, happens, May, IsRun, after_rows, IsStart, has_link, Enrol, Claim, KnowsAll, KnowsNothing}
+use Rattle.rina_flood.specs.Network.{Side, other, Network, put_agent, carried, AreApart, Row, Make, Put, Take, Handle, Lose, Drop, Know, Pass, happens, May, IsRun, after_rows, IsStart, has_link, Enrol, Claim, KnowsAll, KnowsNothing, is_enrolled}
 use Rattle.rina_flood.specs.Laws.{LeavesLinkState, AllLeaveLinkState, MakesNoLink, IsStatic, TellsLinks, IsQuietWalk}
 use Rattle.rina_flood.proofs.Calls.{at_place, at_itself}
 use Rattle.rina_flood.proofs.Holds.{is_plain, Holds, ArePlain}
+use Rattle.rina_flood.proofs.Known.{knower_links}
 use Rattle.rina_flood.proofs.Messages.{lost_link, none_kept}
 use Rattle.rina_flood.proofs.Places.{put_case}
 use Rattle.rina_flood.proofs.All.{row_holds, begin_holds, run_holds}
 use Rattle.rina_flood.proofs.Plain.{first_plain, row_plain, rows_plain, start_plain}
 use Rattle.rina_flood.proofs.Settles.{Greatest, walk_equal}
 use Rattle.rina_flood.proofs.Steps.{first_item}
-use Rattle.rina_flood.proofs.Telling.{Tells, ByItself, same_address, tells_more, took_tells, make_tells, made_fewer, lost_tells, down_tells}
+use Rattle.rina_flood.proofs.Telling.{Tells, ByItself, same_address, tells_more, took_tells, make_tells, known_tells, made_fewer, lost_tells, down_tells}
 
 tells_same : (address : ℕ) (a : Agent) (made : List Item) → Tells address a made → Tells address a (made ++ [])
 tells_same address a made t = (let P : List Item → Type 0 = λ items. Tells address a items in subst P (sym (append-nil made)) t)
@@ -128,6 +129,7 @@ row_tells n (Lose link side) address greatest fits may static leaves s =
 row_tells n (Drop link side left) address greatest fits may static leaves s = (s.tells, s.alone)
 row_tells n (Enrol link side member node) address greatest fits may static leaves s = absurd static
 row_tells n (Claim link side) address greatest fits may static leaves s = absurd static
+row_tells n (Know x) address greatest fits may static leaves s = (known_tells address (is_enrolled (n.agents address)) (n.agents address) n.made x leaves s.tells, make_alone address n.made x leaves s.alone)
 row_tells n Pass address greatest fits may static leaves s = (s.tells, s.alone)
 
 rows_tell : (n : Network) (rows : List Row) (address : ℕ) → Greatest → address < 2 ^ 32 → IsRun n rows → IsStatic rows → AllLeaveLinkState address rows → IsTelling address n → IsTelling address (after_rows n rows)
@@ -220,6 +222,7 @@ row_gone n (Lose link side) i k plain may static e =
 row_gone n (Drop link side left) i k plain may static e = e
 row_gone n (Enrol link side member node) i k plain may static e = absurd static
 row_gone n (Claim link side) i k plain may static e = absurd static
+row_gone n (Know x) i k plain may static e = ap (λ (ls : List Link). find (is_numbered k) ls) (knower_links (is_enrolled (n.agents i)) x (n.agents i)) ∙ e
 row_gone n Pass i k plain may static e = e
 
 rows_gone : (n : Network) (rows : List Row) (i k : ℕ) → Holds n → ArePlain n → IsRun n rows → IsStatic rows → IsGone n i k → IsGone (after_rows n rows) i k
@@ -241,6 +244,7 @@ same_ends n (Lose link side) l d = (refl, refl)
 same_ends n (Drop link side left) l d = (refl, refl)
 same_ends n (Enrol link side member node) l d = (refl, refl)
 same_ends n (Claim link side) l d = (refl, refl)
+same_ends n (Know x) l d = (refl, refl)
 same_ends n Pass l d = (refl, refl)
 
 all_ends : (n : Network) (rows : List Row) (l : ℕ) (d : Side) → ((after_rows n rows).ends l d ≡ n.ends l d) × ((after_rows n rows).numbers l d ≡ n.numbers l d)

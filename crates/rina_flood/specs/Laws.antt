@@ -9,7 +9,7 @@ use Rattle.rina_agent.specs.Enrolled.{IsAtLeast}
 use Rattle.rina_agent.specs.Items.{took}
 use Rattle.rina_agent.specs.Neighbours.{link_key, link_state}
 use Rattle.rina_agent.specs.Rows.{handled}
-use Rattle.rina_flood.specs.Network.{Side, Near, Far, other, Network, Row, Make, Enrol, Claim, Lose, joins, has_link, stands, on_way, happens, May, IsRun, after_rows, IsStart}
+use Rattle.rina_flood.specs.Network.{Side, Near, Far, other, Network, Row, Make, Know, Enrol, Claim, Lose, joins, has_link, stands, on_way, happens, May, IsRun, after_rows, IsStart}
 
 -- an item of the same key that is at least as new stands in a list
 pub record IsComing (items : List Item) (x : Item) : Type 0 where
@@ -63,9 +63,11 @@ OlderIsNothing = (a : Agent) (now link : ℕ) (x : Item) → is_newer x.version 
 abbrev pub NotBack : Type 0
 NotBack = (a : Agent) (link : ℕ) (x : Item) → waiting_on link (took link a x).agenda ≡ waiting_on link a.agenda
 
--- nobody makes an item of its own under the key of a member's link state: that is made where the member loses a link
+-- nobody makes an item of its own under the key of a member's link state, nor is one known at once: it is made where the member loses
+-- a link
 abbrev pub LeavesLinkState : ℕ → Row → Type 0
 LeavesLinkState address (Make i key value) = key ≡ link_key address → ⊥
+LeavesLinkState address (Know x) = x.key ≡ link_key address → ⊥
 LeavesLinkState address other = Unit {0}
 
 abbrev pub AllLeaveLinkState : ℕ → List Row → Type 0

@@ -5,7 +5,7 @@ use Rattle.rina_alloc.specs.declared.message.FlowMessage.{FlowMessage}
 use Rattle.rina_enrol.specs.declared.message.LinkMessage.{LinkMessage}
 use Rattle.rina_enrol.specs.declared.message.LinkMessage.TheVariants as messages
 use Rattle.rina_newest.specs.declared.item.Item.{Item}
-use Rattle.rina_newest.specs.Newest.{item_of, taken_all, AreTold}
+use Rattle.rina_newest.specs.Newest.{item_of, taken, taken_all, AreTold}
 use Rattle.rina_agent.specs.declared.agent.Agent.{Agent}
 use Rattle.rina_agent.specs.declared.link.Link.{Link}
 use Rattle.rina_agent.specs.declared.message.ManagementMessage.{ManagementMessage}
@@ -153,6 +153,8 @@ pub data Row : Type 0 where
   -- a member asks for an enrolment on a new link, and the member at the other end gets that link
   Enrol : (link : ℕ) (side : Side) (member node : List ℕ) → Row
   Claim : (link : ℕ) (side : Side) → Row
+  -- each enrolled member takes an item at once, without a flood, as where a static flow is bound
+  Know : (x : Item) → Row
   -- a tick passes
   Pass : Row
 
@@ -165,6 +167,26 @@ abbrev pub comes : ManagementMessage → Network → ℕ → ℕ → Network
 comes (ToNeighbour m) n i number = called n i (Handles n.now number m)
 comes (ToMember m) n i number = n
 
+-- a member is enrolled
+abbrev pub is_in : MemberState → Bool
+is_in states.Enrolled = true
+is_in other = false
+
+abbrev pub is_enrolled : Agent → Bool
+is_enrolled a = is_in a.state
+
+-- an enrolled member takes an item
+abbrev pub with_item : Item → Agent → Agent
+with_item x a = if is_enrolled a then record a { items = taken a.items x } else a
+
+-- so does each; the item is made, and offered to all of them
+abbrev pub known : Network → Item → Network
+known n x = record n {
+  agents = λ i. with_item x (n.agents i);
+  made = n.made ++ x ∷ [];
+  offered = λ i. n.offered i ++ (if is_enrolled (n.agents i) then x ∷ [] else []);
+}
+
 abbrev pub happens : Network → Row → Network
 happens n (Make i key value) = called n i (Makes n.now key value)
 happens n (Put link side m) = record n { agents = put_agent (n.ends link side) (with_message (n.agents (n.ends link side)) (n.numbers link side) m) n.agents }
@@ -174,11 +196,20 @@ happens n (Lose link side) = called n (n.ends link side) (Loses n.now (n.numbers
 happens n (Drop link side left) = record n { sent = put_sent link side left n.sent }
 happens n (Enrol link side member node) = called n (n.ends link side) (Enrols (n.numbers link side) member node)
 happens n (Claim link side) = called n (n.ends link side) (Claims (n.numbers link side))
+happens n (Know x) = known n x
 happens n Pass = record n { now = n.now + 1 }
 
 -- a link is new at an end: no link of that member has its number, and the other end is not up
 abbrev pub IsNewLink : Network → ℕ → Side → Type 0
 IsNewLink n l d = (find (is_numbered (n.numbers l d)) (n.agents (n.ends l d)).links ≡ None) × (is_up n l (other d) ≡ false)
+
+-- An item may be known at once: a link that stands and has an enrolled sender has one at its other end too, so that neither is to tell
+-- the other; and the item is no later than now and no more than its maker has counted, and the only one of its key and version
+pub record MayBeKnown (n : Network) (x : Item) : Type 0 where
+  pub both : (l : ℕ) (d : Side) → stands n l d ≡ true → is_enrolled (n.agents (n.ends l d)) ≡ true → is_enrolled (n.agents (n.ends l (other d))) ≡ true
+  pub one : (y : Item) → Contains n.made y → y.key ≡ x.key → y.version ≡ x.version → y ≡ x
+  pub past : x.version.tick ≤ n.now
+  pub counted : x.version.count ≤ (n.agents x.version.origin).last_count
 
 -- When a row may happen: a call is not refused, the message that is taken or handled is the first one, a connection loses messages
 -- only where an end has lost the link, and a new link has a number that no link of its member has
@@ -191,6 +222,7 @@ May n (Lose link side) = spent 1 (n.agents (n.ends link side)).last_count ≡ No
 May n (Drop link side left) = ((has_link n link Near && has_link n link Far) ≡ false) × ((m : ManagementMessage) → Contains left m → Contains (n.sent link side) m)
 May n (Enrol link side member node) = IsNewLink n link side × (spent 1 (n.agents (n.ends link side)).last_invoke ≡ None)
 May n (Claim link side) = IsNewLink n link side
+May n (Know x) = MayBeKnown n x
 May n Pass = Unit {0}
 
 abbrev pub IsRun : Network → List Row → Type 0

@@ -1,8 +1,11 @@
 //! The laws of flooding, over all runs of a network from a start.
 ghost use Rattle.rina_access.specs.declared.rules.Rules.{Rules};
 ghost use Rattle.rina_flood.specs.Gap.{GapBreaks};
+ghost use Rattle.rina_flood.specs.Journals.{ArrivalsAddNone, OffersAdd, OthersAddNone, PassesAdd};
 ghost use Rattle.rina_flood.specs.Laws.{DirectionsOwe, LostIsGone, NewestIsKept, NotBack, OlderIsNothing, OnlyMadeIsSent, OrderIsNothing, QuietIsEqual, QuietTellsLinks};
+ghost use Rattle.rina_flood.specs.Members.{GoesOn, HandlesMessage, KeepsRun, LosesLinkAt, OffersMessage, QuietMembersAgree, StartIsRun, TakesEntry};
 ghost use Rattle.rina_flood.specs.Sample.{SampleSettles};
+ghost use Rattle.rina_flood.specs.Static.{EntriesAreOne, StaticRowsLeaveLinks, StaticStarts, StaticTellsLinks};
 
 /// In each direction of a link whose sender's end is up and whose other end is not lost: of each key that the sender keeps, the other
 /// end keeps an item at least as new, or one is on its way. So where nothing is on its way on the links of a walk, the members at
@@ -47,4 +50,44 @@ pub fn a_run_comes_to_rest()
 /// Why an end of a link comes up in the step in which its items are put there: an item that is made in between is never sent.
 pub fn a_gap_loses_an_item()
     ensures { (rules : Rules) → GapBreaks rules }
+{}
+
+/// A static DIF starts so: its members keep the member items and the link states of all of them, and nothing is on its way. The
+/// link state of each names its links.
+pub fn a_static_dif_starts()
+    ensures starts { StaticStarts }
+    ensures tells { StaticTellsLinks }
+{
+    rina_newest::newest_of_all_takes();
+}
+
+/// What happens to a static DIF leaves the link states of its members to them, and of a directory entry from the start there is one
+/// item.
+pub fn a_static_dif_tells_links_and_entries()
+    ensures links { StaticRowsLeaveLinks }
+    ensures entries { EntriesAreOne }
+{}
+
+/// The members of a static DIF are a network after some run: as they start, as the clock goes on, and after the loss of a link,
+/// a directory entry that all take, a message that is offered to a link and one that is handled. So where all is quiet on a walk
+/// of links, the members at its ends keep the same items, and each keeps the other's link state as the other's links are now.
+pub fn members_are_a_network()
+    ensures start { StartIsRun }
+    ensures goes_on { KeepsRun GoesOn }
+    ensures loses { KeepsRun LosesLinkAt }
+    ensures takes { KeepsRun TakesEntry }
+    ensures offers { KeepsRun OffersMessage }
+    ensures handles { KeepsRun HandlesMessage }
+    ensures quiet { QuietMembersAgree }
+{
+    rina_newest::newest_of_all_takes();
+}
+
+/// Of the texts that a journal of connections tells, an end that offers an entry adds its bytes to what was offered there, and one
+/// that passes the next entry on adds its bytes to what was passed on; what arrives, and what else happens to an end, adds none.
+pub fn a_journal_tells_texts()
+    ensures offers { OffersAdd }
+    ensures passes { PassesAdd }
+    ensures arrivals { ArrivalsAddNone }
+    ensures others { OthersAddNone }
 {}

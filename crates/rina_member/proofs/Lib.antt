@@ -1,12 +1,18 @@
 mod Entering
+mod Handled
 mod Hops
-mod Items
-mod Laying
-mod Lists
+pub mod Items
+pub mod Laying
+pub mod Lists
 mod Losing
 mod Names
+mod Others
 mod Removing
+mod Shortness
 mod Starting
 mod States
+pub mod Tells
+pub mod TellsEnrolled
+pub mod TellsStarting
 pub mod Telling
 pub mod Knowing

@@ -51,7 +51,7 @@ few_step : {A : Type 0} (p : A → Bool) (y : A) (ys : List A) (b : Bool) → le
 few_step p y ys true h = omega (arith, h)
 few_step p y ys false h = omega (arith, h)
 
-keeps_few : {A : Type 0} (p : A → Bool) (xs : List A) → length (filter p xs) ≤ length xs
+pub keeps_few : {A : Type 0} (p : A → Bool) (xs : List A) → length (filter p xs) ≤ length xs
 keeps_few p [] = omega arith
 keeps_few p (y ∷ ys) = few_step p y ys (p y) (keeps_few p ys)
 

@@ -20,7 +20,7 @@ cut None name h = h
 cut (Some k) name h =
     part (length_at (take k name)) (length_at (drop (k + 1) name)) (bytes_at 0 (take k name)) (bad_at (drop (k + 1) name)) (length (take k name) + 1) (drop (k + 1) name) name h
 
-behind_named : (name : List ℕ) → app_at name ≡ Ok name → name_at (behind (position (λ b. b == 47) name) name) ≡ Ok (behind (position (λ b. b == 47) name) name)
+pub behind_named : (name : List ℕ) → app_at name ≡ Ok name → name_at (behind (position (λ b. b == 47) name) name) ≡ Ok (behind (position (λ b. b == 47) name) name)
 unfolding app_at slash_in
 behind_named name h = cut (position (λ b. b == 47) name) name h
 

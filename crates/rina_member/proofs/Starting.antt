@@ -36,7 +36,7 @@ start_of members plans it h = ⊎_elim
     (λ second. (let r = contains_unmap (state_item members plans) members it second in (r.0, r.1, inr r.2)))
     (Contains-append_cases (map member_item members) (map (state_item members plans) members) it h)
 
-held_of : (members : List Member) (plans : List LinkPlan) (it : Item) → Contains (items_held members plans) it → IsOf members plans it
+pub held_of : (members : List Member) (plans : List LinkPlan) (it : Item) → Contains (items_held members plans) it → IsOf members plans it
 held_of members plans it h = start_of members plans it (⊎_elim (λ none. absurd (in_none it none)) (λ its. its) (from_all [] (start_items members plans) it h))
 
 -- each is of the version of the start

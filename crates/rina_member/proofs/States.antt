@@ -41,7 +41,7 @@ first_text own (b ∷ text) ns some = text_behind own b text ns
 some_text : (n : Neighbour) → 0 < length (neighbour_text n)
 some_text n = omega (arith, length-append (decimal n.address) (58 ∷ decimal n.weight))
 
-joined_text : (own : ℕ) (ns : List Neighbour) → fold joined [] ns ≡ claims_text (map (edge_by own) ns)
+pub joined_text : (own : ℕ) (ns : List Neighbour) → fold joined [] ns ≡ claims_text (map (edge_by own) ns)
 joined_text own [] = refl
 joined_text own (n ∷ ns) = first_text own (neighbour_text n) ns (some_text n)
 
@@ -61,7 +61,7 @@ rises_step out ns links z (Some a) more h =
     (λ rest. inr (tail a others z rest))
     (more h)
 
-rises_from : (out : Option ℕ) (ns : List Neighbour) (links : List Managed) (z : Neighbour) → Contains (fold (with_link out) ns links) z → Contains ns z ⊎ Contains (filter_map (neighbour_of out) links) z
+pub rises_from : (out : Option ℕ) (ns : List Neighbour) (links : List Managed) (z : Neighbour) → Contains (fold (with_link out) ns links) z → Contains ns z ⊎ Contains (filter_map (neighbour_of out) links) z
 rises_from out ns [] z h = inl h
 rises_from out ns (l ∷ links) z h = rises_step out ns links z (neighbour_of out l) (λ c. rises_from out (with_any ns (neighbour_of out l)) links z c) h
 

@@ -1,13 +1,24 @@
 -- What each event makes of the management of a member: of its items, and of the objects that it shows.
-use Rattle.std.specs.Prelude.{◌≡◌, ℕ, ◌⊎◌, List, [], Some, Ok}
+use Rattle.std.specs.Prelude.{◌≡◌, ℕ, ◌-◌, ◌==◌, ◌⊎◌, Bool, true, List, [], ◌∷◌, Option, Some, None, Result, Ok, Err, if◌then◌else◌}
+use Rattle.std.specs.Global.{Vec}
 use Rattle.std.specs.List.{fold}
 use Rattle.std.specs.Fmt.{decimal}
 use Rattle.rina_base.specs.declared.class.Class.TheVariants as classes
 use Rattle.rina_newest.specs.declared.item.Item.{Item}
-use Rattle.rina_newest.specs.Newest.{item_of, taken, value_at}
+use Rattle.rina_newest.specs.Newest.{is_newer, item_of, kept_at, taken, value_at}
+use Rattle.rina_alloc.specs.Messages.{IsSpelled as IsFlowText}
+use Rattle.rina_enrol.specs.declared.message.LinkMessage.{LinkMessage}
+use Rattle.rina_enrol.specs.declared.message.LinkMessage.TheVariants as messages
+use Rattle.rina_enrol.specs.Messages.{IsInRange, IsSpelled}
 use Rattle.rina_agent.specs.declared.agent.Agent.{Agent}
-use Rattle.rina_agent.specs.Neighbours.{link_key}
-use Rattle.rina_agent.specs.Rows.{lost}
+use Rattle.rina_agent.specs.declared.message.ManagementMessage.{ManagementMessage}
+use Rattle.rina_agent.specs.declared.message.ManagementMessage.TheVariants.{ToMember, ToNeighbour}
+use Rattle.rina_agent.specs.declared.message.Waiting.{Waiting}
+use Rattle.rina_agent.specs.declared.state.AgentError.{AgentError}
+use Rattle.rina_agent.specs.declared.state.AgentError.TheVariants.{CountSpent, Memory}
+use Rattle.rina_agent.specs.Agenda.{without_first}
+use Rattle.rina_agent.specs.Neighbours.{link_key, member_key}
+use Rattle.rina_agent.specs.Rows.{handled, lost}
 use Rattle.rina_dir.specs.Directory.{key_of}
 use Rattle.rina_rib.specs.Rows.{Tree}
 use Rattle.rina_member.specs.declared.management.Management.{Management}
@@ -47,6 +58,77 @@ MayHoldEntry app address old new = (new.agent ≡ old.agent) ⊎ (new.agent ≡ 
 pub record LosesLink (now number : ℕ) (m m' : Management) : Type 0 where
   pub loses : lost m.agent now number ≡ Ok m'.agent
   pub shows : m'.objects ≡ with_live m.objects m'.agent.items (link_key m.agent.address)
+
+-- SDUs that are sent
+
+-- the SDU is the bytes of a message of a neighbour
+pub record IsSdu (message : LinkMessage) (sdu : List ℕ) : Type 0 where
+  pub in_range : IsInRange message
+  pub spelled : IsSpelled message sdu
+
+-- the SDU is the bytes of a message, to a neighbour or about a flow
+abbrev pub IsSduOf : ManagementMessage → List ℕ → Type 0
+IsSduOf (ToNeighbour message) sdu = IsSdu message sdu
+IsSduOf (ToMember message) sdu = IsFlowText message sdu
+
+-- the next SDU is the bytes of the message that waits first; there is none exactly where none waits
+abbrev pub IsNextSdu : Option Waiting → Option (Vec ℕ) → Type 0
+IsNextSdu None None = Unit {0}
+IsNextSdu None (Some sdu) = ⊥
+IsNextSdu (Some waiting) None = ⊥
+IsNextSdu (Some waiting) (Some sdu) = IsSduOf waiting.message sdu.items
+
+-- the first message of a link was sent, and waits no more
+abbrev pub with_sent : Management → ℕ → Management
+with_sent m link = record m { agent = record m.agent { agenda = without_first link m.agent.agenda } }
+
+-- SDUs that come
+
+-- a message is news, but for an item that is not newer than what is kept under its key
+abbrev pub is_news : List Item → LinkMessage → Bool
+is_news items (messages.Item item) = is_newer item.version (kept_at items item.key)
+is_news items (messages.Flood item) = is_newer item.version (kept_at items item.key)
+is_news items message = true
+
+-- the keys of the own items that a member of an address made in a step: of one its link state, of two its member item before that
+abbrev pub keys_made : ℕ → ℕ → List (List ℕ)
+keys_made address made = if made == 0 then [] else (if made == 1 then link_key address ∷ [] else member_key address ∷ link_key address ∷ [])
+
+-- the keys of the items that a message brought, in the order in which they were made or taken: that of the item that came, or of
+-- the own items that the member made, as many as its version count rose
+abbrev pub keys_brought : ℕ → Agent → LinkMessage → List (List ℕ)
+keys_brought last_count g (messages.Item item) = item.key ∷ []
+keys_brought last_count g (messages.Flood item) = item.key ∷ []
+keys_brought last_count g message = keys_made g.address (g.last_count - last_count)
+
+-- the objects of several keys show what these items hold under them
+abbrev pub all_live : Tree → List Item → List (List ℕ) → Tree
+all_live t items keys = fold (λ t key. with_live t items key) t keys
+
+-- a member handled a message that came on a link at a tick: its agent did, and the objects of the items that this brought show what
+-- is live
+pub record Handles (now link : ℕ) (message : LinkMessage) (m m' : Management) : Type 0 where
+  pub handles : handled m.agent now link message ≡ Ok m'.agent
+  pub shows : m'.objects ≡ all_live m.objects m'.agent.items (keys_brought m.agent.last_count m'.agent message)
+
+-- it did, or too few version counts or invoke ids were left; nothing is told where memory ran out
+abbrev pub HandlesMessage : ℕ → ℕ → LinkMessage → Management → Result Management AgentError → Type 0
+HandlesMessage now link message m (Ok m') = Handles now link message m m'
+HandlesMessage now link message m (Err (CountSpent need left)) = handled m.agent now link message ≡ Err (CountSpent need left)
+HandlesMessage now link message m (Err Memory) = Unit {0}
+
+-- the SDU is a message that is news
+pub record IsNews (message : LinkMessage) (sdu : List ℕ) (m : Management) : Type 0 where
+  pub is_sdu : IsSdu message sdu
+  pub news : is_news m.agent.items message ≡ true
+
+-- an SDU came on a link at a tick. Where it is a message that is news, the member handled that. Else nothing changed: it is an item that
+-- is no news, or no message of a neighbour. Such is a message about a flow, which no member handles yet.
+abbrev pub HandlesSdu : ℕ → ℕ → List ℕ → Management → Result (Option Management) AgentError → Type 0
+HandlesSdu now link sdu m (Ok (Some m')) = (message : LinkMessage) × IsNews message sdu m × Handles now link message m m'
+HandlesSdu now link sdu m (Ok None) = (message : LinkMessage) → IsNews message sdu m → ⊥
+HandlesSdu now link sdu m (Err (CountSpent need left)) = (message : LinkMessage) × IsNews message sdu m × (handled m.agent now link message ≡ Err (CountSpent need left))
+HandlesSdu now link sdu m (Err Memory) = Unit {0}
 
 -- Flows
 

@@ -1,16 +1,27 @@
-//! The management of a member of a static DIF: the items of the start, its live links, the next hops over them, and its objects.
+//! The management of a member of a static DIF: the items of the start, its live links, the next hops over them, its objects, and the
+//! SDUs that it sends and handles.
 #![tactic(auto)]
 
 mod edges;
+mod handling;
+mod laws;
 mod links;
 mod loss;
 mod management;
 mod next_hops;
 mod objects;
+mod ranges;
+mod sending;
 mod start;
 mod texts;
 
 pub use edges::{addr_at, edges_from};
+pub use handling::after_sdu;
+pub use laws::{
+    a_member_tells_short_messages, a_member_without_enrolments_takes_items_alone,
+    a_message_changes_the_objects_of_its_items, an_item_that_is_news_is_taken,
+    an_sdu_is_one_message,
+};
 pub use links::live_links;
 pub use loss::without_link;
 pub use management::Management;

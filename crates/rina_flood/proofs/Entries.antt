@@ -1,0 +1,147 @@
+-- What is made where only the rows of a static DIF happen.
+use Rattle.std.proofs.Common.{◌≡◌, ℕ, ◌⊎◌, Bool, true, false, cond, nat_eq, List, ◌∷◌, ◌++◌, Contains, Some, refl, sym, ◌∙◌, ap, subst, inl, inr, []}
+use Rattle.std.specs.Prelude.{codes, find}
+use Rattle.std.specs.Fmt.{decimal}
+use Rattle.std.specs.List.{starts_with}
+use Rattle.std.proofs.lemmas.Bool.{both_ways, false≢true}
+use Rattle.std.proofs.lemmas.List.{append-nil}
+use Rattle.std.proofs.lemmas.List.Elements.{Contains-push_cases}
+use Rattle.rina_enrol.specs.declared.message.LinkMessage.{LinkMessage}
+use Rattle.rina_enrol.specs.declared.message.LinkMessage.TheVariants as messages
+use Rattle.rina_newest.specs.declared.item.Item.{Item}
+use Rattle.rina_newest.specs.Newest.{item_of}
+use Rattle.rina_dir.specs.Directory.{key_of}
+use Rattle.rina_agent.specs.declared.message.ManagementMessage.{ManagementMessage}
+use Rattle.rina_agent.specs.declared.message.ManagementMessage.TheVariants.{ToNeighbour, ToMember}
+use Rattle.rina_agent.specs.Enrolments.{is_numbered}
+use Rattle.rina_agent.specs.Items.{own_item}
+use Rattle.rina_agent.specs.Neighbours.{link_key, link_state, member_key}
+use Rattle.rina_agent.specs.Rows.{was_up}
+use Rattle.rina_plan.specs.declared.dif.LinkPlan.{LinkPlan}
+use Rattle.rina_data.specs.declared.settings.Member.{Member}
+use Rattle.rina_member.specs.Managements.{entry_of}
+use Rattle.rina_member.specs.Start.{first_version, start_items}
+use Rattle.rina_member.proofs.Items.{entry_not_link}
+use Rattle.rina_flood.specs.Network.{Side, Network, Row, Make, Put, Take, Handle, Lose, Drop, Know, Pass, Enrol, Claim, happens, May, IsRun, after_rows, IsStart}
+use Rattle.rina_flood.specs.Laws.{LeavesLinkState, AllLeaveLinkState, MakesNoLink, IsStatic}
+use Rattle.rina_flood.specs.Static.{IsFirstEntry, IsOfStatic, AreOfStatic}
+use Rattle.rina_flood.proofs.All.{row_holds, begin_holds}
+use Rattle.rina_flood.proofs.Holds.{is_plain, ArePlain, Holds}
+use Rattle.rina_flood.proofs.Plain.{first_plain, row_plain, start_plain}
+use Rattle.rina_flood.proofs.Static.{told_of}
+
+-- The rows leave links and link states
+
+pub makes_no_link : (row : Row) → IsOfStatic row → MakesNoLink row
+makes_no_link (Make i key value) of = absurd of
+makes_no_link (Put link side m) of = tt
+makes_no_link (Take link side m) of = tt
+makes_no_link (Handle link side m rest) of = tt
+makes_no_link (Lose link side) of = tt
+makes_no_link (Drop link side left) of = tt
+makes_no_link (Enrol link side member node) of = of
+makes_no_link (Claim link side) of = of
+makes_no_link (Know x) of = tt
+makes_no_link Pass of = tt
+
+leaves : (address : ℕ) (row : Row) → IsOfStatic row → LeavesLinkState address row
+leaves address (Make i key value) of = absurd of
+leaves address (Put link side m) of = tt
+leaves address (Take link side m) of = tt
+leaves address (Handle link side m rest) of = tt
+leaves address (Lose link side) of = tt
+leaves address (Drop link side left) of = tt
+leaves address (Enrol link side member node) of = tt
+leaves address (Claim link side) of = tt
+leaves address (Know x) of = λ e. entry_not_link of.0 address (sym (ap (λ (y : Item). y.key) of.2) ∙ e)
+leaves address Pass of = tt
+
+make_no_links : (rows : List Row) → AreOfStatic rows → IsStatic rows
+make_no_links [] of = tt
+make_no_links (row ∷ rows) of = (makes_no_link row of.0, make_no_links rows of.1)
+
+all_leave : (address : ℕ) (rows : List Row) → AreOfStatic rows → AllLeaveLinkState address rows
+all_leave address [] of = tt
+all_leave address (row ∷ rows) of = (leaves address row of.0, all_leave address rows of.1)
+
+pub static_rows : (rows : List Row) → AreOfStatic rows → IsStatic rows × ((address : ℕ) → AllLeaveLinkState address rows)
+static_rows rows of = (make_no_links rows of, λ address. all_leave address rows of)
+
+-- What is made
+
+-- a directory entry from the start, a member item or a link state
+abbrev pub IsKnown : Item → Type 0
+IsKnown x = IsFirstEntry x ⊎ ((address : ℕ) × ((x.key ≡ member_key address) ⊎ (x.key ≡ link_key address)))
+
+pub none_more : (made : List Item) (x : Item) → Contains (made ++ []) x → Contains made x
+none_more made x e = (let P : List Item → Type 0 = λ items. Contains items x in subst P (append-nil made) e)
+
+pub near_made : (n : Network) (link : ℕ) (side : Side) (m : LinkMessage) (rest : List ManagementMessage) (x : Item) → is_plain (ToNeighbour m) ≡ true → Contains (happens n (Handle link side (ToNeighbour m) rest)).made x → Contains n.made x
+near_made n link side (messages.Connect invoke joiner member) rest x plain e = absurd (both_ways true (sym plain) refl)
+near_made n link side (messages.ConnectR invoke denied) rest x plain e = absurd (both_ways true (sym plain) refl)
+near_made n link side (messages.Start invoke address) rest x plain e = absurd (both_ways true (sym plain) refl)
+near_made n link side (messages.StartR invoke) rest x plain e = absurd (both_ways true (sym plain) refl)
+near_made n link side (messages.Item y) rest x plain e = none_more n.made x e
+near_made n link side (messages.Stop invoke) rest x plain e = absurd (both_ways true (sym plain) refl)
+near_made n link side (messages.StopR invoke) rest x plain e = absurd (both_ways true (sym plain) refl)
+near_made n link side (messages.Flood y) rest x plain e = none_more n.made x e
+
+abbrev pub state_of_loss : Network → ℕ → ℕ → Item
+state_of_loss n i k = own_item (n.agents i) n.now (link_key (n.agents i).address) (Some (link_state (Some k) (n.agents i).links))
+
+lost_made : (n : Network) (i k : ℕ) (up : Bool) (x : Item) → Contains (n.made ++ cond up (state_of_loss n i k ∷ []) []) x → Contains n.made x ⊎ IsKnown x
+lost_made n i k true x e = elim (Contains-push_cases n.made (state_of_loss n i k) x e) [
+  | inl old ↦ inl old
+  | inr is ↦ inr (inr ((n.agents i).address, inr (sym (ap (λ (y : Item). y.key) is))))
+]
+lost_made n i k false x e = inl (none_more n.made x e)
+
+row_made : (n : Network) (row : Row) (x : Item) → ArePlain n → May n row → IsOfStatic row → Contains (happens n row).made x → Contains n.made x ⊎ IsKnown x
+row_made n (Make i key value) x plain may of e = absurd of
+row_made n (Put link side m) x plain may of e = inl e
+row_made n (Take link side m) x plain may of e = inl (none_more n.made x e)
+row_made n (Handle link side (ToNeighbour m) rest) x plain may of e = inl (near_made n link side m rest x (first_plain n link side (ToNeighbour m) rest plain may) e)
+row_made n (Handle link side (ToMember m) rest) x plain may of e = inl e
+row_made n (Lose link side) x plain may of e = lost_made n (n.ends link side) (n.numbers link side) (was_up (find (is_numbered (n.numbers link side)) (n.agents (n.ends link side)).links)) x e
+row_made n (Drop link side left) x plain may of e = inl e
+row_made n (Enrol link side member node) x plain may of e = absurd of
+row_made n (Claim link side) x plain may of e = absurd of
+row_made n (Know y) x plain may of e = elim (Contains-push_cases n.made y x e) [
+  | inl old ↦ inl old
+  | inr is ↦ inr (inl (of.0, of.1, sym is ∙ of.2, of.3))
+]
+row_made n Pass x plain may of e = inl e
+
+rows_made : (n : Network) (rows : List Row) → Holds n → ArePlain n → IsRun n rows → AreOfStatic rows → ((x : Item) → Contains n.made x → IsKnown x) → (x : Item) → Contains (after_rows n rows).made x → IsKnown x
+rows_made n [] h plain run of known x e = known x e
+rows_made n (row ∷ rows) h plain run of known x e =
+    rows_made (happens n row) rows (row_holds n row h run.0) (row_plain n row h plain run.0 (makes_no_link row of.0)) run.1 of.1
+    (λ y has. elim (row_made n row y plain run.0 of.0 has) [ inl old ↦ known y old | inr is ↦ is ]) x e
+
+start_known : (members : List Member) (plans : List LinkPlan) (x : Item) → Contains (start_items members plans) x → IsKnown x
+start_known members plans x e = (let r = told_of members plans x e in elim r.2 [
+  | inl is ↦ inr (r.0.addr, inl (sym (ap (λ (y : Item). y.key) is)))
+  | inr is ↦ inr (r.0.addr, inr (sym (ap (λ (y : Item). y.key) is)))
+])
+
+entry_not_member : (app : List ℕ) (address : ℕ) → key_of app ≡ member_key address → ⊥
+unfolding key_of
+entry_not_member app address e = false≢true (ap (λ (k : List ℕ). starts_with nat_eq k (codes "/member/")) e)
+
+known_entry : (x : Item) (app : List ℕ) (address : ℕ) → IsKnown x → x.key ≡ key_of app → x.version ≡ first_version address → x ≡ entry_of app address
+known_entry x app address (inl entry) k v =
+    let is = entry.2 in
+    let same : key_of entry.0 ≡ key_of app = sym (ap (λ (y : Item). y.key) is) ∙ k in
+    let place : entry.1 ≡ address = sym (ap (λ (y : Item). y.version.origin) is) ∙ ap (λ w. w.origin) v in
+    is ∙ ap (λ (q : List ℕ). item_of q (first_version entry.1) (Some (decimal entry.1))) same ∙ ap (λ (a : ℕ). item_of (key_of app) (first_version a) (Some (decimal a))) place
+known_entry x app address (inr other) k v = elim other.1 [
+  | inl is ↦ absurd (entry_not_member app other.0 (sym k ∙ is))
+  | inr is ↦ absurd (entry_not_link app other.0 (sym k ∙ is))
+]
+
+pub entries_are_one : (n : Network) (members : List Member) (plans : List LinkPlan) (rows : List Row) (x : Item) (app : List ℕ) (address : ℕ) → IsStart n (start_items members plans) → IsRun n rows → AreOfStatic rows
+    → Contains (after_rows n rows).made x → x.key ≡ key_of app → x.version ≡ first_version address → x ≡ entry_of app address
+entries_are_one n members plans rows x app address s run of e k v =
+    let told = start_items members plans in
+    let P : Item → List Item → Type 0 = λ y items. Contains items y in
+    known_entry x app address (rows_made n rows (begin_holds n told s) (start_plain n told s) run of (λ y has. start_known members plans y (subst (P y) s.made has)) x e) k v

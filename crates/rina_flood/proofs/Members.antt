@@ -1,0 +1,405 @@
+-- The members of a static DIF are a network after a run.
+use Rattle.std.proofs.Common.{◌≡◌, ℕ, zero, suc, ◌+◌, ◌≤◌, ◌⊎◌, Bool, true, false, ◌==◌, cond, List, ◌∷◌, ◌++◌, Option, Some, None, drop, length, map, slice_get, slice_set, refl, sym, ◌∙◌, ap, subst, inl, inr, arith, [], Contains, ◌-◌, ◌^◌, ◌<◌}
+use Rattle.std.specs.Prelude.{find, is_some, option_map, option_and_then}
+use Rattle.std.proofs.lemmas.Bool.{and_parts, both_ways, cases_Bool, eq-eqb, eqb-true}
+use Rattle.std.proofs.lemmas.List.{drop-append-le, length-map, length-set, length_push}
+use Rattle.std.proofs.lemmas.Option.{same_Some, slice_get-map, slice_get_within}
+use Rattle.rina_access.specs.declared.rules.Rules.{Rules}
+use Rattle.rina_enrol.specs.declared.message.LinkMessage.{LinkMessage}
+use Rattle.rina_enrol.specs.Messages.{IsInRange, IsSpelled}
+use Rattle.rina_iface.proofs.Changed.{set_at}
+use Rattle.rina_newest.specs.declared.item.Item.{Item}
+use Rattle.rina_agent.specs.declared.agent.Agent.{Agent}
+use Rattle.rina_agent.specs.declared.link.Link.{Link}
+use Rattle.rina_agent.specs.declared.message.ManagementMessage.{ManagementMessage}
+use Rattle.rina_agent.specs.declared.message.ManagementMessage.TheVariants.{ToNeighbour, ToMember}
+use Rattle.rina_agent.specs.declared.state.MemberState.TheVariants.{Enrolled}
+use Rattle.rina_agent.specs.Agenda.{first_on, waiting_on, without_first}
+use Rattle.rina_agent.specs.Counts.{spent}
+use Rattle.rina_agent.specs.Enrolled.{Event, Handles, Loses, Takes, after, done}
+use Rattle.rina_agent.specs.Enrolments.{is_numbered}
+use Rattle.rina_plan.specs.declared.dif.LinkPlan.{LinkPlan}
+use Rattle.rina_data.specs.declared.settings.Member.{Member}
+use Rattle.rina_data.proofs.Finding.{there}
+use Rattle.rina_member.specs.Knowing.{IsLaidOut}
+use Rattle.rina_member.specs.Managements.{entry_of, takes_item}
+use Rattle.rina_member.specs.Start.{start_items}
+use Rattle.rina_member.proofs.Laying.{small_address}
+use Rattle.rina_flood.specs.Network.{Side, other, Network, Row, Take, Handle, Lose, Know, Pass, happens, put_agent, put_sent, is_enrolled, is_in, known, with_item, MayBeKnown, May, IsRun, after_rows, IsStart, has_link}
+use Rattle.rina_flood.specs.Static.{LinkEnd, IsOfStatic, AreOfStatic, agent_at, end_address, end_number, end_place, or_nobody, place_at, static_network}
+use Rattle.rina_flood.specs.Members.{Adds, AreSame, AreTexts, IsAgentAt, HasNoMember, HandlesMessage, IsNetworkOf, IsRunOf, IsText, LosesLinkAt, MembersSeen, OffersMessage, StartsWith, TakesEntry, GoesOn}
+use Rattle.rina_flood.proofs.Bounds.{waiting_fits}
+use Rattle.rina_flood.proofs.Calls.{at_itself, at_others}
+use Rattle.rina_flood.proofs.Entries.{entries_are_one}
+use Rattle.rina_flood.proofs.Known.{knower_links}
+use Rattle.rina_flood.proofs.Messages.{first_waits}
+use Rattle.rina_flood.proofs.Places.{drop_at, in_first, direction_case, other_back}
+use Rattle.rina_flood.proofs.Settles.{Greatest}
+use Rattle.rina_flood.proofs.Static.{address_is, found_at, found_place, none_at, place_is, places_apart, static_fresh, static_starts}
+use Rattle.rina_flood.proofs.Stating.{static_tells}
+
+-- Rows at the end of a run
+
+run_more : (n : Network) (rows : List Row) (row : Row) → IsRun n rows → May (after_rows n rows) row → IsRun n (rows ++ row ∷ [])
+run_more n [] row run may = (may, tt)
+run_more n (first ∷ rows) row run may = (run.0, run_more (happens n first) rows row run.1 may)
+
+after_more : (n : Network) (rows : List Row) (row : Row) → after_rows n (rows ++ row ∷ []) ≡ happens (after_rows n rows) row
+after_more n [] row = refl
+after_more n (first ∷ rows) row = after_more (happens n first) rows row
+
+static_more : (rows : List Row) (row : Row) → AreOfStatic rows → IsOfStatic row → AreOfStatic (rows ++ row ∷ [])
+static_more [] row are is = (is, tt)
+static_more (first ∷ rows) row are is = (are.0, static_more rows row are.1 is)
+
+-- Texts
+
+texts_last : (ms : List ManagementMessage) (texts : List (List ℕ)) (m : ManagementMessage) (text : List ℕ) → AreTexts ms texts → IsText m text → AreTexts (ms ++ m ∷ []) (texts ++ text ∷ [])
+texts_last [] [] m text are is = (is, tt)
+texts_last [] (t ∷ texts) m text are is = absurd are
+texts_last (first ∷ ms) [] m text are is = absurd are
+texts_last (first ∷ ms) (t ∷ texts) m text are is = (are.0, texts_last ms texts m text are.1 is)
+
+texts_first : (ms : List ManagementMessage) (text : List ℕ) (texts : List (List ℕ)) → AreTexts ms (text ∷ texts) → (m : ManagementMessage) × (rest : List ManagementMessage) × (ms ≡ m ∷ rest) × IsText m text × AreTexts rest texts
+texts_first [] text texts are = absurd are
+texts_first (m ∷ ms) text texts are = (m, ms, refl, are.0, are.1)
+
+-- a text is of one message, where it is read as that
+text_is : (m : LinkMessage) (n : ManagementMessage) (text : List ℕ) → ((k : LinkMessage) → IsInRange k → IsSpelled k text → k ≡ m) → IsText n text → n ≡ ToNeighbour m
+text_is m (ToNeighbour k) text read is = ap ToNeighbour (read k is.0 is.1)
+text_is m (ToMember f) text read is = absurd is
+
+grows : (place : ℕ) (text : List ℕ) (old new : ℕ → List (List ℕ)) → Adds place text old new → (k : ℕ) → length (old k) ≤ length (new k)
+grows place text old new adds k = elim (cases_Bool (k == place)) [
+  | inl e ↦
+      (let is = eqb-true k place e in
+      let more : length (new k) ≡ length (old k) + 1 = ap (λ (j : ℕ). length (new j)) is ∙ ap (λ (ts : List (List ℕ)). length ts) adds.here ∙ length_push (old place) text ∙ ap (λ (j : ℕ). length (old j) + 1) (sym is) in
+      omega (arith, more))
+  | inr e ↦
+      (let same : length (new k) ≡ length (old k) = ap (λ (ts : List (List ℕ)). length ts) (adds.elsewhere k (λ is. both_ways (k == place) e (eq-eqb k place is))) in
+      omega (arith, same))
+]
+
+same_direction : (link : ℕ) (side : Side) (l : ℕ) (d : Side) → ((l ≡ link) × (d ≡ side)) ⊎ ((l ≡ link) × (d ≡ side) → ⊥)
+same_direction link side l d = direction_case {X = Bool} (λ b. ((l ≡ link) × (d ≡ side)) ⊎ ((l ≡ link) × (d ≡ side) → ⊥)) link side l d true true (λ a b. inl (a, b)) (λ apart. inr apart)
+
+-- What stands, and one row more
+
+module _ (plans : List LinkPlan) (s : MembersSeen) (r : IsRunOf plans s) where
+  abbrev pub net : Network
+  net = after_rows r.start r.rows
+
+  more_rows : (s' : MembersSeen) (row : Row) → s'.members ≡ s.members → May net row → IsOfStatic row → IsNetworkOf s' (happens net row) → IsRunOf plans s'
+  more_rows s' row same may of is =
+      let P : List Member → Type 0 = λ ms. IsLaidOut ms plans in
+      let Q : List Member → Type 0 = λ ms. IsStart r.start (start_items ms plans) in
+      let R : Network → Type 0 = λ n. IsNetworkOf s' n in
+      record {
+        laid_out = subst P (sym same) r.laid_out;
+        start = r.start;
+        rows = r.rows ++ row ∷ [];
+        starts = subst Q (sym same) r.starts;
+        fresh = r.fresh;
+        tells = λ m among. r.tells m (let T : List Member → Type 0 = λ ms. Contains ms m in subst T same among);
+        run = run_more r.start r.rows row r.run may;
+        static = static_more r.rows row r.static of;
+        is = subst R (sym (after_more r.start r.rows row)) is;
+      }
+
+  -- the member at an end of a link in the network
+  pub at_end : (l : ℕ) (d : Side) (e : LinkEnd) (a : Agent) → IsAgentAt s l d e a → (m : Member) × (slice_get s.members e.member ≡ Some m) × (net.ends l d ≡ m.addr) × (net.numbers l d ≡ e.number) × (net.agents m.addr ≡ a)
+  at_end l d e a at =
+      let within = slice_get_within s.agents e.member a at.is_agent in
+      let aligned = r.is.aligned in
+      let m = there s.members e.member (omega (arith, within, aligned)) in
+      let ends = r.is.ends l d e m.0 at.is_end m.1 in
+      (m.0, m.1, ends.0, ends.1, r.is.agents e.member m.0 a m.1 at.is_agent)
+
+  -- the agent of one member changes
+  module _ (place : ℕ) (m : Member) (a b : Agent) (is_m : slice_get s.members place ≡ Some m) (is_a : slice_get s.agents place ≡ Some a) where
+    put_agents : (k : ℕ) (x : Member) (c : Agent) → slice_get s.members k ≡ Some x → slice_get (slice_set s.agents place b) k ≡ Some c → put_agent m.addr b net.agents x.addr ≡ c
+    put_agents k x c is_x is_c = elim (set_at s.agents place k a b c is_a is_c) [
+      | inl same ↦
+          (let who : x ≡ m = same_Some x m (sym is_x ∙ ap (λ (j : ℕ). slice_get s.members j) same.0 ∙ is_m) in
+          ap (λ (y : Member). put_agent m.addr b net.agents y.addr) who ∙ at_itself m.addr b net.agents ∙ sym same.1)
+      | inr other ↦ at_others m.addr b net.agents x.addr (λ e. other.0 (place_is s.members plans r.laid_out k place x m is_x is_m e)) ∙ r.is.agents k x c is_x other.1
+    ]
+
+    put_others : (address : ℕ) → HasNoMember s.members address → (put_agent m.addr b net.agents address).links ≡ []
+    put_others address none = ap (λ (c : Agent). c.links) (at_others m.addr b net.agents address (λ e. none place m is_m (sym e))) ∙ r.is.others address none
+
+    changed : (agents : ℕ → Agent) (flying : ℕ → Side → List ManagementMessage) (made : List Item) (offered : ℕ → List Item) (sent got : ℕ → List (List ℕ)) → ((i : ℕ) → agents i ≡ put_agent m.addr b net.agents i)
+        → ((l : ℕ) (d : Side) → length (got (end_place l (other d))) ≤ length (sent (end_place l d)))
+        → ((l : ℕ) (d : Side) → AreTexts (flying l d) (drop (length (got (end_place l (other d)))) (sent (end_place l d))))
+        → IsNetworkOf (record s { agents = slice_set s.agents place b; sent = sent; got = got }) (record net { agents = agents; sent = flying; made = made; offered = offered })
+    changed agents flying made offered sent got are fewer texts = record {
+      now = r.is.now;
+      aligned = length-set s.agents place b ∙ r.is.aligned;
+      agents = λ k x c is_x is_c. are x.addr ∙ put_agents k x c is_x is_c;
+      others = λ address none. ap (λ (c : Agent). c.links) (are address) ∙ put_others address none;
+      ends = r.is.ends;
+      fewer = fewer;
+      sent = texts;
+    }
+
+-- The same members, ticks and texts
+
+same_texts : (plans : List LinkPlan) (s : MembersSeen) (sent got : ℕ → List (List ℕ)) → IsRunOf plans s → AreSame s.sent sent → AreSame s.got got → IsRunOf plans (record s { sent = sent; got = got })
+same_texts plans s sent got r same_sent same_got = record {
+  laid_out = r.laid_out;
+  start = r.start;
+  rows = r.rows;
+  starts = r.starts;
+  fresh = r.fresh;
+  tells = r.tells;
+  run = r.run;
+  static = r.static;
+  is = record {
+    now = r.is.now;
+    aligned = r.is.aligned;
+    agents = r.is.agents;
+    others = r.is.others;
+    ends = r.is.ends;
+    fewer = λ l d.
+        (let was = r.is.fewer l d in
+        let offers = ap (λ (ts : List (List ℕ)). length ts) (same_sent (end_place l d)) in
+        let handled = ap (λ (ts : List (List ℕ)). length ts) (same_got (end_place l (other d))) in
+        omega (arith, was, offers, handled));
+    sent = λ l d.
+        (let K : List (List ℕ) → Type 0 = λ ts. AreTexts ((after_rows r.start r.rows).sent l d) (drop (length ts) (sent (end_place l d))) in
+        let P : List (List ℕ) → Type 0 = λ ts. AreTexts ((after_rows r.start r.rows).sent l d) (drop (length (s.got (end_place l (other d)))) ts) in
+        subst K (sym (same_got (end_place l (other d)))) (subst P (sym (same_sent (end_place l d))) (r.is.sent l d)));
+  };
+}
+
+alike_run : (plans : List LinkPlan) (s new : MembersSeen) → IsRunOf plans s → new.members ≡ s.members → new.ends ≡ s.ends → new.now ≡ s.now → new.agents ≡ s.agents → AreSame s.sent new.sent → AreSame s.got new.got → IsRunOf plans new
+alike_run plans s new r members ends now agents sent got =
+    let M : List Member → Type 0 = λ ms. IsRunOf plans (record s { members = ms }) in
+    let E : List LinkEnd → Type 0 = λ es. IsRunOf plans (record s { members = new.members; ends = es }) in
+    let T : ℕ → Type 0 = λ t. IsRunOf plans (record s { members = new.members; ends = new.ends; now = t }) in
+    let A : List Agent → Type 0 = λ as'. IsRunOf plans (record s { members = new.members; ends = new.ends; now = new.now; agents = as' }) in
+    let moved = subst A (sym agents) (subst T (sym now) (subst E (sym ends) (subst M (sym members) r))) in
+    same_texts plans (record s { members = new.members; ends = new.ends; now = new.now; agents = new.agents }) new.sent new.got moved sent got
+
+-- what a call makes of the agents, where the address, the agent and the event are known
+called_at : (agents : ℕ → Agent) (i address : ℕ) (a b : Agent) (e f : Event) → i ≡ address → agents address ≡ a → e ≡ f → after a f ≡ b → (j : ℕ) → put_agent i (after (agents i) e) agents j ≡ put_agent address b agents j
+called_at agents i address a b e f is_i is_a is_e is_b j =
+    ap (λ (k : ℕ). put_agent k (after (agents k) e) agents j) is_i
+    ∙ ap (λ (c : Agent). put_agent address (after c e) agents j) is_a
+    ∙ ap (λ (g : Event). put_agent address (after a g) agents j) is_e
+    ∙ ap (λ (c : Agent). put_agent address c agents j) is_b
+
+-- The clock goes on
+
+one_tick : (plans : List LinkPlan) (s : MembersSeen) → IsRunOf plans s → IsRunOf plans (record s { now = s.now + 1 })
+one_tick plans s r = more_rows plans s r (record s { now = s.now + 1 }) Pass refl tt tt (record {
+  now = ap (λ (t : ℕ). t + 1) r.is.now;
+  aligned = r.is.aligned;
+  agents = r.is.agents;
+  others = r.is.others;
+  ends = r.is.ends;
+  fewer = r.is.fewer;
+  sent = r.is.sent;
+})
+
+more_ticks : (plans : List LinkPlan) (s : MembersSeen) (count : ℕ) → IsRunOf plans s → IsRunOf plans (record s { now = s.now + count })
+more_ticks plans s zero r = (let P : ℕ → Type 0 = λ t. IsRunOf plans (record s { now = t }) in let none : s.now ≡ s.now + zero = omega arith in subst P none r)
+more_ticks plans s (suc count) r =
+    let P : ℕ → Type 0 = λ t. IsRunOf plans (record s { now = t }) in
+    let one : (s.now + count) + 1 ≡ s.now + suc count = omega arith in
+    subst P one (one_tick plans (record s { now = s.now + count }) (more_ticks plans s count r))
+
+pub goes_on_run : (plans : List LinkPlan) (old new : MembersSeen) → IsRunOf plans old → GoesOn old new → IsRunOf plans new
+goes_on_run plans old new r h =
+    let Q : ℕ → Type 0 = λ t. IsRunOf plans (record old { now = t }) in
+    let later = h.now in
+    let all : old.now + (new.now - old.now) ≡ new.now = omega (arith, later) in
+    alike_run plans (record old { now = new.now }) new (subst Q all (more_ticks plans old (new.now - old.now) r)) h.stays.members h.stays.ends refl h.agents h.sent h.got
+
+-- A link is lost
+
+pub loses_run : (plans : List LinkPlan) (old new : MembersSeen) → IsRunOf plans old → LosesLinkAt old new → IsRunOf plans new
+loses_run plans old new r h =
+    let n = net plans old r in
+    let at = at_end plans old r h.link h.side h.end h.agent h.at in
+    let event : Loses n.now (n.numbers h.link h.side) ≡ Loses old.now h.end.number = ap (λ (t : ℕ). Loses t (n.numbers h.link h.side)) r.is.now ∙ ap (λ (k : ℕ). Loses old.now k) at.3 in
+    let may : spent 1 (n.agents (n.ends h.link h.side)).last_count ≡ None = ap (λ (i : ℕ). spent 1 (n.agents i).last_count) at.2 ∙ ap (λ (c : Agent). spent 1 c.last_count) at.4 ∙ h.room in
+    let are = called_at n.agents (n.ends h.link h.side) at.0.addr h.agent h.after (Loses n.now (n.numbers h.link h.side)) (Loses old.now h.end.number) at.2 at.4 event (ap (λ o. done h.agent o) h.loses) in
+    alike_run plans (record old { agents = slice_set old.agents h.end.member h.after }) new (more_rows plans old r (record old { agents = slice_set old.agents h.end.member h.after }) (Lose h.link h.side) refl may tt
+    (changed plans old r h.end.member at.0 h.agent h.after at.1 h.at.is_agent _ n.sent _ _ old.sent old.got are r.is.fewer r.is.sent)) h.stays.members h.stays.ends h.now h.agents h.sent h.got
+
+-- A message is offered
+
+pub offers_run : (plans : List LinkPlan) (old new : MembersSeen) → IsRunOf plans old → OffersMessage old new → IsRunOf plans new
+offers_run plans old new r h =
+    let n = net plans old r in
+    let l = h.link in
+    let d = h.side in
+    let message = ToNeighbour h.message in
+    let at = at_end plans old r l d h.end h.agent h.at in
+    let after_it : Agent = record h.agent { agenda = without_first h.end.number h.agent.agenda } in
+    let may : first_on (n.numbers l d) (n.agents (n.ends l d)).agenda ≡ Some (record { link = n.numbers l d; message = message }) =
+    ap (λ (k : ℕ). first_on k (n.agents (n.ends l d)).agenda) at.3
+    ∙ ap (λ (i : ℕ). first_on h.end.number (n.agents i).agenda) at.2
+    ∙ ap (λ (c : Agent). first_on h.end.number c.agenda) at.4
+    ∙ h.first
+    ∙ ap (λ (k : ℕ). Some (record { link = k; message = message })) (sym at.3) in
+    let among : Contains (waiting_on (n.numbers l d) (n.agents (n.ends l d)).agenda) message = (let W : List ManagementMessage → Type 0 = λ ms. Contains ms message in
+    subst W (sym (first_waits (n.numbers l d) (n.agents (n.ends l d)).agenda (record { link = n.numbers l d; message = message }) may)) (in_first message (waiting_on (n.numbers l d) (without_first (n.numbers l d) (n.agents (n.ends l d)).agenda)))) in
+    let early : n.now < 2 ^ 32 = (let now = r.is.now in let small = h.early in omega (arith, now, small)) in
+    let fits = waiting_fits r.start old.members plans r.rows r.laid_out r.starts r.run r.static r.fresh l d h.message early among in
+    let are = called_at n.agents (n.ends l d) at.0.addr h.agent after_it (Takes (n.numbers l d)) (Takes h.end.number) at.2 at.4 (ap Takes at.3) refl in
+    let fewer : (k : ℕ) (e : Side) → length (old.got (end_place k (other e))) ≤ length (new.sent (end_place k e)) = λ k e. (let was = r.is.fewer k e in let more = grows (end_place l d) h.text old.sent new.sent h.sent (end_place k e) in omega (arith, was, more)) in
+    let handled_there : ℕ = length (old.got (end_place l (other d))) in
+    let longer : drop handled_there (new.sent (end_place l d)) ≡ drop handled_there (old.sent (end_place l d)) ++ h.text ∷ [] = ap (λ (ts : List (List ℕ)). drop handled_there ts) h.sent.here ∙ drop-append-le handled_there (old.sent (end_place l d)) (h.text ∷ []) (r.is.fewer l d) in
+    let T : List (List ℕ) → Type 0 = λ ts. AreTexts (n.sent l d ++ message ∷ []) ts in
+    let here : AreTexts (n.sent l d ++ message ∷ []) (drop handled_there (new.sent (end_place l d))) = subst T (sym longer) (texts_last (n.sent l d) (drop handled_there (old.sent (end_place l d))) message h.text (r.is.sent l d) (fits, h.written)) in
+    let texts : (k : ℕ) (e : Side) → AreTexts (put_sent l d (n.sent l d ++ message ∷ []) n.sent k e) (drop (length (old.got (end_place k (other e)))) (new.sent (end_place k e))) = λ k e.
+    direction_case (λ (ms : List ManagementMessage). AreTexts ms (drop (length (old.got (end_place k (other e)))) (new.sent (end_place k e)))) l d k e (n.sent l d ++ message ∷ []) (n.sent k e)
+    (λ a b. (let Q : ℕ → Type 0 = λ j. AreTexts (n.sent l d ++ message ∷ []) (drop (length (old.got (end_place j (other e)))) (new.sent (end_place j e))) in
+    let R : Side → Type 0 = λ t. AreTexts (n.sent l d ++ message ∷ []) (drop (length (old.got (end_place l (other t)))) (new.sent (end_place l t))) in
+    subst Q (sym a) (subst R (sym b) here)))
+    (λ apart. (let U : List (List ℕ) → Type 0 = λ ts. AreTexts (n.sent k e) (drop (length (old.got (end_place k (other e)))) ts) in
+    subst U (sym (h.sent.elsewhere (end_place k e) (λ same. apart (places_apart k e l d same)))) (r.is.sent k e))) in
+    alike_run plans (record old { agents = slice_set old.agents h.end.member after_it; sent = new.sent }) new (more_rows plans old r (record old { agents = slice_set old.agents h.end.member after_it; sent = new.sent }) (Take l d message) refl may tt
+    (changed plans old r h.end.member at.0 h.agent after_it at.1 h.at.is_agent _ (put_sent l d (n.sent l d ++ message ∷ []) n.sent) _ _ new.sent old.got are fewer texts)) h.stays.members h.stays.ends h.now h.agents (λ k. refl) h.got
+
+-- A message is handled
+
+pub handles_run : (plans : List LinkPlan) (old new : MembersSeen) → IsRunOf plans old → HandlesMessage old new → IsRunOf plans new
+handles_run plans old new r h =
+    let n = net plans old r in
+    let l = h.link in
+    let d = h.side in
+    let place = end_place l (other d) in
+    let count : ℕ = length (old.got place) in
+    let at = at_end plans old r l (other d) h.end h.agent h.at in
+    let T : List (List ℕ) → Type 0 = λ ts. AreTexts (n.sent l d) ts in
+    let first = texts_first (n.sent l d) h.text (drop (suc count) (old.sent (end_place l d))) (subst T (drop_at (old.sent (end_place l d)) count h.text h.next) (r.is.sent l d)) in
+    let rest = first.1 in
+    let may : n.sent l d ≡ ToNeighbour h.message ∷ rest = first.2 ∙ ap (λ (x : ManagementMessage). x ∷ rest) (text_is h.message first.0 h.text h.read first.3) in
+    let event : Handles n.now (n.numbers l (other d)) h.message ≡ Handles old.now h.end.number h.message = ap (λ (t : ℕ). Handles t (n.numbers l (other d)) h.message) r.is.now ∙ ap (λ (k : ℕ). Handles old.now k h.message) at.3 in
+    let are = called_at n.agents (n.ends l (other d)) at.0.addr h.agent h.after (Handles n.now (n.numbers l (other d)) h.message) (Handles old.now h.end.number h.message) at.2 at.4 event (ap (λ o. done h.agent o) h.handles) in
+    let longer : length (new.got place) ≡ suc count = ap (λ (ts : List (List ℕ)). length ts) h.got.here ∙ length_push (old.got place) h.text ∙ omega arith in
+    let elsewhere : (k : ℕ) (e : Side) → ((k ≡ l) × (e ≡ d) → ⊥) → new.got (end_place k (other e)) ≡ old.got (end_place k (other e)) = λ k e apart. h.got.elsewhere (end_place k (other e)) (λ same. (let is = places_apart k (other e) l (other d) same in apart (is.0, sym (other_back e) ∙ ap other is.1 ∙ other_back d))) in
+    let within = slice_get_within (old.sent (end_place l d)) count h.text h.next in
+    let fewer : (k : ℕ) (e : Side) → length (new.got (end_place k (other e))) ≤ length (old.sent (end_place k e)) = λ k e. elim (same_direction l d k e) [
+      | inl same ↦
+          (let Q : ℕ → Type 0 = λ j. length (new.got (end_place j (other e))) ≤ length (old.sent (end_place j e)) in
+          let R : Side → Type 0 = λ t. length (new.got (end_place l (other t))) ≤ length (old.sent (end_place l t)) in
+          subst Q (sym same.0) (subst R (sym same.1) (omega (arith, longer, within))))
+      | inr apart ↦ (let Q : List (List ℕ) → Type 0 = λ ts. length ts ≤ length (old.sent (end_place k e)) in subst Q (sym (elsewhere k e apart)) (r.is.fewer k e))
+    ] in
+    let texts : (k : ℕ) (e : Side) → AreTexts (put_sent l d rest n.sent k e) (drop (length (new.got (end_place k (other e)))) (old.sent (end_place k e))) = λ k e.
+    direction_case (λ (ms : List ManagementMessage). AreTexts ms (drop (length (new.got (end_place k (other e)))) (old.sent (end_place k e)))) l d k e rest (n.sent k e)
+    (λ a b. (let Q : ℕ → Type 0 = λ j. AreTexts rest (drop (length (new.got (end_place j (other e)))) (old.sent (end_place j e))) in
+    let R : Side → Type 0 = λ t. AreTexts rest (drop (length (new.got (end_place l (other t)))) (old.sent (end_place l t))) in
+    let U : ℕ → Type 0 = λ j. AreTexts rest (drop j (old.sent (end_place l d))) in
+    subst Q (sym a) (subst R (sym b) (subst U (sym longer) first.4))))
+    (λ apart. (let U : List (List ℕ) → Type 0 = λ ts. AreTexts (n.sent k e) (drop (length ts) (old.sent (end_place k e))) in
+    subst U (sym (elsewhere k e apart)) (r.is.sent k e))) in
+    alike_run plans (record old { agents = slice_set old.agents h.end.member h.after; got = new.got }) new (more_rows plans old r (record old { agents = slice_set old.agents h.end.member h.after; got = new.got }) (Handle l d (ToNeighbour h.message) rest) refl may tt
+    (changed plans old r h.end.member at.0 h.agent h.after at.1 h.at.is_agent _ (put_sent l d rest n.sent) _ _ old.sent new.got are fewer texts)) h.stays.members h.stays.ends h.now h.agents h.sent (λ k. refl)
+
+-- A directory entry is taken by all
+
+enrolled_is : (a : Agent) → a.state ≡ Enrolled → is_enrolled a ≡ true
+enrolled_is a is = ap is_in is
+
+with_taken : (a : Agent) (x : Item) → a.state ≡ Enrolled → with_item x a ≡ takes_item a x
+with_taken a x is = ap (λ (b : Bool). cond b (takes_item a x) a) (enrolled_is a is)
+
+module _ (plans : List LinkPlan) (old new : MembersSeen) (r : IsRunOf plans old) (h : TakesEntry old new) where
+  abbrev before : Network
+  before = net plans old r
+
+  abbrev entry : Item
+  entry = entry_of h.app h.at.addr
+
+  taken_agents : (k : ℕ) (m : Member) (c : Agent) → slice_get old.members k ≡ Some m → slice_get (map (λ a. takes_item a entry) old.agents) k ≡ Some c → (known before entry).agents m.addr ≡ c
+  taken_agents k m c is_m is_c =
+      let aligned = r.is.aligned in
+      let within = slice_get_within old.members k m is_m in
+      let a = there old.agents k (omega (arith, aligned, within)) in
+      let same : takes_item a.0 entry ≡ c = same_Some (takes_item a.0 entry) c (ap (λ (o : Option Agent). option_map (λ a. takes_item a entry) o) (sym a.1) ∙ sym (slice_get-map (λ a. takes_item a entry) old.agents k) ∙ is_c) in
+      ap (λ (b : Agent). with_item entry b) (r.is.agents k m a.0 is_m a.1) ∙ with_taken a.0 entry (h.enrolled k a.0 a.1) ∙ same
+
+  -- an agent with links is a member's
+  by_place : (i : ℕ) (o : Option ℕ) → place_at old.members i ≡ o → (before.agents i).links ≡ [] ⊎ (is_enrolled (before.agents i) ≡ true)
+  by_place i None place = inl (r.is.others i (none_at old.members i place))
+  by_place i (Some k) place =
+      let m = found_at (λ (x : Member). x.addr == i) old.members k place in
+      let aligned = r.is.aligned in
+      let within = slice_get_within old.members k m.0 m.1 in
+      let a = there old.agents k (omega (arith, aligned, within)) in
+      inr (ap (λ (j : ℕ). is_enrolled (before.agents j)) (sym (eqb-true m.0.addr i m.2)) ∙ ap is_enrolled (r.is.agents k m.0 a.0 m.1 a.1) ∙ enrolled_is a.0 (h.enrolled k a.0 a.1))
+
+  linked_enrolled : (l : ℕ) (d : Side) → has_link before l d ≡ true → is_enrolled (before.agents (before.ends l d)) ≡ true
+  linked_enrolled l d has = elim (by_place (before.ends l d) (place_at old.members (before.ends l d)) refl) [
+    | inl none ↦ absurd (both_ways true (sym has ∙ ap (λ (ls : List Link). is_some (find (is_numbered (before.numbers l d)) ls)) none) refl)
+    | inr is ↦ is
+  ]
+
+  may_know : MayBeKnown before entry
+  may_know = record {
+    both = λ l d up first. (let parts = and_parts _ _ up in linked_enrolled l (other d) parts.1);
+    one = λ y e k v. entries_are_one r.start old.members plans r.rows y h.app h.at.addr r.starts r.run r.static e k v;
+    past = omega arith;
+    counted = omega arith;
+  }
+
+  pub takes_run : IsRunOf plans new
+  takes_run =
+      alike_run plans (record old { agents = map (λ a. takes_item a entry) old.agents }) new (more_rows plans old r (record old { agents = map (λ a. takes_item a entry) old.agents }) (Know entry) refl may_know (h.app, h.at.addr, refl, small_address old.members plans r.laid_out h.at h.among) (record {
+        now = r.is.now;
+        aligned = length-map old.agents (λ a. takes_item a entry) ∙ r.is.aligned;
+        agents = taken_agents;
+        others = λ address none. knower_links (is_enrolled (before.agents address)) entry (before.agents address) ∙ r.is.others address none;
+        ends = r.is.ends;
+        fewer = r.is.fewer;
+        sent = r.is.sent;
+      })) h.stays.members h.stays.ends h.now h.agents h.sent h.got
+
+-- The start
+
+some_rules : Rules
+some_rules = record { rules = []; default = false; few = omega arith }
+
+no_links : (members : List Member) (agents : List Agent) (address : ℕ) (o : Option ℕ) → place_at members address ≡ o → HasNoMember members address → (agent_at some_rules members agents address).links ≡ []
+no_links members agents address None place none = ap (λ (o : Option ℕ). (or_nobody some_rules address (option_and_then (slice_get agents) o)).links) place
+no_links members agents address (Some k) place none =
+    let m = found_at (λ (x : Member). x.addr == address) members k place in
+    absurd (none k m.0 m.1 (eqb-true m.0.addr address m.2))
+
+pub start_run : Greatest → (plans : List LinkPlan) (s : MembersSeen) → StartsWith plans s → IsRunOf plans s
+start_run greatest plans s h =
+    let n = static_network some_rules s.members plans s.agents s.ends s.now in
+    let agent : (k : ℕ) (m : Member) (a : Agent) → slice_get s.members k ≡ Some m → slice_get s.agents k ≡ Some a → n.agents m.addr ≡ a = λ k m a is_m is_a.
+    ap (λ (o : Option ℕ). or_nobody some_rules m.addr (option_and_then (slice_get s.agents) o)) (found_place s.members plans h.laid_out k m (place_at s.members m.addr) is_m refl) ∙ ap (λ (o : Option Agent). or_nobody some_rules m.addr o) is_a in
+    let nothing : (l : ℕ) (d : Side) → (length (s.got (end_place l (other d))) ≡ 0) × (s.sent (end_place l d) ≡ []) = λ l d. (ap (λ (ts : List (List ℕ)). length ts) (h.got (end_place l (other d))), h.sent (end_place l d)) in
+    record {
+      laid_out = h.laid_out;
+      start = n;
+      rows = [];
+      starts = static_starts some_rules s.members plans s.agents s.ends s.now h.laid_out h.first h.ends;
+      fresh = static_fresh some_rules s.members plans s.agents s.ends s.now h.laid_out h.first h.ends;
+      tells = λ m among. static_tells greatest some_rules s.members plans s.agents s.ends s.now m h.laid_out h.first among;
+      run = tt;
+      static = tt;
+      is = record {
+        now = refl;
+        aligned = h.first.aligned;
+        agents = agent;
+        others = λ address none. no_links s.members s.agents address (place_at s.members address) refl none;
+        ends = λ l d e m is_e is_m. (
+          ap (λ (o : Option LinkEnd). end_address s.members o) is_e ∙ address_is s.members e.member m is_m,
+          ap (λ (o : Option LinkEnd). end_number s.ends (end_place l d) o) is_e,
+        );
+        fewer = λ l d. (let none = nothing l d in let got = none.0 in omega (arith, got));
+        sent = λ l d.
+            (let none = nothing l d in
+            let Q : ℕ → Type 0 = λ k. AreTexts [] (drop k (s.sent (end_place l d))) in
+            let R : List (List ℕ) → Type 0 = λ ts. AreTexts [] (drop 0 ts) in
+            subst Q (sym none.0) (subst R (sym none.1) tt));
+      };
+    }

@@ -1,0 +1,24 @@
+use Rattle.rina_flood.proofs.Members.{start_run, goes_on_run, loses_run, takes_run, offers_run, handles_run}
+use Rattle.rina_flood.proofs.Quiet.{quiet_agree}
+use Rattle.rina_flood.proofs.laws.members_are_a_network.Goals as goal
+
+pub returns-clause-start : goal.returns-clause-start
+returns-clause-start c = start_run c.newest_of_all_takes.ensures.greatest
+
+pub returns-clause-goes_on : goal.returns-clause-goes_on
+returns-clause-goes_on c = goes_on_run
+
+pub returns-clause-loses : goal.returns-clause-loses
+returns-clause-loses c = loses_run
+
+pub returns-clause-takes : goal.returns-clause-takes
+returns-clause-takes c = takes_run
+
+pub returns-clause-offers : goal.returns-clause-offers
+returns-clause-offers c = offers_run
+
+pub returns-clause-handles : goal.returns-clause-handles
+returns-clause-handles c = handles_run
+
+pub returns-clause-quiet : goal.returns-clause-quiet
+returns-clause-quiet c = quiet_agree c.newest_of_all_takes.ensures.greatest

@@ -1,0 +1,212 @@
+-- The members of a static DIF as a network: what stands at a moment, what happens to it, and that each is a row.
+use Rattle.std.specs.Prelude.{◌≡◌, ℕ, ◌≤◌, List, [], ◌∷◌, ◌++◌, drop, length, map, slice_get, slice_set, Some, None, Ok, true, Contains, find, ◌<◌, ◌^◌}
+use Rattle.rina_enrol.specs.declared.message.LinkMessage.{LinkMessage}
+use Rattle.rina_enrol.specs.Messages.{IsInRange, IsSpelled}
+use Rattle.rina_newest.specs.Newest.{kept_at, value_at}
+use Rattle.rina_agent.specs.declared.agent.Agent.{Agent}
+use Rattle.rina_agent.specs.declared.message.ManagementMessage.{ManagementMessage}
+use Rattle.rina_agent.specs.declared.message.ManagementMessage.TheVariants.{ToNeighbour, ToMember}
+use Rattle.rina_agent.specs.declared.state.MemberState.TheVariants.{Enrolled}
+use Rattle.rina_agent.specs.Agenda.{first_on, waiting_on, without_first}
+use Rattle.rina_agent.specs.Counts.{spent}
+use Rattle.rina_agent.specs.Enrolments.{is_numbered}
+use Rattle.rina_agent.specs.Neighbours.{link_key, link_state}
+use Rattle.rina_agent.specs.Rows.{handled, lost, was_up}
+use Rattle.rina_plan.specs.declared.dif.LinkPlan.{LinkPlan}
+use Rattle.rina_data.specs.declared.settings.Member.{Member}
+use Rattle.rina_member.specs.Knowing.{IsLaidOut}
+use Rattle.rina_member.specs.Managements.{entry_of, takes_item}
+use Rattle.rina_member.specs.Start.{start_items}
+use Rattle.rina_flood.specs.Network.{Side, other, Network, Row, IsRun, after_rows, IsStart}
+use Rattle.rina_flood.specs.Laws.{TellsLinks}
+use Rattle.rina_flood.specs.Static.{AreEnds, AreFirst, AreOfStatic, LinkEnd, end_place}
+
+-- what stands at a moment
+pub record MembersSeen : Type 0 where
+  -- the members, and the agent of each at the member's place
+  pub members : List Member
+  pub agents : List Agent
+  -- the tick
+  pub now : ℕ
+  -- the ends of the links, the two of a link one after the other
+  pub ends : List LinkEnd
+  -- by the place of an end, the texts that were offered there, and those that came from the other end and were handled
+  pub sent : ℕ → List (List ℕ)
+  pub got : ℕ → List (List ℕ)
+
+-- Messages as texts
+
+-- a message of a neighbour is written so; a message about a flow is none of these
+abbrev pub IsText : ManagementMessage → List ℕ → Type 0
+IsText (ToNeighbour m) text = IsInRange m × IsSpelled m text
+IsText (ToMember m) text = ⊥
+
+-- messages are written so, one by one
+abbrev pub AreTexts : List ManagementMessage → List (List ℕ) → Type 0
+AreTexts [] [] = Unit {0}
+AreTexts [] (text ∷ texts) = ⊥
+AreTexts (m ∷ ms) [] = ⊥
+AreTexts (m ∷ ms) (text ∷ texts) = IsText m text × AreTexts ms texts
+
+-- The network
+
+-- at an address that no member has, an agent has no links
+abbrev pub HasNoMember : List Member → ℕ → Type 0
+HasNoMember members address = (k : ℕ) (m : Member) → slice_get members k ≡ Some m → m.addr ≡ address → ⊥
+
+-- the network is that of the members: their agents are its agents, the ends of the links are its ends, and the messages that are sent and
+-- not handled in a direction are what was offered at its first end beyond as many texts as were handled at the other
+pub record IsNetworkOf (s : MembersSeen) (n : Network) : Type 0 where
+  pub now : n.now ≡ s.now
+  pub aligned : length s.agents ≡ length s.members
+  pub agents : (k : ℕ) (m : Member) (a : Agent) → slice_get s.members k ≡ Some m → slice_get s.agents k ≡ Some a → n.agents m.addr ≡ a
+  pub others : (address : ℕ) → HasNoMember s.members address → (n.agents address).links ≡ []
+  pub ends : (l : ℕ) (d : Side) (e : LinkEnd) (m : Member) → slice_get s.ends (end_place l d) ≡ Some e → slice_get s.members e.member ≡ Some m → (n.ends l d ≡ m.addr) × (n.numbers l d ≡ e.number)
+  pub fewer : (l : ℕ) (d : Side) → length (s.got (end_place l (other d))) ≤ length (s.sent (end_place l d))
+  pub sent : (l : ℕ) (d : Side) → AreTexts (n.sent l d) (drop (length (s.got (end_place l (other d)))) (s.sent (end_place l d)))
+
+-- the members are laid out, and what stands is the network of a run from the start of the DIF, so that all laws of flooding hold of it
+pub record IsRunOf (plans : List LinkPlan) (s : MembersSeen) : Type 0 where
+  pub laid_out : IsLaidOut s.members plans
+  pub start : Network
+  pub rows : List Row
+  pub starts : IsStart start (start_items s.members plans)
+  pub fresh : (i : ℕ) → (start.agents i).last_count ≡ 0
+  pub tells : (m : Member) → Contains s.members m → TellsLinks start m.addr
+  pub run : IsRun start rows
+  pub static : AreOfStatic rows
+  pub is : IsNetworkOf s (after_rows start rows)
+
+-- What happens
+
+-- members as they start: nothing was offered or handled
+pub record StartsWith (plans : List LinkPlan) (s : MembersSeen) : Type 0 where
+  pub laid_out : IsLaidOut s.members plans
+  pub first : AreFirst s.members plans s.agents
+  pub ends : AreEnds s.members s.ends
+  pub sent : (place : ℕ) → s.sent place ≡ []
+  pub got : (place : ℕ) → s.got place ≡ []
+
+-- an agent is that of the member at an end of a link
+pub record IsAgentAt (s : MembersSeen) (l : ℕ) (d : Side) (end : LinkEnd) (a : Agent) : Type 0 where
+  pub is_end : slice_get s.ends (end_place l d) ≡ Some end
+  pub is_agent : slice_get s.agents end.member ≡ Some a
+
+-- the texts of each place are the same
+abbrev pub AreSame : (ℕ → List (List ℕ)) → (ℕ → List (List ℕ)) → Type 0
+AreSame old new = (k : ℕ) → new k ≡ old k
+
+-- there is one text more at a place
+pub record Adds (place : ℕ) (text : List ℕ) (old new : ℕ → List (List ℕ)) : Type 0 where
+  pub here : new place ≡ old place ++ text ∷ []
+  pub elsewhere : (k : ℕ) → (k ≡ place → ⊥) → new k ≡ old k
+
+-- members and links stay
+pub record Stays (old new : MembersSeen) : Type 0 where
+  pub members : new.members ≡ old.members
+  pub ends : new.ends ≡ old.ends
+
+-- nothing happens, or the clock goes on, by any number of ticks
+pub record GoesOn (old new : MembersSeen) : Type 0 where
+  pub stays : Stays old new
+  pub now : old.now ≤ new.now
+  pub agents : new.agents ≡ old.agents
+  pub sent : AreSame old.sent new.sent
+  pub got : AreSame old.got new.got
+
+-- the member at an end of a link loses it
+pub record LosesLinkAt (old new : MembersSeen) : Type 0 where
+  pub link : ℕ
+  pub side : Side
+  pub end : LinkEnd
+  pub agent : Agent
+  pub at : IsAgentAt old link side end agent
+  pub room : spent 1 agent.last_count ≡ None
+  pub after : Agent
+  pub loses : lost agent old.now end.number ≡ Ok after
+  pub stays : Stays old new
+  pub now : new.now ≡ old.now
+  pub agents : new.agents ≡ slice_set old.agents end.member after
+  pub sent : AreSame old.sent new.sent
+  pub got : AreSame old.got new.got
+
+-- each member, and all are enrolled, takes the directory entry of an application that is registered at one of them from the start
+pub record TakesEntry (old new : MembersSeen) : Type 0 where
+  pub app : List ℕ
+  pub at : Member
+  pub among : Contains old.members at
+  pub enrolled : (k : ℕ) (a : Agent) → slice_get old.agents k ≡ Some a → a.state ≡ Enrolled
+  pub stays : Stays old new
+  pub now : new.now ≡ old.now
+  pub agents : new.agents ≡ map (λ a. takes_item a (entry_of app at.addr)) old.agents
+  pub sent : AreSame old.sent new.sent
+  pub got : AreSame old.got new.got
+
+-- the first message that waits for a link at an end, and it is a neighbour's, is offered there as it is written, and waits no more; the
+-- tick fits in 32 bits
+pub record OffersMessage (old new : MembersSeen) : Type 0 where
+  pub link : ℕ
+  pub side : Side
+  pub end : LinkEnd
+  pub agent : Agent
+  pub at : IsAgentAt old link side end agent
+  pub early : old.now < 2 ^ 32
+  pub message : LinkMessage
+  pub first : first_on end.number agent.agenda ≡ Some (record { link = end.number; message = ToNeighbour message })
+  pub text : List ℕ
+  pub written : IsSpelled message text
+  pub stays : Stays old new
+  pub now : new.now ≡ old.now
+  pub agents : new.agents ≡ slice_set old.agents end.member (record agent { agenda = without_first end.number agent.agenda })
+  pub sent : Adds (end_place link side) text old.sent new.sent
+  pub got : AreSame old.got new.got
+
+-- the text behind those that were handled of one end is handled at the other, as the message that is written so
+pub record HandlesMessage (old new : MembersSeen) : Type 0 where
+  pub link : ℕ
+  pub side : Side
+  pub end : LinkEnd
+  pub agent : Agent
+  pub at : IsAgentAt old link (other side) end agent
+  pub text : List ℕ
+  pub next : slice_get (old.sent (end_place link side)) (length (old.got (end_place link (other side)))) ≡ Some text
+  pub message : LinkMessage
+  pub read : (m : LinkMessage) → IsInRange m → IsSpelled m text → m ≡ message
+  pub after : Agent
+  pub handles : handled agent old.now end.number message ≡ Ok after
+  pub stays : Stays old new
+  pub now : new.now ≡ old.now
+  pub agents : new.agents ≡ slice_set old.agents end.member after
+  pub sent : AreSame old.sent new.sent
+  pub got : Adds (end_place link (other side)) text old.got new.got
+
+-- members as they start are those of a run
+abbrev pub StartIsRun : Type 0
+StartIsRun = (plans : List LinkPlan) (s : MembersSeen) → StartsWith plans s → IsRunOf plans s
+
+-- and they still are after it happened
+abbrev pub KeepsRun : (MembersSeen → MembersSeen → Type 0) → Type 0
+KeepsRun Happens = (plans : List LinkPlan) (old new : MembersSeen) → IsRunOf plans old → Happens old new → IsRunOf plans new
+
+-- Where all is quiet
+
+-- the link at an end, which is one of the member at this place, is up there; no message waits for it, and all that was offered there is
+-- handled at its other end
+pub record IsQuietAt (s : MembersSeen) (l : ℕ) (d : Side) (place : ℕ) : Type 0 where
+  pub end : LinkEnd
+  pub agent : Agent
+  pub at : IsAgentAt s l d end agent
+  pub member : end.member ≡ place
+  pub up : was_up (find (is_numbered end.number) agent.links) ≡ true
+  pub waits : waiting_on end.number agent.agenda ≡ []
+  pub handled : length (s.got (end_place l (other d))) ≡ length (s.sent (end_place l d))
+
+-- a walk over such links: each from the member at one place to that at another
+abbrev pub IsQuietPath : MembersSeen → ℕ → List (ℕ × Side × ℕ) → ℕ → Type 0
+IsQuietPath s i [] j = i ≡ j
+IsQuietPath s i (step ∷ steps) j = IsQuietAt s step.0 step.1 i × IsQuietAt s step.0 (other step.1) step.2 × IsQuietPath s step.2 steps j
+
+-- the members at its ends keep the same items, key by key, and the one keeps the link state of the other as the other's links are now
+abbrev pub QuietMembersAgree : Type 0
+QuietMembersAgree = (plans : List LinkPlan) (s : MembersSeen) (i j : ℕ) (steps : List (ℕ × Side × ℕ)) (m : Member) (a b : Agent) → IsRunOf plans s → IsQuietPath s i steps j → slice_get s.members i ≡ Some m → slice_get s.agents i ≡ Some a
+    → slice_get s.agents j ≡ Some b → ((key : List ℕ) → kept_at a.items key ≡ kept_at b.items key) × (value_at b.items (link_key m.addr) ≡ Some (link_state None a.links))

@@ -1,0 +1,148 @@
+-- The start of a static DIF as a network: each member keeps the member items and the link states of all members, and nothing waits or is
+-- on its way.
+use Rattle.std.specs.Prelude.{◌≡◌, ℕ, ◌+◌, ◌*◌, ◌<◌, ◌==◌, List, [], length, position, slice_get, Option, Some, None, is_some, option_and_then, option_map, unwrap_or, if◌then◌else◌, ◌∷◌, Contains, ◌≤◌, map, sum, ◌^◌}
+use Rattle.rina_access.specs.declared.rules.Rules.{Rules}
+use Rattle.rina_newest.specs.declared.item.Item.{Item}
+use Rattle.rina_agent.specs.declared.agent.Agent.{Agent}
+use Rattle.rina_agent.specs.declared.state.MemberState.TheVariants.{Outside}
+use Rattle.rina_dir.specs.Directory.{key_of}
+use Rattle.rina_plan.specs.declared.dif.LinkPlan.{LinkPlan}
+use Rattle.rina_data.specs.declared.link.Link.{Link}
+use Rattle.rina_data.specs.declared.settings.Member.{Member}
+use Rattle.rina_member.specs.Knowing.{AreLive, AreNumbered, IsLaidOut}
+use Rattle.rina_member.specs.Managements.{entry_of}
+use Rattle.rina_member.specs.Routing.{edges_from}
+use Rattle.rina_member.specs.Start.{first_version, start_items, started}
+use Rattle.rina_flood.specs.Network.{Side, Near, Far, Network, Row, Make, Know, Enrol, Claim, IsRun, after_rows, IsStart}
+use Rattle.rina_flood.specs.Laws.{AllLeaveLinkState, IsStatic, TellsLinks}
+
+-- Members
+
+-- the agent of a member from the start: it keeps the items of the start, and its links are up. These are numbered by their places, none
+-- is lost, and there is one for each link of the plan
+pub record IsFirst (members : List Member) (plans : List LinkPlan) (m : Member) (a : Agent) : Type 0 where
+  pub rules : Rules
+  pub links : List Link
+  pub numbered : AreNumbered links
+  pub live : AreLive links
+  pub enough : length (edges_from members m.node plans) ≤ length links
+  pub is : a ≡ started members plans rules m links
+
+-- the agents are those of the members from the start, at the same places
+pub record AreFirst (members : List Member) (plans : List LinkPlan) (agents : List Agent) : Type 0 where
+  pub aligned : length agents ≡ length members
+  pub each : (k : ℕ) (m : Member) (a : Agent) → slice_get members k ≡ Some m → slice_get agents k ≡ Some a → IsFirst members plans m a
+
+-- the place of the member that has an address
+abbrev pub place_at : List Member → ℕ → Option ℕ
+place_at members address = position (λ (m : Member). m.addr == address) members
+
+-- the agent at an address that no member has: it is outside, and has no links
+abbrev pub nobody : Rules → ℕ → Agent
+nobody rules address = record {
+  state = Outside;
+  address = address;
+  name = [];
+  node = [];
+  rules = rules;
+  items = [];
+  last_count = 0;
+  last_invoke = 0;
+  links = [];
+  agenda = [];
+}
+
+abbrev pub or_nobody : Rules → ℕ → Option Agent → Agent
+or_nobody rules address None = nobody rules address
+or_nobody rules address (Some a) = a
+
+-- the agent at an address: that of the member which has it, if one has
+abbrev pub agent_at : Rules → List Member → List Agent → ℕ → Agent
+agent_at rules members agents address = or_nobody rules address (option_and_then (slice_get agents) (place_at members address))
+
+-- Links
+
+-- one end of a link: the place of its member among the members of the DIF, and the number that the link has there
+pub record LinkEnd : Type 0 where
+  pub member : ℕ
+  pub number : ℕ
+
+-- all ends of links stand in one list, the two of a link one after the other: here the place of an end
+abbrev pub end_place : ℕ → Side → ℕ
+end_place l Near = 2 * l
+end_place l Far = 2 * l + 1
+
+-- each end is of a member, and no two ends at one member have one number
+pub record AreEnds (members : List Member) (ends : List LinkEnd) : Type 0 where
+  pub within : (k : ℕ) (e : LinkEnd) → slice_get ends k ≡ Some e → e.member < length members
+  pub apart : (j k : ℕ) (a b : LinkEnd) → slice_get ends j ≡ Some a → slice_get ends k ≡ Some b → a.member ≡ b.member → a.number ≡ b.number → j ≡ k
+
+-- the address of the member at a place; 0 where there is none
+abbrev pub address_in : List Member → ℕ → ℕ
+address_in members place = unwrap_or (option_map (λ (m : Member). m.addr) (slice_get members place)) 0
+
+-- the address of the member at an end; 0 where there is no such end
+abbrev pub end_address : List Member → Option LinkEnd → ℕ
+end_address members None = 0
+end_address members (Some e) = address_in members e.member
+
+-- a number above those of all ends
+abbrev pub number_above : List LinkEnd → ℕ
+number_above ends = sum (map (λ (e : LinkEnd). e.number) ends) + 1
+
+-- the number of a link at an end; where there is no such end, one that no end has
+abbrev pub end_number : List LinkEnd → ℕ → Option LinkEnd → ℕ
+end_number ends place None = number_above ends + place
+end_number ends place (Some e) = e.number
+
+-- The network
+
+-- nothing is sent, and the items of the start were made and offered to each member
+abbrev pub static_network : Rules → List Member → List LinkPlan → List Agent → List LinkEnd → ℕ → Network
+static_network rules members plans agents ends now = record {
+  now = now;
+  agents = agent_at rules members agents;
+  ends = λ l d. end_address members (slice_get ends (end_place l d));
+  numbers = λ l d. end_number ends (end_place l d) (slice_get ends (end_place l d));
+  sent = λ l d. [];
+  made = start_items members plans;
+  offered = λ i. if is_some (place_at members i) then start_items members plans else [];
+}
+
+-- it is a start, whatever rules an agent has that is of no member
+abbrev pub StaticStarts : Type 0
+StaticStarts = (rules : Rules) (members : List Member) (plans : List LinkPlan) (agents : List Agent) (ends : List LinkEnd) (now : ℕ) → IsLaidOut members plans → AreFirst members plans agents → AreEnds members ends
+    → IsStart (static_network rules members plans agents ends now) (start_items members plans)
+
+-- in it each member keeps its own link state, which names its links
+abbrev pub StaticTellsLinks : Type 0
+StaticTellsLinks = (rules : Rules) (members : List Member) (plans : List LinkPlan) (agents : List Agent) (ends : List LinkEnd) (now : ℕ) (m : Member) → IsLaidOut members plans → AreFirst members plans agents → Contains members m
+    → TellsLinks (static_network rules members plans agents ends now) m.addr
+
+-- Rows
+
+-- the directory entry of an application that is registered at an address of 32 bits from the start
+abbrev pub IsFirstEntry : Item → Type 0
+IsFirstEntry x = (app : List ℕ) × (address : ℕ) × (x ≡ entry_of app address) × (address < 2 ^ 32)
+
+-- what happens to a static DIF: no link is made, a member makes no item but its link state where it loses a link, and what is known at
+-- once is a directory entry
+abbrev pub IsOfStatic : Row → Type 0
+IsOfStatic (Make i key value) = ⊥
+IsOfStatic (Enrol link side member node) = ⊥
+IsOfStatic (Claim link side) = ⊥
+IsOfStatic (Know x) = IsFirstEntry x
+IsOfStatic other = Unit {0}
+
+abbrev pub AreOfStatic : List Row → Type 0
+AreOfStatic [] = Unit {0}
+AreOfStatic (row ∷ rows) = IsOfStatic row × AreOfStatic rows
+
+-- so the laws of lost links hold of each member
+abbrev pub StaticRowsLeaveLinks : Type 0
+StaticRowsLeaveLinks = (rows : List Row) → AreOfStatic rows → IsStatic rows × ((address : ℕ) → AllLeaveLinkState address rows)
+
+-- whatever happened, no other item was made of the key and the version of a directory entry from the start
+abbrev pub EntriesAreOne : Type 0
+EntriesAreOne = (n : Network) (members : List Member) (plans : List LinkPlan) (rows : List Row) (x : Item) (app : List ℕ) (address : ℕ) → IsStart n (start_items members plans) → IsRun n rows → AreOfStatic rows
+    → Contains (after_rows n rows).made x → x.key ≡ key_of app → x.version ≡ first_version address → x ≡ entry_of app address

@@ -1,0 +1,21 @@
+use Rattle.rina_member.specs.Managements.{entered}
+use Rattle.rina_member.proofs.Tells.{enters_short, lost_short, sent_short}
+use Rattle.rina_member.proofs.TellsEnrolled.{handles_short}
+use Rattle.rina_member.proofs.TellsStarting.{starts_short}
+use Rattle.rina_member.proofs.laws.a_member_tells_short_messages.Goals as goal
+
+pub returns-clause-starts : goal.returns-clause-starts
+returns-clause-starts c = λ members plans rules m links laid named few among fits. starts_short members plans laid named few rules m links among fits
+
+pub returns-clause-enters : goal.returns-clause-enters
+unfolding entered
+returns-clause-enters c = λ app address m name small h. enters_short m.agent app address h name small
+
+pub returns-clause-loses : goal.returns-clause-loses
+returns-clause-loses c = λ now link m m' loses h. lost_short m.agent m'.agent now link h loses.loses
+
+pub returns-clause-sends : goal.returns-clause-sends
+returns-clause-sends c = λ link m h. sent_short m.agent link h
+
+pub returns-clause-handles : goal.returns-clause-handles
+returns-clause-handles c = λ now link message m m' range short handles h. handles_short now link message m m' h range short handles

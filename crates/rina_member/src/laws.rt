@@ -1,0 +1,57 @@
+//! The laws of a member that handles the SDUs of its links. These functions do nothing: their contracts are laws.
+ghost use Rattle.std.specs.Prelude.{◌≡◌, ◌<◌, ◌≤◌, ◌^◌, ℕ, false, length, Contains, List, Err, None, Ok, Option, Some};
+ghost use Rattle.rina_access.specs.declared.rules.Rules.{Rules};
+ghost use Rattle.rina_base.specs.Names.{app_at};
+ghost use Rattle.rina_alloc.specs.declared.message.FlowMessage.{FlowMessage};
+ghost use Rattle.rina_alloc.specs.Messages.{IsInRange as IsFlowInRange, IsSpelled as IsFlowText};
+ghost use Rattle.rina_newest.specs.declared.item.Item.{Item};
+ghost use Rattle.rina_enrol.specs.declared.message.LinkMessage.{LinkMessage};
+ghost use Rattle.rina_enrol.specs.Messages.{IsInRange};
+ghost use Rattle.rina_agent.specs.declared.message.ManagementMessage.TheVariants.{ToNeighbour};
+ghost use Rattle.rina_agent.specs.declared.state.AgentError.TheVariants.{CountSpent};
+ghost use Rattle.rina_data.specs.declared.link.Link.{Link};
+ghost use Rattle.rina_data.specs.declared.settings.Member.{Member};
+ghost use Rattle.rina_plan.specs.declared.dif.LinkPlan.{LinkPlan};
+ghost use Rattle.rina_member.specs.declared.management.Management.{Management};
+ghost use Rattle.rina_member.specs.Handling.{AreUnenrolled, BringsItemName, IsSameMember, KeepsOthers, KeepsOutsideItems, TakesNews, item_in};
+ghost use Rattle.rina_member.specs.Knowing.{IsLaidOut};
+ghost use Rattle.rina_member.specs.Managements.{Handles, HandlesSdu, IsNews, IsSdu, LosesLink, entered, is_news, keys_brought, with_sent};
+ghost use Rattle.rina_member.specs.Short.{AreNamed, HaveFewLinks, IsShort, TellsShort};
+ghost use Rattle.rina_member.specs.Start.{started};
+
+/// An SDU is handled as the one message that it is. It changes nothing where that is no news, or about a flow.
+pub fn an_sdu_is_one_message()
+    ensures news { (now link : ℕ) (sdu : List ℕ) (message : LinkMessage) (m : Management) (after : Option Management) → IsNews message sdu m → HandlesSdu now link sdu m (Ok after) → (m' : Management) × (after ≡ Some m') × Handles now link message m m' }
+    ensures old { (now link : ℕ) (sdu : List ℕ) (message : LinkMessage) (m : Management) (after : Option Management) → IsSdu message sdu → is_news m.agent.items message ≡ false → HandlesSdu now link sdu m (Ok after) → after ≡ None }
+    ensures flows { (now link : ℕ) (sdu : List ℕ) (message : FlowMessage) (m : Management) (after : Option Management) → IsFlowInRange message → IsFlowText message sdu → HandlesSdu now link sdu m (Ok after) → after ≡ None }
+{}
+
+/// An item or a flood that is news is taken, and needs no version count.
+pub fn an_item_that_is_news_is_taken()
+    ensures takes { (now link : ℕ) (sdu : List ℕ) (message : LinkMessage) (item : Item) (m : Management) (after : Option Management) → IsNews message sdu m → item_in message ≡ Some item → HandlesSdu now link sdu m (Ok after) → (m' : Management) × (after ≡ Some m') × TakesNews link item m m' }
+    ensures counts { (now link need left : ℕ) (sdu : List ℕ) (message : LinkMessage) (item : Item) (m : Management) → IsSdu message sdu → item_in message ≡ Some item → HandlesSdu now link sdu m (Err (CountSpent need left)) → ⊥ }
+{}
+
+/// Where no enrolment made a link, the messages of enrolments change nothing, and no message needs a version count.
+pub fn a_member_without_enrolments_takes_items_alone()
+    ensures same { (now link : ℕ) (message : LinkMessage) (m m' : Management) → AreUnenrolled m.agent.links → item_in message ≡ None → Handles now link message m m' → m' ≡ m }
+    ensures counts { (now link need left : ℕ) (sdu : List ℕ) (m : Management) → AreUnenrolled m.agent.links → HandlesSdu now link sdu m (Err (CountSpent need left)) → ⊥ }
+{}
+
+/// Whatever message it handles, a member is who it was, with the rules that it had, and the objects stay as they were but for those of
+/// the items that the message brought.
+pub fn a_message_changes_the_objects_of_its_items()
+    ensures same { (now link : ℕ) (message : LinkMessage) (m m' : Management) → Handles now link message m m' → IsSameMember m.agent m'.agent }
+    ensures others { (now link : ℕ) (message : LinkMessage) (m m' : Management) → Handles now link message m m' → KeepsOthers (keys_brought m.agent.last_count m'.agent message) m.objects m'.objects }
+    ensures outside { (now link : ℕ) (message : LinkMessage) (m m' : Management) → BringsItemName message → Handles now link message m m' → KeepsOutsideItems m.objects m'.objects }
+{}
+
+/// A member of a static DIF tells short messages alone from the start, and goes on to do so when it takes a directory entry, loses a link,
+/// sends a message, and handles a short one.
+pub fn a_member_tells_short_messages()
+    ensures starts { (members : List Member) (plans : List LinkPlan) (rules : Rules) (m : Member) (links : List Link) → IsLaidOut members plans → AreNamed members → HaveFewLinks members plans → Contains members m → length links ≤ 16 → TellsShort (started members plans rules m links) }
+    ensures enters { (app : List ℕ) (address : ℕ) (m : Management) → app_at app ≡ Ok app → address < 2 ^ 32 → TellsShort m.agent → TellsShort (entered app address m).agent }
+    ensures loses { (now link : ℕ) (m m' : Management) → LosesLink now link m m' → TellsShort m.agent → TellsShort m'.agent }
+    ensures sends { (link : ℕ) (m : Management) → TellsShort m.agent → TellsShort (with_sent m link).agent }
+    ensures handles { (now link : ℕ) (message : LinkMessage) (m m' : Management) → IsInRange message → IsShort (ToNeighbour message) → Handles now link message m m' → TellsShort m.agent → TellsShort m'.agent }
+{}
