@@ -1,5 +1,5 @@
 -- Reading notes. The word of a note that begins with two numbers is the field after them.
-use Rattle.std.specs.Prelude.{ℕ, ◌+◌, List, [], ◌∷◌, codes, Result, Ok, Err, if◌then◌else◌}
+use Rattle.std.specs.Prelude.{ℕ, ◌+◌, ◌<◌, length, IsSome, List, [], ◌∷◌, codes, Result, Ok, Err, if◌then◌else◌}
 use Rattle.std.specs.Str.{bytes_eq}
 use Rattle.rina_base.specs.Traverse.{◌>>=◌}
 use Rattle.rina_schedule.specs.declared.error.LineError.{LineError}
@@ -95,3 +95,8 @@ fields_note (word ∷ fs) = whole_at word fs
 -- the note that a text is, or the first error from the left
 unfoldable pub note_at : List ℕ → Result Note LineError
 note_at text = fields_note (fields_of text)
+
+-- fields that tell of a line: its number stands in front, and a field behind the tick and the word of the answer
+abbrev pub TellsLine : List (List ℕ) → Type 0
+TellsLine [] = ⊥
+TellsLine (line ∷ fs) = IsSome (numeral_of max32 line) × (2 < length fs)

@@ -1,5 +1,5 @@
 -- The three spellings of bytes: ' and text, x and pairs of hexadecimal digits, z and a count of zeros.
-use Rattle.std.specs.Prelude.{ℕ, ◌+◌, ◌-◌, ◌*◌, ◌==◌, ◌&&◌, Bool, not, nat_le, List, [], ◌∷◌, length, replicate, Option, Some, None, if◌then◌else◌}
+use Rattle.std.specs.Prelude.{◌≡◌, ℕ, ◌+◌, ◌-◌, ◌*◌, ◌<◌, ◌==◌, ◌&&◌, Bool, not, nat_le, List, [], ◌∷◌, length, replicate, slice_index, Option, Some, None, if◌then◌else◌}
 use Rattle.std.specs.List.{list_all}
 use Rattle.std.specs.Option.{option_and_then, option_map}
 use Rattle.rina_base.specs.Decimals.{number_of}
@@ -51,3 +51,7 @@ lower_hex_of text = if list_all is_lower text then option_and_then (λ bytes. if
 unfoldable pub printed_of : List ℕ → Option (List ℕ)
 printed_of [] = None
 printed_of (b ∷ text) = if b == 39 then plain_of text else (if b == 120 then lower_hex_of text else None)
+
+-- an x stands in front, and behind it at least one pair of bytes
+abbrev pub BeginsHex : List ℕ → Type 0
+BeginsHex text = (slice_index text 0 ≡ 120) × (2 < length text)

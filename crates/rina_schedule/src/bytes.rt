@@ -1,7 +1,7 @@
 //! Bytes in a line: as text, in hexadecimal, or as a count of zeros.
-ghost use Rattle.std.specs.Prelude.{◌≡◌, ◌<◌, true, IsSome, IfSome, IfErr, Ok, replicate};
+ghost use Rattle.std.specs.Prelude.{◌≡◌, ◌<◌, ◌⊎◌, true, length, IsSome, IfSome, IfErr, Ok, replicate};
 ghost use Rattle.std.specs.List.{list_all};
-ghost use Rattle.rina_schedule.specs.Bytes.{is_plain, are_plain, hex_digit, hex_pair_of, hex_of, plain_of, zeros_of, bytes_of, is_lower, lower_hex_of, printed_of};
+ghost use Rattle.rina_schedule.specs.Bytes.{is_plain, are_plain, hex_digit, hex_pair_of, hex_of, plain_of, zeros_of, bytes_of, is_lower, lower_hex_of, printed_of, BeginsHex};
 ghost use Rattle.rina_schedule.specs.Gives.{Gives, or_bad};
 
 use crate::error::LineError;
@@ -67,7 +67,8 @@ fn read_plain(alloc: Global, n: u32, text: &[u8]) -> Result<Bytes, LineError>
 
 #[tactic(auto, unfolding(crate::specs::Bytes::hex_of))]
 fn read_hex(alloc: Global, n: u32, text: &[u8]) -> Result<Bytes, LineError>
-    ensures { Gives (λ b. b) result (or_bad (LineError.BadBytes n) (hex_of text.now)) }
+    ensures read { Gives (λ b. b) result (or_bad (LineError.BadBytes n) (hex_of text.now)) }
+    ensures memory { IfErr result (λ e. e ≡ LineError.Memory → 1 < length text.now) }
 {
     let mut bytes = Seq::new(alloc);
     let mut at = 0usize;
@@ -110,9 +111,11 @@ fn read_zeros(alloc: Global, n: u32, text: &[u8]) -> Result<Bytes, LineError>
 /// Reads the bytes that a text spells: one or more from `!` to `~` behind `'`, pairs of hexadecimal
 /// digits behind `x`, or a count of up to 65,535 zeros behind `z`. Fails with `BadBytes` of field `n`
 /// where the text is none of these, and with `Memory` once an allocation fails.
-#[tactic(auto, unfolding(crate::specs::Bytes::bytes_of))]
+#[tactic(auto, unfolding(crate::specs::Bytes::bytes_of, crate::specs::Bytes::plain_of))]
 pub fn read_bytes(alloc: Global, n: u32, text: &[u8]) -> Result<Bytes, LineError>
-    ensures { Gives (λ b. b) result (or_bad (LineError.BadBytes n) (bytes_of text.now)) }
+    ensures read { Gives (λ b. b) result (or_bad (LineError.BadBytes n) (bytes_of text.now)) }
+    // Pairs of digits are read one by one; any other text that spells no bytes is refused before it is copied.
+    ensures memory { IfErr result (λ e. e ≡ LineError.Memory → BeginsHex text.now ⊎ IsSome (bytes_of text.now)) }
 {
     match text {
         [b'\'', rest @ ..] => read_plain(alloc, n, rest),
@@ -137,7 +140,8 @@ fn all_lower(text: &[u8]) -> bool
 
 #[tactic(auto, unfolding(crate::specs::Bytes::lower_hex_of))]
 fn read_lower_hex(alloc: Global, n: u32, text: &[u8]) -> Result<Bytes, LineError>
-    ensures { Gives (λ b. b) result (or_bad (LineError.BadBytes n) (lower_hex_of text.now)) }
+    ensures read { Gives (λ b. b) result (or_bad (LineError.BadBytes n) (lower_hex_of text.now)) }
+    ensures memory { IfErr result (λ e. e ≡ LineError.Memory → 1 < length text.now) }
 {
     if !all_lower(text) {
         return Err(LineError::BadBytes { n });
@@ -152,9 +156,11 @@ fn read_lower_hex(alloc: Global, n: u32, text: &[u8]) -> Result<Bytes, LineError
 /// Reads the bytes that a text spells as they are printed: `'` and one or more bytes from `!` to `~`, or
 /// `x` and pairs of lower-case hexadecimal digits for all others. Fails with `BadBytes` of field `n`
 /// where the text is neither, and with `Memory` once an allocation fails.
-#[tactic(auto, unfolding(crate::specs::Bytes::printed_of))]
+#[tactic(auto, unfolding(crate::specs::Bytes::printed_of, crate::specs::Bytes::plain_of))]
 pub fn read_printed(alloc: Global, n: u32, text: &[u8]) -> Result<Bytes, LineError>
-    ensures { Gives (λ b. b) result (or_bad (LineError.BadBytes n) (printed_of text.now)) }
+    ensures read { Gives (λ b. b) result (or_bad (LineError.BadBytes n) (printed_of text.now)) }
+    // Pairs of digits are read one by one; any other text that spells no bytes is refused before it is copied.
+    ensures memory { IfErr result (λ e. e ≡ LineError.Memory → BeginsHex text.now ⊎ IsSome (printed_of text.now)) }
 {
     match text {
         [b'\'', rest @ ..] => read_plain(alloc, n, rest),

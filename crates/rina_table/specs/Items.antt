@@ -1,5 +1,5 @@
 -- The table of a DIF, and the whole stack.
-use Rattle.std.specs.Prelude.{ℕ, ◌+◌, ◌==◌, true, false, List, codes, length, Option, Some, None, Result, Ok, if◌then◌else◌, option_and_then}
+use Rattle.std.specs.Prelude.{ℕ, ◌+◌, ◌<◌, ◌==◌, IsSome, true, false, List, codes, length, Option, Some, None, Result, Ok, if◌then◌else◌, option_and_then}
 use Rattle.std.specs.Str.{bytes_eq}
 use Rattle.toml.specs.Data.{Data, get, as_str}
 use Rattle.rina_base.specs.Traverse.{◌>>=◌, traverse}
@@ -12,6 +12,7 @@ use Rattle.rina_table.specs.declared.sketch.Rounds.TheVariants.{Auto, Manual}
 use Rattle.rina_table.specs.declared.scope.Scope.{Scope}
 use Rattle.rina_table.specs.declared.sketch.Sketch.{Sketch}
 use Rattle.rina_table.specs.Faults.{required, unless}
+use Rattle.rina_table.specs.Keys.{items_in, items_at}
 use Rattle.rina_table.specs.Values.{truth_or, rows_in, rows_or, tables_in}
 use Rattle.rina_table.specs.Fields.{named, name_in, number_in}
 use Rattle.rina_table.specs.Rows.{widths_at, manage_at, cube_at, member_at, rule_at, link_at, flow_at, wire_at}
@@ -59,6 +60,11 @@ rounds_or (Some d) = required 0 (option_and_then rounds_of (as_str d))
 -- the name of a node
 unfoldable pub node_row : Scope → ℕ → Data → Result (List ℕ) StackError
 node_row s n d = required n (as_str d) >>= named s n
+
+-- a stack has a list of nodes, and a row: a node, a wire or a DIF
+pub record HasRows (d : Data) : Type 0 where
+  pub nodes : IsSome (items_in (codes "nodes") d)
+  pub some : 0 < length (items_at (codes "nodes") d) + length (items_at (codes "wire") d) + length (items_at (codes "dif") d)
 
 -- the stack, read with the rules of the scope; wires are the items from 1 on, and DIFs follow them
 unfoldable pub sketch_at : Scope → Data → Result Sketch StackError

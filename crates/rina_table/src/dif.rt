@@ -46,9 +46,13 @@ fn manage_of(scope: &Scope<'_>, item: usize, table: &Value) -> Result<Cube, Stac
 }
 
 impl Row for DifPlan {
+    ghost use Rattle.std.specs.Prelude.{codes, IsSome};
+    ghost use Rattle.rina_table.specs.Values.{text_at};
     ghost use Rattle.rina_table.specs.Items.{dif_at};
 
     ghost reads_as = { dif_at };
+
+    ghost copies = { λ d. IsSome (text_at (codes "name") d) };
 
     #[tactic(auto, unfolding(crate::specs::Items::dif_at))]
     fn read(

@@ -1,7 +1,8 @@
 //! The tables within a DIF.
-ghost use Rattle.std.specs.Prelude.{◌≡◌, ◌≢◌, IfErr};
+ghost use Rattle.std.specs.Prelude.{◌≡◌, ◌≢◌, codes, IsSome, IfErr};
 ghost use Rattle.toml.specs.View.{view};
 ghost use Rattle.rina_table.specs.Faults.{Gives};
+ghost use Rattle.rina_table.specs.Values.{text_at};
 ghost use Rattle.rina_table.specs.Rows.{kind_of, act_of, kind_in, act_in, widths_at, manage_at, end_at};
 
 use crate::error::StackError;
@@ -107,6 +108,8 @@ impl Row for Cube {
 
     ghost reads_as = { cube_at };
 
+    ghost copies = { λ d. ⊥ };
+
     #[tactic(auto, unfolding(crate::specs::Rows::cube_at))]
     fn read(
         _alloc: Global,
@@ -136,9 +139,13 @@ impl Row for Cube {
 }
 
 impl Row for MemberPlan {
+    ghost use Rattle.std.specs.Prelude.{codes, IsSome};
+    ghost use Rattle.rina_table.specs.Values.{text_at};
     ghost use Rattle.rina_table.specs.Rows.{member_at};
 
     ghost reads_as = { member_at };
+
+    ghost copies = { λ d. IsSome (text_at (codes "node") d) };
 
     #[tactic(auto, unfolding(crate::specs::Rows::member_at))]
     fn read(
@@ -157,9 +164,13 @@ impl Row for MemberPlan {
 }
 
 impl Row for Rule {
+    ghost use Rattle.std.specs.Prelude.{codes, IsSome};
+    ghost use Rattle.rina_table.specs.Values.{text_at};
     ghost use Rattle.rina_table.specs.Rows.{rule_at};
 
     ghost reads_as = { rule_at };
+
+    ghost copies = { λ d. IsSome (text_at (codes "subject") d) };
 
     #[tactic(auto, unfolding(crate::specs::Rows::rule_at))]
     fn read(
@@ -180,9 +191,13 @@ impl Row for Rule {
 }
 
 impl Row for LinkPlan {
+    ghost use Rattle.std.specs.Prelude.{codes, IsSome};
+    ghost use Rattle.rina_table.specs.Values.{text_at};
     ghost use Rattle.rina_table.specs.Rows.{link_at};
 
     ghost reads_as = { link_at };
+
+    ghost copies = { λ d. IsSome (text_at (codes "on") d) };
 
     #[tactic(auto, unfolding(crate::specs::Rows::link_at))]
     fn read(
@@ -208,7 +223,8 @@ impl Row for LinkPlan {
 
 #[tactic(auto, unfolding(crate::specs::Rows::end_at))]
 fn end(alloc: Global, scope: &Scope<'_>, item: usize, table: &Value) -> Result<EndPlan, StackError>
-    ensures { Gives (λ e. e) result (end_at scope.now item (view table.now)) }
+    ensures read { Gives (λ e. e) result (end_at scope.now item (view table.now)) }
+    ensures memory { IfErr result (λ e. e ≡ StackError.Memory → IsSome (text_at (codes "node") (view table.now))) }
 {
     let node = node_of(alloc, scope, item, table, "node")?;
     let app = name_of(alloc, scope, item, table, "app")?;
@@ -217,9 +233,13 @@ fn end(alloc: Global, scope: &Scope<'_>, item: usize, table: &Value) -> Result<E
 }
 
 impl Row for FlowPlan {
+    ghost use Rattle.std.specs.Prelude.{codes, IsSome};
+    ghost use Rattle.toml.specs.Data.{get};
     ghost use Rattle.rina_table.specs.Rows.{flow_at};
 
     ghost reads_as = { flow_at };
+
+    ghost copies = { λ d. IsSome (get (codes "from") d) };
 
     #[tactic(auto, unfolding(crate::specs::Rows::flow_at))]
     fn read(

@@ -1,9 +1,11 @@
 //! Names, numbers and references at the keys of a table (rules 4, 6 and 7).
-ghost use Rattle.std.specs.Prelude.{◌≡◌, ◌≤◌, ◌<◌, ◌^◌, Ok, codes, IfOk, IfSome, ◌≢◌, IfErr};
+ghost use Rattle.std.specs.Prelude.{◌≡◌, ◌≤◌, ◌<◌, ◌^◌, false, Ok, codes, IsSome, IfOk, IfSome, ◌≢◌, IfErr, OnOk};
+ghost use Rattle.std.specs.Str.{bytes_eq};
 ghost use Rattle.std.specs.Result.{result_ok};
 ghost use Rattle.rina_base.specs.Names.{app_at};
 ghost use Rattle.toml.specs.View.{view};
 ghost use Rattle.rina_table.specs.Faults.{Gives, required_by};
+ghost use Rattle.rina_table.specs.Values.{text_at};
 ghost use Rattle.rina_table.specs.Names.{as_name, as_subject, lower_named};
 ghost use Rattle.rina_table.specs.Fields.{named, name_in, subject_in, is_between, as_number, ranged, number_in, number_or, as_width, width_in, node_named, node_in, lower_in};
 
@@ -89,7 +91,9 @@ pub(crate) fn name_of(
     table: &Value,
     key: &str,
 ) -> Result<Name, StackError>
-    ensures { Gives (λ n. n) result (name_in scope.now item key.now (view table.now)) }
+    ensures read { Gives (λ n. n) result (name_in scope.now item key.now (view table.now)) }
+    ensures memory { IfErr result (λ e. e ≡ StackError.Memory → IsSome (text_at key.now (view table.now))) }
+    ensures there { OnOk result (IsSome (text_at key.now (view table.now))) }
 {
     let text = text_of(item, table, key)?;
     name(alloc, scope, item, text)
@@ -108,7 +112,8 @@ fn read_app(alloc: Global, text: &[u8]) -> Result<Option<AppName>, StackError>
 /// The subject of an access rule: `*`, or the name of an application.
 #[tactic(auto, unfolding(crate::specs::Names::as_subject))]
 fn subject(alloc: Global, text: &str) -> Result<Option<Subject>, StackError>
-    ensures { Gives (λ s. s) result (Ok (as_subject text.now)) }
+    ensures read { Gives (λ s. s) result (Ok (as_subject text.now)) }
+    ensures memory { IfErr result (λ e. e ≡ StackError.Memory → bytes_eq text.now (codes "*") ≡ false) }
 {
     if text == "*" {
         return Ok(Some(Subject::All));
@@ -128,7 +133,9 @@ pub(crate) fn subject_of(
     table: &Value,
     key: &str,
 ) -> Result<Subject, StackError>
-    ensures { Gives (λ s. s) result (subject_in scope.now item key.now (view table.now)) }
+    ensures read { Gives (λ s. s) result (subject_in scope.now item key.now (view table.now)) }
+    ensures memory { IfErr result (λ e. e ≡ StackError.Memory → IsSome (text_at key.now (view table.now))) }
+    ensures there { OnOk result (IsSome (text_at key.now (view table.now))) }
 {
     let text = text_of(item, table, key)?;
     let subject = subject(alloc, text)?;
@@ -272,7 +279,9 @@ pub(crate) fn node_of(
     table: &Value,
     key: &str,
 ) -> Result<usize, StackError>
-    ensures { Gives (λ n. n) result (node_in scope.now item key.now (view table.now)) }
+    ensures read { Gives (λ n. n) result (node_in scope.now item key.now (view table.now)) }
+    ensures memory { IfErr result (λ e. e ≡ StackError.Memory → IsSome (text_at key.now (view table.now))) }
+    ensures there { OnOk result (IsSome (text_at key.now (view table.now))) }
 {
     let text = text_of(item, table, key)?;
     node(alloc, scope, item, text)
@@ -297,7 +306,9 @@ pub(crate) fn lower_of(
     table: &Value,
     key: &str,
 ) -> Result<Lower, StackError>
-    ensures { Gives (λ n. n) result (lower_in scope.now item key.now (view table.now)) }
+    ensures read { Gives (λ n. n) result (lower_in scope.now item key.now (view table.now)) }
+    ensures memory { IfErr result (λ e. e ≡ StackError.Memory → IsSome (text_at key.now (view table.now))) }
+    ensures there { OnOk result (IsSome (text_at key.now (view table.now))) }
 {
     let name = name_of(alloc, scope, item, table, key)?;
     let found = lower(&scope.wires, &scope.difs, name.as_bytes());

@@ -1,11 +1,12 @@
 //! Lists of tables, each table read by itself.
-ghost use Rattle.std.specs.Prelude.{◌≡◌, ◌<◌, ◌+◌, ◌^◌, ℕ, map, length, Result};
+ghost use Rattle.std.specs.Prelude.{◌≡◌, ◌<◌, ◌+◌, ◌^◌, ℕ, map, length, Result, IsSome, IfErr, OnOk};
 ghost use Rattle.toml.specs.View.{view};
 ghost use Rattle.toml.specs.Data.{Data};
 ghost use Rattle.rina_base.specs.Traverse.{traverse};
 ghost use Rattle.rina_table.specs.declared.error.StackError.{StackError};
 ghost use Rattle.rina_table.specs.declared.scope.Scope.{Scope};
 ghost use Rattle.rina_table.specs.Faults.{Gives};
+ghost use Rattle.rina_table.specs.Keys.{items_in, items_at};
 ghost use Rattle.rina_table.specs.Values.{rows, rows_in, rows_or};
 
 use crate::error::StackError;
@@ -19,6 +20,9 @@ use toml::Value;
 pub(crate) trait Row: Drop {
     ghost reads_as: { Scope → ℕ → Data → Result Self StackError };
 
+    /// What stands in a table that is copied. Nothing else takes memory.
+    ghost copies: { Data → Type 0 };
+
     /// Reads a table that belongs to an item.
     fn read(
         alloc: Global,
@@ -26,7 +30,8 @@ pub(crate) trait Row: Drop {
         item: usize,
         table: &Value,
     ) -> Result<Self, StackError>
-        ensures { Gives (λ t. t) result (reads_as scope.now item (view table.now)) };
+        ensures read { Gives (λ t. t) result (reads_as scope.now item (view table.now)) }
+        ensures memory { IfErr result (λ e. e ≡ StackError.Memory → copies (view table.now)) };
 }
 
 /// The rows of one item.
@@ -36,7 +41,8 @@ fn all_of<T: Row>(
     item: usize,
     values: &[Value],
 ) -> Result<Seq<T>, StackError>
-    ensures { Gives (λ t. t) result (rows (T.reads_as scope.now item) (map view values.now)) }
+    ensures read { Gives (λ t. t) result (rows (T.reads_as scope.now item) (map view values.now)) }
+    ensures memory { IfErr result (λ e. e ≡ StackError.Memory → 0 < length values.now) }
 {
     let mut read = Seq::new(alloc);
     'values: for value in values {
@@ -54,7 +60,8 @@ pub(crate) fn items_from<T: Row>(
     values: &[Value],
 ) -> Result<Seq<T>, StackError>
     requires { first + length values.now < 2 ^ 64 }
-    ensures { Gives (λ t. t) result (traverse (T.reads_as scope.now) first (map view values.now)) }
+    ensures read { Gives (λ t. t) result (traverse (T.reads_as scope.now) first (map view values.now)) }
+    ensures memory { IfErr result (λ e. e ≡ StackError.Memory → 0 < length values.now) }
 {
     let mut read = Seq::new(alloc);
     let mut at = first;
@@ -75,7 +82,9 @@ pub(crate) fn rows_of<T: Row>(
     table: &Value,
     key: &str,
 ) -> Result<Seq<T>, StackError>
-    ensures { Gives (λ t. t) result (rows_in (T.reads_as scope.now item) item key.now (view table.now)) }
+    ensures read { Gives (λ t. t) result (rows_in (T.reads_as scope.now item) item key.now (view table.now)) }
+    ensures memory { IfErr result (λ e. e ≡ StackError.Memory → 0 < length (items_at key.now (view table.now))) }
+    ensures there { OnOk result (IsSome (items_in key.now (view table.now))) }
 {
     let values = items(item, table, key)?;
     all_of(alloc, scope, item, values)
@@ -90,7 +99,8 @@ pub(crate) fn rows_or_none<T: Row>(
     table: &Value,
     key: &str,
 ) -> Result<Seq<T>, StackError>
-    ensures { Gives (λ t. t) result (rows_or (T.reads_as scope.now item) item key.now (view table.now)) }
+    ensures read { Gives (λ t. t) result (rows_or (T.reads_as scope.now item) item key.now (view table.now)) }
+    ensures memory { IfErr result (λ e. e ≡ StackError.Memory → 0 < length (items_at key.now (view table.now))) }
 {
     let values = items_or_none(item, table, key)?;
     all_of(alloc, scope, item, values)

@@ -2,7 +2,7 @@
 ghost use Rattle.std.specs.Prelude.{◌≡◌, option_map, ◌≢◌, IfErr};
 ghost use Rattle.toml.specs.View.{view};
 ghost use Rattle.rina_table.specs.Faults.{Gives};
-ghost use Rattle.rina_table.specs.Items.{rounds_of, rounds_or, sketch_at};
+ghost use Rattle.rina_table.specs.Items.{rounds_of, rounds_or, sketch_at, HasRows};
 
 use crate::error::{StackError, first_dif_item, rule_error};
 use crate::fields::name;
@@ -39,9 +39,13 @@ fn rounds(value: Option<&Value>) -> Result<Rounds, StackError>
 
 /// The names of nodes; a fault in one belongs to item 0.
 impl Row for Name {
+    ghost use Rattle.std.specs.Prelude.{IsSome};
+    ghost use Rattle.toml.specs.Data.{as_str};
     ghost use Rattle.rina_table.specs.Items.{node_row};
 
     ghost reads_as = { node_row };
+
+    ghost copies = { λ d. IsSome (as_str d) };
 
     #[tactic(auto, unfolding(crate::specs::Items::node_row))]
     fn read(
@@ -60,7 +64,9 @@ impl Row for Name {
 /// Reads a stack, and tries the rules on single values that the scope names.
 #[tactic(auto, unfolding(crate::specs::Items::sketch_at))]
 pub fn read_sketch(alloc: Global, scope: &Scope<'_>, stack: &Value) -> Result<Sketch, StackError>
-    ensures { Gives (λ s. s) result (sketch_at scope.now (view stack.now)) }
+    ensures read { Gives (λ s. s) result (sketch_at scope.now (view stack.now)) }
+    // Only rows are copied: a stack without a list of nodes, or without any row, never fails with `Memory`.
+    ensures memory { IfErr result (λ e. e ≡ StackError.Memory → HasRows (view stack.now)) }
 {
     let nodes = rows_of(alloc, scope, 0, stack, "nodes")?;
     let rounds = rounds(stack.get("rounds"))?;

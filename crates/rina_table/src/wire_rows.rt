@@ -1,5 +1,5 @@
 //! The table of a wire.
-ghost use Rattle.std.specs.Prelude.{◌≡◌, codes, option_map, ◌≢◌, IfErr};
+ghost use Rattle.std.specs.Prelude.{◌≡◌, codes, option_map, ◌≢◌, IsSome, IfErr};
 ghost use Rattle.toml.specs.View.{view};
 ghost use Rattle.rina_table.specs.Faults.{Gives, required};
 ghost use Rattle.rina_table.specs.Values.{element};
@@ -67,16 +67,21 @@ fn end(
     table: &Value,
     at: usize,
 ) -> Result<usize, StackError>
-    ensures { Gives (λ n. n) result (wire_end scope.now item (view table.now) at) }
+    ensures read { Gives (λ n. n) result (wire_end scope.now item (view table.now) at) }
+    ensures memory { IfErr result (λ e. e ≡ StackError.Memory → IsSome (element at (codes "ends") (view table.now))) }
 {
     let text = end_text(item, table, at)?;
     node(alloc, scope, item, text)
 }
 
 impl Row for WireSketch {
+    ghost use Rattle.std.specs.Prelude.{codes, IsSome};
+    ghost use Rattle.rina_table.specs.Values.{text_at};
     ghost use Rattle.rina_table.specs.Rows.{wire_at};
 
     ghost reads_as = { wire_at };
+
+    ghost copies = { λ d. IsSome (text_at (codes "name") d) };
 
     #[tactic(auto, unfolding(crate::specs::Rows::wire_at))]
     fn read(

@@ -1,15 +1,15 @@
 -- Ticks at which nothing arrives.
-use Rattle.std.proofs.Common.{◌≡◌, ◌⊎◌, inl, inr, ℕ, zero, suc, ◌+◌, ◌-◌, ◌<◌, ◌≤◌, cond, Bool, true, false, List, [], ◌∷◌, fold, filter, get_or, map, nat_le, nat_lt, slice_get, Some, None, Ok, refl, sym, ◌∙◌, ap, subst, arith}
+use Rattle.std.proofs.Common.{◌≡◌, ◌⊎◌, inl, inr, ℕ, zero, suc, ◌+◌, ◌-◌, ◌<◌, ◌≤◌, cond, List, [], ◌∷◌, fold, filter, get_or, length, map, nat_lt, slice_get, Some, None, Ok, refl, sym, ◌∙◌, ap, subst, arith}
 use Rattle.std.proofs.Common.{le-leb}
 use Rattle.std.proofs.lemmas.Bool.{cases_lt, lt-leb}
-use Rattle.std.proofs.lemmas.Option.{get_or_from_slice_get}
+use Rattle.std.proofs.lemmas.Option.{get_or_from_slice_get, slice_get_read}
 use Rattle.rina_iface.specs.declared.ends.End.{End}
 use Rattle.rina_wire.specs.declared.flight.Flight.{Flight}
 use Rattle.rina_wire.specs.declared.tick.TickError.TheVariants.{ClockSpent}
 use Rattle.rina_wire.specs.Air.{Air, Line, wire_at}
-use Rattle.rina_wire.specs.Resting.{IsQuietLine, RestsUntil, at_tick}
+use Rattle.rina_wire.specs.Resting.{AreQuietCopies, AreQuietLines, IsLast, IsQuietLine, RestsUntil, at_tick}
 use Rattle.rina_wire.specs.Sound.{IsSound}
-use Rattle.rina_wire.specs.Tick.{TicksOn, arrived_at, line_ticked, looked_at, ticked}
+use Rattle.rina_wire.specs.Tick.{TicksOn, arrived_at, line_ticked, looked_at}
 use Rattle.rina_wire.proofs.SoundTick.{sound_ticks}
 
 -- One wire
@@ -90,3 +90,11 @@ next_line ls place until quiet until' here is le le' quiet_here before at l lt s
       let same : l ≡ here = sym (is ∙ get_or_from_slice_get ls place l here (subst (λ i. slice_get ls i ≡ Some l) e stands)) in
       subst (λ (x : Line). IsQuietLine until' x) (sym same) (sooner quiet until' here quiet_here le')
 ]
+
+-- one copy more was looked at, and no later tick serves for all
+pub last_copy : (fs : List Flight) (place until until' : ℕ) (here : Flight) → place < length fs → here ≡ get_or fs place here → ((later : ℕ) → later ≤ until → later ≤ here.due → later ≤ until') → IsLast (λ u. AreQuietCopies u fs) until → IsLast (λ u. AreQuietCopies u fs) until'
+last_copy fs place until until' here within is least last = λ later small quiet. least later (last later small quiet) (quiet place here (slice_get_read fs (length fs) place here refl within is))
+
+-- one wire more was looked at, and no later tick serves for all
+pub last_line : (ls : List Line) (place until rest until' : ℕ) (here : Line) → place < length ls → here ≡ get_or ls place here → IsLast (λ u. IsQuietLine u here) rest → ((later : ℕ) → later ≤ until → later ≤ rest → later ≤ until') → IsLast (λ u. AreQuietLines u ls) until → IsLast (λ u. AreQuietLines u ls) until'
+last_line ls place until rest until' here within is last_here least last = λ later small quiet. least later (last later small quiet) (last_here later small (quiet place here (slice_get_read ls (length ls) place here refl within is)))

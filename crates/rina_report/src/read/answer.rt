@@ -1,5 +1,5 @@
 //! Reading answers.
-ghost use Rattle.std.specs.Prelude.{◌≡◌, ◌<◌, ◌+◌};
+ghost use Rattle.std.specs.Prelude.{◌≡◌, ◌<◌, ◌+◌, IfErr, length};
 ghost use Rattle.rina_schedule.specs.Gives.{Gives};
 ghost use Rattle.rina_report.specs.Fields.{behind};
 ghost use Rattle.rina_report.specs.ReadAnswers.{role_of, ok_state_of, ok_at, got_at, in_at, out_off_of, out_end_at, out_at, off_at, object_note_at, flow_note_at, entry_at, label_at, journal_word_at, step_word_at, answer_at};
@@ -34,7 +34,8 @@ fn role_of(word: &[u8]) -> Option<Role>
 #[tactic(auto, unfolding(crate::specs::ReadAnswers::ok_state_of))]
 fn ok_state(alloc: Global, word: &[u8], n: u32, rest: &[u8]) -> Result<Answer, LineError>
     requires { n < 100 }
-    ensures { Gives (λ x. x) result (ok_state_of word.now n (behind rest.now)) }
+    ensures read { Gives (λ x. x) result (ok_state_of word.now n (behind rest.now)) }
+    ensures memory { IfErr result (λ e. e ≡ LineError.Memory → 0 < length (behind rest.now)) }
 {
     if is(word, b"outside") {
         end(n + 1, rest)?;
@@ -65,7 +66,8 @@ fn ok_state(alloc: Global, word: &[u8], n: u32, rest: &[u8]) -> Result<Answer, L
 /// Reads `nothing`, or a state.
 fn ok(alloc: Global, n: u32, rest: &[u8]) -> Result<Answer, LineError>
     requires { n < 100 }
-    ensures { Gives (λ x. x) result (ok_at n (behind rest.now)) }
+    ensures read { Gives (λ x. x) result (ok_at n (behind rest.now)) }
+    ensures memory { IfErr result (λ e. e ≡ LineError.Memory → 0 < length (behind rest.now)) }
 {
     match next_field(rest) {
         Some((word, rest)) => ok_state(alloc, word, n, rest),
@@ -77,7 +79,8 @@ fn ok(alloc: Global, n: u32, rest: &[u8]) -> Result<Answer, LineError>
 #[tactic(auto, unfolding(crate::specs::ReadAnswers::got_at))]
 fn got(alloc: Global, n: u32, rest: &[u8]) -> Result<Answer, LineError>
     requires { n < 100 }
-    ensures { Gives (λ x. x) result (got_at n (behind rest.now)) }
+    ensures read { Gives (λ x. x) result (got_at n (behind rest.now)) }
+    ensures memory { IfErr result (λ e. e ≡ LineError.Memory → 0 < length (behind rest.now)) }
 {
     let (at, rest) = number(n, rest)?;
     let bytes = last_bytes(alloc, n + 1, rest)?;
@@ -88,7 +91,8 @@ fn got(alloc: Global, n: u32, rest: &[u8]) -> Result<Answer, LineError>
 #[tactic(auto, unfolding(crate::specs::ReadAnswers::in_at))]
 fn in_step(alloc: Global, n: u32, rest: &[u8]) -> Result<Answer, LineError>
     requires { n < 100 }
-    ensures { Gives (λ x. x) result (in_at n (behind rest.now)) }
+    ensures read { Gives (λ x. x) result (in_at n (behind rest.now)) }
+    ensures memory { IfErr result (λ e. e ≡ LineError.Memory → 0 < length (behind rest.now)) }
 {
     let (key, rest) = key(n, rest)?;
     let end = took(alloc, n + 2, rest)?;
@@ -98,7 +102,8 @@ fn in_step(alloc: Global, n: u32, rest: &[u8]) -> Result<Answer, LineError>
 #[tactic(auto, unfolding(crate::specs::ReadAnswers::out_off_of))]
 fn out_off(alloc: Global, key: Key, word: &[u8], n: u32, rest: &[u8]) -> Result<Answer, LineError>
     requires { n < 200 }
-    ensures { Gives (λ x. x) result (out_off_of key word.now n (behind rest.now)) }
+    ensures read { Gives (λ x. x) result (out_off_of key word.now n (behind rest.now)) }
+    ensures memory { IfErr result (λ e. e ≡ LineError.Memory → 0 < length (behind rest.now)) }
 {
     if !is(word, b"off") {
         return Err(LineError::BadName { n });
@@ -109,7 +114,8 @@ fn out_off(alloc: Global, key: Key, word: &[u8], n: u32, rest: &[u8]) -> Result<
 
 fn out_end(alloc: Global, key: Key, n: u32, rest: &[u8]) -> Result<Answer, LineError>
     requires { n < 200 }
-    ensures { Gives (λ x. x) result (out_end_at key n (behind rest.now)) }
+    ensures read { Gives (λ x. x) result (out_end_at key n (behind rest.now)) }
+    ensures memory { IfErr result (λ e. e ≡ LineError.Memory → 0 < length (behind rest.now)) }
 {
     match next_field(rest) {
         Some((word, rest)) => out_off(alloc, key, word, n, rest),
@@ -121,7 +127,8 @@ fn out_end(alloc: Global, key: Key, n: u32, rest: &[u8]) -> Result<Answer, LineE
 #[tactic(auto, unfolding(crate::specs::ReadAnswers::out_at))]
 fn out_step(alloc: Global, n: u32, rest: &[u8]) -> Result<Answer, LineError>
     requires { n < 100 }
-    ensures { Gives (λ x. x) result (out_at n (behind rest.now)) }
+    ensures read { Gives (λ x. x) result (out_at n (behind rest.now)) }
+    ensures memory { IfErr result (λ e. e ≡ LineError.Memory → 0 < length (behind rest.now)) }
 {
     let (key, rest) = key(n, rest)?;
     out_end(alloc, key, n + 2, rest)
@@ -131,7 +138,8 @@ fn out_step(alloc: Global, n: u32, rest: &[u8]) -> Result<Answer, LineError>
 #[tactic(auto, unfolding(crate::specs::ReadAnswers::off_at))]
 fn off(alloc: Global, n: u32, rest: &[u8]) -> Result<Answer, LineError>
     requires { n < 100 }
-    ensures { Gives (λ x. x) result (off_at n (behind rest.now)) }
+    ensures read { Gives (λ x. x) result (off_at n (behind rest.now)) }
+    ensures memory { IfErr result (λ e. e ≡ LineError.Memory → 0 < length (behind rest.now)) }
 {
     let (key, rest) = key(n, rest)?;
     let cause = cause(alloc, n + 2, rest)?;
@@ -142,7 +150,8 @@ fn off(alloc: Global, n: u32, rest: &[u8]) -> Result<Answer, LineError>
 #[tactic(auto, unfolding(crate::specs::ReadAnswers::object_note_at))]
 fn object_note(alloc: Global, n: u32, rest: &[u8]) -> Result<Answer, LineError>
     requires { n < 100 }
-    ensures { Gives (λ x. x) result (object_note_at n (behind rest.now)) }
+    ensures read { Gives (λ x. x) result (object_note_at n (behind rest.now)) }
+    ensures memory { IfErr result (λ e. e ≡ LineError.Memory → 0 < length (behind rest.now)) }
 {
     let (name, rest) = object(alloc, n, rest)?;
     let (word, rest) = field(n + 1, rest)?;
@@ -157,7 +166,8 @@ fn object_note(alloc: Global, n: u32, rest: &[u8]) -> Result<Answer, LineError>
 #[tactic(auto, unfolding(crate::specs::ReadAnswers::flow_note_at))]
 fn flow_note(alloc: Global, n: u32, rest: &[u8]) -> Result<FlowNote, LineError>
     requires { n < 100 }
-    ensures { Gives (λ x. x) result (flow_note_at n (behind rest.now)) }
+    ensures read { Gives (λ x. x) result (flow_note_at n (behind rest.now)) }
+    ensures memory { IfErr result (λ e. e ≡ LineError.Memory → 0 < length (behind rest.now)) }
 {
     let (flow, rest) = flow(n, rest)?;
     let (word, rest) = field(n + 1, rest)?;
@@ -186,7 +196,8 @@ fn flow_note(alloc: Global, n: u32, rest: &[u8]) -> Result<FlowNote, LineError>
 #[tactic(auto, unfolding(crate::specs::ReadAnswers::entry_at))]
 fn entry(alloc: Global, n: u32, rest: &[u8]) -> Result<(Tick, Num, Bytes), LineError>
     requires { n < 100 }
-    ensures { Gives (λ x. (x.0, x.1, x.2)) result (entry_at n (behind rest.now)) }
+    ensures read { Gives (λ x. (x.0, x.1, x.2)) result (entry_at n (behind rest.now)) }
+    ensures memory { IfErr result (λ e. e ≡ LineError.Memory → 0 < length (behind rest.now)) }
 {
     let (at, rest) = number(n, rest)?;
     let (num, rest) = num(n + 1, rest)?;
@@ -198,7 +209,8 @@ fn entry(alloc: Global, n: u32, rest: &[u8]) -> Result<(Tick, Num, Bytes), LineE
 #[tactic(auto, unfolding(crate::specs::ReadAnswers::label_at))]
 fn label(alloc: Global, n: u32, rest: &[u8]) -> Result<Answer, LineError>
     requires { n < 100 }
-    ensures { Gives (λ x. x) result (label_at n (behind rest.now)) }
+    ensures read { Gives (λ x. x) result (label_at n (behind rest.now)) }
+    ensures memory { IfErr result (λ e. e ≡ LineError.Memory → 0 < length (behind rest.now)) }
 {
     let (label, rest) = name(alloc, n, rest)?;
     let state = state(alloc, n + 1, rest)?;
@@ -208,7 +220,8 @@ fn label(alloc: Global, n: u32, rest: &[u8]) -> Result<Answer, LineError>
 /// Reads an answer about a journal or a RIB, whose word was read.
 #[tactic(auto, unfolding(crate::specs::ReadAnswers::journal_word_at))]
 fn journal_word(alloc: Global, word: &[u8], rest: &[u8]) -> Result<Answer, LineError>
-    ensures { Gives (λ x. x) result (journal_word_at word.now (behind rest.now)) }
+    ensures read { Gives (λ x. x) result (journal_word_at word.now (behind rest.now)) }
+    ensures memory { IfErr result (λ e. e ≡ LineError.Memory → 0 < length (behind rest.now)) }
 {
     if is(word, b"cdap") {
         let bytes = last_bytes(alloc, 1, rest)?;
@@ -232,7 +245,8 @@ fn journal_word(alloc: Global, word: &[u8], rest: &[u8]) -> Result<Answer, LineE
 /// Reads an answer about a step, a journal or a RIB, whose word was read.
 #[tactic(auto, unfolding(crate::specs::ReadAnswers::step_word_at))]
 fn step_word(alloc: Global, word: &[u8], rest: &[u8]) -> Result<Answer, LineError>
-    ensures { Gives (λ x. x) result (step_word_at word.now (behind rest.now)) }
+    ensures read { Gives (λ x. x) result (step_word_at word.now (behind rest.now)) }
+    ensures memory { IfErr result (λ e. e ≡ LineError.Memory → 0 < length (behind rest.now)) }
 {
     if is(word, b"in") {
         in_step(alloc, 1, rest)
@@ -257,7 +271,8 @@ fn step_word(alloc: Global, word: &[u8], rest: &[u8]) -> Result<Answer, LineErro
 /// Reads an answer, whose word was read.
 #[tactic(auto, unfolding(crate::specs::ReadAnswers::answer_at))]
 pub(crate) fn answer(alloc: Global, word: &[u8], rest: &[u8]) -> Result<Answer, LineError>
-    ensures { Gives (λ x. x) result (answer_at word.now (behind rest.now)) }
+    ensures read { Gives (λ x. x) result (answer_at word.now (behind rest.now)) }
+    ensures memory { IfErr result (λ e. e ≡ LineError.Memory → 0 < length (behind rest.now)) }
 {
     if is(word, b"ok") {
         ok(alloc, 1, rest)

@@ -1,5 +1,5 @@
 //! Reading the causes of write-offs and the results of single steps, from field `n` to the end of the note.
-ghost use Rattle.std.specs.Prelude.{◌<◌, ◌+◌};
+ghost use Rattle.std.specs.Prelude.{◌<◌, ◌+◌, IfErr, length, ◌≡◌, ◌≢◌};
 ghost use Rattle.rina_schedule.specs.Gives.{Gives};
 ghost use Rattle.rina_report.specs.Fields.{behind};
 ghost use Rattle.rina_report.specs.ReadCauses.{pdu_cause_of, cause_of, cause_at, took_of, took_at, clock_of, clock_at};
@@ -15,7 +15,8 @@ use std::alloc::Global;
 #[tactic(auto, unfolding(crate::specs::ReadCauses::pdu_cause_of))]
 fn pdu_cause(word: &[u8], n: u32, rest: &[u8]) -> Result<CauseNote, LineError>
     requires { n < 800 }
-    ensures { Gives (λ x. x) result (pdu_cause_of word.now n (behind rest.now)) }
+    ensures read { Gives (λ x. x) result (pdu_cause_of word.now n (behind rest.now)) }
+    ensures memory { IfErr result (λ e. e ≢ LineError.Memory) }
 {
     if is(word, b"Duplicate") {
         let num = last_num(n + 1, rest)?;
@@ -40,7 +41,8 @@ fn pdu_cause(word: &[u8], n: u32, rest: &[u8]) -> Result<CauseNote, LineError>
 #[tactic(auto, unfolding(crate::specs::ReadCauses::cause_of))]
 fn cause_of(alloc: Global, word: &[u8], n: u32, rest: &[u8]) -> Result<CauseNote, LineError>
     requires { n < 800 }
-    ensures { Gives (λ x. x) result (cause_of word.now n (behind rest.now)) }
+    ensures read { Gives (λ x. x) result (cause_of word.now n (behind rest.now)) }
+    ensures memory { IfErr result (λ e. e ≡ LineError.Memory → 0 < length (behind rest.now)) }
 {
     if is(word, b"Expired") {
         let (left, charge) = last_two(n + 1, rest)?;
@@ -69,7 +71,8 @@ fn cause_of(alloc: Global, word: &[u8], n: u32, rest: &[u8]) -> Result<CauseNote
 #[tactic(auto, unfolding(crate::specs::ReadCauses::cause_at))]
 pub(crate) fn cause(alloc: Global, n: u32, rest: &[u8]) -> Result<CauseNote, LineError>
     requires { n < 800 }
-    ensures { Gives (λ x. x) result (cause_at n (behind rest.now)) }
+    ensures read { Gives (λ x. x) result (cause_at n (behind rest.now)) }
+    ensures memory { IfErr result (λ e. e ≡ LineError.Memory → 0 < length (behind rest.now)) }
 {
     let (word, rest) = field(n, rest)?;
     cause_of(alloc, word, n, rest)
@@ -78,7 +81,8 @@ pub(crate) fn cause(alloc: Global, n: u32, rest: &[u8]) -> Result<CauseNote, Lin
 #[tactic(auto, unfolding(crate::specs::ReadCauses::took_of))]
 fn took_of(alloc: Global, word: &[u8], n: u32, rest: &[u8]) -> Result<TookNote, LineError>
     requires { n < 700 }
-    ensures { Gives (λ x. x) result (took_of word.now n (behind rest.now)) }
+    ensures read { Gives (λ x. x) result (took_of word.now n (behind rest.now)) }
+    ensures memory { IfErr result (λ e. e ≡ LineError.Memory → 0 < length (behind rest.now)) }
 {
     if is(word, b"accepted") {
         end(n + 1, rest)?;
@@ -98,7 +102,8 @@ fn took_of(alloc: Global, word: &[u8], n: u32, rest: &[u8]) -> Result<TookNote, 
 #[tactic(auto, unfolding(crate::specs::ReadCauses::took_at))]
 pub(crate) fn took(alloc: Global, n: u32, rest: &[u8]) -> Result<TookNote, LineError>
     requires { n < 700 }
-    ensures { Gives (λ x. x) result (took_at n (behind rest.now)) }
+    ensures read { Gives (λ x. x) result (took_at n (behind rest.now)) }
+    ensures memory { IfErr result (λ e. e ≡ LineError.Memory → 0 < length (behind rest.now)) }
 {
     let (word, rest) = field(n, rest)?;
     took_of(alloc, word, n, rest)
@@ -107,7 +112,8 @@ pub(crate) fn took(alloc: Global, n: u32, rest: &[u8]) -> Result<TookNote, LineE
 #[tactic(auto, unfolding(crate::specs::ReadCauses::clock_of))]
 fn clock_of(alloc: Global, word: &[u8], n: u32, rest: &[u8]) -> Result<ClockNote, LineError>
     requires { n < 800 }
-    ensures { Gives (λ x. x) result (clock_of word.now n (behind rest.now)) }
+    ensures read { Gives (λ x. x) result (clock_of word.now n (behind rest.now)) }
+    ensures memory { IfErr result (λ e. e ≡ LineError.Memory → 0 < length (behind rest.now)) }
 {
     if is(word, b"link-lost") {
         let link = last_number(n + 1, rest)?;
@@ -142,7 +148,8 @@ fn clock_of(alloc: Global, word: &[u8], n: u32, rest: &[u8]) -> Result<ClockNote
 #[tactic(auto, unfolding(crate::specs::ReadCauses::clock_at))]
 pub(crate) fn clock(alloc: Global, n: u32, rest: &[u8]) -> Result<ClockNote, LineError>
     requires { n < 800 }
-    ensures { Gives (λ x. x) result (clock_at n (behind rest.now)) }
+    ensures read { Gives (λ x. x) result (clock_at n (behind rest.now)) }
+    ensures memory { IfErr result (λ e. e ≡ LineError.Memory → 0 < length (behind rest.now)) }
 {
     let (word, rest) = field(n, rest)?;
     clock_of(alloc, word, n, rest)

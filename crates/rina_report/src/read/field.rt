@@ -1,5 +1,5 @@
 //! Reading the fields of a note, and numbers in them.
-ghost use Rattle.std.specs.Prelude.{◌≡◌, ◌∷◌, [], ◌<◌, ◌≤◌, ◌==◌, length, position, IfSome, IfOk, MatchOption};
+ghost use Rattle.std.specs.Prelude.{◌≡◌, ◌∷◌, [], ◌<◌, ◌≤◌, ◌==◌, length, position, IfSome, IfOk, MatchOption, IfErr, ◌≢◌, OnOk};
 ghost use Rattle.std.specs.Str.{bytes_eq};
 ghost use Rattle.rina_schedule.specs.Gives.{Gives};
 ghost use Rattle.rina_report.specs.Fields.{fields_of, behind, is_numeral, numeral_of, max8, max32, max64, field_at, end_at, number_at, word_at};
@@ -45,7 +45,9 @@ pub(crate) fn next_field(rest: &[u8]) -> Option<(&[u8], &[u8])>
 
 /// Reads field `n`, whatever it is.
 pub(crate) fn field(n: u32, rest: &[u8]) -> Result<(&[u8], &[u8]), LineError>
-    ensures { Gives (λ x. (x.0.now, behind x.1.now)) result (field_at n (behind rest.now)) }
+    ensures read { Gives (λ x. (x.0.now, behind x.1.now)) result (field_at n (behind rest.now)) }
+    ensures memory { IfErr result (λ e. e ≢ LineError.Memory) }
+    ensures there { OnOk result (0 < length (behind rest.now)) }
 {
     match next_field(rest) {
         Some(found) => Ok(found),
@@ -55,7 +57,8 @@ pub(crate) fn field(n: u32, rest: &[u8]) -> Result<(&[u8], &[u8]), LineError>
 
 /// Checks that the note ends before field `n`.
 pub(crate) fn end(n: u32, rest: &[u8]) -> Result<(), LineError>
-    ensures { Gives (λ x. x) result (end_at n (behind rest.now)) }
+    ensures read { Gives (λ x. x) result (end_at n (behind rest.now)) }
+    ensures memory { IfErr result (λ e. e ≢ LineError.Memory) }
 {
     match next_field(rest) {
         None => Ok(()),
@@ -91,6 +94,8 @@ pub(crate) fn read_numeral(max: u64, text: &[u8]) -> Option<u64>
 pub(crate) fn number_up_to(max: u64, n: u32, rest: &[u8]) -> Result<(u64, &[u8]), LineError>
     ensures value { Gives (λ x. (x.0, behind x.1.now)) result (number_at max n (behind rest.now)) }
     ensures small { IfOk result (λ x. x.0 ≤ max) }
+    ensures memory { IfErr result (λ e. e ≢ LineError.Memory) }
+    ensures there { OnOk result (0 < length (behind rest.now)) }
 {
     let (digits, rest) = field(n, rest)?;
     match read_numeral(max, digits) {
@@ -101,7 +106,9 @@ pub(crate) fn number_up_to(max: u64, n: u32, rest: &[u8]) -> Result<(u64, &[u8])
 
 /// Reads field `n`, a number of 32 bits.
 pub(crate) fn number(n: u32, rest: &[u8]) -> Result<(u32, &[u8]), LineError>
-    ensures { Gives (λ x. (x.0, behind x.1.now)) result (number_at max32 n (behind rest.now)) }
+    ensures read { Gives (λ x. (x.0, behind x.1.now)) result (number_at max32 n (behind rest.now)) }
+    ensures memory { IfErr result (λ e. e ≢ LineError.Memory) }
+    ensures there { OnOk result (0 < length (behind rest.now)) }
 {
     let (value, rest) = number_up_to(u64::from(u32::MAX), n, rest)?;
     Ok((value as u32, rest))
@@ -109,7 +116,8 @@ pub(crate) fn number(n: u32, rest: &[u8]) -> Result<(u32, &[u8]), LineError>
 
 /// Reads field `n`, a number of 8 bits.
 pub(crate) fn byte(n: u32, rest: &[u8]) -> Result<(u8, &[u8]), LineError>
-    ensures { Gives (λ x. (x.0, behind x.1.now)) result (number_at max8 n (behind rest.now)) }
+    ensures read { Gives (λ x. (x.0, behind x.1.now)) result (number_at max8 n (behind rest.now)) }
+    ensures memory { IfErr result (λ e. e ≢ LineError.Memory) }
 {
     let (value, rest) = number_up_to(u64::from(u8::MAX), n, rest)?;
     Ok((value as u8, rest))
@@ -117,7 +125,8 @@ pub(crate) fn byte(n: u32, rest: &[u8]) -> Result<(u8, &[u8]), LineError>
 
 /// Reads field `n`, a number of 64 bits.
 pub(crate) fn long(n: u32, rest: &[u8]) -> Result<(u64, &[u8]), LineError>
-    ensures { Gives (λ x. (x.0, behind x.1.now)) result (number_at max64 n (behind rest.now)) }
+    ensures read { Gives (λ x. (x.0, behind x.1.now)) result (number_at max64 n (behind rest.now)) }
+    ensures memory { IfErr result (λ e. e ≢ LineError.Memory) }
 {
     number_up_to(u64::MAX, n, rest)
 }
@@ -125,7 +134,8 @@ pub(crate) fn long(n: u32, rest: &[u8]) -> Result<(u64, &[u8]), LineError>
 /// Reads field `n`, which has to be this word.
 #[tactic(auto, unfolding(crate::specs::Fields::word_at))]
 pub(crate) fn word<'a>(expected: &[u8], n: u32, rest: &'a [u8]) -> Result<((), &'a [u8]), LineError>
-    ensures { Gives (λ x. (x.0, behind x.1.now)) result (word_at expected.now n (behind rest.now)) }
+    ensures read { Gives (λ x. (x.0, behind x.1.now)) result (word_at expected.now n (behind rest.now)) }
+    ensures memory { IfErr result (λ e. e ≢ LineError.Memory) }
 {
     let (found, rest) = field(n, rest)?;
     if !is(found, expected) {

@@ -1,5 +1,5 @@
 //! Reading the last fields of a note.
-ghost use Rattle.std.specs.Prelude.{◌<◌, ◌+◌};
+ghost use Rattle.std.specs.Prelude.{◌<◌, ◌+◌, IfErr, length, ◌≡◌, ◌≢◌};
 ghost use Rattle.rina_schedule.specs.Gives.{Gives};
 ghost use Rattle.rina_report.specs.Fields.{behind, max32, max64, last_number_at, last_two_at, last_num_at, last_port_at, last_truth_at, last_bytes_at};
 
@@ -14,7 +14,8 @@ use std::alloc::Global;
 #[tactic(auto, unfolding(crate::specs::Fields::last_number_at))]
 pub(crate) fn last_number(n: u32, rest: &[u8]) -> Result<u32, LineError>
     requires { n < 1000 }
-    ensures { Gives (λ x. x) result (last_number_at max32 n (behind rest.now)) }
+    ensures read { Gives (λ x. x) result (last_number_at max32 n (behind rest.now)) }
+    ensures memory { IfErr result (λ e. e ≢ LineError.Memory) }
 {
     let (value, rest) = number(n, rest)?;
     end(n + 1, rest)?;
@@ -25,7 +26,8 @@ pub(crate) fn last_number(n: u32, rest: &[u8]) -> Result<u32, LineError>
 #[tactic(auto, unfolding(crate::specs::Fields::last_number_at))]
 pub(crate) fn last_long(n: u32, rest: &[u8]) -> Result<u64, LineError>
     requires { n < 1000 }
-    ensures { Gives (λ x. x) result (last_number_at max64 n (behind rest.now)) }
+    ensures read { Gives (λ x. x) result (last_number_at max64 n (behind rest.now)) }
+    ensures memory { IfErr result (λ e. e ≢ LineError.Memory) }
 {
     let (value, rest) = long(n, rest)?;
     end(n + 1, rest)?;
@@ -36,7 +38,8 @@ pub(crate) fn last_long(n: u32, rest: &[u8]) -> Result<u64, LineError>
 #[tactic(auto, unfolding(crate::specs::Fields::last_two_at))]
 pub(crate) fn last_two(n: u32, rest: &[u8]) -> Result<(u32, u32), LineError>
     requires { n < 900 }
-    ensures { Gives (λ x. (x.0, x.1)) result (last_two_at max32 n (behind rest.now)) }
+    ensures read { Gives (λ x. (x.0, x.1)) result (last_two_at max32 n (behind rest.now)) }
+    ensures memory { IfErr result (λ e. e ≢ LineError.Memory) }
 {
     let (first, rest) = number(n, rest)?;
     let second = last_number(n + 1, rest)?;
@@ -47,7 +50,8 @@ pub(crate) fn last_two(n: u32, rest: &[u8]) -> Result<(u32, u32), LineError>
 #[tactic(auto, unfolding(crate::specs::Fields::last_two_at))]
 pub(crate) fn last_long_and_number(n: u32, rest: &[u8]) -> Result<(u64, u32), LineError>
     requires { n < 900 }
-    ensures { Gives (λ x. (x.0, x.1)) result (last_two_at max64 n (behind rest.now)) }
+    ensures read { Gives (λ x. (x.0, x.1)) result (last_two_at max64 n (behind rest.now)) }
+    ensures memory { IfErr result (λ e. e ≢ LineError.Memory) }
 {
     let (first, rest) = long(n, rest)?;
     let second = last_number(n + 1, rest)?;
@@ -58,7 +62,8 @@ pub(crate) fn last_long_and_number(n: u32, rest: &[u8]) -> Result<(u64, u32), Li
 #[tactic(auto, unfolding(crate::specs::Fields::last_num_at))]
 pub(crate) fn last_num(n: u32, rest: &[u8]) -> Result<Num, LineError>
     requires { n < 1000 }
-    ensures { Gives (λ x. x) result (last_num_at n (behind rest.now)) }
+    ensures read { Gives (λ x. x) result (last_num_at n (behind rest.now)) }
+    ensures memory { IfErr result (λ e. e ≢ LineError.Memory) }
 {
     let (value, rest) = num(n, rest)?;
     end(n + 1, rest)?;
@@ -69,7 +74,8 @@ pub(crate) fn last_num(n: u32, rest: &[u8]) -> Result<Num, LineError>
 #[tactic(auto, unfolding(crate::specs::Fields::last_port_at))]
 pub(crate) fn last_port(alloc: Global, n: u32, rest: &[u8]) -> Result<PortNote, LineError>
     requires { n < 1000 }
-    ensures { Gives (λ x. x) result (last_port_at n (behind rest.now)) }
+    ensures read { Gives (λ x. x) result (last_port_at n (behind rest.now)) }
+    ensures memory { IfErr result (λ e. e ≡ LineError.Memory → 0 < length (behind rest.now)) }
 {
     let (value, rest) = port(alloc, n, rest)?;
     end(n + 1, rest)?;
@@ -80,7 +86,8 @@ pub(crate) fn last_port(alloc: Global, n: u32, rest: &[u8]) -> Result<PortNote, 
 #[tactic(auto, unfolding(crate::specs::Fields::last_truth_at))]
 pub(crate) fn last_truth(n: u32, rest: &[u8]) -> Result<bool, LineError>
     requires { n < 1000 }
-    ensures { Gives (λ x. x) result (last_truth_at n (behind rest.now)) }
+    ensures read { Gives (λ x. x) result (last_truth_at n (behind rest.now)) }
+    ensures memory { IfErr result (λ e. e ≢ LineError.Memory) }
 {
     let (value, rest) = truth(n, rest)?;
     end(n + 1, rest)?;
@@ -91,7 +98,8 @@ pub(crate) fn last_truth(n: u32, rest: &[u8]) -> Result<bool, LineError>
 #[tactic(auto, unfolding(crate::specs::Fields::last_bytes_at))]
 pub(crate) fn last_bytes(alloc: Global, n: u32, rest: &[u8]) -> Result<Bytes, LineError>
     requires { n < 1000 }
-    ensures { Gives (λ x. x) result (last_bytes_at n (behind rest.now)) }
+    ensures read { Gives (λ x. x) result (last_bytes_at n (behind rest.now)) }
+    ensures memory { IfErr result (λ e. e ≡ LineError.Memory → 0 < length (behind rest.now)) }
 {
     let (value, rest) = bytes(alloc, n, rest)?;
     end(n + 1, rest)?;

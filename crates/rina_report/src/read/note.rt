@@ -1,8 +1,8 @@
 //! Reading whole notes.
-ghost use Rattle.std.specs.Prelude.{◌<◌, ◌+◌, ◌∷◌};
+ghost use Rattle.std.specs.Prelude.{IfOk, IsSome, OnOk, ◌<◌, ◌+◌, ◌∷◌, IfErr, length, ◌≡◌, ◌≢◌};
 ghost use Rattle.rina_schedule.specs.Gives.{Gives, or_bad};
 ghost use Rattle.rina_report.specs.Fields.{fields_of, behind, max32, numeral_of};
-ghost use Rattle.rina_report.specs.ReadNotes.{schedule_at, fault_of, fault_at, checked_at, named_at, gen_at, counter_at, told_at, line_note_at, whole_at, note_at};
+ghost use Rattle.rina_report.specs.ReadNotes.{schedule_at, fault_of, fault_at, checked_at, named_at, gen_at, counter_at, told_at, line_note_at, whole_at, note_at, TellsLine};
 
 use crate::note::{Fault, Note};
 use crate::read::answer::answer;
@@ -16,7 +16,8 @@ use std::alloc::Global;
 #[tactic(auto, unfolding(crate::specs::ReadNotes::schedule_at))]
 fn schedule(n: u32, rest: &[u8]) -> Result<Fault, LineError>
     requires { n < 100 }
-    ensures { Gives (λ x. x) result (schedule_at n (behind rest.now)) }
+    ensures read { Gives (λ x. x) result (schedule_at n (behind rest.now)) }
+    ensures memory { IfErr result (λ e. e ≢ LineError.Memory) }
 {
     let (line, rest) = number(n, rest)?;
     let (error, field) = last_two(n + 1, rest)?;
@@ -30,7 +31,8 @@ fn schedule(n: u32, rest: &[u8]) -> Result<Fault, LineError>
 #[tactic(auto, unfolding(crate::specs::ReadNotes::fault_of))]
 fn fault_of(word: &[u8], n: u32, rest: &[u8]) -> Result<Fault, LineError>
     requires { n < 90 }
-    ensures { Gives (λ x. x) result (fault_of word.now n (behind rest.now)) }
+    ensures read { Gives (λ x. x) result (fault_of word.now n (behind rest.now)) }
+    ensures memory { IfErr result (λ e. e ≢ LineError.Memory) }
 {
     if is(word, b"Usage") {
         let word = last_number(n + 1, rest)?;
@@ -58,7 +60,8 @@ fn fault_of(word: &[u8], n: u32, rest: &[u8]) -> Result<Fault, LineError>
 #[tactic(auto, unfolding(crate::specs::ReadNotes::fault_at))]
 fn fault(n: u32, rest: &[u8]) -> Result<Fault, LineError>
     requires { n < 90 }
-    ensures { Gives (λ x. x) result (fault_at n (behind rest.now)) }
+    ensures read { Gives (λ x. x) result (fault_at n (behind rest.now)) }
+    ensures memory { IfErr result (λ e. e ≢ LineError.Memory) }
 {
     let (word, rest) = field(n, rest)?;
     fault_of(word, n, rest)
@@ -68,7 +71,8 @@ fn fault(n: u32, rest: &[u8]) -> Result<Fault, LineError>
 #[tactic(auto, unfolding(crate::specs::ReadNotes::checked_at))]
 fn checked(n: u32, rest: &[u8]) -> Result<Note, LineError>
     requires { n < 90 }
-    ensures { Gives (λ x. x) result (checked_at n (behind rest.now)) }
+    ensures read { Gives (λ x. x) result (checked_at n (behind rest.now)) }
+    ensures memory { IfErr result (λ e. e ≢ LineError.Memory) }
 {
     let (nodes, rest) = number(n, rest)?;
     let (wires, rest) = number(n + 1, rest)?;
@@ -85,7 +89,8 @@ fn checked(n: u32, rest: &[u8]) -> Result<Note, LineError>
 #[tactic(auto, unfolding(crate::specs::ReadNotes::named_at))]
 fn named<'a>(expected: &[u8], n: u32, rest: &'a [u8]) -> Result<(u32, &'a [u8]), LineError>
     requires { n < 100 }
-    ensures { Gives (λ x. (x.0, behind x.1.now)) result (named_at expected.now n (behind rest.now)) }
+    ensures read { Gives (λ x. (x.0, behind x.1.now)) result (named_at expected.now n (behind rest.now)) }
+    ensures memory { IfErr result (λ e. e ≢ LineError.Memory) }
 {
     let ((), rest) = word(expected, n, rest)?;
     number(n + 1, rest)
@@ -95,7 +100,8 @@ fn named<'a>(expected: &[u8], n: u32, rest: &'a [u8]) -> Result<(u32, &'a [u8]),
 #[tactic(auto, unfolding(crate::specs::ReadNotes::gen_at))]
 fn summary(at: u32, rest: &[u8]) -> Result<Note, LineError>
     requires { at < 80 }
-    ensures { Gives (λ x. x) result (gen_at at (behind rest.now)) }
+    ensures read { Gives (λ x. x) result (gen_at at (behind rest.now)) }
+    ensures memory { IfErr result (λ e. e ≢ LineError.Memory) }
 {
     let (n, rest) = number(at, rest)?;
     let (lines, rest) = named(b"lines", at + 1, rest)?;
@@ -120,7 +126,9 @@ fn summary(at: u32, rest: &[u8]) -> Result<Note, LineError>
 
 /// Reads the number of a line or a tick. Fails with `UnknownWord` where the text is no number of 32 bits.
 fn counter_of(text: &[u8]) -> Result<u32, LineError>
-    ensures { Gives (λ x. x) result (or_bad LineError.UnknownWord (numeral_of max32 text.now)) }
+    ensures read { Gives (λ x. x) result (or_bad LineError.UnknownWord (numeral_of max32 text.now)) }
+    ensures memory { IfErr result (λ e. e ≢ LineError.Memory) }
+    ensures there { OnOk result (IsSome (numeral_of max32 text.now)) }
 {
     match read_numeral(u64::from(u32::MAX), text) {
         Some(value) => Ok(value as u32),
@@ -130,7 +138,8 @@ fn counter_of(text: &[u8]) -> Result<u32, LineError>
 
 /// Reads the answer behind the number of a line and the tick.
 fn told(alloc: Global, line: u32, tick: Tick, rest: &[u8]) -> Result<Note, LineError>
-    ensures { Gives (λ x. x) result (told_at line tick (behind rest.now)) }
+    ensures read { Gives (λ x. x) result (told_at line tick (behind rest.now)) }
+    ensures memory { IfErr result (λ e. e ≡ LineError.Memory → 1 < length (behind rest.now)) }
 {
     let Some((word, rest)) = next_field(rest) else {
         return Err(LineError::UnknownWord);
@@ -142,7 +151,9 @@ fn told(alloc: Global, line: u32, tick: Tick, rest: &[u8]) -> Result<Note, LineE
 /// Reads the tick behind the number of a line.
 #[tactic(auto, unfolding(crate::specs::ReadNotes::counter_at))]
 fn tick(rest: &[u8]) -> Result<(Tick, &[u8]), LineError>
-    ensures { Gives (λ x. (x.0, behind x.1.now)) result (counter_at (behind rest.now)) }
+    ensures read { Gives (λ x. (x.0, behind x.1.now)) result (counter_at (behind rest.now)) }
+    ensures memory { IfErr result (λ e. e ≢ LineError.Memory) }
+    ensures there { IfOk result (λ x. length (behind rest.now) ≡ 1 + length (behind x.1.now)) }
 {
     let Some((text, rest)) = next_field(rest) else {
         return Err(LineError::UnknownWord);
@@ -154,7 +165,8 @@ fn tick(rest: &[u8]) -> Result<(Tick, &[u8]), LineError>
 /// Reads a note that begins with the number of a line and a tick.
 #[tactic(auto, unfolding(crate::specs::ReadNotes::line_note_at, crate::specs::ReadNotes::counter_at))]
 fn line_note(alloc: Global, first: &[u8], rest: &[u8]) -> Result<Note, LineError>
-    ensures { Gives (λ x. x) result (line_note_at (first.now ∷ behind rest.now)) }
+    ensures read { Gives (λ x. x) result (line_note_at (first.now ∷ behind rest.now)) }
+    ensures memory { IfErr result (λ e. e ≡ LineError.Memory → TellsLine (first.now ∷ behind rest.now)) }
 {
     let line = counter_of(first)?;
     let (tick, rest) = tick(rest)?;
@@ -163,7 +175,8 @@ fn line_note(alloc: Global, first: &[u8], rest: &[u8]) -> Result<Note, LineError
 
 #[tactic(auto, unfolding(crate::specs::ReadNotes::whole_at))]
 fn whole(alloc: Global, word: &[u8], rest: &[u8]) -> Result<Note, LineError>
-    ensures { Gives (λ x. x) result (whole_at word.now (behind rest.now)) }
+    ensures read { Gives (λ x. x) result (whole_at word.now (behind rest.now)) }
+    ensures memory { IfErr result (λ e. e ≡ LineError.Memory → TellsLine (word.now ∷ behind rest.now)) }
 {
     if is(word, b"end") {
         let tick = last_number(1, rest)?;
@@ -186,7 +199,9 @@ fn whole(alloc: Global, word: &[u8], rest: &[u8]) -> Result<Note, LineError>
 /// the two numbers before it is missing or not a number; and with `Memory` once an allocation fails.
 #[tactic(auto, unfolding(crate::specs::ReadNotes::note_at))]
 pub fn read_note(alloc: Global, text: &[u8]) -> Result<Note, LineError>
-    ensures { Gives (λ x. x) result (note_at text.now) }
+    ensures read { Gives (λ x. x) result (note_at text.now) }
+    // Only the fields behind the word of a line's answer are copied, so no other note fails with `Memory`.
+    ensures memory { IfErr result (λ e. e ≡ LineError.Memory → TellsLine (fields_of text.now)) }
 {
     let (word, rest) = first_field(text);
     whole(alloc, word, rest)

@@ -1,5 +1,5 @@
 //! Reading refusals.
-ghost use Rattle.std.specs.Prelude.{◌≡◌, ◌<◌};
+ghost use Rattle.std.specs.Prelude.{◌≡◌, ◌<◌, IfErr, length};
 ghost use Rattle.rina_schedule.specs.Gives.{Gives};
 ghost use Rattle.rina_report.specs.Fields.{behind};
 ghost use Rattle.rina_report.specs.ReadRefusals.{bare_of, state_or_none_of, state_or_none_at, shaped_of, numbered_of, counted_of, refusal_of, refusal_at};
@@ -62,7 +62,8 @@ fn state_or_none_of(
     rest: &[u8],
 ) -> Result<Option<StateNote>, LineError>
     requires { n < 500 }
-    ensures { Gives (λ x. x) result (state_or_none_of word.now n (behind rest.now)) }
+    ensures read { Gives (λ x. x) result (state_or_none_of word.now n (behind rest.now)) }
+    ensures memory { IfErr result (λ e. e ≡ LineError.Memory → 0 < length (behind rest.now)) }
 {
     if is(word, b"none") {
         end(n + 1, rest)?;
@@ -75,7 +76,8 @@ fn state_or_none_of(
 #[tactic(auto, unfolding(crate::specs::ReadRefusals::state_or_none_at))]
 fn state_or_none(alloc: Global, n: u32, rest: &[u8]) -> Result<Option<StateNote>, LineError>
     requires { n < 500 }
-    ensures { Gives (λ x. x) result (state_or_none_at n (behind rest.now)) }
+    ensures read { Gives (λ x. x) result (state_or_none_at n (behind rest.now)) }
+    ensures memory { IfErr result (λ e. e ≡ LineError.Memory → 0 < length (behind rest.now)) }
 {
     let (word, rest) = field(n, rest)?;
     state_or_none_of(alloc, word, n, rest)
@@ -85,7 +87,8 @@ fn state_or_none(alloc: Global, n: u32, rest: &[u8]) -> Result<Option<StateNote>
 #[tactic(auto, unfolding(crate::specs::ReadRefusals::shaped_of))]
 fn shaped(alloc: Global, word: &[u8], n: u32, rest: &[u8]) -> Result<Refusal, LineError>
     requires { n < 400 }
-    ensures { Gives (λ x. x) result (shaped_of word.now n (behind rest.now)) }
+    ensures read { Gives (λ x. x) result (shaped_of word.now n (behind rest.now)) }
+    ensures memory { IfErr result (λ e. e ≡ LineError.Memory → 0 < length (behind rest.now)) }
 {
     if is(word, b"CountSpent") {
         let (need, left) = last_two(n + 1, rest)?;
@@ -125,7 +128,8 @@ fn shaped(alloc: Global, word: &[u8], n: u32, rest: &[u8]) -> Result<Refusal, Li
 #[tactic(auto, unfolding(crate::specs::ReadRefusals::numbered_of))]
 fn numbered(alloc: Global, word: &[u8], n: u32, rest: &[u8]) -> Result<Refusal, LineError>
     requires { n < 400 }
-    ensures { Gives (λ x. x) result (numbered_of word.now n (behind rest.now)) }
+    ensures read { Gives (λ x. x) result (numbered_of word.now n (behind rest.now)) }
+    ensures memory { IfErr result (λ e. e ≡ LineError.Memory → 0 < length (behind rest.now)) }
 {
     if is(word, b"Enrolling") {
         let link = last_number(n + 1, rest)?;
@@ -154,7 +158,8 @@ fn numbered(alloc: Global, word: &[u8], n: u32, rest: &[u8]) -> Result<Refusal, 
 #[tactic(auto, unfolding(crate::specs::ReadRefusals::counted_of))]
 fn counted(alloc: Global, word: &[u8], n: u32, rest: &[u8]) -> Result<Refusal, LineError>
     requires { n < 400 }
-    ensures { Gives (λ x. x) result (counted_of word.now n (behind rest.now)) }
+    ensures read { Gives (λ x. x) result (counted_of word.now n (behind rest.now)) }
+    ensures memory { IfErr result (λ e. e ≡ LineError.Memory → 0 < length (behind rest.now)) }
 {
     if is(word, b"Unknown") {
         let field = last_number(n + 1, rest)?;
@@ -182,7 +187,8 @@ fn counted(alloc: Global, word: &[u8], n: u32, rest: &[u8]) -> Result<Refusal, L
 #[tactic(auto, unfolding(crate::specs::ReadRefusals::refusal_of))]
 fn refusal_of(alloc: Global, word: &[u8], n: u32, rest: &[u8]) -> Result<Refusal, LineError>
     requires { n < 400 }
-    ensures { Gives (λ x. x) result (refusal_of word.now n (behind rest.now)) }
+    ensures read { Gives (λ x. x) result (refusal_of word.now n (behind rest.now)) }
+    ensures memory { IfErr result (λ e. e ≡ LineError.Memory → 0 < length (behind rest.now)) }
 {
     match bare(word) {
         Some(why) => {
@@ -197,7 +203,8 @@ fn refusal_of(alloc: Global, word: &[u8], n: u32, rest: &[u8]) -> Result<Refusal
 #[tactic(auto, unfolding(crate::specs::ReadRefusals::refusal_at))]
 pub(crate) fn refusal(alloc: Global, n: u32, rest: &[u8]) -> Result<Refusal, LineError>
     requires { n < 400 }
-    ensures { Gives (λ x. x) result (refusal_at n (behind rest.now)) }
+    ensures read { Gives (λ x. x) result (refusal_at n (behind rest.now)) }
+    ensures memory { IfErr result (λ e. e ≡ LineError.Memory → 0 < length (behind rest.now)) }
 {
     let (word, rest) = field(n, rest)?;
     refusal_of(alloc, word, n, rest)

@@ -1,5 +1,5 @@
 //! Reading the states of ports, from field `n` to the end of the note.
-ghost use Rattle.std.specs.Prelude.{◌<◌, ◌+◌};
+ghost use Rattle.std.specs.Prelude.{◌<◌, ◌+◌, IfErr, length, ◌≡◌, ◌≢◌};
 ghost use Rattle.rina_schedule.specs.Gives.{Gives};
 ghost use Rattle.rina_report.specs.Fields.{behind};
 ghost use Rattle.rina_report.specs.ReadStates.{why_of, why_at, gave_up_at, fail_of, fail_at, state_of, state_at};
@@ -15,7 +15,8 @@ use std::alloc::Global;
 #[tactic(auto, unfolding(crate::specs::ReadStates::why_of))]
 fn why_of(word: &[u8], n: u32, rest: &[u8]) -> Result<Why, LineError>
     requires { n < 800 }
-    ensures { Gives (λ x. x) result (why_of word.now n (behind rest.now)) }
+    ensures read { Gives (λ x. x) result (why_of word.now n (behind rest.now)) }
+    ensures memory { IfErr result (λ e. e ≢ LineError.Memory) }
 {
     if is(word, b"Denied") {
         let rule = last_number(n + 1, rest)?;
@@ -41,7 +42,8 @@ fn why_of(word: &[u8], n: u32, rest: &[u8]) -> Result<Why, LineError>
 #[tactic(auto, unfolding(crate::specs::ReadStates::why_at))]
 fn why(n: u32, rest: &[u8]) -> Result<Why, LineError>
     requires { n < 800 }
-    ensures { Gives (λ x. x) result (why_at n (behind rest.now)) }
+    ensures read { Gives (λ x. x) result (why_at n (behind rest.now)) }
+    ensures memory { IfErr result (λ e. e ≢ LineError.Memory) }
 {
     let (word, rest) = field(n, rest)?;
     why_of(word, n, rest)
@@ -51,7 +53,8 @@ fn why(n: u32, rest: &[u8]) -> Result<Why, LineError>
 #[tactic(auto, unfolding(crate::specs::ReadStates::gave_up_at))]
 fn gave_up(n: u32, rest: &[u8]) -> Result<FailNote, LineError>
     requires { n < 800 }
-    ensures { Gives (λ x. x) result (gave_up_at n (behind rest.now)) }
+    ensures read { Gives (λ x. x) result (gave_up_at n (behind rest.now)) }
+    ensures memory { IfErr result (λ e. e ≢ LineError.Memory) }
 {
     let (num, rest) = num(n, rest)?;
     let (first, now) = last_two(n + 1, rest)?;
@@ -61,7 +64,8 @@ fn gave_up(n: u32, rest: &[u8]) -> Result<FailNote, LineError>
 #[tactic(auto, unfolding(crate::specs::ReadStates::fail_of))]
 fn fail_of(alloc: Global, word: &[u8], n: u32, rest: &[u8]) -> Result<FailNote, LineError>
     requires { n < 700 }
-    ensures { Gives (λ x. x) result (fail_of word.now n (behind rest.now)) }
+    ensures read { Gives (λ x. x) result (fail_of word.now n (behind rest.now)) }
+    ensures memory { IfErr result (λ e. e ≡ LineError.Memory → 0 < length (behind rest.now)) }
 {
     if is(word, b"GaveUp") {
         gave_up(n + 1, rest)
@@ -80,7 +84,8 @@ fn fail_of(alloc: Global, word: &[u8], n: u32, rest: &[u8]) -> Result<FailNote, 
 #[tactic(auto, unfolding(crate::specs::ReadStates::fail_at))]
 pub(crate) fn fail(alloc: Global, n: u32, rest: &[u8]) -> Result<FailNote, LineError>
     requires { n < 700 }
-    ensures { Gives (λ x. x) result (fail_at n (behind rest.now)) }
+    ensures read { Gives (λ x. x) result (fail_at n (behind rest.now)) }
+    ensures memory { IfErr result (λ e. e ≡ LineError.Memory → 0 < length (behind rest.now)) }
 {
     let (word, rest) = field(n, rest)?;
     fail_of(alloc, word, n, rest)
@@ -95,7 +100,8 @@ pub(crate) fn state_of(
     rest: &[u8],
 ) -> Result<StateNote, LineError>
     requires { n < 600 }
-    ensures { Gives (λ x. x) result (state_of word.now n (behind rest.now)) }
+    ensures read { Gives (λ x. x) result (state_of word.now n (behind rest.now)) }
+    ensures memory { IfErr result (λ e. e ≡ LineError.Memory → 0 < length (behind rest.now)) }
 {
     if is(word, b"pending") {
         end(n + 1, rest)?;
@@ -121,7 +127,8 @@ pub(crate) fn state_of(
 #[tactic(auto, unfolding(crate::specs::ReadStates::state_at))]
 pub(crate) fn state(alloc: Global, n: u32, rest: &[u8]) -> Result<StateNote, LineError>
     requires { n < 600 }
-    ensures { Gives (λ x. x) result (state_at n (behind rest.now)) }
+    ensures read { Gives (λ x. x) result (state_at n (behind rest.now)) }
+    ensures memory { IfErr result (λ e. e ≡ LineError.Memory → 0 < length (behind rest.now)) }
 {
     let (word, rest) = field(n, rest)?;
     state_of(alloc, word, n, rest)

@@ -1,5 +1,5 @@
 //! Reading values of more than one part, names and bytes.
-ghost use Rattle.std.specs.Prelude.{◌≡◌, ◌+◌, ◌<◌, ◌≤◌, IfSome};
+ghost use Rattle.std.specs.Prelude.{◌≡◌, ◌+◌, ◌<◌, ◌≤◌, IfSome, IfErr, length, ◌≢◌, OnOk};
 ghost use Rattle.rina_base.specs.Names.{name_at};
 ghost use Rattle.rina_schedule.specs.Fields.{name_or_bad};
 ghost use Rattle.rina_schedule.specs.Gives.{Gives};
@@ -56,7 +56,8 @@ fn triple(text: &[u8]) -> Option<(u32, u32, u32)>
 /// Reads field `n`, CEP.SEQ.
 #[tactic(auto, unfolding(crate::specs::Fields::num_at))]
 pub(crate) fn num(n: u32, rest: &[u8]) -> Result<(Num, &[u8]), LineError>
-    ensures { Gives (λ x. (x.0, behind x.1.now)) result (num_at n (behind rest.now)) }
+    ensures read { Gives (λ x. (x.0, behind x.1.now)) result (num_at n (behind rest.now)) }
+    ensures memory { IfErr result (λ e. e ≢ LineError.Memory) }
 {
     let (text, rest) = field(n, rest)?;
     match pair(u64::MAX, text) {
@@ -68,7 +69,9 @@ pub(crate) fn num(n: u32, rest: &[u8]) -> Result<(Num, &[u8]), LineError>
 /// Reads field `n`, SRC.TICK.COUNT.
 #[tactic(auto, unfolding(crate::specs::Fields::flow_at))]
 pub(crate) fn flow(n: u32, rest: &[u8]) -> Result<(FlowName, &[u8]), LineError>
-    ensures { Gives (λ x. (x.0, behind x.1.now)) result (flow_at n (behind rest.now)) }
+    ensures read { Gives (λ x. (x.0, behind x.1.now)) result (flow_at n (behind rest.now)) }
+    ensures memory { IfErr result (λ e. e ≢ LineError.Memory) }
+    ensures there { OnOk result (0 < length (behind rest.now)) }
 {
     let (text, rest) = field(n, rest)?;
     match triple(text) {
@@ -94,7 +97,9 @@ fn kind(word: &[u8]) -> Option<PduKind>
 #[tactic(auto, unfolding(crate::specs::Fields::key_at))]
 pub(crate) fn key(n: u32, rest: &[u8]) -> Result<(Key, &[u8]), LineError>
     requires { n < 1000 }
-    ensures { Gives (λ x. (x.0, behind x.1.now)) result (key_at n (behind rest.now)) }
+    ensures read { Gives (λ x. (x.0, behind x.1.now)) result (key_at n (behind rest.now)) }
+    ensures memory { IfErr result (λ e. e ≢ LineError.Memory) }
+    ensures there { OnOk result (0 < length (behind rest.now)) }
 {
     let (word, rest) = field(n, rest)?;
     let Some(kind) = kind(word) else {
@@ -147,7 +152,8 @@ pub(crate) fn port<'a>(
     n: u32,
     rest: &'a [u8],
 ) -> Result<(PortNote, &'a [u8]), LineError>
-    ensures { Gives (λ x. (x.0, behind x.1.now)) result (port_at n (behind rest.now)) }
+    ensures read { Gives (λ x. (x.0, behind x.1.now)) result (port_at n (behind rest.now)) }
+    ensures memory { IfErr result (λ e. e ≡ LineError.Memory → 0 < length (behind rest.now)) }
 {
     let (text, rest) = field(n, rest)?;
     let port = port_of(alloc, n, text)?;
@@ -170,7 +176,8 @@ fn truth_of(text: &[u8]) -> Option<bool>
 /// Reads field `n`, 0 or 1.
 #[tactic(auto, unfolding(crate::specs::Fields::truth_at))]
 pub(crate) fn truth(n: u32, rest: &[u8]) -> Result<(bool, &[u8]), LineError>
-    ensures { Gives (λ x. (x.0, behind x.1.now)) result (truth_at n (behind rest.now)) }
+    ensures read { Gives (λ x. (x.0, behind x.1.now)) result (truth_at n (behind rest.now)) }
+    ensures memory { IfErr result (λ e. e ≢ LineError.Memory) }
 {
     let (text, rest) = field(n, rest)?;
     match truth_of(text) {
@@ -182,7 +189,9 @@ pub(crate) fn truth(n: u32, rest: &[u8]) -> Result<(bool, &[u8]), LineError>
 /// Reads field `n`, a name.
 #[tactic(auto, unfolding(crate::specs::Fields::name_field_at))]
 pub(crate) fn name<'a>(alloc: Global, n: u32, rest: &'a [u8]) -> Result<(Name, &'a [u8]), LineError>
-    ensures { Gives (λ x. (x.0, behind x.1.now)) result (name_field_at n (behind rest.now)) }
+    ensures read { Gives (λ x. (x.0, behind x.1.now)) result (name_field_at n (behind rest.now)) }
+    ensures memory { IfErr result (λ e. e ≡ LineError.Memory → 0 < length (behind rest.now)) }
+    ensures there { OnOk result (0 < length (behind rest.now)) }
 {
     let (text, rest) = field(n, rest)?;
     let name = name_of(alloc, n, text)?;
@@ -196,7 +205,8 @@ pub(crate) fn app<'a>(
     n: u32,
     rest: &'a [u8],
 ) -> Result<(AppName, &'a [u8]), LineError>
-    ensures { Gives (λ x. (x.0, behind x.1.now)) result (app_field_at n (behind rest.now)) }
+    ensures read { Gives (λ x. (x.0, behind x.1.now)) result (app_field_at n (behind rest.now)) }
+    ensures memory { IfErr result (λ e. e ≡ LineError.Memory → 0 < length (behind rest.now)) }
 {
     let (text, rest) = field(n, rest)?;
     match AppName::read(alloc, text) {
@@ -213,7 +223,9 @@ pub(crate) fn object<'a>(
     n: u32,
     rest: &'a [u8],
 ) -> Result<(ObjectName, &'a [u8]), LineError>
-    ensures { Gives (λ x. (x.0, behind x.1.now)) result (object_at n (behind rest.now)) }
+    ensures read { Gives (λ x. (x.0, behind x.1.now)) result (object_at n (behind rest.now)) }
+    ensures memory { IfErr result (λ e. e ≡ LineError.Memory → 0 < length (behind rest.now)) }
+    ensures there { OnOk result (0 < length (behind rest.now)) }
 {
     let (text, rest) = field(n, rest)?;
     match ObjectName::read(alloc, text) {
@@ -230,7 +242,8 @@ pub(crate) fn bytes<'a>(
     n: u32,
     rest: &'a [u8],
 ) -> Result<(Bytes, &'a [u8]), LineError>
-    ensures { Gives (λ x. (x.0, behind x.1.now)) result (bytes_at n (behind rest.now)) }
+    ensures read { Gives (λ x. (x.0, behind x.1.now)) result (bytes_at n (behind rest.now)) }
+    ensures memory { IfErr result (λ e. e ≡ LineError.Memory → 0 < length (behind rest.now)) }
 {
     let (text, rest) = field(n, rest)?;
     let bytes = read_printed(alloc, n, text)?;

@@ -1,7 +1,5 @@
 //! How long nothing arrives on a wire.
-ghost use Rattle.std.specs.Prelude.{◌≡◌, ◌≤◌, ℕ, slice_get, Some};
-ghost use Rattle.rina_wire.specs.declared.flight.Flight.{Flight};
-ghost use Rattle.rina_wire.specs.Resting.{IsQuietLine};
+ghost use Rattle.rina_wire.specs.Resting.{AreQuietCopies, IsLast, IsQuietLine};
 
 use super::Wire;
 use crate::flight::Flight;
@@ -9,7 +7,8 @@ use rina_base::Tick;
 
 /// The first tick at which one of the copies arrives. `Tick::MAX` where there is none.
 fn first_arrival(flights: &[Flight]) -> Tick
-    ensures { (place : ℕ) (f : Flight) → slice_get flights.now place ≡ Some f → result ≤ f.due }
+    ensures quiet { AreQuietCopies result flights.now }
+    ensures last { IsLast (λ until. AreQuietCopies until flights.now) result }
 {
     let mut until = Tick::MAX;
     for place in 0..flights.len() {
@@ -21,7 +20,8 @@ fn first_arrival(flights: &[Flight]) -> Tick
 impl Wire {
     /// The first tick at which a copy in flight arrives. `Tick::MAX` where none is in flight.
     pub fn quiet_until(&self) -> Tick
-        ensures { IsQuietLine result self.now }
+        ensures quiet { IsQuietLine result self.now }
+        ensures last { IsLast (λ until. IsQuietLine until self.now) result }
     {
         first_arrival(self.flights.as_slice())
     }

@@ -1,7 +1,6 @@
 //! The clock of wires on which nothing arrives.
-ghost use Rattle.std.specs.Prelude.{◌≡◌, ◌+◌, ◌<◌, ◌≤◌, ℕ, slice_get, Some};
-ghost use Rattle.rina_wire.specs.Air.{Line};
-ghost use Rattle.rina_wire.specs.Resting.{IsQuietLine, RestsUntil, at_tick};
+ghost use Rattle.std.specs.Prelude.{◌≡◌, ◌+◌, ◌<◌, ◌≤◌, false};
+ghost use Rattle.rina_wire.specs.Resting.{AreQuietLines, IsLast, RestsUntil, at_tick};
 ghost use Rattle.rina_wire.specs.Sound.{IsSound};
 
 use super::Wires;
@@ -10,7 +9,8 @@ use rina_base::Tick;
 
 /// The first tick at which a copy arrives on one of the wires. `Tick::MAX` where none is in flight.
 fn quiet_until(wires: &[Wire]) -> Tick
-    ensures { (fac : ℕ) (l : Line) → slice_get wires.now fac ≡ Some l → IsQuietLine result l }
+    ensures quiet { AreQuietLines result wires.now }
+    ensures last { IsLast (λ until. AreQuietLines until wires.now) result }
 {
     let mut until = Tick::MAX;
     for fac in 0..wires.len() {
@@ -23,7 +23,9 @@ impl Wires {
     /// The first tick at which a copy arrives, where it is after the clock. `Tick::MAX` where none is in flight. Where an
     /// allocation has failed, the clock itself: no tick passes any more.
     pub fn rests_until(&self) -> Tick
-        ensures { self.now.now < result → RestsUntil result self.now }
+        ensures rests { self.now.now < result → RestsUntil result self.now }
+        // Where no allocation has failed, no later tick is one until which they rest.
+        ensures last { self.now.failed ≡ false → IsLast (λ until. RestsUntil until self.now) result }
     {
         if self.failed {
             return self.clock;

@@ -4,8 +4,8 @@ use Rattle.rina_schedule.specs.Gives.{or_bad}
 use Rattle.rina_schedule.proofs.Hex.{pair_read, odd_end}
 use Rattle.rina_schedule.proofs.bytes.read_hex.Goals as goal
 
-pub returns-then-at-text : goal.returns-then-at-text
-returns-then-at-text c = ap (or_bad (errors.BadBytes c.args.n)) (odd_end c.args.text.now c.pairs.bytes c.pairs.at _ c.if-at-text.true c.pairs.invariant.read)
+pub returns-then-at-text-clause-read : goal.returns-then-at-text-clause-read
+returns-then-at-text-clause-read c = ap (or_bad (errors.BadBytes c.args.n)) (odd_end c.args.text.now c.pairs.bytes c.pairs.at _ c.if-at-text.true c.pairs.invariant.read)
 
 pub pairs-preserved : goal.pairs-preserved
 pairs-preserved c =

@@ -7,8 +7,8 @@ use Rattle.rina_table.specs.Values.{rows}
 use Rattle.rina_table.proofs.Tables.{item_seen, err_passes, number_unused}
 use Rattle.rina_table.proofs.rows.all_of.Goals as goal
 
-pub returns-in_err-row : goal.returns-in_err-row
-returns-in_err-row g c =
+pub returns-in_err-row-clause-read : goal.returns-in_err-row-clause-read
+returns-in_err-row-clause-read g c =
     let p = err_from_is_err_and c.from_residual.result c.from_residual.ensures.1 in
     let vs = c.args.values.now in
     let f = g.T.Row.reads_as c.args.scope.now c.args.item in
@@ -17,7 +17,7 @@ returns-in_err-row g c =
     let within : i < length (map view vs) = omega (arith, length-map vs view) in
     let seen = item_seen vs i v v c.value-item.is in
     rw (p.1, p.2) (err_passes (λ t. t) (λ t. t) c.in_err-row.field-0.0 (f (view v)) (rows f (map view vs))
-    (λ d h. stops (λ _. f) i 0 (map view vs) (view v) c.values.read d _ within (ap f seen ∙ h) c.values.invariant) c.in_err-row.ensures)
+    (λ d h. stops (λ _. f) i 0 (map view vs) (view v) c.values.read d _ within (ap f seen ∙ h) c.values.invariant) c.in_err-row.ensures.read)
 
 pub values-preserved : goal.values-preserved
 values-preserved g c =
@@ -27,10 +27,10 @@ values-preserved g c =
     let i = c.values.value-index in
     let within : i < length (map view vs) = omega (arith, length-map vs view) in
     let seen = item_seen vs i v v c.value-item.is in
-    rw c.in_ok-push.ensures.ok (ap (with_front _) (number_unused f 0 1 (drop (i + 1) (map view vs))) ∙ goes_on (λ _. f) i 0 (map view vs) (view v) c.values.read c.in_ok-row.row _ within (ap f seen ∙ c.in_ok-row.ensures) c.values.invariant)
+    rw c.in_ok-push.ensures.ok (ap (with_front _) (number_unused f 0 1 (drop (i + 1) (map view vs))) ∙ goes_on (λ _. f) i 0 (map view vs) (view v) c.values.read c.in_ok-row.row _ within (ap f seen ∙ c.in_ok-row.ensures.read) c.values.invariant)
 
-pub returns : goal.returns
-returns g c =
+pub returns-clause-read : goal.returns-clause-read
+returns-clause-read g c =
     let f = g.T.Row.reads_as c.args.scope.now c.args.item in
     let past : length (map view c.args.values.now) ≤ c.values.value-index = omega (arith, length-map c.args.values.now view) in
     is_done (λ _. f) c.values.value-index 0 (map view c.args.values.now) c.values.read _ past c.values.invariant

@@ -1,7 +1,6 @@
-use Rattle.std.proofs.Common.{ap, subst}
+use Rattle.std.proofs.Common.{ap}
 use Rattle.rina_wire.specs.Air.{Air}
 use Rattle.rina_wire.specs.Resting.{at_tick}
-use Rattle.rina_wire.specs.Sound.{IsSound}
 use Rattle.rina_wire.proofs.Rested.{rested_sound}
 use Rattle.rina_wire.proofs.wires.Wires.rest_to.Goals as goal
 
