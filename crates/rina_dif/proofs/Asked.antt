@@ -1,5 +1,5 @@
 -- A DIF after a CDAP message was answered.
-use Rattle.std.proofs.Common.{◌≡◌, ◌≤◌, ℕ, Bool, List, Result, Ok, Err, refl, sym, ap, subst}
+use Rattle.std.proofs.Common.{◌≡◌, ◌≤◌, ℕ, Bool, List, Result, Ok, Err, refl, sym, ap, subst, false}
 use Rattle.rina_iface.specs.Seen.{Seen}
 use Rattle.rina_law.specs.Direction.{Direction}
 use Rattle.rina_dif.specs.declared.cdap.CdapCallError.{CdapCallError}
@@ -12,13 +12,14 @@ use Rattle.rina_dif.specs.Shown.{seen_of}
 use Rattle.rina_dif.specs.Whole.{IsDif}
 use Rattle.rina_dif.proofs.Facing.{same_goes_on}
 use Rattle.rina_dif.proofs.Managed.{managed_shown}
+use Rattle.rina_dif.proofs.Flooding.{same_agents}
 
 -- it shows what it showed
 pub kept_seen : (d d' : Dif) → KeepsAll d d' → seen_of d' ≡ seen_of d
 kept_seen d d' k = ap seen_of k.is
 
 pub kept_holds : (d d' : Dif) (lines : List Direction) (below : Seen) → KeepsAll d d' → Holds d lines below → Holds d' lines below
-kept_holds d d' lines below k h = subst (λ (x : Dif). Holds x lines below) (sym k.is) (record { tied = h.tied; standing = h.standing; carrying = h.carrying; numbered = h.numbered; accounted = h.accounted; caused = h.caused; written_off = h.written_off; housed = h.housed; routed = h.routed; managed = managed_shown d.settings.members d.laid.links d.clock d.processes d.managements d'.managements k.agents h.managed; connected = h.connected })
+kept_holds d d' lines below k h = subst (λ (x : Dif). Holds x lines below) (sym k.is) (record { tied = h.tied; standing = h.standing; carrying = h.carrying; numbered = h.numbered; accounted = h.accounted; caused = h.caused; written_off = h.written_off; housed = h.housed; routed = h.routed; managed = managed_shown d.settings.members d.laid.links d.clock d.processes d.managements d'.managements k.agents h.managed; connected = h.connected; flooded = λ still. same_agents d d'.managements k.agents (h.flooded (k.alive still)) })
 
 pub kept_stands : (d d' : Dif) → KeepsAll d d' → StaysStanding d d'
 kept_stands d d' k = λ below s. (s.0, kept_holds d d' s.0 below k s.1)
@@ -37,8 +38,8 @@ kept_goes_on d d' v k = same_goes_on d d' v (kept_seen d d' k)
 abbrev pub noted : Dif → Bool → Dif
 noted d failed = record d { failed = failed }
 
-pub noted_keeps : (d d' : Dif) (failed : Bool) → KeepsAll d d' → KeepsAll d (noted d' failed)
-noted_keeps d d' failed k = record { is = ap (λ (x : Dif). noted x failed) k.is; agents = k.agents }
+pub noted_keeps : (d d' : Dif) (failed : Bool) → d.failed ≡ false → KeepsAll d d' → KeepsAll d (noted d' failed)
+noted_keeps d d' failed alive k = record { is = ap (λ (x : Dif). noted x failed) k.is; agents = k.agents; alive = λ still. alive }
 
 pub noted_asks : (d d' : Dif) (node : ℕ) (bytes : List ℕ) (result : Result (List ℕ) CdapCallError) (failed : Bool) → Asks d node bytes result d' → Asks d node bytes result (noted d' failed)
 noted_asks d d' node bytes (Ok answer) failed a = record {
@@ -53,4 +54,4 @@ noted_asks d d' node bytes (Err NoIpc) failed a = a
 noted_asks d d' node bytes (Err (Cdap error)) failed a = a
 
 pub same_keeps : (d : Dif) → KeepsAll d d
-same_keeps d = record { is = refl; agents = refl }
+same_keeps d = record { is = refl; agents = refl; alive = λ alive. alive }

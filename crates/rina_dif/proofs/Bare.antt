@@ -1,5 +1,5 @@
 -- A DIF without flows stands.
-use Rattle.std.proofs.Common.{◌≡◌, ◌∙◌, ℕ, ◌+◌, Bool, List, [], ◌∷◌, ◌++◌, length, map, slice_get, option_map, Option, Some, None, refl, sym, ap, subst, arith, inl, inr, ◌⊎◌}
+use Rattle.std.proofs.Common.{◌≡◌, ◌∙◌, ℕ, ◌+◌, ◌-◌, ◌*◌, ◌^◌, ◌≤◌, Bool, List, [], ◌∷◌, ◌++◌, length, map, slice_get, option_map, Option, Some, None, refl, sym, ap, subst, arith, inl, inr, ◌⊎◌}
 use Rattle.std.proofs.lemmas.List.{length-map}
 use Rattle.std.proofs.lemmas.Option.{slice_get-map}
 use Rattle.rina_access.specs.declared.rules.Rule.{Rule}
@@ -19,7 +19,7 @@ use Rattle.rina_dif_law.specs.Cloud.{IsMine, Waits}
 use Rattle.rina_data.specs.Configs.{Member, config_of, member_of}
 use Rattle.rina_data.specs.Deciding.{plain, process_of}
 use Rattle.rina_data.specs.Process.{Process, next_hop}
-use Rattle.rina_dif_law.specs.Numbered.{AreMembers}
+use Rattle.rina_dif_law.specs.Numbered.{AreDrawn, AreMembers}
 use Rattle.rina_dif_law.specs.Standing.{HasLink, IsConfig, IsInside, IsLinked}
 use Rattle.rina_dif_law.specs.Start.{IsStart}
 use Rattle.rina_dif_law.proofs.Carries.{start_carries}
@@ -27,6 +27,8 @@ use Rattle.rina_dif_law.proofs.Founding.{start_accounted}
 use Rattle.rina_dif_law.proofs.Numbering.{start_numbered}
 use Rattle.rina_dif_law.proofs.Starting.{start_stands}
 use Rattle.rina_dif_law.proofs.Warranted.{blank_written}
+use Rattle.rina_ids.specs.Members.{AreUndrawn, CepIds}
+use Rattle.rina_pci.specs.Spelling.{AreWidths}
 use Rattle.rina_dif.specs.declared.dif.Dif.{Dif}
 use Rattle.rina_dif.specs.Building.{AreBare, IsBare, IsFree}
 use Rattle.rina_dif.specs.Holding.{AreHoused, Holds}
@@ -37,6 +39,7 @@ use Rattle.rina_dif.proofs.Managed.{managed_routed}
 use Rattle.rina_dif.proofs.Started.{bare_managed}
 use Rattle.rina_dif.specs.Connected.{AreConnected, CanManage}
 use Rattle.rina_dif.proofs.Connected.{none_connected}
+use Rattle.rina_dif.specs.Flooding.{AreFlooding}
 
 pub none_in : {X : Type 0} (i : ℕ) (x : X) (xs : List X) → xs ≡ [] → slice_get xs i ≡ Some x → ⊥
 none_in i x xs none is = (let e : slice_get [] i ≡ Some x = subst (λ ys. slice_get ys i ≡ Some x) none is in cc)
@@ -91,9 +94,22 @@ pub record IsUntouched (d : Dif) (below : Seen) : Type 0 where
   pub unread : (port : Port) (e : End) → end_of below port ≡ Some e → IsMine (config_of d.settings).members e.app → e.taken ≡ 0
   pub clean : (i : ℕ) (p : IpcProcess) → slice_get d.processes i ≡ Some p → p.ledger ≡ []
 
+-- no id was drawn yet, and the greatest is that of the width
+power_cep : (w : ℕ) → (w ≡ 1) ⊎ ((w ≡ 2) ⊎ (w ≡ 4)) → 256 ^ w - 1 ≡ 2 ^ (8 * w) - 1
+power_cep w (inl e) = rw e refl
+power_cep w (inr (inl e)) = rw e refl
+power_cep w (inr (inr e)) = rw e refl
+
+none_drawn : (settings : Settings) (held : List CepIds) (ends : List End) → AreWidths settings.widths → AreUndrawn settings.widths.cep (length settings.members) held → AreDrawn (config_of settings) ends held
+none_drawn settings held ends widths undrawn = record {
+  aligned = undrawn.aligned ∙ sym (length-map settings.members member_of);
+  greatest = λ i ids is. ap (λ (z : CepIds). z.0) (undrawn.undrawn i ids is) ∙ power_cep settings.widths.cep widths.cep;
+  few = λ i member ids is_member is. (let none = ap (λ (z : CepIds). length z.1) (undrawn.undrawn i ids is) in omega (arith, none));
+}
+
 -- and stands
-pub start_holds : (d : Dif) (below : Seen) → AreKept below → d.flows.journal.ends ≡ [] → d.flows.conns ≡ [] → IsStart (seen_of d) [] below → IsUntouched d below → AreMembers (config_of d.settings) → AreHoused (config_of d.settings) d.processes → AreManaged d → AreConnected (config_of d.settings) d.clock d.connections (seen_of d).processes below → Holds d [] below
-start_holds d below kept ends conns s untouched members housed managed connected =
+pub start_holds : (d : Dif) (below : Seen) → AreKept below → d.flows.journal.ends ≡ [] → d.flows.conns ≡ [] → IsStart (seen_of d) [] below → IsUntouched d below → AreMembers (config_of d.settings) → AreUndrawn d.settings.widths.cep (length d.settings.members) d.ids → AreHoused (config_of d.settings) d.processes → AreManaged d → AreConnected (config_of d.settings) d.clock d.connections (seen_of d).processes below → AreFlooding d → Holds d [] below
+start_holds d below kept ends conns s untouched members undrawn housed managed connected floods =
     let no_ends : length d.flows.journal.ends ≡ 0 = ap (λ (es : List End). length es) ends in
     let no_conns : length d.flows.conns ≡ 0 = ap (λ (ks : List Conn). length ks) conns in
     let clean : (i : ℕ) (process : Process) → slice_get (seen_of d).processes i ≡ Some process → process.ledger ≡ [] = λ i process is. (let p = map_at process_of d.processes i process is in ap (λ (z : Process). z.ledger) (sym p.2) ∙ untouched.clean i p.0 p.1) in
@@ -106,7 +122,7 @@ start_holds d below kept ends conns s untouched members housed managed connected
       };
       standing = start_stands (seen_of d) [] below s;
       carrying = start_carries (seen_of d) [] below s;
-      numbered = start_numbered (seen_of d) [] below s members (λ i e ids conn. absurd (none_in i e d.flows.journal.ends ends conn.end)) (λ i e is. absurd (none_in i e d.flows.journal.ends ends is));
+      numbered = start_numbered (seen_of d) [] below s members (λ i e ids conn. absurd (none_in i e d.flows.journal.ends ends conn.end)) (λ i e is. absurd (none_in i e d.flows.journal.ends ends is)) (none_drawn d.settings d.ids d.flows.journal.ends s.config.widths undrawn);
       accounted = start_accounted (seen_of d) [] below kept s (record {
         unread = untouched.unread;
         clean = clean;
@@ -117,16 +133,17 @@ start_holds d below kept ends conns s untouched members housed managed connected
       routed = managed_routed d.settings.members d.laid.links d.clock d.processes d.managements managed;
       managed = managed;
       connected = connected;
+      flooded = λ alive. floods;
     }
 
 -- so does a DIF without links
-pub bare_holds : (d : Dif) (below : Seen) → AreKept below → d.flows.journal.ends ≡ [] → d.flows.conns ≡ [] → d.connections.channels ≡ [] → d.connections.flows.journal.ends ≡ [] → d.connections.flows.conns ≡ [] → d.laid.links ≡ [] → AreBare d.settings d.processes → (rules : List Rule) (allow : Bool) → AreStarted d.settings.cubes d.settings.members d.laid.links rules allow (length d.settings.members) d.processes d.managements → CanManage (config_of d.settings) d.connections.manage → AreMembers (config_of d.settings) → d.clock ≡ below.now → IsFree (config_of d.settings) below → Holds d [] below
-bare_holds d below kept ends conns channels link_ends link_conns laid bare rules allow started can members clock free =
+pub bare_holds : (d : Dif) (below : Seen) → AreKept below → d.flows.journal.ends ≡ [] → d.flows.conns ≡ [] → d.connections.channels ≡ [] → d.connections.flows.journal.ends ≡ [] → d.connections.flows.conns ≡ [] → d.laid.links ≡ [] → AreBare d.settings d.processes → (rules : List Rule) (allow : Bool) → AreStarted d.settings.cubes d.settings.members d.laid.links rules allow (length d.settings.members) d.processes d.managements → CanManage (config_of d.settings) d.connections.manage → AreMembers (config_of d.settings) → (AreWidths d.settings.widths → AreUndrawn d.settings.widths.cep (length d.settings.members) d.ids) → d.clock ≡ below.now → IsFree (config_of d.settings) below → AreFlooding d → Holds d [] below
+bare_holds d below kept ends conns channels link_ends link_conns laid bare rules allow started can members undrawn clock free floods =
     let config : IsConfig (config_of d.settings) = can.managed.config in
     let start = starts d below ends conns config clock bare.aligned (λ i member link is has. absurd (no_link d.settings d.processes i link bare has)) (λ port end here mine. absurd (free port end here mine)) (λ port end here mine. absurd (free port end here (inl mine))) (λ i n item waits. no_item d.settings d.processes i n item bare waits) in
     let untouched : IsUntouched d below = record { unread = λ port e here mine. absurd (free port e here (inl mine)); clean = λ i p is. (bare.each i p is).ledger } in
-    start_holds d below kept ends conns start untouched members (λ i p is. (let b = bare.each i p is in record { cap = b.room; links = λ place qos link stands live known. absurd (none_in place link p.links b.links stands); queues = λ dst link qos hop known. absurd (no_hop dst link p.routes b.routes hop) })) (bare_managed d.settings d.laid.links rules allow d.clock d.processes d.managements laid bare config members started)
-    (none_connected (config_of d.settings) d.clock d.connections (seen_of d).processes below channels link_ends link_conns clock can (λ i n p q x y. absurd (no_link d.settings d.processes i x.link bare (record { process = x.process; is_process = x.is_process; place = x.place; stands = x.stands }))))
+    start_holds d below kept ends conns start untouched members (undrawn config.widths) (λ i p is. (let b = bare.each i p is in record { cap = b.room; links = λ place qos link stands live known. absurd (none_in place link p.links b.links stands); queues = λ dst link qos hop known. absurd (no_hop dst link p.routes b.routes hop) })) (bare_managed d.settings d.laid.links rules allow d.clock d.processes d.managements laid bare config members started)
+    (none_connected (config_of d.settings) d.clock d.connections (seen_of d).processes below channels link_ends link_conns clock can (λ i n p x. no_link d.settings d.processes i x.link bare (record { process = x.process; is_process = x.is_process; place = x.place; stands = x.stands }))) floods
 
 -- One by one
 

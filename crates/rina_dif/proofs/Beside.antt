@@ -1,5 +1,5 @@
 -- What a step of a DIF is to its rank, and to the DIFs beside it.
-use Rattle.std.proofs.Common.{◌≡◌, ◌∙◌, ℕ, ◌≤◌, Bool, List, slice_get, length, Option, Some, Result, Ok, Err, refl, sym, ap, subst, arith}
+use Rattle.std.proofs.Common.{◌≡◌, ◌∙◌, ℕ, ◌≤◌, Bool, List, slice_get, length, Option, Some, Result, Ok, Err, refl, sym, ap, subst, arith, inl, inr}
 use Rattle.rina_base.specs.declared.cause.Cause.{Cause}
 use Rattle.rina_base.specs.declared.cause.Cause.TheVariants as causes
 use Rattle.rina_base.specs.declared.number.Key.{Key}
@@ -40,9 +40,9 @@ use Rattle.rina_dif_law.proofs.Keepers.{facility}
 use Rattle.rina_dif_law.proofs.Lifted.{passes_of_others_account, sends_of_others_account}
 use Rattle.rina_dif_law.proofs.Numbering.{beside_after}
 use Rattle.rina_dif_law.proofs.Taking.{still_stands}
-use Rattle.rina_dif_law.proofs.Upper.{acknowledged_silent, forgotten_silent, ins_silent, outs_silent, resent_silent}
+use Rattle.rina_dif_law.proofs.Upper.{acknowledged_silent, forgotten_silent, ins_silent, outs_silent, resent_silent, silent_same}
 use Rattle.rina_dif.specs.declared.dif.Dif.{Dif}
-use Rattle.rina_dif.specs.Clocking.{Steps, StepsFlow, StepsHere}
+use Rattle.rina_dif.specs.Clocking.{Serves, Steps, StepsFlow, StepsHere}
 use Rattle.rina_dif.specs.Facade.{GoesOn, OthersStand}
 use Rattle.rina_dif.specs.Holding.{Holds, Stands}
 use Rattle.rina_dif.specs.Shown.{seen_of}
@@ -157,6 +157,7 @@ holds_aside d lines below below' a h = record {
   routed = h.routed;
   managed = h.managed;
   connected = aside_connected (config_of d.settings) d.clock d.connections (seen_of d).processes below below' a.after a.goes a.clock h.connected;
+  flooded = h.flooded;
 }
 
 -- What a step is to the rank
@@ -227,16 +228,20 @@ flow_silent d lines node (step.LinkNew link) new lines' s = absurd s
 flow_silent d lines node (step.Timeout port) new lines' s = absurd s
 flow_silent d lines node (step.Message link) new lines' s = absurd s
 
+serves_silent : (d : Dif) (lines : List Direction) (below : Seen) (node : ℕ) (done : ClockStep) (d' : Dif) (lines' : List Direction) → Serves d lines below node done d' lines' → IsSilent (seen_of d) (seen_of d')
+serves_silent d lines below node done d' lines' (inl flow) = flow_silent d lines node done (seen_of d') lines' flow.does
+serves_silent d lines below node done d' lines' (inr link) = silent_same (seen_of d) (seen_of d') (ap (λ (z : Dif). (seen_of z).ends) link.0.only) (ap (λ (z : Dif). (seen_of z).config) link.0.only) (ap (λ (z : Dif). (seen_of z).clock) link.0.only)
+
 pub steps_silent : (d : Dif) (lines : List Direction) (below : Seen) (node : ℕ) (done : ClockStep) (d' : Dif) (lines' : List Direction) → Steps d lines below node done d' lines' → IsSilent (seen_of d) (seen_of d')
-steps_silent d lines below node step.Idle d' lines' s = flow_silent d lines node step.Idle (seen_of d') lines' s.1
-steps_silent d lines below node (step.Gone cep) d' lines' s = flow_silent d lines node (step.Gone cep) (seen_of d') lines' s.1
-steps_silent d lines below node (step.GaveUp num) d' lines' s = flow_silent d lines node (step.GaveUp num) (seen_of d') lines' s.1
-steps_silent d lines below node (step.Ack cep) d' lines' s = flow_silent d lines node (step.Ack cep) (seen_of d') lines' s.1
-steps_silent d lines below node (step.Again num) d' lines' s = flow_silent d lines node (step.Again num) (seen_of d') lines' s.1
+steps_silent d lines below node step.Idle d' lines' s = serves_silent d lines below node step.Idle d' lines' s.1
+steps_silent d lines below node (step.Gone cep) d' lines' s = serves_silent d lines below node (step.Gone cep) d' lines' s.1
+steps_silent d lines below node (step.GaveUp num) d' lines' s = serves_silent d lines below node (step.GaveUp num) d' lines' s.1
+steps_silent d lines below node (step.Ack cep) d' lines' s = serves_silent d lines below node (step.Ack cep) d' lines' s.1
+steps_silent d lines below node (step.Again num) d' lines' s = serves_silent d lines below node (step.Again num) d' lines' s.1
 steps_silent d lines below node (step.LinkLost link) d' lines' s = loses_silent d lines below s.0.i node link d' s.0.loses
-steps_silent d lines below node (step.LinkNew link) d' lines' s = absurd s.1
-steps_silent d lines below node (step.Timeout port) d' lines' s = absurd s.1
-steps_silent d lines below node (step.Message link) d' lines' s = absurd s.1
+steps_silent d lines below node (step.LinkNew link) d' lines' s = serves_silent d lines below node (step.LinkNew link) d' lines' s.1
+steps_silent d lines below node (step.Timeout port) d' lines' s = serves_silent d lines below node (step.Timeout port) d' lines' s.1
+steps_silent d lines below node (step.Message link) d' lines' s = serves_silent d lines below node (step.Message link) d' lines' s.1
 
 clock_on : (d : Dif) (below : Seen) (d' : Dif) (lines' : List Direction) → Stands d below → IsSilent (seen_of d) (seen_of d') → Holds d' lines' below → IsStep d below d' below
 clock_on d below d' lines' st silent h = record {

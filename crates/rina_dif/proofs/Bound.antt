@@ -4,7 +4,9 @@ use Rattle.std.specs.Prelude.{OnOk}
 use Rattle.std.specs.List.{list_any, position_or_len}
 use Rattle.std.proofs.lemmas.Bool.Decides.{eqb_tells, nat_tests}
 use Rattle.std.proofs.lemmas.List.Sums.{sum_by-le-sum_by}
-use Rattle.std.proofs.lemmas.Option.{slice_get-map}
+use Rattle.std.proofs.lemmas.Bool.{eqb-true}
+use Rattle.std.proofs.lemmas.List.Quantifiers.{position-Some}
+use Rattle.std.proofs.lemmas.Option.{get_or_from_slice_get, same_Some, slice_get-map, slice_get_within}
 use Rattle.rina_base.specs.declared.memory.Memory.{Memory as NoMemory}
 use Rattle.rina_base.specs.declared.number.FlowName.{FlowName}
 use Rattle.rina_base.specs.declared.number.Port.{Port}
@@ -45,7 +47,10 @@ use Rattle.rina_flows.specs.Adding.{Adds, IsNewFlow, begun_now, turned}
 use Rattle.rina_flows.specs.Tied.{conns_of, ids_by}
 use Rattle.rina_dif.specs.declared.fixed_flows.NextEnd.{NextEnd}
 use Rattle.rina_dif.specs.declared.dif.Dif.{Dif}
-use Rattle.rina_dif.specs.Binding.{AddsFlow, BindsAt, BindsTo, Draws, MayBind, SomeDraws}
+use Rattle.rina_ids.specs.Ids.{free_id}
+use Rattle.rina_ids.specs.Members.{CepIds, DrawsAt, with_drawn}
+use Rattle.rina_rest.proofs.Slots.{free_there}
+use Rattle.rina_dif.specs.Binding.{AddsFlow, BindsAt, BindsTo, Draws, HaveDrawn, MayBind, SomeDraws, noting}
 use Rattle.rina_dif.specs.Facade.{GoesOn, IsShownAs, StaysStanding, shown_as}
 use Rattle.rina_dif.specs.Holding.{Holds, Stands}
 use Rattle.rina_dif.specs.Shown.{seen_of}
@@ -87,12 +92,12 @@ asked_small node ends = sum_by-le-sum_by (counts node) (here_at node) ends (one_
 
 -- What a member draws
 
-pub draws_at : (d : Dif) (node place n : ℕ) (m : Kept) → Some place ≡ home node (config_of d.settings).members → slice_get d.settings.members place ≡ Some m → n ≡ drawn_at node d.flows.journal.ends → Draws d node (record { addr = m.addr; port = record { fac = d.settings.fac; node = node; n = n + 1 } })
-draws_at d node place n m here is at member draws =
+pub draws_at : (d : Dif) (node place n cep : ℕ) (m : Kept) → Some place ≡ home node (config_of d.settings).members → slice_get d.settings.members place ≡ Some m → n ≡ drawn_at node d.flows.journal.ends → DrawsAt d.ids d.clock place cep → Draws d node (record { place = place; addr = m.addr; port = record { fac = d.settings.fac; node = node; n = n + 1 }; cep = cep })
+draws_at d node place n cep m here is at draws_id member draws =
     let place_is : draws.place ≡ place = some_same (home node (config_of d.settings).members) draws.place place draws.at_home (sym here) in
     let there : slice_get (config_of d.settings).members draws.place ≡ Some (member_of m) = ap (slice_get (config_of d.settings).members) place_is ∙ slice_get-map member_of d.settings.members place ∙ ap (option_map member_of) is in
     let same : member_of m ≡ member = member_same (slice_get (config_of d.settings).members draws.place) (member_of m) member there draws.stands in
-    (ap (λ (x : Member). x.addr) same, ap (λ (k : ℕ). record { fac = d.settings.fac; node = node; n = k + 1 }) at)
+    record { place = sym place_is; addr = ap (λ (x : Member). x.addr) same; port = ap (λ (k : ℕ). record { fac = d.settings.fac; node = node; n = k + 1 }) at; cep = draws_id }
   where
     some_same : (o : Option ℕ) (a b : ℕ) → o ≡ Some a → o ≡ Some b → a ≡ b
     some_same o a b x y = cc
@@ -132,7 +137,7 @@ module _ (d : Dif) (fixed : Fixed) (may : MayBind d fixed) (near other : NextEnd
   seen = seen_of d
 
   abbrev peer : Peer
-  peer = record { own = near.addr; far = other.addr; scep = near.port.n; dcep = other.port.n }
+  peer = record { own = near.addr; far = other.addr; scep = near.cep; dcep = other.cep }
 
   abbrev asker : End
   asker = asker_next seen fixed may.of_a
@@ -144,29 +149,32 @@ module _ (d : Dif) (fixed : Fixed) (may : MayBind d fixed) (near other : NextEnd
   pub asker_is : (flow : FlowName) → flow ≡ record { src = near.addr; tick = d.clock; count = asked_at fixed.a d.flows.journal.ends } → new_end flow Asker near.port fixed.a_app fixed.b_app fixed.cube Allocated ≡ asker
   asker_is flow is =
       let a = a_drew may.of_a may.at_a in
-      let flow_is : flow ≡ flow_next seen fixed.a may.of_a = is ∙ ap (λ (x : ℕ). record { src = x; tick = d.clock; count = asked_at fixed.a d.flows.journal.ends }) a.0 in
-      (λ i. new_end (flow_is i) Asker (a.1 i) fixed.a_app fixed.b_app fixed.cube Allocated)
+      let flow_is : flow ≡ flow_next seen fixed.a may.of_a = is ∙ ap (λ (x : ℕ). record { src = x; tick = d.clock; count = asked_at fixed.a d.flows.journal.ends }) a.addr in
+      (λ i. new_end (flow_is i) Asker (a.port i) fixed.a_app fixed.b_app fixed.cube Allocated)
 
   pub far_is : (flow : FlowName) → flow ≡ record { src = near.addr; tick = d.clock; count = asked_at fixed.a d.flows.journal.ends } → new_end flow Far other.port fixed.b_app fixed.a_app fixed.cube Allocated ≡ far
   far_is flow is =
       let a = a_drew may.of_a may.at_a in
       let b = b_drew may.of_b may.at_b in
-      let flow_is : flow ≡ flow_next seen fixed.a may.of_a = is ∙ ap (λ (x : ℕ). record { src = x; tick = d.clock; count = asked_at fixed.a d.flows.journal.ends }) a.0 in
-      (λ i. new_end (flow_is i) Far (b.1 i) fixed.b_app fixed.a_app fixed.cube Allocated)
+      let flow_is : flow ≡ flow_next seen fixed.a may.of_a = is ∙ ap (λ (x : ℕ). record { src = x; tick = d.clock; count = asked_at fixed.a d.flows.journal.ends }) a.addr in
+      (λ i. new_end (flow_is i) Far (b.port i) fixed.b_app fixed.a_app fixed.cube Allocated)
 
   -- the DIF with the flow
-  abbrev with_flow : Flows → Dif
-  with_flow flows = record d { flows = flows; names = with_name_once d.names fixed.b fixed.b_app }
+  abbrev with_flow : Flows → List CepIds → Dif
+  with_flow flows held = record d { flows = flows; ids = held; names = with_name_once d.names fixed.b fixed.b_app }
 
-  binds_with : (flows : Flows) → AddsFlow d.settings fixed.cube peer asker far d.flows flows → (lines : List Direction) (below : Seen) → Holds d lines below → BindsAt d lines below fixed (near.port, other.port) (with_flow flows)
-  binds_with flows added lines below h =
+  binds_with : (flows : Flows) (held : List CepIds) → AddsFlow d.settings fixed.cube peer asker far d.flows flows → HaveDrawn d.ids d.clock (near.place, other.place) peer held → (lines : List Direction) (below : Seen) → Holds d lines below → BindsAt d lines below fixed (near.port, other.port) (with_flow flows held)
+  binds_with flows held added drew lines below h =
       let g = config_of d.settings in
-      let d' = with_flow flows in
+      let d' = with_flow flows held in
       let a = a_drew may.of_a may.at_a in
       let b = b_drew may.of_b may.at_b in
       let id = its_id fixed.cube d.settings.cubes added.cube added.is_cube in
-      let ids : Ids = ids_next seen fixed may.of_a may.of_b in
-      let ids_is : ids_by peer added.cube.id ≡ ids = (λ i. record { own = a.0 i; far = b.0 i; scep = (a.1 i).n; dcep = (b.1 i).n; qos = id i }) in
+      let ids : Ids = ids_next fixed may.of_a may.of_b near.cep other.cep in
+      let ids_is : ids_by peer added.cube.id ≡ ids = (λ i. record { own = a.addr i; far = b.addr i; scep = near.cep; dcep = other.cep; qos = id i }) in
+      let draws_a : DrawsAt d.ids d.clock may.at_a.place near.cep = record { ids = drew.a.ids; are_ids = subst (λ (k : ℕ). slice_get d.ids k ≡ Some drew.a.ids) a.place drew.a.are_ids; least = drew.a.least } in
+      let draws_b : DrawsAt d.ids d.clock may.at_b.place other.cep = record { ids = drew.b.ids; are_ids = subst (λ (k : ℕ). slice_get d.ids k ≡ Some drew.b.ids) b.place drew.b.are_ids; least = drew.b.least } in
+      let held_is : held ≡ with_drawn may.at_b.place drew.b.ids other.cep (with_drawn may.at_a.place drew.a.ids near.cep d.ids) = drew.after_is ∙ (λ i. with_drawn (b.place i) drew.b.ids other.cep (with_drawn (a.place i) drew.a.ids near.cep d.ids)) in
       let back_is : ids_by (turned peer) added.cube.id ≡ flipped ids = ap flipped ids_is in
       let new : IsNewFlow g added.cube (piece_size g) (greatest g) d.flows.journal.ends asker far = record {
         piece_is = refl;
@@ -189,18 +197,22 @@ module _ (d : Dif) (fixed : Fixed) (may : MayBind d fixed) (near other : NextEnd
         of_b = may.of_b;
         at_a = may.at_a;
         at_b = may.at_b;
+        scep = near.cep;
+        dcep = other.cep;
+        draws_a = draws_a;
+        draws_b = draws_b;
         line = line;
         back = back;
         fresh = begins (ids_by peer added.cube.id) ids ids_is refl;
         fresh_back = begins (ids_by (turned peer) added.cube.id) (flipped ids) back_is refl;
         lines_are = refl;
-        new_is = (λ i. record seen { ends = added.ends i; conns = conns i; names = with_name_once d.names fixed.b fixed.b_app });
+        new_is = (λ i. record seen { ends = added.ends i; conns = conns i; ids = held_is i; names = with_name_once d.names fixed.b fixed.b_app });
       } in
       record {
         lines' = lines';
         bound = bound;
-        a_port = a.1 ∙ ap (λ (f : ℕ). next_port (fac_of seen) f fixed.a) may.fac;
-        b_port = b.1 ∙ ap (λ (f : ℕ). next_port (fac_of seen) f fixed.b) may.fac;
+        a_port = a.port ∙ ap (λ (f : ℕ). next_port (fac_of seen) f fixed.a) may.fac;
+        b_port = b.port ∙ ap (λ (f : ℕ). next_port (fac_of seen) f fixed.b) may.fac;
         holds = record {
           tied = has.tied;
           standing = bound_stands seen lines below fixed (seen_of d') lines' h.standing h.numbered bound;
@@ -213,15 +225,16 @@ module _ (d : Dif) (fixed : Fixed) (may : MayBind d fixed) (near other : NextEnd
           routed = h.routed;
           managed = h.managed;
           connected = h.connected;
+          flooded = h.flooded;
         };
       }
 
   -- whatever ends were made, where they are these
-  pub binds : (x y : End) (d' : Dif) → x ≡ asker → y ≡ far → AddsFlow d.settings x.cube peer x y d.flows d'.flows → d' ≡ record d { flows = d'.flows; names = with_name_once d.names y.port.node y.app } → (lines : List Direction) (below : Seen) → Holds d lines below → BindsTo d lines below fixed (Ok (near.port, other.port)) d'
-  binds x y d' x_is y_is added is lines below h =
+  pub binds : (x y : End) (d' : Dif) → x ≡ asker → y ≡ far → AddsFlow d.settings x.cube peer x y d.flows d'.flows → HaveDrawn d.ids d.clock (near.place, other.place) peer d'.ids → d' ≡ record d { flows = d'.flows; ids = d'.ids; names = with_name_once d.names y.port.node y.app } → (lines : List Direction) (below : Seen) → Holds d lines below → BindsTo d lines below fixed (Ok (near.port, other.port)) d'
+  binds x y d' x_is y_is added drew is lines below h =
       let added' : AddsFlow d.settings fixed.cube peer asker far d.flows d'.flows = subst (λ (e : End). AddsFlow d.settings fixed.cube peer asker e d.flows d'.flows) y_is (subst (λ (e : End). AddsFlow d.settings e.cube peer e y d.flows d'.flows) x_is added) in
-      let is' : d' ≡ with_flow d'.flows = is ∙ ap (λ (e : End). record d { flows = d'.flows; names = with_name_once d.names e.port.node e.app }) y_is in
-      subst (BindsAt d lines below fixed (near.port, other.port)) (sym is') (binds_with d'.flows added' lines below h)
+      let is' : d' ≡ with_flow d'.flows d'.ids = is ∙ ap (λ (e : End). record d { flows = d'.flows; ids = d'.ids; names = with_name_once d.names e.port.node e.app }) y_is in
+      subst (BindsAt d lines below fixed (near.port, other.port)) (sym is') (binds_with d'.flows d'.ids added' drew lines below h)
 
 pub binds_none : (d : Dif) (fixed : Fixed) (lines : List Direction) (below : Seen) → Holds d lines below → BindsTo d lines below fixed (Err Memory) d
 binds_none d fixed lines below h = (refl, h)
@@ -322,10 +335,35 @@ binds_stay d fixed (Err Memory) d' does below st = (let x = does st.0 below st.1
 binds_stay d fixed (Err e) d' does below st = absurd (does st.0 below st.1)
 
 -- whether an allocation failed is noted
-pub binds_noted : (d : Dif) (lines : List Direction) (below : Seen) (fixed : Fixed) (r : Result (Port × Port) AllocateError) (d' : Dif) (failed : Bool) → BindsTo d lines below fixed r d' → BindsTo d lines below fixed r (record d' { failed = failed })
-binds_noted d lines below fixed (Ok ports) d' failed x = record { lines' = x.lines'; bound = x.bound; a_port = x.a_port; b_port = x.b_port; holds = still x.lines' x.holds }
+pub binds_noted : (d : Dif) (lines : List Direction) (below : Seen) (fixed : Fixed) (r : Result (Port × Port) AllocateError) (d' : Dif) (failed : Bool) → d'.failed ≡ false → (r ≡ Err Memory → failed ≡ true) → BindsTo d lines below fixed r (noting r d') → BindsTo d lines below fixed r (record d' { failed = failed })
+binds_noted d lines below fixed (Ok ports) d' failed alive wants x = record { lines' = x.lines'; bound = x.bound; a_port = x.a_port; b_port = x.b_port; holds = still x.lines' x.holds }
   where
     still : (ls : List Direction) → Holds d' ls below → Holds (record d' { failed = failed }) ls below
-    still ls h = record { tied = h.tied; standing = h.standing; carrying = h.carrying; numbered = h.numbered; accounted = h.accounted; caused = h.caused; written_off = h.written_off; housed = h.housed; routed = h.routed; managed = h.managed; connected = h.connected }
-binds_noted d lines below fixed (Err Memory) d' failed x = (x.0, record { tied = x.1.tied; standing = x.1.standing; carrying = x.1.carrying; numbered = x.1.numbered; accounted = x.1.accounted; caused = x.1.caused; written_off = x.1.written_off; housed = x.1.housed; routed = x.1.routed; managed = x.1.managed; connected = x.1.connected })
-binds_noted d lines below fixed (Err e) d' failed x = absurd x
+    still ls h = record { tied = h.tied; standing = h.standing; carrying = h.carrying; numbered = h.numbered; accounted = h.accounted; caused = h.caused; written_off = h.written_off; housed = h.housed; routed = h.routed; managed = h.managed; connected = h.connected; flooded = λ same. h.flooded alive }
+binds_noted d lines below fixed (Err Memory) d' failed alive wants x = subst (λ (b : Bool). BindsTo d lines below fixed (Err Memory) (record d' { failed = b })) (sym (wants refl)) x
+binds_noted d lines below fixed (Err e) d' failed alive wants x = absurd x
+
+-- the member that is found at a node stands there
+pub at_its_node : (members : List Member) (node i : ℕ) (m : Member) → home node members ≡ Some i → slice_get members i ≡ Some m → m.node ≡ node
+at_its_node members node i m here is =
+    let p = position-Some (λ (x : Member). x.node == node) members i m here in
+    eqb-true m.node node (ap (λ (x : Member). eqb x.node node) (sym (get_or_from_slice_get members i m m is)) ∙ p.1)
+
+-- a member that may draw a port has a CEP-id that is neither in use nor at rest
+pub draws_id : (d : Dif) (node place : ℕ) → IsDif d → SomeDraws d node → Some place ≡ home node (config_of d.settings).members → (ids : CepIds) × (slice_get d.ids place ≡ Some ids) × ((cep : ℕ) × (free_id ids.0 d.clock ids.1 ≡ Some cep))
+draws_id d node place is draws here =
+    let h = is.stands.1 in
+    let may = draws.1 in
+    let g = config_of d.settings in
+    let place_is : may.place ≡ place = same_Some may.place place (sym may.at_home ∙ sym here) in
+    let stands : slice_get g.members place ≡ Some draws.0 = subst (λ (k : ℕ). slice_get g.members k ≡ Some draws.0) place_is may.stands in
+    let within = slice_get_within g.members place draws.0 stands in
+    let aligned = h.numbered.drawn.aligned in
+    let ids = there d.ids place (omega (arith, within, aligned)) in
+    let few = h.numbered.drawn.few place draws.0 ids.0 stands ids.1 in
+    let node_is : draws.0.node ≡ node = at_its_node g.members node place draws.0 (sym here) stands in
+    let few' : length ids.0.1 ≤ drawn_at node d.flows.journal.ends = subst (λ (k : ℕ). length ids.0.1 ≤ drawn_at k d.flows.journal.ends) node_is few in
+    let room = may.room in
+    let ceps = h.numbered.members.ceps in
+    let greatest = h.numbered.drawn.greatest place ids.0 ids.1 in
+    (ids.0, ids.1, free_there ids.0.0 d.clock ids.0.1 (omega (arith, few', room, ceps, greatest)))

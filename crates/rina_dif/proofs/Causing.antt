@@ -330,7 +330,7 @@ gave_up d lines below at number new st g =
     let end : End = g.ended.end in
     let is_end = g.ended.is_conn.end in
     let partner = st.journal.allocated at end is_end g.ended.allocated in
-    let flow = direction_out d.config d.clock (Cloud Everywhere d.config d.processes below) d.ends d.conns lines st.own at partner.place end partner.other g.ids g.line (record { end = is_end; ids_are = g.ids_are }) partner.stands g.is_line partner.partner g.ended.allocated in
+    let flow = direction_out d.config d.clock (Cloud Everywhere d.config d.processes below) d.ids d.ends d.conns lines st.own at partner.place end partner.other g.ids g.line (record { end = is_end; ids_are = g.ids_are }) partner.stands g.is_line partner.partner g.ended.allocated in
     let cube_is : flow.cube ≡ g.cube = same_some (cube_by g.ids.qos d.config.cubes) flow.cube g.cube flow.is_cube g.is_cube in
     let holds : DirectionHolds k g.line = subst (λ (x : Cube). DirectionHolds (constants d.config x g.ids) g.line) cube_is flow.backed.holds in
     let run = g.line.line.sender.run in

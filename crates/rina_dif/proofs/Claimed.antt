@@ -87,7 +87,7 @@ holds_claimed d waiting lines below h = (let st = h.standing in record {
     own = st.own;
   };
   carrying = record { entries = h.carrying.entries; holding = λ i from e ids line conn inbound. h.carrying.holding i from e ids line conn (record { partner = inbound.partner; is_partner = inbound.is_partner; partners = inbound.partners; is_line = inbound.is_line }) };
-  numbered = (let n = h.numbered in record { members = n.members; addressed = n.addressed; counted = n.counted; named = n.named });
+  numbered = (let n = h.numbered in record { members = n.members; addressed = n.addressed; counted = n.counted; drawn = n.drawn; named = n.named });
   accounted = accounted_on (seen_of d) (seen_of (with_waiting d waiting)) lines lines below below h.accounted h.accounted.passed h.accounted.apart (λ i m p k is. still_before d waiting lines below i m p k is);
   caused = h.caused;
   written_off = λ i m p off is. h.written_off i m p off (record { is_member = is.is_member; is_process = is.is_process });
@@ -95,6 +95,7 @@ holds_claimed d waiting lines below h = (let st = h.standing in record {
   routed = h.routed;
   managed = h.managed;
   connected = h.connected;
+  flooded = h.flooded;
 })
 
 pub claimed_stays : (d : Dif) (waiting : Vec ℕ) → StaysStanding d (with_waiting d waiting)

@@ -1,6 +1,6 @@
 -- The first item that is due at a node, and what it does.
 use Rattle.std.proofs.Common.{◌≡◌, ◌∙◌, ℕ, ◌+◌, ◌<◌, ◌≤◌, ◌⊎◌, Bool, true, false, cond, leb, leb-true, leb-false, List, length, get_or, slice_get, slice_index_or, Option, Some, None, Result, Ok, Err, IsTrue, refl, sym, ap, subst, arith, inl, inr}
-use Rattle.std.specs.Prelude.{OnErr, ◌↔◌}
+use Rattle.std.specs.Prelude.{◌↔◌}
 use Rattle.std.proofs.lemmas.Bool.{cases_lt, false≢true}
 use Rattle.std.proofs.lemmas.List.{get_or_default}
 use Rattle.std.proofs.lemmas.Option.{slice_get_within}
@@ -24,10 +24,9 @@ use Rattle.rina_flows.specs.Tied.{conns_of, ids_of, outward}
 use Rattle.rina_flows.specs.Watching.{NoneDueBeside}
 use Rattle.rina_flows.proofs.Framed.{ids_at}
 use Rattle.rina_dif.specs.declared.clock_steps.Turn.{Turn}
-use Rattle.rina_dif.specs.declared.connections.Connections.{Connections}
 use Rattle.rina_dif.specs.declared.dif.Dif.{Dif}
-use Rattle.rina_dif.specs.Clocking.{FindsFirst, HasStepped, HasSteppedFlow, IsDueAt, IsIdle, IsIn, IsTurn, NoneLostAt, StepsFlowHere, StepsHere, earlier}
-use Rattle.rina_dif.specs.Holding.{Holds}
+use Rattle.rina_dif.specs.Clocking.{FindsFirst, IsDueAt, IsIdle, IsIn, IsTurn, NoneLostAt, Serves, ServesHere, StepsFlowHere, StepsHere, earlier}
+use Rattle.rina_dif.specs.Holding.{Holds, LinksStand}
 use Rattle.rina_dif.specs.Shown.{seen_of}
 use Rattle.rina_dif.specs.Changing.{EndsFlow, without_flow_at}
 use Rattle.rina_dif.specs.Timely.{AcknowledgesAs, ForgetsAs, GivesUp, GivesUpAs, IsHomeEnd, SendsAgainAs}
@@ -247,11 +246,11 @@ cep_there item d lines node at cep ids turn is = turn.first.cep_is ∙ ap (λ (x
 turn_with : (item : Item) (d : Dif) (lines : List Direction) (node at cep cep' : ℕ) → cep ≡ cep' → IsTurn item d lines node at cep → IsTurn item d lines node at cep'
 turn_with item d lines node at cep cep' is turn = subst (IsTurn item d lines node at) is turn
 
-pub does_gone : (d : Dif) (lines : List Direction) (below : Seen) (node at cep : ℕ) (b : Bool) (d' : Dif) → IsTurn Gone d lines node at cep → ForgetsAs d lines below at (Ok b) d' → HasSteppedFlow d lines below node (step.Gone cep) d'
+pub does_gone : (d : Dif) (lines : List Direction) (below : Seen) (node at cep : ℕ) (b : Bool) (d' : Dif) → IsTurn Gone d lines node at cep → ForgetsAs d lines below at (Ok b) d' → StepsFlowHere d lines below node (Ok (step.Gone cep)) d'
 does_gone d lines below node at cep true d' turn (f, told) = record { lines' = f.lines'; does = record { at = at; turn = turn; forgotten = f.forgotten }; holds = f.holds }
 does_gone d lines below node at cep false d' turn (told, same) = (let due = turn.first.due.due in absurd (told due.conn due.is_conn due.gone))
 
-pub does_give_up : (d : Dif) (lines : List Direction) (below : Seen) (node at cep : ℕ) (num : Num) (d' : Dif) → IsTurn GiveUp d lines node at cep → GivesUpAs d lines below at (Ok (Some num)) d' → HasSteppedFlow d lines below node (step.GaveUp num) d'
+pub does_give_up : (d : Dif) (lines : List Direction) (below : Seen) (node at cep : ℕ) (num : Num) (d' : Dif) → IsTurn GiveUp d lines node at cep → GivesUpAs d lines below at (Ok (Some num)) d' → StepsFlowHere d lines below node (Ok (step.GaveUp num)) d'
 does_give_up d lines below node at cep num d' turn g =
     let cep_is : cep ≡ num.cep = cep_there GiveUp d lines node at cep g.given_up.ids turn g.given_up.ids_are ∙ sym g.cep in
     record { lines' = lines; does = record { at = at; turn = turn_with GiveUp d lines node at cep num.cep cep_is turn; given_up = g.given_up; lines_are = refl }; holds = g.holds }
@@ -271,11 +270,11 @@ gave_up_managed d lines below i at num d' new lt g ends =
     let ids = same_some (slice_get (conns_of d.flows.conns) at) (ids_of k.0) g.given_up.ids (ids_at d.flows.conns at k.0 k.1) g.given_up.ids_are in
     ends k.0 k.1 ∙ ap (λ (n : ℕ). without_flow_at i n d.managements) (ap (λ (z : Ids). z.scep) ids ∙ sym g.cep)
 
-pub does_ack : (d : Dif) (lines : List Direction) (below : Seen) (node at cep : ℕ) (b : Bool) (d' : Dif) → IsTurn Ack d lines node at cep → AcknowledgesAs d lines below at (Ok b) d' → HasSteppedFlow d lines below node (step.Ack cep) d'
+pub does_ack : (d : Dif) (lines : List Direction) (below : Seen) (node at cep : ℕ) (b : Bool) (d' : Dif) → IsTurn Ack d lines node at cep → AcknowledgesAs d lines below at (Ok b) d' → StepsFlowHere d lines below node (Ok (step.Ack cep)) d'
 does_ack d lines below node at cep true d' turn a = record { lines' = a.lines'; does = record { at = at; turn = turn; cause = a.cause; acknowledged = a.acknowledged }; holds = a.holds }
 does_ack d lines below node at cep false d' turn (none, same) = absurd (none turn.first.due.due)
 
-pub does_again : (d : Dif) (lines : List Direction) (below : Seen) (node at cep : ℕ) (num : Num) (d' : Dif) → IsTurn Again d lines node at cep → SendsAgainAs d lines below at (Ok (Some num)) d' → HasSteppedFlow d lines below node (step.Again num) d'
+pub does_again : (d : Dif) (lines : List Direction) (below : Seen) (node at cep : ℕ) (num : Num) (d' : Dif) → IsTurn Again d lines node at cep → SendsAgainAs d lines below at (Ok (Some num)) d' → StepsFlowHere d lines below node (Ok (step.Again num)) d'
 does_again d lines below node at cep num d' turn a =
     let cep_is : cep ≡ num.cep = cep_there Again d lines node at cep a.resent.ids turn a.resent.is_home.is_conn.ids_are ∙ sym a.cep in
     record { lines' = a.lines'; does = record { at = at; turn = turn_with Again d lines node at cep num.cep cep_is turn; cause = a.cause; resent = a.resent; number_is = a.seq }; holds = a.holds }
@@ -284,7 +283,7 @@ pub never_silent : (d : Dif) (lines : List Direction) (below : Seen) (node at ce
 never_silent d lines below node at cep d' turn (none, same) = none turn.first.due.due
 
 -- nothing is due
-pub none_due : (d : Dif) (lines : List Direction) (below : Seen) (node : ℕ) → IsIdle d lines node → Holds d lines below → HasSteppedFlow d lines below node step.Idle d
+pub none_due : (d : Dif) (lines : List Direction) (below : Seen) (node : ℕ) → IsIdle d lines node → Holds d lines below → StepsFlowHere d lines below node (Ok step.Idle) d
 none_due d lines below node idle h = record { lines' = lines; does = (idle, refl, refl); holds = h }
 
 -- an allocation failed
@@ -293,45 +292,39 @@ steps_err d lines below node r e d' is err same = subst (λ (v : Result ClockSte
 
 -- A link comes before all of them
 
-pub link_first : (d : Dif) (lines : List Direction) (below : Seen) (node i : ℕ) (lost : Lost) (d' : Dif) → home node (config_of d.settings).members ≡ Some i → LosesAs d lines below i node lost.number (Ok tt) d' → HasStepped d lines below node (step.LinkLost lost.number) d'
+pub link_first : (d : Dif) (lines : List Direction) (below : Seen) (node i : ℕ) (lost : Lost) (d' : Dif) → home node (config_of d.settings).members ≡ Some i → LosesAs d lines below i node lost.number (Ok tt) d' → StepsHere d lines below node (Ok (step.LinkLost lost.number)) d'
 link_first d lines below node i lost d' here l = record { lines' = lines; does = (record { i = i; at_home = here; loses = l.0 }, refl); holds = l.1 }
 
 pub none_first : (d : Dif) (below : Seen) (node i : ℕ) → home node (config_of d.settings).members ≡ Some i → FindsLostAt d below i None → NoneLostAt d below node
 none_first d below node i here none k p at_home is = (let same : k ≡ i = same_some (home node (config_of d.settings).members) k i at_home here in none p (ap (slice_get d.processes) (sym same) ∙ is))
 
-done_first : (d : Dif) (lines : List Direction) (below : Seen) (node : ℕ) (done : ClockStep) (d' : Dif) → NoneLostAt d below node → d'.connections ≡ d.connections → HasSteppedFlow d lines below node done d' → HasStepped d lines below node done d'
-done_first d lines below node step.Idle d' none same s = record { lines' = s.lines'; does = (none, s.does, same); holds = s.holds }
-done_first d lines below node (step.Gone cep) d' none same s = record { lines' = s.lines'; does = (none, s.does, same); holds = s.holds }
-done_first d lines below node (step.GaveUp num) d' none same s = record { lines' = s.lines'; does = (none, s.does, same); holds = s.holds }
-done_first d lines below node (step.Ack cep) d' none same s = record { lines' = s.lines'; does = (none, s.does, same); holds = s.holds }
-done_first d lines below node (step.Again num) d' none same s = record { lines' = s.lines'; does = (none, s.does, same); holds = s.holds }
-done_first d lines below node (step.LinkLost link) d' none same s = absurd s.does
-done_first d lines below node (step.LinkNew link) d' none same s = absurd s.does
-done_first d lines below node (step.Timeout port) d' none same s = absurd s.does
-done_first d lines below node (step.Message link) d' none same s = absurd s.does
+never_told : (item : Item) → None ≡ Some item → ⊥
+never_told item e = absurd cc
 
-pub flow_first : (d : Dif) (lines : List Direction) (below : Seen) (node : ℕ) (r : Result ClockStep StepError) (d' : Dif) → NoneLostAt d below node → d'.connections ≡ d.connections → StepsFlowHere d lines below node r d' → StepsHere d lines below node r d'
-flow_first d lines below node (Ok done) d' none same s = done_first d lines below node done d' none same s
-flow_first d lines below node (Err why.Memory) d' none same s = s
-flow_first d lines below node (Err why.NoIpc) d' none same s = absurd s
-flow_first d lines below node (Err why.NoLink) d' none same s = absurd s
+never_lost : (d : Dif) (lines : List Direction) (below : Seen) (node link : ℕ) (d' : Dif) (lines' : List Direction) → LinksStand d below → Serves d lines below node (step.LinkLost link) d' lines' → ⊥
+never_lost d lines below node link d' lines' links (inl flow) = flow.does
+never_lost d lines below node link d' lines' links (inr l) = (let x = l.0.does links in never_told x.item x.told)
 
-pub link_err : (d : Dif) (lines : List Direction) (below : Seen) (node : ℕ) (r : Result ClockStep StepError) (e : StepError) (d' : Dif) → e ≡ why.Memory → r ≡ Err e → (seen_of d' ≡ seen_of d) × Holds d' lines below → StepsHere d lines below node r d'
-link_err d lines below node r e d' is err same = subst (λ (v : Result ClockStep StepError). StepsHere d lines below node v d') (sym (err ∙ ap (λ (z : StepError). Err z) is)) same
+served_done : (d : Dif) (lines : List Direction) (below : Seen) (node : ℕ) (done : ClockStep) (d' : Dif) → LinksStand d below → NoneLostAt d below node → ServesHere d lines below node (Ok done) d' → StepsHere d lines below node (Ok done) d'
+served_done d lines below node step.Idle d' links none s = record { lines' = s.lines'; does = (none, s.does); holds = s.holds }
+served_done d lines below node (step.Gone cep) d' links none s = record { lines' = s.lines'; does = (none, s.does); holds = s.holds }
+served_done d lines below node (step.GaveUp num) d' links none s = record { lines' = s.lines'; does = (none, s.does); holds = s.holds }
+served_done d lines below node (step.Ack cep) d' links none s = record { lines' = s.lines'; does = (none, s.does); holds = s.holds }
+served_done d lines below node (step.Again num) d' links none s = record { lines' = s.lines'; does = (none, s.does); holds = s.holds }
+served_done d lines below node (step.LinkLost link) d' links none s = absurd (never_lost d lines below node link d' s.lines' links s.does)
+served_done d lines below node (step.LinkNew link) d' links none s = record { lines' = s.lines'; does = (none, s.does); holds = s.holds }
+served_done d lines below node (step.Timeout port) d' links none s = record { lines' = s.lines'; does = (none, s.does); holds = s.holds }
+served_done d lines below node (step.Message link) d' links none s = record { lines' = s.lines'; does = (none, s.does); holds = s.holds }
+
+pub served_first : (d : Dif) (lines : List Direction) (below : Seen) (node : ℕ) (r : Result ClockStep StepError) (d' : Dif) → LinksStand d below → NoneLostAt d below node → ServesHere d lines below node r d' → StepsHere d lines below node r d'
+served_first d lines below node (Ok done) d' links none s = served_done d lines below node done d' links none s
+served_first d lines below node (Err why.Memory) d' links none s = s
+served_first d lines below node (Err why.NoIpc) d' links none s = absurd s
+served_first d lines below node (Err why.NoLink) d' links none s = absurd s
 
 -- the management connections stay where only the flows are served
-pub same_links : (d x : Dif) → x ≡ record d { processes = x.processes; flows = x.flows; managements = x.managements } → x.connections ≡ d.connections
+pub same_links : (d x : Dif) → x ≡ record d { processes = x.processes; flows = x.flows; ids = x.ids; managements = x.managements } → x.connections ≡ d.connections
 same_links d x whole = ap (λ (z : Dif). z.connections) whole
-
-pub whole_links : (d x : Dif) → x ≡ record d { processes = x.processes; flows = x.flows; managements = x.managements } → x ≡ record d { processes = x.processes; connections = x.connections; flows = x.flows; managements = x.managements }
-whole_links d x whole = whole ∙ ap (λ (c : Connections). record d { processes = x.processes; connections = c; flows = x.flows; managements = x.managements }) (sym (same_links d x whole))
-
-pub stays_so : (r : Result ClockStep StepError) (P : Type 0) → P → OnErr r P
-stays_so (Ok done) P p = tt
-stays_so (Err e) P p = p
-
-pub stays_by : (r r' : Result ClockStep StepError) (P : Type 0) → r' ≡ r → OnErr r P → OnErr r' P
-stays_by r r' P same h = subst (λ (v : Result ClockStep StepError). OnErr v P) (sym same) h
 
 -- nothing changed
 pub same_holds : (d : Dif) (lines : List Direction) (below : Seen) (d' : Dif) → d' ≡ d → Holds d lines below → (seen_of d' ≡ seen_of d) × Holds d' lines below

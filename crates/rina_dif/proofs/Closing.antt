@@ -1,5 +1,5 @@
 -- A DIF holds as the end of a management connection closes, and whatever its management connections make.
-use Rattle.std.proofs.Common.{◌≡◌, ◌≢◌, ◌∙◌, ℕ, ◌+◌, ◌<◌, ◌≤◌, List, [], ◌++◌, append-nil, length, map, slice_get, slice_set, Option, Some, None, refl, sym, ap, subst, arith, inl, inr}
+use Rattle.std.proofs.Common.{◌≡◌, ◌≢◌, ◌∙◌, ℕ, ◌+◌, ◌<◌, ◌≤◌, List, [], ◌++◌, append-nil, length, map, slice_get, slice_set, Option, Some, None, refl, sym, ap, subst, arith, inl, inr, false}
 use Rattle.std.specs.Prelude.{IfSome}
 use Rattle.std.proofs.lemmas.List.{append_cancel_left}
 use Rattle.std.proofs.lemmas.Option.{slice_get_within}
@@ -54,6 +54,8 @@ use Rattle.rina_dif.specs.Shown.{seen_of}
 use Rattle.rina_dif.proofs.Causing.{process_caused}
 use Rattle.rina_dif.proofs.Keeping.{IsSameHouse, home_set}
 use Rattle.rina_dif.proofs.Leaves.{shown_at, stepped}
+use Rattle.rina_dif.proofs.Flooding.{SameTexts, said_floods, set_said}
+use Rattle.rina_dif.specs.Flooding.{AreFlooding}
 
 -- Whatever an end of a link makes
 
@@ -63,8 +65,8 @@ flows_stand d lines below h = record { zero = h.connected.may.zero; stands = h.s
 
 -- PDUs or lines of links are at an IPC process, and the management connections go on to stand
 pub served_holds : (d : Dif) (lines : List Direction) (below : Seen) (i : ℕ) (p p' : IpcProcess) (c' : Connections) → c'.manage ≡ d.connections.manage → Holds d lines below → slice_get d.processes i ≡ Some p → queue_settings p' ≡ queue_settings p → IsSameHouse (process_of p) (process_of p') → ServesLinks (config_of d.settings) d.clock (seen_of d).processes (slice_set (seen_of d).processes i (process_of p'))
-    → AreWrittenOff (with_process (seen_of d) i (process_of p')) → AreConnected (config_of d.settings) d.clock c' (slice_set (seen_of d).processes i (process_of p')) below → Holds (record d { connections = c'; processes = slice_set d.processes i p' }) lines below
-served_holds d lines below i p p' c' manage h is room same serves written connected =
+    → AreWrittenOff (with_process (seen_of d) i (process_of p')) → AreConnected (config_of d.settings) d.clock c' (slice_set (seen_of d).processes i (process_of p')) below → (d.failed ≡ false → AreFlooding (record d { connections = c' })) → Holds (record d { connections = c'; processes = slice_set d.processes i p' }) lines below
+served_holds d lines below i p p' c' manage h is room same serves written connected floods =
     let ps : List IpcProcess = slice_set d.processes i p' in
     let e : Dif = record d { connections = c'; processes = ps } in
     let seen : seen_of e ≡ with_process (seen_of d) i (process_of p') = ap (λ (m : Cube). record (seen_of (record d { processes = ps })) { manage = m }) manage ∙ stepped d i p' ps refl in
@@ -83,6 +85,7 @@ served_holds d lines below i p p' c' manage h is room same serves written connec
       routed = house.routed;
       managed = house.managed;
       connected = subst (λ (z : DifSeen). AreConnected (config_of d.settings) d.clock c' z.processes below) (sym seen) connected;
+      flooded = floods;
     }
 
 -- How many pieces an end holds
@@ -174,9 +177,11 @@ one_closed d lines below i p port place flows ledger room h is is_open fits clos
     let noted : process_of (record p { ledger = ledger }) ≡ with_offs (process_of p) offs = ap (λ (z : List Off). record (process_of p) { ledger = z }) s.ledger_is in
     let ps' : List Process = slice_set (seen_of d).processes i (process_of (record p { ledger = ledger })) in
     let notes : NotesLinks (seen_of d).processes i ps' = record { process = process_of p; is_process = shown_at d i p is; offs = offs; of_links = ending_notes_links m had.lines (seen_of d).processes below place Closed s.offs flows.journal.ends had.standing s.stops; new_is = ap (slice_set (seen_of d).processes i) noted } in
-    let ended = ended_stands m had.lines (seen_of d).processes ps' below place Closed s.offs flows.journal.ends had.standing s.stops (noting_leaves_links (seen_of d).processes i ps' notes) in
+    let leaves = noting_leaves_links (seen_of d).processes i ps' notes in
+    let ended = ended_stands m had.lines (seen_of d).processes ps' below place Closed s.offs flows.journal.ends had.standing s.stops leaves in
     let standing = subst (λ (z : ChannelsSeen). IsStanding z had.lines ps' below) (sym (calls_change_ends g c.manage d.clock c.channels c.flows flows s.ids)) ended in
-    let connected : AreConnected g d.clock c' ps' below = record { may = had.may; lines = had.lines; tied = s.tied; standing = standing } in
+    let connected : AreConnected g d.clock c' ps' below = record { may = had.may; lines = had.lines; tied = s.tied; standing = standing; each = λ j n q live. had.each j n q (leaves.live j n q live) } in
+    let said : SameTexts c.flows.journal.ends flows.journal.ends = subst (SameTexts c.flows.journal.ends) (sym s.stops.ends_are) (set_said c.flows.journal.ends place s.stops.end (record s.stops.end { state = Closed }) s.stops.is_conn.end refl refl) in
     record {
       offs = offs;
       closes = λ links. (
@@ -185,7 +190,7 @@ one_closed d lines below i p port place flows ledger room h is is_open fits clos
           inl (place, is_open, record { held = x.offs; offs_are = same; ends = x.stops; ids = x.ids; tied = x.tied; same = refl }));
       ledger_is = s.ledger_is;
       few = omega (arith, few, held);
-      holds = served_holds d lines below i p (record p { ledger = ledger }) c' refl h is refl (record { links = refl; routes = refl; places = λ qos link. refl }) (i, inr notes) (subst (λ (z : Process). AreWrittenOff (with_process (seen_of d) i z)) (sym noted) (lines_lawful (seen_of d) i (process_of p) offs (shown_at d i p is) (λ off one. (let x = lines_held g d.clock c (seen_of d).processes below had place s.offs flows.journal.ends s.stops off one in (x.ids.scep, ap (λ (z : Off). z.cause) x.off_is ∙ x.held.4))) h.written_off)) connected;
+      holds = served_holds d lines below i p (record p { ledger = ledger }) c' refl h is refl (record { links = refl; routes = refl; places = λ qos link. refl }) (i, inr notes) (subst (λ (z : Process). AreWrittenOff (with_process (seen_of d) i z)) (sym noted) (lines_lawful (seen_of d) i (process_of p) offs (shown_at d i p is) (λ off one. (let x = lines_held g d.clock c (seen_of d).processes below had place s.offs flows.journal.ends s.stops off one in (x.ids.scep, ap (λ (z : Off). z.cause) x.off_is ∙ x.held.4))) h.written_off)) connected (λ alive. said_floods d flows said (h.flooded alive));
     }
 
 pub link_closed : (d : Dif) (lines : List Direction) (below : Seen) (i : ℕ) (p : IpcProcess) (port : Port) (end : Option ℕ) (flows : Flows) (ledger : List Off) (room : ℕ) → Holds d lines below → slice_get d.processes i ≡ Some p → FindsOpen d.connections port end → length p.ledger + held_at end d.connections.flows ≤ room → ClosesIn d.clock end d.connections.flows p.ledger room flows ledger → HasClosed d lines below i p port flows ledger (held_at end d.connections.flows)

@@ -11,7 +11,6 @@ use Rattle.rina_iface.specs.Journal.{AreKept}
 use Rattle.rina_iface.specs.Pass.{IsPassed as PassesBelow}
 use Rattle.rina_iface.specs.Seen.{Seen}
 use Rattle.rina_law.specs.Direction.{Direction}
-use Rattle.rina_law.specs.Lists.{In}
 use Rattle.rina_plan.specs.declared.dif.LinkPlan.{LinkPlan}
 use Rattle.rina_queue.specs.declared.queue.Queued.{Queued}
 use Rattle.rina_data.specs.declared.process.IpcProcess.{IpcProcess}
@@ -20,7 +19,7 @@ use Rattle.rina_data.specs.declared.step.Decision.{Decision}
 use Rattle.rina_data.specs.declared.step.Decision.TheVariants as decision
 use Rattle.rina_data.specs.declared.step.OutStep.{OutStep}
 use Rattle.rina_data.specs.declared.step.StepError.{StepError}
-use Rattle.rina_data.specs.Configs.{Config, config_of, member_of}
+use Rattle.rina_data.specs.Configs.{Config, member_of}
 use Rattle.rina_data.specs.Deciding.{Decides, process_of}
 use Rattle.rina_data.specs.Hops.{Hop}
 use Rattle.rina_data.specs.Process.{Process, next_hop, with_offs, with_put}
@@ -49,6 +48,7 @@ use Rattle.rina_dif.specs.declared.connections.Connections.{Connections}
 use Rattle.rina_dif.specs.Connected.{AreConnected, CanManage, channels_seen}
 use Rattle.rina_dif.specs.Routing.{HaveRoutes}
 use Rattle.rina_dif.proofs.Routed.{to_member}
+use Rattle.rina_flows.specs.Calls.{AreTied}
 
 -- While the DIF serves its flows
 
@@ -58,6 +58,7 @@ kept_by g now c ps ps' below leaves h = record {
   lines = h.lines;
   tied = h.tied;
   standing = other_pdus_stand (channels_seen g now c) h.lines ps ps' below h.standing (leaves h.may);
+  each = λ i n port live. h.each i n port ((leaves h.may).live i n port live);
 }
 
 -- As the rank below goes on
@@ -68,29 +69,37 @@ later_connected g now now' c ps below below' le kept lifted clock h = record {
   lines = map (ticked (now' - now)) h.lines;
   tied = tied_later (link_config g c.manage) now now' c.flows.journal.ends c.flows.conns h.lines le h.tied;
   standing = subst (λ (t : ℕ). IsStanding (channels_seen g t c) (map (ticked (t - now)) h.lines) ps below') clock (time_stands (channels_seen g now c) h.lines ps below below' kept h.standing lifted);
+  each = h.each;
 }
 
 pub beside_connected : (g : Config) (now : ℕ) (c : Connections) (ps : List Process) (below below' : Seen) → AreKept below' → IsLifted g below below' → below'.now ≡ below.now → AreConnected g now c ps below → AreConnected g now c ps below'
-beside_connected g now c ps below below' kept lifted clock h = record { may = h.may; lines = h.lines; tied = h.tied; standing = beside_stands (channels_seen g now c) h.lines ps below below' kept h.standing lifted clock }
+beside_connected g now c ps below below' kept lifted clock h = record { may = h.may; lines = h.lines; tied = h.tied; standing = beside_stands (channels_seen g now c) h.lines ps below below' kept h.standing lifted clock; each = h.each }
 
 pub aside_connected : (g : Config) (now : ℕ) (c : Connections) (ps : List Process) (below below' : Seen) → IsAfter g NoMore below below' → FlowsGoOn g below below' → below'.now ≡ below.now → AreConnected g now c ps below → AreConnected g now c ps below'
-aside_connected g now c ps below below' after go clock h = record { may = h.may; lines = h.lines; tied = h.tied; standing = still_stands (channels_seen g now c) h.lines ps ps below below' h.standing (leaves_refl ps) after go clock }
+aside_connected g now c ps below below' after go clock h = record { may = h.may; lines = h.lines; tied = h.tied; standing = still_stands (channels_seen g now c) h.lines ps ps below below' h.standing (leaves_refl ps) after go clock; each = h.each }
 
 -- an SDU is taken from there
 pub taking_connected : (g : Config) (now : ℕ) (c : Connections) (ps : List Process) (below : Seen) (port : Port) (below' : Seen) → AreKept below → AreKept below' → PassesBelow below port below' → AreConnected g now c ps below → AreConnected g now c ps below'
-taking_connected g now c ps below port below' kept kept' passed h = record { may = h.may; lines = h.lines; tied = h.tied; standing = taking_stands (channels_seen g now c) h.lines ps below port below' kept kept' h.standing passed }
+taking_connected g now c ps below port below' kept kept' passed h = record { may = h.may; lines = h.lines; tied = h.tied; standing = taking_stands (channels_seen g now c) h.lines ps below port below' kept kept' h.standing passed; each = h.each }
 
 -- a PDU goes out
-pub outs_connected : (refuses : Port → ℕ → Option SendError) (d : DifSeen) (flows : List Direction) (c : Connections) (below : Seen) (i n : ℕ) (r : Result OutStep StepError) (d' : DifSeen) (below' : Seen) → AreKept below → AreKept below' → DifStands d flows below → Outs refuses d below i n r d' below' → AreConnected d.config d.clock c d.processes below → AreConnected d.config d.clock c d'.processes below'
-outs_connected refuses d flows c below i n r d' below' kept kept' stands outs h = record { may = h.may; lines = h.lines; tied = h.tied; standing = outs_stand refuses (channels_seen d.config d.clock c) h.lines d flows below i n r d' below' kept kept' stands refl refl h.standing outs }
+pub outs_connected : (refuses : Port → ℕ → Option SendError) (d : DifSeen) (flows : List Direction) (c : Connections) (below : Seen) (i n : ℕ) (r : Result OutStep StepError) (d' : DifSeen) (below' : Seen) → AreKept below → AreKept below' → DifStands d flows below → Outs refuses d below i n r d' below' → ((j k : ℕ) (port : Port) → HasLive d'.processes j k port → HasLive d.processes j k port) → AreConnected d.config d.clock c d.processes below → AreConnected d.config d.clock c d'.processes below'
+outs_connected refuses d flows c below i n r d' below' kept kept' stands outs live h = record { may = h.may; lines = h.lines; tied = h.tied; standing = outs_stand refuses (channels_seen d.config d.clock c) h.lines d flows below i n r d' below' kept kept' stands refl refl h.standing outs; each = λ j k port there. h.each j k port (live j k port there) }
 
 -- Before the first link
 
 none_in : {X : Type 0} (xs : List X) (i : ℕ) (x : X) → xs ≡ [] → slice_get xs i ≡ Some x → ⊥
 none_in xs i x e h = cc
 
-pub none_connected : (g : Config) (now : ℕ) (c : Connections) (ps : List Process) (below : Seen) → c.channels ≡ [] → c.flows.journal.ends ≡ [] → c.flows.conns ≡ [] → now ≡ below.now → CanManage g c.manage → ((i n : ℕ) (p q : Port) → HasLive ps i n p → HasLive ps i n q → p ≡ q) → AreConnected g now c ps below
-none_connected g now c ps below channels ends conns clock may numbered =
+-- what holds of them once the first links have theirs
+pub record StandSoFar (g : Config) (now : ℕ) (c : Connections) (ps : List Process) (below : Seen) : Type 0 where
+  pub may : CanManage g c.manage
+  pub lines : List Direction
+  pub tied : AreTied (link_config g c.manage) now c.flows lines
+  pub standing : IsStanding (channels_seen g now c) lines ps below
+
+pub none_so_far : (g : Config) (now : ℕ) (c : Connections) (ps : List Process) (below : Seen) → c.channels ≡ [] → c.flows.journal.ends ≡ [] → c.flows.conns ≡ [] → now ≡ below.now → CanManage g c.manage → ((i n : ℕ) (p q : Port) → HasLive ps i n p → HasLive ps i n q → p ≡ q) → StandSoFar g now c ps below
+none_so_far g now c ps below channels ends conns clock may numbered =
     let no_ends : length c.flows.journal.ends ≡ 0 = ap (λ es. length es) ends in
     let no_conns : length c.flows.conns ≡ 0 = ap (λ ks. length ks) conns in
     record {
@@ -104,6 +113,12 @@ none_connected g now c ps below channels ends conns clock may numbered =
       };
       standing = none_stand (channels_seen g now c) [] ps below (record { managed = may.managed; clock = clock; channels = channels; ends = ends; ids = ap conns_of conns; lines_are = refl; numbered = numbered });
     }
+
+-- where there are no links
+pub none_connected : (g : Config) (now : ℕ) (c : Connections) (ps : List Process) (below : Seen) → c.channels ≡ [] → c.flows.journal.ends ≡ [] → c.flows.conns ≡ [] → now ≡ below.now → CanManage g c.manage → ((i n : ℕ) (port : Port) → HasLive ps i n port → ⊥) → AreConnected g now c ps below
+none_connected g now c ps below channels ends conns clock may none =
+    let s = none_so_far g now c ps below channels ends conns clock may (λ i n p q x y. absurd (none i n p x)) in
+    record { may = s.may; lines = s.lines; tied = s.tied; standing = s.standing; each = λ i n port live. absurd (none i n port live) }
 
 -- As an IPC process decides on a PDU that came
 

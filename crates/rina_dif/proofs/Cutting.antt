@@ -1,5 +1,5 @@
 -- All flows of a node fail with the last link of their IPC process.
-use Rattle.std.proofs.Common.{◌≡◌, ◌≢◌, ◌∙◌, ℕ, zero, suc, ◌+◌, ◌<◌, ◌≤◌, ◌⊎◌, List, get_or, length, slice_get, slice_set, Option, Some, Result, Ok, Err, refl, sym, ap, subst, arith, inl, inr, set-set}
+use Rattle.std.proofs.Common.{◌≡◌, ◌≢◌, ◌∙◌, ℕ, zero, suc, ◌+◌, ◌<◌, ◌≤◌, ◌⊎◌, List, get_or, length, slice_get, slice_set, Option, Some, None, Result, Ok, Err, refl, sym, ap, subst, arith, inl, inr, set-set}
 use Rattle.std.proofs.lemmas.Option.{slice_get_read}
 use Rattle.rina_account.specs.declared.ledger.Off.{Off}
 use Rattle.rina_member.specs.declared.management.Management.{Management}
@@ -12,7 +12,7 @@ use Rattle.rina_iface.specs.declared.state.PortState.{PortState}
 use Rattle.rina_iface.specs.declared.state.PortState.TheVariants.{Allocated, Failed}
 use Rattle.rina_iface.specs.Journal.{At}
 use Rattle.rina_iface.specs.Seen.{Seen}
-use Rattle.rina_iface.proofs.Changed.{set_at, slice_get-set_same}
+use Rattle.rina_iface.proofs.Changed.{set_at, slice_get-set_other, slice_get-set_same}
 use Rattle.rina_law.specs.Direction.{Direction}
 use Rattle.rina_data.specs.declared.loss.Lost.{Lost}
 use Rattle.rina_data.specs.declared.process.IpcProcess.{IpcProcess}
@@ -44,6 +44,15 @@ use Rattle.rina_dif.proofs.Leaves.{has_process, shown_at}
 use Rattle.rina_dif.proofs.Owning.{arrived_seen}
 use Rattle.rina_dif.proofs.Unlinked.{after, after_holds, first_lost, has_agent, has_member, keeps_links, lost_with, then_closed}
 use Rattle.rina_channel.proofs.Leaving.{failing_leaves}
+use Rattle.rina_ids.specs.Members.{CepIds, with_rest}
+use Rattle.rina_data.proofs.Finding.{there}
+use Rattle.rina_flows.specs.Tied.{conns_of, ids_of}
+use Rattle.rina_dif_law.specs.Ending.{GivesBack}
+use Rattle.rina_dif_law.specs.Ids.{Ids}
+use Rattle.rina_dif.specs.declared.release.IdRest.{IdRest}
+use Rattle.rina_dif.specs.Freeing.{RestsAt}
+use Rattle.rina_dif.specs.IdRests.{AreRests, GaveFirst, GaveOne, RestsHere}
+use Rattle.rina_dif.proofs.GivenBack.{cube_here, ids_here}
 use Rattle.rina_dif.proofs.Connected.{kept_by}
 
 same_some : {X : Type 0} (o : Option X) (a b : X) → o ≡ Some a → o ≡ Some b → a ≡ b
@@ -59,30 +68,80 @@ last_one node state loss r at links links' flows flows' ps x x' lt read loses ro
 
 -- The flows of a node end one after the other
 
--- with these flows so far, and this ledger of the IPC process at a place
-abbrev stage : Dif → ℕ → IpcProcess → Flows → List Off → Dif
-stage d i p flows ledger = record d { flows = flows; processes = slice_set d.processes i (record p { ledger = ledger }) }
+-- with these flows so far, this ledger of the IPC process at a place, and these CEP-ids
+abbrev stage : Dif → ℕ → IpcProcess → Flows → List Off → List CepIds → Dif
+stage d i p flows ledger held = record d { flows = flows; processes = slice_set d.processes i (record p { ledger = ledger }); ids = held }
 
-stage_ended : (d : Dif) (i n node : ℕ) (p q : IpcProcess) (state : PortState) (lines : List Direction) (f f' : Flows) (l l' : List Off) → slice_get d.processes i ≡ Some q → home node (config_of d.settings).members ≡ Some i → IsAllocatedAt f.journal.ends node n → HasStopped (config_of d.settings) d.clock n state f l lines f' l' → IsEnded (seen_of (stage d i p f l)) lines n state (seen_of (stage d i p f' l'))
-stage_ended d i n node p q state lines f f' l l' is here a s =
-    let g : Config = config_of d.settings in
-    let old : Dif = stage d i p f l in
-    let pl : IpcProcess = record p { ledger = l } in
-    let ps' : List IpcProcess = slice_set d.processes i (record p { ledger = l' }) in
-    let there : slice_get old.processes i ≡ Some pl = slice_get-set_same d.processes i q pl is in
-    let twice : ps' ≡ slice_set old.processes i (record pl { ledger = l' }) = sym (set-set d.processes i pl (record p { ledger = l' })) in
-    let seen = arrived_seen old i pl s.offs l' f' ps' refl s.ids s.ledger_is twice in
-    let same : a.end ≡ s.stops.end = same_some (slice_get f.journal.ends n) a.end s.stops.end a.is_end s.stops.is_conn.end in
-    let at_home : home s.stops.end.port.node g.members ≡ Some i = ap (λ (e : End). home e.port.node g.members) (sym same) ∙ ap (λ (k : ℕ). home k g.members) a.node_is ∙ here in
-    is_ended (seen_of old) lines n i state (process_of pl) s.offs f'.journal.ends (seen_of (stage d i p f' l')) s.stops at_home (shown_at old i pl there) seen
+-- the connections are the same, and so are the ends from a place on
+record IsStage (d : Dif) (n : ℕ) (f : Flows) : Type 0 where
+  conns : conns_of f.conns ≡ conns_of d.flows.conns
+  ends : (k : ℕ) → n ≤ k → slice_get f.journal.ends k ≡ slice_get d.flows.journal.ends k
 
-stage_fails : (d : Dif) (i n node : ℕ) (p q : IpcProcess) (fail : Fail) (lines : List Direction) (f f' : Flows) (l l' : List Off) → slice_get d.processes i ≡ Some q → home node (config_of d.settings).members ≡ Some i → MayStop (config_of d.settings) d.clock node (Failed fail) lines n f l f' l' → MayFail lines node fail n (seen_of (stage d i p f l)) (seen_of (stage d i p f' l'))
-stage_fails d i n node p q fail lines f f' l l' is here (inl s) = inl (s.0, stage_ended d i n node p q (Failed fail) lines f f' l l' is here s.0 s.1)
-stage_fails d i n node p q fail lines f f' l l' is here (inr k) = inr (k.0, ap (λ (z : Flows). seen_of (stage d i p z l')) k.1 ∙ ap (λ (z : List Off). seen_of (stage d i p f z)) k.2)
+stopped_stage : (d : Dif) (n node : ℕ) (state : PortState) (lines : List Direction) (f' : Flows) (l l' : List Off) → StopFirst (config_of d.settings) d.clock node state lines n d.flows l f' l' → IsStage d n f'
+stopped_stage d zero node state lines f' l l' s = record { conns = ap (λ (z : Flows). conns_of z.conns) s.0; ends = λ k le. ap (λ (z : Flows). slice_get z.journal.ends k) s.0 }
+stopped_stage d (suc n) node state lines f' l l' s =
+    let was = stopped_stage d n node state lines s.0 l s.1 s.2 in
+    elim s.3 [
+      | inl t ↦
+          (let e = t.1.stops in
+          record {
+            conns = t.1.ids ∙ was.conns;
+            ends = λ k le. ap (λ (es : List End). slice_get es k) e.ends_are ∙ slice_get-set_other s.0.journal.ends n k (record e.end { state = state }) (λ same. omega (arith, le, same)) ∙ was.ends k (omega (arith, le));
+          })
+      | inr t ↦ record { conns = ap (λ (z : Flows). conns_of z.conns) t.1 ∙ was.conns; ends = λ k le. ap (λ (z : Flows). slice_get z.journal.ends k) t.1 ∙ was.ends k (omega (arith, le)) }
+    ]
 
-stages_fail : (d : Dif) (i n node : ℕ) (p q : IpcProcess) (fail : Fail) (lines : List Direction) (f f' : Flows) (l l' : List Off) → slice_get d.processes i ≡ Some q → home node (config_of d.settings).members ≡ Some i → StopFirst (config_of d.settings) d.clock node (Failed fail) lines n f l f' l' → FailFirst lines node fail n (seen_of (stage d i p f l)) (seen_of (stage d i p f' l'))
-stages_fail d i zero node p q fail lines f f' l l' is here s = ap (λ (z : Flows). seen_of (stage d i p z l')) s.0 ∙ ap (λ (z : List Off). seen_of (stage d i p f z)) s.1
-stages_fail d i (suc n) node p q fail lines f f' l l' is here s = (seen_of (stage d i p s.0 s.1), stages_fail d i n node p q fail lines f s.0 l s.1 is here s.2, stage_fails d i n node p q fail lines s.0 f' s.1 l' is here s.3)
+module _ (d : Dif) (lines : List Direction) (below : Seen) (h : Holds d lines below) (i node : ℕ) (p q : IpcProcess) (is : slice_get d.processes i ≡ Some q) (here : home node (config_of d.settings).members ≡ Some i) (rests : List (Option IdRest)) (are : AreRests d node (length d.flows.conns) rests) where
+  stage_gives : (n : ℕ) (f : Flows) (l : List Off) (held held' : List CepIds) (end : End) (rest : IdRest) → IsStage d n f → IsAllocatedAt d.flows.journal.ends node n → RestsAt d n rest → slice_get f.journal.ends n ≡ Some end → GaveOne i d.clock (Some (Some rest)) held held' → GivesBack (seen_of (stage d i p f l held)) n end held'
+  stage_gives n f l held held' end rest st a rests_at is_end gave =
+      let old : slice_get d.flows.journal.ends n ≡ Some end = sym (st.ends n (omega arith)) ∙ is_end in
+      let same : a.end ≡ end = same_some (slice_get d.flows.journal.ends n) a.end end a.is_end old in
+      record {
+        ids = ids_of rests_at.conn;
+        are_ids = ap (λ (cs : List Ids). slice_get cs n) st.conns ∙ ids_here d lines below h n rests_at.conn rests_at.is_conn;
+        cube = rests_at.conn.sending.form.cube;
+        is_cube = cube_here d lines below h n end rests_at.conn old rests_at.is_conn;
+        place = i;
+        at_home = ap (λ (e : End). home e.port.node (config_of d.settings).members) (sym same) ∙ ap (λ (k : ℕ). home k (config_of d.settings).members) a.node_is ∙ here;
+        old = gave.0;
+        is_old = gave.1;
+        held_is = gave.2 ∙ ap (λ (m : ℕ). with_rest i gave.0 m (d.clock + rest.ticks) held) rests_at.cep ∙ ap (λ (m : ℕ). with_rest i gave.0 rests_at.conn.sending.form.peer.scep (d.clock + m) held) rests_at.ticks;
+      }
+
+  stage_ended : (n : ℕ) (state : PortState) (f f' : Flows) (l l' : List Off) (held held' : List CepIds) (rest : IdRest) → IsStage d n f → IsAllocatedAt d.flows.journal.ends node n → RestsAt d n rest → GaveOne i d.clock (Some (Some rest)) held held' → IsAllocatedAt f.journal.ends node n → HasStopped (config_of d.settings) d.clock n state f l lines f' l' → IsEnded (seen_of (stage d i p f l held)) lines n state (seen_of (stage d i p f' l' held'))
+  stage_ended n state f f' l l' held held' rest st a0 rests_at gave a s =
+      let g : Config = config_of d.settings in
+      let old : Dif = stage d i p f l held in
+      let pl : IpcProcess = record p { ledger = l } in
+      let ps' : List IpcProcess = slice_set d.processes i (record p { ledger = l' }) in
+      let there : slice_get old.processes i ≡ Some pl = slice_get-set_same d.processes i q pl is in
+      let twice : ps' ≡ slice_set old.processes i (record pl { ledger = l' }) = sym (set-set d.processes i pl (record p { ledger = l' })) in
+      let seen = ap (λ (z : DifSeen). record z { ids = held' }) (arrived_seen old i pl s.offs l' f' ps' refl s.ids s.ledger_is twice) in
+      let same : a.end ≡ s.stops.end = same_some (slice_get f.journal.ends n) a.end s.stops.end a.is_end s.stops.is_conn.end in
+      let at_home : home s.stops.end.port.node g.members ≡ Some i = ap (λ (e : End). home e.port.node g.members) (sym same) ∙ ap (λ (k : ℕ). home k g.members) a.node_is ∙ here in
+      is_ended (seen_of old) lines n i state (process_of pl) s.offs f'.journal.ends held' (seen_of (stage d i p f' l' held')) s.stops at_home (shown_at old i pl there) (stage_gives n f l held held' s.stops.end rest st a0 rests_at s.stops.is_conn.end gave) seen
+
+  -- whether an end is allocated there is as it was
+  was_allocated : (n : ℕ) (f : Flows) → IsStage d n f → IsAllocatedAt f.journal.ends node n → IsAllocatedAt d.flows.journal.ends node n
+  was_allocated n f st a = record { end = a.end; is_end = sym (st.ends n (omega arith)) ∙ a.is_end; allocated = a.allocated; node_is = a.node_is }
+
+  is_allocated : (n : ℕ) (f : Flows) → IsStage d n f → IsAllocatedAt d.flows.journal.ends node n → IsAllocatedAt f.journal.ends node n
+  is_allocated n f st a = record { end = a.end; is_end = st.ends n (omega arith) ∙ a.is_end; allocated = a.allocated; node_is = a.node_is }
+
+  stage_fails : (n : ℕ) (fail : Fail) (f f' : Flows) (l l' : List Off) (held held' : List CepIds) (o : Option IdRest) → IsStage d n f → RestsHere d node n o → GaveOne i d.clock (Some o) held held' → MayStop (config_of d.settings) d.clock node (Failed fail) lines n f l f' l' → MayFail lines node fail n (seen_of (stage d i p f l held)) (seen_of (stage d i p f' l' held'))
+  stage_fails n fail f f' l l' held held' (Some rest) st r gave (inl s) = inl (s.0, stage_ended n (Failed fail) f f' l l' held held' rest st r.0 r.1 gave s.0 s.1)
+  stage_fails n fail f f' l l' held held' None st r gave (inl s) = absurd (r (was_allocated n f st s.0))
+  stage_fails n fail f f' l l' held held' (Some rest) st r gave (inr k) = absurd (k.0 (is_allocated n f st r.0))
+  stage_fails n fail f f' l l' held held' None st r gave (inr k) = inr (k.0, ap (λ (z : Flows). seen_of (stage d i p z l' held')) k.1 ∙ ap (λ (z : List Off). seen_of (stage d i p f z held')) k.2 ∙ ap (λ (z : List CepIds). seen_of (stage d i p f l z)) gave)
+
+  stages_fail : (n : ℕ) (fail : Fail) (f' : Flows) (l l' : List Off) (held' : List CepIds) → n ≤ length d.flows.journal.ends → StopFirst (config_of d.settings) d.clock node (Failed fail) lines n d.flows l f' l' → GaveFirst i d.clock rests n d.ids held' → FailFirst lines node fail n (seen_of (stage d i p d.flows l d.ids)) (seen_of (stage d i p f' l' held'))
+  stages_fail zero fail f' l l' held' le s gave = ap (λ (z : Flows). seen_of (stage d i p z l' held')) s.0 ∙ ap (λ (z : List Off). seen_of (stage d i p d.flows z held')) s.1 ∙ ap (λ (z : List CepIds). seen_of (stage d i p d.flows l z)) gave
+  stages_fail (suc n) fail f' l l' held' le s gave =
+      let aligned = are.aligned in
+      let alike = h.tied.alike in
+      let o = there rests n (omega (arith, le, aligned, alike)) in
+      let one = subst (λ (z : Option (Option IdRest)). GaveOne i d.clock z gave.0 held') o.1 gave.2 in
+      (seen_of (stage d i p s.0 s.1 gave.0), stages_fail n fail s.0 l s.1 gave.0 (omega (arith, le)) s.2 gave.1, stage_fails n fail s.0 f' s.1 l' gave.0 held' o.0 (stopped_stage d n node (Failed fail) lines s.0 l s.1 s.2) (are.each n o.0 o.1) one s.3)
 
 -- The link is lost, and they all fail
 
@@ -90,16 +149,16 @@ failed_other : (fail : Fail) → Failed fail ≢ Allocated
 failed_other fail e = absurd cc
 
 last_fails : (d : Dif) (at node : ℕ) (lost : Lost) (port : Port) (loss : LinkLoss) (links flows : Flows) (p p' : IpcProcess) (g' : Management) → loss.place ≡ lost.place → loss.now ≡ d.clock → at < length d.settings.members → home node (config_of d.settings).members ≡ Some at → slice_get d.processes at ≡ Some p → IsWithout d at lost.number g' → AreRoutesOf g'.agent d.settings.members loss.routes → FindsEnd d at lost.place loss.end
-    → LosesThenStops node (Failed (Below port)) loss d.connections.flows d.flows p links flows p' → queue_settings p' ≡ queue_settings p
-    → (lines : List Direction) (below : Seen) → Holds d lines below → FindsLostAt d below at (Some lost) → FindsNoneLeft d below at lost.place (Some port) → LosesAs d lines below at node lost.number (Ok tt) (record d { connections = record d.connections { flows = links }; flows = flows; processes = slice_set d.processes at p'; managements = slice_set d.managements at g' })
-last_fails d at node lost port loss links flows p p' g' place_is clock_is lt here is goes are ends s room lines below h finds left =
+    → LosesThenStops node (Failed (Below port)) loss d.connections.flows d.flows p links flows p' → queue_settings p' ≡ queue_settings p → (rests : List (Option IdRest)) (held : List CepIds) → AreRests d node (length d.flows.conns) rests → GaveFirst at d.clock rests (length rests) d.ids held
+    → (lines : List Direction) (below : Seen) → Holds d lines below → FindsLostAt d below at (Some lost) → FindsNoneLeft d below at lost.place (Some port) → LosesAs d lines below at node lost.number (Ok tt) (record d { connections = record d.connections { flows = links }; flows = flows; ids = held; processes = slice_set d.processes at p'; managements = slice_set d.managements at g' })
+last_fails d at node lost port loss links flows p p' g' place_is clock_is lt here is goes are ends s room rests held are_rests gave lines below h finds left =
     let g : Config = config_of d.settings in
     let m = has_member d at lt in
     let k = has_agent d lines below at lt h in
     let p1 : IpcProcess = record p' { ledger = s.ledger } in
     let more : ℕ = held_here node d.flows in
     let mid : Dif = after d lines below at lost loss more m.0 p p1 links k.0 g' place_is clock_is m.1 is k.1 (goes k.0 k.1) are s.loses room ends h finds in
-    let d' : Dif = record d { connections = record d.connections { flows = links }; flows = flows; processes = slice_set d.processes at p'; managements = slice_set d.managements at g' } in
+    let d' : Dif = record d { connections = record d.connections { flows = links }; flows = flows; ids = held; processes = slice_set d.processes at p'; managements = slice_set d.managements at g' } in
     let l = first_lost d lines below at lost loss more m.0 p p1 links k.0 g' place_is clock_is m.1 is k.1 (goes k.0 k.1) are s.loses room ends h finds in
     let c = then_closed d lines below at lost loss more m.0 p p1 links k.0 g' place_is clock_is m.1 is k.1 (goes k.0 k.1) are s.loses room ends h finds in
     let holds : Holds mid lines below = after_holds d lines below at lost loss more m.0 p p1 links k.0 g' place_is clock_is m.1 is k.1 (goes k.0 k.1) are s.loses room ends h finds in
@@ -109,7 +168,8 @@ last_fails d at node lost port loss links flows p p' g' place_is clock_is lt her
     let wide = s.wide in
     let stops : StopsAll d.clock node (Failed (Below port)) d.flows s.ledger s.room flows p'.ledger = subst (λ (now : ℕ). StopsAll now node (Failed (Below port)) d.flows s.ledger s.room flows p'.ledger) clock_is s.stops in
     let all = stops g lines holds.standing.journal holds.tied tt (failed_other (Below port)) (omega (arith, few, fits, wide)) in
-    let fails = stages_fail d at (length d.flows.journal.ends) node p' p (Below port) lines d.flows flows s.ledger p'.ledger is here all.0 in
+    let gave' : GaveFirst at d.clock rests (length d.flows.journal.ends) d.ids held = subst (λ (n : ℕ). GaveFirst at d.clock rests n d.ids held) (are_rests.aligned ∙ (let alike = h.tied.alike in omega (arith, alike))) gave in
+    let fails = stages_fail d lines below h at node p' p is here rests are_rests (length d.flows.journal.ends) (Below port) flows s.ledger p'.ledger held (omega arith) all.0 gave' in
     let by : FailFirst lines node (Below l.link.port) (length d.flows.journal.ends) (seen_of mid) (seen_of d') = subst (λ (z : Port). FailFirst lines node (Below z) (length d.flows.journal.ends) (seen_of mid) (seen_of d')) told.0 fails in
     let there : slice_get mid.processes at ≡ Some p1 = slice_get-set_same d.processes at p p1 is in
     let twice : slice_set mid.processes at p' ≡ slice_set d.processes at p' = set-set d.processes at p1 p' in
@@ -117,7 +177,7 @@ last_fails d at node lost port loss links flows p p' g' place_is clock_is lt her
       lost_with d lines below at lost loss more m.0 p p1 links k.0 g' place_is clock_is m.1 is k.1 (goes k.0 k.1) are s.loses room ends h finds node d' refl (inl (told.1, by)),
       record {
         tied = all.1;
-        standing = failed_stands (seen_of mid) lines below node l.link.port (seen_of d') holds.standing by;
+        standing = failed_stands (seen_of mid) lines below node l.link.port (seen_of d') holds.standing holds.numbered by;
         carrying = failed_carries (seen_of mid) lines below node l.link.port (seen_of d') holds.carrying by;
         numbered = failed_numbered (seen_of mid) lines below node l.link.port (seen_of d') holds.numbered by;
         accounted = failed_accounted (seen_of mid) lines below node l.link.port (seen_of d') holds.standing holds.numbered holds.accounted by;
@@ -127,16 +187,17 @@ last_fails d at node lost port loss links flows p p' g' place_is clock_is lt her
         routed = house.routed;
         managed = house.managed;
         connected = kept_by (config_of d.settings) d.clock mid.connections (seen_of mid).processes (seen_of d').processes below (λ may. failing_leaves (seen_of mid) lines node l.link.port (seen_of d') by) holds.connected;
+        flooded = holds.flooded;
       },
     )
 
 pub last_loses : (d : Dif) (at node : ℕ) (lost : Lost) (port : Port) (loss : LinkLoss) (g' : Management) (links flows : Flows) (ps : List IpcProcess) → loss.place ≡ lost.place → loss.now ≡ d.clock → at < length d.settings.members → home node (config_of d.settings).members ≡ Some at → IsWithout d at lost.number g' → AreRoutesOf g'.agent d.settings.members loss.routes → FindsEnd d at lost.place loss.end
-    → LosesLastIn node (Failed (Below port)) loss (Ok tt) at d.connections.flows d.flows d.processes links flows ps
-    → (lines : List Direction) (below : Seen) → Holds d lines below → FindsLostAt d below at (Some lost) → FindsNoneLeft d below at lost.place (Some port) → LosesAs d lines below at node lost.number (Ok tt) (record d { connections = record d.connections { flows = links }; flows = flows; processes = ps; managements = slice_set d.managements at g' })
-last_loses d at node lost port loss g' links flows ps place_is clock_is lt here goes are ends loses lines below h finds left =
+    → LosesLastIn node (Failed (Below port)) loss (Ok tt) at d.connections.flows d.flows d.processes links flows ps → (rests : List (Option IdRest)) (held : List CepIds) → AreRests d node (length d.flows.conns) rests → GaveFirst at d.clock rests (length rests) d.ids held
+    → (lines : List Direction) (below : Seen) → Holds d lines below → FindsLostAt d below at (Some lost) → FindsNoneLeft d below at lost.place (Some port) → LosesAs d lines below at node lost.number (Ok tt) (record d { connections = record d.connections { flows = links }; flows = flows; ids = held; processes = ps; managements = slice_set d.managements at g' })
+last_loses d at node lost port loss g' links flows ps place_is clock_is lt here goes are ends loses rests held are_rests gave lines below h finds left =
     let p = has_process d below at (lines, h) lt in
     let x = loses p.0 p.1 in
-    subst (λ (qs : List IpcProcess). LosesAs d lines below at node lost.number (Ok tt) (record d { connections = record d.connections { flows = links }; flows = flows; processes = qs; managements = slice_set d.managements at g' })) (sym x.3) (last_fails d at node lost port loss links flows p.0 x.0 g' place_is clock_is lt here p.1 goes are ends x.1 x.2 lines below h finds left)
+    subst (λ (qs : List IpcProcess). LosesAs d lines below at node lost.number (Ok tt) (record d { connections = record d.connections { flows = links }; flows = flows; ids = held; processes = qs; managements = slice_set d.managements at g' })) (sym x.3) (last_fails d at node lost port loss links flows p.0 x.0 g' place_is clock_is lt here p.1 goes are ends x.1 x.2 rests held are_rests gave lines below h finds left)
 
 -- the connections and the flows are as they were, and so is the IPC process at a place
 abbrev pub StaysWith : ℕ → Flows → Flows → List IpcProcess → Flows → Flows → List IpcProcess → Type 0

@@ -110,11 +110,14 @@ stopped_at app address old now after i m m' so is_m is_after may = record {
 -- A flow is bound
 
 -- whatever the members show of the flow, each has taken the entry
-pub shown_entered : (app : List ℕ) (address a cep_a b cep_b : ℕ) (old new : List Management) → new ≡ with_flow_at b cep_b (with_flow_at a cep_a (map (entered app address) old)) → MayHaveEntered app address old new
-shown_entered app address a cep_a b cep_b old new is =
+pub shown_agents : (app : List ℕ) (address a cep_a b cep_b : ℕ) (old new : List Management) → new ≡ with_flow_at b cep_b (with_flow_at a cep_a (map (entered app address) old)) → agents_of new ≡ agents_of (map (entered app address) old)
+shown_agents app address a cep_a b cep_b old new is =
     let all : List Management = map (entered app address) old in
     let one : List Management = with_flow_at a cep_a all in
-    all_entered app address old new (ap agents_of is ∙ changed_agents b (λ m. with_flow m cep_b) one (λ m. refl) ∙ changed_agents a (λ m. with_flow m cep_a) all (λ m. refl))
+    ap agents_of is ∙ changed_agents b (λ m. with_flow m cep_b) one (λ m. refl) ∙ changed_agents a (λ m. with_flow m cep_a) all (λ m. refl)
+
+pub shown_entered : (app : List ℕ) (address a cep_a b cep_b : ℕ) (old new : List Management) → new ≡ with_flow_at b cep_b (with_flow_at a cep_a (map (entered app address) old)) → MayHaveEntered app address old new
+shown_entered app address a cep_a b cep_b old new is = all_entered app address old new (shown_agents app address a cep_a b cep_b old new is)
 
 -- there is one far application
 pub far_entered : (d : Dif) (fixed : Fixed) (b : ℕ) (far : Member) (new : List Management) → home_of d fixed.b ≡ Some b → slice_get d.settings.members b ≡ Some far → MayHaveEntered fixed.b_app far.addr d.managements new → MayHoldFar d fixed new
@@ -126,8 +129,8 @@ far_entered d fixed b far new at_b is_far may b' far' at_b' is_far' =
 pub none_far : (d : Dif) (fixed : Fixed) → MayHoldFar d fixed d.managements
 none_far d fixed b far at_b is_far = none_entered fixed.b_app far.addr d.managements
 
-pub bound_far : (d : Dif) (fixed : Fixed) (ports : Port × Port) (new : List Management) → ManagesBind d fixed ports new → MayHoldFar d fixed new
-bound_far d fixed ports new m = far_entered d fixed m.b m.far new m.at_b m.is_far (shown_entered fixed.b_app m.far.addr m.a ports.0.n m.b ports.1.n d.managements new m.are)
+pub bound_far : (d : Dif) (fixed : Fixed) (new : List Management) → ManagesBind d fixed new → MayHoldFar d fixed new
+bound_far d fixed new m = far_entered d fixed m.b m.far new m.at_b m.is_far (shown_entered fixed.b_app m.far.addr m.a m.scep m.b m.dcep d.managements new m.are)
 
 pub on_err : {T E : Type 0} (r : Result T E) (P : Type 0) → P → OnErr r P
 on_err (Ok x) P h = tt

@@ -29,7 +29,7 @@ use Rattle.rina_dif_law.specs.Sending.{home}
 use Rattle.rina_dif_law.specs.Cloud.{Cloud, Everywhere}
 use Rattle.rina_dif_law.proofs.Own.{direction_out}
 use Rattle.rina_dif.specs.declared.dif.Dif.{Dif}
-use Rattle.rina_dif.specs.Clocking.{ClockSteps, FailsBelow, FailsLate, IsLate, Steps, StepsFlow, StepsHere, StepsLost, StepsOk}
+use Rattle.rina_dif.specs.Clocking.{ClockSteps, FailsBelow, FailsLate, IsLate, Serves, Steps, StepsFlow, StepsHere, StepsLost, StepsOk}
 use Rattle.rina_dif.specs.Elsewhere.{home_of}
 use Rattle.rina_dif.specs.Holding.{Holds}
 use Rattle.rina_dif.specs.Changing.{ManagesStep}
@@ -49,7 +49,7 @@ late_one d lines below at number new h g =
     let end : End = g.ended.end in
     let is_end = g.ended.is_conn.end in
     let partner = st.journal.allocated at end is_end g.ended.allocated in
-    let flow = direction_out (config_of d.settings) d.clock (Cloud Everywhere (config_of d.settings) (seen_of d).processes below) (seen_of d).ends (seen_of d).conns lines st.own at partner.place end partner.other g.ids g.line (record { end = is_end; ids_are = g.ids_are }) partner.stands g.is_line partner.partner g.ended.allocated in
+    let flow = direction_out (config_of d.settings) d.clock (Cloud Everywhere (config_of d.settings) (seen_of d).processes below) d.ids (seen_of d).ends (seen_of d).conns lines st.own at partner.place end partner.other g.ids g.line (record { end = is_end; ids_are = g.ids_are }) partner.stands g.is_line partner.partner g.ended.allocated in
     let cube_is : flow.cube ≡ g.cube = same_some (cube_by g.ids.qos (config_of d.settings).cubes) flow.cube g.cube flow.is_cube g.is_cube in
     let holds : DirectionHolds k g.line = subst (λ (x : Cube). DirectionHolds (constants (config_of d.settings) x g.ids) g.line) cube_is flow.backed.holds in
     let run = g.line.line.sender.run in
@@ -156,16 +156,20 @@ late_lost d lines below node number d' s at end end' fail old is failed =
       | inr k ↦ inl (kept (subst (λ (z : DifSeen). slice_get z.ends at ≡ Some end') k.1 is))
     ]
 
+late_served : (d : Dif) (lines : List Direction) (below : Seen) (node : ℕ) (done : ClockStep) (d' : Dif) (lines' : List Direction) → Holds d lines below → Serves d lines below node done d' lines' → Late d lines below d'.flows.journal.ends
+late_served d lines below node done d' lines' h (inl flow) = late_flow d lines below node done (seen_of d') lines' h flow.does
+late_served d lines below node done d' lines' h (inr link) = late_same d lines below d'.flows.journal.ends (ap (λ (z : Dif). z.flows.journal.ends) link.0.only)
+
 late_step : (d : Dif) (lines : List Direction) (below : Seen) (node : ℕ) (done : ClockStep) (d' : Dif) (lines' : List Direction) → Holds d lines below → Steps d lines below node done d' lines' → Late d lines below d'.flows.journal.ends
-late_step d lines below node step.Idle d' lines' h s = late_flow d lines below node step.Idle (seen_of d') lines' h s.1
-late_step d lines below node (step.Gone cep) d' lines' h s = late_flow d lines below node (step.Gone cep) (seen_of d') lines' h s.1
-late_step d lines below node (step.GaveUp num) d' lines' h s = late_flow d lines below node (step.GaveUp num) (seen_of d') lines' h s.1
-late_step d lines below node (step.Ack cep) d' lines' h s = late_flow d lines below node (step.Ack cep) (seen_of d') lines' h s.1
-late_step d lines below node (step.Again num) d' lines' h s = late_flow d lines below node (step.Again num) (seen_of d') lines' h s.1
+late_step d lines below node step.Idle d' lines' h s = late_served d lines below node step.Idle d' lines' h s.1
+late_step d lines below node (step.Gone cep) d' lines' h s = late_served d lines below node (step.Gone cep) d' lines' h s.1
+late_step d lines below node (step.GaveUp num) d' lines' h s = late_served d lines below node (step.GaveUp num) d' lines' h s.1
+late_step d lines below node (step.Ack cep) d' lines' h s = late_served d lines below node (step.Ack cep) d' lines' h s.1
+late_step d lines below node (step.Again num) d' lines' h s = late_served d lines below node (step.Again num) d' lines' h s.1
 late_step d lines below node (step.LinkLost link) d' lines' h s = late_lost d lines below node link d' s.0
-late_step d lines below node (step.LinkNew link) d' lines' h s = absurd s.1
-late_step d lines below node (step.Timeout port) d' lines' h s = absurd s.1
-late_step d lines below node (step.Message link) d' lines' h s = absurd s.1
+late_step d lines below node (step.LinkNew link) d' lines' h s = late_served d lines below node (step.LinkNew link) d' lines' h s.1
+late_step d lines below node (step.Timeout port) d' lines' h s = late_served d lines below node (step.Timeout port) d' lines' h s.1
+late_step d lines below node (step.Message link) d' lines' h s = late_served d lines below node (step.Message link) d' lines' h s.1
 
 pub fails_late : (d : Dif) (lines : List Direction) (below : Seen) (node : ℕ) (r : Result ClockStep StepError) (d' : Dif) → Holds d lines below → StepsHere d lines below node r d' → FailsLate d lines below d'
 unfolding Late
@@ -188,40 +192,44 @@ not_home : (o : Option ℕ) (P : ℕ → Type 0) (Q : Type 0) → o ≡ None →
 not_home o P Q is q = subst (λ (z : Option ℕ). AtHome z P Q) (sym is) q
 
 -- whether an allocation failed is not seen
-noted : (d : Dif) (lines : List Direction) (below : Seen) (failed : Bool) → Holds d lines below → Holds (record d { failed = failed }) lines below
-noted d lines below failed h = record { tied = h.tied; standing = h.standing; carrying = h.carrying; numbered = h.numbered; accounted = h.accounted; caused = h.caused; written_off = h.written_off; housed = h.housed; routed = h.routed; managed = h.managed; connected = h.connected }
+noted : (d : Dif) (lines : List Direction) (below : Seen) (failed : Bool) → d.failed ≡ false → Holds d lines below → Holds (record d { failed = failed }) lines below
+noted d lines below failed alive h = record { tied = h.tied; standing = h.standing; carrying = h.carrying; numbered = h.numbered; accounted = h.accounted; caused = h.caused; written_off = h.written_off; housed = h.housed; routed = h.routed; managed = h.managed; connected = h.connected; flooded = λ still. h.flooded alive }
 
 -- so for a step
 lost_noted : (d : Dif) (lines : List Direction) (below : Seen) (node number : ℕ) (d' : Dif) (failed : Bool) → StepsLost d lines below node number d' → StepsLost d lines below node number (record d' { failed = failed })
 lost_noted d lines below node number d' failed s = record { i = s.i; at_home = s.at_home; loses = record { between = s.loses.between; loses = s.loses.loses; offs = s.loses.offs; closes = s.loses.closes; fails = s.loses.fails } }
 
-step_noted : (d : Dif) (lines : List Direction) (below : Seen) (node : ℕ) (done : ClockStep) (d' : Dif) (lines' : List Direction) (failed : Bool) → Steps d lines below node done d' lines' → Steps d lines below node done (record d' { failed = failed }) lines'
-step_noted d lines below node (step.LinkLost link) d' lines' failed s = (lost_noted d lines below node link d' failed s.0, s.1)
-step_noted d lines below node step.Idle d' lines' failed s = s
-step_noted d lines below node (step.Gone cep) d' lines' failed s = s
-step_noted d lines below node (step.GaveUp num) d' lines' failed s = s
-step_noted d lines below node (step.Ack cep) d' lines' failed s = s
-step_noted d lines below node (step.Again num) d' lines' failed s = s
-step_noted d lines below node (step.LinkNew link) d' lines' failed s = s
-step_noted d lines below node (step.Timeout port) d' lines' failed s = s
-step_noted d lines below node (step.Message link) d' lines' failed s = s
+served_noted : (d : Dif) (lines : List Direction) (below : Seen) (node : ℕ) (done : ClockStep) (d' : Dif) (lines' : List Direction) (failed : Bool) → Serves d lines below node done d' lines' → Serves d lines below node done (record d' { failed = failed }) lines'
+served_noted d lines below node done d' lines' failed (inl flow) = inl (record { does = flow.does; same = flow.same; first = flow.first })
+served_noted d lines below node done d' lines' failed (inr link) = inr (record { i = link.0.i; at_home = link.0.at_home; only = ap (λ (z : Dif). record z { failed = failed }) link.0.only; does = link.0.does }, link.1)
 
-steps_by : (d : Dif) (lines : List Direction) (below : Seen) (node i : ℕ) (r : Result ClockStep StepError) (d' : Dif) (failed : Bool) → home node (config_of d.settings).members ≡ Some i → StepsHere d lines below node r d' → ManagesStep r (home_of d node) d below node d'.managements → ClockSteps d lines below node r (record d' { failed = failed }) below
-steps_by d lines below node i (Ok done) d' failed here s managed = record {
+step_noted : (d : Dif) (lines : List Direction) (below : Seen) (node : ℕ) (done : ClockStep) (d' : Dif) (lines' : List Direction) (failed : Bool) → Steps d lines below node done d' lines' → Steps d lines below node done (record d' { failed = failed }) lines'
+step_noted d lines below node step.Idle d' lines' failed s = (s.0, served_noted d lines below node step.Idle d' lines' failed s.1)
+step_noted d lines below node (step.Gone cep) d' lines' failed s = (s.0, served_noted d lines below node (step.Gone cep) d' lines' failed s.1)
+step_noted d lines below node (step.GaveUp num) d' lines' failed s = (s.0, served_noted d lines below node (step.GaveUp num) d' lines' failed s.1)
+step_noted d lines below node (step.Ack cep) d' lines' failed s = (s.0, served_noted d lines below node (step.Ack cep) d' lines' failed s.1)
+step_noted d lines below node (step.Again num) d' lines' failed s = (s.0, served_noted d lines below node (step.Again num) d' lines' failed s.1)
+step_noted d lines below node (step.LinkLost link) d' lines' failed s = (lost_noted d lines below node link d' failed s.0, s.1)
+step_noted d lines below node (step.LinkNew link) d' lines' failed s = (s.0, served_noted d lines below node (step.LinkNew link) d' lines' failed s.1)
+step_noted d lines below node (step.Timeout port) d' lines' failed s = (s.0, served_noted d lines below node (step.Timeout port) d' lines' failed s.1)
+step_noted d lines below node (step.Message link) d' lines' failed s = (s.0, served_noted d lines below node (step.Message link) d' lines' failed s.1)
+
+steps_by : (d : Dif) (lines : List Direction) (below : Seen) (node i : ℕ) (r : Result ClockStep StepError) (d' : Dif) (failed : Bool) → d'.failed ≡ false → home node (config_of d.settings).members ≡ Some i → StepsHere d lines below node r d' → ManagesStep r (home_of d node) d below node d'.managements → ClockSteps d lines below node r (record d' { failed = failed }) below
+steps_by d lines below node i (Ok done) d' failed alive here s managed = record {
   lines' = s.lines';
   does = at_home (home node (config_of d.settings).members) i (λ n. StepsOk d lines below node (Ok done) (record d' { failed = failed }) s.lines') _ here (step_noted d lines below node done d' s.lines' failed s.does);
   managed = managed;
   same_below = refl;
-  holds = noted d' s.lines' below failed s.holds;
+  holds = noted d' s.lines' below failed alive s.holds;
 }
-steps_by d lines below node i (Err why.Memory) d' failed here s managed = record { lines' = lines; does = (s.0, refl); managed = managed; same_below = refl; holds = noted d' lines below failed s.1 }
-steps_by d lines below node i (Err why.NoIpc) d' failed here s managed = absurd s
-steps_by d lines below node i (Err why.NoLink) d' failed here s managed = absurd s
+steps_by d lines below node i (Err why.Memory) d' failed alive here s managed = record { lines' = lines; does = (s.0, refl); managed = managed; same_below = refl; holds = noted d' lines below failed alive s.1 }
+steps_by d lines below node i (Err why.NoIpc) d' failed alive here s managed = absurd s
+steps_by d lines below node i (Err why.NoLink) d' failed alive here s managed = absurd s
 
-pub steps_home : (d : Dif) (lines : List Direction) (below : Seen) (node i : ℕ) (r r' : Result ClockStep StepError) (d' : Dif) (failed : Bool) → home node (config_of d.settings).members ≡ Some i → r' ≡ r → StepsHere d lines below node r d' → ManagesStep r (Some i) d below node d'.managements → ClockSteps d lines below node r' (record d' { failed = failed }) below
-steps_home d lines below node i r r' d' failed here same s managed =
+pub steps_home : (d : Dif) (lines : List Direction) (below : Seen) (node i : ℕ) (r r' : Result ClockStep StepError) (d' : Dif) (failed : Bool) → d'.failed ≡ false → home node (config_of d.settings).members ≡ Some i → r' ≡ r → StepsHere d lines below node r d' → ManagesStep r (Some i) d below node d'.managements → ClockSteps d lines below node r' (record d' { failed = failed }) below
+steps_home d lines below node i r r' d' failed alive here same s managed =
     let there : ManagesStep r (home_of d node) d below node d'.managements = subst (λ (o : Option ℕ). ManagesStep r o d below node d'.managements) (sym here) managed in
-    subst (λ (v : Result ClockStep StepError). ClockSteps d lines below node v (record d' { failed = failed }) below) (sym same) (steps_by d lines below node i r d' failed here s there)
+    subst (λ (v : Result ClockStep StepError). ClockSteps d lines below node v (record d' { failed = failed }) below) (sym same) (steps_by d lines below node i r d' failed alive here s there)
 
 pub steps_none : (d : Dif) (lines : List Direction) (below : Seen) (node : ℕ) → Holds d lines below → ClockSteps d lines below node (Err why.Memory) d below
 steps_none d lines below node h = record { lines' = lines; does = (refl, refl); managed = refl; same_below = refl; holds = h }

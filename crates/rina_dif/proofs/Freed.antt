@@ -1,5 +1,5 @@
 -- A flow of a DIF is freed at one of its ends.
-use Rattle.std.proofs.Common.{◌≡◌, ◌≢◌, ◌∙◌, ℕ, ◌<◌, Bool, true, false, List, length, length-set, map, slice_get, slice_set, Option, Some, None, Result, Ok, Err, refl, sym, ap, subst, arith, inl, inr}
+use Rattle.std.proofs.Common.{◌≡◌, ◌≢◌, ◌∙◌, ℕ, ◌+◌, ◌*◌, ◌<◌, Bool, true, false, List, length, length-set, map, slice_get, slice_set, Option, Some, None, Result, Ok, Err, refl, sym, ap, subst, arith, inl, inr}
 use Rattle.std.specs.Result.{is_err}
 use Rattle.rina_account.specs.declared.ledger.Off.{Off}
 use Rattle.rina_base.specs.declared.memory.Memory.{Memory as NoMemory}
@@ -21,7 +21,6 @@ use Rattle.rina_iface.specs.State.{freed, freed_state, with_state}
 use Rattle.rina_iface.proofs.Changed.{set_at, slice_set-same}
 use Rattle.rina_iface.proofs.Later.{end_restated, ends_set, fac_refl, moves_freed}
 use Rattle.rina_law.specs.Direction.{Direction}
-use Rattle.rina_dif_law.specs.Accounted.{IsAccounted}
 use Rattle.rina_data.specs.declared.process.IpcProcess.{IpcProcess}
 use Rattle.rina_dif_law.specs.Carried.{IsCarrying}
 use Rattle.rina_dif_law.specs.Caused.{AreCaused}
@@ -29,10 +28,10 @@ use Rattle.rina_dif_law.specs.Cloud.{Cloud, Everywhere}
 use Rattle.rina_data.specs.Configs.{Config, config_of}
 use Rattle.rina_data.specs.Deciding.{process_of}
 use Rattle.rina_dif_law.specs.Dif.{DifSeen, fac_of}
-use Rattle.rina_dif_law.specs.Ending.{IsEnded}
-use Rattle.rina_dif_law.specs.Numbered.{IsNumbered}
+use Rattle.rina_dif_law.specs.Ending.{GivesBack, IsEnded}
+use Rattle.rina_dif_law.specs.Numbered.{AreDrawn, IsNumbered}
 use Rattle.rina_dif_law.specs.Sending.{home}
-use Rattle.rina_dif_law.specs.Standing.{IsStanding}
+use Rattle.rina_dif_law.specs.Standing.{IsConn, IsOfFlow, IsOwn, IsStanding}
 use Rattle.rina_dif_law.proofs.After.{NoMore, after_none}
 use Rattle.rina_dif_law.proofs.Carrying.{carrying_same, end_set, line_was}
 use Rattle.rina_dif_law.proofs.Finding.{beside}
@@ -42,8 +41,9 @@ use Rattle.rina_dif_law.proofs.Journals.{IsConst, const_refl, journal_set, partn
 use Rattle.rina_dif_law.proofs.Keepers.{facility}
 use Rattle.rina_dif_law.proofs.Numbering.{ended_numbered, numbered_with}
 use Rattle.rina_dif_law.specs.Places.{IsUp}
-use Rattle.rina_dif_law.proofs.OwnEnds.{own_freed}
-use Rattle.rina_dif_law.proofs.Receiving.{ended_accounted, restated_accounted}
+use Rattle.rina_dif_law.proofs.OwnEnds.{own_ended, own_restated}
+use Rattle.rina_dif_law.proofs.HeldIds.{ended_held, rest_drawn}
+use Rattle.rina_dif_law.proofs.Receiving.{ended_accounted, reheld_accounted, restated_accounted}
 use Rattle.rina_dif_law.specs.Written.{AreWrittenOff}
 use Rattle.rina_dif_law.proofs.Warranted.{ended_written}
 use Rattle.rina_flows.specs.declared.flows.Flows.{Flows}
@@ -51,39 +51,52 @@ use Rattle.rina_flows.specs.Delivering.{StopsIn}
 use Rattle.rina_flows.specs.Tied.{IsTied, ids_of}
 use Rattle.rina_flows.proofs.Gone.{is_ended}
 use Rattle.rina_dif.specs.declared.dif.Dif.{Dif}
+use Rattle.rina_dif.specs.declared.release.IdRest.{IdRest}
+use Rattle.rina_ids.specs.Ids.{IsInUse}
+use Rattle.rina_ids.specs.Members.{CepIds, with_rest}
+use Rattle.rina_cube.specs.Cubes.{delta_of}
+use Rattle.rina_rest.specs.Naming.{Naming}
+use Rattle.rina_dif_law.specs.Accounted.{IsAccounted}
 use Rattle.rina_dif.specs.Facade.{GoesOn, IsShownAs, StaysStanding, shown_as}
-use Rattle.rina_dif.specs.Freeing.{FreesAt, FreesEnd, FreesHere, IsFreed, IsKept}
+use Rattle.rina_dif.specs.Freeing.{FreesAt, FreesEnd, FreesHere, IsFreed, IsKept, IsWithdrawn, RestsAt}
 use Rattle.rina_dif.specs.Holding.{Holds, Stands}
 use Rattle.rina_dif.specs.Shown.{seen_of}
 use Rattle.rina_dif.specs.Timely.{WithLedger}
 use Rattle.rina_dif.specs.Whole.{IsDif}
 use Rattle.rina_dif.proofs.Causing.{closed_caused, freed_caused}
+use Rattle.rina_dif.proofs.GivenBack.{gives_back, used_there}
 use Rattle.rina_dif.proofs.Facing.{unchanged}
 use Rattle.rina_dif.proofs.Keeping.{home_set}
 use Rattle.rina_dif.proofs.Leaves.{has_process, shown_at}
 use Rattle.rina_dif.proofs.Owning.{arrived_seen}
 use Rattle.rina_channel.proofs.Leaving.{ending_leaves}
 use Rattle.rina_dif.proofs.Connected.{kept_by}
+use Rattle.std.proofs.lemmas.Bool.{false≢true}
 
 pub same_end : (o : Option End) (a b : End) → o ≡ Some a → o ≡ Some b → a ≡ b
 same_end o a b h g = cc
 
 -- An allocated end is closed
 
-pub closes : (d : Dif) (i at : ℕ) (end : End) (r : Result (Unit {0}) NoMemory) (flows : Flows) (ps : List IpcProcess) → i < length d.settings.members → home end.port.node (config_of d.settings).members ≡ Some i → slice_get d.flows.journal.ends at ≡ Some end → end.state ≡ Allocated → WithLedger (λ f l f' l'. StopsIn d.clock at Closed f l r f' l') i d.flows d.processes flows ps → (lines : List Direction) (below : Seen) → Holds d lines below → FreesHere d lines below at r (record d { flows = flows; processes = ps })
-closes d i at end (Ok done) flows ps lt here is allocated stops lines below h =
+-- the id was given back, or an allocation failed and nothing was
+abbrev pub GaveThere : {T E : Type 0} → Dif → ℕ → IdRest → Result T E → List CepIds → Type 0
+GaveThere d i rest (Ok done) held = (ids : CepIds) → slice_get d.ids i ≡ Some ids → held ≡ with_rest i ids rest.cep (d.clock + rest.ticks) d.ids
+GaveThere d i rest (Err e) held = held ≡ d.ids
+
+pub closes : (d : Dif) (i at : ℕ) (end : End) (r : Result (Unit {0}) NoMemory) (flows : Flows) (ps : List IpcProcess) → i < length d.settings.members → home end.port.node (config_of d.settings).members ≡ Some i → slice_get d.flows.journal.ends at ≡ Some end → end.state ≡ Allocated → WithLedger (λ f l f' l'. StopsIn d.clock at Closed f l r f' l') i d.flows d.processes flows ps → (rest : IdRest) (held : List CepIds) → RestsAt d at rest → GaveThere d i rest r held → (lines : List Direction) (below : Seen) → Holds d lines below → FreesHere d lines below at r (record d { flows = flows; processes = ps; ids = held })
+closes d i at end (Ok done) flows ps lt here is allocated stops rest held rests gave lines below h =
     let st : Stands d below = (lines, h) in
     let g = config_of d.settings in
     let p = has_process d below i st lt in
     let x = stops p.0 p.1 in
-    let d' : Dif = record d { flows = flows; processes = ps } in
+    let d' : Dif = record d { flows = flows; processes = ps; ids = held } in
     let closed : Closed ≢ Allocated = λ e. absurd cc in
     let s = x.1 g lines end h.standing.journal h.tied is allocated (subst (λ (z : PortState). Moves z Closed) (sym allocated) tt) closed in
     let e = s.stops in
-    let seen = arrived_seen d i p.0 s.offs x.0 flows ps refl s.ids s.ledger_is x.2 in
+    let seen = ap (λ (z : DifSeen). record z { ids = held }) (arrived_seen d i p.0 s.offs x.0 flows ps refl s.ids s.ledger_is x.2) in
     let same : end ≡ e.end = same_end (slice_get d.flows.journal.ends at) end e.end is e.is_conn.end in
     let there : home e.end.port.node g.members ≡ Some i = subst (λ (z : End). home z.port.node g.members ≡ Some i) same here in
-    let ended : IsEnded (seen_of d) lines at Closed (seen_of d') = is_ended (seen_of d) lines at i Closed (process_of p.0) s.offs flows.journal.ends (seen_of d') e there (shown_at d i p.0 p.1) seen in
+    let ended : IsEnded (seen_of d) lines at Closed (seen_of d') = is_ended (seen_of d) lines at i Closed (process_of p.0) s.offs flows.journal.ends held (seen_of d') e there (shown_at d i p.0 p.1) (subst (λ (z : End). GivesBack (seen_of d) at z held) same (gives_back d lines below h i at end rest held is here rests gave)) seen in
     let house = home_set d lines below i p.0 (record p.0 { ledger = x.0 }) ps h p.1 refl (record { links = refl; routes = refl; places = λ qos link. refl }) x.2 in
     record {
       end = end;
@@ -91,7 +104,7 @@ closes d i at end (Ok done) flows ps lt here is allocated stops lines below h =
       frees = subst (λ (z : PortState). FreesEnd z (seen_of d) lines at end (seen_of d')) (sym allocated) ended;
       holds = record {
         tied = s.tied;
-        standing = ended_stands (seen_of d) lines below at Closed (seen_of d') h.standing ended;
+        standing = ended_stands (seen_of d) lines below at Closed (seen_of d') h.standing h.numbered ended;
         carrying = ended_carries (seen_of d) lines below at Closed (seen_of d') h.carrying ended;
         numbered = ended_numbered (seen_of d) lines below at Closed (seen_of d') h.numbered ended;
         accounted = ended_accounted (seen_of d) lines below at Closed (seen_of d') h.standing h.numbered h.accounted ended;
@@ -101,34 +114,48 @@ closes d i at end (Ok done) flows ps lt here is allocated stops lines below h =
         routed = house.routed;
         managed = house.managed;
         connected = kept_by (config_of d.settings) d.clock d.connections (seen_of d).processes (seen_of d').processes below (λ may. ending_leaves (seen_of d) lines at Closed (seen_of d') ended) h.connected;
+        flooded = h.flooded;
       };
     }
-closes d i at end (Err e) flows ps lt here is allocated stops lines below h =
+closes d i at end (Err e) flows ps lt here is allocated stops rest held rests gave lines below h =
     let st : Stands d below = (lines, h) in
     let p = has_process d below i st lt in
     let x = stops p.0 p.1 in
     let processes : ps ≡ d.processes = x.2 ∙ ap (λ (l : List Off). slice_set d.processes i (record p.0 { ledger = l })) x.1.1 ∙ slice_set-same d.processes i p.0 p.1 in
-    let same : record d { flows = flows; processes = ps } ≡ d = ap (λ (f : Flows). record d { flows = f; processes = ps }) x.1.0 ∙ ap (λ (qs : List IpcProcess). record d { processes = qs }) processes in
+    let same : record d { flows = flows; processes = ps; ids = held } ≡ d = ap (λ (f : Flows). record d { flows = f; processes = ps; ids = held }) x.1.0 ∙ ap (λ (qs : List IpcProcess). record d { processes = qs; ids = held }) processes ∙ ap (λ (hs : List CepIds). record d { ids = hs }) gave in
     record { same = ap seen_of same; holds = subst (λ (z : Dif). Holds z lines below) (sym same) h }
 
 -- the member at the node of an end is there
-pub never_homeless : (d : Dif) (at node : ℕ) → IsDif d → at < length d.flows.journal.ends → ((e : End) → slice_get d.flows.journal.ends at ≡ Some e → (e.state ≡ Allocated) × (e.port.node ≡ node)) → home node (config_of d.settings).members ≡ None → ⊥
-never_homeless d at node is lt ends none =
+pub never_homeless_end : (d : Dif) (at node : ℕ) → IsDif d → at < length d.flows.journal.ends → ((e : End) → slice_get d.flows.journal.ends at ≡ Some e → e.port.node ≡ node) → home node (config_of d.settings).members ≡ None → ⊥
+never_homeless_end d at node is lt ends none =
     let h = is.stands.1 in
     let e = there d.flows.journal.ends at lt in
     let ids = beside (seen_of d).ends (seen_of d).conns at e.0 h.standing.own.alike e.1 in
     let a = h.numbered.addressed at e.0 ids.0 (record { end = e.1; ids_are = ids.1 }) in
-    let here : home node (config_of d.settings).members ≡ Some a.place = subst (λ (n : ℕ). home n (config_of d.settings).members ≡ Some a.place) (ends e.0 e.1).1 a.at_home in
+    let here : home node (config_of d.settings).members ≡ Some a.place = subst (λ (n : ℕ). home n (config_of d.settings).members ≡ Some a.place) (ends e.0 e.1) a.at_home in
     not_both (home node (config_of d.settings).members) a.place none here
   where
     not_both : (o : Option ℕ) (k : ℕ) → o ≡ None → o ≡ Some k → ⊥
     not_both o k none here = cc
 
-pub closes_at : (d : Dif) (i at node : ℕ) (r : Result (Unit {0}) NoMemory) (flows : Flows) (ps : List IpcProcess) → at < length d.flows.journal.ends → i < length d.settings.members → ((e : End) → slice_get d.flows.journal.ends at ≡ Some e → (e.state ≡ Allocated) × (e.port.node ≡ node)) → home node (config_of d.settings).members ≡ Some i → WithLedger (λ f l f' l'. StopsIn d.clock at Closed f l r f' l') i d.flows d.processes flows ps → (lines : List Direction) (below : Seen) → Holds d lines below → FreesHere d lines below at r (record d { flows = flows; processes = ps })
+pub never_homeless : (d : Dif) (at node : ℕ) → IsDif d → at < length d.flows.journal.ends → ((e : End) → slice_get d.flows.journal.ends at ≡ Some e → (e.state ≡ Allocated) × (e.port.node ≡ node)) → home node (config_of d.settings).members ≡ None → ⊥
+never_homeless d at node is lt ends none = never_homeless_end d at node is lt (λ e at_e. (ends e at_e).1) none
+
+pub closes_at : (d : Dif) (i at node : ℕ) (r : Result (Unit {0}) NoMemory) (flows : Flows) (ps : List IpcProcess) → at < length d.flows.journal.ends → i < length d.settings.members → ((e : End) → slice_get d.flows.journal.ends at ≡ Some e → (e.state ≡ Allocated) × (e.port.node ≡ node)) → home node (config_of d.settings).members ≡ Some i → WithLedger (λ f l f' l'. StopsIn d.clock at Closed f l r f' l') i d.flows d.processes flows ps → (rest : IdRest) (held : List CepIds) → RestsAt d at rest → GaveThere d i rest r held → (lines : List Direction) (below : Seen) → Holds d lines below → FreesHere d lines below at r (record d { flows = flows; processes = ps; ids = held })
 closes_at d i at node r flows ps within lt ends here stops =
     let e = there d.flows.journal.ends at within in
     let end = ends e.0 e.1 in
     closes d i at e.0 r flows ps lt (subst (λ (n : ℕ). home n (config_of d.settings).members ≡ Some i) (sym end.1) here) e.1 end.0 stops
+
+-- its id is in use until then
+pub used_until : (d : Dif) (i at node : ℕ) (state : PortState) (rest : IdRest) → IsDif d → at < length d.flows.journal.ends → IsUp state → ((e : End) → slice_get d.flows.journal.ends at ≡ Some e → (e.state ≡ state) × (e.port.node ≡ node)) → home node (config_of d.settings).members ≡ Some i → RestsAt d at rest → (ids : CepIds) → slice_get d.ids i ≡ Some ids → IsInUse ids.1 rest.cep
+used_until d i at node state rest is within up ends here rests ids are_ids =
+    let e = there d.flows.journal.ends at within in
+    let end = ends e.0 e.1 in
+    used_there d is.stands.0 is.below is.stands.1 i at e.0 rest e.1 (subst IsUp (sym end.0) up) (subst (λ (n : ℕ). home n (config_of d.settings).members ≡ Some i) (sym end.1) here) rests ids are_ids
+
+pub closed_used : (d : Dif) (i at node : ℕ) (rest : IdRest) → IsDif d → at < length d.flows.journal.ends → ((e : End) → slice_get d.flows.journal.ends at ≡ Some e → (e.state ≡ Allocated) × (e.port.node ≡ node)) → home node (config_of d.settings).members ≡ Some i → RestsAt d at rest → (ids : CepIds) → slice_get d.ids i ≡ Some ids → IsInUse ids.1 rest.cep
+closed_used d i at node rest is within ends here rests ids are_ids = used_until d i at node Allocated rest is within tt ends here rests ids are_ids
 
 -- Any other end is at most withdrawn
 
@@ -145,11 +172,12 @@ restated_tied g now at ends conns lines end end' t is const not = record {
       ];
 }
 
-restated_stands : (d : DifSeen) (lines : List Direction) (below : Seen) (at : ℕ) (end : End) (state : PortState) → IsStanding d lines below → At d.ends at end → end.state ≢ Allocated → (IsUp state → ⊥) → state ≢ Allocated → IsStanding (record d { ends = slice_set d.ends at (with_state end state) }) lines below
-restated_stands d lines below at end state st is old down not =
+-- with these own flows
+restated_with : (d : DifSeen) (lines : List Direction) (below : Seen) (at : ℕ) (end : End) (state : PortState) (held : List CepIds) → IsStanding d lines below → At d.ends at end → end.state ≢ Allocated → state ≢ Allocated
+    → IsOwn d.config d.clock (Cloud Everywhere d.config d.processes below) held (slice_set d.ends at (with_state end state)) d.conns lines → IsStanding (record d { ends = slice_set d.ends at (with_state end state); ids = held }) lines below
+restated_with d lines below at end state held st is old not own =
     let end' : End = with_state end state in
     let const : IsConst end end' = record { flow = refl; role = refl; port = refl; app = refl; peer = refl; cube = refl } in
-    let cloud : ℕ → Pdu → Type 0 = Cloud Everywhere d.config d.processes below in
     let was = st.journal.whole at end is in
     let whole : IsWhole d.clock end' = record { sent = was.sent; got = was.got; taken = was.taken } in
     record {
@@ -162,13 +190,27 @@ restated_stands d lines below at end state st is old down not =
       items = st.items;
       journal = journal_set d.ends at end end' is const d.clock st.journal whole (λ a. absurd (not a)) (λ j x h. st.journal.met at j end x is h);
       ports = ports_set d.ends at end end' is const d.config.fac (fac_of d) (fac_of (record d { ends = slice_set d.ends at end' })) refl refl st.ports;
-      own = own_freed d.config d.clock cloud d.ends d.conns lines st.own at end is end.state refl old state down;
+      own = own;
     }
 
-restated_carries : (d : DifSeen) (lines : List Direction) (below : Seen) (at : ℕ) (end : End) (state : PortState) → IsCarrying d lines below → At d.ends at end → IsCarrying (record d { ends = slice_set d.ends at (with_state end state) }) lines below
-restated_carries d lines below at end state c is =
+-- an end that has ended
+restated_stands : (d : DifSeen) (lines : List Direction) (below : Seen) (at : ℕ) (end : End) (state : PortState) → IsStanding d lines below → At d.ends at end → end.state ≢ Allocated → (IsUp end.state → ⊥) → (IsUp state → ⊥) → state ≢ Allocated → IsStanding (record d { ends = slice_set d.ends at (with_state end state) }) lines below
+restated_stands d lines below at end state st is old was down not =
+    let cloud : ℕ → Pdu → Type 0 = Cloud Everywhere d.config d.processes below in
+    restated_with d lines below at end state d.ids st is old not (own_restated d.config d.clock cloud d.ids d.ends d.conns lines st.own at end is state was down)
+
+-- an end that waits
+withdrawn_stands : (d : DifSeen) (lines : List Direction) (below : Seen) (at : ℕ) (end : End) (state : PortState) (held : List CepIds) → IsStanding d lines below → IsNumbered d below → (is : At d.ends at end) → end.state ≢ Allocated → IsUp end.state → (IsUp state → ⊥) → state ≢ Allocated → GivesBack d at end held → IsStanding (record d { ends = slice_set d.ends at (with_state end state); ids = held }) lines below
+withdrawn_stands d lines below at end state held st n is old up down not gives =
+    let cloud : ℕ → Pdu → Type 0 = Cloud Everywhere d.config d.processes below in
+    let c = beside d.ends d.conns at end st.own.alike is in
+    let conn : IsConn d.ends d.conns at end c.0 = record { end = is; ids_are = c.1 } in
+    restated_with d lines below at end state held st is old not (own_ended d.config d.clock cloud d.ids d.ends d.conns lines st.own at end c.0 conn up state down held (ended_held d below (Naming (IsOfFlow d.config) cloud) st.own.flows at end c.0 held n conn gives st.own.ledger st.own.kept))
+
+restated_carries : (d : DifSeen) (lines : List Direction) (below : Seen) (at : ℕ) (end : End) (state : PortState) (held : List CepIds) → IsCarrying d lines below → At d.ends at end → IsCarrying (record d { ends = slice_set d.ends at (with_state end state); ids = held }) lines below
+restated_carries d lines below at end state held c is =
     let end' : End = with_state end state in
-    carrying_same d (record d { ends = slice_set d.ends at end' }) lines lines NoMore below below c (after_none d.config below) refl refl (omega arith)
+    carrying_same d (record d { ends = slice_set d.ends at end'; ids = held }) lines lines NoMore below below c (after_none d.config below) refl refl (omega arith)
     (end_set d.ends at end end' is (record { flow = refl; role = refl; port = refl; app = refl; peer = refl; cube = refl }) refl) (line_was lines)
 
 restated_numbered : (d : DifSeen) (below : Seen) (at : ℕ) (end : End) → IsNumbered d below → At d.ends at end → IsNumbered (record d { ends = slice_set d.ends at (freed end) }) below
@@ -191,44 +233,94 @@ freed_down (Refused why) up = up
 freed_down (Failed fail) up = up
 freed_down Closed up = up
 
-frees_end : (state : PortState) (d : DifSeen) (lines : List Direction) (at : ℕ) (end : End) (d' : DifSeen) → state ≢ Allocated → d' ≡ record d { ends = slice_set d.ends at (freed end) } → FreesEnd state d lines at end d'
-frees_end Pending d lines at end d' not is = is
-frees_end Allocated d lines at end d' not is = absurd (not refl)
-frees_end (Refused why) d lines at end d' not is = is
-frees_end (Failed fail) d lines at end d' not is = is
-frees_end Closed d lines at end d' not is = is
+frees_end : (state : PortState) (d : DifSeen) (lines : List Direction) (at : ℕ) (end : End) (d' : DifSeen) → state ≢ Allocated → state ≢ Pending → d' ≡ record d { ends = slice_set d.ends at (freed end) } → FreesEnd state d lines at end d'
+frees_end Pending d lines at end d' not still is = absurd (still refl)
+frees_end Allocated d lines at end d' not still is = absurd (not refl)
+frees_end (Refused why) d lines at end d' not still is = is
+frees_end (Failed fail) d lines at end d' not still is = is
+frees_end Closed d lines at end d' not still is = is
 
-pub withdraws : (d : Dif) (at : ℕ) (end : End) (flows : Flows) → slice_get d.flows.journal.ends at ≡ Some end → end.state ≢ Allocated → flows.conns ≡ d.flows.conns → flows.journal.ends ≡ slice_set d.flows.journal.ends at (freed end) → (lines : List Direction) (below : Seen) → Holds d lines below → FreesHere d lines below at (Ok tt) (record d { flows = flows })
-withdraws d at end flows is not conns ends lines below h =
-    let g = config_of d.settings in
-    let es : List End = slice_set d.flows.journal.ends at (freed end) in
-    let d' : Dif = record d { flows = flows } in
-    let seen : seen_of d' ≡ record (seen_of d) { ends = es } = (λ k. record (seen_of d) { ends = ends k; conns = map ids_of (conns k) }) in
+not_up : (state : PortState) → state ≢ Allocated → state ≢ Pending → IsUp state → ⊥
+not_up Pending not still up = still refl
+not_up Allocated not still up = not refl
+not_up (Refused why) not still up = up
+not_up (Failed fail) not still up = up
+not_up Closed not still up = up
+
+-- the flows where the end at a place is freed, whatever the CEP-ids are then
+module _ (d : Dif) (at : ℕ) (end : End) (flows : Flows) (held : List CepIds) (is : slice_get d.flows.journal.ends at ≡ Some end) (not : end.state ≢ Allocated) (conns : flows.conns ≡ d.flows.conns) (ends : flows.journal.ends ≡ slice_set d.flows.journal.ends at (freed end)) (lines : List Direction) (below : Seen) (h : Holds d lines below) where
+  abbrev freed_ends : List End
+  freed_ends = slice_set d.flows.journal.ends at (freed end)
+
+  abbrev freed_dif : Dif
+  freed_dif = record d { flows = flows; ids = held }
+
+  freed_seen : seen_of freed_dif ≡ record (seen_of d) { ends = freed_ends; ids = held }
+  freed_seen = (λ k. record (seen_of d) { ends = ends k; conns = map ids_of (conns k); ids = held })
+
+  freed_holds : IsStanding (record (seen_of d) { ends = freed_ends; ids = held }) lines below → IsNumbered (record (seen_of d) { ends = freed_ends; ids = held }) below → IsAccounted (record (seen_of d) { ends = freed_ends; ids = held }) lines below → IsCarrying (record (seen_of d) { ends = freed_ends; ids = held }) lines below → AreCaused (record (seen_of d) { ends = freed_ends; ids = held }) below → Holds freed_dif lines below
+  freed_holds standing numbered accounted carrying caused = record {
+    tied = subst (λ (xs : List End). IsTied (config_of d.settings) d.clock xs flows.conns lines) (sym ends) (subst (λ (ks : List Conn). IsTied (config_of d.settings) d.clock freed_ends ks lines) (sym conns) (restated_tied (config_of d.settings) d.clock at d.flows.journal.ends d.flows.conns lines end (freed end) h.tied is (record { flow = refl; role = refl; port = refl; app = refl; peer = refl; cube = refl }) (freed_not end.state)));
+    standing = subst (λ (z : DifSeen). IsStanding z lines below) (sym freed_seen) standing;
+    carrying = subst (λ (z : DifSeen). IsCarrying z lines below) (sym freed_seen) carrying;
+    numbered = subst (λ (z : DifSeen). IsNumbered z below) (sym freed_seen) numbered;
+    accounted = subst (λ (z : DifSeen). IsAccounted z lines below) (sym freed_seen) accounted;
+    caused = subst (λ (z : DifSeen). AreCaused z below) (sym freed_seen) caused;
+    written_off = subst AreWrittenOff (sym freed_seen) (λ i m p off it stands. h.written_off i m p off (record { is_member = it.is_member; is_process = it.is_process }) stands);
+    housed = h.housed;
+    routed = h.routed;
+    managed = h.managed;
+    connected = h.connected;
+    flooded = h.flooded;
+  }
+
+pub withdraws : (d : Dif) (at : ℕ) (end : End) (flows : Flows) → slice_get d.flows.journal.ends at ≡ Some end → end.state ≢ Allocated → end.state ≢ Pending → flows.conns ≡ d.flows.conns → flows.journal.ends ≡ slice_set d.flows.journal.ends at (freed end) → (lines : List Direction) (below : Seen) → Holds d lines below → FreesHere d lines below at (Ok tt) (record d { flows = flows })
+withdraws d at end flows is not still conns ends lines below h =
     let gone = freed_not end.state in
     record {
       end = end;
       is_end = is;
-      frees = frees_end end.state (seen_of d) lines at end (seen_of d') not seen;
-      holds = record {
-        tied = subst (λ (xs : List End). IsTied g d.clock xs flows.conns lines) (sym ends) (subst (λ (ks : List Conn). IsTied g d.clock es ks lines) (sym conns) (restated_tied g d.clock at d.flows.journal.ends d.flows.conns lines end (freed end) h.tied is (record { flow = refl; role = refl; port = refl; app = refl; peer = refl; cube = refl }) gone));
-        standing = subst (λ (z : DifSeen). IsStanding z lines below) (sym seen) (restated_stands (seen_of d) lines below at end (freed_state end.state) h.standing is not (freed_down end.state) gone);
-        carrying = subst (λ (z : DifSeen). IsCarrying z lines below) (sym seen) (restated_carries (seen_of d) lines below at end (freed_state end.state) h.carrying is);
-        numbered = subst (λ (z : DifSeen). IsNumbered z below) (sym seen) (restated_numbered (seen_of d) below at end h.numbered is);
-        accounted = subst (λ (z : DifSeen). IsAccounted z lines below) (sym seen) (restated_accounted (seen_of d) lines below at end (freed_state end.state) h.accounted is not gone);
-        caused = subst (λ (z : DifSeen). AreCaused z below) (sym seen) (freed_caused (seen_of d) below at end is h.caused);
-        written_off = subst AreWrittenOff (sym seen) (λ i m p off it stands. h.written_off i m p off (record { is_member = it.is_member; is_process = it.is_process }) stands);
-        housed = h.housed;
-        routed = h.routed;
-        managed = h.managed;
-        connected = h.connected;
-      };
+      frees = frees_end end.state (seen_of d) lines at end (seen_of (record d { flows = flows })) not still (freed_seen d at end flows d.ids is not conns ends lines below h);
+      holds = freed_holds d at end flows d.ids is not conns ends lines below h
+          (restated_stands (seen_of d) lines below at end (freed_state end.state) h.standing is not (not_up end.state not still) (freed_down end.state) gone)
+          (restated_numbered (seen_of d) below at end h.numbered is)
+          (restated_accounted (seen_of d) lines below at end (freed_state end.state) h.accounted is not gone)
+          (restated_carries (seen_of d) lines below at end (freed_state end.state) d.ids h.carrying is)
+          (freed_caused (seen_of d) below at end is h.caused);
+    }
+
+pub withdraws_waiting : (d : Dif) (i at : ℕ) (end : End) (flows : Flows) (rest : IdRest) (held : List CepIds) → slice_get d.flows.journal.ends at ≡ Some end → end.state ≡ Pending → home end.port.node (config_of d.settings).members ≡ Some i → flows.conns ≡ d.flows.conns → flows.journal.ends ≡ slice_set d.flows.journal.ends at (freed end) → RestsAt d at rest → GaveThere {T = Unit {0}} {E = NoMemory} d i rest (Ok tt) held → (lines : List Direction) (below : Seen) → Holds d lines below → FreesHere d lines below at (Ok tt) (record d { flows = flows; ids = held })
+withdraws_waiting d i at end flows rest held is waits here conns ends rests gave lines below h =
+    let not : end.state ≢ Allocated = λ e. (let clash : Pending ≡ Allocated = sym waits ∙ e in cc) in
+    let gone = freed_not end.state in
+    let seen = seen_of d in
+    let gives = gives_back d lines below h i at end rest held is here rests gave in
+    let withdrawn : IsWithdrawn seen at end (seen_of (record d { flows = flows; ids = held })) = record { held = held; gives_back = gives; new_is = freed_seen d at end flows held is not conns ends lines below h } in
+    let ends' : List End = slice_set d.flows.journal.ends at (freed end) in
+    let numbered = restated_numbered seen below at end h.numbered is in
+    record {
+      end = end;
+      is_end = is;
+      frees = subst (λ (z : PortState). FreesEnd z seen lines at end (seen_of (record d { flows = flows; ids = held }))) (sym waits) withdrawn;
+      holds = freed_holds d at end flows held is not conns ends lines below h
+          (withdrawn_stands seen lines below at end (freed_state end.state) held h.standing h.numbered is not (subst IsUp (sym waits) tt) (freed_down end.state) gone gives)
+          (record {
+            members = numbered.members;
+            addressed = numbered.addressed;
+            counted = numbered.counted;
+            drawn = subst (AreDrawn seen.config ends') (sym gives.held_is) (rest_drawn seen.config ends' seen.ids gives.place gives.old gives.ids.scep (seen.clock + 3 * delta_of gives.cube) gives.is_old numbered.drawn);
+            named = numbered.named;
+          })
+          (reheld_accounted (record seen { ends = ends' }) lines below held (restated_accounted seen lines below at end (freed_state end.state) h.accounted is not gone))
+          (restated_carries seen lines below at end (freed_state end.state) held h.carrying is)
+          (freed_caused seen below at end is h.caused);
     }
 
 -- The call
 
--- whether an allocation failed is noted
-holds_noted : (d : Dif) (failed : Bool) (lines : List Direction) (below : Seen) → Holds d lines below → Holds (record d { failed = failed }) lines below
-holds_noted d failed lines below h = record { tied = h.tied; standing = h.standing; carrying = h.carrying; numbered = h.numbered; accounted = h.accounted; caused = h.caused; written_off = h.written_off; housed = h.housed; routed = h.routed; managed = h.managed; connected = h.connected }
+-- that an allocation failed is noted
+holds_noted : (d : Dif) (lines : List Direction) (below : Seen) → Holds d lines below → Holds (record d { failed = true }) lines below
+holds_noted d lines below h = record { tied = h.tied; standing = h.standing; carrying = h.carrying; numbered = h.numbered; accounted = h.accounted; caused = h.caused; written_off = h.written_off; housed = h.housed; routed = h.routed; managed = h.managed; connected = h.connected; flooded = λ alive. absurd (false≢true (sym alive)) }
 
 -- what `free` does, whatever it stands on
 abbrev pub FreesFor : Dif → Port → Result (Unit {0}) FreeError → Dif → Type 0
@@ -250,7 +342,7 @@ frees_for d port at (Err e) d' here ok does lines below h = absurd cc
 
 pub fails_for : (d : Dif) (port : Port) (at : ℕ) (r : Result (Unit {0}) NoMemory) (d' : Dif) → is_err r ≡ true → ((lines : List Direction) (below : Seen) → Holds d lines below → FreesHere d lines below at r d') → FreesFor d port (Err errors.Memory) (record d' { failed = true })
 fails_for d port at (Ok done) d' err does lines below h = absurd cc
-fails_for d port at (Err e) d' err does lines below h = (let x = does lines below h in keeps_at (place_in port d.flows.journal.ends) d lines below (record d' { failed = true }) (record { same = x.same; holds = holds_noted d' true lines below x.holds }))
+fails_for d port at (Err e) d' err does lines below h = (let x = does lines below h in keeps_at (place_in port d.flows.journal.ends) d lines below (record d' { failed = true }) (record { same = x.same; holds = holds_noted d' lines below x.holds }))
 
 -- What is left of the DIF
 
@@ -259,7 +351,7 @@ fac_freed : (d : DifSeen) (lines : List Direction) (at : ℕ) (end : End) (d' : 
 fac_freed d lines at end d' is x = go end.state refl x
   where
     go : (state : PortState) → end.state ≡ state → FreesEnd state d lines at end d' → fac_of d' ≡ record (fac_of d) { ends = slice_set d.ends at (freed end) }
-    go Pending here y = ap fac_of y
+    go Pending here y = ap fac_of y.new_is
     go Allocated here y =
         let same : y.end ≡ end = same_end (slice_get d.ends at) y.end end y.is_conn.end is in
         let freed_is : record y.end { state = Closed } ≡ freed end = ap (λ (e : End). with_state e Closed) same ∙ ap (λ (s : PortState). with_state end (freed_state s)) (sym here) in
@@ -269,7 +361,7 @@ fac_freed d lines at end d' is x = go end.state refl x
     go Closed here y = ap fac_of y
 
 clock_freed : (state : PortState) (d : DifSeen) (lines : List Direction) (at : ℕ) (end : End) (d' : DifSeen) → FreesEnd state d lines at end d' → d'.clock ≡ d.clock
-clock_freed Pending d lines at end d' x = ap (λ (y : DifSeen). y.clock) x
+clock_freed Pending d lines at end d' x = ap (λ (y : DifSeen). y.clock) x.new_is
 clock_freed Allocated d lines at end d' x = ap (λ (y : DifSeen). y.clock) x.new_is
 clock_freed (Refused why) d lines at end d' x = ap (λ (y : DifSeen). y.clock) x
 clock_freed (Failed fail) d lines at end d' x = ap (λ (y : DifSeen). y.clock) x

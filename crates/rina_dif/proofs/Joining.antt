@@ -1,12 +1,12 @@
 -- One link after the other gets its management connection.
-use Rattle.std.proofs.Common.{All, ◌≡◌, ◌≢◌, ◌∙◌, ℕ, zero, suc, ◌+◌, ◌<◌, ◌≤◌, ◌^◌, ◌==◌, Bool, true, false, cond, eqb, List, [], ◌∷◌, ◌++◌, length, map, slice_get, take, option_map, Option, Some, None, refl, sym, ap, subst, arith, inl, inr}
+use Rattle.std.proofs.Common.{◌≡◌, ◌≢◌, ◌∙◌, ℕ, zero, suc, ◌<◌, ◌≤◌, ◌^◌, ◌==◌, Bool, true, false, cond, eqb, List, [], ◌∷◌, ◌++◌, length, map, slice_get, take, option_map, Some, None, refl, sym, ap, subst, arith, inl, inr}
 use Rattle.std.proofs.lemmas.Bool.Decides.{eqb_tells}
 use Rattle.std.proofs.lemmas.Option.{slice_get-map, slice_get_within}
 use Rattle.rina_base.specs.declared.number.FlowName.{FlowName}
 use Rattle.rina_base.specs.declared.number.Port.{Port}
 use Rattle.rina_channel.specs.declared.channel.Channel.{Channel}
 use Rattle.rina_channel.specs.Channels.{ChannelsSeen, IsFlowBelow}
-use Rattle.rina_channel.specs.Making.{AreMade, IsNewFlow, begun}
+use Rattle.rina_channel.specs.Making.{AreMade, IsNewFlow}
 use Rattle.rina_channel.specs.Names.{link_config, names_at}
 use Rattle.rina_channel.proofs.Config.{same_size}
 use Rattle.rina_channel.proofs.Making.{made_stands}
@@ -18,7 +18,6 @@ use Rattle.rina_iface.specs.Seen.{Seen, end_of}
 use Rattle.rina_iface.proofs.Grown.{still_at}
 use Rattle.rina_law.specs.Direction.{Direction, start}
 use Rattle.rina_data.specs.declared.process.IpcProcess.{IpcProcess}
-use Rattle.rina_data.specs.declared.settings.Member.{Member as Kept}
 use Rattle.rina_data.specs.declared.settings.Settings.{Settings}
 use Rattle.rina_data.specs.Configs.{Config, config_of, cube_by, greatest, piece_size}
 use Rattle.rina_data.specs.Deciding.{process_of}
@@ -30,8 +29,8 @@ use Rattle.rina_flows.specs.Adding.{IsNewFlow as IsNewPair, begun_now, turned}
 use Rattle.rina_flows.specs.Calls.{AreTied}
 use Rattle.rina_flows.specs.Tied.{conns_of, ids_by}
 use Rattle.rina_dif.specs.declared.connections.Connections.{Connections}
-use Rattle.rina_dif.specs.Connected.{AreConnected, CanManage, channels_seen}
-use Rattle.rina_dif.specs.Laying.{AreApart, AreLaid, BindsAll, IsLaidIn, ends_of}
+use Rattle.rina_dif.specs.Connected.{CanManage, channels_seen}
+use Rattle.rina_dif.specs.Laying.{AreLaid, BindsAll, IsLaidIn, ends_of}
 use Rattle.rina_dif.specs.declared.dif.Dif.{Dif}
 use Rattle.rina_iface.specs.declared.ask.Fixed.{Fixed}
 use Rattle.rina_dif.specs.Planned.{link_fixed, links_of, settings_by}
@@ -44,12 +43,18 @@ use Rattle.rina_member.specs.declared.management.Management.{Management}
 use Rattle.rina_plan.specs.declared.dif.DifPlan.{DifPlan}
 use Rattle.rina_stack.specs.declared.plan.Plan.{Plan}
 use Rattle.rina_stack.specs.Plan.{IsPlan}
-use Rattle.rina_cube.specs.Cubes.{IsCube}
-use Rattle.rina_iface.proofs.Changed.{all_at}
 use Rattle.rina_dif.specs.Linking.{AreLinks, Connects, HaveConnections, IsChannelOf, IsConnected, IsOpen, StandOnLinks}
-use Rattle.rina_dif.proofs.Connected.{none_connected}
+use Rattle.rina_dif.proofs.Connected.{StandSoFar, none_so_far}
 use Rattle.rina_dif.proofs.Connecting.{channel_link, numbered_up, silent}
 use Rattle.rina_dif.proofs.LinkFlows.{ends_push}
+use Rattle.rina_data.specs.declared.link.Link.{Link}
+use Rattle.rina_data.specs.Process.{Process}
+use Rattle.rina_data.proofs.Finding.{there}
+use Rattle.rina_channel.specs.Channels.{HasLive}
+use Rattle.rina_queue.proofs.Places.{kept_at}
+use Rattle.rina_dif.specs.Laying.{links_from, ports_at}
+use Rattle.rina_dif.proofs.Bare.{map_at}
+use Rattle.rina_dif.proofs.Made.{link_on}
 
 -- Lists of ports
 
@@ -80,7 +85,7 @@ map_push f (z ∷ xs) x y = ap (λ zs. f z ∷ zs) (map_push f xs x y)
 pub record AreMadeOf (s : Settings) (manage : Cube) (clock : ℕ) (ports : List (Port × Port)) (ps : List IpcProcess) (n : ℕ) (c : Connections) : Type 0 where
   pub have : HaveConnections s manage (take n ports) ps c
   pub named : (k : ℕ) (e : End) → At c.flows.journal.ends k e → e.flow.src ≤ k
-  pub stand : StandOnLinks s clock ports ps c
+  pub stand : (below : Seen) → AreLinks s clock ports ps below → StandSoFar (config_of s) clock c (map process_of ps) below
 
 none_at : {X : Type 0} (xs : List X) (i : ℕ) (x : X) → xs ≡ [] → slice_get xs i ≡ Some x → ⊥
 none_at xs i x e h = cc
@@ -95,7 +100,7 @@ none_made s manage clock ports ps c manage_is channels ends conns can = record {
     unused = λ k e is. absurd (none_at c.flows.journal.ends k e ends is);
   };
   named = λ k e is. absurd (none_at c.flows.journal.ends k e ends is);
-  stand = λ below links. none_connected (config_of s) clock c (map process_of ps) below channels ends conns links.clock_is (subst (CanManage (config_of s)) (sym manage_is) can) (numbered_up s (ends_of ports) ps links.up);
+  stand = λ below links. none_so_far (config_of s) clock c (map process_of ps) below channels ends conns links.clock_is (subst (CanManage (config_of s)) (sym manage_is) can) (numbered_up s (ends_of ports) ps links.up);
 }
 
 -- The next one
@@ -226,7 +231,7 @@ module _ (s : Settings) (manage : Cube) (clock : ℕ) (ports : List (Port × Por
     abbrev begins : Ids → Direction
     begins ids = ticked clock (start (constants (link_config g c.manage) c.manage ids))
 
-    next_stand : AreConnected g clock c' (map process_of ps) below
+    next_stand : StandSoFar g clock c' (map process_of ps) below
     next_stand =
         let was = made.stand below links in
         let has = x.adds (link_config g c.manage) clock was.lines was.tied new_pair in
@@ -264,6 +269,37 @@ module _ (s : Settings) (manage : Cube) (clock : ℕ) (ports : List (Port × Por
     named = next_named;
     stand = next_stand;
   }
+
+-- All have theirs
+
+take_all : {X : Type 0} (xs : List X) (n : ℕ) → length xs ≤ n → take n xs ≡ xs
+take_all [] zero le = refl
+take_all [] (suc n) le = refl
+take_all (x ∷ xs) zero le = absurd (omega (arith, le))
+take_all (x ∷ xs) (suc n) le = ap (λ zs. x ∷ zs) (take_all xs n (omega (arith, le)))
+
+pub all_stand : (s : Settings) (manage : Cube) (clock : ℕ) (ports : List (Port × Port)) (ps : List IpcProcess) (n : ℕ) (c : Connections) → length ports ≤ n → AreMadeOf s manage clock ports ps n c → StandOnLinks s clock ports ps c
+all_stand s manage clock ports ps n c le made below links =
+    let was = made.stand below links in
+    record {
+      may = was.may;
+      lines = was.lines;
+      tied = was.tied;
+      standing = was.standing;
+      each = λ i k port live.
+          let p = map_at process_of ps i live.process live.is_process in
+          let within = slice_get_within ps i p.0 p.1 in
+          let alike = links.up.aligned in
+          let m = there s.members i (omega (arith, within, alike)) in
+          let here = ports_at m.0.node (ends_of ports) in
+          let its = (links.up.each i m.0 p.0 m.1 p.1).links in
+          let stands : slice_get (links_from 0 here) live.place ≡ Some live.link = ap (λ (ls : List Link). slice_get ls live.place) (sym its ∙ ap (λ (z : Process). z.links) p.2) ∙ live.stands in
+          let at = kept_at (λ (z : Port). z.node == m.0.node) (ends_of ports) live.place live.link.port (link_on 0 here live.place live.link stands) in
+          let x = map_at (λ (z : Channel). z.port) c.channels at.0 live.link.port (ap (λ (zs : List Port). slice_get zs at.0) (made.have.ports_are ∙ ap ends_of (take_all ports n le)) ∙ at.1.stands) in
+          let its_link : HasLive (map process_of ps) i k x.0.port = record { process = live.process; is_process = live.is_process; place = live.place; link = live.link; stands = live.stands; live = live.live; number_is = live.number_is; port_is = sym x.2 } in
+          let is = was.standing.channels.matched i k at.0 x.0 its_link x.1 in
+          record { place = at.0; channel = x.0; is_channel = x.1; member_is = is.0; number_is = is.1 };
+    }
 
 -- The links of a DIF that was made
 

@@ -1,5 +1,5 @@
 -- What comes with time to a DIF.
-use Rattle.std.proofs.Common.{◌≡◌, ◌∙◌, ℕ, ◌<◌, Bool, true, false, List, length, get_or, slice_get, slice_set, Option, Some, None, Result, Ok, Err, refl, ap, subst, arith}
+use Rattle.std.proofs.Common.{◌≡◌, ◌∙◌, ℕ, ◌+◌, ◌<◌, Bool, true, false, List, length, get_or, slice_get, slice_set, Option, Some, None, Result, Ok, Err, refl, ap, subst, arith}
 use Rattle.std.proofs.lemmas.Option.{slice_get_read, slice_get_within}
 use Rattle.rina_account.specs.declared.ledger.Off.{Off}
 use Rattle.rina_base.specs.declared.memory.Memory.{Memory}
@@ -26,6 +26,11 @@ use Rattle.rina_flows.specs.Delivering.{ForgetsIn}
 use Rattle.rina_flows.specs.Timely.{GivesUpIn}
 use Rattle.rina_flows.proofs.Gone.{is_ended, is_forgotten}
 use Rattle.rina_dif.specs.declared.dif.Dif.{Dif}
+use Rattle.rina_dif.specs.declared.release.IdRest.{IdRest}
+use Rattle.rina_ids.specs.Members.{CepIds, with_rest}
+use Rattle.rina_dif.specs.Freeing.{RestsAt}
+use Rattle.rina_dif.proofs.GivenBack.{gives_back}
+use Rattle.rina_dif_law.specs.Dif.{DifSeen}
 use Rattle.rina_dif.specs.Holding.{Holds, Stands}
 use Rattle.rina_dif.specs.Shown.{seen_of}
 use Rattle.rina_dif.specs.Timely.{ForgetsAs, GivesUpAs, IsHomeEnd, WithLedger}
@@ -92,6 +97,7 @@ forgets d i at (Ok true) flows ps lt here does lines below h =
           routed = house.routed;
           managed = house.managed;
           connected = kept_by (config_of d.settings) d.clock d.connections (seen_of d).processes (seen_of d').processes below (λ may. forgetting_leaves (seen_of d) lines at (seen_of d') f.lines' forgotten) h.connected;
+          flooded = h.flooded;
         };
       },
       x.1.0,
@@ -105,15 +111,22 @@ forgets d i at (Err e) flows ps lt here does lines below h =
     let x = does p.0 p.1 in
     unchanged d i p.0 flows ps x.0 p.1 x.1.0 x.1.1 x.2
 
-pub gives_up : (d : Dif) (i at : ℕ) (r : Result (Option Num) Memory) (flows : Flows) (ps : List IpcProcess) → i < length d.settings.members → IsHomeEnd d i at → WithLedger (λ f l f' l'. GivesUpIn d.clock at f l r f' l') i d.flows d.processes flows ps → (lines : List Direction) (below : Seen) → Holds d lines below → GivesUpAs d lines below at r (record d { flows = flows; processes = ps })
-gives_up d i at (Ok (Some num)) flows ps lt here does lines below h =
-    let d' : Dif = record d { flows = flows; processes = ps } in
+-- the id of an end that fails was given back; where none fails nothing was
+abbrev pub GaveUpThere : Dif → ℕ → IdRest → Result (Option Num) Memory → List CepIds → Type 0
+GaveUpThere d i rest (Ok (Some num)) held = (ids : CepIds) → slice_get d.ids i ≡ Some ids → held ≡ with_rest i ids rest.cep (d.clock + rest.ticks) d.ids
+GaveUpThere d i rest (Ok None) held = held ≡ d.ids
+GaveUpThere d i rest (Err e) held = held ≡ d.ids
+
+pub gives_up : (d : Dif) (i at : ℕ) (r : Result (Option Num) Memory) (flows : Flows) (ps : List IpcProcess) → i < length d.settings.members → IsHomeEnd d i at → WithLedger (λ f l f' l'. GivesUpIn d.clock at f l r f' l') i d.flows d.processes flows ps → (rest : IdRest) (held : List CepIds) → RestsAt d at rest → GaveUpThere d i rest r held → (lines : List Direction) (below : Seen) → Holds d lines below → GivesUpAs d lines below at r (record d { flows = flows; processes = ps; ids = held })
+gives_up d i at (Ok (Some num)) flows ps lt here does rest held rests gave lines below h =
+    let d' : Dif = record d { flows = flows; processes = ps; ids = held } in
     let p = has_process d below i (lines, h) lt in
     let x = does p.0 p.1 in
     let f = x.1 (config_of d.settings) lines here.end h.standing.journal h.tied here.is_end here.allocated in
     let g = f.gives_up in
-    let seen = arrived_seen d i p.0 f.offs x.0 flows ps refl f.ids f.ledger_is x.2 in
-    let ended = is_ended (seen_of d) lines at i _ (process_of p.0) f.offs flows.journal.ends (seen_of d') g.ended (at_home d i at g.ended.end here g.ended.is_conn.end) (shown_at d i p.0 p.1) seen in
+    let seen = ap (λ (z : DifSeen). record z { ids = held }) (arrived_seen d i p.0 f.offs x.0 flows ps refl f.ids f.ledger_is x.2) in
+    let its_home = at_home d i at g.ended.end here g.ended.is_conn.end in
+    let ended = is_ended (seen_of d) lines at i _ (process_of p.0) f.offs flows.journal.ends held (seen_of d') g.ended its_home (shown_at d i p.0 p.1) (gives_back d lines below h i at g.ended.end rest held g.ended.is_conn.end its_home rests gave) seen in
     let house = home_on d i p.0 ps x.0 lines below h p.1 x.2 in
     let given : IsGivenUp (seen_of d) lines at num.seq (seen_of d') = record { line = g.line; is_line = g.is_line; ids = g.its_ids; ids_are = g.ids_are; cube = g.cube; is_cube = g.is_cube; late = g.late; ended = ended } in
     record {
@@ -121,7 +134,7 @@ gives_up d i at (Ok (Some num)) flows ps lt here does lines below h =
       cep = f.num_is;
       holds = record {
         tied = f.tied;
-        standing = ended_stands (seen_of d) lines below at _ (seen_of d') h.standing ended;
+        standing = ended_stands (seen_of d) lines below at _ (seen_of d') h.standing h.numbered ended;
         carrying = ended_carries (seen_of d) lines below at _ (seen_of d') h.carrying ended;
         numbered = ended_numbered (seen_of d) lines below at _ (seen_of d') h.numbered ended;
         accounted = ended_accounted (seen_of d) lines below at _ (seen_of d') h.standing h.numbered h.accounted ended;
@@ -131,13 +144,14 @@ gives_up d i at (Ok (Some num)) flows ps lt here does lines below h =
         routed = house.routed;
         managed = house.managed;
         connected = kept_by (config_of d.settings) d.clock d.connections (seen_of d).processes (seen_of d').processes below (λ may. ending_leaves (seen_of d) lines at _ (seen_of d') ended) h.connected;
+        flooded = h.flooded;
       };
     }
-gives_up d i at (Ok None) flows ps lt here does lines below h =
+gives_up d i at (Ok None) flows ps lt here does rest held rests gave lines below h =
     let p = has_process d below i (lines, h) lt in
     let x = does p.0 p.1 in
-    (x.1.0 (config_of d.settings) lines h.tied, unchanged d i p.0 flows ps x.0 p.1 x.1.1 x.1.2 x.2)
-gives_up d i at (Err e) flows ps lt here does lines below h =
+    (x.1.0 (config_of d.settings) lines h.tied, ap (λ (hs : List CepIds). record d { flows = flows; processes = ps; ids = hs }) gave ∙ unchanged d i p.0 flows ps x.0 p.1 x.1.1 x.1.2 x.2)
+gives_up d i at (Err e) flows ps lt here does rest held rests gave lines below h =
     let p = has_process d below i (lines, h) lt in
     let x = does p.0 p.1 in
-    unchanged d i p.0 flows ps x.0 p.1 x.1.0 x.1.1 x.2
+    ap (λ (hs : List CepIds). record d { flows = flows; processes = ps; ids = hs }) gave ∙ unchanged d i p.0 flows ps x.0 p.1 x.1.0 x.1.1 x.2

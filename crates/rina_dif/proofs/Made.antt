@@ -30,6 +30,8 @@ use Rattle.rina_data.specs.Fitting.{IsQos}
 use Rattle.rina_dif_law.specs.Numbered.{AreMembers}
 use Rattle.rina_data.proofs.Finding.{there}
 use Rattle.rina_data.proofs.Plain.{same_place}
+use Rattle.rina_ids.specs.Members.{AreUndrawn}
+use Rattle.rina_pci.specs.Spelling.{AreWidths}
 use Rattle.rina_dif.specs.declared.dif.Dif.{Dif}
 use Rattle.rina_dif.specs.Building.{IsFree, queue_ids}
 use Rattle.rina_dif.specs.Holding.{Stands}
@@ -45,6 +47,7 @@ use Rattle.rina_dif.proofs.Sound.{are_members, is_config}
 use Rattle.rina_dif.proofs.Started.{made_managed, started_still}
 use Rattle.rina_dif.specs.Connected.{AreConnected}
 use Rattle.rina_dif.specs.Shown.{seen_of}
+use Rattle.rina_dif.specs.Flooding.{AreFlooding}
 
 -- The links
 
@@ -116,8 +119,8 @@ has_place s node ports p place qos link up is known = subst (λ (o : Option ℕ)
 
 -- It stands
 
-pub made_stands : (plan : Plan) (i : ℕ) (dif : DifPlan) (d : Dif) (old new : Seen) → AreKept new → IsPlan plan → slice_get plan.difs i ≡ Some dif → d.settings ≡ settings_by plan i dif → d.clock ≡ old.now → d.flows.journal.ends ≡ [] → d.flows.conns ≡ [] → IsFree (config_of d.settings) old → IsLaidIn (config_of d.settings) old new → (ports : List (Port × Port)) (bare : List IpcProcess) → AreLaid plan dif d.settings dif.links old new ports bare → AreStarted d.settings.cubes d.settings.members dif.links dif.rules dif.allow (length d.settings.members) bare d.managements → AreRouted d.settings.members d.managements (length d.managements) bare d.processes → d.laid.links ≡ dif.links → AreConnected (config_of d.settings) d.clock d.connections (seen_of d).processes new → Stands d new
-made_stands plan i dif d old new kept sound at are clock ends conns free inside ports bare was started routed same connected =
+pub made_stands : (plan : Plan) (i : ℕ) (dif : DifPlan) (d : Dif) (old new : Seen) → AreKept new → IsPlan plan → slice_get plan.difs i ≡ Some dif → d.settings ≡ settings_by plan i dif → d.clock ≡ old.now → d.flows.journal.ends ≡ [] → d.flows.conns ≡ [] → (AreWidths d.settings.widths → AreUndrawn d.settings.widths.cep (length d.settings.members) d.ids) → IsFree (config_of d.settings) old → IsLaidIn (config_of d.settings) old new → (ports : List (Port × Port)) (bare : List IpcProcess) → AreLaid plan dif d.settings dif.links old new ports bare → AreStarted d.settings.cubes d.settings.members dif.links dif.rules dif.allow (length d.settings.members) bare d.managements → AreRouted d.settings.members d.managements (length d.managements) bare d.processes → d.laid.links ≡ dif.links → AreConnected (config_of d.settings) d.clock d.connections (seen_of d).processes new → AreFlooding d → Stands d new
+made_stands plan i dif d old new kept sound at are clock ends conns undrawn free inside ports bare was started routed same connected floods =
     let laid = laid_still plan dif d.settings dif.links old new ports d.managements (length d.managements) bare d.processes was routed in
     let g = config_of d.settings in
     let config : IsConfig g = subst (λ (s : Settings). IsConfig (config_of s)) (sym are) (is_config plan i dif sound at) in
@@ -139,7 +142,7 @@ made_stands plan i dif d old new kept sound at are clock ends conns free inside 
     let managed : AreManagedBy d.settings.members dif.links d.clock d.processes d.managements = made_managed plan i dif d old new ports bare sound at are config members was started routed in
     let routes = managed_routed d.settings.members dif.links d.clock d.processes d.managements managed in (
       [],
-      start_holds d new kept ends conns start untouched members (λ k p is.
+      start_holds d new kept ends conns start untouched members (undrawn config.widths) (λ k p is.
           let within = slice_get_within d.processes k p is in
           let m = there d.settings.members k (let e = laid.up.aligned in omega (arith, within, e)) in
           let up = laid.up.each k m.0 p m.1 is in
@@ -149,7 +152,7 @@ made_stands plan i dif d old new kept sound at are clock ends conns free inside 
             queues = λ dst link qos hop known.
                 let own = live_hop d.settings.members dif.links m.0 p.links p.routes dst link (routes k m.0 p m.1 is) hop in
                 subst (λ (n : ℕ). IsSome (queue_place qos n (process_of p).queues)) own.4 (has_place d.settings m.0.node (ends_of ports) p own.0 qos own.1 up own.2 known);
-          }) (subst (λ (ls : List LinkPlan). AreManagedBy d.settings.members ls d.clock d.processes d.managements) (sym same) managed) connected,
+          }) (subst (λ (ls : List LinkPlan). AreManagedBy d.settings.members ls d.clock d.processes d.managements) (sym same) managed) connected floods,
     )
 
 -- What it is

@@ -20,6 +20,7 @@ use Rattle.rina_dif.specs.Shown.{seen_of}
 use Rattle.rina_dif.proofs.Causing.{caused_on, lower_later, none_same}
 use Rattle.rina_dif.proofs.Managed.{managed_later}
 use Rattle.rina_dif.proofs.Connected.{later_connected}
+use Rattle.rina_dif.proofs.Flooding.{time_floods}
 
 pub holds_later : (d : Dif) (now : ℕ) (lines : List Direction) (below below' : Seen) → d.clock ≤ now → AreKept below' → IsLifted (config_of d.settings) below below' → below'.now ≡ now → Holds d lines below → Holds (record d { clock = now }) (map (ticked (now - d.clock)) lines) below'
 holds_later d now lines below below' le kept' lifted clock h =
@@ -39,6 +40,7 @@ holds_later d now lines below below' le kept' lifted clock h =
       routed = h.routed;
       managed = managed_later d.settings.members d.laid.links d.clock now d.processes d.managements le h.managed;
       connected = later_connected (config_of d.settings) d.clock now d.connections (seen_of d).processes below below' le kept' lifted clock h.connected;
+      flooded = λ alive. time_floods d now le (h.flooded alive);
     }
 
 -- the rank above sees nothing of it

@@ -1,5 +1,5 @@
 -- How a PDU is handled that came on a link for the management connection of that link.
-use Rattle.std.proofs.Common.{◌≡◌, ◌≢◌, ◌∙◌, ℕ, zero, suc, ◌-◌, ◌<◌, ◌≤◌, true, List, [], ◌∷◌, ◌++◌, drop, length, map, position, slice_get, slice_set, take, append-nil, append_assoc, Option, Some, None, Result, Ok, Err, refl, sym, ap, subst, arith, inl, inr, ◌⊎◌}
+use Rattle.std.proofs.Common.{◌≡◌, ◌≢◌, ◌∙◌, ℕ, ◌-◌, ◌<◌, ◌≤◌, true, List, [], ◌∷◌, ◌++◌, length, map, position, slice_get, slice_set, append-nil, append_assoc, Option, Some, None, Result, Ok, Err, refl, sym, ap, subst, arith, inl, inr}
 use Rattle.std.specs.Prelude.{IsSome}
 use Rattle.std.proofs.lemmas.Bool.{false≢true}
 use Rattle.std.proofs.lemmas.List.{map-append}
@@ -27,14 +27,14 @@ use Rattle.rina_conn.specs.declared.conn.Conn.{Conn}
 use Rattle.rina_data.specs.declared.process.IpcProcess.{IpcProcess}
 use Rattle.rina_data.specs.declared.step.Took.{Took}
 use Rattle.rina_data.specs.declared.step.Took.TheVariants as took
-use Rattle.rina_data.specs.Configs.{Config, Member, config_of}
+use Rattle.rina_data.specs.Configs.{Config, config_of}
 use Rattle.rina_data.specs.Deciding.{process_of, queue_settings}
 use Rattle.rina_data.specs.Hops.{Hop}
 use Rattle.rina_data.specs.Process.{Process, with_offs}
 use Rattle.rina_data.specs.Queueing.{line_for}
-use Rattle.rina_dif_law.specs.Dif.{DifSeen, IsProcess, constants, with_process}
+use Rattle.rina_dif_law.specs.Dif.{DifSeen, constants, with_process}
 use Rattle.rina_dif_law.specs.Ids.{Ids, IsFrom, flipped}
-use Rattle.rina_dif_law.specs.Incoming.{Settles, cause_told, lines_for}
+use Rattle.rina_dif_law.specs.Incoming.{cause_told, lines_for}
 use Rattle.rina_flows.specs.declared.flows.Flows.{Flows}
 use Rattle.rina_flows.specs.Calls.{AreTied, TellsOne}
 use Rattle.rina_flows.specs.Rows.{ArrivesAt, TakesAt, ToldAt}
@@ -55,7 +55,7 @@ use Rattle.rina_dif.specs.Connected.{channels_seen}
 use Rattle.rina_dif.specs.Elsewhere.{ChangesProcess}
 use Rattle.rina_dif.specs.Holding.{Holds, Stands}
 use Rattle.rina_dif.specs.Shown.{seen_of}
-use Rattle.rina_dif.specs.Taking.{ArrivesOnLink, HasSettled, HasTaken, IsForLink, IsLinkTaker, IsOldest, IsThere, LinkTakenBy, NotesAt, SettlesFor, TakesAs, TakesFor, took_of}
+use Rattle.rina_dif.specs.Taking.{ArrivesOnLink, HasTaken, IsForLink, IsLinkTaker, IsOldest, LinkTakenBy, NotesAt, SettlesFor, TakesFor, took_of}
 use Rattle.rina_dif.proofs.Bare.{map_at}
 use Rattle.rina_dif.proofs.Elsewhere.{by_process, none_process}
 use Rattle.rina_dif.proofs.Keeping.{home_set, house_is}
@@ -63,6 +63,7 @@ use Rattle.rina_dif.proofs.Leaves.{has_process, shown_at, stepped}
 use Rattle.rina_dif.proofs.Linked.{passes_some}
 use Rattle.rina_dif.proofs.Owning.{OfReceiver, noted_err, of_verdict}
 use Rattle.rina_dif.proofs.Settling.{off_house}
+use Rattle.rina_dif.proofs.Flooding.{said_floods, taken_said}
 
 same_some : {X : Type 0} (o : Option X) (a b : X) → o ≡ Some a → o ≡ Some b → a ≡ b
 same_some o a b h g = cc
@@ -129,7 +130,7 @@ its_kind c port pdu place its t = ap (λ (z : Pdu). z.kind) (sym t.its_is)
 
 -- What is written off
 
-unnamed_more : (xs ys : List Off) → unnamed_from (length xs) (xs ++ ys) ≡ xs ++ map unnamed_line ys
+pub unnamed_more : (xs ys : List Off) → unnamed_from (length xs) (xs ++ ys) ≡ xs ++ map unnamed_line ys
 unnamed_more [] ys = refl
 unnamed_more (x ∷ xs) ys = ap (λ (zs : List Off). x ∷ zs) (unnamed_more xs ys)
 
@@ -204,8 +205,10 @@ module _ (d : Dif) (at since : ℕ) (port : Port) (hop : Hop) (lines : List Dire
           lines = links';
           tied = tied;
           standing = taking_on_links_stands m links (seen_of d).processes (map process_of ps) below port o.entry hop end dropped (after flows) links' kept h.connected.standing o.oldest o.opens link.1 in_time takes leaves;
+          each = λ i n q live. h.connected.each i n q (leaves.live i n q live);
         };
         channels = inr (record { for_link = link; dropped = dropped; takes = takes });
+        flooded = λ floods alive. said_floods d flows (taken_said m links (seen_of d).processes below h.connected.standing port hop.pdu dropped (after flows) links' end takes) (floods alive);
       }
 
   -- no end takes it
@@ -309,6 +312,7 @@ flow_taken d at since port hop (Ok end) d' other same settles lines below h kept
       routed = s.routed;
       managed = s.managed;
       connected = s.connected below h.connected;
+      flooded = s.flooded;
       channels = inl (other, same);
     }
 flow_taken d at since port hop (Err e) d' other same settles lines below h kept there o = settles lines below h there

@@ -92,6 +92,7 @@ own_none d at since hop ps lt own none notes lines below h there =
       routed = house.routed;
       managed = house.managed;
       connected = λ down. kept_by (config_of d.settings) d.clock d.connections (seen_of d).processes (map process_of ps) down (λ may. subst (λ (z : DifSeen). LeavesLinks (seen_of d).processes z.processes) (sym (stepped d at x.0 ps x.3)) (noted_leaves (seen_of d).processes at (process_of p.0) hop (causes.NoConnection hop.pdu.dcep) (process_of x.0) (shown_at d at p.0 p.1) x.1));
+      flooded = λ f. f;
     }
 
 -- without memory for its line nothing changes
@@ -135,6 +136,7 @@ own_told d at since hop place flows own kind taken tells same lines below h ther
       routed = h.routed;
       managed = h.managed;
       connected = λ down c. c;
+      flooded = λ f. f;
     }
 
 -- A piece
@@ -213,7 +215,7 @@ own_arrived d at since hop place cause flows ps lt own kind taken arrives lines 
     let x = arrives p.0 p.1 in
     let s = h.standing in
     let alive = alive_arrival (seen_of d) since hop.left there.older own.0 there.past there.later in
-    let in_ = x.1 (config_of d.settings) lines (map process_of d.processes) below (record { config = s.config; journal = s.journal; own = s.own; tied = h.tied }) (record { end = taken.0; its_ids = taken.1; taker = taken.2; piece = kind; death = there.older; here = inr there.on_way; alive = alive }) in
+    let in_ = x.1 (config_of d.settings) lines (map process_of d.processes) below (record { config = s.config; journal = s.journal; held = d.ids; own = s.own; tied = h.tied }) (record { end = taken.0; its_ids = taken.1; taker = taken.2; piece = kind; death = there.older; here = inr there.on_way; alive = alive }) in
     let a = in_.arrives in
     let end = same_ends (slice_get d.flows.journal.ends place) taken.0 a.end taken.2.is_conn.end a.place.is_conn.end in
     let ids = same_ids (slice_get (conns_of d.flows.conns) place) taken.1 a.its_ids taken.2.is_conn.ids_are a.place.is_conn.ids_are in
@@ -234,6 +236,7 @@ own_arrived d at since hop place cause flows ps lt own kind taken arrives lines 
       routed = house.routed;
       managed = house.managed;
       connected = λ down. kept_by (config_of d.settings) d.clock d.connections (seen_of d).processes (map process_of ps) down (λ may. subst (λ (z : DifSeen). LeavesLinks (seen_of d).processes z.processes) (sym (stepped d at (record p.0 { ledger = x.0 }) ps x.2)) (leaves_same (seen_of d).processes at (process_of p.0) (process_of (record p.0 { ledger = x.0 })) (shown_at d at p.0 p.1) refl refl));
+      flooded = λ f. f;
     }
 
 pub arrived_err : (d : Dif) (at since : ℕ) (hop : Hop) (place : ℕ) (e : NoMemory) (flows : Flows) (ps : List IpcProcess) → at < length d.settings.members → ArrivesTo d.clock place hop.pdu at d.flows d.processes (Err e) flows ps → SettlesFor d at since hop (Err e) (record d { flows = flows; processes = ps })
@@ -279,6 +282,7 @@ settles_on d at since hop ps (Ok end) d' me settles lines below h there =
       routed = s.routed;
       managed = s.managed;
       connected = λ down c. s.connected down (subst (λ (z : DifSeen). AreConnected (config_of d.settings) d.clock d.connections z.processes down) (sym me.same) c);
+      flooded = s.flooded;
     }
 settles_on d at since hop ps (Err e) d' me settles lines below h there =
     let s = settles lines below (holds_unseen d ps lines below me.same (me.house lines below h) h) (subst (λ (z : DifSeen). IsThere z below since hop) (sym me.same) there) in

@@ -37,7 +37,7 @@ has_conn d below at st lt = (let e = st.1.tied.alike in omega (arith, e, lt))
 pub passes : (d : Dif) (at : ℕ) (flows : Flows) → PassesOne d.clock at d.flows flows → (lines : List Direction) (below : Seen) → Holds d lines below → Passes d lines at (record d { flows = flows }) below
 passes d at flows p lines below h =
     let d' : Dif = record d { flows = flows } in
-    let o = p (config_of d.settings) lines (map process_of d.processes) below h.standing.journal h.standing.own h.tied in
+    let o = p (config_of d.settings) lines (map process_of d.processes) below d.ids h.standing.journal h.standing.own h.tied in
     let q = o.passed in
     let seen = seen_flows d flows (slice_set d.flows.journal.ends at (with_passed q.end)) q.ends_are o.ids in
     let passed : IsPassed (seen_of d) lines at (seen_of d') o.lines' = record {
@@ -68,5 +68,6 @@ passes d at flows p lines below h =
         routed = h.routed;
         managed = h.managed;
         connected = h.connected;
+        flooded = h.flooded;
       };
     }

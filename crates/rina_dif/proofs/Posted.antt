@@ -219,6 +219,7 @@ acknowledges d lines below i at conn due s flows ps lt here is tells forwards do
         routed = p.house.routed;
         managed = p.house.managed;
         connected = kept_by (config_of d.settings) d.clock d.connections (seen_of d).processes (seen_of d').processes below (λ may. acknowledging_leaves (seen_of d) lines at p.cause (seen_of d') a.lines' may.managed.only acknowledged) h.connected;
+        flooded = h.flooded;
       };
     }
 
@@ -294,6 +295,7 @@ sends_again d lines below i at conn pdu s flows ps lt here is tells forwards doe
         routed = p.house.routed;
         managed = p.house.managed;
         connected = kept_by (config_of d.settings) d.clock d.connections (seen_of d).processes (seen_of d').processes below (λ may. resending_leaves (seen_of d) lines at p.cause (seen_of d') a.lines' may.managed.only resent) h.connected;
+        flooded = h.flooded;
       };
     }
 

@@ -36,7 +36,9 @@ use Rattle.rina_dif.specs.declared.dif.Dif.{Dif}
 use Rattle.rina_dif.specs.Changing.{ManagesStep}
 use Rattle.rina_dif.specs.Clocking.{ClockSteps, ClockStepsAt, FailsLate, IsIdle, NoneDue, NoneLostAt}
 use Rattle.rina_dif.specs.Elsewhere.{home_of}
-use Rattle.rina_dif.specs.Holding.{Holds}
+use Rattle.rina_dif.specs.Holding.{Holds, LinksStand}
+use Rattle.rina_dif.specs.LinkDue.{NoLinkDue}
+use Rattle.rina_channel.specs.Names.{link_config}
 use Rattle.rina_dif.specs.Resting.{IsAtRest, RestsUntil}
 use Rattle.rina_dif.specs.Shown.{seen_of}
 use Rattle.rina_dif.specs.Steps.{AsksAt, AsksHome, AtHome, OutsAt}
@@ -94,6 +96,7 @@ rests_later until clock now d below rest = record {
   alive = rest.alive;
   processes = λ i p is. (let r = rest.processes i p is in record { empty = r.empty; none_comes = r.none_comes; none_lost = λ place link lost. r.none_lost place link (record { stands = lost.stands; live = lost.live; no_more = lost.no_more }) });
   flows = rest.flows;
+  links = rest.links;
 }
 
 -- What comes
@@ -179,6 +182,9 @@ module _ (until : ℕ) (d : Dif) (below : Seen) (node : ℕ) (before : d.clock <
   is_idle : (lines : List Direction) → Holds d lines below → IsIdle d lines node
   is_idle lines h = record { gone = none_due Gone lines h; give_up = none_due GiveUp lines h; ack = none_due Ack lines h; again = none_due Again lines h }
 
+  no_link_due : (item : Item) (i : ℕ) (links : LinksStand d below) → NoLinkDue item d links.lines i
+  no_link_due item i links = λ place number due. false≢true ((rest.links d.clock before place item (link_config (config_of d.settings) d.connections.manage) links.lines due.here.end links.standing.journal links.tied due.here.is_end due.here.allocated).1 due.due)
+
   none_lost : NoneLostAt d below node
   none_lost = λ i p here is. (rest.processes i p is).none_lost
 
@@ -186,7 +192,7 @@ module _ (until : ℕ) (d : Dif) (below : Seen) (node : ℕ) (before : d.clock <
   ClockAnswer = (a : Result ClockStep StepError) × DoesNone a × ((lines : List Direction) → Holds d lines below → ClockStepsAt d lines below node a d lines) × ManagesStep a (home_of d node) d below node d.managements
 
   clock_home : (h : Option ℕ) → home_of d node ≡ h → ClockAnswer
-  clock_home (Some i) is = (Ok clocks.Idle, tt, λ lines h. at_home (home_of d node) i _ _ is (none_lost, (is_idle lines h, refl, refl), refl), refl)
+  clock_home (Some i) is = (Ok clocks.Idle, tt, λ lines h. at_home (home_of d node) i _ _ is (none_lost, inl (record { does = (is_idle lines h, refl, refl); same = refl; first = λ k here links. (no_link_due Gone k links, no_link_due Ack k links, no_link_due Again k links) })), refl)
   clock_home None is = (Err NoIpc, tt, λ lines h. not_home (home_of d node) _ _ is (refl, refl, refl), refl)
 
   pub clock_rests : (a : Result ClockStep StepError) × DoesNone a × ((lines : List Direction) → Holds d lines below → ClockSteps d lines below node a d below)

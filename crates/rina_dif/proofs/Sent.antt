@@ -1,5 +1,5 @@
 -- An SDU is sent on a flow of a DIF, or refused.
-use Rattle.std.proofs.Common.{◌≡◌, ◌≢◌, ◌∙◌, ℕ, ◌+◌, ◌-◌, ◌≤◌, Bool, true, List, [], ◌∷◌, ◌++◌, length, map, slice_get, slice_set, Option, Some, None, Result, Ok, Err, option_map, refl, suc, sym, ap, subst, arith}
+use Rattle.std.proofs.Common.{◌≡◌, ◌≢◌, ◌∙◌, ℕ, ◌+◌, ◌-◌, ◌≤◌, Bool, true, List, [], ◌∷◌, ◌++◌, length, map, slice_get, slice_set, Option, Some, None, Result, Ok, Err, option_map, refl, suc, sym, ap, subst, arith, false}
 use Rattle.std.proofs.lemmas.Bool.Decides.{nat_tests}
 use Rattle.std.proofs.lemmas.List.{length-map, map-set}
 use Rattle.std.proofs.lemmas.Option.{same_Some, slice_get-map}
@@ -215,7 +215,7 @@ is_put d ids way items p p' qos h =
 -- It is accepted
 
 seen_sent : (d : Dif) (flows : Flows) (ps : List IpcProcess) (ends : List End) (processes : List Process) → flows.journal.ends ≡ ends → conns_of flows.conns ≡ conns_of d.flows.conns → map process_of ps ≡ processes → seen_of (record d { processes = ps; flows = flows }) ≡ record (seen_of d) { ends = ends; processes = processes }
-seen_sent d flows ps ends processes es cs is = λ i. record { config = config_of d.settings; manage = d.connections.manage; clock = d.clock; processes = is i; ends = es i; conns = cs i; waiting = d.waiting.items; names = d.names }
+seen_sent d flows ps ends processes es cs is = λ i. record { config = config_of d.settings; manage = d.connections.manage; clock = d.clock; processes = is i; ends = es i; conns = cs i; ids = d.ids; waiting = d.waiting.items; names = d.names }
 
 accepted : (d : Dif) (lines : List Direction) (below : Seen) (at : ℕ) (sdu : List ℕ) (way : FirstHop) (made : Made) (flows : Flows) (p' : IpcProcess) (ps : List IpcProcess) → Holds d lines below → (a : IsAdmitted d at sdu way) → (o : Accepts (config_of d.settings) d.clock at sdu d.flows lines made flows) → HasPut way.qos way.link (queued way.left d.clock made.pdus) a.goes.process p' → ps ≡ slice_set d.processes way.home p' → IsOffered (seen_of d) lines at o.parts made.num (seen_of (record d { processes = ps; flows = flows })) o.lines'
 accepted d lines below at sdu way made flows p' ps h a o put new =
@@ -292,18 +292,19 @@ sends_made d at sdu way made flows ps a offers puts lines below h =
         routed = kept.routed;
         managed = kept.managed;
         connected = kept_by (config_of d.settings) d.clock d.connections (seen_of d).processes (seen_of d').processes below (λ may. sends_leave (seen_of d) lines at o.parts (Ok made.num) (seen_of d') o.lines' may.managed.only offer) h.connected;
+        flooded = h.flooded;
       };
     }
 
 -- At a port
 
-pub refailed : (d : Dif) (lines : List Direction) (below : Seen) (at : ℕ) (sdu : List ℕ) (r : Result Num SendError) (d' : Dif) (failed : Bool) → Sends d lines below at sdu r d' → Sends d lines below at sdu r (record d' { failed = failed })
-refailed d lines below at sdu r d' failed s = record {
+pub refailed : (d : Dif) (lines : List Direction) (below : Seen) (at : ℕ) (sdu : List ℕ) (r : Result Num SendError) (d' : Dif) (failed : Bool) → d'.failed ≡ false → Sends d lines below at sdu r d' → Sends d lines below at sdu r (record d' { failed = failed })
+refailed d lines below at sdu r d' failed alive s = record {
   parts = s.parts;
   cut = s.cut;
   lines' = s.lines';
   offers = s.offers;
-  holds = record { tied = s.holds.tied; standing = s.holds.standing; carrying = s.holds.carrying; numbered = s.holds.numbered; accounted = s.holds.accounted; caused = s.holds.caused; written_off = s.holds.written_off; housed = s.holds.housed; routed = s.holds.routed; managed = s.holds.managed; connected = s.holds.connected };
+  holds = record { tied = s.holds.tied; standing = s.holds.standing; carrying = s.holds.carrying; numbered = s.holds.numbered; accounted = s.holds.accounted; caused = s.holds.caused; written_off = s.holds.written_off; housed = s.holds.housed; routed = s.holds.routed; managed = s.holds.managed; connected = s.holds.connected; flooded = λ still. s.holds.flooded alive };
 }
 
 pub sends_at : (o : Option ℕ) (d : Dif) (lines : List Direction) (below : Seen) (at : ℕ) (sdu : List ℕ) (r : Result Num SendError) (d' : Dif) → o ≡ Some at → Sends d lines below at sdu r d' → SendsAt o d lines below sdu r d'

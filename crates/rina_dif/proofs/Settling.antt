@@ -127,6 +127,7 @@ holds_unseen d ps lines below same house h = record {
   routed = house.routed;
   managed = house.managed;
   connected = subst (λ (z : DifSeen). AreConnected (config_of d.settings) d.clock d.connections z.processes below) (sym same) h.connected;
+  flooded = h.flooded;
 }
 
 pub unseen : (d : Dif) (at : ℕ) (p p' : IpcProcess) (ps : List IpcProcess) → slice_get d.processes at ≡ Some p → process_of p' ≡ process_of p → ps ≡ slice_set d.processes at p' → seen_of (record d { processes = ps }) ≡ seen_of d
@@ -171,6 +172,7 @@ decided d addr at since hop s end ps lt is_addr settles decides lines below h th
       routed = house.routed;
       managed = house.managed;
       connected = λ down. kept_by (config_of d.settings) d.clock d.connections (seen_of d).processes (map process_of ps) down (λ may. subst (λ (z : DifSeen). LeavesLinks (seen_of d).processes z.processes) (sym (stepped d at x.0 ps x.3)) (decides_leave p.0.queues.cap d.clock addr (seen_of d).processes at (process_of p.0) since hop (Ok s) (process_of x.0) (shown_at d at p.0 p.1) (no_hop (config_of d.settings) d.settings.members d.laid.links d.processes at p.0 refl h.standing.aligned may.zero h.routed p.1) x.1));
+      flooded = λ f. f;
     }
 
 pub decided_relayed : (d : Dif) (addr at since : ℕ) (hop : Hop) (ps : List IpcProcess) → at < length d.settings.members → (IsForLink d since hop → ⊥) → ((member : Member) → slice_get (seen_of d).config.members at ≡ Some member → addr ≡ member.addr) → DecidesAt d.clock addr since hop (Ok decision.Relayed) at d.processes ps → SettlesFor d at since hop (Ok took.Relayed) (record d { processes = ps })

@@ -1,6 +1,8 @@
 -- A DIF stands as before where members show other objects.
-use Rattle.std.proofs.Common.{◌≡◌, ◌∙◌, ℕ, ◌+◌, ◌<◌, zero, suc, add-one, arith, take, List, [], ◌∷◌, ◌++◌, length, map, slice_get, Option, Some, None, Result, Ok, Err, refl, sym, ap, subst}
+use Rattle.std.proofs.Common.{◌≡◌, ◌∙◌, ℕ, ◌+◌, ◌<◌, true, false, zero, suc, add-one, arith, take, List, [], ◌∷◌, ◌++◌, Contains, length, map, slice_get, Option, Some, None, Result, Ok, Err, refl, sym, ap, subst}
+use Rattle.rina_data.specs.declared.settings.Member.{Member}
 use Rattle.std.specs.List.{cons_option, filter_map, zip}
+use Rattle.std.proofs.lemmas.Bool.{false≢true}
 use Rattle.std.proofs.lemmas.Grind.{common_steps}
 use Rattle.std.proofs.lemmas.List.{length-map}
 use Rattle.std.proofs.lemmas.Option.{same_Some, slice_get_within}
@@ -21,29 +23,33 @@ use Rattle.rina_data.specs.Configs.{member_of}
 use Rattle.rina_data.proofs.Finding.{there}
 use Rattle.rina_member.specs.declared.management.Management.{Management}
 use Rattle.rina_member.specs.Objects.{flow_name, removed}
-use Rattle.rina_member.specs.Managements.{with_objects, without_flow, without_flows}
+use Rattle.rina_member.specs.Managements.{entered, with_objects, without_flow, without_flows}
 use Rattle.rina_dif.specs.declared.dif.Dif.{Dif}
-use Rattle.rina_dif.specs.Binding.{BindsAt, BindsTo, MayBind}
-use Rattle.rina_dif.specs.Changing.{EndsFlow, FreesManaged, ManagesFree, MayHaveEntered, MayHoldFar, changed_at, cep_here, without_flow_if}
+use Rattle.rina_dif.specs.Binding.{BindsAt, BindsTo, MayBind, noting}
+use Rattle.rina_dif.specs.Changing.{EndsFlow, FreesManaged, ManagesFree, MayHoldFar, changed_at, cep_here, without_flow_if}
 use Rattle.rina_dif.specs.Elsewhere.{home_of}
 use Rattle.rina_dif.specs.Freeing.{FreesHere}
 use Rattle.rina_dif.specs.Holding.{Holds}
 use Rattle.rina_dif.specs.Managing.{AreManagedBy, agents_of}
 use Rattle.rina_dif.specs.Shown.{seen_of}
 use Rattle.rina_dif.specs.Timely.{GivesUpAs}
-use Rattle.rina_dif.proofs.Entered.{managed_entered}
+use Rattle.rina_agent.specs.declared.state.MemberState.TheVariants.{Enrolled}
+use Rattle.rina_dif.specs.Flooding.{AreFlooding}
+use Rattle.rina_dif.proofs.Entered.{all_entered, managed_entered}
+use Rattle.rina_dif.proofs.Flooding.{entered_floods, same_agents}
+use Rattle.rina_dif.proofs.Leaves.{has_process}
 use Rattle.rina_dif.proofs.Managed.{changed_agents, managed_shown}
 
 -- with other managements
 abbrev pub managing : Dif → List Management → Dif
 managing d ms = record d { managements = ms }
 
-pub holds_managed : (d : Dif) (lines : List Direction) (below : Seen) (ms : List Management) → AreManagedBy d.settings.members d.laid.links d.clock d.processes ms → Holds d lines below → Holds (managing d ms) lines below
-holds_managed d lines below ms managed h = record { tied = h.tied; standing = h.standing; carrying = h.carrying; numbered = h.numbered; accounted = h.accounted; caused = h.caused; written_off = h.written_off; housed = h.housed; routed = h.routed; managed = managed; connected = h.connected }
+pub holds_managed : (d : Dif) (lines : List Direction) (below : Seen) (ms : List Management) → AreManagedBy d.settings.members d.laid.links d.clock d.processes ms → (d.failed ≡ false → AreFlooding (managing d ms)) → Holds d lines below → Holds (managing d ms) lines below
+holds_managed d lines below ms managed floods h = record { tied = h.tied; standing = h.standing; carrying = h.carrying; numbered = h.numbered; accounted = h.accounted; caused = h.caused; written_off = h.written_off; housed = h.housed; routed = h.routed; managed = managed; connected = h.connected; flooded = floods }
 
 -- with other objects
 pub holds_shown : (d : Dif) (lines : List Direction) (below : Seen) (ms : List Management) → agents_of ms ≡ agents_of d.managements → Holds d lines below → Holds (managing d ms) lines below
-holds_shown d lines below ms same h = holds_managed d lines below ms (managed_shown d.settings.members d.laid.links d.clock d.processes d.managements ms same h.managed) h
+holds_shown d lines below ms same h = holds_managed d lines below ms (managed_shown d.settings.members d.laid.links d.clock d.processes d.managements ms same h.managed) (λ alive. same_agents d ms same (h.flooded alive)) h
 
 -- One member shows other objects
 
@@ -59,32 +65,49 @@ frees_shown d d' lines below at (Err e) ms same f = record { same = f.same; hold
 pub gives_up_shown : (d d' : Dif) (lines : List Direction) (below : Seen) (at : ℕ) (num : Num) (ms : List Management) → agents_of ms ≡ agents_of d'.managements → GivesUpAs d lines below at (Ok (Some num)) d' → GivesUpAs d lines below at (Ok (Some num)) (managing d' ms)
 gives_up_shown d d' lines below at num ms same g = record { given_up = g.given_up; cep = g.cep; holds = holds_shown d' lines below ms same g.holds }
 
+-- each member is enrolled
+all_enrolled : (d : Dif) (lines : List Direction) (below : Seen) → Holds d lines below → (k : ℕ) (g : Management) → slice_get d.managements k ≡ Some g → g.agent.state ≡ Enrolled
+all_enrolled d lines below h k g is =
+    let within = slice_get_within d.managements k g is in
+    let aligned = h.managed.aligned in
+    let lt : k < length d.settings.members = omega (arith, within, aligned) in
+    let m = there d.settings.members k lt in
+    let p = has_process d below k (lines, h) lt in
+    (h.managed.each k m.0 p.0 g m.1 p.1 is).knows.enrolled
+
 -- a flow is bound: each member took the entry of its far application
-pub binds_shown_all : (d d' : Dif) (lines : List Direction) (below : Seen) (fixed : Fixed) (ports : Port × Port) (app : List ℕ) (address : ℕ) (ms : List Management) → MayHaveEntered app address d'.managements ms → BindsAt d lines below fixed ports d' → BindsAt d lines below fixed ports (managing d' ms)
-binds_shown_all d d' lines below fixed ports app address ms may f = record {
+pub binds_shown_all : (d d' : Dif) (lines : List Direction) (below : Seen) (fixed : Fixed) (ports : Port × Port) (app : List ℕ) (far : Member) (ms : List Management) → Contains d'.settings.members far → agents_of ms ≡ agents_of (map (entered app far.addr) d'.managements) → BindsAt d lines below fixed ports d' → BindsAt d lines below fixed ports (managing d' ms)
+binds_shown_all d d' lines below fixed ports app far ms among are f = record {
   lines' = f.lines';
   bound = f.bound;
   a_port = f.a_port;
   b_port = f.b_port;
-  holds = holds_managed d' f.lines' below ms (managed_entered d'.settings.members d'.laid.links d'.clock d'.processes d'.managements ms app address f.holds.managed may) f.holds;
+  holds = holds_managed d' f.lines' below ms (managed_entered d'.settings.members d'.laid.links d'.clock d'.processes d'.managements ms app far.addr f.holds.managed (all_entered app far.addr d'.managements ms are)) (λ alive. entered_floods d' app far ms among (all_enrolled d' f.lines' below f.holds) are (f.holds.flooded alive)) f.holds;
 }
 
 -- the managements were changed first, and then the flow was added
-pub binds_managed : (d d1 d2 : Dif) (lines : List Direction) (below : Seen) (fixed : Fixed) (ports : Port × Port) (app : List ℕ) (address : ℕ) (names : List Registered) → d1 ≡ managing d d1.managements → d2 ≡ record d1 { flows = d2.flows; names = names } → MayHaveEntered app address d.managements d1.managements → BindsAt d lines below fixed ports (record d { flows = d2.flows; names = names }) → BindsAt d lines below fixed ports d2
-binds_managed d d1 d2 lines below fixed ports app address names whole rest may f =
-    let is : d2 ≡ managing (record d { flows = d2.flows; names = names }) d1.managements = rest ∙ ap (λ (z : Dif). record z { flows = d2.flows; names = names }) whole in
-    subst (BindsAt d lines below fixed ports) (sym is) (binds_shown_all d (record d { flows = d2.flows; names = names }) lines below fixed ports app address d1.managements may f)
+pub binds_managed : (d d1 d2 : Dif) (lines : List Direction) (below : Seen) (fixed : Fixed) (ports : Port × Port) (app : List ℕ) (far : Member) (names : List Registered) → Contains d.settings.members far → d1 ≡ managing d d1.managements → d2 ≡ record d1 { flows = d2.flows; ids = d2.ids; names = names } → agents_of d1.managements ≡ agents_of (map (entered app far.addr) d.managements) → BindsAt d lines below fixed ports (record d { flows = d2.flows; ids = d2.ids; names = names }) → BindsAt d lines below fixed ports d2
+binds_managed d d1 d2 lines below fixed ports app far names among whole rest are f =
+    let is : d2 ≡ managing (record d { flows = d2.flows; ids = d2.ids; names = names }) d1.managements = rest ∙ ap (λ (z : Dif). record z { flows = d2.flows; ids = d2.ids; names = names }) whole in
+    subst (BindsAt d lines below fixed ports) (sym is) (binds_shown_all d (record d { flows = d2.flows; ids = d2.ids; names = names }) lines below fixed ports app far d1.managements among are f)
 
 -- an allocation failed, and the managements alone may have changed
-pub binds_failed : (d d1 d' : Dif) (fixed : Fixed) (r : Result (Port × Port) AllocateError) (e : AllocateError) → MayBind d fixed → r ≡ Err e → e ≡ MemoryWanted → d1 ≡ managing d d1.managements → MayHoldFar d fixed d1.managements → d' ≡ d1 → (lines : List Direction) (below : Seen) → Holds d lines below → BindsTo d lines below fixed r d'
+failed_holds : (d : Dif) (lines : List Direction) (below : Seen) (ms : List Management) → AreManagedBy d.settings.members d.laid.links d.clock d.processes ms → Holds d lines below → Holds (record (managing d ms) { failed = true }) lines below
+failed_holds d lines below ms managed h = record { tied = h.tied; standing = h.standing; carrying = h.carrying; numbered = h.numbered; accounted = h.accounted; caused = h.caused; written_off = h.written_off; housed = h.housed; routed = h.routed; managed = managed; connected = h.connected; flooded = λ alive. absurd (false≢true (sym alive)) }
+
+-- before the managements changed
+pub binds_nothing : (d : Dif) (fixed : Fixed) (r : Result (Port × Port) AllocateError) (e : AllocateError) → r ≡ Err e → e ≡ MemoryWanted → (lines : List Direction) (below : Seen) → Holds d lines below → BindsTo d lines below fixed r (noting r d)
+binds_nothing d fixed r e is why lines below h = subst (λ (v : Result (Port × Port) AllocateError). BindsTo d lines below fixed v (noting v d)) (sym (is ∙ ap (λ (z : AllocateError). Err z) why)) (refl, failed_holds d lines below d.managements h.managed h)
+
+pub binds_failed : (d d1 d' : Dif) (fixed : Fixed) (r : Result (Port × Port) AllocateError) (e : AllocateError) → MayBind d fixed → r ≡ Err e → e ≡ MemoryWanted → d1 ≡ managing d d1.managements → MayHoldFar d fixed d1.managements → d' ≡ d1 → (lines : List Direction) (below : Seen) → Holds d lines below → BindsTo d lines below fixed r (noting r d')
 binds_failed d d1 d' fixed r e may is why whole far same lines below h =
     let members = d.settings.members in
     let within = slice_get_within (map member_of members) may.at_b.place may.of_b may.at_b.stands in
     let member = there members may.at_b.place (omega (arith, within, length-map members member_of)) in
     let took = far may.at_b.place member.0 may.at_b.at_home member.1 in
-    let holds : Holds (managing d d1.managements) lines below = holds_managed d lines below d1.managements (managed_entered members d.laid.links d.clock d.processes d.managements d1.managements fixed.b_app member.0.addr h.managed took) h in
+    let holds : Holds (record (managing d d1.managements) { failed = true }) lines below = failed_holds d lines below d1.managements (managed_entered members d.laid.links d.clock d.processes d.managements d1.managements fixed.b_app member.0.addr h.managed took) h in
     let all : d' ≡ managing d d1.managements = same ∙ whole in
-    subst (λ (v : Result (Port × Port) AllocateError). BindsTo d lines below fixed v d') (sym (is ∙ ap (λ (z : AllocateError). Err z) why)) (ap seen_of all, subst (λ (z : Dif). Holds z lines below) (sym all) holds)
+    subst (λ (v : Result (Port × Port) AllocateError). BindsTo d lines below fixed v (noting v d')) (sym (is ∙ ap (λ (z : AllocateError). Err z) why)) (ap seen_of all, subst (λ (z : Dif). Holds (record z { failed = true }) lines below) (sym all) holds)
 
 -- Two lists side by side
 

@@ -224,10 +224,10 @@ from_number n (p ∷ ps) (suc k) link is = (let r = from_number (n + 1) ps k lin
 pub are_numbered : (ports : List Port) → AreNumbered (links_from 0 ports)
 are_numbered ports k link is = (let e = (from_number 0 ports k link is).0 in omega (arith, e))
 
-are_live : (ports : List Port) → AreLive (links_from 0 ports)
+pub are_live : (ports : List Port) → AreLive (links_from 0 ports)
 are_live ports k link is = (from_number 0 ports k link is).1
 
-length_from : (n : ℕ) (ports : List Port) → length (links_from n ports) ≡ length ports
+pub length_from : (n : ℕ) (ports : List Port) → length (links_from n ports) ≡ length ports
 length_from n [] = refl
 length_from n (p ∷ ps) = (let e = length_from (n + 1) ps in omega (arith, e))
 
@@ -253,7 +253,7 @@ here_of : (node a b : ℕ) (p q : Port) (ports : List Port) → p.node ≡ a →
 here_of node a b p q ports is_a is_b =
     ap (λ (c : Bool). cond c (p ∷ ports_at node (q ∷ ports)) (ports_at node (q ∷ ports))) (ap (λ (n : ℕ). n == node) is_a) ∙ ap (λ (c : Bool). cond (a == node) (p ∷ cond c (q ∷ ports_at node ports) (ports_at node ports)) (cond c (q ∷ ports_at node ports) (ports_at node ports))) (ap (λ (n : ℕ). n == node) is_b)
 
-enough : (plan : Plan) (d : DifPlan) (members : List Kept) (node : ℕ) (links : List LinkPlan) (ports : List (Port × Port)) (old new : Seen) → BindsAll old (map (link_fixed plan d) links) ports new → length (edges_from members node links) ≤ length (ports_at node (ends_of ports))
+pub enough : (plan : Plan) (d : DifPlan) (members : List Kept) (node : ℕ) (links : List LinkPlan) (ports : List (Port × Port)) (old new : Seen) → BindsAll old (map (link_fixed plan d) links) ports new → length (edges_from members node links) ≤ length (ports_at node (ends_of ports))
 enough plan d members node [] [] old new b = omega arith
 enough plan d members node [] (p ∷ ps) old new b = absurd b
 enough plan d members node (l ∷ ls) [] old new b = absurd b

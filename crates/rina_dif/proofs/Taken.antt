@@ -1,5 +1,5 @@
 -- The oldest SDU of a link is taken.
-use Rattle.std.proofs.Common.{◌≡◌, ◌∙◌, ℕ, ◌<◌, Bool, List, length, slice_get, option_map, Option, Some, None, Result, Ok, Err, refl, sym, ap, subst}
+use Rattle.std.proofs.Common.{◌≡◌, ◌∙◌, ℕ, ◌<◌, Bool, List, length, slice_get, option_map, Option, Some, None, Result, Ok, Err, refl, sym, ap, subst, false}
 use Rattle.std.specs.Prelude.{IsSome}
 use Rattle.std.proofs.lemmas.Option.{slice_get-map}
 use Rattle.rina_base.specs.declared.number.Key.{Key}
@@ -143,6 +143,7 @@ took_it d lines below at n p link tick bytes hop key end d' below' kept kept' lt
         routed = s.routed;
         managed = s.managed;
         connected = taking_connected (config_of d'.settings) d'.clock d'.connections (seen_of d').processes below link.port below' kept kept' passed s.connected;
+        flooded = s.flooded h.flooded;
       };
     }
 
@@ -161,13 +162,13 @@ ins_at d lines below node n at (Err NoIpc) d' lines' below' here ins = at_home (
 ins_at d lines below node n at (Err NoLink) d' lines' below' here ins = at_home (home node d.config.members) at (λ k. Ins d lines below k n (Err NoLink) d' lines' below') _ here ins
 
 -- and whether an allocation failed is noted
-pub takes_home : (d : Dif) (lines : List Direction) (below : Seen) (node n at : ℕ) (r r' : Result InStep StepError) (d' : Dif) (failed : Bool) (below' : Seen) → home node (config_of d.settings).members ≡ Some at → r' ≡ r → TakesIn d lines below at n r d' below' → TakesHome d lines below node n r' (record d' { failed = failed }) below'
-takes_home d lines below node n at r r' d' failed below' here same t =
+pub takes_home : (d : Dif) (lines : List Direction) (below : Seen) (node n at : ℕ) (r r' : Result InStep StepError) (d' : Dif) (failed : Bool) (below' : Seen) → d'.failed ≡ false → home node (config_of d.settings).members ≡ Some at → r' ≡ r → TakesIn d lines below at n r d' below' → TakesHome d lines below node n r' (record d' { failed = failed }) below'
+takes_home d lines below node n at r r' d' failed below' alive here same t =
     let does = ins_at (seen_of d) lines below node n at r (seen_of d') t.lines' below' here t.does in
     record {
       lines' = t.lines';
       does = subst (λ (v : Result InStep StepError). InsAt (seen_of d) lines below node n v (seen_of d') t.lines' below') (sym same) does;
-      holds = record { tied = t.holds.tied; standing = t.holds.standing; carrying = t.holds.carrying; numbered = t.holds.numbered; accounted = t.holds.accounted; caused = t.holds.caused; written_off = t.holds.written_off; housed = t.holds.housed; routed = t.holds.routed; managed = t.holds.managed; connected = t.holds.connected };
+      holds = record { tied = t.holds.tied; standing = t.holds.standing; carrying = t.holds.carrying; numbered = t.holds.numbered; accounted = t.holds.accounted; caused = t.holds.caused; written_off = t.holds.written_off; housed = t.holds.housed; routed = t.holds.routed; managed = t.holds.managed; connected = t.holds.connected; flooded = λ still. t.holds.flooded alive };
     }
 
 pub takes_none : (d : Dif) (lines : List Direction) (below : Seen) (node n : ℕ) → Holds d lines below → TakesHome d lines below node n (Err Memory) d below

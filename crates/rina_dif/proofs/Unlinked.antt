@@ -1,5 +1,5 @@
 -- A DIF that loses a link holds.
-use Rattle.std.proofs.Common.{◌≡◌, ◌∙◌, ℕ, ◌+◌, ◌<◌, ◌≤◌, ◌==◌, ◌&&◌, Bool, true, false, cond, List, [], ◌∷◌, get_or, length, map, slice_get, slice_set, set-set, Option, Some, None, Result, Ok, Err, refl, sym, ap, subst, arith, inl, inr}
+use Rattle.std.proofs.Common.{◌≡◌, ◌∙◌, ℕ, ◌<◌, ◌==◌, ◌&&◌, Bool, true, false, cond, List, [], ◌∷◌, get_or, length, map, slice_get, slice_set, set-set, Option, Some, None, Result, Ok, Err, refl, sym, ap, subst, arith, inl, inr}
 use Rattle.std.specs.Prelude.{IfSome, IsSome, OnErr, position}
 use Rattle.std.proofs.lemmas.Bool.{false≢true}
 use Rattle.std.proofs.lemmas.Option.{slice_get-get_or, slice_get_read, slice_get_within}
@@ -50,6 +50,7 @@ use Rattle.rina_channel.proofs.Frame.{other_pdus_stand}
 use Rattle.rina_channel.proofs.Leaving.{losing_leaves}
 use Rattle.rina_dif.specs.Connected.{AreConnected, channels_seen}
 use Rattle.rina_dif.proofs.Connected.{kept_by}
+use Rattle.rina_dif.proofs.Flooding.{lost_floods}
 
 same_some : {X : Type 0} (o : Option X) (a b : X) → o ≡ Some a → o ≡ Some b → a ≡ b
 same_some o a b h g = cc
@@ -159,6 +160,7 @@ link_lost d lines below at lost routes member p p' g g' is_member is is_g goes a
         routed = routed_after members plans d.processes at p p' lost.place link routes member h.routed is is_member new known;
         managed = managed_lost members plans d.clock d.processes d.managements at member p p' g g' lost.place link routes h.managed is_member is is_g there f.1.lost.live loss (ap (λ (z : Process). z.links) new) (ap (λ (z : Process). z.routes) new);
         connected = kept_by (config_of d.settings) d.clock d.connections (seen_of d).processes d'.processes below (λ may. losing_leaves (seen_of d) below at lost.number routes d' gone) h.connected;
+        flooded = λ alive. lost_floods d at lost.number member p g g' lost.place link h.managed h.connected.each is_member is is_g there f.1.lost.live (sym f.2) goes (h.flooded alive);
       };
     }
 
@@ -215,6 +217,7 @@ module _ (d : Dif) (lines : List Direction) (below : Seen) (at : ℕ) (lost : Lo
           lines = links.lines;
           tied = links.tied;
           standing = other_pdus_stand (channels_seen (config_of d.settings) d.clock d.connections) links.lines (seen_of d).processes (seen_of between).processes below links.standing leaves;
+          each = λ i n q live. links.each i n q (leaves.live i n q live);
         } in
         let there : ClosesOn (config_of d.settings) d.clock links.lines gone.loses.link.port then_closed.offs d.connections after.connections = subst (λ (port : Port). ClosesOn (config_of d.settings) d.clock links.lines port then_closed.offs d.connections after.connections) (sym first_lost.port_is) (then_closed.closes kept) in
         subst (ClosesOn (config_of d.settings) d.clock links.lines gone.loses.link.port then_closed.offs d.connections) (sym same) there);

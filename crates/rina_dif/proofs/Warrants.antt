@@ -1,5 +1,5 @@
 -- Whatever a call of a DIF writes off, it may write off.
-use Rattle.std.proofs.Common.{◌≡◌, ◌∙◌, ℕ, List, [], slice_get, slice_set, set-set, Option, Some, None, Result, Ok, Err, refl, sym, ap, subst, arith, inl, inr}
+use Rattle.std.proofs.Common.{◌≡◌, ◌∙◌, ℕ, List, [], map, slice_get, set-set, Option, Some, None, Result, Ok, Err, refl, sym, ap, subst, arith, inl, inr}
 use Rattle.rina_account.specs.declared.ledger.Off.{Off}
 use Rattle.rina_base.specs.declared.cause.Cause.{Cause}
 use Rattle.rina_base.specs.declared.cause.Cause.TheVariants as causes
@@ -37,12 +37,13 @@ use Rattle.rina_law.specs.Lists.{In}
 use Rattle.rina_dif_law.proofs.Accounting.{lost_accounted}
 use Rattle.rina_dif_law.proofs.Linkless.{lost_carries, lost_numbered, lost_stands}
 use Rattle.rina_dif_law.proofs.Warranted.{acknowledged_noted, ended_noted, failed_noted, forgotten_noted, ins_noted, lost_noted, offers_noted, outs_noted, passed_noted, resent_noted}
-use Rattle.rina_dif_law.proofs.Writing.{IsNoted, noted_as, noted_on, ports_same, process_noted, quiet_noted, same_noted, writes}
+use Rattle.rina_dif_law.proofs.Writing.{IsNoted, kept_noted, line_noted, noted_as, noted_on, ports_same, process_noted, quiet_noted, same_noted, writes}
 use Rattle.rina_channel.specs.FlowLaws.{FlowsStand, HasNoZero}
 use Rattle.rina_dif.proofs.Closing.{closes_held, closes_lines, noted_stand}
 use Rattle.rina_dif.proofs.Cutting.{after_loss}
+use Rattle.rina_ids.specs.Members.{CepIds}
 use Rattle.rina_dif.specs.declared.dif.Dif.{Dif}
-use Rattle.rina_dif.specs.Clocking.{ClockSteps, ClockStepsAt, Steps, StepsFlow, StepsLost, StepsOk}
+use Rattle.rina_dif.specs.Clocking.{ClockSteps, ClockStepsAt, Serves, Steps, StepsFlow, StepsLost, StepsOk}
 use Rattle.rina_dif.specs.Facade.{PassesAt}
 use Rattle.rina_dif.specs.Freeing.{FreesAt, FreesEnd}
 use Rattle.rina_dif.specs.Holding.{Holds}
@@ -50,7 +51,24 @@ use Rattle.rina_dif.specs.Sending.{SendsAt}
 use Rattle.rina_dif.specs.Shown.{seen_of}
 use Rattle.rina_dif.specs.Steps.{AtHome, OutsAt}
 use Rattle.rina_dif.specs.Taking.{InsAt, TakesHome}
-use Rattle.rina_dif.specs.WriteOffs.{MayByClock}
+use Rattle.rina_dif.specs.WriteOffs.{MayByClock, MayFillOff}
+use Rattle.rina_dif.specs.Connected.{channels_seen}
+use Rattle.rina_dif.specs.Holding.{LinksStand}
+use Rattle.rina_dif.specs.LinkSteps.{DoesLink}
+use Rattle.rina_dif.proofs.Forgotten.{gone_lines}
+use Rattle.rina_base.specs.declared.pdu.Pdu.{Pdu}
+use Rattle.rina_channel.specs.declared.channel.Channel.{Channel}
+use Rattle.rina_channel.specs.Changes.{PostsOn}
+use Rattle.rina_channel.specs.Ledgers.{unnamed_line}
+use Rattle.rina_channel.specs.Names.{names_at}
+use Rattle.rina_data.specs.Queueing.{line_for}
+use Rattle.rina_dif_law.specs.Ids.{Ids}
+use Rattle.rina_dif_law.proofs.Finding.{beside}
+use Rattle.rina_flows.specs.declared.flows.Flows.{Flows}
+use Rattle.rina_flows.specs.Tied.{conns_of}
+
+same_some : {X : Type 0} (o : Option X) (a b : X) → o ≡ Some a → o ≡ Some b → a ≡ b
+same_some o a b h g = cc
 
 -- at the IPC process of a node, or nothing is done
 by_home : (P : Type 0) (o : Option ℕ) (does : ℕ → Type 0) (refuses : Type 0) → ((i : ℕ) → does i → P) → (refuses → P) → AtHome o does refuses → P
@@ -129,7 +147,7 @@ lost_with_noted d lines below node number d' h s =
     let mid : FlowsStand w.between lines below = record { zero = subst (λ (g : Config). HasNoZero g) (ap (λ (z : DifSeen). z.config) (sym gone.new_is)) links.may.zero; stands = st; numbered = numbered; carrying = lost_carries (seen_of d) lines below s.i number routes w.between h.carrying gone; accounted = lost_accounted (seen_of d) lines below s.i number routes w.between h.accounted gone } in
     let n : FlowsStand lost lines below = subst (λ (z : DifSeen). FlowsStand z lines below) new (noted_stand w.between lines below s.i process w.offs there (closes_lines (config_of d.settings) d.clock d.connections d'.connections (seen_of d).processes below links port w.offs closes) mid) in
     noted_on holds (seen_of d) lost (seen_of d') (noted_on holds (seen_of d) w.between lost first closed) (elim w.fails [
-      | inl f ↦ noted_as (MayFailOff lost lines below node port) holds lost (seen_of d') (λ i off m. inr (inr (record { place = s.i; number = number; d' = d'; loses = w; may = m }))) (failed_noted lost lines below node port (seen_of d') n.stands n.numbered f.1)
+      | inl f ↦ noted_as (MayFailOff lost lines below node port) holds lost (seen_of d') (λ i off m. inr (inr (inl (record { place = s.i; number = number; d' = d'; loses = w; may = m })))) (failed_noted lost lines below node port (seen_of d') n.stands n.numbered f.1)
       | inr k ↦ same_noted holds lost (seen_of d') k.1
     ])
 
@@ -144,16 +162,59 @@ flow_noted d lines below node (step.LinkNew link) new lines' h s = absurd s
 flow_noted d lines below node (step.Timeout port) new lines' h s = absurd s
 flow_noted d lines below node (step.Message link) new lines' h s = absurd s
 
+-- a management connection puts a PDU into the queue of its link, or finds that full
+posts_noted : (d : Dif) (lines : List Direction) (below : Seen) (node k : ℕ) (channel : Channel) (mpl : ℕ) (pdu : Pdu) (cause : Option Cause) (new : DifSeen) → slice_get d.connections.channels k ≡ Some channel → pdu.src ≡ 0 → pdu.scep ≡ 0 → new ≡ record (seen_of d) { processes = new.processes } → PostsOn (config_of d.settings).cap d.clock mpl (seen_of d).processes channel pdu cause new.processes → IsNoted (MayByClock d lines below node) (seen_of d) new
+posts_noted d lines below node k channel mpl pdu None new stands src scep same s =
+    kept_noted (MayByClock d lines below node) (seen_of d) new channel.member s.process _ (same ∙ ap (λ (ps : List Process). record (seen_of d) { processes = ps }) s.new_is) s.is_of.is_process refl refl
+posts_noted d lines below node k channel mpl pdu (Some cause) new stands src scep same s =
+    let f = s.1 in
+    let may : MayFillOff d channel.member (line_for pdu cause) = record { place = k; channel = channel; stands = stands; member = refl; process = f.process; at = f.place; queue = f.queue; is_of = f.is_of; full = f.full; src = src; scep = scep; cause_is = s.0 } in
+    line_noted (MayByClock d lines below node) (seen_of d) new channel.member f.process _ (line_for pdu cause) (same ∙ ap (λ (ps : List Process). record (seen_of d) { processes = ps }) f.new_is) f.is_of.is_process refl refl (inr (inr (inr may)))
+
+link_ids : (d : Dif) (below : Seen) (k : ℕ) (ids : Ids) → LinksStand d below → slice_get (conns_of d.connections.flows.conns) k ≡ Some ids → ids.scep ≡ 0
+link_ids d below k ids links is =
+    let m = channels_seen (config_of d.settings) d.clock d.connections in
+    let c = beside m.ids m.channels k ids (links.standing.channels.alike ∙ sym links.standing.own.alike) is in
+    ap (λ (z : Ids). z.scep) (same_some (slice_get m.ids k) ids (names_at k c.0.partner) is (links.standing.channels.names k c.0 c.1))
+
+-- it does what is due, and writes lines of its link
+link_noted : (d : Dif) (lines : List Direction) (below : Seen) (node i place : ℕ) (done : ClockStep) (new : DifSeen) (flows' : Flows) (h : Holds d lines below) → new ≡ record (seen_of d) { processes = new.processes } → DoesLink d h.connected.lines i place done new flows' → IsNoted (MayByClock d lines below node) (seen_of d) new
+link_noted d lines below node i place (step.Gone cep) new flows' h same s =
+    let f = s.1 in
+    let m = channels_seen (config_of d.settings) d.clock d.connections in
+    let member = beside (seen_of d).processes (seen_of d).config.members i f.process (sym h.standing.aligned) f.is_process in
+    process_noted (MayByClock d lines below node) (seen_of d) new i f.process (with_offs f.process (map unnamed_line f.held)) (map unnamed_line f.held) f.written f.is_process refl
+    (λ off one. inl (record { member = member.0; process = f.process; is_process = record { is_member = member.1; is_process = f.is_process }; may = inr (gone_lines m h.connected.lines (seen_of d).processes below place f.held f.links' h.connected.standing f.forgets off one) }))
+    (ports_same f.process.links f.process.links refl)
+link_noted d lines below node i place (step.Ack cep) new flows' h same s =
+    let a = s.1.acknowledged in
+    posts_noted d lines below node place a.channel a.cube.mpl _ s.1.cause new a.is_end.stands refl (link_ids d below place a.ids h.connected a.is_end.is_conn.ids_are) same a.posted
+link_noted d lines below node i place (step.Again num) new flows' h same s =
+    let a = s.resent in
+    posts_noted d lines below node place a.channel a.cube.mpl _ s.cause new a.is_end.stands refl (link_ids d below place a.ids h.connected a.is_end.is_conn.ids_are) same a.posted
+link_noted d lines below node i place step.Idle new flows' h same s = absurd s
+link_noted d lines below node i place (step.GaveUp num) new flows' h same s = absurd s
+link_noted d lines below node i place (step.LinkLost link) new flows' h same s = absurd s
+link_noted d lines below node i place (step.LinkNew link) new flows' h same s = absurd s
+link_noted d lines below node i place (step.Timeout port) new flows' h same s = absurd s
+link_noted d lines below node i place (step.Message link) new flows' h same s = absurd s
+
+serves_noted : (d : Dif) (lines : List Direction) (below : Seen) (node : ℕ) (done : ClockStep) (d' : Dif) (lines' : List Direction) → Holds d lines below → Serves d lines below node done d' lines' → IsNoted (MayByClock d lines below node) (seen_of d) (seen_of d')
+serves_noted d lines below node done d' lines' h (inl flow) = flow_noted d lines below node done (seen_of d') lines' h flow.does
+serves_noted d lines below node done d' lines' h (inr link) =
+    let x = link.0.does h.connected in
+    link_noted d lines below node link.0.i x.place done (seen_of d') d'.connections.flows h (ap seen_of link.0.only) x.does
+
 steps_noted : (d : Dif) (lines : List Direction) (below : Seen) (node : ℕ) (done : ClockStep) (d' : Dif) (lines' : List Direction) → Holds d lines below → Steps d lines below node done d' lines' → IsNoted (MayByClock d lines below node) (seen_of d) (seen_of d')
+steps_noted d lines below node step.Idle d' lines' h s = serves_noted d lines below node step.Idle d' lines' h s.1
+steps_noted d lines below node (step.Gone cep) d' lines' h s = serves_noted d lines below node (step.Gone cep) d' lines' h s.1
+steps_noted d lines below node (step.GaveUp num) d' lines' h s = serves_noted d lines below node (step.GaveUp num) d' lines' h s.1
+steps_noted d lines below node (step.Ack cep) d' lines' h s = serves_noted d lines below node (step.Ack cep) d' lines' h s.1
+steps_noted d lines below node (step.Again num) d' lines' h s = serves_noted d lines below node (step.Again num) d' lines' h s.1
 steps_noted d lines below node (step.LinkLost link) d' lines' h s = lost_with_noted d lines below node link d' h s.0
-steps_noted d lines below node step.Idle d' lines' h s = flow_noted d lines below node step.Idle (seen_of d') lines' h s.1
-steps_noted d lines below node (step.Gone cep) d' lines' h s = flow_noted d lines below node (step.Gone cep) (seen_of d') lines' h s.1
-steps_noted d lines below node (step.GaveUp num) d' lines' h s = flow_noted d lines below node (step.GaveUp num) (seen_of d') lines' h s.1
-steps_noted d lines below node (step.Ack cep) d' lines' h s = flow_noted d lines below node (step.Ack cep) (seen_of d') lines' h s.1
-steps_noted d lines below node (step.Again num) d' lines' h s = flow_noted d lines below node (step.Again num) (seen_of d') lines' h s.1
-steps_noted d lines below node (step.LinkNew link) d' lines' h s = absurd s.1
-steps_noted d lines below node (step.Timeout port) d' lines' h s = absurd s.1
-steps_noted d lines below node (step.Message link) d' lines' h s = absurd s.1
+steps_noted d lines below node (step.LinkNew link) d' lines' h s = serves_noted d lines below node (step.LinkNew link) d' lines' h s.1
+steps_noted d lines below node (step.Timeout port) d' lines' h s = serves_noted d lines below node (step.Timeout port) d' lines' h s.1
+steps_noted d lines below node (step.Message link) d' lines' h s = serves_noted d lines below node (step.Message link) d' lines' h s.1
 
 clocks_noted : (d : Dif) (lines : List Direction) (below : Seen) (node : ℕ) (r : Result ClockStep StepError) (d' : Dif) (lines' : List Direction) → Holds d lines below → ClockStepsAt d lines below node r d' lines' → IsNoted (MayByClock d lines below node) (seen_of d) (seen_of d')
 clocks_noted d lines below node (Err Memory) d' lines' h s = same_noted _ (seen_of d) (seen_of d') s.0
@@ -166,15 +227,15 @@ clocks_write d lines below node r d' below' h s = writes _ (seen_of d) (seen_of 
 
 -- ---- a flow is freed
 
-restated : (d d' : DifSeen) (lines : List Direction) (below : Seen) (ends : List End) → d' ≡ record d { ends = ends } → IsNoted (MayWriteOff d lines below NoPort) d d'
-restated d d' lines below ends is = subst (IsNoted (MayWriteOff d lines below NoPort) d) (sym is) (quiet_noted _ d (record d { ends = ends }) refl refl (omega arith) (λ k ids at. at) refl)
+restated : (d d' : DifSeen) (lines : List Direction) (below : Seen) (ends : List End) (held : List CepIds) → d' ≡ record d { ends = ends; ids = held } → IsNoted (MayWriteOff d lines below NoPort) d d'
+restated d d' lines below ends held is = subst (IsNoted (MayWriteOff d lines below NoPort) d) (sym is) (quiet_noted _ d (record d { ends = ends; ids = held }) refl refl (omega arith) (λ k ids at. at) refl)
 
 frees_end : (state : PortState) (d : DifSeen) (lines : List Direction) (below : Seen) (at : ℕ) (end : End) (d' : DifSeen) → IsStanding d lines below → IsNumbered d below → FreesEnd state d lines at end d' → IsNoted (MayWriteOff d lines below NoPort) d d'
 frees_end Allocated d lines below at end d' st numbered s = ended_noted d lines below at Closed d' st numbered s
-frees_end Pending d lines below at end d' st numbered s = restated d d' lines below _ s
-frees_end (Refused why) d lines below at end d' st numbered s = restated d d' lines below _ s
-frees_end (Failed fail) d lines below at end d' st numbered s = restated d d' lines below _ s
-frees_end Closed d lines below at end d' st numbered s = restated d d' lines below _ s
+frees_end Pending d lines below at end d' st numbered s = restated d d' lines below _ s.held s.new_is
+frees_end (Refused why) d lines below at end d' st numbered s = restated d d' lines below _ d.ids s
+frees_end (Failed fail) d lines below at end d' st numbered s = restated d d' lines below _ d.ids s
+frees_end Closed d lines below at end d' st numbered s = restated d d' lines below _ d.ids s
 
 frees_noted : (d : Dif) (lines : List Direction) (below : Seen) (at : Option ℕ) (r : Result (Unit {0}) FreeError) (d' : Dif) → Holds d lines below → FreesAt at d lines below r d' → IsNoted (MayWriteOff (seen_of d) lines below NoPort) (seen_of d) (seen_of d')
 frees_noted d lines below (Some at) (Ok done) d' h s = frees_end s.end.state (seen_of d) lines below at s.end (seen_of d') h.standing h.numbered s.frees

@@ -58,10 +58,11 @@ pub record IsNoMessage (d : Dif) (node : ℕ) (bytes : List ℕ) (error : CdapEr
   pub fault : Faulty error bytes
   pub told : is_memory error ≡ false
 
--- nothing but the objects of members may change
+-- nothing but the objects of members may change, and whether an allocation has failed: one that had failed has failed still
 pub record KeepsAll (d d' : Dif) : Type 0 where
   pub is : d' ≡ record d { managements = d'.managements; failed = d'.failed }
   pub agents : agents_of d'.managements ≡ agents_of d.managements
+  pub alive : d'.failed ≡ false → d.failed ≡ false
 
 -- bytes are answered, or their first fault is told; memory can be missing where an allocation failed before, or there is a
 -- member that answers

@@ -1,8 +1,9 @@
 -- A flow that the stack fixes, at a DIF.
-use Rattle.std.specs.Prelude.{◌≡◌, ◌≢◌, ℕ, List, [], ◌∷◌, ◌++◌, Some, Result, Ok, Err}
+use Rattle.std.specs.Prelude.{◌≡◌, ◌≢◌, ℕ, true, List, [], ◌∷◌, ◌++◌, Some, Result, Ok, Err}
 use Rattle.rina_base.specs.declared.number.Port.{Port}
 use Rattle.rina_conn.specs.declared.form.Peer.{Peer}
 use Rattle.rina_cube.specs.declared.Cube.{Cube}
+use Rattle.rina_ids.specs.Members.{CepIds, DrawsAt, with_drawn}
 use Rattle.rina_iface.specs.declared.ask.Fixed.{Fixed}
 use Rattle.rina_iface.specs.declared.ends.End.{End}
 use Rattle.rina_iface.specs.declared.error.AllocateError.{AllocateError}
@@ -37,9 +38,21 @@ pub record MayBind (d : Dif) (fixed : Fixed) : Type 0 where
 abbrev pub SomeDraws : Dif → ℕ → Type 0
 SomeDraws d node = (member : Member) × MayDraw (seen_of d) node member
 
--- its address, and the port that is drawn next at its node
+-- its place, its address, and the port and the CEP-id that are drawn next there
+pub record IsNext (d : Dif) (node : ℕ) (drawn : NextEnd) (member : Member) (may : MayDraw (seen_of d) node member) : Type 0 where
+  pub place : drawn.place ≡ may.place
+  pub addr : drawn.addr ≡ member.addr
+  pub port : drawn.port ≡ next_port (fac_of (seen_of d)) d.settings.fac node
+  pub cep : DrawsAt d.ids d.clock drawn.place drawn.cep
+
 abbrev pub Draws : Dif → ℕ → NextEnd → Type 0
-Draws d node drawn = (member : Member) → MayDraw (seen_of d) node member → (drawn.addr ≡ member.addr) × (drawn.port ≡ next_port (fac_of (seen_of d)) d.settings.fac node)
+Draws d node drawn = (member : Member) (may : MayDraw (seen_of d) node member) → IsNext d node drawn member may
+
+-- two members have drawn the CEP-ids of both ends
+pub record HaveDrawn (held : List CepIds) (now : ℕ) (places : ℕ × ℕ) (peer : Peer) (after : List CepIds) : Type 0 where
+  pub a : DrawsAt held now places.0 peer.scep
+  pub b : DrawsAt held now places.1 peer.dcep
+  pub after_is : after ≡ with_drawn places.1 b.ids peer.dcep (with_drawn places.0 a.ids peer.scep held)
 
 -- both ends of a flow stand behind the flows, with connections of the cube of this id
 pub record AddsFlow (settings : Settings) (id : ℕ) (peer : Peer) (asker far : End) (old new : Flows) : Type 0 where
@@ -55,6 +68,11 @@ pub record BindsAt (d : Dif) (lines : List Direction) (below : Seen) (fixed : Fi
   pub a_port : ports.0 ≡ next_port (fac_of (seen_of d)) fixed.fac fixed.a
   pub b_port : ports.1 ≡ next_port (fac_of (seen_of d)) fixed.fac fixed.b
   pub holds : Holds d' lines' below
+
+-- the DIF after a call, once it is noted where an allocation failed in it
+abbrev pub noting : {T E : Type 0} → Result T E → Dif → Dif
+noting (Ok done) d = d
+noting (Err e) d = record d { failed = true }
 
 -- what `bind` does: it refuses nothing, and only an allocation may fail
 abbrev pub BindsTo : Dif → List Direction → Seen → Fixed → Result (Port × Port) AllocateError → Dif → Type 0

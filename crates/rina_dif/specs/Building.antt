@@ -4,6 +4,8 @@ use Rattle.rina_base.specs.declared.number.Port.{Port}
 use Rattle.rina_iface.specs.declared.ends.End.{End}
 use Rattle.rina_iface.specs.Seen.{Seen, end_of}
 use Rattle.rina_cube.specs.declared.Cube.{Cube}
+use Rattle.rina_ids.specs.Members.{AreUndrawn}
+use Rattle.rina_pci.specs.Spelling.{AreWidths}
 use Rattle.rina_queue.specs.Queues.{AreIds}
 use Rattle.rina_data.specs.declared.process.IpcProcess.{IpcProcess}
 use Rattle.rina_data.specs.declared.settings.Settings.{Settings}
@@ -33,10 +35,11 @@ pub record AreBare (settings : Settings) (processes : List IpcProcess) : Type 0 
   pub aligned : length processes ≡ length settings.members
   pub each : (i : ℕ) (p : IpcProcess) → slice_get processes i ≡ Some p → IsBare settings p
 
--- a DIF without links, their management connections, flows and names
+-- a DIF without links, their management connections, flows and names, where no member ever drew a CEP-id
 pub record IsBareDif (d : Dif) : Type 0 where
   pub processes : AreBare d.settings d.processes
   pub ends : d.flows.journal.ends ≡ []
+  pub ids : AreWidths d.settings.widths → AreUndrawn d.settings.widths.cep (length d.settings.members) d.ids
   pub conns : d.flows.conns ≡ []
   pub waiting : d.waiting.items ≡ []
   pub names : d.names ≡ []

@@ -12,6 +12,7 @@ use Rattle.rina_data.specs.declared.step.ClockStep.TheVariants as step
 use Rattle.rina_data.specs.declared.step.StepError.{StepError}
 use Rattle.rina_flows.specs.declared.flows.Flows.{Flows}
 use Rattle.rina_flows.specs.Stopping.{is_here}
+use Rattle.rina_ids.specs.Members.{DrawsAt}
 use Rattle.rina_iface.specs.declared.ask.Fixed.{Fixed}
 use Rattle.rina_iface.specs.declared.ends.End.{End}
 use Rattle.rina_iface.specs.declared.error.AllocateError.{AllocateError}
@@ -45,15 +46,19 @@ without_flow_at at cep ms = changed_at at (λ m. without_flow m cep) ms
 -- A flow is bound
 
 -- every member takes the entry of the far application, at the address of its member, and then each of the two members shows the
--- object of its end
-pub record ManagesBind (d : Dif) (fixed : Fixed) (ports : Port × Port) (new : List Management) : Type 0 where
+-- object of its end, which has the CEP-id that it draws
+pub record ManagesBind (d : Dif) (fixed : Fixed) (new : List Management) : Type 0 where
   pub a : ℕ
   pub at_a : home_of d fixed.a ≡ Some a
   pub b : ℕ
   pub at_b : home_of d fixed.b ≡ Some b
   pub far : Member
   pub is_far : slice_get d.settings.members b ≡ Some far
-  pub are : new ≡ with_flow_at b ports.1.n (with_flow_at a ports.0.n (map (entered fixed.b_app far.addr) d.managements))
+  pub scep : ℕ
+  pub draws_a : DrawsAt d.ids d.clock a scep
+  pub dcep : ℕ
+  pub draws_b : DrawsAt d.ids d.clock b dcep
+  pub are : new ≡ with_flow_at b dcep (with_flow_at a scep (map (entered fixed.b_app far.addr) d.managements))
 
 -- each member has its management still, whatever objects it shows; its agent is as before, or took the entry of an application at an
 -- address
@@ -67,7 +72,7 @@ MayHoldFar d fixed new = (b : ℕ) (far : Member) → home_of d fixed.b ≡ Some
 
 -- what `bind` does; where an allocation failed, the agent of each member is as before, or holds the entry of the far application
 abbrev pub BindsManaged : Result (Port × Port) AllocateError → Dif → Fixed → List Management → Type 0
-BindsManaged (Ok ports) d fixed new = ManagesBind d fixed ports new
+BindsManaged (Ok ports) d fixed new = ManagesBind d fixed new
 BindsManaged (Err e) d fixed new = MayHoldFar d fixed new
 
 -- An end is allocated no more

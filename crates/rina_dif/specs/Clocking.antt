@@ -1,5 +1,5 @@
 -- The clock steps of a DIF.
-use Rattle.std.specs.Prelude.{◌≡◌, ◌≢◌, ℕ, ◌+◌, ◌*◌, ◌<◌, ◌≤◌, ◌⊎◌, nat_le, true, if◌then◌else◌, List, length, slice_get, Option, Some, None, Result, Ok, Err}
+use Rattle.std.specs.Prelude.{◌≡◌, ◌≢◌, ℕ, ◌+◌, ◌*◌, ◌<◌, ◌≤◌, ◌⊎◌, nat_le, true, if◌then◌else◌, List, length, slice_get, Option, Some, None, option_map, Result, Ok, Err}
 use Rattle.rina_base.specs.declared.cause.Cause.{Cause}
 use Rattle.rina_conn.specs.declared.conn.Conn.{Conn}
 use Rattle.rina_cube.specs.declared.Cube.{Cube}
@@ -29,6 +29,7 @@ use Rattle.rina_dif_law.specs.Standing.{IsConn}
 use Rattle.rina_dif_law.specs.Timely.{IsAcknowledged, IsForgotten, IsResent}
 use Rattle.rina_flows.specs.declared.due.Item.{Item}
 use Rattle.rina_flows.specs.declared.due.Item.TheVariants.{Ack, Again, GiveUp, Gone}
+use Rattle.rina_flows.specs.declared.flows.Flows.{Flows}
 use Rattle.rina_flows.specs.Calls.{Tells}
 use Rattle.rina_flows.specs.Tied.{conns_of}
 use Rattle.rina_flows.specs.Timely.{IsDue}
@@ -37,7 +38,10 @@ use Rattle.rina_dif.specs.declared.clock_steps.Next.{Next}
 use Rattle.rina_dif.specs.declared.clock_steps.Turn.{Turn}
 use Rattle.rina_dif.specs.declared.dif.Dif.{Dif}
 use Rattle.rina_dif.specs.Elsewhere.{home_of}
-use Rattle.rina_dif.specs.Holding.{Holds}
+use Rattle.rina_dif.specs.declared.links_due.NextLink.{NextLink}
+use Rattle.rina_dif.specs.Holding.{Holds, LinksStand}
+use Rattle.rina_dif.specs.LinkDue.{IsLinkTurn, NoLinkUpTo}
+use Rattle.rina_dif.specs.LinkSteps.{DoesLink}
 use Rattle.rina_dif.specs.Shown.{seen_of}
 use Rattle.rina_dif.specs.Steps.{AtHome}
 use Rattle.rina_dif.specs.Unlinking.{HasFailed, LosesWith}
@@ -146,17 +150,20 @@ StepsFlow d lines node (step.Ack cep) new lines' = StepsAck d lines node cep new
 StepsFlow d lines node (step.Again num) new lines' = StepsAgain d lines node num.cep num.seq new lines'
 StepsFlow d lines node other new lines' = ⊥
 
--- and the DIF holds after it
-pub record HasSteppedFlow (d : Dif) (lines : List Direction) (below : Seen) (node : ℕ) (done : ClockStep) (d' : Dif) : Type 0 where
+-- what is done, and the DIF holds after it
+pub record HasDone (Does : Dif → List Direction → Type 0) (below : Seen) (d' : Dif) : Type 0 where
   pub lines' : List Direction
-  pub does : StepsFlow d lines node done (seen_of d') lines'
+  pub does : Does d' lines'
   pub holds : Holds d' lines' below
 
 -- or memory was not found
+abbrev pub DoneHere : (ClockStep → Dif → List Direction → Type 0) → Dif → List Direction → Seen → Result ClockStep StepError → Dif → Type 0
+DoneHere Does d lines below (Ok done) d' = HasDone (Does done) below d'
+DoneHere Does d lines below (Err Memory) d' = (seen_of d' ≡ seen_of d) × Holds d' lines below
+DoneHere Does d lines below (Err other) d' = ⊥
+
 abbrev pub StepsFlowHere : Dif → List Direction → Seen → ℕ → Result ClockStep StepError → Dif → Type 0
-StepsFlowHere d lines below node (Ok done) d' = HasSteppedFlow d lines below node done d'
-StepsFlowHere d lines below node (Err Memory) d' = (seen_of d' ≡ seen_of d) × Holds d' lines below
-StepsFlowHere d lines below node (Err other) d' = ⊥
+StepsFlowHere d lines below node result d' = DoneHere (λ done z lines'. StepsFlow d lines node done (seen_of z) lines') d lines below result d'
 
 -- What is done at the links
 
@@ -170,24 +177,69 @@ pub record StepsLost (d : Dif) (lines : List Direction) (below : Seen) (node num
   pub at_home : home node (config_of d.settings).members ≡ Some i
   pub loses : LosesWith d lines below i node number d'
 
+-- Links before flows
+
+-- the item has its turn at a link of the IPC process of place i, at this node: none is due before it, at a link or at a flow
+pub record IsLinkFirst (item : Item) (d : Dif) (lines links : List Direction) (i node place number : ℕ) : Type 0 where
+  pub turn : IsLinkTurn item d links i place number
+  pub flows : NoneBefore item d lines node
+
+-- the item that a step tells of
+abbrev pub item_of : ClockStep → Option Item
+item_of (step.Gone cep) = Some Gone
+item_of (step.GaveUp num) = Some GiveUp
+item_of (step.Ack cep) = Some Ack
+item_of (step.Again num) = Some Again
+item_of other = None
+
+-- no link goes before a flow that does this item: at none is an item due up to it. Where the flows do none, nothing is due at a link
+abbrev pub NoLinkFirst : Option Item → Dif → List Direction → ℕ → Type 0
+NoLinkFirst (Some item) d links i = NoLinkUpTo item d links i
+NoLinkFirst None d links i = NoLinkUpTo Again d links i
+
+-- the link that goes before the flows, or that none does
+abbrev pub FindsLinkFirst : Dif → List Direction → List Direction → ℕ → ℕ → Option NextLink → Type 0
+FindsLinkFirst d lines links i node (Some next) = IsLinkFirst next.item d lines links i node next.turn.place next.turn.number
+FindsLinkFirst d lines links i node None = (flow : Option Next) → FindsNext d lines node flow → NoLinkFirst (option_map (λ (n : Next). n.item) flow) d links i
+
+-- a flow is served, or nothing is due, and no link goes first
+pub record ServesFlow (d : Dif) (lines : List Direction) (below : Seen) (node : ℕ) (done : ClockStep) (d' : Dif) (lines' : List Direction) : Type 0 where
+  pub does : StepsFlow d lines node done (seen_of d') lines'
+  pub same : d'.connections ≡ d.connections
+  pub first : (i : ℕ) → home node (config_of d.settings).members ≡ Some i → (links : LinksStand d below) → NoLinkFirst (item_of done) d links.lines i
+
+-- the management connection of the link that goes first does what is due there
+pub record IsLinkStep (d : Dif) (lines links : List Direction) (i node : ℕ) (done : ClockStep) (new : DifSeen) (flows' : Flows) : Type 0 where
+  pub item : Item
+  pub told : item_of done ≡ Some item
+  pub place : ℕ
+  pub number : ℕ
+  pub first : IsLinkFirst item d lines links i node place number
+  pub does : DoesLink d links i place done new flows'
+
+-- a link is served, whichever directions stand behind the management connections: an IPC process changes, and these connections
+pub record ServesLink (d : Dif) (lines : List Direction) (below : Seen) (node : ℕ) (done : ClockStep) (d' : Dif) : Type 0 where
+  pub i : ℕ
+  pub at_home : home node (config_of d.settings).members ≡ Some i
+  pub only : d' ≡ record d { processes = d'.processes; connections = record d.connections { flows = d'.connections.flows }; failed = d'.failed }
+  pub does : (links : LinksStand d below) → IsLinkStep d lines links.lines i node done (seen_of d') d'.connections.flows
+
+-- the one or the other
+abbrev pub Serves : Dif → List Direction → Seen → ℕ → ClockStep → Dif → List Direction → Type 0
+Serves d lines below node done d' lines' = ServesFlow d lines below node done d' lines' ⊎ (ServesLink d lines below node done d' × (lines' ≡ lines))
+
+abbrev pub ServesHere : Dif → List Direction → Seen → ℕ → Result ClockStep StepError → Dif → Type 0
+ServesHere d lines below node result d' = DoneHere (Serves d lines below node) d lines below result d'
+
 -- What is done first
 
--- a link that is lost comes before all that is due at the flows
+-- a link that is lost comes before all that is due
 abbrev pub Steps : Dif → List Direction → Seen → ℕ → ClockStep → Dif → List Direction → Type 0
 Steps d lines below node (step.LinkLost link) d' lines' = StepsLost d lines below node link d' × (lines' ≡ lines)
-Steps d lines below node done d' lines' = NoneLostAt d below node × StepsFlow d lines node done (seen_of d') lines' × (d'.connections ≡ d.connections)
+Steps d lines below node done d' lines' = NoneLostAt d below node × Serves d lines below node done d' lines'
 
--- and the DIF holds after it
-pub record HasStepped (d : Dif) (lines : List Direction) (below : Seen) (node : ℕ) (done : ClockStep) (d' : Dif) : Type 0 where
-  pub lines' : List Direction
-  pub does : Steps d lines below node done d' lines'
-  pub holds : Holds d' lines' below
-
--- or memory was not found
 abbrev pub StepsHere : Dif → List Direction → Seen → ℕ → Result ClockStep StepError → Dif → Type 0
-StepsHere d lines below node (Ok done) d' = HasStepped d lines below node done d'
-StepsHere d lines below node (Err Memory) d' = (seen_of d' ≡ seen_of d) × Holds d' lines below
-StepsHere d lines below node (Err other) d' = ⊥
+StepsHere d lines below node result d' = DoneHere (Steps d lines below node) d lines below result d'
 
 -- at the IPC process of this node
 abbrev pub StepsOk : Dif → List Direction → Seen → ℕ → Result ClockStep StepError → Dif → List Direction → Type 0

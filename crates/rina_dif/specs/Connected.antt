@@ -1,6 +1,8 @@
 -- When the management connections of a DIF's links stand.
-use Rattle.std.specs.Prelude.{ℕ, List}
-use Rattle.rina_channel.specs.Channels.{ChannelsSeen, seen_of}
+use Rattle.std.specs.Prelude.{◌≡◌, ℕ, List, slice_get, Some}
+use Rattle.rina_base.specs.declared.number.Port.{Port}
+use Rattle.rina_channel.specs.declared.channel.Channel.{Channel}
+use Rattle.rina_channel.specs.Channels.{ChannelsSeen, HasLive, seen_of}
 use Rattle.rina_channel.specs.FlowLaws.{HasNoZero}
 use Rattle.rina_channel.specs.Names.{link_config}
 use Rattle.rina_channel.specs.Standing.{IsManaged, IsStanding}
@@ -21,9 +23,22 @@ pub record CanManage (g : Config) (manage : Cube) : Type 0 where
   pub managed : IsManaged g manage
   pub zero : HasNoZero g
 
--- they stand on the rank below: the DIF can have them, and directions stand behind them, to which they are tied
+-- the link of this number of the IPC process of place i has its channel
+pub record HasConnection (channels : List Channel) (i number : ℕ) : Type 0 where
+  pub place : ℕ
+  pub channel : Channel
+  pub is_channel : slice_get channels place ≡ Some channel
+  pub member_is : channel.member ≡ i
+  pub number_is : channel.number ≡ number
+
+-- so has each live link
+abbrev pub LinksAreConnected : List Channel → List Process → Type 0
+LinksAreConnected channels processes = (i number : ℕ) (port : Port) → HasLive processes i number port → HasConnection channels i number
+
+-- they stand on the rank below: the DIF can have them, directions stand behind them, to which they are tied, and each live link has one
 pub record AreConnected (g : Config) (now : ℕ) (c : Connections) (processes : List Process) (below : Seen) : Type 0 where
   pub may : CanManage g c.manage
   pub lines : List Direction
   pub tied : AreTied (link_config g c.manage) now c.flows lines
   pub standing : IsStanding (channels_seen g now c) lines processes below
+  pub each : LinksAreConnected c.channels processes

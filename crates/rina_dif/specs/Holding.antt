@@ -1,5 +1,5 @@
 -- What holds of a DIF at every moment.
-use Rattle.std.specs.Prelude.{◌≡◌, ℕ, true, List, slice_get, Some, IsSome}
+use Rattle.std.specs.Prelude.{◌≡◌, ℕ, false, true, List, slice_get, Some, IsSome}
 use Rattle.rina_iface.specs.Seen.{Seen}
 use Rattle.rina_law.specs.Direction.{Direction}
 use Rattle.rina_data.specs.declared.link.Link.{Link}
@@ -18,6 +18,7 @@ use Rattle.rina_dif_law.specs.Written.{AreWrittenOff}
 use Rattle.rina_flows.specs.Calls.{AreTied}
 use Rattle.rina_dif.specs.declared.dif.Dif.{Dif}
 use Rattle.rina_dif.specs.Connected.{AreConnected}
+use Rattle.rina_dif.specs.Flooding.{AreFlooding}
 use Rattle.rina_dif.specs.Managing.{AreManaged}
 use Rattle.rina_dif.specs.Routing.{HaveRoutes}
 use Rattle.rina_dif.specs.Shown.{seen_of}
@@ -43,8 +44,9 @@ AreHoused g processes = (i : ℕ) (p : IpcProcess) → slice_get processes i ≡
 -- the DIF stands on the rank below, where these directions stand behind its flows, whatever an end got has come, its
 -- names are those of its members and ports, each IPC process is in account for each PDU, each end that has failed did so
 -- for its cause, each line of a ledger says what is true, each next hop is the least number of a link on a least walk over the links that its IPC process knows,
--- each member has a management that knows these links, and over the items of which the next hops are, and the management
--- connections of the links stand
+-- each member has a management that knows these links, and over the items of which the next hops are, the management
+-- connections of the links stand, and until an allocation fails the members are a network in which what one makes is flooded to all:
+-- after a failure some of them may have taken a directory entry and others not
 pub record Holds (d : Dif) (lines : List Direction) (below : Seen) : Type 0 where
   pub tied : AreTied (config_of d.settings) d.clock d.flows lines
   pub standing : IsStanding (seen_of d) lines below
@@ -57,6 +59,11 @@ pub record Holds (d : Dif) (lines : List Direction) (below : Seen) : Type 0 wher
   pub routed : HaveRoutes d.settings.members d.laid.links d.processes
   pub managed : AreManaged d
   pub connected : AreConnected (config_of d.settings) d.clock d.connections (seen_of d).processes below
+  pub flooded : d.failed ≡ false → AreFlooding d
+
+-- its management connections stand
+abbrev pub LinksStand : Dif → Seen → Type 0
+LinksStand d below = AreConnected (config_of d.settings) d.clock d.connections (seen_of d).processes below
 
 -- some directions stand behind its flows
 abbrev pub Stands : Dif → Seen → Type 0

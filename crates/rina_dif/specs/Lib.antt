@@ -7,9 +7,14 @@ pub mod Closing
 pub mod Connected
 pub mod Elsewhere
 pub mod Facade
+pub mod Flooding
+pub mod FloodingLaws
 pub mod Freeing
 pub mod Holding
+pub mod IdRests
 pub mod Laying
+pub mod LinkDue
+pub mod LinkSteps
 pub mod Linking
 pub mod Managing
 pub mod Objects

@@ -26,8 +26,10 @@ pub record IsAtRest (p : IpcProcess) (below : Seen) : Type 0 where
 abbrev pub AreAtRest : List IpcProcess → Seen → Type 0
 AreAtRest processes below = (i : ℕ) (p : IpcProcess) → slice_get processes i ≡ Some p → IsAtRest p below
 
--- the DIF can go on, its IPC processes rest over the rank below, and before this tick nothing is due at its flows
+-- the DIF can go on, its IPC processes rest over the rank below, and before this tick nothing is due at its flows or at the
+-- management connections of its links
 pub record RestsUntil (until : ℕ) (d : Dif) (below : Seen) : Type 0 where
   pub alive : d.failed ≡ false
   pub processes : AreAtRest d.processes below
   pub flows : NoneDueUntil until d.flows
+  pub links : NoneDueUntil until d.connections.flows

@@ -14,6 +14,7 @@ seen_of d = record {
   processes = map process_of d.processes;
   ends = d.flows.journal.ends;
   conns = conns_of d.flows.conns;
+  ids = d.ids;
   waiting = d.waiting.items;
   names = d.names;
 }

@@ -38,6 +38,7 @@ use Rattle.rina_channel.specs.Names.{named}
 use Rattle.rina_flows.specs.Calls.{AreTied, TakesHere}
 use Rattle.rina_flows.specs.Delivering.{ArrivesIn}
 use Rattle.rina_dif.specs.declared.dif.Dif.{Dif}
+use Rattle.rina_dif.specs.Flooding.{StayFlooding}
 use Rattle.rina_dif.specs.Holding.{AreHoused, Holds}
 use Rattle.rina_dif.specs.Managing.{AreManaged}
 use Rattle.rina_dif.specs.Routing.{HaveRoutes}
@@ -110,8 +111,8 @@ pub record IsOldest (g : Config) (below : Seen) (port : Port) (since : ℕ) (hop
 abbrev pub StaysConnected : Dif → Dif → Type 0
 StaysConnected d d' = (below : Seen) → AreConnected (config_of d.settings) d.clock d.connections (seen_of d).processes below → AreConnected (config_of d'.settings) d'.clock d'.connections (seen_of d').processes below
 
--- how the PDU was handled: the flows stay tied, the IPC processes are housed, have their next hops and are managed, and the
--- management connections of the links stand on
+-- how the PDU was handled: the flows stay tied, the IPC processes are housed, have their next hops and are managed, the
+-- management connections of the links stand on, and the members are the network that they were
 pub record HasSettled (d : Dif) (lines : List Direction) (at since : ℕ) (hop : Hop) (end : Took) (d' : Dif) : Type 0 where
   pub lines' : List Direction
   pub settled : (member : Member) (process : Process) → IsProcess (seen_of d) at member process → Settles (seen_of d) lines at member process since hop end (seen_of d') lines'
@@ -120,6 +121,7 @@ pub record HasSettled (d : Dif) (lines : List Direction) (at since : ℕ) (hop :
   pub routed : HaveRoutes d'.settings.members d'.laid.links d'.processes
   pub managed : AreManaged d'
   pub connected : StaysConnected d d'
+  pub flooded : StayFlooding d d'
 
 abbrev pub SettlesAs : Dif → List Direction → Seen → ℕ → ℕ → Hop → Result Took NoMemory → Dif → Type 0
 SettlesAs d lines below at since hop (Ok end) d' = HasSettled d lines at since hop end d'
@@ -165,6 +167,7 @@ pub record HasTaken (d : Dif) (lines links : List Direction) (below : Seen) (at 
   pub managed : AreManaged d'
   pub connected : AreConnected (config_of d'.settings) d'.clock d'.connections (seen_of d').processes below
   pub channels : SettlesLinks d links since port hop end d' connected.lines
+  pub flooded : StayFlooding d d'
 
 abbrev pub TakesAs : Dif → List Direction → List Direction → Seen → ℕ → ℕ → Port → Hop → Result Took NoMemory → Dif → Type 0
 TakesAs d lines links below at since port hop (Ok end) d' = HasTaken d lines links below at since port hop end d'

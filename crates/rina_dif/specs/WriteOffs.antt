@@ -1,6 +1,7 @@
 -- What the calls of a DIF write off: whatever a call writes into a ledger, the condition of its cause held before it.
-use Rattle.std.specs.Prelude.{◌⊎◌, ℕ, List, Option, Result}
+use Rattle.std.specs.Prelude.{◌≡◌, ◌⊎◌, ℕ, List, length, slice_get, Option, Some, Result}
 use Rattle.rina_account.specs.declared.ledger.Off.{Off}
+use Rattle.rina_base.specs.declared.cause.Cause.TheVariants.{QueueFull}
 use Rattle.rina_base.specs.declared.number.Num.{Num}
 use Rattle.rina_base.specs.declared.number.Port.{Port}
 use Rattle.rina_iface.specs.declared.error.FreeError.{FreeError}
@@ -11,6 +12,9 @@ use Rattle.rina_data.specs.declared.step.ClockStep.{ClockStep}
 use Rattle.rina_data.specs.declared.step.InStep.{InStep}
 use Rattle.rina_data.specs.declared.step.OutStep.{OutStep}
 use Rattle.rina_data.specs.declared.step.StepError.{StepError}
+use Rattle.rina_channel.specs.declared.channel.Channel.{Channel}
+use Rattle.rina_channel.specs.Changes.{IsQueueOf}
+use Rattle.rina_data.specs.Process.{Process, Queue}
 use Rattle.rina_dif_law.specs.Dif.{DifSeen}
 use Rattle.rina_dif_law.specs.WriteOffLaws.{MayFailOff, Nothing}
 use Rattle.rina_dif_law.specs.WriteOffs.{IsOverNow, MayWriteOff, NoPort, RefusesOver, Writes}
@@ -46,9 +50,24 @@ pub record MayFailWith (d : Dif) (lines : List Direction) (below : Seen) (node :
   pub loses : LosesWith d lines below place node number d'
   pub may : MayFailOff (with_lost (seen_of d) place loses.loses.loses.place loses.loses.loses.link loses.loses.routes loses.loses.loses.process loses.offs) lines below node loses.loses.loses.link.port i off
 
+-- the management connection of a live link made the PDU, whose queue there is full
+pub record MayFillOff (d : Dif) (i : ℕ) (off : Off) : Type 0 where
+  pub place : ℕ
+  pub channel : Channel
+  pub stands : slice_get d.connections.channels place ≡ Some channel
+  pub member : channel.member ≡ i
+  pub process : Process
+  pub at : ℕ
+  pub queue : Queue
+  pub is_of : IsQueueOf (seen_of d).processes channel process at queue
+  pub full : length queue.items ≡ (config_of d.settings).cap
+  pub src : off.key.src ≡ 0
+  pub scep : off.key.scep ≡ 0
+  pub cause_is : off.cause ≡ QueueFull (config_of d.settings).cap
+
 -- what a clock step at a node may write
 abbrev pub MayByClock : Dif → List Direction → Seen → ℕ → ℕ → Off → Type 0
-MayByClock d lines below node i off = MayWriteOff (seen_of d) lines below (IsOverNow below) i off ⊎ (MayCloseOff d below i off ⊎ MayFailWith d lines below node i off)
+MayByClock d lines below node i off = MayWriteOff (seen_of d) lines below (IsOverNow below) i off ⊎ (MayCloseOff d below i off ⊎ (MayFailWith d lines below node i off ⊎ MayFillOff d i off))
 
 abbrev pub OutStepsOfDifsWrite : Type 0
 OutStepsOfDifsWrite = (refuses : Port → ℕ → Option SendError) (d : Dif) (lines : List Direction) (below : Seen) (node n : ℕ) (result : Result OutStep StepError) (d' : Dif) (below' : Seen) →

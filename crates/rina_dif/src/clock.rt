@@ -26,6 +26,7 @@ impl Dif {
         ensures failed { self.new.failed ≡ self.old.failed }
     {
         self.flows.settle(now);
+        self.connections.flows.settle(now);
         self.clock = now;
     }
 }

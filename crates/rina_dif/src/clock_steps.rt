@@ -1,5 +1,5 @@
 //! The clock steps of a DIF.
-ghost use Rattle.std.specs.Prelude.{◌≡◌, ◌<◌, ◌≤◌, ◌↔◌, List, Some, IsTrue, OnErr, length, true, Err};
+ghost use Rattle.std.specs.Prelude.{◌≡◌, ◌<◌, ◌≤◌, ◌↔◌, List, Some, IfSome, IsTrue, OnErr, length, true, Err};
 ghost use Rattle.rina_iface.specs.Later.{IsLater};
 ghost use Rattle.rina_iface.specs.Seen.{Seen};
 ghost use Rattle.rina_law.specs.Direction.{Direction};
@@ -7,16 +7,19 @@ ghost use Rattle.rina_data.specs.Configs.{config_of};
 ghost use Rattle.rina_dif_law.specs.Sending.{home};
 ghost use Rattle.rina_dif_law.specs.Upward.{IsSilent};
 ghost use Rattle.rina_data.specs.declared.step.StepError.TheVariants.{Memory as MemoryWanted};
-ghost use Rattle.rina_dif.specs.Clocking.{ClockSteps, FailsLate, FindsFirst, FindsNext, IsDueAt, IsHere, IsIn, StepsFlowHere, StepsHere, earlier};
-ghost use Rattle.rina_dif.specs.Elsewhere.{ChangesOnly, MayClock, home_of};
+ghost use Rattle.rina_dif.specs.Clocking.{ClockSteps, FailsLate, FindsFirst, FindsLinkFirst, FindsNext, IsDueAt, IsHere, IsIn, ServesHere, StepsFlowHere, StepsHere, earlier, item_of};
+ghost use Rattle.rina_dif.specs.Elsewhere.{ChangesOnly, ChangesProcess, MayClock, home_of};
 ghost use Rattle.rina_dif.specs.Facade.{GoesOn, OthersStand};
-ghost use Rattle.rina_dif.specs.Holding.{Holds, Stands};
+ghost use Rattle.rina_dif.specs.Holding.{Holds, LinksStand, Stands};
+ghost use Rattle.rina_dif.specs.LinkDue.{IsLinkTurn, rank_of};
+ghost use Rattle.rina_dif.specs.LinkSteps.{DoesLink, ServesAs};
 ghost use Rattle.rina_dif.specs.Changing.{ManagesStep};
 ghost use Rattle.rina_dif.specs.Shown.{seen_of};
 ghost use Rattle.rina_flows.specs.Watching.{NoneDueBeside};
 
 use crate::dif::Dif;
-use rina_base::{Cep, Node};
+use crate::links_due::NextLink;
+use rina_base::{Cep, Memory, Node};
 use rina_data::{ClockStep, StepError};
 use rina_flows::Item;
 use rina_iface::{End, Facility, PortState};
@@ -52,6 +55,18 @@ fn earlier(first: Option<Turn>, other: Turn) -> Turn
     match first {
         Some(first) if first.cep <= other.cep => first,
         _ => other,
+    }
+}
+
+/// How soon an item comes among those that are due at one time.
+fn rank(item: Item) -> u8
+    ensures { result ≡ rank_of item }
+{
+    match item {
+        Item::Gone => 0,
+        Item::GiveUp => 1,
+        Item::Ack => 2,
+        Item::Again => 3,
     }
 }
 
@@ -152,7 +167,7 @@ impl Dif {
         ensures does { (lines : List Direction) (below : Seen) → Holds self.old lines below → StepsFlowHere self.old lines below node result self.new }
         ensures same { (self.new.settings ≡ self.old.settings) × (self.new.failed ≡ self.old.failed) }
         ensures laid { self.new.laid ≡ self.old.laid }
-        ensures whole { self.new ≡ record self.old { processes = self.new.processes; flows = self.new.flows; managements = self.new.managements } }
+        ensures whole { self.new ≡ record self.old { processes = self.new.processes; flows = self.new.flows; ids = self.new.ids; managements = self.new.managements } }
         ensures manages { (below : Seen) → ManagesStep result (Some at) self.old below node self.new.managements }
         ensures leaves { ChangesOnly (MayClock result self.old (Some at)) (Some at) self.old self.new }
     {
@@ -180,8 +195,69 @@ impl Dif {
         }
     }
 
+    /// The link of the IPC process at a place, at a node, that goes before the flows there, with the item that is due at its
+    /// management connection. None exactly where a flow goes first, or nothing is due.
+    fn first_link(&self, at: usize, node: Node) -> Option<NextLink>
+        ensures first { (lines : List Direction) (below : Seen) → Holds self.now lines below → (links : LinksStand self.now below) → FindsLinkFirst self.now lines links.lines at node result }
+        ensures turn { (below : Seen) (links : LinksStand self.now below) → IfSome result (λ next. IsLinkTurn next.item self.now links.lines at next.turn.place next.turn.number) }
+    {
+        let link = self.next_link_due(at)?;
+        match self.next_due(node) {
+            Some(flow) if rank(flow.item) < rank(link.item) => None,
+            _ => Some(link),
+        }
+    }
+
+    /// Does the item that is due at the management connection of a link, whose turn it is, at the IPC process at a place. Without
+    /// memory nothing changes.
+    fn serve_link(&mut self, alloc: Global, at: usize, next: NextLink) -> Result<ClockStep, Memory>
+        requires stands { (below : Seen) × Stands self.old below }
+        requires clock { self.old.clock ≤ 10_000_000 }
+        requires at { at < length self.old.settings.members }
+        requires turn { (below : Seen) (links : LinksStand self.old below) → IsLinkTurn next.item self.old links.lines at next.turn.place next.turn.number }
+        ensures does { (lines : List Direction) (below : Seen) → Holds self.old lines below → ServesAs (λ done links. (item_of done ≡ Some next.item) × DoesLink self.old links at next.turn.place done (seen_of self.new) self.new.connections.flows) self.old lines below result self.new }
+        ensures whole { self.new ≡ record self.old { processes = self.new.processes; connections = record self.old.connections { flows = self.new.connections.flows } } }
+        ensures leaves { ChangesProcess (Some at) self.old.processes self.new.processes }
+    {
+        match next.item {
+            Item::Gone => {
+                self.forget_link(alloc, at, next.turn)?;
+                Ok(ClockStep::Gone { cep: 0 })
+            }
+            Item::Ack => {
+                self.acknowledge_link(alloc, at, next.turn)?;
+                Ok(ClockStep::Ack { cep: 0 })
+            }
+            Item::Again => {
+                let num = self.resend_link(alloc, at, next.turn)?;
+                Ok(ClockStep::Again { num })
+            }
+            Item::GiveUp => unreachable!(),
+        }
+    }
+
+    /// Serves the link that goes first at the IPC process at a place, at a node, or the first item that is due at the flows there.
+    fn serve_next(&mut self, alloc: Global, at: usize, node: Node) -> Result<ClockStep, StepError>
+        requires stands { (below : Seen) × Stands self.old below }
+        requires clock { self.old.clock ≤ 10_000_000 }
+        requires at { at < length self.old.settings.members }
+        requires home { home node (config_of self.old.settings).members ≡ Some at }
+        ensures does { (lines : List Direction) (below : Seen) → Holds self.old lines below → ServesHere self.old lines below node result self.new }
+        ensures same { (self.new.settings ≡ self.old.settings) × (self.new.failed ≡ self.old.failed) }
+        ensures laid { self.new.laid ≡ self.old.laid }
+        ensures whole { self.new ≡ record self.old { processes = self.new.processes; connections = self.new.connections; flows = self.new.flows; ids = self.new.ids; managements = self.new.managements } }
+        ensures stays { OnErr result (self.new.connections ≡ self.old.connections) }
+        ensures manages { (below : Seen) → ManagesStep result (Some at) self.old below node self.new.managements }
+        ensures leaves { ChangesOnly (MayClock result self.old (Some at)) (Some at) self.old self.new }
+    {
+        match self.first_link(at, node) {
+            Some(next) => Ok(self.serve_link(alloc, at, next)?),
+            None => self.do_next(alloc, at, node),
+        }
+    }
+
     /// Loses the first link of the IPC process at a place that is lost, and all flows there with it where it was the last
-    /// one and its flow below has failed, or does the first item that is due at the flows of its node.
+    /// one and its flow below has failed, or does the first item that is due at its links and at the flows of its node.
     fn step_at<F: Facility>(
         &mut self,
         alloc: Global,
@@ -197,7 +273,7 @@ impl Dif {
         ensures does { (lines : List Direction) → Holds self.old lines (F.seen below.now) → StepsHere self.old lines (F.seen below.now) node result self.new }
         ensures same { (self.new.settings ≡ self.old.settings) × (self.new.failed ≡ self.old.failed) }
         ensures laid { self.new.laid ≡ self.old.laid }
-        ensures whole { self.new ≡ record self.old { processes = self.new.processes; connections = self.new.connections; flows = self.new.flows; managements = self.new.managements } }
+        ensures whole { self.new ≡ record self.old { processes = self.new.processes; connections = self.new.connections; flows = self.new.flows; ids = self.new.ids; managements = self.new.managements } }
         ensures stays { OnErr result (self.new.connections ≡ self.old.connections) }
         ensures manages { ManagesStep result (Some at) self.old (F.seen below.now) node self.new.managements }
         ensures leaves { ChangesOnly (MayClock result self.old (Some at)) (Some at) self.old self.new }
@@ -207,7 +283,7 @@ impl Dif {
                 self.lose_at(alloc, below, at, node, lost)?;
                 Ok(ClockStep::LinkLost { link: lost.number })
             }
-            None => self.do_next(alloc, at, node),
+            None => self.serve_next(alloc, at, node),
         }
     }
 
@@ -215,8 +291,10 @@ impl Dif {
     /// flow below was refused, has failed, or was closed, the one of the least number first, the end of its management
     /// connection closes with it, and where no link is left
     /// and that flow has failed, all flows of the node fail with it; pieces that are held of a state that has ended are
-    /// written off; a number is given up, and its flow fails; an acknowledgement is made; a number is sent again. Of
-    /// the flows there the one of the least CEP-id goes first. Answers Idle exactly where none is due.
+    /// written off; a number is given up, and its flow fails; an acknowledgement is made; a number is sent again. Of each of
+    /// the last four but giving up, which the flows alone do, the management connections of the live links go first, the one of
+    /// the least link number before the others, and then the flows there, the one of the least CEP-id first. Answers Idle
+    /// exactly where none is due.
     pub fn clock_step<F: Facility>(
         &mut self,
         alloc: Global,
@@ -236,7 +314,7 @@ impl Dif {
         ensures others { OthersStand self.old (F.seen below.old) (F.seen below.new) }
         ensures settings { self.new.settings ≡ self.old.settings }
         ensures laid { self.new.laid ≡ self.old.laid }
-        ensures whole { self.new ≡ record self.old { processes = self.new.processes; connections = self.new.connections; flows = self.new.flows; managements = self.new.managements; failed = self.new.failed } }
+        ensures whole { self.new ≡ record self.old { processes = self.new.processes; connections = self.new.connections; flows = self.new.flows; ids = self.new.ids; managements = self.new.managements; failed = self.new.failed } }
         ensures stays { OnErr result (self.new.connections ≡ self.old.connections) }
         ensures leaves { ChangesOnly (MayClock result self.old (home_of self.old node)) (home_of self.old node) self.old self.new }
         ensures failed { self.old.failed ≡ true → result ≡ Err MemoryWanted }

@@ -18,6 +18,7 @@ use crate::plan::{link_fixed, settings_of};
 use crate::processes::Processes;
 use rina_base::{Memory, Port, Seq};
 use rina_data::Settings;
+use rina_flood::members_are_a_network;
 use rina_iface::{Facility, Fixed};
 use rina_plan::DifPlan;
 use rina_stack::Plan;
@@ -142,6 +143,8 @@ impl Dif {
             links,
         )?;
         made.connections = connections;
+        // A law, and no step: the members start as a network of flooding.
+        members_are_a_network();
         Ok(made)
     }
 }

@@ -12,6 +12,7 @@ use crate::processes::Processes;
 use rina_base::{Node, Seq, Tick};
 use rina_data::{Member, Settings, StepError};
 use rina_flows::Flows;
+use rina_ids::MemberIds;
 use rina_iface::Registered;
 
 /// A DIF: IPC processes at its nodes, and the flows between the applications above them. Once an allocation has failed,
@@ -29,6 +30,8 @@ pub struct Dif {
     /// The management connections of its links.
     pub(crate) connections: Connections,
     pub(crate) flows: Flows,
+    /// The CEP-ids of its members, each at the place of its member: which are in use, and which rest.
+    pub(crate) ids: MemberIds,
     /// The places of the far ends that nobody has claimed yet, the oldest first.
     pub(crate) waiting: Vec<usize>,
     pub(crate) names: Seq<Registered>,

@@ -18,7 +18,7 @@ use rina_data::HopView;
 use std::alloc::Global;
 
 /// A PDU, lent.
-fn lend(pdu: &Pdu) -> PduView<'_>
+pub(crate) fn lend(pdu: &Pdu) -> PduView<'_>
     ensures { pdu_of result ≡ pdu.now }
 {
     PduView {
@@ -39,7 +39,7 @@ fn lend(pdu: &Pdu) -> PduView<'_>
 }
 
 /// The PDU of an acknowledgement.
-fn ack_pdu(form: &Form, due: DueAck) -> PduView<'static>
+pub(crate) fn ack_pdu(form: &Form, due: DueAck) -> PduView<'static>
     ensures { pdu_of result ≡ pdu_of_ack (ids_by form.now.peer form.now.cube.id) (ack_of due) }
 {
     let peer = form.peer;
@@ -84,7 +84,7 @@ impl Dif {
     }
 
     /// Lets the flow of an end fail there, at its IPC process, where its connection gives a number up now, and answers
-    /// the number. The object of the flow is deleted with it. Without memory nothing changes.
+    /// the number. The object of the flow is deleted with it, and its CEP-id rests from now on. Without memory nothing changes.
     pub(crate) fn give_up_at(
         &mut self,
         alloc: Global,
@@ -92,20 +92,23 @@ impl Dif {
         place: usize,
     ) -> Result<Option<Num>, Memory>
         requires stands { (below : Seen) × Stands self.old below }
+        requires clock { self.old.clock ≤ 10_000_000 }
         requires at { at < length self.old.settings.members }
         requires here { IsHomeEnd self.old at place }
         ensures does { (lines : List Direction) (below : Seen) → Holds self.old lines below → GivesUpAs self.old lines below place result self.new }
         ensures same { (self.new.settings ≡ self.old.settings) × (self.new.failed ≡ self.old.failed) }
         ensures laid { self.new.laid ≡ self.old.laid }
-        ensures whole { self.new ≡ record self.old { processes = self.new.processes; flows = self.new.flows; managements = self.new.managements } }
+        ensures whole { self.new ≡ record self.old { processes = self.new.processes; flows = self.new.flows; ids = self.new.ids; managements = self.new.managements } }
         ensures manages { ManagesGiveUp result self.old at place self.new.managements }
         ensures leaves { ChangesOnly (λ i. i ≡ place) (Some at) self.old self.new }
     {
         let name = self.name_of_flow(alloc, place)?;
+        let rest = self.rest_at(place);
         let clock = self.clock;
         let flows = &mut self.flows;
         match self.processes.give_up(alloc, at, flows, clock, place)? {
             Some(num) => {
+                self.ids.give_back(at, clock, rest.cep, rest.ticks);
                 self.managements.remove(at, name.as_slice());
                 Ok(Some(num))
             }

@@ -1,5 +1,5 @@
 //! Flows that the stack fixes.
-ghost use Rattle.std.specs.Prelude.{◌≡◌, ◌*◌, ◌+◌, ◌-◌, ◌<◌, ◌^◌, ◌==◌, ◌&&◌, List, IsSome, OnOk, OnErr, IfOk, Err, Some, count_by, true, ◌↔◌, ◌≤◌, length};
+ghost use Rattle.std.specs.Prelude.{◌≡◌, ◌≢◌, ◌*◌, ◌+◌, ◌-◌, ◌<◌, ◌^◌, ◌==◌, ◌&&◌, List, IsSome, OnOk, OnErr, IfOk, Err, Some, count_by, true, ◌↔◌, ◌≤◌, length};
 ghost use Rattle.rina_cube.specs.declared.Cube.{Cube};
 ghost use Rattle.rina_iface.specs.declared.error.AllocateError.TheVariants.{Memory as MemoryWanted};
 ghost use Rattle.rina_iface.specs.declared.state.PortState.TheVariants.{Allocated};
@@ -13,7 +13,8 @@ ghost use Rattle.rina_data.specs.Configs.{config_of, cube_by, greatest, piece_si
 ghost use Rattle.rina_dif_law.specs.Numbered.{asked_at, is_asker};
 ghost use Rattle.rina_dif_law.specs.Standing.{IsConfig};
 ghost use Rattle.rina_flows.specs.Elsewhere.{SameBut};
-ghost use Rattle.rina_dif.specs.Binding.{AddsFlow, BindsTo, Draws, MayBind, SomeDraws};
+ghost use Rattle.rina_ids.specs.Members.{DrawsAt};
+ghost use Rattle.rina_dif.specs.Binding.{AddsFlow, BindsTo, Draws, HaveDrawn, MayBind, SomeDraws, noting};
 ghost use Rattle.rina_dif.specs.Changing.{BindsManaged, ManagesBind, MayHoldFar};
 ghost use Rattle.rina_dif.specs.Facade.{GoesOn, IsShownAs, StaysStanding, shown_as};
 ghost use Rattle.rina_dif.specs.Holding.{Holds};
@@ -22,7 +23,7 @@ ghost use Rattle.rina_dif.specs.Whole.{IsDif};
 use crate::dif::Dif;
 use crate::facade::cube_of;
 use crate::names::is_registered;
-use rina_base::{Addr, AppName, FlowName, Memory, Node, PduKind, Port, Seq};
+use rina_base::{Addr, AppName, Cep, FlowName, Memory, Node, PduKind, Port, Seq};
 use rina_conn::Peer;
 use rina_data::Settings;
 use rina_flows::Flows;
@@ -31,11 +32,13 @@ use rina_pci::{Widths, pci_len};
 use std::alloc::Global;
 use std::mem;
 
-/// The address of a member, and the port that is drawn next at its node.
+/// The place and the address of a member, and the port and the CEP-id that are drawn next there.
 #[derive(Clone, Copy)]
 pub struct NextEnd {
+    pub place: usize,
     pub addr: Addr,
     pub port: Port,
+    pub cep: Cep,
 }
 
 /// How many ports were drawn at a node.
@@ -150,8 +153,13 @@ impl Dif {
         let Some(member) = self.settings.members.get(home) else {
             unreachable!()
         };
+        let Some(cep) = self.ids.free(home, self.clock) else {
+            unreachable!()
+        };
         let drawn = drawn(self.flows.journal.ends.as_slice(), node) as u32;
         NextEnd {
+            place: home,
+            cep,
             addr: member.addr,
             port: Port {
                 fac: self.settings.fac,
@@ -188,6 +196,36 @@ impl Dif {
         added
     }
 
+    /// Draws a CEP-id at each of two members, and adds both ends, with the name of the far application where it is new. Where an
+    /// allocation fails nothing changes.
+    fn add_drawn(
+        &mut self,
+        alloc: Global,
+        places: (usize, usize),
+        peer: Peer,
+        asker: End,
+        far: End,
+    ) -> Result<(), Memory>
+        requires valid { IsConfig (config_of self.old.settings) }
+        requires cube { IsSome (cube_by asker.cube self.old.settings.cubes) }
+        requires apart { places.0 ≢ places.1 }
+        requires a { DrawsAt self.old.ids self.old.clock places.0 peer.scep }
+        requires b { DrawsAt self.old.ids self.old.clock places.1 peer.dcep }
+        ensures ok { OnOk result (AddsFlow self.old.settings asker.cube peer asker far self.old.flows self.new.flows) }
+        ensures keeps { OnOk result (SameBut (λ i. length self.old.flows.conns ≤ i) self.old.flows.conns self.new.flows.conns) }
+        ensures ids { OnOk result (HaveDrawn self.old.ids self.old.clock places peer self.new.ids) }
+        ensures rest { OnOk result (self.new ≡ record self.old { flows = self.new.flows; ids = self.new.ids; names = with_name_once self.old.names far.port.node far.app }) }
+        ensures err { OnErr result (self.new ≡ self.old) }
+    {
+        let (a, b) = places;
+        let draws = self.ids.draw_both(alloc, self.clock, a, b)?;
+        let added = self.add_named(alloc, peer, asker, far);
+        if added.is_err() {
+            self.ids.undo_both(alloc, a, b, draws);
+        }
+        added
+    }
+
     /// Every member takes the directory entry of the far application of a flow whose ends have these addresses and ports, and
     /// the members of the two ends show the flow. Where an allocation fails, the agent of each member is as before, or holds
     /// the entry.
@@ -200,29 +238,25 @@ impl Dif {
     ) -> Result<(), Memory>
         requires valid { IsDif self.old }
         requires may { MayBind self.old fixed.now }
-        ensures ok { OnOk result (ManagesBind self.old fixed.now (near.port, other.port) self.new.managements) }
+        requires near { Draws self.old fixed.now.a near }
+        requires other { Draws self.old fixed.now.b other }
+        ensures ok { OnOk result (ManagesBind self.old fixed.now self.new.managements) }
         ensures err { OnErr result (MayHoldFar self.old fixed.now self.new.managements) }
         ensures whole { self.new ≡ record self.old { managements = self.new.managements } }
     {
-        let (Some(a), Some(b)) = (self.place_at_node(fixed.a), self.place_at_node(fixed.b)) else {
-            unreachable!()
-        };
-        let Some(far) = self.settings.members.get(b) else {
-            unreachable!()
-        };
-        self.managements.enter_all(alloc, &fixed.b_app, far.addr)?;
-        self.managements.show_flow(alloc, a, near.port.n)?;
-        self.managements.show_flow(alloc, b, other.port.n)
+        self.managements.enter_all(alloc, &fixed.b_app, other.addr)?;
+        self.managements.show_flow(alloc, near.place, near.cep)?;
+        self.managements.show_flow(alloc, other.place, other.cep)
     }
 
     /// Makes a fixed flow.
     fn bind_flow(&mut self, alloc: Global, fixed: &Fixed) -> Result<(Port, Port), AllocateError>
         requires valid { IsDif self.old }
         requires may { MayBind self.old fixed.now }
-        ensures does { (lines : List Direction) (below : Seen) → Holds self.old lines below → BindsTo self.old lines below fixed.now result self.new }
+        ensures does { (lines : List Direction) (below : Seen) → Holds self.old lines below → BindsTo self.old lines below fixed.now result (noting result self.new) }
         ensures same { (self.new.settings ≡ self.old.settings) × (self.new.clock ≡ self.old.clock) × (self.new.failed ≡ self.old.failed) }
         ensures laid { self.new.laid ≡ self.old.laid }
-        ensures whole { self.new ≡ record self.old { flows = self.new.flows; names = self.new.names; managements = self.new.managements } }
+        ensures whole { self.new ≡ record self.old { flows = self.new.flows; ids = self.new.ids; names = self.new.names; managements = self.new.managements } }
         ensures manages { BindsManaged result self.old fixed.now self.new.managements }
         ensures keeps { SameBut (λ i. length self.old.flows.conns ≤ i) self.old.flows.conns self.new.flows.conns }
     {
@@ -236,14 +270,14 @@ impl Dif {
         let peer = Peer {
             own: near.addr,
             far: other.addr,
-            scep: near.port.n,
-            dcep: other.port.n,
+            scep: near.cep,
+            dcep: other.cep,
         };
         let (a_app, b_app, cube) = (&fixed.a_app, &fixed.b_app, fixed.cube);
         let asker = new_end(alloc, flow, Role::Asker, near.port, a_app, b_app, cube)?;
         let far = new_end(alloc, flow, Role::Far, other.port, b_app, a_app, cube)?;
         self.manage_flow(alloc, fixed, near, other)?;
-        self.add_named(alloc, peer, asker, far)?;
+        self.add_drawn(alloc, (near.place, other.place), peer, asker, far)?;
         Ok((near.port, other.port))
     }
 
@@ -261,7 +295,7 @@ impl Dif {
         ensures stands { StaysStanding self.old self.new }
         ensures settings { self.new.settings ≡ self.old.settings }
         ensures laid { self.new.laid ≡ self.old.laid }
-        ensures whole { self.new ≡ record self.old { flows = self.new.flows; names = self.new.names; managements = self.new.managements; failed = self.new.failed } }
+        ensures whole { self.new ≡ record self.old { flows = self.new.flows; ids = self.new.ids; names = self.new.names; managements = self.new.managements; failed = self.new.failed } }
         ensures manages { BindsManaged result self.old fixed.now self.new.managements }
         ensures keeps { SameBut (λ i. length self.old.flows.conns ≤ i) self.old.flows.conns self.new.flows.conns }
         ensures failed { self.old.failed ≡ true → result ≡ Err MemoryWanted }

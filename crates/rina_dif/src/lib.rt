@@ -1,6 +1,7 @@
 //! A DIF over any facility: its IPC processes, and its flows.
 #![tactic(auto)]
 
+mod agreement;
 mod asks;
 mod cdap;
 mod clock;
@@ -14,6 +15,8 @@ mod fixed_flows;
 mod flow_state;
 mod in_step;
 mod layout;
+mod links_due;
+mod links_serve;
 mod lost_links;
 mod managements;
 mod names;
@@ -31,6 +34,7 @@ mod start;
 mod text;
 mod write_offs;
 
+pub use agreement::members_keep_the_newest_and_agree;
 pub use cdap::CdapCallError;
 pub use dif::Dif;
 pub use facade::a_rank_shows_its_difs;

@@ -1,5 +1,5 @@
 //! How a DIF loses a link.
-ghost use Rattle.std.specs.Prelude.{◌≡◌, ◌↔◌, ◌<◌, ℕ, List, None, Some, IfOk, IsTrue, OnErr, OnOk, length, slice_get};
+ghost use Rattle.std.specs.Prelude.{◌≡◌, ◌↔◌, ◌<◌, ◌≤◌, ℕ, List, None, Some, IfOk, IsTrue, OnErr, OnOk, length, slice_get};
 ghost use Rattle.rina_iface.specs.Seen.{Seen};
 ghost use Rattle.rina_law.specs.Direction.{Direction};
 ghost use Rattle.rina_data.specs.declared.link.Link.{Link};
@@ -12,6 +12,7 @@ ghost use Rattle.rina_flows.specs.Elsewhere.{SameBut};
 ghost use Rattle.rina_flows.specs.Stopping.{is_here};
 ghost use Rattle.rina_dif.specs.Elsewhere.{ChangesOnly, ChangesProcess, IsEndOf, WhenOk};
 ghost use Rattle.rina_dif.specs.Holding.{Holds, Stands};
+ghost use Rattle.rina_dif.specs.IdRests.{AreRests, CanGive, CanGiveBack, GaveFirst, GaveOne, RestsHere};
 ghost use Rattle.rina_dif.specs.Changing.{ManagesLoss, allocated_at, cep_here, without_flow_if};
 ghost use Rattle.rina_member.specs.Managements.{LosesLink, without_flows};
 ghost use Rattle.rina_member.specs.declared.management.Management.{Management};
@@ -20,6 +21,7 @@ ghost use Rattle.rina_dif.specs.Unlinking.{FindsEnd, FindsLostAt, FindsNoneLeft,
 
 use crate::dif::Dif;
 use crate::processes::LinkLoss;
+use crate::release::IdRest;
 use rina_base::{Memory, Node, Port, Seq};
 use rina_conn::Conn;
 use rina_data::{Link, Lost, Route, lost_link};
@@ -154,7 +156,7 @@ impl Dif {
         ensures does { (node : ℕ) (lines : List Direction) (below : Seen) → Holds self.old lines below → FindsLostAt self.old below at (Some lost) → FindsNoneLeft self.old below at lost.place None → LosesAs self.old lines below at node lost.number result self.new }
         ensures same { (self.new.settings ≡ self.old.settings) × (self.new.failed ≡ self.old.failed) }
         ensures laid { self.new.laid ≡ self.old.laid }
-        ensures whole { self.new ≡ record self.old { processes = self.new.processes; connections = self.new.connections; flows = self.new.flows; managements = self.new.managements } }
+        ensures whole { self.new ≡ record self.old { processes = self.new.processes; connections = self.new.connections; flows = self.new.flows; ids = self.new.ids; managements = self.new.managements } }
         ensures stays { OnErr result (self.new.connections ≡ self.old.connections) }
         ensures manages { (node : ℕ) (below : Seen) → FindsLostAt self.old below at (Some lost) → FindsNoneLeft self.old below at lost.place None → ManagesLoss result self.old below at node lost.number self.new.managements }
         ensures leaves { ChangesProcess (Some at) self.old.processes self.new.processes }
@@ -174,8 +176,60 @@ impl Dif {
         Ok(())
     }
 
+    /// The CEP-id of the end at a place, where that is an allocated one at a node.
+    fn rest_here(&self, node: Node, at: usize) -> Option<IdRest>
+        requires stands { (below : Seen) × Stands self.now below }
+        requires at { at < length self.now.flows.conns }
+        ensures { RestsHere self.now node at result }
+    {
+        let Some(end) = self.flows.journal.ends.get(at) else {
+            unreachable!()
+        };
+        if !is_here(end, node) {
+            return None;
+        }
+        Some(self.rest_at(at))
+    }
+
+    /// The CEP-ids of the allocated ends at a node, each at the place of its end, with the time for which it rests.
+    #[tactic(auto, using(crate::proofs::GivenBack::none_rest, crate::proofs::GivenBack::rests_more))]
+    fn rests_at_node(&self, alloc: Global, node: Node) -> Result<Vec<Option<IdRest>>, Memory>
+        requires { (below : Seen) × Stands self.now below }
+        ensures { IfOk result (λ v. AreRests self.now node (length self.now.flows.conns) v.items) }
+    {
+        let mut rests = Vec::new(alloc);
+        for at in 0..self.flows.conns.len() {
+            if rests.push(self.rest_here(node, at)).is_err() {
+                return Err(Memory);
+            }
+        }
+        Ok(rests)
+    }
+
+    /// Gives a CEP-id of the member at a place back, where one is given. It rests from now on.
+    fn give_back(&mut self, home: usize, rest: Option<IdRest>)
+        requires { CanGive self.old home rest }
+        ensures given { GaveOne home self.old.clock (Some rest) self.old.ids self.new.ids }
+        ensures whole { self.new ≡ record self.old { ids = self.new.ids } }
+    {
+        if let Some(rest) = rest {
+            self.ids.give_back(home, self.clock, rest.cep, rest.ticks);
+        }
+    }
+
+    /// Gives CEP-ids of the member at a place back, which rest from now on.
+    fn give_back_all(&mut self, home: usize, rests: &[Option<IdRest>])
+        requires { CanGiveBack self.old home rests.now }
+        ensures given { GaveFirst home self.old.clock rests.now (length rests.now) self.old.ids self.new.ids }
+        ensures whole { self.new ≡ record self.old { ids = self.new.ids } }
+    {
+        for at in 0..rests.len() {
+            self.give_back(home, rests[at]);
+        }
+    }
+
     /// Loses the link that was found at the IPC process at a place, the last one of that node, as `lose_link` does, and lets
-    /// all flows there fail with it, since the flow of its port below has failed. Without memory nothing changes.
+    /// all flows there fail with it, since the flow of its port below has failed; their CEP-ids rest from now on. Without memory nothing changes.
     fn lose_last_link(
         &mut self,
         alloc: Global,
@@ -186,13 +240,14 @@ impl Dif {
         port: Port,
     ) -> Result<(), Memory>
         requires stands { (below : Seen) × Stands self.old below × FindsLostAt self.old below at (Some lost) }
+        requires clock { self.old.clock ≤ 10_000_000 }
         requires at { at < length self.old.settings.members }
         requires home { home node (config_of self.old.settings).members ≡ Some at }
         requires end { FindsEnd self.old at lost.place end }
         ensures does { (lines : List Direction) (below : Seen) → Holds self.old lines below → FindsLostAt self.old below at (Some lost) → FindsNoneLeft self.old below at lost.place (Some port) → LosesAs self.old lines below at node lost.number result self.new }
         ensures same { (self.new.settings ≡ self.old.settings) × (self.new.failed ≡ self.old.failed) }
         ensures laid { self.new.laid ≡ self.old.laid }
-        ensures whole { self.new ≡ record self.old { processes = self.new.processes; connections = self.new.connections; flows = self.new.flows; managements = self.new.managements } }
+        ensures whole { self.new ≡ record self.old { processes = self.new.processes; connections = self.new.connections; flows = self.new.flows; ids = self.new.ids; managements = self.new.managements } }
         ensures stays { OnErr result (self.new.connections ≡ self.old.connections) }
         ensures manages { (below : Seen) → FindsLostAt self.old below at (Some lost) → FindsNoneLeft self.old below at lost.place (Some port) → ManagesLoss result self.old below at node lost.number self.new.managements }
         ensures leaves { ChangesOnly (λ i. WhenOk result (IsEndOf self.old (Some at) i)) (Some at) self.old self.new }
@@ -200,6 +255,7 @@ impl Dif {
         let mut management = self.management_without(alloc, at, lost)?;
         let routes = self.routes_over(alloc, &management)?;
         self.end_flows(alloc, node, &mut management)?;
+        let rests = self.rests_at_node(alloc, node)?;
         let loss = LinkLoss {
             place: lost.place,
             routes,
@@ -211,6 +267,7 @@ impl Dif {
         let flows = &mut self.flows;
         self.processes
             .lose_last_link(alloc, at, loss, links, flows, node, state)?;
+        self.give_back_all(at, rests.as_slice());
         self.managements.set(at, management);
         Ok(())
     }
@@ -229,12 +286,13 @@ impl Dif {
         requires valid { F.valid below.now }
         requires stands { Stands self.old (F.seen below.now) }
         requires found { FindsLostAt self.old (F.seen below.now) at (Some lost) }
+        requires clock { self.old.clock ≤ 10_000_000 }
         requires at { at < length self.old.settings.members }
         requires home { home node (config_of self.old.settings).members ≡ Some at }
         ensures does { (lines : List Direction) → Holds self.old lines (F.seen below.now) → LosesAs self.old lines (F.seen below.now) at node lost.number result self.new }
         ensures same { (self.new.settings ≡ self.old.settings) × (self.new.failed ≡ self.old.failed) }
         ensures laid { self.new.laid ≡ self.old.laid }
-        ensures whole { self.new ≡ record self.old { processes = self.new.processes; connections = self.new.connections; flows = self.new.flows; managements = self.new.managements } }
+        ensures whole { self.new ≡ record self.old { processes = self.new.processes; connections = self.new.connections; flows = self.new.flows; ids = self.new.ids; managements = self.new.managements } }
         ensures stays { OnErr result (self.new.connections ≡ self.old.connections) }
         ensures manages { ManagesLoss result self.old (F.seen below.now) at node lost.number self.new.managements }
         ensures leaves { ChangesOnly (λ i. WhenOk result (IsEndOf self.old (Some at) i)) (Some at) self.old self.new }

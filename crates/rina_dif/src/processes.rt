@@ -17,6 +17,7 @@ ghost use Rattle.rina_dif_law.specs.Losing.{IsAllocatedAt};
 ghost use Rattle.rina_dif.specs.Closing.{ClosesIn, held_at};
 ghost use Rattle.rina_dif.specs.Elsewhere.{WhenOk};
 ghost use Rattle.rina_dif.specs.Laying.{AddsLink, AddsLinkAt};
+ghost use Rattle.rina_dif.specs.LinkSteps.{ForgetsIn as ForgetsOn, PostsAt, PostsFor};
 ghost use Rattle.rina_dif.specs.Routing.{SetsRoutes};
 ghost use Rattle.rina_dif.specs.Sending.{AreOf, HasRoomFor, Puts, queued};
 ghost use Rattle.rina_dif.specs.Steps.{AsksAt, Leaves, WillGo};
@@ -192,6 +193,35 @@ fn lose_last_link(
     flows.stop_all(now, node, state, &mut lines);
     process.ledger.put(lines);
     Ok(())
+}
+
+/// Puts a PDU of management, made at tick `now`, at the end of its queue for a link, or writes it off where that is full.
+fn post(
+    process: &mut IpcProcess,
+    alloc: Global,
+    link: u16,
+    now: Tick,
+    hop: &HopView<'_>,
+) -> Result<Option<Cause>, Memory>
+    requires qos { (hop_of hop.now).pdu.qos ≡ 0 }
+    requires there { IsSome (queue_place 0 link process.old.queues.queues.items) }
+    ensures does { PostsFor process.old.queues.cap now link (hop_of hop.now) result (process_of process.old) (process_of process.new) }
+    ensures kept { queue_settings process.new ≡ queue_settings process.old }
+{
+    let cap = process.queues.cap;
+    if process.queues.room(0, link) == 0 {
+        process.write_off(alloc, hop, Cause::QueueFull { cap })?;
+        return Ok(Some(Cause::QueueFull { cap }));
+    }
+    let item = Queued {
+        pdu: hop.pdu.keep(alloc)?,
+        left: hop.left,
+        since: now,
+    };
+    match process.queues.push(0, link, item) {
+        Ok(()) => Ok(None),
+        Err(_full) => unreachable!(),
+    }
 }
 
 impl Processes {
@@ -444,6 +474,46 @@ impl Processes {
     {
         let process = &mut self.items[at];
         flows.forget(alloc, now, place, &mut process.ledger)
+    }
+
+    /// Writes off what the management connection at a place holds of a state that has ended, in the ledger of the IPC process
+    /// at a place, with the names of its link.
+    pub fn forget_link(
+        &mut self,
+        alloc: Global,
+        at: usize,
+        links: &mut Flows,
+        now: Tick,
+        place: usize,
+    ) -> Result<bool, Memory>
+        requires at { at < length self.old }
+        requires conn { place < length links.old.conns }
+        ensures { WithLedger (λ flows ledger flows' ledger'. ForgetsOn now place flows ledger result flows' ledger') at links.old self.old links.new self.new }
+    {
+        let process = &mut self.items[at];
+        let from = process.ledger.lines().len();
+        let result = links.forget(alloc, now, place, &mut process.ledger);
+        unname_lines(&mut process.ledger, alloc, from);
+        result
+    }
+
+    /// Puts a PDU of management, made at tick `now`, at the end of its queue for a link of the IPC process at a place, or
+    /// writes it off where that is full. Answers why it is written off, if it is. Without memory nothing changes.
+    pub fn post(
+        &mut self,
+        alloc: Global,
+        at: usize,
+        link: u16,
+        now: Tick,
+        hop: &HopView<'_>,
+    ) -> Result<Option<Cause>, Memory>
+        requires at { at < length self.old }
+        requires qos { (hop_of hop.now).pdu.qos ≡ 0 }
+        requires there { (p : IpcProcess) → slice_get self.old at ≡ Some p → IsSome (queue_place 0 link p.queues.queues.items) }
+        ensures { PostsAt now link (hop_of hop.now) result at self.old self.new }
+    {
+        let process = &mut self.items[at];
+        post(process, alloc, link, now, hop)
     }
 
     /// Lets the end at a place of the flows fail where its connection gives a number up, with what it holds written off in

@@ -1,8 +1,8 @@
 //! How flows of a DIF are freed.
-ghost use Rattle.std.specs.Prelude.{◌≡◌, ◌<◌, ◌↔◌, ℕ, List, length, slice_get, Some, Err, true, false, None};
+ghost use Rattle.std.specs.Prelude.{◌≡◌, ◌<◌, ◌↔◌, ℕ, List, length, slice_get, Some, Ok, Err, true, false, None};
 ghost use Rattle.rina_iface.specs.declared.ends.End.{End};
 ghost use Rattle.rina_iface.specs.declared.error.FreeError.TheVariants.{Memory as NoneFound};
-ghost use Rattle.rina_iface.specs.declared.state.PortState.TheVariants.{Allocated};
+ghost use Rattle.rina_iface.specs.declared.state.PortState.TheVariants.{Allocated, Pending};
 ghost use Rattle.rina_iface.specs.Ends.{place_in};
 ghost use Rattle.rina_iface.specs.Free.{Frees};
 ghost use Rattle.rina_iface.specs.Seen.{Seen};
@@ -11,14 +11,21 @@ ghost use Rattle.rina_law.specs.Direction.{Direction};
 ghost use Rattle.rina_dif.specs.Changing.{FreesManaged};
 ghost use Rattle.rina_dif.specs.Elsewhere.{ChangesOnly, IsPortAt, WhenOk, home_of};
 ghost use Rattle.rina_dif.specs.Facade.{GoesOn, IsShownAs, StaysStanding, shown_as};
-ghost use Rattle.rina_dif.specs.Freeing.{FreesAt, FreesHere};
-ghost use Rattle.rina_dif.specs.Holding.{Holds};
+ghost use Rattle.rina_dif.specs.Freeing.{FreesAt, FreesHere, RestsAt};
+ghost use Rattle.rina_dif.specs.Holding.{Holds, Stands};
 ghost use Rattle.rina_dif.specs.Whole.{IsDif};
 
 use crate::dif::Dif;
-use rina_base::{Memory, Node, Port};
+use rina_base::{Cep, Memory, Node, Port};
 use rina_iface::{FreeError, PortState, Why};
 use std::alloc::Global;
+
+/// A CEP-id, and for how many ticks it rests once its end has ended.
+#[derive(Clone, Copy)]
+pub struct IdRest {
+    pub cep: Cep,
+    pub ticks: u32,
+}
 
 /// The state of a port that is freed: a flow that was there is closed, and one that was asked for is withdrawn.
 fn freed(state: PortState) -> PortState
@@ -32,6 +39,19 @@ fn freed(state: PortState) -> PortState
 }
 
 impl Dif {
+    /// The CEP-id of the end at a place, which rests for `3 * delta` of the end's cube.
+    pub(crate) fn rest_at(&self, at: usize) -> IdRest
+        requires valid { (below : Seen) × Stands self.now below }
+        requires at { at < length self.now.flows.conns }
+        ensures { RestsAt self.now at result }
+    {
+        let form = self.flows.conns.at(at).sending.form;
+        IdRest {
+            cep: form.peer.scep,
+            ticks: 3 * form.cube.delta(),
+        }
+    }
+
     /// Closes the allocated end at a place, which is at a node, writes off what its connection holds in the ledger of the
     /// member there, and deletes the object of the flow.
     fn close_at(&mut self, alloc: Global, at: usize, node: Node) -> Result<(), Memory>
@@ -41,7 +61,7 @@ impl Dif {
         ensures does { (lines : List Direction) (below : Seen) → Holds self.old lines below → FreesHere self.old lines below at result self.new }
         ensures same { (self.new.settings ≡ self.old.settings) × (self.new.clock ≡ self.old.clock) × (self.new.failed ≡ self.old.failed) }
         ensures laid { self.new.laid ≡ self.old.laid }
-        ensures whole { self.new ≡ record self.old { processes = self.new.processes; managements = self.new.managements; flows = self.new.flows } }
+        ensures whole { self.new ≡ record self.old { processes = self.new.processes; managements = self.new.managements; flows = self.new.flows; ids = self.new.ids } }
         ensures manages { FreesManaged (Some at) result self.old self.new.managements }
         ensures leaves { ChangesOnly (λ i. WhenOk result (i ≡ at)) (home_of self.old node) self.old self.new }
     {
@@ -50,10 +70,32 @@ impl Dif {
         };
         let clock = self.clock;
         let name = self.name_of_flow(alloc, at)?;
+        let rest = self.rest_at(at);
         self.processes
             .stop(alloc, home, &mut self.flows, clock, at, PortState::Closed)?;
+        self.ids.give_back(home, clock, rest.cep, rest.ticks);
         self.managements.remove(home, name.as_slice());
         Ok(())
+    }
+
+    /// Withdraws the end at a place, which was asked for and is at a node. Its CEP-id rests from now on.
+    fn withdraw_at(&mut self, at: usize, node: Node)
+        requires valid { IsDif self.old }
+        requires at { at < length self.old.flows.journal.ends }
+        requires end { (e : End) → slice_get self.old.flows.journal.ends at ≡ Some e → (e.state ≡ Pending) × (e.port.node ≡ node) }
+        ensures does { (lines : List Direction) (below : Seen) → Holds self.old lines below → FreesHere self.old lines below at (Ok tt) self.new }
+        ensures whole { self.new ≡ record self.old { flows = self.new.flows; ids = self.new.ids } }
+        ensures leaves { ChangesOnly (λ i. i ≡ at) (home_of self.old node) self.old self.new }
+    {
+        let Some(home) = self.place_at_node(node) else {
+            unreachable!()
+        };
+        let rest = self.rest_at(at);
+        self.flows
+            .journal
+            .ends
+            .set_state(at, PortState::Refused(Why::Withdrawn));
+        self.ids.give_back(home, self.clock, rest.cep, rest.ticks);
     }
 
     /// Frees the end at a place.
@@ -63,7 +105,7 @@ impl Dif {
         ensures does { (lines : List Direction) (below : Seen) → Holds self.old lines below → FreesHere self.old lines below at result self.new }
         ensures same { (self.new.settings ≡ self.old.settings) × (self.new.clock ≡ self.old.clock) × (self.new.failed ≡ self.old.failed) }
         ensures laid { self.new.laid ≡ self.old.laid }
-        ensures whole { self.new ≡ record self.old { processes = self.new.processes; managements = self.new.managements; flows = self.new.flows } }
+        ensures whole { self.new ≡ record self.old { processes = self.new.processes; managements = self.new.managements; flows = self.new.flows; ids = self.new.ids } }
         ensures manages { FreesManaged (Some at) result self.old self.new.managements }
         ensures leaves { (end : End) → slice_get self.old.flows.journal.ends at ≡ Some end → ChangesOnly (λ i. WhenOk result (i ≡ at)) (home_of self.old end.port.node) self.old self.new }
     {
@@ -73,6 +115,10 @@ impl Dif {
         let (state, node) = (end.state, end.port.node);
         match state {
             PortState::Allocated => self.close_at(alloc, at, node),
+            PortState::Pending => {
+                self.withdraw_at(at, node);
+                Ok(())
+            }
             state => {
                 self.flows.journal.ends.set_state(at, freed(state));
                 Ok(())
@@ -91,7 +137,7 @@ impl Dif {
         ensures stands { StaysStanding self.old self.new }
         ensures settings { self.new.settings ≡ self.old.settings }
         ensures laid { self.new.laid ≡ self.old.laid }
-        ensures whole { self.new ≡ record self.old { processes = self.new.processes; managements = self.new.managements; flows = self.new.flows; failed = self.new.failed } }
+        ensures whole { self.new ≡ record self.old { processes = self.new.processes; managements = self.new.managements; flows = self.new.flows; ids = self.new.ids; failed = self.new.failed } }
         ensures manages { FreesManaged (place_in port self.old.flows.journal.ends) result self.old self.new.managements }
         ensures leaves { ChangesOnly (λ i. WhenOk result (IsPortAt self.old port i)) (home_of self.old port.node) self.old self.new }
         ensures failed { self.old.failed ≡ true → result ≡ Err NoneFound }

@@ -65,7 +65,10 @@ impl Dif {
         requires { F.valid below.now }
         ensures { self.now.clock < result → RestsUntil result self.now (F.seen below.now) }
     {
-        let until = self.flows.quiet_until();
+        let until = self
+            .flows
+            .quiet_until()
+            .min(self.connections.flows.quiet_until());
         if until <= self.clock || self.failed || !are_at_rest(self.processes.as_slice(), below) {
             return self.clock;
         }

@@ -17,7 +17,9 @@ use rina_account::Ledger;
 use rina_base::{Memory, Seq, Tick};
 use rina_cube::Cube;
 use rina_data::{IpcProcess, Settings};
+use rina_flood::members_are_a_network;
 use rina_flows::Flows;
+use rina_ids::MemberIds;
 use rina_queue::Queues;
 use std::alloc::{AllocError, Global};
 
@@ -70,6 +72,7 @@ impl Dif {
         ensures holds { IfOk result (λ d. (below : Seen) → AreKept below → CanManage (config_of settings) manage → AreMembers (config_of settings) → clock ≡ below.now → IsFree (config_of settings) below → Holds d [] below) }
     {
         let processes = all_bare(alloc, &settings)?;
+        let ids = MemberIds::new(alloc, settings.widths.cep, settings.members.len())?;
         let laid = Layout::none(alloc);
         let connections = Connections::none(alloc, manage);
         let members = settings.members.as_slice();
@@ -83,6 +86,8 @@ impl Dif {
             true,
             &processes,
         )?;
+        // A law, and no step: the members start as a network of flooding.
+        members_are_a_network();
         Ok(Dif {
             settings,
             clock,
@@ -91,6 +96,7 @@ impl Dif {
             laid,
             connections,
             flows: Flows::new(alloc),
+            ids,
             waiting: Vec::new(alloc),
             names: Seq::new(alloc),
             failed: false,

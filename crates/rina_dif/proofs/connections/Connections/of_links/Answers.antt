@@ -2,7 +2,7 @@ use Rattle.std.proofs.Common.{ℕ, add-one, subst, sym}
 use Rattle.std.proofs.lemmas.Option.{slice_get-get_or}
 use Rattle.rina_cube.specs.Cubes.{IsCube}
 use Rattle.rina_dif.proofs.Channels.{far_channel, near_channel}
-use Rattle.rina_dif.proofs.Joining.{AreMadeOf, connects_next, none_made}
+use Rattle.rina_dif.proofs.Joining.{AreMadeOf, all_stand, connects_next, none_made}
 use Rattle.rina_dif.proofs.connections.Connections.of_links.Goals as goal
 
 pub loop-pair-init : goal.loop-pair-init
@@ -22,3 +22,6 @@ connect-requires-clause-config c = c.requires.manage.managed.config
 
 pub connect-requires-clause-manage : goal.connect-requires-clause-manage
 connect-requires-clause-manage c = subst IsCube (sym c.loop-pair.invariant.have.manage_is) c.requires.manage.managed.cube
+
+pub returns-clause-stand : goal.returns-clause-stand
+returns-clause-stand c = all_stand c.args.settings.now c.args.manage c.args.clock c.args.ports.now c.args.processes.now c.loop-pair.pair-index c.loop-pair.made c.loop-pair-test.false c.loop-pair.invariant

@@ -12,7 +12,7 @@ returns-in_default-state-clause-does c =
     let d = c.args.self.now in
     let end = c.in-Some.end.now in
     let ends = c.set_state.ensures end c.in-Some.ensures ∙ ap (λ (s : PortState). slice_set d.flows.journal.ends c.args.at (with_state end s)) c.freed.ensures in
-    withdraws d c.args.at end (record d.flows { journal = record { ends = c.set_state.new.self } }) c.in-Some.ensures c.in_default-state.not-Allocated refl ends
+    withdraws d c.args.at end (record d.flows { journal = record { ends = c.set_state.new.self } }) c.in-Some.ensures c.in_default-state.not-Allocated c.in_default-state.not-Pending refl ends
 
 pub returns-in-Allocated-clause-leaves : goal.returns-in-Allocated-clause-leaves
 returns-in-Allocated-clause-leaves c = λ end is.

@@ -8,12 +8,19 @@ use Rattle.rina_dif.specs.Linking.{AreLinks}
 use Rattle.rina_data.specs.declared.settings.Settings.{Settings}
 use Rattle.rina_data.specs.Configs.{config_of}
 use Rattle.rina_dif.specs.Connected.{CanManage}
+use Rattle.rina_dif.specs.declared.dif.Dif.{Dif}
 use Rattle.rina_dif.proofs.Sound.{can_manage}
 use Rattle.rina_dif.proofs.Joining.{are_links, is_connected}
 use Rattle.rina_dif.proofs.Made.{its_links, its_settings, made_new, made_stands, made_takes}
 use Rattle.rina_dif.proofs.Routed.{same_routed}
 use Rattle.rina_dif.proofs.Started.{few_rules, same_started}
 use Rattle.rina_dif.proofs.Wiring.{all_bare_up}
+use Rattle.rina_dif.specs.Linking.{HaveConnections}
+use Rattle.rina_dif_law.specs.Numbered.{AreMembers}
+use Rattle.rina_dif_law.specs.Standing.{IsConfig}
+use Rattle.rina_dif.proofs.FloodingStart.{plan_floods}
+use Rattle.rina_dif.proofs.Sound.{are_members, is_config}
+use Rattle.rina_dif.proofs.Started.{made_managed}
 use Rattle.rina_dif.proofs.dif.Dif.of_plan.Goals as goal
 
 pub lay_links-requires-clause-takes : goal.lay_links-requires-clause-takes
@@ -61,7 +68,13 @@ returns-clause-stands g c =
     let links = are_links c.args.plan.now c.args.at dif made.settings made.clock (seen c.args.below.now) (seen c.lay_links.new.below) c.in_ok-ports.ports managements linked c.route_all.new.processes c.requires.plan c.in-Some.ensures are (c.in_ok-made.ensures.clock ∙ c.now.ensures) c.lay_links.ensures.laid c.in_ok-ports.ensures.ok routed in
     let same = c.as_slice-links.ensures in
     let connected = c.in_ok-connections.ensures.stand (seen c.lay_links.new.below) (subst (λ (ps : List (Port × Port)). AreLinks made.settings made.clock ps c.route_all.new.processes (seen c.lay_links.new.below)) (sym same) links) in
-    made_stands c.args.plan.now c.args.at dif (record made { processes = c.route_all.new.processes; managements = managements; laid = c.in_ok-made-2.field-0; connections = c.in_ok-connections.connections }) (seen c.args.below.now) (seen c.lay_links.new.below) (g.met.F.Facility.kept c.lay_links.new.below c.lay_links.ensures.valid) c.requires.plan c.in-Some.ensures are (c.in_ok-made.ensures.clock ∙ c.now.ensures) bare.ends bare.conns free c.lay_links.ensures.laid c.in_ok-ports.ports linked c.in_ok-ports.ensures.ok started routed (c.in_ok-made-2.ensures ∙ c.as_slice-plans.ensures) connected
+    let d : Dif = record made { processes = c.route_all.new.processes; managements = managements; laid = c.in_ok-made-2.field-0; connections = c.in_ok-connections.connections } in
+    let config = subst (λ (s : Settings). IsConfig (config_of s)) (sym are) (is_config c.args.plan.now c.args.at dif c.requires.plan c.in-Some.ensures) in
+    let members = subst (λ (s : Settings). AreMembers (config_of s)) (sym are) (are_members c.args.plan.now c.args.at dif c.requires.plan c.in-Some.ensures) in
+    let managed = made_managed c.args.plan.now c.args.at dif d (seen c.args.below.now) (seen c.lay_links.new.below) c.in_ok-ports.ports linked c.requires.plan c.in-Some.ensures are config members c.in_ok-ports.ensures.ok started routed in
+    let have = subst (λ (ps : List (Port × Port)). HaveConnections made.settings dif.manage ps c.route_all.new.processes c.in_ok-connections.connections) same c.in_ok-connections.ensures.have in
+    let floods = plan_floods c.members_are_a_network.ensures.start c.args.plan.now dif d (seen c.args.below.now) (seen c.lay_links.new.below) c.in_ok-ports.ports linked dif.manage managed.laid_out c.in_ok-ports.ensures.ok links.up started (c.in_ok-made-2.ensures ∙ c.as_slice-plans.ensures) have connected in
+    made_stands c.args.plan.now c.args.at dif (record made { processes = c.route_all.new.processes; managements = managements; laid = c.in_ok-made-2.field-0; connections = c.in_ok-connections.connections }) (seen c.args.below.now) (seen c.lay_links.new.below) (g.met.F.Facility.kept c.lay_links.new.below c.lay_links.ensures.valid) c.requires.plan c.in-Some.ensures are (c.in_ok-made.ensures.clock ∙ c.now.ensures) bare.ends bare.conns bare.ids free c.lay_links.ensures.laid c.in_ok-ports.ports linked c.in_ok-ports.ensures.ok started routed (c.in_ok-made-2.ensures ∙ c.as_slice-plans.ensures) connected floods
 
 pub returns-clause-exact : goal.returns-clause-exact
 returns-clause-exact g c =

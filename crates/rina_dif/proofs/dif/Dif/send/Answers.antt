@@ -12,13 +12,13 @@ returns-then-self-clause-does c = failed_sends (place_in c.args.port c.args.self
 pub returns-clause-valid : goal.returns-clause-valid
 returns-clause-valid c =
     let d' = c.send_at-result.new.self in
-    sent_whole c.args.self.now c.in-Some.at c.args.sdu.now c.send_at-result.result (record d' { failed = c.match-matches.self }) c.requires c.send_at-result.ensures.same.1 (λ lines below h. refailed c.args.self.now lines below c.in-Some.at c.args.sdu.now c.send_at-result.result d' c.match-matches.self (c.send_at-result.ensures.does lines below h))
+    sent_whole c.args.self.now c.in-Some.at c.args.sdu.now c.send_at-result.result (record d' { failed = c.match-matches.self }) c.requires c.send_at-result.ensures.same.1 (λ lines below h. refailed c.args.self.now lines below c.in-Some.at c.args.sdu.now c.send_at-result.result d' c.match-matches.self (c.send_at-result.ensures.same.2 ∙ c.if-self.false) (c.send_at-result.ensures.does lines below h))
 
 pub returns-clause-does : goal.returns-clause-does
 returns-clause-does c = λ lines below h.
     let d' = c.send_at-result.new.self in
     let here = sym c.place.ensures.at ∙ c.in-Some.is in
-    sends_at (place_in c.args.port c.args.self.now.flows.journal.ends) c.args.self.now lines below c.in-Some.at c.args.sdu.now c.send_at-result.result (record d' { failed = c.match-matches.self }) here (refailed c.args.self.now lines below c.in-Some.at c.args.sdu.now c.send_at-result.result d' c.match-matches.self (c.send_at-result.ensures.does lines below h))
+    sends_at (place_in c.args.port c.args.self.now.flows.journal.ends) c.args.self.now lines below c.in-Some.at c.args.sdu.now c.send_at-result.result (record d' { failed = c.match-matches.self }) here (refailed c.args.self.now lines below c.in-Some.at c.args.sdu.now c.send_at-result.result d' c.match-matches.self (c.send_at-result.ensures.same.2 ∙ c.if-self.false) (c.send_at-result.ensures.does lines below h))
 
 pub returns-then-self-clause-shown : goal.returns-then-self-clause-shown
 returns-then-self-clause-shown c = λ s shows. sends_shown s c.args.self.now c.args.port c.args.sdu.now (Err Memory) c.args.self.now c.requires (failed_sends (place_in c.args.port c.args.self.now.flows.journal.ends) c.args.self.now c.args.sdu.now) shows
@@ -40,19 +40,19 @@ pub returns-clause-shown : goal.returns-clause-shown
 returns-clause-shown c = λ s shows.
     let d' = c.send_at-result.new.self in
     let here = sym c.place.ensures.at ∙ c.in-Some.is in
-    sends_shown s c.args.self.now c.args.port c.args.sdu.now c.send_at-result.result (record d' { failed = c.match-matches.self }) c.requires (λ lines below h. sends_at (place_in c.args.port c.args.self.now.flows.journal.ends) c.args.self.now lines below c.in-Some.at c.args.sdu.now c.send_at-result.result (record d' { failed = c.match-matches.self }) here (refailed c.args.self.now lines below c.in-Some.at c.args.sdu.now c.send_at-result.result d' c.match-matches.self (c.send_at-result.ensures.does lines below h))) shows
+    sends_shown s c.args.self.now c.args.port c.args.sdu.now c.send_at-result.result (record d' { failed = c.match-matches.self }) c.requires (λ lines below h. sends_at (place_in c.args.port c.args.self.now.flows.journal.ends) c.args.self.now lines below c.in-Some.at c.args.sdu.now c.send_at-result.result (record d' { failed = c.match-matches.self }) here (refailed c.args.self.now lines below c.in-Some.at c.args.sdu.now c.send_at-result.result d' c.match-matches.self (c.send_at-result.ensures.same.2 ∙ c.if-self.false) (c.send_at-result.ensures.does lines below h))) shows
 
 pub returns-clause-goes_on : goal.returns-clause-goes_on
 returns-clause-goes_on c =
     let d' = c.send_at-result.new.self in
     let here = sym c.place.ensures.at ∙ c.in-Some.is in
-    sends_go_on c.args.self.now c.args.port c.args.sdu.now c.send_at-result.result (record d' { failed = c.match-matches.self }) c.requires (λ lines below h. sends_at (place_in c.args.port c.args.self.now.flows.journal.ends) c.args.self.now lines below c.in-Some.at c.args.sdu.now c.send_at-result.result (record d' { failed = c.match-matches.self }) here (refailed c.args.self.now lines below c.in-Some.at c.args.sdu.now c.send_at-result.result d' c.match-matches.self (c.send_at-result.ensures.does lines below h)))
+    sends_go_on c.args.self.now c.args.port c.args.sdu.now c.send_at-result.result (record d' { failed = c.match-matches.self }) c.requires (λ lines below h. sends_at (place_in c.args.port c.args.self.now.flows.journal.ends) c.args.self.now lines below c.in-Some.at c.args.sdu.now c.send_at-result.result (record d' { failed = c.match-matches.self }) here (refailed c.args.self.now lines below c.in-Some.at c.args.sdu.now c.send_at-result.result d' c.match-matches.self (c.send_at-result.ensures.same.2 ∙ c.if-self.false) (c.send_at-result.ensures.does lines below h)))
 
 pub returns-clause-stands : goal.returns-clause-stands
 returns-clause-stands c =
     let d' = c.send_at-result.new.self in
     let here = sym c.place.ensures.at ∙ c.in-Some.is in
-    sends_stay c.args.self.now c.args.port c.args.sdu.now c.send_at-result.result (record d' { failed = c.match-matches.self }) (λ lines below h. sends_at (place_in c.args.port c.args.self.now.flows.journal.ends) c.args.self.now lines below c.in-Some.at c.args.sdu.now c.send_at-result.result (record d' { failed = c.match-matches.self }) here (refailed c.args.self.now lines below c.in-Some.at c.args.sdu.now c.send_at-result.result d' c.match-matches.self (c.send_at-result.ensures.does lines below h)))
+    sends_stay c.args.self.now c.args.port c.args.sdu.now c.send_at-result.result (record d' { failed = c.match-matches.self }) (λ lines below h. sends_at (place_in c.args.port c.args.self.now.flows.journal.ends) c.args.self.now lines below c.in-Some.at c.args.sdu.now c.send_at-result.result (record d' { failed = c.match-matches.self }) here (refailed c.args.self.now lines below c.in-Some.at c.args.sdu.now c.send_at-result.result d' c.match-matches.self (c.send_at-result.ensures.same.2 ∙ c.if-self.false) (c.send_at-result.ensures.does lines below h)))
 
 pub returns-clause-leaves : goal.returns-clause-leaves
 returns-clause-leaves c =

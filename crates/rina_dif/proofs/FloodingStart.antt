@@ -1,0 +1,176 @@
+-- The members of a DIF that was made are a network at its start, before anything is flooded.
+use Rattle.std.proofs.Common.{◌≡◌, ◌∙◌, ℕ, zero, suc, ◌≤◌, ◌<◌, Bool, List, [], length, map, slice_get, take, Option, Some, None, option_map, refl, sym, ap, subst, arith}
+use Rattle.std.proofs.lemmas.List.{length-map}
+use Rattle.std.proofs.lemmas.Option.{slice_get-map, slice_get_within}
+use Rattle.rina_access.specs.declared.rules.Rule.{Rule}
+use Rattle.rina_base.specs.declared.number.Port.{Port}
+use Rattle.rina_channel.specs.declared.channel.Channel.{Channel}
+use Rattle.rina_channel.specs.Channels.{HasLive}
+use Rattle.rina_cube.specs.declared.Cube.{Cube}
+use Rattle.rina_data.specs.declared.link.Link.{Link}
+use Rattle.rina_data.specs.declared.process.IpcProcess.{IpcProcess}
+use Rattle.rina_data.specs.Configs.{config_of}
+use Rattle.rina_data.specs.Deciding.{process_of}
+use Rattle.rina_data.proofs.Finding.{there}
+use Rattle.rina_dif_law.specs.Numbered.{AreMembers}
+use Rattle.rina_dif_law.specs.Standing.{IsConfig}
+use Rattle.rina_flood.specs.Members.{IsRunOf, StartIsRun}
+use Rattle.rina_flood.specs.Static.{AreEnds, AreFirst, LinkEnd}
+use Rattle.rina_iface.specs.declared.ends.End.{End}
+use Rattle.rina_iface.specs.Seen.{Seen}
+use Rattle.rina_law.specs.declared.entry.Entry.{Entry}
+use Rattle.rina_member.specs.declared.management.Management.{Management}
+use Rattle.rina_member.specs.Knowing.{IsLaidOut}
+use Rattle.rina_member.specs.Routing.{edges_from}
+use Rattle.rina_member.specs.Start.{started}
+use Rattle.rina_plan.specs.declared.dif.DifPlan.{DifPlan}
+use Rattle.rina_plan.specs.declared.dif.LinkPlan.{LinkPlan}
+use Rattle.rina_stack.specs.declared.plan.Plan.{Plan}
+use Rattle.rina_dif.specs.declared.dif.Dif.{Dif}
+use Rattle.rina_dif.specs.Building.{AreBare}
+use Rattle.rina_dif.specs.Connected.{AreConnected}
+use Rattle.rina_dif.specs.Flooding.{AreFlooding, handled_at, link_end, members_seen, offered_at, texts_of}
+use Rattle.rina_dif.specs.Laying.{AreLaid, AreLinkedUp, ends_of, links_from, ports_at}
+use Rattle.rina_dif.specs.Linking.{HaveConnections, IsChannelOf}
+use Rattle.rina_dif.specs.Managing.{AreStarted, agents_of}
+use Rattle.rina_dif.specs.Shown.{seen_of}
+use Rattle.rina_dif.proofs.Bare.{map_at}
+use Rattle.rina_dif.proofs.Started.{are_live, are_numbered, bare_managed, enough, length_from}
+
+-- Nothing was offered or handled
+
+take_none : {X : Type 0} (n : ℕ) → take {A = X} n [] ≡ []
+take_none zero = refl
+take_none (suc n) = refl
+
+none_offered : (ends : List End) (place : ℕ) → ((k : ℕ) (e : End) → slice_get ends k ≡ Some e → e.sent ≡ []) → offered_at (slice_get ends place) ≡ []
+none_offered ends place unused = go (slice_get ends place) refl
+  where
+    go : (o : Option End) → slice_get ends place ≡ o → offered_at o ≡ []
+    go None is = refl
+    go (Some e) is = ap texts_of (unused place e is)
+
+none_handled : (ends : List End) (place : ℕ) → ((k : ℕ) (e : End) → slice_get ends k ≡ Some e → e.got ≡ []) → handled_at (slice_get ends place) ≡ []
+none_handled ends place unused = go (slice_get ends place) refl
+  where
+    go : (o : Option End) → slice_get ends place ≡ o → handled_at o ≡ []
+    go None is = refl
+    go (Some e) is = ap (λ (xs : List Entry). texts_of (take e.taken xs)) (unused place e is) ∙ ap texts_of (take_none e.taken)
+
+-- The ends of the links
+
+module _ (d : Dif) (manage : Cube) (ports laid_ports : List (Port × Port)) (below : Seen) (have : HaveConnections d.settings manage ports d.processes d.connections) (connected : AreConnected (config_of d.settings) d.clock d.connections (seen_of d).processes below) (up : AreLinkedUp d.settings (ends_of laid_ports) d.processes) where
+  abbrev ps : List IpcProcess
+  ps = d.processes
+
+  within_members : (i : ℕ) (p : IpcProcess) → slice_get ps i ≡ Some p → i < length d.settings.members
+  within_members i p is = (let lt = slice_get_within ps i p is in let aligned = up.aligned in omega (arith, lt, aligned))
+
+  -- the link of a channel is live
+  live_channel : (x : Channel) → IsChannelOf d.settings ps x.port x.partner x → HasLive (map process_of ps) x.member x.number x.port
+  live_channel x of =
+      let m = there d.settings.members x.member (within_members x.member of.process of.is_process) in
+      let its = (up.each x.member m.0 of.process m.1 of.is_process).links in
+      record {
+        process = process_of of.process;
+        is_process = slice_get-map process_of ps x.member ∙ ap (option_map process_of) of.is_process;
+        place = of.place;
+        link = of.link;
+        stands = of.stands;
+        live = are_live (ports_at m.0.node (ends_of laid_ports)) of.place of.link (ap (λ (ls : List Link). slice_get ls of.place) (sym its) ∙ of.stands);
+        number_is = sym of.number_is;
+        port_is = of.on_port;
+      }
+
+  pub are_ends : AreEnds d.settings.members (map link_end d.connections.channels)
+  are_ends = record {
+    within = λ k e is.
+        let x = map_at link_end d.connections.channels k e is in
+        let of = have.links k x.0 x.1 in
+        subst (λ (z : LinkEnd). z.member < length d.settings.members) x.2 (within_members x.0.member of.process of.is_process);
+    apart = λ j k a b is_a is_b member number.
+        let x = map_at link_end d.connections.channels j a is_a in
+        let y = map_at link_end d.connections.channels k b is_b in
+        let same_member : y.0.member ≡ x.0.member = ap (λ (z : LinkEnd). z.member) y.2 ∙ sym member ∙ sym (ap (λ (z : LinkEnd). z.member) x.2) in
+        let same_number : y.0.number ≡ x.0.number = ap (λ (z : LinkEnd). z.number) y.2 ∙ sym number ∙ sym (ap (λ (z : LinkEnd). z.number) x.2) in
+        let first = live_channel x.0 (have.links j x.0 x.1) in
+        let second : HasLive (map process_of ps) x.0.member x.0.number y.0.port = subst (λ (i : ℕ). HasLive (map process_of ps) i x.0.number y.0.port) same_member (subst (λ (n : ℕ). HasLive (map process_of ps) y.0.member n y.0.port) same_number (live_channel y.0 (have.links k y.0 y.1))) in
+        let channels = connected.standing.channels in
+        channels.apart j k x.0 y.0 x.1 y.1 (channels.numbered x.0.member x.0.number x.0.port y.0.port first second);
+  }
+
+-- The DIF of a plan
+
+plan_first : (plan : Plan) (dif : DifPlan) (d : Dif) (old new : Seen) (ports : List (Port × Port)) (linked : List IpcProcess) → AreLaid plan dif d.settings dif.links old new ports linked → AreStarted d.settings.cubes d.settings.members dif.links dif.rules dif.allow (length d.settings.members) linked d.managements
+    → AreFirst d.settings.members dif.links (agents_of d.managements)
+plan_first plan dif d old new ports linked laid so = record {
+  aligned = length-map d.managements (λ (g : Management). g.agent) ∙ so.aligned;
+  each = λ k m a is_m is_a.
+      let g = map_at (λ (z : Management). z.agent) d.managements k a is_a in
+      let within = slice_get_within d.settings.members k m is_m in
+      let aligned = laid.up.aligned in
+      let p = there linked k (omega (arith, within, aligned)) in
+      let up = laid.up.each k m p.0 is_m p.1 in
+      let one = so.each k m p.0 g.0 is_m p.1 g.1 in
+      let its = ports_at m.node (ends_of ports) in
+      let all : length (edges_from d.settings.members m.node dif.links) ≤ length its = enough plan dif d.settings.members m.node dif.links ports old new laid.bound in
+      let count = length_from 0 its in
+      record {
+        rules = one.access;
+        links = links_from 0 its;
+        numbered = are_numbered its;
+        live = are_live its;
+        enough = omega (arith, all, count);
+        is = sym g.2 ∙ one.is ∙ ap (started d.settings.members dif.links one.access m) up.links;
+      };
+}
+
+pub plan_floods : StartIsRun → (plan : Plan) (dif : DifPlan) (d : Dif) (old new : Seen) (ports : List (Port × Port)) (linked : List IpcProcess) (manage : Cube) → IsLaidOut d.settings.members dif.links → AreLaid plan dif d.settings dif.links old new ports linked → AreLinkedUp d.settings (ends_of ports) d.processes
+    → AreStarted d.settings.cubes d.settings.members dif.links dif.rules dif.allow (length d.settings.members) linked d.managements → d.laid.links ≡ dif.links → HaveConnections d.settings manage ports d.processes d.connections → AreConnected (config_of d.settings) d.clock d.connections (seen_of d).processes new → AreFlooding d
+plan_floods start plan dif d old new ports linked manage out laid up so same have connected =
+    let all : AreEnds d.settings.members (map link_end d.connections.channels) = are_ends d manage ports ports new have connected up in
+    let ends = d.connections.flows.journal.ends in
+    let run = start dif.links (members_seen d) (record {
+      laid_out = out;
+      first = plan_first plan dif d old new ports linked laid so;
+      ends = all;
+      sent = λ place. none_offered ends place (λ k e is. (have.unused k e is).sent);
+      got = λ place. none_handled ends place (λ k e is. (have.unused k e is).got);
+    }) in
+    subst (λ (plans : List LinkPlan). IsRunOf plans (members_seen d)) (sym same) run
+
+-- A DIF without links
+
+none_in : {X : Type 0} (xs : List X) (i : ℕ) (x : X) → xs ≡ [] → slice_get xs i ≡ Some x → ⊥
+none_in xs i x e h = cc
+
+pub bare_floods : StartIsRun → (d : Dif) → d.connections.channels ≡ [] → d.connections.flows.journal.ends ≡ [] → d.laid.links ≡ [] → AreBare d.settings d.processes → (rules : List Rule) (allow : Bool) → AreStarted d.settings.cubes d.settings.members d.laid.links rules allow (length d.settings.members) d.processes d.managements → IsConfig (config_of d.settings) → AreMembers (config_of d.settings) → AreFlooding d
+bare_floods start d channels ends none bare rules allow so config members =
+    let managed = bare_managed d.settings d.laid.links rules allow d.clock d.processes d.managements none bare config members so in
+    start d.laid.links (members_seen d) (record {
+      laid_out = managed.laid_out;
+      first = record {
+        aligned = length-map d.managements (λ (g : Management). g.agent) ∙ so.aligned;
+        each = λ k m a is_m is_a.
+            let g = map_at (λ (z : Management). z.agent) d.managements k a is_a in
+            let within = slice_get_within d.settings.members k m is_m in
+            let aligned = bare.aligned in
+            let p = there d.processes k (omega (arith, within, aligned)) in
+            let one = so.each k m p.0 g.0 is_m p.1 g.1 in
+            let links : p.0.links ≡ [] = (bare.each k p.0 p.1).links in
+            record {
+              rules = one.access;
+              links = [];
+              numbered = λ j link is. absurd (none_in [] j link refl is);
+              live = λ j link is. absurd (none_in [] j link refl is);
+              enough = subst (λ (plans : List LinkPlan). length (edges_from d.settings.members m.node plans) ≤ 0) (sym none) (omega arith);
+              is = sym g.2 ∙ one.is ∙ ap (started d.settings.members d.laid.links one.access m) links;
+            };
+      };
+      ends = record {
+        within = λ k e is. (let x = map_at link_end d.connections.channels k e is in absurd (none_in d.connections.channels k x.0 channels x.1));
+        apart = λ j k a b is_a is_b member number. (let x = map_at link_end d.connections.channels j a is_a in absurd (none_in d.connections.channels j x.0 channels x.1));
+      };
+      sent = λ place. none_offered d.connections.flows.journal.ends place (λ k e is. absurd (none_in d.connections.flows.journal.ends k e ends is));
+      got = λ place. none_handled d.connections.flows.journal.ends place (λ k e is. absurd (none_in d.connections.flows.journal.ends k e ends is));
+    })

@@ -1,0 +1,98 @@
+-- A clock step serves the link that goes first, or the flows.
+use Rattle.std.proofs.Common.{◌≡◌, ◌∙◌, ℕ, List, Option, Some, None, Result, Ok, Err, refl, sym, ap, subst, inl, inr}
+use Rattle.rina_iface.specs.Seen.{Seen}
+use Rattle.rina_law.specs.Direction.{Direction}
+use Rattle.rina_data.specs.declared.step.ClockStep.{ClockStep}
+use Rattle.rina_data.specs.declared.step.ClockStep.TheVariants as step
+use Rattle.rina_data.specs.declared.step.StepError.{StepError}
+use Rattle.rina_data.specs.declared.step.StepError.TheVariants as why
+use Rattle.rina_data.specs.Configs.{config_of}
+use Rattle.rina_dif_law.specs.Dif.{DifSeen}
+use Rattle.rina_dif_law.specs.Sending.{home}
+use Rattle.rina_flows.specs.declared.due.Item.{Item}
+use Rattle.rina_flows.specs.declared.due.Item.TheVariants.{Ack, Again, GiveUp, Gone}
+use Rattle.rina_dif.specs.declared.dif.Dif.{Dif}
+use Rattle.rina_dif.specs.declared.links_due.NextLink.{NextLink}
+use Rattle.rina_dif.specs.Changing.{ManagesStep}
+use Rattle.rina_dif.specs.Clocking.{FindsLinkFirst, IsLinkFirst, NoLinkFirst, ServesHere, StepsFlow, StepsFlowHere, item_of}
+use Rattle.rina_dif.specs.Holding.{Holds, LinksStand}
+use Rattle.rina_dif.specs.LinkDue.{IsLinkTurn}
+use Rattle.rina_dif.specs.LinkSteps.{DoesLink}
+use Rattle.rina_dif.specs.Shown.{seen_of}
+
+same_some : {X : Type 0} (o : Option X) (a b : X) → o ≡ Some a → o ≡ Some b → a ≡ b
+same_some o a b h g = cc
+
+-- The flows
+
+no_link_first : (d : Dif) (lines links : List Direction) (i node : ℕ) (done : ClockStep) (new : DifSeen) (lines' : List Direction) → FindsLinkFirst d lines links i node None → StepsFlow d lines node done new lines' → NoLinkFirst (item_of done) d links i
+no_link_first d lines links i node step.Idle new lines' none s = none None s.0
+no_link_first d lines links i node (step.Gone cep) new lines' none s = none (Some (record { item = Gone; turn = record { place = s.at; cep = cep } })) s.turn
+no_link_first d lines links i node (step.GaveUp num) new lines' none s = none (Some (record { item = GiveUp; turn = record { place = s.at; cep = num.cep } })) s.turn
+no_link_first d lines links i node (step.Ack cep) new lines' none s = none (Some (record { item = Ack; turn = record { place = s.at; cep = cep } })) s.turn
+no_link_first d lines links i node (step.Again num) new lines' none s = none (Some (record { item = Again; turn = record { place = s.at; cep = num.cep } })) s.turn
+no_link_first d lines links i node (step.LinkLost link) new lines' none s = absurd s
+no_link_first d lines links i node (step.LinkNew link) new lines' none s = absurd s
+no_link_first d lines links i node (step.Timeout port) new lines' none s = absurd s
+no_link_first d lines links i node (step.Message link) new lines' none s = absurd s
+
+-- no link goes first
+pub flow_serves : (d : Dif) (lines : List Direction) (below : Seen) (i node : ℕ) (r : Result ClockStep StepError) (d' : Dif) → home node (config_of d.settings).members ≡ Some i → d'.connections ≡ d.connections → ((links : LinksStand d below) → FindsLinkFirst d lines links.lines i node None) → StepsFlowHere d lines below node r d' → ServesHere d lines below node r d'
+flow_serves d lines below i node (Ok done) d' here same none s = record {
+  lines' = s.lines';
+  does = inl (record {
+    does = s.does;
+    same = same;
+    first = λ k there links. subst (λ (n : ℕ). NoLinkFirst (item_of done) d links.lines n) (same_some (home node (config_of d.settings).members) i k here there) (no_link_first d lines links.lines i node done (seen_of d') s.lines' (none links) s.does);
+  });
+  holds = s.holds;
+}
+flow_serves d lines below i node (Err why.Memory) d' here same none s = s
+flow_serves d lines below i node (Err why.NoIpc) d' here same none s = absurd s
+flow_serves d lines below i node (Err why.NoLink) d' here same none s = absurd s
+
+-- The link that goes first
+
+-- what is done there, and told
+abbrev pub DoesNext : Dif → ℕ → NextLink → Dif → ClockStep → List Direction → Type 0
+DoesNext d i next d' done links = (item_of done ≡ Some next.item) × DoesLink d links i next.turn.place done (seen_of d') d'.connections.flows
+
+-- nothing but the IPC processes and the management connections changes
+abbrev pub IsOnLinks : Dif → Dif → Type 0
+IsOnLinks d d' = d' ≡ record d { processes = d'.processes; connections = record d.connections { flows = d'.connections.flows } }
+
+pub link_serves : (d : Dif) (lines : List Direction) (below : Seen) (i node : ℕ) (next : NextLink) (done : ClockStep) (d' : Dif) → home node (config_of d.settings).members ≡ Some i → IsOnLinks d d' → ((links : LinksStand d below) → IsLinkFirst next.item d lines links.lines i node next.turn.place next.turn.number) → ((links : LinksStand d below) → DoesNext d i next d' done links.lines) × Holds d' lines below → ServesHere d lines below node (Ok done) d'
+link_serves d lines below i node next done d' here only first s =
+    let failed : d'.failed ≡ d.failed = ap (λ (z : Dif). z.failed) only in
+    record {
+      lines' = lines;
+      does = inr (
+        record {
+          i = i;
+          at_home = here;
+          only = only ∙ ap (λ b. record d { processes = d'.processes; connections = record d.connections { flows = d'.connections.flows }; failed = b }) (sym failed);
+          does = λ links. (let x = s.0 links in record { item = next.item; told = x.0; place = next.turn.place; number = next.turn.number; first = first links; does = x.1 });
+        },
+        refl,
+      );
+      holds = s.1;
+    }
+
+link_manages_done : (d : Dif) (below : Seen) (i node place : ℕ) (links : List Direction) (done : ClockStep) (d' : Dif) → IsOnLinks d d' → DoesLink d links i place done (seen_of d') d'.connections.flows → ManagesStep (Ok done) (Some i) d below node d'.managements
+link_manages_done d below i node place links (step.Gone cep) d' only does = ap (λ (z : Dif). z.managements) only
+link_manages_done d below i node place links (step.Ack cep) d' only does = ap (λ (z : Dif). z.managements) only
+link_manages_done d below i node place links (step.Again num) d' only does = ap (λ (z : Dif). z.managements) only
+link_manages_done d below i node place links step.Idle d' only does = absurd does
+link_manages_done d below i node place links (step.GaveUp num) d' only does = absurd does
+link_manages_done d below i node place links (step.LinkLost link) d' only does = absurd does
+link_manages_done d below i node place links (step.LinkNew link) d' only does = absurd does
+link_manages_done d below i node place links (step.Timeout port) d' only does = absurd does
+link_manages_done d below i node place links (step.Message link) d' only does = absurd does
+
+pub link_manages : (d : Dif) (below seen : Seen) (lines : List Direction) (i node : ℕ) (next : NextLink) (done : ClockStep) (d' : Dif) → Holds d lines seen → IsOnLinks d d' → ((links : LinksStand d seen) → DoesNext d i next d' done links.lines) × Holds d' lines seen → ManagesStep (Ok done) (Some i) d below node d'.managements
+link_manages d below seen lines i node next done d' h only s = link_manages_done d below i node next.turn.place h.connected.lines done d' only (s.0 h.connected).1
+
+-- By its turn
+
+pub turn_is : (item : Item) (d : Dif) (i : ℕ) (next : NextLink) → next.item ≡ item → ((below : Seen) (links : LinksStand d below) → IsLinkTurn next.item d links.lines i next.turn.place next.turn.number) → (below : Seen) (links : LinksStand d below) → IsLinkTurn item d links.lines i next.turn.place next.turn.number
+turn_is item d i next is turn below links = subst (λ (z : Item). IsLinkTurn z d links.lines i next.turn.place next.turn.number) is (turn below links)

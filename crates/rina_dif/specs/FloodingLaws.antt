@@ -1,0 +1,37 @@
+-- What the laws of flooding say of a DIF.
+use Rattle.std.specs.Prelude.{◌≡◌, ℕ, false, List, slice_get, Some, None, Contains, MatchOption}
+use Rattle.rina_agent.specs.Neighbours.{link_key, link_state}
+use Rattle.rina_data.specs.declared.settings.Member.{Member}
+use Rattle.rina_flood.specs.Members.{IsQuietPath, IsRunOf, MembersSeen}
+use Rattle.rina_flood.specs.Network.{Side, after_rows}
+use Rattle.rina_iface.specs.Seen.{Seen}
+use Rattle.rina_law.specs.Direction.{Direction}
+use Rattle.rina_member.specs.declared.management.Management.{Management}
+use Rattle.rina_newest.specs.declared.item.Item.{Item}
+use Rattle.rina_newest.specs.Newest.{IsNewest, kept_at, value_at}
+use Rattle.rina_plan.specs.declared.dif.LinkPlan.{LinkPlan}
+use Rattle.rina_dif.specs.declared.dif.Dif.{Dif}
+use Rattle.rina_dif.specs.Flooding.{members_seen}
+use Rattle.rina_dif.specs.Holding.{Holds}
+
+-- a member of a DIF that holds, in which no allocation has failed
+pub record IsMemberOf (d : Dif) (lines : List Direction) (below : Seen) (place : ℕ) (member : Member) (management : Management) : Type 0 where
+  pub holds : Holds d lines below
+  pub alive : d.failed ≡ false
+  pub is_member : slice_get d.settings.members place ≡ Some member
+  pub is_management : slice_get d.managements place ≡ Some management
+
+-- the items that the member at an address made or was offered in a run, from the start on
+abbrev pub offered_in : (plans : List LinkPlan) (s : MembersSeen) → IsRunOf plans s → ℕ → List Item
+offered_in plans s run address = (after_rows run.start run.rows).offered address
+
+-- Each member keeps of each key the newest item of all that it made or was offered, and nothing where there was none
+abbrev pub MembersKeepTheNewest : Type 0
+MembersKeepTheNewest = (d : Dif) (lines : List Direction) (below : Seen) (place : ℕ) (member : Member) (m : Management) (key : List ℕ) (is : IsMemberOf d lines below place member m)
+    → MatchOption (kept_at m.agent.items key) ((x : Item) → Contains (offered_in d.laid.links (members_seen d) (is.holds.flooded is.alive) member.addr) x → x.key ≡ key → ⊥) (IsNewest (offered_in d.laid.links (members_seen d) (is.holds.flooded is.alive) member.addr) key)
+
+-- Where all is quiet on a walk of links, the members at its ends keep the same items, key by key, and the one keeps the link state of the
+-- other as the other's links are now
+abbrev pub MembersAgree : Type 0
+MembersAgree = (d : Dif) (lines : List Direction) (below : Seen) (i j : ℕ) (steps : List (ℕ × Side × ℕ)) (first last : Member) (m n : Management) → IsMemberOf d lines below i first m → IsMemberOf d lines below j last n → IsQuietPath (members_seen d) i steps j
+    → ((key : List ℕ) → kept_at m.agent.items key ≡ kept_at n.agent.items key) × (value_at n.agent.items (link_key first.addr) ≡ Some (link_state None m.agent.links))
