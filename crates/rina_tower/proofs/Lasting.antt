@@ -3,7 +3,6 @@ use Rattle.std.proofs.Common.{◌≡◌, ◌∙◌, ℕ, List, Option, Some, Non
 use Rattle.rina_iface.specs.Seen.{Seen}
 use Rattle.rina_law.specs.Direction.{Direction}
 use Rattle.rina_data.specs.declared.step.ClockStep.{ClockStep}
-use Rattle.rina_data.specs.declared.step.ClockStep.TheVariants as step
 use Rattle.rina_data.specs.declared.step.InStep.{InStep}
 use Rattle.rina_data.specs.declared.step.StepError.{StepError}
 use Rattle.rina_data.specs.declared.step.StepError.TheVariants.{Memory, NoIpc, NoLink}
@@ -11,16 +10,15 @@ use Rattle.rina_data.specs.Configs.{config_of}
 use Rattle.rina_dif_law.specs.Dif.{DifSeen}
 use Rattle.rina_dif_law.specs.Sending.{home}
 use Rattle.rina_dif_law.specs.Upward.{IsSilent}
-use Rattle.rina_dif_law.proofs.Finishing.{ended_silent}
 use Rattle.rina_dif_law.proofs.Keepers.{facility}
-use Rattle.rina_dif_law.proofs.Upper.{acknowledged_silent, forgotten_silent, resent_silent, silent_same}
+use Rattle.rina_dif_law.proofs.Upper.{silent_same}
 use Rattle.rina_dif.specs.declared.dif.Dif.{Dif}
-use Rattle.rina_dif.specs.Clocking.{ClockSteps, ClockStepsAt, Steps, StepsFlow, StepsOk}
+use Rattle.rina_dif.specs.Clocking.{ClockSteps, ClockStepsAt, StepsOk}
 use Rattle.rina_dif.specs.Holding.{Holds, Stands}
 use Rattle.rina_dif.specs.Shown.{seen_of}
 use Rattle.rina_dif.specs.Steps.{AtHome}
 use Rattle.rina_dif.specs.Taking.{TakesHome}
-use Rattle.rina_dif.proofs.Cutting.{loses_silent}
+use Rattle.rina_dif.proofs.Beside.{steps_silent}
 use Rattle.rina_tower.specs.StepEffect.{StandsAfter}
 use Rattle.rina_tower.proofs.Waiting.{clock_waits}
 
@@ -29,30 +27,8 @@ idle d d' is = silent_same d d' (ap (λ (x : DifSeen). x.ends) is) (ap (λ (x : 
 
 -- What comes with time
 
-clock_flow : (d : Dif) (lines : List Direction) (node : ℕ) (done : ClockStep) (new : DifSeen) (lines' : List Direction) → StepsFlow d lines node done new lines' → IsSilent (seen_of d) new
-clock_flow d lines node step.Idle new lines' s = idle (seen_of d) new s.1
-clock_flow d lines node (step.Gone cep) new lines' s = (forgotten_silent (seen_of d) lines s.at new lines' s.forgotten)
-clock_flow d lines node (step.GaveUp num) new lines' s = (ended_silent (seen_of d) lines s.at _ new s.given_up.ended)
-clock_flow d lines node (step.Ack cep) new lines' s = (acknowledged_silent (seen_of d) lines s.at s.cause new lines' s.acknowledged)
-clock_flow d lines node (step.Again num) new lines' s = (resent_silent (seen_of d) lines s.at s.cause new lines' s.resent)
-clock_flow d lines node (step.LinkLost link) new lines' s = absurd s
-clock_flow d lines node (step.LinkNew link) new lines' s = absurd s
-clock_flow d lines node (step.Timeout port) new lines' s = absurd s
-clock_flow d lines node (step.Message link) new lines' s = absurd s
-
-clock_done : (d : Dif) (lines : List Direction) (below : Seen) (node : ℕ) (done : ClockStep) (d' : Dif) (lines' : List Direction) → Steps d lines below node done d' lines' → IsSilent (seen_of d) (seen_of d')
-clock_done d lines below node (step.LinkLost link) d' lines' s = loses_silent d lines below s.0.i node link d' s.0.loses
-clock_done d lines below node step.Idle d' lines' s = clock_flow d lines node step.Idle (seen_of d') lines' s.1
-clock_done d lines below node (step.Gone cep) d' lines' s = clock_flow d lines node (step.Gone cep) (seen_of d') lines' s.1
-clock_done d lines below node (step.GaveUp num) d' lines' s = clock_flow d lines node (step.GaveUp num) (seen_of d') lines' s.1
-clock_done d lines below node (step.Ack cep) d' lines' s = clock_flow d lines node (step.Ack cep) (seen_of d') lines' s.1
-clock_done d lines below node (step.Again num) d' lines' s = clock_flow d lines node (step.Again num) (seen_of d') lines' s.1
-clock_done d lines below node (step.LinkNew link) d' lines' s = clock_flow d lines node (step.LinkNew link) (seen_of d') lines' s.1
-clock_done d lines below node (step.Timeout port) d' lines' s = clock_flow d lines node (step.Timeout port) (seen_of d') lines' s.1
-clock_done d lines below node (step.Message link) d' lines' s = clock_flow d lines node (step.Message link) (seen_of d') lines' s.1
-
 clock_ok : (d : Dif) (lines : List Direction) (below : Seen) (node : ℕ) (r : Result ClockStep StepError) (d' : Dif) (lines' : List Direction) → StepsOk d lines below node r d' lines' → IsSilent (seen_of d) (seen_of d')
-clock_ok d lines below node (Ok done) d' lines' s = clock_done d lines below node done d' lines' s
+clock_ok d lines below node (Ok done) d' lines' s = steps_silent d lines below node done d' lines' s
 clock_ok d lines below node (Err e) d' lines' s = absurd s
 
 clock_at : (d : Dif) (lines : List Direction) (below : Seen) (node : ℕ) (r : Result ClockStep StepError) (d' : Dif) (lines' : List Direction) (o : Option ℕ) → AtHome o (λ i. StepsOk d lines below node r d' lines') ((r ≡ Err NoIpc) × (seen_of d' ≡ seen_of d) × (lines' ≡ lines)) → IsSilent (seen_of d) (seen_of d')

@@ -17,6 +17,7 @@ pub mod FitRooms
 pub mod FitTakes
 pub mod FitWhole
 pub mod FitWires
+pub mod Idling
 pub mod Lasting
 pub mod Shows
 pub mod Opened
@@ -24,6 +25,7 @@ pub mod OpenedCounts
 pub mod Listing
 pub mod Owned
 pub mod Ranking
+pub mod Rested
 pub mod Rounding
 pub mod Serving
 pub mod Staying

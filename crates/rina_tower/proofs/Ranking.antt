@@ -46,6 +46,7 @@ holds_beside who d lines below below' kept kept' mine alone h =
       routed = h.routed;
       managed = h.managed;
       connected = beside_connected (config_of d.settings) d.clock d.connections (seen_of_dif d).processes below below' kept' up alone.clock h.connected;
+      flooded = h.flooded;
     }
 
 -- where no IPC process sends, takes or is asked for, all DIFs stand on

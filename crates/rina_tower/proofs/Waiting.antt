@@ -23,7 +23,7 @@ use Rattle.rina_dif_law.specs.Incoming.{Ins, IsArrived, IsTold, Settles, Settles
 use Rattle.rina_dif_law.specs.Outgoing.{Outs}
 use Rattle.rina_dif_law.specs.Sending.{home}
 use Rattle.rina_dif.specs.declared.dif.Dif.{Dif}
-use Rattle.rina_dif.specs.Clocking.{ClockStepsAt, Steps, StepsFlow, StepsOk}
+use Rattle.rina_dif.specs.Clocking.{ClockStepsAt, Serves, Steps, StepsFlow, StepsOk}
 use Rattle.rina_dif.specs.Holding.{Holds, Stands}
 use Rattle.rina_dif.specs.Shown.{seen_of}
 use Rattle.rina_dif.specs.Steps.{AtHome, OutsAt}
@@ -114,16 +114,20 @@ clock_flow d lines node (clocks.LinkNew link) new lines' s = absurd s
 clock_flow d lines node (clocks.Timeout port) new lines' s = absurd s
 clock_flow d lines node (clocks.Message link) new lines' s = absurd s
 
+clock_served : (d : Dif) (lines : List Direction) (below : Seen) (node : ℕ) (done : ClockStep) (d' : Dif) (lines' : List Direction) → Serves d lines below node done d' lines' → SameWait (seen_of d) (seen_of d')
+clock_served d lines below node done d' lines' (inl flow) = clock_flow d lines node done (seen_of d') lines' flow.does
+clock_served d lines below node done d' lines' (inr link) = ap (λ (z : Dif). (seen_of z).waiting) link.0.only
+
 clock_done : (d : Dif) (lines : List Direction) (below : Seen) (node : ℕ) (done : ClockStep) (d' : Dif) (lines' : List Direction) → Steps d lines below node done d' lines' → SameWait (seen_of d) (seen_of d')
 clock_done d lines below node (clocks.LinkLost link) d' lines' s = loses_waits d lines below s.0.i node link d' s.0.loses
-clock_done d lines below node clocks.Idle d' lines' s = clock_flow d lines node clocks.Idle (seen_of d') lines' s.1
-clock_done d lines below node (clocks.Gone cep) d' lines' s = clock_flow d lines node (clocks.Gone cep) (seen_of d') lines' s.1
-clock_done d lines below node (clocks.GaveUp num) d' lines' s = clock_flow d lines node (clocks.GaveUp num) (seen_of d') lines' s.1
-clock_done d lines below node (clocks.Ack cep) d' lines' s = clock_flow d lines node (clocks.Ack cep) (seen_of d') lines' s.1
-clock_done d lines below node (clocks.Again num) d' lines' s = clock_flow d lines node (clocks.Again num) (seen_of d') lines' s.1
-clock_done d lines below node (clocks.LinkNew link) d' lines' s = clock_flow d lines node (clocks.LinkNew link) (seen_of d') lines' s.1
-clock_done d lines below node (clocks.Timeout port) d' lines' s = clock_flow d lines node (clocks.Timeout port) (seen_of d') lines' s.1
-clock_done d lines below node (clocks.Message link) d' lines' s = clock_flow d lines node (clocks.Message link) (seen_of d') lines' s.1
+clock_done d lines below node clocks.Idle d' lines' s = clock_served d lines below node clocks.Idle d' lines' s.1
+clock_done d lines below node (clocks.Gone cep) d' lines' s = clock_served d lines below node (clocks.Gone cep) d' lines' s.1
+clock_done d lines below node (clocks.GaveUp num) d' lines' s = clock_served d lines below node (clocks.GaveUp num) d' lines' s.1
+clock_done d lines below node (clocks.Ack cep) d' lines' s = clock_served d lines below node (clocks.Ack cep) d' lines' s.1
+clock_done d lines below node (clocks.Again num) d' lines' s = clock_served d lines below node (clocks.Again num) d' lines' s.1
+clock_done d lines below node (clocks.LinkNew link) d' lines' s = clock_served d lines below node (clocks.LinkNew link) d' lines' s.1
+clock_done d lines below node (clocks.Timeout port) d' lines' s = clock_served d lines below node (clocks.Timeout port) d' lines' s.1
+clock_done d lines below node (clocks.Message link) d' lines' s = clock_served d lines below node (clocks.Message link) d' lines' s.1
 
 clock_ok : (d : Dif) (lines : List Direction) (below : Seen) (node : ℕ) (r : Result ClockStep StepError) (d' : Dif) (lines' : List Direction) → StepsOk d lines below node r d' lines' → SameWait (seen_of d) (seen_of d')
 clock_ok d lines below node (Ok done) d' lines' s = clock_done d lines below node done d' lines' s

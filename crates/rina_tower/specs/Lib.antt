@@ -18,6 +18,7 @@ pub mod Objects
 pub mod PlanSettings
 pub mod Ranks
 pub mod Refusals
+pub mod Resting
 pub mod Rooms
 pub mod Rounds
 pub mod Stands

@@ -32,9 +32,9 @@ ChangesClaims d d' = d' ≡ record d { waiting = d'.waiting }
 abbrev pub ChangesFlows : Dif → Dif → Type 0
 ChangesFlows d d' = d' ≡ record d { flows = d'.flows }
 
--- nothing but its flows and names, the managements of its members, and whether an allocation has failed
+-- nothing but its flows and names, the managements and the CEP-ids of its members, and whether an allocation has failed
 abbrev pub ChangesNames : Dif → Dif → Type 0
-ChangesNames d d' = d' ≡ record d { flows = d'.flows; names = d'.names; managements = d'.managements; failed = d'.failed }
+ChangesNames d d' = d' ≡ record d { flows = d'.flows; ids = d'.ids; names = d'.names; managements = d'.managements; failed = d'.failed }
 
 -- nothing but its IPC processes, and whether an allocation has failed
 abbrev pub ChangesProcesses : Dif → Dif → Type 0
@@ -48,14 +48,14 @@ ChangesTraffic d d' = d' ≡ record d { processes = d'.processes; flows = d'.flo
 abbrev pub ChangesConnections : Dif → Dif → Type 0
 ChangesConnections d d' = d' ≡ record d { processes = d'.processes; flows = d'.flows; connections = d'.connections; failed = d'.failed }
 
--- nothing but its IPC processes, the managements of its members and its flows, and whether an allocation has failed
+-- nothing but its IPC processes, the managements and the CEP-ids of its members and its flows, and whether an allocation has failed
 abbrev pub ChangesMembers : Dif → Dif → Type 0
-ChangesMembers d d' = d' ≡ record d { processes = d'.processes; managements = d'.managements; flows = d'.flows; failed = d'.failed }
+ChangesMembers d d' = d' ≡ record d { processes = d'.processes; managements = d'.managements; flows = d'.flows; ids = d'.ids; failed = d'.failed }
 
--- nothing but its IPC processes, the managements of its members, the management connections of its links and its flows, and
+-- nothing but its IPC processes, the managements and the CEP-ids of its members, the management connections of its links and its flows, and
 -- whether an allocation has failed
 abbrev pub ChangesByClock : Dif → Dif → Type 0
-ChangesByClock d d' = d' ≡ record d { processes = d'.processes; connections = d'.connections; managements = d'.managements; flows = d'.flows; failed = d'.failed }
+ChangesByClock d d' = d' ≡ record d { processes = d'.processes; connections = d'.connections; managements = d'.managements; flows = d'.flows; ids = d'.ids; failed = d'.failed }
 
 -- What follows
 

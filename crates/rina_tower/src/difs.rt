@@ -6,6 +6,7 @@ mod calls;
 mod clock;
 mod objects;
 mod places;
+mod rest;
 mod steps;
 
 use rina_dif::Dif;

@@ -10,6 +10,7 @@ mod ledgers;
 mod memory;
 mod objects;
 mod places;
+mod rest;
 mod round;
 mod steps;
 mod tick;

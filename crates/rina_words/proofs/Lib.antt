@@ -5,3 +5,4 @@ pub mod Asking
 pub mod Retiring
 pub mod Clocks
 pub mod Calls
+pub mod Idle

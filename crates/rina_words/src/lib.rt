@@ -11,6 +11,7 @@ mod line;
 mod policy;
 mod read;
 mod release;
+mod rest;
 mod rib;
 mod round;
 mod run;

@@ -15,6 +15,7 @@ use crate::ledger::ledger;
 use crate::policy::retire;
 use crate::read::read;
 use crate::release::{free, state, unregister};
+use crate::rest::pass_idle_ticks;
 use crate::rib::rib;
 use crate::round::{go_round, out_step};
 use crate::run::Run;
@@ -79,7 +80,7 @@ fn tick<P: Retires>(
     tell(trace, line.number, tick_of(&run.tower), Some(Answer::Done))
 }
 
-/// So many ticks.
+/// So many ticks. After each the clock goes on at once over those at which nothing happens.
 fn tick_all<P: Retires>(
     line: &Line<'_>,
     run: &mut Run,
@@ -94,8 +95,11 @@ fn tick_all<P: Retires>(
     ensures tower { IsTower run.new.tower }
     ensures names { HasNames (P.slots shelf.old) (P.slots shelf.new) }
 {
-    'ticks: for _ in 0..count {
+    let mut left = count;
+    'ticks: while left > 0 {
         tick_once(line, run, shelf, trace)?;
+        left -= 1;
+        left -= pass_idle_ticks(line.plan.rounds, &mut run.tower, left);
     }
     Ok(())
 }
