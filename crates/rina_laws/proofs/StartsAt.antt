@@ -129,10 +129,10 @@ made_untouched plan (i ∷ is) t [] u m n d h = absurd m
 made_untouched plan (i ∷ is) t (x ∷ ds) u m zero d h = subst IsUntouched (same_Some x d h) (new_untouched plan i x (seen_of t) (seen_of m.0) m.1)
 made_untouched plan (i ∷ is) t (x ∷ ds) u m (suc n) d h = made_untouched plan is m.0 ds u m.3 n d h
 
-bound_untouched : (d d' : Dif) (f : Fixed) (ports : Port × Port) → ChangesNames d d' → ManagesBind d f ports d'.managements → IsUntouched d → IsUntouched d'
-bound_untouched d d' f ports is m h = subst IsUntouched (sym is) (record {
+bound_untouched : (d d' : Dif) (f : Fixed) → ChangesNames d d' → ManagesBind d f d'.managements → IsUntouched d → IsUntouched d'
+bound_untouched d d' f is m h = subst IsUntouched (sym is) (record {
   processes = h.processes;
-  kept = λ k member p x of at here. none_bound f.b_app m.far.addr m.a ports.0.n m.b ports.1.n k d.managements (λ y old. h.kept k member p y of at old) x (subst (λ (ms : List Management). slice_get ms k ≡ Some x) m.are here);
+  kept = λ k member p x of at here. none_bound f.b_app m.far.addr m.a m.scep m.b m.dcep k d.managements (λ y old. h.kept k member p y of at old) x (subst (λ (ms : List Management). slice_get ms k ≡ Some x) m.are here);
 })
 
 binds_untouched : BindsKeep AreUntouched
@@ -140,7 +140,7 @@ binds_untouched (Wires a) (Wires a') f ports h v = tt
 binds_untouched (Rank' p difs below) (Rank' p' difs' below') f ports h v =
     let one = h.0 in
     let each : (n : ℕ) (d : Dif) → slice_get difs' n ≡ Some d → IsUntouched d = λ n d at. elim (set_at difs f.fac n one.dif one.dif' d one.is_dif (subst (λ (ds : List Dif). slice_get ds n ≡ Some d) one.new_is at)) [
-      | inl s ↦ subst IsUntouched (sym s.1) (bound_untouched one.dif one.dif' f ports one.done.serves.rest one.done.managed (v.0 f.fac one.dif one.is_dif))
+      | inl s ↦ subst IsUntouched (sym s.1) (bound_untouched one.dif one.dif' f one.done.serves.rest one.done.managed (v.0 f.fac one.dif one.is_dif))
       | inr o ↦ v.0 n d o.1
     ] in
     (each, subst AreUntouched (sym h.1) v.1)

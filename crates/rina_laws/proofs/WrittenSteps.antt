@@ -129,7 +129,8 @@ lets_out may slots slots' dif node link x (Rank' p difs below) (Wires a) v d = a
 may_by_clock : (d : Dif) (lines : List Direction) (below : Tower) (node i : ℕ) (off : Off) → Holds d lines (seen_of below) → MayByClock d lines (seen_of below) node i off → MayWrite d below i off
 may_by_clock d lines below node i off holds (inl m) = may_write d lines below (IsOverNow (seen_of below)) i off holds (over_now below) m
 may_by_clock d lines below node i off holds (inr (inl m)) = record { lines = lines; holds = holds; may = inr (inl m) }
-may_by_clock d lines below node i off holds (inr (inr m)) = record { lines = lines; holds = holds; may = inr (inr (node, m)) }
+may_by_clock d lines below node i off holds (inr (inr (inl m))) = record { lines = lines; holds = holds; may = inr (inr (inl (node, m))) }
+may_by_clock d lines below node i off holds (inr (inr (inr m))) = record { lines = lines; holds = holds; may = inr (inr (inr m)) }
 
 pub does_due : (dif node : ℕ) (x : Result ClockStep StepError) (u u' : Tower) → IsTower u → ClocksAtTop dif node x u u' → Goes MayWrite u u'
 does_due dif node x (Wires a) (Wires a') v d = goes_same MayWrite (Wires a) (Wires a') v (ap (λ (z : Air). Wires z) d.1)

@@ -22,12 +22,13 @@ use Rattle.rina_run.specs.declared.lines.BadLine.{BadLine}
 use Rattle.rina_run.specs.declared.outcome.Status.{Status}
 use Rattle.rina_run.specs.declared.outcome.Status.TheVariants as statuses
 use Rattle.rina_run.specs.Check.{AreReadAs, InputTells, IsFirstBad, IsRead, IsReadAs, LinesTell, ScriptTells, counts_of, event_count, is_event, status_beside}
-use Rattle.rina_run.specs.Faults.{IsNoneMore, IsOneMore, NoteFaults}
+use Rattle.rina_run.specs.Faults.{NoteFaults, ReadFaults}
 use Rattle.rina_run.specs.Outcomes.{IsChecked}
 use Rattle.rina_run.specs.Reading.{Ending}
 use Rattle.rina_run.specs.Script.{Script}
-use Rattle.rina_run.specs.Top.{ClosedBy, IsOutOfMemory, WasRead, fault_of, stack_fault}
-use Rattle.rina_run.proofs.Ending.{is_told, never_done, never_read, read_by}
+use Rattle.rina_run.specs.Top.{ClosedBy, IsOutOfMemory, IsStackAlone, WasRead, fault_of, stack_fault}
+use Rattle.rina_run.proofs.Ending.{is_told}
+use Rattle.rina_run.proofs.Faulty.{reads_by, reads_end}
 use Rattle.rina_run.proofs.ReadOn.{ReadSoFar, none_so_far}
 
 -- what holds of a value, and what follows
@@ -97,20 +98,16 @@ pub bad_tells : (ending : Ending) (plan : Plan) (lines : List (List ℕ)) (bad :
 bad_tells ending plan lines bad fault (fine, first) is = inl (fine, bad, first, ap (λ (f : Fault). notes.Fault f) is)
 
 -- a stack that was not accepted
-pub stack_tells : (known : List ℕ → Bool) (ending : Ending) (s : Script) (error : StackError) (fault : Fault) → ReadsRunnable known (Err error) s.stack → stack_fault error ≡ Some fault → ScriptTells known ending s (notes.Fault fault)
-stack_tells known ending s error fault reads is = inl (error, reads, fault, is, refl)
+pub stack_tells : (known : List ℕ → Bool) (ending : Ending) (s : Script) (error : StackError) (fault : Fault) → ReadsRunnable known (Err error) s.stack → stack_fault error ≡ Some fault → IsStackAlone ending s → ScriptTells known ending s (notes.Fault fault)
+stack_tells known ending s error fault reads is alone = inl (alone, (error, reads, fault, is, refl))
 
-pub rule_tells : (known : List ℕ → Bool) (ending : Ending) (s : Script) (n item : ℕ) (note : Note) → ReadsRunnable known (Err (stack.StackRule n item)) s.stack → note ≡ notes.Fault (faults.StackRule n item) → ScriptTells known ending s note
-rule_tells known ending s n item note reads is = inl (stack.StackRule n item, reads, faults.StackRule n item, refl, is)
+pub rule_tells : (known : List ℕ → Bool) (ending : Ending) (s : Script) (n item : ℕ) (note : Note) → ReadsRunnable known (Err (stack.StackRule n item)) s.stack → note ≡ notes.Fault (faults.StackRule n item) → IsStackAlone ending s → ScriptTells known ending s note
+rule_tells known ending s n item note reads is alone = inl (alone, (stack.StackRule n item, reads, faults.StackRule n item, refl, is))
 
 -- what the one note of a check tells of the faults of reading
-pub told_read : (note : Note) (s : Status) (t : List Note) (before now : ℕ) (odd odd' : Bool) → ClosedBy (status_beside note) note [] s t → NoteFaults note before now odd odd' → s ≡ statuses.ReadFault → IsOneMore before now odd odd'
-told_read (notes.Fault fault) s t before now odd odd' c f is = read_by fault s (notes.Fault fault) [] t before now odd odd' c f is
-told_read note s t before now odd odd' c f is = never_read s note [] t before now odd odd' c is
-
-pub told_done : (note : Note) (s : Status) (t : List Note) (before now : ℕ) (odd odd' : Bool) → ClosedBy (status_beside note) note [] s t → NoteFaults note before now odd odd' → s ≡ statuses.Done → IsNoneMore before now odd odd'
-told_done (notes.Fault fault) s t before now odd odd' c f is = never_done fault s (notes.Fault fault) [] t before now odd odd' c is
-told_done note s t before now odd odd' c f is = f
+pub told_reads : (note : Note) (s : Status) (t : List Note) (before now : ℕ) (odd odd' : Bool) → ClosedBy (status_beside note) note [] s t → NoteFaults (Ok note) before now odd odd' → ReadFaults s before now odd odd'
+told_reads (notes.Fault fault) s t before now odd odd' c f = reads_by fault s (notes.Fault fault) [] t before now odd odd' c f
+told_reads note s t before now odd odd' c f = reads_end s note [] t before now odd odd' c f
 
 -- a note is told beside no write fault
 pub is_told_beside : (note : Note) → ¬ (status_beside note ≡ statuses.WriteFault)

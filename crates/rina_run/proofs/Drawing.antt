@@ -1,5 +1,5 @@
 -- What a run of a drawn input comes to.
-use Rattle.std.proofs.Common.{◌≡◌, ℕ, ◌+◌, ◌≤◌, Bool, List, [], take, length, slice_get, Option, Some, None, IsSome, inl, inr, refl, sym, ◌∙◌, subst, ap, arith}
+use Rattle.std.proofs.Common.{◌≡◌, ℕ, ◌+◌, ◌≤◌, ◌⊎◌, Bool, List, [], take, length, slice_get, Option, Some, None, IsSome, inl, inr, refl, sym, ◌∙◌, subst, ap, arith}
 use Rattle.std.specs.Prelude.{count_by, option_map}
 use Rattle.std.specs.List.{sum_by}
 use Rattle.std.proofs.lemmas.List.{take_all}
@@ -16,11 +16,13 @@ use Rattle.rina_report.specs.declared.note.Fault.TheVariants as faults
 use Rattle.rina_tower.specs.declared.tower.Tower.{Tower}
 use Rattle.rina_run.specs.declared.outcome.Status.{Status}
 use Rattle.rina_run.specs.declared.outcome.Status.TheVariants as statuses
-use Rattle.rina_run.specs.Drawn.{Tells, fac_failures, is_failed_app}
+use Rattle.rina_run.specs.Drawn.{SumsUp, Tells, TellsFault, TellsNothing, fac_failures, is_failed_app}
+use Rattle.rina_run.specs.Faults.{ReadFaults}
 use Rattle.rina_run.specs.Outcomes.{IsGenerated, IsRan}
 use Rattle.rina_run.specs.Script.{Script, script_in}
 use Rattle.rina_run.specs.Reading.{Broken, Ending, is_whole}
 use Rattle.rina_run.specs.Top.{InputOutcomes, IsOutOfMemory, ScriptOutcomes, status_of}
+use Rattle.rina_run.proofs.Faulty.{reads_none}
 
 -- the ends of the next facility are counted
 pub failures_more : (facs : List Fac) (i count found next : ℕ) (ends : List End) → count ≡ sum_by fac_failures (take i facs) → option_map (λ (f : Fac). f.ends) (slice_get facs i) ≡ Some ends → found ≡ count_by is_failed_app ends → next ≡ count + found → next ≡ sum_by fac_failures (take (i + 1) facs)
@@ -77,3 +79,25 @@ not_generated known n shelf s t tower unwritten shelf' m none same = record {
   ran = inl (record { memory = refl; notes = none; left = m.left }, same);
   told = record { memory = m.memory; none = m.notes };
 }
+
+-- a run of a drawn input tells no read fault
+sums_no_read : (n : ℕ) (unwritten t : List Note) (tower : Option Tower) → SumsUp n unwritten tower statuses.ReadFault t → ⊥
+sums_no_read n unwritten t None b = b
+sums_no_read n unwritten t (Some u) (note, is, closed) = cc
+
+done_no_read : (n : ℕ) (unwritten t : List Note) (tower : Option Tower) → TellsNothing statuses.ReadFault t ⊎ SumsUp n unwritten tower statuses.ReadFault t → ⊥
+done_no_read n unwritten t tower (inl m) = let no : statuses.ReadFault ≡ statuses.Memory = m.memory in cc
+done_no_read n unwritten t tower (inr s) = sums_no_read n unwritten t tower s
+
+fault_no_read : (ended : Status) (t : List Note) → ¬ (ended ≡ statuses.ReadFault) → TellsFault ended statuses.ReadFault t → ⊥
+fault_no_read ended t other told = other (sym told.2.0)
+
+tells_no_read : (n : ℕ) (ended : Status) (unwritten t : List Note) (tower : Option Tower) → Tells n ended unwritten tower statuses.ReadFault t → ⊥
+tells_no_read n statuses.Done unwritten t tower told = done_no_read n unwritten t tower told
+tells_no_read n statuses.Memory unwritten t tower told = let no : statuses.ReadFault ≡ statuses.Memory = told.memory in cc
+tells_no_read n statuses.ReadFault unwritten t tower told = told
+tells_no_read n statuses.WriteFault unwritten t tower told = told
+tells_no_read n ended unwritten t tower told = fault_no_read ended t (λ h. cc) told
+
+pub gen_reads : (known : List ℕ → Bool) (n : ℕ) (shelf : List Slot) (s : Status) (t : List Note) (tower : Option Tower) (unwritten : List Note) (shelf' : List Slot) (count : ℕ) (odd : Bool) → IsGenerated known n shelf s t tower unwritten shelf' → ReadFaults s count count odd odd
+gen_reads known n shelf s t tower unwritten shelf' count odd g = reads_none s count odd (λ is. tells_no_read n g.ended unwritten t tower (subst (λ (u : Status). Tells n g.ended unwritten tower u t) is g.told))

@@ -36,13 +36,12 @@ use Rattle.rina_words.specs.declared.run.Run.{Run}
 use Rattle.rina_run.specs.Opening.{IsOpening}
 use Rattle.rina_run.specs.Run.{Runs, StopsAt, RanFirst, LinesRan}
 use Rattle.rina_run.specs.declared.lines.Close.TheVariants as closes
-use Rattle.rina_run.specs.Faults.{BreakFaults, IsNoneMore, IsOneMore}
 use Rattle.rina_run.specs.Reading.{AreRead, Broken, Ending, IsFine}
 use Rattle.rina_run.specs.Script.{Script}
 use Rattle.rina_run.proofs.Playing.{all_ran}
 use Rattle.rina_words.specs.Step.{HasNames, Stage, stage}
 use Rattle.rina_run.specs.Written.{IsFront, Written}
-use Rattle.rina_run.specs.Top.{status_of, fault_of, stack_fault, PlayOutcomes, RefusedBy, ScriptOutcomes, InputOutcomes, IsOutOfMemory, ClosedBy, status_stopped, AreCut, FailedByCut, IsCutBy, KeepsAll}
+use Rattle.rina_run.specs.Top.{status_of, fault_of, stack_fault, PlayOutcomes, RefusedBy, ScriptOutcomes, InputOutcomes, IsOutOfMemory, IsStackAlone, ClosedBy, status_stopped, AreCut, FailedByCut, IsCutBy, KeepsAll}
 use Rattle.rina_run.proofs.Texts.{wrote_all}
 
 pub wrote_nothing : (base : Option (List ℕ)) (ns : List Note) → ns ≡ [] → Appends base base (text_of ns)
@@ -131,15 +130,15 @@ stop_from plan ending lines start t u tower shelf' stops.Memory ran left after n
 stop_from plan ending lines start t u tower shelf' stops.WriteFault ran left after names = record { reached = u; stopped = inl ran; left = left; after = after }
 
 -- a stack that is no TOML, or breaks a rule
-refused_stack : (known : List ℕ → Bool) (ending : Ending) (s : Script) (shelf : List Slot) (status : Status) (t : List Note) (tower : Option Tower) (shelf' : List Slot) (error : StackError) (fault : Fault) → ReadsRunnable known (Err error) s.stack → stack_fault error ≡ Some fault → RefusedBy fault status t → tower ≡ None → shelf' ≡ shelf → ScriptOutcomes known ending s shelf status t tower shelf'
-refused_stack known ending s shelf status t None shelf' error fault reads is refused left same = (inr (record { error = error; reads = reads; fault = fault; is_its = is; refused = refused }), same)
-refused_stack known ending s shelf status t (Some a) shelf' error fault reads is refused left same = cc
+refused_stack : (known : List ℕ → Bool) (ending : Ending) (s : Script) (shelf : List Slot) (status : Status) (t : List Note) (tower : Option Tower) (shelf' : List Slot) (error : StackError) (fault : Fault) → ReadsRunnable known (Err error) s.stack → stack_fault error ≡ Some fault → IsStackAlone ending s → RefusedBy fault status t → tower ≡ None → shelf' ≡ shelf → ScriptOutcomes known ending s shelf status t tower shelf'
+refused_stack known ending s shelf status t None shelf' error fault reads is alone refused left same = (inr (record { alone = alone; error = error; reads = reads; fault = fault; is_its = is; refused = refused }), same)
+refused_stack known ending s shelf status t (Some a) shelf' error fault reads is alone refused left same = cc
 
-pub not_toml_from : (known : List ℕ → Bool) (ending : Ending) (s : Script) (shelf : List Slot) (status : Status) (t : List Note) (tower : Option Tower) (shelf' : List Slot) → ReadsRunnable known (Err stack.NotToml) s.stack → RefusedBy faults.NotToml status t → tower ≡ None → shelf' ≡ shelf → ScriptOutcomes known ending s shelf status t tower shelf'
-not_toml_from known ending s shelf status t tower shelf' reads refused left same = refused_stack known ending s shelf status t tower shelf' stack.NotToml faults.NotToml reads refl refused left same
+pub not_toml_from : (known : List ℕ → Bool) (ending : Ending) (s : Script) (shelf : List Slot) (status : Status) (t : List Note) (tower : Option Tower) (shelf' : List Slot) → ReadsRunnable known (Err stack.NotToml) s.stack → IsStackAlone ending s → RefusedBy faults.NotToml status t → tower ≡ None → shelf' ≡ shelf → ScriptOutcomes known ending s shelf status t tower shelf'
+not_toml_from known ending s shelf status t tower shelf' reads alone refused left same = refused_stack known ending s shelf status t tower shelf' stack.NotToml faults.NotToml reads refl alone refused left same
 
-pub rule_from : (known : List ℕ → Bool) (ending : Ending) (s : Script) (shelf : List Slot) (status : Status) (t : List Note) (tower : Option Tower) (shelf' : List Slot) (n item : ℕ) → ReadsRunnable known (Err (stack.StackRule n item)) s.stack → RefusedBy (faults.StackRule n item) status t → tower ≡ None → shelf' ≡ shelf → ScriptOutcomes known ending s shelf status t tower shelf'
-rule_from known ending s shelf status t tower shelf' n item reads refused left same = refused_stack known ending s shelf status t tower shelf' (stack.StackRule n item) (faults.StackRule n item) reads refl refused left same
+pub rule_from : (known : List ℕ → Bool) (ending : Ending) (s : Script) (shelf : List Slot) (status : Status) (t : List Note) (tower : Option Tower) (shelf' : List Slot) (n item : ℕ) → ReadsRunnable known (Err (stack.StackRule n item)) s.stack → IsStackAlone ending s → RefusedBy (faults.StackRule n item) status t → tower ≡ None → shelf' ≡ shelf → ScriptOutcomes known ending s shelf status t tower shelf'
+rule_from known ending s shelf status t tower shelf' n item reads alone refused left same = refused_stack known ending s shelf status t tower shelf' (stack.StackRule n item) (faults.StackRule n item) reads refl alone refused left same
 
 -- memory was not found for the stack
 pub no_memory_from : (known : List ℕ → Bool) (ending : Ending) (s : Script) (shelf : List Slot) (status : Status) (t : List Note) (tower : Option Tower) (shelf' : List Slot) → IsOutOfMemory status t tower → shelf' ≡ shelf → ScriptOutcomes known ending s shelf status t tower shelf'
@@ -162,44 +161,6 @@ is_told faults.ReadFault h = cc
 
 pub front_same : (base took : Option (List ℕ)) (old new : List Note) → new ≡ old → Appends base took (text_of old) → IsFront base took (text_of new)
 front_same base took old new is p = rw is (wrote_all base took old p)
-
--- a run that ended by a fault, and what it does to the faults of reading
-fault_is_read : (fault : Fault) → statuses.ReadFault ≡ status_of fault → fault ≡ faults.ReadFault
-fault_is_read (faults.Usage word) h = cc
-fault_is_read faults.TooLarge h = cc
-fault_is_read faults.NotToml h = cc
-fault_is_read (faults.StackRule n item) h = cc
-fault_is_read (faults.Schedule line n field) h = cc
-fault_is_read faults.ReadFault h = refl
-
-closed_as : (wanted s : Status) (note : Note) (old t : List Note) → ClosedBy wanted note old s t → s ≡ statuses.ReadFault → statuses.ReadFault ≡ wanted
-closed_as wanted s note old t c is = (subst (λ (u : Status). ClosedBy wanted note old u t) is c).0
-
-closed_done : (wanted s : Status) (note : Note) (old t : List Note) → ClosedBy wanted note old s t → s ≡ statuses.Done → statuses.Done ≡ wanted
-closed_done wanted s note old t c is = (subst (λ (u : Status). ClosedBy wanted note old u t) is c).0
-
-pub read_by : (fault : Fault) (s : Status) (note : Note) (old t : List Note) (before now : ℕ) (odd odd' : Bool) → ClosedBy (status_of fault) note old s t → BreakFaults fault before now odd odd' → s ≡ statuses.ReadFault → IsOneMore before now odd odd'
-read_by fault s note old t before now odd odd' c b is = subst (λ (f : Fault). BreakFaults f before now odd odd') (fault_is_read fault (closed_as (status_of fault) s note old t c is)) b
-
-fault_not_done : (fault : Fault) → statuses.Done ≡ status_of fault → ⊥
-fault_not_done (faults.Usage word) h = cc
-fault_not_done faults.TooLarge h = cc
-fault_not_done faults.NotToml h = cc
-fault_not_done (faults.StackRule n item) h = cc
-fault_not_done (faults.Schedule line n field) h = cc
-fault_not_done faults.ReadFault h = cc
-
-pub never_done : (fault : Fault) (s : Status) (note : Note) (old t : List Note) (before now : ℕ) (odd odd' : Bool) → ClosedBy (status_of fault) note old s t → s ≡ statuses.Done → IsNoneMore before now odd odd'
-never_done fault s note old t before now odd odd' c is = absurd (fault_not_done fault (closed_done (status_of fault) s note old t c is))
-
--- and one that ended well
-pub never_read : (s : Status) (note : Note) (old t : List Note) (before now : ℕ) (odd odd' : Bool) → ClosedBy statuses.Done note old s t → s ≡ statuses.ReadFault → IsOneMore before now odd odd'
-never_read s note old t before now odd odd' c is = let no : statuses.ReadFault ≡ statuses.Done = closed_as statuses.Done s note old t c is in cc
-
--- and one that was stopped
-pub stop_not_read : (stop : Stop) (before now : ℕ) (odd odd' : Bool) → status_stopped stop ≡ statuses.ReadFault → IsOneMore before now odd odd'
-stop_not_read stops.Memory before now odd odd' h = cc
-stop_not_read stops.WriteFault before now odd odd' h = cc
 
 -- the outcome of a run that is refused before its first line
 pub refused_at_once : (known : List ℕ → Bool) (fault : Fault) (shelf : List Slot) (status : Status) (t : List Note) (tower : Option Tower) (shelf' : List Slot) → RefusedBy fault status t → tower ≡ None → shelf' ≡ shelf → InputOutcomes known (Broken fault) None shelf status t tower shelf'

@@ -17,7 +17,7 @@ use Rattle.rina_run.specs.declared.outcome.Status.{Status}
 use Rattle.rina_run.specs.declared.outcome.Status.TheVariants as statuses
 use Rattle.rina_run.specs.Reading.{Broken, Ending, IsFine, Whole}
 use Rattle.rina_run.specs.Script.{Script}
-use Rattle.rina_run.specs.Top.{ClosedBy, fault_of, stack_fault, status_of}
+use Rattle.rina_run.specs.Top.{ClosedBy, IsStackAlone, fault_of, stack_fault, status_of}
 
 -- the line is inside the grammar: it holds an event, or is blank or a comment
 abbrev pub IsRead : List ℕ → Type 0
@@ -59,9 +59,9 @@ LinesTell ending plan lines note = (IsFine ending × (bad : BadLine) × IsFirstB
 abbrev pub StackTells : (List ℕ → Bool) → List ℕ → Note → Type 0
 StackTells known text note = (error : StackError) × ReadsRunnable known (Err error) text × (fault : Fault) × (stack_fault error ≡ Some fault) × (note ≡ notes.Fault fault)
 
--- what is told of a script
+-- what is told of a script: the fault of its stack, before the schedule is read, or what is told of its lines
 abbrev pub ScriptTells : (List ℕ → Bool) → Ending → Script → Note → Type 0
-ScriptTells known ending s note = StackTells known s.stack note ⊎ ((plan : Plan) × ReadsRunnable known (Ok plan) s.stack × LinesTell ending plan s.lines note)
+ScriptTells known ending s note = (IsStackAlone ending s × StackTells known s.stack note) ⊎ ((plan : Plan) × ReadsRunnable known (Ok plan) s.stack × LinesTell ending plan s.lines note)
 
 -- what is told of an input: where no mark was among what was read, the fault that reading broke off with
 abbrev pub InputTells : (List ℕ → Bool) → Ending → Option Script → Note → Type 0

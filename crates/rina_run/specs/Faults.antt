@@ -1,5 +1,5 @@
 -- The faults of reading and of writing that a run meets: what it does to their count, and to whether their number is odd.
-use Rattle.std.specs.Prelude.{◌≡◌, ℕ, Bool, not, Result, Ok, Err}
+use Rattle.std.specs.Prelude.{◌≡◌, ℕ, Bool, not, Result, Ok, Err, ◌⊎◌}
 use Rattle.rina_base.specs.declared.memory.Memory.{Memory}
 use Rattle.rina_io.specs.Causes.{RoseOnce}
 use Rattle.rina_report.specs.declared.note.Fault.{Fault}
@@ -32,6 +32,14 @@ abbrev pub WriteFaults : Status → ℕ → ℕ → Bool → Bool → Type 0
 WriteFaults statuses.WriteFault before now odd odd' = IsOneMore before now odd odd'
 WriteFaults status before now odd odd' = IsNoneMore before now odd odd'
 
+-- What a run does to the faults of reading, by its status: one read failed where that tells a read fault, and else none. Only where a write or an allocation
+-- failed may one read have failed before it, since then the read fault was still to be told.
+abbrev pub ReadFaults : Status → ℕ → ℕ → Bool → Bool → Type 0
+ReadFaults statuses.ReadFault before now odd odd' = IsOneMore before now odd odd'
+ReadFaults statuses.WriteFault before now odd odd' = IsNoneMore before now odd odd' ⊎ IsOneMore before now odd odd'
+ReadFaults statuses.Memory before now odd odd' = IsNoneMore before now odd odd' ⊎ IsOneMore before now odd odd'
+ReadFaults status before now odd odd' = IsNoneMore before now odd odd'
+
 -- the same of a part of a run, which is done, or stops
 abbrev pub StopFaults : {T : Type 0} → Result T Stop → ℕ → ℕ → Bool → Bool → Type 0
 StopFaults (Ok done) before now odd odd' = IsNoneMore before now odd odd'
@@ -62,7 +70,7 @@ abbrev pub CheckFaults : Result Checked Memory → ℕ → ℕ → Bool → Bool
 CheckFaults (Ok (checks.Broken fault)) before now odd odd' = BreakFaults fault before now odd odd'
 CheckFaults result before now odd odd' = IsNoneMore before now odd odd'
 
--- and what a check does, by the note that it tells
-abbrev pub NoteFaults : Note → ℕ → ℕ → Bool → Bool → Type 0
-NoteFaults (notes.Fault fault) before now odd odd' = BreakFaults fault before now odd odd'
-NoteFaults note before now odd odd' = IsNoneMore before now odd odd'
+-- and what reading for a check does, by the note that is told
+abbrev pub NoteFaults : Result Note Memory → ℕ → ℕ → Bool → Bool → Type 0
+NoteFaults (Ok (notes.Fault fault)) before now odd odd' = BreakFaults fault before now odd odd'
+NoteFaults result before now odd odd' = IsNoneMore before now odd odd'

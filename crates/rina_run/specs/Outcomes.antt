@@ -50,10 +50,10 @@ pub record IsGenerated (known : List ℕ → Bool) (n : ℕ) (shelf : List Slot)
   pub told : Tells n ended unwritten tower status trace
 
 -- the outcome of a run, by the words of the command line, by what was read, and by the shelf that was handed in; a place is that of
--- the word which can't stand there, and is told
+-- the word which can't stand there, and is told before anything is read
 abbrev pub RunOutcomes : (List ℕ → Bool) → Result Command ℕ → Option (List ℕ) → Option (List ℕ) → List Slot → Status → List Note → Option Tower → List Note → List Slot → Type 0
 RunOutcomes known (Ok commands.Run) left left' shelf status trace tower unwritten shelf' = IsRan known left left' shelf status trace tower shelf' × (unwritten ≡ [])
 RunOutcomes known (Ok commands.Check) left left' shelf status trace tower unwritten shelf' = IsChecked known left left' status trace tower × (shelf' ≡ shelf) × (unwritten ≡ [])
 RunOutcomes known (Ok (commands.Gen n)) left left' shelf status trace tower unwritten shelf' = IsGenerated known n shelf status trace tower unwritten shelf' × (left' ≡ left)
 RunOutcomes known (Ok (commands.Show n)) left left' shelf status trace tower unwritten shelf' = IsShown status trace tower × (left' ≡ left) × (shelf' ≡ shelf) × (unwritten ≡ [])
-RunOutcomes known (Err word) left left' shelf status trace tower unwritten shelf' = (tower ≡ None) × RefusedBy (faults.Usage word) status trace × (shelf' ≡ shelf) × (unwritten ≡ [])
+RunOutcomes known (Err word) left left' shelf status trace tower unwritten shelf' = (tower ≡ None) × RefusedBy (faults.Usage word) status trace × (left' ≡ left) × (shelf' ≡ shelf) × (unwritten ≡ [])

@@ -117,10 +117,15 @@ stack_fault stack.Memory = None
 stack_fault stack.NotToml = Some faults.NotToml
 stack_fault (stack.StackRule n item) = Some (faults.StackRule n item)
 
--- the stack was not accepted, and its fault is told
-pub record IsRefusedStack (known : List ℕ → Bool) (text : List ℕ) (status : Status) (trace : List Note) : Type 0 where
+-- reading ended behind the text of the stack and its mark: no line of the schedule was read, and of its bytes at most 4,096
+abbrev pub IsStackAlone : Ending → Script → Type 0
+IsStackAlone ending s = IsFine ending × (s.lines ≡ [])
+
+-- the stack was not accepted, and its fault is told, before the schedule is read
+pub record IsRefusedStack (known : List ℕ → Bool) (ending : Ending) (s : Script) (status : Status) (trace : List Note) : Type 0 where
+  pub alone : IsStackAlone ending s
   pub error : StackError
-  pub reads : ReadsRunnable known (Err error) text
+  pub reads : ReadsRunnable known (Err error) s.stack
   pub fault : Fault
   pub is_its : stack_fault error ≡ Some fault
   pub refused : RefusedBy fault status trace
@@ -128,7 +133,7 @@ pub record IsRefusedStack (known : List ℕ → Bool) (text : List ℕ) (status 
 -- the outcome of a script: its lines were run where its stack was accepted and memory was found for it, and else the shelf is as it was
 abbrev pub ScriptOutcomes : (List ℕ → Bool) → Ending → Script → List Slot → Status → List Note → Option Tower → List Slot → Type 0
 ScriptOutcomes known ending s shelf status trace (Some t) shelf' = (plan : Plan) × ReadsRunnable known (Ok plan) s.stack × (start : Stage) × IsOpening plan shelf start × PlayOutcomes plan ending s.lines start status trace (Some t) shelf'
-ScriptOutcomes known ending s shelf status trace None shelf' = (IsOutOfMemory status trace None ⊎ IsRefusedStack known s.stack status trace) × (shelf' ≡ shelf)
+ScriptOutcomes known ending s shelf status trace None shelf' = (IsOutOfMemory status trace None ⊎ IsRefusedStack known ending s status trace) × (shelf' ≡ shelf)
 
 -- the outcome of an input: where no mark was among what was read, the fault is told
 abbrev pub InputOutcomes : (List ℕ → Bool) → Ending → Option Script → List Slot → Status → List Note → Option Tower → List Slot → Type 0

@@ -9,7 +9,7 @@ ghost use Rattle.rina_run.specs.Outcomes.{IsChecked};
 ghost use Rattle.rina_run.specs.Reading.{HasRead, HasText, ReadBehind};
 ghost use Rattle.rina_run.specs.Top.{ClosedBy, WasRead};
 ghost use Rattle.rina_run.specs.Written.{Written};
-ghost use Rattle.rina_run.specs.Faults.{CheckFaults, IsNoneMore, IsOneMore, NoteFaults, WriteFaults};
+ghost use Rattle.rina_run.specs.Faults.{CheckFaults, NoteFaults, ReadFaults, WriteFaults};
 
 use crate::closing::{fault_status, line_fault, out_of_memory, seal};
 use crate::lines::BadLine;
@@ -99,7 +99,7 @@ fn tell_lines<S: Source>(
     requires reader { IsSound (S.left source.old) reader.old }
     requires few { size reader.old < 2 ^ 32 }
     ensures told { IfOk result (λ note. (left : Option (List ℕ)) (before : List (List ℕ)) → HasRead left (S.left source.old) reader.old before → ReadBehind left (S.left source.new) reader.old before (λ ending lines. LinesTell ending plan.now lines note)) }
-    ensures faults { IfOk result (λ note. NoteFaults note (S.faults source.old) (S.faults source.new) (S.odd source.old) (S.odd source.new)) }
+    ensures faults { NoteFaults result (S.faults source.old) (S.faults source.new) (S.odd source.old) (S.odd source.new) }
 {
     match read_lines(alloc, reader, source) {
         Ok(Checked::Events(events)) => Ok(counts(plan, events)),
@@ -127,7 +127,7 @@ fn tell_script<S: Source, P: Policies>(
     requires reader { IsSound (S.left source.old) reader.old }
     requires few { size reader.old < 2 ^ 32 }
     ensures told { IfOk result (λ note. (left : Option (List ℕ)) → HasText left (S.left source.old) reader.old text.items → WasRead left (S.left source.new) (λ ending script. InputTells (P.knows shelf.now) ending script note)) }
-    ensures faults { IfOk result (λ note. NoteFaults note (S.faults source.old) (S.faults source.new) (S.odd source.old) (S.odd source.new)) }
+    ensures faults { NoteFaults result (S.faults source.old) (S.faults source.new) (S.odd source.old) (S.odd source.new) }
 {
     match plan_of(alloc, text, shelf) {
         Ok(plan) => tell_lines(alloc, &plan, reader, source),
@@ -144,7 +144,7 @@ fn tell_input<S: Source, P: Policies>(
     shelf: &P,
 ) -> Result<Note, Memory>
     ensures told { IfOk result (λ note. WasRead (S.left input.old) (S.left input.new) (λ ending script. InputTells (P.knows shelf.now) ending script note)) }
-    ensures faults { IfOk result (λ note. NoteFaults note (S.faults input.old) (S.faults input.new) (S.odd input.old) (S.odd input.new)) }
+    ensures faults { NoteFaults result (S.faults input.old) (S.faults input.new) (S.odd input.old) (S.odd input.new) }
 {
     let mut reader = LineReader::new(alloc);
     match read_stack(alloc, &mut reader, input) {
@@ -177,7 +177,7 @@ fn tell<K: Sink>(alloc: Global, note: Note, out: &mut K) -> Finish
 }
 
 /// Reads an input up to its first line outside the grammar, runs nothing of it, and tells its counts or its fault.
-#[tactic(auto, using(crate::proofs::Checks::was_checked, crate::proofs::Checks::not_checked, crate::proofs::Ending::wrote_nothing))]
+#[tactic(auto, using(crate::proofs::Checks::was_checked, crate::proofs::Checks::not_checked, crate::proofs::Ending::wrote_nothing, crate::proofs::Faulty::reads_lost))]
 pub fn check_input<S: Source, K: Sink, P: Policies>(
     alloc: Global,
     input: &mut S,
@@ -187,8 +187,7 @@ pub fn check_input<S: Source, K: Sink, P: Policies>(
     ensures outcome { IsChecked (P.knows shelf.now) (S.left input.old) (S.left input.new) result.status result.trace result.tower }
     ensures left { result.tower ≡ None }
     ensures written { Written (K.took out.old) (K.took out.new) (text_of result.trace) result.status }
-    ensures read { result.status ≡ Status.ReadFault → IsOneMore (S.faults input.old) (S.faults input.new) (S.odd input.old) (S.odd input.new) }
-    ensures whole { result.status ≡ Status.Done → IsNoneMore (S.faults input.old) (S.faults input.new) (S.odd input.old) (S.odd input.new) }
+    ensures read { ReadFaults result.status (S.faults input.old) (S.faults input.new) (S.odd input.old) (S.odd input.new) }
     ensures write { WriteFaults result.status (K.faults out.old) (K.faults out.new) (K.odd out.old) (K.odd out.new) }
 {
     let Ok(note) = tell_input(alloc, input, shelf) else {

@@ -12,7 +12,7 @@ ghost use Rattle.rina_run.specs.Command.{command_of};
 ghost use Rattle.rina_run.specs.Written.{Written};
 ghost use Rattle.rina_run.specs.Outcomes.{IsRan, RunOutcomes, text_written};
 ghost use Rattle.rina_run.specs.Top.{PlayOutcomes, FailedByCut, KeepsAll};
-ghost use Rattle.rina_run.specs.Faults.{IsNoneMore, IsOneMore, WriteFaults};
+ghost use Rattle.rina_run.specs.Faults.{ReadFaults, WriteFaults};
 
 use crate::check::check_input;
 use crate::closing::{end_by_fault, line_fault, out_of_memory, refuse, seal, stopped};
@@ -34,7 +34,7 @@ use rina_words::Run;
 use std::alloc::Global;
 
 /// Runs the lines of a schedule whose stack was accepted.
-#[tactic(auto, using(crate::proofs::Ending::stop_not_read, crate::proofs::Ending::written_stop, crate::proofs::Ending::is_told, crate::proofs::Faulty::then_by))]
+#[tactic(auto, using(crate::proofs::Faulty::reads_stop, crate::proofs::Ending::written_stop, crate::proofs::Ending::is_told, crate::proofs::Faulty::then_by))]
 fn run_lines<S: Source, K: Sink, P: Retires>(
     schedule: &Schedule<'_>,
     reader: &mut LineReader,
@@ -51,8 +51,7 @@ fn run_lines<S: Source, K: Sink, P: Retires>(
     ensures tower { IsSome result.tower }
     ensures sound { IfSome result.tower IsTower }
     ensures written { Written (K.took out.old) (K.took out.new) (text_of result.trace) result.status }
-    ensures read { result.status ≡ Status.ReadFault → IsOneMore (S.faults source.old) (S.faults source.new) (S.odd source.old) (S.odd source.new) }
-    ensures whole { result.status ≡ Status.Done → IsNoneMore (S.faults source.old) (S.faults source.new) (S.odd source.old) (S.odd source.new) }
+    ensures read { ReadFaults result.status (S.faults source.old) (S.faults source.new) (S.odd source.old) (S.odd source.new) }
     ensures faults { WriteFaults result.status (K.faults out.old) (K.faults out.new) (K.odd out.old) (K.odd out.new) }
 {
     let alloc = schedule.alloc;
@@ -84,6 +83,7 @@ fn run_lines<S: Source, K: Sink, P: Retires>(
 }
 
 /// Runs the lines of a schedule behind the text of a stack.
+#[tactic(auto, using(crate::proofs::Faulty::reads_lost))]
 fn run_script<S: Source, K: Sink, P: Retires + Policies>(
     alloc: Global,
     text: Vec<u8>,
@@ -97,8 +97,7 @@ fn run_script<S: Source, K: Sink, P: Retires + Policies>(
     ensures outcome { (left : Option (List ℕ)) → HasText left (S.left source.old) reader.old text.items → IsRan (P.knows shelf.old) left (S.left source.new) (P.slots shelf.old) result.status result.trace result.tower (P.slots shelf.new) }
     ensures sound { IfSome result.tower IsTower }
     ensures written { Written (K.took out.old) (K.took out.new) (text_of result.trace) result.status }
-    ensures read { result.status ≡ Status.ReadFault → IsOneMore (S.faults source.old) (S.faults source.new) (S.odd source.old) (S.odd source.new) }
-    ensures whole { result.status ≡ Status.Done → IsNoneMore (S.faults source.old) (S.faults source.new) (S.odd source.old) (S.odd source.new) }
+    ensures read { ReadFaults result.status (S.faults source.old) (S.faults source.new) (S.odd source.old) (S.odd source.new) }
     ensures faults { WriteFaults result.status (K.faults out.old) (K.faults out.new) (K.odd out.old) (K.odd out.new) }
 {
     let plan = match plan_of(alloc, text, shelf) {
@@ -117,6 +116,7 @@ fn run_script<S: Source, K: Sink, P: Retires + Policies>(
 }
 
 /// Reads an input line by line, and runs it.
+#[tactic(auto, using(crate::proofs::Faulty::reads_lost))]
 pub fn run_read<S: Source, K: Sink, P: Retires + Policies>(
     alloc: Global,
     input: &mut S,
@@ -126,8 +126,7 @@ pub fn run_read<S: Source, K: Sink, P: Retires + Policies>(
     ensures outcome { IsRan (P.knows shelf.old) (S.left input.old) (S.left input.new) (P.slots shelf.old) result.status result.trace result.tower (P.slots shelf.new) }
     ensures sound { IfSome result.tower IsTower }
     ensures written { Written (K.took out.old) (K.took out.new) (text_of result.trace) result.status }
-    ensures read { result.status ≡ Status.ReadFault → IsOneMore (S.faults input.old) (S.faults input.new) (S.odd input.old) (S.odd input.new) }
-    ensures whole { result.status ≡ Status.Done → IsNoneMore (S.faults input.old) (S.faults input.new) (S.odd input.old) (S.odd input.new) }
+    ensures read { ReadFaults result.status (S.faults input.old) (S.faults input.new) (S.odd input.old) (S.odd input.new) }
     ensures write { WriteFaults result.status (K.faults out.old) (K.faults out.new) (K.odd out.old) (K.odd out.new) }
 {
     let mut reader = LineReader::new(alloc);
@@ -172,8 +171,7 @@ fn run_over<S: Source, K: Sink, P: Retires + Policies>(
     ensures caused { IfSome result.finish.tower CausesAll }
     ensures written_off { IfSome result.finish.tower WriteOffsAll }
     ensures failed { IfSome result.finish.tower FailedByCut }
-    ensures read { result.finish.status ≡ Status.ReadFault → IsOneMore (S.faults input.old) (S.faults input.new) (S.odd input.old) (S.odd input.new) }
-    ensures whole { result.finish.status ≡ Status.Done → IsNoneMore (S.faults input.old) (S.faults input.new) (S.odd input.old) (S.odd input.new) }
+    ensures read { ReadFaults result.finish.status (S.faults input.old) (S.faults input.new) (S.odd input.old) (S.odd input.new) }
     ensures write { WriteFaults result.finish.status (K.faults out.old) (K.faults out.new) (K.odd out.old) (K.odd out.new) }
 {
     match command_in(words) {
@@ -219,9 +217,8 @@ pub fn run<S: Source, K: Sink, P: Retires + Policies>(
     ensures written_off { IfSome result.tower WriteOffsAll }
     // A flow of a wire has failed only by a cut of that wire.
     ensures failed { IfSome result.tower FailedByCut }
-    // A read fault is told only where one read failed, and what is done only where none did.
-    ensures read { result.status ≡ Status.ReadFault → IsOneMore (S.faults input.old) (S.faults input.new) (S.odd input.old) (S.odd input.new) }
-    ensures whole { result.status ≡ Status.Done → IsNoneMore (S.faults input.old) (S.faults input.new) (S.odd input.old) (S.odd input.new) }
+    // A read fault is told exactly where a read failed, and that was one; only a write or an allocation that failed behind it may be told in its place.
+    ensures read { ReadFaults result.status (S.faults input.old) (S.faults input.new) (S.odd input.old) (S.odd input.new) }
     // A write fault is told exactly where a write failed; that was one, and the last.
     ensures write { WriteFaults result.status (K.faults out.old) (K.faults out.new) (K.odd out.old) (K.odd out.new) }
 {

@@ -1,6 +1,7 @@
 use Rattle.std.proofs.Common.{[], inr, refl}
 use Rattle.rina_report.specs.declared.note.Note.TheVariants as notes
-use Rattle.rina_run.proofs.Ending.{never_done, read_by, refused_as, refused_at_once}
+use Rattle.rina_run.proofs.Ending.{refused_as, refused_at_once}
+use Rattle.rina_run.proofs.Faulty.{reads_by, reads_then}
 use Rattle.rina_run.proofs.ReadOn.{few_left, read_nothing, was_headless}
 use Rattle.rina_run.proofs.top.run_read.Goals as goal
 
@@ -20,7 +21,9 @@ pub returns-in-Ok-Broken-clause-outcome : goal.returns-in-Ok-Broken-clause-outco
 returns-in-Ok-Broken-clause-outcome g c = inr (was_headless _ _ c.in-Ok-Broken.fault _ (rw c.in-Ok-Broken.field-0-is at c.in-Ok-Broken.ensures.reads) (refused_at_once (g.P.Policies.knows c.args.shelf.now) c.in-Ok-Broken.fault _ _ _ _ _ c.refuse.ensures.refused c.refuse.ensures.tower refl))
 
 pub returns-in-Ok-Broken-clause-read : goal.returns-in-Ok-Broken-clause-read
-returns-in-Ok-Broken-clause-read g c = λ is. read_by c.in-Ok-Broken.fault _ (notes.Fault c.in-Ok-Broken.fault) [] _ _ _ _ _ (refused_as c.in-Ok-Broken.fault _ _ c.refuse.ensures.refused) (rw c.in-Ok-Broken.field-0-is at c.in-Ok-Broken.ensures.faults) is
+returns-in-Ok-Broken-clause-read g c = reads_by c.in-Ok-Broken.fault _ (notes.Fault c.in-Ok-Broken.fault) [] _ _ _ _ _ (refused_as c.in-Ok-Broken.fault _ _ c.refuse.ensures.refused) (rw c.in-Ok-Broken.field-0-is at c.in-Ok-Broken.ensures.faults)
 
-pub returns-in-Ok-Broken-clause-whole : goal.returns-in-Ok-Broken-clause-whole
-returns-in-Ok-Broken-clause-whole g c = λ is. never_done c.in-Ok-Broken.fault _ (notes.Fault c.in-Ok-Broken.fault) [] _ _ _ _ _ (refused_as c.in-Ok-Broken.fault _ _ c.refuse.ensures.refused) is
+pub returns-in-Ok-Stack-clause-read : goal.returns-in-Ok-Stack-clause-read
+returns-in-Ok-Stack-clause-read g c =
+    let faults = rw c.in-Ok-Stack.field-0-is at c.in-Ok-Stack.ensures.faults in
+    reads_then _ _ _ _ _ _ _ faults.0 faults.1 c.run_script.ensures.read
