@@ -140,7 +140,7 @@ module _ (m : ChannelsSeen) (lines : List Direction) (processes : List Process) 
 -- A link is lost
 
 -- each place is that of a side of a link
-side_at : (k : ℕ) → (l : ℕ) × (side : Side) × (end_place l side ≡ k)
+pub side_at : (k : ℕ) → (l : ℕ) × (side : Side) × (end_place l side ≡ k)
 side_at zero = (0, Near, refl)
 side_at (suc k) = next (side_at k)
   where

@@ -1,3 +1,4 @@
+pub mod Among
 pub mod Asked
 pub mod Bare
 pub mod Barred
@@ -37,7 +38,10 @@ pub mod Made
 pub mod Managed
 pub mod Moves
 pub mod Named
+pub mod Neighbours
+pub mod Offered
 pub mod OnLinks
+pub mod OpenEnd
 pub mod Owning
 pub mod Passed
 pub mod Pieced
@@ -58,6 +62,7 @@ pub mod Sound
 pub mod Started
 pub mod Taken
 pub mod Told
+pub mod Undue
 pub mod Unlinked
 pub mod Ways
 pub mod Wiring

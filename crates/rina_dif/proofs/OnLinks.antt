@@ -74,11 +74,11 @@ some_of (Some k) some = (k, refl)
 
 -- The end that takes it
 
-channel_port : (port : Port) (c : Channel) → has_port port c ≡ true → c.port ≡ port
+pub channel_port : (port : Port) (c : Channel) → has_port port c ≡ true → c.port ≡ port
 unfolding has_port
 channel_port port c h = grind arith
 
-has_its_port : (port : Port) (c : Channel) → c.port ≡ port → has_port port c ≡ true
+pub has_its_port : (port : Port) (c : Channel) → c.port ≡ port → has_port port c ≡ true
 unfolding has_port
 has_its_port port c h = grind arith
 

@@ -128,7 +128,7 @@ sends_refused d at sdu way why flows a offers lines below h =
 -- The pieces
 
 -- a piece is made of each part
-pieces_count : (c : Constants) (now : ℕ) (parts : List Part) (tx : Sender) → length (pieces_for c now parts tx) ≡ length parts
+pub pieces_count : (c : Constants) (now : ℕ) (parts : List Part) (tx : Sender) → length (pieces_for c now parts tx) ≡ length parts
 pieces_count c now [] tx = refl
 pieces_count c now (p ∷ ps) tx = ap suc (pieces_count c now ps (sender_with c now p tx))
 
@@ -197,7 +197,7 @@ pub record IsPut (d : Dif) (ids : Ids) (way : FirstHop) (items : List Queued) (p
   pub waits : waiting ids.qos way.link p.queues.queues.items ≡ queue.ring.items
   pub new_is : process_of p' ≡ with_put (process_of p) place (plain queue) items
 
-is_put : (d : Dif) (ids : Ids) (way : FirstHop) (items : List Queued) (p p' : IpcProcess) → way.qos ≡ ids.qos → HasPut way.qos way.link items p p' → IsPut d ids way items p p'
+pub is_put : (d : Dif) (ids : Ids) (way : FirstHop) (items : List Queued) (p p' : IpcProcess) → way.qos ≡ ids.qos → HasPut way.qos way.link items p p' → IsPut d ids way items p p'
 is_put d ids way items p p' qos h =
     let k = h.queues.0 in
     let q = h.queues.1 in

@@ -123,7 +123,7 @@ full_lawful d i p off is cause w =
     written_on Full d (with_process d i (with_offs p (off ∷ []))) (line_noted Full d (with_process d i (with_offs p (off ∷ []))) i p (with_offs p (off ∷ [])) off refl is refl refl cause)
     (λ k x full member process q. inl (subst (WasLawful d.config d.clock d.conns member.addr process.links x.key) (sym full) refl)) w
 
-put_lawful : (d : DifSeen) (i : ℕ) (p p' : Process) → slice_get d.processes i ≡ Some p → p'.ledger ≡ p.ledger → p'.links ≡ p.links → AreWrittenOff d → AreWrittenOff (with_process d i p')
+pub put_lawful : (d : DifSeen) (i : ℕ) (p p' : Process) → slice_get d.processes i ≡ Some p → p'.ledger ≡ p.ledger → p'.links ≡ p.links → AreWrittenOff d → AreWrittenOff (with_process d i p')
 put_lawful d i p p' is ledger links w = written_on Nothing d (with_process d i p') (kept_noted Nothing d (with_process d i p') i p p' refl is ledger links) (λ k x none member process q. absurd none) w
 
 posts_lawful : (d : DifSeen) (i cap now number : ℕ) (hop : Hop) (cause : Option Cause) (p p' : Process) → cap ≡ d.config.cap → slice_get d.processes i ≡ Some p → PostsFor cap now number hop (Ok cause) p p' → AreWrittenOff d → AreWrittenOff (with_process d i p')

@@ -10,6 +10,7 @@ pub mod Facade
 pub mod Flooding
 pub mod FloodingLaws
 pub mod Freeing
+pub mod Handling
 pub mod Holding
 pub mod IdRests
 pub mod Laying
@@ -17,6 +18,7 @@ pub mod LinkDue
 pub mod LinkSteps
 pub mod Linking
 pub mod Managing
+pub mod Messaging
 pub mod Objects
 pub mod Planned
 pub mod Resting
@@ -25,6 +27,7 @@ pub mod Sending
 pub mod Shown
 pub mod Steps
 pub mod Taking
+pub mod Telling
 pub mod Timely
 pub mod Unlinking
 pub mod Whole

@@ -19,6 +19,7 @@ mod links_due;
 mod links_serve;
 mod lost_links;
 mod managements;
+mod messages;
 mod names;
 mod objects;
 mod out_step;

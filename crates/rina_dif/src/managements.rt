@@ -3,7 +3,7 @@ ghost use Rattle.std.specs.Prelude.{◌≡◌, ◌<◌, ◌≤◌, [], ◌∷◌
 ghost use Rattle.rina_dif.specs.Changing.{MayHaveEntered, changed_at, with_flow_at};
 ghost use Rattle.rina_dif.specs.Managing.{AreStarted};
 ghost use Rattle.rina_dif.specs.Routing.{AreRouted};
-ghost use Rattle.rina_member.specs.Managements.{entered, with_objects};
+ghost use Rattle.rina_member.specs.Managements.{entered, with_objects, with_sent};
 ghost use Rattle.rina_member.specs.Objects.{removed};
 
 use crate::dif::Dif;
@@ -101,6 +101,14 @@ impl Managements {
         ensures { self.new ≡ changed_at at (λ m. with_objects m (removed m.objects name.now)) self.old }
     {
         self.items[at].remove(name);
+    }
+
+    /// Takes the first message that waits for a link of the member at a place away, which was sent. Takes no memory.
+    pub fn sent(&mut self, at: usize, link: u16)
+        requires { at < length self.old }
+        ensures { self.new ≡ changed_at at (λ m. with_sent m link) self.old }
+    {
+        self.items[at].sent(link);
     }
 
     /// Gives the member at a place other objects. Takes no memory.

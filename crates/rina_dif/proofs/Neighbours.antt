@@ -1,0 +1,90 @@
+-- The members of a static DIF tell short messages to their neighbours alone, whatever happens.
+use Rattle.std.proofs.Common.{◌≡◌, ℕ, zero, suc, ◌∷◌, ◌<◌, ◌≤◌, ◌^◌, Bool, true, false, cond, ⊎_elim, List, [], ◌++◌, filter, length, Contains, Option, Some, None, Result, Ok, Err, subst}
+use Rattle.std.specs.Prelude.{remove}
+use Rattle.std.proofs.lemmas.List.Elements.{Contains-append_cases}
+use Rattle.rina_base.specs.Names.{app_at}
+use Rattle.rina_access.specs.declared.rules.Rules.{Rules}
+use Rattle.rina_newest.specs.declared.item.Item.{Item}
+use Rattle.rina_route.proofs.Lists.{cases, contains_filter, contains_unmap, head, in_none, tail}
+use Rattle.rina_agent.specs.declared.agent.Agent.{Agent}
+use Rattle.rina_agent.specs.declared.link.Link.{Link}
+use Rattle.rina_agent.specs.declared.message.Waiting.{Waiting}
+use Rattle.rina_agent.specs.declared.state.AgentError.{AgentError}
+use Rattle.rina_agent.specs.Agenda.{flood_on, floods, is_flooded, without_at}
+use Rattle.rina_agent.specs.Counts.{spent, unless}
+use Rattle.rina_agent.specs.Items.{stated}
+use Rattle.rina_agent.specs.Rows
+use Rattle.rina_data.specs.declared.link.Link.{Link as Below}
+use Rattle.rina_data.specs.declared.settings.Member.{Member}
+use Rattle.rina_plan.specs.declared.dif.LinkPlan.{LinkPlan}
+use Rattle.rina_member.specs.declared.management.Management.{Management}
+use Rattle.rina_member.specs.Knowing.{IsLaidOut}
+use Rattle.rina_member.specs.Managements.{LosesLink, entered, with_sent}
+use Rattle.rina_member.specs.Short.{AreNamed, HaveFewLinks}
+use Rattle.rina_member.specs.Start.{started}
+use Rattle.rina_member.proofs.Tells.{enters_short, lost_short, sent_short}
+use Rattle.rina_member.proofs.TellsStarting.{starts_short}
+use Rattle.rina_dif.specs.Telling.{IsToNeighbour, TellsNeighbours}
+
+abbrev AreNear : List Waiting → Type 0
+AreNear agenda = (w : Waiting) → Contains agenda w → IsToNeighbour w.message
+
+both_near : (agenda more : List Waiting) → AreNear agenda → AreNear more → AreNear (agenda ++ more)
+both_near agenda more old new w has = ⊎_elim (λ front. old w front) (λ back. new w back) (Contains-append_cases agenda more w has)
+
+floods_near : (out : Option ℕ) (item : Item) (links : List Link) → AreNear (floods out item links)
+floods_near out item links w has = (let r = contains_unmap (flood_on item) (filter (is_flooded out) links) w has in subst (λ (x : Waiting). IsToNeighbour x.message) r.2 tt)
+
+dropped_near : (g : Agent) (link : ℕ) → AreNear g.agenda → AreNear (Rows.dropped g link).agenda
+dropped_near g link near w has = near w (contains_filter _ g.agenda w has).0
+
+-- From the start
+
+pub starts_near : (members : List Member) (plans : List LinkPlan) (rules : Rules) (m : Member) (links : List Below) → IsLaidOut members plans → AreNamed members → HaveFewLinks members plans → Contains members m → length links ≤ 16 → TellsNeighbours (started members plans rules m links)
+unfolding started
+starts_near members plans rules m links laid named few among fits = record {
+  short = starts_short members plans laid named few rules m links among fits;
+  near = λ w has. absurd (in_none w has);
+}
+
+pub enters_near : (app : List ℕ) (address : ℕ) (m : Management) → app_at app ≡ Ok app → address < 2 ^ 32 → TellsNeighbours m.agent → TellsNeighbours (entered app address m).agent
+unfolding entered
+enters_near app address m name small h = record { short = enters_short m.agent app address h.short name small; near = h.near }
+
+-- A link is lost
+
+abbrev NearOr : Result Agent AgentError → Type 0
+NearOr (Ok g) = AreNear g.agenda
+NearOr (Err e) = Unit {0}
+
+unless_near : (o : Option AgentError) (g : Agent) → AreNear g.agenda → NearOr (unless o g)
+unless_near None g h = h
+unless_near (Some e) g h = tt
+
+lost_by : (b : Bool) (o : Option AgentError) (g : Agent) (now link : ℕ) → AreNear g.agenda → NearOr (cond b (unless o (Rows.dropped (stated (Some link) g now) link)) (Ok (Rows.dropped g link)))
+lost_by true o g now link h = unless_near o (Rows.dropped (stated (Some link) g now) link) (dropped_near (stated (Some link) g now) link (both_near g.agenda _ h (floods_near (Some link) _ g.links)))
+lost_by false o g now link h = dropped_near g link h
+
+pub loses_near : (now link : ℕ) (m m' : Management) → LosesLink now link m m' → TellsNeighbours m.agent → TellsNeighbours m'.agent
+loses_near now link m m' loses h = record {
+  short = lost_short m.agent m'.agent now link h.short loses.loses;
+  near = subst (λ (r : Result Agent AgentError). NearOr r) loses.loses (lost_by _ (spent 1 m.agent.last_count) m.agent now link h.near);
+}
+
+-- A message is sent
+
+from_removed : {A : Type 0} (xs : List A) (at : ℕ) (x : A) → Contains (remove xs at) x → Contains xs x
+from_removed [] zero x h = h
+from_removed [] (suc at) x h = h
+from_removed (z ∷ xs) zero x h = tail z xs x h
+from_removed (z ∷ xs) (suc at) x h = ⊎_elim (λ same. subst (λ w. Contains (z ∷ xs) w) same (head z xs)) (λ rest. tail z xs x (from_removed xs at x rest)) (cases z (remove xs at) x h)
+
+from_without : {A : Type 0} (place : Option ℕ) (xs : List A) (x : A) → Contains (without_at place xs) x → Contains xs x
+from_without None xs x h = h
+from_without (Some at) xs x h = from_removed xs at x h
+
+pub sends_near : (link : ℕ) (m : Management) → TellsNeighbours m.agent → TellsNeighbours (with_sent m link).agent
+sends_near link m h = record {
+  short = sent_short m.agent link h.short;
+  near = λ w has. h.near w (from_without _ m.agent.agenda w has);
+}
