@@ -15,8 +15,8 @@ use Rattle.rina_dif_law.specs.Ids.{Ids}
 use Rattle.rina_dif_law.specs.Sending.{home}
 use Rattle.rina_dif_law.specs.Standing.{IsConn}
 
--- no two members have one address, one node or one name, each address is above 0 and fits its field, and so does the
--- CEP-id of each port that a node may draw for a fixed flow
+-- no two members have one address, one node or one name, each address is above 0 and fits its field, and no node may draw more
+-- ports for fixed flows than a member has CEP-ids
 pub record AreMembers (g : Config) : Type 0 where
   pub addrs : (i k : ℕ) (a b : Member) → slice_get g.members i ≡ Some a → slice_get g.members k ≡ Some b → a.addr ≡ b.addr → i ≡ k
   pub nodes : (i k : ℕ) (a b : Member) → slice_get g.members i ≡ Some a → slice_get g.members k ≡ Some b → a.node ≡ b.node → i ≡ k
