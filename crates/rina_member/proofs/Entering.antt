@@ -28,7 +28,7 @@ stays_if true items x z among apart =
     (⊎_elim (λ same. absurd (apart (key_same x.key z.key same))) (λ other. kept (λ item. not (has_key x.key item)) items z among (ap not other)) (cases_Bool (has_key x.key z)))
 stays_if false items x z among apart = among
 
-stays : (items : List Item) (x z : Item) → Contains items z → (x.key ≡ z.key → ⊥) → Contains (taken items x) z
+pub stays : (items : List Item) (x z : Item) → Contains items z → (x.key ≡ z.key → ⊥) → Contains (taken items x) z
 unfolding taken
 stays items x z among apart = stays_if (is_newer x.version (kept_at items x.key)) items x z among apart
 
@@ -47,7 +47,7 @@ kept_if : (b : Bool) (items : List Item) (x : Item) (key : List ℕ) → has_key
 kept_if true items x key lacks = kept_other key x items lacks
 kept_if false items x key lacks = refl
 
-kept_still : (items : List Item) (x : Item) (key : List ℕ) → has_key key x ≡ false → kept_at (taken items x) key ≡ kept_at items key
+pub kept_still : (items : List Item) (x : Item) (key : List ℕ) → has_key key x ≡ false → kept_at (taken items x) key ≡ kept_at items key
 unfolding taken
 kept_still items x key lacks = kept_if (is_newer x.version (kept_at items x.key)) items x key lacks
 
@@ -87,9 +87,9 @@ enters members plans now m links g app address h = record {
   enrolled = h.enrolled;
   numbers = h.numbers;
   links_are = h.links_are;
-  claims = λ e. (
-    (λ has. (h.claims e).0 (entered_within g.items app address h.keys e has)),
-    (λ has. within_entered g.items app address h.keys e ((h.claims e).1 has)),
+  own = λ e from. (
+    (λ has. (h.own e from).0 (entered_within g.items app address h.keys e has)),
+    (λ has. within_entered g.items app address h.keys e ((h.own e from).1 has)),
   );
   keys = entered_keys g.items app address h.keys;
   past = λ item is. h.past item (sym (entered_state g.items app address h.keys m.addr) ∙ is);

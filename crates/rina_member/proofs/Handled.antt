@@ -206,6 +206,20 @@ takes link item m m' newer handles shows =
     let agent : m'.agent ≡ record m.agent { items = taken m.agent.items item; agenda = m.agent.agenda ++ floods (Some link) item m.agent.links } = sym (same_agent (took link m.agent item) m'.agent handles) ∙ took_news link m.agent item newer in
     record { takes = agent; shows = shows ∙ ap (λ (g : Agent). with_live m.objects g.items item.key) agent }
 
+took_agent : (link : ℕ) (x item : Item) (a b : Agent) → x ≡ item → ◌≡◌ {A = Result Agent AgentError} (Ok (took link a x)) (Ok b) → b ≡ took link a item
+took_agent link x item a b same handles = sym (same_agent (took link a x) b handles) ∙ ap (λ (y : Item). took link a y) same
+
+-- a member that handled an item, news or not, is as the item left it
+pub handles_took : (now link : ℕ) (message : LinkMessage) (item : Item) (m m' : Management) → item_in message ≡ Some item → Handles now link message m m' → m'.agent ≡ took link m.agent item
+handles_took now link (messages.Connect invoke joiner member) item m m' is h = absurd (cc)
+handles_took now link (messages.ConnectR invoke denied) item m m' is h = absurd (cc)
+handles_took now link (messages.Start invoke address) item m m' is h = absurd (cc)
+handles_took now link (messages.StartR invoke) item m m' is h = absurd (cc)
+handles_took now link (messages.Item x) item m m' is h = took_agent link x item m.agent m'.agent (cc) h.handles
+handles_took now link (messages.Stop invoke) item m m' is h = absurd (cc)
+handles_took now link (messages.StopR invoke) item m m' is h = absurd (cc)
+handles_took now link (messages.Flood x) item m m' is h = took_agent link x item m.agent m'.agent (cc) h.handles
+
 -- a member that handled news took the item
 pub handles_item : (now link : ℕ) (message : LinkMessage) (item : Item) (m m' : Management) → item_in message ≡ Some item → is_news m.agent.items message ≡ true → Handles now link message m m' → TakesNews link item m m'
 handles_item now link (messages.Connect invoke joiner member) item m m' is news h = absurd (cc)

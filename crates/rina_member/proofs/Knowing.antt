@@ -1,13 +1,12 @@
--- What the management of a member knows: from the start, as time goes on, when it takes a directory entry, and when it loses a link; and that its next hops are those over its live links
--- and the links that the others had from the start.
+-- What the management of a member knows: from the start, as time goes on, when it takes a directory entry, and when it loses a link; and
+-- that its next hops are those over its live links and the edges that its items claim.
 --
--- Beside what the fields of `Knows` say of addresses, links and claims, one says that each kept item has the key of a member item, of a link state or of a
--- directory entry (`keys`), so that the own link state alone claims links of the own address. A DIF is laid out as a plan may lay it out (`IsLaidOut`).
+-- Of the fields of `Knows`, `keys` says that each kept item has the key of a member item, of a link state or of a directory entry, so that
+-- the own link state alone claims links of the own address. A DIF is laid out as a plan may lay it out (`IsLaidOut`).
 use Rattle.std.proofs.Common.{◌≡◌, ◌∙◌, ℕ, ◌≤◌, true, false, List, [], ◌∷◌, Contains, length, map, slice_get, slice_set, Some, None, Ok, refl, ap, subst, arith}
-use Rattle.std.specs.List.{flat_map}
 use Rattle.rina_access.specs.declared.rules.Rules.{Rules}
+use Rattle.rina_graph.specs.declared.graph.Edge.{Edge}
 use Rattle.rina_route.specs.declared.link.Link.{Link as Hop}
-use Rattle.rina_route.specs.Routes.{AreHops, claims_of}
 use Rattle.rina_agent.specs.declared.agent.Agent.{Agent}
 use Rattle.rina_agent.specs.declared.link.Link.{Link as Managed}
 use Rattle.rina_agent.specs.Counts.{spent}
@@ -16,14 +15,14 @@ use Rattle.rina_plan.specs.declared.dif.LinkPlan.{LinkPlan}
 use Rattle.rina_data.specs.declared.link.Link.{Link}
 use Rattle.rina_data.specs.declared.link.Route.{Route}
 use Rattle.rina_data.specs.declared.settings.Member.{Member}
-use Rattle.rina_member.specs.Routing.{KnowsLive, claims_with, edges_from, edges_of, live_links, routes_to}
-use Rattle.rina_member.specs.Start.{managed_link, started}
-use Rattle.rina_member.specs.Knowing.{AreLive, AreNumbered, AreRoutesOf, IsLaidOut, Knows, hops_of}
+use Rattle.rina_member.specs.Routing.{AreRoutesOver, edges_from, edges_of, live_links}
+use Rattle.rina_member.specs.Start.{items_held, managed_link, started}
+use Rattle.rina_member.specs.Knowing.{AreLive, AreNumbered, AreRoutesOf, IsLaidOut, KeepsOtherClaims, Knows, SameEdges, all_claims, hops_of}
 use Rattle.rina_member.specs.Managements.{entry_of, takes_item}
 use Rattle.rina_member.proofs.Entering.{enters, routes_stay}
 use Rattle.rina_member.proofs.Hops.{same_hops}
 use Rattle.rina_member.proofs.Losing.{loses, not_spent}
-use Rattle.rina_member.proofs.Starting.{at_start}
+use Rattle.rina_member.proofs.Starting.{at_start, start_claims}
 
 -- from the start, where each edge of the member has a link
 pub starts_knowing : (members : List Member) (plans : List LinkPlan) (rules : Rules) (m : Member) (links : List Link) (now : ℕ)
@@ -39,7 +38,7 @@ knows_later members plans now now' m links g later h = record {
   enrolled = h.enrolled;
   numbers = h.numbers;
   links_are = h.links_are;
-  claims = h.claims;
+  own = h.own;
   keys = h.keys;
   past = λ item is. (let r = h.past item is in (omega (arith, r.0, later), r.1));
   room = h.room;
@@ -49,20 +48,27 @@ hops_again : (hops : List Hop) → hops_of (map managed_link hops) ≡ hops
 hops_again [] = refl
 hops_again (h ∷ hops) = ap (λ (hs : List Hop). h ∷ hs) (hops_again hops)
 
--- its next hops
+-- its next hops are over its live links, and what its items claim
 pub knows_routes : (members : List Member) (plans : List LinkPlan) (now : ℕ) (m : Member) (links : List Link) (g : Agent) (routes : List Route)
-    → Knows members plans now m links g → AreRoutesOf g members routes → KnowsLive members plans m links routes
+    → Knows members plans now m links g → AreRoutesOf g members routes → AreRoutesOver m.addr (live_links members plans m links) (all_claims g.items) members routes
 knows_routes members plans now m links g routes h are =
     let hops : List Hop = live_links members plans m links in
-    let over : AreHops g.address (hops_of g.links) (flat_map claims_of g.items) are.rows = are.hops in
     let links_are : hops_of g.links ≡ hops = ap (λ (ls : List Managed). hops_of ls) h.links_are ∙ hops_again hops in
-    let own : AreHops m.addr (hops_of g.links) (flat_map claims_of g.items) are.rows = subst (λ (a : ℕ). AreHops a (hops_of g.links) (flat_map claims_of g.items) are.rows) h.address over in
-    let live : AreHops m.addr hops (flat_map claims_of g.items) are.rows = subst (λ (hs : List Hop). AreHops m.addr hs (flat_map claims_of g.items) are.rows) links_are own in
-    record {
-      rows = are.rows;
-      hops = same_hops m.addr hops (flat_map claims_of g.items) (claims_with m.addr hops (edges_of members plans)) are.rows (λ e. (h.claims e).0) (λ e. (h.claims e).1) live;
-      are = are.are ∙ ap (λ (a : ℕ). routes_to a are.rows members) h.address;
-    }
+    let own : AreRoutesOver m.addr (hops_of g.links) (all_claims g.items) members routes = subst (λ (a : ℕ). AreRoutesOver a (hops_of g.links) (all_claims g.items) members routes) h.address are in
+    subst (λ (hs : List Hop). AreRoutesOver m.addr hs (all_claims g.items) members routes) links_are own
+
+-- where its items claim certain edges alone, they are over these
+pub routes_over : (own : ℕ) (hops : List Hop) (claimed edges : List Edge) (members : List Member) (routes : List Route) → SameEdges claimed edges → AreRoutesOver own hops claimed members routes → AreRoutesOver own hops edges members routes
+routes_over own hops claimed edges members routes same are = record { rows = are.rows; hops = same_hops own hops claimed edges are.rows (λ e. (same e).0) (λ e. (same e).1) are.hops; are = are.are }
+
+-- so from the start they are over the links of the plan
+pub starts_routed : (members : List Member) (plans : List LinkPlan) (rules : Rules) (m : Member) (links : List Link) (routes : List Route) → IsLaidOut members plans → AreRoutesOf (started members plans rules m links) members routes
+    → AreRoutesOver m.addr (live_links members plans m links) (edges_of members plans) members routes
+unfolding started
+starts_routed members plans rules m links routes laid are =
+    let hops : List Hop = live_links members plans m links in
+    let own : AreRoutesOver m.addr hops (all_claims (items_held members plans)) members routes = subst (λ (hs : List Hop). AreRoutesOver m.addr hs (all_claims (items_held members plans)) members routes) (hops_again hops) are in
+    routes_over m.addr hops (all_claims (items_held members plans)) (edges_of members plans) members routes (start_claims members plans laid) own
 
 -- a version count is left
 pub may_make : (members : List Member) (plans : List LinkPlan) (now : ℕ) (m : Member) (links : List Link) (g : Agent)
@@ -73,7 +79,12 @@ may_make members plans now m links g h = (let room = h.room in not_spent g.last_
 pub loses_knowing : (members : List Member) (plans : List LinkPlan) (now : ℕ) (m : Member) (links : List Link) (g g' : Agent) (k : ℕ) (link : Link)
     → IsLaidOut members plans → Contains members m → Knows members plans now m links g → slice_get links k ≡ Some link → link.live ≡ true → lost g now link.number ≡ Ok g'
     → Knows members plans now m (slice_set links k (record link { live = false })) g'
-loses_knowing members plans now m links g g' k link laid among h stands live was = loses members plans now m links g k link laid among h stands live g' was
+loses_knowing members plans now m links g g' k link laid among h stands live was = (loses members plans now m links g k link laid among h stands live g' was).0
+
+-- what its items claim of the others stays then
+pub loses_own : (members : List Member) (plans : List LinkPlan) (now : ℕ) (m : Member) (links : List Link) (g g' : Agent) (k : ℕ) (link : Link)
+    → IsLaidOut members plans → Contains members m → Knows members plans now m links g → slice_get links k ≡ Some link → link.live ≡ true → lost g now link.number ≡ Ok g' → KeepsOtherClaims m.addr g.items g'.items
+loses_own members plans now m links g g' k link laid among h stands live was = (loses members plans now m links g k link laid among h stands live g' was).1
 
 -- when it takes a directory entry
 pub enters_knowing : (members : List Member) (plans : List LinkPlan) (now : ℕ) (m : Member) (links : List Link) (g : Agent) (app : List ℕ) (address : ℕ)

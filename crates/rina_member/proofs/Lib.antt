@@ -1,8 +1,9 @@
 mod Entering
-mod Handled
+pub mod Handled
 mod Hops
 pub mod Items
 pub mod Laying
+pub mod Learning
 pub mod Lists
 mod Losing
 mod Names

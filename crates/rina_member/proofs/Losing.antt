@@ -1,8 +1,7 @@
 -- What a member knows once it lost a link.
 use Rattle.std.proofs.Common.{◌≡◌, ◌∙◌, inl, inr, ⊎_elim, ℕ, ◌+◌, ◌-◌, ◌^◌, ◌<◌, ◌≤◌, ◌==◌, Bool, true, false, cond, not, nat_lt, List, ◌++◌, Option, Some, None, Result, Ok, Contains, length, map, filter, slice_get, slice_set, refl, sym, ap, subst, arith}
 use Rattle.std.specs.Prelude.{find}
-use Rattle.std.specs.List.{flat_map}
-use Rattle.std.proofs.lemmas.Bool.{cond-false, le-ltb, true≢false}
+use Rattle.std.proofs.lemmas.Bool.{cond-false, le-ltb, ne_eqb, true≢false}
 use Rattle.std.proofs.lemmas.Bool.Decides.{nat_tests}
 use Rattle.std.proofs.lemmas.List.{length-map}
 use Rattle.std.proofs.lemmas.List.Elements.{Contains-append_cases, Contains-append_left, Contains-append_right, Contains-push_cases}
@@ -27,9 +26,9 @@ use Rattle.rina_agent.specs.Rows.{dropped, lost, lost_state, was_up}
 use Rattle.rina_plan.specs.declared.dif.LinkPlan.{LinkPlan}
 use Rattle.rina_data.specs.declared.link.Link.{Link}
 use Rattle.rina_data.specs.declared.settings.Member.{Member}
-use Rattle.rina_member.specs.Routing.{claims_with, edge_to, edges_from, edges_of, live_links, live_of}
+use Rattle.rina_member.specs.Routing.{edge_to, edges_from, live_links, live_of}
 use Rattle.rina_member.specs.Start.{managed_link}
-use Rattle.rina_member.specs.Knowing.{IsItemKey, IsLaidOut, Knows, SameEdges}
+use Rattle.rina_member.specs.Knowing.{ClaimLinks, IsItemKey, IsLaidOut, KeepsOtherClaims, Knows, all_claims}
 use Rattle.rina_member.proofs.Laying.{can_claim, own_within, small_address}
 use Rattle.rina_member.proofs.Hops.{Within}
 use Rattle.rina_member.proofs.Items.{from_taken, is_foreign, key_itself, key_same, not_foreign, restated_within, taken_new, within_restated}
@@ -92,7 +91,7 @@ module _ (members : List Member) (plans : List LinkPlan) (now : ℕ) (m : Member
         enrolled = state_stays ∙ h.enrolled;
         numbers = still_numbered links k link h.numbers stands;
         links_are = managed_left;
-        claims = subst (λ (hs : List Hop). SameEdges (flat_map claims_of g.items) (claims_with m.addr hs (edges_of members plans))) (sym same) h.claims;
+        own = subst (λ (hs : List Hop). ClaimLinks g.items m.addr hs) (sym same) h.own;
         keys = h.keys;
         past = h.past;
         room = omega (arith, size, room);
@@ -145,35 +144,34 @@ module _ (members : List Member) (plans : List LinkPlan) (now : ℕ) (m : Member
   within_made e has = subst (λ (es : List Edge). Contains es e) (sym made_claims)
       (within_state m.addr (own_version g now) (Some link.number) (map managed_link hops) (small_address members plans laid m among) out_fits e (subst (λ (es : List Edge). Contains es e) (sym out_is) has))
 
-  abbrev foreign : List Edge
-  foreign = filter (is_foreign m.addr) (edges_of members plans)
-
   abbrev foreign_claims : List Edge
-  foreign_claims = filter (is_foreign m.addr) (flat_map claims_of g.items)
+  foreign_claims = filter (is_foreign m.addr) (all_claims g.items)
 
-  foreign_within : Within foreign_claims foreign
-  foreign_within e has =
-      let r = contains_filter (is_foreign m.addr) (flat_map claims_of g.items) e has in
-      ⊎_elim
-      (λ other. other)
-      (λ own. (let s = contains_unmap (edge_to m.addr) hops e own in absurd (not_foreign m.addr e (sym (ap (λ (x : Edge). x.from) s.2)) r.1)))
-      (Contains-append_cases foreign (map (edge_to m.addr) hops) e ((h.claims e).0 r.0))
+  restated : Within (all_claims items') (foreign_claims ++ claims_of made)
+  restated = restated_within m.addr g.items made (small_address members plans laid m among) h.keys made_key made_newer
 
-  within_foreign : Within foreign foreign_claims
-  within_foreign e has =
-      kept (is_foreign m.addr) (flat_map claims_of g.items) e ((h.claims e).1 (Contains-append_left foreign (map (edge_to m.addr) hops) e has)) (contains_filter (is_foreign m.addr) (edges_of members plans) e has).1
+  restating : Within (foreign_claims ++ claims_of made) (all_claims items')
+  restating = within_restated m.addr g.items made (small_address members plans laid m among) h.keys made_key made_newer
 
-  to_claims : Within (flat_map claims_of items') (foreign ++ map (edge_to m.addr) left)
-  to_claims e has = ⊎_elim
-      (λ other. Contains-append_left foreign (map (edge_to m.addr) left) e (foreign_within e other))
-      (λ own. Contains-append_right foreign (map (edge_to m.addr) left) e (made_within e own))
-      (Contains-append_cases foreign_claims (claims_of made) e (restated_within m.addr g.items made (small_address members plans laid m among) h.keys made_key made_newer e has))
+  -- of its own links, the items claim those that are left
+  own_left : ClaimLinks items' m.addr left
+  own_left e from = (
+    (λ has. ⊎_elim
+        (λ other. absurd (not_foreign m.addr e from (contains_filter (is_foreign m.addr) (all_claims g.items) e other).1))
+        (λ own. made_within e own)
+        (Contains-append_cases foreign_claims (claims_of made) e (restated e has))),
+    (λ own. restating e (Contains-append_right foreign_claims (claims_of made) e (within_made e own))),
+  )
 
-  from_claims : Within (foreign ++ map (edge_to m.addr) left) (flat_map claims_of items')
-  from_claims e has = within_restated m.addr g.items made (small_address members plans laid m among) h.keys made_key made_newer e (⊎_elim
-      (λ other. Contains-append_left foreign_claims (claims_of made) e (within_foreign e other))
-      (λ own. Contains-append_right foreign_claims (claims_of made) e (within_made e own))
-      (Contains-append_cases foreign (map (edge_to m.addr) left) e has))
+  -- and of the others what they claimed
+  others_left : KeepsOtherClaims m.addr g.items items'
+  others_left e apart = (
+    (λ has. ⊎_elim
+        (λ other. (contains_filter (is_foreign m.addr) (all_claims g.items) e other).0)
+        (λ own. (let s = contains_unmap (edge_to m.addr) left e (made_within e own) in absurd (apart (sym (ap (λ (x : Edge). x.from) s.2)))))
+        (Contains-append_cases foreign_claims (claims_of made) e (restated e has))),
+    (λ has. restating e (Contains-append_left foreign_claims (claims_of made) e (kept (is_foreign m.addr) (all_claims g.items) e has (ap not (ne_eqb e.from m.addr apart))))),
+  )
 
   made_keys : (z : Item) → Contains items' z → IsItemKey z.key
   made_keys z has = ⊎_elim
@@ -215,19 +213,21 @@ module _ (members : List Member) (plans : List LinkPlan) (now : ℕ) (m : Member
         enrolled = state_stays ∙ h.enrolled;
         numbers = still_numbered links k link h.numbers stands;
         links_are = managed_left;
-        claims = subst (λ (hs : List Hop). SameEdges (flat_map claims_of items') (claims_with m.addr hs (edges_of members plans))) (sym hops_left) (λ e. (to_claims e, from_claims e));
+        own = subst (λ (hs : List Hop). ClaimLinks items' m.addr hs) (sym hops_left) own_left;
         keys = made_keys;
         past = made_past;
         room = omega (arith, size, size', before, after, lt, more, room);
       }
 
-  lost_by : (g' : Agent) (b : Bool) → was_up (find (is_numbered link.number) g.links) ≡ b
-      → cond b (unless (spent 1 g.last_count) (dropped (stated (Some link.number) g now) link.number)) (Ok (dropped g link.number)) ≡ Ok g' → Knows members plans now m links' g'
+  abbrev Loses : Agent → Type 0
+  Loses g' = Knows members plans now m links' g' × KeepsOtherClaims m.addr g.items g'.items
+
+  lost_by : (g' : Agent) (b : Bool) → was_up (find (is_numbered link.number) g.links) ≡ b → cond b (unless (spent 1 g.last_count) (dropped (stated (Some link.number) g now) link.number)) (Ok (dropped g link.number)) ≡ Ok g' → Loses g'
   lost_by g' true up is =
       let after : Agent = dropped (stated (Some link.number) g now) link.number in
       let done : ◌≡◌ {A = Result Agent AgentError} (Ok after) (Ok g') = sym (ap (λ (o : Option AgentError). unless o after) (not_spent g.last_count few)) ∙ is in
-      subst (λ (x : Agent). Knows members plans now m links' x) (same_done after g' done) (loses_one up)
-  lost_by g' false down is = subst (λ (x : Agent). Knows members plans now m links' x) (same_done (dropped g link.number) g' is) (loses_none down)
+      subst Loses (same_done after g' done) (loses_one up, others_left)
+  lost_by g' false down is = subst Loses (same_done (dropped g link.number) g' is) (loses_none down, (λ e apart. ((λ has. has), (λ has. has))))
 
-  pub loses : (g' : Agent) → lost g now link.number ≡ Ok g' → Knows members plans now m links' g'
+  pub loses : (g' : Agent) → lost g now link.number ≡ Ok g' → Loses g'
   loses g' is = lost_by g' (was_up (find (is_numbered link.number) g.links)) refl is

@@ -1,27 +1,26 @@
 -- What a member knows from the start.
-use Rattle.std.proofs.Common.{◌≡◌, ◌∙◌, ◌⊎◌, inl, inr, ⊎_elim, ℕ, ◌≤◌, ◌==◌, not, List, [], None, Contains, length, map, filter, refl, sym, ap, subst, arith}
+use Rattle.std.proofs.Common.{◌≡◌, ◌∙◌, ◌⊎◌, inl, inr, ⊎_elim, ℕ, ◌≤◌, List, [], None, Contains, length, map, refl, sym, ap, subst, arith}
 use Rattle.std.specs.List.{flat_map}
-use Rattle.std.proofs.lemmas.Bool.{cases_Bool, eqb-true}
 use Rattle.std.proofs.lemmas.List.{length-map}
-use Rattle.std.proofs.lemmas.List.Elements.{Contains-append_cases, Contains-append_left, Contains-append_right}
+use Rattle.std.proofs.lemmas.List.Elements.{Contains-append_cases, Contains-append_right}
 use Rattle.rina_access.specs.declared.rules.Rules.{Rules}
 use Rattle.rina_graph.specs.declared.graph.Edge.{Edge}
 use Rattle.rina_newest.specs.declared.item.Item.{Item}
 use Rattle.rina_newest.specs.Newest.{has_key}
 use Rattle.rina_route.specs.declared.link.Link.{Link as Hop}
 use Rattle.rina_route.specs.Routes.{claims_of}
-use Rattle.rina_route.proofs.Lists.{contains_filter, contains_map, contains_unmap, in_none}
+use Rattle.rina_route.proofs.Lists.{contains_map, contains_unmap, in_none}
 use Rattle.rina_agent.specs.Neighbours.{link_key}
 use Rattle.rina_plan.specs.declared.dif.LinkPlan.{LinkPlan}
 use Rattle.rina_data.specs.declared.link.Link.{Link}
 use Rattle.rina_data.specs.declared.settings.Member.{Member}
-use Rattle.rina_member.specs.Routing.{claims_with, edge_to, edges_from, edges_of, live_links, live_of, own_link, own_links}
+use Rattle.rina_member.specs.Routing.{edge_to, edges_from, edges_of, live_links, live_of, own_link, own_links}
 use Rattle.rina_member.specs.Start.{first_version, items_held, managed_link, member_item, neighbour_link, start_items, started, state_item}
-use Rattle.rina_member.specs.Knowing.{AreLive, AreNumbered, IsItemKey, IsLaidOut, Knows}
+use Rattle.rina_member.specs.Knowing.{AreLive, AreNumbered, ClaimLinks, IsItemKey, IsLaidOut, Knows, SameEdges, all_claims}
 use Rattle.rina_member.proofs.Laying.{can_claim, from_member, of_member, own_within, same_member, small_address, within_own}
 use Rattle.rina_member.proofs.Hops.{Within}
-use Rattle.rina_member.proofs.Items.{from_all, holds, is_foreign, member_claims, not_link, same_address}
-use Rattle.rina_member.proofs.Lists.{at_place, found, from_flat, into_flat, keeps_all, kept, makes_few}
+use Rattle.rina_member.proofs.Items.{from_all, holds, member_claims, not_link, same_address}
+use Rattle.rina_member.proofs.Lists.{at_place, found, from_flat, into_flat, keeps_all, makes_few}
 use Rattle.rina_member.proofs.States.{start_edges, state_within, within_state}
 
 -- The items of the start
@@ -96,6 +95,10 @@ module _ (members : List Member) (plans : List LinkPlan) (laid : IsLaidOut membe
   of_claimed : (m : Member) (e : Edge) → Contains members m → Contains (edges_from members m.node plans) e → Contains (flat_map claims_of (items_held members plans)) e
   of_claimed m e among h = into_flat claims_of (items_held members plans) (state_item members plans m) e (held m among) (stated m among e h)
 
+  -- together they claim the links of the plan, and no others
+  pub start_claims : SameEdges (all_claims (items_held members plans)) (edges_of members plans)
+  start_claims e = ((λ h. (let r = claimed_of e h in from_member members plans r.0.node e r.2)), (λ h. (let s = of_member members plans e h in of_claimed s.0 e s.1 s.2)))
+
   -- A member of the start
 
   module _ (m : Member) (links : List Link) (among : Contains members m) (numbered : AreNumbered links) (live : AreLive links) (enough : length (edges_from members m.node plans) ≤ length links) where
@@ -119,26 +122,14 @@ module _ (members : List Member) (plans : List LinkPlan) (laid : IsLaidOut membe
     within_hops : Within es (map (edge_to m.addr) hops)
     within_hops = subst (λ (ls : List Link). Within es (map (edge_to m.addr) (own_links es ls))) (sym all_live) (within_own m.addr es links from_own numbered enough)
 
-    to_claims : Within (flat_map claims_of (items_held members plans)) (claims_with m.addr hops (edges_of members plans))
-    to_claims e h =
-        let r = claimed_of e h in
-        let others : List Edge = filter (is_foreign m.addr) (edges_of members plans) in
-        ⊎_elim
-        (λ own. (
-        let from : r.0.addr ≡ m.addr = sym (can_claim members plans laid r.0 e r.1 r.2).from ∙ eqb-true e.from m.addr own in
-        let mine : Contains es e = subst (λ (x : Member). Contains (edges_from members x.node plans) e) (same_member members plans laid r.0 m r.1 among from) r.2 in
-        Contains-append_right others (map (edge_to m.addr) hops) e (within_hops e mine)))
-        (λ other. Contains-append_left others (map (edge_to m.addr) hops) e (kept (is_foreign m.addr) (edges_of members plans) e (from_member members plans r.0.node e r.2) (ap not other)))
-        (cases_Bool (e.from == m.addr))
-
-    from_claims : Within (claims_with m.addr hops (edges_of members plans)) (flat_map claims_of (items_held members plans))
-    from_claims e h = ⊎_elim
-        (λ other. (
-        let r = contains_filter (is_foreign m.addr) (edges_of members plans) e other in
-        let s = of_member members plans e r.0 in
-        of_claimed s.0 e s.1 s.2))
-        (λ own. of_claimed m e among (hops_within e own))
-        (Contains-append_cases (filter (is_foreign m.addr) (edges_of members plans)) (map (edge_to m.addr) hops) e h)
+    own_claims : ClaimLinks (items_held members plans) m.addr hops
+    own_claims e from = (
+      (λ h. (
+          let r = claimed_of e h in
+          let address : r.0.addr ≡ m.addr = sym (can_claim members plans laid r.0 e r.1 r.2).from ∙ from in
+          within_hops e (subst (λ (x : Member). Contains (edges_from members x.node plans) e) (same_member members plans laid r.0 m r.1 among address) r.2))),
+      (λ h. of_claimed m e among (hops_within e h)),
+    )
 
     few_hops : length (map managed_link hops) ≤ length links
     few_hops = (let same = ap (λ (ls : List Link). length (own_links es ls)) all_live in omega (arith, length-map hops managed_link, makes_few (own_link es) links, same))
@@ -150,7 +141,7 @@ module _ (members : List Member) (plans : List LinkPlan) (laid : IsLaidOut membe
       enrolled = refl;
       numbers = numbered;
       links_are = refl;
-      claims = λ e. (to_claims e, from_claims e);
+      own = own_claims;
       keys = item_keys;
       past = λ item is. (
           let r = is_first members plans item (found (has_key (link_key m.addr)) (items_held members plans) item is).0 in

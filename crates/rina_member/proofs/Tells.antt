@@ -212,7 +212,7 @@ member_short a v node small name =
       inr (inl (record { address = a; node = node; small = small; name = name; key = refl; value = refl })),
     )
 
-key_shown : (app : List ℕ) → key_of app ≡ codes "/dir/" ++ map (λ b. cond (b == 47) 33 b) app
+pub key_shown : (app : List ℕ) → key_of app ≡ codes "/dir/" ++ map (λ b. cond (b == 47) 33 b) app
 unfolding key_of key_byte
 key_shown app = refl
 

@@ -1,12 +1,13 @@
 -- What the laws say of a member that handles the SDUs of its links.
-use Rattle.std.specs.Prelude.{◌≡◌, ℕ, ◌⊎◌, List, ◌++◌, Contains, Option, Some, None, codes}
+use Rattle.std.specs.Prelude.{◌≡◌, ℕ, ◌⊎◌, false, List, ◌++◌, Contains, Option, Some, None, codes}
 use Rattle.rina_newest.specs.declared.item.Item.{Item}
-use Rattle.rina_newest.specs.Newest.{taken}
+use Rattle.rina_newest.specs.Newest.{is_newer, kept_at, taken}
 use Rattle.rina_enrol.specs.declared.message.LinkMessage.{LinkMessage}
 use Rattle.rina_enrol.specs.declared.message.LinkMessage.TheVariants as messages
 use Rattle.rina_agent.specs.declared.agent.Agent.{Agent}
 use Rattle.rina_agent.specs.declared.link.Link.{Link}
 use Rattle.rina_agent.specs.Agenda.{floods}
+use Rattle.rina_agent.specs.Neighbours.{link_key}
 use Rattle.rina_rib.specs.Laws.{LiesBelow}
 use Rattle.rina_rib.specs.Objects.{object_at}
 use Rattle.rina_rib.specs.Rows.{Tree}
@@ -35,6 +36,10 @@ pub record TakesNews (link : ℕ) (item : Item) (m m' : Management) : Type 0 whe
 -- no enrolment made a link, as in a static DIF
 abbrev pub AreUnenrolled : List Link → Type 0
 AreUnenrolled links = (l : Link) → Contains links l → l.enrolment ≡ None
+
+-- where a message brings a link state of the member itself, what the member keeps of it is as new: it alone makes it
+abbrev pub OwnIsNewest : Agent → LinkMessage → Type 0
+OwnIsNewest g message = (item : Item) → item_in message ≡ Some item → item.key ≡ link_key g.address → is_newer item.version (kept_at g.items item.key) ≡ false
 
 -- each object is as before, but those of some names
 abbrev pub KeepsOthers : List (List ℕ) → Tree → Tree → Type 0

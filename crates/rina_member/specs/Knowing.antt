@@ -1,11 +1,11 @@
--- What the management of a member of a static DIF knows, and the next hops over it.
+-- What the management of a member of a static DIF knows, and the next hops over the items that it holds.
 use Rattle.std.specs.Prelude.{◌≡◌, ℕ, ◌+◌, ◌^◌, ◌<◌, ◌≤◌, ◌↔◌, ◌⊎◌, true, List, All, Contains, flat_map, length, map, slice_get, Option, Some, None, option_map, if◌then◌else◌}
 use Rattle.std.specs.List.{filter_map}
 use Rattle.rina_graph.specs.declared.graph.Edge.{Edge}
 use Rattle.rina_newest.specs.declared.item.Item.{Item}
 use Rattle.rina_newest.specs.Newest.{kept_at}
 use Rattle.rina_route.specs.declared.link.Link.{Link as Hop}
-use Rattle.rina_route.specs.Routes.{AreRoutes, claims_of}
+use Rattle.rina_route.specs.Routes.{claims_of}
 use Rattle.rina_agent.specs.declared.agent.Agent.{Agent}
 use Rattle.rina_agent.specs.declared.link.Link.{Link as Managed}
 use Rattle.rina_agent.specs.declared.state.MemberState.TheVariants.{Enrolled}
@@ -16,7 +16,7 @@ use Rattle.rina_plan.specs.Kept.{AreApart}
 use Rattle.rina_data.specs.declared.link.Link.{Link}
 use Rattle.rina_data.specs.declared.link.Route.{Route}
 use Rattle.rina_data.specs.declared.settings.Member.{Member}
-use Rattle.rina_member.specs.Routing.{claims_with, edges_of, live_links, routes_to}
+use Rattle.rina_member.specs.Routing.{AreRoutesOver, edge_to, live_links}
 use Rattle.rina_member.specs.Start.{managed_link}
 
 -- a link of management over which PDUs may leave: it is up, and its neighbour is known
@@ -26,16 +26,26 @@ hop_of l = if l.up then option_map (λ peer. record { number = l.number; peer = 
 abbrev pub hops_of : List Managed → List Hop
 hops_of links = filter_map hop_of links
 
--- these are the next hops of a member over the items that its management holds: the least number of a link on a least walk over
--- the edges that both ends' link states claim
-pub record AreRoutesOf (g : Agent) (members : List Member) (routes : List Route) : Type 0 where
-  pub rows : List (ℕ × ℕ)
-  pub hops : AreRoutes g.address (hops_of g.links) g.items rows
-  pub are : routes ≡ routes_to g.address rows members
+-- what items claim: the edges that the link states among them name
+abbrev pub all_claims : List Item → List Edge
+all_claims items = flat_map claims_of items
+
+-- these are the next hops of a member over its links that are up and the edges that both ends' link states claim, in the items that its
+-- management holds
+abbrev pub AreRoutesOf : Agent → List Member → List Route → Type 0
+AreRoutesOf g members routes = AreRoutesOver g.address (hops_of g.links) (all_claims g.items) members routes
 
 -- two lists name the same edges
 abbrev pub SameEdges : List Edge → List Edge → Type 0
 SameEdges xs ys = (e : Edge) → Contains xs e ↔ Contains ys e
+
+-- from an address, items claim exactly these links
+abbrev pub ClaimLinks : List Item → ℕ → List Hop → Type 0
+ClaimLinks items address links = (e : Edge) → e.from ≡ address → Contains (all_claims items) e ↔ Contains (map (edge_to address) links) e
+
+-- from other addresses than this, new items claim what the old ones claimed
+abbrev pub KeepsOtherClaims : ℕ → List Item → List Item → Type 0
+KeepsOtherClaims address old new = (e : Edge) → (e.from ≡ address → ⊥) → Contains (all_claims new) e ↔ Contains (all_claims old) e
 
 -- the members and the links of a DIF are as a plan may lay them out: no two members have one address or stand on one node, and
 -- addresses and weights are in range
@@ -65,16 +75,16 @@ IsItemKey key = IsMemberKey key ⊎ IsEntryKey key
 abbrev pub AreNumbered : List Link → Type 0
 AreNumbered links = (k : ℕ) (link : Link) → slice_get links k ≡ Some link → link.number ≡ k
 
--- what the management of a member knows at a tick, where these are the links of its IPC process, some of which may be lost: its
--- own live links; of the others the links that they had from the start; it keeps member items, link states and directory entries and
--- nothing else; and it made its own link state no later than now, as the last of its items at the latest. So long as it makes one item for each link
--- that it loses, its version counts suffice.
+-- what the management of a member knows at a tick, where these are the links of its IPC process, some of which may be lost: its own
+-- live links, and from its own address its items claim these alone. It keeps member items, link states and directory entries and nothing
+-- else; and it made its own link state no later than now, as the last of its items at the latest. So long as it makes one item for each
+-- link that it loses, its version counts suffice. What its items claim of the other members is what these made, as far as it came.
 pub record Knows (members : List Member) (plans : List LinkPlan) (now : ℕ) (m : Member) (links : List Link) (g : Agent) : Type 0 where
   pub address : g.address ≡ m.addr
   pub enrolled : g.state ≡ Enrolled
   pub numbers : AreNumbered links
   pub links_are : g.links ≡ map managed_link (live_links members plans m links)
-  pub claims : SameEdges (flat_map claims_of g.items) (claims_with m.addr (live_links members plans m links) (edges_of members plans))
+  pub own : ClaimLinks g.items m.addr (live_links members plans m links)
   pub keys : (item : Item) → Contains g.items item → IsItemKey item.key
   pub past : (item : Item) → kept_at g.items (link_key m.addr) ≡ Some item → (item.version.tick ≤ now) × (item.version.count ≤ g.last_count)
   pub room : g.last_count + length g.links ≤ 65536

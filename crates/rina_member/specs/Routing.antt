@@ -1,5 +1,5 @@
--- Which edges the links of a static DIF are, and which next hops a member has over its own live links and those of the others.
-use Rattle.std.specs.Prelude.{◌≡◌, ℕ, ◌≤◌, ◌==◌, not, List, ◌++◌, filter, find, map, slice_get, Option, Some, None, option_and_then, option_map, if◌then◌else◌}
+-- Which edges the links of a static DIF are, which links of a member are live, and which next hops it has over links and claimed edges.
+use Rattle.std.specs.Prelude.{◌≡◌, ℕ, ◌==◌, List, ◌++◌, filter, find, slice_get, Option, None, option_and_then, option_map, if◌then◌else◌}
 use Rattle.std.specs.List.{filter_map}
 use Rattle.rina_graph.specs.declared.graph.Edge.{Edge}
 use Rattle.rina_route.specs.declared.link.Link.{Link as Hop}
@@ -52,11 +52,14 @@ route_to own rows m = if m.addr == own then None else option_map (λ n. record {
 abbrev pub routes_to : ℕ → List (ℕ × ℕ) → List Member → List Route
 routes_to own rows members = filter_map (route_to own rows) members
 
--- What an IPC process knows
+-- these are next hops of a member of an address over links and claimed edges: to each other member the least number of a link on a
+-- least walk over the edges that both ends claim
+pub record AreRoutesOver (own : ℕ) (links : List Hop) (claimed : List Edge) (members : List Member) (routes : List Route) : Type 0 where
+  pub rows : List (ℕ × ℕ)
+  pub hops : AreHops own links claimed rows
+  pub are : routes ≡ routes_to own rows members
 
--- each link has a weight
-abbrev pub Weigh : List LinkPlan → Type 0
-Weigh links = (k : ℕ) (l : LinkPlan) → slice_get links k ≡ Some l → 1 ≤ l.weight
+-- Live links
 
 -- the links that are live
 abbrev pub live_of : List Link → List Link
@@ -66,18 +69,6 @@ live_of links = filter (λ (l : Link). l.live) links
 abbrev pub edge_to : ℕ → Hop → Edge
 edge_to own h = edge own h.peer h.weight
 
--- what the link states name that a member of this address has: those of the others as they were from the start, and its
--- own, which names these links
-abbrev pub claims_with : ℕ → List Hop → List Edge → List Edge
-claims_with own links claimed = filter (λ (e : Edge). not (e.from == own)) claimed ++ map (edge_to own) links
-
 -- the live links of a member, with its neighbours
 abbrev pub live_links : List Member → List LinkPlan → Member → List Link → List Hop
 live_links members plans member links = own_links (edges_from members member.node plans) (live_of links)
-
--- an IPC process with these links, some of which may be lost, knows its live ones, and those that the others had from the
--- start: over them, the least number of a link on a least walk is the next hop to each other member
-pub record KnowsLive (members : List Member) (plans : List LinkPlan) (member : Member) (links : List Link) (routes : List Route) : Type 0 where
-  pub rows : List (ℕ × ℕ)
-  pub hops : AreHops member.addr (live_links members plans member links) (claims_with member.addr (live_links members plans member links) (edges_of members plans)) rows
-  pub are : routes ≡ routes_to member.addr rows members

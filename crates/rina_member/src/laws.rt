@@ -1,23 +1,28 @@
 //! The laws of a member that handles the SDUs of its links. These functions do nothing: their contracts are laws.
-ghost use Rattle.std.specs.Prelude.{◌≡◌, ◌<◌, ◌≤◌, ◌^◌, ℕ, false, length, Contains, List, Err, None, Ok, Option, Some};
+ghost use Rattle.std.specs.Prelude.{◌≡◌, ◌<◌, ◌≤◌, ◌^◌, ℕ, false, true, length, slice_get, slice_set, Contains, List, Err, None, Ok, Option, Some};
 ghost use Rattle.rina_access.specs.declared.rules.Rules.{Rules};
 ghost use Rattle.rina_base.specs.Names.{app_at};
 ghost use Rattle.rina_alloc.specs.declared.message.FlowMessage.{FlowMessage};
 ghost use Rattle.rina_alloc.specs.Messages.{IsInRange as IsFlowInRange, IsSpelled as IsFlowText};
 ghost use Rattle.rina_newest.specs.declared.item.Item.{Item};
 ghost use Rattle.rina_enrol.specs.declared.message.LinkMessage.{LinkMessage};
+ghost use Rattle.rina_enrol.specs.Items.{CarriesReplicated};
 ghost use Rattle.rina_enrol.specs.Messages.{IsInRange};
+ghost use Rattle.rina_agent.specs.declared.agent.Agent.{Agent};
 ghost use Rattle.rina_agent.specs.declared.message.ManagementMessage.TheVariants.{ToNeighbour};
 ghost use Rattle.rina_agent.specs.declared.state.AgentError.TheVariants.{CountSpent};
+ghost use Rattle.rina_agent.specs.Rows.{lost};
 ghost use Rattle.rina_data.specs.declared.link.Link.{Link};
+ghost use Rattle.rina_data.specs.declared.link.Route.{Route};
 ghost use Rattle.rina_data.specs.declared.settings.Member.{Member};
 ghost use Rattle.rina_plan.specs.declared.dif.LinkPlan.{LinkPlan};
 ghost use Rattle.rina_member.specs.declared.management.Management.{Management};
-ghost use Rattle.rina_member.specs.Handling.{AreUnenrolled, BringsItemName, IsSameMember, KeepsOthers, KeepsOutsideItems, TakesNews, item_in};
-ghost use Rattle.rina_member.specs.Knowing.{IsLaidOut};
-ghost use Rattle.rina_member.specs.Managements.{Handles, HandlesSdu, IsNews, IsSdu, LosesLink, entered, is_news, keys_brought, with_sent};
+ghost use Rattle.rina_member.specs.Handling.{AreUnenrolled, BringsItemName, IsSameMember, KeepsOthers, KeepsOutsideItems, OwnIsNewest, TakesNews, item_in};
+ghost use Rattle.rina_member.specs.Knowing.{AreLive, AreNumbered, AreRoutesOf, IsLaidOut, KeepsOtherClaims, Knows, SameEdges, all_claims};
+ghost use Rattle.rina_member.specs.Managements.{Handles, HandlesSdu, IsNews, IsSdu, LosesLink, entered, entry_of, is_news, keys_brought, takes_item, with_sent};
+ghost use Rattle.rina_member.specs.Routing.{AreRoutesOver, edges_from, edges_of, live_links};
 ghost use Rattle.rina_member.specs.Short.{AreNamed, HaveFewLinks, IsShort, TellsShort};
-ghost use Rattle.rina_member.specs.Start.{started};
+ghost use Rattle.rina_member.specs.Start.{items_held, started};
 
 /// An SDU is handled as the one message that it is. It changes nothing where that is no news, or about a flow.
 pub fn an_sdu_is_one_message()
@@ -54,4 +59,21 @@ pub fn a_member_tells_short_messages()
     ensures loses { (now link : ℕ) (m m' : Management) → LosesLink now link m m' → TellsShort m.agent → TellsShort m'.agent }
     ensures sends { (link : ℕ) (m : Management) → TellsShort m.agent → TellsShort (with_sent m link).agent }
     ensures handles { (now link : ℕ) (message : LinkMessage) (m m' : Management) → IsInRange message → IsShort (ToNeighbour message) → Handles now link message m m' → TellsShort m.agent → TellsShort m'.agent }
+{}
+
+/// The items of the start claim the links of the plan, and no others. So the next hops over them are over these links.
+pub fn the_start_claims_the_plan()
+    ensures claims { (members : List Member) (plans : List LinkPlan) → IsLaidOut members plans → SameEdges (all_claims (items_held members plans)) (edges_of members plans) }
+    ensures routes { (members : List Member) (plans : List LinkPlan) (rules : Rules) (m : Member) (links : List Link) (routes : List Route) → IsLaidOut members plans → AreRoutesOf (started members plans rules m links) members routes → AreRoutesOver m.addr (live_links members plans m links) (edges_of members plans) members routes }
+{}
+
+/// A member of a static DIF knows its live links from the start, and goes on to do so when it takes a directory entry, when it loses a
+/// link, which leaves what its items claim of others, and when it handles a message that members of its DIF send.
+pub fn a_member_knows_its_links()
+    ensures starts { (members : List Member) (plans : List LinkPlan) (rules : Rules) (m : Member) (links : List Link) (now : ℕ) → IsLaidOut members plans → Contains members m → AreNumbered links → AreLive links → length (edges_from members m.node plans) ≤ length links → length links ≤ 65536 → Knows members plans now m links (started members plans rules m links) }
+    ensures enters { (members : List Member) (plans : List LinkPlan) (now : ℕ) (m : Member) (links : List Link) (g : Agent) (app : List ℕ) (address : ℕ) → Knows members plans now m links g → Knows members plans now m links (takes_item g (entry_of app address)) }
+    ensures loses { (members : List Member) (plans : List LinkPlan) (now : ℕ) (m : Member) (links : List Link) (g g' : Agent) (k : ℕ) (link : Link) → IsLaidOut members plans → Contains members m → Knows members plans now m links g → slice_get links k ≡ Some link → link.live ≡ true → lost g now link.number ≡ Ok g' → Knows members plans now m (slice_set links k (record link { live = false })) g' × KeepsOtherClaims m.addr g.items g'.items }
+    ensures handles { (members : List Member) (plans : List LinkPlan) (now tick number : ℕ) (m : Member) (links : List Link) (message : LinkMessage) (old new : Management) → Knows members plans now m links old.agent → CarriesReplicated message → OwnIsNewest old.agent message → Handles tick number message old new → Knows members plans now m links new.agent }
+    // Its next hops are over its live links and the edges that its items claim.
+    ensures routes { (members : List Member) (plans : List LinkPlan) (now : ℕ) (m : Member) (links : List Link) (g : Agent) (routes : List Route) → Knows members plans now m links g → AreRoutesOf g members routes → AreRoutesOver m.addr (live_links members plans m links) (all_claims g.items) members routes }
 {}

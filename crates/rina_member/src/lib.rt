@@ -18,9 +18,9 @@ mod texts;
 pub use edges::{addr_at, edges_from};
 pub use handling::after_sdu;
 pub use laws::{
-    a_member_tells_short_messages, a_member_without_enrolments_takes_items_alone,
-    a_message_changes_the_objects_of_its_items, an_item_that_is_news_is_taken,
-    an_sdu_is_one_message,
+    a_member_knows_its_links, a_member_tells_short_messages,
+    a_member_without_enrolments_takes_items_alone, a_message_changes_the_objects_of_its_items,
+    an_item_that_is_news_is_taken, an_sdu_is_one_message, the_start_claims_the_plan,
 };
 pub use links::live_links;
 pub use loss::without_link;
