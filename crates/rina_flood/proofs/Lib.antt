@@ -2,6 +2,8 @@ pub mod Agendas
 pub mod All
 pub mod Bounds
 pub mod Calls
+pub mod Claiming
+pub mod Coming
 pub mod Enrolling
 pub mod Entries
 pub mod Entering

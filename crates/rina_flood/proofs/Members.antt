@@ -3,12 +3,14 @@ use Rattle.std.proofs.Common.{◌≡◌, ℕ, zero, suc, ◌+◌, ◌≤◌, ◌
 use Rattle.std.specs.Prelude.{find, is_some, option_map, option_and_then}
 use Rattle.std.proofs.lemmas.Bool.{and_parts, both_ways, cases_Bool, eq-eqb, eqb-true}
 use Rattle.std.proofs.lemmas.List.{drop-append-le, length-map, length-set, length_push}
+use Rattle.std.proofs.lemmas.List.Elements.{Contains-push_cases}
 use Rattle.std.proofs.lemmas.Option.{same_Some, slice_get-map, slice_get_within}
 use Rattle.rina_access.specs.declared.rules.Rules.{Rules}
 use Rattle.rina_enrol.specs.declared.message.LinkMessage.{LinkMessage}
 use Rattle.rina_enrol.specs.Messages.{IsInRange, IsSpelled}
 use Rattle.rina_iface.proofs.Changed.{set_at}
 use Rattle.rina_newest.specs.declared.item.Item.{Item}
+use Rattle.rina_route.proofs.Lists.{in_none}
 use Rattle.rina_agent.specs.declared.agent.Agent.{Agent}
 use Rattle.rina_agent.specs.declared.link.Link.{Link}
 use Rattle.rina_agent.specs.declared.message.ManagementMessage.{ManagementMessage}
@@ -27,7 +29,7 @@ use Rattle.rina_member.specs.Start.{start_items}
 use Rattle.rina_member.proofs.Laying.{small_address}
 use Rattle.rina_flood.specs.Network.{Side, other, Network, Row, Take, Handle, Lose, Know, Pass, happens, put_agent, put_sent, is_enrolled, is_in, known, with_item, MayBeKnown, May, IsRun, after_rows, IsStart, has_link}
 use Rattle.rina_flood.specs.Static.{LinkEnd, IsOfStatic, AreOfStatic, agent_at, end_address, end_number, end_place, or_nobody, place_at, static_network}
-use Rattle.rina_flood.specs.Members.{Adds, AreSame, AreTexts, IsAgentAt, HasNoMember, HandlesMessage, IsNetworkOf, IsRunOf, IsText, LosesLinkAt, MembersSeen, OffersMessage, StartsWith, TakesEntry, GoesOn}
+use Rattle.rina_flood.specs.Members.{Adds, AreSame, AreShortTexts, AreTexts, IsAgentAt, HasNoMember, HandlesMessage, IsNetworkOf, IsRunOf, IsShortText, IsText, LosesLinkAt, MembersSeen, OffersMessage, StartsWith, TakesEntry, GoesOn}
 use Rattle.rina_flood.proofs.Bounds.{waiting_fits}
 use Rattle.rina_flood.proofs.Calls.{at_itself, at_others}
 use Rattle.rina_flood.proofs.Entries.{entries_are_one}
@@ -60,12 +62,12 @@ texts_last [] (t ∷ texts) m text are is = absurd are
 texts_last (first ∷ ms) [] m text are is = absurd are
 texts_last (first ∷ ms) (t ∷ texts) m text are is = (are.0, texts_last ms texts m text are.1 is)
 
-texts_first : (ms : List ManagementMessage) (text : List ℕ) (texts : List (List ℕ)) → AreTexts ms (text ∷ texts) → (m : ManagementMessage) × (rest : List ManagementMessage) × (ms ≡ m ∷ rest) × IsText m text × AreTexts rest texts
+pub texts_first : (ms : List ManagementMessage) (text : List ℕ) (texts : List (List ℕ)) → AreTexts ms (text ∷ texts) → (m : ManagementMessage) × (rest : List ManagementMessage) × (ms ≡ m ∷ rest) × IsText m text × AreTexts rest texts
 texts_first [] text texts are = absurd are
 texts_first (m ∷ ms) text texts are = (m, ms, refl, are.0, are.1)
 
 -- a text is of one message, where it is read as that
-text_is : (m : LinkMessage) (n : ManagementMessage) (text : List ℕ) → ((k : LinkMessage) → IsInRange k → IsSpelled k text → k ≡ m) → IsText n text → n ≡ ToNeighbour m
+pub text_is : (m : LinkMessage) (n : ManagementMessage) (text : List ℕ) → ((k : LinkMessage) → IsInRange k → IsSpelled k text → k ≡ m) → IsText n text → n ≡ ToNeighbour m
 text_is m (ToNeighbour k) text read is = ap ToNeighbour (read k is.0 is.1)
 text_is m (ToMember f) text read is = absurd is
 
@@ -89,8 +91,8 @@ module _ (plans : List LinkPlan) (s : MembersSeen) (r : IsRunOf plans s) where
   abbrev pub net : Network
   net = after_rows r.start r.rows
 
-  more_rows : (s' : MembersSeen) (row : Row) → s'.members ≡ s.members → May net row → IsOfStatic row → IsNetworkOf s' (happens net row) → IsRunOf plans s'
-  more_rows s' row same may of is =
+  more_rows : (s' : MembersSeen) (row : Row) → s'.members ≡ s.members → AreShortTexts s'.sent → May net row → IsOfStatic row → IsNetworkOf s' (happens net row) → IsRunOf plans s'
+  more_rows s' row same short may of is =
       let P : List Member → Type 0 = λ ms. IsLaidOut ms plans in
       let Q : List Member → Type 0 = λ ms. IsStart r.start (start_items ms plans) in
       let R : Network → Type 0 = λ n. IsNetworkOf s' n in
@@ -104,6 +106,7 @@ module _ (plans : List LinkPlan) (s : MembersSeen) (r : IsRunOf plans s) where
         run = run_more r.start r.rows row r.run may;
         static = static_more r.rows row r.static of;
         is = subst R (sym (after_more r.start r.rows row)) is;
+        short = short;
       }
 
   -- the member at an end of a link in the network
@@ -170,6 +173,7 @@ same_texts plans s sent got r same_sent same_got = record {
         let P : List (List ℕ) → Type 0 = λ ts. AreTexts ((after_rows r.start r.rows).sent l d) (drop (length (s.got (end_place l (other d)))) ts) in
         subst K (sym (same_got (end_place l (other d)))) (subst P (sym (same_sent (end_place l d))) (r.is.sent l d)));
   };
+  short = λ place text has. r.short place text (let P : List (List ℕ) → Type 0 = λ ts. Contains ts text in subst P (same_sent place) has);
 }
 
 alike_run : (plans : List LinkPlan) (s new : MembersSeen) → IsRunOf plans s → new.members ≡ s.members → new.ends ≡ s.ends → new.now ≡ s.now → new.agents ≡ s.agents → AreSame s.sent new.sent → AreSame s.got new.got → IsRunOf plans new
@@ -192,7 +196,7 @@ called_at agents i address a b e f is_i is_a is_e is_b j =
 -- The clock goes on
 
 one_tick : (plans : List LinkPlan) (s : MembersSeen) → IsRunOf plans s → IsRunOf plans (record s { now = s.now + 1 })
-one_tick plans s r = more_rows plans s r (record s { now = s.now + 1 }) Pass refl tt tt (record {
+one_tick plans s r = more_rows plans s r (record s { now = s.now + 1 }) Pass refl r.short tt tt (record {
   now = ap (λ (t : ℕ). t + 1) r.is.now;
   aligned = r.is.aligned;
   agents = r.is.agents;
@@ -225,10 +229,22 @@ loses_run plans old new r h =
     let event : Loses n.now (n.numbers h.link h.side) ≡ Loses old.now h.end.number = ap (λ (t : ℕ). Loses t (n.numbers h.link h.side)) r.is.now ∙ ap (λ (k : ℕ). Loses old.now k) at.3 in
     let may : spent 1 (n.agents (n.ends h.link h.side)).last_count ≡ None = ap (λ (i : ℕ). spent 1 (n.agents i).last_count) at.2 ∙ ap (λ (c : Agent). spent 1 c.last_count) at.4 ∙ h.room in
     let are = called_at n.agents (n.ends h.link h.side) at.0.addr h.agent h.after (Loses n.now (n.numbers h.link h.side)) (Loses old.now h.end.number) at.2 at.4 event (ap (λ o. done h.agent o) h.loses) in
-    alike_run plans (record old { agents = slice_set old.agents h.end.member h.after }) new (more_rows plans old r (record old { agents = slice_set old.agents h.end.member h.after }) (Lose h.link h.side) refl may tt
+    alike_run plans (record old { agents = slice_set old.agents h.end.member h.after }) new (more_rows plans old r (record old { agents = slice_set old.agents h.end.member h.after }) (Lose h.link h.side) refl r.short may tt
     (changed plans old r h.end.member at.0 h.agent h.after at.1 h.at.is_agent _ n.sent _ _ old.sent old.got are r.is.fewer r.is.sent)) h.stays.members h.stays.ends h.now h.agents h.sent h.got
 
 -- A message is offered
+
+offered_short : (place : ℕ) (text : List ℕ) (old new : ℕ → List (List ℕ)) → Adds place text old new → IsShortText text → AreShortTexts old → AreShortTexts new
+offered_short place text old new adds short were k t has = elim (cases_Bool (k == place)) [
+  | inl e ↦
+      (let P : List (List ℕ) → Type 0 = λ ts. Contains ts t in
+      let is = eqb-true k place e in
+      elim (Contains-push_cases (old place) text t (subst P (ap new is ∙ adds.here) has)) [
+        | inl was ↦ were place t was
+        | inr same ↦ subst IsShortText same short
+      ])
+  | inr e ↦ (let P : List (List ℕ) → Type 0 = λ ts. Contains ts t in were k t (subst P (adds.elsewhere k (λ is. both_ways (k == place) e (eq-eqb k place is))) has))
+]
 
 pub offers_run : (plans : List LinkPlan) (old new : MembersSeen) → IsRunOf plans old → OffersMessage old new → IsRunOf plans new
 offers_run plans old new r h =
@@ -248,6 +264,7 @@ offers_run plans old new r h =
     subst W (sym (first_waits (n.numbers l d) (n.agents (n.ends l d)).agenda (record { link = n.numbers l d; message = message }) may)) (in_first message (waiting_on (n.numbers l d) (without_first (n.numbers l d) (n.agents (n.ends l d)).agenda)))) in
     let early : n.now < 2 ^ 32 = (let now = r.is.now in let small = h.early in omega (arith, now, small)) in
     let fits = waiting_fits r.start old.members plans r.rows r.laid_out r.starts r.run r.static r.fresh l d h.message early among in
+    let short : AreShortTexts new.sent = offered_short (end_place l d) h.text old.sent new.sent h.sent (record { message = h.message; in_range = fits; spelled = h.written; short = h.short }) r.short in
     let are = called_at n.agents (n.ends l d) at.0.addr h.agent after_it (Takes (n.numbers l d)) (Takes h.end.number) at.2 at.4 (ap Takes at.3) refl in
     let fewer : (k : ℕ) (e : Side) → length (old.got (end_place k (other e))) ≤ length (new.sent (end_place k e)) = λ k e. (let was = r.is.fewer k e in let more = grows (end_place l d) h.text old.sent new.sent h.sent (end_place k e) in omega (arith, was, more)) in
     let handled_there : ℕ = length (old.got (end_place l (other d))) in
@@ -261,7 +278,7 @@ offers_run plans old new r h =
     subst Q (sym a) (subst R (sym b) here)))
     (λ apart. (let U : List (List ℕ) → Type 0 = λ ts. AreTexts (n.sent k e) (drop (length (old.got (end_place k (other e)))) ts) in
     subst U (sym (h.sent.elsewhere (end_place k e) (λ same. apart (places_apart k e l d same)))) (r.is.sent k e))) in
-    alike_run plans (record old { agents = slice_set old.agents h.end.member after_it; sent = new.sent }) new (more_rows plans old r (record old { agents = slice_set old.agents h.end.member after_it; sent = new.sent }) (Take l d message) refl may tt
+    alike_run plans (record old { agents = slice_set old.agents h.end.member after_it; sent = new.sent }) new (more_rows plans old r (record old { agents = slice_set old.agents h.end.member after_it; sent = new.sent }) (Take l d message) refl short may tt
     (changed plans old r h.end.member at.0 h.agent after_it at.1 h.at.is_agent _ (put_sent l d (n.sent l d ++ message ∷ []) n.sent) _ _ new.sent old.got are fewer texts)) h.stays.members h.stays.ends h.now h.agents (λ k. refl) h.got
 
 -- A message is handled
@@ -298,7 +315,7 @@ handles_run plans old new r h =
     subst Q (sym a) (subst R (sym b) (subst U (sym longer) first.4))))
     (λ apart. (let U : List (List ℕ) → Type 0 = λ ts. AreTexts (n.sent k e) (drop (length ts) (old.sent (end_place k e))) in
     subst U (sym (elsewhere k e apart)) (r.is.sent k e))) in
-    alike_run plans (record old { agents = slice_set old.agents h.end.member h.after; got = new.got }) new (more_rows plans old r (record old { agents = slice_set old.agents h.end.member h.after; got = new.got }) (Handle l d (ToNeighbour h.message) rest) refl may tt
+    alike_run plans (record old { agents = slice_set old.agents h.end.member h.after; got = new.got }) new (more_rows plans old r (record old { agents = slice_set old.agents h.end.member h.after; got = new.got }) (Handle l d (ToNeighbour h.message) rest) refl r.short may tt
     (changed plans old r h.end.member at.0 h.agent h.after at.1 h.at.is_agent _ (put_sent l d rest n.sent) _ _ old.sent new.got are fewer texts)) h.stays.members h.stays.ends h.now h.agents h.sent (λ k. refl)
 
 -- A directory entry is taken by all
@@ -350,7 +367,7 @@ module _ (plans : List LinkPlan) (old new : MembersSeen) (r : IsRunOf plans old)
 
   pub takes_run : IsRunOf plans new
   takes_run =
-      alike_run plans (record old { agents = map (λ a. takes_item a entry) old.agents }) new (more_rows plans old r (record old { agents = map (λ a. takes_item a entry) old.agents }) (Know entry) refl may_know (h.app, h.at.addr, refl, small_address old.members plans r.laid_out h.at h.among) (record {
+      alike_run plans (record old { agents = map (λ a. takes_item a entry) old.agents }) new (more_rows plans old r (record old { agents = map (λ a. takes_item a entry) old.agents }) (Know entry) refl r.short may_know (h.app, h.at.addr, refl, small_address old.members plans r.laid_out h.at h.among) (record {
         now = r.is.now;
         aligned = length-map old.agents (λ a. takes_item a entry) ∙ r.is.aligned;
         agents = taken_agents;
@@ -402,4 +419,5 @@ start_run greatest plans s h =
             let R : List (List ℕ) → Type 0 = λ ts. AreTexts [] (drop 0 ts) in
             subst Q (sym none.0) (subst R (sym none.1) tt));
       };
+      short = λ place text has. (let P : List (List ℕ) → Type 0 = λ ts. Contains ts text in absurd (in_none text (subst P (h.sent place) has)));
     }

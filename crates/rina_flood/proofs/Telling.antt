@@ -55,7 +55,7 @@ tells_other address a b made x items links lacks t = record {
 }
 
 -- an item that came, of any key
-not_newer : (address : ℕ) (a : Agent) (made : List Item) (x : Item) → Contains made x → x.key ≡ link_key address → Tells address a made → is_newer x.version (kept_at a.items x.key) ≡ false
+pub not_newer : (address : ℕ) (a : Agent) (made : List Item) (x : Item) → Contains made x → x.key ≡ link_key address → Tells address a made → is_newer x.version (kept_at a.items x.key) ≡ false
 not_newer address a made x was k t =
     let is : kept_at a.items x.key ≡ Some t.item = ap (λ (q : List ℕ). kept_at a.items q) k ∙ t.kept in
     ap (λ (o : Option Item). is_newer x.version o) is ∙ t.newest x was k

@@ -168,11 +168,15 @@ start_tells n told address greatest s t =
           greatest_of (n.offered address) (link_key address) (kept_at (taken_all [] (n.offered address)) (link_key address)) own.0 known (greatest (n.offered address) (link_key address)) y (told_offered n told address (link_key address) own.0 y (s.knows address) own.1 (subst Q s.made e)) k);
     }
 
+-- after a run a member keeps its link state as its links are, and none newer was made
+pub telling_run : Greatest → (n : Network) (told : List Item) (rows : List Row) (i : ℕ) → IsStart n told → IsRun n rows → i < 2 ^ 32 → TellsLinks n i → IsStatic rows → AllLeaveLinkState i rows → IsTelling i (after_rows n rows)
+telling_run greatest n told rows i s run fits t static leaves =
+    rows_tell n rows i greatest fits run static leaves (record { holds = begin_holds n told s; plain = start_plain n told s; tells = start_tells n told i greatest s t; alone = t.by_itself })
+
 pub quiet_tells : Greatest → (n : Network) (told : List Item) (rows : List Row) (i j : ℕ) (steps : List (ℕ × Side)) → IsStart n told → IsRun n rows → i < 2 ^ 32 → TellsLinks n i → IsStatic rows → AllLeaveLinkState i rows
     → IsQuietWalk (after_rows n rows) i steps j → value_at ((after_rows n rows).agents j).items (link_key i) ≡ Some (link_state None ((after_rows n rows).agents i).links)
 quiet_tells greatest n told rows i j steps s run fits t static leaves walk =
-    let was : IsTelling i n = record { holds = begin_holds n told s; plain = start_plain n told s; tells = start_tells n told i greatest s t; alone = t.by_itself } in
-    let end = rows_tell n rows i greatest fits run static leaves was in
+    let end = telling_run greatest n told rows i s run fits t static leaves in
     let equal = walk_equal greatest (after_rows n rows) i j steps (link_key i) end.holds walk in
     ap (λ (o : Option Item). option_and_then (λ (x : Item). x.value) o) (sym equal ∙ end.tells.kept) ∙ end.tells.value
 

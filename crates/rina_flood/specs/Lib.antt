@@ -1,3 +1,4 @@
+pub mod Coming
 pub mod Gap
 pub mod Journals
 pub mod Laws

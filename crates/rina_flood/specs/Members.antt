@@ -14,8 +14,9 @@ use Rattle.rina_agent.specs.Neighbours.{link_key, link_state}
 use Rattle.rina_agent.specs.Rows.{handled, lost, was_up}
 use Rattle.rina_plan.specs.declared.dif.LinkPlan.{LinkPlan}
 use Rattle.rina_data.specs.declared.settings.Member.{Member}
-use Rattle.rina_member.specs.Knowing.{IsLaidOut}
+use Rattle.rina_member.specs.Knowing.{IsLaidOut, SameEdges, all_claims}
 use Rattle.rina_member.specs.Managements.{entry_of, takes_item}
+use Rattle.rina_member.specs.Short.{IsShort}
 use Rattle.rina_member.specs.Start.{start_items}
 use Rattle.rina_flood.specs.Network.{Side, other, Network, Row, IsRun, after_rows, IsStart}
 use Rattle.rina_flood.specs.Laws.{TellsLinks}
@@ -48,6 +49,17 @@ AreTexts [] (text ∷ texts) = ⊥
 AreTexts (m ∷ ms) [] = ⊥
 AreTexts (m ∷ ms) (text ∷ texts) = IsText m text × AreTexts ms texts
 
+-- a text is that of a short message to a neighbour
+pub record IsShortText (text : List ℕ) : Type 0 where
+  pub message : LinkMessage
+  pub in_range : IsInRange message
+  pub spelled : IsSpelled message text
+  pub short : IsShort (ToNeighbour message)
+
+-- so is each text at each place
+abbrev pub AreShortTexts : (ℕ → List (List ℕ)) → Type 0
+AreShortTexts texts = (place : ℕ) (text : List ℕ) → Contains (texts place) text → IsShortText text
+
 -- The network
 
 -- at an address that no member has, an agent has no links
@@ -65,7 +77,8 @@ pub record IsNetworkOf (s : MembersSeen) (n : Network) : Type 0 where
   pub fewer : (l : ℕ) (d : Side) → length (s.got (end_place l (other d))) ≤ length (s.sent (end_place l d))
   pub sent : (l : ℕ) (d : Side) → AreTexts (n.sent l d) (drop (length (s.got (end_place l (other d)))) (s.sent (end_place l d)))
 
--- the members are laid out, and what stands is the network of a run from the start of the DIF, so that all laws of flooding hold of it
+-- the members are laid out, what stands is the network of a run from the start of the DIF, so that all laws of flooding hold of it, and
+-- what was offered are short messages
 pub record IsRunOf (plans : List LinkPlan) (s : MembersSeen) : Type 0 where
   pub laid_out : IsLaidOut s.members plans
   pub start : Network
@@ -76,6 +89,7 @@ pub record IsRunOf (plans : List LinkPlan) (s : MembersSeen) : Type 0 where
   pub run : IsRun start rows
   pub static : AreOfStatic rows
   pub is : IsNetworkOf s (after_rows start rows)
+  pub short : AreShortTexts s.sent
 
 -- What happens
 
@@ -142,8 +156,8 @@ pub record TakesEntry (old new : MembersSeen) : Type 0 where
   pub sent : AreSame old.sent new.sent
   pub got : AreSame old.got new.got
 
--- the first message that waits for a link at an end, and it is a neighbour's, is offered there as it is written, and waits no more; the
--- tick fits in 32 bits
+-- the first message that waits for a link at an end, a short one to a neighbour, is offered there as it is written, and waits no more;
+-- the tick fits in 32 bits
 pub record OffersMessage (old new : MembersSeen) : Type 0 where
   pub link : ℕ
   pub side : Side
@@ -152,6 +166,7 @@ pub record OffersMessage (old new : MembersSeen) : Type 0 where
   pub at : IsAgentAt old link side end agent
   pub early : old.now < 2 ^ 32
   pub message : LinkMessage
+  pub short : IsShort (ToNeighbour message)
   pub first : first_on end.number agent.agenda ≡ Some (record { link = end.number; message = ToNeighbour message })
   pub text : List ℕ
   pub written : IsSpelled message text
@@ -210,3 +225,7 @@ IsQuietPath s i (step ∷ steps) j = IsQuietAt s step.0 step.1 i × IsQuietAt s 
 abbrev pub QuietMembersAgree : Type 0
 QuietMembersAgree = (plans : List LinkPlan) (s : MembersSeen) (i j : ℕ) (steps : List (ℕ × Side × ℕ)) (m : Member) (a b : Agent) → IsRunOf plans s → IsQuietPath s i steps j → slice_get s.members i ≡ Some m → slice_get s.agents i ≡ Some a
     → slice_get s.agents j ≡ Some b → ((key : List ℕ) → kept_at a.items key ≡ kept_at b.items key) × (value_at b.items (link_key m.addr) ≡ Some (link_state None a.links))
+
+-- so their items claim the same edges
+abbrev pub QuietMembersClaim : Type 0
+QuietMembersClaim = (plans : List LinkPlan) (s : MembersSeen) (i j : ℕ) (steps : List (ℕ × Side × ℕ)) (a b : Agent) → IsRunOf plans s → IsQuietPath s i steps j → slice_get s.agents i ≡ Some a → slice_get s.agents j ≡ Some b → SameEdges (all_claims a.items) (all_claims b.items)

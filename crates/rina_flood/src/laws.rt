@@ -1,9 +1,10 @@
 //! The laws of flooding, over all runs of a network from a start.
 ghost use Rattle.rina_access.specs.declared.rules.Rules.{Rules};
+ghost use Rattle.rina_flood.specs.Coming.{WhatComes};
 ghost use Rattle.rina_flood.specs.Gap.{GapBreaks};
 ghost use Rattle.rina_flood.specs.Journals.{ArrivalsAddNone, OffersAdd, OthersAddNone, PassesAdd};
 ghost use Rattle.rina_flood.specs.Laws.{DirectionsOwe, LostIsGone, NewestIsKept, NotBack, OlderIsNothing, OnlyMadeIsSent, OrderIsNothing, QuietIsEqual, QuietTellsLinks};
-ghost use Rattle.rina_flood.specs.Members.{GoesOn, HandlesMessage, KeepsRun, LosesLinkAt, OffersMessage, QuietMembersAgree, StartIsRun, TakesEntry};
+ghost use Rattle.rina_flood.specs.Members.{GoesOn, HandlesMessage, KeepsRun, LosesLinkAt, OffersMessage, QuietMembersAgree, QuietMembersClaim, StartIsRun, TakesEntry};
 ghost use Rattle.rina_flood.specs.Sample.{SampleSettles};
 ghost use Rattle.rina_flood.specs.Static.{EntriesAreOne, StaticRowsLeaveLinks, StaticStarts, StaticTellsLinks};
 
@@ -70,7 +71,8 @@ pub fn a_static_dif_tells_links_and_entries()
 
 /// The members of a static DIF are a network after some run: as they start, as the clock goes on, and after the loss of a link,
 /// a directory entry that all take, a message that is offered to a link and one that is handled. So where all is quiet on a walk
-/// of links, the members at its ends keep the same items, and each keeps the other's link state as the other's links are now.
+/// of links, the members at its ends keep the same items, which claim the same edges, and each keeps the other's link state as the
+/// other's links are now.
 pub fn members_are_a_network()
     ensures start { StartIsRun }
     ensures goes_on { KeepsRun GoesOn }
@@ -79,6 +81,15 @@ pub fn members_are_a_network()
     ensures offers { KeepsRun OffersMessage }
     ensures handles { KeepsRun HandlesMessage }
     ensures quiet { QuietMembersAgree }
+    ensures claims { QuietMembersClaim }
+{
+    rina_newest::newest_of_all_takes();
+}
+
+/// What comes over a link of a static DIF is a short message of one of its members, which brings an item. Where that is the link
+/// state of the member to which it comes, this keeps one as new: a member alone makes its link state.
+pub fn what_comes_was_made_by_a_member()
+    ensures { WhatComes }
 {
     rina_newest::newest_of_all_takes();
 }

@@ -1,4 +1,5 @@
 use Rattle.rina_flood.proofs.Members.{start_run, goes_on_run, loses_run, takes_run, offers_run, handles_run}
+use Rattle.rina_flood.proofs.Claiming.{quiet_claims}
 use Rattle.rina_flood.proofs.Quiet.{quiet_agree}
 use Rattle.rina_flood.proofs.laws.members_are_a_network.Goals as goal
 
@@ -22,3 +23,6 @@ returns-clause-handles c = handles_run
 
 pub returns-clause-quiet : goal.returns-clause-quiet
 returns-clause-quiet c = quiet_agree c.newest_of_all_takes.ensures.greatest
+
+pub returns-clause-claims : goal.returns-clause-claims
+returns-clause-claims c = quiet_claims c.newest_of_all_takes.ensures.greatest
