@@ -35,7 +35,6 @@ use Rattle.rina_dif.specs.Holding.{AreHoused, Holds}
 use Rattle.rina_dif.specs.Managing.{AreManaged, AreStarted}
 use Rattle.rina_dif.specs.Shown.{seen_of}
 use Rattle.rina_dif.proofs.Causing.{none_caused}
-use Rattle.rina_dif.proofs.Managed.{managed_routed}
 use Rattle.rina_dif.proofs.Started.{bare_managed}
 use Rattle.rina_dif.specs.Connected.{AreConnected, CanManage}
 use Rattle.rina_dif.proofs.Connected.{none_connected}
@@ -130,7 +129,6 @@ start_holds d below kept ends conns s untouched members undrawn housed managed c
       caused = none_caused (seen_of d) below ends;
       written_off = blank_written (seen_of d) clean;
       housed = housed;
-      routed = managed_routed d.settings.members d.laid.links d.clock d.processes d.managements managed;
       managed = managed;
       connected = connected;
       flooded = λ alive. floods;

@@ -222,7 +222,6 @@ module _ (d : Dif) (fixed : Fixed) (may : MayBind d fixed) (near other : NextEnd
           caused = bound_caused seen lines below fixed (seen_of d') lines' h.standing bound h.caused;
           written_off = bound_written seen lines fixed (seen_of d') lines' h.written_off bound;
           housed = h.housed;
-          routed = h.routed;
           managed = h.managed;
           connected = h.connected;
           flooded = h.flooded;
@@ -339,7 +338,7 @@ pub binds_noted : (d : Dif) (lines : List Direction) (below : Seen) (fixed : Fix
 binds_noted d lines below fixed (Ok ports) d' failed alive wants x = record { lines' = x.lines'; bound = x.bound; a_port = x.a_port; b_port = x.b_port; holds = still x.lines' x.holds }
   where
     still : (ls : List Direction) → Holds d' ls below → Holds (record d' { failed = failed }) ls below
-    still ls h = record { tied = h.tied; standing = h.standing; carrying = h.carrying; numbered = h.numbered; accounted = h.accounted; caused = h.caused; written_off = h.written_off; housed = h.housed; routed = h.routed; managed = h.managed; connected = h.connected; flooded = λ same. h.flooded alive }
+    still ls h = record { tied = h.tied; standing = h.standing; carrying = h.carrying; numbered = h.numbered; accounted = h.accounted; caused = h.caused; written_off = h.written_off; housed = h.housed; managed = h.managed; connected = h.connected; flooded = λ same. h.flooded alive }
 binds_noted d lines below fixed (Err Memory) d' failed alive wants x = subst (λ (b : Bool). BindsTo d lines below fixed (Err Memory) (record d' { failed = b })) (sym (wants refl)) x
 binds_noted d lines below fixed (Err e) d' failed alive wants x = absurd x
 

@@ -46,7 +46,9 @@ use Rattle.rina_flows.proofs.Lasting.{tied_later}
 use Rattle.rina_flows.specs.Tied.{conns_of}
 use Rattle.rina_dif.specs.declared.connections.Connections.{Connections}
 use Rattle.rina_dif.specs.Connected.{AreConnected, CanManage, channels_seen}
-use Rattle.rina_dif.specs.Routing.{HaveRoutes}
+use Rattle.rina_dif.specs.Managing.{AreManagedBy}
+use Rattle.rina_member.specs.declared.management.Management.{Management}
+use Rattle.rina_dif.proofs.Managed.{routed_at}
 use Rattle.rina_dif.proofs.Routed.{to_member}
 use Rattle.rina_flows.specs.Calls.{AreTied}
 
@@ -158,13 +160,13 @@ decides_leave cap now addr ps i p since hop (Ok (decision.Off (causes.LinkDown p
 decides_leave cap now addr ps i p since hop (Err e) p' is none s = same_leaves ps i p p' is s
 
 -- no next hop of a member leads to the address 0
-pub no_hop : (g : Config) (members : List Kept) (plans : List LinkPlan) (ps : List IpcProcess) (i : ℕ) (p : IpcProcess) → g.members ≡ map member_of members → length (map process_of ps) ≡ length g.members → HasNoZero g → HaveRoutes members plans ps → slice_get ps i ≡ Some p → (link : ℕ) → next_hop 0 p.routes ≡ Some link → ⊥
-no_hop g members plans ps i p are alike zero routed is link hop =
+pub no_hop : (g : Config) (members : List Kept) (plans : List LinkPlan) (now : ℕ) (ps : List IpcProcess) (managements : List Management) (i : ℕ) (p : IpcProcess) → g.members ≡ map member_of members → length (map process_of ps) ≡ length g.members → HasNoZero g → AreManagedBy members plans now ps managements → slice_get ps i ≡ Some p → (link : ℕ) → next_hop 0 p.routes ≡ Some link → ⊥
+no_hop g members plans now ps managements i p are alike zero managed is link hop =
     let within = slice_get_within ps i p is in
     let shown = length-map ps process_of in
     let kept : length g.members ≡ length members = ap (λ ms. length ms) are ∙ length-map members member_of in
     let m = there members i (omega (arith, within, alike, shown, kept)) in
-    let knows = routed i m.0 p m.1 is in
-    let to = to_member m.0.addr 0 link knows.rows members (ap (next_hop 0) (sym knows.are) ∙ hop) in
+    let hops = (routed_at members plans now ps managements i m.0 p managed m.1 is).1 in
+    let to = to_member m.0.addr 0 link hops.rows members (ap (next_hop 0) (sym hops.are) ∙ hop) in
     let its : slice_get g.members to.0 ≡ Some (member_of to.1) = ap (λ ms. slice_get ms to.0) are ∙ slice_get-map member_of members to.0 ∙ ap (option_map member_of) to.2 in
     zero.members to.0 (member_of to.1) its to.3

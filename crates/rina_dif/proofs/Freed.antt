@@ -111,7 +111,6 @@ closes d i at end (Ok done) flows ps lt here is allocated stops rest held rests 
         caused = closed_caused (seen_of d) lines below at (seen_of d') ended h.caused;
         written_off = ended_written (seen_of d) lines below at Closed (seen_of d') h.standing h.numbered h.written_off ended;
         housed = house.housed;
-        routed = house.routed;
         managed = house.managed;
         connected = kept_by (config_of d.settings) d.clock d.connections (seen_of d).processes (seen_of d').processes below (λ may. ending_leaves (seen_of d) lines at Closed (seen_of d') ended) h.connected;
         flooded = h.flooded;
@@ -268,7 +267,6 @@ module _ (d : Dif) (at : ℕ) (end : End) (flows : Flows) (held : List CepIds) (
     caused = subst (λ (z : DifSeen). AreCaused z below) (sym freed_seen) caused;
     written_off = subst AreWrittenOff (sym freed_seen) (λ i m p off it stands. h.written_off i m p off (record { is_member = it.is_member; is_process = it.is_process }) stands);
     housed = h.housed;
-    routed = h.routed;
     managed = h.managed;
     connected = h.connected;
     flooded = h.flooded;
@@ -320,7 +318,7 @@ withdraws_waiting d i at end flows rest held is waits here conns ends rests gave
 
 -- that an allocation failed is noted
 holds_noted : (d : Dif) (lines : List Direction) (below : Seen) → Holds d lines below → Holds (record d { failed = true }) lines below
-holds_noted d lines below h = record { tied = h.tied; standing = h.standing; carrying = h.carrying; numbered = h.numbered; accounted = h.accounted; caused = h.caused; written_off = h.written_off; housed = h.housed; routed = h.routed; managed = h.managed; connected = h.connected; flooded = λ alive. absurd (false≢true (sym alive)) }
+holds_noted d lines below h = record { tied = h.tied; standing = h.standing; carrying = h.carrying; numbered = h.numbered; accounted = h.accounted; caused = h.caused; written_off = h.written_off; housed = h.housed; managed = h.managed; connected = h.connected; flooded = λ alive. absurd (false≢true (sym alive)) }
 
 -- what `free` does, whatever it stands on
 abbrev pub FreesFor : Dif → Port → Result (Unit {0}) FreeError → Dif → Type 0

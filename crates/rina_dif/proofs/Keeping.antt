@@ -1,16 +1,14 @@
 -- What holds of a DIF stays as it takes a step.
-use Rattle.std.proofs.Common.{inl, inr, ◌≡◌, ◌∙◌, ℕ, ◌+◌, ◌==◌, ◌&&◌, not, Bool, cond, zero, suc, List, [], ◌∷◌, map, slice_get, slice_set, Option, Some, option_map, refl, sym, ap, subst}
+use Rattle.std.proofs.Common.{◌≡◌, ◌∙◌, ℕ, ◌+◌, ◌==◌, ◌&&◌, not, Bool, cond, zero, suc, List, [], ◌∷◌, map, slice_get, slice_set, Option, Some, option_map, refl, sym, ap, subst}
 use Rattle.std.specs.Prelude.{IsSome, position}
 use Rattle.std.specs.List.{position_or_len}
 use Rattle.std.proofs.lemmas.List.{length-map, map-set}
 use Rattle.std.proofs.lemmas.Option.{slice_get-map}
-use Rattle.rina_iface.proofs.Changed.{set_at, slice_set-same}
+use Rattle.rina_iface.proofs.Changed.{slice_set-same}
 use Rattle.rina_iface.specs.Seen.{Seen}
 use Rattle.rina_law.specs.Direction.{Direction}
-use Rattle.rina_plan.specs.declared.dif.LinkPlan.{LinkPlan}
 use Rattle.rina_queue.specs.declared.queue.Queued.{Queued}
 use Rattle.rina_data.specs.declared.link.Link.{Link}
-use Rattle.rina_data.specs.declared.link.Route.{Route}
 use Rattle.rina_data.specs.declared.process.IpcProcess.{IpcProcess}
 use Rattle.rina_data.specs.declared.settings.Member.{Member as Kept}
 use Rattle.rina_data.specs.Configs.{Config, config_of, member_of}
@@ -19,9 +17,7 @@ use Rattle.rina_data.specs.Process.{Process, Queue, next_hop, queue_place}
 use Rattle.rina_dif_law.specs.Sending.{home}
 use Rattle.rina_dif.specs.declared.dif.Dif.{Dif}
 use Rattle.rina_dif.specs.Holding.{AreHoused, HasQueues, HaveQueues, Holds, IsHoused}
-use Rattle.rina_member.specs.Routing.{KnowsLive}
 use Rattle.rina_dif.specs.Managing.{AreManagedBy}
-use Rattle.rina_dif.specs.Routing.{HaveRoutes}
 use Rattle.rina_dif.proofs.Managed.{managed_set}
 
 place_map : {X Y : Type 0} → (h : X → Y) (p : Y → Bool) (xs : List X) → position_or_len p (map h xs) ≡ position_or_len (λ x. p (h x)) xs
@@ -92,29 +88,13 @@ housed_set g ps at p p' housed is cap same =
     let old = housed at p is in
     set_cases (IsHoused g) ps at p' (record { cap = cap ∙ old.cap; links = have_queues g (process_of p) (process_of p') same old.links; queues = has_queues g (process_of p) (process_of p') same old.queues }) housed
 
--- one IPC process changes, and has its next hops after that too
-pub routes_set : (members : List Kept) (plans : List LinkPlan) (ps : List IpcProcess) (at : ℕ) (p p' : IpcProcess) → slice_get ps at ≡ Some p → HaveRoutes members plans ps → ((m : Kept) → slice_get members at ≡ Some m → KnowsLive members plans m p'.links p'.routes) → HaveRoutes members plans (slice_set ps at p')
-routes_set members plans ps at p p' is routed knows k m q is_m there = elim (set_at ps at k p p' q is there) [
-  | inl t ↦ subst (λ (z : IpcProcess). KnowsLive members plans m z.links z.routes) (sym t.1) (knows m (ap (slice_get members) (sym t.0) ∙ is_m))
-  | inr u ↦ routed k m q is_m u.1
-]
-
--- its links and next hops are those that were there
-pub routed_set : (members : List Kept) (plans : List LinkPlan) (ps : List IpcProcess) (at : ℕ) (p p' : IpcProcess) → HaveRoutes members plans ps → slice_get ps at ≡ Some p → IsSameHouse (process_of p) (process_of p') → HaveRoutes members plans (slice_set ps at p')
-routed_set members plans ps at p p' routed is same = routes_set members plans ps at p p' is routed (λ m is_m. (
-    let was : KnowsLive members plans m p.links p.routes = routed at m p is_m is in
-    let moved : KnowsLive members plans m p'.links p.routes = subst (λ (ls : List Link). KnowsLive members plans m ls p.routes) (sym same.links) was in
-    subst (λ (rs : List Route). KnowsLive members plans m p'.links rs) (sym same.routes) moved))
-
--- what holds of the IPC processes of a DIF: they are housed, have their next hops, and are managed
+-- what holds of the IPC processes of a DIF: they are housed, and are managed
 pub record AreHome (d : Dif) (ps : List IpcProcess) : Type 0 where
   pub housed : AreHoused (config_of d.settings) ps
-  pub routed : HaveRoutes d.settings.members d.laid.links ps
   pub managed : AreManagedBy d.settings.members d.laid.links d.clock ps d.managements
 
 pub home_set : (d : Dif) (lines : List Direction) (below : Seen) (at : ℕ) (p p' : IpcProcess) (ps : List IpcProcess) → Holds d lines below → slice_get d.processes at ≡ Some p → queue_settings p' ≡ queue_settings p → IsSameHouse (process_of p) (process_of p') → ps ≡ slice_set d.processes at p' → AreHome d ps
 home_set d lines below at p p' ps h is room same new = record {
   housed = subst (AreHoused (config_of d.settings)) (sym new) (housed_set (config_of d.settings) d.processes at p p' h.housed is (ap (λ (s : QueueSettings). s.cap) room) same);
-  routed = subst (HaveRoutes d.settings.members d.laid.links) (sym new) (routed_set d.settings.members d.laid.links d.processes at p p' h.routed is same);
   managed = subst (λ (qs : List IpcProcess). AreManagedBy d.settings.members d.laid.links d.clock qs d.managements) (sym new) (managed_set d.settings.members d.laid.links d.clock d.processes d.managements at p p' is same.links same.routes h.managed);
 }

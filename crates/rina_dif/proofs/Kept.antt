@@ -4,13 +4,13 @@ use Rattle.std.specs.Prelude.{MatchOption}
 use Rattle.std.proofs.lemmas.Option.{slice_get-map}
 use Rattle.rina_agent.specs.declared.agent.Agent.{Agent}
 use Rattle.rina_flood.specs.Laws.{NewestIsKept}
-use Rattle.rina_flood.specs.Members.{QuietMembersAgree}
+use Rattle.rina_flood.specs.Members.{QuietMembersAgree, QuietMembersClaim}
 use Rattle.rina_member.specs.declared.management.Management.{Management}
 use Rattle.rina_member.specs.Start.{start_items}
 use Rattle.rina_newest.specs.declared.item.Item.{Item}
 use Rattle.rina_newest.specs.Newest.{IsNewest, kept_at}
 use Rattle.rina_dif.specs.Flooding.{members_seen}
-use Rattle.rina_dif.specs.FloodingLaws.{MembersAgree, MembersKeepTheNewest, offered_in}
+use Rattle.rina_dif.specs.FloodingLaws.{MembersAgree, MembersKeepTheNewest, QuietMembersKnowLinks, offered_in}
 use Rattle.rina_dif.specs.Managing.{agents_of}
 
 its_agent : (ms : List Management) (k : ℕ) (m : Management) → slice_get ms k ≡ Some m → slice_get (agents_of ms) k ≡ Some m.agent
@@ -26,3 +26,9 @@ members_keep law d lines below place member m key is =
 pub members_agree : QuietMembersAgree → MembersAgree
 members_agree law d lines below i j steps first last m n a b quiet =
     law d.laid.links (members_seen d) i j steps first m.agent n.agent (a.holds.flooded a.alive) quiet a.is_member (its_agent d.managements i m a.is_management) (its_agent d.managements j n b.is_management)
+
+pub quiet_known : QuietMembersClaim → QuietMembersKnowLinks
+quiet_known law d lines below i j steps first last m n p a b is_p quiet e from =
+    let same = law d.laid.links (members_seen d) i j steps m.agent n.agent (a.holds.flooded a.alive) quiet (its_agent d.managements i m a.is_management) (its_agent d.managements j n b.is_management) e in
+    let own = (a.holds.managed.each i first p m a.is_member is_p a.is_management).knows.own e from in
+    ((λ has. own.0 (same.1 has)), (λ has. same.0 (own.1 has)))

@@ -38,13 +38,13 @@ use Rattle.rina_dif.specs.Holding.{Stands}
 use Rattle.rina_dif.specs.Laying.{AreLaid, AreLinkedUp, AreSettings, BindsAll, CanLay, IsLaidIn, IsLinkedUp, IsNew, IsNewProcess, Takes, ends_of, links_from, ports_at}
 use Rattle.rina_dif.specs.Planned.{ipc_name, link_fixed, links_in, links_of, members_from, processes_before, settings_by, settings_in, settings_of}
 use Rattle.rina_dif.specs.Managing.{AreManagedBy, AreStarted}
-use Rattle.rina_dif.specs.Routing.{AreRouted, HaveRoutes}
+use Rattle.rina_dif.specs.Routing.{AreRouted, HaveFirstRoutes}
 use Rattle.rina_dif.proofs.Bare.{IsUntouched, map_at, none_in, start_holds, starts}
 use Rattle.rina_dif.proofs.Laid.{same_end, stood_there}
-use Rattle.rina_dif.proofs.Managed.{managed_routed}
+use Rattle.rina_dif.proofs.Managed.{routed_at}
 use Rattle.rina_dif.proofs.Routed.{laid_still, live_hop}
 use Rattle.rina_dif.proofs.Sound.{are_members, is_config}
-use Rattle.rina_dif.proofs.Started.{made_managed, started_still}
+use Rattle.rina_dif.proofs.Started.{first_routed, made_managed, started_still}
 use Rattle.rina_dif.specs.Connected.{AreConnected}
 use Rattle.rina_dif.specs.Shown.{seen_of}
 use Rattle.rina_dif.specs.Flooding.{AreFlooding}
@@ -140,7 +140,7 @@ made_stands plan i dif d old new kept sound at are clock ends conns undrawn free
     } in
     let members = subst (λ (s : Settings). AreMembers (config_of s)) (sym are) (are_members plan i dif sound at) in
     let managed : AreManagedBy d.settings.members dif.links d.clock d.processes d.managements = made_managed plan i dif d old new ports bare sound at are config members was started routed in
-    let routes = managed_routed d.settings.members dif.links d.clock d.processes d.managements managed in (
+    let routes = routed_at d.settings.members dif.links d.clock d.processes d.managements in (
       [],
       start_holds d new kept ends conns start untouched members (undrawn config.widths) (λ k p is.
           let within = slice_get_within d.processes k p is in
@@ -150,7 +150,8 @@ made_stands plan i dif d old new kept sound at are clock ends conns undrawn free
             cap = up.room;
             links = λ place qos link stands live known. has_place d.settings m.0.node (ends_of ports) p place qos link up stands known;
             queues = λ dst link qos hop known.
-                let own = live_hop d.settings.members dif.links m.0 p.links p.routes dst link (routes k m.0 p m.1 is) hop in
+                let hops = routes k m.0 p managed m.1 is in
+                let own = live_hop d.settings.members dif.links m.0 p.links hops.0 p.routes dst link hops.1 hop in
                 subst (λ (n : ℕ). IsSome (queue_place qos n (process_of p).queues)) own.4 (has_place d.settings m.0.node (ends_of ports) p own.0 qos own.1 up own.2 known);
           }) (subst (λ (ls : List LinkPlan). AreManagedBy d.settings.members ls d.clock d.processes d.managements) (sym same) managed) connected floods,
     )
@@ -182,6 +183,7 @@ made_new plan i dif d old new sound at are clock alive ends conns waiting names 
     let config : IsConfig (config_of d.settings) = subst (λ (s : Settings). IsConfig (config_of s)) (sym are) (is_config plan i dif sound at) in
     let members : AreMembers (config_of d.settings) = subst (λ (s : Settings). AreMembers (config_of s)) (sym are) (are_members plan i dif sound at) in
     let managed : AreManagedBy d.settings.members dif.links d.clock d.processes d.managements = made_managed plan i dif d old new ports bare sound at are config members was started routed in
+    let so = started_still d.settings.cubes d.settings.members dif.links dif.rules dif.allow bare d.processes d.managements started routed in
     record {
       settings = its_settings plan i dif d.settings at are;
       clock = clock;
@@ -194,8 +196,8 @@ made_new plan i dif d old new sound at are clock alive ends conns waiting names 
           let m = there d.settings.members k (let e = laid.up.aligned in omega (arith, within, e)) in
           let up = laid.up.each k m.0 p m.1 is in
           record { cap = up.room; cubes = up.ids };
-      routed = λ dif' at'. subst (λ (x : DifPlan). HaveRoutes d.settings.members x.links d.processes) (one_plan dif dif' (sym at ∙ at')) (managed_routed d.settings.members dif.links d.clock d.processes d.managements managed);
-      managed = λ dif' at'. subst (λ (x : DifPlan). AreStarted d.settings.cubes d.settings.members x.links x.rules x.allow (length d.settings.members) d.processes d.managements) (one_plan dif dif' (sym at ∙ at')) (started_still d.settings.cubes d.settings.members dif.links dif.rules dif.allow bare d.processes d.managements started routed);
+      routed = λ dif' at'. subst (λ (x : DifPlan). HaveFirstRoutes d.settings.members x.links d.processes) (one_plan dif dif' (sym at ∙ at')) (first_routed d.settings.cubes d.settings.members dif.links dif.rules dif.allow d.clock d.processes d.managements managed so);
+      managed = λ dif' at'. subst (λ (x : DifPlan). AreStarted d.settings.cubes d.settings.members x.links x.rules x.allow (length d.settings.members) d.processes d.managements) (one_plan dif dif' (sym at ∙ at')) so;
       ends = ends;
       conns = conns;
       waiting = waiting;

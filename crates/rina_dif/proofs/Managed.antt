@@ -12,8 +12,9 @@ use Rattle.rina_data.specs.declared.link.Route.{Route}
 use Rattle.rina_data.specs.declared.process.IpcProcess.{IpcProcess}
 use Rattle.rina_data.specs.declared.settings.Member.{Member}
 use Rattle.rina_data.proofs.Finding.{there}
-use Rattle.rina_member.specs.Knowing.{AreRoutesOf, Knows}
-use Rattle.rina_member.specs.Routing.{KnowsLive}
+use Rattle.rina_graph.specs.declared.graph.Edge.{Edge}
+use Rattle.rina_member.specs.Knowing.{AreRoutesOf, Knows, all_claims}
+use Rattle.rina_member.specs.Routing.{AreRoutesOver, live_links}
 use Rattle.rina_member.proofs.Knowing.{knows_later, knows_routes, loses_knowing}
 use Rattle.rina_agent.specs.declared.agent.Agent.{Agent}
 use Rattle.rina_member.specs.Managements.{without_flow, without_flows}
@@ -31,12 +32,14 @@ its_agent members managements k m aligned is =
 pub is_among : {X : Type 0} (xs : List X) (k : ℕ) (x : X) → slice_get xs k ≡ Some x → Contains xs x
 is_among xs k x is = (k, slice_get_within xs k x is, get_or_from_slice_get xs k x x is)
 
--- the next hops over its items are those over its live links, and those that the others had from the start
-pub managed_routed : (members : List Member) (plans : List LinkPlan) (now : ℕ) (ps : List IpcProcess) (managements : List Management) → AreManagedBy members plans now ps managements → HaveRoutes members plans ps
-managed_routed members plans now ps managements h k m p is here =
-    let g = its_agent members managements k m h.aligned is in
-    let one = h.each k m p g.0 is here g.1 in
-    knows_routes members plans now m p.links g.0.agent p.routes one.knows one.routes
+-- its next hops are over its live links and what its items claim
+pub managed_routed : (members : List Member) (plans : List LinkPlan) (now : ℕ) (ps : List IpcProcess) (managements : List Management) → AreManagedBy members plans now ps managements → HaveRoutes members plans ps managements
+managed_routed members plans now ps managements h k m p g is here at = (let one = h.each k m p g is here at in knows_routes members plans now m p.links g.agent p.routes one.knows one.routes)
+
+-- whatever these claim
+pub routed_at : (members : List Member) (plans : List LinkPlan) (now : ℕ) (ps : List IpcProcess) (managements : List Management) (k : ℕ) (m : Member) (p : IpcProcess) → AreManagedBy members plans now ps managements → slice_get members k ≡ Some m → slice_get ps k ≡ Some p
+    → (claimed : List Edge) × AreRoutesOver m.addr (live_links members plans m p.links) claimed members p.routes
+routed_at members plans now ps managements k m p h is here = (let g = its_agent members managements k m h.aligned is in (all_claims g.0.agent.items, managed_routed members plans now ps managements h k m p g.0 is here g.1))
 
 -- time goes on
 pub managed_later : (members : List Member) (plans : List LinkPlan) (now now' : ℕ) (ps : List IpcProcess) (managements : List Management) → now ≤ now' → AreManagedBy members plans now ps managements → AreManagedBy members plans now' ps managements
@@ -118,9 +121,10 @@ pub loses_managed : (members : List Member) (plans : List LinkPlan) (now : ℕ) 
 loses_managed members plans now ps managements at m p g g' place link routes h is_m is_p is_g stands live loss =
     loses_knowing members plans now m p.links g.agent g'.agent place link h.laid_out (is_among members at m is_m) (h.each at m p g is_m is_p is_g).knows stands live loss.loses
 
--- so its next hops are over these
+-- so its next hops are over these and what its items claim then
 pub loss_known : (members : List Member) (plans : List LinkPlan) (now : ℕ) (ps : List IpcProcess) (managements : List Management) (at : ℕ) (m : Member) (p : IpcProcess) (g g' : Management) (place : ℕ) (link : Link) (routes : List Route) → AreManagedBy members plans now ps managements
-    → slice_get members at ≡ Some m → slice_get ps at ≡ Some p → slice_get managements at ≡ Some g → slice_get p.links place ≡ Some link → link.live ≡ true → IsLoss now members g g' link routes → KnowsLive members plans m (slice_set p.links place (record link { live = false })) routes
+    → slice_get members at ≡ Some m → slice_get ps at ≡ Some p → slice_get managements at ≡ Some g → slice_get p.links place ≡ Some link → link.live ≡ true → IsLoss now members g g' link routes
+    → AreRoutesOver m.addr (live_links members plans m (slice_set p.links place (record link { live = false }))) (all_claims g'.agent.items) members routes
 loss_known members plans now ps managements at m p g g' place link routes h is_m is_p is_g stands live loss =
     knows_routes members plans now m (slice_set p.links place (record link { live = false })) g'.agent routes (loses_managed members plans now ps managements at m p g g' place link routes h is_m is_p is_g stands live loss) loss.routes
 

@@ -1,13 +1,17 @@
 -- The members of a static DIF tell short messages to their neighbours alone, whatever happens.
-use Rattle.std.proofs.Common.{◌≡◌, ℕ, zero, suc, ◌∷◌, ◌<◌, ◌≤◌, ◌^◌, Bool, true, false, cond, ⊎_elim, List, [], ◌++◌, filter, length, Contains, Option, Some, None, Result, Ok, Err, subst}
+use Rattle.std.proofs.Common.{◌≡◌, ℕ, zero, suc, ◌∷◌, ◌<◌, ◌≤◌, ◌^◌, Bool, true, false, cond, ⊎_elim, List, [], ◌++◌, filter, length, Contains, Option, Some, None, Result, Ok, Err, refl, sym, subst}
 use Rattle.std.specs.Prelude.{remove}
 use Rattle.std.proofs.lemmas.List.Elements.{Contains-append_cases}
 use Rattle.rina_base.specs.Names.{app_at}
 use Rattle.rina_access.specs.declared.rules.Rules.{Rules}
 use Rattle.rina_newest.specs.declared.item.Item.{Item}
+use Rattle.rina_newest.specs.Newest.{is_newer, kept_at, taken}
+use Rattle.rina_enrol.specs.declared.message.LinkMessage.{LinkMessage}
+use Rattle.rina_enrol.specs.Messages.{IsInRange}
 use Rattle.rina_route.proofs.Lists.{cases, contains_filter, contains_unmap, head, in_none, tail}
 use Rattle.rina_agent.specs.declared.agent.Agent.{Agent}
 use Rattle.rina_agent.specs.declared.link.Link.{Link}
+use Rattle.rina_agent.specs.declared.message.ManagementMessage.TheVariants.{ToNeighbour}
 use Rattle.rina_agent.specs.declared.message.Waiting.{Waiting}
 use Rattle.rina_agent.specs.declared.state.AgentError.{AgentError}
 use Rattle.rina_agent.specs.Agenda.{flood_on, floods, is_flooded, without_at}
@@ -18,11 +22,14 @@ use Rattle.rina_data.specs.declared.link.Link.{Link as Below}
 use Rattle.rina_data.specs.declared.settings.Member.{Member}
 use Rattle.rina_plan.specs.declared.dif.LinkPlan.{LinkPlan}
 use Rattle.rina_member.specs.declared.management.Management.{Management}
+use Rattle.rina_member.specs.Handling.{AreUnenrolled, item_in}
 use Rattle.rina_member.specs.Knowing.{IsLaidOut}
-use Rattle.rina_member.specs.Managements.{LosesLink, entered, with_sent}
-use Rattle.rina_member.specs.Short.{AreNamed, HaveFewLinks}
+use Rattle.rina_member.specs.Managements.{Handles, LosesLink, entered, with_sent}
+use Rattle.rina_member.specs.Short.{AreNamed, HaveFewLinks, IsShort}
 use Rattle.rina_member.specs.Start.{started}
 use Rattle.rina_member.proofs.Tells.{enters_short, lost_short, sent_short}
+use Rattle.rina_member.proofs.Handled.{handles_none, handles_took}
+use Rattle.rina_member.proofs.TellsEnrolled.{handles_short}
 use Rattle.rina_member.proofs.TellsStarting.{starts_short}
 use Rattle.rina_dif.specs.Telling.{IsToNeighbour, TellsNeighbours}
 
@@ -87,4 +94,22 @@ pub sends_near : (link : ℕ) (m : Management) → TellsNeighbours m.agent → T
 sends_near link m h = record {
   short = sent_short m.agent link h.short;
   near = λ w has. h.near w (from_without _ m.agent.agenda w has);
+}
+
+-- A message is handled
+
+took_near : (newer : Bool) (link : ℕ) (g : Agent) (item : Item) → AreNear g.agenda → AreNear (cond newer (record g { items = taken g.items item; agenda = g.agenda ++ floods (Some link) item g.links }) g).agenda
+took_near true link g item near = both_near g.agenda (floods (Some link) item g.links) near (floods_near (Some link) item g.links)
+took_near false link g item near = near
+
+by_item : (now link : ℕ) (message : LinkMessage) (o : Option Item) (m m' : Management) → item_in message ≡ o → AreUnenrolled m.agent.links → Handles now link message m m' → AreNear m.agent.agenda → AreNear m'.agent.agenda
+by_item now link message None m m' is free handles near = subst (λ (x : Management). AreNear x.agent.agenda) (sym (handles_none now link message m m' free is handles)) near
+by_item now link message (Some item) m m' is free handles near =
+    subst (λ (g : Agent). AreNear g.agenda) (sym (handles_took now link message item m m' is handles)) (took_near (is_newer item.version (kept_at m.agent.items item.key)) link m.agent item near)
+
+-- where no enrolment made its links, a member that handled a short message tells short ones to its neighbours alone
+pub handles_near : (now link : ℕ) (message : LinkMessage) (m m' : Management) → AreUnenrolled m.agent.links → IsInRange message → IsShort (ToNeighbour message) → Handles now link message m m' → TellsNeighbours m.agent → TellsNeighbours m'.agent
+handles_near now link message m m' free range short handles h = record {
+  short = handles_short now link message m m' h.short range short handles;
+  near = by_item now link message (item_in message) m m' refl free handles h.near;
 }

@@ -36,6 +36,7 @@ use Rattle.rina_dif_law.specs.Dif.{constants}
 use Rattle.rina_dif_law.specs.Ids.{Ids, pdu_of_piece}
 use Rattle.rina_dif_law.specs.Sending.{offered_entry, offered_pieces}
 use Rattle.rina_flood.specs.Journals.{offered_by, passed_by}
+use Rattle.rina_member.specs.Short.{IsShort}
 use Rattle.rina_flood.specs.Members.{Adds, AreSame, OffersMessage}
 use Rattle.rina_flood.specs.Static.{LinkEnd, end_place}
 use Rattle.rina_flood.proofs.Journals.{offers_add}
@@ -93,7 +94,7 @@ changed_is ms i f g is = ap (λ (o : Option Management). changed_if o i f ms) is
 -- which messages wait says nothing of what it knows
 sent_managed : (members : List Member) (plans : List LinkPlan) (now : ℕ) (m : Member) (p : IpcProcess) (g : Management) (number : ℕ) → IsManaged members plans now m p g → IsManaged members plans now m p (with_sent g number)
 sent_managed members plans now m p g number h = record {
-  knows = record { address = h.knows.address; enrolled = h.knows.enrolled; numbers = h.knows.numbers; links_are = h.knows.links_are; claims = h.knows.claims; keys = h.knows.keys; past = h.knows.past; room = h.knows.room };
+  knows = record { address = h.knows.address; enrolled = h.knows.enrolled; numbers = h.knows.numbers; links_are = h.knows.links_are; own = h.knows.own; keys = h.knows.keys; past = h.knows.past; room = h.knows.room };
   routes = record { rows = h.routes.rows; hops = h.routes.hops; are = h.routes.are };
 }
 
@@ -169,6 +170,7 @@ module _ (d : Dif) (i place number : ℕ) (sdu : List ℕ) (entry : Entry) (end 
         at = record { is_end = there; is_agent = agent };
         early = omega (arith, early);
         message = m.0;
+        short = subst (λ (z : ManagementMessage). IsShort z) m.1 ((tell i g first.is_management).short.waiting first.waiting f.0);
         first = first.first ∙ ap (λ (w : Waiting). Some w) waiting_is;
         text = sdu;
         written = m.2;
@@ -184,7 +186,7 @@ module _ (d : Dif) (i place number : ℕ) (sdu : List ℕ) (entry : Entry) (end 
 
 -- a DIF holds beside what flooding says of it, whatever messages wait
 unfloods : (d : Dif) (lines : List Direction) (below : Seen) → Holds d lines below → Holds (record d { failed = true }) lines below
-unfloods d lines below h = record { tied = h.tied; standing = h.standing; carrying = h.carrying; numbered = h.numbered; accounted = h.accounted; caused = h.caused; written_off = h.written_off; housed = h.housed; routed = h.routed; managed = h.managed; connected = h.connected; flooded = λ failed. absurd (true≢false failed) }
+unfloods d lines below h = record { tied = h.tied; standing = h.standing; carrying = h.carrying; numbered = h.numbered; accounted = h.accounted; caused = h.caused; written_off = h.written_off; housed = h.housed; managed = h.managed; connected = h.connected; flooded = λ failed. absurd (true≢false failed) }
 
 module _ (d : Dif) (i place number : ℕ) (sdu : List ℕ) (conn : Conn) (made : Made) (flows : Flows) (ps : List IpcProcess) (tell : TellNeighbours d.managements) (early : d.clock ≤ 10000000) (r : IsReady d i place number sdu) (is_conn : slice_get d.connections.flows.conns place ≡ Some conn)
     (offers : FlowsOffer d.clock place sdu d.connections.flows (Ok made) flows) (puts : Puts 0 number (queued conn.sending.form.cube.mpl d.clock (map unnamed made.pdus)) i d.processes ps) (lines : List Direction) (below : Seen) (h : Holds d lines below) where
@@ -291,7 +293,6 @@ module _ (d : Dif) (i place number : ℕ) (sdu : List ℕ) (conn : Conn) (made :
         caused = s.caused;
         written_off = s.written_off;
         housed = s.housed;
-        routed = s.routed;
         managed = all_managed d.settings.members d.laid.links d.clock (slice_set d.processes i put_process) d.managements i number teller r.first.is_management s.managed;
         connected = s.connected;
         flooded = λ alive. offered_floods d i place number sdu (offered_entry (constants (manage_config d) o'.offers.cube o'.offers.its_ids) o'.parts o'.offers.line) o'.offers.end flows (slice_set d.processes i put_process) r.here r.first tell early o'.offers.place.is_conn.end o'.cut.1 o'.offers.offered.3 (h.flooded alive);

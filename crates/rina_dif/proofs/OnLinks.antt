@@ -198,7 +198,6 @@ module _ (d : Dif) (at since : ℕ) (port : Port) (hop : Hop) (lines : List Dire
             });
         tied = h.tied;
         housed = house.housed;
-        routed = house.routed;
         managed = house.managed;
         connected = record {
           may = h.connected.may;
@@ -309,7 +308,6 @@ flow_taken d at since port hop (Ok end) d' other same settles lines below h kept
       settled = s.settled;
       tied = s.tied;
       housed = s.housed;
-      routed = s.routed;
       managed = s.managed;
       connected = s.connected below h.connected;
       flooded = s.flooded;

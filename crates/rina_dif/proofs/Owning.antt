@@ -89,7 +89,6 @@ own_none d at since hop ps lt own none notes lines below h there =
           inl (of_flow d lines below at since hop member h own q.is_member, (own.0, own.1 member q.is_member, refl, (λ k end ids t. none k end ids (record { is_conn = t.is_conn; allocated = t.allocated; names = t.names })), new ∙ ap (λ (z : Process). with_process (seen_of d) at (with_offs z (line_for hop.pdu (causes.NoConnection hop.pdu.dcep) ∷ []))) same, refl));
       tied = h.tied;
       housed = house.housed;
-      routed = house.routed;
       managed = house.managed;
       connected = λ down. kept_by (config_of d.settings) d.clock d.connections (seen_of d).processes (map process_of ps) down (λ may. subst (λ (z : DifSeen). LeavesLinks (seen_of d).processes z.processes) (sym (stepped d at x.0 ps x.3)) (noted_leaves (seen_of d).processes at (process_of p.0) hop (causes.NoConnection hop.pdu.dcep) (process_of x.0) (shown_at d at p.0 p.1) x.1));
       flooded = λ f. f;
@@ -133,7 +132,6 @@ own_told d at since hop place flows own kind taken tells same lines below h ther
       );
       tied = t.tied;
       housed = h.housed;
-      routed = h.routed;
       managed = h.managed;
       connected = λ down c. c;
       flooded = λ f. f;
@@ -233,7 +231,6 @@ own_arrived d at since hop place cause flows ps lt own kind taken arrives lines 
           inl (of_flow d lines below at since hop member h own q.is_member, flow_arrived (seen_of d) lines at member process since hop cause (seen_of d') in_.lines' own.0 (own.1 member q.is_member) (subst (λ (z : Process). IsArrived (seen_of d) lines at z hop.pdu cause (seen_of d') in_.lines') same whole));
       tied = in_.tied;
       housed = house.housed;
-      routed = house.routed;
       managed = house.managed;
       connected = λ down. kept_by (config_of d.settings) d.clock d.connections (seen_of d).processes (map process_of ps) down (λ may. subst (λ (z : DifSeen). LeavesLinks (seen_of d).processes z.processes) (sym (stepped d at (record p.0 { ledger = x.0 }) ps x.2)) (leaves_same (seen_of d).processes at (process_of p.0) (process_of (record p.0 { ledger = x.0 })) (shown_at d at p.0 p.1) refl refl));
       flooded = λ f. f;
@@ -279,7 +276,6 @@ settles_on d at since hop ps (Ok end) d' me settles lines below h there =
       settled = subst (λ (z : DifSeen). (member : Member) (process : Process) → IsProcess z at member process → Settles z lines at member process since hop end (seen_of d') s.lines') me.same s.settled;
       tied = s.tied;
       housed = s.housed;
-      routed = s.routed;
       managed = s.managed;
       connected = λ down c. s.connected down (subst (λ (z : DifSeen). AreConnected (config_of d.settings) d.clock d.connections z.processes down) (sym me.same) c);
       flooded = s.flooded;

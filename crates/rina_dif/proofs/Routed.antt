@@ -22,7 +22,7 @@ use Rattle.rina_data.specs.declared.settings.Settings.{Settings}
 use Rattle.rina_data.specs.Process.{next_hop}
 use Rattle.rina_data.proofs.Finding.{found_in, there}
 use Rattle.rina_member.specs.Knowing.{AreRoutesOf}
-use Rattle.rina_member.specs.Routing.{KnowsLive, claims_with, edges_from, edges_of, live_links, live_of, own_link, own_links, route_to, routes_to}
+use Rattle.rina_member.specs.Routing.{AreRoutesOver, edges_from, live_links, live_of, own_link, own_links, route_to, routes_to}
 use Rattle.rina_dif.specs.Laying.{AreLaid, IsLinkedUp, ends_of}
 use Rattle.rina_dif.specs.Routing.{AreRouted, SetsRoutes, with_routes}
 
@@ -143,9 +143,9 @@ filtered f [] x k at = absurd cc
 filtered f (y ∷ ys) x k at = filtered_if f y ys x k (f y) refl (λ j h. filtered f ys x j h) at
 
 -- a live one of its own
-pub live_hop : (members : List Member) (plans : List LinkPlan) (m : Member) (links : List Link) (routes : List Route) (dst n : ℕ) → KnowsLive members plans m links routes → next_hop dst routes ≡ Some n → (k : ℕ) × (link : Link) × (slice_get links k ≡ Some link) × (link.live ≡ true) × (link.number ≡ n)
-live_hop members plans m links routes dst n knows hop =
-    let l = knows_hop members (edges_from members m.node plans) (live_of links) (claims_with m.addr (live_links members plans m links) (edges_of members plans)) knows.rows routes m.addr dst n knows.hops knows.are hop in
+pub live_hop : (members : List Member) (plans : List LinkPlan) (m : Member) (links : List Link) (claimed : List Edge) (routes : List Route) (dst n : ℕ) → AreRoutesOver m.addr (live_links members plans m links) claimed members routes → next_hop dst routes ≡ Some n → (k : ℕ) × (link : Link) × (slice_get links k ≡ Some link) × (link.live ≡ true) × (link.number ≡ n)
+live_hop members plans m links claimed routes dst n are hop =
+    let l = knows_hop members (edges_from members m.node plans) (live_of links) claimed are.rows routes m.addr dst n are.hops are.are hop in
     let at = filtered (λ (z : Link). z.live) links l.1 l.0 l.2 in
     (at.0, l.1, at.1, at.2, l.3)
 

@@ -45,7 +45,7 @@ abbrev pub managing : Dif → List Management → Dif
 managing d ms = record d { managements = ms }
 
 pub holds_managed : (d : Dif) (lines : List Direction) (below : Seen) (ms : List Management) → AreManagedBy d.settings.members d.laid.links d.clock d.processes ms → (d.failed ≡ false → AreFlooding (managing d ms)) → Holds d lines below → Holds (managing d ms) lines below
-holds_managed d lines below ms managed floods h = record { tied = h.tied; standing = h.standing; carrying = h.carrying; numbered = h.numbered; accounted = h.accounted; caused = h.caused; written_off = h.written_off; housed = h.housed; routed = h.routed; managed = managed; connected = h.connected; flooded = floods }
+holds_managed d lines below ms managed floods h = record { tied = h.tied; standing = h.standing; carrying = h.carrying; numbered = h.numbered; accounted = h.accounted; caused = h.caused; written_off = h.written_off; housed = h.housed; managed = managed; connected = h.connected; flooded = floods }
 
 -- with other objects
 pub holds_shown : (d : Dif) (lines : List Direction) (below : Seen) (ms : List Management) → agents_of ms ≡ agents_of d.managements → Holds d lines below → Holds (managing d ms) lines below
@@ -93,7 +93,7 @@ binds_managed d d1 d2 lines below fixed ports app far names among whole rest are
 
 -- an allocation failed, and the managements alone may have changed
 failed_holds : (d : Dif) (lines : List Direction) (below : Seen) (ms : List Management) → AreManagedBy d.settings.members d.laid.links d.clock d.processes ms → Holds d lines below → Holds (record (managing d ms) { failed = true }) lines below
-failed_holds d lines below ms managed h = record { tied = h.tied; standing = h.standing; carrying = h.carrying; numbered = h.numbered; accounted = h.accounted; caused = h.caused; written_off = h.written_off; housed = h.housed; routed = h.routed; managed = managed; connected = h.connected; flooded = λ alive. absurd (false≢true (sym alive)) }
+failed_holds d lines below ms managed h = record { tied = h.tied; standing = h.standing; carrying = h.carrying; numbered = h.numbered; accounted = h.accounted; caused = h.caused; written_off = h.written_off; housed = h.housed; managed = managed; connected = h.connected; flooded = λ alive. absurd (false≢true (sym alive)) }
 
 -- before the managements changed
 pub binds_nothing : (d : Dif) (fixed : Fixed) (r : Result (Port × Port) AllocateError) (e : AllocateError) → r ≡ Err e → e ≡ MemoryWanted → (lines : List Direction) (below : Seen) → Holds d lines below → BindsTo d lines below fixed r (noting r d)

@@ -41,14 +41,14 @@ use Rattle.rina_member.specs.Knowing.{AreLive, AreNumbered, AreRoutesOf, IsLaidO
 use Rattle.rina_member.specs.Routing.{edge_back, edge_there, edges_from, routes_to}
 use Rattle.rina_member.specs.Objects.{first_objects}
 use Rattle.rina_member.specs.Start.{items_held, started}
-use Rattle.rina_member.proofs.Knowing.{starts_knowing}
+use Rattle.rina_member.proofs.Knowing.{starts_knowing, starts_routed}
 use Rattle.rina_dif.specs.declared.dif.Dif.{Dif}
 use Rattle.rina_dif.specs.Building.{AreBare}
 use Rattle.rina_dif.specs.Laying.{AreLaid, BindsAll, ends_of, links_from, ports_at}
 use Rattle.rina_dif.specs.Managing.{AreManagedBy, AreStarted, IsManaged, IsStarted}
 use Rattle.rina_dif.specs.Planned.{link_fixed, processes_before, settings_by}
-use Rattle.rina_dif.specs.Routing.{AreRouted}
-use Rattle.rina_dif.proofs.Managed.{is_among}
+use Rattle.rina_dif.specs.Routing.{AreRouted, HaveFirstRoutes}
+use Rattle.rina_dif.proofs.Managed.{is_among, its_agent}
 use Rattle.rina_dif.proofs.Sound.{planned}
 
 same_some : {X : Type 0} (xs : List X) (k : ℕ) (a b : X) → slice_get xs k ≡ Some a → slice_get xs k ≡ Some b → a ≡ b
@@ -338,6 +338,13 @@ started_still cubes members plans rules allow linked ps managements so routed = 
       let q = routed.same k p is_p in
       subst (λ (z : IpcProcess). IsStarted cubes members plans rules allow m z.links g) (sym q.3) (so.each k m q.0 g is_m q.2 is_g);
 }
+
+-- so their next hops are over the links of the plan
+pub first_routed : (cubes : List Cube) (members : List Kept) (plans : List LinkPlan) (rules : List Rule) (allow : Bool) (now : ℕ) (ps : List IpcProcess) (managements : List Management) → AreManagedBy members plans now ps managements → AreStarted cubes members plans rules allow (length members) ps managements → HaveFirstRoutes members plans ps
+first_routed cubes members plans rules allow now ps managements h so k m p is here =
+    let g = its_agent members managements k m h.aligned is in
+    let one = so.each k m p g.0 is here g.1 in
+    starts_routed members plans one.access m p.links p.routes h.laid_out (subst (λ (a : Agent). AreRoutesOf a members p.routes) one.is (h.each k m p g.0 is here g.1).routes)
 
 -- seen otherwise
 pub same_started : (cubes cubes' : List Cube) (members members' : List Kept) (plans plans' : List LinkPlan) (rules rules' : List Rule) (allow : Bool) (processes : List IpcProcess) (managements : List Management) → cubes ≡ cubes' → members ≡ members' → plans ≡ plans' → rules ≡ rules' → AreStarted cubes members plans rules allow (length members) processes managements → AreStarted cubes' members' plans' rules' allow (length members') processes managements

@@ -140,7 +140,6 @@ took_it d lines below at n p link tick bytes hop key end d' below' kept kept' lt
         caused = ins_caused (seen_of d) lines below at n (Ok (in_.Took key end)) (seen_of d') s.lines' below' kept' h.caused does;
         written_off = ins_written (seen_of d) lines below at n (Ok (in_.Took key end)) (seen_of d') s.lines' below' h.standing h.written_off does;
         housed = s.housed;
-        routed = s.routed;
         managed = s.managed;
         connected = taking_connected (config_of d'.settings) d'.clock d'.connections (seen_of d').processes below link.port below' kept kept' passed s.connected;
         flooded = s.flooded h.flooded;
@@ -168,7 +167,7 @@ takes_home d lines below node n at r r' d' failed below' alive here same t =
     record {
       lines' = t.lines';
       does = subst (λ (v : Result InStep StepError). InsAt (seen_of d) lines below node n v (seen_of d') t.lines' below') (sym same) does;
-      holds = record { tied = t.holds.tied; standing = t.holds.standing; carrying = t.holds.carrying; numbered = t.holds.numbered; accounted = t.holds.accounted; caused = t.holds.caused; written_off = t.holds.written_off; housed = t.holds.housed; routed = t.holds.routed; managed = t.holds.managed; connected = t.holds.connected; flooded = λ still. t.holds.flooded alive };
+      holds = record { tied = t.holds.tied; standing = t.holds.standing; carrying = t.holds.carrying; numbered = t.holds.numbered; accounted = t.holds.accounted; caused = t.holds.caused; written_off = t.holds.written_off; housed = t.holds.housed; managed = t.holds.managed; connected = t.holds.connected; flooded = λ still. t.holds.flooded alive };
     }
 
 pub takes_none : (d : Dif) (lines : List Direction) (below : Seen) (node n : ℕ) → Holds d lines below → TakesHome d lines below node n (Err Memory) d below

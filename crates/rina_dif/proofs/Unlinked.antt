@@ -31,9 +31,9 @@ use Rattle.rina_dif_law.proofs.Warranted.{lost_written}
 use Rattle.rina_member.proofs.Knowing.{may_make}
 use Rattle.rina_dif.specs.declared.dif.Dif.{Dif}
 use Rattle.rina_dif.specs.Holding.{AreHoused, HasQueues, HaveQueues, Holds, IsHoused, Stands}
-use Rattle.rina_member.specs.Knowing.{AreRoutesOf}
-use Rattle.rina_member.specs.Routing.{KnowsLive}
-use Rattle.rina_dif.specs.Routing.{HaveRoutes}
+use Rattle.rina_graph.specs.declared.graph.Edge.{Edge}
+use Rattle.rina_member.specs.Knowing.{AreRoutesOf, all_claims}
+use Rattle.rina_member.specs.Routing.{AreRoutesOver, live_links}
 use Rattle.rina_dif.specs.Shown.{seen_of}
 use Rattle.rina_dif.specs.declared.processes.LinkLoss.{LinkLoss}
 use Rattle.rina_dif.specs.Closing.{ClosesIn, ClosesOn, FindsOpen, held_at}
@@ -41,7 +41,7 @@ use Rattle.rina_dif.specs.Unlinking.{FailsWith, FindsEnd, FindsLostAt, FindsNone
 use Rattle.rina_flows.specs.declared.flows.Flows.{Flows}
 use Rattle.rina_dif.proofs.Closing.{HasClosed, link_closed, open_conn, open_end}
 use Rattle.rina_dif.proofs.Causing.{process_caused}
-use Rattle.rina_dif.proofs.Keeping.{home_set, house_is, position_map, routes_set, same_house, set_cases}
+use Rattle.rina_dif.proofs.Keeping.{home_set, house_is, position_map, same_house, set_cases}
 use Rattle.rina_dif.proofs.Leaves.{has_process, shown_at, stepped}
 use Rattle.rina_dif.proofs.Managed.{IsLoss, IsWithout, its_agent, loss_known, managed_lost}
 use Rattle.rina_dif.proofs.Routed.{live_hop}
@@ -92,25 +92,18 @@ have_after g p place link routes is have k qos l at live known = elim (set_at p.
   | inr f ↦ subst (λ (o : Option ℕ). IsSome o) (sym (emptied_places qos l.number link p.queues)) (have k qos l f.1 live known)
 ]
 
-hop_after : (g : Config) (members : List Member) (plans : List LinkPlan) (member : Member) (p : Process) → HaveQueues g p → KnowsLive members plans member p.links p.routes → HasQueues g p
-hop_after g members plans member p have knows dst n qos hop known =
-    let l = live_hop members plans member p.links p.routes dst n knows hop in
+hop_after : (g : Config) (members : List Member) (plans : List LinkPlan) (member : Member) (claimed : List Edge) (p : Process) → HaveQueues g p → AreRoutesOver member.addr (live_links members plans member p.links) claimed members p.routes → HasQueues g p
+hop_after g members plans member claimed p have are dst n qos hop known =
+    let l = live_hop members plans member p.links claimed p.routes dst n are hop in
     subst (λ (m : ℕ). IsSome (queue_place qos m p.queues)) l.4 (have l.0 qos l.1 l.2 l.3 known)
 
-housed_after : (g : Config) (ps : List IpcProcess) (at : ℕ) (p p' : IpcProcess) (place : ℕ) (link : Link) (routes : List Route) (members : List Member) (plans : List LinkPlan) (member : Member) → AreHoused g ps → slice_get ps at ≡ Some p → queue_settings p' ≡ queue_settings p → slice_get p.links place ≡ Some link → process_of p' ≡ without_link place link routes (process_of p)
-    → KnowsLive members plans member (slice_set p.links place (record link { live = false })) routes → AreHoused g (slice_set ps at p')
-housed_after g ps at p p' place link routes members plans member housed is room there new knows =
+housed_after : (g : Config) (ps : List IpcProcess) (at : ℕ) (p p' : IpcProcess) (place : ℕ) (link : Link) (routes : List Route) (members : List Member) (plans : List LinkPlan) (member : Member) (claimed : List Edge) → AreHoused g ps → slice_get ps at ≡ Some p → queue_settings p' ≡ queue_settings p → slice_get p.links place ≡ Some link → process_of p' ≡ without_link place link routes (process_of p)
+    → AreRoutesOver member.addr (live_links members plans member (slice_set p.links place (record link { live = false }))) claimed members routes → AreHoused g (slice_set ps at p')
+housed_after g ps at p p' place link routes members plans member claimed housed is room there new are =
     let old = housed at p is in
     let have = have_after g (process_of p) place link routes there old.links in
-    let has = hop_after g members plans member (without_link place link routes (process_of p)) have knows in
+    let has = hop_after g members plans member claimed (without_link place link routes (process_of p)) have are in
     set_cases (IsHoused g) ps at p' (record { cap = ap (λ (s : QueueSettings). s.cap) room ∙ old.cap; links = subst (HaveQueues g) (sym new) have; queues = subst (HasQueues g) (sym new) has }) housed
-
-routed_after : (members : List Member) (plans : List LinkPlan) (ps : List IpcProcess) (at : ℕ) (p p' : IpcProcess) (place : ℕ) (link : Link) (routes : List Route) (member : Member) → HaveRoutes members plans ps → slice_get ps at ≡ Some p → slice_get members at ≡ Some member → process_of p' ≡ without_link place link routes (process_of p)
-    → KnowsLive members plans member (slice_set p.links place (record link { live = false })) routes → HaveRoutes members plans (slice_set ps at p')
-routed_after members plans ps at p p' place link routes member routed is is_member new knows = routes_set members plans ps at p p' is routed (λ m is_m. (
-    let same : member ≡ m = same_some (slice_get members at) member m is_member is_m in
-    let its : KnowsLive members plans m (slice_set p.links place (record link { live = false })) routes = subst (λ (z : Member). KnowsLive members plans z (slice_set p.links place (record link { live = false })) routes) same knows in
-    subst (λ (z : Process). KnowsLive members plans m z.links z.routes) (sym new) its))
 
 -- The DIF holds
 
@@ -135,7 +128,7 @@ link_lost d lines below at lost routes member p p' g g' is_member is is_g goes a
     let members = d.settings.members in
     let plans = d.laid.links in
     let loss : IsLoss d.clock members g g' link routes = record { loses = subst (λ (n : ℕ). loses_link g.agent d.clock n ≡ Ok g'.agent) f.2 goes; routes = are } in
-    let known : KnowsLive members plans member (links_without p.links lost.place link) routes = loss_known members plans d.clock d.processes d.managements at member p g g' lost.place link routes h.managed is_member is is_g there f.1.lost.live loss in
+    let known : AreRoutesOver member.addr (live_links members plans member (links_without p.links lost.place link)) (all_claims g'.agent.items) members routes = loss_known members plans d.clock d.processes d.managements at member p g g' lost.place link routes h.managed is_member is is_g there f.1.lost.live loss in
     let ps : List IpcProcess = slice_set d.processes at p' in
     let mid : Dif = record d { processes = ps; managements = slice_set d.managements at g' } in
     let d' : DifSeen = seen_of mid in
@@ -145,7 +138,7 @@ link_lost d lines below at lost routes member p p' g g' is_member is is_g goes a
       is_process = is;
       link = link;
       stands = there;
-      loses = record { routes = routes; loses = gone; member = member; is_member = is_member; knows = known };
+      loses = record { routes = routes; loses = gone; management = g; is_management = is_g; after = g'.agent; told = goes; next_hops = are };
       links_are = refl;
       port_is = refl;
       holds = record {
@@ -156,8 +149,7 @@ link_lost d lines below at lost routes member p p' g g' is_member is is_g goes a
         accounted = lost_accounted (seen_of d) lines below at lost.number routes d' h.accounted gone;
         caused = process_caused (seen_of d) d' below at _ gone.new_is h.caused;
         written_off = lost_written (seen_of d) lines below at lost.number routes d' h.standing h.written_off gone;
-        housed = housed_after (config_of d.settings) d.processes at p p' lost.place link routes members plans member h.housed is room there new known;
-        routed = routed_after members plans d.processes at p p' lost.place link routes member h.routed is is_member new known;
+        housed = housed_after (config_of d.settings) d.processes at p p' lost.place link routes members plans member (all_claims g'.agent.items) h.housed is room there new known;
         managed = managed_lost members plans d.clock d.processes d.managements at member p p' g g' lost.place link routes h.managed is_member is is_g there f.1.lost.live loss (ap (λ (z : Process). z.links) new) (ap (λ (z : Process). z.routes) new);
         connected = kept_by (config_of d.settings) d.clock d.connections (seen_of d).processes d'.processes below (λ may. losing_leaves (seen_of d) below at lost.number routes d' gone) h.connected;
         flooded = λ alive. lost_floods d at lost.number member p g g' lost.place link h.managed h.connected.each is_member is is_g there f.1.lost.live (sym f.2) goes (h.flooded alive);

@@ -1,12 +1,15 @@
 -- What the laws of flooding say of a DIF.
 use Rattle.std.specs.Prelude.{◌≡◌, ℕ, false, List, slice_get, Some, None, Contains, MatchOption}
 use Rattle.rina_agent.specs.Neighbours.{link_key, link_state}
+use Rattle.rina_data.specs.declared.process.IpcProcess.{IpcProcess}
 use Rattle.rina_data.specs.declared.settings.Member.{Member}
 use Rattle.rina_flood.specs.Members.{IsQuietPath, IsRunOf, MembersSeen}
 use Rattle.rina_flood.specs.Network.{Side, after_rows}
 use Rattle.rina_iface.specs.Seen.{Seen}
 use Rattle.rina_law.specs.Direction.{Direction}
 use Rattle.rina_member.specs.declared.management.Management.{Management}
+use Rattle.rina_member.specs.Knowing.{ClaimLinks}
+use Rattle.rina_member.specs.Routing.{live_links}
 use Rattle.rina_newest.specs.declared.item.Item.{Item}
 use Rattle.rina_newest.specs.Newest.{IsNewest, kept_at, value_at}
 use Rattle.rina_plan.specs.declared.dif.LinkPlan.{LinkPlan}
@@ -35,3 +38,9 @@ MembersKeepTheNewest = (d : Dif) (lines : List Direction) (below : Seen) (place 
 abbrev pub MembersAgree : Type 0
 MembersAgree = (d : Dif) (lines : List Direction) (below : Seen) (i j : ℕ) (steps : List (ℕ × Side × ℕ)) (first last : Member) (m n : Management) → IsMemberOf d lines below i first m → IsMemberOf d lines below j last n → IsQuietPath (members_seen d) i steps j
     → ((key : List ℕ) → kept_at m.agent.items key ≡ kept_at n.agent.items key) × (value_at n.agent.items (link_key first.addr) ≡ Some (link_state None m.agent.links))
+
+-- Where all is quiet on a walk of links, the items of the member at its one end claim, from the address of the member at the other, the
+-- live links of its IPC process and no others
+abbrev pub QuietMembersKnowLinks : Type 0
+QuietMembersKnowLinks = (d : Dif) (lines : List Direction) (below : Seen) (i j : ℕ) (steps : List (ℕ × Side × ℕ)) (first last : Member) (m n : Management) (p : IpcProcess) → IsMemberOf d lines below i first m → IsMemberOf d lines below j last n → slice_get d.processes i ≡ Some p → IsQuietPath (members_seen d) i steps j
+    → ClaimLinks n.agent.items first.addr (live_links d.settings.members d.laid.links first p.links)

@@ -20,7 +20,6 @@ use Rattle.rina_dif.specs.declared.dif.Dif.{Dif}
 use Rattle.rina_dif.specs.Connected.{AreConnected}
 use Rattle.rina_dif.specs.Flooding.{AreFlooding}
 use Rattle.rina_dif.specs.Managing.{AreManaged}
-use Rattle.rina_dif.specs.Routing.{HaveRoutes}
 use Rattle.rina_dif.specs.Shown.{seen_of}
 
 -- each live link has a queue for each cube
@@ -43,10 +42,9 @@ AreHoused g processes = (i : ℕ) (p : IpcProcess) → slice_get processes i ≡
 
 -- the DIF stands on the rank below, where these directions stand behind its flows, whatever an end got has come, its
 -- names are those of its members and ports, each IPC process is in account for each PDU, each end that has failed did so
--- for its cause, each line of a ledger says what is true, each next hop is the least number of a link on a least walk over the links that its IPC process knows,
--- each member has a management that knows these links, and over the items of which the next hops are, the management
--- connections of the links stand, and until an allocation fails the members are a network in which what one makes is flooded to all:
--- after a failure some of them may have taken a directory entry and others not
+-- for its cause, each line of a ledger says what is true, each member has a management that knows its live links, and over the items of
+-- which its next hops are, the management connections of the links stand, and until an allocation fails the members are a network in
+-- which what one makes is flooded to all: after a failure some of them may have taken a directory entry and others not
 pub record Holds (d : Dif) (lines : List Direction) (below : Seen) : Type 0 where
   pub tied : AreTied (config_of d.settings) d.clock d.flows lines
   pub standing : IsStanding (seen_of d) lines below
@@ -56,7 +54,6 @@ pub record Holds (d : Dif) (lines : List Direction) (below : Seen) : Type 0 wher
   pub caused : AreCaused (seen_of d) below
   pub written_off : AreWrittenOff (seen_of d)
   pub housed : AreHoused (config_of d.settings) d.processes
-  pub routed : HaveRoutes d.settings.members d.laid.links d.processes
   pub managed : AreManaged d
   pub connected : AreConnected (config_of d.settings) d.clock d.connections (seen_of d).processes below
   pub flooded : d.failed ≡ false → AreFlooding d

@@ -36,8 +36,8 @@ pub record AreStarted (cubes : List Cube) (members : List Member) (plans : List 
 abbrev pub agents_of : List Management → List Agent
 agents_of managements = map (λ (m : Management). m.agent) managements
 
--- at a tick, the management of a member knows the live links of its IPC process, and of the others the links that they
--- had from the start; and the next hops of the IPC process are the least walks over the items that the management holds
+-- at a tick, the management of a member knows the live links of its IPC process; and the next hops of the IPC process are over the items
+-- that the management holds: the first links of least walks over the edges that the link states of both ends claim
 pub record IsManaged (members : List Member) (plans : List LinkPlan) (now : ℕ) (m : Member) (p : IpcProcess) (g : Management) : Type 0 where
   pub knows : Knows members plans now m p.links g.agent
   pub routes : AreRoutesOf g.agent members p.routes

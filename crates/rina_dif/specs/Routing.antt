@@ -4,14 +4,19 @@ use Rattle.rina_plan.specs.declared.dif.LinkPlan.{LinkPlan}
 use Rattle.rina_data.specs.declared.link.Route.{Route}
 use Rattle.rina_data.specs.declared.process.IpcProcess.{IpcProcess}
 use Rattle.rina_data.specs.declared.settings.Member.{Member}
-use Rattle.rina_member.specs.Knowing.{AreRoutesOf}
-use Rattle.rina_member.specs.Routing.{KnowsLive}
+use Rattle.rina_member.specs.Knowing.{AreRoutesOf, all_claims}
+use Rattle.rina_member.specs.Routing.{AreRoutesOver, edges_of, live_links}
 use Rattle.rina_member.specs.declared.management.Management.{Management}
 
--- each IPC process knows its live links, and those that the others had from the start, where these are the links of the
--- DIF as they were laid: its next hops are the first links of least walks over them
-abbrev pub HaveRoutes : List Member → List LinkPlan → List IpcProcess → Type 0
-HaveRoutes members plans processes = (k : ℕ) (m : Member) (p : IpcProcess) → slice_get members k ≡ Some m → slice_get processes k ≡ Some p → KnowsLive members plans m p.links p.routes
+-- each IPC process has its next hops over its live links and the edges that the items of its management claim, where these are the links
+-- of the DIF as they were laid
+abbrev pub HaveRoutes : List Member → List LinkPlan → List IpcProcess → List Management → Type 0
+HaveRoutes members plans processes managements = (k : ℕ) (m : Member) (p : IpcProcess) (g : Management) → slice_get members k ≡ Some m → slice_get processes k ≡ Some p → slice_get managements k ≡ Some g
+    → AreRoutesOver m.addr (live_links members plans m p.links) (all_claims g.agent.items) members p.routes
+
+-- each has them over its live links and the links of the DIF as they were laid, as from the start
+abbrev pub HaveFirstRoutes : List Member → List LinkPlan → List IpcProcess → Type 0
+HaveFirstRoutes members plans processes = (k : ℕ) (m : Member) (p : IpcProcess) → slice_get members k ≡ Some m → slice_get processes k ≡ Some p → AreRoutesOver m.addr (live_links members plans m p.links) (edges_of members plans) members p.routes
 
 -- One after the other
 

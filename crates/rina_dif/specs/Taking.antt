@@ -41,7 +41,6 @@ use Rattle.rina_dif.specs.declared.dif.Dif.{Dif}
 use Rattle.rina_dif.specs.Flooding.{StayFlooding}
 use Rattle.rina_dif.specs.Holding.{AreHoused, Holds}
 use Rattle.rina_dif.specs.Managing.{AreManaged}
-use Rattle.rina_dif.specs.Routing.{HaveRoutes}
 use Rattle.rina_dif.specs.Shown.{seen_of}
 use Rattle.rina_dif.specs.Steps.{AtHome}
 use Rattle.rina_dif.specs.declared.connections.Connections.{Connections}
@@ -111,14 +110,13 @@ pub record IsOldest (g : Config) (below : Seen) (port : Port) (since : ℕ) (hop
 abbrev pub StaysConnected : Dif → Dif → Type 0
 StaysConnected d d' = (below : Seen) → AreConnected (config_of d.settings) d.clock d.connections (seen_of d).processes below → AreConnected (config_of d'.settings) d'.clock d'.connections (seen_of d').processes below
 
--- how the PDU was handled: the flows stay tied, the IPC processes are housed, have their next hops and are managed, the
--- management connections of the links stand on, and the members are the network that they were
+-- how the PDU was handled: the flows stay tied, the IPC processes are housed and managed, the management connections of the links stand
+-- on, and the members are the network that they were
 pub record HasSettled (d : Dif) (lines : List Direction) (at since : ℕ) (hop : Hop) (end : Took) (d' : Dif) : Type 0 where
   pub lines' : List Direction
   pub settled : (member : Member) (process : Process) → IsProcess (seen_of d) at member process → Settles (seen_of d) lines at member process since hop end (seen_of d') lines'
   pub tied : AreTied (config_of d'.settings) d'.clock d'.flows lines'
   pub housed : AreHoused (config_of d'.settings) d'.processes
-  pub routed : HaveRoutes d'.settings.members d'.laid.links d'.processes
   pub managed : AreManaged d'
   pub connected : StaysConnected d d'
   pub flooded : StayFlooding d d'
@@ -163,7 +161,6 @@ pub record HasTaken (d : Dif) (lines links : List Direction) (below : Seen) (at 
   pub settled : (member : Member) (process : Process) → IsProcess (seen_of d) at member process → Settles (seen_of d) lines at member process since hop end (seen_of d') lines'
   pub tied : AreTied (config_of d'.settings) d'.clock d'.flows lines'
   pub housed : AreHoused (config_of d'.settings) d'.processes
-  pub routed : HaveRoutes d'.settings.members d'.laid.links d'.processes
   pub managed : AreManaged d'
   pub connected : AreConnected (config_of d'.settings) d'.clock d'.connections (seen_of d').processes below
   pub channels : SettlesLinks d links since port hop end d' connected.lines

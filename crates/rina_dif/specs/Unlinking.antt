@@ -11,7 +11,6 @@ use Rattle.rina_data.specs.declared.link.Link.{Link}
 use Rattle.rina_data.specs.declared.link.Route.{Route}
 use Rattle.rina_data.specs.declared.loss.Lost.{Lost}
 use Rattle.rina_data.specs.declared.process.IpcProcess.{IpcProcess}
-use Rattle.rina_data.specs.declared.settings.Member.{Member}
 use Rattle.rina_data.specs.Deciding.{process_of, queue_settings}
 use Rattle.rina_data.specs.Configs.{config_of}
 use Rattle.rina_dif_law.specs.Dif.{DifSeen, with_process}
@@ -20,7 +19,10 @@ use Rattle.rina_dif_law.specs.Losing.{FailAll, Loses, NoneLive}
 use Rattle.rina_data.specs.Losing.{FindsLost, LosesAt, without_link}
 use Rattle.rina_flows.specs.declared.flows.Flows.{Flows}
 use Rattle.rina_flows.specs.Stopping.{StopsAll, held_before}
-use Rattle.rina_member.specs.Routing.{KnowsLive}
+use Rattle.rina_agent.specs.declared.agent.Agent.{Agent}
+use Rattle.rina_agent.specs.Rows.{lost}
+use Rattle.rina_member.specs.Knowing.{AreRoutesOf}
+use Rattle.rina_member.specs.declared.management.Management.{Management}
 use Rattle.rina_dif.specs.declared.dif.Dif.{Dif}
 use Rattle.rina_dif.specs.declared.processes.LinkLoss.{LinkLoss}
 use Rattle.rina_dif.specs.Closing.{ClosesIn, ClosesOn, FindsOpen, held_at}
@@ -105,13 +107,15 @@ LosesLastIn node state loss result at links flows old links' flows' new = (p : I
 
 -- What changes of the DIF
 
--- the IPC process of place i loses its link of this number, and has its next hops over the links that it knows then
+-- the IPC process of place i loses its link of this number, and so does its management, over the items of which its next hops are then
 pub record LosesLink (d : Dif) (below : Seen) (i number : ℕ) (new : DifSeen) : Type 0 where
   pub routes : List Route
   pub loses : Loses (seen_of d) below i number routes new
-  pub member : Member
-  pub is_member : slice_get d.settings.members i ≡ Some member
-  pub knows : KnowsLive d.settings.members d.laid.links member (without_link loses.place loses.link routes loses.process).links routes
+  pub management : Management
+  pub is_management : slice_get d.managements i ≡ Some management
+  pub after : Agent
+  pub told : lost management.agent d.clock number ≡ Ok after
+  pub next_hops : AreRoutesOf after d.settings.members routes
 
 -- the DIF after that, with these lines behind those of what waited for the link
 abbrev pub with_lost : DifSeen → ℕ → ℕ → Link → List Route → Process → List Off → DifSeen

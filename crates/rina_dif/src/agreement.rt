@@ -1,5 +1,5 @@
 //! The laws of flooding in a DIF, as the contract of a function that does nothing.
-ghost use Rattle.rina_dif.specs.FloodingLaws.{MembersAgree, MembersKeepTheNewest};
+ghost use Rattle.rina_dif.specs.FloodingLaws.{MembersAgree, MembersKeepTheNewest, QuietMembersKnowLinks};
 
 /// Each member of a DIF keeps of each key the newest item of all that it made or was offered. Where no message waits or is on its
 /// way on a walk of links that are up, the members at its ends keep the same items, and each keeps the other's link state as the
@@ -9,5 +9,14 @@ pub fn members_keep_the_newest_and_agree()
     ensures agree { MembersAgree }
 {
     rina_flood::members_keep_the_newest();
+    rina_flood::members_are_a_network();
+}
+
+/// Where no message waits or is on its way on a walk of links that are up, the items of the member at its one end claim, from the
+/// address of the member at the other, the live links of that and no others. So the next hops of members that such walks join are
+/// over the live links of all of them.
+pub fn quiet_members_know_live_links()
+    ensures { QuietMembersKnowLinks }
+{
     rina_flood::members_are_a_network();
 }

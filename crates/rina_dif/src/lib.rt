@@ -35,7 +35,7 @@ mod start;
 mod text;
 mod write_offs;
 
-pub use agreement::members_keep_the_newest_and_agree;
+pub use agreement::{members_keep_the_newest_and_agree, quiet_members_know_live_links};
 pub use cdap::CdapCallError;
 pub use dif::Dif;
 pub use facade::a_rank_shows_its_difs;

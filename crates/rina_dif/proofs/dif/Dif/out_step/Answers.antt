@@ -15,7 +15,7 @@ returns-clause-does g c =
 pub returns-clause-keeps : goal.returns-clause-keeps
 returns-clause-keeps g c = λ lines h.
     let k = c.out_step_at-step.ensures.keeps lines h in
-    record { tied = k.tied; standing = k.standing; carrying = k.carrying; numbered = k.numbered; accounted = k.accounted; caused = k.caused; written_off = k.written_off; housed = k.housed; routed = k.routed; managed = k.managed; connected = k.connected; flooded = λ still. k.flooded (c.out_step_at-step.ensures.failed ∙ c.if-self.false) }
+    record { tied = k.tied; standing = k.standing; carrying = k.carrying; numbered = k.numbered; accounted = k.accounted; caused = k.caused; written_off = k.written_off; housed = k.housed; managed = k.managed; connected = k.connected; flooded = λ still. k.flooded (c.out_step_at-step.ensures.failed ∙ c.if-self.false) }
 
 pub returns-clause-shelf : goal.returns-clause-shelf
 returns-clause-shelf g c = λ alive.
