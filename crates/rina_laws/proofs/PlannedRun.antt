@@ -9,6 +9,7 @@ use Rattle.rina_stack.specs.declared.plan.Plan.{Plan}
 use Rattle.rina_dif.specs.declared.dif.Dif.{Dif}
 use Rattle.rina_dif.specs.Holding.{Stands}
 use Rattle.rina_dif.specs.Routing.{HaveRoutes}
+use Rattle.rina_dif.proofs.Managed.{managed_routed}
 use Rattle.rina_tower.specs.declared.tower.Tower.{Tower, Wires, Rank'}
 use Rattle.rina_tower.specs.PlanSettings.{IsAsPlanned, IsOfPlan}
 use Rattle.rina_tower.specs.Ranks.{height_of, seen_of}
@@ -50,7 +51,7 @@ dif_routed plan rank d below st h = record {
   is_dif = h.is_dif;
   its_rank = h.its_rank;
   settings = h.settings;
-  routes = subst (λ (ls : List LinkPlan). HaveRoutes d.settings.members ls d.processes) h.links st.1.routed;
+  routes = subst (λ (ls : List LinkPlan). HaveRoutes d.settings.members ls d.processes d.managements) h.links (managed_routed d.settings.members d.laid.links d.clock d.processes d.managements st.1.managed);
 }
 
 all_routed : (plan : Plan) (t : Tower) → IsTower t → IsAsPlanned plan t → AreRoutedAs plan t

@@ -5,6 +5,7 @@ use Rattle.rina_dif_law.proofs.Lawfully.{are_lawful}
 use Rattle.rina_dif.specs.declared.dif.Dif.{Dif}
 use Rattle.rina_dif.specs.Shown.{seen_of as seen_of_dif}
 use Rattle.rina_dif.specs.Holding.{Stands}
+use Rattle.rina_dif.proofs.Managed.{managed_routed}
 use Rattle.rina_tower.specs.declared.tower.Tower.{Tower, Rank', Wires}
 use Rattle.rina_tower.specs.Stands.{IsTower}
 use Rattle.rina_run.specs.Promises.{AccountsAll, CarriesAll, CausesAll, IsCarriedBy, IsCausedIn, IsInAccount, IsLawfulIn, IsManagedIn, IsRoutedIn, IsWrittenOffIn, ItemsAll, LawfulAll, OfEachDif, RoutesAll, WriteOffsAll}
@@ -49,7 +50,7 @@ pub written_off_if : (tower : Option Tower) → IfSome tower IsTower → IfSome 
 written_off_if = of_each_if IsWrittenOffIn written_off_in
 
 routed_in : (d : Dif) (below : Seen) → Stands d below → IsRoutedIn d below
-routed_in d below stands = stands.1.routed
+routed_in d below stands = managed_routed d.settings.members d.laid.links d.clock d.processes d.managements stands.1.managed
 
 pub routed_if : (tower : Option Tower) → IfSome tower IsTower → IfSome tower RoutesAll
 routed_if = of_each_if IsRoutedIn routed_in

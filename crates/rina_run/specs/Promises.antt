@@ -60,16 +60,16 @@ IsWrittenOffIn d below = AreWrittenOff (seen_of_dif d)
 abbrev pub WriteOffsAll : Tower → Type 0
 WriteOffsAll = OfEachDif IsWrittenOffIn
 
--- the next hop of each IPC process to each other member is the least number of a link on a least walk, over its live links
--- and those that the others had from the start
+-- the next hop of each IPC process to each other member is the least number of a link on a least walk, over its live links and the edges
+-- that both ends claim in the items of its management
 abbrev pub IsRoutedIn : Dif → Seen → Type 0
-IsRoutedIn d below = HaveRoutes d.settings.members d.laid.links d.processes
+IsRoutedIn d below = HaveRoutes d.settings.members d.laid.links d.processes d.managements
 
 abbrev pub RoutesAll : Tower → Type 0
 RoutesAll = OfEachDif IsRoutedIn
 
--- the management of each member knows the live links of its IPC process, and of each other member the links that it had
--- from the start; and the next hops of the IPC process are the least walks over the items that its management holds
+-- the management of each member knows the live links of its IPC process, which are those that its own link state claims; and the next
+-- hops of the IPC process are over the items that its management holds
 abbrev pub IsManagedIn : Dif → Seen → Type 0
 IsManagedIn d below = AreManaged d
 

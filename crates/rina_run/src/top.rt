@@ -207,9 +207,9 @@ pub fn run<S: Source, K: Sink, P: Retires + Policies>(
     ensures lawful { IfSome result.tower LawfulAll }
     // Of each PDU each IPC process can tell where it is: what came in or was made is out, waits, was written off, or is kept.
     ensures accounted { IfSome result.tower AccountsAll }
-    // Each next hop of each IPC process is the first link of a least walk over the links that it knows.
+    // Each next hop of each IPC process is the first link of a least walk over its live links and the links that both ends claim in the items that it holds.
     ensures routed { IfSome result.tower RoutesAll }
-    // Each member's management knows its live links, and those of the others from the start, and the next hops are read from the items that it holds.
+    // Each member's management knows its live links, its own link state claims these, and the next hops are read from the items that it holds.
     ensures managed { IfSome result.tower ItemsAll }
     // A flow of a DIF has failed only where the acknowledgement of a number was too late to come, or with the flow below it.
     ensures caused { IfSome result.tower CausesAll }

@@ -43,7 +43,6 @@ holds_beside who d lines below below' kept kept' mine alone h =
       caused = caused_on (seen_of_dif d) (seen_of_dif d) below below' (none_is (seen_of_dif d) (seen_of_dif d) refl) (lower_later (config_of d.settings) below below' kept' up.later) h.caused;
       written_off = h.written_off;
       housed = h.housed;
-      routed = h.routed;
       managed = h.managed;
       connected = beside_connected (config_of d.settings) d.clock d.connections (seen_of_dif d).processes below below' kept' up alone.clock h.connected;
       flooded = h.flooded;
