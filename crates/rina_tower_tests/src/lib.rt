@@ -4,6 +4,4 @@
 #[cfg(test)]
 mod applications;
 #[cfg(test)]
-mod drawn_again;
-#[cfg(test)]
 mod ranks;
