@@ -1,5 +1,5 @@
 -- What a send and a pass of an application do to the views at all ranks.
-use Rattle.std.proofs.Common.{◌≡◌, ◌∙◌, ◌==◌, ◌+◌, ℕ, Bool, false, cond, List, [], ◌++◌, length, map, slice_get, Option, Some, None, IsSome, option_map, Ok, Err, refl, sym, ap, subst, arith, inl, inr}
+use Rattle.std.proofs.Common.{◌≡◌, ◌∙◌, ◌==◌, ℕ, Bool, false, cond, List, [], ◌++◌, length, map, slice_get, Option, Some, None, IsSome, option_map, Ok, Err, refl, sym, ap, subst, arith, inl, inr}
 use Rattle.std.proofs.lemmas.Bool.Decides.{eqb_tells}
 use Rattle.std.proofs.lemmas.Option.{same_Some, slice_get_within}
 use Rattle.rina_base.specs.declared.number.Num.{Num}

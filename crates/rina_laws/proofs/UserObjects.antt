@@ -11,24 +11,23 @@ use Rattle.rina_base.specs.ObjectNames.{is_object_name}
 use Rattle.rina_cube.specs.declared.Cube.{Cube}
 use Rattle.rina_iface.proofs.Changed.{set_at}
 use Rattle.rina_newest.specs.declared.item.Item.{Item}
-use Rattle.rina_newest.specs.Newest.{has_key, is_newer, kept_at, taken, taken_all, value_at, without}
+use Rattle.rina_newest.specs.Newest.{has_key, is_newer, kept_at, taken, taken_all, without}
 use Rattle.rina_dir.specs.Directory.{key_of}
 use Rattle.rina_rib.specs.declared.caller.Caller.TheVariants.{Own}
 use Rattle.rina_rib.specs.declared.error.RibError.{RibError}
-use Rattle.rina_rib.specs.Laws.{Has, LiesBelow}
+use Rattle.rina_rib.specs.Laws.{LiesBelow}
 use Rattle.rina_rib.specs.Objects.{object_at}
 use Rattle.rina_rib.specs.Rows.{Tree, created, deleted, first_tree, written}
-use Rattle.rina_rib.specs.Things.{Thing}
 use Rattle.rina_rib.proofs.Changes.{created_changes, is_deleted, written_changes}
 use Rattle.rina_rib.proofs.Lookups.{at_other, without_other}
-use Rattle.rina_route.proofs.Lists.{cases, contains_filter, contains_unmap, head, in_none, tail}
+use Rattle.rina_route.proofs.Lists.{contains_filter, contains_unmap, head, in_none, tail}
 use Rattle.rina_plan.specs.declared.dif.LinkPlan.{LinkPlan}
 use Rattle.rina_data.specs.declared.settings.Member.{Member}
 use Rattle.rina_member.specs.declared.management.Management.{Management}
 use Rattle.rina_member.specs.Managements.{entered, with_flow}
 use Rattle.rina_member.specs.Objects.{cube_told, first_objects, flow_name, item_told, or_same, removed, shown_as, told}
 use Rattle.rina_member.specs.Start.{items_held, member_item, start_items, state_item}
-use Rattle.rina_dif.specs.Changing.{changed_at, changed_if, with_flow_at}
+use Rattle.rina_dif.specs.Changing.{changed_if, with_flow_at}
 use Rattle.rina_laws.specs.Starts.{NoneOfUser}
 
 abbrev user : List ℕ

@@ -13,7 +13,7 @@ use Rattle.rina_wire.specs.Air.{Air, Line, wire_at}
 use Rattle.rina_wire.specs.Allocate.{is_allocated}
 use Rattle.rina_wire.specs.Claim.{without}
 use Rattle.rina_wire.specs.Cut.{cut_line}
-use Rattle.rina_wire.specs.Disturb.{copy_place, first_copy, held, lost, moved, moved_at, repeated, with_copy, without_copy}
+use Rattle.rina_wire.specs.Disturb.{copy_place, first_copy, moved, moved_at, with_copy, without_copy}
 use Rattle.rina_wire.specs.Free.{closed_both, freed_at}
 use Rattle.rina_wire.specs.Plan.{line_of}
 use Rattle.rina_wire.specs.Sound.{IsSound, IsSoundLine}
