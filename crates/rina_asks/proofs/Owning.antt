@@ -1,4 +1,5 @@
 -- What is on its way is of its flow, and what follows for partners and for what is bound.
+use Rattle.std.proofs.lemmas.Option.{none-some}
 use Rattle.std.proofs.Common.{◌≡◌, ℕ, ◌⊎◌, Bool, true, false, slice_get, Option, Some, None, refl, sym, ◌∙◌, ap, subst, inl, inr}
 use Rattle.rina_base.specs.declared.number.FlowName.{FlowName}
 use Rattle.rina_law.specs.Line.{InFlight}
@@ -130,13 +131,13 @@ pub bound_fresh : (s : Allocation) (n i : ℕ) (f : Flow) (a : Request) (to from
 bound_fresh s n i f a to from invoke dcep scep far p h may known comes goes =
     let at = may.0 in
     let waiting = waits_is a.asking.waits a.asking.bound f (may.2) (h.request i f a at.0 at.1).asker in
-    told_fresh s.ledger i f far p h.ledger_holds (at.0, waiting.0, waiting.1) known comes goes
+    told_fresh s.ledger i f far p h.ledger_holds (at.0, waiting.0, waiting.1, λ none. none-some far (sym none ∙ known)) known comes goes
 
 pub bound_alone : (s : Allocation) (n i k : ℕ) (f g : Flow) (a : Request) (to from invoke dcep scep : ℕ) (far : Endpoint) (v : IsInUse s.ledger.now g) → AllHolds s → May s (Bind n i f a to from invoke dcep scep) → f.far ≡ Some far → slice_get s.ledger.flows k ≡ Some g → IsSameFour f.asker far g.asker v.far → i ≡ k
 bound_alone s n i k f g a to from invoke dcep scep far v h may known at' same =
     let at = may.0 in
     let waiting = waits_is a.asking.waits a.asking.bound f (may.2) (h.request i f a at.0 at.1).asker in
-    told_alone s.ledger i k f g far v h.ledger_holds (at.0, waiting.0, waiting.1) known at' same
+    told_alone s.ledger i k f g far v h.ledger_holds (at.0, waiting.0, waiting.1, λ none. none-some far (sym none ∙ known)) known at' same
 
 -- What a yes finds
 

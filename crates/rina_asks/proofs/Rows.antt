@@ -271,7 +271,8 @@ bind_asks s n i f a to from invoke dcep scep h may =
     let gone = cut_gone s.messages n m i h.apart (may.1) refl in
     let old = h.request i f a at at' in
     let waiting = waits_is a.asking.waits a.asking.bound f (may.2) old.asker in
-    change_both s.rests s.ledger s.requests (cut n s.messages) i f (told_flow f) a (asker_heard a (heard (answers.Yes dcep scep))) (cut_asks s.rests s.ledger s.requests s.messages n h) (row_holds s.ledger (Tell i f) h.ledger_holds (at, waiting.0, waiting.1)) at at'
+    let made_far : f.far ≡ None → ⊥ = λ none. none-some _ (sym none ∙ sym (ap (λ (z : Flow). z.far) one) ∙ y.3) in
+    change_both s.rests s.ledger s.requests (cut n s.messages) i f (told_flow f) a (asker_heard a (heard (answers.Yes dcep scep))) (cut_asks s.rests s.ledger s.requests s.messages n h) (row_holds s.ledger (Tell i f) h.ledger_holds (at, waiting.0, waiting.1, made_far)) at at'
     (record { rest = refl; asked = refl; peer = refl; asker = (refl, refl); asker_ended = λ t e. e; far = λ k e. (k, e, (refl, refl), λ t e. e) })
     (λ k is e. absurd (gone k is e))
     (record { invoke = refl; ask = refl })

@@ -65,7 +65,7 @@ pub enum ClockStep {
     Ack { cep: Cep },
     /// This number was sent again.
     Again { num: Num },
-    /// A message of management was offered to the connection of this link. No step of a static DIF makes it.
+    /// A message of management was offered to the connection of this link.
     Message { link: u16 },
 }
 

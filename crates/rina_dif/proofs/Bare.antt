@@ -29,6 +29,7 @@ use Rattle.rina_dif_law.proofs.Starting.{start_stands}
 use Rattle.rina_dif_law.proofs.Warranted.{blank_written}
 use Rattle.rina_ids.specs.Members.{AreUndrawn, CepIds}
 use Rattle.rina_pci.specs.Spelling.{AreWidths}
+use Rattle.rina_member.specs.Short.{AreNamed}
 use Rattle.rina_dif.specs.declared.dif.Dif.{Dif}
 use Rattle.rina_dif.specs.Building.{AreBare, IsBare, IsFree}
 use Rattle.rina_dif.specs.Holding.{AreHoused, Holds}
@@ -135,12 +136,12 @@ start_holds d below kept ends conns s untouched members undrawn housed managed c
     }
 
 -- so does a DIF without links
-pub bare_holds : (d : Dif) (below : Seen) → AreKept below → d.flows.journal.ends ≡ [] → d.flows.conns ≡ [] → d.connections.channels ≡ [] → d.connections.flows.journal.ends ≡ [] → d.connections.flows.conns ≡ [] → d.laid.links ≡ [] → AreBare d.settings d.processes → (rules : List Rule) (allow : Bool) → AreStarted d.settings.cubes d.settings.members d.laid.links rules allow (length d.settings.members) d.processes d.managements → CanManage (config_of d.settings) d.connections.manage → AreMembers (config_of d.settings) → (AreWidths d.settings.widths → AreUndrawn d.settings.widths.cep (length d.settings.members) d.ids) → d.clock ≡ below.now → IsFree (config_of d.settings) below → AreFlooding d → Holds d [] below
-bare_holds d below kept ends conns channels link_ends link_conns laid bare rules allow started can members undrawn clock free floods =
+pub bare_holds : (d : Dif) (below : Seen) → AreKept below → d.flows.journal.ends ≡ [] → d.flows.conns ≡ [] → d.connections.channels ≡ [] → d.connections.flows.journal.ends ≡ [] → d.connections.flows.conns ≡ [] → d.laid.links ≡ [] → AreBare d.settings d.processes → (rules : List Rule) (allow : Bool) → AreStarted d.settings.cubes d.settings.members d.laid.links rules allow (length d.settings.members) d.processes d.managements → CanManage (config_of d.settings) d.connections.manage → AreMembers (config_of d.settings) → AreNamed d.settings.members → (AreWidths d.settings.widths → AreUndrawn d.settings.widths.cep (length d.settings.members) d.ids) → d.clock ≡ below.now → IsFree (config_of d.settings) below → AreFlooding d → Holds d [] below
+bare_holds d below kept ends conns channels link_ends link_conns laid bare rules allow started can members named undrawn clock free floods =
     let config : IsConfig (config_of d.settings) = can.managed.config in
     let start = starts d below ends conns config clock bare.aligned (λ i member link is has. absurd (no_link d.settings d.processes i link bare has)) (λ port end here mine. absurd (free port end here mine)) (λ port end here mine. absurd (free port end here (inl mine))) (λ i n item waits. no_item d.settings d.processes i n item bare waits) in
     let untouched : IsUntouched d below = record { unread = λ port e here mine. absurd (free port e here (inl mine)); clean = λ i p is. (bare.each i p is).ledger } in
-    start_holds d below kept ends conns start untouched members (undrawn config.widths) (λ i p is. (let b = bare.each i p is in record { cap = b.room; links = λ place qos link stands live known. absurd (none_in place link p.links b.links stands); queues = λ dst link qos hop known. absurd (no_hop dst link p.routes b.routes hop) })) (bare_managed d.settings d.laid.links rules allow d.clock d.processes d.managements laid bare config members started)
+    start_holds d below kept ends conns start untouched members (undrawn config.widths) (λ i p is. (let b = bare.each i p is in record { cap = b.room; links = λ place qos link stands live known. absurd (none_in place link p.links b.links stands); queues = λ dst link qos hop known. absurd (no_hop dst link p.routes b.routes hop) })) (bare_managed d.settings d.laid.links rules allow d.clock d.processes d.managements laid bare config members named started)
     (none_connected (config_of d.settings) d.clock d.connections (seen_of d).processes below channels link_ends link_conns clock can (λ i n p x. no_link d.settings d.processes i x.link bare (record { process = x.process; is_process = x.is_process; place = x.place; stands = x.stands }))) floods
 
 -- One by one

@@ -42,9 +42,13 @@ use Rattle.rina_dif_law.proofs.Numbering.{beside_after}
 use Rattle.rina_dif_law.proofs.Taking.{still_stands}
 use Rattle.rina_dif_law.proofs.Upper.{acknowledged_silent, forgotten_silent, ins_silent, outs_silent, resent_silent, silent_same}
 use Rattle.rina_dif.specs.declared.dif.Dif.{Dif}
-use Rattle.rina_dif.specs.Clocking.{Serves, Steps, StepsFlow, StepsHere}
+use Rattle.rina_dif.specs.Clocking.{Serves, ServesAny, Steps, StepsFlow, StepsHere}
 use Rattle.rina_dif.specs.Facade.{GoesOn, OthersStand}
-use Rattle.rina_dif.specs.Holding.{Holds, Stands}
+use Rattle.rina_dif.specs.Holding.{Holds, LinksStand, Stands}
+use Rattle.rina_dif.specs.LinkSteps.{DoesLink}
+use Rattle.rina_dif.proofs.FreedBelow.{holds_freed}
+use Rattle.rina_flows.specs.declared.flows.Flows.{Flows}
+use Rattle.rina_iface.specs.Later.{IsLater}
 use Rattle.rina_dif.specs.Shown.{seen_of}
 use Rattle.rina_dif.specs.Taking.{TakesIn}
 use Rattle.rina_dif.specs.Whole.{IsDif}
@@ -227,33 +231,77 @@ flow_silent d lines node (step.LinkNew link) new lines' s = absurd s
 flow_silent d lines node (step.Timeout port) new lines' s = absurd s
 flow_silent d lines node (step.Message link) new lines' s = absurd s
 
-serves_silent : (d : Dif) (lines : List Direction) (below : Seen) (node : ℕ) (done : ClockStep) (d' : Dif) (lines' : List Direction) → Serves d lines below node done d' lines' → IsSilent (seen_of d) (seen_of d')
-serves_silent d lines below node done d' lines' (inl flow) = flow_silent d lines node done (seen_of d') lines' flow.does
-serves_silent d lines below node done d' lines' (inr link) = silent_same (seen_of d) (seen_of d') (ap (λ (z : Dif). (seen_of z).ends) link.0.only) (ap (λ (z : Dif). (seen_of z).config) link.0.only) (ap (λ (z : Dif). (seen_of z).clock) link.0.only)
+serves_silent : (d : Dif) (lines : List Direction) (below : Seen) (node : ℕ) (done : ClockStep) (d' : Dif) (lines' : List Direction) (below' : Seen) → Serves d lines below node done d' lines' below' → IsSilent (seen_of d) (seen_of d')
+serves_silent d lines below node done d' lines' below' (inl flow) = flow_silent d lines node done (seen_of d') lines' flow.does
+serves_silent d lines below node done d' lines' below' (inr link) = silent_same (seen_of d) (seen_of d') (ap (λ (z : Dif). (seen_of z).ends) link.0.only) (ap (λ (z : Dif). (seen_of z).config) link.0.only) (ap (λ (z : Dif). (seen_of z).clock) link.0.only)
 
-pub steps_silent : (d : Dif) (lines : List Direction) (below : Seen) (node : ℕ) (done : ClockStep) (d' : Dif) (lines' : List Direction) → Steps d lines below node done d' lines' → IsSilent (seen_of d) (seen_of d')
-steps_silent d lines below node step.Idle d' lines' s = serves_silent d lines below node step.Idle d' lines' s.1
-steps_silent d lines below node (step.Gone cep) d' lines' s = serves_silent d lines below node (step.Gone cep) d' lines' s.1
-steps_silent d lines below node (step.GaveUp num) d' lines' s = serves_silent d lines below node (step.GaveUp num) d' lines' s.1
-steps_silent d lines below node (step.Ack cep) d' lines' s = serves_silent d lines below node (step.Ack cep) d' lines' s.1
-steps_silent d lines below node (step.Again num) d' lines' s = serves_silent d lines below node (step.Again num) d' lines' s.1
-steps_silent d lines below node (step.LinkLost link) d' lines' s = loses_silent d lines below s.0.i node link d' s.0.loses
-steps_silent d lines below node (step.LinkNew link) d' lines' s = serves_silent d lines below node (step.LinkNew link) d' lines' s.1
-steps_silent d lines below node (step.Timeout port) d' lines' s = serves_silent d lines below node (step.Timeout port) d' lines' s.1
-steps_silent d lines below node (step.Message link) d' lines' s = serves_silent d lines below node (step.Message link) d' lines' s.1
+any_silent : (d : Dif) (lines : List Direction) (below : Seen) (node : ℕ) (done : ClockStep) (d' : Dif) (lines' : List Direction) (below' : Seen) → ServesAny d lines below node done d' lines' below' → IsSilent (seen_of d) (seen_of d')
+any_silent d lines below node done d' lines' below' (inl served) = serves_silent d lines below node done d' lines' below' served.0
+any_silent d lines below node done d' lines' below' (inr message) =
+    let only = message.0.sends.only in
+    silent_same (seen_of d) (seen_of d') (ap (λ (z : Dif). (seen_of z).ends) only) (ap (λ (z : Dif). (seen_of z).config) only) (ap (λ (z : Dif). (seen_of z).clock) only)
 
-clock_on : (d : Dif) (below : Seen) (d' : Dif) (lines' : List Direction) → Stands d below → IsSilent (seen_of d) (seen_of d') → Holds d' lines' below → IsStep d below d' below
-clock_on d below d' lines' st silent h = record {
-  goes_on = record { later = silent.later; facility = facility (seen_of d') lines' below h.standing; clock = h.standing.clock ∙ sym st.1.standing.clock };
+pub steps_silent : (d : Dif) (lines : List Direction) (below : Seen) (node : ℕ) (done : ClockStep) (d' : Dif) (lines' : List Direction) (below' : Seen) → Steps d lines below node done d' lines' below' → IsSilent (seen_of d) (seen_of d')
+steps_silent d lines below node step.Idle d' lines' below' s = any_silent d lines below node step.Idle d' lines' below' s.1
+steps_silent d lines below node (step.Gone cep) d' lines' below' s = any_silent d lines below node (step.Gone cep) d' lines' below' s.1
+steps_silent d lines below node (step.GaveUp num) d' lines' below' s = any_silent d lines below node (step.GaveUp num) d' lines' below' s.1
+steps_silent d lines below node (step.Ack cep) d' lines' below' s = any_silent d lines below node (step.Ack cep) d' lines' below' s.1
+steps_silent d lines below node (step.Again num) d' lines' below' s = any_silent d lines below node (step.Again num) d' lines' below' s.1
+steps_silent d lines below node (step.LinkLost link) d' lines' below' s = loses_silent d lines below s.0.i node link d' s.0.loses
+steps_silent d lines below node (step.LinkNew link) d' lines' below' s = any_silent d lines below node (step.LinkNew link) d' lines' below' s.1
+steps_silent d lines below node (step.Timeout port) d' lines' below' s = any_silent d lines below node (step.Timeout port) d' lines' below' s.1
+steps_silent d lines below node (step.Message link) d' lines' below' s = any_silent d lines below node (step.Message link) d' lines' below' s.1
+
+-- the rank below after a clock step: the clock stands, and each DIF over it stands on
+pub record IsOver (below below' : Seen) : Type 0 where
+  pub clock : below'.now ≡ below.now
+  pub stands : (other : Dif) (lines : List Direction) → Holds other lines below → Holds other lines below'
+
+over_same : (below below' : Seen) → below' ≡ below → IsOver below below'
+over_same below below' same = record { clock = ap (λ (z : Seen). z.now) same; stands = λ other lines h. subst (Holds other lines) (sym same) h }
+
+link_over : (d : Dif) (links : List Direction) (below : Seen) (i place : ℕ) (done : ClockStep) (new : DifSeen) (flows' : Flows) (below' : Seen) → AreKept below → AreKept below' → IsLater below below' → DoesLink d links below i place done new flows' below' → IsOver below below'
+link_over d links below i place (step.Gone cep) new flows' below' kept kept' later s = over_same below below' s.2
+link_over d links below i place (step.GaveUp num) new flows' below' kept kept' later s = record { clock = ap (λ (z : Seen). z.now) s.freed.new_is; stands = λ other lines h. holds_freed other lines s.both below below' s.channel.port kept kept' later s.freed h }
+link_over d links below i place (step.Ack cep) new flows' below' kept kept' later s = over_same below below' s.2
+link_over d links below i place (step.Again num) new flows' below' kept kept' later s = over_same below below' s.1
+link_over d links below i place step.Idle new flows' below' kept kept' later s = absurd s
+link_over d links below i place (step.LinkLost link) new flows' below' kept kept' later s = absurd s
+link_over d links below i place (step.LinkNew link) new flows' below' kept kept' later s = absurd s
+link_over d links below i place (step.Timeout port) new flows' below' kept kept' later s = absurd s
+link_over d links below i place (step.Message link) new flows' below' kept kept' later s = absurd s
+
+serves_over : (d : Dif) (lines : List Direction) (below : Seen) (node : ℕ) (done : ClockStep) (d' : Dif) (lines' : List Direction) (below' : Seen) → LinksStand d below → AreKept below → AreKept below' → IsLater below below' → Serves d lines below node done d' lines' below' → IsOver below below'
+serves_over d lines below node done d' lines' below' links kept kept' later (inl flow) = over_same below below' flow.same_below
+serves_over d lines below node done d' lines' below' links kept kept' later (inr link) = (let x = link.0.does links in link_over d links.lines below link.0.i x.place done (seen_of d') d'.connections.flows below' kept kept' later x.does)
+
+any_over : (d : Dif) (lines : List Direction) (below : Seen) (node : ℕ) (done : ClockStep) (d' : Dif) (lines' : List Direction) (below' : Seen) → LinksStand d below → AreKept below → AreKept below' → IsLater below below' → ServesAny d lines below node done d' lines' below' → IsOver below below'
+any_over d lines below node done d' lines' below' links kept kept' later (inl served) = serves_over d lines below node done d' lines' below' links kept kept' later served.0
+any_over d lines below node done d' lines' below' links kept kept' later (inr message) = over_same below below' message.2
+
+pub steps_over : (d : Dif) (lines : List Direction) (below : Seen) (node : ℕ) (done : ClockStep) (d' : Dif) (lines' : List Direction) (below' : Seen) → LinksStand d below → AreKept below → AreKept below' → IsLater below below' → Steps d lines below node done d' lines' below' → IsOver below below'
+steps_over d lines below node step.Idle d' lines' below' links kept kept' later s = any_over d lines below node step.Idle d' lines' below' links kept kept' later s.1
+steps_over d lines below node (step.Gone cep) d' lines' below' links kept kept' later s = any_over d lines below node (step.Gone cep) d' lines' below' links kept kept' later s.1
+steps_over d lines below node (step.GaveUp num) d' lines' below' links kept kept' later s = any_over d lines below node (step.GaveUp num) d' lines' below' links kept kept' later s.1
+steps_over d lines below node (step.Ack cep) d' lines' below' links kept kept' later s = any_over d lines below node (step.Ack cep) d' lines' below' links kept kept' later s.1
+steps_over d lines below node (step.Again num) d' lines' below' links kept kept' later s = any_over d lines below node (step.Again num) d' lines' below' links kept kept' later s.1
+steps_over d lines below node (step.LinkLost link) d' lines' below' links kept kept' later s = over_same below below' s.2
+steps_over d lines below node (step.LinkNew link) d' lines' below' links kept kept' later s = any_over d lines below node (step.LinkNew link) d' lines' below' links kept kept' later s.1
+steps_over d lines below node (step.Timeout port) d' lines' below' links kept kept' later s = any_over d lines below node (step.Timeout port) d' lines' below' links kept kept' later s.1
+steps_over d lines below node (step.Message link) d' lines' below' links kept kept' later s = any_over d lines below node (step.Message link) d' lines' below' links kept kept' later s.1
+
+clock_on : (d : Dif) (below : Seen) (d' : Dif) (lines' : List Direction) (below' : Seen) → Stands d below → IsSilent (seen_of d) (seen_of d') → Holds d' lines' below' → IsOver below below' → IsStep d below d' below'
+clock_on d below d' lines' below' st silent h over = record {
+  goes_on = record { later = silent.later; facility = facility (seen_of d') lines' below' h.standing; clock = h.standing.clock ∙ over.clock ∙ sym st.1.standing.clock };
   silent = silent;
-  others = λ other lines apart x. x;
+  others = λ other lines apart x. over.stands other lines x;
 }
 
-pub clock_is_step : (d : Dif) (below : Seen) (node : ℕ) (r : Result ClockStep StepError) (d' : Dif) → (st : Stands d below) → StepsHere d st.0 below node r d' → IsStep d below d' below
-clock_is_step d below node (Ok done) d' st s = clock_on d below d' s.lines' st (steps_silent d st.0 below node done d' s.lines' s.does) s.holds
-clock_is_step d below node (Err Memory) d' st s = clock_on d below d' st.0 st (subst (IsSilent (seen_of d)) (sym s.0) (silent_refl (seen_of d))) s.1
-clock_is_step d below node (Err NoIpc) d' st s = absurd s
-clock_is_step d below node (Err NoLink) d' st s = absurd s
+pub clock_is_step : (d : Dif) (below : Seen) (node : ℕ) (r : Result ClockStep StepError) (d' : Dif) (below' : Seen) → AreKept below → AreKept below' → IsLater below below' → (st : Stands d below) → StepsHere d st.0 below node r d' below' → IsStep d below d' below'
+clock_is_step d below node (Ok done) d' below' kept kept' later st s = clock_on d below d' s.0.lines' below' st (steps_silent d st.0 below node done d' s.0.lines' below' s.0.does) s.0.holds (steps_over d st.0 below node done d' s.0.lines' below' st.1.connected kept kept' later s.0.does)
+clock_is_step d below node (Err Memory) d' below' kept kept' later st s = clock_on d below d' st.0 below' st (subst (IsSilent (seen_of d)) (sym s.0.0) (silent_refl (seen_of d))) s.0.1 (over_same below below' s.1)
+clock_is_step d below node (Err NoIpc) d' below' kept kept' later st s = absurd s.0
+clock_is_step d below node (Err NoLink) d' below' kept kept' later st s = absurd s.0
 
 -- a DIF that stands is one at every moment
 pub stands_whole : (d : Dif) (below : Seen) → below.now ≤ 10000000 → Stands d below → IsDif d

@@ -179,7 +179,7 @@ one_closed d lines below i p port place flows ledger room h is is_open fits clos
     let leaves = noting_leaves_links (seen_of d).processes i ps' notes in
     let ended = ended_stands m had.lines (seen_of d).processes ps' below place Closed s.offs flows.journal.ends had.standing s.stops leaves in
     let standing = subst (λ (z : ChannelsSeen). IsStanding z had.lines ps' below) (sym (calls_change_ends g c.manage d.clock c.channels c.flows flows s.ids)) ended in
-    let connected : AreConnected g d.clock c' ps' below = record { may = had.may; lines = had.lines; tied = s.tied; standing = standing; each = λ j n q live. had.each j n q (leaves.live j n q live) } in
+    let connected : AreConnected g d.clock c' ps' below = record { may = had.may; lines = had.lines; tied = s.tied; standing = standing; paired = had.paired; each = λ j n q live. had.each j n q (leaves.live j n q live) } in
     let said : SameTexts c.flows.journal.ends flows.journal.ends = subst (SameTexts c.flows.journal.ends) (sym s.stops.ends_are) (set_said c.flows.journal.ends place s.stops.end (record s.stops.end { state = Closed }) s.stops.is_conn.end refl refl) in
     record {
       offs = offs;

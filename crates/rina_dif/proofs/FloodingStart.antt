@@ -26,6 +26,7 @@ use Rattle.rina_member.specs.Start.{started}
 use Rattle.rina_plan.specs.declared.dif.DifPlan.{DifPlan}
 use Rattle.rina_plan.specs.declared.dif.LinkPlan.{LinkPlan}
 use Rattle.rina_stack.specs.declared.plan.Plan.{Plan}
+use Rattle.rina_member.specs.Short.{AreNamed}
 use Rattle.rina_dif.specs.declared.dif.Dif.{Dif}
 use Rattle.rina_dif.specs.Building.{AreBare}
 use Rattle.rina_dif.specs.Connected.{AreConnected}
@@ -144,9 +145,9 @@ plan_floods start plan dif d old new ports linked manage out laid up so same hav
 none_in : {X : Type 0} (xs : List X) (i : ℕ) (x : X) → xs ≡ [] → slice_get xs i ≡ Some x → ⊥
 none_in xs i x e h = cc
 
-pub bare_floods : StartIsRun → (d : Dif) → d.connections.channels ≡ [] → d.connections.flows.journal.ends ≡ [] → d.laid.links ≡ [] → AreBare d.settings d.processes → (rules : List Rule) (allow : Bool) → AreStarted d.settings.cubes d.settings.members d.laid.links rules allow (length d.settings.members) d.processes d.managements → IsConfig (config_of d.settings) → AreMembers (config_of d.settings) → AreFlooding d
-bare_floods start d channels ends none bare rules allow so config members =
-    let managed = bare_managed d.settings d.laid.links rules allow d.clock d.processes d.managements none bare config members so in
+pub bare_floods : StartIsRun → (d : Dif) → d.connections.channels ≡ [] → d.connections.flows.journal.ends ≡ [] → d.laid.links ≡ [] → AreBare d.settings d.processes → (rules : List Rule) (allow : Bool) → AreStarted d.settings.cubes d.settings.members d.laid.links rules allow (length d.settings.members) d.processes d.managements → IsConfig (config_of d.settings) → AreMembers (config_of d.settings) → AreNamed d.settings.members → AreFlooding d
+bare_floods start d channels ends none bare rules allow so config members named =
+    let managed = bare_managed d.settings d.laid.links rules allow d.clock d.processes d.managements none bare config members named so in
     start d.laid.links (members_seen d) (record {
       laid_out = managed.laid_out;
       first = record {

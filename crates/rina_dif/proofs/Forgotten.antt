@@ -110,6 +110,7 @@ module _ (d : Dif) (below : Seen) (i place number : ℕ) (flows : Flows) (p : Ip
     tied = gone.tied;
     standing = subst (λ (z : ChannelsSeen). IsStanding z gone.lines' ps' below) (sym (same_channels (config_of d.settings) d.connections.manage d.clock d.connections.channels d.connections.flows flows gone.ids gone.same))
         (forgotten_stands m links.lines (seen_of d).processes ps' below place gone.offs gone.lines' links.standing gone.forgets (noting_leaves_links (seen_of d).processes i ps' gone_notes));
+    paired = links.paired;
     each = λ j n q live. links.each j n q ((noting_leaves_links (seen_of d).processes i ps' gone_notes).live j n q live);
   }
 

@@ -1,6 +1,7 @@
 -- One link after the other gets its management connection.
-use Rattle.std.proofs.Common.{◌≡◌, ◌≢◌, ◌∙◌, ℕ, zero, suc, ◌<◌, ◌≤◌, ◌^◌, ◌==◌, Bool, true, false, cond, eqb, List, [], ◌∷◌, ◌++◌, length, map, slice_get, take, option_map, Some, None, refl, sym, ap, subst, arith, inl, inr}
+use Rattle.std.proofs.Common.{◌≡◌, ◌≢◌, ◌∙◌, ◌⊎◌, ℕ, zero, suc, ◌*◌, ◌<◌, ◌≤◌, ◌^◌, ◌==◌, Bool, true, false, cond, eqb, List, [], ◌∷◌, ◌++◌, length, map, slice_get, take, option_map, Some, None, refl, sym, ap, subst, arith, inl, inr}
 use Rattle.std.proofs.lemmas.Bool.Decides.{eqb_tells}
+use Rattle.std.proofs.lemmas.List.{length-map}
 use Rattle.std.proofs.lemmas.Option.{slice_get-map, slice_get_within}
 use Rattle.rina_base.specs.declared.number.FlowName.{FlowName}
 use Rattle.rina_base.specs.declared.number.Port.{Port}
@@ -25,11 +26,13 @@ use Rattle.rina_dif_law.specs.Dif.{constants}
 use Rattle.rina_dif_law.specs.Ids.{Ids}
 use Rattle.rina_dif_law.specs.Lifting.{ticked}
 use Rattle.rina_dif_law.proofs.Pairs.{two_at, two_long}
+use Rattle.rina_flood.specs.Network.{Side, Near, Far as FarSide, other}
+use Rattle.rina_flood.specs.Static.{end_place}
 use Rattle.rina_flows.specs.Adding.{IsNewFlow as IsNewPair, begun_now, turned}
 use Rattle.rina_flows.specs.Calls.{AreTied}
 use Rattle.rina_flows.specs.Tied.{conns_of, ids_by}
 use Rattle.rina_dif.specs.declared.connections.Connections.{Connections}
-use Rattle.rina_dif.specs.Connected.{CanManage, channels_seen}
+use Rattle.rina_dif.specs.Connected.{ArePaired, CanManage, channels_seen}
 use Rattle.rina_dif.specs.Laying.{AreLaid, BindsAll, IsLaidIn, ends_of}
 use Rattle.rina_dif.specs.declared.dif.Dif.{Dif}
 use Rattle.rina_iface.specs.declared.ask.Fixed.{Fixed}
@@ -67,6 +70,10 @@ ends_split : (ports : List (Port × Port)) (i : ℕ) (pair : Port × Port) → s
 ends_split [] i pair h = absurd cc
 ends_split (p ∷ ps) zero pair h = (let same : p ≡ pair = cc in (ends_of ps, ap (λ (z : Port × Port). z.0 ∷ z.1 ∷ ends_of ps) same))
 ends_split (p ∷ ps) (suc i) pair h = (let r = ends_split ps i pair h in (r.0, ap (λ (zs : List Port). p.0 ∷ p.1 ∷ zs) r.1))
+
+ends_long : (ports : List (Port × Port)) → length (ends_of ports) ≡ 2 * length ports
+ends_long [] = refl
+ends_long (p ∷ ps) = (let rest = ends_long ps in omega (arith, rest))
 
 front_at : {X : Type 0} (xs : List X) (y z : X) (rest : List X) → slice_get (xs ++ y ∷ z ∷ rest) (length xs) ≡ Some y
 front_at [] y z rest = refl
@@ -231,6 +238,20 @@ module _ (s : Settings) (manage : Cube) (clock : ℕ) (ports : List (Port × Por
     abbrev begins : Ids → Direction
     begins ids = ticked clock (start (constants (link_config g c.manage) c.manage ids))
 
+    -- the ends of the next link are a pair
+    even : length c.channels ≡ 2 * length (take i ports)
+    even = sym (length-map c.channels (λ (y : Channel). y.port)) ∙ ap (λ (zs : List Port). length zs) made.have.ports_are ∙ ends_long (take i ports)
+
+    at_pair : (l : ℕ) (side : Side) (z : Channel) → (slice_get c.channels (end_place l side) ≡ Some z) ⊎ (((end_place l side ≡ length c.channels) × (z ≡ x.near)) ⊎ ((end_place l side ≡ suc (length c.channels)) × (z ≡ x.far))) → z.partner ≡ end_place l (other side)
+    at_pair l side z (inl old) = (made.stand below links).paired l side z old
+    at_pair l Near z (inr (inl t)) = (let long = even in let at = t.0 in let place = x.place_is in let own = ap (λ (y : Channel). y.partner) t.1 ∙ x.is_near.partner_is in omega (arith, long, at, place, own))
+    at_pair l FarSide z (inr (inl t)) = absurd (let long = even in let at = t.0 in omega (arith, long, at))
+    at_pair l Near z (inr (inr t)) = absurd (let long = even in let at = t.0 in omega (arith, long, at))
+    at_pair l FarSide z (inr (inr t)) = (let long = even in let at = t.0 in let place = x.place_is in let own = ap (λ (y : Channel). y.partner) t.1 ∙ x.is_far.partner_is in omega (arith, long, at, place, own))
+
+    next_paired : ArePaired c'.channels
+    next_paired l side z h = at_pair l side z (two_at c.channels x.near x.far (end_place l side) z (ap (λ (zs : List Channel). slice_get zs (end_place l side)) (sym x.channels_are) ∙ h))
+
     next_stand : StandSoFar g clock c' (map process_of ps) below
     next_stand =
         let was = made.stand below links in
@@ -259,6 +280,7 @@ module _ (s : Settings) (manage : Cube) (clock : ℕ) (ports : List (Port × Por
         record {
           may = subst (CanManage g) (sym x.manage_is) may;
           lines = lines';
+          paired = next_paired;
           tied = subst (λ (z : Cube). AreTied (link_config g z) clock c'.flows lines') (sym x.manage_is) has.tied;
           standing = made_stands m was.lines (map process_of ps) below x.near x.far x.asker x.end (channels_seen g clock c') lines' was.standing new_flow are;
         }
@@ -286,6 +308,7 @@ all_stand s manage clock ports ps n c le made below links =
       lines = was.lines;
       tied = was.tied;
       standing = was.standing;
+      paired = was.paired;
       each = λ i k port live.
           let p = map_at process_of ps i live.process live.is_process in
           let within = slice_get_within ps i p.0 p.1 in

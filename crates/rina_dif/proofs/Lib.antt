@@ -1,3 +1,4 @@
+mod Absent
 pub mod Among
 pub mod Asked
 pub mod Bare
@@ -18,11 +19,14 @@ pub mod Elsewhere
 pub mod Entered
 pub mod Facing
 pub mod Failing
+pub mod FlowIds
 pub mod Flooding
 pub mod FloodingStart
 pub mod Forgotten
 pub mod Freed
+pub mod FreedBelow
 pub mod GivenBack
+pub mod GivenUp
 pub mod Joining
 pub mod Keeping
 pub mod Kept
@@ -36,6 +40,7 @@ pub mod LinkFlows
 pub mod Linked
 pub mod Made
 pub mod Managed
+pub mod MessageSteps
 pub mod Moves
 pub mod Named
 pub mod Neighbours
@@ -51,6 +56,7 @@ pub mod Putting
 pub mod Refused
 pub mod Resent
 pub mod Rested
+pub mod Room
 pub mod Routed
 pub mod Sent
 pub mod Served
@@ -68,3 +74,8 @@ pub mod Ways
 pub mod Wiring
 pub mod Written
 pub mod Warrants
+pub mod Handling
+pub mod Hearing
+pub mod Partners
+pub mod Passing
+pub mod Rerouted

@@ -245,8 +245,8 @@ among_all item d i n places (Some turn) none all f below links =
 
 -- The first item of the links
 
-pub no_link : (d : Dif) (links : List Direction) (i : ℕ) → NoLinkDue Gone d links i → NoLinkDue Ack d links i → NoLinkDue Again d links i → NoLinkUpTo Again d links i
-no_link d links i gone ack again = (gone, ack, again)
+pub no_link : (d : Dif) (links : List Direction) (i : ℕ) → NoLinkDue Gone d links i → NoLinkDue GiveUp d links i → NoLinkDue Ack d links i → NoLinkDue Again d links i → NoLinkUpTo Again d links i
+no_link d links i gone give_up ack again = ((gone, give_up, ack), again)
 
 -- Links before flows
 
@@ -289,26 +289,26 @@ idle_before Again d lines node idle = (idle.gone, idle.give_up, idle.ack)
 
 links_up_to : (a b : Item) (d : Dif) (links : List Direction) (i : ℕ) → NoLinkBefore b d links i → rank_of a < rank_of b → NoLinkUpTo a d links i
 links_up_to Gone Gone d links i none lt = absurd (omega (arith, lt))
-links_up_to Gone GiveUp d links i none lt = absurd none
-links_up_to Gone Ack d links i none lt = none
-links_up_to Gone Again d links i none lt = none.0
+links_up_to Gone GiveUp d links i none lt = (tt, none)
+links_up_to Gone Ack d links i none lt = (tt, none.0)
+links_up_to Gone Again d links i none lt = (tt, none.0)
 links_up_to GiveUp Gone d links i none lt = absurd (omega (arith, lt))
 links_up_to GiveUp GiveUp d links i none lt = absurd (omega (arith, lt))
-links_up_to GiveUp Ack d links i none lt = none
-links_up_to GiveUp Again d links i none lt = none.0
+links_up_to GiveUp Ack d links i none lt = (none.0, none.1)
+links_up_to GiveUp Again d links i none lt = (none.0, none.1)
 links_up_to Ack Gone d links i none lt = absurd (omega (arith, lt))
 links_up_to Ack GiveUp d links i none lt = absurd (omega (arith, lt))
 links_up_to Ack Ack d links i none lt = absurd (omega (arith, lt))
-links_up_to Ack Again d links i none lt = none
+links_up_to Ack Again d links i none lt = ((none.0, none.1), none.2)
 links_up_to Again Gone d links i none lt = absurd (omega (arith, lt))
 links_up_to Again GiveUp d links i none lt = absurd (omega (arith, lt))
 links_up_to Again Ack d links i none lt = absurd (omega (arith, lt))
 links_up_to Again Again d links i none lt = absurd (omega (arith, lt))
 
 pub all_up_to : (a : Item) (d : Dif) (links : List Direction) (i : ℕ) → NoLinkUpTo Again d links i → NoLinkUpTo a d links i
-all_up_to Gone d links i none = none.0
-all_up_to GiveUp d links i none = none.0
-all_up_to Ack d links i none = (none.0, none.1)
+all_up_to Gone d links i none = (tt, none.0.0)
+all_up_to GiveUp d links i none = (none.0.0, none.0.1)
+all_up_to Ack d links i none = ((none.0.0, none.0.1), none.0.2)
 all_up_to Again d links i none = none
 
 -- no link is due

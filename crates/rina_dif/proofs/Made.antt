@@ -31,6 +31,7 @@ use Rattle.rina_dif_law.specs.Numbered.{AreMembers}
 use Rattle.rina_data.proofs.Finding.{there}
 use Rattle.rina_data.proofs.Plain.{same_place}
 use Rattle.rina_ids.specs.Members.{AreUndrawn}
+use Rattle.rina_member.specs.Short.{AreNamed}
 use Rattle.rina_pci.specs.Spelling.{AreWidths}
 use Rattle.rina_dif.specs.declared.dif.Dif.{Dif}
 use Rattle.rina_dif.specs.Building.{IsFree, queue_ids}
@@ -119,8 +120,8 @@ has_place s node ports p place qos link up is known = subst (λ (o : Option ℕ)
 
 -- It stands
 
-pub made_stands : (plan : Plan) (i : ℕ) (dif : DifPlan) (d : Dif) (old new : Seen) → AreKept new → IsPlan plan → slice_get plan.difs i ≡ Some dif → d.settings ≡ settings_by plan i dif → d.clock ≡ old.now → d.flows.journal.ends ≡ [] → d.flows.conns ≡ [] → (AreWidths d.settings.widths → AreUndrawn d.settings.widths.cep (length d.settings.members) d.ids) → IsFree (config_of d.settings) old → IsLaidIn (config_of d.settings) old new → (ports : List (Port × Port)) (bare : List IpcProcess) → AreLaid plan dif d.settings dif.links old new ports bare → AreStarted d.settings.cubes d.settings.members dif.links dif.rules dif.allow (length d.settings.members) bare d.managements → AreRouted d.settings.members d.managements (length d.managements) bare d.processes → d.laid.links ≡ dif.links → AreConnected (config_of d.settings) d.clock d.connections (seen_of d).processes new → AreFlooding d → Stands d new
-made_stands plan i dif d old new kept sound at are clock ends conns undrawn free inside ports bare was started routed same connected floods =
+pub made_stands : (plan : Plan) (i : ℕ) (dif : DifPlan) (d : Dif) (old new : Seen) → AreKept new → IsPlan plan → slice_get plan.difs i ≡ Some dif → d.settings ≡ settings_by plan i dif → d.clock ≡ old.now → d.flows.journal.ends ≡ [] → d.flows.conns ≡ [] → (AreWidths d.settings.widths → AreUndrawn d.settings.widths.cep (length d.settings.members) d.ids) → IsFree (config_of d.settings) old → IsLaidIn (config_of d.settings) old new → (ports : List (Port × Port)) (bare : List IpcProcess) → AreNamed d.settings.members → AreLaid plan dif d.settings dif.links old new ports bare → AreStarted d.settings.cubes d.settings.members dif.links dif.rules dif.allow (length d.settings.members) bare d.managements → AreRouted d.settings.members d.managements (length d.managements) bare d.processes → d.laid.links ≡ dif.links → AreConnected (config_of d.settings) d.clock d.connections (seen_of d).processes new → AreFlooding d → Stands d new
+made_stands plan i dif d old new kept sound at are clock ends conns undrawn free inside ports bare named was started routed same connected floods =
     let laid = laid_still plan dif d.settings dif.links old new ports d.managements (length d.managements) bare d.processes was routed in
     let g = config_of d.settings in
     let config : IsConfig g = subst (λ (s : Settings). IsConfig (config_of s)) (sym are) (is_config plan i dif sound at) in
@@ -139,7 +140,7 @@ made_stands plan i dif d old new kept sound at are clock ends conns undrawn free
           (laid.up.each k m.0 p m.1 is).ledger;
     } in
     let members = subst (λ (s : Settings). AreMembers (config_of s)) (sym are) (are_members plan i dif sound at) in
-    let managed : AreManagedBy d.settings.members dif.links d.clock d.processes d.managements = made_managed plan i dif d old new ports bare sound at are config members was started routed in
+    let managed : AreManagedBy d.settings.members dif.links d.clock d.processes d.managements = made_managed plan i dif d old new ports bare sound at are config members named was started routed in
     let routes = routed_at d.settings.members dif.links d.clock d.processes d.managements in (
       [],
       start_holds d new kept ends conns start untouched members (undrawn config.widths) (λ k p is.
@@ -177,12 +178,12 @@ new_process s node ports p up = record {
 one_plan : (x y : DifPlan) → Some x ≡ Some y → x ≡ y
 one_plan x y same = cc
 
-pub made_new : (plan : Plan) (i : ℕ) (dif : DifPlan) (d : Dif) (old new : Seen) → IsPlan plan → slice_get plan.difs i ≡ Some dif → d.settings ≡ settings_by plan i dif → d.clock ≡ old.now → d.failed ≡ false → d.flows.journal.ends ≡ [] → d.flows.conns ≡ [] → d.waiting.items ≡ [] → d.names ≡ [] → (ports : List (Port × Port)) (bare : List IpcProcess) → AreLaid plan dif d.settings dif.links old new ports bare → AreStarted d.settings.cubes d.settings.members dif.links dif.rules dif.allow (length d.settings.members) bare d.managements → AreRouted d.settings.members d.managements (length d.managements) bare d.processes → IsNew plan i d old new
-made_new plan i dif d old new sound at are clock alive ends conns waiting names ports bare was started routed =
+pub made_new : (plan : Plan) (i : ℕ) (dif : DifPlan) (d : Dif) (old new : Seen) → IsPlan plan → slice_get plan.difs i ≡ Some dif → d.settings ≡ settings_by plan i dif → d.clock ≡ old.now → d.failed ≡ false → d.flows.journal.ends ≡ [] → d.flows.conns ≡ [] → d.waiting.items ≡ [] → d.names ≡ [] → (ports : List (Port × Port)) (bare : List IpcProcess) → AreNamed d.settings.members → AreLaid plan dif d.settings dif.links old new ports bare → AreStarted d.settings.cubes d.settings.members dif.links dif.rules dif.allow (length d.settings.members) bare d.managements → AreRouted d.settings.members d.managements (length d.managements) bare d.processes → IsNew plan i d old new
+made_new plan i dif d old new sound at are clock alive ends conns waiting names ports bare named was started routed =
     let laid = laid_still plan dif d.settings dif.links old new ports d.managements (length d.managements) bare d.processes was routed in
     let config : IsConfig (config_of d.settings) = subst (λ (s : Settings). IsConfig (config_of s)) (sym are) (is_config plan i dif sound at) in
     let members : AreMembers (config_of d.settings) = subst (λ (s : Settings). AreMembers (config_of s)) (sym are) (are_members plan i dif sound at) in
-    let managed : AreManagedBy d.settings.members dif.links d.clock d.processes d.managements = made_managed plan i dif d old new ports bare sound at are config members was started routed in
+    let managed : AreManagedBy d.settings.members dif.links d.clock d.processes d.managements = made_managed plan i dif d old new ports bare sound at are config members named was started routed in
     let so = started_still d.settings.cubes d.settings.members dif.links dif.rules dif.allow bare d.processes d.managements started routed in
     record {
       settings = its_settings plan i dif d.settings at are;

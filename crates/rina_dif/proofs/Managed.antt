@@ -22,6 +22,8 @@ use Rattle.rina_dif.specs.declared.dif.Dif.{Dif}
 use Rattle.rina_dif.specs.Changing.{changed_at, changed_if}
 use Rattle.rina_dif.specs.Managing.{AreManagedBy, IsManaged, agents_of}
 use Rattle.rina_dif.specs.Routing.{HaveRoutes}
+use Rattle.rina_dif.specs.Telling.{TellsNeighbours}
+use Rattle.rina_dif.proofs.Neighbours.{loses_near}
 
 -- the management of a member
 pub its_agent : (members : List Member) (managements : List Management) (k : ℕ) (m : Member) → length managements ≡ length members → slice_get members k ≡ Some m → (g : Management) × (slice_get managements k ≡ Some g)
@@ -46,7 +48,7 @@ pub managed_later : (members : List Member) (plans : List LinkPlan) (now now' : 
 managed_later members plans now now' ps managements le h = record {
   laid_out = h.laid_out;
   aligned = h.aligned;
-  each = λ k m p g is here at. (let one = h.each k m p g is here at in record { knows = knows_later members plans now now' m p.links g.agent le one.knows; routes = one.routes });
+  each = λ k m p g is here at. (let one = h.each k m p g is here at in record { knows = knows_later members plans now now' m p.links g.agent le one.knows; routes = one.routes; tells = one.tells });
 }
 
 -- One IPC process changes
@@ -55,6 +57,7 @@ moved : (members : List Member) (plans : List LinkPlan) (now : ℕ) (m : Member)
 moved members plans now m p p' g links routes h = record {
   knows = subst (λ (ls : List Link). Knows members plans now m ls g.agent) (sym links) h.knows;
   routes = subst (λ (rs : List Route). AreRoutesOf g.agent members rs) (sym routes) h.routes;
+  tells = h.tells;
 }
 
 -- its links and next hops are those that were there
@@ -86,6 +89,7 @@ managed_shown members plans now ps old new same h = record {
       record {
         knows = subst (λ (a : Agent). Knows members plans now m p.links a) agent one.knows;
         routes = subst (λ (a : Agent). AreRoutesOf a members p.routes) agent one.routes;
+        tells = subst (λ (a : Agent). TellsNeighbours a) agent one.tells;
       };
 }
 
@@ -140,6 +144,7 @@ managed_lost members plans now ps managements at m p p' g g' place link routes h
     let after : IsManaged members plans now m p' g' = record {
       knows = subst (λ (ls : List Link). Knows members plans now m ls g'.agent) (sym links_are) knows;
       routes = subst (λ (rs : List Route). AreRoutesOf g'.agent members rs) (sym routes_are) loss.routes;
+      tells = loses_near now link.number g.agent g'.agent loss.loses (h.each at m p g is_m is_p is_g).tells;
     } in
     record {
       laid_out = h.laid_out;

@@ -24,7 +24,7 @@ use Rattle.rina_plan.specs.declared.dif.LinkPlan.{LinkPlan}
 use Rattle.rina_member.specs.declared.management.Management.{Management}
 use Rattle.rina_member.specs.Handling.{AreUnenrolled, item_in}
 use Rattle.rina_member.specs.Knowing.{IsLaidOut}
-use Rattle.rina_member.specs.Managements.{Handles, LosesLink, entered, with_sent}
+use Rattle.rina_member.specs.Managements.{Handles, LosesLink, entry_of, takes_item, with_sent}
 use Rattle.rina_member.specs.Short.{AreNamed, HaveFewLinks, IsShort}
 use Rattle.rina_member.specs.Start.{started}
 use Rattle.rina_member.proofs.Tells.{enters_short, lost_short, sent_short}
@@ -54,9 +54,8 @@ starts_near members plans rules m links laid named few among fits = record {
   near = λ w has. absurd (in_none w has);
 }
 
-pub enters_near : (app : List ℕ) (address : ℕ) (m : Management) → app_at app ≡ Ok app → address < 2 ^ 32 → TellsNeighbours m.agent → TellsNeighbours (entered app address m).agent
-unfolding entered
-enters_near app address m name small h = record { short = enters_short m.agent app address h.short name small; near = h.near }
+pub enters_near : (app : List ℕ) (address : ℕ) (g : Agent) → app_at app ≡ Ok app → address < 2 ^ 32 → TellsNeighbours g → TellsNeighbours (takes_item g (entry_of app address))
+enters_near app address g name small h = record { short = enters_short g app address h.short name small; near = h.near }
 
 -- A link is lost
 
@@ -72,10 +71,10 @@ lost_by : (b : Bool) (o : Option AgentError) (g : Agent) (now link : ℕ) → Ar
 lost_by true o g now link h = unless_near o (Rows.dropped (stated (Some link) g now) link) (dropped_near (stated (Some link) g now) link (both_near g.agenda _ h (floods_near (Some link) _ g.links)))
 lost_by false o g now link h = dropped_near g link h
 
-pub loses_near : (now link : ℕ) (m m' : Management) → LosesLink now link m m' → TellsNeighbours m.agent → TellsNeighbours m'.agent
-loses_near now link m m' loses h = record {
-  short = lost_short m.agent m'.agent now link h.short loses.loses;
-  near = subst (λ (r : Result Agent AgentError). NearOr r) loses.loses (lost_by _ (spent 1 m.agent.last_count) m.agent now link h.near);
+pub loses_near : (now link : ℕ) (g g' : Agent) → Rows.lost g now link ≡ Ok g' → TellsNeighbours g → TellsNeighbours g'
+loses_near now link g g' loses h = record {
+  short = lost_short g g' now link h.short loses;
+  near = subst (λ (r : Result Agent AgentError). NearOr r) loses (lost_by _ (spent 1 g.last_count) g now link h.near);
 }
 
 -- A message is sent

@@ -72,6 +72,7 @@ use Rattle.rina_dif.proofs.Flooding.{side_at}
 use Rattle.rina_dif.proofs.Keeping.{IsSameHouse, house_is, same_places}
 use Rattle.rina_dif.proofs.Leaves.{shown_at}
 use Rattle.rina_dif.proofs.LinksLive.{serving_lives}
+use Rattle.rina_dif.proofs.Neighbours.{sends_near}
 use Rattle.rina_dif.proofs.Sent.{IsPut, is_put, pieces_count}
 use Rattle.rina_dif.proofs.Served.{put_lawful}
 
@@ -96,6 +97,7 @@ sent_managed : (members : List Member) (plans : List LinkPlan) (now : ℕ) (m : 
 sent_managed members plans now m p g number h = record {
   knows = record { address = h.knows.address; enrolled = h.knows.enrolled; numbers = h.knows.numbers; links_are = h.knows.links_are; own = h.knows.own; keys = h.knows.keys; past = h.knows.past; room = h.knows.room };
   routes = record { rows = h.routes.rows; hops = h.routes.hops; are = h.routes.are };
+  tells = sends_near number g h.tells;
 }
 
 all_managed : (members : List Member) (plans : List LinkPlan) (now : ℕ) (ps : List IpcProcess) (ms : List Management) (i number : ℕ) (g : Management) → slice_get ms i ≡ Some g → AreManagedBy members plans now ps ms → AreManagedBy members plans now ps (slice_set ms i (with_sent g number))
@@ -268,6 +270,7 @@ module _ (d : Dif) (i place number : ℕ) (sdu : List ℕ) (conn : Conn) (made :
       lines = o.lines';
       tied = o.tied;
       standing = offered_stands (channels_seen (config_of d.settings) d.clock d.connections) links.lines (seen_of d).processes below place o.parts made.num _ o.lines' ps' links.standing offered_on;
+      paired = links.paired;
       each = λ j n q live. links.each j n q (serving_lives (config_of d.settings) d.clock (seen_of d).processes ps' offers_serve j n q live);
     }
 

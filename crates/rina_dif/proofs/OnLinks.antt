@@ -204,6 +204,7 @@ module _ (d : Dif) (at since : ℕ) (port : Port) (hop : Hop) (lines : List Dire
           lines = links';
           tied = tied;
           standing = taking_on_links_stands m links (seen_of d).processes (map process_of ps) below port o.entry hop end dropped (after flows) links' kept h.connected.standing o.oldest o.opens link.1 in_time takes leaves;
+          paired = h.connected.paired;
           each = λ i n q live. h.connected.each i n q (leaves.live i n q live);
         };
         channels = inr (record { for_link = link; dropped = dropped; takes = takes });
@@ -287,12 +288,12 @@ pub link_arrived : (d : Dif) (at since : ℕ) (port : Port) (hop : Hop) (place :
 link_arrived d at since port hop place its cause flows ps lt link kind taker arrives lines below h kept there o = piece_taken d at since port hop lines below h kept o link place its cause flows ps lt kind taker arrives
 
 pub link_noted_err : (d : Dif) (at since : ℕ) (port : Port) (hop : Hop) (cause : Cause) (e : NoMemory) (ps : List IpcProcess) → at < length d.settings.members → NotesAt hop.pdu cause (Err e) at d.processes ps → TakesFor d at since port hop (Err e) (record d { processes = ps })
-link_noted_err d at since port hop cause e ps lt notes lines below h kept there o = noted_err d at since hop cause e ps lt notes lines below h there
+link_noted_err d at since port hop cause e ps lt notes lines below h kept there o = (let s = noted_err d at since hop cause e ps lt notes lines below h there in (s.0, s.1, refl))
 
 pub link_arrived_err : (d : Dif) (at since : ℕ) (port : Port) (hop : Hop) (place : ℕ) (its : Pdu) (e : NoMemory) (flows : Flows) (ps : List IpcProcess) → ArrivesOnLink d.clock place its at d.connections.flows d.processes (Err e) flows ps → TakesFor d at since port hop (Err e) (record d { processes = ps; connections = record d.connections { flows = flows } })
 link_arrived_err d at since port hop place its e flows ps arrives lines below h kept there o =
     let all : record d { processes = ps; connections = record d.connections { flows = flows } } ≡ d = ap (λ (z : Flows). record d { processes = ps; connections = record d.connections { flows = z } }) arrives.0 ∙ ap (λ (z : List IpcProcess). record d { processes = z }) arrives.1 in
-    (ap seen_of all, subst (λ (z : Dif). Holds z lines below) (sym all) h)
+    (ap seen_of all, subst (λ (z : Dif). Holds z lines below) (sym all) h, ap (λ (z : Dif). z.connections) all)
 
 -- whatever the error is
 pub takes_err : (d : Dif) (at since : ℕ) (port : Port) (hop : Hop) (e e' : NoMemory) (r : Result Took NoMemory) (d' : Dif) → TakesFor d at since port hop (Err e) d' → r ≡ Err e' → TakesFor d at since port hop r d'
@@ -313,7 +314,7 @@ flow_taken d at since port hop (Ok end) d' other same settles lines below h kept
       flooded = s.flooded;
       channels = inl (other, same);
     }
-flow_taken d at since port hop (Err e) d' other same settles lines below h kept there o = settles lines below h there
+flow_taken d at since port hop (Err e) d' other same settles lines below h kept there o = (let s = settles lines below h there in (s.0, s.1, same))
 
 -- What stays
 

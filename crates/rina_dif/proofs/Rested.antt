@@ -30,6 +30,9 @@ use Rattle.rina_dif_law.specs.Incoming.{Ins}
 use Rattle.rina_dif_law.specs.Outgoing.{Outs}
 use Rattle.rina_dif_law.proofs.Own.{map_at}
 use Rattle.rina_channel.proofs.Going.{live_by}
+use Rattle.rina_agent.specs.declared.message.Waiting.{Waiting}
+use Rattle.rina_agent.specs.Agenda.{first_on}
+use Rattle.rina_member.specs.declared.management.Management.{Management}
 use Rattle.rina_flows.specs.declared.due.Item.{Item}
 use Rattle.rina_flows.specs.declared.due.Item.TheVariants.{Ack, Again, GiveUp, Gone}
 use Rattle.rina_dif.specs.declared.dif.Dif.{Dif}
@@ -38,11 +41,12 @@ use Rattle.rina_dif.specs.Clocking.{ClockSteps, ClockStepsAt, FailsLate, IsIdle,
 use Rattle.rina_dif.specs.Elsewhere.{home_of}
 use Rattle.rina_dif.specs.Holding.{Holds, LinksStand}
 use Rattle.rina_dif.specs.LinkDue.{NoLinkDue}
+use Rattle.rina_dif.specs.MessageSteps.{NoMessageAt}
 use Rattle.rina_channel.specs.Names.{link_config}
 use Rattle.rina_dif.specs.Resting.{IsAtRest, RestsUntil}
 use Rattle.rina_dif.specs.Shown.{seen_of}
 use Rattle.rina_dif.specs.Steps.{AsksAt, AsksHome, AtHome, OutsAt}
-use Rattle.rina_dif.specs.Taking.{InsAt, TakesHome}
+use Rattle.rina_dif.specs.Taking.{InsAt, TakesHome, TakesLinks}
 
 -- Answers that tell that nothing was done
 
@@ -95,6 +99,7 @@ pub rests_later : (until clock now : ℕ) (d : Dif) (below : Seen) → RestsUnti
 rests_later until clock now d below rest = record {
   alive = rest.alive;
   processes = λ i p is. (let r = rest.processes i p is in record { empty = r.empty; none_comes = r.none_comes; none_lost = λ place link lost. r.none_lost place link (record { stands = lost.stands; live = lost.live; no_more = lost.no_more }) });
+  messages = rest.messages;
   flows = rest.flows;
   links = rest.links;
 }
@@ -130,8 +135,16 @@ module _ (until : ℕ) (d : Dif) (below : Seen) (node n : ℕ) (rest : RestsUnti
   in_home (Some i) is = (let a = in_process i (slice_get d.processes i) refl in (a.0, a.1, λ lines. in_at i lines a.0 a.1 is (a.2 lines)))
   in_home None is = (Err NoIpc, tt, λ lines. not_home (home_of d node) _ _ is (refl, refl, refl, refl))
 
+  -- no management connection changed
+  no_links : (h : Option ℕ) (links : List Direction) (a : Result InStep StepError) → TakesNone a → AtHome h (λ i. TakesLinks d links below i n a d) (d.connections ≡ d.connections)
+  no_links (Some i) links (Ok ins.Idle) none = refl
+  no_links (Some i) links (Err NoLink) none = refl
+  no_links (Some i) links (Err NoIpc) none = refl
+  no_links (Some i) links a none = absurd none
+  no_links None links a none = refl
+
   pub in_rests : (a : Result InStep StepError) × TakesNone a × ((lines : List Direction) → Holds d lines below → TakesHome d lines below node n a d below)
-  in_rests = (let a = in_home (home_of d node) refl in (a.0, a.1, λ lines h. record { lines' = lines; does = a.2 lines; holds = h }))
+  in_rests = (let a = in_home (home_of d node) refl in (a.0, a.1, λ lines h. record { lines' = lines; does = a.2 lines; links = λ links. no_links (home_of d node) links.lines a.0 a.1; holds = h }))
 
 -- What leaves
 
@@ -175,6 +188,10 @@ module _ (refuses : Port → ℕ → Option SendError) (may : ℕ → List Head 
 
 -- What comes with time
 
+-- no message waits first where none waits
+none_first : (number : ℕ) (g : Management) (waiting : Waiting) → g.agent.agenda ≡ [] → first_on number g.agent.agenda ≡ Some waiting → ⊥
+none_first number g waiting none first = (let no : None ≡ Some waiting = ap (first_on number) (sym none) ∙ first in absurd cc)
+
 module _ (until : ℕ) (d : Dif) (below : Seen) (node : ℕ) (before : d.clock < until) (rest : RestsUntil until d below) where
   none_due : (item : Item) (lines : List Direction) → Holds d lines below → NoneDue item d lines node
   none_due item lines h = λ at due. false≢true ((rest.flows d.clock before at item (config_of d.settings) lines due.here.end h.standing.journal h.tied due.here.is_end due.here.allocated).1 due.due)
@@ -188,15 +205,18 @@ module _ (until : ℕ) (d : Dif) (below : Seen) (node : ℕ) (before : d.clock <
   none_lost : NoneLostAt d below node
   none_lost = λ i p here is. (rest.processes i p is).none_lost
 
+  no_message : NoMessageAt d below node
+  no_message = λ i here links place number due. none_first number due.first.management due.first.waiting (rest.messages i due.first.management due.first.is_management) due.first.first
+
   abbrev ClockAnswer : Type 0
-  ClockAnswer = (a : Result ClockStep StepError) × DoesNone a × ((lines : List Direction) → Holds d lines below → ClockStepsAt d lines below node a d lines) × ManagesStep a (home_of d node) d below node d.managements
+  ClockAnswer = (a : Result ClockStep StepError) × DoesNone a × ((lines : List Direction) → Holds d lines below → ClockStepsAt d lines below node a d lines below) × ManagesStep a (home_of d node) d below node d.managements
 
   clock_home : (h : Option ℕ) → home_of d node ≡ h → ClockAnswer
-  clock_home (Some i) is = (Ok clocks.Idle, tt, λ lines h. at_home (home_of d node) i _ _ is (none_lost, inl (record { does = (is_idle lines h, refl, refl); same = refl; first = λ k here links. (no_link_due Gone k links, no_link_due Ack k links, no_link_due Again k links) })), refl)
-  clock_home None is = (Err NoIpc, tt, λ lines h. not_home (home_of d node) _ _ is (refl, refl, refl), refl)
+  clock_home (Some i) is = (Ok clocks.Idle, tt, λ lines h. at_home (home_of d node) i _ _ is (none_lost, inl (inl (record { does = (is_idle lines h, refl, refl); same = refl; same_below = refl; first = λ k here links. ((no_link_due Gone k links, no_link_due GiveUp k links, no_link_due Ack k links), no_link_due Again k links) }), no_message)), refl)
+  clock_home None is = (Err NoIpc, tt, λ lines h. not_home (home_of d node) _ _ is (refl, refl, refl, refl), refl)
 
   pub clock_rests : (a : Result ClockStep StepError) × DoesNone a × ((lines : List Direction) → Holds d lines below → ClockSteps d lines below node a d below)
-  clock_rests = (let a = clock_home (home_of d node) refl in (a.0, a.1, λ lines h. record { lines' = lines; does = a.2 lines h; managed = a.3; same_below = refl; holds = h }))
+  clock_rests = (let a = clock_home (home_of d node) refl in (a.0, a.1, λ lines h. record { lines' = lines; does = a.2 lines h; managed = a.3; holds = h }))
 
 -- no flow fails
 pub none_fails : (d : Dif) (lines : List Direction) (below : Seen) → FailsLate d lines below d

@@ -195,6 +195,7 @@ module _ (d : Dif) (below : Seen) (i place number : ℕ) (conn : Conn) (due : Du
     lines = has.lines';
     tied = has.tied;
     standing = subst (λ (m : ChannelsSeen). IsStanding m has.lines' ps' below) (sym (same_channels (config_of d.settings) d.connections.manage d.clock d.connections.channels old flows has.ids has.same)) (acknowledged_stands (channels_seen (config_of d.settings) d.clock d.connections) links.lines (seen_of d).processes below place cause has.lines' ps' links.standing ack_posted);
+    paired = links.paired;
     each = λ j n q live. links.each j n q (serving_lives (config_of d.settings) d.clock (seen_of d).processes ps' (acknowledging_serves_links (channels_seen (config_of d.settings) d.clock d.connections) links.lines (seen_of d).processes below place cause has.lines' ps' links.standing ack_posted) j n q live);
   }
 

@@ -1,5 +1,6 @@
 -- A clock step serves the link that goes first, or the flows.
 use Rattle.std.proofs.Common.{◌≡◌, ◌∙◌, ℕ, List, Option, Some, None, Result, Ok, Err, refl, sym, ap, subst, inl, inr}
+use Rattle.rina_base.specs.declared.number.Num.{Num}
 use Rattle.rina_iface.specs.Seen.{Seen}
 use Rattle.rina_law.specs.Direction.{Direction}
 use Rattle.rina_data.specs.declared.step.ClockStep.{ClockStep}
@@ -37,62 +38,72 @@ no_link_first d lines links i node (step.Timeout port) new lines' none s = absur
 no_link_first d lines links i node (step.Message link) new lines' none s = absurd s
 
 -- no link goes first
-pub flow_serves : (d : Dif) (lines : List Direction) (below : Seen) (i node : ℕ) (r : Result ClockStep StepError) (d' : Dif) → home node (config_of d.settings).members ≡ Some i → d'.connections ≡ d.connections → ((links : LinksStand d below) → FindsLinkFirst d lines links.lines i node None) → StepsFlowHere d lines below node r d' → ServesHere d lines below node r d'
-flow_serves d lines below i node (Ok done) d' here same none s = record {
-  lines' = s.lines';
-  does = inl (record {
-    does = s.does;
-    same = same;
-    first = λ k there links. subst (λ (n : ℕ). NoLinkFirst (item_of done) d links.lines n) (same_some (home node (config_of d.settings).members) i k here there) (no_link_first d lines links.lines i node done (seen_of d') s.lines' (none links) s.does);
-  });
-  holds = s.holds;
-}
-flow_serves d lines below i node (Err why.Memory) d' here same none s = s
+pub flow_serves : (d : Dif) (lines : List Direction) (below : Seen) (i node : ℕ) (r : Result ClockStep StepError) (d' : Dif) → home node (config_of d.settings).members ≡ Some i → d'.connections ≡ d.connections → ((links : LinksStand d below) → FindsLinkFirst d lines links.lines i node None) → StepsFlowHere d lines below node r d' → ServesHere d lines below node r d' below
+flow_serves d lines below i node (Ok done) d' here same none s = (
+  record {
+    lines' = s.lines';
+    does = inl (record {
+      does = s.does;
+      same = same;
+      same_below = refl;
+      first = λ k there links. subst (λ (n : ℕ). NoLinkFirst (item_of done) d links.lines n) (same_some (home node (config_of d.settings).members) i k here there) (no_link_first d lines links.lines i node done (seen_of d') s.lines' (none links) s.does);
+    });
+    holds = s.holds;
+  },
+  tt,
+)
+flow_serves d lines below i node (Err why.Memory) d' here same none s = (s, refl)
 flow_serves d lines below i node (Err why.NoIpc) d' here same none s = absurd s
 flow_serves d lines below i node (Err why.NoLink) d' here same none s = absurd s
 
 -- The link that goes first
 
 -- what is done there, and told
-abbrev pub DoesNext : Dif → ℕ → NextLink → Dif → ClockStep → List Direction → Type 0
-DoesNext d i next d' done links = (item_of done ≡ Some next.item) × DoesLink d links i next.turn.place done (seen_of d') d'.connections.flows
+abbrev pub DoesNext : Dif → Seen → ℕ → NextLink → Dif → Seen → ClockStep → List Direction → Type 0
+DoesNext d below i next d' below' done links = (item_of done ≡ Some next.item) × DoesLink d links below i next.turn.place done (seen_of d') d'.connections.flows below'
 
 -- nothing but the IPC processes and the management connections changes
 abbrev pub IsOnLinks : Dif → Dif → Type 0
 IsOnLinks d d' = d' ≡ record d { processes = d'.processes; connections = record d.connections { flows = d'.connections.flows } }
 
-pub link_serves : (d : Dif) (lines : List Direction) (below : Seen) (i node : ℕ) (next : NextLink) (done : ClockStep) (d' : Dif) → home node (config_of d.settings).members ≡ Some i → IsOnLinks d d' → ((links : LinksStand d below) → IsLinkFirst next.item d lines links.lines i node next.turn.place next.turn.number) → ((links : LinksStand d below) → DoesNext d i next d' done links.lines) × Holds d' lines below → ServesHere d lines below node (Ok done) d'
-link_serves d lines below i node next done d' here only first s =
-    let failed : d'.failed ≡ d.failed = ap (λ (z : Dif). z.failed) only in
-    record {
-      lines' = lines;
-      does = inr (
-        record {
-          i = i;
-          at_home = here;
-          only = only ∙ ap (λ b. record d { processes = d'.processes; connections = record d.connections { flows = d'.connections.flows }; failed = b }) (sym failed);
-          does = λ links. (let x = s.0 links in record { item = next.item; told = x.0; place = next.turn.place; number = next.turn.number; first = first links; does = x.1 });
-        },
-        refl,
-      );
-      holds = s.1;
-    }
+pub link_serves : (d : Dif) (lines : List Direction) (below below' : Seen) (i node : ℕ) (next : NextLink) (done : ClockStep) (d' : Dif) → home node (config_of d.settings).members ≡ Some i → IsOnLinks d d' → ((links : LinksStand d below) → IsLinkFirst next.item d lines links.lines i node next.turn.place next.turn.number) → ((links : LinksStand d below) → DoesNext d below i next d' below' done links.lines) × Holds d' lines below' → ServesHere d lines below node (Ok done) d' below'
+link_serves d lines below below' i node next done d' here only first s =
+    let failed : d'.failed ≡ d.failed = ap (λ (z : Dif). z.failed) only in (
+      record {
+        lines' = lines;
+        does = inr (
+          record {
+            i = i;
+            at_home = here;
+            only = only ∙ ap (λ b. record d { processes = d'.processes; connections = record d.connections { flows = d'.connections.flows }; failed = b }) (sym failed);
+            does = λ links. (let x = s.0 links in record { item = next.item; told = x.0; place = next.turn.place; number = next.turn.number; first = first links; does = x.1 });
+          },
+          refl,
+        );
+        holds = s.1;
+      },
+      tt,
+    )
 
-link_manages_done : (d : Dif) (below : Seen) (i node place : ℕ) (links : List Direction) (done : ClockStep) (d' : Dif) → IsOnLinks d d' → DoesLink d links i place done (seen_of d') d'.connections.flows → ManagesStep (Ok done) (Some i) d below node d'.managements
-link_manages_done d below i node place links (step.Gone cep) d' only does = ap (λ (z : Dif). z.managements) only
-link_manages_done d below i node place links (step.Ack cep) d' only does = ap (λ (z : Dif). z.managements) only
-link_manages_done d below i node place links (step.Again num) d' only does = ap (λ (z : Dif). z.managements) only
-link_manages_done d below i node place links step.Idle d' only does = absurd does
-link_manages_done d below i node place links (step.GaveUp num) d' only does = absurd does
-link_manages_done d below i node place links (step.LinkLost link) d' only does = absurd does
-link_manages_done d below i node place links (step.LinkNew link) d' only does = absurd does
-link_manages_done d below i node place links (step.Timeout port) d' only does = absurd does
-link_manages_done d below i node place links (step.Message link) d' only does = absurd does
+link_manages_done : (d : Dif) (below below' : Seen) (i node place : ℕ) (links : List Direction) (done : ClockStep) (d' : Dif) → IsOnLinks d d' → DoesLink d links below i place done (seen_of d') d'.connections.flows below' → ManagesStep (Ok done) (Some i) d below node d'.managements
+link_manages_done d below below' i node place links (step.Gone cep) d' only does = ap (λ (z : Dif). z.managements) only
+link_manages_done d below below' i node place links (step.Ack cep) d' only does = ap (λ (z : Dif). z.managements) only
+link_manages_done d below below' i node place links (step.Again num) d' only does = ap (λ (z : Dif). z.managements) only
+link_manages_done d below below' i node place links step.Idle d' only does = absurd does
+link_manages_done d below below' i node place links (step.GaveUp num) d' only does = inr (ap (λ (n : Num). n.cep) does.num_is, ap (λ (z : Dif). z.managements) only)
+link_manages_done d below below' i node place links (step.LinkLost link) d' only does = absurd does
+link_manages_done d below below' i node place links (step.LinkNew link) d' only does = absurd does
+link_manages_done d below below' i node place links (step.Timeout port) d' only does = absurd does
+link_manages_done d below below' i node place links (step.Message link) d' only does = absurd does
 
-pub link_manages : (d : Dif) (below seen : Seen) (lines : List Direction) (i node : ℕ) (next : NextLink) (done : ClockStep) (d' : Dif) → Holds d lines seen → IsOnLinks d d' → ((links : LinksStand d seen) → DoesNext d i next d' done links.lines) × Holds d' lines seen → ManagesStep (Ok done) (Some i) d below node d'.managements
-link_manages d below seen lines i node next done d' h only s = link_manages_done d below i node next.turn.place h.connected.lines done d' only (s.0 h.connected).1
+pub link_manages : (d : Dif) (below below' : Seen) (lines : List Direction) (i node : ℕ) (next : NextLink) (done : ClockStep) (d' : Dif) → Holds d lines below → IsOnLinks d d' → ((links : LinksStand d below) → DoesNext d below i next d' below' done links.lines) × Holds d' lines below' → ManagesStep (Ok done) (Some i) d below node d'.managements
+link_manages d below below' lines i node next done d' h only s = link_manages_done d below below' i node next.turn.place h.connected.lines done d' only (s.0 h.connected).1
 
 -- By its turn
 
 pub turn_is : (item : Item) (d : Dif) (i : ℕ) (next : NextLink) → next.item ≡ item → ((below : Seen) (links : LinksStand d below) → IsLinkTurn next.item d links.lines i next.turn.place next.turn.number) → (below : Seen) (links : LinksStand d below) → IsLinkTurn item d links.lines i next.turn.place next.turn.number
 turn_is item d i next is turn below links = subst (λ (z : Item). IsLinkTurn z d links.lines i next.turn.place next.turn.number) is (turn below links)
+
+-- an allocation failed
+pub link_serves_none : (d : Dif) (lines : List Direction) (below below' : Seen) (node : ℕ) (r : Result ClockStep StepError) (e : StepError) (d' : Dif) → e ≡ why.Memory → r ≡ Err e → (seen_of d' ≡ seen_of d) × Holds d' lines below' → below' ≡ below → ServesHere d lines below node r d' below'
+link_serves_none d lines below below' node r e d' is err same lower = subst (λ (v : Result ClockStep StepError). ServesHere d lines below node v d' below') (sym (err ∙ ap (λ (z : StepError). Err z) is)) (same, lower)

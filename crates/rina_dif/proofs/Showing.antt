@@ -9,6 +9,7 @@ use Rattle.std.proofs.lemmas.Option.{same_Some, slice_get_within}
 use Rattle.rina_base.specs.declared.memory.Memory.{Memory}
 use Rattle.rina_base.specs.declared.number.Num.{Num}
 use Rattle.rina_base.specs.declared.number.Port.{Port}
+use Rattle.rina_base.specs.Names.{app_at}
 use Rattle.rina_conn.specs.declared.conn.Conn.{Conn}
 use Rattle.rina_iface.specs.declared.ask.Fixed.{Fixed}
 use Rattle.rina_iface.specs.declared.ends.End.{End}
@@ -24,6 +25,8 @@ use Rattle.rina_data.proofs.Finding.{there}
 use Rattle.rina_member.specs.declared.management.Management.{Management}
 use Rattle.rina_member.specs.Objects.{flow_name, removed}
 use Rattle.rina_member.specs.Managements.{entered, with_objects, without_flow, without_flows}
+use Rattle.rina_member.proofs.Laying.{small_address}
+use Rattle.rina_member.proofs.Lists.{is_there}
 use Rattle.rina_dif.specs.declared.dif.Dif.{Dif}
 use Rattle.rina_dif.specs.Binding.{BindsAt, BindsTo, MayBind, noting}
 use Rattle.rina_dif.specs.Changing.{EndsFlow, FreesManaged, ManagesFree, MayHoldFar, changed_at, cep_here, without_flow_if}
@@ -76,20 +79,20 @@ all_enrolled d lines below h k g is =
     (h.managed.each k m.0 p.0 g m.1 p.1 is).knows.enrolled
 
 -- a flow is bound: each member took the entry of its far application
-pub binds_shown_all : (d d' : Dif) (lines : List Direction) (below : Seen) (fixed : Fixed) (ports : Port × Port) (app : List ℕ) (far : Member) (ms : List Management) → Contains d'.settings.members far → agents_of ms ≡ agents_of (map (entered app far.addr) d'.managements) → BindsAt d lines below fixed ports d' → BindsAt d lines below fixed ports (managing d' ms)
-binds_shown_all d d' lines below fixed ports app far ms among are f = record {
+pub binds_shown_all : (d d' : Dif) (lines : List Direction) (below : Seen) (fixed : Fixed) (ports : Port × Port) (app : List ℕ) (far : Member) (ms : List Management) → app_at app ≡ Ok app → Contains d'.settings.members far → agents_of ms ≡ agents_of (map (entered app far.addr) d'.managements) → BindsAt d lines below fixed ports d' → BindsAt d lines below fixed ports (managing d' ms)
+binds_shown_all d d' lines below fixed ports app far ms name among are f = record {
   lines' = f.lines';
   bound = f.bound;
   a_port = f.a_port;
   b_port = f.b_port;
-  holds = holds_managed d' f.lines' below ms (managed_entered d'.settings.members d'.laid.links d'.clock d'.processes d'.managements ms app far.addr f.holds.managed (all_entered app far.addr d'.managements ms are)) (λ alive. entered_floods d' app far ms among (all_enrolled d' f.lines' below f.holds) are (f.holds.flooded alive)) f.holds;
+  holds = holds_managed d' f.lines' below ms (managed_entered d'.settings.members d'.laid.links d'.clock d'.processes d'.managements ms app far.addr name (small_address d'.settings.members d'.laid.links f.holds.managed.laid_out far among) f.holds.managed (all_entered app far.addr d'.managements ms are)) (λ alive. entered_floods d' app far ms among (all_enrolled d' f.lines' below f.holds) are (f.holds.flooded alive)) f.holds;
 }
 
 -- the managements were changed first, and then the flow was added
-pub binds_managed : (d d1 d2 : Dif) (lines : List Direction) (below : Seen) (fixed : Fixed) (ports : Port × Port) (app : List ℕ) (far : Member) (names : List Registered) → Contains d.settings.members far → d1 ≡ managing d d1.managements → d2 ≡ record d1 { flows = d2.flows; ids = d2.ids; names = names } → agents_of d1.managements ≡ agents_of (map (entered app far.addr) d.managements) → BindsAt d lines below fixed ports (record d { flows = d2.flows; ids = d2.ids; names = names }) → BindsAt d lines below fixed ports d2
-binds_managed d d1 d2 lines below fixed ports app far names among whole rest are f =
+pub binds_managed : (d d1 d2 : Dif) (lines : List Direction) (below : Seen) (fixed : Fixed) (ports : Port × Port) (app : List ℕ) (far : Member) (names : List Registered) → app_at app ≡ Ok app → Contains d.settings.members far → d1 ≡ managing d d1.managements → d2 ≡ record d1 { flows = d2.flows; ids = d2.ids; names = names } → agents_of d1.managements ≡ agents_of (map (entered app far.addr) d.managements) → BindsAt d lines below fixed ports (record d { flows = d2.flows; ids = d2.ids; names = names }) → BindsAt d lines below fixed ports d2
+binds_managed d d1 d2 lines below fixed ports app far names name among whole rest are f =
     let is : d2 ≡ managing (record d { flows = d2.flows; ids = d2.ids; names = names }) d1.managements = rest ∙ ap (λ (z : Dif). record z { flows = d2.flows; ids = d2.ids; names = names }) whole in
-    subst (BindsAt d lines below fixed ports) (sym is) (binds_shown_all d (record d { flows = d2.flows; ids = d2.ids; names = names }) lines below fixed ports app far d1.managements among are f)
+    subst (BindsAt d lines below fixed ports) (sym is) (binds_shown_all d (record d { flows = d2.flows; ids = d2.ids; names = names }) lines below fixed ports app far d1.managements name among are f)
 
 -- an allocation failed, and the managements alone may have changed
 failed_holds : (d : Dif) (lines : List Direction) (below : Seen) (ms : List Management) → AreManagedBy d.settings.members d.laid.links d.clock d.processes ms → Holds d lines below → Holds (record (managing d ms) { failed = true }) lines below
@@ -99,13 +102,13 @@ failed_holds d lines below ms managed h = record { tied = h.tied; standing = h.s
 pub binds_nothing : (d : Dif) (fixed : Fixed) (r : Result (Port × Port) AllocateError) (e : AllocateError) → r ≡ Err e → e ≡ MemoryWanted → (lines : List Direction) (below : Seen) → Holds d lines below → BindsTo d lines below fixed r (noting r d)
 binds_nothing d fixed r e is why lines below h = subst (λ (v : Result (Port × Port) AllocateError). BindsTo d lines below fixed v (noting v d)) (sym (is ∙ ap (λ (z : AllocateError). Err z) why)) (refl, failed_holds d lines below d.managements h.managed h)
 
-pub binds_failed : (d d1 d' : Dif) (fixed : Fixed) (r : Result (Port × Port) AllocateError) (e : AllocateError) → MayBind d fixed → r ≡ Err e → e ≡ MemoryWanted → d1 ≡ managing d d1.managements → MayHoldFar d fixed d1.managements → d' ≡ d1 → (lines : List Direction) (below : Seen) → Holds d lines below → BindsTo d lines below fixed r (noting r d')
-binds_failed d d1 d' fixed r e may is why whole far same lines below h =
+pub binds_failed : (d d1 d' : Dif) (fixed : Fixed) (r : Result (Port × Port) AllocateError) (e : AllocateError) → app_at fixed.b_app ≡ Ok fixed.b_app → MayBind d fixed → r ≡ Err e → e ≡ MemoryWanted → d1 ≡ managing d d1.managements → MayHoldFar d fixed d1.managements → d' ≡ d1 → (lines : List Direction) (below : Seen) → Holds d lines below → BindsTo d lines below fixed r (noting r d')
+binds_failed d d1 d' fixed r e name may is why whole far same lines below h =
     let members = d.settings.members in
     let within = slice_get_within (map member_of members) may.at_b.place may.of_b may.at_b.stands in
     let member = there members may.at_b.place (omega (arith, within, length-map members member_of)) in
     let took = far may.at_b.place member.0 may.at_b.at_home member.1 in
-    let holds : Holds (record (managing d d1.managements) { failed = true }) lines below = failed_holds d lines below d1.managements (managed_entered members d.laid.links d.clock d.processes d.managements d1.managements fixed.b_app member.0.addr h.managed took) h in
+    let holds : Holds (record (managing d d1.managements) { failed = true }) lines below = failed_holds d lines below d1.managements (managed_entered members d.laid.links d.clock d.processes d.managements d1.managements fixed.b_app member.0.addr name (small_address members d.laid.links h.managed.laid_out member.0 (is_there members may.at_b.place member.0 member.1)) h.managed took) h in
     let all : d' ≡ managing d d1.managements = same ∙ whole in
     subst (λ (v : Result (Port × Port) AllocateError). BindsTo d lines below fixed v (noting v d')) (sym (is ∙ ap (λ (z : AllocateError). Err z) why)) (ap seen_of all, subst (λ (z : Dif). Holds (record z { failed = true }) lines below) (sym all) holds)
 

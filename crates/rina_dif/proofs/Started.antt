@@ -2,7 +2,7 @@
 use Rattle.std.proofs.Common.{◌≡◌, ◌∙◌, ℕ, zero, suc, ◌+◌, ◌*◌, ◌<◌, ◌≤◌, ◌^◌, ◌==◌, ◌&&◌, ◌||◌, Bool, true, false, cond, All, List, [], ◌∷◌, ◌++◌, get_or, length, map, slice_get, Option, Some, None, option_map, refl, sym, ap, subst, arith, inl, inr}
 use Rattle.std.specs.Prelude.{◌≢◌, Contains, count_by, filter, flat_map}
 use Rattle.std.specs.List.{cons_option}
-use Rattle.std.proofs.lemmas.Bool.{false≢true}
+use Rattle.std.proofs.lemmas.Bool.{eqb-true, false≢true}
 use Rattle.std.proofs.lemmas.List.{length-map}
 use Rattle.std.proofs.lemmas.List.Sums.{sum_by-cons}
 use Rattle.std.proofs.lemmas.Option.{get_or_from_slice_get, slice_get-get_or, slice_get-map, slice_get_within}
@@ -24,9 +24,9 @@ use Rattle.rina_plan.specs.declared.dif.DifPlan.{DifPlan}
 use Rattle.rina_plan.specs.declared.dif.LinkPlan.{LinkPlan}
 use Rattle.rina_plan.specs.declared.dif.MemberPlan.{MemberPlan}
 use Rattle.rina_plan.specs.Counts.{IsRoomy, has_link_end, links_of as all_links}
-use Rattle.rina_plan.specs.Kept.{AreApart}
+use Rattle.rina_plan.specs.Kept.{AreApart, IsFitLink}
 use Rattle.rina_stack.specs.declared.plan.Plan.{Plan}
-use Rattle.rina_stack.specs.Plan.{IsPlan}
+use Rattle.rina_stack.specs.Plan.{IsPlan, wire_ends}
 use Rattle.rina_stack.specs.Ranges.{IsRangedDif}
 use Rattle.rina_data.specs.declared.link.Link.{Link}
 use Rattle.rina_data.specs.declared.link.Route.{Route}
@@ -41,14 +41,18 @@ use Rattle.rina_member.specs.Knowing.{AreLive, AreNumbered, AreRoutesOf, IsLaidO
 use Rattle.rina_member.specs.Routing.{edge_back, edge_there, edges_from, routes_to}
 use Rattle.rina_member.specs.Objects.{first_objects}
 use Rattle.rina_member.specs.Start.{items_held, started}
+use Rattle.rina_member.specs.Short.{AreNamed, HaveFewLinks}
 use Rattle.rina_member.proofs.Knowing.{starts_knowing, starts_routed}
+use Rattle.rina_member.proofs.Lists.{at_place}
 use Rattle.rina_dif.specs.declared.dif.Dif.{Dif}
 use Rattle.rina_dif.specs.Building.{AreBare}
 use Rattle.rina_dif.specs.Laying.{AreLaid, BindsAll, ends_of, links_from, ports_at}
 use Rattle.rina_dif.specs.Managing.{AreManagedBy, AreStarted, IsManaged, IsStarted}
 use Rattle.rina_dif.specs.Planned.{link_fixed, processes_before, settings_by}
 use Rattle.rina_dif.specs.Routing.{AreRouted, HaveFirstRoutes}
+use Rattle.rina_dif.specs.Telling.{TellsNeighbours}
 use Rattle.rina_dif.proofs.Managed.{is_among, its_agent}
+use Rattle.rina_dif.proofs.Neighbours.{starts_near}
 use Rattle.rina_dif.proofs.Sound.{planned}
 
 same_some : {X : Type 0} (xs : List X) (k : ℕ) (a b : X) → slice_get xs k ≡ Some a → slice_get xs k ≡ Some b → a ≡ b
@@ -192,23 +196,24 @@ no_link : (k : ℕ) (link : Link) → slice_get [] k ≡ Some link → ⊥
 no_link k link is = absurd cc
 
 -- a management without links knows all that there is to know of them
-bare_one : (s : Settings) (now : ℕ) (rules : List Rule) (allow : Bool) (m : Kept) (p : IpcProcess) (g : Management) → IsLaidOut s.members [] → Contains s.members m → p.links ≡ [] → p.routes ≡ [] → IsStarted s.cubes s.members [] rules allow m p.links g → IsManaged s.members [] now m p g
-bare_one s now rules allow m p g laid among links routes one =
+bare_one : (s : Settings) (now : ℕ) (rules : List Rule) (allow : Bool) (m : Kept) (p : IpcProcess) (g : Management) → IsLaidOut s.members [] → AreNamed s.members → Contains s.members m → p.links ≡ [] → p.routes ≡ [] → IsStarted s.cubes s.members [] rules allow m p.links g → IsManaged s.members [] now m p g
+bare_one s now rules allow m p g laid named among links routes one =
     let is : g.agent ≡ started s.members [] one.access m [] = one.is ∙ ap (started s.members [] one.access m) links in
     let knows : Knows s.members [] now m [] (started s.members [] one.access m []) = starts_knowing s.members [] one.access m [] now laid among (λ k link at. absurd (no_link k link at)) (λ k link at. absurd (no_link k link at)) (omega arith) (omega arith) in
     record {
       knows = subst (λ (ls : List Link). Knows s.members [] now m ls g.agent) (sym links) (subst (Knows s.members [] now m []) (sym is) knows);
       routes = subst (AreRoutesOf g.agent s.members) (sym routes) (none_of g.agent s.members (ap (λ (z : Agent). hops_of z.links) is ∙ no_links s.members [] one.access m));
+      tells = subst (λ (z : Agent). TellsNeighbours z) (sym is) (starts_near s.members [] one.access m [] laid named (λ x has. omega arith) among (omega arith));
     }
 
-pub bare_managed : (s : Settings) (plans : List LinkPlan) (rules : List Rule) (allow : Bool) (now : ℕ) (ps : List IpcProcess) (managements : List Management) → plans ≡ [] → AreBare s ps → IsConfig (config_of s) → AreMembers (config_of s) → AreStarted s.cubes s.members plans rules allow (length s.members) ps managements → AreManagedBy s.members plans now ps managements
-bare_managed s plans rules allow now ps managements none bare config members so =
+pub bare_managed : (s : Settings) (plans : List LinkPlan) (rules : List Rule) (allow : Bool) (now : ℕ) (ps : List IpcProcess) (managements : List Management) → plans ≡ [] → AreBare s ps → IsConfig (config_of s) → AreMembers (config_of s) → AreNamed s.members → AreStarted s.cubes s.members plans rules allow (length s.members) ps managements → AreManagedBy s.members plans now ps managements
+bare_managed s plans rules allow now ps managements none bare config members named so =
     let laid : IsLaidOut s.members [] = laid_out s [] config members (λ k d lt. absurd (omega (arith, lt))) in
     let so' : AreStarted s.cubes s.members [] rules allow (length s.members) ps managements = subst (λ (ls : List LinkPlan). AreStarted s.cubes s.members ls rules allow (length s.members) ps managements) none so in
     subst (λ (ls : List LinkPlan). AreManagedBy s.members ls now ps managements) (sym none) (record {
       laid_out = laid;
       aligned = so'.aligned;
-      each = λ k m p g is_m is_p is_g. (let b = bare.each k p is_p in bare_one s now rules allow m p g laid (is_among s.members k m is_m) b.links b.routes (so'.each k m p g is_m is_p is_g));
+      each = λ k m p g is_m is_p is_g. (let b = bare.each k p is_p in bare_one s now rules allow m p g laid named (is_among s.members k m is_m) b.links b.routes (so'.each k m p g is_m is_p is_g));
     })
 
 -- The links of a plan
@@ -241,12 +246,19 @@ enough_by false true x None es p q ports le = omega (arith, le)
 enough_by false true x (Some y) es p q ports le = omega (arith, le)
 enough_by false false x y es p q ports le = le
 
--- and no member has more ports than two for each link at its node
-few_by : (a b : Bool) (p q : Port) (ports : List Port) (n : ℕ) → length ports ≤ 2 * n → length (cond a (p ∷ cond b (q ∷ ports) ports) (cond b (q ∷ ports) ports)) ≤ 2 * (cond (a || b) 1 0 + n)
-few_by true true p q ports n le = omega (arith, le)
-few_by true false p q ports n le = omega (arith, le)
-few_by false true p q ports n le = omega (arith, le)
-few_by false false p q ports n le = omega (arith, le)
+-- the ends of each link are on different nodes
+AreCrossing : List LinkPlan → Type 0
+AreCrossing links = (k : ℕ) (l : LinkPlan) → slice_get links k ≡ Some l → l.a ≢ l.b
+
+not_both : (l : LinkPlan) (node : ℕ) → l.a ≢ l.b → (l.a == node) ≡ true → (l.b == node) ≡ true → ⊥
+not_both l node apart a b = apart (eqb-true l.a node a ∙ sym (eqb-true l.b node b))
+
+-- and no member has more ports than links at its node
+few_by : (a b : Bool) (p q : Port) (ports : List Port) (n : ℕ) → (a ≡ true → b ≡ true → ⊥) → length ports ≤ n → length (cond a (p ∷ cond b (q ∷ ports) ports) (cond b (q ∷ ports) ports)) ≤ cond (a || b) 1 0 + n
+few_by true true p q ports n one le = absurd (one refl refl)
+few_by true false p q ports n one le = omega (arith, le)
+few_by false true p q ports n one le = omega (arith, le)
+few_by false false p q ports n one le = omega (arith, le)
 
 -- the ports that stand at a node, of those of a link and the rest
 here_of : (node a b : ℕ) (p q : Port) (ports : List Port) → p.node ≡ a → q.node ≡ b → ports_at node (p ∷ q ∷ ports) ≡ cond (a == node) (p ∷ cond (b == node) (q ∷ ports_at node ports) (ports_at node ports)) (cond (b == node) (q ∷ ports_at node ports) (ports_at node ports))
@@ -264,17 +276,18 @@ enough plan d members node (l ∷ ls) (p ∷ ps) old new b =
     let one = enough_by (l.a == node) (l.b == node) (edge_there members l) (edge_back members l) (edges_from members node ls) p.0 p.1 (ports_at node (ends_of ps)) rest in
     subst (λ (z : List Port). length (edges_from members node (l ∷ ls)) ≤ length z) (sym (here_of node l.a l.b p.0 p.1 (ends_of ps) is_a is_b)) one
 
-few : (plan : Plan) (d : DifPlan) (node : ℕ) (links : List LinkPlan) (ports : List (Port × Port)) (old new : Seen) → BindsAll old (map (link_fixed plan d) links) ports new → length (ports_at node (ends_of ports)) ≤ 2 * count_by (has_link_end node) links
-few plan d node [] [] old new b = omega arith
-few plan d node [] (p ∷ ps) old new b = absurd b
-few plan d node (l ∷ ls) [] old new b = absurd b
-few plan d node (l ∷ ls) (p ∷ ps) old new b =
-    let rest = few plan d node ls ps b.0 new b.2 in
+few : (plan : Plan) (d : DifPlan) (node : ℕ) (links : List LinkPlan) (ports : List (Port × Port)) (old new : Seen) → AreCrossing links → BindsAll old (map (link_fixed plan d) links) ports new → length (ports_at node (ends_of ports)) ≤ count_by (has_link_end node) links
+unfolding AreCrossing
+few plan d node [] [] old new cross b = omega arith
+few plan d node [] (p ∷ ps) old new cross b = absurd b
+few plan d node (l ∷ ls) [] old new cross b = absurd b
+few plan d node (l ∷ ls) (p ∷ ps) old new cross b =
+    let rest = few plan d node ls ps b.0 new (λ k x is. cross (suc k) x is) b.2 in
     let is_a : p.0.node ≡ l.a = ap (λ (z : Port). z.node) b.1.a_fresh in
     let is_b : p.1.node ≡ l.b = ap (λ (z : Port). z.node) b.1.b_fresh in
-    let one = few_by (l.a == node) (l.b == node) p.0 p.1 (ports_at node (ends_of ps)) (count_by (has_link_end node) ls) rest in
+    let one = few_by (l.a == node) (l.b == node) p.0 p.1 (ports_at node (ends_of ps)) (count_by (has_link_end node) ls) (not_both l node (cross 0 l refl)) rest in
     let sum : count_by (has_link_end node) (l ∷ ls) ≡ cond ((l.a == node) || (l.b == node)) 1 0 + count_by (has_link_end node) ls = sum_by-cons (λ (x : LinkPlan). cond (has_link_end node x) 1 0) l ls in
-    subst (λ (z : List Port). length z ≤ 2 * count_by (has_link_end node) (l ∷ ls)) (sym (here_of node l.a l.b p.0 p.1 (ends_of ps) is_a is_b)) (subst (λ (n : ℕ). length (cond (l.a == node) (p.0 ∷ cond (l.b == node) (p.1 ∷ ports_at node (ends_of ps)) (ports_at node (ends_of ps))) (cond (l.b == node) (p.1 ∷ ports_at node (ends_of ps)) (ports_at node (ends_of ps)))) ≤ 2 * n) (sym sum) one)
+    subst (λ (z : List Port). length z ≤ count_by (has_link_end node) (l ∷ ls)) (sym (here_of node l.a l.b p.0 p.1 (ends_of ps) is_a is_b)) (subst (λ (n : ℕ). length (cond (l.a == node) (p.0 ∷ cond (l.b == node) (p.1 ∷ ports_at node (ends_of ps)) (ports_at node (ends_of ps))) (cond (l.b == node) (p.1 ∷ ports_at node (ends_of ps)) (ports_at node (ends_of ps)))) ≤ n) (sym sum) one)
 
 -- its weights and its counts are in range
 
@@ -293,21 +306,35 @@ weighs plan i dif sound at k d within =
     (one.least_weight, one.weight)
 
 -- a member has few links
-few_links : (plan : Plan) (i : ℕ) (dif : DifPlan) (k : ℕ) (m : Kept) (ports : List (Port × Port)) (old new : Seen) → IsPlan plan → slice_get plan.difs i ≡ Some dif → slice_get (settings_by plan i dif).members k ≡ Some m → BindsAll old (map (link_fixed plan dif) dif.links) ports new → length (ports_at m.node (ends_of ports)) ≤ 32
+are_crossing : (plan : Plan) (i : ℕ) (dif : DifPlan) → IsPlan plan → slice_get plan.difs i ≡ Some dif → AreCrossing dif.links
+unfolding AreCrossing
+are_crossing plan i dif sound at k l is =
+    let fit = all_at (λ (d : DifPlan). All (IsFitLink (map wire_ends plan.wires) plan.difs d) d.links) plan.difs i dif sound.joints at in
+    (all_at (IsFitLink (map wire_ends plan.wires) plan.difs dif) dif.links k l fit is).apart
+
+few_links : (plan : Plan) (i : ℕ) (dif : DifPlan) (k : ℕ) (m : Kept) (ports : List (Port × Port)) (old new : Seen) → IsPlan plan → slice_get plan.difs i ≡ Some dif → slice_get (settings_by plan i dif).members k ≡ Some m → BindsAll old (map (link_fixed plan dif) dif.links) ports new → length (ports_at m.node (ends_of ports)) ≤ 16
 few_links plan i dif k m ports old new sound at is b =
     let x = planned plan dif (processes_before plan.difs i) dif.members k (member_of m) (seen_at (settings_by plan i dif).members k m is) in
     let most : count_by (has_link_end x.0.node) dif.links ≤ 16 = all_at (λ (z : MemberPlan). count_by (has_link_end z.node) dif.links ≤ 16) dif.members k x.0 (roomy plan i dif sound at).links x.1 in
     let here : count_by (has_link_end m.node) dif.links ≤ 16 = subst (λ (n : ℕ). count_by (has_link_end n) dif.links ≤ 16) x.3 most in
-    let two = few plan dif m.node dif.links ports old new b in
-    omega (arith, here, two)
+    let one = few plan dif m.node dif.links ports old new (are_crossing plan i dif sound at) b in
+    omega (arith, here, one)
+
+-- so has each of them
+all_few : (plan : Plan) (i : ℕ) (dif : DifPlan) (s : Settings) (ports : List (Port × Port)) (old new : Seen) → IsPlan plan → slice_get plan.difs i ≡ Some dif → s ≡ settings_by plan i dif → BindsAll old (map (link_fixed plan dif) dif.links) ports new → HaveFewLinks s.members dif.links
+all_few plan i dif s ports old new sound at are b m among =
+    let most = few_links plan i dif among.0 m ports old new sound at (ap (λ (z : Settings). slice_get z.members among.0) (sym are) ∙ at_place s.members m among) b in
+    let all = enough plan dif s.members m.node dif.links ports old new b in
+    omega (arith, most, all)
 
 -- The managements of a DIF of a plan
 
 -- each was made of the links that were laid, and then the next hops were read from it
-pub made_managed : (plan : Plan) (i : ℕ) (dif : DifPlan) (d : Dif) (old new : Seen) (laid_ports : List (Port × Port)) (linked : List IpcProcess) → IsPlan plan → slice_get plan.difs i ≡ Some dif → d.settings ≡ settings_by plan i dif → IsConfig (config_of d.settings) → AreMembers (config_of d.settings) → AreLaid plan dif d.settings dif.links old new laid_ports linked
+pub made_managed : (plan : Plan) (i : ℕ) (dif : DifPlan) (d : Dif) (old new : Seen) (laid_ports : List (Port × Port)) (linked : List IpcProcess) → IsPlan plan → slice_get plan.difs i ≡ Some dif → d.settings ≡ settings_by plan i dif → IsConfig (config_of d.settings) → AreMembers (config_of d.settings) → AreNamed d.settings.members → AreLaid plan dif d.settings dif.links old new laid_ports linked
     → AreStarted d.settings.cubes d.settings.members dif.links dif.rules dif.allow (length d.settings.members) linked d.managements → AreRouted d.settings.members d.managements (length d.managements) linked d.processes → AreManagedBy d.settings.members dif.links d.clock d.processes d.managements
-made_managed plan i dif d old new laid_ports linked sound at are config members laid so routed =
+made_managed plan i dif d old new laid_ports linked sound at are config members named laid so routed =
     let out : IsLaidOut d.settings.members dif.links = laid_out d.settings dif.links config members (weighs plan i dif sound at) in
+    let fewest : HaveFewLinks d.settings.members dif.links = all_few plan i dif d.settings laid_ports old new sound at are laid.bound in
     record {
       laid_out = out;
       aligned = so.aligned;
@@ -320,13 +347,14 @@ made_managed plan i dif d old new laid_ports linked sound at are config members 
           let is : g.agent ≡ started d.settings.members dif.links one.access m (links_from 0 ports) = one.is ∙ ap (started d.settings.members dif.links one.access m) up.links in
           let count = length_from 0 ports in
           let all : length (edges_from d.settings.members m.node dif.links) ≤ length ports = enough plan dif d.settings.members m.node dif.links laid_ports old new laid.bound in
-          let most : length ports ≤ 32 = few_links plan i dif k m laid_ports old new sound at (ap (λ (s : Settings). slice_get s.members k) (sym are) ∙ is_m) laid.bound in
+          let most : length ports ≤ 16 = few_links plan i dif k m laid_ports old new sound at (ap (λ (s : Settings). slice_get s.members k) (sym are) ∙ is_m) laid.bound in
           let knows : Knows d.settings.members dif.links d.clock m (links_from 0 ports) (started d.settings.members dif.links one.access m (links_from 0 ports)) =
           starts_knowing d.settings.members dif.links one.access m (links_from 0 ports) d.clock out (is_among d.settings.members k m is_m) (are_numbered ports) (are_live ports) (omega (arith, all, count)) (omega (arith, most, count)) in
           let within = slice_get_within d.managements k g is_g in
           record {
             knows = subst (λ (ls : List Link). Knows d.settings.members dif.links d.clock m ls g.agent) (sym links) (subst (Knows d.settings.members dif.links d.clock m (links_from 0 ports)) (sym is) knows);
             routes = routed.routes k g p within is_g is_p;
+            tells = subst (λ (z : Agent). TellsNeighbours z) (sym is) (starts_near d.settings.members dif.links one.access m (links_from 0 ports) out named fewest (is_among d.settings.members k m is_m) (omega (arith, most, count)));
           };
     }
 

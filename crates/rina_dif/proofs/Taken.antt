@@ -1,5 +1,5 @@
 -- The oldest SDU of a link is taken.
-use Rattle.std.proofs.Common.{◌≡◌, ◌∙◌, ℕ, ◌<◌, Bool, List, length, slice_get, option_map, Option, Some, None, Result, Ok, Err, refl, sym, ap, subst, false}
+use Rattle.std.proofs.Common.{◌≡◌, ◌∙◌, ℕ, ◌<◌, Bool, List, length, slice_get, option_map, Option, Some, None, Result, Ok, Err, refl, sym, ap, subst, false, inl, inr}
 use Rattle.std.specs.Prelude.{IsSome}
 use Rattle.std.proofs.lemmas.Option.{slice_get-map}
 use Rattle.rina_base.specs.declared.number.Key.{Key}
@@ -40,7 +40,7 @@ use Rattle.rina_dif.specs.declared.dif.Dif.{Dif}
 use Rattle.rina_dif.specs.Holding.{Holds}
 use Rattle.rina_dif.specs.Shown.{seen_of}
 use Rattle.rina_dif.specs.Steps.{AtHome}
-use Rattle.rina_dif.specs.Taking.{HasTaken, InsAt, IsOldest, IsThere, TakesHome, TakesIn}
+use Rattle.rina_dif.specs.Taking.{HasTaken, InsAt, IsOldest, IsThere, SettlesLinks, TakesFor, TakesHome, TakesIn, TakesLinks}
 use Rattle.rina_dif.proofs.Causing.{ins_caused}
 use Rattle.rina_dif.proofs.Leaves.{shown_at}
 use Rattle.rina_dif.proofs.Connected.{taking_connected}
@@ -102,18 +102,20 @@ waits_there below port tick bytes lent = subst (λ (o : Option Entry). IsSome o)
 -- What is answered
 
 pub no_link : (d : Dif) (lines : List Direction) (below : Seen) (at n : ℕ) (p : IpcProcess) → slice_get d.processes at ≡ Some p → link_by n p.links ≡ None → Holds d lines below → TakesIn d lines below at n (Err NoLink) d below
-no_link d lines below at n p is none h = record { lines' = lines; does = (record { process = process_of p; is_process = shown_at d at p is; none = none }, refl, refl, refl); holds = h }
+no_link d lines below at n p is none h = record { lines' = lines; does = (record { process = process_of p; is_process = shown_at d at p is; none = none }, refl, refl, refl); links = λ links. refl; holds = h }
 
 pub none_waits : (d : Dif) (lines : List Direction) (below : Seen) (at n : ℕ) (p : IpcProcess) (link : Link) → slice_get d.processes at ≡ Some p → link_by n p.links ≡ Some link → unpassed below link.port ≡ None → Holds d lines below → TakesIn d lines below at n (Ok in_.Idle) d below
-none_waits d lines below at n p link is is_link none h = record { lines' = lines; does = (record { process = process_of p; link = link; is_process = shown_at d at p is; is_link = is_link; none = none }, refl, refl, refl); holds = h }
+none_waits d lines below at n p link is is_link none h = record { lines' = lines; does = (record { process = process_of p; link = link; is_process = shown_at d at p is; is_link = is_link; none = none }, refl, refl, refl); links = λ links. refl; holds = h }
 
-pub took_none : (d : Dif) (lines : List Direction) (below : Seen) (at n : ℕ) (d' : Dif) (e : StepError) (r : Result InStep StepError) → e ≡ Memory → r ≡ Err e → (seen_of d' ≡ seen_of d) × Holds d' lines below → TakesIn d lines below at n r d' below
+pub took_none : (d : Dif) (lines : List Direction) (below : Seen) (at n : ℕ) (d' : Dif) (e : StepError) (r : Result InStep StepError) → e ≡ Memory → r ≡ Err e → (seen_of d' ≡ seen_of d) × Holds d' lines below × (d'.connections ≡ d.connections) → TakesIn d lines below at n r d' below
 took_none d lines below at n d' e r is err same =
-    subst (λ (v : Result InStep StepError). TakesIn d lines below at n v d' below) (sym (err ∙ ap (λ (z : StepError). Err z) is)) (record { lines' = lines; does = (same.0, refl, refl); holds = same.1 })
+    subst (λ (v : Result InStep StepError). TakesIn d lines below at n v d' below) (sym (err ∙ ap (λ (z : StepError). Err z) is)) (record { lines' = lines; does = (same.0, refl, refl); links = λ links. same.2; holds = same.1 })
 
-pub took_it : (d : Dif) (lines : List Direction) (below : Seen) (at n : ℕ) (p : IpcProcess) (link : Link) (tick : ℕ) (bytes : List ℕ) (hop : Hop) (key : Key) (end : Took) (d' : Dif) (below' : Seen) → AreKept below → AreKept below' → at < length d.settings.members → (h : Holds d lines below) → slice_get d.processes at ≡ Some p → link_by n p.links ≡ Some link → IsLent below link.port tick bytes → Some hop ≡ opened d.settings.widths bytes → key ≡ key_of hop.pdu → HasTaken d lines h.connected.lines below at tick link.port hop end d' → IsPassed below link.port below' → TakesIn d lines below at n (Ok (in_.Took key end)) d' below'
-took_it d lines below at n p link tick bytes hop key end d' below' kept kept' lt h is is_link lent opened_ key_is s passed =
+pub took_it : (d : Dif) (lines : List Direction) (below : Seen) (at n : ℕ) (p : IpcProcess) (link : Link) (tick : ℕ) (bytes : List ℕ) (hop : Hop) (key : Key) (end : Took) (d' : Dif) (below' : Seen) → AreKept below → AreKept below' → at < length d.settings.members → (h : Holds d lines below) → slice_get d.processes at ≡ Some p → link_by n p.links ≡ Some link → IsLent below link.port tick bytes → Some hop ≡ opened d.settings.widths bytes → key ≡ key_of hop.pdu → IsThere (seen_of d) below tick hop → TakesFor d at tick link.port hop (Ok end) d' → IsPassed below link.port below' → TakesIn d lines below at n (Ok (in_.Took key end)) d' below'
+took_it d lines below at n p link tick bytes hop key end d' below' kept kept' lt h is is_link lent opened_ key_is there takes passed =
     let here = is_here d at p lt is in
+    let oldest = oldest_there d below link.port tick bytes hop lent opened_ in
+    let s : HasTaken d lines h.connected.lines below at tick link.port hop end d' = takes lines below h kept there oldest in
     let does : Ins (seen_of d) lines below at n (Ok (in_.Took key end)) (seen_of d') s.lines' below' = record {
       member = here.member;
       process = process_of p;
@@ -131,6 +133,9 @@ took_it d lines below at n p link tick bytes hop key end d' below' kept kept' lt
     record {
       lines' = s.lines';
       does = does;
+      links = λ links.
+          let own : HasTaken d lines links.lines below at tick link.port hop end d' = takes lines below (record h { connected = links }) kept there oldest in
+          record { process = p; is_process = is; link = link; is_link = is_link; since = tick; hop = hop; is_oldest = oldest; links' = own.connected.lines; settled = own.channels; tied = own.connected.tied };
       holds = record {
         tied = s.tied;
         standing = ins_stand (seen_of d) lines below at n (Ok (in_.Took key end)) (seen_of d') s.lines' below' kept kept' h.standing does;
@@ -160,6 +165,20 @@ ins_at d lines below node n at (Err Memory) d' lines' below' here ins = ins
 ins_at d lines below node n at (Err NoIpc) d' lines' below' here ins = at_home (home node d.config.members) at (λ k. Ins d lines below k n (Err NoIpc) d' lines' below') _ here ins
 ins_at d lines below node n at (Err NoLink) d' lines' below' here ins = at_home (home node d.config.members) at (λ k. Ins d lines below k n (Err NoLink) d' lines' below') _ here ins
 
+either_home : (o : Option ℕ) (P : ℕ → Type 0) (Q : Type 0) → ((k : ℕ) → P k) → Q → AtHome o P Q
+either_home (Some k) P Q p q = p k
+either_home None P Q p q = q
+
+-- what the management connections made of it
+noted_settled : (d : Dif) (links : List Direction) (since : ℕ) (port : Port) (hop : Hop) (end : Took) (d' : Dif) (failed : Bool) (links' : List Direction) → SettlesLinks d links since port hop end d' links' → SettlesLinks d links since port hop end (record d' { failed = failed }) links'
+noted_settled d links since port hop end d' failed links' (inl same) = inl same
+noted_settled d links since port hop end d' failed links' (inr s) = inr (record { for_link = s.for_link; dropped = s.dropped; takes = s.takes })
+
+noted_links : (d : Dif) (links : List Direction) (below : Seen) (i n : ℕ) (r : Result InStep StepError) (d' : Dif) (failed : Bool) → TakesLinks d links below i n r d' → TakesLinks d links below i n r (record d' { failed = failed })
+noted_links d links below i n (Ok (in_.Took key end)) d' failed t = record { process = t.process; is_process = t.is_process; link = t.link; is_link = t.is_link; since = t.since; hop = t.hop; is_oldest = t.is_oldest; links' = t.links'; settled = noted_settled d links t.since t.link.port t.hop end d' failed t.links' t.settled; tied = t.tied }
+noted_links d links below i n (Ok in_.Idle) d' failed same = same
+noted_links d links below i n (Err e) d' failed same = same
+
 -- and whether an allocation failed is noted
 pub takes_home : (d : Dif) (lines : List Direction) (below : Seen) (node n at : ℕ) (r r' : Result InStep StepError) (d' : Dif) (failed : Bool) (below' : Seen) → d'.failed ≡ false → home node (config_of d.settings).members ≡ Some at → r' ≡ r → TakesIn d lines below at n r d' below' → TakesHome d lines below node n r' (record d' { failed = failed }) below'
 takes_home d lines below node n at r r' d' failed below' alive here same t =
@@ -167,11 +186,12 @@ takes_home d lines below node n at r r' d' failed below' alive here same t =
     record {
       lines' = t.lines';
       does = subst (λ (v : Result InStep StepError). InsAt (seen_of d) lines below node n v (seen_of d') t.lines' below') (sym same) does;
+      links = λ links. at_home (home node (config_of d.settings).members) at (λ i. TakesLinks d links.lines below i n r' (record d' { failed = failed })) _ here (subst (λ (v : Result InStep StepError). TakesLinks d links.lines below at n v (record d' { failed = failed })) (sym same) (noted_links d links.lines below at n r d' failed (t.links links)));
       holds = record { tied = t.holds.tied; standing = t.holds.standing; carrying = t.holds.carrying; numbered = t.holds.numbered; accounted = t.holds.accounted; caused = t.holds.caused; written_off = t.holds.written_off; housed = t.holds.housed; managed = t.holds.managed; connected = t.holds.connected; flooded = λ still. t.holds.flooded alive };
     }
 
 pub takes_none : (d : Dif) (lines : List Direction) (below : Seen) (node n : ℕ) → Holds d lines below → TakesHome d lines below node n (Err Memory) d below
-takes_none d lines below node n h = record { lines' = lines; does = (refl, refl, refl); holds = h }
+takes_none d lines below node n h = record { lines' = lines; does = (refl, refl, refl); links = λ links. either_home (home node (config_of d.settings).members) (λ i. TakesLinks d links.lines below i n (Err Memory) d) _ (λ k. refl) refl; holds = h }
 
 pub takes_nowhere : (d : Dif) (lines : List Direction) (below : Seen) (node n : ℕ) → home node (config_of d.settings).members ≡ None → Holds d lines below → TakesHome d lines below node n (Err NoIpc) d below
-takes_nowhere d lines below node n none h = record { lines' = lines; does = not_home (home node (config_of d.settings).members) (λ k. Ins (seen_of d) lines below k n (Err NoIpc) (seen_of d) lines below) _ none (refl, refl, refl, refl); holds = h }
+takes_nowhere d lines below node n none h = record { lines' = lines; does = not_home (home node (config_of d.settings).members) (λ k. Ins (seen_of d) lines below k n (Err NoIpc) (seen_of d) lines below) _ none (refl, refl, refl, refl); links = λ links. not_home (home node (config_of d.settings).members) (λ i. TakesLinks d links.lines below i n (Err NoIpc) d) _ none refl; holds = h }

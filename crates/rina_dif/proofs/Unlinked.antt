@@ -209,6 +209,7 @@ module _ (d : Dif) (lines : List Direction) (below : Seen) (at : ℕ) (lost : Lo
           lines = links.lines;
           tied = links.tied;
           standing = other_pdus_stand (channels_seen (config_of d.settings) d.clock d.connections) links.lines (seen_of d).processes (seen_of between).processes below links.standing leaves;
+          paired = links.paired;
           each = λ i n q live. links.each i n q (leaves.live i n q live);
         } in
         let there : ClosesOn (config_of d.settings) d.clock links.lines gone.loses.link.port then_closed.offs d.connections after.connections = subst (λ (port : Port). ClosesOn (config_of d.settings) d.clock links.lines port then_closed.offs d.connections after.connections) (sym first_lost.port_is) (then_closed.closes kept) in

@@ -43,7 +43,7 @@ use Rattle.rina_dif.proofs.Closing.{closes_held, closes_lines, noted_stand}
 use Rattle.rina_dif.proofs.Cutting.{after_loss}
 use Rattle.rina_ids.specs.Members.{CepIds}
 use Rattle.rina_dif.specs.declared.dif.Dif.{Dif}
-use Rattle.rina_dif.specs.Clocking.{ClockSteps, ClockStepsAt, Serves, Steps, StepsFlow, StepsLost, StepsOk}
+use Rattle.rina_dif.specs.Clocking.{ClockSteps, ClockStepsAt, Serves, ServesAny, ServesMessage, Steps, StepsFlow, StepsLost, StepsOk}
 use Rattle.rina_dif.specs.Facade.{PassesAt}
 use Rattle.rina_dif.specs.Freeing.{FreesAt, FreesEnd}
 use Rattle.rina_dif.specs.Holding.{Holds}
@@ -178,52 +178,63 @@ link_ids d below k ids links is =
     ap (λ (z : Ids). z.scep) (same_some (slice_get m.ids k) ids (names_at k c.0.partner) is (links.standing.channels.names k c.0 c.1))
 
 -- it does what is due, and writes lines of its link
-link_noted : (d : Dif) (lines : List Direction) (below : Seen) (node i place : ℕ) (done : ClockStep) (new : DifSeen) (flows' : Flows) (h : Holds d lines below) → new ≡ record (seen_of d) { processes = new.processes } → DoesLink d h.connected.lines i place done new flows' → IsNoted (MayByClock d lines below node) (seen_of d) new
-link_noted d lines below node i place (step.Gone cep) new flows' h same s =
+link_noted : (d : Dif) (lines : List Direction) (below : Seen) (node i place : ℕ) (done : ClockStep) (new : DifSeen) (flows' : Flows) (below' : Seen) (h : Holds d lines below) → new ≡ record (seen_of d) { processes = new.processes } → DoesLink d h.connected.lines below i place done new flows' below' → IsNoted (MayByClock d lines below node) (seen_of d) new
+link_noted d lines below node i place (step.Gone cep) new flows' below' h same s =
     let f = s.1 in
     let m = channels_seen (config_of d.settings) d.clock d.connections in
     let member = beside (seen_of d).processes (seen_of d).config.members i f.process (sym h.standing.aligned) f.is_process in
     process_noted (MayByClock d lines below node) (seen_of d) new i f.process (with_offs f.process (map unnamed_line f.held)) (map unnamed_line f.held) f.written f.is_process refl
     (λ off one. inl (record { member = member.0; process = f.process; is_process = record { is_member = member.1; is_process = f.is_process }; may = inr (gone_lines m h.connected.lines (seen_of d).processes below place f.held f.links' h.connected.standing f.forgets off one) }))
     (ports_same f.process.links f.process.links refl)
-link_noted d lines below node i place (step.Ack cep) new flows' h same s =
+link_noted d lines below node i place (step.Ack cep) new flows' below' h same s =
     let a = s.1.acknowledged in
     posts_noted d lines below node place a.channel a.cube.mpl _ s.1.cause new a.is_end.stands refl (link_ids d below place a.ids h.connected a.is_end.is_conn.ids_are) same a.posted
-link_noted d lines below node i place (step.Again num) new flows' h same s =
-    let a = s.resent in
-    posts_noted d lines below node place a.channel a.cube.mpl _ s.cause new a.is_end.stands refl (link_ids d below place a.ids h.connected a.is_end.is_conn.ids_are) same a.posted
-link_noted d lines below node i place step.Idle new flows' h same s = absurd s
-link_noted d lines below node i place (step.GaveUp num) new flows' h same s = absurd s
-link_noted d lines below node i place (step.LinkLost link) new flows' h same s = absurd s
-link_noted d lines below node i place (step.LinkNew link) new flows' h same s = absurd s
-link_noted d lines below node i place (step.Timeout port) new flows' h same s = absurd s
-link_noted d lines below node i place (step.Message link) new flows' h same s = absurd s
+link_noted d lines below node i place (step.Again num) new flows' below' h same s =
+    let a = s.0.resent in
+    posts_noted d lines below node place a.channel a.cube.mpl _ s.0.cause new a.is_end.stands refl (link_ids d below place a.ids h.connected a.is_end.is_conn.ids_are) same a.posted
+link_noted d lines below node i place step.Idle new flows' below' h same s = absurd s
+link_noted d lines below node i place (step.GaveUp num) new flows' below' h same s = same_noted (MayByClock d lines below node) (seen_of d) new s.same.0
+link_noted d lines below node i place (step.LinkLost link) new flows' below' h same s = absurd s
+link_noted d lines below node i place (step.LinkNew link) new flows' below' h same s = absurd s
+link_noted d lines below node i place (step.Timeout port) new flows' below' h same s = absurd s
+link_noted d lines below node i place (step.Message link) new flows' below' h same s = absurd s
 
-serves_noted : (d : Dif) (lines : List Direction) (below : Seen) (node : ℕ) (done : ClockStep) (d' : Dif) (lines' : List Direction) → Holds d lines below → Serves d lines below node done d' lines' → IsNoted (MayByClock d lines below node) (seen_of d) (seen_of d')
-serves_noted d lines below node done d' lines' h (inl flow) = flow_noted d lines below node done (seen_of d') lines' h flow.does
-serves_noted d lines below node done d' lines' h (inr link) =
+serves_noted : (d : Dif) (lines : List Direction) (below : Seen) (node : ℕ) (done : ClockStep) (d' : Dif) (lines' : List Direction) (below' : Seen) → Holds d lines below → Serves d lines below node done d' lines' below' → IsNoted (MayByClock d lines below node) (seen_of d) (seen_of d')
+serves_noted d lines below node done d' lines' below' h (inl flow) = flow_noted d lines below node done (seen_of d') lines' h flow.does
+serves_noted d lines below node done d' lines' below' h (inr link) =
     let x = link.0.does h.connected in
-    link_noted d lines below node link.0.i x.place done (seen_of d') d'.connections.flows h (ap seen_of link.0.only) x.does
+    link_noted d lines below node link.0.i x.place done (seen_of d') d'.connections.flows below' h (ap seen_of link.0.only) x.does
 
-steps_noted : (d : Dif) (lines : List Direction) (below : Seen) (node : ℕ) (done : ClockStep) (d' : Dif) (lines' : List Direction) → Holds d lines below → Steps d lines below node done d' lines' → IsNoted (MayByClock d lines below node) (seen_of d) (seen_of d')
-steps_noted d lines below node step.Idle d' lines' h s = serves_noted d lines below node step.Idle d' lines' h s.1
-steps_noted d lines below node (step.Gone cep) d' lines' h s = serves_noted d lines below node (step.Gone cep) d' lines' h s.1
-steps_noted d lines below node (step.GaveUp num) d' lines' h s = serves_noted d lines below node (step.GaveUp num) d' lines' h s.1
-steps_noted d lines below node (step.Ack cep) d' lines' h s = serves_noted d lines below node (step.Ack cep) d' lines' h s.1
-steps_noted d lines below node (step.Again num) d' lines' h s = serves_noted d lines below node (step.Again num) d' lines' h s.1
-steps_noted d lines below node (step.LinkLost link) d' lines' h s = lost_with_noted d lines below node link d' h s.0
-steps_noted d lines below node (step.LinkNew link) d' lines' h s = serves_noted d lines below node (step.LinkNew link) d' lines' h s.1
-steps_noted d lines below node (step.Timeout port) d' lines' h s = serves_noted d lines below node (step.Timeout port) d' lines' h s.1
-steps_noted d lines below node (step.Message link) d' lines' h s = serves_noted d lines below node (step.Message link) d' lines' h s.1
+-- the pieces of a message wait for its link, and nothing is written
+message_noted : (d : Dif) (lines : List Direction) (below : Seen) (node : ℕ) (done : ClockStep) (d' : Dif) → Holds d lines below → ServesMessage d lines below node done d' → IsNoted (MayByClock d lines below node) (seen_of d) (seen_of d')
+message_noted d lines below node done d' h m =
+    let o = (m.sends.offers h.connected).offers.offered in
+    let same : seen_of d' ≡ record (seen_of d) { processes = (seen_of d').processes } = ap seen_of m.sends.only in
+    kept_noted (MayByClock d lines below node) (seen_of d) (seen_of d') o.channel.member o.put.process _ (same ∙ ap (λ (ps : List Process). record (seen_of d) { processes = ps }) o.put.new_is) o.put.is_of.is_process refl refl
 
-clocks_noted : (d : Dif) (lines : List Direction) (below : Seen) (node : ℕ) (r : Result ClockStep StepError) (d' : Dif) (lines' : List Direction) → Holds d lines below → ClockStepsAt d lines below node r d' lines' → IsNoted (MayByClock d lines below node) (seen_of d) (seen_of d')
-clocks_noted d lines below node (Err Memory) d' lines' h s = same_noted _ (seen_of d) (seen_of d') s.0
-clocks_noted d lines below node (Ok done) d' lines' h s = by_home _ (home node (config_of d.settings).members) (λ i. StepsOk d lines below node (Ok done) d' lines') _ (λ i o. steps_noted d lines below node done d' lines' h o) (λ o. same_noted _ (seen_of d) (seen_of d') o.1) s
-clocks_noted d lines below node (Err NoIpc) d' lines' h s = by_home _ (home node (config_of d.settings).members) (λ i. StepsOk d lines below node (Err NoIpc) d' lines') _ (λ i o. absurd o) (λ o. same_noted _ (seen_of d) (seen_of d') o.1) s
-clocks_noted d lines below node (Err NoLink) d' lines' h s = by_home _ (home node (config_of d.settings).members) (λ i. StepsOk d lines below node (Err NoLink) d' lines') _ (λ i o. absurd o) (λ o. same_noted _ (seen_of d) (seen_of d') o.1) s
+any_noted : (d : Dif) (lines : List Direction) (below : Seen) (node : ℕ) (done : ClockStep) (d' : Dif) (lines' : List Direction) (below' : Seen) → Holds d lines below → ServesAny d lines below node done d' lines' below' → IsNoted (MayByClock d lines below node) (seen_of d) (seen_of d')
+any_noted d lines below node done d' lines' below' h (inl served) = serves_noted d lines below node done d' lines' below' h served.0
+any_noted d lines below node done d' lines' below' h (inr message) = message_noted d lines below node done d' h message.0
+
+steps_noted : (d : Dif) (lines : List Direction) (below : Seen) (node : ℕ) (done : ClockStep) (d' : Dif) (lines' : List Direction) (below' : Seen) → Holds d lines below → Steps d lines below node done d' lines' below' → IsNoted (MayByClock d lines below node) (seen_of d) (seen_of d')
+steps_noted d lines below node step.Idle d' lines' below' h s = any_noted d lines below node step.Idle d' lines' below' h s.1
+steps_noted d lines below node (step.Gone cep) d' lines' below' h s = any_noted d lines below node (step.Gone cep) d' lines' below' h s.1
+steps_noted d lines below node (step.GaveUp num) d' lines' below' h s = any_noted d lines below node (step.GaveUp num) d' lines' below' h s.1
+steps_noted d lines below node (step.Ack cep) d' lines' below' h s = any_noted d lines below node (step.Ack cep) d' lines' below' h s.1
+steps_noted d lines below node (step.Again num) d' lines' below' h s = any_noted d lines below node (step.Again num) d' lines' below' h s.1
+steps_noted d lines below node (step.LinkLost link) d' lines' below' h s = lost_with_noted d lines below node link d' h s.0
+steps_noted d lines below node (step.LinkNew link) d' lines' below' h s = any_noted d lines below node (step.LinkNew link) d' lines' below' h s.1
+steps_noted d lines below node (step.Timeout port) d' lines' below' h s = any_noted d lines below node (step.Timeout port) d' lines' below' h s.1
+steps_noted d lines below node (step.Message link) d' lines' below' h s = any_noted d lines below node (step.Message link) d' lines' below' h s.1
+
+clocks_noted : (d : Dif) (lines : List Direction) (below : Seen) (node : ℕ) (r : Result ClockStep StepError) (d' : Dif) (lines' : List Direction) (below' : Seen) → Holds d lines below → ClockStepsAt d lines below node r d' lines' below' → IsNoted (MayByClock d lines below node) (seen_of d) (seen_of d')
+clocks_noted d lines below node (Err Memory) d' lines' below' h s = same_noted _ (seen_of d) (seen_of d') s.0
+clocks_noted d lines below node (Ok done) d' lines' below' h s = by_home _ (home node (config_of d.settings).members) (λ i. StepsOk d lines below node (Ok done) d' lines' below') _ (λ i o. steps_noted d lines below node done d' lines' below' h o) (λ o. same_noted _ (seen_of d) (seen_of d') o.1) s
+clocks_noted d lines below node (Err NoIpc) d' lines' below' h s = by_home _ (home node (config_of d.settings).members) (λ i. StepsOk d lines below node (Err NoIpc) d' lines' below') _ (λ i o. absurd o) (λ o. same_noted _ (seen_of d) (seen_of d') o.1) s
+clocks_noted d lines below node (Err NoLink) d' lines' below' h s = by_home _ (home node (config_of d.settings).members) (λ i. StepsOk d lines below node (Err NoLink) d' lines' below') _ (λ i o. absurd o) (λ o. same_noted _ (seen_of d) (seen_of d') o.1) s
 
 pub clocks_write : (d : Dif) (lines : List Direction) (below : Seen) (node : ℕ) (r : Result ClockStep StepError) (d' : Dif) (below' : Seen) → Holds d lines below → ClockSteps d lines below node r d' below' → Writes (MayByClock d lines below node) (seen_of d) (seen_of d')
-clocks_write d lines below node r d' below' h s = writes _ (seen_of d) (seen_of d') (clocks_noted d lines below node r d' s.lines' h s.does)
+clocks_write d lines below node r d' below' h s = writes _ (seen_of d) (seen_of d') (clocks_noted d lines below node r d' s.lines' below' h s.does)
 
 -- ---- a flow is freed
 

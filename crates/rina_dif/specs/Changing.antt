@@ -1,5 +1,5 @@
 -- What the events of a DIF make of the managements of its members: of their items, and of the objects that they show.
-use Rattle.std.specs.Prelude.{◌≡◌, ℕ, List, [], length, map, slice_get, slice_set, if◌then◌else◌, Option, Some, None, Result, Ok, Err}
+use Rattle.std.specs.Prelude.{◌≡◌, ◌≢◌, ◌⊎◌, ℕ, List, [], length, map, slice_get, slice_set, if◌then◌else◌, Option, Some, None, Result, Ok, Err}
 use Rattle.std.specs.List.{filter_map, zip}
 use Rattle.rina_base.specs.declared.memory.Memory.{Memory}
 use Rattle.rina_base.specs.declared.number.Num.{Num}
@@ -20,7 +20,7 @@ use Rattle.rina_iface.specs.declared.state.PortState.{PortState}
 use Rattle.rina_iface.specs.declared.state.PortState.TheVariants.{Allocated}
 use Rattle.rina_iface.specs.Seen.{Seen}
 use Rattle.rina_member.specs.declared.management.Management.{Management}
-use Rattle.rina_member.specs.Managements.{LosesLink, MayHoldEntry, entered, with_flow, without_flow, without_flows}
+use Rattle.rina_member.specs.Managements.{LosesLink, MayHoldEntry, entered, with_flow, with_sent, without_flow, without_flows}
 use Rattle.rina_dif.specs.declared.dif.Dif.{Dif}
 use Rattle.rina_dif.specs.Elsewhere.{home_of}
 use Rattle.rina_dif.specs.Unlinking.{FindsLostAt, FindsNoneLeft}
@@ -136,8 +136,10 @@ ManagesLoss (Err e) d below at node number new = new ≡ d.managements
 
 -- A clock step
 
--- where a link is lost, the management of the member loses it; where a flow is given up, the member deletes its object; else none changes
+-- where a link is lost, the management of the member loses it; where a flow is given up, the member deletes its object; a management connection, which
+-- is told with the CEP-id 0, has none; where a message goes over a link, it waits there no more; else none changes
 abbrev pub ManagesStep : Result ClockStep StepError → Option ℕ → Dif → Seen → ℕ → List Management → Type 0
 ManagesStep (Ok (step.LinkLost number)) (Some at) d below node new = LosesManaged d below at node number new
-ManagesStep (Ok (step.GaveUp num)) (Some at) d below node new = new ≡ without_flow_at at num.cep d.managements
+ManagesStep (Ok (step.GaveUp num)) (Some at) d below node new = ((num.cep ≢ 0) × (new ≡ without_flow_at at num.cep d.managements)) ⊎ ((num.cep ≡ 0) × (new ≡ d.managements))
+ManagesStep (Ok (step.Message number)) (Some at) d below node new = new ≡ changed_at at (λ m. with_sent m number) d.managements
 ManagesStep result home d below node new = new ≡ d.managements

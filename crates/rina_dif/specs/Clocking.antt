@@ -1,5 +1,5 @@
 -- The clock steps of a DIF.
-use Rattle.std.specs.Prelude.{◌≡◌, ◌≢◌, ℕ, ◌+◌, ◌*◌, ◌<◌, ◌≤◌, ◌⊎◌, nat_le, true, if◌then◌else◌, List, length, slice_get, Option, Some, None, option_map, Result, Ok, Err}
+use Rattle.std.specs.Prelude.{OnErr, ◌≡◌, ◌≢◌, ℕ, ◌+◌, ◌*◌, ◌<◌, ◌≤◌, ◌⊎◌, nat_le, true, if◌then◌else◌, List, length, slice_get, Option, Some, None, option_map, Result, Ok, Err}
 use Rattle.rina_base.specs.declared.cause.Cause.{Cause}
 use Rattle.rina_conn.specs.declared.conn.Conn.{Conn}
 use Rattle.rina_cube.specs.declared.Cube.{Cube}
@@ -42,6 +42,7 @@ use Rattle.rina_dif.specs.declared.links_due.NextLink.{NextLink}
 use Rattle.rina_dif.specs.Holding.{Holds, LinksStand}
 use Rattle.rina_dif.specs.LinkDue.{IsLinkTurn, NoLinkUpTo}
 use Rattle.rina_dif.specs.LinkSteps.{DoesLink}
+use Rattle.rina_dif.specs.MessageSteps.{IfIdle, NoMessageAt, SendsMessage}
 use Rattle.rina_dif.specs.Shown.{seen_of}
 use Rattle.rina_dif.specs.Steps.{AtHome}
 use Rattle.rina_dif.specs.Unlinking.{HasFailed, LosesWith}
@@ -156,14 +157,14 @@ pub record HasDone (Does : Dif → List Direction → Type 0) (below : Seen) (d'
   pub does : Does d' lines'
   pub holds : Holds d' lines' below
 
--- or memory was not found
-abbrev pub DoneHere : (ClockStep → Dif → List Direction → Type 0) → Dif → List Direction → Seen → Result ClockStep StepError → Dif → Type 0
-DoneHere Does d lines below (Ok done) d' = HasDone (Does done) below d'
-DoneHere Does d lines below (Err Memory) d' = (seen_of d' ≡ seen_of d) × Holds d' lines below
-DoneHere Does d lines below (Err other) d' = ⊥
+-- over the rank below as it is then, or memory was not found
+abbrev pub DoneHere : (ClockStep → Dif → List Direction → Type 0) → Dif → List Direction → Result ClockStep StepError → Dif → Seen → Type 0
+DoneHere Does d lines (Ok done) d' below' = HasDone (Does done) below' d'
+DoneHere Does d lines (Err Memory) d' below' = (seen_of d' ≡ seen_of d) × Holds d' lines below'
+DoneHere Does d lines (Err other) d' below' = ⊥
 
 abbrev pub StepsFlowHere : Dif → List Direction → Seen → ℕ → Result ClockStep StepError → Dif → Type 0
-StepsFlowHere d lines below node result d' = DoneHere (λ done z lines'. StepsFlow d lines node done (seen_of z) lines') d lines below result d'
+StepsFlowHere d lines below node result d' = DoneHere (λ done z lines'. StepsFlow d lines node done (seen_of z) lines') d lines result d' below
 
 -- What is done at the links
 
@@ -202,60 +203,81 @@ abbrev pub FindsLinkFirst : Dif → List Direction → List Direction → ℕ �
 FindsLinkFirst d lines links i node (Some next) = IsLinkFirst next.item d lines links i node next.turn.place next.turn.number
 FindsLinkFirst d lines links i node None = (flow : Option Next) → FindsNext d lines node flow → NoLinkFirst (option_map (λ (n : Next). n.item) flow) d links i
 
--- a flow is served, or nothing is due, and no link goes first
-pub record ServesFlow (d : Dif) (lines : List Direction) (below : Seen) (node : ℕ) (done : ClockStep) (d' : Dif) (lines' : List Direction) : Type 0 where
+-- a flow is served, or nothing is due, and no link goes first; nothing changes below
+pub record ServesFlow (d : Dif) (lines : List Direction) (below : Seen) (node : ℕ) (done : ClockStep) (d' : Dif) (lines' : List Direction) (below' : Seen) : Type 0 where
   pub does : StepsFlow d lines node done (seen_of d') lines'
   pub same : d'.connections ≡ d.connections
+  pub same_below : below' ≡ below
   pub first : (i : ℕ) → home node (config_of d.settings).members ≡ Some i → (links : LinksStand d below) → NoLinkFirst (item_of done) d links.lines i
 
 -- the management connection of the link that goes first does what is due there
-pub record IsLinkStep (d : Dif) (lines links : List Direction) (i node : ℕ) (done : ClockStep) (new : DifSeen) (flows' : Flows) : Type 0 where
+pub record IsLinkStep (d : Dif) (lines links : List Direction) (below : Seen) (i node : ℕ) (done : ClockStep) (new : DifSeen) (flows' : Flows) (below' : Seen) : Type 0 where
   pub item : Item
   pub told : item_of done ≡ Some item
   pub place : ℕ
   pub number : ℕ
   pub first : IsLinkFirst item d lines links i node place number
-  pub does : DoesLink d links i place done new flows'
+  pub does : DoesLink d links below i place done new flows' below'
 
 -- a link is served, whichever directions stand behind the management connections: an IPC process changes, and these connections
-pub record ServesLink (d : Dif) (lines : List Direction) (below : Seen) (node : ℕ) (done : ClockStep) (d' : Dif) : Type 0 where
+pub record ServesLink (d : Dif) (lines : List Direction) (below : Seen) (node : ℕ) (done : ClockStep) (d' : Dif) (below' : Seen) : Type 0 where
   pub i : ℕ
   pub at_home : home node (config_of d.settings).members ≡ Some i
   pub only : d' ≡ record d { processes = d'.processes; connections = record d.connections { flows = d'.connections.flows }; failed = d'.failed }
-  pub does : (links : LinksStand d below) → IsLinkStep d lines links.lines i node done (seen_of d') d'.connections.flows
+  pub does : (links : LinksStand d below) → IsLinkStep d lines links.lines below i node done (seen_of d') d'.connections.flows below'
 
 -- the one or the other
-abbrev pub Serves : Dif → List Direction → Seen → ℕ → ClockStep → Dif → List Direction → Type 0
-Serves d lines below node done d' lines' = ServesFlow d lines below node done d' lines' ⊎ (ServesLink d lines below node done d' × (lines' ≡ lines))
+abbrev pub Serves : Dif → List Direction → Seen → ℕ → ClockStep → Dif → List Direction → Seen → Type 0
+Serves d lines below node done d' lines' below' = ServesFlow d lines below node done d' lines' below' ⊎ (ServesLink d lines below node done d' below' × (lines' ≡ lines))
 
-abbrev pub ServesHere : Dif → List Direction → Seen → ℕ → Result ClockStep StepError → Dif → Type 0
-ServesHere d lines below node result d' = DoneHere (Serves d lines below node) d lines below result d'
+abbrev pub ServesHere : Dif → List Direction → Seen → ℕ → Result ClockStep StepError → Dif → Seen → Type 0
+ServesHere d lines below node result d' below' = DoneHere (λ done z lines'. Serves d lines below node done z lines' below') d lines result d' below' × OnErr result (below' ≡ below)
+
+-- What is done last
+
+-- nothing is due at the flows of a node, nor at the links of its IPC process
+pub record IsStill (d : Dif) (lines : List Direction) (below : Seen) (node : ℕ) : Type 0 where
+  pub flows : IsIdle d lines node
+  pub links : (i : ℕ) → home node (config_of d.settings).members ≡ Some i → (links : LinksStand d below) → NoLinkUpTo Again d links.lines i
+
+-- so a message goes, of which the step tells the link
+pub record ServesMessage (d : Dif) (lines : List Direction) (below : Seen) (node : ℕ) (done : ClockStep) (d' : Dif) : Type 0 where
+  pub number : ℕ
+  pub told : done ≡ step.Message number
+  pub still : IsStill d lines below node
+  pub sends : SendsMessage d below node number d'
+
+-- a link or a flow is served; where nothing is due at them, a message goes, and nothing changes below, or none is due either
+abbrev pub ServesAny : Dif → List Direction → Seen → ℕ → ClockStep → Dif → List Direction → Seen → Type 0
+ServesAny d lines below node done d' lines' below' = (Serves d lines below node done d' lines' below' × IfIdle done (NoMessageAt d below node)) ⊎ (ServesMessage d lines below node done d' × (lines' ≡ lines) × (below' ≡ below))
+
+abbrev pub ServesAnyHere : Dif → List Direction → Seen → ℕ → Result ClockStep StepError → Dif → Seen → Type 0
+ServesAnyHere d lines below node result d' below' = DoneHere (λ done z lines'. ServesAny d lines below node done z lines' below') d lines result d' below' × OnErr result (below' ≡ below)
 
 -- What is done first
 
 -- a link that is lost comes before all that is due
-abbrev pub Steps : Dif → List Direction → Seen → ℕ → ClockStep → Dif → List Direction → Type 0
-Steps d lines below node (step.LinkLost link) d' lines' = StepsLost d lines below node link d' × (lines' ≡ lines)
-Steps d lines below node done d' lines' = NoneLostAt d below node × Serves d lines below node done d' lines'
+abbrev pub Steps : Dif → List Direction → Seen → ℕ → ClockStep → Dif → List Direction → Seen → Type 0
+Steps d lines below node (step.LinkLost link) d' lines' below' = StepsLost d lines below node link d' × (lines' ≡ lines) × (below' ≡ below)
+Steps d lines below node done d' lines' below' = NoneLostAt d below node × ServesAny d lines below node done d' lines' below'
 
-abbrev pub StepsHere : Dif → List Direction → Seen → ℕ → Result ClockStep StepError → Dif → Type 0
-StepsHere d lines below node result d' = DoneHere (Steps d lines below node) d lines below result d'
+abbrev pub StepsHere : Dif → List Direction → Seen → ℕ → Result ClockStep StepError → Dif → Seen → Type 0
+StepsHere d lines below node result d' below' = DoneHere (λ done z lines'. Steps d lines below node done z lines' below') d lines result d' below' × OnErr result (below' ≡ below)
 
 -- at the IPC process of this node
-abbrev pub StepsOk : Dif → List Direction → Seen → ℕ → Result ClockStep StepError → Dif → List Direction → Type 0
-StepsOk d lines below node (Ok done) d' lines' = Steps d lines below node done d' lines'
-StepsOk d lines below node (Err e) d' lines' = ⊥
+abbrev pub StepsOk : Dif → List Direction → Seen → ℕ → Result ClockStep StepError → Dif → List Direction → Seen → Type 0
+StepsOk d lines below node (Ok done) d' lines' below' = Steps d lines below node done d' lines' below'
+StepsOk d lines below node (Err e) d' lines' below' = ⊥
 
--- what `clock_step` does at a node, to its management too; nothing changes below
-abbrev pub ClockStepsAt : Dif → List Direction → Seen → ℕ → Result ClockStep StepError → Dif → List Direction → Type 0
-ClockStepsAt d lines below node (Err Memory) d' lines' = (seen_of d' ≡ seen_of d) × (lines' ≡ lines)
-ClockStepsAt d lines below node result d' lines' = AtHome (home node (config_of d.settings).members) (λ i. StepsOk d lines below node result d' lines') ((result ≡ Err NoIpc) × (seen_of d' ≡ seen_of d) × (lines' ≡ lines))
+-- what `clock_step` does at a node, to its management too
+abbrev pub ClockStepsAt : Dif → List Direction → Seen → ℕ → Result ClockStep StepError → Dif → List Direction → Seen → Type 0
+ClockStepsAt d lines below node (Err Memory) d' lines' below' = (seen_of d' ≡ seen_of d) × (lines' ≡ lines) × (below' ≡ below)
+ClockStepsAt d lines below node result d' lines' below' = AtHome (home node (config_of d.settings).members) (λ i. StepsOk d lines below node result d' lines' below') ((result ≡ Err NoIpc) × (seen_of d' ≡ seen_of d) × (lines' ≡ lines) × (below' ≡ below))
 
 pub record ClockSteps (d : Dif) (lines : List Direction) (below : Seen) (node : ℕ) (result : Result ClockStep StepError) (d' : Dif) (below' : Seen) : Type 0 where
   pub lines' : List Direction
-  pub does : ClockStepsAt d lines below node result d' lines'
+  pub does : ClockStepsAt d lines below node result d' lines' below'
   pub managed : ManagesStep result (home_of d node) d below node d'.managements
-  pub same_below : below' ≡ below
   pub holds : Holds d' lines' below'
 
 -- Why a flow fails

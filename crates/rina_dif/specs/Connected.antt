@@ -9,6 +9,8 @@ use Rattle.rina_channel.specs.Standing.{IsManaged, IsStanding}
 use Rattle.rina_cube.specs.declared.Cube.{Cube}
 use Rattle.rina_data.specs.Configs.{Config}
 use Rattle.rina_data.specs.Process.{Process}
+use Rattle.rina_flood.specs.Network.{Side, other}
+use Rattle.rina_flood.specs.Static.{end_place}
 use Rattle.rina_flows.specs.Calls.{AreTied}
 use Rattle.rina_iface.specs.Seen.{Seen}
 use Rattle.rina_law.specs.Direction.{Direction}
@@ -35,10 +37,16 @@ pub record HasConnection (channels : List Channel) (i number : ℕ) : Type 0 whe
 abbrev pub LinksAreConnected : List Channel → List Process → Type 0
 LinksAreConnected channels processes = (i number : ℕ) (port : Port) → HasLive processes i number port → HasConnection channels i number
 
--- they stand on the rank below: the DIF can have them, directions stand behind them, to which they are tied, and each live link has one
+-- the two ends of a link have their channels one after the other, from an even place on
+abbrev pub ArePaired : List Channel → Type 0
+ArePaired channels = (l : ℕ) (side : Side) (channel : Channel) → slice_get channels (end_place l side) ≡ Some channel → channel.partner ≡ end_place l (other side)
+
+-- they stand on the rank below: the DIF can have them, directions stand behind them, to which they are tied, their ends are in pairs, and
+-- each live link has one
 pub record AreConnected (g : Config) (now : ℕ) (c : Connections) (processes : List Process) (below : Seen) : Type 0 where
   pub may : CanManage g c.manage
   pub lines : List Direction
   pub tied : AreTied (link_config g c.manage) now c.flows lines
   pub standing : IsStanding (channels_seen g now c) lines processes below
+  pub paired : ArePaired c.channels
   pub each : LinksAreConnected c.channels processes

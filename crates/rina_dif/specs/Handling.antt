@@ -1,19 +1,30 @@
 -- What a PDU that came on a link brings to the management of a member: the SDUs that it makes whole are passed and handled in the
 -- same step, and the next hops follow what the member then holds.
-use Rattle.std.specs.Prelude.{◌≡◌, ℕ, List, [], ◌∷◌, drop, length, slice_get, slice_set, Option, Some, None, Ok}
+use Rattle.std.specs.Prelude.{◌≡◌, ℕ, suc, zero, ◌-◌, List, [], ◌∷◌, drop, length, slice_get, slice_set, Option, Some, None, Result, Ok, Err}
+use Rattle.rina_base.specs.declared.memory.Memory.{Memory}
 use Rattle.rina_iface.specs.declared.ends.End.{End}
+use Rattle.rina_iface.specs.Journal.{At}
+use Rattle.rina_iface.specs.Seen.{Seen}
 use Rattle.rina_law.specs.Direction.{Direction}
 use Rattle.rina_member.specs.declared.management.Management.{Management}
 use Rattle.rina_member.specs.Knowing.{AreRoutesOf}
 use Rattle.rina_member.specs.Managements.{HandlesSdu}
 use Rattle.rina_data.specs.declared.link.Route.{Route}
 use Rattle.rina_data.specs.declared.process.IpcProcess.{IpcProcess}
+use Rattle.rina_data.specs.Configs.{Config}
+use Rattle.rina_dif_law.specs.Ids.{Ids}
+use Rattle.rina_flows.specs.declared.flows.Flows.{Flows}
 use Rattle.rina_flows.specs.Calls.{AreTied, SameIds}
+use Rattle.rina_flows.specs.Rows.{PassedAt}
+use Rattle.rina_flows.specs.Tied.{conns_of}
 use Rattle.rina_dif.specs.declared.dif.Dif.{Dif}
 use Rattle.rina_dif.specs.Flooding.{texts_of}
+use Rattle.rina_dif.specs.Holding.{Holds, LinksStand}
 use Rattle.rina_dif.specs.LinkDue.{IsLinkEnd}
 use Rattle.rina_dif.specs.Messaging.{manage_config}
 use Rattle.rina_dif.specs.Routing.{with_routes}
+
+-- The member
 
 -- the SDUs that came to an end and are not passed
 abbrev pub unpassed_sdus : End → List (List ℕ)
@@ -24,14 +35,39 @@ abbrev pub or_same : Management → Option Management → Management
 or_same m None = m
 or_same m (Some after) = after
 
--- a member handles the SDUs of a link, one after the other, at a tick
+-- a member handles an SDU that came on a link at a tick: what is no news, and no message of a neighbour, leaves it as it is
+pub record HandlesOne (now number : ℕ) (sdu : List ℕ) (m m' : Management) : Type 0 where
+  pub after : Option Management
+  pub handles : HandlesSdu now number sdu m (Ok after)
+  pub is : m' ≡ or_same m after
+
+-- several, one after the other
 abbrev pub HandlesInTurn : ℕ → ℕ → List (List ℕ) → Management → Management → Type 0
 HandlesInTurn now number [] m m' = m' ≡ m
-HandlesInTurn now number (sdu ∷ sdus) m m' = (after : Option Management) × HandlesSdu now number sdu m (Ok after) × HandlesInTurn now number sdus (or_same m after) m'
+HandlesInTurn now number (sdu ∷ sdus) m m' = (mid : Management) × HandlesOne now number sdu m mid × HandlesInTurn now number sdus mid m'
+
+-- The connection
+
+-- the end at a place passes so many of the SDUs that came to it, the oldest first; `links` are the directions behind the ends
+abbrev pub PassesTimes : Config → List Ids → ℕ → ℕ → List End → List Direction → List End → List Direction → Type 0
+PassesTimes g ids at zero ends links ends' links' = (ends' ≡ ends) × (links' ≡ links)
+PassesTimes g ids at (suc n) ends links ends' links' = (mid : List End) × (between : List Direction) × PassesTimes g ids at n ends links mid between × PassedAt g mid ids between at ends' links'
+
+-- the end at a place of the management connections passes all that came to it
+pub record PassesAll (d : Dif) (links : List Direction) (place : ℕ) (flows' : Flows) : Type 0 where
+  pub end : End
+  pub is_end : At d.connections.flows.journal.ends place end
+  pub links' : List Direction
+  pub passes : PassesTimes (manage_config d) (conns_of d.connections.flows.conns) place (length end.got - end.taken) d.connections.flows.journal.ends links flows'.journal.ends links'
+  pub ends : flows'.journal.ends ≡ slice_set d.connections.flows.journal.ends place (record end { taken = length end.got })
+  pub ids : SameIds d.connections.flows flows'
+  pub tied : AreTied (manage_config d) d.clock flows' links'
+
+-- Both
 
 -- the end at a place of the management connection of the link of this number, at the IPC process of place i, passes all SDUs that
 -- came to it; the member handles them in turn; and the next hops of the IPC process are over the items that the member then holds
-pub record HandlesAll (d : Dif) (links : List Direction) (i place number : ℕ) (d' : Dif) (links' : List Direction) : Type 0 where
+pub record HandlesAll (d : Dif) (links : List Direction) (i place number : ℕ) (d' : Dif) : Type 0 where
   pub here : IsLinkEnd d i place number
   pub management : Management
   pub is_management : slice_get d.managements i ≡ Some management
@@ -41,12 +77,14 @@ pub record HandlesAll (d : Dif) (links : List Direction) (i place number : ℕ) 
   pub is_process : slice_get d.processes i ≡ Some process
   pub routes : List Route
   pub are_routes : AreRoutesOf after.agent d.settings.members routes
-  pub ends : d'.connections.flows.journal.ends ≡ slice_set d.connections.flows.journal.ends place (record here.end { taken = length here.end.got })
-  pub ids : SameIds d.connections.flows d'.connections.flows
-  pub tied : AreTied (manage_config d) d.clock d'.connections.flows links'
+  pub passes : PassesAll d links place d'.connections.flows
   pub only : d' ≡ record d {
     connections = record d.connections { flows = d'.connections.flows };
     managements = slice_set d.managements i after;
     processes = slice_set d.processes i (with_routes process routes);
-    failed = d'.failed;
   }
+
+-- so it does, whichever directions stand behind the connections, and the DIF holds; or memory was not found, and nothing changes
+abbrev pub HandlesAs : Dif → List Direction → Seen → ℕ → ℕ → ℕ → Result (Unit {0}) Memory → Dif → Type 0
+HandlesAs d lines below i place number (Ok done) d' = ((links : LinksStand d below) → HandlesAll d links.lines i place number d') × Holds d' lines below
+HandlesAs d lines below i place number (Err e) d' = d' ≡ d

@@ -1,3 +1,4 @@
+pub mod Absence
 pub mod Asking
 pub mod Binding
 pub mod Building
@@ -17,7 +18,9 @@ pub mod Laying
 pub mod LinkDue
 pub mod LinkSteps
 pub mod Linking
+pub mod Lower
 pub mod Managing
+pub mod MessageSteps
 pub mod Messaging
 pub mod Objects
 pub mod Planned

@@ -65,19 +65,16 @@ FindsFirstLink item d links i None = NoLinkDue item d links i
 
 -- The first item
 
--- none of the items before it is due at the links. They have no turn to give a number up
+-- none of the items before it is due at the links
 abbrev pub NoLinkBefore : Item → Dif → List Direction → ℕ → Type 0
 NoLinkBefore Gone d links i = Unit {0}
-NoLinkBefore GiveUp d links i = ⊥
-NoLinkBefore Ack d links i = NoLinkDue Gone d links i
-NoLinkBefore Again d links i = NoLinkDue Gone d links i × NoLinkDue Ack d links i
+NoLinkBefore GiveUp d links i = NoLinkDue Gone d links i
+NoLinkBefore Ack d links i = NoLinkDue Gone d links i × NoLinkDue GiveUp d links i
+NoLinkBefore Again d links i = NoLinkDue Gone d links i × NoLinkDue GiveUp d links i × NoLinkDue Ack d links i
 
 -- none is due up to this one, it neither
 abbrev pub NoLinkUpTo : Item → Dif → List Direction → ℕ → Type 0
-NoLinkUpTo Gone d links i = NoLinkDue Gone d links i
-NoLinkUpTo GiveUp d links i = NoLinkDue Gone d links i
-NoLinkUpTo Ack d links i = NoLinkDue Gone d links i × NoLinkDue Ack d links i
-NoLinkUpTo Again d links i = NoLinkDue Gone d links i × NoLinkDue Ack d links i × NoLinkDue Again d links i
+NoLinkUpTo item d links i = NoLinkBefore item d links i × NoLinkDue item d links i
 
 -- the item is the first that is due at the links, and has its turn at this one
 pub record IsLinkTurn (item : Item) (d : Dif) (links : List Direction) (i place number : ℕ) : Type 0 where

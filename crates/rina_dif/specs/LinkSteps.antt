@@ -6,7 +6,11 @@ use Rattle.rina_base.specs.declared.cause.Cause.TheVariants as causes
 use Rattle.rina_base.specs.declared.memory.Memory.{Memory}
 use Rattle.rina_base.specs.declared.number.Num.{Num}
 use Rattle.rina_base.specs.declared.pdu.Pdu.{Pdu}
+use Rattle.rina_iface.specs.Free.{IsFreed}
 use Rattle.rina_iface.specs.Seen.{Seen}
+use Rattle.rina_law.specs.Sender.{given_up}
+use Rattle.rina_channel.specs.declared.channel.Channel.{Channel}
+use Rattle.rina_flows.specs.Timely.{IsNumberDue}
 use Rattle.rina_law.specs.Direction.{Direction}
 use Rattle.rina_data.specs.declared.process.IpcProcess.{IpcProcess}
 use Rattle.rina_data.specs.Configs.{config_of}
@@ -63,12 +67,23 @@ pub record ResendsLink (d : Dif) (links : List Direction) (place : ℕ) (num : N
   pub num_is : num ≡ record { cep = 0; seq = resent.number }
   pub behind : AreBehind d flows' links'
 
--- the connection of a place does what a step tells, at the IPC process of place i
-abbrev pub DoesLink : Dif → List Direction → ℕ → ℕ → ClockStep → DifSeen → Flows → Type 0
-DoesLink d links i place (step.Gone cep) new flows' = (cep ≡ 0) × ForgetsLink d links i place new flows'
-DoesLink d links i place (step.Ack cep) new flows' = (cep ≡ 0) × AcknowledgesLink d links place new flows'
-DoesLink d links i place (step.Again num) new flows' = ResendsLink d links place num new flows'
-DoesLink d links i place other new flows' = ⊥
+-- it gives up the number that is due so: the flow below of its link is freed, at both ends where `both` says so, and the DIF is as it was
+pub record GivesUpLink (d : Dif) (links : List Direction) (below : Seen) (place : ℕ) (num : Num) (new : DifSeen) (flows' : Flows) (below' : Seen) : Type 0 where
+  pub due : IsNumberDue given_up (link_config (config_of d.settings) d.connections.manage) d.connections.flows.conns links place
+  pub num_is : num ≡ record { cep = 0; seq = due.number }
+  pub channel : Channel
+  pub stands : slice_get d.connections.channels place ≡ Some channel
+  pub both : Bool
+  pub freed : IsFreed both below channel.port below'
+  pub same : (new ≡ seen_of d) × (flows' ≡ d.connections.flows)
+
+-- the connection of a place does what a step tells, at the IPC process of place i. Nothing changes below but where it gives a number up
+abbrev pub DoesLink : Dif → List Direction → Seen → ℕ → ℕ → ClockStep → DifSeen → Flows → Seen → Type 0
+DoesLink d links below i place (step.Gone cep) new flows' below' = (cep ≡ 0) × ForgetsLink d links i place new flows' × (below' ≡ below)
+DoesLink d links below i place (step.GaveUp num) new flows' below' = GivesUpLink d links below place num new flows' below'
+DoesLink d links below i place (step.Ack cep) new flows' below' = (cep ≡ 0) × AcknowledgesLink d links place new flows' × (below' ≡ below)
+DoesLink d links below i place (step.Again num) new flows' below' = ResendsLink d links place num new flows' × (below' ≡ below)
+DoesLink d links below i place other new flows' below' = ⊥
 
 -- How it is called
 
@@ -103,6 +118,11 @@ PostsFor cap now number hop (Err e) p p' = p' ≡ p
 -- at the IPC process of a place, and no other does anything
 abbrev pub PostsAt : ℕ → ℕ → Hop → Result (Option Cause) Memory → ℕ → List IpcProcess → List IpcProcess → Type 0
 PostsAt now number hop result at old new = (p : IpcProcess) → slice_get old at ≡ Some p → (p' : IpcProcess) × PostsFor p.queues.cap now number hop result (process_of p) (process_of p') × (queue_settings p' ≡ queue_settings p) × (new ≡ slice_set old at p')
+
+-- so, over the rank below as it is then; without memory that is as it was
+abbrev pub ServesOver : {T E : Type 0} → (T → List Direction → Type 0) → Dif → List Direction → Seen → Result T E → Dif → Seen → Type 0
+ServesOver does d lines below (Ok done) d' below' = ((links : LinksStand d below) → does done links.lines) × Holds d' lines below'
+ServesOver does d lines below (Err e) d' below' = (d'.connections ≡ d.connections) × (seen_of d' ≡ seen_of d) × Holds d' lines below' × (below' ≡ below)
 
 -- what is done is this, whichever directions stand behind the connections, and the DIF holds; or memory was not found
 abbrev pub ServesAs : {T E : Type 0} → (T → List Direction → Type 0) → Dif → List Direction → Seen → Result T E → Dif → Type 0

@@ -13,6 +13,7 @@ use Rattle.rina_member.specs.declared.management.Management.{Management}
 use Rattle.rina_member.specs.Objects.{first_objects}
 use Rattle.rina_member.specs.Start.{items_held, started}
 use Rattle.rina_dif.specs.declared.dif.Dif.{Dif}
+use Rattle.rina_dif.specs.Telling.{TellsNeighbours}
 
 -- From the start
 
@@ -36,11 +37,13 @@ pub record AreStarted (cubes : List Cube) (members : List Member) (plans : List 
 abbrev pub agents_of : List Management → List Agent
 agents_of managements = map (λ (m : Management). m.agent) managements
 
--- at a tick, the management of a member knows the live links of its IPC process; and the next hops of the IPC process are over the items
--- that the management holds: the first links of least walks over the edges that the link states of both ends claim
+-- at a tick, the management of a member knows the live links of its IPC process; the next hops of the IPC process are over the items
+-- that the management holds: the first links of least walks over the edges that the link states of both ends claim; and the member tells
+-- short messages to its neighbours alone
 pub record IsManaged (members : List Member) (plans : List LinkPlan) (now : ℕ) (m : Member) (p : IpcProcess) (g : Management) : Type 0 where
   pub knows : Knows members plans now m p.links g.agent
   pub routes : AreRoutesOf g.agent members p.routes
+  pub tells : TellsNeighbours g.agent
 
 -- the members and links are as a plan may lay them out, each member has a management at its place, and each IPC process
 -- is managed so

@@ -5,6 +5,7 @@ use Rattle.rina_data.specs.declared.process.IpcProcess.{IpcProcess}
 use Rattle.rina_data.specs.Losing.{NoneLost}
 use Rattle.rina_flows.specs.Resting.{NoneDueUntil}
 use Rattle.rina_iface.specs.Seen.{Seen, unpassed}
+use Rattle.rina_member.specs.declared.management.Management.{Management}
 use Rattle.rina_queue.specs.declared.queue.Queue.{Queue}
 use Rattle.rina_dif.specs.declared.dif.Dif.{Dif}
 
@@ -26,10 +27,15 @@ pub record IsAtRest (p : IpcProcess) (below : Seen) : Type 0 where
 abbrev pub AreAtRest : List IpcProcess → Seen → Type 0
 AreAtRest processes below = (i : ℕ) (p : IpcProcess) → slice_get processes i ≡ Some p → IsAtRest p below
 
--- the DIF can go on, its IPC processes rest over the rank below, and before this tick nothing is due at its flows or at the
--- management connections of its links
+-- no message waits for any link of the members
+abbrev pub NoneWaits : List Management → Type 0
+NoneWaits managements = (k : ℕ) (g : Management) → slice_get managements k ≡ Some g → g.agent.agenda ≡ []
+
+-- the DIF can go on, its IPC processes rest over the rank below, its members have nothing to tell, and before this tick nothing is due at
+-- its flows or at the management connections of its links
 pub record RestsUntil (until : ℕ) (d : Dif) (below : Seen) : Type 0 where
   pub alive : d.failed ≡ false
   pub processes : AreAtRest d.processes below
+  pub messages : NoneWaits d.managements
   pub flows : NoneDueUntil until d.flows
   pub links : NoneDueUntil until d.connections.flows

@@ -12,8 +12,10 @@ use Rattle.rina_iface.specs.Journal.{AreKept}
 use Rattle.rina_iface.specs.Seen.{Seen, unpassed}
 use Rattle.rina_law.specs.declared.entry.Entry.{Entry}
 use Rattle.rina_law.specs.Direction.{Direction}
+use Rattle.rina_data.specs.declared.link.Link.{Link}
 use Rattle.rina_data.specs.declared.process.IpcProcess.{IpcProcess}
 use Rattle.rina_data.specs.declared.step.InStep.{InStep}
+use Rattle.rina_data.specs.declared.step.InStep.TheVariants as steps
 use Rattle.rina_data.specs.declared.step.Decision.{Decision}
 use Rattle.rina_data.specs.declared.step.StepError.{StepError}
 use Rattle.rina_data.specs.declared.step.StepError.TheVariants.{Memory, NoIpc}
@@ -24,7 +26,7 @@ use Rattle.rina_data.specs.Hops.{Hop, opened}
 use Rattle.rina_data.specs.Configs.{Config, Member, config_of}
 use Rattle.rina_data.specs.Deciding.{Decides, IsRouted, process_of, queue_settings}
 use Rattle.rina_dif_law.specs.Dif.{DifSeen, IsProcess}
-use Rattle.rina_data.specs.Process.{Process}
+use Rattle.rina_data.specs.Process.{Process, link_by}
 use Rattle.rina_dif_law.specs.Ids.{IsOfLink}
 use Rattle.rina_dif_law.specs.Incoming.{Ins, Settles}
 use Rattle.rina_data.specs.Queueing.{Notes}
@@ -34,12 +36,12 @@ use Rattle.rina_flows.specs.declared.flows.Flows.{Flows}
 use Rattle.rina_channel.specs.Channels.{has_port}
 use Rattle.rina_channel.specs.Coming.{TakesOnLink}
 use Rattle.rina_channel.specs.Ledgers.{unnamed_from}
-use Rattle.rina_channel.specs.Names.{named}
+use Rattle.rina_channel.specs.Names.{link_config, named}
 use Rattle.rina_flows.specs.Calls.{AreTied, TakesHere}
 use Rattle.rina_flows.specs.Delivering.{ArrivesIn}
 use Rattle.rina_dif.specs.declared.dif.Dif.{Dif}
 use Rattle.rina_dif.specs.Flooding.{StayFlooding}
-use Rattle.rina_dif.specs.Holding.{AreHoused, Holds}
+use Rattle.rina_dif.specs.Holding.{AreHoused, Holds, LinksStand}
 use Rattle.rina_dif.specs.Managing.{AreManaged}
 use Rattle.rina_dif.specs.Shown.{seen_of}
 use Rattle.rina_dif.specs.Steps.{AtHome}
@@ -168,7 +170,7 @@ pub record HasTaken (d : Dif) (lines links : List Direction) (below : Seen) (at 
 
 abbrev pub TakesAs : Dif → List Direction → List Direction → Seen → ℕ → ℕ → Port → Hop → Result Took NoMemory → Dif → Type 0
 TakesAs d lines links below at since port hop (Ok end) d' = HasTaken d lines links below at since port hop end d'
-TakesAs d lines links below at since port hop (Err e) d' = (seen_of d' ≡ seen_of d) × Holds d' lines below
+TakesAs d lines links below at since port hop (Err e) d' = (seen_of d' ≡ seen_of d) × Holds d' lines below × (d'.connections ≡ d.connections)
 
 abbrev pub TakesFor : Dif → ℕ → ℕ → Port → Hop → Result Took NoMemory → Dif → Type 0
 TakesFor d at since port hop result d' = (lines : List Direction) (below : Seen) (h : Holds d lines below) → AreKept below → IsThere (seen_of d) below since hop → IsOldest (config_of d.settings) below port since hop → TakesAs d lines h.connected.lines below at since port hop result d'
@@ -180,10 +182,30 @@ took_of (Some cause) = took.Off cause
 
 -- The step
 
+-- the PDU in the oldest SDU of link n of the IPC process of place i: where it is the link's own, its management connection took it, or none
+-- did; else every management connection is as it was. `links` are the directions behind them before
+pub record TakesOldest (d : Dif) (links : List Direction) (below : Seen) (i n : ℕ) (end : Took) (d' : Dif) : Type 0 where
+  pub process : IpcProcess
+  pub is_process : slice_get d.processes i ≡ Some process
+  pub link : Link
+  pub is_link : link_by n process.links ≡ Some link
+  pub since : ℕ
+  pub hop : Hop
+  pub is_oldest : IsOldest (config_of d.settings) below link.port since hop
+  pub links' : List Direction
+  pub settled : SettlesLinks d links since link.port hop end d' links'
+  pub tied : AreTied (link_config (config_of d'.settings) d'.connections.manage) d'.clock d'.connections.flows links'
+
+-- what a step makes of the management connections: where none was taken they are as they were
+abbrev pub TakesLinks : Dif → List Direction → Seen → ℕ → ℕ → Result InStep StepError → Dif → Type 0
+TakesLinks d links below i n (Ok (steps.Took key end)) d' = TakesOldest d links below i n end d'
+TakesLinks d links below i n result d' = d'.connections ≡ d.connections
+
 -- what `in_step` does at a link of the IPC process of place i
 pub record TakesIn (d : Dif) (lines : List Direction) (below : Seen) (i n : ℕ) (result : Result InStep StepError) (d' : Dif) (below' : Seen) : Type 0 where
   pub lines' : List Direction
   pub does : Ins (seen_of d) lines below i n result (seen_of d') lines' below'
+  pub links : (links : LinksStand d below) → TakesLinks d links.lines below i n result d'
   pub holds : Holds d' lines' below'
 
 abbrev pub InsAt : DifSeen → List Direction → Seen → ℕ → ℕ → Result InStep StepError → DifSeen → List Direction → Seen → Type 0
@@ -194,4 +216,5 @@ InsAt d lines below node n result d' lines' below' = AtHome (home node d.config.
 pub record TakesHome (d : Dif) (lines : List Direction) (below : Seen) (node n : ℕ) (result : Result InStep StepError) (d' : Dif) (below' : Seen) : Type 0 where
   pub lines' : List Direction
   pub does : InsAt (seen_of d) lines below node n result (seen_of d') lines' below'
+  pub links : (links : LinksStand d below) → AtHome (home node (config_of d.settings).members) (λ i. TakesLinks d links.lines below i n result d') (d'.connections ≡ d.connections)
   pub holds : Holds d' lines' below'

@@ -1,5 +1,6 @@
 //! The clock steps of a DIF.
-ghost use Rattle.std.specs.Prelude.{◌≡◌, ◌<◌, ◌≤◌, ◌↔◌, List, Some, IfSome, IsTrue, OnErr, length, true, Err};
+ghost use Rattle.std.specs.Prelude.{◌≡◌, ◌<◌, ◌≤◌, ◌↔◌, List, Some, IfOk, IfSome, IsTrue, OnErr, length, true, Err};
+ghost use Rattle.rina_iface.specs.Free.{FreesAsSeen};
 ghost use Rattle.rina_iface.specs.Later.{IsLater};
 ghost use Rattle.rina_iface.specs.Seen.{Seen};
 ghost use Rattle.rina_law.specs.Direction.{Direction};
@@ -12,8 +13,10 @@ ghost use Rattle.rina_dif.specs.Elsewhere.{ChangesOnly, ChangesProcess, MayClock
 ghost use Rattle.rina_dif.specs.Facade.{GoesOn, OthersStand};
 ghost use Rattle.rina_dif.specs.Holding.{Holds, LinksStand, Stands};
 ghost use Rattle.rina_dif.specs.LinkDue.{IsLinkTurn, rank_of};
-ghost use Rattle.rina_dif.specs.LinkSteps.{DoesLink, ServesAs};
+ghost use Rattle.rina_dif.specs.LinkSteps.{DoesLink, ServesOver};
+ghost use Rattle.rina_dif.specs.Lower.{FreesBelow, FreesOver};
 ghost use Rattle.rina_dif.specs.Changing.{ManagesStep};
+ghost use Rattle.rina_dif.specs.MessageSteps.{IfIdle};
 ghost use Rattle.rina_dif.specs.Shown.{seen_of};
 ghost use Rattle.rina_flows.specs.Watching.{NoneDueBeside};
 
@@ -158,7 +161,7 @@ impl Dif {
         None
     }
 
-    /// Does the first item that is due at the flows of a node, at its IPC process.
+    /// Does the first item that is due at the flows of a node, at its IPC process. Where none is, nothing changes.
     fn do_next(&mut self, alloc: Global, at: usize, node: Node) -> Result<ClockStep, StepError>
         requires stands { (below : Seen) × Stands self.old below }
         requires clock { self.old.clock ≤ 10_000_000 }
@@ -168,6 +171,7 @@ impl Dif {
         ensures same { (self.new.settings ≡ self.old.settings) × (self.new.failed ≡ self.old.failed) }
         ensures laid { self.new.laid ≡ self.old.laid }
         ensures whole { self.new ≡ record self.old { processes = self.new.processes; flows = self.new.flows; ids = self.new.ids; managements = self.new.managements } }
+        ensures idle { IfOk result (λ done. IfIdle done (self.new ≡ self.old)) }
         ensures manages { (below : Seen) → ManagesStep result (Some at) self.old below node self.new.managements }
         ensures leaves { ChangesOnly (MayClock result self.old (Some at)) (Some at) self.old self.new }
     {
@@ -208,14 +212,25 @@ impl Dif {
         }
     }
 
-    /// Does the item that is due at the management connection of a link, whose turn it is, at the IPC process at a place. Without
-    /// memory nothing changes.
-    fn serve_link(&mut self, alloc: Global, at: usize, next: NextLink) -> Result<ClockStep, Memory>
-        requires stands { (below : Seen) × Stands self.old below }
+    /// Does the item that is due at the management connection of a link, whose turn it is, at the IPC process at a place. Where a
+    /// number is given up the flow below of the link is freed; nothing else changes below. Without memory nothing changes.
+    fn serve_link<F: Facility>(
+        &mut self,
+        alloc: Global,
+        below: &mut F,
+        at: usize,
+        next: NextLink,
+    ) -> Result<ClockStep, Memory>
+        requires valid { F.valid below.old }
+        requires stands { Stands self.old (F.seen below.old) }
         requires clock { self.old.clock ≤ 10_000_000 }
         requires at { at < length self.old.settings.members }
-        requires turn { (below : Seen) (links : LinksStand self.old below) → IsLinkTurn next.item self.old links.lines at next.turn.place next.turn.number }
-        ensures does { (lines : List Direction) (below : Seen) → Holds self.old lines below → ServesAs (λ done links. (item_of done ≡ Some next.item) × DoesLink self.old links at next.turn.place done (seen_of self.new) self.new.connections.flows) self.old lines below result self.new }
+        requires turn { (lower : Seen) (links : LinksStand self.old lower) → IsLinkTurn next.item self.old links.lines at next.turn.place next.turn.number }
+        ensures valid { F.valid below.new }
+        ensures below { F.same_below below.old below.new }
+        ensures later { IsLater (F.seen below.old) (F.seen below.new) }
+        ensures does { (lines : List Direction) → Holds self.old lines (F.seen below.old) → ServesOver (λ done links. (item_of done ≡ Some next.item) × DoesLink self.old links (F.seen below.old) at next.turn.place done (seen_of self.new) self.new.connections.flows (F.seen below.new)) self.old lines (F.seen below.old) result self.new (F.seen below.new) }
+        ensures lower { FreesOver (below.new ≡ below.old) (FreesAsSeen F.seen F.frees_both F.does_free below.old below.new) result }
         ensures whole { self.new ≡ record self.old { processes = self.new.processes; connections = record self.old.connections { flows = self.new.connections.flows } } }
         ensures leaves { ChangesProcess (Some at) self.old.processes self.new.processes }
     {
@@ -223,6 +238,10 @@ impl Dif {
             Item::Gone => {
                 self.forget_link(alloc, at, next.turn)?;
                 Ok(ClockStep::Gone { cep: 0 })
+            }
+            Item::GiveUp => {
+                let num = self.give_up_link(alloc, below, at, next.turn)?;
+                Ok(ClockStep::GaveUp { num })
             }
             Item::Ack => {
                 self.acknowledge_link(alloc, at, next.turn)?;
@@ -232,58 +251,75 @@ impl Dif {
                 let num = self.resend_link(alloc, at, next.turn)?;
                 Ok(ClockStep::Again { num })
             }
-            Item::GiveUp => unreachable!(),
         }
     }
 
     /// Serves the link that goes first at the IPC process at a place, at a node, or the first item that is due at the flows there.
-    fn serve_next(&mut self, alloc: Global, at: usize, node: Node) -> Result<ClockStep, StepError>
-        requires stands { (below : Seen) × Stands self.old below }
+    /// Where nothing is due, nothing changes.
+    pub(crate) fn serve_next<F: Facility>(
+        &mut self,
+        alloc: Global,
+        below: &mut F,
+        at: usize,
+        node: Node,
+    ) -> Result<ClockStep, StepError>
+        requires valid { F.valid below.old }
+        requires stands { Stands self.old (F.seen below.old) }
         requires clock { self.old.clock ≤ 10_000_000 }
         requires at { at < length self.old.settings.members }
         requires home { home node (config_of self.old.settings).members ≡ Some at }
-        ensures does { (lines : List Direction) (below : Seen) → Holds self.old lines below → ServesHere self.old lines below node result self.new }
+        ensures valid { F.valid below.new }
+        ensures below { F.same_below below.old below.new }
+        ensures later { IsLater (F.seen below.old) (F.seen below.new) }
+        ensures does { (lines : List Direction) → Holds self.old lines (F.seen below.old) → ServesHere self.old lines (F.seen below.old) node result self.new (F.seen below.new) }
+        ensures lower { FreesBelow (below.new ≡ below.old) (FreesAsSeen F.seen F.frees_both F.does_free below.old below.new) result }
         ensures same { (self.new.settings ≡ self.old.settings) × (self.new.failed ≡ self.old.failed) }
         ensures laid { self.new.laid ≡ self.old.laid }
         ensures whole { self.new ≡ record self.old { processes = self.new.processes; connections = self.new.connections; flows = self.new.flows; ids = self.new.ids; managements = self.new.managements } }
+        ensures idle { IfOk result (λ done. IfIdle done (self.new ≡ self.old)) }
         ensures stays { OnErr result (self.new.connections ≡ self.old.connections) }
-        ensures manages { (below : Seen) → ManagesStep result (Some at) self.old below node self.new.managements }
+        ensures manages { ManagesStep result (Some at) self.old (F.seen below.old) node self.new.managements }
         ensures leaves { ChangesOnly (MayClock result self.old (Some at)) (Some at) self.old self.new }
     {
         match self.first_link(at, node) {
-            Some(next) => Ok(self.serve_link(alloc, at, next)?),
+            Some(next) => Ok(self.serve_link(alloc, below, at, next)?),
             None => self.do_next(alloc, at, node),
         }
     }
 
     /// Loses the first link of the IPC process at a place that is lost, and all flows there with it where it was the last
-    /// one and its flow below has failed, or does the first item that is due at its links and at the flows of its node.
+    /// one and its flow below has failed; or does the first item that is due at its links and at the flows of its node; or offers
+    /// the message that is due at its link of the least number.
     fn step_at<F: Facility>(
         &mut self,
         alloc: Global,
-        below: &F,
+        below: &mut F,
         at: usize,
         node: Node,
     ) -> Result<ClockStep, StepError>
-        requires valid { F.valid below.now }
-        requires stands { Stands self.old (F.seen below.now) }
+        requires valid { F.valid below.old }
+        requires stands { Stands self.old (F.seen below.old) }
         requires clock { self.old.clock ≤ 10_000_000 }
         requires at { at < length self.old.settings.members }
         requires home { home node (config_of self.old.settings).members ≡ Some at }
-        ensures does { (lines : List Direction) → Holds self.old lines (F.seen below.now) → StepsHere self.old lines (F.seen below.now) node result self.new }
+        ensures valid { F.valid below.new }
+        ensures below { F.same_below below.old below.new }
+        ensures later { IsLater (F.seen below.old) (F.seen below.new) }
+        ensures does { (lines : List Direction) → Holds self.old lines (F.seen below.old) → StepsHere self.old lines (F.seen below.old) node result self.new (F.seen below.new) }
+        ensures lower { FreesBelow (below.new ≡ below.old) (FreesAsSeen F.seen F.frees_both F.does_free below.old below.new) result }
         ensures same { (self.new.settings ≡ self.old.settings) × (self.new.failed ≡ self.old.failed) }
         ensures laid { self.new.laid ≡ self.old.laid }
         ensures whole { self.new ≡ record self.old { processes = self.new.processes; connections = self.new.connections; flows = self.new.flows; ids = self.new.ids; managements = self.new.managements } }
         ensures stays { OnErr result (self.new.connections ≡ self.old.connections) }
-        ensures manages { ManagesStep result (Some at) self.old (F.seen below.now) node self.new.managements }
+        ensures manages { ManagesStep result (Some at) self.old (F.seen below.old) node self.new.managements }
         ensures leaves { ChangesOnly (MayClock result self.old (Some at)) (Some at) self.old self.new }
     {
-        match self.lost_link_at(below, at) {
+        match self.lost_link_at(&*below, at) {
             Some(lost) => {
-                self.lose_at(alloc, below, at, node, lost)?;
+                self.lose_at(alloc, &*below, at, node, lost)?;
                 Ok(ClockStep::LinkLost { link: lost.number })
             }
-            None => self.serve_next(alloc, at, node),
+            None => self.serve_any(alloc, below, at, node),
         }
     }
 
@@ -292,9 +328,10 @@ impl Dif {
     /// connection closes with it, and where no link is left
     /// and that flow has failed, all flows of the node fail with it; pieces that are held of a state that has ended are
     /// written off; a number is given up, and its flow fails; an acknowledgement is made; a number is sent again. Of each of
-    /// the last four but giving up, which the flows alone do, the management connections of the live links go first, the one of
-    /// the least link number before the others, and then the flows there, the one of the least CEP-id first. Answers Idle
-    /// exactly where none is due.
+    /// the last four the management connections of the live links go first, the one of the least link number before the others,
+    /// and then the flows there, the one of the least CEP-id first. Where a management connection gives a number up the flow
+    /// below of its link is freed, and no flow fails. Last of all a message of management is offered whole at its link, the one
+    /// of the least number at which one is due. Answers Idle exactly where none is due.
     pub fn clock_step<F: Facility>(
         &mut self,
         alloc: Global,
@@ -307,7 +344,7 @@ impl Dif {
         ensures below { F.same_below below.old below.new }
         ensures later { IsLater (F.seen below.old) (F.seen below.new) }
         ensures does { (lines : List Direction) → Holds self.old lines (F.seen below.old) → ClockSteps self.old lines (F.seen below.old) node result self.new (F.seen below.new) }
-        ensures lower { below.new ≡ below.old }
+        ensures lower { FreesBelow (below.new ≡ below.old) (FreesAsSeen F.seen F.frees_both F.does_free below.old below.new) result }
         ensures fails_late { (lines : List Direction) → Holds self.old lines (F.seen below.old) → FailsLate self.old lines (F.seen below.old) self.new }
         ensures goes_on { GoesOn self.old self.new }
         ensures silent { IsSilent (seen_of self.old) (seen_of self.new) }
@@ -326,7 +363,7 @@ impl Dif {
         let Some(at) = self.place_at_node(node) else {
             return Err(StepError::NoIpc);
         };
-        let step = self.step_at(alloc, &*below, at, node);
+        let step = self.step_at(alloc, below, at, node);
         Dif::remember_memory_failure(&mut self.failed, step)
     }
 }

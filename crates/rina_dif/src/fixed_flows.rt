@@ -4,7 +4,7 @@ ghost use Rattle.rina_cube.specs.declared.Cube.{Cube};
 ghost use Rattle.rina_iface.specs.declared.error.AllocateError.TheVariants.{Memory as MemoryWanted};
 ghost use Rattle.rina_iface.specs.declared.state.PortState.TheVariants.{Allocated};
 ghost use Rattle.rina_iface.specs.Allocate.{new_end};
-ghost use Rattle.rina_iface.specs.Bind.{Binds, CanBind, with_name_once};
+ghost use Rattle.rina_iface.specs.Bind.{Binds, with_name_once};
 ghost use Rattle.rina_iface.specs.Ends.{drawn_at};
 ghost use Rattle.rina_iface.specs.Seen.{Seen};
 ghost use Rattle.rina_law.specs.Direction.{Direction};
@@ -22,7 +22,7 @@ ghost use Rattle.rina_dif.specs.Whole.{IsDif};
 
 use crate::dif::Dif;
 use crate::facade::cube_of;
-use crate::names::is_registered;
+use crate::names::{is_formed, is_registered};
 use rina_base::{Addr, AppName, Cep, FlowName, Memory, Node, PduKind, Port, Seq};
 use rina_conn::Peer;
 use rina_data::Settings;
@@ -141,6 +141,31 @@ fn wants_memory(bound: &Result<(Port, Port), AllocateError>) -> bool
 }
 
 impl Dif {
+    /// Whether a member is at a node, where fewer ports were drawn than it may have.
+    fn has_room(&self, node: Node) -> bool
+        ensures { result ≡ true ↔ SomeDraws self.now node }
+    {
+        let ends = self.flows.journal.ends.as_slice();
+        self.place_at_node(node).is_some() && drawn(ends, node) < self.settings.admits as usize
+    }
+
+    /// Whether a flow may be made now as one that the stack fixes: this DIF is meant and has the cube, and a member at each of
+    /// the two nodes, which differ, may have a port more.
+    pub fn may_bind(&self, fixed: &Fixed) -> bool
+        ensures { result ≡ true ↔ MayBind self.now fixed.now }
+    {
+        let Some(_cube) = cube_of(self.settings.cubes.as_slice(), fixed.cube) else {
+            return false;
+        };
+        if fixed.fac != self.settings.fac {
+            return false;
+        }
+        if fixed.a == fixed.b {
+            return false;
+        }
+        self.has_room(fixed.a) && self.has_room(fixed.b)
+    }
+
     /// What a member at a node draws next.
     fn draw(&self, node: Node) -> NextEnd
         requires valid { IsDif self.now }
@@ -274,6 +299,8 @@ impl Dif {
             dcep: other.cep,
         };
         let (a_app, b_app, cube) = (&fixed.a_app, &fixed.b_app, fixed.cube);
+        // A law, and no step: the application has a name that the members can tell each other.
+        is_formed(b_app);
         let asker = new_end(alloc, flow, Role::Asker, near.port, a_app, b_app, cube)?;
         let far = new_end(alloc, flow, Role::Far, other.port, b_app, a_app, cube)?;
         self.manage_flow(alloc, fixed, near, other)?;
@@ -281,13 +308,12 @@ impl Dif {
         Ok((near.port, other.port))
     }
 
-    /// Makes a flow that the stack fixes, both ends of which are allocated and claimed, and registers the application
+    /// Makes a flow as the stack fixes one, both ends of which are allocated and claimed, and registers the application
     /// of the far end: every member takes its directory entry, and the members of both ends show the flow. It answers the
-    /// ports of both ends.
+    /// ports of both ends. A stack's flows are made at tick 0; a DIF may make more at any tick.
     pub fn bind(&mut self, alloc: Global, fixed: &Fixed) -> Result<(Port, Port), AllocateError>
         requires valid { IsDif self.old }
-        requires fac { self.old.settings.fac ≡ fixed.now.fac }
-        requires may { (s : Seen) × IsShownAs s fixed.now.fac self.old × CanBind s fixed.now }
+        requires may { MayBind self.old fixed.now }
         ensures valid { IsDif self.new }
         ensures does { (lines : List Direction) (below : Seen) → Holds self.old lines below → BindsTo self.old lines below fixed.now result self.new }
         ensures shown { (s : Seen) → IsShownAs s fixed.now.fac self.old → Binds s fixed.now result (shown_as s fixed.now.fac self.new) }

@@ -1,6 +1,7 @@
 //! A DIF over any facility: its IPC processes, and its flows.
 #![tactic(auto)]
 
+mod absence;
 mod agreement;
 mod asks;
 mod cdap;
@@ -19,6 +20,7 @@ mod links_due;
 mod links_serve;
 mod lost_links;
 mod managements;
+mod message_step;
 mod messages;
 mod names;
 mod objects;
@@ -35,6 +37,7 @@ mod start;
 mod text;
 mod write_offs;
 
+pub use absence::state_ends_by_the_clock;
 pub use agreement::{members_keep_the_newest_and_agree, quiet_members_know_live_links};
 pub use cdap::CdapCallError;
 pub use dif::Dif;

@@ -124,6 +124,10 @@ impl Dif {
             let item = Item::Gone;
             return Some(NextLink { item, turn });
         }
+        if let Some(turn) = self.first_link_due(at, Item::GiveUp) {
+            let item = Item::GiveUp;
+            return Some(NextLink { item, turn });
+        }
         if let Some(turn) = self.first_link_due(at, Item::Ack) {
             let item = Item::Ack;
             return Some(NextLink { item, turn });

@@ -1,23 +1,78 @@
 //! What the management connections of links do by the clock.
-ghost use Rattle.std.specs.Prelude.{◌≡◌, ◌<◌, ◌≤◌, ℕ, List, length};
-ghost use Rattle.rina_iface.specs.Seen.{Seen};
+ghost use Rattle.std.specs.Prelude.{◌≡◌, ◌<◌, ◌≤◌, ℕ, Err, IfOk, IsSome, List, Ok, OnErr, OnOk, length};
+ghost use Rattle.rina_base.specs.declared.number.Port.{Port};
+ghost use Rattle.rina_iface.specs.declared.error.FreeError.TheVariants as free;
+ghost use Rattle.rina_iface.specs.Free.{FreesAsSeen};
+ghost use Rattle.rina_iface.specs.Later.{IsLater};
+ghost use Rattle.rina_iface.specs.Seen.{Seen, end_of};
 ghost use Rattle.rina_law.specs.Direction.{Direction};
-ghost use Rattle.rina_flows.specs.declared.due.Item.TheVariants.{Ack as AckDue, Again as AgainDue, Gone as GoneDue};
+ghost use Rattle.rina_flows.specs.declared.due.Item.TheVariants.{Ack as AckDue, Again as AgainDue, GiveUp as GiveUpDue, Gone as GoneDue};
 ghost use Rattle.rina_dif.specs.Elsewhere.{ChangesProcess};
 ghost use Rattle.rina_dif.specs.Holding.{Holds, LinksStand, Stands};
 ghost use Rattle.rina_dif.specs.LinkDue.{IsLinkDue};
-ghost use Rattle.rina_dif.specs.LinkSteps.{AcknowledgesLink, ForgetsLink, ResendsLink, ServesAs};
+ghost use Rattle.rina_dif.specs.LinkSteps.{AcknowledgesLink, ForgetsLink, GivesUpLink, ResendsLink, ServesAs};
 ghost use Rattle.rina_dif.specs.Shown.{seen_of};
 
 use crate::dif::Dif;
 use crate::due::{ack_pdu, lend};
 use crate::links_due::LinkTurn;
-use rina_base::{Memory, Num};
+use rina_base::{Memory, Num, Port};
 use rina_channel::named;
 use rina_data::HopView;
+use rina_iface::{Facility, FreeError};
 use std::alloc::Global;
 
+/// Frees a flow below, whose port was drawn. Without memory nothing changes.
+fn free_below<F: Facility>(alloc: Global, below: &mut F, port: Port) -> Result<(), Memory>
+    requires valid { F.valid below.old }
+    requires there { IsSome (end_of (F.seen below.old) port) }
+    ensures valid { F.valid below.new }
+    ensures below { F.same_below below.old below.new }
+    ensures later { IsLater (F.seen below.old) (F.seen below.new) }
+    ensures frees { OnOk result (FreesAsSeen F.seen F.frees_both F.does_free below.old below.new port (Ok tt)) }
+    ensures fails { OnErr result (FreesAsSeen F.seen F.frees_both F.does_free below.old below.new port (Err free.Memory)) }
+{
+    match below.free(alloc, port) {
+        Ok(()) => Ok(()),
+        Err(FreeError::Memory) => Err(Memory),
+        Err(FreeError::NoPort) => unreachable!(),
+    }
+}
+
 impl Dif {
+    /// Gives up the number that is due so at a management connection, and answers it: the flow below of its link is freed, so that
+    /// the link is lost in a later step. The DIF stays as it is. Without memory nothing changes.
+    pub(crate) fn give_up_link<F: Facility>(
+        &self,
+        alloc: Global,
+        below: &mut F,
+        at: usize,
+        turn: LinkTurn,
+    ) -> Result<Num, Memory>
+        requires valid { F.valid below.old }
+        requires stands { Stands self.now (F.seen below.old) }
+        requires due { (lower : Seen) (links : LinksStand self.now lower) → IsLinkDue GiveUpDue self.now links.lines at turn.place turn.number }
+        ensures valid { F.valid below.new }
+        ensures below { F.same_below below.old below.new }
+        ensures later { IsLater (F.seen below.old) (F.seen below.new) }
+        ensures does { (links : LinksStand self.now (F.seen below.old)) → IfOk result (λ num. GivesUpLink self.now links.lines (F.seen below.old) turn.place num (seen_of self.now) self.now.connections.flows (F.seen below.new)) }
+        ensures frees { OnOk result ((port : Port) × FreesAsSeen F.seen F.frees_both F.does_free below.old below.new port (Ok tt)) }
+        ensures fails { OnErr result ((port : Port) × FreesAsSeen F.seen F.frees_both F.does_free below.old below.new port (Err free.Memory)) }
+    {
+        let links = &self.connections;
+        let Some(told) = links.flows.conns.at(turn.place).gave_up(self.clock) else {
+            unreachable!()
+        };
+        let Some(channel) = links.channels.get(turn.place) else {
+            unreachable!()
+        };
+        free_below(alloc, below, channel.port)?;
+        Ok(Num {
+            cep: 0,
+            seq: told.num.seq,
+        })
+    }
+
     /// Writes off the pieces that the management connection at a place holds of a state that has ended, at its IPC process.
     /// Without memory nothing changes.
     pub(crate) fn forget_link(

@@ -1,6 +1,7 @@
 //! The names that are registered at a DIF.
-ghost use Rattle.std.specs.Prelude.{◌≡◌, ◌≢◌, ◌↔◌, ◌==◌, ℕ, Some, Err, true};
+ghost use Rattle.std.specs.Prelude.{◌≡◌, ◌≢◌, ◌↔◌, ◌==◌, ℕ, Some, Ok, Err, true};
 ghost use Rattle.std.specs.List.{list_any};
+ghost use Rattle.rina_base.specs.Names.{app_at};
 ghost use Rattle.rina_iface.specs.declared.error.RegisterError.TheVariants as register;
 ghost use Rattle.rina_iface.specs.declared.error.UnregisterError.TheVariants as unregister;
 ghost use Rattle.rina_iface.specs.Register.{Registers, refused_in as register_refused};
@@ -8,6 +9,7 @@ ghost use Rattle.rina_iface.specs.Seen.{Seen, is_member, is_registered};
 ghost use Rattle.rina_iface.specs.Unregister.{Unregisters, refused_in as unregister_refused};
 ghost use Rattle.rina_data.specs.declared.settings.Member.{Member};
 ghost use Rattle.rina_dif_law.specs.Dif.{fac_of};
+ghost use Rattle.rina_member.specs.Short.{AreNamed};
 ghost use Rattle.rina_dif.specs.Facade.{GoesOn, IsShownAs, StaysStanding, shown_as};
 ghost use Rattle.rina_dif.specs.Shown.{seen_of};
 ghost use Rattle.rina_dif.specs.Whole.{IsDif};
@@ -17,6 +19,22 @@ use rina_base::{AppName, Node};
 use rina_data::Member;
 use rina_iface::{RegisterError, Registered, UnregisterError};
 use std::alloc::Global;
+
+/// The name of an application has the form that its type says. Does nothing.
+pub(crate) fn is_formed(app: &AppName)
+    ensures { app_at app.now ≡ Ok app.now }
+{
+    let _length = app.len();
+}
+
+/// So have the names of members. Does nothing.
+pub(crate) fn are_named(members: &[Member])
+    ensures { AreNamed members.now }
+{
+    for at in 0..members.len() {
+        is_formed(&members[at].name);
+    }
+}
 
 /// Whether an application is registered at a node.
 pub(crate) fn is_registered(names: &[Registered], node: Node, app: &AppName) -> bool

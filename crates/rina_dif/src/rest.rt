@@ -1,11 +1,12 @@
 //! When a DIF rests.
 ghost use Rattle.std.specs.Prelude.{◌≡◌, ◌<◌, true};
-ghost use Rattle.rina_dif.specs.Resting.{AreAtRest, AreEmpty, IsAtRest, NoneComes, RestsUntil};
+ghost use Rattle.rina_dif.specs.Resting.{AreAtRest, AreEmpty, IsAtRest, NoneComes, NoneWaits, RestsUntil};
 
 use crate::dif::Dif;
 use rina_base::Tick;
 use rina_data::{IpcProcess, Link, lost_link};
 use rina_iface::Facility;
+use rina_member::Management;
 use rina_queue::Queue;
 
 /// Whether no PDU waits in any of the queues.
@@ -58,6 +59,18 @@ fn are_at_rest<F: Facility>(processes: &[IpcProcess], below: &F) -> bool
     true
 }
 
+/// Whether no message waits for any link of the members.
+fn none_waits(managements: &[Management]) -> bool
+    ensures { result ≡ true → NoneWaits managements.now }
+{
+    for at in 0..managements.len() {
+        if managements[at].agent.agenda.len() > 0 {
+            return false;
+        }
+    }
+    true
+}
+
 impl Dif {
     /// A tick before which the DIF has nothing to do over the rank below, whatever the clock says, as long as that rank
     /// shows the same. It is after the clock only where that is so now. Takes no memory.
@@ -69,7 +82,13 @@ impl Dif {
             .flows
             .quiet_until()
             .min(self.connections.flows.quiet_until());
-        if until <= self.clock || self.failed || !are_at_rest(self.processes.as_slice(), below) {
+        if until <= self.clock || self.failed {
+            return self.clock;
+        }
+        if !none_waits(self.managements.as_slice()) {
+            return self.clock;
+        }
+        if !are_at_rest(self.processes.as_slice(), below) {
             return self.clock;
         }
         until

@@ -4,6 +4,7 @@ ghost use Rattle.rina_iface.specs.Journal.{AreKept};
 ghost use Rattle.rina_iface.specs.Seen.{Seen};
 ghost use Rattle.rina_data.specs.Configs.{config_of};
 ghost use Rattle.rina_dif_law.specs.Numbered.{AreMembers};
+ghost use Rattle.rina_member.specs.Short.{AreNamed};
 ghost use Rattle.rina_dif.specs.Building.{AreBare, IsBare, IsBareDif, IsFree, queue_ids};
 ghost use Rattle.rina_dif.specs.Connected.{CanManage};
 ghost use Rattle.rina_dif.specs.Holding.{Holds};
@@ -12,6 +13,7 @@ use crate::connections::Connections;
 use crate::dif::Dif;
 use crate::layout::Layout;
 use crate::managements::start_all;
+use crate::names::are_named;
 use crate::processes::Processes;
 use rina_account::Ledger;
 use rina_base::{Memory, Seq, Tick};
@@ -69,6 +71,7 @@ impl Dif {
         ensures manage { IfOk result (λ d. d.connections.manage ≡ manage) }
         ensures alive { IfOk result (λ d. d.failed ≡ false) }
         ensures bare { IfOk result IsBareDif }
+        ensures named { IfOk result (λ d. AreNamed d.settings.members) }
         ensures holds { IfOk result (λ d. (below : Seen) → AreKept below → CanManage (config_of settings) manage → AreMembers (config_of settings) → clock ≡ below.now → IsFree (config_of settings) below → Holds d [] below) }
     {
         let processes = all_bare(alloc, &settings)?;
@@ -86,8 +89,9 @@ impl Dif {
             true,
             &processes,
         )?;
-        // A law, and no step: the members start as a network of flooding.
+        // Laws, and no steps: the members start as a network of flooding, and have names that they can tell each other.
         members_are_a_network();
+        are_named(members);
         Ok(Dif {
             settings,
             clock,

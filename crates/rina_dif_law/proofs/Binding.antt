@@ -3,7 +3,7 @@ use Rattle.std.proofs.Common.{◌≡◌, ◌≢◌, ℕ, suc, ◌+◌, ◌*◌, 
 use Rattle.std.proofs.lemmas.Bool.Decides.{eqb_tells}
 use Rattle.std.proofs.lemmas.List.Quantifiers.{position-Some}
 use Rattle.std.proofs.lemmas.List.Sums.{sum_by-append}
-use Rattle.std.proofs.lemmas.Option.{get_or_from_slice_get, same_Some}
+use Rattle.std.proofs.lemmas.Option.{get_or_from_slice_get}
 use Rattle.rina_base.specs.declared.number.FlowName.{FlowName}
 use Rattle.rina_base.specs.declared.pdu.Pdu.{Pdu}
 use Rattle.rina_iface.specs.declared.ask.Fixed.{Fixed}
@@ -31,12 +31,12 @@ use Rattle.rina_dif_law.specs.Numbered.{IsAddressed, IsCounted, IsNumbered, aske
 use Rattle.rina_dif_law.specs.Sending.{home}
 use Rattle.rina_dif_law.specs.Standing.{AreIds, IsConn, IsJournal, IsOwn, IsStanding}
 use Rattle.rina_dif_law.specs.Start.{IsFresh}
-use Rattle.rina_dif_law.proofs.Finding.{beside, cube_limits}
+use Rattle.rina_dif_law.proofs.Finding.{cube_limits}
 use Rattle.rina_dif_law.proofs.HeldIds.{both_are_drawn, both_drawn, both_held, free_a, free_b}
 use Rattle.rina_dif_law.proofs.Joined.{none_joined}
 use Rattle.rina_dif_law.proofs.Numbering.{counts}
 use Rattle.rina_dif_law.specs.Lifting.{ticked}
-use Rattle.rina_dif_law.proofs.Own.{end_of_flow, partner_back}
+use Rattle.rina_dif_law.proofs.Own.{partner_back}
 use Rattle.rina_dif_law.proofs.OwnMade.{own_made}
 use Rattle.rina_dif_law.proofs.Pairs.{first_at, first_beside, old_beside, second_at, second_beside, two_at}
 use Rattle.rina_rest.specs.Still.{rest_of}
@@ -44,14 +44,14 @@ use Rattle.rina_rest.proofs.Slots.{drawn_small}
 
 -- ---- members and nodes
 
-test_passes : (members : List Member) (node i : ℕ) (m : Member) → home node members ≡ Some i → slice_get members i ≡ Some m → m.node ≡ node
+pub test_passes : (members : List Member) (node i : ℕ) (m : Member) → home node members ≡ Some i → slice_get members i ≡ Some m → m.node ≡ node
 test_passes members node i m h is =
     let p = position-Some (λ (x : Member). x.node == node) members i m h in
     let at : get_or members i m ≡ m = get_or_from_slice_get members i m m is in
     let passes : eqb m.node node ≡ true = ap (λ (x : Member). eqb x.node node) (sym at) ∙ p.1 in
     elim (eqb_tells m.node node) [ inl t ↦ t.1 | inr f ↦ absurd (let clash = sym passes ∙ f.0 in cc) ]
 
-abbrev here_at : ℕ → End → ℕ
+abbrev pub here_at : ℕ → End → ℕ
 here_at node e = cond (eqb e.port.node node) 1 0
 
 drawn_more : (node : ℕ) (ends : List End) (x y : End) → drawn_at node (ends ++ x ∷ y ∷ []) ≡ drawn_at node ends + (here_at node x + here_at node y)
@@ -60,7 +60,7 @@ drawn_more node ends x y = sum_by-append (here_at node) ends (x ∷ y ∷ []) �
 drawn_no_less : (node : ℕ) (ends : List End) (x y : End) → drawn_at node ends ≤ drawn_at node (ends ++ x ∷ y ∷ [])
 drawn_no_less node ends x y = (let is = drawn_more node ends x y in omega (arith, is))
 
-one_here : (node : ℕ) (e : End) → e.port.node ≡ node → here_at node e ≡ 1
+pub one_here : (node : ℕ) (e : End) → e.port.node ≡ node → here_at node e ≡ 1
 one_here node e is = elim (eqb_tells e.port.node node) [ inl t ↦ rw t.0 refl | inr f ↦ absurd (f.1 is) ]
 
 drawn_first : (node : ℕ) (ends : List End) (x y : End) → x.port.node ≡ node → drawn_at node ends + 1 ≤ drawn_at node (ends ++ x ∷ y ∷ [])
@@ -83,7 +83,7 @@ asked_first node ends x y is role =
 
 module _ (d : DifSeen) (lines : List Direction) (below : Seen) (st : IsStanding d lines below) (n : IsNumbered d below) where
   -- a member at its place
-  same_member : (i k : ℕ) (a b : Member) → slice_get d.config.members i ≡ Some a → slice_get d.config.members k ≡ Some b → a.addr ≡ b.addr → a ≡ b
+  pub same_member : (i k : ℕ) (a b : Member) → slice_get d.config.members i ≡ Some a → slice_get d.config.members k ≡ Some b → a.addr ≡ b.addr → a ≡ b
   same_member i k a b x y addr = (let place = n.members.addrs i k a b x y addr in cc)
 
   -- the name of the flow that a member asks for next is none that stands

@@ -76,12 +76,12 @@ held_nothing (Refused why) count none = refl
 held_nothing (Failed fail) count none = refl
 held_nothing Closed count none = refl
 
-either_none : (b : Bool) (n : ℕ) → n ≡ 0 → cond b n 0 ≡ 0
+pub either_none : (b : Bool) (n : ℕ) → n ≡ 0 → cond b n 0 ≡ 0
 either_none true n none = none
 either_none false n none = refl
 
 -- an end that sent nothing made nothing
-nothing_made : (size addr : ℕ) (k : Key) (e : End) (o : Option Ids) → e.sent ≡ [] → made_by size addr k (Some e) o ≡ 0
+pub nothing_made : (size addr : ℕ) (k : Key) (e : End) (o : Option Ids) → e.sent ≡ [] → made_by size addr k (Some e) o ≡ 0
 nothing_made size addr k e None none = refl
 nothing_made size addr k e (Some c) none = either_none _ (times k.seq (journal_numbers size e.sent)) (ap (λ (xs : List Entry). times k.seq (journal_numbers size xs)) none)
 
@@ -244,7 +244,7 @@ second_new : {X : Type 0} (xs : List X) (y z : X) → slice_get (xs ++ y ∷ z �
 second_new [] y z = refl
 second_new (x ∷ xs) y z = second_new xs y z
 
-old_at : {X : Type 0} (xs ys : List X) (i : ℕ) → i < length xs → slice_get (xs ++ ys) i ≡ slice_get xs i
+pub old_at : {X : Type 0} (xs ys : List X) (i : ℕ) → i < length xs → slice_get (xs ++ ys) i ≡ slice_get xs i
 old_at xs ys i low = (let t = there xs i low in still_at xs ys i t.0 t.1 ∙ sym t.1)
 
 -- directions that hold nothing are added
@@ -277,8 +277,14 @@ total_more xs y z f g same a b =
     let sums : total (length (xs ++ y ∷ z ∷ [])) g ≡ total (length xs) g + g (length xs) + g (suc (length xs)) = ap (λ (m : ℕ). total m g) number in
     omega (arith, sums, old, a, b)
 
-fresh_empty : (d : DifSeen) (ids : Ids) (line : Direction) (n : ℕ) → IsFresh d ids line → times n (held_numbers line) ≡ 0
+pub fresh_empty : (d : DifSeen) (ids : Ids) (line : Direction) (n : ℕ) → IsFresh d ids line → times n (held_numbers line) ≡ 0
 fresh_empty d ids line n fresh = ap (λ (l : Direction). times n (held_numbers l)) fresh.is
+
+-- what an end that was there kept stays the same
+pub kept_longer : (size : ℕ) (ends more : List End) (lines news : List Direction) (addr : ℕ) (k : Key) (o : Option End) (i : Option Ids) → length lines ≡ length ends → ((i : ℕ) (l : Direction) → slice_get news i ≡ Some l → times k.seq (held_numbers l) ≡ 0) → kept_by size (ends ++ more) (lines ++ news) addr k o i ≡ kept_by size ends lines addr k o i
+kept_longer size ends more lines news addr k None i alike none = refl
+kept_longer size ends more lines news addr k (Some e) None alike none = refl
+kept_longer size ends more lines news addr k (Some e) (Some c) alike none = ap (λ (n : ℕ). cond ((eqb c.own addr && eqb c.far k.src) && eqb c.dcep k.scep) (times k.seq (journal_numbers size e.got) + held_by e.state n) 0) (held_more ends more lines news e k.seq alike none)
 
 pub bound_accounted : (d : DifSeen) (lines : List Direction) (below : Seen) (fixed : Fixed) (d' : DifSeen) (lines' : List Direction) → IsStanding d lines below → IsNumbered d below → IsAccounted d lines below → IsBound d lines fixed d' lines' → IsAccounted d' lines' below
 bound_accounted d lines below fixed d' lines' st numbered a s =
@@ -331,8 +337,3 @@ bound_accounted d lines below fixed d' lines' st numbered a s =
     new_held line back n a b zero l at = (let is : line ≡ l = cc in ap (λ (z : Direction). times n (held_numbers z)) (sym is) ∙ a)
     new_held line back n a b (suc zero) l at = (let is : back ≡ l = cc in ap (λ (z : Direction). times n (held_numbers z)) (sym is) ∙ b)
     new_held line back n a b (suc (suc i)) l at = cc
-
-    kept_longer : (size : ℕ) (ends more : List End) (lines news : List Direction) (addr : ℕ) (k : Key) (o : Option End) (i : Option Ids) → length lines ≡ length ends → ((i : ℕ) (l : Direction) → slice_get news i ≡ Some l → times k.seq (held_numbers l) ≡ 0) → kept_by size (ends ++ more) (lines ++ news) addr k o i ≡ kept_by size ends lines addr k o i
-    kept_longer size ends more lines news addr k None i alike none = refl
-    kept_longer size ends more lines news addr k (Some e) None alike none = refl
-    kept_longer size ends more lines news addr k (Some e) (Some c) alike none = ap (λ (n : ℕ). cond ((eqb c.own addr && eqb c.far k.src) && eqb c.dcep k.scep) (times k.seq (journal_numbers size e.got) + held_by e.state n) 0) (held_more ends more lines news e k.seq alike none)

@@ -1,8 +1,6 @@
 -- What ends and new flows make of the CEP-ids that the members hold.
-use Rattle.std.proofs.Common.{◌≡◌, ◌≢◌, ℕ, ◌+◌, ◌-◌, ◌*◌, ◌^◌, ◌<◌, ◌≤◌, List, [], ◌∷◌, ◌++◌, length, length-set, slice_get, slice_set, None, Some, refl, sym, ◌∙◌, ap, subst, arith, inl, inr}
-use Rattle.std.proofs.lemmas.Bool.{cases_eq}
+use Rattle.std.proofs.Common.{◌≡◌, ℕ, ◌+◌, ◌-◌, ◌*◌, ◌^◌, ◌<◌, ◌≤◌, List, [], ◌∷◌, ◌++◌, length, length-set, slice_get, None, Some, refl, sym, ◌∙◌, ap, subst, arith, inl, inr}
 use Rattle.std.proofs.lemmas.Option.{same_Some}
-use Rattle.rina_cube.specs.declared.Cube.{Cube}
 use Rattle.rina_cube.specs.Cubes.{delta_of}
 use Rattle.rina_ids.specs.declared.slot.Slot.{Slot}
 use Rattle.rina_ids.specs.Ids.{drawn, given_back}
@@ -12,10 +10,10 @@ use Rattle.rina_iface.specs.Seen.{Seen}
 use Rattle.rina_iface.proofs.Changed.{set_at, slice_get-set_other}
 use Rattle.rina_rest.specs.Drawn.{AreKept, Draws, GivesBack as RestsBack}
 use Rattle.rina_rest.specs.Flows.{Asker, Endpoint, Far, Flow, Four, IsFree, Side, end_at}
-use Rattle.rina_rest.specs.Ledger.{LedgerHolds, bound_flow, put}
-use Rattle.rina_rest.proofs.Keeping.{asker_keeps_slots, bound_keeps_slots, far_keeps_slots}
+use Rattle.rina_rest.specs.Ledger.{LedgerHolds, asked_flow, bound_flow, made, put}
+use Rattle.rina_rest.proofs.Keeping.{ask_keeps_slots, asker_keeps_slots, bound_keeps_slots, far_keeps_slots, make_keeps_slots}
 use Rattle.rina_rest.proofs.Slots.{drawn_free, drawn_long}
-use Rattle.rina_data.specs.Configs.{Config, Member, cube_by}
+use Rattle.rina_data.specs.Configs.{Config, Member}
 use Rattle.rina_ids.specs.Members.{CepIds, DrawsAt, with_drawn, with_rest}
 use Rattle.rina_dif_law.specs.CepIds.{AreHeld}
 use Rattle.rina_dif_law.specs.Dif.{DifSeen}
@@ -152,4 +150,59 @@ module _ (g : Config) (now : ℕ) (held : List CepIds) (a b scep dcep : ℕ) (of
         subst (λ (z : Member). length (drawn draws'.ids.1 dcep) ≤ drawn_at z.node ends') same (omega (arith, was, long, more_b)))
         (λ k x not_a not_b at m is_m. (let was = h.few k m x is_m at in let grown = more m.node in omega (arith, was, grown)))
         i ids are_ids its is_its;
+  }
+
+-- ---- one member draws
+
+module _ (g : Config) (now : ℕ) (cloud : ℕ → Four → Type 0) (flows : List Flow) (held : List CepIds) (place cep : ℕ) (member : Member) (apart : AddrsApart g) (is_member : slice_get g.members place ≡ Some member) (draws : DrawsAt held now place cep) (ledger : LedgerHolds now flows cloud) (kept : AreHeld g now flows held) where
+  abbrev one_drawn : List CepIds
+  one_drawn = with_drawn place draws.ids cep held
+
+  -- what the member at a place has after it: what was drawn, or what it had
+  one_cases : (flows' : List Flow) → ((addr : ℕ) (before after : List Slot) → Draws draws.ids.0 now addr member.addr cep before after → AreKept now flows addr before → AreKept now flows' addr after) → AreHeld g now flows' one_drawn
+  one_cases flows' keeps i its ids is_its are_ids = elim (set_at held place i draws.ids (draws.ids.0, drawn draws.ids.1 cep) ids draws.are_ids are_ids) [
+    | inl t ↦
+        (let is_here : slice_get g.members place ≡ Some its = subst (λ (k : ℕ). slice_get g.members k ≡ Some its) t.0 is_its in
+        let same : member ≡ its = cc in
+        keeps its.addr draws.ids.1 ids.1
+        (record { here = λ there. (draws.least, ap (λ (z : CepIds). z.1) t.1); elsewhere = λ ne. absurd (ne (ap (λ (z : Member). z.addr) same)) })
+        (kept place its draws.ids is_here draws.are_ids))
+    | inr o ↦
+        keeps its.addr ids.1 ids.1
+        (record { here = λ there. absurd (o.0 (sym (apart place i member its is_member is_its there))); elsewhere = λ ne. refl })
+        (kept i its ids is_its o.1)
+  ]
+
+  pub one_free : IsFree now flows member.addr cep
+  one_free = drawn_free draws.ids.0 now draws.ids.1 flows member.addr cep (kept place member draws.ids is_member draws.are_ids) draws.least
+
+  -- for a flow that it asks for
+  pub asked_held : (rest peer : ℕ) → 1 ≤ rest → (peer ≡ member.addr → ⊥) → AreHeld g now (flows ++ asked_flow now rest peer member.addr cep ∷ []) one_drawn
+  asked_held rest peer some other = one_cases (flows ++ asked_flow now rest peer member.addr cep ∷ [])
+      (λ addr before after d was. ask_keeps_slots draws.ids.0 now flows cloud rest peer member.addr cep addr before after ledger some other one_free d was)
+
+  -- for the far end of a flow that it was asked for
+  pub far_held : (n : ℕ) (flow : Flow) → slice_get flows n ≡ Some flow → flow.far ≡ None → flow.peer ≡ member.addr → now < flow.asked + flow.rest → AreHeld g now (put n (made flow cep) flows) one_drawn
+  far_held n flow stands none peer young = one_cases (put n (made flow cep) flows)
+      (λ addr before after d was. make_keeps_slots draws.ids.0 now flows cloud n flow cep addr before after ledger stands none young
+      (subst (λ (a : ℕ). IsFree now flows a cep) (sym peer) one_free) (subst (λ (a : ℕ). Draws draws.ids.0 now addr a cep before after) (sym peer) d) was)
+
+  -- and so many were drawn, where its node drew one port more, and no node fewer
+  pub one_are_drawn : (ends ends' : List End) → AreDrawn g ends held → ((node : ℕ) → drawn_at node ends ≤ drawn_at node ends') → drawn_at member.node ends + 1 ≤ drawn_at member.node ends' → AreDrawn g ends' one_drawn
+  one_are_drawn ends ends' h more more_here = record {
+    aligned = length-set held place (draws.ids.0, drawn draws.ids.1 cep) ∙ h.aligned;
+    greatest = λ i ids are_ids. elim (set_at held place i draws.ids (draws.ids.0, drawn draws.ids.1 cep) ids draws.are_ids are_ids) [
+      | inl t ↦ ap (λ (z : CepIds). z.0) t.1 ∙ h.greatest place draws.ids draws.are_ids
+      | inr o ↦ h.greatest i ids o.1
+    ];
+    few = λ i its ids is_its are_ids. elim (set_at held place i draws.ids (draws.ids.0, drawn draws.ids.1 cep) ids draws.are_ids are_ids) [
+      | inl t ↦
+          (let is_here : slice_get g.members place ≡ Some its = subst (λ (k : ℕ). slice_get g.members k ≡ Some its) t.0 is_its in
+          let same : member ≡ its = cc in
+          let was = h.few place member draws.ids is_member draws.are_ids in
+          let long = drawn_long draws.ids.1 cep in
+          let count : length ids.1 ≡ length (drawn draws.ids.1 cep) = ap (λ (z : CepIds). length z.1) t.1 in
+          subst (λ (z : Member). length ids.1 ≤ drawn_at z.node ends') same (omega (arith, was, long, count, more_here)))
+      | inr o ↦ (let was = h.few i its ids is_its o.1 in let grown = more its.node in omega (arith, was, grown))
+    ];
   }

@@ -1,6 +1,7 @@
 pub mod Accounting
 pub mod After
 pub mod Arrivals
+pub mod Asked
 pub mod Balancing
 pub mod Binding
 pub mod Carries
@@ -24,6 +25,7 @@ pub mod Journals
 pub mod Keepers
 pub mod Keys
 pub mod Landing
+pub mod Lasts
 pub mod Lifted
 pub mod Linkless
 pub mod Lawfully
@@ -32,9 +34,12 @@ pub mod Numbering
 pub mod OfLinks
 pub mod Others
 pub mod Own
+pub mod OwnAsked
 pub mod OwnEnds
+pub mod OwnFar
 pub mod OwnMade
 pub mod OwnRows
+pub mod OwnTold
 pub mod Pairs
 pub mod Partnered
 pub mod Pieces

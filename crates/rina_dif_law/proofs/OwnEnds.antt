@@ -199,7 +199,7 @@ up_at Asker f point is none = ap (λ (z : Endpoint). z.ended) (same_Some f.asker
 up_at Far f point is none = none
 
 -- what an end sent and got stays as its state changes
-same_whole : (ends : List End) (at : ℕ) (e : End) (state : PortState) → At ends at e → (i : ℕ) (a : End) → At (slice_set ends at (record e { state = state })) i a → (o : End) × At ends i o × (a.flow ≡ o.flow) × (a.role ≡ o.role) × (a.cube ≡ o.cube) × (a.sent ≡ o.sent) × (a.got ≡ o.got) × (a.taken ≡ o.taken)
+pub same_whole : (ends : List End) (at : ℕ) (e : End) (state : PortState) → At ends at e → (i : ℕ) (a : End) → At (slice_set ends at (record e { state = state })) i a → (o : End) × At ends i o × (a.flow ≡ o.flow) × (a.role ≡ o.role) × (a.cube ≡ o.cube) × (a.sent ≡ o.sent) × (a.got ≡ o.got) × (a.taken ≡ o.taken)
 same_whole ends at e state is i a h = elim (set_at ends at i e (record e { state = state }) a is h) [
   | inl t ↦ (e, ap (slice_get ends) t.0 ∙ is, ap (λ (z : End). z.flow) t.1, ap (λ (z : End). z.role) t.1, ap (λ (z : End). z.cube) t.1, ap (λ (z : End). z.sent) t.1, ap (λ (z : End). z.got) t.1, ap (λ (z : End). z.taken) t.1)
   | inr f ↦ (a, f.1, refl, refl, refl, refl, refl, refl)

@@ -67,7 +67,7 @@ none_in_use : (now : ℕ) (flows : List Flow) (a c b d : ℕ) → IsFree now flo
 none_in_use now flows a c b d free free' n f far stands known used Asker four goes src scep dst dcep = used (free n f Asker f.asker stands refl (sym goes.0 ∙ src) (sym goes.1 ∙ scep)) (free' n f Far far stands known (sym goes.2 ∙ dst) (sym goes.3 ∙ dcep))
 none_in_use now flows a c b d free free' n f far stands known used Far four goes src scep dst dcep = used (free' n f Asker f.asker stands refl (sym goes.2 ∙ dst) (sym goes.3 ∙ dcep)) (free n f Far far stands known (sym goes.0 ∙ src) (sym goes.1 ∙ scep))
 
-some_rest : (k : Constants) → IsCube k.cube → 1 ≤ rest_of k
+pub some_rest : (k : Constants) → IsCube k.cube → 1 ≤ rest_of k
 some_rest k limits = (let least = limits.least_mpl in omega arith)
 
 module _ (g : Config) (now : ℕ) (cloud cloud' : ℕ → Pdu → Type 0) (held : List CepIds) (ends : List End) (conns : List Ids) (lines : List Direction) (own : IsOwn g now cloud held ends conns lines) (asker end : End) (ids : Ids) (there back : Direction) (cube : Cube) (new : AreNew g now cloud cloud' ends own.flows asker end ids there back cube) where

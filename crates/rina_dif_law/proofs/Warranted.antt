@@ -52,6 +52,7 @@ use Rattle.rina_data.specs.Outgoing.{Goes, sent_bytes}
 use Rattle.rina_data.specs.Process.{Process, Queue, is_link, link_by, with_offs, with_put}
 use Rattle.rina_data.specs.Queueing.{line_for}
 use Rattle.rina_dif_law.specs.Accounted.{IsAccounted}
+use Rattle.rina_dif_law.specs.Asking.{Asking, IsAskedFor}
 use Rattle.rina_dif_law.specs.Binding.{IsBound}
 use Rattle.rina_ids.specs.Members.{CepIds}
 use Rattle.rina_dif_law.specs.Dif.{DifSeen, IsProcess, constants, with_process}
@@ -470,6 +471,9 @@ passed_noted holds d lines at d' lines' s = subst (IsNoted holds d) (sym s.new_i
 pub bound_noted : (holds : ℕ → Off → Type 0) (d : DifSeen) (lines : List Direction) (fixed : Fixed) (d' : DifSeen) (lines' : List Direction) → IsBound d lines fixed d' lines' → IsNoted holds d d'
 bound_noted holds d lines fixed d' lines' s = subst (IsNoted holds d) (sym s.new_is) (quiet_noted holds d _ refl refl (omega arith) (λ k ids is. still_at d.conns _ k ids is) refl)
 
+pub asked_noted : (holds : ℕ → Off → Type 0) (d : DifSeen) (lines : List Direction) (ask : Asking) (d' : DifSeen) (lines' : List Direction) → IsAskedFor d lines ask d' lines' → IsNoted holds d d'
+asked_noted holds d lines ask d' lines' s = subst (IsNoted holds d) (sym s.new_is) (quiet_noted holds d _ refl refl (omega arith) (λ k ids is. still_at d.conns _ k ids is) refl)
+
 pub ticked_noted : (holds : ℕ → Off → Type 0) (d : DifSeen) (lines : List Direction) (now : ℕ) (d' : DifSeen) (lines' : List Direction) → IsTicked d lines now d' lines' → IsNoted holds d d'
 ticked_noted holds d lines now d' lines' s = subst (IsNoted holds d) (sym s.new_is) (quiet_noted holds d _ refl refl s.later (λ k ids is. is) refl)
 
@@ -485,6 +489,9 @@ passed_written d lines at d' lines' w s = quiet_written d d' (passed_noted Nothi
 
 pub bound_written : (d : DifSeen) (lines : List Direction) (fixed : Fixed) (d' : DifSeen) (lines' : List Direction) → AreWrittenOff d → IsBound d lines fixed d' lines' → AreWrittenOff d'
 bound_written d lines fixed d' lines' w s = quiet_written d d' (bound_noted Nothing d lines fixed d' lines' s) w
+
+pub asked_written : (d : DifSeen) (lines : List Direction) (ask : Asking) (d' : DifSeen) (lines' : List Direction) → AreWrittenOff d → IsAskedFor d lines ask d' lines' → AreWrittenOff d'
+asked_written d lines ask d' lines' w s = quiet_written d d' (asked_noted Nothing d lines ask d' lines' s) w
 
 pub ticked_written : (d : DifSeen) (lines : List Direction) (now : ℕ) (d' : DifSeen) (lines' : List Direction) → AreWrittenOff d → IsTicked d lines now d' lines' → AreWrittenOff d'
 ticked_written d lines now d' lines' w s = quiet_written d d' (ticked_noted Nothing d lines now d' lines' s) w

@@ -18,6 +18,7 @@ use Rattle.rina_data.specs.declared.step.InStep.{InStep}
 use Rattle.rina_data.specs.declared.step.OutStep.{OutStep}
 use Rattle.rina_data.specs.declared.step.StepError.{StepError}
 use Rattle.rina_dif_law.specs.Accounted.{IsAccounted}
+use Rattle.rina_dif_law.specs.Asking.{Asking, IsAskedFor}
 use Rattle.rina_dif_law.specs.Binding.{IsBound}
 use Rattle.rina_dif_law.specs.Carried.{IsCarrying}
 use Rattle.rina_dif_law.specs.Cloud.{IsMine}
@@ -88,6 +89,10 @@ FailingAccounts = (d : DifSeen) (lines : List Direction) (below : Seen) (node : 
 abbrev pub BindingAccounts : Type 0
 BindingAccounts = (d : DifSeen) (lines : List Direction) (below : Seen) (fixed : Fixed) (d' : DifSeen) (lines' : List Direction) →
     IsStanding d lines below → IsNumbered d below → IsAccounted d lines below → IsBound d lines fixed d' lines' → IsAccounted d' lines' below
+
+abbrev pub AskingAccounts : Type 0
+AskingAccounts = (d : DifSeen) (lines : List Direction) (below : Seen) (ask : Asking) (d' : DifSeen) (lines' : List Direction) →
+    IsStanding d lines below → IsNumbered d below → IsAccounted d lines below → IsAskedFor d lines ask d' lines' → IsAccounted d' lines' below
 
 -- As the rank below goes on, with the clock or while this DIF does nothing
 

@@ -1,5 +1,6 @@
 pub mod AccountLaws
 pub mod Accounted
+pub mod Asking
 pub mod Binding
 pub mod Carried
 pub mod Caused

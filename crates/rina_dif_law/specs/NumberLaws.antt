@@ -17,6 +17,7 @@ use Rattle.rina_data.specs.declared.link.Route.{Route}
 use Rattle.rina_data.specs.declared.step.InStep.{InStep}
 use Rattle.rina_data.specs.declared.step.OutStep.{OutStep}
 use Rattle.rina_data.specs.declared.step.StepError.{StepError}
+use Rattle.rina_dif_law.specs.Asking.{Asking, IsAskedFor}
 use Rattle.rina_dif_law.specs.Binding.{IsBound}
 use Rattle.rina_dif_law.specs.Carried.{IsCarrying}
 use Rattle.rina_dif_law.specs.Cloud.{IsMine}
@@ -91,3 +92,17 @@ BindingNumbers = (d : DifSeen) (lines : List Direction) (below : Seen) (fixed : 
 
 abbrev pub BindingIsLater : Type 0
 BindingIsLater = (d : DifSeen) (lines : List Direction) (fixed : Fixed) (d' : DifSeen) (lines' : List Direction) → IsBound d lines fixed d' lines' → IsLaterFac d.clock d'.clock (fac_of d) (fac_of d')
+
+-- A flow that is asked for, whose far end is not there yet
+
+abbrev pub AskingStands : Type 0
+AskingStands = (d : DifSeen) (lines : List Direction) (below : Seen) (ask : Asking) (d' : DifSeen) (lines' : List Direction) → IsStanding d lines below → IsNumbered d below → IsAskedFor d lines ask d' lines' → IsStanding d' lines' below
+
+abbrev pub AskingCarries : Type 0
+AskingCarries = (d : DifSeen) (lines : List Direction) (below : Seen) (ask : Asking) (d' : DifSeen) (lines' : List Direction) → IsStanding d lines below → IsNumbered d below → IsCarrying d lines below → IsAskedFor d lines ask d' lines' → IsCarrying d' lines' below
+
+abbrev pub AskingNumbers : Type 0
+AskingNumbers = (d : DifSeen) (lines : List Direction) (below : Seen) (ask : Asking) (d' : DifSeen) (lines' : List Direction) → IsStanding d lines below → IsNumbered d below → IsAskedFor d lines ask d' lines' → IsNumbered d' below
+
+abbrev pub AskingIsLater : Type 0
+AskingIsLater = (d : DifSeen) (lines : List Direction) (below : Seen) (ask : Asking) (d' : DifSeen) (lines' : List Direction) → IsStanding d lines below → IsNumbered d below → IsAskedFor d lines ask d' lines' → IsLaterFac d.clock d'.clock (fac_of d) (fac_of d')

@@ -19,6 +19,7 @@ use Rattle.rina_data.specs.declared.step.StepError.{StepError}
 use Rattle.rina_data.specs.Configs.{Member}
 use Rattle.rina_data.specs.Process.{Process}
 use Rattle.rina_dif_law.specs.Accounted.{IsAccounted}
+use Rattle.rina_dif_law.specs.Asking.{Asking, IsAskedFor}
 use Rattle.rina_dif_law.specs.Binding.{IsBound}
 use Rattle.rina_dif_law.specs.Dif.{DifSeen, IsProcess}
 use Rattle.rina_dif_law.specs.Ending.{IsEnded}
@@ -93,6 +94,9 @@ PassesWriteNothing = (d : DifSeen) (lines : List Direction) (at : ℕ) (d' : Dif
 
 abbrev pub BindingWritesNothing : Type 0
 BindingWritesNothing = (d : DifSeen) (lines : List Direction) (fixed : Fixed) (d' : DifSeen) (lines' : List Direction) → IsBound d lines fixed d' lines' → Writes Nothing d d'
+
+abbrev pub AskingWritesNothing : Type 0
+AskingWritesNothing = (d : DifSeen) (lines : List Direction) (ask : Asking) (d' : DifSeen) (lines' : List Direction) → IsAskedFor d lines ask d' lines' → Writes Nothing d d'
 
 abbrev pub TimeWritesNothing : Type 0
 TimeWritesNothing = (d : DifSeen) (lines : List Direction) (now : ℕ) (d' : DifSeen) (lines' : List Direction) → IsTicked d lines now d' lines' → Writes Nothing d d'

@@ -1,5 +1,5 @@
 //! The account of each IPC process, each law as the contract of a function that does nothing.
-ghost use Rattle.rina_dif_law.specs.AccountLaws.{StartAccounts, SendsAccount, PassesAccount, OutStepsAccount, InStepsAccount, AcknowledgingAccounts, ResendingAccounts, ForgettingAccounts, EndingAccounts, LosingAccounts, FailingAccounts, BindingAccounts, TimeAccounts, BesideAccounts, SendsOfOthersAccount, PassesOfOthersAccount};
+ghost use Rattle.rina_dif_law.specs.AccountLaws.{StartAccounts, SendsAccount, PassesAccount, OutStepsAccount, InStepsAccount, AcknowledgingAccounts, ResendingAccounts, ForgettingAccounts, EndingAccounts, LosingAccounts, FailingAccounts, BindingAccounts, AskingAccounts, TimeAccounts, BesideAccounts, SendsOfOthersAccount, PassesOfOthersAccount};
 
 /// Each IPC process stays in account for each key of a PDU: what came in or was made is out, waits, was written off, or
 /// is kept.
@@ -16,6 +16,7 @@ pub fn processes_stay_in_account()
     ensures lose { LosingAccounts }
     ensures fail { FailingAccounts }
     ensures bind { BindingAccounts }
+    ensures ask { AskingAccounts }
     ensures time { TimeAccounts }
     ensures beside { BesideAccounts }
     ensures others_send { SendsOfOthersAccount }

@@ -5,7 +5,7 @@
 ghost use Rattle.rina_dif_law.specs.Partners.{EachIsMet};
 ghost use Rattle.rina_dif_law.specs.Laws.{StartStands, SendsStand, PassesStand, OutStepsStand, InStepsStand, AcknowledgingStands, ResendingStands, ForgettingStands, EndingStands, LosingStands, FailingStands, StartCarries, SendsCarry, PassesCarry, OutStepsCarry, InStepsCarry, AcknowledgingCarries, ResendingCarries, ForgettingCarries, EndingCarries, LosingCarries, FailingCarries, TimeCarries, BesideCarries, SendsOfOthersCarry, PassesOfOthersCarry, TimeStands, BesideStands, SendsOfOthersStand, OutStepsOfOthersStand, InStepsOfOthersStand, CloudIsCovered, CloudLaw, StandingKeeps, SendsAreLater, PassesAreLater, OutStepsAreSilent, InStepsAreSilent, AcknowledgingIsSilent, ResendingIsSilent, ForgettingIsSilent, EndingIsSilent, LosingIsSilent, FailingIsSilent, TimeIsSilent, SendsAreSends, PassesArePasses, RelayingSettles, WritingOffSettles, StandingCanGo};
 ghost use Rattle.rina_dif_law.specs.Lawful.{StandingIsLawful};
-ghost use Rattle.rina_dif_law.specs.NumberLaws.{SendsNumber, PassesNumber, OutStepsNumber, InStepsNumber, AcknowledgingNumbers, ResendingNumbers, ForgettingNumbers, EndingNumbers, LosingNumbers, FailingNumbers, TimeNumbers, BesideNumbers, SendsOfOthersNumber, BindingStands, BindingCarries, BindingNumbers, BindingIsLater};
+ghost use Rattle.rina_dif_law.specs.NumberLaws.{SendsNumber, PassesNumber, OutStepsNumber, InStepsNumber, AcknowledgingNumbers, ResendingNumbers, ForgettingNumbers, EndingNumbers, LosingNumbers, FailingNumbers, TimeNumbers, BesideNumbers, SendsOfOthersNumber, BindingStands, BindingCarries, BindingNumbers, BindingIsLater, AskingStands, AskingCarries, AskingNumbers, AskingIsLater};
 
 /// Whatever an end of a kept facility got has a sender: its partner, of whose entries it is born.
 pub fn each_entry_has_a_sender()
@@ -28,7 +28,8 @@ pub fn calls_keep_standing()
 {}
 
 /// A DIF that stands is lawful: each piece and each acknowledgement that is under way of a connection in use is one that it
-/// may still take, and both ends agree on what was accepted.
+/// may still take, and both ends agree on what was accepted. No two connections in use have the same two addresses and the same
+/// two CEP-ids, but for the two ends of one flow; a connection is in use until both its ids have rested.
 pub fn a_dif_that_stands_is_lawful()
     ensures { StandingIsLawful }
 {}
@@ -133,4 +134,13 @@ pub fn fixed_flows_may_be_made()
     ensures carries { BindingCarries }
     ensures numbers { BindingNumbers }
     ensures later { BindingIsLater }
+{}
+
+/// A DIF that is numbered goes on to stand as a member asks for a flow: its end waits, with the name, the port and the CEP-id that are
+/// next, and the far end is not there yet.
+pub fn flows_may_be_asked_for()
+    ensures stands { AskingStands }
+    ensures carries { AskingCarries }
+    ensures numbers { AskingNumbers }
+    ensures later { AskingIsLater }
 {}

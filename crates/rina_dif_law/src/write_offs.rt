@@ -1,5 +1,5 @@
 //! The laws of the write-offs, as the contract of a function that does nothing.
-ghost use Rattle.rina_dif_law.specs.WriteOffLaws.{OutStepsWrite, InStepsWrite, AcknowledgingWrites, ResendingWrites, ForgettingWrites, EndingWrites, LosingWrites, FailingWrites, MayWriteOffIsLawful, SendsWriteNothing, PassesWriteNothing, BindingWritesNothing, TimeWritesNothing};
+ghost use Rattle.rina_dif_law.specs.WriteOffLaws.{OutStepsWrite, InStepsWrite, AcknowledgingWrites, ResendingWrites, ForgettingWrites, EndingWrites, LosingWrites, FailingWrites, MayWriteOffIsLawful, SendsWriteNothing, PassesWriteNothing, BindingWritesNothing, AskingWritesNothing, TimeWritesNothing};
 
 /// A line stands in a ledger only where the condition of its cause held when it was written: each ledger grows by such
 /// lines alone, whatever the DIF does, and is never changed.
@@ -16,5 +16,6 @@ pub fn each_write_off_has_its_cause()
     ensures send { SendsWriteNothing }
     ensures pass { PassesWriteNothing }
     ensures bind { BindingWritesNothing }
+    ensures ask { AskingWritesNothing }
     ensures time { TimeWritesNothing }
 {}

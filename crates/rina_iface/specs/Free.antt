@@ -36,3 +36,7 @@ abbrev pub Frees : Bool → Seen → Port → Result (Unit {0}) FreeError → Se
 Frees both old port (Ok done) new = IsFreed both old port new
 Frees both old port (Err Memory) new = new ≡ old
 Frees both old port (Err NoPort) new = (refused old port ≡ Some NoPort) × (new ≡ old)
+
+-- what `free` does, by what is shown and on the whole, where a facility shows itself by `seen`, frees both ends at once where `both` says so, and does `does`
+abbrev pub FreesAsSeen : {F : Type 0} → (F → Seen) → (F → Bool) → (F → Port → Result (Unit {0}) FreeError → F → Type 0) → F → F → Port → Result (Unit {0}) FreeError → Type 0
+FreesAsSeen seen both does old new port result = Frees (both old) (seen old) port result (seen new) × does old port result new

@@ -6,6 +6,7 @@ ghost use Rattle.rina_iface.specs.declared.ask.Ask.{Ask};
 ghost use Rattle.rina_iface.specs.declared.ask.Fixed.{Fixed};
 ghost use Rattle.rina_iface.specs.declared.error.RegisterError.{RegisterError};
 ghost use Rattle.rina_iface.specs.declared.error.AllocateError.{AllocateError};
+ghost use Rattle.rina_iface.specs.declared.error.FreeError.{FreeError};
 ghost use Rattle.rina_iface.specs.declared.error.SendError.{SendError};
 ghost use Rattle.rina_iface.specs.declared.error.UnregisterError.{UnregisterError};
 ghost use Rattle.rina_iface.specs.Seen.{Fac, Seen, state_of, promise_at, largest_at, unpassed};
@@ -62,6 +63,9 @@ pub trait Facility {
 
     /// What `pass` does to the whole.
     ghost does_pass: { Self → Port → Self → Type 0 };
+
+    /// What `free` does with what it answers, to the whole.
+    ghost does_free: { Self → Port → Result (Unit {0}) FreeError → Self → Type 0 };
 
     /// The clock, at most 10,000,000.
     fn now(&self) -> Tick
@@ -177,7 +181,8 @@ pub trait Facility {
         ensures valid { valid self.new }
         ensures below { same_below self.old self.new }
         ensures later { IsLater (seen self.old) (seen self.new) }
-        ensures does { Frees (frees_both self.old) (seen self.old) port result (seen self.new) };
+        ensures does { Frees (frees_both self.old) (seen self.old) port result (seen self.new) }
+        ensures whole { does_free self.old port result self.new };
 
     /// Nothing changes the ranks below by doing nothing.
     ghost same_refl: { (x : Self) → same_below x x };

@@ -32,6 +32,7 @@ use Rattle.rina_laws.proofs.CutsOpening.{AreOpen, built_open}
 use Rattle.rina_laws.proofs.CutsLine.{Explains, HasFailed, back_cut, back_freed, explains}
 use Rattle.rina_laws.proofs.WiresAt.{Holds, rounds_by}
 use Rattle.rina_laws.proofs.WiresCalls.{HasWire, OnWire, carry_wire, keeps_wire}
+use Rattle.rina_laws.proofs.WiresFreed.{Never, free_clocks, never_after, never_word}
 use Rattle.rina_laws.proofs.WiresEvents.{keeps_free, keeps_hold, keeps_lose, keeps_repeat}
 use Rattle.rina_laws.proofs.WiresOf.{wires_now, wires_sound}
 use Rattle.rina_laws.proofs.WiresWords.{Special, acts, cutting, freeing, holding, losing, repeating}
@@ -122,8 +123,11 @@ line_does plan fac fail number (Ok (Some event)) s ns s' sound d =
     let h = begins plan fac fail number (Ok (Some event)) ns s sound in
     let told = state_notes plan number s'.run.tower d.mid.run.labels in
     let here : IsHere plan fac fail number (Ok (Some event)) d.answer → Why = λ x. inr (subst (IsHere plan fac fail number (Ok (Some event))) (sym d.notes) (here_in plan fac fail number (Ok (Some event)) d.answer told x)) in
-    let acted = acts P (keeps_wire (Explains fail Why) (explains fail Why) fac) plan number event s d.answer d.mid (special plan fac fail Why number event s d.answer d.mid here h d.acts) h d.acts in
-    rounds_by P (keeps_wire (Explains fail Why) (explains fail Why) fac) (rounds_after plan.rounds event) d.mid.shelf s'.shelf d.mid.run.tower s'.run.tower acted d.rounds
+    let all = keeps_wire (Explains fail Why) (explains fail Why) fac in
+    let clock = free_clocks P (keeps_free (Explains fail Why) (λ now l i e there why has. why (back_freed fail l i e has)) fac) in
+    let acted = acts P all Never clock plan number event s d.answer d.mid (special plan fac fail Why number event s d.answer d.mid here h d.acts) d.acts (never_word plan number event s d.answer d.mid d.acts) h in
+    let rounds = rounds_after plan.rounds event in
+    rounds_by P all Never clock rounds d.mid.shelf s'.shelf d.mid.run.tower s'.run.tower d.rounds (never_after rounds d.mid.shelf d.mid.run.tower s'.shelf s'.run.tower d.rounds) acted
 line_does plan fac fail number (Err e) s ns s' sound d = absurd d
 
 -- ---- lines

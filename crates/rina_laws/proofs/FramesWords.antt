@@ -1,6 +1,11 @@
 -- Each word of a schedule keeps a frame of the wires carried, unless it touches it.
-use Rattle.std.proofs.Common.{◌≡◌, ◌≢◌, ℕ, List, [], ◌∷◌, Some, Option, option_and_then, refl, sym, ◌∙◌, ap, subst}
+use Rattle.std.proofs.Common.{◌≡◌, ◌≢◌, ℕ, List, [], ◌∷◌, Some, Option, option_and_then, Result, Ok, Err, refl, sym, ◌∙◌, ap, subst}
+use Rattle.rina_base.specs.declared.number.Num.{Num}
 use Rattle.rina_base.specs.declared.number.Port.{Port}
+use Rattle.rina_data.specs.declared.step.ClockStep.{ClockStep}
+use Rattle.rina_data.specs.declared.step.ClockStep.TheVariants.{GaveUp}
+use Rattle.rina_data.specs.declared.step.StepError.{StepError}
+use Rattle.rina_iface.specs.declared.error.FreeError.TheVariants as freeing
 use Rattle.rina_iface.specs.Seen.{state_of}
 use Rattle.rina_iface.specs.declared.state.PortState.TheVariants.{Allocated}
 use Rattle.rina_report.specs.declared.note.Note.{Note}
@@ -9,17 +14,21 @@ use Rattle.rina_schedule.specs.declared.event.Event.TheVariants as events
 use Rattle.rina_stack.specs.declared.plan.Plan.{Plan}
 use Rattle.rina_tower.specs.declared.tower.Tower.{Tower}
 use Rattle.rina_tower.specs.Ranks.{seen_of}
+use Rattle.rina_tower.specs.Steps.{ClocksAt}
 use Rattle.rina_wire.specs.declared.flight.Flight.{Flight}
-use Rattle.rina_wire.specs.Air.{Line, wire_at}
+use Rattle.rina_wire.specs.Air.{Air, Line, wire_at}
+use Rattle.rina_wire.specs.Free.{FreesOn}
+use Rattle.rina_wire.proofs.SoundFree.{sound_frees}
 use Rattle.rina_notes.specs.Look.{state_at}
 use Rattle.rina_notes.specs.Sites.{port_in}
 use Rattle.rina_words.specs.Step.{Acts, Stage, wire_of}
-use Rattle.rina_laws.specs.Frames.{IsInFlight, IsOpenPort, Touches, copies_of, wires_of}
+use Rattle.rina_laws.specs.Frames.{GivesUpOn, IsInFlight, IsOpenPort, Touches, copies_of, wires_of}
+use Rattle.rina_laws.specs.SomeStep.{SomeOfWord}
 use Rattle.rina_laws.proofs.FramesCalls.{IsCarrying, frame_line}
 use Rattle.rina_laws.proofs.FramesEvents.{NoneWith, keeps_cuts, keeps_frees, keeps_holds, keeps_loses, keeps_repeats}
 use Rattle.rina_laws.proofs.FramesKept.{Carries}
-use Rattle.rina_laws.proofs.WiresAt.{Holds, Keeps}
-use Rattle.rina_laws.proofs.WiresCalls.{keeps_wire}
+use Rattle.rina_laws.proofs.WiresAt.{Holds, Keeps, KeepsClocks, clocks_at}
+use Rattle.rina_laws.proofs.WiresCalls.{OnWire, keeps_wire}
 use Rattle.rina_laws.proofs.WiresOf.{wires_rank}
 use Rattle.rina_laws.proofs.WiresWords.{Special, acts, cutting, freeing, holding, losing, repeating}
 
@@ -57,5 +66,32 @@ spares fac k plan line (events.Cut wire) s ns s' spared h d = cutting (IsCarryin
 spares fac k plan line (events.Free label) s ns s' spared h d = freeing (IsCarrying fac k) (port_in s.run.labels label) s.run d.0.says s'.run h d.0.does (λ rank port r a' is low g e. keeps_frees fac k (wires_of s.run.tower) port r a' (none_with fac k s.run.tower (port_in s.run.labels label) rank port is low spared) g e)
 spares fac k plan line event s ns s' spared h d = tt
 
-pub frame_acts : (fac k : ℕ) (plan : Plan) (line : ℕ) (event : Event) (s : Stage) (ns : List Note) (s' : Stage) → (Touches plan fac k s.run event → ⊥) → Holds (IsCarrying fac k) s.run.tower → Acts plan line event s ns s' → Holds (IsCarrying fac k) s'.run.tower
-frame_acts fac k plan line event s ns s' spared h d = acts (IsCarrying fac k) (frame_keeps fac k) plan line event s ns s' (spares fac k plan line event s ns s' spared h d) h d
+-- ---- a step that may take a frame away
+
+-- without memory no flow is freed
+not_freed : (fac k : ℕ) (a : Air) (port : Port) (a' : Air) → IsCarrying fac k a → FreesOn a port (Err freeing.Memory) a' → IsCarrying fac k a'
+not_freed fac k a port a' c g = record { sound = sound_frees a port (Err freeing.Memory) a' c.sound g; holds = subst (OnWire (Carries k) fac) (sym g) c.holds }
+
+-- a management connection gives a number up, and the frame is not in flight on the wire of its link
+gives_up : (fac k r dif node : ℕ) (x : Result ClockStep StepError) (t t' : Tower) (num : Num) (port : Port) → (GivesUpOn fac k t t' → ⊥) → ClocksAt r dif node x t t' → r ≡ 1 → x ≡ Ok (GaveUp num) → num.cep ≡ 0 → FreesOn (wires_of t) port (Ok tt) (wires_of t') → NoneWith fac k (wires_of t) port
+gives_up fac k r dif node x t t' num port no d low is cep frees l same state at = none_flies fac k t l (λ flies. no (record {
+  dif = dif;
+  node = node;
+  num = num;
+  management = cep;
+  does = subst (λ (n : ℕ). ClocksAt n dif node (Ok (GaveUp num)) t t') low (subst (λ (y : Result ClockStep StepError). ClocksAt r dif node y t t') is d);
+  port = port;
+  its_wire = same;
+  allocated = ap (option_and_then (λ (v : Tower). state_of (seen_of v) port)) (wires_rank t) ∙ state;
+  frees = frees;
+  flies = flies;
+})) at
+
+pub frame_clocks : (fac k : ℕ) → KeepsClocks (IsCarrying fac k) (GivesUpOn fac k)
+frame_clocks fac k r dif node x t t' no h d = clocks_at (IsCarrying fac k) r dif node x t t' h d (λ low. record {
+  told = λ num port is cep f. keeps_frees fac k (wires_of t) port (Ok tt) (wires_of t') (gives_up fac k r dif node x t t' num port no d low is cep f) h f;
+  failed = λ port f. not_freed fac k (wires_of t) port (wires_of t') h f;
+})
+
+pub frame_acts : (fac k : ℕ) (plan : Plan) (line : ℕ) (event : Event) (s : Stage) (ns : List Note) (s' : Stage) → (Touches plan fac k s.run event → ⊥) → (d : Acts plan line event s ns s') → (SomeOfWord (GivesUpOn fac k) plan line event s ns s' d → ⊥) → Holds (IsCarrying fac k) s.run.tower → Holds (IsCarrying fac k) s'.run.tower
+frame_acts fac k plan line event s ns s' spared d no h = acts (IsCarrying fac k) (frame_keeps fac k) (GivesUpOn fac k) (frame_clocks fac k) plan line event s ns s' (spares fac k plan line event s ns s' spared h d) d no h

@@ -67,7 +67,7 @@ freed_ends true es i e es' h (at, other, there, partner, is) =
     let still : slice_get (slice_set es i (freed e)) at ≡ Some other = slice_get-set_other es i at (freed e) apart ∙ there in
     subst (RestEnds es) (sym is) (ends_on es (slice_set es i (freed e)) (slice_set (slice_set es i (freed e)) at (freed other)) (ends_set es i e (freed e) h (restated e _)) (ends_set (slice_set es i (freed e)) at other (freed other) still (restated other _)))
 
-frees : (both : Bool) (s : Seen) (port : Port) (r : Result (Unit {0}) FreeError) (s' : Seen) → Frees both s port r s' → Rest s.facs s'.facs
+pub frees : (both : Bool) (s : Seen) (port : Port) (r : Result (Unit {0}) FreeError) (s' : Seen) → Frees both s port r s' → Rest s.facs s'.facs
 frees both s port (Ok done) s' w =
     let f : Fac = record w.facility { ends = w.ends } in
     subst (Rest s.facs) (sym (ap (λ (x : Seen). x.facs) w.new_is)) (rest_set s.facs port.fac w.facility f w.stands.facility (record { ends = freed_ends both w.facility.ends w.place w.end w.ends w.stands.is w.frees; waiting = refl }))

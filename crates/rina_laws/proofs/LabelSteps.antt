@@ -24,7 +24,7 @@ use Rattle.rina_tower.specs.Steps.{ClocksAt, ClocksAtTop, InSteps, InStepsAtTop,
 use Rattle.rina_tower.specs.LowerUse.{MayUse}
 use Rattle.rina_tower.specs.Levels.{AtDif, AtRank}
 use Rattle.rina_tower.proofs.Asked.{asked_facs}
-use Rattle.rina_laws.proofs.LabelCalls.{AllRest, rest_idle}
+use Rattle.rina_laws.proofs.LabelCalls.{AllRest, frees, rest_idle}
 use Rattle.rina_laws.proofs.LabelRanks.{DoesAll, IsAlone, alone_refl, at_rank, at_rank_more, at_top, facs_of, is_alone, level}
 use Rattle.rina_laws.proofs.LabelRests.{Rest, RestFac, Rests, ends_set, rest_same, rest_set, rests_still}
 
@@ -44,7 +44,8 @@ dif_rests below below' d d' k = record { ends = record { size = k.silent.number;
 
 uses_rest : (s s' : Seen) → MayUse s s' → Rest s.facs s'.facs
 uses_rest s s' (inl is) = rest_same s.facs s'.facs (ap (λ (x : Seen). x.facs) is)
-uses_rest s s' (inr u) =
+uses_rest s s' (inr (inr u)) = frees u.both s u.port (Ok tt) s' u.freed
+uses_rest s s' (inr (inl u)) =
     let rests : Rests u.end u.end' = record { port = u.its_port; app = u.its_app; rests = inl u.ipc } in
     subst (Rest s.facs) (sym (ap (λ (x : Seen). x.facs) u.new_is)) (rest_set s.facs u.port.fac u.facility (with_end u.facility u.place u.end') u.stands.facility (record { ends = ends_set u.facility.ends u.place u.end u.end' u.stands.is rests; waiting = refl }))
 

@@ -3,6 +3,7 @@ pub mod PlannedWords
 pub mod PlannedRun
 pub mod FramesCalls
 pub mod FramesEvents
+pub mod FramesFreed
 pub mod FramesKept
 pub mod FramesLists
 pub mod FramesOpening
@@ -42,6 +43,7 @@ pub mod CutsOpening
 pub mod CutsRun
 pub mod StartsAt
 pub mod WiresEvents
+pub mod WiresFreed
 pub mod WiresLaid
 pub mod WiresRun
 pub mod WrittenCalls

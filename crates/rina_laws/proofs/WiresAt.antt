@@ -5,6 +5,7 @@ use Rattle.rina_base.specs.declared.cause.Cause.TheVariants.{LinkDown}
 use Rattle.rina_base.specs.declared.number.Num.{Num}
 use Rattle.rina_base.specs.declared.number.Port.{Port}
 use Rattle.rina_data.specs.declared.step.ClockStep.{ClockStep}
+use Rattle.rina_data.specs.declared.step.ClockStep.TheVariants as clocks
 use Rattle.rina_data.specs.declared.step.InStep.{InStep}
 use Rattle.rina_data.specs.declared.step.InStep.TheVariants as ins
 use Rattle.rina_data.specs.declared.step.OutStep.{OutStep}
@@ -13,7 +14,10 @@ use Rattle.rina_data.specs.declared.step.StepError.{StepError}
 use Rattle.rina_data.specs.declared.step.StepError.TheVariants.{Memory, NoIpc, NoLink}
 use Rattle.rina_data.specs.Lower.{IsRefused, PassesBelow, SendsBelow, WritesOffBelow}
 use Rattle.rina_law.specs.declared.entry.Entry.{Entry}
+use Rattle.rina_iface.specs.declared.error.FreeError.{FreeError}
+use Rattle.rina_iface.specs.declared.error.FreeError.TheVariants as freeing
 use Rattle.rina_iface.specs.declared.error.SendError.{SendError}
+use Rattle.rina_iface.specs.Free.{FreesAsSeen}
 use Rattle.rina_iface.specs.Pass.{PassesAsSeen}
 use Rattle.rina_iface.specs.Seen.{unpassed}
 use Rattle.rina_iface.specs.Send.{SendsAsSeen}
@@ -25,17 +29,19 @@ use Rattle.rina_tower.specs.declared.applications.AppError.{AppError}
 use Rattle.rina_tower.specs.declared.applications.AppError.TheVariants.{NoRank, NotYours, Call}
 use Rattle.rina_tower.specs.declared.tower.Tower.{Tower, Wires, Rank'}
 use Rattle.rina_tower.specs.Applications.{Answers, AppPasses, ClaimsFor, is_ipc_at}
-use Rattle.rina_tower.specs.Calls.{PassesAtTop, SendsWhole}
+use Rattle.rina_dif.specs.Lower.{FreesBelow}
+use Rattle.rina_tower.specs.Calls.{FreesWhole, PassesAtTop, SendsWhole}
 use Rattle.rina_tower.specs.Ranks.{height_of, rank_of, seen_of}
-use Rattle.rina_tower.specs.Refusals.{refuses_send}
+use Rattle.rina_tower.specs.Refusals.{frees_both, refuses_send}
 use Rattle.rina_tower.specs.Rounds.{AllMove, Anything, IsRound, Move, Moves, InMove, ClockMove, OutMove}
-use Rattle.rina_tower.specs.Steps.{ClocksAtTop, InStepsAtTop, OutStepsAtTop}
+use Rattle.rina_tower.specs.Steps.{ClocksAt, ClocksAtTop, InStepsAtTop, OutStepsAtTop}
 use Rattle.rina_tower.specs.ClockTick.{Ticks}
 use Rattle.rina_tower.specs.Levels.{AtRank, AtWires}
 use Rattle.rina_wire.specs.Air.{Air, seen_of as seen_of_wires}
 use Rattle.rina_wire.specs.Allocate.{AllocatesOn}
 use Rattle.rina_wire.specs.Claim.{ClaimsOn}
 use Rattle.rina_wire.specs.Cut.{MendsOn}
+use Rattle.rina_wire.specs.Free.{FreesOn}
 use Rattle.rina_wire.specs.Register.{RegistersOn}
 use Rattle.rina_wire.specs.Send.{SendsOn, passed}
 use Rattle.rina_wire.specs.Tick.{TicksOn}
@@ -47,6 +53,7 @@ use Rattle.rina_iface.specs.declared.error.RegisterError.{RegisterError}
 use Rattle.rina_iface.specs.declared.error.UnregisterError.{UnregisterError}
 use Rattle.rina_words.specs.Step.{Passes, RoundsBy, for_app, waiting}
 use Rattle.rina_laws.specs.Frames.{wires_of}
+use Rattle.rina_laws.specs.SomeStep.{SomeAfter, SomeMove, SomeOfRound}
 use Rattle.rina_laws.proofs.LabelRanks.{own_rank, rank_below}
 
 -- the calls on wires that keep this of them: all but the events that touch a frame, and the end of a flow
@@ -149,11 +156,57 @@ ins_here P kept dif node link x (Rank' p difs (Rank' q lower under)) (Rank' p' d
 ins_here P kept dif node link x (Wires a) (Rank' p difs below) h d = absurd d
 ins_here P kept dif node link x (Rank' p difs below) (Wires a) h d = absurd d
 
-pub clocks_here : (P : Air → Type 0) (dif node : ℕ) (x : Result ClockStep StepError) (u u' : Tower) → Holds P u → ClocksAtTop dif node x u u' → Holds P u'
-clocks_here P dif node x (Wires a) (Wires a') h d = subst P (sym d.1) h
-clocks_here P dif node x (Rank' p difs below) (Rank' p' difs' below') h d = subst (Holds P) (sym d.2) h
-clocks_here P dif node x (Wires a) (Rank' p difs below) h d = absurd d
-clocks_here P dif node x (Rank' p difs below) (Wires a) h d = absurd d
+-- a port of the wires is freed
+freed_wires : (P : Air → Type 0) (a a' : Air) (port : Port) (r : Result (Unit {0}) FreeError) → P a → FreesAsSeen seen_of frees_both FreesWhole (Wires a) (Wires a') port r → (FreesOn a port r a' → P a') → P a'
+freed_wires P a a' port r h d next = elim a.failed as (λ b. a.failed ≡ b → P a') [
+  | true ↦ λ is. subst (Holds P) (sym (d.1.1 is).1) h
+  | false ↦ λ is. next (d.1.0 is)
+] refl
+
+-- what a step by the clock does to the wires below: where it tells that a management connection gave a number up, a port is freed; without memory
+-- that may fail; else nothing is done
+pub record KeepsFree (P : Air → Type 0) (x : Result ClockStep StepError) (a a' : Air) : Type 0 where
+  pub told : (num : Num) (port : Port) → x ≡ Ok (clocks.GaveUp num) → num.cep ≡ 0 → FreesOn a port (Ok tt) a' → P a'
+  pub failed : (port : Port) → FreesOn a port (Err freeing.Memory) a' → P a'
+
+clocked_wires : (P : Air → Type 0) (x : Result ClockStep StepError) (a a' : Air) → P a → FreesBelow (Wires a' ≡ Wires a) (FreesAsSeen seen_of frees_both FreesWhole (Wires a) (Wires a')) x → KeepsFree P x a a' → P a'
+clocked_wires P (Ok (clocks.GaveUp num)) a a' h (inl d) next = subst (Holds P) (sym d.1) h
+clocked_wires P (Ok (clocks.GaveUp num)) a a' h (inr d) next = freed_wires P a a' d.1 (Ok tt) h d.2 (next.told num d.1 refl d.0)
+clocked_wires P (Ok clocks.Idle) a a' h d next = subst (Holds P) (sym d) h
+clocked_wires P (Ok (clocks.Gone cep)) a a' h d next = subst (Holds P) (sym d) h
+clocked_wires P (Ok (clocks.Ack cep)) a a' h d next = subst (Holds P) (sym d) h
+clocked_wires P (Ok (clocks.Again num)) a a' h d next = subst (Holds P) (sym d) h
+clocked_wires P (Ok (clocks.LinkLost link)) a a' h d next = subst (Holds P) (sym d) h
+clocked_wires P (Ok (clocks.LinkNew link)) a a' h d next = subst (Holds P) (sym d) h
+clocked_wires P (Ok (clocks.Timeout port)) a a' h d next = subst (Holds P) (sym d) h
+clocked_wires P (Ok (clocks.Message link)) a a' h d next = subst (Holds P) (sym d) h
+clocked_wires P (Err Memory) a a' h (inl d) next = subst (Holds P) (sym d) h
+clocked_wires P (Err Memory) a a' h (inr d) next = freed_wires P a a' d.0 (Err freeing.Memory) h d.1 (next.failed d.0)
+clocked_wires P (Err NoIpc) a a' h d next = subst (Holds P) (sym d) h
+clocked_wires P (Err NoLink) a a' h d next = subst (Holds P) (sym d) h
+
+-- at a rank right above the wires, which is rank 1; at another one nothing is done to the wires
+clocks_here : (P : Air → Type 0) (dif node : ℕ) (x : Result ClockStep StepError) (u u' : Tower) → Holds P u → ClocksAtTop dif node x u u' → (height_of u ≡ 1 → KeepsFree P x (wires_of u) (wires_of u')) → Holds P u'
+clocks_here P dif node x (Wires a) (Wires a') h d next = subst P (sym d.1) h
+clocks_here P dif node x (Rank' p difs (Wires a)) (Rank' p' difs' (Wires a')) h d next = clocked_wires P x a a' h d.2 (next refl)
+clocks_here P dif node x (Rank' p difs (Rank' q lower under)) (Rank' p' difs' (Rank' q' lower' under')) h d next = subst (Holds P) (sym d.1.1) h
+clocks_here P dif node x (Rank' p difs (Wires a)) (Rank' p' difs' (Rank' q' lower' under')) h d next = absurd d.1
+clocks_here P dif node x (Rank' p difs (Rank' q lower under)) (Rank' p' difs' (Wires a')) h d next = absurd d.1
+clocks_here P dif node x (Wires a) (Rank' p difs below) h d next = absurd d
+clocks_here P dif node x (Rank' p difs below) (Wires a) h d next = absurd d
+
+-- what a step by the clock at some rank keeps of the wires, where freeing a port there keeps it
+pub clocks_at : (P : Air → Type 0) (r dif node : ℕ) (x : Result ClockStep StepError) (t t' : Tower) → Holds P t → ClocksAt r dif node x t t' → (r ≡ 1 → KeepsFree P x (wires_of t) (wires_of t')) → Holds P t'
+clocks_at P r dif node x (Wires a) (Wires a') h (inl d) next = subst P (sym d.1.1) h
+clocks_at P r dif node x (Wires a) (Wires a') h (inr d) next = subst P (sym d.2) h
+clocks_at P r dif node x (Rank' p difs below) (Rank' p' difs' below') h (inl d) next = clocks_here P dif node x (Rank' p difs below) (Rank' p' difs' below') h d.1 (λ tall. next (d.0 ∙ tall))
+clocks_at P r dif node x (Rank' p difs below) (Rank' p' difs' below') h (inr d) next = clocks_at P r dif node x below below' h d.2 next
+clocks_at P r dif node x (Wires a) (Rank' p difs below) h d next = absurd d
+clocks_at P r dif node x (Rank' p difs below) (Wires a) h d next = absurd d
+
+-- what such a step keeps, but for steps of which this holds
+abbrev pub KeepsClocks : (Air → Type 0) → (Tower → Tower → Type 0) → Type 0
+KeepsClocks P Is = (r dif node : ℕ) (x : Result ClockStep StepError) (t t' : Tower) → (Is t t' → ⊥) → Holds P t → ClocksAt r dif node x t t' → Holds P t'
 
 sent_wires : (P : Air → Type 0) (kept : Keeps P) (a a' : Air) (port : Port) (bytes : List ℕ) (r : Result Num SendError) → P a → SendsAsSeen seen_of refuses_send SendsWhole (Wires a) (Wires a') port bytes r → P a'
 sent_wires P kept a a' port bytes r h d = elim a.failed as (λ b. a.failed ≡ b → P a') [
@@ -192,21 +245,23 @@ tick P kept (Rank' p difs below) (Rank' p' difs' below') h d = tick P kept below
 tick P kept (Wires a) (Rank' p difs below) h d = absurd d
 tick P kept (Rank' p difs below) (Wires a) h d = absurd d
 
-moves : (P : Air → Type 0) (kept : Keeps P) (m : Move) (slots slots' : List Slot) (t t' : Tower) → Holds P t → Moves m slots t slots' t' → Holds P t'
-moves P kept (InMove p result) slots slots' t t' h d = at_rank P p.rank (InStepsAtTop p.dif p.node p.link result) _ t t' h d.1 (λ u u' part c g. ins_here P kept p.dif p.node p.link result u u' c g)
-moves P kept (ClockMove p result) slots slots' t t' h d = at_rank P p.rank (ClocksAtTop p.dif p.node result) _ t t' h d.1 (λ u u' part c g. clocks_here P p.dif p.node result u u' c g)
-moves P kept (OutMove p result) slots slots' t t' h d = at_rank P p.rank (OutStepsAtTop Anything slots slots' p.dif p.node p.link result) _ t t' h d (λ u u' part c g. outs_here P kept Anything slots slots' p.dif p.node p.link result u u' c g)
+-- of the steps of a run, none is one of which this holds
+module _ (P : Air → Type 0) (kept : Keeps P) (Is : Tower → Tower → Type 0) (clock : KeepsClocks P Is) where
+  moves : (m : Move) (slots slots' : List Slot) (t t' : Tower) → Moves m slots t slots' t' → (Is t t' → ⊥) → Holds P t → Holds P t'
+  moves (InMove p result) slots slots' t t' d no h = at_rank P p.rank (InStepsAtTop p.dif p.node p.link result) _ t t' h d.1 (λ u u' part c g. ins_here P kept p.dif p.node p.link result u u' c g)
+  moves (ClockMove p result) slots slots' t t' d no h = clock p.rank p.dif p.node result t t' no h d.1
+  moves (OutMove p result) slots slots' t t' d no h = at_rank P p.rank (OutStepsAtTop Anything slots slots' p.dif p.node p.link result) _ t t' h d (λ u u' part c g. outs_here P kept Anything slots slots' p.dif p.node p.link result u u' c g)
 
-all_move : (P : Air → Type 0) (kept : Keeps P) (ms : List Move) (slots slots' : List Slot) (t t' : Tower) → Holds P t → AllMove ms slots t slots' t' → Holds P t'
-all_move P kept [] slots slots' t t' h d = subst (Holds P) (sym d.1) h
-all_move P kept (m ∷ ms) slots slots' t t' h (mid, between, one, others) = all_move P kept ms mid slots' between t' (moves P kept m slots mid t between h one) others
+  all_move : (ms : List Move) (slots slots' : List Slot) (t t' : Tower) (d : AllMove ms slots t slots' t') → (SomeMove Is ms slots t slots' t' d → ⊥) → Holds P t → Holds P t'
+  all_move [] slots slots' t t' d no h = subst (Holds P) (sym d.1) h
+  all_move (m ∷ ms) slots slots' t t' (mid, between, one, others) no h = all_move ms mid slots' between t' others (λ x. no (inr x)) (moves m slots mid t between one (λ x. no (inl x)) h)
 
-pub round : (P : Air → Type 0) (kept : Keeps P) (slots slots' : List Slot) (t t' : Tower) → Holds P t → IsRound slots slots' t t' → Holds P t'
-round P kept slots slots' t t' h d =
-    let taken = all_move P kept d.takes slots slots t d.taken h d.do_take in
-    let clocked = all_move P kept d.dues slots slots d.taken d.clocked taken d.do_dues in
-    all_move P kept d.leaves slots slots' d.clocked t' clocked d.do_leave
+  pub round : (slots slots' : List Slot) (t t' : Tower) (d : IsRound slots slots' t t') → (SomeOfRound Is slots slots' t t' d → ⊥) → Holds P t → Holds P t'
+  round slots slots' t t' d no h =
+      let taken = all_move d.takes slots slots t d.taken d.do_take (λ x. no (inl x)) h in
+      let clocked = all_move d.dues slots slots d.taken d.clocked d.do_dues (λ x. no (inr (inl x))) taken in
+      all_move d.leaves slots slots' d.clocked t' d.do_leave (λ x. no (inr (inr x))) clocked
 
-pub rounds_by : (P : Air → Type 0) (kept : Keeps P) (rounds : Rounds) (slots slots' : List Slot) (t t' : Tower) → Holds P t → RoundsBy rounds slots t slots' t' → Holds P t'
-rounds_by P kept Auto slots slots' t t' h d = round P kept slots slots' t t' h d
-rounds_by P kept Manual slots slots' t t' h d = subst (Holds P) (sym d.1) h
+  pub rounds_by : (rounds : Rounds) (slots slots' : List Slot) (t t' : Tower) (d : RoundsBy rounds slots t slots' t') → (SomeAfter Is rounds slots t slots' t' d → ⊥) → Holds P t → Holds P t'
+  rounds_by Auto slots slots' t t' d no h = round slots slots' t t' d no h
+  rounds_by Manual slots slots' t t' d no h = subst (Holds P) (sym d.1) h

@@ -18,6 +18,7 @@ use Rattle.rina_run.specs.Run.{LineDoes, Runs}
 use Rattle.rina_laws.specs.Frames.{wires_of}
 use Rattle.rina_laws.proofs.WiresAt.{Holds, rounds_by}
 use Rattle.rina_laws.proofs.WiresCalls.{HasWire, KeepsLine, keeps_wire}
+use Rattle.rina_laws.proofs.WiresFreed.{Never, free_clocks, never_after, never_word}
 use Rattle.rina_laws.proofs.WiresEvents.{keeps_cut, keeps_free, keeps_hold, keeps_lose, keeps_repeat}
 use Rattle.rina_laws.proofs.WiresWords.{Special, acts, cutting, freeing, holding, losing, repeating}
 
@@ -41,8 +42,10 @@ line_keeps : (Q : ℕ → Line → Type 0) (calls : KeepsLine Q) (kept : KeepsEv
 line_keeps Q calls kept fac plan number (Ok None) s ns s' h d = subst (λ (v : Stage). Holds (HasWire Q fac) v.run.tower) (sym d.1) h
 line_keeps Q calls kept fac plan number (Ok (Some event)) s ns s' h d =
     let all = keeps_wire Q calls fac in
-    let acted = acts (HasWire Q fac) all plan number event s d.answer d.mid (special Q kept fac plan number event s d.answer d.mid h d.acts) h d.acts in
-    rounds_by (HasWire Q fac) all (rounds_after plan.rounds event) d.mid.shelf s'.shelf d.mid.run.tower s'.run.tower acted d.rounds
+    let clock = free_clocks (HasWire Q fac) (keeps_free Q kept.freed fac) in
+    let acted = acts (HasWire Q fac) all Never clock plan number event s d.answer d.mid (special Q kept fac plan number event s d.answer d.mid h d.acts) d.acts (never_word plan number event s d.answer d.mid d.acts) h in
+    let rounds = rounds_after plan.rounds event in
+    rounds_by (HasWire Q fac) all Never clock rounds d.mid.shelf s'.shelf d.mid.run.tower s'.run.tower d.rounds (never_after rounds d.mid.shelf d.mid.run.tower s'.shelf s'.run.tower d.rounds) acted
 line_keeps Q calls kept fac plan number (Err e) s ns s' h d = absurd d
 
 pub runs_keep : (Q : ℕ → Line → Type 0) (calls : KeepsLine Q) (kept : KeepsEvents Q) (fac : ℕ) (plan : Plan) (number : ℕ) (s : Stage) (ls : List (List ℕ)) (ns : List Note) (s' : Stage) → Runs plan number s ls ns s' → Holds (HasWire Q fac) s.run.tower → Holds (HasWire Q fac) s'.run.tower

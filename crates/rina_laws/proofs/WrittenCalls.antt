@@ -246,6 +246,15 @@ frees port x (Rank' p difs below) (Rank' p' difs' below') v d =
 frees port x (Wires a) (Rank' p difs below) v d = absurd d
 frees port x (Rank' p difs below) (Wires a) v d = absurd d
 
+pub frees_stood : (port : Port) (x : Result (Unit {0}) FreeError) (u u' : Tower) → IsTower u → FreesAtTop port x u u' → Stood MayWrite u u'
+frees_stood port x (Wires a) (Wires a') v d = record { valid = sound_frees a port x a' v d; grows = tt }
+frees_stood port x (Rank' p difs below) (Rank' p' difs' below') v d = subst (λ (b : Tower). Stood MayWrite (Rank' p difs below) (Rank' p' difs' b)) (sym d.1) (record {
+  valid = (rank_frees port x _ difs difs' below v.0 v.1 d.0, v.1);
+  grows = (frees_grow port x _ difs difs' below v.0 d.0, grows_same MayWrite below);
+})
+frees_stood port x (Wires a) (Rank' p difs below) v d = absurd d
+frees_stood port x (Rank' p difs below) (Wires a) v d = absurd d
+
 -- ---- CDAP
 
 pub asks : (W : MayBeWritten) (dif node : ℕ) (bytes : List ℕ) (x : Result (List ℕ) CdapCallError) (u u' : Tower) → IsTower u → AsksAtTop dif node bytes x u u' → Goes W u u'

@@ -4,6 +4,7 @@ use Rattle.rina_base.specs.declared.number.Num.{Num}
 use Rattle.rina_base.specs.declared.number.Port.{Port}
 use Rattle.rina_iface.specs.declared.state.PortState.TheVariants.{Allocated}
 use Rattle.rina_draws.specs.declared.storm.Fate.TheVariants.{Sent}
+use Rattle.rina_data.specs.declared.step.ClockStep.TheVariants.{GaveUp}
 use Rattle.rina_law.specs.declared.entry.Entry.{Entry}
 use Rattle.rina_iface.specs.declared.ends.End.{End}
 use Rattle.rina_iface.specs.Journal.{At}
@@ -13,11 +14,13 @@ use Rattle.rina_schedule.specs.declared.event.Event.{Event}
 use Rattle.rina_schedule.specs.declared.event.Event.TheVariants as events
 use Rattle.rina_stack.specs.declared.plan.Plan.{Plan}
 use Rattle.rina_wire.specs.Air.{Air, Line, wire_at}
+use Rattle.rina_wire.specs.Free.{FreesOn}
 use Rattle.rina_wire.specs.Send.{mate}
 use Rattle.rina_wire.specs.Storm.{fate_at}
 use Rattle.rina_wire.specs.declared.flight.Flight.{Flight}
 use Rattle.rina_tower.specs.declared.tower.Tower.{Tower, Wires, Rank'}
 use Rattle.rina_tower.specs.Ranks.{now_of}
+use Rattle.rina_tower.specs.Steps.{ClocksAt}
 use Rattle.rina_words.specs.declared.run.Run.{Run}
 use Rattle.rina_words.specs.Built.{event_at}
 use Rattle.rina_notes.specs.Look.{same_num, state_at}
@@ -25,6 +28,7 @@ use Rattle.rina_run.specs.Opening.{IsOpening}
 use Rattle.rina_run.specs.Run.{Runs}
 use Rattle.rina_notes.specs.Sites.{port_in}
 use Rattle.rina_words.specs.Step.{Stage, wire_of}
+use Rattle.rina_laws.specs.SomeStep.{SomeStep}
 
 -- the entries of this number, in their order
 abbrev pub of_number : Num → List Entry → List Entry
@@ -82,10 +86,40 @@ IsSpared plan start fac frame lines =
     (before : ℕ) (line : List ℕ) (event : Event) (ns : List Note) (s : Stage) → slice_get lines before ≡ Some line → event_at line ≡ Ok (Some event)
     → Runs plan 1 start (take before lines) ns s → Touches plan fac frame s.run event → ⊥
 
+-- a step takes frame `frame` of wire `fac` away: it is the step by the clock of a DIF of rank 1 in which a management connection gives a number up, which
+-- is told with the CEP-id 0. It frees the flow that the wire carries while the frame is in flight
+pub record GivesUpOn (fac frame : ℕ) (t t' : Tower) : Type 0 where
+  pub dif : ℕ
+  pub node : ℕ
+  pub num : Num
+  pub management : num.cep ≡ 0
+  pub does : ClocksAt 1 dif node (Ok (GaveUp num)) t t'
+  pub port : Port
+  pub its_wire : port.fac ≡ fac
+  pub allocated : state_at t 0 port ≡ Some Allocated
+  pub frees : FreesOn (wires_of t) port (Ok tt) (wires_of t')
+  pub flies : IsInFlight t fac frame
+
 -- in every run of a stack, every frame that any end of any wire sent, be it an application's or a DIF's, and that the wire's storm lets arrive once, is carried, unless a line
--- touched it: it arrives when the delay of the wire has gone by, and the ticks by which the storm makes it late. Without a storm each frame arrives once, and is not late
+-- touched it, or a step took it away in which a management connection gave up: it arrives when the delay of the wire has gone by, and the ticks by which the storm makes it late.
+-- Without a storm each frame arrives once, and is not late
 abbrev pub FramesArriveOnce : Type 0
 FramesArriveOnce =
-    (plan : Plan) (shelf : List Slot) (start : Stage) (lines : List (List ℕ)) (ns : List Note) (s : Stage) → IsOpening plan shelf start → Runs plan 1 start lines ns s
+    (plan : Plan) (shelf : List Slot) (start : Stage) (lines : List (List ℕ)) (ns : List Note) (s : Stage) → IsOpening plan shelf start → (runs : Runs plan 1 start lines ns s)
     → (fac : ℕ) (l : Line) → wire_at (wires_of s.run.tower) fac ≡ Some l → (i j : ℕ) (e : End) (frame : Entry) → At l.ends i e → slice_get e.sent j ≡ Some frame
-    → (late : ℕ) → fate_at l.storm frame.num.seq ≡ Sent late None → IsSpared plan start fac frame.num.seq lines → IsCarried (l.delay + late) (now_of s.run.tower) l i frame
+    → (late : ℕ) → fate_at l.storm frame.num.seq ≡ Sent late None → IsSpared plan start fac frame.num.seq lines → (SomeStep (GivesUpOn fac frame.num.seq) plan 1 start lines ns s runs → ⊥)
+    → IsCarried (l.delay + late) (now_of s.run.tower) l i frame
+
+-- the wires before such a step and after it: of the wire no copy is left in flight, and each of its ends sent and got what it had; no other wire changed
+pub record IsEmptied (fac : ℕ) (a a' : Air) : Type 0 where
+  pub before : Line
+  pub was : wire_at a fac ≡ Some before
+  pub after : Line
+  pub is : wire_at a' fac ≡ Some after
+  pub none : after.flights ≡ []
+  pub ends : (i : ℕ) (e e' : End) → At before.ends i e → At after.ends i e' → (e'.sent ≡ e.sent) × (e'.got ≡ e.got)
+  pub others : (other : ℕ) → other ≢ fac → wire_at a' other ≡ wire_at a other
+
+-- a step in which a management connection gives up takes all frames away that are in flight on the wire of its link, and no other one
+abbrev pub GiveUpsEmptyOneWire : Type 0
+GiveUpsEmptyOneWire = (fac frame : ℕ) (t t' : Tower) → GivesUpOn fac frame t t' → IsEmptied fac (wires_of t) (wires_of t')

@@ -3,7 +3,7 @@
 
 ghost use Rattle.rina_laws.specs.Planned.{RoutesAsPlanned, StaysAsPlanned};
 ghost use Rattle.rina_laws.specs.Cuts.{FailuresAreCuts};
-ghost use Rattle.rina_laws.specs.Frames.{FramesArriveOnce};
+ghost use Rattle.rina_laws.specs.Frames.{FramesArriveOnce, GiveUpsEmptyOneWire};
 ghost use Rattle.rina_laws.specs.Labels.{GotIsTold, SentIsTold};
 ghost use Rattle.rina_laws.specs.SomeStep.{LinesHaveCauses};
 ghost use Rattle.rina_laws.specs.Starts.{DifsStartUntouched, WiresStartAsPlanned};
@@ -42,14 +42,25 @@ pub fn next_hops_go_by_the_plan()
 
 /// A frame that no event touched is delivered exactly once, at the tick at which its wire's delay has gone
 /// by since it was sent, with its bytes; before that tick it is in flight. So it is without a storm; under a storm so it
-/// is for each frame that the storm neither loses nor repeats, and it comes so many ticks later as the storm says. What
-/// touches a frame is `Touches`: a line `lose`, `repeat` or `hold` of its wire that names it, a `cut` of its wire while it
-/// is in flight, and a `free` of a port of the flow that the wire carries while it is in flight.
+/// is for each frame that the storm neither loses nor repeats, and it comes so many ticks later as the storm says.
+///
+/// A line touches a frame by `Touches`: a `lose`, `repeat` or `hold` of its wire that names it, a `cut` of its wire while it
+/// is in flight, and a `free` of a port of the flow that the wire carries while it is in flight. A step of a DIF touches it
+/// by `GivesUpOn` alone: a management connection of a DIF of rank 1 gives a number up, and so frees the flow that the wire
+/// carries while the frame is in flight. No other step takes a frame away; in a run in which no management connection gives
+/// up none does.
 ///
 /// The law is of every stack, whatever ranks of DIFs stand on the wires: the frames are those of applications and of
 /// DIFs alike.
 pub fn a_frame_arrives_once()
     ensures { FramesArriveOnce }
+{}
+
+/// Where a management connection of a DIF of rank 1 gives a number up, the flow of one wire is freed. No copy of a frame stays in
+/// flight on that wire. What its ends had sent and got stays, and no other wire changes. So a designer knows which frames
+/// such a step takes away: those of the wire that were in flight, and no other one.
+pub fn a_give_up_empties_one_wire()
+    ensures { GiveUpsEmptyOneWire }
 {}
 
 /// An end of a wire that has failed did so by a line `cut` of that wire, whose `ok` stands among the notes of the run with

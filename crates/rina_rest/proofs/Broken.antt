@@ -68,7 +68,7 @@ two_run = (
           (
             (refl, refl, omega arith, free_more 6 left (flow_of 6 6 ∷ []) 2 6 (λ e. absurd (omega (arith, e))) (λ a c. absurd (omega (arith, c))) (free_more 6 (flow_of 6 6) [] 2 6 (λ e. absurd (omega (arith, e))) tt (free_none 6 2 6))),
             (
-              (refl, refl, refl),
+              (refl, refl, refl, λ none. none-some (end_of_2 6) (sym none)),
               (
                 (refl, refl, refl, (refl, refl, refl, refl), (λ e. absurd (far_asker e)), omega arith),
                 tt,
@@ -115,7 +115,7 @@ late_run = (
         (
           (refl, refl, omega arith, free_more 6 late_flow (flow_of 6 6 ∷ []) 2 5 (λ e. absurd (omega (arith, e))) tt (free_more 6 (flow_of 6 6) [] 2 5 (λ e. absurd (omega (arith, e))) tt (free_none 6 2 5))),
           (
-            (refl, refl, refl),
+            (refl, refl, refl, λ none. none-some (end_of_2 5) (sym none)),
             (
               (refl, refl, refl),
               (
@@ -184,7 +184,7 @@ short_run rest some = (
   (
     (refl, refl, omega arith, free_more 0 (flow_of 0 rest) [] 2 5 (λ e. absurd (omega (arith, e))) tt (free_none 0 2 5)),
     (
-      (refl, refl, refl),
+      (refl, refl, refl, λ none. none-some (end_of_2 5) (sym none)),
       (
         (refl, refl, refl, (refl, refl, refl, refl), (λ e. refl), omega arith),
         (

@@ -1,11 +1,11 @@
 -- Each row keeps what an IPC process knows of its ids.
-use Rattle.std.proofs.Common.{◌≡◌, ℕ, ◌+◌, ◌≤◌, List, [], ◌∷◌, ◌++◌, length, slice_get, Option, Some, None, refl, sym, ◌∙◌, ap, subst, arith, inl, inr}
+use Rattle.std.proofs.Common.{◌≡◌, ℕ, ◌+◌, ◌<◌, ◌≤◌, false, List, [], ◌∷◌, ◌++◌, length, slice_get, Option, Some, None, refl, sym, ◌∙◌, ap, subst, arith, inl, inr}
 use Rattle.std.proofs.lemmas.Bool.{cases_eq}
 use Rattle.std.proofs.lemmas.Option.{none-some, same_Some}
 use Rattle.rina_ids.specs.declared.slot.Slot.{Slot}
 use Rattle.rina_ids.specs.Ids.{free_id, drawn, given_back, IsInUse as HasInUse, IsResting}
 use Rattle.rina_rest.specs.Drawn.{IsKept, AreKept, Draws, GivesBack, SlotsAfter}
-use Rattle.rina_rest.specs.Flows.{Endpoint, HasSameId, Side, Asker, Far, Flow, Four, end_at}
+use Rattle.rina_rest.specs.Flows.{Endpoint, HasSameId, IsFree, Side, Asker, Far, Flow, Four, end_at}
 use Rattle.rina_rest.specs.Ledger.{Ledger, Row, Time, Cloud, Ask, Make, Tell, EndAsker, EndFar, Send, put, asked_flow, made, told_flow, bound_flow, ended_asker, ended_far, entered, IsAllowed, LedgerHolds, Listed, Holds}
 use Rattle.rina_rest.proofs.Holding.{unended}
 use Rattle.rina_rest.proofs.Lists.{IsChanged, put_changed, push_changed, new_or_old}
@@ -197,6 +197,19 @@ asker_keeps_slots now flows cloud i f addr before after h at stands gives kept =
 
 pub far_keeps_slots : (now : ℕ) (flows : List Flow) (cloud : ℕ → Four → Type 0) (i : ℕ) (f : Flow) (far : Endpoint) (addr : ℕ) (before after : List Slot) → LedgerHolds now flows cloud → slice_get flows i ≡ Some f → f.far ≡ Some far → far.ended ≡ None → GivesBack f.rest now addr far before after → AreKept now flows addr before → AreKept now (put i (ended_far now f far) flows) addr after
 far_keeps_slots now flows cloud i f far addr before after h at known stands gives kept = end_far_kept (listless now flows) addr before after i f far (listless_holds now flows cloud h) at known stands gives kept
+
+-- A flow is asked for, its far end is made, or the answer comes, whatever the cloud is
+
+pub ask_keeps_slots : (greatest now : ℕ) (flows : List Flow) (cloud : ℕ → Four → Type 0) (rest peer from cep addr : ℕ) (before after : List Slot) → LedgerHolds now flows cloud → 1 ≤ rest → (peer ≡ from → ⊥) → IsFree now flows from cep → Draws greatest now addr from cep before after → AreKept now flows addr before
+    → AreKept now (flows ++ asked_flow now rest peer from cep ∷ []) addr after
+ask_keeps_slots greatest now flows cloud rest peer from cep addr before after h some apart free draws kept = rows_keep_slots greatest (listless now flows) (Ask rest peer from cep) addr before after (listless_holds now flows cloud h) (some, apart, free) draws kept
+
+pub make_keeps_slots : (greatest now : ℕ) (flows : List Flow) (cloud : ℕ → Four → Type 0) (i : ℕ) (f : Flow) (cep addr : ℕ) (before after : List Slot) → LedgerHolds now flows cloud → slice_get flows i ≡ Some f → f.far ≡ None → now < f.asked + f.rest → IsFree now flows f.peer cep → Draws greatest now addr f.peer cep before after → AreKept now flows addr before
+    → AreKept now (put i (made f cep) flows) addr after
+make_keeps_slots greatest now flows cloud i f cep addr before after h at none young free draws kept = rows_keep_slots greatest (listless now flows) (Make i f cep) addr before after (listless_holds now flows cloud h) (at, none, young, free) draws kept
+
+pub tell_keeps_slots : (now : ℕ) (flows : List Flow) (cloud : ℕ → Four → Type 0) (i : ℕ) (f : Flow) (addr : ℕ) (slots : List Slot) → LedgerHolds now flows cloud → slice_get flows i ≡ Some f → f.asker.ended ≡ None → f.told ≡ false → (f.far ≡ None → ⊥) → AreKept now flows addr slots → AreKept now (put i (told_flow f) flows) addr slots
+tell_keeps_slots now flows cloud i f addr slots h at stands waits known kept = rows_keep_slots 0 (listless now flows) (Tell i f) addr slots slots (listless_holds now flows cloud h) (at, stands, waits, known) refl kept
 
 pub time_keeps_slots : (now later : ℕ) (flows : List Flow) (addr : ℕ) (slots : List Slot) → now ≤ later → AreKept now flows addr slots → AreKept later flows addr slots
 time_keeps_slots now later flows addr slots le kept i f side e at is there = kept_end_later f.rest now later slots e.cep e.ended le (kept i f side e at is there)

@@ -1,5 +1,5 @@
 -- Each row keeps what holds of ids, connections and what is in flight.
-use Rattle.std.proofs.Common.{◌≡◌, ℕ, ◌+◌, ◌<◌, ◌≤◌, true, List, [], ◌∷◌, ◌++◌, length, slice_get, Option, Some, None, refl, sym, ◌∙◌, ap, subst, arith, inl, inr}
+use Rattle.std.proofs.Common.{◌≡◌, ℕ, ◌+◌, ◌<◌, ◌≤◌, true, false, List, [], ◌∷◌, ◌++◌, length, slice_get, Option, Some, None, refl, sym, ◌∙◌, ap, subst, arith, inl, inr}
 use Rattle.std.proofs.lemmas.Option.{none-some, same_Some}
 use Rattle.rina_law.specs.Backed.{Covers, CoversBut}
 use Rattle.rina_law.specs.Line.{InFlight, IsCovered}
@@ -38,7 +38,7 @@ end_asker_holds now flows cloud i f h at stands =
     let flow = h.flow i f at in
     let past = flow.past in
     change_holds now flows (put i (ended_asker now f) flows) cloud i (ended_asker now f) (put_changed flows i f (ended_asker now f) at) h
-    (record { some = flow.some; past = flow.past; lasts = λ t e. (let is = same_Some now t e in omega arith); elsewhere = flow.elsewhere; there = flow.there })
+    (record { some = flow.some; past = flow.past; lasts = λ t e. (let is = same_Some now t e in omega arith); elsewhere = flow.elsewhere; there = flow.there; heard = flow.heard })
     (end_asker_origin now flows i f at stands)
     (λ j g u v ne e same. ne (sym (h.fours i j f g (record { far = u.far; known = u.known; unrested = λ r q. asker_unrested now f stands r }) v at e same)))
     (λ g death four e of.
@@ -60,7 +60,7 @@ end_far_holds now flows cloud i f far h at known stands =
     let x = ended_far now f far in
     let gone : Endpoint = record far { ended = Some now } in
     change_holds now flows (put i x flows) cloud i x (put_changed flows i f x at) h
-    (record { some = flow.some; past = flow.past; lasts = flow.lasts; elsewhere = flow.elsewhere; there = λ k e. (sym (ap (λ (z : Endpoint). z.addr) (same_Some gone k e)) ∙ flow.there far known) })
+    (record { some = flow.some; past = flow.past; lasts = flow.lasts; elsewhere = flow.elsewhere; there = λ k e. (sym (ap (λ (z : Endpoint). z.addr) (same_Some gone k e)) ∙ flow.there far known); heard = λ is none. none-some gone (sym none) })
     (end_far_origin now flows i f far at known stands)
     (λ j g u v ne e same.
     (let is : HasSameId u.far far = same_to u.far gone (sym (same_Some gone u.far u.known)) in
@@ -80,12 +80,12 @@ tell_origin : (now : ℕ) (flows : List Flow) (i : ℕ) (f : Flow) → slice_get
 tell_origin now flows i f at Asker h is un = known_end now flows i f Asker h h at is (same_to h h refl) un
 tell_origin now flows i f at Far h is un = known_end now flows i f Far h h at is (same_to h h refl) un
 
-pub tell_holds : (now : ℕ) (flows : List Flow) (cloud : ℕ → Four → Type 0) (i : ℕ) (f : Flow) → LedgerHolds now flows cloud → slice_get flows i ≡ Some f → LedgerHolds now (put i (told_flow f) flows) cloud
-tell_holds now flows cloud i f h at =
+pub tell_holds : (now : ℕ) (flows : List Flow) (cloud : ℕ → Four → Type 0) (i : ℕ) (f : Flow) → LedgerHolds now flows cloud → slice_get flows i ≡ Some f → (f.far ≡ None → ⊥) → LedgerHolds now (put i (told_flow f) flows) cloud
+tell_holds now flows cloud i f h at known =
     let flow = h.flow i f at in
     let x : Flow = told_flow f in
     change_holds now flows (put i x flows) cloud i x (put_changed flows i f x at) h
-    (record { some = flow.some; past = flow.past; lasts = flow.lasts; elsewhere = flow.elsewhere; there = flow.there })
+    (record { some = flow.some; past = flow.past; lasts = flow.lasts; elsewhere = flow.elsewhere; there = flow.there; heard = λ is. known })
     (tell_origin now flows i f at)
     (λ j g u v ne e same. ne (sym (h.fours i j f g (record { far = u.far; known = u.known; unrested = u.unrested }) v at e same)))
     (λ g death four e of.
@@ -104,7 +104,7 @@ pub ask_holds : (now : ℕ) (flows : List Flow) (cloud : ℕ → Four → Type 0
 ask_holds now flows cloud rest peer addr cep h some ne free =
     let x = asked_flow now rest peer addr cep in
     change_holds now flows (flows ++ x ∷ []) cloud (length flows) x (push_changed flows x) h
-    (record { some = some; past = omega arith; lasts = λ t e. absurd (none-some t e); elsewhere = ne; there = λ k e. absurd (none-some k e) })
+    (record { some = some; past = omega arith; lasts = λ t e. absurd (none-some t e); elsewhere = ne; there = λ k e. absurd (none-some k e); heard = λ is. absurd (let clash : false ≡ true = is in cc) })
     (ask_origin now flows rest peer addr cep free)
     (λ j g u v ne e same. none-some u.far u.known)
     (λ g death four e of. absurd (none-some g (sym (past_none flows) ∙ e)))
@@ -145,7 +145,7 @@ make_holds now flows cloud i f cep h at none young free =
     let x = made f cep in
     let end : Endpoint = record { addr = f.peer; cep = cep; ended = None } in
     change_holds now flows (put i x flows) cloud i x (put_changed flows i f x at) h
-    (record { some = flow.some; past = flow.past; lasts = flow.lasts; elsewhere = flow.elsewhere; there = λ k e. sym (ap (λ (z : Endpoint). z.addr) (same_Some end k e)) })
+    (record { some = flow.some; past = flow.past; lasts = flow.lasts; elsewhere = flow.elsewhere; there = λ k e. sym (ap (λ (z : Endpoint). z.addr) (same_Some end k e)); heard = λ is gone. none-some end (sym gone) })
     (make_origin now flows i f cep at free)
     (λ j g u v ne e same.
     (let is = same_to u.far end (sym (same_Some end u.far u.known)) in
@@ -181,7 +181,7 @@ bound_holds now flows cloud rest peer addr cep far_cep h some ne free far_free =
     let made_one = make_holds now (flows ++ f ∷ []) cloud (length flows) f far_cep asked (push_changed flows f).at refl (omega arith) (free_beside now flows rest peer addr cep far_cep ne far_free) in
     let P : List Flow → Type 0 = λ l. LedgerHolds now l cloud in
     let there = subst P (put_last flows f (made f far_cep)) made_one in
-    subst P (put_last flows (made f far_cep) (told_flow (made f far_cep))) (tell_holds now (flows ++ made f far_cep ∷ []) cloud (length flows) (made f far_cep) there (push_changed flows (made f far_cep)).at)
+    subst P (put_last flows (made f far_cep) (told_flow (made f far_cep))) (tell_holds now (flows ++ made f far_cep ∷ []) cloud (length flows) (made f far_cep) there (push_changed flows (made f far_cep)).at (λ gone. none-some (record { addr = peer; cep = far_cep; ended = None }) (sym gone)))
 
 -- time goes on
 
@@ -190,7 +190,7 @@ used_before now later f le u = record { far = u.far; known = u.known; unrested =
 
 pub time_holds : (now later : ℕ) (flows : List Flow) (cloud : ℕ → Four → Type 0) → now ≤ later → LedgerHolds now flows cloud → LedgerHolds later flows cloud
 time_holds now later flows cloud le h = record {
-  flow = λ i f e. (let w = h.flow i f e in let past = w.past in record { some = w.some; past = omega arith; lasts = w.lasts; elsewhere = w.elsewhere; there = w.there });
+  flow = λ i f e. (let w = h.flow i f e in let past = w.past in record { some = w.some; past = omega arith; lasts = w.lasts; elsewhere = w.elsewhere; there = w.there; heard = w.heard });
   ids = λ i j f g s t a b e e' is is' same un un'.
       h.ids i j f g s t a b e e' is is' same (λ r. un (rested_later f.rest now later a.ended le r)) (λ r. un' (rested_later g.rest now later b.ended le r));
   fours = λ i j f g u v e e' same. h.fours i j f g (used_before now later f le u) (used_before now later g le v) e e' same;
@@ -265,7 +265,7 @@ row_holds s (Time ticks) h may = time_holds s.now (s.now + ticks) s.flows (Liste
 row_holds s (Cloud pdus) h may = cloud_holds s.now s.flows (Listed s.pdus) (Listed pdus) (listed_covers s.now s.pdus pdus may) h
 row_holds s (Ask rest peer addr cep) h may = ask_holds s.now s.flows (Listed s.pdus) rest peer addr cep h may.0 may.1 may.2
 row_holds s (Make i f cep) h may = make_holds s.now s.flows (Listed s.pdus) i f cep h may.0 may.1 may.2 may.3
-row_holds s (Tell i f) h may = tell_holds s.now s.flows (Listed s.pdus) i f h may.0
+row_holds s (Tell i f) h may = tell_holds s.now s.flows (Listed s.pdus) i f h may.0 may.3
 row_holds s (EndAsker i f) h may = end_asker_holds s.now s.flows (Listed s.pdus) i f h may.0 may.1
 row_holds s (EndFar i f far) h may = end_far_holds s.now s.flows (Listed s.pdus) i f far h may.0 may.1 may.2
 row_holds s (Send i f far side p) h may =

@@ -82,7 +82,7 @@ IsAllowed s (Time ticks) = Unit {0}
 IsAllowed s (Cloud pdus) = IsCovered s.pdus pdus
 IsAllowed s (Ask rest peer addr cep) = (1 ≤ rest) × (peer ≡ addr → ⊥) × IsFree s.now s.flows addr cep
 IsAllowed s (Make i f cep) = (slice_get s.flows i ≡ Some f) × (f.far ≡ None) × (s.now < f.asked + f.rest) × IsFree s.now s.flows f.peer cep
-IsAllowed s (Tell i f) = (slice_get s.flows i ≡ Some f) × (f.asker.ended ≡ None) × (f.told ≡ false)
+IsAllowed s (Tell i f) = (slice_get s.flows i ≡ Some f) × (f.asker.ended ≡ None) × (f.told ≡ false) × (f.far ≡ None → ⊥)
 IsAllowed s (EndAsker i f) = (slice_get s.flows i ≡ Some f) × (f.asker.ended ≡ None)
 IsAllowed s (EndFar i f far) = (slice_get s.flows i ≡ Some f) × (f.far ≡ Some far) × (far.ended ≡ None)
 IsAllowed s (Send i f far side p) = (slice_get s.flows i ≡ Some f) × (f.far ≡ Some far) × Stands side f far × GoesFrom side f.asker far p.pdu × (side ≡ Asker → f.told ≡ true) × (p.death < s.now + f.rest)
@@ -99,13 +99,15 @@ ledger_after s (row ∷ rows) = ledger_after (entered s row) rows
 
 -- What every row keeps
 
--- an asker's end stood when the flow was asked for, and the far end is at the address that was asked, which is another
+-- an asker's end stood when the flow was asked for, and the far end is at the address that was asked, which is another. An asker was told
+-- of a far end that was made
 pub record FlowHolds (now : ℕ) (f : Flow) : Type 0 where
   pub some : 1 ≤ f.rest
   pub past : f.asked ≤ now
   pub lasts : (t : ℕ) → f.asker.ended ≡ Some t → f.asked ≤ t
   pub elsewhere : f.peer ≡ f.asker.addr → ⊥
   pub there : (e : Endpoint) → f.far ≡ Some e → e.addr ≡ f.peer
+  pub heard : f.told ≡ true → f.far ≡ None → ⊥
 
 -- `cloud` says which PDUs may still come, each with the last tick at which it may
 pub record LedgerHolds (now : ℕ) (flows : List Flow) (cloud : ℕ → Four → Type 0) : Type 0 where

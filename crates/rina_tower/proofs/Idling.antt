@@ -5,6 +5,7 @@ use Rattle.rina_base.specs.declared.number.Num.{Num}
 use Rattle.rina_base.specs.declared.number.Port.{Port}
 use Rattle.rina_iface.specs.declared.error.SendError.{SendError}
 use Rattle.rina_iface.specs.Seen.{Seen}
+use Rattle.rina_iface.specs.Free.{FreesAsSeen}
 use Rattle.rina_iface.specs.Send.{SendsAsSeen}
 use Rattle.rina_iface.proofs.Changed.{slice_set-same}
 use Rattle.rina_policy.specs.Slots.{Slot}
@@ -25,14 +26,16 @@ use Rattle.rina_dif.specs.Holding.{Stands}
 use Rattle.rina_dif.specs.Resting.{RestsUntil as DifRests}
 use Rattle.rina_dif.proofs.Beside.{no_step}
 use Rattle.rina_dif.proofs.Elsewhere.{flows_none, none_process}
+use Rattle.rina_dif.proofs.FlowIds.{TellsFlow}
+use Rattle.rina_dif.proofs.GivenUp.{frees_none}
 use Rattle.rina_dif.proofs.Rested.{DoesNone, SendsNone, TakesNone, clock_rests, in_rests, none_fails, out_rests}
 use Rattle.rina_tower.specs.declared.places.LinkPlace.{LinkPlace}
 use Rattle.rina_tower.specs.declared.places.MemberPlace.{MemberPlace}
 use Rattle.rina_tower.specs.declared.tower.Tower.{Tower, Rank', Wires}
-use Rattle.rina_tower.specs.Calls.{SendsWhole}
+use Rattle.rina_tower.specs.Calls.{FreesWhole, SendsWhole}
 use Rattle.rina_tower.specs.Levels.{AtDif, same_refl}
 use Rattle.rina_tower.specs.Ranks.{height_of, now_of, seen_now, seen_of}
-use Rattle.rina_tower.specs.Refusals.{refuses_send}
+use Rattle.rina_tower.specs.Refusals.{frees_both, refuses_send}
 use Rattle.rina_tower.specs.Resting.{AreResting, RestsUntil}
 use Rattle.rina_tower.specs.Rounds.{AllClockSteps, AllInSteps, AllMove, AllOutSteps, Anything, ClockMove, InMove, InTurn, IsRound, IsUntil, Move, Moves, OutMove, has_left, has_taken, leaves_no_more, links_downward, links_upward, members_upward, none_due, takes_no_more, was_due}
 use Rattle.rina_tower.specs.Stands.{IsTower}
@@ -116,10 +119,16 @@ in_tower until (Rank' p difs below) v before rest r dif node link = elim (cases_
   | inr ne ↦ (let a = in_tower until below v.1 before rest.1 r dif node link in (a.0, a.1, inr (ne, refl, a.2)))
 ]
 
+-- what tells that nothing was done tells no number that was given up
+tells_none : (a : Result ClockStep StepError) → DoesNone a → TellsFlow a
+tells_none (Ok clocks.Idle) d = tt
+tells_none (Err e) d = tt
+tells_none answer d = absurd d
+
 clock_tower : (until : ℕ) (t : Tower) → IsTower t → now_of t < until → RestsUntil until t → (r dif node : ℕ) → (a : Result ClockStep StepError) × DoesNone a × ClocksAt r dif node a t t
 clock_tower until (Wires a) v before rest r dif node = elim (cases_eq r 0) [ inl e ↦ (Err NoIpc, tt, inl (e, (refl, refl))) | inr ne ↦ (Err NoIpc, tt, inr (ne, refl, refl)) ]
 clock_tower until (Rank' p difs below) v before rest r dif node = elim (cases_eq r (height_of below + 1)) [
-  | inl e ↦ (let a = clock_difs until p difs below v before rest.0 dif node 0 (slice_get difs dif) refl in (a.0, a.1, inl (e, (a.2, same_refl below, refl))))
+  | inl e ↦ (let a = clock_difs until p difs below v before rest.0 dif node 0 (slice_get difs dif) refl in (a.0, a.1, inl (e, (a.2, same_refl below, frees_none (below ≡ below) (FreesAsSeen seen_of frees_both FreesWhole below below) a.0 (tells_none a.0 a.1) refl))))
   | inr ne ↦ (let a = clock_tower until below v.1 before rest.1 r dif node in (a.0, a.1, inr (ne, refl, a.2)))
 ]
 

@@ -31,6 +31,7 @@ use Rattle.rina_iface.specs.Send.{Sends}
 use Rattle.rina_iface.specs.Unregister.{Unregisters}
 use Rattle.rina_dif.specs.declared.dif.Dif.{Dif}
 use Rattle.rina_dif.specs.Facade.{StaysStanding, own_refusal}
+use Rattle.rina_dif.proofs.Bound.{may_bind as may_make}
 use Rattle.rina_tower.specs.declared.tower.Tower.{Tower, Rank', Wires}
 use Rattle.rina_tower.specs.Bystanders.{Anyone, IsIpc, LeavesNow}
 use Rattle.rina_tower.specs.Calls.{AreDifs, BindsFrom, MayBind, FreesFrom, PassesFrom, SendsFrom, Serves, WaitsThere}
@@ -210,10 +211,7 @@ may_bind difs below fixed rank can =
     record {
       dif = m.0;
       is_dif = m.1;
-      number = rank.standing.number fixed.fac m.0 m.1;
-      rank = seen_of_difs (now_of below) difs;
-      shows = shows difs (seen_of below) fixed.fac m.0 (now_of below) (seen_now below) rank.standing m.1;
-      can = can;
+      may = may_make m.0 fixed (seen_of_difs (now_of below) difs) (rank.standing.number fixed.fac m.0 m.1) (shows difs (seen_of below) fixed.fac m.0 (now_of below) (seen_now below) rank.standing m.1) can;
     }
 
 -- the DIF that may make it is the one of that place

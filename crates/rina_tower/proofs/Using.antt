@@ -14,6 +14,8 @@ use Rattle.rina_iface.specs.Send.{IsSent}
 use Rattle.rina_iface.proofs.Found.{end_of_stands}
 use Rattle.rina_law.specs.Direction.{Direction}
 use Rattle.rina_data.specs.declared.link.Link.{Link}
+use Rattle.rina_data.specs.declared.step.ClockStep.{ClockStep}
+use Rattle.rina_data.specs.declared.step.ClockStep.TheVariants as clocks
 use Rattle.rina_data.specs.declared.step.InStep.{InStep}
 use Rattle.rina_data.specs.declared.step.InStep.TheVariants as ins
 use Rattle.rina_data.specs.declared.step.OutStep.{OutStep}
@@ -30,8 +32,12 @@ use Rattle.rina_dif_law.specs.Outgoing.{Outs}
 use Rattle.rina_dif_law.specs.Sending.{home}
 use Rattle.rina_dif_law.specs.Standing.{IsStanding}
 use Rattle.rina_dif_law.proofs.Finding.{beside, live_link}
+use Rattle.rina_flows.specs.declared.flows.Flows.{Flows}
+use Rattle.rina_channel.specs.declared.channel.Channel.{Channel}
 use Rattle.rina_dif.specs.declared.dif.Dif.{Dif}
-use Rattle.rina_dif.specs.Holding.{Holds, Stands}
+use Rattle.rina_dif.specs.Clocking.{ClockStepsAt, Serves, Steps, StepsOk}
+use Rattle.rina_dif.specs.Holding.{Holds, LinksStand, Stands}
+use Rattle.rina_dif.specs.LinkSteps.{DoesLink}
 use Rattle.rina_dif.specs.Shown.{seen_of}
 use Rattle.rina_dif.specs.Steps.{AtHome, OutsAt}
 use Rattle.rina_dif.specs.Taking.{InsAt, TakesHome}
@@ -55,7 +61,7 @@ link_ipc d lines below i n process link f place e ipc st is is_link there =
 -- What comes
 
 passes_use : (s : Seen) (port : Port) (s' : Seen) → (h : IsPassed s port s') → IsIpc h.end.app → MayUse s s'
-passes_use s port s' h ipc = inr (record {
+passes_use s port s' h ipc = inr (inl (record {
   port = port;
   facility = h.facility;
   place = h.place;
@@ -66,7 +72,7 @@ passes_use s port s' h ipc = inr (record {
   its_port = refl;
   its_app = refl;
   new_is = h.new_is;
-})
+}))
 
 ins_use : (d : DifSeen) (lines : List Direction) (below : Seen) (i n : ℕ) (r : Result InStep StepError) (d' : DifSeen) (lines' : List Direction) (below' : Seen) → AreIpc d.config.members → IsStanding d lines below → Ins d lines below i n r d' lines' below' → MayUse below below'
 ins_use d lines below i n (Ok ins.Idle) d' lines' below' ipc st h = inl h.3
@@ -95,7 +101,7 @@ takes_use d d' below node n r below' ipc st does =
 -- What leaves
 
 sends_use : (s : Seen) (port : Port) (bytes : List ℕ) (num : _) (s' : Seen) → (h : IsSent s port bytes num s') → IsIpc h.end.app → MayUse s s'
-sends_use s port bytes num s' h ipc = inr (record {
+sends_use s port bytes num s' h ipc = inr (inl (record {
   port = port;
   facility = h.facility;
   place = h.place;
@@ -106,7 +112,7 @@ sends_use s port bytes num s' h ipc = inr (record {
   its_port = refl;
   its_app = refl;
   new_is = h.new_is;
-})
+}))
 
 offs_use : (refuses : Port → ℕ → Option SendError) (g : Config) (now : ℕ) (process : Process) (below : Seen) (n : ℕ) (key : Key) (cause : Cause) (process' : Process) (below' : Seen) → Offs refuses g now process below n key cause process' below' → MayUse below below'
 offs_use refuses g now process below n key (causes.Expired left charge) process' below' h = inl h.below_is
@@ -144,3 +150,53 @@ outs_at refuses d lines below node n (Err errors.NoLink) d' below' ipc st h = ou
 
 pub leaves_use : (refuses : Port → ℕ → Option SendError) (d d' : Dif) (below : Seen) (node n : ℕ) (r : Result OutStep StepError) (below' : Seen) → AreIpc (config_of d.settings).members → Stands d below → OutsAt refuses (seen_of d) below node n r (seen_of d') below' → MayUse below below'
 leaves_use refuses d d' below node n r below' ipc st does = outs_at refuses (seen_of d) st.0 below node n r (seen_of d') below' ipc st.1.standing does
+
+-- What comes with time
+
+-- the end below of the link that gives up is that of an IPC process
+freed_ipc : (d : Dif) (below : Seen) (place : ℕ) (channel : Channel) (f : Fac) (at : ℕ) (e : End) → AreIpc (config_of d.settings).members → LinksStand d below → slice_get d.connections.channels place ≡ Some channel → StandsThere below channel.port f at e → IsIpc e.app
+freed_ipc d below place channel f at e ipc links is there =
+    let flow = (links.standing.channels.joined place channel is).flow in
+    let same : flow.near_end ≡ e = same_Some flow.near_end e (sym flow.is_near ∙ end_of_stands below channel.port f at e there) in
+    subst (λ (z : End). IsIpc z.app) same (ipc flow.near_end.app flow.mine)
+
+links_use : (d : Dif) (below : Seen) (ipc : AreIpc (config_of d.settings).members) (links : LinksStand d below) (i place : ℕ) (done : ClockStep) (new : DifSeen) (flows' : Flows) (below' : Seen) → DoesLink d links.lines below i place done new flows' below' → MayUse below below'
+links_use d below ipc links i place (clocks.Gone cep) new flows' below' h = inl h.2
+links_use d below ipc links i place (clocks.GaveUp num) new flows' below' h = inr (inr (record { port = h.channel.port; both = h.both; freed = h.freed; ipc = freed_ipc d below place h.channel h.freed.facility h.freed.place h.freed.end ipc links h.stands h.freed.stands }))
+links_use d below ipc links i place (clocks.Ack cep) new flows' below' h = inl h.2
+links_use d below ipc links i place (clocks.Again num) new flows' below' h = inl h.1
+links_use d below ipc links i place clocks.Idle new flows' below' h = absurd h
+links_use d below ipc links i place (clocks.LinkLost link) new flows' below' h = absurd h
+links_use d below ipc links i place (clocks.LinkNew link) new flows' below' h = absurd h
+links_use d below ipc links i place (clocks.Timeout port) new flows' below' h = absurd h
+links_use d below ipc links i place (clocks.Message link) new flows' below' h = absurd h
+
+serves_use : (d : Dif) (lines : List Direction) (below : Seen) (node : ℕ) (done : ClockStep) (d' : Dif) (lines' : List Direction) (below' : Seen) → AreIpc (config_of d.settings).members → LinksStand d below → Serves d lines below node done d' lines' below' → MayUse below below'
+serves_use d lines below node done d' lines' below' ipc links (inl flow) = inl flow.same_below
+serves_use d lines below node done d' lines' below' ipc links (inr link) = (let x = link.0.does links in links_use d below ipc links link.0.i x.place done (seen_of d') d'.connections.flows below' x.does)
+
+steps_use : (d : Dif) (lines : List Direction) (below : Seen) (node : ℕ) (done : ClockStep) (d' : Dif) (lines' : List Direction) (below' : Seen) → AreIpc (config_of d.settings).members → LinksStand d below → Steps d lines below node done d' lines' below' → MayUse below below'
+steps_use d lines below node clocks.Idle d' lines' below' ipc links h = serves_use d lines below node clocks.Idle d' lines' below' ipc links h.1
+steps_use d lines below node (clocks.Gone cep) d' lines' below' ipc links h = serves_use d lines below node (clocks.Gone cep) d' lines' below' ipc links h.1
+steps_use d lines below node (clocks.GaveUp num) d' lines' below' ipc links h = serves_use d lines below node (clocks.GaveUp num) d' lines' below' ipc links h.1
+steps_use d lines below node (clocks.Ack cep) d' lines' below' ipc links h = serves_use d lines below node (clocks.Ack cep) d' lines' below' ipc links h.1
+steps_use d lines below node (clocks.Again num) d' lines' below' ipc links h = serves_use d lines below node (clocks.Again num) d' lines' below' ipc links h.1
+steps_use d lines below node (clocks.LinkLost link) d' lines' below' ipc links h = inl h.2
+steps_use d lines below node (clocks.LinkNew link) d' lines' below' ipc links h = serves_use d lines below node (clocks.LinkNew link) d' lines' below' ipc links h.1
+steps_use d lines below node (clocks.Timeout port) d' lines' below' ipc links h = serves_use d lines below node (clocks.Timeout port) d' lines' below' ipc links h.1
+steps_use d lines below node (clocks.Message link) d' lines' below' ipc links h = serves_use d lines below node (clocks.Message link) d' lines' below' ipc links h.1
+
+clock_ok_use : (d : Dif) (lines : List Direction) (below : Seen) (node : ℕ) (r : Result ClockStep StepError) (d' : Dif) (lines' : List Direction) (below' : Seen) → AreIpc (config_of d.settings).members → LinksStand d below → StepsOk d lines below node r d' lines' below' → MayUse below below'
+clock_ok_use d lines below node (Ok done) d' lines' below' ipc links h = steps_use d lines below node done d' lines' below' ipc links h
+clock_ok_use d lines below node (Err e) d' lines' below' ipc links h = absurd h
+
+clock_home : (d : Dif) (lines : List Direction) (below : Seen) (node : ℕ) (r : Result ClockStep StepError) (d' : Dif) (lines' : List Direction) (below' : Seen) (o : Option ℕ) → AreIpc (config_of d.settings).members → LinksStand d below
+    → AtHome o (λ i. StepsOk d lines below node r d' lines' below') ((r ≡ Err errors.NoIpc) × (seen_of d' ≡ seen_of d) × (lines' ≡ lines) × (below' ≡ below)) → MayUse below below'
+clock_home d lines below node r d' lines' below' (Some i) ipc links h = clock_ok_use d lines below node r d' lines' below' ipc links h
+clock_home d lines below node r d' lines' below' None ipc links h = inl h.3
+
+pub clock_uses : (d : Dif) (lines : List Direction) (below : Seen) (node : ℕ) (r : Result ClockStep StepError) (d' : Dif) (lines' : List Direction) (below' : Seen) → AreIpc (config_of d.settings).members → LinksStand d below → ClockStepsAt d lines below node r d' lines' below' → MayUse below below'
+clock_uses d lines below node (Ok done) d' lines' below' ipc links h = clock_home d lines below node (Ok done) d' lines' below' (home node (config_of d.settings).members) ipc links h
+clock_uses d lines below node (Err errors.Memory) d' lines' below' ipc links h = inl h.2
+clock_uses d lines below node (Err errors.NoIpc) d' lines' below' ipc links h = clock_home d lines below node (Err errors.NoIpc) d' lines' below' (home node (config_of d.settings).members) ipc links h
+clock_uses d lines below node (Err errors.NoLink) d' lines' below' ipc links h = clock_home d lines below node (Err errors.NoLink) d' lines' below' (home node (config_of d.settings).members) ipc links h

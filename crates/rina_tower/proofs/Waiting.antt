@@ -23,7 +23,7 @@ use Rattle.rina_dif_law.specs.Incoming.{Ins, IsArrived, IsTold, Settles, Settles
 use Rattle.rina_dif_law.specs.Outgoing.{Outs}
 use Rattle.rina_dif_law.specs.Sending.{home}
 use Rattle.rina_dif.specs.declared.dif.Dif.{Dif}
-use Rattle.rina_dif.specs.Clocking.{ClockStepsAt, Serves, Steps, StepsFlow, StepsOk}
+use Rattle.rina_dif.specs.Clocking.{ClockStepsAt, Serves, ServesAny, Steps, StepsFlow, StepsOk}
 use Rattle.rina_dif.specs.Holding.{Holds, Stands}
 use Rattle.rina_dif.specs.Shown.{seen_of}
 use Rattle.rina_dif.specs.Steps.{AtHome, OutsAt}
@@ -114,31 +114,35 @@ clock_flow d lines node (clocks.LinkNew link) new lines' s = absurd s
 clock_flow d lines node (clocks.Timeout port) new lines' s = absurd s
 clock_flow d lines node (clocks.Message link) new lines' s = absurd s
 
-clock_served : (d : Dif) (lines : List Direction) (below : Seen) (node : ℕ) (done : ClockStep) (d' : Dif) (lines' : List Direction) → Serves d lines below node done d' lines' → SameWait (seen_of d) (seen_of d')
-clock_served d lines below node done d' lines' (inl flow) = clock_flow d lines node done (seen_of d') lines' flow.does
-clock_served d lines below node done d' lines' (inr link) = ap (λ (z : Dif). (seen_of z).waiting) link.0.only
+clock_served : (d : Dif) (lines : List Direction) (below : Seen) (node : ℕ) (done : ClockStep) (d' : Dif) (lines' : List Direction) (below' : Seen) → Serves d lines below node done d' lines' below' → SameWait (seen_of d) (seen_of d')
+clock_served d lines below node done d' lines' below' (inl flow) = clock_flow d lines node done (seen_of d') lines' flow.does
+clock_served d lines below node done d' lines' below' (inr link) = ap (λ (z : Dif). (seen_of z).waiting) link.0.only
 
-clock_done : (d : Dif) (lines : List Direction) (below : Seen) (node : ℕ) (done : ClockStep) (d' : Dif) (lines' : List Direction) → Steps d lines below node done d' lines' → SameWait (seen_of d) (seen_of d')
-clock_done d lines below node (clocks.LinkLost link) d' lines' s = loses_waits d lines below s.0.i node link d' s.0.loses
-clock_done d lines below node clocks.Idle d' lines' s = clock_served d lines below node clocks.Idle d' lines' s.1
-clock_done d lines below node (clocks.Gone cep) d' lines' s = clock_served d lines below node (clocks.Gone cep) d' lines' s.1
-clock_done d lines below node (clocks.GaveUp num) d' lines' s = clock_served d lines below node (clocks.GaveUp num) d' lines' s.1
-clock_done d lines below node (clocks.Ack cep) d' lines' s = clock_served d lines below node (clocks.Ack cep) d' lines' s.1
-clock_done d lines below node (clocks.Again num) d' lines' s = clock_served d lines below node (clocks.Again num) d' lines' s.1
-clock_done d lines below node (clocks.LinkNew link) d' lines' s = clock_served d lines below node (clocks.LinkNew link) d' lines' s.1
-clock_done d lines below node (clocks.Timeout port) d' lines' s = clock_served d lines below node (clocks.Timeout port) d' lines' s.1
-clock_done d lines below node (clocks.Message link) d' lines' s = clock_served d lines below node (clocks.Message link) d' lines' s.1
+clock_any : (d : Dif) (lines : List Direction) (below : Seen) (node : ℕ) (done : ClockStep) (d' : Dif) (lines' : List Direction) (below' : Seen) → ServesAny d lines below node done d' lines' below' → SameWait (seen_of d) (seen_of d')
+clock_any d lines below node done d' lines' below' (inl served) = clock_served d lines below node done d' lines' below' served.0
+clock_any d lines below node done d' lines' below' (inr message) = ap (λ (z : Dif). (seen_of z).waiting) message.0.sends.only
 
-clock_ok : (d : Dif) (lines : List Direction) (below : Seen) (node : ℕ) (r : Result ClockStep StepError) (d' : Dif) (lines' : List Direction) → StepsOk d lines below node r d' lines' → SameWait (seen_of d) (seen_of d')
-clock_ok d lines below node (Ok done) d' lines' s = clock_done d lines below node done d' lines' s
-clock_ok d lines below node (Err e) d' lines' s = absurd s
+clock_done : (d : Dif) (lines : List Direction) (below : Seen) (node : ℕ) (done : ClockStep) (d' : Dif) (lines' : List Direction) (below' : Seen) → Steps d lines below node done d' lines' below' → SameWait (seen_of d) (seen_of d')
+clock_done d lines below node (clocks.LinkLost link) d' lines' below' s = loses_waits d lines below s.0.i node link d' s.0.loses
+clock_done d lines below node clocks.Idle d' lines' below' s = clock_any d lines below node clocks.Idle d' lines' below' s.1
+clock_done d lines below node (clocks.Gone cep) d' lines' below' s = clock_any d lines below node (clocks.Gone cep) d' lines' below' s.1
+clock_done d lines below node (clocks.GaveUp num) d' lines' below' s = clock_any d lines below node (clocks.GaveUp num) d' lines' below' s.1
+clock_done d lines below node (clocks.Ack cep) d' lines' below' s = clock_any d lines below node (clocks.Ack cep) d' lines' below' s.1
+clock_done d lines below node (clocks.Again num) d' lines' below' s = clock_any d lines below node (clocks.Again num) d' lines' below' s.1
+clock_done d lines below node (clocks.LinkNew link) d' lines' below' s = clock_any d lines below node (clocks.LinkNew link) d' lines' below' s.1
+clock_done d lines below node (clocks.Timeout port) d' lines' below' s = clock_any d lines below node (clocks.Timeout port) d' lines' below' s.1
+clock_done d lines below node (clocks.Message link) d' lines' below' s = clock_any d lines below node (clocks.Message link) d' lines' below' s.1
 
-clock_at : (d : Dif) (lines : List Direction) (below : Seen) (node : ℕ) (r : Result ClockStep StepError) (d' : Dif) (lines' : List Direction) (o : Option ℕ) → AtHome o (λ i. StepsOk d lines below node r d' lines') ((r ≡ Err errors.NoIpc) × (seen_of d' ≡ seen_of d) × (lines' ≡ lines)) → SameWait (seen_of d) (seen_of d')
-clock_at d lines below node r d' lines' (Some i) s = clock_ok d lines below node r d' lines' s
-clock_at d lines below node r d' lines' None s = ap (λ (x : DifSeen). x.waiting) s.1
+clock_ok : (d : Dif) (lines : List Direction) (below : Seen) (node : ℕ) (r : Result ClockStep StepError) (d' : Dif) (lines' : List Direction) (below' : Seen) → StepsOk d lines below node r d' lines' below' → SameWait (seen_of d) (seen_of d')
+clock_ok d lines below node (Ok done) d' lines' below' s = clock_done d lines below node done d' lines' below' s
+clock_ok d lines below node (Err e) d' lines' below' s = absurd s
 
-pub clock_waits : (d : Dif) (lines : List Direction) (below : Seen) (node : ℕ) (r : Result ClockStep StepError) (d' : Dif) (lines' : List Direction) → ClockStepsAt d lines below node r d' lines' → (seen_of d').waiting ≡ (seen_of d).waiting
-clock_waits d lines below node (Ok done) d' lines' s = clock_at d lines below node (Ok done) d' lines' (home node (config_of d.settings).members) s
-clock_waits d lines below node (Err errors.Memory) d' lines' s = ap (λ (x : DifSeen). x.waiting) s.0
-clock_waits d lines below node (Err errors.NoIpc) d' lines' s = clock_at d lines below node (Err errors.NoIpc) d' lines' (home node (config_of d.settings).members) s
-clock_waits d lines below node (Err errors.NoLink) d' lines' s = clock_at d lines below node (Err errors.NoLink) d' lines' (home node (config_of d.settings).members) s
+clock_at : (d : Dif) (lines : List Direction) (below : Seen) (node : ℕ) (r : Result ClockStep StepError) (d' : Dif) (lines' : List Direction) (below' : Seen) (o : Option ℕ) → AtHome o (λ i. StepsOk d lines below node r d' lines' below') ((r ≡ Err errors.NoIpc) × (seen_of d' ≡ seen_of d) × (lines' ≡ lines) × (below' ≡ below)) → SameWait (seen_of d) (seen_of d')
+clock_at d lines below node r d' lines' below' (Some i) s = clock_ok d lines below node r d' lines' below' s
+clock_at d lines below node r d' lines' below' None s = ap (λ (x : DifSeen). x.waiting) s.1
+
+pub clock_waits : (d : Dif) (lines : List Direction) (below : Seen) (node : ℕ) (r : Result ClockStep StepError) (d' : Dif) (lines' : List Direction) (below' : Seen) → ClockStepsAt d lines below node r d' lines' below' → (seen_of d').waiting ≡ (seen_of d).waiting
+clock_waits d lines below node (Ok done) d' lines' below' s = clock_at d lines below node (Ok done) d' lines' below' (home node (config_of d.settings).members) s
+clock_waits d lines below node (Err errors.Memory) d' lines' below' s = ap (λ (x : DifSeen). x.waiting) s.0
+clock_waits d lines below node (Err errors.NoIpc) d' lines' below' s = clock_at d lines below node (Err errors.NoIpc) d' lines' below' (home node (config_of d.settings).members) s
+clock_waits d lines below node (Err errors.NoLink) d' lines' below' s = clock_at d lines below node (Err errors.NoLink) d' lines' below' (home node (config_of d.settings).members) s

@@ -15,7 +15,7 @@ use Rattle.rina_iface.specs.declared.error.SendError.TheVariants as send
 use Rattle.rina_iface.specs.declared.error.UnregisterError.{UnregisterError}
 use Rattle.rina_iface.specs.declared.error.UnregisterError.TheVariants as unregister
 use Rattle.rina_iface.specs.Allocate.{Allocates}
-use Rattle.rina_iface.specs.Bind.{Binds, CanBind}
+use Rattle.rina_iface.specs.Bind.{Binds}
 use Rattle.rina_iface.specs.Claim.{Claims}
 use Rattle.rina_iface.specs.Ends.{place_in}
 use Rattle.rina_iface.specs.Free.{Frees}
@@ -26,7 +26,7 @@ use Rattle.rina_iface.specs.Send.{Sends}
 use Rattle.rina_iface.specs.Unregister.{Unregisters}
 use Rattle.rina_law.specs.Direction.{Direction}
 use Rattle.rina_dif.specs.declared.dif.Dif.{Dif}
-use Rattle.rina_dif.specs.Binding.{BindsTo}
+use Rattle.rina_dif.specs.Binding.{BindsTo, MayBind as MakesFlow}
 use Rattle.rina_dif.specs.Changing.{BindsManaged, FreesManaged}
 use Rattle.rina_flows.specs.Elsewhere.{SameBut}
 use Rattle.rina_dif.specs.Elsewhere.{ChangesOnly, IsPortAt, WhenOk, home_of}
@@ -57,14 +57,11 @@ pub record WaitsThere (difs : List Dif) (port : Port) : Type 0 where
   pub is_dif : slice_get difs port.fac ≡ Some dif
   pub waits : IsSome (its_oldest dif port)
 
--- one of them, which some rank shows with this number, may make a fixed flow
+-- one of them may make a fixed flow
 pub record MayBind (difs : List Dif) (fixed : Fixed) : Type 0 where
   pub dif : Dif
   pub is_dif : slice_get difs fixed.fac ≡ Some dif
-  pub number : dif.settings.fac ≡ fixed.fac
-  pub rank : Seen
-  pub shows : IsShownAs rank fixed.fac dif
-  pub can : CanBind rank fixed
+  pub may : MakesFlow dif fixed
 
 -- a call at the DIF of place n is this at every rank that shows the DIF there; the DIF goes on as a facility, stands
 -- wherever it stood, keeps its settings and what was laid, and changes in these parts alone
@@ -165,3 +162,7 @@ FreesAtTop port result (Wires a) (Wires a') = FreesOn a port result a'
 FreesAtTop port result (Rank' p difs below) (Rank' p' difs' below') =
     AtDif port.fac (FreesFrom port result) (result ≡ Err free.NoPort) difs difs' × (below' ≡ below)
 FreesAtTop port result t t' = ⊥
+
+-- the same, whether or not an allocation had failed before
+abbrev pub FreesWhole : Tower → Port → Result (Unit {0}) FreeError → Tower → Type 0
+FreesWhole t port result t' = (has_failed t ≡ false → FreesAtTop port result t t') × (has_failed t ≡ true → (result ≡ Err free.Memory) × (t' ≡ t))

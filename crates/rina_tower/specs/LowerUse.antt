@@ -1,7 +1,8 @@
 -- What a step of a DIF does at the rank below.
-use Rattle.std.specs.Prelude.{◌≡◌, ◌⊎◌, ℕ}
+use Rattle.std.specs.Prelude.{◌≡◌, ◌⊎◌, ℕ, Bool}
 use Rattle.rina_base.specs.declared.number.Port.{Port}
 use Rattle.rina_iface.specs.declared.ends.End.{End}
+use Rattle.rina_iface.specs.Free.{IsFreed}
 use Rattle.rina_iface.specs.Seen.{Fac, Seen, Stands, with_end, with_fac}
 use Rattle.rina_tower.specs.Bystanders.{IsIpc}
 
@@ -18,6 +19,13 @@ pub record UsesEnd (old new : Seen) : Type 0 where
   pub its_app : end'.app ≡ end.app
   pub new_is : new ≡ with_fac old port.fac (with_end facility place end')
 
--- or none did
+-- the port of an IPC process was freed, with both ends of its flow where `both` says so, and nothing else changed
+pub record FreesEnd (old new : Seen) : Type 0 where
+  pub port : Port
+  pub both : Bool
+  pub freed : IsFreed both old port new
+  pub ipc : IsIpc freed.end.app
+
+-- one end did something, or a port was freed, or nothing changed
 abbrev pub MayUse : Seen → Seen → Type 0
-MayUse old new = (new ≡ old) ⊎ UsesEnd old new
+MayUse old new = (new ≡ old) ⊎ UsesEnd old new ⊎ FreesEnd old new

@@ -2,6 +2,7 @@
 use Rattle.std.specs.Prelude.{◌≡◌, ℕ, true, false, List, Option, Result, Err}
 use Rattle.rina_base.specs.declared.number.Port.{Port}
 use Rattle.rina_iface.specs.declared.error.SendError.{SendError}
+use Rattle.rina_iface.specs.Free.{FreesAsSeen}
 use Rattle.rina_iface.specs.Pass.{PassesAsSeen}
 use Rattle.rina_iface.specs.Seen.{Seen}
 use Rattle.rina_iface.specs.Send.{SendsAsSeen}
@@ -20,14 +21,15 @@ use Rattle.rina_dif.specs.declared.dif.Dif.{Dif}
 use Rattle.rina_dif.specs.Clocking.{ClockSteps, FailsLate}
 use Rattle.rina_dif.specs.Elsewhere.{ChangesOnly, ChangesProcess, MayClock, MayTake, home_of}
 use Rattle.rina_dif.specs.Holding.{Holds}
+use Rattle.rina_dif.specs.Lower.{FreesBelow}
 use Rattle.rina_dif.specs.Shown.{seen_of as seen_of_dif}
 use Rattle.rina_dif.specs.Steps.{AsksHome, OutsAt}
 use Rattle.rina_dif.specs.Taking.{TakesHome}
 use Rattle.rina_tower.specs.declared.tower.Tower.{Tower, Wires, Rank'}
-use Rattle.rina_tower.specs.Calls.{PassesAtTop, SendsWhole}
+use Rattle.rina_tower.specs.Calls.{FreesWhole, PassesAtTop, SendsWhole}
 use Rattle.rina_tower.specs.StepEffect.{StandsAfter}
 use Rattle.rina_tower.specs.Ranks.{seen_of}
-use Rattle.rina_tower.specs.Refusals.{refuses_send}
+use Rattle.rina_tower.specs.Refusals.{frees_both, refuses_send}
 use Rattle.rina_tower.specs.Levels.{AtDif, AtRank, SameBelow}
 use Rattle.rina_tower.specs.Unchanged.{ChangesByClock, ChangesConnections, ChangesProcesses}
 
@@ -88,11 +90,12 @@ pub record ClocksOne (below : Seen) (node : ℕ) (result : Result ClockStep Step
   pub rest : ChangesByClock d d'
   pub leaves : ChangesOnly (MayClock result d (home_of d node)) (home_of d node) d d'
 
--- over the rank below, where nothing changes
+-- over the rank below, where one port is freed at most, for a link whose management connection gives a number up, and nothing else changes
 abbrev pub ClocksAtTop : ℕ → ℕ → Result ClockStep StepError → Tower → Tower → Type 0
 ClocksAtTop dif node result (Wires a) (Wires a') = (result ≡ Err NoIpc) × (a' ≡ a)
 ClocksAtTop dif node result (Rank' p difs below) (Rank' p' difs' below') =
-    AtDif dif (ClocksOne (seen_of below) node result (seen_of below')) ((result ≡ Err NoIpc) × (below' ≡ below)) difs difs' × SameBelow below below' × (below' ≡ below)
+    AtDif dif (ClocksOne (seen_of below) node result (seen_of below')) ((result ≡ Err NoIpc) × (below' ≡ below)) difs difs' × SameBelow below below'
+    × FreesBelow (below' ≡ below) (FreesAsSeen seen_of frees_both FreesWhole below below') result
 ClocksAtTop dif node result t t' = ⊥
 
 abbrev pub ClocksAt : ℕ → ℕ → ℕ → Result ClockStep StepError → Tower → Tower → Type 0

@@ -16,7 +16,7 @@ ghost use Rattle.rina_iface.specs.Register.{Registers};
 ghost use Rattle.rina_iface.specs.Seen.{unpassed};
 ghost use Rattle.rina_iface.specs.Send.{Sends};
 ghost use Rattle.rina_iface.specs.Unregister.{Unregisters};
-ghost use Rattle.rina_tower.specs.Calls.{AllocatesAtTop, BindsAtTop, BindsWhole, ClaimsAtTop, FreesAtTop, PassesAtTop, RegistersAtTop, SendsAtTop, SendsWhole, UnregistersAtTop};
+ghost use Rattle.rina_tower.specs.Calls.{AllocatesAtTop, BindsAtTop, BindsWhole, ClaimsAtTop, FreesAtTop, FreesWhole, PassesAtTop, RegistersAtTop, SendsAtTop, SendsWhole, UnregistersAtTop};
 ghost use Rattle.rina_tower.specs.MemoryFailure.{has_failed};
 ghost use Rattle.rina_tower.specs.Ranks.{seen_of};
 ghost use Rattle.rina_tower.specs.Refusals.{frees_both, refuses_allocate, refuses_own, refuses_register, refuses_send, refuses_unregister};
@@ -53,6 +53,8 @@ impl Facility for Tower {
     ghost does_send = { SendsWhole };
 
     ghost does_pass = { λ t port t'. PassesAtTop port t t' };
+
+    ghost does_free = { FreesWhole };
 
     fn now(&self) -> Tick {
         self.clock()

@@ -4,4 +4,6 @@
 #[cfg(test)]
 mod applications;
 #[cfg(test)]
+mod drawn_again;
+#[cfg(test)]
 mod ranks;

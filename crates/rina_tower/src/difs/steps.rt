@@ -1,10 +1,12 @@
 //! The steps of the DIFs of a rank, over any facility below.
 ghost use Rattle.std.specs.Prelude.{◌≡◌, length, map, slice_get, true, Some, Err};
+ghost use Rattle.rina_iface.specs.Free.{FreesAsSeen};
 ghost use Rattle.rina_iface.specs.Pass.{PassesAsSeen};
 ghost use Rattle.rina_iface.specs.Send.{SendsAsSeen};
 ghost use Rattle.rina_policy.specs.Slots.{Slot};
 ghost use Rattle.rina_data.specs.declared.step.StepError.TheVariants.{Memory, NoIpc};
 ghost use Rattle.rina_data.specs.Lower.{PassesBelow, SendsBelow};
+ghost use Rattle.rina_dif.specs.Lower.{FreesBelow};
 ghost use Rattle.rina_tower.specs.Bystanders.{Anyone, LeavesNow};
 ghost use Rattle.rina_tower.specs.MemoryFailure.{have_failed};
 ghost use Rattle.rina_tower.specs.Ranks.{seen_of_difs};
@@ -132,7 +134,7 @@ impl Difs {
         ensures valid { F.valid below.new }
         ensures below { F.same_below below.old below.new }
         ensures does { AtDif dif (ClocksOne (F.seen below.old) node result (F.seen below.new)) ((result ≡ Err NoIpc) × (below.new ≡ below.old)) self.old self.new }
-        ensures lower { below.new ≡ below.old }
+        ensures lower { FreesBelow (below.new ≡ below.old) (FreesAsSeen F.seen F.frees_both F.does_free below.old below.new) result }
         ensures fails { result ≡ Err Memory → have_failed self.new ≡ true }
     {
         let Some(_dif) = self.get(dif) else {
@@ -155,7 +157,7 @@ impl Difs {
         ensures valid { F.valid below.new }
         ensures below { F.same_below below.old below.new }
         ensures does { AtDif dif (ClocksOne (F.seen below.old) node result (F.seen below.new)) ((result ≡ Err NoIpc) × (below.new ≡ below.old)) self.old self.new }
-        ensures lower { below.new ≡ below.old }
+        ensures lower { FreesBelow (below.new ≡ below.old) (FreesAsSeen F.seen F.frees_both F.does_free below.old below.new) result }
         ensures fails { result ≡ Err Memory → have_failed self.new ≡ true }
         ensures stand { AreStanding self.new (F.seen below.new) }
         ensures clock { (F.seen below.new).now ≡ (F.seen below.old).now }

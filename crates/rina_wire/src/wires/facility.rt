@@ -51,6 +51,8 @@ impl Facility for Wires {
 
     ghost does_pass = { λ a port a'. a' ≡ passed a port };
 
+    ghost does_free = { FreesOn };
+
     fn now(&self) -> Tick {
         self.clock
     }

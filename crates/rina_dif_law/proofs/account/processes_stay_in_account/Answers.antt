@@ -1,4 +1,5 @@
 use Rattle.rina_dif_law.proofs.Accounting.{acknowledged_accounted, lost_accounted, passed_accounted, resent_accounted}
+use Rattle.rina_dif_law.proofs.Asked.{asked_accounted}
 use Rattle.rina_dif_law.proofs.Founding.{bound_accounted, failed_accounted, start_accounted}
 use Rattle.rina_dif_law.proofs.Landing.{ins_accounted}
 use Rattle.rina_dif_law.proofs.Lifted.{beside_accounted, passes_of_others_account, sends_of_others_account, time_accounted}
@@ -54,3 +55,6 @@ returns-clause-fail c = failed_accounted
 
 pub returns-clause-bind : goal.returns-clause-bind
 returns-clause-bind c = bound_accounted
+
+pub returns-clause-ask : goal.returns-clause-ask
+returns-clause-ask c = λ d lines below ask d' lines' st n accounted s. asked_accounted d lines below st n ask d' lines' s accounted

@@ -1,6 +1,6 @@
 use Rattle.rina_dif_law.specs.WriteOffLaws.{Nothing}
 use Rattle.rina_dif_law.specs.WriteOffs.{AnyPort}
-use Rattle.rina_dif_law.proofs.Warranted.{acknowledged_write, bound_noted, ended_write, failed_write, forgotten_write, ins_write, lost_write, offers_noted, outs_write, passed_noted, resent_write, ticked_noted}
+use Rattle.rina_dif_law.proofs.Warranted.{acknowledged_write, asked_noted, bound_noted, ended_write, failed_write, forgotten_write, ins_write, lost_write, offers_noted, outs_write, passed_noted, resent_write, ticked_noted}
 use Rattle.rina_dif_law.proofs.Writing.{was_lawful, writes}
 use Rattle.rina_dif_law.proofs.write_offs.each_write_off_has_its_cause.Goals as goal
 
@@ -39,6 +39,9 @@ returns-clause-pass c = λ d lines at d' lines' s. writes Nothing d d' (passed_n
 
 pub returns-clause-bind : goal.returns-clause-bind
 returns-clause-bind c = λ d lines fixed d' lines' s. writes Nothing d d' (bound_noted Nothing d lines fixed d' lines' s)
+
+pub returns-clause-ask : goal.returns-clause-ask
+returns-clause-ask c = λ d lines ask d' lines' s. writes Nothing d d' (asked_noted Nothing d lines ask d' lines' s)
 
 pub returns-clause-time : goal.returns-clause-time
 returns-clause-time c = λ d lines now d' lines' s. writes Nothing d d' (ticked_noted Nothing d lines now d' lines' s)

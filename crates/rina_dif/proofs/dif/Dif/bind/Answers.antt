@@ -1,17 +1,14 @@
 use Rattle.std.proofs.Common.{◌∙◌, Err}
 use Rattle.rina_iface.specs.declared.error.AllocateError.TheVariants.{Memory}
-use Rattle.rina_dif.proofs.Bound.{binds_go_on, binds_none, binds_noted, binds_shown, binds_stay, binds_whole, may_bind}
+use Rattle.rina_dif.proofs.Bound.{binds_go_on, binds_none, binds_noted, binds_shown, binds_stay, binds_whole}
 use Rattle.rina_dif.proofs.Entered.{none_far}
 use Rattle.rina_dif.proofs.dif.Dif.bind.Goals as goal
 
 pub returns-then-self-clause-shown : goal.returns-then-self-clause-shown
-returns-then-self-clause-shown c = λ s shows. binds_shown s c.args.self.now c.args.fixed.now (Err Memory) c.args.self.now c.requires.valid c.requires.fac shows (binds_none c.args.self.now c.args.fixed.now)
+returns-then-self-clause-shown c = λ s shows. binds_shown s c.args.self.now c.args.fixed.now (Err Memory) c.args.self.now c.requires.valid c.requires.may.fac shows (binds_none c.args.self.now c.args.fixed.now)
 
 pub returns-then-self-clause-goes_on : goal.returns-then-self-clause-goes_on
 returns-then-self-clause-goes_on c = binds_go_on c.args.self.now c.args.fixed.now (Err Memory) c.args.self.now c.requires.valid (binds_none c.args.self.now c.args.fixed.now)
-
-pub bind_flow-result-requires-clause-may : goal.bind_flow-result-requires-clause-may
-bind_flow-result-requires-clause-may c = may_bind c.args.self.now c.args.fixed.now c.requires.may.0 c.requires.fac c.requires.may.1 c.requires.may.2
 
 pub returns-clause-valid : goal.returns-clause-valid
 returns-clause-valid c =
@@ -21,7 +18,7 @@ returns-clause-valid c =
 pub returns-clause-shown : goal.returns-clause-shown
 returns-clause-shown c = λ s shows.
     let d' = c.bind_flow-result.new.self in
-    binds_shown s c.args.self.now c.args.fixed.now c.bind_flow-result.result (record d' { failed = c.wants_memory-self.result }) c.requires.valid c.requires.fac shows (λ lines below h. binds_noted c.args.self.now lines below c.args.fixed.now c.bind_flow-result.result d' c.wants_memory-self.result (c.bind_flow-result.ensures.same.2 ∙ c.if-self.false) c.wants_memory-self.ensures.1 (c.bind_flow-result.ensures.does lines below h))
+    binds_shown s c.args.self.now c.args.fixed.now c.bind_flow-result.result (record d' { failed = c.wants_memory-self.result }) c.requires.valid c.requires.may.fac shows (λ lines below h. binds_noted c.args.self.now lines below c.args.fixed.now c.bind_flow-result.result d' c.wants_memory-self.result (c.bind_flow-result.ensures.same.2 ∙ c.if-self.false) c.wants_memory-self.ensures.1 (c.bind_flow-result.ensures.does lines below h))
 
 pub returns-clause-goes_on : goal.returns-clause-goes_on
 returns-clause-goes_on c =

@@ -46,7 +46,7 @@ returns-clause-does c = λ lines below h.
     let added = subst (λ (z : Dif). AddsFlow z.settings asker.cube peer asker far z.flows d2.flows) whole c.in_ok-add_drawn.ensures.ok in
     let drew = subst (λ (z : Dif). HaveDrawn z.ids z.clock (near.place, other.place) peer d2.ids) whole c.in_ok-add_drawn.ensures.ids in
     let rest : d2 ≡ record d1 { flows = d2.flows; ids = d2.ids; names = names } = c.in_ok-add_drawn.ensures.rest ∙ ap (λ (z : Dif). record d1 { flows = d2.flows; ids = d2.ids; names = with_name_once z.names far.port.node far.app }) whole in
-    binds_managed d d1 d2 lines below fixed (near.port, other.port) fixed.b_app m.far names (is_there d.settings.members m.b m.far m.is_far) whole rest
+    binds_managed d d1 d2 lines below fixed (near.port, other.port) fixed.b_app m.far names c.is_formed.ensures (is_there d.settings.members m.b m.far m.is_far) whole rest
     (shown_agents fixed.b_app m.far.addr m.a m.scep m.b m.dcep d.managements d1.managements m.are)
     (binds d fixed c.requires.may near other c.draw-near.ensures c.draw-other.ensures asker far (record d { flows = d2.flows; ids = d2.ids; names = names })
     (c.in_ok-asker.ensures ∙ asker_is d fixed c.requires.may near other c.draw-near.ensures c.draw-other.ensures flow flow_is)
@@ -84,7 +84,7 @@ pub returns-in_err-manage_flow-clause-does : goal.returns-in_err-manage_flow-cla
 returns-in_err-manage_flow-clause-does c = λ lines below h.
     let err = err_from_is_err_and c.from_residual-in_err-manage_flow.result c.from_residual-in_err-manage_flow.ensures.1 in
     let d1 = c.manage_flow.new.self in
-    binds_failed c.args.self.now d1 d1 c.args.fixed.now c.from_residual-in_err-manage_flow.result err.0 c.requires.may err.1 err.2 c.in_err-manage_flow.ensures.whole c.in_err-manage_flow.ensures.err refl lines below h
+    binds_failed c.args.self.now d1 d1 c.args.fixed.now c.from_residual-in_err-manage_flow.result err.0 c.is_formed.ensures c.requires.may err.1 err.2 c.in_err-manage_flow.ensures.whole c.in_err-manage_flow.ensures.err refl lines below h
 
 pub returns-in_err-manage_flow-clause-manages : goal.returns-in_err-manage_flow-clause-manages
 returns-in_err-manage_flow-clause-manages c =
@@ -97,7 +97,7 @@ returns-in_err-add_drawn-clause-does c = λ lines below h.
     let d = c.args.self.now in
     let fixed = c.args.fixed.now in
     let d1 = c.manage_flow.new.self in
-    binds_failed d d1 c.add_drawn.new.self fixed c.from_residual-in_err-add_drawn.result err.0 c.requires.may err.1 err.2 c.in_ok-manage_flow.ensures.whole (bound_far d fixed d1.managements c.in_ok-manage_flow.ensures.ok) c.in_err-add_drawn.ensures.err lines below h
+    binds_failed d d1 c.add_drawn.new.self fixed c.from_residual-in_err-add_drawn.result err.0 c.is_formed.ensures c.requires.may err.1 err.2 c.in_ok-manage_flow.ensures.whole (bound_far d fixed d1.managements c.in_ok-manage_flow.ensures.ok) c.in_err-add_drawn.ensures.err lines below h
 
 pub returns-in_err-add_drawn-clause-manages : goal.returns-in_err-add_drawn-clause-manages
 returns-in_err-add_drawn-clause-manages c =

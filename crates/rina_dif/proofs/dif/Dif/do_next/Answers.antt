@@ -1,10 +1,11 @@
-use Rattle.std.proofs.Common.{subst, Some}
+use Rattle.std.proofs.Common.{subst, Some, inl}
 use Rattle.std.proofs.lemmas.Result.{err_from_is_err_and}
 use Rattle.rina_flows.specs.declared.due.Item.{Item}
 use Rattle.rina_dif.specs.Clocking.{IsTurn}
 use Rattle.rina_dif.proofs.Clocked.{does_ack, does_again, does_give_up, does_gone, gave_up_managed, never_kept, never_silent, none_due, same_holds, steps_err, turn_home}
 use Rattle.rina_flows.specs.declared.due.Item.TheVariants.{Ack, Gone}
 use Rattle.rina_dif.proofs.Elsewhere.{again_of, clock_failed, clocked_alone, gives_up_of, none_changed, turn_of}
+use Rattle.rina_dif.proofs.FlowIds.{flow_cep}
 use Rattle.rina_dif.proofs.Lapsed.{conn_there}
 use Rattle.rina_dif.proofs.dif.Dif.do_next.Goals as goal
 
@@ -135,4 +136,4 @@ returns-in-Some-2-clause-manages c = λ _seen.
     let here = turn_home _ d st.1.0 c.args.node c.args.at _ _ c.requires.home (c.in-Some.ensures st.1.0 st.0 st.1.1) in
     let gave = rw c.in-Some-2.is at (c.in_ok-num-in-GiveUp.ensures.does st.1.0 st.0 st.1.1) in
     let ends = rw c.in-Some-2.is at c.in_ok-num-in-GiveUp.ensures.manages in
-    gave_up_managed d st.1.0 st.0 c.args.at turn.place c.in-Some-2.num c.give_up_at.new.self c.give_up_at.new.self.managements (conn_there d st.0 c.args.at turn.place st.1 here) gave ends
+    inl (flow_cep d st.1.0 st.0 turn.place c.in-Some-2.num.cep here.end gave.given_up.ids st.1.1 here.is_end gave.given_up.ids_are here.allocated gave.cep, gave_up_managed d st.1.0 st.0 c.args.at turn.place c.in-Some-2.num c.give_up_at.new.self c.give_up_at.new.self.managements (conn_there d st.0 c.args.at turn.place st.1 here) gave ends)

@@ -92,7 +92,7 @@ returns-clause-does g c = λ lines h.
     let opens = ap (option_map hop_of) (sym c.in-Some-open.is) ∙ c.open.ensures.exact in
     let there = comes_there d lines below at n p link lent.at lent.bytes.now hop kept c.requires.at h c.in-Some.ensures is_link c.in-Some-peek.ensures opens in
     let kept' = g.met.F.Facility.kept c.pass.new.self c.pass.ensures.valid in
-    took_it d lines below at n p link lent.at lent.bytes.now hop c.key-key.result c.in_ok-end.end c.settle.new.self (g.F.Facility.seen c.pass.new.self) kept kept' c.requires.at h c.in-Some.ensures is_link c.in-Some-peek.ensures opens c.key-key.ensures (c.in_ok-end.ensures.does lines below h kept there (oldest_there d below link.port lent.at lent.bytes.now hop c.in-Some-peek.ensures opens)) c.pass.ensures.does
+    took_it d lines below at n p link lent.at lent.bytes.now hop c.key-key.result c.in_ok-end.end c.settle.new.self (g.F.Facility.seen c.pass.new.self) kept kept' c.requires.at h c.in-Some.ensures is_link c.in-Some-peek.ensures opens c.key-key.ensures there c.in_ok-end.ensures.does c.pass.ensures.does
 
 pub returns-in_err-end-clause-leaves : goal.returns-in_err-end-clause-leaves
 returns-in_err-end-clause-leaves g c =

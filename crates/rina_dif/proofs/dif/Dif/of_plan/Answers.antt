@@ -71,10 +71,10 @@ returns-clause-stands g c =
     let d : Dif = record made { processes = c.route_all.new.processes; managements = managements; laid = c.in_ok-made-2.field-0; connections = c.in_ok-connections.connections } in
     let config = subst (λ (s : Settings). IsConfig (config_of s)) (sym are) (is_config c.args.plan.now c.args.at dif c.requires.plan c.in-Some.ensures) in
     let members = subst (λ (s : Settings). AreMembers (config_of s)) (sym are) (are_members c.args.plan.now c.args.at dif c.requires.plan c.in-Some.ensures) in
-    let managed = made_managed c.args.plan.now c.args.at dif d (seen c.args.below.now) (seen c.lay_links.new.below) c.in_ok-ports.ports linked c.requires.plan c.in-Some.ensures are config members c.in_ok-ports.ensures.ok started routed in
+    let managed = made_managed c.args.plan.now c.args.at dif d (seen c.args.below.now) (seen c.lay_links.new.below) c.in_ok-ports.ports linked c.requires.plan c.in-Some.ensures are config members c.in_ok-made.ensures.named c.in_ok-ports.ensures.ok started routed in
     let have = subst (λ (ps : List (Port × Port)). HaveConnections made.settings dif.manage ps c.route_all.new.processes c.in_ok-connections.connections) same c.in_ok-connections.ensures.have in
     let floods = plan_floods c.members_are_a_network.ensures.start c.args.plan.now dif d (seen c.args.below.now) (seen c.lay_links.new.below) c.in_ok-ports.ports linked dif.manage managed.laid_out c.in_ok-ports.ensures.ok links.up started (c.in_ok-made-2.ensures ∙ c.as_slice-plans.ensures) have connected in
-    made_stands c.args.plan.now c.args.at dif (record made { processes = c.route_all.new.processes; managements = managements; laid = c.in_ok-made-2.field-0; connections = c.in_ok-connections.connections }) (seen c.args.below.now) (seen c.lay_links.new.below) (g.met.F.Facility.kept c.lay_links.new.below c.lay_links.ensures.valid) c.requires.plan c.in-Some.ensures are (c.in_ok-made.ensures.clock ∙ c.now.ensures) bare.ends bare.conns bare.ids free c.lay_links.ensures.laid c.in_ok-ports.ports linked c.in_ok-ports.ensures.ok started routed (c.in_ok-made-2.ensures ∙ c.as_slice-plans.ensures) connected floods
+    made_stands c.args.plan.now c.args.at dif (record made { processes = c.route_all.new.processes; managements = managements; laid = c.in_ok-made-2.field-0; connections = c.in_ok-connections.connections }) (seen c.args.below.now) (seen c.lay_links.new.below) (g.met.F.Facility.kept c.lay_links.new.below c.lay_links.ensures.valid) c.requires.plan c.in-Some.ensures are (c.in_ok-made.ensures.clock ∙ c.now.ensures) bare.ends bare.conns bare.ids free c.lay_links.ensures.laid c.in_ok-ports.ports linked c.in_ok-made.ensures.named c.in_ok-ports.ensures.ok started routed (c.in_ok-made-2.ensures ∙ c.as_slice-plans.ensures) connected floods
 
 pub returns-clause-exact : goal.returns-clause-exact
 returns-clause-exact g c =
@@ -86,7 +86,7 @@ returns-clause-exact g c =
     let seen = g.F.Facility.seen in
     let started = same_started made.settings.cubes made.settings.cubes made.settings.members made.settings.members c.as_slice-plans.result.now dif.links c.as_slice.result.now dif.rules dif.allow linked managements refl refl c.as_slice-plans.ensures c.as_slice.ensures c.in_ok-managements.ensures in
     let routed = same_routed c.as_slice-members.result.now made.settings.members c.as_slice-2.result.now managements linked c.route_all.new.processes c.as_slice-members.ensures c.as_slice-2.ensures c.in_ok-route_all.ensures in
-    made_new c.args.plan.now c.args.at dif (record made { processes = c.route_all.new.processes; managements = managements; laid = c.in_ok-made-2.field-0; connections = c.in_ok-connections.connections }) (seen c.args.below.now) (seen c.lay_links.new.below) c.requires.plan c.in-Some.ensures (c.in_ok-made.ensures.settings ∙ c.in_ok-settings.ensures) (c.in_ok-made.ensures.clock ∙ c.now.ensures) c.in_ok-made.ensures.alive bare.ends bare.conns bare.waiting bare.names c.in_ok-ports.ports linked c.in_ok-ports.ensures.ok started routed
+    made_new c.args.plan.now c.args.at dif (record made { processes = c.route_all.new.processes; managements = managements; laid = c.in_ok-made-2.field-0; connections = c.in_ok-connections.connections }) (seen c.args.below.now) (seen c.lay_links.new.below) c.requires.plan c.in-Some.ensures (c.in_ok-made.ensures.settings ∙ c.in_ok-settings.ensures) (c.in_ok-made.ensures.clock ∙ c.now.ensures) c.in_ok-made.ensures.alive bare.ends bare.conns bare.waiting bare.names c.in_ok-ports.ports linked c.in_ok-made.ensures.named c.in_ok-ports.ensures.ok started routed
 
 pub returns-clause-whole : goal.returns-clause-whole
 returns-clause-whole g c = subst (λ (fs : List Fixed). BindsInTurn g.F.Facility.does_bind c.args.below.now fs c.lay_links.new.below) (sym (its_links c.args.plan.now c.args.at c.in-Some.dif.now c.in-Some.ensures)) c.in_ok-ports.ensures.whole

@@ -1,4 +1,9 @@
+use Rattle.std.proofs.Common.{◌≡◌, refl}
+use Rattle.std.proofs.lemmas.Result.{err_from_is_err_and}
+use Rattle.rina_iface.specs.Free.{FreesAsSeen}
 use Rattle.rina_dif.proofs.Clocked.{link_first, none_first, served_first}
+use Rattle.rina_dif.proofs.FlowIds.{tells_err}
+use Rattle.rina_dif.proofs.GivenUp.{frees_none}
 use Rattle.rina_dif.proofs.dif.Dif.step_at.Goals as goal
 
 pub returns-in_ok-lose_at-in-Some-clause-does : goal.returns-in_ok-lose_at-in-Some-clause-does
@@ -9,4 +14,7 @@ returns-in_ok-lose_at-in-Some-clause-does g c = λ lines h.
 pub returns-in-None-clause-does : goal.returns-in-None-clause-does
 returns-in-None-clause-does g c = λ lines h.
     let below = g.F.Facility.seen c.args.below.now in
-    served_first c.args.self.now lines below c.args.node c.serve_next.result c.serve_next.new.self h.connected (none_first c.args.self.now below c.args.node c.args.at c.requires.home c.in-None.ensures) (c.serve_next.ensures.does lines below h)
+    served_first c.args.self.now lines below c.args.node c.serve_any.result c.serve_any.new.self (g.F.Facility.seen c.serve_any.new.below) h.connected (none_first c.args.self.now below c.args.node c.args.at c.requires.home c.in-None.ensures) (c.serve_any.ensures.does lines h)
+
+pub returns-in_err-lose_at-in-Some-clause-lower : goal.returns-in_err-lose_at-in-Some-clause-lower
+returns-in_err-lose_at-in-Some-clause-lower g c = frees_none (c.args.below.now ≡ c.args.below.now) (FreesAsSeen g.F.Facility.seen g.F.Facility.frees_both g.F.Facility.does_free c.args.below.now c.args.below.now) c.from_residual.result (let err = err_from_is_err_and c.from_residual.result c.from_residual.ensures.1 in tells_err c.from_residual.result err.0 err.1) refl

@@ -1,0 +1,70 @@
+-- An IPC process gets other next hops.
+use Rattle.std.proofs.Common.{◌≡◌, ◌∙◌, ℕ, List, [], append-nil, slice_get, slice_set, Some, refl, sym, ap, subst, arith, inl, inr}
+use Rattle.rina_account.specs.declared.ledger.Off.{Off}
+use Rattle.rina_iface.specs.Seen.{Seen}
+use Rattle.rina_iface.proofs.Changed.{set_at}
+use Rattle.rina_law.specs.Direction.{Direction}
+use Rattle.rina_data.specs.declared.link.Route.{Route}
+use Rattle.rina_data.specs.Process.{Process}
+use Rattle.rina_dif_law.specs.Accounted.{IsAccounted, counts_of}
+use Rattle.rina_dif_law.specs.Carried.{IsCarrying}
+use Rattle.rina_dif_law.specs.Cloud.{Everywhere}
+use Rattle.rina_dif_law.specs.Dif.{DifSeen, with_process}
+use Rattle.rina_dif_law.specs.Written.{AreWrittenOff}
+use Rattle.rina_dif_law.proofs.After.{after_none}
+use Rattle.rina_dif_law.proofs.Balancing.{AreSame}
+use Rattle.rina_dif_law.proofs.Clouds.{covers_less}
+use Rattle.rina_dif_law.proofs.Going.{lost_stands}
+use Rattle.rina_dif_law.proofs.OfLinks.{accounted_but}
+use Rattle.rina_dif_law.proofs.Queues.{requeued_same}
+use Rattle.rina_dif_law.proofs.Writing.{ports_same, process_noted, written_on}
+use Rattle.rina_channel.specs.Changes.{LeavesLinks}
+use Rattle.rina_channel.specs.FlowLaws.{FlowsStand}
+use Rattle.rina_channel.proofs.Putting.{leaves_same}
+
+module _ (d : DifSeen) (flows : List Direction) (below : Seen) (i : ℕ) (process : Process) (routes : List Route) (is_process : slice_get d.processes i ≡ Some process) where
+  abbrev pub new : Process
+  new = record process { routes = routes }
+
+  abbrev pub d' : DifSeen
+  d' = with_process d i new
+
+  -- its flows stand
+  rerouted_accounted : FlowsStand d flows below → IsAccounted d' flows below
+  rerouted_accounted h = accounted_but d d' flows below below h.zero.members h.accounted h.accounted.passed h.accounted.apart
+      (λ addr cep r. record { place = r.place; ids = r.ids; stands = r.stands; own = r.own; scep = r.scep; cube = r.cube; is_cube = r.is_cube; reliable = r.reliable })
+      (λ j m p' k is other. elim (set_at d.processes i j process new p' is_process is.is_process) [
+        | inl t ↦
+            let there : slice_get d.processes j ≡ Some process = ap (slice_get d.processes) t.0 ∙ is_process in
+            (process, record { is_member = is.is_member; is_process = there }, subst (λ (p : Process). AreSame (counts_of d flows below m process k) (counts_of d' flows below m p k)) (sym t.1) (record { taken = refl; relayed = refl; gone = refl; made = refl; kept = refl }))
+        | inr f ↦ (p', record { is_member = is.is_member; is_process = f.1 }, record { taken = refl; relayed = refl; gone = refl; made = refl; kept = refl })
+      ])
+
+  rerouted_carries : FlowsStand d flows below → IsCarrying d' flows below
+  rerouted_carries h = record {
+    entries = h.carrying.entries;
+    holding = λ j from e ids line conn inbound. h.carrying.holding j from e ids line conn (record { partner = inbound.partner; is_partner = inbound.is_partner; partners = inbound.partners; is_line = inbound.is_line });
+  }
+
+  pub rerouted_flows : FlowsStand d flows below → FlowsStand d' flows below
+  rerouted_flows h =
+      let moved = requeued_same d.processes i process new is_process refl in
+      let covers = covers_less Everywhere d.config 0 d.processes d'.processes below below moved (after_none d.config below) in
+      record {
+        zero = h.zero;
+        stands = lost_stands d flows below below i process new h.stands (after_none d.config below) refl is_process refl moved;
+        numbered = record { members = h.numbered.members; addressed = h.numbered.addressed; counted = h.numbered.counted; drawn = h.numbered.drawn; named = λ death pdu x. (let o = covers death pdu x (omega arith) in h.numbered.named o.0 pdu o.2) };
+        carrying = rerouted_carries h;
+        accounted = rerouted_accounted h;
+      }
+
+  -- the links stay as they are
+  pub rerouted_leaves : LeavesLinks d.processes d'.processes
+  rerouted_leaves = leaves_same d.processes i process new is_process refl refl
+
+  -- no line is written
+  abbrev None' : ℕ → Off → Type 0
+  None' j off = ⊥
+
+  pub rerouted_written : AreWrittenOff d → AreWrittenOff d'
+  rerouted_written w = written_on None' d d' (process_noted None' d d' i process new [] refl is_process (sym (append-nil process.ledger)) (λ off none. absurd none) (ports_same process.links process.links refl)) (λ j off none member p q. absurd none) w

@@ -1,0 +1,63 @@
+-- Which frames a management connection takes away that gives up.
+use Rattle.std.proofs.Common.{◌≡◌, ℕ, List, slice_get, slice_set, Option, option_and_then, option_map, Some, None, refl, sym, ◌∙◌, ap, subst, inl, inr}
+use Rattle.std.proofs.lemmas.Option.{same_Some}
+use Rattle.rina_iface.specs.declared.ends.End.{End}
+use Rattle.rina_iface.specs.declared.state.PortState.TheVariants.{Allocated, Closed}
+use Rattle.rina_iface.specs.Journal.{At}
+use Rattle.rina_iface.specs.Seen.{state_of}
+use Rattle.rina_iface.specs.State.{with_state}
+use Rattle.rina_iface.proofs.Changed.{set_at, slice_get-set_other, slice_get-set_same}
+use Rattle.rina_tower.specs.declared.tower.Tower.{Tower}
+use Rattle.rina_tower.specs.Ranks.{seen_of}
+use Rattle.rina_wire.specs.Air.{Air, Line, end_at, on_end, seen_of as seen_of_wires}
+use Rattle.rina_wire.specs.Free.{closed_at, closed_both, closed_in, freed_at}
+use Rattle.rina_wire.specs.Send.{mate}
+use Rattle.rina_wire.proofs.Carried.{end_is, has_line}
+use Rattle.rina_laws.specs.Frames.{GiveUpsEmptyOneWire, wires_of}
+use Rattle.rina_laws.proofs.WiresOf.{wires_rank}
+
+-- an end that had sent and got the same
+abbrev WasThere : List End → ℕ → End → Type 0
+WasThere ends i new = (was : End) × At ends i was × (new.sent ≡ was.sent) × (new.got ≡ was.got)
+
+closed_in_was : (ends : List End) (place : ℕ) (o : Option End) → slice_get ends place ≡ o → (i : ℕ) (new : End) → At (closed_in ends place o) i new → WasThere ends i new
+closed_in_was ends place None is i new h = (new, h, refl, refl)
+closed_in_was ends place (Some e) is i new h = elim (set_at ends place i e (with_state e Closed) new is h) [
+  | inl t ↦ (e, subst (λ (k : ℕ). At ends k e) (sym t.0) is, ap (λ (z : End). z.sent) t.1, ap (λ (z : End). z.got) t.1)
+  | inr f ↦ (new, f.1, refl, refl)
+]
+
+closed_was : (ends : List End) (place i : ℕ) (new : End) → At (closed_both ends place) i new → WasThere ends i new
+closed_was ends place i new h =
+    let once = closed_at ends place in
+    let first = closed_in_was once (mate place) (slice_get once (mate place)) refl i new h in
+    let second = closed_in_was ends place (slice_get ends place) refl i first.0 first.1 in
+    (second.0, second.1, first.2 ∙ second.2, first.3 ∙ second.3)
+
+-- an allocated port has an end
+open_end : (o : Option End) → option_map (λ (e : End). e.state) o ≡ Some Allocated → (e : End) × (o ≡ Some e) × (e.state ≡ Allocated)
+open_end None h = cc
+open_end (Some e) h = (e, refl, same_Some e.state Allocated h)
+
+pub give_ups_empty : GiveUpsEmptyOneWire
+give_ups_empty fac frame t t' g =
+    let a : Air = wires_of t in
+    let state : state_of (seen_of_wires a) g.port ≡ Some Allocated = sym (ap (option_and_then (λ (v : Tower). state_of (seen_of v) g.port)) (wires_rank t)) ∙ g.allocated in
+    let opened = open_end (end_at a g.port) (sym (ap (option_map (λ (e : End). e.state)) (end_is a g.port)) ∙ state) in
+    let on = has_line a g.port opened.0 opened.1 in
+    let after : Line = record on.line { ends = closed_both on.line.ends on.at.place; flights = [] } in
+    let made : (on_end a g.port freed_at).wires ≡ slice_set a.wires g.port.fac after = rw (on.wire, on.at.found, on.at.is, opened.2) refl in
+    let wires : (wires_of t').wires ≡ slice_set a.wires g.port.fac after = ap (λ (z : Air). z.wires) g.frees.air ∙ made in
+    let is : slice_get (wires_of t').wires g.port.fac ≡ Some after = ap (λ (ls : List Line). slice_get ls g.port.fac) wires ∙ slice_get-set_same a.wires g.port.fac on.line after on.wire in
+    record {
+      before = on.line;
+      was = subst (λ (n : ℕ). slice_get a.wires n ≡ Some on.line) g.its_wire on.wire;
+      after = after;
+      is = subst (λ (n : ℕ). slice_get (wires_of t').wires n ≡ Some after) g.its_wire is;
+      none = refl;
+      ends = λ i e e' h h'.
+          let w = closed_was on.line.ends on.at.place i e' h' in
+          let same : w.0 ≡ e = same_Some w.0 e (sym w.1 ∙ h) in
+          (w.2 ∙ ap (λ (z : End). z.sent) same, w.3 ∙ ap (λ (z : End). z.got) same);
+      others = λ other ne. ap (λ (ls : List Line). slice_get ls other) wires ∙ slice_get-set_other a.wires g.port.fac other after (λ same. ne (same ∙ g.its_wire));
+    }
