@@ -22,20 +22,20 @@ use std::marker::Model;
 #[derive(Drop)]
 pub struct Conns {
     items: Vec<Conn>,
-    /// At which of them something may be due soon.
+    /// Until when nothing is due at which of them.
     watch: Watch,
 }
 
 impl Model for Conns {
     ghost use Rattle.std.specs.Prelude.{List};
     ghost use Rattle.rina_conn.specs.declared.conn.Conn.{Conn};
-    ghost use Rattle.rina_flows.specs.Quiet.{AreQuietBeside};
+    ghost use Rattle.rina_flows.specs.Quiet.{AreTimed};
 
     ghost Value = { List Conn };
 
     ghost view = { λ k. k.items.items };
 
-    ghost invariant = { λ k. AreQuietBeside k.watch.places.items k.watch.until k.items.items };
+    ghost invariant = { λ k. AreTimed k.watch.places.items k.watch.until k.watch.alarms k.items.items };
 }
 
 impl Conns {
@@ -213,7 +213,7 @@ impl Conns {
     {
         self.items.reserve(2)?;
         let at = self.items.len();
-        self.watch.reserve(at.saturating_add(2))?;
+        self.watch.reserve(at + 2)?;
         self.watch.note(at, first.quiet_until());
         self.watch.note(at + 1, second.quiet_until());
         self.items.push_reserved(first);
@@ -226,16 +226,16 @@ impl Conns {
         ensures { (was : List Conn) (first second : Conn) → self.old ≡ was ++ first ∷ second ∷ [] → self.new ≡ was }
     {
         let _ = self.items.pop();
+        self.watch.clear(self.items.len());
         let _ = self.items.pop();
+        self.watch.clear(self.items.len());
     }
 
-    /// Looks again at which connections something may be due soon, where that is not known for this tick.
+    /// Finds the connections at which something is due at this tick, by their timers, so that `watched` can tell.
     pub fn settle(&mut self, now: Tick)
         ensures { self.new ≡ self.old }
     {
-        if self.watch.until <= now {
-            self.watch.look(now, self.items.as_slice());
-        }
+        self.watch.settle(now, self.items.as_slice());
     }
 
     /// The places beside which nothing is due at this tick. None where that is not known.

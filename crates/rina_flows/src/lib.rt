@@ -1,6 +1,7 @@
 //! The flows of a DIF: the journal of their ends, and the connection of each end.
 #![tactic(auto)]
 
+mod alarms;
 mod arrival;
 mod conns;
 mod due;

@@ -19,3 +19,8 @@ IsDue now times None = (id at : ℕ) → IsSet times id at → now < at
 abbrev pub after_due : Option ℕ → List (Option ℕ) → List (Option ℕ)
 after_due (Some id) times = slice_set times id None
 after_due None times = times
+
+-- the tick of the first timer of all, whether it has come or not; None where none is set
+abbrev pub IsNext : List (Option ℕ) → Option ℕ → Type 0
+IsNext times (Some at) = (id : ℕ) × IsFirst times id at
+IsNext times None = (id at : ℕ) → IsSet times id at → ⊥

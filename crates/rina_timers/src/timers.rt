@@ -1,6 +1,6 @@
 //! Timers by id.
-ghost use Rattle.std.specs.Prelude.{◌≡◌, ℕ, ◌<◌, List, length, replicate, slice_set, None, Some, Option, IfOk};
-ghost use Rattle.rina_timers.specs.Times.{IsDue, after_due};
+ghost use Rattle.std.specs.Prelude.{◌≡◌, ℕ, ◌<◌, List, length, replicate, slice_get, slice_set, None, Some, Option, IfOk};
+ghost use Rattle.rina_timers.specs.Times.{IsDue, IsNext, after_due};
 
 use crate::chains::{Chains, tick_of};
 use crate::wheel::{DUE, advance, place};
@@ -23,14 +23,14 @@ pub struct Timers {
 }
 
 impl Model for Timers {
-    ghost use Rattle.std.specs.Prelude.{ℕ, List, Option};
+    ghost use Rattle.std.specs.Prelude.{ℕ, ◌<◌, ◌^◌, List, Option, length};
     ghost use Rattle.rina_timers.specs.Wheel.{IsPlaced};
 
     ghost Value = { List (Option ℕ) };
 
     ghost view = { λ t. t.times.items };
 
-    ghost invariant = { λ t. IsPlaced t.times.items t.chains t.clock };
+    ghost invariant = { λ t. IsPlaced t.times.items t.chains t.clock × (length t.times.items < 2 ^ 32) };
 }
 
 impl Timers {
@@ -45,6 +45,21 @@ impl Timers {
             clock: 0,
             chains,
         })
+    }
+
+    /// How many ids there are. Each id is below that.
+    pub fn cap(&self) -> u32
+        ensures { result ≡ length self.now }
+    {
+        self.times.len() as u32
+    }
+
+    /// The tick at which the timer `id` is set, None where it is not.
+    pub fn at(&self, id: u32) -> Option<Tick>
+        requires { id < length self.now }
+        ensures { slice_get self.now id ≡ Some result }
+    {
+        self.times[id as usize]
     }
 
     /// Writes the tick of a timer, or that it is not set.
@@ -96,5 +111,15 @@ impl Timers {
         let id = self.first(now)?;
         self.clear(id);
         Some(id)
+    }
+    /// The least tick at which a timer is set, whether it has come or not. None exactly where none is set. Changes no
+    /// timer, and takes no memory.
+    pub fn next(&mut self) -> Option<Tick>
+        ensures next { IsNext self.old result }
+        ensures same { self.new ≡ self.old }
+    {
+        let chain = self.chains.first_chain()?;
+        let id = self.chains.earliest(chain, &self.times)?;
+        self.times[id as usize]
     }
 }
