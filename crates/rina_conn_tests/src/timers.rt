@@ -24,19 +24,23 @@ fn the_least_tick_and_then_the_least_id_is_due(rt: HostRuntime) -> Result<(), Fa
 }
 
 #[test]
-fn the_next_timer_is_told_before_it_comes(rt: HostRuntime) -> Result<(), Fail> {
+fn one_that_is_due_is_told_and_a_tick_before_which_none_is(rt: HostRuntime) -> Result<(), Fail> {
     let mut timers = Timers::new(rt.alloc(), 3)?;
     assert_eq!(rt; timers.cap(), 3);
-    assert_eq!(rt; timers.next(), None);
+    assert_eq!(rt; timers.quiet_until(), u32::MAX);
     timers.set(0, 5000);
     timers.set(1, 4999);
     timers.set(2, 70);
-    assert_eq!(rt; timers.next(), Some(70));
+    // The slot of 70 begins at 64, and that of both others at 4096.
+    assert_eq!(rt; timers.quiet_until(), 64);
+    assert_eq!(rt; timers.any_due(69), None);
     assert_eq!(rt; timers.at(2), Some(70));
-    assert_eq!(rt; timers.due(80), Some(2));
+    assert_eq!(rt; timers.any_due(80), Some(2));
     assert_eq!(rt; timers.at(2), None);
-    assert_eq!(rt; timers.next(), Some(4999));
-    timers.clear(1);
-    assert_eq!(rt; timers.next(), Some(5000));
+    assert_eq!(rt; timers.any_due(80), None);
+    assert_eq!(rt; timers.quiet_until(), 4096);
+    assert_eq!(rt; timers.any_due(4999), Some(1));
+    assert_eq!(rt; timers.any_due(4999), None);
+    assert_eq!(rt; timers.quiet_until(), 5000);
     Ok(())
 }

@@ -6,7 +6,7 @@ use Rattle.std.proofs.lemmas.Bool.{cases_eq, cases_lt}
 use Rattle.std.proofs.lemmas.List.{get_or_past}
 use Rattle.std.proofs.lemmas.List.Sums.{sum_by-set}
 use Rattle.std.proofs.lemmas.Option.{get_or_from_slice_get, slice_get-get_or, slice_get_within}
-use Rattle.rina_timers.specs.Times.{IsDue, IsNext, IsSet}
+use Rattle.rina_timers.specs.Times.{IsNoneBefore, IsSet, IsSomeDue}
 use Rattle.rina_flows.specs.Alarms.{HasAlarm, IsRung, Sets, how_many, tick_at}
 
 pub has_still : (old new : List (Option ℕ)) (i : ℕ) → length new ≡ length old → HasAlarm old i → HasAlarm new i
@@ -50,10 +50,10 @@ counts t = cond (is_some t) 1 0
 one_counts : (o : Option ℕ) (x : ℕ) → o ≡ Some x → counts o ≡ 1
 one_counts o x e = ap counts e
 
--- the first timer that is due is cleared
-pub rung : (now id : ℕ) (times times' : List (Option ℕ)) → IsDue now times (Some id) → id < 2 ^ 32 → times' ≡ slice_set times id None → IsRung (Some id) times times'
+-- a timer that is due is cleared
+pub rung : (now id : ℕ) (times times' : List (Option ℕ)) → IsSomeDue now times (Some id) → id < 2 ^ 32 → times' ≡ slice_set times id None → IsRung (Some id) times times'
 rung now id times times' d few e =
-    let set : slice_get times id ≡ Some (Some d.0) = d.1.is_set in
+    let set : slice_get times id ≡ Some (Some d.0) = d.1 in
     let lt = slice_get_within times id (Some d.0) set in
     let was : slice_index_or times id None ≡ Some d.0 = get_or_from_slice_get times id (Some d.0) None set in
     let one = one_counts (slice_index_or times id None) d.0 was in
@@ -75,17 +75,11 @@ stands times i = elim (cases_lt i (length times)) [
   ]
 ]
 
--- no timer is set before the next one
-pub next_least : (times : List (Option ℕ)) (r : Option ℕ) → IsNext times r → unwrap_or r (2 ^ 32 - 1) ≤ 2 ^ 32 - 1 → (i : ℕ) → unwrap_or r (2 ^ 32 - 1) ≤ tick_at times i
-next_least times (Some at) h le i = elim (stands times i) [
+-- no timer is set before this tick
+pub none_least : (times : List (Option ℕ)) (until : ℕ) → IsNoneBefore until times → until ≤ 2 ^ 32 - 1 → (i : ℕ) → until ≤ tick_at times i
+none_least times until h le i = elim (stands times i) [
   | inl e ↦ (let tick = tick_is times i None e in omega (arith, tick, le))
-  | inr (x, e, set) ↦
-      (let tick : tick_at times i ≡ x = tick_is times i (Some x) e in
-      elim (h.1.first i x set) [ inl lt ↦ omega (arith, tick, lt) | inr same ↦ (let is = same.0 in omega (arith, tick, is)) ])
-]
-next_least times None h le i = elim (stands times i) [
-  | inl e ↦ (let tick = tick_is times i None e in omega (arith, tick))
-  | inr (x, e, set) ↦ absurd (h i x set)
+  | inr (x, e, set) ↦ (let tick : tick_at times i ≡ x = tick_is times i (Some x) e in let later = h i x set in omega (arith, tick, later))
 ]
 
 -- timers are copied, one by one

@@ -100,18 +100,20 @@ shifted old new conns s t = record {
   room = (λ i lt. has_still old.alarms new.alarms i s.long (t.room i lt));
 }
 
--- a place that was looked at has its timer set, or there is no connection
-pub rested : (ps : List ℕ) (at quiet until until' : ℕ) (times times' : List (Option ℕ)) (conns : List Conn) (conn : Conn) → AreTimed (ps ++ at ∷ []) until times conns → Sets at quiet times times' → until' ≤ until → until' ≤ quiet → conn ≡ get_or conns at conn → IsQuietUntil quiet conn → AreTimed ps until' times' conns
-rested ps at quiet until until' times times' conns conn t s le le' is quiet_conn = record {
+-- a place is looked at no more: its timer rings soon enough, or there is no connection
+pub rested : (ps : List ℕ) (at quiet : ℕ) (old new : Watch) (conns : List Conn) (conn : Conn) → AreTimed (ps ++ at ∷ []) old.until old.alarms conns → new.places.items ≡ ps → old.places.items ≡ ps → Notes at quiet old new → conn ≡ get_or conns at conn → IsQuietUntil quiet conn → AreTimed new.places.items new.until new.alarms conns
+rested ps at quiet old new conns conn t places places' notes is quiet_conn = record {
   quiet = (λ i k stands beside. elim (cases_eq i at) [
     | inl e ↦
         let stands' : slice_get conns at ≡ Some k = subst (λ j. slice_get conns j ≡ Some k) e stands in
-        let tick : tick_at times' i ≡ quiet = ap (tick_at times') e ∙ s.here in
-        subst (λ (x : Conn). IsQuietUntil (tick_at times' i) x) (sym (one_there conns at conn k is stands')) (quiet_sooner quiet (tick_at times' i) conn quiet_conn (omega (arith, tick)))
-    | inr ne ↦ subst (λ n. IsQuietUntil n k) (sym (s.others i ne)) (t.quiet i k stands (beside_pop ps at i beside ne))
+        let le : tick_at new.alarms i ≤ quiet = subst (λ n. tick_at new.alarms n ≤ quiet) (sym e) (notes.here (subst (λ n. IsBeside new.places.items n) e beside)) in
+        subst (λ (x : Conn). IsQuietUntil (tick_at new.alarms i) x) (sym (one_there conns at conn k is stands')) (quiet_sooner quiet (tick_at new.alarms i) conn quiet_conn le)
+    | inr ne ↦
+        let b = notes.keeps i ne beside in
+        quiet_sooner (tick_at old.alarms i) (tick_at new.alarms i) k (t.quiet i k stands (beside_pop ps at i (subst (λ (xs : List ℕ). IsBeside xs i) places' b.0) ne)) b.1
   ]);
-  least = sets_least at quiet until until' times times' s le le' t.least;
-  room = (λ i lt. has_still times times' i s.long (t.room i lt));
+  least = notes.least t.least;
+  room = (λ i lt. has_still old.alarms new.alarms i notes.long (t.room i lt));
 }
 
 pub dropped : (ps : List ℕ) (at until : ℕ) (times : List (Option ℕ)) (conns : List Conn) → AreTimed (ps ++ at ∷ []) until times conns → length conns ≤ at → AreTimed ps until times conns

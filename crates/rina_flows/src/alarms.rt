@@ -1,5 +1,5 @@
 //! A timer for each connection.
-ghost use Rattle.std.specs.Prelude.{◌≡◌, ℕ, ◌<◌, ◌≤◌, ◌^◌, ◌-◌, [], List, Option, None, OnOk, length, unwrap_or};
+ghost use Rattle.std.specs.Prelude.{◌≡◌, ℕ, ◌<◌, ◌≤◌, ◌^◌, ◌-◌, [], List, Option, None, OnOk, length};
 ghost use Rattle.rina_flows.specs.Alarms.{HasAlarm, IsRung, Sets, tick_at};
 
 use rina_base::Tick;
@@ -26,14 +26,6 @@ impl Model for Alarms {
     ghost Value = { List (Option ℕ) };
 
     ghost view = { λ a. times_of a.timers };
-}
-
-/// The tick of a timer, the last one where it is not set.
-fn tick_of(timer: Option<Tick>) -> Tick
-    ensures tick { result ≡ unwrap_or timer (2 ^ 32 - 1) }
-    ensures last { result ≤ 2 ^ 32 - 1 }
-{
-    timer.unwrap_or(Tick::MAX)
 }
 
 /// The place of a timer.
@@ -114,25 +106,25 @@ impl Alarms {
         }
     }
 
-    /// The place of the first timer whose tick has come, which is cleared. None where the tick of none has come.
+    /// A place whose timer's tick has come; the timer is cleared. None where the tick of none has come.
     pub fn due(&mut self, now: Tick) -> Option<usize>
         ensures { IsRung result self.old self.new }
     {
         let Some(timers) = &mut self.timers else {
             return None;
         };
-        let id = timers.due(now)?;
+        let id = timers.any_due(now)?;
         let at = place_of(id);
         Some(at)
     }
 
-    /// The least tick at which a timer is set, the last one where none is.
-    pub fn next(&mut self) -> Tick
+    /// A tick before which no timer is set, the last one where none is.
+    pub fn quiet_until(&mut self) -> Tick
         ensures least { (at : ℕ) → result ≤ tick_at self.old at }
         ensures same { self.new ≡ self.old }
     {
         match &mut self.timers {
-            Some(timers) => tick_of(timers.next()),
+            Some(timers) => timers.quiet_until(),
             None => Tick::MAX,
         }
     }

@@ -10,9 +10,10 @@ ghost use Rattle.rina_flows.specs.Quiet.{AreQuiet};
 ghost use Rattle.rina_flows.specs.Watching.{AreIdleBeside};
 
 use crate::arrival::{Notes, cause_of, receive, write_off};
+use crate::guesses::Guesses;
 use crate::watch::Watch;
 use rina_account::Off;
-use rina_base::{Bytes, Cause, Memory, PduView, Tick};
+use rina_base::{Addr, Bytes, Cause, Cep, Memory, PduView, Tick};
 use rina_conn::{Conn, Made, OfferError};
 use rina_dtp::Verdict;
 use std::alloc::{AllocError, Global};
@@ -24,6 +25,8 @@ pub struct Conns {
     items: Vec<Conn>,
     /// Until when nothing is due at which of them.
     watch: Watch,
+    /// Where the connection of an end may stand, so that no look-up walks over all of them.
+    guesses: Guesses,
 }
 
 impl Model for Conns {
@@ -46,6 +49,7 @@ impl Conns {
         Conns {
             items: Vec::new(alloc),
             watch: Watch::new(alloc),
+            guesses: Guesses::new(alloc),
         }
     }
 
@@ -213,12 +217,19 @@ impl Conns {
     {
         self.items.reserve(2)?;
         let at = self.items.len();
+        self.guesses.add(first.sending.form.peer, at)?;
+        self.guesses.add(second.sending.form.peer, at + 1)?;
         self.watch.reserve(at + 2)?;
         self.watch.note(at, first.quiet_until());
         self.watch.note(at + 1, second.quiet_until());
         self.items.push_reserved(first);
         self.items.push_reserved(second);
         Ok(())
+    }
+
+    /// Where the connection of an end with this address and this CEP-id may stand.
+    pub fn guess(&self, own: Addr, cep: Cep) -> Option<usize> {
+        self.guesses.place(own, cep)
     }
 
     /// Takes the last two connections away.

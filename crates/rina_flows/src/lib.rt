@@ -6,6 +6,7 @@ mod arrival;
 mod conns;
 mod due;
 mod flows;
+mod guesses;
 mod laws;
 mod stops;
 mod watch;

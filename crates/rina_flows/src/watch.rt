@@ -13,10 +13,11 @@ use std::alloc::{AllocError, Global};
 /// before the tick of its timer.
 #[derive(Drop)]
 pub struct Watch {
+    /// The tick that the clock has reached.
+    pub reached: Tick,
     /// No timer is set before this tick.
     pub until: Tick,
-    /// The places that are looked at: those whose timers rang, and those at which something became due sooner than their
-    /// timers said.
+    /// The places that are looked at: those whose timers rang at this tick, and those at which something became due at it.
     pub places: Vec<usize>,
     pub alarms: Alarms,
 }
@@ -36,6 +37,7 @@ impl Watch {
         ensures alarms { result.alarms ≡ [] }
     {
         Watch {
+            reached: 0,
             until: Tick::MAX,
             places: Vec::new(alloc),
             alarms: Alarms::new(alloc),
@@ -66,12 +68,28 @@ impl Watch {
         self.until = self.until.min(tick);
     }
 
-    /// Notes that nothing is due before the tick `quiet` at the connection of a place. The place is looked at where its
-    /// timer would ring too late. Takes memory only where there is no room for it; where that is not found, the timer is set.
+    /// Sees to it that the timer of a place rings at this tick or sooner.
+    fn set_by(&mut self, at: usize, tick: Tick)
+        requires { HasAlarm self.old.alarms at }
+        ensures notes { Notes at tick self.old self.new }
+        ensures places { self.new.places.items ≡ self.old.places.items }
+    {
+        if tick < self.alarms.tick(at) {
+            self.set(at, tick);
+        }
+    }
+
+    /// Notes that nothing is due before the tick `quiet` at the connection of a place. Where its timer would ring too late
+    /// it is set to that tick, or, where that has come, the place is looked at. Takes memory only where there is no room
+    /// for the place; where that is not found, the timer is set.
     pub fn note(&mut self, at: usize, quiet: Tick)
         requires { HasAlarm self.old.alarms at }
         ensures { Notes at quiet self.old self.new }
     {
+        if self.reached < quiet {
+            self.set_by(at, quiet);
+            return;
+        }
         if self.alarms.tick(at) <= quiet || is_among(self.places.as_slice(), at) {
             return;
         }
@@ -87,27 +105,24 @@ impl Watch {
         self.alarms.clear(at);
     }
 
-    /// Sets the timer of each place that was looked at to the tick before which nothing is due there, and looks at none.
+    /// Looks at no place any more. The timer of each that was looked at rings no later than something is due there.
     fn rest(&mut self, conns: &[Conn])
         requires { AreTimed self.old.places.items self.old.until self.old.alarms conns.now }
         ensures { AreTimed self.new.places.items self.new.until self.new.alarms conns.now }
     {
         while let Some(at) = self.places.pop() {
             if at < conns.len() {
-                self.set(at, conns[at].quiet_until());
+                self.set_by(at, conns[at].quiet_until());
             }
         }
     }
 
-    /// Looks at the place of the first timer whose tick has come, in place of the timer. Tells whether there was one, and
-    /// room to look at its place.
+    /// Looks at the place of a timer whose tick has come, which is cleared. Tells whether there was one, and room to look at
+    /// its place.
     fn ring(&mut self, now: Tick) -> bool
         ensures shifts { Shifts self.old self.new }
         ensures fewer { IsTrue result → how_many self.new.alarms < how_many self.old.alarms }
     {
-        if now < self.until {
-            return false;
-        }
         let Some(at) = self.alarms.due(now) else {
             return false;
         };
@@ -123,12 +138,13 @@ impl Watch {
         requires { AreTimed self.old.places.items self.old.until self.old.alarms conns.now }
         ensures { AreTimed self.new.places.items self.new.until self.new.alarms conns.now }
     {
-        if now < self.until && self.places.is_empty() {
+        self.reached = now;
+        self.rest(conns);
+        if now < self.until {
             return;
         }
-        self.rest(conns);
         while self.ring(now) {}
-        let until = self.alarms.next();
+        let until = self.alarms.quiet_until();
         self.until = until;
     }
 
@@ -143,8 +159,8 @@ impl Watch {
         }
     }
 
-    /// A tick before which nothing is due at any of the connections: the least tick of a timer, or sooner where a place is
-    /// looked at.
+    /// A tick before which nothing is due at any of the connections: one before which no timer is set, or sooner where
+    /// something is due sooner at a place that is looked at.
     pub fn quiet_until(&self, conns: &[Conn]) -> Tick
         requires { AreQuietBeside self.now.places.items self.now.until conns.now }
         ensures { AreQuiet result conns.now }

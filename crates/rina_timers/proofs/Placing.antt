@@ -1,14 +1,13 @@
 -- Timers stand where they belong, as they are set, and as the clock goes on.
-use Rattle.std.proofs.Common.{◌≡◌, ◌≢◌, ℕ, ◌+◌, ◌<◌, ◌≤◌, ◌⊎◌, List, Option, None, Some, length, slice_index_or, slice_set, refl, sym, ◌∙◌, ap, subst, arith, inl, inr, get_or-set_other, get_or-set_same, length-set}
+use Rattle.std.proofs.Common.{◌≡◌, ◌≢◌, ℕ, ◌+◌, ◌-◌, ◌<◌, ◌≤◌, ◌⊎◌, List, Option, None, Some, length, slice_set, refl, sym, ◌∙◌, ap, arith, inl, inr, get_or-set_other, get_or-set_same, length-set}
 use Rattle.std.proofs.lemmas.Bool.{cases_lt}
 use Rattle.std.proofs.lemmas.Bool.Decides.{eqb_tells, leb_tells}
 use Rattle.std.proofs.lemmas.List.{get_or_past}
-use Rattle.std.proofs.lemmas.Option.{get_or_from_slice_get, slice_get-get_or, slice_get_within}
-use Rattle.rina_timers.specs.Chains.{chain_of, link, tick, tick_of, IsEarliestOf, IsFirstChain}
-use Rattle.rina_timers.specs.Times.{IsSet, IsFirst, IsDue, IsNext}
+use Rattle.std.proofs.lemmas.Option.{get_or_from_slice_get, slice_get-get_or}
+use Rattle.rina_timers.specs.Chains.{chain_of, link, tick, tick_of, IsEarliestOf}
+use Rattle.rina_timers.specs.Times.{IsSet, IsFirst, IsDue, IsNoneBefore, IsSomeDue}
 use Rattle.rina_timers.specs.Wheel.{slot, slot_start, place, IsPlaced, IsPlacedBut, IsNextSlot, IsReached}
-use Rattle.rina_timers.proofs.Written.{link_read}
-use Rattle.rina_timers.proofs.Slots.{start_after, start_within, slot_drops, slot_stays, slot_later}
+use Rattle.rina_timers.proofs.Slots.{start_after, start_within, slot_drops, slot_stays}
 
 -- where a tick belongs, by whether the clock has reached it
 place_told : (clock at : ℕ) → ((at ≤ clock) × (place clock (Some at) ≡ 1)) ⊎ ((clock < at) × (place clock (Some at) ≡ 2 + slot 4 clock at))
@@ -160,41 +159,17 @@ is_due times chains clock now p id h le = (tick_of times id, first_of_all times 
 pub not_due : (times : List (Option ℕ)) (chains : List ℕ) (clock now : ℕ) → IsPlaced times chains clock → (id : ℕ) → IsEarliestOf times chains 1 (Some id) → now < tick_of times id → IsDue now times None
 not_due times chains clock now p id h late = (λ m at s. elim ((first_of_all times chains clock p id h).first m at s) [ inl lt ↦ omega (arith, lt, late) | inr same ↦ (let z = same.0 in omega (arith, z, late)) ])
 
--- the first chain in which a timer stands, and the earliest of it, which comes before all
-pub first_of_first : (times : List (Option ℕ)) (chains : List ℕ) (clock c : ℕ) → IsPlaced times chains clock → ((m : ℕ) → chain_of chains m ≢ 0 → c ≤ chain_of chains m) → c ≢ 0 → (id : ℕ) → IsEarliestOf times chains c (Some id) → IsFirst times id (tick_of times id)
-first_of_first times chains clock c p least some id h = elim (chain_told times chains clock p id) [
-  | inl not ↦ absurd (some (sym h.0 ∙ not.0))
-  | inr (inl due) ↦ first_of_all times chains clock p id (subst (λ n. IsEarliestOf times chains n (Some id)) (sym h.0 ∙ due.0) h)
-  | inr (inr (above, is, after, at)) ↦ record {
-    is_set = set_link_is times id (tick_of times id) is;
-    first = (λ m later s.
-        let set = link_set times m later s in
-        let here : tick_of times m ≡ later = ap tick set in
-        elim (chain_told times chains clock p m) [
-          | inl not ↦ absurd (let z = not.1 in cc)
-          | inr (inl due) ↦ (let le = least m (λ z. absurd (omega (arith, z, due.0))) in let e = h.0 in absurd (omega (arith, le, due.0, above, e)))
-          | inr (inr (above', is', after', at')) ↦
-              (let le = least m (λ z. absurd (omega (arith, above', z))) in
-              elim (eqb_tells (chain_of chains m) c) [
-                | inl same ↦ elim (h.1 m same.1) [ inl lt ↦ inl (omega (arith, lt, here)) | inr e ↦ inr (e.0 ∙ here, e.1) ]
-                | inr far ↦
-                    (let apart = far.1 in
-                    let e = h.0 in
-                    let more : slot 4 clock (tick_of times id) < slot 4 clock (tick_of times m) = omega (arith, at, at', e, le, apart) in
-                    inl (omega (arith, slot_later 4 clock (tick_of times id) (tick_of times m) after after' more, here)))
-              ])
-        ]);
-  }
+-- of those that are due one whose tick has come
+pub some_due : (times : List (Option ℕ)) (chains : List ℕ) (clock now : ℕ) → IsPlaced times chains clock → (id : ℕ) → chain_of chains id ≡ 1 → tick_of times id ≤ now → IsSomeDue now times (Some id)
+some_due times chains clock now p id e le = elim (chain_told times chains clock p id) [
+  | inl not ↦ (let z = not.0 in absurd (omega (arith, z, e)))
+  | inr (inr (above, is, after, at)) ↦ absurd (omega (arith, above, e))
+  | inr (inl (one, is, reached)) ↦ (tick_of times id, set_link_is times id (tick_of times id) is, le)
 ]
 
--- no timer stands in a chain, so none is set
-pub none_is_set : (times : List (Option ℕ)) (chains : List ℕ) (clock : ℕ) → IsPlaced times chains clock → ((id : ℕ) → chain_of chains id ≡ 0) → IsNext times None
-none_is_set times chains clock p none = (λ id at e. place_some clock at (ap (place clock) (sym (link_set times id at e)) ∙ sym (p.placed id) ∙ none id))
-
--- the tick that is read is that of the timer
-pub next_is : (times : List (Option ℕ)) (chains : List ℕ) (clock c : ℕ) → IsPlaced times chains clock → IsFirstChain chains (Some c) → (id : ℕ) → IsEarliestOf times chains c (Some id) → (x : Option ℕ) → x ≡ slice_index_or times id x → IsNext times x
-next_is times chains clock c p h id e x read =
-    let first = first_of_first times chains clock c p h.3 h.0 id e in
-    let set = link_set times id (tick_of times id) first.is_set in
-    let is : x ≡ Some (tick_of times id) = link_read times id x (slice_get_within times id (Some (tick_of times id)) first.is_set) read ∙ set in
-    subst (λ (y : Option ℕ). IsNext times y) (sym is) (id, first)
+-- none is set before the first tick of the first slot
+pub none_before : (times : List (Option ℕ)) (chains : List ℕ) (clock c id start : ℕ) → IsPlaced times chains clock → ((m : ℕ) → chain_of chains m ≢ 0 → c ≤ chain_of chains m) → c ≢ 0 → c ≢ 1 → chain_of chains id ≡ c → start ≡ slot_start 4 clock (tick_of times id) → clock < start → IsNoneBefore start times
+none_before times chains clock c id start p least some more e is after = (λ m at h.
+    let out : (k : ℕ) → chain_of chains k ≢ 1 = (λ k z. let le = least k (λ z'. absurd (omega (arith, z, z'))) in absurd (omega (arith, le, z, some, more))) in
+    let late = later_reached times chains clock (start - 1) c id p least some more e (omega (arith, is, after)) out m at h in
+    omega (arith, late, after))

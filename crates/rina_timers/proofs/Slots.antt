@@ -103,24 +103,6 @@ slot_stays (suc n) c t u h h' lt = elim (eqb_tells (c / 64) (t / 64)) [
   ]
 ]
 
--- a tick of a later slot is later
-pub slot_later : (n c t u : ℕ) → c < t → c < u → slot n c t < slot n c u → t < u
-slot_later zero c t u h h' lt = (let lt' = rw (slot_last c t, slot_last c u) at lt in lt')
-slot_later (suc n) c t u h h' lt = elim (eqb_tells (c / 64) (t / 64)) [
-  | inl is ↦ elim (eqb_tells (c / 64) (u / 64)) [
-    | inl is' ↦ (let lt' = rw (slot_here n c t is.1, slot_here n c u is'.1) at lt in omega (arith, is.1, is'.1, lt'))
-    | inr not ↦ (let apart = not.1 in omega (arith, is.1, apart, h'))
-  ]
-  | inr not ↦ elim (eqb_tells (c / 64) (u / 64)) [
-    | inl is ↦ (let lt' = rw (slot_above n c t not.1, slot_here n c u is.1) at lt in absurd (omega (arith, lt')))
-    | inr not' ↦
-        (let apart = not.1 in let apart' = not'.1 in
-        let lt' = rw (slot_above n c t apart, slot_above n c u apart') at lt in
-        let up = slot_later n (c / 64) (t / 64) (u / 64) (omega arith) (omega arith) (omega (arith, lt')) in
-        omega (arith, up))
-  ]
-]
-
 -- the same, as code steps down
 pub slot_zero : (levels c t : ℕ) → levels ≡ 0 → slot levels c t ≡ t
 slot_zero zero c t h = slot_last c t

@@ -20,7 +20,11 @@ abbrev pub after_due : Option ℕ → List (Option ℕ) → List (Option ℕ)
 after_due (Some id) times = slice_set times id None
 after_due None times = times
 
--- the tick of the first timer of all, whether it has come or not; None where none is set
-abbrev pub IsNext : List (Option ℕ) → Option ℕ → Type 0
-IsNext times (Some at) = (id : ℕ) × IsFirst times id at
-IsNext times None = (id at : ℕ) → IsSet times id at → ⊥
+-- a timer whose tick has come; None where that of none has
+abbrev pub IsSomeDue : ℕ → List (Option ℕ) → Option ℕ → Type 0
+IsSomeDue now times (Some id) = (at : ℕ) × IsSet times id at × (at ≤ now)
+IsSomeDue now times None = (id at : ℕ) → IsSet times id at → now < at
+
+-- no timer is set before this tick
+abbrev pub IsNoneBefore : ℕ → List (Option ℕ) → Type 0
+IsNoneBefore until times = (id at : ℕ) → IsSet times id at → until ≤ at

@@ -1,9 +1,9 @@
 //! Timers by id.
 ghost use Rattle.std.specs.Prelude.{◌≡◌, ℕ, ◌<◌, List, length, replicate, slice_get, slice_set, None, Some, Option, IfOk};
-ghost use Rattle.rina_timers.specs.Times.{IsDue, IsNext, after_due};
+ghost use Rattle.rina_timers.specs.Times.{IsDue, IsNoneBefore, IsSomeDue, after_due};
 
 use crate::chains::{Chains, tick_of};
-use crate::wheel::{DUE, advance, place};
+use crate::wheel::{DUE, advance, none_until, place};
 use rina_base::{Memory, Tick};
 use std::alloc::Global;
 use std::marker::Model;
@@ -112,14 +112,40 @@ impl Timers {
         self.clear(id);
         Some(id)
     }
-    /// The least tick at which a timer is set, whether it has come or not. None exactly where none is set. Changes no
-    /// timer, and takes no memory.
-    pub fn next(&mut self) -> Option<Tick>
-        ensures next { IsNext self.old result }
+
+    /// Goes on to the first timers that are due, and tells one of them.
+    fn any(&mut self, now: Tick) -> Option<u32>
+        ensures due { IsSomeDue now self.old result }
         ensures same { self.new ≡ self.old }
     {
-        let chain = self.chains.first_chain()?;
-        let id = self.chains.earliest(chain, &self.times)?;
-        self.times[id as usize]
+        self.clock = advance(&mut self.chains, &self.times, self.clock, now);
+        let id = self.chains.first(DUE)?;
+        let at = tick_of(&self.times, id);
+        if at <= now {
+            Some(id)
+        } else {
+            self.first(now)
+        }
+    }
+
+    /// One of the timers whose tick has come, in no order; it is cleared. None exactly where the tick of none has come. As
+    /// long as `now` never goes back, it takes the same time however many are due. Takes no memory.
+    pub fn any_due(&mut self, now: Tick) -> Option<u32>
+        ensures due { IsSomeDue now self.old result }
+        ensures cleared { self.new ≡ after_due result self.old }
+        ensures ids { length self.new ≡ length self.old }
+    {
+        let id = self.any(now)?;
+        self.clear(id);
+        Some(id)
+    }
+
+    /// A tick before which no timer is set, the greatest u32 where none is: the first tick of the first slot with
+    /// timers, which is found without a look at each of them. Takes no memory.
+    pub fn quiet_until(&mut self) -> Tick
+        ensures none { IsNoneBefore result self.old }
+        ensures same { self.new ≡ self.old }
+    {
+        none_until(&mut self.chains, &self.times, self.clock)
     }
 }

@@ -9,6 +9,12 @@ use Rattle.rina_flows.proofs.conns.Conns.push_both.Goals as goal
 pub invariant_of-self : goal.invariant_of-self
 invariant_of-self c = still_timed c.self.inside.items.items c.reserve.new.self.items c.self.inside.watch c.self.inside.watch c.reserve.ensures.items refl refl (λ i. refl) (omega arith) c.self.invariant
 
+pub invariant_of-self-in_err-add : goal.invariant_of-self-in_err-add
+invariant_of-self-in_err-add c = still_timed c.self.inside.items.items c.reserve.new.self.items c.self.inside.watch c.self.inside.watch c.reserve.ensures.items refl refl (λ i. refl) (omega arith) c.self.invariant
+
+pub invariant_of-self-in_err-add-2 : goal.invariant_of-self-in_err-add-2
+invariant_of-self-in_err-add-2 c = still_timed c.self.inside.items.items c.reserve.new.self.items c.self.inside.watch c.self.inside.watch c.reserve.ensures.items refl refl (λ i. refl) (omega arith) c.self.invariant
+
 pub invariant_of-self-in_err-reserve-2 : goal.invariant_of-self-in_err-reserve-2
 invariant_of-self-in_err-reserve-2 c = still_timed c.self.inside.items.items c.reserve.new.self.items c.self.inside.watch c.reserve-2.new.self c.reserve.ensures.items c.reserve-2.ensures.places c.reserve-2.ensures.until c.reserve-2.ensures.ticks c.reserve-2.ensures.keeps c.self.invariant
 
