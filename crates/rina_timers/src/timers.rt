@@ -121,11 +121,7 @@ impl Timers {
         self.clock = advance(&mut self.chains, &self.times, self.clock, now);
         let id = self.chains.first(DUE)?;
         let at = tick_of(&self.times, id);
-        if at <= now {
-            Some(id)
-        } else {
-            self.first(now)
-        }
+        if at <= now { Some(id) } else { self.first(now) }
     }
 
     /// One of the timers whose tick has come, in no order; it is cleared. None exactly where the tick of none has come. As
