@@ -225,13 +225,17 @@ module _ (g : Config) (now : ℕ) (cloud : ℕ → Pdu → Type 0) (held : List 
     is = refl;
     role = new.answers;
     own = new.own;
+    far = new.far;
     scep = refl;
     up = λ u. refl;
     still = λ none. subst IsUp (sym new.up) tt;
     knows = λ is. tt;
+    waits = λ is knows. absurd (let up = new.up in cc);
     known = λ far is knows.
         (let same : far_end ≡ far = same_Some far_end far is in
         sym ids_back ∙ ap (λ (z : Endpoint). ids_from Far flow z end.cube) same);
+    asked = λ none. absurd (none-some far_end (sym none));
+    unsent = λ none. new.blank.sent;
   }
 
   here_entered : IsEntered flows' here end ids
@@ -243,11 +247,15 @@ module _ (g : Config) (now : ℕ) (cloud : ℕ → Pdu → Type 0) (held : List 
     is = m.is;
     role = m.role;
     own = m.own;
+    far = m.far;
     scep = m.scep;
     up = m.up;
     still = m.still;
     knows = m.knows;
+    waits = m.waits;
     known = λ far is knows. absurd ((own.ledger.flow waits.x.flow waits.flow waits.stands).heard knows waits.none);
+    asked = λ none. m.asked waits.none;
+    unsent = λ none. waits.blank.sent;
   }
 
   old_far : (i : ℕ) (a : End) (c : Ids) (x : Place) → IsConn ends conns i a c → slice_get own.places i ≡ Some x → IsEntered flows' x a c

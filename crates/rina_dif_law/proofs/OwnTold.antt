@@ -126,11 +126,15 @@ module _ (g : Config) (now : ℕ) (cloud : ℕ → Pdu → Type 0) (held : List 
     is = refl;
     role = end_here.role;
     own = refl;
+    far = (own.ledger.flow comes.x.flow comes.flow comes.stands).there comes.far comes.known;
     scep = refl;
     up = λ u. point_stands;
     still = λ none. tt;
     knows = λ is. refl;
+    waits = λ is knows. absurd (let clash : Allocated ≡ Pending = is in cc);
     known = λ far is knows. ap (λ (z : Endpoint). ids_from Asker comes.flow z e.cube) (same_Some comes.far far (sym comes.known ∙ is));
+    asked = λ none. absurd (none-some comes.far (sym none ∙ comes.known));
+    unsent = λ none. absurd (none-some comes.far (sym none ∙ comes.known));
   }
     where
       point_stands : comes.flow.asker.ended ≡ None
@@ -153,11 +157,15 @@ module _ (g : Config) (now : ℕ) (cloud : ℕ → Pdu → Type 0) (held : List 
     is = m.is;
     role = m.role;
     own = m.own;
+    far = m.far;
     scep = m.scep;
     up = m.up;
     still = m.still;
     knows = m.knows;
+    waits = m.waits;
     known = m.known;
+    asked = m.asked;
+    unsent = m.unsent;
   }
 
   each_told : (i : ℕ) (a : End) (c : Ids) (x : Place) → IsConn ends' conns' i a c → slice_get own.places i ≡ Some x → IsEntered flows' x a c
