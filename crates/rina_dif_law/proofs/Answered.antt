@@ -1,5 +1,5 @@
 -- A DIF that stands goes on to stand as the answer comes to an asker that waits.
-use Rattle.std.proofs.Common.{◌≡◌, ◌≢◌, ℕ, Bool, true, false, List, [], length, length-set, ◌++◌, slice_get, slice_set, Some, None, Option, refl, sym, ◌∙◌, ap, subst, arith, inl, inr, ◌⊎◌}
+use Rattle.std.proofs.Common.{◌≡◌, ◌≢◌, ℕ, Bool, true, false, List, [], length, length-set, ◌++◌, slice_get, slice_set, Some, None, Option, refl, sym, ◌∙◌, ap, subst, inl, inr, ◌⊎◌}
 use Rattle.std.proofs.lemmas.Bool.{cases_eq}
 use Rattle.std.proofs.lemmas.Option.{none-some, same_Some}
 use Rattle.rina_base.specs.declared.number.Key.{Key}
@@ -7,7 +7,7 @@ use Rattle.rina_base.specs.declared.pdu.Pdu.{Pdu}
 use Rattle.rina_iface.specs.declared.ends.End.{End}
 use Rattle.rina_iface.specs.declared.state.PortState.{PortState}
 use Rattle.rina_iface.specs.declared.state.PortState.TheVariants.{Allocated}
-use Rattle.rina_iface.specs.Journal.{At, HasPartner, IsPartner, IsWhole}
+use Rattle.rina_iface.specs.Journal.{HasPartner, IsPartner, IsWhole}
 use Rattle.rina_iface.specs.Later.{Moves}
 use Rattle.rina_iface.specs.Seen.{Seen}
 use Rattle.rina_iface.proofs.Changed.{set_at, slice_get-set_other, slice_get-set_same}
@@ -40,6 +40,7 @@ use Rattle.rina_dif_law.proofs.Balancing.{accounted_on, moved_same}
 use Rattle.rina_dif_law.proofs.Finding.{beside}
 use Rattle.rina_dif_law.proofs.Finishing.{restated_silent}
 use Rattle.rina_dif_law.proofs.Founding.{nothing_kept}
+use Rattle.rina_dif_law.proofs.Frame.{stands_own}
 use Rattle.rina_dif_law.proofs.Joined.{none_joined}
 use Rattle.rina_dif_law.proofs.Journals.{IsConst, const_refl, journal_set, partner_was, ports_set, was_end}
 use Rattle.rina_dif_law.proofs.Numbering.{numbered_with}
@@ -167,18 +168,10 @@ module _ (d : DifSeen) (lines : List Direction) (below : Seen) (st : IsStanding 
   told_standing =
       let was = st.journal.whole at e s.is_conn.end in
       let whole : IsWhole d.clock e' = record { sent = was.sent; got = was.got; taken = was.taken } in
-      record {
-        config = st.config;
-        clock = st.clock;
-        aligned = st.aligned;
-        linked = st.linked;
-        inside = st.inside;
-        spelled = st.spelled;
-        items = st.items;
-        journal = journal_set d.ends at e e' s.is_conn.end const d.clock st.journal whole (λ is. has_partner) (λ j y h. has_partner);
-        ports = ports_set d.ends at e e' s.is_conn.end const d.config.fac (fac_of d) (fac_of new) refl refl st.ports;
-        own = told_own;
-      }
+      stands_own d lines lines below ends' conns' d.ids d.waiting d.names st
+      (journal_set d.ends at e e' s.is_conn.end const d.clock st.journal whole (λ is. has_partner) (λ j y h. has_partner))
+      (ports_set d.ends at e e' s.is_conn.end const d.config.fac (fac_of d) (fac_of (record d { ends = ends' })) refl refl st.ports)
+      told_own
 
   -- ---- the direction in which the asker receives
 

@@ -35,6 +35,7 @@ use Rattle.rina_dif_law.proofs.Balancing.{accounted_on, moved_same}
 use Rattle.rina_dif_law.proofs.Binding.{same_member, test_passes}
 use Rattle.rina_dif_law.proofs.Finding.{cube_limits}
 use Rattle.rina_dif_law.proofs.Founding.{either_none, kept_longer}
+use Rattle.rina_dif_law.proofs.Frame.{stands_own}
 use Rattle.rina_dif_law.proofs.HeldIds.{asked_held, one_are_drawn, one_free}
 use Rattle.rina_dif_law.proofs.Lasts.{kept_beside, last_beside, one_at}
 use Rattle.rina_dif_law.proofs.Numbering.{counts}
@@ -140,18 +141,7 @@ module _ (d : DifSeen) (lines : List Direction) (below : Seen) (st : IsStanding 
       some_width = (let fits = s.cep_fits in omega (arith, fits))
 
   asked_standing : IsStanding (record d { ends = ends'; conns = conns'; ids = held' }) (lines ++ s.line ∷ []) below
-  asked_standing = record {
-    config = st.config;
-    clock = st.clock;
-    aligned = st.aligned;
-    linked = st.linked;
-    inside = st.inside;
-    spelled = st.spelled;
-    items = st.items;
-    journal = asked_journal;
-    ports = record { own = asked_ports.own; apart = asked_ports.apart; drawn = asked_ports.drawn };
-    own = asked_own;
-  }
+  asked_standing = stands_own d lines (lines ++ s.line ∷ []) below ends' conns' held' d.waiting d.names st asked_journal asked_ports asked_own
 
   asked_carrying : IsCarrying d lines below → IsCarrying (record d { ends = ends'; conns = conns'; ids = held' }) (lines ++ s.line ∷ []) below
   asked_carrying c = record {

@@ -32,6 +32,7 @@ use Rattle.rina_dif_law.specs.Sending.{home}
 use Rattle.rina_dif_law.specs.Standing.{AreIds, IsConn, IsJournal, IsOwn, IsStanding}
 use Rattle.rina_dif_law.specs.Start.{IsFresh}
 use Rattle.rina_dif_law.proofs.Finding.{cube_limits}
+use Rattle.rina_dif_law.proofs.Frame.{stands_own}
 use Rattle.rina_dif_law.proofs.HeldIds.{both_are_drawn, both_drawn, both_held, free_a, free_b}
 use Rattle.rina_dif_law.proofs.Joined.{none_joined}
 use Rattle.rina_dif_law.proofs.Numbering.{counts}
@@ -309,18 +310,7 @@ module _ (d : DifSeen) (lines : List Direction) (below : Seen) (st : IsStanding 
       d' = record d { ends = ends'; conns = conns'; ids = held'; names = names }
 
       bound_standing : IsStanding d' lines' below
-      bound_standing = record {
-        config = st.config;
-        clock = st.clock;
-        aligned = st.aligned;
-        linked = st.linked;
-        inside = st.inside;
-        spelled = st.spelled;
-        items = st.items;
-        journal = bound_journal;
-        ports = record { own = bound_ports.own; apart = bound_ports.apart; drawn = bound_ports.drawn };
-        own = bound_own;
-      }
+      bound_standing = stands_own d lines lines' below ends' conns' held' d.waiting names st bound_journal bound_ports bound_own
 
       bound_carrying : IsCarrying d lines below → IsCarrying d' lines' below
       bound_carrying c = record {

@@ -1,10 +1,9 @@
 -- A DIF that stands goes on to stand as a member makes the far end of a flow that was asked for there.
-use Rattle.std.proofs.Common.{◌≡◌, ◌≢◌, ℕ, ◌+◌, ◌*◌, ◌^◌, ◌<◌, ◌≤◌, ◌&&◌, cond, eqb, List, [], ◌∷◌, ◌++◌, get_or, length, length-set, slice_get, slice_set, None, Option, Some, option_and_then, refl, sym, ◌∙◌, ap, subst, arith, inl, inr, ◌⊎◌}
+use Rattle.std.proofs.Common.{◌≡◌, ◌≢◌, ℕ, ◌+◌, ◌*◌, ◌<◌, ◌&&◌, cond, eqb, List, [], ◌∷◌, ◌++◌, get_or, length, length-set, slice_get, slice_set, None, Option, Some, option_and_then, refl, sym, ◌∙◌, ap, subst, arith, inl, inr, ◌⊎◌}
 use Rattle.std.specs.Prelude.{position}
 use Rattle.std.proofs.lemmas.Bool.{cases_eq}
 use Rattle.std.proofs.lemmas.List.Quantifiers.{position-Some}
-use Rattle.std.proofs.lemmas.Option.{get_or_from_slice_get, none-some, same_Some}
-use Rattle.rina_base.specs.declared.number.FlowName.{FlowName}
+use Rattle.std.proofs.lemmas.Option.{get_or_from_slice_get, same_Some}
 use Rattle.rina_base.specs.declared.number.Key.{Key}
 use Rattle.rina_base.specs.declared.pdu.Pdu.{Pdu}
 use Rattle.rina_cube.specs.declared.Cube.{Cube}
@@ -13,7 +12,7 @@ use Rattle.rina_iface.specs.declared.ends.End.{End}
 use Rattle.rina_iface.specs.declared.state.PortState.TheVariants.{Allocated}
 use Rattle.rina_iface.specs.declared.state.Role.{Role}
 use Rattle.rina_iface.specs.declared.state.Role.TheVariants.{Asker, Far}
-use Rattle.rina_iface.specs.Journal.{At, HasPartner, HasPorts, IsNamed, IsPartner, IsWhole}
+use Rattle.rina_iface.specs.Journal.{At, HasPartner, HasPorts, IsPartner, IsWhole}
 use Rattle.rina_iface.specs.Later.{IsLaterFac}
 use Rattle.rina_iface.specs.Seen.{Seen}
 use Rattle.rina_iface.proofs.Changed.{set_at, slice_get-set_other, slice_get-set_same}
@@ -29,12 +28,12 @@ use Rattle.rina_dif_law.specs.Accounted.{IsAccounted, Resends, counts_of, held_b
 use Rattle.rina_dif_law.specs.Answering.{IsFarMade, far_end_of, with_far_cep}
 use Rattle.rina_dif_law.specs.Carried.{IsCarrying}
 use Rattle.rina_dif_law.specs.Cloud.{Cloud, Everywhere}
-use Rattle.rina_dif_law.specs.Counting.{held_numbers, times}
+use Rattle.rina_dif_law.specs.Counting.{times}
 use Rattle.rina_dif_law.specs.Dif.{DifSeen, constants, fac_of}
 use Rattle.rina_dif_law.specs.Ids.{Ids, flipped}
 use Rattle.rina_dif_law.specs.Lifting.{ticked}
 use Rattle.rina_dif_law.specs.Numbered.{IsAddressed, IsCounted, IsNumbered}
-use Rattle.rina_dif_law.specs.Places.{IsEndOf, Place, role_of}
+use Rattle.rina_dif_law.specs.Places.{IsEndOf, Place}
 use Rattle.rina_dif_law.specs.Standing.{AreIds, IsConn, IsJournal, IsOfFlow, IsOwn, IsStanding}
 use Rattle.rina_dif_law.specs.Start.{IsFresh}
 use Rattle.rina_dif_law.proofs.Accounting.{resends_on}
@@ -43,14 +42,15 @@ use Rattle.rina_dif_law.proofs.Balancing.{accounted_on, moved_same}
 use Rattle.rina_dif_law.proofs.Binding.{nothing_come, test_passes}
 use Rattle.rina_dif_law.proofs.Finding.{beside, cube_limits}
 use Rattle.rina_dif_law.proofs.Founding.{fresh_empty, kept_longer, nothing_kept}
+use Rattle.rina_dif_law.proofs.Frame.{stands_own}
 use Rattle.rina_dif_law.proofs.HeldIds.{far_held, one_are_drawn, one_free}
 use Rattle.rina_dif_law.proofs.Keepers.{none_got}
-use Rattle.rina_dif_law.proofs.Lasts.{end_at_last, kept_beside, last_beside, one_at}
+use Rattle.rina_dif_law.proofs.Lasts.{kept_beside, last_beside, one_at}
 use Rattle.rina_dif_law.proofs.Own.{end_of_flow, partner_back}
 use Rattle.rina_dif_law.proofs.OwnFar.{IsFarEnd, IsWaiting, own_far}
 use Rattle.rina_dif_law.proofs.OwnMade.{IsBlank}
 use Rattle.rina_dif_law.proofs.Placed.{side_same}
-use Rattle.rina_dif_law.proofs.Tallies.{inbound_at, kept_in, other_partner}
+use Rattle.rina_dif_law.proofs.Tallies.{inbound_at, other_partner}
 
 -- an asker's role, where it is not that of a far end
 asker_role : (r : Role) → r ≢ Far → r ≡ Asker
@@ -259,18 +259,7 @@ module _ (d : DifSeen) (lines : List Direction) (below : Seen) (st : IsStanding 
       (subst (λ (l : Direction). IsOwn d.config d.clock cloud held' ends' conns' (slice_set lines at (ticked d.clock (start (constants d.config s.cube (with_far_cep s.ids s.cep)))) ++ l ∷ [])) (sym back) own)
 
   made_standing : IsStanding new lines'' below
-  made_standing = record {
-    config = st.config;
-    clock = st.clock;
-    aligned = st.aligned;
-    linked = st.linked;
-    inside = st.inside;
-    spelled = st.spelled;
-    items = st.items;
-    journal = made_journal;
-    ports = record { own = made_ports.own; apart = made_ports.apart; drawn = made_ports.drawn };
-    own = made_own;
-  }
+  made_standing = stands_own d lines lines'' below ends' conns' held' waiting' d.names st made_journal made_ports made_own
 
   -- ---- what came
 

@@ -29,7 +29,7 @@ use Rattle.rina_ids.specs.Members.{CepIds}
 use Rattle.rina_dif_law.specs.Dif.{constants}
 use Rattle.rina_dif_law.specs.Ids.{AcksOf, Ids, PiecesOf, flipped}
 use Rattle.rina_dif_law.specs.Lifting.{ticked}
-use Rattle.rina_dif_law.specs.Places.{IsEndOf, IsUp, Knows, Place, ids_from, role_of}
+use Rattle.rina_dif_law.specs.Places.{IsEndOf, IsUp, Knows, Place, ids_from, role_of, there_of}
 use Rattle.rina_dif_law.specs.Standing.{AreEntered, AreIds, IsConn, IsDirection, IsFlow, IsJournal, IsOfFlow, IsOwn, IsUntold, RestsBy}
 use Rattle.rina_dif_law.proofs.Finding.{beside}
 use Rattle.rina_dif_law.proofs.Flows.{acks_apart, flow_kept, flow_moved, flow_recovered, flow_redirected, flow_ticked, from_still, guarded_covers, pieces_apart, ticked_untold}
@@ -93,6 +93,25 @@ end_const flow side e e' c const state unsent h = record {
   known = λ far is knows. h.known far is knows ∙ ap (λ (q : ℕ). ids_from side flow far q) (sym const.cube);
   asked = λ none. ap (λ (f : FlowName). f.tick) const.flow ∙ h.asked none;
   unsent = unsent;
+}
+
+-- its flow changes, but not this end of it, nor what it knows of the other one
+pub end_on : (f f' : Flow) (side : Side) (e : End) (c : Ids) (h : IsEndOf f side e c) → end_at side f' ≡ Some h.point → there_of side f ≡ there_of side f' → (Knows side f → Knows side f') → (Knows side f' → Knows side f)
+    → ((far : Endpoint) → f'.far ≡ Some far → Knows side f' → c ≡ ids_from side f' far e.cube) → (f'.far ≡ None → (e.flow.tick ≡ f'.asked) × (e.sent ≡ [])) → IsEndOf f' side e c
+end_on f f' side e c h is there more less known alone = record {
+  point = h.point;
+  is = is;
+  role = h.role;
+  own = h.own;
+  far = h.far ∙ there;
+  scep = h.scep;
+  up = h.up;
+  still = h.still;
+  knows = λ s. more (h.knows s);
+  waits = λ s knows. h.waits s (less knows);
+  known = known;
+  asked = λ none. (alone none).0;
+  unsent = λ none. (alone none).1;
 }
 
 -- an end changes, but not in what is the same all its life

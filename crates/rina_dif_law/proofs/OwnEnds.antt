@@ -29,7 +29,7 @@ use Rattle.rina_dif_law.specs.Standing.{AreEntered, IsConn, IsFlow, IsOfFlow, Is
 use Rattle.rina_dif_law.proofs.Finding.{beside}
 use Rattle.rina_dif_law.proofs.Flows.{flow_moved}
 use Rattle.rina_dif_law.proofs.Journals.{IsConst, was_end}
-use Rattle.rina_dif_law.proofs.Own.{apart_set, end_of_flow, ids_set, named_set, rests_set}
+use Rattle.rina_dif_law.proofs.Own.{apart_set, end_of_flow, end_on, ids_set, named_set, rests_set}
 use Rattle.rina_dif_law.proofs.Placed.{opposite, unrested_up}
 
 -- an allocated end that moves on has ended
@@ -150,21 +150,8 @@ other_point now Asker f far point is = is
 other_point now Far f far point is = is
 
 other_end : (now : ℕ) (s : Side) (f : Flow) (far : Endpoint) (e : End) (ids : Ids) → Given s f far → IsEndOf f (opposite s) e ids → IsEndOf (ended_at now s f far) (opposite s) e ids
-other_end now s f far e ids known h = record {
-  point = h.point;
-  is = other_point now s f far h.point h.is;
-  role = h.role;
-  own = h.own;
-  far = h.far ∙ there_after now s (opposite s) f far;
-  scep = h.scep;
-  up = h.up;
-  still = h.still;
-  knows = λ is. knows_after now s (opposite s) f far (h.knows is);
-  waits = λ is knows. h.waits is (knows_before now s (opposite s) f far knows);
-  known = known_after now s (opposite s) f far e.cube ids known h.known;
-  asked = λ none. h.asked (none_before now s f far none) ∙ asked_after now s f far;
-  unsent = λ none. h.unsent (none_before now s f far none);
-}
+other_end now s f far e ids given h = end_on f (ended_at now s f far) (opposite s) e ids h (other_point now s f far h.point h.is) (there_after now s (opposite s) f far) (knows_after now s (opposite s) f far) (knows_before now s (opposite s) f far) (known_after now s (opposite s) f far e.cube ids given h.known)
+    (λ none. (h.asked (none_before now s f far none) ∙ asked_after now s f far, h.unsent (none_before now s f far none)))
 
 -- the end stands, whichever far end is meant
 stands_old : (s : Side) (f : Flow) (far old : Endpoint) → Given s f far → Stands s f far → f.far ≡ Some old → Stands s f old

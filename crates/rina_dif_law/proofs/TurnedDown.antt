@@ -1,10 +1,9 @@
 -- A DIF that stands goes on to stand as an asker's end ends while it waits.
-use Rattle.std.proofs.Common.{◌≡◌, ◌≢◌, List, slice_get, slice_set, ℕ, refl, sym, ◌∙◌, ap, subst, arith}
-use Rattle.rina_base.specs.declared.pdu.Pdu.{Pdu}
+use Rattle.std.proofs.Common.{◌≡◌, ◌≢◌, List, slice_set, ℕ, refl, sym, ◌∙◌, subst, arith}
 use Rattle.rina_iface.specs.declared.ends.End.{End}
 use Rattle.rina_iface.specs.declared.state.PortState.{PortState}
 use Rattle.rina_iface.specs.declared.state.PortState.TheVariants.{Allocated, Pending}
-use Rattle.rina_iface.specs.Journal.{At, IsWhole}
+use Rattle.rina_iface.specs.Journal.{IsWhole}
 use Rattle.rina_iface.specs.Later.{Moves}
 use Rattle.rina_iface.specs.Seen.{Seen}
 use Rattle.rina_law.specs.Direction.{Direction}
@@ -22,6 +21,7 @@ use Rattle.rina_dif_law.proofs.After.{NoMore, after_none}
 use Rattle.rina_dif_law.proofs.Carrying.{carrying_same, end_set, line_was}
 use Rattle.rina_dif_law.proofs.Finding.{beside}
 use Rattle.rina_dif_law.proofs.Finishing.{restated_silent}
+use Rattle.rina_dif_law.proofs.Frame.{stands_own}
 use Rattle.rina_dif_law.proofs.HeldIds.{ended_held}
 use Rattle.rina_dif_law.proofs.Journals.{IsConst, journal_set, ports_set}
 use Rattle.rina_dif_law.proofs.Numbering.{numbered_with, rested_numbered}
@@ -61,18 +61,10 @@ module _ (d : DifSeen) (lines : List Direction) (below : Seen) (st : IsStanding 
   down_standing =
       let was = st.journal.whole at e s.is_end in
       let whole : IsWhole d.clock e' = record { sent = was.sent; got = was.got; taken = was.taken } in
-      record {
-        config = st.config;
-        clock = st.clock;
-        aligned = st.aligned;
-        linked = st.linked;
-        inside = st.inside;
-        spelled = st.spelled;
-        items = st.items;
-        journal = journal_set d.ends at e e' s.is_end const d.clock st.journal whole (λ is. absurd (not_then is)) (λ j x h. st.journal.met at j e x s.is_end h);
-        ports = ports_set d.ends at e e' s.is_end const d.config.fac (fac_of d) (fac_of new) refl refl st.ports;
-        own = down_own;
-      }
+      stands_own d lines lines below ends' d.conns s.held d.waiting d.names st
+      (journal_set d.ends at e e' s.is_end const d.clock st.journal whole (λ is. absurd (not_then is)) (λ j x h. st.journal.met at j e x s.is_end h))
+      (ports_set d.ends at e e' s.is_end const d.config.fac (fac_of d) (fac_of (record d { ends = ends' })) refl refl st.ports)
+      down_own
 
   pub down_stands : IsStanding d' lines below
   down_stands = rw s.new_is down_standing
