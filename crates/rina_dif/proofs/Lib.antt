@@ -79,3 +79,5 @@ pub mod Hearing
 pub mod Partners
 pub mod Passing
 pub mod Rerouted
+pub mod Turns
+pub mod Learned
