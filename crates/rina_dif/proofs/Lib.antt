@@ -81,3 +81,4 @@ pub mod Passing
 pub mod Rerouted
 pub mod Turns
 pub mod Learned
+pub mod Ahead

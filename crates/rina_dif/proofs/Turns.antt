@@ -42,3 +42,19 @@ texts_more came n d lt = ap texts_of (take_more came n d lt) ∙ map-append (λ 
 pub turn_next : (now number : ℕ) (came : List Entry) (n : ℕ) (d : Entry) (sdu : List ℕ) (m mid m' : Management) → n < length came → sdu ≡ (get_or came n d).bytes → HandlesInTurn now number (texts_of (take n came)) m mid → HandlesOne now number sdu mid m' → HandlesInTurn now number (texts_of (take (n + 1) came)) m m'
 turn_next now number came n d sdu m mid m' lt is h one =
     subst (λ (ts : List (List ℕ)). HandlesInTurn now number ts m m') (sym (texts_more came n d lt)) (turn_more now number (texts_of (take n came)) (get_or came n d).bytes m mid m' h (subst (λ (t : List ℕ). HandlesOne now number t mid m') is one))
+
+-- Several after several
+
+pub turns_links : (now number : ℕ) (sdus : List (List ℕ)) (m m' : Management) → AreUnenrolled m.agent.links → HandlesInTurn now number sdus m m' → m'.agent.links ≡ m.agent.links
+turns_links now number [] m m' free same = ap (λ (g : Management). g.agent.links) same
+turns_links now number (sdu ∷ sdus) m m' free h =
+    let first = one_links now number sdu m h.0 free h.1 in
+    turns_links now number sdus h.0 m' (unenrolled_on m.agent.links h.0.agent.links first free) h.2 ∙ first
+
+pub turns_on : (now number : ℕ) (xs ys : List (List ℕ)) (m mid m' : Management) → HandlesInTurn now number xs m mid → HandlesInTurn now number ys mid m' → HandlesInTurn now number (xs ++ ys) m m'
+turns_on now number [] ys m mid m' same h = subst (λ (g : Management). HandlesInTurn now number ys g m') same h
+turns_on now number (x ∷ xs) ys m mid m' g h = (g.0, g.1, turns_on now number xs ys g.0 mid m' g.2 h)
+
+pub body_next : (now number : ℕ) (bodies : List (List ℕ)) (n : ℕ) (d sdu : List ℕ) (m mid m' : Management) → n < length bodies → sdu ≡ get_or bodies n d → HandlesInTurn now number (take n bodies) m mid → HandlesOne now number sdu mid m' → HandlesInTurn now number (take (n + 1) bodies) m m'
+body_next now number bodies n d sdu m mid m' lt is h one =
+    subst (λ (ts : List (List ℕ)). HandlesInTurn now number ts m m') (sym (take_more bodies n d lt)) (turn_more now number (take n bodies) (get_or bodies n d) m mid m' h (subst (λ (t : List ℕ). HandlesOne now number t mid m') is one))

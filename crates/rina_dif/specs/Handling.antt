@@ -1,7 +1,10 @@
 -- What a PDU that came on a link brings to the management of a member: the SDUs that it makes whole are passed and handled in the
 -- same step, and the next hops follow what the member then holds.
-use Rattle.std.specs.Prelude.{◌≡◌, ℕ, suc, zero, ◌-◌, List, [], ◌∷◌, drop, length, slice_get, slice_set, Option, Some, None, Result, Ok, Err}
+use Rattle.std.specs.Prelude.{◌≡◌, ℕ, suc, zero, ◌-◌, ◌^◌, ◌++◌, min, List, [], ◌∷◌, drop, length, slice_get, slice_set, Option, Some, None, Result, Ok, Err}
 use Rattle.rina_base.specs.declared.memory.Memory.{Memory}
+use Rattle.rina_base.specs.declared.pdu.Pdu.{Pdu}
+use Rattle.rina_conn.specs.declared.conn.Conn.{Conn}
+use Rattle.rina_dtp.specs.Stands.{IsAhead}
 use Rattle.rina_iface.specs.declared.ends.End.{End}
 use Rattle.rina_iface.specs.Journal.{At}
 use Rattle.rina_iface.specs.Seen.{Seen}
@@ -45,6 +48,19 @@ pub record HandlesOne (now number : ℕ) (sdu : List ℕ) (m m' : Management) : 
 abbrev pub HandlesInTurn : ℕ → ℕ → List (List ℕ) → Management → Management → Type 0
 HandlesInTurn now number [] m m' = m' ≡ m
 HandlesInTurn now number (sdu ∷ sdus) m m' = (mid : Management) × HandlesOne now number sdu m mid × HandlesInTurn now number sdus mid m'
+
+-- Before a piece is taken
+
+-- these are the bytes of the SDUs that a piece would make whole at the end of a place
+pub record IsToldAhead (d : Dif) (place : ℕ) (its : Pdu) (bodies : List (List ℕ)) : Type 0 where
+  pub unpassed : ℕ
+  pub count : (end : End) → At d.connections.flows.journal.ends place end → unpassed ≡ min (length end.got - end.taken) (2 ^ 32 - 1)
+  pub ahead : (conn : Conn) → slice_get d.connections.flows.conns place ≡ Some conn → IsAhead d.clock its unpassed conn.rx bodies
+
+-- the member of place i handled the SDUs that came to the end of its link, and then those that a piece would make whole there
+abbrev pub HandlesAhead : Dif → ℕ → ℕ → ℕ → Pdu → Management → Type 0
+HandlesAhead d i place number its after = (m : Management) (end : End) → slice_get d.managements i ≡ Some m → At d.connections.flows.journal.ends place end →
+    (bodies : List (List ℕ)) × IsToldAhead d place its bodies × HandlesInTurn d.clock number (unpassed_sdus end ++ bodies) m after
 
 -- The connection
 

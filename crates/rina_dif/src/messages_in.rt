@@ -8,13 +8,15 @@ ghost use Rattle.rina_member.specs.declared.management.Management.{Management};
 ghost use Rattle.rina_member.specs.Handling.{AreUnenrolled};
 ghost use Rattle.rina_dif.specs.Elsewhere.{ChangesProcess};
 ghost use Rattle.rina_dif.specs.Flooding.{texts_of};
-ghost use Rattle.rina_dif.specs.Handling.{HandlesAs, HandlesInTurn, HandlesOne, PassesAll, unpassed_sdus};
+ghost use Rattle.rina_base.specs.Pdus.{pdu_of};
+ghost use Rattle.rina_dif.specs.Handling.{HandlesAhead, HandlesAs, HandlesInTurn, HandlesOne, IsToldAhead, PassesAll, unpassed_sdus};
 ghost use Rattle.rina_dif.specs.Holding.{Holds, LinksStand, Stands};
 ghost use Rattle.rina_dif.specs.LinkDue.{IsLinkEnd};
 
 use crate::dif::Dif;
 use rina_agent::AgentError;
-use rina_base::{Memory, Tick};
+use rina_base::{Bytes, Memory, PduView, Tick};
+use rina_dtp::Bodies;
 use rina_law::Entry;
 use rina_member::{Management, after_sdu};
 use std::alloc::Global;
@@ -53,6 +55,24 @@ fn after_all(
     let mut after = management.copy(alloc)?;
     for entry in came {
         after = after_one(alloc, after, now, number, entry.bytes.as_slice())?;
+    }
+    Ok(after)
+}
+
+/// The management of a member after SDUs with these bytes came on its link of a number, one after the other, at a tick.
+fn after_bodies(
+    alloc: Global,
+    management: Management,
+    now: Tick,
+    number: u16,
+    bodies: &[Bytes],
+) -> Result<Management, Memory>
+    requires unenrolled { AreUnenrolled management.agent.links }
+    ensures { IfOk result (HandlesInTurn now number bodies.now management) }
+{
+    let mut after = management;
+    for body in bodies {
+        after = after_one(alloc, after, now, number, body.as_slice())?;
     }
     Ok(after)
 }
@@ -106,6 +126,45 @@ impl Dif {
         };
         let came = &end.got.as_slice()[end.taken as usize..];
         after_all(alloc, management, self.clock, number, came)
+    }
+
+    /// The bytes of the SDUs that a piece would make whole at the end of a place. The piece is not taken.
+    fn bodies_ahead(
+        &self,
+        alloc: Global,
+        place: usize,
+        pdu: &PduView<'_>,
+    ) -> Result<Bodies, Memory>
+        requires clock { self.now.clock ≤ 10_000_000 }
+        requires conn { place < length self.now.connections.flows.conns }
+        ensures { IfOk result (λ bodies. IsToldAhead self.now place (pdu_of pdu.now) bodies) }
+    {
+        let links = &self.connections.flows;
+        let unpassed = links.unpassed(place);
+        links.conns.at(place).rx.ahead(alloc, self.clock, pdu, unpassed)
+    }
+
+    /// The management of the member at a place after it handled, in turn, the SDUs that came to the end of its link of a number
+    /// and are not passed, and then those that a piece would make whole there. The piece is not taken.
+    fn management_ahead(
+        &self,
+        alloc: Global,
+        at: usize,
+        place: usize,
+        number: u16,
+        pdu: &PduView<'_>,
+    ) -> Result<Management, Memory>
+        requires clock { self.now.clock ≤ 10_000_000 }
+        requires at { at < length self.now.managements }
+        requires place { place < length self.now.connections.flows.journal.ends }
+        requires conn { place < length self.now.connections.flows.conns }
+        requires taken { (end : End) → At self.now.connections.flows.journal.ends place end → end.taken ≤ length end.got }
+        requires unenrolled { (m : Management) → slice_get self.now.managements at ≡ Some m → AreUnenrolled m.agent.links }
+        ensures { IfOk result (HandlesAhead self.now at place number (pdu_of pdu.now)) }
+    {
+        let bodies = self.bodies_ahead(alloc, place, pdu)?;
+        let after = self.management_after(alloc, at, place, number)?;
+        after_bodies(alloc, after, self.clock, number, bodies.as_slice())
     }
 
     /// Lets the member at a place handle, in turn, all messages that came to the end at a place of its link of a number: they are
