@@ -32,7 +32,7 @@ use Rattle.rina_member.proofs.Learning.{handles_knowing, unenrolled}
 use Rattle.rina_dif.specs.declared.dif.Dif.{Dif}
 use Rattle.rina_dif.specs.Elsewhere.{ChangesProcess}
 use Rattle.rina_dif.specs.Flooding.{AreFlooding}
-use Rattle.rina_dif.specs.Handling.{HandlesAll, HandlesAs, HandlesInTurn, HandlesOne, PassesAll, or_same, unpassed_sdus}
+use Rattle.rina_dif.specs.Handling.{HandlesAll, HandlesHere, HandlesInTurn, HandlesOne, PassesAll, or_same, unpassed_sdus}
 use Rattle.rina_dif.specs.Holding.{AreHoused, Holds, IsHoused, LinksStand, Stands}
 use Rattle.rina_dif.specs.LinkDue.{IsLinkEnd}
 use Rattle.rina_dif.specs.Routing.{SetsRoutes, with_routes}
@@ -163,7 +163,7 @@ module _ (what : WhatComes) (d : Dif) (i place number : ℕ) (here : IsLinkEnd d
       only = refl;
     }
 
-    pub handled_does : HandlesAs d lines below i place number (Ok tt) d'
+    pub handled_does : HandlesHere d lines below i place number d'
     handled_does = ((λ links. handled_all links), handled_holds)
 
 -- The member at a place, wherever the DIF stands
@@ -172,40 +172,40 @@ module _ (what : WhatComes) (d : Dif) (i place number : ℕ) (here : IsLinkEnd d
 abbrev pub with_parts : Dif → Flows → List Management → List IpcProcess → Dif
 with_parts d flows managements processes = record d { connections = record d.connections { flows = flows }; managements = managements; processes = processes }
 
+-- its management
+pub free_at : (d : Dif) (i : ℕ) → i < length d.settings.members → Stands' d → (m : Management) → slice_get d.managements i ≡ Some m → AreUnenrolled m.agent.links
+free_at d i lt st m is =
+    let member = has_member d i lt in
+    let p = has_process d st.0 i st.1 lt in
+    unenrolled d.settings.members d.laid.links d.clock member.0 p.0.links m.agent (st.1.1.managed.each i member.0 p.0 m member.1 p.1 is).knows
+
+-- the end at its link
+pub taken_at : (d : Dif) (place : ℕ) → Stands' d → (end : End) → At d.connections.flows.journal.ends place end → end.taken ≤ length end.got
+taken_at d place st end is = (st.1.1.connected.standing.journal.whole place end is).taken
+
 module _ (d : Dif) (i place number : ℕ) (here : IsLinkEnd d i place number) (lt : i < length d.settings.members) where
-  -- its management
-  pub free_at : Stands' d → (m : Management) → slice_get d.managements i ≡ Some m → AreUnenrolled m.agent.links
-  free_at st m is =
-      let member = has_member d i lt in
-      let p = has_process d st.0 i st.1 lt in
-      unenrolled d.settings.members d.laid.links d.clock member.0 p.0.links m.agent (st.1.1.managed.each i member.0 p.0 m member.1 p.1 is).knows
-
-  -- the end at its link
-  pub taken_at : Stands' d → (end : End) → At d.connections.flows.journal.ends place end → end.taken ≤ length end.got
-  taken_at st end is = (st.1.1.connected.standing.journal.whole place end is).taken
-
   pub at_place : place < length d.connections.flows.journal.ends
   at_place = slice_get_within d.connections.flows.journal.ends place here.end here.is_end
 
   pub handles_done : WhatComes → d.failed ≡ false → (after : Management) (routes : List Route) (flows : Flows) (ms : List Management) (ps : List IpcProcess)
       → ((m : Management) (end : End) → slice_get d.managements i ≡ Some m → At d.connections.flows.journal.ends place end → HandlesInTurn d.clock number (unpassed_sdus end) m after) → AreRoutesOf after.agent d.settings.members routes
       → PassAll d place flows → ((b : Seen) → LinksStand d b → LinksStand (with_links d flows) b) → SetsRoutes i routes d.processes ps → ms ≡ slice_set d.managements i after
-      → (lines : List Direction) (below : Seen) → Holds d lines below → HandlesAs d lines below i place number (Ok tt) (with_parts d flows ms ps)
+      → (lines : List Direction) (below : Seen) → Holds d lines below → HandlesHere d lines below i place number (with_parts d flows ms ps)
   handles_done what alive after routes flows ms ps handles are passes stand sets are_managed lines below h =
       let member = has_member d i lt in
       let p = has_process d below i (lines, h) lt in
       let g = has_agent d lines below i lt h in
       let does = handled_does what d i place number here g.0 g.1 p.0 p.1 member.0 member.1 alive lines below h after routes flows (handles g.0 here.end g.1 here.is_end) are passes stand in
-      subst (λ (ms' : List Management). HandlesAs d lines below i place number (Ok tt) (with_parts d flows ms' ps)) (sym are_managed)
-      (subst (λ (ps' : List IpcProcess). HandlesAs d lines below i place number (Ok tt) (with_parts d flows (slice_set d.managements i after) ps')) (sym (sets p.0 p.1)) does)
+      subst (λ (ms' : List Management). HandlesHere d lines below i place number (with_parts d flows ms' ps)) (sym are_managed)
+      (subst (λ (ps' : List IpcProcess). HandlesHere d lines below i place number (with_parts d flows (slice_set d.managements i after) ps')) (sym (sets p.0 p.1)) does)
 
   -- where the end passed them before the member has another management, and other next hops
   pub handles_after : WhatComes → d.failed ≡ false → (after : Management) (routes : List Route) (mid : Dif) (ms : List Management) (ps : List IpcProcess)
       → ((m : Management) (end : End) → slice_get d.managements i ≡ Some m → At d.connections.flows.journal.ends place end → HandlesInTurn d.clock number (unpassed_sdus end) m after) → AreRoutesOf after.agent d.settings.members routes
       → PassAll d place mid.connections.flows → ((b : Seen) → LinksStand d b → LinksStand mid b) → mid ≡ with_links d mid.connections.flows → SetsRoutes i routes mid.processes ps → ms ≡ slice_set mid.managements i after
-      → (lines : List Direction) (below : Seen) → Holds d lines below → HandlesAs d lines below i place number (Ok tt) (record mid { processes = ps; managements = ms })
+      → (lines : List Direction) (below : Seen) → Holds d lines below → HandlesHere d lines below i place number (record mid { processes = ps; managements = ms })
   handles_after what alive after routes mid ms ps handles are passes stand whole sets are_managed lines below h =
-      subst (λ (z : Dif). HandlesAs d lines below i place number (Ok tt) (record z { processes = ps; managements = ms })) (sym whole)
+      subst (λ (z : Dif). HandlesHere d lines below i place number (record z { processes = ps; managements = ms })) (sym whole)
       (handles_done what alive after routes mid.connections.flows ms ps handles are passes (λ b links. subst (λ (z : Dif). LinksStand z b) whole (stand b links))
       (subst (λ (qs : List IpcProcess). SetsRoutes i routes qs ps) (ap (λ (z : Dif). z.processes) whole) sets) (are_managed ∙ ap (λ (z : Dif). slice_set z.managements i after) whole) lines below h)
 

@@ -6,6 +6,7 @@ pub mod Barred
 pub mod Below
 pub mod Beside
 pub mod Bound
+pub mod Brought
 pub mod Causing
 pub mod Channels
 pub mod Claimed

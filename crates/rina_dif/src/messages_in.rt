@@ -1,5 +1,6 @@
 //! How the members of a DIF handle the messages that came on their links.
-ghost use Rattle.std.specs.Prelude.{◌≡◌, ◌<◌, ◌≤◌, ◌-◌, List, IfOk, Some, false, length, slice_get};
+ghost use Rattle.std.specs.Prelude.{◌≡◌, ◌<◌, ◌≤◌, ◌-◌, List, IfOk, IfSome, Some, false, length, slice_get};
+ghost use Rattle.rina_base.specs.Pdus.{pdu_of};
 ghost use Rattle.rina_iface.specs.declared.ends.End.{End};
 ghost use Rattle.rina_iface.specs.Journal.{At};
 ghost use Rattle.rina_iface.specs.Seen.{Seen};
@@ -8,18 +9,27 @@ ghost use Rattle.rina_member.specs.declared.management.Management.{Management};
 ghost use Rattle.rina_member.specs.Handling.{AreUnenrolled};
 ghost use Rattle.rina_dif.specs.Elsewhere.{ChangesProcess};
 ghost use Rattle.rina_dif.specs.Flooding.{texts_of};
-ghost use Rattle.rina_base.specs.Pdus.{pdu_of};
-ghost use Rattle.rina_dif.specs.Handling.{HandlesAhead, HandlesAs, HandlesInTurn, HandlesOne, IsToldAhead, PassesAll, unpassed_sdus};
+ghost use Rattle.rina_dif.specs.Handling.{HandlesAhead, HandlesAs, HandlesInTurn, HandlesOne, IsHandled, IsToldAhead, PassesAll, unpassed_sdus};
 ghost use Rattle.rina_dif.specs.Holding.{Holds, LinksStand, Stands};
-ghost use Rattle.rina_dif.specs.LinkDue.{IsLinkEnd};
 
 use crate::dif::Dif;
 use rina_agent::AgentError;
-use rina_base::{Bytes, Memory, PduView, Tick};
+use rina_base::{Bytes, Memory, PduView, Seq, Tick};
+use rina_data::Route;
 use rina_dtp::Bodies;
 use rina_law::Entry;
 use rina_member::{Management, after_sdu};
 use std::alloc::Global;
+
+/// What a member is once it handled the messages that came on one of its links.
+#[derive(Drop)]
+pub struct Handled {
+    /// The place of the end to which they came.
+    pub place: usize,
+    pub management: Management,
+    /// The next hops over the items that it holds.
+    pub routes: Seq<Route>,
+}
 
 /// The management of a member after an SDU came on its link of a number at a tick: as it was, where the SDU changes nothing.
 fn after_one(
@@ -146,7 +156,7 @@ impl Dif {
 
     /// The management of the member at a place after it handled, in turn, the SDUs that came to the end of its link of a number
     /// and are not passed, and then those that a piece would make whole there. The piece is not taken.
-    fn management_ahead(
+    pub(crate) fn management_ahead(
         &self,
         alloc: Global,
         at: usize,
@@ -167,29 +177,23 @@ impl Dif {
         after_bodies(alloc, after, self.clock, number, bodies.as_slice())
     }
 
-    /// Lets the member at a place handle, in turn, all messages that came to the end at a place of its link of a number: they are
-    /// passed, and the next hops are over the items that the member then holds. Without memory nothing changes.
-    fn handle_messages(
-        &mut self,
-        alloc: Global,
-        at: usize,
-        place: usize,
-        number: u16,
-    ) -> Result<(), Memory>
+    /// Lets the member at a place handle the messages that came on its link of a number, where there are any: the end passes all of
+    /// them, and the member and its next hops are as was told. Takes no memory.
+    pub(crate) fn handle_messages(&mut self, at: usize, number: u16, handled: Option<Handled>)
         requires stands { (below : Seen) × Stands self.old below }
         requires alive { self.old.failed ≡ false }
         requires at { at < length self.old.settings.members }
-        requires here { IsLinkEnd self.old at place number }
-        ensures does { (lines : List Direction) (below : Seen) → Holds self.old lines below → HandlesAs self.old lines below at place number result self.new }
+        requires handled { IfSome handled (IsHandled self.old at number) }
+        ensures does { (lines : List Direction) (below : Seen) → Holds self.old lines below → HandlesAs self.old lines below at number handled self.new }
         ensures whole { self.new ≡ record self.old { processes = self.new.processes; connections = record self.old.connections { flows = self.new.connections.flows }; managements = self.new.managements } }
         ensures leaves { ChangesProcess (Some at) self.old.processes self.new.processes }
     {
+        let Some(handled) = handled else {
+            return;
+        };
         rina_flood::what_comes_was_made_by_a_member();
-        let after = self.management_after(alloc, at, place, number)?;
-        let routes = self.routes_over(alloc, &after)?;
-        self.pass_messages(place);
-        self.processes.set_routes(at, routes);
-        self.managements.set(at, after);
-        Ok(())
+        self.pass_messages(handled.place);
+        self.processes.set_routes(at, handled.routes);
+        self.managements.set(at, handled.management);
     }
 }
