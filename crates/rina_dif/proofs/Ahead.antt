@@ -150,9 +150,9 @@ module _ (d : Dif) (at since : ℕ) (port : Port) (hop : Hop) (lines : List Dire
       let ids : t.2.1 ≡ ids_of taker.conn = same_Some t.2.1 (ids_of taker.conn) (sym on.takes.is_conn.ids_are ∙ ids_at d.connections.flows.conns place taker.conn taker.is_conn) in
       let names : IsFrom (flipped (ids_of taker.conn)) real = subst (λ (z : Ids). IsFrom (flipped z) real) ids on.takes.names in
       let arrives : ArrivesAt (link_config g d.connections.manage) m.ends m.ids h.connected.lines place real cause s.held s.ends' links' =
-        subst (λ (k : ℕ). ArrivesAt (link_config g d.connections.manage) m.ends m.ids h.connected.lines k (named t.0.partner k hop.pdu) cause s.held s.ends' links') here
-        (subst (λ (z : Channel). ArrivesAt (link_config g d.connections.manage) m.ends m.ids h.connected.lines s.place (named z.partner s.place hop.pdu) cause s.held s.ends' links') channel s.arrives) in
+      subst (λ (k : ℕ). ArrivesAt (link_config g d.connections.manage) m.ends m.ids h.connected.lines k (named t.0.partner k hop.pdu) cause s.held s.ends' links') here
+      (subst (λ (z : Channel). ArrivesAt (link_config g d.connections.manage) m.ends m.ids h.connected.lines s.place (named z.partner s.place hop.pdu) cause s.held s.ends' links') channel s.arrives) in
       let ahead : IsAhead d.clock real told.unpassed taker.conn.rx bodies = subst (λ (z : Pdu). IsAhead d.clock z told.unpassed taker.conn.rx bodies) t.1 (told.ahead taker.conn taker.is_conn) in
       let more = ahead_came (link_config g d.connections.manage) d.clock (LinkCloud m.config m.channels ps below) [] d.connections.flows.journal.ends d.connections.flows.conns h.connected.lines (link_is_config g d.connections.manage st.managed) st.journal st.own h.connected.tied place t.2.0 taker.conn is_at on.takes.allocated
-            real awaited.death told.unpassed bodies cause s.held s.ends' links' names kind awaited.here awaited.alive (told.count t.2.0 on.takes.is_conn.end) ahead arrives in
+      real awaited.death told.unpassed bodies cause s.held s.ends' links' names kind awaited.here awaited.alive (told.count t.2.0 on.takes.is_conn.end) ahead arrives in
       (t.2.0, on.takes.is_conn.end, record { got = more.got; is = ap (λ (z : ChannelsSeen). z.ends) s.new_is ∙ more.is; texts = more.texts })

@@ -139,19 +139,18 @@ impl Dif {
     }
 
     /// The bytes of the SDUs that a piece would make whole at the end of a place. The piece is not taken.
-    fn bodies_ahead(
-        &self,
-        alloc: Global,
-        place: usize,
-        pdu: &PduView<'_>,
-    ) -> Result<Bodies, Memory>
+    fn bodies_ahead(&self, alloc: Global, place: usize, pdu: &PduView<'_>) -> Result<Bodies, Memory>
         requires clock { self.now.clock ≤ 10_000_000 }
         requires conn { place < length self.now.connections.flows.conns }
         ensures { IfOk result (λ bodies. IsToldAhead self.now place (pdu_of pdu.now) bodies) }
     {
         let links = &self.connections.flows;
         let unpassed = links.unpassed(place);
-        links.conns.at(place).rx.ahead(alloc, self.clock, pdu, unpassed)
+        links
+            .conns
+            .at(place)
+            .rx
+            .ahead(alloc, self.clock, pdu, unpassed)
     }
 
     /// The management of the member at a place after it handled, in turn, the SDUs that came to the end of its link of a number
