@@ -12,6 +12,7 @@ use Rattle.rina_channel.specs.declared.channel.Channel.{Channel}
 use Rattle.rina_channel.specs.Channels.{ChannelsSeen, HasLive}
 use Rattle.rina_channel.specs.Coming.{IsTaker, LeavesOff, TakesOnLink, TakesPiece}
 use Rattle.rina_channel.specs.Names.{named}
+use Rattle.rina_data.specs.declared.process.IpcProcess.{IpcProcess}
 use Rattle.rina_data.specs.declared.step.Took.{Took}
 use Rattle.rina_data.specs.declared.step.Took.TheVariants as took
 use Rattle.rina_data.specs.Configs.{config_of}
@@ -183,13 +184,13 @@ module _ (d : Dif) (at number since : ℕ) (port : Port) (hop : Hop) (lines : Li
 
 -- where there was something to handle
 brought_some : (d : Dif) (at number since : ℕ) (port : Port) (hop : Hop) (lines : List Direction) (below : Seen) → Holds d lines below → AreKept below → IsOldest (config_of d.settings) below port since hop → IsThere (seen_of d) below since hop → at < length d.settings.members → HasLive (seen_of d).processes at number port
-    → (told : Took) (mid : Dif) → TakesFor d at since port hop (Ok told) mid → mid ≡ record d { processes = mid.processes; flows = mid.flows; connections = mid.connections } → (w : Handled) → BringsAhead d at number since port hop w → IsHandled mid at number w
-brought_some d at number since port hop lines below h kept o there lt live told mid takes whole w ahead =
-    let z : Dif = record d { processes = mid.processes; flows = mid.flows; connections = mid.connections } in
+    → (told : Took) (taken : Dif) → TakesFor d at since port hop (Ok told) taken → taken ≡ record d { processes = taken.processes; flows = taken.flows; connections = taken.connections } → (w : Handled) → BringsAhead d at number since port hop w → IsHandled taken at number w
+brought_some d at number since port hop lines below h kept o there lt live told taken takes whole w ahead =
+    let z : Dif = record d { processes = taken.processes; flows = taken.flows; connections = taken.connections } in
     let t : HasTaken d lines h.connected.lines below at since port hop told z = subst (λ (y : Dif). HasTaken d lines h.connected.lines below at since port hop told y) whole (takes lines below h kept there o) in
-    subst (λ (y : Dif). IsHandled y at number w) (sym whole) (is_handled d at number since port hop lines below h kept o lt live w ahead told mid.processes mid.flows mid.connections t)
+    subst (λ (y : Dif). IsHandled y at number w) (sym whole) (is_handled d at number since port hop lines below h kept o lt live w ahead told taken.processes taken.flows taken.connections t)
 
 pub brought : (d : Dif) (at number since : ℕ) (port : Port) (hop : Hop) (lines : List Direction) (below : Seen) → Holds d lines below → AreKept below → IsOldest (config_of d.settings) below port since hop → IsThere (seen_of d) below since hop → at < length d.settings.members → HasLive (seen_of d).processes at number port
-    → (told : Took) (mid : Dif) → TakesFor d at since port hop (Ok told) mid → mid ≡ record d { processes = mid.processes; flows = mid.flows; connections = mid.connections } → (found : Option Handled) → MayBring d at number since port hop found → IfSome found (IsHandled mid at number)
-brought d at number since port hop lines below h kept o there lt live told mid takes whole (Some w) ahead = brought_some d at number since port hop lines below h kept o there lt live told mid takes whole w ahead
-brought d at number since port hop lines below h kept o there lt live told mid takes whole None none = tt
+    → (told : Took) (taken : Dif) → TakesFor d at since port hop (Ok told) taken → taken ≡ record d { processes = taken.processes; flows = taken.flows; connections = taken.connections } → (found : Option Handled) → MayBring d at number since port hop found → IfSome found (IsHandled taken at number)
+brought d at number since port hop lines below h kept o there lt live told taken takes whole (Some w) ahead = brought_some d at number since port hop lines below h kept o there lt live told taken takes whole w ahead
+brought d at number since port hop lines below h kept o there lt live told taken takes whole None none = tt

@@ -139,12 +139,13 @@ impl Dif {
     fn piece_taker<'a>(&self, port: Port, came: &Came<'a>) -> Option<(usize, PduView<'a>)>
         ensures { OwnPieceTakenBy self.now came.now.since port (hop_of came.now.hop) result }
     {
-        if !self.is_for_link(came) {
-            return None;
-        }
-        match came.hop.pdu.kind {
-            PduKind::Ack => None,
-            PduKind::Piece => self.connections.taker(port, &came.hop.pdu),
+        if self.is_for_link(came) {
+            match came.hop.pdu.kind {
+                PduKind::Piece => self.connections.taker(port, &came.hop.pdu),
+                PduKind::Ack => None,
+            }
+        } else {
+            None
         }
     }
 
@@ -158,6 +159,7 @@ impl Dif {
         port: Port,
         came: &Came<'_>,
     ) -> Result<Option<Handled>, Memory>
+        requires clock { self.now.clock ≤ 10_000_000 }
         requires stands { (below : Seen) × Stands self.now below }
         requires at { at < length self.now.settings.members }
         ensures { IfOk result (MayBring self.now at number came.now.since port (hop_of came.now.hop)) }

@@ -10,9 +10,9 @@ use Rattle.rina_dif.proofs.dif.Dif.bodies_ahead.Goals as goal
 
 pub returns : goal.returns
 returns c =
-    IfOk-weaker c.ahead.result (IsAhead c.args.self.now.clock (pdu_of c.args.pdu.now) c.unpassed.result c.at.result.now.rx) (IsToldAhead c.args.self.now c.args.place (pdu_of c.args.pdu.now))
+    IfOk-weaker c.ahead.result (IsAhead c.args.self.now.clock (pdu_of c.args.pdu.now) c.unpassed-unpassed.result c.at.result.now.rx) (IsToldAhead c.args.self.now c.args.place (pdu_of c.args.pdu.now))
     (λ bodies told. record {
-      unpassed = c.unpassed.result;
-      count = c.unpassed.ensures;
-      ahead = λ conn is. subst (λ (k : Conn). IsAhead c.args.self.now.clock (pdu_of c.args.pdu.now) c.unpassed.result k.rx bodies) (same_Some c.at.result.now conn (sym c.at.ensures ∙ is)) told;
+      unpassed = c.unpassed-unpassed.result;
+      count = c.unpassed-unpassed.ensures;
+      ahead = λ conn is. subst (λ (k : Conn). IsAhead c.args.self.now.clock (pdu_of c.args.pdu.now) c.unpassed-unpassed.result k.rx bodies) (same_Some c.at.result.now conn (sym c.at.ensures ∙ is)) told;
     }) c.ahead.ensures

@@ -1,5 +1,5 @@
 -- The member handled all that came, or there was nothing to handle.
-use Rattle.std.proofs.Common.{◌≡◌, ◌<◌, length, Option, Some, subst, sym}
+use Rattle.std.proofs.Common.{◌≡◌, ℕ, ◌<◌, length, Option, Some, refl, subst, sym}
 use Rattle.std.specs.Prelude.{IfSome}
 use Rattle.std.proofs.lemmas.Option.{slice_get_within}
 use Rattle.rina_dif.specs.declared.dif.Dif.{Dif}

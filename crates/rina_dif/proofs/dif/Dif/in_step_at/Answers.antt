@@ -93,8 +93,8 @@ returns-in_err-end-clause-does g c = λ lines h.
     let hop = hop_of c.in-Some-open.hop in
     let opens = ap (option_map hop_of) (sym c.in-Some-open.is) ∙ c.open.ensures.exact in
     let there = comes_there d lines below at n p link lent.at lent.bytes.now hop kept c.requires.at h c.in-Some.ensures is_link c.in-Some-peek.ensures opens in
-    let err = err_from_is_err_and c.from_residual.result c.from_residual.ensures.1 in
-    took_none d lines below at n c.settle.new.self err.0 c.from_residual.result err.2 err.1 (c.in_err-end.ensures.does lines below h kept there (oldest_there d below link.port lent.at lent.bytes.now hop c.in-Some-peek.ensures opens))
+    let err = err_from_is_err_and c.from_residual-in_err-end.result c.from_residual-in_err-end.ensures.1 in
+    took_none d lines below at n c.settle.new.self err.0 c.from_residual-in_err-end.result err.2 err.1 (c.in_err-end.ensures.does lines below h kept there (oldest_there d below link.port lent.at lent.bytes.now hop c.in-Some-peek.ensures opens))
 
 pub handle_messages-requires-clause-stands : goal.handle_messages-requires-clause-stands
 handle_messages-requires-clause-stands g c =
@@ -114,7 +114,7 @@ handle_messages-requires-clause-stands g c =
     let there = comes_there d st.0 below at n p link lent.at lent.bytes.now hop kept c.requires.at st.1 c.in-Some.ensures is_link c.in-Some-peek.ensures opens in
     let kept' = g.met.F.Facility.kept c.pass.new.self c.pass.ensures.valid in
     let t = took_it d st.0 below at n p link lent.at lent.bytes.now hop c.key-key.result c.in_ok-end.end c.settle.new.self (g.F.Facility.seen c.pass.new.self) kept kept' c.requires.at st.1 c.in-Some.ensures is_link c.in-Some-peek.ensures opens c.key-key.ensures there c.in_ok-end.ensures.does c.pass.ensures.does in
-    (g.F.Facility.seen c.pass.new.self, t.lines', t.holds)
+    (g.F.Facility.seen c.pass.new.self, (t.lines', t.holds))
 
 pub handle_messages-requires-clause-alive : goal.handle_messages-requires-clause-alive
 handle_messages-requires-clause-alive g c = c.in_ok-end.ensures.failed ∙ c.requires.alive
@@ -164,8 +164,8 @@ returns-clause-does g c = λ lines h.
 
 pub returns-in_err-end-clause-leaves : goal.returns-in_err-end-clause-leaves
 returns-in_err-end-clause-leaves g c =
-    let err = err_from_is_err_and c.from_residual.result c.from_residual.ensures.1 in
-    in_failed c.from_residual.result err.0 c.args.self.now c.settle.new.self (Some c.args.at) err.1 c.in_err-end.ensures.leaves
+    let err = err_from_is_err_and c.from_residual-in_err-end.result c.from_residual-in_err-end.ensures.1 in
+    in_failed c.from_residual-in_err-end.result err.0 c.args.self.now c.settle.new.self (Some c.args.at) err.1 c.in_err-end.ensures.leaves
 
 pub returns-clause-leaves : goal.returns-clause-leaves
 returns-clause-leaves g c =
