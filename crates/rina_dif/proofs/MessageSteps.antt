@@ -1,5 +1,5 @@
 -- A clock step offers a message where nothing else is due.
-use Rattle.std.proofs.Common.{◌≡◌, ◌∙◌, ℕ, ◌<◌, Bool, List, length, slice_get, Option, Some, None, Result, Ok, refl, sym, ap, subst, arith, inl, inr}
+use Rattle.std.proofs.Common.{◌≡◌, ◌∙◌, ℕ, ◌<◌, Bool, List, length, slice_get, Option, Some, None, Result, Ok, Err, OnErr, refl, sym, ap, subst, arith, inl, inr}
 use Rattle.std.proofs.lemmas.Option.{slice_get_within}
 use Rattle.rina_base.specs.declared.number.Port.{Port}
 use Rattle.rina_iface.specs.declared.error.FreeError.{FreeError}
@@ -8,6 +8,8 @@ use Rattle.rina_law.specs.Direction.{Direction}
 use Rattle.rina_member.specs.declared.management.Management.{Management}
 use Rattle.rina_data.specs.declared.step.ClockStep.{ClockStep}
 use Rattle.rina_data.specs.declared.step.ClockStep.TheVariants as step
+use Rattle.rina_data.specs.declared.step.StepError.{StepError}
+use Rattle.rina_data.specs.declared.step.StepError.TheVariants as why
 use Rattle.rina_data.specs.Configs.{config_of}
 use Rattle.rina_data.proofs.Finding.{there}
 use Rattle.rina_dif_law.specs.Sending.{home}
@@ -19,6 +21,7 @@ use Rattle.rina_dif.specs.Holding.{Holds, LinksStand, Stands}
 use Rattle.rina_dif.specs.Lower.{FreesBelow}
 use Rattle.rina_dif.specs.MessageSteps.{IfIdle, NoMessageAt}
 use Rattle.rina_dif.specs.Messaging.{IsMessageDue, OffersAmong, OffersFirst}
+use Rattle.rina_dif.specs.Shown.{seen_of}
 use Rattle.rina_dif.specs.Telling.{TellNeighbours}
 use Rattle.rina_dif.proofs.Leaves.{has_process}
 
@@ -121,6 +124,18 @@ none_serves d lines below below' i node d1 d' here same s offers =
     let none : NoMessageAt d below node = λ k at_home links place number due. (let place_is = same_some (home node (config_of d.settings).members) i k here at_home in o.0 links place number (subst (λ (n : ℕ). IsMessageDue d below links.lines n place number) (sym place_is) due)) in
     let stays : d1 ≡ d' = same ∙ sym o.1 in
     subst (λ (z : Dif). ServesAnyHere d lines below node (Ok step.Idle) z below') stays (record { lines' = s.0.lines'; does = inl (s.0.does, none); holds = s.0.holds }, tt)
+
+-- memory was not found for the message, and nothing changes
+pub serves_none : (d : Dif) (lines : List Direction) (below below' : Seen) (node : ℕ) (r : Result ClockStep StepError) (e : StepError) (d' : Dif) → e ≡ why.Memory → r ≡ Err e → d' ≡ d → below' ≡ below → Holds d lines below → ServesAnyHere d lines below node r d' below'
+serves_none d lines below below' node r e d' is err same low h =
+    let holds : Holds d' lines below' = subst (Holds d' lines) (sym low) (subst (λ (z : Dif). Holds z lines below) (sym same) h) in
+    subst (λ (v : Result ClockStep StepError). ServesAnyHere d lines below node v d' below') (sym (err ∙ ap (λ (z : StepError). Err z) is)) ((ap seen_of same, holds), low)
+
+pub stays_none : (d d' : Dif) (r : Result ClockStep StepError) (e : StepError) → r ≡ Err e → d' ≡ d → OnErr r (d'.connections ≡ d.connections)
+stays_none d d' r e err same = subst (λ (v : Result ClockStep StepError). OnErr v (d'.connections ≡ d.connections)) (sym err) (ap (λ (z : Dif). z.connections) same)
+
+pub manages_none : (d d' : Dif) (below : Seen) (at : Option ℕ) (node : ℕ) (r : Result ClockStep StepError) (e : StepError) → r ≡ Err e → d' ≡ d → ManagesStep r at d below node d'.managements
+manages_none d d' below at node r e err same = subst (λ (v : Result ClockStep StepError). ManagesStep v at d below node d'.managements) (sym err) (ap (λ (z : Dif). z.managements) same)
 
 -- and the management of the member that sent it has it no more
 pub message_manages : (d : Dif) (lines : List Direction) (below : Seen) (i node number : ℕ) (d1 d' : Dif) → d1 ≡ d → Holds d lines below → OffersAmong d1 lines below i (Ok (Some number)) d' → ManagesStep (Ok (step.Message number)) (Some i) d below node d'.managements
