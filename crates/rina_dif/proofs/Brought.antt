@@ -1,5 +1,5 @@
 -- What a member was told ahead of a piece is true of it once the piece was taken.
-use Rattle.std.proofs.Common.{◌≡◌, ◌∙◌, ℕ, ◌<◌, List, ◌++◌, length, slice_get, Option, Some, None, Ok, refl, sym, ap, subst, inl, inr}
+use Rattle.std.proofs.Common.{◌≡◌, ◌∙◌, ℕ, ◌<◌, List, ◌++◌, length, slice_get, Option, Some, None, Ok, sym, ap, subst, inl, inr}
 use Rattle.std.specs.Prelude.{IfSome}
 use Rattle.std.proofs.lemmas.Option.{same_Some}
 use Rattle.rina_account.specs.declared.ledger.Off.{Off}

@@ -1,5 +1,5 @@
 -- A DIF holds after a member handled the messages of a link.
-use Rattle.std.proofs.Common.{◌≡◌, ◌∙◌, ℕ, ◌-◌, List, [], length, length-set, map, slice_get, slice_set, Some, refl, sym, ap, subst, inl, inr}
+use Rattle.std.proofs.Common.{◌≡◌, ◌∙◌, ℕ, List, [], length, length-set, map, slice_get, slice_set, Some, refl, sym, ap, subst, inl, inr}
 use Rattle.std.proofs.lemmas.List.{map-set}
 use Rattle.rina_iface.specs.Seen.{Seen}
 use Rattle.rina_iface.proofs.Changed.{set_at, slice_set-same}

@@ -1,5 +1,5 @@
 -- What the receiver tells ahead is of the connection at the place.
-use Rattle.std.proofs.Common.{◌≡◌, ◌∙◌, List, Some, subst, sym}
+use Rattle.std.proofs.Common.{◌∙◌, subst, sym}
 use Rattle.std.proofs.lemmas.Option.{same_Some}
 use Rattle.std.proofs.lemmas.Result.{IfOk-weaker}
 use Rattle.rina_base.specs.Pdus.{pdu_of}

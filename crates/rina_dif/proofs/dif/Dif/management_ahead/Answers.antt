@@ -1,5 +1,5 @@
 -- What waits is handled, and what comes after it.
-use Rattle.std.proofs.Common.{◌≡◌, List, ℕ, subst, sym}
+use Rattle.std.proofs.Common.{List, ℕ, subst, sym}
 use Rattle.std.proofs.lemmas.Result.{IfOk-weaker}
 use Rattle.rina_base.specs.Pdus.{pdu_of}
 use Rattle.rina_data.proofs.Finding.{there}
