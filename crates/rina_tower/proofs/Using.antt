@@ -96,7 +96,7 @@ ins_at d lines below node n (Err errors.NoLink) d' lines' below' ipc st h = ins_
 pub takes_use : (d d' : Dif) (below : Seen) (node n : ℕ) (r : Result InStep StepError) (below' : Seen) → AreIpc (config_of d.settings).members → Stands d below → ((lines : List Direction) → Holds d lines below → TakesHome d lines below node n r d' below') → MayUse below below'
 takes_use d d' below node n r below' ipc st does =
     let t = does st.0 st.1 in
-    ins_at (seen_of d) st.0 below node n r (seen_of d') t.lines' below' ipc st.1.standing t.does
+    ins_at (seen_of d) st.0 below node n r (seen_of t.taken) t.lines' below' ipc st.1.standing t.does
 
 -- What leaves
 

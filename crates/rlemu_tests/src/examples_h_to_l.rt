@@ -235,7 +235,8 @@ journal w
 7 2 g 2 0.0 'hello
 end 2
 ====
-# The one link of d is cut: its flow fails, and says for which flow below. What a still sends finds no way on at c, and is written off there.
+# The one link of d is cut: its flow fails, and says for which flow below. What a sends before it hears of that finds no way on at c, and is
+# written off there; and then a has no next hop to d.
 nodes = [\"a\", \"b\", \"c\", \"d\"]
 [[wire]]
 name = \"w1\"
@@ -271,18 +272,18 @@ link = [ { on = \"w1\", a = \"a\", b = \"b\" }, { on = \"w2\", a = \"b\", b = \"
 flow = [ { cube = 1, from = { node = \"a\", app = \"s\", label = \"p\" }, to = { node = \"d\", app = \"t\", label = \"q\" } } ]
 %%
 cut w3
-tick 4
 send p 'x
 tick 4
+send p 'y
 ledger d c
 ----
 1 0 ok
 1 0 state q failed Below w3/d/1
-2 4 ok
-3 4 sent 1.0
-4 8 ok
-5 8 off data 1.1.0 NoRoute 4
-end 8
+2 0 sent 1.0
+3 4 ok
+4 4 no NoRoute 4
+5 4 off data 1.1.0 NoRoute 4
+end 4
 ====
 # Three wires, and a lifetime that is too short for them: at the third hop 5 ticks are left, and 10 are charged.
 nodes = [\"a\", \"b\", \"c\", \"d\"]
