@@ -44,7 +44,7 @@ open_end (Some e) h = (e, refl, same_Some e.state Allocated h)
 -- the wires once the flow of an allocated end was freed
 emptied : (a : Air) (port : Port) (line : Line) (place : ℕ) (e : End) → wire_at a port.fac ≡ Some line → place_in port line.ends ≡ Some place → slice_get line.ends place ≡ Some e → e.state ≡ Allocated
     → (on_end a port freed_at).wires ≡ slice_set a.wires port.fac (record line { ends = closed_both line.ends place; flights = [] })
-emptied a port line place e wire found is open = rw (wire, found, is, open) refl
+emptied a port line place e wire found is state = rw (wire, found, is, state) refl
 
 pub give_ups_empty : GiveUpsEmptyOneWire
 give_ups_empty fac frame t t' g =
