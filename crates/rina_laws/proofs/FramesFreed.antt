@@ -11,7 +11,7 @@ use Rattle.rina_iface.specs.State.{with_state}
 use Rattle.rina_iface.proofs.Changed.{set_at, slice_get-set_other, slice_get-set_same}
 use Rattle.rina_tower.specs.declared.tower.Tower.{Tower}
 use Rattle.rina_tower.specs.Ranks.{seen_of}
-use Rattle.rina_wire.specs.Air.{Air, Line, end_at, on_end, seen_of as seen_of_wires, wire_at}
+use Rattle.rina_wire.specs.Air.{Air, Line, end_at, on_end, put, put_at, put_end, seen_of as seen_of_wires, wire_at}
 use Rattle.rina_wire.specs.Free.{closed_at, closed_both, closed_in, freed_at}
 use Rattle.rina_wire.specs.Send.{mate}
 use Rattle.rina_wire.proofs.Carried.{end_is, has_line}
@@ -44,7 +44,11 @@ open_end (Some e) h = (e, refl, same_Some e.state Allocated h)
 -- the wires once the flow of an allocated end was freed
 emptied : (a : Air) (port : Port) (line : Line) (place : ℕ) (e : End) → wire_at a port.fac ≡ Some line → place_in port line.ends ≡ Some place → slice_get line.ends place ≡ Some e → e.state ≡ Allocated
     → (on_end a port freed_at).wires ≡ slice_set a.wires port.fac (record line { ends = closed_both line.ends place; flights = [] })
-emptied a port line place e wire found is state = rw (wire, found, is, state) refl
+emptied a port line place e wire found is state =
+    let after : Line = record line { ends = closed_both line.ends place; flights = [] } in
+    let done : freed_at line place e ≡ after = rw state refl in
+    let there : put_end freed_at line (place_in port line.ends) ≡ after = ap (put_end freed_at line) found ∙ ap (put_at freed_at line place) is ∙ done in
+    ap (λ (o : Option Line). put a.wires port.fac (option_map (λ (l : Line). put_end freed_at l (place_in port l.ends)) o)) wire ∙ ap (λ (l : Line). slice_set a.wires port.fac l) there
 
 pub give_ups_empty : GiveUpsEmptyOneWire
 give_ups_empty fac frame t t' g =
