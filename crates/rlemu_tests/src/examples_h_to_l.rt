@@ -331,6 +331,66 @@ ledger d c
 4 10 off data 1.1.0 Expired 5 10
 end 10
 ====
+# Nothing comes over wire ab. What the members have to say there is never acknowledged, so the link gives up at tick 112, and its
+# wire is freed: the link is lost at both ends. The flow from a to c goes on over its own link.
+nodes = [\"a\", \"b\", \"c\"]
+[[wire]]
+name = \"ab\"
+ends = [\"a\", \"b\"]
+delay = 2
+life = 10
+largest = 1500
+storm = { seed = 1, lose = 1000, repeat = 0, spread = 0 }
+[[wire]]
+name = \"ac\"
+ends = [\"a\", \"c\"]
+delay = 2
+life = 10
+largest = 1500
+[[wire]]
+name = \"bc\"
+ends = [\"b\", \"c\"]
+delay = 2
+life = 10
+largest = 1500
+[[dif]]
+name = \"d\"
+rank = 1
+static = true
+pdu = 96
+widths = { addr = 1, cep = 1, len = 2, seq = 2 }
+queue = 64
+policy = \"strict\"
+wait = 500
+manage = { mpl = 40, r = 30, a = 2, retry = 10, window = 8 }
+cube = [ { id = 1, kind = \"datagram\", mpl = 40, window = 16, largest = 80 } ]
+member = [ { node = \"a\", addr = 1 }, { node = \"b\", addr = 2 }, { node = \"c\", addr = 3 } ]
+link = [ { on = \"ab\", a = \"a\", b = \"b\" }, { on = \"ac\", a = \"a\", b = \"c\" }, { on = \"bc\", a = \"b\", b = \"c\" } ]
+flow = [ { cube = 1, from = { node = \"a\", app = \"s\", label = \"p\" }, to = { node = \"c\", app = \"t\", label = \"q\" } } ]
+%%
+cut bc
+tick 111
+rib d b /link/2
+tick 1
+rib d b /link/2
+tick 2
+rib d a /link/1
+send p 'on
+tick 2
+read q
+----
+1 0 ok
+2 111 ok
+3 111 obj /link/2 value '1:1
+4 112 ok
+5 112 obj /link/2 value x
+6 114 ok
+7 114 obj /link/1 value '3:1
+8 114 sent 1.0
+9 116 ok
+10 116 got 116 'on
+end 116
+====
 # A frame is lost on the wire: no ledger has it, and the journal of the wire has its sending alone.
 nodes = [\"a\", \"b\"]
 [[wire]]
