@@ -50,6 +50,7 @@ use Rattle.rina_dif.proofs.FreedBelow.{holds_freed}
 use Rattle.rina_flows.specs.declared.flows.Flows.{Flows}
 use Rattle.rina_iface.specs.Later.{IsLater}
 use Rattle.rina_dif.specs.Shown.{seen_of}
+use Rattle.rina_dif.specs.Routing.{MayReroute}
 use Rattle.rina_dif.specs.Taking.{TakesIn}
 use Rattle.rina_dif.specs.Whole.{IsDif}
 use Rattle.rina_dif.proofs.Causing.{LowerStays, caused_on, lower_later, lower_same, none_is}
@@ -209,14 +210,19 @@ out_is_step refuses d below i n r d' below' kept kept' st outs keeps =
       others = λ other lines apart h. holds_aside other lines below below' (outs_aside refuses (seen_of other) (seen_of d) st.0 below i n r (seen_of d') below' kept kept' st.1.standing apart outs) h;
     }
 
+-- other next hops are nothing to it
+silent_rerouted : (d mid d' : DifSeen) → MayReroute mid d' → IsSilent d mid → IsSilent d d'
+silent_rerouted d mid d' (inl same) s = subst (IsSilent d) (sym same) s
+silent_rerouted d mid d' (inr r) s = subst (IsSilent d) (sym r.is) (record { later = s.later; number = s.number; same = s.same })
+
 pub in_is_step : (d : Dif) (below : Seen) (i n : ℕ) (r : Result InStep StepError) (d' : Dif) (below' : Seen) → AreKept below → AreKept below' → (st : Stands d below) → TakesIn d st.0 below i n r d' below' → IsStep d below d' below'
 in_is_step d below i n r d' below' kept kept' st t =
-    let clock = ins_clock (seen_of d) st.0 below i n r (seen_of d') t.lines' below' t.does in
-    let silent = ins_silent (seen_of d) st.0 below i n r (seen_of d') t.lines' below' st.1.standing t.does in
+    let clock = ins_clock (seen_of d) st.0 below i n r (seen_of t.taken) t.lines' below' t.does in
+    let silent = silent_rerouted (seen_of d) (seen_of t.taken) (seen_of d') t.rerouted (ins_silent (seen_of d) st.0 below i n r (seen_of t.taken) t.lines' below' st.1.standing t.does) in
     record {
       goes_on = record { later = silent.later; facility = facility (seen_of d') t.lines' below' t.holds.standing; clock = t.holds.standing.clock ∙ clock ∙ sym st.1.standing.clock };
       silent = silent;
-      others = λ other lines apart h. holds_aside other lines below below' (ins_aside (seen_of other) (seen_of d) st.0 below i n r (seen_of d') t.lines' below' kept kept' st.1.standing apart t.does) h;
+      others = λ other lines apart h. holds_aside other lines below below' (ins_aside (seen_of other) (seen_of d) st.0 below i n r (seen_of t.taken) t.lines' below' kept kept' st.1.standing apart t.does) h;
     }
 
 -- what comes with time

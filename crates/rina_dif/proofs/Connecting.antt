@@ -1,7 +1,6 @@
 -- The links of a DIF that was made get their management connections.
-use Rattle.std.proofs.Common.{◌≡◌, ◌≢◌, ◌∙◌, ℕ, zero, suc, ◌+◌, ◌<◌, ◌≤◌, ◌^◌, ◌==◌, Bool, true, false, cond, List, [], ◌∷◌, ◌++◌, filter, length, map, slice_get, take, option_map, Option, Some, None, refl, sym, ap, subst, arith, inl, inr}
-use Rattle.std.proofs.lemmas.Option.{slice_get-map, slice_get_within}
-use Rattle.rina_base.specs.declared.number.FlowName.{FlowName}
+use Rattle.std.proofs.Common.{◌≡◌, ◌∙◌, ℕ, zero, suc, ◌+◌, ◌==◌, Bool, true, false, cond, List, [], ◌∷◌, filter, map, slice_get, option_map, Option, Some, refl, sym, ap, arith, inl, inr}
+use Rattle.std.proofs.lemmas.Option.{slice_get_within}
 use Rattle.rina_base.specs.declared.number.Port.{Port}
 use Rattle.rina_base.specs.declared.pdu.Pdu.{Pdu}
 use Rattle.rina_channel.specs.declared.channel.Channel.{Channel}
@@ -9,7 +8,6 @@ use Rattle.rina_channel.specs.Channels.{HasLive}
 use Rattle.rina_channel.specs.LinkCloud.{IsOn}
 use Rattle.rina_iface.specs.declared.ends.End.{End}
 use Rattle.rina_iface.specs.Seen.{Seen, end_of}
-use Rattle.rina_law.specs.declared.entry.Entry.{Entry}
 use Rattle.rina_data.specs.declared.link.Link.{Link}
 use Rattle.rina_data.specs.declared.process.IpcProcess.{IpcProcess}
 use Rattle.rina_data.specs.declared.settings.Member.{Member as Kept}
@@ -19,7 +17,7 @@ use Rattle.rina_data.specs.Deciding.{process_of}
 use Rattle.rina_data.specs.Process.{Process}
 use Rattle.rina_data.proofs.Finding.{there}
 use Rattle.rina_queue.proofs.Places.{first_passes, kept_at}
-use Rattle.rina_dif.specs.Laying.{AreApart, AreLinkedUp, IsNewLink, ends_of, links_from, ports_at}
+use Rattle.rina_dif.specs.Laying.{AreApart, AreLinkedUp, ends_of, links_from, ports_at}
 use Rattle.rina_dif.specs.Linking.{AreLinks, IsChannelOf}
 use Rattle.rina_dif.proofs.Bare.{map_at}
 use Rattle.rina_dif.proofs.Made.{idle, is_node, link_on}

@@ -224,6 +224,13 @@ in_noted r r' d d' node at here same h =
 pub in_took : (key key' : Key) (end : Took) (d d' : Dif) (o : Option ℕ) → key' ≡ key → ChangesOnly (IsTaker d o key) o d d' → ChangesOnly (MayTake (Ok (ins.Took key' end)) d o) o d d'
 in_took key key' end d d' o same h = subst (λ (k : Key). ChangesOnly (IsTaker d o k) o d d') (sym same) h
 
+-- the IPC process handled messages of management besides
+pub in_handled : (done : InStep) (d mid d' : Dif) (at : ℕ) → ChangesOnly (MayTake (Ok done) d (Some at)) (Some at) d mid → d' ≡ record mid { processes = d'.processes; connections = record mid.connections { flows = d'.connections.flows }; managements = d'.managements } → ChangesProcess (Some at) mid.processes d'.processes → ChangesOnly (MayTake (Ok done) d (Some at)) (Some at) d d'
+in_handled done d mid d' at first whole then = (
+  subst (λ (flows : Flows). ChangesAt (MayTake (Ok done) d (Some at)) d.flows flows) (sym (ap (λ (z : Dif). z.flows) whole)) first.0,
+  (λ i other. then.0 i other ∙ first.1.0 i other, then.1 ∙ first.1.1),
+)
+
 -- What comes with time
 
 pub clock_failed : (r : Result ClockStep StepError) (e : StepError) (d d' : Dif) (o : Option ℕ) → r ≡ Err e → ChangesOnly (λ i. ⊥) o d d' → ChangesOnly (MayClock r d o) o d d'

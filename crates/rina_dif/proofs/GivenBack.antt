@@ -1,17 +1,15 @@
 -- The CEP-id of an end is given back as the end ends.
-use Rattle.std.proofs.Common.{◌≡◌, ◌≢◌, ℕ, zero, suc, ◌==◌, [], Option, None, ◌+◌, ◌*◌, ◌<◌, ◌≤◌, List, ◌∷◌, ◌++◌, ◌⊎◌, inl, inr, length, length-set, map, slice_get, slice_set, Some, option_map, refl, sym, ◌∙◌, ap, subst, arith}
+use Rattle.std.proofs.Common.{◌≡◌, ◌≢◌, ℕ, zero, suc, ◌==◌, [], Option, None, ◌+◌, ◌*◌, ◌<◌, ◌≤◌, List, ◌∷◌, ◌++◌, ◌⊎◌, inl, inr, length, length-set, slice_get, Some, option_map, refl, sym, ◌∙◌, ap, subst, arith}
 use Rattle.std.proofs.lemmas.List.{length-map}
 use Rattle.std.proofs.lemmas.List.Quantifiers.{position-Some}
 use Rattle.std.proofs.lemmas.Option.{none-some, same_Some, slice_get-map, slice_get_within}
 use Rattle.rina_conn.specs.declared.conn.Conn.{Conn}
-use Rattle.rina_cube.specs.declared.Cube.{Cube}
 use Rattle.rina_cube.specs.Cubes.{IsCube, delta_of}
 use Rattle.rina_ids.specs.Ids.{IsInUse, given_back}
 use Rattle.rina_ids.specs.Members.{CepIds, with_rest}
 use Rattle.rina_iface.specs.declared.ends.End.{End}
 use Rattle.rina_iface.specs.Seen.{Seen}
 use Rattle.rina_law.specs.Direction.{Direction}
-use Rattle.rina_rest.specs.Flows.{Endpoint}
 use Rattle.rina_rest.proofs.Keeping.{standing_used}
 use Rattle.rina_rest.proofs.Slots.{given_back_same}
 use Rattle.rina_iface.proofs.Changed.{slice_get-set_same}

@@ -1,35 +1,28 @@
 -- A DIF holds after a member handled the messages of a link.
-use Rattle.std.proofs.Common.{◌≡◌, ◌∙◌, ℕ, ◌-◌, ◌≤◌, false, List, [], length, length-set, map, slice_get, slice_set, Some, refl, sym, ap, subst, arith, inl, inr}
+use Rattle.std.proofs.Common.{◌≡◌, ◌∙◌, ℕ, List, [], length, length-set, map, slice_get, slice_set, Some, refl, sym, ap, subst, inl, inr}
 use Rattle.std.proofs.lemmas.List.{map-set}
-use Rattle.std.proofs.lemmas.Option.{same_Some}
-use Rattle.rina_iface.specs.declared.ends.End.{End}
 use Rattle.rina_iface.specs.Seen.{Seen}
 use Rattle.rina_iface.proofs.Changed.{set_at, slice_set-same}
 use Rattle.rina_law.specs.Direction.{Direction}
-use Rattle.rina_agent.specs.declared.agent.Agent.{Agent}
 use Rattle.rina_plan.specs.declared.dif.LinkPlan.{LinkPlan}
 use Rattle.rina_data.specs.declared.link.Route.{Route}
 use Rattle.rina_data.specs.declared.process.IpcProcess.{IpcProcess}
 use Rattle.rina_data.specs.declared.settings.Member.{Member}
 use Rattle.rina_data.specs.Configs.{config_of}
 use Rattle.rina_data.specs.Deciding.{process_of}
-use Rattle.rina_data.specs.Process.{Process}
 use Rattle.rina_dif_law.specs.Dif.{DifSeen, with_process}
 use Rattle.rina_dif_law.specs.Written.{AreWrittenOff}
-use Rattle.rina_flood.specs.Members.{IsRunOf, MembersSeen}
 use Rattle.rina_flows.specs.declared.flows.Flows.{Flows}
 use Rattle.rina_channel.specs.FlowLaws.{FlowsStand}
 use Rattle.rina_member.specs.declared.management.Management.{Management}
 use Rattle.rina_dif.specs.declared.dif.Dif.{Dif}
 use Rattle.rina_dif.specs.Connected.{AreConnected}
-use Rattle.rina_dif.specs.Flooding.{AreFlooding, handled_at, link_end, members_seen, offered_at}
-use Rattle.rina_dif.specs.Handling.{HandlesInTurn, PassesAll, unpassed_sdus}
+use Rattle.rina_dif.specs.Flooding.{handled_at, link_end, members_seen, offered_at}
 use Rattle.rina_dif.specs.Holding.{Holds, LinksStand}
 use Rattle.rina_dif.specs.LinkDue.{IsLinkEnd}
 use Rattle.rina_dif.specs.Managing.{AreManagedBy, IsManaged, agents_of}
 use Rattle.rina_dif.specs.Routing.{with_routes}
 use Rattle.rina_dif.specs.Shown.{seen_of}
-use Rattle.rina_dif.proofs.Causing.{process_caused}
 use Rattle.rina_dif.proofs.Closing.{flows_stand}
 use Rattle.rina_dif.proofs.Connected.{kept_by}
 use Rattle.rina_dif.proofs.Hearing.{agent_at, turn}

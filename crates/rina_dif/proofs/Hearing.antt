@@ -1,13 +1,12 @@
 -- A member handles the messages of a link one after the other, as flooding sees it.
-use Rattle.std.proofs.Common.{◌≡◌, ◌∙◌, ℕ, zero, suc, ◌+◌, ◌<◌, ◌≤◌, true, false, List, [], ◌∷◌, ◌++◌, drop, length, map, slice_get, slice_set, set-set, take, Option, Some, None, option_map, Ok, refl, sym, ap, subst, inl, inr, arith}
+use Rattle.std.proofs.Common.{◌≡◌, ◌∙◌, ℕ, zero, suc, ◌+◌, ◌≤◌, false, List, [], ◌∷◌, ◌++◌, drop, length, map, slice_get, slice_set, set-set, take, Option, Some, None, option_map, Ok, refl, sym, ap, subst, inl, inr, arith}
 use Rattle.std.proofs.lemmas.Bool.{cases_Bool, true≢false}
-use Rattle.std.proofs.lemmas.List.{length-map, length-take-le, map-set}
+use Rattle.std.proofs.lemmas.List.{length-map, length-take-le}
 use Rattle.std.proofs.lemmas.Option.{slice_get-map, slice_get_within}
 use Rattle.rina_agent.specs.declared.agent.Agent.{Agent}
 use Rattle.rina_agent.specs.declared.message.ManagementMessage.{ManagementMessage}
 use Rattle.rina_agent.specs.declared.message.ManagementMessage.TheVariants.{ToMember, ToNeighbour}
 use Rattle.rina_agent.specs.Rows.{handled}
-use Rattle.rina_channel.specs.Standing.{IsStanding}
 use Rattle.rina_data.specs.Configs.{config_of}
 use Rattle.rina_enrol.specs.declared.message.LinkMessage.{LinkMessage}
 use Rattle.rina_enrol.specs.declared.message.LinkMessage.TheVariants as messages
@@ -22,7 +21,7 @@ use Rattle.rina_flood.proofs.Members.{handles_run}
 use Rattle.rina_flood.proofs.Places.{drop_at}
 use Rattle.rina_iface.specs.declared.ends.End.{End}
 use Rattle.rina_iface.specs.Seen.{Seen}
-use Rattle.rina_iface.proofs.Changed.{slice_get-set_other, slice_get-set_same, slice_set-same}
+use Rattle.rina_iface.proofs.Changed.{slice_get-set_other, slice_get-set_same}
 use Rattle.rina_law.specs.declared.entry.Entry.{Entry}
 use Rattle.rina_member.specs.declared.management.Management.{Management}
 use Rattle.rina_member.specs.Managements.{HandlesSdu, is_news}

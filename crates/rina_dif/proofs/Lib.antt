@@ -6,6 +6,7 @@ pub mod Barred
 pub mod Below
 pub mod Beside
 pub mod Bound
+pub mod Brought
 pub mod Causing
 pub mod Channels
 pub mod Claimed
@@ -79,3 +80,6 @@ pub mod Hearing
 pub mod Partners
 pub mod Passing
 pub mod Rerouted
+pub mod Turns
+pub mod Learned
+pub mod Ahead

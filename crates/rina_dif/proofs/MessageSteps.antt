@@ -1,11 +1,10 @@
 -- A clock step offers a message where nothing else is due.
-use Rattle.std.proofs.Common.{◌≡◌, ◌∙◌, ℕ, ◌<◌, Bool, List, length, slice_get, Option, Some, None, Result, Ok, Err, OnErr, refl, sym, ap, subst, arith, inl, inr}
+use Rattle.std.proofs.Common.{◌≡◌, ◌∙◌, ℕ, ◌<◌, Bool, List, length, Option, Some, None, Result, Ok, Err, OnErr, refl, sym, ap, subst, arith, inl, inr}
 use Rattle.std.proofs.lemmas.Option.{slice_get_within}
 use Rattle.rina_base.specs.declared.number.Port.{Port}
 use Rattle.rina_iface.specs.declared.error.FreeError.{FreeError}
 use Rattle.rina_iface.specs.Seen.{Seen}
 use Rattle.rina_law.specs.Direction.{Direction}
-use Rattle.rina_member.specs.declared.management.Management.{Management}
 use Rattle.rina_data.specs.declared.step.ClockStep.{ClockStep}
 use Rattle.rina_data.specs.declared.step.ClockStep.TheVariants as step
 use Rattle.rina_data.specs.declared.step.StepError.{StepError}
@@ -16,7 +15,7 @@ use Rattle.rina_dif_law.specs.Sending.{home}
 use Rattle.rina_flows.specs.declared.due.Item.{Item}
 use Rattle.rina_dif.specs.declared.dif.Dif.{Dif}
 use Rattle.rina_dif.specs.Changing.{ManagesStep}
-use Rattle.rina_dif.specs.Clocking.{IsStill, Serves, ServesAny, ServesAnyHere, ServesHere, ServesMessage, item_of}
+use Rattle.rina_dif.specs.Clocking.{IsStill, Serves, ServesAnyHere, ServesHere, ServesMessage, item_of}
 use Rattle.rina_dif.specs.Holding.{Holds, LinksStand, Stands}
 use Rattle.rina_dif.specs.Lower.{FreesBelow}
 use Rattle.rina_dif.specs.MessageSteps.{IfIdle, NoMessageAt}

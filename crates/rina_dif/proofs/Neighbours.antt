@@ -24,7 +24,7 @@ use Rattle.rina_plan.specs.declared.dif.LinkPlan.{LinkPlan}
 use Rattle.rina_member.specs.declared.management.Management.{Management}
 use Rattle.rina_member.specs.Handling.{AreUnenrolled, item_in}
 use Rattle.rina_member.specs.Knowing.{IsLaidOut}
-use Rattle.rina_member.specs.Managements.{Handles, LosesLink, entry_of, takes_item, with_sent}
+use Rattle.rina_member.specs.Managements.{Handles, entry_of, takes_item, with_sent}
 use Rattle.rina_member.specs.Short.{AreNamed, HaveFewLinks, IsShort}
 use Rattle.rina_member.specs.Start.{started}
 use Rattle.rina_member.proofs.Tells.{enters_short, lost_short, sent_short}

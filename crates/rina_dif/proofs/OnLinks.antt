@@ -11,6 +11,7 @@ use Rattle.rina_base.specs.declared.memory.Memory.{Memory as NoMemory}
 use Rattle.rina_base.specs.declared.number.Port.{Port}
 use Rattle.rina_base.specs.declared.pdu.Pdu.{Pdu}
 use Rattle.rina_base.specs.declared.pdu.PduKind.TheVariants.{Piece as APiece, Ack as AnAck}
+use Rattle.rina_base.specs.declared.pdu.PduView.{PduView}
 use Rattle.rina_base.specs.Pdus.{key_of}
 use Rattle.rina_channel.specs.declared.channel.Channel.{Channel}
 use Rattle.rina_channel.specs.Changes.{IsAwaited, LeavesLinks}
@@ -55,7 +56,7 @@ use Rattle.rina_dif.specs.Connected.{channels_seen}
 use Rattle.rina_dif.specs.Elsewhere.{ChangesProcess}
 use Rattle.rina_dif.specs.Holding.{Holds, Stands}
 use Rattle.rina_dif.specs.Shown.{seen_of}
-use Rattle.rina_dif.specs.Taking.{ArrivesOnLink, HasTaken, IsForLink, IsLinkTaker, IsOldest, LinkTakenBy, NotesAt, SettlesFor, TakesFor, took_of}
+use Rattle.rina_dif.specs.Taking.{ArrivesOnLink, HasTaken, IsForLink, IsLinkTaker, IsOldest, LinkTakenBy, NotesAt, OwnPieceTakenBy, SettlesFor, TakesFor, took_of}
 use Rattle.rina_dif.proofs.Bare.{map_at}
 use Rattle.rina_dif.proofs.Elsewhere.{by_process, none_process}
 use Rattle.rina_dif.proofs.Keeping.{home_set, house_is}
@@ -127,6 +128,11 @@ link_within c port pdu place its t = (slice_get_within c.flows.journal.ends plac
 -- and the PDU is of the kind that it was
 pub its_kind : (c : Connections) (port : Port) (pdu : Pdu) (place : ℕ) (its : Pdu) → IsLinkTaker c port pdu place its → pdu.kind ≡ its.kind
 its_kind c port pdu place its t = ap (λ (z : Pdu). z.kind) (sym t.its_is)
+
+-- where it is a piece of the link's own
+pub own_taken : (d : Dif) (since : ℕ) (port : Port) (hop : Hop) (found : Option (ℕ × PduView)) → IsForLink d since hop → hop.pdu.kind ≡ APiece → LinkTakenBy d.connections port hop.pdu found → OwnPieceTakenBy d since port hop found
+own_taken d since port hop None link kind none = λ place its t. none place its t.taker
+own_taken d since port hop (Some taker) link kind takes = record { for_link = link; piece = kind; taker = takes }
 
 -- What is written off
 

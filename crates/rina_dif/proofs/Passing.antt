@@ -1,5 +1,5 @@
 -- An end of a management connection passes all SDUs that came to it.
-use Rattle.std.proofs.Common.{◌≡◌, ◌∙◌, ℕ, suc, ◌+◌, ◌-◌, ◌<◌, ◌≤◌, List, [], length, slice_get, slice_set, set-set, Some, refl, sym, ap, subst, arith}
+use Rattle.std.proofs.Common.{◌≡◌, ◌∙◌, ℕ, suc, ◌+◌, ◌-◌, ◌<◌, List, length, length-set, slice_get, slice_set, set-set, Some, refl, sym, ap, subst, arith}
 use Rattle.std.proofs.lemmas.Option.{same_Some}
 use Rattle.rina_iface.specs.declared.ends.End.{End}
 use Rattle.rina_iface.specs.Ends.{with_passed}
@@ -8,6 +8,7 @@ use Rattle.rina_iface.specs.Seen.{Seen}
 use Rattle.rina_iface.proofs.Changed.{slice_get-set_same, slice_set-same}
 use Rattle.rina_law.specs.Direction.{Direction}
 use Rattle.rina_data.specs.Configs.{Config, config_of}
+use Rattle.rina_data.proofs.Finding.{there}
 use Rattle.rina_dif_law.specs.Ids.{Ids}
 use Rattle.rina_flows.specs.declared.flows.Flows.{Flows}
 use Rattle.rina_flows.specs.Calls.{AreTied, IsPassed, PassesOne, SameIds}
@@ -18,7 +19,7 @@ use Rattle.rina_channel.specs.Standing.{IsStanding}
 use Rattle.rina_channel.proofs.Arriving.{calls_that_pass_do, passes_stand}
 use Rattle.rina_channel.proofs.Calls.{calls_change_ends}
 use Rattle.rina_dif.specs.declared.dif.Dif.{Dif}
-use Rattle.rina_dif.specs.Connected.{AreConnected, channels_seen}
+use Rattle.rina_dif.specs.Connected.{channels_seen}
 use Rattle.rina_dif.specs.Handling.{PassesAll, PassesTimes}
 use Rattle.rina_dif.specs.Holding.{LinksStand}
 use Rattle.rina_dif.specs.Messaging.{manage_config}
@@ -116,3 +117,28 @@ pub passed_stand : (d : Dif) (place n : ℕ) (flows : Flows) (below : Seen) (lin
 passed_stand d place n flows below links end h is =
     let p = h below links end is in
     record { may = links.may; lines = p.links'; tied = p.tied; standing = p.standing; paired = links.paired; each = links.each }
+
+-- In the loop
+
+-- the end is there, and so is its connection
+pub passing_within : (d : Dif) (place n : ℕ) (flows : Flows) (st : (below : Seen) × LinksStand d below) → HavePassedAll d place n flows → place < length d.connections.flows.journal.ends → (place < length flows.journal.ends) × (place < length flows.conns)
+passing_within d place n flows st h lt =
+    let x = there d.connections.flows.journal.ends place lt in
+    let p = h st.0 st.1 x.0 x.1 in
+    let size = ap (λ (es : List End). length es) p.ends ∙ length-set d.connections.flows.journal.ends place (passed_to x.0 (x.0.taken + n)) in
+    let alike = p.tied.alike in
+    (omega (arith, lt, size), omega (arith, lt, size, alike))
+
+-- and one more waits
+pub more_waits : (d : Dif) (place n count : ℕ) (flows : Flows) (st : (below : Seen) × LinksStand d below) → HavePassedAll d place n flows → place < length d.connections.flows.journal.ends → ((end : End) → At d.connections.flows.journal.ends place end → count ≡ length end.got - end.taken) → n < count
+    → (e : End) → slice_get flows.journal.ends place ≡ Some e → e.taken < length e.got
+more_waits d place n count flows st h lt counted less e at = (let x = there d.connections.flows.journal.ends place lt in still_waits d place n count flows st x.0 e h x.1 (counted x.0 x.1) less at)
+
+-- After it
+
+pub passes_done : (d : Dif) (place n count : ℕ) (flows : Flows) → HavePassedAll d place n flows → place < length d.connections.flows.journal.ends → ((end : End) → At d.connections.flows.journal.ends place end → count ≡ length end.got - end.taken) → n ≡ count
+    → (below : Seen) (links : LinksStand d below) → PassesAll d links.lines place flows × LinksStand (with_links d flows) below
+passes_done d place n count flows h lt counted all below links =
+    let x = there d.connections.flows.journal.ends place lt in
+    let n_is = all ∙ counted x.0 x.1 in
+    (all_passed d place n flows below links x.0 h x.1 n_is, passed_stand d place n flows below links x.0 h x.1)

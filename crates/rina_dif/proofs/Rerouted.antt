@@ -1,5 +1,5 @@
 -- An IPC process gets other next hops.
-use Rattle.std.proofs.Common.{◌≡◌, ◌∙◌, ℕ, List, [], append-nil, slice_get, slice_set, Some, refl, sym, ap, subst, arith, inl, inr}
+use Rattle.std.proofs.Common.{◌≡◌, ◌∙◌, ℕ, List, [], append-nil, slice_get, Some, refl, sym, ap, subst, arith, inl, inr}
 use Rattle.rina_account.specs.declared.ledger.Off.{Off}
 use Rattle.rina_iface.specs.Seen.{Seen}
 use Rattle.rina_iface.proofs.Changed.{set_at}

@@ -1,5 +1,5 @@
 -- What the steps of a DIF answer while it rests: nothing changes.
-use Rattle.std.proofs.Common.{◌≡◌, ◌∙◌, ℕ, ◌+◌, ◌<◌, ◌≤◌, true, false, List, [], ◌∷◌, get_or, length, map, slice_get, Option, Some, None, Result, Ok, Err, option_map, refl, sym, ap, subst, arith, inl, inr}
+use Rattle.std.proofs.Common.{◌≡◌, ◌∙◌, ℕ, ◌+◌, ◌<◌, ◌≤◌, List, [], ◌∷◌, get_or, length, map, slice_get, Option, Some, None, Result, Ok, Err, option_map, refl, sym, ap, subst, arith, inl, inr}
 use Rattle.std.proofs.lemmas.Bool.{cases_lt, false≢true}
 use Rattle.std.proofs.lemmas.Option.{get_or_from_slice_get, same_Some, slice_get-map, slice_get_within}
 use Rattle.rina_base.specs.declared.number.Port.{Port}
@@ -46,7 +46,7 @@ use Rattle.rina_channel.specs.Names.{link_config}
 use Rattle.rina_dif.specs.Resting.{IsAtRest, RestsUntil}
 use Rattle.rina_dif.specs.Shown.{seen_of}
 use Rattle.rina_dif.specs.Steps.{AsksAt, AsksHome, AtHome, OutsAt}
-use Rattle.rina_dif.specs.Taking.{InsAt, TakesHome, TakesLinks}
+use Rattle.rina_dif.specs.Taking.{Handles, InsAt, TakesHome, TakesLinks}
 
 -- Answers that tell that nothing was done
 
@@ -143,8 +143,16 @@ module _ (until : ℕ) (d : Dif) (below : Seen) (node n : ℕ) (rest : RestsUnti
   no_links (Some i) links a none = absurd none
   no_links None links a none = refl
 
+  -- nothing came that could be handled
+  none_handled : (h : Option ℕ) (a : Result InStep StepError) → TakesNone a → AtHome h (λ i. Handles d below i n a d below d) (d ≡ d)
+  none_handled (Some i) (Ok ins.Idle) none = refl
+  none_handled (Some i) (Err NoLink) none = refl
+  none_handled (Some i) (Err NoIpc) none = refl
+  none_handled (Some i) a none = absurd none
+  none_handled None a none = refl
+
   pub in_rests : (a : Result InStep StepError) × TakesNone a × ((lines : List Direction) → Holds d lines below → TakesHome d lines below node n a d below)
-  in_rests = (let a = in_home (home_of d node) refl in (a.0, a.1, λ lines h. record { lines' = lines; does = a.2 lines; links = λ links. no_links (home_of d node) links.lines a.0 a.1; holds = h }))
+  in_rests = (let a = in_home (home_of d node) refl in (a.0, a.1, λ lines h. record { lines' = lines; taken = d; does = a.2 lines; links = λ links. no_links (home_of d node) links.lines a.0 a.1; handles = none_handled (home_of d node) a.0 a.1; rerouted = inl refl; holds = h }))
 
 -- What leaves
 

@@ -1,6 +1,6 @@
 -- The oldest SDU of a link is taken.
-use Rattle.std.proofs.Common.{◌≡◌, ◌∙◌, ℕ, ◌<◌, Bool, List, length, slice_get, option_map, Option, Some, None, Result, Ok, Err, refl, sym, ap, subst, false, inl, inr}
-use Rattle.std.specs.Prelude.{IsSome}
+use Rattle.std.proofs.Common.{◌≡◌, ◌∙◌, ℕ, ◌<◌, Bool, List, length, slice_get, option_map, Option, Some, None, Result, Ok, Err, refl, sym, ap, subst, false, true, inl, inr}
+use Rattle.std.specs.Prelude.{◌↔◌, IsSome}
 use Rattle.std.proofs.lemmas.Option.{slice_get-map}
 use Rattle.rina_base.specs.declared.number.Key.{Key}
 use Rattle.rina_base.specs.declared.number.Port.{Port}
@@ -37,11 +37,15 @@ use Rattle.rina_dif_law.proofs.Partnered.{met}
 use Rattle.rina_dif_law.proofs.Spelled.{opened_spelling}
 use Rattle.rina_dif_law.proofs.Warranted.{ins_written}
 use Rattle.rina_dif.specs.declared.dif.Dif.{Dif}
-use Rattle.rina_dif.specs.Holding.{Holds}
+use Rattle.rina_dif.specs.declared.messages_in.Handled.{Handled}
+use Rattle.rina_dif.specs.Handling.{HandlesAs}
+use Rattle.rina_dif.specs.Holding.{Holds, LinksStand}
+use Rattle.rina_dif.specs.Routing.{MayReroute}
 use Rattle.rina_dif.specs.Shown.{seen_of}
 use Rattle.rina_dif.specs.Steps.{AtHome}
-use Rattle.rina_dif.specs.Taking.{HasTaken, InsAt, IsOldest, IsThere, SettlesLinks, TakesFor, TakesHome, TakesIn, TakesLinks}
+use Rattle.rina_dif.specs.Taking.{Handles, HandlesPiece, HasTaken, InsAt, IsOldest, IsThere, MayBring, TakesFor, TakesHome, TakesIn, TakesLinks}
 use Rattle.rina_dif.proofs.Causing.{ins_caused}
+use Rattle.rina_dif.proofs.Handling.{handled_seen}
 use Rattle.rina_dif.proofs.Leaves.{shown_at}
 use Rattle.rina_dif.proofs.Connected.{taking_connected}
 
@@ -102,16 +106,23 @@ waits_there below port tick bytes lent = subst (λ (o : Option Entry). IsSome o)
 -- What is answered
 
 pub no_link : (d : Dif) (lines : List Direction) (below : Seen) (at n : ℕ) (p : IpcProcess) → slice_get d.processes at ≡ Some p → link_by n p.links ≡ None → Holds d lines below → TakesIn d lines below at n (Err NoLink) d below
-no_link d lines below at n p is none h = record { lines' = lines; does = (record { process = process_of p; is_process = shown_at d at p is; none = none }, refl, refl, refl); links = λ links. refl; holds = h }
+no_link d lines below at n p is none h = record { lines' = lines; does = (record { process = process_of p; is_process = shown_at d at p is; none = none }, refl, refl, refl); taken = d; links = λ links. refl; handles = refl; rerouted = inl refl; holds = h }
 
 pub none_waits : (d : Dif) (lines : List Direction) (below : Seen) (at n : ℕ) (p : IpcProcess) (link : Link) → slice_get d.processes at ≡ Some p → link_by n p.links ≡ Some link → unpassed below link.port ≡ None → Holds d lines below → TakesIn d lines below at n (Ok in_.Idle) d below
-none_waits d lines below at n p link is is_link none h = record { lines' = lines; does = (record { process = process_of p; link = link; is_process = shown_at d at p is; is_link = is_link; none = none }, refl, refl, refl); links = λ links. refl; holds = h }
+none_waits d lines below at n p link is is_link none h = record { lines' = lines; does = (record { process = process_of p; link = link; is_process = shown_at d at p is; is_link = is_link; none = none }, refl, refl, refl); taken = d; links = λ links. refl; handles = refl; rerouted = inl refl; holds = h }
 
 pub took_none : (d : Dif) (lines : List Direction) (below : Seen) (at n : ℕ) (d' : Dif) (e : StepError) (r : Result InStep StepError) → e ≡ Memory → r ≡ Err e → (seen_of d' ≡ seen_of d) × Holds d' lines below × (d'.connections ≡ d.connections) → TakesIn d lines below at n r d' below
 took_none d lines below at n d' e r is err same =
-    subst (λ (v : Result InStep StepError). TakesIn d lines below at n v d' below) (sym (err ∙ ap (λ (z : StepError). Err z) is)) (record { lines' = lines; does = (same.0, refl, refl); links = λ links. same.2; holds = same.1 })
+    subst (λ (v : Result InStep StepError). TakesIn d lines below at n v d' below) (sym (err ∙ ap (λ (z : StepError). Err z) is)) (record { lines' = lines; taken = d'; does = (same.0, refl, refl); links = λ links. same.2; handles = refl; rerouted = inl refl; holds = same.1 })
 
-pub took_it : (d : Dif) (lines : List Direction) (below : Seen) (at n : ℕ) (p : IpcProcess) (link : Link) (tick : ℕ) (bytes : List ℕ) (hop : Hop) (key : Key) (end : Took) (d' : Dif) (below' : Seen) → AreKept below → AreKept below' → at < length d.settings.members → (h : Holds d lines below) → slice_get d.processes at ≡ Some p → link_by n p.links ≡ Some link → IsLent below link.port tick bytes → Some hop ≡ opened d.settings.widths bytes → key ≡ key_of hop.pdu → IsThere (seen_of d) below tick hop → TakesFor d at tick link.port hop (Ok end) d' → IsPassed below link.port below' → TakesIn d lines below at n (Ok (in_.Took key end)) d' below'
+-- an SDU was taken, which made this DIF of it
+pub record HasTakenOne (d : Dif) (lines : List Direction) (below : Seen) (at n : ℕ) (key : Key) (end : Took) (taken : Dif) (below' : Seen) : Type 0 where
+  pub lines' : List Direction
+  pub does : Ins (seen_of d) lines below at n (Ok (in_.Took key end)) (seen_of taken) lines' below'
+  pub links : (links : LinksStand d below) → TakesLinks d links.lines below at n (Ok (in_.Took key end)) taken
+  pub holds : Holds taken lines' below'
+
+pub took_it : (d : Dif) (lines : List Direction) (below : Seen) (at n : ℕ) (p : IpcProcess) (link : Link) (tick : ℕ) (bytes : List ℕ) (hop : Hop) (key : Key) (end : Took) (d' : Dif) (below' : Seen) → AreKept below → AreKept below' → at < length d.settings.members → (h : Holds d lines below) → slice_get d.processes at ≡ Some p → link_by n p.links ≡ Some link → IsLent below link.port tick bytes → Some hop ≡ opened d.settings.widths bytes → key ≡ key_of hop.pdu → IsThere (seen_of d) below tick hop → TakesFor d at tick link.port hop (Ok end) d' → IsPassed below link.port below' → HasTakenOne d lines below at n key end d' below'
 took_it d lines below at n p link tick bytes hop key end d' below' kept kept' lt h is is_link lent opened_ key_is there takes passed =
     let here = is_here d at p lt is in
     let oldest = oldest_there d below link.port tick bytes hop lent opened_ in
@@ -151,6 +162,41 @@ took_it d lines below at n p link tick bytes hop key end d' below' kept kept' lt
       };
     }
 
+-- and what it made whole was handled
+handles_piece : (d : Dif) (at n since : ℕ) (port : Port) (hop : Hop) (found : Option Handled) (taken : Dif) (lines' : List Direction) (below' : Seen) (d' : Dif) → MayBring d at n since port hop found → HandlesAs taken lines' below' at n found d' → HandlesPiece d at n since port hop taken below' d'
+handles_piece d at n since port hop (Some w) taken lines' below' d' ahead s = inl (w.place, ahead.its, ahead.takes, s.0)
+handles_piece d at n since port hop None taken lines' below' d' none same = inr (none, same)
+
+handled_reroutes : (at n : ℕ) (found : Option Handled) (taken : Dif) (lines' : List Direction) (below' : Seen) (d' : Dif) → Holds taken lines' below' → HandlesAs taken lines' below' at n found d' → MayReroute (seen_of taken) (seen_of d')
+handled_reroutes at n (Some w) taken lines' below' d' h s =
+    let a = s.0 h.connected in
+    inr (record {
+      place = at;
+      process = process_of a.process;
+      is_process = shown_at taken at a.process a.is_process;
+      routes = a.routes;
+      is = ap seen_of a.only ∙ handled_seen taken at w.place n a.here a.management a.after a.is_management a.process a.is_process a.routes d'.connections.flows;
+    })
+handled_reroutes at n None taken lines' below' d' h same = inl (ap seen_of same)
+
+handled_stands : (at n : ℕ) (found : Option Handled) (taken : Dif) (lines' : List Direction) (below' : Seen) (d' : Dif) → Holds taken lines' below' → HandlesAs taken lines' below' at n found d' → Holds d' lines' below'
+handled_stands at n (Some w) taken lines' below' d' h s = s.1
+handled_stands at n None taken lines' below' d' h same = subst (λ (z : Dif). Holds z lines' below') (sym same) h
+
+pub took_and_handled : (d : Dif) (lines : List Direction) (below : Seen) (at n since : ℕ) (p : IpcProcess) (link : Link) (hop : Hop) (key : Key) (end : Took) (taken : Dif) (below' : Seen) (found : Option Handled) (d' : Dif) → slice_get d.processes at ≡ Some p → link_by n p.links ≡ Some link → IsOldest (config_of d.settings) below link.port since hop
+    → HasTakenOne d lines below at n key end taken below' → MayBring d at n since link.port hop found → ((lines' : List Direction) (b : Seen) → Holds taken lines' b → HandlesAs taken lines' b at n found d') → TakesIn d lines below at n (Ok (in_.Took key end)) d' below'
+took_and_handled d lines below at n since p link hop key end taken below' found d' is is_link oldest t ahead handles =
+    let s = handles t.lines' below' t.holds in
+    record {
+      lines' = t.lines';
+      taken = taken;
+      does = t.does;
+      links = t.links;
+      handles = record { process = p; is_process = is; link = link; is_link = is_link; since = since; hop = hop; is_oldest = oldest; handles = handles_piece d at n since link.port hop found taken t.lines' below' d' ahead s };
+      rerouted = handled_reroutes at n found taken t.lines' below' d' t.holds s;
+      holds = handled_stands at n found taken t.lines' below' d' t.holds s;
+    }
+
 -- By node
 
 at_home : (o : Option ℕ) (k : ℕ) (P : ℕ → Type 0) (Q : Type 0) → o ≡ Some k → P k → AtHome o P Q
@@ -169,29 +215,63 @@ either_home : (o : Option ℕ) (P : ℕ → Type 0) (Q : Type 0) → ((k : ℕ) 
 either_home (Some k) P Q p q = p k
 either_home None P Q p q = q
 
--- what the management connections made of it
-noted_settled : (d : Dif) (links : List Direction) (since : ℕ) (port : Port) (hop : Hop) (end : Took) (d' : Dif) (failed : Bool) (links' : List Direction) → SettlesLinks d links since port hop end d' links' → SettlesLinks d links since port hop end (record d' { failed = failed }) links'
-noted_settled d links since port hop end d' failed links' (inl same) = inl same
-noted_settled d links since port hop end d' failed links' (inr s) = inr (record { for_link = s.for_link; dropped = s.dropped; takes = s.takes })
+-- what it does there
+home_takes : (d : Dif) (lines : List Direction) (below : Seen) (node n at : ℕ) (r : Result InStep StepError) (d' : Dif) (below' : Seen) → home node (config_of d.settings).members ≡ Some at → TakesIn d lines below at n r d' below' → TakesHome d lines below node n r d' below'
+home_takes d lines below node n at r d' below' here t = record {
+  lines' = t.lines';
+  taken = t.taken;
+  does = ins_at (seen_of d) lines below node n at r (seen_of t.taken) t.lines' below' here t.does;
+  links = λ links. at_home (home node (config_of d.settings).members) at (λ i. TakesLinks d links.lines below i n r t.taken) _ here (t.links links);
+  handles = at_home (home node (config_of d.settings).members) at (λ i. Handles d below i n r t.taken below' d') _ here t.handles;
+  rerouted = t.rerouted;
+  holds = t.holds;
+}
 
-noted_links : (d : Dif) (links : List Direction) (below : Seen) (i n : ℕ) (r : Result InStep StepError) (d' : Dif) (failed : Bool) → TakesLinks d links below i n r d' → TakesLinks d links below i n r (record d' { failed = failed })
-noted_links d links below i n (Ok (in_.Took key end)) d' failed t = record { process = t.process; is_process = t.is_process; link = t.link; is_link = t.is_link; since = t.since; hop = t.hop; is_oldest = t.is_oldest; links' = t.links'; settled = noted_settled d links t.since t.link.port t.hop end d' failed t.links' t.settled; tied = t.tied }
-noted_links d links below i n (Ok in_.Idle) d' failed same = same
-noted_links d links below i n (Err e) d' failed same = same
+-- no allocation failed where there is an answer
+none_failed : (failed : Bool) (x : InStep) → failed ≡ true ↔ (Ok x ≡ Err Memory) → failed ≡ false
+none_failed false x noted = refl
+none_failed true x noted = (let wrong : Ok x ≡ Err Memory = noted.0 refl in absurd cc)
+
+all_home : (o : Option ℕ) (P Q : Type 0) → (P → Q) → AtHome o (λ k. P) P → AtHome o (λ k. Q) Q
+all_home (Some k) P Q f p = f p
+all_home None P Q f p = f p
 
 -- and whether an allocation failed is noted
-pub takes_home : (d : Dif) (lines : List Direction) (below : Seen) (node n at : ℕ) (r r' : Result InStep StepError) (d' : Dif) (failed : Bool) (below' : Seen) → d'.failed ≡ false → home node (config_of d.settings).members ≡ Some at → r' ≡ r → TakesIn d lines below at n r d' below' → TakesHome d lines below node n r' (record d' { failed = failed }) below'
-takes_home d lines below node n at r r' d' failed below' alive here same t =
-    let does = ins_at (seen_of d) lines below node n at r (seen_of d') t.lines' below' here t.does in
-    record {
-      lines' = t.lines';
-      does = subst (λ (v : Result InStep StepError). InsAt (seen_of d) lines below node n v (seen_of d') t.lines' below') (sym same) does;
-      links = λ links. at_home (home node (config_of d.settings).members) at (λ i. TakesLinks d links.lines below i n r' (record d' { failed = failed })) _ here (subst (λ (v : Result InStep StepError). TakesLinks d links.lines below at n v (record d' { failed = failed })) (sym same) (noted_links d links.lines below at n r d' failed (t.links links)));
-      holds = record { tied = t.holds.tied; standing = t.holds.standing; carrying = t.holds.carrying; numbered = t.holds.numbered; accounted = t.holds.accounted; caused = t.holds.caused; written_off = t.holds.written_off; housed = t.holds.housed; managed = t.holds.managed; connected = t.holds.connected; flooded = λ still. t.holds.flooded alive };
-    }
+home_noted : (d : Dif) (lines : List Direction) (below : Seen) (node n : ℕ) (r : Result InStep StepError) (d' : Dif) (failed : Bool) (below' : Seen) → d'.failed ≡ false → failed ≡ true ↔ (r ≡ Err Memory) → TakesHome d lines below node n r d' below' → TakesHome d lines below node n r (record d' { failed = failed }) below'
+home_noted d lines below node n (Ok x) d' failed below' alive noted t =
+    subst (λ (z : Dif). TakesHome d lines below node n (Ok x) z below') (ap (λ (b : Bool). record d' { failed = b }) (alive ∙ sym (none_failed failed x noted))) t
+home_noted d lines below node n (Err e) d' failed below' alive noted t = record {
+  lines' = t.lines';
+  taken = record t.taken { failed = failed };
+  does = t.does;
+  links = t.links;
+  handles = all_home (home node (config_of d.settings).members) (d' ≡ t.taken) (record d' { failed = failed } ≡ record t.taken { failed = failed }) (λ same. ap (λ (z : Dif). record z { failed = failed }) same) t.handles;
+  rerouted = t.rerouted;
+  holds = record { tied = t.holds.tied; standing = t.holds.standing; carrying = t.holds.carrying; numbered = t.holds.numbered; accounted = t.holds.accounted; caused = t.holds.caused; written_off = t.holds.written_off; housed = t.holds.housed; managed = t.holds.managed; connected = t.holds.connected; flooded = λ still. t.holds.flooded alive };
+}
+
+pub takes_home : (d : Dif) (lines : List Direction) (below : Seen) (node n at : ℕ) (r r' : Result InStep StepError) (d' : Dif) (failed : Bool) (below' : Seen) → d'.failed ≡ false → home node (config_of d.settings).members ≡ Some at → r' ≡ r → failed ≡ true ↔ (r ≡ Err Memory) → TakesIn d lines below at n r d' below' → TakesHome d lines below node n r' (record d' { failed = failed }) below'
+takes_home d lines below node n at r r' d' failed below' alive here same noted t =
+    subst (λ (v : Result InStep StepError). TakesHome d lines below node n v (record d' { failed = failed }) below') (sym same) (home_noted d lines below node n r d' failed below' alive noted (home_takes d lines below node n at r d' below' here t))
 
 pub takes_none : (d : Dif) (lines : List Direction) (below : Seen) (node n : ℕ) → Holds d lines below → TakesHome d lines below node n (Err Memory) d below
-takes_none d lines below node n h = record { lines' = lines; does = (refl, refl, refl); links = λ links. either_home (home node (config_of d.settings).members) (λ i. TakesLinks d links.lines below i n (Err Memory) d) _ (λ k. refl) refl; holds = h }
+takes_none d lines below node n h = record {
+  lines' = lines;
+  taken = d;
+  does = (refl, refl, refl);
+  links = λ links. either_home (home node (config_of d.settings).members) (λ i. TakesLinks d links.lines below i n (Err Memory) d) _ (λ k. refl) refl;
+  handles = either_home (home node (config_of d.settings).members) (λ i. Handles d below i n (Err Memory) d below d) _ (λ k. refl) refl;
+  rerouted = inl refl;
+  holds = h;
+}
 
 pub takes_nowhere : (d : Dif) (lines : List Direction) (below : Seen) (node n : ℕ) → home node (config_of d.settings).members ≡ None → Holds d lines below → TakesHome d lines below node n (Err NoIpc) d below
-takes_nowhere d lines below node n none h = record { lines' = lines; does = not_home (home node (config_of d.settings).members) (λ k. Ins (seen_of d) lines below k n (Err NoIpc) (seen_of d) lines below) _ none (refl, refl, refl, refl); links = λ links. not_home (home node (config_of d.settings).members) (λ i. TakesLinks d links.lines below i n (Err NoIpc) d) _ none refl; holds = h }
+takes_nowhere d lines below node n none h = record {
+  lines' = lines;
+  taken = d;
+  does = not_home (home node (config_of d.settings).members) (λ k. Ins (seen_of d) lines below k n (Err NoIpc) (seen_of d) lines below) _ none (refl, refl, refl, refl);
+  links = λ links. not_home (home node (config_of d.settings).members) (λ i. TakesLinks d links.lines below i n (Err NoIpc) d) _ none refl;
+  handles = not_home (home node (config_of d.settings).members) (λ i. Handles d below i n (Err NoIpc) d below d) _ none refl;
+  rerouted = inl refl;
+  holds = h;
+}

@@ -1,5 +1,5 @@
 -- Whatever a call of a DIF writes off, it may write off.
-use Rattle.std.proofs.Common.{◌≡◌, ◌∙◌, ℕ, List, [], map, slice_get, set-set, Option, Some, None, Result, Ok, Err, refl, sym, ap, subst, arith, inl, inr}
+use Rattle.std.proofs.Common.{◌≡◌, ◌∙◌, ℕ, List, [], append-nil, map, slice_get, set-set, Option, Some, None, Result, Ok, Err, refl, sym, ap, subst, arith, inl, inr}
 use Rattle.rina_account.specs.declared.ledger.Off.{Off}
 use Rattle.rina_base.specs.declared.cause.Cause.{Cause}
 use Rattle.rina_base.specs.declared.cause.Cause.TheVariants as causes
@@ -50,6 +50,7 @@ use Rattle.rina_dif.specs.Holding.{Holds}
 use Rattle.rina_dif.specs.Sending.{SendsAt}
 use Rattle.rina_dif.specs.Shown.{seen_of}
 use Rattle.rina_dif.specs.Steps.{AtHome, OutsAt}
+use Rattle.rina_dif.specs.Routing.{MayReroute}
 use Rattle.rina_dif.specs.Taking.{InsAt, TakesHome}
 use Rattle.rina_dif.specs.WriteOffs.{MayByClock, MayFillOff}
 use Rattle.rina_dif.specs.Connected.{channels_seen}
@@ -92,8 +93,16 @@ ins_at_noted d lines below node n (Ok x) d' lines' below' st s = by_home _ (home
 ins_at_noted d lines below node n (Err NoIpc) d' lines' below' st s = by_home _ (home node d.config.members) (λ i. Ins d lines below i n (Err NoIpc) d' lines' below') _ (λ i o. ins_noted d lines below i n (Err NoIpc) d' lines' below' st o) (λ o. same_noted _ d d' o.1) s
 ins_at_noted d lines below node n (Err NoLink) d' lines' below' st s = by_home _ (home node d.config.members) (λ i. Ins d lines below i n (Err NoLink) d' lines' below') _ (λ i o. ins_noted d lines below i n (Err NoLink) d' lines' below' st o) (λ o. same_noted _ d d' o.1) s
 
+-- other next hops write nothing
+rerouted_noted : (holds : ℕ → Off → Type 0) (d d' : DifSeen) → MayReroute d d' → IsNoted holds d d'
+rerouted_noted holds d d' (inl same) = same_noted holds d d' same
+rerouted_noted holds d d' (inr r) = process_noted holds d d' r.place r.process (record r.process { routes = r.routes }) [] r.is r.is_process (sym (append-nil r.process.ledger)) (λ off none. absurd none) (ports_same r.process.links r.process.links refl)
+
 pub ins_at_write : (d : Dif) (lines : List Direction) (below : Seen) (node n : ℕ) (r : Result InStep StepError) (d' : Dif) (below' : Seen) → Holds d lines below → TakesHome d lines below node n r d' below' → Writes (MayWriteOff (seen_of d) lines below NoPort) (seen_of d) (seen_of d')
-ins_at_write d lines below node n r d' below' h s = writes _ (seen_of d) (seen_of d') (ins_at_noted (seen_of d) lines below node n r (seen_of d') s.lines' below' h.standing s.does)
+ins_at_write d lines below node n r d' below' h s =
+    let holds : ℕ → Off → Type 0 = MayWriteOff (seen_of d) lines below NoPort in
+    let taken = ins_at_noted (seen_of d) lines below node n r (seen_of s.taken) s.lines' below' h.standing s.does in
+    writes holds (seen_of d) (seen_of d') (noted_on holds (seen_of d) (seen_of s.taken) (seen_of d') taken (rerouted_noted holds (seen_of s.taken) (seen_of d') s.rerouted))
 
 -- ---- what comes with time
 

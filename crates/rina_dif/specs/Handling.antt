@@ -1,7 +1,9 @@
 -- What a PDU that came on a link brings to the management of a member: the SDUs that it makes whole are passed and handled in the
 -- same step, and the next hops follow what the member then holds.
-use Rattle.std.specs.Prelude.{◌≡◌, ℕ, suc, zero, ◌-◌, List, [], ◌∷◌, drop, length, slice_get, slice_set, Option, Some, None, Result, Ok, Err}
-use Rattle.rina_base.specs.declared.memory.Memory.{Memory}
+use Rattle.std.specs.Prelude.{◌≡◌, ℕ, suc, zero, ◌-◌, ◌^◌, ◌++◌, min, List, [], ◌∷◌, drop, length, slice_get, slice_set, Option, Some, None, Ok}
+use Rattle.rina_base.specs.declared.pdu.Pdu.{Pdu}
+use Rattle.rina_conn.specs.declared.conn.Conn.{Conn}
+use Rattle.rina_dtp.specs.Stands.{IsAhead}
 use Rattle.rina_iface.specs.declared.ends.End.{End}
 use Rattle.rina_iface.specs.Journal.{At}
 use Rattle.rina_iface.specs.Seen.{Seen}
@@ -18,6 +20,7 @@ use Rattle.rina_flows.specs.Calls.{AreTied, SameIds}
 use Rattle.rina_flows.specs.Rows.{PassedAt}
 use Rattle.rina_flows.specs.Tied.{conns_of}
 use Rattle.rina_dif.specs.declared.dif.Dif.{Dif}
+use Rattle.rina_dif.specs.declared.messages_in.Handled.{Handled}
 use Rattle.rina_dif.specs.Flooding.{texts_of}
 use Rattle.rina_dif.specs.Holding.{Holds, LinksStand}
 use Rattle.rina_dif.specs.LinkDue.{IsLinkEnd}
@@ -46,6 +49,19 @@ abbrev pub HandlesInTurn : ℕ → ℕ → List (List ℕ) → Management → Ma
 HandlesInTurn now number [] m m' = m' ≡ m
 HandlesInTurn now number (sdu ∷ sdus) m m' = (mid : Management) × HandlesOne now number sdu m mid × HandlesInTurn now number sdus mid m'
 
+-- Before a piece is taken
+
+-- these are the bytes of the SDUs that a piece would make whole at the end of a place
+pub record IsToldAhead (d : Dif) (place : ℕ) (its : Pdu) (bodies : List (List ℕ)) : Type 0 where
+  pub unpassed : ℕ
+  pub count : (end : End) → At d.connections.flows.journal.ends place end → unpassed ≡ min (length end.got - end.taken) (2 ^ 32 - 1)
+  pub ahead : (conn : Conn) → slice_get d.connections.flows.conns place ≡ Some conn → IsAhead d.clock its unpassed conn.rx bodies
+
+-- the member of place i handled the SDUs that came to the end of its link, and then those that a piece would make whole there
+abbrev pub HandlesAhead : Dif → ℕ → ℕ → ℕ → Pdu → Management → Type 0
+HandlesAhead d i place number its after = (m : Management) (end : End) → slice_get d.managements i ≡ Some m → At d.connections.flows.journal.ends place end →
+    (bodies : List (List ℕ)) × IsToldAhead d place its bodies × HandlesInTurn d.clock number (unpassed_sdus end ++ bodies) m after
+
 -- The connection
 
 -- the end at a place passes so many of the SDUs that came to it, the oldest first; `links` are the directions behind the ends
@@ -64,6 +80,13 @@ pub record PassesAll (d : Dif) (links : List Direction) (place : ℕ) (flows' : 
   pub tied : AreTied (manage_config d) d.clock flows' links'
 
 -- Both
+
+-- what a member is once it handled all that came to the end of its link of this number and is not passed, and its next hops over the
+-- items that it then holds
+pub record IsHandled (d : Dif) (i number : ℕ) (h : Handled) : Type 0 where
+  pub here : IsLinkEnd d i h.place number
+  pub handles : (m : Management) (end : End) → slice_get d.managements i ≡ Some m → At d.connections.flows.journal.ends h.place end → HandlesInTurn d.clock number (unpassed_sdus end) m h.management
+  pub routes : AreRoutesOf h.management.agent d.settings.members h.routes
 
 -- the end at a place of the management connection of the link of this number, at the IPC process of place i, passes all SDUs that
 -- came to it; the member handles them in turn; and the next hops of the IPC process are over the items that the member then holds
@@ -84,7 +107,11 @@ pub record HandlesAll (d : Dif) (links : List Direction) (i place number : ℕ) 
     processes = slice_set d.processes i (with_routes process routes);
   }
 
--- so it does, whichever directions stand behind the connections, and the DIF holds; or memory was not found, and nothing changes
-abbrev pub HandlesAs : Dif → List Direction → Seen → ℕ → ℕ → ℕ → Result (Unit {0}) Memory → Dif → Type 0
-HandlesAs d lines below i place number (Ok done) d' = ((links : LinksStand d below) → HandlesAll d links.lines i place number d') × Holds d' lines below
-HandlesAs d lines below i place number (Err e) d' = d' ≡ d
+-- so it does, whichever directions stand behind the connections, and the DIF holds
+abbrev pub HandlesHere : Dif → List Direction → Seen → ℕ → ℕ → ℕ → Dif → Type 0
+HandlesHere d lines below i place number d' = ((links : LinksStand d below) → HandlesAll d links.lines i place number d') × Holds d' lines below
+
+-- or there is nothing to handle
+abbrev pub HandlesAs : Dif → List Direction → Seen → ℕ → ℕ → Option Handled → Dif → Type 0
+HandlesAs d lines below i number (Some h) d' = HandlesHere d lines below i h.place number d'
+HandlesAs d lines below i number None d' = d' ≡ d

@@ -1,9 +1,11 @@
 -- The next hops of the IPC processes of a DIF.
-use Rattle.std.specs.Prelude.{◌≡◌, ℕ, ◌<◌, List, length, slice_get, slice_set, Some}
+use Rattle.std.specs.Prelude.{◌≡◌, ℕ, ◌<◌, ◌⊎◌, List, length, slice_get, slice_set, Some}
 use Rattle.rina_plan.specs.declared.dif.LinkPlan.{LinkPlan}
 use Rattle.rina_data.specs.declared.link.Route.{Route}
 use Rattle.rina_data.specs.declared.process.IpcProcess.{IpcProcess}
 use Rattle.rina_data.specs.declared.settings.Member.{Member}
+use Rattle.rina_data.specs.Process.{Process}
+use Rattle.rina_dif_law.specs.Dif.{DifSeen, with_process}
 use Rattle.rina_member.specs.Knowing.{AreRoutesOf, all_claims}
 use Rattle.rina_member.specs.Routing.{AreRoutesOver, edges_of, live_links}
 use Rattle.rina_member.specs.declared.management.Management.{Management}
@@ -33,3 +35,17 @@ pub record AreRouted (members : List Member) (managements : List Management) (co
   pub aligned : length new ≡ length old
   pub routes : (k : ℕ) (g : Management) (p : IpcProcess) → k < count → slice_get managements k ≡ Some g → slice_get new k ≡ Some p → AreRoutesOf g.agent members p.routes
   pub same : (k : ℕ) (p : IpcProcess) → slice_get new k ≡ Some p → (q : IpcProcess) × (routes : List Route) × (slice_get old k ≡ Some q) × (p ≡ with_routes q routes)
+
+-- As the laws see it
+
+-- one IPC process of a DIF has other next hops, and nothing else changed
+pub record IsRerouted (d d' : DifSeen) : Type 0 where
+  pub place : ℕ
+  pub process : Process
+  pub is_process : slice_get d.processes place ≡ Some process
+  pub routes : List Route
+  pub is : d' ≡ with_process d place (record process { routes = routes })
+
+-- or nothing changed at all
+abbrev pub MayReroute : DifSeen → DifSeen → Type 0
+MayReroute d d' = (d' ≡ d) ⊎ IsRerouted d d'

@@ -6,6 +6,7 @@ use Rattle.rina_base.specs.declared.memory.Memory.{Memory as NoMemory}
 use Rattle.rina_base.specs.declared.number.Port.{Port}
 use Rattle.rina_base.specs.declared.pdu.Pdu.{Pdu}
 use Rattle.rina_base.specs.declared.pdu.PduView.{PduView}
+use Rattle.rina_base.specs.declared.pdu.PduKind.TheVariants.{Piece as APiece}
 use Rattle.rina_base.specs.Pdus.{pdu_of}
 use Rattle.rina_conn.specs.declared.conn.Conn.{Conn}
 use Rattle.rina_iface.specs.Journal.{AreKept}
@@ -39,10 +40,14 @@ use Rattle.rina_channel.specs.Ledgers.{unnamed_from}
 use Rattle.rina_channel.specs.Names.{link_config, named}
 use Rattle.rina_flows.specs.Calls.{AreTied, TakesHere}
 use Rattle.rina_flows.specs.Delivering.{ArrivesIn}
+use Rattle.rina_member.specs.Knowing.{AreRoutesOf}
 use Rattle.rina_dif.specs.declared.dif.Dif.{Dif}
+use Rattle.rina_dif.specs.declared.messages_in.Handled.{Handled}
 use Rattle.rina_dif.specs.Flooding.{StayFlooding}
+use Rattle.rina_dif.specs.Handling.{HandlesAhead, HandlesAll}
 use Rattle.rina_dif.specs.Holding.{AreHoused, Holds, LinksStand}
 use Rattle.rina_dif.specs.Managing.{AreManaged}
+use Rattle.rina_dif.specs.Routing.{MayReroute}
 use Rattle.rina_dif.specs.Shown.{seen_of}
 use Rattle.rina_dif.specs.Steps.{AtHome}
 use Rattle.rina_dif.specs.declared.connections.Connections.{Connections}
@@ -147,6 +152,21 @@ abbrev pub LinkTakenBy : Connections → Port → Pdu → Option (ℕ × PduView
 LinkTakenBy c port pdu None = (place : ℕ) (its : Pdu) → IsLinkTaker c port pdu place its → ⊥
 LinkTakenBy c port pdu (Some taker) = IsLinkTaker c port pdu taker.0 (pdu_of taker.1)
 
+-- a PDU that came at tick `since` is a piece of the link's own, in time, and the end at a place takes it
+pub record TakesOwnPiece (d : Dif) (since : ℕ) (port : Port) (hop : Hop) (place : ℕ) (its : Pdu) : Type 0 where
+  pub for_link : IsForLink d since hop
+  pub piece : hop.pdu.kind ≡ APiece
+  pub taker : IsLinkTaker d.connections port hop.pdu place its
+
+-- no end takes it so
+abbrev pub NoOwnPiece : Dif → ℕ → Port → Hop → Type 0
+NoOwnPiece d since port hop = (place : ℕ) (its : Pdu) → TakesOwnPiece d since port hop place its → ⊥
+
+-- none does, or it is this one
+abbrev pub OwnPieceTakenBy : Dif → ℕ → Port → Hop → Option (ℕ × PduView) → Type 0
+OwnPieceTakenBy d since port hop None = NoOwnPiece d since port hop
+OwnPieceTakenBy d since port hop (Some taker) = TakesOwnPiece d since port hop taker.0 (pdu_of taker.1)
+
 -- what the management connection of the link made of it, of which `links` are the directions, before and after
 pub record IsTakenOnLink (d : Dif) (links : List Direction) (since : ℕ) (port : Port) (hop : Hop) (end : Took) (d' : Dif) (links' : List Direction) : Type 0 where
   pub for_link : IsForLink d since hop
@@ -175,6 +195,25 @@ TakesAs d lines links below at since port hop (Err e) d' = (seen_of d' ≡ seen_
 abbrev pub TakesFor : Dif → ℕ → ℕ → Port → Hop → Result Took NoMemory → Dif → Type 0
 TakesFor d at since port hop result d' = (lines : List Direction) (below : Seen) (h : Holds d lines below) → AreKept below → IsThere (seen_of d) below since hop → IsOldest (config_of d.settings) below port since hop → TakesAs d lines h.connected.lines below at since port hop result d'
 
+-- What it brings to the member
+
+-- what the member of place i is once it handled the messages that a piece of its link of this number makes whole. The piece is not taken
+pub record BringsAhead (d : Dif) (i number since : ℕ) (port : Port) (hop : Hop) (h : Handled) : Type 0 where
+  pub its : Pdu
+  pub takes : TakesOwnPiece d since port hop h.place its
+  pub handles : HandlesAhead d i h.place number its h.management
+  pub routes : AreRoutesOf h.management.agent d.settings.members h.routes
+
+-- or the PDU is no piece that an end of the link takes
+abbrev pub MayBring : Dif → ℕ → ℕ → ℕ → Port → Hop → Option Handled → Type 0
+MayBring d i number since port hop (Some h) = BringsAhead d i number since port hop h
+MayBring d i number since port hop None = NoOwnPiece d since port hop
+
+-- Once it was taken, the end passes what came to it, and the member of place i handles it; nothing more happens where no end took a piece
+abbrev pub HandlesPiece : Dif → ℕ → ℕ → ℕ → Port → Hop → Dif → Seen → Dif → Type 0
+HandlesPiece d i number since port hop taken below' d' =
+    ((place : ℕ) × (its : Pdu) × TakesOwnPiece d since port hop place its × ((links : LinksStand taken below') → HandlesAll taken links.lines i place number d')) ⊎ (NoOwnPiece d since port hop × (d' ≡ taken))
+
 -- what it is told
 abbrev pub took_of : Option Cause → Took
 took_of None = took.Accepted
@@ -201,11 +240,31 @@ abbrev pub TakesLinks : Dif → List Direction → Seen → ℕ → ℕ → Resu
 TakesLinks d links below i n (Ok (steps.Took key end)) d' = TakesOldest d links below i n end d'
 TakesLinks d links below i n result d' = d'.connections ≡ d.connections
 
--- what `in_step` does at a link of the IPC process of place i
+-- what the piece in the oldest SDU of link n made whole is handled, once the SDU was taken
+pub record HandlesOldest (d : Dif) (below : Seen) (i n : ℕ) (taken : Dif) (below' : Seen) (d' : Dif) : Type 0 where
+  pub process : IpcProcess
+  pub is_process : slice_get d.processes i ≡ Some process
+  pub link : Link
+  pub is_link : link_by n process.links ≡ Some link
+  pub since : ℕ
+  pub hop : Hop
+  pub is_oldest : IsOldest (config_of d.settings) below link.port since hop
+  pub handles : HandlesPiece d i n since link.port hop taken below' d'
+
+-- what a step handles: where no SDU was taken, nothing
+abbrev pub Handles : Dif → Seen → ℕ → ℕ → Result InStep StepError → Dif → Seen → Dif → Type 0
+Handles d below i n (Ok (steps.Took key end)) taken below' d' = HandlesOldest d below i n taken below' d'
+Handles d below i n result taken below' d' = d' ≡ taken
+
+-- what `in_step` does at a link of the IPC process of place i: it takes an SDU, which makes the DIF `taken` of it, and handles what this made
+-- whole. For the flows only the next hops may be others then
 pub record TakesIn (d : Dif) (lines : List Direction) (below : Seen) (i n : ℕ) (result : Result InStep StepError) (d' : Dif) (below' : Seen) : Type 0 where
   pub lines' : List Direction
-  pub does : Ins (seen_of d) lines below i n result (seen_of d') lines' below'
-  pub links : (links : LinksStand d below) → TakesLinks d links.lines below i n result d'
+  pub taken : Dif
+  pub does : Ins (seen_of d) lines below i n result (seen_of taken) lines' below'
+  pub links : (links : LinksStand d below) → TakesLinks d links.lines below i n result taken
+  pub handles : Handles d below i n result taken below' d'
+  pub rerouted : MayReroute (seen_of taken) (seen_of d')
   pub holds : Holds d' lines' below'
 
 abbrev pub InsAt : DifSeen → List Direction → Seen → ℕ → ℕ → Result InStep StepError → DifSeen → List Direction → Seen → Type 0
@@ -215,6 +274,9 @@ InsAt d lines below node n result d' lines' below' = AtHome (home node d.config.
 -- and of the one at a node
 pub record TakesHome (d : Dif) (lines : List Direction) (below : Seen) (node n : ℕ) (result : Result InStep StepError) (d' : Dif) (below' : Seen) : Type 0 where
   pub lines' : List Direction
-  pub does : InsAt (seen_of d) lines below node n result (seen_of d') lines' below'
-  pub links : (links : LinksStand d below) → AtHome (home node (config_of d.settings).members) (λ i. TakesLinks d links.lines below i n result d') (d'.connections ≡ d.connections)
+  pub taken : Dif
+  pub does : InsAt (seen_of d) lines below node n result (seen_of taken) lines' below'
+  pub links : (links : LinksStand d below) → AtHome (home node (config_of d.settings).members) (λ i. TakesLinks d links.lines below i n result taken) (taken.connections ≡ d.connections)
+  pub handles : AtHome (home node (config_of d.settings).members) (λ i. Handles d below i n result taken below' d') (d' ≡ taken)
+  pub rerouted : MayReroute (seen_of taken) (seen_of d')
   pub holds : Holds d' lines' below'

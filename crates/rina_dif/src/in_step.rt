@@ -1,9 +1,10 @@
 //! What comes to a DIF on its links.
-ghost use Rattle.std.specs.Prelude.{◌≡◌, ◌<◌, ◌≤◌, List, Some, length, true, ◌↔◌, IsTrue, Err};
+ghost use Rattle.std.specs.Prelude.{◌≡◌, ◌<◌, ◌≤◌, List, Some, length, false, true, ◌↔◌, IfOk, IsTrue, Err};
 ghost use Rattle.rina_base.specs.Pdus.{key_of};
 ghost use Rattle.rina_base.specs.declared.pdu.PduKind.TheVariants.{Piece};
 ghost use Rattle.rina_iface.specs.Later.{IsLater};
 ghost use Rattle.rina_iface.specs.Pass.{PassesAsSeen};
+ghost use Rattle.rina_iface.specs.Seen.{Seen};
 ghost use Rattle.rina_law.specs.Direction.{Direction};
 ghost use Rattle.rina_data.specs.Hops.{hop_of};
 ghost use Rattle.rina_data.specs.Lower.{PassesBelow};
@@ -15,10 +16,11 @@ ghost use Rattle.rina_dif.specs.Elsewhere.{ChangesOnly, ChangesProcess, IsTaker,
 ghost use Rattle.rina_dif.specs.Facade.{GoesOn, OthersStand};
 ghost use Rattle.rina_dif.specs.Holding.{Holds, Stands};
 ghost use Rattle.rina_dif.specs.Shown.{seen_of};
-ghost use Rattle.rina_dif.specs.Taking.{Comes, IsForLink, IsOwn, SettlesFor, TakesFor, TakesHome, TakesIn};
+ghost use Rattle.rina_dif.specs.Taking.{Comes, IsForLink, IsOwn, MayBring, OwnPieceTakenBy, SettlesFor, TakesFor, TakesHome, TakesIn};
 
 use crate::dif::Dif;
-use rina_base::{Cause, Memory, Node, PduKind, Port, Tick};
+use crate::messages_in::Handled;
+use rina_base::{Cause, Memory, Node, PduKind, PduView, Port, Tick};
 use rina_channel::is_of_link;
 use rina_data::{Decision, HopView, InStep, StepError, Took, live_link, open};
 use rina_iface::Facility;
@@ -132,6 +134,48 @@ impl Dif {
         is_of_link(&came.hop.pdu) && age <= came.hop.left
     }
 
+    /// The place of the end of the link with a port below that takes a PDU as a piece of the link's own, and the piece by the places
+    /// of the two ends. None exactly where no end takes it so.
+    fn piece_taker<'a>(&self, port: Port, came: &Came<'a>) -> Option<(usize, PduView<'a>)>
+        ensures { OwnPieceTakenBy self.now came.now.since port (hop_of came.now.hop) result }
+    {
+        if self.is_for_link(came) {
+            match came.hop.pdu.kind {
+                PduKind::Piece => self.connections.taker(port, &came.hop.pdu),
+                PduKind::Ack => None,
+            }
+        } else {
+            None
+        }
+    }
+
+    /// What the member at a place is once it handled the messages that a PDU makes whole, which came on its link of a number with a
+    /// port below. None where the PDU is no piece that an end of the link takes. The PDU is not taken.
+    fn handled_ahead(
+        &self,
+        alloc: Global,
+        at: usize,
+        number: u16,
+        port: Port,
+        came: &Came<'_>,
+    ) -> Result<Option<Handled>, Memory>
+        requires clock { self.now.clock ≤ 10_000_000 }
+        requires stands { (below : Seen) × Stands self.now below }
+        requires at { at < length self.now.settings.members }
+        ensures { IfOk result (MayBring self.now at number came.now.since port (hop_of came.now.hop)) }
+    {
+        let Some((place, pdu)) = self.piece_taker(port, came) else {
+            return Ok(None);
+        };
+        let management = self.management_ahead(alloc, at, place, number, &pdu)?;
+        let routes = self.routes_over(alloc, &management)?;
+        Ok(Some(Handled {
+            place,
+            management,
+            routes,
+        }))
+    }
+
     /// Lets the management connection of the link with a port below take a PDU that came there in time, and is for it.
     fn deliver_on_link(
         &mut self,
@@ -200,7 +244,7 @@ impl Dif {
         }
     }
 
-    /// Takes the oldest SDU of a link of the IPC process at a place.
+    /// Takes the oldest SDU of a link of the IPC process at a place, and lets the member there handle the messages that it makes whole.
     fn in_step_at<F: Facility>(
         &mut self,
         alloc: Global,
@@ -210,6 +254,7 @@ impl Dif {
     ) -> Result<InStep, StepError>
         requires valid { F.valid below.old }
         requires stands { Stands self.old (F.seen below.old) }
+        requires alive { self.old.failed ≡ false }
         requires at { at < length self.old.settings.members }
         ensures valid { F.valid below.new }
         ensures below { F.same_below below.old below.new }
@@ -218,7 +263,7 @@ impl Dif {
         ensures lower { PassesBelow (below.new ≡ below.old) (PassesAsSeen F.seen F.does_pass below.old below.new) result }
         ensures settings { self.new.settings ≡ self.old.settings }
         ensures laid { self.new.laid ≡ self.old.laid }
-        ensures whole { self.new ≡ record self.old { processes = self.new.processes; flows = self.new.flows; connections = self.new.connections } }
+        ensures whole { self.new ≡ record self.old { processes = self.new.processes; flows = self.new.flows; connections = self.new.connections; managements = self.new.managements } }
         ensures leaves { ChangesOnly (MayTake result self.old (Some at)) (Some at) self.old self.new }
         ensures failed { self.new.failed ≡ self.old.failed }
     {
@@ -240,13 +285,16 @@ impl Dif {
             since: lent.at,
             hop,
         };
+        let handled = self.handled_ahead(alloc, at, link, port, &came)?;
         let end = self.settle(alloc, at, port, &came)?;
         below.pass(port);
+        self.handle_messages(at, link, handled);
         Ok(InStep::Took { key, end })
     }
 
     /// Takes one step of the IPC process at a node at a link: the oldest SDU that waits there is taken, and the PDU in
-    /// it delivered to its connection or to that of the link, relayed, or written off.
+    /// it delivered to its connection or to that of the link, relayed, or written off. The messages of management that it makes whole are
+    /// handled in the same step.
     pub fn in_step<F: Facility>(
         &mut self,
         alloc: Global,
@@ -266,7 +314,7 @@ impl Dif {
         ensures others { OthersStand self.old (F.seen below.old) (F.seen below.new) }
         ensures settings { self.new.settings ≡ self.old.settings }
         ensures laid { self.new.laid ≡ self.old.laid }
-        ensures whole { self.new ≡ record self.old { processes = self.new.processes; flows = self.new.flows; connections = self.new.connections; failed = self.new.failed } }
+        ensures whole { self.new ≡ record self.old { processes = self.new.processes; flows = self.new.flows; connections = self.new.connections; managements = self.new.managements; failed = self.new.failed } }
         ensures leaves { ChangesOnly (MayTake result self.old (home_of self.old node)) (home_of self.old node) self.old self.new }
         ensures failed { self.old.failed ≡ true → result ≡ Err MemoryWanted }
         ensures fails { self.new.failed ≡ true ↔ (result ≡ Err MemoryWanted) }

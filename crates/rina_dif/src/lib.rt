@@ -22,6 +22,7 @@ mod lost_links;
 mod managements;
 mod message_step;
 mod messages;
+mod messages_in;
 mod names;
 mod objects;
 mod out_step;

@@ -113,7 +113,11 @@ impl Dif {
     }
 
     /// The next hops over the items that a management holds.
-    fn routes_over(&self, alloc: Global, management: &Management) -> Result<Seq<Route>, Memory>
+    pub(crate) fn routes_over(
+        &self,
+        alloc: Global,
+        management: &Management,
+    ) -> Result<Seq<Route>, Memory>
         ensures { IfOk result (AreRoutesOf management.now.agent self.now.settings.members) }
     {
         let routes = routes_of(alloc, &management.agent, self.settings.members.as_slice())?;

@@ -32,6 +32,7 @@ use Rattle.rina_dif_law.specs.Sending.{home}
 use Rattle.rina_dif_law.specs.Standing.{AreIds, IsConn, IsJournal, IsOwn, IsStanding}
 use Rattle.rina_dif_law.specs.Start.{IsFresh}
 use Rattle.rina_dif_law.proofs.Finding.{cube_limits}
+use Rattle.rina_dif_law.proofs.Frame.{stands_own}
 use Rattle.rina_dif_law.proofs.HeldIds.{both_are_drawn, both_drawn, both_held, free_a, free_b}
 use Rattle.rina_dif_law.proofs.Joined.{none_joined}
 use Rattle.rina_dif_law.proofs.Numbering.{counts}
@@ -96,6 +97,14 @@ module _ (d : DifSeen) (lines : List Direction) (below : Seen) (st : IsStanding 
       let count' : e.flow.count < asked_at node d.ends = subst (λ (z : ℕ). e.flow.count < asked_at z d.ends) (ap (λ (x : Member). x.node) member_is ∙ node_is) count in
       let at : e.flow.count ≡ asked_at node d.ends = ap (λ (f : FlowName). f.count) same in
       omega (arith, count', at)
+
+-- a direction that starts holds nothing that has not come
+pub nothing_come : (d : DifSeen) (below : Seen) (c : Ids) (l : Direction) → IsFresh d c l → (g : Ids) → HoldsCome d.config d.clock below g l
+nothing_come d below c l is g = subst (HoldsCome d.config d.clock below g) (sym is.is) (record {
+  joined = none_joined (piece_size d.config) (HasCome d.config below g d.clock);
+  held = λ p x. absurd x;
+  sized = λ p x. absurd x;
+})
 
 -- ---- both ends
 
@@ -296,30 +305,12 @@ module _ (d : DifSeen) (lines : List Direction) (below : Seen) (st : IsStanding 
       back_is = is_fresh_back.is ∙ ap (λ (x : Cube). ticked d.clock (start (constants d.config x (flipped ids)))) (sym (one_cube is_fresh_back.cube is_fresh_back.is_cube));
     }) held' (both_held d.config d.clock d.ids a_draws.place b_draws.place scep dcep of_a of_b n.members.addrs a_draws.stands b_draws.stands (λ is. addrs_apart (sym is)) draws draws' st.own.flows (rest_of (constants d.config is_fresh.cube ids)) st.own.kept)
 
-    nothing_come : (c : Ids) (l : Direction) → IsFresh d c l → (g : Ids) → HoldsCome d.config d.clock below g l
-    nothing_come c l is g = subst (HoldsCome d.config d.clock below g) (sym is.is) (record {
-      joined = none_joined (piece_size d.config) (HasCome d.config below g d.clock);
-      held = λ p x. absurd x;
-      sized = λ p x. absurd x;
-    })
-
     module _ (names : List Registered) where
       abbrev d' : DifSeen
       d' = record d { ends = ends'; conns = conns'; ids = held'; names = names }
 
       bound_standing : IsStanding d' lines' below
-      bound_standing = record {
-        config = st.config;
-        clock = st.clock;
-        aligned = st.aligned;
-        linked = st.linked;
-        inside = st.inside;
-        spelled = st.spelled;
-        items = st.items;
-        journal = bound_journal;
-        ports = record { own = bound_ports.own; apart = bound_ports.apart; drawn = bound_ports.drawn };
-        own = bound_own;
-      }
+      bound_standing = stands_own d lines lines' below ends' conns' held' d.waiting names st bound_journal bound_ports bound_own
 
       bound_carrying : IsCarrying d lines below → IsCarrying d' lines' below
       bound_carrying c = record {
@@ -334,8 +325,8 @@ module _ (d : DifSeen) (lines : List Direction) (below : Seen) (st : IsStanding 
               c.holding i from e g l o (record { partner = h.partner; is_partner = was; partners = h.partners; is_line = old_beside d.ends lines line back from h.partner l st.own.lines_alike was h.is_line })
           | inr t ↦ elim (two_at d.ends asker far from h.partner h.is_partner) [
             | inl q ↦ absurd (fresh from h.partner q (sym h.partners.same_flow ∙ flow_of_new e t))
-            | inr (inl q) ↦ nothing_come ids l (subst (IsFresh d ids) (sym (first_beside d.ends lines line back from l st.own.lines_alike q.0 h.is_line)) is_fresh) g
-            | inr (inr q) ↦ nothing_come (flipped ids) l (subst (IsFresh d (flipped ids)) (sym (second_beside d.ends lines line back from l st.own.lines_alike q.0 h.is_line)) is_fresh_back) g
+            | inr (inl q) ↦ nothing_come d below ids l (subst (IsFresh d ids) (sym (first_beside d.ends lines line back from l st.own.lines_alike q.0 h.is_line)) is_fresh) g
+            | inr (inr q) ↦ nothing_come d below (flipped ids) l (subst (IsFresh d (flipped ids)) (sym (second_beside d.ends lines line back from l st.own.lines_alike q.0 h.is_line)) is_fresh_back) g
           ]
         ];
       }

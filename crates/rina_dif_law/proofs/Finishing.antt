@@ -4,17 +4,19 @@ use Rattle.rina_base.specs.declared.pdu.Pdu.{Pdu}
 use Rattle.rina_iface.specs.declared.ends.End.{End}
 use Rattle.rina_iface.specs.declared.state.PortState.{PortState}
 use Rattle.rina_iface.specs.Journal.{At, IsWhole}
-use Rattle.rina_iface.specs.Later.{IsLaterEnd}
+use Rattle.rina_iface.specs.Later.{Moves}
 use Rattle.rina_iface.specs.Seen.{Seen}
 use Rattle.rina_iface.proofs.Changed.{set_at}
-use Rattle.rina_iface.proofs.Later.{ends_set, grows_refl}
+use Rattle.rina_iface.proofs.Later.{end_restated, ends_set}
 use Rattle.rina_law.specs.Direction.{Direction}
+use Rattle.rina_ids.specs.Members.{CepIds}
 use Rattle.rina_rest.specs.Naming.{Naming}
 use Rattle.rina_dif_law.specs.Carried.{IsCarrying}
 use Rattle.rina_dif_law.specs.Cloud.{Cloud, Everywhere}
 use Rattle.rina_dif_law.specs.Dif.{DifSeen, fac_of}
 use Rattle.rina_data.specs.Process.{Process, with_offs}
 use Rattle.rina_dif_law.specs.Ending.{IsEnded}
+use Rattle.rina_dif_law.specs.Ids.{Ids}
 use Rattle.rina_dif_law.specs.Numbered.{IsNumbered}
 use Rattle.rina_dif_law.specs.Standing.{IsOfFlow, IsStanding}
 use Rattle.rina_dif_law.specs.Upward.{IsSilent}
@@ -61,18 +63,21 @@ ended_carries d lines below at state d' c s =
     (carrying_same d d'' lines lines NoMore below below c (after_none d.config below) refl refl (omega arith)
     (end_set d.ends at s.end end' s.is_conn.end (record { flow = refl; role = refl; port = refl; app = refl; peer = refl; cube = refl }) refl) (line_was lines))
 
-pub ended_silent : (d : DifSeen) (lines : List Direction) (at : ℕ) (state : PortState) (d' : DifSeen) → IsEnded d lines at state d' → IsSilent d d'
-ended_silent d lines at state d' s =
-    let end' : End = record s.end { state = state } in
-    let later : IsLaterEnd d.clock d.clock s.end end' = record { flow = refl; role = refl; port = refl; app = refl; peer = refl; cube = refl; sent = grows_refl d.clock d.clock s.end.sent; got = grows_refl d.clock d.clock s.end.got; taken = omega arith; state = s.moves; only_allocated = λ none. refl } in
-    subst (IsSilent d) (sym s.new_is) (record {
-      later = record { ends = ends_set d.clock d.clock d.ends at s.end end' s.is_conn.end later; cubes = refl };
-      number = length-set d.ends at end';
-      same = λ j e e' x y. elim (set_at d.ends at j s.end end' e' s.is_conn.end y) [
+-- an end moves on, and nothing else of the journal changes
+pub restated_silent : (d : DifSeen) (at : ℕ) (e : End) (state : PortState) (conns : List Ids) (processes : List Process) (held : List CepIds) → At d.ends at e → Moves e.state state → IsSilent d (record d { ends = slice_set d.ends at (record e { state = state }); conns = conns; processes = processes; ids = held })
+restated_silent d at e state conns processes held is moves =
+    let e' : End = record e { state = state } in
+    record {
+      later = record { ends = ends_set d.clock d.clock d.ends at e e' is (end_restated d.clock d.clock e state moves); cubes = refl };
+      number = length-set d.ends at e';
+      same = λ j a a' x y. elim (set_at d.ends at j e e' a' is y) [
         | inl t ↦
-            let there : At d.ends j s.end = ap (slice_get d.ends) t.0 ∙ s.is_conn.end in
-            let is : s.end ≡ e = cc in
-            (ap (λ (z : End). z.sent) t.1 ∙ ap (λ (z : End). z.sent) is, ap (λ (z : End). z.taken) t.1 ∙ ap (λ (z : End). z.taken) is)
-        | inr f ↦ (let was = f.1 in let is : e' ≡ e = cc in (ap (λ (z : End). z.sent) is, ap (λ (z : End). z.taken) is))
+            let there : At d.ends j e = ap (slice_get d.ends) t.0 ∙ is in
+            let one : e ≡ a = cc in
+            (ap (λ (z : End). z.sent) t.1 ∙ ap (λ (z : End). z.sent) one, ap (λ (z : End). z.taken) t.1 ∙ ap (λ (z : End). z.taken) one)
+        | inr f ↦ (let was = f.1 in let one : a' ≡ a = cc in (ap (λ (z : End). z.sent) one, ap (λ (z : End). z.taken) one))
       ];
-    })
+    }
+
+pub ended_silent : (d : DifSeen) (lines : List Direction) (at : ℕ) (state : PortState) (d' : DifSeen) → IsEnded d lines at state d' → IsSilent d d'
+ended_silent d lines at state d' s = subst (IsSilent d) (sym s.new_is) (restated_silent d at s.end state d.conns (slice_set d.processes s.i (with_offs s.process s.dropped)) s.held s.is_conn.end s.moves)

@@ -86,7 +86,7 @@ nothing_made size addr k e None none = refl
 nothing_made size addr k e (Some c) none = either_none _ (times k.seq (journal_numbers size e.sent)) (ap (λ (xs : List Entry). times k.seq (journal_numbers size xs)) none)
 
 -- one that got nothing, in a direction that holds nothing, keeps nothing
-nothing_kept : (size : ℕ) (ends : List End) (lines : List Direction) (addr : ℕ) (k : Key) (e : End) (o : Option Ids) → e.got ≡ [] → held_in (inbound_of ends lines e) k.seq ≡ 0 → kept_by size ends lines addr k (Some e) o ≡ 0
+pub nothing_kept : (size : ℕ) (ends : List End) (lines : List Direction) (addr : ℕ) (k : Key) (e : End) (o : Option Ids) → e.got ≡ [] → held_in (inbound_of ends lines e) k.seq ≡ 0 → kept_by size ends lines addr k (Some e) o ≡ 0
 nothing_kept size ends lines addr k e None none held = refl
 nothing_kept size ends lines addr k e (Some c) none held =
     let got : times k.seq (journal_numbers size e.got) ≡ 0 = ap (λ (xs : List Entry). times k.seq (journal_numbers size xs)) none in

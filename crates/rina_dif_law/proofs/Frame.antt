@@ -1,6 +1,7 @@
 -- What of standing a call keeps whatever it does, and what is left to show.
 use Rattle.std.proofs.Common.{◌≡◌, ℕ, ◌≤◌, List, [], ◌∷◌, length, slice_get, Some, sym, ◌∙◌, subst, arith, inl, inr, ◌⊎◌}
 use Rattle.rina_base.specs.declared.number.Port.{Port}
+use Rattle.rina_iface.specs.declared.ask.Registered.{Registered}
 use Rattle.rina_iface.specs.declared.ends.End.{End}
 use Rattle.rina_iface.specs.Journal.{HasPorts}
 use Rattle.rina_iface.specs.Seen.{Seen, end_of}
@@ -12,6 +13,7 @@ use Rattle.rina_dif_law.specs.Cloud.{Cloud, Everywhere, IsMine}
 use Rattle.rina_data.specs.declared.link.Link.{Link}
 use Rattle.rina_data.specs.Configs.{Config}
 use Rattle.rina_dif_law.specs.Dif.{DifSeen, fac_of}
+use Rattle.rina_dif_law.specs.Ids.{Ids}
 use Rattle.rina_data.specs.Process.{Process}
 use Rattle.rina_dif_law.specs.Standing.{HasLink, IsInside, IsItem, IsJournal, IsLinked, IsOwn, IsSpelled, IsStanding}
 use Rattle.rina_dif_law.proofs.After.{IsAfter, back}
@@ -80,3 +82,19 @@ pub stands_with : (d : DifSeen) (lines lines' : List Direction) (more : Port →
     → IsJournal clock ends → HasPorts d.config.fac (fac_of (record d { clock = clock; processes = processes; ends = ends })) → IsOwn d.config clock (Cloud Everywhere d.config processes below') d.ids ends d.conns lines'
     → IsStanding (record d { clock = clock; processes = processes; ends = ends }) lines' below'
 stands_with d lines lines' more items below below' clock processes ends st after is le alike moved links spelled fit journal ports own = stands_held d lines lines' more items below below' clock processes ends d.ids st after is le alike moved links spelled fit journal ports own
+
+-- where the own flows changed, and nothing else
+pub stands_own : (d : DifSeen) (lines lines' : List Direction) (below : Seen) (ends : List End) (conns : List Ids) (held : List CepIds) (waiting : List ℕ) (names : List Registered) → IsStanding d lines below → IsJournal d.clock ends → HasPorts d.config.fac (fac_of (record d { ends = ends })) → IsOwn d.config d.clock (Cloud Everywhere d.config d.processes below) held ends conns lines'
+    → IsStanding (record d { ends = ends; conns = conns; ids = held; waiting = waiting; names = names }) lines' below
+stands_own d lines lines' below ends conns held waiting names st journal ports own = record {
+  config = st.config;
+  clock = st.clock;
+  aligned = st.aligned;
+  linked = st.linked;
+  inside = st.inside;
+  spelled = st.spelled;
+  items = st.items;
+  journal = journal;
+  ports = record { own = ports.own; apart = ports.apart; drawn = ports.drawn };
+  own = own;
+}

@@ -41,7 +41,7 @@ offered_by id (c ∷ cs) = go (eqb c.id id) (offered_by id cs)
     go true e = refl
     go false e = e
 
-none_got : (xs : List Entry) (P : Type 0) → ((j : ℕ) (x : Entry) → slice_get xs j ≡ Some x → P) → (P → ⊥) → xs ≡ []
+pub none_got : (xs : List Entry) (P : Type 0) → ((j : ℕ) (x : Entry) → slice_get xs j ≡ Some x → P) → (P → ⊥) → xs ≡ []
 none_got [] P has none = refl
 none_got (x ∷ xs) P has none = absurd (none (has 0 x refl))
 

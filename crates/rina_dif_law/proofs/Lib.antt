@@ -1,5 +1,7 @@
 pub mod Accounting
 pub mod After
+pub mod Answered
+pub mod Appended
 pub mod Arrivals
 pub mod Asked
 pub mod Balancing
@@ -11,6 +13,7 @@ pub mod Coming
 pub mod Decided
 pub mod Ends
 pub mod Facades
+pub mod FarMade
 pub mod Finding
 pub mod Finishing
 pub mod Flows
@@ -55,6 +58,7 @@ pub mod Stepping
 pub mod Taking
 pub mod Tallies
 pub mod Totals
+pub mod TurnedDown
 pub mod Upper
 pub mod Verdicts
 pub mod Warranted

@@ -25,6 +25,7 @@ use Rattle.rina_law.specs.Direction.{Direction}
 use Rattle.rina_law.specs.Lists.{In}
 use Rattle.rina_law.specs.Pieces.{Part}
 use Rattle.rina_queue.specs.declared.queue.Queued.{Queued}
+use Rattle.rina_ids.specs.Members.{CepIds}
 use Rattle.rina_data.specs.declared.step.InStep.{InStep}
 use Rattle.rina_data.specs.declared.step.InStep.TheVariants as in_
 use Rattle.rina_data.specs.declared.step.OutStep.{OutStep}
@@ -38,7 +39,7 @@ use Rattle.rina_data.specs.Hops.{Hop}
 use Rattle.rina_dif_law.specs.Dif.{DifSeen, constants, with_process}
 use Rattle.rina_data.specs.Configs.{Member}
 use Rattle.rina_data.specs.Process.{Process, with_offs, with_put}
-use Rattle.rina_dif_law.specs.Ending.{IsEnded}
+use Rattle.rina_dif_law.specs.Ending.{GivesBack, IsEnded}
 use Rattle.rina_dif_law.specs.Ids.{Ids}
 use Rattle.rina_dif_law.specs.Incoming.{Ins, IsArrived, IsRelayed, Settles, SettlesFlow, SettlesOff, cause_told, lines_for}
 use Rattle.rina_dif_law.specs.Lifting.{IsLifted}
@@ -379,19 +380,22 @@ forgotten_numbered d lines below at d' lines' n s =
     let process' : Process = with_offs s.process s.dropped in
     numbered_at d d' d.clock (slice_set d.processes s.i process') d.ends below below s.new_is silent.later.ends silent.number n (none_here d (slice_set d.processes s.i process') below below n (requeued_same d.processes s.i s.process process' s.is_home.is_process refl) (after_none d.config below))
 
+-- a member gives an id back
+pub rested_numbered : (d : DifSeen) (below : Seen) (at : ℕ) (e : End) (held : List CepIds) → IsNumbered d below → GivesBack d at e held → IsNumbered (record d { ids = held }) below
+rested_numbered d below at e held n g = record {
+  members = n.members;
+  addressed = n.addressed;
+  counted = n.counted;
+  drawn = subst (AreDrawn d.config d.ends) (sym g.held_is) (rest_drawn d.config d.ends d.ids g.place g.old g.ids.scep (d.clock + 3 * delta_of g.cube) g.is_old n.drawn);
+  named = n.named;
+}
+
 pub ended_numbered : (d : DifSeen) (lines : List Direction) (below : Seen) (at : ℕ) (state : PortState) (d' : DifSeen) → IsNumbered d below → IsEnded d lines at state d' → IsNumbered d' below
 ended_numbered d lines below at state d' n s =
     let silent = ended_silent d lines at state d' s in
     let process' : Process = with_offs s.process s.dropped in
-    let g = s.gives_back in
     let held : DifSeen = record d { ids = s.held } in
-    let n' : IsNumbered held below = record {
-      members = n.members;
-      addressed = n.addressed;
-      counted = n.counted;
-      drawn = subst (AreDrawn d.config d.ends) (sym g.held_is) (rest_drawn d.config d.ends d.ids g.place g.old g.ids.scep (d.clock + 3 * delta_of g.cube) g.is_old n.drawn);
-      named = n.named;
-    } in
+    let n' : IsNumbered held below = rested_numbered d below at s.end s.held n s.gives_back in
     numbered_at held d' d.clock (slice_set d.processes s.i process') _ below below s.new_is silent.later.ends silent.number n' (none_here held (slice_set d.processes s.i process') below below n' (requeued_same d.processes s.i s.process process' s.is_process refl) (after_none d.config below))
 
 -- ---- the start

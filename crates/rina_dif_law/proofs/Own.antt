@@ -1,8 +1,9 @@
 -- What a call does to the own flows: an end and the direction in which it sends change, an end and the direction in
 -- which it receives, a direction alone, or none.
-use Rattle.std.proofs.Common.{◌≡◌, ◌≢◌, ℕ, ◌+◌, ◌-◌, ◌<◌, ◌≤◌, List, length, map, slice_get, slice_set, Some, None, Option, option_map, true, length-set, refl, sym, ◌∙◌, ap, subst, inl, inr, ◌⊎◌}
+use Rattle.std.proofs.Common.{◌≡◌, ◌≢◌, ℕ, ◌+◌, ◌-◌, ◌<◌, ◌≤◌, List, [], length, map, slice_get, slice_set, Some, None, Option, option_map, true, length-set, refl, sym, ◌∙◌, ap, subst, inl, inr, ◌⊎◌}
 use Rattle.std.proofs.lemmas.List.{length-map}
 use Rattle.std.proofs.lemmas.Option.{same_Some, slice_get-map}
+use Rattle.rina_base.specs.declared.number.FlowName.{FlowName}
 use Rattle.rina_base.specs.declared.pdu.Pdu.{Pdu}
 use Rattle.rina_base.specs.declared.pdu.PduKind.TheVariants.{Piece as APiece, Ack as AnAck}
 use Rattle.rina_iface.specs.declared.ends.End.{End}
@@ -28,7 +29,7 @@ use Rattle.rina_ids.specs.Members.{CepIds}
 use Rattle.rina_dif_law.specs.Dif.{constants}
 use Rattle.rina_dif_law.specs.Ids.{AcksOf, Ids, PiecesOf, flipped}
 use Rattle.rina_dif_law.specs.Lifting.{ticked}
-use Rattle.rina_dif_law.specs.Places.{IsEndOf, IsUp, Knows, Place, ids_from, role_of}
+use Rattle.rina_dif_law.specs.Places.{IsEndOf, IsUp, Knows, Place, ids_from, role_of, there_of}
 use Rattle.rina_dif_law.specs.Standing.{AreEntered, AreIds, IsConn, IsDirection, IsFlow, IsJournal, IsOfFlow, IsOwn, IsUntold, RestsBy}
 use Rattle.rina_dif_law.proofs.Finding.{beside}
 use Rattle.rina_dif_law.proofs.Flows.{acks_apart, flow_kept, flow_moved, flow_recovered, flow_redirected, flow_ticked, from_still, guarded_covers, pieces_apart, ticked_untold}
@@ -77,17 +78,40 @@ pub record HasJournals (now : ℕ) (a b : End) (line : Direction) : Type 0 where
   pub passed : line.passed ≡ b.taken
 
 -- what stays of an end that changes
-pub end_const : (flow : Flow) (side : Side) (e e' : End) (c : Ids) → IsConst e e' → e'.state ≡ e.state → IsEndOf flow side e c → IsEndOf flow side e' c
-end_const flow side e e' c const state h = record {
+pub end_const : (flow : Flow) (side : Side) (e e' : End) (c : Ids) → IsConst e e' → e'.state ≡ e.state → (flow.far ≡ None → e'.sent ≡ []) → IsEndOf flow side e c → IsEndOf flow side e' c
+end_const flow side e e' c const state unsent h = record {
   point = h.point;
   is = h.is;
   role = const.role ∙ h.role;
   own = h.own;
+  far = h.far;
   scep = h.scep;
   up = λ u. h.up (subst IsUp state u);
   still = λ s. subst IsUp (sym state) (h.still s);
   knows = λ s. h.knows (sym state ∙ s);
+  waits = λ s. h.waits (sym state ∙ s);
   known = λ far is knows. h.known far is knows ∙ ap (λ (q : ℕ). ids_from side flow far q) (sym const.cube);
+  asked = λ none. ap (λ (f : FlowName). f.tick) const.flow ∙ h.asked none;
+  unsent = unsent;
+}
+
+-- its flow changes, but not this end of it, nor what it knows of the other one
+pub end_on : (f f' : Flow) (side : Side) (e : End) (c : Ids) (h : IsEndOf f side e c) → end_at side f' ≡ Some h.point → there_of side f ≡ there_of side f' → (Knows side f → Knows side f') → (Knows side f' → Knows side f)
+    → ((far : Endpoint) → f'.far ≡ Some far → Knows side f' → c ≡ ids_from side f' far e.cube) → (f'.far ≡ None → (e.flow.tick ≡ f'.asked) × (e.sent ≡ [])) → IsEndOf f' side e c
+end_on f f' side e c h is there more less known alone = record {
+  point = h.point;
+  is = is;
+  role = h.role;
+  own = h.own;
+  far = h.far ∙ there;
+  scep = h.scep;
+  up = h.up;
+  still = h.still;
+  knows = λ s. more (h.knows s);
+  waits = λ s knows. h.waits s (less knows);
+  known = known;
+  asked = λ none. (alone none).0;
+  unsent = λ none. (alone none).1;
 }
 
 -- an end changes, but not in what is the same all its life
@@ -138,14 +162,21 @@ module _ (g : Config) (now : ℕ) (cloud : ℕ → Pdu → Type 0) (held : List 
       let ne : x.side ≡ y.0.side → ⊥ = λ e. p.other_role (n.end.role ∙ ap role_of (sym e) ∙ sym m.role) in
       subst (λ (z : Flow). IsEndOf z (opposite x.side) b f) one (subst (λ (z : Side). IsEndOf n.flow z b f) (other_side x.side y.0.side ne) n.end)
 
+  -- so its flow has a far end
+  pub has_far : (i k : ℕ) (a b : End) (x : Place) (flow : Flow) → At ends i a → At ends k b → IsPartner a b → slice_get own.places i ≡ Some x → slice_get own.flows x.flow ≡ Some flow → (far : Endpoint) × (flow.far ≡ Some far)
+  has_far i k a b x flow is_a is_b p is_x stands =
+      let c = beside ends conns i a own.alike is_a in
+      let f = beside ends conns k b own.alike is_b in
+      let m = end_of_flow i a c.0 x flow (record { end = is_a; ids_are = c.1 }) is_x stands in
+      let n = far_end_of_flow i k a b f.0 x flow is_a (record { end = is_b; ids_are = f.1 }) p is_x stands in
+      far_of x.side flow m.point n.point m.is n.is
+
   pub pair : (i k : ℕ) (a b : End) → At ends i a → At ends k b → IsPartner a b → IsPair own.flows own.places i
   pair i k a b is_a is_b p =
       let c = beside ends conns i a own.alike is_a in
-      let f = beside ends conns k b own.alike is_b in
       let x = beside ends own.places i a own.entered.places_alike is_a in
       let m = own.entered.each i a c.0 x.0 (record { end = is_a; ids_are = c.1 }) x.1 in
-      let n = far_end_of_flow i k a b f.0 x.0 m.flow is_a (record { end = is_b; ids_are = f.1 }) p x.1 m.stands in
-      let far = far_of x.0.side m.flow m.end.point n.point m.end.is n.is in
+      let far = has_far i k a b x.0 m.flow is_a is_b p x.1 m.stands in
       record { x = x.0; is_x = x.1; flow = m.flow; stands = m.stands; far = far.0; known = far.1 }
 
   -- the ids of a direction, by a sender that knows its receiver
@@ -405,13 +436,21 @@ module _ (g : Config) (now : ℕ) (cloud : ℕ → Pdu → Type 0) (held : List 
         | inr f ↦ inr (f.0, record { end = f.1; ids_are = h.ids_are })
       ]
 
-      entered_set : AreEntered (slice_set ends at e') conns own.flows own.places
-      entered_set = record {
+      -- while its flow has no far end it sent nothing
+      abbrev StillUnsent : Type 0
+      StillUnsent = (x : Place) (flow : Flow) → slice_get own.places at ≡ Some x → slice_get own.flows x.flow ≡ Some flow → flow.far ≡ None → e'.sent ≡ []
+
+      unsent_same : e'.sent ≡ e.sent → StillUnsent
+      unsent_same same x flow is_x stands none = (let c = beside ends conns at e own.alike is in same ∙ (end_of_flow at e c.0 x flow (record { end = is; ids_are = c.1 }) is_x stands).unsent none)
+
+      entered_set : StillUnsent → AreEntered (slice_set ends at e') conns own.flows own.places
+      entered_set unsent = record {
         places_alike = own.entered.places_alike ∙ sym (length-set ends at e');
         each = λ i a c x conn is_x. elim (conn_cases i a c conn) [
           | inl t ↦
-              (let m = own.entered.each at e c x t.2 (subst (λ (n : ℕ). slice_get own.places n ≡ Some x) t.0 is_x) in
-              record { flow = m.flow; stands = m.stands; end = subst (λ (z : End). IsEndOf m.flow x.side z c) (sym t.1) (end_const m.flow x.side e e' c const state m.end) })
+              (let there = subst (λ (n : ℕ). slice_get own.places n ≡ Some x) t.0 is_x in
+              let m = own.entered.each at e c x t.2 there in
+              record { flow = m.flow; stands = m.stands; end = subst (λ (z : End). IsEndOf m.flow x.side z c) (sym t.1) (end_const m.flow x.side e e' c const state (unsent x m.flow there m.stands) m.end) })
           | inr f ↦ own.entered.each i a c x f.1 is_x
         ];
         once = own.entered.once;
@@ -420,15 +459,15 @@ module _ (g : Config) (now : ℕ) (cloud : ℕ → Pdu → Type 0) (held : List 
         all = own.entered.all;
       }
 
-      own_set : (lines' : List Direction) → length lines' ≡ length lines → LedgerHolds now own.flows (Naming (IsOfFlow g) cloud')
+      own_set : (lines' : List Direction) → length lines' ≡ length lines → StillUnsent → LedgerHolds now own.flows (Naming (IsOfFlow g) cloud')
           → ((i k : ℕ) (a b : End) (x : Place) (flow : Flow) (far : Endpoint) (line : Direction) → At (slice_set ends at e') i a → At (slice_set ends at e') k b → IsPartner a b → slice_get own.places i ≡ Some x → slice_get own.flows x.flow ≡ Some flow → flow.far ≡ Some far → slice_get lines' i ≡ Some line → IsFlow g now cloud' flow far x.side a b (ids_from x.side flow far a.cube) line)
           → IsOwn g now cloud' held (slice_set ends at e') conns lines'
-      own_set lines' alike ledger flows_are = record {
+      own_set lines' alike unsent ledger flows_are = record {
         alike = own.alike ∙ sym (length-set ends at e');
         lines_alike = alike ∙ own.lines_alike ∙ sym (length-set ends at e');
         flows = own.flows;
         places = own.places;
-        entered = entered_set;
+        entered = entered_set unsent;
         ledger = ledger;
         rests = rests_set g ends own.flows own.places at e e' is const own.rests;
         kept = own.kept;
@@ -450,11 +489,11 @@ module _ (g : Config) (now : ℕ) (cloud : ℕ → Pdu → Type 0) (held : List 
       ]
 
       -- the end and the direction in which it sends
-      pub own_sent : (line line' : Direction) → slice_get lines at ≡ Some line → e'.got ≡ e.got → e'.taken ≡ e.taken → LedgerHolds now own.flows (Naming (IsOfFlow g) cloud')
+      pub own_sent : (line line' : Direction) → slice_get lines at ≡ Some line → e'.got ≡ e.got → e'.taken ≡ e.taken → StillUnsent → LedgerHolds now own.flows (Naming (IsOfFlow g) cloud')
           → ((k : ℕ) (b : End) (x : Place) (flow : Flow) (far : Endpoint) → At ends k b → IsPartner e b → slice_get own.places at ≡ Some x → slice_get own.flows x.flow ≡ Some flow → flow.far ≡ Some far → IsFlow g now cloud flow far x.side e b (ids_from x.side flow far e.cube) line → IsFlow g now cloud' flow far x.side e' b (ids_from x.side flow far e.cube) line')
           → ((i : ℕ) → i ≢ at → Carries i)
           → IsOwn g now cloud' held (slice_set ends at e') conns (slice_set lines at line')
-      own_sent line line' is_line got taken ledger main other = own_set (slice_set lines at line') (length-set lines at line') ledger (λ i k a b x flow far m ha hb p is_x stands known z.
+      own_sent line line' is_line got taken unsent ledger main other = own_set (slice_set lines at line') (length-set lines at line') unsent ledger (λ i k a b x flow far m ha hb p is_x stands known z.
           let r = was_got got taken k b hb in
           elim (set_at ends at i e e' a is ha) [
             | inl s ↦
@@ -478,7 +517,7 @@ module _ (g : Config) (now : ℕ) (cloud : ℕ → Pdu → Type 0) (held : List 
       pub own_received : IsJournal now ends → (from : ℕ) (partner : End) → At ends from partner → IsPartner partner e → (line line' : Direction) → slice_get lines from ≡ Some line → e'.sent ≡ e.sent → Covers now cloud cloud'
           → ((x : Place) (flow : Flow) (far : Endpoint) → slice_get own.places from ≡ Some x → slice_get own.flows x.flow ≡ Some flow → flow.far ≡ Some far → IsFlow g now cloud flow far x.side partner e (ids_from x.side flow far partner.cube) line → IsFlow g now cloud' flow far x.side partner e' (ids_from x.side flow far partner.cube) line')
           → IsOwn g now cloud' held (slice_set ends at e') conns (slice_set lines from line')
-      own_received journal from partner is_partner partners line line' is_line sent covers main = own_set (slice_set lines from line') (length-set lines from line') (ledger_covered covers) (λ i k a b x flow far m ha hb p is_x stands known z.
+      own_received journal from partner is_partner partners line line' is_line sent covers main = own_set (slice_set lines from line') (length-set lines from line') (unsent_same sent) (ledger_covered covers) (λ i k a b x flow far m ha hb p is_x stands known z.
           let l = was_sent sent i a ha in
           let r = was_end ends at e e' is const k b hb in
           let p' : IsPartner l.0 r.0 = partner_was l.0 r.0 a b l.2 r.2 p in

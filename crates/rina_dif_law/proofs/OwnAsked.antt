@@ -1,5 +1,5 @@
 -- A flow is asked for: it has the asker's end alone, which waits.
-use Rattle.std.proofs.Common.{◌≡◌, ◌≢◌, ℕ, ◌⊎◌, List, [], ◌∷◌, ◌++◌, length, slice_get, Some, refl, sym, ◌∙◌, ap, subst, arith, inl, inr}
+use Rattle.std.proofs.Common.{◌≡◌, ◌≢◌, ℕ, ◌⊎◌, true, false, List, [], ◌∷◌, ◌++◌, length, slice_get, Some, refl, sym, ◌∙◌, ap, subst, arith, inl, inr}
 use Rattle.std.proofs.lemmas.Option.{none-some, same_Some, slice_get_within}
 use Rattle.rina_base.specs.declared.pdu.Pdu.{Pdu}
 use Rattle.rina_cube.specs.declared.Cube.{Cube}
@@ -34,6 +34,8 @@ pub record IsAsked (g : Config) (now : ℕ) (ends : List End) (flows : List Flow
   pub fresh : (i : ℕ) (e : End) → At ends i e → e.flow ≢ asker.flow
   pub asks : asker.role ≡ roles.Asker
   pub waits : asker.state ≡ Pending
+  pub asked : asker.flow.tick ≡ now
+  pub unsent : asker.sent ≡ []
   pub asker_cube : asker.cube ≡ ids.qos
   pub apart : ids.far ≡ ids.own → ⊥
   pub free : IsFree now flows ids.own ids.scep
@@ -79,11 +81,15 @@ module _ (g : Config) (now : ℕ) (cloud : ℕ → Pdu → Type 0) (held : List 
     is = refl;
     role = new.asks;
     own = refl;
+    far = refl;
     scep = refl;
     up = λ u. refl;
     still = λ none. subst IsUp (sym new.waits) tt;
     knows = λ is. absurd (let waits = new.waits in cc);
+    waits = λ is knows. (let untold : false ≡ true = knows in cc);
     known = λ far is knows. absurd (none-some far is);
+    asked = λ none. new.asked;
+    unsent = λ none. new.unsent;
   }
 
   here_entered : IsEntered flows' here asker ids

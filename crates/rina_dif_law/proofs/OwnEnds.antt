@@ -24,12 +24,12 @@ use Rattle.rina_ids.specs.Members.{CepIds}
 use Rattle.rina_dif_law.specs.CepIds.{AreHeld}
 use Rattle.rina_dif_law.specs.Dif.{constants}
 use Rattle.rina_dif_law.specs.Ids.{AcksOf, Ids, PiecesOf}
-use Rattle.rina_dif_law.specs.Places.{IsEndOf, IsEntered, IsUp, Knows, Place, ids_from}
+use Rattle.rina_dif_law.specs.Places.{IsEndOf, IsEntered, IsUp, Knows, Place, ids_from, there_of}
 use Rattle.rina_dif_law.specs.Standing.{AreEntered, IsConn, IsFlow, IsOfFlow, IsOwn, IsUntold, RestsBy}
 use Rattle.rina_dif_law.proofs.Finding.{beside}
 use Rattle.rina_dif_law.proofs.Flows.{flow_moved}
 use Rattle.rina_dif_law.proofs.Journals.{IsConst, was_end}
-use Rattle.rina_dif_law.proofs.Own.{apart_set, end_of_flow, ids_set, named_set, rests_set}
+use Rattle.rina_dif_law.proofs.Own.{apart_set, end_of_flow, end_on, ids_set, named_set, rests_set}
 use Rattle.rina_dif_law.proofs.Placed.{opposite, unrested_up}
 
 -- an allocated end that moves on has ended
@@ -106,6 +106,21 @@ point_cep : (now : ℕ) (s : Side) (f : Flow) (far point : Endpoint) → Given s
 point_cep now Asker f far point known is = sym (ap (λ (z : Endpoint). z.cep) (same_Some f.asker point is))
 point_cep now Far f far point known is = ap (λ (z : Endpoint). z.cep) (same_Some point far (sym is ∙ known))
 
+-- whom an end was made to reach, and where no far end is made: none was, and the flow was asked for at the same tick
+there_after : (now : ℕ) (s t : Side) (f : Flow) (far : Endpoint) → there_of t f ≡ there_of t (ended_at now s f far)
+there_after now Asker Asker f far = refl
+there_after now Asker Far f far = refl
+there_after now Far Asker f far = refl
+there_after now Far Far f far = refl
+
+none_before : (now : ℕ) (s : Side) (f : Flow) (far : Endpoint) → (ended_at now s f far).far ≡ None → f.far ≡ None
+none_before now Asker f far none = none
+none_before now Far f far none = absurd (none-some (record far { ended = Some now }) (sym none))
+
+asked_after : (now : ℕ) (s : Side) (f : Flow) (far : Endpoint) → f.asked ≡ (ended_at now s f far).asked
+asked_after now Asker f far = refl
+asked_after now Far f far = refl
+
 -- the ids that an end knows
 known_after : (now : ℕ) (s t : Side) (f : Flow) (far : Endpoint) (qos : ℕ) (ids : Ids) → Given s f far → ((other : Endpoint) → f.far ≡ Some other → Knows t f → ids ≡ ids_from t f other qos) → (other : Endpoint) → (ended_at now s f far).far ≡ Some other → Knows t (ended_at now s f far) → ids ≡ ids_from t (ended_at now s f far) other qos
 known_after now s t f far qos ids given old other is knows =
@@ -118,11 +133,15 @@ ended_end now s f far e state ids known down h = record {
   is = point_is now s f far;
   role = h.role;
   own = h.own ∙ point_addr now s f far h.point known h.is;
+  far = h.far ∙ there_after now s s f far;
   scep = h.scep ∙ point_cep now s f far h.point known h.is;
   up = λ u. absurd (down u);
   still = λ none. absurd (point_ended now s f far none);
   knows = λ is. absurd (down (subst IsUp (sym is) tt));
+  waits = λ is knows. down (subst IsUp (sym is) tt);
   known = known_after now s s f far e.cube ids known h.known;
+  asked = λ none. h.asked (none_before now s f far none) ∙ asked_after now s f far;
+  unsent = λ none. h.unsent (none_before now s f far none);
 }
 
 -- the other end
@@ -131,17 +150,8 @@ other_point now Asker f far point is = is
 other_point now Far f far point is = is
 
 other_end : (now : ℕ) (s : Side) (f : Flow) (far : Endpoint) (e : End) (ids : Ids) → Given s f far → IsEndOf f (opposite s) e ids → IsEndOf (ended_at now s f far) (opposite s) e ids
-other_end now s f far e ids known h = record {
-  point = h.point;
-  is = other_point now s f far h.point h.is;
-  role = h.role;
-  own = h.own;
-  scep = h.scep;
-  up = h.up;
-  still = h.still;
-  knows = λ is. knows_after now s (opposite s) f far (h.knows is);
-  known = known_after now s (opposite s) f far e.cube ids known h.known;
-}
+other_end now s f far e ids given h = end_on f (ended_at now s f far) (opposite s) e ids h (other_point now s f far h.point h.is) (there_after now s (opposite s) f far) (knows_after now s (opposite s) f far) (knows_before now s (opposite s) f far) (known_after now s (opposite s) f far e.cube ids given h.known)
+    (λ none. (h.asked (none_before now s f far none) ∙ asked_after now s f far, h.unsent (none_before now s f far none)))
 
 -- the end stands, whichever far end is meant
 stands_old : (s : Side) (f : Flow) (far old : Endpoint) → Given s f far → Stands s f far → f.far ≡ Some old → Stands s f old
@@ -364,11 +374,15 @@ module _ (g : Config) (now : ℕ) (cloud : ℕ → Pdu → Type 0) (held : List 
     is = h.is;
     role = h.role;
     own = h.own;
+    far = h.far;
     scep = h.scep;
     up = λ u. absurd (down u);
     still = λ none. absurd (was (h.still none));
     knows = λ is. absurd (down (subst IsUp (sym is) tt));
+    waits = λ is knows. down (subst IsUp (sym is) tt);
     known = h.known;
+    asked = h.asked;
+    unsent = h.unsent;
   }
 
   pub own_restated : IsOwn g now cloud held (slice_set ends at after) conns lines

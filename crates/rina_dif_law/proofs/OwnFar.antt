@@ -33,7 +33,7 @@ use Rattle.rina_dif_law.specs.Places.{IsEndOf, IsEntered, IsUp, Place, ids_from}
 use Rattle.rina_dif_law.specs.Standing.{AreEntered, AreIds, IsConn, IsFlow, IsOfFlow, IsOwn, IsUntold, RestsBy}
 use Rattle.rina_dif_law.proofs.Finding.{beside}
 use Rattle.rina_dif_law.proofs.Lasts.{end_at_last, kept_beside, last_beside, one_at, one_long}
-use Rattle.rina_dif_law.proofs.Own.{end_of_flow, not_itself}
+use Rattle.rina_dif_law.proofs.Own.{end_of_flow, end_on, not_itself}
 use Rattle.rina_dif_law.proofs.OwnMade.{IsBlank}
 
 -- where the asker's end stands: its flow of the ledger has no far end yet, and is younger than its ids rest
@@ -225,30 +225,24 @@ module _ (g : Config) (now : ℕ) (cloud : ℕ → Pdu → Type 0) (held : List 
     is = refl;
     role = new.answers;
     own = new.own;
+    far = new.far;
     scep = refl;
     up = λ u. refl;
     still = λ none. subst IsUp (sym new.up) tt;
     knows = λ is. tt;
+    waits = λ is knows. absurd (let up = new.up in cc);
     known = λ far is knows.
         (let same : far_end ≡ far = same_Some far_end far is in
         sym ids_back ∙ ap (λ (z : Endpoint). ids_from Far flow z end.cube) same);
+    asked = λ none. absurd (none-some far_end (sym none));
+    unsent = λ none. new.blank.sent;
   }
 
   here_entered : IsEntered flows' here end ids
   here_entered = record { flow = flow; stands = changed.at; end = far_is }
 
   asker_still : (c : Ids) → IsEndOf waits.flow Asker e c → IsEndOf flow Asker e c
-  asker_still c m = record {
-    point = m.point;
-    is = m.is;
-    role = m.role;
-    own = m.own;
-    scep = m.scep;
-    up = m.up;
-    still = m.still;
-    knows = m.knows;
-    known = λ far is knows. absurd ((own.ledger.flow waits.x.flow waits.flow waits.stands).heard knows waits.none);
-  }
+  asker_still c m = end_on waits.flow flow Asker e c m m.is refl (λ k. k) (λ k. k) (λ far is knows. absurd ((own.ledger.flow waits.x.flow waits.flow waits.stands).heard knows waits.none)) (λ none. (m.asked waits.none, waits.blank.sent))
 
   old_far : (i : ℕ) (a : End) (c : Ids) (x : Place) → IsConn ends conns i a c → slice_get own.places i ≡ Some x → IsEntered flows' x a c
   old_far i a c x conn is_x = elim (cases_eq x.flow waits.x.flow) [

@@ -1,6 +1,6 @@
 -- A flow is made, with both its ends: it is asked for, made and told at once, and its directions start now.
 use Rattle.std.proofs.Common.{◌≡◌, ◌≢◌, ℕ, suc, ◌<◌, ◌≤◌, ◌⊎◌, true, false, List, [], ◌∷◌, ◌++◌, length, slice_get, None, Some, refl, sym, ◌∙◌, ap, subst, arith, inl, inr}
-use Rattle.std.proofs.lemmas.Option.{same_Some, slice_get_within}
+use Rattle.std.proofs.lemmas.Option.{none-some, same_Some, slice_get_within}
 use Rattle.rina_base.specs.declared.pdu.Pdu.{Pdu}
 use Rattle.rina_cube.specs.declared.Cube.{Cube}
 use Rattle.rina_cube.specs.Cubes.{IsCube}
@@ -168,13 +168,17 @@ module _ (g : Config) (now : ℕ) (cloud cloud' : ℕ → Pdu → Type 0) (held 
     is = refl;
     role = new.asks;
     own = refl;
+    far = refl;
     scep = refl;
     up = λ u. refl;
     still = λ none. subst IsUp (sym new.asker_up) tt;
     knows = λ is. refl;
+    waits = λ is knows. absurd (let up = new.asker_up in cc);
     known = λ far is knows.
         (let same : far_end ≡ far = same_Some far_end far is in
         ap (λ (q : ℕ). ids_from Asker flow far_end q) (sym new.asker_cube) ∙ ap (λ (z : Endpoint). ids_from Asker flow z asker.cube) same);
+    asked = λ none. absurd (none-some far_end (sym none));
+    unsent = λ none. new.asker_blank.sent;
   }
 
   end_is : IsEndOf flow Far end (flipped ids)
@@ -183,13 +187,17 @@ module _ (g : Config) (now : ℕ) (cloud cloud' : ℕ → Pdu → Type 0) (held 
     is = refl;
     role = new.answers;
     own = refl;
+    far = refl;
     scep = refl;
     up = λ u. refl;
     still = λ none. subst IsUp (sym new.end_up) tt;
     knows = λ is. tt;
+    waits = λ is knows. absurd (let up = new.end_up in cc);
     known = λ far is knows.
         (let same : far_end ≡ far = same_Some far_end far is in
         ap (λ (q : ℕ). ids_from Far flow far_end q) (sym new.end_cube) ∙ ap (λ (z : Endpoint). ids_from Far flow z end.cube) same);
+    asked = λ none. absurd (none-some far_end (sym none));
+    unsent = λ none. new.end_blank.sent;
   }
 
   here_entered : IsEntered flows' here asker ids

@@ -1,5 +1,6 @@
 -- What each row of a connection makes of the own flows, over any cloud.
-use Rattle.std.proofs.Common.{◌≡◌, ◌≢◌, ℕ, ◌+◌, ◌-◌, ◌<◌, ◌≤◌, ◌⊎◌, List, [], ◌∷◌, ◌++◌, length, slice_get, slice_set, Some, None, Bool, true, false, refl, sym, ap, subst, arith, inl, inr}
+use Rattle.std.proofs.Common.{◌≡◌, ◌≢◌, ℕ, ◌+◌, ◌-◌, ◌<◌, ◌≤◌, ◌⊎◌, List, [], ◌∷◌, ◌++◌, length, slice_get, slice_set, Some, None, Bool, true, false, refl, sym, ◌∙◌, ap, subst, arith, inl, inr}
+use Rattle.std.proofs.lemmas.Option.{none-some}
 use Rattle.rina_base.specs.declared.pdu.Pdu.{Pdu}
 use Rattle.rina_base.specs.declared.pdu.PduKind.TheVariants.{Piece as APiece, Ack as AnAck}
 use Rattle.rina_cube.specs.declared.Cube.{Cube}
@@ -33,7 +34,7 @@ use Rattle.rina_dif_law.specs.Standing.{IsConn, IsFlow, IsJournal, IsOfFlow, IsO
 use Rattle.rina_dif_law.proofs.Flows.{knows_told, row_acknowledged, row_again, row_arrived, row_forgot, row_offered, row_passed, row_told}
 use Rattle.rina_dif_law.proofs.Forgot.{by_found}
 use Rattle.rina_dif_law.proofs.Journals.{IsConst}
-use Rattle.rina_dif_law.proofs.Own.{Carries, IsPair, carries_covered, carries_made, end_of_flow, far_end_of_flow, in_ids, in_used, known_ids, ledger_covered, ledger_made, out_ids, out_used, own_line, own_received, own_sent, one_partner, pair, partner_back}
+use Rattle.rina_dif_law.proofs.Own.{Carries, IsPair, carries_covered, carries_made, end_of_flow, far_end_of_flow, has_far, in_ids, in_used, known_ids, ledger_covered, ledger_made, out_ids, out_used, own_line, own_received, own_sent, one_partner, pair, partner_back}
 use Rattle.rina_dif_law.proofs.Placed.{goes_back, goes_from, opposite, used_up}
 
 -- a PDU is that of one of these pieces
@@ -119,7 +120,9 @@ module _ (g : Config) (now : ℕ) (cloud cloud' : ℕ → Pdu → Type 0) (held 
         let made : Pdu → Type 0 = MadeOf c pieces in
         let means : (pdu : Pdu) → made pdu → (pdu.kind ≡ APiece) × IsFrom c pdu = λ pdu m. (ap (λ (z : Pdu). z.kind) m.2, piece_from c m.0 pdu m.2) in
         let const : IsConst e e' = record { flow = refl; role = refl; port = refl; app = refl; peer = refl; cube = refl } in
-        own_sent g now cloud held ends conns lines own cloud' at e e' conn.end const refl line line' is_line refl refl (ledger_pieces made covers means)
+        own_sent g now cloud held ends conns lines own cloud' at e e' conn.end const refl line line' is_line refl refl
+        (λ x flow is_x stands none. let far = has_far g now cloud held ends conns lines own at to e other x flow conn.end is_other partners is_x stands in absurd (none-some far.0 (sym none ∙ far.1)))
+        (ledger_pieces made covers means)
         (λ j b x flow far is_b p is_x stands known h.
         let z = by_sender b x flow far is_x stands known h in
         let m = end_of_flow g now cloud held ends conns lines own at e c x flow conn is_x stands in

@@ -26,7 +26,7 @@ use Rattle.rina_dif_law.specs.Standing.{AreEntered, AreIds, IsConn, IsFlow, IsOf
 use Rattle.rina_dif_law.proofs.Finding.{beside}
 use Rattle.rina_dif_law.proofs.Flows.{flow_moved}
 use Rattle.rina_dif_law.proofs.Journals.{IsConst, was_end}
-use Rattle.rina_dif_law.proofs.Own.{apart_set, end_of_flow, named_set}
+use Rattle.rina_dif_law.proofs.Own.{apart_set, end_of_flow, end_on, named_set}
 use Rattle.rina_dif_law.proofs.OwnEnds.{same_whole}
 
 -- the asker's end waits, and the far end of its flow is made
@@ -126,11 +126,15 @@ module _ (g : Config) (now : ℕ) (cloud : ℕ → Pdu → Type 0) (held : List 
     is = refl;
     role = end_here.role;
     own = refl;
+    far = (own.ledger.flow comes.x.flow comes.flow comes.stands).there comes.far comes.known;
     scep = refl;
     up = λ u. point_stands;
     still = λ none. tt;
     knows = λ is. refl;
+    waits = λ is knows. absurd (let clash : Allocated ≡ Pending = is in cc);
     known = λ far is knows. ap (λ (z : Endpoint). ids_from Asker comes.flow z e.cube) (same_Some comes.far far (sym comes.known ∙ is));
+    asked = λ none. absurd (none-some comes.far (sym none ∙ comes.known));
+    unsent = λ none. absurd (none-some comes.far (sym none ∙ comes.known));
   }
     where
       point_stands : comes.flow.asker.ended ≡ None
@@ -148,17 +152,7 @@ module _ (g : Config) (now : ℕ) (cloud : ℕ → Pdu → Type 0) (held : List 
       by_side Far is = is
 
   far_end_told : (a : End) (c : Ids) → IsEndOf comes.flow Far a c → IsEndOf flow Far a c
-  far_end_told a c m = record {
-    point = m.point;
-    is = m.is;
-    role = m.role;
-    own = m.own;
-    scep = m.scep;
-    up = m.up;
-    still = m.still;
-    knows = m.knows;
-    known = m.known;
-  }
+  far_end_told a c m = end_on comes.flow flow Far a c m m.is refl (λ k. k) (λ k. k) m.known (λ none. (m.asked none, m.unsent none))
 
   each_told : (i : ℕ) (a : End) (c : Ids) (x : Place) → IsConn ends' conns' i a c → slice_get own.places i ≡ Some x → IsEntered flows' x a c
   each_told i a c x h is_x = elim (conn_told i a c h) [

@@ -146,7 +146,7 @@ kept_in size conns lines addr k ends j = kept_by size ends lines addr k (slice_g
 abbrev pub HoldElsewhere : List End → List Direction → List Direction → ℕ → ℕ → Type 0
 HoldElsewhere ends lines lines' at n = (j : ℕ) (a : End) → j ≢ at → slice_get ends j ≡ Some a → held_in (inbound_of ends lines' a) n ≡ held_in (inbound_of ends lines a) n
 
-kept_elsewhere : (size : ℕ) (conns : List Ids) (lines lines' : List Direction) (addr : ℕ) (k : Key) (ends ends' : List End) (at : ℕ) (e e' : End) → IsEndChanged ends ends' at e e' → HoldElsewhere ends lines lines' at k.seq → (j : ℕ) → j ≢ at → kept_in size conns lines' addr k ends' j ≡ kept_in size conns lines addr k ends j
+pub kept_elsewhere : (size : ℕ) (conns : List Ids) (lines lines' : List Direction) (addr : ℕ) (k : Key) (ends ends' : List End) (at : ℕ) (e e' : End) → IsEndChanged ends ends' at e e' → HoldElsewhere ends lines lines' at k.seq → (j : ℕ) → j ≢ at → kept_in size conns lines' addr k ends' j ≡ kept_in size conns lines addr k ends j
 kept_elsewhere size conns lines lines' addr k ends ends' at e e' change hold j ne = ap (λ (o : Option End). kept_by size ends' lines' addr k o (slice_get conns j)) (change.others j ne) ∙ alike (slice_get ends j) (slice_get conns j) refl
   where
     alike : (o : Option End) (i : Option Ids) → slice_get ends j ≡ o → kept_by size ends' lines' addr k o i ≡ kept_by size ends lines addr k o i

@@ -52,6 +52,7 @@ use Rattle.rina_data.specs.Outgoing.{Goes, sent_bytes}
 use Rattle.rina_data.specs.Process.{Process, Queue, is_link, link_by, with_offs, with_put}
 use Rattle.rina_data.specs.Queueing.{line_for}
 use Rattle.rina_dif_law.specs.Accounted.{IsAccounted}
+use Rattle.rina_dif_law.specs.Answering.{IsAnsweredTo, IsFarMade, IsTurnedDown}
 use Rattle.rina_dif_law.specs.Asking.{Asking, IsAskedFor}
 use Rattle.rina_dif_law.specs.Binding.{IsBound}
 use Rattle.rina_ids.specs.Members.{CepIds}
@@ -81,7 +82,7 @@ use Rattle.rina_dif_law.proofs.Own.{pair}
 use Rattle.rina_dif_law.proofs.Placed.{qos_from}
 use Rattle.rina_dif_law.specs.Places.{ids_from}
 use Rattle.rina_dif_law.proofs.Verdicts.{behind_old, duplicate_known, missing_same, roomless, stateless, unrouted}
-use Rattle.rina_dif_law.proofs.Writing.{IsNoted, in_append, in_one, kept_noted, line_noted, noted_as, noted_on, one_noted, ports_lost, ports_same, process_noted, quiet_noted, same_noted, was_lawful, writes, written_on}
+use Rattle.rina_dif_law.proofs.Writing.{IsNoted, in_append, in_one, kept_noted, line_noted, noted_as, noted_on, one_noted, ports_lost, ports_same, process_noted, quiet_noted, same_noted, still, was_lawful, writes, written_on}
 
 -- ---- what leaves
 
@@ -474,6 +475,12 @@ bound_noted holds d lines fixed d' lines' s = subst (IsNoted holds d) (sym s.new
 pub asked_noted : (holds : ℕ → Off → Type 0) (d : DifSeen) (lines : List Direction) (ask : Asking) (d' : DifSeen) (lines' : List Direction) → IsAskedFor d lines ask d' lines' → IsNoted holds d d'
 asked_noted holds d lines ask d' lines' s = subst (IsNoted holds d) (sym s.new_is) (quiet_noted holds d _ refl refl (omega arith) (λ k ids is. still_at d.conns _ k ids is) refl)
 
+pub made_noted : (holds : ℕ → Off → Type 0) (d : DifSeen) (lines : List Direction) (node at : ℕ) (d' : DifSeen) (lines' : List Direction) → IsFarMade d lines node at d' lines' → IsNoted holds d d'
+made_noted holds d lines node at d' lines' s = subst (IsNoted holds d) (sym s.new_is) (quiet_noted holds d _ refl refl (omega arith) (λ k ids is. still_at d.conns _ k ids is) refl)
+
+pub turned_down_noted : (holds : ℕ → Off → Type 0) (d : DifSeen) (at : ℕ) (state : PortState) (d' : DifSeen) → IsTurnedDown d at state d' → IsNoted holds d d'
+turned_down_noted holds d at state d' s = subst (IsNoted holds d) (sym s.new_is) (quiet_noted holds d _ refl refl (omega arith) (λ k ids is. is) refl)
+
 pub ticked_noted : (holds : ℕ → Off → Type 0) (d : DifSeen) (lines : List Direction) (now : ℕ) (d' : DifSeen) (lines' : List Direction) → IsTicked d lines now d' lines' → IsNoted holds d d'
 ticked_noted holds d lines now d' lines' s = subst (IsNoted holds d) (sym s.new_is) (quiet_noted holds d _ refl refl s.later (λ k ids is. is) refl)
 
@@ -495,6 +502,16 @@ asked_written d lines ask d' lines' w s = quiet_written d d' (asked_noted Nothin
 
 pub ticked_written : (d : DifSeen) (lines : List Direction) (now : ℕ) (d' : DifSeen) (lines' : List Direction) → AreWrittenOff d → IsTicked d lines now d' lines' → AreWrittenOff d'
 ticked_written d lines now d' lines' w s = quiet_written d d' (ticked_noted Nothing d lines now d' lines' s) w
+
+-- an answer writes nothing, though it changes the ids of a connection
+pub answered_quiet : (d : DifSeen) (at : ℕ) (d' : DifSeen) → IsAnsweredTo d at d' → Writes Nothing d d'
+answered_quiet d at d' s = subst (Writes Nothing d) (sym s.new_is) (λ i p is. (still (Nothing i) d i p is).written)
+
+pub made_written : (d : DifSeen) (lines : List Direction) (node at : ℕ) (d' : DifSeen) (lines' : List Direction) → AreWrittenOff d → IsFarMade d lines node at d' lines' → AreWrittenOff d'
+made_written d lines node at d' lines' w s = quiet_written d d' (made_noted Nothing d lines node at d' lines' s) w
+
+pub turned_down_written : (d : DifSeen) (at : ℕ) (state : PortState) (d' : DifSeen) → AreWrittenOff d → IsTurnedDown d at state d' → AreWrittenOff d'
+turned_down_written d at state d' w s = quiet_written d d' (turned_down_noted Nothing d at state d' s) w
 
 -- empty ledgers say nothing
 pub blank_written : (d : DifSeen) → ((i : ℕ) (process : Process) → slice_get d.processes i ≡ Some process → process.ledger ≡ []) → AreWrittenOff d

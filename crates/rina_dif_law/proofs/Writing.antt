@@ -168,7 +168,7 @@ written_on holds d d' n lawful w i member process' off is stands =
     ]
 
 -- an IPC process that writes nothing
-still : (holds : Off → Type 0) (d : DifSeen) (i : ℕ) (p : Process) → slice_get d.processes i ≡ Some p → IsGrown holds d i p
+pub still : (holds : Off → Type 0) (d : DifSeen) (i : ℕ) (p : Process) → slice_get d.processes i ≡ Some p → IsGrown holds d i p
 still holds d i p is = record {
   written = record { process = p; is_process = is; offs = []; ledger = sym (append-nil p.ledger); each = λ off none. absurd none };
   ports = ports_same p.links p.links refl;

@@ -1,5 +1,7 @@
 pub mod AccountLaws
 pub mod Accounted
+pub mod Answering
+pub mod AnsweringLaws
 pub mod Asking
 pub mod Binding
 pub mod Carried

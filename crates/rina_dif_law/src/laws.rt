@@ -2,6 +2,7 @@
 //! A DIF stands on the rank below where delta-t's law holds of each of its flows, whatever is queued, sent, relayed,
 //! lost, repeated or delayed. Of the rank below they use the laws of a facility, and of its cubes that each SDU that
 //! came was sent, and came in time.
+ghost use Rattle.rina_dif_law.specs.AnsweringLaws.{AnsweringCarries, AnsweringIsSilent, AnsweringNumbers, AnsweringStands, FarMakingCarries, FarMakingIsLater, FarMakingNumbers, FarMakingStands, TurningDownCarries, TurningDownIsSilent, TurningDownNumbers, TurningDownStands};
 ghost use Rattle.rina_dif_law.specs.Partners.{EachIsMet};
 ghost use Rattle.rina_dif_law.specs.Laws.{StartStands, SendsStand, PassesStand, OutStepsStand, InStepsStand, AcknowledgingStands, ResendingStands, ForgettingStands, EndingStands, LosingStands, FailingStands, StartCarries, SendsCarry, PassesCarry, OutStepsCarry, InStepsCarry, AcknowledgingCarries, ResendingCarries, ForgettingCarries, EndingCarries, LosingCarries, FailingCarries, TimeCarries, BesideCarries, SendsOfOthersCarry, PassesOfOthersCarry, TimeStands, BesideStands, SendsOfOthersStand, OutStepsOfOthersStand, InStepsOfOthersStand, CloudIsCovered, CloudLaw, StandingKeeps, SendsAreLater, PassesAreLater, OutStepsAreSilent, InStepsAreSilent, AcknowledgingIsSilent, ResendingIsSilent, ForgettingIsSilent, EndingIsSilent, LosingIsSilent, FailingIsSilent, TimeIsSilent, SendsAreSends, PassesArePasses, RelayingSettles, WritingOffSettles, StandingCanGo};
 ghost use Rattle.rina_dif_law.specs.Lawful.{StandingIsLawful};
@@ -143,4 +144,30 @@ pub fn flows_may_be_asked_for()
     ensures carries { AskingCarries }
     ensures numbers { AskingNumbers }
     ensures later { AskingIsLater }
+{}
+
+/// A DIF goes on to stand as a member makes the far end of a flow that was asked for there, whose asker waits or has ended since: while
+/// the ask is younger than its ids rest, nothing that may still come is of the new connection.
+pub fn far_ends_may_be_made()
+    ensures stands { FarMakingStands }
+    ensures carries { FarMakingCarries }
+    ensures numbers { FarMakingNumbers }
+    ensures later { FarMakingIsLater }
+{}
+
+/// A DIF goes on to stand as the answer comes to an asker that waits: its end is allocated, and knows the CEP-id of the far end. No
+/// direction changes.
+pub fn askers_may_be_answered()
+    ensures stands { AnsweringStands }
+    ensures carries { AnsweringCarries }
+    ensures numbers { AnsweringNumbers }
+    ensures silent { AnsweringIsSilent }
+{}
+
+/// A DIF goes on to stand as an asker's end ends while it waits, whether its far end was made or not. Its CEP-id rests.
+pub fn askers_may_be_turned_down()
+    ensures stands { TurningDownStands }
+    ensures carries { TurningDownCarries }
+    ensures numbers { TurningDownNumbers }
+    ensures silent { TurningDownIsSilent }
 {}

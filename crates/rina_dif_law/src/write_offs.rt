@@ -1,4 +1,5 @@
 //! The laws of the write-offs, as the contract of a function that does nothing.
+ghost use Rattle.rina_dif_law.specs.AnsweringLaws.{AnsweringWritesNothing, FarMakingWritesNothing, TurningDownWritesNothing};
 ghost use Rattle.rina_dif_law.specs.WriteOffLaws.{OutStepsWrite, InStepsWrite, AcknowledgingWrites, ResendingWrites, ForgettingWrites, EndingWrites, LosingWrites, FailingWrites, MayWriteOffIsLawful, SendsWriteNothing, PassesWriteNothing, BindingWritesNothing, AskingWritesNothing, TimeWritesNothing};
 
 /// A line stands in a ledger only where the condition of its cause held when it was written: each ledger grows by such
@@ -17,5 +18,8 @@ pub fn each_write_off_has_its_cause()
     ensures pass { PassesWriteNothing }
     ensures bind { BindingWritesNothing }
     ensures ask { AskingWritesNothing }
+    ensures far { FarMakingWritesNothing }
+    ensures answer { AnsweringWritesNothing }
+    ensures turn_down { TurningDownWritesNothing }
     ensures time { TimeWritesNothing }
 {}

@@ -1,15 +1,17 @@
 -- Which frames a management connection takes away that gives up.
-use Rattle.std.proofs.Common.{◌≡◌, ℕ, List, slice_get, slice_set, Option, option_and_then, option_map, Some, None, refl, sym, ◌∙◌, ap, subst, inl, inr}
+use Rattle.std.proofs.Common.{◌≡◌, ℕ, List, [], slice_get, slice_set, Option, option_and_then, option_map, Some, None, refl, sym, ◌∙◌, ap, subst, inl, inr}
 use Rattle.std.proofs.lemmas.Option.{same_Some}
+use Rattle.rina_base.specs.declared.number.Port.{Port}
 use Rattle.rina_iface.specs.declared.ends.End.{End}
 use Rattle.rina_iface.specs.declared.state.PortState.TheVariants.{Allocated, Closed}
+use Rattle.rina_iface.specs.Ends.{place_in}
 use Rattle.rina_iface.specs.Journal.{At}
 use Rattle.rina_iface.specs.Seen.{state_of}
 use Rattle.rina_iface.specs.State.{with_state}
 use Rattle.rina_iface.proofs.Changed.{set_at, slice_get-set_other, slice_get-set_same}
 use Rattle.rina_tower.specs.declared.tower.Tower.{Tower}
 use Rattle.rina_tower.specs.Ranks.{seen_of}
-use Rattle.rina_wire.specs.Air.{Air, Line, end_at, on_end, seen_of as seen_of_wires}
+use Rattle.rina_wire.specs.Air.{Air, Line, end_at, on_end, put, put_at, put_end, seen_of as seen_of_wires, wire_at}
 use Rattle.rina_wire.specs.Free.{closed_at, closed_both, closed_in, freed_at}
 use Rattle.rina_wire.specs.Send.{mate}
 use Rattle.rina_wire.proofs.Carried.{end_is, has_line}
@@ -39,6 +41,15 @@ open_end : (o : Option End) → option_map (λ (e : End). e.state) o ≡ Some Al
 open_end None h = cc
 open_end (Some e) h = (e, refl, same_Some e.state Allocated h)
 
+-- the wires once the flow of an allocated end was freed
+emptied : (a : Air) (port : Port) (line : Line) (place : ℕ) (e : End) → wire_at a port.fac ≡ Some line → place_in port line.ends ≡ Some place → slice_get line.ends place ≡ Some e → e.state ≡ Allocated
+    → (on_end a port freed_at).wires ≡ slice_set a.wires port.fac (record line { ends = closed_both line.ends place; flights = [] })
+emptied a port line place e wire found is state =
+    let after : Line = record line { ends = closed_both line.ends place; flights = [] } in
+    let done : freed_at line place e ≡ after = rw state refl in
+    let there : put_end freed_at line (place_in port line.ends) ≡ after = ap (put_end freed_at line) found ∙ ap (put_at freed_at line place) is ∙ done in
+    ap (λ (o : Option Line). put a.wires port.fac (option_map (λ (l : Line). put_end freed_at l (place_in port l.ends)) o)) wire ∙ ap (λ (l : Line). slice_set a.wires port.fac l) there
+
 pub give_ups_empty : GiveUpsEmptyOneWire
 give_ups_empty fac frame t t' g =
     let a : Air = wires_of t in
@@ -46,7 +57,7 @@ give_ups_empty fac frame t t' g =
     let opened = open_end (end_at a g.port) (sym (ap (option_map (λ (e : End). e.state)) (end_is a g.port)) ∙ state) in
     let on = has_line a g.port opened.0 opened.1 in
     let after : Line = record on.line { ends = closed_both on.line.ends on.at.place; flights = [] } in
-    let made : (on_end a g.port freed_at).wires ≡ slice_set a.wires g.port.fac after = rw (on.wire, on.at.found, on.at.is, opened.2) refl in
+    let made : (on_end a g.port freed_at).wires ≡ slice_set a.wires g.port.fac after = emptied a g.port on.line on.at.place opened.0 on.wire on.at.found on.at.is opened.2 in
     let wires : (wires_of t').wires ≡ slice_set a.wires g.port.fac after = ap (λ (z : Air). z.wires) g.frees.air ∙ made in
     let is : slice_get (wires_of t').wires g.port.fac ≡ Some after = ap (λ (ls : List Line). slice_get ls g.port.fac) wires ∙ slice_get-set_same a.wires g.port.fac on.line after on.wire in
     record {

@@ -74,7 +74,7 @@ not_freed fac k a port a' c g = record { sound = sound_frees a port (Err freeing
 
 -- a management connection gives a number up, and the frame is not in flight on the wire of its link
 gives_up : (fac k r dif node : ℕ) (x : Result ClockStep StepError) (t t' : Tower) (num : Num) (port : Port) → (GivesUpOn fac k t t' → ⊥) → ClocksAt r dif node x t t' → r ≡ 1 → x ≡ Ok (GaveUp num) → num.cep ≡ 0 → FreesOn (wires_of t) port (Ok tt) (wires_of t') → NoneWith fac k (wires_of t) port
-gives_up fac k r dif node x t t' num port no d low is cep frees l same state at = none_flies fac k t l (λ flies. no (record {
+gives_up fac k r dif node x t t' num port unspoilt d low is cep frees l same state at = none_flies fac k t l (λ flies. unspoilt (record {
   dif = dif;
   node = node;
   num = num;
@@ -88,10 +88,10 @@ gives_up fac k r dif node x t t' num port no d low is cep frees l same state at 
 })) at
 
 pub frame_clocks : (fac k : ℕ) → KeepsClocks (IsCarrying fac k) (GivesUpOn fac k)
-frame_clocks fac k r dif node x t t' no h d = clocks_at (IsCarrying fac k) r dif node x t t' h d (λ low. record {
-  told = λ num port is cep f. keeps_frees fac k (wires_of t) port (Ok tt) (wires_of t') (gives_up fac k r dif node x t t' num port no d low is cep f) h f;
+frame_clocks fac k r dif node x t t' unspoilt h d = clocks_at (IsCarrying fac k) r dif node x t t' h d (λ low. record {
+  told = λ num port is cep f. keeps_frees fac k (wires_of t) port (Ok tt) (wires_of t') (gives_up fac k r dif node x t t' num port unspoilt d low is cep f) h f;
   failed = λ port f. not_freed fac k (wires_of t) port (wires_of t') h f;
 })
 
 pub frame_acts : (fac k : ℕ) (plan : Plan) (line : ℕ) (event : Event) (s : Stage) (ns : List Note) (s' : Stage) → (Touches plan fac k s.run event → ⊥) → (d : Acts plan line event s ns s') → (SomeOfWord (GivesUpOn fac k) plan line event s ns s' d → ⊥) → Holds (IsCarrying fac k) s.run.tower → Holds (IsCarrying fac k) s'.run.tower
-frame_acts fac k plan line event s ns s' spared d no h = acts (IsCarrying fac k) (frame_keeps fac k) (GivesUpOn fac k) (frame_clocks fac k) plan line event s ns s' (spares fac k plan line event s ns s' spared h d) d no h
+frame_acts fac k plan line event s ns s' spared d unspoilt h = acts (IsCarrying fac k) (frame_keeps fac k) (GivesUpOn fac k) (frame_clocks fac k) plan line event s ns s' (spares fac k plan line event s ns s' spared h d) d unspoilt h

@@ -1,5 +1,5 @@
 -- What the steps of DIFs, and rounds of them, do to the ends of all ranks: those of applications rest.
-use Rattle.std.proofs.Common.{◌≡◌, ◌∙◌, ℕ, ◌+◌, List, [], ◌∷◌, map, slice_get, Some, option_map, Result, refl, sym, ap, subst, inl, inr}
+use Rattle.std.proofs.Common.{◌≡◌, ◌∙◌, ℕ, ◌+◌, List, [], ◌∷◌, map, slice_get, Some, option_map, Result, Ok, refl, sym, ap, subst, inl, inr}
 use Rattle.std.proofs.lemmas.List.{map-set}
 use Rattle.std.proofs.lemmas.Option.{same_Some, slice_get-map}
 use Rattle.rina_policy.specs.declared.policy.Head.{Head}

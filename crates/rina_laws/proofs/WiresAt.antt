@@ -248,20 +248,20 @@ tick P kept (Rank' p difs below) (Wires a) h d = absurd d
 -- of the steps of a run, none is one of which this holds
 module _ (P : Air → Type 0) (kept : Keeps P) (Is : Tower → Tower → Type 0) (clock : KeepsClocks P Is) where
   moves : (m : Move) (slots slots' : List Slot) (t t' : Tower) → Moves m slots t slots' t' → (Is t t' → ⊥) → Holds P t → Holds P t'
-  moves (InMove p result) slots slots' t t' d no h = at_rank P p.rank (InStepsAtTop p.dif p.node p.link result) _ t t' h d.1 (λ u u' part c g. ins_here P kept p.dif p.node p.link result u u' c g)
-  moves (ClockMove p result) slots slots' t t' d no h = clock p.rank p.dif p.node result t t' no h d.1
-  moves (OutMove p result) slots slots' t t' d no h = at_rank P p.rank (OutStepsAtTop Anything slots slots' p.dif p.node p.link result) _ t t' h d (λ u u' part c g. outs_here P kept Anything slots slots' p.dif p.node p.link result u u' c g)
+  moves (InMove p result) slots slots' t t' d unspoilt h = at_rank P p.rank (InStepsAtTop p.dif p.node p.link result) _ t t' h d.1 (λ u u' part c g. ins_here P kept p.dif p.node p.link result u u' c g)
+  moves (ClockMove p result) slots slots' t t' d unspoilt h = clock p.rank p.dif p.node result t t' unspoilt h d.1
+  moves (OutMove p result) slots slots' t t' d unspoilt h = at_rank P p.rank (OutStepsAtTop Anything slots slots' p.dif p.node p.link result) _ t t' h d (λ u u' part c g. outs_here P kept Anything slots slots' p.dif p.node p.link result u u' c g)
 
   all_move : (ms : List Move) (slots slots' : List Slot) (t t' : Tower) (d : AllMove ms slots t slots' t') → (SomeMove Is ms slots t slots' t' d → ⊥) → Holds P t → Holds P t'
-  all_move [] slots slots' t t' d no h = subst (Holds P) (sym d.1) h
-  all_move (m ∷ ms) slots slots' t t' (mid, between, one, others) no h = all_move ms mid slots' between t' others (λ x. no (inr x)) (moves m slots mid t between one (λ x. no (inl x)) h)
+  all_move [] slots slots' t t' d unspoilt h = subst (Holds P) (sym d.1) h
+  all_move (m ∷ ms) slots slots' t t' (mid, between, one, others) unspoilt h = all_move ms mid slots' between t' others (λ x. unspoilt (inr x)) (moves m slots mid t between one (λ x. unspoilt (inl x)) h)
 
   pub round : (slots slots' : List Slot) (t t' : Tower) (d : IsRound slots slots' t t') → (SomeOfRound Is slots slots' t t' d → ⊥) → Holds P t → Holds P t'
-  round slots slots' t t' d no h =
-      let taken = all_move d.takes slots slots t d.taken d.do_take (λ x. no (inl x)) h in
-      let clocked = all_move d.dues slots slots d.taken d.clocked d.do_dues (λ x. no (inr (inl x))) taken in
-      all_move d.leaves slots slots' d.clocked t' d.do_leave (λ x. no (inr (inr x))) clocked
+  round slots slots' t t' d unspoilt h =
+      let taken = all_move d.takes slots slots t d.taken d.do_take (λ x. unspoilt (inl x)) h in
+      let clocked = all_move d.dues slots slots d.taken d.clocked d.do_dues (λ x. unspoilt (inr (inl x))) taken in
+      all_move d.leaves slots slots' d.clocked t' d.do_leave (λ x. unspoilt (inr (inr x))) clocked
 
   pub rounds_by : (rounds : Rounds) (slots slots' : List Slot) (t t' : Tower) (d : RoundsBy rounds slots t slots' t') → (SomeAfter Is rounds slots t slots' t' d → ⊥) → Holds P t → Holds P t'
-  rounds_by Auto slots slots' t t' d no h = round slots slots' t t' d no h
-  rounds_by Manual slots slots' t t' d no h = subst (Holds P) (sym d.1) h
+  rounds_by Auto slots slots' t t' d unspoilt h = round slots slots' t t' d unspoilt h
+  rounds_by Manual slots slots' t t' d unspoilt h = subst (Holds P) (sym d.1) h

@@ -25,7 +25,7 @@ abbrev pub Never : Tower → Tower → Type 0
 Never t t' = ⊥
 
 pub free_clocks : (P : Air → Type 0) → ((a : Air) (port : Port) (r : Result (Unit {0}) FreeError) (a' : Air) → P a → FreesOn a port r a' → P a') → KeepsClocks P Never
-free_clocks P frees r dif node x t t' no h d = clocks_at P r dif node x t t' h d (λ low. record {
+free_clocks P frees r dif node x t t' unspoilt h d = clocks_at P r dif node x t t' h d (λ low. record {
   told = λ num port is cep f. frees (wires_of t) port (Ok tt) (wires_of t') h f;
   failed = λ port f. frees (wires_of t) port (Err Memory) (wires_of t') h f;
 })

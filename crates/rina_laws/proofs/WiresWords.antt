@@ -155,14 +155,14 @@ Special P event w' = Unit {0}
 -- ---- ticks
 
 ticks : (P : Air → Type 0) (kept : Keeps P) (Is : Tower → Tower → Type 0) (clock : KeepsClocks P Is) (plan : Plan) (line count : ℕ) (s : Stage) (ns : List Note) (s' : Stage) (d : Ticks plan line count s ns s') → (SomeOfTicks Is plan line count s ns s' d → ⊥) → Holds P s.run.tower → Holds P s'.run.tower
-ticks P kept Is clock plan line zero s ns s' d no h = subst (λ (v : Stage). Holds P v.run.tower) (sym d.1) h
-ticks P kept Is clock plan line (suc count) s ns s' (mid, first, rest, once, others, is) no h =
+ticks P kept Is clock plan line zero s ns s' d unspoilt h = subst (λ (v : Stage). Holds P v.run.tower) (sym d.1) h
+ticks P kept Is clock plan line (suc count) s ns s' (mid, first, rest, once, others, is) unspoilt h =
     let ticked = tick P kept s.run.tower once.ticked h once.ticks in
-    ticks P kept Is clock plan line count mid rest s' others (λ x. no (inr x)) (rounds_by P kept Is clock plan.rounds s.shelf mid.shelf once.ticked mid.run.tower once.rounds (λ x. no (inl x)) ticked)
+    ticks P kept Is clock plan line count mid rest s' others (λ x. unspoilt (inr x)) (rounds_by P kept Is clock plan.rounds s.shelf mid.shelf once.ticked mid.run.tower once.rounds (λ x. unspoilt (inl x)) ticked)
 
 ticking : (P : Air → Type 0) (kept : Keeps P) (Is : Tower → Tower → Type 0) (clock : KeepsClocks P Is) (over : Bool) (plan : Plan) (line count : ℕ) (s : Stage) (ns : List Note) (s' : Stage) (d : Ticking over plan line count s ns s') → (SomeOfTicking Is over plan line count s ns s' d → ⊥) → Holds P s.run.tower → Holds P s'.run.tower
-ticking P kept Is clock true plan line count s ns s' d no h = subst (λ (v : Stage). Holds P v.run.tower) (sym d.1) h
-ticking P kept Is clock false plan line count s ns s' d no h = ticks P kept Is clock plan line count s d.told s' d.ticks no h
+ticking P kept Is clock true plan line count s ns s' d unspoilt h = subst (λ (v : Stage). Holds P v.run.tower) (sym d.1) h
+ticking P kept Is clock false plan line count s ns s' d unspoilt h = ticks P kept Is clock plan line count s d.told s' d.ticks unspoilt h
 
 -- ---- words of DIFs, and those that show
 
@@ -182,7 +182,7 @@ takes_in : (P : Air → Type 0) (kept : Keeps P) (plan : Plan) (link : ℕ) (w :
 takes_in P kept plan link w site says w' h c = at_rank P site.rank (InStepsAtTop site.fac site.node (link_of link) c.result) (c.result ≡ Err NoIpc) w.tower w'.tower h c.does (λ u u' part g d. ins_here P kept site.fac site.node (link_of link) c.result u u' g d)
 
 clocks : (P : Air → Type 0) (Is : Tower → Tower → Type 0) (clock : KeepsClocks P Is) (plan : Plan) (w : Run) (site : Site) (says : Option Answer) (w' : Run) → (Is w.tower w'.tower → ⊥) → Holds P w.tower → CallsClock plan w site says w' → Holds P w'.tower
-clocks P Is clock plan w site says w' no h c = clock site.rank site.fac site.node c.result w.tower w'.tower no h c.does
+clocks P Is clock plan w site says w' unspoilt h c = clock site.rank site.fac site.node c.result w.tower w'.tower unspoilt h c.does
 
 -- a CDAP message does nothing below
 asks_here : (P : Air → Type 0) (n node : ℕ) (bytes : List ℕ) (x : Result (List ℕ) CdapCallError) (u u' : Tower) → Holds P u → AsksAtTop n node bytes x u u' → Holds P u'
@@ -206,35 +206,35 @@ AtClock N (events.Clock dif node) = N
 AtClock N event = Unit {0}
 
 words : (P : Air → Type 0) (kept : Keeps P) (Is : Tower → Tower → Type 0) (clock : KeepsClocks P Is) (plan : Plan) (line : ℕ) (event : Event) (w : Run) (ns : List Note) (w' : Run) → Special P event w' → AtClock (Is w.tower w'.tower → ⊥) event → Holds P w.tower → ActsOnRun plan line event w ns w' → Holds P w'.tower
-words P kept Is clock plan line (events.Register name node app) w ns w' special no h d = at_site P (site_at plan 1 name node) (CallsRegister app w) w d.says w' h d.does (λ site c. registers P kept app w site d.says w' h c)
-words P kept Is clock plan line (events.Alloc label name node app to want) w ns w' special no h d =
+words P kept Is clock plan line (events.Register name node app) w ns w' special unspoilt h d = at_site P (site_at plan 1 name node) (CallsRegister app w) w d.says w' h d.does (λ site c. registers P kept app w site d.says w' h c)
+words P kept Is clock plan line (events.Alloc label name node app to want) w ns w' special unspoilt h d =
     at_site P (site_at plan 2 name node) (λ site. Unlabelled (label_in w.labels label) (CallsAllocate plan label name node site.rank w (asked site app to want)) w) w d.says w' h d.does (λ site u.
     unlabelled P (label_in w.labels label) (CallsAllocate plan label name node site.rank w (asked site app to want)) w d.says w' h u (λ c. allocates P kept plan label name node app to want w site d.says w' h c))
-words P kept Is clock plan line (events.Accept label name node app) w ns w' special no h d =
+words P kept Is clock plan line (events.Accept label name node app) w ns w' special unspoilt h d =
     at_site P (site_at plan 2 name node) (λ site. Unlabelled (label_in w.labels label) (CallsIncoming plan label app w site) w) w d.says w' h d.does (λ site u.
     unlabelled P (label_in w.labels label) (CallsIncoming plan label app w site) w d.says w' h u (λ c. incoming P kept plan label app w site d.says w' h c))
-words P kept Is clock plan line (events.Send label bytes) w ns w' special no h d = at_port P (port_in w.labels label) (CallsSend plan bytes w) w d.says w' h d.does (λ p c. sends P kept plan bytes w p.0 p.1 d.says w' h c)
-words P kept Is clock plan line (events.Read label) w ns w' special no h d = reading P kept line (port_in w.labels label) w ns w' h d
-words P kept Is clock plan line (events.Lose wire frame) w ns w' special no h d = special
-words P kept Is clock plan line (events.Repeat wire frame at) w ns w' special no h d = special
-words P kept Is clock plan line (events.Hold wire frame at) w ns w' special no h d = special
-words P kept Is clock plan line (events.Cut wire) w ns w' special no h d = special
-words P kept Is clock plan line (events.Mend wire) w ns w' special no h d = mending P kept (wire_of plan wire) w d.says w' h d.does
-words P kept Is clock plan line (events.Unregister name node app) w ns w' special no h d = at_site P (site_at plan 1 name node) (CallsUnregister app w) w d.says w' h d.does (λ site c. unregisters P kept app w site d.says w' h c)
-words P kept Is clock plan line (events.Free label) w ns w' special no h d = special
-words P kept Is clock plan line (events.State label) w ns w' special no h d = at_port P (port_in w.labels label) (TellsState plan w) w d.says w' h d.does (λ p c. subst (λ (v : Run). Holds P v.tower) (sym c.run) h)
-words P kept Is clock plan line (events.Journal name) w ns w' special no h d = showing P plan line (fac_named plan name) w ns w' h d
-words P kept Is clock plan line (events.In dif node link) w ns w' special no h d = at_site P (dif_site_at plan dif node) (CallsIn plan link w) w d.says w' h d.does (λ site c. takes_in P kept plan link w site d.says w' h c)
-words P kept Is clock plan line (events.Clock dif node) w ns w' special no h d = at_site P (dif_site_at plan dif node) (CallsClock plan w) w d.says w' h d.does (λ site c. clocks P Is clock plan w site d.says w' no h c)
-words P kept Is clock plan line (events.Ledger dif node) w ns w' special no h d = accounting P plan line (dif_site_at plan dif node) w ns w' h d
-words P kept Is clock plan line (events.Cdap dif node bytes) w ns w' special no h d = at_site P (dif_site_at plan dif node) (CallsCdap bytes w) w d.says w' h d.does (λ site c. asking P bytes w site d.says w' h c)
-words P kept Is clock plan line (events.Rib dif node path) w ns w' special no h d = showing_rib P line path (dif_site_at plan dif node) w ns w' h d
-words P kept Is clock plan line event w ns w' special no h d = absurd d.does
+words P kept Is clock plan line (events.Send label bytes) w ns w' special unspoilt h d = at_port P (port_in w.labels label) (CallsSend plan bytes w) w d.says w' h d.does (λ p c. sends P kept plan bytes w p.0 p.1 d.says w' h c)
+words P kept Is clock plan line (events.Read label) w ns w' special unspoilt h d = reading P kept line (port_in w.labels label) w ns w' h d
+words P kept Is clock plan line (events.Lose wire frame) w ns w' special unspoilt h d = special
+words P kept Is clock plan line (events.Repeat wire frame at) w ns w' special unspoilt h d = special
+words P kept Is clock plan line (events.Hold wire frame at) w ns w' special unspoilt h d = special
+words P kept Is clock plan line (events.Cut wire) w ns w' special unspoilt h d = special
+words P kept Is clock plan line (events.Mend wire) w ns w' special unspoilt h d = mending P kept (wire_of plan wire) w d.says w' h d.does
+words P kept Is clock plan line (events.Unregister name node app) w ns w' special unspoilt h d = at_site P (site_at plan 1 name node) (CallsUnregister app w) w d.says w' h d.does (λ site c. unregisters P kept app w site d.says w' h c)
+words P kept Is clock plan line (events.Free label) w ns w' special unspoilt h d = special
+words P kept Is clock plan line (events.State label) w ns w' special unspoilt h d = at_port P (port_in w.labels label) (TellsState plan w) w d.says w' h d.does (λ p c. subst (λ (v : Run). Holds P v.tower) (sym c.run) h)
+words P kept Is clock plan line (events.Journal name) w ns w' special unspoilt h d = showing P plan line (fac_named plan name) w ns w' h d
+words P kept Is clock plan line (events.In dif node link) w ns w' special unspoilt h d = at_site P (dif_site_at plan dif node) (CallsIn plan link w) w d.says w' h d.does (λ site c. takes_in P kept plan link w site d.says w' h c)
+words P kept Is clock plan line (events.Clock dif node) w ns w' special unspoilt h d = at_site P (dif_site_at plan dif node) (CallsClock plan w) w d.says w' h d.does (λ site c. clocks P Is clock plan w site d.says w' unspoilt h c)
+words P kept Is clock plan line (events.Ledger dif node) w ns w' special unspoilt h d = accounting P plan line (dif_site_at plan dif node) w ns w' h d
+words P kept Is clock plan line (events.Cdap dif node bytes) w ns w' special unspoilt h d = at_site P (dif_site_at plan dif node) (CallsCdap bytes w) w d.says w' h d.does (λ site c. asking P bytes w site d.says w' h c)
+words P kept Is clock plan line (events.Rib dif node path) w ns w' special unspoilt h d = showing_rib P line path (dif_site_at plan dif node) w ns w' h d
+words P kept Is clock plan line event w ns w' special unspoilt h d = absurd d.does
 
 pub acts : (P : Air → Type 0) (kept : Keeps P) (Is : Tower → Tower → Type 0) (clock : KeepsClocks P Is) (plan : Plan) (line : ℕ) (event : Event) (s : Stage) (ns : List Note) (s' : Stage) → Special P event s'.run → (d : Acts plan line event s ns s') → (SomeOfWord Is plan line event s ns s' d → ⊥) → Holds P s.run.tower → Holds P s'.run.tower
-acts P kept Is clock plan line (events.Retire policy) s ns s' special d no h = subst (λ (v : Run). Holds P v.tower) (sym d.run) h
-acts P kept Is clock plan line (events.Tick count) s ns s' special d no h = ticking P kept Is clock (nat_lt 10000000 (now_of s.run.tower + count)) plan line count s ns s' d no h
-acts P kept Is clock plan line (events.Out dif node link) s ns s' special d no h = letting P kept plan (dif_site_at plan dif node) link s d.says s' h d.does
-acts P kept Is clock plan line events.Round s ns s' special d no h = round P kept Is clock s.shelf s'.shelf s.run.tower s'.run.tower d.does no h
-acts P kept Is clock plan line (events.Clock dif node) s ns s' special d no h = words P kept Is clock plan line (events.Clock dif node) s.run ns s'.run special no h d.0
-acts P kept Is clock plan line event s ns s' special d no h = words P kept Is clock plan line event s.run ns s'.run special tt h d.0
+acts P kept Is clock plan line (events.Retire policy) s ns s' special d unspoilt h = subst (λ (v : Run). Holds P v.tower) (sym d.run) h
+acts P kept Is clock plan line (events.Tick count) s ns s' special d unspoilt h = ticking P kept Is clock (nat_lt 10000000 (now_of s.run.tower + count)) plan line count s ns s' d unspoilt h
+acts P kept Is clock plan line (events.Out dif node link) s ns s' special d unspoilt h = letting P kept plan (dif_site_at plan dif node) link s d.says s' h d.does
+acts P kept Is clock plan line events.Round s ns s' special d unspoilt h = round P kept Is clock s.shelf s'.shelf s.run.tower s'.run.tower d.does unspoilt h
+acts P kept Is clock plan line (events.Clock dif node) s ns s' special d unspoilt h = words P kept Is clock plan line (events.Clock dif node) s.run ns s'.run special unspoilt h d.0
+acts P kept Is clock plan line event s ns s' special d unspoilt h = words P kept Is clock plan line event s.run ns s'.run special tt h d.0

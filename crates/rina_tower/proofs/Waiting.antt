@@ -1,5 +1,5 @@
 -- A step of a DIF leaves alone the far ends that wait to be claimed.
-use Rattle.std.proofs.Common.{◌≡◌, ℕ, List, Option, Some, None, Result, Ok, Err, ap, inl, inr, ◌⊎◌}
+use Rattle.std.proofs.Common.{◌≡◌, ◌∙◌, ℕ, List, Option, Some, None, Result, Ok, Err, ap, inl, inr, ◌⊎◌}
 use Rattle.rina_base.specs.declared.cause.Cause.{Cause}
 use Rattle.rina_base.specs.declared.cause.Cause.TheVariants as causes
 use Rattle.rina_base.specs.declared.number.Port.{Port}
@@ -25,6 +25,7 @@ use Rattle.rina_dif_law.specs.Sending.{home}
 use Rattle.rina_dif.specs.declared.dif.Dif.{Dif}
 use Rattle.rina_dif.specs.Clocking.{ClockStepsAt, Serves, ServesAny, Steps, StepsFlow, StepsOk}
 use Rattle.rina_dif.specs.Holding.{Holds, Stands}
+use Rattle.rina_dif.specs.Routing.{MayReroute}
 use Rattle.rina_dif.specs.Shown.{seen_of}
 use Rattle.rina_dif.specs.Steps.{AtHome, OutsAt}
 use Rattle.rina_dif.specs.Taking.{InsAt, TakesHome}
@@ -77,10 +78,15 @@ ins_at d lines below node n (Err errors.Memory) d' lines' below' h = ap (λ (x :
 ins_at d lines below node n (Err errors.NoIpc) d' lines' below' h = ins_home d lines below n (Err errors.NoIpc) d' lines' below' (home node d.config.members) h
 ins_at d lines below node n (Err errors.NoLink) d' lines' below' h = ins_home d lines below n (Err errors.NoLink) d' lines' below' (home node d.config.members) h
 
+-- other next hops are nothing to them
+rerouted_waits : (d d' : DifSeen) → MayReroute d d' → SameWait d d'
+rerouted_waits d d' (inl same) = ap (λ (x : DifSeen). x.waiting) same
+rerouted_waits d d' (inr r) = ap (λ (x : DifSeen). x.waiting) r.is
+
 pub takes_wait : (d d' : Dif) (below : Seen) (node n : ℕ) (r : Result InStep StepError) (below' : Seen) → Stands d below → ((lines : List Direction) → Holds d lines below → TakesHome d lines below node n r d' below') → (seen_of d').waiting ≡ (seen_of d).waiting
 takes_wait d d' below node n r below' st does =
     let t = does st.0 st.1 in
-    ins_at (seen_of d) st.0 below node n r (seen_of d') t.lines' below' t.does
+    rerouted_waits (seen_of t.taken) (seen_of d') t.rerouted ∙ ins_at (seen_of d) st.0 below node n r (seen_of t.taken) t.lines' below' t.does
 
 -- What leaves
 

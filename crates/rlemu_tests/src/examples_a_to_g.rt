@@ -345,6 +345,74 @@ read q2
 14 4 got 4 'hello
 end 4
 ====
+# A ring. The cut is two hops away. What was sent before a hears of it comes back from b and goes on by c; what is sent later goes by c at once.
+nodes = [\"a\", \"b\", \"c\", \"d\"]
+[[wire]]
+name = \"ab\"
+ends = [\"a\", \"b\"]
+delay = 2
+life = 10
+largest = 1500
+[[wire]]
+name = \"bd\"
+ends = [\"b\", \"d\"]
+delay = 2
+life = 10
+largest = 1500
+[[wire]]
+name = \"ac\"
+ends = [\"a\", \"c\"]
+delay = 2
+life = 10
+largest = 1500
+[[wire]]
+name = \"cd\"
+ends = [\"c\", \"d\"]
+delay = 2
+life = 10
+largest = 1500
+[[dif]]
+name = \"net\"
+rank = 1
+static = true
+pdu = 96
+widths = { addr = 1, cep = 1, len = 2, seq = 2 }
+queue = 64
+policy = \"strict\"
+wait = 500
+manage = { mpl = 40, r = 30, a = 2, retry = 10, window = 8 }
+cube = [ { id = 1, kind = \"datagram\", mpl = 40, window = 16, largest = 80 } ]
+member = [ { node = \"a\", addr = 1 }, { node = \"b\", addr = 2 }, { node = \"c\", addr = 3 }, { node = \"d\", addr = 4 } ]
+link = [ { on = \"ab\", a = \"a\", b = \"b\" }, { on = \"bd\", a = \"b\", b = \"d\" }, { on = \"ac\", a = \"a\", b = \"c\" }, { on = \"cd\", a = \"c\", b = \"d\" } ]
+flow = [ { cube = 1, from = { node = \"a\", app = \"s\", label = \"p\" }, to = { node = \"d\", app = \"t\", label = \"q\" } } ]
+%%
+send p 'one
+tick 4
+read q
+cut bd
+send p 'two
+tick 4
+read q
+tick 4
+read q
+send p 'three
+tick 4
+read q
+----
+1 0 sent 1.0
+2 4 ok
+3 4 got 4 'one
+4 4 ok
+5 4 sent 1.1
+6 8 ok
+7 8 none
+8 12 ok
+9 12 got 12 'two
+10 12 sent 1.2
+11 16 ok
+12 16 got 16 'three
+end 16
+====
 # Nothing was sent for 216 ticks: the sender has forgotten its connection, and begins again at number 0.
 nodes = [\"a\", \"b\"]
 [[wire]]

@@ -235,7 +235,8 @@ journal w
 7 2 g 2 0.0 'hello
 end 2
 ====
-# The one link of d is cut: its flow fails, and says for which flow below. What a still sends finds no way on at c, and is written off there.
+# The one link of d is cut: its flow fails, and says for which flow below. What a sends before it hears of that finds no way on at c, and is
+# written off there; and then a has no next hop to d.
 nodes = [\"a\", \"b\", \"c\", \"d\"]
 [[wire]]
 name = \"w1\"
@@ -271,18 +272,18 @@ link = [ { on = \"w1\", a = \"a\", b = \"b\" }, { on = \"w2\", a = \"b\", b = \"
 flow = [ { cube = 1, from = { node = \"a\", app = \"s\", label = \"p\" }, to = { node = \"d\", app = \"t\", label = \"q\" } } ]
 %%
 cut w3
-tick 4
 send p 'x
 tick 4
+send p 'y
 ledger d c
 ----
 1 0 ok
 1 0 state q failed Below w3/d/1
-2 4 ok
-3 4 sent 1.0
-4 8 ok
-5 8 off data 1.1.0 NoRoute 4
-end 8
+2 0 sent 1.0
+3 4 ok
+4 4 no NoRoute 4
+5 4 off data 1.1.0 NoRoute 4
+end 4
 ====
 # Three wires, and a lifetime that is too short for them: at the third hop 5 ticks are left, and 10 are charged.
 nodes = [\"a\", \"b\", \"c\", \"d\"]
@@ -329,6 +330,66 @@ ledger d c
 3 10 none
 4 10 off data 1.1.0 Expired 5 10
 end 10
+====
+# Nothing comes over wire ab. What the members have to say there is never acknowledged, so the link gives up at tick 112, and its
+# wire is freed: the link is lost at both ends. The flow from a to c goes on over its own link.
+nodes = [\"a\", \"b\", \"c\"]
+[[wire]]
+name = \"ab\"
+ends = [\"a\", \"b\"]
+delay = 2
+life = 10
+largest = 1500
+storm = { seed = 1, lose = 1000, repeat = 0, spread = 0 }
+[[wire]]
+name = \"ac\"
+ends = [\"a\", \"c\"]
+delay = 2
+life = 10
+largest = 1500
+[[wire]]
+name = \"bc\"
+ends = [\"b\", \"c\"]
+delay = 2
+life = 10
+largest = 1500
+[[dif]]
+name = \"d\"
+rank = 1
+static = true
+pdu = 96
+widths = { addr = 1, cep = 1, len = 2, seq = 2 }
+queue = 64
+policy = \"strict\"
+wait = 500
+manage = { mpl = 40, r = 30, a = 2, retry = 10, window = 8 }
+cube = [ { id = 1, kind = \"datagram\", mpl = 40, window = 16, largest = 80 } ]
+member = [ { node = \"a\", addr = 1 }, { node = \"b\", addr = 2 }, { node = \"c\", addr = 3 } ]
+link = [ { on = \"ab\", a = \"a\", b = \"b\" }, { on = \"ac\", a = \"a\", b = \"c\" }, { on = \"bc\", a = \"b\", b = \"c\" } ]
+flow = [ { cube = 1, from = { node = \"a\", app = \"s\", label = \"p\" }, to = { node = \"c\", app = \"t\", label = \"q\" } } ]
+%%
+cut bc
+tick 111
+rib d b /link/2
+tick 1
+rib d b /link/2
+tick 2
+rib d a /link/1
+send p 'on
+tick 2
+read q
+----
+1 0 ok
+2 111 ok
+3 111 obj /link/2 value '1:1
+4 112 ok
+5 112 obj /link/2 value x
+6 114 ok
+7 114 obj /link/1 value '3:1
+8 114 sent 1.0
+9 116 ok
+10 116 got 116 'on
+end 116
 ====
 # A frame is lost on the wire: no ledger has it, and the journal of the wire has its sending alone.
 nodes = [\"a\", \"b\"]

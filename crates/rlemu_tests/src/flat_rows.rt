@@ -170,10 +170,12 @@ end 10
 ====
 cut w3
 tick 4
+send p 'x
 ----
 1 0 ok
 1 0 state q failed Below w3/d/1
 2 4 ok
+3 4 no NoRoute 4
 end 4
 ####
 nodes = [\"a\", \"b\"]

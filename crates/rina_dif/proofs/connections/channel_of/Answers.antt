@@ -1,6 +1,5 @@
 use Rattle.std.proofs.Common.{◌∙◌, ap, sym}
 use Rattle.rina_dif.proofs.Channels.{is_channel, never_off}
-use Rattle.rina_dif.specs.Linking.{is_on}
 use Rattle.rina_data.specs.declared.settings.Member.{Member}
 use Rattle.std.specs.Prelude.{position, ◌==◌}
 use Rattle.rina_dif.proofs.connections.channel_of.Goals as goal

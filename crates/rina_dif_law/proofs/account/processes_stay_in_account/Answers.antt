@@ -1,11 +1,14 @@
 use Rattle.rina_dif_law.proofs.Accounting.{acknowledged_accounted, lost_accounted, passed_accounted, resent_accounted}
+use Rattle.rina_dif_law.proofs.Answered.{told_accounted}
 use Rattle.rina_dif_law.proofs.Asked.{asked_accounted}
+use Rattle.rina_dif_law.proofs.FarMade.{made_accounted}
 use Rattle.rina_dif_law.proofs.Founding.{bound_accounted, failed_accounted, start_accounted}
 use Rattle.rina_dif_law.proofs.Landing.{ins_accounted}
 use Rattle.rina_dif_law.proofs.Lifted.{beside_accounted, passes_of_others_account, sends_of_others_account, time_accounted}
 use Rattle.rina_dif_law.proofs.Making.{offers_accounted}
 use Rattle.rina_dif_law.proofs.Receiving.{ended_accounted, forgotten_accounted}
 use Rattle.rina_dif_law.proofs.Relaying.{outs_accounted}
+use Rattle.rina_dif_law.proofs.TurnedDown.{down_accounted}
 use Rattle.rina_dif_law.proofs.account.processes_stay_in_account.Goals as goal
 
 pub returns-clause-pass : goal.returns-clause-pass
@@ -58,3 +61,12 @@ returns-clause-bind c = bound_accounted
 
 pub returns-clause-ask : goal.returns-clause-ask
 returns-clause-ask c = λ d lines below ask d' lines' st n accounted s. asked_accounted d lines below st n ask d' lines' s accounted
+
+pub returns-clause-far : goal.returns-clause-far
+returns-clause-far c = λ d lines below node at d' lines' st n accounted s. made_accounted d lines below st n node at d' lines' s accounted
+
+pub returns-clause-answer : goal.returns-clause-answer
+returns-clause-answer c = λ d lines below at d' st n accounted s. told_accounted d lines below st n at d' s accounted
+
+pub returns-clause-turn_down : goal.returns-clause-turn_down
+returns-clause-turn_down c = λ d lines below at state d' st n accounted s. down_accounted d lines below st n at state d' s accounted

@@ -1,6 +1,6 @@
 use Rattle.rina_dif_law.specs.WriteOffLaws.{Nothing}
 use Rattle.rina_dif_law.specs.WriteOffs.{AnyPort}
-use Rattle.rina_dif_law.proofs.Warranted.{acknowledged_write, asked_noted, bound_noted, ended_write, failed_write, forgotten_write, ins_write, lost_write, offers_noted, outs_write, passed_noted, resent_write, ticked_noted}
+use Rattle.rina_dif_law.proofs.Warranted.{acknowledged_write, answered_quiet, asked_noted, bound_noted, ended_write, failed_write, forgotten_write, ins_write, lost_write, made_noted, offers_noted, outs_write, passed_noted, resent_write, ticked_noted, turned_down_noted}
 use Rattle.rina_dif_law.proofs.Writing.{was_lawful, writes}
 use Rattle.rina_dif_law.proofs.write_offs.each_write_off_has_its_cause.Goals as goal
 
@@ -45,3 +45,12 @@ returns-clause-ask c = λ d lines ask d' lines' s. writes Nothing d d' (asked_no
 
 pub returns-clause-time : goal.returns-clause-time
 returns-clause-time c = λ d lines now d' lines' s. writes Nothing d d' (ticked_noted Nothing d lines now d' lines' s)
+
+pub returns-clause-far : goal.returns-clause-far
+returns-clause-far c = λ d lines node at d' lines' s. writes Nothing d d' (made_noted Nothing d lines node at d' lines' s)
+
+pub returns-clause-answer : goal.returns-clause-answer
+returns-clause-answer c = answered_quiet
+
+pub returns-clause-turn_down : goal.returns-clause-turn_down
+returns-clause-turn_down c = λ d at state d' s. writes Nothing d d' (turned_down_noted Nothing d at state d' s)

@@ -1,4 +1,4 @@
-use Rattle.std.proofs.Common.{◌≡◌, ap, refl}
+use Rattle.std.proofs.Common.{refl}
 use Rattle.rina_iface.specs.Bind.{with_name_once}
 use Rattle.rina_dif.specs.declared.dif.Dif.{Dif}
 use Rattle.rina_dif.proofs.Drawing.{added_ids, have_drawn, undone_added}

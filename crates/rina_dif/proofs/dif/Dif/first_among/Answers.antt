@@ -1,4 +1,4 @@
-use Rattle.std.proofs.Common.{◌≡◌, ◌<◌, get_or, length, refl, arith}
+use Rattle.std.proofs.Common.{◌<◌, get_or, length, refl, arith}
 use Rattle.rina_dif.proofs.Clocked.{among_all, among_here, among_not_here, none_without}
 use Rattle.rina_dif.proofs.dif.Dif.first_among.Goals as goal
 use Rattle.rina_dif.proofs.dif.Dif.first_among.Goals.{then-at-len+then-is_due_at, else-at-len, else-at-len-via-then-at-len+else-is_due_at, else-at-len-via-else-at-len}

@@ -1,5 +1,5 @@
 -- One more id was given back.
-use Rattle.std.proofs.Common.{◌≡◌, ◌∙◌, ℕ, get_or, None, Option, Some, ap, refl, slice_get, subst, sym}
+use Rattle.std.proofs.Common.{◌≡◌, ◌∙◌, ℕ, get_or, None, Option, Some, ap, subst, sym}
 use Rattle.std.proofs.lemmas.Option.{slice_get-get_or}
 use Rattle.rina_dif.specs.declared.dif.Dif.{Dif}
 use Rattle.rina_dif.specs.declared.release.IdRest.{IdRest}

@@ -1,12 +1,18 @@
 use Rattle.std.proofs.Common.{◌∙◌, sym}
 use Rattle.rina_dif.proofs.Beside.{in_is_step, no_step, step_noted}
-use Rattle.rina_dif.proofs.Taken.{takes_home}
+use Rattle.rina_dif.proofs.Taken.{takes_home, takes_none, takes_nowhere}
 use Rattle.rina_dif.proofs.Elsewhere.{in_noted}
 use Rattle.rina_dif.proofs.dif.Dif.in_step.Goals as goal
 
+pub returns-then-self-clause-does : goal.returns-then-self-clause-does
+returns-then-self-clause-does g c = λ lines h. takes_none c.args.self.now lines (g.F.Facility.seen c.args.below.now) c.args.node c.args.link h
+
+pub returns-in_default-clause-does : goal.returns-in_default-clause-does
+returns-in_default-clause-does g c = λ lines h. takes_nowhere c.args.self.now lines (g.F.Facility.seen c.args.below.now) c.args.node c.args.link (sym c.place_at_node.ensures.place ∙ c.in_default.is) h
+
 pub returns-clause-does : goal.returns-clause-does
 returns-clause-does g c = λ lines h.
-    takes_home c.args.self.now lines (g.F.Facility.seen c.args.below.now) c.args.node c.args.link c.in-Some.at c.in_step_at-step.result c.remember_memory_failure.result c.in_step_at-step.new.self c.remember_memory_failure.new.failed (g.F.Facility.seen c.in_step_at-step.new.below) (c.in_step_at-step.ensures.failed ∙ c.if-self.false) (sym c.place_at_node.ensures.place ∙ c.in-Some.is) c.remember_memory_failure.ensures.same (c.in_step_at-step.ensures.does lines h)
+    takes_home c.args.self.now lines (g.F.Facility.seen c.args.below.now) c.args.node c.args.link c.in-Some.at c.in_step_at-step.result c.remember_memory_failure.result c.in_step_at-step.new.self c.remember_memory_failure.new.failed (g.F.Facility.seen c.in_step_at-step.new.below) (c.in_step_at-step.ensures.failed ∙ c.if-self.false) (sym c.place_at_node.ensures.place ∙ c.in-Some.is) c.remember_memory_failure.ensures.same c.remember_memory_failure.ensures.noted (c.in_step_at-step.ensures.does lines h)
 
 pub returns-then-self-clause-goes_on : goal.returns-then-self-clause-goes_on
 returns-then-self-clause-goes_on g c = (no_step c.args.self.now (g.F.Facility.seen c.args.below.now) c.requires.stands).goes_on

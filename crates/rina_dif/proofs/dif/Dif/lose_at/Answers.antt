@@ -1,5 +1,4 @@
-use Rattle.std.proofs.Common.{◌<◌, Some, ap, length, subst, sym}
-use Rattle.std.proofs.lemmas.Option.{slice_get_within}
+use Rattle.std.proofs.Common.{Some}
 use Rattle.rina_dif.specs.Elsewhere.{IsEndOf, WhenOk}
 use Rattle.rina_dif.proofs.Elsewhere.{lost_alone}
 use Rattle.rina_dif.proofs.Unlinked.{end_read, left_read, place_read}

@@ -1,4 +1,4 @@
-use Rattle.std.proofs.Common.{◌≡◌, ◌∙◌, List, length, slice_get, Option, None, Ok, Some, ap, refl, slice_set, subst, sym}
+use Rattle.std.proofs.Common.{◌≡◌, ◌∙◌, List, length, slice_get, Option, Ok, Some, ap, refl, slice_set, subst, sym}
 use Rattle.std.proofs.lemmas.Result.{err_from_is_err_and}
 use Rattle.rina_agent.specs.declared.agent.Agent.{Agent}
 use Rattle.rina_member.specs.Knowing.{AreRoutesOf}

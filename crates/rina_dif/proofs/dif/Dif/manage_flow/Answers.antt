@@ -1,5 +1,5 @@
 -- Where an allocation fails, each member is as before or took the entry, and whether one of them shows the flow tells nothing of its agent.
-use Rattle.std.proofs.Common.{◌≡◌, ◌∙◌, ap, refl, sym}
+use Rattle.std.proofs.Common.{◌≡◌, ◌∙◌, ap, refl}
 use Rattle.std.proofs.lemmas.Result.{on_err_weaker}
 use Rattle.rina_member.specs.Managements.{with_flow}
 use Rattle.rina_dif.specs.Changing.{with_flow_at}

@@ -1,5 +1,4 @@
-use Rattle.std.proofs.Common.{◌≡◌, ◌∙◌, ℕ, Option, Some, ap, refl, slice_get, slice_set, subst, sym}
-use Rattle.rina_iface.specs.declared.ends.End.{End}
+use Rattle.std.proofs.Common.{◌≡◌, ◌∙◌, ℕ, Some, ap, refl, slice_set, sym}
 use Rattle.rina_iface.specs.declared.state.PortState.{PortState}
 use Rattle.rina_iface.specs.declared.state.PortState.TheVariants.{Pending}
 use Rattle.rina_iface.specs.State.{freed_state, with_state}

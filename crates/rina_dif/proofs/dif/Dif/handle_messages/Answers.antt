@@ -1,0 +1,51 @@
+-- The member handled all that came, or there was nothing to handle.
+use Rattle.std.proofs.Common.{◌≡◌, ℕ, ◌<◌, length, Option, Some, refl, subst, sym}
+use Rattle.std.specs.Prelude.{IfSome}
+use Rattle.std.proofs.lemmas.Option.{slice_get_within}
+use Rattle.rina_dif.specs.declared.dif.Dif.{Dif}
+use Rattle.rina_dif.specs.declared.messages_in.Handled.{Handled}
+use Rattle.rina_dif.specs.Handling.{HandlesAs, IsHandled}
+use Rattle.rina_dif.specs.Routing.{SetsRoutes}
+use Rattle.rina_dif.proofs.Learned.{at_place, handles_after, handles_leave}
+use Rattle.rina_dif.proofs.Leaves.{has_process}
+use Rattle.rina_dif.proofs.Unlinked.{agent_within}
+use Rattle.rina_dif.proofs.dif.Dif.handle_messages.Goals as goal
+
+told : (d : Dif) (at number : ℕ) (found : Option Handled) (w : Handled) → found ≡ Some w → IfSome found (IsHandled d at number) → IsHandled d at number w
+told d at number found w is h = subst (λ (o : Option Handled). IfSome o (IsHandled d at number)) is h
+
+pub pass_messages-requires-clause-stands : goal.pass_messages-requires-clause-stands
+pass_messages-requires-clause-stands c = (c.requires.stands.0, c.requires.stands.1.1.connected)
+
+pub pass_messages-requires-clause-place : goal.pass_messages-requires-clause-place
+pass_messages-requires-clause-place c =
+    let w = told c.args.self.now c.args.at c.args.number c.args.handled c.in-Some.handled c.in-Some.is c.requires.handled in
+    at_place c.args.self.now c.args.at c.in-Some.handled.place c.args.number w.here c.requires.at
+
+pub set_routes-requires : goal.set_routes-requires
+set_routes-requires c =
+    let p = has_process c.args.self.now c.requires.stands.0 c.args.at c.requires.stands.1 c.requires.at in
+    subst (λ (d : Dif). c.args.at < length d.processes) (sym c.pass_messages.ensures.whole) (slice_get_within c.args.self.now.processes c.args.at p.0 p.1)
+
+pub set-requires : goal.set-requires
+set-requires c = subst (λ (d : Dif). c.args.at < length d.managements) (sym c.pass_messages.ensures.whole) (agent_within c.args.self.now c.requires.stands.0 c.args.at c.requires.at c.requires.stands.1)
+
+pub returns-in_default-clause-does : goal.returns-in_default-clause-does
+returns-in_default-clause-does c = λ lines below h. subst (λ (o : Option Handled). HandlesAs c.args.self.now lines below c.args.at c.args.number o c.args.self.now) (sym c.in_default.is) refl
+
+pub returns-clause-does : goal.returns-clause-does
+returns-clause-does c = λ lines below h.
+    let d = c.args.self.now in
+    let w = c.in-Some.handled in
+    let is = told d c.args.at c.args.number c.args.handled w c.in-Some.is c.requires.handled in
+    subst (λ (o : Option Handled). HandlesAs d lines below c.args.at c.args.number o (record c.pass_messages.new.self { processes = c.set_routes.new.self; managements = c.set.new.self })) (sym c.in-Some.is)
+    (handles_after d c.args.at w.place c.args.number is.here c.requires.at c.what_comes_was_made_by_a_member.ensures c.requires.alive w.management w.routes c.pass_messages.new.self c.set.new.self c.set_routes.new.self
+    is.handles is.routes c.pass_messages.ensures.passes c.pass_messages.ensures.stand c.pass_messages.ensures.whole c.set_routes.ensures c.set.ensures lines below h)
+
+pub returns-clause-leaves : goal.returns-clause-leaves
+returns-clause-leaves c =
+    let d = c.args.self.now in
+    let w = c.in-Some.handled in
+    let is = told d c.args.at c.args.number c.args.handled w c.in-Some.is c.requires.handled in
+    handles_leave d c.args.at w.place c.args.number is.here c.requires.at c.requires.stands w.routes c.set_routes.new.self
+    (subst (λ (z : Dif). SetsRoutes c.args.at w.routes z.processes c.set_routes.new.self) c.pass_messages.ensures.whole c.set_routes.ensures)

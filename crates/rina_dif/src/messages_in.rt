@@ -1,0 +1,198 @@
+//! How the members of a DIF handle the messages that came on their links.
+ghost use Rattle.std.specs.Prelude.{◌≡◌, ◌<◌, ◌≤◌, ◌-◌, List, IfOk, IfSome, Some, false, length, slice_get};
+ghost use Rattle.rina_base.specs.Pdus.{pdu_of};
+ghost use Rattle.rina_iface.specs.declared.ends.End.{End};
+ghost use Rattle.rina_iface.specs.Journal.{At};
+ghost use Rattle.rina_iface.specs.Seen.{Seen};
+ghost use Rattle.rina_law.specs.Direction.{Direction};
+ghost use Rattle.rina_member.specs.declared.management.Management.{Management};
+ghost use Rattle.rina_member.specs.Handling.{AreUnenrolled};
+ghost use Rattle.rina_dif.specs.Elsewhere.{ChangesProcess};
+ghost use Rattle.rina_dif.specs.Flooding.{texts_of};
+ghost use Rattle.rina_dif.specs.Handling.{HandlesAhead, HandlesAs, HandlesInTurn, HandlesOne, IsHandled, IsToldAhead, PassesAll, unpassed_sdus};
+ghost use Rattle.rina_dif.specs.Holding.{Holds, LinksStand, Stands};
+
+use crate::dif::Dif;
+use rina_agent::AgentError;
+use rina_base::{Bytes, Memory, PduView, Seq, Tick};
+use rina_data::Route;
+use rina_dtp::Bodies;
+use rina_law::Entry;
+use rina_member::{Management, after_sdu};
+use std::alloc::Global;
+
+/// What a member is once it handled the messages that came on one of its links.
+#[derive(Drop)]
+pub struct Handled {
+    /// The place of the end to which they came.
+    pub place: usize,
+    pub management: Management,
+    /// The next hops over the items that it holds.
+    pub routes: Seq<Route>,
+}
+
+/// The management of a member after an SDU came on its link of a number at a tick: as it was, where the SDU changes nothing.
+fn after_one(
+    alloc: Global,
+    management: Management,
+    now: Tick,
+    number: u16,
+    sdu: &[u8],
+) -> Result<Management, Memory>
+    requires unenrolled { AreUnenrolled management.agent.links }
+    ensures { IfOk result (HandlesOne now number sdu.now management) }
+{
+    match after_sdu(alloc, &management, now, number, sdu) {
+        Ok(Some(after)) => Ok(after),
+        Ok(None) => Ok(management),
+        Err(AgentError::Memory) => Err(Memory),
+        Err(AgentError::CountSpent { .. }) => unreachable!(),
+    }
+}
+
+/// The management of a member after SDUs came on its link of a number, one after the other, at a tick. The one that is given
+/// stays as it is.
+fn after_all(
+    alloc: Global,
+    management: &Management,
+    now: Tick,
+    number: u16,
+    came: &[Entry],
+) -> Result<Management, Memory>
+    requires unenrolled { AreUnenrolled management.now.agent.links }
+    ensures { IfOk result (HandlesInTurn now number (texts_of came.now) management.now) }
+{
+    let mut after = management.copy(alloc)?;
+    for entry in came {
+        after = after_one(alloc, after, now, number, entry.bytes.as_slice())?;
+    }
+    Ok(after)
+}
+
+/// The management of a member after SDUs with these bytes came on its link of a number, one after the other, at a tick.
+fn after_bodies(
+    alloc: Global,
+    management: Management,
+    now: Tick,
+    number: u16,
+    bodies: &[Bytes],
+) -> Result<Management, Memory>
+    requires unenrolled { AreUnenrolled management.agent.links }
+    ensures { IfOk result (HandlesInTurn now number bodies.now management) }
+{
+    let mut after = management;
+    for body in bodies {
+        after = after_one(alloc, after, now, number, body.as_slice())?;
+    }
+    Ok(after)
+}
+
+impl Dif {
+    /// How many SDUs came to the end at a place of the management connections and are not passed.
+    fn count_waiting(&self, place: usize) -> u64
+        ensures { (end : End) → At self.now.connections.flows.journal.ends place end → result ≡ length end.got - end.taken }
+    {
+        match self.connections.flows.journal.ends.get(place) {
+            Some(end) => (end.got.len() as u64).saturating_sub(end.taken),
+            None => 0,
+        }
+    }
+
+    /// Passes all SDUs that came to the end at a place of the management connections. Takes no memory.
+    fn pass_messages(&mut self, place: usize)
+        requires stands { (below : Seen) × LinksStand self.old below }
+        requires place { place < length self.old.connections.flows.journal.ends }
+        ensures passes { (below : Seen) (links : LinksStand self.old below) → PassesAll self.old links.lines place self.new.connections.flows }
+        ensures stand { (below : Seen) → LinksStand self.old below → LinksStand self.new below }
+        ensures whole { self.new ≡ record self.old { connections = record self.old.connections { flows = self.new.connections.flows } } }
+    {
+        let clock = self.clock;
+        let count = self.count_waiting(place);
+        'turns: for _ in 0..count {
+            self.connections.flows.pass(clock, place);
+        }
+    }
+
+    /// The management of the member at a place after it handled, in turn, all SDUs that came to the end of its link of a number
+    /// and are not passed.
+    fn management_after(
+        &self,
+        alloc: Global,
+        at: usize,
+        place: usize,
+        number: u16,
+    ) -> Result<Management, Memory>
+        requires at { at < length self.now.managements }
+        requires place { place < length self.now.connections.flows.journal.ends }
+        requires taken { (end : End) → At self.now.connections.flows.journal.ends place end → end.taken ≤ length end.got }
+        requires unenrolled { (m : Management) → slice_get self.now.managements at ≡ Some m → AreUnenrolled m.agent.links }
+        ensures { IfOk result (λ after. (m : Management) (end : End) → slice_get self.now.managements at ≡ Some m → At self.now.connections.flows.journal.ends place end → HandlesInTurn self.now.clock number (unpassed_sdus end) m after) }
+    {
+        let Some(management) = self.managements.get(at) else {
+            unreachable!()
+        };
+        let Some(end) = self.connections.flows.journal.ends.get(place) else {
+            unreachable!()
+        };
+        let came = &end.got.as_slice()[end.taken as usize..];
+        after_all(alloc, management, self.clock, number, came)
+    }
+
+    /// The bytes of the SDUs that a piece would make whole at the end of a place. The piece is not taken.
+    fn bodies_ahead(&self, alloc: Global, place: usize, pdu: &PduView<'_>) -> Result<Bodies, Memory>
+        requires clock { self.now.clock ≤ 10_000_000 }
+        requires conn { place < length self.now.connections.flows.conns }
+        ensures { IfOk result (λ bodies. IsToldAhead self.now place (pdu_of pdu.now) bodies) }
+    {
+        let links = &self.connections.flows;
+        let unpassed = links.unpassed(place);
+        links
+            .conns
+            .at(place)
+            .rx
+            .ahead(alloc, self.clock, pdu, unpassed)
+    }
+
+    /// The management of the member at a place after it handled, in turn, the SDUs that came to the end of its link of a number
+    /// and are not passed, and then those that a piece would make whole there. The piece is not taken.
+    pub(crate) fn management_ahead(
+        &self,
+        alloc: Global,
+        at: usize,
+        place: usize,
+        number: u16,
+        pdu: &PduView<'_>,
+    ) -> Result<Management, Memory>
+        requires clock { self.now.clock ≤ 10_000_000 }
+        requires at { at < length self.now.managements }
+        requires place { place < length self.now.connections.flows.journal.ends }
+        requires conn { place < length self.now.connections.flows.conns }
+        requires taken { (end : End) → At self.now.connections.flows.journal.ends place end → end.taken ≤ length end.got }
+        requires unenrolled { (m : Management) → slice_get self.now.managements at ≡ Some m → AreUnenrolled m.agent.links }
+        ensures { IfOk result (HandlesAhead self.now at place number (pdu_of pdu.now)) }
+    {
+        let bodies = self.bodies_ahead(alloc, place, pdu)?;
+        let after = self.management_after(alloc, at, place, number)?;
+        after_bodies(alloc, after, self.clock, number, bodies.as_slice())
+    }
+
+    /// Lets the member at a place handle the messages that came on its link of a number, where there are any: the end passes all of
+    /// them, and the member and its next hops are as was told. Takes no memory.
+    pub(crate) fn handle_messages(&mut self, at: usize, number: u16, handled: Option<Handled>)
+        requires stands { (below : Seen) × Stands self.old below }
+        requires alive { self.old.failed ≡ false }
+        requires at { at < length self.old.settings.members }
+        requires handled { IfSome handled (IsHandled self.old at number) }
+        ensures does { (lines : List Direction) (below : Seen) → Holds self.old lines below → HandlesAs self.old lines below at number handled self.new }
+        ensures whole { self.new ≡ record self.old { processes = self.new.processes; connections = record self.old.connections { flows = self.new.connections.flows }; managements = self.new.managements } }
+        ensures leaves { ChangesProcess (Some at) self.old.processes self.new.processes }
+    {
+        let Some(handled) = handled else {
+            return;
+        };
+        rina_flood::what_comes_was_made_by_a_member();
+        self.pass_messages(handled.place);
+        self.processes.set_routes(at, handled.routes);
+        self.managements.set(at, handled.management);
+    }
+}
