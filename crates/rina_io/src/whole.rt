@@ -31,10 +31,10 @@ pub struct Taken {
 }
 
 /// Writes all of a piece, in as many writes as the sink needs. Where a write fails or takes nothing,
-/// this fails, and the sink took a front of the piece. Such a write is counted as a fault, and no other.
+/// this fails, and the sink took a front of the piece, but not all of it. Such a write is counted as a fault, and no other.
 pub fn write_all<K: Sink>(out: &mut K, piece: &[u8]) -> Result<(), Failed>
     ensures ok { OnOk result (Appends (K.took out.old) (K.took out.new) piece.now) }
-    ensures err { OnErr result ((k : ℕ) × Appends (K.took out.old) (K.took out.new) (take k piece.now)) }
+    ensures err { OnErr result ((k : ℕ) × (k < length piece.now) × Appends (K.took out.old) (K.took out.new) (take k piece.now)) }
     ensures fine { OnOk result (K.faults out.new ≡ K.faults out.old) }
     ensures cause { HasCause (K.faults out.old) (K.faults out.new) result }
     ensures turns { Turns (K.odd out.old) (K.odd out.new) result }

@@ -12,7 +12,7 @@ use Rattle.rina_words.specs.Built.{event_at}
 use Rattle.rina_notes.specs.Look.{Leads, Extends}
 use Rattle.rina_words.specs.Step.{Stage}
 use Rattle.rina_io.specs.Reader.{Reader}
-use Rattle.rina_run.specs.Reading.{Ending, IsFine}
+use Rattle.rina_run.specs.Reading.{Broken, Ending, Enough, IsFine, IsUnbroken, Lost, Whole}
 use Rattle.rina_run.specs.Run.{LineDoes, LineRan, LinesRan, IsBad, RanFirst, Runs, StopsAt}
 use Rattle.rina_run.proofs.ReadOn.{ReadSoFar, none_so_far}
 
@@ -89,9 +89,15 @@ memory_in plan w u v ls line text number ns after number_is text_is runs (inl sa
     (u, record { count = length (texts_of ls); runs = rw (same, front) runs })
 memory_in plan w u v ls line text number ns after number_is text_is runs (inr leads) = (v, all_ran plan w (texts_of (ls ++ line ∷ [])) after v (runs_line plan w u v ls line text number ns after number_is text_is runs leads))
 
+unbroken : (ending : Ending) → IsFine ending → IsUnbroken ending
+unbroken Whole fine = tt
+unbroken Enough fine = tt
+unbroken (Broken fault) fine = fine
+unbroken Lost fine = absurd fine
+
 -- the run stopped in the next line
 pub stopped_in : (plan : Plan) (w u v : Stage) (ls : List (List ℕ)) (line text : List ℕ) (number : ℕ) (ns after : List Note) (e : Stop) (ending : Ending) → number ≡ length ls → text ≡ without_terminator line → Runs plan 1 w (texts_of ls) ns u → LineRan plan (number + 1) text u ns v after (Err e) → IsFine ending → LinesRan plan w ending (texts_of (ls ++ line ∷ [])) after v (Err e)
-stopped_in plan w u v ls line text number ns after stops.Memory ending number_is text_is runs ran fine = memory_in plan w u v ls line text number ns after number_is text_is runs ran
+stopped_in plan w u v ls line text number ns after stops.Memory ending number_is text_is runs ran fine = (unbroken ending fine, memory_in plan w u v ls line text number ns after number_is text_is runs ran)
 stopped_in plan w u v ls line text number ns after stops.WriteFault ending number_is text_is runs ran fine = (fine, runs_line plan w u v ls line text number ns after number_is text_is runs ran)
 
 pub front_push : (old new : List Note) (note : Note) → new ≡ old ++ note ∷ [] → take (length old) new ≡ old

@@ -16,7 +16,7 @@ returns-in-Ok-Broken-clause-does g c =
 
 pub returns-in-Err-clause-does : goal.returns-in-Err-clause-does
 returns-in-Err-clause-does g c =
-    broken_behind _ _ _ _ _ c.lines.invariant.so_far.lines Lost _ c.lines.invariant.so_far.read (λ left before h. c.in-Err.ensures.reads left before h) c.in-Err.ensures.goes_on (_, all_ran _ _ _ _ _ c.lines.invariant.so_far.runs)
+    broken_behind _ _ _ _ _ c.lines.invariant.so_far.lines Lost _ c.lines.invariant.so_far.read (λ left before h. c.in-Err.ensures.reads left before h) c.in-Err.ensures.goes_on (tt, (_, all_ran _ _ _ _ _ c.lines.invariant.so_far.runs))
 
 pub returns-in_err-error-clause-does : goal.returns-in_err-error-clause-does
 returns-in_err-error-clause-does g c =
