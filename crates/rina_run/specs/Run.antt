@@ -1,5 +1,5 @@
 -- A run: the lines of a schedule one after the other, from a tower that was just built.
-use Rattle.std.specs.Prelude.{◌≡◌, ℕ, ◌+◌, List, [], ◌∷◌, ◌++◌, length, take, Option, Some, None, Result, Ok, Err, ◌⊎◌}
+use Rattle.std.specs.Prelude.{◌≡◌, ℕ, ◌+◌, ◌≤◌, List, [], ◌∷◌, ◌++◌, length, take, Option, Some, None, Result, Ok, Err, ◌⊎◌}
 use Rattle.rina_report.specs.declared.note.Note.{Note}
 use Rattle.rina_schedule.specs.declared.error.LineError.{LineError}
 use Rattle.rina_schedule.specs.declared.event.Event.{Event}
@@ -44,9 +44,10 @@ LineRan plan number line s old s' new (Ok None) = Leads (λ ns. LineDoes plan nu
 LineRan plan number line s old s' new (Err stops.Memory) = (new ≡ old) ⊎ Leads (λ ns. LineDoes plan number (event_at line) s ns s') old new
 LineRan plan number line s old s' new (Err stops.WriteFault) = Leads (λ ns. LineDoes plan number (event_at line) s ns s') old new
 
--- the first lines were run, each with all of its notes
+-- all lines were run, or all but the last, each with all of its notes
 pub record RanFirst (plan : Plan) (s : Stage) (lines : List (List ℕ)) (trace : List Note) (s' : Stage) : Type 0 where
   pub count : ℕ
+  pub most : length lines ≤ count + 1
   pub runs : Runs plan 1 s (take count lines) trace s'
 
 -- the last of the lines is outside the grammar, and those before it were run

@@ -15,6 +15,7 @@ returns-then-count-self-clause-refills g c =
       bytes = ap (λ (bs : List ℕ). bs ++ read) c.requires;
       unended = λ k lt. absurd (omega arith);
       breaks = (omega (arith, long, few, c.in-Ok.ensures.bound.0), omega (arith, long, few, room, c.in-Ok.ensures.bound.0));
+      kept = λ is. cc;
     }
 
 pub returns-then-is_err-clause-refills : goal.returns-then-is_err-clause-refills
@@ -29,4 +30,5 @@ returns-then-is_err-clause-refills g c =
       bytes = ap (λ (bs : List ℕ). bs ++ read) c.requires;
       unended = λ k lt. absurd (omega arith);
       breaks = omega (arith, long, ap (λ r. r.room) c.self.view_is);
+      kept = λ is. omega (arith, long);
     }
