@@ -1,4 +1,5 @@
-use Rattle.std.proofs.Common.{◌≡◌, [], ◌++◌, List, ℕ, take, length, length-take, ◌≤◌, ap, sym, arith}
+use Rattle.std.proofs.Common.{◌≡◌, [], ◌++◌, List, ℕ, take, length, length-take, ◌≤◌, refl, ap, sym, arith}
+use Rattle.std.proofs.KnownBytes.{Consumes-kept, Consumes-nil}
 use Rattle.rina_io.proofs.line_reader.LineReader.refill.Goals as goal
 
 pub returns-then-count-self-clause-refills : goal.returns-then-count-self-clause-refills
@@ -32,3 +33,15 @@ returns-then-is_err-clause-refills g c =
       breaks = omega (arith, long, ap (λ r. r.room) c.self.view_is);
       kept = λ is. omega (arith, long);
     }
+
+pub returns-in-Err-clause-refills : goal.returns-in-Err-clause-refills
+returns-in-Err-clause-refills g c = record {
+  part = [];
+  behind = [];
+  read = [];
+  consumed = Consumes-kept _ _ _ [] (Consumes-nil _) c.in-Err.ensures.bytes;
+  bytes = ap (λ (bs : List ℕ). bs ++ []) c.requires;
+  unended = λ k lt. absurd (omega arith);
+  breaks = (refl, omega arith);
+  kept = λ is. cc;
+}
