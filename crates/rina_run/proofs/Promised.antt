@@ -1,14 +1,17 @@
 -- What a tower that stands promises of each of its DIFs.
 use Rattle.std.proofs.Common.{Option, Some, None, IfSome}
 use Rattle.rina_iface.specs.Seen.{Seen}
+use Rattle.rina_data.specs.Configs.{config_of}
 use Rattle.rina_dif_law.proofs.Lawfully.{are_lawful}
+use Rattle.rina_channel.proofs.Kept.{messages_are_kept, messages_are_lawful}
 use Rattle.rina_dif.specs.declared.dif.Dif.{Dif}
 use Rattle.rina_dif.specs.Shown.{seen_of as seen_of_dif}
-use Rattle.rina_dif.specs.Holding.{Stands}
+use Rattle.rina_dif.specs.Connected.{channels_seen}
+use Rattle.rina_dif.specs.Holding.{LinksStand, Stands}
 use Rattle.rina_dif.proofs.Managed.{managed_routed}
 use Rattle.rina_tower.specs.declared.tower.Tower.{Tower, Rank', Wires}
 use Rattle.rina_tower.specs.Stands.{IsTower}
-use Rattle.rina_run.specs.Promises.{AccountsAll, CarriesAll, CausesAll, IsCarriedBy, IsCausedIn, IsInAccount, IsLawfulIn, IsManagedIn, IsRoutedIn, IsWrittenOffIn, ItemsAll, LawfulAll, OfEachDif, RoutesAll, WriteOffsAll}
+use Rattle.rina_run.specs.Promises.{AccountsAll, AreLinksLawful, CarriesAll, CausesAll, IsCarriedBy, IsCausedIn, IsInAccount, IsLawfulIn, IsManagedIn, IsRoutedIn, IsWrittenOffIn, ItemsAll, LawfulAll, OfEachDif, RoutesAll, WriteOffsAll}
 
 -- what follows of a DIF that stands holds of each
 of_each : (Promise : Dif → Seen → Type 0) → ((d : Dif) (below : Seen) → Stands d below → Promise d below) → (t : Tower) → IsTower t → OfEachDif Promise t
@@ -25,8 +28,19 @@ carried d below stands = stands.1.carrying.entries
 pub carried_if : (tower : Option Tower) → IfSome tower IsTower → IfSome tower CarriesAll
 carried_if = of_each_if IsCarriedBy carried
 
+links_lawful : (d : Dif) (below : Seen) → LinksStand d below → AreLinksLawful d below
+links_lawful d below stand =
+    let m = channels_seen (config_of d.settings) d.clock d.connections in
+    let ps = (seen_of_dif d).processes in
+    record {
+      links = stand.lines;
+      tied = stand.tied;
+      each = λ i k end partner line here there partners is_line. messages_are_lawful m stand.lines ps below i k end partner line stand.standing here there partners is_line;
+      kept = λ i k end partner here there partners. messages_are_kept m stand.lines ps below i k end partner stand.standing here there partners;
+    }
+
 lawful_in : (d : Dif) (below : Seen) → Stands d below → IsLawfulIn d below
-lawful_in d below stands = (stands.0, stands.1.tied, are_lawful (seen_of_dif d) stands.0 below stands.1.standing)
+lawful_in d below stands = ((stands.0, stands.1.tied, are_lawful (seen_of_dif d) stands.0 below stands.1.standing), links_lawful d below stands.1.connected)
 
 pub lawful_if : (tower : Option Tower) → IfSome tower IsTower → IfSome tower LawfulAll
 lawful_if = of_each_if IsLawfulIn lawful_in

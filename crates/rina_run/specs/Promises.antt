@@ -1,15 +1,21 @@
 -- What holds of each DIF of the tower that a run returns, at every rank.
 use Rattle.std.specs.Prelude.{◌≡◌, ℕ, List, slice_get, Some}
+use Rattle.rina_cube.specs.Cubes.{promise_of}
+use Rattle.rina_iface.specs.declared.ends.End.{End}
+use Rattle.rina_iface.specs.Journal.{At, IsPartner}
 use Rattle.rina_iface.specs.Seen.{Seen}
 use Rattle.rina_law.specs.Direction.{Direction}
 use Rattle.rina_dif_law.specs.Accounted.{IsAccounted}
 use Rattle.rina_dif_law.specs.Carried.{AreCarried}
 use Rattle.rina_dif_law.specs.Caused.{AreCaused}
-use Rattle.rina_dif_law.specs.Lawful.{AreLawful}
+use Rattle.rina_dif_law.specs.Lawful.{AreLawful, IsLawfulFlow}
 use Rattle.rina_dif_law.specs.Standing.{IsStanding}
 use Rattle.rina_dif_law.specs.Written.{AreWrittenOff}
 use Rattle.rina_data.specs.Configs.{config_of}
 use Rattle.rina_flows.specs.Calls.{AreTied}
+use Rattle.rina_channel.specs.Laws.{IsFront}
+use Rattle.rina_channel.specs.LinkCloud.{LinkCloud}
+use Rattle.rina_channel.specs.Names.{link_config, names_at}
 use Rattle.rina_dif.specs.declared.dif.Dif.{Dif}
 use Rattle.rina_dif.specs.Managing.{AreManaged}
 use Rattle.rina_dif.specs.Routing.{HaveRoutes}
@@ -30,9 +36,21 @@ IsCarriedBy d below = AreCarried (seen_of_dif d) below
 abbrev pub CarriesAll : Tower → Type 0
 CarriesAll = OfEachDif IsCarriedBy
 
--- each connection has the state of the direction in which its end sends, and each of these directions is lawful
+-- each connection of a flow has the state of the direction in which its end sends, and each of these directions is lawful
+abbrev pub AreFlowsLawful : Dif → Seen → Type 0
+AreFlowsLawful d below = (lines : List Direction) × AreTied (config_of d.settings) d.clock d.flows lines × AreLawful (seen_of_dif d) lines below
+
+-- and so has each management connection of a link, with its messages as SDUs: the direction from an end of a link to the other is lawful for
+-- ever, since no id of it ever rests, and what came to the other end are the first messages that this one offered
+pub record AreLinksLawful (d : Dif) (below : Seen) : Type 0 where
+  pub links : List Direction
+  pub tied : AreTied (link_config (config_of d.settings) d.connections.manage) d.clock d.connections.flows links
+  pub each : (i k : ℕ) (end partner : End) (line : Direction) → At d.connections.flows.journal.ends i end → At d.connections.flows.journal.ends k partner → IsPartner end partner → slice_get links i ≡ Some line
+      → IsLawfulFlow (link_config (config_of d.settings) d.connections.manage) d.clock (LinkCloud (config_of d.settings) d.connections.channels (seen_of_dif d).processes below) (Unit {0}) end partner (names_at i k) line
+  pub kept : (i k : ℕ) (end partner : End) → At d.connections.flows.journal.ends i end → At d.connections.flows.journal.ends k partner → IsPartner partner end → IsFront (promise_of d.connections.manage) partner.sent end.got
+
 abbrev pub IsLawfulIn : Dif → Seen → Type 0
-IsLawfulIn d below = (lines : List Direction) × AreTied (config_of d.settings) d.clock d.flows lines × AreLawful (seen_of_dif d) lines below
+IsLawfulIn d below = AreFlowsLawful d below × AreLinksLawful d below
 
 abbrev pub LawfulAll : Tower → Type 0
 LawfulAll = OfEachDif IsLawfulIn
