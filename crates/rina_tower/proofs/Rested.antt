@@ -176,12 +176,12 @@ at_again n m (Rank' p difs below) (Rank' p' difs' below') (Wires c) x y = absurd
 
 pub rests_sooner : (until until' : ℕ) (t : Tower) → until' ≤ until → RestsUntil until t → RestsUntil until' t
 rests_sooner until until' (Wires a) le rest = air_sooner until until' a le rest
-rests_sooner until until' (Rank' p difs below) le rest = (λ n d at. (let r = rest.0 n d at in record { alive = r.alive; processes = r.processes; flows = λ now lt. r.flows now (omega (arith, le, lt)); links = λ now lt. r.links now (omega (arith, le, lt)) }), rests_sooner until until' below le rest.1)
+rests_sooner until until' (Rank' p difs below) le rest = (λ n d at. (let r = rest.0 n d at in record { alive = r.alive; processes = r.processes; messages = r.messages; flows = λ now lt. r.flows now (omega (arith, le, lt)); links = λ now lt. r.links now (omega (arith, le, lt)) }), rests_sooner until until' below le rest.1)
 
 -- The DIFs of a rank, one after the other
 
 dif_sooner : (until until' : ℕ) (d : Dif) (below : Seen) → until' ≤ until → DifRests until d below → DifRests until' d below
-dif_sooner until until' d below le r = record { alive = r.alive; processes = r.processes; flows = λ now lt. r.flows now (omega (arith, le, lt)); links = λ now lt. r.links now (omega (arith, le, lt)) }
+dif_sooner until until' d below le r = record { alive = r.alive; processes = r.processes; messages = r.messages; flows = λ now lt. r.flows now (omega (arith, le, lt)); links = λ now lt. r.links now (omega (arith, le, lt)) }
 
 pub difs_sooner : (until until' : ℕ) (difs : List Dif) (below : Seen) → until' ≤ until → AreResting until difs below → AreResting until' difs below
 difs_sooner until until' difs below le rest = λ n d at. dif_sooner until until' d below le (rest n d at)

@@ -35,7 +35,7 @@ use Rattle.rina_dif_law.proofs.Finding.{beside, live_link}
 use Rattle.rina_flows.specs.declared.flows.Flows.{Flows}
 use Rattle.rina_channel.specs.declared.channel.Channel.{Channel}
 use Rattle.rina_dif.specs.declared.dif.Dif.{Dif}
-use Rattle.rina_dif.specs.Clocking.{ClockStepsAt, Serves, Steps, StepsOk}
+use Rattle.rina_dif.specs.Clocking.{ClockStepsAt, Serves, ServesAny, Steps, StepsOk}
 use Rattle.rina_dif.specs.Holding.{Holds, LinksStand, Stands}
 use Rattle.rina_dif.specs.LinkSteps.{DoesLink}
 use Rattle.rina_dif.specs.Shown.{seen_of}
@@ -175,16 +175,20 @@ serves_use : (d : Dif) (lines : List Direction) (below : Seen) (node : ℕ) (don
 serves_use d lines below node done d' lines' below' ipc links (inl flow) = inl flow.same_below
 serves_use d lines below node done d' lines' below' ipc links (inr link) = (let x = link.0.does links in links_use d below ipc links link.0.i x.place done (seen_of d') d'.connections.flows below' x.does)
 
+any_use : (d : Dif) (lines : List Direction) (below : Seen) (node : ℕ) (done : ClockStep) (d' : Dif) (lines' : List Direction) (below' : Seen) → AreIpc (config_of d.settings).members → LinksStand d below → ServesAny d lines below node done d' lines' below' → MayUse below below'
+any_use d lines below node done d' lines' below' ipc links (inl served) = serves_use d lines below node done d' lines' below' ipc links served.0
+any_use d lines below node done d' lines' below' ipc links (inr message) = inl message.2
+
 steps_use : (d : Dif) (lines : List Direction) (below : Seen) (node : ℕ) (done : ClockStep) (d' : Dif) (lines' : List Direction) (below' : Seen) → AreIpc (config_of d.settings).members → LinksStand d below → Steps d lines below node done d' lines' below' → MayUse below below'
-steps_use d lines below node clocks.Idle d' lines' below' ipc links h = serves_use d lines below node clocks.Idle d' lines' below' ipc links h.1
-steps_use d lines below node (clocks.Gone cep) d' lines' below' ipc links h = serves_use d lines below node (clocks.Gone cep) d' lines' below' ipc links h.1
-steps_use d lines below node (clocks.GaveUp num) d' lines' below' ipc links h = serves_use d lines below node (clocks.GaveUp num) d' lines' below' ipc links h.1
-steps_use d lines below node (clocks.Ack cep) d' lines' below' ipc links h = serves_use d lines below node (clocks.Ack cep) d' lines' below' ipc links h.1
-steps_use d lines below node (clocks.Again num) d' lines' below' ipc links h = serves_use d lines below node (clocks.Again num) d' lines' below' ipc links h.1
+steps_use d lines below node clocks.Idle d' lines' below' ipc links h = any_use d lines below node clocks.Idle d' lines' below' ipc links h.1
+steps_use d lines below node (clocks.Gone cep) d' lines' below' ipc links h = any_use d lines below node (clocks.Gone cep) d' lines' below' ipc links h.1
+steps_use d lines below node (clocks.GaveUp num) d' lines' below' ipc links h = any_use d lines below node (clocks.GaveUp num) d' lines' below' ipc links h.1
+steps_use d lines below node (clocks.Ack cep) d' lines' below' ipc links h = any_use d lines below node (clocks.Ack cep) d' lines' below' ipc links h.1
+steps_use d lines below node (clocks.Again num) d' lines' below' ipc links h = any_use d lines below node (clocks.Again num) d' lines' below' ipc links h.1
 steps_use d lines below node (clocks.LinkLost link) d' lines' below' ipc links h = inl h.2
-steps_use d lines below node (clocks.LinkNew link) d' lines' below' ipc links h = serves_use d lines below node (clocks.LinkNew link) d' lines' below' ipc links h.1
-steps_use d lines below node (clocks.Timeout port) d' lines' below' ipc links h = serves_use d lines below node (clocks.Timeout port) d' lines' below' ipc links h.1
-steps_use d lines below node (clocks.Message link) d' lines' below' ipc links h = serves_use d lines below node (clocks.Message link) d' lines' below' ipc links h.1
+steps_use d lines below node (clocks.LinkNew link) d' lines' below' ipc links h = any_use d lines below node (clocks.LinkNew link) d' lines' below' ipc links h.1
+steps_use d lines below node (clocks.Timeout port) d' lines' below' ipc links h = any_use d lines below node (clocks.Timeout port) d' lines' below' ipc links h.1
+steps_use d lines below node (clocks.Message link) d' lines' below' ipc links h = any_use d lines below node (clocks.Message link) d' lines' below' ipc links h.1
 
 clock_ok_use : (d : Dif) (lines : List Direction) (below : Seen) (node : ℕ) (r : Result ClockStep StepError) (d' : Dif) (lines' : List Direction) (below' : Seen) → AreIpc (config_of d.settings).members → LinksStand d below → StepsOk d lines below node r d' lines' below' → MayUse below below'
 clock_ok_use d lines below node (Ok done) d' lines' below' ipc links h = steps_use d lines below node done d' lines' below' ipc links h
