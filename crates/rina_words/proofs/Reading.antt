@@ -1,10 +1,11 @@
 -- Reading one SDU after the other.
-use Rattle.std.proofs.Common.{◌≡◌, ℕ, List, [], ◌∷◌, ◌++◌, map, Some, refl, sym, ap, subst, ◌∙◌, append_assoc}
+use Rattle.std.proofs.Common.{◌≡◌, ℕ, ◌+◌, ◌≤◌, List, [], ◌∷◌, ◌++◌, length, length-append, map, Some, refl, sym, ap, subst, ◌∙◌, append_assoc, arith}
 use Rattle.std.proofs.lemmas.List.{append-nil, map-append}
 use Rattle.rina_base.specs.declared.number.Port.{Port}
 use Rattle.rina_law.specs.declared.entry.Entry.{Entry}
 use Rattle.rina_report.specs.declared.note.Note.{Note}
 use Rattle.rina_report.specs.declared.note.Note.TheVariants as notes
+use Rattle.rina_report.specs.declared.answer.Answer.{Answer}
 use Rattle.rina_report.specs.declared.answer.Answer.TheVariants as answers
 use Rattle.rina_tower.specs.declared.tower.Tower.{Tower}
 use Rattle.rina_tower.specs.Applications.{AppPasses}
@@ -42,3 +43,7 @@ partly_more line rank port w u trace mid after x tick at bytes t so_far waits ti
       clock = stays ∙ so_far.clock;
       notes = rw (map-append (got_note line (now_of w.tower)) so_far.entries (x ∷ []), sym one) (told ∙ ap (λ (ns : List Note). ns ++ notes.Line line tick (answers.Got at bytes) ∷ []) so_far.notes ∙ append_assoc trace (map (got_note line (now_of w.tower)) so_far.entries) (notes.Line line tick (answers.Got at bytes) ∷ []));
     }
+
+-- one note more was told
+pub one_note_more : (old new : List Note) (line tick n : ℕ) (what : Answer) → n ≤ length old → new ≡ old ++ notes.Line line tick what ∷ [] → n + 1 ≤ length new
+one_note_more old new line tick n what few is = omega (arith, few, ap length is, length-append old (notes.Line line tick what ∷ []))

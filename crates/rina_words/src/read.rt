@@ -1,5 +1,5 @@
 //! The word `read`.
-ghost use Rattle.std.specs.Prelude.{◌≡◌, None, MatchOption, OnOk, OnErr};
+ghost use Rattle.std.specs.Prelude.{◌≡◌, ◌≢◌, ◌+◌, ◌^◌, ◌≤◌, ◌⊎◌, None, MatchOption, length, OnOk, OnErr};
 ghost use Rattle.rina_notes.specs.Look.{Leads, Extends};
 ghost use Rattle.rina_notes.specs.Sites.{port_in};
 ghost use Rattle.rina_words.specs.Step.{IsWaiting, Reading, ReadsAll, waiting};
@@ -53,7 +53,8 @@ pub fn read(
     read_all(alloc, run, line, rank, port, trace)
 }
 
-/// Reads all SDUs that wait at a port, each with a note.
+/// Reads all SDUs that wait at a port, each with a note. An allocation fails only where one waits still, or for more notes
+/// than there can be.
 fn read_all(
     alloc: Global,
     run: &mut Run,
@@ -64,6 +65,7 @@ fn read_all(
 ) -> Result<(), Memory>
     requires { IsTower run.old.tower }
     ensures does { OnOk result (ReadsAll line rank port run.old trace.old run.new trace.new) }
+    ensures waits { OnErr result ((waiting run.new.tower rank port ≢ None) ⊎ (2 ^ 64 ≤ length trace.new + 1)) }
     ensures more { OnErr result (Extends trace.old trace.new) }
     ensures sound { IsTower run.new.tower }
 {
