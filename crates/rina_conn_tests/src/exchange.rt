@@ -34,15 +34,13 @@ pub const fn num(seq: u64) -> Num {
 
 /// A piece of an SDU that was offered, by their places, while so many SDUs wait to be passed.
 #[derive(Clone, Copy)]
-pub struct Coming {
-    pub sdu: usize,
-    pub piece: usize,
-    pub unpassed: u32,
-}
+pub struct Coming(pub usize, pub usize, pub u32);
 
 /// What happens. The near end sends, and the far end receives.
 #[derive(Clone, Copy)]
 pub enum Event {
+    /// A connection begins anew.
+    Anew,
     /// So many bytes are offered.
     Offer(usize),
     /// A piece comes.
@@ -92,6 +90,9 @@ pub enum Answer {
     Missing,
 }
 
+/// A step at a tick, and the answer that is wanted.
+pub type Step = (Tick, Event, Answer);
+
 /// The two ends, and what was offered.
 #[derive(Drop)]
 struct Ends {
@@ -140,10 +141,21 @@ fn acknowledgement(ack: u32, right: u32) -> PduView<'static> {
 
 /// The PDU of a piece of an SDU that was offered.
 fn piece_of(made: &[Made], coming: Coming) -> Option<&Pdu> {
-    made.get(coming.sdu)?.pdus.get(coming.piece)
+    made.get(coming.0)?.pdus.get(coming.1)
 }
 
 impl Ends {
+    /// New ends, with numbers up to 65535.
+    fn new(alloc: Global, cube: &Cube) -> Result<Ends, Memory>
+        requires { IsCube cube.now }
+    {
+        Ok(Ends {
+            near: Conn::new(alloc, cube, 80, 65_535, NEAR)?,
+            far: Conn::new(alloc, cube, 80, 65_535, FAR)?,
+            made: Vec::new(alloc),
+        })
+    }
+
     fn offer(&mut self, alloc: Global, now: Tick, len: usize) -> Result<Answer, Memory>
         requires { now ≤ 10000000 }
     {
@@ -167,7 +179,7 @@ impl Ends {
         requires { now ≤ 10000000 }
     {
         match piece_of(self.made.as_slice(), coming) {
-            Some(pdu) => Answer::Told(self.far.on_data(now, &view(pdu), coming.unpassed)),
+            Some(pdu) => Answer::Told(self.far.on_data(now, &view(pdu), coming.2)),
             None => Answer::Missing,
         }
     }
@@ -177,7 +189,7 @@ impl Ends {
     {
         match piece_of(self.made.as_slice(), coming) {
             Some(pdu) => {
-                let bodies = self.far.ahead(alloc, now, &view(pdu), coming.unpassed)?;
+                let bodies = self.far.ahead(alloc, now, &view(pdu), coming.2)?;
                 Ok(Answer::Count(bodies.len()))
             }
             None => Ok(Answer::Missing),
@@ -246,6 +258,7 @@ impl Ends {
         requires { now ≤ 10000000 }
     {
         match event {
+            Event::Anew => Ok(Answer::Done),
             Event::Offer(len) => self.offer(alloc, now, len),
             Event::Come(coming) => Ok(self.come(now, coming)),
             Event::Ahead(coming) => self.ahead(alloc, now, coming),
@@ -265,22 +278,16 @@ impl Ends {
     }
 }
 
-/// Goes through an exchange on a connection of this cube, with numbers up to `max`, and tells the place of the first
-/// step that has another answer than is wanted.
-pub fn first_difference(
-    alloc: Global,
-    cube: &Cube,
-    max: u32,
-    steps: &[(Tick, Event, Answer)],
-) -> Result<Option<usize>, Memory>
+/// Goes through exchanges on connections of this cube, and tells the place of the first step that has another answer
+/// than is wanted.
+pub fn first_difference(alloc: Global, cube: &Cube, steps: &[Step]) -> Result<Option<usize>, Memory>
     requires { IsCube cube.now }
 {
-    let mut ends = Ends {
-        near: Conn::new(alloc, cube, 80, max, NEAR)?,
-        far: Conn::new(alloc, cube, 80, max, FAR)?,
-        made: Vec::new(alloc),
-    };
+    let mut ends = Ends::new(alloc, cube)?;
     for (place, (now, event, wanted)) in steps.iter().enumerate() {
+        if matches!(event, Event::Anew) {
+            ends = Ends::new(alloc, cube)?;
+        }
         if *now > 1000 || ends.step(alloc, *now, *event)? != *wanted {
             return Ok(Some(place));
         }

@@ -40,13 +40,37 @@ fn deliver(alloc: Global, from: &mut Agent, to: &mut Agent) -> Result<(), AgentE
     Ok(())
 }
 
-/// Both ends handle what waits, until nothing does.
-fn settle(alloc: Global, a: &mut Agent, b: &mut Agent) -> Result<(), AgentError> {
+/// The first member, and the one that joined over link 0 of both.
+#[derive(Drop)]
+struct Two {
+    member: Agent,
+    joiner: Agent,
+}
+
+/// The first member and a joiner, which both handled what waited, until nothing did; who may enrol is the default.
+fn settled(alloc: Global, default: bool) -> Result<Two, Fail> {
+    let mut member = first(alloc, default)?;
+    let mut joiner = joiner(alloc)?;
+    member.claim(alloc, 0)?;
     for _ in 0..8 {
-        deliver(alloc, a, b)?;
-        deliver(alloc, b, a)?;
+        deliver(alloc, &mut member, &mut joiner)?;
+        deliver(alloc, &mut joiner, &mut member)?;
     }
-    Ok(())
+    Ok(Two { member, joiner })
+}
+
+/// Whether nothing waits for link 0.
+fn is_quiet(agent: &Agent) -> bool {
+    agent.next_message(0).is_none()
+}
+
+/// Whether an agent is a member that knows all, made so many versions of items and sent so many requests, and has nothing to send.
+fn is_settled(agent: &Agent, count: u32, invoke: u32) -> bool {
+    agent.state == MemberState::Enrolled
+        && knows_all(agent)
+        && is_quiet(agent)
+        && agent.last_count == count
+        && agent.last_invoke == invoke
 }
 
 fn is_kept(agent: &Agent, key: &[u8], value: &[u8]) -> bool {
@@ -62,43 +86,27 @@ fn knows_all(agent: &Agent) -> bool {
 
 #[test]
 fn a_joiner_is_enrolled_and_both_know_all(rt: HostRuntime) -> Result<(), Fail> {
-    let alloc = rt.alloc();
-    let mut member = first(alloc, true)?;
-    let mut joiner = joiner(alloc)?;
-    member.claim(alloc, 0)?;
-    assert!(rt; joiner.state == MemberState::Joining { link: 0 });
-    settle(alloc, &mut member, &mut joiner)?;
-    assert!(rt; joiner.state == MemberState::Enrolled && member.state == MemberState::Enrolled);
-    assert!(rt; knows_all(&member) && knows_all(&joiner));
-    assert!(rt; member.next_message(0).is_none() && joiner.next_message(0).is_none());
-    assert!(rt; joiner.last_count == 2 && member.last_count == 1);
-    assert!(rt; joiner.last_invoke == 2 && member.last_invoke == 1);
+    let two = settled(rt.alloc(), true)?;
+    assert!(rt; is_settled(&two.member, 1, 1) && is_settled(&two.joiner, 2, 2));
     Ok(())
 }
 
 #[test]
 fn an_item_is_flooded_and_not_sent_back(rt: HostRuntime) -> Result<(), Fail> {
     let alloc = rt.alloc();
-    let mut member = first(alloc, true)?;
-    let mut joiner = joiner(alloc)?;
-    member.claim(alloc, 0)?;
-    settle(alloc, &mut member, &mut joiner)?;
-    member.make_item(alloc, 5, b"/dir/echo", Some(b"1"))?;
-    assert!(rt; member.next_message(0).is_some());
-    deliver(alloc, &mut member, &mut joiner)?;
-    assert!(rt; is_kept(&joiner, b"/dir/echo", b"1") && joiner.next_message(0).is_none());
+    let mut two = settled(alloc, true)?;
+    two.member.make_item(alloc, 5, b"/dir/echo", Some(b"1"))?;
+    assert!(rt; !is_quiet(&two.member));
+    deliver(alloc, &mut two.member, &mut two.joiner)?;
+    assert!(rt; is_kept(&two.joiner, b"/dir/echo", b"1") && is_quiet(&two.joiner));
     Ok(())
 }
 
 #[test]
 fn a_joiner_is_denied_by_the_rules(rt: HostRuntime) -> Result<(), Fail> {
-    let alloc = rt.alloc();
-    let mut member = first(alloc, false)?;
-    let mut joiner = joiner(alloc)?;
-    member.claim(alloc, 0)?;
-    settle(alloc, &mut member, &mut joiner)?;
-    assert!(rt; joiner.state == MemberState::Denied { rule: 0 });
-    assert!(rt; joiner.items.get(b"/member/1").is_none() && member.last_count == 0);
+    let two = settled(rt.alloc(), false)?;
+    assert!(rt; two.joiner.state == MemberState::Denied { rule: 0 });
+    assert!(rt; two.joiner.items.get(b"/member/1").is_none() && two.member.last_count == 0);
     Ok(())
 }
 
@@ -106,8 +114,9 @@ fn a_joiner_is_denied_by_the_rules(rt: HostRuntime) -> Result<(), Fail> {
 fn a_lost_link_ends_an_enrolment(rt: HostRuntime) -> Result<(), Fail> {
     let alloc = rt.alloc();
     let mut joiner = joiner(alloc)?;
+    assert!(rt; joiner.state == MemberState::Joining { link: 0 });
     joiner.lose_link(alloc, 4, 0)?;
-    assert!(rt; joiner.state == MemberState::Outside && joiner.next_message(0).is_none());
+    assert!(rt; joiner.state == MemberState::Outside && is_quiet(&joiner));
     assert!(rt; joiner.links.len() == 0);
     Ok(())
 }
@@ -115,12 +124,9 @@ fn a_lost_link_ends_an_enrolment(rt: HostRuntime) -> Result<(), Fail> {
 #[test]
 fn a_lost_link_leaves_the_link_state(rt: HostRuntime) -> Result<(), Fail> {
     let alloc = rt.alloc();
-    let mut member = first(alloc, true)?;
-    let mut joiner = joiner(alloc)?;
-    member.claim(alloc, 0)?;
-    settle(alloc, &mut member, &mut joiner)?;
-    member.lose_link(alloc, 9, 0)?;
-    assert!(rt; is_kept(&member, b"/link/1", b"") && member.last_count == 2);
-    assert!(rt; member.links.len() == 0 && member.next_message(0).is_none());
+    let mut two = settled(alloc, true)?;
+    two.member.lose_link(alloc, 9, 0)?;
+    assert!(rt; is_kept(&two.member, b"/link/1", b"") && two.member.last_count == 2);
+    assert!(rt; two.member.links.len() == 0 && is_quiet(&two.member));
     Ok(())
 }

@@ -14,40 +14,63 @@ const YES: AskEvent = AskEvent::Answer {
     number: 2,
 };
 
-#[test]
-fn an_ask_is_bound_and_given_up(rt: HostRuntime) -> Result<(), Fail> {
-    let alloc = rt.alloc();
+/// What happens to an ask, and what it does.
+type Step = (AskEvent, AskDo);
+
+const DELETE: AskDo = AskDo::Delete { dcep: 1, scep: 2 };
+
+static BOUND: [Step; 2] = [
+    (AskEvent::Clock { late: false }, AskDo::Nothing),
+    (YES, AskDo::Nothing),
+];
+
+static GIVEN_UP: [Step; 3] = [
+    (YES, AskDo::Nothing),
+    (AskEvent::Ended, DELETE),
+    (AskEvent::Ended, AskDo::Nothing),
+];
+
+static TOO_LATE: [Step; 2] = [
+    (AskEvent::Clock { late: true }, AskDo::TimedOut),
+    (YES, DELETE),
+];
+
+/// Goes through the steps of an ask, and tells the place of the first that does something else, and what the ask is bound to then.
+fn went(alloc: Global, steps: &[Step]) -> Result<(Option<usize>, Option<Pair>), Fail> {
     let mut asking = Asking::new();
-    assert!(rt; asking.step(alloc, AskEvent::Clock { late: false })? == AskDo::Nothing);
-    assert!(rt; asking.step(alloc, YES)? == AskDo::Nothing);
-    assert!(rt; asking.bound == Some(Pair { far: 1, own: 2 }));
-    assert!(rt; asking.step(alloc, AskEvent::Ended)? == AskDo::Delete { dcep: 1, scep: 2 });
-    assert!(rt; asking.step(alloc, AskEvent::Ended)? == AskDo::Nothing);
-    Ok(())
+    for (place, (event, does)) in steps.iter().enumerate() {
+        if asking.step(alloc, *event)? != *does {
+            return Ok((Some(place), asking.bound));
+        }
+    }
+    Ok((None, asking.bound))
 }
 
 #[test]
-fn an_answer_that_comes_too_late_is_given_up(rt: HostRuntime) -> Result<(), Fail> {
-    let alloc = rt.alloc();
-    let mut asking = Asking::new();
-    assert!(rt; asking.step(alloc, AskEvent::Clock { late: true })? == AskDo::TimedOut);
-    assert!(rt; asking.step(alloc, YES)? == AskDo::Delete { dcep: 1, scep: 2 });
-    assert!(rt; asking.bound.is_none());
+fn an_ask_is_bound_and_given_up_in_time_or_too_late(rt: HostRuntime) -> Result<(), Fail> {
+    let pair = Some(Pair { far: 1, own: 2 });
+    assert!(rt; went(rt.alloc(), &BOUND)? == (None, pair));
+    assert!(rt; went(rt.alloc(), &GIVEN_UP)?.0.is_none());
+    assert!(rt; went(rt.alloc(), &TOO_LATE)? == (None, None));
     Ok(())
 }
+
+/// Whether the application is here, the ask is aged, the rule that denies it and the id that is drawn; the result, and the two numbers that are told with it.
+type Case = (bool, bool, Option<u32>, Option<u32>, u8, u32, u32);
+
+static CASES: [Case; 6] = [
+    (false, false, None, Some(1), 2, 0, 0),
+    (true, true, None, Some(1), 2, 0, 0),
+    (false, false, Some(5), None, 2, 0, 0),
+    (true, false, Some(5), Some(1), 1, 0, 5),
+    (true, false, None, None, 3, 0, 255),
+    (true, false, None, Some(1), 0, 1, 2),
+];
 
 #[test]
 fn an_ask_is_answered_by_the_first_that_applies(rt: HostRuntime) -> Result<(), Fail> {
-    let alloc = rt.alloc();
-    let cases = [
-        (false, false, None, Some(1), 2, 0, 0),
-        (true, true, None, Some(1), 2, 0, 0),
-        (false, false, Some(5), None, 2, 0, 0),
-        (true, false, Some(5), Some(1), 1, 0, 5),
-        (true, false, None, None, 3, 0, 255),
-        (true, false, None, Some(1), 0, 1, 2),
-    ];
-    for (here, aged, denied, drawn, result, dcep, number) in cases {
+    for case in &CASES {
+        let (here, aged, denied, drawn, result, dcep, number) = *case;
         let mut asked = Asked::new();
         let ask = AskEvent::Ask {
             here,
@@ -57,14 +80,12 @@ fn an_ask_is_answered_by_the_first_that_applies(rt: HostRuntime) -> Result<(), F
             used: 255,
             scep: 2,
         };
-        assert!(rt;
-            asked.step(alloc, ask)?
-                == AskDo::Answer {
-                    result,
-                    dcep,
-                    number,
-                }
-        );
+        let answer = AskDo::Answer {
+            result,
+            dcep,
+            number,
+        };
+        assert!(rt; asked.step(rt.alloc(), ask)? == answer);
         assert!(rt; asked.bound.is_some() == (result == 0));
     }
     Ok(())
@@ -113,51 +134,54 @@ fn an_ask_and_its_end_have_these_bytes(rt: HostRuntime) -> Result<(), Fail> {
     )
 }
 
+/// An answer, and its bytes.
+type Written = (FlowAnswer, &'static [u8]);
+
+static ANSWERS: [Written; 4] = [
+    (
+        FlowAnswer::Yes { dcep: 5, scep: 3 },
+        b"\x01\0\x01\x05\x02\0\x04\0\0\0\x01\x04\0\x05/flow\x06\0\x08\0\0\0\x05\0\0\0\x03\x07\0\x01\0\x0b\0\x04\0\0\0\x02\x0c\0\x04\0\0\0\x01",
+    ),
+    (
+        FlowAnswer::Denied { rule: 2 },
+        b"\x01\0\x01\x05\x02\0\x04\0\0\0\x01\x04\0\x05/flow\x06\0\x08\0\0\0\0\0\0\0\x02\x07\0\x01\x01\x0b\0\x04\0\0\0\x02\x0c\0\x04\0\0\0\x01",
+    ),
+    (
+        FlowAnswer::NotHere,
+        b"\x01\0\x01\x05\x02\0\x04\0\0\0\x01\x04\0\x05/flow\x06\0\x08\0\0\0\0\0\0\0\0\x07\0\x01\x02\x0b\0\x04\0\0\0\x02\x0c\0\x04\0\0\0\x01",
+    ),
+    (
+        FlowAnswer::NoIds { used: 255 },
+        b"\x01\0\x01\x05\x02\0\x04\0\0\0\x01\x04\0\x05/flow\x06\0\x08\0\0\0\0\0\0\0\xff\x07\0\x01\x03\x0b\0\x04\0\0\0\x02\x0c\0\x04\0\0\0\x01",
+    ),
+];
+
 #[test]
 fn answers_have_these_bytes(rt: HostRuntime) -> Result<(), Fail> {
-    let answers: [(FlowAnswer, &[u8]); 4] = [
-        (
-            FlowAnswer::Yes { dcep: 5, scep: 3 },
-            b"\x01\0\x01\x05\x02\0\x04\0\0\0\x01\x04\0\x05/flow\x06\0\x08\0\0\0\x05\0\0\0\x03\x07\0\x01\0\x0b\0\x04\0\0\0\x02\x0c\0\x04\0\0\0\x01",
-        ),
-        (
-            FlowAnswer::Denied { rule: 2 },
-            b"\x01\0\x01\x05\x02\0\x04\0\0\0\x01\x04\0\x05/flow\x06\0\x08\0\0\0\0\0\0\0\x02\x07\0\x01\x01\x0b\0\x04\0\0\0\x02\x0c\0\x04\0\0\0\x01",
-        ),
-        (
-            FlowAnswer::NotHere,
-            b"\x01\0\x01\x05\x02\0\x04\0\0\0\x01\x04\0\x05/flow\x06\0\x08\0\0\0\0\0\0\0\0\x07\0\x01\x02\x0b\0\x04\0\0\0\x02\x0c\0\x04\0\0\0\x01",
-        ),
-        (
-            FlowAnswer::NoIds { used: 255 },
-            b"\x01\0\x01\x05\x02\0\x04\0\0\0\x01\x04\0\x05/flow\x06\0\x08\0\0\0\0\0\0\0\xff\x07\0\x01\x03\x0b\0\x04\0\0\0\x02\x0c\0\x04\0\0\0\x01",
-        ),
-    ];
-    for (answer, bytes) in answers {
-        has_bytes(
-            &rt,
-            rt.alloc(),
-            FlowWord::Answer { invoke: 1, answer },
-            bytes,
-        )?;
+    for (answer, bytes) in &ANSWERS {
+        let word = FlowWord::Answer {
+            invoke: 1,
+            answer: *answer,
+        };
+        has_bytes(&rt, rt.alloc(), word, bytes)?;
     }
     Ok(())
 }
 
+static OTHERS: [&[u8]; 5] = [
+    b"\x01\0\x01\x06",
+    // a denial with a CEP-id, and an answer of result 4
+    b"\x01\0\x01\x05\x02\0\x04\0\0\0\x01\x04\0\x05/flow\x06\0\x08\0\0\0\x01\0\0\0\x02\x07\0\x01\x01\x0b\0\x04\0\0\0\x02\x0c\0\x04\0\0\0\x01",
+    b"\x01\0\x01\x05\x02\0\x04\0\0\0\x01\x04\0\x05/flow\x06\0\x08\0\0\0\0\0\0\0\x02\x07\0\x01\x04\x0b\0\x04\0\0\0\x02\x0c\0\x04\0\0\0\x01",
+    // a deletion that wants a response, and one from nobody
+    b"\x01\0\x01\x06\x02\0\x04\0\0\0\x01\x04\0\x05/flow\x06\0\x08\0\0\0\x05\0\0\0\x03\x0b\0\x04\0\0\0\x02\x0c\0\x04\0\0\0\x01",
+    b"\x01\0\x01\x06\x02\0\x04\0\0\0\0\x04\0\x05/flow\x06\0\x08\0\0\0\x05\0\0\0\x03\x0b\0\x04\0\0\0\x02",
+];
+
 #[test]
 fn what_is_no_message_about_a_flow(rt: HostRuntime) -> Result<(), Fail> {
-    let alloc = rt.alloc();
-    let others: [&[u8]; 5] = [
-        b"\x01\0\x01\x06",
-        // a denial with a CEP-id, and an answer of result 4
-        b"\x01\0\x01\x05\x02\0\x04\0\0\0\x01\x04\0\x05/flow\x06\0\x08\0\0\0\x01\0\0\0\x02\x07\0\x01\x01\x0b\0\x04\0\0\0\x02\x0c\0\x04\0\0\0\x01",
-        b"\x01\0\x01\x05\x02\0\x04\0\0\0\x01\x04\0\x05/flow\x06\0\x08\0\0\0\0\0\0\0\x02\x07\0\x01\x04\x0b\0\x04\0\0\0\x02\x0c\0\x04\0\0\0\x01",
-        // a deletion that wants a response, and one from nobody
-        b"\x01\0\x01\x06\x02\0\x04\0\0\0\x01\x04\0\x05/flow\x06\0\x08\0\0\0\x05\0\0\0\x03\x0b\0\x04\0\0\0\x02\x0c\0\x04\0\0\0\x01",
-        b"\x01\0\x01\x06\x02\0\x04\0\0\0\0\x04\0\x05/flow\x06\0\x08\0\0\0\x05\0\0\0\x03\x0b\0\x04\0\0\0\x02",
-    ];
-    for bytes in others {
-        assert!(rt; read(alloc, bytes)?.is_none());
+    for bytes in &OTHERS {
+        assert!(rt; read(rt.alloc(), bytes)?.is_none());
     }
     Ok(())
 }

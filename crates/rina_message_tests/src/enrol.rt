@@ -10,38 +10,74 @@ use std::alloc::Global;
 use std::process::Abort;
 use std::test::*;
 
+/// What happens to one of the two ends, and what it does.
+type Step = (EnrolEvent, EnrolDo);
+
+static MEMBER: [Step; 3] = [
+    (EnrolEvent::Start, EnrolDo::Nothing),
+    (
+        EnrolEvent::Connect { denied: None },
+        EnrolDo::ConnectR { denied: None },
+    ),
+    (EnrolEvent::Start, EnrolDo::StartR),
+];
+
+static MEMBER_DENIES: [Step; 2] = [
+    (
+        EnrolEvent::Connect { denied: Some(257) },
+        EnrolDo::ConnectR { denied: Some(257) },
+    ),
+    (EnrolEvent::Start, EnrolDo::Nothing),
+];
+
+static JOINER: [Step; 2] = [
+    (EnrolEvent::ConnectR { denied: None }, EnrolDo::Start),
+    (EnrolEvent::Item, EnrolDo::Nothing),
+];
+
+static JOINER_STOPS: [Step; 1] = [(EnrolEvent::Stop, EnrolDo::StopR)];
+
+static JOINER_DENIED: [Step; 1] = [(EnrolEvent::ConnectR { denied: Some(257) }, EnrolDo::Nothing)];
+
+static JOINER_LOST: [Step; 1] = [(EnrolEvent::Stop, EnrolDo::Nothing)];
+
+/// Whether a joiner does so at each step.
+fn joins(alloc: Global, joiner: &mut Joiner, steps: &[Step]) -> Result<bool, Fail> {
+    for (event, does) in steps {
+        if joiner.step(alloc, *event)? != *does {
+            return Ok(false);
+        }
+    }
+    Ok(true)
+}
+
+/// Whether a new member does so at each step.
+fn enrols(alloc: Global, steps: &[Step]) -> Result<bool, Fail> {
+    let mut member = Member::new();
+    for (event, does) in steps {
+        if member.step(alloc, *event)? != *does {
+            return Ok(false);
+        }
+    }
+    Ok(true)
+}
+
 #[test]
 fn a_joiner_is_enrolled(rt: HostRuntime) -> Result<(), Fail> {
     let alloc = rt.alloc();
     let mut joiner = Joiner::new();
-    let mut member = Member::new();
-    assert!(rt; member.step(alloc, EnrolEvent::Start)? == EnrolDo::Nothing);
-    let denied = None;
-    assert!(rt;
-        member.step(alloc, EnrolEvent::Connect { denied })? == EnrolDo::ConnectR { denied }
-    );
-    assert!(rt; joiner.step(alloc, EnrolEvent::ConnectR { denied })? == EnrolDo::Start);
-    assert!(rt; member.step(alloc, EnrolEvent::Start)? == EnrolDo::StartR);
-    assert!(rt; joiner.step(alloc, EnrolEvent::Item)? == EnrolDo::Nothing);
-    assert!(rt; !joiner.enrolled);
-    assert!(rt; joiner.step(alloc, EnrolEvent::Stop)? == EnrolDo::StopR);
-    assert!(rt; joiner.enrolled);
+    assert!(rt; enrols(alloc, &MEMBER)?);
+    assert!(rt; joins(alloc, &mut joiner, &JOINER)? && !joiner.enrolled);
+    assert!(rt; joins(alloc, &mut joiner, &JOINER_STOPS)? && joiner.enrolled);
     joiner.step(alloc, EnrolEvent::LinkLost)?;
-    assert!(rt; joiner.step(alloc, EnrolEvent::Stop)? == EnrolDo::Nothing);
+    assert!(rt; joins(alloc, &mut joiner, &JOINER_LOST)?);
     Ok(())
 }
 
 #[test]
 fn one_that_is_denied_does_nothing_more(rt: HostRuntime) -> Result<(), Fail> {
-    let alloc = rt.alloc();
-    let mut joiner = Joiner::new();
-    let mut member = Member::new();
-    let denied = Some(257);
-    assert!(rt;
-        member.step(alloc, EnrolEvent::Connect { denied })? == EnrolDo::ConnectR { denied }
-    );
-    assert!(rt; joiner.step(alloc, EnrolEvent::ConnectR { denied })? == EnrolDo::Nothing);
-    assert!(rt; member.step(alloc, EnrolEvent::Start)? == EnrolDo::Nothing);
+    assert!(rt; enrols(rt.alloc(), &MEMBER_DENIES)?);
+    assert!(rt; joins(rt.alloc(), &mut Joiner::new(), &JOINER_DENIED)?);
     Ok(())
 }
 
@@ -51,55 +87,57 @@ fn has_bytes(rt: &impl Abort, alloc: Global, m: &LinkMessage, bytes: &[u8]) -> R
     Ok(())
 }
 
+const CONNECT: &[u8] = b"\x01\0\x01\0\x02\0\x04\0\0\0\x01\x09\0\x03d/b\x0a\0\x03d/a";
+
+/// A message, and its bytes.
+type Written = (LinkMessage, &'static [u8]);
+
+static MESSAGES: [Written; 6] = [
+    (
+        LinkMessage::ConnectR {
+            invoke: 1,
+            denied: None,
+        },
+        b"\x01\0\x01\x01\x02\0\x04\0\0\0\x01\x07\0\x01\0",
+    ),
+    (
+        LinkMessage::ConnectR {
+            invoke: 1,
+            denied: Some(257),
+        },
+        b"\x01\0\x01\x01\x02\0\x04\0\0\0\x01\x06\0\x04\0\0\x01\x01\x07\0\x01\x01",
+    ),
+    (
+        LinkMessage::Start {
+            invoke: 2,
+            address: 2,
+        },
+        b"\x01\0\x01\x0e\x02\0\x04\0\0\0\x02\x03\0\x05enrol\x04\0\x07/member\x06\0\x04\0\0\0\x02",
+    ),
+    (
+        LinkMessage::StartR { invoke: 2 },
+        b"\x01\0\x01\x0f\x02\0\x04\0\0\0\x02\x07\0\x01\0",
+    ),
+    (
+        LinkMessage::Stop { invoke: 1 },
+        b"\x01\0\x01\x10\x02\0\x04\0\0\0\x01\x03\0\x05enrol\x04\0\x07/member",
+    ),
+    (
+        LinkMessage::StopR { invoke: 1 },
+        b"\x01\0\x01\x11\x02\0\x04\0\0\0\x01\x03\0\x05enrol\x04\0\x07/member\x07\0\x01\0",
+    ),
+];
+
 #[test]
 fn an_enrolment_has_these_bytes(rt: HostRuntime) -> Result<(), Fail> {
     let alloc = rt.alloc();
-    let joiner = AppName::read(alloc, b"d/b")?;
-    let member = AppName::read(alloc, b"d/a")?;
-    let messages: [(LinkMessage, &[u8]); 7] = [
-        (
-            LinkMessage::Connect {
-                invoke: 1,
-                joiner,
-                member,
-            },
-            b"\x01\0\x01\0\x02\0\x04\0\0\0\x01\x09\0\x03d/b\x0a\0\x03d/a",
-        ),
-        (
-            LinkMessage::ConnectR {
-                invoke: 1,
-                denied: None,
-            },
-            b"\x01\0\x01\x01\x02\0\x04\0\0\0\x01\x07\0\x01\0",
-        ),
-        (
-            LinkMessage::ConnectR {
-                invoke: 1,
-                denied: Some(257),
-            },
-            b"\x01\0\x01\x01\x02\0\x04\0\0\0\x01\x06\0\x04\0\0\x01\x01\x07\0\x01\x01",
-        ),
-        (
-            LinkMessage::Start {
-                invoke: 2,
-                address: 2,
-            },
-            b"\x01\0\x01\x0e\x02\0\x04\0\0\0\x02\x03\0\x05enrol\x04\0\x07/member\x06\0\x04\0\0\0\x02",
-        ),
-        (
-            LinkMessage::StartR { invoke: 2 },
-            b"\x01\0\x01\x0f\x02\0\x04\0\0\0\x02\x07\0\x01\0",
-        ),
-        (
-            LinkMessage::Stop { invoke: 1 },
-            b"\x01\0\x01\x10\x02\0\x04\0\0\0\x01\x03\0\x05enrol\x04\0\x07/member",
-        ),
-        (
-            LinkMessage::StopR { invoke: 1 },
-            b"\x01\0\x01\x11\x02\0\x04\0\0\0\x01\x03\0\x05enrol\x04\0\x07/member\x07\0\x01\0",
-        ),
-    ];
-    for (m, bytes) in &messages {
+    let connect = LinkMessage::Connect {
+        invoke: 1,
+        joiner: AppName::read(alloc, b"d/b")?,
+        member: AppName::read(alloc, b"d/a")?,
+    };
+    has_bytes(&rt, alloc, &connect, CONNECT)?;
+    for (m, bytes) in &MESSAGES {
         has_bytes(&rt, alloc, m, bytes)?;
     }
     Ok(())
@@ -135,19 +173,20 @@ fn items_have_these_bytes(rt: HostRuntime) -> Result<(), Fail> {
     )
 }
 
+static OTHERS: [&[u8]; 5] = [
+    b"",
+    // START with no address, with a further field, and with an address of five bytes
+    b"\x01\0\x01\x0e\x02\0\x04\0\0\0\x02\x03\0\x05enrol\x04\0\x07/member",
+    b"\x01\0\x01\x0e\x02\0\x04\0\0\0\x02\x03\0\x05enrol\x04\0\x07/member\x06\0\x04\0\0\0\x02\x08\0\0",
+    b"\x01\0\x01\x0e\x02\0\x04\0\0\0\x02\x03\0\x05enrol\x04\0\x07/member\x06\0\x05\0\0\0\x02\0",
+    // a deletion with a text
+    b"\x01\0\x01\x0c\x02\0\x04\0\0\0\0\x03\0\x05value\x04\0\x06/dir/a\x06\0\x0e\0\0\0\x03\0\0\0\x01\0\0\0\x02\0b",
+];
+
 #[test]
 fn what_is_no_message_of_a_link(rt: HostRuntime) -> Result<(), Fail> {
     let alloc = rt.alloc();
-    let others: [&[u8]; 5] = [
-        b"",
-        // START with no address, with a further field, and with an address of five bytes
-        b"\x01\0\x01\x0e\x02\0\x04\0\0\0\x02\x03\0\x05enrol\x04\0\x07/member",
-        b"\x01\0\x01\x0e\x02\0\x04\0\0\0\x02\x03\0\x05enrol\x04\0\x07/member\x06\0\x04\0\0\0\x02\x08\0\0",
-        b"\x01\0\x01\x0e\x02\0\x04\0\0\0\x02\x03\0\x05enrol\x04\0\x07/member\x06\0\x05\0\0\0\x02\0",
-        // a deletion with a text
-        b"\x01\0\x01\x0c\x02\0\x04\0\0\0\0\x03\0\x05value\x04\0\x06/dir/a\x06\0\x0e\0\0\0\x03\0\0\0\x01\0\0\0\x02\0b",
-    ];
-    for bytes in others {
+    for bytes in &OTHERS {
         assert!(rt; read(alloc, bytes)?.is_none());
     }
     Ok(())
