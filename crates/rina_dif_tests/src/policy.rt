@@ -182,19 +182,23 @@ fn new_back() -> Back {
     }
 }
 
-fn answer_of(alloc: Global, shelf: &mut Shelf, name: &Name, ask: Ask) -> Result<Told, Fail> {
+/// Whether a shelf takes a policy under a name.
+fn is_added(
+    alloc: Global,
+    shelf: &mut Shelf,
+    name: &Name,
+    policy: Box<dyn Policy>,
+) -> Result<bool, Fail> {
     let added = name.copy(alloc)?;
+    Ok(shelf.add(alloc, added, policy).is_ok())
+}
+
+fn answer_of(alloc: Global, shelf: &mut Shelf, name: &Name, ask: Ask) -> Result<Told, Fail> {
     let done = match ask {
         Ask::Has => shelf.has(name),
-        Ask::AddRound => shelf
-            .add(alloc, added, Box::new(alloc, Round::new())?)
-            .is_ok(),
-        Ask::AddBack => shelf
-            .add(alloc, added, Box::new(alloc, new_back())?)
-            .is_ok(),
-        Ask::AddStrict => shelf
-            .add(alloc, added, Box::new(alloc, Strict::new())?)
-            .is_ok(),
+        Ask::AddRound => is_added(alloc, shelf, name, Box::new(alloc, Round::new())?)?,
+        Ask::AddBack => is_added(alloc, shelf, name, Box::new(alloc, new_back())?)?,
+        Ask::AddStrict => is_added(alloc, shelf, name, Box::new(alloc, Strict::new())?)?,
         Ask::Retire => shelf.retire(name).is_ok(),
         Ask::Pick(count) => return Ok(picked(shelf, name, count)),
     };

@@ -5,7 +5,6 @@ use rina_alloc::{
 };
 use rina_base::{AppName, FlowName, NameError};
 use std::alloc::Global;
-use std::process::Abort;
 use std::test::*;
 
 const YES: AskEvent = AskEvent::Answer {
@@ -24,7 +23,8 @@ static BOUND: [Step; 2] = [
     (YES, AskDo::Nothing),
 ];
 
-static GIVEN_UP: [Step; 3] = [
+static GIVEN_UP: [Step; 4] = [
+    (AskEvent::Clock { late: false }, AskDo::Nothing),
     (YES, AskDo::Nothing),
     (AskEvent::Ended, DELETE),
     (AskEvent::Ended, AskDo::Nothing),
@@ -91,17 +91,6 @@ fn an_ask_is_answered_by_the_first_that_applies(rt: HostRuntime) -> Result<(), F
     Ok(())
 }
 
-/// These bytes are what is written of a message, and are read as one.
-fn has_bytes(rt: &impl Abort, alloc: Global, word: FlowWord, bytes: &[u8]) -> Result<(), Fail> {
-    let m = FlowMessage {
-        to: 2,
-        from: 1,
-        word,
-    };
-    assert!(rt; write(alloc, &m)?.as_slice() == bytes && read(alloc, bytes)?.is_some());
-    Ok(())
-}
-
 fn ask(alloc: Global, destination: &[u8], source: &[u8]) -> Result<FlowAsk, NameError> {
     Ok(FlowAsk {
         flow: FlowName {
@@ -116,71 +105,69 @@ fn ask(alloc: Global, destination: &[u8], source: &[u8]) -> Result<FlowAsk, Name
     })
 }
 
-#[test]
-fn an_ask_and_its_end_have_these_bytes(rt: HostRuntime) -> Result<(), Fail> {
-    let alloc = rt.alloc();
-    let ask = ask(alloc, b"echo", b"ping")?;
-    has_bytes(
-        &rt,
-        alloc,
-        FlowWord::Ask { invoke: 1, ask },
-        b"\x01\0\x01\x04\x02\0\x04\0\0\0\x01\x03\0\x04flow\x04\0\x05/flow\x06\0\x1d\0\0\0\x01\0\0\0\x02\0\0\0\0\x01\0\0\0\x03\0\x04echo\0\x04ping\x0b\0\x04\0\0\0\x02\x0c\0\x04\0\0\0\x01",
-    )?;
-    has_bytes(
-        &rt,
-        alloc,
-        FlowWord::Delete { dcep: 5, scep: 3 },
-        b"\x01\0\x01\x06\x02\0\x04\0\0\0\0\x04\0\x05/flow\x06\0\x08\0\0\0\x05\0\0\0\x03\x0b\0\x04\0\0\0\x02\x0c\0\x04\0\0\0\x01",
-    )
+fn is_bar(byte: &u8) -> bool {
+    *byte == b'|'
 }
 
-/// An answer, and its bytes.
-type Written = (FlowAnswer, &'static [u8]);
+const fn answer(answer: FlowAnswer) -> FlowWord {
+    FlowWord::Answer { invoke: 1, answer }
+}
 
-static ANSWERS: [Written; 4] = [
-    (
-        FlowAnswer::Yes { dcep: 5, scep: 3 },
-        b"\x01\0\x01\x05\x02\0\x04\0\0\0\x01\x04\0\x05/flow\x06\0\x08\0\0\0\x05\0\0\0\x03\x07\0\x01\0\x0b\0\x04\0\0\0\x02\x0c\0\x04\0\0\0\x01",
-    ),
-    (
-        FlowAnswer::Denied { rule: 2 },
-        b"\x01\0\x01\x05\x02\0\x04\0\0\0\x01\x04\0\x05/flow\x06\0\x08\0\0\0\0\0\0\0\x02\x07\0\x01\x01\x0b\0\x04\0\0\0\x02\x0c\0\x04\0\0\0\x01",
-    ),
-    (
-        FlowAnswer::NotHere,
-        b"\x01\0\x01\x05\x02\0\x04\0\0\0\x01\x04\0\x05/flow\x06\0\x08\0\0\0\0\0\0\0\0\x07\0\x01\x02\x0b\0\x04\0\0\0\x02\x0c\0\x04\0\0\0\x01",
-    ),
-    (
-        FlowAnswer::NoIds { used: 255 },
-        b"\x01\0\x01\x05\x02\0\x04\0\0\0\x01\x04\0\x05/flow\x06\0\x08\0\0\0\0\0\0\0\xff\x07\0\x01\x03\x0b\0\x04\0\0\0\x02\x0c\0\x04\0\0\0\x01",
-    ),
-];
+/// What the message says whose bytes stand at a place of the table.
+fn word_at(alloc: Global, place: usize) -> Result<FlowWord, Fail> {
+    Ok(match place {
+        0 => FlowWord::Ask {
+            invoke: 1,
+            ask: ask(alloc, b"echo", b"ping")?,
+        },
+        1 => FlowWord::Delete { dcep: 5, scep: 3 },
+        2 => answer(FlowAnswer::Yes { dcep: 5, scep: 3 }),
+        3 => answer(FlowAnswer::Denied { rule: 2 }),
+        4 => answer(FlowAnswer::NotHere),
+        5 => answer(FlowAnswer::NoIds { used: 255 }),
+        _ => return Err("there is no such message".into()),
+    })
+}
+
+/// The bytes of each message, with a bar between them.
+const MESSAGES: &[u8] = b"\
+\x01\0\x01\x04\x02\0\x04\0\0\0\x01\x03\0\x04flow\x04\0\x05/flow\x06\0\x1d\0\0\0\x01\0\0\0\x02\0\0\0\0\x01\0\0\0\x03\0\x04echo\0\x04ping\x0b\0\x04\0\0\0\x02\x0c\0\x04\0\0\0\x01|\
+\x01\0\x01\x06\x02\0\x04\0\0\0\0\x04\0\x05/flow\x06\0\x08\0\0\0\x05\0\0\0\x03\x0b\0\x04\0\0\0\x02\x0c\0\x04\0\0\0\x01|\
+\x01\0\x01\x05\x02\0\x04\0\0\0\x01\x04\0\x05/flow\x06\0\x08\0\0\0\x05\0\0\0\x03\x07\0\x01\0\x0b\0\x04\0\0\0\x02\x0c\0\x04\0\0\0\x01|\
+\x01\0\x01\x05\x02\0\x04\0\0\0\x01\x04\0\x05/flow\x06\0\x08\0\0\0\0\0\0\0\x02\x07\0\x01\x01\x0b\0\x04\0\0\0\x02\x0c\0\x04\0\0\0\x01|\
+\x01\0\x01\x05\x02\0\x04\0\0\0\x01\x04\0\x05/flow\x06\0\x08\0\0\0\0\0\0\0\0\x07\0\x01\x02\x0b\0\x04\0\0\0\x02\x0c\0\x04\0\0\0\x01|\
+\x01\0\x01\x05\x02\0\x04\0\0\0\x01\x04\0\x05/flow\x06\0\x08\0\0\0\0\0\0\0\xff\x07\0\x01\x03\x0b\0\x04\0\0\0\x02\x0c\0\x04\0\0\0\x01";
+
+/// Whether these bytes are what is written of the message of a place, and are read as one.
+fn is_spelled(alloc: Global, place: usize, bytes: &[u8]) -> Result<bool, Fail> {
+    let m = FlowMessage {
+        to: 2,
+        from: 1,
+        word: word_at(alloc, place)?,
+    };
+    Ok(write(alloc, &m)?.as_slice() == bytes && read(alloc, bytes)?.is_some())
+}
 
 #[test]
-fn answers_have_these_bytes(rt: HostRuntime) -> Result<(), Fail> {
-    for (answer, bytes) in &ANSWERS {
-        let word = FlowWord::Answer {
-            invoke: 1,
-            answer: *answer,
-        };
-        has_bytes(&rt, rt.alloc(), word, bytes)?;
+fn messages_have_these_bytes(rt: HostRuntime) -> Result<(), Fail> {
+    for (place, bytes) in MESSAGES.split(is_bar).enumerate() {
+        assert!(rt; is_spelled(rt.alloc(), place, bytes)?, "{place}");
     }
     Ok(())
 }
 
-static OTHERS: [&[u8]; 5] = [
-    b"\x01\0\x01\x06",
-    // a denial with a CEP-id, and an answer of result 4
-    b"\x01\0\x01\x05\x02\0\x04\0\0\0\x01\x04\0\x05/flow\x06\0\x08\0\0\0\x01\0\0\0\x02\x07\0\x01\x01\x0b\0\x04\0\0\0\x02\x0c\0\x04\0\0\0\x01",
-    b"\x01\0\x01\x05\x02\0\x04\0\0\0\x01\x04\0\x05/flow\x06\0\x08\0\0\0\0\0\0\0\x02\x07\0\x01\x04\x0b\0\x04\0\0\0\x02\x0c\0\x04\0\0\0\x01",
-    // a deletion that wants a response, and one from nobody
-    b"\x01\0\x01\x06\x02\0\x04\0\0\0\x01\x04\0\x05/flow\x06\0\x08\0\0\0\x05\0\0\0\x03\x0b\0\x04\0\0\0\x02\x0c\0\x04\0\0\0\x01",
-    b"\x01\0\x01\x06\x02\0\x04\0\0\0\0\x04\0\x05/flow\x06\0\x08\0\0\0\x05\0\0\0\x03\x0b\0\x04\0\0\0\x02",
-];
+/// Bytes of no message, with a bar between them: a short one; a denial with a CEP-id, and an answer of result 4; a
+/// deletion that wants a response, and one from nobody.
+const OTHERS: &[u8] = b"\
+\x01\0\x01\x06|\
+\x01\0\x01\x05\x02\0\x04\0\0\0\x01\x04\0\x05/flow\x06\0\x08\0\0\0\x01\0\0\0\x02\x07\0\x01\x01\x0b\0\x04\0\0\0\x02\x0c\0\x04\0\0\0\x01|\
+\x01\0\x01\x05\x02\0\x04\0\0\0\x01\x04\0\x05/flow\x06\0\x08\0\0\0\0\0\0\0\x02\x07\0\x01\x04\x0b\0\x04\0\0\0\x02\x0c\0\x04\0\0\0\x01|\
+\x01\0\x01\x06\x02\0\x04\0\0\0\x01\x04\0\x05/flow\x06\0\x08\0\0\0\x05\0\0\0\x03\x0b\0\x04\0\0\0\x02\x0c\0\x04\0\0\0\x01|\
+\x01\0\x01\x06\x02\0\x04\0\0\0\0\x04\0\x05/flow\x06\0\x08\0\0\0\x05\0\0\0\x03\x0b\0\x04\0\0\0\x02";
 
 #[test]
 fn what_is_no_message_about_a_flow(rt: HostRuntime) -> Result<(), Fail> {
-    for bytes in &OTHERS {
+    for bytes in OTHERS.split(is_bar) {
         assert!(rt; read(rt.alloc(), bytes)?.is_none());
     }
     Ok(())

@@ -7,7 +7,6 @@ use rina_enrol::{
 };
 use rina_newest::{Item, Version};
 use std::alloc::Global;
-use std::process::Abort;
 use std::test::*;
 
 /// What happens to one of the two ends, and what it does.
@@ -81,68 +80,6 @@ fn one_that_is_denied_does_nothing_more(rt: HostRuntime) -> Result<(), Fail> {
     Ok(())
 }
 
-/// These bytes are what is written of a message, and are read as one.
-fn has_bytes(rt: &impl Abort, alloc: Global, m: &LinkMessage, bytes: &[u8]) -> Result<(), Fail> {
-    assert!(rt; write(alloc, m)?.as_slice() == bytes && read(alloc, bytes)?.is_some());
-    Ok(())
-}
-
-const CONNECT: &[u8] = b"\x01\0\x01\0\x02\0\x04\0\0\0\x01\x09\0\x03d/b\x0a\0\x03d/a";
-
-/// A message, and its bytes.
-type Written = (LinkMessage, &'static [u8]);
-
-static MESSAGES: [Written; 6] = [
-    (
-        LinkMessage::ConnectR {
-            invoke: 1,
-            denied: None,
-        },
-        b"\x01\0\x01\x01\x02\0\x04\0\0\0\x01\x07\0\x01\0",
-    ),
-    (
-        LinkMessage::ConnectR {
-            invoke: 1,
-            denied: Some(257),
-        },
-        b"\x01\0\x01\x01\x02\0\x04\0\0\0\x01\x06\0\x04\0\0\x01\x01\x07\0\x01\x01",
-    ),
-    (
-        LinkMessage::Start {
-            invoke: 2,
-            address: 2,
-        },
-        b"\x01\0\x01\x0e\x02\0\x04\0\0\0\x02\x03\0\x05enrol\x04\0\x07/member\x06\0\x04\0\0\0\x02",
-    ),
-    (
-        LinkMessage::StartR { invoke: 2 },
-        b"\x01\0\x01\x0f\x02\0\x04\0\0\0\x02\x07\0\x01\0",
-    ),
-    (
-        LinkMessage::Stop { invoke: 1 },
-        b"\x01\0\x01\x10\x02\0\x04\0\0\0\x01\x03\0\x05enrol\x04\0\x07/member",
-    ),
-    (
-        LinkMessage::StopR { invoke: 1 },
-        b"\x01\0\x01\x11\x02\0\x04\0\0\0\x01\x03\0\x05enrol\x04\0\x07/member\x07\0\x01\0",
-    ),
-];
-
-#[test]
-fn an_enrolment_has_these_bytes(rt: HostRuntime) -> Result<(), Fail> {
-    let alloc = rt.alloc();
-    let connect = LinkMessage::Connect {
-        invoke: 1,
-        joiner: AppName::read(alloc, b"d/b")?,
-        member: AppName::read(alloc, b"d/a")?,
-    };
-    has_bytes(&rt, alloc, &connect, CONNECT)?;
-    for (m, bytes) in &MESSAGES {
-        has_bytes(&rt, alloc, m, bytes)?;
-    }
-    Ok(())
-}
-
 fn item(alloc: Global, key: &[u8], value: Option<&[u8]>) -> Result<Item, Memory> {
     let version = Version {
         tick: 3,
@@ -152,42 +89,81 @@ fn item(alloc: Global, key: &[u8], value: Option<&[u8]>) -> Result<Item, Memory>
     Item::new(alloc, key, version, value)
 }
 
-#[test]
-fn items_have_these_bytes(rt: HostRuntime) -> Result<(), Fail> {
-    let alloc = rt.alloc();
-    has_bytes(
-        &rt,
-        alloc,
-        &LinkMessage::Item {
-            item: item(alloc, b"/member/2", Some(b"b"))?,
-        },
-        b"\x01\0\x01\x04\x02\0\x04\0\0\0\0\x03\0\x05value\x04\0\x09/member/2\x06\0\x0e\0\0\0\x03\0\0\0\x01\0\0\0\x02\x01b",
-    )?;
-    has_bytes(
-        &rt,
-        alloc,
-        &LinkMessage::Flood {
-            item: item(alloc, b"/dir/a", None)?,
-        },
-        b"\x01\0\x01\x0c\x02\0\x04\0\0\0\0\x03\0\x05value\x04\0\x06/dir/a\x06\0\x0d\0\0\0\x03\0\0\0\x01\0\0\0\x02\0",
-    )
+fn is_bar(byte: &u8) -> bool {
+    *byte == b'|'
 }
 
-static OTHERS: [&[u8]; 5] = [
-    b"",
-    // START with no address, with a further field, and with an address of five bytes
-    b"\x01\0\x01\x0e\x02\0\x04\0\0\0\x02\x03\0\x05enrol\x04\0\x07/member",
-    b"\x01\0\x01\x0e\x02\0\x04\0\0\0\x02\x03\0\x05enrol\x04\0\x07/member\x06\0\x04\0\0\0\x02\x08\0\0",
-    b"\x01\0\x01\x0e\x02\0\x04\0\0\0\x02\x03\0\x05enrol\x04\0\x07/member\x06\0\x05\0\0\0\x02\0",
-    // a deletion with a text
-    b"\x01\0\x01\x0c\x02\0\x04\0\0\0\0\x03\0\x05value\x04\0\x06/dir/a\x06\0\x0e\0\0\0\x03\0\0\0\x01\0\0\0\x02\0b",
-];
+/// The message whose bytes stand at a place of the table.
+fn message_at(alloc: Global, place: usize) -> Result<LinkMessage, Fail> {
+    Ok(match place {
+        0 => LinkMessage::Connect {
+            invoke: 1,
+            joiner: AppName::read(alloc, b"d/b")?,
+            member: AppName::read(alloc, b"d/a")?,
+        },
+        1 => LinkMessage::ConnectR {
+            invoke: 1,
+            denied: None,
+        },
+        2 => LinkMessage::ConnectR {
+            invoke: 1,
+            denied: Some(257),
+        },
+        3 => LinkMessage::Start {
+            invoke: 2,
+            address: 2,
+        },
+        4 => LinkMessage::StartR { invoke: 2 },
+        5 => LinkMessage::Stop { invoke: 1 },
+        6 => LinkMessage::StopR { invoke: 1 },
+        7 => LinkMessage::Item {
+            item: item(alloc, b"/member/2", Some(b"b"))?,
+        },
+        8 => LinkMessage::Flood {
+            item: item(alloc, b"/dir/a", None)?,
+        },
+        _ => return Err("there is no such message".into()),
+    })
+}
+
+/// The bytes of each message, with a bar between them.
+const MESSAGES: &[u8] = b"\
+\x01\0\x01\0\x02\0\x04\0\0\0\x01\x09\0\x03d/b\x0a\0\x03d/a|\
+\x01\0\x01\x01\x02\0\x04\0\0\0\x01\x07\0\x01\0|\
+\x01\0\x01\x01\x02\0\x04\0\0\0\x01\x06\0\x04\0\0\x01\x01\x07\0\x01\x01|\
+\x01\0\x01\x0e\x02\0\x04\0\0\0\x02\x03\0\x05enrol\x04\0\x07/member\x06\0\x04\0\0\0\x02|\
+\x01\0\x01\x0f\x02\0\x04\0\0\0\x02\x07\0\x01\0|\
+\x01\0\x01\x10\x02\0\x04\0\0\0\x01\x03\0\x05enrol\x04\0\x07/member|\
+\x01\0\x01\x11\x02\0\x04\0\0\0\x01\x03\0\x05enrol\x04\0\x07/member\x07\0\x01\0|\
+\x01\0\x01\x04\x02\0\x04\0\0\0\0\x03\0\x05value\x04\0\x09/member/2\x06\0\x0e\0\0\0\x03\0\0\0\x01\0\0\0\x02\x01b|\
+\x01\0\x01\x0c\x02\0\x04\0\0\0\0\x03\0\x05value\x04\0\x06/dir/a\x06\0\x0d\0\0\0\x03\0\0\0\x01\0\0\0\x02\0";
+
+/// Whether these bytes are what is written of the message of a place, and are read as one.
+fn is_spelled(alloc: Global, place: usize, bytes: &[u8]) -> Result<bool, Fail> {
+    let m = message_at(alloc, place)?;
+    Ok(write(alloc, &m)?.as_slice() == bytes && read(alloc, bytes)?.is_some())
+}
+
+#[test]
+fn messages_have_these_bytes(rt: HostRuntime) -> Result<(), Fail> {
+    for (place, bytes) in MESSAGES.split(is_bar).enumerate() {
+        assert!(rt; is_spelled(rt.alloc(), place, bytes)?, "{place}");
+    }
+    Ok(())
+}
+
+/// Bytes of no message, with a bar between them: none at all; a START with no address, with a further field, and with
+/// an address of five bytes; a deletion with a text.
+const OTHERS: &[u8] = b"|\
+\x01\0\x01\x0e\x02\0\x04\0\0\0\x02\x03\0\x05enrol\x04\0\x07/member|\
+\x01\0\x01\x0e\x02\0\x04\0\0\0\x02\x03\0\x05enrol\x04\0\x07/member\x06\0\x04\0\0\0\x02\x08\0\0|\
+\x01\0\x01\x0e\x02\0\x04\0\0\0\x02\x03\0\x05enrol\x04\0\x07/member\x06\0\x05\0\0\0\x02\0|\
+\x01\0\x01\x0c\x02\0\x04\0\0\0\0\x03\0\x05value\x04\0\x06/dir/a\x06\0\x0e\0\0\0\x03\0\0\0\x01\0\0\0\x02\0b";
 
 #[test]
 fn what_is_no_message_of_a_link(rt: HostRuntime) -> Result<(), Fail> {
-    let alloc = rt.alloc();
-    for bytes in &OTHERS {
-        assert!(rt; read(alloc, bytes)?.is_none());
+    for bytes in OTHERS.split(is_bar) {
+        assert!(rt; read(rt.alloc(), bytes)?.is_none());
     }
     Ok(())
 }
