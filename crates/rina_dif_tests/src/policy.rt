@@ -165,6 +165,13 @@ static RETIRED: [Step; 8] = [
     (On::Back, Ask::AddStrict, Told::No),
 ];
 
+fn name_of(alloc: Global, on: On) -> Result<Name, Fail> {
+    match on {
+        On::Round => Ok(Name::read(alloc, b"round")?),
+        On::Back => Ok(Name::read(alloc, b"back")?),
+    }
+}
+
 fn yes_if(holds: bool) -> Told {
     if holds { Told::Yes } else { Told::No }
 }
@@ -208,14 +215,9 @@ fn answer_of(alloc: Global, shelf: &mut Shelf, name: &Name, ask: Ask) -> Result<
 /// The first step at which a new shelf tells something else.
 fn first_other(alloc: Global, steps: &[Step]) -> Result<Option<usize>, Fail> {
     let mut shelf = Shelf::new(alloc)?;
-    let round = Name::read(alloc, b"round")?;
-    let back = Name::read(alloc, b"back")?;
     for (place, (on, ask, wanted)) in steps.iter().enumerate() {
-        let name = match *on {
-            On::Round => &round,
-            On::Back => &back,
-        };
-        if answer_of(alloc, &mut shelf, name, *ask)? != *wanted {
+        let name = name_of(alloc, *on)?;
+        if answer_of(alloc, &mut shelf, &name, *ask)? != *wanted {
             return Ok(Some(place));
         }
     }
