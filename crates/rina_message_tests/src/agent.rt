@@ -15,15 +15,20 @@ fn first(alloc: Global, default: bool) -> Result<Agent, Fail> {
     Ok(Agent::enrolled(alloc, 1, name, node, rules, items, links))
 }
 
-/// An IPC process on node b with address 2, which is no member yet, and begins to join at node a.
-fn joiner(alloc: Global) -> Result<Agent, Fail> {
+/// An IPC process on node b with address 2, which is no member yet.
+fn outsider(alloc: Global) -> Result<Agent, Fail> {
     let name = AppName::read(alloc, b"d/b")?;
     let node = Name::read(alloc, b"b")?;
     let rules = Rules::new(alloc, &[], true)?;
-    let mut joiner = Agent::outside(alloc, 2, name, node, rules);
+    Ok(Agent::outside(alloc, 2, name, node, rules))
+}
+
+/// It begins to join at node a.
+fn begin(alloc: Global, joiner: &mut Agent) -> Result<(), Fail> {
     let member = AppName::read(alloc, b"d/a")?;
-    joiner.enrol(alloc, 0, &member, &Name::read(alloc, b"a")?)?;
-    Ok(joiner)
+    let node = Name::read(alloc, b"a")?;
+    joiner.enrol(alloc, 0, &member, &node)?;
+    Ok(())
 }
 
 /// The other end handles what waits for link 0.
@@ -40,37 +45,19 @@ fn deliver(alloc: Global, from: &mut Agent, to: &mut Agent) -> Result<(), AgentE
     Ok(())
 }
 
-/// The first member, and the one that joined over link 0 of both.
-#[derive(Drop)]
-struct Two {
-    member: Agent,
-    joiner: Agent,
-}
-
-/// The first member and a joiner, which both handled what waited, until nothing did; who may enrol is the default.
-fn settled(alloc: Global, default: bool) -> Result<Two, Fail> {
-    let mut member = first(alloc, default)?;
-    let mut joiner = joiner(alloc)?;
+/// Both ends handle what waits, until nothing does.
+fn settle(alloc: Global, member: &mut Agent, joiner: &mut Agent) -> Result<(), Fail> {
     member.claim(alloc, 0)?;
     for _ in 0..8 {
-        deliver(alloc, &mut member, &mut joiner)?;
-        deliver(alloc, &mut joiner, &mut member)?;
+        deliver(alloc, member, joiner)?;
+        deliver(alloc, joiner, member)?;
     }
-    Ok(Two { member, joiner })
+    Ok(())
 }
 
 /// Whether nothing waits for link 0.
 fn is_quiet(agent: &Agent) -> bool {
     agent.next_message(0).is_none()
-}
-
-/// Whether an agent is a member that knows all, made so many versions of items and sent so many requests, and has nothing to send.
-fn is_settled(agent: &Agent, count: u32, invoke: u32) -> bool {
-    agent.state == MemberState::Enrolled
-        && knows_all(agent)
-        && is_quiet(agent)
-        && agent.last_count == count
-        && agent.last_invoke == invoke
 }
 
 fn is_kept(agent: &Agent, key: &[u8], value: &[u8]) -> bool {
@@ -84,49 +71,103 @@ fn knows_all(agent: &Agent) -> bool {
         && is_kept(agent, b"/link/2", b"1:1")
 }
 
-#[test]
-fn a_joiner_is_enrolled_and_both_know_all(rt: HostRuntime) -> Result<(), Fail> {
-    let two = settled(rt.alloc(), true)?;
-    assert!(rt; is_settled(&two.member, 1, 1) && is_settled(&two.joiner, 2, 2));
-    Ok(())
+/// Whether an agent is a member that knows all, made so many versions of items and sent so many requests, and has nothing to send.
+fn is_settled(agent: &Agent, count: u32, invoke: u32) -> bool {
+    agent.state == MemberState::Enrolled
+        && knows_all(agent)
+        && is_quiet(agent)
+        && agent.last_count == count
+        && agent.last_invoke == invoke
 }
 
-#[test]
-fn an_item_is_flooded_and_not_sent_back(rt: HostRuntime) -> Result<(), Fail> {
-    let alloc = rt.alloc();
-    let mut two = settled(alloc, true)?;
-    two.member.make_item(alloc, 5, b"/dir/echo", Some(b"1"))?;
-    assert!(rt; !is_quiet(&two.member));
-    deliver(alloc, &mut two.member, &mut two.joiner)?;
-    assert!(rt; is_kept(&two.joiner, b"/dir/echo", b"1") && is_quiet(&two.joiner));
-    Ok(())
+fn is_joining(agent: &Agent) -> bool {
+    agent.state == MemberState::Joining { link: 0 }
 }
 
-#[test]
-fn a_joiner_is_denied_by_the_rules(rt: HostRuntime) -> Result<(), Fail> {
-    let two = settled(rt.alloc(), false)?;
-    assert!(rt; two.joiner.state == MemberState::Denied { rule: 0 });
-    assert!(rt; two.joiner.items.get(b"/member/1").is_none() && two.member.last_count == 0);
-    Ok(())
+fn is_denied(agent: &Agent) -> bool {
+    agent.state == MemberState::Denied { rule: 0 } && agent.items.get(b"/member/1").is_none()
 }
 
-#[test]
-fn a_lost_link_ends_an_enrolment(rt: HostRuntime) -> Result<(), Fail> {
-    let alloc = rt.alloc();
-    let mut joiner = joiner(alloc)?;
-    assert!(rt; joiner.state == MemberState::Joining { link: 0 });
+/// Whether an agent is no member, and has no link and nothing to send.
+fn is_outside(agent: &Agent) -> bool {
+    agent.state == MemberState::Outside && is_quiet(agent) && agent.links.len() == 0
+}
+
+/// Whether the first member has no link, says so in its second version of an item, and has nothing to send.
+fn is_alone(agent: &Agent) -> bool {
+    is_kept(agent, b"/link/1", b"")
+        && agent.last_count == 2
+        && agent.links.len() == 0
+        && is_quiet(agent)
+}
+
+/// What happens to a joiner.
+#[derive(Clone, Copy)]
+enum Case {
+    /// It is enrolled, and both know all.
+    Enrolled,
+    /// It is enrolled. An item of the member is flooded, and not sent back.
+    Flooded,
+    /// The rules deny it.
+    Denied,
+    /// It loses the link while it joins.
+    LostByJoiner,
+    /// It is enrolled, and the member loses the link.
+    LostByMember,
+}
+
+static CASES: [Case; 5] = [
+    Case::Enrolled,
+    Case::Flooded,
+    Case::Denied,
+    Case::LostByJoiner,
+    Case::LostByMember,
+];
+
+/// Whether an item that the member makes is sent to the joiner, which keeps it and sends nothing.
+fn floods(alloc: Global, member: &mut Agent, joiner: &mut Agent) -> Result<bool, Fail> {
+    member.make_item(alloc, 5, b"/dir/echo", Some(b"1"))?;
+    let sends = !is_quiet(member);
+    deliver(alloc, member, joiner)?;
+    Ok(sends && is_kept(joiner, b"/dir/echo", b"1") && is_quiet(joiner))
+}
+
+/// Whether all is so after a case that both ends settled.
+fn ends(alloc: Global, case: Case, member: &mut Agent, joiner: &mut Agent) -> Result<bool, Fail> {
+    settle(alloc, member, joiner)?;
+    match case {
+        Case::Flooded => floods(alloc, member, joiner),
+        Case::Denied => Ok(is_denied(joiner) && member.last_count == 0),
+        Case::LostByMember => {
+            member.lose_link(alloc, 9, 0)?;
+            Ok(is_alone(member))
+        }
+        _ => Ok(is_settled(member, 1, 1) && is_settled(joiner, 2, 2)),
+    }
+}
+
+/// Whether a joiner that loses its link is outside again.
+fn leaves(alloc: Global, joiner: &mut Agent) -> Result<bool, Fail> {
+    let joins = is_joining(joiner);
     joiner.lose_link(alloc, 4, 0)?;
-    assert!(rt; joiner.state == MemberState::Outside && is_quiet(&joiner));
-    assert!(rt; joiner.links.len() == 0);
-    Ok(())
+    Ok(joins && is_outside(joiner))
+}
+
+/// Whether a case goes as it is to.
+fn goes(alloc: Global, case: Case) -> Result<bool, Fail> {
+    let mut joiner = outsider(alloc)?;
+    begin(alloc, &mut joiner)?;
+    if matches!(case, Case::LostByJoiner) {
+        return leaves(alloc, &mut joiner);
+    }
+    let mut member = first(alloc, !matches!(case, Case::Denied))?;
+    ends(alloc, case, &mut member, &mut joiner)
 }
 
 #[test]
-fn a_lost_link_leaves_the_link_state(rt: HostRuntime) -> Result<(), Fail> {
-    let alloc = rt.alloc();
-    let mut two = settled(alloc, true)?;
-    two.member.lose_link(alloc, 9, 0)?;
-    assert!(rt; is_kept(&two.member, b"/link/1", b"") && two.member.last_count == 2);
-    assert!(rt; two.member.links.len() == 0 && is_quiet(&two.member));
+fn each_joiner_ends_as_its_case_says(rt: HostRuntime) -> Result<(), Fail> {
+    for (place, case) in CASES.iter().enumerate() {
+        assert!(rt; goes(rt.alloc(), *case)?, "case {place}");
+    }
     Ok(())
 }
