@@ -331,7 +331,8 @@ impl Dif {
     /// the last four the management connections of the live links go first, the one of the least link number before the others,
     /// and then the flows there, the one of the least CEP-id first. Where a management connection gives a number up the flow
     /// below of its link is freed, and no flow fails. Last of all a message of management is offered whole at its link, the one
-    /// of the least number at which one is due. Answers Idle exactly where none is due.
+    /// of the least number at which one is due. Answers Idle exactly where none is due. Refused with `CountSpent`, and nothing changes,
+    /// where a link is lost and the member has no version count left for its link state.
     pub fn clock_step<F: Facility>(
         &mut self,
         alloc: Global,

@@ -14,17 +14,18 @@ ghost use Rattle.rina_dif.specs.Elsewhere.{ChangesOnly, ChangesProcess, IsEndOf,
 ghost use Rattle.rina_dif.specs.Holding.{Holds, Stands};
 ghost use Rattle.rina_dif.specs.IdRests.{AreRests, CanGive, CanGiveBack, GaveFirst, GaveOne, RestsHere};
 ghost use Rattle.rina_dif.specs.Changing.{ManagesLoss, allocated_at, cep_here, without_flow_if};
-ghost use Rattle.rina_member.specs.Managements.{LosesLink, without_flows};
+ghost use Rattle.rina_member.specs.Managements.{without_flows};
 ghost use Rattle.rina_member.specs.declared.management.Management.{Management};
 ghost use Rattle.rina_member.specs.Knowing.{AreRoutesOf};
-ghost use Rattle.rina_dif.specs.Unlinking.{FindsEnd, FindsLostAt, FindsNoneLeft, HasFailed, LosesAs, TellsNoneLeft, links_without};
+ghost use Rattle.rina_dif.specs.Unlinking.{AnswersLoss, FindsEnd, FindsLostAt, FindsNoneLeft, HasFailed, LosesAs, TellsNoneLeft, links_without};
 
 use crate::dif::Dif;
 use crate::processes::LinkLoss;
 use crate::release::IdRest;
+use rina_agent::AgentError;
 use rina_base::{Memory, Node, Port, Seq};
 use rina_conn::Conn;
-use rina_data::{Link, Lost, Route, lost_link};
+use rina_data::{Link, Lost, Route, StepError, lost_link};
 use rina_iface::{End, Facility, Fail, PortState};
 use rina_member::{Management, flow_name, routes_of, without_link};
 use std::alloc::Global;
@@ -101,15 +102,26 @@ impl Dif {
     }
 
     /// The management of the member at a place after it lost the link that was found there.
-    fn management_without(&self, alloc: Global, at: usize, lost: Lost) -> Result<Management, Memory>
+    fn management_without(
+        &self,
+        alloc: Global,
+        at: usize,
+        lost: Lost,
+    ) -> Result<Management, StepError>
         requires stands { (below : Seen) × Stands self.now below × FindsLostAt self.now below at (Some lost) }
         requires at { at < length self.now.settings.members }
-        ensures { IfOk result (λ after. (m : Management) → slice_get self.now.managements at ≡ Some m → LosesLink self.now.clock lost.number m after) }
+        ensures { (m : Management) → slice_get self.now.managements at ≡ Some m → AnswersLoss self.now.clock lost.number m result }
     {
         let Some(management) = self.managements.get(at) else {
             unreachable!()
         };
-        without_link(alloc, management, self.clock, lost.number)
+        match without_link(alloc, management, self.clock, lost.number) {
+            Ok(after) => Ok(after),
+            Err(AgentError::Memory) => Err(StepError::Memory),
+            Err(AgentError::CountSpent { need, left }) => {
+                Err(StepError::CountSpent { need, left })
+            }
+        }
     }
 
     /// The next hops over the items that a management holds.
@@ -146,14 +158,15 @@ impl Dif {
 
     /// Loses the link that was found at the IPC process at a place, whose management connection has this open end, if it has
     /// one: what waits for it is written off, it is no longer used, that end closes, the member makes its link state without
-    /// the link, and the next hops are built anew over the items that it holds then. Without memory nothing changes.
+    /// the link, and the next hops are built anew over the items that it holds then. Refused where no version count is left for the
+    /// link state. A refused call changes nothing.
     fn lose_link(
         &mut self,
         alloc: Global,
         at: usize,
         lost: Lost,
         end: Option<usize>,
-    ) -> Result<(), Memory>
+    ) -> Result<(), StepError>
         requires stands { (below : Seen) × Stands self.old below × FindsLostAt self.old below at (Some lost) }
         requires at { at < length self.old.settings.members }
         requires end { FindsEnd self.old at lost.place end }
@@ -233,7 +246,8 @@ impl Dif {
     }
 
     /// Loses the link that was found at the IPC process at a place, the last one of that node, as `lose_link` does, and lets
-    /// all flows there fail with it, since the flow of its port below has failed; their CEP-ids rest from now on. Without memory nothing changes.
+    /// all flows there fail with it, since the flow of its port below has failed; their CEP-ids rest from now on. Refused as `lose_link` is. A refused call
+    /// changes nothing.
     fn lose_last_link(
         &mut self,
         alloc: Global,
@@ -242,7 +256,7 @@ impl Dif {
         lost: Lost,
         end: Option<usize>,
         port: Port,
-    ) -> Result<(), Memory>
+    ) -> Result<(), StepError>
         requires stands { (below : Seen) × Stands self.old below × FindsLostAt self.old below at (Some lost) }
         requires clock { self.old.clock ≤ 10_000_000 }
         requires at { at < length self.old.settings.members }
@@ -277,8 +291,8 @@ impl Dif {
     }
 
     /// Loses the link that was found at the IPC process at a place, at a node, and closes the end of its management connection
-    /// there. Where no other link is live, and its flow below has failed, all flows at the node fail with it. Without memory
-    /// nothing changes.
+    /// there. Where no other link is live, and its flow below has failed, all flows at the node fail with it. Refused where no
+    /// version count is left for the link state. A refused call changes nothing.
     pub(crate) fn lose_at<F: Facility>(
         &mut self,
         alloc: Global,
@@ -286,7 +300,7 @@ impl Dif {
         at: usize,
         node: Node,
         lost: Lost,
-    ) -> Result<(), Memory>
+    ) -> Result<(), StepError>
         requires valid { F.valid below.now }
         requires stands { Stands self.old (F.seen below.now) }
         requires found { FindsLostAt self.old (F.seen below.now) at (Some lost) }

@@ -48,14 +48,12 @@ registers own s fac node app (Err register.Memory) s' g = idle s s' g
 registers own s fac node app (Err register.Already) s' g = idle s s' g.1
 registers own s fac node app (Err register.NoMember) s' g = idle s s' g.1
 registers own s fac node app (Err (register.CountSpent n k)) s' g = idle s s' g.1
-registers own s fac node app (Err register.Unbuilt) s' g = idle s s' g.1
 
 unregisters : (own : Option UnregisterError) (s : Seen) (fac node : ℕ) (app : List ℕ) (r : Result (Unit {0}) UnregisterError) (s' : Seen) → Unregisters own s fac node app r s' → Rest s.facs s'.facs
 unregisters own s fac node app (Ok done) s' g = named s fac g.1.facility _ s' g.1.stands refl refl (ap (λ (x : Seen). x.facs) g.1.new_is)
 unregisters own s fac node app (Err unregister.Memory) s' g = idle s s' g
 unregisters own s fac node app (Err unregister.NotThere) s' g = idle s s' g.1
 unregisters own s fac node app (Err (unregister.CountSpent n k)) s' g = idle s s' g.1
-unregisters own s fac node app (Err unregister.Unbuilt) s' g = idle s s' g.1
 
 pub restated : (e : End) (state : PortState) → Rests e (with_state e state)
 restated e state = rests_still e (with_state e state) refl refl refl refl [] (sym (append-nil e.got))

@@ -8,6 +8,7 @@ mod laws;
 mod links;
 mod loss;
 mod management;
+mod names;
 mod next_hops;
 mod objects;
 mod ranges;
@@ -25,6 +26,7 @@ pub use laws::{
 pub use links::live_links;
 pub use loss::without_link;
 pub use management::Management;
+pub use names::{registered, unregistered};
 pub use next_hops::routes_of;
 pub use objects::{first_objects, flow_name, tell};
 pub use start::{start_items, started};
