@@ -129,8 +129,8 @@ pub record LosesManaged (d : Dif) (below : Seen) (at node number : ℕ) (new : L
   pub loses : LosesLink d.clock number management after
   pub are : new ≡ slice_set d.managements at (without_flows after (ended_with last node d.flows))
 
--- or it is refused, and none changes
-abbrev pub ManagesLoss : Result (Unit {0}) StepError → Dif → Seen → ℕ → ℕ → ℕ → List Management → Type 0
+-- or an allocation failed, and none changes
+abbrev pub ManagesLoss : Result (Unit {0}) Memory → Dif → Seen → ℕ → ℕ → ℕ → List Management → Type 0
 ManagesLoss (Ok done) d below at node number new = LosesManaged d below at node number new
 ManagesLoss (Err e) d below at node number new = new ≡ d.managements
 

@@ -155,9 +155,7 @@ pub record LacksCounts (d : Dif) (below : Seen) (i need left : ℕ) : Type 0 whe
   pub is_management : slice_get d.managements i ≡ Some management
   pub told : lost management.agent d.clock lost_link.number ≡ Err (CountSpent need left)
 
--- and the DIF holds after it; or it is refused, or memory was not found
-abbrev pub LosesAs : Dif → List Direction → Seen → ℕ → ℕ → ℕ → Result (Unit {0}) StepError → Dif → Type 0
+-- and the DIF holds after it, or memory was not found
+abbrev pub LosesAs : Dif → List Direction → Seen → ℕ → ℕ → ℕ → Result (Unit {0}) Memory → Dif → Type 0
 LosesAs d lines below i node number (Ok done) d' = LosesWith d lines below i node number d' × Holds d' lines below
-LosesAs d lines below i node number (Err (errors.CountSpent need left)) d' = LacksCounts d below i need left × (seen_of d' ≡ seen_of d) × Holds d' lines below
-LosesAs d lines below i node number (Err errors.Memory) d' = (seen_of d' ≡ seen_of d) × Holds d' lines below
-LosesAs d lines below i node number (Err other) d' = ⊥
+LosesAs d lines below i node number (Err e) d' = (seen_of d' ≡ seen_of d) × Holds d' lines below

@@ -316,7 +316,8 @@ impl Dif {
     {
         match self.lost_link_at(&*below, at) {
             Some(lost) => {
-                self.lose_at(alloc, &*below, at, node, lost)?;
+                let after = self.management_without(alloc, at, lost)?;
+                self.lose_at(alloc, &*below, at, node, lost, after)?;
                 Ok(ClockStep::LinkLost { link: lost.number })
             }
             None => self.serve_any(alloc, below, at, node),

@@ -14,7 +14,7 @@ ghost use Rattle.rina_dif.specs.Elsewhere.{ChangesOnly, ChangesProcess, IsEndOf,
 ghost use Rattle.rina_dif.specs.Holding.{Holds, Stands};
 ghost use Rattle.rina_dif.specs.IdRests.{AreRests, CanGive, CanGiveBack, GaveFirst, GaveOne, RestsHere};
 ghost use Rattle.rina_dif.specs.Changing.{ManagesLoss, allocated_at, cep_here, without_flow_if};
-ghost use Rattle.rina_member.specs.Managements.{without_flows};
+ghost use Rattle.rina_member.specs.Managements.{LosesLink, without_flows};
 ghost use Rattle.rina_member.specs.declared.management.Management.{Management};
 ghost use Rattle.rina_member.specs.Knowing.{AreRoutesOf};
 ghost use Rattle.rina_dif.specs.Unlinking.{AnswersLoss, FindsEnd, FindsLostAt, FindsNoneLeft, HasFailed, LosesAs, TellsNoneLeft, links_without};
@@ -101,8 +101,9 @@ impl Dif {
         lost_link(process.links.as_slice(), below)
     }
 
-    /// The management of the member at a place after it lost the link that was found there.
-    fn management_without(
+    /// The management of the member at a place after it lost the link that was found there. Refused where no version count is left for
+    /// its link state.
+    pub(crate) fn management_without(
         &self,
         alloc: Global,
         at: usize,
@@ -158,18 +159,20 @@ impl Dif {
 
     /// Loses the link that was found at the IPC process at a place, whose management connection has this open end, if it has
     /// one: what waits for it is written off, it is no longer used, that end closes, the member makes its link state without
-    /// the link, and the next hops are built anew over the items that it holds then. Refused where no version count is left for the
-    /// link state. A refused call changes nothing.
+    /// the link, and the next hops are built anew over the items that it holds then. `after` is the management of the member after
+    /// the loss. Without memory nothing changes.
     fn lose_link(
         &mut self,
         alloc: Global,
         at: usize,
         lost: Lost,
         end: Option<usize>,
-    ) -> Result<(), StepError>
+        after: Management,
+    ) -> Result<(), Memory>
         requires stands { (below : Seen) × Stands self.old below × FindsLostAt self.old below at (Some lost) }
         requires at { at < length self.old.settings.members }
         requires end { FindsEnd self.old at lost.place end }
+        requires after { (m : Management) → slice_get self.old.managements at ≡ Some m → LosesLink self.old.clock lost.number m after }
         ensures does { (node : ℕ) (lines : List Direction) (below : Seen) → Holds self.old lines below → FindsLostAt self.old below at (Some lost) → FindsNoneLeft self.old below at lost.place None → LosesAs self.old lines below at node lost.number result self.new }
         ensures same { (self.new.settings ≡ self.old.settings) × (self.new.failed ≡ self.old.failed) }
         ensures laid { self.new.laid ≡ self.old.laid }
@@ -179,7 +182,6 @@ impl Dif {
         ensures leaves { ChangesProcess (Some at) self.old.processes self.new.processes }
         ensures flows { self.new.flows ≡ self.old.flows }
     {
-        let after = self.management_without(alloc, at, lost)?;
         let routes = self.routes_over(alloc, &after)?;
         let loss = LinkLoss {
             place: lost.place,
@@ -246,8 +248,8 @@ impl Dif {
     }
 
     /// Loses the link that was found at the IPC process at a place, the last one of that node, as `lose_link` does, and lets
-    /// all flows there fail with it, since the flow of its port below has failed; their CEP-ids rest from now on. Refused as `lose_link` is. A refused call
-    /// changes nothing.
+    /// all flows there fail with it, since the flow of its port below has failed; their CEP-ids rest from now on. `after` is the
+    /// management of the member after the loss. Without memory nothing changes.
     fn lose_last_link(
         &mut self,
         alloc: Global,
@@ -256,12 +258,14 @@ impl Dif {
         lost: Lost,
         end: Option<usize>,
         port: Port,
-    ) -> Result<(), StepError>
+        after: Management,
+    ) -> Result<(), Memory>
         requires stands { (below : Seen) × Stands self.old below × FindsLostAt self.old below at (Some lost) }
         requires clock { self.old.clock ≤ 10_000_000 }
         requires at { at < length self.old.settings.members }
         requires home { home node (config_of self.old.settings).members ≡ Some at }
         requires end { FindsEnd self.old at lost.place end }
+        requires after { (m : Management) → slice_get self.old.managements at ≡ Some m → LosesLink self.old.clock lost.number m after }
         ensures does { (lines : List Direction) (below : Seen) → Holds self.old lines below → FindsLostAt self.old below at (Some lost) → FindsNoneLeft self.old below at lost.place (Some port) → LosesAs self.old lines below at node lost.number result self.new }
         ensures same { (self.new.settings ≡ self.old.settings) × (self.new.failed ≡ self.old.failed) }
         ensures laid { self.new.laid ≡ self.old.laid }
@@ -270,7 +274,7 @@ impl Dif {
         ensures manages { (below : Seen) → FindsLostAt self.old below at (Some lost) → FindsNoneLeft self.old below at lost.place (Some port) → ManagesLoss result self.old below at node lost.number self.new.managements }
         ensures leaves { ChangesOnly (λ i. WhenOk result (IsEndOf self.old (Some at) i)) (Some at) self.old self.new }
     {
-        let mut management = self.management_without(alloc, at, lost)?;
+        let mut management = after;
         let routes = self.routes_over(alloc, &management)?;
         self.end_flows(alloc, node, &mut management)?;
         let rests = self.rests_at_node(alloc, node)?;
@@ -291,8 +295,8 @@ impl Dif {
     }
 
     /// Loses the link that was found at the IPC process at a place, at a node, and closes the end of its management connection
-    /// there. Where no other link is live, and its flow below has failed, all flows at the node fail with it. Refused where no
-    /// version count is left for the link state. A refused call changes nothing.
+    /// there. Where no other link is live, and its flow below has failed, all flows at the node fail with it. `after` is
+    /// the management of the member after the loss. Without memory nothing changes.
     pub(crate) fn lose_at<F: Facility>(
         &mut self,
         alloc: Global,
@@ -300,10 +304,12 @@ impl Dif {
         at: usize,
         node: Node,
         lost: Lost,
-    ) -> Result<(), StepError>
+        after: Management,
+    ) -> Result<(), Memory>
         requires valid { F.valid below.now }
         requires stands { Stands self.old (F.seen below.now) }
         requires found { FindsLostAt self.old (F.seen below.now) at (Some lost) }
+        requires after { (m : Management) → slice_get self.old.managements at ≡ Some m → LosesLink self.old.clock lost.number m after }
         requires clock { self.old.clock ≤ 10_000_000 }
         requires at { at < length self.old.settings.members }
         requires home { home node (config_of self.old.settings).members ≡ Some at }
@@ -321,8 +327,8 @@ impl Dif {
         let links = process.links.as_slice();
         let end = self.connections.open_on(links[lost.place].port);
         match last_failed(links, lost.place, below) {
-            Some(port) => self.lose_last_link(alloc, at, node, lost, end, port),
-            None => self.lose_link(alloc, at, lost, end),
+            Some(port) => self.lose_last_link(alloc, at, node, lost, end, port, after),
+            None => self.lose_link(alloc, at, lost, end, after),
         }
     }
 }

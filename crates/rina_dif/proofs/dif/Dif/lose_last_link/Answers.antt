@@ -55,11 +55,11 @@ returns-clause-does c = λ lines below h finds left.
     let all = c.give_back_all.new.self in
     let whole = c.give_back_all.ensures.whole in
     let loss : LinkLoss = record { place = c.args.lost.place; routes = c.in_ok-routes.routes; end = c.args.end; now = d.clock } in
-    let same : c.end_flows.new.management.agent ≡ c.in_ok-management.management.agent = ap (λ (m : Management). m.agent) c.in_ok-end_flows.ensures ∙ ended_agent c.in_ok-management.management (allocated_at c.args.node d.flows) in
+    let same : c.end_flows.new.management.agent ≡ c.args.after.agent = ap (λ (m : Management). m.agent) c.in_ok-end_flows.ensures ∙ ended_agent c.args.after (allocated_at c.args.node d.flows) in
     let managements : c.set.new.self ≡ slice_set d.managements c.args.at c.end_flows.new.management = c.set.ensures ∙ ap (λ (z : Dif). slice_set z.managements c.args.at c.end_flows.new.management) whole in
     subst (λ (z : Dif). LosesAs d lines below c.args.at c.args.node c.args.lost.number (Ok tt) (record z { managements = c.set.new.self })) (sym whole)
     (subst (λ (gs : List Management). LosesAs d lines below c.args.at c.args.node c.args.lost.number (Ok tt) (record d { connections = record d.connections { flows = l.new.links }; flows = l.new.flows; ids = all.ids; processes = l.new.self; managements = gs })) (sym managements)
-    (last_loses d c.args.at c.args.node c.args.lost c.args.port loss c.end_flows.new.management l.new.links l.new.flows l.new.self refl refl c.requires.at c.requires.home (λ g is. (c.in_ok-management.ensures g is).loses ∙ ap Ok (sym same)) (subst (λ (a : Agent). AreRoutesOf a d.settings.members c.in_ok-routes.routes) (sym same) c.in_ok-routes.ensures) c.requires.end c.in_ok-lose_last_link.ensures.loses c.in_ok-rests.rests.items all.ids c.in_ok-rests.ensures (subst (λ (rs : List (Option IdRest)). GaveFirst c.args.at d.clock rs (length rs) d.ids all.ids) c.as_slice.ensures.value c.give_back_all.ensures.given) lines below h finds left))
+    (last_loses d c.args.at c.args.node c.args.lost c.args.port loss c.end_flows.new.management l.new.links l.new.flows l.new.self refl refl c.requires.at c.requires.home (λ g is. (c.requires.after g is).loses ∙ ap Ok (sym same)) (subst (λ (a : Agent). AreRoutesOf a d.settings.members c.in_ok-routes.routes) (sym same) c.in_ok-routes.ensures) c.requires.end c.in_ok-lose_last_link.ensures.loses c.in_ok-rests.rests.items all.ids c.in_ok-rests.ensures (subst (λ (rs : List (Option IdRest)). GaveFirst c.args.at d.clock rs (length rs) d.ids all.ids) c.as_slice.ensures.value c.give_back_all.ensures.given) lines below h finds left))
 
 pub returns-clause-leaves : goal.returns-clause-leaves
 returns-clause-leaves c =
@@ -83,8 +83,8 @@ returns-clause-manages c = λ below found left.
       left = left;
       management = m.0;
       is_management = m.1;
-      after = c.in_ok-management.management;
-      loses = c.in_ok-management.ensures m.0 m.1;
+      after = c.args.after;
+      loses = c.requires.after m.0 m.1;
       are = c.set.ensures ∙ ap (λ (z : Dif). slice_set z.managements c.args.at c.end_flows.new.management) c.give_back_all.ensures.whole ∙ ap (slice_set d.managements c.args.at) c.in_ok-end_flows.ensures;
     }
 

@@ -29,7 +29,7 @@ returns-clause-does c = λ node lines below h finds left.
     let d = c.args.self.now in
     let loss : LinkLoss = record { place = c.args.lost.place; routes = c.in_ok-routes.routes; end = c.args.end; now = d.clock } in
     subst (λ (gs : List Management). LosesAs d lines below c.args.at node c.args.lost.number (Ok tt) (record d { connections = record d.connections { flows = c.lose_link.new.links }; processes = c.lose_link.new.self; managements = gs })) (sym c.set.ensures)
-    (link_loses d c.args.at c.args.lost loss c.in_ok-after.after c.lose_link.new.links c.lose_link.new.self refl refl c.requires.at (λ g is. (c.in_ok-after.ensures g is).loses) c.in_ok-routes.ensures c.requires.end c.in_ok-lose_link.ensures node lines below h finds left)
+    (link_loses d c.args.at c.args.lost loss c.args.after c.lose_link.new.links c.lose_link.new.self refl refl c.requires.at (λ g is. (c.requires.after g is).loses) c.in_ok-routes.ensures c.requires.end c.in_ok-lose_link.ensures node lines below h finds left)
 
 pub returns-clause-leaves : goal.returns-clause-leaves
 returns-clause-leaves c =
@@ -49,8 +49,8 @@ returns-clause-manages c = λ node below found left.
       left = left;
       management = m.0;
       is_management = m.1;
-      after = c.in_ok-after.after;
-      loses = c.in_ok-after.ensures m.0 m.1;
+      after = c.args.after;
+      loses = c.requires.after m.0 m.1;
       are = c.set.ensures;
     }
 
