@@ -22,6 +22,7 @@ ghost use Rattle.rina_flows.specs.Watching.{NoneDueBeside};
 
 use crate::dif::Dif;
 use crate::links_due::NextLink;
+use crate::lost_links::MemberLoss;
 use rina_base::{Cep, Memory, Node};
 use rina_data::{ClockStep, StepError};
 use rina_flows::Item;
@@ -317,7 +318,8 @@ impl Dif {
         match self.lost_link_at(&*below, at) {
             Some(lost) => {
                 let after = self.management_without(alloc, at, lost)?;
-                self.lose_at(alloc, &*below, at, node, lost, after)?;
+                let loss = MemberLoss { lost, after };
+                self.lose_at(alloc, &*below, at, node, loss)?;
                 Ok(ClockStep::LinkLost { link: lost.number })
             }
             None => self.serve_any(alloc, below, at, node),

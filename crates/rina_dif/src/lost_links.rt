@@ -30,6 +30,14 @@ use rina_iface::{End, Facility, Fail, PortState};
 use rina_member::{Management, flow_name, routes_of, without_link};
 use std::alloc::Global;
 
+/// The loss of a link of a member.
+#[derive(Drop)]
+pub struct MemberLoss {
+    pub lost: Lost,
+    /// The management of the member after it.
+    pub after: Management,
+}
+
 /// Whether no link is live but the one at a place.
 fn is_last(links: &[Link], lost: usize) -> bool
     ensures { (link : Link) → slice_get links.now lost ≡ Some link → IsTrue result ↔ NoneLive (links_without links.now lost link) }
@@ -159,29 +167,28 @@ impl Dif {
 
     /// Loses the link that was found at the IPC process at a place, whose management connection has this open end, if it has
     /// one: what waits for it is written off, it is no longer used, that end closes, the member makes its link state without
-    /// the link, and the next hops are built anew over the items that it holds then. `after` is the management of the member after
-    /// the loss. Without memory nothing changes.
+    /// the link, and the next hops are built anew over the items that it holds then. Without memory nothing changes.
     fn lose_link(
         &mut self,
         alloc: Global,
         at: usize,
-        lost: Lost,
+        loss: MemberLoss,
         end: Option<usize>,
-        after: Management,
     ) -> Result<(), Memory>
-        requires stands { (below : Seen) × Stands self.old below × FindsLostAt self.old below at (Some lost) }
+        requires stands { (below : Seen) × Stands self.old below × FindsLostAt self.old below at (Some loss.lost) }
         requires at { at < length self.old.settings.members }
-        requires end { FindsEnd self.old at lost.place end }
-        requires after { (m : Management) → slice_get self.old.managements at ≡ Some m → LosesLink self.old.clock lost.number m after }
-        ensures does { (node : ℕ) (lines : List Direction) (below : Seen) → Holds self.old lines below → FindsLostAt self.old below at (Some lost) → FindsNoneLeft self.old below at lost.place None → LosesAs self.old lines below at node lost.number result self.new }
+        requires end { FindsEnd self.old at loss.lost.place end }
+        requires after { (m : Management) → slice_get self.old.managements at ≡ Some m → LosesLink self.old.clock loss.lost.number m loss.after }
+        ensures does { (node : ℕ) (lines : List Direction) (below : Seen) → Holds self.old lines below → FindsLostAt self.old below at (Some loss.lost) → FindsNoneLeft self.old below at loss.lost.place None → LosesAs self.old lines below at node loss.lost.number result self.new }
         ensures same { (self.new.settings ≡ self.old.settings) × (self.new.failed ≡ self.old.failed) }
         ensures laid { self.new.laid ≡ self.old.laid }
         ensures whole { self.new ≡ record self.old { processes = self.new.processes; connections = self.new.connections; flows = self.new.flows; ids = self.new.ids; managements = self.new.managements } }
         ensures stays { OnErr result (self.new.connections ≡ self.old.connections) }
-        ensures manages { (node : ℕ) (below : Seen) → FindsLostAt self.old below at (Some lost) → FindsNoneLeft self.old below at lost.place None → ManagesLoss result self.old below at node lost.number self.new.managements }
+        ensures manages { (node : ℕ) (below : Seen) → FindsLostAt self.old below at (Some loss.lost) → FindsNoneLeft self.old below at loss.lost.place None → ManagesLoss result self.old below at node loss.lost.number self.new.managements }
         ensures leaves { ChangesProcess (Some at) self.old.processes self.new.processes }
         ensures flows { self.new.flows ≡ self.old.flows }
     {
+        let MemberLoss { lost, after } = loss;
         let routes = self.routes_over(alloc, &after)?;
         let loss = LinkLoss {
             place: lost.place,
@@ -248,32 +255,31 @@ impl Dif {
     }
 
     /// Loses the link that was found at the IPC process at a place, the last one of that node, as `lose_link` does, and lets
-    /// all flows there fail with it, since the flow of its port below has failed; their CEP-ids rest from now on. `after` is the
-    /// management of the member after the loss. Without memory nothing changes.
+    /// all flows there fail with it, since the flow of its port below has failed; their CEP-ids rest from now on. Without memory nothing changes.
     fn lose_last_link(
         &mut self,
         alloc: Global,
         at: usize,
         node: Node,
-        lost: Lost,
+        loss: MemberLoss,
         end: Option<usize>,
         port: Port,
-        after: Management,
     ) -> Result<(), Memory>
-        requires stands { (below : Seen) × Stands self.old below × FindsLostAt self.old below at (Some lost) }
+        requires stands { (below : Seen) × Stands self.old below × FindsLostAt self.old below at (Some loss.lost) }
         requires clock { self.old.clock ≤ 10_000_000 }
         requires at { at < length self.old.settings.members }
         requires home { home node (config_of self.old.settings).members ≡ Some at }
-        requires end { FindsEnd self.old at lost.place end }
-        requires after { (m : Management) → slice_get self.old.managements at ≡ Some m → LosesLink self.old.clock lost.number m after }
-        ensures does { (lines : List Direction) (below : Seen) → Holds self.old lines below → FindsLostAt self.old below at (Some lost) → FindsNoneLeft self.old below at lost.place (Some port) → LosesAs self.old lines below at node lost.number result self.new }
+        requires end { FindsEnd self.old at loss.lost.place end }
+        requires after { (m : Management) → slice_get self.old.managements at ≡ Some m → LosesLink self.old.clock loss.lost.number m loss.after }
+        ensures does { (lines : List Direction) (below : Seen) → Holds self.old lines below → FindsLostAt self.old below at (Some loss.lost) → FindsNoneLeft self.old below at loss.lost.place (Some port) → LosesAs self.old lines below at node loss.lost.number result self.new }
         ensures same { (self.new.settings ≡ self.old.settings) × (self.new.failed ≡ self.old.failed) }
         ensures laid { self.new.laid ≡ self.old.laid }
         ensures whole { self.new ≡ record self.old { processes = self.new.processes; connections = self.new.connections; flows = self.new.flows; ids = self.new.ids; managements = self.new.managements } }
         ensures stays { OnErr result (self.new.connections ≡ self.old.connections) }
-        ensures manages { (below : Seen) → FindsLostAt self.old below at (Some lost) → FindsNoneLeft self.old below at lost.place (Some port) → ManagesLoss result self.old below at node lost.number self.new.managements }
+        ensures manages { (below : Seen) → FindsLostAt self.old below at (Some loss.lost) → FindsNoneLeft self.old below at loss.lost.place (Some port) → ManagesLoss result self.old below at node loss.lost.number self.new.managements }
         ensures leaves { ChangesOnly (λ i. WhenOk result (IsEndOf self.old (Some at) i)) (Some at) self.old self.new }
     {
+        let MemberLoss { lost, after } = loss;
         let mut management = after;
         let routes = self.routes_over(alloc, &management)?;
         self.end_flows(alloc, node, &mut management)?;
@@ -295,40 +301,39 @@ impl Dif {
     }
 
     /// Loses the link that was found at the IPC process at a place, at a node, and closes the end of its management connection
-    /// there. Where no other link is live, and its flow below has failed, all flows at the node fail with it. `after` is
-    /// the management of the member after the loss. Without memory nothing changes.
+    /// there. Where no other link is live, and its flow below has failed, all flows at the node fail with it. Without memory nothing changes.
     pub(crate) fn lose_at<F: Facility>(
         &mut self,
         alloc: Global,
         below: &F,
         at: usize,
         node: Node,
-        lost: Lost,
-        after: Management,
+        loss: MemberLoss,
     ) -> Result<(), Memory>
         requires valid { F.valid below.now }
         requires stands { Stands self.old (F.seen below.now) }
-        requires found { FindsLostAt self.old (F.seen below.now) at (Some lost) }
-        requires after { (m : Management) → slice_get self.old.managements at ≡ Some m → LosesLink self.old.clock lost.number m after }
+        requires found { FindsLostAt self.old (F.seen below.now) at (Some loss.lost) }
+        requires after { (m : Management) → slice_get self.old.managements at ≡ Some m → LosesLink self.old.clock loss.lost.number m loss.after }
         requires clock { self.old.clock ≤ 10_000_000 }
         requires at { at < length self.old.settings.members }
         requires home { home node (config_of self.old.settings).members ≡ Some at }
-        ensures does { (lines : List Direction) → Holds self.old lines (F.seen below.now) → LosesAs self.old lines (F.seen below.now) at node lost.number result self.new }
+        ensures does { (lines : List Direction) → Holds self.old lines (F.seen below.now) → LosesAs self.old lines (F.seen below.now) at node loss.lost.number result self.new }
         ensures same { (self.new.settings ≡ self.old.settings) × (self.new.failed ≡ self.old.failed) }
         ensures laid { self.new.laid ≡ self.old.laid }
         ensures whole { self.new ≡ record self.old { processes = self.new.processes; connections = self.new.connections; flows = self.new.flows; ids = self.new.ids; managements = self.new.managements } }
         ensures stays { OnErr result (self.new.connections ≡ self.old.connections) }
-        ensures manages { ManagesLoss result self.old (F.seen below.now) at node lost.number self.new.managements }
+        ensures manages { ManagesLoss result self.old (F.seen below.now) at node loss.lost.number self.new.managements }
         ensures leaves { ChangesOnly (λ i. WhenOk result (IsEndOf self.old (Some at) i)) (Some at) self.old self.new }
     {
         let Some(process) = self.processes.get(at) else {
             unreachable!()
         };
         let links = process.links.as_slice();
-        let end = self.connections.open_on(links[lost.place].port);
-        match last_failed(links, lost.place, below) {
-            Some(port) => self.lose_last_link(alloc, at, node, lost, end, port, after),
-            None => self.lose_link(alloc, at, lost, end, after),
+        let place = loss.lost.place;
+        let end = self.connections.open_on(links[place].port);
+        match last_failed(links, place, below) {
+            Some(port) => self.lose_last_link(alloc, at, node, loss, end, port),
+            None => self.lose_link(alloc, at, loss, end),
         }
     }
 }
