@@ -325,6 +325,7 @@ served_first d lines below node (Ok done) d' below' links none s = served_done d
 served_first d lines below node (Err why.Memory) d' below' links none s = s
 served_first d lines below node (Err why.NoIpc) d' below' links none s = absurd s.0
 served_first d lines below node (Err why.NoLink) d' below' links none s = absurd s.0
+served_first d lines below node (Err (why.CountSpent need left)) d' below' links none s = absurd s.0
 
 -- the management connections stay where only the flows are served
 pub same_links : (d x : Dif) → x ≡ record d { processes = x.processes; flows = x.flows; ids = x.ids; managements = x.managements } → x.connections ≡ d.connections

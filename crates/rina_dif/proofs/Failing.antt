@@ -182,6 +182,7 @@ fails_late d lines below node (Ok done) d' below' h s = late_step d lines below 
 fails_late d lines below node (Err why.Memory) d' below' h s = late_same d lines below d'.flows.journal.ends (ap (λ (z : DifSeen). z.ends) s.0.0)
 fails_late d lines below node (Err why.NoIpc) d' below' h s = absurd s.0
 fails_late d lines below node (Err why.NoLink) d' below' h s = absurd s.0
+fails_late d lines below node (Err (why.CountSpent need left)) d' below' h s = late_same d lines below d'.flows.journal.ends (ap (λ (z : DifSeen). z.ends) s.1)
 
 -- nothing was done
 pub fails_none : (d : Dif) (lines : List Direction) (below : Seen) → FailsLate d lines below d
@@ -233,6 +234,7 @@ steps_by d lines below node i (Ok done) d' below' failed alive here s managed = 
 steps_by d lines below node i (Err why.Memory) d' below' failed alive here s managed = record { lines' = lines; does = (s.0.0, refl, s.1); managed = managed; holds = noted d' lines below' failed alive s.0.1 }
 steps_by d lines below node i (Err why.NoIpc) d' below' failed alive here s managed = absurd s.0
 steps_by d lines below node i (Err why.NoLink) d' below' failed alive here s managed = absurd s.0
+steps_by d lines below node i (Err (why.CountSpent need left)) d' below' failed alive here s managed = record { lines' = lines; does = (s.0, s.1, refl, s.3); managed = managed; holds = noted d' lines below' failed alive s.2 }
 
 pub steps_home : (d : Dif) (lines : List Direction) (below : Seen) (node i : ℕ) (r r' : Result ClockStep StepError) (d' : Dif) (below' : Seen) (failed : Bool) → d'.failed ≡ false → home node (config_of d.settings).members ≡ Some i → r' ≡ r → StepsHere d lines below node r d' below' → ManagesStep r (Some i) d below node d'.managements → ClockSteps d lines below node r' (record d' { failed = failed }) below'
 steps_home d lines below node i r r' d' below' failed alive here same s managed =
