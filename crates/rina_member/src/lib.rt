@@ -3,12 +3,12 @@
 #![tactic(auto)]
 
 mod edges;
+mod entries;
 mod handling;
 mod laws;
 mod links;
 mod loss;
 mod management;
-mod names;
 mod next_hops;
 mod objects;
 mod ranges;
@@ -17,6 +17,7 @@ mod start;
 mod texts;
 
 pub use edges::{addr_at, edges_from};
+pub use entries::{registered, unregistered};
 pub use handling::after_sdu;
 pub use laws::{
     a_member_knows_its_links, a_member_tells_short_messages,
@@ -26,7 +27,6 @@ pub use laws::{
 pub use links::live_links;
 pub use loss::without_link;
 pub use management::Management;
-pub use names::{registered, unregistered};
 pub use next_hops::routes_of;
 pub use objects::{first_objects, flow_name, tell};
 pub use start::{start_items, started};

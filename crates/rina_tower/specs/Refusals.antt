@@ -29,13 +29,19 @@ use Rattle.rina_tower.specs.declared.tower.Tower.{Tower, Wires, Rank'}
 
 -- over DIFs a name is refused by the member at its node, and flows cannot be asked for yet
 
+abbrev pub own_register : List Dif → ℕ → ℕ → Option RegisterError
+own_register difs fac node = option_and_then (λ (d : Dif). register_refusal d node) (slice_get difs fac)
+
+abbrev pub own_unregister : List Dif → ℕ → ℕ → Option UnregisterError
+own_unregister difs fac node = option_and_then (λ (d : Dif). unregister_refusal d node) (slice_get difs fac)
+
 abbrev pub refuses_register : Tower → ℕ → ℕ → List ℕ → Option RegisterError
 refuses_register (Wires a) fac node app = None
-refuses_register (Rank' p difs below) fac node app = option_and_then (λ (d : Dif). register_refusal d node) (slice_get difs fac)
+refuses_register (Rank' p difs below) fac node app = own_register difs fac node
 
 abbrev pub refuses_unregister : Tower → ℕ → ℕ → List ℕ → Option UnregisterError
 refuses_unregister (Wires a) fac node app = None
-refuses_unregister (Rank' p difs below) fac node app = option_and_then (λ (d : Dif). unregister_refusal d node) (slice_get difs fac)
+refuses_unregister (Rank' p difs below) fac node app = own_unregister difs fac node
 
 abbrev pub refuses_allocate : Tower → Ask → Option AllocateError
 refuses_allocate (Wires a) ask = own_allocate_refusal a ask
