@@ -10,7 +10,7 @@ use Rattle.rina_agent.specs.declared.state.MemberState.TheVariants.{Enrolled}
 use Rattle.rina_agent.specs.declared.state.AgentError.{AgentError}
 use Rattle.rina_agent.specs.Counts.{spent, unless}
 use Rattle.rina_agent.specs.Enrolments.{is_numbered}
-use Rattle.rina_agent.specs.Items.{stated}
+use Rattle.rina_agent.specs.Items.{made, stated}
 use Rattle.rina_agent.specs.Rows.{dropped, lost as loses_link, was_up}
 use Rattle.rina_base.specs.declared.cause.Cause.{Cause}
 use Rattle.rina_base.specs.declared.cause.Cause.TheVariants as causes
@@ -29,6 +29,7 @@ use Rattle.rina_data.specs.declared.step.Took.{Took}
 use Rattle.rina_data.specs.declared.step.Took.TheVariants as took
 use Rattle.rina_data.specs.Deciding.{process_of}
 use Rattle.rina_data.specs.Process.{Process}
+use Rattle.rina_dir.specs.Directory.{key_of}
 use Rattle.rina_dif_law.specs.Dif.{constants}
 use Rattle.rina_dif_law.specs.Ids.{flipped}
 use Rattle.rina_dif_law.specs.Incoming.{arrived, found, joined_by}
@@ -37,7 +38,7 @@ use Rattle.rina_dif_law.proofs.Own.{direction_in}
 use Rattle.rina_flood.specs.Members.{IsRunOf, LosesLinkAt, MembersSeen}
 use Rattle.rina_flood.specs.Network.{Side, Near, Far}
 use Rattle.rina_flood.specs.Static.{LinkEnd, end_place}
-use Rattle.rina_flood.proofs.Members.{goes_on_run, loses_run, takes_run}
+use Rattle.rina_flood.proofs.Members.{goes_on_run, loses_run, makes_run, takes_run}
 use Rattle.rina_iface.specs.declared.ends.End.{End}
 use Rattle.rina_iface.specs.declared.ends.Journal.{Journal}
 use Rattle.rina_iface.specs.Journal.{At}
@@ -186,6 +187,23 @@ lost_floods d at number m p g g' place link managed each is_m is_p is_g stands l
       got = λ k. refl;
     } in
     loses_run d.laid.links (members_seen d) (members_seen new) r event
+
+-- A directory entry is made
+
+pub made_floods : (d : Dif) (at : ℕ) (g g' : Management) (app : List ℕ) (value : Option (List ℕ)) → slice_get d.managements at ≡ Some g → spent 1 g.agent.last_count ≡ None → g'.agent ≡ made None g.agent d.clock (key_of app) value → AreFlooding d → AreFlooding (record d { managements = slice_set d.managements at g' })
+made_floods d at g g' app value is_g may makes r = makes_run d.laid.links (members_seen d) (members_seen (record d { managements = slice_set d.managements at g' })) r (record {
+  place = at;
+  agent = g.agent;
+  is_agent = slice_get-map (λ (z : Management). z.agent) d.managements at ∙ ap (option_map (λ (z : Management). z.agent)) is_g;
+  room = may;
+  app = app;
+  value = value;
+  stays = record { members = refl; ends = refl };
+  now = refl;
+  agents = map-set (λ (z : Management). z.agent) d.managements at g' ∙ ap (slice_set (agents_of d.managements) at) makes;
+  sent = λ k. refl;
+  got = λ k. refl;
+})
 
 -- A directory entry is taken by all
 

@@ -55,6 +55,7 @@ pub mod Posted
 pub mod Posting
 pub mod Putting
 pub mod Refused
+pub mod Registered
 pub mod Resent
 pub mod Rested
 pub mod Room
