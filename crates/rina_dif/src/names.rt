@@ -1,12 +1,12 @@
 //! The names that are registered at a DIF.
-ghost use Rattle.std.specs.Prelude.{◌≡◌, ◌↔◌, ◌==◌, ◌<◌, ℕ, length, remove, slice_get, Some, Ok, Err, IfSome, OnErr, true};
+ghost use Rattle.std.specs.Prelude.{◌≡◌, ◌↔◌, ◌==◌, ◌<◌, ℕ, length, remove, slice_get, Some, Ok, Err, OnErr, true};
 ghost use Rattle.std.specs.List.{list_any};
 ghost use Rattle.rina_base.specs.Names.{app_at};
 ghost use Rattle.rina_iface.specs.declared.error.RegisterError.TheVariants as register;
 ghost use Rattle.rina_iface.specs.declared.error.UnregisterError.TheVariants as unregister;
 ghost use Rattle.rina_iface.specs.Register.{Registers};
-ghost use Rattle.rina_iface.specs.Seen.{Seen, is_member, is_registered};
-ghost use Rattle.rina_iface.specs.Unregister.{Unregisters, name_place};
+ghost use Rattle.rina_iface.specs.Seen.{Seen, is_member};
+ghost use Rattle.rina_iface.specs.Unregister.{Unregisters};
 ghost use Rattle.rina_data.specs.declared.settings.Member.{Member};
 ghost use Rattle.rina_dif_law.specs.Dif.{fac_of};
 ghost use Rattle.rina_member.specs.declared.management.Management.{Management};
@@ -20,7 +20,7 @@ use crate::dif::Dif;
 use rina_agent::AgentError;
 use rina_base::{AppName, Node, Seq};
 use rina_data::Member;
-use rina_iface::{RegisterError, Registered, UnregisterError};
+use rina_iface::{RegisterError, Registered, UnregisterError, is_registered, name_place};
 use rina_member::{Management, registered, unregistered};
 use std::alloc::Global;
 use std::mem;
@@ -39,23 +39,6 @@ pub(crate) fn are_named(members: &[Member])
     for at in 0..members.len() {
         is_formed(&members[at].name);
     }
-}
-
-/// Whether an application is registered at a node.
-pub(crate) fn is_registered(names: &[Registered], node: Node, app: &AppName) -> bool
-    ensures { result ≡ is_registered names.now node app.now }
-{
-    names.iter().any(|one| one.node == node && one.app.is(app))
-}
-
-/// Where an application stands among the names of a node.
-fn name_place(names: &[Registered], node: Node, app: &AppName) -> Option<usize>
-    ensures at { result ≡ name_place names.now node app.now }
-    ensures within { IfSome result (λ i. i < length names.now) }
-{
-    names
-        .iter()
-        .position(|one| one.node == node && one.app.is(app))
 }
 
 /// Takes the name at a place away. Takes no memory.
@@ -158,6 +141,7 @@ impl Dif {
         let Some(at) = self.place_at_node(node) else {
             return Err(RegisterError::NoMember);
         };
+        is_formed(app);
         let after = self.management_registered(alloc, at, app)?;
         let app = app.copy(alloc)?;
         self.names.push(Registered { node, app })?;
@@ -185,6 +169,7 @@ impl Dif {
         let Some(place) = name_place(self.names.as_slice(), node, app) else {
             return Err(UnregisterError::NotThere);
         };
+        is_formed(app);
         // A name is registered where a member is.
         if let Some(at) = self.place_at_node(node) {
             let after = self.management_unregistered(alloc, at, app)?;
