@@ -61,7 +61,7 @@ pub record HasMade (now : ℕ) (app : List ℕ) (g g' : Management) : Type 0 whe
 -- it is managed as before
 made_managed : (members : List Kept) (plans : List LinkPlan) (now : ℕ) (m : Kept) (p : IpcProcess) (app : List ℕ) (g g' : Management) → HasMade now app g g' → IsManaged members plans now m p g → IsManaged members plans now m p g'
 made_managed members plans now m p app g g' h one = record {
-  knows = subst (λ (z : Agent). Knows members plans now m p.links z) (sym h.makes) (makes_knowing members plans now m p.links g.agent app h.value one.knows);
+  knows = subst (λ (z : Agent). Knows members plans now m p.links z) (sym h.makes) (makes_knowing members plans now m p.links g.agent app h.value h.may one.knows);
   routes = subst (λ (z : Agent). AreRoutesOf z members p.routes) (sym h.makes) (made_routes members p.routes g.agent now app h.value one.knows.keys one.routes);
   tells = subst (λ (z : Agent). TellsNeighbours z) (sym h.makes) (makes_near g.agent now app h.value h.name h.own one.tells);
 }

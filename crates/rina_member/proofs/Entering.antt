@@ -1,5 +1,5 @@
 -- What a member knows once it took a directory entry.
-use Rattle.std.proofs.Common.{◌≡◌, ◌∙◌, inr, ⊎_elim, arith, ℕ, ◌≤◌, Bool, true, false, cond, not, List, [], ◌∷◌, ◌++◌, Option, Some, None, Contains, refl, sym, ap, subst}
+use Rattle.std.proofs.Common.{◌≡◌, ◌∙◌, inr, ⊎_elim, arith, ℕ, Bool, true, false, cond, not, List, [], ◌∷◌, ◌++◌, Option, Some, None, Contains, refl, sym, ap, subst}
 use Rattle.std.specs.List.{flat_map}
 use Rattle.std.proofs.lemmas.Bool.{both_ways, cases_Bool}
 use Rattle.std.proofs.lemmas.List.Elements.{Contains-append_left}
@@ -9,7 +9,7 @@ use Rattle.rina_newest.specs.Newest.{has_key, is_newer, kept_at, taken, without}
 use Rattle.rina_route.specs.Routes.{claims_of}
 use Rattle.rina_route.proofs.Lists.{in_none}
 use Rattle.rina_agent.specs.declared.agent.Agent.{Agent}
-use Rattle.rina_agent.specs.Counts.{next_of}
+use Rattle.rina_agent.specs.Counts.{spent}
 use Rattle.rina_agent.specs.Items.{made, own_item}
 use Rattle.rina_agent.specs.Neighbours.{link_key}
 use Rattle.rina_dir.specs.Directory.{key_of}
@@ -22,6 +22,7 @@ use Rattle.rina_member.specs.Managements.{entry_of, takes_item}
 use Rattle.rina_member.proofs.Hops.{Within, same_hops}
 use Rattle.rina_member.proofs.Items.{claimed_from, entry_claims, entry_not_link, from_taken, key_itself, key_same}
 use Rattle.rina_member.proofs.Lists.{from_flat, into_flat, kept}
+use Rattle.rina_member.proofs.Losing.{counts_on}
 
 -- an item of another key is kept still
 stays_if : (b : Bool) (items : List Item) (x z : Item) → Contains items z → (x.key ≡ z.key → ⊥) → Contains (cond b (without x.key items ++ x ∷ []) items) z
@@ -79,10 +80,6 @@ module _ (items : List Item) (entry : Item) (app : List ℕ) (key_is : entry.key
   entered_state a = kept_still items entry (link_key a)
       (⊎_elim (λ same. absurd (entry_not_link app a (sym (key_same (link_key a) entry.key same ∙ key_is)))) (λ other. other) (cases_Bool (has_key (link_key a) entry)))
 
--- a count that is no more than the last is no more than the next
-counts_up : (last count : ℕ) → count ≤ last → count ≤ next_of last
-counts_up last count le = grind (arith, le)
-
 -- it knows the links that it knew
 pub enters : (members : List Member) (plans : List LinkPlan) (now : ℕ) (m : Member) (links : List Link) (g : Agent) (app : List ℕ) (address : ℕ) → Knows members plans now m links g → Knows members plans now m links (takes_item g (entry_of app address))
 enters members plans now m links g app address h = record {
@@ -109,8 +106,8 @@ routes_stay members routes g app address keys are = record {
 -- Entries that it makes
 
 -- it knows the links that it knew
-pub makes_knowing : (members : List Member) (plans : List LinkPlan) (now : ℕ) (m : Member) (links : List Link) (g : Agent) (app : List ℕ) (value : Option (List ℕ)) → Knows members plans now m links g → Knows members plans now m links (made None g now (key_of app) value)
-makes_knowing members plans now m links g app value h =
+pub makes_knowing : (members : List Member) (plans : List LinkPlan) (now : ℕ) (m : Member) (links : List Link) (g : Agent) (app : List ℕ) (value : Option (List ℕ)) → spent 1 g.last_count ≡ None → Knows members plans now m links g → Knows members plans now m links (made None g now (key_of app) value)
+makes_knowing members plans now m links g app value may h =
     let x = own_item g now (key_of app) value in
     record {
       address = h.address;
@@ -124,8 +121,8 @@ makes_knowing members plans now m links g app value h =
       keys = entered_keys g.items x app refl h.keys;
       past = λ item is. (
           let r = h.past item (sym (entered_state g.items x app refl h.keys m.addr) ∙ is) in
-          let more = counts_up g.last_count item.version.count r.1 in
-          (r.0, more));
+          let more = counts_on g.last_count may in
+          (r.0, omega (arith, r.1, more)));
     }
 
 -- and its next hops are those that they were

@@ -12,6 +12,7 @@ ghost use Rattle.rina_enrol.specs.Messages.{IsInRange};
 ghost use Rattle.rina_agent.specs.declared.agent.Agent.{Agent};
 ghost use Rattle.rina_agent.specs.declared.message.ManagementMessage.TheVariants.{ToNeighbour};
 ghost use Rattle.rina_agent.specs.declared.state.AgentError.TheVariants.{CountSpent};
+ghost use Rattle.rina_agent.specs.Counts.{spent};
 ghost use Rattle.rina_agent.specs.Items.{made};
 ghost use Rattle.rina_agent.specs.Rows.{lost};
 ghost use Rattle.rina_dir.specs.Directory.{key_of};
@@ -76,7 +77,7 @@ pub fn the_start_claims_the_plan()
 pub fn a_member_knows_its_links()
     ensures starts { (members : List Member) (plans : List LinkPlan) (rules : Rules) (m : Member) (links : List Link) (now : ℕ) → IsLaidOut members plans → Contains members m → AreNumbered links → AreLive links → length (edges_from members m.node plans) ≤ length links → Knows members plans now m links (started members plans rules m links) }
     ensures enters { (members : List Member) (plans : List LinkPlan) (now : ℕ) (m : Member) (links : List Link) (g : Agent) (app : List ℕ) (address : ℕ) → Knows members plans now m links g → Knows members plans now m links (takes_item g (entry_of app address)) }
-    ensures makes { (members : List Member) (plans : List LinkPlan) (now : ℕ) (m : Member) (links : List Link) (g : Agent) (app : List ℕ) (value : Option (List ℕ)) → Knows members plans now m links g → Knows members plans now m links (made None g now (key_of app) value) }
+    ensures makes { (members : List Member) (plans : List LinkPlan) (now : ℕ) (m : Member) (links : List Link) (g : Agent) (app : List ℕ) (value : Option (List ℕ)) → spent 1 g.last_count ≡ None → Knows members plans now m links g → Knows members plans now m links (made None g now (key_of app) value) }
     ensures loses { (members : List Member) (plans : List LinkPlan) (now : ℕ) (m : Member) (links : List Link) (g g' : Agent) (k : ℕ) (link : Link) → IsLaidOut members plans → Contains members m → Knows members plans now m links g → slice_get links k ≡ Some link → link.live ≡ true → lost g now link.number ≡ Ok g' → Knows members plans now m (slice_set links k (record link { live = false })) g' × KeepsOtherClaims m.addr g.items g'.items }
     ensures handles { (members : List Member) (plans : List LinkPlan) (now tick number : ℕ) (m : Member) (links : List Link) (message : LinkMessage) (old new : Management) → Knows members plans now m links old.agent → CarriesReplicated message → OwnIsNewest old.agent message → Handles tick number message old new → Knows members plans now m links new.agent }
     // Its next hops are over its live links and the edges that its items claim.
