@@ -195,7 +195,7 @@ goes_late refuses g now p below n link item promise key left charge (Ok (out.Hel
 goes_late refuses g now p below n link item promise key left charge (Err Memory) process' h k l c less d = (d, refl)
 goes_late refuses g now p below n link item promise key left charge (Err NoIpc) process' h k l c less d = absurd d
 goes_late refuses g now p below n link item promise key left charge (Err NoLink) process' h k l c less d = absurd d
-goes_late refuses g now p below n link item promise key left charge (Err (CountSpent need left)) process' h k l c less d = absurd d
+goes_late refuses g now p below n link item promise key left charge (Err (CountSpent more rest)) process' h k l c less d = absurd d
 
 -- it is held: it was in time, and the flow below refuses it for now
 pub held_back : (refuses : Port → ℕ → Option SendError) (g : Config) (now : ℕ) (p : IpcProcess) (below : Seen) (n : ℕ) (link : Link) (item : Queued) (promise : ℕ) (why : SendError) → IsAtHand p below n link item promise → charge_of now item promise ≤ item.left → refused_below refuses g now below link item promise ≡ Some why → (IsOver why → ⊥) → IsHeld refuses g now below n (process_of p) item why

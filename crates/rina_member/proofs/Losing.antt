@@ -185,14 +185,14 @@ module _ (members : List Member) (plans : List LinkPlan) (now : ℕ) (m : Member
 
   pub loses_one : spent 1 g.last_count ≡ None → Knows members plans now m links' (dropped (stated (Some link.number) g now) link.number)
   loses_one may = record {
-        address = h.address;
-        enrolled = state_stays ∙ h.enrolled;
-        numbers = still_numbered links k link h.numbers stands;
-        links_are = managed_left;
-        own = subst (λ (hs : List Hop). ClaimLinks items' m.addr hs) (sym hops_left) (own_left may);
-        keys = made_keys;
-        past = made_past may;
-      }
+    address = h.address;
+    enrolled = state_stays ∙ h.enrolled;
+    numbers = still_numbered links k link h.numbers stands;
+    links_are = managed_left;
+    own = subst (λ (hs : List Hop). ClaimLinks items' m.addr hs) (sym hops_left) (own_left may);
+    keys = made_keys;
+    past = made_past may;
+  }
 
   abbrev Loses : Agent → Type 0
   Loses g' = Knows members plans now m links' g' × KeepsOtherClaims m.addr g.items g'.items
