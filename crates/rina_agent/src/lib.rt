@@ -7,6 +7,7 @@ mod agent;
 mod enrolment;
 mod flood;
 mod handle;
+mod hearing;
 mod items;
 mod joining;
 mod laws;

@@ -7,6 +7,7 @@ ghost use Rattle.rina_agent.specs.Rows.{Does, DoesOrKeeps, denial_by, denial, re
 use crate::agent::Agent;
 use crate::enrolment::{End, Enrolment};
 use crate::flood::{push_items, push_near};
+use crate::hearing::hear_stop;
 use crate::link::{Heard, Link, hear, put};
 use crate::message::Waiting;
 use crate::peer::address_at;
@@ -350,9 +351,7 @@ impl Agent {
     ) -> Result<(), AgentError>
         ensures { DoesOrKeeps result self.old self.new (stopped self.old now link m.now invoke) }
     {
-        let replies = [LinkMessage::StopR { invoke }];
-        let event = EnrolEvent::Stop;
-        let Some(heard) = hear(alloc, self.links.as_slice(), link, m, &replies, event)? else {
+        let Some(heard) = hear_stop(alloc, self.links.as_slice(), link, m, invoke)? else {
             return Ok(());
         };
         match heard.does {
