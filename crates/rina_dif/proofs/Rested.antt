@@ -152,7 +152,7 @@ module _ (until : ℕ) (d : Dif) (below : Seen) (node n : ℕ) (rest : RestsUnti
   none_handled None a none = refl
 
   pub in_rests : (a : Result InStep StepError) × TakesNone a × ((lines : List Direction) → Holds d lines below → TakesHome d lines below node n a d below)
-  in_rests = (let a = in_home (home_of d node) refl in (a.0, a.1, λ lines h. record { lines' = lines; taken = d; does = a.2 lines; links = λ links. no_links (home_of d node) links.lines a.0 a.1; handles = none_handled (home_of d node) a.0 a.1; rerouted = inl refl; holds = h }))
+  in_rests = (let a = in_home (home_of d node) refl in (a.0, a.1, λ lines h. record { lines' = lines; taken = d; does = a.2 lines; links = λ links. no_links (home_of d node) links.lines a.0 a.1; managed = refl; handles = none_handled (home_of d node) a.0 a.1; rerouted = inl refl; holds = h }))
 
 -- What leaves
 

@@ -106,14 +106,14 @@ waits_there below port tick bytes lent = subst (λ (o : Option Entry). IsSome o)
 -- What is answered
 
 pub no_link : (d : Dif) (lines : List Direction) (below : Seen) (at n : ℕ) (p : IpcProcess) → slice_get d.processes at ≡ Some p → link_by n p.links ≡ None → Holds d lines below → TakesIn d lines below at n (Err NoLink) d below
-no_link d lines below at n p is none h = record { lines' = lines; does = (record { process = process_of p; is_process = shown_at d at p is; none = none }, refl, refl, refl); taken = d; links = λ links. refl; handles = refl; rerouted = inl refl; holds = h }
+no_link d lines below at n p is none h = record { lines' = lines; does = (record { process = process_of p; is_process = shown_at d at p is; none = none }, refl, refl, refl); taken = d; links = λ links. refl; managed = refl; handles = refl; rerouted = inl refl; holds = h }
 
 pub none_waits : (d : Dif) (lines : List Direction) (below : Seen) (at n : ℕ) (p : IpcProcess) (link : Link) → slice_get d.processes at ≡ Some p → link_by n p.links ≡ Some link → unpassed below link.port ≡ None → Holds d lines below → TakesIn d lines below at n (Ok in_.Idle) d below
-none_waits d lines below at n p link is is_link none h = record { lines' = lines; does = (record { process = process_of p; link = link; is_process = shown_at d at p is; is_link = is_link; none = none }, refl, refl, refl); taken = d; links = λ links. refl; handles = refl; rerouted = inl refl; holds = h }
+none_waits d lines below at n p link is is_link none h = record { lines' = lines; does = (record { process = process_of p; link = link; is_process = shown_at d at p is; is_link = is_link; none = none }, refl, refl, refl); taken = d; links = λ links. refl; managed = refl; handles = refl; rerouted = inl refl; holds = h }
 
-pub took_none : (d : Dif) (lines : List Direction) (below : Seen) (at n : ℕ) (d' : Dif) (e : StepError) (r : Result InStep StepError) → e ≡ Memory → r ≡ Err e → (seen_of d' ≡ seen_of d) × Holds d' lines below × (d'.connections ≡ d.connections) → TakesIn d lines below at n r d' below
-took_none d lines below at n d' e r is err same =
-    subst (λ (v : Result InStep StepError). TakesIn d lines below at n v d' below) (sym (err ∙ ap (λ (z : StepError). Err z) is)) (record { lines' = lines; taken = d'; does = (same.0, refl, refl); links = λ links. same.2; handles = refl; rerouted = inl refl; holds = same.1 })
+pub took_none : (d : Dif) (lines : List Direction) (below : Seen) (at n : ℕ) (d' : Dif) (e : StepError) (r : Result InStep StepError) → e ≡ Memory → r ≡ Err e → (seen_of d' ≡ seen_of d) × Holds d' lines below × (d'.connections ≡ d.connections) → d'.managements ≡ d.managements → TakesIn d lines below at n r d' below
+took_none d lines below at n d' e r is err same managed =
+    subst (λ (v : Result InStep StepError). TakesIn d lines below at n v d' below) (sym (err ∙ ap (λ (z : StepError). Err z) is)) (record { lines' = lines; taken = d'; does = (same.0, refl, refl); links = λ links. same.2; managed = managed; handles = refl; rerouted = inl refl; holds = same.1 })
 
 -- an SDU was taken, which made this DIF of it
 pub record HasTakenOne (d : Dif) (lines : List Direction) (below : Seen) (at n : ℕ) (key : Key) (end : Took) (taken : Dif) (below' : Seen) : Type 0 where
@@ -184,14 +184,15 @@ handled_stands at n (Some w) taken lines' below' d' h s = s.1
 handled_stands at n None taken lines' below' d' h same = subst (λ (z : Dif). Holds z lines' below') (sym same) h
 
 pub took_and_handled : (d : Dif) (lines : List Direction) (below : Seen) (at n since : ℕ) (p : IpcProcess) (link : Link) (hop : Hop) (key : Key) (end : Took) (taken : Dif) (below' : Seen) (found : Option Handled) (d' : Dif) → slice_get d.processes at ≡ Some p → link_by n p.links ≡ Some link → IsOldest (config_of d.settings) below link.port since hop
-    → HasTakenOne d lines below at n key end taken below' → MayBring d at n since link.port hop found → ((lines' : List Direction) (b : Seen) → Holds taken lines' b → HandlesAs taken lines' b at n found d') → TakesIn d lines below at n (Ok (in_.Took key end)) d' below'
-took_and_handled d lines below at n since p link hop key end taken below' found d' is is_link oldest t ahead handles =
+    → HasTakenOne d lines below at n key end taken below' → MayBring d at n since link.port hop found → ((lines' : List Direction) (b : Seen) → Holds taken lines' b → HandlesAs taken lines' b at n found d') → taken.managements ≡ d.managements → TakesIn d lines below at n (Ok (in_.Took key end)) d' below'
+took_and_handled d lines below at n since p link hop key end taken below' found d' is is_link oldest t ahead handles managed =
     let s = handles t.lines' below' t.holds in
     record {
       lines' = t.lines';
       taken = taken;
       does = t.does;
       links = t.links;
+      managed = managed;
       handles = record { process = p; is_process = is; link = link; is_link = is_link; since = since; hop = hop; is_oldest = oldest; handles = handles_piece d at n since link.port hop found taken t.lines' below' d' ahead s };
       rerouted = handled_reroutes at n found taken t.lines' below' d' t.holds s;
       holds = handled_stands at n found taken t.lines' below' d' t.holds s;
@@ -222,6 +223,7 @@ home_takes d lines below node n at r d' below' here t = record {
   taken = t.taken;
   does = ins_at (seen_of d) lines below node n at r (seen_of t.taken) t.lines' below' here t.does;
   links = λ links. at_home (home node (config_of d.settings).members) at (λ i. TakesLinks d links.lines below i n r t.taken) _ here (t.links links);
+  managed = t.managed;
   handles = at_home (home node (config_of d.settings).members) at (λ i. Handles d below i n r t.taken below' d') _ here t.handles;
   rerouted = t.rerouted;
   holds = t.holds;
@@ -245,6 +247,7 @@ home_noted d lines below node n (Err e) d' failed below' alive noted t = record 
   taken = record t.taken { failed = failed };
   does = t.does;
   links = t.links;
+  managed = t.managed;
   handles = all_home (home node (config_of d.settings).members) (d' ≡ t.taken) (record d' { failed = failed } ≡ record t.taken { failed = failed }) (λ same. ap (λ (z : Dif). record z { failed = failed }) same) t.handles;
   rerouted = t.rerouted;
   holds = record { tied = t.holds.tied; standing = t.holds.standing; carrying = t.holds.carrying; numbered = t.holds.numbered; accounted = t.holds.accounted; caused = t.holds.caused; written_off = t.holds.written_off; housed = t.holds.housed; managed = t.holds.managed; connected = t.holds.connected; flooded = λ still. t.holds.flooded alive };
@@ -260,6 +263,7 @@ takes_none d lines below node n h = record {
   taken = d;
   does = (refl, refl, refl);
   links = λ links. either_home (home node (config_of d.settings).members) (λ i. TakesLinks d links.lines below i n (Err Memory) d) _ (λ k. refl) refl;
+  managed = refl;
   handles = either_home (home node (config_of d.settings).members) (λ i. Handles d below i n (Err Memory) d below d) _ (λ k. refl) refl;
   rerouted = inl refl;
   holds = h;
@@ -271,6 +275,7 @@ takes_nowhere d lines below node n none h = record {
   taken = d;
   does = not_home (home node (config_of d.settings).members) (λ k. Ins (seen_of d) lines below k n (Err NoIpc) (seen_of d) lines below) _ none (refl, refl, refl, refl);
   links = λ links. not_home (home node (config_of d.settings).members) (λ i. TakesLinks d links.lines below i n (Err NoIpc) d) _ none refl;
+  managed = refl;
   handles = not_home (home node (config_of d.settings).members) (λ i. Handles d below i n (Err NoIpc) d below d) _ none refl;
   rerouted = inl refl;
   holds = h;

@@ -256,13 +256,14 @@ abbrev pub Handles : Dif → Seen → ℕ → ℕ → Result InStep StepError �
 Handles d below i n (Ok (steps.Took key end)) taken below' d' = HandlesOldest d below i n taken below' d'
 Handles d below i n result taken below' d' = d' ≡ taken
 
--- what `in_step` does at a link of the IPC process of place i: it takes an SDU, which makes the DIF `taken` of it, and handles what this made
--- whole. For the flows only the next hops may be others then
+-- what `in_step` does at a link of the IPC process of place i: it takes an SDU, which makes the DIF `taken` of it and leaves what the members hold,
+-- and handles what this made whole. For the flows only the next hops may be others then
 pub record TakesIn (d : Dif) (lines : List Direction) (below : Seen) (i n : ℕ) (result : Result InStep StepError) (d' : Dif) (below' : Seen) : Type 0 where
   pub lines' : List Direction
   pub taken : Dif
   pub does : Ins (seen_of d) lines below i n result (seen_of taken) lines' below'
   pub links : (links : LinksStand d below) → TakesLinks d links.lines below i n result taken
+  pub managed : taken.managements ≡ d.managements
   pub handles : Handles d below i n result taken below' d'
   pub rerouted : MayReroute (seen_of taken) (seen_of d')
   pub holds : Holds d' lines' below'
@@ -277,6 +278,7 @@ pub record TakesHome (d : Dif) (lines : List Direction) (below : Seen) (node n :
   pub taken : Dif
   pub does : InsAt (seen_of d) lines below node n result (seen_of taken) lines' below'
   pub links : (links : LinksStand d below) → AtHome (home node (config_of d.settings).members) (λ i. TakesLinks d links.lines below i n result taken) (taken.connections ≡ d.connections)
+  pub managed : taken.managements ≡ d.managements
   pub handles : AtHome (home node (config_of d.settings).members) (λ i. Handles d below i n result taken below' d') (d' ≡ taken)
   pub rerouted : MayReroute (seen_of taken) (seen_of d')
   pub holds : Holds d' lines' below'

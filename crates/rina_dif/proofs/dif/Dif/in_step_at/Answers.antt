@@ -10,6 +10,7 @@ use Rattle.rina_dif.specs.Shown.{seen_of}
 use Rattle.rina_dif.proofs.Brought.{brought}
 use Rattle.rina_dif.proofs.Elsewhere.{in_failed, in_handled, in_took, none_changed}
 use Rattle.rina_dif.proofs.Leaves.{shown_at}
+use Rattle.rina_dif.specs.declared.dif.Dif.{Dif}
 use Rattle.rina_dif.proofs.Taken.{comes_there, link_at, never_closed, no_link, none_waits, oldest_there, took_and_handled, took_it, took_none}
 use Rattle.rina_dif.proofs.dif.Dif.in_step_at.Goals as goal
 
@@ -71,7 +72,7 @@ handled_ahead-requires-clause-stands g c = (g.F.Facility.seen c.args.below.now, 
 pub returns-in_err-handled-clause-does : goal.returns-in_err-handled-clause-does
 returns-in_err-handled-clause-does g c = λ lines h.
     let err = err_from_is_err_and c.from_residual.result c.from_residual.ensures.1 in
-    took_none c.args.self.now lines (g.F.Facility.seen c.args.below.now) c.args.at c.args.link c.args.self.now err.0 c.from_residual.result err.2 err.1 (refl, h, refl)
+    took_none c.args.self.now lines (g.F.Facility.seen c.args.below.now) c.args.at c.args.link c.args.self.now err.0 c.from_residual.result err.2 err.1 (refl, h, refl) refl
 
 pub returns-in_err-handled-clause-leaves : goal.returns-in_err-handled-clause-leaves
 returns-in_err-handled-clause-leaves g c =
@@ -94,7 +95,7 @@ returns-in_err-end-clause-does g c = λ lines h.
     let opens = ap (option_map hop_of) (sym c.in-Some-open.is) ∙ c.open.ensures.exact in
     let there = comes_there d lines below at n p link lent.at lent.bytes.now hop kept c.requires.at h c.in-Some.ensures is_link c.in-Some-peek.ensures opens in
     let err = err_from_is_err_and c.from_residual-in_err-end.result c.from_residual-in_err-end.ensures.1 in
-    took_none d lines below at n c.settle.new.self err.0 c.from_residual-in_err-end.result err.2 err.1 (c.in_err-end.ensures.does lines below h kept there (oldest_there d below link.port lent.at lent.bytes.now hop c.in-Some-peek.ensures opens))
+    took_none d lines below at n c.settle.new.self err.0 c.from_residual-in_err-end.result err.2 err.1 (c.in_err-end.ensures.does lines below h kept there (oldest_there d below link.port lent.at lent.bytes.now hop c.in-Some-peek.ensures opens)) (ap (λ (z : Dif). z.managements) c.in_err-end.ensures.whole)
 
 pub handle_messages-requires-clause-stands : goal.handle_messages-requires-clause-stands
 handle_messages-requires-clause-stands g c =
@@ -160,7 +161,7 @@ returns-clause-does g c = λ lines h.
     let oldest = oldest_there d below link.port lent.at lent.bytes.now hop c.in-Some-peek.ensures opens in
     let kept' = g.met.F.Facility.kept c.pass.new.self c.pass.ensures.valid in
     let t = took_it d lines below at n p link lent.at lent.bytes.now hop c.key-key.result c.in_ok-end.end c.settle.new.self (g.F.Facility.seen c.pass.new.self) kept kept' c.requires.at h c.in-Some.ensures is_link c.in-Some-peek.ensures opens c.key-key.ensures there c.in_ok-end.ensures.does c.pass.ensures.does in
-    took_and_handled d lines below at n lent.at p link hop c.key-key.result c.in_ok-end.end c.settle.new.self (g.F.Facility.seen c.pass.new.self) c.in_ok-handled.handled c.handle_messages.new.self c.in-Some.ensures is_link oldest t c.in_ok-handled.ensures c.handle_messages.ensures.does
+    took_and_handled d lines below at n lent.at p link hop c.key-key.result c.in_ok-end.end c.settle.new.self (g.F.Facility.seen c.pass.new.self) c.in_ok-handled.handled c.handle_messages.new.self c.in-Some.ensures is_link oldest t c.in_ok-handled.ensures c.handle_messages.ensures.does (ap (λ (z : Dif). z.managements) c.in_ok-end.ensures.whole)
 
 pub returns-in_err-end-clause-leaves : goal.returns-in_err-end-clause-leaves
 returns-in_err-end-clause-leaves g c =
