@@ -6,8 +6,8 @@ What a fault or a refusal can come from, with an example of each and its mend. `
 place in your stack or schedule:
 
     $ bin/rlemu-explain 'fault StackRule 8 2' examples/mistake.rlemu
-    The stack breaks rule 8: a wire's ends are equal, or its delay exceeds its life.
-      Item 2 is the wire `w2`.
+    The stack breaks rule 8: a wire's ends are equal, or its delay and spread exceed its life.
+      Item 2 is the wire `w2`, from line 9 on.
       There: both ends are `b`.
 
 (and the causes with their mends). This page is printed by `bin/rlemu-explain --page` from `docs/mistakes.txt`: change that file.

@@ -3,6 +3,7 @@ proved, decides; this one only helps to find the place, and it may name more pla
 import re
 
 NAME = re.compile(r"[a-z0-9._-]{1,64}")
+SUBJECT = re.compile(rf"\*|{NAME.pattern}(/{NAME.pattern})?")
 POLICIES = ("strict", "last", "first", "round", "weighted")
 WIDE = {1: 255, 2: 65_535, 4: 4_294_967_295}
 # Of each table: its keys, each with what its value is, and whether it has to be there. A pair is a range.
@@ -12,12 +13,13 @@ SHAPES = {
     "top": {"nodes": ("list", True), "rounds": (("auto", "manual"), False), "wire": ("list", False), "dif": ("list", False)},
     "wire": {
         "name": ("name", True), "ends": ("ends", True), "delay": ((1, 100_000), True), "life": ((1, 100_000), True),
-        "largest": ((1, 65_535), True),
+        "largest": ((1, 65_535), True), "storm": ("table", False),
     },
+    "storm": {"seed": ((0, 2**53 - 1), True), **{key: ((0, 1_000), True) for key in ("lose", "repeat")}, "spread": ((0, 100_000), True)},
     "dif": {
         "name": ("name", True), "rank": ((1, 8), True), "static": ("yes", True), "pdu": ((18, 4_096), True), "widths": ("table", True),
         "queue": ((1, 256), True), "policy": ("policy", True), "wait": ((1, 1_000_000), True), "manage": ("table", True), "cube": ("list", True),
-        "member": ("list", True), "link": ("list", False), "flow": ("list", False),
+        "member": ("list", True), "default": ("truth", False), "rule": ("list", False), "link": ("list", False), "flow": ("list", False),
     },
     "widths": {key: ("width", True) for key in ("addr", "cep", "len", "seq")},
     "manage": {
@@ -29,12 +31,22 @@ SHAPES = {
         "largest": ((1, 65_535), True), **TIMES,
     },
     "member": {"node": ("node", True), "addr": ((0, 4_294_967_295), True)},
+    "rule": {"subject": ("subject", True), "act": (("allocate", "enrol"), True), "allow": ("truth", True)},
     "link": {"on": ("on", True), "a": ("node", True), "b": ("node", True), "weight": ((1, 65_535), False), "cube": ((0, 255), False)},
     "flow": {"cube": ((0, 255), True), "from": ("table", True), "to": ("table", True)},
     "end": END,
 }
-# Tables within a wire or a DIF: their key, their shape, and whether they are rows of a list.
-WITHIN = [("widths", "widths", False), ("manage", "manage", False), *((it, it, True) for it in ("cube", "member", "link", "flow"))]
+# Tables within a wire or a DIF: their key, which is their shape too, and whether they are rows of a list.
+WITHIN = {
+    "top": [],
+    "wire": [("storm", False)],
+    "dif": [("widths", False), ("manage", False), *((it, True) for it in ("cube", "member", "rule", "link", "flow"))],
+}
+# What the value of a key has to be, in words.
+WANTED = {
+    "list": "a list", "table": "a table", "ends": "a list of two strings", "yes": "`true`: no other DIF runs yet", "truth": "`true` or `false`",
+    "width": "a whole number",
+}
 
 
 def rows(table, key):
@@ -49,11 +61,11 @@ def number(table, key, default=0):
 
 def told(shape, at, table):
     """How a table is called where something is said of it."""
-    key = {"cube": "id", "member": "node"}.get(shape)
+    key = {"cube": "id", "member": "node", "rule": "subject"}.get(shape)
     if shape in ("link", "flow"):
-        ends = (table.get("a"), table.get("b")) if shape == "link" else tuple(part(table, it).get("label") for it in ("from", "to"))
+        ends = (table.get("a", "?"), table.get("b", "?")) if shape == "link" else tuple(part(table, it).get("label", "?") for it in ("from", "to"))
         return f"{shape} {at + 1} ({' - '.join(str(it) for it in ends)})"
-    return f"{shape} {at + 1}" + (f" ({key} {table.get(key)})" if key else "")
+    return f"{shape} {at + 1}" + (f" ({key} {table[key]})" if key in table else "")
 
 
 def part(table, key):
@@ -77,11 +89,11 @@ class Stack:
         """Each table: its item, its shape, how it is called, and itself."""
         for item, shape, table in self.items():
             yield item, shape, "", table
-            for key, inner, is_list in WITHIN if shape == "dif" else []:
-                for at, it in enumerate(rows(table, key) if is_list else [part(table, key)] if part(table, key) else []):
-                    called = told(inner, at, it) if is_list else key
-                    yield item, inner, called, it
-                    for end in ("from", "to") if inner == "flow" else []:
+            for key, is_list in WITHIN[shape]:
+                for at, it in enumerate(rows(table, key) if is_list else [table[key]] if isinstance(table.get(key), dict) else []):
+                    called = told(key, at, it) if is_list else f"`{key}`"
+                    yield item, key, called, it
+                    for end in ("from", "to") if key == "flow" else []:
                         if part(it, end):
                             yield item, "end", f"{called}, `{end}`", part(it, end)
 
@@ -106,7 +118,30 @@ def fits(kind, value):
         return value in kind
     if kind == "ends":
         return isinstance(value, list) and len(value) == 2 and all(isinstance(it, str) for it in value)
-    return {"list": list, "table": dict, "yes": bool, "width": int}.get(kind, str) is type(value) and (kind != "yes" or value)
+    return {"list": list, "table": dict, "yes": bool, "truth": bool, "width": int}.get(kind, str) is type(value) and (kind != "yes" or value)
+
+
+def wanted(kind):
+    """What the value of such a key has to be, in words."""
+    if isinstance(kind, tuple):
+        return "a whole number, without quotes or a point" if type(kind[0]) is int else " or ".join(f'`"{it}"`' for it in kind)
+    return WANTED.get(kind, "a string, in quotes")
+
+
+def written(value):
+    """A value as it may stand in TOML."""
+    if isinstance(value, str):
+        return f'"{value}"'
+    if isinstance(value, list):
+        return f"[{', '.join(map(written, value))}]"
+    if isinstance(value, dict):
+        return "{ " + ", ".join(f"{key} = {written(it)}" for key, it in value.items()) + " }"
+    return str(value).lower() if isinstance(value, bool) else str(value)
+
+
+def short(value, most=60):
+    text = written(value)
+    return text if len(text) <= most else text[:most] + ".."
 
 
 def rule_2(stack):
@@ -122,10 +157,11 @@ def rule_3(stack):
             if key not in table and is_needed:
                 yield item, called, f"`{key}` is missing"
             elif key in table and not fits(kind, table[key]):
-                yield item, called, f"`{key} = {table[key]!r}` has not the type or the word that this key wants"
+                yield item, called, f"`{key} = {short(table[key])}`, and this key wants {wanted(kind)}"
             elif key in table and kind == "list":
                 want = str if key == "nodes" else dict
-                yield from ((item, called, f"an element of `{key}` is {it!r}") for it in table[key] if type(it) is not want)
+                each = "a string" if key == "nodes" else "a table"
+                yield from ((item, called, f"an element of `{key}` is `{short(it)}`, and each has to be {each}") for it in table[key] if type(it) is not want)
 
 
 def rule_4(stack):
@@ -134,7 +170,9 @@ def rule_4(stack):
         for key, (kind, _) in SHAPES[shape].items():
             texts = table.get(key) if kind == "ends" else [table.get(key)]
             if kind in ("name", "app", "node", "on", "policy", "ends") and isinstance(texts, list):
-                yield from ((item, called, f"`{key} = {it!r}` is no name") for it in texts if isinstance(it, str) and not NAME.fullmatch(it))
+                yield from ((item, called, f"`{key}`: `{written(it)}` is no name") for it in texts if isinstance(it, str) and not NAME.fullmatch(it))
+            if kind == "subject" and isinstance(table.get(key), str) and not SUBJECT.fullmatch(table[key]):
+                yield item, called, f"`{key} = {written(table[key])}` is no application, no IPC process as `dif/node`, and not `*`"
 
 
 def rule_5(stack):
@@ -180,8 +218,10 @@ def rule_8(stack):
         ends = it.get("ends", [])
         if isinstance(ends, list) and len(ends) == 2 and ends[0] == ends[1]:
             yield 1 + at, "", f"both ends are `{ends[0]}`"
-        if number(it, "delay") > number(it, "life"):
-            yield 1 + at, "", f"`delay = {it.get('delay')}` exceeds `life = {it.get('life')}`"
+        spread = number(part(it, "storm"), "spread")
+        if number(it, "delay") + spread > number(it, "life"):
+            late = f"and the storm's `spread = {spread}` exceed" if spread else "exceeds"
+            yield 1 + at, "", f"`delay = {it.get('delay')}` {late} `life = {it.get('life')}`"
 
 
 def rule_9(stack):
@@ -196,7 +236,7 @@ def twice(stack, rule_key, key):
         seen = set()
         for at, it in enumerate(rows(dif, rule_key)):
             if it.get(key) in seen:
-                yield stack.number_of(dif), told(rule_key, at, it), f"`{key} = {it.get(key)!r}` stands before"
+                yield stack.number_of(dif), told(rule_key, at, it), f"`{key} = {written(it.get(key))}` stands before"
             seen.add(it.get(key))
         if not rows(dif, rule_key):
             yield stack.number_of(dif), "", f"`{rule_key}` is empty"
@@ -217,7 +257,7 @@ def timing(cube):
 
 def rule_11(stack):
     for dif in stack.difs:
-        cubes = [("manage", part(dif, "manage")), *((told("cube", at, it), it) for at, it in enumerate(rows(dif, "cube")))]
+        cubes = [("`manage`", part(dif, "manage")), *((told("cube", at, it), it) for at, it in enumerate(rows(dif, "cube")))]
         yield from ((stack.number_of(dif), called, timing(it)) for called, it in cubes if timing(it))
 
 
@@ -252,7 +292,7 @@ def rule_14(stack):
     for dif in stack.difs:
         piece, queue, item = number(dif, "pdu") - head(dif), number(dif, "queue"), stack.number_of(dif)
         manage = {**part(dif, "manage"), "kind": "reliable", "largest": 325}
-        for called, it in [("manage", manage), *((told("cube", at, it), it) for at, it in enumerate(rows(dif, "cube")))]:
+        for called, it in [("`manage`", manage), *((told("cube", at, it), it) for at, it in enumerate(rows(dif, "cube")))]:
             largest, window = number(it, "largest"), number(it, "window")
             if it.get("kind") == "datagram" and largest > piece:
                 yield item, called, f"`largest = {largest}`, and a piece has {piece} bytes"
@@ -328,7 +368,7 @@ def rule_19(stack):
         if len(found) > most:
             yield 0, "", f"{len(found)} {what}, and at most {most} may be"
     for dif in stack.difs:
-        for what, most in (("member", 64), ("cube", 8)):
+        for what, most in (("member", 64), ("cube", 8), ("rule", 256)):
             if len(rows(dif, what)) > most:
                 yield stack.number_of(dif), "", f"{len(rows(dif, what))} rows of `{what}`, and at most {most} may be"
         for it in rows(dif, "member"):

@@ -4,6 +4,7 @@ import re
 import shutil
 import subprocess
 import sys
+import threading
 
 TOP = os.path.dirname(os.path.dirname(os.path.realpath(__file__)))
 ENDED = re.compile(r"run=ended status=(\d+) ")
@@ -29,11 +30,21 @@ def has_rt():
     return True
 
 
-def tried(crate, words, quiet=False):
+def remind(ended):
+    """Tells each minute that the build or the run goes on."""
+    minutes = 0
+    while not ended.wait(60):
+        minutes += 1
+        say(f"goes on: {minutes} minute{'s' if minutes > 1 else ''} gone")
+
+
+def tried(crate, words, quiet=False, stdin=None):
     """Calls `rt try` in the crate, and gives its status and that of the program, if it ended. What `rt try` says is passed on, line by
-    line, or with `quiet` only where the program did not end."""
-    own, kept = None, []
-    with subprocess.Popen(["rt", "try", *words], cwd=f"{TOP}/crates/{crate}", stderr=subprocess.PIPE, text=True, errors="replace") as ran:
+    line, or with `quiet` only where the program did not end. `stdin` is a file to be read in place of standard input."""
+    own, kept, ended = None, [], threading.Event()
+    threading.Thread(target=remind, args=[ended], daemon=True).start()
+    how = {"cwd": f"{TOP}/crates/{crate}", "stdin": stdin, "stderr": subprocess.PIPE, "text": True, "errors": "replace"}
+    with subprocess.Popen(["rt", "try", *words], **how) as ran:
         for line in ran.stderr:
             kept.append(line)
             if not quiet:
@@ -41,6 +52,7 @@ def tried(crate, words, quiet=False):
                 sys.stderr.flush()
             found = ENDED.match(line)
             own = int(found[1]) if found else own
+    ended.set()
     if quiet and own is None:
         sys.stderr.writelines(kept)
     return ran.returncode, own

@@ -2,7 +2,8 @@
 ghost use Rattle.std.specs.Prelude.{◌≡◌, ◌<◌, ◌++◌, ◌∷◌, [], length, position, take, option_copied, IfOk, IfSome, OnOk, OnErr};
 ghost use Rattle.rina_agent.specs.Agenda.{waits_on, first_on, without_first, without_link};
 
-use crate::message::Waiting;
+use crate::message::{ManagementMessage, Waiting};
+use crate::vectors::{push, remove};
 use rina_base::Memory;
 use std::alloc::Global;
 use std::marker::Model;
@@ -45,16 +46,21 @@ fn keep_others(waiting: &mut Vec<Waiting>, link: u16)
     waiting.retain(|w| w.link != link);
 }
 
+/// Adds a copy of a message.
+fn push_copy(alloc: Global, copied: &mut Vec<Waiting>, w: &Waiting) -> Result<(), Memory>
+    ensures { OnOk result (copied.new.items ≡ copied.old.items ++ w.now ∷ []) }
+{
+    let w = w.copy(alloc)?;
+    push(copied, w)
+}
+
 /// Copies of messages, in their order.
 fn copies(alloc: Global, waiting: &[Waiting]) -> Result<Vec<Waiting>, Memory>
     ensures { IfOk result (λ copied. copied.items ≡ waiting.now) }
 {
     let mut copied = Vec::new(alloc);
     for w in waiting {
-        let w = w.copy(alloc)?;
-        if copied.push(w).is_err() {
-            return Err(Memory);
-        }
+        push_copy(alloc, &mut copied, w)?;
     }
     Ok(copied)
 }
@@ -98,7 +104,7 @@ impl Agenda {
         let Some(at) = place(self.waiting.as_slice(), link) else {
             return;
         };
-        let _ = self.waiting.remove(at);
+        remove(&mut self.waiting, at);
     }
 
     /// Takes all messages of a link away. Takes no memory.
@@ -106,6 +112,14 @@ impl Agenda {
         ensures { self.new ≡ without_link link self.old }
     {
         keep_others(&mut self.waiting, link);
+    }
+
+    /// Lets a message wait for a link, behind those that wait. Without memory nothing changes.
+    pub(crate) fn put(&mut self, link: u16, message: ManagementMessage) -> Result<(), Memory>
+        ensures ok { OnOk result (self.new ≡ self.old ++ record { link = link; message = message } ∷ []) }
+        ensures err { OnErr result (self.new ≡ self.old) }
+    {
+        push(&mut self.waiting, Waiting { link, message })
     }
 
     /// Lets messages wait behind those that do. Without memory nothing changes.

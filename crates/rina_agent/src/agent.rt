@@ -146,11 +146,7 @@ impl Agent {
         ensures ok { OnOk result (self.new ≡ record self.old { agenda = self.old.agenda ++ record { link = link; message = ToMember m } ∷ [] }) }
         ensures err { OnErr result (self.new ≡ self.old) }
     {
-        let mut added = Vec::new(alloc);
-        let message = ManagementMessage::ToMember(m);
-        if added.push(Waiting { link, message }).is_err() {
-            return Err(Memory);
-        }
-        self.agenda.append(added)
+        let _ = alloc;
+        self.agenda.put(link, ManagementMessage::ToMember(m))
     }
 }

@@ -1,12 +1,14 @@
 //! One end of an enrolment: its session and its machine.
-ghost use Rattle.std.specs.Prelude.{◌≡◌, [], ◌∷◌, None, Some, MatchBool, IfOk, OnOk};
+ghost use Rattle.std.specs.Prelude.{◌≡◌, [], ◌∷◌, None, Some, MatchBool, MatchOption, IfOk, OnOk};
 ghost use Rattle.std.specs.Result.{result_ok};
 ghost use Rattle.rina_session.specs.declared.session.State.TheVariants.{Idle};
+ghost use Rattle.rina_session.specs.Sessions.{got, sent};
 ghost use Rattle.rina_enrol.specs.Machines.{new_joiner, new_member};
 ghost use Rattle.rina_agent.specs.Enrolments.{heard, spoken, all_spoken, exchanged, answer_of, end_after, stepped};
 ghost use Rattle.rina_agent.specs.declared.enrolment.End.TheVariants.{Joins, Joined};
 
 use rina_base::{Memory, Name};
+use rina_cdap::Message;
 use rina_enrol::{EnrolDo, EnrolEvent, Joiner, LinkMessage, Member};
 use rina_session::{Session, SessionError};
 use std::alloc::Global;
@@ -28,13 +30,6 @@ pub struct Enrolment {
     pub end: End,
 }
 
-/// The answer of a machine, and the end after it.
-#[derive(Drop)]
-pub(crate) struct Answered {
-    pub end: End,
-    pub does: EnrolDo,
-}
-
 impl End {
     /// A copy.
     fn copy(&self, alloc: Global) -> Result<End, Memory>
@@ -52,27 +47,37 @@ impl End {
         }
     }
 
-    /// Handles an event.
-    pub(crate) fn step(self, alloc: Global, event: EnrolEvent) -> Result<Answered, Memory>
-        ensures does { IfOk result (λ a. a.does ≡ answer_of self event) }
-        ensures end { IfOk result (λ a. a.end ≡ end_after self event) }
+    /// Handles an event, and tells what the machine of this end answers.
+    fn step(&mut self, alloc: Global, event: EnrolEvent) -> Result<EnrolDo, Memory>
+        ensures does { IfOk result (λ d. d ≡ answer_of self.old event) }
+        ensures after { OnOk result (self.new ≡ end_after self.old event) }
     {
         match self {
-            End::Joins { mut joiner, node } => {
-                let does = joiner.step(alloc, event)?;
-                Ok(Answered {
-                    end: End::Joins { joiner, node },
-                    does,
-                })
-            }
-            End::Joined { mut member } => {
-                let does = member.step(alloc, event)?;
-                Ok(Answered {
-                    end: End::Joined { member },
-                    does,
-                })
-            }
+            End::Joins { joiner, .. } => joiner.step(alloc, event),
+            End::Joined { member } => member.step(alloc, event),
         }
+    }
+}
+
+/// Lets a session get a message of CDAP; false where it is refused.
+fn get(session: &mut Session, m: &Message) -> Result<bool, Memory>
+    ensures { IfOk result (λ b. MatchBool b (result_ok (got session.old m.now) ≡ Some session.new) (result_ok (got session.old m.now) ≡ None)) }
+{
+    match session.on_got(m) {
+        Ok(()) => Ok(true),
+        Err(SessionError::Memory) => Err(Memory),
+        Err(SessionError::WrongState { .. } | SessionError::UnknownInvoke { .. }) => Ok(false),
+    }
+}
+
+/// Lets a session send a message of CDAP; false where it is refused.
+fn send(session: &mut Session, alloc: Global, m: &Message) -> Result<bool, Memory>
+    ensures { IfOk result (λ b. MatchBool b (result_ok (sent session.old m.now) ≡ Some session.new) (result_ok (sent session.old m.now) ≡ None)) }
+{
+    match session.on_sent(alloc, m) {
+        Ok(()) => Ok(true),
+        Err(SessionError::Memory) => Err(Memory),
+        Err(SessionError::WrongState { .. } | SessionError::UnknownInvoke { .. }) => Ok(false),
     }
 }
 
@@ -81,11 +86,7 @@ fn hear(session: &mut Session, alloc: Global, m: &LinkMessage) -> Result<bool, M
     ensures { IfOk result (λ b. MatchBool b (heard session.old m.now ≡ Some session.new) (heard session.old m.now ≡ None)) }
 {
     let m = m.message(alloc)?;
-    match session.on_got(&m) {
-        Ok(()) => Ok(true),
-        Err(SessionError::Memory) => Err(Memory),
-        Err(SessionError::WrongState { .. } | SessionError::UnknownInvoke { .. }) => Ok(false),
-    }
+    get(session, &m)
 }
 
 /// Lets a session send a message; false where it is refused.
@@ -93,15 +94,15 @@ fn speak(session: &mut Session, alloc: Global, m: &LinkMessage) -> Result<bool, 
     ensures { IfOk result (λ b. MatchBool b (spoken session.old m.now ≡ Some session.new) (spoken session.old m.now ≡ None)) }
 {
     let m = m.message(alloc)?;
-    match session.on_sent(alloc, &m) {
-        Ok(()) => Ok(true),
-        Err(SessionError::Memory) => Err(Memory),
-        Err(SessionError::WrongState { .. } | SessionError::UnknownInvoke { .. }) => Ok(false),
-    }
+    send(session, alloc, &m)
 }
 
 /// Lets a session send messages, one after the other; false where one is refused.
-fn speak_all(session: &mut Session, alloc: Global, messages: &[LinkMessage]) -> Result<bool, Memory>
+pub(crate) fn speak_all(
+    session: &mut Session,
+    alloc: Global,
+    messages: &[LinkMessage],
+) -> Result<bool, Memory>
     ensures { IfOk result (λ b. MatchBool b (all_spoken session.old messages.now ≡ Some session.new) (all_spoken session.old messages.now ≡ None)) }
 {
     match messages {
@@ -116,7 +117,7 @@ fn speak_all(session: &mut Session, alloc: Global, messages: &[LinkMessage]) -> 
 }
 
 /// Lets a session get a message and send the replies to it; false where one of them is refused.
-pub(crate) fn exchange(
+fn exchange(
     session: &mut Session,
     alloc: Global,
     m: &LinkMessage,
@@ -156,12 +157,30 @@ impl Enrolment {
         }
     }
 
+    /// Handles a message with the replies to it, and tells what the machine of this end answers. None where the session
+    /// refuses the message or a reply.
+    pub(crate) fn hear(
+        &mut self,
+        alloc: Global,
+        m: &LinkMessage,
+        replies: &[LinkMessage],
+        event: EnrolEvent,
+    ) -> Result<Option<EnrolDo>, Memory>
+        ensures { IfOk result (λ d. MatchOption d (exchanged self.old.session m.now replies.now ≡ None) (λ does. (exchanged self.old.session m.now replies.now ≡ Some self.new.session) × ((self.new ≡ stepped self.old event self.new.session) × (does ≡ answer_of self.old.end event)))) }
+    {
+        if !exchange(&mut self.session, alloc, m, replies)? {
+            return Ok(None);
+        }
+        let does = self.end.step(alloc, event)?;
+        Ok(Some(does))
+    }
+
     /// A copy.
     pub(crate) fn copy(&self, alloc: Global) -> Result<Enrolment, Memory>
         ensures { IfOk result (λ e. e ≡ self.now) }
     {
-        let session = self.session.copy()?;
         let end = self.end.copy(alloc)?;
+        let session = self.session.copy()?;
         Ok(Enrolment { session, end })
     }
 }

@@ -1,9 +1,10 @@
 //! Messages to neighbours: one by one, all items on one link, and one item on all links.
 ghost use Rattle.std.specs.Prelude.{◌≡◌, [], ◌++◌, ◌∷◌, map, IfOk, OnOk};
-ghost use Rattle.rina_agent.specs.Agenda.{near, item_on, floods, is_flooded};
+ghost use Rattle.rina_agent.specs.Agenda.{near, item_on, flood_on, floods, is_flooded};
 
 use crate::link::Link;
 use crate::message::{ManagementMessage, Waiting};
+use crate::vectors::push;
 use rina_base::Memory;
 use rina_enrol::LinkMessage;
 use rina_newest::{Item, Newest};
@@ -31,10 +32,7 @@ pub(crate) fn push_near(
     ensures { OnOk result (added.new.items ≡ added.old.items ++ near link message ∷ []) }
 {
     let message = ManagementMessage::ToNeighbour(message);
-    if added.push(Waiting { link, message }).is_err() {
-        return Err(Memory);
-    }
-    Ok(())
+    push(added, Waiting { link, message })
 }
 
 /// Adds a message for each of some items.
@@ -60,6 +58,19 @@ pub(crate) fn push_items(
     push_all(added, link, items.into_vec())
 }
 
+/// Adds the flood of an item on a link.
+fn push_flood(
+    alloc: Global,
+    added: &mut Vec<Waiting>,
+    item: &Item,
+    link: &Link,
+) -> Result<(), Memory>
+    ensures { OnOk result (added.new.items ≡ added.old.items ++ flood_on item.now link.now ∷ []) }
+{
+    let item = item.copy(alloc)?;
+    push_near(added, link.number, LinkMessage::Flood { item })
+}
+
 /// Adds the floods of an item: one on each link that is up, but the one that is left out.
 pub(crate) fn push_floods(
     alloc: Global,
@@ -72,8 +83,7 @@ pub(crate) fn push_floods(
 {
     for link in links {
         if is_flooded(link, out) {
-            let item = item.copy(alloc)?;
-            push_near(added, link.number, LinkMessage::Flood { item })?;
+            push_flood(alloc, added, item, link)?;
         }
     }
     Ok(())

@@ -1,12 +1,14 @@
 //! New links: those on which a member joins, and those on which it is joined.
-ghost use Rattle.std.specs.Prelude.{◌≡◌, ◌<◌, ◌∷◌, ◌++◌, [], IfOk, OnOk, OnErr};
+ghost use Rattle.std.specs.Prelude.{◌≡◌, ◌<◌, ◌∷◌, ◌++◌, [], Some, IfOk, OnOk, OnErr};
 ghost use Rattle.rina_session.specs.declared.session.State.TheVariants.{Calling};
 ghost use Rattle.rina_enrol.specs.declared.message.LinkMessage.TheVariants.{Connect};
+ghost use Rattle.rina_agent.specs.Agenda.{near};
+ghost use Rattle.rina_agent.specs.Enrolments.{spoken};
 ghost use Rattle.rina_agent.specs.Counts.{spent, unless};
 ghost use Rattle.rina_agent.specs.Rows.{Does, joining, joining_link, joining_state, joined_link};
 
 use crate::agent::Agent;
-use crate::enrolment::Enrolment;
+use crate::enrolment::{Enrolment, speak_all};
 use crate::flood::push_near;
 use crate::link::Link;
 use crate::message::Waiting;
@@ -15,6 +17,41 @@ use rina_base::{AppName, Memory, Name};
 use rina_enrol::LinkMessage;
 use rina_session::Session;
 use std::alloc::Global;
+
+/// CONNECT of a joiner to a member.
+fn connect(
+    alloc: Global,
+    invoke: u32,
+    joiner: &AppName,
+    member: &AppName,
+) -> Result<LinkMessage, Memory>
+    ensures { IfOk result (λ m. m ≡ Connect invoke joiner.now member.now) }
+{
+    let joiner = joiner.copy(alloc)?;
+    let member = member.copy(alloc)?;
+    Ok(LinkMessage::Connect {
+        invoke,
+        joiner,
+        member,
+    })
+}
+
+/// Lets a session send CONNECT.
+fn call(
+    session: &mut Session,
+    alloc: Global,
+    invoke: u32,
+    joiner: &AppName,
+    member: &AppName,
+) -> Result<(), Memory>
+    ensures { OnOk result (spoken session.old (Connect invoke joiner.now member.now) ≡ Some session.new) }
+{
+    let connect = [connect(alloc, invoke, joiner, member)?];
+    if !speak_all(session, alloc, &connect)? {
+        return Err(Memory);
+    }
+    Ok(())
+}
 
 /// A session that sent CONNECT.
 #[tactic(auto, unfolding(rina_session::specs::Sessions::sent, rina_session::specs::Sessions::may_send, rina_session::specs::Sessions::state_after, rina_session::specs::Sessions::sent_waiting, rina_cdap::specs::Messages::is_response, rina_enrol::specs::Messages::message_of))]
@@ -27,16 +64,24 @@ fn calling(
     requires { 0 < invoke }
     ensures { IfOk result (λ s. s ≡ record { state = Calling; waiting = invoke ∷ [] }) }
 {
-    let connect = LinkMessage::Connect {
-        invoke,
-        joiner: joiner.copy(alloc)?,
-        member: member.copy(alloc)?,
-    };
     let mut session = Session::new(alloc);
-    match session.on_sent(alloc, &connect.message(alloc)?) {
-        Ok(()) => Ok(session),
-        Err(_) => Err(Memory),
-    }
+    call(&mut session, alloc, invoke, joiner, member)?;
+    Ok(session)
+}
+
+/// What waits for a new link on which a member joins: CONNECT.
+fn connect_batch(
+    alloc: Global,
+    link: u16,
+    invoke: u32,
+    joiner: &AppName,
+    member: &AppName,
+) -> Result<Vec<Waiting>, Memory>
+    ensures { IfOk result (λ v. v.items ≡ near link (Connect invoke joiner.now member.now) ∷ []) }
+{
+    let mut batch = Vec::new(alloc);
+    push_near(&mut batch, link, connect(alloc, invoke, joiner, member)?)?;
+    Ok(batch)
 }
 
 /// The state of a member that begins to join on a link.
@@ -54,13 +99,15 @@ fn joining_link(
     alloc: Global,
     link: u16,
     invoke: u32,
-    session: Session,
+    joiner: &AppName,
+    member: &AppName,
     node: &Name,
 ) -> Result<Link, Memory>
-    requires { session ≡ record { state = Calling; waiting = invoke ∷ [] } }
+    requires { 0 < invoke }
     ensures { IfOk result (λ l. l ≡ joining_link link invoke node.now) }
 {
     let node = node.copy(alloc)?;
+    let session = calling(alloc, invoke, joiner, member)?;
     Ok(Link {
         number: link,
         peer: None,
@@ -84,38 +131,50 @@ impl Agent {
     {
         check(1, self.last_invoke)?;
         let invoke = self.last_invoke.saturating_add(1);
-        let session = calling(alloc, invoke, &self.name, member)?;
-        let made = joining_link(alloc, link, invoke, session, node)?;
-        let connect = LinkMessage::Connect {
-            invoke,
-            joiner: self.name.copy(alloc)?,
-            member: member.copy(alloc)?,
-        };
-        let mut added = Vec::new(alloc);
-        push_near(&mut added, link, connect)?;
-        self.begin(link, made, invoke, added)?;
+        self.begin(alloc, link, invoke, member, node)?;
         Ok(())
     }
 
-    /// Adds a link and messages that wait for it.
+    /// Lets CONNECT wait for a new link on which this member joins. Without memory nothing changes.
     fn begin(
         &mut self,
-        number: u16,
-        link: Link,
+        alloc: Global,
+        link: u16,
         invoke: u32,
-        added: Vec<Waiting>,
+        member: &AppName,
+        node: &Name,
     ) -> Result<(), Memory>
-        ensures ok { OnOk result (self.new ≡ record self.old { state = joining_state number self.old.state; last_invoke = invoke; links = self.old.links ++ link ∷ []; agenda = self.old.agenda ++ added.items }) }
+        requires { 0 < invoke }
+        ensures ok { OnOk result (self.new ≡ record self.old { state = joining_state link self.old.state; last_invoke = invoke; links = self.old.links ++ joining_link link invoke node.now ∷ []; agenda = self.old.agenda ++ near link (Connect invoke self.old.name member.now) ∷ [] }) }
         ensures err { OnErr result (self.new ≡ self.old) }
     {
+        let added = connect_batch(alloc, link, invoke, &self.name, member)?;
         let before = self.agenda.len();
         self.agenda.append(added)?;
-        if self.links.push(link).is_err() {
+        if self.join(alloc, link, invoke, member, node).is_err() {
             self.agenda.cut(before);
             return Err(Memory);
         }
+        Ok(())
+    }
+
+    /// Adds a new link on which this member joins. Without memory nothing changes.
+    fn join(
+        &mut self,
+        alloc: Global,
+        link: u16,
+        invoke: u32,
+        member: &AppName,
+        node: &Name,
+    ) -> Result<(), Memory>
+        requires { 0 < invoke }
+        ensures ok { OnOk result (self.new ≡ record self.old { state = joining_state link self.old.state; last_invoke = invoke; links = self.old.links ++ joining_link link invoke node.now ∷ [] }) }
+        ensures err { OnErr result (self.new ≡ self.old) }
+    {
+        let made = joining_link(alloc, link, invoke, &self.name, member, node)?;
+        self.links.push(made)?;
         self.last_invoke = invoke;
-        self.state = joining_state(self.state, number);
+        self.state = joining_state(self.state, link);
         Ok(())
     }
 

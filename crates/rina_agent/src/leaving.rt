@@ -7,6 +7,7 @@ ghost use Rattle.rina_agent.specs.Rows.{Does, lost_state, dropped, was_up, lost}
 use crate::agent::Agent;
 use crate::link::{Link, is_numbered, place};
 use crate::state::{AgentError, MemberState, check};
+use crate::vectors::remove;
 use rina_base::{Seq, Tick};
 use std::alloc::Global;
 
@@ -45,7 +46,7 @@ fn take_out(alloc: Global, links: &mut Seq<Link>, number: u16)
         return;
     };
     let mut all = std::mem::replace(links, Seq::new(alloc)).into_vec();
-    let _ = all.remove(at);
+    remove(&mut all, at);
     *links = Seq::from_vec(all);
 }
 

@@ -18,6 +18,7 @@ mod peer;
 mod rows;
 mod state;
 mod text;
+mod vectors;
 
 pub use agenda::Agenda;
 pub use agent::{Agent, first_items};

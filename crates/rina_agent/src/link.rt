@@ -1,8 +1,10 @@
 //! The links of a member, as its management knows them.
-ghost use Rattle.std.specs.Prelude.{◌≡◌, ◌<◌, length, option_copied, slice_get, slice_set, Some, IfOk, IfSome};
+ghost use Rattle.std.specs.Prelude.{◌≡◌, ◌<◌, length, option_copied, slice_get, slice_set, ℕ, ◌∷◌, ◌++◌, [], None, Some, MatchOption, IfOk, IfSome, OnOk};
 ghost use Rattle.rina_agent.specs.Enrolments.{heard_on, is_numbered, place_of, hears};
+ghost use Rattle.rina_agent.specs.Rows.{up_link};
 
-use crate::enrolment::{Enrolment, exchange};
+use crate::enrolment::Enrolment;
+use crate::vectors::swap;
 use rina_base::{Addr, Memory, Seq};
 use rina_enrol::{EnrolDo, EnrolEvent, LinkMessage};
 use std::alloc::Global;
@@ -33,6 +35,30 @@ pub(crate) struct Heard {
     pub does: EnrolDo,
 }
 
+impl Heard {
+    /// The number of the link.
+    pub(crate) fn number(&self) -> u16
+        ensures { result ≡ self.now.link.number }
+    {
+        self.link.number
+    }
+
+    /// From now on the link is up.
+    pub(crate) fn raise(&mut self, peer: Option<Addr>)
+        ensures { self.new ≡ record self.old { link = up_link peer self.old.link } }
+    {
+        self.link.peer = peer;
+        self.link.up = true;
+    }
+
+    /// What the machine of its enrolment answers.
+    pub(crate) fn answer(&self) -> EnrolDo
+        ensures { result ≡ self.now.does }
+    {
+        self.does
+    }
+}
+
 /// A copy of an enrolment, where there is one.
 fn enrolment_copy(enrolment: &Option<Enrolment>, alloc: Global) -> Result<Option<Enrolment>, Memory>
     ensures { IfOk result (λ e. e ≡ enrolment.now) }
@@ -58,6 +84,23 @@ impl Link {
         })
     }
 
+    /// Lets the enrolment that made the link handle a message with the replies to it, and tells what its machine answers.
+    /// None where no enrolment made the link, or its session refuses the message or a reply.
+    fn handle(
+        &mut self,
+        alloc: Global,
+        m: &LinkMessage,
+        replies: &[LinkMessage],
+        event: EnrolEvent,
+    ) -> Result<Option<EnrolDo>, Memory>
+        ensures { (at : ℕ) → IfOk result (λ d. MatchOption d (heard_on at m.now replies.now event self.old ≡ None) (λ does. heard_on at m.now replies.now event self.old ≡ Some (record { at = at; link = self.new; does = does }))) }
+    {
+        match &mut self.enrolment {
+            Some(enrolment) => enrolment.hear(alloc, m, replies, event),
+            None => Ok(None),
+        }
+    }
+
     /// The link after a message and the replies to it. None where no enrolment made the link, or its session refuses
     /// the message or a reply.
     fn hear(
@@ -70,30 +113,21 @@ impl Link {
     ) -> Result<Option<Heard>, Memory>
         ensures { IfOk result (λ h. h ≡ heard_on at m.now replies.now event self.now) }
     {
-        let Some(enrolment) = enrolment_copy(&self.enrolment, alloc)? else {
-            return Ok(None);
-        };
-        let mut session = enrolment.session;
-        if !exchange(&mut session, alloc, m, replies)? {
-            return Ok(None);
+        let mut link = self.copy(alloc)?;
+        match link.handle(alloc, m, replies, event)? {
+            Some(does) => Ok(Some(Heard { at, link, does })),
+            None => Ok(None),
         }
-        let answered = enrolment.end.step(alloc, event)?;
-        let enrolment = Enrolment {
-            session,
-            end: answered.end,
-        };
-        Ok(Some(Heard {
-            at,
-            link: Link {
-                number: self.number,
-                peer: self.peer,
-                weight: self.weight,
-                up: self.up,
-                enrolment: Some(enrolment),
-            },
-            does: answered.does,
-        }))
     }
+}
+
+/// Adds a copy of a link.
+fn push_copy(alloc: Global, copied: &mut Seq<Link>, link: &Link) -> Result<(), Memory>
+    ensures { OnOk result (copied.new ≡ copied.old ++ link.now ∷ []) }
+{
+    let link = link.copy(alloc)?;
+    copied.push(link)?;
+    Ok(())
 }
 
 /// Copies of links, in their order.
@@ -102,7 +136,7 @@ pub(crate) fn copies(alloc: Global, links: &[Link]) -> Result<Seq<Link>, Memory>
 {
     let mut copied = Seq::new(alloc);
     for link in links {
-        copied.push(link.copy(alloc)?)?;
+        push_copy(alloc, &mut copied, link)?;
     }
     Ok(copied)
 }
@@ -141,14 +175,30 @@ pub(crate) fn hear(
     links[at].hear(alloc, at, m, replies, event)
 }
 
-/// Puts a link in the place of another, and gives that back. Takes no memory.
-pub(crate) fn put(alloc: Global, links: &mut Seq<Link>, at: usize, link: Link) -> Link
-    requires { at < length links.old }
-    ensures set { links.new ≡ slice_set links.old at link }
-    ensures back { slice_set links.new at result ≡ links.old }
+/// The same with one reply.
+pub(crate) fn hear_and_reply(
+    alloc: Global,
+    links: &[Link],
+    number: u16,
+    m: &LinkMessage,
+    reply: LinkMessage,
+    event: EnrolEvent,
+) -> Result<Option<Heard>, Memory>
+    ensures heard { IfOk result (λ h. h ≡ hears links.now number m.now (reply ∷ []) event) }
+    ensures within { IfOk result (λ h. IfSome h (λ x. x.at < length links.now)) }
+{
+    let replies = [reply];
+    hear(alloc, links, number, m, &replies, event)
+}
+
+/// Swaps the link that heard a message with the one in its place. Takes no memory.
+pub(crate) fn swap_in(alloc: Global, links: &mut Seq<Link>, heard: &mut Heard)
+    requires { heard.old.at < length links.old }
+    ensures set { links.new ≡ slice_set links.old heard.old.at heard.old.link }
+    ensures at { heard.new.at ≡ heard.old.at }
+    ensures back { slice_set links.new heard.new.at heard.new.link ≡ links.old }
 {
     let mut all = std::mem::replace(links, Seq::new(alloc)).into_vec();
-    let before = std::mem::replace(&mut all[at], link);
+    swap(&mut all, heard.at, &mut heard.link);
     *links = Seq::from_vec(all);
-    before
 }

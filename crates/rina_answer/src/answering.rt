@@ -1,5 +1,5 @@
 //! Answering.
-ghost use Rattle.std.specs.Prelude.{◌≡◌, true, false, Some, IfSome, option_copied};
+ghost use Rattle.std.specs.Prelude.{◌≡◌, true, false, None, Some, IfSome, is_ok, option_copied};
 ghost use Rattle.rina_base.specs.ObjectNames.{IsObjectName};
 ghost use Rattle.rina_rib.specs.Things.{shown};
 ghost use Rattle.rina_answer.specs.Answers.{named, value_of, class_in, class_or, is_asked, create_told, delete_told, read_told, write_told, turn_told, at_name, told, Answers};
@@ -213,10 +213,12 @@ fn answer_at(alloc: Global, rib: &mut Rib, m: &Message, name: &[u8]) -> Result<M
 /// What the objects answer to a message, as CDAP may change them. A request to create, delete, read, write, start or
 /// stop is answered by its response, whose result is 0, or the number of the refusal: 1 also where there is no name,
 /// 6 also where create has no class that is known, 5 also where write has an unknown one. At result 0 it shows the
-/// object: as it was after delete. Any other message is answered by result 6. A call that fails changes nothing.
+/// object: as it was after delete. Any other message is answered by result 6. A call that fails changes nothing. A message
+/// without a name is answered whatever memory there is.
 #[tactic(auto, unfolding(crate::specs::Answers::told))]
 pub fn answer(alloc: Global, rib: &mut Rib, m: &Message) -> Result<Message, Memory>
-    ensures { Answers result rib.old rib.new (told rib.old m.now) }
+    ensures answers { Answers result rib.old rib.new (told rib.old m.now) }
+    ensures unnamed { m.now.name ≡ None → is_ok result ≡ true }
 {
     if !is_request(m.operation) {
         return Ok(refuse(begin(alloc, m)?, 6));

@@ -1,5 +1,5 @@
 //! Answers.
-ghost use Rattle.std.specs.Prelude.{◌≡◌, IfOk};
+ghost use Rattle.std.specs.Prelude.{◌≡◌, IfOk, None, is_ok, true};
 ghost use Rattle.std.specs.Result.{result_ok};
 ghost use Rattle.rina_base.specs.Classes.{class_text};
 ghost use Rattle.rina_rib.specs.Things.{thing};
@@ -89,7 +89,8 @@ fn response_number(m: &Message) -> u8
 
 /// A copy of the name that was asked with.
 fn name_copy(alloc: Global, m: &Message) -> Result<Option<Bytes>, Memory>
-    ensures { IfOk result (λ n. n ≡ m.now.name) }
+    ensures name { IfOk result (λ n. n ≡ m.now.name) }
+    ensures unnamed { m.now.name ≡ None → is_ok result ≡ true }
 {
     match &m.name {
         Some(name) => Ok(Some(Bytes::copy_of(alloc, name.as_slice())?)),
@@ -100,7 +101,8 @@ fn name_copy(alloc: Global, m: &Message) -> Result<Option<Bytes>, Memory>
 /// What each answer has: the response's number, and the invoke id and the name that were asked with.
 #[tactic(auto, unfolding(crate::specs::Answers::begun))]
 pub(crate) fn begin(alloc: Global, m: &Message) -> Result<Message, Memory>
-    ensures { IfOk result (λ b. b ≡ begun m.now) }
+    ensures begun { IfOk result (λ b. b ≡ begun m.now) }
+    ensures unnamed { m.now.name ≡ None → is_ok result ≡ true }
 {
     let name = name_copy(alloc, m)?;
     let mut base = Message::new(response_number(m), m.invoke);

@@ -6,7 +6,7 @@ use Rattle.rina_cdap.specs.declared.error.CdapError.{CdapError}
 use Rattle.rina_cdap.specs.declared.error.CdapError.TheVariants.{Memory, Short, BadTag, BadOp, Twice, Missing, BadValue}
 use Rattle.rina_cdap.specs.declared.message.Message.{Message}
 use Rattle.rina_cdap.specs.Messages.{Field, field, byte, be4, be8, IsLawful, IsRow, last_tag, field_text, text, row_fault, row, contents, fields, Spells, IfThere, InRange}
-use Rattle.rina_cdap.specs.Reading.{field_at, fault_of, fault_behind, IsFault, Reads, Gives}
+use Rattle.rina_cdap.specs.Reading.{field_at, fault_of, fault_behind, IsFault, HasCopied, Reads, Gives}
 use Rattle.rina_cdap.proofs.Fields.{form_short, field_again, lawful_fine}
 
 -- no field that may stand behind one of tag `last` is in front
@@ -211,6 +211,17 @@ first_fault (Err (BadOp n)) bytes h e fault = ap refused (one_fault bytes e (Bad
 first_fault (Err (Twice tag)) bytes h e fault = ap refused (one_fault bytes e (Twice tag) fault h)
 first_fault (Err (Missing tag)) bytes h e fault = ap refused (one_fault bytes e (Missing tag) fault h)
 first_fault (Err (BadValue tag)) bytes h e fault = ap refused (one_fault bytes e (BadValue tag) fault h)
+
+-- with no field that is copied the first fault is told, and not want of memory
+pub told_early : (r : Result Message CdapError) (bytes : List ℕ) → Reads r bytes → (e : CdapError) → IsFault bytes e → (HasCopied bytes → ⊥) → r ≡ Err e
+told_early (Ok n) bytes h e fault none = absurd (no_fault n bytes e h fault)
+told_early (Err Memory) bytes h e fault none = absurd (none h)
+told_early (Err (Short at)) bytes h e fault none = sym (ap refused (one_fault bytes e (Short at) fault h))
+told_early (Err (BadTag at)) bytes h e fault none = sym (ap refused (one_fault bytes e (BadTag at) fault h))
+told_early (Err (BadOp n)) bytes h e fault none = sym (ap refused (one_fault bytes e (BadOp n) fault h))
+told_early (Err (Twice tag)) bytes h e fault none = sym (ap refused (one_fault bytes e (Twice tag) fault h))
+told_early (Err (Missing tag)) bytes h e fault none = sym (ap refused (one_fault bytes e (Missing tag) fault h))
+told_early (Err (BadValue tag)) bytes h e fault none = sym (ap refused (one_fault bytes e (BadValue tag) fault h))
 
 pub ranged : (r : Result Message CdapError) → IfOk r (λ m. InRange m) → (m : Message) → r ≡ Ok m → InRange m
 ranged (Ok n) h m e = subst InRange (inside n m e) h

@@ -1,5 +1,5 @@
 -- The first fault of bytes that are no message.
-use Rattle.std.specs.Prelude.{◌≡◌, ℕ, ◌||◌, ◌&&◌, ◌==◌, nat_lt, List, [], ◌∷◌, ◌++◌, length, take, drop, slice_index, Option, Some, None, Result, Ok, Err, option_map, is_some, if◌then◌else◌}
+use Rattle.std.specs.Prelude.{◌≡◌, ℕ, Bool, true, ◌||◌, ◌&&◌, ◌==◌, nat_lt, List, [], ◌∷◌, ◌++◌, length, take, drop, slice_index, Option, Some, None, Result, Ok, Err, option_map, is_some, if◌then◌else◌}
 use Rattle.std.specs.Int.{w16, from_be_bytes}
 use Rattle.rina_cdap.specs.declared.error.CdapError.{CdapError}
 use Rattle.rina_cdap.specs.declared.error.CdapError.TheVariants.{Memory, Short, BadTag, BadOp, Twice, Missing, BadValue}
@@ -39,9 +39,21 @@ pub record IsFault (bytes : List ℕ) (e : CdapError) : Type 0 where
   pub parts : bytes ≡ text front ++ behind
   pub fault : fault_behind front behind ≡ Some e
 
--- an error of reading bytes: their first fault, or `Memory`, which may come at any time
+-- the content of a field of this tag is copied: a class, a name, a value, a reason, or the name of an application
+unfoldable pub is_copied : ℕ → Bool
+is_copied tag = (tag == 3) || (tag == 4) || (tag == 6) || (tag == 8) || (tag == 9) || (tag == 10)
+
+-- a row of fields stands in front of bytes, and the last of them is copied
+pub record HasCopied (bytes : List ℕ) : Type 0 where
+  pub front : List Field
+  pub behind : List ℕ
+  pub row : IsRow 0 front
+  pub parts : bytes ≡ text front ++ behind
+  pub copied : is_copied (last_tag 0 front) ≡ true
+
+-- an error of reading bytes: their first fault, or `Memory`, which comes only where a field is copied
 abbrev pub Faulty : CdapError → List ℕ → Type 0
-Faulty Memory bytes = Unit {0}
+Faulty Memory bytes = HasCopied bytes
 Faulty (Short at) bytes = IsFault bytes (Short at)
 Faulty (BadTag at) bytes = IsFault bytes (BadTag at)
 Faulty (BadOp n) bytes = IsFault bytes (BadOp n)
@@ -69,6 +81,13 @@ Gives (Err (BadValue tag)) told = told ≡ Err (BadValue tag)
 pub record IsNext (last : ℕ) (bytes : List ℕ) (f : Field) (rest : List ℕ) : Type 0 where
   pub parts : bytes ≡ field_text f ++ rest
   pub lawful : IsLawful last f
+
+-- in front of bytes stands a field that may stand behind one of tag `last`, and it is copied
+pub record IsCopiedNext (last : ℕ) (bytes : List ℕ) : Type 0 where
+  pub front : Field
+  pub rest : List ℕ
+  pub next : IsNext last bytes front rest
+  pub copied : is_copied front.tag ≡ true
 
 -- a fault, or none
 abbrev pub err_of : Option CdapError → Result (Unit {0}) CdapError

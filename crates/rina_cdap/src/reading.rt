@@ -5,7 +5,7 @@ ghost use Rattle.rina_cdap.specs.declared.error.CdapError.{CdapError};
 ghost use Rattle.rina_cdap.specs.declared.error.CdapError.TheVariants.{Memory};
 ghost use Rattle.rina_cdap.specs.declared.message.Message.{Message};
 ghost use Rattle.rina_cdap.specs.Messages.{field, be4, be8, has_form, InRange, Spells};
-ghost use Rattle.rina_cdap.specs.Reading.{field_at, field_fault, fault_of, err_of, IsNext, drafted, Drafts, Finishes, Reads, Gives, IsFault};
+ghost use Rattle.rina_cdap.specs.Reading.{field_at, field_fault, fault_of, err_of, is_copied, HasCopied, IsNext, IsCopiedNext, drafted, Drafts, Finishes, Reads, Gives, IsFault};
 
 use crate::error::CdapError;
 use crate::form::{is_answer, is_formed};
@@ -140,12 +140,12 @@ impl Draft {
     };
 
     /// Puts in the content of a field.
-    #[tactic(auto, unfolding(crate::specs::Messages::has_form, crate::specs::Reading::drafted))]
+    #[tactic(auto, unfolding(crate::specs::Messages::has_form, crate::specs::Reading::drafted, crate::specs::Reading::is_copied))]
     fn put(&mut self, alloc: Global, tag: u8, content: &[u8]) -> Result<(), CdapError>
         requires tag { (1 ≤ tag) × (tag ≤ 12) }
         requires form { has_form tag content.now ≡ true }
         ensures ok { OnOk result (drafted self.new ≡ slice_set (drafted self.old) (tag - 1) (Some content.now)) }
-        ensures err { IfErr result (λ e. e ≡ Memory) }
+        ensures err { IfErr result (λ e. (e ≡ Memory) × (is_copied tag ≡ true)) }
     {
         match tag {
             1 => self.operation = Some(content[0]),
@@ -187,7 +187,7 @@ fn read_field<'a>(
 ) -> Result<Taken<'a>, CdapError>
     ensures ok { IfOk result (λ x. IsNext last rest.now (field x.tag x.content.now) x.rest.now) }
     ensures put { IfOk result (λ x. drafted draft.new ≡ slice_set (drafted draft.old) (x.tag - 1) (Some x.content.now)) }
-    ensures err { IfErr result (λ e. (e ≡ Memory) ⊎ (fault_of at last (field_at rest.now) ≡ Some e)) }
+    ensures err { IfErr result (λ e. ((e ≡ Memory) × IsCopiedNext last rest.now) ⊎ (fault_of at last (field_at rest.now) ≡ Some e)) }
 {
     let taken = next_field(at, last, rest)?;
     draft.put(alloc, taken.tag, taken.content)?;
@@ -255,12 +255,14 @@ fn read_whole(alloc: Global, bytes: &[u8]) -> Result<Message, CdapError>
 /// The message that bytes are, or their first fault from left to right: within a field first `Short`, then
 /// `Twice`, `BadTag`, `BadOp` and `BadValue`; at the end `Missing` for the least tag, and then a request's result.
 pub fn read(alloc: Global, bytes: &[u8]) -> Result<Message, CdapError>
-    // The message is spelled so, or this is the first fault.
+    // The message is spelled so, or this is the first fault; memory may run out only where a field is copied.
     ensures exact { Reads result bytes.now }
     // What is spelled so is read, unless memory runs out.
     ensures only { (m : Message) → InRange m → Spells m bytes.now → Gives result (Ok m) }
     // The first fault is told, unless memory runs out.
     ensures fault { (e : CdapError) → IsFault bytes.now e → Gives result (Err e) }
+    // It is told whatever memory there is, where no field in front of it is copied.
+    ensures early { (e : CdapError) → IsFault bytes.now e → (HasCopied bytes.now → ⊥) → result ≡ Err e }
 {
     read_whole(alloc, bytes)
 }

@@ -20,7 +20,7 @@ use Rattle.rina_data.specs.declared.link.Link.{Link}
 use Rattle.rina_data.specs.declared.step.OutStep.{OutStep}
 use Rattle.rina_data.specs.declared.step.OutStep.TheVariants as out
 use Rattle.rina_data.specs.declared.step.StepError.{StepError}
-use Rattle.rina_data.specs.declared.step.StepError.TheVariants.{Memory, NoIpc, NoLink}
+use Rattle.rina_data.specs.declared.step.StepError.TheVariants.{CountSpent, Memory, NoIpc, NoLink}
 use Rattle.rina_data.specs.Configs.{Config}
 use Rattle.rina_data.specs.Outgoing.{Goes, IsForwarded, IsWrittenOff, Offs, sent_bytes}
 use Rattle.rina_data.specs.Process.{Process, Queue, is_link, link_by, with_offs, with_taken}
@@ -144,6 +144,7 @@ module _ (refuses : Port → ℕ → Option SendError) (m : ChannelsSeen) (lines
   goes_stand (Err Memory) process' kept kept' s = idle_stands process' s.0 s.1
   goes_stand (Err NoIpc) process' kept kept' s = absurd s
   goes_stand (Err NoLink) process' kept kept' s = idle_stands process' s.1 s.2
+  goes_stand (Err (CountSpent need left)) process' kept kept' s = absurd s
 
 goes_at : (refuses : Port → ℕ → Option SendError) (m : ChannelsSeen) (d : DifSeen) (process : Process) (below : Seen) (n : ℕ) (r : Result OutStep StepError) (process' : Process) (below' : Seen) → m.config ≡ d.config → m.clock ≡ d.clock → Goes refuses d.config d.clock process below n r process' below' → Goes refuses m.config m.clock process below n r process' below'
 goes_at refuses m d process below n r process' below' config clock s = subst (λ (g : Config). Goes refuses g m.clock process below n r process' below') (sym config) (subst (λ (t : ℕ). Goes refuses d.config t process below n r process' below') (sym clock) s)

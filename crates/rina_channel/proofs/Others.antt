@@ -15,7 +15,7 @@ use Rattle.rina_data.specs.declared.step.InStep.TheVariants as in_
 use Rattle.rina_data.specs.declared.step.OutStep.{OutStep}
 use Rattle.rina_data.specs.declared.step.OutStep.TheVariants as out
 use Rattle.rina_data.specs.declared.step.StepError.{StepError}
-use Rattle.rina_data.specs.declared.step.StepError.TheVariants.{Memory, NoIpc, NoLink}
+use Rattle.rina_data.specs.declared.step.StepError.TheVariants.{CountSpent, Memory, NoIpc, NoLink}
 use Rattle.rina_data.specs.Outgoing.{Goes, IsForwarded, Offs, sent_bytes}
 use Rattle.rina_data.specs.Process.{Process}
 use Rattle.rina_dif_law.specs.Cloud.{IsMine}
@@ -41,6 +41,7 @@ module _ (m : ChannelsSeen) (lines : List Direction) (ps : List Process) (o : Di
   ins_other i n (Err Memory) o' olines' s = same_below s.2
   ins_other i n (Err NoIpc) o' olines' s = same_below s.3
   ins_other i n (Err NoLink) o' olines' s = same_below s.3
+  ins_other i n (Err (CountSpent need left)) o' olines' s = absurd s
 
   module _ (refuses : Port → ℕ → Option SendError) (others : DifStands o olines below) (apart : AreOthers m o) where
     forwarded_other : (i n : ℕ) (process : Process) (key : Key) (process' : Process) → slice_get o.processes i ≡ Some process → IsForwarded refuses o.config o.clock process below n key process' below' → IsStanding m lines ps below'
@@ -75,9 +76,11 @@ module _ (m : ChannelsSeen) (lines : List Direction) (ps : List Process) (o : Di
     goes_other i n process (Err Memory) process' is s = same_below s.1
     goes_other i n process (Err NoIpc) process' is s = absurd s
     goes_other i n process (Err NoLink) process' is s = same_below s.2
+    goes_other i n process (Err (CountSpent need left)) process' is s = absurd s
 
     pub outs_other : (i n : ℕ) (r : Result OutStep StepError) (o' : DifSeen) → Outs refuses o below i n r o' below' → IsStanding m lines ps below'
     outs_other i n (Ok x) o' s = goes_other i n s.process (Ok x) s.process' s.is_process s.done
     outs_other i n (Err Memory) o' s = goes_other i n s.process (Err Memory) s.process' s.is_process s.done
     outs_other i n (Err NoIpc) o' s = same_below s.2
     outs_other i n (Err NoLink) o' s = goes_other i n s.process (Err NoLink) s.process' s.is_process s.done
+    outs_other i n (Err (CountSpent need left)) o' s = goes_other i n s.process (Err (CountSpent need left)) s.process' s.is_process s.done

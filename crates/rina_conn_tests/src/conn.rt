@@ -1,510 +1,250 @@
 //! What two ends of a connection tell each other.
-use crate::exchange::{Answer, Coming, Event, first_difference, num};
-use rina_base::{Cause, Tick};
-use rina_conn::{Conn, OfferError, Peer};
-use rina_cube::{Cube, Kind};
+use crate::exchange::Event::*;
+use crate::exchange::{Coming, Step, first_difference};
+use rina_base::{Cause, Num, Tick};
+use rina_conn::OfferError;
+use rina_cube::Kind;
 use rina_dtcp::GaveUp;
-use rina_dtp::Verdict;
-use std::test::*;
-
-/// Delta is 40.
-const DATAGRAM: Cube = Cube {
-    id: 1,
-    kind: Kind::Datagram,
-    mpl: 40,
-    r: 0,
-    a: 0,
-    retry: 0,
-    window: 16,
-    largest: 80,
-};
-
-/// Delta is 40.
-const LOOSE: Cube = Cube {
-    id: 2,
-    kind: Kind::Loose,
-    mpl: 40,
-    r: 0,
-    a: 0,
-    retry: 0,
-    window: 16,
-    largest: 240,
-};
-
-/// Delta is 72.
-const RELIABLE: Cube = Cube {
-    id: 3,
-    kind: Kind::Reliable,
-    mpl: 40,
-    r: 30,
-    a: 2,
-    retry: 10,
-    window: 4,
-    largest: 240,
-};
-
-const MAX: u32 = 65_535;
-
-/// A step, and the answer that is wanted.
-type Step = (Tick, Event, Answer);
-
-/// One byte is offered.
-const fn offer(now: Tick, seq: u64) -> Step {
-    (now, Event::Offer(1), Answer::Number(seq))
-}
-
-/// The first piece of an SDU comes, while nothing waits to be passed.
-const fn come(now: Tick, sdu: usize, told: Verdict) -> Step {
-    let coming = Coming {
-        sdu,
-        piece: 0,
-        unpassed: 0,
-    };
-    (now, Event::Come(coming), Answer::Told(told))
-}
+use rina_dtp::Verdict::{self, Off};
 
 const WHOLE: Verdict = Verdict::Accept { whole: 1 };
 
 const PART: Verdict = Verdict::Accept { whole: 0 };
 
-const fn fetch(now: Tick, first: u32) -> Step {
-    (now, Event::Fetch, Answer::First(Some(first)))
-}
+const ZERO: Num = Num { cep: 5, seq: 0 };
 
-const fn pass(now: Tick) -> Step {
-    (now, Event::Pass, Answer::Done)
-}
-
-const fn acknowledge(now: Tick, ack: u32, right: u32) -> Step {
-    (now, Event::Acknowledge, Answer::Ack(Some((ack, right))))
-}
-
-const fn no_ack(now: Tick) -> Step {
-    (now, Event::Acknowledge, Answer::Ack(None))
-}
-
-const fn again(now: Tick, seq: u32, drf: bool) -> Step {
-    (now, Event::Again, Answer::Piece(Some((seq, drf))))
-}
-
-const fn not_again(now: Tick) -> Step {
-    (now, Event::Again, Answer::Piece(None))
-}
-
-const fn not_given_up(now: Tick) -> Step {
-    (now, Event::GiveUp, Answer::GivenUp(None))
-}
-
-const fn sender(now: Tick, next: Option<u64>) -> Step {
-    (now, Event::Sender, Answer::Next(next))
-}
-
-const fn receiver(now: Tick, next: Option<u64>) -> Step {
-    (now, Event::Receiver, Answer::Next(next))
-}
-
-/// Nothing is due at the sender before this tick.
-const fn sender_quiet(now: Tick, until: Tick) -> Step {
-    (now, Event::SenderQuiet, Answer::Quiet(until))
-}
-
-/// Nothing is due at the receiver before this tick.
-const fn receiver_quiet(now: Tick, until: Tick) -> Step {
-    (now, Event::ReceiverQuiet, Answer::Quiet(until))
-}
-
-/// A piece of an SDU comes, while so many SDUs wait to be passed.
-const fn come_at(now: Tick, sdu: usize, piece: usize, unpassed: u32, told: Verdict) -> Step {
-    let coming = Coming {
-        sdu,
-        piece,
-        unpassed,
-    };
-    (now, Event::Come(coming), Answer::Told(told))
-}
-
-const fn ahead(now: Tick, sdu: usize, piece: usize, unpassed: u32, count: usize) -> Step {
-    let coming = Coming {
-        sdu,
-        piece,
-        unpassed,
-    };
-    (now, Event::Ahead(coming), Answer::Count(count))
-}
-
-const fn refuse(now: Tick, len: usize, why: OfferError) -> Step {
-    (now, Event::Offer(len), Answer::Refused(why))
-}
-
-const fn off(now: Tick, sdu: usize, cause: Cause) -> Step {
-    come(now, sdu, Verdict::Off(cause))
-}
-
-#[test]
-fn a_datagram_comes_once(rt: HostRuntime) -> Result<(), Fail> {
-    let steps = [
-        offer(0, 0),
-        come(2, 0, WHOLE),
-        fetch(2, 0),
-        pass(3),
-        off(3, 0, Cause::Duplicate { num: num(0) }),
-        no_ack(5),
-        not_again(30),
-        not_given_up(112),
-    ];
-    let different = first_difference(rt.alloc(), &DATAGRAM, MAX, &steps)?;
-    assert_eq!(rt; different, None);
-    Ok(())
-}
-
-#[test]
-fn datagrams_come_in_any_order(rt: HostRuntime) -> Result<(), Fail> {
-    let steps = [
-        offer(0, 0),
-        offer(0, 1),
-        offer(0, 2),
-        come(2, 2, WHOLE),
-        fetch(2, 2),
-        come(3, 0, WHOLE),
-        fetch(3, 0),
-        come(4, 1, WHOLE),
-        fetch(4, 1),
-    ];
-    let different = first_difference(rt.alloc(), &DATAGRAM, MAX, &steps)?;
-    assert_eq!(rt; different, None);
-    Ok(())
-}
-
-#[test]
-fn a_loose_flow_drops_what_comes_late(rt: HostRuntime) -> Result<(), Fail> {
-    let steps = [
-        offer(0, 0),
-        offer(0, 1),
-        offer(0, 2),
-        come(2, 2, WHOLE),
-        fetch(2, 2),
-        off(3, 0, Cause::Behind { highest: 2 }),
-        off(4, 1, Cause::Behind { highest: 2 }),
-        no_ack(6),
-    ];
-    let different = first_difference(rt.alloc(), &LOOSE, MAX, &steps)?;
-    assert_eq!(rt; different, None);
-    Ok(())
-}
-
-#[test]
-fn what_came_without_state_is_sent_again(rt: HostRuntime) -> Result<(), Fail> {
-    let steps = [
-        offer(0, 0),
-        offer(0, 1),
-        offer(0, 2),
-        off(2, 2, Cause::NoState { drf: false }),
-        come(3, 0, WHOLE),
-        fetch(3, 0),
-        pass(3),
-        come(4, 1, WHOLE),
-        fetch(4, 1),
-        pass(4),
-        no_ack(4),
-        acknowledge(5, 1, 5),
-        no_ack(5),
-        not_again(9),
-        again(10, 2, false),
-        not_again(10),
-        come(12, 2, WHOLE),
-    ];
-    let different = first_difference(rt.alloc(), &RELIABLE, MAX, &steps)?;
-    assert_eq!(rt; different, None);
-    Ok(())
-}
-
-#[test]
-fn an_acknowledgement_opens_the_window(rt: HostRuntime) -> Result<(), Fail> {
-    let steps = [
-        offer(0, 0),
-        offer(0, 1),
-        offer(0, 2),
-        offer(0, 3),
-        refuse(0, 1, OfferError::WindowShut { need: 1, room: 0 }),
-        come(2, 0, WHOLE),
-        fetch(2, 0),
-        pass(2),
-        come(2, 1, WHOLE),
-        fetch(2, 1),
-        pass(2),
-        come(2, 2, WHOLE),
-        fetch(2, 2),
-        pass(2),
-        come(2, 3, WHOLE),
-        fetch(2, 3),
-        pass(2),
-        acknowledge(4, 3, 7),
-        offer(6, 4),
-    ];
-    let different = first_difference(rt.alloc(), &RELIABLE, MAX, &steps)?;
-    assert_eq!(rt; different, None);
-    Ok(())
-}
-
-#[test]
-fn what_is_not_passed_keeps_the_window_shut(rt: HostRuntime) -> Result<(), Fail> {
-    let steps = [
-        offer(0, 0),
-        (0, Event::Offer(160), Answer::Number(1)),
-        come(2, 0, WHOLE),
-        fetch(2, 0),
-        acknowledge(4, 0, 3),
-        pass(5),
-        come(6, 1, PART),
-        acknowledge(7, 1, 4),
-        ahead(8, 1, 1, 0, 1),
-        ahead(8, 1, 1, 4, 0),
-        come_at(8, 1, 1, 4, Verdict::Off(Cause::NoRoom { cap: 4 })),
-        come_at(8, 1, 1, 3, WHOLE),
-        fetch(8, 1),
-        acknowledge(10, 2, 4),
-        pass(11),
-        acknowledge(13, 2, 6),
-    ];
-    let different = first_difference(rt.alloc(), &RELIABLE, MAX, &steps)?;
-    assert_eq!(rt; different, None);
-    Ok(())
-}
-
-#[test]
-fn a_number_is_given_up(rt: HostRuntime) -> Result<(), Fail> {
-    let steps = [
-        offer(0, 0),
-        again(10, 0, true),
-        again(20, 0, true),
-        again(30, 0, true),
-        not_again(40),
-        not_given_up(111),
-        (
-            112,
-            Event::GiveUp,
-            Answer::GivenUp(Some(GaveUp {
-                num: num(0),
-                first: 0,
-                now: 112,
-            })),
-        ),
-    ];
-    let different = first_difference(rt.alloc(), &RELIABLE, MAX, &steps)?;
-    assert_eq!(rt; different, None);
-    Ok(())
-}
-
-#[test]
-fn state_begins_again_with_the_flag(rt: HostRuntime) -> Result<(), Fail> {
-    let steps = [
-        offer(0, 0),
-        come(2, 0, WHOLE),
-        fetch(2, 0),
-        acknowledge(4, 0, 3),
-        receiver(145, Some(1)),
-        receiver(146, None),
-        offer(146, 1),
-        come_at(148, 1, 0, 1, WHOLE),
-        fetch(148, 1),
-        pass(149),
-        acknowledge(150, 1, 4),
-        pass(151),
-        acknowledge(153, 1, 5),
-    ];
-    let different = first_difference(rt.alloc(), &RELIABLE, MAX, &steps)?;
-    assert_eq!(rt; different, None);
-    Ok(())
-}
+/// Exchanges, each on new connections of a kind.
+static STEPS: [Step; 192] = [
+    // a datagram comes once
+    (0, Anew(Kind::Datagram)),
+    (0, Offer(1, Ok(0))),
+    (2, Come(Coming(0, 0, 0), WHOLE)),
+    (2, Fetch(Some(0))),
+    (3, Pass),
+    (
+        3,
+        Come(Coming(0, 0, 0), Off(Cause::Duplicate { num: ZERO })),
+    ),
+    (5, Acknowledge(None)),
+    (30, Again(None)),
+    (112, GiveUp(None)),
+    // datagrams come in any order
+    (0, Anew(Kind::Datagram)),
+    (0, Offer(1, Ok(0))),
+    (0, Offer(1, Ok(1))),
+    (0, Offer(1, Ok(2))),
+    (2, Come(Coming(2, 0, 0), WHOLE)),
+    (2, Fetch(Some(2))),
+    (3, Come(Coming(0, 0, 0), WHOLE)),
+    (3, Fetch(Some(0))),
+    (4, Come(Coming(1, 0, 0), WHOLE)),
+    (4, Fetch(Some(1))),
+    // a datagram flow is quiet
+    (0, Anew(Kind::Datagram)),
+    (0, Offer(1, Ok(0))),
+    (2, Come(Coming(0, 0, 0), WHOLE)),
+    (2, Fetch(Some(0))),
+    (2, SenderQuiet(Tick::MAX)),
+    (2, ReceiverQuiet(Tick::MAX)),
+    // numbers up to 255 are spent until three delta after the last one
+    (0, Anew(Kind::Datagram)),
+    (0, OfferAll(256)),
+    (119, Offer(1, Err(OfferError::NumbersSpent { until: 120 }))),
+    (120, Offer(1, Ok(0))),
+    // a loose flow drops what comes late
+    (0, Anew(Kind::Loose)),
+    (0, Offer(1, Ok(0))),
+    (0, Offer(1, Ok(1))),
+    (0, Offer(1, Ok(2))),
+    (2, Come(Coming(2, 0, 0), WHOLE)),
+    (2, Fetch(Some(2))),
+    (3, Come(Coming(0, 0, 0), Off(Cause::Behind { highest: 2 }))),
+    (4, Come(Coming(1, 0, 0), Off(Cause::Behind { highest: 2 }))),
+    (6, Acknowledge(None)),
+    // an sdu is cut or refused and a connection closed
+    (0, Anew(Kind::Loose)),
+    (0, Offer(200, Ok(0))),
+    (0, Sender(Some(3))),
+    (
+        0,
+        Offer(241, Err(OfferError::TooLong { len: 241, max: 240 })),
+    ),
+    (119, Sender(Some(3))),
+    (120, Sender(None)),
+    (120, Come(Coming(0, 0, 0), PART)),
+    (120, Close(1)),
+    // what came without state is sent again
+    (0, Anew(Kind::Reliable)),
+    (0, Offer(1, Ok(0))),
+    (0, Offer(1, Ok(1))),
+    (0, Offer(1, Ok(2))),
+    (2, Come(Coming(2, 0, 0), Off(Cause::NoState { drf: false }))),
+    (3, Come(Coming(0, 0, 0), WHOLE)),
+    (3, Fetch(Some(0))),
+    (3, Pass),
+    (4, Come(Coming(1, 0, 0), WHOLE)),
+    (4, Fetch(Some(1))),
+    (4, Pass),
+    (4, Acknowledge(None)),
+    (5, Acknowledge(Some((1, 5)))),
+    (5, Acknowledge(None)),
+    (9, Again(None)),
+    (10, Again(Some((2, false)))),
+    (10, Again(None)),
+    (12, Come(Coming(2, 0, 0), WHOLE)),
+    // an acknowledgement opens the window
+    (0, Anew(Kind::Reliable)),
+    (0, Offer(1, Ok(0))),
+    (0, Offer(1, Ok(1))),
+    (0, Offer(1, Ok(2))),
+    (0, Offer(1, Ok(3))),
+    (
+        0,
+        Offer(1, Err(OfferError::WindowShut { need: 1, room: 0 })),
+    ),
+    (2, Come(Coming(0, 0, 0), WHOLE)),
+    (2, Fetch(Some(0))),
+    (2, Pass),
+    (2, Come(Coming(1, 0, 0), WHOLE)),
+    (2, Fetch(Some(1))),
+    (2, Pass),
+    (2, Come(Coming(2, 0, 0), WHOLE)),
+    (2, Fetch(Some(2))),
+    (2, Pass),
+    (2, Come(Coming(3, 0, 0), WHOLE)),
+    (2, Fetch(Some(3))),
+    (2, Pass),
+    (4, Acknowledge(Some((3, 7)))),
+    (6, Offer(1, Ok(4))),
+    // what is not passed keeps the window shut
+    (0, Anew(Kind::Reliable)),
+    (0, Offer(1, Ok(0))),
+    (0, Offer(160, Ok(1))),
+    (2, Come(Coming(0, 0, 0), WHOLE)),
+    (2, Fetch(Some(0))),
+    (4, Acknowledge(Some((0, 3)))),
+    (5, Pass),
+    (6, Come(Coming(1, 0, 0), PART)),
+    (7, Acknowledge(Some((1, 4)))),
+    (8, Ahead(Coming(1, 1, 0), 1)),
+    (8, Ahead(Coming(1, 1, 4), 0)),
+    (8, Come(Coming(1, 1, 4), Off(Cause::NoRoom { cap: 4 }))),
+    (8, Come(Coming(1, 1, 3), WHOLE)),
+    (8, Fetch(Some(1))),
+    (10, Acknowledge(Some((2, 4)))),
+    (11, Pass),
+    (13, Acknowledge(Some((2, 6)))),
+    // a number is given up
+    (0, Anew(Kind::Reliable)),
+    (0, Offer(1, Ok(0))),
+    (10, Again(Some((0, true)))),
+    (20, Again(Some((0, true)))),
+    (30, Again(Some((0, true)))),
+    (40, Again(None)),
+    (111, GiveUp(None)),
+    (
+        112,
+        GiveUp(Some(GaveUp {
+            num: ZERO,
+            first: 0,
+            now: 112,
+        })),
+    ),
+    // state begins again with the flag
+    (0, Anew(Kind::Reliable)),
+    (0, Offer(1, Ok(0))),
+    (2, Come(Coming(0, 0, 0), WHOLE)),
+    (2, Fetch(Some(0))),
+    (4, Acknowledge(Some((0, 3)))),
+    (145, Receiver(Some(1))),
+    (146, Receiver(None)),
+    (146, Offer(1, Ok(1))),
+    (148, Come(Coming(1, 0, 1), WHOLE)),
+    (148, Fetch(Some(1))),
+    (149, Pass),
+    (150, Acknowledge(Some((1, 4)))),
+    (151, Pass),
+    (153, Acknowledge(Some((1, 5)))),
+    // numbers begin again after three delta
+    (0, Anew(Kind::Reliable)),
+    (0, Offer(1, Ok(0))),
+    (2, Come(Coming(0, 0, 0), WHOLE)),
+    (2, Fetch(Some(0))),
+    (4, Acknowledge(Some((0, 3)))),
+    (215, Sender(Some(1))),
+    (216, Sender(None)),
+    (216, Offer(1, Ok(0))),
+    // numbers go on before that
+    (0, Anew(Kind::Reliable)),
+    (0, Offer(1, Ok(0))),
+    (2, Come(Coming(0, 0, 0), WHOLE)),
+    (2, Fetch(Some(0))),
+    (4, Acknowledge(Some((0, 3)))),
+    (215, Offer(1, Ok(1))),
+    // what an ended state held is given up
+    (0, Anew(Kind::Reliable)),
+    (0, Offer(160, Ok(0))),
+    (2, Come(Coming(0, 0, 0), PART)),
+    (145, End(false)),
+    (146, End(true)),
+    (146, Drop(Some(Cause::StateGone { last_in: 2 }))),
+    (146, End(false)),
+    (146, Drop(None)),
+    // no acknowledgement after delta
+    (0, Anew(Kind::Reliable)),
+    (0, Offer(1, Ok(0))),
+    (2, Come(Coming(0, 0, 0), WHOLE)),
+    (2, Fetch(Some(0))),
+    (75, Acknowledge(None)),
+    (75, Pass),
+    (77, Acknowledge(None)),
+    // a sender is quiet until a number is due
+    (0, Anew(Kind::Reliable)),
+    (0, SenderQuiet(Tick::MAX)),
+    (0, Offer(1, Ok(0))),
+    (0, SenderQuiet(10)),
+    (10, Again(Some((0, true)))),
+    (10, SenderQuiet(20)),
+    (15, Offer(1, Ok(1))),
+    (15, SenderQuiet(20)),
+    (20, Again(Some((0, true)))),
+    (25, Again(Some((1, false)))),
+    (30, Again(Some((0, true)))),
+    (35, Again(Some((1, false)))),
+    (45, Again(Some((1, false)))),
+    (45, SenderQuiet(112)),
+    (111, GiveUp(None)),
+    // a connection is quiet until an acknowledgement is due
+    (0, Anew(Kind::Reliable)),
+    (0, Offer(1, Ok(0))),
+    (1, ReceiverQuiet(Tick::MAX)),
+    (2, Come(Coming(0, 0, 0), WHOLE)),
+    (2, Fetch(Some(0))),
+    (2, ReceiverQuiet(4)),
+    (3, Acknowledge(None)),
+    (4, Acknowledge(Some((0, 3)))),
+    (4, ReceiverQuiet(Tick::MAX)),
+    (4, SenderQuiet(Tick::MAX)),
+    // a receiver is quiet until its state ends
+    (0, Anew(Kind::Reliable)),
+    (0, Offer(160, Ok(0))),
+    (2, Come(Coming(0, 0, 0), PART)),
+    (4, Acknowledge(Some((0, 3)))),
+    (4, ReceiverQuiet(146)),
+    (145, End(false)),
+    (146, End(true)),
+    (146, Drop(Some(Cause::StateGone { last_in: 2 }))),
+    (146, ReceiverQuiet(Tick::MAX)),
+    // a closed connection is quiet
+    (0, Anew(Kind::Reliable)),
+    (0, Offer(160, Ok(0))),
+    (2, Come(Coming(0, 0, 0), PART)),
+    (2, ReceiverQuiet(4)),
+    (3, Close(1)),
+    (3, ReceiverQuiet(Tick::MAX)),
+];
 
 #[test]
-fn numbers_begin_again_after_three_delta(rt: HostRuntime) -> Result<(), Fail> {
-    let steps = [
-        offer(0, 0),
-        come(2, 0, WHOLE),
-        fetch(2, 0),
-        acknowledge(4, 0, 3),
-        sender(215, Some(1)),
-        sender(216, None),
-        offer(216, 0),
-    ];
-    let different = first_difference(rt.alloc(), &RELIABLE, MAX, &steps)?;
-    assert_eq!(rt; different, None);
-    Ok(())
-}
-
-#[test]
-fn numbers_go_on_before_that(rt: HostRuntime) -> Result<(), Fail> {
-    let steps = [
-        offer(0, 0),
-        come(2, 0, WHOLE),
-        fetch(2, 0),
-        acknowledge(4, 0, 3),
-        offer(215, 1),
-    ];
-    let different = first_difference(rt.alloc(), &RELIABLE, MAX, &steps)?;
-    assert_eq!(rt; different, None);
-    Ok(())
-}
-
-#[test]
-fn what_an_ended_state_held_is_given_up(rt: HostRuntime) -> Result<(), Fail> {
-    let steps = [
-        (0, Event::Offer(160), Answer::Number(0)),
-        come(2, 0, PART),
-        (145, Event::End, Answer::Gone(false)),
-        (146, Event::End, Answer::Gone(true)),
-        (
-            146,
-            Event::Drop,
-            Answer::Dropped(Some(Cause::StateGone { last_in: 2 })),
-        ),
-        (146, Event::End, Answer::Gone(false)),
-        (146, Event::Drop, Answer::Dropped(None)),
-    ];
-    let different = first_difference(rt.alloc(), &RELIABLE, MAX, &steps)?;
-    assert_eq!(rt; different, None);
-    Ok(())
-}
-
-#[test]
-fn no_acknowledgement_after_delta(rt: HostRuntime) -> Result<(), Fail> {
-    let steps = [
-        offer(0, 0),
-        come(2, 0, WHOLE),
-        fetch(2, 0),
-        no_ack(75),
-        pass(75),
-        no_ack(77),
-    ];
-    let different = first_difference(rt.alloc(), &RELIABLE, MAX, &steps)?;
-    assert_eq!(rt; different, None);
-    Ok(())
-}
-
-#[test]
-fn numbers_are_spent(rt: HostRuntime) -> Result<(), Fail> {
-    let alloc = rt.alloc();
-    let peer = Peer {
-        own: 1,
-        far: 2,
-        scep: 5,
-        dcep: 7,
-    };
-    let mut near = Conn::new(alloc, &DATAGRAM, 80, 255, peer)?;
-    for seq in 0u64..256 {
-        let made = near.offer(alloc, 0, b"x")?;
-        assert_eq!(rt; made.num, num(seq));
-    }
-    let spent = OfferError::NumbersSpent { until: 120 };
-    assert_eq!(rt; near.offer(alloc, 119, b"x").err(), Some(spent));
-    let made = near.offer(alloc, 120, b"x")?;
-    assert_eq!(rt; made.num, num(0));
-    Ok(())
-}
-
-#[test]
-fn an_sdu_is_cut_or_refused_and_a_connection_closed(rt: HostRuntime) -> Result<(), Fail> {
-    let steps = [
-        (0, Event::Offer(200), Answer::Number(0)),
-        sender(0, Some(3)),
-        refuse(0, 241, OfferError::TooLong { len: 241, max: 240 }),
-        sender(119, Some(3)),
-        sender(120, None),
-        come(120, 0, PART),
-        (120, Event::Close, Answer::Kept(1)),
-    ];
-    let different = first_difference(rt.alloc(), &LOOSE, MAX, &steps)?;
-    assert_eq!(rt; different, None);
-    Ok(())
-}
-
-#[test]
-fn a_sender_is_quiet_until_a_number_is_due(rt: HostRuntime) -> Result<(), Fail> {
-    let steps = [
-        sender_quiet(0, Tick::MAX),
-        offer(0, 0),
-        sender_quiet(0, 10),
-        again(10, 0, true),
-        sender_quiet(10, 20),
-        offer(15, 1),
-        sender_quiet(15, 20),
-        again(20, 0, true),
-        again(25, 1, false),
-        again(30, 0, true),
-        again(35, 1, false),
-        again(45, 1, false),
-        sender_quiet(45, 112),
-        not_given_up(111),
-    ];
-    let different = first_difference(rt.alloc(), &RELIABLE, MAX, &steps)?;
-    assert_eq!(rt; different, None);
-    Ok(())
-}
-
-#[test]
-fn a_connection_is_quiet_until_an_acknowledgement_is_due(rt: HostRuntime) -> Result<(), Fail> {
-    let steps = [
-        offer(0, 0),
-        receiver_quiet(1, Tick::MAX),
-        come(2, 0, WHOLE),
-        fetch(2, 0),
-        receiver_quiet(2, 4),
-        no_ack(3),
-        acknowledge(4, 0, 3),
-        receiver_quiet(4, Tick::MAX),
-        sender_quiet(4, Tick::MAX),
-    ];
-    let different = first_difference(rt.alloc(), &RELIABLE, MAX, &steps)?;
-    assert_eq!(rt; different, None);
-    Ok(())
-}
-
-#[test]
-fn a_receiver_is_quiet_until_its_state_ends(rt: HostRuntime) -> Result<(), Fail> {
-    let steps = [
-        (0, Event::Offer(160), Answer::Number(0)),
-        come(2, 0, PART),
-        acknowledge(4, 0, 3),
-        receiver_quiet(4, 146),
-        (145, Event::End, Answer::Gone(false)),
-        (146, Event::End, Answer::Gone(true)),
-        (
-            146,
-            Event::Drop,
-            Answer::Dropped(Some(Cause::StateGone { last_in: 2 })),
-        ),
-        receiver_quiet(146, Tick::MAX),
-    ];
-    let different = first_difference(rt.alloc(), &RELIABLE, MAX, &steps)?;
-    assert_eq!(rt; different, None);
-    Ok(())
-}
-
-#[test]
-fn a_datagram_flow_is_quiet(rt: HostRuntime) -> Result<(), Fail> {
-    let steps = [
-        offer(0, 0),
-        come(2, 0, WHOLE),
-        fetch(2, 0),
-        sender_quiet(2, Tick::MAX),
-        receiver_quiet(2, Tick::MAX),
-    ];
-    let different = first_difference(rt.alloc(), &DATAGRAM, MAX, &steps)?;
-    assert_eq!(rt; different, None);
-    Ok(())
-}
-
-#[test]
-fn a_closed_connection_is_quiet(rt: HostRuntime) -> Result<(), Fail> {
-    let steps = [
-        (0, Event::Offer(160), Answer::Number(0)),
-        come(2, 0, PART),
-        receiver_quiet(2, 4),
-        (3, Event::Close, Answer::Kept(1)),
-        receiver_quiet(3, Tick::MAX),
-    ];
-    let different = first_difference(rt.alloc(), &RELIABLE, MAX, &steps)?;
-    assert_eq!(rt; different, None);
-    Ok(())
+fn each_exchange_has_its_answers(rt: HostRuntime) {
+    assert_eq!(rt; first_difference(rt.alloc(), &STEPS), Ok(None));
 }

@@ -1,7 +1,6 @@
 //! Cutting SDUs and joining pieces.
 use rina_delim::{Joined, Joiner, Part, Run, cut};
-use std::process::Abort;
-use std::test::*;
+use std::test::Fail;
 
 const fn part(first: bool, last: bool, at: u32, len: u32) -> Part {
     Part {
@@ -12,67 +11,66 @@ const fn part(first: bool, last: bool, at: u32, len: u32) -> Part {
     }
 }
 
+/// Whether these are the parts of an SDU of 200 bytes, in pieces of 80 bytes.
+fn are_parts(parts: &[Part]) -> bool {
+    parts
+        == [
+            part(true, false, 0, 80),
+            part(false, false, 80, 80),
+            part(false, true, 160, 40),
+        ]
+        .as_slice()
+}
+
 #[test]
 fn an_sdu_is_cut(rt: HostRuntime) -> Result<(), Fail> {
     let parts = cut(rt.alloc(), 200, 80)?;
-    let wanted = [
-        part(true, false, 0, 80),
-        part(false, false, 80, 80),
-        part(false, true, 160, 40),
-    ];
-    assert_eq!(rt; parts.as_slice(), wanted.as_slice());
+    assert!(rt; are_parts(parts.as_slice()));
     Ok(())
 }
 
-/// Pushes a piece and wants an answer.
-fn push(rt: &impl Abort, joiner: &mut Joiner, piece: (u32, bool, bool, &[u8]), wanted: Joined) {
+/// A piece that begins or ends its SDU, or both, and the bytes in it.
+type Piece<'a> = (u32, bool, bool, &'a [u8]);
+
+/// Whether a joiner has room for a piece and makes this of it.
+fn joins(joiner: &mut Joiner, piece: Piece<'_>, wanted: Joined) -> bool {
     let (seq, first, last, body) = piece;
-    assert!(rt; joiner.has_room(seq, first, body.len()));
-    let answer = joiner.push(seq, first, last, body);
-    assert_eq!(rt; answer, wanted);
+    joiner.has_room(seq, first, body.len()) && joiner.push(seq, first, last, body) == wanted
 }
 
-#[test]
-fn numbers_begin_again_at_0(rt: HostRuntime) -> Result<(), Fail> {
-    let mut joiner = Joiner::new(rt.alloc(), 8)?;
-    push(
-        &rt,
-        &mut joiner,
-        (u32::MAX, true, false, b"ab"),
-        Joined::More,
-    );
-    assert_eq!(rt;
-        joiner.held(),
-        Some(Run {
-            from: u32::MAX,
-            last: u32::MAX
-        })
-    );
-    push(&rt, &mut joiner, (0, false, true, b"c"), Joined::Whole);
-    assert_eq!(rt; joiner.whole(), b"abc".as_slice());
-    assert_eq!(rt; joiner.held(), None);
-    push(
-        &rt,
-        &mut joiner,
-        (0, false, true, b"d"),
-        Joined::Broken { missing: u32::MAX },
-    );
-    Ok(())
+/// Whether 0 follows the greatest number.
+fn begin_again(joiner: &mut Joiner) -> bool {
+    let held = Run {
+        from: u32::MAX,
+        last: u32::MAX,
+    };
+    let broken = Joined::Broken { missing: u32::MAX };
+    joins(joiner, (u32::MAX, true, false, b"ab"), Joined::More)
+        && joiner.held() == Some(held)
+        && joins(joiner, (0, false, true, b"c"), Joined::Whole)
+        && joiner.whole() == b"abc".as_slice()
+        && joiner.held().is_none()
+        && joins(joiner, (0, false, true, b"d"), broken)
 }
 
-#[test]
-fn a_lost_piece_breaks_an_sdu(rt: HostRuntime) -> Result<(), Fail> {
-    let mut joiner = Joiner::new(rt.alloc(), 200)?;
-    push(&rt, &mut joiner, (0, true, false, b"zz"), Joined::More);
-    push(
-        &rt,
-        &mut joiner,
-        (2, false, true, b"z"),
-        Joined::Broken { missing: 1 },
-    );
-    push(&rt, &mut joiner, (3, true, true, b"next"), Joined::Whole);
-    assert_eq!(rt; joiner.whole(), b"next".as_slice());
+/// Whether an SDU is given up for want of its second piece, and the next one is joined.
+fn is_broken(joiner: &mut Joiner) -> bool {
+    let broken = Joined::Broken { missing: 1 };
+    joins(joiner, (0, true, false, b"zz"), Joined::More)
+        && joins(joiner, (2, false, true, b"z"), broken)
+        && joins(joiner, (3, true, true, b"next"), Joined::Whole)
+        && joiner.whole() == b"next".as_slice()
+}
+
+/// Whether a joiner that is reset holds nothing.
+fn is_reset(joiner: &mut Joiner) -> bool {
     joiner.reset();
-    assert_eq!(rt; joiner.whole(), b"".as_slice());
+    joiner.whole().is_empty()
+}
+
+#[test]
+fn numbers_begin_again_at_0_and_a_lost_piece_breaks_an_sdu(rt: HostRuntime) -> Result<(), Fail> {
+    let mut joiner = Joiner::new(rt.alloc(), 8)?;
+    assert!(rt; begin_again(&mut joiner) && is_broken(&mut joiner) && is_reset(&mut joiner));
     Ok(())
 }

@@ -1,9 +1,10 @@
 //! Numbers and receivers.
-use rina_base::{Cause, Key, Num, PduKind, PduView};
+ghost use Rattle.rina_cube.specs.Cubes.{IsCube};
+
+use rina_base::{Cause, Key, Memory, Num, PduKind, PduView};
 use rina_cube::{Cube, Kind};
 use rina_dtp::{Numbers, NumbersSpent, Rx, Verdict};
-use std::process::Abort;
-use std::test::*;
+use std::alloc::Global;
 
 /// Delta is 40.
 const LOOSE: Cube = Cube {
@@ -68,112 +69,126 @@ const fn duplicate(seq: u64) -> Verdict {
     })
 }
 
-/// Gives a piece and wants an answer.
-fn came(rt: &impl Abort, rx: &mut Rx, now: u32, pdu: &PduView<'_>, wanted: Verdict) {
-    assert!(rt; now <= 1000);
-    let told = rx.on_data(now, pdu, 0);
-    assert_eq!(rt; told, wanted);
-}
-
-/// Fetches an SDU.
-fn fetched(rt: &impl Abort, rx: &mut Rx, first: u32, pieces: u32, bytes: &[u8]) {
-    match rx.next_whole() {
-        None => assert!(rt; false),
-        Some(sdu) => {
-            assert_eq!(rt; sdu.first, first);
-            assert_eq!(rt; sdu.pieces, pieces);
-            assert_eq!(rt; sdu.bytes, bytes);
-        }
-    }
-}
-
 const ONE: Verdict = Verdict::Accept { whole: 1 };
 
 const NONE: Verdict = Verdict::Accept { whole: 0 };
 
+/// Whether a piece is told so.
+fn came(rx: &mut Rx, now: u32, pdu: &PduView<'_>, wanted: Verdict) -> bool {
+    now <= 1000 && rx.on_data(now, pdu, 0) == wanted
+}
+
+/// Whether a piece is refused for this cause.
+fn is_off(rx: &mut Rx, now: u32, pdu: &PduView<'_>, cause: Cause) -> bool {
+    came(rx, now, pdu, Verdict::Off(cause))
+}
+
+/// Whether the SDU that is fetched is this one.
+fn fetched(rx: &mut Rx, first: u32, pieces: u32, bytes: &[u8]) -> bool {
+    match rx.next_whole() {
+        Some(sdu) => sdu.first == first && sdu.pieces == pieces && sdu.bytes == bytes,
+        None => false,
+    }
+}
+
+/// Whether new numbers up to 255 are spent until three delta after the last one.
+fn are_spent(numbers: &mut Numbers) -> bool {
+    numbers.next(0, true, 40).is_none()
+        && numbers.take(0, 256, true, 40) == Ok(0)
+        && numbers.take(0, 1, true, 40) == Err(NumbersSpent { until: 120 })
+        && numbers.next(119, true, 40) == Some(256)
+        && numbers.take(120, 1, false, 40) == Err(NumbersSpent { until: 120 })
+        && numbers.take(120, 1, true, 40) == Ok(0)
+}
+
+/// Whether numbers go on until three delta after the last one was sent again.
+fn go_on(numbers: &mut Numbers) -> bool {
+    numbers.again(130);
+    numbers.next(249, true, 40) == Some(1) && numbers.next(250, true, 40).is_none()
+}
+
 #[test]
 fn numbers_begin_again_after_three_delta(rt: HostRuntime) {
     let mut numbers = Numbers::new(255);
-    assert_eq!(rt; numbers.next(0, true, 40), None);
-    assert_eq!(rt; numbers.take(0, 256, true, 40), Ok(0));
-    assert_eq!(rt;
-        numbers.take(0, 1, true, 40),
-        Err(NumbersSpent { until: 120 })
-    );
-    assert_eq!(rt; numbers.next(119, true, 40), Some(256));
-    assert_eq!(rt;
-        numbers.take(120, 1, false, 40),
-        Err(NumbersSpent { until: 120 })
-    );
-    assert_eq!(rt; numbers.take(120, 1, true, 40), Ok(0));
-    numbers.again(130);
-    assert_eq!(rt; numbers.next(249, true, 40), Some(1));
-    assert_eq!(rt; numbers.next(250, true, 40), None);
+    assert!(rt; are_spent(&mut numbers) && go_on(&mut numbers));
+}
+
+/// Whether an SDU is given up for want of its second piece.
+fn is_broken(rx: &mut Rx) -> bool {
+    let missing = Cause::Broken { missing: 1 };
+    came(rx, 2, &piece(0, true, true, false, b"zz"), NONE)
+        && rx.joining() == Some(0)
+        && is_off(rx, 2, &piece(2, false, false, true, b"z"), missing)
+        && rx.dropped(2) == Some((key(0), missing))
+        && rx.dropped(2).is_none()
+}
+
+/// Whether a later SDU comes, and the lost piece comes too late.
+fn goes_on(rx: &mut Rx) -> bool {
+    came(rx, 2, &whole(3, false, b"next"), ONE)
+        && fetched(rx, 3, 1, b"next")
+        && is_off(rx, 2, &whole(1, false, b"x"), Cause::Behind { highest: 3 })
+}
+
+/// Whether a flow begins with a piece that has the flag.
+fn begins(rx: &mut Rx) -> bool {
+    rx.last_in().is_none()
+        && is_off(rx, 2, &whole(2, false, b"c"), Cause::NoState { drf: false })
+        && came(rx, 3, &whole(0, true, b"a"), ONE)
+        && fetched(rx, 0, 1, b"a")
+}
+
+/// Whether pieces after a gap are held.
+fn holds(rx: &mut Rx) -> bool {
+    came(rx, 4, &piece(2, false, false, true, b"d"), Verdict::Hold)
+        && came(rx, 4, &whole(3, false, b"e"), Verdict::Hold)
+        && came(rx, 5, &whole(3, false, b"e"), duplicate(3))
+        && rx.next(5) == Some(1)
+}
+
+/// Whether the piece in the gap would make two SDUs whole.
+fn would_close(alloc: Global, rx: &Rx) -> bool {
+    match rx.ahead(alloc, 6, &piece(1, false, true, false, b"bc"), 0) {
+        Ok(bodies) => bodies.len() == 2,
+        Err(Memory) => false,
+    }
+}
+
+/// Whether the piece in the gap makes two SDUs whole.
+fn closes_the_gap(rx: &mut Rx) -> bool {
+    let two = Verdict::Accept { whole: 2 };
+    came(rx, 6, &piece(1, false, true, false, b"bc"), two)
+        && fetched(rx, 1, 2, b"bcd")
+        && fetched(rx, 3, 1, b"e")
+        && rx.next_whole().is_none()
+        && rx.next(6) == Some(4)
+        && rx.last_in() == Some(6)
+}
+
+/// Whether all is so at a new receiver of a kind.
+fn all_goes(alloc: Global, rx: &mut Rx, kind: Kind) -> bool {
+    match kind {
+        Kind::Reliable => begins(rx) && holds(rx) && would_close(alloc, rx) && closes_the_gap(rx),
+        _ => is_broken(rx) && goes_on(rx),
+    }
+}
+
+/// Whether all is so at a new receiver of a cube.
+fn goes(alloc: Global, cube: &Cube) -> bool
+    requires { IsCube cube.now }
+{
+    match Rx::new(alloc, cube, 80) {
+        Ok(mut rx) => all_goes(alloc, &mut rx, cube.kind),
+        Err(Memory) => false,
+    }
 }
 
 #[test]
-fn a_lost_piece_breaks_its_sdu(rt: HostRuntime) -> Result<(), Fail> {
-    let mut rx = Rx::new(rt.alloc(), &LOOSE, 80)?;
-    came(&rt, &mut rx, 2, &piece(0, true, true, false, b"zz"), NONE);
-    assert_eq!(rt; rx.joining(), Some(0));
-    came(
-        &rt,
-        &mut rx,
-        2,
-        &piece(2, false, false, true, b"z"),
-        Verdict::Off(Cause::Broken { missing: 1 }),
-    );
-    assert_eq!(rt; rx.dropped(2), Some((key(0), Cause::Broken { missing: 1 })));
-    assert_eq!(rt; rx.dropped(2), None);
-    came(&rt, &mut rx, 2, &whole(3, false, b"next"), ONE);
-    fetched(&rt, &mut rx, 3, 1, b"next");
-    came(
-        &rt,
-        &mut rx,
-        2,
-        &whole(1, false, b"x"),
-        Verdict::Off(Cause::Behind { highest: 3 }),
-    );
-    Ok(())
+fn a_lost_piece_breaks_its_sdu(rt: HostRuntime) {
+    assert!(rt; goes(rt.alloc(), &LOOSE));
 }
 
 #[test]
-fn a_reliable_flow_begins_with_the_flag_and_has_no_gap(rt: HostRuntime) -> Result<(), Fail> {
-    let mut rx = Rx::new(rt.alloc(), &RELIABLE, 80)?;
-    assert_eq!(rt; rx.last_in(), None);
-    came(
-        &rt,
-        &mut rx,
-        2,
-        &whole(2, false, b"c"),
-        Verdict::Off(Cause::NoState { drf: false }),
-    );
-    came(&rt, &mut rx, 3, &whole(0, true, b"a"), ONE);
-    fetched(&rt, &mut rx, 0, 1, b"a");
-    came(
-        &rt,
-        &mut rx,
-        4,
-        &piece(2, false, false, true, b"d"),
-        Verdict::Hold,
-    );
-    came(&rt, &mut rx, 4, &whole(3, false, b"e"), Verdict::Hold);
-    came(&rt, &mut rx, 5, &whole(3, false, b"e"), duplicate(3));
-    assert_eq!(rt; rx.next(5), Some(1));
-    let last = piece(1, false, true, false, b"bc");
-    let ahead = rx.ahead(rt.alloc(), 6, &last, 0)?;
-    assert_eq!(rt; ahead.len(), 2);
-    came(
-        &rt,
-        &mut rx,
-        6,
-        &piece(1, false, true, false, b"bc"),
-        Verdict::Accept { whole: 2 },
-    );
-    fetched(&rt, &mut rx, 1, 2, b"bcd");
-    fetched(&rt, &mut rx, 3, 1, b"e");
-    assert!(rt; rx.next_whole().is_none());
-    assert_eq!(rt; rx.next(6), Some(4));
-    assert_eq!(rt; rx.last_in(), Some(6));
-    Ok(())
+fn a_reliable_flow_begins_with_the_flag_and_has_no_gap(rt: HostRuntime) {
+    assert!(rt; goes(rt.alloc(), &RELIABLE));
 }

@@ -4,7 +4,7 @@ ghost use Rattle.rina_cube.specs.Cubes.{IsCube};
 
 use rina_base::{Cause, Cep, Memory, Num, Pdu, PduKind, PduView, Tick};
 use rina_conn::{Conn, ConnDue, Made, OfferError, Peer};
-use rina_cube::Cube;
+use rina_cube::{Cube, Kind};
 use rina_dtcp::GaveUp;
 use rina_dtp::Verdict;
 use std::alloc::Global;
@@ -25,72 +25,85 @@ const FAR: Peer = Peer {
     dcep: NEAR_CEP,
 };
 
-const BYTES: [u8; 400] = [7; 400];
+/// Delta is 40.
+const DATAGRAM: Cube = Cube {
+    id: 1,
+    kind: Kind::Datagram,
+    mpl: 40,
+    r: 0,
+    a: 0,
+    retry: 0,
+    window: 16,
+    largest: 80,
+};
 
-/// The number of a piece that the near end sends.
-pub const fn num(seq: u64) -> Num {
-    Num { cep: NEAR_CEP, seq }
-}
+/// Delta is 40.
+const LOOSE: Cube = Cube {
+    id: 2,
+    kind: Kind::Loose,
+    mpl: 40,
+    r: 0,
+    a: 0,
+    retry: 0,
+    window: 16,
+    largest: 240,
+};
+
+/// Delta is 72.
+const RELIABLE: Cube = Cube {
+    id: 3,
+    kind: Kind::Reliable,
+    mpl: 40,
+    r: 30,
+    a: 2,
+    retry: 10,
+    window: 4,
+    largest: 240,
+};
+
+const BYTES: [u8; 400] = [7; 400];
 
 /// A piece of an SDU that was offered, by their places, while so many SDUs wait to be passed.
 #[derive(Clone, Copy)]
-pub struct Coming {
-    pub sdu: usize,
-    pub piece: usize,
-    pub unpassed: u32,
-}
+pub struct Coming(pub usize, pub usize, pub u32);
 
-/// What happens. The near end sends, and the far end receives.
+/// What happens, and what is told then. The near end sends, and the far end receives.
 #[derive(Clone, Copy)]
 pub enum Event {
-    /// So many bytes are offered.
-    Offer(usize),
+    /// A connection of a kind begins anew.
+    Anew(Kind),
+    /// So many bytes are offered. The number of the SDU is told.
+    Offer(usize, Result<u64, OfferError>),
+    /// So many SDUs of one byte are offered, and have the numbers from 0.
+    OfferAll(u64),
     /// A piece comes.
-    Come(Coming),
+    Come(Coming, Verdict),
     /// It is asked how many SDUs would be whole with a piece.
-    Ahead(Coming),
-    Fetch,
+    Ahead(Coming, usize),
+    /// An SDU is fetched. The number with which it begins is told.
+    Fetch(Option<u32>),
     Pass,
     /// An acknowledgement is made, where one is due, and comes at once.
-    Acknowledge,
-    Again,
-    GiveUp,
-    End,
-    Drop,
-    Close,
-    Sender,
-    Receiver,
+    Acknowledge(Option<(u32, u32)>),
+    /// The number and the data run flag of the piece that is made again are told.
+    Again(Option<(u32, bool)>),
+    GiveUp(Option<GaveUp>),
+    /// Whether state has ended.
+    End(bool),
+    Drop(Option<Cause>),
+    /// The number of pieces that were kept is told.
+    Close(u32),
+    /// The next number is told.
+    Sender(Option<u64>),
+    Receiver(Option<u64>),
     /// It is asked until when nothing is due at the near end.
-    SenderQuiet,
+    SenderQuiet(Tick),
     /// And at the far end.
-    ReceiverQuiet,
+    ReceiverQuiet(Tick),
 }
 
-/// What a step answers.
-#[derive(Clone, Copy, Debug, PartialEq, Eq)]
-pub enum Answer {
-    Done,
-    /// The number of an SDU that was accepted.
-    Number(u64),
-    Refused(OfferError),
-    Told(Verdict),
-    Count(usize),
-    /// The number with which an SDU begins.
-    First(Option<u32>),
-    Ack(Option<(u32, u32)>),
-    /// The number and the data run flag of a piece.
-    Piece(Option<(u32, bool)>),
-    GivenUp(Option<GaveUp>),
-    Gone(bool),
-    Dropped(Option<Cause>),
-    /// How many pieces were kept.
-    Kept(u32),
-    Next(Option<u64>),
-    /// Nothing is due before this tick.
-    Quiet(Tick),
-    /// There is no such piece.
-    Missing,
-}
+/// A tick, and what happens then.
+pub type Step = (Tick, Event);
 
 /// The two ends, and what was offered.
 #[derive(Drop)]
@@ -140,150 +153,190 @@ fn acknowledgement(ack: u32, right: u32) -> PduView<'static> {
 
 /// The PDU of a piece of an SDU that was offered.
 fn piece_of(made: &[Made], coming: Coming) -> Option<&Pdu> {
-    made.get(coming.sdu)?.pdus.get(coming.piece)
+    made.get(coming.0)?.pdus.get(coming.1)
+}
+
+/// The cube of a kind.
+fn cube_of(kind: Kind) -> Cube
+    ensures { IsCube result }
+{
+    match kind {
+        Kind::Datagram => DATAGRAM,
+        Kind::Loose => LOOSE,
+        Kind::Reliable => RELIABLE,
+    }
+}
+
+/// A connection of a kind, with numbers up to 255.
+fn conn(alloc: Global, kind: Kind, peer: Peer) -> Result<Conn, Memory> {
+    let cube = cube_of(kind);
+    Conn::new(alloc, &cube, 80, 255, peer)
+}
+
+/// Whether a number of the near end is the one that is wanted.
+fn is_numbered(num: Num, wanted: Result<u64, OfferError>) -> bool {
+    num.cep == NEAR_CEP && wanted == Ok(num.seq)
 }
 
 impl Ends {
-    fn offer(&mut self, alloc: Global, now: Tick, len: usize) -> Result<Answer, Memory>
+    /// Begins anew on a cube of a kind.
+    fn begin(&mut self, alloc: Global, kind: Kind) -> Result<(), Memory> {
+        self.near = conn(alloc, kind, NEAR)?;
+        self.far = conn(alloc, kind, FAR)?;
+        self.made.clear();
+        Ok(())
+    }
+
+    fn offer(
+        &mut self,
+        alloc: Global,
+        now: Tick,
+        len: usize,
+        wanted: Result<u64, OfferError>,
+    ) -> bool
         requires { now ≤ 10000000 }
     {
         if len > BYTES.len() {
-            return Ok(Answer::Missing);
+            return false;
         }
         match self.near.offer(alloc, now, &BYTES[..len]) {
-            Err(OfferError::Memory) => Err(Memory),
-            Err(refused) => Ok(Answer::Refused(refused)),
             Ok(made) => {
-                let seq = made.num.seq;
-                match self.made.push(made) {
-                    Ok(()) => Ok(Answer::Number(seq)),
-                    Err(_) => Err(Memory),
-                }
+                let num = made.num;
+                self.made.push(made).is_ok() && is_numbered(num, wanted)
             }
+            Err(refused) => wanted == Err(refused),
         }
     }
 
-    fn come(&mut self, now: Tick, coming: Coming) -> Answer
+    fn offer_all(&mut self, alloc: Global, now: Tick, count: u64) -> bool
+        requires { now ≤ 10000000 }
+    {
+        for seq in 0..count {
+            if !self.offer(alloc, now, 1, Ok(seq)) {
+                return false;
+            }
+        }
+        true
+    }
+
+    fn come(&mut self, now: Tick, coming: Coming, wanted: Verdict) -> bool
         requires { now ≤ 10000000 }
     {
         match piece_of(self.made.as_slice(), coming) {
-            Some(pdu) => Answer::Told(self.far.on_data(now, &view(pdu), coming.unpassed)),
-            None => Answer::Missing,
+            Some(pdu) => self.far.on_data(now, &view(pdu), coming.2) == wanted,
+            None => false,
         }
     }
 
-    fn ahead(&self, alloc: Global, now: Tick, coming: Coming) -> Result<Answer, Memory>
+    fn ahead(&self, alloc: Global, now: Tick, coming: Coming, wanted: usize) -> bool
         requires { now ≤ 10000000 }
     {
-        match piece_of(self.made.as_slice(), coming) {
-            Some(pdu) => {
-                let bodies = self.far.ahead(alloc, now, &view(pdu), coming.unpassed)?;
-                Ok(Answer::Count(bodies.len()))
-            }
-            None => Ok(Answer::Missing),
+        let Some(pdu) = piece_of(self.made.as_slice(), coming) else {
+            return false;
+        };
+        match self.far.ahead(alloc, now, &view(pdu), coming.2) {
+            Ok(bodies) => bodies.len() == wanted,
+            Err(Memory) => false,
         }
     }
 
-    fn fetch(&mut self) -> Answer {
+    fn fetch(&mut self, wanted: Option<u32>) -> bool {
         match self.far.next_whole() {
-            Some(sdu) => Answer::First(Some(sdu.first)),
-            None => Answer::First(None),
+            Some(sdu) => wanted == Some(sdu.first),
+            None => wanted.is_none(),
         }
     }
 
-    fn pass(&mut self, now: Tick) -> Answer {
+    fn pass(&mut self, now: Tick) -> bool {
         self.far.passed(now, 0, 1);
-        Answer::Done
+        true
     }
 
-    fn acknowledge(&mut self, now: Tick) -> Answer
+    fn acknowledge(&mut self, now: Tick, wanted: Option<(u32, u32)>) -> bool
         requires { now ≤ 10000000 }
     {
         match self.far.on_clock(now, 6) {
             ConnDue::Ack { ack, right } => {
                 self.near.on_control(&acknowledgement(ack, right));
-                Answer::Ack(Some((ack, right)))
+                wanted == Some((ack, right))
             }
-            _ => Answer::Ack(None),
+            _ => wanted.is_none(),
         }
     }
 
-    fn again(&mut self, now: Tick) -> Answer
+    fn again(&mut self, now: Tick, wanted: Option<(u32, bool)>) -> bool
         requires { now ≤ 10000000 }
     {
         match self.near.on_clock(now, 7) {
-            ConnDue::Again(pdu) => Answer::Piece(Some((pdu.seq, pdu.drf))),
-            _ => Answer::Piece(None),
+            ConnDue::Again(pdu) => wanted == Some((pdu.seq, pdu.drf)),
+            _ => wanted.is_none(),
         }
     }
 
-    fn give_up(&mut self, now: Tick) -> Answer
+    fn give_up(&mut self, now: Tick, wanted: Option<GaveUp>) -> bool
         requires { now ≤ 10000000 }
     {
         match self.near.on_clock(now, 4) {
-            ConnDue::GaveUp(told) => Answer::GivenUp(Some(told)),
-            _ => Answer::GivenUp(None),
+            ConnDue::GaveUp(told) => wanted == Some(told),
+            _ => wanted.is_none(),
         }
     }
 
-    fn end(&mut self, now: Tick) -> Answer
+    fn end(&mut self, now: Tick, wanted: bool) -> bool
         requires { now ≤ 10000000 }
     {
-        match self.far.on_clock(now, 3) {
-            ConnDue::Gone => Answer::Gone(true),
-            _ => Answer::Gone(false),
-        }
+        matches!(self.far.on_clock(now, 3), ConnDue::Gone) == wanted
     }
 
-    fn drop_one(&mut self, now: Tick) -> Answer {
+    fn drop_one(&mut self, now: Tick, wanted: Option<Cause>) -> bool {
         match self.far.dropped(now) {
-            Some((_, cause)) => Answer::Dropped(Some(cause)),
-            None => Answer::Dropped(None),
+            Some((_, cause)) => wanted == Some(cause),
+            None => wanted.is_none(),
         }
     }
 
-    fn step(&mut self, alloc: Global, now: Tick, event: Event) -> Result<Answer, Memory>
+    /// Does what an event says, and tells whether it goes as it is to.
+    fn goes(&mut self, alloc: Global, now: Tick, event: Event) -> bool
         requires { now ≤ 10000000 }
     {
         match event {
-            Event::Offer(len) => self.offer(alloc, now, len),
-            Event::Come(coming) => Ok(self.come(now, coming)),
-            Event::Ahead(coming) => self.ahead(alloc, now, coming),
-            Event::Fetch => Ok(self.fetch()),
-            Event::Pass => Ok(self.pass(now)),
-            Event::Acknowledge => Ok(self.acknowledge(now)),
-            Event::Again => Ok(self.again(now)),
-            Event::GiveUp => Ok(self.give_up(now)),
-            Event::End => Ok(self.end(now)),
-            Event::Drop => Ok(self.drop_one(now)),
-            Event::Close => Ok(Answer::Kept(self.far.close())),
-            Event::Sender => Ok(Answer::Next(self.near.tx_next(now))),
-            Event::Receiver => Ok(Answer::Next(self.far.rx_next(now))),
-            Event::SenderQuiet => Ok(Answer::Quiet(self.near.quiet_until())),
-            Event::ReceiverQuiet => Ok(Answer::Quiet(self.far.quiet_until())),
+            Event::Anew(kind) => self.begin(alloc, kind).is_ok(),
+            Event::Offer(len, wanted) => self.offer(alloc, now, len, wanted),
+            Event::OfferAll(count) => self.offer_all(alloc, now, count),
+            Event::Come(coming, wanted) => self.come(now, coming, wanted),
+            Event::Ahead(coming, wanted) => self.ahead(alloc, now, coming, wanted),
+            Event::Fetch(wanted) => self.fetch(wanted),
+            Event::Pass => self.pass(now),
+            Event::Acknowledge(wanted) => self.acknowledge(now, wanted),
+            Event::Again(wanted) => self.again(now, wanted),
+            Event::GiveUp(wanted) => self.give_up(now, wanted),
+            Event::End(wanted) => self.end(now, wanted),
+            Event::Drop(wanted) => self.drop_one(now, wanted),
+            Event::Close(wanted) => self.far.close() == wanted,
+            Event::Sender(wanted) => self.near.tx_next(now) == wanted,
+            Event::Receiver(wanted) => self.far.rx_next(now) == wanted,
+            Event::SenderQuiet(wanted) => self.near.quiet_until() == wanted,
+            Event::ReceiverQuiet(wanted) => self.far.quiet_until() == wanted,
         }
+    }
+
+    /// The place of the first step that does not go as it is to.
+    fn first_difference(&mut self, alloc: Global, steps: &[Step]) -> Option<usize> {
+        for (place, (now, event)) in steps.iter().enumerate() {
+            if *now > 1000 || !self.goes(alloc, *now, *event) {
+                return Some(place);
+            }
+        }
+        None
     }
 }
 
-/// Goes through an exchange on a connection of this cube, with numbers up to `max`, and tells the place of the first
-/// step that has another answer than is wanted.
-pub fn first_difference(
-    alloc: Global,
-    cube: &Cube,
-    max: u32,
-    steps: &[(Tick, Event, Answer)],
-) -> Result<Option<usize>, Memory>
-    requires { IsCube cube.now }
-{
+/// Goes through exchanges, and tells the place of the first step that does not go as it is to.
+pub fn first_difference(alloc: Global, steps: &[Step]) -> Result<Option<usize>, Memory> {
     let mut ends = Ends {
-        near: Conn::new(alloc, cube, 80, max, NEAR)?,
-        far: Conn::new(alloc, cube, 80, max, FAR)?,
+        near: conn(alloc, Kind::Datagram, NEAR)?,
+        far: conn(alloc, Kind::Datagram, FAR)?,
         made: Vec::new(alloc),
     };
-    for (place, (now, event, wanted)) in steps.iter().enumerate() {
-        if *now > 1000 || ends.step(alloc, *now, *event)? != *wanted {
-            return Ok(Some(place));
-        }
-    }
-    Ok(None)
+    Ok(ends.first_difference(alloc, steps))
 }

@@ -1,24 +1,51 @@
 //! Timers by id.
+ghost use Rattle.std.specs.Prelude.{◌≡◌, length};
+
 use rina_timers::Timers;
-use std::test::*;
+use std::test::Fail;
+
+/// Sets three timers. The slot of 70 begins at 64, and that of both others at 4096.
+fn set_three(timers: &mut Timers)
+    requires { length timers.old ≡ 3 }
+    ensures { length timers.new ≡ 3 }
+{
+    timers.set(0, 5000);
+    timers.set(1, 4999);
+    timers.set(2, 70);
+}
+
+/// Whether the timer at 70 is told, and that none is due before its slot begins.
+fn first_is_told(timers: &mut Timers) -> bool
+    requires { length timers.old ≡ 3 }
+{
+    timers.quiet_until() == 64
+        && timers.any_due(69).is_none()
+        && timers.at(2) == Some(70)
+        && timers.any_due(80) == Some(2)
+        && timers.at(2).is_none()
+        && timers.any_due(80).is_none()
+}
+
+/// Whether the others are told after that.
+fn others_are_told(timers: &mut Timers) -> bool {
+    timers.quiet_until() == 4096
+        && timers.any_due(4999) == Some(1)
+        && timers.any_due(4999).is_none()
+        && timers.quiet_until() == 5000
+}
+
+/// Whether three timers go so.
+fn all_go(timers: &mut Timers) -> bool
+    requires { length timers.old ≡ 3 }
+{
+    let none = timers.cap() == 3 && timers.quiet_until() == u32::MAX;
+    set_three(timers);
+    none && first_is_told(timers) && others_are_told(timers)
+}
 
 #[test]
-fn the_least_tick_and_then_the_least_id_is_due(rt: HostRuntime) -> Result<(), Fail> {
-    let mut timers = Timers::new(rt.alloc(), 5)?;
-    timers.set(3, 20);
-    timers.set(1, 20);
-    timers.set(4, 10);
-    timers.set(0, 5);
-    timers.set(0, 30);
-    timers.set(2, u32::MAX);
-    timers.clear(4);
-    assert_eq!(rt; timers.due(19), None);
-    assert_eq!(rt; timers.due(25), Some(1));
-    assert_eq!(rt; timers.due(25), Some(3));
-    assert_eq!(rt; timers.due(25), None);
-    assert_eq!(rt; timers.due(30), Some(0));
-    assert_eq!(rt; timers.due(u32::MAX - 1), None);
-    assert_eq!(rt; timers.due(u32::MAX), Some(2));
-    assert_eq!(rt; timers.due(u32::MAX), None);
+fn one_that_is_due_is_told_and_a_tick_before_which_none_is(rt: HostRuntime) -> Result<(), Fail> {
+    let mut timers = Timers::new(rt.alloc(), 3)?;
+    assert!(rt; all_go(&mut timers));
     Ok(())
 }

@@ -30,7 +30,7 @@ use Rattle.rina_data.specs.declared.process.IpcProcess.{IpcProcess}
 use Rattle.rina_data.specs.declared.step.OutStep.{OutStep}
 use Rattle.rina_data.specs.declared.step.OutStep.TheVariants as out
 use Rattle.rina_data.specs.declared.step.StepError.{StepError}
-use Rattle.rina_data.specs.declared.step.StepError.TheVariants.{Memory, NoIpc, NoLink}
+use Rattle.rina_data.specs.declared.step.StepError.TheVariants.{CountSpent, Memory, NoIpc, NoLink}
 use Rattle.rina_data.specs.Deciding.{plain, process_of}
 use Rattle.rina_data.specs.Configs.{Config}
 use Rattle.rina_data.specs.Process.{IsQueue, Process, Queue, link_by, queue_place}
@@ -195,6 +195,7 @@ goes_late refuses g now p below n link item promise key left charge (Ok (out.Hel
 goes_late refuses g now p below n link item promise key left charge (Err Memory) process' h k l c less d = (d, refl)
 goes_late refuses g now p below n link item promise key left charge (Err NoIpc) process' h k l c less d = absurd d
 goes_late refuses g now p below n link item promise key left charge (Err NoLink) process' h k l c less d = absurd d
+goes_late refuses g now p below n link item promise key left charge (Err (CountSpent more rest)) process' h k l c less d = absurd d
 
 -- it is held: it was in time, and the flow below refuses it for now
 pub held_back : (refuses : Port → ℕ → Option SendError) (g : Config) (now : ℕ) (p : IpcProcess) (below : Seen) (n : ℕ) (link : Link) (item : Queued) (promise : ℕ) (why : SendError) → IsAtHand p below n link item promise → charge_of now item promise ≤ item.left → refused_below refuses g now below link item promise ≡ Some why → (IsOver why → ⊥) → IsHeld refuses g now below n (process_of p) item why
@@ -252,6 +253,7 @@ goes_tried refuses g now p below n link item promise key (Ok (out.Held why)) pro
 goes_tried refuses g now p below n link item promise key (Err Memory) process' below' h k c d = d
 goes_tried refuses g now p below n link item promise key (Err NoIpc) process' below' h k c d = absurd d
 goes_tried refuses g now p below n link item promise key (Err NoLink) process' below' h k c d = absurd d
+goes_tried refuses g now p below n link item promise key (Err (CountSpent need left)) process' below' h k c d = absurd d
 
 -- the link at hand, as it was looked up
 pub found_link : (links seen : List Link) (n : ℕ) (o : Option Link) (link : Link) → seen ≡ links → o ≡ link_by n seen → o ≡ Some link → link_by n links ≡ Some link
@@ -264,6 +266,7 @@ abbrev pub IsAnswer : Result OutStep StepError → Type 0
 IsAnswer (Ok out.Idle) = ⊥
 IsAnswer (Err NoIpc) = ⊥
 IsAnswer (Err NoLink) = ⊥
+IsAnswer (Err (CountSpent need left)) = ⊥
 IsAnswer other = Unit {0}
 
 pub asks_for : (quiet asks : Type 0) (r : Result OutStep StepError) → IsAnswer r → asks → Asks quiet asks r
@@ -274,6 +277,7 @@ asks_for quiet asks (Ok (out.Held why)) h a = a
 asks_for quiet asks (Err Memory) h a = a
 asks_for quiet asks (Err NoIpc) h a = absurd h
 asks_for quiet asks (Err NoLink) h a = absurd h
+asks_for quiet asks (Err (CountSpent need left)) h a = absurd h
 
 -- what was done is done with this PDU
 pub record IsDealt (held : Queued → SendError → Type 0) (process : Process) (n : ℕ) (item : Queued) (r : Result OutStep StepError) (process' : Process) : Type 0 where
@@ -293,6 +297,7 @@ dealt_late held process n link item key cause (Ok (out.Held why)) process' k d =
 dealt_late held process n link item key cause (Err Memory) process' k d = record { answer = tt; deals = tt }
 dealt_late held process n link item key cause (Err NoIpc) process' k d = absurd d
 dealt_late held process n link item key cause (Err NoLink) process' k d = absurd d
+dealt_late held process n link item key cause (Err (CountSpent need left)) process' k d = absurd d
 
 pub dealt_none : (held : Queued → SendError → Type 0) (process : Process) (n : ℕ) (item : Queued) (e : StepError) (r : Result OutStep StepError) → e ≡ Memory → r ≡ Err e → IsDealt held process n item r process
 dealt_none held process n item e r is err = subst (λ (v : Result OutStep StepError). IsDealt held process n item v process) (sym (err ∙ ap (λ (z : StepError). Err z) is)) (record { answer = tt; deals = tt })
@@ -310,3 +315,4 @@ dealt_tried held own process below n link item key bytes (Ok (out.Held why)) pro
 dealt_tried held own process below n link item key bytes (Err Memory) process' below' k back d = record { answer = tt; deals = tt }
 dealt_tried held own process below n link item key bytes (Err NoIpc) process' below' k back d = absurd d
 dealt_tried held own process below n link item key bytes (Err NoLink) process' below' k back d = absurd d
+dealt_tried held own process below n link item key bytes (Err (CountSpent need left)) process' below' k back d = absurd d

@@ -20,7 +20,7 @@ use Rattle.rina_data.specs.declared.departure.First.{First}
 use Rattle.rina_data.specs.declared.step.OutStep.{OutStep}
 use Rattle.rina_data.specs.declared.step.OutStep.TheVariants as out
 use Rattle.rina_data.specs.declared.step.StepError.{StepError}
-use Rattle.rina_data.specs.declared.step.StepError.TheVariants.{Memory, NoIpc, NoLink}
+use Rattle.rina_data.specs.declared.step.StepError.TheVariants.{CountSpent, Memory, NoIpc, NoLink}
 use Rattle.rina_data.specs.Configs.{Config}
 use Rattle.rina_data.specs.Process.{Process, Queue, IsQueue, link_by, with_offs, with_taken}
 use Rattle.rina_data.specs.Outgoing.{IsOver}
@@ -102,4 +102,5 @@ abbrev pub Asks : (quiet asks : Type 0) → Result OutStep StepError → Type 0
 Asks quiet asks (Ok out.Idle) = quiet
 Asks quiet asks (Err NoLink) = quiet
 Asks quiet asks (Err NoIpc) = ⊥
+Asks quiet asks (Err (CountSpent need left)) = ⊥
 Asks quiet asks result = asks

@@ -11,7 +11,7 @@ use Rattle.rina_data.specs.declared.step.InStep.TheVariants as ins
 use Rattle.rina_data.specs.declared.step.OutStep.{OutStep}
 use Rattle.rina_data.specs.declared.step.OutStep.TheVariants as out
 use Rattle.rina_data.specs.declared.step.StepError.{StepError}
-use Rattle.rina_data.specs.declared.step.StepError.TheVariants.{Memory, NoIpc, NoLink}
+use Rattle.rina_data.specs.declared.step.StepError.TheVariants.{CountSpent, Memory, NoIpc, NoLink}
 
 -- an SDU was sent at a port, and refused
 abbrev pub IsRefused : (Port → List ℕ → Result Num SendError → Type 0) → Port → Type 0
@@ -31,6 +31,7 @@ SendsBelow same does (Ok (out.Held why)) = (port : Port) × (bytes : List ℕ) �
 SendsBelow same does (Err Memory) = same ⊎ ((port : Port) × IsRefused does port)
 SendsBelow same does (Err NoIpc) = same
 SendsBelow same does (Err NoLink) = same
+SendsBelow same does (Err (CountSpent need left)) = same
 
 -- a step in: one SDU was passed where a PDU was taken
 abbrev pub PassesBelow : Type 0 → (Port → Type 0) → Result InStep StepError → Type 0

@@ -16,7 +16,7 @@ use Rattle.rina_queue.specs.declared.queue.Queued.{Queued}
 use Rattle.rina_data.specs.declared.step.OutStep.{OutStep}
 use Rattle.rina_data.specs.declared.step.OutStep.TheVariants as out
 use Rattle.rina_data.specs.declared.step.StepError.{StepError}
-use Rattle.rina_data.specs.declared.step.StepError.TheVariants.{Memory, NoIpc, NoLink}
+use Rattle.rina_data.specs.declared.step.StepError.TheVariants.{CountSpent, Memory, NoIpc, NoLink}
 use Rattle.rina_data.specs.declared.link.Link.{Link}
 use Rattle.rina_data.specs.Configs.{Config}
 use Rattle.rina_data.specs.Process.{Queue, Process, link_by, with_offs, with_taken}
@@ -123,4 +123,5 @@ Goes refuses g now process below n (Ok (out.Off key cause)) process' below' = Of
 Goes refuses g now process below n (Ok (out.Held why)) process' below' = ((item : Queued) × IsHeld refuses g now below n process item why) × (process' ≡ process) × (below' ≡ below)
 Goes refuses g now process below n (Err Memory) process' below' = (process' ≡ process) × (below' ≡ below)
 Goes refuses g now process below n (Err NoIpc) process' below' = ⊥
+Goes refuses g now process below n (Err (CountSpent need left)) process' below' = ⊥
 Goes refuses g now process below n (Err NoLink) process' below' = (link_by n process.links ≡ None) × (process' ≡ process) × (below' ≡ below)

@@ -78,6 +78,8 @@ pub enum StepError {
     NoIpc,
     /// The IPC process has no live link of that number.
     NoLink,
+    /// The member would need `need` version counts, and has `left`.
+    CountSpent { need: u32, left: u32 },
 }
 
 impl From<Memory> for StepError {

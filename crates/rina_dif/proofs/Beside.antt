@@ -19,7 +19,7 @@ use Rattle.rina_data.specs.declared.step.InStep.TheVariants as in_
 use Rattle.rina_data.specs.declared.step.OutStep.{OutStep}
 use Rattle.rina_data.specs.declared.step.OutStep.TheVariants as out
 use Rattle.rina_data.specs.declared.step.StepError.{StepError}
-use Rattle.rina_data.specs.declared.step.StepError.TheVariants.{Memory, NoIpc, NoLink}
+use Rattle.rina_data.specs.declared.step.StepError.TheVariants.{CountSpent, Memory, NoIpc, NoLink}
 use Rattle.rina_dif_law.specs.Accounted.{IsAccounted}
 use Rattle.rina_dif_law.specs.Cloud.{IsMine}
 use Rattle.rina_data.specs.Configs.{Config, Member, config_of}
@@ -118,12 +118,14 @@ goes_aside refuses d o olines below i n process (Ok (out.Held why)) process' bel
 goes_aside refuses d o olines below i n process (Err Memory) process' below' kept kept' so apart is s = aside_same d.config below below' s.1
 goes_aside refuses d o olines below i n process (Err NoIpc) process' below' kept kept' so apart is s = absurd s
 goes_aside refuses d o olines below i n process (Err NoLink) process' below' kept kept' so apart is s = aside_same d.config below below' s.2
+goes_aside refuses d o olines below i n process (Err (CountSpent need left)) process' below' kept kept' so apart is s = absurd s
 
 outs_aside : (refuses : Port → ℕ → Option SendError) (d o : DifSeen) (olines : List Direction) (below : Seen) (i n : ℕ) (r : Result OutStep StepError) (o' : DifSeen) (below' : Seen) → AreKept below → AreKept below' → IsStanding o olines below → AreApart o d → Outs refuses o below i n r o' below' → IsAside d.config below below'
 outs_aside refuses d o olines below i n (Ok x) o' below' kept kept' so apart s = goes_aside refuses d o olines below i n s.process (Ok x) s.process' below' kept kept' so apart s.is_process s.done
 outs_aside refuses d o olines below i n (Err Memory) o' below' kept kept' so apart s = goes_aside refuses d o olines below i n s.process (Err Memory) s.process' below' kept kept' so apart s.is_process s.done
 outs_aside refuses d o olines below i n (Err NoIpc) o' below' kept kept' so apart s = aside_same d.config below below' s.2
 outs_aside refuses d o olines below i n (Err NoLink) o' below' kept kept' so apart s = goes_aside refuses d o olines below i n s.process (Err NoLink) s.process' below' kept kept' so apart s.is_process s.done
+outs_aside refuses d o olines below i n (Err (CountSpent need left)) o' below' kept kept' so apart s = goes_aside refuses d o olines below i n s.process (Err (CountSpent need left)) s.process' below' kept kept' so apart s.is_process s.done
 
 ins_aside : (d o : DifSeen) (olines : List Direction) (below : Seen) (i n : ℕ) (r : Result InStep StepError) (o' : DifSeen) (olines' : List Direction) (below' : Seen) → AreKept below → AreKept below' → IsStanding o olines below → AreApart o d → Ins o olines below i n r o' olines' below' → IsAside d.config below below'
 ins_aside d o olines below i n (Ok in_.Idle) o' olines' below' kept kept' so apart s = aside_same d.config below below' s.3
@@ -140,6 +142,7 @@ ins_aside d o olines below i n (Ok (in_.Took key end)) o' olines' below' kept ke
 ins_aside d o olines below i n (Err Memory) o' olines' below' kept kept' so apart s = aside_same d.config below below' s.2
 ins_aside d o olines below i n (Err NoIpc) o' olines' below' kept kept' so apart s = aside_same d.config below below' s.3
 ins_aside d o olines below i n (Err NoLink) o' olines' below' kept kept' so apart s = aside_same d.config below below' s.3
+ins_aside d o olines below i n (Err (CountSpent need left)) o' olines' below' kept kept' so apart s = absurd s
 
 ins_clock : (o : DifSeen) (olines : List Direction) (below : Seen) (i n : ℕ) (r : Result InStep StepError) (o' : DifSeen) (olines' : List Direction) (below' : Seen) → Ins o olines below i n r o' olines' below' → below'.now ≡ below.now
 ins_clock o olines below i n (Ok in_.Idle) o' olines' below' s = ap (λ (x : Seen). x.now) s.3
@@ -147,6 +150,7 @@ ins_clock o olines below i n (Ok (in_.Took key end)) o' olines' below' s = ap (�
 ins_clock o olines below i n (Err Memory) o' olines' below' s = ap (λ (x : Seen). x.now) s.2
 ins_clock o olines below i n (Err NoIpc) o' olines' below' s = ap (λ (x : Seen). x.now) s.3
 ins_clock o olines below i n (Err NoLink) o' olines' below' s = ap (λ (x : Seen). x.now) s.3
+ins_clock o olines below i n (Err (CountSpent need left)) o' olines' below' s = absurd s
 
 -- so a DIF holds on
 holds_aside : (d : Dif) (lines : List Direction) (below below' : Seen) → IsAside (config_of d.settings) below below' → Holds d lines below → Holds d lines below'
@@ -200,6 +204,7 @@ step_clock d refuses below i n (Ok x) d' below' s = ap (λ (y : DifSeen). y.cloc
 step_clock d refuses below i n (Err Memory) d' below' s = ap (λ (y : DifSeen). y.clock) s.new_is
 step_clock d refuses below i n (Err NoIpc) d' below' s = ap (λ (y : DifSeen). y.clock) s.1
 step_clock d refuses below i n (Err NoLink) d' below' s = ap (λ (y : DifSeen). y.clock) s.new_is
+step_clock d refuses below i n (Err (CountSpent need left)) d' below' s = ap (λ (y : DifSeen). y.clock) s.new_is
 
 pub out_is_step : (refuses : Port → ℕ → Option SendError) (d : Dif) (below : Seen) (i n : ℕ) (r : Result OutStep StepError) (d' : Dif) (below' : Seen) → AreKept below → AreKept below' → Stands d below → Outs refuses (seen_of d) below i n r (seen_of d') below' → ((lines : List Direction) → Holds d lines below → Holds d' lines below') → IsStep d below d' below'
 out_is_step refuses d below i n r d' below' kept kept' st outs keeps =
@@ -308,6 +313,7 @@ clock_is_step d below node (Ok done) d' below' kept kept' later st s = clock_on 
 clock_is_step d below node (Err Memory) d' below' kept kept' later st s = clock_on d below d' st.0 below' st (subst (IsSilent (seen_of d)) (sym s.0.0) (silent_refl (seen_of d))) s.0.1 (over_same below below' s.1)
 clock_is_step d below node (Err NoIpc) d' below' kept kept' later st s = absurd s.0
 clock_is_step d below node (Err NoLink) d' below' kept kept' later st s = absurd s.0
+clock_is_step d below node (Err (CountSpent need left)) d' below' kept kept' later st s = clock_on d below d' st.0 below' st (subst (IsSilent (seen_of d)) (sym s.1) (silent_refl (seen_of d))) s.2 (over_same below below' s.3)
 
 -- a DIF that stands is one at every moment
 pub stands_whole : (d : Dif) (below : Seen) → below.now ≤ 10000000 → Stands d below → IsDif d

@@ -36,7 +36,7 @@ use Rattle.rina_data.specs.declared.step.InStep.TheVariants as in_
 use Rattle.rina_data.specs.declared.step.OutStep.{OutStep}
 use Rattle.rina_data.specs.declared.step.OutStep.TheVariants as out
 use Rattle.rina_data.specs.declared.step.StepError.{StepError}
-use Rattle.rina_data.specs.declared.step.StepError.TheVariants.{Memory, NoIpc, NoLink}
+use Rattle.rina_data.specs.declared.step.StepError.TheVariants.{CountSpent, Memory, NoIpc, NoLink}
 use Rattle.rina_data.specs.declared.step.Took.{Took}
 use Rattle.rina_data.specs.declared.step.Took.TheVariants as took
 use Rattle.rina_dif_law.specs.Binding.{IsBound, asker_next, far_next}
@@ -199,12 +199,14 @@ outs_forwarded refuses g o now below n process (Ok (out.Held why)) process' belo
 outs_forwarded refuses g o now below n process (Err Memory) process' below' kept s = lower_same g below below' s.1
 outs_forwarded refuses g o now below n process (Err NoIpc) process' below' kept s = absurd s
 outs_forwarded refuses g o now below n process (Err NoLink) process' below' kept s = lower_same g below below' s.2
+outs_forwarded refuses g o now below n process (Err (CountSpent need left)) process' below' kept s = absurd s
 
 pub outs_lower : (refuses : Port → ℕ → Option SendError) (g : Config) (d : DifSeen) (below : Seen) (i n : ℕ) (r : Result OutStep StepError) (d' : DifSeen) (below' : Seen) → AreKept below' → Outs refuses d below i n r d' below' → LowerStays g below below'
 outs_lower refuses g d below i n (Ok x) d' below' kept s = outs_forwarded refuses g d.config d.clock below n s.process (Ok x) s.process' below' kept s.done
 outs_lower refuses g d below i n (Err Memory) d' below' kept s = lower_same g below below' s.done.1
 outs_lower refuses g d below i n (Err NoIpc) d' below' kept s = lower_same g below below' s.2
 outs_lower refuses g d below i n (Err NoLink) d' below' kept s = lower_same g below below' s.done.2
+outs_lower refuses g d below i n (Err (CountSpent need left)) d' below' kept s = absurd s.done
 
 pub outs_caused : (refuses : Port → ℕ → Option SendError) (d : DifSeen) (below : Seen) (i n : ℕ) (r : Result OutStep StepError) (d' : DifSeen) (below' : Seen) → AreKept below' → AreCaused d below → Outs refuses d below i n r d' below' → AreCaused d' below'
 outs_caused refuses d below i n r d' below' kept c s = caused_on d d' below below' (none_outs r s) (outs_lower refuses d.config d below i n r d' below' kept s) c
@@ -217,6 +219,7 @@ outs_caused refuses d below i n r d' below' kept c s = caused_on d d' below belo
     none_outs (Err Memory) s = by_process s.process' s.new_is
     none_outs (Err NoIpc) s = none_is d d' s.1
     none_outs (Err NoLink) s = by_process s.process' s.new_is
+    none_outs (Err (CountSpent need left)) s = by_process s.process' s.new_is
 
 -- What comes
 
@@ -259,6 +262,7 @@ ins_none d lines below i n (Ok (in_.Took key end)) d' lines' below' s = settles_
 ins_none d lines below i n (Err Memory) d' lines' below' s = none_is d d' s.0
 ins_none d lines below i n (Err NoIpc) d' lines' below' s = none_is d d' s.1
 ins_none d lines below i n (Err NoLink) d' lines' below' s = none_is d d' s.1
+ins_none d lines below i n (Err (CountSpent need left)) d' lines' below' s = absurd s
 
 pub ins_lower : (g : Config) (d : DifSeen) (lines : List Direction) (below : Seen) (i n : ℕ) (r : Result InStep StepError) (d' : DifSeen) (lines' : List Direction) (below' : Seen) → AreKept below' → Ins d lines below i n r d' lines' below' → LowerStays g below below'
 ins_lower g d lines below i n (Ok in_.Idle) d' lines' below' kept s = lower_same g below below' s.3
@@ -266,6 +270,7 @@ ins_lower g d lines below i n (Ok (in_.Took key end)) d' lines' below' kept s = 
 ins_lower g d lines below i n (Err Memory) d' lines' below' kept s = lower_same g below below' s.2
 ins_lower g d lines below i n (Err NoIpc) d' lines' below' kept s = lower_same g below below' s.3
 ins_lower g d lines below i n (Err NoLink) d' lines' below' kept s = lower_same g below below' s.3
+ins_lower g d lines below i n (Err (CountSpent need left)) d' lines' below' kept s = absurd s
 
 pub ins_caused : (d : DifSeen) (lines : List Direction) (below : Seen) (i n : ℕ) (r : Result InStep StepError) (d' : DifSeen) (lines' : List Direction) (below' : Seen) → AreKept below' → AreCaused d below → Ins d lines below i n r d' lines' below' → AreCaused d' below'
 ins_caused d lines below i n r d' lines' below' kept c s = caused_on d d' below below' (ins_none d lines below i n r d' lines' below' s) (ins_lower d.config d lines below i n r d' lines' below' kept s) c

@@ -31,7 +31,7 @@ use Rattle.rina_dif.specs.Shown.{seen_of}
 use Rattle.rina_dif.specs.Changing.{EndsFlow, without_flow_at}
 use Rattle.rina_dif.specs.Timely.{AcknowledgesAs, ForgetsAs, GivesUp, GivesUpAs, IsHomeEnd, SendsAgainAs}
 use Rattle.rina_member.specs.declared.management.Management.{Management}
-use Rattle.rina_dif.specs.Unlinking.{FindsLostAt, LosesAs}
+use Rattle.rina_dif.specs.Unlinking.{AnswersLoss, FindsLostAt, LosesAs}
 
 same_some : {X : Type 0} (o : Option X) (a b : X) → o ≡ Some a → o ≡ Some b → a ≡ b
 same_some o a b h g = cc
@@ -320,11 +320,19 @@ served_done d lines below node (step.LinkNew link) d' below' links none s = (rec
 served_done d lines below node (step.Timeout port) d' below' links none s = (record { lines' = s.0.lines'; does = (none, s.0.does); holds = s.0.holds }, tt)
 served_done d lines below node (step.Message link) d' below' links none s = (record { lines' = s.0.lines'; does = (none, s.0.does); holds = s.0.holds }, tt)
 
+-- a link is lost, and the member makes nothing of it: memory was not found, or no version count is left
+pub loss_refused : (d : Dif) (lines : List Direction) (below : Seen) (node i : ℕ) (lost : Lost) (m : Management) (e : StepError) → home node (config_of d.settings).members ≡ Some i → FindsLostAt d below i (Some lost) → slice_get d.managements i ≡ Some m → AnswersLoss d.clock lost.number m (Err e) → Holds d lines below → StepsHere d lines below node (Err e) d below
+loss_refused d lines below node i lost m why.Memory here finds is answers h = ((refl, h), refl)
+loss_refused d lines below node i lost m (why.CountSpent need left) here finds is answers h = (record { i = i; at_home = here; lacks = record { lost_link = lost; found = finds; management = m; is_management = is; told = answers } }, refl, h, refl)
+loss_refused d lines below node i lost m why.NoIpc here finds is answers h = absurd answers
+loss_refused d lines below node i lost m why.NoLink here finds is answers h = absurd answers
+
 pub served_first : (d : Dif) (lines : List Direction) (below : Seen) (node : ℕ) (r : Result ClockStep StepError) (d' : Dif) (below' : Seen) → LinksStand d below → NoneLostAt d below node → ServesAnyHere d lines below node r d' below' → StepsHere d lines below node r d' below'
 served_first d lines below node (Ok done) d' below' links none s = served_done d lines below node done d' below' links none s
 served_first d lines below node (Err why.Memory) d' below' links none s = s
 served_first d lines below node (Err why.NoIpc) d' below' links none s = absurd s.0
 served_first d lines below node (Err why.NoLink) d' below' links none s = absurd s.0
+served_first d lines below node (Err (why.CountSpent need left)) d' below' links none s = absurd s.0
 
 -- the management connections stay where only the flows are served
 pub same_links : (d x : Dif) → x ≡ record d { processes = x.processes; flows = x.flows; ids = x.ids; managements = x.managements } → x.connections ≡ d.connections

@@ -182,6 +182,7 @@ fails_late d lines below node (Ok done) d' below' h s = late_step d lines below 
 fails_late d lines below node (Err why.Memory) d' below' h s = late_same d lines below d'.flows.journal.ends (ap (λ (z : DifSeen). z.ends) s.0.0)
 fails_late d lines below node (Err why.NoIpc) d' below' h s = absurd s.0
 fails_late d lines below node (Err why.NoLink) d' below' h s = absurd s.0
+fails_late d lines below node (Err (why.CountSpent need left)) d' below' h s = late_same d lines below d'.flows.journal.ends (ap (λ (z : DifSeen). z.ends) s.1)
 
 -- nothing was done
 pub fails_none : (d : Dif) (lines : List Direction) (below : Seen) → FailsLate d lines below d
@@ -197,7 +198,7 @@ not_home : (o : Option ℕ) (P : ℕ → Type 0) (Q : Type 0) → o ≡ None →
 not_home o P Q is q = subst (λ (z : Option ℕ). AtHome z P Q) (sym is) q
 
 -- whether an allocation failed is not seen
-noted : (d : Dif) (lines : List Direction) (below : Seen) (failed : Bool) → d.failed ≡ false → Holds d lines below → Holds (record d { failed = failed }) lines below
+pub noted : (d : Dif) (lines : List Direction) (below : Seen) (failed : Bool) → d.failed ≡ false → Holds d lines below → Holds (record d { failed = failed }) lines below
 noted d lines below failed alive h = record { tied = h.tied; standing = h.standing; carrying = h.carrying; numbered = h.numbered; accounted = h.accounted; caused = h.caused; written_off = h.written_off; housed = h.housed; managed = h.managed; connected = h.connected; flooded = λ still. h.flooded alive }
 
 -- so for a step
@@ -233,6 +234,7 @@ steps_by d lines below node i (Ok done) d' below' failed alive here s managed = 
 steps_by d lines below node i (Err why.Memory) d' below' failed alive here s managed = record { lines' = lines; does = (s.0.0, refl, s.1); managed = managed; holds = noted d' lines below' failed alive s.0.1 }
 steps_by d lines below node i (Err why.NoIpc) d' below' failed alive here s managed = absurd s.0
 steps_by d lines below node i (Err why.NoLink) d' below' failed alive here s managed = absurd s.0
+steps_by d lines below node i (Err (why.CountSpent need left)) d' below' failed alive here s managed = record { lines' = lines; does = (s.0, s.1, refl, s.3); managed = managed; holds = noted d' lines below' failed alive s.2 }
 
 pub steps_home : (d : Dif) (lines : List Direction) (below : Seen) (node i : ℕ) (r r' : Result ClockStep StepError) (d' : Dif) (below' : Seen) (failed : Bool) → d'.failed ≡ false → home node (config_of d.settings).members ≡ Some i → r' ≡ r → StepsHere d lines below node r d' below' → ManagesStep r (Some i) d below node d'.managements → ClockSteps d lines below node r' (record d' { failed = failed }) below'
 steps_home d lines below node i r r' d' below' failed alive here same s managed =

@@ -1,11 +1,17 @@
 -- The members of a DIF stay a network in which what one of them makes is flooded to all.
-use Rattle.std.proofs.Common.{◌≡◌, ◌∙◌, ℕ, zero, suc, ◌+◌, ◌≤◌, true, List, [], ◌∷◌, ◌++◌, Contains, map, slice_get, slice_set, take, Option, Some, None, option_map, Ok, refl, sym, ap, subst, inl, inr, arith}
+use Rattle.std.proofs.Common.{◌≡◌, ◌∙◌, ℕ, zero, suc, ◌+◌, ◌≤◌, Bool, true, false, cond, List, [], ◌∷◌, ◌++◌, Contains, map, slice_get, slice_set, take, Option, Some, None, option_map, Result, Ok, refl, sym, ap, subst, inl, inr, arith}
+use Rattle.std.specs.Prelude.{find}
+use Rattle.std.proofs.lemmas.Bool.{true≢false}
 use Rattle.std.proofs.lemmas.Bool.Decides.{eqb_tells}
 use Rattle.std.proofs.lemmas.List.{map-set, take-append-le}
 use Rattle.std.proofs.lemmas.Option.{slice_get-map}
 use Rattle.rina_agent.specs.declared.agent.Agent.{Agent}
 use Rattle.rina_agent.specs.declared.state.MemberState.TheVariants.{Enrolled}
-use Rattle.rina_agent.specs.Rows.{lost as loses_link}
+use Rattle.rina_agent.specs.declared.state.AgentError.{AgentError}
+use Rattle.rina_agent.specs.Counts.{spent, unless}
+use Rattle.rina_agent.specs.Enrolments.{is_numbered}
+use Rattle.rina_agent.specs.Items.{made, stated}
+use Rattle.rina_agent.specs.Rows.{dropped, lost as loses_link, was_up}
 use Rattle.rina_base.specs.declared.cause.Cause.{Cause}
 use Rattle.rina_base.specs.declared.cause.Cause.TheVariants as causes
 use Rattle.rina_base.specs.declared.number.Port.{Port}
@@ -23,6 +29,7 @@ use Rattle.rina_data.specs.declared.step.Took.{Took}
 use Rattle.rina_data.specs.declared.step.Took.TheVariants as took
 use Rattle.rina_data.specs.Deciding.{process_of}
 use Rattle.rina_data.specs.Process.{Process}
+use Rattle.rina_dir.specs.Directory.{key_of}
 use Rattle.rina_dif_law.specs.Dif.{constants}
 use Rattle.rina_dif_law.specs.Ids.{flipped}
 use Rattle.rina_dif_law.specs.Incoming.{arrived, found, joined_by}
@@ -31,7 +38,7 @@ use Rattle.rina_dif_law.proofs.Own.{direction_in}
 use Rattle.rina_flood.specs.Members.{IsRunOf, LosesLinkAt, MembersSeen}
 use Rattle.rina_flood.specs.Network.{Side, Near, Far}
 use Rattle.rina_flood.specs.Static.{LinkEnd, end_place}
-use Rattle.rina_flood.proofs.Members.{goes_on_run, loses_run, takes_run}
+use Rattle.rina_flood.proofs.Members.{goes_on_run, loses_run, makes_run, takes_run}
 use Rattle.rina_iface.specs.declared.ends.End.{End}
 use Rattle.rina_iface.specs.declared.ends.Journal.{Journal}
 use Rattle.rina_iface.specs.Journal.{At}
@@ -45,7 +52,6 @@ use Rattle.rina_law.specs.Receiver.{Piece}
 use Rattle.rina_flows.specs.declared.flows.Flows.{Flows}
 use Rattle.rina_member.specs.declared.management.Management.{Management}
 use Rattle.rina_member.specs.Managements.{entered, entry_of, takes_item}
-use Rattle.rina_member.proofs.Knowing.{may_make}
 use Rattle.rina_dif.specs.declared.dif.Dif.{Dif}
 use Rattle.rina_dif.specs.Connected.{LinksAreConnected}
 use Rattle.rina_dif.specs.Flooding.{AreFlooding, handled_at, link_end, members_seen, offered_at, texts_of}
@@ -148,6 +154,12 @@ side_at (suc k) = next (side_at k)
     next (l, Near, is) = (l, Far, omega (arith, is))
     next (l, Far, is) = (l + 1, Near, omega (arith, is))
 
+-- where a loss is not refused, and the link is up, a version count is left
+not_refused : (g g' : Agent) (now number : ℕ) (up : Bool) (o : Option AgentError) → was_up (find (is_numbered number) g.links) ≡ up → cond up (unless o (dropped (stated (Some number) g now) number)) (Ok (dropped g number)) ≡ Ok g' → was_up (find (is_numbered number) g.links) ≡ true → o ≡ None
+not_refused g g' now number up None is done on = refl
+not_refused g g' now number true (Some e) is done on = absurd (cc)
+not_refused g g' now number false (Some e) is done on = absurd (true≢false (sym on ∙ is))
+
 pub lost_floods : (d : Dif) (at number : ℕ) (m : Member) (p : IpcProcess) (g g' : Management) (place : ℕ) (link : Link) → AreManaged d → LinksAreConnected d.connections.channels (map process_of d.processes) → slice_get d.settings.members at ≡ Some m → slice_get d.processes at ≡ Some p → slice_get d.managements at ≡ Some g
     → slice_get p.links place ≡ Some link → link.live ≡ true → link.number ≡ number → loses_link g.agent d.clock number ≡ Ok g'.agent → AreFlooding d → AreFlooding (record d { managements = slice_set d.managements at g' })
 lost_floods d at number m p g g' place link managed each is_m is_p is_g stands live number_is loses r =
@@ -165,7 +177,7 @@ lost_floods d at number m p g g' place link managed each is_m is_p is_g stands l
       end = end;
       agent = g.agent;
       at = record { is_end = is_end; is_agent = agent };
-      room = may_make d.settings.members d.laid.links d.clock m p.links g.agent (managed.each at m p g is_m is_p is_g).knows;
+      may = not_refused g.agent g'.agent d.clock number (was_up (find (is_numbered number) g.agent.links)) (spent 1 g.agent.last_count) refl loses;
       after = g'.agent;
       loses = loses;
       stays = record { members = refl; ends = refl };
@@ -175,6 +187,23 @@ lost_floods d at number m p g g' place link managed each is_m is_p is_g stands l
       got = λ k. refl;
     } in
     loses_run d.laid.links (members_seen d) (members_seen new) r event
+
+-- A directory entry is made
+
+pub made_floods : (d : Dif) (at : ℕ) (g g' : Management) (app : List ℕ) (value : Option (List ℕ)) → slice_get d.managements at ≡ Some g → spent 1 g.agent.last_count ≡ None → g'.agent ≡ made None g.agent d.clock (key_of app) value → AreFlooding d → AreFlooding (record d { managements = slice_set d.managements at g' })
+made_floods d at g g' app value is_g may makes r = makes_run d.laid.links (members_seen d) (members_seen (record d { managements = slice_set d.managements at g' })) r (record {
+  place = at;
+  agent = g.agent;
+  is_agent = slice_get-map (λ (z : Management). z.agent) d.managements at ∙ ap (option_map (λ (z : Management). z.agent)) is_g;
+  room = may;
+  app = app;
+  value = value;
+  stays = record { members = refl; ends = refl };
+  now = refl;
+  agents = map-set (λ (z : Management). z.agent) d.managements at g' ∙ ap (slice_set (agents_of d.managements) at) makes;
+  sent = λ k. refl;
+  got = λ k. refl;
+})
 
 -- A directory entry is taken by all
 

@@ -103,6 +103,7 @@ frees_none same frees (Ok (step.Message link)) flow s = s
 frees_none same frees (Err why.Memory) flow s = inl s
 frees_none same frees (Err why.NoIpc) flow s = s
 frees_none same frees (Err why.NoLink) flow s = s
+frees_none same frees (Err (why.CountSpent need left)) flow s = s
 
 -- without memory
 pub frees_over_err : {E : Type 0} (same : Type 0) (frees : Port → Result (Unit {0}) FreeError → Type 0) (r : Result ClockStep E) (e : E) → r ≡ Err e → FreesNone same frees → FreesOver same frees r

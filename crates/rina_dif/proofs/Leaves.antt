@@ -20,7 +20,7 @@ use Rattle.rina_data.specs.declared.settings.Settings.{Settings}
 use Rattle.rina_data.specs.declared.step.OutStep.{OutStep}
 use Rattle.rina_data.specs.declared.step.OutStep.TheVariants as out
 use Rattle.rina_data.specs.declared.step.StepError.{StepError}
-use Rattle.rina_data.specs.declared.step.StepError.TheVariants.{Memory, NoIpc, NoLink}
+use Rattle.rina_data.specs.declared.step.StepError.TheVariants.{CountSpent, Memory, NoIpc, NoLink}
 use Rattle.rina_data.specs.Configs.{Config, config_of, member_of}
 use Rattle.rina_data.specs.Deciding.{process_of, queue_settings}
 use Rattle.rina_dif_law.specs.Dif.{DifSeen, with_process}
@@ -87,6 +87,7 @@ goes_out refuses d below at n (Ok x) p p' below' is goes = record { process = p;
 goes_out refuses d below at n (Err Memory) p p' below' is goes = record { process = p; process' = p'; is_process = is; done = goes; new_is = refl }
 goes_out refuses d below at n (Err NoIpc) p p' below' is goes = absurd goes
 goes_out refuses d below at n (Err NoLink) p p' below' is goes = record { process = p; process' = p'; is_process = is; done = goes; new_is = refl }
+goes_out refuses d below at n (Err (CountSpent need left)) p p' below' is goes = absurd goes
 
 -- the DIF with one IPC process changed
 pub stepped : (d : Dif) (at : ℕ) (p' : IpcProcess) (ps : List IpcProcess) → ps ≡ slice_set d.processes at p' → seen_of (record d { processes = ps }) ≡ with_process (seen_of d) at (process_of p')
@@ -120,6 +121,7 @@ goes_same refuses g now p below n (Ok (out.Held why)) p' below' s = house_is p p
 goes_same refuses g now p below n (Err Memory) p' below' s = house_is p p p' s.0 (same_house p)
 goes_same refuses g now p below n (Err NoIpc) p' below' s = absurd s
 goes_same refuses g now p below n (Err NoLink) p' below' s = house_is p p p' s.1 (same_house p)
+goes_same refuses g now p below n (Err (CountSpent need left)) p' below' s = absurd s
 
 -- what holds goes on to hold
 pub leaves_hold : (refuses : Port → ℕ → Option SendError) (d : Dif) (below : Seen) (at n : ℕ) (r : Result OutStep StepError) (ps : List IpcProcess) (below' : Seen) → AreKept below → AreKept below' → at < length d.settings.members → Leaves refuses (config_of d.settings) d.clock below n r below' at d.processes ps → (lines : List Direction) → Holds d lines below → Holds (record d { processes = ps }) lines below'
@@ -154,6 +156,7 @@ outs_at refuses d below node n at (Ok x) d' below' here outs = at_home (home nod
 outs_at refuses d below node n at (Err Memory) d' below' here outs = (outs.new_is ∙ no_step d at outs.process outs.process' outs.is_process outs.done.0, outs.done.1)
 outs_at refuses d below node n at (Err NoIpc) d' below' here outs = at_home (home node d.config.members) at (λ k. Outs refuses d below k n (Err NoIpc) d' below') _ here outs
 outs_at refuses d below node n at (Err NoLink) d' below' here outs = at_home (home node d.config.members) at (λ k. Outs refuses d below k n (Err NoLink) d' below') _ here outs
+outs_at refuses d below node n at (Err (CountSpent need left)) d' below' here outs = at_home (home node d.config.members) at (λ k. Outs refuses d below k n (Err (CountSpent need left)) d' below') _ here outs
 
 pub asks_home : (may : ℕ → List Head → ℕ → Type 0) (held : Process → Queued → SendError → Type 0) (settings : Settings) (node n at : ℕ) (slots slots' : List Slot) (old : List IpcProcess) (r : Result OutStep StepError) (new : List IpcProcess) → home node (config_of settings).members ≡ Some at → AsksAt may held settings n at slots slots' old r new → AsksHome may held settings node n slots slots' old r new
 asks_home may held settings node n at slots slots' old r new here asks = at_home (home node (config_of settings).members) at (λ k. AsksAt may held settings n k slots slots' old r new) (slots' ≡ slots) here asks

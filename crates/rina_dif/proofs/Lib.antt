@@ -44,6 +44,7 @@ pub mod Managed
 pub mod MessageSteps
 pub mod Moves
 pub mod Named
+pub mod Naming
 pub mod Neighbours
 pub mod Offered
 pub mod OnLinks
@@ -55,6 +56,7 @@ pub mod Posted
 pub mod Posting
 pub mod Putting
 pub mod Refused
+pub mod Registered
 pub mod Resent
 pub mod Rested
 pub mod Room

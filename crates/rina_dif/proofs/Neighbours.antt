@@ -1,6 +1,7 @@
 -- The members of a static DIF tell short messages to their neighbours alone, whatever happens.
 use Rattle.std.proofs.Common.{◌≡◌, ℕ, zero, suc, ◌∷◌, ◌<◌, ◌≤◌, ◌^◌, Bool, true, false, cond, ⊎_elim, List, [], ◌++◌, filter, length, Contains, Option, Some, None, Result, Ok, Err, refl, sym, subst}
-use Rattle.std.specs.Prelude.{remove}
+use Rattle.std.specs.Prelude.{IfSome, remove}
+use Rattle.std.specs.Fmt.{decimal}
 use Rattle.std.proofs.lemmas.List.Elements.{Contains-append_cases}
 use Rattle.rina_base.specs.Names.{app_at}
 use Rattle.rina_access.specs.declared.rules.Rules.{Rules}
@@ -16,9 +17,10 @@ use Rattle.rina_agent.specs.declared.message.Waiting.{Waiting}
 use Rattle.rina_agent.specs.declared.state.AgentError.{AgentError}
 use Rattle.rina_agent.specs.Agenda.{flood_on, floods, is_flooded, without_at}
 use Rattle.rina_agent.specs.Counts.{spent, unless}
-use Rattle.rina_agent.specs.Items.{stated}
+use Rattle.rina_agent.specs.Items.{made, stated}
 use Rattle.rina_agent.specs.Rows
 use Rattle.rina_data.specs.declared.link.Link.{Link as Below}
+use Rattle.rina_dir.specs.Directory.{key_of}
 use Rattle.rina_data.specs.declared.settings.Member.{Member}
 use Rattle.rina_plan.specs.declared.dif.LinkPlan.{LinkPlan}
 use Rattle.rina_member.specs.declared.management.Management.{Management}
@@ -27,7 +29,7 @@ use Rattle.rina_member.specs.Knowing.{IsLaidOut}
 use Rattle.rina_member.specs.Managements.{Handles, entry_of, takes_item, with_sent}
 use Rattle.rina_member.specs.Short.{AreNamed, HaveFewLinks, IsShort}
 use Rattle.rina_member.specs.Start.{started}
-use Rattle.rina_member.proofs.Tells.{enters_short, lost_short, sent_short}
+use Rattle.rina_member.proofs.Tells.{enters_short, lost_short, makes_short, sent_short}
 use Rattle.rina_member.proofs.Handled.{handles_none, handles_took}
 use Rattle.rina_member.proofs.TellsEnrolled.{handles_short}
 use Rattle.rina_member.proofs.TellsStarting.{starts_short}
@@ -56,6 +58,9 @@ starts_near members plans rules m links laid named few among fits = record {
 
 pub enters_near : (app : List ℕ) (address : ℕ) (g : Agent) → app_at app ≡ Ok app → address < 2 ^ 32 → TellsNeighbours g → TellsNeighbours (takes_item g (entry_of app address))
 enters_near app address g name small h = record { short = enters_short g app address h.short name small; near = h.near }
+
+pub makes_near : (g : Agent) (now : ℕ) (app : List ℕ) (value : Option (List ℕ)) → app_at app ≡ Ok app → IfSome value (λ text. text ≡ decimal g.address) → TellsNeighbours g → TellsNeighbours (made None g now (key_of app) value)
+makes_near g now app value name is h = record { short = makes_short g now app value h.short name is; near = both_near g.agenda _ h.near (floods_near None _ g.links) }
 
 -- A link is lost
 

@@ -95,7 +95,7 @@ changed_is ms i f g is = ap (λ (o : Option Management). changed_if o i f ms) is
 -- which messages wait says nothing of what it knows
 sent_managed : (members : List Member) (plans : List LinkPlan) (now : ℕ) (m : Member) (p : IpcProcess) (g : Management) (number : ℕ) → IsManaged members plans now m p g → IsManaged members plans now m p (with_sent g number)
 sent_managed members plans now m p g number h = record {
-  knows = record { address = h.knows.address; enrolled = h.knows.enrolled; numbers = h.knows.numbers; links_are = h.knows.links_are; own = h.knows.own; keys = h.knows.keys; past = h.knows.past; room = h.knows.room };
+  knows = record { address = h.knows.address; enrolled = h.knows.enrolled; numbers = h.knows.numbers; links_are = h.knows.links_are; own = h.knows.own; keys = h.knows.keys; past = h.knows.past };
   routes = record { rows = h.routes.rows; hops = h.routes.hops; are = h.routes.are };
   tells = sends_near number g h.tells;
 }

@@ -69,13 +69,13 @@ met_is want cubes =
 
 -- What is refused is refused as on every facility
 
-pub registers : (s : Seen) (n : ℕ) (d : Dif) (node : ℕ) (app : List ℕ) (e : RegisterError) → names.refused_in (Some (fac_of (seen_of d))) node app (Some register.Unbuilt) ≡ Some e → IsShownAs s n d → Registers (Some register.Unbuilt) s n node app (Err e) (shown_as s n d)
-registers s n d node app register.Memory r h = unchanged s n d d h refl
-registers s n d node app e r h = (ap (λ (f : Option Fac). names.refused_in f node app (Some register.Unbuilt)) h.here ∙ r, unchanged s n d d h refl)
+pub registers : (own : Option RegisterError) (s : Seen) (n : ℕ) (d : Dif) (node : ℕ) (app : List ℕ) (e : RegisterError) → names.refused_in (Some (fac_of (seen_of d))) node app own ≡ Some e → IsShownAs s n d → Registers own s n node app (Err e) (shown_as s n d)
+registers own s n d node app register.Memory r h = unchanged s n d d h refl
+registers own s n d node app e r h = (ap (λ (f : Option Fac). names.refused_in f node app own) h.here ∙ r, unchanged s n d d h refl)
 
-pub unregisters : (s : Seen) (n : ℕ) (d : Dif) (node : ℕ) (app : List ℕ) (e : UnregisterError) → left.refused_in (Some (fac_of (seen_of d))) node app (Some unregister.Unbuilt) ≡ Some e → IsShownAs s n d → Unregisters (Some unregister.Unbuilt) s n node app (Err e) (shown_as s n d)
-unregisters s n d node app unregister.Memory r h = unchanged s n d d h refl
-unregisters s n d node app e r h = (ap (λ (f : Option Fac). left.refused_in f node app (Some unregister.Unbuilt)) h.here ∙ r, unchanged s n d d h refl)
+pub unregisters : (own : Option UnregisterError) (s : Seen) (n : ℕ) (d : Dif) (node : ℕ) (app : List ℕ) (e : UnregisterError) → left.refused_in (Some (fac_of (seen_of d))) node app own ≡ Some e → IsShownAs s n d → Unregisters own s n node app (Err e) (shown_as s n d)
+unregisters own s n d node app unregister.Memory r h = unchanged s n d d h refl
+unregisters own s n d node app e r h = (ap (λ (f : Option Fac). left.refused_in f node app own) h.here ∙ r, unchanged s n d d h refl)
 
 pub allocates : (s : Seen) (d : Dif) (ask : Ask) (e : AllocateError) → asks.refused_in (Some (fac_of (seen_of d))) ask (Some allocate.Unbuilt) ≡ Some e → IsShownAs s ask.fac d → Allocates (Some allocate.Unbuilt) s ask (Err e) (shown_as s ask.fac d)
 allocates s d ask allocate.Memory r h = unchanged s ask.fac d d h refl

@@ -55,6 +55,7 @@ flow_serves d lines below i node (Ok done) d' here same none s = (
 flow_serves d lines below i node (Err why.Memory) d' here same none s = (s, refl)
 flow_serves d lines below i node (Err why.NoIpc) d' here same none s = absurd s
 flow_serves d lines below i node (Err why.NoLink) d' here same none s = absurd s
+flow_serves d lines below i node (Err (why.CountSpent need left)) d' here same none s = absurd s
 
 -- The link that goes first
 

@@ -14,7 +14,7 @@ use Rattle.rina_queue.specs.declared.queue.Queued.{Queued}
 use Rattle.rina_data.specs.declared.step.OutStep.{OutStep}
 use Rattle.rina_data.specs.declared.step.OutStep.TheVariants as out
 use Rattle.rina_data.specs.declared.step.StepError.{StepError}
-use Rattle.rina_data.specs.declared.step.StepError.TheVariants.{Memory, NoIpc, NoLink}
+use Rattle.rina_data.specs.declared.step.StepError.TheVariants.{CountSpent, Memory, NoIpc, NoLink}
 use Rattle.rina_data.specs.Process.{Process}
 use Rattle.rina_data.specs.Leaving.{Asks, IsAsked}
 
@@ -41,5 +41,6 @@ names_stay may held policy queues n slots slots' p (Ok (out.Sent key)) p' a = on
 names_stay may held policy queues n slots slots' p (Ok (out.Off key cause)) p' a = once may held policy queues n slots slots' p (Ok (out.Off key cause)) p' a
 names_stay may held policy queues n slots slots' p (Ok (out.Held why)) p' a = once may held policy queues n slots slots' p (Ok (out.Held why)) p' a
 names_stay may held policy queues n slots slots' p (Err NoLink) p' a = ap names a
+names_stay may held policy queues n slots slots' p (Err (CountSpent need left)) p' a = absurd a
 names_stay may held policy queues n slots slots' p (Err NoIpc) p' a = absurd a
 names_stay may held policy queues n slots slots' p (Err Memory) p' a = once may held policy queues n slots slots' p (Err Memory) p' a

@@ -199,7 +199,7 @@ no_link k link is = absurd cc
 bare_one : (s : Settings) (now : ℕ) (rules : List Rule) (allow : Bool) (m : Kept) (p : IpcProcess) (g : Management) → IsLaidOut s.members [] → AreNamed s.members → Contains s.members m → p.links ≡ [] → p.routes ≡ [] → IsStarted s.cubes s.members [] rules allow m p.links g → IsManaged s.members [] now m p g
 bare_one s now rules allow m p g laid named among links routes one =
     let is : g.agent ≡ started s.members [] one.access m [] = one.is ∙ ap (started s.members [] one.access m) links in
-    let knows : Knows s.members [] now m [] (started s.members [] one.access m []) = starts_knowing s.members [] one.access m [] now laid among (λ k link at. absurd (no_link k link at)) (λ k link at. absurd (no_link k link at)) (omega arith) (omega arith) in
+    let knows : Knows s.members [] now m [] (started s.members [] one.access m []) = starts_knowing s.members [] one.access m [] now laid among (λ k link at. absurd (no_link k link at)) (λ k link at. absurd (no_link k link at)) (omega arith) in
     record {
       knows = subst (λ (ls : List Link). Knows s.members [] now m ls g.agent) (sym links) (subst (Knows s.members [] now m []) (sym is) knows);
       routes = subst (AreRoutesOf g.agent s.members) (sym routes) (none_of g.agent s.members (ap (λ (z : Agent). hops_of z.links) is ∙ no_links s.members [] one.access m));
@@ -349,7 +349,7 @@ made_managed plan i dif d old new laid_ports linked sound at are config members 
           let all : length (edges_from d.settings.members m.node dif.links) ≤ length ports = enough plan dif d.settings.members m.node dif.links laid_ports old new laid.bound in
           let most : length ports ≤ 16 = few_links plan i dif k m laid_ports old new sound at (ap (λ (s : Settings). slice_get s.members k) (sym are) ∙ is_m) laid.bound in
           let knows : Knows d.settings.members dif.links d.clock m (links_from 0 ports) (started d.settings.members dif.links one.access m (links_from 0 ports)) =
-          starts_knowing d.settings.members dif.links one.access m (links_from 0 ports) d.clock out (is_among d.settings.members k m is_m) (are_numbered ports) (are_live ports) (omega (arith, all, count)) (omega (arith, most, count)) in
+          starts_knowing d.settings.members dif.links one.access m (links_from 0 ports) d.clock out (is_among d.settings.members k m is_m) (are_numbered ports) (are_live ports) (omega (arith, all, count)) in
           let within = slice_get_within d.managements k g is_g in
           record {
             knows = subst (λ (ls : List Link). Knows d.settings.members dif.links d.clock m ls g.agent) (sym links) (subst (Knows d.settings.members dif.links d.clock m (links_from 0 ports)) (sym is) knows);

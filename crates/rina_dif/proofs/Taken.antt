@@ -15,7 +15,7 @@ use Rattle.rina_data.specs.declared.process.IpcProcess.{IpcProcess}
 use Rattle.rina_data.specs.declared.step.InStep.{InStep}
 use Rattle.rina_data.specs.declared.step.InStep.TheVariants as in_
 use Rattle.rina_data.specs.declared.step.StepError.{StepError}
-use Rattle.rina_data.specs.declared.step.StepError.TheVariants.{Memory, NoIpc, NoLink}
+use Rattle.rina_data.specs.declared.step.StepError.TheVariants.{CountSpent, Memory, NoIpc, NoLink}
 use Rattle.rina_data.specs.declared.step.Took.{Took}
 use Rattle.rina_data.specs.Hops.{Hop, opened}
 use Rattle.rina_dif_law.specs.Cloud.{IsMine}
@@ -211,6 +211,7 @@ ins_at d lines below node n at (Ok x) d' lines' below' here ins = at_home (home 
 ins_at d lines below node n at (Err Memory) d' lines' below' here ins = ins
 ins_at d lines below node n at (Err NoIpc) d' lines' below' here ins = at_home (home node d.config.members) at (λ k. Ins d lines below k n (Err NoIpc) d' lines' below') _ here ins
 ins_at d lines below node n at (Err NoLink) d' lines' below' here ins = at_home (home node d.config.members) at (λ k. Ins d lines below k n (Err NoLink) d' lines' below') _ here ins
+ins_at d lines below node n at (Err (CountSpent need left)) d' lines' below' here ins = at_home (home node d.config.members) at (λ k. Ins d lines below k n (Err (CountSpent need left)) d' lines' below') _ here ins
 
 either_home : (o : Option ℕ) (P : ℕ → Type 0) (Q : Type 0) → ((k : ℕ) → P k) → Q → AtHome o P Q
 either_home (Some k) P Q p q = p k

@@ -5,7 +5,6 @@ use Rattle.std.proofs.lemmas.Bool.{false≢true}
 use Rattle.std.proofs.lemmas.Option.{slice_get-get_or, slice_get_read, slice_get_within}
 use Rattle.rina_member.specs.declared.management.Management.{Management}
 use Rattle.rina_agent.specs.Rows.{lost as loses_link}
-use Rattle.rina_agent.specs.Counts.{spent}
 use Rattle.rina_base.specs.declared.memory.Memory.{Memory}
 use Rattle.rina_base.specs.declared.number.Port.{Port}
 use Rattle.rina_iface.specs.Seen.{Seen}
@@ -28,7 +27,6 @@ use Rattle.rina_dif_law.proofs.Accounting.{lost_accounted}
 use Rattle.rina_data.proofs.Finding.{there}
 use Rattle.rina_dif_law.proofs.Linkless.{lost_carries, lost_numbered, lost_stands}
 use Rattle.rina_dif_law.proofs.Warranted.{lost_written}
-use Rattle.rina_member.proofs.Knowing.{may_make}
 use Rattle.rina_dif.specs.declared.dif.Dif.{Dif}
 use Rattle.rina_dif.specs.Holding.{AreHoused, HasQueues, HaveQueues, Holds, IsHoused, Stands}
 use Rattle.rina_graph.specs.declared.graph.Edge.{Edge}
@@ -222,6 +220,10 @@ module _ (d : Dif) (lines : List Direction) (below : Seen) (at : ℕ) (lost : Lo
         (subst (F (links_without first_lost.process.links lost.place first_lost.link) first_lost.link.port) after_seen fails));
   }
 
+-- the link that is lost is one of its links
+pub lost_within : (d : Dif) (below : Seen) (at : ℕ) (lost : Lost) → FindsLostAt d below at (Some lost) → (p : IpcProcess) → slice_get d.processes at ≡ Some p → lost.place < length p.links
+lost_within d below at lost finds p is = (let f = finds p is in slice_get_within p.links lost.place f.0 f.1.lost.stands)
+
 -- an allocation failed
 pub keeps_links : (d : Dif) (lines : List Direction) (below : Seen) (at : ℕ) (p p' : IpcProcess) (ps : List IpcProcess) → slice_get d.processes at ≡ Some p → process_of p' ≡ process_of p → queue_settings p' ≡ queue_settings p → ps ≡ slice_set d.processes at p' → Holds d lines below → (seen_of (record d { processes = ps }) ≡ seen_of d) × Holds (record d { processes = ps }) lines below
 keeps_links d lines below at p p' ps is same room new h =
@@ -236,15 +238,9 @@ has_member d at lt = there d.settings.members at lt
 pub has_agent : (d : Dif) (lines : List Direction) (below : Seen) (at : ℕ) → at < length d.settings.members → Holds d lines below → (g : Management) × (slice_get d.managements at ≡ Some g)
 has_agent d lines below at lt h = (let m = has_member d at lt in its_agent d.settings.members d.managements at m.0 h.managed.aligned m.1)
 
--- it is there, and may make an item
+-- it is there
 pub agent_within : (d : Dif) (below : Seen) (at : ℕ) → at < length d.settings.members → Stands d below → at < length d.managements
 agent_within d below at lt st = (let g = has_agent d st.0 below at lt st.1 in slice_get_within d.managements at g.0 g.1)
-
-pub may_lose : (d : Dif) (below : Seen) (at : ℕ) (g : Management) → at < length d.settings.members → Stands d below → slice_get d.managements at ≡ Some g → spent 1 g.agent.last_count ≡ None
-may_lose d below at g lt st is =
-    let m = has_member d at lt in
-    let p = has_process d below at st lt in
-    may_make d.settings.members d.laid.links d.clock m.0 p.0.links g.agent (st.1.managed.each at m.0 p.0 g m.1 p.1 is).knows
 
 -- a link is lost, and no flow fails
 pub link_loses : (d : Dif) (at : ℕ) (lost : Lost) (loss : LinkLoss) (g' : Management) (flows : Flows) (ps : List IpcProcess) → loss.place ≡ lost.place → loss.now ≡ d.clock → at < length d.settings.members → IsWithout d at lost.number g' → AreRoutesOf g'.agent d.settings.members loss.routes → FindsEnd d at lost.place loss.end → LosesIn loss (Ok tt) at d.connections.flows d.processes flows ps

@@ -20,7 +20,7 @@ use Rattle.rina_data.specs.declared.step.ClockStep.TheVariants as step
 use Rattle.rina_data.specs.declared.step.InStep.{InStep}
 use Rattle.rina_data.specs.declared.step.OutStep.{OutStep}
 use Rattle.rina_data.specs.declared.step.StepError.{StepError}
-use Rattle.rina_data.specs.declared.step.StepError.TheVariants.{Memory, NoIpc, NoLink}
+use Rattle.rina_data.specs.declared.step.StepError.TheVariants.{CountSpent, Memory, NoIpc, NoLink}
 use Rattle.rina_data.specs.Configs.{Config, config_of}
 use Rattle.rina_data.specs.Losing.{without_link}
 use Rattle.rina_data.specs.Process.{Process, with_offs}
@@ -83,6 +83,7 @@ outs_at_noted refuses d lines below node n (Err Memory) d' below' st s = same_no
 outs_at_noted refuses d lines below node n (Ok x) d' below' st s = by_home _ (home node d.config.members) (λ i. Outs refuses d below i n (Ok x) d' below') _ (λ i o. outs_noted refuses d lines below i n (Ok x) d' below' st o) (λ o. same_noted _ d d' o.1) s
 outs_at_noted refuses d lines below node n (Err NoIpc) d' below' st s = by_home _ (home node d.config.members) (λ i. Outs refuses d below i n (Err NoIpc) d' below') _ (λ i o. outs_noted refuses d lines below i n (Err NoIpc) d' below' st o) (λ o. same_noted _ d d' o.1) s
 outs_at_noted refuses d lines below node n (Err NoLink) d' below' st s = by_home _ (home node d.config.members) (λ i. Outs refuses d below i n (Err NoLink) d' below') _ (λ i o. outs_noted refuses d lines below i n (Err NoLink) d' below' st o) (λ o. same_noted _ d d' o.1) s
+outs_at_noted refuses d lines below node n (Err (CountSpent need left)) d' below' st s = by_home _ (home node d.config.members) (λ i. Outs refuses d below i n (Err (CountSpent need left)) d' below') _ (λ i o. outs_noted refuses d lines below i n (Err (CountSpent need left)) d' below' st o) (λ o. same_noted _ d d' o.1) s
 
 pub outs_at_write : (refuses : Port → ℕ → Option SendError) (d : Dif) (lines : List Direction) (below : Seen) (node n : ℕ) (r : Result OutStep StepError) (d' : Dif) (below' : Seen) → Holds d lines below → OutsAt refuses (seen_of d) below node n r (seen_of d') below' → Writes (MayWriteOff (seen_of d) lines below (RefusesOver refuses below)) (seen_of d) (seen_of d')
 outs_at_write refuses d lines below node n r d' below' h s = writes _ (seen_of d) (seen_of d') (outs_at_noted refuses (seen_of d) lines below node n r (seen_of d') below' h.standing s)
@@ -92,6 +93,7 @@ ins_at_noted d lines below node n (Err Memory) d' lines' below' st s = same_note
 ins_at_noted d lines below node n (Ok x) d' lines' below' st s = by_home _ (home node d.config.members) (λ i. Ins d lines below i n (Ok x) d' lines' below') _ (λ i o. ins_noted d lines below i n (Ok x) d' lines' below' st o) (λ o. same_noted _ d d' o.1) s
 ins_at_noted d lines below node n (Err NoIpc) d' lines' below' st s = by_home _ (home node d.config.members) (λ i. Ins d lines below i n (Err NoIpc) d' lines' below') _ (λ i o. ins_noted d lines below i n (Err NoIpc) d' lines' below' st o) (λ o. same_noted _ d d' o.1) s
 ins_at_noted d lines below node n (Err NoLink) d' lines' below' st s = by_home _ (home node d.config.members) (λ i. Ins d lines below i n (Err NoLink) d' lines' below') _ (λ i o. ins_noted d lines below i n (Err NoLink) d' lines' below' st o) (λ o. same_noted _ d d' o.1) s
+ins_at_noted d lines below node n (Err (CountSpent need left)) d' lines' below' st s = by_home _ (home node d.config.members) (λ i. Ins d lines below i n (Err (CountSpent need left)) d' lines' below') _ (λ i o. ins_noted d lines below i n (Err (CountSpent need left)) d' lines' below' st o) (λ o. same_noted _ d d' o.1) s
 
 -- other next hops write nothing
 rerouted_noted : (holds : ℕ → Off → Type 0) (d d' : DifSeen) → MayReroute d d' → IsNoted holds d d'
@@ -241,6 +243,7 @@ clocks_noted d lines below node (Err Memory) d' lines' below' h s = same_noted _
 clocks_noted d lines below node (Ok done) d' lines' below' h s = by_home _ (home node (config_of d.settings).members) (λ i. StepsOk d lines below node (Ok done) d' lines' below') _ (λ i o. steps_noted d lines below node done d' lines' below' h o) (λ o. same_noted _ (seen_of d) (seen_of d') o.1) s
 clocks_noted d lines below node (Err NoIpc) d' lines' below' h s = by_home _ (home node (config_of d.settings).members) (λ i. StepsOk d lines below node (Err NoIpc) d' lines' below') _ (λ i o. absurd o) (λ o. same_noted _ (seen_of d) (seen_of d') o.1) s
 clocks_noted d lines below node (Err NoLink) d' lines' below' h s = by_home _ (home node (config_of d.settings).members) (λ i. StepsOk d lines below node (Err NoLink) d' lines' below') _ (λ i o. absurd o) (λ o. same_noted _ (seen_of d) (seen_of d') o.1) s
+clocks_noted d lines below node (Err (CountSpent need left)) d' lines' below' h s = same_noted _ (seen_of d) (seen_of d') s.1
 
 pub clocks_write : (d : Dif) (lines : List Direction) (below : Seen) (node : ℕ) (r : Result ClockStep StepError) (d' : Dif) (below' : Seen) → Holds d lines below → ClockSteps d lines below node r d' below' → Writes (MayByClock d lines below node) (seen_of d) (seen_of d')
 clocks_write d lines below node r d' below' h s = writes _ (seen_of d) (seen_of d') (clocks_noted d lines below node r d' s.lines' below' h s.does)

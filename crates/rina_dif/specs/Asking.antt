@@ -5,7 +5,7 @@ use Rattle.rina_cdap.specs.declared.error.CdapError.{CdapError}
 use Rattle.rina_cdap.specs.declared.message.Message.{Message}
 use Rattle.rina_cdap.specs.Faults.{is_memory}
 use Rattle.rina_cdap.specs.Messages.{Spells}
-use Rattle.rina_cdap.specs.Reading.{Faulty}
+use Rattle.rina_cdap.specs.Reading.{Faulty, HasCopied}
 use Rattle.rina_rib.specs.Rows.{Tree}
 use Rattle.rina_answer.specs.Answers as answers
 use Rattle.rina_member.specs.declared.management.Management.{Management}
@@ -64,10 +64,14 @@ pub record KeepsAll (d d' : Dif) : Type 0 where
   pub agents : agents_of d'.managements ≡ agents_of d.managements
   pub alive : d'.failed ≡ false → d.failed ≡ false
 
+-- memory is taken for bytes that are a message, since that is answered, and where a field in front of them is copied
+abbrev pub TakesMemory : List ℕ → Type 0
+TakesMemory bytes = ((message : Message) × Spells message bytes) ⊎ HasCopied bytes
+
 -- bytes are answered, or their first fault is told; memory can be missing where an allocation failed before, or there is a
--- member that answers
+-- member that answers, and memory is taken for the bytes
 abbrev pub Asks : Dif → ℕ → List ℕ → Result (List ℕ) CdapCallError → Dif → Type 0
 Asks d node bytes (Ok answer) d' = IsAnswered d node bytes answer d'
 Asks d node bytes (Err NoIpc) d' = (home node (config_of d.settings).members ≡ None) × (d'.managements ≡ d.managements)
 Asks d node bytes (Err (Cdap error)) d' = IsNoMessage d node bytes error × (d'.managements ≡ d.managements)
-Asks d node bytes (Err Memory) d' = (d.failed ≡ true ⊎ HasMember d node) × (d'.managements ≡ d.managements)
+Asks d node bytes (Err Memory) d' = (d.failed ≡ true ⊎ (HasMember d node × TakesMemory bytes)) × (d'.managements ≡ d.managements)

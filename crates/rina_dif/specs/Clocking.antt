@@ -17,7 +17,7 @@ use Rattle.rina_data.specs.declared.process.IpcProcess.{IpcProcess}
 use Rattle.rina_data.specs.declared.step.ClockStep.{ClockStep}
 use Rattle.rina_data.specs.declared.step.ClockStep.TheVariants as step
 use Rattle.rina_data.specs.declared.step.StepError.{StepError}
-use Rattle.rina_data.specs.declared.step.StepError.TheVariants.{Memory, NoIpc}
+use Rattle.rina_data.specs.declared.step.StepError.TheVariants.{CountSpent, Memory, NoIpc}
 use Rattle.rina_data.specs.Configs.{config_of, cube_by}
 use Rattle.rina_dif_law.specs.Dif.{DifSeen}
 use Rattle.rina_data.specs.Process.{Process}
@@ -45,7 +45,7 @@ use Rattle.rina_dif.specs.LinkSteps.{DoesLink}
 use Rattle.rina_dif.specs.MessageSteps.{IfIdle, NoMessageAt, SendsMessage}
 use Rattle.rina_dif.specs.Shown.{seen_of}
 use Rattle.rina_dif.specs.Steps.{AtHome}
-use Rattle.rina_dif.specs.Unlinking.{HasFailed, LosesWith}
+use Rattle.rina_dif.specs.Unlinking.{HasFailed, LacksCounts, LosesWith}
 
 -- What is due at a node
 
@@ -261,7 +261,14 @@ abbrev pub Steps : Dif → List Direction → Seen → ℕ → ClockStep → Dif
 Steps d lines below node (step.LinkLost link) d' lines' below' = StepsLost d lines below node link d' × (lines' ≡ lines) × (below' ≡ below)
 Steps d lines below node done d' lines' below' = NoneLostAt d below node × ServesAny d lines below node done d' lines' below'
 
+-- a link is lost at the IPC process of this node, and the member has no version count left for its link state: nothing is done
+pub record StepsSpent (d : Dif) (below : Seen) (node need left : ℕ) : Type 0 where
+  pub i : ℕ
+  pub at_home : home node (config_of d.settings).members ≡ Some i
+  pub lacks : LacksCounts d below i need left
+
 abbrev pub StepsHere : Dif → List Direction → Seen → ℕ → Result ClockStep StepError → Dif → Seen → Type 0
+StepsHere d lines below node (Err (CountSpent need left)) d' below' = StepsSpent d below node need left × (seen_of d' ≡ seen_of d) × Holds d' lines below' × (below' ≡ below)
 StepsHere d lines below node result d' below' = DoneHere (λ done z lines'. Steps d lines below node done z lines' below') d lines result d' below' × OnErr result (below' ≡ below)
 
 -- at the IPC process of this node
@@ -272,6 +279,7 @@ StepsOk d lines below node (Err e) d' lines' below' = ⊥
 -- what `clock_step` does at a node, to its management too
 abbrev pub ClockStepsAt : Dif → List Direction → Seen → ℕ → Result ClockStep StepError → Dif → List Direction → Seen → Type 0
 ClockStepsAt d lines below node (Err Memory) d' lines' below' = (seen_of d' ≡ seen_of d) × (lines' ≡ lines) × (below' ≡ below)
+ClockStepsAt d lines below node (Err (CountSpent need left)) d' lines' below' = StepsSpent d below node need left × (seen_of d' ≡ seen_of d) × (lines' ≡ lines) × (below' ≡ below)
 ClockStepsAt d lines below node result d' lines' below' = AtHome (home node (config_of d.settings).members) (λ i. StepsOk d lines below node result d' lines' below') ((result ≡ Err NoIpc) × (seen_of d' ≡ seen_of d) × (lines' ≡ lines) × (below' ≡ below))
 
 pub record ClockSteps (d : Dif) (lines : List Direction) (below : Seen) (node : ℕ) (result : Result ClockStep StepError) (d' : Dif) (below' : Seen) : Type 0 where

@@ -24,6 +24,7 @@ pub mod MessageSteps
 pub mod Messaging
 pub mod Objects
 pub mod Planned
+pub mod Registering
 pub mod Resting
 pub mod Routing
 pub mod Sending

@@ -7,7 +7,7 @@ use Rattle.rina_iface.specs.declared.error.FreeError.TheVariants as free
 use Rattle.rina_data.specs.declared.step.ClockStep.{ClockStep}
 use Rattle.rina_data.specs.declared.step.ClockStep.TheVariants as step
 use Rattle.rina_data.specs.declared.step.StepError.{StepError}
-use Rattle.rina_data.specs.declared.step.StepError.TheVariants.{Memory, NoIpc, NoLink}
+use Rattle.rina_data.specs.declared.step.StepError.TheVariants.{CountSpent, Memory, NoIpc, NoLink}
 
 -- where a management connection gives a number up, which is told with the CEP-id 0, a port is freed; else nothing changes, nor does it where a flow, which
 -- has another CEP-id, gives one up
@@ -30,3 +30,4 @@ FreesBelow same frees (Ok done) = FreesAs same frees done
 FreesBelow same frees (Err Memory) = FreesNone same frees
 FreesBelow same frees (Err NoIpc) = same
 FreesBelow same frees (Err NoLink) = same
+FreesBelow same frees (Err (CountSpent need left)) = same

@@ -11,6 +11,8 @@ use Rattle.rina_data.specs.declared.link.Link.{Link}
 use Rattle.rina_data.specs.declared.link.Route.{Route}
 use Rattle.rina_data.specs.declared.loss.Lost.{Lost}
 use Rattle.rina_data.specs.declared.process.IpcProcess.{IpcProcess}
+use Rattle.rina_data.specs.declared.step.StepError.{StepError}
+use Rattle.rina_data.specs.declared.step.StepError.TheVariants as errors
 use Rattle.rina_data.specs.Deciding.{process_of, queue_settings}
 use Rattle.rina_data.specs.Configs.{config_of}
 use Rattle.rina_dif_law.specs.Dif.{DifSeen, with_process}
@@ -20,15 +22,26 @@ use Rattle.rina_data.specs.Losing.{FindsLost, LosesAt, without_link}
 use Rattle.rina_flows.specs.declared.flows.Flows.{Flows}
 use Rattle.rina_flows.specs.Stopping.{StopsAll, held_before}
 use Rattle.rina_agent.specs.declared.agent.Agent.{Agent}
+use Rattle.rina_agent.specs.declared.state.AgentError.TheVariants.{CountSpent}
 use Rattle.rina_agent.specs.Rows.{lost}
 use Rattle.rina_member.specs.Knowing.{AreRoutesOf}
 use Rattle.rina_member.specs.declared.management.Management.{Management}
+use Rattle.rina_member.specs.Managements.{MayLoseLink}
 use Rattle.rina_dif.specs.declared.dif.Dif.{Dif}
 use Rattle.rina_dif.specs.declared.processes.LinkLoss.{LinkLoss}
 use Rattle.rina_dif.specs.Closing.{ClosesIn, ClosesOn, FindsOpen, held_at}
 use Rattle.rina_dif.specs.Connected.{AreConnected}
 use Rattle.rina_dif.specs.Holding.{Holds}
 use Rattle.rina_dif.specs.Shown.{seen_of}
+
+-- What the member says
+
+-- what the loss of a link of this number at a tick answers to a step: the management after it, or that no version count is left
+abbrev pub AnswersLoss : ℕ → ℕ → Management → Result Management StepError → Type 0
+AnswersLoss now number m (Ok after) = MayLoseLink now number m (Ok after)
+AnswersLoss now number m (Err (errors.CountSpent need left)) = MayLoseLink now number m (Err (CountSpent need left))
+AnswersLoss now number m (Err errors.Memory) = Unit {0}
+AnswersLoss now number m (Err other) = ⊥
 
 -- Which link is lost
 
@@ -133,6 +146,14 @@ pub record LosesWith (d : Dif) (lines : List Direction) (below : Seen) (i node n
   pub offs : List Off
   pub closes : (links : AreConnected (config_of d.settings) d.clock d.connections (seen_of d).processes below) → ClosesOn (config_of d.settings) d.clock links.lines loses.loses.link.port offs d.connections d'.connections
   pub fails : FailsWith (links_without loses.loses.process.links loses.loses.place loses.loses.link) below loses.loses.link.port lines node (with_lost (seen_of d) i loses.loses.place loses.loses.link loses.routes loses.loses.process offs) (seen_of d')
+
+-- the member of place i has no version count left for its link state without the link that is lost first
+pub record LacksCounts (d : Dif) (below : Seen) (i need left : ℕ) : Type 0 where
+  pub lost_link : Lost
+  pub found : FindsLostAt d below i (Some lost_link)
+  pub management : Management
+  pub is_management : slice_get d.managements i ≡ Some management
+  pub told : lost management.agent d.clock lost_link.number ≡ Err (CountSpent need left)
 
 -- and the DIF holds after it, or memory was not found
 abbrev pub LosesAs : Dif → List Direction → Seen → ℕ → ℕ → ℕ → Result (Unit {0}) Memory → Dif → Type 0

@@ -22,6 +22,7 @@ ghost use Rattle.rina_flows.specs.Watching.{NoneDueBeside};
 
 use crate::dif::Dif;
 use crate::links_due::NextLink;
+use crate::lost_links::MemberLoss;
 use rina_base::{Cep, Memory, Node};
 use rina_data::{ClockStep, StepError};
 use rina_flows::Item;
@@ -316,7 +317,9 @@ impl Dif {
     {
         match self.lost_link_at(&*below, at) {
             Some(lost) => {
-                self.lose_at(alloc, &*below, at, node, lost)?;
+                let after = self.management_without(alloc, at, lost)?;
+                let loss = MemberLoss { lost, after };
+                self.lose_at(alloc, &*below, at, node, loss)?;
                 Ok(ClockStep::LinkLost { link: lost.number })
             }
             None => self.serve_any(alloc, below, at, node),
@@ -331,7 +334,8 @@ impl Dif {
     /// the last four the management connections of the live links go first, the one of the least link number before the others,
     /// and then the flows there, the one of the least CEP-id first. Where a management connection gives a number up the flow
     /// below of its link is freed, and no flow fails. Last of all a message of management is offered whole at its link, the one
-    /// of the least number at which one is due. Answers Idle exactly where none is due.
+    /// of the least number at which one is due. Answers Idle exactly where none is due. Refused with `CountSpent`, and nothing changes,
+    /// where a link is lost and the member has no version count left for its link state.
     pub fn clock_step<F: Facility>(
         &mut self,
         alloc: Global,

@@ -22,12 +22,12 @@ ghost use Rattle.rina_dif.specs.Whole.{IsDif};
 
 use crate::dif::Dif;
 use crate::facade::cube_of;
-use crate::names::{is_formed, is_registered};
+use crate::names::is_formed;
 use rina_base::{Addr, AppName, Cep, FlowName, Memory, Node, PduKind, Port, Seq};
 use rina_conn::Peer;
 use rina_data::Settings;
 use rina_flows::Flows;
-use rina_iface::{AllocateError, End, Entries, Fixed, PortState, Registered, Role};
+use rina_iface::{AllocateError, End, Entries, Fixed, PortState, Registered, Role, is_registered};
 use rina_pci::{Widths, pci_len};
 use std::alloc::Global;
 use std::mem;

@@ -17,17 +17,26 @@ ghost use Rattle.rina_dif.specs.Changing.{ManagesLoss, allocated_at, cep_here, w
 ghost use Rattle.rina_member.specs.Managements.{LosesLink, without_flows};
 ghost use Rattle.rina_member.specs.declared.management.Management.{Management};
 ghost use Rattle.rina_member.specs.Knowing.{AreRoutesOf};
-ghost use Rattle.rina_dif.specs.Unlinking.{FindsEnd, FindsLostAt, FindsNoneLeft, HasFailed, LosesAs, TellsNoneLeft, links_without};
+ghost use Rattle.rina_dif.specs.Unlinking.{AnswersLoss, FindsEnd, FindsLostAt, FindsNoneLeft, HasFailed, LosesAs, TellsNoneLeft, links_without};
 
 use crate::dif::Dif;
 use crate::processes::LinkLoss;
 use crate::release::IdRest;
+use rina_agent::AgentError;
 use rina_base::{Memory, Node, Port, Seq};
 use rina_conn::Conn;
-use rina_data::{Link, Lost, Route, lost_link};
+use rina_data::{Link, Lost, Route, StepError, lost_link};
 use rina_iface::{End, Facility, Fail, PortState};
 use rina_member::{Management, flow_name, routes_of, without_link};
 use std::alloc::Global;
+
+/// The loss of a link of a member.
+#[derive(Drop)]
+pub struct MemberLoss {
+    pub lost: Lost,
+    /// The management of the member after it.
+    pub after: Management,
+}
 
 /// Whether no link is live but the one at a place.
 fn is_last(links: &[Link], lost: usize) -> bool
@@ -100,16 +109,28 @@ impl Dif {
         lost_link(process.links.as_slice(), below)
     }
 
-    /// The management of the member at a place after it lost the link that was found there.
-    fn management_without(&self, alloc: Global, at: usize, lost: Lost) -> Result<Management, Memory>
+    /// The management of the member at a place after it lost the link that was found there. Refused where no version count is left for
+    /// its link state.
+    pub(crate) fn management_without(
+        &self,
+        alloc: Global,
+        at: usize,
+        lost: Lost,
+    ) -> Result<Management, StepError>
         requires stands { (below : Seen) × Stands self.now below × FindsLostAt self.now below at (Some lost) }
         requires at { at < length self.now.settings.members }
-        ensures { IfOk result (λ after. (m : Management) → slice_get self.now.managements at ≡ Some m → LosesLink self.now.clock lost.number m after) }
+        ensures { (m : Management) → slice_get self.now.managements at ≡ Some m → AnswersLoss self.now.clock lost.number m result }
     {
         let Some(management) = self.managements.get(at) else {
             unreachable!()
         };
-        without_link(alloc, management, self.clock, lost.number)
+        match without_link(alloc, management, self.clock, lost.number) {
+            Ok(after) => Ok(after),
+            Err(AgentError::Memory) => Err(StepError::Memory),
+            Err(AgentError::CountSpent { need, left }) => {
+                Err(StepError::CountSpent { need, left })
+            }
+        }
     }
 
     /// The next hops over the items that a management holds.
@@ -151,22 +172,23 @@ impl Dif {
         &mut self,
         alloc: Global,
         at: usize,
-        lost: Lost,
+        loss: MemberLoss,
         end: Option<usize>,
     ) -> Result<(), Memory>
-        requires stands { (below : Seen) × Stands self.old below × FindsLostAt self.old below at (Some lost) }
+        requires stands { (below : Seen) × Stands self.old below × FindsLostAt self.old below at (Some loss.lost) }
         requires at { at < length self.old.settings.members }
-        requires end { FindsEnd self.old at lost.place end }
-        ensures does { (node : ℕ) (lines : List Direction) (below : Seen) → Holds self.old lines below → FindsLostAt self.old below at (Some lost) → FindsNoneLeft self.old below at lost.place None → LosesAs self.old lines below at node lost.number result self.new }
+        requires end { FindsEnd self.old at loss.lost.place end }
+        requires after { (m : Management) → slice_get self.old.managements at ≡ Some m → LosesLink self.old.clock loss.lost.number m loss.after }
+        ensures does { (node : ℕ) (lines : List Direction) (below : Seen) → Holds self.old lines below → FindsLostAt self.old below at (Some loss.lost) → FindsNoneLeft self.old below at loss.lost.place None → LosesAs self.old lines below at node loss.lost.number result self.new }
         ensures same { (self.new.settings ≡ self.old.settings) × (self.new.failed ≡ self.old.failed) }
         ensures laid { self.new.laid ≡ self.old.laid }
         ensures whole { self.new ≡ record self.old { processes = self.new.processes; connections = self.new.connections; flows = self.new.flows; ids = self.new.ids; managements = self.new.managements } }
         ensures stays { OnErr result (self.new.connections ≡ self.old.connections) }
-        ensures manages { (node : ℕ) (below : Seen) → FindsLostAt self.old below at (Some lost) → FindsNoneLeft self.old below at lost.place None → ManagesLoss result self.old below at node lost.number self.new.managements }
+        ensures manages { (node : ℕ) (below : Seen) → FindsLostAt self.old below at (Some loss.lost) → FindsNoneLeft self.old below at loss.lost.place None → ManagesLoss result self.old below at node loss.lost.number self.new.managements }
         ensures leaves { ChangesProcess (Some at) self.old.processes self.new.processes }
         ensures flows { self.new.flows ≡ self.old.flows }
     {
-        let after = self.management_without(alloc, at, lost)?;
+        let MemberLoss { lost, after } = loss;
         let routes = self.routes_over(alloc, &after)?;
         let loss = LinkLoss {
             place: lost.place,
@@ -239,24 +261,26 @@ impl Dif {
         alloc: Global,
         at: usize,
         node: Node,
-        lost: Lost,
+        loss: MemberLoss,
         end: Option<usize>,
         port: Port,
     ) -> Result<(), Memory>
-        requires stands { (below : Seen) × Stands self.old below × FindsLostAt self.old below at (Some lost) }
+        requires stands { (below : Seen) × Stands self.old below × FindsLostAt self.old below at (Some loss.lost) }
         requires clock { self.old.clock ≤ 10_000_000 }
         requires at { at < length self.old.settings.members }
         requires home { home node (config_of self.old.settings).members ≡ Some at }
-        requires end { FindsEnd self.old at lost.place end }
-        ensures does { (lines : List Direction) (below : Seen) → Holds self.old lines below → FindsLostAt self.old below at (Some lost) → FindsNoneLeft self.old below at lost.place (Some port) → LosesAs self.old lines below at node lost.number result self.new }
+        requires end { FindsEnd self.old at loss.lost.place end }
+        requires after { (m : Management) → slice_get self.old.managements at ≡ Some m → LosesLink self.old.clock loss.lost.number m loss.after }
+        ensures does { (lines : List Direction) (below : Seen) → Holds self.old lines below → FindsLostAt self.old below at (Some loss.lost) → FindsNoneLeft self.old below at loss.lost.place (Some port) → LosesAs self.old lines below at node loss.lost.number result self.new }
         ensures same { (self.new.settings ≡ self.old.settings) × (self.new.failed ≡ self.old.failed) }
         ensures laid { self.new.laid ≡ self.old.laid }
         ensures whole { self.new ≡ record self.old { processes = self.new.processes; connections = self.new.connections; flows = self.new.flows; ids = self.new.ids; managements = self.new.managements } }
         ensures stays { OnErr result (self.new.connections ≡ self.old.connections) }
-        ensures manages { (below : Seen) → FindsLostAt self.old below at (Some lost) → FindsNoneLeft self.old below at lost.place (Some port) → ManagesLoss result self.old below at node lost.number self.new.managements }
+        ensures manages { (below : Seen) → FindsLostAt self.old below at (Some loss.lost) → FindsNoneLeft self.old below at loss.lost.place (Some port) → ManagesLoss result self.old below at node loss.lost.number self.new.managements }
         ensures leaves { ChangesOnly (λ i. WhenOk result (IsEndOf self.old (Some at) i)) (Some at) self.old self.new }
     {
-        let mut management = self.management_without(alloc, at, lost)?;
+        let MemberLoss { lost, after } = loss;
+        let mut management = after;
         let routes = self.routes_over(alloc, &management)?;
         self.end_flows(alloc, node, &mut management)?;
         let rests = self.rests_at_node(alloc, node)?;
@@ -277,38 +301,39 @@ impl Dif {
     }
 
     /// Loses the link that was found at the IPC process at a place, at a node, and closes the end of its management connection
-    /// there. Where no other link is live, and its flow below has failed, all flows at the node fail with it. Without memory
-    /// nothing changes.
+    /// there. Where no other link is live, and its flow below has failed, all flows at the node fail with it. Without memory nothing changes.
     pub(crate) fn lose_at<F: Facility>(
         &mut self,
         alloc: Global,
         below: &F,
         at: usize,
         node: Node,
-        lost: Lost,
+        loss: MemberLoss,
     ) -> Result<(), Memory>
         requires valid { F.valid below.now }
         requires stands { Stands self.old (F.seen below.now) }
-        requires found { FindsLostAt self.old (F.seen below.now) at (Some lost) }
+        requires found { FindsLostAt self.old (F.seen below.now) at (Some loss.lost) }
+        requires after { (m : Management) → slice_get self.old.managements at ≡ Some m → LosesLink self.old.clock loss.lost.number m loss.after }
         requires clock { self.old.clock ≤ 10_000_000 }
         requires at { at < length self.old.settings.members }
         requires home { home node (config_of self.old.settings).members ≡ Some at }
-        ensures does { (lines : List Direction) → Holds self.old lines (F.seen below.now) → LosesAs self.old lines (F.seen below.now) at node lost.number result self.new }
+        ensures does { (lines : List Direction) → Holds self.old lines (F.seen below.now) → LosesAs self.old lines (F.seen below.now) at node loss.lost.number result self.new }
         ensures same { (self.new.settings ≡ self.old.settings) × (self.new.failed ≡ self.old.failed) }
         ensures laid { self.new.laid ≡ self.old.laid }
         ensures whole { self.new ≡ record self.old { processes = self.new.processes; connections = self.new.connections; flows = self.new.flows; ids = self.new.ids; managements = self.new.managements } }
         ensures stays { OnErr result (self.new.connections ≡ self.old.connections) }
-        ensures manages { ManagesLoss result self.old (F.seen below.now) at node lost.number self.new.managements }
+        ensures manages { ManagesLoss result self.old (F.seen below.now) at node loss.lost.number self.new.managements }
         ensures leaves { ChangesOnly (λ i. WhenOk result (IsEndOf self.old (Some at) i)) (Some at) self.old self.new }
     {
         let Some(process) = self.processes.get(at) else {
             unreachable!()
         };
         let links = process.links.as_slice();
-        let end = self.connections.open_on(links[lost.place].port);
-        match last_failed(links, lost.place, below) {
-            Some(port) => self.lose_last_link(alloc, at, node, lost, end, port),
-            None => self.lose_link(alloc, at, lost, end),
+        let place = loss.lost.place;
+        let end = self.connections.open_on(links[place].port);
+        match last_failed(links, place, below) {
+            Some(port) => self.lose_last_link(alloc, at, node, loss, end, port),
+            None => self.lose_link(alloc, at, loss, end),
         }
     }
 }

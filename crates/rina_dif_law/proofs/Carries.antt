@@ -29,7 +29,7 @@ use Rattle.rina_data.specs.declared.step.InStep.TheVariants as in_
 use Rattle.rina_data.specs.declared.step.OutStep.{OutStep}
 use Rattle.rina_data.specs.declared.step.OutStep.TheVariants as out
 use Rattle.rina_data.specs.declared.step.StepError.{StepError}
-use Rattle.rina_data.specs.declared.step.StepError.TheVariants.{Memory, NoIpc, NoLink}
+use Rattle.rina_data.specs.declared.step.StepError.TheVariants.{CountSpent, Memory, NoIpc, NoLink}
 use Rattle.rina_data.specs.declared.step.Took.{Took}
 use Rattle.rina_data.specs.declared.step.Took.TheVariants as took
 use Rattle.rina_dif_law.specs.Carried.{HasCome, IsCarrying}
@@ -155,6 +155,7 @@ goes_carry refuses d lines below n process (Ok (out.Held why)) process' below' k
 goes_carry refuses d lines below n process (Err Memory) process' below' kept kept' c s = subst (IsCarrying d lines) (sym s.1) c
 goes_carry refuses d lines below n process (Err NoIpc) process' below' kept kept' c s = absurd s
 goes_carry refuses d lines below n process (Err NoLink) process' below' kept kept' c s = subst (IsCarrying d lines) (sym s.2) c
+goes_carry refuses d lines below n process (Err (CountSpent need left)) process' below' kept kept' c s = absurd s
 
 step_carries : (refuses : Port → ℕ → Option SendError) (d : DifSeen) (lines : List Direction) (below : Seen) (i n : ℕ) (r : Result OutStep StepError) (d' : DifSeen) (below' : Seen) → AreKept below → AreKept below' → IsCarrying d lines below → IsStep (λ p p'. Goes refuses d.config d.clock p below n r p' below') d i d' → IsCarrying d' lines below'
 step_carries refuses d lines below i n r d' below' kept kept' c s =
@@ -166,6 +167,7 @@ outs_carry refuses d lines below i n (Ok x) d' below' kept kept' c s = step_carr
 outs_carry refuses d lines below i n (Err Memory) d' below' kept kept' c s = step_carries refuses d lines below i n (Err Memory) d' below' kept kept' c s
 outs_carry refuses d lines below i n (Err NoIpc) d' below' kept kept' c s = same_carries d lines below d' lines below' s.1 refl s.2 c
 outs_carry refuses d lines below i n (Err NoLink) d' below' kept kept' c s = step_carries refuses d lines below i n (Err NoLink) d' below' kept kept' c s
+outs_carry refuses d lines below i n (Err (CountSpent need left)) d' below' kept kept' c s = step_carries refuses d lines below i n (Err (CountSpent need left)) d' below' kept kept' c s
 
 -- ---- in_step
 
@@ -247,6 +249,7 @@ ins_carry d lines below i n (Ok (in_.Took key end)) d' lines' below' kept kept' 
 ins_carry d lines below i n (Err Memory) d' lines' below' kept kept' st c s = same_carries d lines below d' lines' below' s.0 s.1 s.2 c
 ins_carry d lines below i n (Err NoIpc) d' lines' below' kept kept' st c s = same_carries d lines below d' lines' below' s.1 s.2 s.3 c
 ins_carry d lines below i n (Err NoLink) d' lines' below' kept kept' st c s = same_carries d lines below d' lines' below' s.1 s.2 s.3 c
+ins_carry d lines below i n (Err (CountSpent need left)) d' lines' below' kept kept' st c s = absurd s
 
 -- ---- others below
 

@@ -23,7 +23,7 @@ use Rattle.rina_queue.specs.declared.queue.Queued.{Queued}
 use Rattle.rina_data.specs.declared.step.InStep.{InStep}
 use Rattle.rina_data.specs.declared.step.InStep.TheVariants as in_
 use Rattle.rina_data.specs.declared.step.StepError.{StepError}
-use Rattle.rina_data.specs.declared.step.StepError.TheVariants.{Memory, NoIpc, NoLink}
+use Rattle.rina_data.specs.declared.step.StepError.TheVariants.{CountSpent, Memory, NoIpc, NoLink}
 use Rattle.rina_data.specs.declared.step.Took.{Took}
 use Rattle.rina_data.specs.declared.step.Took.TheVariants as took
 use Rattle.rina_dif_law.specs.Cloud.{Cloud, Everywhere}
@@ -198,3 +198,4 @@ ins_stand d lines below i n (Ok (in_.Took key end)) d' lines' below' kept kept' 
 ins_stand d lines below i n (Err Memory) d' lines' below' kept kept' st s = same_stands d lines below d' lines' below' s.0 s.1 s.2 st
 ins_stand d lines below i n (Err NoIpc) d' lines' below' kept kept' st s = same_stands d lines below d' lines' below' s.1 s.2 s.3 st
 ins_stand d lines below i n (Err NoLink) d' lines' below' kept kept' st s = same_stands d lines below d' lines' below' s.1 s.2 s.3 st
+ins_stand d lines below i n (Err (CountSpent need left)) d' lines' below' kept kept' st s = absurd s

@@ -21,7 +21,7 @@ use Rattle.rina_queue.specs.declared.queue.Queued.{Queued}
 use Rattle.rina_data.specs.declared.step.OutStep.{OutStep}
 use Rattle.rina_data.specs.declared.step.OutStep.TheVariants as out
 use Rattle.rina_data.specs.declared.step.StepError.{StepError}
-use Rattle.rina_data.specs.declared.step.StepError.TheVariants.{Memory, NoIpc, NoLink}
+use Rattle.rina_data.specs.declared.step.StepError.TheVariants.{CountSpent, Memory, NoIpc, NoLink}
 use Rattle.rina_dif_law.specs.Cloud.{Cloud, Everywhere, IsPortIn, IsQueueIn, Scope, Waits}
 use Rattle.rina_data.specs.Hops.{Hop, opened}
 use Rattle.rina_data.specs.declared.link.Link.{Link}
@@ -149,6 +149,7 @@ goes_stand refuses d lines below i n process (Ok (out.Held why)) process' below'
 goes_stand refuses d lines below i n process (Err Memory) process' below' kept kept' st is s = idle_stands d lines below i process process' below' st is s.0 s.1
 goes_stand refuses d lines below i n process (Err NoIpc) process' below' kept kept' st is s = absurd s
 goes_stand refuses d lines below i n process (Err NoLink) process' below' kept kept' st is s = idle_stands d lines below i process process' below' st is s.1 s.2
+goes_stand refuses d lines below i n process (Err (CountSpent need left)) process' below' kept kept' st is s = absurd s
 
 step_stands : (refuses : Port → ℕ → Option SendError) (d : DifSeen) (lines : List Direction) (below : Seen) (i n : ℕ) (r : Result OutStep StepError) (d' : DifSeen) (below' : Seen) → AreKept below → AreKept below' → IsStanding d lines below → IsStep (λ p p'. Goes refuses d.config d.clock p below n r p' below') d i d' → IsStanding d' lines below'
 step_stands refuses d lines below i n r d' below' kept kept' st s = subst (λ (z : DifSeen). IsStanding z lines below') (sym s.new_is) (goes_stand refuses d lines below i n s.process r s.process' below' kept kept' st s.is_process s.done)
@@ -159,3 +160,4 @@ outs_stand refuses d lines below i n (Ok o) d' below' kept kept' st s = step_sta
 outs_stand refuses d lines below i n (Err Memory) d' below' kept kept' st s = step_stands refuses d lines below i n (Err Memory) d' below' kept kept' st s
 outs_stand refuses d lines below i n (Err NoIpc) d' below' kept kept' st s = same_stands d lines below d' lines below' s.1 refl s.2 st
 outs_stand refuses d lines below i n (Err NoLink) d' below' kept kept' st s = step_stands refuses d lines below i n (Err NoLink) d' below' kept kept' st s
+outs_stand refuses d lines below i n (Err (CountSpent need left)) d' below' kept kept' st s = step_stands refuses d lines below i n (Err (CountSpent need left)) d' below' kept kept' st s

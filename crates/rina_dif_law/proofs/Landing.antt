@@ -31,7 +31,7 @@ use Rattle.rina_data.specs.declared.link.Link.{Link}
 use Rattle.rina_data.specs.declared.step.InStep.{InStep}
 use Rattle.rina_data.specs.declared.step.InStep.TheVariants as in_
 use Rattle.rina_data.specs.declared.step.StepError.{StepError}
-use Rattle.rina_data.specs.declared.step.StepError.TheVariants.{Memory, NoIpc, NoLink}
+use Rattle.rina_data.specs.declared.step.StepError.TheVariants.{CountSpent, Memory, NoIpc, NoLink}
 use Rattle.rina_data.specs.declared.step.Took.{Took}
 use Rattle.rina_data.specs.declared.step.Took.TheVariants as took
 use Rattle.rina_dif_law.specs.Accounted.{IsAccounted, Resends, bears, bears_on, counts_of, held_by, held_in, inbound_of, journal_numbers, over_ends, pieces_of, sent_with, taken_with}
@@ -358,3 +358,4 @@ ins_accounted d lines below i n (Ok (in_.Took key end)) d' lines' below' kept ke
 ins_accounted d lines below i n (Err Memory) d' lines' below' kept kept' st numbered c a s = accounted_same d lines below d' lines' below' s.0 s.1 s.2 a
 ins_accounted d lines below i n (Err NoIpc) d' lines' below' kept kept' st numbered c a s = accounted_same d lines below d' lines' below' s.1 s.2 s.3 a
 ins_accounted d lines below i n (Err NoLink) d' lines' below' kept kept' st numbered c a s = accounted_same d lines below d' lines' below' s.1 s.2 s.3 a
+ins_accounted d lines below i n (Err (CountSpent need left)) d' lines' below' kept kept' st numbered c a s = absurd s

@@ -31,7 +31,7 @@ use Rattle.rina_data.specs.declared.step.InStep.TheVariants as in_
 use Rattle.rina_data.specs.declared.step.OutStep.{OutStep}
 use Rattle.rina_data.specs.declared.step.OutStep.TheVariants as out
 use Rattle.rina_data.specs.declared.step.StepError.{StepError}
-use Rattle.rina_data.specs.declared.step.StepError.TheVariants.{Memory, NoIpc, NoLink}
+use Rattle.rina_data.specs.declared.step.StepError.TheVariants.{CountSpent, Memory, NoIpc, NoLink}
 use Rattle.rina_data.specs.declared.step.Took.{Took}
 use Rattle.rina_data.specs.declared.step.Took.TheVariants as took
 use Rattle.rina_dif_law.specs.Cloud.{Cloud, Everywhere, IsMine}
@@ -255,6 +255,7 @@ goes_here refuses d lines below i m process (Ok (out.Held why)) process' below' 
 goes_here refuses d lines below i m process (Err Memory) process' below' kept kept' st n is s = idle_here d below i process process' below' n is s.0 s.1
 goes_here refuses d lines below i m process (Err NoIpc) process' below' kept kept' st n is s = absurd s
 goes_here refuses d lines below i m process (Err NoLink) process' below' kept kept' st n is s = idle_here d below i process process' below' n is s.1 s.2
+goes_here refuses d lines below i m process (Err (CountSpent need left)) process' below' kept kept' st n is s = absurd s
 
 pub outs_numbered : (refuses : Port → ℕ → Option SendError) (d : DifSeen) (lines : List Direction) (below : Seen) (i m : ℕ) (r : Result OutStep StepError) (d' : DifSeen) (below' : Seen) → AreKept below → AreKept below' → IsStanding d lines below → IsNumbered d below → Outs refuses d below i m r d' below' → IsNumbered d' below'
 outs_numbered refuses d lines below i m (Ok o) d' below' kept kept' st n s =
@@ -267,6 +268,9 @@ outs_numbered refuses d lines below i m (Err NoIpc) d' below' kept kept' st n s 
 outs_numbered refuses d lines below i m (Err NoLink) d' below' kept kept' st n s =
     let silent = outs_silent refuses d below i m (Err NoLink) d' below' s in
     numbered_at d d' d.clock (slice_set d.processes i s.process') d.ends below below' s.new_is silent.later.ends silent.number n (goes_here refuses d lines below i m s.process (Err NoLink) s.process' below' kept kept' st n s.is_process s.done)
+outs_numbered refuses d lines below i m (Err (CountSpent need left)) d' below' kept kept' st n s =
+    let silent = outs_silent refuses d below i m (Err (CountSpent need left)) d' below' s in
+    numbered_at d d' d.clock (slice_set d.processes i s.process') d.ends below below' s.new_is silent.later.ends silent.number n (goes_here refuses d lines below i m s.process (Err (CountSpent need left)) s.process' below' kept kept' st n s.is_process s.done)
 
 -- ---- a step that takes
 
@@ -335,6 +339,7 @@ ins_numbered d lines below i m (Ok (in_.Took key end)) d' lines' below' kept kep
 ins_numbered d lines below i m (Err Memory) d' lines' below' kept kept' st n s = same_numbered d d' below below' s.0 s.2 n
 ins_numbered d lines below i m (Err NoIpc) d' lines' below' kept kept' st n s = same_numbered d d' below below' s.1 s.3 n
 ins_numbered d lines below i m (Err NoLink) d' lines' below' kept kept' st n s = same_numbered d d' below below' s.1 s.3 n
+ins_numbered d lines below i m (Err (CountSpent need left)) d' lines' below' kept kept' st n s = absurd s
 
 -- ---- what comes with time
 

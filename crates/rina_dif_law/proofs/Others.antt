@@ -18,7 +18,7 @@ use Rattle.rina_data.specs.declared.step.InStep.TheVariants as in_
 use Rattle.rina_data.specs.declared.step.OutStep.{OutStep}
 use Rattle.rina_data.specs.declared.step.OutStep.TheVariants as out
 use Rattle.rina_data.specs.declared.step.StepError.{StepError}
-use Rattle.rina_data.specs.declared.step.StepError.TheVariants.{Memory, NoIpc, NoLink}
+use Rattle.rina_data.specs.declared.step.StepError.TheVariants.{CountSpent, Memory, NoIpc, NoLink}
 use Rattle.rina_dif_law.specs.Cloud.{IsMine}
 use Rattle.rina_dif_law.specs.Dif.{DifSeen}
 use Rattle.rina_data.specs.Process.{Process}
@@ -74,12 +74,14 @@ goes_other refuses d o lines olines below i n process (Ok (out.Held why)) proces
 goes_other refuses d o lines olines below i n process (Err Memory) process' below' kept kept' st so apart is s = now_kept d lines below below' s.1 st
 goes_other refuses d o lines olines below i n process (Err NoIpc) process' below' kept kept' st so apart is s = absurd s
 goes_other refuses d o lines olines below i n process (Err NoLink) process' below' kept kept' st so apart is s = now_kept d lines below below' s.2 st
+goes_other refuses d o lines olines below i n process (Err (CountSpent need left)) process' below' kept kept' st so apart is s = absurd s
 
 pub outs_other : (refuses : Port → ℕ → Option SendError) (d o : DifSeen) (lines olines : List Direction) (below : Seen) (i n : ℕ) (r : Result OutStep StepError) (o' : DifSeen) (below' : Seen) → AreKept below → AreKept below' → IsStanding d lines below → IsStanding o olines below → AreApart o d → Outs refuses o below i n r o' below' → IsStanding d lines below'
 outs_other refuses d o lines olines below i n (Ok x) o' below' kept kept' st so apart s = goes_other refuses d o lines olines below i n s.process (Ok x) s.process' below' kept kept' st so apart s.is_process s.done
 outs_other refuses d o lines olines below i n (Err Memory) o' below' kept kept' st so apart s = goes_other refuses d o lines olines below i n s.process (Err Memory) s.process' below' kept kept' st so apart s.is_process s.done
 outs_other refuses d o lines olines below i n (Err NoIpc) o' below' kept kept' st so apart s = now_kept d lines below below' s.2 st
 outs_other refuses d o lines olines below i n (Err NoLink) o' below' kept kept' st so apart s = goes_other refuses d o lines olines below i n s.process (Err NoLink) s.process' below' kept kept' st so apart s.is_process s.done
+outs_other refuses d o lines olines below i n (Err (CountSpent need left)) o' below' kept kept' st so apart s = goes_other refuses d o lines olines below i n s.process (Err (CountSpent need left)) s.process' below' kept kept' st so apart s.is_process s.done
 
 -- what another DIF takes is passed below, and that is nothing to this one
 pub ins_other : (d o : DifSeen) (lines olines : List Direction) (below : Seen) (i n : ℕ) (r : Result InStep StepError) (o' : DifSeen) (olines' : List Direction) (below' : Seen) → AreKept below → AreKept below' → IsStanding d lines below → Ins o olines below i n r o' olines' below' → IsStanding d lines below'
@@ -89,6 +91,7 @@ ins_other d o lines olines below i n (Ok (in_.Took key end)) o' olines' below' k
 ins_other d o lines olines below i n (Err Memory) o' olines' below' kept kept' st s = now_kept d lines below below' s.2 st
 ins_other d o lines olines below i n (Err NoIpc) o' olines' below' kept kept' st s = now_kept d lines below below' s.3 st
 ins_other d o lines olines below i n (Err NoLink) o' olines' below' kept kept' st s = now_kept d lines below below' s.3 st
+ins_other d o lines olines below i n (Err (CountSpent need left)) o' olines' below' kept kept' st s = absurd s
 
 -- whatever leaves what the members' ends sent and passed, at one tick
 pub stands_beside : (d : DifSeen) (lines : List Direction) (below below' : Seen) → AreKept below' → IsStanding d lines below → IsLifted d.config below below' → below'.now ≡ below.now → IsStanding d lines below'

@@ -23,7 +23,7 @@ use Rattle.rina_data.specs.declared.link.Link.{Link}
 use Rattle.rina_data.specs.declared.step.OutStep.{OutStep}
 use Rattle.rina_data.specs.declared.step.OutStep.TheVariants as out
 use Rattle.rina_data.specs.declared.step.StepError.{StepError}
-use Rattle.rina_data.specs.declared.step.StepError.TheVariants.{Memory, NoIpc, NoLink}
+use Rattle.rina_data.specs.declared.step.StepError.TheVariants.{CountSpent, Memory, NoIpc, NoLink}
 use Rattle.rina_dif_law.specs.Accounted.{IsAccounted, Resends, bears, bears_on, counts_of, over_ends, sent_with, taken_with}
 use Rattle.rina_data.specs.Hops.{Hop, opened}
 use Rattle.rina_dif_law.specs.Dif.{DifSeen, IsProcess, with_process}
@@ -177,6 +177,7 @@ goes_accounted refuses d lines below i n process (Ok (out.Held why)) process' be
 goes_accounted refuses d lines below i n process (Err Memory) process' below' kept st numbered a is s = idle d lines below below' i process process' is s.0 s.1 a
 goes_accounted refuses d lines below i n process (Err NoIpc) process' below' kept st numbered a is s = absurd s
 goes_accounted refuses d lines below i n process (Err NoLink) process' below' kept st numbered a is s = idle d lines below below' i process process' is s.1 s.2 a
+goes_accounted refuses d lines below i n process (Err (CountSpent need left)) process' below' kept st numbered a is s = absurd s
 
 step_accounted : (refuses : Port → ℕ → Option SendError) (d : DifSeen) (lines : List Direction) (below : Seen) (i n : ℕ) (r : Result OutStep StepError) (d' : DifSeen) (below' : Seen) → AreKept below' → IsStanding d lines below → IsNumbered d below → IsAccounted d lines below → IsStep (λ p p'. Goes refuses d.config d.clock p below n r p' below') d i d' → IsAccounted d' lines below'
 step_accounted refuses d lines below i n r d' below' kept st numbered a s = subst (λ (z : DifSeen). IsAccounted z lines below') (sym s.new_is) (goes_accounted refuses d lines below i n s.process r s.process' below' kept st numbered a s.is_process s.done)
@@ -186,3 +187,4 @@ outs_accounted refuses d lines below i n (Ok x) d' below' kept kept' st numbered
 outs_accounted refuses d lines below i n (Err Memory) d' below' kept kept' st numbered a s = step_accounted refuses d lines below i n (Err Memory) d' below' kept' st numbered a s
 outs_accounted refuses d lines below i n (Err NoIpc) d' below' kept kept' st numbered a s = accounted_same d lines below d' lines below' s.1 refl s.2 a
 outs_accounted refuses d lines below i n (Err NoLink) d' below' kept kept' st numbered a s = step_accounted refuses d lines below i n (Err NoLink) d' below' kept' st numbered a s
+outs_accounted refuses d lines below i n (Err (CountSpent need left)) d' below' kept kept' st numbered a s = step_accounted refuses d lines below i n (Err (CountSpent need left)) d' below' kept' st numbered a s

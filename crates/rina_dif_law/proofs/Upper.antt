@@ -26,7 +26,7 @@ use Rattle.rina_data.specs.declared.step.InStep.{InStep}
 use Rattle.rina_data.specs.declared.step.InStep.TheVariants as in_
 use Rattle.rina_data.specs.declared.step.OutStep.{OutStep}
 use Rattle.rina_data.specs.declared.step.StepError.{StepError}
-use Rattle.rina_data.specs.declared.step.StepError.TheVariants.{Memory, NoIpc, NoLink}
+use Rattle.rina_data.specs.declared.step.StepError.TheVariants.{CountSpent, Memory, NoIpc, NoLink}
 use Rattle.rina_data.specs.declared.step.Took.{Took}
 use Rattle.rina_data.specs.declared.step.Took.TheVariants as took
 use Rattle.rina_data.specs.Hops.{Hop}
@@ -138,6 +138,7 @@ ins_silent d lines below i n (Ok (in_.Took key end)) d' lines' below' st s = set
 ins_silent d lines below i n (Err Memory) d' lines' below' st s = noted_silent d d' d.processes s.0
 ins_silent d lines below i n (Err NoIpc) d' lines' below' st s = noted_silent d d' d.processes s.1
 ins_silent d lines below i n (Err NoLink) d' lines' below' st s = noted_silent d d' d.processes s.1
+ins_silent d lines below i n (Err (CountSpent need left)) d' lines' below' st s = absurd s
 
 -- a step of one IPC process alone
 pub outs_silent : (refuses : Port → ℕ → Option SendError) (d : DifSeen) (below : Seen) (i n : ℕ) (r : Result OutStep StepError) (d' : DifSeen) (below' : Seen) → Outs refuses d below i n r d' below' → IsSilent d d'
@@ -145,6 +146,7 @@ outs_silent refuses d below i n (Ok x) d' below' s = noted_silent d d' (slice_se
 outs_silent refuses d below i n (Err Memory) d' below' s = noted_silent d d' (slice_set d.processes i s.process') s.new_is
 outs_silent refuses d below i n (Err NoIpc) d' below' s = noted_silent d d' d.processes s.1
 outs_silent refuses d below i n (Err NoLink) d' below' s = noted_silent d d' (slice_set d.processes i s.process') s.new_is
+outs_silent refuses d below i n (Err (CountSpent need left)) d' below' s = noted_silent d d' (slice_set d.processes i s.process') s.new_is
 
 -- ---- later
 

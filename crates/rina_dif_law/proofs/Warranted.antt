@@ -42,7 +42,7 @@ use Rattle.rina_data.specs.declared.step.InStep.TheVariants as in_
 use Rattle.rina_data.specs.declared.step.OutStep.{OutStep}
 use Rattle.rina_data.specs.declared.step.OutStep.TheVariants as out
 use Rattle.rina_data.specs.declared.step.StepError.{StepError}
-use Rattle.rina_data.specs.declared.step.StepError.TheVariants.{Memory, NoIpc, NoLink}
+use Rattle.rina_data.specs.declared.step.StepError.TheVariants.{CountSpent, Memory, NoIpc, NoLink}
 use Rattle.rina_data.specs.declared.step.Took.{Took}
 use Rattle.rina_data.specs.declared.step.Took.TheVariants as took
 use Rattle.rina_data.specs.Configs.{Member, cube_by}
@@ -115,6 +115,7 @@ goes_noted refuses d lines below i n member process (Ok (out.Held why)) process'
 goes_noted refuses d lines below i n member process (Err Memory) process' d' below' is new s = kept_noted _ d d' i process process' new is.is_process (ap (λ (p : Process). p.ledger) s.0) (ap (λ (p : Process). p.links) s.0)
 goes_noted refuses d lines below i n member process (Err NoIpc) process' d' below' is new s = absurd s
 goes_noted refuses d lines below i n member process (Err NoLink) process' d' below' is new s = kept_noted _ d d' i process process' new is.is_process (ap (λ (p : Process). p.ledger) s.1) (ap (λ (p : Process). p.links) s.1)
+goes_noted refuses d lines below i n member process (Err (CountSpent need left)) process' d' below' is new s = absurd s
 
 there : (d : DifSeen) (lines : List Direction) (below : Seen) (i : ℕ) (p : Process) → IsStanding d lines below → slice_get d.processes i ≡ Some p → (m : Member) × IsProcess d i m p
 there d lines below i p st is = (let m = member_at d lines below i p st is in (m.0, record { is_member = m.1; is_process = is }))
@@ -124,6 +125,7 @@ outs_noted refuses d lines below i n (Ok x) d' below' st s = (let m = there d li
 outs_noted refuses d lines below i n (Err Memory) d' below' st s = (let m = there d lines below i s.process st s.is_process in goes_noted refuses d lines below i n m.0 s.process (Err Memory) s.process' d' below' m.1 s.new_is s.done)
 outs_noted refuses d lines below i n (Err NoIpc) d' below' st s = same_noted _ d d' s.1
 outs_noted refuses d lines below i n (Err NoLink) d' below' st s = (let m = there d lines below i s.process st s.is_process in goes_noted refuses d lines below i n m.0 s.process (Err NoLink) s.process' d' below' m.1 s.new_is s.done)
+outs_noted refuses d lines below i n (Err (CountSpent need left)) d' below' st s = (let m = there d lines below i s.process st s.is_process in goes_noted refuses d lines below i n m.0 s.process (Err (CountSpent need left)) s.process' d' below' m.1 s.new_is s.done)
 
 pub outs_write : (refuses : Port → ℕ → Option SendError) (d : DifSeen) (lines : List Direction) (below : Seen) (i n : ℕ) (r : Result OutStep StepError) (d' : DifSeen) (below' : Seen) → IsStanding d lines below → Outs refuses d below i n r d' below' → Writes (MayWriteOff d lines below (RefusesOver refuses below)) d d'
 outs_write refuses d lines below i n r d' below' st s = writes _ d d' (outs_noted refuses d lines below i n r d' below' st s)
@@ -279,6 +281,7 @@ ins_noted d lines below i n (Ok (in_.Took key end)) d' lines' below' st s = sett
 ins_noted d lines below i n (Err Memory) d' lines' below' st s = same_noted _ d d' s.0
 ins_noted d lines below i n (Err NoIpc) d' lines' below' st s = same_noted _ d d' s.1
 ins_noted d lines below i n (Err NoLink) d' lines' below' st s = same_noted _ d d' s.1
+ins_noted d lines below i n (Err (CountSpent need left)) d' lines' below' st s = absurd s
 
 pub ins_write : (d : DifSeen) (lines : List Direction) (below : Seen) (i n : ℕ) (r : Result InStep StepError) (d' : DifSeen) (lines' : List Direction) (below' : Seen) → IsStanding d lines below → Ins d lines below i n r d' lines' below' → Writes (MayWriteOff d lines below NoPort) d d'
 ins_write d lines below i n r d' lines' below' st s = writes _ d d' (ins_noted d lines below i n r d' lines' below' st s)

@@ -24,7 +24,7 @@ use Rattle.rina_law.specs.Receiver.{Piece, Verdict, Accepted, Held, Duplicate, B
 use Rattle.rina_data.specs.declared.step.InStep.{InStep}
 use Rattle.rina_data.specs.declared.step.InStep.TheVariants as in_
 use Rattle.rina_data.specs.declared.step.StepError.{StepError}
-use Rattle.rina_data.specs.declared.step.StepError.TheVariants.{Memory, NoIpc, NoLink}
+use Rattle.rina_data.specs.declared.step.StepError.TheVariants.{CountSpent, Memory, NoIpc, NoLink}
 use Rattle.rina_data.specs.declared.step.Took.{Took}
 use Rattle.rina_data.specs.declared.step.Took.TheVariants as took
 use Rattle.rina_data.specs.Hops.{Hop, opened}
@@ -252,5 +252,6 @@ abbrev pub Ins : DifSeen → List Direction → Seen → ℕ → ℕ → Result 
 Ins d lines below i n (Ok in_.Idle) d' lines' below' = IsEmpty d below i n × (d' ≡ d) × (lines' ≡ lines) × (below' ≡ below)
 Ins d lines below i n (Ok (in_.Took key end)) d' lines' below' = IsTaken d lines below i n key end d' lines' below'
 Ins d lines below i n (Err Memory) d' lines' below' = (d' ≡ d) × (lines' ≡ lines) × (below' ≡ below)
+Ins d lines below i n (Err (CountSpent need left)) d' lines' below' = ⊥
 Ins d lines below i n (Err NoIpc) d' lines' below' = (slice_get d.processes i ≡ None) × (d' ≡ d) × (lines' ≡ lines) × (below' ≡ below)
 Ins d lines below i n (Err NoLink) d' lines' below' = HasNoLink d i n × (d' ≡ d) × (lines' ≡ lines) × (below' ≡ below)

@@ -1,10 +1,9 @@
 //! The built-in policies on tables of heads, and a shelf with policies of its own.
 ghost use Rattle.std.specs.Prelude.{◌≡◌, ◌-◌, length};
 
-use rina_base::Name;
+use rina_base::{Name, NameError};
 use rina_policy::{Count, First, Head, Last, Policy, Round, Shelf, Strict, Weighted};
 use std::alloc::Global;
-use std::test::Fail;
 
 /// Answers the last place, and keeps its count.
 #[derive(Drop)]
@@ -91,23 +90,21 @@ static WEIGHTED: [Row; 8] = [
     (0, 3, 2),
 ];
 
-/// How a policy goes through the rows: the first row where it picks another place, how often it picked, and its last pick.
-fn went<P: Policy>(policy: &mut P, rows: &[Row]) -> (Option<usize>, u64, u32) {
-    for (place, (from, to, wanted)) in rows.iter().enumerate() {
+/// Whether a policy picks each place, and keeps how often it picked and its last pick.
+fn goes<P: Policy>(policy: &mut P, rows: &[Row], picks: u64, last: u32) -> bool {
+    for (from, to, wanted) in rows {
         if *from >= *to || *to > HEADS.len() || policy.pick(0, &HEADS[*from..*to]) != *wanted {
-            return (Some(place), policy.picks(), policy.last());
+            return false;
         }
     }
-    (None, policy.picks(), policy.last())
+    policy.picks() == picks && policy.last() == last
 }
 
 #[test]
 fn each_policy_picks_by_its_rule(rt: HostRuntime) {
-    assert_eq!(rt; went(&mut Strict::new(), &STRICT), (None, 2, 0));
-    assert_eq!(rt; went(&mut Last::new(), &LAST), (None, 2, 0));
-    assert_eq!(rt; went(&mut First::new(), &FIRST), (None, 3, 0));
-    assert_eq!(rt; went(&mut Round::new(), &ROUND), (None, 8, 1));
-    assert_eq!(rt; went(&mut Weighted::new(), &WEIGHTED), (None, 8, 2));
+    assert!(rt; goes(&mut Strict::new(), &STRICT, 2, 0) && goes(&mut Last::new(), &LAST, 2, 0));
+    assert!(rt; goes(&mut First::new(), &FIRST, 3, 0) && goes(&mut Round::new(), &ROUND, 8, 1));
+    assert!(rt; goes(&mut Weighted::new(), &WEIGHTED, 8, 2));
 }
 
 /// The name of a policy on a shelf.
@@ -165,10 +162,10 @@ static RETIRED: [Step; 8] = [
     (On::Back, Ask::AddStrict, Told::No),
 ];
 
-fn name_of(alloc: Global, on: On) -> Result<Name, Fail> {
+fn name_of(alloc: Global, on: On) -> Result<Name, NameError> {
     match on {
-        On::Round => Ok(Name::read(alloc, b"round")?),
-        On::Back => Ok(Name::read(alloc, b"back")?),
+        On::Round => Name::read(alloc, b"round"),
+        On::Back => Name::read(alloc, b"back"),
     }
 }
 
@@ -190,43 +187,72 @@ fn new_back() -> Back {
 }
 
 /// Whether a shelf takes a policy under a name.
-fn is_added(
-    alloc: Global,
-    shelf: &mut Shelf,
-    name: &Name,
-    policy: Box<dyn Policy>,
-) -> Result<bool, Fail> {
-    let added = name.copy(alloc)?;
-    Ok(shelf.add(alloc, added, policy).is_ok())
+fn is_added(alloc: Global, shelf: &mut Shelf, name: &Name, policy: Box<dyn Policy>) -> bool {
+    match name.copy(alloc) {
+        Ok(added) => shelf.add(alloc, added, policy).is_ok(),
+        Err(_) => false,
+    }
 }
 
-fn answer_of(alloc: Global, shelf: &mut Shelf, name: &Name, ask: Ask) -> Result<Told, Fail> {
-    let done = match ask {
-        Ask::Has => shelf.has(name),
-        Ask::AddRound => is_added(alloc, shelf, name, Box::new(alloc, Round::new())?)?,
-        Ask::AddBack => is_added(alloc, shelf, name, Box::new(alloc, new_back())?)?,
-        Ask::AddStrict => is_added(alloc, shelf, name, Box::new(alloc, Strict::new())?)?,
-        Ask::Retire => shelf.retire(name).is_ok(),
-        Ask::Pick(count) => return Ok(picked(shelf, name, count)),
-    };
-    Ok(yes_if(done))
+fn adds_round(alloc: Global, shelf: &mut Shelf, name: &Name) -> bool {
+    match Box::new(alloc, Round::new()) {
+        Ok(policy) => is_added(alloc, shelf, name, policy),
+        Err(_) => false,
+    }
 }
 
-/// The first step at which a new shelf tells something else.
-fn first_other(alloc: Global, steps: &[Step]) -> Result<Option<usize>, Fail> {
-    let mut shelf = Shelf::new(alloc)?;
-    for (place, (on, ask, wanted)) in steps.iter().enumerate() {
-        let name = name_of(alloc, *on)?;
-        if answer_of(alloc, &mut shelf, &name, *ask)? != *wanted {
-            return Ok(Some(place));
+fn adds_back(alloc: Global, shelf: &mut Shelf, name: &Name) -> bool {
+    match Box::new(alloc, new_back()) {
+        Ok(policy) => is_added(alloc, shelf, name, policy),
+        Err(_) => false,
+    }
+}
+
+fn adds_strict(alloc: Global, shelf: &mut Shelf, name: &Name) -> bool {
+    match Box::new(alloc, Strict::new()) {
+        Ok(policy) => is_added(alloc, shelf, name, policy),
+        Err(_) => false,
+    }
+}
+
+fn answer_of(alloc: Global, shelf: &mut Shelf, name: &Name, ask: Ask) -> Told {
+    match ask {
+        Ask::Has => yes_if(shelf.has(name)),
+        Ask::AddRound => yes_if(adds_round(alloc, shelf, name)),
+        Ask::AddBack => yes_if(adds_back(alloc, shelf, name)),
+        Ask::AddStrict => yes_if(adds_strict(alloc, shelf, name)),
+        Ask::Retire => yes_if(shelf.retire(name).is_ok()),
+        Ask::Pick(count) => picked(shelf, name, count),
+    }
+}
+
+/// Whether a shelf tells what a step says.
+fn tells(alloc: Global, shelf: &mut Shelf, step: Step) -> bool {
+    let (on, ask, wanted) = step;
+    match name_of(alloc, on) {
+        Ok(name) => answer_of(alloc, shelf, &name, ask) == wanted,
+        Err(_) => false,
+    }
+}
+
+fn tells_all(alloc: Global, shelf: &mut Shelf, steps: &[Step]) -> bool {
+    for step in steps {
+        if !tells(alloc, shelf, *step) {
+            return false;
         }
     }
-    Ok(None)
+    true
+}
+
+/// Whether a new shelf tells what each step says.
+fn new_tells_all(alloc: Global, steps: &[Step]) -> bool {
+    match Shelf::new(alloc) {
+        Ok(mut shelf) => tells_all(alloc, &mut shelf, steps),
+        Err(_) => false,
+    }
 }
 
 #[test]
-fn a_shelf_asks_by_name(rt: HostRuntime) -> Result<(), Fail> {
-    assert_eq!(rt; first_other(rt.alloc(), &SHELF)?, None);
-    assert_eq!(rt; first_other(rt.alloc(), &RETIRED)?, None);
-    Ok(())
+fn a_shelf_asks_by_name(rt: HostRuntime) {
+    assert!(rt; new_tells_all(rt.alloc(), &SHELF) && new_tells_all(rt.alloc(), &RETIRED));
 }

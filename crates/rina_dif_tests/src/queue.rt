@@ -1,14 +1,14 @@
 //! A link with two cubes, served by a policy of a shelf.
 ghost use Rattle.std.specs.Prelude.{◌≡◌, IfOk};
 
-use rina_base::{Name, Pdu, PduKind, Seq};
+use rina_base::{Memory, Name, Pdu, PduKind, Seq};
 use rina_policy::{Last, Shelf};
-use rina_queue::{Queue, Queued, Queues};
+use rina_queue::{Queue, QueueFull, Queued, Queues};
 use std::alloc::Global;
 use std::test::Fail;
 
 /// A piece of some bytes, queued at a tick.
-fn queued(alloc: Global, qos: u8, since: u32) -> Result<Queued, Fail>
+fn queued(alloc: Global, qos: u8, since: u32) -> Result<Queued, Memory>
     ensures { IfOk result (λ q. q.pdu.qos ≡ qos) }
 {
     let pdu = Pdu {
@@ -88,119 +88,140 @@ fn since_of(item: Option<Queued>) -> Option<u32> {
     Some(item?.since)
 }
 
-fn pushed(
+/// The cap of a queue that is full.
+fn cap_of(pushed: Result<(), QueueFull>) -> Option<u32> {
+    match pushed {
+        Ok(()) => None,
+        Err(full) => Some(full.cap),
+    }
+}
+
+fn pushes(
     alloc: Global,
     queues: &mut Queues,
     qos: u8,
     link: u16,
     since: u32,
-) -> Result<Option<u32>, Fail> {
-    let item = queued(alloc, qos, since)?;
+    wanted: Option<u32>,
+) -> bool {
     if !queues.has(qos, link) {
-        return Err("there is no such queue".into());
+        return false;
     }
-    match queues.push(qos, link, item) {
-        Ok(()) => Ok(None),
-        Err(full) => Ok(Some(full.cap)),
-    }
-}
-
-fn taken(queues: &mut Queues, qos: u8, link: u16) -> Option<u32> {
-    if queues.has(qos, link) {
-        since_of(queues.take(qos, link))
-    } else {
-        None
+    match queued(alloc, qos, since) {
+        Ok(item) => cap_of(queues.push(qos, link, item)) == wanted,
+        Err(Memory) => false,
     }
 }
 
-fn room(queues: &Queues, qos: u8, link: u16) -> Option<u32> {
-    if queues.has(qos, link) {
-        Some(queues.room(qos, link))
-    } else {
-        None
-    }
+fn takes(queues: &mut Queues, qos: u8, link: u16, wanted: Option<u32>) -> bool {
+    queues.has(qos, link) && since_of(queues.take(qos, link)) == wanted
+}
+
+fn has_room(queues: &Queues, qos: u8, link: u16, wanted: Option<u32>) -> bool {
+    queues.has(qos, link) && wanted == Some(queues.room(qos, link))
 }
 
 fn served(queues: &Queues, shelf: &mut Shelf, name: &Name, link: u16) -> Option<u32> {
     Some(queues.serve(shelf, name, 0, link)?.since)
 }
 
-/// What an event tells, of queues that the policy of a name serves.
-fn told(
+/// Whether an event tells what is wanted, of queues that the policy of a name serves.
+fn tells(alloc: Global, queues: &mut Queues, shelf: &mut Shelf, name: &Name, step: Step) -> bool {
+    let (event, wanted) = step;
+    match event {
+        Event::Push(qos, link, since) => pushes(alloc, queues, qos, link, since, wanted),
+        Event::Serve(link) => served(queues, shelf, name, link) == wanted,
+        Event::Take(qos, link) => takes(queues, qos, link, wanted),
+        Event::Room(qos, link) => has_room(queues, qos, link, wanted),
+        Event::Empty(link) => {
+            queues.empty(link);
+            wanted.is_none()
+        }
+        Event::Retire => shelf.retire(name).is_ok() && wanted.is_none(),
+    }
+}
+
+/// Whether links 0 and 1 get a queue for each cube, link 0 once.
+fn adds_links(alloc: Global, queues: &mut Queues) -> bool {
+    queues.add_link(alloc, 0).is_ok()
+        && queues.add_link(alloc, 0).is_ok()
+        && queues.add_link(alloc, 1).is_ok()
+        && queues.cubes.as_slice() == [0, 1].as_slice()
+        && queues.queues.len() == 4
+}
+
+/// Whether a shelf takes a policy under a name, which picks the last.
+fn adds_last(alloc: Global, shelf: &mut Shelf, name: Name) -> bool {
+    match Box::new(alloc, Last::new()) {
+        Ok(policy) => shelf.add(alloc, name, policy).is_ok(),
+        Err(_) => false,
+    }
+}
+
+/// Whether queues that the policy of a name serves tell what each step says.
+fn tell_all(
     alloc: Global,
     queues: &mut Queues,
     shelf: &mut Shelf,
     name: &Name,
-    event: Event,
-) -> Result<Option<u32>, Fail> {
-    match event {
-        Event::Push(qos, link, since) => pushed(alloc, queues, qos, link, since),
-        Event::Serve(link) => Ok(served(queues, shelf, name, link)),
-        Event::Take(qos, link) => Ok(taken(queues, qos, link)),
-        Event::Room(qos, link) => Ok(room(queues, qos, link)),
-        Event::Empty(link) => {
-            queues.empty(link);
-            Ok(None)
+    steps: &[Step],
+) -> bool {
+    for step in steps {
+        if !tells(alloc, queues, shelf, name, *step) {
+            return false;
         }
-        Event::Retire => {
-            if shelf.retire(name).is_err() {
-                return Err("it was not there".into());
-            }
-            Ok(None)
+    }
+    true
+}
+
+/// Whether new queues of two cubes, with a cap of 2, do.
+fn new_tell_all(alloc: Global, shelf: &mut Shelf, name: &Name, steps: &[Step]) -> bool {
+    match Queues::new(alloc, 2, &[1, 0, 1]) {
+        Ok(mut queues) => {
+            adds_links(alloc, &mut queues) && tell_all(alloc, &mut queues, shelf, name, steps)
         }
+        Err(Memory) => false,
     }
 }
 
-/// Two cubes, links 0 and 1, and a cap of 2.
-fn queues_of(alloc: Global) -> Result<Queues, Fail> {
-    let mut queues = Queues::new(alloc, 2, &[1, 0, 1])?;
-    queues.add_link(alloc, 0)?;
-    queues.add_link(alloc, 0)?;
-    queues.add_link(alloc, 1)?;
-    Ok(queues)
-}
-
-/// The first step at which new queues tell something else, which the policy `last` serves.
-fn first_other(alloc: Global, steps: &[Step]) -> Result<Option<usize>, Fail> {
-    let name = Name::read(alloc, b"last")?;
-    let mut shelf = Shelf::new(alloc)?;
-    shelf.add(alloc, name.copy(alloc)?, Box::new(alloc, Last::new())?)?;
-    let mut queues = queues_of(alloc)?;
-    for (place, (event, wanted)) in steps.iter().enumerate() {
-        if told(alloc, &mut queues, &mut shelf, &name, *event)? != *wanted {
-            return Ok(Some(place));
-        }
-    }
-    Ok(None)
+/// Whether the queues of each table of steps do.
+fn each_tells_all(alloc: Global, shelf: &mut Shelf, name: &Name) -> bool {
+    new_tell_all(alloc, shelf, name, &EMPTIED)
+        && new_tell_all(alloc, shelf, name, &FIRST_OUT)
+        && new_tell_all(alloc, shelf, name, &SERVED)
 }
 
 #[test]
 fn queues_are_served_emptied_and_first_in_first_out(rt: HostRuntime) -> Result<(), Fail> {
-    let alloc = rt.alloc();
-    assert_eq!(rt; first_other(alloc, &SERVED)?, None);
-    assert_eq!(rt; first_other(alloc, &EMPTIED)?, None);
-    assert_eq!(rt; first_other(alloc, &FIRST_OUT)?, None);
+    let name = Name::read(rt.alloc(), b"last")?;
+    let mut shelf = Shelf::new(rt.alloc())?;
+    assert!(rt; adds_last(rt.alloc(), &mut shelf, name.copy(rt.alloc())?));
+    assert!(rt; each_tells_all(rt.alloc(), &mut shelf, &name));
     Ok(())
 }
 
-#[test]
-fn a_link_has_a_queue_for_each_cube(rt: HostRuntime) -> Result<(), Fail> {
-    let queues = queues_of(rt.alloc())?;
-    assert_eq!(rt; queues.cubes.as_slice(), [0, 1].as_slice());
-    assert_eq!(rt; queues.queues.len(), 4);
-    Ok(())
+/// Whether a queue of cap 2 takes an item where it is one of the first two.
+fn fills(alloc: Global, queue: &mut Queue, since: u32) -> bool {
+    match queued(alloc, 1, since) {
+        Ok(item) => queue.push(2, item).is_ok() == (since < 7),
+        Err(Memory) => false,
+    }
+}
+
+/// Whether the head of a queue is the first of two items.
+fn has_first(queue: &mut Queue) -> bool {
+    let head = queue.head();
+    head.waiting == 2 && head.since == 5 && since_of(queue.take()) == Some(5)
+}
+
+/// Whether a queue takes two items and no third one, and its head is its first.
+fn queue_goes(alloc: Global, queue: &mut Queue) -> bool {
+    fills(alloc, queue, 5) && fills(alloc, queue, 6) && fills(alloc, queue, 7) && has_first(queue)
 }
 
 #[test]
 fn the_head_of_a_queue_is_its_first(rt: HostRuntime) -> Result<(), Fail> {
-    let alloc = rt.alloc();
-    let mut queue = Queue::new(alloc, 0, 1, 2)?;
-    for since in 5u32..8 {
-        let pushed = queue.push(2, queued(alloc, 1, since)?);
-        assert_eq!(rt; pushed.is_ok(), since < 7);
-    }
-    let head = queue.head();
-    assert_eq!(rt; (head.waiting, head.since), (2, 5));
-    assert_eq!(rt; since_of(queue.take()), Some(5));
+    let mut queue = Queue::new(rt.alloc(), 0, 1, 2)?;
+    assert!(rt; queue_goes(rt.alloc(), &mut queue));
     Ok(())
 }

@@ -16,7 +16,7 @@ use Rattle.rina_agent.specs.Agenda.{floods, waiting_on}
 use Rattle.rina_agent.specs.Counts.{next_of, spent, unless}
 use Rattle.rina_agent.specs.Enrolled.{done}
 use Rattle.rina_agent.specs.Enrolments.{is_numbered}
-use Rattle.rina_agent.specs.Items.{stated, took}
+use Rattle.rina_agent.specs.Items.{made, own_item, stated, took}
 use Rattle.rina_agent.specs.Rows.{was_up, dropped}
 use Rattle.rina_plan.specs.declared.dif.LinkPlan.{LinkPlan}
 use Rattle.rina_data.specs.declared.settings.Member.{Member}
@@ -52,6 +52,10 @@ lost_few true None a now k few = next_few a.last_count
 lost_few true (Some e) a now k few = few
 lost_few false o a now k few = few
 
+made_few : (o : Option AgentError) (a : Agent) (now : ℕ) (key : List ℕ) (value : Option (List ℕ)) → IsFew a → IsFew (done a (unless o (made None a now key value)))
+made_few None a now key value few = next_few a.last_count
+made_few (Some e) a now key value few = few
+
 took_few : (newer : Bool) (a : Agent) (link : ℕ) (x : Item) (items : List Item) → IsFew a → IsFew (cond newer (record a { items = items; agenda = a.agenda ++ floods (Some link) x a.links }) a)
 took_few true a link x items few = few
 took_few false a link x items few = few
@@ -72,7 +76,9 @@ near_few n link side (messages.Item x) rest i plain few = took_at n link side x 
 near_few n link side (messages.Flood x) rest i plain few = took_at n link side x i few
 
 row_few : (n : Network) (row : Row) (i : ℕ) → ArePlain n → May n row → IsOfStatic row → IsFew (n.agents i) → IsFew ((happens n row).agents i)
-row_few n (Make j key value) i plain may of few = absurd of
+row_few n (Make j key value) i plain may of few =
+    let a = n.agents j in
+    at_place (λ a c. IsFew a → IsFew c) j _ n.agents i (made_few (spent 1 a.last_count) a n.now key value) (λ c e. e) few
 row_few n (Put link side m) i plain may of few = at_place (λ a c. IsFew a → IsFew c) (n.ends link side) _ n.agents i (λ e. e) (λ a e. e) few
 row_few n (Take link side m) i plain may of few = at_place (λ a c. IsFew a → IsFew c) (n.ends link side) _ n.agents i (λ e. e) (λ a e. e) few
 row_few n (Handle link side (ToNeighbour m) rest) i plain may of few = near_few n link side m rest i (first_plain n link side (ToNeighbour m) rest plain may) few
@@ -100,7 +106,13 @@ lost_near n link side true x h old e = elim (Contains-push_cases n.made (state_o
 lost_near n link side false x h old e = old (none_more n.made x e)
 
 row_near : (n : Network) (row : Row) (x : Item) → Holds n → ArePlain n → May n row → IsOfStatic row → (Contains n.made x → x.version.origin < 2 ^ 32) → Contains (happens n row).made x → x.version.origin < 2 ^ 32
-row_near n (Make j key value) x h plain may of old e = absurd of
+row_near n (Make j key value) x h plain may of old e = elim (Contains-push_cases n.made (own_item (n.agents j) n.now key value) x e) [
+  | inl was ↦ old was
+  | inr is ↦
+      (let same : x.version.origin ≡ j = ap (λ (y : Item). y.version.origin) (sym is) ∙ h.laid.addresses j in
+      let fits = of.1 in
+      omega (arith, same, fits))
+]
 row_near n (Put link side m) x h plain may of old e = old e
 row_near n (Take link side m) x h plain may of old e = old (none_more n.made x e)
 row_near n (Handle link side (ToNeighbour m) rest) x h plain may of old e = old (near_made n link side m rest x (first_plain n link side (ToNeighbour m) rest plain may) e)

@@ -21,6 +21,7 @@ use Rattle.rina_agent.specs.Enrolments.{hears, is_numbered, place_of}
 use Rattle.rina_agent.specs.Items.{stated}
 use Rattle.rina_agent.specs.Neighbours.{link_key, link_state}
 use Rattle.rina_agent.specs.Rows.{either, start_batch, started, started_as, started_by, stop_batch, up_link, was_up}
+use Rattle.rina_member.proofs.Losing.{counts_on}
 use Rattle.rina_flood.specs.Network.{Network, put_agent, put_offers, carried, called, AreApart, if_counted, last_state}
 use Rattle.rina_flood.proofs.Calls.{at_itself}
 use Rattle.rina_flood.proofs.Enrolling.{nothing_quiet, quiet_called}
@@ -31,7 +32,7 @@ use Rattle.rina_flood.proofs.Places.{nothing_in, in_cons, in_one, in_first, in_r
 use Rattle.rina_flood.proofs.Raise.{IsRaised, raise_holds}
 use Rattle.rina_flood.proofs.Rows.{IsSound, IsOwn, own_holds}
 use Rattle.rina_flood.proofs.Runs.{alike_holds}
-use Rattle.rina_flood.proofs.Steps.{made_sound, made_own, room}
+use Rattle.rina_flood.proofs.Steps.{made_sound, made_own}
 
 -- A batch of items
 
@@ -196,7 +197,7 @@ start_unless n i k invoke address m replies h is None o holds =
     let b : Agent = record a { last_invoke = stop; links = slice_set a.links h.at (up_link (Some address) h.link); agenda = a.agenda ++ batch } in
     let may = either_none (spent 1 a.last_count) (spent 1 a.last_invoke) o in
     let r = is_raised a k h.at h.link (Some address) batch q b refl refl refl refl refl (start_all h.link.number invoke stop a.items) (λ j m y. start_only j h.link.number invoke stop a.items m y) in
-    made_network n i (stated None b n.now) (last_state (stated None b n.now) n.now ∷ []) (room a.last_count may) (raised_states n i b h.link.number batch r may holds)
+    made_network n i (stated None b n.now) (last_state (stated None b n.now) n.now ∷ []) (counts_on a.last_count may) (raised_states n i b h.link.number batch r may holds)
 
 start_as : (d : EnrolDo) (n : Network) (i k invoke address : ℕ) (m : LinkMessage) (replies : List LinkMessage) (h : _) → hears (n.agents i).links k m replies events.Start ≡ Some h → Holds n → Holds (start_network n i (started_as d (n.agents i) n.now h invoke address))
 start_as does.Nothing n i k invoke address m replies h is holds = same_network n i _ holds

@@ -1,5 +1,5 @@
 -- What is made where only the rows of a static DIF happen.
-use Rattle.std.proofs.Common.{◌≡◌, ℕ, ◌⊎◌, Bool, true, false, cond, nat_eq, List, ◌∷◌, ◌++◌, Contains, Some, refl, sym, ◌∙◌, ap, subst, inl, inr, []}
+use Rattle.std.proofs.Common.{◌≡◌, ℕ, ◌⊎◌, Bool, true, false, cond, nat_eq, List, ◌∷◌, ◌++◌, Contains, Some, refl, ◌≤◌, arith, sym, ◌∙◌, ap, subst, inl, inr, []}
 use Rattle.std.specs.Prelude.{codes, find}
 use Rattle.std.specs.Fmt.{decimal}
 use Rattle.std.specs.List.{starts_with}
@@ -14,11 +14,13 @@ use Rattle.rina_dir.specs.Directory.{key_of}
 use Rattle.rina_agent.specs.declared.message.ManagementMessage.{ManagementMessage}
 use Rattle.rina_agent.specs.declared.message.ManagementMessage.TheVariants.{ToNeighbour, ToMember}
 use Rattle.rina_agent.specs.Enrolments.{is_numbered}
+use Rattle.rina_agent.specs.Counts.{next_of}
 use Rattle.rina_agent.specs.Items.{own_item}
 use Rattle.rina_agent.specs.Neighbours.{link_key, link_state, member_key}
 use Rattle.rina_agent.specs.Rows.{was_up}
 use Rattle.rina_plan.specs.declared.dif.LinkPlan.{LinkPlan}
 use Rattle.rina_data.specs.declared.settings.Member.{Member}
+use Rattle.rina_member.specs.Knowing.{IsEntryKey}
 use Rattle.rina_member.specs.Managements.{entry_of}
 use Rattle.rina_member.specs.Start.{first_version, start_items}
 use Rattle.rina_member.proofs.Items.{entry_not_link}
@@ -33,7 +35,7 @@ use Rattle.rina_flood.proofs.Static.{told_of}
 -- The rows leave links and link states
 
 pub makes_no_link : (row : Row) → IsOfStatic row → MakesNoLink row
-makes_no_link (Make i key value) of = absurd of
+makes_no_link (Make i key value) of = tt
 makes_no_link (Put link side m) of = tt
 makes_no_link (Take link side m) of = tt
 makes_no_link (Handle link side m rest) of = tt
@@ -45,7 +47,7 @@ makes_no_link (Know x) of = tt
 makes_no_link Pass of = tt
 
 leaves : (address : ℕ) (row : Row) → IsOfStatic row → LeavesLinkState address row
-leaves address (Make i key value) of = absurd of
+leaves address (Make i key value) of = λ e. entry_not_link of.0.0 address (sym of.0.1 ∙ e)
 leaves address (Put link side m) of = tt
 leaves address (Take link side m) of = tt
 leaves address (Handle link side m rest) of = tt
@@ -69,9 +71,13 @@ static_rows rows of = (make_no_links rows of, λ address. all_leave address rows
 
 -- What is made
 
--- a directory entry from the start, a member item or a link state
+-- a directory entry that a member made
+abbrev pub IsMadeEntry : Item → Type 0
+IsMadeEntry x = IsEntryKey x.key × (1 ≤ x.version.count)
+
+-- a directory entry from the start, one that a member made, a member item or a link state
 abbrev pub IsKnown : Item → Type 0
-IsKnown x = IsFirstEntry x ⊎ ((address : ℕ) × ((x.key ≡ member_key address) ⊎ (x.key ≡ link_key address)))
+IsKnown x = IsFirstEntry x ⊎ (IsMadeEntry x ⊎ ((address : ℕ) × ((x.key ≡ member_key address) ⊎ (x.key ≡ link_key address))))
 
 pub none_more : (made : List Item) (x : Item) → Contains (made ++ []) x → Contains made x
 none_more made x e = (let P : List Item → Type 0 = λ items. Contains items x in subst P (append-nil made) e)
@@ -92,12 +98,18 @@ state_of_loss n i k = own_item (n.agents i) n.now (link_key (n.agents i).address
 lost_made : (n : Network) (i k : ℕ) (up : Bool) (x : Item) → Contains (n.made ++ cond up (state_of_loss n i k ∷ []) []) x → Contains n.made x ⊎ IsKnown x
 lost_made n i k true x e = elim (Contains-push_cases n.made (state_of_loss n i k) x e) [
   | inl old ↦ inl old
-  | inr is ↦ inr (inr ((n.agents i).address, inr (sym (ap (λ (y : Item). y.key) is))))
+  | inr is ↦ inr (inr (inr ((n.agents i).address, inr (sym (ap (λ (y : Item). y.key) is)))))
 ]
 lost_made n i k false x e = inl (none_more n.made x e)
 
+next_some : (last : ℕ) → 1 ≤ next_of last
+next_some last = grind arith
+
 row_made : (n : Network) (row : Row) (x : Item) → ArePlain n → May n row → IsOfStatic row → Contains (happens n row).made x → Contains n.made x ⊎ IsKnown x
-row_made n (Make i key value) x plain may of e = absurd of
+row_made n (Make i key value) x plain may of e = elim (Contains-push_cases n.made (own_item (n.agents i) n.now key value) x e) [
+  | inl old ↦ inl old
+  | inr is ↦ inr (inr (inl ((of.0.0, sym (ap (λ (y : Item). y.key) is) ∙ of.0.1), subst (λ (c : ℕ). 1 ≤ c) (ap (λ (y : Item). y.version.count) is) (next_some (n.agents i).last_count))))
+]
 row_made n (Put link side m) x plain may of e = inl e
 row_made n (Take link side m) x plain may of e = inl (none_more n.made x e)
 row_made n (Handle link side (ToNeighbour m) rest) x plain may of e = inl (near_made n link side m rest x (first_plain n link side (ToNeighbour m) rest plain may) e)
@@ -120,8 +132,8 @@ rows_made n (row ∷ rows) h plain run of known x e =
 
 start_known : (members : List Member) (plans : List LinkPlan) (x : Item) → Contains (start_items members plans) x → IsKnown x
 start_known members plans x e = (let r = told_of members plans x e in elim r.2 [
-  | inl is ↦ inr (r.0.addr, inl (sym (ap (λ (y : Item). y.key) is)))
-  | inr is ↦ inr (r.0.addr, inr (sym (ap (λ (y : Item). y.key) is)))
+  | inl is ↦ inr (inr (r.0.addr, inl (sym (ap (λ (y : Item). y.key) is))))
+  | inr is ↦ inr (inr (r.0.addr, inr (sym (ap (λ (y : Item). y.key) is))))
 ])
 
 entry_not_member : (app : List ℕ) (address : ℕ) → key_of app ≡ member_key address → ⊥
@@ -134,7 +146,8 @@ known_entry x app address (inl entry) k v =
     let same : key_of entry.0 ≡ key_of app = sym (ap (λ (y : Item). y.key) is) ∙ k in
     let place : entry.1 ≡ address = sym (ap (λ (y : Item). y.version.origin) is) ∙ ap (λ w. w.origin) v in
     is ∙ ap (λ (q : List ℕ). item_of q (first_version entry.1) (Some (decimal entry.1))) same ∙ ap (λ (a : ℕ). item_of (key_of app) (first_version a) (Some (decimal a))) place
-known_entry x app address (inr other) k v = elim other.1 [
+known_entry x app address (inr (inl made)) k v = (let none = ap (λ w. w.count) v in let some = made.1 in absurd (omega (arith, none, some)))
+known_entry x app address (inr (inr other)) k v = elim other.1 [
   | inl is ↦ absurd (entry_not_member app other.0 (sym k ∙ is))
   | inr is ↦ absurd (entry_not_link app other.0 (sym k ∙ is))
 ]

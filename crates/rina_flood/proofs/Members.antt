@@ -17,8 +17,11 @@ use Rattle.rina_agent.specs.declared.message.ManagementMessage.{ManagementMessag
 use Rattle.rina_agent.specs.declared.message.ManagementMessage.TheVariants.{ToNeighbour, ToMember}
 use Rattle.rina_agent.specs.declared.state.MemberState.TheVariants.{Enrolled}
 use Rattle.rina_agent.specs.Agenda.{first_on, waiting_on, without_first}
-use Rattle.rina_agent.specs.Counts.{spent}
-use Rattle.rina_agent.specs.Enrolled.{Event, Handles, Loses, Takes, after, done}
+use Rattle.rina_agent.specs.Counts.{spent, unless}
+use Rattle.rina_agent.specs.Enrolled.{Event, Handles, Loses, Makes, Takes, after, done}
+use Rattle.rina_agent.specs.Items.{made}
+use Rattle.rina_agent.specs.declared.state.AgentError.{AgentError}
+use Rattle.rina_dir.specs.Directory.{key_of}
 use Rattle.rina_agent.specs.Enrolments.{is_numbered}
 use Rattle.rina_plan.specs.declared.dif.LinkPlan.{LinkPlan}
 use Rattle.rina_data.specs.declared.settings.Member.{Member}
@@ -27,9 +30,10 @@ use Rattle.rina_member.specs.Knowing.{IsLaidOut}
 use Rattle.rina_member.specs.Managements.{entry_of, takes_item}
 use Rattle.rina_member.specs.Start.{start_items}
 use Rattle.rina_member.proofs.Laying.{small_address}
-use Rattle.rina_flood.specs.Network.{Side, other, Network, Row, Take, Handle, Lose, Know, Pass, happens, put_agent, put_sent, is_enrolled, is_in, known, with_item, MayBeKnown, May, IsRun, after_rows, IsStart, has_link}
+use Rattle.rina_member.proofs.Lists.{is_there}
+use Rattle.rina_flood.specs.Network.{Side, other, Network, Row, Make, Take, Handle, Lose, Know, Pass, happens, put_agent, put_sent, is_enrolled, is_in, known, with_item, MayBeKnown, MayLose, May, IsRun, after_rows, IsStart, has_link}
 use Rattle.rina_flood.specs.Static.{LinkEnd, IsOfStatic, AreOfStatic, agent_at, end_address, end_number, end_place, or_nobody, place_at, static_network}
-use Rattle.rina_flood.specs.Members.{Adds, AreSame, AreShortTexts, AreTexts, IsAgentAt, HasNoMember, HandlesMessage, IsNetworkOf, IsRunOf, IsShortText, IsText, LosesLinkAt, MembersSeen, OffersMessage, StartsWith, TakesEntry, GoesOn}
+use Rattle.rina_flood.specs.Members.{Adds, AreSame, AreShortTexts, AreTexts, IsAgentAt, HasNoMember, HandlesMessage, IsNetworkOf, IsRunOf, IsShortText, IsText, LosesLinkAt, MakesEntryAt, MembersSeen, OffersMessage, StartsWith, TakesEntry, GoesOn}
 use Rattle.rina_flood.proofs.Bounds.{waiting_fits}
 use Rattle.rina_flood.proofs.Calls.{at_itself, at_others}
 use Rattle.rina_flood.proofs.Entries.{entries_are_one}
@@ -227,10 +231,33 @@ loses_run plans old new r h =
     let n = net plans old r in
     let at = at_end plans old r h.link h.side h.end h.agent h.at in
     let event : Loses n.now (n.numbers h.link h.side) ≡ Loses old.now h.end.number = ap (λ (t : ℕ). Loses t (n.numbers h.link h.side)) r.is.now ∙ ap (λ (k : ℕ). Loses old.now k) at.3 in
-    let may : spent 1 (n.agents (n.ends h.link h.side)).last_count ≡ None = ap (λ (i : ℕ). spent 1 (n.agents i).last_count) at.2 ∙ ap (λ (c : Agent). spent 1 c.last_count) at.4 ∙ h.room in
+    let may : MayLose (n.agents (n.ends h.link h.side)) (n.numbers h.link h.side) =
+    subst (λ (i : ℕ). MayLose (n.agents i) (n.numbers h.link h.side)) (sym at.2) (subst (λ (c : Agent). MayLose c (n.numbers h.link h.side)) (sym at.4) (subst (λ (k : ℕ). MayLose h.agent k) (sym at.3) h.may)) in
     let are = called_at n.agents (n.ends h.link h.side) at.0.addr h.agent h.after (Loses n.now (n.numbers h.link h.side)) (Loses old.now h.end.number) at.2 at.4 event (ap (λ o. done h.agent o) h.loses) in
     alike_run plans (record old { agents = slice_set old.agents h.end.member h.after }) new (more_rows plans old r (record old { agents = slice_set old.agents h.end.member h.after }) (Lose h.link h.side) refl r.short may tt
     (changed plans old r h.end.member at.0 h.agent h.after at.1 h.at.is_agent _ n.sent _ _ old.sent old.got are r.is.fewer r.is.sent)) h.stays.members h.stays.ends h.now h.agents h.sent h.got
+
+-- A directory entry is made
+
+-- what a member is after it made an item
+after_made : (a : Agent) (now : ℕ) (key : List ℕ) (value : Option (List ℕ)) → spent 1 a.last_count ≡ None → after a (Makes now key value) ≡ made None a now key value
+after_made a now key value may = ap (λ (o : Option AgentError). done a (unless o (made None a now key value))) may
+
+pub makes_run : (plans : List LinkPlan) (old new : MembersSeen) → IsRunOf plans old → MakesEntryAt old new → IsRunOf plans new
+makes_run plans old new r h =
+    let n = net plans old r in
+    let within = slice_get_within old.agents h.place h.agent h.is_agent in
+    let aligned = r.is.aligned in
+    let m = there old.members h.place (omega (arith, within, aligned)) in
+    let is_net : n.agents m.0.addr ≡ h.agent = r.is.agents h.place m.0 h.agent m.1 h.is_agent in
+    let key : List ℕ = key_of h.app in
+    let b : Agent = made None h.agent old.now key h.value in
+    let event : Makes n.now key h.value ≡ Makes old.now key h.value = ap (λ (t : ℕ). Makes t key h.value) r.is.now in
+    let may : spent 1 (n.agents m.0.addr).last_count ≡ None = ap (λ (c : Agent). spent 1 c.last_count) is_net ∙ h.room in
+    let are = called_at n.agents m.0.addr m.0.addr h.agent b (Makes n.now key h.value) (Makes old.now key h.value) refl is_net event (after_made h.agent old.now key h.value h.room) in
+    let small = small_address old.members plans r.laid_out m.0 (is_there old.members h.place m.0 m.1) in
+    alike_run plans (record old { agents = slice_set old.agents h.place b }) new (more_rows plans old r (record old { agents = slice_set old.agents h.place b }) (Make m.0.addr key h.value) refl r.short may ((h.app, refl), small)
+    (changed plans old r h.place m.0 h.agent b m.1 h.is_agent _ n.sent _ _ old.sent old.got are r.is.fewer r.is.sent)) h.stays.members h.stays.ends h.now h.agents h.sent h.got
 
 -- A message is offered
 

@@ -39,9 +39,9 @@ make_plain n i key value p may =
     let P : Option AgentError → Type 0 = λ o. ArePlain (record n { agents = put_agent i (done a (unless o (made None a n.now key value))) n.agents; made = n.made ++ x ∷ []; offered = put_offers i (x ∷ []) n.offered }) in
     subst P (sym may) (sound_plain n i (made None a n.now key value) n.sent x (λ k. ⊥) (made_sound n i key value) p)
 
-lose_plain : (n : Network) (i k : ℕ) (up : Bool) (o : Option AgentError) → Holds n → ArePlain n → o ≡ None → ArePlain (lost_to n i k up o)
+lose_plain : (n : Network) (i k : ℕ) (up : Bool) (o : Option AgentError) → Holds n → ArePlain n → (up ≡ true → o ≡ None) → ArePlain (lost_to n i k up o)
 lose_plain n i k true None h p is = sound_plain n i (dropped (stated (Some k) (n.agents i) n.now) k) n.sent (own_item (n.agents i) n.now (link_key (n.agents i).address) (Some (link_state (Some k) (n.agents i).links))) (λ j. ⊥) (lost_sound n i k h) p
-lose_plain n i k true (Some e) h p is = absurd (none-some e (sym is))
+lose_plain n i k true (Some e) h p is = absurd (none-some e (sym (is refl)))
 lose_plain n i k false o h p is = moving_plain n (put_agent i (dropped (n.agents i) k) n.agents) n.sent (drop_moving n i k h) (drop_is_plain n i k h) p
 
 came_plain : (n : Network) (link : ℕ) (side : Side) (m : ManagementMessage) (rest : List ManagementMessage) (x : Item) → Holds n → ArePlain n → n.sent link side ≡ m ∷ rest → carried m ≡ x ∷ []

@@ -164,10 +164,10 @@ lost_to n i k up o = record n {
   offered = put_offers i (cond up (own_item (n.agents i) n.now (link_key (n.agents i).address) (Some (link_state (Some k) (n.agents i).links)) ∷ []) []) n.offered;
 }
 
-pub lose_by : (n : Network) (i k : ℕ) (up : Bool) (o : Option AgentError) → Holds n → spent 1 (n.agents i).last_count ≡ None → o ≡ None → Holds (lost_to n i k up o)
+pub lose_by : (n : Network) (i k : ℕ) (up : Bool) (o : Option AgentError) → Holds n → (up ≡ true → spent 1 (n.agents i).last_count ≡ None) → (up ≡ true → o ≡ None) → Holds (lost_to n i k up o)
 lose_by n i k true None h may is =
-    own_holds n i (dropped (stated (Some k) (n.agents i) n.now) k) n.sent (own_item (n.agents i) n.now (link_key (n.agents i).address) (Some (link_state (Some k) (n.agents i).links))) (λ j. ⊥) (lost_sound n i k h) (lost_own n i k h may) h
-lose_by n i k true (Some e) h may is = absurd (none-some e (sym is))
+    own_holds n i (dropped (stated (Some k) (n.agents i) n.now) k) n.sent (own_item (n.agents i) n.now (link_key (n.agents i).address) (Some (link_state (Some k) (n.agents i).links))) (λ j. ⊥) (lost_sound n i k h) (lost_own n i k h (may refl)) h
+lose_by n i k true (Some e) h may is = absurd (none-some e (sym (is refl)))
 lose_by n i k false o h may is =
     quiet_holds n i (dropped (n.agents i) k) n.sent (drop_same n i k h) h (moving_holds n (put_agent i (dropped (n.agents i) k) n.agents) n.sent (drop_moving n i k h) h)
 

@@ -13,19 +13,13 @@ use Rattle.rina_agent.specs.Items.{made, stated, took, own_item}
 use Rattle.rina_agent.specs.Neighbours.{link_key, link_state}
 use Rattle.rina_agent.specs.Rows.{dropped}
 use Rattle.rina_agent.proofs.Taking.{taken_same, taken_least}
+use Rattle.rina_member.proofs.Losing.{counts_on}
 use Rattle.rina_flood.specs.Network.{Side, other, Network, put_agent, put_offers, put_sent, unhandled, carried, on_way, Make, happens}
 use Rattle.rina_flood.proofs.Agendas.{AreFlooded, made_floods, took_floods, left_alone, lost_fewer, lost_floods}
 use Rattle.rina_flood.proofs.Calls.{AreFewer, same_links, at_itself}
 use Rattle.rina_flood.proofs.Holds.{Holds}
 use Rattle.rina_flood.proofs.Places.{in_one, in_cons, in_rest, in_first, direction_case, other_back, flat_in}
 use Rattle.rina_flood.proofs.Rows.{IsSound, IsOwn, own_holds, come_holds, put_least}
-
--- a member that may make an item counts on
-pub room : (last : ℕ) → spent 1 last ≡ None → last < next_of last
-room last e = elim (cases_Bool (nat_lt (2 ^ 32 - 1 - last) 1)) [
-  | inl is ↦ absurd (cc)
-  | inr isnt ↦ grind (arith, isnt)
-]
 
 -- An item is made
 
@@ -43,7 +37,7 @@ made_sound n i key value =
     }
 
 pub made_own : (n : Network) (i : ℕ) (key : List ℕ) (value : Option (List ℕ)) → (n.agents i).address ≡ i → spent 1 (n.agents i).last_count ≡ None → IsOwn n i (made None (n.agents i) n.now key value) n.sent (own_item (n.agents i) n.now key value) (λ k. ⊥)
-made_own n i key value address may = record { address = refl; origin = address; tick = refl; count = refl; more = room (n.agents i).last_count may }
+made_own n i key value address may = record { address = refl; origin = address; tick = refl; count = refl; more = counts_on (n.agents i).last_count may }
 
 pub make_holds : (n : Network) (i : ℕ) (key : List ℕ) (value : Option (List ℕ)) → Holds n → spent 1 (n.agents i).last_count ≡ None → Holds (happens n (Make i key value))
 make_holds n i key value h may =
@@ -181,4 +175,4 @@ lost_sound n i k h =
 
 pub lost_own : (n : Network) (i k : ℕ) → Holds n → spent 1 (n.agents i).last_count ≡ None
     → IsOwn n i (dropped (stated (Some k) (n.agents i) n.now) k) n.sent (own_item (n.agents i) n.now (link_key (n.agents i).address) (Some (link_state (Some k) (n.agents i).links))) (λ j. ⊥)
-lost_own n i k h may = record { address = refl; origin = h.laid.addresses i; tick = refl; count = refl; more = room (n.agents i).last_count may }
+lost_own n i k h may = record { address = refl; origin = h.laid.addresses i; tick = refl; count = refl; more = counts_on (n.agents i).last_count may }

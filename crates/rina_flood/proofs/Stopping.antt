@@ -17,6 +17,7 @@ use Rattle.rina_agent.specs.Enrolments.{hears}
 use Rattle.rina_agent.specs.Items.{made, stated, own_item}
 use Rattle.rina_agent.specs.Neighbours.{member_key}
 use Rattle.rina_agent.specs.Rows.{entered, introduced_in, need_in, peer_by, stop_batch, stopped_as, stopped_by, up_link}
+use Rattle.rina_member.proofs.Losing.{counts_on}
 use Rattle.rina_flood.specs.Network.{Network, put_agent, put_offers, called, entering, if_counted, last_state}
 use Rattle.rina_flood.proofs.Calls.{at_itself}
 use Rattle.rina_flood.proofs.Heard.{is_heard}
@@ -24,7 +25,7 @@ use Rattle.rina_flood.proofs.Holds.{Holds}
 use Rattle.rina_flood.proofs.Raise.{IsRaised}
 use Rattle.rina_flood.proofs.Rows.{own_holds}
 use Rattle.rina_flood.proofs.Runs.{alike_holds}
-use Rattle.rina_flood.proofs.Steps.{made_sound, made_own, room}
+use Rattle.rina_flood.proofs.Steps.{made_sound, made_own}
 use Rattle.rina_flood.proofs.Entering.{is_raised, made_network, put_twice, raised_states, same_network, stop_all, stop_only, with_items}
 
 abbrev stop_network : Network → ℕ → MemberState → Result Agent AgentError → Network
@@ -40,7 +41,7 @@ enrolled_enters n i k invoke m replies h is may holds =
     let batch = stop_batch h.link.number invoke a.items in
     let b : Agent = record a { state = Enrolled; links = slice_set a.links h.at (up_link peer h.link); agenda = a.agenda ++ batch } in
     let r = is_raised a k h.at h.link peer batch q b refl refl refl refl refl (stop_all h.link.number invoke a.items) (λ j m y. stop_only j h.link.number invoke a.items m y) in
-    made_network n i (stated None b n.now) (last_state (stated None b n.now) n.now ∷ []) (room a.last_count may) (raised_states n i b h.link.number batch r may holds)
+    made_network n i (stated None b n.now) (last_state (stated None b n.now) n.now ∷ []) (counts_on a.last_count may) (raised_states n i b h.link.number batch r may holds)
 
 -- two counts are left
 two_left : (last : ℕ) → spent 2 last ≡ None → (spent 1 last ≡ None) × (spent 1 (next_of last) ≡ None) × (last < next_of (next_of last))

@@ -26,7 +26,7 @@ use Rattle.rina_flood.proofs.Known.{knower}
 use Rattle.rina_flood.proofs.LinkStates.{state_without, state_same}
 use Rattle.rina_flood.proofs.All.{found_key}
 use Rattle.rina_flood.proofs.Settles.{Greatest, kept_made}
-use Rattle.rina_flood.proofs.Steps.{room}
+use Rattle.rina_member.proofs.Losing.{counts_on}
 
 -- Of an address: a member keeps its link state as the member's links are, and none newer was made
 pub record Tells (address : ℕ) (a : Agent) (made : List Item) : Type 0 where
@@ -122,7 +122,7 @@ module _ (n : Network) (address k : ℕ) (h : Holds n) (greatest : Greatest) (al
       let past = h.noted.past y e in
       let counted = h.noted.counted y e in
       let same : (n.agents y.version.origin).last_count ≡ mine.last_count = ap (λ (j : ℕ). (n.agents j).last_count) origin in
-      let more = room mine.last_count may in
+      let more = counts_on mine.last_count may in
       let lt : y.version.count < next_of mine.last_count = omega (arith, counted, same, more) in
       older y.version told.version past lt
 

@@ -44,17 +44,17 @@ lost_item n i k = own_item (n.agents i) n.now (link_key (n.agents i).address) (S
 other_key : (n : Network) (address i k : ℕ) → Holds n → address < 2 ^ 32 → i < 2 ^ 32 → (address ≡ i → ⊥) → (lost_item n i k).key ≡ link_key address → ⊥
 other_key n address i k h a b apart e = apart (sym (same_address i address b a (ap link_key (sym (h.laid.addresses i)) ∙ e)))
 
-lose_tells : (n : Network) (address i k : ℕ) (up : Bool) (o : Option AgentError) → Holds n → Greatest → ByItself address n.made → address < 2 ^ 32 → i < 2 ^ 32 → spent 1 (n.agents i).last_count ≡ None → was_up (find (is_numbered k) (n.agents i).links) ≡ up → o ≡ None
+lose_tells : (n : Network) (address i k : ℕ) (up : Bool) (o : Option AgentError) → Holds n → Greatest → ByItself address n.made → address < 2 ^ 32 → i < 2 ^ 32 → (up ≡ true → spent 1 (n.agents i).last_count ≡ None) → was_up (find (is_numbered k) (n.agents i).links) ≡ up → (up ≡ true → o ≡ None)
     → Tells address (n.agents address) n.made
     → Tells address (put_agent i (done (n.agents i) (cond up (unless o (dropped (stated (Some k) (n.agents i) n.now) k)) (Ok (dropped (n.agents i) k)))) n.agents address) (n.made ++ cond up (lost_item n i k ∷ []) [])
-lose_tells n address i k true (Some e) h greatest alone a b may was is t = absurd (none-some e (sym is))
+lose_tells n address i k true (Some e) h greatest alone a b may was is t = absurd (none-some e (sym (is refl)))
 lose_tells n address i k true None h greatest alone a b may was is t =
     let made' = n.made ++ lost_item n i k ∷ [] in
     put_case (λ (c : Agent). Tells address c made') address i (dropped (stated (Some k) (n.agents i) n.now) k) (n.agents address)
     (λ same.
     let P : ℕ → Type 0 = λ j. spent 1 (n.agents j).last_count ≡ None in
     let Q : ℕ → Type 0 = λ j. Tells address (dropped (stated (Some k) (n.agents j) n.now) k) (n.made ++ lost_item n j k ∷ []) in
-    subst Q same (lost_tells n address k h greatest alone (subst P (sym same) may)))
+    subst Q same (lost_tells n address k h greatest alone (subst P (sym same) (may refl))))
     (λ apart. tells_more address (n.agents address) n.made made' (made_fewer n.made (lost_item n i k) address (other_key n address i k h a b apart)) t)
 lose_tells n address i k false o h greatest alone a b may was is t =
     tells_same address (put_agent i (dropped (n.agents i) k) n.agents address) n.made
@@ -233,9 +233,9 @@ rows_gone : (n : Network) (rows : List Row) (i k : ℕ) → Holds n → ArePlain
 rows_gone n [] i k h plain run static e = e
 rows_gone n (row ∷ rows) i k h plain run static e = rows_gone (happens n row) rows i k (row_holds n row h run.0) (row_plain n row h plain run.0 static.0) run.1 static.1 (row_gone n row i k plain run.0 static.0 e)
 
-just_lost : (up : Bool) (o : Option AgentError) (a : Agent) (now link : ℕ) → AreApart a.links → o ≡ None → find (is_numbered link) (done a (cond up (unless o (dropped (stated (Some link) a now) link)) (Ok (dropped a link)))).links ≡ None
+just_lost : (up : Bool) (o : Option AgentError) (a : Agent) (now link : ℕ) → AreApart a.links → (up ≡ true → o ≡ None) → find (is_numbered link) (done a (cond up (unless o (dropped (stated (Some link) a now) link)) (Ok (dropped a link)))).links ≡ None
 just_lost true None a now link apart is = lost_link link a.links apart
-just_lost true (Some r) a now link apart is = absurd (none-some r (sym is))
+just_lost true (Some r) a now link apart is = absurd (none-some r (sym (is refl)))
 just_lost false o a now link apart is = lost_link link a.links apart
 
 same_ends : (n : Network) (row : Row) (l : ℕ) (d : Side) → ((happens n row).ends l d ≡ n.ends l d) × ((happens n row).numbers l d ≡ n.numbers l d)
@@ -255,7 +255,7 @@ all_ends : (n : Network) (rows : List Row) (l : ℕ) (d : Side) → ((after_rows
 all_ends n [] l d = (refl, refl)
 all_ends n (row ∷ rows) l d = (let r = all_ends (happens n row) rows l d in let s = same_ends n row l d in (r.0 ∙ s.0, r.1 ∙ s.1))
 
-gone_from : (n : Network) (rows : List Row) (l : ℕ) (d : Side) → Holds n → ArePlain n → spent 1 (n.agents (n.ends l d)).last_count ≡ None → IsRun (happens n (Lose l d)) rows → IsStatic rows → has_link (after_rows (happens n (Lose l d)) rows) l d ≡ false
+gone_from : (n : Network) (rows : List Row) (l : ℕ) (d : Side) → Holds n → ArePlain n → May n (Lose l d) → IsRun (happens n (Lose l d)) rows → IsStatic rows → has_link (after_rows (happens n (Lose l d)) rows) l d ≡ false
 gone_from n rows l d h plain may run static =
     let i = n.ends l d in
     let k = n.numbers l d in

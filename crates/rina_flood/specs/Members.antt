@@ -1,5 +1,5 @@
 -- The members of a static DIF as a network: what stands at a moment, what happens to it, and that each is a row.
-use Rattle.std.specs.Prelude.{◌≡◌, ℕ, ◌≤◌, List, [], ◌∷◌, ◌++◌, drop, length, map, slice_get, slice_set, Some, None, Ok, true, Contains, find, ◌<◌, ◌^◌}
+use Rattle.std.specs.Prelude.{◌≡◌, ℕ, ◌≤◌, List, [], ◌∷◌, ◌++◌, drop, length, map, slice_get, slice_set, Option, Some, None, Ok, true, Contains, find, ◌<◌, ◌^◌}
 use Rattle.rina_enrol.specs.declared.message.LinkMessage.{LinkMessage}
 use Rattle.rina_enrol.specs.Messages.{IsInRange, IsSpelled}
 use Rattle.rina_newest.specs.Newest.{kept_at, value_at}
@@ -10,15 +10,17 @@ use Rattle.rina_agent.specs.declared.state.MemberState.TheVariants.{Enrolled}
 use Rattle.rina_agent.specs.Agenda.{first_on, waiting_on, without_first}
 use Rattle.rina_agent.specs.Counts.{spent}
 use Rattle.rina_agent.specs.Enrolments.{is_numbered}
+use Rattle.rina_agent.specs.Items.{made}
 use Rattle.rina_agent.specs.Neighbours.{link_key, link_state}
 use Rattle.rina_agent.specs.Rows.{handled, lost, was_up}
+use Rattle.rina_dir.specs.Directory.{key_of}
 use Rattle.rina_plan.specs.declared.dif.LinkPlan.{LinkPlan}
 use Rattle.rina_data.specs.declared.settings.Member.{Member}
 use Rattle.rina_member.specs.Knowing.{IsLaidOut, SameEdges, all_claims}
 use Rattle.rina_member.specs.Managements.{entry_of, takes_item}
 use Rattle.rina_member.specs.Short.{IsShort}
 use Rattle.rina_member.specs.Start.{start_items}
-use Rattle.rina_flood.specs.Network.{Side, other, Network, Row, IsRun, after_rows, IsStart}
+use Rattle.rina_flood.specs.Network.{Side, other, Network, Row, MayLose, IsRun, after_rows, IsStart}
 use Rattle.rina_flood.specs.Laws.{TellsLinks}
 use Rattle.rina_flood.specs.Static.{AreEnds, AreFirst, AreOfStatic, LinkEnd, end_place}
 
@@ -135,12 +137,26 @@ pub record LosesLinkAt (old new : MembersSeen) : Type 0 where
   pub end : LinkEnd
   pub agent : Agent
   pub at : IsAgentAt old link side end agent
-  pub room : spent 1 agent.last_count ≡ None
+  pub may : MayLose agent end.number
   pub after : Agent
   pub loses : lost agent old.now end.number ≡ Ok after
   pub stays : Stays old new
   pub now : new.now ≡ old.now
   pub agents : new.agents ≡ slice_set old.agents end.member after
+  pub sent : AreSame old.sent new.sent
+  pub got : AreSame old.got new.got
+
+-- the member at a place makes the directory entry of an application, with a value or as a deletion
+pub record MakesEntryAt (old new : MembersSeen) : Type 0 where
+  pub place : ℕ
+  pub agent : Agent
+  pub is_agent : slice_get old.agents place ≡ Some agent
+  pub room : spent 1 agent.last_count ≡ None
+  pub app : List ℕ
+  pub value : Option (List ℕ)
+  pub stays : Stays old new
+  pub now : new.now ≡ old.now
+  pub agents : new.agents ≡ slice_set old.agents place (made None agent old.now (key_of app) value)
   pub sent : AreSame old.sent new.sent
   pub got : AreSame old.got new.got
 

@@ -211,6 +211,10 @@ pub record MayBeKnown (n : Network) (x : Item) : Type 0 where
   pub past : x.version.tick ≤ n.now
   pub counted : x.version.count ≤ (n.agents x.version.origin).last_count
 
+-- the loss of a link is not refused: where the link is up, a version count is left for the link state
+abbrev pub MayLose : Agent → ℕ → Type 0
+MayLose a number = was_up (find (is_numbered number) a.links) ≡ true → spent 1 a.last_count ≡ None
+
 -- When a row may happen: a call is not refused, the message that is taken or handled is the first one, a connection loses messages
 -- only where an end has lost the link, and a new link has a number that no link of its member has
 abbrev pub May : Network → Row → Type 0
@@ -218,7 +222,7 @@ May n (Make i key value) = spent 1 (n.agents i).last_count ≡ None
 May n (Put link side m) = Unit {0}
 May n (Take link side m) = first_on (n.numbers link side) (n.agents (n.ends link side)).agenda ≡ Some (record { link = n.numbers link side; message = m })
 May n (Handle link side m rest) = n.sent link side ≡ m ∷ rest
-May n (Lose link side) = spent 1 (n.agents (n.ends link side)).last_count ≡ None
+May n (Lose link side) = MayLose (n.agents (n.ends link side)) (n.numbers link side)
 May n (Drop link side left) = ((has_link n link Near && has_link n link Far) ≡ false) × ((m : ManagementMessage) → Contains left m → Contains (n.sent link side) m)
 May n (Enrol link side member node) = IsNewLink n link side × (spent 1 (n.agents (n.ends link side)).last_invoke ≡ None)
 May n (Claim link side) = IsNewLink n link side

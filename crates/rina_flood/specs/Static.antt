@@ -9,7 +9,7 @@ use Rattle.rina_dir.specs.Directory.{key_of}
 use Rattle.rina_plan.specs.declared.dif.LinkPlan.{LinkPlan}
 use Rattle.rina_data.specs.declared.link.Link.{Link}
 use Rattle.rina_data.specs.declared.settings.Member.{Member}
-use Rattle.rina_member.specs.Knowing.{AreLive, AreNumbered, IsLaidOut}
+use Rattle.rina_member.specs.Knowing.{AreLive, AreNumbered, IsEntryKey, IsLaidOut}
 use Rattle.rina_member.specs.Managements.{entry_of}
 use Rattle.rina_member.specs.Routing.{edges_from}
 use Rattle.rina_member.specs.Start.{first_version, start_items, started}
@@ -125,10 +125,10 @@ StaticTellsLinks = (rules : Rules) (members : List Member) (plans : List LinkPla
 abbrev pub IsFirstEntry : Item → Type 0
 IsFirstEntry x = (app : List ℕ) × (address : ℕ) × (x ≡ entry_of app address) × (address < 2 ^ 32)
 
--- what happens to a static DIF: no link is made, a member makes no item but its link state where it loses a link, and what is known at
--- once is a directory entry
+-- what happens to a static DIF: no link is made, a member makes no item but directory entries, and its link state where it loses a link;
+-- and what is known at once is a directory entry
 abbrev pub IsOfStatic : Row → Type 0
-IsOfStatic (Make i key value) = ⊥
+IsOfStatic (Make i key value) = IsEntryKey key × (i < 2 ^ 32)
 IsOfStatic (Enrol link side member node) = ⊥
 IsOfStatic (Claim link side) = ⊥
 IsOfStatic (Know x) = IsFirstEntry x

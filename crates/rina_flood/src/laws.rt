@@ -4,7 +4,7 @@ ghost use Rattle.rina_flood.specs.Coming.{WhatComes};
 ghost use Rattle.rina_flood.specs.Gap.{GapBreaks};
 ghost use Rattle.rina_flood.specs.Journals.{ArrivalsAddNone, OffersAdd, OthersAddNone, PassesAdd};
 ghost use Rattle.rina_flood.specs.Laws.{DirectionsOwe, LostIsGone, NewestIsKept, NotBack, OlderIsNothing, OnlyMadeIsSent, OrderIsNothing, QuietIsEqual, QuietTellsLinks};
-ghost use Rattle.rina_flood.specs.Members.{GoesOn, HandlesMessage, KeepsRun, LosesLinkAt, OffersMessage, QuietMembersAgree, QuietMembersClaim, StartIsRun, TakesEntry};
+ghost use Rattle.rina_flood.specs.Members.{GoesOn, HandlesMessage, KeepsRun, LosesLinkAt, MakesEntryAt, OffersMessage, QuietMembersAgree, QuietMembersClaim, StartIsRun, TakesEntry};
 ghost use Rattle.rina_flood.specs.Sample.{SampleSettles};
 ghost use Rattle.rina_flood.specs.Static.{EntriesAreOne, StaticRowsLeaveLinks, StaticStarts, StaticTellsLinks};
 
@@ -70,13 +70,14 @@ pub fn a_static_dif_tells_links_and_entries()
 {}
 
 /// The members of a static DIF are a network after some run: as they start, as the clock goes on, and after the loss of a link,
-/// a directory entry that all take, a message that is offered to a link and one that is handled. So where all is quiet on a walk
+/// a directory entry that one makes or that all take, a message that is offered to a link and one that is handled. So where all is quiet on a walk
 /// of links, the members at its ends keep the same items, which claim the same edges, and each keeps the other's link state as the
 /// other's links are now.
 pub fn members_are_a_network()
     ensures start { StartIsRun }
     ensures goes_on { KeepsRun GoesOn }
     ensures loses { KeepsRun LosesLinkAt }
+    ensures makes { KeepsRun MakesEntryAt }
     ensures takes { KeepsRun TakesEntry }
     ensures offers { KeepsRun OffersMessage }
     ensures handles { KeepsRun HandlesMessage }

@@ -1,23 +1,20 @@
 -- No item is due where nothing is due at the connection.
-use Rattle.std.proofs.Common.{◌≡◌, ℕ, Bool, true, false, List, slice_get, Some, None, Option, IfSome, refl, sym, ◌∙◌, ap, subst}
+use Rattle.std.proofs.Common.{◌≡◌, ℕ, false, List, slice_get, Some, None, Option, IfSome}
 use Rattle.std.specs.Borrow.{Bor}
 use Rattle.std.proofs.lemmas.Bool.{false≢true}
 use Rattle.rina_conn.specs.declared.conn.Conn.{Conn}
 use Rattle.rina_conn.specs.Quiet.{IsIdleAt}
 use Rattle.rina_data.specs.Configs.{Config}
 use Rattle.rina_dif_law.specs.Standing.{IsJournal}
-use Rattle.rina_dif_law.proofs.Finding.{beside}
 use Rattle.rina_iface.specs.declared.ends.End.{End}
 use Rattle.rina_iface.specs.declared.state.PortState.TheVariants.{Allocated}
 use Rattle.rina_iface.specs.Journal.{At}
 use Rattle.rina_law.specs.Direction.{Direction}
 use Rattle.rina_flows.specs.declared.due.Item.{Item}
 use Rattle.rina_flows.specs.declared.due.Item.TheVariants.{Ack, Again, GiveUp, Gone}
-use Rattle.rina_flows.specs.Quiet.{IsBeside}
 use Rattle.rina_flows.specs.Tied.{IsTied}
 use Rattle.rina_flows.specs.Timely.{DueIn}
 use Rattle.rina_flows.specs.Watching.{AreIdleBeside, NoneDueBeside}
-use Rattle.rina_flows.proofs.Landed.{same_at}
 use Rattle.rina_flows.proofs.Offered.{flows_of}
 use Rattle.rina_flows.proofs.Stopped.{reached}
 use Rattle.rina_flows.proofs.Timed.{ack_is_due, again_is_due, give_up_due, gone_due}

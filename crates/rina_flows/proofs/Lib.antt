@@ -1,4 +1,5 @@
 pub mod Added
+pub mod Alarmed
 pub mod Adding
 pub mod Arrived
 pub mod ArrivesAt

@@ -1,5 +1,5 @@
 -- Until when nothing is due at any end.
-use Rattle.std.proofs.Common.{◌≡◌, ◌∙◌, ℕ, ◌+◌, ◌<◌, ◌≤◌, false, List, [], ◌∷◌, Contains, drop, get_or, length, slice_get, Some, refl, sym, ap, subst, arith, inl, inr}
+use Rattle.std.proofs.Common.{◌≡◌, ◌∙◌, ℕ, ◌+◌, ◌<◌, ◌≤◌, List, [], ◌∷◌, Contains, drop, get_or, length, slice_get, Some, sym, ap, subst, arith, inl, inr}
 use Rattle.std.proofs.lemmas.Bool.{cases_eq}
 use Rattle.std.proofs.lemmas.List.{drop_more}
 use Rattle.std.proofs.lemmas.Map.Made.{Contains-tail}
@@ -8,7 +8,7 @@ use Rattle.std.proofs.Math.ListN.{drop_of_length-le}
 use Rattle.rina_conn.specs.declared.conn.Conn.{Conn}
 use Rattle.rina_conn.specs.Quiet.{IsQuietUntil}
 use Rattle.rina_iface.specs.declared.ends.End.{End}
-use Rattle.rina_flows.specs.Quiet.{AreQuiet, AreQuietBeside, IsBeside}
+use Rattle.rina_flows.specs.Quiet.{AreQuiet, AreQuietBeside}
 use Rattle.rina_flows.specs.Resting.{NoneDueUntil}
 use Rattle.rina_flows.proofs.Idle.{idle_item}
 use Rattle.rina_flows.proofs.Offered.{flows_of}

@@ -1,3 +1,4 @@
+pub mod Alarms
 pub mod Adding
 pub mod Arriving
 pub mod Calls

@@ -10,9 +10,10 @@ ghost use Rattle.rina_flows.specs.Quiet.{AreQuiet};
 ghost use Rattle.rina_flows.specs.Watching.{AreIdleBeside};
 
 use crate::arrival::{Notes, cause_of, receive, write_off};
+use crate::guesses::Guesses;
 use crate::watch::Watch;
 use rina_account::Off;
-use rina_base::{Bytes, Cause, Memory, PduView, Tick};
+use rina_base::{Addr, Bytes, Cause, Cep, Memory, PduView, Tick};
 use rina_conn::{Conn, Made, OfferError};
 use rina_dtp::Verdict;
 use std::alloc::{AllocError, Global};
@@ -22,20 +23,22 @@ use std::marker::Model;
 #[derive(Drop)]
 pub struct Conns {
     items: Vec<Conn>,
-    /// At which of them something may be due soon.
+    /// Until when nothing is due at which of them.
     watch: Watch,
+    /// Where the connection of an end may stand, so that no look-up walks over all of them.
+    guesses: Guesses,
 }
 
 impl Model for Conns {
     ghost use Rattle.std.specs.Prelude.{List};
     ghost use Rattle.rina_conn.specs.declared.conn.Conn.{Conn};
-    ghost use Rattle.rina_flows.specs.Quiet.{AreQuietBeside};
+    ghost use Rattle.rina_flows.specs.Quiet.{AreTimed};
 
     ghost Value = { List Conn };
 
     ghost view = { λ k. k.items.items };
 
-    ghost invariant = { λ k. AreQuietBeside k.watch.places.items k.watch.until k.items.items };
+    ghost invariant = { λ k. AreTimed k.watch.places.items k.watch.until k.watch.alarms k.items.items };
 }
 
 impl Conns {
@@ -46,6 +49,7 @@ impl Conns {
         Conns {
             items: Vec::new(alloc),
             watch: Watch::new(alloc),
+            guesses: Guesses::new(alloc),
         }
     }
 
@@ -213,7 +217,9 @@ impl Conns {
     {
         self.items.reserve(2)?;
         let at = self.items.len();
-        self.watch.reserve(at.saturating_add(2))?;
+        self.guesses.add(first.sending.form.peer, at)?;
+        self.guesses.add(second.sending.form.peer, at + 1)?;
+        self.watch.reserve(at + 2)?;
         self.watch.note(at, first.quiet_until());
         self.watch.note(at + 1, second.quiet_until());
         self.items.push_reserved(first);
@@ -221,21 +227,26 @@ impl Conns {
         Ok(())
     }
 
+    /// Where the connection of an end with this address and this CEP-id may stand.
+    pub fn guess(&self, own: Addr, cep: Cep) -> Option<usize> {
+        self.guesses.place(own, cep)
+    }
+
     /// Takes the last two connections away.
     pub fn pop_both(&mut self)
         ensures { (was : List Conn) (first second : Conn) → self.old ≡ was ++ first ∷ second ∷ [] → self.new ≡ was }
     {
         let _ = self.items.pop();
+        self.watch.clear(self.items.len());
         let _ = self.items.pop();
+        self.watch.clear(self.items.len());
     }
 
-    /// Looks again at which connections something may be due soon, where that is not known for this tick.
+    /// Finds the connections at which something is due at this tick, by their timers, so that `watched` can tell.
     pub fn settle(&mut self, now: Tick)
         ensures { self.new ≡ self.old }
     {
-        if self.watch.until <= now {
-            self.watch.look(now, self.items.as_slice());
-        }
+        self.watch.settle(now, self.items.as_slice());
     }
 
     /// The places beside which nothing is due at this tick. None where that is not known.

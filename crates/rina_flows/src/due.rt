@@ -92,7 +92,7 @@ impl Flows {
         self.conns.quiet_until()
     }
 
-    /// Looks again at which ends something may be due soon, where that is not known for this tick, so that `watched` can
+    /// Finds the ends at which something may be due at this tick, by their timers, so that `watched` can
     /// tell. Nothing changes.
     pub fn settle(&mut self, now: Tick)
         ensures { self.new ≡ self.old }

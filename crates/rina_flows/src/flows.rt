@@ -208,9 +208,8 @@ impl Flows {
         }
     }
 
-    /// The place of the allocated end whose connection has the two addresses, the two CEP-ids and the QoS-id of
-    /// a PDU; None exactly where there is none. Takes no memory.
-    pub fn taker(&self, pdu: &PduView<'_>) -> Option<usize>
+    /// The same as `taker`, by a look at each place.
+    fn taker_of_all(&self, pdu: &PduView<'_>) -> Option<usize>
         ensures { TakenBy self.now.journal.ends (conns_of self.now.conns) (pdu_of pdu.now) result }
     {
         for at in 0..self.conns.len() {
@@ -219,6 +218,19 @@ impl Flows {
             }
         }
         None
+    }
+
+    /// The place of the allocated end whose connection has the two addresses, the two CEP-ids and the QoS-id of
+    /// a PDU; None exactly where there is none. Takes no memory.
+    pub fn taker(&self, pdu: &PduView<'_>) -> Option<usize>
+        ensures { TakenBy self.now.journal.ends (conns_of self.now.conns) (pdu_of pdu.now) result }
+    {
+        if let Some(at) = self.conns.guess(pdu.dst, pdu.dcep) {
+            if self.takes(at, pdu) {
+                return Some(at);
+            }
+        }
+        self.taker_of_all(pdu)
     }
 
     /// How many SDUs of the end at a place wait to be passed, counted up to the greatest u32.

@@ -1,10 +1,12 @@
 //! The flows of a DIF: the journal of their ends, and the connection of each end.
 #![tactic(auto)]
 
+mod alarms;
 mod arrival;
 mod conns;
 mod due;
 mod flows;
+mod guesses;
 mod laws;
 mod stops;
 mod watch;

@@ -10,7 +10,7 @@ use Rattle.rina_iface.specs.declared.ends.End.{End}
 use Rattle.rina_iface.specs.declared.error.AllocateError.{AllocateError}
 use Rattle.rina_iface.specs.declared.error.AllocateError.TheVariants.{Memory as NoMemory, NoMember as NoPlace, NoCube, NoSuchApp, SameSystem, NoIds, NoRoute as NoWay, Busy, CountSpent as IdsSpent, Unbuilt as NotBuilt}
 use Rattle.rina_iface.specs.declared.error.RegisterError.{RegisterError}
-use Rattle.rina_iface.specs.declared.error.RegisterError.TheVariants.{Memory, Already, NoMember, CountSpent, Unbuilt}
+use Rattle.rina_iface.specs.declared.error.RegisterError.TheVariants.{Memory, Already, NoMember, CountSpent}
 use Rattle.rina_iface.specs.declared.error.SendError.{SendError}
 use Rattle.rina_iface.specs.declared.error.SendError.TheVariants.{NotAllocated, TooLong, WindowShut, NoRoute, QueueFull, NumbersSpent, Memory as OutOfMemory, Failed as HasFailed}
 use Rattle.rina_iface.specs.declared.error.FreeError.{FreeError}
@@ -45,7 +45,6 @@ later_registers own s fac node app (Err Memory) s' w = same s s' w
 later_registers own s fac node app (Err Already) s' w = same s s' w.1
 later_registers own s fac node app (Err NoMember) s' w = same s s' w.1
 later_registers own s fac node app (Err (CountSpent n k)) s' w = same s s' w.1
-later_registers own s fac node app (Err Unbuilt) s' w = same s s' w.1
 
 later_made : (now : ℕ) (state : PortState) (f : Fac) (flow : FlowName) (port : Port) (ask : Ask) (cube : ℕ) (f' : Fac) → Makes state f flow port ask cube f' → IsLaterFac now now f f'
 later_made now Pending f flow port ask cube f' w = rw w (record { ends = ends_more now now f.ends _; cubes = refl })
@@ -74,7 +73,6 @@ later_unregisters own s fac node app (Ok done) s' w = rw w.1.new_is (later_fac s
 later_unregisters own s fac node app (Err unregister.Memory) s' w = same s s' w
 later_unregisters own s fac node app (Err unregister.NotThere) s' w = same s s' w.1
 later_unregisters own s fac node app (Err (unregister.CountSpent n k)) s' w = same s s' w.1
-later_unregisters own s fac node app (Err unregister.Unbuilt) s' w = same s s' w.1
 
 pub later_binds : (s : Seen) (fixed : Fixed) (r : Result (Port × Port) AllocateError) (s' : Seen) → Binds s fixed r s' → IsLater s s'
 later_binds s fixed (Ok ports) s' w = rw w.new_is (later_fac s fixed.fac w.facility (bound w.facility fixed w.flow) w.stands (record { ends = ends_more s.now s.now w.facility.ends _; cubes = refl }))

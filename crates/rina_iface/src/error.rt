@@ -14,8 +14,6 @@ pub enum RegisterError {
     NoMember,
     /// The member would need `need` version counts, and has `left`.
     CountSpent { need: u32, left: u32 },
-    /// Registration and allocation over DIFs are not built yet.
-    Unbuilt,
 }
 
 /// Why a name was not taken back.
@@ -27,8 +25,6 @@ pub enum UnregisterError {
     NotThere,
     /// The member would need `need` version counts, and has `left`.
     CountSpent { need: u32, left: u32 },
-    /// Registration and allocation over DIFs are not built yet.
-    Unbuilt,
 }
 
 /// Why a flow was not asked for.
@@ -52,7 +48,7 @@ pub enum AllocateError {
     Busy { port: Port },
     /// The member would need `need` invoke ids or version counts, and has `left`.
     CountSpent { need: u32, left: u32 },
-    /// Registration and allocation over DIFs are not built yet.
+    /// Flows over DIFs cannot be asked for yet.
     Unbuilt,
 }
 
@@ -105,6 +101,17 @@ impl From<Memory> for RegisterError {
 
     fn from(_error: Memory) -> RegisterError {
         RegisterError::Memory
+    }
+}
+
+impl From<Memory> for UnregisterError {
+    ghost use Rattle.std.specs.Prelude.{◌≡◌};
+    ghost use Rattle.rina_iface.specs.declared.error.UnregisterError.TheVariants.{Memory};
+
+    ghost from_gives = { λ _ e. e ≡ Memory };
+
+    fn from(_error: Memory) -> UnregisterError {
+        UnregisterError::Memory
     }
 }
 

@@ -136,11 +136,12 @@ cut_off e left left' left2 r r' r2 line line2 s em c =
       bytes = grown r.held s.read line r'.held c.read s.bytes ∙ ap (λ (bs : List ℕ). bs ++ c.read) (sym em.grown) ∙ ap (λ (bs : List ℕ). line2 ++ bs) rest ∙ sym (append_assoc line2 c.part c.behind);
       unended = joined_unended line2 c.part unended2 c.unended;
       breaks = rw (length-append s.read c.read) (breaks_on e r2.room (length s.read) r.room (length c.read) (length c.behind) (omega (arith, s.room, em.same.0)) c.breaks);
+      kept = λ is. omega (arith, c.kept is, length-append line2 c.part);
     }
 
--- an allocation failed
-pub no_memory : (left left' : Option (List ℕ)) (r r' : Reader) (line : List ℕ) → SoFar left left' r r' line → IsCutOff errors.Memory left left' r
-no_memory left left' r r' line s = record {
+-- an allocation failed for the bytes that are held
+pub no_memory : (left left' : Option (List ℕ)) (r r' : Reader) (line : List ℕ) → SoFar left left' r r' line → 0 < length r'.held → IsCutOff errors.Memory left left' r
+no_memory left left' r r' line s some = record {
   part = line;
   behind = r'.held;
   read = s.read;
@@ -148,4 +149,5 @@ no_memory left left' r r' line s = record {
   bytes = s.bytes;
   unended = s.unended;
   breaks = omega (arith, s.room);
+  kept = λ is. omega (arith, some);
 }

@@ -53,7 +53,7 @@ Breaks errors.Fault room read behind = (behind ≡ 0) × (read ≤ room)
 Breaks errors.TooLarge room read behind = (behind ≡ 1) × (read ≡ room + 1)
 Breaks errors.Memory room read behind = read ≤ room
 
--- the next line could not be read: only a part of it was, which has no end
+-- the next line could not be read: only a part of it was, which has no end; memory ran out only where a byte was to be kept
 pub record IsCutOff (e : ReadError) (left left' : Option (List ℕ)) (r : Reader) : Type 0 where
   pub part : List ℕ
   pub behind : List ℕ
@@ -62,6 +62,7 @@ pub record IsCutOff (e : ReadError) (left left' : Option (List ℕ)) (r : Reader
   pub bytes : r.held ++ read ≡ part ++ behind
   pub unended : HasNoEnd part
   pub breaks : Breaks e r.room (length read) (length behind)
+  pub kept : e ≡ errors.Memory → 0 < length part + length behind
 
 -- what reading the next line gives, by the bytes of a line; a reader that met the end of its source has no line more
 abbrev pub Gives : {A : Type 0} → (A → List ℕ) → Option (List ℕ) → Option (List ℕ) → Reader → Reader → Result (Option A) ReadError → Type 0
@@ -94,11 +95,11 @@ pub record IsEmptied (r : Reader) (line : List ℕ) (r' : Reader) (line' : List 
   pub none : r'.held ≡ []
   pub same : HasReadAs r r'
 
--- what moved from a reader to a line
+-- what moved from a reader to a line; an allocation can fail only where a byte is held
 abbrev pub Takes : {E : Type 0} → Reader → List ℕ → Reader → List ℕ → Result Bool E → Type 0
 Takes r line r' line' (Ok true) = IsEnded r line r' line'
 Takes r line r' line' (Ok false) = IsEmptied r line r' line'
-Takes r line r' line' (Err e) = (r'.held ≡ r.held) × (line' ≡ line) × HasReadAs r r'
+Takes r line r' line' (Err e) = (0 < length r.held) × (r'.held ≡ r.held) × (line' ≡ line) × HasReadAs r r'
 
 -- the next bytes were read
 pub record IsFilled (left left' : Option (List ℕ)) (r r' : Reader) : Type 0 where

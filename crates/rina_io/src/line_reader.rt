@@ -63,11 +63,14 @@ impl LineReader {
     }
 
     /// Moves the bytes that are held to a line, up to the first line feed, and answers whether there is one. Where an
-    /// allocation fails, nothing moves.
+    /// allocation fails, nothing moves; where nothing is held, none is made.
     fn take_held(&mut self, line: &mut Vec<u8>) -> Result<bool, AllocError>
         ensures { Takes self.old line.old.items self.new line.new.items result }
     {
         let held = &self.chunk[self.start..];
+        if held.is_empty() {
+            return Ok(false);
+        }
         match held.find_byte(b'\n') {
             Some(at) => {
                 line.extend_from_slice(&held[..at + 1])?;
@@ -110,8 +113,8 @@ impl LineReader {
         Ok(true)
     }
 
-    /// The next line, with its end if it has one; None at the end of the input. After an error the reader is not to
-    /// be used.
+    /// The next line, with its end if it has one; None at the end of the input. An allocation is made only for bytes that
+    /// are kept. After an error the reader is not to be used.
     #[tactic(auto, using(crate::proofs::Chunks::at_first, crate::proofs::Chunks::found, crate::proofs::Chunks::filled, crate::proofs::Chunks::none_left, crate::proofs::Chunks::last_left, crate::proofs::Chunks::cut_off, crate::proofs::Chunks::no_memory))]
     pub fn next_line<S: Source>(
         &mut self,

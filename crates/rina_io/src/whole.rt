@@ -1,5 +1,5 @@
 //! Reading all of a source, and writing all of a piece.
-ghost use Rattle.std.specs.Prelude.{◌≡◌, ◌<◌, ◌≤◌, ℕ, not, length, take, OnOk, OnErr};
+ghost use Rattle.std.specs.Prelude.{◌≡◌, ◌<◌, ◌≤◌, ◌++◌, ℕ, List, not, length, take, OnOk, OnErr};
 ghost use Rattle.std.specs.Io.KnownBytes.{Appends, Consumes, IsAtEnd};
 ghost use Rattle.rina_io.specs.Causes.{one_more, Rose, HasCause, Turns};
 
@@ -31,10 +31,10 @@ pub struct Taken {
 }
 
 /// Writes all of a piece, in as many writes as the sink needs. Where a write fails or takes nothing,
-/// this fails, and the sink took a front of the piece. Such a write is counted as a fault, and no other.
+/// this fails, and the sink took a front of the piece, but not all of it. Such a write is counted as a fault, and no other.
 pub fn write_all<K: Sink>(out: &mut K, piece: &[u8]) -> Result<(), Failed>
     ensures ok { OnOk result (Appends (K.took out.old) (K.took out.new) piece.now) }
-    ensures err { OnErr result ((k : ℕ) × Appends (K.took out.old) (K.took out.new) (take k piece.now)) }
+    ensures err { OnErr result ((k : ℕ) × (k < length piece.now) × Appends (K.took out.old) (K.took out.new) (take k piece.now)) }
     ensures fine { OnOk result (K.faults out.new ≡ K.faults out.old) }
     ensures cause { HasCause (K.faults out.old) (K.faults out.new) result }
     ensures turns { Turns (K.odd out.old) (K.odd out.new) result }
@@ -62,6 +62,8 @@ fn ended(bytes: Vec<u8>, ending: Ending) -> Taken
 /// fails. A read that fails is counted as a fault, and no other.
 pub fn take_all<S: Source>(alloc: Global, source: &mut S) -> Taken
     ensures bytes { ¬ (result.ending ≡ Ending.Memory) → Consumes (S.left source.old) (S.left source.new) result.bytes.items }
+    // Without memory these bytes were read, and at least one more.
+    ensures memory { result.ending ≡ Ending.Memory → (more : List ℕ) × (0 < length more) × Consumes (S.left source.old) (S.left source.new) (result.bytes.items ++ more) }
     ensures whole { result.ending ≡ Ending.Whole → IsAtEnd (S.left source.new) × (length result.bytes.items ≤ LIMIT) }
     ensures large { result.ending ≡ Ending.TooLarge → LIMIT < length result.bytes.items }
     ensures fault { result.ending ≡ Ending.Fault → Rose (S.faults source.old) (S.faults source.new) × (length result.bytes.items ≤ LIMIT) }

@@ -21,6 +21,7 @@ use Rattle.rina_iface.proofs.LaterCalls.{partners_apart}
 use Rattle.rina_dif.specs.declared.dif.Dif.{Dif}
 use Rattle.rina_wire.proofs.Left.{seen_frees, seen_unregisters}
 use Rattle.rina_wire.proofs.Seen.{seen_registers}
+use Rattle.rina_dif.specs.Registering.{register_refusal, unregister_refusal}
 use Rattle.rina_tower.specs.declared.applications.AppError.{AppError}
 use Rattle.rina_tower.specs.declared.applications.AppError.TheVariants as apps
 use Rattle.rina_tower.specs.declared.tower.Tower.{Tower, Rank', Wires}
@@ -48,14 +49,12 @@ registers own s fac node app (Err register.Memory) s' g = idle s s' g
 registers own s fac node app (Err register.Already) s' g = idle s s' g.1
 registers own s fac node app (Err register.NoMember) s' g = idle s s' g.1
 registers own s fac node app (Err (register.CountSpent n k)) s' g = idle s s' g.1
-registers own s fac node app (Err register.Unbuilt) s' g = idle s s' g.1
 
 unregisters : (own : Option UnregisterError) (s : Seen) (fac node : ℕ) (app : List ℕ) (r : Result (Unit {0}) UnregisterError) (s' : Seen) → Unregisters own s fac node app r s' → Rest s.facs s'.facs
 unregisters own s fac node app (Ok done) s' g = named s fac g.1.facility _ s' g.1.stands refl refl (ap (λ (x : Seen). x.facs) g.1.new_is)
 unregisters own s fac node app (Err unregister.Memory) s' g = idle s s' g
 unregisters own s fac node app (Err unregister.NotThere) s' g = idle s s' g.1
 unregisters own s fac node app (Err (unregister.CountSpent n k)) s' g = idle s s' g.1
-unregisters own s fac node app (Err unregister.Unbuilt) s' g = idle s s' g.1
 
 pub restated : (e : End) (state : PortState) → Rests e (with_state e state)
 restated e state = rests_still e (with_state e state) refl refl refl refl [] (sym (append-nil e.got))
@@ -92,7 +91,7 @@ rests_register fac node app r (Wires a) (Wires a') w = record { below = tt; rest
 rests_register fac node app r (Rank' p difs below) (Rank' p' difs' below') w = record {
   below = w.1;
   rests = elim w.0 [
-    | inl h ↦ registers (Some register.Unbuilt) (seen_of_difs h.dif.clock difs) fac node app r (seen_of_difs h.dif.clock difs') (served (λ s s'. Registers (Some register.Unbuilt) s fac node app r s') fac h.dif h.dif' difs difs' h.is_dif h.new_is h.done)
+    | inl h ↦ registers (register_refusal h.dif node) (seen_of_difs h.dif.clock difs) fac node app r (seen_of_difs h.dif.clock difs') (served (λ s s'. Registers (register_refusal h.dif node) s fac node app r s') fac h.dif h.dif' difs difs' h.is_dif h.new_is h.done.serves)
     | inr h ↦ rest_same (map fac_of_dif difs) (map fac_of_dif difs') (ap (map fac_of_dif) h.2)
   ];
 }
@@ -104,7 +103,7 @@ rests_unregister fac node app r (Wires a) (Wires a') w = record { below = tt; re
 rests_unregister fac node app r (Rank' p difs below) (Rank' p' difs' below') w = record {
   below = w.1;
   rests = elim w.0 [
-    | inl h ↦ unregisters (Some unregister.Unbuilt) (seen_of_difs h.dif.clock difs) fac node app r (seen_of_difs h.dif.clock difs') (served (λ s s'. Unregisters (Some unregister.Unbuilt) s fac node app r s') fac h.dif h.dif' difs difs' h.is_dif h.new_is h.done)
+    | inl h ↦ unregisters (unregister_refusal h.dif node) (seen_of_difs h.dif.clock difs) fac node app r (seen_of_difs h.dif.clock difs') (served (λ s s'. Unregisters (unregister_refusal h.dif node) s fac node app r s') fac h.dif h.dif' difs difs' h.is_dif h.new_is h.done.serves)
     | inr h ↦ rest_same (map fac_of_dif difs) (map fac_of_dif difs') (ap (map fac_of_dif) h.2)
   ];
 }

@@ -101,13 +101,13 @@ at_claim plan r ipc call result t t' next d = at_rank plan r (λ u u'. ClaimsFor
 
 pub registers : (plan : Plan) (fac node : ℕ) (app : List ℕ) (r : Result (Unit {0}) RegisterError) (t t' : Tower) → RegistersAtTop fac node app r t t' → Keeps plan t t'
 registers plan fac node app r (Wires a) (Wires a') d = (refl, λ h. tt)
-registers plan fac node app r (Rank' p difs below) (Rank' p' difs' below') d = keeps_below plan (Rank' p difs below) (Rank' p' difs' below') (any_stays _ _ _ difs difs' (λ x x' s. serves_stays _ _ x x' s) d.0, d.1)
+registers plan fac node app r (Rank' p difs below) (Rank' p' difs' below') d = keeps_below plan (Rank' p difs below) (Rank' p' difs' below') (any_stays _ _ _ difs difs' (λ x x' s. serves_stays _ _ x x' s.serves) d.0, d.1)
 registers plan fac node app r (Wires a) (Rank' p difs below) d = absurd d
 registers plan fac node app r (Rank' p difs below) (Wires a) d = absurd d
 
 pub unregisters : (plan : Plan) (fac node : ℕ) (app : List ℕ) (r : Result (Unit {0}) UnregisterError) (t t' : Tower) → UnregistersAtTop fac node app r t t' → Keeps plan t t'
 unregisters plan fac node app r (Wires a) (Wires a') d = (refl, λ h. tt)
-unregisters plan fac node app r (Rank' p difs below) (Rank' p' difs' below') d = keeps_below plan (Rank' p difs below) (Rank' p' difs' below') (any_stays _ _ _ difs difs' (λ x x' s. serves_stays _ _ x x' s) d.0, d.1)
+unregisters plan fac node app r (Rank' p difs below) (Rank' p' difs' below') d = keeps_below plan (Rank' p difs below) (Rank' p' difs' below') (any_stays _ _ _ difs difs' (λ x x' s. serves_stays _ _ x x' s.serves) d.0, d.1)
 unregisters plan fac node app r (Wires a) (Rank' p difs below) d = absurd d
 unregisters plan fac node app r (Rank' p difs below) (Wires a) d = absurd d
 

@@ -11,7 +11,7 @@ use Rattle.rina_data.specs.declared.step.InStep.TheVariants as ins
 use Rattle.rina_data.specs.declared.step.OutStep.{OutStep}
 use Rattle.rina_data.specs.declared.step.OutStep.TheVariants as outs
 use Rattle.rina_data.specs.declared.step.StepError.{StepError}
-use Rattle.rina_data.specs.declared.step.StepError.TheVariants.{Memory, NoIpc, NoLink}
+use Rattle.rina_data.specs.declared.step.StepError.TheVariants.{CountSpent, Memory, NoIpc, NoLink}
 use Rattle.rina_data.specs.Lower.{IsRefused, PassesBelow, SendsBelow, WritesOffBelow}
 use Rattle.rina_law.specs.declared.entry.Entry.{Entry}
 use Rattle.rina_iface.specs.declared.error.FreeError.{FreeError}
@@ -184,6 +184,7 @@ clocked_wires P (Err Memory) a a' h (inl d) next = subst (Holds P) (sym d) h
 clocked_wires P (Err Memory) a a' h (inr d) next = freed_wires P a a' d.0 (Err freeing.Memory) h d.1 (next.failed d.0)
 clocked_wires P (Err NoIpc) a a' h d next = subst (Holds P) (sym d) h
 clocked_wires P (Err NoLink) a a' h d next = subst (Holds P) (sym d) h
+clocked_wires P (Err (CountSpent need left)) a a' h d next = subst (Holds P) (sym d) h
 
 -- at a rank right above the wires, which is rank 1; at another one nothing is done to the wires
 clocks_here : (P : Air → Type 0) (dif node : ℕ) (x : Result ClockStep StepError) (u u' : Tower) → Holds P u → ClocksAtTop dif node x u u' → (height_of u ≡ 1 → KeepsFree P x (wires_of u) (wires_of u')) → Holds P u'
@@ -227,6 +228,7 @@ let_wires P kept (Err Memory) a a' h (inl d) = subst (Holds P) (sym d) h
 let_wires P kept (Err Memory) a a' h (inr d) = sent_wires P kept a a' d.0 d.1.0 (Err d.1.1) h d.1.2
 let_wires P kept (Err NoIpc) a a' h d = subst (Holds P) (sym d) h
 let_wires P kept (Err NoLink) a a' h d = subst (Holds P) (sym d) h
+let_wires P kept (Err (CountSpent need left)) a a' h d = subst (Holds P) (sym d) h
 
 pub outs_here : (P : Air → Type 0) (kept : Keeps P) (may : List ℕ → ℕ → List Head → ℕ → Type 0) (slots slots' : List Slot) (dif node link : ℕ) (x : Result OutStep StepError) (u u' : Tower) → Holds P u → OutStepsAtTop may slots slots' dif node link x u u' → Holds P u'
 outs_here P kept may slots slots' dif node link x (Wires a) (Wires a') h d = subst P (sym d.2) h

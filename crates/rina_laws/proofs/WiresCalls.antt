@@ -84,7 +84,6 @@ carry_registers Q kept fac a wire node app (Err names.Memory) a' c g = subst (On
 carry_registers Q kept fac a wire node app (Err names.Already) a' c g = subst (OnWire Q fac) (sym g.air) c
 carry_registers Q kept fac a wire node app (Err names.NoMember) a' c g = subst (OnWire Q fac) (sym g.air) c
 carry_registers Q kept fac a wire node app (Err (names.CountSpent n m)) a' c g = subst (OnWire Q fac) (sym g.air) c
-carry_registers Q kept fac a wire node app (Err names.Unbuilt) a' c g = subst (OnWire Q fac) (sym g.air) c
 
 keeps_registers : (Q : ℕ → Line → Type 0) (kept : KeepsLine Q) (fac : ℕ) (a : Air) (wire node : ℕ) (app : List ℕ) (r : Result (Unit {0}) RegisterError) (a' : Air) → HasWire Q fac a → RegistersOn a wire node app r a' → HasWire Q fac a'
 keeps_registers Q kept fac a wire node app r a' c g = record { sound = sound_registers a wire node app r a' c.sound g; holds = carry_registers Q kept fac a wire node app r a' c.holds g }
@@ -158,7 +157,6 @@ carry_unregisters Q kept fac a wire node app (Ok done) a' c g = subst (OnWire Q 
 carry_unregisters Q kept fac a wire node app (Err unregister.Memory) a' c g = subst (OnWire Q fac) (sym g) c
 carry_unregisters Q kept fac a wire node app (Err unregister.NotThere) a' c g = subst (OnWire Q fac) (sym g.air) c
 carry_unregisters Q kept fac a wire node app (Err (unregister.CountSpent n m)) a' c g = subst (OnWire Q fac) (sym g.air) c
-carry_unregisters Q kept fac a wire node app (Err unregister.Unbuilt) a' c g = subst (OnWire Q fac) (sym g.air) c
 
 keeps_unregisters : (Q : ℕ → Line → Type 0) (kept : KeepsLine Q) (fac : ℕ) (a : Air) (wire node : ℕ) (app : List ℕ) (r : Result (Unit {0}) UnregisterError) (a' : Air) → HasWire Q fac a → UnregistersOn a wire node app r a' → HasWire Q fac a'
 keeps_unregisters Q kept fac a wire node app r a' c g = record { sound = sound_unregisters a wire node app r a' c.sound g; holds = carry_unregisters Q kept fac a wire node app r a' c.holds g }

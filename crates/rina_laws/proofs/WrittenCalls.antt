@@ -45,16 +45,17 @@ use Rattle.rina_wire.proofs.SoundSend.{sound_sends}
 use Rattle.rina_tower.specs.declared.tower.Tower.{Tower, Wires, Rank'}
 use Rattle.rina_tower.specs.Applications.{is_ipc_at}
 use Rattle.rina_tower.specs.Bystanders.{Anyone, IsIpc, LeavesNow, is_ipc}
-use Rattle.rina_tower.specs.Calls.{AllocatesAtTop, ClaimsAtTop, FreesAtTop, FreesFrom, PassesAtTop, PassesFrom, RegistersAtTop, SendsAtTop, SendsFrom, Serves, UnregistersAtTop}
+use Rattle.rina_tower.specs.Calls.{AllocatesAtTop, ClaimsAtTop, FreesAtTop, FreesFrom, PassesAtTop, PassesFrom, RegistersAtTop, RegistersFrom, SendsAtTop, SendsFrom, Serves, UnregistersAtTop, UnregistersFrom}
 use Rattle.rina_tower.specs.Cdap.{AsksAtTop, AsksOne}
 use Rattle.rina_tower.specs.Levels.{AtDif, IsAtDif}
 use Rattle.rina_tower.specs.Ranks.{now_of, seen_of, seen_of_difs}
+use Rattle.rina_tower.specs.Refusals.{own_register, own_unregister}
 use Rattle.rina_tower.specs.Stands.{IsRank, IsTower}
 use Rattle.rina_tower.specs.Unchanged.{ChangesClaims, ChangesNothing}
 use Rattle.rina_tower.proofs.Alone.{fewer_now}
 use Rattle.rina_tower.proofs.Asked.{asked_alone, asked_rank}
 use Rattle.rina_tower.proofs.Calling.{claims_alone, frees_alone, registers_alone, unregisters_alone}
-use Rattle.rina_tower.proofs.Serving.{allocates_seen, claims_seen, frees_seen, passes_seen, rank_frees, rank_passes, rank_sends, rank_serves, registers_seen, sends_seen, unregisters_seen}
+use Rattle.rina_tower.proofs.Serving.{allocates_seen, claims_seen, frees_seen, passes_seen, rank_frees, rank_passes, rank_registers, rank_sends, rank_serves, rank_unregisters, registers_seen, sends_seen, unregisters_seen}
 use Rattle.rina_tower.proofs.Walks.{asked_beside, passed_beside, sent_beside}
 use Rattle.rina_laws.specs.Written.{MayWrite, TakesNoMore}
 use Rattle.rina_laws.proofs.WrittenGoes.{Goes, goes_same}
@@ -111,8 +112,8 @@ registers W fac node app x (Wires a) (Wires a') v d = record {
 }
 registers W fac node app x (Rank' p difs below) (Rank' p' difs' below') v d =
     let seen = registers_seen fac node app x difs difs' below v.0 d.0 in
-    let alone = registers_alone IsIpc (Some register.Unbuilt) (seen_of_difs (now_of below) difs) fac node app x (seen_of_difs (now_of below) difs') seen in
-    here W p p' difs difs' below below' v (rank_serves _ fac _ difs difs' below v.0 v.1 d.0) alone (serves_grow W ChangesNothing _ fac _ difs difs' below (λ y y' s. ap (λ (z : Dif). z.processes) s) d.0) d.1
+    let alone = registers_alone IsIpc (own_register difs fac node) (seen_of_difs (now_of below) difs) fac node app x (seen_of_difs (now_of below) difs') seen in
+    here W p p' difs difs' below below' v (rank_registers fac node app x _ difs difs' below v.0 v.1 d.0) alone (any_grows W (RegistersFrom fac node app x) fac _ difs difs' below (λ y y' at s. same_grows W below y y' (ap (λ (z : Dif). z.processes) s.serves.rest)) d.0) d.1
 registers W fac node app x (Wires a) (Rank' p difs below) v d = absurd d
 registers W fac node app x (Rank' p difs below) (Wires a) v d = absurd d
 
@@ -125,8 +126,8 @@ unregisters W fac node app x (Wires a) (Wires a') v d = record {
 }
 unregisters W fac node app x (Rank' p difs below) (Rank' p' difs' below') v d =
     let seen = unregisters_seen fac node app x difs difs' below v.0 d.0 in
-    let alone = unregisters_alone IsIpc (Some unregister.Unbuilt) (seen_of_difs (now_of below) difs) fac node app x (seen_of_difs (now_of below) difs') seen in
-    here W p p' difs difs' below below' v (rank_serves _ fac _ difs difs' below v.0 v.1 d.0) alone (serves_grow W ChangesNothing _ fac _ difs difs' below (λ y y' s. ap (λ (z : Dif). z.processes) s) d.0) d.1
+    let alone = unregisters_alone IsIpc (own_unregister difs fac node) (seen_of_difs (now_of below) difs) fac node app x (seen_of_difs (now_of below) difs') seen in
+    here W p p' difs difs' below below' v (rank_unregisters fac node app x _ difs difs' below v.0 v.1 d.0) alone (any_grows W (UnregistersFrom fac node app x) fac _ difs difs' below (λ y y' at s. same_grows W below y y' (ap (λ (z : Dif). z.processes) s.serves.rest)) d.0) d.1
 unregisters W fac node app x (Wires a) (Rank' p difs below) v d = absurd d
 unregisters W fac node app x (Rank' p difs below) (Wires a) v d = absurd d
 

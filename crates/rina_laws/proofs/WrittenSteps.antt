@@ -22,7 +22,7 @@ use Rattle.rina_data.specs.declared.step.InStep.TheVariants as ins
 use Rattle.rina_data.specs.declared.step.OutStep.{OutStep}
 use Rattle.rina_data.specs.declared.step.OutStep.TheVariants as outs
 use Rattle.rina_data.specs.declared.step.StepError.{StepError}
-use Rattle.rina_data.specs.declared.step.StepError.TheVariants.{Memory, NoIpc, NoLink}
+use Rattle.rina_data.specs.declared.step.StepError.TheVariants.{CountSpent, Memory, NoIpc, NoLink}
 use Rattle.rina_data.specs.Lower.{IsRefused, PassesBelow, SendsBelow, WritesOffBelow}
 use Rattle.rina_data.proofs.Finding.{there}
 use Rattle.rina_dif_law.specs.WriteOffs.{IsOverNow, MayWriteOff, NoPort, RefusesOver}
@@ -83,6 +83,7 @@ left_below W (Err Memory) b b' v (inl d) = stood_same W b b' v d
 left_below W (Err Memory) b b' v (inr d) = sent_below W d.0 d.1.0 (Err d.1.1) b b' v d.1.2
 left_below W (Err NoIpc) b b' v d = stood_same W b b' v d
 left_below W (Err NoLink) b b' v d = stood_same W b b' v d
+left_below W (Err (CountSpent need left)) b b' v d = stood_same W b b' v d
 
 freed_there : (port : Port) (r : Result (Unit {0}) FreeError) (b b' : Tower) → IsTower b → FreesAsSeen seen_of frees_both FreesWhole b b' port r → Stood MayWrite b b'
 freed_there port r b b' v d = elim (has_failed b) as (λ z. has_failed b ≡ z → Stood MayWrite b b') [
@@ -105,6 +106,7 @@ freed_below (Err Memory) b b' v (inl d) = stood_same MayWrite b b' v d
 freed_below (Err Memory) b b' v (inr d) = freed_there d.0 (Err freeing.Memory) b b' v d.1
 freed_below (Err NoIpc) b b' v d = stood_same MayWrite b b' v d
 freed_below (Err NoLink) b b' v d = stood_same MayWrite b b' v d
+freed_below (Err (CountSpent need left)) b b' v d = stood_same MayWrite b b' v d
 
 -- ---- a step of a DIF at the top rank
 

@@ -1,42 +1,89 @@
 //! What a list of rules decides.
 use rina_access::{Act, Decision, Rule, Rules, Subject};
-use rina_base::{AppName, Seq};
+use rina_base::{AppName, Memory, NameError, Seq};
 use std::alloc::Global;
-use std::process::Abort;
-use std::test::*;
+use std::test::Fail;
 
-fn rule(subject: Subject, act: Act, allow: bool) -> Rule {
-    Rule {
+/// Adds a rule for an application.
+fn add(
+    alloc: Global,
+    list: &mut Seq<Rule>,
+    app: &AppName,
+    act: Act,
+    allow: bool,
+) -> Result<(), Memory> {
+    let subject = Subject::App(app.copy(alloc)?);
+    list.push(Rule {
         subject,
         act,
         allow,
+    })?;
+    Ok(())
+}
+
+/// Adds a rule for all.
+fn add_for_all(list: &mut Seq<Rule>, act: Act, allow: bool) -> Result<(), Memory> {
+    list.push(Rule {
+        subject: Subject::All,
+        act,
+        allow,
+    })?;
+    Ok(())
+}
+
+/// All but one application may allocate, and another one may enrol.
+fn three_rules(alloc: Global, app: &AppName, other: &AppName) -> Result<Seq<Rule>, Memory> {
+    let mut list = Seq::new(alloc);
+    add(alloc, &mut list, app, Act::Allocate, false)?;
+    add_for_all(&mut list, Act::Allocate, true)?;
+    add(alloc, &mut list, other, Act::Enrol, true)?;
+    Ok(list)
+}
+
+const fn no(rule: u32) -> Decision {
+    Decision { allow: false, rule }
+}
+
+const fn yes(rule: u32) -> Decision {
+    Decision { allow: true, rule }
+}
+
+/// Whether the first rule that matches decides, and none where none matches.
+fn decide(rules: &Rules, app: &AppName, other: &AppName) -> bool {
+    rules.decide(app, Act::Allocate) == no(1)
+        && rules.decide(other, Act::Allocate) == yes(2)
+        && rules.decide(other, Act::Enrol) == yes(3)
+        && rules.decide(app, Act::Enrol) == no(0)
+}
+
+/// The name of an application, and that of an IPC process.
+fn names(alloc: Global) -> Result<(AppName, AppName), NameError> {
+    let app = AppName::read(alloc, b"app")?;
+    Ok((app, AppName::read(alloc, b"dif/node")?))
+}
+
+/// Whether three rules decide so.
+fn three_decide(alloc: Global, list: &[Rule], app: &AppName, other: &AppName) -> bool {
+    if list.len() != 3 {
+        return false;
+    }
+    match Rules::new(alloc, list, false) {
+        Ok(rules) => decide(&rules, app, other),
+        Err(Memory) => false,
     }
 }
 
-fn three_rules(
-    rt: &impl Abort,
-    alloc: Global,
-    app: &AppName,
-    other: &AppName,
-) -> Result<Rules, Fail> {
-    let mut list = Seq::new(alloc);
-    list.push(rule(Subject::App(app.copy(alloc)?), Act::Allocate, false))?;
-    list.push(rule(Subject::All, Act::Allocate, true))?;
-    list.push(rule(Subject::App(other.copy(alloc)?), Act::Enrol, true))?;
-    assert!(rt; list.len() == 3);
-    Ok(Rules::new(alloc, list.as_slice(), false)?)
+/// Whether each name is decided by the rules.
+fn are_decided(alloc: Global, app: &AppName, ipc: &AppName) -> bool {
+    match three_rules(alloc, app, ipc) {
+        Ok(list) => three_decide(alloc, list.as_slice(), app, ipc),
+        Err(Memory) => false,
+    }
 }
 
 #[test]
 fn the_first_rule_that_matches_decides(rt: HostRuntime) -> Result<(), Fail> {
-    let app = AppName::read(rt.alloc(), b"app")?;
-    let ipc = AppName::read(rt.alloc(), b"dif/node")?;
-    let rules = three_rules(&rt, rt.alloc(), &app, &ipc)?;
-    let no = |rule| Decision { allow: false, rule };
-    let yes = |rule| Decision { allow: true, rule };
-    assert!(rt; rules.decide(&app, Act::Allocate) == no(1));
-    assert!(rt; rules.decide(&ipc, Act::Allocate) == yes(2));
-    assert!(rt; rules.decide(&ipc, Act::Enrol) == yes(3));
-    assert!(rt; rules.decide(&app, Act::Enrol) == no(0));
+    let (app, ipc) = names(rt.alloc())?;
+    assert!(rt; are_decided(rt.alloc(), &app, &ipc));
     Ok(())
 }

@@ -1,11 +1,10 @@
 //! What a RIB answers to CDAP messages.
 use rina_answer::answer;
-use rina_base::{Bytes, Name, read_decimal};
+use rina_base::{Bytes, Memory, Name, NameError, read_decimal};
 use rina_cdap::Message;
 use rina_rib::Rib;
 use std::alloc::Global;
-use std::process::Abort;
-use std::test::*;
+use std::test::Fail;
 
 /// A request to read the object `/user`, with invoke id 1.
 const REQUEST: [u8; 19] = [
@@ -18,33 +17,28 @@ const RESPONSE: [u8; 46] = [
     0x75, 0x73, 0x65, 0x72, 5, 0, 8, 0, 0, 0, 0, 0, 0, 0, 6, 6, 0, 0, 7, 0, 1, 0,
 ];
 
-#[test]
-fn a_folder_is_read(rt: HostRuntime) -> Result<(), Fail> {
-    let alloc = rt.alloc();
-    let mut rib = Rib::new(alloc)?;
-    let asked = rina_cdap::read(alloc, &REQUEST)?;
-    let told = answer(alloc, &mut rib, &asked)?;
-    let bytes = rina_cdap::write(alloc, &told)?;
-    assert!(rt; bytes.as_slice() == RESPONSE.as_slice());
-    Ok(())
+/// What is answered to the bytes of a request.
+fn answered(alloc: Global, rib: &mut Rib, request: &[u8]) -> Result<Message, Memory> {
+    match rina_cdap::read(alloc, request) {
+        Ok(asked) => answer(alloc, rib, &asked),
+        Err(_) => Err(Memory),
+    }
 }
 
-/// The result of a message with a name and a class, which are left out where they are `-`.
-fn outcome(
-    alloc: Global,
-    rib: &mut Rib,
-    operation: u8,
-    name: &[u8],
-    class: &[u8],
-) -> Result<Option<u8>, Fail> {
-    let mut m = Message::new(operation, 0);
-    if name != b"-".as_slice() {
-        m.name = Some(Bytes::copy_of(alloc, name)?);
+/// Whether a message is written as these bytes.
+fn is_written(alloc: Global, told: &Message, bytes: &[u8]) -> bool {
+    match rina_cdap::write(alloc, told) {
+        Ok(written) => written.as_slice() == bytes,
+        Err(_) => false,
     }
-    if class != b"-".as_slice() {
-        m.class = Some(Name::read(alloc, class)?);
+}
+
+/// Whether the folder `/user` is read.
+fn folder_is_read(alloc: Global, rib: &mut Rib) -> bool {
+    match answered(alloc, rib, &REQUEST) {
+        Ok(told) => is_written(alloc, &told, &RESPONSE),
+        Err(Memory) => false,
     }
-    Ok(answer(alloc, rib, &m)?.result)
 }
 
 /// Requests one after the other: an operation, a name, a class and the result that comes; `-` is left out.
@@ -74,25 +68,89 @@ const ASKED: &str = "\
 0 - - 6
 9 /user - 6";
 
-/// The number of a word.
-fn number(rt: &impl Abort, word: Option<&[u8]>) -> u8 {
-    match word.and_then(|word| read_decimal(255, word)) {
-        Some(number) => number as u8,
-        None => panic!(rt; "it is a number"),
+/// A word, where it is not left out.
+fn given(word: Option<&str>) -> Option<&[u8]> {
+    match word {
+        Some("-") | None => None,
+        Some(word) => Some(word.as_bytes()),
     }
 }
 
-#[test]
-fn each_result_comes(rt: HostRuntime) -> Result<(), Fail> {
-    let mut rib = Rib::new(rt.alloc())?;
-    for line in ASKED.as_bytes().split(|b| *b == b'\n') {
-        let mut words = line.split(|b| *b == b' ');
-        let operation = number(&rt, words.next());
-        let name = words.next().unwrap_or(b"-");
-        let class = words.next().unwrap_or(b"-");
-        let result = number(&rt, words.next());
-        let got = outcome(rt.alloc(), &mut rib, operation, name, class)?;
-        assert!(rt; got == Some(result));
+/// The number of a word.
+fn number(word: Option<&str>) -> Option<u8> {
+    let number = read_decimal(255, word?.as_bytes())?;
+    Some(number as u8)
+}
+
+fn copied(alloc: Global, name: Option<&[u8]>) -> Result<Option<Bytes>, Memory> {
+    match name {
+        Some(name) => Ok(Some(Bytes::copy_of(alloc, name)?)),
+        None => Ok(None),
     }
+}
+
+fn class_of(alloc: Global, class: Option<&[u8]>) -> Result<Option<Name>, NameError> {
+    match class {
+        Some(class) => Ok(Some(Name::read(alloc, class)?)),
+        None => Ok(None),
+    }
+}
+
+/// A request of an operation.
+fn request(operation: u8, name: Option<Bytes>, class: Option<Name>) -> Message {
+    let mut m = Message::new(operation, 0);
+    m.name = name;
+    m.class = class;
+    m
+}
+
+/// Whether a request has this result.
+fn results(alloc: Global, rib: &mut Rib, m: &Message, wanted: Option<u8>) -> bool {
+    match answer(alloc, rib, m) {
+        Ok(told) => told.result == wanted,
+        Err(Memory) => false,
+    }
+}
+
+/// Whether a request of an operation, a name and a class has this result.
+fn comes(
+    alloc: Global,
+    rib: &mut Rib,
+    operation: u8,
+    name: Option<&[u8]>,
+    class: Option<&[u8]>,
+    wanted: Option<u8>,
+) -> Result<bool, Fail> {
+    let name = copied(alloc, name)?;
+    let class = class_of(alloc, class)?;
+    let m = request(operation, name, class);
+    Ok(results(alloc, rib, &m, wanted))
+}
+
+/// Whether the result that a line names comes.
+fn line_comes(alloc: Global, rib: &mut Rib, line: &str) -> Result<bool, Fail> {
+    let mut words = line.split_ascii_whitespace();
+    let Some(operation) = number(words.next()) else {
+        return Ok(false);
+    };
+    let name = given(words.next());
+    let class = given(words.next());
+    comes(alloc, rib, operation, name, class, number(words.next()))
+}
+
+/// Whether each result comes.
+fn each_comes(alloc: Global, rib: &mut Rib) -> Result<bool, Fail> {
+    for line in ASKED.lines() {
+        if !line_comes(alloc, rib, line)? {
+            return Ok(false);
+        }
+    }
+    Ok(true)
+}
+
+#[test]
+fn a_folder_is_read_and_each_result_comes(rt: HostRuntime) -> Result<(), Fail> {
+    let mut rib = Rib::new(rt.alloc())?;
+    assert!(rt; folder_is_read(rt.alloc(), &mut rib) && each_comes(rt.alloc(), &mut rib)?);
     Ok(())
 }

@@ -1,32 +1,54 @@
 //! Which id is drawn.
 use rina_ids::{Ids, NoIds};
-use std::test::*;
+use std::alloc::Global;
 
-#[test]
-fn the_least_free_id_is_drawn(rt: HostRuntime) -> Result<(), Fail> {
-    let alloc = rt.alloc();
-    let mut ids = Ids::new(alloc, 4);
-    let one = ids.draw(alloc, 0)?;
-    let two = ids.draw(alloc, 0)?;
-    assert!(rt; one == 1 && two == 2 && ids.draw(alloc, 0)? == 3);
+/// Whether the least ids are drawn. Id 2 rests until tick 16 then, and id 1 until tick 17.
+fn least_are_drawn(alloc: Global, ids: &mut Ids) -> bool {
+    let Ok(one) = ids.draw(alloc, 0) else {
+        return false;
+    };
+    let Ok(two) = ids.draw(alloc, 0) else {
+        return false;
+    };
+    let Ok(three) = ids.draw(alloc, 0) else {
+        return false;
+    };
     ids.give_back(10, two, 6);
     ids.give_back(12, one, 5);
-    for (tick, free) in [(15, 4), (16, 2), (17, 1)] {
-        assert!(rt; ids.free(tick) == Some(free));
+    one == 1 && two == 2 && three == 3
+}
+
+/// Whether an id that was given back is free when it has rested.
+fn rested_are_free(ids: &Ids) -> bool {
+    ids.free(15) == Some(4) && ids.free(16) == Some(2) && ids.free(17) == Some(1)
+}
+
+fn rested_are_drawn(alloc: Global, ids: &mut Ids) -> bool {
+    ids.draw(alloc, 16) == Ok(2)
+        && ids.draw(alloc, 16) == Ok(4)
+        && ids.draw(alloc, 17) == Ok(1)
+        && ids.draw(alloc, 17) == Ok(5)
+}
+
+/// Whether each id of one byte is drawn once.
+fn all_are_drawn(alloc: Global, ids: &mut Ids) -> bool {
+    for id in 1u32..256 {
+        if ids.draw(alloc, 3) != Ok(id) {
+            return false;
+        }
     }
-    for (tick, drawn) in [(16, 2), (16, 4), (17, 1), (17, 5)] {
-        assert!(rt; ids.draw(alloc, tick)? == drawn);
-    }
-    Ok(())
+    ids.draw(alloc, 3) == Err(NoIds::Used { used: 255 })
 }
 
 #[test]
-fn one_byte_has_255_ids(rt: HostRuntime) -> Result<(), Fail> {
-    let alloc = rt.alloc();
-    let mut ids = Ids::new(alloc, 1);
-    for _ in 0..255 {
-        let _ = ids.draw(alloc, 3)?;
-    }
-    assert!(rt; ids.draw(alloc, 3) == Err(NoIds::Used { used: 255 }));
-    Ok(())
+fn the_least_free_id_is_drawn(rt: HostRuntime) {
+    let mut ids = Ids::new(rt.alloc(), 4);
+    let drawn = least_are_drawn(rt.alloc(), &mut ids) && rested_are_free(&ids);
+    assert!(rt; drawn && rested_are_drawn(rt.alloc(), &mut ids));
+}
+
+#[test]
+fn one_byte_has_255_ids(rt: HostRuntime) {
+    let mut ids = Ids::new(rt.alloc(), 1);
+    assert!(rt; all_are_drawn(rt.alloc(), &mut ids));
 }

@@ -1,143 +1,188 @@
 //! Objects that are made, changed, walked and deleted, and each refusal.
-use rina_base::is_object_name;
+use rina_base::{Memory, is_object_name};
 use rina_rib::{Caller, Class, Rib, RibError};
 use std::alloc::Global;
-use std::process::Abort;
-use std::test::*;
 
-/// A RIB, whose calls test their names first.
-#[derive(Drop)]
-struct Tried {
-    rib: Rib,
+/// Whether an object is made by CDAP with this instance number, or refused so.
+fn made(
+    alloc: Global,
+    rib: &mut Rib,
+    name: &[u8],
+    class: Class,
+    value: &[u8],
+    wanted: Result<u64, RibError>,
+) -> bool {
+    is_object_name(name) && rib.create(alloc, Caller::Cdap, name, class, value) == wanted
 }
 
-impl Tried {
-    fn create(
-        &mut self,
-        rt: &impl Abort,
-        alloc: Global,
-        by: Caller,
-        name: &[u8],
-        class: Class,
-        value: &[u8],
-    ) -> Result<u64, RibError> {
-        assert!(rt; is_object_name(name));
-        self.rib.create(alloc, by, name, class, value)
-    }
+/// Whether the process itself makes an object with this instance number.
+fn made_own(
+    alloc: Global,
+    rib: &mut Rib,
+    name: &[u8],
+    class: Class,
+    value: &[u8],
+    instance: u64,
+) -> bool {
+    is_object_name(name) && rib.create(alloc, Caller::Own, name, class, value) == Ok(instance)
+}
 
-    fn write(
-        &mut self,
-        rt: &impl Abort,
-        alloc: Global,
-        name: &[u8],
-        class: Class,
-        value: &[u8],
-    ) -> Option<RibError> {
-        assert!(rt; is_object_name(name));
-        self.rib
-            .write(alloc, Caller::Cdap, name, class, value)
-            .err()
-    }
+fn written(
+    alloc: Global,
+    rib: &mut Rib,
+    class: Class,
+    value: &[u8],
+    wanted: Result<(), RibError>,
+) -> bool {
+    is_object_name(b"/user/v") && rib.write(alloc, Caller::Cdap, b"/user/v", class, value) == wanted
+}
 
-    fn delete(&mut self, rt: &impl Abort, name: &[u8]) -> Option<RibError> {
-        assert!(rt; is_object_name(name));
-        self.rib.delete(Caller::Cdap, name).err()
-    }
+fn deleted(rib: &mut Rib, name: &[u8], wanted: Result<(), RibError>) -> bool {
+    is_object_name(name) && rib.delete(Caller::Cdap, name) == wanted
+}
 
-    fn turn(&mut self, rt: &impl Abort, name: &[u8], on: bool) -> Option<RibError> {
-        assert!(rt; is_object_name(name));
-        if on {
-            self.rib.start(Caller::Cdap, name).err()
-        } else {
-            self.rib.stop(Caller::Cdap, name).err()
-        }
-    }
+fn started(rib: &mut Rib, name: &[u8], wanted: Result<(), RibError>) -> bool {
+    is_object_name(name) && rib.start(Caller::Cdap, name) == wanted
+}
 
-    /// Whether there is such an object.
-    fn has(&self, rt: &impl Abort, name: &[u8], instance: u64, value: &[u8]) -> bool {
-        assert!(rt; is_object_name(name));
-        match self.rib.read(name) {
-            Ok(object) => object.instance == instance && object.value == value,
-            Err(_) => false,
-        }
-    }
+fn stopped(rib: &mut Rib, name: &[u8]) -> bool {
+    is_object_name(name) && rib.stop(Caller::Cdap, name).is_ok()
+}
 
-    fn count(&self, rt: &impl Abort, under: &[u8]) -> usize {
-        assert!(rt; is_object_name(under));
-        let mut n = 0usize;
-        for _ in self.rib.walk(under) {
-            n = n.saturating_add(1);
-        }
-        n
+/// Whether there is such an object of instance number 7.
+fn has(rib: &Rib, name: &[u8], value: &[u8]) -> bool {
+    if !is_object_name(name) {
+        return false;
     }
+    match rib.read(name) {
+        Ok(object) => object.instance == 7 && object.value == value,
+        Err(_) => false,
+    }
+}
+
+fn service_goes(alloc: Global, rib: &mut Rib) -> bool {
+    made(alloc, rib, b"/user/s", Class::Service, b"x", Ok(7))
+        && has(rib, b"/user/s", b"off")
+        && started(rib, b"/user/s", Ok(()))
+        && has(rib, b"/user/s", b"on")
+        && stopped(rib, b"/user/s")
+        && has(rib, b"/user/s", b"off")
+        && deleted(rib, b"/user/s", Ok(()))
+        && !has(rib, b"/user/s", b"off")
+}
+
+fn value_goes(alloc: Global, rib: &mut Rib) -> bool {
+    let other = RibError::WrongClass { kept: Class::Value };
+    made_own(alloc, rib, b"/user/v", Class::Value, b"old", 7)
+        && has(rib, b"/user/v", b"old")
+        && written(alloc, rib, Class::Cube, b"", Err(other))
+        && written(alloc, rib, Class::Value, b"new", Ok(()))
+        && has(rib, b"/user/v", b"new")
+}
+
+/// Whether each object that may not be made is refused.
+fn none_is_made(alloc: Global, rib: &mut Rib) -> bool {
+    let denied = Err(RibError::NotAllowed { op: 4 });
+    made(
+        alloc,
+        rib,
+        b"/user",
+        Class::Cube,
+        b"",
+        Err(RibError::Exists),
+    ) && made(
+        alloc,
+        rib,
+        b"/a/b",
+        Class::Value,
+        b"",
+        Err(RibError::NoParent),
+    ) && made(
+        alloc,
+        rib,
+        b"/cube/1/b",
+        Class::Value,
+        b"",
+        Err(RibError::NoParent),
+    ) && made(alloc, rib, b"/dir/a", Class::Value, b"", denied)
+        && made(alloc, rib, b"/user/f", Class::Flow, b"", denied)
+}
+
+/// Whether objects are not deleted or started that may not be.
+fn none_is_changed(rib: &mut Rib) -> bool {
+    deleted(rib, b"/x", Err(RibError::NoObject))
+        && deleted(rib, b"/cube", Err(RibError::HasChildren))
+        && deleted(rib, b"/user", Err(RibError::NotAllowed { op: 6 }))
+        && started(rib, b"/user", Err(RibError::NotAllowed { op: 14 }))
+}
+
+fn refusals_go(alloc: Global, rib: &mut Rib) -> bool {
+    made_own(alloc, rib, b"/cube/1", Class::Cube, b"", 7)
+        && none_is_made(alloc, rib)
+        && none_is_changed(rib)
+}
+
+/// Whether a walk passes so many objects.
+fn passes(rib: &Rib, under: &[u8], wanted: usize) -> bool {
+    if !is_object_name(under) {
+        return false;
+    }
+    let mut count = 0usize;
+    for _ in rib.walk(under) {
+        count = count.saturating_add(1);
+    }
+    count == wanted
+}
+
+fn folders_are_made(alloc: Global, rib: &mut Rib) -> bool {
+    made_own(alloc, rib, b"/user/a", Class::Folder, b"", 7)
+        && made_own(alloc, rib, b"/user/a-b", Class::Folder, b"", 8)
+        && made_own(alloc, rib, b"/user/a/b", Class::Folder, b"", 9)
+}
+
+fn walks_go(rib: &Rib) -> bool {
+    passes(rib, b"/", 10)
+        && passes(rib, b"/user", 4)
+        && passes(rib, b"/user/a", 2)
+        && passes(rib, b"/none", 0)
+}
+
+/// What is done with a RIB.
+#[derive(Clone, Copy)]
+enum Case {
+    Service,
+    Value,
+    Refusals,
+    Walks,
+}
+
+/// Whether a case goes so at a new RIB.
+fn goes(alloc: Global, case: Case) -> Result<bool, Memory> {
+    let mut rib = Rib::new(alloc)?;
+    Ok(match case {
+        Case::Service => service_goes(alloc, &mut rib),
+        Case::Value => value_goes(alloc, &mut rib),
+        Case::Refusals => refusals_go(alloc, &mut rib),
+        Case::Walks => folders_are_made(alloc, &mut rib) && walks_go(&rib),
+    })
 }
 
 #[test]
-fn a_service_is_started_and_stopped(rt: HostRuntime) -> Result<(), Fail> {
-    let alloc = rt.alloc();
-    let mut t = Tried {
-        rib: Rib::new(alloc)?,
-    };
-    let made = t.create(&rt, alloc, Caller::Cdap, b"/user/s", Class::Service, b"x")?;
-    assert!(rt; made == 7 && t.has(&rt, b"/user/s", 7, b"off"));
-    for (on, value) in [(true, b"on".as_slice()), (false, b"off")] {
-        assert!(rt; t.turn(&rt, b"/user/s", on).is_none());
-        assert!(rt; t.has(&rt, b"/user/s", 7, value));
-    }
-    assert!(rt; t.delete(&rt, b"/user/s").is_none() && !t.has(&rt, b"/user/s", 7, b"off"));
-    Ok(())
+fn a_service_is_started_and_stopped(rt: HostRuntime) {
+    assert!(rt; goes(rt.alloc(), Case::Service) == Ok(true));
 }
 
 #[test]
-fn a_value_is_written(rt: HostRuntime) -> Result<(), Fail> {
-    let alloc = rt.alloc();
-    let mut t = Tried {
-        rib: Rib::new(alloc)?,
-    };
-    let _ = t.create(&rt, alloc, Caller::Own, b"/user/v", Class::Value, b"old")?;
-    let other = Some(RibError::WrongClass { kept: Class::Value });
-    assert!(rt; t.write(&rt, alloc, b"/user/v", Class::Cube, b"") == other);
-    assert!(rt;
-        t.write(&rt, alloc, b"/user/v", Class::Value, b"new")
-            .is_none()
-    );
-    assert!(rt; t.has(&rt, b"/user/v", 7, b"new"));
-    Ok(())
+fn a_value_is_written(rt: HostRuntime) {
+    assert!(rt; goes(rt.alloc(), Case::Value) == Ok(true));
 }
 
 #[test]
-fn each_refusal_comes(rt: HostRuntime) -> Result<(), Fail> {
-    let mut t = Tried {
-        rib: Rib::new(rt.alloc())?,
-    };
-    let _ = t.create(&rt, rt.alloc(), Caller::Own, b"/cube/1", Class::Cube, b"")?;
-    let made: [(&[u8], Class, RibError); 5] = [
-        (b"/user", Class::Cube, RibError::Exists),
-        (b"/a/b", Class::Value, RibError::NoParent),
-        (b"/cube/1/b", Class::Value, RibError::NoParent),
-        (b"/dir/a", Class::Value, RibError::NotAllowed { op: 4 }),
-        (b"/user/f", Class::Flow, RibError::NotAllowed { op: 4 }),
-    ];
-    for (name, class, refused) in &made {
-        let outcome = t.create(&rt, rt.alloc(), Caller::Cdap, name, *class, b"");
-        assert!(rt; outcome.err() == Some(*refused));
-    }
-    assert!(rt; t.delete(&rt, b"/x") == Some(RibError::NoObject));
-    assert!(rt; t.delete(&rt, b"/cube") == Some(RibError::HasChildren));
-    assert!(rt; t.delete(&rt, b"/user") == Some(RibError::NotAllowed { op: 6 }));
-    assert!(rt; t.turn(&rt, b"/user", true) == Some(RibError::NotAllowed { op: 14 }));
-    Ok(())
+fn each_refusal_comes(rt: HostRuntime) {
+    assert!(rt; goes(rt.alloc(), Case::Refusals) == Ok(true));
 }
 
 #[test]
-fn a_walk_passes_what_is_under_a_name(rt: HostRuntime) -> Result<(), Fail> {
-    let mut t = Tried {
-        rib: Rib::new(rt.alloc())?,
-    };
-    for name in b"/user/a /user/a-b /user/a/b".split(|b| *b == b' ') {
-        let _ = t.create(&rt, rt.alloc(), Caller::Own, name, Class::Folder, b"")?;
-    }
-    assert!(rt; t.count(&rt, b"/") == 10 && t.count(&rt, b"/user") == 4);
-    assert!(rt; t.count(&rt, b"/user/a") == 2 && t.count(&rt, b"/none") == 0);
-    Ok(())
+fn a_walk_passes_what_is_under_a_name(rt: HostRuntime) {
+    assert!(rt; goes(rt.alloc(), Case::Walks) == Ok(true));
 }

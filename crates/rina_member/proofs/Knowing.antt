@@ -9,7 +9,6 @@ use Rattle.rina_graph.specs.declared.graph.Edge.{Edge}
 use Rattle.rina_route.specs.declared.link.Link.{Link as Hop}
 use Rattle.rina_agent.specs.declared.agent.Agent.{Agent}
 use Rattle.rina_agent.specs.declared.link.Link.{Link as Managed}
-use Rattle.rina_agent.specs.Counts.{spent}
 use Rattle.rina_agent.specs.Rows.{lost}
 use Rattle.rina_plan.specs.declared.dif.LinkPlan.{LinkPlan}
 use Rattle.rina_data.specs.declared.link.Link.{Link}
@@ -21,14 +20,14 @@ use Rattle.rina_member.specs.Knowing.{AreLive, AreNumbered, AreRoutesOf, IsLaidO
 use Rattle.rina_member.specs.Managements.{entry_of, takes_item}
 use Rattle.rina_member.proofs.Entering.{enters, routes_stay}
 use Rattle.rina_member.proofs.Hops.{same_hops}
-use Rattle.rina_member.proofs.Losing.{loses, not_spent}
+use Rattle.rina_member.proofs.Losing.{loses}
 use Rattle.rina_member.proofs.Starting.{at_start, start_claims}
 
 -- from the start, where each edge of the member has a link
 pub starts_knowing : (members : List Member) (plans : List LinkPlan) (rules : Rules) (m : Member) (links : List Link) (now : ℕ)
-    → IsLaidOut members plans → Contains members m → AreNumbered links → AreLive links → length (edges_from members m.node plans) ≤ length links → length links ≤ 65536
+    → IsLaidOut members plans → Contains members m → AreNumbered links → AreLive links → length (edges_from members m.node plans) ≤ length links
     → Knows members plans now m links (started members plans rules m links)
-starts_knowing members plans rules m links now laid among numbered live enough few = at_start members plans laid m links among numbered live enough rules now few
+starts_knowing members plans rules m links now laid among numbered live enough = at_start members plans laid m links among numbered live enough rules now
 
 -- as time goes on
 pub knows_later : (members : List Member) (plans : List LinkPlan) (now now' : ℕ) (m : Member) (links : List Link) (g : Agent)
@@ -41,7 +40,6 @@ knows_later members plans now now' m links g later h = record {
   own = h.own;
   keys = h.keys;
   past = λ item is. (let r = h.past item is in (omega (arith, r.0, later), r.1));
-  room = h.room;
 }
 
 hops_again : (hops : List Hop) → hops_of (map managed_link hops) ≡ hops
@@ -69,11 +67,6 @@ starts_routed members plans rules m links routes laid are =
     let hops : List Hop = live_links members plans m links in
     let own : AreRoutesOver m.addr hops (all_claims (items_held members plans)) members routes = subst (λ (hs : List Hop). AreRoutesOver m.addr hs (all_claims (items_held members plans)) members routes) (hops_again hops) are in
     routes_over m.addr hops (all_claims (items_held members plans)) (edges_of members plans) members routes (start_claims members plans laid) own
-
--- a version count is left
-pub may_make : (members : List Member) (plans : List LinkPlan) (now : ℕ) (m : Member) (links : List Link) (g : Agent)
-    → Knows members plans now m links g → spent 1 g.last_count ≡ None
-may_make members plans now m links g h = (let room = h.room in not_spent g.last_count (omega (arith, room)))
 
 -- when a link is lost
 pub loses_knowing : (members : List Member) (plans : List LinkPlan) (now : ℕ) (m : Member) (links : List Link) (g g' : Agent) (k : ℕ) (link : Link)

@@ -92,7 +92,6 @@ module _ (members : List Member) (plans : List LinkPlan) (now : ℕ) (m : Member
     );
     keys = learned_keys m.addr g.items x h.keys key other;
     past = λ item is. h.past item (sym (learned_state m.addr g.items x h.keys key other) ∙ is);
-    room = h.room;
   }
 
   took_knows : (newer : Bool) (link : ℕ) (x : Item) → is_newer x.version (kept_at g.items x.key) ≡ newer → IsItemKey x.key → (x.key ≡ link_key g.address → is_newer x.version (kept_at g.items x.key) ≡ false)

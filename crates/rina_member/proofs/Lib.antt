@@ -1,11 +1,11 @@
-mod Entering
+pub mod Entering
 pub mod Handled
 mod Hops
 pub mod Items
 pub mod Laying
 pub mod Learning
 pub mod Lists
-mod Losing
+pub mod Losing
 mod Names
 mod Others
 mod Removing

@@ -1,9 +1,8 @@
 -- What a member knows once it lost a link.
-use Rattle.std.proofs.Common.{◌≡◌, ◌∙◌, inl, inr, ⊎_elim, ℕ, ◌+◌, ◌-◌, ◌^◌, ◌<◌, ◌≤◌, ◌==◌, Bool, true, false, cond, not, nat_lt, List, ◌++◌, Option, Some, None, Result, Ok, Contains, length, map, filter, slice_get, slice_set, refl, sym, ap, subst, arith}
+use Rattle.std.proofs.Common.{◌≡◌, ◌∙◌, inl, inr, ⊎_elim, ℕ, ◌-◌, ◌^◌, ◌<◌, ◌≤◌, ◌==◌, Bool, true, false, cond, not, nat_lt, List, ◌++◌, Option, Some, None, Result, Ok, Contains, length, map, filter, slice_get, slice_set, refl, sym, ap, subst, arith}
 use Rattle.std.specs.Prelude.{find}
-use Rattle.std.proofs.lemmas.Bool.{cond-false, le-ltb, ne_eqb, true≢false}
+use Rattle.std.proofs.lemmas.Bool.{cases_Bool, ne_eqb, true≢false}
 use Rattle.std.proofs.lemmas.Bool.Decides.{nat_tests}
-use Rattle.std.proofs.lemmas.List.{length-map}
 use Rattle.std.proofs.lemmas.List.Elements.{Contains-append_cases, Contains-append_left, Contains-append_right, Contains-push_cases}
 use Rattle.rina_graph.specs.declared.graph.Edge.{Edge}
 use Rattle.rina_newest.specs.declared.item.Item.{Item}
@@ -32,13 +31,16 @@ use Rattle.rina_member.specs.Knowing.{ClaimLinks, IsItemKey, IsLaidOut, KeepsOth
 use Rattle.rina_member.proofs.Laying.{can_claim, own_within, small_address}
 use Rattle.rina_member.proofs.Hops.{Within}
 use Rattle.rina_member.proofs.Items.{from_taken, is_foreign, key_itself, key_same, not_foreign, restated_within, taken_new, within_restated}
-use Rattle.rina_member.proofs.Lists.{found, kept, shorter}
-use Rattle.rina_member.proofs.Removing.{apart_links, left_links, lost_link, no_number, still_numbered, up_number}
+use Rattle.rina_member.proofs.Lists.{found, kept}
+use Rattle.rina_member.proofs.Removing.{apart_links, left_links, lost_link, no_number, still_numbered}
 use Rattle.rina_member.proofs.States.{edges_out, is_other, live_edges, state_of, state_within, within_state}
 
--- a version count is left
-pub not_spent : (last : ℕ) → last ≤ 65536 → spent 1 last ≡ None
-not_spent last few = cond-false (nat_lt (2 ^ 32 - 1 - last) 1) (Some (CountSpent 1 (2 ^ 32 - 1 - last))) None (le-ltb (2 ^ 32 - 1 - last) 1 (omega arith))
+-- where a version count is left, the next one is greater
+pub counts_on : (last : ℕ) → spent 1 last ≡ None → last < next_of last
+counts_on last e = elim (cases_Bool (nat_lt (2 ^ 32 - 1 - last) 1)) [
+  | inl is ↦ absurd (cc)
+  | inr isnt ↦ grind (arith, isnt)
+]
 
 -- the next version is newer than one that was made by now
 newer_than : (now count address : ℕ) (v : Version) → v.tick ≤ now → v.count < count → is_below v (record { tick = now; count = count; origin = address }) ≡ true
@@ -83,9 +85,6 @@ module _ (members : List Member) (plans : List LinkPlan) (now : ℕ) (m : Member
   pub loses_none : was_up (find (is_numbered link.number) g.links) ≡ false → Knows members plans now m links' (dropped g link.number)
   loses_none down =
       let same : live_links members plans m links' ≡ hops = hops_left ∙ not_up down in
-      let managed : without_at (place_of link.number g.links) g.links ≡ g.links = managed_left ∙ ap (λ (hs : List Hop). map managed_link hs) same ∙ sym h.links_are in
-      let size = ap (λ (ls : List Managed). length ls) managed in
-      let room = h.room in
       record {
         address = h.address;
         enrolled = state_stays ∙ h.enrolled;
@@ -94,16 +93,9 @@ module _ (members : List Member) (plans : List LinkPlan) (now : ℕ) (m : Member
         own = subst (λ (hs : List Hop). ClaimLinks g.items m.addr hs) (sym same) h.own;
         keys = h.keys;
         past = h.past;
-        room = omega (arith, size, room);
       }
 
   -- A link that was up
-
-  few : g.last_count ≤ 65536
-  few = (let room = h.room in omega (arith, room))
-
-  next : next_of g.last_count ≡ g.last_count + 1
-  next = (let last = few in omega (arith, last))
 
   abbrev made : Item
   made = own_item g now (link_key g.address) (Some (link_state (Some link.number) g.links))
@@ -114,10 +106,10 @@ module _ (members : List Member) (plans : List LinkPlan) (now : ℕ) (m : Member
   made_key : made.key ≡ link_key m.addr
   made_key = ap (λ (a : ℕ). link_key a) h.address
 
-  made_newer : is_newer made.version (kept_at g.items made.key) ≡ true
-  made_newer = newer_by now (next_of g.last_count) g.address (kept_at g.items made.key) (λ it is. (
+  made_newer : spent 1 g.last_count ≡ None → is_newer made.version (kept_at g.items made.key) ≡ true
+  made_newer may = newer_by now (next_of g.last_count) g.address (kept_at g.items made.key) (λ it is. (
       let r = h.past it (ap (λ (key : List ℕ). kept_at g.items key) (sym made_key) ∙ is) in
-      let more = next in
+      let more = counts_on g.last_count may in
       (r.0, omega (arith, r.1, more))))
 
   made_claims : claims_of made ≡ state_of m.addr (own_version g now) (Some link.number) (map managed_link hops)
@@ -147,30 +139,30 @@ module _ (members : List Member) (plans : List LinkPlan) (now : ℕ) (m : Member
   abbrev foreign_claims : List Edge
   foreign_claims = filter (is_foreign m.addr) (all_claims g.items)
 
-  restated : Within (all_claims items') (foreign_claims ++ claims_of made)
-  restated = restated_within m.addr g.items made (small_address members plans laid m among) h.keys made_key made_newer
+  restated : spent 1 g.last_count ≡ None → Within (all_claims items') (foreign_claims ++ claims_of made)
+  restated may = restated_within m.addr g.items made (small_address members plans laid m among) h.keys made_key (made_newer may)
 
-  restating : Within (foreign_claims ++ claims_of made) (all_claims items')
-  restating = within_restated m.addr g.items made (small_address members plans laid m among) h.keys made_key made_newer
+  restating : spent 1 g.last_count ≡ None → Within (foreign_claims ++ claims_of made) (all_claims items')
+  restating may = within_restated m.addr g.items made (small_address members plans laid m among) h.keys made_key (made_newer may)
 
   -- of its own links, the items claim those that are left
-  own_left : ClaimLinks items' m.addr left
-  own_left e from = (
+  own_left : spent 1 g.last_count ≡ None → ClaimLinks items' m.addr left
+  own_left may e from = (
     (λ has. ⊎_elim
         (λ other. absurd (not_foreign m.addr e from (contains_filter (is_foreign m.addr) (all_claims g.items) e other).1))
         (λ own. made_within e own)
-        (Contains-append_cases foreign_claims (claims_of made) e (restated e has))),
-    (λ own. restating e (Contains-append_right foreign_claims (claims_of made) e (within_made e own))),
+        (Contains-append_cases foreign_claims (claims_of made) e (restated may e has))),
+    (λ own. restating may e (Contains-append_right foreign_claims (claims_of made) e (within_made e own))),
   )
 
   -- and of the others what they claimed
-  others_left : KeepsOtherClaims m.addr g.items items'
-  others_left e apart = (
+  others_left : spent 1 g.last_count ≡ None → KeepsOtherClaims m.addr g.items items'
+  others_left may e apart = (
     (λ has. ⊎_elim
         (λ other. (contains_filter (is_foreign m.addr) (all_claims g.items) e other).0)
         (λ own. (let s = contains_unmap (edge_to m.addr) left e (made_within e own) in absurd (apart (sym (ap (λ (x : Edge). x.from) s.2)))))
-        (Contains-append_cases foreign_claims (claims_of made) e (restated e has))),
-    (λ has. restating e (Contains-append_left foreign_claims (claims_of made) e (kept (is_foreign m.addr) (all_claims g.items) e has (ap not (ne_eqb e.from m.addr apart))))),
+        (Contains-append_cases foreign_claims (claims_of made) e (restated may e has))),
+    (λ has. restating may e (Contains-append_left foreign_claims (claims_of made) e (kept (is_foreign m.addr) (all_claims g.items) e has (ap not (ne_eqb e.from m.addr apart))))),
   )
 
   made_keys : (z : Item) → Contains items' z → IsItemKey z.key
@@ -179,8 +171,8 @@ module _ (members : List Member) (plans : List LinkPlan) (now : ℕ) (m : Member
       (λ same. subst (λ (x : Item). IsItemKey x.key) same (inl (m.addr, small_address members plans laid m among, inr made_key)))
       (from_taken g.items made z has)
 
-  made_past : (z : Item) → kept_at items' (link_key m.addr) ≡ Some z → (z.version.tick ≤ now) × (z.version.count ≤ next_of g.last_count)
-  made_past z is =
+  made_past : spent 1 g.last_count ≡ None → (z : Item) → kept_at items' (link_key m.addr) ≡ Some z → (z.version.tick ≤ now) × (z.version.count ≤ next_of g.last_count)
+  made_past may z is =
       let r = found (has_key (link_key m.addr)) items' z is in
       let others : List Item = without made.key g.items in
       ⊎_elim
@@ -189,44 +181,28 @@ module _ (members : List Member) (plans : List LinkPlan) (now : ℕ) (m : Member
       let has : has_key made.key z ≡ true = key_itself made.key z.key (made_key ∙ key_same (link_key m.addr) z.key r.1) in
       absurd (true≢false (sym test ∙ ap not has))))
       (λ same. subst (λ (x : Item). (x.version.tick ≤ now) × (x.version.count ≤ next_of g.last_count)) same (omega arith, omega arith))
-      (Contains-push_cases others made z (subst (λ (is : List Item). Contains is z) (taken_new g.items made made_newer) r.0))
+      (Contains-push_cases others made z (subst (λ (is : List Item). Contains is z) (taken_new g.items made (made_newer may)) r.0))
 
-  fewer : was_up (find (is_numbered link.number) g.links) ≡ true → length left < length hops
-  fewer up =
-      let r = up_number link.number hops (find (is_numbered link.number) (map managed_link hops)) refl (ap (λ (ls : List Managed). was_up (find (is_numbered link.number) ls)) (sym h.links_are) ∙ up) in
-      shorter (is_other link.number) hops r.0 r.1 (ap not (itself link.number r.0.number (sym r.2)))
-    where
-      itself : (a b : ℕ) → a ≡ b → (a == b) ≡ true
-      itself a b same = grind (arith, nat_tests, same)
-
-  pub loses_one : was_up (find (is_numbered link.number) g.links) ≡ true → Knows members plans now m links' (dropped (stated (Some link.number) g now) link.number)
-  loses_one up =
-      let size = length-map hops managed_link in
-      let size' = length-map left managed_link in
-      let before = ap (λ (ls : List Managed). length ls) h.links_are in
-      let after = ap (λ (ls : List Managed). length ls) (managed_left ∙ ap (λ (hs : List Hop). map managed_link hs) hops_left) in
-      let lt = fewer up in
-      let more = next in
-      let room = h.room in
-      record {
-        address = h.address;
-        enrolled = state_stays ∙ h.enrolled;
-        numbers = still_numbered links k link h.numbers stands;
-        links_are = managed_left;
-        own = subst (λ (hs : List Hop). ClaimLinks items' m.addr hs) (sym hops_left) own_left;
-        keys = made_keys;
-        past = made_past;
-        room = omega (arith, size, size', before, after, lt, more, room);
-      }
+  pub loses_one : spent 1 g.last_count ≡ None → Knows members plans now m links' (dropped (stated (Some link.number) g now) link.number)
+  loses_one may = record {
+    address = h.address;
+    enrolled = state_stays ∙ h.enrolled;
+    numbers = still_numbered links k link h.numbers stands;
+    links_are = managed_left;
+    own = subst (λ (hs : List Hop). ClaimLinks items' m.addr hs) (sym hops_left) (own_left may);
+    keys = made_keys;
+    past = made_past may;
+  }
 
   abbrev Loses : Agent → Type 0
   Loses g' = Knows members plans now m links' g' × KeepsOtherClaims m.addr g.items g'.items
 
+  lost_one : (g' : Agent) (o : Option AgentError) → spent 1 g.last_count ≡ o → unless o (dropped (stated (Some link.number) g now) link.number) ≡ Ok g' → Loses g'
+  lost_one g' None may is = subst Loses (same_done (dropped (stated (Some link.number) g now) link.number) g' is) (loses_one may, others_left may)
+  lost_one g' (Some e) may is = absurd (cc)
+
   lost_by : (g' : Agent) (b : Bool) → was_up (find (is_numbered link.number) g.links) ≡ b → cond b (unless (spent 1 g.last_count) (dropped (stated (Some link.number) g now) link.number)) (Ok (dropped g link.number)) ≡ Ok g' → Loses g'
-  lost_by g' true up is =
-      let after : Agent = dropped (stated (Some link.number) g now) link.number in
-      let done : ◌≡◌ {A = Result Agent AgentError} (Ok after) (Ok g') = sym (ap (λ (o : Option AgentError). unless o after) (not_spent g.last_count few)) ∙ is in
-      subst Loses (same_done after g' done) (loses_one up, others_left)
+  lost_by g' true up is = lost_one g' (spent 1 g.last_count) refl is
   lost_by g' false down is = subst Loses (same_done (dropped g link.number) g' is) (loses_none down, (λ e apart. ((λ has. has), (λ has. has))))
 
   pub loses : (g' : Agent) → lost g now link.number ≡ Ok g' → Loses g'

@@ -131,12 +131,9 @@ module _ (members : List Member) (plans : List LinkPlan) (laid : IsLaidOut membe
       (λ h. of_claimed m e among (hops_within e h)),
     )
 
-    few_hops : length (map managed_link hops) ≤ length links
-    few_hops = (let same = ap (λ (ls : List Link). length (own_links es ls)) all_live in omega (arith, length-map hops managed_link, makes_few (own_link es) links, same))
-
-    pub at_start : (rules : Rules) (now : ℕ) → length links ≤ 65536 → Knows members plans now m links (started members plans rules m links)
+    pub at_start : (rules : Rules) (now : ℕ) → Knows members plans now m links (started members plans rules m links)
     unfolding started
-    at_start rules now few = record {
+    at_start rules now = record {
       address = refl;
       enrolled = refl;
       numbers = numbered;
@@ -146,5 +143,4 @@ module _ (members : List Member) (plans : List LinkPlan) (laid : IsLaidOut membe
       past = λ item is. (
           let r = is_first members plans item (found (has_key (link_key m.addr)) (items_held members plans) item is).0 in
           (omega (arith, r.0), omega (arith, r.1)));
-      room = omega (arith, few_hops, few);
     }

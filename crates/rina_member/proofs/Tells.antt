@@ -1,6 +1,6 @@
 -- A member that tells short messages alone goes on to do so, whatever short message it handles.
 use Rattle.std.proofs.Common.{◌≡◌, ◌∙◌, ◌⊎◌, inl, inr, ⊎_elim, ℕ, ◌+◌, ◌-◌, ◌*◌, ◌^◌, ◌<◌, ◌≤◌, ◌==◌, ◌&&◌, zero, suc, Bool, true, false, cond, List, [], ◌∷◌, ◌++◌, Option, Some, None, Result, Ok, Err, Contains, length, map, filter, take, drop, slice_set, refl, sym, ap, subst, arith, append_assoc, length-append}
-use Rattle.std.specs.Prelude.{codes, nat_le, nat_lt, remove, option_map, insert}
+use Rattle.std.specs.Prelude.{IfSome, codes, nat_le, nat_lt, remove, option_map, insert}
 use Rattle.std.specs.Fmt.{decimal}
 use Rattle.std.specs.List.{fold}
 use Rattle.std.proofs.lemmas.Bool.{and_from, and_parts, le-leb, lt-ltb, or_right}
@@ -36,6 +36,7 @@ use Rattle.rina_agent.specs.Items.{made, own_item, own_version, stated, took}
 use Rattle.rina_agent.specs.Neighbours.{link_key, link_state, member_key, neighbour, neighbour_of, neighbours, with_any, with_link}
 use Rattle.rina_agent.specs.Rows
 use Rattle.rina_member.specs.Managements.{entry_of, takes_item}
+use Rattle.rina_member.specs.Start.{first_version}
 use Rattle.rina_member.specs.Short.{AreShort, IsLinkInRange, IsShort, IsShortItem, TellsShort}
 use Rattle.rina_member.proofs.Items.{from_taken}
 use Rattle.rina_member.proofs.Lists.{made_of}
@@ -220,13 +221,29 @@ key_short : (app : List ℕ) → app_at app ≡ Ok app → length (key_of app) �
 unfolding key_of
 key_short app name = omega (arith, length-append (codes "/dir/") (map key_byte app), length-map app key_byte, app_short app app name)
 
-pub entry_short : (app : List ℕ) (address : ℕ) → app_at app ≡ Ok app → address < 2 ^ 32 → IsShortItem (entry_of app address)
-entry_short app address name small =
+-- with an address, in any version
+pub address_entry_short : (app : List ℕ) (v : Version) (address : ℕ) → app_at app ≡ Ok app → address < 2 ^ 32 → IsShortItem (item_of (key_of app) v (Some (decimal address)))
+address_entry_short app v address name small =
     let key = key_short app name in
     let text = address_short address small in (
       (key_named app name, omega (arith, key), omega (arith, text)),
       inr (inr (record { app = app; address = address; small = small; name = name; key = key_shown app; value = refl })),
     )
+
+-- a deletion
+no_entry_short : (app : List ℕ) (v : Version) → app_at app ≡ Ok app → IsShortItem (item_of (key_of app) v None)
+no_entry_short app v name =
+    let key = key_short app name in (
+      (key_named app name, omega (arith, key), omega arith),
+      inr (inr (record { app = app; address = 0; small = omega arith; name = name; key = key_shown app; value = tt })),
+    )
+
+own_entry_short : (app : List ℕ) (v : Version) (address : ℕ) (value : Option (List ℕ)) → app_at app ≡ Ok app → address < 2 ^ 32 → IfSome value (λ text. text ≡ decimal address) → IsShortItem (item_of (key_of app) v value)
+own_entry_short app v address None name small is = no_entry_short app v name
+own_entry_short app v address (Some text) name small is = subst (λ (t : List ℕ). IsShortItem (item_of (key_of app) v (Some t))) (sym is) (address_entry_short app v address name small)
+
+pub entry_short : (app : List ℕ) (address : ℕ) → app_at app ≡ Ok app → address < 2 ^ 32 → IsShortItem (entry_of app address)
+entry_short app address name small = address_entry_short app (first_version address) address name small
 
 -- Messages that wait
 
@@ -279,6 +296,10 @@ made_short out g now key value h short = takes_short out g (own_item g now key v
 
 pub stated_short : (out : Option ℕ) (g : Agent) (now : ℕ) → TellsShort g → TellsShort (stated out g now)
 stated_short out g now h = made_short out g now (link_key g.address) (Some (link_state out g.links)) h (state_short out g.links h.few h.ranges g.address (own_version g now) h.address)
+
+-- a directory entry of its own
+pub makes_short : (g : Agent) (now : ℕ) (app : List ℕ) (value : Option (List ℕ)) → TellsShort g → app_at app ≡ Ok app → IfSome value (λ text. text ≡ decimal g.address) → TellsShort (made None g now (key_of app) value)
+makes_short g now app value h name is = made_short None g now (key_of app) value h (own_entry_short app (own_version g now) g.address value name h.address is)
 
 -- of the start
 pub enters_short : (g : Agent) (app : List ℕ) (address : ℕ) → TellsShort g → app_at app ≡ Ok app → address < 2 ^ 32 → TellsShort (takes_item g (entry_of app address))

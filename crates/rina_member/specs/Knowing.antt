@@ -77,8 +77,8 @@ AreNumbered links = (k : ℕ) (link : Link) → slice_get links k ≡ Some link 
 
 -- what the management of a member knows at a tick, where these are the links of its IPC process, some of which may be lost: its own
 -- live links, and from its own address its items claim these alone. It keeps member items, link states and directory entries and nothing
--- else; and it made its own link state no later than now, as the last of its items at the latest. So long as it makes one item for each
--- link that it loses, its version counts suffice. What its items claim of the other members is what these made, as far as it came.
+-- else; and it made its own link state no later than now, as the last of its items at the latest. What its items claim of the other
+-- members is what these made, as far as it came.
 pub record Knows (members : List Member) (plans : List LinkPlan) (now : ℕ) (m : Member) (links : List Link) (g : Agent) : Type 0 where
   pub address : g.address ≡ m.addr
   pub enrolled : g.state ≡ Enrolled
@@ -87,4 +87,3 @@ pub record Knows (members : List Member) (plans : List LinkPlan) (now : ℕ) (m 
   pub own : ClaimLinks g.items m.addr (live_links members plans m links)
   pub keys : (item : Item) → Contains g.items item → IsItemKey item.key
   pub past : (item : Item) → kept_at g.items (link_key m.addr) ≡ Some item → (item.version.tick ≤ now) × (item.version.count ≤ g.last_count)
-  pub room : g.last_count + length g.links ≤ 65536

@@ -17,6 +17,8 @@ use Rattle.rina_agent.specs.declared.message.Waiting.{Waiting}
 use Rattle.rina_agent.specs.declared.state.AgentError.{AgentError}
 use Rattle.rina_agent.specs.declared.state.AgentError.TheVariants.{CountSpent, Memory}
 use Rattle.rina_agent.specs.Agenda.{without_first}
+use Rattle.rina_agent.specs.Counts.{spent}
+use Rattle.rina_agent.specs.Items.{made}
 use Rattle.rina_agent.specs.Neighbours.{link_key, member_key}
 use Rattle.rina_agent.specs.Rows.{handled, lost}
 use Rattle.rina_dir.specs.Directory.{key_of}
@@ -51,6 +53,18 @@ entered app address m = record {
 abbrev pub MayHoldEntry : List ℕ → ℕ → Management → Management → Type 0
 MayHoldEntry app address old new = (new.agent ≡ old.agent) ⊎ (new.agent ≡ takes_item old.agent (entry_of app address))
 
+-- a member made an item of its own under the key of the entry of an application, at a tick: with a value, or as a deletion, which has
+-- none. It is flooded on each link that is up, and the object of the key shows what is live
+pub record MakesEntry (now : ℕ) (app : List ℕ) (value : Option (List ℕ)) (m m' : Management) : Type 0 where
+  pub makes : m'.agent ≡ made None m.agent now (key_of app) value
+  pub shows : m'.objects ≡ with_live m.objects m'.agent.items (key_of app)
+
+-- it did, or no version count is left; nothing is told where memory ran out
+abbrev pub MayMakeEntry : ℕ → List ℕ → Option (List ℕ) → Management → Result Management AgentError → Type 0
+MayMakeEntry now app value m (Ok m') = (spent 1 m.agent.last_count ≡ None) × MakesEntry now app value m m'
+MayMakeEntry now app value m (Err (CountSpent need left)) = spent 1 m.agent.last_count ≡ Some (CountSpent need left)
+MayMakeEntry now app value m (Err Memory) = Unit {0}
+
 -- Links
 
 -- a member loses its link of a number at a tick: it makes its link state without it, where the link was up, and the object of its link
@@ -58,6 +72,12 @@ MayHoldEntry app address old new = (new.agent ≡ old.agent) ⊎ (new.agent ≡ 
 pub record LosesLink (now number : ℕ) (m m' : Management) : Type 0 where
   pub loses : lost m.agent now number ≡ Ok m'.agent
   pub shows : m'.objects ≡ with_live m.objects m'.agent.items (link_key m.agent.address)
+
+-- it does, or no version count is left for its link state; nothing is told where memory ran out
+abbrev pub MayLoseLink : ℕ → ℕ → Management → Result Management AgentError → Type 0
+MayLoseLink now number m (Ok m') = LosesLink now number m m'
+MayLoseLink now number m (Err (CountSpent need left)) = lost m.agent now number ≡ Err (CountSpent need left)
+MayLoseLink now number m (Err Memory) = Unit {0}
 
 -- SDUs that are sent
 

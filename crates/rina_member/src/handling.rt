@@ -4,7 +4,7 @@ ghost use Rattle.rina_agent.specs.Neighbours.{link_key, member_key};
 ghost use Rattle.rina_member.specs.Managements.{HandlesMessage, HandlesSdu, all_live, is_news, keys_brought, keys_made, with_live, with_objects};
 
 use crate::management::Management;
-use crate::objects::show_live;
+use crate::objects::{show_live, state_key};
 use crate::ranges::in_range;
 use rina_agent::{Agent, AgentError, numbered};
 use rina_base::{Memory, Tick};
@@ -37,7 +37,7 @@ fn show_member(alloc: Global, objects: &mut Rib, agent: &Agent) -> Result<(), Me
 fn show_link_state(alloc: Global, objects: &mut Rib, agent: &Agent) -> Result<(), Memory>
     ensures { OnOk result (objects.new ≡ with_live objects.old agent.now.items (link_key agent.now.address)) }
 {
-    let key = numbered(alloc, b"/link/", u64::from(agent.address))?;
+    let key = state_key(alloc, agent.address)?;
     show_live(alloc, objects, &agent.items, key.as_slice())
 }
 

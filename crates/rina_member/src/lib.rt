@@ -3,6 +3,7 @@
 #![tactic(auto)]
 
 mod edges;
+mod entries;
 mod handling;
 mod laws;
 mod links;
@@ -16,6 +17,7 @@ mod start;
 mod texts;
 
 pub use edges::{addr_at, edges_from};
+pub use entries::{registered, unregistered};
 pub use handling::after_sdu;
 pub use laws::{
     a_member_knows_its_links, a_member_tells_short_messages,

@@ -14,7 +14,7 @@ use rina_base::{Addr, AppName, Bytes, Cep, Memory};
 use rina_dir::write_key;
 use rina_newest::Newest;
 use rina_rib::{Class, Rib};
-use std::alloc::{AllocError, Global};
+use std::alloc::Global;
 
 /// The management of a member of a DIF: what it holds, and the objects that it shows.
 #[derive(Drop)]
@@ -29,13 +29,20 @@ pub struct Management {
 }
 
 /// The key of the directory entry of an application.
-fn entry_key(alloc: Global, app: &AppName) -> Result<Bytes, AllocError>
+pub(crate) fn entry_key(alloc: Global, app: &AppName) -> Result<Bytes, Memory>
     ensures { IfOk result (λ key. key ≡ key_of app.now) }
 {
     let name = app.as_bytes();
     let mut key = vec![in alloc; 0u8; name.len() + 5]?;
     let length = write_key(name, key.as_mut_slice());
-    Bytes::copy_of(alloc, &key[..length])
+    Ok(Bytes::copy_of(alloc, &key[..length])?)
+}
+
+/// The value of a directory entry: an address in decimal.
+pub(crate) fn entry_value(alloc: Global, address: Addr) -> Result<Bytes, Memory>
+    ensures { IfOk result (λ value. value ≡ decimal address) }
+{
+    Ok(numbered(alloc, b"", u64::from(address))?)
 }
 
 /// Takes the entry of an application at an address among items. Where an allocation fails nothing changes.
@@ -43,7 +50,7 @@ fn take_entry(alloc: Global, items: &mut Newest, key: &[u8], address: Addr) -> R
     ensures ok { OnOk result (items.new ≡ taken items.old (item_of key.now (first_version address) (Some (decimal address)))) }
     ensures err { OnErr result (items.new ≡ items.old) }
 {
-    let value = numbered(alloc, b"", u64::from(address))?;
+    let value = entry_value(alloc, address)?;
     let version = first_version(address);
     let _ = items.take(alloc, key, version, Some(value.as_slice()))?;
     Ok(())

@@ -2,11 +2,12 @@
 ghost use Rattle.std.specs.Prelude.{◌≡◌, Err, IfOk, OnOk, OnErr, option_copied};
 ghost use Rattle.std.specs.List.{fold};
 ghost use Rattle.rina_rib.specs.declared.error.RibError.TheVariants as errors;
+ghost use Rattle.rina_agent.specs.Neighbours.{link_key};
 ghost use Rattle.rina_member.specs.Managements.{with_live};
 ghost use Rattle.rina_member.specs.Objects.{cube_told, first_objects, flow_name, item_told, kind_text, removed, shown_as, told};
 
 use rina_agent::numbered;
-use rina_base::{Bytes, Cep, Memory, is_object_name};
+use rina_base::{Addr, Bytes, Cep, Memory, is_object_name};
 use rina_cube::{Cube, Kind};
 use rina_newest::{Item, Newest};
 use rina_rib::{Caller, Class, Rib, RibError};
@@ -78,6 +79,13 @@ pub(crate) fn show_live(
     ensures err { OnErr result (rib.new ≡ rib.old) }
 {
     show(alloc, rib, key, items.get(key))
+}
+
+/// The key of the link state of an address.
+pub(crate) fn state_key(alloc: Global, address: Addr) -> Result<Bytes, Memory>
+    ensures { IfOk result (λ key. key ≡ link_key address) }
+{
+    Ok(numbered(alloc, b"/link/", u64::from(address))?)
 }
 
 fn kind_text(kind: Kind) -> &'static [u8]

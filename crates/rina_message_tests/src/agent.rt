@@ -1,52 +1,68 @@
 //! Enrolments between two members, message by message.
 use rina_access::Rules;
-use rina_agent::{Agent, AgentError, ManagementMessage, MemberState, first_items};
-use rina_base::{AppName, Name, Seq};
+use rina_agent::{Agent, ManagementMessage, MemberState, first_items};
+use rina_base::{AppName, Name, NameError, Seq};
 use std::alloc::Global;
-use std::test::*;
+use std::test::Fail;
+
+/// The names of the member on a node, and of the node.
+fn names(alloc: Global, name: &[u8], node: &[u8]) -> Result<(AppName, Name), NameError> {
+    let name = AppName::read(alloc, name)?;
+    Ok((name, Name::read(alloc, node)?))
+}
 
 /// The first member of the DIF d, on node a with address 1; who may enrol is the default.
 fn first(alloc: Global, default: bool) -> Result<Agent, Fail> {
-    let name = AppName::read(alloc, b"d/a")?;
-    let node = Name::read(alloc, b"a")?;
     let rules = Rules::new(alloc, &[], default)?;
+    let (name, node) = names(alloc, b"d/a", b"a")?;
     let items = first_items(alloc, 1, &node)?;
-    let links = Seq::new(alloc);
-    Ok(Agent::enrolled(alloc, 1, name, node, rules, items, links))
+    Ok(Agent::enrolled(alloc, 1, name, node, rules, items, Seq::new(alloc)))
 }
 
-/// An IPC process on node b with address 2, which is no member yet, and begins to join at node a.
-fn joiner(alloc: Global) -> Result<Agent, Fail> {
-    let name = AppName::read(alloc, b"d/b")?;
-    let node = Name::read(alloc, b"b")?;
+/// An IPC process on node b with address 2, which is no member yet.
+fn outsider(alloc: Global) -> Result<Agent, Fail> {
     let rules = Rules::new(alloc, &[], true)?;
-    let mut joiner = Agent::outside(alloc, 2, name, node, rules);
-    let member = AppName::read(alloc, b"d/a")?;
-    joiner.enrol(alloc, 0, &member, &Name::read(alloc, b"a")?)?;
-    Ok(joiner)
+    let (name, node) = names(alloc, b"d/b", b"b")?;
+    Ok(Agent::outside(alloc, 2, name, node, rules))
 }
 
-/// The other end handles what waits for link 0.
-fn deliver(alloc: Global, from: &mut Agent, to: &mut Agent) -> Result<(), AgentError> {
+/// Whether it begins to join at node a.
+fn begins(alloc: Global, joiner: &mut Agent) -> bool {
+    match names(alloc, b"d/a", b"a") {
+        Ok((member, node)) => joiner.enrol(alloc, 0, &member, &node).is_ok(),
+        Err(_) => false,
+    }
+}
+
+/// Whether the other end handles what waits for link 0.
+fn delivers(alloc: Global, from: &mut Agent, to: &mut Agent) -> bool {
     for _ in 0..20 {
         let Some(first) = from.next_message(0) else {
-            return Ok(());
+            return true;
         };
         if let ManagementMessage::ToNeighbour(m) = &first.message {
-            to.handle(alloc, 3, 0, m)?;
+            if to.handle(alloc, 3, 0, m).is_err() {
+                return false;
+            }
         }
         from.take_message(0);
     }
-    Ok(())
+    true
 }
 
-/// Both ends handle what waits, until nothing does.
-fn settle(alloc: Global, a: &mut Agent, b: &mut Agent) -> Result<(), AgentError> {
+/// Whether both ends handle what waits, until nothing does.
+fn settle(alloc: Global, member: &mut Agent, joiner: &mut Agent) -> bool {
     for _ in 0..8 {
-        deliver(alloc, a, b)?;
-        deliver(alloc, b, a)?;
+        if !delivers(alloc, member, joiner) || !delivers(alloc, joiner, member) {
+            return false;
+        }
     }
-    Ok(())
+    true
+}
+
+/// Whether nothing waits for link 0.
+fn is_quiet(agent: &Agent) -> bool {
+    agent.next_message(0).is_none()
 }
 
 fn is_kept(agent: &Agent, key: &[u8], value: &[u8]) -> bool {
@@ -60,67 +76,109 @@ fn knows_all(agent: &Agent) -> bool {
         && is_kept(agent, b"/link/2", b"1:1")
 }
 
-#[test]
-fn a_joiner_is_enrolled_and_both_know_all(rt: HostRuntime) -> Result<(), Fail> {
-    let alloc = rt.alloc();
-    let mut member = first(alloc, true)?;
-    let mut joiner = joiner(alloc)?;
-    member.claim(alloc, 0)?;
-    assert!(rt; joiner.state == MemberState::Joining { link: 0 });
-    settle(alloc, &mut member, &mut joiner)?;
-    assert!(rt; joiner.state == MemberState::Enrolled && member.state == MemberState::Enrolled);
-    assert!(rt; knows_all(&member) && knows_all(&joiner));
-    assert!(rt; member.next_message(0).is_none() && joiner.next_message(0).is_none());
-    assert!(rt; joiner.last_count == 2 && member.last_count == 1);
-    assert!(rt; joiner.last_invoke == 2 && member.last_invoke == 1);
-    Ok(())
+/// Whether an agent is a member that knows all, made so many versions of items and sent so many requests, and has nothing to send.
+fn is_settled(agent: &Agent, count: u32, invoke: u32) -> bool {
+    agent.state == MemberState::Enrolled
+        && knows_all(agent)
+        && is_quiet(agent)
+        && agent.last_count == count
+        && agent.last_invoke == invoke
+}
+
+fn is_joining(agent: &Agent) -> bool {
+    agent.state == MemberState::Joining { link: 0 }
+}
+
+fn is_denied(agent: &Agent) -> bool {
+    agent.state == MemberState::Denied { rule: 0 } && agent.items.get(b"/member/1").is_none()
+}
+
+/// Whether an agent is no member, and has no link and nothing to send.
+fn is_outside(agent: &Agent) -> bool {
+    agent.state == MemberState::Outside && is_quiet(agent) && agent.links.len() == 0
+}
+
+/// Whether the first member has no link, says so in its second version of an item, and has nothing to send.
+fn is_alone(agent: &Agent) -> bool {
+    is_kept(agent, b"/link/1", b"")
+        && agent.last_count == 2
+        && agent.links.len() == 0
+        && is_quiet(agent)
+}
+
+/// What happens to a joiner.
+#[derive(Clone, Copy)]
+enum Case {
+    /// It is enrolled, and both know all.
+    Enrolled,
+    /// It is enrolled. An item of the member is flooded, and not sent back.
+    Flooded,
+    /// The rules deny it.
+    Denied,
+    /// It loses the link while it joins.
+    LostByJoiner,
+    /// It is enrolled, and the member loses the link.
+    LostByMember,
+}
+
+static CASES: [Case; 5] = [
+    Case::Enrolled,
+    Case::Flooded,
+    Case::Denied,
+    Case::LostByJoiner,
+    Case::LostByMember,
+];
+
+/// Whether an item that the member makes is sent to the joiner, which keeps it and sends nothing.
+fn floods(alloc: Global, member: &mut Agent, joiner: &mut Agent) -> bool {
+    member.make_item(alloc, 5, b"/dir/echo", Some(b"1")).is_ok()
+        && !is_quiet(member)
+        && delivers(alloc, member, joiner)
+        && is_kept(joiner, b"/dir/echo", b"1")
+        && is_quiet(joiner)
+}
+
+/// Whether the member is alone when it loses the link.
+fn stays_alone(alloc: Global, member: &mut Agent) -> bool {
+    member.lose_link(alloc, 9, 0).is_ok() && is_alone(member)
+}
+
+/// Whether a joiner that loses its link is outside again.
+fn leaves(alloc: Global, joiner: &mut Agent) -> bool {
+    is_joining(joiner) && joiner.lose_link(alloc, 4, 0).is_ok() && is_outside(joiner)
+}
+
+/// Whether all is so after a case that both ends settled.
+fn ends(alloc: Global, case: Case, member: &mut Agent, joiner: &mut Agent) -> bool {
+    match case {
+        Case::Flooded => floods(alloc, member, joiner),
+        Case::Denied => is_denied(joiner) && member.last_count == 0,
+        Case::LostByMember => stays_alone(alloc, member),
+        _ => is_settled(member, 1, 1) && is_settled(joiner, 2, 2),
+    }
+}
+
+/// Whether a case of a joiner that began to join goes as it is to.
+fn goes_on(alloc: Global, case: Case, member: &mut Agent, joiner: &mut Agent) -> bool {
+    if matches!(case, Case::LostByJoiner) {
+        return leaves(alloc, joiner);
+    }
+    member.claim(alloc, 0).is_ok()
+        && settle(alloc, member, joiner)
+        && ends(alloc, case, member, joiner)
+}
+
+/// Whether a case goes as it is to.
+fn goes(alloc: Global, case: Case) -> Result<bool, Fail> {
+    let mut joiner = outsider(alloc)?;
+    let mut member = first(alloc, !matches!(case, Case::Denied))?;
+    Ok(begins(alloc, &mut joiner) && goes_on(alloc, case, &mut member, &mut joiner))
 }
 
 #[test]
-fn an_item_is_flooded_and_not_sent_back(rt: HostRuntime) -> Result<(), Fail> {
-    let alloc = rt.alloc();
-    let mut member = first(alloc, true)?;
-    let mut joiner = joiner(alloc)?;
-    member.claim(alloc, 0)?;
-    settle(alloc, &mut member, &mut joiner)?;
-    member.make_item(alloc, 5, b"/dir/echo", Some(b"1"))?;
-    assert!(rt; member.next_message(0).is_some());
-    deliver(alloc, &mut member, &mut joiner)?;
-    assert!(rt; is_kept(&joiner, b"/dir/echo", b"1") && joiner.next_message(0).is_none());
-    Ok(())
-}
-
-#[test]
-fn a_joiner_is_denied_by_the_rules(rt: HostRuntime) -> Result<(), Fail> {
-    let alloc = rt.alloc();
-    let mut member = first(alloc, false)?;
-    let mut joiner = joiner(alloc)?;
-    member.claim(alloc, 0)?;
-    settle(alloc, &mut member, &mut joiner)?;
-    assert!(rt; joiner.state == MemberState::Denied { rule: 0 });
-    assert!(rt; joiner.items.get(b"/member/1").is_none() && member.last_count == 0);
-    Ok(())
-}
-
-#[test]
-fn a_lost_link_ends_an_enrolment(rt: HostRuntime) -> Result<(), Fail> {
-    let alloc = rt.alloc();
-    let mut joiner = joiner(alloc)?;
-    joiner.lose_link(alloc, 4, 0)?;
-    assert!(rt; joiner.state == MemberState::Outside && joiner.next_message(0).is_none());
-    assert!(rt; joiner.links.len() == 0);
-    Ok(())
-}
-
-#[test]
-fn a_lost_link_leaves_the_link_state(rt: HostRuntime) -> Result<(), Fail> {
-    let alloc = rt.alloc();
-    let mut member = first(alloc, true)?;
-    let mut joiner = joiner(alloc)?;
-    member.claim(alloc, 0)?;
-    settle(alloc, &mut member, &mut joiner)?;
-    member.lose_link(alloc, 9, 0)?;
-    assert!(rt; is_kept(&member, b"/link/1", b"") && member.last_count == 2);
-    assert!(rt; member.links.len() == 0 && member.next_message(0).is_none());
+fn each_joiner_ends_as_its_case_says(rt: HostRuntime) -> Result<(), Fail> {
+    for (place, case) in CASES.iter().enumerate() {
+        assert!(rt; goes(rt.alloc(), *case)?, "case {place}");
+    }
     Ok(())
 }

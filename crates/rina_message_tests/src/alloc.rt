@@ -3,10 +3,9 @@ use rina_alloc::{
     AskDo, AskEvent, Asked, Asking, FlowAnswer, FlowAsk, FlowMessage, FlowWord, Pair,
     a_message_has_one_spelling, a_message_is_short, an_answer_can_be_told, read, write,
 };
-use rina_base::{AppName, FlowName, NameError};
+use rina_base::{AppName, FlowName, Memory, NameError};
 use std::alloc::Global;
-use std::process::Abort;
-use std::test::*;
+use std::test::Fail;
 
 const YES: AskEvent = AskEvent::Answer {
     result: 0,
@@ -14,71 +13,95 @@ const YES: AskEvent = AskEvent::Answer {
     number: 2,
 };
 
-#[test]
-fn an_ask_is_bound_and_given_up(rt: HostRuntime) -> Result<(), Fail> {
-    let alloc = rt.alloc();
-    let mut asking = Asking::new();
-    assert!(rt; asking.step(alloc, AskEvent::Clock { late: false })? == AskDo::Nothing);
-    assert!(rt; asking.step(alloc, YES)? == AskDo::Nothing);
-    assert!(rt; asking.bound == Some(Pair { far: 1, own: 2 }));
-    assert!(rt; asking.step(alloc, AskEvent::Ended)? == AskDo::Delete { dcep: 1, scep: 2 });
-    assert!(rt; asking.step(alloc, AskEvent::Ended)? == AskDo::Nothing);
-    Ok(())
-}
+/// What happens to an ask, and what it does.
+type Step = (AskEvent, AskDo);
 
-#[test]
-fn an_answer_that_comes_too_late_is_given_up(rt: HostRuntime) -> Result<(), Fail> {
-    let alloc = rt.alloc();
-    let mut asking = Asking::new();
-    assert!(rt; asking.step(alloc, AskEvent::Clock { late: true })? == AskDo::TimedOut);
-    assert!(rt; asking.step(alloc, YES)? == AskDo::Delete { dcep: 1, scep: 2 });
-    assert!(rt; asking.bound.is_none());
-    Ok(())
-}
+const DELETE: AskDo = AskDo::Delete { dcep: 1, scep: 2 };
 
-#[test]
-fn an_ask_is_answered_by_the_first_that_applies(rt: HostRuntime) -> Result<(), Fail> {
-    let alloc = rt.alloc();
-    let cases = [
-        (false, false, None, Some(1), 2, 0, 0),
-        (true, true, None, Some(1), 2, 0, 0),
-        (false, false, Some(5), None, 2, 0, 0),
-        (true, false, Some(5), Some(1), 1, 0, 5),
-        (true, false, None, None, 3, 0, 255),
-        (true, false, None, Some(1), 0, 1, 2),
-    ];
-    for (here, aged, denied, drawn, result, dcep, number) in cases {
-        let mut asked = Asked::new();
-        let ask = AskEvent::Ask {
-            here,
-            aged,
-            denied,
-            drawn,
-            used: 255,
-            scep: 2,
-        };
-        assert!(rt;
-            asked.step(alloc, ask)?
-                == AskDo::Answer {
-                    result,
-                    dcep,
-                    number,
-                }
-        );
-        assert!(rt; asked.bound.is_some() == (result == 0));
+static BOUND: [Step; 2] = [
+    (AskEvent::Clock { late: false }, AskDo::Nothing),
+    (YES, AskDo::Nothing),
+];
+
+static GIVEN_UP: [Step; 4] = [
+    (AskEvent::Clock { late: false }, AskDo::Nothing),
+    (YES, AskDo::Nothing),
+    (AskEvent::Ended, DELETE),
+    (AskEvent::Ended, AskDo::Nothing),
+];
+
+static TOO_LATE: [Step; 2] = [
+    (AskEvent::Clock { late: true }, AskDo::TimedOut),
+    (YES, DELETE),
+];
+
+/// Whether an ask does so at each step, and is bound so at the end.
+fn goes(alloc: Global, steps: &[Step], bound: Option<Pair>) -> bool {
+    let mut asking = Asking::new();
+    for (event, does) in steps {
+        if asking.step(alloc, *event) != Ok(*does) {
+            return false;
+        }
     }
-    Ok(())
+    asking.bound == bound
 }
 
-/// These bytes are what is written of a message, and are read as one.
-fn has_bytes(rt: &impl Abort, alloc: Global, word: FlowWord, bytes: &[u8]) -> Result<(), Fail> {
-    let m = FlowMessage {
-        to: 2,
-        from: 1,
-        word,
+/// Whether an ask is bound, given up after that, or made too late.
+fn each_goes(alloc: Global) -> bool {
+    let pair = Pair { far: 1, own: 2 };
+    goes(alloc, &BOUND, Some(pair)) && goes(alloc, &GIVEN_UP, None) && goes(alloc, &TOO_LATE, None)
+}
+
+#[test]
+fn an_ask_is_bound_and_given_up_in_time_or_too_late(rt: HostRuntime) {
+    assert!(rt; each_goes(rt.alloc()));
+}
+
+/// Whether the application is here, the ask is aged, the rule that denies it and the id that is drawn; the result, and the two numbers that are told with it.
+type Case = (bool, bool, Option<u32>, Option<u32>, u8, u32, u32);
+
+static CASES: [Case; 6] = [
+    (false, false, None, Some(1), 2, 0, 0),
+    (true, true, None, Some(1), 2, 0, 0),
+    (false, false, Some(5), None, 2, 0, 0),
+    (true, false, Some(5), Some(1), 1, 0, 5),
+    (true, false, None, None, 3, 0, 255),
+    (true, false, None, Some(1), 0, 1, 2),
+];
+
+/// Whether an ask is answered as its case says.
+fn is_answered(alloc: Global, case: Case) -> bool {
+    let (here, aged, denied, drawn, result, dcep, number) = case;
+    let ask = AskEvent::Ask {
+        here,
+        aged,
+        denied,
+        drawn,
+        used: 255,
+        scep: 2,
     };
-    assert!(rt; write(alloc, &m)?.as_slice() == bytes && read(alloc, bytes)?.is_some());
-    Ok(())
+    let answer = AskDo::Answer {
+        result,
+        dcep,
+        number,
+    };
+    let mut asked = Asked::new();
+    asked.step(alloc, ask) == Ok(answer) && asked.bound.is_some() == (result == 0)
+}
+
+/// The place of the first case that is answered otherwise.
+fn first_other(alloc: Global) -> Option<usize> {
+    for (place, case) in CASES.iter().enumerate() {
+        if !is_answered(alloc, *case) {
+            return Some(place);
+        }
+    }
+    None
+}
+
+#[test]
+fn an_ask_is_answered_by_the_first_that_applies(rt: HostRuntime) {
+    assert_eq!(rt; first_other(rt.alloc()), None);
 }
 
 fn ask(alloc: Global, destination: &[u8], source: &[u8]) -> Result<FlowAsk, NameError> {
@@ -95,90 +118,102 @@ fn ask(alloc: Global, destination: &[u8], source: &[u8]) -> Result<FlowAsk, Name
     })
 }
 
-#[test]
-fn an_ask_and_its_end_have_these_bytes(rt: HostRuntime) -> Result<(), Fail> {
-    let alloc = rt.alloc();
-    let ask = ask(alloc, b"echo", b"ping")?;
-    has_bytes(
-        &rt,
-        alloc,
-        FlowWord::Ask { invoke: 1, ask },
-        b"\x01\0\x01\x04\x02\0\x04\0\0\0\x01\x03\0\x04flow\x04\0\x05/flow\x06\0\x1d\0\0\0\x01\0\0\0\x02\0\0\0\0\x01\0\0\0\x03\0\x04echo\0\x04ping\x0b\0\x04\0\0\0\x02\x0c\0\x04\0\0\0\x01",
-    )?;
-    has_bytes(
-        &rt,
-        alloc,
-        FlowWord::Delete { dcep: 5, scep: 3 },
-        b"\x01\0\x01\x06\x02\0\x04\0\0\0\0\x04\0\x05/flow\x06\0\x08\0\0\0\x05\0\0\0\x03\x0b\0\x04\0\0\0\x02\x0c\0\x04\0\0\0\x01",
-    )
+fn is_bar(byte: &u8) -> bool {
+    *byte == b'|'
+}
+
+const fn answer(answer: FlowAnswer) -> FlowWord {
+    FlowWord::Answer { invoke: 1, answer }
+}
+
+/// The longest name, of 129 bytes.
+const LONGEST_NAME: &[u8] = b"\
+aaaaaaaaaaaaaaaaaaaaaaaaaaaaaaaaaaaaaaaaaaaaaaaaaaaaaaaaaaaaaaaa/\
+aaaaaaaaaaaaaaaaaaaaaaaaaaaaaaaaaaaaaaaaaaaaaaaaaaaaaaaaaaaaaaaa";
+
+/// The place of the longest message, behind those of the table.
+const LONGEST: usize = 6;
+
+/// What the message says whose bytes stand at a place of the table, or the longest one.
+fn word_at(alloc: Global, place: usize) -> Result<FlowWord, NameError> {
+    Ok(match place {
+        0 => FlowWord::Ask {
+            invoke: 1,
+            ask: ask(alloc, b"echo", b"ping")?,
+        },
+        1 => FlowWord::Delete { dcep: 5, scep: 3 },
+        2 => answer(FlowAnswer::Yes { dcep: 5, scep: 3 }),
+        3 => answer(FlowAnswer::Denied { rule: 2 }),
+        4 => answer(FlowAnswer::NotHere),
+        5 => answer(FlowAnswer::NoIds { used: 255 }),
+        _ => FlowWord::Ask {
+            invoke: 1,
+            ask: ask(alloc, LONGEST_NAME, LONGEST_NAME)?,
+        },
+    })
+}
+
+/// The bytes of each message, with a bar between them.
+const MESSAGES: &[u8] = b"\
+\x01\0\x01\x04\x02\0\x04\0\0\0\x01\x03\0\x04flow\x04\0\x05/flow\x06\0\x1d\0\0\0\x01\0\0\0\x02\0\0\0\0\x01\0\0\0\x03\0\x04echo\0\x04ping\x0b\0\x04\0\0\0\x02\x0c\0\x04\0\0\0\x01|\
+\x01\0\x01\x06\x02\0\x04\0\0\0\0\x04\0\x05/flow\x06\0\x08\0\0\0\x05\0\0\0\x03\x0b\0\x04\0\0\0\x02\x0c\0\x04\0\0\0\x01|\
+\x01\0\x01\x05\x02\0\x04\0\0\0\x01\x04\0\x05/flow\x06\0\x08\0\0\0\x05\0\0\0\x03\x07\0\x01\0\x0b\0\x04\0\0\0\x02\x0c\0\x04\0\0\0\x01|\
+\x01\0\x01\x05\x02\0\x04\0\0\0\x01\x04\0\x05/flow\x06\0\x08\0\0\0\0\0\0\0\x02\x07\0\x01\x01\x0b\0\x04\0\0\0\x02\x0c\0\x04\0\0\0\x01|\
+\x01\0\x01\x05\x02\0\x04\0\0\0\x01\x04\0\x05/flow\x06\0\x08\0\0\0\0\0\0\0\0\x07\0\x01\x02\x0b\0\x04\0\0\0\x02\x0c\0\x04\0\0\0\x01|\
+\x01\0\x01\x05\x02\0\x04\0\0\0\x01\x04\0\x05/flow\x06\0\x08\0\0\0\0\0\0\0\xff\x07\0\x01\x03\x0b\0\x04\0\0\0\x02\x0c\0\x04\0\0\0\x01";
+
+/// What is written of the message of a place.
+fn written(alloc: Global, place: usize) -> Result<Vec<u8>, Fail> {
+    let m = FlowMessage {
+        to: 2,
+        from: 1,
+        word: word_at(alloc, place)?,
+    };
+    Ok(write(alloc, &m)?)
+}
+
+/// Whether these bytes are written of the message of a place.
+fn is_written(alloc: Global, place: usize, bytes: &[u8]) -> Result<bool, Fail> {
+    Ok(written(alloc, place)?.as_slice() == bytes)
+}
+
+/// Whether a message is read from these bytes.
+fn is_read(alloc: Global, bytes: &[u8]) -> Result<bool, Memory> {
+    match read(alloc, bytes) {
+        Ok(m) => Ok(m.is_some()),
+        Err(Memory) => Err(Memory),
+    }
 }
 
 #[test]
-fn answers_have_these_bytes(rt: HostRuntime) -> Result<(), Fail> {
-    let answers: [(FlowAnswer, &[u8]); 4] = [
-        (
-            FlowAnswer::Yes { dcep: 5, scep: 3 },
-            b"\x01\0\x01\x05\x02\0\x04\0\0\0\x01\x04\0\x05/flow\x06\0\x08\0\0\0\x05\0\0\0\x03\x07\0\x01\0\x0b\0\x04\0\0\0\x02\x0c\0\x04\0\0\0\x01",
-        ),
-        (
-            FlowAnswer::Denied { rule: 2 },
-            b"\x01\0\x01\x05\x02\0\x04\0\0\0\x01\x04\0\x05/flow\x06\0\x08\0\0\0\0\0\0\0\x02\x07\0\x01\x01\x0b\0\x04\0\0\0\x02\x0c\0\x04\0\0\0\x01",
-        ),
-        (
-            FlowAnswer::NotHere,
-            b"\x01\0\x01\x05\x02\0\x04\0\0\0\x01\x04\0\x05/flow\x06\0\x08\0\0\0\0\0\0\0\0\x07\0\x01\x02\x0b\0\x04\0\0\0\x02\x0c\0\x04\0\0\0\x01",
-        ),
-        (
-            FlowAnswer::NoIds { used: 255 },
-            b"\x01\0\x01\x05\x02\0\x04\0\0\0\x01\x04\0\x05/flow\x06\0\x08\0\0\0\0\0\0\0\xff\x07\0\x01\x03\x0b\0\x04\0\0\0\x02\x0c\0\x04\0\0\0\x01",
-        ),
-    ];
-    for (answer, bytes) in answers {
-        has_bytes(
-            &rt,
-            rt.alloc(),
-            FlowWord::Answer { invoke: 1, answer },
-            bytes,
-        )?;
+fn messages_have_these_bytes(rt: HostRuntime) -> Result<(), Fail> {
+    for (place, bytes) in MESSAGES.split(is_bar).enumerate() {
+        assert!(rt; is_written(rt.alloc(), place, bytes)?);
+        assert!(rt; is_read(rt.alloc(), bytes) == Ok(true));
     }
     Ok(())
 }
 
+/// Bytes of no message, with a bar between them: a short one; a denial with a CEP-id, and an answer of result 4; a
+/// deletion that wants a response, and one from nobody.
+const OTHERS: &[u8] = b"\
+\x01\0\x01\x06|\
+\x01\0\x01\x05\x02\0\x04\0\0\0\x01\x04\0\x05/flow\x06\0\x08\0\0\0\x01\0\0\0\x02\x07\0\x01\x01\x0b\0\x04\0\0\0\x02\x0c\0\x04\0\0\0\x01|\
+\x01\0\x01\x05\x02\0\x04\0\0\0\x01\x04\0\x05/flow\x06\0\x08\0\0\0\0\0\0\0\x02\x07\0\x01\x04\x0b\0\x04\0\0\0\x02\x0c\0\x04\0\0\0\x01|\
+\x01\0\x01\x06\x02\0\x04\0\0\0\x01\x04\0\x05/flow\x06\0\x08\0\0\0\x05\0\0\0\x03\x0b\0\x04\0\0\0\x02\x0c\0\x04\0\0\0\x01|\
+\x01\0\x01\x06\x02\0\x04\0\0\0\0\x04\0\x05/flow\x06\0\x08\0\0\0\x05\0\0\0\x03\x0b\0\x04\0\0\0\x02";
+
 #[test]
-fn what_is_no_message_about_a_flow(rt: HostRuntime) -> Result<(), Fail> {
-    let alloc = rt.alloc();
-    let others: [&[u8]; 5] = [
-        b"\x01\0\x01\x06",
-        // a denial with a CEP-id, and an answer of result 4
-        b"\x01\0\x01\x05\x02\0\x04\0\0\0\x01\x04\0\x05/flow\x06\0\x08\0\0\0\x01\0\0\0\x02\x07\0\x01\x01\x0b\0\x04\0\0\0\x02\x0c\0\x04\0\0\0\x01",
-        b"\x01\0\x01\x05\x02\0\x04\0\0\0\x01\x04\0\x05/flow\x06\0\x08\0\0\0\0\0\0\0\x02\x07\0\x01\x04\x0b\0\x04\0\0\0\x02\x0c\0\x04\0\0\0\x01",
-        // a deletion that wants a response, and one from nobody
-        b"\x01\0\x01\x06\x02\0\x04\0\0\0\x01\x04\0\x05/flow\x06\0\x08\0\0\0\x05\0\0\0\x03\x0b\0\x04\0\0\0\x02\x0c\0\x04\0\0\0\x01",
-        b"\x01\0\x01\x06\x02\0\x04\0\0\0\0\x04\0\x05/flow\x06\0\x08\0\0\0\x05\0\0\0\x03\x0b\0\x04\0\0\0\x02",
-    ];
-    for bytes in others {
-        assert!(rt; read(alloc, bytes)?.is_none());
+fn what_is_no_message_about_a_flow(rt: HostRuntime) {
+    for bytes in OTHERS.split(is_bar) {
+        assert!(rt; is_read(rt.alloc(), bytes) == Ok(false));
     }
-    Ok(())
 }
 
 #[test]
 fn the_longest_ask_has_322_bytes(rt: HostRuntime) -> Result<(), Fail> {
-    let alloc = rt.alloc();
-    let mut name = [b'a'; 129];
-    name[64] = b'/';
-    let ask = ask(alloc, &name, &name)?;
-    let word = FlowWord::Ask { invoke: 1, ask };
-    let bytes = write(
-        alloc,
-        &FlowMessage {
-            to: 1,
-            from: 2,
-            word,
-        },
-    )?;
-    assert!(rt; bytes.len() == 322);
-    assert!(rt; read(alloc, &bytes)?.is_some());
+    let bytes = written(rt.alloc(), LONGEST)?;
+    assert!(rt; bytes.len() == 322 && is_read(rt.alloc(), &bytes) == Ok(true));
     a_message_has_one_spelling();
     a_message_is_short();
     an_answer_can_be_told();

@@ -7,3 +7,5 @@ mod agent;
 mod alloc;
 #[cfg(test)]
 mod enrol;
+#[cfg(test)]
+mod ring;

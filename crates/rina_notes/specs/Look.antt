@@ -1,5 +1,5 @@
 -- The states of labelled ports: which changed since they were told last.
-use Rattle.std.specs.Prelude.{◌≡◌, ℕ, ◌++◌, ◌==◌, ◌&&◌, Bool, true, false, List, [], ◌∷◌, map, Option, Some, None, option_and_then, option_map, slice_get, if◌then◌else◌}
+use Rattle.std.specs.Prelude.{◌≡◌, ℕ, ◌++◌, ◌==◌, ◌&&◌, Bool, true, false, List, [], ◌∷◌, map, take, drop, Option, Some, None, option_and_then, option_map, slice_get, if◌then◌else◌}
 use Rattle.std.specs.List.{flat_map}
 use Rattle.rina_base.specs.declared.number.Port.{Port}
 use Rattle.rina_base.specs.declared.number.Num.{Num}
@@ -79,12 +79,31 @@ label_notes plan line t l = if same_drawn (state_at t l.rank l.port) l.shown the
 abbrev pub state_notes : Plan → ℕ → Tower → List Label → List Note
 state_notes plan line t labels = flat_map (label_notes plan line t) labels
 
+-- the end at a place is that of a label's port, and has the state that was told last
+pub record IsShownAt (ends : List End) (place : ℕ) (l : Label) : Type 0 where
+  pub end : End
+  pub stands : slice_get ends place ≡ Some end
+  pub port : end.port ≡ l.port
+  pub state : same_drawn (Some end.state) l.shown ≡ true
+
+-- a label's port is of a facility of a rank, and its end stands among these and has the state that was told last
+pub record IsShownIn (rank fac : ℕ) (ends : List End) (l : Label) : Type 0 where
+  pub its_rank : l.rank ≡ rank
+  pub its_fac : l.port.fac ≡ fac
+  pub place : ℕ
+  pub shown : IsShownAt ends place l
+
 abbrev pub shown_now : Tower → Label → Label
 shown_now t l = record l { shown = state_at t l.rank l.port }
 
 -- the labels after they have told their states
 abbrev pub looked : Tower → List Label → List Label
 looked t labels = map (shown_now t) labels
+
+-- of these labels the first so many have told their states, behind what the trace began with
+pub record HaveTold (plan : Plan) (line : ℕ) (t : Tower) (ls : List Label) (start : List Note) (count : ℕ) (now : List Label) (trace : List Note) : Type 0 where
+  pub labels : now ≡ looked t (take count ls) ++ drop count ls
+  pub notes : trace ≡ start ++ state_notes plan line t (take count ls)
 
 -- the trace went on with notes of which this holds
 pub record Leads (P : List Note → Type 0) (old new : List Note) : Type 0 where

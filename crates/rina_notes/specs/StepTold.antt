@@ -85,6 +85,7 @@ abbrev pub step_told : StepError → Option Refusal
 step_told errors.Memory = None
 step_told errors.NoIpc = Some refusals.NoIpc
 step_told errors.NoLink = Some refusals.NoLink
+step_told (errors.CountSpent need left) = Some (refusals.CountSpent need left)
 
 -- a line of a ledger
 abbrev pub off_told : Plan → ℕ → Off → Option Answer

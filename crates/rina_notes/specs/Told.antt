@@ -68,14 +68,12 @@ register_told register.Memory = None
 register_told register.Already = Some refusals.Already
 register_told register.NoMember = Some refusals.NoMember
 register_told (register.CountSpent need left) = Some (refusals.CountSpent need left)
-register_told register.Unbuilt = Some refusals.Unbuilt
 
 -- what `unregister` refused
 abbrev pub unregister_told : UnregisterError → Option Refusal
 unregister_told unregister.Memory = None
 unregister_told unregister.NotThere = Some refusals.NotThere
 unregister_told (unregister.CountSpent need left) = Some (refusals.CountSpent need left)
-unregister_told unregister.Unbuilt = Some refusals.Unbuilt
 
 -- what `free` refused
 abbrev pub free_told : FreeError → Option Refusal

@@ -22,6 +22,9 @@ pub struct Label {
 #[derive(Drop)]
 pub struct Labels {
     items: Vec<Label>,
+    /// For each label where the end of its port may stand in its journal. Who uses such a place looks at the end
+    /// there first.
+    places: Vec<usize>,
 }
 
 impl Model for Labels {
@@ -42,6 +45,7 @@ impl Labels {
     {
         Labels {
             items: Vec::new(alloc),
+            places: Vec::new(alloc),
         }
     }
 
@@ -64,8 +68,23 @@ impl Labels {
         ensures ok { OnOk result (self.new ≡ self.old ++ label ∷ []) }
         ensures err { OnErr result (self.new ≡ self.old) }
     {
+        self.places.push(0)?;
         self.items.push(label)?;
         Ok(())
+    }
+
+    /// Where the end of the port of the label at this place may stand in its journal.
+    pub(crate) fn likely_place(&self, at: usize) -> usize {
+        self.places.get(at).copied().unwrap_or(0)
+    }
+
+    /// Notes where the end of the port of the label at this place stands in its journal.
+    pub(crate) fn note_place(&mut self, at: usize, place: usize)
+        ensures { self.new ≡ self.old }
+    {
+        if let Some(kept) = self.places.get_mut(at) {
+            *kept = place;
+        }
     }
 
     /// Notes the state of the label at this place that was told.

@@ -1,10 +1,11 @@
 //! The states of labelled ports: which changed since they were told last.
-ghost use Rattle.std.specs.Prelude.{◌≡◌, ◌<◌, ◌++◌, length, option_map, slice_get, slice_set, IfOk, OnOk, OnErr};
+ghost use Rattle.std.specs.Prelude.{◌≡◌, ℕ, ◌^◌, ◌<◌, ◌≤◌, ◌++◌, true, Some, List, length, option_map, slice_get, slice_set, IfOk, OnOk, OnErr};
 ghost use Rattle.rina_tower.specs.Stands.{IsTower};
 ghost use Rattle.rina_notes.specs.declared.label.Label.{Label};
 ghost use Rattle.rina_report.specs.declared.answer.Answer.TheVariants as answers;
+ghost use Rattle.rina_report.specs.declared.note.Note.{Note};
 ghost use Rattle.rina_notes.specs.Told.{drawn_told};
-ghost use Rattle.rina_notes.specs.Look.{same_num, same_port, same_why, same_fail, same_state, same_drawn, ends_at, label_notes, state_at, state_notes, shown_now, looked, Extends};
+ghost use Rattle.rina_notes.specs.Look.{same_num, same_port, same_why, same_fail, same_state, same_drawn, ends_at, label_notes, state_at, state_notes, IsShownAt, IsShownIn, HaveTold, shown_now, looked, Extends};
 
 use crate::label::{Label, Labels};
 use crate::line::Line;
@@ -86,12 +87,72 @@ pub fn ends_at(tower: &Tower, rank: u16, fac: u16) -> &[End]
     }
 }
 
+/// Where the end of a port of a rank stands in its journal; 0 where the port was never drawn.
+fn place_at(tower: &Tower, rank: u16, port: Port) -> usize
+    requires { IsTower tower.now }
+{
+    let place = match tower.rank(rank) {
+        Some(at) => match at.journal(port.fac) {
+            Some(journal) => journal.ends.place(port),
+            None => None,
+        },
+        None => None,
+    };
+    place.unwrap_or(0)
+}
+
 /// The state of a port of a rank.
 pub fn state_at(tower: &Tower, rank: u16, port: Port) -> Option<PortState>
     requires { IsTower tower.now }
     ensures { result ≡ state_at tower.now rank port }
 {
     tower.rank(rank)?.state(port)
+}
+
+/// The ends of a facility of a rank.
+#[derive(Clone, Copy)]
+struct Row<'a> {
+    rank: u16,
+    fac: u16,
+    ends: &'a [End],
+}
+
+/// The ends of the facility that a label's port is of: the row that is given, where it has them.
+fn row_of<'a>(tower: &'a Tower, row: Row<'a>, label: &Label) -> Row<'a>
+    requires tower { IsTower tower.now }
+    requires row { row.ends.now ≡ ends_at tower.now row.rank row.fac }
+    ensures row { result.ends.now ≡ ends_at tower.now result.rank result.fac }
+    ensures rank { result.rank ≡ label.now.rank }
+    ensures fac { result.fac ≡ label.now.port.fac }
+{
+    if row.rank == label.rank && row.fac == label.port.fac {
+        return row;
+    }
+    Row {
+        rank: label.rank,
+        fac: label.port.fac,
+        ends: ends_at(tower, label.rank, label.port.fac),
+    }
+}
+
+/// Whether an end has the state of a label's port that was told last.
+fn has_shown_state(end: &End, label: &Label) -> bool
+    ensures { result ≡ same_drawn (Some end.now.state) label.now.shown }
+{
+    match end.state {
+        PortState::Allocated => matches!(label.shown, Some(PortState::Allocated)),
+        state => is_same(Some(state), label.shown),
+    }
+}
+
+/// Whether the end at a place is that of a label's port, and has the state that was told last.
+fn is_shown_at(ends: &[End], place: usize, label: &Label) -> bool
+    ensures { result ≡ true → IsShownAt ends.now place label.now }
+{
+    match ends.get(place) {
+        Some(end) => end.port == label.port && has_shown_state(end, label),
+        None => false,
+    }
 }
 
 /// What a label tells of its port's new state.
@@ -118,13 +179,13 @@ fn tell_label(
     line: &Line<'_>,
     tower: &Tower,
     label: &Label,
+    state: Option<PortState>,
     trace: &mut Notes,
 ) -> Result<(), Memory>
-    requires { IsTower tower.now }
+    requires { state ≡ state_at tower.now label.now.rank label.now.port }
     ensures ok { OnOk result (trace.new ≡ trace.old ++ label_notes line.now.plan.now line.now.number tower.now label.now) }
     ensures err { OnErr result (trace.new ≡ trace.old) }
 {
-    let state = state_at(tower, label.rank, label.port);
     if is_same(state, label.shown) {
         return Ok(());
     }
@@ -132,8 +193,8 @@ fn tell_label(
     tell(trace, line.number, tick_of(tower), says)
 }
 
-/// Looks at the label at this place.
-fn tell_label_at(
+/// Looks up the state of the label at this place, and tells it where that is not the one that was told last.
+fn look_up_label(
     line: &Line<'_>,
     tower: &Tower,
     labels: &mut Labels,
@@ -147,10 +208,62 @@ fn tell_label_at(
     ensures err { OnErr result (trace.new ≡ trace.old) }
 {
     let label = &labels.as_slice()[at];
-    tell_label(line, tower, label, trace)?;
     let state = state_at(tower, label.rank, label.port);
+    let place = place_at(tower, label.rank, label.port);
+    tell_label(line, tower, label, state, trace)?;
     labels.show(at, state);
+    labels.note_place(at, place);
     Ok(())
+}
+
+/// Whether a label's port is of the facility of a row, and the end at a place of the row is its end and has the state that was
+/// told last.
+fn is_shown_in(row: &Row<'_>, place: usize, label: &Label) -> bool
+    ensures { result ≡ true → IsShownIn row.now.rank row.now.fac row.now.ends.now label.now }
+{
+    label.rank == row.rank && label.port.fac == row.fac && is_shown_at(row.ends, place, label)
+}
+
+/// Goes from a place over all labels of which a row shows, at the places where their ends are likely to stand, that they have
+/// the states that were told last. Tells the place behind them.
+fn skip_shown(row: &Row<'_>, labels: &Labels, from: usize) -> usize
+    requires { from ≤ length labels.now }
+    ensures on { from ≤ result }
+    ensures within { result ≤ length labels.now }
+    ensures shown { (at : ℕ) (l : Label) → from ≤ at → at < result → slice_get labels.now at ≡ Some l → IsShownIn row.now.rank row.now.fac row.now.ends.now l }
+{
+    'labels: for at in from..labels.len() {
+        if !is_shown_in(row, labels.likely_place(at), &labels.as_slice()[at]) {
+            return at;
+        }
+    }
+    labels.len()
+}
+
+/// Looks at the label at this place, and at those behind it that this row shows to be as they were. Tells the place behind them.
+fn look_on(
+    line: &Line<'_>,
+    tower: &Tower,
+    row: &Row<'_>,
+    labels: &mut Labels,
+    at: usize,
+    trace: &mut Notes,
+) -> Result<usize, Memory>
+    requires place { at < length labels.old }
+    requires size { length labels.old < 2 ^ 64 }
+    requires sound { IsTower tower.now }
+    requires row { row.now.ends.now ≡ ends_at tower.now row.now.rank row.now.fac }
+    ensures on { IfOk result (λ next. at < next) }
+    ensures within { IfOk result (λ next. next ≤ length labels.old) }
+    ensures tells { IfOk result (λ next. (ls : List Label) (start : List Note) → HaveTold line.now.plan.now line.now.number tower.now ls start at labels.old trace.old → HaveTold line.now.plan.now line.now.number tower.now ls start next labels.new trace.new) }
+    ensures err { OnErr result (trace.new ≡ trace.old) }
+{
+    let next = skip_shown(row, labels, at);
+    if next > at {
+        return Ok(next);
+    }
+    look_up_label(line, tower, labels, at, trace)?;
+    Ok(at + 1)
 }
 
 /// Tells the states of all labelled ports that changed since they were told last.
@@ -165,8 +278,15 @@ pub fn tell_labels(
     ensures labels { OnOk result (labels.new ≡ looked tower.now labels.old) }
     ensures more { OnErr result (Extends trace.old trace.new) }
 {
-    'labels: for at in 0..labels.len() {
-        tell_label_at(line, tower, labels, at, trace)?;
+    let mut row = Row {
+        rank: 0,
+        fac: 0,
+        ends: ends_at(tower, 0, 0),
+    };
+    let mut at = 0;
+    'labels: while at < labels.len() {
+        row = row_of(tower, row, &labels.as_slice()[at]);
+        at = look_on(line, tower, &row, labels, at, trace)?;
     }
     Ok(())
 }

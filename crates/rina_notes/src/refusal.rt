@@ -31,7 +31,6 @@ fn register_refusal(error: RegisterError) -> Option<Refusal>
         RegisterError::Already => Some(Refusal::Already),
         RegisterError::NoMember => Some(Refusal::NoMember),
         RegisterError::CountSpent { need, left } => Some(Refusal::CountSpent { need, left }),
-        RegisterError::Unbuilt => Some(Refusal::Unbuilt),
     }
 }
 
@@ -54,7 +53,6 @@ fn unregister_refusal(error: UnregisterError) -> Option<Refusal>
         UnregisterError::Memory => None,
         UnregisterError::NotThere => Some(Refusal::NotThere),
         UnregisterError::CountSpent { need, left } => Some(Refusal::CountSpent { need, left }),
-        UnregisterError::Unbuilt => Some(Refusal::Unbuilt),
     }
 }
 

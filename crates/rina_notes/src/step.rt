@@ -153,6 +153,7 @@ pub fn tell_step(error: StepError) -> Option<Refusal>
         StepError::Memory => None,
         StepError::NoIpc => Some(Refusal::NoIpc),
         StepError::NoLink => Some(Refusal::NoLink),
+        StepError::CountSpent { need, left } => Some(Refusal::CountSpent { need, left }),
     }
 }
 

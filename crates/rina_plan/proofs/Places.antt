@@ -1,12 +1,13 @@
 -- Places in lists.
-use Rattle.std.proofs.Common.{◌≡◌, ◌==◌, ◌||◌, ℕ, ◌+◌, ◌≤◌, nat_lt, Bool, true, false, not, cond, List, [], ◌∷◌, length, map, get_or, Some, None, refl, sym, ap, ◌∙◌, arith}
+use Rattle.std.proofs.Common.{◌≡◌, ◌==◌, ◌||◌, ℕ, ◌+◌, ◌<◌, ◌≤◌, nat_lt, Bool, true, false, not, cond, List, [], ◌∷◌, length, map, drop, get_or, Some, None, refl, sym, ap, ◌∙◌, arith}
 use Rattle.std.specs.Prelude.{All}
 use Rattle.std.proofs.lemmas.Bool.{false_from_ne_true, false≢true}
 use Rattle.std.proofs.lemmas.Bool.Decides.{nat_tests}
 use Rattle.std.proofs.lemmas.List.Folds.{list_any_at}
 use Rattle.std.proofs.lemmas.List.Sums.{prefix_len_passes}
-use Rattle.std.proofs.lemmas.List.{length-map}
-use Rattle.std.specs.List.{position, prefix_len, list_any}
+use Rattle.std.proofs.lemmas.Iterator.Adapters.{position_from-zero}
+use Rattle.std.proofs.lemmas.List.{length-map, drop_more, drop_all}
+use Rattle.std.specs.List.{position, position_from, prefix_len, list_any}
 use Rattle.rina_plan.specs.declared.dif.MemberPlan.{MemberPlan}
 use Rattle.rina_plan.specs.declared.dif.DifPlan.{DifPlan}
 use Rattle.rina_plan.specs.Difs.{has_twice, is_misaddressed, is_misplaced}
@@ -18,9 +19,25 @@ prefix_len_map p f (x ∷ xs) = ap (λ n. cond (p (f x)) (1 + n) 0) (prefix_len_
 pub position_map : {A B : Type 0} (p : B → Bool) (f : A → B) (xs : List A) → position p (map f xs) ≡ position (λ x. p (f x)) xs
 position_map p f xs = rw (prefix_len_map (λ y. not (p y)) f xs, length-map xs f) refl
 
--- the first flag is that of the first element that passes
-pub flag_place : {A : Type 0} (p : A → Bool) (xs : List A) → position (λ b. b) (map p xs) ≡ position p xs
-flag_place p xs = position_map (λ b. b) p xs
+-- ---- the first place, found by a loop that counts
+
+module _ {X : Type 0} (p : X → Bool) (xs : List X) (i at : ℕ) where
+  pub place_found : (x : X) (b : Bool) → i < length xs → x ≡ get_or xs i x → b ≡ p x → b ≡ true → position_from p at (drop i xs) ≡ position_from p 0 xs → Some at ≡ position p xs
+  place_found x b within is test here so_far =
+      let passes : p (get_or xs i x) ≡ true = ap p (sym is) ∙ sym test ∙ here in
+      let first : position_from p at (drop i xs) ≡ Some at = rw (drop_more xs i x within, passes) refl in
+      sym first ∙ so_far ∙ sym (position_from-zero p xs)
+
+  pub place_later : (x : X) (b : Bool) → i < length xs → x ≡ get_or xs i x → b ≡ p x → b ≡ false → position_from p at (drop i xs) ≡ position_from p 0 xs → position_from p (at + 1) (drop (i + 1) xs) ≡ position_from p 0 xs
+  place_later x b within is test other so_far =
+      let fails : p (get_or xs i x) ≡ false = ap p (sym is) ∙ sym test ∙ other in
+      let next : position_from p at (drop i xs) ≡ position_from p (at + 1) (drop (i + 1) xs) = rw (drop_more xs i x within, fails) refl in
+      sym next ∙ so_far
+
+  pub no_place : length xs ≤ i → position_from p at (drop i xs) ≡ position_from p 0 xs → None ≡ position p xs
+  no_place past so_far =
+      let last : position_from p at (drop i xs) ≡ None = rw (drop_all i xs past) refl in
+      sym last ∙ so_far ∙ sym (position_from-zero p xs)
 
 -- ---- where no element passes
 

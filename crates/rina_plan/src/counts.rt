@@ -92,33 +92,45 @@ fn is_on_dif(at: usize, on: Lower) -> bool
     }
 }
 
+#[tactic(auto, using(std::proofs::lemmas::List::Sums::count_by_more_yes, std::proofs::lemmas::List::Sums::count_by_more_no))]
 fn links_at(links: &[LinkPlan], node: usize) -> usize
     ensures { result ≡ count_by (has_link_end node) links.now }
 {
-    links
-        .iter()
-        .filter(|link| has_link_end(node, *link))
-        .count()
+    let mut count = 0usize;
+    'links: for link in links {
+        if has_link_end(node, link) {
+            count += 1;
+        }
+    }
+    count
 }
 
+#[tactic(auto, using(std::proofs::lemmas::List::Sums::count_by_more_yes, std::proofs::lemmas::List::Sums::count_by_more_no))]
 fn flows_at(flows: &[FlowPlan], node: usize) -> usize
     ensures count { result ≡ count_by (has_flow_end node) flows.now }
     ensures most { result < 2 ^ 63 }
 {
-    flows
-        .iter()
-        .filter(|flow| has_flow_end(node, *flow))
-        .count()
+    let mut count = 0usize;
+    'flows: for flow in flows {
+        if has_flow_end(node, flow) {
+            count += 1;
+        }
+    }
+    count
 }
 
+#[tactic(auto, using(std::proofs::lemmas::List::Sums::count_by_more_yes, std::proofs::lemmas::List::Sums::count_by_more_no))]
 fn links_above(links: &[LinkPlan], at: usize, node: usize) -> usize
     ensures count { result ≡ count_by (λ (l : LinkPlan). is_on_dif at l.on && has_link_end node l) links.now }
     ensures most { result < 2 ^ 63 }
 {
-    links
-        .iter()
-        .filter(|link| is_on_dif(at, link.on) && has_link_end(node, *link))
-        .count()
+    let mut count = 0usize;
+    'links: for link in links {
+        if is_on_dif(at, link.on) && has_link_end(node, link) {
+            count += 1;
+        }
+    }
+    count
 }
 
 fn cep_ids_needed(links: &[LinkPlan], at: usize, dif: &DifPlan, node: usize) -> usize
@@ -135,12 +147,16 @@ fn is_overloaded(links: &[LinkPlan], at: usize, dif: &DifPlan, member: &MemberPl
         || cep_ids_needed(links, at, dif, member.node) > greatest_of(dif.widths.cep) as usize
 }
 
+#[tactic(auto, using(std::proofs::lemmas::List::drop_more))]
 fn any_overloaded(links: &[LinkPlan], at: usize, dif: &DifPlan, members: &[MemberPlan]) -> bool
     ensures { result ≡ list_any (is_overloaded links.now at dif.now) members.now }
 {
-    members
-        .iter()
-        .any(|member| is_overloaded(links, at, dif, member))
+    'members: for member in members {
+        if is_overloaded(links, at, dif, member) {
+            return true;
+        }
+    }
+    false
 }
 
 #[tactic(auto, unfolding(crate::specs::Counts::is_full))]

@@ -12,11 +12,16 @@ use rina_pci::pci_len;
 
 // A DIF of rank above 1 has one of the rank below.
 
+#[tactic(auto, using(std::proofs::lemmas::List::drop_more))]
 fn has_rank_below(difs: &[DifPlan], rank: u8) -> bool
     ensures { result ≡ list_any (λ (e : DifPlan). e.rank + 1 == rank) difs.now }
 {
-    difs.iter()
-        .any(|dif| u32::from(dif.rank) + 1 == u32::from(rank))
+    'difs: for dif in difs {
+        if u32::from(dif.rank) + 1 == u32::from(rank) {
+            return true;
+        }
+    }
+    false
 }
 
 #[tactic(auto, unfolding(crate::specs::Difs::lacks_lower))]
@@ -31,7 +36,14 @@ pub fn first_without_lower(difs: &[DifPlan]) -> Option<usize>
     ensures place { result ≡ position (lacks_lower difs.now) difs.now }
     ensures within { IfSome result (λ i. i < length difs.now) }
 {
-    difs.iter().position(|dif| lacks_lower(difs, dif))
+    let mut at = 0usize;
+    'difs: for dif in difs {
+        if lacks_lower(difs, dif) {
+            return Some(at);
+        }
+        at += 1;
+    }
+    None
 }
 
 // The times of cubes.
@@ -46,10 +58,16 @@ fn is_mistimed(cube: &Cube) -> bool
     }
 }
 
+#[tactic(auto, using(std::proofs::lemmas::List::drop_more))]
 fn any_mistimed(cubes: &[Cube]) -> bool
     ensures { result ≡ list_any is_mistimed cubes.now }
 {
-    cubes.iter().any(|cube| is_mistimed(cube))
+    'cubes: for cube in cubes {
+        if is_mistimed(cube) {
+            return true;
+        }
+    }
+    false
 }
 
 #[tactic(auto, unfolding(crate::specs::Difs::has_mistimed))]
@@ -65,7 +83,14 @@ pub fn first_mistimed(difs: &[DifPlan]) -> Option<usize>
     ensures place { result ≡ position has_mistimed difs.now }
     ensures within { IfSome result (λ i. i < length difs.now) }
 {
-    difs.iter().position(|dif| has_mistimed(dif))
+    let mut at = 0usize;
+    'difs: for dif in difs {
+        if has_mistimed(dif) {
+            return Some(at);
+        }
+        at += 1;
+    }
+    None
 }
 
 // The sizes of PDUs.
@@ -104,7 +129,14 @@ pub fn first_with_unfit_pdu(difs: &[DifPlan]) -> Option<usize>
     ensures place { result ≡ position has_unfit_pdu difs.now }
     ensures within { IfSome result (λ i. i < length difs.now) }
 {
-    difs.iter().position(|dif| has_unfit_pdu(dif))
+    let mut at = 0usize;
+    'difs: for dif in difs {
+        if has_unfit_pdu(dif) {
+            return Some(at);
+        }
+        at += 1;
+    }
+    None
 }
 
 // The sizes of SDUs.
@@ -127,10 +159,16 @@ fn is_oversized(piece: u32, queue: u32, cube: &Cube) -> bool
     }
 }
 
+#[tactic(auto, using(std::proofs::lemmas::List::drop_more))]
 fn any_oversized(piece: u32, queue: u32, cubes: &[Cube]) -> bool
     ensures { result ≡ list_any (is_oversized piece queue) cubes.now }
 {
-    cubes.iter().any(|cube| is_oversized(piece, queue, cube))
+    'cubes: for cube in cubes {
+        if is_oversized(piece, queue, cube) {
+            return true;
+        }
+    }
+    false
 }
 
 fn piece(dif: &DifPlan) -> u32
@@ -154,7 +192,14 @@ pub fn first_oversized(difs: &[DifPlan]) -> Option<usize>
     ensures place { result ≡ position has_oversized difs.now }
     ensures within { IfSome result (λ i. i < length difs.now) }
 {
-    difs.iter().position(|dif| has_oversized(dif))
+    let mut at = 0usize;
+    'difs: for dif in difs {
+        if has_oversized(dif) {
+            return Some(at);
+        }
+        at += 1;
+    }
+    None
 }
 
 // Addresses.
@@ -166,10 +211,16 @@ fn is_misaddressed(width: u8, member: &MemberPlan) -> bool
     member.addr == 0 || member.addr > greatest_of(width)
 }
 
+#[tactic(auto, using(std::proofs::lemmas::List::drop_more))]
 pub(crate) fn any_misaddressed(width: u8, members: &[MemberPlan]) -> bool
     ensures { result ≡ list_any (is_misaddressed width) members.now }
 {
-    members.iter().any(|member| is_misaddressed(width, member))
+    'members: for member in members {
+        if is_misaddressed(width, member) {
+            return true;
+        }
+    }
+    false
 }
 
 // How many there may be.

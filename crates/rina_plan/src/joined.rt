@@ -13,10 +13,16 @@ use crate::nets::Net;
 use rina_cube::Cube;
 use std::alloc::{AllocError, Global};
 
+#[tactic(auto, using(std::proofs::lemmas::List::drop_more))]
 fn any_of_id(cubes: &[Cube], id: u8) -> bool
     ensures { result ≡ list_any (λ (c : Cube). c.id == id) cubes.now }
 {
-    cubes.iter().any(|cube| cube.id == id)
+    'cubes: for cube in cubes {
+        if cube.id == id {
+            return true;
+        }
+    }
+    false
 }
 
 fn has_cube(id: u8, dif: &DifPlan) -> bool
@@ -38,10 +44,16 @@ fn is_unfit_flow(net: &Net<'_>, flow: &FlowPlan) -> bool
         || !net.joins(from, to)
 }
 
+#[tactic(auto, using(std::proofs::lemmas::List::drop_more))]
 fn any_unfit_flow(net: &Net<'_>, flows: &[FlowPlan]) -> bool
     ensures { result ≡ list_any (is_unfit_flow net.now.dif.now) flows.now }
 {
-    flows.iter().any(|flow| is_unfit_flow(net, flow))
+    'flows: for flow in flows {
+        if is_unfit_flow(net, flow) {
+            return true;
+        }
+    }
+    false
 }
 
 fn joins_on(nets: &[Net<'_>], one: usize, other: usize, on: Lower) -> bool
@@ -62,10 +74,16 @@ fn is_unjoined_link(nets: &[Net<'_>], link: &LinkPlan) -> bool
     !joins_on(nets, link.a, link.b, link.on)
 }
 
+#[tactic(auto, using(std::proofs::lemmas::List::drop_more))]
 fn any_unjoined_link(nets: &[Net<'_>], links: &[LinkPlan]) -> bool
     ensures { result ≡ list_any (is_unjoined_link (difs_of nets.now)) links.now }
 {
-    links.iter().any(|link| is_unjoined_link(nets, link))
+    'links: for link in links {
+        if is_unjoined_link(nets, link) {
+            return true;
+        }
+    }
+    false
 }
 
 #[tactic(auto, unfolding(crate::specs::Walks::is_unjoined))]
@@ -80,7 +98,14 @@ fn first_of(nets: &[Net<'_>]) -> Option<usize>
     ensures place { result ≡ position (λ (n : Net). is_unjoined (difs_of nets.now) n.dif.now) nets.now }
     ensures within { IfSome result (λ i. i < length nets.now) }
 {
-    nets.iter().position(|net| is_unjoined(nets, net))
+    let mut at = 0usize;
+    'nets: for net in nets {
+        if is_unjoined(nets, net) {
+            return Some(at);
+        }
+        at += 1;
+    }
+    None
 }
 
 fn nets_of<'a>(alloc: Global, difs: &'a [DifPlan]) -> Result<Vec<Net<'a>>, AllocError>

@@ -6,11 +6,18 @@ ghost use Rattle.rina_plan.specs.Numbers.{IsLower, facility_number, number_in_ra
 use crate::dif::{DifPlan, Lower};
 
 /// How many DIFs have a rank.
+#[tactic(auto, using(std::proofs::lemmas::List::Sums::count_by_more_yes, std::proofs::lemmas::List::Sums::count_by_more_no))]
 fn count_of_rank(difs: &[DifPlan], rank: u8) -> usize
     ensures count { result ≡ count_by (λ (d : DifPlan). d.rank == rank) difs.now }
     ensures most { result ≤ length difs.now }
 {
-    difs.iter().filter(|dif| dif.rank == rank).count()
+    let mut count = 0usize;
+    'difs: for dif in difs {
+        if dif.rank == rank {
+            count += 1;
+        }
+    }
+    count
 }
 
 /// The number of the DIF at a place of the stack among those of its rank, counted from 0 in stack order.

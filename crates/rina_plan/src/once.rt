@@ -89,48 +89,33 @@ fn is_misplaced(alloc: Global, dif: &DifPlan) -> Result<bool, AllocError>
     Ok(any_of(dif.members.len() == 0, node, address, misaddressed))
 }
 
-fn each_lacking(alloc: Global, difs: &[DifPlan]) -> Result<Vec<bool>, AllocError>
-    ensures { IfOk result (λ v. v.items ≡ map lacks_cubes difs.now) }
-{
-    let mut flags = Vec::new(alloc);
-    'difs: for dif in difs {
-        flags.push(lacks_cubes(alloc, dif)?)?;
-    }
-    Ok(flags)
-}
-
-fn each_misplaced(alloc: Global, difs: &[DifPlan]) -> Result<Vec<bool>, AllocError>
-    ensures { IfOk result (λ v. v.items ≡ map is_misplaced difs.now) }
-{
-    let mut flags = Vec::new(alloc);
-    'difs: for dif in difs {
-        flags.push(is_misplaced(alloc, dif)?)?;
-    }
-    Ok(flags)
-}
-
-pub(crate) fn first_flag(flags: &[bool]) -> Option<usize>
-    ensures place { result ≡ position (λ b. b) flags.now }
-    ensures within { IfSome result (λ i. i < length flags.now) }
-{
-    flags.iter().position(|flag| *flag)
-}
-
 /// The first DIF without a cube, or with two cubes of one id (rule 10). Fails where memory runs out.
-#[tactic(auto, using(crate::proofs::Places::flag_place))]
 pub fn first_without_cubes(alloc: Global, difs: &[DifPlan]) -> Result<Option<usize>, AllocError>
     ensures { IfOk result (λ f. f ≡ position lacks_cubes difs.now) }
 {
-    let flags = each_lacking(alloc, difs)?;
-    Ok(first_flag(flags.as_slice()))
+    let mut at = 0usize;
+    'difs: for dif in difs {
+        let lacks = lacks_cubes(alloc, dif)?;
+        if lacks {
+            return Ok(Some(at));
+        }
+        at += 1;
+    }
+    Ok(None)
 }
 
 /// The first DIF without a member, with two members on one node or of one address, or with an address that
 /// is 0 or too wide (rule 12). Fails where memory runs out.
-#[tactic(auto, using(crate::proofs::Places::flag_place))]
 pub fn first_misplaced(alloc: Global, difs: &[DifPlan]) -> Result<Option<usize>, AllocError>
     ensures { IfOk result (λ f. f ≡ position is_misplaced difs.now) }
 {
-    let flags = each_misplaced(alloc, difs)?;
-    Ok(first_flag(flags.as_slice()))
+    let mut at = 0usize;
+    'difs: for dif in difs {
+        let misplaced = is_misplaced(alloc, dif)?;
+        if misplaced {
+            return Ok(Some(at));
+        }
+        at += 1;
+    }
+    Ok(None)
 }

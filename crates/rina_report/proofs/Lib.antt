@@ -1,9 +1,13 @@
 pub mod Branches
 pub mod Clear
+pub mod Firsts
 pub mod Numerals
 pub mod Parts
 pub mod Printed
 pub mod Readers
+pub mod Seen
+pub mod SeenFields
+pub mod SeenWords
 pub mod Spelled
 pub mod Split
 pub mod Told

@@ -95,6 +95,10 @@ abbrev pub end_at : ℕ → List (List ℕ) → Result (Unit {0}) LineError
 end_at n [] = Ok tt
 end_at n (_ ∷ _) = Err (errors.Extra n)
 
+-- this value, where the note ends before field n
+abbrev pub ended_at : {A : Type 0} → A → ℕ → List (List ℕ) → Result A LineError
+ended_at x n fs = end_at n fs >>= λ _. Ok x
+
 -- a number up to max
 unfoldable pub number_at : ℕ → ℕ → List (List ℕ) → Result (ℕ × List (List ℕ)) LineError
 number_at max n fs = do

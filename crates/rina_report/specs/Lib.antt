@@ -1,5 +1,6 @@
 pub mod Causes
 pub mod Fields
+pub mod Firsts
 pub mod Notes
 pub mod Ranges
 pub mod ReadCauses

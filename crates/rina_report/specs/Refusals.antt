@@ -63,6 +63,17 @@ is_of_message (refusals.Missing _) = true
 is_of_message (refusals.BadValue _) = true
 is_of_message _ = false
 
+-- the refusal has other fields than one number
+abbrev pub has_shape : Refusal → Bool
+has_shape (refusals.CountSpent _ _) = true
+has_shape (refusals.Busy _) = true
+has_shape (refusals.NotAllocated _) = true
+has_shape (refusals.Failed _) = true
+has_shape (refusals.TooLong _ _) = true
+has_shape (refusals.WindowShut _ _) = true
+has_shape (refusals.QueueFull _ _) = true
+has_shape _ = false
+
 -- the fields of a refusal
 unfoldable pub refusal_values : Refusal → List (List ℕ)
 refusal_values (refusals.Unknown field) = decimal field ∷ []

@@ -13,7 +13,10 @@ mod step;
 
 pub use answer::{Answer, FlowNote};
 pub use cause::CauseNote;
-pub use laws::{what_is_printed_is_read, what_is_read_is_printed};
+pub use laws::{
+    the_error_of_a_note_is_the_first, what_is_printed_is_read, what_is_read_is_printed,
+    what_is_told_of_a_note_is_so,
+};
 pub use note::{Fault, Note, Notes};
 pub use print::{add_line, print_note};
 pub use read::read_note;

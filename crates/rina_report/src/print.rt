@@ -2,6 +2,7 @@
 
 mod answer;
 mod cause;
+mod named;
 mod note;
 mod refusal;
 mod state;

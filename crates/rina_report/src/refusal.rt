@@ -80,6 +80,6 @@ pub enum Refusal {
     NoRank,
     /// The application is an IPC process.
     NotYours,
-    /// Registration and allocation over DIFs are not built yet.
+    /// Flows over DIFs cannot be asked for yet.
     Unbuilt,
 }

@@ -1,5 +1,5 @@
 -- Lines that are read and not run, and what is told of them.
-use Rattle.std.proofs.Common.{◌≡◌, ℕ, zero, suc, ◌+◌, ◌≤◌, Bool, true, false, cond, List, [], ◌∷◌, ◌++◌, length, length-append, map, Option, Some, None, Result, Ok, Err, IfOk, inl, inr, refl, sym, ap, ◌∙◌, arith}
+use Rattle.std.proofs.Common.{◌≡◌, ℕ, zero, suc, ◌+◌, ◌≤◌, Bool, true, false, cond, List, [], ◌∷◌, ◌++◌, length, length-append, map, Option, Some, None, Result, Ok, Err, IfOk, inl, inr, refl, sym, ap, subst, ◌∙◌, arith}
 use Rattle.std.specs.List.{All}
 use Rattle.std.proofs.lemmas.List.{length-map, map-append}
 use Rattle.std.proofs.lemmas.List.Elements.{All-append}
@@ -21,11 +21,11 @@ use Rattle.rina_run.specs.declared.check.Checked.TheVariants as checks
 use Rattle.rina_run.specs.declared.lines.BadLine.{BadLine}
 use Rattle.rina_run.specs.declared.outcome.Status.{Status}
 use Rattle.rina_run.specs.declared.outcome.Status.TheVariants as statuses
-use Rattle.rina_run.specs.Check.{AreReadAs, InputTells, IsFirstBad, IsRead, IsReadAs, LinesTell, ScriptTells, counts_of, event_count, is_event, status_beside}
+use Rattle.rina_run.specs.Check.{AreReadAs, CheckOutcomes, InputTells, IsFirstBad, IsRead, IsReadAs, LastTells, LinesTell, ScriptTells, counts_of, event_count, is_event, status_beside}
 use Rattle.rina_run.specs.Faults.{NoteFaults, ReadFaults}
 use Rattle.rina_run.specs.Outcomes.{IsChecked}
-use Rattle.rina_run.specs.Reading.{Ending}
-use Rattle.rina_run.specs.Script.{Script}
+use Rattle.rina_run.specs.Reading.{Broken, Ending, Enough, Lost, Whole, is_whole}
+use Rattle.rina_run.specs.Script.{Script, script_in}
 use Rattle.rina_run.specs.Top.{ClosedBy, IsOutOfMemory, IsStackAlone, WasRead, fault_of, stack_fault}
 use Rattle.rina_run.proofs.Ending.{is_told}
 use Rattle.rina_run.proofs.Faulty.{reads_by, reads_end}
@@ -105,9 +105,45 @@ pub rule_tells : (known : List ℕ → Bool) (ending : Ending) (s : Script) (n i
 rule_tells known ending s n item note reads is alone = inl (alone, (stack.StackRule n item, reads, faults.StackRule n item, refl, is))
 
 -- what the one note of a check tells of the faults of reading
-pub told_reads : (note : Note) (s : Status) (t : List Note) (before now : ℕ) (odd odd' : Bool) → ClosedBy (status_beside note) note [] s t → NoteFaults (Ok note) before now odd odd' → ReadFaults s before now odd odd'
-told_reads (notes.Fault fault) s t before now odd odd' c f = reads_by fault s (notes.Fault fault) [] t before now odd odd' c f
-told_reads note s t before now odd odd' c f = reads_end s note [] t before now odd odd' c f
+pub told_reads : (B : Type 0) (note : Note) (s : Status) (t : List Note) (before now : ℕ) (odd odd' : Bool) → ClosedBy (status_beside note) note [] s t → NoteFaults (Ok note) before now odd odd' → (note ≡ notes.Fault faults.ReadFault → B) → ReadFaults B s before now odd odd'
+told_reads B (notes.Fault fault) s t before now odd odd' c f broke = reads_by B fault s (notes.Fault fault) [] t before now odd odd' c f (λ is. broke (ap (λ (x : Fault). notes.Fault x) is))
+told_reads B note s t before now odd odd' c f broke = reads_end B s note [] t before now odd odd' c f
+
+-- a read fault is told only where reading broke off by it
+stack_reads : (error : StackError) (fault : Fault) → stack_fault error ≡ Some fault → notes.Fault faults.ReadFault ≡ notes.Fault fault → ⊥
+stack_reads stack.Memory fault is told = cc
+stack_reads stack.NotToml fault is told = cc
+stack_reads (stack.StackRule n item) fault is told = cc
+
+last_broke : (ending : Ending) (plan : Plan) (events : ℕ) → LastTells ending plan events (notes.Fault faults.ReadFault) → ending ≡ Broken faults.ReadFault
+last_broke Whole plan events told = cc
+last_broke (Broken fault) plan events told = cc
+last_broke Enough plan events told = absurd told
+last_broke Lost plan events told = absurd told
+
+lines_broke : (ending : Ending) (plan : Plan) (lines : List (List ℕ)) → LinesTell ending plan lines (notes.Fault faults.ReadFault) → ending ≡ Broken faults.ReadFault
+lines_broke ending plan lines (inl (fine, bad, first, told)) = cc
+lines_broke ending plan lines (inr (read, told)) = last_broke ending plan (event_count lines) told
+
+script_broke : (known : List ℕ → Bool) (ending : Ending) (s : Script) → ScriptTells known ending s (notes.Fault faults.ReadFault) → ending ≡ Broken faults.ReadFault
+script_broke known ending s (inl (alone, (error, reads, fault, is, told))) = absurd (stack_reads error fault is told)
+script_broke known ending s (inr (plan, reads, told)) = lines_broke ending plan s.lines told
+
+input_broke : (known : List ℕ → Bool) (ending : Ending) (script : Option Script) → InputTells known ending script (notes.Fault faults.ReadFault) → ending ≡ Broken faults.ReadFault
+input_broke known ending (Some s) told = script_broke known ending s told
+input_broke known Whole None told = absurd told
+input_broke known (Broken fault) None told = cc
+input_broke known Enough None told = absurd told
+input_broke known Lost None told = absurd told
+
+-- a check that told a read fault, or was to tell it
+pub broke_checked : (known : List ℕ → Bool) (left left' : Option (List ℕ)) (note : Note) (s : Status) (t : List Note) → WasRead left left' (λ ending script. InputTells known ending script note) → ClosedBy (status_beside note) note [] s t → note ≡ notes.Fault faults.ReadFault → WasRead left left' (λ ending script. (ending ≡ Broken faults.ReadFault) × CheckOutcomes known ending script s t)
+broke_checked known left left' note s t w c is = record {
+  ending = w.ending;
+  used = w.used;
+  read = w.read;
+  outcome = (input_broke known w.ending (script_in (is_whole w.ending) w.used) (subst (λ (n : Note). InputTells known w.ending (script_in (is_whole w.ending) w.used) n) is w.outcome), record { note = note; tells = w.outcome; closed = c });
+}
 
 -- a note is told beside no write fault
 pub is_told_beside : (note : Note) → ¬ (status_beside note ≡ statuses.WriteFault)

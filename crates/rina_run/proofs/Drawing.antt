@@ -99,5 +99,5 @@ tells_no_read n statuses.ReadFault unwritten t tower told = told
 tells_no_read n statuses.WriteFault unwritten t tower told = told
 tells_no_read n ended unwritten t tower told = fault_no_read ended t (λ h. cc) told
 
-pub gen_reads : (known : List ℕ → Bool) (n : ℕ) (shelf : List Slot) (s : Status) (t : List Note) (tower : Option Tower) (unwritten : List Note) (shelf' : List Slot) (count : ℕ) (odd : Bool) → IsGenerated known n shelf s t tower unwritten shelf' → ReadFaults s count count odd odd
-gen_reads known n shelf s t tower unwritten shelf' count odd g = reads_none s count odd (λ is. tells_no_read n g.ended unwritten t tower (subst (λ (u : Status). Tells n g.ended unwritten tower u t) is g.told))
+pub gen_reads : (B : Type 0) (known : List ℕ → Bool) (n : ℕ) (shelf : List Slot) (s : Status) (t : List Note) (tower : Option Tower) (unwritten : List Note) (shelf' : List Slot) (count : ℕ) (odd : Bool) → IsGenerated known n shelf s t tower unwritten shelf' → ReadFaults B s count count odd odd
+gen_reads B known n shelf s t tower unwritten shelf' count odd g = reads_none B s count odd (λ is. tells_no_read n g.ended unwritten t tower (subst (λ (u : Status). Tells n g.ended unwritten tower u t) is g.told))

@@ -1,6 +1,5 @@
 -- How a run ends.
-use Rattle.std.proofs.Common.{◌≡◌, ℕ, ◌+◌, List, [], ◌∷◌, ◌++◌, Option, Some, None, Ok, Err, inl, inr, refl, sym, ◌∙◌, IsSome, IfSome, Bool, slice_get, length, take, arith, subst, ap}
-use Rattle.std.proofs.Math.Seq.{take-append_seam}
+use Rattle.std.proofs.Common.{◌≡◌, ℕ, ◌+◌, List, [], ◌∷◌, ◌++◌, Option, Some, None, Ok, Err, inl, inr, refl, sym, ◌∙◌, IsSome, IfSome, Bool, slice_get, arith, subst}
 use Rattle.std.proofs.KnownBytes.{Appends-nil}
 use Rattle.std.specs.Io.KnownBytes.{Appends}
 use Rattle.rina_policy.specs.Slots.{Slot}
@@ -34,28 +33,37 @@ use Rattle.rina_tower.specs.Stands.{IsTower, kept_of}
 use Rattle.rina_tower.proofs.Owned.{rank_valid}
 use Rattle.rina_words.specs.declared.run.Run.{Run}
 use Rattle.rina_run.specs.Opening.{IsOpening}
-use Rattle.rina_run.specs.Run.{Runs, StopsAt, RanFirst, LinesRan}
+use Rattle.rina_run.specs.Run.{Runs, StopsAt, LinesRan}
 use Rattle.rina_run.specs.declared.lines.Close.TheVariants as closes
 use Rattle.rina_run.specs.Reading.{AreRead, Broken, Ending, IsFine}
 use Rattle.rina_run.specs.Script.{Script}
-use Rattle.rina_run.proofs.Playing.{all_ran}
 use Rattle.rina_words.specs.Step.{HasNames, Stage, stage}
-use Rattle.rina_run.specs.Written.{IsFront, Written}
+use Rattle.rina_run.specs.Drawn.{TellsNothing}
+use Rattle.rina_run.specs.Written.{IsLeftOut, Written}
 use Rattle.rina_run.specs.Top.{status_of, fault_of, stack_fault, PlayOutcomes, RefusedBy, ScriptOutcomes, InputOutcomes, IsOutOfMemory, IsStackAlone, ClosedBy, status_stopped, AreCut, FailedByCut, IsCutBy, KeepsAll}
 use Rattle.rina_run.proofs.Texts.{wrote_all}
 
 pub wrote_nothing : (base : Option (List ℕ)) (ns : List Note) → ns ≡ [] → Appends base base (text_of ns)
 wrote_nothing base ns h = rw h (Appends-nil base)
 
--- what was written whole is what any status needs
-pub written_any : (old new : Option (List ℕ)) (ns : List Note) (s : Status) → Appends old new (text_of ns) → Written old new (text_of ns) s
-written_any old new ns statuses.WriteFault p = wrote_all old new ns p
-written_any old new ns statuses.Memory p = wrote_all old new ns p
-written_any old new ns s p = p
+-- what was written whole is what any status but a write fault needs
+pub written_any : (old new : Option (List ℕ)) (ns : List Note) (s : Status) → ¬ (s ≡ statuses.WriteFault) → Appends old new (text_of ns) → Written old new ns s
+written_any old new ns statuses.WriteFault other p = absurd (other refl)
+written_any old new ns statuses.Memory other p = wrote_all old new ns p
+written_any old new ns s other p = p
 
-pub written_stop : (old new : Option (List ℕ)) (ns : List Note) (s : Stop) → IsFront old new (text_of ns) → Written old new (text_of ns) (status_stopped s)
-written_stop old new ns stops.Memory p = p
-written_stop old new ns stops.WriteFault p = p
+pub written_stop : (old new : Option (List ℕ)) (ns : List Note) (s : Status) (stop : Stop) → s ≡ status_stopped stop → Written old new ns (status_stopped stop) → Written old new ns s
+written_stop old new ns s stop is p = rw is p
+
+-- without memory, and without notes, nothing was written
+pub written_none : (base : Option (List ℕ)) (s : Status) (ns : List Note) → s ≡ statuses.Memory → ns ≡ [] → Written base base ns s
+written_none base s ns is none = rw (is, none) (wrote_all base base [] (Appends-nil base))
+
+pub lost_written : (base : Option (List ℕ)) (s : Status) (ns : List Note) (tower : Option Tower) → IsOutOfMemory s ns tower → Written base base ns s
+lost_written base s ns tower m = written_none base s ns m.memory m.notes
+
+pub untold_written : (base : Option (List ℕ)) (s : Status) (ns : List Note) → TellsNothing s ns → Written base base ns s
+untold_written base s ns t = written_none base s ns t.memory t.none
 
 pub closed_ok : (s : Status) (note : Note) (old new : List Note) → new ≡ old ++ note ∷ [] → ClosedBy s note old s new
 closed_ok statuses.WriteFault note old new p = p
@@ -68,32 +76,27 @@ refused_as fault s t c = c
 pub refused_from : (fault : Fault) (s : Status) (t : List Note) → ClosedBy (status_of fault) (notes.Fault fault) [] s t → RefusedBy fault s t
 refused_from fault s t c = c
 
-stop_first : (plan : Plan) (w : Stage) (lines : List (List ℕ)) (bad : BadLine) (told : List Note) (u : Stage) → StopsAt plan w lines bad told u → RanFirst plan w lines told u
-stop_first plan w lines bad told u stops =
-    let front : take (length stops.before) lines ≡ stops.before = ap (take (length stops.before)) stops.are ∙ take-append_seam stops.before (stops.line ∷ []) in
-    record { count = length stops.before; runs = rw front stops.runs }
-
 -- all lines were run, and the run was closed
 pub done_from : (plan : Plan) (ending : Ending) (lines : List (List ℕ)) (start : Stage) (told t : List Note) (u : Stage) (tower : Option Tower) (shelf' : List Slot) (s : Status) → LinesRan plan start ending lines told u (Ok closes.End) → tower ≡ Some u.run.tower → shelf' ≡ u.shelf → HasNames start.shelf shelf' → ClosedBy statuses.Done (notes.End (now_of u.run.tower)) told s t → PlayOutcomes plan ending lines start s t tower shelf'
 done_from plan ending lines start told t u tower shelf' statuses.Done ran left after names c = (ran.0, record { told = told; reached = u; ran = ran.1; notes = c.1; left = left; shelf = after })
 done_from plan ending lines start told t u tower shelf' statuses.WriteFault ran left after names c = record { reached = u; stopped = inr (inl (rw ran.0 (record { told = told; ran = ran.1; notes = c }))); left = left; after = after }
-done_from plan ending lines start told t u tower shelf' statuses.Memory ran left after names (inl c) = (u, inl (rw c (all_ran plan start lines told u ran.1)), names)
-done_from plan ending lines start told t u tower shelf' statuses.Memory ran left after names (inr c) = (u, inr (inl (rw ran.0 (record { told = told; ran = ran.1; notes = c }))), names)
+done_from plan ending lines start told t u tower shelf' statuses.Memory ran left after names (inl c) = inr (record { reached = u; stopped = inl (rw c ran.1); left = left; after = after })
+done_from plan ending lines start told t u tower shelf' statuses.Memory ran left after names (inr c) = inr (record { reached = u; stopped = inr (inr (inl (rw ran.0 (record { told = told; ran = ran.1; notes = c })))); left = left; after = after })
 done_from plan ending lines start told t u tower shelf' s ran left after names c = cc
 
 -- all lines were run, and the fault that reading broke off with was told
 read_fault_from : (plan : Plan) (ending : Ending) (lines : List (List ℕ)) (start : Stage) (told t : List Note) (u : Stage) (tower : Option Tower) (shelf' : List Slot) (s : Status) → ending ≡ Broken faults.ReadFault → Runs plan 1 start lines told u → tower ≡ Some u.run.tower → shelf' ≡ u.shelf → HasNames start.shelf shelf' → ClosedBy statuses.ReadFault (notes.Fault faults.ReadFault) told s t → PlayOutcomes plan ending lines start s t tower shelf'
 read_fault_from plan ending lines start told t u tower shelf' statuses.ReadFault is runs left after names c = (is, record { told = told; reached = u; ran = runs; notes = c.1; left = left; shelf = after })
 read_fault_from plan ending lines start told t u tower shelf' statuses.WriteFault is runs left after names c = record { reached = u; stopped = inr (inl (rw is (record { told = told; ran = runs; notes = c }))); left = left; after = after }
-read_fault_from plan ending lines start told t u tower shelf' statuses.Memory is runs left after names (inl c) = (u, inl (rw c (all_ran plan start lines told u runs)), names)
-read_fault_from plan ending lines start told t u tower shelf' statuses.Memory is runs left after names (inr c) = (u, inr (inl (rw is (record { told = told; ran = runs; notes = c }))), names)
+read_fault_from plan ending lines start told t u tower shelf' statuses.Memory is runs left after names (inl c) = inr (record { reached = u; stopped = inl (rw c runs); left = left; after = after })
+read_fault_from plan ending lines start told t u tower shelf' statuses.Memory is runs left after names (inr c) = inr (record { reached = u; stopped = inr (inr (inl (rw is (record { told = told; ran = runs; notes = c })))); left = left; after = after })
 read_fault_from plan ending lines start told t u tower shelf' s is runs left after names c = cc
 
 too_large_from : (plan : Plan) (ending : Ending) (lines : List (List ℕ)) (start : Stage) (told t : List Note) (u : Stage) (tower : Option Tower) (shelf' : List Slot) (s : Status) → ending ≡ Broken faults.TooLarge → Runs plan 1 start lines told u → tower ≡ Some u.run.tower → shelf' ≡ u.shelf → HasNames start.shelf shelf' → ClosedBy statuses.TooLarge (notes.Fault faults.TooLarge) told s t → PlayOutcomes plan ending lines start s t tower shelf'
 too_large_from plan ending lines start told t u tower shelf' statuses.TooLarge is runs left after names c = (is, record { told = told; reached = u; ran = runs; notes = c.1; left = left; shelf = after })
 too_large_from plan ending lines start told t u tower shelf' statuses.WriteFault is runs left after names c = record { reached = u; stopped = inr (inl (rw is (record { told = told; ran = runs; notes = c }))); left = left; after = after }
-too_large_from plan ending lines start told t u tower shelf' statuses.Memory is runs left after names (inl c) = (u, inl (rw c (all_ran plan start lines told u runs)), names)
-too_large_from plan ending lines start told t u tower shelf' statuses.Memory is runs left after names (inr c) = (u, inr (inl (rw is (record { told = told; ran = runs; notes = c }))), names)
+too_large_from plan ending lines start told t u tower shelf' statuses.Memory is runs left after names (inl c) = inr (record { reached = u; stopped = inl (rw c runs); left = left; after = after })
+too_large_from plan ending lines start told t u tower shelf' statuses.Memory is runs left after names (inr c) = inr (record { reached = u; stopped = inr (inr (inl (rw is (record { told = told; ran = runs; notes = c })))); left = left; after = after })
 too_large_from plan ending lines start told t u tower shelf' s is runs left after names c = cc
 
 -- reading breaks off by no other fault
@@ -116,8 +119,8 @@ ended_from plan ending lines all left0 left' start told t u tower shelf' s fault
 bad_closed : (plan : Plan) (ending : Ending) (lines : List (List ℕ)) (start : Stage) (told t : List Note) (u : Stage) (tower : Option Tower) (shelf' : List Slot) (s : Status) (bad : BadLine) (line n field : ℕ) → fault_of bad ≡ faults.Schedule line n field → IsFine ending → StopsAt plan start lines bad told u → tower ≡ Some u.run.tower → shelf' ≡ u.shelf → HasNames start.shelf shelf' → ClosedBy (statuses.Schedule line n field) (notes.Fault (fault_of bad)) told s t → PlayOutcomes plan ending lines start s t tower shelf'
 bad_closed plan ending lines start told t u tower shelf' (statuses.Schedule l m f) bad line n field is fine stops left after names c = (fine, bad, is ∙ cc, record { told = told; reached = u; ran = stops; notes = c.1; left = left; shelf = after })
 bad_closed plan ending lines start told t u tower shelf' statuses.WriteFault bad line n field is fine stops left after names c = record { reached = u; stopped = inr (inr (record { fine = fine; bad = bad; closed = record { told = told; ran = stops; notes = c } })); left = left; after = after }
-bad_closed plan ending lines start told t u tower shelf' statuses.Memory bad line n field is fine stops left after names (inl c) = (u, inl (rw c (stop_first plan start lines bad told u stops)), names)
-bad_closed plan ending lines start told t u tower shelf' statuses.Memory bad line n field is fine stops left after names (inr c) = (u, inr (inr (record { fine = fine; bad = bad; closed = record { told = told; ran = stops; notes = c } })), names)
+bad_closed plan ending lines start told t u tower shelf' statuses.Memory bad line n field is fine stops left after names (inl c) = inr (record { reached = u; stopped = inr (inl (fine, bad, rw c stops)); left = left; after = after })
+bad_closed plan ending lines start told t u tower shelf' statuses.Memory bad line n field is fine stops left after names (inr c) = inr (record { reached = u; stopped = inr (inr (inr (record { fine = fine; bad = bad; closed = record { told = told; ran = stops; notes = c } }))); left = left; after = after })
 bad_closed plan ending lines start told t u tower shelf' s bad line n field is fine stops left after names c = cc
 
 pub bad_from : (plan : Plan) (ending : Ending) (lines : List (List ℕ)) (start : Stage) (told t : List Note) (u : Stage) (tower : Option Tower) (shelf' : List Slot) (s : Status) (bad : BadLine) → LinesRan plan start ending lines told u (Ok (closes.Bad bad)) → tower ≡ Some u.run.tower → shelf' ≡ u.shelf → HasNames start.shelf shelf' → ClosedBy (status_of (fault_of bad)) (notes.Fault (fault_of bad)) told s t → PlayOutcomes plan ending lines start s t tower shelf'
@@ -126,7 +129,7 @@ bad_from plan ending lines start told t u tower shelf' s bad ran left after name
 
 -- the run was stopped
 pub stop_from : (plan : Plan) (ending : Ending) (lines : List (List ℕ)) (start : Stage) (t : List Note) (u : Stage) (tower : Option Tower) (shelf' : List Slot) (stop : Stop) → LinesRan plan start ending lines t u (Err stop) → tower ≡ Some u.run.tower → shelf' ≡ u.shelf → HasNames start.shelf shelf' → PlayOutcomes plan ending lines start (status_stopped stop) t tower shelf'
-stop_from plan ending lines start t u tower shelf' stops.Memory ran left after names = (ran.0, inl ran.1, names)
+stop_from plan ending lines start t u tower shelf' stops.Memory ran left after names = inl (record { unbroken = ran.0; reached = ran.1; first = ran.2; names = names })
 stop_from plan ending lines start t u tower shelf' stops.WriteFault ran left after names = record { reached = u; stopped = inl ran; left = left; after = after }
 
 -- a stack that is no TOML, or breaks a rule
@@ -159,7 +162,8 @@ is_told (faults.StackRule n item) h = cc
 is_told (faults.Schedule line n field) h = cc
 is_told faults.ReadFault h = cc
 
-pub front_same : (base took : Option (List ℕ)) (old new : List Note) → new ≡ old → Appends base took (text_of old) → IsFront base took (text_of new)
+-- the trace stayed as it was, and all of it was written
+pub front_same : (base took : Option (List ℕ)) (old new : List Note) → new ≡ old → Appends base took (text_of old) → IsLeftOut base took new
 front_same base took old new is p = rw is (wrote_all base took old p)
 
 -- the outcome of a run that is refused before its first line

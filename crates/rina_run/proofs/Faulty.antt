@@ -1,5 +1,5 @@
 -- The faults of reading and of writing, by the status.
-use Rattle.std.proofs.Common.{◌≡◌, ℕ, Bool, List, [], Option, ◌⊎◌, inl, inr, refl, sym, subst}
+use Rattle.std.proofs.Common.{◌≡◌, ℕ, Bool, List, [], Option, ◌⊎◌, inl, inr, refl, sym, ap, subst}
 use Rattle.rina_report.specs.declared.note.Fault.{Fault}
 use Rattle.rina_report.specs.declared.note.Fault.TheVariants as faults
 use Rattle.rina_report.specs.declared.note.Note.{Note}
@@ -27,50 +27,65 @@ then_by s before mid now odd odd1 odd' same steady w = rw (sym same, sym steady)
 -- Reading
 
 -- the same where no read failed
-pub reads_then : (s : Status) (before mid now : ℕ) (odd odd1 odd' : Bool) → mid ≡ before → odd1 ≡ odd → ReadFaults s mid now odd1 odd' → ReadFaults s before now odd odd'
-reads_then s before mid now odd odd1 odd' same steady r = rw (sym same, sym steady) r
+pub reads_then : (B : Type 0) (s : Status) (before mid now : ℕ) (odd odd1 odd' : Bool) → mid ≡ before → odd1 ≡ odd → ReadFaults B s mid now odd1 odd' → ReadFaults B s before now odd odd'
+reads_then B s before mid now odd odd1 odd' same steady r = rw (sym same, sym steady) r
+
+-- the same, where it is told in other words that reading broke off
+in_words : (A B N M : Type 0) → (A → B) → N ⊎ (M × A) → N ⊎ (M × B)
+in_words A B N M f (inl none) = inl none
+in_words A B N M f (inr one) = inr (one.0, f one.1)
+
+pub reads_as : (A B : Type 0) (s : Status) (before now : ℕ) (odd odd' : Bool) → (A → B) → ReadFaults A s before now odd odd' → ReadFaults B s before now odd odd'
+reads_as A B statuses.WriteFault before now odd odd' f r = in_words A B _ _ f r
+reads_as A B statuses.Memory before now odd odd' f r = in_words A B _ _ f r
+reads_as A B statuses.ReadFault before now odd odd' f r = r
+reads_as A B s before now odd odd' f r = r
 
 -- no read failed, and the status tells no read fault
-pub reads_none : (s : Status) (count : ℕ) (odd : Bool) → ¬ (s ≡ statuses.ReadFault) → ReadFaults s count count odd odd
-reads_none statuses.ReadFault count odd other = absurd (other refl)
-reads_none statuses.WriteFault count odd other = inl (refl, refl)
-reads_none statuses.Memory count odd other = inl (refl, refl)
-reads_none s count odd other = (refl, refl)
+pub reads_none : (B : Type 0) (s : Status) (count : ℕ) (odd : Bool) → ¬ (s ≡ statuses.ReadFault) → ReadFaults B s count count odd odd
+reads_none B statuses.ReadFault count odd other = absurd (other refl)
+reads_none B statuses.WriteFault count odd other = inl (refl, refl)
+reads_none B statuses.Memory count odd other = inl (refl, refl)
+reads_none B s count odd other = (refl, refl)
 
 -- a run that was stopped, or in which nothing was done
-pub reads_stop : (stop : Stop) (before now : ℕ) (odd odd' : Bool) → now ≡ before → odd' ≡ odd → ReadFaults (status_stopped stop) before now odd odd'
-reads_stop stops.Memory before now odd odd' same steady = inl (same, steady)
-reads_stop stops.WriteFault before now odd odd' same steady = inl (same, steady)
+pub reads_stop : (B : Type 0) (stop : Stop) (before now : ℕ) (odd odd' : Bool) → now ≡ before → odd' ≡ odd → ReadFaults B (status_stopped stop) before now odd odd'
+reads_stop B stops.Memory before now odd odd' same steady = inl (same, steady)
+reads_stop B stops.WriteFault before now odd odd' same steady = inl (same, steady)
 
-pub reads_lost : (s : Status) (t : List Note) (tower : Option Tower) (before now : ℕ) (odd odd' : Bool) → IsOutOfMemory s t tower → now ≡ before → odd' ≡ odd → ReadFaults s before now odd odd'
-reads_lost s t tower before now odd odd' m same steady = rw m.memory (inl (same, steady))
+pub reads_lost : (B : Type 0) (s : Status) (t : List Note) (tower : Option Tower) (before now : ℕ) (odd odd' : Bool) → IsOutOfMemory s t tower → now ≡ before → odd' ≡ odd → ReadFaults B s before now odd odd'
+reads_lost B s t tower before now odd odd' m same steady = rw m.memory (inl (same, steady))
 
 -- a run that ended by a fault: one read failed where that is a read fault, and else none
-some_break : (fault : Fault) (before now : ℕ) (odd odd' : Bool) → BreakFaults fault before now odd odd' → IsNoneMore before now odd odd' ⊎ IsOneMore before now odd odd'
-some_break faults.ReadFault before now odd odd' b = inr b
-some_break fault before now odd odd' b = inl b
+some_break : (B : Type 0) (fault : Fault) (before now : ℕ) (odd odd' : Bool) → BreakFaults fault before now odd odd' → (fault ≡ faults.ReadFault → B) → IsNoneMore before now odd odd' ⊎ (IsOneMore before now odd odd' × B)
+some_break B faults.ReadFault before now odd odd' b broke = inr (b, broke refl)
+some_break B fault before now odd odd' b broke = inl b
 
-pub reads_by : (fault : Fault) (s : Status) (note : Note) (old t : List Note) (before now : ℕ) (odd odd' : Bool) → ClosedBy (status_of fault) note old s t → BreakFaults fault before now odd odd' → ReadFaults s before now odd odd'
-reads_by fault statuses.WriteFault note old t before now odd odd' c b = some_break fault before now odd odd' b
-reads_by fault statuses.Memory note old t before now odd odd' c b = some_break fault before now odd odd' b
-reads_by faults.ReadFault statuses.ReadFault note old t before now odd odd' c b = b
-reads_by faults.ReadFault s note old t before now odd odd' c b = cc
-reads_by fault statuses.ReadFault note old t before now odd odd' c b = cc
-reads_by fault s note old t before now odd odd' c b = b
+pub reads_by : (B : Type 0) (fault : Fault) (s : Status) (note : Note) (old t : List Note) (before now : ℕ) (odd odd' : Bool) → ClosedBy (status_of fault) note old s t → BreakFaults fault before now odd odd' → (fault ≡ faults.ReadFault → B) → ReadFaults B s before now odd odd'
+reads_by B fault statuses.WriteFault note old t before now odd odd' c b broke = some_break B fault before now odd odd' b broke
+reads_by B fault statuses.Memory note old t before now odd odd' c b broke = some_break B fault before now odd odd' b broke
+reads_by B faults.ReadFault statuses.ReadFault note old t before now odd odd' c b broke = b
+reads_by B faults.ReadFault s note old t before now odd odd' c b broke = cc
+reads_by B fault statuses.ReadFault note old t before now odd odd' c b broke = cc
+reads_by B fault s note old t before now odd odd' c b broke = b
+
+-- a fault that is no read fault
+pub no_break : {B : Type 0} (fault : Fault) → ¬ (status_of fault ≡ statuses.ReadFault) → fault ≡ faults.ReadFault → B
+no_break fault other is = absurd (other (ap status_of is))
 
 -- a run that was done
-pub reads_end : (s : Status) (note : Note) (old t : List Note) (before now : ℕ) (odd odd' : Bool) → ClosedBy statuses.Done note old s t → IsNoneMore before now odd odd' → ReadFaults s before now odd odd'
-reads_end statuses.WriteFault note old t before now odd odd' c none = inl none
-reads_end statuses.Memory note old t before now odd odd' c none = inl none
-reads_end statuses.ReadFault note old t before now odd odd' c none = cc
-reads_end s note old t before now odd odd' c none = none
+pub reads_end : (B : Type 0) (s : Status) (note : Note) (old t : List Note) (before now : ℕ) (odd odd' : Bool) → ClosedBy statuses.Done note old s t → IsNoneMore before now odd odd' → ReadFaults B s before now odd odd'
+reads_end B statuses.WriteFault note old t before now odd odd' c none = inl none
+reads_end B statuses.Memory note old t before now odd odd' c none = inl none
+reads_end B statuses.ReadFault note old t before now odd odd' c none = cc
+reads_end B s note old t before now odd odd' c none = none
 
 -- commands that read nothing
-pub usage_reads : (word : ℕ) (s : Status) (t : List Note) (count : ℕ) (odd : Bool) → RefusedBy (faults.Usage word) s t → ReadFaults s count count odd odd
-usage_reads word s t count odd c = reads_by (faults.Usage word) s (notes.Fault (faults.Usage word)) [] t count count odd odd c (refl, refl)
+pub usage_reads : (B : Type 0) (word : ℕ) (s : Status) (t : List Note) (count : ℕ) (odd : Bool) → RefusedBy (faults.Usage word) s t → ReadFaults B s count count odd odd
+usage_reads B word s t count odd c = reads_by B (faults.Usage word) s (notes.Fault (faults.Usage word)) [] t count count odd odd c (refl, refl) (no_break (faults.Usage word) (λ h. cc))
 
 shows_no_fault : (t : List Note) (tower : Option Tower) → IsShown statuses.ReadFault t tower → ⊥
 shows_no_fault t tower shown = shown.ends
 
-pub show_reads : (s : Status) (t : List Note) (tower : Option Tower) (count : ℕ) (odd : Bool) → IsShown s t tower → ReadFaults s count count odd odd
-show_reads s t tower count odd shown = reads_none s count odd (λ is. shows_no_fault t tower (subst (λ (u : Status). IsShown u t tower) is shown))
+pub show_reads : (B : Type 0) (s : Status) (t : List Note) (tower : Option Tower) (count : ℕ) (odd : Bool) → IsShown s t tower → ReadFaults B s count count odd odd
+show_reads B s t tower count odd shown = reads_none B s count odd (λ is. shows_no_fault t tower (subst (λ (u : Status). IsShown u t tower) is shown))

@@ -1,7 +1,8 @@
 pub mod InputLines
 pub mod Texts
 pub mod ReadOn
-pub mod Playing
+pub mod Pieces
+mod Playing
 pub mod Ending
 pub mod Faulty
 pub mod Checks

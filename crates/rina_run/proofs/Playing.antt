@@ -1,5 +1,5 @@
 -- Lines that are run one after the other.
-use Rattle.std.proofs.Common.{◌≡◌, ℕ, ◌+◌, List, [], ◌∷◌, ◌++◌, length, map, take, length-append, Option, Err, ◌⊎◌, inl, inr, refl, sym, ap, ◌∙◌, arith, append_assoc, add-zero, subst}
+use Rattle.std.proofs.Common.{◌≡◌, ℕ, ◌+◌, ◌≤◌, List, [], ◌∷◌, ◌++◌, length, map, take, length-append, Option, Err, ◌⊎◌, inl, inr, refl, sym, ap, ◌∙◌, arith, append_assoc, add-zero, subst}
 use Rattle.std.proofs.lemmas.List.{append-nil, length-map, map-append, take_all}
 use Rattle.std.proofs.Math.Seq.{take-append_seam}
 use Rattle.bstr.specs.Text.{without_terminator}
@@ -12,7 +12,7 @@ use Rattle.rina_words.specs.Built.{event_at}
 use Rattle.rina_notes.specs.Look.{Leads, Extends}
 use Rattle.rina_words.specs.Step.{Stage}
 use Rattle.rina_io.specs.Reader.{Reader}
-use Rattle.rina_run.specs.Reading.{Ending, IsFine}
+use Rattle.rina_run.specs.Reading.{Broken, Ending, Enough, IsFine, IsUnbroken, Lost, Whole}
 use Rattle.rina_run.specs.Run.{LineDoes, LineRan, LinesRan, IsBad, RanFirst, Runs, StopsAt}
 use Rattle.rina_run.proofs.ReadOn.{ReadSoFar, none_so_far}
 
@@ -25,7 +25,7 @@ front_of P old new p = rw p.trace (take-append_seam old p.notes)
 
 -- all lines were run
 pub all_ran : (plan : Plan) (w : Stage) (lines : List (List ℕ)) (told : List Note) (u : Stage) → Runs plan 1 w lines told u → RanFirst plan w lines told u
-all_ran plan w lines told u runs = record { count = length lines; runs = rw (take_all (length lines) lines (omega arith)) runs }
+all_ran plan w lines told u runs = record { count = length lines; most = omega arith; runs = rw (take_all (length lines) lines (omega arith)) runs }
 
 -- the line of this number follows those that were run
 runs_more : (plan : Plan) (number : ℕ) (w u v : Stage) (ls : List (List ℕ)) (l : List ℕ) (ns more : List Note) → Runs plan number w ls ns u → LineDoes plan (number + length ls) (event_at l) u more v → Runs plan number w (ls ++ l ∷ []) (ns ++ more) v
@@ -86,12 +86,21 @@ stops_at plan w u v ls line text number e ns after number_is text_is runs bad = 
 memory_in : (plan : Plan) (w u v : Stage) (ls : List (List ℕ)) (line text : List ℕ) (number : ℕ) (ns after : List Note) → number ≡ length ls → text ≡ without_terminator line → Runs plan 1 w (texts_of ls) ns u → (after ≡ ns) ⊎ Leads (λ ms. LineDoes plan (number + 1) (event_at text) u ms v) ns after → (reached : Stage) × RanFirst plan w (texts_of (ls ++ line ∷ [])) after reached
 memory_in plan w u v ls line text number ns after number_is text_is runs (inl same) =
     let front : take (length (texts_of ls)) (texts_of (ls ++ line ∷ [])) ≡ texts_of ls = ap (take (length (texts_of ls))) (texts_more ls line) ∙ take-append_seam (texts_of ls) (without_terminator line ∷ []) in
-    (u, record { count = length (texts_of ls); runs = rw (same, front) runs })
+    let most : length (texts_of (ls ++ line ∷ [])) ≤ length (texts_of ls) + 1 = omega (arith, ap length (texts_more ls line), length-append (texts_of ls) (without_terminator line ∷ [])) in
+    (u, record { count = length (texts_of ls); most = most; runs = rw (same, front) runs })
 memory_in plan w u v ls line text number ns after number_is text_is runs (inr leads) = (v, all_ran plan w (texts_of (ls ++ line ∷ [])) after v (runs_line plan w u v ls line text number ns after number_is text_is runs leads))
+
+unbroken : (ending : Ending) → IsFine ending → IsUnbroken ending
+unbroken Whole fine = tt
+unbroken Enough fine = tt
+unbroken (Broken fault) fine = fine
+unbroken Lost fine = absurd fine
 
 -- the run stopped in the next line
 pub stopped_in : (plan : Plan) (w u v : Stage) (ls : List (List ℕ)) (line text : List ℕ) (number : ℕ) (ns after : List Note) (e : Stop) (ending : Ending) → number ≡ length ls → text ≡ without_terminator line → Runs plan 1 w (texts_of ls) ns u → LineRan plan (number + 1) text u ns v after (Err e) → IsFine ending → LinesRan plan w ending (texts_of (ls ++ line ∷ [])) after v (Err e)
-stopped_in plan w u v ls line text number ns after stops.Memory ending number_is text_is runs ran fine = memory_in plan w u v ls line text number ns after number_is text_is runs ran
+stopped_in plan w u v ls line text number ns after stops.Memory ending number_is text_is runs ran fine =
+    let m = memory_in plan w u v ls line text number ns after number_is text_is runs ran in
+    (unbroken ending fine, m.0, m.1)
 stopped_in plan w u v ls line text number ns after stops.WriteFault ending number_is text_is runs ran fine = (fine, runs_line plan w u v ls line text number ns after number_is text_is runs ran)
 
 pub front_push : (old new : List Note) (note : Note) → new ≡ old ++ note ∷ [] → take (length old) new ≡ old

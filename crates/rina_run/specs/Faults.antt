@@ -33,12 +33,12 @@ WriteFaults statuses.WriteFault before now odd odd' = IsOneMore before now odd o
 WriteFaults status before now odd odd' = IsNoneMore before now odd odd'
 
 -- What a run does to the faults of reading, by its status: one read failed where that tells a read fault, and else none. Only where a write or an allocation
--- failed may one read have failed before it, since then the read fault was still to be told.
-abbrev pub ReadFaults : Status → ℕ → ℕ → Bool → Bool → Type 0
-ReadFaults statuses.ReadFault before now odd odd' = IsOneMore before now odd odd'
-ReadFaults statuses.WriteFault before now odd odd' = IsNoneMore before now odd odd' ⊎ IsOneMore before now odd odd'
-ReadFaults statuses.Memory before now odd odd' = IsNoneMore before now odd odd' ⊎ IsOneMore before now odd odd'
-ReadFaults status before now odd odd' = IsNoneMore before now odd odd'
+-- failed may one read have failed before it, and then the outcome is that of an input whose reading broke off so: the read fault was still to be told.
+abbrev pub ReadFaults : Type 0 → Status → ℕ → ℕ → Bool → Bool → Type 0
+ReadFaults Broke statuses.ReadFault before now odd odd' = IsOneMore before now odd odd'
+ReadFaults Broke statuses.WriteFault before now odd odd' = IsNoneMore before now odd odd' ⊎ (IsOneMore before now odd odd' × Broke)
+ReadFaults Broke statuses.Memory before now odd odd' = IsNoneMore before now odd odd' ⊎ (IsOneMore before now odd odd' × Broke)
+ReadFaults Broke status before now odd odd' = IsNoneMore before now odd odd'
 
 -- the same of a part of a run, which is done, or stops
 abbrev pub StopFaults : {T : Type 0} → Result T Stop → ℕ → ℕ → Bool → Bool → Type 0

@@ -5,7 +5,6 @@ use Rattle.rina_gen.specs.Text.{input_text}
 use Rattle.rina_policy.specs.Slots.{Slot}
 use Rattle.rina_report.specs.declared.note.Note.{Note}
 use Rattle.rina_report.specs.declared.note.Fault.TheVariants as faults
-use Rattle.rina_report.specs.Notes.{text_of}
 use Rattle.rina_tower.specs.declared.tower.Tower.{Tower}
 use Rattle.rina_run.specs.declared.command.Command.{Command}
 use Rattle.rina_run.specs.declared.command.Command.TheVariants as commands
@@ -13,12 +12,14 @@ use Rattle.rina_run.specs.declared.outcome.Status.{Status}
 use Rattle.rina_run.specs.declared.outcome.Status.TheVariants as statuses
 use Rattle.rina_run.specs.Check.{CheckOutcomes}
 use Rattle.rina_run.specs.Drawn.{Tells}
+use Rattle.rina_run.specs.Reading.{Broken}
 use Rattle.rina_run.specs.Top.{InputOutcomes, IsOutOfMemory, RefusedBy, WasRead}
+use Rattle.rina_run.specs.Written.{Written, WrittenText}
 
--- the text that a command writes: that of its notes, and for `show` the input that is drawn from the number
-abbrev pub text_written : Result Command ℕ → List Note → List ℕ
-text_written (Ok (commands.Show n)) trace = input_text (input n)
-text_written command trace = text_of trace
+-- what a command wrote: the text of its notes, and `show` the input that is drawn from the number
+abbrev pub WrittenBy : Result Command ℕ → Option (List ℕ) → Option (List ℕ) → List Note → Status → Type 0
+WrittenBy (Ok (commands.Show n)) old new trace status = WrittenText old new (input_text (input n)) status
+WrittenBy command old new trace status = Written old new trace status
 
 -- the outcome of `run`
 abbrev pub IsRan : (List ℕ → Bool) → Option (List ℕ) → Option (List ℕ) → List Slot → Status → List Note → Option Tower → List Slot → Type 0
@@ -48,6 +49,12 @@ pub record IsGenerated (known : List ℕ → Bool) (n : ℕ) (shelf : List Slot)
   pub left : Option (List ℕ)
   pub ran : IsRan known (Some (input_text (input n))) left shelf ended unwritten tower shelf'
   pub told : Tells n ended unwritten tower status trace
+
+-- a read failed, and the outcome of `run`, or of `check`, is that of an input whose reading broke off so; no other command reads anything
+abbrev pub IsBrokenOff : (List ℕ → Bool) → Result Command ℕ → Option (List ℕ) → Option (List ℕ) → List Slot → Status → List Note → Option Tower → List Slot → Type 0
+IsBrokenOff known (Ok commands.Run) left left' shelf status trace tower shelf' = WasRead left left' (λ ending script. (ending ≡ Broken faults.ReadFault) × InputOutcomes known ending script shelf status trace tower shelf')
+IsBrokenOff known (Ok commands.Check) left left' shelf status trace tower shelf' = WasRead left left' (λ ending script. (ending ≡ Broken faults.ReadFault) × CheckOutcomes known ending script status trace)
+IsBrokenOff known command left left' shelf status trace tower shelf' = ⊥
 
 -- the outcome of a run, by the words of the command line, by what was read, and by the shelf that was handed in; a place is that of
 -- the word which can't stand there, and is told before anything is read

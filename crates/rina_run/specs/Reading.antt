@@ -35,6 +35,11 @@ IsFine (Broken fault) = ⊥
 IsFine Enough = Unit {0}
 IsFine Lost = ⊥
 
+-- reading was not broken off by a fault
+abbrev pub IsUnbroken : Ending → Type 0
+IsUnbroken (Broken fault) = ⊥
+IsUnbroken ending = Unit {0}
+
 abbrev pub joined : List (List ℕ) → List ℕ
 joined lines = flat_map (λ l. l) lines
 

@@ -1,5 +1,5 @@
 -- A run: the lines of a schedule one after the other, from a tower that was just built.
-use Rattle.std.specs.Prelude.{◌≡◌, ℕ, ◌+◌, List, [], ◌∷◌, ◌++◌, length, take, Option, Some, None, Result, Ok, Err, ◌⊎◌}
+use Rattle.std.specs.Prelude.{◌≡◌, ℕ, ◌+◌, ◌≤◌, List, [], ◌∷◌, ◌++◌, length, take, Option, Some, None, Result, Ok, Err, ◌⊎◌}
 use Rattle.rina_report.specs.declared.note.Note.{Note}
 use Rattle.rina_schedule.specs.declared.error.LineError.{LineError}
 use Rattle.rina_schedule.specs.declared.event.Event.{Event}
@@ -10,7 +10,7 @@ use Rattle.rina_run.specs.declared.output.Stop.TheVariants as stops
 use Rattle.rina_run.specs.declared.lines.BadLine.{BadLine}
 use Rattle.rina_run.specs.declared.lines.Close.{Close}
 use Rattle.rina_run.specs.declared.lines.Close.TheVariants as closes
-use Rattle.rina_run.specs.Reading.{Broken, Ending, IsFine, Whole}
+use Rattle.rina_run.specs.Reading.{Broken, Ending, IsFine, IsUnbroken, Whole}
 use Rattle.rina_notes.specs.Look.{Leads}
 use Rattle.rina_words.specs.Step.{Stage, Steps}
 
@@ -44,9 +44,10 @@ LineRan plan number line s old s' new (Ok None) = Leads (λ ns. LineDoes plan nu
 LineRan plan number line s old s' new (Err stops.Memory) = (new ≡ old) ⊎ Leads (λ ns. LineDoes plan number (event_at line) s ns s') old new
 LineRan plan number line s old s' new (Err stops.WriteFault) = Leads (λ ns. LineDoes plan number (event_at line) s ns s') old new
 
--- the first lines were run, each with all of its notes
+-- all lines were run, or all but the last, each with all of its notes
 pub record RanFirst (plan : Plan) (s : Stage) (lines : List (List ℕ)) (trace : List Note) (s' : Stage) : Type 0 where
   pub count : ℕ
+  pub most : length lines ≤ count + 1
   pub runs : Runs plan 1 s (take count lines) trace s'
 
 -- the last of the lines is outside the grammar, and those before it were run
@@ -58,10 +59,10 @@ pub record StopsAt (plan : Plan) (s : Stage) (lines : List (List ℕ)) (bad : Ba
   pub read : event_at line ≡ Err bad.error
   pub runs : Runs plan 1 s before trace s'
 
--- what is known after lines were run, by how reading them ended; a line that ends the run is the last that was read
+-- what is known after lines were run, by how reading them ended; a line that ends the run is the last that was read; memory ran out in a line, or for reading the next one
 abbrev pub LinesRan : Plan → Stage → Ending → List (List ℕ) → List Note → Stage → Result Close Stop → Type 0
 LinesRan plan s ending lines trace s' (Ok closes.End) = (ending ≡ Whole) × Runs plan 1 s lines trace s'
 LinesRan plan s ending lines trace s' (Ok (closes.Broken fault)) = (ending ≡ Broken fault) × Runs plan 1 s lines trace s'
 LinesRan plan s ending lines trace s' (Ok (closes.Bad bad)) = IsFine ending × StopsAt plan s lines bad trace s'
-LinesRan plan s ending lines trace s' (Err stops.Memory) = (reached : Stage) × RanFirst plan s lines trace reached
+LinesRan plan s ending lines trace s' (Err stops.Memory) = IsUnbroken ending × (reached : Stage) × RanFirst plan s lines trace reached
 LinesRan plan s ending lines trace s' (Err stops.WriteFault) = IsFine ending × Runs plan 1 s lines trace s'

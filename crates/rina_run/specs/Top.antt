@@ -25,7 +25,7 @@ use Rattle.rina_run.specs.declared.outcome.Status.{Status}
 use Rattle.rina_run.specs.declared.outcome.Status.TheVariants as statuses
 use Rattle.rina_run.specs.Opening.{IsOpening}
 use Rattle.rina_run.specs.Run.{Runs, StopsAt, RanFirst}
-use Rattle.rina_run.specs.Reading.{Broken, Ending, IsFine, IsReadTo, Whole, is_whole}
+use Rattle.rina_run.specs.Reading.{Broken, Ending, IsFine, IsReadTo, IsUnbroken, Whole, is_whole}
 use Rattle.rina_run.specs.Script.{Script, script_in}
 use Rattle.rina_words.specs.Step.{HasNames, Stage}
 
@@ -77,26 +77,34 @@ pub record IsClosedBad (plan : Plan) (ending : Ending) (lines : List (List ℕ))
 abbrev pub IsStopped : Plan → Ending → List (List ℕ) → Stage → List Note → Stage → Type 0
 IsStopped plan ending lines start trace reached = (IsFine ending × Runs plan 1 start lines trace reached) ⊎ (IsClosedAll plan ending lines start trace reached ⊎ IsClosedBad plan ending lines start trace reached)
 
--- the notes of a run without memory: those of its first lines, each with all of its notes; or it was stopped at its close
-abbrev pub IsShort : Plan → Ending → List (List ℕ) → Stage → List Note → Stage → Type 0
-IsShort plan ending lines start trace reached = RanFirst plan start lines trace reached ⊎ (IsClosedAll plan ending lines start trace reached ⊎ IsClosedBad plan ending lines start trace reached)
+-- the lines are run, all or those before the one that is outside the grammar, and the closing note is told, or is still to be told
+abbrev pub IsAtClose : Plan → Ending → List (List ℕ) → Stage → List Note → Stage → Type 0
+IsAtClose plan ending lines start trace reached =
+    Runs plan 1 start lines trace reached ⊎ ((IsFine ending × (bad : BadLine) × StopsAt plan start lines bad trace reached) ⊎ (IsClosedAll plan ending lines start trace reached ⊎ IsClosedBad plan ending lines start trace reached))
 
 -- the run was stopped at this stage, and left its tower and its shelf
-pub record PlayedPart (plan : Plan) (ending : Ending) (lines : List (List ℕ)) (start : Stage) (trace : List Note) (tower : Option Tower) (shelf' : List Slot) : Type 0 where
+pub record PlayedPart (IsAt : List Note → Stage → Type 0) (trace : List Note) (tower : Option Tower) (shelf' : List Slot) : Type 0 where
   pub reached : Stage
-  pub stopped : IsStopped plan ending lines start trace reached
+  pub stopped : IsAt trace reached
   pub left : tower ≡ Some reached.run.tower
   pub after : shelf' ≡ reached.shelf
 
+-- memory ran out in a line, or for reading the next one: the first lines were run, each with all of its notes; of the shelf only the names are known
+pub record IsShort (plan : Plan) (ending : Ending) (lines : List (List ℕ)) (start : Stage) (trace : List Note) (shelf' : List Slot) : Type 0 where
+  pub unbroken : IsUnbroken ending
+  pub reached : Stage
+  pub first : RanFirst plan start lines trace reached
+  pub names : HasNames start.shelf shelf'
+
 -- the outcome of lines that were run from a stage, by how reading ended; a line outside the grammar is the last that was read, and so is one whose
--- notes could not be written; without memory, of the shelf only its names are known
+-- notes could not be written; where reading was broken off, memory can have run out at the close alone
 abbrev pub PlayOutcomes : Plan → Ending → List (List ℕ) → Stage → Status → List Note → Option Tower → List Slot → Type 0
 PlayOutcomes plan ending lines start statuses.Done trace tower shelf' = (ending ≡ Whole) × PlayedTo (Runs plan 1 start lines) (λ s. notes.End (now_of s.run.tower)) trace tower shelf'
 PlayOutcomes plan ending lines start (statuses.Schedule line n field) trace tower shelf' = IsFine ending × (bad : BadLine) × (fault_of bad ≡ faults.Schedule line n field) × PlayedTo (StopsAt plan start lines bad) (λ s. notes.Fault (fault_of bad)) trace tower shelf'
 PlayOutcomes plan ending lines start statuses.ReadFault trace tower shelf' = (ending ≡ Broken faults.ReadFault) × PlayedTo (Runs plan 1 start lines) (λ s. notes.Fault faults.ReadFault) trace tower shelf'
 PlayOutcomes plan ending lines start statuses.TooLarge trace tower shelf' = (ending ≡ Broken faults.TooLarge) × PlayedTo (Runs plan 1 start lines) (λ s. notes.Fault faults.TooLarge) trace tower shelf'
-PlayOutcomes plan ending lines start statuses.WriteFault trace tower shelf' = PlayedPart plan ending lines start trace tower shelf'
-PlayOutcomes plan ending lines start statuses.Memory trace tower shelf' = (reached : Stage) × IsShort plan ending lines start trace reached × HasNames start.shelf shelf'
+PlayOutcomes plan ending lines start statuses.WriteFault trace tower shelf' = PlayedPart (IsStopped plan ending lines start) trace tower shelf'
+PlayOutcomes plan ending lines start statuses.Memory trace tower shelf' = IsShort plan ending lines start trace shelf' ⊎ PlayedPart (IsAtClose plan ending lines start) trace tower shelf'
 PlayOutcomes plan ending lines start status trace tower shelf' = ⊥
 
 -- the run was refused before its first line: the fault is told, and nothing else

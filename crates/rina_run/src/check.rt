@@ -2,11 +2,10 @@
 ghost use Rattle.std.specs.Prelude.{◌≡◌, ◌<◌, ◌^◌, ℕ, List, [], None, Option, IfOk};
 ghost use Rattle.rina_io.specs.NextLine.{IsSound};
 ghost use Rattle.rina_io.specs.Reader.{size};
-ghost use Rattle.rina_report.specs.Notes.{text_of};
 ghost use Rattle.rina_stack.specs.Plan.{IsPlan};
-ghost use Rattle.rina_run.specs.Check.{AreReadAs, InputTells, IsReadAs, LinesTell, counts_of, status_beside};
+ghost use Rattle.rina_run.specs.Check.{AreReadAs, CheckOutcomes, InputTells, IsReadAs, LinesTell, counts_of, status_beside};
 ghost use Rattle.rina_run.specs.Outcomes.{IsChecked};
-ghost use Rattle.rina_run.specs.Reading.{HasRead, HasText, ReadBehind};
+ghost use Rattle.rina_run.specs.Reading.{Broken, HasRead, HasText, ReadBehind};
 ghost use Rattle.rina_run.specs.Top.{ClosedBy, WasRead};
 ghost use Rattle.rina_run.specs.Written.{Written};
 ghost use Rattle.rina_run.specs.Faults.{CheckFaults, NoteFaults, ReadFaults, WriteFaults};
@@ -165,11 +164,11 @@ fn status_of_note(note: &Note) -> Status
 }
 
 /// Tells one note.
-#[tactic(auto, using(crate::proofs::Checks::is_told_beside))]
+#[tactic(auto, using(crate::proofs::Checks::is_told_beside, crate::proofs::Ending::wrote_nothing))]
 fn tell<K: Sink>(alloc: Global, note: Note, out: &mut K) -> Finish
     ensures closed { ClosedBy (status_beside note) note [] result.status result.trace }
     ensures tower { result.tower ≡ None }
-    ensures written { Written (K.took out.old) (K.took out.new) (text_of result.trace) result.status }
+    ensures written { Written (K.took out.old) (K.took out.new) result.trace result.status }
     ensures faults { WriteFaults result.status (K.faults out.old) (K.faults out.new) (K.odd out.old) (K.odd out.new) }
 {
     let status = status_of_note(&note);
@@ -177,7 +176,7 @@ fn tell<K: Sink>(alloc: Global, note: Note, out: &mut K) -> Finish
 }
 
 /// Reads an input up to its first line outside the grammar, runs nothing of it, and tells its counts or its fault.
-#[tactic(auto, using(crate::proofs::Checks::was_checked, crate::proofs::Checks::not_checked, crate::proofs::Ending::wrote_nothing, crate::proofs::Faulty::reads_lost))]
+#[tactic(auto, using(crate::proofs::Checks::was_checked, crate::proofs::Checks::not_checked, crate::proofs::Ending::lost_written, crate::proofs::Faulty::reads_lost))]
 pub fn check_input<S: Source, K: Sink, P: Policies>(
     alloc: Global,
     input: &mut S,
@@ -186,8 +185,8 @@ pub fn check_input<S: Source, K: Sink, P: Policies>(
 ) -> Finish
     ensures outcome { IsChecked (P.knows shelf.now) (S.left input.old) (S.left input.new) result.status result.trace result.tower }
     ensures left { result.tower ≡ None }
-    ensures written { Written (K.took out.old) (K.took out.new) (text_of result.trace) result.status }
-    ensures read { ReadFaults result.status (S.faults input.old) (S.faults input.new) (S.odd input.old) (S.odd input.new) }
+    ensures written { Written (K.took out.old) (K.took out.new) result.trace result.status }
+    ensures read { ReadFaults (WasRead (S.left input.old) (S.left input.new) (λ ending script. (ending ≡ Broken Fault.ReadFault) × CheckOutcomes (P.knows shelf.now) ending script result.status result.trace)) result.status (S.faults input.old) (S.faults input.new) (S.odd input.old) (S.odd input.new) }
     ensures write { WriteFaults result.status (K.faults out.old) (K.faults out.new) (K.odd out.old) (K.odd out.new) }
 {
     let Ok(note) = tell_input(alloc, input, shelf) else {

@@ -1,8 +1,8 @@
 //! How a run ends: by a closing note, by a fault that is told, or without memory.
-ghost use Rattle.std.specs.Prelude.{◌≡◌, ◌++◌, ◌∷◌, [], ℕ, List, Option, None, OnOk, IsErrOf, ◌⊎◌};
+ghost use Rattle.std.specs.Prelude.{◌≡◌, ◌++◌, ◌∷◌, [], ℕ, List, Option, None, OnOk, IfErr, IsErrOf, ◌⊎◌};
 ghost use Rattle.std.specs.Io.KnownBytes.{Appends};
 ghost use Rattle.rina_report.specs.Notes.{text_of};
-ghost use Rattle.rina_run.specs.Written.{IsFront, Written};
+ghost use Rattle.rina_run.specs.Written.{Written};
 ghost use Rattle.rina_run.specs.Top.{status_of, status_stopped, fault_of, ClosedBy, RefusedBy, IsOutOfMemory};
 ghost use Rattle.rina_run.specs.Faults.{StopFaults, WriteFaults};
 
@@ -27,13 +27,13 @@ pub fn out_of_memory(alloc: Global) -> Finish
 }
 
 /// Adds a closing note and writes it.
-#[tactic(auto, using(crate::proofs::Playing::front_push, crate::proofs::Ending::front_same))]
+#[tactic(auto, using(crate::proofs::Playing::front_push, crate::proofs::Pieces::closing_piece, crate::proofs::Ending::front_same))]
 fn close<K: Sink>(alloc: Global, out: &mut K, trace: &mut Notes, note: Note) -> Result<(), Stop>
     ensures memory { IsErrOf result Stop.Memory → (trace.new ≡ trace.old) ⊎ (trace.new ≡ trace.old ++ note ∷ []) }
     ensures noted { OnOk result (trace.new ≡ trace.old ++ note ∷ []) }
     ensures stopped { IsErrOf result Stop.WriteFault → trace.new ≡ trace.old ++ note ∷ [] }
     ensures ok { OnOk result ((base : Option (List ℕ)) → Appends base (K.took out.old) (text_of trace.old) → Appends base (K.took out.new) (text_of trace.new)) }
-    ensures front { (base : Option (List ℕ)) → Appends base (K.took out.old) (text_of trace.old) → IsFront base (K.took out.new) (text_of trace.new) }
+    ensures err { IfErr result (λ stop. (base : Option (List ℕ)) → Appends base (K.took out.old) (text_of trace.old) → Written base (K.took out.new) trace.new (status_stopped stop)) }
     ensures faults { StopFaults result (K.faults out.old) (K.faults out.new) (K.odd out.old) (K.odd out.new) }
 {
     let from = trace.len();
@@ -90,7 +90,7 @@ pub fn seal<K: Sink>(
 ) -> Finish
     ensures closed { ClosedBy status note trace result.status result.trace }
     ensures tower { result.tower ≡ tower }
-    ensures written { (base : Option (List ℕ)) → Appends base (K.took out.old) (text_of trace) → Written base (K.took out.new) (text_of result.trace) result.status }
+    ensures written { ¬ (status ≡ Status.WriteFault) → (base : Option (List ℕ)) → Appends base (K.took out.old) (text_of trace) → Written base (K.took out.new) result.trace result.status }
     ensures faults { ¬ (status ≡ Status.WriteFault) → WriteFaults result.status (K.faults out.old) (K.faults out.new) (K.odd out.old) (K.odd out.new) }
 {
     let mut trace = trace;
@@ -119,7 +119,7 @@ pub fn end_by_fault<K: Sink>(
 ) -> Finish
     ensures closed { ClosedBy (status_of fault) (Note.Fault fault) trace result.status result.trace }
     ensures tower { result.tower ≡ tower }
-    ensures written { (base : Option (List ℕ)) → Appends base (K.took out.old) (text_of trace) → Written base (K.took out.new) (text_of result.trace) result.status }
+    ensures written { (base : Option (List ℕ)) → Appends base (K.took out.old) (text_of trace) → Written base (K.took out.new) result.trace result.status }
     ensures faults { WriteFaults result.status (K.faults out.old) (K.faults out.new) (K.odd out.old) (K.odd out.new) }
 {
     let note = Note::Fault(fault);
@@ -131,7 +131,7 @@ pub fn end_by_fault<K: Sink>(
 pub fn refuse<K: Sink>(alloc: Global, out: &mut K, fault: Fault) -> Finish
     ensures refused { RefusedBy fault result.status result.trace }
     ensures tower { result.tower ≡ None }
-    ensures written { Written (K.took out.old) (K.took out.new) (text_of result.trace) result.status }
+    ensures written { Written (K.took out.old) (K.took out.new) result.trace result.status }
     ensures faults { WriteFaults result.status (K.faults out.old) (K.faults out.new) (K.odd out.old) (K.odd out.new) }
 {
     end_by_fault(alloc, fault, None, out, Seq::new(alloc))

@@ -2,7 +2,6 @@
 ghost use Rattle.std.specs.Prelude.{◌≡◌, ◌≢◌, ℕ, List, [], Option, Some, IfSome, IsSome, ◌⊎◌};
 ghost use Rattle.rina_gen.specs.Input.{input};
 ghost use Rattle.rina_gen.specs.Text.{input_text};
-ghost use Rattle.rina_report.specs.Notes.{text_of};
 ghost use Rattle.rina_tower.specs.Stands.{IsTower};
 ghost use Rattle.rina_run.specs.Drawn.{SumsUp, Tells, TellsFault, TellsNothing};
 ghost use Rattle.rina_run.specs.Outcomes.{IsGenerated, IsRan};
@@ -47,7 +46,7 @@ fn untold(alloc: Global, tower: Option<Tower>) -> Finish
 }
 
 /// Tells the summary of a run of the input that a number draws, which is this text.
-#[tactic(auto, using(crate::proofs::Ending::wrote_nothing))]
+#[tactic(auto, using(crate::proofs::Ending::wrote_nothing, crate::proofs::Ending::untold_written))]
 fn tell_summary<K: Sink>(
     alloc: Global,
     n: u32,
@@ -59,7 +58,7 @@ fn tell_summary<K: Sink>(
     requires { text.now ≡ input_text (input n) }
     ensures told { TellsNothing result.status result.trace ⊎ SumsUp n unwritten.now (Some tower) result.status result.trace }
     ensures tower { result.tower ≡ Some tower }
-    ensures written { Written (K.took out.old) (K.took out.new) (text_of result.trace) result.status }
+    ensures written { Written (K.took out.old) (K.took out.new) result.trace result.status }
     ensures write { WriteFaults result.status (K.faults out.old) (K.faults out.new) (K.odd out.old) (K.odd out.new) }
 {
     let Ok(note) = sum_up(alloc, n, text, unwritten.as_slice(), &tower) else {
@@ -69,18 +68,18 @@ fn tell_summary<K: Sink>(
 }
 
 /// Tells the fault by which a run of a drawn input ended.
-#[tactic(auto, using(crate::proofs::Ending::wrote_nothing))]
+#[tactic(auto, using(crate::proofs::Ending::wrote_nothing, crate::proofs::Ending::untold_written))]
 fn tell_fault<K: Sink>(alloc: Global, fault: Fault, tower: Option<Tower>, out: &mut K) -> Finish
     ensures told { TellsFault (status_of fault) result.status result.trace }
     ensures tower { result.tower ≡ tower }
-    ensures written { Written (K.took out.old) (K.took out.new) (text_of result.trace) result.status }
+    ensures written { Written (K.took out.old) (K.took out.new) result.trace result.status }
     ensures write { WriteFaults result.status (K.faults out.old) (K.faults out.new) (K.odd out.old) (K.odd out.new) }
 {
     end_by_fault(alloc, fault, tower, out, Seq::new(alloc))
 }
 
 /// Tells how a run of the input that a number draws ended, which is this text.
-#[tactic(auto, using(crate::proofs::Ending::wrote_nothing))]
+#[tactic(auto, using(crate::proofs::Ending::wrote_nothing, crate::proofs::Ending::untold_written))]
 fn tell_made<K: Sink>(
     alloc: Global,
     n: u32,
@@ -95,7 +94,7 @@ fn tell_made<K: Sink>(
     requires done { status ≡ Status.Done → IsSome tower }
     ensures told { Tells n status unwritten.now tower result.status result.trace }
     ensures tower { result.tower ≡ tower }
-    ensures written { Written (K.took out.old) (K.took out.new) (text_of result.trace) result.status }
+    ensures written { Written (K.took out.old) (K.took out.new) result.trace result.status }
     ensures write { WriteFaults result.status (K.faults out.old) (K.faults out.new) (K.odd out.old) (K.odd out.new) }
 {
     match status {
@@ -119,7 +118,7 @@ fn tell_made<K: Sink>(
 
 /// Runs the input that is drawn from a number, with notes that are not written, and writes its summary, or the fault by
 /// which that run ended.
-#[tactic(auto, using(crate::proofs::Ending::wrote_nothing, crate::proofs::Drawing::done_has_tower, crate::proofs::Drawing::was_generated, crate::proofs::Drawing::not_generated))]
+#[tactic(auto, using(crate::proofs::Ending::lost_written, crate::proofs::Drawing::done_has_tower, crate::proofs::Drawing::was_generated, crate::proofs::Drawing::not_generated))]
 pub fn gen_input<K: Sink, P: Retires + Policies>(
     alloc: Global,
     n: u32,
@@ -128,7 +127,7 @@ pub fn gen_input<K: Sink, P: Retires + Policies>(
 ) -> Ended
     ensures outcome { IsGenerated (P.knows shelf.old) n (P.slots shelf.old) result.finish.status result.finish.trace result.finish.tower result.unwritten (P.slots shelf.new) }
     ensures sound { IfSome result.finish.tower IsTower }
-    ensures written { Written (K.took out.old) (K.took out.new) (text_of result.finish.trace) result.finish.status }
+    ensures written { Written (K.took out.old) (K.took out.new) result.finish.trace result.finish.status }
     ensures write { WriteFaults result.finish.status (K.faults out.old) (K.faults out.new) (K.odd out.old) (K.odd out.new) }
 {
     let Ok(text) = make(alloc, n) else {

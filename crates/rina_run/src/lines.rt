@@ -1,5 +1,5 @@
 //! The lines of a schedule, one after the other.
-ghost use Rattle.std.specs.Prelude.{◌≡◌, ◌<◌, ◌^◌, ℕ, List, [], length, take, true, Option, OnOk, OnErr};
+ghost use Rattle.std.specs.Prelude.{◌≡◌, ◌<◌, ◌^◌, ℕ, List, [], length, take, true, Option, OnOk, IfErr};
 ghost use Rattle.std.specs.Io.KnownBytes.{Appends};
 ghost use Rattle.rina_io.specs.NextLine.{IsSound};
 ghost use Rattle.rina_io.specs.Reader.{size};
@@ -7,7 +7,8 @@ ghost use Rattle.rina_report.specs.Notes.{text_of};
 ghost use Rattle.rina_stack.specs.Plan.{IsPlan};
 ghost use Rattle.rina_tower.specs.Stands.{IsTower};
 ghost use Rattle.rina_words.specs.Built.{is_built};
-ghost use Rattle.rina_run.specs.Written.{IsFront};
+ghost use Rattle.rina_run.specs.Top.{status_stopped};
+ghost use Rattle.rina_run.specs.Written.{Written};
 ghost use Rattle.rina_words.specs.Step.{HasNames, Steps, stage};
 ghost use Rattle.rina_run.specs.Reading.{HasRead, ReadBehind};
 ghost use Rattle.rina_run.specs.Run.{Ran, LineRan, LinesRan};
@@ -36,7 +37,7 @@ fn take_back(alloc: Global, trace: &mut Notes, from: usize)
 }
 
 /// Runs what a line asks for, and writes its notes. Without memory for all of them the line tells none.
-#[tactic(auto, using(crate::proofs::Playing::front_is, crate::proofs::Playing::front_of, crate::proofs::Texts::wrote_all))]
+#[tactic(auto, using(crate::proofs::Playing::front_is, crate::proofs::Playing::front_of, crate::proofs::Pieces::piece_of, crate::proofs::Texts::wrote_all, crate::proofs::Ending::front_same))]
 fn run_event<K: Sink, P: Retires>(
     line: &Line<'_>,
     run: &mut Run,
@@ -50,7 +51,7 @@ fn run_event<K: Sink, P: Retires>(
     requires sound { IsTower run.old.tower }
     ensures does { Ran (λ ns. Steps line.now.plan.now line.now.number event.now (stage run.old (P.slots shelf.old)) ns (stage run.new (P.slots shelf.new))) trace.old trace.new result }
     ensures ok { OnOk result ((base : Option (List ℕ)) → Appends base (K.took out.old) (text_of trace.old) → Appends base (K.took out.new) (text_of trace.new)) }
-    ensures err { OnErr result ((base : Option (List ℕ)) → Appends base (K.took out.old) (text_of trace.old) → IsFront base (K.took out.new) (text_of trace.new)) }
+    ensures err { IfErr result (λ stop. (base : Option (List ℕ)) → Appends base (K.took out.old) (text_of trace.old) → Written base (K.took out.new) trace.new (status_stopped stop)) }
     ensures faults { StopFaults result (K.faults out.old) (K.faults out.new) (K.odd out.old) (K.odd out.new) }
     ensures sound { IsTower run.new.tower }
     ensures names { HasNames (P.slots shelf.old) (P.slots shelf.new) }
@@ -80,7 +81,7 @@ fn run_line<K: Sink, P: Retires>(
     requires sound { IsTower run.old.tower }
     ensures does { LineRan line.now.plan.now line.now.number text.now (stage run.old (P.slots shelf.old)) trace.old (stage run.new (P.slots shelf.new)) trace.new result }
     ensures ok { OnOk result ((base : Option (List ℕ)) → Appends base (K.took out.old) (text_of trace.old) → Appends base (K.took out.new) (text_of trace.new)) }
-    ensures err { OnErr result ((base : Option (List ℕ)) → Appends base (K.took out.old) (text_of trace.old) → IsFront base (K.took out.new) (text_of trace.new)) }
+    ensures err { IfErr result (λ stop. (base : Option (List ℕ)) → Appends base (K.took out.old) (text_of trace.old) → Written base (K.took out.new) trace.new (status_stopped stop)) }
     ensures faults { StopFaults result (K.faults out.old) (K.faults out.new) (K.odd out.old) (K.odd out.new) }
     ensures sound { IsTower run.new.tower }
     ensures names { HasNames (P.slots shelf.old) (P.slots shelf.new) }
@@ -140,7 +141,7 @@ pub fn play<S: Source, K: Sink, P: Retires>(
     requires none { trace.old ≡ [] }
     ensures does { (left : Option (List ℕ)) (before : List (List ℕ)) → HasRead left (S.left source.old) reader.old before → ReadBehind left (S.left source.new) reader.old before (λ ending lines. LinesRan schedule.now.plan.now (stage run.old (P.slots shelf.old)) ending lines trace.new (stage run.new (P.slots shelf.new)) result) }
     ensures ok { OnOk result (Appends (K.took out.old) (K.took out.new) (text_of trace.new)) }
-    ensures err { OnErr result (IsFront (K.took out.old) (K.took out.new) (text_of trace.new)) }
+    ensures err { IfErr result (λ stop. Written (K.took out.old) (K.took out.new) trace.new (status_stopped stop)) }
     ensures reads { CloseFaults result (S.faults source.old) (S.faults source.new) (S.odd source.old) (S.odd source.new) }
     ensures faults { StopFaults result (K.faults out.old) (K.faults out.new) (K.odd out.old) (K.odd out.new) }
     ensures sound { IsTower run.new.tower }

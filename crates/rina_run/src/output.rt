@@ -1,8 +1,9 @@
 //! Writing the text of notes.
-ghost use Rattle.std.specs.Prelude.{◌≡◌, ◌≤◌, ℕ, List, Option, length, take, IfOk, OnOk};
+ghost use Rattle.std.specs.Prelude.{◌≡◌, ◌≤◌, ℕ, List, Option, length, take, drop, IfOk, IfErr, OnOk};
 ghost use Rattle.std.specs.Io.KnownBytes.{Appends};
 ghost use Rattle.rina_report.specs.Notes.{text_of};
-ghost use Rattle.rina_run.specs.Written.{IsFront};
+ghost use Rattle.rina_run.specs.Written.{IsPiece, Written};
+ghost use Rattle.rina_run.specs.Top.{status_stopped};
 ghost use Rattle.rina_run.specs.Faults.{StopFaults};
 
 use rina_base::Memory;
@@ -37,7 +38,7 @@ fn print_all(alloc: Global, notes: &[Note]) -> Result<Vec<u8>, Memory>
 pub fn emit<K: Sink>(alloc: Global, out: &mut K, trace: &Notes, from: usize) -> Result<(), Stop>
     requires { from ≤ length trace.now }
     ensures ok { OnOk result ((base : Option (List ℕ)) → Appends base (K.took out.old) (text_of (take from trace.now)) → Appends base (K.took out.new) (text_of trace.now)) }
-    ensures front { (base : Option (List ℕ)) → Appends base (K.took out.old) (text_of (take from trace.now)) → IsFront base (K.took out.new) (text_of trace.now) }
+    ensures err { IfErr result (λ stop. (base : Option (List ℕ)) → Appends base (K.took out.old) (text_of (take from trace.now)) → IsPiece (drop from trace.now) → Written base (K.took out.new) trace.now (status_stopped stop)) }
     ensures faults { StopFaults result (K.faults out.old) (K.faults out.new) (K.odd out.old) (K.odd out.new) }
 {
     let (_, fresh) = trace.as_slice().split_at(from);

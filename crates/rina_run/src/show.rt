@@ -3,7 +3,7 @@ ghost use Rattle.std.specs.Prelude.{◌≡◌, None};
 ghost use Rattle.rina_gen.specs.Input.{input};
 ghost use Rattle.rina_gen.specs.Text.{input_text};
 ghost use Rattle.rina_run.specs.Outcomes.{EndsShow, IsShown};
-ghost use Rattle.rina_run.specs.Written.{Written};
+ghost use Rattle.rina_run.specs.Written.{WrittenText};
 ghost use Rattle.rina_run.specs.Faults.{WriteFaults};
 
 use crate::outcome::{Finish, Status};
@@ -16,7 +16,7 @@ use std::alloc::Global;
 #[tactic(auto, using(crate::proofs::Shows::wrote_some_text, crate::proofs::Shows::wrote_text, crate::proofs::Shows::wrote_no_text))]
 fn write_input<K: Sink>(alloc: Global, n: u32, out: &mut K) -> Status
     ensures ended { EndsShow result }
-    ensures written { Written (K.took out.old) (K.took out.new) (input_text (input n)) result }
+    ensures written { WrittenText (K.took out.old) (K.took out.new) (input_text (input n)) result }
     ensures faults { WriteFaults result (K.faults out.old) (K.faults out.new) (K.odd out.old) (K.odd out.new) }
 {
     let Ok(text) = make(alloc, n) else {
@@ -32,7 +32,7 @@ fn write_input<K: Sink>(alloc: Global, n: u32, out: &mut K) -> Status
 pub fn show_input<K: Sink>(alloc: Global, n: u32, out: &mut K) -> Finish
     ensures shown { IsShown result.status result.trace result.tower }
     ensures left { result.tower ≡ None }
-    ensures written { Written (K.took out.old) (K.took out.new) (input_text (input n)) result.status }
+    ensures written { WrittenText (K.took out.old) (K.took out.new) (input_text (input n)) result.status }
     ensures write { WriteFaults result.status (K.faults out.old) (K.faults out.new) (K.odd out.old) (K.odd out.new) }
 {
     Finish {

@@ -1,5 +1,5 @@
 //! The counts of a run, for the summary of one that was drawn.
-ghost use Rattle.std.specs.Prelude.{◌≡◌, length, count_by, Some, IfOk, IfSome};
+ghost use Rattle.std.specs.Prelude.{◌≡◌, ◌≤◌, ◌^◌, length, count_by, Some, IfOk, IfSome, OnErr};
 ghost use Rattle.std.specs.List.{sum_by};
 ghost use Rattle.rina_data.specs.declared.process.IpcProcess.{IpcProcess};
 ghost use Rattle.rina_gen.specs.Input.{input};
@@ -22,7 +22,8 @@ use std::alloc::Global;
 
 /// A count as a note tells it. So much as it can't tell fits into no memory.
 fn told(count: usize) -> Result<u32, Memory>
-    ensures { IfOk result (λ n. n ≡ count) }
+    ensures told { IfOk result (λ n. n ≡ count) }
+    ensures memory { OnErr result (2 ^ 32 ≤ count) }
 {
     match u32::try_from(count) {
         Ok(count) => Ok(count),

@@ -2,16 +2,15 @@
 ghost use Rattle.std.specs.Prelude.{◌≡◌, ◌<◌, ◌^◌, ℕ, List, [], map, Option, IsSome, IfSome, string_bytes};
 ghost use Rattle.rina_io.specs.NextLine.{IsSound};
 ghost use Rattle.rina_io.specs.Reader.{size};
-ghost use Rattle.rina_report.specs.Notes.{text_of};
 ghost use Rattle.rina_stack.specs.Plan.{IsPlan};
 ghost use Rattle.rina_tower.specs.Stands.{IsTower};
 ghost use Rattle.rina_run.specs.Promises.{AccountsAll, CarriesAll, CausesAll, ItemsAll, LawfulAll, RoutesAll, WriteOffsAll};
-ghost use Rattle.rina_run.specs.Reading.{HasRead, HasText, ReadBehind};
+ghost use Rattle.rina_run.specs.Reading.{Broken, HasRead, HasText, ReadBehind};
 ghost use Rattle.rina_words.specs.Step.{stage};
 ghost use Rattle.rina_run.specs.Command.{command_of};
 ghost use Rattle.rina_run.specs.Written.{Written};
-ghost use Rattle.rina_run.specs.Outcomes.{IsRan, RunOutcomes, text_written};
-ghost use Rattle.rina_run.specs.Top.{PlayOutcomes, FailedByCut, KeepsAll};
+ghost use Rattle.rina_run.specs.Outcomes.{IsBrokenOff, IsRan, RunOutcomes, WrittenBy};
+ghost use Rattle.rina_run.specs.Top.{InputOutcomes, PlayOutcomes, FailedByCut, KeepsAll, WasRead};
 ghost use Rattle.rina_run.specs.Faults.{ReadFaults, WriteFaults};
 
 use crate::check::check_input;
@@ -50,8 +49,8 @@ fn run_lines<S: Source, K: Sink, P: Retires>(
     ensures outcome { (left : Option (List ℕ)) (before : List (List ℕ)) → HasRead left (S.left source.old) reader.old before → ReadBehind left (S.left source.new) reader.old before (λ ending lines. PlayOutcomes schedule.now.plan.now ending lines (stage opened (P.slots shelf.old)) result.status result.trace result.tower (P.slots shelf.new)) }
     ensures tower { IsSome result.tower }
     ensures sound { IfSome result.tower IsTower }
-    ensures written { Written (K.took out.old) (K.took out.new) (text_of result.trace) result.status }
-    ensures read { ReadFaults result.status (S.faults source.old) (S.faults source.new) (S.odd source.old) (S.odd source.new) }
+    ensures written { Written (K.took out.old) (K.took out.new) result.trace result.status }
+    ensures read { ReadFaults ((left : Option (List ℕ)) (before : List (List ℕ)) → HasRead left (S.left source.old) reader.old before → ReadBehind left (S.left source.new) reader.old before (λ ending lines. (ending ≡ Broken Fault.ReadFault) × PlayOutcomes schedule.now.plan.now ending lines (stage opened (P.slots shelf.old)) result.status result.trace result.tower (P.slots shelf.new))) result.status (S.faults source.old) (S.faults source.new) (S.odd source.old) (S.odd source.new) }
     ensures faults { WriteFaults result.status (K.faults out.old) (K.faults out.new) (K.odd out.old) (K.odd out.new) }
 {
     let alloc = schedule.alloc;
@@ -83,7 +82,7 @@ fn run_lines<S: Source, K: Sink, P: Retires>(
 }
 
 /// Runs the lines of a schedule behind the text of a stack.
-#[tactic(auto, using(crate::proofs::Faulty::reads_lost))]
+#[tactic(auto, using(crate::proofs::Faulty::reads_lost, crate::proofs::Ending::lost_written))]
 fn run_script<S: Source, K: Sink, P: Retires + Policies>(
     alloc: Global,
     text: Vec<u8>,
@@ -96,8 +95,8 @@ fn run_script<S: Source, K: Sink, P: Retires + Policies>(
     requires few { size reader.old < 2 ^ 32 }
     ensures outcome { (left : Option (List ℕ)) → HasText left (S.left source.old) reader.old text.items → IsRan (P.knows shelf.old) left (S.left source.new) (P.slots shelf.old) result.status result.trace result.tower (P.slots shelf.new) }
     ensures sound { IfSome result.tower IsTower }
-    ensures written { Written (K.took out.old) (K.took out.new) (text_of result.trace) result.status }
-    ensures read { ReadFaults result.status (S.faults source.old) (S.faults source.new) (S.odd source.old) (S.odd source.new) }
+    ensures written { Written (K.took out.old) (K.took out.new) result.trace result.status }
+    ensures read { ReadFaults ((left : Option (List ℕ)) → HasText left (S.left source.old) reader.old text.items → WasRead left (S.left source.new) (λ ending script. (ending ≡ Broken Fault.ReadFault) × InputOutcomes (P.knows shelf.old) ending script (P.slots shelf.old) result.status result.trace result.tower (P.slots shelf.new))) result.status (S.faults source.old) (S.faults source.new) (S.odd source.old) (S.odd source.new) }
     ensures faults { WriteFaults result.status (K.faults out.old) (K.faults out.new) (K.odd out.old) (K.odd out.new) }
 {
     let plan = match plan_of(alloc, text, shelf) {
@@ -116,7 +115,7 @@ fn run_script<S: Source, K: Sink, P: Retires + Policies>(
 }
 
 /// Reads an input line by line, and runs it.
-#[tactic(auto, using(crate::proofs::Faulty::reads_lost))]
+#[tactic(auto, using(crate::proofs::Faulty::reads_lost, crate::proofs::Ending::lost_written))]
 pub fn run_read<S: Source, K: Sink, P: Retires + Policies>(
     alloc: Global,
     input: &mut S,
@@ -125,8 +124,8 @@ pub fn run_read<S: Source, K: Sink, P: Retires + Policies>(
 ) -> Finish
     ensures outcome { IsRan (P.knows shelf.old) (S.left input.old) (S.left input.new) (P.slots shelf.old) result.status result.trace result.tower (P.slots shelf.new) }
     ensures sound { IfSome result.tower IsTower }
-    ensures written { Written (K.took out.old) (K.took out.new) (text_of result.trace) result.status }
-    ensures read { ReadFaults result.status (S.faults input.old) (S.faults input.new) (S.odd input.old) (S.odd input.new) }
+    ensures written { Written (K.took out.old) (K.took out.new) result.trace result.status }
+    ensures read { ReadFaults (WasRead (S.left input.old) (S.left input.new) (λ ending script. (ending ≡ Broken Fault.ReadFault) × InputOutcomes (P.knows shelf.old) ending script (P.slots shelf.old) result.status result.trace result.tower (P.slots shelf.new))) result.status (S.faults input.old) (S.faults input.new) (S.odd input.old) (S.odd input.new) }
     ensures write { WriteFaults result.status (K.faults out.old) (K.faults out.new) (K.odd out.old) (K.odd out.new) }
 {
     let mut reader = LineReader::new(alloc);
@@ -159,7 +158,7 @@ fn run_over<S: Source, K: Sink, P: Retires + Policies>(
     out: &mut K,
     shelf: &mut P,
 ) -> Ended
-    ensures written { Written (K.took out.old) (K.took out.new) (text_written (command_of (map (λ w. string_bytes w) words.now)) result.finish.trace) result.finish.status }
+    ensures written { WrittenBy (command_of (map (λ w. string_bytes w) words.now)) (K.took out.old) (K.took out.new) result.finish.trace result.finish.status }
     ensures outcome { RunOutcomes (P.knows shelf.old) (command_of (map (λ w. string_bytes w) words.now)) (S.left input.old) (S.left input.new) (P.slots shelf.old) result.finish.status result.finish.trace result.finish.tower result.unwritten (P.slots shelf.new) }
     ensures stands { IfSome result.finish.tower IsTower }
     ensures kept { IfSome result.finish.tower KeepsAll }
@@ -171,7 +170,7 @@ fn run_over<S: Source, K: Sink, P: Retires + Policies>(
     ensures caused { IfSome result.finish.tower CausesAll }
     ensures written_off { IfSome result.finish.tower WriteOffsAll }
     ensures failed { IfSome result.finish.tower FailedByCut }
-    ensures read { ReadFaults result.finish.status (S.faults input.old) (S.faults input.new) (S.odd input.old) (S.odd input.new) }
+    ensures read { ReadFaults (IsBrokenOff (P.knows shelf.old) (command_of (map (λ w. string_bytes w) words.now)) (S.left input.old) (S.left input.new) (P.slots shelf.old) result.finish.status result.finish.trace result.finish.tower (P.slots shelf.new)) result.finish.status (S.faults input.old) (S.faults input.new) (S.odd input.old) (S.odd input.new) }
     ensures write { WriteFaults result.finish.status (K.faults out.old) (K.faults out.new) (K.odd out.old) (K.odd out.new) }
 {
     match command_in(words) {
@@ -192,8 +191,9 @@ pub fn run<S: Source, K: Sink, P: Retires + Policies>(
     out: &mut K,
     shelf: P,
 ) -> Outcome<P>
-    // What was written is the text of the trace, for `show` that of the input which is drawn from its number, and a front of it after a write fault or `Memory`.
-    ensures written { Written (K.took out.old) (K.took out.new) (text_written (command_of (map (λ w. string_bytes w) words.now)) result.trace) result.status }
+    // What was written is the text of the trace, for `show` that of the input which is drawn from its number. After a write fault the notes of the last line, or
+    // the closing note, were written in part, and all before them whole; after `Memory` that last piece may be left out.
+    ensures written { WrittenBy (command_of (map (λ w. string_bytes w) words.now)) (K.took out.old) (K.took out.new) result.trace result.status }
     // The status, the trace, the tower, the notes of a drawn run and the shelf are what the words, the input and the shelf make. Behind the line that ended
     // the run, at most 4,096 bytes of the input were read.
     ensures outcome { RunOutcomes (P.knows shelf) (command_of (map (λ w. string_bytes w) words.now)) (S.left input.old) (S.left input.new) (P.slots shelf) result.status result.trace result.tower result.unwritten (P.slots result.shelf) }
@@ -217,8 +217,9 @@ pub fn run<S: Source, K: Sink, P: Retires + Policies>(
     ensures written_off { IfSome result.tower WriteOffsAll }
     // A flow of a wire has failed only by a cut of that wire.
     ensures failed { IfSome result.tower FailedByCut }
-    // A read fault is told exactly where a read failed, and that was one; only a write or an allocation that failed behind it may be told in its place.
-    ensures read { ReadFaults result.status (S.faults input.old) (S.faults input.new) (S.odd input.old) (S.odd input.new) }
+    // A read fault is told exactly where a read failed, and that was one. Only a write or an allocation that failed behind it may be told in its place: all
+    // lines that were read are run, and the read fault was still to be told.
+    ensures read { ReadFaults (IsBrokenOff (P.knows shelf) (command_of (map (λ w. string_bytes w) words.now)) (S.left input.old) (S.left input.new) (P.slots shelf) result.status result.trace result.tower (P.slots result.shelf)) result.status (S.faults input.old) (S.faults input.new) (S.odd input.old) (S.odd input.new) }
     // A write fault is told exactly where a write failed; that was one, and the last.
     ensures write { WriteFaults result.status (K.faults out.old) (K.faults out.new) (K.odd out.old) (K.odd out.new) }
 {

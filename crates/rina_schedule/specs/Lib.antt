@@ -1,3 +1,4 @@
+pub mod Alike
 pub mod Bytes
 pub mod DifWords
 pub mod Errors
@@ -9,5 +10,6 @@ pub mod Gives
 pub mod Line
 pub mod Printed
 pub mod Ranges
+pub mod Shared
 pub mod Spelling
 pub mod WireWords

@@ -1,5 +1,5 @@
 //! Bytes in a line: as text, in hexadecimal, or as a count of zeros.
-ghost use Rattle.std.specs.Prelude.{◌≡◌, ◌<◌, ◌⊎◌, true, length, IsSome, IfSome, IfErr, Ok, replicate};
+ghost use Rattle.std.specs.Prelude.{◌≡◌, ◌<◌, ◌+◌, ◌⊎◌, [], true, length, nat_lt, slice_index, if◌then◌else◌, None, IsSome, IfSome, IfErr, Ok, replicate};
 ghost use Rattle.std.specs.List.{list_all};
 ghost use Rattle.rina_schedule.specs.Bytes.{is_plain, are_plain, hex_digit, hex_pair_of, hex_of, plain_of, zeros_of, bytes_of, is_lower, lower_hex_of, printed_of, BeginsHex};
 ghost use Rattle.rina_schedule.specs.Gives.{Gives, or_bad};
@@ -18,10 +18,16 @@ fn is_plain_byte(b: u8) -> bool
     b.is_ascii_graphic()
 }
 
+#[tactic(auto, using(std::proofs::lemmas::List::drop_more))]
 fn all_plain(bytes: &[u8]) -> bool
     ensures { result ≡ list_all is_plain bytes.now }
 {
-    bytes.iter().all(|b| is_plain_byte(*b))
+    'bytes: for byte in bytes {
+        if !is_plain_byte(*byte) {
+            return false;
+        }
+    }
+    true
 }
 
 #[tactic(auto, unfolding(crate::specs::Bytes::are_plain))]
@@ -65,23 +71,40 @@ fn read_plain(alloc: Global, n: u32, text: &[u8]) -> Result<Bytes, LineError>
     Ok(bytes)
 }
 
+/// The byte of the two digits at a place; None where there are no two.
+fn pair_at(text: &[u8], at: usize) -> Option<u8>
+    requires { at < length text.now }
+    ensures pair { result ≡ (if nat_lt (at + 1) (length text.now) then hex_pair_of (slice_index text.now at) (slice_index text.now (at + 1)) else None) }
+    ensures within { IfSome result (λ _. at + 1 < length text.now) }
+{
+    let low = text.get(at + 1)?;
+    pair_value(text[at], *low)
+}
+
+/// Appends the bytes whose pairs of digits these are. What was appended before the first fault stays.
 #[tactic(auto, unfolding(crate::specs::Bytes::hex_of))]
+fn push_pairs(bytes: &mut Bytes, n: u32, text: &[u8]) -> Result<(), LineError>
+    requires { bytes.old ≡ [] }
+    ensures read { Gives (λ _. bytes.new) result (or_bad (LineError.BadBytes n) (hex_of text.now)) }
+    ensures memory { IfErr result (λ e. e ≡ LineError.Memory → 1 < length text.now) }
+{
+    let mut at = 0usize;
+    'pairs: while at < text.len() {
+        let Some(byte) = pair_at(text, at) else {
+            return Err(LineError::BadBytes { n });
+        };
+        bytes.push(byte)?;
+        at += 2;
+    }
+    Ok(())
+}
+
 fn read_hex(alloc: Global, n: u32, text: &[u8]) -> Result<Bytes, LineError>
     ensures read { Gives (λ b. b) result (or_bad (LineError.BadBytes n) (hex_of text.now)) }
     ensures memory { IfErr result (λ e. e ≡ LineError.Memory → 1 < length text.now) }
 {
     let mut bytes = Seq::new(alloc);
-    let mut at = 0usize;
-    'pairs: while at < text.len() {
-        if at + 1 == text.len() {
-            return Err(LineError::BadBytes { n });
-        }
-        let Some(x) = pair_value(text[at], text[at + 1]) else {
-            return Err(LineError::BadBytes { n });
-        };
-        bytes.push(x)?;
-        at += 2;
-    }
+    push_pairs(&mut bytes, n, text)?;
     Ok(bytes)
 }
 
@@ -132,10 +155,16 @@ fn is_lower(b: u8) -> bool
     !matches!(b, b'A'..=b'F')
 }
 
+#[tactic(auto, using(std::proofs::lemmas::List::drop_more))]
 fn all_lower(text: &[u8]) -> bool
     ensures { result ≡ list_all is_lower text.now }
 {
-    text.iter().all(|b| is_lower(*b))
+    'text: for byte in text {
+        if !is_lower(*byte) {
+            return false;
+        }
+    }
+    true
 }
 
 #[tactic(auto, unfolding(crate::specs::Bytes::lower_hex_of))]

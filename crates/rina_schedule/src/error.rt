@@ -57,11 +57,11 @@ impl LineError {
     {
         match self {
             LineError::Memory | LineError::UnknownWord => 0,
-            LineError::MissingField { n }
-            | LineError::BadNumber { n }
-            | LineError::BadName { n }
-            | LineError::Extra { n }
-            | LineError::BadBytes { n } => n,
+            LineError::MissingField { n } => n,
+            LineError::BadNumber { n } => n,
+            LineError::BadName { n } => n,
+            LineError::Extra { n } => n,
+            LineError::BadBytes { n } => n,
         }
     }
 }

@@ -8,6 +8,9 @@ ghost use Rattle.rina_schedule.specs.Line.{step_word_at, dif_word_at, wire_word_
 use crate::error::LineError;
 use crate::event::Event;
 use crate::field::next_field;
+use crate::words::alike::{
+    AppWord, FrameWord, LinkWord, NameWord, at_link, at_node, framed, named,
+};
 use crate::words::{dif, flow, step, wire};
 use std::alloc::Global;
 
@@ -27,9 +30,9 @@ fn read_step_word(alloc: Global, word: &[u8], text: &[u8]) -> Result<Event, Line
     } else if is(word, b"round") {
         step::round(text)
     } else if is(word, b"retire") {
-        step::retire(alloc, text)
+        named(NameWord::Retire, alloc, text)
     } else if is(word, b"journal") {
-        step::journal(alloc, text)
+        named(NameWord::Journal, alloc, text)
     } else {
         Err(LineError::UnknownWord)
     }
@@ -47,9 +50,9 @@ fn read_dif_word(alloc: Global, word: &[u8], text: &[u8]) -> Result<Event, LineE
     } else if is(word, b"member") {
         dif::member(alloc, text)
     } else if is(word, b"in") {
-        dif::in_step(alloc, text)
+        at_link(LinkWord::In, alloc, text)
     } else if is(word, b"out") {
-        dif::out_step(alloc, text)
+        at_link(LinkWord::Out, alloc, text)
     } else if is(word, b"clock") {
         dif::clock(alloc, text)
     } else if is(word, b"cdap") {
@@ -71,13 +74,13 @@ fn read_wire_word(alloc: Global, word: &[u8], text: &[u8]) -> Result<Event, Line
     if is(word, b"lose") {
         wire::lose(alloc, text)
     } else if is(word, b"repeat") {
-        wire::repeat(alloc, text)
+        framed(FrameWord::Repeat, alloc, text)
     } else if is(word, b"hold") {
-        wire::hold(alloc, text)
+        framed(FrameWord::Hold, alloc, text)
     } else if is(word, b"cut") {
-        wire::cut(alloc, text)
+        named(NameWord::Cut, alloc, text)
     } else if is(word, b"mend") {
-        wire::mend(alloc, text)
+        named(NameWord::Mend, alloc, text)
     } else {
         read_dif_word(alloc, word, text)
     }
@@ -89,9 +92,9 @@ fn read_word(alloc: Global, word: &[u8], text: &[u8]) -> Result<Event, LineError
     ensures memory { IfErr result (λ e. e ≡ LineError.Memory → IsOk (field_at 1 text.now)) }
 {
     if is(word, b"register") {
-        flow::register(alloc, text)
+        at_node(AppWord::Register, alloc, text)
     } else if is(word, b"unregister") {
-        flow::unregister(alloc, text)
+        at_node(AppWord::Unregister, alloc, text)
     } else if is(word, b"alloc") {
         flow::allocate(alloc, text)
     } else if is(word, b"accept") {
@@ -99,11 +102,11 @@ fn read_word(alloc: Global, word: &[u8], text: &[u8]) -> Result<Event, LineError
     } else if is(word, b"send") {
         flow::send(alloc, text)
     } else if is(word, b"read") {
-        flow::read(alloc, text)
+        named(NameWord::Read, alloc, text)
     } else if is(word, b"state") {
-        flow::state(alloc, text)
+        named(NameWord::State, alloc, text)
     } else if is(word, b"free") {
-        flow::free(alloc, text)
+        named(NameWord::Free, alloc, text)
     } else {
         read_wire_word(alloc, word, text)
     }

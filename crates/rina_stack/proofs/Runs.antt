@@ -1,7 +1,6 @@
--- What runs is static, and without rules.
+-- What runs is static.
 use Rattle.std.proofs.Common.{◌≡◌, ℕ, ◌+◌, Bool, true, false, cond, not, List, [], ◌∷◌, length, Option, Some, None, Result, Ok, Err, IfOk, refl, ap, arith, subst}
-use Rattle.std.specs.Prelude.{All, codes, option_map, option_and_then, is_some}
-use Rattle.std.proofs.lemmas.Bool.{or_parts}
+use Rattle.std.specs.Prelude.{All, codes, option_map, option_and_then}
 use Rattle.std.proofs.lemmas.List.Elements.{All-cons, All-head, All-tail}
 use Rattle.std.specs.List.{list_all, position}
 use Rattle.toml.specs.Data.{Data, get, as_array, as_bool}
@@ -21,7 +20,7 @@ use Rattle.rina_stack.specs.Rules.{duplicate_fault}
 use Rattle.rina_stack.specs.Order.{rules_at}
 use Rattle.rina_stack.specs.Scopes.{unresolved_scope, resolved_scope}
 use Rattle.rina_stack.specs.Stack.{plan_of, unknown_item, resolved_at, stack_at}
-use Rattle.rina_stack.specs.Runnable.{is_ruled, unready_item, unready_key, is_yes, is_dynamic, first_dynamic, item_of, unready_type, runnable_at, IsRunnableDif, IsRunnable}
+use Rattle.rina_stack.specs.Runnable.{is_yes, is_dynamic, first_dynamic, item_of, unready_type, runnable_at, IsRunnable}
 use Rattle.rina_stack.proofs.Inversion.{bind_ok, ok_is, unbroken}
 use Rattle.rina_stack.proofs.SoundDif.{over4}
 use Rattle.rina_stack.proofs.Reading.{parts}
@@ -70,55 +69,23 @@ static_yes : (n : ℕ) (o : Option Data) (b : Bool) → not (is_yes (option_and_
 static_yes n None b said h = cc
 static_yes n (Some v) b said h = says_yes n (as_bool v) b said h
 
-absent : {A : Type 0} (o : Option A) → is_some o ≡ false → o ≡ None
-absent None h = refl
-absent (Some x) h = cc
-
-no_rows : {A : Type 0} (f : Data → Result A StackError) (n : ℕ) (k : List ℕ) (d : Data) (ys : List A) → get k d ≡ None → rows_or f n k d ≡ Ok ys → ys ≡ []
-unfolding rows_or traverse
-no_rows f n k d ys none h =
-    let given = rw none at h in
-    cc given
-
-allowed : (n : ℕ) (o : Option Data) (b : Bool) → o ≡ None → truth_or n true o ≡ Ok b → b ≡ true
-allowed n None b none h = cc
-allowed n (Some v) b none h = cc
-
--- a table of a DIF that says that it is static, and has no rules
-record IsReady (d : Data) : Type 0 where
-  is_static : is_dynamic d ≡ false
-  unruled : is_ruled d ≡ false
-
-runs : (known : Sketch) (u : Option ℕ) (n : ℕ) (d : Data) (x : DifPlan) → IsReady d → dif_at (resolved_scope known u) n d ≡ Ok x → IsRunnableDif x
+runs : (known : Sketch) (u : Option ℕ) (n : ℕ) (d : Data) (x : DifPlan) → is_dynamic d ≡ false → dif_at (resolved_scope known u) n d ≡ Ok x → x.is_static ≡ true
 unfolding dif_at
 runs known u n d x ready h =
     let s = resolved_scope known u in
-    let (no_rule, no_default) = or_parts (is_some (get (codes "rule") d)) (is_some (get (codes "default") d)) ready.unruled in
-    over4 IsRunnableDif (name_in s n (codes "name") d) (number_in s n (codes "rank") d 1 8) (truth_or n false (get (codes "static") d)) (number_in s n (codes "pdu") d 18 4096) _ x h
+    over4 (λ (y : DifPlan). y.is_static ≡ true) (name_in s n (codes "name") d) (number_in s n (codes "rank") d 1 8) (truth_or n false (get (codes "static") d)) (number_in s n (codes "pdu") d 18 4096) _ x h
     (λ name rank is_static pdu _ _ of_static _ h4.
-    over4 IsRunnableDif (widths_in s n d) (number_in s n (codes "queue") d 1 256) (name_in s n (codes "policy") d) (unless 7 (unknown_at u n)) _ x h4
+    over4 (λ (y : DifPlan). y.is_static ≡ true) (widths_in s n d) (number_in s n (codes "queue") d 1 256) (name_in s n (codes "policy") d) (unless 7 (unknown_at u n)) _ x h4
     (λ widths queue policy _ _ _ _ _ h8.
-    over4 IsRunnableDif (number_in s n (codes "wait") d 1 1000000) (manage_in s n d) (rows_in (cube_at s n) n (codes "cube") d) (rows_in (member_at s n) n (codes "member") d) _ x h8
+    over4 (λ (y : DifPlan). y.is_static ≡ true) (number_in s n (codes "wait") d 1 1000000) (manage_in s n d) (rows_in (cube_at s n) n (codes "cube") d) (rows_in (member_at s n) n (codes "member") d) _ x h8
     (λ wait manage cubes members _ _ _ _ h12.
-    over4 IsRunnableDif (truth_or n true (get (codes "default") d)) (rows_or (rule_at s n) n (codes "rule") d) (rows_or (link_at s n) n (codes "link") d) (rows_or (flow_at s n) n (codes "flow") d) _ x h12
-    (λ allow rules links flows of_default of_rules _ _ h16.
+    over4 (λ (y : DifPlan). y.is_static ≡ true) (truth_or n true (get (codes "default") d)) (rows_or (rule_at s n) n (codes "rule") d) (rows_or (link_at s n) n (codes "link") d) (rows_or (flow_at s n) n (codes "flow") d) _ x h12
+    (λ allow rules links flows _ _ _ _ h16.
     let whole : record { name = name; rank = rank; is_static = is_static; pdu = pdu; widths = widths; queue = queue; policy = policy; wait = wait; manage = manage; cubes = cubes; members = members; allow = allow; rules = rules; links = links; flows = flows } ≡ x = ok_is _ _ h16 in
-    subst IsRunnableDif whole
-    (record {
-      is_static = static_yes n (get (codes "static") d) is_static ready.is_static of_static;
-      rules = no_rows (rule_at s n) n (codes "rule") d rules (absent (get (codes "rule") d) no_rule) of_rules;
-      allow = allowed n (get (codes "default") d) allow (absent (get (codes "default") d) no_default) of_default;
-    })))))
+    subst (λ (y : DifPlan). y.is_static ≡ true) whole
+    (static_yes n (get (codes "static") d) is_static ready of_static)))))
 
 -- ---- the stack
-
-unruled : (d : Data) → unready_key d ≡ None → All (λ x. is_ruled x ≡ false) (items_at (codes "dif") d)
-unfolding unready_key unready_item
-unruled d h =
-    let wires = items_at (codes "wire") d in
-    let difs = items_at (codes "dif") d in
-    let none = (neither (keys_fault d) (first_item (1 + length wires) is_ruled difs) h).1 in
-    nowhere is_ruled difs (no_more (λ i. 1 + length wires + i) (position is_ruled difs) none)
 
 all_static : (d : Data) → unready_type d ≡ None → All (λ x. is_dynamic x ≡ false) (items_at (codes "dif") d)
 unfolding unready_type first_dynamic
@@ -128,7 +95,7 @@ all_static d h =
     let none = (neither (item_of (sketch_at (unresolved_scope 3) d)) (first_item (1 + length wires) is_dynamic difs) h).1 in
     nowhere is_dynamic difs (no_more (λ i. 1 + length wires + i) (position is_dynamic difs) none)
 
-of_stack : (known : List ℕ → Bool) (d : Data) (p : Plan) → All IsReady (items_at (codes "dif") d) → stack_at known d ≡ Ok p → IsRunnable p
+of_stack : (known : List ℕ → Bool) (d : Data) (p : Plan) → All (λ x. is_dynamic x ≡ false) (items_at (codes "dif") d) → stack_at known d ≡ Ok p → IsRunnable p
 unfolding stack_at resolved_at
 of_stack known d p ready h =
     let (_, _, h1) = bind_ok (unless 2 (keys_fault d)) _ p h in
@@ -143,23 +110,21 @@ of_stack known d p ready h =
     let read = parts (resolved_scope named u) d s is_s in
     let tables = listed 0 (codes "dif") d read.dif_tables read.are_difs in
     subst IsRunnable same
-    (all_read_of IsReady IsRunnableDif (dif_at (resolved_scope named u)) (1 + length read.wire_tables) read.dif_tables s.difs (subst (All IsReady) tables ready) (λ n x y. runs named u n x y) read.difs)
+    (all_read_of (λ x. is_dynamic x ≡ false) (λ (y : DifPlan). y.is_static ≡ true) (dif_at (resolved_scope named u)) (1 + length read.wire_tables) read.dif_tables s.difs (subst (All (λ x. is_dynamic x ≡ false)) tables ready) (λ n x y. runs named u n x y) read.difs)
 
 pub runnable_difs : (known : List ℕ → Bool) (r : Result Plan StackError) (t : Data) → Gives (λ p. p) r (runnable_at known t) → IfOk r IsRunnable
 unfolding runnable_at
 runnable_difs known (Ok p) t h =
-    let (_, keys, h1) = bind_ok (unless 2 (unready_key t)) _ p h in
+    let (_, _, h1) = bind_ok (unless 2 (keys_fault t)) _ p h in
     let (_, types, h2) = bind_ok (unless 3 (unready_type t)) _ p h1 in
-    let static = all_static t (unbroken 3 (unready_type t) _ types) in
-    let free = unruled t (unbroken 2 (unready_key t) _ keys) in
-    of_stack known t p (λ k e within. record { is_static = static k e within; unruled = free k e within }) h2
+    of_stack known t p (all_static t (unbroken 3 (unready_type t) _ types)) h2
 runnable_difs known (Err e) t h = tt
 
 -- what is read where all of it runs is a plan
 pub runnable_plan : (known : List ℕ → Bool) (r : Result Plan StackError) (t : Data) → Gives (λ p. p) r (runnable_at known t) → IfOk r IsPlan
 unfolding runnable_at
 runnable_plan known (Ok p) t h =
-    let (_, _, h1) = bind_ok (unless 2 (unready_key t)) _ p h in
+    let (_, _, h1) = bind_ok (unless 2 (keys_fault t)) _ p h in
     let (_, _, h2) = bind_ok (unless 3 (unready_type t)) _ p h1 in
     is_plan known t p h2
 runnable_plan known (Err e) t h = tt

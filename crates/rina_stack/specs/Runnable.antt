@@ -1,5 +1,5 @@
 -- What the program runs, and the rules by which it refuses the rest.
-use Rattle.std.specs.Prelude.{◌≡◌, ℕ, ◌+◌, ◌||◌, not, Bool, true, false, All, List, [], length, codes, Option, Some, None, Result, Ok, Err, is_some, option_and_then}
+use Rattle.std.specs.Prelude.{◌≡◌, ℕ, ◌+◌, not, Bool, true, false, All, List, length, codes, Option, Some, None, Result, Ok, Err, option_and_then}
 use Rattle.toml.specs.Data.{Data, get, as_bool}
 use Rattle.rina_base.specs.Traverse.{◌>>=◌}
 use Rattle.rina_plan.specs.declared.dif.DifPlan.{DifPlan}
@@ -13,18 +13,6 @@ use Rattle.rina_stack.specs.declared.plan.Plan.{Plan}
 use Rattle.rina_stack.specs.Rules.{earlier}
 use Rattle.rina_stack.specs.Scopes.{unresolved_scope}
 use Rattle.rina_stack.specs.Stack.{stack_at, ReadsBy}
-
--- rules of access control, or what is allowed without one
-abbrev pub is_ruled : Data → Bool
-is_ruled d = is_some (get (codes "rule") d) || is_some (get (codes "default") d)
-
--- the first DIF with rules
-unfoldable pub unready_item : Data → Option ℕ
-unready_item d = first_item (1 + length (items_at (codes "wire") d)) is_ruled (items_at (codes "dif") d)
-
--- the program runs no access rules: they are refused as keys that are not listed
-unfoldable pub unready_key : Data → Option ℕ
-unready_key d = earlier (keys_fault d) (unready_item d)
 
 abbrev pub is_yes : Option Bool → Bool
 is_yes (Some b) = b
@@ -51,7 +39,7 @@ unready_type d = earlier (item_of (sketch_at (unresolved_scope 3) d)) (first_dyn
 -- the plan of a table, where all of it runs
 unfoldable pub runnable_at : (List ℕ → Bool) → Data → Result Plan StackError
 runnable_at known d = do
-  _ ← unless 2 (unready_key d)
+  _ ← unless 2 (keys_fault d)
   _ ← unless 3 (unready_type d)
   stack_at known d
 
@@ -59,11 +47,6 @@ runnable_at known d = do
 abbrev pub ReadsRunnable : (List ℕ → Bool) → Result Plan StackError → List ℕ → Type 0
 ReadsRunnable known = ReadsBy (runnable_at known)
 
--- a DIF is static, and all acts are allowed in it
-pub record IsRunnableDif (d : DifPlan) : Type 0 where
-  pub is_static : d.is_static ≡ true
-  pub rules : d.rules ≡ []
-  pub allow : d.allow ≡ true
-
+-- its DIFs are static
 abbrev pub IsRunnable : Plan → Type 0
-IsRunnable p = All IsRunnableDif p.difs
+IsRunnable p = All (λ (d : DifPlan). d.is_static ≡ true) p.difs

@@ -1,11 +1,12 @@
-//! Refuses what the program does not run: access rules, and DIFs that are not static.
+//! Refuses what the program does not run: DIFs that are not static.
 ghost use Rattle.std.specs.Prelude.{◌≡◌, ◌<◌, Ok, None, length, map, position, IfOk, IfErr, IsOk, IfSome};
 ghost use Rattle.toml.specs.View.{view};
 ghost use Rattle.rina_table.specs.Faults.{Gives};
 ghost use Rattle.rina_table.specs.Items.{sketch_at};
+ghost use Rattle.rina_table.specs.Keys.{keys_fault};
 ghost use Rattle.rina_stack.specs.Scopes.{unresolved_scope};
 ghost use Rattle.rina_stack.specs.Plan.{IsPlan};
-ghost use Rattle.rina_stack.specs.Runnable.{is_ruled, is_dynamic, unready_item, unready_key, first_dynamic, item_of, unready_type, runnable_at, ReadsRunnable, IsRunnable};
+ghost use Rattle.rina_stack.specs.Runnable.{is_dynamic, first_dynamic, item_of, unready_type, runnable_at, ReadsRunnable, IsRunnable};
 
 use crate::duplicates::earlier;
 use crate::plan::Plan;
@@ -15,52 +16,6 @@ use crate::references::read_unresolved;
 use rina_table::{StackError, check, first_dif_item, items_at, key_fault};
 use std::alloc::Global;
 use toml::Value;
-
-fn is_ruled(dif: &Value) -> bool
-    ensures { result ≡ is_ruled (view dif.now) }
-{
-    dif.get("rule").is_some() || dif.get("default").is_some()
-}
-
-fn first_ruled_in(difs: &[Value]) -> Option<usize>
-    ensures place { result ≡ position (λ v. is_ruled (view v)) difs.now }
-    ensures within { IfSome result (λ i. i < length difs.now) }
-{
-    difs.iter().position(|dif| is_ruled(dif))
-}
-
-fn first_ruled(difs: &[Value]) -> Option<usize>
-    ensures place { result ≡ position is_ruled (map view difs.now) }
-    ensures within { IfSome result (λ i. i < length difs.now) }
-{
-    first_ruled_in(difs)
-}
-
-/// The first DIF with a key that does not run.
-#[tactic(auto, unfolding(crate::specs::Runnable::unready_item))]
-fn unready_item(stack: &Value) -> Result<Option<usize>, StackError>
-    ensures read { Gives (λ f. f) result (Ok (unready_item (view stack.now))) }
-    ensures counted { IsOk result }
-{
-    let wires = items_at(stack, "wire");
-    let difs = items_at(stack, "dif");
-    let first = first_dif_item(wires.len(), difs.len())?;
-    match first_ruled(difs) {
-        Some(at) => Ok(Some(first + at)),
-        None => Ok(None),
-    }
-}
-
-/// The first item with a key that is not listed or does not run.
-#[tactic(auto, unfolding(crate::specs::Runnable::unready_key))]
-fn unready_key(stack: &Value) -> Result<Option<usize>, StackError>
-    ensures read { Gives (λ f. f) result (Ok (unready_key (view stack.now))) }
-    ensures counted { IsOk result }
-{
-    let fault = key_fault(stack)?;
-    let unready = unready_item(stack)?;
-    Ok(earlier(fault, unready))
-}
 
 fn is_dynamic(dif: &Value) -> bool
     ensures { result ≡ is_dynamic (view dif.now) }
@@ -124,13 +79,13 @@ fn unready_type(alloc: Global, stack: &Value) -> Result<Option<usize>, StackErro
     Ok(earlier(fault, dynamic))
 }
 
-/// The stack of a table that runs, or the first rule that it breaks. A key that is not listed or does not run is told also where memory ran out.
+/// The stack of a table that runs, or the first rule that it breaks. A key that is not listed is told also where memory ran out.
 #[tactic(auto, unfolding(crate::specs::Runnable::runnable_at))]
 fn runnable_of<P: Policies>(alloc: Global, policies: &P, stack: &Value) -> Result<Plan, StackError>
     ensures read { Gives (λ p. p) result (runnable_at (P.knows policies.now) (view stack.now)) }
-    ensures memory { IfErr result (λ e. e ≡ StackError.Memory → unready_key (view stack.now) ≡ None) }
+    ensures memory { IfErr result (λ e. e ≡ StackError.Memory → keys_fault (view stack.now) ≡ None) }
 {
-    let key = unready_key(stack)?;
+    let key = key_fault(stack)?;
     check(2, key)?;
     let value = unready_type(alloc, stack)?;
     check(3, value)?;
@@ -138,8 +93,7 @@ fn runnable_of<P: Policies>(alloc: Global, policies: &P, stack: &Value) -> Resul
 }
 
 /// The stack that a text describes, or the first rule that it breaks. What the program does not run breaks a
-/// rule: a DIF's `rule` and `default` count as keys that are not listed (rule 2), and a DIF that is not static
-/// lacks `static = true` (rule 3).
+/// rule: a DIF that is not static lacks `static = true` (rule 3).
 pub fn read_runnable<P: Policies>(
     alloc: Global,
     text: &[u8],

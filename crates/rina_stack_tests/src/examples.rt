@@ -49,7 +49,7 @@ flow = [
   { cube = 3, from = { node = 'a', app = 's3', label = 'p3' }, to = { node = 'b', app = 't3', label = 'q3' } },
 ]
 %%
-plan 1 1, 2 2
+plan 1 1, plan 1 1
 # A static DIF whose PDUs take whole messages of management; who may allocate is ruled.
 nodes = ['a', 'b']
 

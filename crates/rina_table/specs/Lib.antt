@@ -5,3 +5,4 @@ pub mod Names
 pub mod Fields
 pub mod Rows
 pub mod Items
+pub mod Groups

@@ -11,7 +11,7 @@ use crate::value::items_at;
 use toml::{Table, Value};
 
 /// A kind of table.
-#[derive(Clone, Copy, Debug, PartialEq, Eq)]
+#[derive(Clone, Copy)]
 pub(crate) enum Shape {
     Top,
     Wire,
@@ -187,10 +187,16 @@ fn has_unlisted_at(of: Shape, value: &Value, key: &str) -> bool
     }
 }
 
+#[tactic(auto, using(std::proofs::lemmas::List::drop_more))]
 fn any_value_has_unlisted(of: Shape, values: &[Value]) -> bool
     ensures { result ≡ list_any (λ v. has_unlisted of (view v)) values.now }
 {
-    values.iter().any(|value| has_unlisted(of, value))
+    'values: for value in values {
+        if has_unlisted(of, value) {
+            return true;
+        }
+    }
+    false
 }
 
 fn any_has_unlisted(of: Shape, values: &[Value]) -> bool
@@ -222,10 +228,16 @@ fn flow_has_unlisted(value: &Value) -> bool
         || has_unlisted_at(Shape::End, value, "to")
 }
 
+#[tactic(auto, using(std::proofs::lemmas::List::drop_more))]
 fn any_flow_value_has_unlisted(values: &[Value]) -> bool
     ensures { result ≡ list_any (λ v. flow_has_unlisted (view v)) values.now }
 {
-    values.iter().any(|value| flow_has_unlisted(value))
+    'values: for value in values {
+        if flow_has_unlisted(value) {
+            return true;
+        }
+    }
+    false
 }
 
 fn any_flow_has_unlisted(values: &[Value]) -> bool
@@ -252,7 +264,14 @@ fn first_value_of_unlisted_wire(values: &[Value]) -> Option<usize>
     ensures place { result ≡ position (λ v. wire_has_unlisted (view v)) values.now }
     ensures within { IfSome result (λ i. i < length values.now) }
 {
-    values.iter().position(|value| wire_has_unlisted(value))
+    let mut at = 0usize;
+    'values: for value in values {
+        if wire_has_unlisted(value) {
+            return Some(at);
+        }
+        at += 1;
+    }
+    None
 }
 
 fn first_unlisted_wire(values: &[Value]) -> Option<usize>
@@ -266,7 +285,14 @@ fn first_value_of_unlisted_dif(values: &[Value]) -> Option<usize>
     ensures place { result ≡ position (λ v. dif_has_unlisted (view v)) values.now }
     ensures within { IfSome result (λ i. i < length values.now) }
 {
-    values.iter().position(|value| dif_has_unlisted(value))
+    let mut at = 0usize;
+    'values: for value in values {
+        if dif_has_unlisted(value) {
+            return Some(at);
+        }
+        at += 1;
+    }
+    None
 }
 
 fn first_unlisted_dif(values: &[Value]) -> Option<usize>

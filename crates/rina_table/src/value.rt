@@ -182,10 +182,16 @@ pub(crate) fn items_or_none<'a>(
     }
 }
 
+#[tactic(auto, using(std::proofs::lemmas::List::drop_more))]
 fn are_tables_here(values: &[Value]) -> bool
     ensures { result ≡ list_all (λ v. is_table (view v)) values.now }
 {
-    values.iter().all(|value| value.is_table())
+    'values: for value in values {
+        if !value.is_table() {
+            return false;
+        }
+    }
+    true
 }
 
 fn are_tables(values: &[Value]) -> bool

@@ -1,11 +1,11 @@
 -- Timers stand where they belong, as they are set, and as the clock goes on.
-use Rattle.std.proofs.Common.{◌≡◌, ◌≢◌, ℕ, ◌+◌, ◌<◌, ◌≤◌, ◌⊎◌, List, Option, None, Some, length, slice_set, refl, sym, ◌∙◌, ap, arith, inl, inr, get_or-set_other, get_or-set_same, length-set}
+use Rattle.std.proofs.Common.{◌≡◌, ◌≢◌, ℕ, ◌+◌, ◌-◌, ◌<◌, ◌≤◌, ◌⊎◌, List, Option, None, Some, length, slice_set, refl, sym, ◌∙◌, ap, arith, inl, inr, get_or-set_other, get_or-set_same, length-set}
 use Rattle.std.proofs.lemmas.Bool.{cases_lt}
 use Rattle.std.proofs.lemmas.Bool.Decides.{eqb_tells, leb_tells}
 use Rattle.std.proofs.lemmas.List.{get_or_past}
 use Rattle.std.proofs.lemmas.Option.{get_or_from_slice_get, slice_get-get_or}
 use Rattle.rina_timers.specs.Chains.{chain_of, link, tick, tick_of, IsEarliestOf}
-use Rattle.rina_timers.specs.Times.{IsSet, IsFirst, IsDue}
+use Rattle.rina_timers.specs.Times.{IsSet, IsFirst, IsDue, IsNoneBefore, IsSomeDue}
 use Rattle.rina_timers.specs.Wheel.{slot, slot_start, place, IsPlaced, IsPlacedBut, IsNextSlot, IsReached}
 use Rattle.rina_timers.proofs.Slots.{start_after, start_within, slot_drops, slot_stays}
 
@@ -158,3 +158,18 @@ is_due times chains clock now p id h le = (tick_of times id, first_of_all times 
 
 pub not_due : (times : List (Option ℕ)) (chains : List ℕ) (clock now : ℕ) → IsPlaced times chains clock → (id : ℕ) → IsEarliestOf times chains 1 (Some id) → now < tick_of times id → IsDue now times None
 not_due times chains clock now p id h late = (λ m at s. elim ((first_of_all times chains clock p id h).first m at s) [ inl lt ↦ omega (arith, lt, late) | inr same ↦ (let z = same.0 in omega (arith, z, late)) ])
+
+-- of those that are due one whose tick has come
+pub some_due : (times : List (Option ℕ)) (chains : List ℕ) (clock now : ℕ) → IsPlaced times chains clock → (id : ℕ) → chain_of chains id ≡ 1 → tick_of times id ≤ now → IsSomeDue now times (Some id)
+some_due times chains clock now p id e le = elim (chain_told times chains clock p id) [
+  | inl not ↦ (let z = not.0 in absurd (omega (arith, z, e)))
+  | inr (inr (above, is, after, at)) ↦ absurd (omega (arith, above, e))
+  | inr (inl (one, is, reached)) ↦ (tick_of times id, set_link_is times id (tick_of times id) is, le)
+]
+
+-- none is set before the first tick of the first slot
+pub none_before : (times : List (Option ℕ)) (chains : List ℕ) (clock c id start : ℕ) → IsPlaced times chains clock → ((m : ℕ) → chain_of chains m ≢ 0 → c ≤ chain_of chains m) → c ≢ 0 → c ≢ 1 → chain_of chains id ≡ c → start ≡ slot_start 4 clock (tick_of times id) → clock < start → IsNoneBefore start times
+none_before times chains clock c id start p least some more e is after = (λ m at h.
+    let out : (k : ℕ) → chain_of chains k ≢ 1 = (λ k z. let le = least k (λ z'. absurd (omega (arith, z, z'))) in absurd (omega (arith, le, z, some, more))) in
+    let late = later_reached times chains clock (start - 1) c id p least some more e (omega (arith, is, after)) out m at h in
+    omega (arith, late, after))

@@ -19,3 +19,12 @@ IsDue now times None = (id at : ℕ) → IsSet times id at → now < at
 abbrev pub after_due : Option ℕ → List (Option ℕ) → List (Option ℕ)
 after_due (Some id) times = slice_set times id None
 after_due None times = times
+
+-- a timer whose tick has come; None where that of none has
+abbrev pub IsSomeDue : ℕ → List (Option ℕ) → Option ℕ → Type 0
+IsSomeDue now times (Some id) = (at : ℕ) × IsSet times id at × (at ≤ now)
+IsSomeDue now times None = (id at : ℕ) → IsSet times id at → now < at
+
+-- no timer is set before this tick
+abbrev pub IsNoneBefore : ℕ → List (Option ℕ) → Type 0
+IsNoneBefore until times = (id at : ℕ) → IsSet times id at → until ≤ at

@@ -1,6 +1,7 @@
 //! A wheel of four levels of 64 slots, in which timers stand by their ticks.
 ghost use Rattle.std.specs.Prelude.{◌≡◌, ◌≢◌, ℕ, ◌+◌, ◌*◌, ◌<◌, ◌≤◌, Option, Some, None, length, MatchOption};
 ghost use Rattle.rina_timers.specs.Chains.{link};
+ghost use Rattle.rina_timers.specs.Times.{IsNoneBefore};
 ghost use Rattle.rina_timers.specs.Wheel.{slot, slot_start, reach, place, IsPlaced, IsPlacedBut, IsNextSlot, IsReached};
 
 use crate::chains::{Chains, tick_of};
@@ -93,6 +94,26 @@ fn next_slot(
     } else {
         None
     }
+}
+
+/// A tick before which no timer is set: the first one of the first slot with timers, 0 where one is due, the greatest u32
+/// where none is set.
+pub(crate) fn none_until(chains: &mut Chains, times: &[Option<Tick>], clock: Tick) -> Tick
+    requires { IsPlaced times.now chains.old clock }
+    ensures none { IsNoneBefore result times.now }
+    ensures same { chains.new ≡ chains.old }
+{
+    let Some(chain) = chains.first_chain() else {
+        return Tick::MAX;
+    };
+    if chain == DUE {
+        return 0;
+    }
+    let Some(id) = chains.first(chain) else {
+        return 0;
+    };
+    let at = tick_of(times, id);
+    slot_start(LEVELS, clock, at)
 }
 
 /// Goes on to the first timers that are due, and answers the new clock.

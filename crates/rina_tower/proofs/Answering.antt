@@ -12,7 +12,7 @@ use Rattle.rina_data.specs.declared.settings.Settings.{Settings}
 use Rattle.rina_data.specs.declared.step.OutStep.{OutStep}
 use Rattle.rina_data.specs.declared.step.OutStep.TheVariants as out
 use Rattle.rina_data.specs.declared.step.StepError.{StepError}
-use Rattle.rina_data.specs.declared.step.StepError.TheVariants.{Memory, NoIpc, NoLink}
+use Rattle.rina_data.specs.declared.step.StepError.TheVariants.{CountSpent, Memory, NoIpc, NoLink}
 use Rattle.rina_data.specs.Configs.{config_of}
 use Rattle.rina_data.specs.Deciding.{process_of}
 use Rattle.rina_data.specs.Process.{Process}
@@ -37,6 +37,7 @@ asks_any quiet asks asks' (Ok (out.Sent key)) f a = f a
 asks_any quiet asks asks' (Ok (out.Off key cause)) f a = f a
 asks_any quiet asks asks' (Ok (out.Held why)) f a = f a
 asks_any quiet asks asks' (Err NoLink) f a = a
+asks_any quiet asks asks' (Err (CountSpent need left)) f a = a
 asks_any quiet asks asks' (Err NoIpc) f a = a
 asks_any quiet asks asks' (Err Memory) f a = f a
 

@@ -49,14 +49,12 @@ registers_alone who own s fac node app (Err register.Memory) s' w = same_alone w
 registers_alone who own s fac node app (Err register.Already) s' w = same_alone who s s' w.1
 registers_alone who own s fac node app (Err register.NoMember) s' w = same_alone who s s' w.1
 registers_alone who own s fac node app (Err (register.CountSpent n k)) s' w = same_alone who s s' w.1
-registers_alone who own s fac node app (Err register.Unbuilt) s' w = same_alone who s s' w.1
 
 pub unregisters_alone : (who : List ℕ → Type 0) (own : Option UnregisterError) (s : Seen) (fac node : ℕ) (app : List ℕ) (r : Result (Unit {0}) UnregisterError) (s' : Seen) → Unregisters own s fac node app r s' → LeavesNow who s s'
 unregisters_alone who own s fac node app (Ok done) s' w = named who s fac w.1.facility _ s' w.1.stands refl w.1.new_is (later_unregisters own s fac node app (Ok done) s' w)
 unregisters_alone who own s fac node app (Err unregister.Memory) s' w = same_alone who s s' w
 unregisters_alone who own s fac node app (Err unregister.NotThere) s' w = same_alone who s s' w.1
 unregisters_alone who own s fac node app (Err (unregister.CountSpent n k)) s' w = same_alone who s s' w.1
-unregisters_alone who own s fac node app (Err unregister.Unbuilt) s' w = same_alone who s s' w.1
 
 pub claims_alone : (who : List ℕ → Type 0) (s : Seen) (fac node : ℕ) (app : List ℕ) (r : Option Port) (s' : Seen) → Claims s fac node app r s' → LeavesNow who s s'
 claims_alone who s fac node app None s' w = same_alone who s s' w.1

@@ -31,10 +31,12 @@ use Rattle.rina_iface.specs.Send.{Sends}
 use Rattle.rina_iface.specs.Unregister.{Unregisters}
 use Rattle.rina_dif.specs.declared.dif.Dif.{Dif}
 use Rattle.rina_dif.specs.Facade.{StaysStanding, own_refusal}
+use Rattle.rina_dif.specs.Registering.{register_refusal, unregister_refusal}
 use Rattle.rina_dif.proofs.Bound.{may_bind as may_make}
 use Rattle.rina_tower.specs.declared.tower.Tower.{Tower, Rank', Wires}
 use Rattle.rina_tower.specs.Bystanders.{Anyone, IsIpc, LeavesNow}
-use Rattle.rina_tower.specs.Calls.{AreDifs, BindsFrom, MayBind, FreesFrom, PassesFrom, SendsFrom, Serves, WaitsThere}
+use Rattle.rina_tower.specs.Calls.{AreDifs, BindsFrom, MayBind, FreesFrom, PassesFrom, RegistersFrom, SendsFrom, Serves, UnregistersFrom, WaitsThere}
+use Rattle.rina_tower.specs.Refusals.{own_register, own_unregister}
 use Rattle.rina_tower.specs.Ranks.{fac_of_dif, height_of, now_of, seen_now, seen_of, seen_of_difs}
 use Rattle.rina_tower.specs.Stands.{AreStanding, At, IsRank, IsTower, kept_of}
 use Rattle.rina_tower.specs.Levels.{AtDif, IsAtDif, SameBelow}
@@ -71,6 +73,18 @@ rank_sends port bytes result none difs difs' below rank v a = elim a [
   | inr h ↦ subst (λ (ds : List Dif). IsRank ds below) (sym h.2) rank
 ]
 
+pub rank_registers : (fac node : ℕ) (app : List ℕ) (result : Result (Unit {0}) RegisterError) (none : Type 0) (difs difs' : List Dif) (below : Tower) → IsRank difs below → IsTower below → AtDif fac (RegistersFrom fac node app result) none difs difs' → IsRank difs' below
+rank_registers fac node app result none difs difs' below rank v a = elim a [
+  | inl h ↦ rank_after difs difs' below fac h.dif h.dif' rank v h.is_dif h.done.serves.stands h.done.serves.settings h.new_is
+  | inr h ↦ subst (λ (ds : List Dif). IsRank ds below) (sym h.2) rank
+]
+
+pub rank_unregisters : (fac node : ℕ) (app : List ℕ) (result : Result (Unit {0}) UnregisterError) (none : Type 0) (difs difs' : List Dif) (below : Tower) → IsRank difs below → IsTower below → AtDif fac (UnregistersFrom fac node app result) none difs difs' → IsRank difs' below
+rank_unregisters fac node app result none difs difs' below rank v a = elim a [
+  | inl h ↦ rank_after difs difs' below fac h.dif h.dif' rank v h.is_dif h.done.serves.stands h.done.serves.settings h.new_is
+  | inr h ↦ subst (λ (ds : List Dif). IsRank ds below) (sym h.2) rank
+]
+
 pub rank_passes : (port : Port) (difs difs' : List Dif) (below : Tower) → IsRank difs below → IsTower below → IsAtDif (PassesFrom port) port.fac difs difs' → IsRank difs' below
 rank_passes port difs difs' below rank v h = rank_after difs difs' below port.fac h.dif h.dif' rank v h.is_dif h.done.serves.stands h.done.serves.settings h.new_is
 
@@ -92,16 +106,26 @@ call_seen call n difs difs' below d d' rank at serves is =
 none_there : (difs : List Dif) (n now : ℕ) → slice_get difs n ≡ None → slice_get (seen_of_difs now difs).facs n ≡ None
 none_there difs n now none = slice_get-map fac_of_dif difs n ∙ ap (option_map fac_of_dif) none
 
-pub registers_seen : (fac node : ℕ) (app : List ℕ) (result : Result (Unit {0}) RegisterError) (difs difs' : List Dif) (below : Tower) → IsRank difs below → AtDif fac (Serves (λ s s'. Registers (Some register.Unbuilt) s fac node app result s') ChangesNothing fac) (result ≡ Err register.NoMember) difs difs' → Registers (Some register.Unbuilt) (seen_of_difs (now_of below) difs) fac node app result (seen_of_difs (now_of below) difs')
+-- the DIF of a call refuses what it does by itself
+pub own_there : {E : Type 0} (refusal : Dif → Option E) (difs : List Dif) (n : ℕ) (d : Dif) → slice_get difs n ≡ Some d → option_and_then refusal (slice_get difs n) ≡ refusal d
+own_there refusal difs n d is = ap (option_and_then refusal) is
+
+pub registers_seen : (fac node : ℕ) (app : List ℕ) (result : Result (Unit {0}) RegisterError) (difs difs' : List Dif) (below : Tower) → IsRank difs below → AtDif fac (RegistersFrom fac node app result) (result ≡ Err register.NoMember) difs difs' → Registers (own_register difs fac node) (seen_of_difs (now_of below) difs) fac node app result (seen_of_difs (now_of below) difs')
 registers_seen fac node app result difs difs' below rank a = elim a [
-  | inl h ↦ call_seen (λ s s'. Registers (Some register.Unbuilt) s fac node app result s') fac difs difs' below h.dif h.dif' rank h.is_dif h.done h.new_is
-  | inr h ↦ subst (λ (r : Result (Unit {0}) RegisterError). Registers (Some register.Unbuilt) (seen_of_difs (now_of below) difs) fac node app r (seen_of_difs (now_of below) difs')) (sym h.1) (rw (none_there difs fac (now_of below) h.0) refl, ap (seen_of_difs (now_of below)) h.2)
+  | inl h ↦
+      (let own = own_there (λ (d : Dif). register_refusal d node) difs fac h.dif h.is_dif in
+      subst (λ (o : Option RegisterError). Registers o (seen_of_difs (now_of below) difs) fac node app result (seen_of_difs (now_of below) difs')) (sym own)
+      (call_seen (λ s s'. Registers (register_refusal h.dif node) s fac node app result s') fac difs difs' below h.dif h.dif' rank h.is_dif h.done.serves h.new_is))
+  | inr h ↦ subst (λ (r : Result (Unit {0}) RegisterError). Registers (own_register difs fac node) (seen_of_difs (now_of below) difs) fac node app r (seen_of_difs (now_of below) difs')) (sym h.1) (rw (none_there difs fac (now_of below) h.0) refl, ap (seen_of_difs (now_of below)) h.2)
 ]
 
-pub unregisters_seen : (fac node : ℕ) (app : List ℕ) (result : Result (Unit {0}) UnregisterError) (difs difs' : List Dif) (below : Tower) → IsRank difs below → AtDif fac (Serves (λ s s'. Unregisters (Some unregister.Unbuilt) s fac node app result s') ChangesNothing fac) (result ≡ Err unregister.NotThere) difs difs' → Unregisters (Some unregister.Unbuilt) (seen_of_difs (now_of below) difs) fac node app result (seen_of_difs (now_of below) difs')
+pub unregisters_seen : (fac node : ℕ) (app : List ℕ) (result : Result (Unit {0}) UnregisterError) (difs difs' : List Dif) (below : Tower) → IsRank difs below → AtDif fac (UnregistersFrom fac node app result) (result ≡ Err unregister.NotThere) difs difs' → Unregisters (own_unregister difs fac node) (seen_of_difs (now_of below) difs) fac node app result (seen_of_difs (now_of below) difs')
 unregisters_seen fac node app result difs difs' below rank a = elim a [
-  | inl h ↦ call_seen (λ s s'. Unregisters (Some unregister.Unbuilt) s fac node app result s') fac difs difs' below h.dif h.dif' rank h.is_dif h.done h.new_is
-  | inr h ↦ subst (λ (r : Result (Unit {0}) UnregisterError). Unregisters (Some unregister.Unbuilt) (seen_of_difs (now_of below) difs) fac node app r (seen_of_difs (now_of below) difs')) (sym h.1) (rw (none_there difs fac (now_of below) h.0) refl, ap (seen_of_difs (now_of below)) h.2)
+  | inl h ↦
+      (let own = own_there (λ (d : Dif). unregister_refusal d node) difs fac h.dif h.is_dif in
+      subst (λ (o : Option UnregisterError). Unregisters o (seen_of_difs (now_of below) difs) fac node app result (seen_of_difs (now_of below) difs')) (sym own)
+      (call_seen (λ s s'. Unregisters (unregister_refusal h.dif node) s fac node app result s') fac difs difs' below h.dif h.dif' rank h.is_dif h.done.serves h.new_is))
+  | inr h ↦ subst (λ (r : Result (Unit {0}) UnregisterError). Unregisters (own_unregister difs fac node) (seen_of_difs (now_of below) difs) fac node app r (seen_of_difs (now_of below) difs')) (sym h.1) (rw (none_there difs fac (now_of below) h.0) refl, ap (seen_of_difs (now_of below)) h.2)
 ]
 
 pub allocates_seen : (ask : Ask) (result : Result Port AllocateError) (difs difs' : List Dif) (below : Tower) → IsRank difs below → AtDif ask.fac (Serves (λ s s'. Allocates (Some allocate.Unbuilt) s ask result s') ChangesNothing ask.fac) (result ≡ Err allocate.NoMember) difs difs' → Allocates (Some allocate.Unbuilt) (seen_of_difs (now_of below) difs) ask result (seen_of_difs (now_of below) difs')

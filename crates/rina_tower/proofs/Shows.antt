@@ -1,7 +1,7 @@
 -- The objects of a member of a DIF of a rank.
 use Rattle.std.proofs.Common.{◌≡◌, ◌∙◌, ℕ, List, Some, Result, Ok, Err, inr}
 use Rattle.rina_data.specs.declared.step.StepError.{StepError}
-use Rattle.rina_data.specs.declared.step.StepError.TheVariants.{Memory, NoIpc, NoLink}
+use Rattle.rina_data.specs.declared.step.StepError.TheVariants.{CountSpent, Memory, NoIpc, NoLink}
 use Rattle.rina_data.specs.Configs.{config_of}
 use Rattle.rina_dif_law.specs.Sending.{home}
 use Rattle.rina_dif.specs.declared.dif.Dif.{Dif}
@@ -17,3 +17,4 @@ shows_there t r n node under d (Ok objects) there member is = record { dif = d; 
 shows_there t r n node under d (Err Memory) there member is = inr (record { place = is.place; at_home = member ∙ is.at_home })
 shows_there t r n node under d (Err NoIpc) there member is = member ∙ is
 shows_there t r n node under d (Err NoLink) there member is = absurd is
+shows_there t r n node under d (Err (CountSpent need left)) there member is = absurd is

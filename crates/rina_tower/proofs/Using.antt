@@ -81,6 +81,7 @@ ins_use d lines below i n (Ok (ins.Took key end)) d' lines' below' ipc st h =
 ins_use d lines below i n (Err errors.Memory) d' lines' below' ipc st h = inl h.2
 ins_use d lines below i n (Err errors.NoIpc) d' lines' below' ipc st h = inl h.3
 ins_use d lines below i n (Err errors.NoLink) d' lines' below' ipc st h = inl h.3
+ins_use d lines below i n (Err (errors.CountSpent need left)) d' lines' below' ipc st h = absurd h
 
 ins_home : (d : DifSeen) (lines : List Direction) (below : Seen) (n : ℕ) (r : Result InStep StepError) (d' : DifSeen) (lines' : List Direction) (below' : Seen) (o : Option ℕ) → AreIpc d.config.members → IsStanding d lines below
     → AtHome o (λ i. Ins d lines below i n r d' lines' below') ((r ≡ Err errors.NoIpc) × (d' ≡ d) × (lines' ≡ lines) × (below' ≡ below)) → MayUse below below'
@@ -92,6 +93,7 @@ ins_at d lines below node n (Ok done) d' lines' below' ipc st h = ins_home d lin
 ins_at d lines below node n (Err errors.Memory) d' lines' below' ipc st h = inl h.2
 ins_at d lines below node n (Err errors.NoIpc) d' lines' below' ipc st h = ins_home d lines below n (Err errors.NoIpc) d' lines' below' (home node d.config.members) ipc st h
 ins_at d lines below node n (Err errors.NoLink) d' lines' below' ipc st h = ins_home d lines below n (Err errors.NoLink) d' lines' below' (home node d.config.members) ipc st h
+ins_at d lines below node n (Err (errors.CountSpent need left)) d' lines' below' ipc st h = ins_home d lines below n (Err (errors.CountSpent need left)) d' lines' below' (home node d.config.members) ipc st h
 
 pub takes_use : (d d' : Dif) (below : Seen) (node n : ℕ) (r : Result InStep StepError) (below' : Seen) → AreIpc (config_of d.settings).members → Stands d below → ((lines : List Direction) → Holds d lines below → TakesHome d lines below node n r d' below') → MayUse below below'
 takes_use d d' below node n r below' ipc st does =
@@ -130,12 +132,14 @@ goes_use refuses d lines below i n process (Ok (outs.Held why)) process' below' 
 goes_use refuses d lines below i n process (Err errors.Memory) process' below' ipc st is h = inl h.1
 goes_use refuses d lines below i n process (Err errors.NoIpc) process' below' ipc st is h = absurd h
 goes_use refuses d lines below i n process (Err errors.NoLink) process' below' ipc st is h = inl h.2
+goes_use refuses d lines below i n process (Err (errors.CountSpent need left)) process' below' ipc st is h = absurd h
 
 outs_use : (refuses : Port → ℕ → Option SendError) (d : DifSeen) (lines : List Direction) (below : Seen) (i n : ℕ) (r : Result OutStep StepError) (d' : DifSeen) (below' : Seen) → AreIpc d.config.members → IsStanding d lines below → Outs refuses d below i n r d' below' → MayUse below below'
 outs_use refuses d lines below i n (Ok done) d' below' ipc st h = goes_use refuses d lines below i n h.process (Ok done) h.process' below' ipc st h.is_process h.done
 outs_use refuses d lines below i n (Err errors.Memory) d' below' ipc st h = goes_use refuses d lines below i n h.process (Err errors.Memory) h.process' below' ipc st h.is_process h.done
 outs_use refuses d lines below i n (Err errors.NoIpc) d' below' ipc st h = inl h.2
 outs_use refuses d lines below i n (Err errors.NoLink) d' below' ipc st h = goes_use refuses d lines below i n h.process (Err errors.NoLink) h.process' below' ipc st h.is_process h.done
+outs_use refuses d lines below i n (Err (errors.CountSpent need left)) d' below' ipc st h = goes_use refuses d lines below i n h.process (Err (errors.CountSpent need left)) h.process' below' ipc st h.is_process h.done
 
 outs_home : (refuses : Port → ℕ → Option SendError) (d : DifSeen) (lines : List Direction) (below : Seen) (n : ℕ) (r : Result OutStep StepError) (d' : DifSeen) (below' : Seen) (o : Option ℕ) → AreIpc d.config.members → IsStanding d lines below
     → AtHome o (λ at. Outs refuses d below at n r d' below') ((r ≡ Err errors.NoIpc) × (d' ≡ d) × (below' ≡ below)) → MayUse below below'
@@ -147,6 +151,7 @@ outs_at refuses d lines below node n (Ok done) d' below' ipc st h = outs_home re
 outs_at refuses d lines below node n (Err errors.Memory) d' below' ipc st h = inl h.1
 outs_at refuses d lines below node n (Err errors.NoIpc) d' below' ipc st h = outs_home refuses d lines below n (Err errors.NoIpc) d' below' (home node d.config.members) ipc st h
 outs_at refuses d lines below node n (Err errors.NoLink) d' below' ipc st h = outs_home refuses d lines below n (Err errors.NoLink) d' below' (home node d.config.members) ipc st h
+outs_at refuses d lines below node n (Err (errors.CountSpent need left)) d' below' ipc st h = outs_home refuses d lines below n (Err (errors.CountSpent need left)) d' below' (home node d.config.members) ipc st h
 
 pub leaves_use : (refuses : Port → ℕ → Option SendError) (d d' : Dif) (below : Seen) (node n : ℕ) (r : Result OutStep StepError) (below' : Seen) → AreIpc (config_of d.settings).members → Stands d below → OutsAt refuses (seen_of d) below node n r (seen_of d') below' → MayUse below below'
 leaves_use refuses d d' below node n r below' ipc st does = outs_at refuses (seen_of d) st.0 below node n r (seen_of d') below' ipc st.1.standing does
@@ -204,3 +209,4 @@ clock_uses d lines below node (Ok done) d' lines' below' ipc links h = clock_hom
 clock_uses d lines below node (Err errors.Memory) d' lines' below' ipc links h = inl h.2
 clock_uses d lines below node (Err errors.NoIpc) d' lines' below' ipc links h = clock_home d lines below node (Err errors.NoIpc) d' lines' below' (home node (config_of d.settings).members) ipc links h
 clock_uses d lines below node (Err errors.NoLink) d' lines' below' ipc links h = clock_home d lines below node (Err errors.NoLink) d' lines' below' (home node (config_of d.settings).members) ipc links h
+clock_uses d lines below node (Err (errors.CountSpent need left)) d' lines' below' ipc links h = inl h.3

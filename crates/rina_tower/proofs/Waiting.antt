@@ -66,6 +66,7 @@ ins_wait d lines below i n (Ok (ins.Took key end)) d' lines' below' h = settles_
 ins_wait d lines below i n (Err errors.Memory) d' lines' below' h = ap (λ (x : DifSeen). x.waiting) h.0
 ins_wait d lines below i n (Err errors.NoIpc) d' lines' below' h = ap (λ (x : DifSeen). x.waiting) h.1
 ins_wait d lines below i n (Err errors.NoLink) d' lines' below' h = ap (λ (x : DifSeen). x.waiting) h.1
+ins_wait d lines below i n (Err (errors.CountSpent need left)) d' lines' below' h = absurd h
 
 ins_home : (d : DifSeen) (lines : List Direction) (below : Seen) (n : ℕ) (r : Result InStep StepError) (d' : DifSeen) (lines' : List Direction) (below' : Seen) (o : Option ℕ)
     → AtHome o (λ i. Ins d lines below i n r d' lines' below') ((r ≡ Err errors.NoIpc) × (d' ≡ d) × (lines' ≡ lines) × (below' ≡ below)) → SameWait d d'
@@ -77,6 +78,7 @@ ins_at d lines below node n (Ok done) d' lines' below' h = ins_home d lines belo
 ins_at d lines below node n (Err errors.Memory) d' lines' below' h = ap (λ (x : DifSeen). x.waiting) h.0
 ins_at d lines below node n (Err errors.NoIpc) d' lines' below' h = ins_home d lines below n (Err errors.NoIpc) d' lines' below' (home node d.config.members) h
 ins_at d lines below node n (Err errors.NoLink) d' lines' below' h = ins_home d lines below n (Err errors.NoLink) d' lines' below' (home node d.config.members) h
+ins_at d lines below node n (Err (errors.CountSpent need left)) d' lines' below' h = ins_home d lines below n (Err (errors.CountSpent need left)) d' lines' below' (home node d.config.members) h
 
 -- other next hops are nothing to them
 rerouted_waits : (d d' : DifSeen) → MayReroute d d' → SameWait d d'
@@ -95,6 +97,7 @@ outs_wait refuses d below i n (Ok done) d' below' h = ap (λ (x : DifSeen). x.wa
 outs_wait refuses d below i n (Err errors.Memory) d' below' h = ap (λ (x : DifSeen). x.waiting) h.new_is
 outs_wait refuses d below i n (Err errors.NoIpc) d' below' h = ap (λ (x : DifSeen). x.waiting) h.1
 outs_wait refuses d below i n (Err errors.NoLink) d' below' h = ap (λ (x : DifSeen). x.waiting) h.new_is
+outs_wait refuses d below i n (Err (errors.CountSpent need left)) d' below' h = ap (λ (x : DifSeen). x.waiting) h.new_is
 
 outs_home : (refuses : Port → ℕ → Option SendError) (d : DifSeen) (below : Seen) (n : ℕ) (r : Result OutStep StepError) (d' : DifSeen) (below' : Seen) (o : Option ℕ)
     → AtHome o (λ at. Outs refuses d below at n r d' below') ((r ≡ Err errors.NoIpc) × (d' ≡ d) × (below' ≡ below)) → SameWait d d'
@@ -106,6 +109,7 @@ leaves_wait refuses d d' below node n (Ok done) below' h = outs_home refuses (se
 leaves_wait refuses d d' below node n (Err errors.Memory) below' h = ap (λ (x : DifSeen). x.waiting) h.0
 leaves_wait refuses d d' below node n (Err errors.NoIpc) below' h = outs_home refuses (seen_of d) below n (Err errors.NoIpc) (seen_of d') below' (home node (seen_of d).config.members) h
 leaves_wait refuses d d' below node n (Err errors.NoLink) below' h = outs_home refuses (seen_of d) below n (Err errors.NoLink) (seen_of d') below' (home node (seen_of d).config.members) h
+leaves_wait refuses d d' below node n (Err (errors.CountSpent need left)) below' h = outs_home refuses (seen_of d) below n (Err (errors.CountSpent need left)) (seen_of d') below' (home node (seen_of d).config.members) h
 
 -- What comes with time
 
@@ -152,3 +156,4 @@ clock_waits d lines below node (Ok done) d' lines' below' s = clock_at d lines b
 clock_waits d lines below node (Err errors.Memory) d' lines' below' s = ap (λ (x : DifSeen). x.waiting) s.0
 clock_waits d lines below node (Err errors.NoIpc) d' lines' below' s = clock_at d lines below node (Err errors.NoIpc) d' lines' below' (home node (config_of d.settings).members) s
 clock_waits d lines below node (Err errors.NoLink) d' lines' below' s = clock_at d lines below node (Err errors.NoLink) d' lines' below' (home node (config_of d.settings).members) s
+clock_waits d lines below node (Err (errors.CountSpent need left)) d' lines' below' s = ap (λ (x : DifSeen). x.waiting) s.1

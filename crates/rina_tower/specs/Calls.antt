@@ -33,6 +33,7 @@ use Rattle.rina_dif.specs.Elsewhere.{ChangesOnly, IsPortAt, WhenOk, home_of}
 use Rattle.rina_dif.specs.Facade.{GoesOn, IsShownAs, PassesAt, StaysStanding, its_oldest, own_refusal, shown_as}
 use Rattle.rina_dif.specs.Freeing.{FreesAt}
 use Rattle.rina_dif.specs.Holding.{Holds}
+use Rattle.rina_dif.specs.Registering.{RegistersManaged, UnregistersManaged, register_refusal, unregister_refusal}
 use Rattle.rina_dif.specs.Sending.{SendsAt}
 use Rattle.rina_dif.specs.Whole.{IsDif}
 use Rattle.rina_wire.specs.Allocate.{AllocatesOn}
@@ -44,7 +45,7 @@ use Rattle.rina_wire.specs.Send.{SendsOn, passed}
 use Rattle.rina_wire.specs.Unregister.{UnregistersOn}
 use Rattle.rina_tower.specs.declared.tower.Tower.{Tower, Wires, Rank'}
 use Rattle.rina_tower.specs.Levels.{AtDif, IsAtDif}
-use Rattle.rina_tower.specs.Unchanged.{ChangesClaims, ChangesFlows, ChangesMembers, ChangesNames, ChangesNothing, ChangesTraffic}
+use Rattle.rina_tower.specs.Unchanged.{ChangesClaims, ChangesEntries, ChangesFlows, ChangesMembers, ChangesNames, ChangesNothing, ChangesTraffic}
 use Rattle.rina_tower.specs.MemoryFailure.{has_failed}
 
 -- all of these are DIFs
@@ -75,16 +76,25 @@ pub record Serves (call : Seen → Seen → Type 0) (changes : Dif → Dif → T
 
 -- Names and asks
 
+-- what `register` does at a DIF, to the managements of its members too
+pub record RegistersFrom (fac node : ℕ) (app : List ℕ) (result : Result (Unit {0}) RegisterError) (d d' : Dif) : Type 0 where
+  pub serves : Serves (λ s s'. Registers (register_refusal d node) s fac node app result s') ChangesEntries fac d d'
+  pub managed : RegistersManaged result d node app d'.managements
+
+pub record UnregistersFrom (fac node : ℕ) (app : List ℕ) (result : Result (Unit {0}) UnregisterError) (d d' : Dif) : Type 0 where
+  pub serves : Serves (λ s s'. Unregisters (unregister_refusal d node) s fac node app result s') ChangesEntries fac d d'
+  pub managed : UnregistersManaged result d node app d'.managements
+
 abbrev pub RegistersAtTop : ℕ → ℕ → List ℕ → Result (Unit {0}) RegisterError → Tower → Tower → Type 0
 RegistersAtTop fac node app result (Wires a) (Wires a') = RegistersOn a fac node app result a'
 RegistersAtTop fac node app result (Rank' p difs below) (Rank' p' difs' below') =
-    AtDif fac (Serves (λ s s'. Registers (Some register.Unbuilt) s fac node app result s') ChangesNothing fac) (result ≡ Err register.NoMember) difs difs' × (below' ≡ below)
+    AtDif fac (RegistersFrom fac node app result) (result ≡ Err register.NoMember) difs difs' × (below' ≡ below)
 RegistersAtTop fac node app result t t' = ⊥
 
 abbrev pub UnregistersAtTop : ℕ → ℕ → List ℕ → Result (Unit {0}) UnregisterError → Tower → Tower → Type 0
 UnregistersAtTop fac node app result (Wires a) (Wires a') = UnregistersOn a fac node app result a'
 UnregistersAtTop fac node app result (Rank' p difs below) (Rank' p' difs' below') =
-    AtDif fac (Serves (λ s s'. Unregisters (Some unregister.Unbuilt) s fac node app result s') ChangesNothing fac) (result ≡ Err unregister.NotThere) difs difs' × (below' ≡ below)
+    AtDif fac (UnregistersFrom fac node app result) (result ≡ Err unregister.NotThere) difs difs' × (below' ≡ below)
 UnregistersAtTop fac node app result t t' = ⊥
 
 abbrev pub AllocatesAtTop : Ask → Result Port AllocateError → Tower → Tower → Type 0

@@ -7,11 +7,9 @@ use Rattle.rina_iface.specs.declared.ends.End.{End}
 use Rattle.rina_iface.specs.declared.error.AllocateError.{AllocateError}
 use Rattle.rina_iface.specs.declared.error.AllocateError.TheVariants as allocate
 use Rattle.rina_iface.specs.declared.error.RegisterError.{RegisterError}
-use Rattle.rina_iface.specs.declared.error.RegisterError.TheVariants as register
 use Rattle.rina_iface.specs.declared.error.SendError.{SendError}
 use Rattle.rina_iface.specs.declared.error.SendError.TheVariants.{QueueFull}
 use Rattle.rina_iface.specs.declared.error.UnregisterError.{UnregisterError}
-use Rattle.rina_iface.specs.declared.error.UnregisterError.TheVariants as unregister
 use Rattle.rina_iface.specs.Ends.{place_in}
 use Rattle.rina_iface.specs.Send.{IsOwnRefusal}
 use Rattle.rina_law.specs.Sender.{NumbersSpent, WindowShut}
@@ -21,6 +19,7 @@ use Rattle.rina_data.specs.Process.{Process, next_hop, queue_place}
 use Rattle.rina_dif_law.specs.Ids.{Ids}
 use Rattle.rina_dif_law.specs.Sending.{by_hop, by_process, by_sender, home, process_at, queue_in, room_in}
 use Rattle.rina_dif.specs.declared.dif.Dif.{Dif}
+use Rattle.rina_dif.specs.Registering.{register_refusal, unregister_refusal}
 use Rattle.rina_dif.specs.Facade.{own_at, own_by, own_refusal, pieces_in, way_refusal}
 use Rattle.rina_flows.specs.Tied.{ids_of}
 use Rattle.rina_wire.specs.Air.{wire_at}
@@ -28,15 +27,21 @@ use Rattle.rina_wire.specs.Allocate.{own_allocate_refusal}
 use Rattle.rina_wire.specs.Send.{own_send_refusal, refuses_own as wires_refuse}
 use Rattle.rina_tower.specs.declared.tower.Tower.{Tower, Wires, Rank'}
 
--- over DIFs neither names nor flows can be asked for yet
+-- over DIFs a name is refused by the member at its node, and flows cannot be asked for yet
+
+abbrev pub own_register : List Dif → ℕ → ℕ → Option RegisterError
+own_register difs fac node = option_and_then (λ (d : Dif). register_refusal d node) (slice_get difs fac)
+
+abbrev pub own_unregister : List Dif → ℕ → ℕ → Option UnregisterError
+own_unregister difs fac node = option_and_then (λ (d : Dif). unregister_refusal d node) (slice_get difs fac)
 
 abbrev pub refuses_register : Tower → ℕ → ℕ → List ℕ → Option RegisterError
 refuses_register (Wires a) fac node app = None
-refuses_register (Rank' p difs below) fac node app = Some register.Unbuilt
+refuses_register (Rank' p difs below) fac node app = own_register difs fac node
 
 abbrev pub refuses_unregister : Tower → ℕ → ℕ → List ℕ → Option UnregisterError
 refuses_unregister (Wires a) fac node app = None
-refuses_unregister (Rank' p difs below) fac node app = Some unregister.Unbuilt
+refuses_unregister (Rank' p difs below) fac node app = own_unregister difs fac node
 
 abbrev pub refuses_allocate : Tower → Ask → Option AllocateError
 refuses_allocate (Wires a) ask = own_allocate_refusal a ask

@@ -36,6 +36,10 @@ ChangesFlows d d' = d' ≡ record d { flows = d'.flows }
 abbrev pub ChangesNames : Dif → Dif → Type 0
 ChangesNames d d' = d' ≡ record d { flows = d'.flows; ids = d'.ids; names = d'.names; managements = d'.managements; failed = d'.failed }
 
+-- nothing but its names and the managements of its members, and whether an allocation has failed
+abbrev pub ChangesEntries : Dif → Dif → Type 0
+ChangesEntries d d' = d' ≡ record d { names = d'.names; managements = d'.managements; failed = d'.failed }
+
 -- nothing but its IPC processes, and whether an allocation has failed
 abbrev pub ChangesProcesses : Dif → Dif → Type 0
 ChangesProcesses d d' = d' ≡ record d { processes = d'.processes; failed = d'.failed }

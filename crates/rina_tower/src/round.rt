@@ -26,10 +26,11 @@ fn has_taken(answer: Result<InStep, StepError>) -> Result<bool, Memory>
         Err(StepError::Memory) => Err(Memory),
         Err(StepError::NoIpc) => Ok(false),
         Err(StepError::NoLink) => Ok(false),
+        Err(StepError::CountSpent { .. }) => Ok(false),
     }
 }
 
-/// Whether something was due, so that there may be more. `Memory` is passed on.
+/// Whether something was due and done, so that there may be more. `Memory` is passed on.
 fn was_due(answer: Result<ClockStep, StepError>) -> Result<bool, Memory>
     ensures tells { IfOk result (λ on. (was_due answer ≡ on) × (none_due answer ≡ not on)) }
     ensures memory { OnErr result (answer ≡ Err errors.Memory) }
@@ -40,6 +41,7 @@ fn was_due(answer: Result<ClockStep, StepError>) -> Result<bool, Memory>
         Err(StepError::Memory) => Err(Memory),
         Err(StepError::NoIpc) => Ok(false),
         Err(StepError::NoLink) => Ok(false),
+        Err(StepError::CountSpent { .. }) => Ok(false),
     }
 }
 
@@ -56,6 +58,7 @@ fn has_left(answer: Result<OutStep, StepError>) -> Result<bool, Memory>
         Err(StepError::Memory) => Err(Memory),
         Err(StepError::NoIpc) => Ok(false),
         Err(StepError::NoLink) => Ok(false),
+        Err(StepError::CountSpent { .. }) => Ok(false),
     }
 }
 
@@ -77,7 +80,7 @@ impl Tower {
         Err(self.remember_memory_failure())
     }
 
-    /// Takes clock steps at an IPC process, one thing after the other, until none is due.
+    /// Takes clock steps at an IPC process, one thing after the other, until none is due or one is refused.
     fn clock_steps(&mut self, alloc: Global, place: MemberPlace) -> Result<(), Memory>
         requires { IsTower self.old }
         ensures follows { Follows self.old self.new }

@@ -6,7 +6,7 @@ use Rattle.rina_iface.specs.declared.ends.End.{End}
 use Rattle.rina_iface.specs.declared.error.FreeError.{FreeError}
 use Rattle.rina_iface.specs.declared.error.FreeError.TheVariants as free
 use Rattle.rina_iface.specs.declared.error.UnregisterError.{UnregisterError}
-use Rattle.rina_iface.specs.declared.error.UnregisterError.TheVariants.{Memory, NotThere, CountSpent, Unbuilt}
+use Rattle.rina_iface.specs.declared.error.UnregisterError.TheVariants.{Memory, NotThere, CountSpent}
 use Rattle.rina_iface.specs.declared.state.PortState.{PortState}
 use Rattle.rina_iface.specs.declared.state.PortState.TheVariants.{Pending, Allocated, Refused, Failed, Closed}
 use Rattle.rina_iface.specs.Free.{Frees, FreesEnds, IsFreed, refused_end}
@@ -43,7 +43,6 @@ seen_unregisters a fac node app (Ok done) a' g = (refused_is a fac node app ∙ 
 seen_unregisters a fac node app (Err Memory) a' g = ap seen_of g
 seen_unregisters a fac node app (Err NotThere) a' g = (refused_is a fac node app ∙ g.refused, ap seen_of g.air)
 seen_unregisters a fac node app (Err (CountSpent n k)) a' g = (refused_is a fac node app ∙ g.refused, ap seen_of g.air)
-seen_unregisters a fac node app (Err Unbuilt) a' g = (refused_is a fac node app ∙ g.refused, ap seen_of g.air)
 
 -- ---- free
 

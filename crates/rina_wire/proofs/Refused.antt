@@ -1,10 +1,14 @@
--- A frame that its wire refuses.
-use Rattle.std.proofs.Common.{◌≡◌, ℕ, ◌^◌, true, false, List, length, Some, None, Err, cond, leb}
+-- A frame that its wire refuses, and an ask.
+use Rattle.std.proofs.Common.{◌≡◌, ◌≢◌, refl, ℕ, ◌^◌, true, false, List, length, Some, None, Err, cond, leb}
 use Rattle.rina_base.specs.declared.number.Port.{Port}
 use Rattle.rina_iface.specs.declared.error.SendError.{SendError}
 use Rattle.rina_iface.specs.declared.error.SendError.TheVariants as errors
 use Rattle.rina_iface.specs.Send.{by_length}
+use Rattle.rina_iface.specs.declared.ask.Ask.{Ask}
+use Rattle.rina_iface.specs.declared.error.AllocateError.{AllocateError}
+use Rattle.rina_iface.specs.declared.error.AllocateError.TheVariants as asks
 use Rattle.rina_wire.specs.Air.{Air, Line, Goes}
+use Rattle.rina_wire.specs.Allocate.{AllocatesOn, allocate_refusal}
 use Rattle.rina_wire.specs.Send.{SendsOn, frame_refusal, send_refusal}
 
 -- a wire does not refuse a frame with `Memory`
@@ -23,3 +27,15 @@ sends_refused a port bytes len l (errors.WindowShut need room) is goes = goes
 sends_refused a port bytes len l (errors.NoRoute dst) is goes = goes
 sends_refused a port bytes len l (errors.QueueFull need room) is goes = goes
 sends_refused a port bytes len l (errors.NumbersSpent until) is goes = goes
+
+pub asks_refused : (a : Air) (ask : Ask) (e : AllocateError) → e ≢ asks.Memory → Goes a (allocate_refusal a ask) (Some e) a a → AllocatesOn a ask (Err e) a
+asks_refused a ask asks.Memory other goes = absurd (other refl)
+asks_refused a ask asks.NoMember other goes = goes
+asks_refused a ask asks.NoCube other goes = goes
+asks_refused a ask asks.NoSuchApp other goes = goes
+asks_refused a ask asks.SameSystem other goes = goes
+asks_refused a ask (asks.NoIds used) other goes = goes
+asks_refused a ask (asks.NoRoute dst) other goes = goes
+asks_refused a ask (asks.Busy port) other goes = goes
+asks_refused a ask (asks.CountSpent need left) other goes = goes
+asks_refused a ask asks.Unbuilt other goes = goes

@@ -3,7 +3,7 @@ use Rattle.std.proofs.Common.{◌≡◌, ℕ, List, slice_get, Some, None, Optio
 use Rattle.std.proofs.lemmas.Option.{none-some, slice_get-map}
 use Rattle.std.proofs.lemmas.List.{map-set}
 use Rattle.rina_iface.specs.declared.error.RegisterError.{RegisterError}
-use Rattle.rina_iface.specs.declared.error.RegisterError.TheVariants.{Memory, Already, NoMember, CountSpent, Unbuilt}
+use Rattle.rina_iface.specs.declared.error.RegisterError.TheVariants.{Memory, Already, NoMember, CountSpent}
 use Rattle.rina_iface.specs.Seen.{with_fac}
 use Rattle.rina_iface.specs.Register.{IsRegistered, Registers, refused, refused_in}
 use Rattle.rina_wire.specs.Air.{Air, Line, fac_of, on_wire, seen_of, wire_at}
@@ -34,4 +34,3 @@ seen_registers a fac node app (Err Memory) a' g = ap seen_of g
 seen_registers a fac node app (Err Already) a' g = (refused_register a fac node app ∙ g.refused, ap seen_of g.air)
 seen_registers a fac node app (Err NoMember) a' g = (refused_register a fac node app ∙ g.refused, ap seen_of g.air)
 seen_registers a fac node app (Err (CountSpent n k)) a' g = (refused_register a fac node app ∙ g.refused, ap seen_of g.air)
-seen_registers a fac node app (Err Unbuilt) a' g = (refused_register a fac node app ∙ g.refused, ap seen_of g.air)

@@ -9,7 +9,6 @@ ghost use Rattle.rina_wire.specs.Allocate.{flow_made, flow_on, is_allocated, is_
 ghost use Rattle.rina_wire.specs.Claim.{claim_in, without};
 ghost use Rattle.rina_wire.specs.Plan.{line_of};
 ghost use Rattle.rina_wire.specs.Register.{named};
-ghost use Rattle.rina_iface.specs.Unregister.{name_place};
 ghost use Rattle.rina_wire.specs.Unregister.{unnamed};
 ghost use Rattle.rina_wire.specs.Send.{mate, passed_at, sent_from};
 
@@ -26,7 +25,9 @@ pub use frame::frame_number;
 use rand_pcg::Lcg64Xsh32;
 use rina_base::{AppName, FlowName, Memory, Node, Port, Storm, Tick};
 use rina_cube::Want;
-use rina_iface::{Ask, End, Ends, Entries, Journal, PortState, Registered, Role};
+use rina_iface::{
+    Ask, End, Ends, Entries, Journal, PortState, Registered, Role, is_registered, name_place,
+};
 use rina_stack::WirePlan;
 use std::alloc::{AllocError, Global};
 use std::marker::Model;
@@ -59,29 +60,17 @@ impl Model for Wire {
     ghost view = { λ w. record { a = w.a; b = w.b; delay = w.delay; life = w.life; largest = w.largest; ends = w.journal.ends; waiting = w.waiting.items; names = w.names.items; flows = w.flows; frames = w.frames; flights = w.flights.items; cut = w.cut; storm = w.storm; draws = w.draws } };
 }
 
-/// Whether an application is registered at a node.
-fn is_registered(names: &[Registered], node: Node, app: &AppName) -> bool
-    ensures { result ≡ is_registered names.now node app.now }
-{
-    names.iter().any(|one| one.node == node && one.app.is(app))
-}
-
-/// Where an application stands among the names of a node.
-fn name_place(names: &[Registered], node: Node, app: &AppName) -> Option<usize>
-    ensures at { result ≡ name_place names.now node app.now }
-    ensures within { IfSome result (λ i. i < length names.now) }
-{
-    names
-        .iter()
-        .position(|one| one.node == node && one.app.is(app))
-}
-
 /// The port of the flow that the wire carries now, at a node.
+#[tactic(auto, using(std::proofs::lemmas::List::drop_more))]
 fn busy(ends: &[End], node: Node) -> Option<Port>
     ensures { result ≡ option_map (λ (e : End). e.port) (find (is_busy node) ends.now) }
 {
-    let end = ends.iter().find(|end| is_busy(end, node))?;
-    Some(end.port)
+    'ends: for end in ends {
+        if is_busy(end, node) {
+            return Some(end.port);
+        }
+    }
+    None
 }
 
 fn is_busy(end: &End, node: Node) -> bool

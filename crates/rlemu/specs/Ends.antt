@@ -3,8 +3,7 @@ use Rattle.std.specs.Prelude.{ℕ, Bool, List, Option}
 use Rattle.rina_policy.specs.Slots.{Slot}
 use Rattle.rina_report.specs.declared.note.Note.{Note}
 use Rattle.rina_run.specs.Command.{command_of}
-use Rattle.rina_run.specs.Outcomes.{RunOutcomes, text_written}
-use Rattle.rina_run.specs.Written.{Written}
+use Rattle.rina_run.specs.Outcomes.{RunOutcomes, WrittenBy}
 use Rattle.rina_run.specs.declared.outcome.Status.{Status}
 use Rattle.rina_run.specs.declared.outcome.Status.TheVariants as statuses
 use Rattle.rina_tower.specs.declared.tower.Tower.{Tower}
@@ -31,4 +30,4 @@ pub record IsRun (words : List (List ℕ)) (left left' took took' : Option (List
   pub tower : Option Tower
   pub unwritten : List Note
   pub outcome : RunOutcomes known (command_of words) left left' shelf status trace tower unwritten shelf'
-  pub written : Written took took' (text_written (command_of words) trace) status
+  pub written : WrittenBy (command_of words) took took' trace status

@@ -230,6 +230,51 @@ read q
 12 4 got 4 'two
 end 4
 ====
+# Two systems with a DIF over one wire. An application is registered at the one member; its directory entry comes to the other.
+nodes = [\"a\", \"b\"]
+[[wire]]
+name = \"w\"
+ends = [\"a\", \"b\"]
+delay = 2
+life = 10
+largest = 1500
+[[dif]]
+name = \"d\"
+rank = 1
+static = true
+pdu = 400
+widths = { addr = 1, cep = 1, len = 2, seq = 2 }
+queue = 64
+policy = \"strict\"
+wait = 500
+manage = { mpl = 40, r = 30, a = 2, retry = 10, window = 8 }
+cube = [
+  { id = 1, kind = \"datagram\", mpl = 40, window = 16, largest = 80 },
+  { id = 2, kind = \"loose\", mpl = 40, window = 16, largest = 240 },
+  { id = 3, kind = \"reliable\", mpl = 40, r = 30, a = 2, retry = 10, window = 4, largest = 240 },
+]
+member = [ { node = \"a\", addr = 1 }, { node = \"b\", addr = 2 } ]
+link = [ { on = \"w\", a = \"a\", b = \"b\" } ]
+rule = [ { subject = \"ping\", act = \"allocate\", allow = true }, { subject = \"evil\", act = \"allocate\", allow = false } ]
+%%
+register d b echo
+rib d a /dir
+tick 2
+rib d a /dir
+unregister d b echo
+tick 2
+rib d a /dir
+----
+1 0 ok
+2 0 obj /dir folder x
+3 2 ok
+4 2 obj /dir folder x
+4 2 obj /dir/echo value '2
+5 2 ok
+6 4 ok
+7 4 obj /dir folder x
+end 4
+====
 # One tick more: the SDU waited 21 ticks at b, its lifetime in d2 was 20, and it is written off with both numbers.
 nodes = [\"a\", \"b\"]
 rounds = \"manual\"

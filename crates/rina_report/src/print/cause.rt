@@ -1,5 +1,5 @@
 //! Printing the causes of write-offs.
-ghost use Rattle.std.specs.Prelude.{◌≡◌};
+ghost use Rattle.std.specs.Prelude.{◌≡◌, ◌∷◌, codes};
 ghost use Rattle.rina_schedule.specs.Spelling.{Adds, spaced};
 ghost use Rattle.rina_report.specs.Causes.{cause_word, cause_values, cause_fields};
 
@@ -58,4 +58,12 @@ pub(crate) fn cause(text: &mut Text, cause: &CauseNote) -> Result<(), Memory>
 {
     text.field(word(cause))?;
     values(text, cause)
+}
+
+/// Appends that a PDU was written off: the word and the cause.
+pub(crate) fn off(text: &mut Text, why: &CauseNote) -> Result<(), Memory>
+    ensures { Adds result text.old text.new (spaced (codes "off" ∷ cause_fields why.now)) }
+{
+    text.field(b"off")?;
+    cause(text, why)
 }

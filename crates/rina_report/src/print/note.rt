@@ -8,7 +8,7 @@ ghost use Rattle.rina_report.specs.Notes.{fault_word, fault_values, told_fields,
 use crate::answer::Answer;
 use crate::note::{Fault, Note};
 use crate::print::answer::answer;
-use crate::print::value;
+use crate::print::{named, value};
 use rina_base::Memory;
 use rina_schedule::Text;
 use std::alloc::Global;
@@ -43,22 +43,14 @@ fn fault(text: &mut Text, fault: Fault) -> Result<(), Memory>
     }
 }
 
-/// Appends a word and a number as two fields.
-fn named(text: &mut Text, word: &[u8], n: u32) -> Result<(), Memory>
-    ensures { Adds result text.old text.new (spaced (word.now ∷ decimal n ∷ [])) }
-{
-    text.field(word)?;
-    text.number_field(u64::from(n))
-}
-
 /// Appends the first fields of the summary of a generated run.
 fn begun(text: &mut Text, n: u32, lines: u32, tick: u32) -> Result<(), Memory>
     ensures { Adds result text.old text.new (codes "gen" ++ spaced (decimal n ∷ codes "lines" ∷ decimal lines ∷ codes "tick" ∷ decimal tick ∷ [])) }
 {
     text.add(b"gen")?;
     text.number_field(u64::from(n))?;
-    named(text, b"lines", lines)?;
-    named(text, b"tick", tick)
+    named::number(text, b"lines", lines)?;
+    named::number(text, b"tick", tick)
 }
 
 /// Appends the last fields of the summary of a generated run.
@@ -73,11 +65,11 @@ fn told(
 ) -> Result<(), Memory>
     ensures { Adds result text.old text.new (spaced (told_fields sent got refused off failed)) }
 {
-    named(text, b"sent", sent)?;
-    named(text, b"got", got)?;
-    named(text, b"refused", refused)?;
-    named(text, b"off", off)?;
-    named(text, b"failed", failed)
+    named::number(text, b"sent", sent)?;
+    named::number(text, b"got", got)?;
+    named::number(text, b"refused", refused)?;
+    named::number(text, b"off", off)?;
+    named::number(text, b"failed", failed)
 }
 
 /// Appends the number of a line, a tick and an answer.
@@ -89,6 +81,23 @@ fn line_note(text: &mut Text, line: u32, tick: u32, told: &Answer) -> Result<(),
     answer(text, told)
 }
 
+/// Appends the end of a run.
+fn ended(text: &mut Text, tick: u32) -> Result<(), Memory>
+    ensures { Adds result text.old text.new (codes "end" ++ spaced (decimal tick ∷ [])) }
+{
+    text.add(b"end")?;
+    text.number_field(u64::from(tick))
+}
+
+/// Appends the counts of an input that was checked.
+fn checked(text: &mut Text, nodes: u32, wires: u32, difs: u32, lines: u32) -> Result<(), Memory>
+    ensures { Adds result text.old text.new (codes "checked" ++ spaced (decimal nodes ∷ decimal wires ∷ decimal difs ∷ decimal lines ∷ [])) }
+{
+    text.add(b"checked")?;
+    value::two(text, u64::from(nodes), u64::from(wires))?;
+    value::two(text, u64::from(difs), u64::from(lines))
+}
+
 /// Appends a note, without the end of its line.
 #[tactic(auto, unfolding(crate::specs::Notes::note_text))]
 fn note(text: &mut Text, note: &Note) -> Result<(), Memory>
@@ -96,10 +105,7 @@ fn note(text: &mut Text, note: &Note) -> Result<(), Memory>
 {
     match note {
         Note::Line { line, tick, answer } => line_note(text, *line, *tick, answer),
-        Note::End { tick } => {
-            text.add(b"end")?;
-            text.number_field(u64::from(*tick))
-        }
+        Note::End { tick } => ended(text, *tick),
         Note::Fault(why) => {
             text.add(b"fault")?;
             fault(text, *why)
@@ -109,11 +115,7 @@ fn note(text: &mut Text, note: &Note) -> Result<(), Memory>
             wires,
             difs,
             lines,
-        } => {
-            text.add(b"checked")?;
-            value::two(text, u64::from(*nodes), u64::from(*wires))?;
-            value::two(text, u64::from(*difs), u64::from(*lines))
-        }
+        } => checked(text, *nodes, *wires, *difs, *lines),
         Note::Gen {
             n,
             lines,

@@ -1,7 +1,8 @@
 //! Printing refusals.
-ghost use Rattle.std.specs.Prelude.{◌≡◌, true};
+ghost use Rattle.std.specs.Prelude.{◌≡◌, ◌∷◌, [], true, false, MatchOption};
+ghost use Rattle.std.specs.Fmt.{decimal};
 ghost use Rattle.rina_schedule.specs.Spelling.{Adds, spaced};
-ghost use Rattle.rina_report.specs.Refusals.{state_or_none, is_of_message, refusal_word, refusal_values, refusal_fields};
+ghost use Rattle.rina_report.specs.Refusals.{state_or_none, is_of_message, has_shape, refusal_word, refusal_values, refusal_fields};
 
 use crate::print::state::{fail, state};
 use crate::print::value;
@@ -79,35 +80,57 @@ fn state_if_any(text: &mut Text, shown: &Option<StateNote>) -> Result<(), Memory
     }
 }
 
+/// The number of a refusal that has one number, or None of one that has no fields.
+#[tactic(auto, unfolding(crate::specs::Refusals::refusal_values))]
+fn number(why: &Refusal) -> Option<u64>
+    requires { has_shape why.now ≡ false }
+    ensures { MatchOption result (refusal_values why.now ≡ []) (λ n. refusal_values why.now ≡ decimal n ∷ []) }
+{
+    match why {
+        Refusal::Unknown { field } => Some(u64::from(*field)),
+        Refusal::NoIds { used } => Some(u64::from(*used)),
+        Refusal::NoRoute { dst } => Some(u64::from(*dst)),
+        Refusal::NumbersSpent { until } => Some(u64::from(*until)),
+        Refusal::NoFrame { frame } => Some(*frame),
+        Refusal::EarlyHold { now } => Some(u64::from(*now)),
+        Refusal::LateHold { last } => Some(u64::from(*last)),
+        Refusal::Enrolling { link } => Some(u64::from(*link)),
+        Refusal::LinksFull { max } => Some(u64::from(*max)),
+        Refusal::Short { at } => Some(*at),
+        Refusal::BadTag { at } => Some(*at),
+        Refusal::BadOp { op } => Some(u64::from(*op)),
+        Refusal::Twice { tag } => Some(u64::from(*tag)),
+        Refusal::Missing { tag } => Some(u64::from(*tag)),
+        Refusal::BadValue { tag } => Some(u64::from(*tag)),
+        _ => None,
+    }
+}
+
+/// Appends the field of a refusal that has one number, or no field.
+fn number_if_any(text: &mut Text, why: &Refusal) -> Result<(), Memory>
+    requires { has_shape why.now ≡ false }
+    ensures { Adds result text.old text.new (spaced (refusal_values why.now)) }
+{
+    match number(why) {
+        Some(n) => text.number_field(n),
+        None => Ok(()),
+    }
+}
+
 /// Appends the fields of a refusal.
 #[tactic(auto, unfolding(crate::specs::Refusals::refusal_values))]
 fn values(text: &mut Text, why: &Refusal) -> Result<(), Memory>
     ensures { Adds result text.old text.new (spaced (refusal_values why.now)) }
 {
     match why {
-        Refusal::Unknown { field } => text.number_field(u64::from(*field)),
         Refusal::CountSpent { need, left } => value::two(text, u64::from(*need), u64::from(*left)),
-        Refusal::NoIds { used } => text.number_field(u64::from(*used)),
-        Refusal::NoRoute { dst } => text.number_field(u64::from(*dst)),
         Refusal::Busy { port } => value::port(text, port),
         Refusal::NotAllocated { state: shown } => state_if_any(text, shown),
         Refusal::Failed { fail: failure } => fail(text, failure),
         Refusal::TooLong { len, max } => value::two(text, *len, u64::from(*max)),
         Refusal::WindowShut { need, room } => value::two(text, u64::from(*need), u64::from(*room)),
         Refusal::QueueFull { need, room } => value::two(text, u64::from(*need), u64::from(*room)),
-        Refusal::NumbersSpent { until } => text.number_field(u64::from(*until)),
-        Refusal::NoFrame { frame } => text.number_field(*frame),
-        Refusal::EarlyHold { now } => text.number_field(u64::from(*now)),
-        Refusal::LateHold { last } => text.number_field(u64::from(*last)),
-        Refusal::Enrolling { link } => text.number_field(u64::from(*link)),
-        Refusal::LinksFull { max } => text.number_field(u64::from(*max)),
-        Refusal::Short { at } => text.number_field(*at),
-        Refusal::BadTag { at } => text.number_field(*at),
-        Refusal::BadOp { op } => text.number_field(u64::from(*op)),
-        Refusal::Twice { tag } => text.number_field(u64::from(*tag)),
-        Refusal::Missing { tag } => text.number_field(u64::from(*tag)),
-        Refusal::BadValue { tag } => text.number_field(u64::from(*tag)),
-        _ => Ok(()),
+        _ => number_if_any(text, why),
     }
 }
 

@@ -3,7 +3,7 @@ ghost use Rattle.std.specs.Prelude.{◌≡◌};
 ghost use Rattle.rina_schedule.specs.Spelling.{Adds, spaced};
 ghost use Rattle.rina_report.specs.States.{why_fields, fail_fields, state_fields, member_fields};
 
-use crate::print::value;
+use crate::print::{named, value};
 use crate::state::{FailNote, MemberNote, StateNote};
 use rina_base::Memory;
 use rina_iface::Why;
@@ -14,19 +14,10 @@ fn why(text: &mut Text, why: Why) -> Result<(), Memory>
     ensures { Adds result text.old text.new (spaced (why_fields why)) }
 {
     match why {
-        Why::Denied { rule } => {
-            text.field(b"Denied")?;
-            text.number_field(u64::from(rule))
-        }
+        Why::Denied { rule } => named::number(text, b"Denied", rule),
         Why::NotHere => text.field(b"NotHere"),
-        Why::NoIds { used } => {
-            text.field(b"NoIds")?;
-            text.number_field(u64::from(used))
-        }
-        Why::Timeout { asked, now } => {
-            text.field(b"Timeout")?;
-            value::two(text, u64::from(asked), u64::from(now))
-        }
+        Why::NoIds { used } => named::number(text, b"NoIds", used),
+        Why::Timeout { asked, now } => named::two(text, b"Timeout", asked, now),
         Why::Withdrawn => text.field(b"Withdrawn"),
     }
 }
@@ -38,18 +29,11 @@ pub(crate) fn fail(text: &mut Text, fail: &FailNote) -> Result<(), Memory>
 {
     match fail {
         FailNote::GaveUp { num, first, now } => {
-            text.field(b"GaveUp")?;
-            value::num(text, *num)?;
+            named::num(text, b"GaveUp", *num)?;
             value::two(text, u64::from(*first), u64::from(*now))
         }
-        FailNote::Below { port } => {
-            text.field(b"Below")?;
-            value::port(text, port)
-        }
-        FailNote::Cut { at } => {
-            text.field(b"Cut")?;
-            text.number_field(u64::from(*at))
-        }
+        FailNote::Below { port } => named::port(text, b"Below", port),
+        FailNote::Cut { at } => named::number(text, b"Cut", *at),
     }
 }
 
@@ -80,14 +64,8 @@ pub(crate) fn member(text: &mut Text, state: MemberNote) -> Result<(), Memory>
 {
     match state {
         MemberNote::Outside => text.field(b"outside"),
-        MemberNote::Joining { link } => {
-            text.field(b"joining")?;
-            text.number_field(u64::from(link))
-        }
+        MemberNote::Joining { link } => named::number(text, b"joining", link),
         MemberNote::Enrolled => text.field(b"enrolled"),
-        MemberNote::Denied { rule } => {
-            text.field(b"denied")?;
-            text.number_field(u64::from(rule))
-        }
+        MemberNote::Denied { rule } => named::number(text, b"denied", rule),
     }
 }

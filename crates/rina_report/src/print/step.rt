@@ -3,8 +3,8 @@ ghost use Rattle.std.specs.Prelude.{◌≡◌};
 ghost use Rattle.rina_schedule.specs.Spelling.{Adds, spaced};
 ghost use Rattle.rina_report.specs.Steps.{took_fields, clock_fields};
 
-use crate::print::cause::cause;
-use crate::print::value;
+use crate::print::cause::off;
+use crate::print::named;
 use crate::step::{ClockNote, TookNote};
 use rina_base::Memory;
 use rina_schedule::Text;
@@ -17,10 +17,7 @@ pub(crate) fn took(text: &mut Text, end: &TookNote) -> Result<(), Memory>
     match end {
         TookNote::Accepted => text.field(b"accepted"),
         TookNote::Relayed => text.field(b"relayed"),
-        TookNote::Off(why) => {
-            text.field(b"off")?;
-            cause(text, why)
-        }
+        TookNote::Off(why) => off(text, why),
     }
 }
 
@@ -30,37 +27,13 @@ pub(crate) fn clock(text: &mut Text, step: &ClockNote) -> Result<(), Memory>
     ensures { Adds result text.old text.new (spaced (clock_fields step.now)) }
 {
     match step {
-        ClockNote::LinkLost { link } => {
-            text.field(b"link-lost")?;
-            text.number_field(u64::from(*link))
-        }
-        ClockNote::LinkNew { link } => {
-            text.field(b"link-new")?;
-            text.number_field(u64::from(*link))
-        }
-        ClockNote::Gone { cep } => {
-            text.field(b"gone")?;
-            text.number_field(u64::from(*cep))
-        }
-        ClockNote::GaveUp { num } => {
-            text.field(b"gave-up")?;
-            value::num(text, *num)
-        }
-        ClockNote::Timeout { port } => {
-            text.field(b"timeout")?;
-            value::port(text, port)
-        }
-        ClockNote::Ack { cep } => {
-            text.field(b"ack")?;
-            text.number_field(u64::from(*cep))
-        }
-        ClockNote::Again { num } => {
-            text.field(b"again")?;
-            value::num(text, *num)
-        }
-        ClockNote::Message { link } => {
-            text.field(b"message")?;
-            text.number_field(u64::from(*link))
-        }
+        ClockNote::LinkLost { link } => named::number(text, b"link-lost", *link),
+        ClockNote::LinkNew { link } => named::number(text, b"link-new", *link),
+        ClockNote::Gone { cep } => named::number(text, b"gone", *cep),
+        ClockNote::GaveUp { num } => named::num(text, b"gave-up", *num),
+        ClockNote::Timeout { port } => named::port(text, b"timeout", port),
+        ClockNote::Ack { cep } => named::number(text, b"ack", *cep),
+        ClockNote::Again { num } => named::num(text, b"again", *num),
+        ClockNote::Message { link } => named::number(text, b"message", *link),
     }
 }

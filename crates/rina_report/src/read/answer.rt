@@ -6,7 +6,7 @@ ghost use Rattle.rina_report.specs.ReadAnswers.{role_of, ok_state_of, ok_at, got
 
 use crate::answer::{Answer, FlowNote};
 use crate::read::cause::{cause, clock, took};
-use crate::read::field::{byte, end, field, is, long, next_field, number};
+use crate::read::field::{byte, ended, field, is, long, next_field, number};
 use crate::read::last::{last_bytes, last_num, last_number};
 use crate::read::refusal::refusal;
 use crate::read::state::{state, state_of};
@@ -37,23 +37,30 @@ fn ok_state(alloc: Global, word: &[u8], n: u32, rest: &[u8]) -> Result<Answer, L
     ensures read { Gives (λ x. x) result (ok_state_of word.now n (behind rest.now)) }
     ensures memory { IfErr result (λ e. e ≡ LineError.Memory → 0 < length (behind rest.now)) }
 {
+    let next = n + 1;
     if is(word, b"outside") {
-        end(n + 1, rest)?;
-        Ok(Answer::Member {
-            state: MemberNote::Outside,
-        })
+        ended(
+            Answer::Member {
+                state: MemberNote::Outside,
+            },
+            next,
+            rest,
+        )
     } else if is(word, b"joining") {
-        let link = last_number(n + 1, rest)?;
+        let link = last_number(next, rest)?;
         Ok(Answer::Member {
             state: MemberNote::Joining { link },
         })
     } else if is(word, b"enrolled") {
-        end(n + 1, rest)?;
-        Ok(Answer::Member {
-            state: MemberNote::Enrolled,
-        })
+        ended(
+            Answer::Member {
+                state: MemberNote::Enrolled,
+            },
+            next,
+            rest,
+        )
     } else if is(word, b"denied") {
-        let rule = last_number(n + 1, rest)?;
+        let rule = last_number(next, rest)?;
         Ok(Answer::Member {
             state: MemberNote::Denied { rule },
         })
@@ -259,8 +266,7 @@ fn step_word(alloc: Global, word: &[u8], rest: &[u8]) -> Result<Answer, LineErro
         let step = clock(alloc, 1, rest)?;
         Ok(Answer::Clock { step })
     } else if is(word, b"idle") {
-        end(1, rest)?;
-        Ok(Answer::Idle)
+        ended(Answer::Idle, 1, rest)
     } else if is(word, b"off") {
         off(alloc, 1, rest)
     } else {
@@ -277,8 +283,7 @@ pub(crate) fn answer(alloc: Global, word: &[u8], rest: &[u8]) -> Result<Answer, 
     if is(word, b"ok") {
         ok(alloc, 1, rest)
     } else if is(word, b"none") {
-        end(1, rest)?;
-        Ok(Answer::Nothing)
+        ended(Answer::Nothing, 1, rest)
     } else if is(word, b"sent") {
         let num = last_num(1, rest)?;
         Ok(Answer::Sent { num })

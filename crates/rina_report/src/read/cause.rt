@@ -5,7 +5,7 @@ ghost use Rattle.rina_report.specs.Fields.{behind};
 ghost use Rattle.rina_report.specs.ReadCauses.{pdu_cause_of, cause_of, cause_at, took_of, took_at, clock_of, clock_at};
 
 use crate::cause::CauseNote;
-use crate::read::field::{end, field, is};
+use crate::read::field::{ended, field, is};
 use crate::read::last::{last_num, last_number, last_port, last_truth, last_two};
 use crate::step::{ClockNote, TookNote};
 use rina_schedule::LineError;
@@ -18,20 +18,21 @@ fn pdu_cause(word: &[u8], n: u32, rest: &[u8]) -> Result<CauseNote, LineError>
     ensures read { Gives (λ x. x) result (pdu_cause_of word.now n (behind rest.now)) }
     ensures memory { IfErr result (λ e. e ≢ LineError.Memory) }
 {
+    let next = n + 1;
     if is(word, b"Duplicate") {
-        let num = last_num(n + 1, rest)?;
+        let num = last_num(next, rest)?;
         Ok(CauseNote::Duplicate { num })
     } else if is(word, b"Behind") {
-        let highest = last_number(n + 1, rest)?;
+        let highest = last_number(next, rest)?;
         Ok(CauseNote::Behind { highest })
     } else if is(word, b"NoState") {
-        let drf = last_truth(n + 1, rest)?;
+        let drf = last_truth(next, rest)?;
         Ok(CauseNote::NoState { drf })
     } else if is(word, b"StateGone") {
-        let last_in = last_number(n + 1, rest)?;
+        let last_in = last_number(next, rest)?;
         Ok(CauseNote::StateGone { last_in })
     } else if is(word, b"Broken") {
-        let missing = last_number(n + 1, rest)?;
+        let missing = last_number(next, rest)?;
         Ok(CauseNote::Broken { missing })
     } else {
         Err(LineError::BadName { n })
@@ -44,23 +45,24 @@ fn cause_of(alloc: Global, word: &[u8], n: u32, rest: &[u8]) -> Result<CauseNote
     ensures read { Gives (λ x. x) result (cause_of word.now n (behind rest.now)) }
     ensures memory { IfErr result (λ e. e ≡ LineError.Memory → 0 < length (behind rest.now)) }
 {
+    let next = n + 1;
     if is(word, b"Expired") {
-        let (left, charge) = last_two(n + 1, rest)?;
+        let (left, charge) = last_two(next, rest)?;
         Ok(CauseNote::Expired { left, charge })
     } else if is(word, b"NoRoute") {
-        let dst = last_number(n + 1, rest)?;
+        let dst = last_number(next, rest)?;
         Ok(CauseNote::NoRoute { dst })
     } else if is(word, b"QueueFull") {
-        let cap = last_number(n + 1, rest)?;
+        let cap = last_number(next, rest)?;
         Ok(CauseNote::QueueFull { cap })
     } else if is(word, b"NoConnection") {
-        let cep = last_number(n + 1, rest)?;
+        let cep = last_number(next, rest)?;
         Ok(CauseNote::NoConnection { cep })
     } else if is(word, b"NoRoom") {
-        let cap = last_number(n + 1, rest)?;
+        let cap = last_number(next, rest)?;
         Ok(CauseNote::NoRoom { cap })
     } else if is(word, b"LinkDown") {
-        let port = last_port(alloc, n + 1, rest)?;
+        let port = last_port(alloc, next, rest)?;
         Ok(CauseNote::LinkDown { port })
     } else {
         pdu_cause(word, n, rest)
@@ -84,14 +86,13 @@ fn took_of(alloc: Global, word: &[u8], n: u32, rest: &[u8]) -> Result<TookNote, 
     ensures read { Gives (λ x. x) result (took_of word.now n (behind rest.now)) }
     ensures memory { IfErr result (λ e. e ≡ LineError.Memory → 0 < length (behind rest.now)) }
 {
+    let next = n + 1;
     if is(word, b"accepted") {
-        end(n + 1, rest)?;
-        Ok(TookNote::Accepted)
+        ended(TookNote::Accepted, next, rest)
     } else if is(word, b"relayed") {
-        end(n + 1, rest)?;
-        Ok(TookNote::Relayed)
+        ended(TookNote::Relayed, next, rest)
     } else if is(word, b"off") {
-        let why = cause(alloc, n + 1, rest)?;
+        let why = cause(alloc, next, rest)?;
         Ok(TookNote::Off(why))
     } else {
         Err(LineError::BadName { n })
@@ -115,29 +116,30 @@ fn clock_of(alloc: Global, word: &[u8], n: u32, rest: &[u8]) -> Result<ClockNote
     ensures read { Gives (λ x. x) result (clock_of word.now n (behind rest.now)) }
     ensures memory { IfErr result (λ e. e ≡ LineError.Memory → 0 < length (behind rest.now)) }
 {
+    let next = n + 1;
     if is(word, b"link-lost") {
-        let link = last_number(n + 1, rest)?;
+        let link = last_number(next, rest)?;
         Ok(ClockNote::LinkLost { link })
     } else if is(word, b"link-new") {
-        let link = last_number(n + 1, rest)?;
+        let link = last_number(next, rest)?;
         Ok(ClockNote::LinkNew { link })
     } else if is(word, b"gone") {
-        let cep = last_number(n + 1, rest)?;
+        let cep = last_number(next, rest)?;
         Ok(ClockNote::Gone { cep })
     } else if is(word, b"gave-up") {
-        let num = last_num(n + 1, rest)?;
+        let num = last_num(next, rest)?;
         Ok(ClockNote::GaveUp { num })
     } else if is(word, b"timeout") {
-        let port = last_port(alloc, n + 1, rest)?;
+        let port = last_port(alloc, next, rest)?;
         Ok(ClockNote::Timeout { port })
     } else if is(word, b"ack") {
-        let cep = last_number(n + 1, rest)?;
+        let cep = last_number(next, rest)?;
         Ok(ClockNote::Ack { cep })
     } else if is(word, b"again") {
-        let num = last_num(n + 1, rest)?;
+        let num = last_num(next, rest)?;
         Ok(ClockNote::Again { num })
     } else if is(word, b"message") {
-        let link = last_number(n + 1, rest)?;
+        let link = last_number(next, rest)?;
         Ok(ClockNote::Message { link })
     } else {
         Err(LineError::BadName { n })

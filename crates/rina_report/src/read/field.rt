@@ -2,7 +2,7 @@
 ghost use Rattle.std.specs.Prelude.{◌≡◌, ◌∷◌, [], ◌<◌, ◌≤◌, ◌==◌, length, position, IfSome, IfOk, MatchOption, IfErr, ◌≢◌, OnOk};
 ghost use Rattle.std.specs.Str.{bytes_eq};
 ghost use Rattle.rina_schedule.specs.Gives.{Gives};
-ghost use Rattle.rina_report.specs.Fields.{fields_of, behind, is_numeral, numeral_of, max8, max32, max64, field_at, end_at, number_at, word_at};
+ghost use Rattle.rina_report.specs.Fields.{fields_of, behind, is_numeral, numeral_of, max8, max32, max64, field_at, end_at, ended_at, number_at, word_at};
 
 use rina_base::read_decimal;
 use rina_schedule::LineError;
@@ -64,6 +64,15 @@ pub(crate) fn end(n: u32, rest: &[u8]) -> Result<(), LineError>
         None => Ok(()),
         Some(_) => Err(LineError::Extra { n }),
     }
+}
+
+/// This value, where the note ends before field `n`.
+pub(crate) fn ended<T: Drop>(value: T, n: u32, rest: &[u8]) -> Result<T, LineError>
+    ensures read { Gives (λ x. x) result (ended_at value n (behind rest.now)) }
+    ensures memory { IfErr result (λ e. e ≢ LineError.Memory) }
+{
+    end(n, rest)?;
+    Ok(value)
 }
 
 #[tactic(auto, unfolding(crate::specs::Fields::is_numeral))]

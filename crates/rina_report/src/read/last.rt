@@ -3,7 +3,7 @@ ghost use Rattle.std.specs.Prelude.{◌<◌, ◌+◌, IfErr, length, ◌≡◌, 
 ghost use Rattle.rina_schedule.specs.Gives.{Gives};
 ghost use Rattle.rina_report.specs.Fields.{behind, max32, max64, last_number_at, last_two_at, last_num_at, last_port_at, last_truth_at, last_bytes_at};
 
-use crate::read::field::{end, long, number};
+use crate::read::field::{ended, long, number};
 use crate::read::value::{bytes, num, port, truth};
 use crate::state::PortNote;
 use rina_base::{Bytes, Num};
@@ -18,8 +18,7 @@ pub(crate) fn last_number(n: u32, rest: &[u8]) -> Result<u32, LineError>
     ensures memory { IfErr result (λ e. e ≢ LineError.Memory) }
 {
     let (value, rest) = number(n, rest)?;
-    end(n + 1, rest)?;
-    Ok(value)
+    ended(value, n + 1, rest)
 }
 
 /// Reads field `n`, a number of 64 bits, and the end of the note.
@@ -30,8 +29,7 @@ pub(crate) fn last_long(n: u32, rest: &[u8]) -> Result<u64, LineError>
     ensures memory { IfErr result (λ e. e ≢ LineError.Memory) }
 {
     let (value, rest) = long(n, rest)?;
-    end(n + 1, rest)?;
-    Ok(value)
+    ended(value, n + 1, rest)
 }
 
 /// Reads fields `n` and `n + 1`, numbers of 32 bits, and the end of the note.
@@ -66,8 +64,7 @@ pub(crate) fn last_num(n: u32, rest: &[u8]) -> Result<Num, LineError>
     ensures memory { IfErr result (λ e. e ≢ LineError.Memory) }
 {
     let (value, rest) = num(n, rest)?;
-    end(n + 1, rest)?;
-    Ok(value)
+    ended(value, n + 1, rest)
 }
 
 /// Reads field `n`, FAC/NODE/N, and the end of the note.
@@ -78,8 +75,7 @@ pub(crate) fn last_port(alloc: Global, n: u32, rest: &[u8]) -> Result<PortNote, 
     ensures memory { IfErr result (λ e. e ≡ LineError.Memory → 0 < length (behind rest.now)) }
 {
     let (value, rest) = port(alloc, n, rest)?;
-    end(n + 1, rest)?;
-    Ok(value)
+    ended(value, n + 1, rest)
 }
 
 /// Reads field `n`, 0 or 1, and the end of the note.
@@ -90,8 +86,7 @@ pub(crate) fn last_truth(n: u32, rest: &[u8]) -> Result<bool, LineError>
     ensures memory { IfErr result (λ e. e ≢ LineError.Memory) }
 {
     let (value, rest) = truth(n, rest)?;
-    end(n + 1, rest)?;
-    Ok(value)
+    ended(value, n + 1, rest)
 }
 
 /// Reads field `n`, which spells bytes, and the end of the note.
@@ -102,6 +97,5 @@ pub(crate) fn last_bytes(alloc: Global, n: u32, rest: &[u8]) -> Result<Bytes, Li
     ensures memory { IfErr result (λ e. e ≡ LineError.Memory → 0 < length (behind rest.now)) }
 {
     let (value, rest) = bytes(alloc, n, rest)?;
-    end(n + 1, rest)?;
-    Ok(value)
+    ended(value, n + 1, rest)
 }

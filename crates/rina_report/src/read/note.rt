@@ -6,7 +6,7 @@ ghost use Rattle.rina_report.specs.ReadNotes.{schedule_at, fault_of, fault_at, c
 
 use crate::note::{Fault, Note};
 use crate::read::answer::answer;
-use crate::read::field::{end, field, first_field, is, next_field, number, read_numeral, word};
+use crate::read::field::{ended, field, first_field, is, next_field, number, read_numeral, word};
 use crate::read::last::{last_number, last_two};
 use rina_base::Tick;
 use rina_schedule::LineError;
@@ -34,23 +34,21 @@ fn fault_of(word: &[u8], n: u32, rest: &[u8]) -> Result<Fault, LineError>
     ensures read { Gives (λ x. x) result (fault_of word.now n (behind rest.now)) }
     ensures memory { IfErr result (λ e. e ≢ LineError.Memory) }
 {
+    let next = n + 1;
     if is(word, b"Usage") {
-        let word = last_number(n + 1, rest)?;
+        let word = last_number(next, rest)?;
         Ok(Fault::Usage { word })
     } else if is(word, b"TooLarge") {
-        end(n + 1, rest)?;
-        Ok(Fault::TooLarge)
+        ended(Fault::TooLarge, next, rest)
     } else if is(word, b"NotToml") {
-        end(n + 1, rest)?;
-        Ok(Fault::NotToml)
+        ended(Fault::NotToml, next, rest)
     } else if is(word, b"StackRule") {
-        let (rule, item) = last_two(n + 1, rest)?;
+        let (rule, item) = last_two(next, rest)?;
         Ok(Fault::StackRule { n: rule, item })
     } else if is(word, b"Schedule") {
-        schedule(n + 1, rest)
+        schedule(next, rest)
     } else if is(word, b"ReadFault") {
-        end(n + 1, rest)?;
-        Ok(Fault::ReadFault)
+        ended(Fault::ReadFault, next, rest)
     } else {
         Err(LineError::BadName { n })
     }
@@ -111,8 +109,7 @@ fn summary(at: u32, rest: &[u8]) -> Result<Note, LineError>
     let (refused, rest) = named(b"refused", at + 9, rest)?;
     let (off, rest) = named(b"off", at + 11, rest)?;
     let (failed, rest) = named(b"failed", at + 13, rest)?;
-    end(at + 15, rest)?;
-    Ok(Note::Gen {
+    let summary = Note::Gen {
         n,
         lines,
         tick,
@@ -121,7 +118,8 @@ fn summary(at: u32, rest: &[u8]) -> Result<Note, LineError>
         refused,
         off,
         failed,
-    })
+    };
+    ended(summary, at + 15, rest)
 }
 
 /// Reads the number of a line or a tick. Fails with `UnknownWord` where the text is no number of 32 bits.

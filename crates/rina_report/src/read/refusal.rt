@@ -4,7 +4,7 @@ ghost use Rattle.rina_schedule.specs.Gives.{Gives};
 ghost use Rattle.rina_report.specs.Fields.{behind};
 ghost use Rattle.rina_report.specs.ReadRefusals.{bare_of, state_or_none_of, state_or_none_at, shaped_of, numbered_of, counted_of, refusal_of, refusal_at};
 
-use crate::read::field::{end, field, is};
+use crate::read::field::{ended, field, is};
 use crate::read::last::{last_long, last_long_and_number, last_number, last_port, last_two};
 use crate::read::state::{fail, state_of};
 use crate::refusal::Refusal;
@@ -66,8 +66,7 @@ fn state_or_none_of(
     ensures memory { IfErr result (λ e. e ≡ LineError.Memory → 0 < length (behind rest.now)) }
 {
     if is(word, b"none") {
-        end(n + 1, rest)?;
-        return Ok(None);
+        return ended(None, n + 1, rest);
     }
     Ok(Some(state_of(alloc, word, n, rest)?))
 }
@@ -90,35 +89,36 @@ fn shaped(alloc: Global, word: &[u8], n: u32, rest: &[u8]) -> Result<Refusal, Li
     ensures read { Gives (λ x. x) result (shaped_of word.now n (behind rest.now)) }
     ensures memory { IfErr result (λ e. e ≡ LineError.Memory → 0 < length (behind rest.now)) }
 {
+    let next = n + 1;
     if is(word, b"CountSpent") {
-        let (need, left) = last_two(n + 1, rest)?;
+        let (need, left) = last_two(next, rest)?;
         Ok(Refusal::CountSpent { need, left })
     } else if is(word, b"WindowShut") {
-        let (need, room) = last_two(n + 1, rest)?;
+        let (need, room) = last_two(next, rest)?;
         Ok(Refusal::WindowShut { need, room })
     } else if is(word, b"QueueFull") {
-        let (need, room) = last_two(n + 1, rest)?;
+        let (need, room) = last_two(next, rest)?;
         Ok(Refusal::QueueFull { need, room })
     } else if is(word, b"TooLong") {
-        let (len, max) = last_long_and_number(n + 1, rest)?;
+        let (len, max) = last_long_and_number(next, rest)?;
         Ok(Refusal::TooLong { len, max })
     } else if is(word, b"NoFrame") {
-        let frame = last_long(n + 1, rest)?;
+        let frame = last_long(next, rest)?;
         Ok(Refusal::NoFrame { frame })
     } else if is(word, b"Short") {
-        let at = last_long(n + 1, rest)?;
+        let at = last_long(next, rest)?;
         Ok(Refusal::Short { at })
     } else if is(word, b"BadTag") {
-        let at = last_long(n + 1, rest)?;
+        let at = last_long(next, rest)?;
         Ok(Refusal::BadTag { at })
     } else if is(word, b"Busy") {
-        let port = last_port(alloc, n + 1, rest)?;
+        let port = last_port(alloc, next, rest)?;
         Ok(Refusal::Busy { port })
     } else if is(word, b"NotAllocated") {
-        let state = state_or_none(alloc, n + 1, rest)?;
+        let state = state_or_none(alloc, next, rest)?;
         Ok(Refusal::NotAllocated { state })
     } else if is(word, b"Failed") {
-        let fail = fail(alloc, n + 1, rest)?;
+        let fail = fail(alloc, next, rest)?;
         Ok(Refusal::Failed { fail })
     } else {
         Err(LineError::BadName { n })
@@ -131,23 +131,24 @@ fn numbered(alloc: Global, word: &[u8], n: u32, rest: &[u8]) -> Result<Refusal, 
     ensures read { Gives (λ x. x) result (numbered_of word.now n (behind rest.now)) }
     ensures memory { IfErr result (λ e. e ≡ LineError.Memory → 0 < length (behind rest.now)) }
 {
+    let next = n + 1;
     if is(word, b"Enrolling") {
-        let link = last_number(n + 1, rest)?;
+        let link = last_number(next, rest)?;
         Ok(Refusal::Enrolling { link })
     } else if is(word, b"LinksFull") {
-        let max = last_number(n + 1, rest)?;
+        let max = last_number(next, rest)?;
         Ok(Refusal::LinksFull { max })
     } else if is(word, b"BadOp") {
-        let op = last_number(n + 1, rest)?;
+        let op = last_number(next, rest)?;
         Ok(Refusal::BadOp { op })
     } else if is(word, b"Twice") {
-        let tag = last_number(n + 1, rest)?;
+        let tag = last_number(next, rest)?;
         Ok(Refusal::Twice { tag })
     } else if is(word, b"Missing") {
-        let tag = last_number(n + 1, rest)?;
+        let tag = last_number(next, rest)?;
         Ok(Refusal::Missing { tag })
     } else if is(word, b"BadValue") {
-        let tag = last_number(n + 1, rest)?;
+        let tag = last_number(next, rest)?;
         Ok(Refusal::BadValue { tag })
     } else {
         shaped(alloc, word, n, rest)
@@ -161,23 +162,24 @@ fn counted(alloc: Global, word: &[u8], n: u32, rest: &[u8]) -> Result<Refusal, L
     ensures read { Gives (λ x. x) result (counted_of word.now n (behind rest.now)) }
     ensures memory { IfErr result (λ e. e ≡ LineError.Memory → 0 < length (behind rest.now)) }
 {
+    let next = n + 1;
     if is(word, b"Unknown") {
-        let field = last_number(n + 1, rest)?;
+        let field = last_number(next, rest)?;
         Ok(Refusal::Unknown { field })
     } else if is(word, b"NoIds") {
-        let used = last_number(n + 1, rest)?;
+        let used = last_number(next, rest)?;
         Ok(Refusal::NoIds { used })
     } else if is(word, b"NoRoute") {
-        let dst = last_number(n + 1, rest)?;
+        let dst = last_number(next, rest)?;
         Ok(Refusal::NoRoute { dst })
     } else if is(word, b"NumbersSpent") {
-        let until = last_number(n + 1, rest)?;
+        let until = last_number(next, rest)?;
         Ok(Refusal::NumbersSpent { until })
     } else if is(word, b"EarlyHold") {
-        let now = last_number(n + 1, rest)?;
+        let now = last_number(next, rest)?;
         Ok(Refusal::EarlyHold { now })
     } else if is(word, b"LateHold") {
-        let last = last_number(n + 1, rest)?;
+        let last = last_number(next, rest)?;
         Ok(Refusal::LateHold { last })
     } else {
         numbered(alloc, word, n, rest)
@@ -191,10 +193,7 @@ fn refusal_of(alloc: Global, word: &[u8], n: u32, rest: &[u8]) -> Result<Refusal
     ensures memory { IfErr result (λ e. e ≡ LineError.Memory → 0 < length (behind rest.now)) }
 {
     match bare(word) {
-        Some(why) => {
-            end(n + 1, rest)?;
-            Ok(why)
-        }
+        Some(why) => { ended(why, n + 1, rest) }
         None => counted(alloc, word, n, rest),
     }
 }

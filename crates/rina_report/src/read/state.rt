@@ -4,7 +4,7 @@ ghost use Rattle.rina_schedule.specs.Gives.{Gives};
 ghost use Rattle.rina_report.specs.Fields.{behind};
 ghost use Rattle.rina_report.specs.ReadStates.{why_of, why_at, gave_up_at, fail_of, fail_at, state_of, state_at};
 
-use crate::read::field::{end, field, is};
+use crate::read::field::{ended, field, is};
 use crate::read::last::{last_number, last_port, last_two};
 use crate::read::value::num;
 use crate::state::{FailNote, StateNote};
@@ -18,21 +18,20 @@ fn why_of(word: &[u8], n: u32, rest: &[u8]) -> Result<Why, LineError>
     ensures read { Gives (λ x. x) result (why_of word.now n (behind rest.now)) }
     ensures memory { IfErr result (λ e. e ≢ LineError.Memory) }
 {
+    let next = n + 1;
     if is(word, b"Denied") {
-        let rule = last_number(n + 1, rest)?;
+        let rule = last_number(next, rest)?;
         Ok(Why::Denied { rule })
     } else if is(word, b"NotHere") {
-        end(n + 1, rest)?;
-        Ok(Why::NotHere)
+        ended(Why::NotHere, next, rest)
     } else if is(word, b"NoIds") {
-        let used = last_number(n + 1, rest)?;
+        let used = last_number(next, rest)?;
         Ok(Why::NoIds { used })
     } else if is(word, b"Timeout") {
-        let (asked, now) = last_two(n + 1, rest)?;
+        let (asked, now) = last_two(next, rest)?;
         Ok(Why::Timeout { asked, now })
     } else if is(word, b"Withdrawn") {
-        end(n + 1, rest)?;
-        Ok(Why::Withdrawn)
+        ended(Why::Withdrawn, next, rest)
     } else {
         Err(LineError::BadName { n })
     }
@@ -67,13 +66,14 @@ fn fail_of(alloc: Global, word: &[u8], n: u32, rest: &[u8]) -> Result<FailNote, 
     ensures read { Gives (λ x. x) result (fail_of word.now n (behind rest.now)) }
     ensures memory { IfErr result (λ e. e ≡ LineError.Memory → 0 < length (behind rest.now)) }
 {
+    let next = n + 1;
     if is(word, b"GaveUp") {
-        gave_up(n + 1, rest)
+        gave_up(next, rest)
     } else if is(word, b"Below") {
-        let port = last_port(alloc, n + 1, rest)?;
+        let port = last_port(alloc, next, rest)?;
         Ok(FailNote::Below { port })
     } else if is(word, b"Cut") {
-        let at = last_number(n + 1, rest)?;
+        let at = last_number(next, rest)?;
         Ok(FailNote::Cut { at })
     } else {
         Err(LineError::BadName { n })
@@ -103,20 +103,18 @@ pub(crate) fn state_of(
     ensures read { Gives (λ x. x) result (state_of word.now n (behind rest.now)) }
     ensures memory { IfErr result (λ e. e ≡ LineError.Memory → 0 < length (behind rest.now)) }
 {
+    let next = n + 1;
     if is(word, b"pending") {
-        end(n + 1, rest)?;
-        Ok(StateNote::Pending)
+        ended(StateNote::Pending, next, rest)
     } else if is(word, b"allocated") {
-        end(n + 1, rest)?;
-        Ok(StateNote::Allocated)
+        ended(StateNote::Allocated, next, rest)
     } else if is(word, b"closed") {
-        end(n + 1, rest)?;
-        Ok(StateNote::Closed)
+        ended(StateNote::Closed, next, rest)
     } else if is(word, b"refused") {
-        let reason = why(n + 1, rest)?;
+        let reason = why(next, rest)?;
         Ok(StateNote::Refused(reason))
     } else if is(word, b"failed") {
-        let failure = fail(alloc, n + 1, rest)?;
+        let failure = fail(alloc, next, rest)?;
         Ok(StateNote::Failed(failure))
     } else {
         Err(LineError::BadName { n })

@@ -1,13 +1,11 @@
-//! Reading the words about the clock, the policies and journals.
-ghost use Rattle.std.specs.Prelude.{◌≡◌, ◌≢◌, IfErr, IsOk};
+//! Reading the words about the clock.
+ghost use Rattle.std.specs.Prelude.{◌≡◌, ◌≢◌, IfErr};
 ghost use Rattle.rina_schedule.specs.Gives.{Gives};
-ghost use Rattle.rina_schedule.specs.Fields.{field_at};
-ghost use Rattle.rina_schedule.specs.WireWords.{tick_at, round_at, retire_at, journal_at};
+ghost use Rattle.rina_schedule.specs.WireWords.{tick_at, round_at};
 
 use crate::error::LineError;
 use crate::event::Event;
-use crate::field::{end, name, number};
-use std::alloc::Global;
+use crate::field::{end, number};
 
 /// The greatest number of ticks that one line lets pass.
 const TICKS: u32 = 100_000;
@@ -32,24 +30,4 @@ pub(crate) fn round(text: &[u8]) -> Result<Event, LineError>
 {
     end(1, text)?;
     Ok(Event::Round)
-}
-
-#[tactic(auto, unfolding(crate::specs::WireWords::retire_at))]
-pub(crate) fn retire(alloc: Global, text: &[u8]) -> Result<Event, LineError>
-    ensures read { Gives (λ x. x) result (retire_at text.now) }
-    ensures memory { IfErr result (λ e. e ≡ LineError.Memory → IsOk (field_at 1 text.now)) }
-{
-    let (policy, text) = name(alloc, 1, text)?;
-    end(2, text)?;
-    Ok(Event::Retire { policy })
-}
-
-#[tactic(auto, unfolding(crate::specs::WireWords::journal_at))]
-pub(crate) fn journal(alloc: Global, text: &[u8]) -> Result<Event, LineError>
-    ensures read { Gives (λ x. x) result (journal_at text.now) }
-    ensures memory { IfErr result (λ e. e ≡ LineError.Memory → IsOk (field_at 1 text.now)) }
-{
-    let (fac, text) = name(alloc, 1, text)?;
-    end(2, text)?;
-    Ok(Event::Journal { fac })
 }

@@ -7,9 +7,7 @@ ghost use Rattle.rina_iface.specs.declared.error.SendError.TheVariants as send;
 ghost use Rattle.rina_iface.specs.declared.error.UnregisterError.TheVariants as unregister;
 ghost use Rattle.rina_iface.specs.Allocate.{Allocates};
 ghost use Rattle.rina_iface.specs.Claim.{Claims};
-ghost use Rattle.rina_iface.specs.Register.{Registers};
-ghost use Rattle.rina_iface.specs.Unregister.{Unregisters};
-ghost use Rattle.rina_tower.specs.Calls.{AreDifs, BindsFrom, MayBind, FreesFrom, PassesFrom, SendsFrom, Serves, WaitsThere};
+ghost use Rattle.rina_tower.specs.Calls.{AreDifs, BindsFrom, MayBind, FreesFrom, PassesFrom, RegistersFrom, SendsFrom, Serves, UnregistersFrom, WaitsThere};
 ghost use Rattle.rina_tower.specs.MemoryFailure.{have_failed};
 ghost use Rattle.rina_tower.specs.Levels.{AtDif, IsAtDif};
 ghost use Rattle.rina_tower.specs.Unchanged.{ChangesClaims, ChangesNothing};
@@ -29,7 +27,7 @@ impl Difs {
         app: &AppName,
     ) -> Result<(), RegisterError>
         requires { AreDifs self.old }
-        ensures does { AtDif fac (Serves (λ s s'. Registers (Some register.Unbuilt) s fac node app.now result s') ChangesNothing fac) (result ≡ Err register.NoMember) self.old self.new }
+        ensures does { AtDif fac (RegistersFrom fac node app.now result) (result ≡ Err register.NoMember) self.old self.new }
         ensures fails { result ≡ Err register.Memory → have_failed self.new ≡ true }
     {
         let Some(_dif) = self.get(fac) else {
@@ -48,7 +46,7 @@ impl Difs {
         app: &AppName,
     ) -> Result<(), UnregisterError>
         requires { AreDifs self.old }
-        ensures does { AtDif fac (Serves (λ s s'. Unregisters (Some unregister.Unbuilt) s fac node app.now result s') ChangesNothing fac) (result ≡ Err unregister.NotThere) self.old self.new }
+        ensures does { AtDif fac (UnregistersFrom fac node app.now result) (result ≡ Err unregister.NotThere) self.old self.new }
         ensures fails { result ≡ Err unregister.Memory → have_failed self.new ≡ true }
     {
         let Some(_dif) = self.get(fac) else {

@@ -1,8 +1,8 @@
 //! What each call does, exactly.
-ghost use Rattle.std.specs.Prelude.{◌≡◌, ◌<◌, ◌≤◌, ◌+◌, ◌^◌, All, IsSome, IfSome, Some, length, slice_get, option_and_then};
+ghost use Rattle.std.specs.Prelude.{◌≡◌, ◌≢◌, ◌<◌, ◌≤◌, ◌+◌, ◌^◌, All, IsSome, IsSomeAnd, IfSome, Some, None, length, slice_get, option_and_then};
 ghost use Rattle.rina_iface.specs.declared.ends.End.{End};
 ghost use Rattle.rina_wire.specs.Air.{Line, end_at, wire_at};
-ghost use Rattle.rina_wire.specs.Allocate.{AllocatesOn};
+ghost use Rattle.rina_wire.specs.Allocate.{AllocatesOn, allocate_refusal, flow_refusal};
 ghost use Rattle.rina_wire.specs.Bind.{BindsOn};
 ghost use Rattle.rina_wire.specs.Claim.{ClaimsOn};
 ghost use Rattle.rina_wire.specs.Free.{FreesOn};
@@ -32,6 +32,28 @@ fn frame_refusal(wire: &Wire, len: usize) -> Option<SendError>
         return Some(SendError::NumbersSpent { until: u32::MAX });
     }
     None
+}
+
+/// What a wire refuses to an ask, beside what every facility does.
+fn flow_refusal(wire: &Wire, ask: &Ask) -> Option<AllocateError>
+    ensures refused { result ≡ flow_refusal wire.now ask.now }
+    ensures room { result ≡ None → wire.now.flows < 4294967295 }
+    ensures memory { IfSome result (λ e. e ≢ AllocateError.Memory) }
+{
+    if !wire.has_name(wire.other_node(ask.node), &ask.to) {
+        if wire.has_name(ask.node, &ask.to) {
+            return Some(AllocateError::SameSystem);
+        }
+        return Some(AllocateError::NoSuchApp);
+    }
+    if wire.flows() == u32::MAX {
+        return Some(AllocateError::NoIds { used: u32::MAX });
+    }
+    if wire.is_cut() {
+        return Some(AllocateError::NoRoute { dst: 0 });
+    }
+    let port = wire.busy(ask.node)?;
+    Some(AllocateError::Busy { port })
 }
 
 impl Wires {
@@ -86,37 +108,38 @@ impl Wires {
         Ok(())
     }
 
+    /// What must be refused to an ask, in the order of every facility.
+    fn ask_refusal(&self, ask: &Ask) -> Option<AllocateError>
+        ensures refused { result ≡ allocate_refusal self.now ask.now }
+        ensures room { result ≡ None → IsSomeAnd (wire_at self.now ask.now.fac) (λ (l : Line). l.flows < 4294967295) }
+        ensures memory { IfSome result (λ e. e ≢ AllocateError.Memory) }
+    {
+        let Some(wire) = self.wires.get(ask.fac as usize) else {
+            return Some(AllocateError::NoMember);
+        };
+        if !wire.is_at(ask.node) {
+            return Some(AllocateError::NoMember);
+        }
+        if !wire.meets(&ask.want) {
+            return Some(AllocateError::NoCube);
+        }
+        flow_refusal(wire, ask)
+    }
+
     /// Asks for a flow.
+    #[tactic(auto, using(crate::proofs::Refused::asks_refused))]
     pub(super) fn open_flow(&mut self, alloc: Global, ask: &Ask) -> Result<Port, AllocateError>
         ensures { AllocatesOn self.old ask.now result self.new }
     {
         if self.failed {
             return Err(AllocateError::Memory);
         }
+        if let Some(error) = self.ask_refusal(ask) {
+            return Err(error);
+        }
         let Some(wire) = self.wires.get(ask.fac as usize) else {
-            return Err(AllocateError::NoMember);
+            unreachable!()
         };
-        if !wire.is_at(ask.node) {
-            return Err(AllocateError::NoMember);
-        }
-        if !wire.meets(&ask.want) {
-            return Err(AllocateError::NoCube);
-        }
-        if !wire.has_name(wire.other_node(ask.node), &ask.to) {
-            if wire.has_name(ask.node, &ask.to) {
-                return Err(AllocateError::SameSystem);
-            }
-            return Err(AllocateError::NoSuchApp);
-        }
-        if wire.flows() == u32::MAX {
-            return Err(AllocateError::NoIds { used: u32::MAX });
-        }
-        if wire.is_cut() {
-            return Err(AllocateError::NoRoute { dst: 0 });
-        }
-        if let Some(port) = wire.busy(ask.node) {
-            return Err(AllocateError::Busy { port });
-        }
         let port = wire.port_on(ask.fac, ask.node);
         if self.wires[ask.fac as usize]
             .make_flow(alloc, self.clock, ask)

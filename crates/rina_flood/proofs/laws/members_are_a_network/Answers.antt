@@ -1,4 +1,4 @@
-use Rattle.rina_flood.proofs.Members.{start_run, goes_on_run, loses_run, takes_run, offers_run, handles_run}
+use Rattle.rina_flood.proofs.Members.{start_run, goes_on_run, loses_run, makes_run, takes_run, offers_run, handles_run}
 use Rattle.rina_flood.proofs.Claiming.{quiet_claims}
 use Rattle.rina_flood.proofs.Quiet.{quiet_agree}
 use Rattle.rina_flood.proofs.laws.members_are_a_network.Goals as goal
@@ -11,6 +11,9 @@ returns-clause-goes_on c = goes_on_run
 
 pub returns-clause-loses : goal.returns-clause-loses
 returns-clause-loses c = loses_run
+
+pub returns-clause-makes : goal.returns-clause-makes
+returns-clause-makes c = makes_run
 
 pub returns-clause-takes : goal.returns-clause-takes
 returns-clause-takes c = takes_run

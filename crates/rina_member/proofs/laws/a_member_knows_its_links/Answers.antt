@@ -1,3 +1,4 @@
+use Rattle.rina_member.proofs.Entering.{makes_knowing}
 use Rattle.rina_member.proofs.Knowing.{enters_knowing, knows_routes, starts_knowing}
 use Rattle.rina_member.proofs.Learning.{handles_knowing}
 use Rattle.rina_member.proofs.Losing.{loses}
@@ -8,6 +9,9 @@ returns-clause-starts c = starts_knowing
 
 pub returns-clause-enters : goal.returns-clause-enters
 returns-clause-enters c = enters_knowing
+
+pub returns-clause-makes : goal.returns-clause-makes
+returns-clause-makes c = makes_knowing
 
 pub returns-clause-loses : goal.returns-clause-loses
 returns-clause-loses c = λ members plans now m links g g' k link laid among h stands live was. loses members plans now m links g k link laid among h stands live g' was

@@ -1,5 +1,8 @@
+use Rattle.std.proofs.Common.{sym, subst}
+use Rattle.rina_agent.specs.declared.agent.Agent.{Agent}
 use Rattle.rina_member.specs.Managements.{entered}
-use Rattle.rina_member.proofs.Tells.{enters_short, lost_short, sent_short}
+use Rattle.rina_member.specs.Short.{TellsShort}
+use Rattle.rina_member.proofs.Tells.{enters_short, lost_short, makes_short, sent_short}
 use Rattle.rina_member.proofs.TellsEnrolled.{handles_short}
 use Rattle.rina_member.proofs.TellsStarting.{starts_short}
 use Rattle.rina_member.proofs.laws.a_member_tells_short_messages.Goals as goal
@@ -10,6 +13,9 @@ returns-clause-starts c = λ members plans rules m links laid named few among fi
 pub returns-clause-enters : goal.returns-clause-enters
 unfolding entered
 returns-clause-enters c = λ app address m name small h. enters_short m.agent app address h name small
+
+pub returns-clause-makes : goal.returns-clause-makes
+returns-clause-makes c = λ now app value m m' name is makes h. subst (λ (g : Agent). TellsShort g) (sym makes.makes) (makes_short m.agent now app value h name is)
 
 pub returns-clause-loses : goal.returns-clause-loses
 returns-clause-loses c = λ now link m m' loses h. lost_short m.agent m'.agent now link h loses.loses

@@ -1,9 +1,12 @@
-use Rattle.std.proofs.Common.{◌≡◌, ◌++◌, take, drop}
-use Rattle.rina_notes.specs.Look.{state_notes, looked}
+use Rattle.std.proofs.Common.{◌≡◌, ◌-◌, length}
+use Rattle.rina_notes.specs.Look.{ends_at, HaveTold}
 use Rattle.rina_notes.proofs.label_note.tell_labels.Given as goal
 
 abbrev pub invariant-labels : goal.invariant-labels
 invariant-labels l = record {
-  notes : l.trace ≡ l.fn.trace ++ state_notes l.line.plan.now l.line.number l.tower (take l.at l.fn.labels);
-  labels : l.labels ≡ looked l.tower (take l.at l.fn.labels) ++ drop l.at l.fn.labels;
+  row : l.row.ends.now ≡ ends_at l.tower l.row.rank l.row.fac;
+  told : HaveTold l.line.plan.now l.line.number l.tower l.fn.labels l.fn.trace l.at l.labels l.trace;
 }
+
+abbrev pub decreases-labels : goal.decreases-labels
+decreases-labels l = length l.labels - l.at

@@ -1,7 +1,9 @@
-use Rattle.std.proofs.Common.{[], inr, refl}
+use Rattle.std.proofs.Common.{[], ap, inr, refl}
+use Rattle.rina_report.specs.declared.note.Fault.{Fault}
+use Rattle.rina_run.specs.Reading.{Broken}
 use Rattle.rina_report.specs.declared.note.Note.TheVariants as notes
 use Rattle.rina_run.proofs.Ending.{refused_as, refused_at_once}
-use Rattle.rina_run.proofs.Faulty.{reads_by, reads_then}
+use Rattle.rina_run.proofs.Faulty.{reads_as, reads_by, reads_then}
 use Rattle.rina_run.proofs.ReadOn.{few_left, read_nothing, was_headless}
 use Rattle.rina_run.proofs.top.run_read.Goals as goal
 
@@ -21,9 +23,11 @@ pub returns-in-Ok-Broken-clause-outcome : goal.returns-in-Ok-Broken-clause-outco
 returns-in-Ok-Broken-clause-outcome g c = inr (was_headless _ _ c.in-Ok-Broken.fault _ (rw c.in-Ok-Broken.field-0-is at c.in-Ok-Broken.ensures.reads) (refused_at_once (g.P.Policies.knows c.args.shelf.now) c.in-Ok-Broken.fault _ _ _ _ _ c.refuse.ensures.refused c.refuse.ensures.tower refl))
 
 pub returns-in-Ok-Broken-clause-read : goal.returns-in-Ok-Broken-clause-read
-returns-in-Ok-Broken-clause-read g c = reads_by c.in-Ok-Broken.fault _ (notes.Fault c.in-Ok-Broken.fault) [] _ _ _ _ _ (refused_as c.in-Ok-Broken.fault _ _ c.refuse.ensures.refused) (rw c.in-Ok-Broken.field-0-is at c.in-Ok-Broken.ensures.faults)
+returns-in-Ok-Broken-clause-read g c =
+    reads_by _ c.in-Ok-Broken.fault _ (notes.Fault c.in-Ok-Broken.fault) [] _ _ _ _ _ (refused_as c.in-Ok-Broken.fault _ _ c.refuse.ensures.refused) (rw c.in-Ok-Broken.field-0-is at c.in-Ok-Broken.ensures.faults)
+    (λ is. was_headless _ _ c.in-Ok-Broken.fault _ (rw c.in-Ok-Broken.field-0-is at c.in-Ok-Broken.ensures.reads) (ap (λ (f : Fault). Broken f) is, refused_at_once (g.P.Policies.knows c.args.shelf.now) c.in-Ok-Broken.fault _ _ _ _ _ c.refuse.ensures.refused c.refuse.ensures.tower refl))
 
 pub returns-in-Ok-Stack-clause-read : goal.returns-in-Ok-Stack-clause-read
 returns-in-Ok-Stack-clause-read g c =
     let faults = rw c.in-Ok-Stack.field-0-is at c.in-Ok-Stack.ensures.faults in
-    reads_then _ _ _ _ _ _ _ faults.0 faults.1 c.run_script.ensures.read
+    reads_as _ _ _ _ _ _ _ (λ broke. broke _ (rw c.in-Ok-Stack.field-0-is at c.in-Ok-Stack.ensures.reads)) (reads_then _ _ _ _ _ _ _ _ faults.0 faults.1 c.run_script.ensures.read)

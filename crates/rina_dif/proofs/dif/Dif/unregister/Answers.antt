@@ -1,6 +1,7 @@
-use Rattle.std.proofs.Common.{refl}
+use Rattle.std.proofs.Common.{◌∙◌, ap, refl}
+use Rattle.rina_dif.specs.declared.dif.Dif.{Dif}
 use Rattle.rina_dif.proofs.Facing.{same_goes_on, unchanged}
-use Rattle.rina_dif.proofs.Refused.{unregisters}
+use Rattle.rina_dif.proofs.Registered.{noted_stays}
 use Rattle.rina_dif.proofs.dif.Dif.unregister.Goals as goal
 
 pub returns-then-self-clause-shown : goal.returns-then-self-clause-shown
@@ -9,8 +10,5 @@ returns-then-self-clause-shown c = λ s n h. unchanged s n c.args.self.now c.arg
 pub returns-then-self-clause-goes_on : goal.returns-then-self-clause-goes_on
 returns-then-self-clause-goes_on c = same_goes_on c.args.self.now c.args.self.now c.requires refl
 
-pub returns-clause-shown : goal.returns-clause-shown
-returns-clause-shown c = λ s n h. unregisters s n c.args.self.now c.args.node c.args.app.now c.refuses_unregister.result c.refuses_unregister.ensures.refused h
-
-pub returns-clause-goes_on : goal.returns-clause-goes_on
-returns-clause-goes_on c = same_goes_on c.args.self.now c.args.self.now c.requires refl
+pub returns-clause-stands : goal.returns-clause-stands
+returns-clause-stands c = noted_stays c.args.self.now c.remove_name-removed.new.self _ (ap (λ (z : Dif). z.failed) c.remove_name-removed.ensures.whole ∙ c.if-self.false) c.remove_name-removed.ensures.stands

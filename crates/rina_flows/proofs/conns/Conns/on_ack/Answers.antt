@@ -13,3 +13,6 @@ invariant_of-self c =
     let conns = c.self.inside.items.items in
     let there = subst (λ xs. c.args.at < length xs) (sym c.self.view_is) c.requires in
     changed c.args.at c.quiet_until-quiet.result conns c.self.inside.watch c.note.new.self c.on_control.new.self there c.self.invariant c.note.ensures c.quiet_until-quiet.ensures.before
+
+pub note-requires : goal.note-requires
+note-requires c = c.self.invariant.room c.args.at (subst (λ xs. c.args.at < length xs) (sym c.self.view_is) c.requires)

@@ -1,9 +1,12 @@
-use Rattle.std.proofs.Common.{sym}
+use Rattle.std.proofs.Common.{◌≡◌, length, arith}
 use Rattle.rina_flows.proofs.Watched.{fewer}
 use Rattle.rina_flows.proofs.conns.Conns.pop_both.Goals as goal
 
 pub invariant_of-self : goal.invariant_of-self
 invariant_of-self c =
-    let watch = c.self.inside.watch in
-    let once = fewer watch.places.items watch.until c.self.inside.items.items c.pop.new.self.items _ c.pop.ensures.items c.self.invariant in
-    fewer watch.places.items watch.until c.pop.new.self.items c.pop-3.new.self.items _ c.pop-3.ensures.items once
+    let n = c.len.ensures in
+    let n' = c.len-2.ensures in
+    let at : c.len.result ≡ length c.pop.new.self.items = omega (arith, n) in
+    let at' : c.len-2.result ≡ length c.pop-3.new.self.items = omega (arith, n') in
+    let once = fewer c.self.inside.watch c.clear.new.self c.len.result c.self.inside.items.items c.pop.new.self.items _ c.pop.ensures.items at c.clear.ensures c.self.invariant in
+    fewer c.clear.new.self c.clear-2.new.self c.len-2.result c.pop.new.self.items c.pop-3.new.self.items _ c.pop-3.ensures.items at' c.clear-2.ensures once

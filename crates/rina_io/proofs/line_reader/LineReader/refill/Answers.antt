@@ -1,4 +1,5 @@
-use Rattle.std.proofs.Common.{◌≡◌, [], ◌++◌, List, ℕ, take, length, length-take, ◌≤◌, ap, sym, arith}
+use Rattle.std.proofs.Common.{◌≡◌, [], ◌++◌, List, ℕ, take, length, length-take, ◌≤◌, refl, ap, sym, arith}
+use Rattle.std.proofs.KnownBytes.{Consumes-kept, Consumes-nil}
 use Rattle.rina_io.proofs.line_reader.LineReader.refill.Goals as goal
 
 pub returns-then-count-self-clause-refills : goal.returns-then-count-self-clause-refills
@@ -15,6 +16,7 @@ returns-then-count-self-clause-refills g c =
       bytes = ap (λ (bs : List ℕ). bs ++ read) c.requires;
       unended = λ k lt. absurd (omega arith);
       breaks = (omega (arith, long, few, c.in-Ok.ensures.bound.0), omega (arith, long, few, room, c.in-Ok.ensures.bound.0));
+      kept = λ is. cc;
     }
 
 pub returns-then-is_err-clause-refills : goal.returns-then-is_err-clause-refills
@@ -29,4 +31,17 @@ returns-then-is_err-clause-refills g c =
       bytes = ap (λ (bs : List ℕ). bs ++ read) c.requires;
       unended = λ k lt. absurd (omega arith);
       breaks = omega (arith, long, ap (λ r. r.room) c.self.view_is);
+      kept = λ is. omega (arith, long);
     }
+
+pub returns-in-Err-clause-refills : goal.returns-in-Err-clause-refills
+returns-in-Err-clause-refills g c = record {
+  part = [];
+  behind = [];
+  read = [];
+  consumed = Consumes-kept _ _ _ [] (Consumes-nil _) c.in-Err.ensures.bytes;
+  bytes = ap (λ (bs : List ℕ). bs ++ []) c.requires;
+  unended = λ k lt. absurd (omega arith);
+  breaks = (refl, omega arith);
+  kept = λ is. cc;
+}

@@ -2,8 +2,9 @@ use Rattle.std.proofs.Common.{◌≡◌, Err, Some, refl}
 use Rattle.rina_iface.proofs.LaterCalls.{later_unregisters}
 use Rattle.rina_tower.specs.Ranks.{now_of, seen_of_difs}
 use Rattle.rina_tower.proofs.Failed.{rank_failed, wires_failed}
-use Rattle.rina_tower.proofs.Serving.{rank_serves, unregisters_seen}
-use Rattle.rina_iface.specs.declared.error.UnregisterError.TheVariants.{Unbuilt, NotThere}
+use Rattle.rina_tower.proofs.Serving.{rank_unregisters, unregisters_seen}
+use Rattle.rina_tower.specs.Refusals.{own_unregister}
+use Rattle.rina_iface.specs.declared.error.UnregisterError.TheVariants.{NotThere}
 use Rattle.rina_iface.specs.Unregister.{Unregisters}
 use Rattle.rina_iface.specs.declared.error.UnregisterError.TheVariants as unregister
 use Rattle.rina_wire.specs.Unregister.{UnregistersOn}
@@ -17,7 +18,7 @@ returns-in-Rank-clause-valid c =
     let old = c.in-Rank.rank.value in
     let new = c.unregister-in-Rank.new.self in
     let r = c.unregister-in-Rank.result in
-    rw c.deref_mut.ensures.value (rank_serves (λ s s'. Unregisters (Some Unbuilt) s c.args.fac c.args.node c.args.app.now r s') c.args.fac (r ≡ Err NotThere) old.difs new old.below v.0 v.1 h, v.1)
+    rw c.deref_mut.ensures.value (rank_unregisters c.args.fac c.args.node c.args.app.now r (r ≡ Err NotThere) old.difs new old.below v.0 v.1 h, v.1)
 
 pub returns-in-Rank-clause-later : goal.returns-in-Rank-clause-later
 returns-in-Rank-clause-later c =
@@ -27,7 +28,7 @@ returns-in-Rank-clause-later c =
     let new = c.unregister-in-Rank.new.self in
     let r = c.unregister-in-Rank.result in
     let d = unregisters_seen c.args.fac c.args.node c.args.app.now r old.difs new old.below v.0 h in
-    rw (c.in-Rank.is, c.deref_mut.ensures.value) (later_unregisters (Some Unbuilt) (seen_of_difs (now_of old.below) old.difs) c.args.fac c.args.node c.args.app.now r (seen_of_difs (now_of old.below) new) d)
+    rw (c.in-Rank.is, c.deref_mut.ensures.value) (later_unregisters (own_unregister old.difs c.args.fac c.args.node) (seen_of_difs (now_of old.below) old.difs) c.args.fac c.args.node c.args.app.now r (seen_of_difs (now_of old.below) new) d)
 
 pub returns-in-Rank-clause-does : goal.returns-in-Rank-clause-does
 returns-in-Rank-clause-does c =
@@ -49,7 +50,7 @@ returns-in-Rank-clause-below c =
     let h = rw c.deref_mut.ensures.value at c.unregister-in-Rank.ensures.does in
     let old = c.in-Rank.rank.value in
     let new = c.unregister-in-Rank.new.self in
-    rw (c.in-Rank.is, c.deref_mut.ensures.value) (any_stays _ _ _ old.difs new (λ d d' x. serves_stays _ _ d d' x) h, refl)
+    rw (c.in-Rank.is, c.deref_mut.ensures.value) (any_stays _ _ _ old.difs new (λ d d' x. serves_stays _ _ d d' x.serves) h, refl)
 
 pub returns-in-Rank-clause-exact : goal.returns-in-Rank-clause-exact
 returns-in-Rank-clause-exact c =
