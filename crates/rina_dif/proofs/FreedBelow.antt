@@ -42,6 +42,7 @@ holds_lifted d lines below below' kept' up clock h = record {
   written_off = h.written_off;
   housed = h.housed;
   managed = h.managed;
+  enrolled = h.enrolled;
   connected = beside_connected (config_of d.settings) d.clock d.connections (seen_of d).processes below below' kept' up clock h.connected;
   flooded = h.flooded;
 }

@@ -66,6 +66,7 @@ passes d at flows p lines below h =
         written_off = passed_written (seen_of d) lines at (seen_of d') o.lines' h.written_off passed;
         housed = h.housed;
         managed = h.managed;
+        enrolled = h.enrolled;
         connected = h.connected;
         flooded = h.flooded;
       };

@@ -88,11 +88,7 @@ fn plan(alloc: Global, sketch: Sketch) -> Result<Plan, Memory>
 
 /// The stack of a table, or the first rule that it breaks. A key that is not listed is told also where memory ran out.
 #[tactic(auto, unfolding(crate::specs::Stack::stack_at))]
-pub(crate) fn stack_of<P: Policies>(
-    alloc: Global,
-    policies: &P,
-    stack: &Value,
-) -> Result<Plan, StackError>
+fn stack_of<P: Policies>(alloc: Global, policies: &P, stack: &Value) -> Result<Plan, StackError>
     ensures read { Gives (λ p. p) result (stack_at (P.knows policies.now) (view stack.now)) }
     ensures memory { IfErr result (λ e. e ≡ StackError.Memory → keys_fault (view stack.now) ≡ None) }
 {
@@ -109,7 +105,7 @@ pub(crate) fn stack_of<P: Policies>(
 }
 
 /// Why a text was not read as TOML: memory ran out, or it is none.
-pub(crate) fn unread(error: &toml::de::Error) -> StackError
+fn unread(error: &toml::de::Error) -> StackError
     ensures memory { (result ≡ StackError.Memory) ↔ IsMemory error.now }
     ensures other { (result ≡ StackError.NotToml) ↔ ¬ (IsMemory error.now) }
 {
