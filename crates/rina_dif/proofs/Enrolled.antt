@@ -1,8 +1,8 @@
 -- Which members of a DIF are enrolled: who they are from the start, that they stay so, and where they are.
-use Rattle.std.proofs.Common.{◌≡◌, ◌∙◌, ℕ, zero, suc, ◌<◌, ◌==◌, ◌||◌, Bool, true, false, cond, List, [], ◌∷◌, Contains, filter, length, map, slice_get, slice_set, Option, Some, None, is_some, option_map, refl, sym, ap, subst, inl, inr, arith}
+use Rattle.std.proofs.Common.{◌≡◌, ◌∙◌, ℕ, suc, ◌<◌, ◌==◌, ◌||◌, Bool, true, false, cond, List, [], ◌∷◌, filter, length, map, slice_get, slice_set, Option, Some, None, option_map, refl, sym, ap, subst, inl, inr, arith}
 use Rattle.std.specs.Prelude.{All}
-use Rattle.std.specs.List.{cons_option, filter_map, list_any, zip}
-use Rattle.std.proofs.lemmas.Bool.{cases_Bool, both_ways, eq-eqb, eqb-true, false≢true}
+use Rattle.std.specs.List.{cons_option, list_any}
+use Rattle.std.proofs.lemmas.Bool.{cases_Bool, eq-eqb, eqb-true, false≢true}
 use Rattle.std.proofs.lemmas.List.{map-set}
 use Rattle.std.proofs.lemmas.Option.{none-some, same_Some, slice_get-map, slice_get_within}
 use Rattle.rina_agent.specs.declared.agent.Agent.{Agent}
@@ -17,14 +17,14 @@ use Rattle.rina_plan.specs.declared.dif.LinkPlan.{LinkPlan}
 use Rattle.rina_data.specs.declared.process.IpcProcess.{IpcProcess}
 use Rattle.rina_data.specs.declared.settings.Member.{Member as Kept}
 use Rattle.rina_data.specs.declared.settings.Settings.{Settings}
-use Rattle.rina_data.specs.Configs.{Member, config_of, member_of}
+use Rattle.rina_data.specs.Configs.{config_of, member_of}
 use Rattle.rina_data.proofs.Finding.{there}
 use Rattle.rina_dif_law.specs.Numbered.{AreMembers}
 use Rattle.rina_dif_law.specs.Sending.{home}
 use Rattle.rina_member.specs.declared.management.Management.{Management}
 use Rattle.rina_member.specs.Managements.{MayHoldEntry}
 use Rattle.rina_member.specs.Start.{first_enrolled, started, starts_enrolled, state_from}
-use Rattle.rina_member.proofs.Lists.{all_of, any_true, at_place, is_there, keeps_all}
+use Rattle.rina_member.proofs.Lists.{all_of, any_true, is_there, keeps_all}
 use Rattle.rina_member.proofs.Starting.{all_enrolled}
 use Rattle.rina_route.proofs.Lists.{contains_unmap}
 use Rattle.rina_dif.specs.declared.dif.Dif.{Dif}
