@@ -16,6 +16,7 @@ pub mod LowerUse
 pub mod MemoryFailure
 pub mod Objects
 pub mod PlanSettings
+pub mod Publishing
 pub mod Ranks
 pub mod Refusals
 pub mod Resting
