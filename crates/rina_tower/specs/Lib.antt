@@ -13,6 +13,7 @@ pub mod Layout
 pub mod Ledgers
 pub mod Levels
 pub mod LowerUse
+pub mod Members
 pub mod MemoryFailure
 pub mod Objects
 pub mod PlanSettings

@@ -7,6 +7,7 @@ mod difs;
 mod events;
 mod facility;
 mod ledgers;
+mod members;
 mod memory;
 mod objects;
 mod places;
