@@ -1,5 +1,6 @@
 //! What a call refused, as a note shows it.
-ghost use Rattle.std.specs.Prelude.{◌≡◌, IfOk};
+ghost use Rattle.std.specs.Prelude.{◌≡◌, true, IfOk, OnErr};
+ghost use Rattle.rina_notes.specs.Copying.{copies_allocate, copies_app, copies_send};
 ghost use Rattle.rina_notes.specs.Told.{app_told, register_told, unregister_told, free_told, allocate_told, send_told, wire_told};
 
 use crate::state::{tell_drawn, tell_fail};
@@ -92,7 +93,8 @@ pub fn tell_allocate(
     node: &Name,
     error: AppError<AllocateError>,
 ) -> Result<Option<Refusal>, Memory>
-    ensures { IfOk result (λ o. o ≡ app_told (allocate_told fac.now node.now) error) }
+    ensures told { IfOk result (λ o. o ≡ app_told (allocate_told fac.now node.now) error) }
+    ensures memory { OnErr result (copies_app copies_allocate error ≡ true) }
 {
     match error {
         AppError::NoRank => Ok(Some(Refusal::NoRank)),
@@ -108,7 +110,8 @@ fn allocate_refusal(
     node: &Name,
     error: AllocateError,
 ) -> Result<Option<Refusal>, Memory>
-    ensures { IfOk result (λ o. o ≡ allocate_told fac.now node.now error) }
+    ensures told { IfOk result (λ o. o ≡ allocate_told fac.now node.now error) }
+    ensures memory { OnErr result (copies_allocate error ≡ true) }
 {
     match error {
         AllocateError::Memory => Ok(None),
@@ -134,7 +137,8 @@ pub fn tell_send(
     rank: u16,
     error: SendError,
 ) -> Result<Option<Refusal>, Memory>
-    ensures { IfOk result (λ o. o ≡ send_told plan.now rank error) }
+    ensures told { IfOk result (λ o. o ≡ send_told plan.now rank error) }
+    ensures memory { OnErr result (copies_send plan.now rank error ≡ true) }
 {
     match error {
         SendError::Memory => Ok(None),
@@ -164,7 +168,8 @@ pub fn tell_app_send(
     rank: u16,
     error: AppError<SendError>,
 ) -> Result<Option<Refusal>, Memory>
-    ensures { IfOk result (λ o. o ≡ app_told (send_told plan.now rank) error) }
+    ensures told { IfOk result (λ o. o ≡ app_told (send_told plan.now rank) error) }
+    ensures memory { OnErr result (copies_app (copies_send plan.now rank) error ≡ true) }
 {
     match error {
         AppError::NoRank => Ok(Some(Refusal::NoRank)),

@@ -61,15 +61,20 @@ says_one (events.State label) = true
 says_one (events.Free label) = true
 says_one event = is_below event
 
--- the line is blank or a comment, or begins with a word that is built
-abbrev pub begins_built : Option (List ℕ × List ℕ) → Bool
-begins_built None = true
-begins_built (Some f) = (slice_index f.0 0 == 35) || is_built_word f.0
+-- the word of a line, by its first field and what stands behind it; none where it is blank or a comment
+abbrev pub word_of : Option (List ℕ × List ℕ) → Option (List ℕ)
+word_of None = None
+word_of (Some f) = if slice_index f.0 0 == 35 then None else Some f.0
 
 abbrev pub if_built : Option Event → Result (Option Event) LineError
 if_built None = Ok None
 if_built (Some event) = if is_built event then Ok (Some event) else Err errors.UnknownWord
 
--- what a line asks for, where its word is built
+-- what a line with this word asks for, where the word is built; a line without one asks for nothing
+abbrev pub event_by : Option (List ℕ) → List ℕ → Result (Option Event) LineError
+event_by None text = Ok None
+event_by (Some word) text = if is_built_word word then (line_at text >>= if_built) else Err errors.UnknownWord
+
+-- what a line asks for
 unfoldable pub event_at : List ℕ → Result (Option Event) LineError
-event_at text = if begins_built (next_of text) then (line_at text >>= if_built) else Err errors.UnknownWord
+event_at text = event_by (word_of (next_of text)) text
