@@ -22,7 +22,7 @@ use Rattle.rina_dif.specs.declared.dif.Dif.{Dif}
 use Rattle.rina_dif.specs.Holding.{Holds}
 use Rattle.rina_dif.specs.Shown.{seen_of}
 
--- the flow may be made: the DIF is the facility that is meant, and has the cube, and a member with a CEP-id more at each
+-- the flow may be made: the DIF is the facility that is meant, and has the cube, and an enrolled member with a CEP-id more at each
 -- of two nodes
 pub record MayBind (d : Dif) (fixed : Fixed) : Type 0 where
   pub fac : d.settings.fac ≡ fixed.fac
@@ -34,7 +34,7 @@ pub record MayBind (d : Dif) (fixed : Fixed) : Type 0 where
   pub at_a : MayDraw (seen_of d) fixed.a of_a
   pub at_b : MayDraw (seen_of d) fixed.b of_b
 
--- some member at a node may draw a port
+-- some enrolled member at a node may draw a port
 abbrev pub SomeDraws : Dif → ℕ → Type 0
 SomeDraws d node = (member : Member) × MayDraw (seen_of d) node member
 

@@ -1,10 +1,11 @@
 -- What a call at a DIF leaves as it was.
-use Rattle.std.specs.Prelude.{◌≡◌, ℕ, List, map, slice_get, Option, Some, Result, Ok, Err}
+use Rattle.std.specs.Prelude.{◌≡◌, ℕ, List, map, slice_get, Option, Some, None, Result, Ok, Err, if◌then◌else◌}
 use Rattle.rina_base.specs.declared.number.Key.{Key}
 use Rattle.rina_base.specs.declared.number.Port.{Port}
 use Rattle.rina_iface.specs.declared.ends.End.{End}
 use Rattle.rina_iface.specs.Ends.{place_in}
 use Rattle.rina_iface.specs.Journal.{At}
+use Rattle.rina_iface.specs.Seen.{is_member}
 use Rattle.rina_data.specs.declared.process.IpcProcess.{IpcProcess}
 use Rattle.rina_data.specs.declared.step.ClockStep.{ClockStep}
 use Rattle.rina_data.specs.declared.step.ClockStep.TheVariants as clock
@@ -32,6 +33,10 @@ ChangesOnly Ends process d d' = ChangesAt Ends d.flows d'.flows × ChangesProces
 -- the place of the IPC process at a node
 abbrev pub home_of : Dif → ℕ → Option ℕ
 home_of d node = home node (config_of d.settings).members
+
+-- the place of the enrolled member at a node
+abbrev pub enrolled_home : Dif → ℕ → Option ℕ
+enrolled_home d node = if is_member d.enrolled node then home_of d node else None
 
 -- it was done, and this holds
 abbrev pub WhenOk : {T E : Type 0} → Result T E → Type 0 → Type 0

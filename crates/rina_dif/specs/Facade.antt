@@ -1,6 +1,7 @@
 -- A DIF as one facility of its rank.
 use Rattle.std.specs.Prelude.{◌≡◌, ℕ, ◌+◌, ◌-◌, ◌*◌, ◌/◌, ◌==◌, ◌&&◌, ◌||◌, Bool, true, nat_le, nat_lt, List, map, slice_get, Option, Some, None, option_and_then, if◌then◌else◌}
 use Rattle.rina_account.specs.declared.ledger.Off.{Off}
+use Rattle.rina_agent.specs.declared.state.MemberState.{MemberState}
 use Rattle.rina_base.specs.declared.number.Port.{Port}
 use Rattle.rina_conn.specs.declared.conn.Conn.{Conn}
 use Rattle.rina_conn.specs.declared.sending.Sending.{Sending}
@@ -25,6 +26,7 @@ use Rattle.rina_dif_law.specs.Others.{AreApart}
 use Rattle.rina_dif_law.specs.Sending.{by_process, by_sender, home, process_at}
 use Rattle.rina_dif_law.specs.Upward.{IsFacility}
 use Rattle.rina_flows.specs.Tied.{ids_of}
+use Rattle.rina_member.specs.declared.management.Management.{Management}
 use Rattle.rina_dif.specs.declared.dif.Dif.{Dif}
 use Rattle.rina_dif.specs.Holding.{Holds, Passes, Stands}
 use Rattle.rina_dif.specs.Shown.{seen_of}
@@ -114,11 +116,12 @@ pub record PassesAt (d : Dif) (lines : List Direction) (port : Port) (d' : Dif) 
 
 -- What a rank needs of each call
 
--- the DIF has gone on as a facility, with what it keeps of its flows
+-- the DIF has gone on as a facility, with what it keeps of its flows; who is enrolled stays so, and no other member is
 pub record GoesOn (d d' : Dif) : Type 0 where
   pub later : IsLaterFac d.clock d'.clock (fac_of (seen_of d)) (fac_of (seen_of d'))
   pub facility : IsFacility (seen_of d')
   pub clock : d'.clock ≡ d.clock
+  pub enrolled : d'.enrolled ≡ d.enrolled
 
 -- it stands wherever it stood
 abbrev pub StaysStanding : Dif → Dif → Type 0
@@ -129,6 +132,16 @@ StaysStanding d d' = (below : Seen) → Stands d below → Stands d' below
 -- the other DIFs of its rank, which share no IPC process with it, stand on
 abbrev pub OthersStand : Dif → Seen → Seen → Type 0
 OthersStand d below below' = (other : Dif) (lines : List Direction) → AreApart (seen_of d) (seen_of other) → Holds other lines below → Holds other lines below'
+
+-- What it tells of a member
+
+-- the state of the member at a node
+pub record IsStateAt (d : Dif) (node : ℕ) (state : MemberState) : Type 0 where
+  pub place : ℕ
+  pub at_home : home node (config_of d.settings).members ≡ Some place
+  pub management : Management
+  pub stands : slice_get d.managements place ≡ Some management
+  pub is : state ≡ management.agent.state
 
 -- What it has written off
 

@@ -38,7 +38,7 @@ members_seen d = record {
 
 -- they are the network of a run from the start of the DIF, so that all laws of flooding hold of them
 abbrev pub AreFlooding : Dif → Type 0
-AreFlooding d = IsRunOf d.laid.links (members_seen d)
+AreFlooding d = IsRunOf d.laid.is_static d.laid.links (members_seen d)
 
 -- a call keeps that, unless an allocation failed in it or before
 abbrev pub StayFlooding : Dif → Dif → Type 0

@@ -19,7 +19,7 @@ use Rattle.rina_flows.specs.Calls.{AreTied}
 use Rattle.rina_dif.specs.declared.dif.Dif.{Dif}
 use Rattle.rina_dif.specs.Connected.{AreConnected}
 use Rattle.rina_dif.specs.Flooding.{AreFlooding}
-use Rattle.rina_dif.specs.Managing.{AreManaged}
+use Rattle.rina_dif.specs.Managing.{AreEnrolled, AreManaged}
 use Rattle.rina_dif.specs.Shown.{seen_of}
 
 -- each live link has a queue for each cube
@@ -43,7 +43,7 @@ AreHoused g processes = (i : ℕ) (p : IpcProcess) → slice_get processes i ≡
 -- the DIF stands on the rank below, where these directions stand behind its flows, whatever an end got has come, its
 -- names are those of its members and ports, each IPC process is in account for each PDU, each end that has failed did so
 -- for its cause, each line of a ledger says what is true, each member has a management that knows its live links, and over the items of
--- which its next hops are, the management connections of the links stand, and until an allocation fails the members are a network in
+-- which its next hops are, the DIF knows which members are enrolled, the management connections of the links stand, and until an allocation fails the members are a network in
 -- which what one makes is flooded to all: after a failure some of them may have taken a directory entry and others not
 pub record Holds (d : Dif) (lines : List Direction) (below : Seen) : Type 0 where
   pub tied : AreTied (config_of d.settings) d.clock d.flows lines
@@ -55,6 +55,7 @@ pub record Holds (d : Dif) (lines : List Direction) (below : Seen) : Type 0 wher
   pub written_off : AreWrittenOff (seen_of d)
   pub housed : AreHoused (config_of d.settings) d.processes
   pub managed : AreManaged d
+  pub enrolled : AreEnrolled d
   pub connected : AreConnected (config_of d.settings) d.clock d.connections (seen_of d).processes below
   pub flooded : d.failed ≡ false → AreFlooding d
 

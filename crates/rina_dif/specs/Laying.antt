@@ -27,6 +27,7 @@ use Rattle.rina_dif.specs.Building.{IsFree, queue_ids}
 use Rattle.rina_dif.specs.Planned.{ipc_name, link_fixed, links_of, settings_by, settings_of}
 use Rattle.rina_dif.specs.Managing.{AreStarted}
 use Rattle.rina_dif.specs.Routing.{HaveFirstRoutes}
+use Rattle.rina_member.specs.Start.{first_enrolled}
 use Rattle.rina_channel.specs.Channels.{IsFlowBelow}
 
 -- Binding one after the other
@@ -111,7 +112,8 @@ pub record HasQueuesOf (s : Settings) (p : IpcProcess) : Type 0 where
   pub cubes : AreIds (queue_ids s.cubes) p.queues.cubes
 
 -- the i-th DIF of the stack when it was made: the settings of the plan, its links bound below in stack order, the
--- managements of its members as they start, the next hops over the links of the plan, and no flows and names
+-- managements of its members as they start, the next hops over the links of the plan, the nodes of the members that are enrolled from the
+-- start, and no flows and names
 pub record IsNew (plan : Plan) (i : ℕ) (d : Dif) (old new : Seen) : Type 0 where
   pub settings : settings_of plan i ≡ Some d.settings
   pub clock : d.clock ≡ old.now
@@ -121,7 +123,8 @@ pub record IsNew (plan : Plan) (i : ℕ) (d : Dif) (old new : Seen) : Type 0 whe
   pub processes : (k : ℕ) (member : Kept) (p : IpcProcess) → slice_get d.settings.members k ≡ Some member → slice_get d.processes k ≡ Some p → IsNewProcess (config_of d.settings) member.node (ends_of ports) (process_of p)
   pub queues : (k : ℕ) (p : IpcProcess) → slice_get d.processes k ≡ Some p → HasQueuesOf d.settings p
   pub routed : (dif : DifPlan) → slice_get plan.difs i ≡ Some dif → HaveFirstRoutes d.settings.members dif.links d.processes
-  pub managed : (dif : DifPlan) → slice_get plan.difs i ≡ Some dif → AreStarted d.settings.cubes d.settings.members dif.links dif.rules dif.allow (length d.settings.members) d.processes d.managements
+  pub managed : (dif : DifPlan) → slice_get plan.difs i ≡ Some dif → AreStarted dif.is_static d.settings.cubes d.settings.members dif.links dif.rules dif.allow (length d.settings.members) d.processes d.managements
+  pub enrolled : (dif : DifPlan) → slice_get plan.difs i ≡ Some dif → d.enrolled ≡ map (λ (m : Kept). m.node) (first_enrolled dif.is_static d.settings.members)
   pub ends : d.flows.journal.ends ≡ []
   pub conns : d.flows.conns ≡ []
   pub waiting : d.waiting.items ≡ []

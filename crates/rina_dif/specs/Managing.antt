@@ -1,9 +1,13 @@
 -- The managements of the members of a DIF: from the start, and at every moment.
-use Rattle.std.specs.Prelude.{◌≡◌, ℕ, Bool, List, length, map, slice_get, Some}
+use Rattle.std.specs.Prelude.{◌≡◌, ℕ, Bool, true, false, List, All, length, map, slice_get, Option, Some, None, if◌then◌else◌}
+use Rattle.std.specs.List.{filter_map, zip}
 use Rattle.rina_access.specs.declared.rules.Rule.{Rule}
 use Rattle.rina_access.specs.declared.rules.Rules.{Rules}
 use Rattle.rina_agent.specs.declared.agent.Agent.{Agent}
+use Rattle.rina_agent.specs.declared.state.MemberState.{MemberState}
+use Rattle.rina_agent.specs.declared.state.MemberState.TheVariants.{Enrolled}
 use Rattle.rina_cube.specs.declared.Cube.{Cube}
+use Rattle.rina_flood.specs.Network.{is_in}
 use Rattle.rina_plan.specs.declared.dif.LinkPlan.{LinkPlan}
 use Rattle.rina_data.specs.declared.link.Link.{Link}
 use Rattle.rina_data.specs.declared.process.IpcProcess.{IpcProcess}
@@ -18,24 +22,42 @@ use Rattle.rina_dif.specs.Telling.{TellsNeighbours}
 -- From the start
 
 -- the management of a member as it starts, where these are the cubes and the links of the DIF, and the links of its IPC process: its
--- access rules are these, in their order, and this holds where none matches; and it shows the cubes and the items of the start
-pub record IsStarted (cubes : List Cube) (members : List Member) (plans : List LinkPlan) (rules : List Rule) (allow : Bool) (m : Member) (links : List Link) (g : Management) : Type 0 where
+-- access rules are these, in their order, and this holds where none matches; and it shows the cubes and the items that it holds
+pub record IsStarted (is_static : Bool) (cubes : List Cube) (members : List Member) (plans : List LinkPlan) (rules : List Rule) (allow : Bool) (m : Member) (links : List Link) (g : Management) : Type 0 where
   pub access : Rules
   pub rules_are : access.rules ≡ rules
   pub default_is : access.default ≡ allow
-  pub is : g.agent ≡ started members plans access m links
-  pub shows : g.objects ≡ first_objects cubes (items_held members plans)
+  pub is : g.agent ≡ started is_static members plans access m links
+  pub shows : g.objects ≡ first_objects cubes (items_held is_static members plans m)
 
 -- so is that of each of the first members
-pub record AreStarted (cubes : List Cube) (members : List Member) (plans : List LinkPlan) (rules : List Rule) (allow : Bool) (count : ℕ) (processes : List IpcProcess) (managements : List Management) : Type 0 where
+pub record AreStarted (is_static : Bool) (cubes : List Cube) (members : List Member) (plans : List LinkPlan) (rules : List Rule) (allow : Bool) (count : ℕ) (processes : List IpcProcess) (managements : List Management) : Type 0 where
   pub aligned : length managements ≡ count
-  pub each : (k : ℕ) (m : Member) (p : IpcProcess) (g : Management) → slice_get members k ≡ Some m → slice_get processes k ≡ Some p → slice_get managements k ≡ Some g → IsStarted cubes members plans rules allow m p.links g
+  pub each : (k : ℕ) (m : Member) (p : IpcProcess) (g : Management) → slice_get members k ≡ Some m → slice_get processes k ≡ Some p → slice_get managements k ≡ Some g → IsStarted is_static cubes members plans rules allow m p.links g
 
 -- At every moment
 
 -- the managements without the objects that the members show
 abbrev pub agents_of : List Management → List Agent
 agents_of managements = map (λ (m : Management). m.agent) managements
+
+-- the states of the members
+abbrev pub states_of : List Management → List MemberState
+states_of managements = map (λ (m : Management). m.agent.state) managements
+
+-- the node of a member that is enrolled
+abbrev pub node_if_enrolled : Member × MemberState → Option ℕ
+node_if_enrolled x = if is_in x.1 then Some x.0.node else None
+
+-- the nodes of the members that are enrolled, in their order
+abbrev pub enrolled_nodes : List Member → List MemberState → List ℕ
+enrolled_nodes members states = filter_map node_if_enrolled (zip members states)
+
+-- a DIF knows the nodes of its enrolled members. All members of a static DIF are enrolled; any other DIF has no fixed flows
+pub record AreEnrolled (d : Dif) : Type 0 where
+  pub nodes : d.enrolled ≡ enrolled_nodes d.settings.members (states_of d.managements)
+  pub all : d.laid.is_static ≡ true → All (λ state. state ≡ Enrolled) (states_of d.managements)
+  pub unfixed : d.laid.is_static ≡ false → d.settings.admits ≡ 0
 
 -- at a tick, the management of a member knows the live links of its IPC process; the next hops of the IPC process are over the items
 -- that the management holds: the first links of least walks over the edges that the link states of both ends claim; and the member tells

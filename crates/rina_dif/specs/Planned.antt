@@ -1,5 +1,5 @@
 -- What the plan of a stack says of a DIF.
-use Rattle.std.specs.Prelude.{ℕ, ◌+◌, ◌-◌, ◌*◌, ◌^◌, List, [], ◌∷◌, ◌++◌, flat_map, length, map, slice_get, slice_index_or, take, Option, Some, None}
+use Rattle.std.specs.Prelude.{ℕ, ◌+◌, ◌-◌, ◌*◌, ◌^◌, List, [], ◌∷◌, ◌++◌, flat_map, length, map, slice_get, slice_index_or, take, Option, Some, None, if◌then◌else◌}
 use Rattle.rina_plan.specs.declared.dif.DifPlan.{DifPlan}
 use Rattle.rina_plan.specs.declared.dif.FlowPlan.{FlowPlan}
 use Rattle.rina_plan.specs.declared.dif.LinkPlan.{LinkPlan}
@@ -76,7 +76,7 @@ abbrev pub members_from : Plan → DifPlan → ℕ → List MemberPlan → List 
 members_from plan d number [] = []
 members_from plan d number (m ∷ ms) = member_of plan d number m ∷ members_from plan d (number + 1) ms
 
--- the settings of a DIF that is the i-th of the stack
+-- the settings of a DIF that is the i-th of the stack; one that is not static has no fixed flows
 abbrev pub settings_by : Plan → ℕ → DifPlan → Settings
 settings_by plan i d = record {
   fac = number_in_rank plan.difs i;
@@ -85,7 +85,7 @@ settings_by plan i d = record {
   widths = d.widths;
   pdu = d.pdu;
   cap = d.queue;
-  admits = 2 ^ (8 * d.widths.cep) - 1;
+  admits = if d.is_static then 2 ^ (8 * d.widths.cep) - 1 else 0;
   policy = d.policy;
 }
 

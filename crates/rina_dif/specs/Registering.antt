@@ -1,4 +1,4 @@
--- How names are registered at a DIF: the member at the node makes the directory entry of the application.
+-- How names are registered at a DIF: the enrolled member at the node makes the directory entry of the application.
 use Rattle.std.specs.Prelude.{◌≡◌, ◌⊎◌, ℕ, List, slice_get, slice_set, Option, Some, None, option_and_then, Result, Ok, Err}
 use Rattle.std.specs.Fmt.{decimal}
 use Rattle.rina_agent.specs.declared.state.AgentError.{AgentError}
@@ -11,13 +11,13 @@ use Rattle.rina_iface.specs.declared.error.UnregisterError.TheVariants as unregi
 use Rattle.rina_member.specs.declared.management.Management.{Management}
 use Rattle.rina_member.specs.Managements.{MakesEntry, MayMakeEntry}
 use Rattle.rina_dif.specs.declared.dif.Dif.{Dif}
-use Rattle.rina_dif.specs.Elsewhere.{home_of}
+use Rattle.rina_dif.specs.Elsewhere.{enrolled_home}
 
 -- Refusals
 
--- the management of the member at a node
+-- the management of the enrolled member at a node
 abbrev pub management_at : Dif → ℕ → Option Management
-management_at d node = option_and_then (slice_get d.managements) (home_of d node)
+management_at d node = option_and_then (slice_get d.managements) (enrolled_home d node)
 
 -- why a member makes no item: it has no version count left
 abbrev pub spent_by : Option Management → Option AgentError
@@ -51,10 +51,10 @@ AnswersEntry as_told now app value m (Err e) = (told : AgentError) × (e ≡ as_
 
 -- What is done
 
--- the member at a node makes the entry of an application with a value, or its deletion; no other management changes
+-- the enrolled member at a node makes the entry of an application with a value, or its deletion; no other management changes
 pub record MakesEntryAt (d : Dif) (node : ℕ) (app : List ℕ) (value : Management → Option (List ℕ)) (new : List Management) : Type 0 where
   pub i : ℕ
-  pub at_home : home_of d node ≡ Some i
+  pub at_home : enrolled_home d node ≡ Some i
   pub management : Management
   pub is_management : slice_get d.managements i ≡ Some management
   pub after : Management
@@ -75,5 +75,5 @@ RegistersManaged (Err e) d node app new = new ≡ d.managements
 
 -- what `unregister` does: the member at the node makes the deletion; where there is none, and where it is refused, none changes
 abbrev pub UnregistersManaged : Result (Unit {0}) UnregisterError → Dif → ℕ → List ℕ → List Management → Type 0
-UnregistersManaged (Ok done) d node app new = MakesEntryAt d node app no_value new ⊎ ((home_of d node ≡ None) × (new ≡ d.managements))
+UnregistersManaged (Ok done) d node app new = MakesEntryAt d node app no_value new ⊎ ((enrolled_home d node ≡ None) × (new ≡ d.managements))
 UnregistersManaged (Err e) d node app new = new ≡ d.managements

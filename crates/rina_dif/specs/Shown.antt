@@ -17,4 +17,5 @@ seen_of d = record {
   ids = d.ids;
   waiting = d.waiting.items;
   names = d.names;
+  enrolled = d.enrolled;
 }

@@ -29,7 +29,7 @@ impl Dif {
         ensures refused { refused_in (Some (fac_of (seen_of self.now))) ask.now (Some Unbuilt) ≡ Some result }
         ensures tells { result ≢ Memory }
     {
-        if !self.has_member(ask.node) {
+        if !self.is_enrolled(ask.node) {
             return AllocateError::NoMember;
         }
         if !is_met(self.settings.cubes.as_slice(), &ask.want) {

@@ -98,7 +98,7 @@ fn lay_links<F: Facility>(
 
 impl Dif {
     /// The DIF at a place of the stack, counted from 0, without its flows: its links are bound on the rank below, in
-    /// stack order, each member holds the items of the start, and each link has its management connection. Without memory
+    /// stack order, each enrolled member holds the items of the start, and each link has its management connection. Without memory
     /// some of the links may have been bound.
     pub fn of_plan<F: Facility>(
         alloc: Global,
@@ -117,20 +117,22 @@ impl Dif {
         ensures exact { IfOk result (λ d. IsNew plan.now at d (F.seen below.old) (F.seen below.new)) }
         ensures whole { OnOk result (BindsInTurn F.does_bind below.old (links_of plan.now at) below.new) }
         ensures connected { IfOk result (λ d. (dif : DifPlan) → slice_get plan.now.difs at ≡ Some dif → IsConnected d dif.manage (links_of plan.now at) (F.seen below.old) (F.seen below.new)) }
-        ensures laid_so { IfOk result (λ d. (dif : DifPlan) → slice_get plan.now.difs at ≡ Some dif → d.laid.links ≡ dif.links) }
+        ensures laid_so { IfOk result (λ d. (dif : DifPlan) → slice_get plan.now.difs at ≡ Some dif → d.laid ≡ record { is_static = dif.is_static; links = dif.links }) }
     {
         let Some(dif) = plan.difs.get(at) else {
             unreachable!()
         };
         let settings = settings_of(alloc, plan, at, dif)?;
-        let mut made = Dif::new(alloc, settings, dif.manage, below.now())?;
+        let mut made = Dif::new(alloc, settings, dif.is_static, dif.manage, below.now())?;
         let ports = lay_links(&mut made.processes, alloc, plan, dif, &made.settings, below)?;
         let plans = dif.links.as_slice();
-        let managements = made.first_managements(alloc, plans, dif.rules.as_slice(), dif.allow)?;
+        let rules = dif.rules.as_slice();
+        let managements =
+            made.first_managements(alloc, dif.is_static, plans, rules, dif.allow)?;
         let members = made.settings.members.as_slice();
         route_all(&mut made.processes, alloc, members, managements.as_slice())?;
         made.managements = managements;
-        made.laid = Layout::of(alloc, plans)?;
+        made.laid = Layout::of(alloc, dif.is_static, plans)?;
         let (settings, clock) = (&made.settings, made.clock);
         let links = ports.as_slice();
         let manage = dif.manage;

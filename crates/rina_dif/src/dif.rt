@@ -25,7 +25,7 @@ pub struct Dif {
     /// The managements of its members, one for each, in their order: the items that a member holds, what it made of them, and
     /// the objects that it shows. The next hops of an IPC process are read from the items.
     pub(crate) managements: Managements,
-    /// Its links as they were laid, which never change.
+    /// Whether it is static, and its links as they were laid, which never change.
     pub(crate) laid: Layout,
     /// The management connections of its links.
     pub(crate) connections: Connections,
@@ -35,6 +35,8 @@ pub struct Dif {
     /// The places of the far ends that nobody has claimed yet, the oldest first.
     pub(crate) waiting: Vec<usize>,
     pub(crate) names: Seq<Registered>,
+    /// The nodes of its enrolled members, in the order of the members.
+    pub(crate) enrolled: Seq<Node>,
     /// Whether an allocation has failed.
     pub(crate) failed: bool,
 }

@@ -9,12 +9,13 @@ ghost use Rattle.rina_law.specs.Direction.{Direction};
 ghost use Rattle.rina_data.specs.Configs.{config_of, cube_by};
 ghost use Rattle.rina_dif_law.specs.Sending.{home};
 ghost use Rattle.rina_dif.specs.Elsewhere.{ChangesOnly, IsPortAt};
-ghost use Rattle.rina_dif.specs.Facade.{GoesOn, IsLedger, IsShownAs, PassesAt, RankShows, StaysStanding, cube_there, its_cube, its_end, its_oldest, shown_as};
+ghost use Rattle.rina_dif.specs.Facade.{GoesOn, IsLedger, IsShownAs, IsStateAt, PassesAt, RankShows, StaysStanding, cube_there, its_cube, its_end, its_oldest, shown_as};
 ghost use Rattle.rina_dif.specs.Holding.{Holds};
 ghost use Rattle.rina_dif.specs.Whole.{IsDif};
 
 use crate::dif::Dif;
 use rina_account::Off;
+use rina_agent::MemberState;
 use rina_base::{Node, Port, Tick};
 use rina_cube::Cube;
 use rina_data::{IpcProcess, Settings};
@@ -64,6 +65,18 @@ impl Dif {
             unreachable!()
         };
         Some(process.ledger.lines())
+    }
+
+    /// The state of the member at a node. None exactly where the DIF has no member there.
+    pub fn member(&self, node: Node) -> Option<MemberState>
+        requires { IsDif self.now }
+        ensures { MatchOption result (home node (config_of self.now.settings).members ≡ None) (λ state. IsStateAt self.now node state) }
+    {
+        let home = self.place_at_node(node)?;
+        let Some(management) = self.managements.get(home) else {
+            unreachable!()
+        };
+        Some(management.agent.state)
     }
 
     /// All ends of its flows.

@@ -141,16 +141,16 @@ fn wants_memory(bound: &Result<(Port, Port), AllocateError>) -> bool
 }
 
 impl Dif {
-    /// Whether a member is at a node, where fewer ports were drawn than it may have.
+    /// Whether an enrolled member is at a node, where fewer ports were drawn than it may have.
     fn has_room(&self, node: Node) -> bool
         ensures { result ≡ true ↔ SomeDraws self.now node }
     {
         let ends = self.flows.journal.ends.as_slice();
-        self.place_at_node(node).is_some() && drawn(ends, node) < self.settings.admits as usize
+        self.enrolled_place(node).is_some() && drawn(ends, node) < self.settings.admits as usize
     }
 
-    /// Whether a flow may be made now as one that the stack fixes: this DIF is meant and has the cube, and a member at each of
-    /// the two nodes, which differ, may have a port more.
+    /// Whether a flow may be made now as one that the stack fixes: this DIF is meant and has the cube, and an enrolled member at
+    /// each of the two nodes, which differ, may have a port more.
     pub fn may_bind(&self, fixed: &Fixed) -> bool
         ensures { result ≡ true ↔ MayBind self.now fixed.now }
     {

@@ -5,28 +5,36 @@ use rina_base::Seq;
 use rina_plan::LinkPlan;
 use std::alloc::{AllocError, Global};
 
-/// The links of a DIF, which no step changes.
+/// Whether a DIF is static, and its links. No step changes them.
 #[derive(Drop)]
 pub struct Layout {
+    /// Whether all its members were enrolled from the start; else the first one alone was, and it has no links of the stack.
+    pub is_static: bool,
     /// Its links as they were laid, in stack order: what the link states say from the start.
     pub links: Seq<LinkPlan>,
 }
 
 impl Layout {
     /// No links.
-    pub(crate) fn none(alloc: Global) -> Layout
-        ensures { result.links ≡ [] }
+    pub(crate) fn none(alloc: Global, is_static: bool) -> Layout
+        ensures { result ≡ record { is_static = is_static; links = [] } }
     {
         Layout {
+            is_static,
             links: Seq::new(alloc),
         }
     }
 
     /// These links.
-    pub(crate) fn of(alloc: Global, links: &[LinkPlan]) -> Result<Layout, AllocError>
-        ensures { IfOk result (λ l. l.links ≡ links.now) }
+    pub(crate) fn of(
+        alloc: Global,
+        is_static: bool,
+        links: &[LinkPlan],
+    ) -> Result<Layout, AllocError>
+        ensures { IfOk result (λ l. l ≡ record { is_static = is_static; links = links.now }) }
     {
         Ok(Layout {
+            is_static,
             links: Seq::from_vec(Vec::from_slice(alloc, links)?),
         })
     }

@@ -1,10 +1,10 @@
 //! The managements of the members of a DIF, and the next hops over the items that they hold.
-ghost use Rattle.std.specs.Prelude.{◌≡◌, ◌<◌, ◌≤◌, [], ◌∷◌, ◌++◌, length, map, slice_get, slice_set, Some, IfOk, OnOk, OnErr, MatchOption};
+ghost use Rattle.std.specs.Prelude.{◌≡◌, ◌<◌, ◌≤◌, [], ◌∷◌, ◌++◌, length, map, slice_get, slice_set, Some, IfOk, OnOk, OnErr, MatchOption, if◌then◌else◌};
 ghost use Rattle.rina_dif.specs.Changing.{MayHaveEntered, changed_at, with_flow_at};
 ghost use Rattle.rina_dif.specs.Managing.{AreStarted};
 ghost use Rattle.rina_dif.specs.Routing.{AreRouted};
 ghost use Rattle.rina_member.specs.Managements.{entered, with_objects, with_sent};
-ghost use Rattle.rina_member.specs.Objects.{removed};
+ghost use Rattle.rina_member.specs.Objects.{first_objects, removed};
 
 use crate::dif::Dif;
 use crate::processes::Processes;
@@ -12,7 +12,10 @@ use rina_access::{Rule, Rules};
 use rina_base::{Addr, AppName, Cep, Memory, Seq};
 use rina_cube::Cube;
 use rina_data::Member;
-use rina_member::{Management, first_objects, routes_of, start_items, started};
+use rina_member::{
+    Management, first_objects, routes_of, start_items, started, starts_enrolled,
+};
+use rina_newest::Newest;
 use rina_plan::LinkPlan;
 use rina_rib::Rib;
 use std::alloc::{AllocError, Global};
@@ -120,10 +123,44 @@ impl Managements {
     }
 }
 
+/// The objects that members show from the start.
+struct FirstObjects {
+    /// Those of a member that is enrolled.
+    enrolled: Rib,
+    /// Those of one that is outside.
+    outside: Rib,
+}
+
+impl FirstObjects {
+    /// Those of members that hold these items where they are enrolled.
+    fn of(alloc: Global, cubes: &[Cube], items: &Newest) -> Result<FirstObjects, Memory>
+        ensures enrolled { IfOk result (λ f. f.enrolled ≡ first_objects cubes.now items.now) }
+        ensures outside { IfOk result (λ f. f.outside ≡ first_objects cubes.now []) }
+    {
+        let none = Newest::new(alloc);
+        Ok(FirstObjects {
+            enrolled: first_objects(alloc, cubes, items)?,
+            outside: first_objects(alloc, cubes, &none)?,
+        })
+    }
+
+    /// A copy of those of a member that is enrolled, or outside.
+    fn of_member(&self, enrolled: bool) -> Result<Rib, Memory>
+        ensures { IfOk result (λ rib. rib ≡ if enrolled then self.now.enrolled else self.now.outside) }
+    {
+        if enrolled {
+            self.enrolled.copy()
+        } else {
+            self.outside.copy()
+        }
+    }
+}
+
 /// The management of each member from the start, at the place of the member, where these are the cubes and the links of the
 /// DIF, and its IPC processes have theirs. `rules` are tried from the first on; `allow` is what holds where none matches.
 pub(crate) fn start_all(
     alloc: Global,
+    is_static: bool,
     cubes: &[Cube],
     members: &[Member],
     plans: &[LinkPlan],
@@ -133,10 +170,10 @@ pub(crate) fn start_all(
 ) -> Result<Managements, Memory>
     requires aligned { length processes.now ≡ length members.now }
     requires few { length rules.now ≤ 256 }
-    ensures { IfOk result (λ managements. AreStarted cubes.now members.now plans.now rules.now allow (length members.now) processes.now managements) }
+    ensures { IfOk result (λ managements. AreStarted is_static cubes.now members.now plans.now rules.now allow (length members.now) processes.now managements) }
 {
-    let items = start_items(alloc, members, plans)?;
-    let shown = first_objects(alloc, cubes, &items)?;
+    let items = start_items(alloc, is_static, members, plans)?;
+    let shown = FirstObjects::of(alloc, cubes, &items)?;
     let mut managements = Managements::new(alloc);
     for at in 0..members.len() {
         let Some(process) = processes.get(at) else {
@@ -145,30 +182,37 @@ pub(crate) fn start_all(
         let access = Rules::new(alloc, rules, allow)?;
         let member = &members[at];
         let links = process.links.as_slice();
-        let agent = started(alloc, members, plans, access, member, links, &items)?;
-        let objects = shown.copy()?;
+        let enrolled = starts_enrolled(is_static, members, member.addr);
+        let agent = started(
+            alloc, is_static, members, plans, access, member, links, &items,
+        )?;
+        let objects = shown.of_member(enrolled)?;
         managements.push(Management { agent, objects })?;
     }
     Ok(managements)
 }
 
 impl Dif {
-    /// The managements of the members from the start, where these links of the DIF were laid. `rules` are tried from the
-    /// first on; `allow` is what holds where none matches.
+    /// The managements of the members from the start, where the DIF is static or not and these links of it were laid. `rules`
+    /// are tried from the first on; `allow` is what holds where none matches.
     pub(crate) fn first_managements(
         &self,
         alloc: Global,
+        is_static: bool,
         plans: &[LinkPlan],
         rules: &[Rule],
         allow: bool,
     ) -> Result<Managements, Memory>
         requires aligned { length self.now.processes ≡ length self.now.settings.members }
         requires few { length rules.now ≤ 256 }
-        ensures { IfOk result (λ managements. AreStarted self.now.settings.cubes self.now.settings.members plans.now rules.now allow (length self.now.settings.members) self.now.processes managements) }
+        ensures { IfOk result (λ managements. AreStarted is_static self.now.settings.cubes self.now.settings.members plans.now rules.now allow (length self.now.settings.members) self.now.processes managements) }
     {
         let cubes = self.settings.cubes.as_slice();
         let members = self.settings.members.as_slice();
-        start_all(alloc, cubes, members, plans, rules, allow, &self.processes)
+        let processes = &self.processes;
+        start_all(
+            alloc, is_static, cubes, members, plans, rules, allow, processes,
+        )
     }
 }
 

@@ -1,16 +1,15 @@
 //! The names that are registered at a DIF.
-ghost use Rattle.std.specs.Prelude.{◌≡◌, ◌↔◌, ◌==◌, ◌<◌, ℕ, length, remove, slice_get, Some, Ok, Err, OnErr, true};
-ghost use Rattle.std.specs.List.{list_any};
+ghost use Rattle.std.specs.Prelude.{◌≡◌, ◌↔◌, ◌<◌, ℕ, length, remove, slice_get, IfSome, Some, Ok, Err, OnErr, true};
 ghost use Rattle.rina_base.specs.Names.{app_at};
 ghost use Rattle.rina_iface.specs.declared.error.RegisterError.TheVariants as register;
 ghost use Rattle.rina_iface.specs.declared.error.UnregisterError.TheVariants as unregister;
 ghost use Rattle.rina_iface.specs.Register.{Registers};
 ghost use Rattle.rina_iface.specs.Seen.{Seen, is_member};
 ghost use Rattle.rina_iface.specs.Unregister.{Unregisters};
-ghost use Rattle.rina_data.specs.declared.settings.Member.{Member};
 ghost use Rattle.rina_dif_law.specs.Dif.{fac_of};
 ghost use Rattle.rina_member.specs.declared.management.Management.{Management};
 ghost use Rattle.rina_member.specs.Short.{AreNamed};
+ghost use Rattle.rina_dif.specs.Elsewhere.{enrolled_home};
 ghost use Rattle.rina_dif.specs.Facade.{GoesOn, IsShownAs, StaysStanding, shown_as};
 ghost use Rattle.rina_dif.specs.Registering.{AnswersEntry, RegistersManaged, UnregistersManaged, no_value, own_address, register_refusal, register_told, unregister_refusal, unregister_told};
 ghost use Rattle.rina_dif.specs.Shown.{seen_of};
@@ -71,19 +70,31 @@ fn refused_unregister(error: AgentError) -> UnregisterError
     }
 }
 
-/// Whether a member stands on a node.
-fn stands_on(members: &[Member], node: Node) -> bool
-    ensures { result ≡ list_any (λ (m : Member). m.node == node) members.now }
+/// Whether a node is one of these.
+fn is_among(nodes: &[Node], node: Node) -> bool
+    ensures { result ≡ is_member nodes.now node }
 {
-    members.iter().any(|member| member.node == node)
+    nodes.iter().any(|other| *other == node)
 }
 
 impl Dif {
-    /// Whether the DIF has a member at a node.
-    pub fn has_member(&self, node: Node) -> bool
+    /// Whether an enrolled member is at a node.
+    pub fn is_enrolled(&self, node: Node) -> bool
         ensures { result ≡ is_member (fac_of (seen_of self.now)).members node }
     {
-        stands_on(self.settings.members.as_slice(), node)
+        is_among(self.enrolled.as_slice(), node)
+    }
+
+    /// The place of the enrolled member at a node. None exactly where the DIF has none there.
+    pub(crate) fn enrolled_place(&self, node: Node) -> Option<usize>
+        ensures place { result ≡ enrolled_home self.now node }
+        ensures within { IfSome result (λ i. i < length self.now.settings.members) }
+    {
+        if self.is_enrolled(node) {
+            self.place_at_node(node)
+        } else {
+            None
+        }
     }
 
     /// The management of the member at a place after an application was registered there.
@@ -124,7 +135,7 @@ impl Dif {
         }
     }
 
-    /// Registers an application at a node, and lets the member there make its directory entry. A refused call changes nothing.
+    /// Registers an application at a node, and lets the enrolled member there make its directory entry. A refused call changes nothing.
     fn add_name(&mut self, alloc: Global, node: Node, app: &AppName) -> Result<(), RegisterError>
         requires { IsDif self.old }
         ensures valid { IsDif self.new }
@@ -138,7 +149,7 @@ impl Dif {
         if is_registered(self.names.as_slice(), node, app) {
             return Err(RegisterError::Already);
         }
-        let Some(at) = self.place_at_node(node) else {
+        let Some(at) = self.enrolled_place(node) else {
             return Err(RegisterError::NoMember);
         };
         is_formed(app);
@@ -169,7 +180,7 @@ impl Dif {
         let Some(place) = name_place(self.names.as_slice(), node, app) else {
             return Err(UnregisterError::NotThere);
         };
-        let Some(at) = self.place_at_node(node) else {
+        let Some(at) = self.enrolled_place(node) else {
             remove_at(alloc, &mut self.names, place);
             return Ok(());
         };
@@ -180,7 +191,7 @@ impl Dif {
         Ok(())
     }
 
-    /// Registers an application at a node: the member there makes its directory entry, shows it, and floods it on each link that is
+    /// Registers an application at a node: the enrolled member there makes its directory entry, shows it, and floods it on each link that is
     /// up. A refused call changes nothing.
     pub fn register(
         &mut self,

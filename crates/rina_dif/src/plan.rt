@@ -1,5 +1,5 @@
 //! What the plan of a stack says of a DIF.
-ghost use Rattle.std.specs.Prelude.{◌≡◌, ◌+◌, ◌-◌, ◌*◌, ◌^◌, ◌<◌, ◌≤◌, All, ◌∷◌, ◌++◌, flat_map, length, slice_get, Some, IfOk};
+ghost use Rattle.std.specs.Prelude.{◌≡◌, ◌+◌, ◌-◌, ◌*◌, ◌^◌, ◌<◌, ◌≤◌, All, ◌∷◌, ◌++◌, flat_map, length, slice_get, Some, IfOk, if◌then◌else◌};
 ghost use Rattle.rina_pci.specs.Spelling.{IsWidth};
 ghost use Rattle.rina_plan.specs.declared.dif.DifPlan.{DifPlan};
 ghost use Rattle.rina_plan.specs.declared.dif.MemberPlan.{MemberPlan};
@@ -111,6 +111,18 @@ fn greatest(width: u8) -> u32
     }
 }
 
+/// How many fixed flows each member of a DIF may have: one for each CEP-id, and none where the DIF is not static.
+fn admitted(dif: &DifPlan) -> u32
+    requires { IsWidth dif.now.widths.cep }
+    ensures { result ≡ if dif.now.is_static then 2 ^ (8 * dif.now.widths.cep) - 1 else 0 }
+{
+    if dif.is_static {
+        greatest(dif.widths.cep)
+    } else {
+        0
+    }
+}
+
 /// The settings of the DIF at a place of the stack.
 pub(crate) fn settings_of(
     alloc: Global,
@@ -130,7 +142,7 @@ pub(crate) fn settings_of(
         widths: dif.widths,
         pdu: dif.pdu,
         cap: dif.queue,
-        admits: greatest(dif.widths.cep),
+        admits: admitted(dif),
         policy: dif.policy.copy(alloc)?,
     })
 }

@@ -1,6 +1,6 @@
 -- What becomes of a flow that was asked for: its far end is made, the answer comes to the asker, or the asker's end ends while it
 -- waits.
-use Rattle.std.specs.Prelude.{◌≡◌, ℕ, ◌+◌, ◌*◌, ◌^◌, ◌<◌, List, [], ◌∷◌, ◌++◌, length, slice_get, slice_set, Some}
+use Rattle.std.specs.Prelude.{◌≡◌, ℕ, ◌+◌, ◌*◌, ◌^◌, ◌<◌, true, List, [], ◌∷◌, ◌++◌, length, slice_get, slice_set, Some}
 use Rattle.rina_cube.specs.declared.Cube.{Cube}
 use Rattle.rina_cube.specs.Cubes.{delta_of}
 use Rattle.rina_iface.specs.declared.ends.End.{End}
@@ -9,6 +9,7 @@ use Rattle.rina_iface.specs.declared.state.PortState.TheVariants.{Allocated, Pen
 use Rattle.rina_iface.specs.declared.state.Role.TheVariants.{Asker, Far}
 use Rattle.rina_iface.specs.Allocate.{new_end, next_port}
 use Rattle.rina_iface.specs.Journal.{At, HasPartner, IsPartner}
+use Rattle.rina_iface.specs.Seen.{is_member}
 use Rattle.rina_law.specs.Direction.{Direction}
 use Rattle.rina_ids.specs.Members.{CepIds, DrawsAt, with_drawn}
 use Rattle.rina_data.specs.Configs.{Member, cube_by}
@@ -30,7 +31,7 @@ with_far_cep ids cep = record ids { dcep = cep }
 abbrev pub far_end_of : DifSeen → ℕ → End → End
 far_end_of d node asker = new_end asker.flow Far (next_port (fac_of d) d.config.fac node) asker.peer asker.app asker.cube Allocated
 
--- the member at a node, of the address that was asked, makes the far end of the flow whose asker's end stands at this place, be it
+-- the enrolled member at a node, of the address that was asked, makes the far end of the flow whose asker's end stands at this place, be it
 -- that it waits or that it has ended since. No far end of the flow is there yet, and the ask is younger than the rest of its ids. The
 -- member draws the least CEP-id that is neither in use nor at rest there. Both directions start now
 pub record IsFarMade (d : DifSeen) (lines : List Direction) (node at : ℕ) (d' : DifSeen) (lines' : List Direction) : Type 0 where
@@ -46,6 +47,7 @@ pub record IsFarMade (d : DifSeen) (lines : List Direction) (node at : ℕ) (d' 
   pub at_home : home node d.config.members ≡ Some place
   pub member : Member
   pub stands : slice_get d.config.members place ≡ Some member
+  pub enrolled : is_member d.enrolled node ≡ true
   pub asked : member.addr ≡ ids.far
   pub cep : ℕ
   pub draws : DrawsAt d.ids d.clock place cep

@@ -1,9 +1,10 @@
 -- A flow that a member asks for: the asker's end is made, and waits.
-use Rattle.std.specs.Prelude.{◌≡◌, ◌≢◌, ℕ, ◌*◌, ◌^◌, ◌<◌, List, [], ◌∷◌, ◌++◌, slice_get, Some}
+use Rattle.std.specs.Prelude.{◌≡◌, ◌≢◌, ℕ, ◌*◌, ◌^◌, ◌<◌, true, List, [], ◌∷◌, ◌++◌, slice_get, Some}
 use Rattle.rina_iface.specs.declared.ends.End.{End}
 use Rattle.rina_iface.specs.declared.state.PortState.TheVariants.{Pending}
 use Rattle.rina_iface.specs.declared.state.Role.TheVariants.{Asker}
 use Rattle.rina_iface.specs.Allocate.{new_end, next_port}
+use Rattle.rina_iface.specs.Seen.{is_member}
 use Rattle.rina_law.specs.Direction.{Direction}
 use Rattle.rina_ids.specs.Members.{DrawsAt, with_drawn}
 use Rattle.rina_data.specs.Configs.{Member}
@@ -30,13 +31,14 @@ ids_asked ask member cep = record { own = member.addr; far = ask.peer; scep = ce
 abbrev pub end_asked : DifSeen → Asking → Member → End
 end_asked d ask member = new_end (flow_next d ask.node member) Asker (next_port (fac_of d) d.config.fac ask.node) ask.app ask.to ask.cube Pending
 
--- the member at the node asks another one. It draws the least CEP-id that is neither in use nor at rest there, and a direction starts
+-- the enrolled member at the node asks another one. It draws the least CEP-id that is neither in use nor at rest there, and a direction starts
 -- at the place of the end
 pub record IsAskedFor (d : DifSeen) (lines : List Direction) (ask : Asking) (d' : DifSeen) (lines' : List Direction) : Type 0 where
   pub place : ℕ
   pub at_home : home ask.node d.config.members ≡ Some place
   pub member : Member
   pub stands : slice_get d.config.members place ≡ Some member
+  pub enrolled : is_member d.enrolled ask.node ≡ true
   pub elsewhere : ask.peer ≢ member.addr
   pub peer_fits : ask.peer < 2 ^ (8 * d.config.widths.addr)
   pub cep : ℕ

@@ -1,5 +1,5 @@
 -- A flow that the stack fixes, as a DIF makes it.
-use Rattle.std.specs.Prelude.{◌≡◌, ◌≢◌, ℕ, ◌<◌, List, [], ◌∷◌, ◌++◌, slice_get, Some}
+use Rattle.std.specs.Prelude.{◌≡◌, ◌≢◌, ℕ, ◌<◌, true, List, [], ◌∷◌, ◌++◌, slice_get, Some}
 use Rattle.rina_base.specs.declared.number.FlowName.{FlowName}
 use Rattle.rina_cube.specs.declared.Cube.{Cube}
 use Rattle.rina_iface.specs.declared.ask.Fixed.{Fixed}
@@ -9,6 +9,7 @@ use Rattle.rina_iface.specs.declared.state.Role.TheVariants.{Asker, Far}
 use Rattle.rina_iface.specs.Allocate.{new_end, next_port}
 use Rattle.rina_iface.specs.Bind.{with_name_once}
 use Rattle.rina_iface.specs.Ends.{drawn_at}
+use Rattle.rina_iface.specs.Seen.{is_member}
 use Rattle.rina_law.specs.Direction.{Direction}
 use Rattle.rina_ids.specs.Members.{DrawsAt, with_drawn}
 use Rattle.rina_dif_law.specs.Dif.{DifSeen, fac_of}
@@ -18,11 +19,12 @@ use Rattle.rina_dif_law.specs.Numbered.{asked_at}
 use Rattle.rina_dif_law.specs.Sending.{home}
 use Rattle.rina_dif_law.specs.Start.{IsFresh}
 
--- the member at a node, which has a CEP-id for a fixed flow more
+-- the enrolled member at a node, which has a CEP-id for a fixed flow more
 pub record MayDraw (d : DifSeen) (node : ℕ) (member : Member) : Type 0 where
   pub place : ℕ
   pub at_home : home node d.config.members ≡ Some place
   pub stands : slice_get d.config.members place ≡ Some member
+  pub enrolled : is_member d.enrolled node ≡ true
   pub room : drawn_at node d.ends < d.config.admits
 
 -- the name of the flow that a member asks for next

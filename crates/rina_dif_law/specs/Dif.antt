@@ -22,18 +22,19 @@ pub record DifSeen : Type 0 where
   pub ids : List CepIds  -- the CEP-ids of each member, at its place
   pub waiting : List ℕ  -- the places of the far ends that nobody claimed yet
   pub names : List Registered
+  pub enrolled : List ℕ  -- the nodes of its enrolled members
 
 -- what the DIF offers of a cube
 abbrev pub offer_of : Cube → Offer
 offer_of c = record { id = c.id; kind = Some c.kind; promise = promise_of c; largest = c.largest }
 
--- the DIF as a facility of its rank
+-- the DIF as a facility of its rank: the nodes of its enrolled members have a place in it
 abbrev pub fac_of : DifSeen → Fac
 fac_of d = record {
   ends = d.ends;
   waiting = d.waiting;
   names = d.names;
-  members = map (λ (m : Member). m.node) d.config.members;
+  members = d.enrolled;
   cubes = map offer_of d.config.cubes;
   admits = d.config.admits;
 }

@@ -1,5 +1,5 @@
--- What comes over a link of a static DIF.
-use Rattle.std.specs.Prelude.{◌≡◌, ℕ, List, length, slice_get, Some}
+-- What comes over a link of a DIF.
+use Rattle.std.specs.Prelude.{◌≡◌, ℕ, Bool, List, length, slice_get, Some}
 use Rattle.rina_enrol.specs.declared.message.LinkMessage.{LinkMessage}
 use Rattle.rina_enrol.specs.Messages.{IsInRange, IsSpelled}
 use Rattle.rina_newest.specs.declared.item.Item.{Item}
@@ -29,4 +29,4 @@ pub record IsOfMember (agent : Agent) (message : LinkMessage) : Type 0 where
 
 -- each message that comes is such a one
 abbrev pub WhatComes : Type 0
-WhatComes = (plans : List LinkPlan) (s : MembersSeen) (l : ℕ) (d : Side) (end : LinkEnd) (agent : Agent) (message : LinkMessage) → IsRunOf plans s → ComesNext s l d end agent message → IsOfMember agent message
+WhatComes = (is_static : Bool) (plans : List LinkPlan) (s : MembersSeen) (l : ℕ) (d : Side) (end : LinkEnd) (agent : Agent) (message : LinkMessage) → IsRunOf is_static plans s → ComesNext s l d end agent message → IsOfMember agent message

@@ -1,5 +1,5 @@
--- The members of a static DIF as a network: what stands at a moment, what happens to it, and that each is a row.
-use Rattle.std.specs.Prelude.{◌≡◌, ℕ, ◌≤◌, List, [], ◌∷◌, ◌++◌, drop, length, map, slice_get, slice_set, Option, Some, None, Ok, true, Contains, find, ◌<◌, ◌^◌}
+-- The members of a DIF as a network: what stands at a moment, what happens to it, and that each is a row.
+use Rattle.std.specs.Prelude.{◌≡◌, ℕ, ◌≤◌, Bool, List, [], ◌∷◌, ◌++◌, drop, length, map, slice_get, slice_set, Option, Some, None, Ok, true, Contains, find, ◌<◌, ◌^◌}
 use Rattle.rina_enrol.specs.declared.message.LinkMessage.{LinkMessage}
 use Rattle.rina_enrol.specs.Messages.{IsInRange, IsSpelled}
 use Rattle.rina_newest.specs.Newest.{kept_at, value_at}
@@ -19,7 +19,7 @@ use Rattle.rina_data.specs.declared.settings.Member.{Member}
 use Rattle.rina_member.specs.Knowing.{IsLaidOut, SameEdges, all_claims}
 use Rattle.rina_member.specs.Managements.{entry_of, takes_item}
 use Rattle.rina_member.specs.Short.{IsShort}
-use Rattle.rina_member.specs.Start.{start_items}
+use Rattle.rina_member.specs.Start.{HasLinksIfStatic, start_items}
 use Rattle.rina_flood.specs.Network.{Side, other, Network, Row, MayLose, IsRun, after_rows, IsStart}
 use Rattle.rina_flood.specs.Laws.{TellsLinks}
 use Rattle.rina_flood.specs.Static.{AreEnds, AreFirst, AreOfStatic, LinkEnd, end_place}
@@ -80,14 +80,15 @@ pub record IsNetworkOf (s : MembersSeen) (n : Network) : Type 0 where
   pub sent : (l : ℕ) (d : Side) → AreTexts (n.sent l d) (drop (length (s.got (end_place l (other d)))) (s.sent (end_place l d)))
 
 -- the members are laid out, what stands is the network of a run from the start of the DIF, so that all laws of flooding hold of it, and
--- what was offered are short messages
-pub record IsRunOf (plans : List LinkPlan) (s : MembersSeen) : Type 0 where
+-- what was offered are short messages. In a static DIF each member told its links from the start; any other has no links
+pub record IsRunOf (is_static : Bool) (plans : List LinkPlan) (s : MembersSeen) : Type 0 where
   pub laid_out : IsLaidOut s.members plans
+  pub bare : HasLinksIfStatic is_static s.ends
   pub start : Network
   pub rows : List Row
-  pub starts : IsStart start (start_items s.members plans)
+  pub starts : IsStart start (start_items is_static s.members plans)
   pub fresh : (i : ℕ) → (start.agents i).last_count ≡ 0
-  pub tells : (m : Member) → Contains s.members m → TellsLinks start m.addr
+  pub tells : is_static ≡ true → (m : Member) → Contains s.members m → TellsLinks start m.addr
   pub run : IsRun start rows
   pub static : AreOfStatic rows
   pub is : IsNetworkOf s (after_rows start rows)
@@ -96,9 +97,10 @@ pub record IsRunOf (plans : List LinkPlan) (s : MembersSeen) : Type 0 where
 -- What happens
 
 -- members as they start: nothing was offered or handled
-pub record StartsWith (plans : List LinkPlan) (s : MembersSeen) : Type 0 where
+pub record StartsWith (is_static : Bool) (plans : List LinkPlan) (s : MembersSeen) : Type 0 where
   pub laid_out : IsLaidOut s.members plans
-  pub first : AreFirst s.members plans s.agents
+  pub bare : HasLinksIfStatic is_static s.ends
+  pub first : AreFirst is_static s.members plans s.agents
   pub ends : AreEnds s.members s.ends
   pub sent : (place : ℕ) → s.sent place ≡ []
   pub got : (place : ℕ) → s.got place ≡ []
@@ -213,11 +215,11 @@ pub record HandlesMessage (old new : MembersSeen) : Type 0 where
 
 -- members as they start are those of a run
 abbrev pub StartIsRun : Type 0
-StartIsRun = (plans : List LinkPlan) (s : MembersSeen) → StartsWith plans s → IsRunOf plans s
+StartIsRun = (is_static : Bool) (plans : List LinkPlan) (s : MembersSeen) → StartsWith is_static plans s → IsRunOf is_static plans s
 
 -- and they still are after it happened
 abbrev pub KeepsRun : (MembersSeen → MembersSeen → Type 0) → Type 0
-KeepsRun Happens = (plans : List LinkPlan) (old new : MembersSeen) → IsRunOf plans old → Happens old new → IsRunOf plans new
+KeepsRun Happens = (is_static : Bool) (plans : List LinkPlan) (old new : MembersSeen) → IsRunOf is_static plans old → Happens old new → IsRunOf is_static plans new
 
 -- Where all is quiet
 
@@ -237,11 +239,12 @@ abbrev pub IsQuietPath : MembersSeen → ℕ → List (ℕ × Side × ℕ) → �
 IsQuietPath s i [] j = i ≡ j
 IsQuietPath s i (step ∷ steps) j = IsQuietAt s step.0 step.1 i × IsQuietAt s step.0 (other step.1) step.2 × IsQuietPath s step.2 steps j
 
--- the members at its ends keep the same items, key by key, and the one keeps the link state of the other as the other's links are now
+-- the members at its ends keep the same items, key by key, and in a static DIF the one keeps the link state of the other as the other's
+-- links are now
 abbrev pub QuietMembersAgree : Type 0
-QuietMembersAgree = (plans : List LinkPlan) (s : MembersSeen) (i j : ℕ) (steps : List (ℕ × Side × ℕ)) (m : Member) (a b : Agent) → IsRunOf plans s → IsQuietPath s i steps j → slice_get s.members i ≡ Some m → slice_get s.agents i ≡ Some a
-    → slice_get s.agents j ≡ Some b → ((key : List ℕ) → kept_at a.items key ≡ kept_at b.items key) × (value_at b.items (link_key m.addr) ≡ Some (link_state None a.links))
+QuietMembersAgree = (is_static : Bool) (plans : List LinkPlan) (s : MembersSeen) (i j : ℕ) (steps : List (ℕ × Side × ℕ)) (m : Member) (a b : Agent) → IsRunOf is_static plans s → IsQuietPath s i steps j → slice_get s.members i ≡ Some m → slice_get s.agents i ≡ Some a
+    → slice_get s.agents j ≡ Some b → ((key : List ℕ) → kept_at a.items key ≡ kept_at b.items key) × (is_static ≡ true → value_at b.items (link_key m.addr) ≡ Some (link_state None a.links))
 
 -- so their items claim the same edges
 abbrev pub QuietMembersClaim : Type 0
-QuietMembersClaim = (plans : List LinkPlan) (s : MembersSeen) (i j : ℕ) (steps : List (ℕ × Side × ℕ)) (a b : Agent) → IsRunOf plans s → IsQuietPath s i steps j → slice_get s.agents i ≡ Some a → slice_get s.agents j ≡ Some b → SameEdges (all_claims a.items) (all_claims b.items)
+QuietMembersClaim = (is_static : Bool) (plans : List LinkPlan) (s : MembersSeen) (i j : ℕ) (steps : List (ℕ × Side × ℕ)) (a b : Agent) → IsRunOf is_static plans s → IsQuietPath s i steps j → slice_get s.agents i ≡ Some a → slice_get s.agents j ≡ Some b → SameEdges (all_claims a.items) (all_claims b.items)

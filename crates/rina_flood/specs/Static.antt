@@ -1,6 +1,5 @@
--- The start of a static DIF as a network: each member keeps the member items and the link states of all members, and nothing waits or is
--- on its way.
-use Rattle.std.specs.Prelude.{◌≡◌, ℕ, ◌+◌, ◌*◌, ◌<◌, ◌==◌, List, [], length, position, slice_get, Option, Some, None, is_some, option_and_then, option_map, unwrap_or, if◌then◌else◌, ◌∷◌, Contains, ◌≤◌, map, sum, ◌^◌}
+-- The start of a DIF as a network: each member that is enrolled keeps the items of the start, and nothing waits or is on its way.
+use Rattle.std.specs.Prelude.{◌≡◌, ℕ, ◌+◌, ◌*◌, ◌<◌, ◌==◌, Bool, true, List, [], length, position, slice_get, Option, Some, None, option_and_then, option_map, unwrap_or, if◌then◌else◌, ◌∷◌, Contains, ◌≤◌, map, sum, ◌^◌}
 use Rattle.rina_access.specs.declared.rules.Rules.{Rules}
 use Rattle.rina_newest.specs.declared.item.Item.{Item}
 use Rattle.rina_agent.specs.declared.agent.Agent.{Agent}
@@ -12,26 +11,27 @@ use Rattle.rina_data.specs.declared.settings.Member.{Member}
 use Rattle.rina_member.specs.Knowing.{AreLive, AreNumbered, IsEntryKey, IsLaidOut}
 use Rattle.rina_member.specs.Managements.{entry_of}
 use Rattle.rina_member.specs.Routing.{edges_from}
-use Rattle.rina_member.specs.Start.{first_version, start_items, started}
+use Rattle.rina_member.specs.Start.{HasLinksIfStatic, first_version, start_items, started, starts_enrolled}
 use Rattle.rina_flood.specs.Network.{Side, Near, Far, Network, Row, Make, Know, Enrol, Claim, IsRun, after_rows, IsStart}
 use Rattle.rina_flood.specs.Laws.{AllLeaveLinkState, IsStatic, TellsLinks}
 
 -- Members
 
--- the agent of a member from the start: it keeps the items of the start, and its links are up. These are numbered by their places, none
--- is lost, and there is one for each link of the plan
-pub record IsFirst (members : List Member) (plans : List LinkPlan) (m : Member) (a : Agent) : Type 0 where
+-- the agent of a member from the start: where it is enrolled it keeps the items of the start, and its links are up. These are numbered by
+-- their places, none is lost, and there is one for each link of the plan. In a DIF that is not static there are none
+pub record IsFirst (is_static : Bool) (members : List Member) (plans : List LinkPlan) (m : Member) (a : Agent) : Type 0 where
   pub rules : Rules
   pub links : List Link
   pub numbered : AreNumbered links
   pub live : AreLive links
   pub enough : length (edges_from members m.node plans) ≤ length links
-  pub is : a ≡ started members plans rules m links
+  pub bare : HasLinksIfStatic is_static links
+  pub is : a ≡ started is_static members plans rules m links
 
 -- the agents are those of the members from the start, at the same places
-pub record AreFirst (members : List Member) (plans : List LinkPlan) (agents : List Agent) : Type 0 where
+pub record AreFirst (is_static : Bool) (members : List Member) (plans : List LinkPlan) (agents : List Agent) : Type 0 where
   pub aligned : length agents ≡ length members
-  pub each : (k : ℕ) (m : Member) (a : Agent) → slice_get members k ≡ Some m → slice_get agents k ≡ Some a → IsFirst members plans m a
+  pub each : (k : ℕ) (m : Member) (a : Agent) → slice_get members k ≡ Some m → slice_get agents k ≡ Some a → IsFirst is_static members plans m a
 
 -- the place of the member that has an address
 abbrev pub place_at : List Member → ℕ → Option ℕ
@@ -97,27 +97,27 @@ end_number ends place (Some e) = e.number
 
 -- The network
 
--- nothing is sent, and the items of the start were made and offered to each member
-abbrev pub static_network : Rules → List Member → List LinkPlan → List Agent → List LinkEnd → ℕ → Network
-static_network rules members plans agents ends now = record {
+-- nothing is sent, and the items of the start were made and offered to each member that is enrolled
+abbrev pub first_network : Bool → Rules → List Member → List LinkPlan → List Agent → List LinkEnd → ℕ → Network
+first_network is_static rules members plans agents ends now = record {
   now = now;
   agents = agent_at rules members agents;
   ends = λ l d. end_address members (slice_get ends (end_place l d));
   numbers = λ l d. end_number ends (end_place l d) (slice_get ends (end_place l d));
   sent = λ l d. [];
-  made = start_items members plans;
-  offered = λ i. if is_some (place_at members i) then start_items members plans else [];
+  made = start_items is_static members plans;
+  offered = λ i. if starts_enrolled is_static members i then start_items is_static members plans else [];
 }
 
 -- it is a start, whatever rules an agent has that is of no member
-abbrev pub StaticStarts : Type 0
-StaticStarts = (rules : Rules) (members : List Member) (plans : List LinkPlan) (agents : List Agent) (ends : List LinkEnd) (now : ℕ) → IsLaidOut members plans → AreFirst members plans agents → AreEnds members ends
-    → IsStart (static_network rules members plans agents ends now) (start_items members plans)
+abbrev pub MembersStart : Type 0
+MembersStart = (is_static : Bool) (rules : Rules) (members : List Member) (plans : List LinkPlan) (agents : List Agent) (ends : List LinkEnd) (now : ℕ) → IsLaidOut members plans → AreFirst is_static members plans agents → AreEnds members ends
+    → IsStart (first_network is_static rules members plans agents ends now) (start_items is_static members plans)
 
--- in it each member keeps its own link state, which names its links
+-- in that of a static DIF each member keeps its own link state, which names its links
 abbrev pub StaticTellsLinks : Type 0
-StaticTellsLinks = (rules : Rules) (members : List Member) (plans : List LinkPlan) (agents : List Agent) (ends : List LinkEnd) (now : ℕ) (m : Member) → IsLaidOut members plans → AreFirst members plans agents → Contains members m
-    → TellsLinks (static_network rules members plans agents ends now) m.addr
+StaticTellsLinks = (rules : Rules) (members : List Member) (plans : List LinkPlan) (agents : List Agent) (ends : List LinkEnd) (now : ℕ) (m : Member) → IsLaidOut members plans → AreFirst true members plans agents → Contains members m
+    → TellsLinks (first_network true rules members plans agents ends now) m.addr
 
 -- Rows
 
@@ -144,5 +144,5 @@ StaticRowsLeaveLinks = (rows : List Row) → AreOfStatic rows → IsStatic rows 
 
 -- whatever happened, no other item was made of the key and the version of a directory entry from the start
 abbrev pub EntriesAreOne : Type 0
-EntriesAreOne = (n : Network) (members : List Member) (plans : List LinkPlan) (rows : List Row) (x : Item) (app : List ℕ) (address : ℕ) → IsStart n (start_items members plans) → IsRun n rows → AreOfStatic rows
+EntriesAreOne = (is_static : Bool) (n : Network) (members : List Member) (plans : List LinkPlan) (rows : List Row) (x : Item) (app : List ℕ) (address : ℕ) → IsStart n (start_items is_static members plans) → IsRun n rows → AreOfStatic rows
     → Contains (after_rows n rows).made x → x.key ≡ key_of app → x.version ≡ first_version address → x ≡ entry_of app address

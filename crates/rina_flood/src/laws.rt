@@ -6,7 +6,7 @@ ghost use Rattle.rina_flood.specs.Journals.{ArrivalsAddNone, OffersAdd, OthersAd
 ghost use Rattle.rina_flood.specs.Laws.{DirectionsOwe, LostIsGone, NewestIsKept, NotBack, OlderIsNothing, OnlyMadeIsSent, OrderIsNothing, QuietIsEqual, QuietTellsLinks};
 ghost use Rattle.rina_flood.specs.Members.{GoesOn, HandlesMessage, KeepsRun, LosesLinkAt, MakesEntryAt, OffersMessage, QuietMembersAgree, QuietMembersClaim, StartIsRun, TakesEntry};
 ghost use Rattle.rina_flood.specs.Sample.{SampleSettles};
-ghost use Rattle.rina_flood.specs.Static.{EntriesAreOne, StaticRowsLeaveLinks, StaticStarts, StaticTellsLinks};
+ghost use Rattle.rina_flood.specs.Static.{EntriesAreOne, MembersStart, StaticRowsLeaveLinks, StaticTellsLinks};
 
 /// In each direction of a link whose sender's end is up and whose other end is not lost: of each key that the sender keeps, the other
 /// end keeps an item at least as new, or one is on its way. So where nothing is on its way on the links of a walk, the members at
@@ -53,10 +53,11 @@ pub fn a_gap_loses_an_item()
     ensures { (rules : Rules) → GapBreaks rules }
 {}
 
-/// A static DIF starts so: its members keep the member items and the link states of all of them, and nothing is on its way. The
-/// link state of each names its links.
-pub fn a_static_dif_starts()
-    ensures starts { StaticStarts }
+/// A DIF starts so: its members that are enrolled keep the same items, and nothing is on its way. In a static DIF these are the member
+/// items and the link states of all members, and the link state of each names its links. In any other the first member keeps its
+/// own member item, and there are no links.
+pub fn members_start_as_a_network()
+    ensures starts { MembersStart }
     ensures tells { StaticTellsLinks }
 {
     rina_newest::newest_of_all_takes();
@@ -69,10 +70,10 @@ pub fn a_static_dif_tells_links_and_entries()
     ensures entries { EntriesAreOne }
 {}
 
-/// The members of a static DIF are a network after some run: as they start, as the clock goes on, and after the loss of a link,
+/// The members of a DIF are a network after some run: as they start, as the clock goes on, and after the loss of a link,
 /// a directory entry that one makes or that all take, a message that is offered to a link and one that is handled. So where all is quiet on a walk
-/// of links, the members at its ends keep the same items, which claim the same edges, and each keeps the other's link state as the
-/// other's links are now.
+/// of links, the members at its ends keep the same items, which claim the same edges, and in a static DIF each keeps the other's
+/// link state as the other's links are now.
 pub fn members_are_a_network()
     ensures start { StartIsRun }
     ensures goes_on { KeepsRun GoesOn }
@@ -87,7 +88,7 @@ pub fn members_are_a_network()
     rina_newest::newest_of_all_takes();
 }
 
-/// What comes over a link of a static DIF is a short message of one of its members, which brings an item. Where that is the link
+/// What comes over a link of a DIF is a short message of one of its members, which brings an item. Where that is the link
 /// state of the member to which it comes, this keeps one as new: a member alone makes its link state.
 pub fn what_comes_was_made_by_a_member()
     ensures { WhatComes }

@@ -1,5 +1,5 @@
--- What the management of a member of a static DIF knows, and the next hops over the items that it holds.
-use Rattle.std.specs.Prelude.{◌≡◌, ℕ, ◌+◌, ◌^◌, ◌<◌, ◌≤◌, ◌↔◌, ◌⊎◌, true, List, All, Contains, flat_map, length, map, slice_get, Option, Some, None, option_map, if◌then◌else◌}
+-- What the management of a member of a DIF knows, and the next hops over the items that it holds.
+use Rattle.std.specs.Prelude.{◌≡◌, ℕ, ◌+◌, ◌^◌, ◌<◌, ◌≤◌, ◌↔◌, ◌⊎◌, true, List, [], All, Contains, flat_map, length, map, slice_get, Option, Some, None, option_map, if◌then◌else◌}
 use Rattle.std.specs.List.{filter_map}
 use Rattle.rina_graph.specs.declared.graph.Edge.{Edge}
 use Rattle.rina_newest.specs.declared.item.Item.{Item}
@@ -8,7 +8,7 @@ use Rattle.rina_route.specs.declared.link.Link.{Link as Hop}
 use Rattle.rina_route.specs.Routes.{claims_of}
 use Rattle.rina_agent.specs.declared.agent.Agent.{Agent}
 use Rattle.rina_agent.specs.declared.link.Link.{Link as Managed}
-use Rattle.rina_agent.specs.declared.state.MemberState.TheVariants.{Enrolled}
+use Rattle.rina_agent.specs.declared.state.MemberState.TheVariants.{Enrolled, Outside}
 use Rattle.rina_agent.specs.Neighbours.{link_key, member_key}
 use Rattle.rina_dir.specs.Directory.{key_of}
 use Rattle.rina_plan.specs.declared.dif.LinkPlan.{LinkPlan}
@@ -75,13 +75,23 @@ IsItemKey key = IsMemberKey key ⊎ IsEntryKey key
 abbrev pub AreNumbered : List Link → Type 0
 AreNumbered links = (k : ℕ) (link : Link) → slice_get links k ≡ Some link → link.number ≡ k
 
+-- a member that is outside holds nothing, and its IPC process has no links
+pub record IsOutside (links : List Link) (g : Agent) : Type 0 where
+  pub state : g.state ≡ Outside
+  pub items : g.items ≡ []
+  pub bare : links ≡ []
+
+-- a member is enrolled, or it is outside: no enrolment runs
+abbrev pub IsSettled : List Link → Agent → Type 0
+IsSettled links g = (g.state ≡ Enrolled) ⊎ IsOutside links g
+
 -- what the management of a member knows at a tick, where these are the links of its IPC process, some of which may be lost: its own
 -- live links, and from its own address its items claim these alone. It keeps member items, link states and directory entries and nothing
 -- else; and it made its own link state no later than now, as the last of its items at the latest. What its items claim of the other
 -- members is what these made, as far as it came.
 pub record Knows (members : List Member) (plans : List LinkPlan) (now : ℕ) (m : Member) (links : List Link) (g : Agent) : Type 0 where
   pub address : g.address ≡ m.addr
-  pub enrolled : g.state ≡ Enrolled
+  pub settled : IsSettled links g
   pub numbers : AreNumbered links
   pub links_are : g.links ≡ map managed_link (live_links members plans m links)
   pub own : ClaimLinks g.items m.addr (live_links members plans m links)

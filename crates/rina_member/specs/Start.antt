@@ -1,6 +1,8 @@
--- What the management of a member of a static DIF holds from the start: the member items and the link states of all members, as items
--- of version (0, 0, address of the member that each is of), and its links.
-use Rattle.std.specs.Prelude.{ℕ, ◌+◌, ◌==◌, true, List, [], ◌++◌, drop, map, position, Option, Some, None}
+-- What the management of a member holds from the start. In a static DIF: the member items and the link states of all members, as items
+-- of version (0, 0, address of the member that each is of), and its links. In any other DIF the first member holds its own member item,
+-- and all others are outside and hold nothing.
+use Rattle.std.specs.Prelude.{◌≡◌, ℕ, ◌+◌, ◌==◌, Bool, true, false, List, [], ◌++◌, drop, map, position, take, Option, Some, None, if◌then◌else◌}
+use Rattle.std.specs.List.{list_any}
 use Rattle.rina_access.specs.declared.rules.Rules.{Rules}
 use Rattle.rina_graph.specs.declared.graph.Edge.{Edge}
 use Rattle.rina_newest.specs.declared.item.Item.{Item}
@@ -9,7 +11,8 @@ use Rattle.rina_newest.specs.Newest.{item_of, taken_all}
 use Rattle.rina_route.specs.declared.link.Link.{Link as Hop}
 use Rattle.rina_agent.specs.declared.agent.Agent.{Agent}
 use Rattle.rina_agent.specs.declared.link.Link.{Link as Managed}
-use Rattle.rina_agent.specs.declared.state.MemberState.TheVariants.{Enrolled}
+use Rattle.rina_agent.specs.declared.state.MemberState.{MemberState}
+use Rattle.rina_agent.specs.declared.state.MemberState.TheVariants.{Enrolled, Outside}
 use Rattle.rina_agent.specs.Neighbours.{link_key, link_state, member_key}
 use Rattle.rina_plan.specs.declared.dif.LinkPlan.{LinkPlan}
 use Rattle.rina_data.specs.declared.link.Link.{Link}
@@ -51,24 +54,52 @@ member_item m = item_of (member_key m.addr) (first_version m.addr) (Some (node_o
 abbrev pub state_item : List Member → List LinkPlan → Member → Item
 state_item members plans m = item_of (link_key m.addr) (first_version m.addr) (Some (state_text members plans m))
 
--- all items of the start, and what a member holds after it took them in this order
-abbrev pub start_items : List Member → List LinkPlan → List Item
-start_items members plans = map member_item members ++ map (state_item members plans) members
+-- which members are enrolled from the start: all of a static DIF, else the first one alone
+abbrev pub first_enrolled : Bool → List Member → List Member
+first_enrolled true members = members
+first_enrolled false members = take 1 members
 
-abbrev pub items_held : List Member → List LinkPlan → List Item
-items_held members plans = taken_all [] (start_items members plans)
+-- the member of an address is one of them
+abbrev pub starts_enrolled : Bool → List Member → ℕ → Bool
+starts_enrolled is_static members address = list_any (λ (m : Member). m.addr == address) (first_enrolled is_static members)
 
--- the management of a member from the start: it is enrolled, holds all items, made none since, and nothing waits for its links
-unfoldable pub started : List Member → List LinkPlan → Rules → Member → List Link → Agent
-started members plans rules m links = record {
-  state = Enrolled;
+-- a DIF that is not static has no links from the start
+abbrev pub HasLinksIfStatic : {A : Type 0} → Bool → List A → Type 0
+HasLinksIfStatic is_static links = is_static ≡ false → links ≡ []
+
+-- the link states of the start: those of all members of a static DIF, else none
+abbrev pub state_items : Bool → List Member → List LinkPlan → List Item
+state_items true members plans = map (state_item members plans) members
+state_items false members plans = []
+
+-- all items of the start, and what an enrolled member holds after it took them in this order
+abbrev pub start_items : Bool → List Member → List LinkPlan → List Item
+start_items is_static members plans = map member_item (first_enrolled is_static members) ++ state_items is_static members plans
+
+abbrev pub items_taken : Bool → List Member → List LinkPlan → List Item
+items_taken is_static members plans = taken_all [] (start_items is_static members plans)
+
+-- what a member holds from the start: a member that is outside holds nothing
+abbrev pub items_held : Bool → List Member → List LinkPlan → Member → List Item
+items_held is_static members plans m = if starts_enrolled is_static members m.addr then items_taken is_static members plans else []
+
+-- a member that is enrolled from the start, or not
+abbrev pub state_from : Bool → MemberState
+state_from true = Enrolled
+state_from false = Outside
+
+-- the management of a member from the start: it is enrolled, holds all items of the start, and its links are up; or it is outside, and
+-- has none of these. It made no item since, and nothing waits for its links
+unfoldable pub started : Bool → List Member → List LinkPlan → Rules → Member → List Link → Agent
+started is_static members plans rules m links = record {
+  state = state_from (starts_enrolled is_static members m.addr);
   address = m.addr;
   name = m.name;
   node = node_of m;
   rules = rules;
-  items = items_held members plans;
+  items = items_held is_static members plans m;
   last_count = 0;
   last_invoke = 0;
-  links = map managed_link (live_links members plans m links);
+  links = if starts_enrolled is_static members m.addr then map managed_link (live_links members plans m links) else [];
   agenda = [];
 }

@@ -1,5 +1,5 @@
 //! The laws of a member that handles the SDUs of its links. These functions do nothing: their contracts are laws.
-ghost use Rattle.std.specs.Prelude.{◌≡◌, ◌<◌, ◌≤◌, ◌^◌, ℕ, false, true, length, slice_get, slice_set, Contains, List, Err, IfSome, None, Ok, Option, Some};
+ghost use Rattle.std.specs.Prelude.{◌≡◌, ◌<◌, ◌≤◌, ◌^◌, ℕ, Bool, false, true, length, slice_get, slice_set, Contains, List, Err, IfSome, None, Ok, Option, Some};
 ghost use Rattle.std.specs.Fmt.{decimal};
 ghost use Rattle.rina_access.specs.declared.rules.Rules.{Rules};
 ghost use Rattle.rina_base.specs.Names.{app_at};
@@ -12,6 +12,7 @@ ghost use Rattle.rina_enrol.specs.Messages.{IsInRange};
 ghost use Rattle.rina_agent.specs.declared.agent.Agent.{Agent};
 ghost use Rattle.rina_agent.specs.declared.message.ManagementMessage.TheVariants.{ToNeighbour};
 ghost use Rattle.rina_agent.specs.declared.state.AgentError.TheVariants.{CountSpent};
+ghost use Rattle.rina_agent.specs.declared.state.MemberState.TheVariants.{Enrolled};
 ghost use Rattle.rina_agent.specs.Counts.{spent};
 ghost use Rattle.rina_agent.specs.Items.{made};
 ghost use Rattle.rina_agent.specs.Rows.{lost};
@@ -26,7 +27,7 @@ ghost use Rattle.rina_member.specs.Knowing.{AreLive, AreNumbered, AreRoutesOf, I
 ghost use Rattle.rina_member.specs.Managements.{Handles, HandlesSdu, IsNews, IsSdu, LosesLink, MakesEntry, entered, entry_of, is_news, keys_brought, takes_item, with_sent};
 ghost use Rattle.rina_member.specs.Routing.{AreRoutesOver, edges_from, edges_of, live_links};
 ghost use Rattle.rina_member.specs.Short.{AreNamed, HaveFewLinks, IsShort, TellsShort};
-ghost use Rattle.rina_member.specs.Start.{items_held, started};
+ghost use Rattle.rina_member.specs.Start.{HasLinksIfStatic, items_held, started};
 
 /// An SDU is handled as the one message that it is. It changes nothing where that is no news, or about a flow.
 pub fn an_sdu_is_one_message()
@@ -55,10 +56,10 @@ pub fn a_message_changes_the_objects_of_its_items()
     ensures outside { (now link : ℕ) (message : LinkMessage) (m m' : Management) → BringsItemName message → Handles now link message m m' → KeepsOutsideItems m.objects m'.objects }
 {}
 
-/// A member of a static DIF tells short messages alone from the start, and goes on to do so when it takes a directory entry, makes one with
+/// A member of a DIF tells short messages alone from the start, and goes on to do so when it takes a directory entry, makes one with
 /// its own address or deletes one, loses a link, sends a message, and handles a short one.
 pub fn a_member_tells_short_messages()
-    ensures starts { (members : List Member) (plans : List LinkPlan) (rules : Rules) (m : Member) (links : List Link) → IsLaidOut members plans → AreNamed members → HaveFewLinks members plans → Contains members m → length links ≤ 16 → TellsShort (started members plans rules m links) }
+    ensures starts { (is_static : Bool) (members : List Member) (plans : List LinkPlan) (rules : Rules) (m : Member) (links : List Link) → IsLaidOut members plans → AreNamed members → HaveFewLinks members plans → Contains members m → length links ≤ 16 → TellsShort (started is_static members plans rules m links) }
     ensures enters { (app : List ℕ) (address : ℕ) (m : Management) → app_at app ≡ Ok app → address < 2 ^ 32 → TellsShort m.agent → TellsShort (entered app address m).agent }
     ensures makes { (now : ℕ) (app : List ℕ) (value : Option (List ℕ)) (m m' : Management) → app_at app ≡ Ok app → IfSome value (λ text. text ≡ decimal m.agent.address) → MakesEntry now app value m m' → TellsShort m.agent → TellsShort m'.agent }
     ensures loses { (now link : ℕ) (m m' : Management) → LosesLink now link m m' → TellsShort m.agent → TellsShort m'.agent }
@@ -68,18 +69,19 @@ pub fn a_member_tells_short_messages()
 
 /// The items of the start claim the links of the plan, and no others. So the next hops over them are over these links.
 pub fn the_start_claims_the_plan()
-    ensures claims { (members : List Member) (plans : List LinkPlan) → IsLaidOut members plans → SameEdges (all_claims (items_held members plans)) (edges_of members plans) }
-    ensures routes { (members : List Member) (plans : List LinkPlan) (rules : Rules) (m : Member) (links : List Link) (routes : List Route) → IsLaidOut members plans → AreRoutesOf (started members plans rules m links) members routes → AreRoutesOver m.addr (live_links members plans m links) (edges_of members plans) members routes }
+    ensures claims { (is_static : Bool) (members : List Member) (plans : List LinkPlan) (m : Member) → IsLaidOut members plans → HasLinksIfStatic is_static plans → Contains members m → SameEdges (all_claims (items_held is_static members plans m)) (edges_of members plans) }
+    ensures routes { (is_static : Bool) (members : List Member) (plans : List LinkPlan) (rules : Rules) (m : Member) (links : List Link) (routes : List Route) → IsLaidOut members plans → HasLinksIfStatic is_static plans → Contains members m → AreRoutesOf (started is_static members plans rules m links) members routes → AreRoutesOver m.addr (live_links members plans m links) (edges_of members plans) members routes }
 {}
 
-/// A member of a static DIF knows its live links from the start, and goes on to do so when it takes or makes a directory entry, when it
-/// loses a link, which leaves what its items claim of others, and when it handles a message that members of its DIF send.
+/// A member of a DIF knows its live links from the start, and goes on to do so when it takes or makes a directory entry, when it
+/// loses a link, which leaves what its items claim of others, and when it handles a message that members of its DIF send. None of these
+/// makes a member enrolled, or outside. A member that is outside takes and makes nothing.
 pub fn a_member_knows_its_links()
-    ensures starts { (members : List Member) (plans : List LinkPlan) (rules : Rules) (m : Member) (links : List Link) (now : ℕ) → IsLaidOut members plans → Contains members m → AreNumbered links → AreLive links → length (edges_from members m.node plans) ≤ length links → Knows members plans now m links (started members plans rules m links) }
-    ensures enters { (members : List Member) (plans : List LinkPlan) (now : ℕ) (m : Member) (links : List Link) (g : Agent) (app : List ℕ) (address : ℕ) → Knows members plans now m links g → Knows members plans now m links (takes_item g (entry_of app address)) }
-    ensures makes { (members : List Member) (plans : List LinkPlan) (now : ℕ) (m : Member) (links : List Link) (g : Agent) (app : List ℕ) (value : Option (List ℕ)) → spent 1 g.last_count ≡ None → Knows members plans now m links g → Knows members plans now m links (made None g now (key_of app) value) }
-    ensures loses { (members : List Member) (plans : List LinkPlan) (now : ℕ) (m : Member) (links : List Link) (g g' : Agent) (k : ℕ) (link : Link) → IsLaidOut members plans → Contains members m → Knows members plans now m links g → slice_get links k ≡ Some link → link.live ≡ true → lost g now link.number ≡ Ok g' → Knows members plans now m (slice_set links k (record link { live = false })) g' × KeepsOtherClaims m.addr g.items g'.items }
-    ensures handles { (members : List Member) (plans : List LinkPlan) (now tick number : ℕ) (m : Member) (links : List Link) (message : LinkMessage) (old new : Management) → Knows members plans now m links old.agent → CarriesReplicated message → OwnIsNewest old.agent message → Handles tick number message old new → Knows members plans now m links new.agent }
+    ensures starts { (is_static : Bool) (members : List Member) (plans : List LinkPlan) (rules : Rules) (m : Member) (links : List Link) (now : ℕ) → IsLaidOut members plans → HasLinksIfStatic is_static links → Contains members m → AreNumbered links → AreLive links → length (edges_from members m.node plans) ≤ length links → Knows members plans now m links (started is_static members plans rules m links) }
+    ensures enters { (members : List Member) (plans : List LinkPlan) (now : ℕ) (m : Member) (links : List Link) (g : Agent) (app : List ℕ) (address : ℕ) → g.state ≡ Enrolled → Knows members plans now m links g → Knows members plans now m links (takes_item g (entry_of app address)) }
+    ensures makes { (members : List Member) (plans : List LinkPlan) (now : ℕ) (m : Member) (links : List Link) (g : Agent) (app : List ℕ) (value : Option (List ℕ)) → g.state ≡ Enrolled → spent 1 g.last_count ≡ None → Knows members plans now m links g → Knows members plans now m links (made None g now (key_of app) value) }
+    ensures loses { (members : List Member) (plans : List LinkPlan) (now : ℕ) (m : Member) (links : List Link) (g g' : Agent) (k : ℕ) (link : Link) → IsLaidOut members plans → Contains members m → Knows members plans now m links g → slice_get links k ≡ Some link → link.live ≡ true → lost g now link.number ≡ Ok g' → Knows members plans now m (slice_set links k (record link { live = false })) g' × KeepsOtherClaims m.addr g.items g'.items × (g'.state ≡ g.state) }
+    ensures handles { (members : List Member) (plans : List LinkPlan) (now tick number : ℕ) (m : Member) (links : List Link) (message : LinkMessage) (old new : Management) → old.agent.state ≡ Enrolled → Knows members plans now m links old.agent → CarriesReplicated message → OwnIsNewest old.agent message → Handles tick number message old new → Knows members plans now m links new.agent × (new.agent.state ≡ Enrolled) }
     // Its next hops are over its live links and the edges that its items claim.
     ensures routes { (members : List Member) (plans : List LinkPlan) (now : ℕ) (m : Member) (links : List Link) (g : Agent) (routes : List Route) → Knows members plans now m links g → AreRoutesOf g members routes → AreRoutesOver m.addr (live_links members plans m links) (all_claims g.items) members routes }
 {}

@@ -1,4 +1,4 @@
-//! The management of a member of a static DIF: the items of the start, its live links, the next hops over them, its objects, and the
+//! The management of a member of a DIF: the items of the start, its live links, the next hops over them, its objects, and the
 //! SDUs that it sends and handles.
 #![tactic(auto)]
 
@@ -29,4 +29,4 @@ pub use loss::without_link;
 pub use management::Management;
 pub use next_hops::routes_of;
 pub use objects::{first_objects, flow_name, tell};
-pub use start::{start_items, started};
+pub use start::{first_enrolled, start_items, started, starts_enrolled};

@@ -13,4 +13,3 @@ pub mod Tried
 pub mod Sound
 pub mod NamesOfDifs
 pub mod Shelves
-mod Runs

@@ -265,7 +265,7 @@ manage_part known u n d c h =
     manage_7 known u n t c read
 
 -- four steps that succeeded
-pub over4 : {A1 A2 A3 A4 B : Type 0} (P : B → Type 0) (r1 : Result A1 StackError) (r2 : Result A2 StackError) (r3 : Result A3 StackError) (r4 : Result A4 StackError) (rest : A1 → A2 → A3 → A4 → Result B StackError) (y : B)
+over4 : {A1 A2 A3 A4 B : Type 0} (P : B → Type 0) (r1 : Result A1 StackError) (r2 : Result A2 StackError) (r3 : Result A3 StackError) (r4 : Result A4 StackError) (rest : A1 → A2 → A3 → A4 → Result B StackError) (y : B)
     → (r1 >>= λ x1. r2 >>= λ x2. r3 >>= λ x3. r4 >>= λ x4. rest x1 x2 x3 x4) ≡ Ok y
     → ((x1 : A1) (x2 : A2) (x3 : A3) (x4 : A4) → r1 ≡ Ok x1 → r2 ≡ Ok x2 → r3 ≡ Ok x3 → r4 ≡ Ok x4 → rest x1 x2 x3 x4 ≡ Ok y → P y) → P y
 over4 P (Err e) r2 r3 r4 rest y h k = cc

@@ -7,4 +7,3 @@ pub mod Names
 pub mod Policies
 pub mod Stack
 pub mod Plan
-pub mod Runnable

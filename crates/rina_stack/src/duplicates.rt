@@ -136,7 +136,7 @@ fn dif_with_duplicate(alloc: Global, difs: &[DifPlan]) -> Result<Option<usize>, 
 }
 
 /// The earlier of two items.
-pub(crate) fn earlier(one: Option<usize>, other: Option<usize>) -> Option<usize>
+fn earlier(one: Option<usize>, other: Option<usize>) -> Option<usize>
     ensures { result ≡ earlier one other }
 {
     match (one, other) {

@@ -8,11 +8,9 @@ mod policies;
 mod read;
 mod references;
 mod rules;
-mod runnable;
 mod shelf;
 
 pub use plan::{Plan, WirePlan};
 pub use policies::{BuiltIn, Policies};
 pub use read::read_stack;
 pub use rina_table::{Rounds, StackError};
-pub use runnable::read_runnable;

@@ -88,7 +88,7 @@ fn plan(alloc: Global, sketch: Sketch) -> Result<Plan, Memory>
 
 /// The stack of a table, or the first rule that it breaks. A key that is not listed is told also where memory ran out.
 #[tactic(auto, unfolding(crate::specs::Stack::stack_at))]
-pub(crate) fn stack_of<P: Policies>(
+fn stack_of<P: Policies>(
     alloc: Global,
     policies: &P,
     stack: &Value,
@@ -109,7 +109,7 @@ pub(crate) fn stack_of<P: Policies>(
 }
 
 /// Why a text was not read as TOML: memory ran out, or it is none.
-pub(crate) fn unread(error: &toml::de::Error) -> StackError
+fn unread(error: &toml::de::Error) -> StackError
     ensures memory { (result ≡ StackError.Memory) ↔ IsMemory error.now }
     ensures other { (result ≡ StackError.NotToml) ↔ ¬ (IsMemory error.now) }
 {

@@ -18,6 +18,7 @@ use Rattle.rina_plan.specs.declared.dif.Lower.TheVariants.{Wire, Dif}
 use Rattle.rina_plan.specs.declared.dif.MemberPlan.{MemberPlan}
 use Rattle.rina_plan.specs.Counts.{IsRoomy, has_flow_end, has_link_end, is_on_dif, links_of as all_links, cep_ids_needed}
 use Rattle.rina_plan.specs.Difs.{greatest_of}
+use Rattle.rina_plan.specs.Kept.{IsStatic}
 use Rattle.rina_plan.specs.Links.{carries, is_member as has_node, is_there, rank_in, rank_of}
 use Rattle.rina_plan.specs.Walks.{IsCarriedFlow}
 use Rattle.rina_plan.specs.Numbers.{facility_number, number_in_rank}
@@ -30,7 +31,7 @@ use Rattle.rina_tower.specs.Fits.{DifsFit, IsFreshRank, flows_at, fresh_dif, lin
 use Rattle.rina_dif.specs.Planned.{flow_fixed, flows_in, flows_of, ipc_name, link_fixed, links_in, links_of}
 use Rattle.rina_tower.proofs.FitRooms.{binds_fit}
 use Rattle.rina_tower.proofs.FitCounts.{count_append, count_cons, count_flat, count_map, count_none, over_places, same_place, sum_only}
-use Rattle.rina_tower.proofs.FitFacts.{any_element, carries_cube, lacks_member, link_facts, shows_cube, shows_member}
+use Rattle.rina_tower.proofs.FitFacts.{any_element, carries_cube, has_flows, lacks_member, link_facts, shows_cube, shows_member, shows_one}
 
 -- Places in a row
 
@@ -79,10 +80,10 @@ one_place difs r i k d e at_i at_k rank_i rank_k h =
 -- Links
 
 placed_on : (plan : Plan) (r : ℕ) (s : Seen) (d : DifPlan) (l : LinkPlan) (on : Lower) → IsFreshRank plan r s → d.rank ≡ r + 1
-    → rank_of plan.difs on + 1 ≡ d.rank → l.a ≢ l.b → is_there (map wire_ends plan.wires) plan.difs l.a on ≡ true → is_there (map wire_ends plan.wires) plan.difs l.b on ≡ true → carries (map wire_ends plan.wires) plan.difs d.pdu l.cube on ≡ true
+    → rank_of plan.difs on + 1 ≡ d.rank → l.a ≢ l.b → is_there (map wire_ends plan.wires) plan.difs l.a on ≡ true → is_there (map wire_ends plan.wires) plan.difs l.b on ≡ true → carries (map wire_ends plan.wires) plan.difs d.pdu l.cube on ≡ true → IsStatic plan.difs on
     → IsPlaced s (record { fac = facility_number plan.difs on; cube = l.cube; a = l.a; a_app = ipc_name plan d l.a; b = l.b; b_app = ipc_name plan d l.b })
-placed_on plan r s d l (Wire w) fresh rank above apart a b carried = absurd (let least = fresh.least in omega (arith, rank, above, least))
-placed_on plan r s d l (Dif k) fresh rank above apart a b carried =
+placed_on plan r s d l (Wire w) fresh rank above apart a b carried static = absurd (let least = fresh.least in omega (arith, rank, above, least))
+placed_on plan r s d l (Dif k) fresh rank above apart a b carried static =
     let e = below_in plan.difs k r (slice_get plan.difs k) refl (above ∙ rank) fresh.least in
     let a_in : has_node l.a e.dif ≡ true = rw e.at at a in
     let b_in : has_node l.b e.dif ≡ true = rw e.at at b in
@@ -92,8 +93,8 @@ placed_on plan r s d l (Dif k) fresh rank above apart a b carried =
       facility = fresh_dif e.dif;
       stands = fresh.each k e.dif e.at e.rank;
       apart = apart;
-      a_in = shows_member e.dif l.a a_in;
-      b_in = shows_member e.dif l.b b_in;
+      a_in = shows_member e.dif l.a (static e.dif e.at) a_in;
+      b_in = shows_member e.dif l.b (static e.dif e.at) b_in;
       cube = cube.0;
       offer = cube.1;
     }
@@ -102,7 +103,7 @@ placed_links : (plan : Plan) (r : ℕ) (s : Seen) (j : ℕ) (o : Option DifPlan)
 placed_links plan r s j None p fresh at = placed_if s (0 == r + 1) [] (λ h. tt)
 placed_links plan r s j (Some d) p fresh at = placed_if s (d.rank == r + 1) (map (link_fixed plan d) d.links) (λ h. placed_map s (link_fixed plan d) d.links (λ k l link.
     let f = link_facts plan p j d at k l link in
-    placed_on plan r s d l l.on fresh (same d.rank (r + 1) h) f.rank f.apart f.a_there f.b_there f.carried))
+    placed_on plan r s d l l.on fresh (same d.rank (r + 1) h) f.rank f.apart f.a_there f.b_there f.carried f.static))
 
 -- Flows
 
@@ -113,13 +114,14 @@ placed_flows : (plan : Plan) (r : ℕ) (s : Seen) (j : ℕ) (o : Option DifPlan)
 placed_flows plan r s j None p fresh at = placed_if s (0 == r) [] (λ h. tt)
 placed_flows plan r s j (Some d) p fresh at = placed_if s (d.rank == r) (map (flow_fixed plan j) d.flows) (λ h. placed_map s (flow_fixed plan j) d.flows (λ k f flow.
     let c = carried_flow plan p j d at k f flow in
+    let static = has_flows plan p j d at k f flow in
     let cube = shows_cube d f.cube c.cube in
     record {
       facility = fresh_dif d;
       stands = fresh.each j d at (same d.rank r h);
       apart = c.apart;
-      a_in = shows_member d f.from.node c.from;
-      b_in = shows_member d f.to.node c.to;
+      a_in = shows_member d f.from.node static c.from;
+      b_in = shows_member d f.to.node static c.to;
       cube = cube.0;
       offer = cube.1;
     }))
@@ -198,25 +200,49 @@ flows_count plan r i n node d at rank number =
 
 -- Room
 
--- no flow has an end at a node that is no member's
-absent : (s : Seen) (n node : ℕ) (d : DifPlan) → slice_get s.facs n ≡ Some (fresh_dif d) → has_node node d ≡ false → (xs : List Fixed) → ArePlaced s xs → count_by (ends_there n node) xs ≡ 0
-absent s n node d at none [] ps = refl
-absent s n node d at none (x ∷ xs) ps =
-    let rest : count_by (ends_there n node) xs ≡ 0 = absent s n node d at none xs ps.1 in
-    let p = ps.0 in
+-- no flow has an end at a node of this facility, where none that is placed can have one
+absent : (s : Seen) (n node : ℕ) → ((x : Fixed) → IsPlaced s x → ends_there n node x ≡ true → ⊥) → (xs : List Fixed) → ArePlaced s xs → count_by (ends_there n node) xs ≡ 0
+absent s n node never [] ps = refl
+absent s n node never (x ∷ xs) ps =
+    let rest : count_by (ends_there n node) xs ≡ 0 = absent s n node never xs ps.1 in
     let here : ends_there n node x ≡ false = elim (ends_there n node x) as (λ b. ends_there n node x ≡ b → b ≡ false) [
       | false ↦ λ h. refl
-      | true ↦ λ h.
-          let parts = and_parts (x.fac == n) ((x.a == node) || (x.b == node)) h in
-          let f_is : p.facility ≡ fresh_dif d = same_Some p.facility (fresh_dif d) (sym p.stands ∙ (ap (slice_get s.facs) (same x.fac n parts.0) ∙ at)) in
-          let a_in : has_node x.a d ≡ true = lacks_member d x.a (subst (λ (f : Fac). is_member f.members x.a ≡ true) f_is p.a_in) in
-          let b_in : has_node x.b d ≡ true = lacks_member d x.b (subst (λ (f : Fac). is_member f.members x.b ≡ true) f_is p.b_in) in
-          absurd (elim (eqb_tells x.a node) [
-            | inl t ↦ let e : has_node node d ≡ true = subst (λ (m : ℕ). has_node m d ≡ true) t.1 a_in in let f : true ≡ false = sym e ∙ none in cc
-            | inr u ↦ let b_is : (false || (x.b == node)) ≡ true = rw u.0 at parts.1 in let e : has_node node d ≡ true = subst (λ (m : ℕ). has_node m d ≡ true) (same x.b node b_is) b_in in let f : true ≡ false = sym e ∙ none in cc
-          ])
+      | true ↦ λ h. absurd (never x ps.0 h)
     ] refl in
     count_cons (ends_there n node) x xs ∙ rw here (omega (arith, rest))
+
+-- what is placed on a DIF that nobody has used is between two nodes that it shows
+record IsBetween (n node : ℕ) (d : DifPlan) (x : Fixed) : Type 0 where
+  a_in : is_member (fresh_dif d).members x.a ≡ true
+  b_in : is_member (fresh_dif d).members x.b ≡ true
+  here : ((x.a == node) || (x.b == node)) ≡ true
+
+between : (s : Seen) (n node : ℕ) (d : DifPlan) (x : Fixed) → slice_get s.facs n ≡ Some (fresh_dif d) → IsPlaced s x → ends_there n node x ≡ true → IsBetween n node d x
+between s n node d x at p h =
+    let parts = and_parts (x.fac == n) ((x.a == node) || (x.b == node)) h in
+    let f_is : p.facility ≡ fresh_dif d = same_Some p.facility (fresh_dif d) (sym p.stands ∙ (ap (slice_get s.facs) (same x.fac n parts.0) ∙ at)) in
+    record {
+      a_in = subst (λ (f : Fac). is_member f.members x.a ≡ true) f_is p.a_in;
+      b_in = subst (λ (f : Fac). is_member f.members x.b ≡ true) f_is p.b_in;
+      here = parts.1;
+    }
+
+-- none is at a node that is no member's
+no_member : (s : Seen) (n node : ℕ) (d : DifPlan) → slice_get s.facs n ≡ Some (fresh_dif d) → d.is_static ≡ true → has_node node d ≡ false → (x : Fixed) → IsPlaced s x → ends_there n node x ≡ true → ⊥
+no_member s n node d at static none x p h =
+    let t = between s n node d x at p h in
+    let a_in : has_node x.a d ≡ true = lacks_member d x.a static t.a_in in
+    let b_in : has_node x.b d ≡ true = lacks_member d x.b static t.b_in in
+    elim (eqb_tells x.a node) [
+      | inl t' ↦ let e : has_node node d ≡ true = subst (λ (m : ℕ). has_node m d ≡ true) t'.1 a_in in let f : true ≡ false = sym e ∙ none in cc
+      | inr u ↦ let b_is : (false || (x.b == node)) ≡ true = rw u.0 at t.here in let e : has_node node d ≡ true = subst (λ (m : ℕ). has_node m d ≡ true) (same x.b node b_is) b_in in let f : true ≡ false = sym e ∙ none in cc
+    ]
+
+-- and none is on a DIF that is not static, which shows no two nodes
+no_two : (s : Seen) (n node : ℕ) (d : DifPlan) → slice_get s.facs n ≡ Some (fresh_dif d) → d.is_static ≡ false → (x : Fixed) → IsPlaced s x → ends_there n node x ≡ true → ⊥
+no_two s n node d at dynamic x p h =
+    let t = between s n node d x at p h in
+    p.apart (shows_one d x.a x.b dynamic t.a_in t.b_in)
 
 most_is : (w : ℕ) → IsWidth w → greatest_of w ≡ 2 ^ (8 * w) - 1
 unfolding greatest_of
@@ -225,12 +251,14 @@ most_is w h = grind arith
 roomy_at : (plan : Plan) → IsPlan plan → (i : ℕ) (d : DifPlan) → slice_get plan.difs i ≡ Some d → IsRoomy (all_links plan.difs) i d
 roomy_at plan p i d at = subst (IsRoomy (all_links plan.difs) i) (get_or_from_slice_get plan.difs i d d at) (p.counts i d (slice_get_within plan.difs i d at))
 
-room_at : (plan : Plan) (r : ℕ) (s : Seen) → IsPlan plan → IsFreshRank plan r s → (n node : ℕ) (i : ℕ) (d : DifPlan) → slice_get plan.difs i ≡ Some d → d.rank ≡ r → number_in_rank plan.difs i ≡ n
+numbered : (plan : Plan) (r : ℕ) (s : Seen) → IsFreshRank plan r s → (n i : ℕ) (d : DifPlan) → slice_get plan.difs i ≡ Some d → d.rank ≡ r → number_in_rank plan.difs i ≡ n → slice_get s.facs n ≡ Some (fresh_dif d)
+numbered plan r s fresh n i d at rank number = subst (λ (m : ℕ). slice_get s.facs m ≡ Some (fresh_dif d)) number (fresh.each i d at rank)
+
+static_room : (plan : Plan) (r : ℕ) (s : Seen) → IsPlan plan → IsFreshRank plan r s → (n node : ℕ) (i : ℕ) (d : DifPlan) → slice_get plan.difs i ≡ Some d → d.rank ≡ r → number_in_rank plan.difs i ≡ n → d.is_static ≡ true
     → count_by (ends_there n node) (links_at plan (r + 1) ++ flows_at plan r) ≤ 2 ^ (8 * d.widths.cep) - 1
-room_at plan r s p fresh n node i d at rank number = elim (has_node node d) as (λ b. has_node node d ≡ b → count_by (ends_there n node) (links_at plan (r + 1) ++ flows_at plan r) ≤ 2 ^ (8 * d.widths.cep) - 1) [
+static_room plan r s p fresh n node i d at rank number static = elim (has_node node d) as (λ b. has_node node d ≡ b → count_by (ends_there n node) (links_at plan (r + 1) ++ flows_at plan r) ≤ 2 ^ (8 * d.widths.cep) - 1) [
   | false ↦ λ h.
-      let here : slice_get s.facs n ≡ Some (fresh_dif d) = subst (λ (m : ℕ). slice_get s.facs m ≡ Some (fresh_dif d)) number (fresh.each i d at rank) in
-      let none : count_by (ends_there n node) (links_at plan (r + 1) ++ flows_at plan r) ≡ 0 = absent s n node d here h (links_at plan (r + 1) ++ flows_at plan r) (all_placed plan r s p fresh) in
+      let none : count_by (ends_there n node) (links_at plan (r + 1) ++ flows_at plan r) ≡ 0 = absent s n node (no_member s n node d (numbered plan r s fresh n i d at rank number) static h) (links_at plan (r + 1) ++ flows_at plan r) (all_placed plan r s p fresh) in
       omega (arith, none)
   | true ↦ λ h.
       let m = any_element (λ (m : MemberPlan). m.node == node) d.members h in
@@ -244,6 +272,15 @@ room_at plan r s p fresh n node i d at rank number = elim (has_node node d) as (
       let both : count_by (ends_there n node) (links_at plan (r + 1) ++ flows_at plan r) ≡ count_by (ends_there n node) (links_at plan (r + 1)) + count_by (ends_there n node) (flows_at plan r) = count_append (ends_there n node) (links_at plan (r + 1)) (flows_at plan r) in
       let needs : count_by (has_flow_end node) d.flows + count_by (ends_on i node) (all_links plan.difs) ≤ greatest_of d.widths.cep = ids' in
       omega (arith, most, ls, fs, both, needs)
+] refl
+
+room_at : (plan : Plan) (r : ℕ) (s : Seen) → IsPlan plan → IsFreshRank plan r s → (n node : ℕ) (i : ℕ) (d : DifPlan) → slice_get plan.difs i ≡ Some d → d.rank ≡ r → number_in_rank plan.difs i ≡ n
+    → count_by (ends_there n node) (links_at plan (r + 1) ++ flows_at plan r) ≤ (fresh_dif d).admits
+room_at plan r s p fresh n node i d at rank number = elim d.is_static as (λ b. d.is_static ≡ b → count_by (ends_there n node) (links_at plan (r + 1) ++ flows_at plan r) ≤ cond b (2 ^ (8 * d.widths.cep) - 1) 0) [
+  | true ↦ λ static. static_room plan r s p fresh n node i d at rank number static
+  | false ↦ λ dynamic.
+      let none : count_by (ends_there n node) (links_at plan (r + 1) ++ flows_at plan r) ≡ 0 = absent s n node (no_two s n node d (numbered plan r s fresh n i d at rank number) dynamic) (links_at plan (r + 1) ++ flows_at plan r) (all_placed plan r s p fresh) in
+      omega (arith, none)
 ] refl
 
 has_room : (plan : Plan) (r : ℕ) (s : Seen) → IsPlan plan → IsFreshRank plan r s → HasRoom s (links_at plan (r + 1) ++ flows_at plan r)

@@ -1,5 +1,5 @@
 -- What a plan says of each link and each flow.
-use Rattle.std.proofs.Common.{◌≡◌, ◌≢◌, ℕ, zero, suc, ◌+◌, ◌==◌, ◌&&◌, ◌||◌, ◌∙◌, cond, not, Bool, true, false, List, [], ◌∷◌, map, slice_get, Some, nat_le, refl, sym, ap, subst, arith}
+use Rattle.std.proofs.Common.{◌≡◌, ◌≢◌, ℕ, zero, suc, ◌+◌, ◌==◌, ◌&&◌, ◌||◌, ◌∙◌, cond, not, Bool, true, false, List, [], ◌∷◌, map, slice_get, take, Some, nat_le, refl, sym, ap, subst, arith}
 use Rattle.std.specs.Prelude.{find}
 use Rattle.std.specs.List.{list_any}
 use Rattle.std.proofs.lemmas.Bool.{and_parts, not-false, or_parts}
@@ -10,13 +10,16 @@ use Rattle.rina_dif_law.specs.Dif.{offer_of}
 use Rattle.rina_iface.proofs.Changed.{all_at}
 use Rattle.rina_iface.specs.Seen.{Offer, cube_in, is_member}
 use Rattle.rina_plan.specs.declared.dif.DifPlan.{DifPlan}
+use Rattle.rina_plan.specs.declared.dif.FlowPlan.{FlowPlan}
 use Rattle.rina_plan.specs.declared.dif.LinkPlan.{LinkPlan}
 use Rattle.rina_plan.specs.declared.dif.MemberPlan.{MemberPlan}
 use Rattle.rina_plan.specs.declared.dif.WireEnds.{WireEnds}
+use Rattle.rina_plan.specs.Kept.{IsStanding, IsStatic}
 use Rattle.rina_plan.specs.Links.{carries, has_unfit_link, is_unfit_link, is_member as has_node, is_there, is_uncarried, rank_of}
 use Rattle.rina_plan.specs.Walks.{has_cube}
 use Rattle.rina_stack.specs.declared.plan.Plan.{Plan}
 use Rattle.rina_stack.specs.Plan.{IsPlan, wire_ends}
+use Rattle.rina_tower.specs.Fits.{fresh_dif}
 
 -- Lists
 
@@ -68,6 +71,7 @@ pub record IsLinkOf (plan : Plan) (d : DifPlan) (l : LinkPlan) : Type 0 where
   pub a_there : is_there (map wire_ends plan.wires) plan.difs l.a l.on ≡ true
   pub b_there : is_there (map wire_ends plan.wires) plan.difs l.b l.on ≡ true
   pub carried : carries (map wire_ends plan.wires) plan.difs d.pdu l.cube l.on ≡ true
+  pub static : IsStatic plan.difs l.on
 
 differ : (m n : ℕ) → (m == n) ≡ false → m ≢ n
 differ m n h = grind (arith, nat_tests)
@@ -102,6 +106,24 @@ carried_each : (wires : List WireEnds) (difs : List DifPlan) (d : DifPlan) → i
 unfolding is_uncarried
 carried_each wires difs d h k l at = none_at (λ (l' : LinkPlan). not (carries wires difs d.pdu l'.cube l'.on)) d.links h k l at
 
+uses_at : (plan : Plan) → IsPlan plan → (i : ℕ) (d : DifPlan) → slice_get plan.difs i ≡ Some d → IsStanding plan.difs d
+uses_at plan p i d at = all_at (IsStanding plan.difs) plan.difs i d p.uses at
+
+none_there : {X : Type 0} (xs : List X) (k : ℕ) (x : X) → xs ≡ [] → slice_get xs k ≡ Some x → ⊥
+none_there [] k x none at = cc
+none_there (y ∷ xs) k x none at = cc
+
+not_bare : (b : Bool) → (b ≡ false → ⊥) → b ≡ true
+not_bare true h = refl
+not_bare false h = absurd (h refl)
+
+-- a DIF with a link, or with a flow, is static
+has_links : (plan : Plan) → IsPlan plan → (i : ℕ) (d : DifPlan) → slice_get plan.difs i ≡ Some d → (k : ℕ) (l : LinkPlan) → slice_get d.links k ≡ Some l → d.is_static ≡ true
+has_links plan p i d at k l link = not_bare d.is_static (λ h. none_there d.links k l ((uses_at plan p i d at).bare h).0 link)
+
+pub has_flows : (plan : Plan) → IsPlan plan → (i : ℕ) (d : DifPlan) → slice_get plan.difs i ≡ Some d → (k : ℕ) (f : FlowPlan) → slice_get d.flows k ≡ Some f → d.is_static ≡ true
+has_flows plan p i d at k f flow = not_bare d.is_static (λ h. none_there d.flows k f ((uses_at plan p i d at).bare h).1 flow)
+
 pub link_facts : (plan : Plan) → IsPlan plan → (i : ℕ) (d : DifPlan) → slice_get plan.difs i ≡ Some d → (k : ℕ) (l : LinkPlan) → slice_get d.links k ≡ Some l → IsLinkOf plan d l
 link_facts plan p i d at k l link =
     let ws : List WireEnds = map wire_ends plan.wires in
@@ -114,15 +136,36 @@ link_facts plan p i d at k l link =
       a_there = s.a;
       b_there = s.b;
       carried = not-false (carries ws plan.difs d.pdu l.cube l.on) (carried_each ws plan.difs d all k l link);
+      static = all_at (λ (x : LinkPlan). IsStatic plan.difs x.on) d.links k l ((uses_at plan p i d at).below (has_links plan p i d at k l link)) link;
     }
 
 -- Members and cubes of a DIF, as its facility shows them
 
-pub shows_member : (d : DifPlan) (node : ℕ) → has_node node d ≡ true → is_member (map (λ (m : MemberPlan). m.node) d.members) node ≡ true
-shows_member d node h = any_map (λ (m : ℕ). m == node) (λ (m : MemberPlan). m.node) d.members ∙ h
+all_shown : (d : DifPlan) → d.is_static ≡ true → (fresh_dif d).members ≡ map (λ (m : MemberPlan). m.node) d.members
+all_shown d static = ap (λ (b : Bool). map (λ (m : MemberPlan). m.node) (cond b d.members (take 1 d.members))) static
 
-pub lacks_member : (d : DifPlan) (node : ℕ) → is_member (map (λ (m : MemberPlan). m.node) d.members) node ≡ true → has_node node d ≡ true
-lacks_member d node h = sym (any_map (λ (m : ℕ). m == node) (λ (m : MemberPlan). m.node) d.members) ∙ h
+first_shown : (d : DifPlan) → d.is_static ≡ false → (fresh_dif d).members ≡ map (λ (m : MemberPlan). m.node) (take 1 d.members)
+first_shown d dynamic = ap (λ (b : Bool). map (λ (m : MemberPlan). m.node) (cond b d.members (take 1 d.members))) dynamic
+
+pub shows_member : (d : DifPlan) (node : ℕ) → d.is_static ≡ true → has_node node d ≡ true → is_member (fresh_dif d).members node ≡ true
+shows_member d node static h = ap (λ (ms : List ℕ). is_member ms node) (all_shown d static) ∙ (any_map (λ (m : ℕ). m == node) (λ (m : MemberPlan). m.node) d.members ∙ h)
+
+pub lacks_member : (d : DifPlan) (node : ℕ) → d.is_static ≡ true → is_member (fresh_dif d).members node ≡ true → has_node node d ≡ true
+lacks_member d node static h = sym (any_map (λ (m : ℕ). m == node) (λ (m : MemberPlan). m.node) d.members) ∙ (sym (ap (λ (ms : List ℕ). is_member ms node) (all_shown d static)) ∙ h)
+
+only : (b : Bool) → (b || false) ≡ true → b ≡ true
+only true h = refl
+only false h = h
+
+one_node : (ms : List MemberPlan) (a b : ℕ) → is_member (map (λ (m : MemberPlan). m.node) (take 1 ms)) a ≡ true → is_member (map (λ (m : MemberPlan). m.node) (take 1 ms)) b ≡ true → a ≡ b
+one_node [] a b h g = cc
+one_node (m ∷ ms) a b h g = sym (same m.node a (only (m.node == a) h)) ∙ same m.node b (only (m.node == b) g)
+
+-- a DIF that is not static shows no two nodes
+pub shows_one : (d : DifPlan) (a b : ℕ) → d.is_static ≡ false → is_member (fresh_dif d).members a ≡ true → is_member (fresh_dif d).members b ≡ true → a ≡ b
+shows_one d a b dynamic h g =
+    let first = first_shown d dynamic in
+    one_node d.members a b (subst (λ (ms : List ℕ). is_member ms a ≡ true) first h) (subst (λ (ms : List ℕ). is_member ms b ≡ true) first g)
 
 pub shows_cube : (d : DifPlan) (id : ℕ) → has_cube id d ≡ true → (o : Offer) × (cube_in (map offer_of d.cubes) id ≡ Some o)
 shows_cube d id h = any_found (λ (o : Offer). o.id == id) (map offer_of d.cubes) (any_map (λ (o : Offer). o.id == id) offer_of d.cubes ∙ h)

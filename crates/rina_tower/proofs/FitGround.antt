@@ -21,12 +21,13 @@ use Rattle.rina_stack.specs.Ranges.{IsRangedDif}
 use Rattle.rina_stack.specs.Plan.{IsPlan}
 use Rattle.rina_data.proofs.Finding.{there}
 use Rattle.rina_dif_law.proofs.Own.{map_at}
+use Rattle.rina_data.specs.declared.settings.Member.{Member as Kept}
 use Rattle.rina_data.specs.declared.settings.Settings.{Settings}
-use Rattle.rina_data.specs.Configs.{Member, config_of, member_of as data_member}
 use Rattle.rina_dif_law.specs.Dif.{offer_of}
 use Rattle.rina_dif.specs.declared.dif.Dif.{Dif}
 use Rattle.rina_dif.specs.Laying.{CanBindAll}
 use Rattle.rina_dif.specs.Planned.{flows_in, flows_of, members_from, processes_before}
+use Rattle.rina_member.specs.Start.{first_enrolled}
 use Rattle.rina_wire.specs.Air.{seen_of as seen_of_wires}
 use Rattle.rina_wire.specs.Plan.{air_of}
 use Rattle.rina_tower.specs.Built.{AreMade, has_rank, places_in}
@@ -95,9 +96,15 @@ number_is plan r i own = let rank : rank_of plan.difs (IsDif i) ≡ r = same (ra
 
 -- A new DIF as a facility
 
-nodes_from : (plan : Plan) (d : DifPlan) (n : ℕ) (ms : List MemberPlan) → map (λ (m : Member). m.node) (map data_member (members_from plan d n ms)) ≡ map (λ (m : MemberPlan). m.node) ms
+nodes_from : (plan : Plan) (d : DifPlan) (n : ℕ) (ms : List MemberPlan) → map (λ (m : Kept). m.node) (members_from plan d n ms) ≡ map (λ (m : MemberPlan). m.node) ms
 nodes_from plan d n [] = refl
 nodes_from plan d n (m ∷ ms) = ap (λ (ks : List ℕ). m.node ∷ ks) (nodes_from plan d (n + 1) ms)
+
+-- the nodes of those that are enrolled from the start
+enrolled_from : (plan : Plan) (d : DifPlan) (n : ℕ) (is_static : Bool) (ms : List MemberPlan) → map (λ (m : Kept). m.node) (first_enrolled is_static (members_from plan d n ms)) ≡ map (λ (m : MemberPlan). m.node) (cond is_static ms (take 1 ms))
+enrolled_from plan d n true ms = nodes_from plan d n ms
+enrolled_from plan d n false [] = refl
+enrolled_from plan d n false (m ∷ ms) = refl
 
 abbrev fac_with : List End → List ℕ → List Registered → List ℕ → List Offer → ℕ → Fac
 fac_with ends waiting names members cubes admits = record { ends = ends; waiting = waiting; names = names; members = members; cubes = cubes; admits = admits }
@@ -107,10 +114,10 @@ fac_is ends waiting names members members' cubes cubes' admits admits' e w n m c
 
 fresh_of : (plan : Plan) (places : List ℕ) (n : ℕ) (x : Dif) (m : IsMadeAt plan places n x) (p : HasPlan plan m.place x.settings) → fac_of_dif x ≡ fresh_dif p.dif
 fresh_of plan places n x m p =
-    let members : map (λ (k : Member). k.node) (config_of x.settings).members ≡ map (λ (k : MemberPlan). k.node) p.dif.members = ap (λ (t : Settings). map (λ (k : Member). k.node) (config_of t).members) p.is ∙ nodes_from plan p.dif (processes_before plan.difs m.place) p.dif.members in
+    let enrolled : x.enrolled ≡ map (λ (k : MemberPlan). k.node) (cond p.dif.is_static p.dif.members (take 1 p.dif.members)) = m.enrolled p.dif p.at ∙ (ap (λ (t : Settings). map (λ (k : Kept). k.node) (first_enrolled p.dif.is_static t.members)) p.is ∙ enrolled_from plan p.dif (processes_before plan.difs m.place) p.dif.is_static p.dif.members) in
     let cubes : map offer_of x.settings.cubes ≡ map offer_of p.dif.cubes = ap (λ (t : Settings). map offer_of t.cubes) p.is in
-    let admits : x.settings.admits ≡ 2 ^ (8 * p.dif.widths.cep) - 1 = ap (λ (t : Settings). t.admits) p.is in
-    fac_is x.flows.journal.ends x.waiting.items x.names (map (λ (k : Member). k.node) (config_of x.settings).members) (map (λ (k : MemberPlan). k.node) p.dif.members) (map offer_of x.settings.cubes) (map offer_of p.dif.cubes) x.settings.admits (2 ^ (8 * p.dif.widths.cep) - 1) m.ends m.waiting m.names members cubes admits
+    let admits : x.settings.admits ≡ cond p.dif.is_static (2 ^ (8 * p.dif.widths.cep) - 1) 0 = ap (λ (t : Settings). t.admits) p.is in
+    fac_is x.flows.journal.ends x.waiting.items x.names x.enrolled (map (λ (k : MemberPlan). k.node) (cond p.dif.is_static p.dif.members (take 1 p.dif.members))) (map offer_of x.settings.cubes) (map offer_of p.dif.cubes) x.settings.admits (cond p.dif.is_static (2 ^ (8 * p.dif.widths.cep) - 1) 0) m.ends m.waiting m.names enrolled cubes admits
 
 same_dif : (plan : Plan) (i : ℕ) (d e : DifPlan) → slice_get plan.difs i ≡ Some d → slice_get plan.difs i ≡ Some e → e ≡ d
 same_dif plan i d e at at' = same_Some e d (sym at' ∙ at)

@@ -1,5 +1,5 @@
 -- The DIFs of a rank are made one after the other.
-use Rattle.std.proofs.Common.{◌≡◌, ◌≢◌, ◌∙◌, ℕ, zero, suc, ◌+◌, ◌-◌, ◌≤◌, ◌<◌, ◌==◌, cond, Bool, true, false, List, [], ◌∷◌, ◌++◌, length, length-append, slice_get, get_or, take, Option, option_and_then, Some, None, refl, sym, ap, subst, arith, inl, inr, ◌⊎◌}
+use Rattle.std.proofs.Common.{◌≡◌, ◌≢◌, ◌∙◌, ℕ, zero, suc, ◌+◌, ◌-◌, ◌≤◌, ◌<◌, ◌==◌, cond, Bool, true, false, List, [], ◌∷◌, ◌++◌, length, length-append, map, slice_get, get_or, take, Option, option_and_then, Some, None, refl, sym, ap, subst, arith, inl, inr, ◌⊎◌}
 use Rattle.std.specs.Prelude.{All, count_by, filter, flat_map}
 use Rattle.std.specs.List.{range_with_len}
 use Rattle.std.proofs.lemmas.Bool.Decides.{nat_tests}
@@ -21,6 +21,7 @@ use Rattle.rina_plan.specs.Links.{rank_in, rank_of}
 use Rattle.rina_plan.specs.Numbers.{number_in_rank}
 use Rattle.rina_stack.specs.declared.plan.Plan.{Plan}
 use Rattle.rina_dif_law.specs.Cloud.{IsMine}
+use Rattle.rina_data.specs.declared.settings.Member.{Member as Kept}
 use Rattle.rina_data.specs.declared.settings.Settings.{Settings}
 use Rattle.rina_data.specs.Configs.{config_of}
 use Rattle.rina_dif_law.specs.Others.{AreApart}
@@ -30,6 +31,7 @@ use Rattle.rina_dif.specs.Holding.{Stands}
 use Rattle.rina_dif.specs.Laying.{CanBindAll, CanLay, IsLaid, IsNew, Lays, Takes}
 use Rattle.rina_dif.specs.Planned.{link_fixed, links_in, links_of, settings_by, settings_in, settings_of}
 use Rattle.rina_dif.specs.Shown.{seen_of as seen_of_dif}
+use Rattle.rina_member.specs.Start.{first_enrolled}
 use Rattle.rina_tower.specs.Bystanders.{IsIpc}
 use Rattle.rina_tower.specs.Built.{AreMade, has_rank, places_in}
 use Rattle.rina_tower.specs.Fits.{flows_at}
@@ -160,13 +162,14 @@ pub record IsMadeAt (plan : Plan) (places : List ℕ) (n : ℕ) (d : Dif) : Type
   pub ends : d.flows.journal.ends ≡ []
   pub waiting : d.waiting.items ≡ []
   pub names : d.names ≡ []
+  pub enrolled : (dif : DifPlan) → slice_get plan.difs place ≡ Some dif → d.enrolled ≡ map (λ (m : Kept). m.node) (first_enrolled dif.is_static d.settings.members)
 
 pub made_at : (plan : Plan) (places : List ℕ) (s : Seen) (ds : List Dif) (s' : Seen) → AreMade plan places s ds s' → (n : ℕ) (d : Dif) → slice_get ds n ≡ Some d → IsMadeAt plan places n d
 made_at plan [] s [] s' m n d at = cc
 made_at plan [] s (x ∷ xs) s' m n d at = absurd m
 made_at plan (i ∷ is) s [] s' m n d at = absurd m
-made_at plan (i ∷ is) s (x ∷ xs) s' m zero d at = subst (IsMadeAt plan (i ∷ is) 0) (same_Some x d at) (record { place = i; is_place = refl; settings = m.1.settings; ends = m.1.ends; waiting = m.1.waiting; names = m.1.names })
-made_at plan (i ∷ is) s (x ∷ xs) s' m (suc n) d at = let r = made_at plan is m.0 xs s' m.2 n d at in record { place = r.place; is_place = r.is_place; settings = r.settings; ends = r.ends; waiting = r.waiting; names = r.names }
+made_at plan (i ∷ is) s (x ∷ xs) s' m zero d at = subst (IsMadeAt plan (i ∷ is) 0) (same_Some x d at) (record { place = i; is_place = refl; settings = m.1.settings; ends = m.1.ends; waiting = m.1.waiting; names = m.1.names; enrolled = m.1.enrolled })
+made_at plan (i ∷ is) s (x ∷ xs) s' m (suc n) d at = let r = made_at plan is m.0 xs s' m.2 n d at in record { place = r.place; is_place = r.is_place; settings = r.settings; ends = r.ends; waiting = r.waiting; names = r.names; enrolled = r.enrolled }
 
 pub made_long : (plan : Plan) (places : List ℕ) (s : Seen) (ds : List Dif) (s' : Seen) → AreMade plan places s ds s' → length ds ≡ length places
 made_long plan [] s [] s' m = refl

@@ -8,7 +8,6 @@ use Rattle.rina_data.proofs.Finding.{there}
 use Rattle.rina_plan.specs.declared.dif.DifPlan.{DifPlan}
 use Rattle.rina_stack.specs.declared.plan.Plan.{Plan}
 use Rattle.rina_dif.specs.declared.dif.Dif.{Dif}
-use Rattle.rina_dif.specs.declared.layout.Layout.{Layout}
 use Rattle.rina_dif.specs.Laying.{IsNew}
 use Rattle.rina_tower.specs.declared.tower.Tower.{Tower, Rank', Wires}
 use Rattle.rina_tower.specs.Calls.{Serves}
@@ -16,11 +15,6 @@ use Rattle.rina_tower.specs.PlanSettings.{AreOfPlan, IsAsPlanned, IsOfPlan}
 use Rattle.rina_tower.specs.Ranks.{height_of}
 use Rattle.rina_tower.specs.Unchanged.{AreStaying, IsStaying, difs_refl}
 use Rattle.rina_tower.specs.Levels.{AtDif, IsAtDif, SameBelow}
-
--- A DIF
-
-pub same_links : (l l' : Layout) → l' ≡ l → l'.links ≡ l.links
-same_links l l' same = ap (λ (x : Layout). x.links) same
 
 -- A rank
 
@@ -33,7 +27,7 @@ set_stays difs difs' n d d' is stays new = subst (AreStaying difs) (sym new) (re
         let was : slice_get difs n ≡ Some x = subst (λ (m : ℕ). slice_get difs m ≡ Some x) s.0 at in
         let same : d ≡ x = same_Some d x (sym is ∙ was) in
         subst (λ (z : Dif). IsStaying z x') same (subst (IsStaying d) (sym s.1) stays)
-    | inr o ↦ subst (IsStaying x) (same_Some x x' (sym at ∙ o.1)) (record { settings = refl; links = refl })
+    | inr o ↦ subst (IsStaying x) (same_Some x x' (sym at ∙ o.1)) (record { settings = refl; laid = refl })
   ];
 })
 
@@ -47,12 +41,12 @@ any_stays does n none difs difs' stays a = elim a [
 ]
 
 pub serves_stays : {changes : Dif → Dif → Type 0} (call : Seen → Seen → Type 0) (n : ℕ) (d d' : Dif) → Serves call changes n d d' → IsStaying d d'
-serves_stays call n d d' s = record { settings = s.settings; links = same_links _ _ s.laid }
+serves_stays call n d d' s = record { settings = s.settings; laid = s.laid }
 
 -- As planned
 
 plan_stays : (plan : Plan) (rank : ℕ) (d d' : Dif) → IsStaying d d' → IsOfPlan plan rank d → IsOfPlan plan rank d'
-plan_stays plan rank d d' s h = record { place = h.place; dif = h.dif; is_dif = h.is_dif; its_rank = h.its_rank; settings = h.settings ∙ ap Some (sym s.settings); links = s.links ∙ h.links }
+plan_stays plan rank d d' s h = record { place = h.place; dif = h.dif; is_dif = h.is_dif; its_rank = h.its_rank; settings = h.settings ∙ ap Some (sym s.settings); laid = s.laid ∙ h.laid }
 
 pub difs_planned : (plan : Plan) (rank : ℕ) (difs difs' : List Dif) → AreStaying difs difs' → AreOfPlan plan rank difs → AreOfPlan plan rank difs'
 difs_planned plan rank difs difs' s h n d' at =
@@ -75,8 +69,8 @@ same_planned plan (Rank' p difs below) (Wires a') s h = absurd s
 pub none_planned : (plan : Plan) (rank : ℕ) → AreOfPlan plan rank []
 none_planned plan rank n d at = absurd cc
 
-made_planned : (plan : Plan) (i rank : ℕ) (e : DifPlan) (d : Dif) (old new : Seen) → slice_get plan.difs i ≡ Some e → e.rank ≡ rank → IsNew plan i d old new → d.laid.links ≡ e.links → IsOfPlan plan rank d
-made_planned plan i rank e d old new is rank_is n links = record { place = i; dif = e; is_dif = is; its_rank = rank_is; settings = n.settings; links = links }
+made_planned : (plan : Plan) (i rank : ℕ) (e : DifPlan) (d : Dif) (old new : Seen) → slice_get plan.difs i ≡ Some e → e.rank ≡ rank → IsNew plan i d old new → d.laid ≡ record { is_static = e.is_static; links = e.links } → IsOfPlan plan rank d
+made_planned plan i rank e d old new is rank_is n laid = record { place = i; dif = e; is_dif = is; its_rank = rank_is; settings = n.settings; laid = laid }
 
 -- one DIF more
 pub more_planned : (plan : Plan) (rank : ℕ) (difs : List Dif) (d : Dif) → IsOfPlan plan rank d → AreOfPlan plan rank difs → AreOfPlan plan rank (difs ++ d ∷ [])
@@ -85,5 +79,5 @@ more_planned plan rank [] d new h (suc n) x at = absurd cc
 more_planned plan rank (e ∷ es) d new h zero x at = h zero x at
 more_planned plan rank (e ∷ es) d new h (suc n) x at = more_planned plan rank es d new (λ k y is. h (suc k) y is) n x at
 
-pub next_planned : (plan : Plan) (i rank : ℕ) (e : DifPlan) (difs difs' : List Dif) (d : Dif) (old new : Seen) → slice_get plan.difs i ≡ Some e → e.rank ≡ rank → IsNew plan i d old new → d.laid.links ≡ e.links → difs' ≡ difs ++ d ∷ [] → AreOfPlan plan rank difs → AreOfPlan plan rank difs'
-next_planned plan i rank e difs difs' d old new is rank_is n links more h = subst (AreOfPlan plan rank) (sym more) (more_planned plan rank difs d (made_planned plan i rank e d old new is rank_is n links) h)
+pub next_planned : (plan : Plan) (i rank : ℕ) (e : DifPlan) (difs difs' : List Dif) (d : Dif) (old new : Seen) → slice_get plan.difs i ≡ Some e → e.rank ≡ rank → IsNew plan i d old new → d.laid ≡ record { is_static = e.is_static; links = e.links } → difs' ≡ difs ++ d ∷ [] → AreOfPlan plan rank difs → AreOfPlan plan rank difs'
+next_planned plan i rank e difs difs' d old new is rank_is n laid more h = subst (AreOfPlan plan rank) (sym more) (more_planned plan rank difs d (made_planned plan i rank e d old new is rank_is n laid) h)

@@ -1,5 +1,5 @@
 -- That the links and flows of a plan can be bound, rank by rank.
-use Rattle.std.specs.Prelude.{◌≡◌, ℕ, ◌+◌, ◌-◌, ◌*◌, ◌^◌, ◌≤◌, ◌==◌, List, [], ◌++◌, flat_map, length, map, slice_get, Some, if◌then◌else◌}
+use Rattle.std.specs.Prelude.{◌≡◌, ℕ, ◌+◌, ◌-◌, ◌*◌, ◌^◌, ◌≤◌, ◌==◌, List, [], ◌++◌, flat_map, length, map, slice_get, take, Some, if◌then◌else◌}
 use Rattle.std.specs.List.{range_with_len}
 use Rattle.rina_iface.specs.declared.ask.Fixed.{Fixed}
 use Rattle.rina_iface.specs.Seen.{Fac, Seen}
@@ -26,15 +26,16 @@ links_at plan r = flat_map (λ i. if rank_of plan.difs (Dif i) == r then links_o
 abbrev pub flows_at : Plan → ℕ → List Fixed
 flows_at plan r = flat_map (λ i. if rank_of plan.difs (Dif i) == r then flows_of plan i else []) (range_with_len 0 (length plan.difs))
 
--- a DIF that nobody has used yet, as a facility
+-- a DIF that nobody has used yet, as a facility: all members of a static one have a place in it; of any other the first alone has, and it
+-- has no fixed flows
 abbrev pub fresh_dif : DifPlan → Fac
 fresh_dif d = record {
   ends = [];
   waiting = [];
   names = [];
-  members = map (λ (m : MemberPlan). m.node) d.members;
+  members = map (λ (m : MemberPlan). m.node) (if d.is_static then d.members else take 1 d.members);
   cubes = map offer_of d.cubes;
-  admits = 2 ^ (8 * d.widths.cep) - 1;
+  admits = if d.is_static then 2 ^ (8 * d.widths.cep) - 1 else 0;
 }
 
 -- a facility of a rank is a DIF of the plan

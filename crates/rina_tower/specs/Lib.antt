@@ -13,9 +13,11 @@ pub mod Layout
 pub mod Ledgers
 pub mod Levels
 pub mod LowerUse
+pub mod Members
 pub mod MemoryFailure
 pub mod Objects
 pub mod PlanSettings
+pub mod Publishing
 pub mod Ranks
 pub mod Refusals
 pub mod Resting

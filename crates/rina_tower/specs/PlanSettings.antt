@@ -7,14 +7,14 @@ use Rattle.rina_dif.specs.Planned.{settings_of}
 use Rattle.rina_tower.specs.declared.tower.Tower.{Tower, Wires, Rank'}
 use Rattle.rina_tower.specs.Ranks.{height_of}
 
--- a DIF has the settings and the links of a DIF of the stack, which has this rank
+-- a DIF has the settings and the links of a DIF of the stack, which has this rank, and is static where that is
 pub record IsOfPlan (plan : Plan) (rank : ℕ) (d : Dif) : Type 0 where
   pub place : ℕ
   pub dif : DifPlan
   pub is_dif : slice_get plan.difs place ≡ Some dif
   pub its_rank : dif.rank ≡ rank
   pub settings : settings_of plan place ≡ Some d.settings
-  pub links : d.laid.links ≡ dif.links
+  pub laid : d.laid ≡ record { is_static = dif.is_static; links = dif.links }
 
 -- and so each of a rank
 abbrev pub AreOfPlan : Plan → ℕ → List Dif → Type 0

@@ -4,10 +4,10 @@ use Rattle.std.proofs.Common.{◌∙◌, sym, subst, arith, get_or}
 use Rattle.std.proofs.lemmas.Option.{same_Some, slice_get-get_or, slice_get_within}
 use Rattle.rina_dif.specs.declared.dif.Dif.{Dif}
 
--- a DIF has the settings that it had, and the links that were laid for it
+-- a DIF has the settings that it had, and what was laid for it
 pub record IsStaying (d d' : Dif) : Type 0 where
   pub settings : d'.settings ≡ d.settings
-  pub links : d'.laid.links ≡ d.laid.links
+  pub laid : d'.laid ≡ d.laid
 
 -- and so each of a rank
 pub record AreStaying (difs difs' : List Dif) : Type 0 where
@@ -65,10 +65,10 @@ ChangesByClock d d' = d' ≡ record d { processes = d'.processes; connections = 
 -- What follows
 
 pub dif_refl : (d : Dif) → IsStaying d d
-dif_refl d = record { settings = refl; links = refl }
+dif_refl d = record { settings = refl; laid = refl }
 
 pub dif_trans : (d e f : Dif) → IsStaying d e → IsStaying e f → IsStaying d f
-dif_trans d e f h g = record { settings = g.settings ∙ h.settings; links = g.links ∙ h.links }
+dif_trans d e f h g = record { settings = g.settings ∙ h.settings; laid = g.laid ∙ h.laid }
 
 pub difs_refl : (difs : List Dif) → AreStaying difs difs
 difs_refl difs = record { number = refl; each = λ n d d' at at'. subst (IsStaying d) (same_Some d d' (sym at ∙ at')) (dif_refl d) }

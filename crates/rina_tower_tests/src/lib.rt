@@ -6,4 +6,6 @@ mod applications;
 #[cfg(test)]
 mod drawn_again;
 #[cfg(test)]
+mod publishing;
+#[cfg(test)]
 mod ranks;
