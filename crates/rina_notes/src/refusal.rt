@@ -1,14 +1,14 @@
 //! What a call refused, as a note shows it.
 ghost use Rattle.std.specs.Prelude.{◌≡◌, true, IfOk, OnErr};
 ghost use Rattle.rina_notes.specs.Copying.{copies_allocate, copies_app, copies_send};
-ghost use Rattle.rina_notes.specs.Told.{app_told, register_told, unregister_told, free_told, allocate_told, send_told, wire_told};
+ghost use Rattle.rina_notes.specs.Told.{app_told, publish_told, register_told, unregister_told, free_told, allocate_told, send_told, wire_told};
 
 use crate::state::{tell_drawn, tell_fail};
 use rina_base::{Memory, Name};
 use rina_iface::{AllocateError, FreeError, RegisterError, SendError, UnregisterError};
 use rina_report::{PortNote, Refusal};
 use rina_stack::Plan;
-use rina_tower::AppError;
+use rina_tower::{AppError, PublishError};
 use rina_wire::WireError;
 use std::alloc::Global;
 
@@ -32,6 +32,16 @@ fn register_refusal(error: RegisterError) -> Option<Refusal>
         RegisterError::Already => Some(Refusal::Already),
         RegisterError::NoMember => Some(Refusal::NoMember),
         RegisterError::CountSpent { need, left } => Some(Refusal::CountSpent { need, left }),
+    }
+}
+
+/// What `publish` refused.
+pub fn tell_publish(error: PublishError) -> Option<Refusal>
+    ensures { result ≡ publish_told error }
+{
+    match error {
+        PublishError::NoIpc => Some(Refusal::NoIpc),
+        PublishError::Lower(error) => register_refusal(error),
     }
 }
 

@@ -1,12 +1,13 @@
-//! Ports and their states, as notes show them: with the names of the stack in place of numbers.
+//! Ports and their states, as notes show them: with the names of the stack in place of numbers; and states of members.
 ghost use Rattle.std.specs.Prelude.{◌≡◌, true, IfOk, OnErr, option_map, slice_get};
 ghost use Rattle.rina_notes.specs.Copying.{copies_drawn, copies_fail, copies_port, copies_state};
-ghost use Rattle.rina_notes.specs.Told.{facs_of, port_told, fail_told, state_told, drawn_told};
+ghost use Rattle.rina_notes.specs.Told.{facs_of, port_told, fail_told, member_told, state_told, drawn_told};
 
 use crate::facility::name_at;
+use rina_agent::MemberState;
 use rina_base::{Memory, Name, Port};
 use rina_iface::{Fail, PortState};
-use rina_report::{FailNote, PortNote, StateNote};
+use rina_report::{FailNote, MemberNote, PortNote, StateNote};
 use rina_stack::Plan;
 use std::alloc::Global;
 
@@ -102,5 +103,19 @@ pub fn tell_drawn(
     match state {
         Some(state) => tell_state(alloc, plan, rank, state),
         None => Ok(None),
+    }
+}
+
+/// How far an IPC process is a member of its DIF.
+pub fn tell_member(state: MemberState) -> MemberNote
+    ensures { result ≡ member_told state }
+{
+    match state {
+        MemberState::Outside => MemberNote::Outside,
+        MemberState::Joining { link } => MemberNote::Joining {
+            link: u32::from(link),
+        },
+        MemberState::Enrolled => MemberNote::Enrolled,
+        MemberState::Denied { rule } => MemberNote::Denied { rule },
     }
 }

@@ -10,7 +10,7 @@ use Rattle.rina_schedule.specs.Fields.{next_of}
 use Rattle.rina_schedule.specs.Line.{line_at}
 
 unfoldable pub is_built_word : List ℕ → Bool
-is_built_word word = bytes_eq word (codes "register") || bytes_eq word (codes "alloc") || bytes_eq word (codes "accept") || bytes_eq word (codes "send") || bytes_eq word (codes "read") || bytes_eq word (codes "tick") || bytes_eq word (codes "lose") || bytes_eq word (codes "repeat") || bytes_eq word (codes "hold") || bytes_eq word (codes "cut") || bytes_eq word (codes "mend") || bytes_eq word (codes "unregister") || bytes_eq word (codes "free") || bytes_eq word (codes "state") || bytes_eq word (codes "journal") || bytes_eq word (codes "retire") || bytes_eq word (codes "in") || bytes_eq word (codes "out") || bytes_eq word (codes "clock") || bytes_eq word (codes "round") || bytes_eq word (codes "ledger") || bytes_eq word (codes "rib") || bytes_eq word (codes "cdap")
+is_built_word word = bytes_eq word (codes "register") || bytes_eq word (codes "alloc") || bytes_eq word (codes "accept") || bytes_eq word (codes "send") || bytes_eq word (codes "read") || bytes_eq word (codes "tick") || bytes_eq word (codes "lose") || bytes_eq word (codes "repeat") || bytes_eq word (codes "hold") || bytes_eq word (codes "cut") || bytes_eq word (codes "mend") || bytes_eq word (codes "unregister") || bytes_eq word (codes "free") || bytes_eq word (codes "state") || bytes_eq word (codes "journal") || bytes_eq word (codes "retire") || bytes_eq word (codes "in") || bytes_eq word (codes "out") || bytes_eq word (codes "clock") || bytes_eq word (codes "round") || bytes_eq word (codes "ledger") || bytes_eq word (codes "rib") || bytes_eq word (codes "cdap") || bytes_eq word (codes "publish") || bytes_eq word (codes "member")
 
 abbrev pub is_built : Event → Bool
 is_built (events.Register fac node app) = true
@@ -36,6 +36,8 @@ is_built events.Round = true
 is_built (events.Ledger dif node) = true
 is_built (events.Rib dif node path) = true
 is_built (events.Cdap dif node bytes) = true
+is_built (events.Publish dif node fac) = true
+is_built (events.Member dif node) = true
 is_built _ = false
 
 -- the word is on a wire, or on an IPC process of a DIF
@@ -48,6 +50,8 @@ is_below (events.Mend wire) = true
 is_below (events.In dif node link) = true
 is_below (events.Clock dif node) = true
 is_below (events.Cdap dif node bytes) = true
+is_below (events.Publish dif node fac) = true
+is_below (events.Member dif node) = true
 is_below _ = false
 
 -- the word says one thing, and asks no policy

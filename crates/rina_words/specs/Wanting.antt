@@ -1,5 +1,5 @@
 -- Where a word that says one thing may want memory: where it copies names, and where a call of the tower does.
-use Rattle.std.specs.Prelude.{◌≡◌, ◌≢◌, ℕ, ◌⊎◌, Bool, true, List, Option, Some, None, Result, Ok, Err}
+use Rattle.std.specs.Prelude.{◌≡◌, ◌≢◌, ℕ, ◌⊎◌, Bool, true, List, Option, Some, None, IsSome, Result, Ok, Err}
 use Rattle.rina_base.specs.declared.number.Port.{Port}
 use Rattle.rina_data.specs.declared.step.ClockStep.{ClockStep}
 use Rattle.rina_data.specs.declared.step.InStep.{InStep}
@@ -17,9 +17,9 @@ use Rattle.rina_tower.specs.Steps.{ClocksAt, InSteps, OutSteps}
 use Rattle.rina_notes.specs.declared.site.Site.{Site}
 use Rattle.rina_notes.specs.Copying.{copies_app, copies_clock, copies_drawn, copies_in, copies_out, copies_send}
 use Rattle.rina_notes.specs.Look.{state_at}
-use Rattle.rina_notes.specs.Sites.{dif_site_at, label_in, port_in, site_at}
+use Rattle.rina_notes.specs.Sites.{dif_site_at, fac_named, label_in, port_in, site_at}
 use Rattle.rina_words.specs.declared.run.Run.{Run}
-use Rattle.rina_words.specs.Step.{Stage, link_of, wire_of}
+use Rattle.rina_words.specs.Step.{Stage, link_of, number_below, wire_of}
 
 -- an allocation of the tower has failed
 abbrev pub HasFailed : Run → Type 0
@@ -77,4 +77,5 @@ Wants plan (events.Repeat wire frame at) w w' = WantsOnWire (wire_of plan wire) 
 Wants plan (events.In dif node link) w w' = WantsAt (dif_site_at plan dif node) (WantsToTakeIn plan link w w')
 Wants plan (events.Clock dif node) w w' = WantsAt (dif_site_at plan dif node) (WantsToClock plan w w')
 Wants plan (events.Cdap dif node bytes) w w' = WantsAt (dif_site_at plan dif node) (λ site. HasFailed w')
+Wants plan (events.Publish dif node fac) w w' = WantsAt (dif_site_at plan dif node) (λ site. IsSome (number_below site.rank (fac_named plan fac)) × HasFailed w')
 Wants plan event w w' = ⊥

@@ -34,6 +34,8 @@ fn word_is_built(word: &[u8]) -> bool
         || word == b"ledger".as_slice()
         || word == b"rib".as_slice()
         || word == b"cdap".as_slice()
+        || word == b"publish".as_slice()
+        || word == b"member".as_slice()
 }
 
 fn event_is_built(event: &Event) -> bool
@@ -64,6 +66,8 @@ fn event_is_built(event: &Event) -> bool
             | Event::Ledger { .. }
             | Event::Rib { .. }
             | Event::Cdap { .. }
+            | Event::Publish { .. }
+            | Event::Member { .. }
     )
 }
 

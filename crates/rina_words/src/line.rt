@@ -13,6 +13,7 @@ use crate::dif::{clock, in_step};
 use crate::flow::{FlowRequest, accept, allocate, register, send};
 use crate::journal::journal;
 use crate::ledger::ledger;
+use crate::member::{member, publish};
 use crate::policy::retire;
 use crate::read::read;
 use crate::release::{free, state, unregister};
@@ -123,6 +124,8 @@ fn answer_below(line: &Line<'_>, run: &mut Run, event: &Event) -> Result<Option<
         Event::In { dif, node, link } => in_step(line, run, dif, node, *link),
         Event::Clock { dif, node } => clock(line, run, dif, node),
         Event::Cdap { dif, node, bytes } => cdap(line, run, dif, node, bytes),
+        Event::Publish { dif, node, fac } => publish(line, run, dif, node, fac),
+        Event::Member { dif, node } => Ok(member(line.plan, run, dif, node)),
         _ => unreachable!(),
     }
 }

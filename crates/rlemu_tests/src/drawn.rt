@@ -4,7 +4,7 @@ use bstr::ByteSlice;
 use rina_gen::make;
 use rina_run::Status;
 use rina_schedule::read_line;
-use rina_stack::{BuiltIn, read_runnable};
+use rina_stack::{BuiltIn, read_stack};
 use std::alloc::Global;
 use std::test::Fail;
 
@@ -24,7 +24,7 @@ fn is_read(alloc: Global, text: &[u8]) -> bool {
     let Some((stack, schedule)) = text.split_once_str(b"\n%%\n".as_slice()) else {
         return false;
     };
-    read_runnable(alloc, stack, &BuiltIn).is_ok() && all_read(alloc, schedule)
+    read_stack(alloc, stack, &BuiltIn).is_ok() && all_read(alloc, schedule)
 }
 
 #[test]

@@ -12,7 +12,7 @@ use rina_base::{Name, Port};
 use rina_iface::Facility;
 use rina_law::Entry;
 use rina_policy::{Picks, Shelf, Strict};
-use rina_stack::{Policies, read_runnable};
+use rina_stack::{Policies, read_stack};
 use rina_tower::Tower;
 use stack::STACK;
 use std::alloc::Global;
@@ -41,7 +41,7 @@ fn carry<P: Policies + Picks>(
     // What came was sent at the other end, with these bytes, as often, in such order and so soon as the flow's cube says.
     ensures { IfOk result (λ tower. AreKept (seen_of tower)) }
 {
-    let Ok(plan) = read_runnable(alloc, STACK.as_bytes(), policies) else {
+    let Ok(plan) = read_stack(alloc, STACK.as_bytes(), policies) else {
         return Err("the stack was not read");
     };
     let Ok(mut tower) = Tower::build(alloc, &plan) else {
