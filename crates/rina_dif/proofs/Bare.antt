@@ -33,7 +33,7 @@ use Rattle.rina_member.specs.Short.{AreNamed}
 use Rattle.rina_dif.specs.declared.dif.Dif.{Dif}
 use Rattle.rina_dif.specs.Building.{AreBare, IsBare, IsFree}
 use Rattle.rina_dif.specs.Holding.{AreHoused, Holds}
-use Rattle.rina_dif.specs.Managing.{AreManaged, AreStarted}
+use Rattle.rina_dif.specs.Managing.{AreEnrolled, AreManaged, AreStarted}
 use Rattle.rina_dif.specs.Shown.{seen_of}
 use Rattle.rina_dif.proofs.Causing.{none_caused}
 use Rattle.rina_dif.proofs.Started.{bare_managed}
@@ -108,8 +108,8 @@ none_drawn settings held ends widths undrawn = record {
 }
 
 -- and stands
-pub start_holds : (d : Dif) (below : Seen) → AreKept below → d.flows.journal.ends ≡ [] → d.flows.conns ≡ [] → IsStart (seen_of d) [] below → IsUntouched d below → AreMembers (config_of d.settings) → AreUndrawn d.settings.widths.cep (length d.settings.members) d.ids → AreHoused (config_of d.settings) d.processes → AreManaged d → AreConnected (config_of d.settings) d.clock d.connections (seen_of d).processes below → AreFlooding d → Holds d [] below
-start_holds d below kept ends conns s untouched members undrawn housed managed connected floods =
+pub start_holds : (d : Dif) (below : Seen) → AreKept below → d.flows.journal.ends ≡ [] → d.flows.conns ≡ [] → IsStart (seen_of d) [] below → IsUntouched d below → AreMembers (config_of d.settings) → AreUndrawn d.settings.widths.cep (length d.settings.members) d.ids → AreHoused (config_of d.settings) d.processes → AreManaged d → AreEnrolled d → AreConnected (config_of d.settings) d.clock d.connections (seen_of d).processes below → AreFlooding d → Holds d [] below
+start_holds d below kept ends conns s untouched members undrawn housed managed enrolled connected floods =
     let no_ends : length d.flows.journal.ends ≡ 0 = ap (λ (es : List End). length es) ends in
     let no_conns : length d.flows.conns ≡ 0 = ap (λ (ks : List Conn). length ks) conns in
     let clean : (i : ℕ) (process : Process) → slice_get (seen_of d).processes i ≡ Some process → process.ledger ≡ [] = λ i process is. (let p = map_at process_of d.processes i process is in ap (λ (z : Process). z.ledger) (sym p.2) ∙ untouched.clean i p.0 p.1) in
@@ -131,17 +131,18 @@ start_holds d below kept ends conns s untouched members undrawn housed managed c
       written_off = blank_written (seen_of d) clean;
       housed = housed;
       managed = managed;
+      enrolled = enrolled;
       connected = connected;
       flooded = λ alive. floods;
     }
 
 -- so does a DIF without links
-pub bare_holds : (d : Dif) (below : Seen) → AreKept below → d.flows.journal.ends ≡ [] → d.flows.conns ≡ [] → d.connections.channels ≡ [] → d.connections.flows.journal.ends ≡ [] → d.connections.flows.conns ≡ [] → d.laid.links ≡ [] → AreBare d.settings d.processes → (rules : List Rule) (allow : Bool) → AreStarted d.settings.cubes d.settings.members d.laid.links rules allow (length d.settings.members) d.processes d.managements → CanManage (config_of d.settings) d.connections.manage → AreMembers (config_of d.settings) → AreNamed d.settings.members → (AreWidths d.settings.widths → AreUndrawn d.settings.widths.cep (length d.settings.members) d.ids) → d.clock ≡ below.now → IsFree (config_of d.settings) below → AreFlooding d → Holds d [] below
-bare_holds d below kept ends conns channels link_ends link_conns laid bare rules allow started can members named undrawn clock free floods =
+pub bare_holds : (d : Dif) (below : Seen) → AreKept below → d.flows.journal.ends ≡ [] → d.flows.conns ≡ [] → d.connections.channels ≡ [] → d.connections.flows.journal.ends ≡ [] → d.connections.flows.conns ≡ [] → d.laid.links ≡ [] → AreBare d.settings d.processes → (rules : List Rule) (allow : Bool) → AreStarted d.laid.is_static d.settings.cubes d.settings.members d.laid.links rules allow (length d.settings.members) d.processes d.managements → CanManage (config_of d.settings) d.connections.manage → AreMembers (config_of d.settings) → AreNamed d.settings.members → (AreWidths d.settings.widths → AreUndrawn d.settings.widths.cep (length d.settings.members) d.ids) → d.clock ≡ below.now → IsFree (config_of d.settings) below → AreEnrolled d → AreFlooding d → Holds d [] below
+bare_holds d below kept ends conns channels link_ends link_conns laid bare rules allow started can members named undrawn clock free enrolled floods =
     let config : IsConfig (config_of d.settings) = can.managed.config in
     let start = starts d below ends conns config clock bare.aligned (λ i member link is has. absurd (no_link d.settings d.processes i link bare has)) (λ port end here mine. absurd (free port end here mine)) (λ port end here mine. absurd (free port end here (inl mine))) (λ i n item waits. no_item d.settings d.processes i n item bare waits) in
     let untouched : IsUntouched d below = record { unread = λ port e here mine. absurd (free port e here (inl mine)); clean = λ i p is. (bare.each i p is).ledger } in
-    start_holds d below kept ends conns start untouched members (undrawn config.widths) (λ i p is. (let b = bare.each i p is in record { cap = b.room; links = λ place qos link stands live known. absurd (none_in place link p.links b.links stands); queues = λ dst link qos hop known. absurd (no_hop dst link p.routes b.routes hop) })) (bare_managed d.settings d.laid.links rules allow d.clock d.processes d.managements laid bare config members named started)
+    start_holds d below kept ends conns start untouched members (undrawn config.widths) (λ i p is. (let b = bare.each i p is in record { cap = b.room; links = λ place qos link stands live known. absurd (none_in place link p.links b.links stands); queues = λ dst link qos hop known. absurd (no_hop dst link p.routes b.routes hop) })) (bare_managed d.laid.is_static d.settings d.laid.links rules allow d.clock d.processes d.managements laid bare config members named started) enrolled
     (none_connected (config_of d.settings) d.clock d.connections (seen_of d).processes below channels link_ends link_conns clock can (λ i n p x. no_link d.settings d.processes i x.link bare (record { process = x.process; is_process = x.is_process; place = x.place; stands = x.stands }))) floods
 
 -- One by one

@@ -163,7 +163,7 @@ holds_aside d lines below below' a h = record {
   caused = caused_on (seen_of d) (seen_of d) below below' (none_is (seen_of d) (seen_of d) refl) a.lower h.caused;
   written_off = h.written_off;
   housed = h.housed;
-  managed = h.managed;
+  managed = h.managed; enrolled = h.enrolled;
   connected = aside_connected (config_of d.settings) d.clock d.connections (seen_of d).processes below below' a.after a.goes a.clock h.connected;
   flooded = h.flooded;
 }
@@ -186,7 +186,7 @@ silent_refl d = record {
 -- nothing was done
 pub no_step : (d : Dif) (below : Seen) → Stands d below → IsStep d below d below
 no_step d below st = record {
-  goes_on = record { later = fac_refl d.clock d.clock (fac_of (seen_of d)); facility = facility (seen_of d) st.0 below st.1.standing; clock = refl };
+  goes_on = record { later = fac_refl d.clock d.clock (fac_of (seen_of d)); facility = facility (seen_of d) st.0 below st.1.standing; clock = refl; enrolled = refl };
   silent = silent_refl (seen_of d);
   others = λ other lines apart h. h;
 }
@@ -194,7 +194,7 @@ no_step d below st = record {
 -- whether an allocation failed is noted
 pub step_noted : (d : Dif) (below : Seen) (d' : Dif) (failed : Bool) (below' : Seen) → IsStep d below d' below' → IsStep d below (record d' { failed = failed }) below'
 step_noted d below d' failed below' s = record {
-  goes_on = record { later = s.goes_on.later; facility = s.goes_on.facility; clock = s.goes_on.clock };
+  goes_on = record { later = s.goes_on.later; facility = s.goes_on.facility; clock = s.goes_on.clock; enrolled = s.goes_on.enrolled };
   silent = s.silent;
   others = s.others;
 }
@@ -206,11 +206,11 @@ step_clock d refuses below i n (Err NoIpc) d' below' s = ap (λ (y : DifSeen). y
 step_clock d refuses below i n (Err NoLink) d' below' s = ap (λ (y : DifSeen). y.clock) s.new_is
 step_clock d refuses below i n (Err (CountSpent need left)) d' below' s = ap (λ (y : DifSeen). y.clock) s.new_is
 
-pub out_is_step : (refuses : Port → ℕ → Option SendError) (d : Dif) (below : Seen) (i n : ℕ) (r : Result OutStep StepError) (d' : Dif) (below' : Seen) → AreKept below → AreKept below' → Stands d below → Outs refuses (seen_of d) below i n r (seen_of d') below' → ((lines : List Direction) → Holds d lines below → Holds d' lines below') → IsStep d below d' below'
-out_is_step refuses d below i n r d' below' kept kept' st outs keeps =
+pub out_is_step : (refuses : Port → ℕ → Option SendError) (d : Dif) (below : Seen) (i n : ℕ) (r : Result OutStep StepError) (d' : Dif) (below' : Seen) → d'.enrolled ≡ d.enrolled → AreKept below → AreKept below' → Stands d below → Outs refuses (seen_of d) below i n r (seen_of d') below' → ((lines : List Direction) → Holds d lines below → Holds d' lines below') → IsStep d below d' below'
+out_is_step refuses d below i n r d' below' enrolled kept kept' st outs keeps =
     let silent = outs_silent refuses (seen_of d) below i n r (seen_of d') below' outs in
     record {
-      goes_on = record { later = silent.later; facility = facility (seen_of d') st.0 below' (keeps st.0 st.1).standing; clock = step_clock (seen_of d) refuses below i n r (seen_of d') below' outs };
+      goes_on = record { later = silent.later; facility = facility (seen_of d') st.0 below' (keeps st.0 st.1).standing; clock = step_clock (seen_of d) refuses below i n r (seen_of d') below' outs; enrolled = enrolled };
       silent = silent;
       others = λ other lines apart h. holds_aside other lines below below' (outs_aside refuses (seen_of other) (seen_of d) st.0 below i n r (seen_of d') below' kept kept' st.1.standing apart outs) h;
     }
@@ -220,12 +220,12 @@ silent_rerouted : (d mid d' : DifSeen) → MayReroute mid d' → IsSilent d mid 
 silent_rerouted d mid d' (inl same) s = subst (IsSilent d) (sym same) s
 silent_rerouted d mid d' (inr r) s = subst (IsSilent d) (sym r.is) (record { later = s.later; number = s.number; same = s.same })
 
-pub in_is_step : (d : Dif) (below : Seen) (i n : ℕ) (r : Result InStep StepError) (d' : Dif) (below' : Seen) → AreKept below → AreKept below' → (st : Stands d below) → TakesIn d st.0 below i n r d' below' → IsStep d below d' below'
-in_is_step d below i n r d' below' kept kept' st t =
+pub in_is_step : (d : Dif) (below : Seen) (i n : ℕ) (r : Result InStep StepError) (d' : Dif) (below' : Seen) → d'.enrolled ≡ d.enrolled → AreKept below → AreKept below' → (st : Stands d below) → TakesIn d st.0 below i n r d' below' → IsStep d below d' below'
+in_is_step d below i n r d' below' enrolled kept kept' st t =
     let clock = ins_clock (seen_of d) st.0 below i n r (seen_of t.taken) t.lines' below' t.does in
     let silent = silent_rerouted (seen_of d) (seen_of t.taken) (seen_of d') t.rerouted (ins_silent (seen_of d) st.0 below i n r (seen_of t.taken) t.lines' below' st.1.standing t.does) in
     record {
-      goes_on = record { later = silent.later; facility = facility (seen_of d') t.lines' below' t.holds.standing; clock = t.holds.standing.clock ∙ clock ∙ sym st.1.standing.clock };
+      goes_on = record { later = silent.later; facility = facility (seen_of d') t.lines' below' t.holds.standing; clock = t.holds.standing.clock ∙ clock ∙ sym st.1.standing.clock; enrolled = enrolled };
       silent = silent;
       others = λ other lines apart h. holds_aside other lines below below' (ins_aside (seen_of other) (seen_of d) st.0 below i n r (seen_of t.taken) t.lines' below' kept kept' st.1.standing apart t.does) h;
     }
@@ -301,19 +301,19 @@ steps_over d lines below node (step.LinkNew link) d' lines' below' links kept ke
 steps_over d lines below node (step.Timeout port) d' lines' below' links kept kept' later s = any_over d lines below node (step.Timeout port) d' lines' below' links kept kept' later s.1
 steps_over d lines below node (step.Message link) d' lines' below' links kept kept' later s = any_over d lines below node (step.Message link) d' lines' below' links kept kept' later s.1
 
-clock_on : (d : Dif) (below : Seen) (d' : Dif) (lines' : List Direction) (below' : Seen) → Stands d below → IsSilent (seen_of d) (seen_of d') → Holds d' lines' below' → IsOver below below' → IsStep d below d' below'
-clock_on d below d' lines' below' st silent h over = record {
-  goes_on = record { later = silent.later; facility = facility (seen_of d') lines' below' h.standing; clock = h.standing.clock ∙ over.clock ∙ sym st.1.standing.clock };
+clock_on : (d : Dif) (below : Seen) (d' : Dif) (lines' : List Direction) (below' : Seen) → d'.enrolled ≡ d.enrolled → Stands d below → IsSilent (seen_of d) (seen_of d') → Holds d' lines' below' → IsOver below below' → IsStep d below d' below'
+clock_on d below d' lines' below' enrolled st silent h over = record {
+  goes_on = record { later = silent.later; facility = facility (seen_of d') lines' below' h.standing; clock = h.standing.clock ∙ over.clock ∙ sym st.1.standing.clock; enrolled = enrolled };
   silent = silent;
   others = λ other lines apart x. over.stands other lines x;
 }
 
-pub clock_is_step : (d : Dif) (below : Seen) (node : ℕ) (r : Result ClockStep StepError) (d' : Dif) (below' : Seen) → AreKept below → AreKept below' → IsLater below below' → (st : Stands d below) → StepsHere d st.0 below node r d' below' → IsStep d below d' below'
-clock_is_step d below node (Ok done) d' below' kept kept' later st s = clock_on d below d' s.0.lines' below' st (steps_silent d st.0 below node done d' s.0.lines' below' s.0.does) s.0.holds (steps_over d st.0 below node done d' s.0.lines' below' st.1.connected kept kept' later s.0.does)
-clock_is_step d below node (Err Memory) d' below' kept kept' later st s = clock_on d below d' st.0 below' st (subst (IsSilent (seen_of d)) (sym s.0.0) (silent_refl (seen_of d))) s.0.1 (over_same below below' s.1)
-clock_is_step d below node (Err NoIpc) d' below' kept kept' later st s = absurd s.0
-clock_is_step d below node (Err NoLink) d' below' kept kept' later st s = absurd s.0
-clock_is_step d below node (Err (CountSpent need left)) d' below' kept kept' later st s = clock_on d below d' st.0 below' st (subst (IsSilent (seen_of d)) (sym s.1) (silent_refl (seen_of d))) s.2 (over_same below below' s.3)
+pub clock_is_step : (d : Dif) (below : Seen) (node : ℕ) (r : Result ClockStep StepError) (d' : Dif) (below' : Seen) → d'.enrolled ≡ d.enrolled → AreKept below → AreKept below' → IsLater below below' → (st : Stands d below) → StepsHere d st.0 below node r d' below' → IsStep d below d' below'
+clock_is_step d below node (Ok done) d' below' enrolled kept kept' later st s = clock_on d below d' s.0.lines' below' enrolled st (steps_silent d st.0 below node done d' s.0.lines' below' s.0.does) s.0.holds (steps_over d st.0 below node done d' s.0.lines' below' st.1.connected kept kept' later s.0.does)
+clock_is_step d below node (Err Memory) d' below' enrolled kept kept' later st s = clock_on d below d' st.0 below' enrolled st (subst (IsSilent (seen_of d)) (sym s.0.0) (silent_refl (seen_of d))) s.0.1 (over_same below below' s.1)
+clock_is_step d below node (Err NoIpc) d' below' enrolled kept kept' later st s = absurd s.0
+clock_is_step d below node (Err NoLink) d' below' enrolled kept kept' later st s = absurd s.0
+clock_is_step d below node (Err (CountSpent need left)) d' below' enrolled kept kept' later st s = clock_on d below d' st.0 below' enrolled st (subst (IsSilent (seen_of d)) (sym s.1) (silent_refl (seen_of d))) s.2 (over_same below below' s.3)
 
 -- a DIF that stands is one at every moment
 pub stands_whole : (d : Dif) (below : Seen) → below.now ≤ 10000000 → Stands d below → IsDif d

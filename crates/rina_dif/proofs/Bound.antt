@@ -55,6 +55,8 @@ use Rattle.rina_dif.specs.Facade.{GoesOn, IsShownAs, StaysStanding, shown_as}
 use Rattle.rina_dif.specs.Holding.{Holds, Stands}
 use Rattle.rina_dif.specs.Shown.{seen_of}
 use Rattle.rina_dif.specs.Whole.{IsDif}
+use Rattle.rina_dif.proofs.Enrolled.{member_there}
+use Rattle.rina_dif.proofs.Refused.{members_there}
 use Rattle.rina_dif.proofs.Causing.{bound_caused}
 use Rattle.rina_dif.proofs.Facing.{same_goes_on, unchanged}
 
@@ -222,7 +224,7 @@ module _ (d : Dif) (fixed : Fixed) (may : MayBind d fixed) (near other : NextEnd
           caused = bound_caused seen lines below fixed (seen_of d') lines' h.standing bound h.caused;
           written_off = bound_written seen lines fixed (seen_of d') lines' h.written_off bound;
           housed = h.housed;
-          managed = h.managed;
+          managed = h.managed; enrolled = h.enrolled;
           connected = h.connected;
           flooded = h.flooded;
         };
@@ -265,12 +267,14 @@ cube_there (Some cube) c h = (cube, refl)
 fac_same : (o : Option Fac) (a b : Fac) → o ≡ Some a → o ≡ Some b → a ≡ b
 fac_same o a b x y = cc
 
-pub may_bind : (d : Dif) (fixed : Fixed) (s : Seen) → d.settings.fac ≡ fixed.fac → IsShownAs s fixed.fac d → CanBind s fixed → MayBind d fixed
-may_bind d fixed s fac shows can =
+pub may_bind : (d : Dif) (fixed : Fixed) (s : Seen) → IsDif d → d.settings.fac ≡ fixed.fac → IsShownAs s fixed.fac d → CanBind s fixed → MayBind d fixed
+may_bind d fixed s is fac shows can =
     let f : can.facility ≡ fac_of (seen_of d) = fac_same (slice_get s.facs fixed.fac) can.facility (fac_of (seen_of d)) can.stands shows.here in
     let ms = (config_of d.settings).members in
-    let a = has_member fixed.a ms (subst (λ (z : Fac). is_member z.members fixed.a ≡ true) f can.a_in) in
-    let b = has_member fixed.b ms (subst (λ (z : Fac). is_member z.members fixed.b ≡ true) f can.b_in) in
+    let a_in : is_member d.enrolled fixed.a ≡ true = subst (λ (z : Fac). is_member z.members fixed.a ≡ true) f can.a_in in
+    let b_in : is_member d.enrolled fixed.b ≡ true = subst (λ (z : Fac). is_member z.members fixed.b ≡ true) f can.b_in in
+    let a = has_member fixed.a ms (sym (members_there fixed.a d.settings.members) ∙ member_there d is.stands.0 is.below is.stands.1 fixed.a a_in) in
+    let b = has_member fixed.b ms (sym (members_there fixed.b d.settings.members) ∙ member_there d is.stands.0 is.below is.stands.1 fixed.b b_in) in
     let offer : cube_in (map offer_of d.settings.cubes) fixed.cube ≡ Some can.cube = subst (λ (z : Fac). cube_in z.cubes fixed.cube ≡ Some can.cube) f can.offer in
     let cube = cube_there (cube_by fixed.cube d.settings.cubes) can.cube (sym (offered_by fixed.cube d.settings.cubes) ∙ offer) in
     record {
@@ -280,8 +284,8 @@ may_bind d fixed s fac shows can =
       is_cube = cube.1;
       of_a = a.1;
       of_b = b.1;
-      at_a = record { place = a.0; at_home = a.2; stands = a.3; room = subst (λ (z : Fac). drawn_at fixed.a z.ends < z.admits) f can.a_room };
-      at_b = record { place = b.0; at_home = b.2; stands = b.3; room = subst (λ (z : Fac). drawn_at fixed.b z.ends < z.admits) f can.b_room };
+      at_a = record { place = a.0; at_home = a.2; stands = a.3; enrolled = a_in; room = subst (λ (z : Fac). drawn_at fixed.a z.ends < z.admits) f can.a_room };
+      at_b = record { place = b.0; at_home = b.2; stands = b.3; enrolled = b_in; room = subst (λ (z : Fac). drawn_at fixed.b z.ends < z.admits) f can.b_room };
     }
 
 -- What the rank shows
@@ -316,6 +320,7 @@ binds_go_on d fixed r d' is does = go r (does is.stands.0 is.below is.stands.1)
       later = bound_later (seen_of d) is.stands.0 fixed (seen_of d') x.lines' x.bound;
       facility = facility (seen_of d') x.lines' is.below x.holds.standing;
       clock = ap (λ (y : DifSeen). y.clock) x.bound.new_is;
+      enrolled = ap (λ (y : DifSeen). y.enrolled) x.bound.new_is;
     }
     go (Err Memory) x = same_goes_on d d' is x.0
     go (Err e) x = absurd x
@@ -338,7 +343,7 @@ pub binds_noted : (d : Dif) (lines : List Direction) (below : Seen) (fixed : Fix
 binds_noted d lines below fixed (Ok ports) d' failed alive wants x = record { lines' = x.lines'; bound = x.bound; a_port = x.a_port; b_port = x.b_port; holds = still x.lines' x.holds }
   where
     still : (ls : List Direction) → Holds d' ls below → Holds (record d' { failed = failed }) ls below
-    still ls h = record { tied = h.tied; standing = h.standing; carrying = h.carrying; numbered = h.numbered; accounted = h.accounted; caused = h.caused; written_off = h.written_off; housed = h.housed; managed = h.managed; connected = h.connected; flooded = λ same. h.flooded alive }
+    still ls h = record { tied = h.tied; standing = h.standing; carrying = h.carrying; numbered = h.numbered; accounted = h.accounted; caused = h.caused; written_off = h.written_off; housed = h.housed; managed = h.managed; enrolled = h.enrolled; connected = h.connected; flooded = λ same. h.flooded alive }
 binds_noted d lines below fixed (Err Memory) d' failed alive wants x = subst (λ (b : Bool). BindsTo d lines below fixed (Err Memory) (record d' { failed = b })) (sym (wants refl)) x
 binds_noted d lines below fixed (Err e) d' failed alive wants x = absurd x
 

@@ -92,7 +92,7 @@ holds_claimed d waiting lines below h = (let st = h.standing in record {
   caused = h.caused;
   written_off = λ i m p off is. h.written_off i m p off (record { is_member = is.is_member; is_process = is.is_process });
   housed = h.housed;
-  managed = h.managed;
+  managed = h.managed; enrolled = h.enrolled;
   connected = h.connected;
   flooded = h.flooded;
 })
@@ -108,6 +108,7 @@ claimed_goes_on d waiting is = (let f = fac_refl d.clock d.clock (fac_of (seen_o
   later = record { ends = f.ends; cubes = f.cubes };
   facility = facility (seen_of (with_waiting d waiting)) is.stands.0 is.below (holds_claimed d waiting is.stands.0 is.below is.stands.1).standing;
   clock = refl;
+  enrolled = refl;
 })
 
 pub claims_none : (s : Seen) (n : ℕ) (d : Dif) (node : ℕ) (app : List ℕ) → oldest_in d.flows.journal.ends d.waiting.items node app ≡ None → IsShownAs s n d → Claims s n node app None (shown_as s n d)

@@ -8,6 +8,7 @@ use Rattle.rina_iface.specs.declared.ask.Fixed.{Fixed}
 use Rattle.rina_iface.specs.declared.error.AllocateError.{AllocateError}
 use Rattle.rina_iface.proofs.Changed.{set_at}
 use Rattle.rina_agent.specs.declared.agent.Agent.{Agent}
+use Rattle.rina_agent.specs.declared.state.MemberState.TheVariants.{Enrolled}
 use Rattle.rina_plan.specs.declared.dif.LinkPlan.{LinkPlan}
 use Rattle.rina_data.specs.declared.process.IpcProcess.{IpcProcess}
 use Rattle.rina_data.specs.declared.settings.Member.{Member}
@@ -49,8 +50,8 @@ all_entered app address old new same = record {
 }
 
 -- each is managed as before
-pub managed_entered : (members : List Member) (plans : List LinkPlan) (now : ℕ) (ps : List IpcProcess) (old new : List Management) (app : List ℕ) (address : ℕ) → app_at app ≡ Ok app → address < 2 ^ 32 → AreManagedBy members plans now ps old → MayHaveEntered app address old new → AreManagedBy members plans now ps new
-managed_entered members plans now ps old new app address name small h may = record {
+pub managed_entered : (members : List Member) (plans : List LinkPlan) (now : ℕ) (ps : List IpcProcess) (old new : List Management) (app : List ℕ) (address : ℕ) → app_at app ≡ Ok app → address < 2 ^ 32 → ((k : ℕ) (g : Management) → slice_get old k ≡ Some g → g.agent.state ≡ Enrolled) → AreManagedBy members plans now ps old → MayHaveEntered app address old new → AreManagedBy members plans now ps new
+managed_entered members plans now ps old new app address name small enrolled h may = record {
   laid_out = h.laid_out;
   aligned = may.aligned ∙ h.aligned;
   each = λ k m p g is_m is_p is_g.
@@ -63,7 +64,7 @@ managed_entered members plans now ps old new app address name small h may = reco
       } in
       elim (may.each k was.0 g was.1 is_g) [
         | inl same ↦ managed was.0.agent (sym same) one.knows one.routes one.tells
-        | inr took ↦ managed (takes_item was.0.agent (entry_of app address)) (sym took) (enters_knowing members plans now m p.links was.0.agent app address one.knows) (enters_routed members plans now m p.links was.0.agent p.routes app address one.knows one.routes) (enters_near app address was.0.agent name small one.tells)
+        | inr took ↦ managed (takes_item was.0.agent (entry_of app address)) (sym took) (enters_knowing members plans now m p.links was.0.agent app address (enrolled k was.0 was.1) one.knows) (enters_routed members plans now m p.links was.0.agent p.routes app address one.knows one.routes) (enters_near app address was.0.agent name small one.tells)
       ];
 }
 

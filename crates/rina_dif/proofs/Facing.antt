@@ -204,6 +204,7 @@ pub same_goes_on : (d d' : Dif) → IsDif d → seen_of d' ≡ seen_of d → Goe
 same_goes_on d d' is same = record {
   later = subst (λ (x : DifSeen). IsLaterFac d.clock x.clock (fac_of (seen_of d)) (fac_of x)) (sym same) (fac_refl d.clock d.clock (fac_of (seen_of d)));
   facility = subst IsFacility (sym same) (facility (seen_of d) is.stands.0 is.below is.stands.1.standing);
+  enrolled = ap (λ (z : DifSeen). z.enrolled) same;
   clock = ap (λ (x : DifSeen). x.clock) same;
 }
 
@@ -231,8 +232,8 @@ sends_stay d port sdu r d' does below st = go (place_in port d.flows.journal.end
     go None (Err errors.Memory) x = (st.0, x.1)
     go None r x = (st.0, x.2)
 
-pub sends_go_on : (d : Dif) (port : Port) (sdu : List ℕ) (r : Result Num SendError) (d' : Dif) → IsDif d → ((lines : List Direction) (below : Seen) → Holds d lines below → SendsAt (place_in port d.flows.journal.ends) d lines below sdu r d') → GoesOn d d'
-sends_go_on d port sdu r d' is does = go (place_in port d.flows.journal.ends) (does is.stands.0 is.below is.stands.1)
+pub sends_go_on : (d : Dif) (port : Port) (sdu : List ℕ) (r : Result Num SendError) (d' : Dif) → IsDif d → ((lines : List Direction) (below : Seen) → Holds d lines below → SendsAt (place_in port d.flows.journal.ends) d lines below sdu r d') → d'.enrolled ≡ d.enrolled → GoesOn d d'
+sends_go_on d port sdu r d' is does enrolled = go (place_in port d.flows.journal.ends) (does is.stands.0 is.below is.stands.1)
   where
     go : (o : Option ℕ) → SendsAt o d is.stands.0 is.below sdu r d' → GoesOn d d'
     go None x = same_goes_on d d' is (nowhere_same d is.stands.0 is.below r d' x)
@@ -240,6 +241,7 @@ sends_go_on d port sdu r d' is does = go (place_in port d.flows.journal.ends) (d
       later = offers_later (seen_of d) is.stands.0 is.below at x.parts r (seen_of d') x.lines' is.stands.1.standing x.offers;
       facility = facility (seen_of d') x.lines' is.below x.holds.standing;
       clock = clock_sent (seen_of d) is.stands.0 at x.parts r (seen_of d') x.lines' x.offers;
+      enrolled = enrolled;
     }
 
 -- An SDU is passed
@@ -279,6 +281,7 @@ passed_goes_on d at d' is does =
       later = passed_later (seen_of d) is.stands.0 at (seen_of d') x.lines' x.passed;
       facility = facility (seen_of d') x.lines' is.below x.holds.standing;
       clock = ap (λ (y : DifSeen). y.clock) x.passed.new_is;
+      enrolled = ap (λ (y : DifSeen). y.enrolled) x.passed.new_is;
     }
 
 -- A port that was never drawn

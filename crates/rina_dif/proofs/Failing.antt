@@ -199,7 +199,7 @@ not_home o P Q is q = subst (λ (z : Option ℕ). AtHome z P Q) (sym is) q
 
 -- whether an allocation failed is not seen
 pub noted : (d : Dif) (lines : List Direction) (below : Seen) (failed : Bool) → d.failed ≡ false → Holds d lines below → Holds (record d { failed = failed }) lines below
-noted d lines below failed alive h = record { tied = h.tied; standing = h.standing; carrying = h.carrying; numbered = h.numbered; accounted = h.accounted; caused = h.caused; written_off = h.written_off; housed = h.housed; managed = h.managed; connected = h.connected; flooded = λ still. h.flooded alive }
+noted d lines below failed alive h = record { tied = h.tied; standing = h.standing; carrying = h.carrying; numbered = h.numbered; accounted = h.accounted; caused = h.caused; written_off = h.written_off; housed = h.housed; managed = h.managed; enrolled = h.enrolled; connected = h.connected; flooded = λ still. h.flooded alive }
 
 -- so for a step
 lost_noted : (d : Dif) (lines : List Direction) (below : Seen) (node number : ℕ) (d' : Dif) (failed : Bool) → StepsLost d lines below node number d' → StepsLost d lines below node number (record d' { failed = failed })

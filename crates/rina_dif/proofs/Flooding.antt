@@ -61,12 +61,12 @@ use Rattle.rina_dif.proofs.Bare.{map_at}
 -- The clock goes on
 
 pub time_floods : (d : Dif) (now : ℕ) → d.clock ≤ now → AreFlooding d → AreFlooding (record d { clock = now })
-time_floods d now le r = goes_on_run d.laid.links (members_seen d) (members_seen (record d { clock = now })) r (record { stays = record { members = refl; ends = refl }; now = le; agents = refl; sent = λ k. refl; got = λ k. refl })
+time_floods d now le r = goes_on_run d.laid.is_static d.laid.links (members_seen d) (members_seen (record d { clock = now })) r (record { stays = record { members = refl; ends = refl }; now = le; agents = refl; sent = λ k. refl; got = λ k. refl })
 
 -- Agents are the same
 
 pub same_agents : (d : Dif) (ms : List Management) → agents_of ms ≡ agents_of d.managements → AreFlooding d → AreFlooding (record d { managements = ms })
-same_agents d ms same r = subst (λ (gs : List Agent). IsRunOf d.laid.links (record (members_seen d) { agents = gs })) (sym same) r
+same_agents d ms same r = subst (λ (gs : List Agent). IsRunOf d.laid.is_static d.laid.links (record (members_seen d) { agents = gs })) (sym same) r
 
 -- The management connections take PDUs, or an end of them closes
 
@@ -94,7 +94,7 @@ set_said ends at e e' is sent got = record {
 pub said_floods : (d : Dif) (flows : Flows) → SameTexts d.connections.flows.journal.ends flows.journal.ends → AreFlooding d → AreFlooding (record d { connections = record d.connections { flows = flows } })
 said_floods d flows same r =
     let s = members_seen d in
-    let P : MembersSeen → Type 0 = λ z. IsRunOf d.laid.links z in
+    let P : MembersSeen → Type 0 = λ z. IsRunOf d.laid.is_static d.laid.links z in
     let is : members_seen (record d { connections = record d.connections { flows = flows } }) ≡ s = (λ i. record { members = s.members; agents = s.agents; now = s.now; ends = s.ends; sent = λ place. same.sent place i; got = λ place. same.got place i }) in
     subst P (sym is) r
 
@@ -186,12 +186,12 @@ lost_floods d at number m p g g' place link managed each is_m is_p is_g stands l
       sent = λ k. refl;
       got = λ k. refl;
     } in
-    loses_run d.laid.links (members_seen d) (members_seen new) r event
+    loses_run d.laid.is_static d.laid.links (members_seen d) (members_seen new) r event
 
 -- A directory entry is made
 
 pub made_floods : (d : Dif) (at : ℕ) (g g' : Management) (app : List ℕ) (value : Option (List ℕ)) → slice_get d.managements at ≡ Some g → spent 1 g.agent.last_count ≡ None → g'.agent ≡ made None g.agent d.clock (key_of app) value → AreFlooding d → AreFlooding (record d { managements = slice_set d.managements at g' })
-made_floods d at g g' app value is_g may makes r = makes_run d.laid.links (members_seen d) (members_seen (record d { managements = slice_set d.managements at g' })) r (record {
+made_floods d at g g' app value is_g may makes r = makes_run d.laid.is_static d.laid.links (members_seen d) (members_seen (record d { managements = slice_set d.managements at g' })) r (record {
   place = at;
   agent = g.agent;
   is_agent = slice_get-map (λ (z : Management). z.agent) d.managements at ∙ ap (option_map (λ (z : Management). z.agent)) is_g;
@@ -213,7 +213,7 @@ entered_all app address [] = refl
 entered_all app address (m ∷ ms) = ap (λ (gs : List Agent). takes_item m.agent (entry_of app address) ∷ gs) (entered_all app address ms)
 
 pub entered_floods : (d : Dif) (app : List ℕ) (far : Member) (ms : List Management) → Contains d.settings.members far → ((k : ℕ) (g : Management) → slice_get d.managements k ≡ Some g → g.agent.state ≡ Enrolled) → agents_of ms ≡ agents_of (map (entered app far.addr) d.managements) → AreFlooding d → AreFlooding (record d { managements = ms })
-entered_floods d app far ms among enrolled are r = takes_run d.laid.links (members_seen d) (members_seen (record d { managements = ms })) r (record {
+entered_floods d app far ms among enrolled are r = takes_run d.laid.is_static d.laid.links (members_seen d) (members_seen (record d { managements = ms })) r (record {
   app = app;
   at = far;
   among = among;

@@ -1,5 +1,5 @@
 -- The members of a DIF that was made are a network at its start, before anything is flooded.
-use Rattle.std.proofs.Common.{◌≡◌, ◌∙◌, ℕ, zero, suc, ◌≤◌, ◌<◌, Bool, List, [], length, map, slice_get, take, Option, Some, None, option_map, refl, sym, ap, subst, arith}
+use Rattle.std.proofs.Common.{◌≡◌, ◌∙◌, ℕ, zero, suc, ◌≤◌, ◌<◌, Bool, List, [], ◌∷◌, length, map, slice_get, take, Option, Some, None, option_map, refl, sym, ap, subst, arith}
 use Rattle.std.proofs.lemmas.List.{length-map}
 use Rattle.std.proofs.lemmas.Option.{slice_get-map, slice_get_within}
 use Rattle.rina_access.specs.declared.rules.Rule.{Rule}
@@ -26,8 +26,10 @@ use Rattle.rina_member.specs.Start.{started}
 use Rattle.rina_plan.specs.declared.dif.DifPlan.{DifPlan}
 use Rattle.rina_plan.specs.declared.dif.LinkPlan.{LinkPlan}
 use Rattle.rina_stack.specs.declared.plan.Plan.{Plan}
+use Rattle.rina_stack.specs.Plan.{IsPlan}
 use Rattle.rina_member.specs.Short.{AreNamed}
 use Rattle.rina_dif.specs.declared.dif.Dif.{Dif}
+use Rattle.rina_dif.specs.declared.layout.Layout.{Layout}
 use Rattle.rina_dif.specs.Building.{AreBare}
 use Rattle.rina_dif.specs.Connected.{AreConnected}
 use Rattle.rina_dif.specs.Flooding.{AreFlooding, handled_at, link_end, members_seen, offered_at, texts_of}
@@ -36,7 +38,7 @@ use Rattle.rina_dif.specs.Linking.{HaveConnections, IsChannelOf}
 use Rattle.rina_dif.specs.Managing.{AreStarted, agents_of}
 use Rattle.rina_dif.specs.Shown.{seen_of}
 use Rattle.rina_dif.proofs.Bare.{map_at}
-use Rattle.rina_dif.proofs.Started.{are_live, are_numbered, bare_managed, enough, length_from}
+use Rattle.rina_dif.proofs.Started.{are_live, are_numbered, bare_managed, enough, length_from, no_ports}
 
 -- Nothing was offered or handled
 
@@ -102,9 +104,15 @@ module _ (d : Dif) (manage : Cube) (ports laid_ports : List (Port × Port)) (bel
 
 -- The DIF of a plan
 
-plan_first : (plan : Plan) (dif : DifPlan) (d : Dif) (old new : Seen) (ports : List (Port × Port)) (linked : List IpcProcess) → AreLaid plan dif d.settings dif.links old new ports linked → AreStarted d.settings.cubes d.settings.members dif.links dif.rules dif.allow (length d.settings.members) linked d.managements
-    → AreFirst d.settings.members dif.links (agents_of d.managements)
-plan_first plan dif d old new ports linked laid so = record {
+-- without ports there are no ends
+no_ends : (channels : List Channel) → map (λ (x : Channel). x.port) channels ≡ [] → map link_end channels ≡ []
+no_ends [] none = refl
+no_ends (x ∷ channels) none = absurd cc
+
+
+plan_first : (plan : Plan) (i : ℕ) (dif : DifPlan) (d : Dif) (old new : Seen) (ports : List (Port × Port)) (linked : List IpcProcess) → IsPlan plan → slice_get plan.difs i ≡ Some dif → AreLaid plan dif d.settings dif.links old new ports linked → AreStarted dif.is_static d.settings.cubes d.settings.members dif.links dif.rules dif.allow (length d.settings.members) linked d.managements
+    → AreFirst dif.is_static d.settings.members dif.links (agents_of d.managements)
+plan_first plan i dif d old new ports linked sound at laid so = record {
   aligned = length-map d.managements (λ (g : Management). g.agent) ∙ so.aligned;
   each = λ k m a is_m is_a.
       let g = map_at (λ (z : Management). z.agent) d.managements k a is_a in
@@ -122,34 +130,37 @@ plan_first plan dif d old new ports linked laid so = record {
         numbered = are_numbered its;
         live = are_live its;
         enough = omega (arith, all, count);
-        is = sym g.2 ∙ one.is ∙ ap (started d.settings.members dif.links one.access m) up.links;
+        bare = λ dynamic. ap (λ (ps : List (Port × Port)). links_from 0 (ports_at m.node (ends_of ps))) (no_ports plan i dif ports old new sound at laid.bound dynamic);
+        is = sym g.2 ∙ one.is ∙ ap (started dif.is_static d.settings.members dif.links one.access m) up.links;
       };
 }
 
-pub plan_floods : StartIsRun → (plan : Plan) (dif : DifPlan) (d : Dif) (old new : Seen) (ports : List (Port × Port)) (linked : List IpcProcess) (manage : Cube) → IsLaidOut d.settings.members dif.links → AreLaid plan dif d.settings dif.links old new ports linked → AreLinkedUp d.settings (ends_of ports) d.processes
-    → AreStarted d.settings.cubes d.settings.members dif.links dif.rules dif.allow (length d.settings.members) linked d.managements → d.laid.links ≡ dif.links → HaveConnections d.settings manage ports d.processes d.connections → AreConnected (config_of d.settings) d.clock d.connections (seen_of d).processes new → AreFlooding d
-plan_floods start plan dif d old new ports linked manage out laid up so same have connected =
+pub plan_floods : StartIsRun → (plan : Plan) (i : ℕ) (dif : DifPlan) (d : Dif) (old new : Seen) (ports : List (Port × Port)) (linked : List IpcProcess) (manage : Cube) → IsPlan plan → slice_get plan.difs i ≡ Some dif → IsLaidOut d.settings.members dif.links → AreLaid plan dif d.settings dif.links old new ports linked → AreLinkedUp d.settings (ends_of ports) d.processes
+    → AreStarted dif.is_static d.settings.cubes d.settings.members dif.links dif.rules dif.allow (length d.settings.members) linked d.managements → d.laid ≡ record { is_static = dif.is_static; links = dif.links } → HaveConnections d.settings manage ports d.processes d.connections → AreConnected (config_of d.settings) d.clock d.connections (seen_of d).processes new → AreFlooding d
+plan_floods start plan i dif d old new ports linked manage sound at out laid up so same have connected =
     let all : AreEnds d.settings.members (map link_end d.connections.channels) = are_ends d manage ports ports new have connected up in
     let ends = d.connections.flows.journal.ends in
-    let run = start dif.links (members_seen d) (record {
+    let run = start dif.is_static dif.links (members_seen d) (record {
       laid_out = out;
-      first = plan_first plan dif d old new ports linked laid so;
+      bare = λ dynamic. no_ends d.connections.channels (have.ports_are ∙ ap ends_of (no_ports plan i dif ports old new sound at laid.bound dynamic));
+      first = plan_first plan i dif d old new ports linked sound at laid so;
       ends = all;
       sent = λ place. none_offered ends place (λ k e is. (have.unused k e is).sent);
       got = λ place. none_handled ends place (λ k e is. (have.unused k e is).got);
     }) in
-    subst (λ (plans : List LinkPlan). IsRunOf plans (members_seen d)) (sym same) run
+    subst (λ (l : Layout). IsRunOf l.is_static l.links (members_seen d)) (sym same) run
 
 -- A DIF without links
 
 none_in : {X : Type 0} (xs : List X) (i : ℕ) (x : X) → xs ≡ [] → slice_get xs i ≡ Some x → ⊥
 none_in xs i x e h = cc
 
-pub bare_floods : StartIsRun → (d : Dif) → d.connections.channels ≡ [] → d.connections.flows.journal.ends ≡ [] → d.laid.links ≡ [] → AreBare d.settings d.processes → (rules : List Rule) (allow : Bool) → AreStarted d.settings.cubes d.settings.members d.laid.links rules allow (length d.settings.members) d.processes d.managements → IsConfig (config_of d.settings) → AreMembers (config_of d.settings) → AreNamed d.settings.members → AreFlooding d
+pub bare_floods : StartIsRun → (d : Dif) → d.connections.channels ≡ [] → d.connections.flows.journal.ends ≡ [] → d.laid.links ≡ [] → AreBare d.settings d.processes → (rules : List Rule) (allow : Bool) → AreStarted d.laid.is_static d.settings.cubes d.settings.members d.laid.links rules allow (length d.settings.members) d.processes d.managements → IsConfig (config_of d.settings) → AreMembers (config_of d.settings) → AreNamed d.settings.members → AreFlooding d
 bare_floods start d channels ends none bare rules allow so config members named =
-    let managed = bare_managed d.settings d.laid.links rules allow d.clock d.processes d.managements none bare config members named so in
-    start d.laid.links (members_seen d) (record {
+    let managed = bare_managed d.laid.is_static d.settings d.laid.links rules allow d.clock d.processes d.managements none bare config members named so in
+    start d.laid.is_static d.laid.links (members_seen d) (record {
       laid_out = managed.laid_out;
+      bare = λ dynamic. ap (map link_end) channels;
       first = record {
         aligned = length-map d.managements (λ (g : Management). g.agent) ∙ so.aligned;
         each = λ k m a is_m is_a.
@@ -165,7 +176,8 @@ bare_floods start d channels ends none bare rules allow so config members named 
               numbered = λ j link is. absurd (none_in [] j link refl is);
               live = λ j link is. absurd (none_in [] j link refl is);
               enough = subst (λ (plans : List LinkPlan). length (edges_from d.settings.members m.node plans) ≤ 0) (sym none) (omega arith);
-              is = sym g.2 ∙ one.is ∙ ap (started d.settings.members d.laid.links one.access m) links;
+              bare = λ dynamic. refl;
+              is = sym g.2 ∙ one.is ∙ ap (started d.laid.is_static d.settings.members d.laid.links one.access m) links;
             };
       };
       ends = record {

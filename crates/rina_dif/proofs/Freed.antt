@@ -111,7 +111,7 @@ closes d i at end (Ok done) flows ps lt here is allocated stops rest held rests 
         caused = closed_caused (seen_of d) lines below at (seen_of d') ended h.caused;
         written_off = ended_written (seen_of d) lines below at Closed (seen_of d') h.standing h.numbered h.written_off ended;
         housed = house.housed;
-        managed = house.managed;
+        managed = house.managed; enrolled = h.enrolled;
         connected = kept_by (config_of d.settings) d.clock d.connections (seen_of d).processes (seen_of d').processes below (λ may. ending_leaves (seen_of d) lines at Closed (seen_of d') ended) h.connected;
         flooded = h.flooded;
       };
@@ -267,7 +267,7 @@ module _ (d : Dif) (at : ℕ) (end : End) (flows : Flows) (held : List CepIds) (
     caused = subst (λ (z : DifSeen). AreCaused z below) (sym freed_seen) caused;
     written_off = subst AreWrittenOff (sym freed_seen) (λ i m p off it stands. h.written_off i m p off (record { is_member = it.is_member; is_process = it.is_process }) stands);
     housed = h.housed;
-    managed = h.managed;
+    managed = h.managed; enrolled = h.enrolled;
     connected = h.connected;
     flooded = h.flooded;
   }
@@ -318,7 +318,7 @@ withdraws_waiting d i at end flows rest held is waits here conns ends rests gave
 
 -- that an allocation failed is noted
 holds_noted : (d : Dif) (lines : List Direction) (below : Seen) → Holds d lines below → Holds (record d { failed = true }) lines below
-holds_noted d lines below h = record { tied = h.tied; standing = h.standing; carrying = h.carrying; numbered = h.numbered; accounted = h.accounted; caused = h.caused; written_off = h.written_off; housed = h.housed; managed = h.managed; connected = h.connected; flooded = λ alive. absurd (false≢true (sym alive)) }
+holds_noted d lines below h = record { tied = h.tied; standing = h.standing; carrying = h.carrying; numbered = h.numbered; accounted = h.accounted; caused = h.caused; written_off = h.written_off; housed = h.housed; managed = h.managed; enrolled = h.enrolled; connected = h.connected; flooded = λ alive. absurd (false≢true (sym alive)) }
 
 -- what `free` does, whatever it stands on
 abbrev pub FreesFor : Dif → Port → Result (Unit {0}) FreeError → Dif → Type 0
@@ -408,10 +408,10 @@ freed_whole d port r d' is does =
 pub freed_stays : (d : Dif) (port : Port) (r : Result (Unit {0}) FreeError) (d' : Dif) → FreesFor d port r d' → StaysStanding d d'
 freed_stays d port r d' does below st = (st.0, (left_at (place_in port d.flows.journal.ends) d st.0 below r d' (does st.0 below st.1)).holds)
 
-pub freed_goes_on : (d : Dif) (port : Port) (r : Result (Unit {0}) FreeError) (d' : Dif) → IsDif d → FreesFor d port r d' → GoesOn d d'
-freed_goes_on d port r d' is does =
+pub freed_goes_on : (d : Dif) (port : Port) (r : Result (Unit {0}) FreeError) (d' : Dif) → IsDif d → FreesFor d port r d' → d'.enrolled ≡ d.enrolled → GoesOn d d'
+freed_goes_on d port r d' is does enrolled =
     let x = left_at (place_in port d.flows.journal.ends) d is.stands.0 is.below r d' (does is.stands.0 is.below is.stands.1) in
-    record { later = x.later; facility = facility (seen_of d') is.stands.0 is.below x.holds.standing; clock = x.clock }
+    record { later = x.later; facility = facility (seen_of d') is.stands.0 is.below x.holds.standing; clock = x.clock; enrolled = enrolled }
 
 none_freed : (s : Seen) (d : Dif) (port : Port) → IsShownAs s port.fac d → place_in port d.flows.journal.ends ≡ None → free.refused s port ≡ Some errors.NoPort
 none_freed s d port h none = rw (h.here, none) refl

@@ -156,7 +156,7 @@ module _ (d : Dif) (i place number : ℕ) (here : IsLinkEnd d i place number) (g
   pub agent_at : slice_get (agents_of d.managements) i ≡ Some g.agent
   agent_at = slice_get-map (λ (z : Management). z.agent) d.managements i ∙ ap (option_map (λ (z : Management). z.agent)) is_g
 
-  module _ (n : ℕ) (m m' : Management) (entry : Entry) (is : slice_get end.got n ≡ Some entry) (one : HandlesOne d.clock number entry.bytes m m') (r : IsRunOf d.laid.links (turn n m)) where
+  module _ (n : ℕ) (m m' : Management) (entry : Entry) (is : slice_get end.got n ≡ Some entry) (one : HandlesOne d.clock number entry.bytes m m') (r : IsRunOf d.laid.is_static d.laid.links (turn n m)) where
     from : IsFromPartner d.connections.flows.journal.ends here.channel.partner n entry.bytes
     from = got_from (channels_seen (config_of d.settings) d.clock d.connections) links.lines (seen_of d).processes below place here.channel end n entry links.standing here.stands here.is_end here.allocated is
 
@@ -228,15 +228,15 @@ module _ (d : Dif) (i place number : ℕ) (here : IsLinkEnd d i place number) (g
       got = got_more;
     }
 
-    pub turn_run : IsRunOf d.laid.links (turn (n + 1) m')
+    pub turn_run : IsRunOf d.laid.is_static d.laid.links (turn (n + 1) m')
     turn_run = handles_run d.laid.links (turn n m) (turn (n + 1) m') r turn_event
 
   -- what holds of the member goes on to hold, where it does at each turn
-  module _ (Holds' : Management → Type 0) (keeps : (n : ℕ) (m m' : Management) (entry : Entry) → slice_get end.got n ≡ Some entry → HandlesOne d.clock number entry.bytes m m' → IsRunOf d.laid.links (turn n m) → Holds' m → Holds' m') where
-    pub all_turns : (rest : List Entry) (n : ℕ) (m m' : Management) → n ≤ length end.got → drop n end.got ≡ rest → HandlesInTurn d.clock number (texts_of rest) m m' → Holds' m → IsRunOf d.laid.links (turn n m) → Holds' m' × IsRunOf d.laid.links (turn (length end.got) m')
+  module _ (Holds' : Management → Type 0) (keeps : (n : ℕ) (m m' : Management) (entry : Entry) → slice_get end.got n ≡ Some entry → HandlesOne d.clock number entry.bytes m m' → IsRunOf d.laid.is_static d.laid.links (turn n m) → Holds' m → Holds' m') where
+    pub all_turns : (rest : List Entry) (n : ℕ) (m m' : Management) → n ≤ length end.got → drop n end.got ≡ rest → HandlesInTurn d.clock number (texts_of rest) m m' → Holds' m → IsRunOf d.laid.is_static d.laid.links (turn n m) → Holds' m' × IsRunOf d.laid.is_static d.laid.links (turn (length end.got) m')
     all_turns [] n m m' le is same holds r =
         let all : n ≡ length end.got = dropped_all end.got n le is in
-        (subst Holds' (sym same) holds, subst (λ (k : ℕ). IsRunOf d.laid.links (turn k m')) all (subst (λ (x : Management). IsRunOf d.laid.links (turn n x)) (sym same) r))
+        (subst Holds' (sym same) holds, subst (λ (k : ℕ). IsRunOf d.laid.is_static d.laid.links (turn k m')) all (subst (λ (x : Management). IsRunOf d.laid.is_static d.laid.links (turn n x)) (sym same) r))
     all_turns (entry ∷ rest) n m m' le is h holds r =
         let first = dropped_at end.got n entry rest is in
         let within = slice_get_within end.got n entry first.0 in

@@ -19,16 +19,16 @@ its_agent ms k m is = slice_get-map (λ (z : Management). z.agent) ms k ∙ ap (
 pub members_keep : NewestIsKept → MembersKeepTheNewest
 members_keep law d lines below place member m key is =
     let r = is.holds.flooded is.alive in
-    let offered = offered_in d.laid.links (members_seen d) r member.addr in
+    let offered = offered_in d.laid.is_static d.laid.links (members_seen d) r member.addr in
     let P : Agent → Type 0 = λ a. MatchOption (kept_at a.items key) ((x : Item) → Contains offered x → x.key ≡ key → ⊥) (IsNewest offered key) in
-    subst P (r.is.agents place member m.agent is.is_member (its_agent d.managements place m is.is_management)) (law r.start (start_items d.settings.members d.laid.links) r.rows member.addr key r.starts r.run)
+    subst P (r.is.agents place member m.agent is.is_member (its_agent d.managements place m is.is_management)) (law r.start (start_items d.laid.is_static d.settings.members d.laid.links) r.rows member.addr key r.starts r.run)
 
 pub members_agree : QuietMembersAgree → MembersAgree
 members_agree law d lines below i j steps first last m n a b quiet =
-    law d.laid.links (members_seen d) i j steps first m.agent n.agent (a.holds.flooded a.alive) quiet a.is_member (its_agent d.managements i m a.is_management) (its_agent d.managements j n b.is_management)
+    law d.laid.is_static d.laid.links (members_seen d) i j steps first m.agent n.agent (a.holds.flooded a.alive) quiet a.is_member (its_agent d.managements i m a.is_management) (its_agent d.managements j n b.is_management)
 
 pub quiet_known : QuietMembersClaim → QuietMembersKnowLinks
 quiet_known law d lines below i j steps first last m n p a b is_p quiet e from =
-    let same = law d.laid.links (members_seen d) i j steps m.agent n.agent (a.holds.flooded a.alive) quiet (its_agent d.managements i m a.is_management) (its_agent d.managements j n b.is_management) e in
+    let same = law d.laid.is_static d.laid.links (members_seen d) i j steps m.agent n.agent (a.holds.flooded a.alive) quiet (its_agent d.managements i m a.is_management) (its_agent d.managements j n b.is_management) e in
     let own = (a.holds.managed.each i first p m a.is_member is_p a.is_management).knows.own e from in
     ((λ has. own.0 (same.1 has)), (λ has. same.0 (own.1 has)))

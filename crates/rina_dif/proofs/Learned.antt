@@ -8,6 +8,7 @@ use Rattle.rina_iface.specs.Seen.{Seen}
 use Rattle.rina_law.specs.declared.entry.Entry.{Entry}
 use Rattle.rina_law.specs.Direction.{Direction}
 use Rattle.rina_agent.specs.declared.message.ManagementMessage.TheVariants.{ToNeighbour}
+use Rattle.rina_agent.specs.declared.state.MemberState.TheVariants.{Enrolled}
 use Rattle.rina_enrol.specs.declared.message.LinkMessage.{LinkMessage}
 use Rattle.rina_enrol.specs.Messages.{IsInRange, IsSpelled}
 use Rattle.rina_enrol.proofs.Guesses.{one_message}
@@ -18,7 +19,7 @@ use Rattle.rina_data.specs.declared.process.IpcProcess.{IpcProcess}
 use Rattle.rina_data.specs.declared.settings.Member.{Member}
 use Rattle.rina_data.specs.Configs.{config_of}
 use Rattle.rina_data.specs.Deciding.{process_of}
-use Rattle.rina_data.specs.Process.{queue_place}
+use Rattle.rina_data.specs.Process.{Process, queue_place}
 use Rattle.rina_flood.specs.Coming.{ComesNext, WhatComes}
 use Rattle.rina_flood.specs.Members.{IsRunOf, MembersSeen}
 use Rattle.rina_flows.specs.declared.flows.Flows.{Flows}
@@ -29,6 +30,7 @@ use Rattle.rina_member.specs.Managements.{Handles, HandlesSdu}
 use Rattle.rina_member.specs.Short.{IsShort}
 use Rattle.rina_member.proofs.Knowing.{knows_routes}
 use Rattle.rina_member.proofs.Learning.{handles_knowing, unenrolled}
+use Rattle.rina_member.proofs.Losing.{linked_enrolled}
 use Rattle.rina_dif.specs.declared.dif.Dif.{Dif}
 use Rattle.rina_dif.specs.Elsewhere.{ChangesProcess}
 use Rattle.rina_dif.specs.Flooding.{AreFlooding}
@@ -41,9 +43,10 @@ use Rattle.rina_dif.specs.Telling.{TellsNeighbours}
 use Rattle.rina_dif.proofs.Causing.{process_caused}
 use Rattle.rina_dif.proofs.Handling.{first_turn, handled_connected, handled_flows, handled_seen, handled_written, last_turn, managed_both, with_handled}
 use Rattle.rina_dif.proofs.Elsewhere.{by_process}
+use Rattle.rina_dif.proofs.Enrolled.{enrolled_on, states_set}
 use Rattle.rina_dif.proofs.Hearing.{all_turns, its_end, l, message, next, side, turn, turn_at}
 use Rattle.rina_dif.proofs.Keeping.{set_cases}
-use Rattle.rina_dif.proofs.Leaves.{has_process}
+use Rattle.rina_dif.proofs.Leaves.{has_process, shown_at}
 use Rattle.rina_dif.proofs.Neighbours.{handles_near}
 use Rattle.rina_dif.proofs.Passing.{with_links}
 use Rattle.rina_dif.proofs.Routed.{live_hop}
@@ -52,9 +55,9 @@ use Rattle.rina_dif.proofs.Unlinked.{has_agent, has_member}
 -- One message
 
 module _ (members : List Member) (plans : List LinkPlan) (now : ℕ) (member : Member) (links : List Link) where
-  -- a member knows its live links, and tells short messages to its neighbours alone
+  -- an enrolled member knows its live links, and tells short messages to its neighbours alone
   abbrev pub IsSound : Management → Type 0
-  IsSound m = Knows members plans now member links m.agent × TellsNeighbours m.agent
+  IsSound m = Knows members plans now member links m.agent × (m.agent.state ≡ Enrolled) × TellsNeighbours m.agent
 
   by_news : (tick number : ℕ) (sdu : List ℕ) (word : LinkMessage) (m : Management) (after : Option Management) → IsInRange word → IsSpelled word sdu → IsShort (ToNeighbour word) → OwnIsNewest m.agent word → HandlesSdu tick number sdu m (Ok after) → IsSound m → IsSound (or_same m after)
   by_news tick number sdu word m None range spelled short own h sound = sound
@@ -62,7 +65,8 @@ module _ (members : List Member) (plans : List LinkPlan) (now : ℕ) (member : M
       let same : h.0 ≡ word = one_message h.0 word sdu h.1.is_sdu.in_range range h.1.is_sdu.spelled spelled in
       let handles : Handles tick number word m m' = subst (λ (k : LinkMessage). Handles tick number k m m') same h.2 in
       let free = unenrolled members plans now member links m.agent sound.0 in
-      (handles_knowing members plans now member links m m' sound.0 tick number word short.1 own handles, handles_near tick number word m m' free range short handles sound.1)
+      let knows = handles_knowing members plans now member links m m' tick number word sound.1 sound.0 short.1 own handles in
+      (knows.0, knows.1, handles_near tick number word m m' free range short handles sound.2)
 
   one_sound : (tick number : ℕ) (sdu : List ℕ) (word : LinkMessage) (m m' : Management) → IsInRange word → IsSpelled word sdu → IsShort (ToNeighbour word) → OwnIsNewest m.agent word → HandlesOne tick number sdu m m' → IsSound m → IsSound m'
   one_sound tick number sdu word m m' range spelled short own h sound = subst IsSound (sym h.is) (by_news tick number sdu word m h.after range spelled short own h.handles sound)
@@ -81,7 +85,14 @@ module _ (what : WhatComes) (d : Dif) (i place number : ℕ) (here : IsLinkEnd d
   abbrev K : Management → Type 0
   K m = IsSound d.settings.members d.laid.links d.clock member p.links m
 
-  turn_knows : (n : ℕ) (m m' : Management) (entry : Entry) → slice_get here.end.got n ≡ Some entry → HandlesOne d.clock number entry.bytes m m' → IsRunOf d.laid.links (turn d i place number here g is_g below h.connected n m) → K m → K m'
+  -- a link of it is live, so it is enrolled
+  enrolled : g.agent.state ≡ Enrolled
+  enrolled =
+      let live = here.live in
+      let same : process_of p ≡ live.process = same_Some (process_of p) live.process (sym (shown_at d i p is_p) ∙ ap (slice_get (seen_of d).processes) (sym here.member) ∙ live.is_process) in
+      linked_enrolled p.links g.agent live.place live.link (h.managed.each i member p g is_member is_p is_g).knows.settled (ap (λ (z : Process). slice_get z.links live.place) same ∙ live.stands)
+
+  turn_knows : (n : ℕ) (m m' : Management) (entry : Entry) → slice_get here.end.got n ≡ Some entry → HandlesOne d.clock number entry.bytes m m' → IsRunOf d.laid.is_static d.laid.links (turn d i place number here g is_g below h.connected n m) → K m → K m'
   turn_knows n m m' entry is one r sound =
       let word = message d i place number here g is_g below h.connected n m m' entry is one r in
       let comes : ComesNext (turn d i place number here g is_g below h.connected n m) (l d i place number here g is_g below h.connected) (side d i place number here g is_g below h.connected) (its_end d i place number here g is_g below h.connected) m.agent word.0 = record {
@@ -91,19 +102,19 @@ module _ (what : WhatComes) (d : Dif) (i place number : ℕ) (here : IsLinkEnd d
         in_range = word.1;
         spelled = word.2;
       } in
-      let of = what d.laid.links (turn d i place number here g is_g below h.connected n m) (l d i place number here g is_g below h.connected) (side d i place number here g is_g below h.connected) (its_end d i place number here g is_g below h.connected) m.agent word.0 r comes in
+      let of = what d.laid.is_static d.laid.links (turn d i place number here g is_g below h.connected n m) (l d i place number here g is_g below h.connected) (side d i place number here g is_g below h.connected) (its_end d i place number here g is_g below h.connected) m.agent word.0 r comes in
       one_sound d.settings.members d.laid.links d.clock member p.links d.clock number entry.bytes word.0 m m' word.1 word.2 of.short of.own one sound
 
   module _ (after : Management) (routes : List Route) (flows : Flows) (handles : HandlesInTurn d.clock number (unpassed_sdus here.end) g after) (are : AreRoutesOf after.agent d.settings.members routes) (passes : PassAll d place flows) (stand : (b : Seen) → LinksStand d b → LinksStand (with_links d flows) b) where
     abbrev d' : Dif
     d' = with_handled d i after p routes flows
 
-    both : K after × IsRunOf d.laid.links (turn d i place number here g is_g below h.connected (length here.end.got) after)
+    both : K after × IsRunOf d.laid.is_static d.laid.links (turn d i place number here g is_g below h.connected (length here.end.got) after)
     both =
         let whole = (h.connected.standing.journal.whole place here.end here.is_end).taken in
         let own = h.managed.each i member p g is_member is_p is_g in
-        let run : IsRunOf d.laid.links (turn d i place number here g is_g below h.connected here.end.taken g) = subst (λ (z : MembersSeen). IsRunOf d.laid.links z) (sym (first_turn d i place number here g after is_g p is_p routes flows below h.connected)) (h.flooded alive) in
-        all_turns d i place number here g is_g below h.connected K turn_knows (drop here.end.taken here.end.got) here.end.taken g after whole refl handles (own.knows, own.tells) run
+        let run : IsRunOf d.laid.is_static d.laid.links (turn d i place number here g is_g below h.connected here.end.taken g) = subst (λ (z : MembersSeen). IsRunOf d.laid.is_static d.laid.links z) (sym (first_turn d i place number here g after is_g p is_p routes flows below h.connected)) (h.flooded alive) in
+        all_turns d i place number here g is_g below h.connected K turn_knows (drop here.end.taken here.end.got) here.end.taken g after whole refl handles (own.knows, enrolled, own.tells) run
 
     -- its next hops have queues
     housed : AreHoused (config_of d.settings) d'.processes
@@ -124,7 +135,7 @@ module _ (what : WhatComes) (d : Dif) (i place number : ℕ) (here : IsLinkEnd d
         subst (λ (e : End). flows.journal.ends ≡ slice_set d.connections.flows.journal.ends place (record e { taken = length e.got })) same all.ends
 
     floods : AreFlooding d'
-    floods = subst (λ (z : MembersSeen). IsRunOf d.laid.links z) (sym (last_turn d i place number here g after is_g p is_p routes flows below h.connected ends)) both.1
+    floods = subst (λ (z : MembersSeen). IsRunOf d.laid.is_static d.laid.links z) (sym (last_turn d i place number here g after is_g p is_p routes flows below h.connected ends)) both.1
 
     handled_holds : Holds d' lines below
     handled_holds =
@@ -141,8 +152,9 @@ module _ (what : WhatComes) (d : Dif) (i place number : ℕ) (here : IsLinkEnd d
           managed = managed_both d.settings.members d.laid.links d.clock d.processes d.managements i p (with_routes p routes) g after h.managed is_p is_g (λ m is_m. record {
             knows = subst (λ (z : Member). Knows d.settings.members d.laid.links d.clock z p.links after.agent) (same_Some member m (sym is_member ∙ is_m)) both.0.0;
             routes = are;
-            tells = both.0.1;
+            tells = both.0.2;
           });
+          enrolled = enrolled_on d.laid.is_static d.settings.members d.settings.admits d.managements (slice_set d.managements i after) d.enrolled (states_set d.managements i g after is_g (both.0.1 ∙ sym enrolled)) h.enrolled;
           connected = handled_connected d i place number here g after is_g p is_p routes flows below (stand below h.connected);
           flooded = λ still. floods;
         }

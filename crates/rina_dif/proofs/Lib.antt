@@ -17,6 +17,7 @@ pub mod Connecting
 mod Drawing
 pub mod Cutting
 pub mod Elsewhere
+pub mod Enrolled
 pub mod Entered
 pub mod Facing
 pub mod Failing

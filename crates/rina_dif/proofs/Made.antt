@@ -1,5 +1,5 @@
 -- A DIF that was made as the plan of a stack says.
-use Rattle.std.proofs.Common.{◌≡◌, ◌∙◌, ℕ, zero, suc, ◌+◌, ◌==◌, ◌⊎◌, All, List, [], ◌∷◌, length, map, slice_get, option_map, Option, Some, None, true, false, sym, ap, subst, arith, inl, inr}
+use Rattle.std.proofs.Common.{◌≡◌, ◌∙◌, ℕ, zero, suc, ◌+◌, ◌==◌, ◌⊎◌, ◌-◌, ◌*◌, ◌^◌, Bool, cond, All, List, [], ◌∷◌, length, map, slice_get, option_map, Option, Some, None, true, false, sym, ap, subst, arith, inl, inr}
 use Rattle.std.specs.Prelude.{Contains, IsSome}
 use Rattle.std.proofs.lemmas.Bool.Decides.{eqb_tells}
 use Rattle.std.proofs.lemmas.Bool.{false≢true}
@@ -38,14 +38,17 @@ use Rattle.rina_dif.specs.Building.{IsFree, queue_ids}
 use Rattle.rina_dif.specs.Holding.{Stands}
 use Rattle.rina_dif.specs.Laying.{AreLaid, AreLinkedUp, AreSettings, BindsAll, CanLay, IsLaidIn, IsLinkedUp, IsNew, IsNewProcess, Takes, ends_of, links_from, ports_at}
 use Rattle.rina_dif.specs.Planned.{ipc_name, link_fixed, links_in, links_of, members_from, processes_before, settings_by, settings_in, settings_of}
-use Rattle.rina_dif.specs.Managing.{AreManagedBy, AreStarted}
+use Rattle.rina_dif.specs.Managing.{AreEnrolledBy, AreManagedBy, AreStarted, states_of}
+use Rattle.rina_dif.specs.declared.layout.Layout.{Layout}
+use Rattle.rina_member.specs.Start.{first_enrolled}
+use Rattle.rina_dif.proofs.Enrolled.{starts_known}
 use Rattle.rina_dif.specs.Routing.{AreRouted, HaveFirstRoutes}
 use Rattle.rina_dif.proofs.Bare.{IsUntouched, map_at, none_in, start_holds, starts}
 use Rattle.rina_dif.proofs.Laid.{same_end, stood_there}
 use Rattle.rina_dif.proofs.Managed.{routed_at}
 use Rattle.rina_dif.proofs.Routed.{laid_still, live_hop}
 use Rattle.rina_dif.proofs.Sound.{are_members, is_config}
-use Rattle.rina_dif.proofs.Started.{first_routed, made_managed, started_still}
+use Rattle.rina_dif.proofs.Started.{first_routed, made_managed, no_plans, started_still}
 use Rattle.rina_dif.specs.Connected.{AreConnected}
 use Rattle.rina_dif.specs.Shown.{seen_of}
 use Rattle.rina_dif.specs.Flooding.{AreFlooding}
@@ -120,8 +123,14 @@ has_place s node ports p place qos link up is known = subst (λ (o : Option ℕ)
 
 -- It stands
 
-pub made_stands : (plan : Plan) (i : ℕ) (dif : DifPlan) (d : Dif) (old new : Seen) → AreKept new → IsPlan plan → slice_get plan.difs i ≡ Some dif → d.settings ≡ settings_by plan i dif → d.clock ≡ old.now → d.flows.journal.ends ≡ [] → d.flows.conns ≡ [] → (AreWidths d.settings.widths → AreUndrawn d.settings.widths.cep (length d.settings.members) d.ids) → IsFree (config_of d.settings) old → IsLaidIn (config_of d.settings) old new → (ports : List (Port × Port)) (bare : List IpcProcess) → AreNamed d.settings.members → AreLaid plan dif d.settings dif.links old new ports bare → AreStarted d.settings.cubes d.settings.members dif.links dif.rules dif.allow (length d.settings.members) bare d.managements → AreRouted d.settings.members d.managements (length d.managements) bare d.processes → d.laid.links ≡ dif.links → AreConnected (config_of d.settings) d.clock d.connections (seen_of d).processes new → AreFlooding d → Stands d new
-made_stands plan i dif d old new kept sound at are clock ends conns undrawn free inside ports bare named was started routed same connected floods =
+-- it knows who is enrolled
+made_enrolled : (plan : Plan) (i : ℕ) (dif : DifPlan) (d : Dif) (bare : List IpcProcess) → d.settings ≡ settings_by plan i dif → AreMembers (config_of d.settings) → length bare ≡ length d.settings.members → AreStarted dif.is_static d.settings.cubes d.settings.members dif.links dif.rules dif.allow (length d.settings.members) bare d.managements → d.enrolled ≡ map (λ (m : Kept). m.node) (first_enrolled dif.is_static d.settings.members) → AreEnrolledBy dif.is_static d.settings.members d.settings.admits (states_of d.managements) d.enrolled
+made_enrolled plan i dif d bare are members aligned started nodes =
+    starts_known dif.is_static d.settings.cubes d.settings dif.links dif.rules dif.allow bare d.managements d.enrolled members aligned started nodes
+    (λ dynamic. ap (λ (s : Settings). s.admits) are ∙ ap (λ (b : Bool). cond b (2 ^ (8 * dif.widths.cep) - 1) 0) dynamic)
+
+pub made_stands : (plan : Plan) (i : ℕ) (dif : DifPlan) (d : Dif) (old new : Seen) → AreKept new → IsPlan plan → slice_get plan.difs i ≡ Some dif → d.settings ≡ settings_by plan i dif → d.clock ≡ old.now → d.flows.journal.ends ≡ [] → d.flows.conns ≡ [] → (AreWidths d.settings.widths → AreUndrawn d.settings.widths.cep (length d.settings.members) d.ids) → IsFree (config_of d.settings) old → IsLaidIn (config_of d.settings) old new → (ports : List (Port × Port)) (bare : List IpcProcess) → AreNamed d.settings.members → AreLaid plan dif d.settings dif.links old new ports bare → AreStarted dif.is_static d.settings.cubes d.settings.members dif.links dif.rules dif.allow (length d.settings.members) bare d.managements → AreRouted d.settings.members d.managements (length d.managements) bare d.processes → d.laid ≡ record { is_static = dif.is_static; links = dif.links } → d.enrolled ≡ map (λ (m : Kept). m.node) (first_enrolled dif.is_static d.settings.members) → AreConnected (config_of d.settings) d.clock d.connections (seen_of d).processes new → AreFlooding d → Stands d new
+made_stands plan i dif d old new kept sound at are clock ends conns undrawn free inside ports bare named was started routed same nodes connected floods =
     let laid = laid_still plan dif d.settings dif.links old new ports d.managements (length d.managements) bare d.processes was routed in
     let g = config_of d.settings in
     let config : IsConfig g = subst (λ (s : Settings). IsConfig (config_of s)) (sym are) (is_config plan i dif sound at) in
@@ -154,7 +163,7 @@ made_stands plan i dif d old new kept sound at are clock ends conns undrawn free
                 let hops = routes k m.0 p managed m.1 is in
                 let own = live_hop d.settings.members dif.links m.0 p.links hops.0 p.routes dst link hops.1 hop in
                 subst (λ (n : ℕ). IsSome (queue_place qos n (process_of p).queues)) own.4 (has_place d.settings m.0.node (ends_of ports) p own.0 qos own.1 up own.2 known);
-          }) (subst (λ (ls : List LinkPlan). AreManagedBy d.settings.members ls d.clock d.processes d.managements) (sym same) managed) connected floods,
+          }) (subst (λ (l : Layout). AreManagedBy d.settings.members l.links d.clock d.processes d.managements) (sym same) managed) (subst (λ (l : Layout). AreEnrolledBy l.is_static d.settings.members d.settings.admits (states_of d.managements) d.enrolled) (sym same) (made_enrolled plan i dif d bare are members was.up.aligned started nodes)) connected floods,
     )
 
 -- What it is
@@ -178,13 +187,13 @@ new_process s node ports p up = record {
 one_plan : (x y : DifPlan) → Some x ≡ Some y → x ≡ y
 one_plan x y same = cc
 
-pub made_new : (plan : Plan) (i : ℕ) (dif : DifPlan) (d : Dif) (old new : Seen) → IsPlan plan → slice_get plan.difs i ≡ Some dif → d.settings ≡ settings_by plan i dif → d.clock ≡ old.now → d.failed ≡ false → d.flows.journal.ends ≡ [] → d.flows.conns ≡ [] → d.waiting.items ≡ [] → d.names ≡ [] → (ports : List (Port × Port)) (bare : List IpcProcess) → AreNamed d.settings.members → AreLaid plan dif d.settings dif.links old new ports bare → AreStarted d.settings.cubes d.settings.members dif.links dif.rules dif.allow (length d.settings.members) bare d.managements → AreRouted d.settings.members d.managements (length d.managements) bare d.processes → IsNew plan i d old new
-made_new plan i dif d old new sound at are clock alive ends conns waiting names ports bare named was started routed =
+pub made_new : (plan : Plan) (i : ℕ) (dif : DifPlan) (d : Dif) (old new : Seen) → IsPlan plan → slice_get plan.difs i ≡ Some dif → d.settings ≡ settings_by plan i dif → d.clock ≡ old.now → d.failed ≡ false → d.flows.journal.ends ≡ [] → d.flows.conns ≡ [] → d.waiting.items ≡ [] → d.names ≡ [] → (ports : List (Port × Port)) (bare : List IpcProcess) → AreNamed d.settings.members → AreLaid plan dif d.settings dif.links old new ports bare → AreStarted dif.is_static d.settings.cubes d.settings.members dif.links dif.rules dif.allow (length d.settings.members) bare d.managements → AreRouted d.settings.members d.managements (length d.managements) bare d.processes → d.enrolled ≡ map (λ (m : Kept). m.node) (first_enrolled dif.is_static d.settings.members) → IsNew plan i d old new
+made_new plan i dif d old new sound at are clock alive ends conns waiting names ports bare named was started routed nodes =
     let laid = laid_still plan dif d.settings dif.links old new ports d.managements (length d.managements) bare d.processes was routed in
     let config : IsConfig (config_of d.settings) = subst (λ (s : Settings). IsConfig (config_of s)) (sym are) (is_config plan i dif sound at) in
     let members : AreMembers (config_of d.settings) = subst (λ (s : Settings). AreMembers (config_of s)) (sym are) (are_members plan i dif sound at) in
     let managed : AreManagedBy d.settings.members dif.links d.clock d.processes d.managements = made_managed plan i dif d old new ports bare sound at are config members named was started routed in
-    let so = started_still d.settings.cubes d.settings.members dif.links dif.rules dif.allow bare d.processes d.managements started routed in
+    let so = started_still dif.is_static d.settings.cubes d.settings.members dif.links dif.rules dif.allow bare d.processes d.managements started routed in
     record {
       settings = its_settings plan i dif d.settings at are;
       clock = clock;
@@ -197,8 +206,9 @@ made_new plan i dif d old new sound at are clock alive ends conns waiting names 
           let m = there d.settings.members k (let e = laid.up.aligned in omega (arith, within, e)) in
           let up = laid.up.each k m.0 p m.1 is in
           record { cap = up.room; cubes = up.ids };
-      routed = λ dif' at'. subst (λ (x : DifPlan). HaveFirstRoutes d.settings.members x.links d.processes) (one_plan dif dif' (sym at ∙ at')) (first_routed d.settings.cubes d.settings.members dif.links dif.rules dif.allow d.clock d.processes d.managements managed so);
-      managed = λ dif' at'. subst (λ (x : DifPlan). AreStarted d.settings.cubes d.settings.members x.links x.rules x.allow (length d.settings.members) d.processes d.managements) (one_plan dif dif' (sym at ∙ at')) so;
+      routed = λ dif' at'. subst (λ (x : DifPlan). HaveFirstRoutes d.settings.members x.links d.processes) (one_plan dif dif' (sym at ∙ at')) (first_routed dif.is_static d.settings.cubes d.settings.members dif.links dif.rules dif.allow d.clock d.processes d.managements (no_plans plan i dif sound at) managed so);
+      managed = λ dif' at'. subst (λ (x : DifPlan). AreStarted x.is_static d.settings.cubes d.settings.members x.links x.rules x.allow (length d.settings.members) d.processes d.managements) (one_plan dif dif' (sym at ∙ at')) so;
+      enrolled = λ dif' at'. subst (λ (x : DifPlan). d.enrolled ≡ map (λ (m : Kept). m.node) (first_enrolled x.is_static d.settings.members)) (one_plan dif dif' (sym at ∙ at')) nodes;
       ends = ends;
       conns = conns;
       waiting = waiting;

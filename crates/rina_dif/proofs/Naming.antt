@@ -21,12 +21,14 @@ use Rattle.rina_dif_law.specs.Dif.{fac_of}
 use Rattle.rina_member.specs.declared.management.Management.{Management}
 use Rattle.rina_member.specs.Managements.{MayMakeEntry}
 use Rattle.rina_dif.specs.declared.dif.Dif.{Dif}
-use Rattle.rina_dif.specs.Elsewhere.{home_of}
+use Rattle.rina_dif.specs.Elsewhere.{enrolled_home, home_of}
 use Rattle.rina_dif.specs.Facade.{IsShownAs, shown_as}
 use Rattle.rina_dif.specs.Registering.{AnswersEntry, management_at, no_value, own_address, register_refusal, register_told, spent_by, told_as, unregister_refusal, unregister_told}
 use Rattle.rina_dif.specs.Shown.{seen_of}
+use Rattle.rina_dif.specs.Whole.{IsDif}
+use Rattle.rina_dif.proofs.Enrolled.{enrolled_home_is, member_there}
 use Rattle.rina_dif.proofs.Facing.{unchanged}
-use Rattle.rina_dif.proofs.Refused.{registers, unregisters}
+use Rattle.rina_dif.proofs.Refused.{members_there, registers, unregisters}
 
 -- A test holds somewhere exactly where it holds first
 
@@ -45,14 +47,18 @@ some_where false n = refl
 any_placed : {X : Type 0} (p : X → Bool) (xs : List X) → list_any p xs ≡ is_some (position p xs)
 any_placed p xs = any_before p xs ∙ sym (some_where (nat_lt (position_or_len p xs) (length xs)) (position_or_len p xs))
 
--- A node has a place in a DIF exactly where a member stands on it
+-- A node has a place in a DIF exactly where an enrolled member stands on it
 
 nodes_there : (node : ℕ) (ms : List Member) → is_member (map (λ (m : Member). m.node) ms) node ≡ list_any (λ (m : Member). m.node == node) ms
 nodes_there node [] = refl
 nodes_there node (m ∷ ms) = ap (λ (b : Bool). (m.node == node) || b) (nodes_there node ms)
 
-members_at : (d : Dif) (node : ℕ) → is_member (fac_of (seen_of d)).members node ≡ is_some (home_of d node)
-members_at d node = nodes_there node (config_of d.settings).members ∙ any_placed (λ (m : Member). m.node == node) (config_of d.settings).members
+some_home : (b : Bool) (o : Option ℕ) → (b ≡ true → is_some o ≡ true) → b ≡ is_some (cond b o None)
+some_home true o here = sym (here refl)
+some_home false o here = refl
+
+members_at : (d : Dif) (node : ℕ) → IsDif d → is_member d.enrolled node ≡ is_some (enrolled_home d node)
+members_at d node is = some_home (is_member d.enrolled node) (home_of d node) (λ there. sym (any_placed (λ (m : Member). m.node == node) (config_of d.settings).members) ∙ sym (nodes_there node (config_of d.settings).members) ∙ sym (members_there node d.settings.members) ∙ member_there d is.stands.0 is.below is.stands.1 node there)
 
 -- A registration is refused
 
@@ -62,16 +68,16 @@ by_names named placed own = cond named (Some register.Already) (cond placed own 
 pub refused_named : (d : Dif) (node : ℕ) (app : List ℕ) (own : Option RegisterError) → is_registered d.names node app ≡ true → names.refused_in (Some (fac_of (seen_of d))) node app own ≡ Some register.Already
 refused_named d node app own named = ap (λ (b : Bool). by_names b (is_member (fac_of (seen_of d)).members node) own) named
 
-pub refused_nowhere : (d : Dif) (node : ℕ) (app : List ℕ) (own : Option RegisterError) → is_registered d.names node app ≡ false → home_of d node ≡ None → names.refused_in (Some (fac_of (seen_of d))) node app own ≡ Some register.NoMember
-refused_nowhere d node app own new none =
+pub refused_nowhere : (d : Dif) (node : ℕ) (app : List ℕ) (own : Option RegisterError) → IsDif d → is_registered d.names node app ≡ false → enrolled_home d node ≡ None → names.refused_in (Some (fac_of (seen_of d))) node app own ≡ Some register.NoMember
+refused_nowhere d node app own is new none =
     ap (λ (b : Bool). by_names b (is_member (fac_of (seen_of d)).members node) own) new
-    ∙ ap (λ (b : Bool). by_names false b own) (members_at d node ∙ ap is_some none)
+    ∙ ap (λ (b : Bool). by_names false b own) (members_at d node is ∙ ap is_some none)
 
 -- where the name is new, and a member stands on the node, by what the member refuses
-pub refused_own : (d : Dif) (node at : ℕ) (app : List ℕ) (own : Option RegisterError) → is_registered d.names node app ≡ false → home_of d node ≡ Some at → names.refused_in (Some (fac_of (seen_of d))) node app own ≡ own
+pub refused_own : (d : Dif) (node at : ℕ) (app : List ℕ) (own : Option RegisterError) → is_registered d.names node app ≡ false → enrolled_home d node ≡ Some at → names.refused_in (Some (fac_of (seen_of d))) node app own ≡ own
 refused_own d node at app own new here =
     ap (λ (b : Bool). by_names b (is_member (fac_of (seen_of d)).members node) own) new
-    ∙ ap (λ (b : Bool). by_names false b own) (members_at d node ∙ ap is_some here)
+    ∙ ap (λ (b : Bool). by_names false b own) (enrolled_home_is d node at here).0
 
 -- The end of a registration is refused
 
@@ -86,23 +92,23 @@ refused_left d node place app own there = ap (λ (b : Bool). by_place b own) (an
 
 -- What the member refuses
 
-told_here : {E : Type 0} (as_told : AgentError → E) (d : Dif) (node at : ℕ) (m : Management) (o : Option AgentError) → home_of d node ≡ Some at → slice_get d.managements at ≡ Some m → spent 1 m.agent.last_count ≡ o → told_as as_told (spent_by (management_at d node)) ≡ told_as as_told o
+told_here : {E : Type 0} (as_told : AgentError → E) (d : Dif) (node at : ℕ) (m : Management) (o : Option AgentError) → enrolled_home d node ≡ Some at → slice_get d.managements at ≡ Some m → spent 1 m.agent.last_count ≡ o → told_as as_told (spent_by (management_at d node)) ≡ told_as as_told o
 told_here as_told d node at m o here is_m is =
     ap (λ (k : Option ℕ). told_as as_told (spent_by (option_and_then (slice_get d.managements) k))) here
     ∙ ap (λ (g : Option Management). told_as as_told (spent_by g)) is_m
     ∙ ap (told_as as_told) is
 
-told_nowhere : {E : Type 0} (as_told : AgentError → E) (d : Dif) (node : ℕ) → home_of d node ≡ None → told_as as_told (spent_by (management_at d node)) ≡ None
+told_nowhere : {E : Type 0} (as_told : AgentError → E) (d : Dif) (node : ℕ) → enrolled_home d node ≡ None → told_as as_told (spent_by (management_at d node)) ≡ None
 told_nowhere as_told d node none = ap (λ (k : Option ℕ). told_as as_told (spent_by (option_and_then (slice_get d.managements) k))) none
 
 -- nothing, where a version count is left
-pub may_register : (d : Dif) (node at : ℕ) (app : List ℕ) (m : Management) → is_registered d.names node app ≡ false → home_of d node ≡ Some at → slice_get d.managements at ≡ Some m → spent 1 m.agent.last_count ≡ None → names.refused_in (Some (fac_of (seen_of d))) node app (register_refusal d node) ≡ None
+pub may_register : (d : Dif) (node at : ℕ) (app : List ℕ) (m : Management) → is_registered d.names node app ≡ false → enrolled_home d node ≡ Some at → slice_get d.managements at ≡ Some m → spent 1 m.agent.last_count ≡ None → names.refused_in (Some (fac_of (seen_of d))) node app (register_refusal d node) ≡ None
 may_register d node at app m new here is_m may = refused_own d node at app (register_refusal d node) new here ∙ told_here register_told d node at m None here is_m may
 
-pub may_unregister : (d : Dif) (node at place : ℕ) (app : List ℕ) (m : Management) → name_place d.names node app ≡ Some place → home_of d node ≡ Some at → slice_get d.managements at ≡ Some m → spent 1 m.agent.last_count ≡ None → left.refused_in (Some (fac_of (seen_of d))) node app (unregister_refusal d node) ≡ None
+pub may_unregister : (d : Dif) (node at place : ℕ) (app : List ℕ) (m : Management) → name_place d.names node app ≡ Some place → enrolled_home d node ≡ Some at → slice_get d.managements at ≡ Some m → spent 1 m.agent.last_count ≡ None → left.refused_in (Some (fac_of (seen_of d))) node app (unregister_refusal d node) ≡ None
 may_unregister d node at place app m there here is_m may = refused_left d node place app (unregister_refusal d node) there ∙ told_here unregister_told d node at m None here is_m may
 
-pub unregisters_nowhere : (d : Dif) (node place : ℕ) (app : List ℕ) → name_place d.names node app ≡ Some place → home_of d node ≡ None → left.refused_in (Some (fac_of (seen_of d))) node app (unregister_refusal d node) ≡ None
+pub unregisters_nowhere : (d : Dif) (node place : ℕ) (app : List ℕ) → name_place d.names node app ≡ Some place → enrolled_home d node ≡ None → left.refused_in (Some (fac_of (seen_of d))) node app (unregister_refusal d node) ≡ None
 unregisters_nowhere d node place app there none = refused_left d node place app (unregister_refusal d node) there ∙ told_nowhere unregister_told d node none
 
 -- What the member answers
@@ -122,13 +128,13 @@ answers_at as_told now app value ms at g r told is_g h is m is_m =
     (subst (λ (z : Result Management _). AnswersEntry as_told now app (value g) g z) (sym is) (answers as_told now app (value g) g r h))
 
 -- where the member makes no entry, that is refused as on every facility
-pub register_off : (s : Seen) (n : ℕ) (d : Dif) (node at : ℕ) (app : List ℕ) (m : Management) (e : RegisterError) → is_registered d.names node app ≡ false → home_of d node ≡ Some at → slice_get d.managements at ≡ Some m → AnswersEntry register_told d.clock app (own_address m) m (Err e) → IsShownAs s n d → Registers (register_refusal d node) s n node app (Err e) (shown_as s n d)
+pub register_off : (s : Seen) (n : ℕ) (d : Dif) (node at : ℕ) (app : List ℕ) (m : Management) (e : RegisterError) → is_registered d.names node app ≡ false → enrolled_home d node ≡ Some at → slice_get d.managements at ≡ Some m → AnswersEntry register_told d.clock app (own_address m) m (Err e) → IsShownAs s n d → Registers (register_refusal d node) s n node app (Err e) (shown_as s n d)
 register_off s n d node at app m e new here is_m (Memory, is, x) h = subst (λ (z : RegisterError). Registers (register_refusal d node) s n node app (Err z) (shown_as s n d)) (sym is) (unchanged s n d d h refl)
 register_off s n d node at app m e new here is_m (CountSpent need counts, is, x) h =
     subst (λ (z : RegisterError). Registers (register_refusal d node) s n node app (Err z) (shown_as s n d)) (sym is)
     (registers (register_refusal d node) s n d node app (register.CountSpent need counts) (refused_own d node at app (register_refusal d node) new here ∙ told_here register_told d node at m (Some (CountSpent need counts)) here is_m x) h)
 
-pub unregister_off : (s : Seen) (n : ℕ) (d : Dif) (node at place : ℕ) (app : List ℕ) (m : Management) (e : UnregisterError) → name_place d.names node app ≡ Some place → home_of d node ≡ Some at → slice_get d.managements at ≡ Some m → AnswersEntry unregister_told d.clock app (no_value m) m (Err e) → IsShownAs s n d → Unregisters (unregister_refusal d node) s n node app (Err e) (shown_as s n d)
+pub unregister_off : (s : Seen) (n : ℕ) (d : Dif) (node at place : ℕ) (app : List ℕ) (m : Management) (e : UnregisterError) → name_place d.names node app ≡ Some place → enrolled_home d node ≡ Some at → slice_get d.managements at ≡ Some m → AnswersEntry unregister_told d.clock app (no_value m) m (Err e) → IsShownAs s n d → Unregisters (unregister_refusal d node) s n node app (Err e) (shown_as s n d)
 unregister_off s n d node at place app m e there here is_m (Memory, is, x) h = subst (λ (z : UnregisterError). Unregisters (unregister_refusal d node) s n node app (Err z) (shown_as s n d)) (sym is) (unchanged s n d d h refl)
 unregister_off s n d node at place app m e there here is_m (CountSpent need counts, is, x) h =
     subst (λ (z : UnregisterError). Unregisters (unregister_refusal d node) s n node app (Err z) (shown_as s n d)) (sym is)

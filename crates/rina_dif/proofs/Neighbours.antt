@@ -49,10 +49,10 @@ dropped_near g link near w has = near w (contains_filter _ g.agenda w has).0
 
 -- From the start
 
-pub starts_near : (members : List Member) (plans : List LinkPlan) (rules : Rules) (m : Member) (links : List Below) → IsLaidOut members plans → AreNamed members → HaveFewLinks members plans → Contains members m → length links ≤ 16 → TellsNeighbours (started members plans rules m links)
+pub starts_near : (is_static : Bool) (members : List Member) (plans : List LinkPlan) (rules : Rules) (m : Member) (links : List Below) → IsLaidOut members plans → AreNamed members → HaveFewLinks members plans → Contains members m → length links ≤ 16 → TellsNeighbours (started is_static members plans rules m links)
 unfolding started
-starts_near members plans rules m links laid named few among fits = record {
-  short = starts_short members plans laid named few rules m links among fits;
+starts_near is_static members plans rules m links laid named few among fits = record {
+  short = starts_short members plans laid named few is_static rules m links among fits;
   near = λ w has. absurd (in_none w has);
 }
 

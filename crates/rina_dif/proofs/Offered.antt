@@ -68,6 +68,7 @@ use Rattle.rina_dif.specs.Sending.{AreOf, HasRoomFor, Puts, queued}
 use Rattle.rina_dif.specs.Shown.{seen_of}
 use Rattle.rina_dif.proofs.Bare.{map_at}
 use Rattle.rina_dif.proofs.Closing.{served_holds}
+use Rattle.rina_dif.proofs.Enrolled.{enrolled_on, states_set}
 use Rattle.rina_dif.proofs.Flooding.{side_at}
 use Rattle.rina_dif.proofs.Keeping.{IsSameHouse, house_is, same_places}
 use Rattle.rina_dif.proofs.Leaves.{shown_at}
@@ -92,10 +93,15 @@ unnamed_of ids pdus ps are qos = λ k pdu is.
 changed_is : (ms : List Management) (i : ℕ) (f : Management → Management) (g : Management) → slice_get ms i ≡ Some g → changed_at i f ms ≡ slice_set ms i (f g)
 changed_is ms i f g is = ap (λ (o : Option Management). changed_if o i f ms) is
 
+-- which messages wait says nothing of whether it is enrolled
+sent_settled : (links : List Link) (g : Management) (number : ℕ) → IsSettled links g.agent → IsSettled links (with_sent g number).agent
+sent_settled links g number (inl enrolled) = inl enrolled
+sent_settled links g number (inr outside) = inr (record { state = outside.state; items = outside.items; bare = outside.bare })
+
 -- which messages wait says nothing of what it knows
 sent_managed : (members : List Member) (plans : List LinkPlan) (now : ℕ) (m : Member) (p : IpcProcess) (g : Management) (number : ℕ) → IsManaged members plans now m p g → IsManaged members plans now m p (with_sent g number)
 sent_managed members plans now m p g number h = record {
-  knows = record { address = h.knows.address; enrolled = h.knows.enrolled; numbers = h.knows.numbers; links_are = h.knows.links_are; own = h.knows.own; keys = h.knows.keys; past = h.knows.past };
+  knows = record { address = h.knows.address; settled = sent_settled p.links g number h.knows.settled; numbers = h.knows.numbers; links_are = h.knows.links_are; own = h.knows.own; keys = h.knows.keys; past = h.knows.past };
   routes = record { rows = h.routes.rows; hops = h.routes.hops; are = h.routes.are };
   tells = sends_near number g h.tells;
 }
@@ -182,13 +188,13 @@ module _ (d : Dif) (i place number : ℕ) (sdu : List ℕ) (entry : Entry) (end 
         sent = texts;
         got = handled_texts;
       } in
-      offers_run d.laid.links (members_seen d) (members_seen sent_d) r event
+      offers_run d.laid.is_static d.laid.links (members_seen d) (members_seen sent_d) r event
 
 -- The DIF after it
 
 -- a DIF holds beside what flooding says of it, whatever messages wait
 unfloods : (d : Dif) (lines : List Direction) (below : Seen) → Holds d lines below → Holds (record d { failed = true }) lines below
-unfloods d lines below h = record { tied = h.tied; standing = h.standing; carrying = h.carrying; numbered = h.numbered; accounted = h.accounted; caused = h.caused; written_off = h.written_off; housed = h.housed; managed = h.managed; connected = h.connected; flooded = λ failed. absurd (true≢false failed) }
+unfloods d lines below h = record { tied = h.tied; standing = h.standing; carrying = h.carrying; numbered = h.numbered; accounted = h.accounted; caused = h.caused; written_off = h.written_off; housed = h.housed; managed = h.managed; enrolled = h.enrolled; connected = h.connected; flooded = λ failed. absurd (true≢false failed) }
 
 module _ (d : Dif) (i place number : ℕ) (sdu : List ℕ) (conn : Conn) (made : Made) (flows : Flows) (ps : List IpcProcess) (tell : TellNeighbours d.managements) (early : d.clock ≤ 10000000) (r : IsReady d i place number sdu) (is_conn : slice_get d.connections.flows.conns place ≡ Some conn)
     (offers : FlowsOffer d.clock place sdu d.connections.flows (Ok made) flows) (puts : Puts 0 number (queued conn.sending.form.cube.mpl d.clock (map unnamed made.pdus)) i d.processes ps) (lines : List Direction) (below : Seen) (h : Holds d lines below) where
@@ -297,6 +303,7 @@ module _ (d : Dif) (i place number : ℕ) (sdu : List ℕ) (conn : Conn) (made :
         written_off = s.written_off;
         housed = s.housed;
         managed = all_managed d.settings.members d.laid.links d.clock (slice_set d.processes i put_process) d.managements i number teller r.first.is_management s.managed;
+        enrolled = enrolled_on d.laid.is_static d.settings.members d.settings.admits d.managements (slice_set d.managements i (with_sent teller number)) d.enrolled (states_set d.managements i teller (with_sent teller number) r.first.is_management refl) h.enrolled;
         connected = s.connected;
         flooded = λ alive. offered_floods d i place number sdu (offered_entry (constants (manage_config d) o'.offers.cube o'.offers.its_ids) o'.parts o'.offers.line) o'.offers.end flows (slice_set d.processes i put_process) r.here r.first tell early o'.offers.place.is_conn.end o'.cut.1 o'.offers.offered.3 (h.flooded alive);
       }

@@ -205,6 +205,7 @@ module _ (d : Dif) (at since : ℕ) (port : Port) (hop : Hop) (lines : List Dire
         tied = h.tied;
         housed = house.housed;
         managed = house.managed;
+        enrolled = h.enrolled;
         connected = record {
           may = h.connected.may;
           lines = links';
@@ -316,6 +317,7 @@ flow_taken d at since port hop (Ok end) d' other same settles lines below h kept
       tied = s.tied;
       housed = s.housed;
       managed = s.managed;
+      enrolled = s.enrolled;
       connected = s.connected below h.connected;
       flooded = s.flooded;
       channels = inl (other, same);

@@ -90,6 +90,7 @@ own_none d at since hop ps lt own none notes lines below h there =
       tied = h.tied;
       housed = house.housed;
       managed = house.managed;
+      enrolled = h.enrolled;
       connected = λ down. kept_by (config_of d.settings) d.clock d.connections (seen_of d).processes (map process_of ps) down (λ may. subst (λ (z : DifSeen). LeavesLinks (seen_of d).processes z.processes) (sym (stepped d at x.0 ps x.3)) (noted_leaves (seen_of d).processes at (process_of p.0) hop (causes.NoConnection hop.pdu.dcep) (process_of x.0) (shown_at d at p.0 p.1) x.1));
       flooded = λ f. f;
     }
@@ -133,6 +134,7 @@ own_told d at since hop place flows own kind taken tells same lines below h ther
       tied = t.tied;
       housed = h.housed;
       managed = h.managed;
+      enrolled = h.enrolled;
       connected = λ down c. c;
       flooded = λ f. f;
     }
@@ -232,6 +234,7 @@ own_arrived d at since hop place cause flows ps lt own kind taken arrives lines 
       tied = in_.tied;
       housed = house.housed;
       managed = house.managed;
+      enrolled = h.enrolled;
       connected = λ down. kept_by (config_of d.settings) d.clock d.connections (seen_of d).processes (map process_of ps) down (λ may. subst (λ (z : DifSeen). LeavesLinks (seen_of d).processes z.processes) (sym (stepped d at (record p.0 { ledger = x.0 }) ps x.2)) (leaves_same (seen_of d).processes at (process_of p.0) (process_of (record p.0 { ledger = x.0 })) (shown_at d at p.0 p.1) refl refl));
       flooded = λ f. f;
     }
@@ -277,6 +280,7 @@ settles_on d at since hop ps (Ok end) d' me settles lines below h there =
       tied = s.tied;
       housed = s.housed;
       managed = s.managed;
+      enrolled = s.enrolled;
       connected = λ down c. s.connected down (subst (λ (z : DifSeen). AreConnected (config_of d.settings) d.clock d.connections z.processes down) (sym me.same) c);
       flooded = s.flooded;
     }

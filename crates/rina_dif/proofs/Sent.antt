@@ -289,7 +289,7 @@ sends_made d at sdu way made flows ps a offers puts lines below h =
         caused = offered_caused (seen_of d) lines below at o.parts made.num (seen_of d') o.lines' offer.2 h.caused;
         written_off = offers_written (seen_of d) lines at o.parts (Ok made.num) (seen_of d') o.lines' h.written_off offer;
         housed = kept.housed;
-        managed = kept.managed;
+        managed = kept.managed; enrolled = h.enrolled;
         connected = kept_by (config_of d.settings) d.clock d.connections (seen_of d).processes (seen_of d').processes below (λ may. sends_leave (seen_of d) lines at o.parts (Ok made.num) (seen_of d') o.lines' may.managed.only offer) h.connected;
         flooded = h.flooded;
       };
@@ -303,7 +303,7 @@ refailed d lines below at sdu r d' failed alive s = record {
   cut = s.cut;
   lines' = s.lines';
   offers = s.offers;
-  holds = record { tied = s.holds.tied; standing = s.holds.standing; carrying = s.holds.carrying; numbered = s.holds.numbered; accounted = s.holds.accounted; caused = s.holds.caused; written_off = s.holds.written_off; housed = s.holds.housed; managed = s.holds.managed; connected = s.holds.connected; flooded = λ still. s.holds.flooded alive };
+  holds = record { tied = s.holds.tied; standing = s.holds.standing; carrying = s.holds.carrying; numbered = s.holds.numbered; accounted = s.holds.accounted; caused = s.holds.caused; written_off = s.holds.written_off; housed = s.holds.housed; managed = s.holds.managed; enrolled = s.holds.enrolled; connected = s.holds.connected; flooded = λ still. s.holds.flooded alive };
 }
 
 pub sends_at : (o : Option ℕ) (d : Dif) (lines : List Direction) (below : Seen) (at : ℕ) (sdu : List ℕ) (r : Result Num SendError) (d' : Dif) → o ≡ Some at → Sends d lines below at sdu r d' → SendsAt o d lines below sdu r d'

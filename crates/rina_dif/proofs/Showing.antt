@@ -16,11 +16,13 @@ use Rattle.rina_iface.specs.declared.ends.End.{End}
 use Rattle.rina_iface.specs.declared.ask.Registered.{Registered}
 use Rattle.rina_iface.specs.declared.error.AllocateError.{AllocateError}
 use Rattle.rina_iface.specs.declared.error.AllocateError.TheVariants.{Memory as MemoryWanted}
+use Rattle.rina_iface.specs.Ends.{drawn_at}
 use Rattle.rina_iface.specs.Seen.{Seen}
 use Rattle.rina_law.specs.Direction.{Direction}
 use Rattle.rina_iface.specs.declared.state.PortState.{PortState}
 use Rattle.rina_iface.specs.declared.state.PortState.TheVariants.{Allocated}
 use Rattle.rina_data.specs.Configs.{member_of}
+use Rattle.rina_dif_law.specs.Dif.{DifSeen}
 use Rattle.rina_data.proofs.Finding.{there}
 use Rattle.rina_member.specs.declared.management.Management.{Management}
 use Rattle.rina_member.specs.Objects.{flow_name, removed}
@@ -33,11 +35,12 @@ use Rattle.rina_dif.specs.Changing.{EndsFlow, FreesManaged, ManagesFree, MayHold
 use Rattle.rina_dif.specs.Elsewhere.{home_of}
 use Rattle.rina_dif.specs.Freeing.{FreesHere}
 use Rattle.rina_dif.specs.Holding.{Holds}
-use Rattle.rina_dif.specs.Managing.{AreManagedBy, agents_of}
+use Rattle.rina_dif.specs.Managing.{AreEnrolled, AreManagedBy, agents_of, states_of}
 use Rattle.rina_dif.specs.Shown.{seen_of}
 use Rattle.rina_dif.specs.Timely.{GivesUpAs}
 use Rattle.rina_agent.specs.declared.state.MemberState.TheVariants.{Enrolled}
 use Rattle.rina_dif.specs.Flooding.{AreFlooding}
+use Rattle.rina_dif.proofs.Enrolled.{all_are, enrolled_on, states_agents, states_entered}
 use Rattle.rina_dif.proofs.Entered.{all_entered, managed_entered}
 use Rattle.rina_dif.proofs.Flooding.{entered_floods, same_agents}
 use Rattle.rina_dif.proofs.Leaves.{has_process}
@@ -47,12 +50,15 @@ use Rattle.rina_dif.proofs.Managed.{changed_agents, managed_shown}
 abbrev pub managing : Dif → List Management → Dif
 managing d ms = record d { managements = ms }
 
-pub holds_managed : (d : Dif) (lines : List Direction) (below : Seen) (ms : List Management) → AreManagedBy d.settings.members d.laid.links d.clock d.processes ms → (d.failed ≡ false → AreFlooding (managing d ms)) → Holds d lines below → Holds (managing d ms) lines below
-holds_managed d lines below ms managed floods h = record { tied = h.tied; standing = h.standing; carrying = h.carrying; numbered = h.numbered; accounted = h.accounted; caused = h.caused; written_off = h.written_off; housed = h.housed; managed = managed; connected = h.connected; flooded = floods }
+still_enrolled : (d : Dif) (ms : List Management) → states_of ms ≡ states_of d.managements → AreEnrolled d → AreEnrolled (managing d ms)
+still_enrolled d ms states h = enrolled_on d.laid.is_static d.settings.members d.settings.admits d.managements ms d.enrolled states h
+
+pub holds_managed : (d : Dif) (lines : List Direction) (below : Seen) (ms : List Management) → AreManagedBy d.settings.members d.laid.links d.clock d.processes ms → states_of ms ≡ states_of d.managements → (d.failed ≡ false → AreFlooding (managing d ms)) → Holds d lines below → Holds (managing d ms) lines below
+holds_managed d lines below ms managed states floods h = record { tied = h.tied; standing = h.standing; carrying = h.carrying; numbered = h.numbered; accounted = h.accounted; caused = h.caused; written_off = h.written_off; housed = h.housed; managed = managed; enrolled = still_enrolled d ms states h.enrolled; connected = h.connected; flooded = floods }
 
 -- with other objects
 pub holds_shown : (d : Dif) (lines : List Direction) (below : Seen) (ms : List Management) → agents_of ms ≡ agents_of d.managements → Holds d lines below → Holds (managing d ms) lines below
-holds_shown d lines below ms same h = holds_managed d lines below ms (managed_shown d.settings.members d.laid.links d.clock d.processes d.managements ms same h.managed) (λ alive. same_agents d ms same (h.flooded alive)) h
+holds_shown d lines below ms same h = holds_managed d lines below ms (managed_shown d.settings.members d.laid.links d.clock d.processes d.managements ms same h.managed) (states_agents d.managements ms same) (λ alive. same_agents d ms same (h.flooded alive)) h
 
 -- One member shows other objects
 
@@ -68,25 +74,23 @@ frees_shown d d' lines below at (Err e) ms same f = record { same = f.same; hold
 pub gives_up_shown : (d d' : Dif) (lines : List Direction) (below : Seen) (at : ℕ) (num : Num) (ms : List Management) → agents_of ms ≡ agents_of d'.managements → GivesUpAs d lines below at (Ok (Some num)) d' → GivesUpAs d lines below at (Ok (Some num)) (managing d' ms)
 gives_up_shown d d' lines below at num ms same g = record { given_up = g.given_up; cep = g.cep; holds = holds_shown d' lines below ms same g.holds }
 
--- each member is enrolled
-all_enrolled : (d : Dif) (lines : List Direction) (below : Seen) → Holds d lines below → (k : ℕ) (g : Management) → slice_get d.managements k ≡ Some g → g.agent.state ≡ Enrolled
-all_enrolled d lines below h k g is =
-    let within = slice_get_within d.managements k g is in
-    let aligned = h.managed.aligned in
-    let lt : k < length d.settings.members = omega (arith, within, aligned) in
-    let m = there d.settings.members k lt in
-    let p = has_process d below k (lines, h) lt in
-    (h.managed.each k m.0 p.0 g m.1 p.1 is).knows.enrolled
+-- a member may draw a port, so the DIF admits fixed flows
+may_admit : (n admits admits' : ℕ) → n < admits' → admits ≡ admits' → 0 < admits
+may_admit n admits admits' room same = omega (arith, room, same)
+
+-- so each member is enrolled
+binds_enrolled : (d d' : Dif) (lines : List Direction) (below : Seen) (fixed : Fixed) (ports : Port × Port) → BindsAt d lines below fixed ports d' → (k : ℕ) (g : Management) → slice_get d'.managements k ≡ Some g → g.agent.state ≡ Enrolled
+binds_enrolled d d' lines below fixed ports f = all_are d' f.lines' below f.holds (may_admit (drawn_at fixed.a d.flows.journal.ends) d'.settings.admits d.settings.admits f.bound.at_a.room (ap (λ (z : DifSeen). z.config.admits) f.bound.new_is))
 
 -- a flow is bound: each member took the entry of its far application
 pub binds_shown_all : (d d' : Dif) (lines : List Direction) (below : Seen) (fixed : Fixed) (ports : Port × Port) (app : List ℕ) (far : Member) (ms : List Management) → app_at app ≡ Ok app → Contains d'.settings.members far → agents_of ms ≡ agents_of (map (entered app far.addr) d'.managements) → BindsAt d lines below fixed ports d' → BindsAt d lines below fixed ports (managing d' ms)
-binds_shown_all d d' lines below fixed ports app far ms name among are f = record {
+binds_shown_all d d' lines below fixed ports app far ms name among are f = (let took = all_entered app far.addr d'.managements ms are in record {
   lines' = f.lines';
   bound = f.bound;
   a_port = f.a_port;
   b_port = f.b_port;
-  holds = holds_managed d' f.lines' below ms (managed_entered d'.settings.members d'.laid.links d'.clock d'.processes d'.managements ms app far.addr name (small_address d'.settings.members d'.laid.links f.holds.managed.laid_out far among) f.holds.managed (all_entered app far.addr d'.managements ms are)) (λ alive. entered_floods d' app far ms among (all_enrolled d' f.lines' below f.holds) are (f.holds.flooded alive)) f.holds;
-}
+  holds = holds_managed d' f.lines' below ms (managed_entered d'.settings.members d'.laid.links d'.clock d'.processes d'.managements ms app far.addr name (small_address d'.settings.members d'.laid.links f.holds.managed.laid_out far among) (binds_enrolled d d' lines below fixed ports f) f.holds.managed took) (states_entered app far.addr d'.managements ms took) (λ alive. entered_floods d' app far ms among (binds_enrolled d d' lines below fixed ports f) are (f.holds.flooded alive)) f.holds;
+})
 
 -- the managements were changed first, and then the flow was added
 pub binds_managed : (d d1 d2 : Dif) (lines : List Direction) (below : Seen) (fixed : Fixed) (ports : Port × Port) (app : List ℕ) (far : Member) (names : List Registered) → app_at app ≡ Ok app → Contains d.settings.members far → d1 ≡ managing d d1.managements → d2 ≡ record d1 { flows = d2.flows; ids = d2.ids; names = names } → agents_of d1.managements ≡ agents_of (map (entered app far.addr) d.managements) → BindsAt d lines below fixed ports (record d { flows = d2.flows; ids = d2.ids; names = names }) → BindsAt d lines below fixed ports d2
@@ -95,12 +99,12 @@ binds_managed d d1 d2 lines below fixed ports app far names name among whole res
     subst (BindsAt d lines below fixed ports) (sym is) (binds_shown_all d (record d { flows = d2.flows; ids = d2.ids; names = names }) lines below fixed ports app far d1.managements name among are f)
 
 -- an allocation failed, and the managements alone may have changed
-failed_holds : (d : Dif) (lines : List Direction) (below : Seen) (ms : List Management) → AreManagedBy d.settings.members d.laid.links d.clock d.processes ms → Holds d lines below → Holds (record (managing d ms) { failed = true }) lines below
-failed_holds d lines below ms managed h = record { tied = h.tied; standing = h.standing; carrying = h.carrying; numbered = h.numbered; accounted = h.accounted; caused = h.caused; written_off = h.written_off; housed = h.housed; managed = managed; connected = h.connected; flooded = λ alive. absurd (false≢true (sym alive)) }
+failed_holds : (d : Dif) (lines : List Direction) (below : Seen) (ms : List Management) → AreManagedBy d.settings.members d.laid.links d.clock d.processes ms → states_of ms ≡ states_of d.managements → Holds d lines below → Holds (record (managing d ms) { failed = true }) lines below
+failed_holds d lines below ms managed states h = record { tied = h.tied; standing = h.standing; carrying = h.carrying; numbered = h.numbered; accounted = h.accounted; caused = h.caused; written_off = h.written_off; housed = h.housed; managed = managed; enrolled = still_enrolled d ms states h.enrolled; connected = h.connected; flooded = λ alive. absurd (false≢true (sym alive)) }
 
 -- before the managements changed
 pub binds_nothing : (d : Dif) (fixed : Fixed) (r : Result (Port × Port) AllocateError) (e : AllocateError) → r ≡ Err e → e ≡ MemoryWanted → (lines : List Direction) (below : Seen) → Holds d lines below → BindsTo d lines below fixed r (noting r d)
-binds_nothing d fixed r e is why lines below h = subst (λ (v : Result (Port × Port) AllocateError). BindsTo d lines below fixed v (noting v d)) (sym (is ∙ ap (λ (z : AllocateError). Err z) why)) (refl, failed_holds d lines below d.managements h.managed h)
+binds_nothing d fixed r e is why lines below h = subst (λ (v : Result (Port × Port) AllocateError). BindsTo d lines below fixed v (noting v d)) (sym (is ∙ ap (λ (z : AllocateError). Err z) why)) (refl, failed_holds d lines below d.managements h.managed refl h)
 
 pub binds_failed : (d d1 d' : Dif) (fixed : Fixed) (r : Result (Port × Port) AllocateError) (e : AllocateError) → app_at fixed.b_app ≡ Ok fixed.b_app → MayBind d fixed → r ≡ Err e → e ≡ MemoryWanted → d1 ≡ managing d d1.managements → MayHoldFar d fixed d1.managements → d' ≡ d1 → (lines : List Direction) (below : Seen) → Holds d lines below → BindsTo d lines below fixed r (noting r d')
 binds_failed d d1 d' fixed r e name may is why whole far same lines below h =
@@ -108,7 +112,7 @@ binds_failed d d1 d' fixed r e name may is why whole far same lines below h =
     let within = slice_get_within (map member_of members) may.at_b.place may.of_b may.at_b.stands in
     let member = there members may.at_b.place (omega (arith, within, length-map members member_of)) in
     let took = far may.at_b.place member.0 may.at_b.at_home member.1 in
-    let holds : Holds (record (managing d d1.managements) { failed = true }) lines below = failed_holds d lines below d1.managements (managed_entered members d.laid.links d.clock d.processes d.managements d1.managements fixed.b_app member.0.addr name (small_address members d.laid.links h.managed.laid_out member.0 (is_there members may.at_b.place member.0 member.1)) h.managed took) h in
+    let holds : Holds (record (managing d d1.managements) { failed = true }) lines below = failed_holds d lines below d1.managements (managed_entered members d.laid.links d.clock d.processes d.managements d1.managements fixed.b_app member.0.addr name (small_address members d.laid.links h.managed.laid_out member.0 (is_there members may.at_b.place member.0 member.1)) (all_are d lines below h (may_admit (drawn_at fixed.a d.flows.journal.ends) d.settings.admits d.settings.admits may.at_a.room refl)) h.managed took) (states_entered fixed.b_app member.0.addr d.managements d1.managements took) h in
     let all : d' ≡ managing d d1.managements = same ∙ whole in
     subst (λ (v : Result (Port × Port) AllocateError). BindsTo d lines below fixed v (noting v d')) (sym (is ∙ ap (λ (z : AllocateError). Err z) why)) (ap seen_of all, subst (λ (z : Dif). Holds (record z { failed = true }) lines below) (sym all) holds)
 

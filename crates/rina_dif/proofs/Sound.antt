@@ -184,6 +184,11 @@ one_named plan d n m differ in_n in_m same =
       ]
     ]
 
+-- a DIF that is not static admits no fixed flows
+few_fixed : (is_static : Bool) (admits ceps : ℕ) → admits < ceps → cond is_static admits 0 < ceps
+few_fixed true admits ceps lt = lt
+few_fixed false admits ceps lt = omega (arith, lt)
+
 -- the members of its settings
 pub are_members : (plan : Plan) (i : ℕ) (d : DifPlan) → IsPlan plan → slice_get plan.difs i ≡ Some d → AreMembers (config_of (settings_by plan i d))
 are_members plan i d sound at =
@@ -214,7 +219,7 @@ are_members plan i d sound at =
       fit = λ j a x.
           let p = planned plan d n d.members j a x in
           subst (λ (z : ℕ). z < 2 ^ (8 * d.widths.addr)) p.2 (most_fits d.widths.addr p.0.addr widths.addr (addressed d.widths.addr p.0 (any_false (is_misaddressed d.widths.addr) d.members j p.0 placed.fit p.1)));
-      ceps = less_one d.widths.cep widths.cep;
+      ceps = few_fixed d.is_static (2 ^ (8 * d.widths.cep) - 1) (2 ^ (8 * d.widths.cep)) (less_one d.widths.cep widths.cep);
     }
 
 fitting : (d : DifPlan) → has_unfit_pdu d ≡ false → (nat_lt (greatest_of d.widths.len) d.pdu ≡ false) × (4 + pci_size Piece d.widths < d.pdu) × (4 + pci_size Ack d.widths ≤ d.pdu)

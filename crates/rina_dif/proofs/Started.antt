@@ -24,7 +24,10 @@ use Rattle.rina_plan.specs.declared.dif.DifPlan.{DifPlan}
 use Rattle.rina_plan.specs.declared.dif.LinkPlan.{LinkPlan}
 use Rattle.rina_plan.specs.declared.dif.MemberPlan.{MemberPlan}
 use Rattle.rina_plan.specs.Counts.{IsRoomy, has_link_end, links_of as all_links}
-use Rattle.rina_plan.specs.Kept.{AreApart, IsFitLink}
+use Rattle.rina_newest.specs.declared.item.Item.{Item}
+use Rattle.rina_rib.specs.Rows.{Tree}
+use Rattle.rina_plan.specs.Kept.{AreApart, IsFitLink, IsStanding}
+use Rattle.rina_iface.specs.declared.ask.Fixed.{Fixed}
 use Rattle.rina_stack.specs.declared.plan.Plan.{Plan}
 use Rattle.rina_stack.specs.Plan.{IsPlan, wire_ends}
 use Rattle.rina_stack.specs.Ranges.{IsRangedDif}
@@ -40,7 +43,7 @@ use Rattle.rina_dif_law.specs.Standing.{IsConfig}
 use Rattle.rina_member.specs.Knowing.{AreLive, AreNumbered, AreRoutesOf, IsLaidOut, Knows, hops_of}
 use Rattle.rina_member.specs.Routing.{edge_back, edge_there, edges_from, routes_to}
 use Rattle.rina_member.specs.Objects.{first_objects}
-use Rattle.rina_member.specs.Start.{items_held, started}
+use Rattle.rina_member.specs.Start.{HasLinksIfStatic, items_held, started, starts_enrolled}
 use Rattle.rina_member.specs.Short.{AreNamed, HaveFewLinks}
 use Rattle.rina_member.proofs.Knowing.{starts_knowing, starts_routed}
 use Rattle.rina_member.proofs.Lists.{at_place}
@@ -60,15 +63,15 @@ same_some xs k a b h f = cc
 
 -- One after the other
 
-pub none_started : (cubes : List Cube) (members : List Kept) (plans : List LinkPlan) (rules : List Rule) (allow : Bool) (processes : List IpcProcess) → AreStarted cubes members plans rules allow 0 processes []
-none_started cubes members plans rules allow processes = record { aligned = refl; each = λ k m p g is here at. absurd (none k g at) }
+pub none_started : (is_static : Bool) (cubes : List Cube) (members : List Kept) (plans : List LinkPlan) (rules : List Rule) (allow : Bool) (processes : List IpcProcess) → AreStarted is_static cubes members plans rules allow 0 processes []
+none_started is_static cubes members plans rules allow processes = record { aligned = refl; each = λ k m p g is here at. absurd (none k g at) }
   where
     none : (k : ℕ) (g : Management) → slice_get [] k ≡ Some g → ⊥
     none k g at = absurd cc
 
-next_started : (cubes : List Cube) (members : List Kept) (plans : List LinkPlan) (rules : List Rule) (allow : Bool) (at : ℕ) (processes : List IpcProcess) (managements : List Management) (m : Kept) (p : IpcProcess) (access : Rules) (g : Management) → AreStarted cubes members plans rules allow at processes managements → slice_get members at ≡ Some m → slice_get processes at ≡ Some p → IsStarted cubes members plans rules allow m p.links g
-    → AreStarted cubes members plans rules allow (at + 1) processes (managements ++ g ∷ [])
-next_started cubes members plans rules allow at processes managements m p access g so is_m is_p one = record {
+next_started : (is_static : Bool) (cubes : List Cube) (members : List Kept) (plans : List LinkPlan) (rules : List Rule) (allow : Bool) (at : ℕ) (processes : List IpcProcess) (managements : List Management) (m : Kept) (p : IpcProcess) (access : Rules) (g : Management) → AreStarted is_static cubes members plans rules allow at processes managements → slice_get members at ≡ Some m → slice_get processes at ≡ Some p → IsStarted is_static cubes members plans rules allow m p.links g
+    → AreStarted is_static cubes members plans rules allow (at + 1) processes (managements ++ g ∷ [])
+next_started is_static cubes members plans rules allow at processes managements m p access g so is_m is_p one = record {
   aligned = (let e = so.aligned in length_push managements g ∙ omega (arith, e));
   each = λ k x q y is_x is_q is_y. elim (pushed_at managements g k y is_y) [
     | inl before ↦ so.each k x q y is_x is_q before
@@ -76,7 +79,7 @@ next_started cubes members plans rules allow at processes managements m p access
         (let k_is : k ≡ at = last.0 ∙ so.aligned in
         let x_is : x ≡ m = same_some members at x m (ap (slice_get members) (sym k_is) ∙ is_x) is_m in
         let q_is : q ≡ p = same_some processes at q p (ap (slice_get processes) (sym k_is) ∙ is_q) is_p in
-        subst (λ (z : Management). IsStarted cubes members plans rules allow x q.links z) (sym last.1) (subst (λ (z : Kept). IsStarted cubes members plans rules allow z q.links g) (sym x_is) (subst (λ (z : IpcProcess). IsStarted cubes members plans rules allow m z.links g) (sym q_is) one)))
+        subst (λ (z : Management). IsStarted is_static cubes members plans rules allow x q.links z) (sym last.1) (subst (λ (z : Kept). IsStarted is_static cubes members plans rules allow z q.links g) (sym x_is) (subst (λ (z : IpcProcess). IsStarted is_static cubes members plans rules allow m z.links g) (sym q_is) one)))
   ];
 }
   where
@@ -84,16 +87,21 @@ next_started cubes members plans rules allow at processes managements m p access
     length_push [] x = refl
     length_push (y ∷ ys) x = (let rest = length_push ys x in omega (arith, rest))
 
--- as the code makes them
-pub turn_started : (cubes : List Cube) (members : List Kept) (plans : List LinkPlan) (rules : List Rule) (allow : Bool) (at : ℕ) (processes : List IpcProcess) (managements managements' : List Management) (m : Kept) (p : IpcProcess) (links : List Link) (access : Rules) (g : Management) → AreStarted cubes members plans rules allow at processes managements → at < length members → m ≡ get_or members at m → slice_get processes at ≡ Some p → links ≡ p.links
-    → access.rules ≡ rules → access.default ≡ allow → g.agent ≡ started members plans access m links → g.objects ≡ first_objects cubes (items_held members plans) → managements' ≡ managements ++ g ∷ [] → AreStarted cubes members plans rules allow (at + 1) processes managements'
-turn_started cubes members plans rules allow at processes managements managements' m p links access g so lt is_m is_p links_are rules_are default_is is shows new =
-    let here : slice_get members at ≡ Some m = slice_get-get_or members at m lt ∙ ap (λ (x : Kept). Some x) (sym is_m) in
-    let one : IsStarted cubes members plans rules allow m p.links g = record { access = access; rules_are = rules_are; default_is = default_is; is = is ∙ ap (started members plans access m) links_are; shows = shows } in
-    subst (AreStarted cubes members plans rules allow (at + 1) processes) (sym new) (next_started cubes members plans rules allow at processes managements m p access g so here is_p one)
+-- a member shows the cubes, and what it holds
+pub shown_begun : (cubes : List Cube) (on off objects : Tree) (items taken : List Item) (flag enrolled : Bool) → flag ≡ enrolled → objects ≡ cond flag on off → on ≡ first_objects cubes items → off ≡ first_objects cubes [] → items ≡ taken → objects ≡ first_objects cubes (cond enrolled taken [])
+shown_begun cubes on off objects items taken true enrolled same is shown none items_are = is ∙ shown ∙ ap (first_objects cubes) (items_are ∙ ap (λ (b : Bool). cond b taken []) same)
+shown_begun cubes on off objects items taken false enrolled same is shown none items_are = is ∙ none ∙ ap (first_objects cubes) (ap (λ (b : Bool). cond b taken []) same)
 
-pub all_started : (cubes : List Cube) (members : List Kept) (plans : List LinkPlan) (rules : List Rule) (allow : Bool) (at : ℕ) (processes : List IpcProcess) (managements : List Management) → length members ≤ at → at ≤ length members → AreStarted cubes members plans rules allow at processes managements → AreStarted cubes members plans rules allow (length members) processes managements
-all_started cubes members plans rules allow at processes managements le ge so = (let same : at ≡ length members = omega (arith, le, ge) in subst (λ (n : ℕ). AreStarted cubes members plans rules allow n processes managements) same so)
+-- as the code makes them
+pub turn_started : (is_static : Bool) (cubes : List Cube) (members : List Kept) (plans : List LinkPlan) (rules : List Rule) (allow : Bool) (at : ℕ) (processes : List IpcProcess) (managements managements' : List Management) (m : Kept) (p : IpcProcess) (links : List Link) (access : Rules) (g : Management) → AreStarted is_static cubes members plans rules allow at processes managements → at < length members → m ≡ get_or members at m → slice_get processes at ≡ Some p → links ≡ p.links
+    → access.rules ≡ rules → access.default ≡ allow → g.agent ≡ started is_static members plans access m links → g.objects ≡ first_objects cubes (items_held is_static members plans m) → managements' ≡ managements ++ g ∷ [] → AreStarted is_static cubes members plans rules allow (at + 1) processes managements'
+turn_started is_static cubes members plans rules allow at processes managements managements' m p links access g so lt is_m is_p links_are rules_are default_is is shows new =
+    let here : slice_get members at ≡ Some m = slice_get-get_or members at m lt ∙ ap (λ (x : Kept). Some x) (sym is_m) in
+    let one : IsStarted is_static cubes members plans rules allow m p.links g = record { access = access; rules_are = rules_are; default_is = default_is; is = is ∙ ap (started is_static members plans access m) links_are; shows = shows } in
+    subst (AreStarted is_static cubes members plans rules allow (at + 1) processes) (sym new) (next_started is_static cubes members plans rules allow at processes managements m p access g so here is_p one)
+
+pub all_started : (is_static : Bool) (cubes : List Cube) (members : List Kept) (plans : List LinkPlan) (rules : List Rule) (allow : Bool) (at : ℕ) (processes : List IpcProcess) (managements : List Management) → length members ≤ at → at ≤ length members → AreStarted is_static cubes members plans rules allow at processes managements → AreStarted is_static cubes members plans rules allow (length members) processes managements
+all_started is_static cubes members plans rules allow at processes managements le ge so = (let same : at ≡ length members = omega (arith, le, ge) in subst (λ (n : ℕ). AreStarted is_static cubes members plans rules allow n processes managements) same so)
 
 -- The members and links of a DIF
 
@@ -188,32 +196,36 @@ none_of g members none = record {
   are = sym (no_routes g.address members);
 }
 
-no_links : (members : List Kept) (plans : List LinkPlan) (access : Rules) (m : Kept) → hops_of (started members plans access m []).links ≡ []
+no_begun : (enrolled : Bool) → hops_of (cond enrolled [] []) ≡ []
+no_begun true = refl
+no_begun false = refl
+
+no_links : (is_static : Bool) (members : List Kept) (plans : List LinkPlan) (access : Rules) (m : Kept) → hops_of (started is_static members plans access m []).links ≡ []
 unfolding started
-no_links members plans access m = refl
+no_links is_static members plans access m = no_begun (starts_enrolled is_static members m.addr)
 
 no_link : (k : ℕ) (link : Link) → slice_get [] k ≡ Some link → ⊥
 no_link k link is = absurd cc
 
 -- a management without links knows all that there is to know of them
-bare_one : (s : Settings) (now : ℕ) (rules : List Rule) (allow : Bool) (m : Kept) (p : IpcProcess) (g : Management) → IsLaidOut s.members [] → AreNamed s.members → Contains s.members m → p.links ≡ [] → p.routes ≡ [] → IsStarted s.cubes s.members [] rules allow m p.links g → IsManaged s.members [] now m p g
-bare_one s now rules allow m p g laid named among links routes one =
-    let is : g.agent ≡ started s.members [] one.access m [] = one.is ∙ ap (started s.members [] one.access m) links in
-    let knows : Knows s.members [] now m [] (started s.members [] one.access m []) = starts_knowing s.members [] one.access m [] now laid among (λ k link at. absurd (no_link k link at)) (λ k link at. absurd (no_link k link at)) (omega arith) in
+bare_one : (is_static : Bool) (s : Settings) (now : ℕ) (rules : List Rule) (allow : Bool) (m : Kept) (p : IpcProcess) (g : Management) → IsLaidOut s.members [] → AreNamed s.members → Contains s.members m → p.links ≡ [] → p.routes ≡ [] → IsStarted is_static s.cubes s.members [] rules allow m p.links g → IsManaged s.members [] now m p g
+bare_one is_static s now rules allow m p g laid named among links routes one =
+    let is : g.agent ≡ started is_static s.members [] one.access m [] = one.is ∙ ap (started is_static s.members [] one.access m) links in
+    let knows : Knows s.members [] now m [] (started is_static s.members [] one.access m []) = starts_knowing is_static s.members [] one.access m [] now laid (λ dynamic. refl) among (λ k link at. absurd (no_link k link at)) (λ k link at. absurd (no_link k link at)) (omega arith) in
     record {
       knows = subst (λ (ls : List Link). Knows s.members [] now m ls g.agent) (sym links) (subst (Knows s.members [] now m []) (sym is) knows);
-      routes = subst (AreRoutesOf g.agent s.members) (sym routes) (none_of g.agent s.members (ap (λ (z : Agent). hops_of z.links) is ∙ no_links s.members [] one.access m));
-      tells = subst (λ (z : Agent). TellsNeighbours z) (sym is) (starts_near s.members [] one.access m [] laid named (λ x has. omega arith) among (omega arith));
+      routes = subst (AreRoutesOf g.agent s.members) (sym routes) (none_of g.agent s.members (ap (λ (z : Agent). hops_of z.links) is ∙ no_links is_static s.members [] one.access m));
+      tells = subst (λ (z : Agent). TellsNeighbours z) (sym is) (starts_near is_static s.members [] one.access m [] laid named (λ x has. omega arith) among (omega arith));
     }
 
-pub bare_managed : (s : Settings) (plans : List LinkPlan) (rules : List Rule) (allow : Bool) (now : ℕ) (ps : List IpcProcess) (managements : List Management) → plans ≡ [] → AreBare s ps → IsConfig (config_of s) → AreMembers (config_of s) → AreNamed s.members → AreStarted s.cubes s.members plans rules allow (length s.members) ps managements → AreManagedBy s.members plans now ps managements
-bare_managed s plans rules allow now ps managements none bare config members named so =
+pub bare_managed : (is_static : Bool) (s : Settings) (plans : List LinkPlan) (rules : List Rule) (allow : Bool) (now : ℕ) (ps : List IpcProcess) (managements : List Management) → plans ≡ [] → AreBare s ps → IsConfig (config_of s) → AreMembers (config_of s) → AreNamed s.members → AreStarted is_static s.cubes s.members plans rules allow (length s.members) ps managements → AreManagedBy s.members plans now ps managements
+bare_managed is_static s plans rules allow now ps managements none bare config members named so =
     let laid : IsLaidOut s.members [] = laid_out s [] config members (λ k d lt. absurd (omega (arith, lt))) in
-    let so' : AreStarted s.cubes s.members [] rules allow (length s.members) ps managements = subst (λ (ls : List LinkPlan). AreStarted s.cubes s.members ls rules allow (length s.members) ps managements) none so in
+    let so' : AreStarted is_static s.cubes s.members [] rules allow (length s.members) ps managements = subst (λ (ls : List LinkPlan). AreStarted is_static s.cubes s.members ls rules allow (length s.members) ps managements) none so in
     subst (λ (ls : List LinkPlan). AreManagedBy s.members ls now ps managements) (sym none) (record {
       laid_out = laid;
       aligned = so'.aligned;
-      each = λ k m p g is_m is_p is_g. (let b = bare.each k p is_p in bare_one s now rules allow m p g laid named (is_among s.members k m is_m) b.links b.routes (so'.each k m p g is_m is_p is_g));
+      each = λ k m p g is_m is_p is_g. (let b = bare.each k p is_p in bare_one is_static s now rules allow m p g laid named (is_among s.members k m is_m) b.links b.routes (so'.each k m p g is_m is_p is_g));
     })
 
 -- The links of a plan
@@ -327,11 +339,22 @@ all_few plan i dif s ports old new sound at are b m among =
     let all = enough plan dif s.members m.node dif.links ports old new b in
     omega (arith, most, all)
 
+-- a DIF that is not static has no links
+pub no_plans : (plan : Plan) (i : ℕ) (dif : DifPlan) → IsPlan plan → slice_get plan.difs i ≡ Some dif → HasLinksIfStatic dif.is_static dif.links
+no_plans plan i dif sound at dynamic = ((all_at (IsStanding plan.difs) plan.difs i dif sound.uses at).bare dynamic).0
+
+none_bound : (old new : Seen) (fs : List Fixed) (ports : List (Port × Port)) → fs ≡ [] → BindsAll old fs ports new → ports ≡ []
+none_bound old new fs [] none b = refl
+none_bound old new fs (p ∷ ps) none b = absurd (subst (λ (xs : List Fixed). BindsAll old xs (p ∷ ps) new) none b)
+
+pub no_ports : (plan : Plan) (i : ℕ) (dif : DifPlan) (ports : List (Port × Port)) (old new : Seen) → IsPlan plan → slice_get plan.difs i ≡ Some dif → BindsAll old (map (link_fixed plan dif) dif.links) ports new → HasLinksIfStatic dif.is_static ports
+no_ports plan i dif ports old new sound at b dynamic = none_bound old new (map (link_fixed plan dif) dif.links) ports (ap (map (link_fixed plan dif)) (no_plans plan i dif sound at dynamic)) b
+
 -- The managements of a DIF of a plan
 
 -- each was made of the links that were laid, and then the next hops were read from it
 pub made_managed : (plan : Plan) (i : ℕ) (dif : DifPlan) (d : Dif) (old new : Seen) (laid_ports : List (Port × Port)) (linked : List IpcProcess) → IsPlan plan → slice_get plan.difs i ≡ Some dif → d.settings ≡ settings_by plan i dif → IsConfig (config_of d.settings) → AreMembers (config_of d.settings) → AreNamed d.settings.members → AreLaid plan dif d.settings dif.links old new laid_ports linked
-    → AreStarted d.settings.cubes d.settings.members dif.links dif.rules dif.allow (length d.settings.members) linked d.managements → AreRouted d.settings.members d.managements (length d.managements) linked d.processes → AreManagedBy d.settings.members dif.links d.clock d.processes d.managements
+    → AreStarted dif.is_static d.settings.cubes d.settings.members dif.links dif.rules dif.allow (length d.settings.members) linked d.managements → AreRouted d.settings.members d.managements (length d.managements) linked d.processes → AreManagedBy d.settings.members dif.links d.clock d.processes d.managements
 made_managed plan i dif d old new laid_ports linked sound at are config members named laid so routed =
     let out : IsLaidOut d.settings.members dif.links = laid_out d.settings dif.links config members (weighs plan i dif sound at) in
     let fewest : HaveFewLinks d.settings.members dif.links = all_few plan i dif d.settings laid_ports old new sound at are laid.bound in
@@ -344,37 +367,37 @@ made_managed plan i dif d old new laid_ports linked sound at are config members 
           let one = so.each k m q.0 g is_m q.2 is_g in
           let ports = ports_at m.node (ends_of laid_ports) in
           let links : p.links ≡ links_from 0 ports = ap (λ (z : IpcProcess). z.links) q.3 ∙ up.links in
-          let is : g.agent ≡ started d.settings.members dif.links one.access m (links_from 0 ports) = one.is ∙ ap (started d.settings.members dif.links one.access m) up.links in
+          let is : g.agent ≡ started dif.is_static d.settings.members dif.links one.access m (links_from 0 ports) = one.is ∙ ap (started dif.is_static d.settings.members dif.links one.access m) up.links in
           let count = length_from 0 ports in
           let all : length (edges_from d.settings.members m.node dif.links) ≤ length ports = enough plan dif d.settings.members m.node dif.links laid_ports old new laid.bound in
           let most : length ports ≤ 16 = few_links plan i dif k m laid_ports old new sound at (ap (λ (s : Settings). slice_get s.members k) (sym are) ∙ is_m) laid.bound in
-          let knows : Knows d.settings.members dif.links d.clock m (links_from 0 ports) (started d.settings.members dif.links one.access m (links_from 0 ports)) =
-          starts_knowing d.settings.members dif.links one.access m (links_from 0 ports) d.clock out (is_among d.settings.members k m is_m) (are_numbered ports) (are_live ports) (omega (arith, all, count)) in
+          let knows : Knows d.settings.members dif.links d.clock m (links_from 0 ports) (started dif.is_static d.settings.members dif.links one.access m (links_from 0 ports)) =
+          starts_knowing dif.is_static d.settings.members dif.links one.access m (links_from 0 ports) d.clock out (λ dynamic. ap (λ (ps : List (Port × Port)). links_from 0 (ports_at m.node (ends_of ps))) (no_ports plan i dif laid_ports old new sound at laid.bound dynamic)) (is_among d.settings.members k m is_m) (are_numbered ports) (are_live ports) (omega (arith, all, count)) in
           let within = slice_get_within d.managements k g is_g in
           record {
             knows = subst (λ (ls : List Link). Knows d.settings.members dif.links d.clock m ls g.agent) (sym links) (subst (Knows d.settings.members dif.links d.clock m (links_from 0 ports)) (sym is) knows);
             routes = routed.routes k g p within is_g is_p;
-            tells = subst (λ (z : Agent). TellsNeighbours z) (sym is) (starts_near d.settings.members dif.links one.access m (links_from 0 ports) out named fewest (is_among d.settings.members k m is_m) (omega (arith, most, count)));
+            tells = subst (λ (z : Agent). TellsNeighbours z) (sym is) (starts_near dif.is_static d.settings.members dif.links one.access m (links_from 0 ports) out named fewest (is_among d.settings.members k m is_m) (omega (arith, most, count)));
           };
     }
 
 -- they are as they started
-pub started_still : (cubes : List Cube) (members : List Kept) (plans : List LinkPlan) (rules : List Rule) (allow : Bool) (linked ps : List IpcProcess) (managements : List Management) → AreStarted cubes members plans rules allow (length members) linked managements → AreRouted members managements (length managements) linked ps → AreStarted cubes members plans rules allow (length members) ps managements
-started_still cubes members plans rules allow linked ps managements so routed = record {
+pub started_still : (is_static : Bool) (cubes : List Cube) (members : List Kept) (plans : List LinkPlan) (rules : List Rule) (allow : Bool) (linked ps : List IpcProcess) (managements : List Management) → AreStarted is_static cubes members plans rules allow (length members) linked managements → AreRouted members managements (length managements) linked ps → AreStarted is_static cubes members plans rules allow (length members) ps managements
+started_still is_static cubes members plans rules allow linked ps managements so routed = record {
   aligned = so.aligned;
   each = λ k m p g is_m is_p is_g.
       let q = routed.same k p is_p in
-      subst (λ (z : IpcProcess). IsStarted cubes members plans rules allow m z.links g) (sym q.3) (so.each k m q.0 g is_m q.2 is_g);
+      subst (λ (z : IpcProcess). IsStarted is_static cubes members plans rules allow m z.links g) (sym q.3) (so.each k m q.0 g is_m q.2 is_g);
 }
 
 -- so their next hops are over the links of the plan
-pub first_routed : (cubes : List Cube) (members : List Kept) (plans : List LinkPlan) (rules : List Rule) (allow : Bool) (now : ℕ) (ps : List IpcProcess) (managements : List Management) → AreManagedBy members plans now ps managements → AreStarted cubes members plans rules allow (length members) ps managements → HaveFirstRoutes members plans ps
-first_routed cubes members plans rules allow now ps managements h so k m p is here =
+pub first_routed : (is_static : Bool) (cubes : List Cube) (members : List Kept) (plans : List LinkPlan) (rules : List Rule) (allow : Bool) (now : ℕ) (ps : List IpcProcess) (managements : List Management) → HasLinksIfStatic is_static plans → AreManagedBy members plans now ps managements → AreStarted is_static cubes members plans rules allow (length members) ps managements → HaveFirstRoutes members plans ps
+first_routed is_static cubes members plans rules allow now ps managements bare h so k m p is here =
     let g = its_agent members managements k m h.aligned is in
     let one = so.each k m p g.0 is here g.1 in
-    starts_routed members plans one.access m p.links p.routes h.laid_out (subst (λ (a : Agent). AreRoutesOf a members p.routes) one.is (h.each k m p g.0 is here g.1).routes)
+    starts_routed is_static members plans one.access m p.links p.routes h.laid_out bare (is_among members k m is) (subst (λ (a : Agent). AreRoutesOf a members p.routes) one.is (h.each k m p g.0 is here g.1).routes)
 
 -- seen otherwise
-pub same_started : (cubes cubes' : List Cube) (members members' : List Kept) (plans plans' : List LinkPlan) (rules rules' : List Rule) (allow : Bool) (processes : List IpcProcess) (managements : List Management) → cubes ≡ cubes' → members ≡ members' → plans ≡ plans' → rules ≡ rules' → AreStarted cubes members plans rules allow (length members) processes managements → AreStarted cubes' members' plans' rules' allow (length members') processes managements
-same_started cubes cubes' members members' plans plans' rules rules' allow processes managements c m p r so =
-    subst (λ (cs : List Cube). AreStarted cs members' plans' rules' allow (length members') processes managements) c (subst (λ (ms : List Kept). AreStarted cubes ms plans' rules' allow (length ms) processes managements) m (subst (λ (ls : List LinkPlan). AreStarted cubes members ls rules' allow (length members) processes managements) p (subst (λ (rs : List Rule). AreStarted cubes members plans rs allow (length members) processes managements) r so)))
+pub same_started : (is_static : Bool) (cubes cubes' : List Cube) (members members' : List Kept) (plans plans' : List LinkPlan) (rules rules' : List Rule) (allow : Bool) (processes : List IpcProcess) (managements : List Management) → cubes ≡ cubes' → members ≡ members' → plans ≡ plans' → rules ≡ rules' → AreStarted is_static cubes members plans rules allow (length members) processes managements → AreStarted is_static cubes' members' plans' rules' allow (length members') processes managements
+same_started is_static cubes cubes' members members' plans plans' rules rules' allow processes managements c m p r so =
+    subst (λ (cs : List Cube). AreStarted is_static cs members' plans' rules' allow (length members') processes managements) c (subst (λ (ms : List Kept). AreStarted is_static cubes ms plans' rules' allow (length ms) processes managements) m (subst (λ (ls : List LinkPlan). AreStarted is_static cubes members ls rules' allow (length members) processes managements) p (subst (λ (rs : List Rule). AreStarted is_static cubes members plans rs allow (length members) processes managements) r so)))

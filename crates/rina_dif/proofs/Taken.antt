@@ -157,6 +157,7 @@ took_it d lines below at n p link tick bytes hop key end d' below' kept kept' lt
         written_off = ins_written (seen_of d) lines below at n (Ok (in_.Took key end)) (seen_of d') s.lines' below' h.standing h.written_off does;
         housed = s.housed;
         managed = s.managed;
+        enrolled = s.enrolled;
         connected = taking_connected (config_of d'.settings) d'.clock d'.connections (seen_of d').processes below link.port below' kept kept' passed s.connected;
         flooded = s.flooded h.flooded;
       };
@@ -251,7 +252,7 @@ home_noted d lines below node n (Err e) d' failed below' alive noted t = record 
   managed = t.managed;
   handles = all_home (home node (config_of d.settings).members) (d' ≡ t.taken) (record d' { failed = failed } ≡ record t.taken { failed = failed }) (λ same. ap (λ (z : Dif). record z { failed = failed }) same) t.handles;
   rerouted = t.rerouted;
-  holds = record { tied = t.holds.tied; standing = t.holds.standing; carrying = t.holds.carrying; numbered = t.holds.numbered; accounted = t.holds.accounted; caused = t.holds.caused; written_off = t.holds.written_off; housed = t.holds.housed; managed = t.holds.managed; connected = t.holds.connected; flooded = λ still. t.holds.flooded alive };
+  holds = record { tied = t.holds.tied; standing = t.holds.standing; carrying = t.holds.carrying; numbered = t.holds.numbered; accounted = t.holds.accounted; caused = t.holds.caused; written_off = t.holds.written_off; housed = t.holds.housed; managed = t.holds.managed; enrolled = t.holds.enrolled; connected = t.holds.connected; flooded = λ still. t.holds.flooded alive };
 }
 
 pub takes_home : (d : Dif) (lines : List Direction) (below : Seen) (node n at : ℕ) (r r' : Result InStep StepError) (d' : Dif) (failed : Bool) (below' : Seen) → d'.failed ≡ false → home node (config_of d.settings).members ≡ Some at → r' ≡ r → failed ≡ true ↔ (r ≡ Err Memory) → TakesIn d lines below at n r d' below' → TakesHome d lines below node n r' (record d' { failed = failed }) below'

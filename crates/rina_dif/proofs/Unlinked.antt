@@ -41,7 +41,9 @@ use Rattle.rina_dif.proofs.Closing.{HasClosed, link_closed, open_conn, open_end}
 use Rattle.rina_dif.proofs.Causing.{process_caused}
 use Rattle.rina_dif.proofs.Keeping.{home_set, house_is, position_map, same_house, set_cases}
 use Rattle.rina_dif.proofs.Leaves.{has_process, shown_at, stepped}
-use Rattle.rina_dif.proofs.Managed.{IsLoss, IsWithout, its_agent, loss_known, managed_lost}
+use Rattle.rina_member.proofs.Knowing.{loses_state}
+use Rattle.rina_dif.proofs.Enrolled.{enrolled_on, states_set}
+use Rattle.rina_dif.proofs.Managed.{IsLoss, IsWithout, is_among, its_agent, loss_known, managed_lost}
 use Rattle.rina_dif.proofs.Routed.{live_hop}
 use Rattle.rina_dif.proofs.Settling.{holds_unseen, unseen}
 use Rattle.rina_channel.proofs.Frame.{other_pdus_stand}
@@ -149,6 +151,7 @@ link_lost d lines below at lost routes member p p' g g' is_member is is_g goes a
         written_off = lost_written (seen_of d) lines below at lost.number routes d' h.standing h.written_off gone;
         housed = housed_after (config_of d.settings) d.processes at p p' lost.place link routes members plans member (all_claims g'.agent.items) h.housed is room there new known;
         managed = managed_lost members plans d.clock d.processes d.managements at member p p' g g' lost.place link routes h.managed is_member is is_g there f.1.lost.live loss (ap (λ (z : Process). z.links) new) (ap (λ (z : Process). z.routes) new);
+        enrolled = enrolled_on d.laid.is_static d.settings.members d.settings.admits d.managements (slice_set d.managements at g') d.enrolled (states_set d.managements at g g' is_g (loses_state members plans d.clock member p.links g.agent g'.agent lost.place link h.managed.laid_out (is_among members at member is_member) (h.managed.each at member p g is_member is is_g).knows there f.1.lost.live loss.loses)) h.enrolled;
         connected = kept_by (config_of d.settings) d.clock d.connections (seen_of d).processes d'.processes below (λ may. losing_leaves (seen_of d) below at lost.number routes d' gone) h.connected;
         flooded = λ alive. lost_floods d at lost.number member p g g' lost.place link h.managed h.connected.each is_member is is_g there f.1.lost.live (sym f.2) goes (h.flooded alive);
       };

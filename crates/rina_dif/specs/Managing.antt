@@ -43,7 +43,7 @@ agents_of managements = map (λ (m : Management). m.agent) managements
 
 -- the states of the members
 abbrev pub states_of : List Management → List MemberState
-states_of managements = map (λ (m : Management). m.agent.state) managements
+states_of managements = map (λ (g : Agent). g.state) (agents_of managements)
 
 -- the node of a member that is enrolled
 abbrev pub node_if_enrolled : Member × MemberState → Option ℕ
@@ -53,11 +53,15 @@ node_if_enrolled x = if is_in x.1 then Some x.0.node else None
 abbrev pub enrolled_nodes : List Member → List MemberState → List ℕ
 enrolled_nodes members states = filter_map node_if_enrolled (zip members states)
 
--- a DIF knows the nodes of its enrolled members. All members of a static DIF are enrolled; any other DIF has no fixed flows
-pub record AreEnrolled (d : Dif) : Type 0 where
-  pub nodes : d.enrolled ≡ enrolled_nodes d.settings.members (states_of d.managements)
-  pub all : d.laid.is_static ≡ true → All (λ state. state ≡ Enrolled) (states_of d.managements)
-  pub unfixed : d.laid.is_static ≡ false → d.settings.admits ≡ 0
+-- the nodes of the enrolled members are these. All members of a static DIF are enrolled; any other DIF has no fixed flows
+pub record AreEnrolledBy (is_static : Bool) (members : List Member) (admits : ℕ) (states : List MemberState) (nodes : List ℕ) : Type 0 where
+  pub nodes : nodes ≡ enrolled_nodes members states
+  pub all : is_static ≡ true → All (λ state. state ≡ Enrolled) states
+  pub unfixed : is_static ≡ false → admits ≡ 0
+
+-- so a DIF knows its own
+abbrev pub AreEnrolled : Dif → Type 0
+AreEnrolled d = AreEnrolledBy d.laid.is_static d.settings.members d.settings.admits (states_of d.managements) d.enrolled
 
 -- at a tick, the management of a member knows the live links of its IPC process; the next hops of the IPC process are over the items
 -- that the management holds: the first links of least walks over the edges that the link states of both ends claim; and the member tells

@@ -46,7 +46,7 @@ use Rattle.rina_dif.specs.declared.messages_in.Handled.{Handled}
 use Rattle.rina_dif.specs.Flooding.{StayFlooding}
 use Rattle.rina_dif.specs.Handling.{HandlesAhead, HandlesAll}
 use Rattle.rina_dif.specs.Holding.{AreHoused, Holds, LinksStand}
-use Rattle.rina_dif.specs.Managing.{AreManaged}
+use Rattle.rina_dif.specs.Managing.{AreEnrolled, AreManaged}
 use Rattle.rina_dif.specs.Routing.{MayReroute}
 use Rattle.rina_dif.specs.Shown.{seen_of}
 use Rattle.rina_dif.specs.Steps.{AtHome}
@@ -117,14 +117,15 @@ pub record IsOldest (g : Config) (below : Seen) (port : Port) (since : ℕ) (hop
 abbrev pub StaysConnected : Dif → Dif → Type 0
 StaysConnected d d' = (below : Seen) → AreConnected (config_of d.settings) d.clock d.connections (seen_of d).processes below → AreConnected (config_of d'.settings) d'.clock d'.connections (seen_of d').processes below
 
--- how the PDU was handled: the flows stay tied, the IPC processes are housed and managed, the management connections of the links stand
--- on, and the members are the network that they were
+-- how the PDU was handled: the flows stay tied, the IPC processes are housed and managed, the enrolled members are known, the management
+-- connections of the links stand on, and the members are the network that they were
 pub record HasSettled (d : Dif) (lines : List Direction) (at since : ℕ) (hop : Hop) (end : Took) (d' : Dif) : Type 0 where
   pub lines' : List Direction
   pub settled : (member : Member) (process : Process) → IsProcess (seen_of d) at member process → Settles (seen_of d) lines at member process since hop end (seen_of d') lines'
   pub tied : AreTied (config_of d'.settings) d'.clock d'.flows lines'
   pub housed : AreHoused (config_of d'.settings) d'.processes
   pub managed : AreManaged d'
+  pub enrolled : AreEnrolled d'
   pub connected : StaysConnected d d'
   pub flooded : StayFlooding d d'
 
@@ -184,6 +185,7 @@ pub record HasTaken (d : Dif) (lines links : List Direction) (below : Seen) (at 
   pub tied : AreTied (config_of d'.settings) d'.clock d'.flows lines'
   pub housed : AreHoused (config_of d'.settings) d'.processes
   pub managed : AreManaged d'
+  pub enrolled : AreEnrolled d'
   pub connected : AreConnected (config_of d'.settings) d'.clock d'.connections (seen_of d').processes below
   pub channels : SettlesLinks d links since port hop end d' connected.lines
   pub flooded : StayFlooding d d'

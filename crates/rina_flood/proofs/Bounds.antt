@@ -32,7 +32,7 @@ use Rattle.rina_flood.proofs.Holds.{is_plain, ArePlain, Holds}
 use Rattle.rina_flood.proofs.Known.{knower_count}
 use Rattle.rina_flood.proofs.Places.{flat_in, in_first}
 use Rattle.rina_flood.proofs.Plain.{first_plain, row_plain, rows_plain, start_plain}
-use Rattle.rina_flood.proofs.Static.{told_of}
+use Rattle.rina_member.proofs.Starting.{start_of}
 
 -- the counters of members and the origins of items fit
 pub record IsBounded (n : Network) : Type 0 where
@@ -137,27 +137,27 @@ rows_bounded n (row ∷ rows) h plain run of b =
       origins = λ x e. row_near n row x h plain run.0 of.0 (b.origins x) e;
     })
 
-start_near : (members : List Member) (plans : List LinkPlan) → IsLaidOut members plans → (x : Item) → Contains (start_items members plans) x → x.version.origin < 2 ^ 32
-start_near members plans laid x e =
-    let r = told_of members plans x e in
+start_near : (is_static : Bool) (members : List Member) (plans : List LinkPlan) → IsLaidOut members plans → (x : Item) → Contains (start_items is_static members plans) x → x.version.origin < 2 ^ 32
+start_near is_static members plans laid x e =
+    let r = start_of is_static members plans x e in
     let fits = small_address members plans laid r.0 r.1 in
     let same : x.version.origin ≡ r.0.addr = elim r.2 [ inl is ↦ sym (ap (λ (y : Item). y.version.origin) is) | inr is ↦ sym (ap (λ (y : Item). y.version.origin) is) ] in
     omega (arith, fits, same)
 
 -- What waits fits, where the tick does
-module _ (n : Network) (members : List Member) (plans : List LinkPlan) (rows : List Row) (laid : IsLaidOut members plans) (s : IsStart n (start_items members plans)) (run : IsRun n rows) (of : AreOfStatic rows) (fresh : (i : ℕ) → (n.agents i).last_count ≡ 0) where
+module _ (is_static : Bool) (n : Network) (members : List Member) (plans : List LinkPlan) (rows : List Row) (laid : IsLaidOut members plans) (s : IsStart n (start_items is_static members plans)) (run : IsRun n rows) (of : AreOfStatic rows) (fresh : (i : ℕ) → (n.agents i).last_count ≡ 0) where
   abbrev end : Network
   end = after_rows n rows
 
   bounded : IsBounded end
-  bounded = rows_bounded n rows (begin_holds n (start_items members plans) s) (start_plain n (start_items members plans) s) run of (record {
+  bounded = rows_bounded n rows (begin_holds n (start_items is_static members plans) s) (start_plain n (start_items is_static members plans) s) run of (record {
     counts = λ i. (let none = fresh i in omega (arith, none));
-    origins = λ x e. (let P : List Item → Type 0 = λ items. Contains items x in start_near members plans laid x (subst P s.made e));
+    origins = λ x e. (let P : List Item → Type 0 = λ items. Contains items x in start_near is_static members plans laid x (subst P s.made e));
   })
 
   version_fits : (l : ℕ) (d : Side) (x : Item) → end.now < 2 ^ 32 → Contains (on_way end l d) x → IsVersion x.version
   version_fits l d x early e =
-      let h = rows_hold n rows (begin_holds n (start_items members plans) s) run in
+      let h = rows_hold n rows (begin_holds n (start_items is_static members plans) s) run in
       let was = h.noted.sent l d x e in
       let past = h.noted.past x was in
       let counted = h.noted.counted x was in
@@ -179,5 +179,5 @@ module _ (n : Network) (members : List Member) (plans : List LinkPlan) (rows : L
   waiting_fits l d m early e =
       let waits = Contains-append_right (end.sent l d) (waiting_on (end.numbers l d) (end.agents (end.ends l d)).agenda) (ToNeighbour m) e in
       let static = static_rows rows of in
-      let plain = rows_plain n rows (begin_holds n (start_items members plans) s) (start_plain n (start_items members plans) s) run static.0 in
+      let plain = rows_plain n rows (begin_holds n (start_items is_static members plans) s) (start_plain n (start_items is_static members plans) s) run static.0 in
       near_fits l d m early (plain l d (ToNeighbour m) waits) waits

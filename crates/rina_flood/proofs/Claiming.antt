@@ -63,16 +63,16 @@ claims_too xs ys one same e has =
     into_flat claims_of ys r.0 e (found (has_key r.0.key) ys r.0 kept).0 r.2
 
 pub quiet_claims : Greatest → QuietMembersClaim
-quiet_claims greatest plans s i j steps a b r path is_a is_b =
+quiet_claims greatest is_static plans s i j steps a b r path is_a is_b =
     let aligned = r.is.aligned in
     let near_within = slice_get_within s.agents i a is_a in
     let near = there s.members i (omega (arith, aligned, near_within)) in
-    let agree = (quiet_agree greatest plans s i j steps near.0 a b r path near.1 is_a is_b).0 in
+    let agree = (quiet_agree greatest is_static plans s i j steps near.0 a b r path near.1 is_a is_b).0 in
     let far_within = slice_get_within s.agents j b is_b in
     let far = there s.members j (omega (arith, aligned, far_within)) in
-    let holds = run_holds r.start (start_items s.members plans) r.rows r.starts r.run in
-    let one : (m : Member) (c : Agent) → (net plans s r).agents m.addr ≡ c → IsOneEach c.items = λ m c is.
-    subst (λ (items : List Item). IsOneEach items) (sym (holds.noted.knows m.addr) ∙ ap (λ (x : Agent). x.items) is) (one_all [] ((net plans s r).offered m.addr) (λ z none. absurd (in_none z none))) in
+    let holds = run_holds r.start (start_items is_static s.members plans) r.rows r.starts r.run in
+    let one : (m : Member) (c : Agent) → (net is_static plans s r).agents m.addr ≡ c → IsOneEach c.items = λ m c is.
+    subst (λ (items : List Item). IsOneEach items) (sym (holds.noted.knows m.addr) ∙ ap (λ (x : Agent). x.items) is) (one_all [] ((net is_static plans s r).offered m.addr) (λ z none. absurd (in_none z none))) in
     λ e. (
       claims_too a.items b.items (one near.0 a (r.is.agents i near.0 a near.1 is_a)) agree e,
       claims_too b.items a.items (one far.0 b (r.is.agents j far.0 b far.1 is_b)) (λ key. sym (agree key)) e,

@@ -1,6 +1,7 @@
--- What comes over a link of a static DIF was made by its members.
-use Rattle.std.proofs.Common.{◌≡◌, ℕ, suc, true, List, [], ◌∷◌, Some, drop, length, refl, sym, ◌∙◌, ap, subst}
+-- What comes over a link of a DIF was made by its members.
+use Rattle.std.proofs.Common.{◌≡◌, ℕ, suc, true, false, List, [], ◌∷◌, Some, drop, length, slice_get, refl, sym, ◌∙◌, ap, subst}
 use Rattle.std.proofs.lemmas.Bool.{both_ways}
+use Rattle.std.proofs.lemmas.Option.{none-some}
 use Rattle.rina_enrol.specs.declared.message.LinkMessage.{LinkMessage}
 use Rattle.rina_enrol.specs.declared.message.LinkMessage.TheVariants as messages
 use Rattle.rina_enrol.proofs.Guesses.{one_message}
@@ -10,15 +11,16 @@ use Rattle.rina_agent.specs.declared.agent.Agent.{Agent}
 use Rattle.rina_agent.specs.declared.message.ManagementMessage.{ManagementMessage}
 use Rattle.rina_agent.specs.declared.message.ManagementMessage.TheVariants.{ToNeighbour}
 use Rattle.rina_agent.specs.Neighbours.{link_key}
+use Rattle.rina_plan.specs.declared.dif.LinkPlan.{LinkPlan}
 use Rattle.rina_member.specs.Handling.{item_in}
 use Rattle.rina_member.specs.Short.{IsShort}
 use Rattle.rina_member.specs.Start.{start_items}
 use Rattle.rina_member.proofs.Laying.{small_address}
 use Rattle.rina_member.proofs.Lists.{is_there}
-use Rattle.rina_flood.specs.Coming.{WhatComes}
-use Rattle.rina_flood.specs.Members.{AreTexts}
-use Rattle.rina_flood.specs.Network.{carried, other}
-use Rattle.rina_flood.specs.Static.{end_place}
+use Rattle.rina_flood.specs.Coming.{ComesNext, IsOfMember, WhatComes}
+use Rattle.rina_flood.specs.Members.{AreTexts, IsRunOf, MembersSeen}
+use Rattle.rina_flood.specs.Network.{Side, carried, other}
+use Rattle.rina_flood.specs.Static.{LinkEnd, end_place}
 use Rattle.rina_flood.proofs.Entries.{static_rows}
 use Rattle.rina_flood.proofs.Holds.{is_plain}
 use Rattle.rina_flood.proofs.Members.{at_end, net, text_is, texts_first}
@@ -50,10 +52,10 @@ one_carried (messages.Stop invoke) x is = absurd cc
 one_carried (messages.StopR invoke) x is = absurd cc
 one_carried (messages.Flood item) x is = (let same : item ≡ x = cc in ap (λ (y : Item). y ∷ []) same)
 
-pub what_comes : Greatest → WhatComes
-what_comes greatest plans s l d end agent message r h =
-    let n = net plans s r in
-    let at = at_end plans s r l (other d) end agent h.at in
+comes_static : Greatest → (plans : List LinkPlan) (s : MembersSeen) (l : ℕ) (d : Side) (end : LinkEnd) (agent : Agent) (message : LinkMessage) → IsRunOf true plans s → ComesNext s l d end agent message → IsOfMember agent message
+comes_static greatest plans s l d end agent message r h =
+    let n = net true plans s r in
+    let at = at_end true plans s r l (other d) end agent h.at in
     let count : ℕ = length (s.got (end_place l (other d))) in
     let T : List (List ℕ) → Type 0 = λ ts. AreTexts (n.sent l d) ts in
     let first = texts_first (n.sent l d) h.text (drop (suc count) (s.sent (end_place l d))) (subst T (drop_at (s.sent (end_place l d)) count h.text h.next) (r.is.sent l d)) in
@@ -63,7 +65,7 @@ what_comes greatest plans s l d end agent message r h =
     let among = is_there s.members end.member at.0 at.1 in
     let small = small_address s.members plans r.laid_out at.0 among in
     let leave = static_rows r.rows r.static in
-    let telling = telling_run greatest r.start (start_items s.members plans) r.rows at.0.addr r.starts r.run small (r.tells at.0 among) leave.0 (leave.1 at.0.addr) in
+    let telling = telling_run greatest r.start (start_items true s.members plans) r.rows at.0.addr r.starts r.run small (r.tells refl at.0 among) leave.0 (leave.1 at.0.addr) in
     let address : agent.address ≡ at.0.addr = ap (λ (a : Agent). a.address) (sym at.4) ∙ telling.holds.laid.addresses at.0.addr in
     let brings = brought message (first_plain n l d (ToNeighbour message) rest telling.plain is) in
     let written = r.short (end_place l d) h.text (is_there (s.sent (end_place l d)) count h.text h.next) in
@@ -76,3 +78,8 @@ what_comes greatest plans s l d end agent message r h =
           (let made = telling.holds.noted.sent l d x (first_item n l d (ToNeighbour message) rest is x (one_carried message x is_x) telling.holds) in
           ap (λ (a : Agent). is_newer x.version (kept_at a.items x.key)) (sym at.4) ∙ not_newer at.0.addr (n.agents at.0.addr) n.made x made (key ∙ ap link_key address) telling.tells);
     }
+
+-- any other DIF has no links, so that nothing comes
+pub what_comes : Greatest → WhatComes
+what_comes greatest true plans s l d end agent message r h = comes_static greatest plans s l d end agent message r h
+what_comes greatest false plans s l d end agent message r h = absurd (none-some end (ap (λ (ends : List LinkEnd). slice_get ends (end_place l (other d))) (sym (r.bare refl)) ∙ h.at.is_end))

@@ -30,7 +30,7 @@ use Rattle.rina_flood.specs.Static.{IsFirstEntry, IsOfStatic, AreOfStatic}
 use Rattle.rina_flood.proofs.All.{row_holds, begin_holds}
 use Rattle.rina_flood.proofs.Holds.{is_plain, ArePlain, Holds}
 use Rattle.rina_flood.proofs.Plain.{first_plain, row_plain, start_plain}
-use Rattle.rina_flood.proofs.Static.{told_of}
+use Rattle.rina_member.proofs.Starting.{start_of}
 
 -- The rows leave links and link states
 
@@ -130,8 +130,8 @@ rows_made n (row ∷ rows) h plain run of known x e =
     rows_made (happens n row) rows (row_holds n row h run.0) (row_plain n row h plain run.0 (makes_no_link row of.0)) run.1 of.1
     (λ y has. elim (row_made n row y plain run.0 of.0 has) [ inl old ↦ known y old | inr is ↦ is ]) x e
 
-start_known : (members : List Member) (plans : List LinkPlan) (x : Item) → Contains (start_items members plans) x → IsKnown x
-start_known members plans x e = (let r = told_of members plans x e in elim r.2 [
+start_known : (is_static : Bool) (members : List Member) (plans : List LinkPlan) (x : Item) → Contains (start_items is_static members plans) x → IsKnown x
+start_known is_static members plans x e = (let r = start_of is_static members plans x e in elim r.2 [
   | inl is ↦ inr (inr (r.0.addr, inl (sym (ap (λ (y : Item). y.key) is))))
   | inr is ↦ inr (inr (r.0.addr, inr (sym (ap (λ (y : Item). y.key) is))))
 ])
@@ -152,9 +152,9 @@ known_entry x app address (inr (inr other)) k v = elim other.1 [
   | inr is ↦ absurd (entry_not_link app other.0 (sym k ∙ is))
 ]
 
-pub entries_are_one : (n : Network) (members : List Member) (plans : List LinkPlan) (rows : List Row) (x : Item) (app : List ℕ) (address : ℕ) → IsStart n (start_items members plans) → IsRun n rows → AreOfStatic rows
+pub entries_are_one : (is_static : Bool) (n : Network) (members : List Member) (plans : List LinkPlan) (rows : List Row) (x : Item) (app : List ℕ) (address : ℕ) → IsStart n (start_items is_static members plans) → IsRun n rows → AreOfStatic rows
     → Contains (after_rows n rows).made x → x.key ≡ key_of app → x.version ≡ first_version address → x ≡ entry_of app address
-entries_are_one n members plans rows x app address s run of e k v =
-    let told = start_items members plans in
+entries_are_one is_static n members plans rows x app address s run of e k v =
+    let told = start_items is_static members plans in
     let P : Item → List Item → Type 0 = λ y items. Contains items y in
-    known_entry x app address (rows_made n rows (begin_holds n told s) (start_plain n told s) run of (λ y has. start_known members plans y (subst (P y) s.made has)) x e) k v
+    known_entry x app address (rows_made n rows (begin_holds n told s) (start_plain n told s) run of (λ y has. start_known is_static members plans y (subst (P y) s.made has)) x e) k v

@@ -1,4 +1,4 @@
--- The members of a static DIF are a network after a run.
+-- The members of a DIF are a network after a run.
 use Rattle.std.proofs.Common.{◌≡◌, ℕ, zero, suc, ◌+◌, ◌≤◌, ◌⊎◌, Bool, true, false, ◌==◌, cond, List, ◌∷◌, ◌++◌, Option, Some, None, drop, length, map, slice_get, slice_set, refl, sym, ◌∙◌, ap, subst, inl, inr, arith, [], Contains, ◌-◌, ◌^◌, ◌<◌}
 use Rattle.std.specs.Prelude.{find, is_some, option_map, option_and_then}
 use Rattle.std.proofs.lemmas.Bool.{and_parts, both_ways, cases_Bool, eq-eqb, eqb-true}
@@ -32,7 +32,8 @@ use Rattle.rina_member.specs.Start.{start_items}
 use Rattle.rina_member.proofs.Laying.{small_address}
 use Rattle.rina_member.proofs.Lists.{is_there}
 use Rattle.rina_flood.specs.Network.{Side, other, Network, Row, Make, Take, Handle, Lose, Know, Pass, happens, put_agent, put_sent, is_enrolled, is_in, known, with_item, MayBeKnown, MayLose, May, IsRun, after_rows, IsStart, has_link}
-use Rattle.rina_flood.specs.Static.{LinkEnd, IsOfStatic, AreOfStatic, agent_at, end_address, end_number, end_place, or_nobody, place_at, static_network}
+use Rattle.rina_flood.specs.Static.{LinkEnd, IsOfStatic, AreOfStatic, agent_at, end_address, end_number, end_place, AreFirst, first_network, or_nobody, place_at}
+use Rattle.rina_flood.specs.Laws.{TellsLinks}
 use Rattle.rina_flood.specs.Members.{Adds, AreSame, AreShortTexts, AreTexts, IsAgentAt, HasNoMember, HandlesMessage, IsNetworkOf, IsRunOf, IsShortText, IsText, LosesLinkAt, MakesEntryAt, MembersSeen, OffersMessage, StartsWith, TakesEntry, GoesOn}
 use Rattle.rina_flood.proofs.Bounds.{waiting_fits}
 use Rattle.rina_flood.proofs.Calls.{at_itself, at_others}
@@ -41,7 +42,7 @@ use Rattle.rina_flood.proofs.Known.{knower_links}
 use Rattle.rina_flood.proofs.Messages.{first_waits}
 use Rattle.rina_flood.proofs.Places.{drop_at, in_first, direction_case, other_back}
 use Rattle.rina_flood.proofs.Settles.{Greatest}
-use Rattle.rina_flood.proofs.Static.{address_is, found_at, found_place, none_at, place_is, places_apart, static_fresh, static_starts}
+use Rattle.rina_flood.proofs.Static.{address_is, found_at, found_place, none_at, place_is, network_fresh, network_starts, places_apart}
 use Rattle.rina_flood.proofs.Stating.{static_tells}
 
 -- Rows at the end of a run
@@ -91,22 +92,23 @@ same_direction link side l d = direction_case {X = Bool} (λ b. ((l ≡ link) ×
 
 -- What stands, and one row more
 
-module _ (plans : List LinkPlan) (s : MembersSeen) (r : IsRunOf plans s) where
+module _ (is_static : Bool) (plans : List LinkPlan) (s : MembersSeen) (r : IsRunOf is_static plans s) where
   abbrev pub net : Network
   net = after_rows r.start r.rows
 
-  more_rows : (s' : MembersSeen) (row : Row) → s'.members ≡ s.members → AreShortTexts s'.sent → May net row → IsOfStatic row → IsNetworkOf s' (happens net row) → IsRunOf plans s'
-  more_rows s' row same short may of is =
+  more_rows : (s' : MembersSeen) (row : Row) → s'.members ≡ s.members → s'.ends ≡ s.ends → AreShortTexts s'.sent → May net row → IsOfStatic row → IsNetworkOf s' (happens net row) → IsRunOf is_static plans s'
+  more_rows s' row same ends short may of is =
       let P : List Member → Type 0 = λ ms. IsLaidOut ms plans in
-      let Q : List Member → Type 0 = λ ms. IsStart r.start (start_items ms plans) in
+      let Q : List Member → Type 0 = λ ms. IsStart r.start (start_items is_static ms plans) in
       let R : Network → Type 0 = λ n. IsNetworkOf s' n in
       record {
         laid_out = subst P (sym same) r.laid_out;
+        bare = λ dynamic. ends ∙ r.bare dynamic;
         start = r.start;
         rows = r.rows ++ row ∷ [];
         starts = subst Q (sym same) r.starts;
         fresh = r.fresh;
-        tells = λ m among. r.tells m (let T : List Member → Type 0 = λ ms. Contains ms m in subst T same among);
+        tells = λ still m among. r.tells still m (let T : List Member → Type 0 = λ ms. Contains ms m in subst T same among);
         run = run_more r.start r.rows row r.run may;
         static = static_more r.rows row r.static of;
         is = subst R (sym (after_more r.start r.rows row)) is;
@@ -151,9 +153,10 @@ module _ (plans : List LinkPlan) (s : MembersSeen) (r : IsRunOf plans s) where
 
 -- The same members, ticks and texts
 
-same_texts : (plans : List LinkPlan) (s : MembersSeen) (sent got : ℕ → List (List ℕ)) → IsRunOf plans s → AreSame s.sent sent → AreSame s.got got → IsRunOf plans (record s { sent = sent; got = got })
-same_texts plans s sent got r same_sent same_got = record {
+same_texts : (is_static : Bool) (plans : List LinkPlan) (s : MembersSeen) (sent got : ℕ → List (List ℕ)) → IsRunOf is_static plans s → AreSame s.sent sent → AreSame s.got got → IsRunOf is_static plans (record s { sent = sent; got = got })
+same_texts is_static plans s sent got r same_sent same_got = record {
   laid_out = r.laid_out;
+  bare = r.bare;
   start = r.start;
   rows = r.rows;
   starts = r.starts;
@@ -180,14 +183,14 @@ same_texts plans s sent got r same_sent same_got = record {
   short = λ place text has. r.short place text (let P : List (List ℕ) → Type 0 = λ ts. Contains ts text in subst P (same_sent place) has);
 }
 
-alike_run : (plans : List LinkPlan) (s new : MembersSeen) → IsRunOf plans s → new.members ≡ s.members → new.ends ≡ s.ends → new.now ≡ s.now → new.agents ≡ s.agents → AreSame s.sent new.sent → AreSame s.got new.got → IsRunOf plans new
-alike_run plans s new r members ends now agents sent got =
-    let M : List Member → Type 0 = λ ms. IsRunOf plans (record s { members = ms }) in
-    let E : List LinkEnd → Type 0 = λ es. IsRunOf plans (record s { members = new.members; ends = es }) in
-    let T : ℕ → Type 0 = λ t. IsRunOf plans (record s { members = new.members; ends = new.ends; now = t }) in
-    let A : List Agent → Type 0 = λ as'. IsRunOf plans (record s { members = new.members; ends = new.ends; now = new.now; agents = as' }) in
+alike_run : (plans : List LinkPlan) (s new : MembersSeen) → IsRunOf is_static plans s → new.members ≡ s.members → new.ends ≡ s.ends → new.now ≡ s.now → new.agents ≡ s.agents → AreSame s.sent new.sent → AreSame s.got new.got → IsRunOf is_static plans new
+alike_run is_static plans s new r members ends now agents sent got =
+    let M : List Member → Type 0 = λ ms. IsRunOf is_static plans (record s { members = ms }) in
+    let E : List LinkEnd → Type 0 = λ es. IsRunOf is_static plans (record s { members = new.members; ends = es }) in
+    let T : ℕ → Type 0 = λ t. IsRunOf is_static plans (record s { members = new.members; ends = new.ends; now = t }) in
+    let A : List Agent → Type 0 = λ as'. IsRunOf is_static plans (record s { members = new.members; ends = new.ends; now = new.now; agents = as' }) in
     let moved = subst A (sym agents) (subst T (sym now) (subst E (sym ends) (subst M (sym members) r))) in
-    same_texts plans (record s { members = new.members; ends = new.ends; now = new.now; agents = new.agents }) new.sent new.got moved sent got
+    same_texts is_static plans (record s { members = new.members; ends = new.ends; now = new.now; agents = new.agents }) new.sent new.got moved sent got
 
 -- what a call makes of the agents, where the address, the agent and the event are known
 called_at : (agents : ℕ → Agent) (i address : ℕ) (a b : Agent) (e f : Event) → i ≡ address → agents address ≡ a → e ≡ f → after a f ≡ b → (j : ℕ) → put_agent i (after (agents i) e) agents j ≡ put_agent address b agents j
@@ -199,8 +202,8 @@ called_at agents i address a b e f is_i is_a is_e is_b j =
 
 -- The clock goes on
 
-one_tick : (plans : List LinkPlan) (s : MembersSeen) → IsRunOf plans s → IsRunOf plans (record s { now = s.now + 1 })
-one_tick plans s r = more_rows plans s r (record s { now = s.now + 1 }) Pass refl r.short tt tt (record {
+one_tick : (is_static : Bool) (plans : List LinkPlan) (s : MembersSeen) → IsRunOf is_static plans s → IsRunOf is_static plans (record s { now = s.now + 1 })
+one_tick is_static plans s r = more_rows is_static plans s r (record s { now = s.now + 1 }) Pass refl refl r.short tt tt (record {
   now = ap (λ (t : ℕ). t + 1) r.is.now;
   aligned = r.is.aligned;
   agents = r.is.agents;
@@ -210,32 +213,32 @@ one_tick plans s r = more_rows plans s r (record s { now = s.now + 1 }) Pass ref
   sent = r.is.sent;
 })
 
-more_ticks : (plans : List LinkPlan) (s : MembersSeen) (count : ℕ) → IsRunOf plans s → IsRunOf plans (record s { now = s.now + count })
-more_ticks plans s zero r = (let P : ℕ → Type 0 = λ t. IsRunOf plans (record s { now = t }) in let none : s.now ≡ s.now + zero = omega arith in subst P none r)
-more_ticks plans s (suc count) r =
-    let P : ℕ → Type 0 = λ t. IsRunOf plans (record s { now = t }) in
+more_ticks : (is_static : Bool) (plans : List LinkPlan) (s : MembersSeen) (count : ℕ) → IsRunOf is_static plans s → IsRunOf is_static plans (record s { now = s.now + count })
+more_ticks is_static plans s zero r = (let P : ℕ → Type 0 = λ t. IsRunOf is_static plans (record s { now = t }) in let none : s.now ≡ s.now + zero = omega arith in subst P none r)
+more_ticks is_static plans s (suc count) r =
+    let P : ℕ → Type 0 = λ t. IsRunOf is_static plans (record s { now = t }) in
     let one : (s.now + count) + 1 ≡ s.now + suc count = omega arith in
-    subst P one (one_tick plans (record s { now = s.now + count }) (more_ticks plans s count r))
+    subst P one (one_tick is_static plans (record s { now = s.now + count }) (more_ticks is_static plans s count r))
 
-pub goes_on_run : (plans : List LinkPlan) (old new : MembersSeen) → IsRunOf plans old → GoesOn old new → IsRunOf plans new
-goes_on_run plans old new r h =
-    let Q : ℕ → Type 0 = λ t. IsRunOf plans (record old { now = t }) in
+pub goes_on_run : (is_static : Bool) (plans : List LinkPlan) (old new : MembersSeen) → IsRunOf is_static plans old → GoesOn old new → IsRunOf is_static plans new
+goes_on_run is_static plans old new r h =
+    let Q : ℕ → Type 0 = λ t. IsRunOf is_static plans (record old { now = t }) in
     let later = h.now in
     let all : old.now + (new.now - old.now) ≡ new.now = omega (arith, later) in
-    alike_run plans (record old { now = new.now }) new (subst Q all (more_ticks plans old (new.now - old.now) r)) h.stays.members h.stays.ends refl h.agents h.sent h.got
+    alike_run is_static plans (record old { now = new.now }) new (subst Q all (more_ticks is_static plans old (new.now - old.now) r)) h.stays.members h.stays.ends refl h.agents h.sent h.got
 
 -- A link is lost
 
-pub loses_run : (plans : List LinkPlan) (old new : MembersSeen) → IsRunOf plans old → LosesLinkAt old new → IsRunOf plans new
-loses_run plans old new r h =
-    let n = net plans old r in
-    let at = at_end plans old r h.link h.side h.end h.agent h.at in
+pub loses_run : (is_static : Bool) (plans : List LinkPlan) (old new : MembersSeen) → IsRunOf is_static plans old → LosesLinkAt old new → IsRunOf is_static plans new
+loses_run is_static plans old new r h =
+    let n = net is_static plans old r in
+    let at = at_end is_static plans old r h.link h.side h.end h.agent h.at in
     let event : Loses n.now (n.numbers h.link h.side) ≡ Loses old.now h.end.number = ap (λ (t : ℕ). Loses t (n.numbers h.link h.side)) r.is.now ∙ ap (λ (k : ℕ). Loses old.now k) at.3 in
     let may : MayLose (n.agents (n.ends h.link h.side)) (n.numbers h.link h.side) =
     subst (λ (i : ℕ). MayLose (n.agents i) (n.numbers h.link h.side)) (sym at.2) (subst (λ (c : Agent). MayLose c (n.numbers h.link h.side)) (sym at.4) (subst (λ (k : ℕ). MayLose h.agent k) (sym at.3) h.may)) in
     let are = called_at n.agents (n.ends h.link h.side) at.0.addr h.agent h.after (Loses n.now (n.numbers h.link h.side)) (Loses old.now h.end.number) at.2 at.4 event (ap (λ o. done h.agent o) h.loses) in
-    alike_run plans (record old { agents = slice_set old.agents h.end.member h.after }) new (more_rows plans old r (record old { agents = slice_set old.agents h.end.member h.after }) (Lose h.link h.side) refl r.short may tt
-    (changed plans old r h.end.member at.0 h.agent h.after at.1 h.at.is_agent _ n.sent _ _ old.sent old.got are r.is.fewer r.is.sent)) h.stays.members h.stays.ends h.now h.agents h.sent h.got
+    alike_run is_static plans (record old { agents = slice_set old.agents h.end.member h.after }) new (more_rows is_static plans old r (record old { agents = slice_set old.agents h.end.member h.after }) (Lose h.link h.side) refl refl r.short may tt
+    (changed is_static plans old r h.end.member at.0 h.agent h.after at.1 h.at.is_agent _ n.sent _ _ old.sent old.got are r.is.fewer r.is.sent)) h.stays.members h.stays.ends h.now h.agents h.sent h.got
 
 -- A directory entry is made
 
@@ -243,9 +246,9 @@ loses_run plans old new r h =
 after_made : (a : Agent) (now : ℕ) (key : List ℕ) (value : Option (List ℕ)) → spent 1 a.last_count ≡ None → after a (Makes now key value) ≡ made None a now key value
 after_made a now key value may = ap (λ (o : Option AgentError). done a (unless o (made None a now key value))) may
 
-pub makes_run : (plans : List LinkPlan) (old new : MembersSeen) → IsRunOf plans old → MakesEntryAt old new → IsRunOf plans new
-makes_run plans old new r h =
-    let n = net plans old r in
+pub makes_run : (is_static : Bool) (plans : List LinkPlan) (old new : MembersSeen) → IsRunOf is_static plans old → MakesEntryAt old new → IsRunOf is_static plans new
+makes_run is_static plans old new r h =
+    let n = net is_static plans old r in
     let within = slice_get_within old.agents h.place h.agent h.is_agent in
     let aligned = r.is.aligned in
     let m = there old.members h.place (omega (arith, within, aligned)) in
@@ -256,8 +259,8 @@ makes_run plans old new r h =
     let may : spent 1 (n.agents m.0.addr).last_count ≡ None = ap (λ (c : Agent). spent 1 c.last_count) is_net ∙ h.room in
     let are = called_at n.agents m.0.addr m.0.addr h.agent b (Makes n.now key h.value) (Makes old.now key h.value) refl is_net event (after_made h.agent old.now key h.value h.room) in
     let small = small_address old.members plans r.laid_out m.0 (is_there old.members h.place m.0 m.1) in
-    alike_run plans (record old { agents = slice_set old.agents h.place b }) new (more_rows plans old r (record old { agents = slice_set old.agents h.place b }) (Make m.0.addr key h.value) refl r.short may ((h.app, refl), small)
-    (changed plans old r h.place m.0 h.agent b m.1 h.is_agent _ n.sent _ _ old.sent old.got are r.is.fewer r.is.sent)) h.stays.members h.stays.ends h.now h.agents h.sent h.got
+    alike_run is_static plans (record old { agents = slice_set old.agents h.place b }) new (more_rows is_static plans old r (record old { agents = slice_set old.agents h.place b }) (Make m.0.addr key h.value) refl refl r.short may ((h.app, refl), small)
+    (changed is_static plans old r h.place m.0 h.agent b m.1 h.is_agent _ n.sent _ _ old.sent old.got are r.is.fewer r.is.sent)) h.stays.members h.stays.ends h.now h.agents h.sent h.got
 
 -- A message is offered
 
@@ -273,13 +276,13 @@ offered_short place text old new adds short were k t has = elim (cases_Bool (k =
   | inr e ↦ (let P : List (List ℕ) → Type 0 = λ ts. Contains ts t in were k t (subst P (adds.elsewhere k (λ is. both_ways (k == place) e (eq-eqb k place is))) has))
 ]
 
-pub offers_run : (plans : List LinkPlan) (old new : MembersSeen) → IsRunOf plans old → OffersMessage old new → IsRunOf plans new
-offers_run plans old new r h =
-    let n = net plans old r in
+pub offers_run : (is_static : Bool) (plans : List LinkPlan) (old new : MembersSeen) → IsRunOf is_static plans old → OffersMessage old new → IsRunOf is_static plans new
+offers_run is_static plans old new r h =
+    let n = net is_static plans old r in
     let l = h.link in
     let d = h.side in
     let message = ToNeighbour h.message in
-    let at = at_end plans old r l d h.end h.agent h.at in
+    let at = at_end is_static plans old r l d h.end h.agent h.at in
     let after_it : Agent = record h.agent { agenda = without_first h.end.number h.agent.agenda } in
     let may : first_on (n.numbers l d) (n.agents (n.ends l d)).agenda ≡ Some (record { link = n.numbers l d; message = message }) =
     ap (λ (k : ℕ). first_on k (n.agents (n.ends l d)).agenda) at.3
@@ -290,7 +293,7 @@ offers_run plans old new r h =
     let among : Contains (waiting_on (n.numbers l d) (n.agents (n.ends l d)).agenda) message = (let W : List ManagementMessage → Type 0 = λ ms. Contains ms message in
     subst W (sym (first_waits (n.numbers l d) (n.agents (n.ends l d)).agenda (record { link = n.numbers l d; message = message }) may)) (in_first message (waiting_on (n.numbers l d) (without_first (n.numbers l d) (n.agents (n.ends l d)).agenda)))) in
     let early : n.now < 2 ^ 32 = (let now = r.is.now in let small = h.early in omega (arith, now, small)) in
-    let fits = waiting_fits r.start old.members plans r.rows r.laid_out r.starts r.run r.static r.fresh l d h.message early among in
+    let fits = waiting_fits is_static r.start old.members plans r.rows r.laid_out r.starts r.run r.static r.fresh l d h.message early among in
     let short : AreShortTexts new.sent = offered_short (end_place l d) h.text old.sent new.sent h.sent (record { message = h.message; in_range = fits; spelled = h.written; short = h.short }) r.short in
     let are = called_at n.agents (n.ends l d) at.0.addr h.agent after_it (Takes (n.numbers l d)) (Takes h.end.number) at.2 at.4 (ap Takes at.3) refl in
     let fewer : (k : ℕ) (e : Side) → length (old.got (end_place k (other e))) ≤ length (new.sent (end_place k e)) = λ k e. (let was = r.is.fewer k e in let more = grows (end_place l d) h.text old.sent new.sent h.sent (end_place k e) in omega (arith, was, more)) in
@@ -305,19 +308,19 @@ offers_run plans old new r h =
     subst Q (sym a) (subst R (sym b) here)))
     (λ apart. (let U : List (List ℕ) → Type 0 = λ ts. AreTexts (n.sent k e) (drop (length (old.got (end_place k (other e)))) ts) in
     subst U (sym (h.sent.elsewhere (end_place k e) (λ same. apart (places_apart k e l d same)))) (r.is.sent k e))) in
-    alike_run plans (record old { agents = slice_set old.agents h.end.member after_it; sent = new.sent }) new (more_rows plans old r (record old { agents = slice_set old.agents h.end.member after_it; sent = new.sent }) (Take l d message) refl short may tt
-    (changed plans old r h.end.member at.0 h.agent after_it at.1 h.at.is_agent _ (put_sent l d (n.sent l d ++ message ∷ []) n.sent) _ _ new.sent old.got are fewer texts)) h.stays.members h.stays.ends h.now h.agents (λ k. refl) h.got
+    alike_run is_static plans (record old { agents = slice_set old.agents h.end.member after_it; sent = new.sent }) new (more_rows is_static plans old r (record old { agents = slice_set old.agents h.end.member after_it; sent = new.sent }) (Take l d message) refl refl short may tt
+    (changed is_static plans old r h.end.member at.0 h.agent after_it at.1 h.at.is_agent _ (put_sent l d (n.sent l d ++ message ∷ []) n.sent) _ _ new.sent old.got are fewer texts)) h.stays.members h.stays.ends h.now h.agents (λ k. refl) h.got
 
 -- A message is handled
 
-pub handles_run : (plans : List LinkPlan) (old new : MembersSeen) → IsRunOf plans old → HandlesMessage old new → IsRunOf plans new
-handles_run plans old new r h =
-    let n = net plans old r in
+pub handles_run : (is_static : Bool) (plans : List LinkPlan) (old new : MembersSeen) → IsRunOf is_static plans old → HandlesMessage old new → IsRunOf is_static plans new
+handles_run is_static plans old new r h =
+    let n = net is_static plans old r in
     let l = h.link in
     let d = h.side in
     let place = end_place l (other d) in
     let count : ℕ = length (old.got place) in
-    let at = at_end plans old r l (other d) h.end h.agent h.at in
+    let at = at_end is_static plans old r l (other d) h.end h.agent h.at in
     let T : List (List ℕ) → Type 0 = λ ts. AreTexts (n.sent l d) ts in
     let first = texts_first (n.sent l d) h.text (drop (suc count) (old.sent (end_place l d))) (subst T (drop_at (old.sent (end_place l d)) count h.text h.next) (r.is.sent l d)) in
     let rest = first.1 in
@@ -342,8 +345,8 @@ handles_run plans old new r h =
     subst Q (sym a) (subst R (sym b) (subst U (sym longer) first.4))))
     (λ apart. (let U : List (List ℕ) → Type 0 = λ ts. AreTexts (n.sent k e) (drop (length ts) (old.sent (end_place k e))) in
     subst U (sym (elsewhere k e apart)) (r.is.sent k e))) in
-    alike_run plans (record old { agents = slice_set old.agents h.end.member h.after; got = new.got }) new (more_rows plans old r (record old { agents = slice_set old.agents h.end.member h.after; got = new.got }) (Handle l d (ToNeighbour h.message) rest) refl r.short may tt
-    (changed plans old r h.end.member at.0 h.agent h.after at.1 h.at.is_agent _ (put_sent l d rest n.sent) _ _ old.sent new.got are fewer texts)) h.stays.members h.stays.ends h.now h.agents h.sent (λ k. refl)
+    alike_run is_static plans (record old { agents = slice_set old.agents h.end.member h.after; got = new.got }) new (more_rows is_static plans old r (record old { agents = slice_set old.agents h.end.member h.after; got = new.got }) (Handle l d (ToNeighbour h.message) rest) refl refl r.short may tt
+    (changed is_static plans old r h.end.member at.0 h.agent h.after at.1 h.at.is_agent _ (put_sent l d rest n.sent) _ _ old.sent new.got are fewer texts)) h.stays.members h.stays.ends h.now h.agents h.sent (λ k. refl)
 
 -- A directory entry is taken by all
 
@@ -353,9 +356,9 @@ enrolled_is a is = ap is_in is
 with_taken : (a : Agent) (x : Item) → a.state ≡ Enrolled → with_item x a ≡ takes_item a x
 with_taken a x is = ap (λ (b : Bool). cond b (takes_item a x) a) (enrolled_is a is)
 
-module _ (plans : List LinkPlan) (old new : MembersSeen) (r : IsRunOf plans old) (h : TakesEntry old new) where
+module _ (is_static : Bool) (plans : List LinkPlan) (old new : MembersSeen) (r : IsRunOf is_static plans old) (h : TakesEntry old new) where
   abbrev before : Network
-  before = net plans old r
+  before = net is_static plans old r
 
   abbrev entry : Item
   entry = entry_of h.app h.at.addr
@@ -387,14 +390,14 @@ module _ (plans : List LinkPlan) (old new : MembersSeen) (r : IsRunOf plans old)
   may_know : MayBeKnown before entry
   may_know = record {
     both = λ l d up first. (let parts = and_parts _ _ up in linked_enrolled l (other d) parts.1);
-    one = λ y e k v. entries_are_one r.start old.members plans r.rows y h.app h.at.addr r.starts r.run r.static e k v;
+    one = λ y e k v. entries_are_one is_static r.start old.members plans r.rows y h.app h.at.addr r.starts r.run r.static e k v;
     past = omega arith;
     counted = omega arith;
   }
 
-  pub takes_run : IsRunOf plans new
+  pub takes_run : IsRunOf is_static plans new
   takes_run =
-      alike_run plans (record old { agents = map (λ a. takes_item a entry) old.agents }) new (more_rows plans old r (record old { agents = map (λ a. takes_item a entry) old.agents }) (Know entry) refl r.short may_know (h.app, h.at.addr, refl, small_address old.members plans r.laid_out h.at h.among) (record {
+      alike_run is_static plans (record old { agents = map (λ a. takes_item a entry) old.agents }) new (more_rows is_static plans old r (record old { agents = map (λ a. takes_item a entry) old.agents }) (Know entry) refl refl r.short may_know (h.app, h.at.addr, refl, small_address old.members plans r.laid_out h.at h.among) (record {
         now = r.is.now;
         aligned = length-map old.agents (λ a. takes_item a entry) ∙ r.is.aligned;
         agents = taken_agents;
@@ -415,19 +418,25 @@ no_links members agents address (Some k) place none =
     let m = found_at (λ (x : Member). x.addr == address) members k place in
     absurd (none k m.0 m.1 (eqb-true m.0.addr address m.2))
 
-pub start_run : Greatest → (plans : List LinkPlan) (s : MembersSeen) → StartsWith plans s → IsRunOf plans s
-start_run greatest plans s h =
-    let n = static_network some_rules s.members plans s.agents s.ends s.now in
+first_tells : Greatest → (is_static : Bool) (members : List Member) (plans : List LinkPlan) (agents : List Agent) (ends : List LinkEnd) (now : ℕ) (m : Member) → is_static ≡ true → IsLaidOut members plans → AreFirst is_static members plans agents → Contains members m
+    → TellsLinks (first_network is_static some_rules members plans agents ends now) m.addr
+first_tells greatest true members plans agents ends now m still laid first among = static_tells greatest some_rules members plans agents ends now m laid first among
+first_tells greatest false members plans agents ends now m still laid first among = absurd (both_ways true (sym still) refl)
+
+pub start_run : Greatest → (is_static : Bool) (plans : List LinkPlan) (s : MembersSeen) → StartsWith is_static plans s → IsRunOf is_static plans s
+start_run greatest is_static plans s h =
+    let n = first_network is_static some_rules s.members plans s.agents s.ends s.now in
     let agent : (k : ℕ) (m : Member) (a : Agent) → slice_get s.members k ≡ Some m → slice_get s.agents k ≡ Some a → n.agents m.addr ≡ a = λ k m a is_m is_a.
     ap (λ (o : Option ℕ). or_nobody some_rules m.addr (option_and_then (slice_get s.agents) o)) (found_place s.members plans h.laid_out k m (place_at s.members m.addr) is_m refl) ∙ ap (λ (o : Option Agent). or_nobody some_rules m.addr o) is_a in
     let nothing : (l : ℕ) (d : Side) → (length (s.got (end_place l (other d))) ≡ 0) × (s.sent (end_place l d) ≡ []) = λ l d. (ap (λ (ts : List (List ℕ)). length ts) (h.got (end_place l (other d))), h.sent (end_place l d)) in
     record {
       laid_out = h.laid_out;
+      bare = h.bare;
       start = n;
       rows = [];
-      starts = static_starts some_rules s.members plans s.agents s.ends s.now h.laid_out h.first h.ends;
-      fresh = static_fresh some_rules s.members plans s.agents s.ends s.now h.laid_out h.first h.ends;
-      tells = λ m among. static_tells greatest some_rules s.members plans s.agents s.ends s.now m h.laid_out h.first among;
+      starts = network_starts is_static some_rules s.members plans s.agents s.ends s.now h.laid_out h.first h.ends;
+      fresh = network_fresh is_static some_rules s.members plans s.agents s.ends s.now h.laid_out h.first h.ends;
+      tells = λ still m among. first_tells greatest is_static s.members plans s.agents s.ends s.now m still h.laid_out h.first among;
       run = tt;
       static = tt;
       is = record {

@@ -1,5 +1,5 @@
 -- Where all is quiet on a walk of links, the members at its ends agree.
-use Rattle.std.proofs.Common.{◌≡◌, ℕ, true, List, ◌∷◌, ◌++◌, None, Some, length, map, slice_get, refl, sym, ◌∙◌, ap, subst, arith, []}
+use Rattle.std.proofs.Common.{◌≡◌, ℕ, Bool, true, List, ◌∷◌, ◌++◌, None, Some, length, map, slice_get, refl, sym, ◌∙◌, ap, subst, arith, []}
 use Rattle.std.specs.Prelude.{find, flat_map}
 use Rattle.std.proofs.lemmas.Bool.{and_from}
 use Rattle.std.proofs.lemmas.Option.{slice_get_within}
@@ -36,18 +36,18 @@ both_sides : (P : Side → Type 0) (d : Side) → P d → P (other d) → P Near
 both_sides P Near a b = (a, b)
 both_sides P Far a b = (b, a)
 
-module _ (plans : List LinkPlan) (s : MembersSeen) (r : IsRunOf plans s) where
+module _ (is_static : Bool) (plans : List LinkPlan) (s : MembersSeen) (r : IsRunOf is_static plans s) where
   abbrev n : Network
-  n = net plans s r
+  n = net is_static plans s r
 
   ends_at : (l : ℕ) (d : Side) (place : ℕ) → IsQuietAt s l d place → n.ends l d ≡ address_in s.members place
   ends_at l d place q =
-      let at = at_end plans s r l d q.end q.agent q.at in
+      let at = at_end is_static plans s r l d q.end q.agent q.at in
       at.2 ∙ sym (address_is s.members q.end.member at.0 at.1) ∙ ap (λ (k : ℕ). address_in s.members k) q.member
 
   up_at : (l : ℕ) (d : Side) (place : ℕ) → IsQuietAt s l d place → is_up n l d ≡ true
   up_at l d place q =
-      let at = at_end plans s r l d q.end q.agent q.at in
+      let at = at_end is_static plans s r l d q.end q.agent q.at in
       ap (λ (k : ℕ). was_up (find (is_numbered k) (n.agents (n.ends l d)).links)) at.3
       ∙ ap (λ (i : ℕ). was_up (find (is_numbered q.end.number) (n.agents i).links)) at.2
       ∙ ap (λ (c : Agent). was_up (find (is_numbered q.end.number) c.links)) at.4
@@ -55,7 +55,7 @@ module _ (plans : List LinkPlan) (s : MembersSeen) (r : IsRunOf plans s) where
 
   quiet_at : (l : ℕ) (d : Side) (place : ℕ) → IsQuietAt s l d place → on_way n l d ≡ []
   quiet_at l d place q =
-      let at = at_end plans s r l d q.end q.agent q.at in
+      let at = at_end is_static plans s r l d q.end q.agent q.at in
       let handled = q.handled in
       let waits : waiting_on (n.numbers l d) (n.agents (n.ends l d)).agenda ≡ [] =
       ap (λ (k : ℕ). waiting_on k (n.agents (n.ends l d)).agenda) at.3
@@ -82,22 +82,22 @@ module _ (plans : List LinkPlan) (s : MembersSeen) (r : IsRunOf plans s) where
   agent_is : (k : ℕ) (m : Member) (a : Agent) → slice_get s.members k ≡ Some m → slice_get s.agents k ≡ Some a → n.agents (address_in s.members k) ≡ a
   agent_is k m a is_m is_a = ap (λ (i : ℕ). n.agents i) (address_is s.members k m is_m) ∙ r.is.agents k m a is_m is_a
 
-pub quiet_agree : Greatest → (plans : List LinkPlan) (s : MembersSeen) (i j : ℕ) (steps : List (ℕ × Side × ℕ)) (m : Member) (a b : Agent) → IsRunOf plans s → IsQuietPath s i steps j → slice_get s.members i ≡ Some m → slice_get s.agents i ≡ Some a
-    → slice_get s.agents j ≡ Some b → ((key : List ℕ) → kept_at a.items key ≡ kept_at b.items key) × (value_at b.items (link_key m.addr) ≡ Some (link_state None a.links))
-quiet_agree greatest plans s i j steps m a b r path is_m is_a is_b =
+pub quiet_agree : Greatest → (is_static : Bool) (plans : List LinkPlan) (s : MembersSeen) (i j : ℕ) (steps : List (ℕ × Side × ℕ)) (m : Member) (a b : Agent) → IsRunOf is_static plans s → IsQuietPath s i steps j → slice_get s.members i ≡ Some m → slice_get s.agents i ≡ Some a
+    → slice_get s.agents j ≡ Some b → ((key : List ℕ) → kept_at a.items key ≡ kept_at b.items key) × (is_static ≡ true → value_at b.items (link_key m.addr) ≡ Some (link_state None a.links))
+quiet_agree greatest is_static plans s i j steps m a b r path is_m is_a is_b =
     let aligned = r.is.aligned in
     let within = slice_get_within s.agents j b is_b in
     let far = there s.members j (omega (arith, aligned, within)) in
-    let near_is = agent_is plans s r i m a is_m is_a in
-    let far_is = agent_is plans s r j far.0 b far.1 is_b in
-    let told = start_items s.members plans in
-    let path_is = walk plans s r i j steps path in
+    let near_is = agent_is is_static plans s r i m a is_m is_a in
+    let far_is = agent_is is_static plans s r j far.0 b far.1 is_b in
+    let told = start_items is_static s.members plans in
+    let path_is = walk is_static plans s r i j steps path in
     let among = is_there s.members i m is_m in
     let leave = static_rows r.rows r.static in
-    let W : ℕ → Type 0 = λ k. IsQuietWalk (n plans s r) k (map (λ (t : ℕ × Side × ℕ). (t.0, t.1)) steps) (address_in s.members j) in
-    let tells = quiet_tells greatest r.start told r.rows m.addr (address_in s.members j) (map (λ (t : ℕ × Side × ℕ). (t.0, t.1)) steps) r.starts r.run (small_address s.members plans r.laid_out m among) (r.tells m among) leave.0 (leave.1 m.addr) (subst W (address_is s.members i m is_m) path_is) in (
+    let W : ℕ → Type 0 = λ k. IsQuietWalk (n is_static plans s r) k (map (λ (t : ℕ × Side × ℕ). (t.0, t.1)) steps) (address_in s.members j) in
+    let tells = λ (still : is_static ≡ true). quiet_tells greatest r.start told r.rows m.addr (address_in s.members j) (map (λ (t : ℕ × Side × ℕ). (t.0, t.1)) steps) r.starts r.run (small_address s.members plans r.laid_out m among) (r.tells still m among) leave.0 (leave.1 m.addr) (subst W (address_is s.members i m is_m) path_is) in (
       λ key. ap (λ (c : Agent). kept_at c.items key) (sym near_is)
           ∙ quiet_equal greatest r.start told r.rows (address_in s.members i) (address_in s.members j) (map (λ (t : ℕ × Side × ℕ). (t.0, t.1)) steps) key r.starts r.run path_is
           ∙ ap (λ (c : Agent). kept_at c.items key) far_is,
-      ap (λ (c : Agent). value_at c.items (link_key m.addr)) (sym far_is) ∙ tells ∙ ap (λ (c : Agent). Some (link_state None c.links)) (r.is.agents i m a is_m is_a),
+      λ still. ap (λ (c : Agent). value_at c.items (link_key m.addr)) (sym far_is) ∙ tells still ∙ ap (λ (c : Agent). Some (link_state None c.links)) (r.is.agents i m a is_m is_a),
     )

@@ -1,10 +1,9 @@
--- The start of a static DIF is a start.
-use Rattle.std.proofs.Common.{◌≡◌, ℕ, zero, suc, ◌+◌, ◌<◌, ◌^◌, ◌⊎◌, Bool, true, false, ◌==◌, cond, List, ◌∷◌, Contains, Option, Some, None, map, length, slice_get, get_or, refl, sym, ◌∙◌, ap, subst, inl, inr, arith, []}
+-- The start of a DIF is a start.
+use Rattle.std.proofs.Common.{◌≡◌, ℕ, zero, suc, ◌+◌, ◌<◌, ◌^◌, ◌⊎◌, Bool, true, false, ◌==◌, ◌||◌, cond, List, ◌∷◌, Contains, Option, Some, None, map, length, slice_get, get_or, refl, sym, ◌∙◌, ap, subst, inl, inr, arith, []}
 use Rattle.std.specs.Prelude.{find, sum, position, is_some, option_and_then, option_map, unwrap_or}
-use Rattle.std.specs.List.{cons_option, fold}
+use Rattle.std.specs.List.{cons_option, fold, list_any}
 use Rattle.std.proofs.lemmas.Bool.{cases_Bool, cases_order, both_ways, eq-eqb, eqb-true, and_parts}
 use Rattle.std.proofs.lemmas.List.{get_or-map, length-map}
-use Rattle.std.proofs.lemmas.List.Elements.{Contains-append_cases}
 use Rattle.std.proofs.lemmas.List.Quantifiers.{position-Some}
 use Rattle.std.proofs.lemmas.Option.{none-some, same_Some, slice_get-get_or, slice_get_within}
 use Rattle.rina_access.specs.declared.rules.Rules.{Rules}
@@ -23,35 +22,29 @@ use Rattle.rina_data.specs.declared.settings.Member.{Member}
 use Rattle.rina_data.proofs.Finding.{there}
 use Rattle.rina_member.specs.Knowing.{AreNumbered, IsLaidOut}
 use Rattle.rina_member.specs.Routing.{edges_from, live_links, live_of, own_link, own_links}
-use Rattle.rina_member.specs.Start.{managed_link, member_item, start_items, started, state_item}
+use Rattle.rina_member.specs.Start.{items_held, managed_link, member_item, start_items, started, starts_enrolled, state_item}
 use Rattle.rina_member.proofs.Items.{not_link}
 use Rattle.rina_member.proofs.Laying.{own_is, same_member, small_address}
 use Rattle.rina_member.proofs.Lists.{at_place, is_there, made_of}
-use Rattle.rina_flood.specs.Network.{Side, Near, Far, other, Network, AreApart, IsStart, KnowsAll, has_link}
-use Rattle.rina_flood.specs.Static.{AreEnds, AreFirst, LinkEnd, address_in, end_address, end_number, end_place, nobody, number_above, or_nobody, place_at, static_network}
+use Rattle.rina_member.proofs.Starting.{start_of}
+use Rattle.rina_flood.specs.Network.{Side, Near, Far, other, Network, AreApart, IsStart, KnowsAll, KnowsNothing, has_link}
+use Rattle.rina_flood.specs.Static.{AreEnds, AreFirst, LinkEnd, address_in, end_address, end_number, end_place, nobody, number_above, first_network, or_nobody, place_at}
 use Rattle.rina_flood.specs.Members.{HasNoMember}
 use Rattle.rina_flood.proofs.Places.{in_first, in_rest, position_cons}
 
 -- The items of the start
 
--- each is the member item or the link state of a member
-pub told_of : (members : List Member) (plans : List LinkPlan) (x : Item) → Contains (start_items members plans) x → (m : Member) × Contains members m × ((member_item m ≡ x) ⊎ (state_item members plans m ≡ x))
-told_of members plans x h = elim (Contains-append_cases (map member_item members) (map (state_item members plans) members) x h) [
-  | inl first ↦ (let r = contains_unmap member_item members x first in (r.0, r.1, inl r.2))
-  | inr second ↦ (let r = contains_unmap (state_item members plans) members x second in (r.0, r.1, inr r.2))
-]
-
 -- made before all else
-told_first : (members : List Member) (plans : List LinkPlan) (x : Item) → Contains (start_items members plans) x → (x.version.tick ≡ 0) × (x.version.count ≡ 0)
-told_first members plans x h = (let r = told_of members plans x h in elim r.2 [
+told_first : (is_static : Bool) (members : List Member) (plans : List LinkPlan) (x : Item) → Contains (start_items is_static members plans) x → (x.version.tick ≡ 0) × (x.version.count ≡ 0)
+told_first is_static members plans x h = (let r = start_of is_static members plans x h in elim r.2 [
   | inl is ↦ (sym (ap (λ (y : Item). y.version.tick) is), sym (ap (λ (y : Item). y.version.count) is))
   | inr is ↦ (sym (ap (λ (y : Item). y.version.tick) is), sym (ap (λ (y : Item). y.version.count) is))
 ])
 
-told_apart : (members : List Member) (plans : List LinkPlan) → IsLaidOut members plans → AreTold (start_items members plans)
-told_apart members plans laid x y a b k v =
-    let p = told_of members plans x a in
-    let q = told_of members plans y b in
+told_apart : (is_static : Bool) (members : List Member) (plans : List LinkPlan) → IsLaidOut members plans → AreTold (start_items is_static members plans)
+told_apart is_static members plans laid x y a b k v =
+    let p = start_of is_static members plans x a in
+    let q = start_of is_static members plans y b in
     elim p.2 [
       | inl is ↦ elim q.2 [
         | inl too ↦
@@ -122,15 +115,29 @@ apart_kept es j (l ∷ links) from =
 
 -- A member of the start
 
-module _ (members : List Member) (plans : List LinkPlan) (m : Member) (rules : Rules) (links : List Link) where
+-- what is kept is all or nothing
+
+kept_apart : (enrolled : Bool) (links : List Managed) → AreApart links → AreApart (cond enrolled links [])
+kept_apart true links apart = apart
+kept_apart false links apart = tt
+
+linked_begun : (enrolled : Bool) (links : List Managed) (k : ℕ) → is_some (find (is_numbered k) (cond enrolled links [])) ≡ true → enrolled ≡ true
+linked_begun true links k has = refl
+linked_begun false links k has = absurd (both_ways true (sym has) refl)
+
+begun_knows : (enrolled : Bool) (told : List Item) → ((cond enrolled (taken_all [] told) [] ≡ taken_all [] told) × (cond enrolled told [] ≡ told)) ⊎ ((cond enrolled (taken_all [] told) [] ≡ []) × (cond enrolled told [] ≡ []))
+begun_knows true told = inl (refl, refl)
+begun_knows false told = inr (refl, refl)
+
+module _ (is_static : Bool) (members : List Member) (plans : List LinkPlan) (m : Member) (rules : Rules) (links : List Link) where
   abbrev its : Agent
-  its = started members plans rules m links
+  its = started is_static members plans rules m links
 
   started_address : its.address ≡ m.addr
   unfolding started
   started_address = refl
 
-  pub started_items : its.items ≡ taken_all [] (start_items members plans)
+  pub started_items : its.items ≡ items_held is_static members plans m
   unfolding started
   started_items = refl
 
@@ -142,14 +149,14 @@ module _ (members : List Member) (plans : List LinkPlan) (m : Member) (rules : R
   unfolding started
   started_agenda = refl
 
-  pub started_links : its.links ≡ map managed_link (live_links members plans m links)
+  pub started_links : its.links ≡ cond (starts_enrolled is_static members m.addr) (map managed_link (live_links members plans m links)) []
   unfolding started
   started_links = refl
 
   started_apart : AreNumbered links → AreApart its.links
   started_apart numbered =
       let P : List Managed → Type 0 = λ ls. AreApart ls in
-      subst P (sym started_links) (apart_kept (edges_from members m.node plans) 0 links (λ i l e. (let is = numbered i l e in omega (arith, is))))
+      subst P (sym started_links) (kept_apart (starts_enrolled is_static members m.addr) (map managed_link (live_links members plans m links)) (apart_kept (edges_from members m.node plans) 0 links (λ i l e. (let is = numbered i l e in omega (arith, is)))))
 
 -- Places
 
@@ -202,6 +209,17 @@ not_found_at p (y ∷ xs) (suc k) x none is passes = (let r = none_first (p y) (
 pub none_at : (members : List Member) (address : ℕ) → place_at members address ≡ None → HasNoMember members address
 none_at members address none k m is same = not_found_at (λ (x : Member). x.addr == address) members k m none is (eq-eqb m.addr address same)
 
+-- where no member has an address, none is enrolled there
+
+none_passes : {X : Type 0} (p : X → Bool) (xs : List X) → position p xs ≡ None → list_any p xs ≡ false
+none_passes p [] none = refl
+none_passes p (y ∷ xs) none = (let r = none_first (p y) (position p xs) (sym (position_cons p y xs) ∙ none) in ap (λ (b : Bool). b || list_any p xs) r.0 ∙ none_passes p xs r.1)
+
+none_enrolled : (is_static : Bool) (members : List Member) (address : ℕ) → place_at members address ≡ None → starts_enrolled is_static members address ≡ false
+none_enrolled true members address none = none_passes (λ (m : Member). m.addr == address) members none
+none_enrolled false [] address none = refl
+none_enrolled false (first ∷ members) address none = (let r = none_first (first.addr == address) (place_at members address) (sym (position_cons (λ (m : Member). m.addr == address) first members) ∙ none) in ap (λ (b : Bool). b || false) r.0)
+
 module _ (members : List Member) (plans : List LinkPlan) (laid : IsLaidOut members plans) where
   -- a place is known by the address of its member
   pub place_is : (j k : ℕ) (x y : Member) → slice_get members j ≡ Some x → slice_get members k ≡ Some y → x.addr ≡ y.addr → j ≡ k
@@ -228,15 +246,15 @@ below_all (x ∷ ends) (suc k) e is = (let lt = below_all ends k e is in let tot
 
 -- The network
 
-module _ (rules : Rules) (members : List Member) (plans : List LinkPlan) (agents : List Agent) (ends : List LinkEnd) (now : ℕ) (laid : IsLaidOut members plans) (first : AreFirst members plans agents) (are : AreEnds members ends) where
+module _ (is_static : Bool) (rules : Rules) (members : List Member) (plans : List LinkPlan) (agents : List Agent) (ends : List LinkEnd) (now : ℕ) (laid : IsLaidOut members plans) (first : AreFirst is_static members plans agents) (are : AreEnds members ends) where
   abbrev here : Network
-  here = static_network rules members plans agents ends now
+  here = first_network is_static rules members plans agents ends now
 
   abbrev told : List Item
-  told = start_items members plans
+  told = start_items is_static members plans
 
-  -- what holds of the agent at an address and of what it was offered
-  member_here : (P : Agent → List Item → Type 0) (i : ℕ) → ((m : Member) (r : Rules) (links : List Link) → m.addr ≡ i → AreNumbered links → P (started members plans r m links) told) → (k : ℕ) → place_at members i ≡ Some k → P (here.agents i) (here.offered i)
+  -- what holds of the agent at an address
+  member_here : (P : Agent → Type 0) (i : ℕ) → ((m : Member) (r : Rules) (links : List Link) → m.addr ≡ i → AreNumbered links → P (started is_static members plans r m links)) → (k : ℕ) → place_at members i ≡ Some k → P (here.agents i)
   member_here P i member k place =
       let m = found_at (λ (x : Member). x.addr == i) members k place in
       let aligned = first.aligned in
@@ -244,32 +262,43 @@ module _ (rules : Rules) (members : List Member) (plans : List LinkPlan) (agents
       let a = there agents k (omega (arith, aligned, within)) in
       let f = first.each k m.0 a.0 m.1 a.1 in
       let is : here.agents i ≡ a.0 = ap (λ (o : Option ℕ). or_nobody rules i (option_and_then (slice_get agents) o)) place ∙ ap (λ (o : Option Agent). or_nobody rules i o) a.1 in
-      let offers : here.offered i ≡ told = ap (λ (o : Option ℕ). cond (is_some o) told []) place in
-      let Q : Agent → Type 0 = λ b. P b (here.offered i) in
-      let R : List Item → Type 0 = λ xs. P (started members plans f.rules m.0 f.links) xs in
-      subst Q (sym (is ∙ f.is)) (subst R (sym offers) (member m.0 f.rules f.links (eqb-true m.0.addr i m.2) f.numbered))
+      subst P (sym (is ∙ f.is)) (member m.0 f.rules f.links (eqb-true m.0.addr i m.2) f.numbered)
 
-  nobody_here : (P : Agent → List Item → Type 0) (i : ℕ) → P (nobody rules i) [] → place_at members i ≡ None → P (here.agents i) (here.offered i)
+  nobody_here : (P : Agent → Type 0) (i : ℕ) → (place_at members i ≡ None → P (nobody rules i)) → place_at members i ≡ None → P (here.agents i)
   nobody_here P i none place =
       let is : here.agents i ≡ nobody rules i = ap (λ (o : Option ℕ). or_nobody rules i (option_and_then (slice_get agents) o)) place in
-      let offers : here.offered i ≡ [] = ap (λ (o : Option ℕ). cond (is_some o) told []) place in
-      let Q : Agent → Type 0 = λ b. P b (here.offered i) in
-      let R : List Item → Type 0 = λ xs. P (nobody rules i) xs in
-      subst Q (sym is) (subst R (sym offers) none)
+      subst P (sym is) (none place)
 
-  by_place : (P : Agent → List Item → Type 0) (i : ℕ) → ((m : Member) (r : Rules) (links : List Link) → m.addr ≡ i → AreNumbered links → P (started members plans r m links) told) → P (nobody rules i) [] → (o : Option ℕ) → place_at members i ≡ o → P (here.agents i) (here.offered i)
+  by_place : (P : Agent → Type 0) (i : ℕ) → ((m : Member) (r : Rules) (links : List Link) → m.addr ≡ i → AreNumbered links → P (started is_static members plans r m links)) → (place_at members i ≡ None → P (nobody rules i)) → (o : Option ℕ) → place_at members i ≡ o → P (here.agents i)
   by_place P i member none None place = nobody_here P i none place
   by_place P i member none (Some k) place = member_here P i member k place
 
-  pub at_address : (P : Agent → List Item → Type 0) (i : ℕ) → ((m : Member) (r : Rules) (links : List Link) → m.addr ≡ i → AreNumbered links → P (started members plans r m links) told) → P (nobody rules i) [] → P (here.agents i) (here.offered i)
+  pub at_address : (P : Agent → Type 0) (i : ℕ) → ((m : Member) (r : Rules) (links : List Link) → m.addr ≡ i → AreNumbered links → P (started is_static members plans r m links)) → (place_at members i ≡ None → P (nobody rules i)) → P (here.agents i)
   at_address P i member none = by_place P i member none (place_at members i) refl
+
+  -- a member holds what it was offered, all or nothing
+  items_here : (m : Member) (r : Rules) (links : List Link) (i : ℕ) → m.addr ≡ i → (started is_static members plans r m links).items ≡ cond (starts_enrolled is_static members i) (taken_all [] told) []
+  items_here m r links i address = started_items is_static members plans m r links ∙ ap (λ (a : ℕ). cond (starts_enrolled is_static members a) (taken_all [] told) []) address
+
+  knows_here : (i : ℕ) → KnowsAll here told i ⊎ KnowsNothing here i
+  knows_here i =
+      let offered : List Item = cond (starts_enrolled is_static members i) told [] in
+      let K : List Item → Type 0 = λ items. ((items ≡ taken_all [] told) × (offered ≡ told)) ⊎ ((items ≡ []) × (offered ≡ [])) in
+      at_address (λ a. K a.items) i
+      (λ m r links address numbered. subst K (sym (items_here m r links i address)) (begun_knows (starts_enrolled is_static members i) told))
+      (λ none. inr (refl, ap (λ (b : Bool). cond b told []) (none_enrolled is_static members i none)))
 
   has_all : (l : ℕ) (d : Side) → has_link here l d ≡ true → KnowsAll here told (here.ends l d)
   has_all l d =
       let i = here.ends l d in
-      at_address (λ a offered. is_some (find (is_numbered (here.numbers l d)) a.links) ≡ true → (a.items ≡ taken_all [] told) × (offered ≡ told)) i
-      (λ m r links address numbered has. (started_items members plans m r links, refl))
-      (λ has. absurd (cc))
+      let k = here.numbers l d in
+      at_address (λ a. is_some (find (is_numbered k) a.links) ≡ true → (a.items ≡ taken_all [] told) × (cond (starts_enrolled is_static members i) told [] ≡ told)) i
+      (λ m r links address numbered has.
+      (let kept : List Managed = map managed_link (live_links members plans m links) in
+      let its : starts_enrolled is_static members m.addr ≡ true = linked_begun (starts_enrolled is_static members m.addr) kept k (ap (λ (ls : List Managed). is_some (find (is_numbered k) ls)) (sym (started_links is_static members plans m r links)) ∙ has) in
+      let enrolled : starts_enrolled is_static members i ≡ true = ap (λ (a : ℕ). starts_enrolled is_static members a) (sym address) ∙ its in
+      (items_here m r links i address ∙ ap (λ (b : Bool). cond b (taken_all [] told) []) enrolled, ap (λ (b : Bool). cond b told []) enrolled)))
+      (λ none has. absurd (both_ways true (sym has) refl))
 
   small : (o : Option LinkEnd) (k : ℕ) → slice_get ends k ≡ o → end_address members o < 2 ^ 32
   small None k is = omega arith
@@ -285,23 +314,21 @@ module _ (rules : Rules) (members : List Member) (plans : List LinkPlan) (agents
   ends_apart j k (Some a) None p q addresses numbers = (let lt = below_all ends j a p in absurd (omega (arith, numbers, lt)))
   ends_apart j k (Some a) (Some b) p q addresses numbers = are.apart j k a b p q (same_place members laid.addresses a.member b.member (are.within j a p) (are.within k b q) addresses) numbers
 
-  pub static_fresh : (i : ℕ) → (here.agents i).last_count ≡ 0
-  static_fresh i = at_address (λ a offered. a.last_count ≡ 0) i (λ m r links address numbered. started_count members plans m r links) refl
+  pub network_fresh : (i : ℕ) → (here.agents i).last_count ≡ 0
+  network_fresh i = at_address (λ a. a.last_count ≡ 0) i (λ m r links address numbered. started_count is_static members plans m r links) (λ none. refl)
 
-  pub static_starts : IsStart here told
-  static_starts = record {
-    addresses = λ i. at_address (λ a offered. a.address ≡ i) i (λ m r links address numbered. started_address members plans m r links ∙ address) refl;
-    knows = λ i. at_address (λ a offered. ((a.items ≡ taken_all [] told) × (offered ≡ told)) ⊎ ((a.items ≡ []) × (offered ≡ []))) i
-        (λ m r links address numbered. inl (started_items members plans m r links, refl))
-        (inr (refl, refl));
+  pub network_starts : IsStart here told
+  network_starts = record {
+    addresses = λ i. at_address (λ a. a.address ≡ i) i (λ m r links address numbered. started_address is_static members plans m r links ∙ address) (λ none. refl);
+    knows = knows_here;
     both = λ l d up. (let parts = and_parts _ _ up in has_all l (other d) parts.1);
-    agendas = λ i. at_address (λ a offered. a.agenda ≡ []) i (λ m r links address numbered. started_agenda members plans m r links) refl;
+    agendas = λ i. at_address (λ a. a.agenda ≡ []) i (λ m r links address numbered. started_agenda is_static members plans m r links) (λ none. refl);
     sent = λ l d. refl;
     made = refl;
-    one = told_apart members plans laid;
-    past = λ x e. (let r = told_first members plans x e in let tick = r.0 in omega (arith, tick));
-    counted = λ x e. (let r = told_first members plans x e in let count = r.1 in omega (arith, count));
-    apart = λ i. at_address (λ a offered. AreApart a.links) i (λ m r links address numbered. started_apart members plans m r links numbered) tt;
+    one = told_apart is_static members plans laid;
+    past = λ x e. (let r = told_first is_static members plans x e in let tick = r.0 in omega (arith, tick));
+    counted = λ x e. (let r = told_first is_static members plans x e in let count = r.1 in omega (arith, count));
+    apart = λ i. at_address (λ a. AreApart a.links) i (λ m r links address numbered. started_apart is_static members plans m r links numbered) (λ none. tt);
     laid = λ l d k e addresses numbers. places_apart l d k e (ends_apart (end_place l d) (end_place k e) (slice_get ends (end_place l d)) (slice_get ends (end_place k e)) refl refl addresses numbers);
     fit = λ l d. small (slice_get ends (end_place l d)) (end_place l d) refl;
   }

@@ -1,5 +1,5 @@
 -- In the start of a static DIF each member keeps its own link state, which names its links.
-use Rattle.std.proofs.Common.{◌≡◌, ℕ, zero, suc, ◌+◌, ◌≤◌, List, ◌∷◌, Contains, Option, Some, None, drop, length, map, slice_get, refl, sym, ◌∙◌, ap, inl, inr, arith, []}
+use Rattle.std.proofs.Common.{◌≡◌, ℕ, zero, suc, ◌+◌, ◌≤◌, Bool, true, cond, List, ◌∷◌, Contains, Option, Some, None, drop, length, map, slice_get, refl, sym, ◌∙◌, ap, inl, inr, arith, []}
 use Rattle.std.specs.Prelude.{option_and_then, option_map, MatchOption}
 use Rattle.std.specs.List.{cons_option, fold}
 use Rattle.std.proofs.lemmas.List.Elements.{Contains-append_right}
@@ -24,10 +24,11 @@ use Rattle.rina_member.proofs.Items.{not_link, same_address}
 use Rattle.rina_member.proofs.Laying.{same_member, small_address}
 use Rattle.rina_member.proofs.Lists.{at_place, keeps_all}
 use Rattle.rina_flood.specs.Laws.{TellsLinks}
-use Rattle.rina_flood.specs.Static.{AreFirst, LinkEnd, or_nobody, place_at, static_network}
+use Rattle.rina_flood.specs.Static.{AreFirst, LinkEnd, first_network, or_nobody, place_at}
 use Rattle.rina_flood.proofs.Places.{drop_at, past_all}
 use Rattle.rina_flood.proofs.Settles.{Greatest}
-use Rattle.rina_flood.proofs.Static.{AreFrom, later, started_items, started_links, told_of, found_place}
+use Rattle.rina_flood.proofs.Static.{AreFrom, later, started_items, started_links, found_place}
+use Rattle.rina_member.proofs.Starting.{all_enrolled, start_of}
 
 -- What a link state says of a link: its neighbour, and no number
 
@@ -83,11 +84,11 @@ module _ (members : List Member) (plans : List LinkPlan) (m : Member) (links : L
 
 module _ (members : List Member) (plans : List LinkPlan) (laid : IsLaidOut members plans) (m : Member) (among : Contains members m) where
   abbrev told : List Item
-  told = start_items members plans
+  told = start_items true members plans
 
   -- no other item of the start has its key
   its_state : (x : Item) → Contains told x → x.key ≡ link_key m.addr → x ≡ state_item members plans m
-  its_state x has k = (let r = told_of members plans x has in elim r.2 [
+  its_state x has k = (let r = start_of true members plans x has in elim r.2 [
     | inl is ↦ absurd (not_link r.0.addr m.addr (ap (λ (y : Item). y.key) is ∙ k))
     | inr is ↦
         (let address : r.0.addr ≡ m.addr = same_address r.0.addr m.addr (small_address members plans laid r.0 r.1) (small_address members plans laid m among) (ap (λ (y : Item). y.key) is ∙ k) in
@@ -98,24 +99,24 @@ module _ (members : List Member) (plans : List LinkPlan) (laid : IsLaidOut membe
   state_kept None none = absurd (none (state_item members plans m) (Contains-append_right (map member_item members) (map (state_item members plans) members) (state_item members plans m) (contains_map (state_item members plans) members m among)) refl)
   state_kept (Some x) newest = ap Some (its_state x newest.among newest.same)
 
-pub static_tells : Greatest → (rules : Rules) (members : List Member) (plans : List LinkPlan) (agents : List Agent) (ends : List LinkEnd) (now : ℕ) (m : Member) → IsLaidOut members plans → AreFirst members plans agents → Contains members m
-    → TellsLinks (static_network rules members plans agents ends now) m.addr
+pub static_tells : Greatest → (rules : Rules) (members : List Member) (plans : List LinkPlan) (agents : List Agent) (ends : List LinkEnd) (now : ℕ) (m : Member) → IsLaidOut members plans → AreFirst true members plans agents → Contains members m
+    → TellsLinks (first_network true rules members plans agents ends now) m.addr
 static_tells greatest rules members plans agents ends now m laid first among =
-    let n = static_network rules members plans agents ends now in
+    let n = first_network true rules members plans agents ends now in
     let k = among.0 in
     let is_m = at_place members m among in
     let aligned = first.aligned in
     let within = slice_get_within members k m is_m in
     let a = there agents k (omega (arith, aligned, within)) in
     let f = first.each k m a.0 is_m a.1 in
-    let agent : n.agents m.addr ≡ started members plans f.rules m f.links =
+    let agent : n.agents m.addr ≡ started true members plans f.rules m f.links =
     ap (λ (o : Option ℕ). or_nobody rules m.addr (option_and_then (slice_get agents) o)) (found_place members plans laid k m (place_at members m.addr) is_m refl) ∙ ap (λ (o : Option Agent). or_nobody rules m.addr o) a.1 ∙ f.is in
     let kept : kept_at (n.agents m.addr).items (link_key m.addr) ≡ Some (state_item members plans m) =
     ap (λ (b : Agent). kept_at b.items (link_key m.addr)) agent
-    ∙ ap (λ (items : List Item). kept_at items (link_key m.addr)) (started_items members plans m f.rules f.links)
-    ∙ state_kept members plans laid m among (kept_at (taken_all [] (start_items members plans)) (link_key m.addr)) (greatest (start_items members plans) (link_key m.addr)) in
+    ∙ ap (λ (items : List Item). kept_at items (link_key m.addr)) (started_items true members plans m f.rules f.links ∙ ap (λ (b : Bool). cond b (taken_all [] (start_items true members plans)) []) (all_enrolled members m among))
+    ∙ state_kept members plans laid m among (kept_at (taken_all [] (start_items true members plans)) (link_key m.addr)) (greatest (start_items true members plans) (link_key m.addr)) in
     let links : link_state None (n.agents m.addr).links ≡ state_text members plans m =
-    ap (λ (b : Agent). link_state None b.links) agent ∙ ap (λ (ls : List Managed). link_state None ls) (started_links members plans m f.rules f.links) ∙ state_named members plans m f.links f.numbered f.live f.enough in
+    ap (λ (b : Agent). link_state None b.links) agent ∙ ap (λ (ls : List Managed). link_state None ls) (started_links true members plans m f.rules f.links ∙ ap (λ (b : Bool). cond b (map managed_link (live_links members plans m f.links)) []) (all_enrolled members m among)) ∙ state_named members plans m f.links f.numbered f.live f.enough in
     record {
       own = ap (λ (o : Option Item). option_and_then (λ (x : Item). x.value) o) kept ∙ ap (λ (text : List ℕ). Some text) (sym links);
       by_itself = λ x has key. ap (λ (y : Item). y.version.origin) (its_state members plans laid m among x has key);

@@ -1,5 +1,5 @@
 -- What a member knows once it took a directory entry.
-use Rattle.std.proofs.Common.{◌≡◌, ◌∙◌, inr, ⊎_elim, arith, ℕ, Bool, true, false, cond, not, List, [], ◌∷◌, ◌++◌, Option, Some, None, Contains, refl, sym, ap, subst}
+use Rattle.std.proofs.Common.{◌≡◌, ◌∙◌, inl, inr, ⊎_elim, arith, ℕ, Bool, true, false, cond, not, List, [], ◌∷◌, ◌++◌, Option, Some, None, Contains, refl, sym, ap, subst}
 use Rattle.std.specs.List.{flat_map}
 use Rattle.std.proofs.lemmas.Bool.{both_ways, cases_Bool}
 use Rattle.std.proofs.lemmas.List.Elements.{Contains-append_left}
@@ -9,6 +9,7 @@ use Rattle.rina_newest.specs.Newest.{has_key, is_newer, kept_at, taken, without}
 use Rattle.rina_route.specs.Routes.{claims_of}
 use Rattle.rina_route.proofs.Lists.{in_none}
 use Rattle.rina_agent.specs.declared.agent.Agent.{Agent}
+use Rattle.rina_agent.specs.declared.state.MemberState.TheVariants.{Enrolled}
 use Rattle.rina_agent.specs.Counts.{spent}
 use Rattle.rina_agent.specs.Items.{made, own_item}
 use Rattle.rina_agent.specs.Neighbours.{link_key}
@@ -81,10 +82,10 @@ module _ (items : List Item) (entry : Item) (app : List ℕ) (key_is : entry.key
       (⊎_elim (λ same. absurd (entry_not_link app a (sym (key_same (link_key a) entry.key same ∙ key_is)))) (λ other. other) (cases_Bool (has_key (link_key a) entry)))
 
 -- it knows the links that it knew
-pub enters : (members : List Member) (plans : List LinkPlan) (now : ℕ) (m : Member) (links : List Link) (g : Agent) (app : List ℕ) (address : ℕ) → Knows members plans now m links g → Knows members plans now m links (takes_item g (entry_of app address))
-enters members plans now m links g app address h = record {
+pub enters : (members : List Member) (plans : List LinkPlan) (now : ℕ) (m : Member) (links : List Link) (g : Agent) (app : List ℕ) (address : ℕ) → g.state ≡ Enrolled → Knows members plans now m links g → Knows members plans now m links (takes_item g (entry_of app address))
+enters members plans now m links g app address enrolled h = record {
   address = h.address;
-  enrolled = h.enrolled;
+  settled = inl enrolled;
   numbers = h.numbers;
   links_are = h.links_are;
   own = λ e from. (
@@ -106,12 +107,12 @@ routes_stay members routes g app address keys are = record {
 -- Entries that it makes
 
 -- it knows the links that it knew
-pub makes_knowing : (members : List Member) (plans : List LinkPlan) (now : ℕ) (m : Member) (links : List Link) (g : Agent) (app : List ℕ) (value : Option (List ℕ)) → spent 1 g.last_count ≡ None → Knows members plans now m links g → Knows members plans now m links (made None g now (key_of app) value)
-makes_knowing members plans now m links g app value may h =
+pub makes_knowing : (members : List Member) (plans : List LinkPlan) (now : ℕ) (m : Member) (links : List Link) (g : Agent) (app : List ℕ) (value : Option (List ℕ)) → g.state ≡ Enrolled → spent 1 g.last_count ≡ None → Knows members plans now m links g → Knows members plans now m links (made None g now (key_of app) value)
+makes_knowing members plans now m links g app value enrolled may h =
     let x = own_item g now (key_of app) value in
     record {
       address = h.address;
-      enrolled = h.enrolled;
+      settled = inl enrolled;
       numbers = h.numbers;
       links_are = h.links_are;
       own = λ e from. (

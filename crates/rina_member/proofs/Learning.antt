@@ -12,6 +12,7 @@ use Rattle.rina_enrol.specs.declared.message.LinkMessage.TheVariants as messages
 use Rattle.rina_enrol.specs.Items.{CarriesReplicated, IsReplicated}
 use Rattle.rina_agent.specs.declared.agent.Agent.{Agent}
 use Rattle.rina_agent.specs.declared.link.Link.{Link as Managed}
+use Rattle.rina_agent.specs.declared.state.MemberState.TheVariants.{Enrolled}
 use Rattle.rina_agent.specs.Agenda.{floods}
 use Rattle.rina_agent.specs.Items.{took}
 use Rattle.rina_agent.specs.Neighbours.{link_key}
@@ -73,45 +74,50 @@ module _ (own : ℕ) (items : List Item) (x : Item) (keys : (z : Item) → Conta
   learned_state : kept_at (taken items x) (link_key own) ≡ kept_at items (link_key own)
   learned_state = kept_still items x (link_key own) (⊎_elim (λ same. absurd (other (sym (key_same (link_key own) x.key same)))) (λ apart. apart) (cases_Bool (has_key (link_key own) x)))
 
-module _ (members : List Member) (plans : List LinkPlan) (now : ℕ) (m : Member) (links : List Link) (g : Agent) (h : Knows members plans now m links g) where
-  -- no enrolment made its links
-  pub unenrolled : AreUnenrolled g.links
-  unenrolled l has =
-      let r = contains_unmap managed_link (live_links members plans m links) l (subst (λ (ls : List Managed). Contains ls l) h.links_are has) in
-      ap (λ (x : Managed). x.enrolment) (sym r.2)
+-- no enrolment made its links
+pub unenrolled : (members : List Member) (plans : List LinkPlan) (now : ℕ) (m : Member) (links : List Link) (g : Agent) → Knows members plans now m links g → AreUnenrolled g.links
+unenrolled members plans now m links g h l has =
+    let r = contains_unmap managed_link (live_links members plans m links) l (subst (λ (ls : List Managed). Contains ls l) h.links_are has) in
+    ap (λ (x : Managed). x.enrolment) (sym r.2)
 
-  learns : (link : ℕ) (x : Item) → IsItemKey x.key → (x.key ≡ link_key m.addr → ⊥) → Knows members plans now m links (record g { items = taken g.items x; agenda = g.agenda ++ floods (Some link) x g.links })
-  learns link x key other = record {
-    address = h.address;
-    enrolled = h.enrolled;
-    numbers = h.numbers;
-    links_are = h.links_are;
-    own = λ e from. (
-      (λ has. (h.own e from).0 ((learned_own m.addr g.items x h.keys key other e from).0 has)),
-      (λ has. (learned_own m.addr g.items x h.keys key other e from).1 ((h.own e from).1 has)),
-    );
-    keys = learned_keys m.addr g.items x h.keys key other;
-    past = λ item is. h.past item (sym (learned_state m.addr g.items x h.keys key other) ∙ is);
-  }
+module _ (members : List Member) (plans : List LinkPlan) (now : ℕ) (m : Member) (links : List Link) where
+  -- it is enrolled, and knows its links
+  abbrev IsKnowing : Agent → Type 0
+  IsKnowing g = Knows members plans now m links g × (g.state ≡ Enrolled)
 
-  took_knows : (newer : Bool) (link : ℕ) (x : Item) → is_newer x.version (kept_at g.items x.key) ≡ newer → IsItemKey x.key → (x.key ≡ link_key g.address → is_newer x.version (kept_at g.items x.key) ≡ false)
-      → Knows members plans now m links (cond newer (record g { items = taken g.items x; agenda = g.agenda ++ floods (Some link) x g.links }) g)
-  took_knows true link x is key own = learns link x key (λ same. true≢false (sym is ∙ own (same ∙ ap (λ (a : ℕ). link_key a) (sym h.address))))
-  took_knows false link x is key own = h
+  learns : (g : Agent) (link : ℕ) (x : Item) → IsKnowing g → IsItemKey x.key → (x.key ≡ link_key m.addr → ⊥) → Knows members plans now m links (record g { items = taken g.items x; agenda = g.agenda ++ floods (Some link) x g.links })
+  learns g link x knows key other =
+      let h = knows.0 in
+      record {
+        address = h.address;
+        settled = inl knows.1;
+        numbers = h.numbers;
+        links_are = h.links_are;
+        own = λ e from. (
+          (λ has. (h.own e from).0 ((learned_own m.addr g.items x h.keys key other e from).0 has)),
+          (λ has. (learned_own m.addr g.items x h.keys key other e from).1 ((h.own e from).1 has)),
+        );
+        keys = learned_keys m.addr g.items x h.keys key other;
+        past = λ item is. h.past item (sym (learned_state m.addr g.items x h.keys key other) ∙ is);
+      }
+
+  took_knows : (g : Agent) (newer : Bool) (link : ℕ) (x : Item) → IsKnowing g → is_newer x.version (kept_at g.items x.key) ≡ newer → IsItemKey x.key → (x.key ≡ link_key g.address → is_newer x.version (kept_at g.items x.key) ≡ false)
+      → IsKnowing (cond newer (record g { items = taken g.items x; agenda = g.agenda ++ floods (Some link) x g.links }) g)
+  took_knows g true link x h is key own = (learns g link x h key (λ same. true≢false (sym is ∙ own (same ∙ ap (λ (a : ℕ). link_key a) (sym h.0.address)))), h.1)
+  took_knows g false link x h is key own = h
 
   -- an item that came
-  took_knowing : (link : ℕ) (x : Item) → IsItemKey x.key → (x.key ≡ link_key g.address → is_newer x.version (kept_at g.items x.key) ≡ false) → Knows members plans now m links (took link g x)
-  took_knowing link x key own = took_knows (is_newer x.version (kept_at g.items x.key)) link x refl key own
+  took_knowing : (g : Agent) (link : ℕ) (x : Item) → IsKnowing g → IsItemKey x.key → (x.key ≡ link_key g.address → is_newer x.version (kept_at g.items x.key) ≡ false) → IsKnowing (took link g x)
+  took_knowing g link x h key own = took_knows g (is_newer x.version (kept_at g.items x.key)) link x h refl key own
 
-module _ (members : List Member) (plans : List LinkPlan) (now : ℕ) (m : Member) (links : List Link) (old new : Management) (h : Knows members plans now m links old.agent) where
-  by_item : (tick link : ℕ) (message : LinkMessage) (o : Option Item) → item_in message ≡ o → CarriesReplicated message → OwnIsNewest old.agent message → Handles tick link message old new → Knows members plans now m links new.agent
-  by_item tick link message None is carries own handles =
-      let same : new ≡ old = handles_none tick link message old new (unenrolled members plans now m links old.agent h) is handles in
-      subst (λ (g : Management). Knows members plans now m links g.agent) (sym same) h
-  by_item tick link message (Some x) is carries own handles =
-      subst (λ (g : Agent). Knows members plans now m links g) (sym (handles_took tick link message x old new is handles))
-      (took_knowing members plans now m links old.agent h link x (brings_key message x is carries) (own x is))
+  by_item : (old new : Management) (tick link : ℕ) (message : LinkMessage) (o : Option Item) → IsKnowing old.agent → item_in message ≡ o → CarriesReplicated message → OwnIsNewest old.agent message → Handles tick link message old new → IsKnowing new.agent
+  by_item old new tick link message None h is carries own handles =
+      let same : new ≡ old = handles_none tick link message old new (unenrolled members plans now m links old.agent h.0) is handles in
+      subst (λ (g : Management). IsKnowing g.agent) (sym same) h
+  by_item old new tick link message (Some x) h is carries own handles =
+      subst (λ (g : Agent). IsKnowing g) (sym (handles_took tick link message x old new is handles))
+      (took_knowing old.agent link x h (brings_key message x is carries) (own x is))
 
   -- a message that the members of its DIF may send
-  pub handles_knowing : (tick link : ℕ) (message : LinkMessage) → CarriesReplicated message → OwnIsNewest old.agent message → Handles tick link message old new → Knows members plans now m links new.agent
-  handles_knowing tick link message carries own handles = by_item tick link message (item_in message) refl carries own handles
+  pub handles_knowing : (old new : Management) (tick link : ℕ) (message : LinkMessage) → old.agent.state ≡ Enrolled → Knows members plans now m links old.agent → CarriesReplicated message → OwnIsNewest old.agent message → Handles tick link message old new → Knows members plans now m links new.agent × (new.agent.state ≡ Enrolled)
+  handles_knowing old new tick link message enrolled h carries own handles = by_item old new tick link message (item_in message) (h, enrolled) refl carries own handles

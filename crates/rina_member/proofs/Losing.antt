@@ -4,6 +4,7 @@ use Rattle.std.specs.Prelude.{find}
 use Rattle.std.proofs.lemmas.Bool.{cases_Bool, ne_eqb, true≢false}
 use Rattle.std.proofs.lemmas.Bool.Decides.{nat_tests}
 use Rattle.std.proofs.lemmas.List.Elements.{Contains-append_cases, Contains-append_left, Contains-append_right, Contains-push_cases}
+use Rattle.std.proofs.lemmas.Option.{none-some}
 use Rattle.rina_graph.specs.declared.graph.Edge.{Edge}
 use Rattle.rina_newest.specs.declared.item.Item.{Item}
 use Rattle.rina_newest.specs.declared.item.Version.{Version}
@@ -16,6 +17,7 @@ use Rattle.rina_agent.specs.declared.agent.Agent.{Agent}
 use Rattle.rina_agent.specs.declared.link.Link.{Link as Managed}
 use Rattle.rina_agent.specs.declared.state.AgentError.{AgentError}
 use Rattle.rina_agent.specs.declared.state.AgentError.TheVariants.{CountSpent}
+use Rattle.rina_agent.specs.declared.state.MemberState.TheVariants.{Enrolled}
 use Rattle.rina_agent.specs.Agenda.{without_at}
 use Rattle.rina_agent.specs.Counts.{next_of, spent, unless}
 use Rattle.rina_agent.specs.Enrolments.{is_numbered, place_of}
@@ -27,7 +29,7 @@ use Rattle.rina_data.specs.declared.link.Link.{Link}
 use Rattle.rina_data.specs.declared.settings.Member.{Member}
 use Rattle.rina_member.specs.Routing.{edge_to, edges_from, live_links, live_of}
 use Rattle.rina_member.specs.Start.{managed_link}
-use Rattle.rina_member.specs.Knowing.{ClaimLinks, IsItemKey, IsLaidOut, KeepsOtherClaims, Knows, all_claims}
+use Rattle.rina_member.specs.Knowing.{ClaimLinks, IsItemKey, IsLaidOut, IsSettled, KeepsOtherClaims, Knows, all_claims}
 use Rattle.rina_member.proofs.Laying.{can_claim, own_within, small_address}
 use Rattle.rina_member.proofs.Hops.{Within}
 use Rattle.rina_member.proofs.Items.{from_taken, is_foreign, key_itself, key_same, not_foreign, restated_within, taken_new, within_restated}
@@ -54,6 +56,11 @@ newer_by now count address (Some it) h = (let r = h it refl in newer_than now co
 same_done : (x y : Agent) → ◌≡◌ {A = Result Agent AgentError} (Ok x) (Ok y) → x ≡ y
 same_done x y h = cc
 
+-- a member whose IPC process has a link is enrolled
+pub linked_enrolled : (links : List Link) (g : Agent) (k : ℕ) (link : Link) → IsSettled links g → slice_get links k ≡ Some link → g.state ≡ Enrolled
+linked_enrolled links g k link (inl enrolled) stands = enrolled
+linked_enrolled links g k link (inr outside) stands = absurd (none-some link (ap (λ (ls : List Link). slice_get ls k) (sym outside.bare) ∙ stands))
+
 module _ (members : List Member) (plans : List LinkPlan) (now : ℕ) (m : Member) (links : List Link) (g : Agent) (k : ℕ) (link : Link) (laid : IsLaidOut members plans) (among : Contains members m)
     (h : Knows members plans now m links g) (stands : slice_get links k ≡ Some link) (alive : link.live ≡ true) where
   abbrev hops : List Hop
@@ -74,8 +81,11 @@ module _ (members : List Member) (plans : List LinkPlan) (now : ℕ) (m : Member
       ∙ left_links link.number hops (apart_links (edges_from members m.node plans) links h.numbers)
       ∙ ap (λ (hs : List Hop). map managed_link hs) (sym hops_left)
 
+  enrolled : g.state ≡ Enrolled
+  enrolled = linked_enrolled links g k link h.settled stands
+
   state_stays : lost_state link.number g.state ≡ g.state
-  state_stays = ap (λ s. lost_state link.number s) h.enrolled ∙ sym h.enrolled
+  state_stays = ap (λ s. lost_state link.number s) enrolled ∙ sym enrolled
 
   -- A link over which no PDU could leave
 
@@ -87,7 +97,7 @@ module _ (members : List Member) (plans : List LinkPlan) (now : ℕ) (m : Member
       let same : live_links members plans m links' ≡ hops = hops_left ∙ not_up down in
       record {
         address = h.address;
-        enrolled = state_stays ∙ h.enrolled;
+        settled = inl (state_stays ∙ enrolled);
         numbers = still_numbered links k link h.numbers stands;
         links_are = managed_left;
         own = subst (λ (hs : List Hop). ClaimLinks g.items m.addr hs) (sym same) h.own;
@@ -186,7 +196,7 @@ module _ (members : List Member) (plans : List LinkPlan) (now : ℕ) (m : Member
   pub loses_one : spent 1 g.last_count ≡ None → Knows members plans now m links' (dropped (stated (Some link.number) g now) link.number)
   loses_one may = record {
     address = h.address;
-    enrolled = state_stays ∙ h.enrolled;
+    settled = inl (state_stays ∙ enrolled);
     numbers = still_numbered links k link h.numbers stands;
     links_are = managed_left;
     own = subst (λ (hs : List Hop). ClaimLinks items' m.addr hs) (sym hops_left) (own_left may);
@@ -195,15 +205,15 @@ module _ (members : List Member) (plans : List LinkPlan) (now : ℕ) (m : Member
   }
 
   abbrev Loses : Agent → Type 0
-  Loses g' = Knows members plans now m links' g' × KeepsOtherClaims m.addr g.items g'.items
+  Loses g' = Knows members plans now m links' g' × KeepsOtherClaims m.addr g.items g'.items × (g'.state ≡ g.state)
 
   lost_one : (g' : Agent) (o : Option AgentError) → spent 1 g.last_count ≡ o → unless o (dropped (stated (Some link.number) g now) link.number) ≡ Ok g' → Loses g'
-  lost_one g' None may is = subst Loses (same_done (dropped (stated (Some link.number) g now) link.number) g' is) (loses_one may, others_left may)
+  lost_one g' None may is = subst Loses (same_done (dropped (stated (Some link.number) g now) link.number) g' is) (loses_one may, others_left may, state_stays)
   lost_one g' (Some e) may is = absurd (cc)
 
   lost_by : (g' : Agent) (b : Bool) → was_up (find (is_numbered link.number) g.links) ≡ b → cond b (unless (spent 1 g.last_count) (dropped (stated (Some link.number) g now) link.number)) (Ok (dropped g link.number)) ≡ Ok g' → Loses g'
   lost_by g' true up is = lost_one g' (spent 1 g.last_count) refl is
-  lost_by g' false down is = subst Loses (same_done (dropped g link.number) g' is) (loses_none down, (λ e apart. ((λ has. has), (λ has. has))))
+  lost_by g' false down is = subst Loses (same_done (dropped g link.number) g' is) (loses_none down, (λ e apart. ((λ has. has), (λ has. has))), state_stays)
 
   pub loses : (g' : Agent) → lost g now link.number ≡ Ok g' → Loses g'
   loses g' is = lost_by g' (was_up (find (is_numbered link.number) g.links)) refl is

@@ -1,5 +1,5 @@
--- A member of a static DIF tells short messages alone from the start.
-use Rattle.std.proofs.Common.{◌≡◌, ⊎_elim, ℕ, ◌≤◌, List, Contains, None, Ok, length, map, subst, arith}
+-- A member of a DIF tells short messages alone from the start.
+use Rattle.std.proofs.Common.{◌≡◌, ⊎_elim, ℕ, ◌≤◌, Bool, true, false, cond, List, [], Contains, None, Ok, length, map, subst, arith}
 use Rattle.std.proofs.lemmas.List.{length-map}
 use Rattle.rina_access.specs.declared.rules.Rules.{Rules}
 use Rattle.rina_base.specs.Names.{app_at, name_at}
@@ -7,13 +7,13 @@ use Rattle.rina_graph.specs.declared.graph.Edge.{Edge}
 use Rattle.rina_newest.specs.declared.item.Item.{Item}
 use Rattle.rina_route.specs.declared.link.Link.{Link as Hop}
 use Rattle.rina_route.specs.Written.{IsClaim}
-use Rattle.rina_route.proofs.Lists.{contains_unmap}
+use Rattle.rina_route.proofs.Lists.{contains_unmap, in_none}
 use Rattle.rina_agent.specs.declared.link.Link.{Link as Managed}
 use Rattle.rina_plan.specs.declared.dif.LinkPlan.{LinkPlan}
 use Rattle.rina_data.specs.declared.link.Link.{Link}
 use Rattle.rina_data.specs.declared.settings.Member.{Member}
 use Rattle.rina_member.specs.Routing.{edge_to, edges_from, live_links, live_of, own_link}
-use Rattle.rina_member.specs.Start.{first_version, items_held, managed_link, member_item, neighbour_link, node_of, started, state_item}
+use Rattle.rina_member.specs.Start.{first_version, items_held, managed_link, member_item, neighbour_link, node_of, started, starts_enrolled, state_item}
 use Rattle.rina_member.specs.Knowing.{IsLaidOut}
 use Rattle.rina_member.specs.Short.{AreNamed, HaveFewLinks, IsLinkInRange, IsShortItem, TellsShort}
 use Rattle.rina_member.proofs.Laying.{can_claim, own_within, small_address}
@@ -47,16 +47,25 @@ module _ (members : List Member) (plans : List LinkPlan) (laid : IsLaidOut membe
       subst (λ (x : Managed). IsLinkInRange x) r.2 (edge_ranged m.addr r.0 (can_claim members plans laid m r.0 among r.1))))
       m.addr (first_version m.addr) (small_address members plans laid m among)
 
-  held_short : (it : Item) → Contains (items_held members plans) it → IsShortItem it
-  held_short it has =
-      let r = held_of members plans it has in
+  held_short : (is_static : Bool) (m : Member) (it : Item) → Contains (items_held is_static members plans m) it → IsShortItem it
+  held_short is_static m it has =
+      let r = held_of is_static members plans m it has in
       ⊎_elim (λ first. subst (λ (x : Item). IsShortItem x) first (item_short r.0 r.1)) (λ second. subst (λ (x : Item). IsShortItem x) second (state_is_short r.0 r.1)) r.2
 
-  pub starts_short : (rules : Rules) (m : Member) (links : List Link) → Contains members m → length links ≤ 16 → TellsShort (started members plans rules m links)
+  begun_few : (enrolled : Bool) (links : List Managed) → length links ≤ 16 → length (cond enrolled links []) ≤ 16
+  begun_few true links fits = fits
+  begun_few false links fits = omega arith
+
+  begun_links : (enrolled : Bool) (links : List Managed) (l : Managed) → Contains (cond enrolled links []) l → Contains links l
+  begun_links true links l has = has
+  begun_links false links l has = absurd (in_none l has)
+
+  pub starts_short : (is_static : Bool) (rules : Rules) (m : Member) (links : List Link) → Contains members m → length links ≤ 16 → TellsShort (started is_static members plans rules m links)
   unfolding started
-  starts_short rules m links among fits =
+  starts_short is_static rules m links among fits =
       let es : List Edge = edges_from members m.node plans in
       let hops : List Hop = live_links members plans m links in
+      let enrolled : Bool = starts_enrolled is_static members m.addr in
       let from : (x : Edge) → Contains es x → x.from ≡ m.addr = λ x has. (can_claim members plans laid m x among has).from in
       let same = length-map hops managed_link in
       let made = makes_few (own_link es) (live_of links) in
@@ -65,10 +74,10 @@ module _ (members : List Member) (plans : List LinkPlan) (laid : IsLaidOut membe
         address = small_address members plans laid m among;
         name = named m among;
         node = node_named m (named m among);
-        items = held_short;
-        few = omega (arith, same, made, live, fits);
+        items = held_short is_static m;
+        few = begun_few enrolled (map managed_link hops) (omega (arith, same, made, live, fits));
         ranges = λ l has. (
-            let r = contains_unmap managed_link hops l has in
+            let r = contains_unmap managed_link hops l (begun_links enrolled (map managed_link hops) l has) in
             subst (λ (x : Managed). IsLinkInRange x) r.2 (claim_ranged m.addr r.0 (can_claim members plans laid m (edge_to m.addr r.0) among (own_within m.addr es (live_of links) r.0 from r.1))));
         waiting = none_short;
       }

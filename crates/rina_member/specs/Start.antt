@@ -88,18 +88,22 @@ abbrev pub state_from : Bool → MemberState
 state_from true = Enrolled
 state_from false = Outside
 
--- the management of a member from the start: it is enrolled, holds all items of the start, and its links are up; or it is outside, and
--- has none of these. It made no item since, and nothing waits for its links
-unfoldable pub started : Bool → List Member → List LinkPlan → Rules → Member → List Link → Agent
-started is_static members plans rules m links = record {
-  state = state_from (starts_enrolled is_static members m.addr);
+-- the management of a member that is enrolled, with these items and links, or outside, with none. It made no item, and nothing waits for
+-- its links
+abbrev pub begun : Bool → List Item → List Managed → Rules → Member → Agent
+begun enrolled items links rules m = record {
+  state = state_from enrolled;
   address = m.addr;
   name = m.name;
   node = node_of m;
   rules = rules;
-  items = items_held is_static members plans m;
+  items = if enrolled then items else [];
   last_count = 0;
   last_invoke = 0;
-  links = if starts_enrolled is_static members m.addr then map managed_link (live_links members plans m links) else [];
+  links = if enrolled then links else [];
   agenda = [];
 }
+
+-- that of a member from the start: where it is enrolled it holds all items of the start, and its links are up
+unfoldable pub started : Bool → List Member → List LinkPlan → Rules → Member → List Link → Agent
+started is_static members plans rules m links = begun (starts_enrolled is_static members m.addr) (items_taken is_static members plans) (map managed_link (live_links members plans m links)) rules m

@@ -1,10 +1,10 @@
 //! The stacks of the examples.
 use crate::cases::told;
-use rina_stack::{BuiltIn, read_runnable, read_stack};
+use rina_stack::{BuiltIn, read_stack};
 use std::test::Fail;
 
-/// What is told of each, and what is told where static DIFs run; then the stack, up to a line `%%`.
-static STACKS: &str = "plan 1 0, plan 1 0
+/// What is told of each; then the stack, up to a line `%%`.
+static STACKS: &str = "plan 1 0
 # Two systems and a wire between them.
 nodes = ['a', 'b']
 
@@ -15,7 +15,7 @@ delay = 2
 life = 10
 largest = 1500
 %%
-plan 1 1, plan 1 1
+plan 1 1
 # One static DIF over the wire, with a flow of each kind of cube.
 nodes = ['a', 'b']
 
@@ -49,7 +49,7 @@ flow = [
   { cube = 3, from = { node = 'a', app = 's3', label = 'p3' }, to = { node = 'b', app = 't3', label = 'q3' } },
 ]
 %%
-plan 1 1, plan 1 1
+plan 1 1
 # A static DIF whose PDUs take whole messages of management; who may allocate is ruled.
 nodes = ['a', 'b']
 
@@ -79,7 +79,7 @@ member = [{ node = 'a', addr = 1 }, { node = 'b', addr = 2 }]
 rule = [{ subject = 'ping', act = 'allocate', allow = true }, { subject = 'evil', act = 'allocate', allow = false }]
 link = [{ on = 'w', a = 'a', b = 'b' }]
 %%
-plan 1 1, 3 2
+plan 1 1
 # A DIF whose second member is to enrol.
 nodes = ['a', 'b']
 
@@ -104,7 +104,7 @@ cube = [
 ]
 member = [{ node = 'a', addr = 1 }, { node = 'b', addr = 2 }]
 %%
-plan 3 1, plan 3 1
+plan 3 1
 # A row of four systems; the flow is relayed twice.
 nodes = ['a', 'b', 'c', 'd']
 
@@ -157,7 +157,7 @@ flow = [
   { cube = 1, from = { node = 'a', app = 's', label = 'p' }, to = { node = 'd', app = 't', label = 'q' } },
 ]
 %%
-plan 4 4, plan 4 4
+plan 4 4
 # Four DIFs on top of one another, over two ways from a to d.
 nodes = ['a', 'b', 'c', 'd']
 
@@ -266,7 +266,7 @@ flow = [
   { cube = 1, from = { node = 'a', app = 's', label = 'p' }, to = { node = 'd', app = 't', label = 'q' } },
 ]
 %%
-plan 1 1, plan 1 1
+plan 1 1
 # One static DIF over the wire, with one datagram flow.
 nodes = ['a', 'b']
 
@@ -296,7 +296,7 @@ flow = [
   { cube = 1, from = { node = 'a', app = 's1', label = 'p1' }, to = { node = 'b', app = 't1', label = 'q1' } },
 ]
 %%
-plan 1 1, plan 1 1
+plan 1 1
 # One static DIF over the wire, with a datagram flow and a loose one.
 nodes = ['a', 'b']
 
@@ -328,7 +328,7 @@ flow = [
   { cube = 2, from = { node = 'a', app = 's2', label = 'p2' }, to = { node = 'b', app = 't2', label = 'q2' } },
 ]
 %%
-plan 1 3, plan 1 3
+plan 1 3
 # Three DIFs on top of one another, over one wire.
 nodes = ['a', 'b']
 
@@ -394,12 +394,9 @@ flow = [
 fn the_examples_are_read(rt: HostRuntime) -> Result<(), Fail> {
     let alloc = rt.alloc();
     for section in STACKS.split("\n%%\n") {
-        let (wants, stack) = section.split_once("\n").ok_or("no stack")?;
-        let (want, runs) = wants.split_once(", ").ok_or("no comma")?;
+        let (want, stack) = section.split_once("\n").ok_or("no stack")?;
         let read = read_stack(alloc, stack.as_bytes(), &BuiltIn);
         assert_eq!(rt; told(alloc, read)?.as_str(), want, "{stack}");
-        let read = read_runnable(alloc, stack.as_bytes(), &BuiltIn);
-        assert_eq!(rt; told(alloc, read)?.as_str(), runs, "{stack}");
     }
     Ok(())
 }

@@ -17,7 +17,7 @@ pub returns-clause-loses : goal.returns-clause-loses
 returns-clause-loses c = λ members plans now m links g g' k link laid among h stands live was. loses members plans now m links g k link laid among h stands live g' was
 
 pub returns-clause-handles : goal.returns-clause-handles
-returns-clause-handles c = λ members plans now tick number m links message old new h carries own handles. handles_knowing members plans now m links old new h tick number message carries own handles
+returns-clause-handles c = λ members plans now tick number m links message old new enrolled h carries own handles. handles_knowing members plans now m links old new tick number message enrolled h carries own handles
 
 pub returns-clause-routes : goal.returns-clause-routes
 returns-clause-routes c = knows_routes

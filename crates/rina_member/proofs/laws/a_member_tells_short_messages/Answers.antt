@@ -8,7 +8,7 @@ use Rattle.rina_member.proofs.TellsStarting.{starts_short}
 use Rattle.rina_member.proofs.laws.a_member_tells_short_messages.Goals as goal
 
 pub returns-clause-starts : goal.returns-clause-starts
-returns-clause-starts c = λ members plans rules m links laid named few among fits. starts_short members plans laid named few rules m links among fits
+returns-clause-starts c = λ is_static members plans rules m links laid named few among fits. starts_short members plans laid named few is_static rules m links among fits
 
 pub returns-clause-enters : goal.returns-clause-enters
 unfolding entered

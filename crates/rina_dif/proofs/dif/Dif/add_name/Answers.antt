@@ -5,7 +5,7 @@ use Rattle.rina_iface.specs.declared.error.RegisterError.{RegisterError}
 use Rattle.rina_iface.specs.declared.error.RegisterError.TheVariants as register
 use Rattle.rina_iface.specs.Register.{Registers, with_name}
 use Rattle.rina_iface.specs.Seen.{is_registered}
-use Rattle.rina_dif.specs.Elsewhere.{home_of}
+use Rattle.rina_dif.specs.Elsewhere.{enrolled_home}
 use Rattle.rina_dif.specs.Facade.{StaysStanding, shown_as}
 use Rattle.rina_dif.specs.Registering.{register_refusal}
 use Rattle.rina_dif.specs.Shown.{seen_of}
@@ -31,8 +31,8 @@ returns-in_default-clause-shown c = λ s n h.
     let d = c.args.self.now in
     let own = register_refusal d c.args.node in
     let new : is_registered d.names c.args.node c.args.app.now ≡ false = ap (λ (xs : List Registered). is_registered xs c.args.node c.args.app.now) (sym c.as_slice.ensures) ∙ sym c.is_registered.ensures ∙ c.if-is_registered.false in
-    let none : home_of d c.args.node ≡ None = sym c.place_at_node.ensures.place ∙ c.in_default.is in
-    registers own s n d c.args.node c.args.app.now register.NoMember (refused_nowhere d c.args.node c.args.app.now own new none) h
+    let none : enrolled_home d c.args.node ≡ None = sym c.enrolled_place.ensures.place ∙ c.in_default.is in
+    registers own s n d c.args.node c.args.app.now register.NoMember (refused_nowhere d c.args.node c.args.app.now own c.requires new none) h
 
 pub returns-in_default-clause-goes_on : goal.returns-in_default-clause-goes_on
 returns-in_default-clause-goes_on c = same_goes_on c.args.self.now c.args.self.now c.requires refl
@@ -42,7 +42,7 @@ returns-in_err-after-clause-shown c = λ s n h.
     let d = c.args.self.now in
     let is = c.requires in
     let new : is_registered d.names c.args.node c.args.app.now ≡ false = ap (λ (xs : List Registered). is_registered xs c.args.node c.args.app.now) (sym c.as_slice.ensures) ∙ sym c.is_registered.ensures ∙ c.if-is_registered.false in
-    let here : home_of d c.args.node ≡ Some c.in-Some.at = sym c.place_at_node.ensures.place ∙ c.in-Some.is in
+    let here : enrolled_home d c.args.node ≡ Some c.in-Some.at = sym c.enrolled_place.ensures.place ∙ c.in-Some.is in
     let g = has_agent d is.stands.0 is.below c.in-Some.at c.in-Some.ensures.within is.stands.1 in
     let err = err_from_is_err_and c.from_residual.result c.from_residual.ensures.1 in
     subst (λ (z : Result (Unit {0}) RegisterError). Registers (register_refusal d c.args.node) s n c.args.node c.args.app.now z (shown_as s n d)) (sym (err.1 ∙ ap (λ (x : RegisterError). Err x) err.2))
@@ -82,7 +82,7 @@ has_registered : (c : goal.After-set) → HasRegistered c.args.self.now c.args.n
 has_registered c =
     let d = c.args.self.now in
     let new : is_registered d.names c.args.node c.args.app.now ≡ false = ap (λ (xs : List Registered). is_registered xs c.args.node c.args.app.now) (sym c.as_slice.ensures) ∙ sym c.is_registered.ensures ∙ c.if-is_registered.false in
-    let here : home_of d c.args.node ≡ Some c.in-Some.at = sym c.place_at_node.ensures.place ∙ c.in-Some.is in
+    let here : enrolled_home d c.args.node ≡ Some c.in-Some.at = sym c.enrolled_place.ensures.place ∙ c.in-Some.is in
     let one : List ℕ → Registered = λ app. record { node = c.args.node; app = app } in
     let named : c.push.new.self ≡ with_name d.names c.args.node c.args.app.now = c.in_ok-push.ensures.ok ∙ ap (λ (app : List ℕ). d.names ++ one app ∷ []) c.in_ok-app.ensures in
     name_added d c.args.node c.in-Some.at c.args.app.now c.in_ok-after.after c.push.new.self c.set.new.self c.requires new here c.in-Some.ensures.within c.is_formed.ensures c.in_ok-after.ensures named c.set.ensures
